@@ -1,0 +1,5 @@
+pub mod Ends
+pub mod Unique
+pub mod Upwards
+pub mod Lines
+pub mod Stored

@@ -1,0 +1,9 @@
+pub mod Writes
+pub mod Memory
+pub mod State
+pub mod Words
+pub mod Operands
+pub mod Step
+pub mod Unbuilt
+pub mod Run
+pub mod PrintedText

@@ -1,0 +1,99 @@
+-- The printed text of a run: its lines, and their bytes.
+use Rattle.std.specs.Prelude.{ℕ, Option, Some, None, List, [], ◌∷◌, ◌++◌, codes, take, drop, map}
+use Rattle.std.specs.Fmt.{decimal}
+use Rattle.std.specs.Int.{w32, to_be_bytes}
+use Rattle.std.specs.List.{flat_map, range_with_len}
+use Rattle.hex.specs.Hex.{encode_upper}
+use Rattle.i9_model.specs.declared.view.View.{View}
+use Rattle.i9_model.specs.Memory.{console_byte}
+use Rattle.i9_model.specs.State.{State}
+use Rattle.i9_model.specs.Run.{Finish, Exit, Limit, Unbuilt, Kind, Record, writes_by, state_after}
+
+-- the kinds of drained point
+pub data Drained : Type 0 where
+  AtEnd : Drained
+
+-- a printed line; a drained point has three
+pub data Shown : Type 0 where
+  Out : (byte : ℕ) → Shown
+  Point : (kind : Drained) → (view : View) → Shown
+  End : (finish : Finish) → Shown
+
+-- the 32 registers in order
+unfoldable pub register_list : (ℕ → ℕ) → List ℕ
+register_list regs = map regs (range_with_len 0 32)
+
+abbrev pub view_of : State → View
+view_of s = record { count = s.count; ip = s.ip; ac = s.ac; pc = s.pc; tc = s.trace.tc; regs = register_list s.regs }
+
+-- ---- the lines of a run
+
+abbrev pub out_lines : Option ℕ → List Shown
+out_lines None = []
+out_lines (Some b) = Out b ∷ []
+
+-- the line of the byte that a record sends to the console, from the state before it
+abbrev pub lines_by : Kind → State → List Shown
+lines_by k s = out_lines (console_byte (writes_by k s))
+
+abbrev pub end_lines : State → Finish → List Shown
+end_lines s f = Point AtEnd (view_of s) ∷ End f ∷ []
+
+-- the lines of records, newest first
+abbrev pub lines_of : List (ℕ × ℕ) → List Record → List Shown
+lines_of image [] = []
+lines_of image (r ∷ rs) = lines_of image rs ++ lines_by r.kind (state_after image rs)
+
+-- ---- the bytes of a line
+
+-- a word and a byte in upper-case hexadecimal digits
+unfoldable pub word_text : ℕ → List ℕ
+word_text w = encode_upper (to_be_bytes w32 w)
+
+unfoldable pub byte_text : ℕ → List ℕ
+byte_text b = encode_upper (b ∷ [])
+
+abbrev pub line_feed : List ℕ
+line_feed = 10 ∷ []
+
+unfoldable pub out_text : ℕ → List ℕ
+out_text b = codes "#out " ++ byte_text b ++ line_feed
+
+abbrev pub drained_text : Drained → List ℕ
+drained_text AtEnd = codes "end"
+
+unfoldable pub point_text : Drained → View → List ℕ
+point_text k v =
+    codes "#point " ++ decimal v.count ++ codes " " ++ drained_text k ++ codes " "
+    ++ word_text v.ip ++ codes " " ++ word_text v.ac ++ codes " " ++ word_text v.pc ++ line_feed
+
+-- a word after a space
+abbrev pub spaced : ℕ → List ℕ
+spaced w = 32 ∷ word_text w
+
+-- a label and words
+unfoldable pub words_text : List ℕ → List ℕ → List ℕ
+words_text label ws = label ++ flat_map spaced ws ++ line_feed
+
+unfoldable pub finish_text : Finish → List ℕ
+finish_text (Exit w) = codes "#end exit " ++ word_text w ++ line_feed
+finish_text Limit = codes "#end limit" ++ line_feed
+finish_text (Unbuilt a) = codes "#end unbuilt " ++ word_text a ++ line_feed
+
+abbrev pub shown_text : Shown → List ℕ
+shown_text (Out b) = out_text b
+shown_text (Point k v) = point_text k v ++ (words_text (codes "#g") (drop 16 v.regs) ++ words_text (codes "#l") (take 16 v.regs))
+shown_text (End f) = finish_text f
+
+abbrev pub text_of : List Shown → List ℕ
+text_of ls = flat_map shown_text ls
+
+-- the text of a whole run
+abbrev pub run_text : List (ℕ × ℕ) → List Record → Finish → List ℕ
+run_text image rs f = text_of (lines_of image rs ++ end_lines (state_after image rs) f)
+
+-- the status of the command for the end of a run
+abbrev pub finish_code : Finish → ℕ
+finish_code (Exit w) = 0
+finish_code Limit = 0
+finish_code (Unbuilt a) = 4

@@ -1,0 +1,73 @@
+-- A run as the list of its records, newest first.
+use Rattle.std.specs.Prelude.{◌≡◌, ℕ, ◌==◌, if◌then◌else◌, Option, Some, None, List, [], ◌∷◌}
+use Rattle.std.specs.Option.{option_map}
+use Rattle.i9_isa.specs.declared.inst.Inst.{Inst}
+use Rattle.i9_model.specs.declared.layout.TheConstants.{PRCB_POINTER}
+use Rattle.i9_model.specs.Memory.{exit_word}
+use Rattle.i9_model.specs.State.{State, boot}
+use Rattle.i9_model.specs.Step.{action_of, acted, writes_of}
+use Rattle.i9_model.specs.Unbuilt.{has_tables, fetched}
+
+-- how a run ends: with a word that the program wrote, at its length, or before what isn't built
+pub data Finish : Type 0 where
+  Exit : (word : ℕ) → Finish
+  Limit : Finish
+  Unbuilt : (address : ℕ) → Finish
+
+-- what was done
+pub data Kind : Type 0 where
+  Instruction : (inst : Inst) → Kind
+
+-- what was done, and the state after it
+pub record Record : Type 0 where
+  pub kind : Kind
+  pub after : State
+
+pub data Next : Type 0 where
+  Does : Record → Next
+  Ends : Finish → Next
+
+-- the record of an instruction in a state
+abbrev pub record_of : Inst → State → Record
+record_of i s = record { kind = Instruction i; after = acted s (action_of i s) }
+
+-- the bytes that a record writes, from the state before it
+abbrev pub writes_by : Kind → State → List (ℕ × ℕ)
+writes_by (Instruction i) s = writes_of i s
+
+-- the state after the records
+abbrev pub state_after : List (ℕ × ℕ) → List Record → State
+state_after image [] = boot image
+state_after image (r ∷ rs) = r.after
+
+-- the exit that the newest record brings
+abbrev pub exit_by : Kind → State → Option Finish
+exit_by k s = option_map Exit (exit_word (writes_by k s))
+
+-- the end that stands after the records whatever the length: tables that boot would read, or an exit
+abbrev pub due_after : List (ℕ × ℕ) → List Record → Option Finish
+due_after image [] = if has_tables (boot image).memory.bytes then Some (Unbuilt PRCB_POINTER) else None
+due_after image (r ∷ rs) = exit_by r.kind (state_after image rs)
+
+abbrev pub next_by_word : State → Option Inst → Next
+next_by_word s None = Ends (Unbuilt s.ip)
+next_by_word s (Some i) = Does (record_of i s)
+
+-- what comes next in a state: the end that is due, the end of the length, or one instruction
+abbrev pub next_in : ℕ → Option Finish → State → Next
+next_in limit (Some f) s = Ends f
+next_in limit None s = if s.count == limit then Ends Limit else next_by_word s (fetched s)
+
+-- what comes after the records
+abbrev pub next : List (ℕ × ℕ) → ℕ → List Record → Next
+next image limit rs = next_in limit (due_after image rs) (state_after image rs)
+
+-- these are the first records of the run of an image and a length
+abbrev pub IsPast : List (ℕ × ℕ) → ℕ → List Record → Type 0
+IsPast image limit [] = Unit {0}
+IsPast image limit (r ∷ rs) = IsPast image limit rs × (next image limit rs ≡ Does r)
+
+-- these are the records of the run, and this is its end
+pub record IsRun (image : List (ℕ × ℕ)) (limit : ℕ) (rs : List Record) (end : Finish) : Type 0 where
+  pub past : IsPast image limit rs
+  pub ends : next image limit rs ≡ Ends end

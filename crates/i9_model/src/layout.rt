@@ -1,0 +1,41 @@
+//! Addresses, limits and words with a fixed meaning. What is no statement of the i960 CA/CF User's
+//! Manual is this project's own: the port page with its console and exit word, and the limits.
+
+/// The first address of the port page.
+pub const PORT_PAGE: u32 = 0xE000_0000;
+
+/// How many addresses the port page has.
+pub const PORT_PAGE_SIZE: u32 = 0x1000;
+
+/// A byte that is written here goes out at the console.
+pub const CONSOLE: u32 = 0xE000_0000;
+
+/// Four bytes that are written from here up end the run with their word.
+pub const EXIT_WORD: u32 = 0xE000_0004;
+
+/// The four boot bytes, which make the configuration word of region 15.
+pub const BOOT_BYTES: [u32; 4] = [0xFFFF_FF00, 0xFFFF_FF04, 0xFFFF_FF08, 0xFFFF_FF0C];
+
+/// The word of the initialisation boot record with the address of the first instruction.
+pub const FIRST_INSTRUCTION: u32 = 0xFFFF_FF10;
+
+/// The word of the initialisation boot record with the address of the PRCB.
+pub const PRCB_POINTER: u32 = 0xFFFF_FF14;
+
+/// The bytes of the 28 words of the control table.
+pub const CONTROL_TABLE_SIZE: u32 = 112;
+
+/// The process controls after boot: supervisor mode, interrupted, priority 31.
+pub const BOOT_PC: u32 = 0x001F_2002;
+
+/// The bytes of a frame's sixteen local registers.
+pub const FRAME_SIZE: u32 = 64;
+
+/// The number of the stack pointer, r1.
+pub const SP: u8 = 1;
+
+/// The number of the frame pointer, g15.
+pub const FP: u8 = 31;
+
+/// The greatest length of a run, in instructions.
+pub const MAX_LENGTH: u64 = 10_000_000;

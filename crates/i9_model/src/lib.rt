@@ -1,0 +1,9 @@
+//! The one-at-a-time machine: its definitions, their laws, and what they share with the code.
+#![tactic(auto)]
+
+mod laws;
+pub mod layout;
+mod view;
+
+pub use laws::{every_run_ends, one_run};
+pub use view::View;
