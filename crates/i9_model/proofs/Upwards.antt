@@ -46,6 +46,11 @@ last_put-upwards a [] x k few = refl
 last_put-upwards a (b ∷ bs) x k few =
     value_at a b bs x (eqb x (wrapped a)) (last_put (upwards (a + 1) bs) x) k (omega arith) refl (last_put-upwards (a + 1) bs x k (omega arith))
 
+pub last_put-from : (a : ℕ) (bs : List ℕ) (x : ℕ) → a < 2 ^ 32 → x < 2 ^ 32 → length bs ≤ 2 ^ 32 → last_put (upwards a bs) x ≡ slice_get bs ((x + (2 ^ 32 - a)) % 2 ^ 32)
+last_put-from a bs x h k few =
+    let same : a % 2 ^ 32 ≡ a = omega arith in
+    last_put-upwards a bs x k few ∙ ap (λ (n : ℕ). slice_get bs ((x + (2 ^ 32 - n)) % 2 ^ 32)) same
+
 -- the address counts modulo 2^32
 pub upwards-wrapped : (a b : ℕ) (vs : List ℕ) → wrapped a ≡ wrapped b → upwards a vs ≡ upwards b vs
 unfolding upwards
@@ -53,3 +58,5 @@ upwards-wrapped a b [] e = refl
 upwards-wrapped a b (v ∷ vs) e =
     let next : wrapped (a + 1) ≡ wrapped (b + 1) = omega arith in
     ap (λ (x : ℕ). (x, v) ∷ upwards (a + 1) vs) e ∙ ap (λ (ps : List (ℕ × ℕ)). (wrapped b, v) ∷ ps) (upwards-wrapped (a + 1) (b + 1) vs next)
+
+pub ruleset last_put_rules = (last_put-from)

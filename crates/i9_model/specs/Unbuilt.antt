@@ -14,9 +14,12 @@ use Rattle.i9_model.specs.Step.{first_word, next_word}
 unfoldable pub boot_places : List ℕ
 boot_places = BOOT_BYTES ++ (range_with_len PRCB_POINTER 4 ++ range_with_len 0 CONTROL_TABLE_SIZE)
 
+abbrev pub is_set : (ℕ → ℕ) → ℕ → Bool
+is_set m a = not (m a == 0)
+
 -- the image has another byte than 0 at such a place
 unfoldable pub has_tables : (ℕ → ℕ) → Bool
-has_tables m = list_any (λ a. not (m a == 0)) boot_places
+has_tables m = list_any (is_set m) boot_places
 
 -- the size of a data access, which its address has to be a multiple of; 1 where there is none
 abbrev pub access_size : Op → ℕ

@@ -1,0 +1,1 @@
+-- The state that the processor stands for.

@@ -1,0 +1,65 @@
+//! What a step answers, and the lines that it prints.
+ghost use Rattle.std.specs.Prelude.{◌≡◌, ◌+◌, ◌<◌, ◌≤◌, ◌++◌, ◌∷◌, [], vec_len, vec_capacity};
+
+use i9_model::View;
+
+/// How a run ends.
+#[derive(Clone, Copy, Debug, PartialEq, Eq)]
+pub enum End {
+    /// The program wrote this word at the exit word's address.
+    Exit(u32),
+    /// The length of the run was reached.
+    Limit,
+    /// What stands at this address is not built yet.
+    Unbuilt(u32),
+}
+
+/// An instruction that was issued: how many came before it, its address and its words. The second
+/// is 0 where the instruction has one word.
+#[derive(Clone, Copy, Debug, PartialEq, Eq)]
+pub struct Issued {
+    pub count: u64,
+    pub address: u32,
+    pub first: u32,
+    pub second: u32,
+}
+
+/// What a step was.
+#[derive(Clone, Copy, Debug, PartialEq, Eq)]
+pub enum Turn {
+    /// No instruction and no end.
+    On,
+    /// An instruction.
+    Issued(Issued),
+    /// The end of the run.
+    End(End),
+    /// Nothing, since memory was refused: the machine stands as before.
+    Memory,
+}
+
+/// The kinds of drained point.
+#[derive(Clone, Copy, Debug, PartialEq, Eq)]
+pub enum Point {
+    End,
+}
+
+/// What is printed.
+#[derive(Clone, Copy, Debug, PartialEq, Eq)]
+pub enum Line {
+    /// A byte of the console.
+    Out(u8),
+    /// A drained point.
+    Point { kind: Point, view: View },
+    /// The end of the run.
+    End(End),
+}
+
+/// Adds a line for which there is room.
+pub(crate) fn put_line(out: &mut Vec<Line>, line: Line)
+    requires { vec_len out.old < vec_capacity out.old }
+    ensures items { out.new.items ≡ out.old.items ++ line ∷ [] }
+    ensures len { vec_len out.new ≡ vec_len out.old + 1 }
+    ensures capacity { vec_capacity out.old ≤ vec_capacity out.new }
+{
+    out.push(line).unwrap();
+}

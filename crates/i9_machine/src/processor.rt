@@ -1,0 +1,1 @@
+//! The registers, controls and memory of the machine.
