@@ -23,7 +23,6 @@ stored_inside m a v e = unstored_if (in_port_page a) m a v e
 
 -- one more byte
 pub stored_more : (m : ℕ → ℕ) (a : ℕ) (bs : List ℕ) (i : ℕ) → a < 2 ^ 32 → i < length bs → stored m (upwards a (drop i bs)) ≡ stored (stored m ((a, get_or bs i 0) ∷ [])) (upwards (wrapped (a + 1)) (drop (i + 1) bs))
-unfolding upwards
 stored_more m a bs i h k =
     let b = get_or bs i 0 in
     let rest = drop (i + 1) bs in
@@ -36,7 +35,7 @@ stored_more m a bs i h k =
 
 -- no byte is left
 pub stored_done : (m : ℕ → ℕ) (a : ℕ) (bs : List ℕ) (i : ℕ) → length bs ≤ i → stored m (upwards a (drop i bs)) ≡ m
-unfolding written upwards
+unfolding written
 stored_done m a bs i h = at_drop_all (λ zs. stored m (upwards a zs)) bs i h
 
 pub ruleset store_rules = (stored_outside, stored_inside, stored_more, stored_done)

@@ -41,7 +41,7 @@ value_at a b bs x false later k few t e =
 
 -- the value of a place is the one that lies as far behind the first as the place lies above the address
 pub last_put-upwards : (a : ℕ) (bs : List ℕ) (x : ℕ) → x < 2 ^ 32 → length bs ≤ 2 ^ 32 → last_put (upwards a bs) x ≡ slice_get bs ((x + (2 ^ 32 - a % 2 ^ 32)) % 2 ^ 32)
-unfolding last_put upwards
+unfolding last_put
 last_put-upwards a [] x k few = refl
 last_put-upwards a (b ∷ bs) x k few =
     value_at a b bs x (eqb x (wrapped a)) (last_put (upwards (a + 1) bs) x) k (omega arith) refl (last_put-upwards (a + 1) bs x k (omega arith))
@@ -53,7 +53,6 @@ last_put-from a bs x h k few =
 
 -- the address counts modulo 2^32
 pub upwards-wrapped : (a b : ℕ) (vs : List ℕ) → wrapped a ≡ wrapped b → upwards a vs ≡ upwards b vs
-unfolding upwards
 upwards-wrapped a b [] e = refl
 upwards-wrapped a b (v ∷ vs) e =
     let next : wrapped (a + 1) ≡ wrapped (b + 1) = omega arith in

@@ -1,4 +1,6 @@
 pub mod Writes
+pub mod Image
+pub mod HexText
 pub mod Memory
 pub mod State
 pub mod Words

@@ -2,9 +2,22 @@
 -- bytes of memory and the loading of an image alike.
 use Rattle.std.specs.Prelude.{ℕ, ◌+◌, ◌%◌, ◌^◌, ◌==◌, if◌then◌else◌, List, [], ◌∷◌, Option, Some, None}
 
--- addresses are taken modulo 2^32
+-- how many addresses there are, 2^32
+abbrev pub address_count : ℕ
+address_count = 4294967296
+
+-- addresses run on from the last to 0
 abbrev pub wrapped : ℕ → ℕ
-wrapped a = a % 2 ^ 32
+wrapped a = a % address_count
+
+-- values in a row from a number on, each at the place of its number
+abbrev pub pairs_at : (ℕ → ℕ) → ℕ → List ℕ → List (ℕ × ℕ)
+pairs_at place n [] = []
+pairs_at place n (v ∷ vs) = (place n, v) ∷ pairs_at place (n + 1) vs
+
+-- values in a row from an address on
+abbrev pub upwards : ℕ → List ℕ → List (ℕ × ℕ)
+upwards a vs = pairs_at wrapped a vs
 
 -- the function with another value at one place
 abbrev pub put : (ℕ → ℕ) → ℕ → ℕ → ℕ → ℕ
@@ -23,8 +36,3 @@ or_earlier None earlier = earlier
 unfoldable pub last_put : List (ℕ × ℕ) → ℕ → Option ℕ
 last_put [] x = None
 last_put (p ∷ ps) x = or_earlier (last_put ps x) (if x == p.0 then Some p.1 else None)
-
--- values at places from an address upwards, modulo 2^32
-unfoldable pub upwards : ℕ → List ℕ → List (ℕ × ℕ)
-upwards a [] = []
-upwards a (v ∷ vs) = (wrapped a, v) ∷ upwards (a + 1) vs

@@ -1,0 +1,86 @@
+//! An image: bytes at addresses, in segments.
+ghost use Rattle.std.specs.Prelude.{◌≡◌, [], ◌∷◌, ◌++◌, map, OnOk, OnErr};
+ghost use Rattle.i9_model.specs.Image.{pairs_of, AreParts};
+ghost use Rattle.i9_hex.specs.Put.{ends_before, with_pair};
+ghost use Rattle.i9_hex.specs.Shown.{part_of};
+
+use i9_isa::NoMemory;
+use std::alloc::Global;
+use std::marker::Model;
+
+/// Bytes that stand from an address on. Addresses run on from FFFFFFFF to 0.
+#[derive(Debug, Drop)]
+pub struct Segment {
+    pub address: u32,
+    pub bytes: Vec<u8>,
+}
+
+/// Segments in order. Of two bytes at one address the later counts.
+#[derive(Debug, Drop)]
+pub struct Segments {
+    items: Vec<Segment>,
+}
+
+impl Model for Segments {
+    ghost use Rattle.std.specs.Prelude.{List};
+    ghost use Rattle.i9_model.specs.Image.{Part};
+
+    ghost Value = { List Part };
+
+    ghost use Rattle.i9_hex.specs.Shown.{parts_of};
+    ghost use Rattle.i9_model.specs.Image.{AreParts};
+
+    ghost view = { parts_of };
+
+    ghost invariant = { λ s. AreParts (parts_of s) };
+}
+
+/// Whether the next address after the last segment is this one.
+fn ends_before(segments: &[Segment], address: u32) -> bool
+    ensures { result ≡ ends_before (map part_of segments.now) address }
+{
+    match segments.last() {
+        Some(last) => {
+            let start = last.address;
+            start.wrapping_add((last.bytes.len() % 0x1_0000_0000) as u32) == address
+        }
+        None => false,
+    }
+}
+
+impl Segments {
+    /// No segment. This takes no memory.
+    pub fn new(alloc: Global) -> Segments
+        ensures { result ≡ [] }
+    {
+        Segments {
+            items: Vec::new(alloc),
+        }
+    }
+
+    /// Appends a byte at an address: to the last segment where this is the next address after it,
+    /// else as a new segment.
+    pub fn put(&mut self, address: u32, byte: u8) -> Result<(), NoMemory>
+        ensures parts { OnOk result (self.new ≡ with_pair self.old address byte) }
+        ensures pairs { OnOk result (pairs_of self.new ≡ pairs_of self.old ++ (address, byte) ∷ []) }
+        ensures err { OnErr result (self.new ≡ self.old) }
+    {
+        if ends_before(&self.items, address) {
+            let last = self.items.len() - 1;
+            return self.items[last].bytes.push(byte).map_err(|_| NoMemory);
+        }
+        let mut bytes = Vec::new(*self.items.allocator());
+        bytes.push(byte).map_err(|_| NoMemory)?;
+        self.items
+            .push(Segment { address, bytes })
+            .map_err(|_| NoMemory)
+    }
+
+    /// The segments one by one.
+    pub fn as_slice(&self) -> &[Segment]
+        ensures parts { map part_of result.now ≡ self.now }
+        ensures sized { AreParts self.now }
+    {
+        &self.items
+    }
+}

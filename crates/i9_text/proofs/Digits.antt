@@ -1,0 +1,37 @@
+-- The number of a word: where it has one, and how large it is.
+use Rattle.std.proofs.Common.{◌≡◌, ℕ, ◌*◌, ◌^◌, ◌<◌, ◌≤◌, true, false, List, [], ◌∷◌, length, get_or, Some, None, refl, arith, lit<}
+use Rattle.std.specs.List.{list_all}
+use Rattle.std.specs.Char.{digit_value, is_digit}
+use Rattle.std.specs.Str.Parse.{AllDigits, digits_value}
+use Rattle.std.proofs.lemmas.Bool.{lt-ltb, le-ltb}
+use Rattle.std.proofs.lemmas.List.Folds.{list_all_at}
+use Rattle.std.proofs.lemmas.Grind.{common_steps}
+use Rattle.std.proofs.Math.Nat.{pow-le-pow_left, pow-le-pow_right, mul-le-mul_left}
+use Rattle.i9_text.specs.Text.{number_of}
+
+list_all-from_digits : (radix : ℕ) (word : List ℕ) → AllDigits radix word → list_all (λ c. is_digit c radix) word ≡ true
+list_all-from_digits radix [] h = refl
+list_all-from_digits radix (c ∷ cs) h = rw (lt-ltb _ _ h.0) (list_all-from_digits radix cs h.1)
+
+-- a word of digits that is not too long has their value
+pub number_of-digits : (radix most : ℕ) (word : List ℕ) → 0 < length word → length word ≤ most → AllDigits radix word → number_of radix most word ≡ Some (digits_value radix word)
+unfolding number_of
+number_of-digits radix most word some few digits =
+    let all = list_all-from_digits radix word digits in
+    grind (arith, common_steps)
+
+-- a word with another byte than a digit has none
+pub number_of-other : (radix most : ℕ) (word : List ℕ) (i : ℕ) → i < length word → radix ≤ digit_value (get_or word i 0) → number_of radix most word ≡ None
+unfolding number_of
+number_of-other radix most word i lt h =
+    let test : is_digit (get_or word i 0) radix ≡ false = le-ltb _ _ h in
+    let all = list_all_at (λ c. is_digit c radix) word i 0 lt test in
+    grind (arith, common_steps)
+
+-- the value of fewer than 15 digits, and of one digit more
+pub small_number : (radix value i most : ℕ) → 2 ≤ radix → radix ≤ 16 → value < radix ^ i → i < most → most ≤ 15 → (value < 2 ^ 56) × (value * radix ≤ 16 * value)
+small_number radix value i most low high below lt few =
+    let wide : radix ^ i ≤ 16 ^ i = pow-le-pow_left high i in
+    let wider : 16 ^ i ≤ 16 ^ 14 = pow-le-pow_right {n = 16} (lit< tt) {i = i} {j = 14} (omega arith) in
+    let times : value * radix ≤ value * 16 = mul-le-mul_left value high in
+    (omega arith, omega arith)
