@@ -1,2 +1,5 @@
 pub mod Store
 pub mod Tables
+pub mod Registers
+pub mod Copies
+pub mod Needs

@@ -1,4 +1,5 @@
 -- The lines and ends of the machine in the plain forms of the definitions.
+use Rattle.std.specs.Prelude.{◌≡◌, List, ◌++◌, map}
 use Rattle.i9_model.specs.Run.{Finish, Exit, Limit, Unbuilt}
 use Rattle.i9_model.specs.PrintedText.{Drained, AtEnd, Shown, Out, Point, End}
 use Rattle.i9_machine.specs.declared.line.End.{End as MachineEnd}
@@ -20,3 +21,7 @@ abbrev pub shown_of : Line → Shown
 shown_of (lines.Out b) = Out b
 shown_of (lines.Point kind view) = Point (drained_of kind) view
 shown_of (lines.End e) = End (finish_of e)
+
+-- lines were appended that show this
+abbrev pub AddsLines : List Line → List Line → List Shown → Type 0
+AddsLines old new shown = map shown_of new ≡ map shown_of old ++ shown

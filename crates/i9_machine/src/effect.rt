@@ -1,6 +1,6 @@
 //! What an instruction will do, as data.
-ghost use Rattle.std.specs.Prelude.{◌≡◌, ◌<◌, ◌^◌};
-ghost use Rattle.i9_model.specs.Writes.{last_put};
+ghost use Rattle.std.specs.Prelude.{◌≡◌, ◌<◌, ◌^◌, length};
+ghost use Rattle.i9_model.specs.Writes.{last_put, upwards};
 ghost use Rattle.i9_model.specs.Memory.{console_byte, exit_word};
 
 use arrayvec::ArrayVec;
@@ -22,17 +22,22 @@ pub(crate) struct Effect {
     pub(crate) next: u32,
 }
 
+/// The byte at a place, of bytes that stand from an address upwards.
+fn byte_of_run(address: u32, bytes: &[u8], place: u32) -> Option<u8>
+    requires { length bytes.now < 2 ^ 32 }
+    ensures { result ≡ last_put (upwards address bytes.now) place }
+{
+    bytes.get(place.wrapping_sub(address) as usize).copied()
+}
+
 impl Effect {
     ghost use Rattle.i9_machine.specs.Effect.{action_in};
 
     /// The byte that is written at an address.
-    #[tactic(auto, using(i9_model::proofs::Upwards::last_put_rules))]
     fn byte_at(&self, place: u32) -> Option<u8>
         ensures { result ≡ last_put (action_in self.now).writes place }
     {
-        let address = self.address;
-        let above = place.wrapping_sub(address);
-        self.bytes.as_slice().get(above as usize).copied()
+        byte_of_run(self.address, self.bytes.as_slice(), place)
     }
 
     /// The byte that goes out at the console.

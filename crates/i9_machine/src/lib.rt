@@ -5,7 +5,9 @@
 mod decode;
 mod effect;
 mod line;
+mod machine;
 mod memory;
 mod processor;
 
 pub use line::{End, Issued, Line, Point, Turn};
+pub use machine::Machine;

@@ -1,5 +1,5 @@
 //! Bytes by address.
-ghost use Rattle.std.specs.Prelude.{◌≡◌, ℕ, ◌+◌, ◌^◌, ◌<◌, ◌∷◌, [], OnOk, length};
+ghost use Rattle.std.specs.Prelude.{◌≡◌, ℕ, ◌+◌, ◌^◌, ◌<◌, ◌∷◌, [], OnOk, OnErr, length};
 ghost use Rattle.i9_model.specs.Writes.{put, upwards};
 ghost use Rattle.i9_model.specs.Memory.{in_port_page, stored, word_at};
 ghost use Rattle.std.specs.List.{list_any, range_with_len};
@@ -74,6 +74,7 @@ impl Memory {
     pub(crate) fn reserve(&mut self, a: u32, count: u32) -> Result<(), NoMemory>
         ensures same { byte_of self.new ≡ byte_of self.old }
         ensures ok { OnOk result (HasRoom self.new a count) }
+        ensures needed { OnErr result (0 < count) }
         ensures keeps { (x : ℕ) → IsReserved self.old x → IsReserved self.new x }
     {
         for k in 0..count {

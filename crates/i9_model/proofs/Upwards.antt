@@ -57,5 +57,3 @@ upwards-wrapped a b [] e = refl
 upwards-wrapped a b (v ∷ vs) e =
     let next : wrapped (a + 1) ≡ wrapped (b + 1) = omega arith in
     ap (λ (x : ℕ). (x, v) ∷ upwards (a + 1) vs) e ∙ ap (λ (ps : List (ℕ × ℕ)). (wrapped b, v) ∷ ps) (upwards-wrapped (a + 1) (b + 1) vs next)
-
-pub ruleset last_put_rules = (last_put-from)

@@ -1,0 +1,53 @@
+-- One step of a machine from its own fields, with no word on the records before.
+use Rattle.std.specs.Prelude.{◌≡◌, ◌≢◌, ℕ, List, [], ◌∷◌, ◌++◌, map, Option, Some, None}
+use Rattle.std.specs.Option.{option_map}
+use Rattle.i9_model.specs.State.{State}
+use Rattle.i9_model.specs.Run.{Finish, Record, Next, Does, Ends, next_in, exit_by, writes_by}
+use Rattle.i9_model.specs.PrintedText.{Shown, lines_by, end_lines}
+use Rattle.i9_machine.specs.declared.line.End.{End}
+use Rattle.i9_machine.specs.declared.line.Issued.{Issued}
+use Rattle.i9_machine.specs.declared.line.Line.{Line}
+use Rattle.i9_machine.specs.declared.line.Turn.{Turn}
+use Rattle.i9_machine.specs.declared.line.Turn.TheVariants as turns
+use Rattle.i9_machine.specs.declared.machine.Machine.{Machine}
+use Rattle.i9_machine.specs.Processor.{state_of}
+use Rattle.i9_machine.specs.Line.{finish_of, AddsLines}
+use Rattle.i9_machine.specs.StandsFor.{TellsRecord, NeedsRoom}
+
+-- what comes next for the machine
+abbrev pub next_for : Machine → Next
+next_for m = next_in m.length (option_map finish_of m.due) (state_of m.processor)
+
+pub record Did (before : Machine) (t : Issued) (m : Machine) (old new : List Line) : Type 0 where
+  pub done : Record
+  pub is_next : next_for before ≡ Does done
+  pub state : state_of m.processor ≡ done.after
+  pub due : option_map finish_of m.due ≡ exit_by done.kind (state_of before.processor)
+  pub bound : m.length ≡ before.length
+  pub ended : m.ended ≡ None
+  pub lines : AddsLines old new (lines_by done.kind (state_of before.processor))
+  pub tells : TellsRecord done.kind (state_of before.processor) t
+
+-- the same machine, but for the room that it has
+pub record IsSame (before m : Machine) : Type 0 where
+  pub state : state_of m.processor ≡ state_of before.processor
+  pub due : m.due ≡ before.due
+  pub bound : m.length ≡ before.length
+
+pub record Ended (before : Machine) (e : End) (m : Machine) (old new : List Line) : Type 0 where
+  pub is_end : next_for before ≡ Ends (finish_of e)
+  pub same : IsSame before m
+  pub ended : m.ended ≡ Some e
+  pub lines : AddsLines old new (end_lines (state_of before.processor) (finish_of e))
+
+pub record Refused (before : Machine) (m : Machine) (old new : List Line) : Type 0 where
+  pub same : IsSame before m
+  pub ended : m.ended ≡ None
+  pub lines : new ≡ old
+  pub needed : NeedsRoom (state_of before.processor) (next_for before)
+
+abbrev pub Steps : Machine → Turn → Machine → List Line → List Line → Type 0
+Steps before turns.On m old new = ⊥
+Steps before (turns.Issued t) m old new = Did before t m old new
+Steps before (turns.End e) m old new = Ended before e m old new
+Steps before turns.Memory m old new = Refused before m old new

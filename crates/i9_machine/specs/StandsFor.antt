@@ -1,0 +1,83 @@
+-- What a machine stands for, and what one step of it does.
+use Rattle.std.specs.Prelude.{◌≡◌, ◌≢◌, ℕ, ◌+◌, ◌-◌, ◌<◌, ◌≤◌, List, [], ◌∷◌, ◌++◌, map, Option, Some, None}
+use Rattle.std.specs.Option.{option_map}
+use Rattle.i9_model.specs.State.{State}
+use Rattle.i9_model.specs.Run.{Finish, Kind, Record, Instruction, Next, Does, Ends, IsPast, state_after, due_after, next, writes_by}
+use Rattle.i9_model.specs.PrintedText.{Shown, lines_by, end_lines}
+use Rattle.i9_machine.specs.declared.line.End.{End}
+use Rattle.i9_machine.specs.declared.line.Issued.{Issued}
+use Rattle.i9_machine.specs.declared.line.Line.{Line}
+use Rattle.i9_machine.specs.declared.line.Turn.{Turn}
+use Rattle.i9_machine.specs.declared.line.Turn.TheVariants as turns
+use Rattle.i9_machine.specs.declared.machine.Machine.{Machine}
+use Rattle.i9_machine.specs.Processor.{state_of}
+use Rattle.i9_machine.specs.Issue.{TellsIssue}
+use Rattle.i9_machine.specs.Line.{finish_of, AddsLines}
+
+-- the run is over with this end, where there is one
+abbrev pub IsOver : List (ℕ × ℕ) → ℕ → List Record → Option Finish → Type 0
+IsOver image limit rs None = Unit {0}
+IsOver image limit rs (Some f) = next image limit rs ≡ Ends f
+
+-- The machine stands for the first records of the run of an image and a length, and has answered this end of it, if any.
+pub record StandsFor (image : List (ℕ × ℕ)) (limit : ℕ) (rs : List Record) (end : Option Finish) (m : Machine) : Type 0 where
+  pub past : IsPast image limit rs
+  pub state : state_of m.processor ≡ state_after image rs
+  pub due : option_map finish_of m.due ≡ due_after image rs
+  pub bound : m.length ≡ limit
+  pub ended : option_map finish_of m.ended ≡ end
+  pub over : IsOver image limit rs end
+
+abbrev pub TellsRecord : Kind → State → Issued → Type 0
+TellsRecord (Instruction i) s t = TellsIssue i s t
+
+-- the next record was done, and its lines were appended
+pub record DoesNext (image : List (ℕ × ℕ)) (limit : ℕ) (rs : List Record) (t : Issued) (m : Machine) (old new : List Line) : Type 0 where
+  pub done : Record
+  pub is_next : next image limit rs ≡ Does done
+  pub stands : StandsFor image limit (done ∷ rs) None m
+  pub lines : AddsLines old new (lines_by done.kind (state_after image rs))
+  pub tells : TellsRecord done.kind (state_after image rs) t
+
+-- the end was answered, and its lines were appended
+pub record EndsRun (image : List (ℕ × ℕ)) (limit : ℕ) (rs : List Record) (f : Finish) (m : Machine) (old new : List Line) : Type 0 where
+  pub is_end : next image limit rs ≡ Ends f
+  pub stands : StandsFor image limit rs (Some f) m
+  pub lines : AddsLines old new (end_lines (state_after image rs) f)
+
+-- memory may be needed to print an end and to write, and for nothing else
+abbrev pub NeedsRoom : State → Next → Type 0
+NeedsRoom s (Ends f) = Unit {0}
+NeedsRoom s (Does r) = writes_by r.kind s ≢ []
+
+-- memory was refused, and nothing has changed
+pub record IsRefused (image : List (ℕ × ℕ)) (limit : ℕ) (rs : List Record) (m : Machine) (old new : List Line) : Type 0 where
+  pub stands : StandsFor image limit rs None m
+  pub lines : new ≡ old
+  pub needed : NeedsRoom (state_after image rs) (next image limit rs)
+
+-- what a step does, by its answer
+abbrev pub Advances : List (ℕ × ℕ) → ℕ → List Record → Turn → Machine → List Line → List Line → Type 0
+Advances image limit rs turns.On m old new = ⊥
+Advances image limit rs (turns.Issued t) m old new = DoesNext image limit rs t m old new
+Advances image limit rs (turns.End e) m old new = EndsRun image limit rs (finish_of e) m old new
+Advances image limit rs turns.Memory m old new = IsRefused image limit rs m old new
+
+-- the end is answered again, and nothing has changed
+pub record AnswersAgain (image : List (ℕ × ℕ)) (limit : ℕ) (rs : List Record) (f : Finish) (answer : Turn) (m : Machine) (old new : List Line) : Type 0 where
+  pub end : End
+  pub same : finish_of end ≡ f
+  pub answers : answer ≡ turns.End end
+  pub stands : StandsFor image limit rs (Some f) m
+  pub lines : new ≡ old
+
+-- how many instructions there may still be
+abbrev pub steps_left : Machine → ℕ
+steps_left m = m.length - m.processor.count
+
+-- an instruction leaves fewer
+abbrev pub LeavesFewer : Turn → ℕ → ℕ → Type 0
+LeavesFewer turns.On before now = ⊥
+LeavesFewer (turns.Issued t) before now = now < before
+LeavesFewer (turns.End e) before now = Unit {0}
+LeavesFewer turns.Memory before now = Unit {0}
