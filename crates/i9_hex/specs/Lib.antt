@@ -1,3 +1,4 @@
 pub mod Shown
 pub mod Put
+pub mod Lines
 pub mod Reading

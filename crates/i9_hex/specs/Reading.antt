@@ -1,8 +1,42 @@
--- What the reader answers.
-use Rattle.std.specs.Prelude.{◌≡◌, ℕ, Result, Ok, Err}
+-- What the reader keeps and answers.
+use Rattle.std.specs.Prelude.{◌≡◌, ℕ, Option, Some, None, Result, Ok, Err}
+use Rattle.i9_model.specs.Image.{pairs_of}
+use Rattle.i9_model.specs.HexText.{Origin, Upper, Base, HexState}
+use Rattle.i9_hex.specs.declared.reader.Place.{Place}
+use Rattle.i9_hex.specs.declared.reader.Place.TheVariants as places
+use Rattle.i9_hex.specs.declared.reader.Reader.{Reader}
+use Rattle.i9_hex.specs.declared.reader.LineError.{LineError}
+use Rattle.i9_hex.specs.declared.reader.LineError.TheVariants as lines
 use Rattle.i9_hex.specs.declared.error.HexFault.{HexFault}
 use Rattle.i9_hex.specs.declared.error.HexError.{HexError}
 use Rattle.i9_hex.specs.declared.error.HexError.TheVariants.{Bad, Memory}
+
+-- ---- a line
+
+abbrev pub origin_of : Place → Origin
+origin_of (places.Upper half) = Upper half
+origin_of (places.Base base) = Base base
+
+-- the state that a reader stands for
+abbrev pub state_of : Reader → HexState
+state_of r = record { pairs = pairs_of r.segments; origin = origin_of r.place; ended = r.ended }
+
+-- the error is this fault, or want of memory
+abbrev pub Fails : LineError → Option ℕ → Type 0
+Fails lines.Memory fault = Unit {0}
+Fails (lines.Bad kind) fault = fault ≡ Some kind
+
+-- the reader is in the wanted state where there is no fault, else the error is the fault, or want of memory
+abbrev pub Takes : Result Reader LineError → Option ℕ → HexState → Type 0
+Takes (Ok r) fault wanted = (fault ≡ None) × (state_of r ≡ wanted)
+Takes (Err e) fault wanted = Fails e fault
+
+-- the reader's error for a line of this number
+abbrev pub error_at : LineError → ℕ → HexError
+error_at lines.Memory number = Memory
+error_at (lines.Bad k) number = Bad (record { line = number; kind = k })
+
+-- ---- a text
 
 -- the line and kind of a fault
 abbrev pub place_of : HexFault → ℕ × ℕ

@@ -1,38 +1,15 @@
 //! Images of memory as Intel HEX text.
 #![tactic(auto)]
 
-ghost use Rattle.std.specs.Prelude.{ℕ, List, Ok, Err, IfOk, IfErr};
-ghost use Rattle.i9_text.specs.Text.{lines_of};
-ghost use Rattle.i9_model.specs.Image.{pairs_of};
-ghost use Rattle.i9_model.specs.HexText.{IsImage, IsRefused};
-ghost use Rattle.i9_hex.specs.Reading.{Reads, IfBad, place_of};
-
 mod error;
+mod reader;
+mod reading;
+mod record;
 mod segments;
 
 pub use error::{HexError, HexFault};
+pub use reading::read;
 pub use segments::{Segment, Segments};
-use std::alloc::Global;
 
-/// Reads the image of an Intel HEX text.
-///
-/// The text has lines that end with a line feed, which the last one may lack; a carriage return
-/// before it is dropped and an empty line skipped. Every other line is a record of the Intel HEX
-/// object format, of type 00 to 05, in digits of either case. The start addresses of types 03 and
-/// 05 are not kept. An image has at most 4,194,304 data bytes, which is this project's own limit.
-///
-/// A text that is no image is refused with its first fault; see `HexFault`.
-pub fn read(alloc: Global, text: &[u8]) -> Result<Segments, HexError>
-    // What is read is what the lines say.
-    ensures found { IfOk result (λ image. IsImage (lines_of text.now) (pairs_of image)) }
-    // What the lines say is read, unless memory runs out.
-    ensures only { (pairs : List (ℕ × ℕ)) → IsImage (lines_of text.now) pairs →
-        Reads (λ image. pairs_of image) result (Ok pairs) }
-    // What is refused has this first fault.
-    ensures refused { IfErr result (λ e. IfBad e (λ f. IsRefused (lines_of text.now) (place_of f))) }
-    // A text with a first fault is refused for it, unless memory runs out.
-    ensures first { (fault : ℕ × ℕ) → IsRefused (lines_of text.now) fault →
-        Reads {Y = List (ℕ × ℕ)} (λ image. pairs_of image) result (Err fault) }
-{
-    Err(HexError::Memory)
-}
+#[cfg(test)]
+mod tests;

@@ -5,7 +5,7 @@ ghost use Rattle.i9_hex.specs.Put.{ends_before, with_pair};
 ghost use Rattle.i9_hex.specs.Shown.{part_of};
 
 use i9_isa::NoMemory;
-use std::alloc::Global;
+use std::alloc::{AllocError, Global};
 use std::marker::Model;
 
 /// Bytes that stand from an address on. Addresses run on from FFFFFFFF to 0.
@@ -58,22 +58,33 @@ impl Segments {
         }
     }
 
+    fn append(&mut self, address: u32, byte: u8) -> Result<(), AllocError>
+        ensures ok { OnOk result (self.new ≡ with_pair self.old address byte) }
+        ensures err { OnErr result (self.new ≡ self.old) }
+    {
+        if ends_before(&self.items, address) {
+            let last = self.items.len() - 1;
+            self.items[last].bytes.push(byte)?;
+            return Ok(());
+        }
+        let mut bytes = Vec::new(*self.items.allocator());
+        bytes.push(byte)?;
+        self.items.push(Segment { address, bytes })?;
+        Ok(())
+    }
+
     /// Appends a byte at an address: to the last segment where this is the next address after it,
     /// else as a new segment.
+    #[tactic(auto, using(crate::proofs::PartLemmas::one_pair_more))]
     pub fn put(&mut self, address: u32, byte: u8) -> Result<(), NoMemory>
         ensures parts { OnOk result (self.new ≡ with_pair self.old address byte) }
         ensures pairs { OnOk result (pairs_of self.new ≡ pairs_of self.old ++ (address, byte) ∷ []) }
         ensures err { OnErr result (self.new ≡ self.old) }
     {
-        if ends_before(&self.items, address) {
-            let last = self.items.len() - 1;
-            return self.items[last].bytes.push(byte).map_err(|_| NoMemory);
+        match self.append(address, byte) {
+            Ok(()) => Ok(()),
+            Err(AllocError) => Err(NoMemory),
         }
-        let mut bytes = Vec::new(*self.items.allocator());
-        bytes.push(byte).map_err(|_| NoMemory)?;
-        self.items
-            .push(Segment { address, bytes })
-            .map_err(|_| NoMemory)
     }
 
     /// The segments one by one.

@@ -1,0 +1,115 @@
+-- Images with one byte more.
+use Rattle.std.proofs.Common.{◌≡◌, ℕ, zero, suc, ◌+◌, ◌-◌, ◌%◌, ◌<◌, Bool, true, false, eqb, List, [], ◌∷◌, ◌++◌, length, get_or, set, take, map, Some, refl, sym, ap, subst, ◌∙◌, arith, append_assoc, add-zero, inl, inr}
+use Rattle.std.specs.List.{flat_map, AllByRecursion}
+use Rattle.std.proofs.Math.Seq.{map-set_same}
+use Rattle.std.proofs.lemmas.Bool.{eqb-true, cases_Bool}
+use Rattle.std.proofs.lemmas.List.{append-nil, map_push, take_more, length-take-le}
+use Rattle.std.proofs.lemmas.Grind.{flat_map-append}
+use Rattle.i9_model.specs.Image.{address_count, Part, pairs_at, wrapped, pairs_of_part, pairs_of, IsPart, AreParts}
+use Rattle.i9_hex.specs.Put.{next_address, ends_before, with_byte, with_pair}
+use Rattle.i9_hex.specs.Shown.{part_of}
+use Rattle.i9_hex.specs.declared.segments.Segment.{Segment}
+
+pub pairs_at-append : (address : ℕ → ℕ) (n : ℕ) (xs ys : List ℕ) → pairs_at address n (xs ++ ys) ≡ pairs_at address n xs ++ pairs_at address (n + length xs) ys
+pairs_at-append address n [] ys = rw add-zero refl
+pairs_at-append address n (x ∷ xs) ys =
+    let e : n + 1 + length xs ≡ n + suc (length xs) = omega arith in
+    ap (λ (ps : List (ℕ × ℕ)). (address n, x) ∷ ps) (pairs_at-append address (n + 1) xs ys ∙ ap (λ (k : ℕ). pairs_at address (n + 1) xs ++ pairs_at address k ys) e)
+
+pub length-pairs_at : (address : ℕ → ℕ) (n : ℕ) (bs : List ℕ) → length (pairs_at address n bs) ≡ length bs
+length-pairs_at address n [] = refl
+length-pairs_at address n (b ∷ bs) = ap suc (length-pairs_at address (n + 1) bs)
+
+-- the data of a record, one byte more
+pub pairs_at-more : (address : ℕ → ℕ) (n i : ℕ) (bs : List ℕ) (ps qs rs : List (ℕ × ℕ)) → i < length bs → qs ≡ ps ++ pairs_at address n (take i bs) → rs ≡ qs ++ (address (n + i), get_or bs i 0) ∷ []
+    → rs ≡ ps ++ pairs_at address n (take (i + 1) bs)
+pairs_at-more address n i bs ps qs rs lt before now =
+    let more : take (i + 1) bs ≡ take i bs ++ get_or bs i 0 ∷ [] = take_more bs i 0 lt in
+    let len : length (take i bs) ≡ i = length-take-le i bs (omega arith) in
+    rw (now, before, more, pairs_at-append, len) (append_assoc ps (pairs_at address n (take i bs)) ((address (n + i), get_or bs i 0) ∷ []))
+
+-- ---- the last segment
+
+pub ends_before-last : (items : List Segment) (n a : ℕ) (d last : Segment) → suc n ≡ length items → last ≡ get_or items n d → ends_before (map part_of items) a ≡ eqb (next_address (part_of last)) a
+ends_before-last [] n a d last len is = absurd (omega arith)
+ends_before-last (s ∷ []) zero a d last len is = ap (λ (x : Segment). eqb (next_address (part_of x)) a) (sym is)
+ends_before-last (s ∷ []) (suc n) a d last len is = absurd (omega arith)
+ends_before-last (s ∷ t ∷ ss) zero a d last len is = absurd (omega arith)
+ends_before-last (s ∷ t ∷ ss) (suc n) a d last len is = ends_before-last (t ∷ ss) n a d last (omega arith) is
+
+-- the last segment with a byte more
+pub parts-grown : (items : List Segment) (n b : ℕ) (old new : Segment) → suc n ≡ length items → old ≡ get_or items n old → part_of new ≡ record { address = old.address; bytes = old.bytes.items ++ b ∷ [] }
+    → map part_of (set items n new) ≡ with_byte (map part_of items) b
+parts-grown [] n b old new len is more = absurd (omega arith)
+parts-grown (s ∷ []) zero b old new len is more = ap (λ (p : Part). p ∷ []) (more ∙ ap (λ (x : Segment). let p : Part = record { address = x.address; bytes = x.bytes.items ++ b ∷ [] } in p) is)
+parts-grown (s ∷ []) (suc n) b old new len is more = absurd (omega arith)
+parts-grown (s ∷ t ∷ ss) zero b old new len is more = absurd (omega arith)
+parts-grown (s ∷ t ∷ ss) (suc n) b old new len is more = ap (λ (ps : List Part). part_of s ∷ ps) (parts-grown (t ∷ ss) n b old new (omega arith) is more)
+
+-- a byte that was not stored leaves what the segments show
+pub parts-same : (items : List Segment) (n : ℕ) (old new : Segment) → old ≡ get_or items n old → part_of new ≡ part_of old → map part_of (set items n new) ≡ map part_of items
+parts-same items n old new is same = map-set_same part_of items n new old (same ∙ ap part_of is)
+
+-- a byte that goes to the last segment
+pub with_pair-grown : (items : List Segment) (n a b : ℕ) (old new : Segment) → ends_before (map part_of items) a ≡ true → n ≡ length items - 1 → old ≡ get_or items n old → part_of new ≡ record { address = old.address; bytes = old.bytes.items ++ b ∷ [] }
+    → map part_of (set items n new) ≡ with_pair (map part_of items) a b
+unfolding with_pair
+with_pair-grown [] n a b old new ends len is more = absurd cc
+with_pair-grown (s ∷ ss) n a b old new ends len is more = rw ends (parts-grown (s ∷ ss) n b old new (omega arith) is more)
+
+-- a byte that goes to a new segment
+pub with_pair-begun : (items : List Segment) (a b : ℕ) (new : Segment) → ends_before (map part_of items) a ≡ false → part_of new ≡ record { address = a; bytes = b ∷ [] } → map part_of (items ++ new ∷ []) ≡ with_pair (map part_of items) a b
+unfolding with_pair
+with_pair-begun items a b new begins is = rw begins (map_push part_of items new ∙ ap (λ (p : Part). map part_of items ++ p ∷ []) is)
+
+-- ---- the pairs
+
+pairs_of_part-grown : (p : Part) (a b : ℕ) → next_address p ≡ a → pairs_of_part (record p { bytes = p.bytes ++ b ∷ [] }) ≡ pairs_of_part p ++ (a, b) ∷ []
+pairs_of_part-grown p a b next = pairs_at-append wrapped p.address p.bytes (b ∷ []) ∙ ap (λ (k : ℕ). pairs_of_part p ++ (k, b) ∷ []) next
+
+pairs_of-with_byte : (ps : List Part) (a b : ℕ) → ends_before ps a ≡ true → pairs_of (with_byte ps b) ≡ pairs_of ps ++ (a, b) ∷ []
+unfolding pairs_of
+pairs_of-with_byte [] a b ends = absurd cc
+pairs_of-with_byte (p ∷ []) a b ends =
+    append-nil (pairs_of_part (record p { bytes = p.bytes ++ b ∷ [] })) ∙ pairs_of_part-grown p a b (eqb-true _ _ ends) ∙ ap (λ (qs : List (ℕ × ℕ)). qs ++ (a, b) ∷ []) (sym (append-nil (pairs_of_part p)))
+pairs_of-with_byte (p ∷ q ∷ ps) a b ends =
+    ap (λ (qs : List (ℕ × ℕ)). pairs_of_part p ++ qs) (pairs_of-with_byte (q ∷ ps) a b ends) ∙ sym (append_assoc (pairs_of_part p) (pairs_of (q ∷ ps)) ((a, b) ∷ []))
+
+pairs_of-new_part : (ps : List Part) (a b : ℕ) → a < address_count → pairs_of (ps ++ record { address = a; bytes = b ∷ [] } ∷ []) ≡ pairs_of ps ++ (a, b) ∷ []
+unfolding pairs_of
+pairs_of-new_part ps a b small =
+    let e : a % address_count ≡ a = omega arith in
+    flat_map-append pairs_of_part ps (record { address = a; bytes = b ∷ [] } ∷ []) ∙ ap (λ (k : ℕ). pairs_of ps ++ (k, b) ∷ []) e
+
+-- one pair more is the last
+pub pairs_of-with_pair : (ps : List Part) (a b : ℕ) → a < address_count → pairs_of (with_pair ps a b) ≡ pairs_of ps ++ (a, b) ∷ []
+unfolding with_pair
+pairs_of-with_pair ps a b small = elim (cases_Bool (ends_before ps a)) [
+  | inl joins ↦ rw joins (pairs_of-with_byte ps a b joins)
+  | inr begins ↦ rw begins (pairs_of-new_part ps a b small)
+]
+
+pub one_pair_more : (ps qs : List Part) (a b : ℕ) → a < address_count → qs ≡ with_pair ps a b → pairs_of qs ≡ pairs_of ps ++ (a, b) ∷ []
+one_pair_more ps qs a b small is = ap pairs_of is ∙ pairs_of-with_pair ps a b small
+
+-- ---- the invariant
+
+AreBytes-push : (xs : List ℕ) (b : ℕ) → AllByRecursion (λ x. x < 256) xs → b < 256 → AllByRecursion (λ x. x < 256) (xs ++ b ∷ [])
+AreBytes-push [] b h small = (small, tt)
+AreBytes-push (x ∷ xs) b h small = (h.0, AreBytes-push xs b h.1 small)
+
+AreParts-with_byte : (ps : List Part) (b : ℕ) → b < 256 → AreParts ps → AreParts (with_byte ps b)
+AreParts-with_byte [] b small h = tt
+AreParts-with_byte (p ∷ []) b small h = (record { address = h.0.address; bytes = AreBytes-push p.bytes b h.0.bytes small }, tt)
+AreParts-with_byte (p ∷ q ∷ ps) b small h = (h.0, AreParts-with_byte (q ∷ ps) b small h.1)
+
+AreParts-push : (ps : List Part) (p : Part) → AreParts ps → IsPart p → AreParts (ps ++ p ∷ [])
+AreParts-push [] p h new = (new, tt)
+AreParts-push (q ∷ ps) p h new = (h.0, AreParts-push ps p h.1 new)
+
+pub AreParts-with_pair : (ps : List Part) (a b : ℕ) → a < address_count → b < 256 → AreParts ps → AreParts (with_pair ps a b)
+unfolding with_pair
+AreParts-with_pair ps a b small byte h = elim (cases_Bool (ends_before ps a)) [
+  | inl joins ↦ rw joins (AreParts-with_byte ps b byte h)
+  | inr begins ↦ rw begins (AreParts-push ps (record { address = a; bytes = b ∷ [] }) h (record { address = small; bytes = (byte, tt) }))
+]

@@ -1,0 +1,61 @@
+-- What the reader of a text answers: the image that the lines say, or the first fault.
+use Rattle.std.proofs.Common.{◌≡◌, ℕ, List, Option, Some, None, Result, Ok, Err, refl, ap, subst, IfOk, IfErr}
+use Rattle.i9_text.specs.Text.{lines_of}
+use Rattle.i9_text.specs.FirstFault.{or_fault}
+use Rattle.i9_text.proofs.FirstFault.{read_from, SaysAll-read, read_from-says, read_from-refused, refused-read}
+use Rattle.i9_model.specs.HexText.{HexState, start, Says, fault_of, missing_end, IsImage, IsRefused}
+use Rattle.i9_hex.specs.declared.error.HexError.{HexError}
+use Rattle.i9_hex.specs.declared.error.HexError.TheVariants.{Bad, Memory}
+use Rattle.i9_hex.specs.Lines.{with_line}
+use Rattle.i9_hex.specs.Reading.{place_of, Reads, IfBad}
+use Rattle.i9_hex.proofs.OneLine.{says_line, line_says}
+
+abbrev pub pairs_or_fault : Result HexState (ℕ × ℕ) → Result (List (ℕ × ℕ)) (ℕ × ℕ)
+pairs_or_fault (Ok s) = Ok s.pairs
+pairs_or_fault (Err fault) = Err fault
+
+-- what reading the whole text gives
+abbrev pub state_or_fault : List ℕ → Result HexState (ℕ × ℕ)
+state_or_fault text = read_from fault_of with_line missing_end 0 start (lines_of text)
+
+abbrev pub answer_of : List ℕ → Result (List (ℕ × ℕ)) (ℕ × ℕ)
+answer_of text = pairs_or_fault (state_or_fault text)
+
+-- at the end of the text
+pub pairs-at_end : (o : Option ℕ) (n : ℕ) (s : HexState) → pairs_or_fault (or_fault o n (Ok s)) ≡ or_fault o n (Ok s.pairs)
+pairs-at_end None n s = refl
+pairs-at_end (Some kind) n s = refl
+
+pairs_ok : (r : Result HexState (ℕ × ℕ)) (ps : List (ℕ × ℕ)) → pairs_or_fault r ≡ Ok ps → (t : HexState) × (r ≡ Ok t) × (t.pairs ≡ ps)
+pairs_ok (Ok t) ps e = (t, refl, cc)
+pairs_ok (Err f) ps e = absurd cc
+
+pairs_err : (r : Result HexState (ℕ × ℕ)) (f : ℕ × ℕ) → pairs_or_fault r ≡ Err f → r ≡ Err f
+pairs_err (Ok t) f e = absurd cc
+pairs_err (Err g) f e = let same : g ≡ f = cc in ap Err same
+
+-- ---- the clauses of the reader
+
+pub found : {X : Type 0} (view : X → List (ℕ × ℕ)) (text : List ℕ) (r : Result X HexError) → Reads view r (answer_of text) → IfOk r (λ image. IsImage (lines_of text) (view image))
+found view text (Ok x) h =
+    let a = pairs_ok (state_or_fault text) (view x) h in
+    let b = SaysAll-read Says fault_of with_line missing_end start says_line line_says 0 start a.0 (lines_of text) a.1 in
+    record { last = a.0; says = b.0; ended = b.1; same = a.2 }
+found view text (Err e) h = tt
+
+pub only : {X : Type 0} (view : X → List (ℕ × ℕ)) (text : List ℕ) (r : Result X HexError) → Reads view r (answer_of text) → (pairs : List (ℕ × ℕ)) → IsImage (lines_of text) pairs → Reads view r (Ok pairs)
+only view text r h pairs image =
+    let e = read_from-says Says fault_of with_line missing_end start says_line line_says 0 start image.last (lines_of text) image.says image.ended in
+    let answer : answer_of text ≡ Ok pairs = rw e (ap Ok image.same) in
+    subst (λ (a : Result (List (ℕ × ℕ)) (ℕ × ℕ)). Reads view r a) answer h
+
+pub refused : {X : Type 0} (view : X → List (ℕ × ℕ)) (text : List ℕ) (r : Result X HexError) → Reads view r (answer_of text) → IfErr r (λ e. IfBad e (λ f. IsRefused (lines_of text) (place_of f)))
+refused view text (Ok x) h = tt
+refused view text (Err Memory) h = tt
+refused view text (Err (Bad f)) h = refused-read Says fault_of with_line missing_end start says_line line_says (lines_of text) (place_of f) (pairs_err (state_or_fault text) (place_of f) h)
+
+pub first : {X : Type 0} (view : X → List (ℕ × ℕ)) (text : List ℕ) (r : Result X HexError) → Reads view r (answer_of text) → (fault : ℕ × ℕ) → IsRefused (lines_of text) fault → Reads {Y = List (ℕ × ℕ)} view r (Err fault)
+first view text r h fault bad =
+    let e = read_from-refused Says fault_of with_line missing_end start says_line line_says (lines_of text) fault bad in
+    let answer : answer_of text ≡ Err fault = rw e refl in
+    subst (λ (a : Result (List (ℕ × ℕ)) (ℕ × ℕ)). Reads view r a) answer h
