@@ -2,7 +2,7 @@
 use Rattle.std.specs.Prelude.{◌≡◌, ◌≢◌, ℕ, List, [], ◌∷◌, ◌++◌, map, Option, Some, None}
 use Rattle.std.specs.Option.{option_map}
 use Rattle.i9_model.specs.State.{State}
-use Rattle.i9_model.specs.Run.{Finish, Record, Next, Does, Ends, next_in, exit_by, writes_by}
+use Rattle.i9_model.specs.Run.{Finish, Record, Next, Does, Ends, next_in, exit_in, writes_by}
 use Rattle.i9_model.specs.PrintedText.{Shown, lines_by, end_lines}
 use Rattle.i9_machine.specs.declared.line.End.{End}
 use Rattle.i9_machine.specs.declared.line.Issued.{Issued}
@@ -22,7 +22,7 @@ pub record Did (before : Machine) (t : Issued) (m : Machine) (old new : List Lin
   pub done : Record
   pub is_next : next_for before ≡ Does done
   pub state : state_of m.processor ≡ done.after
-  pub due : option_map finish_of m.due ≡ exit_by done.kind (state_of before.processor)
+  pub due : option_map finish_of m.due ≡ exit_in (writes_by done.kind (state_of before.processor))
   pub bound : m.length ≡ before.length
   pub ended : m.ended ≡ None
   pub lines : AddsLines old new (lines_by done.kind (state_of before.processor))

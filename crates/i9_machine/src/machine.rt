@@ -3,11 +3,12 @@ ghost use Rattle.std.specs.Prelude.{◌≡◌, ◌≢◌, ◌++◌, ◌+◌, ◌
 ghost use Rattle.std.specs.Option.{option_map};
 ghost use Rattle.i9_model.specs.declared.layout.TheConstants.{MAX_LENGTH};
 ghost use Rattle.i9_model.specs.Memory.{console_byte};
-ghost use Rattle.i9_model.specs.Run.{Finish, Record, Does, Ends, record_of, state_after};
-ghost use Rattle.i9_model.specs.PrintedText.{view_of, out_lines, end_lines, Point, AtEnd, End as EndLine};
+ghost use Rattle.i9_model.specs.Step.{acted};
+ghost use Rattle.i9_model.specs.Run.{Finish, Record, Does, Ends, record_of, state_after, exit_in};
+ghost use Rattle.i9_model.specs.PrintedText.{view_of, out_lines, last_lines};
 ghost use Rattle.i9_machine.specs.declared.line.End.{End};
 ghost use Rattle.i9_machine.specs.Decode.{IsBuilt};
-ghost use Rattle.i9_machine.specs.Effect.{action_in};
+ghost use Rattle.i9_machine.specs.Effect.{action_in, AreRegisters};
 ghost use Rattle.i9_machine.specs.Line.{finish_of, AddsLines};
 ghost use Rattle.i9_machine.specs.Processor.{state_of};
 ghost use Rattle.i9_machine.specs.Memory.{HasRoom};
@@ -34,7 +35,7 @@ pub struct Machine {
 
 /// Adds the end point and the line of the end.
 fn put_end(e: End, view: View, out: &mut Vec<Line>) -> Result<(), NoMemory>
-    ensures ok { OnOk result (AddsLines out.old.items out.new.items (Point AtEnd view ∷ EndLine (finish_of e) ∷ [])) }
+    ensures ok { OnOk result (AddsLines out.old.items out.new.items (last_lines view (finish_of e))) }
     ensures err { OnErr result (out.new.items ≡ out.old.items) }
 {
     match out.reserve(2) {
@@ -70,6 +71,16 @@ fn put_out(byte: Option<u8>, out: &mut Vec<Line>)
 {
     if let Some(b) = byte {
         put_line(out, Line::Out(b));
+    }
+}
+
+/// The exit that is planned.
+fn exit_in(e: &Effect) -> Option<End>
+    ensures { option_map finish_of result ≡ exit_in (action_in e.now).writes }
+{
+    match e.exit_word() {
+        Some(w) => Some(End::Exit(w)),
+        None => None,
     }
 }
 
@@ -118,6 +129,24 @@ impl Machine {
         reserve_out(e.console_byte(), out)
     }
 
+    /// Does what is planned, prints its byte, and keeps the exit that it brings.
+    fn act(&mut self, e: &Effect, out: &mut Vec<Line>)
+        requires registers { AreRegisters e.now.sets.items }
+        requires room { HasRoom self.old.processor.memory e.now.address (length e.now.bytes.items) }
+        requires lines { vec_len out.old + length (out_lines (console_byte (action_in e.now).writes)) ≤ vec_capacity out.old }
+        requires below { self.old.processor.count < self.old.length }
+        ensures state { state_of self.new.processor ≡ acted (state_of self.old.processor) (action_in e.now) }
+        ensures count { self.new.processor.count ≡ self.old.processor.count + 1 }
+        ensures due { option_map finish_of self.new.due ≡ exit_in (action_in e.now).writes }
+        ensures bound { self.new.length ≡ self.old.length }
+        ensures ended { self.new.ended ≡ self.old.ended }
+        ensures lines { AddsLines out.old.items out.new.items (out_lines (console_byte (action_in e.now).writes)) }
+    {
+        self.processor.apply(e);
+        self.due = exit_in(e);
+        put_out(e.console_byte(), out);
+    }
+
     /// Does an instruction.
     fn issue(&mut self, i: &Inst, out: &mut Vec<Line>) -> Turn
         requires running { self.old.ended ≡ None }
@@ -131,9 +160,7 @@ impl Machine {
         let effect = self.processor.plan(i);
         match self.make_room(&effect, out) {
             Ok(()) => {
-                self.processor.apply(&effect);
-                put_out(effect.console_byte(), out);
-                self.due = effect.exit_word().map(End::Exit);
+                self.act(&effect, out);
                 Turn::Issued(issued)
             }
             Err(_) => Turn::Memory,

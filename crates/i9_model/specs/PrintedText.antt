@@ -36,8 +36,12 @@ out_lines (Some b) = Out b ∷ []
 abbrev pub lines_by : Kind → State → List Shown
 lines_by k s = out_lines (console_byte (writes_by k s))
 
+-- the end of a run: its drained point, and how it ended
+abbrev pub last_lines : View → Finish → List Shown
+last_lines v f = Point AtEnd v ∷ End f ∷ []
+
 abbrev pub end_lines : State → Finish → List Shown
-end_lines s f = Point AtEnd (view_of s) ∷ End f ∷ []
+end_lines s f = last_lines (view_of s) f
 
 -- the lines of records, newest first
 abbrev pub lines_of : List (ℕ × ℕ) → List Record → List Shown

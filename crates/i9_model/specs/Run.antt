@@ -5,7 +5,7 @@ use Rattle.i9_isa.specs.declared.inst.Inst.{Inst}
 use Rattle.i9_model.specs.declared.layout.TheConstants.{PRCB_POINTER}
 use Rattle.i9_model.specs.Memory.{exit_word}
 use Rattle.i9_model.specs.State.{State, boot}
-use Rattle.i9_model.specs.Step.{action_of, acted, writes_of}
+use Rattle.i9_model.specs.Step.{action_of, acted}
 use Rattle.i9_model.specs.Unbuilt.{has_tables, fetched}
 
 -- how a run ends: with a word that the program wrote, at its length, or before what isn't built
@@ -33,21 +33,21 @@ record_of i s = record { kind = Instruction i; after = acted s (action_of i s) }
 
 -- the bytes that a record writes, from the state before it
 abbrev pub writes_by : Kind → State → List (ℕ × ℕ)
-writes_by (Instruction i) s = writes_of i s
+writes_by (Instruction i) s = (action_of i s).writes
 
 -- the state after the records
 abbrev pub state_after : List (ℕ × ℕ) → List Record → State
 state_after image [] = boot image
 state_after image (r ∷ rs) = r.after
 
--- the exit that the newest record brings
-abbrev pub exit_by : Kind → State → Option Finish
-exit_by k s = option_map Exit (exit_word (writes_by k s))
+-- the exit that writes bring
+abbrev pub exit_in : List (ℕ × ℕ) → Option Finish
+exit_in writes = option_map Exit (exit_word writes)
 
 -- the end that stands after the records whatever the length: tables that boot would read, or an exit
 abbrev pub due_after : List (ℕ × ℕ) → List Record → Option Finish
 due_after image [] = if has_tables (boot image).memory.bytes then Some (Unbuilt PRCB_POINTER) else None
-due_after image (r ∷ rs) = exit_by r.kind (state_after image rs)
+due_after image (r ∷ rs) = exit_in (writes_by r.kind (state_after image rs))
 
 abbrev pub next_by_word : State → Option Inst → Next
 next_by_word s None = Ends (Unbuilt s.ip)
