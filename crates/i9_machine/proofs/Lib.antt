@@ -3,3 +3,4 @@ pub mod Tables
 pub mod Registers
 pub mod Copies
 pub mod Needs
+pub mod Load

@@ -1,5 +1,5 @@
 -- Where room is needed, bytes are written.
-use Rattle.std.proofs.Common.{◌≡◌, ◌≢◌, ℕ, ◌<◌, List, [], ◌∷◌, length, Option, Some, None, sym, ap, ◌∙◌, refl, arith}
+use Rattle.std.proofs.Common.{◌≡◌, ◌≢◌, ℕ, ◌<◌, List, [], ◌∷◌, length, None, refl, arith}
 use Rattle.i9_model.specs.Writes.{upwards, last_put}
 
 pub upwards-some : (a : ℕ) (bs : List ℕ) → 0 < length bs → upwards a bs ≢ []

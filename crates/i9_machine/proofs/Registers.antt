@@ -1,5 +1,5 @@
 -- The kept registers as a function.
-use Rattle.std.proofs.Common.{◌≡◌, ℕ, zero, suc, ◌+◌, ◌<◌, ◌≤◌, Bool, true, false, cond, eqb, List, [], ◌∷◌, length, get_or, drop, map, slice_set, add-zero, zero-add, refl, sym, ap, ◌∙◌, arith}
+use Rattle.std.proofs.Common.{◌≡◌, ℕ, zero, suc, ◌+◌, ◌<◌, ◌≤◌, Bool, true, false, cond, eqb, List, [], ◌∷◌, length, get_or, drop, map, replicate, slice_set, add-zero, zero-add, refl, sym, ap, ◌∙◌, arith}
 use Rattle.std.proofs.lemmas.List.{at_drop_more, at_drop_all, get_or-set_same, get_or-set_other}
 use Rattle.std.proofs.lemmas.Bool.Decides.{nat_tests}
 use Rattle.i9_model.specs.Writes.{put, written}
@@ -14,6 +14,14 @@ set_at regs r v x false h t = get_or-set_other regs r x v 0 (λ same. grind (ari
 
 pub registers_of-set : (regs : List ℕ) (r v : ℕ) → r < length regs → registers_of (slice_set regs r v) ≡ put (registers_of regs) r v
 registers_of-set regs r v h = λ i x. set_at regs r v x (eqb x r) h refl i
+
+zero_at : (n x : ℕ) → ◌≡◌ {A = ℕ} (get_or (replicate n 0) x 0) 0
+zero_at zero x = refl
+zero_at (suc n) zero = refl
+zero_at (suc n) (suc x) = zero_at n x
+
+pub registers_of-zeros : (n : ℕ) → ◌≡◌ {A = ℕ → ℕ} (registers_of (replicate n 0)) (λ x. 0)
+registers_of-zeros n = λ i x. zero_at n x i
 
 pub written_more : (f : ℕ → ℕ) (ps : List (ℕ × ℕ)) (i : ℕ) (d : ℕ × ℕ) → i < length ps → written f (drop i ps) ≡ written (put f (get_or ps i d).0 (get_or ps i d).1) (drop (i + 1) ps)
 unfolding written
@@ -35,7 +43,7 @@ listed f a (suc n) [] len same = absurd (omega arith)
 listed f a (suc n) (x ∷ xs) len same =
     let first : f a ≡ x = ap f (sym (add-zero a)) ∙ same 0 (omega arith) in
     let rest : map f (range_with_len (a + 1) n) ≡ xs = listed f (a + 1) n xs (omega arith) (λ k h.
-      let one : a + 1 + k ≡ a + suc k = omega arith in ap f one ∙ same (suc k) (omega arith)) in
+    let one : a + 1 + k ≡ a + suc k = omega arith in ap f one ∙ same (suc k) (omega arith)) in
     ap (λ (y : ℕ). y ∷ map f (range_with_len (a + 1) n)) first ∙ ap (λ (ys : List ℕ). x ∷ ys) rest
 
 -- 32 registers in order are the kept ones
@@ -43,4 +51,4 @@ pub register_list-of : (regs : List ℕ) → length regs ≡ 32 → register_lis
 unfolding register_list
 register_list-of regs len = listed (registers_of regs) 0 32 regs len (λ k h. ap (registers_of regs) (zero-add k))
 
-pub ruleset register_rules = (registers_of-set, register_list-of, register_at, written_more, written_done)
+pub ruleset register_rules = (registers_of-set, registers_of-zeros, register_list-of, register_at, written_more, written_done)

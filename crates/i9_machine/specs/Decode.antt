@@ -1,5 +1,5 @@
 -- What is known of every instruction that is decoded.
-use Rattle.std.specs.Prelude.{◌≡◌, ℕ, ◌<◌, ◌^◌, ◌⊎◌}
+use Rattle.std.specs.Prelude.{◌<◌, ◌^◌}
 use Rattle.i9_isa.specs.declared.op.Op.{Op}
 use Rattle.i9_isa.specs.declared.op.Op.TheVariants.{Mov, Lda, St, Stob}
 use Rattle.i9_isa.specs.declared.inst.Operand.{Operand}

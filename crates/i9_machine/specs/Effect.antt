@@ -1,5 +1,5 @@
 -- A planned effect as the action of the definitions.
-use Rattle.std.specs.Prelude.{◌≡◌, ℕ, ◌<◌, List}
+use Rattle.std.specs.Prelude.{ℕ, ◌<◌, List}
 use Rattle.std.specs.List.{AllByRecursion}
 use Rattle.i9_model.specs.Writes.{upwards}
 use Rattle.i9_model.specs.Step.{Action}

@@ -1,5 +1,5 @@
 -- What the memory of the machine holds.
-use Rattle.std.specs.Prelude.{ℕ, ◌+◌, ◌<◌, Option, unwrap_or, IsSome}
+use Rattle.std.specs.Prelude.{ℕ, ◌+◌, ◌<◌, unwrap_or, IsSome}
 use Rattle.std.specs.Ordering.{nat_cmp}
 use Rattle.std.specs.BTreeMap.{get}
 use Rattle.i9_model.specs.Writes.{wrapped}

@@ -1,9 +1,8 @@
 -- One step of a machine from its own fields, with no word on the records before.
-use Rattle.std.specs.Prelude.{◌≡◌, ◌≢◌, ℕ, List, [], ◌∷◌, ◌++◌, map, Option, Some, None}
+use Rattle.std.specs.Prelude.{◌≡◌, List, Some, None}
 use Rattle.std.specs.Option.{option_map}
-use Rattle.i9_model.specs.State.{State}
-use Rattle.i9_model.specs.Run.{Finish, Record, Next, Does, Ends, next_in, exit_in, writes_by}
-use Rattle.i9_model.specs.PrintedText.{Shown, lines_by, end_lines}
+use Rattle.i9_model.specs.Run.{Record, Next, Does, Ends, next_in, exit_in, writes_by}
+use Rattle.i9_model.specs.PrintedText.{lines_by, end_lines}
 use Rattle.i9_machine.specs.declared.line.End.{End}
 use Rattle.i9_machine.specs.declared.line.Issued.{Issued}
 use Rattle.i9_machine.specs.declared.line.Line.{Line}

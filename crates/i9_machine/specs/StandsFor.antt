@@ -1,9 +1,9 @@
 -- What a machine stands for, and what one step of it does.
-use Rattle.std.specs.Prelude.{◌≡◌, ◌≢◌, ℕ, ◌+◌, ◌-◌, ◌<◌, ◌≤◌, List, [], ◌∷◌, ◌++◌, map, Option, Some, None}
+use Rattle.std.specs.Prelude.{◌≡◌, ◌≢◌, ℕ, ◌-◌, ◌<◌, List, [], ◌∷◌, Option, Some, None}
 use Rattle.std.specs.Option.{option_map}
 use Rattle.i9_model.specs.State.{State}
 use Rattle.i9_model.specs.Run.{Finish, Kind, Record, Instruction, Next, Does, Ends, IsPast, state_after, due_after, next, writes_by}
-use Rattle.i9_model.specs.PrintedText.{Shown, lines_by, end_lines}
+use Rattle.i9_model.specs.PrintedText.{lines_by, end_lines}
 use Rattle.i9_machine.specs.declared.line.End.{End}
 use Rattle.i9_machine.specs.declared.line.Issued.{Issued}
 use Rattle.i9_machine.specs.declared.line.Line.{Line}

@@ -2,6 +2,7 @@
 ghost use Rattle.std.specs.Prelude.{◌≡◌, ◌≢◌, ◌++◌, ◌+◌, ◌<◌, ◌≤◌, ◌^◌, ◌∷◌, [], ℕ, List, Option, None, Some, OnOk, OnErr, IfOk, IfSome, vec_len, vec_capacity, length};
 ghost use Rattle.std.specs.Option.{option_map};
 ghost use Rattle.i9_model.specs.declared.layout.TheConstants.{MAX_LENGTH};
+ghost use Rattle.i9_model.specs.Image.{pairs_of};
 ghost use Rattle.i9_model.specs.Memory.{console_byte};
 ghost use Rattle.i9_model.specs.Step.{acted};
 ghost use Rattle.i9_model.specs.Run.{Finish, Record, Does, Ends, record_of, state_after, exit_in};
@@ -16,9 +17,11 @@ ghost use Rattle.i9_machine.specs.Memory.{HasRoom};
 use crate::effect::Effect;
 use crate::line::{End, Line, Point, Turn, put_line};
 use crate::processor::Processor;
+use i9_hex::Segments;
 use i9_isa::{Inst, NoMemory};
 use i9_model::View;
-use i9_model::layout::MAX_LENGTH;
+use i9_model::layout::{MAX_LENGTH, PRCB_POINTER};
+use std::alloc::Global;
 
 /// A machine that runs an image: what an instruction may read or change, the length of the run, the
 /// end that comes next whatever the length, and the end that was answered.
@@ -87,6 +90,33 @@ fn exit_in(e: &Effect) -> Option<End>
 impl Machine {
     ghost use Rattle.i9_machine.specs.StandsFor.{StandsFor, Advances, AnswersAgain, steps_left, LeavesFewer};
     ghost use Rattle.i9_machine.specs.Run.{Steps, next_for};
+
+    /// A machine before its first step: its run has the image's bytes and at most so many instructions.
+    /// The number of register sets is kept, and not used yet.
+    pub fn new(
+        alloc: Global,
+        image: &Segments,
+        sets: Option<u8>,
+        length: u64,
+    ) -> Result<Machine, NoMemory>
+        requires sets { IfSome sets (λ n. 0 < n × n < 16) }
+        requires length { length ≤ MAX_LENGTH }
+        ensures { IfOk result (λ m. StandsFor (pairs_of image.now) length [] None m) }
+    {
+        let processor = Processor::boot(alloc, image)?;
+        let due = if processor.memory.has_tables() {
+            Some(End::Unbuilt(PRCB_POINTER))
+        } else {
+            None
+        };
+        Ok(Machine {
+            processor,
+            sets,
+            length,
+            due,
+            ended: None,
+        })
+    }
 
     /// What a drained point shows: the state after the records so far.
     pub fn view(&self) -> View

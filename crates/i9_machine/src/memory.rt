@@ -1,10 +1,13 @@
 //! Bytes by address.
-ghost use Rattle.std.specs.Prelude.{◌≡◌, ℕ, ◌+◌, ◌^◌, ◌<◌, ◌∷◌, [], OnOk, OnErr, length};
+ghost use Rattle.std.specs.Prelude.{◌≡◌, ℕ, ◌+◌, ◌^◌, ◌<◌, ◌∷◌, [], OnOk, OnErr, length, map};
+ghost use Rattle.i9_hex.specs.Shown.{part_of};
+ghost use Rattle.i9_model.specs.Image.{pairs_of};
 ghost use Rattle.i9_model.specs.Writes.{put, upwards};
 ghost use Rattle.i9_model.specs.Memory.{in_port_page, stored, word_at};
 ghost use Rattle.std.specs.List.{list_any, range_with_len};
 ghost use Rattle.i9_model.specs.Unbuilt.{is_set, has_tables};
 
+use i9_hex::{Segment, Segments};
 use i9_isa::NoMemory;
 use i9_model::layout::{BOOT_BYTES, CONTROL_TABLE_SIZE, PORT_PAGE, PORT_PAGE_SIZE, PRCB_POINTER};
 use std::alloc::Global;
@@ -118,6 +121,38 @@ impl Memory {
             self.store_byte(at, *b);
             at = at.wrapping_add(1);
         }
+    }
+
+    /// Writes bytes from an address up, but for those in the port page.
+    #[tactic(auto, using(crate::proofs::Store::store_rules))]
+    fn load_segment(&mut self, a: u32, bytes: &[u8]) -> Result<(), NoMemory>
+        ensures { OnOk result (byte_of self.new ≡ stored (byte_of self.old) (upwards a bytes.now)) }
+    {
+        let mut at = a;
+        for b in bytes {
+            self.reserve_byte(at)?;
+            self.store_byte(at, *b);
+            at = at.wrapping_add(1);
+        }
+        Ok(())
+    }
+
+    /// Writes the bytes of an image, but for those in the port page.
+    pub(crate) fn load(&mut self, image: &Segments) -> Result<(), NoMemory>
+        ensures { OnOk result (byte_of self.new ≡ stored (byte_of self.old) (pairs_of image.now)) }
+    {
+        self.load_all(image.as_slice())
+    }
+
+    /// Writes the bytes of segments.
+    #[tactic(auto, using(crate::proofs::Load::load_rules))]
+    fn load_all(&mut self, segments: &[Segment]) -> Result<(), NoMemory>
+        ensures { OnOk result (byte_of self.new ≡ stored (byte_of self.old) (pairs_of (map part_of segments.now))) }
+    {
+        for segment in segments {
+            self.load_segment(segment.address, &segment.bytes)?;
+        }
+        Ok(())
     }
 
     /// Whether a byte is another one than 0.

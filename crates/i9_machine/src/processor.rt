@@ -1,6 +1,7 @@
 //! The registers, controls and memory of the machine.
-ghost use Rattle.std.specs.Prelude.{◌≡◌, ◌+◌, ◌^◌, ◌<◌, OnOk, OnErr, IfSome, length};
-ghost use Rattle.i9_model.specs.State.{State};
+ghost use Rattle.std.specs.Prelude.{◌≡◌, ◌∷◌, [], ◌+◌, ◌^◌, ◌<◌, OnOk, OnErr, IfOk, IfSome, length};
+ghost use Rattle.i9_model.specs.Image.{pairs_of};
+ghost use Rattle.i9_model.specs.State.{State, boot};
 ghost use Rattle.i9_model.specs.Writes.{put, written};
 ghost use Rattle.i9_model.specs.Operands.{value, number_of, address};
 ghost use Rattle.i9_model.specs.Step.{action_of, acted, sets_by, bytes_by, second_word};
@@ -17,8 +18,10 @@ use crate::effect::Effect;
 use crate::line::Issued;
 use crate::memory::Memory;
 use arrayvec::ArrayVec;
+use i9_hex::Segments;
 use i9_isa::{Ea, Inst, Mode, NoMemory, Op, Operand, word_count};
 use i9_model::View;
+use i9_model::layout::{BOOT_PC, FIRST_INSTRUCTION, FP, FRAME_SIZE, SP};
 use std::alloc::Global;
 
 /// All that an instruction may read or change.
@@ -94,8 +97,37 @@ fn set_all(regs: &mut [u32; 32], sets: &[(u8, u32)])
     }
 }
 
+/// The registers after boot, with the frame at 0.
+fn boot_registers() -> [u32; 32]
+    ensures { registers_of result ≡ written (λ _. 0) ((FP, 0) ∷ (SP, FRAME_SIZE) ∷ []) }
+{
+    let mut regs = [0; 32];
+    set_all(&mut regs, &[(FP, 0), (SP, FRAME_SIZE)]);
+    regs
+}
+
 impl Processor {
     ghost use Rattle.i9_machine.specs.Processor.{state_of};
+
+    /// The state after boot.
+    #[tactic(auto, unfolding(i9_model::specs::State::boot))]
+    pub(crate) fn boot(alloc: Global, image: &Segments) -> Result<Processor, NoMemory>
+        ensures state { IfOk result (λ p. state_of p ≡ boot (pairs_of image.now)) }
+        ensures count { IfOk result (λ p. p.count ≡ 0) }
+    {
+        let mut memory = Memory::new(alloc);
+        memory.load(image)?;
+        let first = memory.word(FIRST_INSTRUCTION);
+        Ok(Processor {
+            regs: boot_registers(),
+            ip: first - first % 4,
+            ac: 0,
+            pc: BOOT_PC,
+            tc: 0,
+            count: 0,
+            memory,
+        })
+    }
 
     /// The value of a source.
     fn value(&self, o: Operand) -> u32

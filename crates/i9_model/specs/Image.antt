@@ -1,5 +1,5 @@
 -- An image: a list of segments, and the pairs of address and byte that it says.
-use Rattle.std.specs.Prelude.{ℕ, ◌+◌, ◌%◌, ◌<◌, List, [], ◌∷◌}
+use Rattle.std.specs.Prelude.{ℕ, ◌<◌, List}
 use Rattle.std.specs.List.{flat_map, AllByRecursion}
 pub use Rattle.i9_model.specs.Writes.{address_count, wrapped, pairs_at, upwards}
 

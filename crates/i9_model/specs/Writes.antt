@@ -1,6 +1,6 @@
 -- Writes: places with their values laid over a function, where the last value of a place wins. They serve registers,
 -- bytes of memory and the loading of an image alike.
-use Rattle.std.specs.Prelude.{ℕ, ◌+◌, ◌%◌, ◌^◌, ◌==◌, if◌then◌else◌, List, [], ◌∷◌, Option, Some, None}
+use Rattle.std.specs.Prelude.{ℕ, ◌+◌, ◌%◌, ◌==◌, if◌then◌else◌, List, [], ◌∷◌, Option, Some, None}
 
 -- how many addresses there are, 2^32
 abbrev pub address_count : ℕ

@@ -1,4 +1,4 @@
-use Rattle.std.proofs.Common.{◌≡◌, ◌+◌, ◌-◌, ◌%◌, ◌^◌, ◌∙◌, sym, arith}
+use Rattle.std.proofs.Common.{◌+◌, ◌-◌, ◌%◌, ◌^◌, ◌∙◌, sym, arith}
 use Rattle.i9_model.proofs.Upwards.{last_put-from}
 use Rattle.i9_machine.proofs.Copies.{option_copied-get}
 use Rattle.i9_machine.proofs.effect.byte_of_run.Goals as goal

@@ -1,4 +1,4 @@
-use Rattle.std.proofs.Common.{◌≡◌, ℕ, ◌+◌, ◌<◌, drop, length, sym, ap, ◌∙◌, arith}
+use Rattle.std.proofs.Common.{ℕ, ◌+◌, ◌<◌, drop, length, sym, ap, ◌∙◌, arith}
 use Rattle.i9_model.specs.Writes.{written}
 use Rattle.i9_machine.specs.Processor.{registers_of}
 use Rattle.i9_machine.proofs.Registers.{written_more}
