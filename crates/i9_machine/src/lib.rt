@@ -11,3 +11,6 @@ mod processor;
 
 pub use line::{End, Issued, Line, Point, Turn};
 pub use machine::Machine;
+
+#[cfg(test)]
+mod tests;

@@ -1,0 +1,106 @@
+//! The machine at an image of five instructions, worked out by hand.
+use crate::{End, Line, Machine, Point, Turn};
+use i9_hex::Segments;
+use std::alloc::Global;
+use std::test::*;
+
+/// `lda 0x41, g4`, `lda 0xE0000000, g5`, `stob g4, (g5)`, `mov 7, g4` and `st g4, 4(g5)`.
+const PROGRAM: [u32; 6] = [
+    0x8CA0_0041,
+    0x8CA8_3000,
+    0xE000_0000,
+    0x82A5_6000,
+    0x5CA0_0E07,
+    0x92A5_6004,
+];
+
+/// The program at 1000, which the boot record names.
+fn image(alloc: Global) -> Result<Segments, Fail> {
+    let mut image = Segments::new(alloc);
+    put_word(&mut image, 0xFFFF_FF10, 0x1000)?;
+    let mut address = 0x1000u32;
+    for word in PROGRAM {
+        put_word(&mut image, address, word)?;
+        address = address.wrapping_add(4);
+    }
+    Ok(image)
+}
+
+fn put_word(image: &mut Segments, address: u32, word: u32) -> Result<(), Fail> {
+    let mut at = address;
+    for byte in word.to_le_bytes() {
+        image.put(at, byte)?;
+        at = at.wrapping_add(1);
+    }
+    Ok(())
+}
+
+#[test]
+fn steps_through_a_run(rt: HostRuntime) -> Result<(), Fail> {
+    let image = image(rt.alloc())?;
+    let mut machine = Machine::new(rt.alloc(), &image, None, 100)?;
+    let mut lines = Vec::new(rt.alloc());
+    let steps = [
+        (0x1000, 0x8CA0_0041, 0),
+        (0x1004, 0x8CA8_3000, 0xE000_0000),
+        (0x100C, 0x82A5_6000, 0),
+        (0x1010, 0x5CA0_0E07, 0),
+        (0x1014, 0x92A5_6004, 0),
+    ];
+    let mut count = 0u64;
+    for (address, first, second) in steps {
+        assert_eq!(rt; machine.view().count, count);
+        match machine.advance(&mut lines) {
+            Turn::Issued(t) => {
+                assert_eq!(rt; (t.count, t.address), (count, address));
+                assert_eq!(rt; (t.first, t.second), (first, second));
+            }
+            _ => assert!(rt; false, "no instruction at {address}"),
+        }
+        count = count.saturating_add(1);
+    }
+    assert_eq!(rt; machine.advance(&mut lines), Turn::End(End::Exit(7)));
+    assert_eq!(rt; machine.advance(&mut lines), Turn::End(End::Exit(7)));
+    let view = machine.view();
+    assert_eq!(rt; (view.count, view.ip), (5, 0x1018));
+    assert_eq!(rt; (view.ac, view.pc, view.tc), (0, 0x1F_2002, 0));
+    assert_eq!(rt;
+        (view.regs[20], view.regs[21], view.regs[1]),
+        (7, 0xE000_0000, 64)
+    );
+    let kind = Point::End;
+    assert_eq!(rt;
+        lines.as_slice(),
+        [
+            Line::Out(0x41),
+            Line::Point { kind, view },
+            Line::End(End::Exit(7))
+        ]
+        .as_slice()
+    );
+    Ok(())
+}
+
+#[test]
+fn ends_before_tables(rt: HostRuntime) -> Result<(), Fail> {
+    let places = [0xFFFF_FF00, 0xFFFF_FF0C, 0xFFFF_FF14, 0xFFFF_FF17, 0, 111];
+    for place in places {
+        let mut image = image(rt.alloc())?;
+        image.put(place, 1)?;
+        let mut machine = Machine::new(rt.alloc(), &image, None, 100)?;
+        let mut lines = Vec::new(rt.alloc());
+        assert_eq!(rt;
+            machine.advance(&mut lines),
+            Turn::End(End::Unbuilt(0xFFFF_FF14)),
+            "at {place}"
+        );
+    }
+    let mut image = image(rt.alloc())?;
+    for place in [0xFFFF_FF01, 0xFFFF_FF18, 112] {
+        image.put(place, 1)?;
+    }
+    let mut machine = Machine::new(rt.alloc(), &image, None, 0)?;
+    let mut lines = Vec::new(rt.alloc());
+    assert_eq!(rt; machine.advance(&mut lines), Turn::End(End::Limit));
+    Ok(())
+}
