@@ -9,3 +9,4 @@ pub mod Step
 pub mod Unbuilt
 pub mod Run
 pub mod PrintedText
+pub mod CommandLine

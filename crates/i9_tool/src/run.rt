@@ -1,0 +1,49 @@
+//! Running an image to its end, and printing its lines.
+ghost use Rattle.std.specs.Prelude.{◌≡◌, ◌≤◌};
+ghost use Rattle.i9_model.specs.declared.layout.TheConstants.{MAX_LENGTH};
+ghost use Rattle.i9_model.specs.Image.{pairs_of};
+ghost use Rattle.i9_tool.specs.Run.{Runs};
+
+use crate::outside::Sink;
+use crate::print::{Printed, print_lines};
+use i9_hex::Segments;
+use i9_machine::{End, Machine, Turn};
+use std::alloc::Global;
+
+/// How running went.
+#[derive(Clone, Copy, Debug, PartialEq, Eq)]
+pub(crate) enum Ran {
+    /// To this end, and all was printed.
+    Done(End),
+    /// A write failed.
+    Write,
+    /// Memory was refused.
+    Memory,
+}
+
+/// Runs an image for at most so many instructions, and prints the lines of the run as they come.
+pub(crate) fn run<K: Sink>(alloc: Global, image: &Segments, limit: u64, out: &mut K) -> Ran
+    requires { limit ≤ MAX_LENGTH }
+    ensures { Runs result (pairs_of image.now) limit K.told K.faults K.sure out.old out.new }
+{
+    let mut machine = match Machine::new(alloc, image, None, limit) {
+        Ok(machine) => machine,
+        Err(_) => return Ran::Memory,
+    };
+    let mut lines = Vec::new(alloc);
+    loop {
+        lines.clear();
+        let turn = machine.advance(&mut lines);
+        match print_lines(alloc, &lines, out) {
+            Printed::Done => {}
+            Printed::Write => return Ran::Write,
+            Printed::Memory => return Ran::Memory,
+        }
+        match turn {
+            Turn::On => {}
+            Turn::Issued(_) => {}
+            Turn::End(end) => return Ran::Done(end),
+            Turn::Memory => return Ran::Memory,
+        }
+    }
+}

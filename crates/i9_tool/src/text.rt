@@ -1,0 +1,148 @@
+//! The text of lines.
+ghost use Rattle.std.specs.Prelude.{◌≡◌, ◌++◌, ◌∷◌, [], ◌<◌, ◌^◌, IfOk, OnOk, codes, map};
+ghost use Rattle.std.specs.List.{flat_map};
+ghost use Rattle.i9_model.specs.CommandLine.{refused_line};
+ghost use Rattle.i9_model.specs.PrintedText.{word_text, byte_text, out_text, point_text, drained_text, words_text, spaced, finish_text, shown_text, line_feed};
+ghost use Rattle.i9_machine.specs.Line.{finish_of, drained_of, shown_of};
+ghost use Rattle.i9_hex.specs.Reading.{place_of};
+
+use i9_hex::HexFault;
+use i9_machine::{End, Line, Point};
+use i9_model::View;
+use std::alloc::{AllocError, Global};
+
+/// Appends a word in eight upper-case hexadecimal digits.
+#[tactic(auto, unfolding(i9_model::specs::PrintedText::word_text))]
+fn add_word(alloc: Global, text: &mut Vec<u8>, word: u32) -> Result<(), AllocError>
+    ensures { OnOk result (text.new.items ≡ text.old.items ++ word_text word) }
+{
+    let digits = hex::encode_upper(alloc, word.to_be_bytes())?;
+    text.extend_from_slice(digits.as_bytes())
+}
+
+/// Appends a count in decimal digits.
+fn add_count(alloc: Global, text: &mut Vec<u8>, count: u64) -> Result<(), AllocError>
+    ensures { OnOk result (text.new.items ≡ text.old.items ++ decimal count) }
+{
+    let digits = count.to_string(alloc)?;
+    text.extend_from_slice(digits.as_bytes())
+}
+
+/// The line of a byte of the console.
+#[tactic(auto, unfolding(i9_model::specs::PrintedText::out_text, i9_model::specs::PrintedText::byte_text))]
+fn out_line(alloc: Global, byte: u8) -> Result<Vec<u8>, AllocError>
+    ensures { IfOk result (λ t. t.items ≡ out_text byte) }
+{
+    let mut text = Vec::from_slice(alloc, b"#out ")?;
+    let digits = hex::encode_upper(alloc, [byte])?;
+    text.extend_from_slice(digits.as_bytes())?;
+    text.push(b'\n')?;
+    Ok(text)
+}
+
+/// The name of a kind of drained point.
+fn name_of(kind: Point) -> &'static [u8]
+    ensures { result.now ≡ drained_text (drained_of kind) }
+{
+    match kind {
+        Point::End => b"end",
+    }
+}
+
+/// The first line of a drained point.
+#[tactic(auto, unfolding(i9_model::specs::PrintedText::point_text))]
+fn point_line(alloc: Global, kind: Point, view: &View) -> Result<Vec<u8>, AllocError>
+    ensures { IfOk result (λ t. t.items ≡ point_text (drained_of kind) view.now) }
+{
+    let mut text = Vec::from_slice(alloc, b"#point ")?;
+    add_count(alloc, &mut text, view.count)?;
+    text.push(b' ')?;
+    text.extend_from_slice(name_of(kind))?;
+    for word in [view.ip, view.ac, view.pc] {
+        text.push(b' ')?;
+        add_word(alloc, &mut text, word)?;
+    }
+    text.push(b'\n')?;
+    Ok(text)
+}
+
+/// A label and words, each after a space.
+#[tactic(auto, unfolding(i9_model::specs::PrintedText::words_text))]
+fn words_line(alloc: Global, label: &[u8], words: &[u32]) -> Result<Vec<u8>, AllocError>
+    ensures { IfOk result (λ t. t.items ≡ words_text label.now words.now) }
+{
+    let mut text = Vec::from_slice(alloc, label)?;
+    for word in words {
+        text.push(b' ')?;
+        add_word(alloc, &mut text, *word)?;
+    }
+    text.push(b'\n')?;
+    Ok(text)
+}
+
+/// The line of the end of a run.
+#[tactic(auto, unfolding(i9_model::specs::PrintedText::finish_text))]
+fn end_line(alloc: Global, end: End) -> Result<Vec<u8>, AllocError>
+    ensures { IfOk result (λ t. t.items ≡ finish_text (finish_of end)) }
+{
+    match end {
+        End::Exit(word) => word_line(alloc, b"#end exit ", word),
+        End::Limit => Vec::from_slice(alloc, b"#end limit\n"),
+        End::Unbuilt(address) => word_line(alloc, b"#end unbuilt ", address),
+    }
+}
+
+/// A line of some bytes and a word.
+fn word_line(alloc: Global, front: &[u8], word: u32) -> Result<Vec<u8>, AllocError>
+    ensures { IfOk result (λ t. t.items ≡ front.now ++ word_text word ++ line_feed) }
+{
+    let mut text = Vec::from_slice(alloc, front)?;
+    add_word(alloc, &mut text, word)?;
+    text.push(b'\n')?;
+    Ok(text)
+}
+
+/// The three lines of a drained point.
+fn point_lines(alloc: Global, kind: Point, view: &View) -> Result<Vec<Vec<u8>>, AllocError>
+    ensures { IfOk result (λ ts. flat_map (λ t. t.items) ts.items ≡ shown_text (PointShown (drained_of kind) view.now)) }
+{
+    let (locals, globals) = view.regs.split_at(16);
+    let mut lines = Vec::new(alloc);
+    lines.push(point_line(alloc, kind, view)?)?;
+    lines.push(words_line(alloc, b"#g", globals)?)?;
+    lines.push(words_line(alloc, b"#l", locals)?)?;
+    Ok(lines)
+}
+
+/// What is printed of a line: one text for each call of the sink.
+pub(crate) fn lines_of(alloc: Global, line: &Line) -> Result<Vec<Vec<u8>>, AllocError>
+    ensures { IfOk result (λ ts. flat_map (λ t. t.items) ts.items ≡ shown_text (shown_of line.now)) }
+{
+    match line {
+        Line::Out(byte) => one(alloc, out_line(alloc, *byte)?),
+        Line::Point { kind, view } => point_lines(alloc, *kind, view),
+        Line::End(end) => one(alloc, end_line(alloc, *end)?),
+    }
+}
+
+/// One text alone.
+fn one(alloc: Global, text: Vec<u8>) -> Result<Vec<Vec<u8>>, AllocError>
+    ensures { IfOk result (λ ts. flat_map (λ t. t.items) ts.items ≡ text.items) }
+{
+    let mut lines = Vec::new(alloc);
+    lines.push(text)?;
+    Ok(lines)
+}
+
+/// The line of a refused image.
+#[tactic(auto, unfolding(i9_model::specs::CommandLine::refused_line))]
+pub(crate) fn refused_line(alloc: Global, fault: &HexFault) -> Result<Vec<u8>, AllocError>
+    ensures { IfOk result (λ t. t.items ≡ refused_line (place_of fault.now)) }
+{
+    let mut text = Vec::from_slice(alloc, b"#image line ")?;
+    add_count(alloc, &mut text, fault.line)?;
+    text.extend_from_slice(b" kind ")?;
+    add_count(alloc, &mut text, u64::from(fault.kind))?;
+    text.push(b'\n')?;
+    Ok(text)
+}
