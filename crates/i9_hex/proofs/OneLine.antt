@@ -6,7 +6,7 @@ use Rattle.hex.specs.Hex.{decode_of}
 use Rattle.hex.specs.declared.error.FromHexError.{FromHexError}
 use Rattle.hex.proofs.HexLemmas.{decode_of-ok}
 use Rattle.i9_model.specs.HexText.{colon, most_bytes, HexState, HexRecord, record_bytes, IsRecord, Says, says_nothing, says_bytes, says_end, says_base, says_start_segment, says_upper, says_start_address, first_fault, fits_type, fault_of_bytes, fault_of_more, fault_of_room, fault_of_digits, fault_of}
-use Rattle.i9_hex.specs.Lines.{short_at, with_pairs, with_record, with_digits, with_line}
+use Rattle.i9_hex.specs.Lines.{with_pairs, with_record, with_digits, with_line}
 
 -- ---- a line without fault says what it leads to
 
@@ -166,4 +166,3 @@ line_says s line t (says_base q x a high low going r) = line_fine q x (record { 
 line_says s line t (says_start_segment q x a c going four r) = line_fine q x (record { kind = 3; address = a; content = c }) _ going r (omega arith) (eq-eqb _ _ four) (λ check. (refl, refl))
 line_says s line t (says_upper q x a high low going r) = line_fine q x (record { kind = 4; address = a; content = high ∷ low ∷ [] }) _ going r (omega arith) refl (λ check. (refl, refl))
 line_says s line t (says_start_address q x a c going four r) = line_fine q x (record { kind = 5; address = a; content = c }) _ going r (omega arith) (eq-eqb _ _ four) (λ check. (refl, refl))
-

@@ -1,5 +1,5 @@
 -- What the reader of a text answers: the image that the lines say, or the first fault.
-use Rattle.std.proofs.Common.{◌≡◌, ℕ, List, Option, Some, None, Result, Ok, Err, refl, ap, subst, IfOk, IfErr}
+use Rattle.std.proofs.Common.{◌≡◌, ℕ, Bool, true, false, List, Option, Some, None, Result, Ok, Err, refl, ap, subst, IfOk, IfErr}
 use Rattle.i9_text.specs.Text.{lines_of}
 use Rattle.i9_text.specs.FirstFault.{or_fault}
 use Rattle.i9_text.proofs.FirstFault.{read_from, SaysAll-read, read_from-says, read_from-refused, refused-read}
@@ -34,18 +34,25 @@ pairs_err : (r : Result HexState (ℕ × ℕ)) (f : ℕ × ℕ) → pairs_or_fau
 pairs_err (Ok t) f e = absurd cc
 pairs_err (Err g) f e = let same : g ≡ f = cc in ap Err same
 
+is_ended : (s : HexState) (b : Bool) → s.ended ≡ b → missing_end s ≡ None → s.ended ≡ true
+is_ended s true is fine = is
+is_ended s false is fine = absurd (cc (rw is at fine))
+
+has_end : (s : HexState) → s.ended ≡ true → missing_end s ≡ None
+has_end s ended = rw ended refl
+
 -- ---- the clauses of the reader
 
 pub found : {X : Type 0} (view : X → List (ℕ × ℕ)) (text : List ℕ) (r : Result X HexError) → Reads view r (answer_of text) → IfOk r (λ image. IsImage (lines_of text) (view image))
 found view text (Ok x) h =
     let a = pairs_ok (state_or_fault text) (view x) h in
     let b = SaysAll-read Says fault_of with_line missing_end start says_line line_says 0 start a.0 (lines_of text) a.1 in
-    record { last = a.0; says = b.0; ended = b.1; same = a.2 }
+    record { last = a.0; says = b.0; ended = is_ended a.0 a.0.ended refl b.1; same = a.2 }
 found view text (Err e) h = tt
 
 pub only : {X : Type 0} (view : X → List (ℕ × ℕ)) (text : List ℕ) (r : Result X HexError) → Reads view r (answer_of text) → (pairs : List (ℕ × ℕ)) → IsImage (lines_of text) pairs → Reads view r (Ok pairs)
 only view text r h pairs image =
-    let e = read_from-says Says fault_of with_line missing_end start says_line line_says 0 start image.last (lines_of text) image.says image.ended in
+    let e = read_from-says Says fault_of with_line missing_end start says_line line_says 0 start image.last (lines_of text) image.says (has_end image.last image.ended) in
     let answer : answer_of text ≡ Ok pairs = rw e (ap Ok image.same) in
     subst (λ (a : Result (List (ℕ × ℕ)) (ℕ × ℕ)). Reads view r a) answer h
 

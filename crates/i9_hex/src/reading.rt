@@ -57,8 +57,8 @@ fn with_bytes(reader: Reader, address: u16, bytes: &[u8]) -> Result<Reader, Line
         ended,
         count,
     } = reader;
-    let added = bytes.len() as u32;
-    if count > MOST_BYTES || added > MOST_BYTES - count {
+    let count = count + bytes.len() as u32;
+    if count > MOST_BYTES {
         return Err(LineError::Bad(TOO_MANY_BYTES));
     }
     match put_all(&mut segments, place, address, bytes) {
@@ -66,7 +66,7 @@ fn with_bytes(reader: Reader, address: u16, bytes: &[u8]) -> Result<Reader, Line
             segments,
             place,
             ended,
-            count: count + added,
+            count,
         }),
         Err(NoMemory) => Err(LineError::Memory),
     }
@@ -153,10 +153,10 @@ impl LineError {
 
 /// Reads the image of an Intel HEX text.
 ///
-/// The text has lines that end with a line feed, which the last one may lack; a carriage return
-/// before it is dropped and an empty line skipped. Every other line is a record of the Intel HEX
-/// object format, of type 00 to 05, in digits of either case. The start addresses of types 03 and
-/// 05 are not kept. An image has at most 4,194,304 data bytes, which is this project's own limit.
+/// Lines end with a line feed, which the last one may lack; one carriage return at a line's end is
+/// dropped, and empty lines are skipped. Every other line is a record of the Intel HEX object
+/// format, of type 00 to 05, in digits of either case. The start addresses of types 03 and 05 are
+/// not kept. An image has at most 4,194,304 data bytes, which is this project's own limit.
 ///
 /// A text that is no image is refused with its first fault; see `HexFault`.
 pub fn read(alloc: Global, text: &[u8]) -> Result<Segments, HexError>

@@ -6,9 +6,13 @@ ghost use Rattle.i9_hex.specs.Lines.{short_at, IsSized};
 use crate::error::{BAD_CHECK, BAD_COUNT, BAD_TYPE};
 
 pub(crate) const DATA: u8 = 0;
+
 pub(crate) const END: u8 = 1;
+
 pub(crate) const BASE: u8 = 2;
+
 pub(crate) const UPPER: u8 = 4;
+
 pub(crate) const START_ADDRESS: u8 = 5;
 
 /// The sum modulo 256.

@@ -89,8 +89,9 @@ impl Segments {
 
     /// The segments one by one.
     pub fn as_slice(&self) -> &[Segment]
-        ensures parts { map part_of result.now ≡ self.now }
-        ensures sized { AreParts self.now }
+        ensures segments { map part_of result.now ≡ self.now }
+        // Addresses are below 2^32 and bytes below 256.
+        ensures parts { AreParts self.now }
     {
         &self.items
     }

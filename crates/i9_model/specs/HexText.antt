@@ -169,7 +169,7 @@ missing_end s = if s.ended then None else Some no_end
 pub record IsImage (lines : List (List ℕ)) (pairs : List (ℕ × ℕ)) : Type 0 where
   pub last : HexState
   pub says : texts.SaysAll Says start lines last
-  pub ended : missing_end last ≡ None
+  pub ended : last.ended ≡ true
   pub same : last.pairs ≡ pairs
 
 -- the first line at fault, counted from 1, with its kind

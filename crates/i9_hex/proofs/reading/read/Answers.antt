@@ -1,5 +1,4 @@
-use Rattle.std.proofs.Common.{◌≡◌, ℕ, ◌+◌, List, Option, Some, None, Result, Ok, Err, sym, ap, subst, ◌∙◌, arith}
-use Rattle.i9_text.specs.Text.{lines_of, lines_left}
+use Rattle.std.proofs.Common.{◌≡◌, ℕ, ◌+◌, List, Option, Some, Result, Ok, Err, sym, ap, subst, ◌∙◌, arith}
 use Rattle.i9_text.specs.FirstFault.{or_fault}
 use Rattle.i9_text.proofs.Loop.{left_len-split, turn-fine, turn-fault, turn-end}
 use Rattle.i9_model.specs.Image.{Part, pairs_of}
