@@ -19,7 +19,7 @@ use std::alloc::Global;
 /// How many data bytes an image has at most.
 const MOST_BYTES: u32 = 4_194_304;
 
-/// The address of a number of a record.
+/// The address of a data byte, by the sum of its record's address field and its index.
 fn address_at(place: Place, number: u32) -> u32
     requires { number < 131072 }
     ensures { result ≡ address_in (origin_of place) number }
@@ -30,7 +30,7 @@ fn address_at(place: Place, number: u32) -> u32
     }
 }
 
-/// Puts the data of a record.
+/// Puts the bytes of a data record, whose address field this is.
 fn put_all(
     segments: &mut Segments,
     place: Place,
@@ -46,7 +46,7 @@ fn put_all(
     Ok(())
 }
 
-/// Takes the data of a record.
+/// Takes the bytes of a data record, whose address field this is.
 fn with_bytes(reader: Reader, address: u16, bytes: &[u8]) -> Result<Reader, LineError>
     requires { length bytes.now < 256 }
     ensures { Takes result (fault_of_more (state_of reader) (length bytes.now)) (with_pairs (state_of reader) address bytes.now) }
@@ -86,6 +86,7 @@ fn with_record(mut reader: Reader, bytes: &[u8]) -> Result<Reader, LineError>
         END => reader.ended = true,
         BASE => reader.place = Place::Base(short_at(bytes, 4)),
         UPPER => reader.place = Place::Upper(short_at(bytes, 4)),
+        // Start addresses are not kept.
         _ => {}
     }
     Ok(reader)
