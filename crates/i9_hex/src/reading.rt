@@ -129,7 +129,7 @@ fn new_reader(alloc: Global) -> Reader
 
 /// The image, at the end of a text of so many lines.
 fn finish(reader: Reader, lines: u64) -> Result<Segments, HexError>
-    ensures { Reads (λ image. pairs_of image) result (or_fault (missing_end (state_of reader)) lines (Ok (pairs_of reader.segments))) }
+    ensures { Reads result (or_fault (missing_end (state_of reader)) lines (Ok (pairs_of reader.segments))) }
 {
     if !reader.ended {
         return Err(HexError::Bad(HexFault {
@@ -164,13 +164,11 @@ pub fn read(alloc: Global, text: &[u8]) -> Result<Segments, HexError>
     // What is read is what the lines say.
     ensures found { IfOk result (λ image. IsImage (lines_of text.now) (pairs_of image)) }
     // What the lines say is read, unless memory runs out.
-    ensures only { (pairs : List (ℕ × ℕ)) → IsImage (lines_of text.now) pairs →
-        Reads (λ image. pairs_of image) result (Ok pairs) }
+    ensures only { (pairs : List (ℕ × ℕ)) → IsImage (lines_of text.now) pairs → Reads result (Ok pairs) }
     // What is refused has this first fault.
     ensures refused { IfErr result (λ e. IfBad e (λ f. IsRefused (lines_of text.now) (place_of f))) }
     // A text with a first fault is refused for it, unless memory runs out.
-    ensures first { (fault : ℕ × ℕ) → IsRefused (lines_of text.now) fault →
-        Reads {Y = List (ℕ × ℕ)} (λ image. pairs_of image) result (Err fault) }
+    ensures first { (fault : ℕ × ℕ) → IsRefused (lines_of text.now) fault → Reads result (Err fault) }
 {
     let mut reader = new_reader(alloc);
     let mut number = 0u64;

@@ -82,34 +82,33 @@ start = record { pairs = []; origin = Upper 0; ended = false }
 
 -- ---- what a line says
 
--- a record: its type, its address field and its data
-pub record HexRecord : Type 0 where
-  pub record_type : ℕ
-  pub address : ℕ
-  pub content : List ℕ
+-- the bytes of a record: count, address field with the high byte first, type, data and check byte
+abbrev pub record_bytes : ℕ → ℕ → List ℕ → ℕ → List ℕ
+record_bytes record_type address content check = length content ∷ address / 256 ∷ address % 256 ∷ record_type ∷ content ++ check ∷ []
 
--- the bytes of a record: count, address with the high byte first, type, data and check byte
-abbrev pub record_bytes : HexRecord → ℕ → List ℕ
-record_bytes r check = length r.content ∷ r.address / 256 ∷ r.address % 256 ∷ r.record_type ∷ r.content ++ check ∷ []
-
--- the line is this record: a colon and two digits for each byte; with the check byte the bytes sum to 0 modulo 256
-pub record IsRecord (line : List ℕ) (r : HexRecord) : Type 0 where
+-- the line is a record: a colon, and two digits for each of its bytes, which with the check byte sum to 0 modulo 256
+pub record IsRecord (line : List ℕ) (record_type address : ℕ) (content : List ℕ) : Type 0 where
   pub digits : List ℕ
   pub check : ℕ
   pub text : line ≡ colon ∷ digits
-  pub bytes : decode_of digits ≡ Ok (record_bytes r check)
-  pub whole : sum (record_bytes r check) % 256 ≡ 0
+  pub bytes : decode_of digits ≡ Ok (record_bytes record_type address content check)
+  pub whole : sum (record_bytes record_type address content check) % 256 ≡ 0
 
 -- what a line without fault says: nothing where it is empty, else one case for each type of record
 pub data Says : HexState → List ℕ → HexState → Type 0 where
   says_nothing : (s : HexState) → Says s [] s
-  says_bytes : (s : HexState) (line : List ℕ) (a : ℕ) (bs : List ℕ) → s.ended ≡ false → IsRecord line (record { record_type = data_type; address = a; content = bs }) → length s.pairs + length bs ≤ most_bytes
+  says_bytes : (s : HexState) (line : List ℕ) (a : ℕ) (bs : List ℕ) → s.ended ≡ false → IsRecord line data_type a bs → length s.pairs + length bs ≤ most_bytes
       → Says s line (record s { pairs = s.pairs ++ pairs_at (address_in s.origin) a bs })
-  says_end : (s : HexState) (line : List ℕ) (a : ℕ) → s.ended ≡ false → IsRecord line (record { record_type = end_type; address = a; content = [] }) → Says s line (record s { ended = true })
-  says_base : (s : HexState) (line : List ℕ) (a high low : ℕ) → s.ended ≡ false → IsRecord line (record { record_type = base_type; address = a; content = high ∷ low ∷ [] }) → Says s line (record s { origin = Base (high * 256 + low) })
-  says_start_segment : (s : HexState) (line : List ℕ) (a : ℕ) (c : List ℕ) → s.ended ≡ false → length c ≡ 4 → IsRecord line (record { record_type = start_segment_type; address = a; content = c }) → Says s line s
-  says_upper : (s : HexState) (line : List ℕ) (a high low : ℕ) → s.ended ≡ false → IsRecord line (record { record_type = upper_type; address = a; content = high ∷ low ∷ [] }) → Says s line (record s { origin = Upper (high * 256 + low) })
-  says_start_address : (s : HexState) (line : List ℕ) (a : ℕ) (c : List ℕ) → s.ended ≡ false → length c ≡ 4 → IsRecord line (record { record_type = start_address_type; address = a; content = c }) → Says s line s
+  says_end : (s : HexState) (line : List ℕ) (a : ℕ) → s.ended ≡ false → IsRecord line end_type a []
+      → Says s line (record s { ended = true })
+  says_base : (s : HexState) (line : List ℕ) (a high low : ℕ) → s.ended ≡ false → IsRecord line base_type a (high ∷ low ∷ [])
+      → Says s line (record s { origin = Base (high * 256 + low) })
+  says_start_segment : (s : HexState) (line : List ℕ) (a : ℕ) (c : List ℕ) → s.ended ≡ false → length c ≡ 4 → IsRecord line start_segment_type a c
+      → Says s line s
+  says_upper : (s : HexState) (line : List ℕ) (a high low : ℕ) → s.ended ≡ false → IsRecord line upper_type a (high ∷ low ∷ [])
+      → Says s line (record s { origin = Upper (high * 256 + low) })
+  says_start_address : (s : HexState) (line : List ℕ) (a : ℕ) (c : List ℕ) → s.ended ≡ false → length c ≡ 4 → IsRecord line start_address_type a c
+      → Says s line s
 
 -- ---- which fault a line has
 
