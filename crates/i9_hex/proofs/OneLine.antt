@@ -5,10 +5,10 @@ use Rattle.std.proofs.lemmas.List.{take_more, take_all, take_at, length-take-le}
 use Rattle.hex.specs.Hex.{decode_of}
 use Rattle.hex.specs.declared.error.FromHexError.{FromHexError}
 use Rattle.hex.proofs.HexLemmas.{decode_of-ok}
-use Rattle.i9_model.specs.HexText.{colon, most_bytes, HexState, HexRecord, record_bytes, IsRecord, Says, says_nothing, says_bytes, says_end, says_base, says_start_segment, says_upper, says_start_address, first_fault, fits_type, fault_of_bytes, fault_of_more, fault_of_room, fault_of_digits, fault_of}
-use Rattle.i9_hex.specs.Lines.{short_at, with_pairs, with_record, with_digits, with_line}
+use Rattle.i9_model.specs.HexText.{colon, most_bytes, data_type, end_type, base_type, start_segment_type, upper_type, start_address_type, HexState, record_bytes, IsRecord, Says, says_nothing, says_bytes, says_end, says_base, says_start_segment, says_upper, says_start_address, first_fault, fits_type, fault_of_bytes, fault_of_more, fault_of_room, fault_of_digits, fault_of}
+use Rattle.i9_hex.specs.Lines.{with_pairs, with_record, with_digits, with_line}
 
--- ---- a line without fault says what it leads to
+-- ---- where there is no fault
 
 -- the last of n + 1 bytes stands behind the first n
 split-last : (n : ℕ) (rest : List ℕ) → length rest ≡ n + 1 → rest ≡ take n rest ++ get_or rest n 0 ∷ []
@@ -16,34 +16,38 @@ split-last n rest len = sym (take_all (n + 1) rest (omega arith)) ∙ take_more 
 
 -- bytes of the right number are a record
 is_record : (digits : List ℕ) (n h l k : ℕ) (rest : List ℕ) → decode_of digits ≡ Ok (n ∷ h ∷ l ∷ k ∷ rest) → l < 256 → length rest ≡ n + 1 → sum (n ∷ h ∷ l ∷ k ∷ rest) % 256 ≡ 0
-    → IsRecord (colon ∷ digits) (record { kind = k; address = h * 256 + l; content = take n rest })
+    → IsRecord (colon ∷ digits) k (h * 256 + l) (take n rest)
 is_record digits n h l k rest decoded small len whole =
     let e-n : length (take n rest) ≡ n = length-take-le n rest (omega arith) in
     let e-h : (h * 256 + l) / 256 ≡ h = omega arith in
     let e-l : (h * 256 + l) % 256 ≡ l = omega arith in
-    let same : record_bytes (record { kind = k; address = h * 256 + l; content = take n rest }) (get_or rest n 0) ≡ n ∷ h ∷ l ∷ k ∷ rest =
+    let same : record_bytes k (h * 256 + l) (take n rest) (get_or rest n 0) ≡ n ∷ h ∷ l ∷ k ∷ rest =
     rw (e-n, e-h, e-l) (ap (λ (xs : List ℕ). n ∷ h ∷ l ∷ k ∷ xs) (sym (split-last n rest len))) in
     record { digits = digits; check = get_or rest n 0; text = refl; bytes = decoded ∙ ap Ok (sym same); whole = rw same whole }
 
-with_content : (line : List ℕ) (k a : ℕ) (c d : List ℕ) → c ≡ d → IsRecord line (record { kind = k; address = a; content = c }) → IsRecord line (record { kind = k; address = a; content = d })
-with_content line k a c d e r = subst (λ (x : List ℕ). IsRecord line (record { kind = k; address = a; content = x })) e r
+-- a record in other words for its data
+with_content : (line : List ℕ) (k a : ℕ) (c d : List ℕ) → c ≡ d → IsRecord line k a c → IsRecord line k a d
+with_content line k a c d e r = subst (λ (x : List ℕ). IsRecord line k a x) e r
 
+-- where too many data bytes are no fault
 room : (s : HexState) (n : ℕ) → fault_of_more s n ≡ None → length s.pairs + n ≤ most_bytes
 room s n e = elim (cases_Bool (ltb most_bytes (length s.pairs + n))) [
   | inl over ↦ absurd (cc (rw over at e))
   | inr fits ↦ ltb-false _ _ fits
 ]
 
+-- the two bytes before the check byte
 first_two : (rest : List ℕ) → length rest ≡ 3 → take 2 rest ≡ get_or rest 0 0 ∷ get_or rest 1 0 ∷ []
 first_two [] len = absurd (omega arith)
 first_two (a ∷ []) len = absurd (omega arith)
 first_two (a ∷ b ∷ rest) len = refl
 
 -- a record of two bytes
-two_bytes : (line : List ℕ) (k a n : ℕ) (rest : List ℕ) → length rest ≡ n + 1 → n ≡ 2 → IsRecord line (record { kind = k; address = a; content = take n rest }) → IsRecord line (record { kind = k; address = a; content = get_or rest 0 0 ∷ get_or rest 1 0 ∷ [] })
+two_bytes : (line : List ℕ) (k a n : ℕ) (rest : List ℕ) → length rest ≡ n + 1 → n ≡ 2 → IsRecord line k a (take n rest) → IsRecord line k a (get_or rest 0 0 ∷ get_or rest 1 0 ∷ [])
 two_bytes line k a n rest len two r = with_content line k a (take n rest) _ (rw two (first_two rest (omega arith))) r
 
-says_record : (s : HexState) (line : List ℕ) (n h l k : ℕ) (rest : List ℕ) → s.ended ≡ false → IsRecord line (record { kind = k; address = h * 256 + l; content = take n rest }) → length rest ≡ n + 1
+-- a record without fault, by its type
+says_record : (s : HexState) (line : List ℕ) (n h l k : ℕ) (rest : List ℕ) → s.ended ≡ false → IsRecord line k (h * 256 + l) (take n rest) → length rest ≡ n + 1
     → k ≤ 5 → fits_type k n ≡ true → fault_of_room s (n ∷ h ∷ l ∷ k ∷ rest) ≡ None → Says s line (with_record s (n ∷ h ∷ l ∷ k ∷ rest))
 unfolding with_record
 says_record s line n h l zero rest going r len known fits fine =
@@ -70,6 +74,7 @@ record FineBytes (xs : List ℕ) : Type 0 where
   pub known : get_or xs 3 0 ≤ 5
   pub fits : fits_type (get_or xs 3 0) (get_or xs 0 0) ≡ true
 
+-- where a test gives no fault, and none comes later
 if_none : (b : Bool) (k : ℕ) (o : Option ℕ) → cond b (Some k) o ≡ None → (b ≡ false) × (o ≡ None)
 if_none true k o e = absurd cc
 if_none false k o e = (refl, e)
@@ -82,6 +87,7 @@ not_false : (b : Bool) → not b ≡ false → b ≡ true
 not_false true e = refl
 not_false false e = absurd cc
 
+-- bytes without fault passed the tests
 fine_bytes : (xs : List ℕ) → fault_of_bytes xs ≡ None → FineBytes xs
 unfolding fault_of_bytes
 fine_bytes xs h =
@@ -102,6 +108,13 @@ first_none : (a b : Option ℕ) → first_fault a b ≡ None → (a ≡ None) ×
 first_none None b h = (refl, h)
 first_none (Some k) b h = absurd cc
 
+-- fewer than five bytes are at fault
+too_short : (s : HexState) (bytes : List ℕ) → length bytes < 5 → fault_of_digits s (Ok bytes) ≡ None → ⊥
+too_short s bytes short fine =
+    let b = fine_bytes bytes (first_none (fault_of_bytes bytes) (fault_of_room s bytes) fine).0 in
+    absurd (omega (arith, b.long))
+
+-- bytes without fault say what they lead to
 says-decoded : (s : HexState) (digits : List ℕ) (r : Result (List ℕ) FromHexError) → decode_of digits ≡ r → s.ended ≡ false → fault_of_digits s r ≡ None → Says s (colon ∷ digits) (with_digits s r)
 says-decoded s digits (Err e) decoded going fine = absurd cc
 says-decoded s digits (Ok (n ∷ h ∷ l ∷ k ∷ rest)) decoded going fine =
@@ -110,60 +123,63 @@ says-decoded s digits (Ok (n ∷ h ∷ l ∷ k ∷ rest)) decoded going fine =
     let small = (decode_of-ok digits (n ∷ h ∷ l ∷ k ∷ rest) decoded).3 2 in
     let len : length rest ≡ n + 1 = omega (arith, b.size) in
     says_record s (colon ∷ digits) n h l k rest going (is_record digits n h l k rest decoded small len b.whole) len b.known b.fits parts.1
-says-decoded s digits (Ok []) decoded going fine = absurd (omega (arith, (fine_bytes [] (first_none (fault_of_bytes []) (fault_of_room s []) fine).0).long))
-says-decoded s digits (Ok (n ∷ [])) decoded going fine = absurd (omega (arith, (fine_bytes (n ∷ []) (first_none (fault_of_bytes (n ∷ [])) (fault_of_room s (n ∷ [])) fine).0).long))
-says-decoded s digits (Ok (n ∷ h ∷ [])) decoded going fine = absurd (omega (arith, (fine_bytes (n ∷ h ∷ []) (first_none (fault_of_bytes (n ∷ h ∷ [])) (fault_of_room s (n ∷ h ∷ [])) fine).0).long))
-says-decoded s digits (Ok (n ∷ h ∷ l ∷ [])) decoded going fine = absurd (omega (arith, (fine_bytes (n ∷ h ∷ l ∷ []) (first_none (fault_of_bytes (n ∷ h ∷ l ∷ [])) (fault_of_room s (n ∷ h ∷ l ∷ [])) fine).0).long))
+says-decoded s digits (Ok []) decoded going fine = absurd (too_short s [] (omega arith) fine)
+says-decoded s digits (Ok (n ∷ [])) decoded going fine = absurd (too_short s (n ∷ []) (omega arith) fine)
+says-decoded s digits (Ok (n ∷ h ∷ [])) decoded going fine = absurd (too_short s (n ∷ h ∷ []) (omega arith) fine)
+says-decoded s digits (Ok (n ∷ h ∷ l ∷ [])) decoded going fine = absurd (too_short s (n ∷ h ∷ l ∷ []) (omega arith) fine)
 
--- a line without fault says what reading it gives
+-- a line without fault says what it leads to
 pub says_line : (s : HexState) (line : List ℕ) → fault_of s line ≡ None → Says s line (with_line s line)
 unfolding fault_of
 says_line s [] fine = says_nothing s
 says_line s (c ∷ digits) fine =
     let a = if_none s.ended 7 _ fine in
     let b = if_none (not (eqb c colon)) 1 _ a.1 in
-    let colon : c ≡ colon = eqb-true _ _ (not_false _ b.0) in
-    subst (λ (x : ℕ). Says s (x ∷ digits) (with_digits s (decode_of digits))) (sym colon) (says-decoded s digits (decode_of digits) refl a.0 b.1)
+    let is_colon : c ≡ colon = eqb-true _ _ (not_false _ b.0) in
+    subst (λ (x : ℕ). Says s (x ∷ digits) (with_digits s (decode_of digits))) (sym is_colon) (says-decoded s digits (decode_of digits) refl a.0 b.1)
 
--- ---- what a line says has no fault
+-- ---- where a line says something
 
-bytes_fine : (f : HexRecord) (check : ℕ) → sum (record_bytes f check) % 256 ≡ 0 → f.kind ≤ 5 → fits_type f.kind (length f.content) ≡ true → fault_of_bytes (record_bytes f check) ≡ None
+-- the bytes of a record that its type allows have no fault
+bytes_fine : (t a check : ℕ) (content : List ℕ) → sum (record_bytes t a content check) % 256 ≡ 0 → t ≤ start_address_type → fits_type t (length content) ≡ true → fault_of_bytes (record_bytes t a content check) ≡ None
 unfolding fault_of_bytes
-bytes_fine f check whole known fits =
-    let len : length (record_bytes f check) ≡ length f.content + 5 = omega (arith, length-append f.content (check ∷ [])) in
-    let t1 : ltb (length (record_bytes f check)) 5 ≡ false = le-ltb _ _ (omega (arith, len)) in
-    let t2 : eqb (length (record_bytes f check)) (length f.content + 5) ≡ true = eq-eqb _ _ len in
-    let t3 : eqb (sum (record_bytes f check) % 256) 0 ≡ true = eq-eqb _ _ whole in
-    let t4 : ltb 5 f.kind ≡ false = le-ltb _ _ known in
-    rw (t1, t2, t3, t4, fits) refl
+bytes_fine t a check content whole known fits =
+    let len : length (record_bytes t a content check) ≡ length content + 5 = omega (arith, length-append content (check ∷ [])) in
+    let long : ltb (length (record_bytes t a content check)) 5 ≡ false = le-ltb _ _ (omega (arith, len)) in
+    let counted : eqb (length (record_bytes t a content check)) (length content + 5) ≡ true = eq-eqb _ _ len in
+    let checked : eqb (sum (record_bytes t a content check) % 256) 0 ≡ true = eq-eqb _ _ whole in
+    let typed : ltb start_address_type t ≡ false = le-ltb _ _ known in
+    rw (long, counted, checked, typed, fits) refl
 
-line_fine : (s : HexState) (line : List ℕ) (f : HexRecord) (t : HexState) → s.ended ≡ false → IsRecord line f → f.kind ≤ 5 → fits_type f.kind (length f.content) ≡ true
-    → ((check : ℕ) → (fault_of_room s (record_bytes f check) ≡ None) × (with_record s (record_bytes f check) ≡ t)) → (fault_of s line ≡ None) × (with_line s line ≡ t)
+-- nor has its line, which leads to what the bytes lead to
+line_fine : (s after : HexState) (line : List ℕ) (t a : ℕ) (content : List ℕ) → s.ended ≡ false → IsRecord line t a content → t ≤ start_address_type → fits_type t (length content) ≡ true
+    → ((check : ℕ) → (fault_of_room s (record_bytes t a content check) ≡ None) × (with_record s (record_bytes t a content check) ≡ after)) → (fault_of s line ≡ None) × (with_line s line ≡ after)
 unfolding fault_of
-line_fine s line f t going r known fits effect =
-    let fine = bytes_fine f r.check r.whole known fits in
+line_fine s after line t a content going r known fits effect =
+    let fine = bytes_fine t a r.check content r.whole known fits in
     let e = effect r.check in
-    let read : fault_of_digits s (decode_of r.digits) ≡ None = rw (r.bytes, fine) e.0 in
-    let fault : fault_of s (colon ∷ r.digits) ≡ None = rw going read in
-    let after : with_line s (colon ∷ r.digits) ≡ t = rw r.bytes e.1 in
-    subst (λ (x : List ℕ). (fault_of s x ≡ None) × (with_line s x ≡ t)) (sym r.text) (fault, after)
+    let digits : fault_of_digits s (decode_of r.digits) ≡ None = rw (r.bytes, fine) e.0 in
+    let fault : fault_of s (colon ∷ r.digits) ≡ None = rw going digits in
+    let state : with_line s (colon ∷ r.digits) ≡ after = rw r.bytes e.1 in
+    subst (λ (x : List ℕ). (fault_of s x ≡ None) × (with_line s x ≡ after)) (sym r.text) (fault, state)
 
 more_fine : (s : HexState) (n : ℕ) → length s.pairs + n ≤ most_bytes → fault_of_more s n ≡ None
 more_fine s n few = let t : ltb most_bytes (length s.pairs + n) ≡ false = le-ltb _ _ few in rw t refl
 
-bytes_effect : (s : HexState) (a check : ℕ) (bs : List ℕ) → with_record s (record_bytes (record { kind = 0; address = a; content = bs }) check) ≡ with_pairs s a bs
+-- the bytes of a data record add its data
+bytes_effect : (s : HexState) (a check : ℕ) (bs : List ℕ) → with_record s (record_bytes data_type a bs check) ≡ with_pairs s a bs
 unfolding with_record
 bytes_effect s a check bs =
     let e : a / 256 * 256 + a % 256 ≡ a = omega arith in
     rw (e, take_at bs (check ∷ []) (length bs) refl) refl
 
-pub line_says : (s : HexState) (line : List ℕ) (t : HexState) → Says s line t → (fault_of s line ≡ None) × (with_line s line ≡ t)
+-- what a line says is what it leads to, without fault
+pub line_says : (s : HexState) (line : List ℕ) (after : HexState) → Says s line after → (fault_of s line ≡ None) × (with_line s line ≡ after)
 unfolding fault_of with_record
-line_says s line t (says_nothing q) = (refl, refl)
-line_says s line t (says_bytes q x a bs going r few) = line_fine q x (record { kind = 0; address = a; content = bs }) _ going r (omega arith) refl (λ check. (more_fine q (length bs) few, bytes_effect q a check bs))
-line_says s line t (says_end q x a going r) = line_fine q x (record { kind = 1; address = a; content = [] }) _ going r (omega arith) refl (λ check. (refl, refl))
-line_says s line t (says_base q x a high low going r) = line_fine q x (record { kind = 2; address = a; content = high ∷ low ∷ [] }) _ going r (omega arith) refl (λ check. (refl, refl))
-line_says s line t (says_start_segment q x a c going four r) = line_fine q x (record { kind = 3; address = a; content = c }) _ going r (omega arith) (eq-eqb _ _ four) (λ check. (refl, refl))
-line_says s line t (says_upper q x a high low going r) = line_fine q x (record { kind = 4; address = a; content = high ∷ low ∷ [] }) _ going r (omega arith) refl (λ check. (refl, refl))
-line_says s line t (says_start_address q x a c going four r) = line_fine q x (record { kind = 5; address = a; content = c }) _ going r (omega arith) (eq-eqb _ _ four) (λ check. (refl, refl))
-
+line_says s line after (says_nothing q) = (refl, refl)
+line_says s line after (says_bytes q x a bs going r few) = line_fine q _ x data_type a bs going r (omega arith) refl (λ check. (more_fine q (length bs) few, bytes_effect q a check bs))
+line_says s line after (says_end q x a going r) = line_fine q _ x end_type a [] going r (omega arith) refl (λ check. (refl, refl))
+line_says s line after (says_base q x a high low going r) = line_fine q _ x base_type a (high ∷ low ∷ []) going r (omega arith) refl (λ check. (refl, refl))
+line_says s line after (says_start_segment q x a c going four r) = line_fine q _ x start_segment_type a c going r (omega arith) (eq-eqb _ _ four) (λ check. (refl, refl))
+line_says s line after (says_upper q x a high low going r) = line_fine q _ x upper_type a (high ∷ low ∷ []) going r (omega arith) refl (λ check. (refl, refl))
+line_says s line after (says_start_address q x a c going four r) = line_fine q _ x start_address_type a c going r (omega arith) (eq-eqb _ _ four) (λ check. (refl, refl))

@@ -1,6 +1,6 @@
 -- Images with one byte more.
-use Rattle.std.proofs.Common.{◌≡◌, ℕ, zero, suc, ◌+◌, ◌-◌, ◌%◌, ◌<◌, Bool, true, false, eqb, List, [], ◌∷◌, ◌++◌, length, get_or, set, take, map, Some, refl, sym, ap, subst, ◌∙◌, arith, append_assoc, add-zero, inl, inr}
-use Rattle.std.specs.List.{flat_map, AllByRecursion}
+use Rattle.std.proofs.Common.{◌≡◌, ℕ, zero, suc, ◌+◌, ◌-◌, ◌%◌, ◌<◌, true, false, eqb, List, [], ◌∷◌, ◌++◌, length, get_or, set, take, map, refl, sym, ap, ◌∙◌, arith, append_assoc, add-zero, inl, inr}
+use Rattle.std.specs.List.{AllByRecursion}
 use Rattle.std.proofs.Math.Seq.{map-set_same}
 use Rattle.std.proofs.lemmas.Bool.{eqb-true, cases_Bool}
 use Rattle.std.proofs.lemmas.List.{append-nil, map_push, take_more, length-take-le}
@@ -10,6 +10,7 @@ use Rattle.i9_hex.specs.Put.{next_address, ends_before, with_byte, with_pair}
 use Rattle.i9_hex.specs.Shown.{part_of}
 use Rattle.i9_hex.specs.declared.segments.Segment.{Segment}
 
+-- bytes in a row, in two parts
 pub pairs_at-append : (address : ℕ → ℕ) (n : ℕ) (xs ys : List ℕ) → pairs_at address n (xs ++ ys) ≡ pairs_at address n xs ++ pairs_at address (n + length xs) ys
 pairs_at-append address n [] ys = rw add-zero refl
 pairs_at-append address n (x ∷ xs) ys =
@@ -30,6 +31,7 @@ pairs_at-more address n i bs ps qs rs lt before now =
 
 -- ---- the last segment
 
+-- what the test of the last segment finds
 pub ends_before-last : (items : List Segment) (n a : ℕ) (d last : Segment) → suc n ≡ length items → last ≡ get_or items n d → ends_before (map part_of items) a ≡ eqb (next_address (part_of last)) a
 ends_before-last [] n a d last len is = absurd (omega arith)
 ends_before-last (s ∷ []) zero a d last len is = ap (λ (x : Segment). eqb (next_address (part_of x)) a) (sym is)
@@ -64,6 +66,7 @@ with_pair-begun items a b new begins is = rw begins (map_push part_of items new 
 
 -- ---- the pairs
 
+-- a part with a byte more
 pairs_of_part-grown : (p : Part) (a b : ℕ) → next_address p ≡ a → pairs_of_part (record p { bytes = p.bytes ++ b ∷ [] }) ≡ pairs_of_part p ++ (a, b) ∷ []
 pairs_of_part-grown p a b next = pairs_at-append wrapped p.address p.bytes (b ∷ []) ∙ ap (λ (k : ℕ). pairs_of_part p ++ (k, b) ∷ []) next
 
@@ -89,6 +92,7 @@ pairs_of-with_pair ps a b small = elim (cases_Bool (ends_before ps a)) [
   | inr begins ↦ rw begins (pairs_of-new_part ps a b small)
 ]
 
+-- the same, as a call of `put` shows it
 pub one_pair_more : (ps qs : List Part) (a b : ℕ) → a < address_count → qs ≡ with_pair ps a b → pairs_of qs ≡ pairs_of ps ++ (a, b) ∷ []
 one_pair_more ps qs a b small is = ap pairs_of is ∙ pairs_of-with_pair ps a b small
 

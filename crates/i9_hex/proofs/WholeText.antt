@@ -1,8 +1,9 @@
 -- What the reader of a text answers: the image that the lines say, or the first fault.
-use Rattle.std.proofs.Common.{◌≡◌, ℕ, List, Option, Some, None, Result, Ok, Err, refl, ap, subst, IfOk, IfErr}
+use Rattle.std.proofs.Common.{◌≡◌, ℕ, Bool, true, false, List, Option, Some, None, Result, Ok, Err, refl, ap, subst, IfOk, IfErr}
 use Rattle.i9_text.specs.Text.{lines_of}
 use Rattle.i9_text.specs.FirstFault.{or_fault}
 use Rattle.i9_text.proofs.FirstFault.{read_from, SaysAll-read, read_from-says, read_from-refused, refused-read}
+use Rattle.i9_model.specs.Image.{Part, pairs_of}
 use Rattle.i9_model.specs.HexText.{HexState, start, Says, fault_of, missing_end, IsImage, IsRefused}
 use Rattle.i9_hex.specs.declared.error.HexError.{HexError}
 use Rattle.i9_hex.specs.declared.error.HexError.TheVariants.{Bad, Memory}
@@ -10,6 +11,7 @@ use Rattle.i9_hex.specs.Lines.{with_line}
 use Rattle.i9_hex.specs.Reading.{place_of, Reads, IfBad}
 use Rattle.i9_hex.proofs.OneLine.{says_line, line_says}
 
+-- a reader's answer, from the state that it ends in
 abbrev pub pairs_or_fault : Result HexState (ℕ × ℕ) → Result (List (ℕ × ℕ)) (ℕ × ℕ)
 pairs_or_fault (Ok s) = Ok s.pairs
 pairs_or_fault (Err fault) = Err fault
@@ -26,6 +28,7 @@ pub pairs-at_end : (o : Option ℕ) (n : ℕ) (s : HexState) → pairs_or_fault 
 pairs-at_end None n s = refl
 pairs-at_end (Some kind) n s = refl
 
+-- where the answer is an image, or a fault
 pairs_ok : (r : Result HexState (ℕ × ℕ)) (ps : List (ℕ × ℕ)) → pairs_or_fault r ≡ Ok ps → (t : HexState) × (r ≡ Ok t) × (t.pairs ≡ ps)
 pairs_ok (Ok t) ps e = (t, refl, cc)
 pairs_ok (Err f) ps e = absurd cc
@@ -34,28 +37,36 @@ pairs_err : (r : Result HexState (ℕ × ℕ)) (f : ℕ × ℕ) → pairs_or_fau
 pairs_err (Ok t) f e = absurd cc
 pairs_err (Err g) f e = let same : g ≡ f = cc in ap Err same
 
+-- the end record was read exactly where nothing is missing
+is_ended : (s : HexState) (b : Bool) → s.ended ≡ b → missing_end s ≡ None → s.ended ≡ true
+is_ended s true is fine = is
+is_ended s false is fine = absurd (cc (rw is at fine))
+
+has_end : (s : HexState) → s.ended ≡ true → missing_end s ≡ None
+has_end s ended = rw ended refl
+
 -- ---- the clauses of the reader
 
-pub found : {X : Type 0} (view : X → List (ℕ × ℕ)) (text : List ℕ) (r : Result X HexError) → Reads view r (answer_of text) → IfOk r (λ image. IsImage (lines_of text) (view image))
-found view text (Ok x) h =
-    let a = pairs_ok (state_or_fault text) (view x) h in
+pub found : (text : List ℕ) (r : Result (List Part) HexError) → Reads r (answer_of text) → IfOk r (λ image. IsImage (lines_of text) (pairs_of image))
+found text (Ok x) h =
+    let a = pairs_ok (state_or_fault text) (pairs_of x) h in
     let b = SaysAll-read Says fault_of with_line missing_end start says_line line_says 0 start a.0 (lines_of text) a.1 in
-    record { last = a.0; says = b.0; ended = b.1; same = a.2 }
-found view text (Err e) h = tt
+    record { last = a.0; says = b.0; ended = is_ended a.0 a.0.ended refl b.1; same = a.2 }
+found text (Err e) h = tt
 
-pub only : {X : Type 0} (view : X → List (ℕ × ℕ)) (text : List ℕ) (r : Result X HexError) → Reads view r (answer_of text) → (pairs : List (ℕ × ℕ)) → IsImage (lines_of text) pairs → Reads view r (Ok pairs)
-only view text r h pairs image =
-    let e = read_from-says Says fault_of with_line missing_end start says_line line_says 0 start image.last (lines_of text) image.says image.ended in
+pub only : (text : List ℕ) (r : Result (List Part) HexError) → Reads r (answer_of text) → (pairs : List (ℕ × ℕ)) → IsImage (lines_of text) pairs → Reads r (Ok pairs)
+only text r h pairs image =
+    let e = read_from-says Says fault_of with_line missing_end start says_line line_says 0 start image.last (lines_of text) image.says (has_end image.last image.ended) in
     let answer : answer_of text ≡ Ok pairs = rw e (ap Ok image.same) in
-    subst (λ (a : Result (List (ℕ × ℕ)) (ℕ × ℕ)). Reads view r a) answer h
+    subst (λ (a : Result (List (ℕ × ℕ)) (ℕ × ℕ)). Reads r a) answer h
 
-pub refused : {X : Type 0} (view : X → List (ℕ × ℕ)) (text : List ℕ) (r : Result X HexError) → Reads view r (answer_of text) → IfErr r (λ e. IfBad e (λ f. IsRefused (lines_of text) (place_of f)))
-refused view text (Ok x) h = tt
-refused view text (Err Memory) h = tt
-refused view text (Err (Bad f)) h = refused-read Says fault_of with_line missing_end start says_line line_says (lines_of text) (place_of f) (pairs_err (state_or_fault text) (place_of f) h)
+pub refused : (text : List ℕ) (r : Result (List Part) HexError) → Reads r (answer_of text) → IfErr r (λ e. IfBad e (λ f. IsRefused (lines_of text) (place_of f)))
+refused text (Ok x) h = tt
+refused text (Err Memory) h = tt
+refused text (Err (Bad f)) h = refused-read Says fault_of with_line missing_end start says_line line_says (lines_of text) (place_of f) (pairs_err (state_or_fault text) (place_of f) h)
 
-pub first : {X : Type 0} (view : X → List (ℕ × ℕ)) (text : List ℕ) (r : Result X HexError) → Reads view r (answer_of text) → (fault : ℕ × ℕ) → IsRefused (lines_of text) fault → Reads {Y = List (ℕ × ℕ)} view r (Err fault)
-first view text r h fault bad =
+pub first : (text : List ℕ) (r : Result (List Part) HexError) → Reads r (answer_of text) → (fault : ℕ × ℕ) → IsRefused (lines_of text) fault → Reads r (Err fault)
+first text r h fault bad =
     let e = read_from-refused Says fault_of with_line missing_end start says_line line_says (lines_of text) fault bad in
     let answer : answer_of text ≡ Err fault = rw e refl in
-    subst (λ (a : Result (List (ℕ × ℕ)) (ℕ × ℕ)). Reads view r a) answer h
+    subst (λ (a : Result (List (ℕ × ℕ)) (ℕ × ℕ)). Reads r a) answer h

@@ -1,6 +1,6 @@
 -- What the reader keeps and answers.
-use Rattle.std.specs.Prelude.{◌≡◌, ℕ, Option, Some, None, Result, Ok, Err}
-use Rattle.i9_model.specs.Image.{pairs_of}
+use Rattle.std.specs.Prelude.{◌≡◌, ℕ, List, Option, Some, None, Result, Ok, Err}
+use Rattle.i9_model.specs.Image.{Part, pairs_of}
 use Rattle.i9_model.specs.HexText.{Origin, Upper, Base, HexState}
 use Rattle.i9_hex.specs.declared.reader.Place.{Place}
 use Rattle.i9_hex.specs.declared.reader.Place.TheVariants as places
@@ -43,14 +43,14 @@ abbrev pub place_of : HexFault → ℕ × ℕ
 place_of f = (f.line, f.kind)
 
 -- the error is this fault, or want of memory
-abbrev pub Refuses : {Y : Type 0} → HexError → Result Y (ℕ × ℕ) → Type 0
+abbrev pub Refuses : HexError → Result (List (ℕ × ℕ)) (ℕ × ℕ) → Type 0
 Refuses Memory answer = Unit {0}
 Refuses (Bad f) answer = answer ≡ Err (place_of f)
 
--- the result, as this view sees it, is this answer, or want of memory
-abbrev pub Reads : {X Y : Type 0} → (X → Y) → Result X HexError → Result Y (ℕ × ℕ) → Type 0
-Reads view (Ok x) answer = answer ≡ Ok (view x)
-Reads view (Err e) answer = Refuses e answer
+-- the result is this answer, the pairs of an image or a first fault, or want of memory
+abbrev pub Reads : Result (List Part) HexError → Result (List (ℕ × ℕ)) (ℕ × ℕ) → Type 0
+Reads (Ok image) answer = answer ≡ Ok (pairs_of image)
+Reads (Err e) answer = Refuses e answer
 
 -- the fact holds of the fault, where the error is one
 abbrev pub IfBad : HexError → (HexFault → Type 0) → Type 0

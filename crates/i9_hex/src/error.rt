@@ -4,12 +4,19 @@ use thiserror::Error;
 
 // The kinds of faults, as `HexFault` says them.
 pub(crate) const NO_COLON: u8 = 1;
+
 pub(crate) const BAD_DIGITS: u8 = 2;
+
 pub(crate) const BAD_COUNT: u8 = 3;
+
 pub(crate) const BAD_CHECK: u8 = 4;
+
 pub(crate) const BAD_TYPE: u8 = 5;
+
 pub(crate) const NO_END: u8 = 6;
+
 pub(crate) const AFTER_END: u8 = 7;
+
 pub(crate) const TOO_MANY_BYTES: u8 = 8;
 
 /// The first fault of a text: its line, counted from 1, and its kind.

@@ -1,6 +1,7 @@
 //! What is known after some lines of a text.
-ghost use Rattle.std.specs.Prelude.{◌≡◌, length};
+ghost use Rattle.std.specs.Prelude.{◌≡◌, ◌≤◌, length};
 ghost use Rattle.i9_model.specs.Image.{pairs_of};
+ghost use Rattle.i9_model.specs.HexText.{most_bytes};
 
 use crate::segments::Segments;
 
@@ -32,4 +33,5 @@ pub(crate) struct Reader {
     /// How many data bytes were read.
     pub(crate) count: u32,
     ghost counted: { count ≡ length (pairs_of segments) },
+    ghost limited: { count ≤ most_bytes },
 }

@@ -19,7 +19,7 @@ use std::alloc::Global;
 /// How many data bytes an image has at most.
 const MOST_BYTES: u32 = 4_194_304;
 
-/// The address of a number of a record.
+/// The address of a data byte, by the sum of its record's address field and its index.
 fn address_at(place: Place, number: u32) -> u32
     requires { number < 131072 }
     ensures { result ≡ address_in (origin_of place) number }
@@ -30,7 +30,7 @@ fn address_at(place: Place, number: u32) -> u32
     }
 }
 
-/// Puts the data of a record.
+/// Puts the bytes of a data record, whose address field this is.
 fn put_all(
     segments: &mut Segments,
     place: Place,
@@ -46,7 +46,7 @@ fn put_all(
     Ok(())
 }
 
-/// Takes the data of a record.
+/// Takes the bytes of a data record, whose address field this is.
 fn with_bytes(reader: Reader, address: u16, bytes: &[u8]) -> Result<Reader, LineError>
     requires { length bytes.now < 256 }
     ensures { Takes result (fault_of_more (state_of reader) (length bytes.now)) (with_pairs (state_of reader) address bytes.now) }
@@ -57,8 +57,8 @@ fn with_bytes(reader: Reader, address: u16, bytes: &[u8]) -> Result<Reader, Line
         ended,
         count,
     } = reader;
-    let added = bytes.len() as u32;
-    if count > MOST_BYTES || added > MOST_BYTES - count {
+    let count = count + bytes.len() as u32;
+    if count > MOST_BYTES {
         return Err(LineError::Bad(TOO_MANY_BYTES));
     }
     match put_all(&mut segments, place, address, bytes) {
@@ -66,7 +66,7 @@ fn with_bytes(reader: Reader, address: u16, bytes: &[u8]) -> Result<Reader, Line
             segments,
             place,
             ended,
-            count: count + added,
+            count,
         }),
         Err(NoMemory) => Err(LineError::Memory),
     }
@@ -86,6 +86,7 @@ fn with_record(mut reader: Reader, bytes: &[u8]) -> Result<Reader, LineError>
         END => reader.ended = true,
         BASE => reader.place = Place::Base(short_at(bytes, 4)),
         UPPER => reader.place = Place::Upper(short_at(bytes, 4)),
+        // Start addresses are not kept.
         _ => {}
     }
     Ok(reader)
@@ -128,7 +129,7 @@ fn new_reader(alloc: Global) -> Reader
 
 /// The image, at the end of a text of so many lines.
 fn finish(reader: Reader, lines: u64) -> Result<Segments, HexError>
-    ensures { Reads (λ image. pairs_of image) result (or_fault (missing_end (state_of reader)) lines (Ok (pairs_of reader.segments))) }
+    ensures { Reads result (or_fault (missing_end (state_of reader)) lines (Ok (pairs_of reader.segments))) }
 {
     if !reader.ended {
         return Err(HexError::Bad(HexFault {
@@ -153,23 +154,21 @@ impl LineError {
 
 /// Reads the image of an Intel HEX text.
 ///
-/// The text has lines that end with a line feed, which the last one may lack; a carriage return
-/// before it is dropped and an empty line skipped. Every other line is a record of the Intel HEX
-/// object format, of type 00 to 05, in digits of either case. The start addresses of types 03 and
-/// 05 are not kept. An image has at most 4,194,304 data bytes, which is this project's own limit.
+/// Lines end with a line feed, which the last one may lack; one carriage return at a line's end is
+/// dropped, and empty lines are skipped. Every other line is a record of the Intel HEX object
+/// format, of type 00 to 05, in digits of either case. The start addresses of types 03 and 05 are
+/// not kept. An image has at most 4,194,304 data bytes, which is this project's own limit.
 ///
 /// A text that is no image is refused with its first fault; see `HexFault`.
 pub fn read(alloc: Global, text: &[u8]) -> Result<Segments, HexError>
     // What is read is what the lines say.
     ensures found { IfOk result (λ image. IsImage (lines_of text.now) (pairs_of image)) }
     // What the lines say is read, unless memory runs out.
-    ensures only { (pairs : List (ℕ × ℕ)) → IsImage (lines_of text.now) pairs →
-        Reads (λ image. pairs_of image) result (Ok pairs) }
+    ensures only { (pairs : List (ℕ × ℕ)) → IsImage (lines_of text.now) pairs → Reads result (Ok pairs) }
     // What is refused has this first fault.
     ensures refused { IfErr result (λ e. IfBad e (λ f. IsRefused (lines_of text.now) (place_of f))) }
     // A text with a first fault is refused for it, unless memory runs out.
-    ensures first { (fault : ℕ × ℕ) → IsRefused (lines_of text.now) fault →
-        Reads {Y = List (ℕ × ℕ)} (λ image. pairs_of image) result (Err fault) }
+    ensures first { (fault : ℕ × ℕ) → IsRefused (lines_of text.now) fault → Reads result (Err fault) }
 {
     let mut reader = new_reader(alloc);
     let mut number = 0u64;

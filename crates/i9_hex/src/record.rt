@@ -5,10 +5,15 @@ ghost use Rattle.i9_hex.specs.Lines.{short_at, IsSized};
 
 use crate::error::{BAD_CHECK, BAD_COUNT, BAD_TYPE};
 
+// The types of records; 03, a start segment address, needs no name.
 pub(crate) const DATA: u8 = 0;
+
 pub(crate) const END: u8 = 1;
+
 pub(crate) const BASE: u8 = 2;
+
 pub(crate) const UPPER: u8 = 4;
+
 pub(crate) const START_ADDRESS: u8 = 5;
 
 /// The sum modulo 256.
@@ -31,10 +36,10 @@ pub(crate) fn short_at(bytes: &[u8], at: usize) -> u16
 }
 
 /// Whether a record of this type may have this count.
-fn fits_type(kind: u8, count: u8) -> bool
-    ensures { result ≡ fits_type kind count }
+fn fits_type(record_type: u8, count: u8) -> bool
+    ensures { result ≡ fits_type record_type count }
 {
-    match kind {
+    match record_type {
         DATA => true,
         END => count == 0,
         BASE | UPPER => count == 2,

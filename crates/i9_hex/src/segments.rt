@@ -1,4 +1,4 @@
-//! An image: bytes at addresses, in segments.
+//! Images: bytes at addresses, in segments.
 ghost use Rattle.std.specs.Prelude.{◌≡◌, [], ◌∷◌, ◌++◌, map, OnOk, OnErr};
 ghost use Rattle.i9_model.specs.Image.{pairs_of, AreParts};
 ghost use Rattle.i9_hex.specs.Put.{ends_before, with_pair};
@@ -15,7 +15,7 @@ pub struct Segment {
     pub bytes: Vec<u8>,
 }
 
-/// Segments in order. Of two bytes at one address the later counts.
+/// An image: segments in order. Of two bytes at one address the later counts.
 #[derive(Debug, Drop)]
 pub struct Segments {
     items: Vec<Segment>,
@@ -41,6 +41,7 @@ fn ends_before(segments: &[Segment], address: u32) -> bool
 {
     match segments.last() {
         Some(last) => {
+            // Addresses count modulo 2^32, and so does a length here.
             let start = last.address;
             start.wrapping_add((last.bytes.len() % 0x1_0000_0000) as u32) == address
         }
@@ -49,7 +50,7 @@ fn ends_before(segments: &[Segment], address: u32) -> bool
 }
 
 impl Segments {
-    /// No segment. This takes no memory.
+    /// An image without bytes. This takes no memory.
     pub fn new(alloc: Global) -> Segments
         ensures { result ≡ [] }
     {
@@ -58,6 +59,7 @@ impl Segments {
         }
     }
 
+    /// Appends a byte, as `put` says.
     fn append(&mut self, address: u32, byte: u8) -> Result<(), AllocError>
         ensures ok { OnOk result (self.new ≡ with_pair self.old address byte) }
         ensures err { OnErr result (self.new ≡ self.old) }
@@ -74,7 +76,7 @@ impl Segments {
     }
 
     /// Appends a byte at an address: to the last segment where this is the next address after it,
-    /// else as a new segment.
+    /// else as a new segment. An error leaves the image as it was.
     #[tactic(auto, using(crate::proofs::PartLemmas::one_pair_more))]
     pub fn put(&mut self, address: u32, byte: u8) -> Result<(), NoMemory>
         ensures parts { OnOk result (self.new ≡ with_pair self.old address byte) }
@@ -87,10 +89,11 @@ impl Segments {
         }
     }
 
-    /// The segments one by one.
+    /// The segments in order.
     pub fn as_slice(&self) -> &[Segment]
-        ensures parts { map part_of result.now ≡ self.now }
-        ensures sized { AreParts self.now }
+        ensures segments { map part_of result.now ≡ self.now }
+        // Addresses are below 2^32 and bytes below 256.
+        ensures parts { AreParts self.now }
     {
         &self.items
     }

@@ -28,8 +28,10 @@ fn refusal(alloc: Global, text: &[u8]) -> Option<(u64, u8)> {
 // Each image is worked by hand from the rule of its records' types.
 #[test]
 fn reads_images(rt: HostRuntime) -> Result<(), Fail> {
-    let two_segments = b":02000004FFFFFC\n:04FF100000100000DD\n:020000040000FA\n:101000004100A08C0030A88C000000E00060A582A8\n:08101000070EA05C0460A5922C\n:00000001FF\n";
-    let code = b"\x41\x00\xA0\x8C\x00\x30\xA8\x8C\x00\x00\x00\xE0\x00\x60\xA5\x82\x07\x0E\xA0\x5C\x04\x60\xA5\x92";
+    let two_segments =
+        b":02000004FFFFFC\n:04FF100000100000DD\n:020000040000FA\n:101000004100A08C0030A88C000000E00060A582A8\n:08101000070EA05C0460A5922C\n:00000001FF\n";
+    let code =
+        b"\x41\x00\xA0\x8C\x00\x30\xA8\x8C\x00\x00\x00\xE0\x00\x60\xA5\x82\x07\x0E\xA0\x5C\x04\x60\xA5\x92";
     let rows: [(&[u8], &[(u32, &[u8])]); 8] = [
         (
             two_segments,
@@ -139,7 +141,12 @@ fn joins_bytes_in_a_row(rt: HostRuntime) -> Result<(), Fail> {
     for (address, byte) in [(5, 1), (6, 2), (6, 3), (0xFFFF_FFFF, 4), (0, 5), (2, 6)] {
         assert_eq!(rt; image.put(address, byte), Ok(()));
     }
-    let wanted: [(u32, &[u8]); 4] = [(5, b"\x01\x02"), (6, b"\x03"), (0xFFFF_FFFF, b"\x04\x05"), (2, b"\x06")];
+    let wanted: [(u32, &[u8]); 4] = [
+        (5, b"\x01\x02"),
+        (6, b"\x03"),
+        (0xFFFF_FFFF, b"\x04\x05"),
+        (2, b"\x06"),
+    ];
     assert!(rt; has(&image, &wanted));
     Ok(())
 }

@@ -82,34 +82,33 @@ start = record { pairs = []; origin = Upper 0; ended = false }
 
 -- ---- what a line says
 
--- a record: its type, its address field and its data
-pub record HexRecord : Type 0 where
-  pub kind : ℕ
-  pub address : ℕ
-  pub content : List ℕ
+-- the bytes of a record: count, address field with the high byte first, type, data and check byte
+abbrev pub record_bytes : ℕ → ℕ → List ℕ → ℕ → List ℕ
+record_bytes record_type address content check = length content ∷ address / 256 ∷ address % 256 ∷ record_type ∷ content ++ check ∷ []
 
--- the bytes of a record: count, address with the high byte first, type, data and check byte
-abbrev pub record_bytes : HexRecord → ℕ → List ℕ
-record_bytes r check = length r.content ∷ r.address / 256 ∷ r.address % 256 ∷ r.kind ∷ r.content ++ check ∷ []
-
--- the line is this record: a colon and two digits for each byte; with the check byte the bytes sum to 0 modulo 256
-pub record IsRecord (line : List ℕ) (r : HexRecord) : Type 0 where
+-- the line is a record: a colon, and two digits for each of its bytes, which with the check byte sum to 0 modulo 256
+pub record IsRecord (line : List ℕ) (record_type address : ℕ) (content : List ℕ) : Type 0 where
   pub digits : List ℕ
   pub check : ℕ
   pub text : line ≡ colon ∷ digits
-  pub bytes : decode_of digits ≡ Ok (record_bytes r check)
-  pub whole : sum (record_bytes r check) % 256 ≡ 0
+  pub bytes : decode_of digits ≡ Ok (record_bytes record_type address content check)
+  pub whole : sum (record_bytes record_type address content check) % 256 ≡ 0
 
 -- what a line without fault says: nothing where it is empty, else one case for each type of record
 pub data Says : HexState → List ℕ → HexState → Type 0 where
   says_nothing : (s : HexState) → Says s [] s
-  says_bytes : (s : HexState) (line : List ℕ) (a : ℕ) (bs : List ℕ) → s.ended ≡ false → IsRecord line (record { kind = data_type; address = a; content = bs }) → length s.pairs + length bs ≤ most_bytes
+  says_bytes : (s : HexState) (line : List ℕ) (a : ℕ) (bs : List ℕ) → s.ended ≡ false → IsRecord line data_type a bs → length s.pairs + length bs ≤ most_bytes
       → Says s line (record s { pairs = s.pairs ++ pairs_at (address_in s.origin) a bs })
-  says_end : (s : HexState) (line : List ℕ) (a : ℕ) → s.ended ≡ false → IsRecord line (record { kind = end_type; address = a; content = [] }) → Says s line (record s { ended = true })
-  says_base : (s : HexState) (line : List ℕ) (a high low : ℕ) → s.ended ≡ false → IsRecord line (record { kind = base_type; address = a; content = high ∷ low ∷ [] }) → Says s line (record s { origin = Base (high * 256 + low) })
-  says_start_segment : (s : HexState) (line : List ℕ) (a : ℕ) (c : List ℕ) → s.ended ≡ false → length c ≡ 4 → IsRecord line (record { kind = start_segment_type; address = a; content = c }) → Says s line s
-  says_upper : (s : HexState) (line : List ℕ) (a high low : ℕ) → s.ended ≡ false → IsRecord line (record { kind = upper_type; address = a; content = high ∷ low ∷ [] }) → Says s line (record s { origin = Upper (high * 256 + low) })
-  says_start_address : (s : HexState) (line : List ℕ) (a : ℕ) (c : List ℕ) → s.ended ≡ false → length c ≡ 4 → IsRecord line (record { kind = start_address_type; address = a; content = c }) → Says s line s
+  says_end : (s : HexState) (line : List ℕ) (a : ℕ) → s.ended ≡ false → IsRecord line end_type a []
+      → Says s line (record s { ended = true })
+  says_base : (s : HexState) (line : List ℕ) (a high low : ℕ) → s.ended ≡ false → IsRecord line base_type a (high ∷ low ∷ [])
+      → Says s line (record s { origin = Base (high * 256 + low) })
+  says_start_segment : (s : HexState) (line : List ℕ) (a : ℕ) (c : List ℕ) → s.ended ≡ false → length c ≡ 4 → IsRecord line start_segment_type a c
+      → Says s line s
+  says_upper : (s : HexState) (line : List ℕ) (a high low : ℕ) → s.ended ≡ false → IsRecord line upper_type a (high ∷ low ∷ [])
+      → Says s line (record s { origin = Upper (high * 256 + low) })
+  says_start_address : (s : HexState) (line : List ℕ) (a : ℕ) (c : List ℕ) → s.ended ≡ false → length c ≡ 4 → IsRecord line start_address_type a c
+      → Says s line s
 
 -- ---- which fault a line has
 
@@ -120,11 +119,11 @@ first_fault None later = later
 
 -- whether a record of this type may have this count
 abbrev pub fits_type : ℕ → ℕ → Bool
-fits_type kind count =
-    if kind == data_type then true
-    else if kind == end_type then count == 0
-    else if kind == base_type then count == 2
-    else if kind == upper_type then count == 2
+fits_type record_type count =
+    if record_type == data_type then true
+    else if record_type == end_type then count == 0
+    else if record_type == base_type then count == 2
+    else if record_type == upper_type then count == 2
     else count == 4
 
 -- the fault of a record's bytes by themselves
@@ -149,9 +148,9 @@ abbrev pub fault_of_digits : HexState → Result (List ℕ) FromHexError → Opt
 fault_of_digits s (Err e) = Some bad_digits
 fault_of_digits s (Ok bytes) = first_fault (fault_of_bytes bytes) (fault_of_room s bytes)
 
--- The fault of a line: the first that applies of these, in this order. It stands after the end record; it has no colon;
--- bad digits; a count that the line does not have; a check byte that does not fit; an unknown type; a count that the
--- type does not have; too many data bytes.
+-- The fault of a line, the first that applies of these: the line stands after the end record; no colon stands first; no
+-- pairs of digits follow it; there are fewer than 5 bytes, or not as many as the count says; they do not sum to 0 modulo
+-- 256; the type is unknown; the count is not that of the type; there are too many data bytes.
 unfoldable pub fault_of : HexState → List ℕ → Option ℕ
 fault_of s [] = None
 fault_of s (first ∷ digits) =
@@ -169,7 +168,7 @@ missing_end s = if s.ended then None else Some no_end
 pub record IsImage (lines : List (List ℕ)) (pairs : List (ℕ × ℕ)) : Type 0 where
   pub last : HexState
   pub says : texts.SaysAll Says start lines last
-  pub ended : missing_end last ≡ None
+  pub ended : last.ended ≡ true
   pub same : last.pairs ≡ pairs
 
 -- the first line at fault, counted from 1, with its kind

@@ -17,6 +17,7 @@ left_len-split left text None some h = let e : left_len left ≡ length text.now
 left_len-split left text (Some rest) some h = let e : left_len left ≡ length text.now + 1 = ap left_len some in omega arith
 
 module _ {S : Type 0} (fault : S → List ℕ → Option ℕ) (step : S → List ℕ → S) (missing : S → Option ℕ) where
+  -- the invariant, after the next line is cut off
   reads-on : (n : ℕ) (s : S) (left : Option (Bor (List ℕ))) (text : Bor (List ℕ)) (line : List ℕ) (after : Option (Bor (List ℕ))) (total : Result S (ℕ × ℕ)) → left ≡ Some text
       → MatchOption after (lines_of text.now ≡ line ∷ []) (λ rest. lines_of text.now ≡ line ∷ lines_of rest.now) → read_from fault step missing n s (lines_left left) ≡ total
       → read_from fault step missing n s (line ∷ lines_left after) ≡ total

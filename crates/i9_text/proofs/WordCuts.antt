@@ -16,6 +16,7 @@ not-false false e = refl
 pub words_of-blank : (b : ℕ) (rest : List ℕ) → is_blank b ≡ true → words_of (b ∷ rest) ≡ words_of rest
 words_of-blank b rest e = ap (λ (parts : List (List ℕ)). filter is_some_word parts) (slice_split-cons_yes is_blank b rest e)
 
+-- a part that is not empty is a word
 filter-some : (w : List ℕ) (parts : List (List ℕ)) → 0 < length w → filter is_some_word (w ∷ parts) ≡ w ∷ filter is_some_word parts
 filter-some w parts h = rw (lt-ltb 0 (length w) h) refl
 

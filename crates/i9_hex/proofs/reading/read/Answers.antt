@@ -1,8 +1,6 @@
-use Rattle.std.proofs.Common.{◌≡◌, ℕ, ◌+◌, List, Option, Some, None, Result, Ok, Err, sym, ap, subst, ◌∙◌, arith}
-use Rattle.i9_text.specs.Text.{lines_of, lines_left}
+use Rattle.std.proofs.Common.{◌≡◌, ℕ, ◌+◌, List, Option, Some, Result, Ok, Err, sym, ap, subst, ◌∙◌, arith}
 use Rattle.i9_text.specs.FirstFault.{or_fault}
 use Rattle.i9_text.proofs.Loop.{left_len-split, turn-fine, turn-fault, turn-end}
-use Rattle.i9_model.specs.Image.{Part, pairs_of}
 use Rattle.i9_model.specs.HexText.{fault_of, missing_end}
 use Rattle.i9_hex.specs.declared.reader.LineError.{LineError}
 use Rattle.i9_hex.specs.declared.reader.LineError.TheVariants as lines
@@ -11,6 +9,7 @@ use Rattle.i9_hex.specs.Reading.{state_of, Fails, error_at, Refuses, Reads}
 use Rattle.i9_hex.proofs.WholeText.{pairs_or_fault, state_or_fault, answer_of, pairs-at_end, found, only, refused, first}
 use Rattle.i9_hex.proofs.reading.read.Goals as goal
 
+-- an error at a line, where its fault is the answer
 refuses_line : (error : LineError) (fault : Option ℕ) (number : ℕ) (answer : Result (List (ℕ × ℕ)) (ℕ × ℕ)) → Fails error fault → ((kind : ℕ) → fault ≡ Some kind → answer ≡ Err (number, kind)) → Refuses (error_at error number) answer
 refuses_line lines.Memory fault number answer fails known = tt
 refuses_line (lines.Bad kind) fault number answer fails known = known kind fails
@@ -24,12 +23,12 @@ at_line c =
     rw c.at.ensures (refuses_line c.in-Err.error (fault_of s line) (c.loop-rest.number + 1) (answer_of c.args.text.now) c.in-Err.ensures answered)
 
 -- so is the end of the text
-at_end : (c : goal.After-finish) → Reads (λ (image : List Part). pairs_of image) c.finish.result (answer_of c.args.text.now)
+at_end : (c : goal.After-finish) → Reads c.finish.result (answer_of c.args.text.now)
 at_end c =
     let s = state_of c.loop-rest.reader in
     let total = turn-end fault_of with_line missing_end c.loop-rest.number s c.loop-rest.rest (state_or_fault c.args.text.now) c.in_default.is c.loop-rest.invariant.same in
     let answer : answer_of c.args.text.now ≡ or_fault (missing_end s) c.loop-rest.number (Ok s.pairs) = ap pairs_or_fault total ∙ pairs-at_end (missing_end s) c.loop-rest.number s in
-    subst (λ (a : Result (List (ℕ × ℕ)) (ℕ × ℕ)). Reads (λ (image : List Part). pairs_of image) c.finish.result a) (sym answer) c.finish.ensures
+    subst (λ (a : Result (List (ℕ × ℕ)) (ℕ × ℕ)). Reads c.finish.result a) (sym answer) c.finish.ensures
 
 pub loop-rest-preserved : goal.loop-rest-preserved
 loop-rest-preserved c =
@@ -40,22 +39,22 @@ loop-rest-preserved c =
     }
 
 pub returns-in-Err-clause-only : goal.returns-in-Err-clause-only
-returns-in-Err-clause-only c = only (λ (image : List Part). pairs_of image) c.args.text.now (Err c.at.result) (at_line c)
+returns-in-Err-clause-only c = only c.args.text.now (Err c.at.result) (at_line c)
 
 pub returns-in-Err-clause-refused : goal.returns-in-Err-clause-refused
-returns-in-Err-clause-refused c = refused (λ (image : List Part). pairs_of image) c.args.text.now (Err c.at.result) (at_line c)
+returns-in-Err-clause-refused c = refused c.args.text.now (Err c.at.result) (at_line c)
 
 pub returns-in-Err-clause-first : goal.returns-in-Err-clause-first
-returns-in-Err-clause-first c = first (λ (image : List Part). pairs_of image) c.args.text.now (Err c.at.result) (at_line c)
+returns-in-Err-clause-first c = first c.args.text.now (Err c.at.result) (at_line c)
 
 pub returns-clause-found : goal.returns-clause-found
-returns-clause-found c = found (λ (image : List Part). pairs_of image) c.args.text.now c.finish.result (at_end c)
+returns-clause-found c = found c.args.text.now c.finish.result (at_end c)
 
 pub returns-clause-only : goal.returns-clause-only
-returns-clause-only c = only (λ (image : List Part). pairs_of image) c.args.text.now c.finish.result (at_end c)
+returns-clause-only c = only c.args.text.now c.finish.result (at_end c)
 
 pub returns-clause-refused : goal.returns-clause-refused
-returns-clause-refused c = refused (λ (image : List Part). pairs_of image) c.args.text.now c.finish.result (at_end c)
+returns-clause-refused c = refused c.args.text.now c.finish.result (at_end c)
 
 pub returns-clause-first : goal.returns-clause-first
-returns-clause-first c = first (λ (image : List Part). pairs_of image) c.args.text.now c.finish.result (at_end c)
+returns-clause-first c = first c.args.text.now c.finish.result (at_end c)

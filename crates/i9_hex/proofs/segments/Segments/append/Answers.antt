@@ -1,4 +1,4 @@
-use Rattle.std.proofs.Common.{◌≡◌, ℕ, List, ◌-◌, ◌∷◌, ◌++◌, [], length, get_or, set, map, sym, ap, refl, ◌∙◌, arith, subst, true, false}
+use Rattle.std.proofs.Common.{◌≡◌, ℕ, List, ◌-◌, ◌∷◌, ◌++◌, [], set, map, sym, ap, ◌∙◌, arith, subst, true, false}
 use Rattle.std.proofs.lemmas.Result.{err_from_is_err_and}
 use Rattle.i9_model.specs.Image.{Part, AreParts}
 use Rattle.i9_hex.specs.Put.{ends_before, with_pair}
