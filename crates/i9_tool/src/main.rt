@@ -1,0 +1,6 @@
+//! The simulator's command.
+#![tactic(auto)]
+
+pub mod outside;
+
+fn main() {}
