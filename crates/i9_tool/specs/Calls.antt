@@ -25,9 +25,9 @@ next_call p = one_more p.made
 abbrev pub fails_next : Plan → Bool
 fails_next p = list_any (λ call. nat_eq call (next_call p)) p.failing
 
--- every call that is set to fail was made before
-abbrev pub NoneFails : Plan → Type 0
-NoneFails p = All (λ call. call < next_call p) p.failing
+-- no call to come is set to fail: each one that is set to fail was made before
+abbrev pub NoneToFail : Plan → Type 0
+NoneToFail p = All (λ call. call < next_call p) p.failing
 
 -- the call of that number is set to fail too
 abbrev pub with_failing : Plan → ℕ → Plan

@@ -2,7 +2,7 @@
 use Rattle.std.specs.Prelude.{◌≡◌, ℕ, List, Option, option_map, IsSome}
 use Rattle.std.specs.BTreeMap.{get_by_text}
 use Rattle.i9_tool.specs.declared.outside.memory.MemFiles.{MemFiles}
-use Rattle.i9_tool.specs.Calls.{Plan, plan_of, NoneFails}
+use Rattle.i9_tool.specs.Calls.{Plan, plan_of, NoneToFail}
 
 -- the bytes held under a name
 abbrev pub held_file : MemFiles → List ℕ → Option (List ℕ)
@@ -22,4 +22,4 @@ SameFiles old new = (name : List ℕ) → held_file new name ≡ held_file old n
 -- no fetch of the name can fail: it is held, and no call to come is set to fail
 pub record IsSureOf (m : MemFiles) (name : List ℕ) : Type 0 where
   pub is_held : IsSome (held_file m name)
-  pub none_fails : NoneFails (calls_of m)
+  pub none_fails : NoneToFail (calls_of m)

@@ -2,5 +2,6 @@
 #![tactic(auto)]
 
 pub mod outside;
+mod print;
 
 fn main() {}

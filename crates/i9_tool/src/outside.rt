@@ -5,6 +5,8 @@
 mod calls;
 mod memory;
 mod real;
+#[cfg(test)]
+mod tests;
 mod traits;
 
 pub use memory::{MemFiles, MemSink};

@@ -13,7 +13,7 @@ pub struct Calls {
 }
 
 impl Calls {
-    ghost use Rattle.i9_tool.specs.Calls.{plan_of, no_calls, next_call, with_failing, fails_next, with_call, with_fault, NoneFails};
+    ghost use Rattle.i9_tool.specs.Calls.{plan_of, no_calls, next_call, with_failing, fails_next, with_call, with_fault, NoneToFail};
 
     /// No call was made, and none is to fail.
     pub fn new(alloc: Global) -> Calls
@@ -41,7 +41,7 @@ impl Calls {
     /// Counts a call, and answers whether it is set to fail.
     pub fn begin(&mut self) -> bool
         ensures answer { result ≡ fails_next (plan_of self.old) }
-        ensures calm { NoneFails (plan_of self.old) → result ≡ false }
+        ensures calm { NoneToFail (plan_of self.old) → result ≡ false }
         ensures counted { plan_of self.new ≡ with_call (plan_of self.old) }
     {
         self.made = self.made.saturating_add(1);

@@ -1,5 +1,5 @@
 //! Files and a sink in memory, of which chosen calls fail.
-ghost use Rattle.std.specs.Prelude.{◌≡◌, ◌≢◌, ◌↔◌, ◌⊎◌, ◌+◌, ◌≤◌, Some, None, OnOk, OnErr, IsNone, IsTrue, List, ℕ, [], length, vec_len, vec_capacity};
+ghost use Rattle.std.specs.Prelude.{◌≡◌, ◌≢◌, ◌↔◌, ◌⊎◌, ◌+◌, ◌<◌, ◌≤◌, Some, None, OnOk, OnErr, IsNone, IsTrue, List, ℕ, [], length, vec_len, vec_capacity};
 ghost use Rattle.i9_tool.specs.Outside.{Fetches, FetchCause, Writes, WriteCause};
 
 use super::calls::Calls;
@@ -83,10 +83,8 @@ impl Files for MemFiles {
         ensures calm { IsSureOf self.old name.now → (result ≢ Fetch.Failed)
             × ((n : List ℕ) → fault_count self.new ≡ fault_count self.old) }
         ensures stays { (n : List ℕ) → IsSureOf self.old n → IsSureOf self.new n }
-        ensures set { IsTrue (fails_next (calls_of self.old)) → result ≡ Fetch.Failed }
-        ensures absent { IsNone (held_file self.old name.now) → result ≡ Fetch.Failed }
-        ensures failed { result ≡ Fetch.Failed
-            → IsTrue (fails_next (calls_of self.old)) ⊎ IsNone (held_file self.old name.now) }
+        ensures failed { (result ≡ Fetch.Failed)
+            ↔ (IsTrue (fails_next (calls_of self.old)) ⊎ IsNone (held_file self.old name.now)) }
         ensures counted { CountsCall (calls_of self.old) (calls_of self.new) }
     {
         let is_set_to_fail = self.calls.begin();
@@ -171,7 +169,7 @@ impl MemSink {
 
 impl Sink for MemSink {
     ghost use Rattle.i9_tool.specs.Calls.{fails_next, CountsCall};
-    ghost use Rattle.i9_tool.specs.MemSink.{written_bytes, room_left, calls_of, fault_count, IsSureOf, Takes};
+    ghost use Rattle.i9_tool.specs.MemSink.{written_bytes, room_left, calls_of, fault_count, IsSureOf};
 
     ghost told = { λ s. Some (written_bytes s) };
 
@@ -187,7 +185,11 @@ impl Sink for MemSink {
         ensures cause { WriteCause result (fault_count self.old) (fault_count self.new) }
         ensures calm { (n : ℕ) → IsSureOf self.old (length piece.now + n)
             → (result ≡ Wrote.Ok) × (fault_count self.new ≡ fault_count self.old) × IsSureOf self.new n }
-        ensures exact { Takes result piece.now self.old self.new }
+        ensures failed { (result ≡ Wrote.Failed)
+            ↔ (IsTrue (fails_next (calls_of self.old)) ⊎ (room_left self.old < length piece.now)) }
+        ensures took { result ≡ Wrote.Ok → room_left self.new + length piece.now ≡ room_left self.old }
+        ensures kept { result ≡ Wrote.Failed → (written_bytes self.new ≡ written_bytes self.old)
+            × (room_left self.new ≡ room_left self.old) }
         ensures counted { CountsCall (calls_of self.old) (calls_of self.new) }
     {
         let is_set_to_fail = self.calls.begin();

@@ -15,9 +15,11 @@ pub struct RealFiles<'a, R> {
 }
 
 impl<'a, R: rt::Files> RealFiles<'a, R> {
+    ghost use Rattle.i9_tool.specs.RealFiles.{fault_count};
+
     /// No fault was met.
     pub fn new(rt: &'a R) -> RealFiles<'a, R>
-        ensures { result.faults ≡ 0 }
+        ensures { fault_count result ≡ 0 }
     {
         RealFiles { rt, faults: 0 }
     }
@@ -35,9 +37,11 @@ impl<'a, R: rt::Files> RealFiles<'a, R> {
 }
 
 impl<'a, R: rt::Files> Files for RealFiles<'a, R> {
+    ghost use Rattle.i9_tool.specs.RealFiles.{fault_count};
+
     ghost told = { λ s n. None };
 
-    ghost faults = { λ s n. s.faults };
+    ghost faults = { λ s n. fault_count s };
 
     ghost sure = { λ s n. ⊥ };
 
@@ -81,18 +85,22 @@ pub struct RealSink<W> {
 }
 
 impl<W: Write + Drop> RealSink<W> {
+    ghost use Rattle.i9_tool.specs.RealSink.{fault_count};
+
     /// No fault was met.
     pub fn new(out: W) -> RealSink<W>
-        ensures { result.faults ≡ 0 }
+        ensures { fault_count result ≡ 0 }
     {
         RealSink { out, faults: 0 }
     }
 }
 
 impl<W: Write + Drop> Sink for RealSink<W> {
+    ghost use Rattle.i9_tool.specs.RealSink.{fault_count};
+
     ghost told = { λ s. None };
 
-    ghost faults = { λ s. s.faults };
+    ghost faults = { fault_count };
 
     ghost sure = { λ s n. ⊥ };
 
