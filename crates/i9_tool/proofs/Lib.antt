@@ -1,0 +1,4 @@
+pub mod Failing
+pub mod Prints
+pub mod Reading
+pub mod Writing

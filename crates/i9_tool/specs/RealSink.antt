@@ -1,0 +1,7 @@
+-- A sink over a writer.
+use Rattle.std.specs.Prelude.{ℕ}
+use Rattle.i9_tool.specs.declared.outside.real.RealSink.{RealSink}
+
+-- how many faults were met
+abbrev pub fault_count : {W : Type 0} → RealSink W → ℕ
+fault_count s = s.faults

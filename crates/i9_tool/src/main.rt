@@ -1,0 +1,7 @@
+//! The simulator's command.
+#![tactic(auto)]
+
+pub mod outside;
+mod print;
+
+fn main() {}

@@ -1,0 +1,130 @@
+//! Files and a sink of the system.
+ghost use Rattle.std.specs.Prelude.{◌≡◌, None, ℕ, List};
+ghost use Rattle.i9_tool.specs.Outside.{Fetches, Writes};
+
+use super::traits::{FILE_LIMIT, Fetch, Files, Sink, Wrote};
+use std::alloc::Global;
+use std::io::{Read, Write};
+use std::{fs, rt};
+
+/// The files of the runtime. Their bytes aren't told, and all names share one count of faults.
+#[derive(Drop)]
+pub struct RealFiles<'a, R> {
+    rt: &'a R,
+    faults: u64,
+}
+
+impl<'a, R: rt::Files> RealFiles<'a, R> {
+    ghost use Rattle.i9_tool.specs.RealFiles.{fault_count};
+
+    /// No fault was met.
+    pub fn new(rt: &'a R) -> RealFiles<'a, R>
+        ensures { fault_count result ≡ 0 }
+    {
+        RealFiles { rt, faults: 0 }
+    }
+
+    /// Opens the file and reads it to its end.
+    #[tactic(auto, using(crate::proofs::Reading::reading_rules))]
+    fn read_file(&self, name: &str, into: &mut Vec<u8>) -> Fetch
+        ensures { Fetches result None into.old.items into.new.items }
+    {
+        match fs::open(self.rt, name) {
+            Ok(mut file) => read_all(&mut file, into),
+            Err(_) => Fetch::Failed,
+        }
+    }
+}
+
+impl<'a, R: rt::Files> Files for RealFiles<'a, R> {
+    ghost use Rattle.i9_tool.specs.RealFiles.{fault_count};
+
+    ghost told = { λ s n. None };
+
+    ghost faults = { λ s n. fault_count s };
+
+    ghost sure = { λ s n. ⊥ };
+
+    fn fetch(&mut self, _alloc: Global, name: &str, into: &mut Vec<u8>) -> Fetch {
+        let answer = self.read_file(name, into);
+        if answer == Fetch::Failed {
+            self.faults = self.faults.saturating_add(1);
+        }
+        answer
+    }
+}
+
+#[tactic(auto, using(crate::proofs::Reading::reading_rules))]
+/// Appends what a reader has left, as a file is fetched.
+fn read_all<F: Read>(file: &mut F, into: &mut Vec<u8>) -> Fetch
+    ensures { Fetches result (F.remaining file.old) into.old.items into.new.items }
+{
+    let mut taken = 0u64;
+    let mut buffer = [0u8; 4096];
+    while taken <= FILE_LIMIT {
+        let size = (FILE_LIMIT + 1 - taken).min(4096) as usize;
+        match file.read(&mut buffer[..size]) {
+            Err(_) => return Fetch::Failed,
+            Ok(0) => return Fetch::Ok,
+            Ok(n) => {
+                if into.extend_from_slice(&buffer[..n]).is_err() {
+                    return Fetch::Memory;
+                }
+                taken += n as u64;
+            }
+        }
+    }
+    Fetch::TooLong(taken)
+}
+
+/// A sink over a writer. What was written isn't told.
+#[derive(Drop)]
+pub struct RealSink<W> {
+    out: W,
+    faults: u64,
+}
+
+impl<W: Write + Drop> RealSink<W> {
+    ghost use Rattle.i9_tool.specs.RealSink.{fault_count};
+
+    /// No fault was met.
+    pub fn new(out: W) -> RealSink<W>
+        ensures { fault_count result ≡ 0 }
+    {
+        RealSink { out, faults: 0 }
+    }
+}
+
+impl<W: Write + Drop> Sink for RealSink<W> {
+    ghost use Rattle.i9_tool.specs.RealSink.{fault_count};
+
+    ghost told = { λ s. None };
+
+    ghost faults = { fault_count };
+
+    ghost sure = { λ s n. ⊥ };
+
+    fn write(&mut self, piece: &[u8]) -> Wrote {
+        let answer = write_all(&mut self.out, piece);
+        if answer == Wrote::Failed {
+            self.faults = self.faults.saturating_add(1);
+        }
+        answer
+    }
+}
+
+#[tactic(auto, using(crate::proofs::Writing::writing_rules))]
+/// Writes the whole piece, by as many writes as it takes.
+fn write_all<W: Write>(out: &mut W, piece: &[u8]) -> Wrote
+    ensures { Writes result piece.now (W.contents out.old) (W.contents out.new) }
+{
+    let mut rest = piece;
+    while !rest.is_empty() {
+        match out.write(rest) {
+            Ok(0) => return Wrote::Failed,
+            Ok(n) => rest = &rest[n..],
+            Err(_) => return Wrote::Failed,
+        }
+    }
+    Wrote::Ok
+}

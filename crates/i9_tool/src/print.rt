@@ -1,0 +1,41 @@
+//! Printing of pieces of text.
+ghost use Rattle.std.specs.Prelude.{flat_map};
+ghost use Rattle.i9_tool.specs.Print.{Prints};
+
+use crate::outside::{Sink, Wrote};
+
+/// How printing ended.
+#[derive(Clone, Copy, Debug, PartialEq, Eq)]
+pub enum Printed {
+    /// The whole text was written.
+    Done,
+    /// A write failed; a front of the text was written, perhaps nothing.
+    Write,
+    /// Memory was refused; a front of the text was written, perhaps nothing.
+    Memory,
+}
+
+/// Writes a piece by one call of the sink.
+pub fn print_piece<K: Sink>(piece: &[u8], out: &mut K) -> Printed
+    ensures { Prints result K.told K.faults K.sure out.old out.new piece.now }
+{
+    match out.write(piece) {
+        Wrote::Ok => Printed::Done,
+        Wrote::Failed => Printed::Write,
+    }
+}
+
+#[tactic(auto, using(crate::proofs::Prints::prints_rules))]
+/// Writes pieces in order, each by one call of the sink.
+pub fn print_pieces<K: Sink>(pieces: &[Vec<u8>], out: &mut K) -> Printed
+    ensures { Prints result K.told K.faults K.sure out.old out.new (flat_map (λ p. p.items) pieces.now) }
+{
+    for piece in pieces {
+        match print_piece(piece, out) {
+            Printed::Done => {}
+            Printed::Write => return Printed::Write,
+            Printed::Memory => return Printed::Memory,
+        }
+    }
+    Printed::Done
+}
