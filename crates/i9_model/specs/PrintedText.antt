@@ -63,14 +63,6 @@ line_feed = 10 ∷ []
 unfoldable pub out_text : ℕ → List ℕ
 out_text b = codes "#out " ++ byte_text b ++ line_feed
 
-abbrev pub drained_text : Drained → List ℕ
-drained_text AtEnd = codes "end"
-
-unfoldable pub point_text : Drained → View → List ℕ
-point_text k v =
-    codes "#point " ++ decimal v.count ++ codes " " ++ drained_text k ++ codes " "
-    ++ word_text v.ip ++ codes " " ++ word_text v.ac ++ codes " " ++ word_text v.pc ++ line_feed
-
 -- a word after a space
 abbrev pub spaced : ℕ → List ℕ
 spaced w = 32 ∷ word_text w
@@ -79,14 +71,25 @@ spaced w = 32 ∷ word_text w
 unfoldable pub words_text : List ℕ → List ℕ → List ℕ
 words_text label ws = label ++ flat_map spaced ws ++ line_feed
 
+abbrev pub drained_text : Drained → List ℕ
+drained_text AtEnd = codes "end"
+
+-- the count and kind of a drained point, and its address, AC and PC
+unfoldable pub point_text : Drained → View → List ℕ
+point_text k v = words_text (codes "#point " ++ decimal v.count ++ codes " " ++ drained_text k) (v.ip ∷ v.ac ∷ v.pc ∷ [])
+
 unfoldable pub finish_text : Finish → List ℕ
-finish_text (Exit w) = codes "#end exit " ++ word_text w ++ line_feed
+finish_text (Exit w) = words_text (codes "#end exit") (w ∷ [])
 finish_text Limit = codes "#end limit" ++ line_feed
-finish_text (Unbuilt a) = codes "#end unbuilt " ++ word_text a ++ line_feed
+finish_text (Unbuilt a) = words_text (codes "#end unbuilt") (a ∷ [])
+
+-- a drained point, with its global and its local registers
+abbrev pub point_shown : Drained → View → List ℕ
+point_shown k v = point_text k v ++ (words_text (codes "#g") (drop 16 v.regs) ++ words_text (codes "#l") (take 16 v.regs))
 
 abbrev pub shown_text : Shown → List ℕ
 shown_text (Out b) = out_text b
-shown_text (Point k v) = point_text k v ++ (words_text (codes "#g") (drop 16 v.regs) ++ words_text (codes "#l") (take 16 v.regs))
+shown_text (Point k v) = point_shown k v
 shown_text (End f) = finish_text f
 
 abbrev pub text_of : List Shown → List ℕ

@@ -95,6 +95,15 @@ module _ {K : Type 0} (told : K → Option (List ℕ)) (faults : K → ℕ) (sur
     calm = then_calm Memory a b c x y p q;
   }
 
+  -- a text was printed whole, and memory was refused before the rest
+  pub prints_cut : (a b : K) (x y : List ℕ) → Prints Done told faults sure a b x → Prints Memory told faults sure a b (x ++ y)
+  prints_cut a b x y p = record {
+    later = p.later;
+    leaves = record { front = x; rest = y; parts = refl; grows = p.leaves };
+    cause = p.cause;
+    calm = λ n h. let q = p.calm (length y + n) (sure_parts sure a x y n h) in (λ e. cc, q.1, tt);
+  }
+
   -- the text of a list's first items was printed, and then that of the next item
   pub prints_next : {X : Type 0} (text : X → List ℕ) (answer : Printed) (a b c : K) (items : List X) (i : ℕ) (d : X) → i < length items
       → Prints Done told faults sure a b (flat_map text (take i items)) → Prints answer told faults sure b c (text (get_or items i d))

@@ -6,3 +6,5 @@ pub mod MemFiles
 pub mod MemSink
 pub mod RealFiles
 pub mod RealSink
+pub mod Words
+pub mod Run

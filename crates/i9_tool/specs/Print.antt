@@ -1,6 +1,9 @@
 -- What printing a text does to a sink.
 use Rattle.std.specs.Prelude.{◌≡◌, ◌≢◌, ℕ, ◌+◌, ◌≤◌, List, length, Option}
 use Rattle.std.specs.Io.KnownBytes.{Appends}
+use Rattle.i9_model.specs.PrintedText.{shown_text}
+use Rattle.i9_machine.specs.declared.line.Line.{Line}
+use Rattle.i9_machine.specs.Line.{shown_of}
 use Rattle.i9_tool.specs.declared.print.Printed.{Printed}
 use Rattle.i9_tool.specs.declared.print.Printed.TheVariants as printed
 use Rattle.i9_tool.specs.Counts.{Rose}
@@ -30,3 +33,7 @@ pub record Prints {K : Type 0} (answer : Printed) (told : K → Option (List ℕ
   pub leaves : PrintLeaves answer (told old) (told new) text
   pub cause : PrintCause answer (faults old) (faults new)
   pub calm : (n : ℕ) → sure old (length text + n) → (answer ≢ printed.Write) × (faults new ≡ faults old) × OnDone answer (sure new n)
+
+-- the text of a line of the machine
+abbrev pub line_text : Line → List ℕ
+line_text l = shown_text (shown_of l)

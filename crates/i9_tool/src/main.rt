@@ -1,7 +1,11 @@
-//! The simulator's command.
+//! The command `i960`: a simulator of the core of the i960CA.
 #![tactic(auto)]
 
 pub mod outside;
 mod print;
+mod run;
+mod status;
+mod text;
+mod words;
 
 fn main() {}

@@ -1,8 +1,11 @@
-//! Printing of pieces of text.
+//! Printing of lines.
 ghost use Rattle.std.specs.Prelude.{flat_map};
-ghost use Rattle.i9_tool.specs.Print.{Prints};
+ghost use Rattle.i9_tool.specs.Print.{Prints, line_text};
 
 use crate::outside::{Sink, Wrote};
+use crate::text::lines_of;
+use i9_machine::Line;
+use std::alloc::Global;
 
 /// How printing ended.
 #[derive(Clone, Copy, Debug, PartialEq, Eq)]
@@ -32,6 +35,32 @@ pub fn print_pieces<K: Sink>(pieces: &[Vec<u8>], out: &mut K) -> Printed
 {
     for piece in pieces {
         match print_piece(piece, out) {
+            Printed::Done => {}
+            Printed::Write => return Printed::Write,
+            Printed::Memory => return Printed::Memory,
+        }
+    }
+    Printed::Done
+}
+
+#[tactic(auto, using(crate::proofs::Prints::prints_rules))]
+/// Writes the lines of l, each by one call of the sink.
+pub(crate) fn print_line<K: Sink>(alloc: Global, l: &Line, out: &mut K) -> Printed
+    ensures { Prints result K.told K.faults K.sure out.old out.new (line_text l.now) }
+{
+    match lines_of(alloc, l) {
+        Ok(lines) => print_pieces(&lines, out),
+        Err(_) => Printed::Memory,
+    }
+}
+
+#[tactic(auto, using(crate::proofs::Prints::prints_rules))]
+/// Writes lines in order.
+pub(crate) fn print_lines<K: Sink>(alloc: Global, lines: &[Line], out: &mut K) -> Printed
+    ensures { Prints result K.told K.faults K.sure out.old out.new (flat_map line_text lines.now) }
+{
+    for line in lines {
+        match print_line(alloc, line, out) {
             Printed::Done => {}
             Printed::Write => return Printed::Write,
             Printed::Memory => return Printed::Memory,

@@ -1,8 +1,9 @@
 //! The text of lines.
-ghost use Rattle.std.specs.Prelude.{◌≡◌, ◌++◌, ◌∷◌, [], ◌<◌, ◌^◌, IfOk, OnOk, codes, map};
+ghost use Rattle.std.specs.Prelude.{◌≡◌, ◌++◌, ◌∷◌, [], ◌<◌, ◌^◌, IfOk, OnOk, codes};
+ghost use Rattle.std.specs.Fmt.{decimal};
 ghost use Rattle.std.specs.List.{flat_map};
 ghost use Rattle.i9_model.specs.CommandLine.{refused_line};
-ghost use Rattle.i9_model.specs.PrintedText.{word_text, byte_text, out_text, point_text, drained_text, words_text, spaced, finish_text, shown_text, line_feed};
+ghost use Rattle.i9_model.specs.PrintedText.{word_text, byte_text, out_text, point_text, drained_text, words_text, spaced, finish_text, point_shown, shown_text, line_feed};
 ghost use Rattle.i9_machine.specs.Line.{finish_of, drained_of, shown_of};
 ghost use Rattle.i9_hex.specs.Reading.{place_of};
 
@@ -49,23 +50,6 @@ fn name_of(kind: Point) -> &'static [u8]
     }
 }
 
-/// The first line of a drained point.
-#[tactic(auto, unfolding(i9_model::specs::PrintedText::point_text))]
-fn point_line(alloc: Global, kind: Point, view: &View) -> Result<Vec<u8>, AllocError>
-    ensures { IfOk result (λ t. t.items ≡ point_text (drained_of kind) view.now) }
-{
-    let mut text = Vec::from_slice(alloc, b"#point ")?;
-    add_count(alloc, &mut text, view.count)?;
-    text.push(b' ')?;
-    text.extend_from_slice(name_of(kind))?;
-    for word in [view.ip, view.ac, view.pc] {
-        text.push(b' ')?;
-        add_word(alloc, &mut text, word)?;
-    }
-    text.push(b'\n')?;
-    Ok(text)
-}
-
 /// A label and words, each after a space.
 #[tactic(auto, unfolding(i9_model::specs::PrintedText::words_text))]
 fn words_line(alloc: Global, label: &[u8], words: &[u32]) -> Result<Vec<u8>, AllocError>
@@ -80,31 +64,33 @@ fn words_line(alloc: Global, label: &[u8], words: &[u32]) -> Result<Vec<u8>, All
     Ok(text)
 }
 
+/// The first line of a drained point.
+#[tactic(auto, unfolding(i9_model::specs::PrintedText::point_text))]
+fn point_line(alloc: Global, kind: Point, view: &View) -> Result<Vec<u8>, AllocError>
+    ensures { IfOk result (λ t. t.items ≡ point_text (drained_of kind) view.now) }
+{
+    let mut label = Vec::from_slice(alloc, b"#point ")?;
+    add_count(alloc, &mut label, view.count)?;
+    label.push(b' ')?;
+    label.extend_from_slice(name_of(kind))?;
+    words_line(alloc, &label, &[view.ip, view.ac, view.pc])
+}
+
 /// The line of the end of a run.
 #[tactic(auto, unfolding(i9_model::specs::PrintedText::finish_text))]
 fn end_line(alloc: Global, end: End) -> Result<Vec<u8>, AllocError>
     ensures { IfOk result (λ t. t.items ≡ finish_text (finish_of end)) }
 {
     match end {
-        End::Exit(word) => word_line(alloc, b"#end exit ", word),
+        End::Exit(word) => words_line(alloc, b"#end exit", &[word]),
         End::Limit => Vec::from_slice(alloc, b"#end limit\n"),
-        End::Unbuilt(address) => word_line(alloc, b"#end unbuilt ", address),
+        End::Unbuilt(address) => words_line(alloc, b"#end unbuilt", &[address]),
     }
-}
-
-/// A line of some bytes and a word.
-fn word_line(alloc: Global, front: &[u8], word: u32) -> Result<Vec<u8>, AllocError>
-    ensures { IfOk result (λ t. t.items ≡ front.now ++ word_text word ++ line_feed) }
-{
-    let mut text = Vec::from_slice(alloc, front)?;
-    add_word(alloc, &mut text, word)?;
-    text.push(b'\n')?;
-    Ok(text)
 }
 
 /// The three lines of a drained point.
 fn point_lines(alloc: Global, kind: Point, view: &View) -> Result<Vec<Vec<u8>>, AllocError>
-    ensures { IfOk result (λ ts. flat_map (λ t. t.items) ts.items ≡ shown_text (PointShown (drained_of kind) view.now)) }
+    ensures { IfOk result (λ ts. flat_map (λ t. t.items) ts.items ≡ point_shown (drained_of kind) view.now) }
 {
     let (locals, globals) = view.regs.split_at(16);
     let mut lines = Vec::new(alloc);

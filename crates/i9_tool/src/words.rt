@@ -4,7 +4,7 @@ ghost use Rattle.std.specs.Option.{option_map};
 ghost use Rattle.std.specs.String.{string_bytes};
 ghost use Rattle.i9_model.specs.declared.layout.TheConstants.{MAX_LENGTH};
 ghost use Rattle.i9_model.specs.CommandLine.{command_of};
-ghost use Rattle.i9_tool.specs.Words.{asked_by};
+ghost use Rattle.i9_tool.specs.Words.{asked_by, IsShort};
 
 use i9_model::layout::MAX_LENGTH;
 use i9_text::number;
@@ -18,7 +18,7 @@ pub(crate) enum Command<'a> {
 
 /// What the words ask for, where they are in a form of the command.
 #[tactic(auto, unfolding(i9_model::specs::CommandLine::command_of))]
-pub(crate) fn command(words: &[String]) -> Option<Command<'_>>
+pub(crate) fn asked(words: &[String]) -> Option<Command<'_>>
     ensures asked { option_map asked_by result ≡ command_of (map string_bytes words.now) }
     ensures short { IfSome result IsShort }
 {

@@ -1,0 +1,123 @@
+-- What is printed while an image runs is the text of its run, or a front of it.
+use Rattle.std.proofs.Common.{◌≡◌, ◌≢◌, ℕ, List, [], ◌∷◌, ◌++◌, map, flat_map, Option, Some, None, refl, sym, ap, ◌∙◌, append_assoc, subst}
+use Rattle.std.proofs.lemmas.List.{append-nil}
+use Rattle.i9_model.specs.Run.{Record, Finish, IsPast, IsRun, state_after}
+use Rattle.i9_model.specs.PrintedText.{Shown, shown_text, text_of, lines_by, lines_of, end_lines, run_text}
+use Rattle.i9_model.proofs.Lines.{text_of-append, text_goes_on}
+use Rattle.i9_machine.specs.declared.line.End.{End}
+use Rattle.i9_machine.specs.declared.line.Issued.{Issued}
+use Rattle.i9_machine.specs.declared.line.Line.{Line}
+use Rattle.i9_machine.specs.declared.line.Turn.{Turn}
+use Rattle.i9_machine.specs.declared.line.Turn.TheVariants as turns
+use Rattle.i9_machine.specs.declared.machine.Machine.{Machine}
+use Rattle.i9_machine.specs.Line.{finish_of, shown_of}
+use Rattle.i9_machine.specs.StandsFor.{Advances, StandsFor}
+use Rattle.i9_tool.specs.declared.print.Printed.{Printed}
+use Rattle.i9_tool.specs.declared.print.Printed.TheVariants.{Done, Write, Memory}
+use Rattle.i9_tool.specs.declared.run.Ran.TheVariants as ran
+use Rattle.i9_tool.specs.Print.{Prints, line_text}
+use Rattle.i9_tool.specs.Run.{Runs}
+use Rattle.i9_tool.proofs.Prints.{prints_then, prints_stop, prints_cut, prints_same, prints_refused}
+
+-- the text of lines is that of what they show
+lines-text : (ls : List Line) → flat_map line_text ls ≡ text_of (map shown_of ls)
+lines-text [] = refl
+lines-text (l ∷ ls) = ap (λ (t : List ℕ). line_text l ++ t) (lines-text ls)
+
+module _ (image : List (ℕ × ℕ)) (limit : ℕ) where
+  -- the run goes on after these records with these lines
+  pub record Ahead (rs : List Record) (shown : List Shown) : Type 0 where
+    pub records : List Record
+    pub end : Finish
+    pub run : IsRun image limit records end
+    pub rest : List ℕ
+    pub text : (text_of (lines_of image rs) ++ text_of shown) ++ rest ≡ run_text image records end
+
+  ahead_of : (rs qs : List Record) (shown : List Shown) → IsPast image limit qs → lines_of image qs ≡ lines_of image rs ++ shown → Ahead rs shown
+  ahead_of rs qs shown past e =
+      let g = text_goes_on image limit qs past in
+      record {
+        records = g.0 ++ qs;
+        end = g.1;
+        run = g.3;
+        rest = g.2;
+        text = ap (λ (t : List ℕ). t ++ g.2) (sym (text_of-append (lines_of image rs) shown) ∙ ap text_of (sym e)) ∙ g.4;
+      }
+
+  pub ahead : (rs : List Record) (turn : Turn) (m : Machine) (ls : List Line) → IsPast image limit rs → Advances image limit rs turn m [] ls → Ahead rs (map shown_of ls)
+  ahead rs turns.On m ls past a = absurd a
+  ahead rs (turns.Issued t) m ls past a = ahead_of rs (a.done ∷ rs) (map shown_of ls) a.stands.past (ap (λ (x : List Shown). lines_of image rs ++ x) (sym a.lines))
+  ahead rs (turns.End e) m ls past a = record {
+    records = rs;
+    end = finish_of e;
+    run = record { past = past; ends = a.is_end };
+    rest = [];
+    text = append-nil (text_of (lines_of image rs) ++ text_of (map shown_of ls)) ∙ sym (text_of-append (lines_of image rs) (map shown_of ls)) ∙ ap (λ (x : List Shown). text_of (lines_of image rs ++ x)) a.lines;
+  }
+  ahead rs turns.Memory m ls past a = ahead_of rs rs (map shown_of ls) past (sym (append-nil (lines_of image rs)) ∙ ap (λ (x : List Shown). lines_of image rs ++ x) (sym (ap (map shown_of) a.lines)))
+
+  module _ {K : Type 0} (told : K → Option (List ℕ)) (faults : K → ℕ) (sure : K → ℕ → Type 0) where
+    abbrev Printing : Printed → K → K → List ℕ → Type 0
+    Printing answer a b text = Prints answer told faults sure a b text
+
+    both : (answer : Printed) (a b c : K) (rs : List Record) (ls : List Line) → Printing Done a b (text_of (lines_of image rs)) → Printing answer b c (flat_map line_text ls)
+        → Printing answer a c (text_of (lines_of image rs) ++ text_of (map shown_of ls))
+    both answer a b c rs ls p q = prints_then told faults sure answer a b c _ _ p (prints_same told faults sure answer b c _ _ (lines-text ls) q)
+
+    -- a write of the lines of a step failed
+    pub ran_write : (a b c : K) (rs : List Record) (ls : List Line) → Ahead rs (map shown_of ls) → Printing Done a b (text_of (lines_of image rs)) → Printing Write b c (flat_map line_text ls)
+        → Runs ran.Write image limit told faults sure a c
+    ran_write a b c rs ls h p q = record {
+      records = h.records;
+      end = h.end;
+      run = h.run;
+      prints = prints_same told faults sure Write a c _ _ h.text (prints_stop told faults sure Write a c _ h.rest (λ e. cc) (both Write a b c rs ls p q));
+      tells = tt;
+    }
+
+    -- memory was refused for the lines of a step
+    pub ran_memory : (a b c : K) (rs : List Record) (ls : List Line) → Ahead rs (map shown_of ls) → Printing Done a b (text_of (lines_of image rs)) → Printing Memory b c (flat_map line_text ls)
+        → Runs ran.Memory image limit told faults sure a c
+    ran_memory a b c rs ls h p q = record {
+      records = h.records;
+      end = h.end;
+      run = h.run;
+      prints = prints_same told faults sure Memory a c _ _ h.text (prints_stop told faults sure Memory a c _ h.rest (λ e. cc) (both Memory a b c rs ls p q));
+      tells = tt;
+    }
+
+    -- memory was refused for a step
+    pub ran_refused : (a b c : K) (rs : List Record) (ls : List Line) → Ahead rs (map shown_of ls) → Printing Done a b (text_of (lines_of image rs)) → Printing Done b c (flat_map line_text ls)
+        → Runs ran.Memory image limit told faults sure a c
+    ran_refused a b c rs ls h p q = record {
+      records = h.records;
+      end = h.end;
+      run = h.run;
+      prints = prints_same told faults sure Memory a c _ _ h.text (prints_cut told faults sure a c _ h.rest (both Done a b c rs ls p q));
+      tells = tt;
+    }
+
+    -- the end was reached
+    pub ran_done : (a b c : K) (rs : List Record) (ls : List Line) (e : End) (m : Machine) → IsPast image limit rs → Advances image limit rs (turns.End e) m [] ls
+        → Printing Done a b (text_of (lines_of image rs)) → Printing Done b c (flat_map line_text ls) → Runs (ran.Done e) image limit told faults sure a c
+    ran_done a b c rs ls e m past d p q = record {
+      records = rs;
+      end = finish_of e;
+      run = record { past = past; ends = d.is_end };
+      prints = prints_same told faults sure Done a c _ _
+          (sym (text_of-append (lines_of image rs) (map shown_of ls)) ∙ ap (λ (x : List Shown). text_of (lines_of image rs ++ x)) d.lines) (both Done a b c rs ls p q);
+      tells = refl;
+    }
+
+    -- one more record was printed
+    pub one_more : (a b c : K) (rs : List Record) (ls : List Line) (t : Issued) (m : Machine) → (d : Advances image limit rs (turns.Issued t) m [] ls)
+        → Printing Done a b (text_of (lines_of image rs)) → Printing Done b c (flat_map line_text ls) → Printing Done a c (text_of (lines_of image (d.done ∷ rs)))
+    one_more a b c rs ls t m d p q =
+        prints_same told faults sure Done a c _ _
+        (sym (text_of-append (lines_of image rs) (map shown_of ls)) ∙ ap (λ (x : List Shown). text_of (lines_of image rs ++ x)) d.lines) (both Done a b c rs ls p q)
+
+    -- memory was refused before the first step
+    pub nothing_yet : (a : K) → Runs ran.Memory image limit told faults sure a a
+    nothing_yet a =
+        let g = text_goes_on image limit [] tt in
+        record { records = g.0 ++ []; end = g.1; run = g.3; prints = prints_refused told faults sure a _; tells = tt }
