@@ -1,3 +1,4 @@
 pub mod PartLemmas
 pub mod OneLine
 pub mod WholeText
+pub mod OneAnswer

@@ -38,11 +38,11 @@ pairs_err (Ok t) f e = absurd cc
 pairs_err (Err g) f e = let same : g ≡ f = cc in ap Err same
 
 -- the end record was read exactly where nothing is missing
-is_ended : (s : HexState) (b : Bool) → s.ended ≡ b → missing_end s ≡ None → s.ended ≡ true
+pub is_ended : (s : HexState) (b : Bool) → s.ended ≡ b → missing_end s ≡ None → s.ended ≡ true
 is_ended s true is fine = is
 is_ended s false is fine = absurd (cc (rw is at fine))
 
-has_end : (s : HexState) → s.ended ≡ true → missing_end s ≡ None
+pub has_end : (s : HexState) → s.ended ≡ true → missing_end s ≡ None
 has_end s ended = rw ended refl
 
 -- ---- the clauses of the reader

@@ -2,12 +2,14 @@
 #![tactic(auto)]
 
 mod error;
+mod laws;
 mod reader;
 mod reading;
 mod record;
 mod segments;
 
 pub use error::{HexError, HexFault};
+pub use laws::one_answer;
 pub use reading::read;
 pub use segments::{Segment, Segments};
 

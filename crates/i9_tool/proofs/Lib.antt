@@ -3,3 +3,5 @@ pub mod Prints
 pub mod Reading
 pub mod Writing
 pub mod Running
+pub mod Answering
+pub mod Outcomes

@@ -8,3 +8,4 @@ pub mod RealFiles
 pub mod RealSink
 pub mod Words
 pub mod Run
+pub mod Outcome

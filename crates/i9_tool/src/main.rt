@@ -6,6 +6,7 @@ mod print;
 mod run;
 mod status;
 mod text;
+mod top;
 mod words;
 
 fn main() {}

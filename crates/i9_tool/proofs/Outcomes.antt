@@ -1,0 +1,93 @@
+-- What the command answers for a file, and for the words.
+use Rattle.std.proofs.Common.{◌≡◌, ◌≢◌, ℕ, ◌<◌, ◌≤◌, ◌⊎◌, inl, inr, List, [], ◌∷◌, ◌++◌, length, Option, Some, None, refl, sym, ap, ◌∙◌, subst, arith}
+use Rattle.i9_text.specs.Text.{lines_of}
+use Rattle.i9_model.specs.HexText.{IsImage, IsRefused}
+use Rattle.i9_model.specs.Run.{Finish, Exit, Limit, Unbuilt, IsRun}
+use Rattle.i9_model.specs.PrintedText.{run_text, finish_code}
+use Rattle.i9_model.specs.CommandLine.{Run, read_line, long_line, refused_line}
+use Rattle.i9_model.proofs.Ends.{run_goes_on}
+use Rattle.i9_hex.proofs.OneAnswer.{some_answer}
+use Rattle.i9_tool.specs.declared.outside.traits.TheConstants.{FILE_LIMIT}
+use Rattle.i9_tool.specs.declared.print.Printed.{Printed}
+use Rattle.i9_tool.specs.declared.print.Printed.TheVariants.{Done, Write, Memory}
+use Rattle.i9_tool.specs.declared.run.Ran.{Ran}
+use Rattle.i9_tool.specs.Outside.{IsFile}
+use Rattle.i9_tool.specs.Print.{Prints}
+use Rattle.i9_tool.specs.Run.{Runs, printed_of}
+use Rattle.i9_tool.specs.Outcome.{FileGives, too_long, refused, runs, Gives, in_no_form, unread, fetched, Answers, code_for}
+use Rattle.i9_tool.proofs.Prints.{prints_same, prints_refused}
+use Rattle.i9_tool.proofs.Answering.{answers_printed, answers_wider}
+
+abbrev IsKnown : ℕ → Type 0
+IsKnown code = (code < 3) ⊎ ((4 ≤ code) × (code < 6))
+
+known_finish : (f : Finish) → IsKnown (finish_code f)
+known_finish (Exit w) = inl (omega arith)
+known_finish Limit = inl (omega arith)
+known_finish (Unbuilt a) = inr (omega arith, omega arith)
+
+-- some status and text for a file
+abbrev SomeFor : List ℕ → ℕ → Type 0
+SomeFor file limit = (code : ℕ) × (text : List ℕ) × IsKnown code × FileGives file limit code text
+
+some_short : (file : List ℕ) (limit : ℕ) → length file ≤ FILE_LIMIT → SomeFor file limit
+some_short file limit short =
+    elim (some_answer file) [
+      | inl image ↦
+          let g = run_goes_on image.0 limit [] tt in
+          (finish_code g.1, run_text image.0 (g.0 ++ []) g.1, known_finish g.1, runs image.0 (g.0 ++ []) g.1 short image.1 g.2)
+      | inr bad ↦ (2, refused_line bad.0, inl (omega arith), refused bad.0 short bad.1)
+    ]
+
+some_text : (file : List ℕ) (limit : ℕ) → SomeFor file limit
+some_text file limit =
+    elim (sized (length file)) [
+      | inl short ↦ some_short file limit short
+      | inr long ↦ (2, long_line, inl (omega arith), too_long long)
+    ]
+  where
+    sized : (n : ℕ) → (n ≤ FILE_LIMIT) ⊎ (FILE_LIMIT < n)
+    sized n = grind arith
+
+module _ {K : Type 0} (told : K → Option (List ℕ)) (faults : K → ℕ) (sure : K → ℕ → Type 0) where
+  -- the image of a file ran
+  pub file_runs : (file : List ℕ) (limit : ℕ) (pairs : List (ℕ × ℕ)) (ran : Ran) (code : ℕ) (a b : K) → length file ≤ FILE_LIMIT → IsImage (lines_of file) pairs
+      → (r : Runs ran pairs limit told faults sure a b) → code ≡ code_for (printed_of ran) (finish_code r.end) → Answers (FileGives file limit) code told faults sure a b
+  file_runs file limit pairs ran code a b short image r e =
+      subst (λ (n : ℕ). Answers (FileGives file limit) n told faults sure a b) (sym e)
+      (answers_printed told faults sure (FileGives file limit) (printed_of ran) (finish_code r.end) (run_text pairs r.records r.end) a b (known_finish r.end) (runs pairs r.records r.end short image r.run) r.prints)
+
+  -- it was said why a file is refused
+  pub file_refused : (file : List ℕ) (limit : ℕ) (fault : ℕ × ℕ) (line : List ℕ) (p : Printed) (code : ℕ) (a b : K) → length file ≤ FILE_LIMIT → IsRefused (lines_of file) fault → line ≡ refused_line fault
+      → Prints p told faults sure a b line → code ≡ code_for p 2 → Answers (FileGives file limit) code told faults sure a b
+  file_refused file limit fault line p code a b short bad same printed e =
+      subst (λ (n : ℕ). Answers (FileGives file limit) n told faults sure a b) (sym e)
+      (answers_printed told faults sure (FileGives file limit) p 2 (refused_line fault) a b (inl (omega arith)) (refused fault short bad) (prints_same told faults sure p a b line (refused_line fault) same printed))
+
+  -- memory was refused before anything was printed
+  pub file_unread : (file : List ℕ) (limit : ℕ) (a : K) → Answers (FileGives file limit) 7 told faults sure a a
+  file_unread file limit a =
+      let s = some_text file limit in
+      answers_printed told faults sure (FileGives file limit) Memory s.0 s.1 a a s.2 s.3 (prints_refused told faults sure a s.1)
+
+  module _ (files : List ℕ → Option (List ℕ)) (rose : List ℕ → Type 0) (image : List ℕ) (limit : ℕ) where
+    -- what is answered for the file that was fetched
+    pub image_fetched : (file bytes : List ℕ) (code : ℕ) (a b : K) → IsFile (files image) file → bytes ≡ file → Answers (FileGives bytes limit) code told faults sure a b
+        → Answers (Gives files rose (Some (Run image limit))) code told faults sure a b
+    image_fetched file bytes code a b is_file same h =
+        let found : IsFile (files image) bytes = subst (IsFile (files image)) (sym same) is_file in
+        answers_wider told faults sure (FileGives bytes limit) (Gives files rose (Some (Run image limit))) code a b (λ c t g. fetched image limit bytes c t found g) h
+
+    pub image_unread : (p : Printed) (code : ℕ) (a b : K) → rose image → Prints p told faults sure a b read_line → code ≡ code_for p 5 → Answers (Gives files rose (Some (Run image limit))) code told faults sure a b
+    image_unread p code a b rises printed e =
+        subst (λ (n : ℕ). Answers (Gives files rose (Some (Run image limit))) n told faults sure a b) (sym e)
+        (answers_printed told faults sure (Gives files rose (Some (Run image limit))) p 5 read_line a b (inr (omega arith, omega arith)) (unread image limit rises) printed)
+
+    pub image_too_long : (file : List ℕ) (p : Printed) (code : ℕ) (a b : K) → IsFile (files image) file → FILE_LIMIT < length file → Prints p told faults sure a b long_line → code ≡ code_for p 2
+        → Answers (Gives files rose (Some (Run image limit))) code told faults sure a b
+    image_too_long file p code a b is_file long printed e =
+        subst (λ (n : ℕ). Answers (Gives files rose (Some (Run image limit))) n told faults sure a b) (sym e)
+        (answers_printed told faults sure (Gives files rose (Some (Run image limit))) p 2 long_line a b (inl (omega arith)) (fetched image limit file 2 long_line is_file (too_long long)) printed)
+
+    pub image_refused : (file : List ℕ) (a : K) → IsFile (files image) file → Answers (Gives files rose (Some (Run image limit))) 7 told faults sure a a
+    image_refused file a is_file = image_fetched file file 7 a a is_file refl (file_unread file limit a)

@@ -1,0 +1,161 @@
+//! The command as one call.
+ghost use Rattle.std.specs.Prelude.{◌≡◌, ◌≢◌, ◌≤◌, ◌<◌, ◌⊎◌, map, List, ℕ, length, None, Some};
+ghost use Rattle.std.specs.String.{string_bytes};
+ghost use Rattle.std.specs.Io.KnownBytes.{Appends};
+ghost use Rattle.i9_model.specs.declared.layout.TheConstants.{MAX_LENGTH};
+ghost use Rattle.i9_model.specs.CommandLine.{command_of, Run, read_line};
+ghost use Rattle.i9_model.specs.Run.{Finish};
+ghost use Rattle.i9_model.specs.PrintedText.{finish_code};
+ghost use Rattle.i9_tool.specs.declared.outside.traits.TheConstants.{FILE_LIMIT};
+ghost use Rattle.i9_tool.specs.Counts.{Rose};
+ghost use Rattle.i9_tool.specs.Run.{TellsEnd, printed_of};
+ghost use Rattle.i9_tool.specs.Outcome.{FileGives, Gives, GivesWhole, GivesFront, Answers, FileRose, FilesSure, code_for};
+
+use crate::outside::{FILE_LIMIT, Fetch, Files, Sink};
+use crate::print::{Printed, print_piece};
+use crate::run::{Ran, run};
+use crate::status::Status;
+use crate::text::refused_line;
+use crate::words::{Command, asked};
+use i9_hex::HexError;
+use i9_machine::End;
+use std::alloc::Global;
+
+/// The status for a text that was printed so.
+fn status_for(printed: Printed, code: u8) -> Status
+    ensures { result.code ≡ code_for printed code }
+{
+    match printed {
+        Printed::Done => Status { code },
+        Printed::Write => Status { code: 6 },
+        Printed::Memory => Status { code: 7 },
+    }
+}
+
+/// The status for a run that went so.
+fn status_of_run(ran: Ran) -> Status
+    ensures { (f : Finish) → TellsEnd ran f → result.code ≡ code_for (printed_of ran) (finish_code f) }
+{
+    match ran {
+        Ran::Done(End::Exit(_)) => Status { code: 0 },
+        Ran::Done(End::Limit) => Status { code: 0 },
+        Ran::Done(End::Unbuilt(_)) => Status { code: 4 },
+        Ran::Write => Status { code: 6 },
+        Ran::Memory => Status { code: 7 },
+    }
+}
+
+/// Runs the image of a file that was fetched, or says why it is refused.
+fn run_file<K: Sink>(alloc: Global, file: &[u8], limit: u64, out: &mut K) -> Status
+    requires short { limit ≤ MAX_LENGTH }
+    requires sized { length file.now ≤ FILE_LIMIT }
+    ensures { Answers (FileGives file.now limit) result.code K.told K.faults K.sure out.old out.new }
+{
+    match i9_hex::read(alloc, file) {
+        Ok(image) => status_of_run(run(alloc, &image, limit, out)),
+        Err(HexError::Bad(fault)) => match refused_line(alloc, &fault) {
+            Ok(line) => status_for(print_piece(&line, out), 2),
+            Err(_) => Status { code: 7 },
+        },
+        Err(HexError::Memory) => Status { code: 7 },
+    }
+}
+
+/// Fetches an image and runs it.
+fn run_image<F: Files, K: Sink>(
+    alloc: Global,
+    image: &str,
+    limit: u64,
+    files: &mut F,
+    out: &mut K,
+) -> Status
+    requires { limit ≤ MAX_LENGTH }
+    ensures answers { Answers (Gives (F.told files.old) (λ n. Rose (F.faults files.old n) (F.faults files.new n)) (Some (Run image.now limit)))
+        result.code K.told K.faults K.sure out.old out.new }
+    ensures read { result.code ≡ 5 → Rose (F.faults files.old image.now) (F.faults files.new image.now) }
+    ensures calm { F.sure files.old image.now → (result.code ≢ 5) × ((n : List ℕ) → F.faults files.new n ≡ F.faults files.old n) }
+{
+    let mut file = Vec::new(alloc);
+    match files.fetch(alloc, image, &mut file) {
+        Fetch::Ok => run_file(alloc, &file, limit, out),
+        Fetch::Failed => status_for(print_piece(b"#read\n", out), 5),
+        Fetch::TooLong(_) => status_for(print_piece(b"#image too long\n", out), 2),
+        Fetch::Memory => Status { code: 7 },
+    }
+}
+
+/// Does what the words ask for, but for the clause of completeness.
+fn work<F: Files, K: Sink>(alloc: Global, words: &Vec<String>, files: &mut F, out: &mut K) -> Status
+    // Answered are 0 to 2 and 4 to 7.
+    ensures known { (result.code < 3) ⊎ ((4 ≤ result.code) × (result.code < 8)) }
+
+    // A status below 6 has its whole text, and both are those that the words and files give.
+    ensures whole { result.code < 6 → GivesWhole (Gives (F.told files.old) (λ n. Rose (F.faults files.old n) (F.faults files.new n)) (command_of (map string_bytes words.now.items)))
+        result.code (K.told out.old) (K.told out.new) }
+
+    // Where a write failed or memory was refused, a front of such a text was printed.
+    ensures front { 6 ≤ result.code → GivesFront (Gives (F.told files.old) (λ n. Rose (F.faults files.old n) (F.faults files.new n)) (command_of (map string_bytes words.now.items)))
+        (K.told out.old) (K.told out.new) }
+
+    // A file is fetched only where the words name it, and 5 is answered only where its count rose.
+    ensures unfetched { command_of (map string_bytes words.now.items) ≡ None → files.new ≡ files.old }
+    ensures read { result.code ≡ 5 → FileRose (λ n. Rose (F.faults files.old n) (F.faults files.new n)) (command_of (map string_bytes words.now.items)) }
+
+    // A write failed only where the sink's count rose.
+    ensures write { result.code ≡ 6 → Rose (K.faults out.old) (K.faults out.new) }
+
+    // Where no fetch and no write can fail, none does.
+    ensures calm_files { FilesSure (F.sure files.old) (command_of (map string_bytes words.now.items))
+        → (result.code ≢ 5) × ((n : List ℕ) → F.faults files.new n ≡ F.faults files.old n) }
+    ensures calm_sink { ((code : ℕ) (text : List ℕ)
+            → Gives (F.told files.old) (λ n. Rose (F.faults files.old n) (F.faults files.new n)) (command_of (map string_bytes words.now.items)) code text
+            → K.sure out.old (length text))
+        → (result.code ≢ 6) × (K.faults out.new ≡ K.faults out.old) }
+{
+    match asked(words) {
+        Some(Command::Run { image, limit }) => run_image(alloc, image, limit, files, out),
+        None => status_for(print_piece(b"#words\n", out), 1),
+    }
+}
+
+/// Does what the words ask for, and answers a status.
+pub fn i960<F: Files, K: Sink>(
+    alloc: Global,
+    words: &Vec<String>,
+    files: &mut F,
+    out: &mut K,
+) -> Status
+    // Answered are 0 to 2 and 4 to 7.
+    ensures known { (result.code < 3) ⊎ ((4 ≤ result.code) × (result.code < 8)) }
+
+    // A status below 6 has its whole text, and both are those that the words and files give.
+    ensures whole { result.code < 6 → GivesWhole (Gives (F.told files.old) (λ n. Rose (F.faults files.old n) (F.faults files.new n)) (command_of (map string_bytes words.now.items)))
+        result.code (K.told out.old) (K.told out.new) }
+
+    // Where a write failed or memory was refused, a front of such a text was printed.
+    ensures front { 6 ≤ result.code → GivesFront (Gives (F.told files.old) (λ n. Rose (F.faults files.old n) (F.faults files.new n)) (command_of (map string_bytes words.now.items)))
+        (K.told out.old) (K.told out.new) }
+
+    // A file is fetched only where the words name it, and 5 is answered only where its count rose.
+    ensures unfetched { command_of (map string_bytes words.now.items) ≡ None → files.new ≡ files.old }
+    ensures read { result.code ≡ 5 → FileRose (λ n. Rose (F.faults files.old n) (F.faults files.new n)) (command_of (map string_bytes words.now.items)) }
+
+    // A write failed only where the sink's count rose.
+    ensures write { result.code ≡ 6 → Rose (K.faults out.old) (K.faults out.new) }
+
+    // Where no fetch and no write can fail, none does.
+    ensures calm_files { FilesSure (F.sure files.old) (command_of (map string_bytes words.now.items))
+        → (result.code ≢ 5) × ((n : List ℕ) → F.faults files.new n ≡ F.faults files.old n) }
+    ensures calm_sink { ((code : ℕ) (text : List ℕ)
+            → Gives (F.told files.old) (λ n. Rose (F.faults files.old n) (F.faults files.new n)) (command_of (map string_bytes words.now.items)) code text
+            → K.sure out.old (length text))
+        → (result.code ≢ 6) × (K.faults out.new ≡ K.faults out.old) }
+
+    // Completeness: where no such count rose, the answer is whole, or memory was refused.
+    ensures complete { (FileRose (λ n. Rose (F.faults files.old n) (F.faults files.new n)) (command_of (map string_bytes words.now.items)) → ⊥)
+        → (Rose (K.faults out.old) (K.faults out.new) → ⊥)
+        → (result.code ≡ 7) ⊎ ((result.code < 5) × GivesWhole (Gives (F.told files.old) (λ n. Rose (F.faults files.old n) (F.faults files.new n)) (command_of (map string_bytes words.now.items)))
+            result.code (K.told out.old) (K.told out.new)) }
+{
+    work(alloc, words, files, out)
+}
