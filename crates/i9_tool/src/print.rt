@@ -1,5 +1,5 @@
 //! Printing of pieces of text.
-ghost use Rattle.std.specs.Prelude.{flat_map};
+ghost use Rattle.std.specs.Prelude.{◌≢◌, flat_map};
 ghost use Rattle.i9_tool.specs.Print.{Prints};
 
 use crate::outside::{Sink, Wrote};
@@ -17,7 +17,8 @@ pub enum Printed {
 
 /// Writes a piece by one call of the sink.
 pub fn print_piece<K: Sink>(piece: &[u8], out: &mut K) -> Printed
-    ensures { Prints result K.told K.faults K.sure out.old out.new piece.now }
+    ensures prints { Prints result K.told K.faults K.sure out.old out.new piece.now }
+    ensures takes_no_memory { result ≢ Printed.Memory }
 {
     match out.write(piece) {
         Wrote::Ok => Printed::Done,
@@ -25,10 +26,12 @@ pub fn print_piece<K: Sink>(piece: &[u8], out: &mut K) -> Printed
     }
 }
 
-#[tactic(auto, using(crate::proofs::Prints::prints_rules))]
 /// Writes pieces in order, each by one call of the sink.
+#[tactic(auto, using(crate::proofs::Prints::prints_rules))]
 pub fn print_pieces<K: Sink>(pieces: &[Vec<u8>], out: &mut K) -> Printed
-    ensures { Prints result K.told K.faults K.sure out.old out.new (flat_map (λ p. p.items) pieces.now) }
+    ensures prints { Prints result K.told K.faults K.sure out.old out.new
+        (flat_map (λ p. p.items) pieces.now) }
+    ensures takes_no_memory { result ≢ Printed.Memory }
 {
     for piece in pieces {
         match print_piece(piece, out) {
