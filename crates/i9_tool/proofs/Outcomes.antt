@@ -4,7 +4,7 @@ use Rattle.i9_text.specs.Text.{lines_of}
 use Rattle.i9_model.specs.HexText.{IsImage, IsRefused}
 use Rattle.i9_model.specs.Run.{Finish, Exit, Limit, Unbuilt, IsRun}
 use Rattle.i9_model.specs.PrintedText.{run_text, finish_code}
-use Rattle.i9_model.specs.CommandLine.{Run, read_line, long_line, refused_line}
+use Rattle.i9_model.specs.CommandLine.{Command, Run, words_line, read_line, long_line, refused_line}
 use Rattle.i9_model.proofs.Ends.{run_goes_on}
 use Rattle.i9_hex.proofs.OneAnswer.{some_answer}
 use Rattle.i9_tool.specs.declared.outside.traits.TheConstants.{FILE_LIMIT}
@@ -70,24 +70,34 @@ module _ {K : Type 0} (told : K → Option (List ℕ)) (faults : K → ℕ) (sur
       let s = some_text file limit in
       answers_printed told faults sure (FileGives file limit) Memory s.0 s.1 a a s.2 s.3 (prints_refused told faults sure a s.1)
 
-  module _ (files : List ℕ → Option (List ℕ)) (rose : List ℕ → Type 0) (image : List ℕ) (limit : ℕ) where
+  module _ (files : List ℕ → Option (List ℕ)) (rose : List ℕ → Type 0) where
     -- what is answered for the file that was fetched
-    pub image_fetched : (file bytes : List ℕ) (code : ℕ) (a b : K) → IsFile (files image) file → bytes ≡ file → Answers (FileGives bytes limit) code told faults sure a b
+    pub image_fetched : (image : List ℕ) (limit : ℕ) (file bytes : List ℕ) (code : ℕ) (a b : K) → IsFile (files image) file → bytes ≡ file → Answers (FileGives bytes limit) code told faults sure a b
         → Answers (Gives files rose (Some (Run image limit))) code told faults sure a b
-    image_fetched file bytes code a b is_file same h =
+    image_fetched image limit file bytes code a b is_file same h =
         let found : IsFile (files image) bytes = subst (IsFile (files image)) (sym same) is_file in
         answers_wider told faults sure (FileGives bytes limit) (Gives files rose (Some (Run image limit))) code a b (λ c t g. fetched image limit bytes c t found g) h
 
-    pub image_unread : (p : Printed) (code : ℕ) (a b : K) → rose image → Prints p told faults sure a b read_line → code ≡ code_for p 5 → Answers (Gives files rose (Some (Run image limit))) code told faults sure a b
-    image_unread p code a b rises printed e =
+    pub image_unread : (image : List ℕ) (limit : ℕ) (p : Printed) (code : ℕ) (a b : K) → rose image → Prints p told faults sure a b read_line → code ≡ code_for p 5 → Answers (Gives files rose (Some (Run image limit))) code told faults sure a b
+    image_unread image limit p code a b rises printed e =
         subst (λ (n : ℕ). Answers (Gives files rose (Some (Run image limit))) n told faults sure a b) (sym e)
         (answers_printed told faults sure (Gives files rose (Some (Run image limit))) p 5 read_line a b (inr (omega arith, omega arith)) (unread image limit rises) printed)
 
-    pub image_too_long : (file : List ℕ) (p : Printed) (code : ℕ) (a b : K) → IsFile (files image) file → FILE_LIMIT < length file → Prints p told faults sure a b long_line → code ≡ code_for p 2
+    pub image_too_long : (image : List ℕ) (limit : ℕ) (file : List ℕ) (p : Printed) (code : ℕ) (a b : K) → IsFile (files image) file → FILE_LIMIT < length file → Prints p told faults sure a b long_line → code ≡ code_for p 2
         → Answers (Gives files rose (Some (Run image limit))) code told faults sure a b
-    image_too_long file p code a b is_file long printed e =
+    image_too_long image limit file p code a b is_file long printed e =
         subst (λ (n : ℕ). Answers (Gives files rose (Some (Run image limit))) n told faults sure a b) (sym e)
         (answers_printed told faults sure (Gives files rose (Some (Run image limit))) p 2 long_line a b (inl (omega arith)) (fetched image limit file 2 long_line is_file (too_long long)) printed)
 
-    pub image_refused : (file : List ℕ) (a : K) → IsFile (files image) file → Answers (Gives files rose (Some (Run image limit))) 7 told faults sure a a
-    image_refused file a is_file = image_fetched file file 7 a a is_file refl (file_unread file limit a)
+    pub image_refused : (image : List ℕ) (limit : ℕ) (file : List ℕ) (a : K) → IsFile (files image) file → Answers (Gives files rose (Some (Run image limit))) 7 told faults sure a a
+    image_refused image limit file a is_file = image_fetched image limit file file 7 a a is_file refl (file_unread file limit a)
+
+    -- what the words ask for, spelled in another way
+    pub answers_for : (asked same : Option Command) (code : ℕ) (a b : K) → asked ≡ same → Answers (Gives files rose asked) code told faults sure a b → Answers (Gives files rose same) code told faults sure a b
+    answers_for asked same code a b e h = subst (λ (o : Option Command). Answers (Gives files rose o) code told faults sure a b) e h
+
+    -- the words are in no form
+    pub words_refused : (p : Printed) (code : ℕ) (a b : K) → Prints p told faults sure a b words_line → code ≡ code_for p 1 → Answers (Gives files rose None) code told faults sure a b
+    words_refused p code a b printed e =
+        subst (λ (n : ℕ). Answers (Gives files rose None) n told faults sure a b) (sym e)
+        (answers_printed told faults sure (Gives files rose None) p 1 words_line a b (inl (omega arith)) in_no_form printed)

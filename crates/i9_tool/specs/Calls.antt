@@ -4,12 +4,13 @@ use Rattle.std.specs.List.{list_any}
 use Rattle.i9_tool.specs.declared.outside.calls.Calls.{Calls}
 use Rattle.i9_tool.specs.Counts.{one_more}
 
--- the numbers of the calls set to fail, how many calls were made, and how many faults were met
+-- the numbers of the calls set to fail, how many calls were made, and how many of them failed
 pub record Plan : Type 0 where
   pub failing : List ℕ
   pub made : ℕ
   pub faults : ℕ
 
+-- what is planned and counted
 abbrev pub plan_of : Calls → Plan
 plan_of c = record { failing = c.failing.items; made = c.made; faults = c.faults }
 
@@ -17,7 +18,7 @@ plan_of c = record { failing = c.failing.items; made = c.made; faults = c.faults
 abbrev pub no_calls : Plan
 no_calls = record { failing = []; made = 0; faults = 0 }
 
--- the number of the next call
+-- the number of the next call, which stays at 2 ^ 64 - 1 once it is there
 abbrev pub next_call : Plan → ℕ
 next_call p = one_more p.made
 
@@ -37,7 +38,7 @@ with_failing p call = record p { failing = p.failing ++ call ∷ [] }
 abbrev pub with_call : Plan → Plan
 with_call p = record p { made = next_call p }
 
--- one fault more was met
+-- one call more failed
 abbrev pub with_fault : Plan → Plan
 with_fault p = record p { faults = one_more p.faults }
 

@@ -12,6 +12,7 @@ held_file m name = option_map (λ v. v.items) (get_by_text m.files name)
 abbrev pub calls_of : MemFiles → Plan
 calls_of m = plan_of m.calls
 
+-- how many of them failed
 abbrev pub fault_count : MemFiles → ℕ
 fault_count m = (calls_of m).faults
 

@@ -15,6 +15,7 @@ room_left s = s.left
 abbrev pub calls_of : MemSink → Plan
 calls_of s = plan_of s.calls
 
+-- how many of them failed
 abbrev pub fault_count : MemSink → ℕ
 fault_count s = (calls_of s).faults
 

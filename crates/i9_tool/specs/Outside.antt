@@ -34,7 +34,7 @@ abbrev pub IsFile : Option (List ℕ) → List ℕ → Type 0
 IsFile None file = Unit {0}
 IsFile (Some told) file = file ≡ told
 
--- some file was fetched, and it is the one that is told
+-- some file was fetched; where one is told, it is that one
 pub record Fetches (answer : Fetch) (told : Option (List ℕ)) (old new : List ℕ) : Type 0 where
   pub file : List ℕ
   pub is_file : IsFile told file

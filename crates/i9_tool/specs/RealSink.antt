@@ -5,3 +5,7 @@ use Rattle.i9_tool.specs.declared.outside.real.RealSink.{RealSink}
 -- how many faults were met
 abbrev pub fault_count : {W : Type 0} → RealSink W → ℕ
 fault_count s = s.faults
+
+-- the writer that it writes to
+abbrev pub writer_of : {W : Type 0} → RealSink W → W
+writer_of s = s.out

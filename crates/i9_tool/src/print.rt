@@ -1,5 +1,5 @@
 //! Printing of lines.
-ghost use Rattle.std.specs.Prelude.{flat_map};
+ghost use Rattle.std.specs.Prelude.{◌≢◌, flat_map};
 ghost use Rattle.i9_tool.specs.Print.{Prints, line_text};
 
 use crate::outside::{Sink, Wrote};
@@ -9,7 +9,7 @@ use std::alloc::Global;
 
 /// How printing ended.
 #[derive(Clone, Copy, Debug, PartialEq, Eq)]
-pub enum Printed {
+pub(crate) enum Printed {
     /// The whole text was written.
     Done,
     /// A write failed; a front of the text was written, perhaps nothing.
@@ -19,8 +19,9 @@ pub enum Printed {
 }
 
 /// Writes a piece by one call of the sink.
-pub fn print_piece<K: Sink>(piece: &[u8], out: &mut K) -> Printed
-    ensures { Prints result K.told K.faults K.sure out.old out.new piece.now }
+pub(crate) fn print_piece<K: Sink>(piece: &[u8], out: &mut K) -> Printed
+    ensures prints { Prints result K.told K.faults K.sure out.old out.new piece.now }
+    ensures takes_no_memory { result ≢ Printed.Memory }
 {
     match out.write(piece) {
         Wrote::Ok => Printed::Done,
@@ -28,10 +29,12 @@ pub fn print_piece<K: Sink>(piece: &[u8], out: &mut K) -> Printed
     }
 }
 
-#[tactic(auto, using(crate::proofs::Prints::prints_rules))]
 /// Writes pieces in order, each by one call of the sink.
-pub fn print_pieces<K: Sink>(pieces: &[Vec<u8>], out: &mut K) -> Printed
-    ensures { Prints result K.told K.faults K.sure out.old out.new (flat_map (λ p. p.items) pieces.now) }
+#[tactic(auto, using(crate::proofs::Prints::prints_rules))]
+pub(crate) fn print_pieces<K: Sink>(pieces: &[Vec<u8>], out: &mut K) -> Printed
+    ensures prints { Prints result K.told K.faults K.sure out.old out.new
+        (flat_map (λ p. p.items) pieces.now) }
+    ensures takes_no_memory { result ≢ Printed.Memory }
 {
     for piece in pieces {
         match print_piece(piece, out) {
@@ -43,8 +46,8 @@ pub fn print_pieces<K: Sink>(pieces: &[Vec<u8>], out: &mut K) -> Printed
     Printed::Done
 }
 
-#[tactic(auto, using(crate::proofs::Prints::prints_rules))]
 /// Writes the lines of l, each by one call of the sink.
+#[tactic(auto, using(crate::proofs::Prints::prints_rules))]
 pub(crate) fn print_line<K: Sink>(alloc: Global, l: &Line, out: &mut K) -> Printed
     ensures { Prints result K.told K.faults K.sure out.old out.new (line_text l.now) }
 {
@@ -54,8 +57,8 @@ pub(crate) fn print_line<K: Sink>(alloc: Global, l: &Line, out: &mut K) -> Print
     }
 }
 
-#[tactic(auto, using(crate::proofs::Prints::prints_rules))]
 /// Writes lines in order.
+#[tactic(auto, using(crate::proofs::Prints::prints_rules))]
 pub(crate) fn print_lines<K: Sink>(alloc: Global, lines: &[Line], out: &mut K) -> Printed
     ensures { Prints result K.told K.faults K.sure out.old out.new (flat_map line_text lines.now) }
 {

@@ -16,7 +16,7 @@ use crate::print::{Printed, print_piece};
 use crate::run::{Ran, run};
 use crate::status::Status;
 use crate::text::refused_line;
-use crate::words::{Command, asked};
+use crate::words::asked;
 use i9_hex::HexError;
 use i9_machine::End;
 use std::alloc::Global;
@@ -113,7 +113,7 @@ fn work<F: Files, K: Sink>(alloc: Global, words: &Vec<String>, files: &mut F, ou
         → (result.code ≢ 6) × (K.faults out.new ≡ K.faults out.old) }
 {
     match asked(words) {
-        Some(Command::Run { image, limit }) => run_image(alloc, image, limit, files, out),
+        Some(asked) => run_image(alloc, asked.image, asked.limit, files, out),
         None => status_for(print_piece(b"#words\n", out), 1),
     }
 }

@@ -4,23 +4,23 @@ ghost use Rattle.std.specs.Option.{option_map};
 ghost use Rattle.std.specs.String.{string_bytes};
 ghost use Rattle.i9_model.specs.declared.layout.TheConstants.{MAX_LENGTH};
 ghost use Rattle.i9_model.specs.CommandLine.{command_of};
-ghost use Rattle.i9_tool.specs.Words.{asked_by, IsShort};
+ghost use Rattle.i9_tool.specs.Words.{asked_by};
 
 use i9_model::layout::MAX_LENGTH;
 use i9_text::number;
 
-/// What the words ask for.
+/// What `run` asks for: to run the image of this name for at most so many instructions.
 #[derive(Clone, Copy, Debug)]
-pub(crate) enum Command<'a> {
-    /// To run the image of this name for at most so many instructions.
-    Run { image: &'a str, limit: u64 },
+pub(crate) struct RunWords<'a> {
+    pub(crate) image: &'a str,
+    pub(crate) limit: u64,
 }
 
 /// What the words ask for, where they are in a form of the command.
 #[tactic(auto, unfolding(i9_model::specs::CommandLine::command_of))]
-pub(crate) fn asked(words: &[String]) -> Option<Command<'_>>
+pub(crate) fn asked(words: &[String]) -> Option<RunWords<'_>>
     ensures asked { option_map asked_by result ≡ command_of (map string_bytes words.now) }
-    ensures short { IfSome result IsShort }
+    ensures short { IfSome result (λ run. run.limit ≤ MAX_LENGTH) }
 {
     let [name, image, schedule, sets, limit] = words else {
         return None;
@@ -36,5 +36,5 @@ pub(crate) fn asked(words: &[String]) -> Option<Command<'_>>
         return None;
     }
     let image = image.as_str();
-    Some(Command::Run { image, limit })
+    Some(RunWords { image, limit })
 }

@@ -32,10 +32,12 @@ impl MemFiles {
         }
     }
 
-    /// Holds these bytes under that name, in place of those that it held there.
+    /// Holds these bytes under that name, in place of those that it held there. Other names keep
+    /// theirs. `Err` changes nothing.
     pub fn add(&mut self, name: &str, bytes: &[u8]) -> Result<(), NoMemory>
         ensures ok { OnOk result (held_file self.new name.now ≡ Some bytes.now) }
-        ensures others { OnOk result ((n : List ℕ) → n ≢ name.now → held_file self.new n ≡ held_file self.old n) }
+        ensures others { OnOk result ((n : List ℕ) → n ≢ name.now
+            → held_file self.new n ≡ held_file self.old n) }
         ensures err { OnErr result (SameFiles self.old self.new) }
         ensures calls { calls_of self.new ≡ calls_of self.old }
     {
@@ -53,7 +55,7 @@ impl MemFiles {
         }
     }
 
-    /// Sets the fetch of that number to fail.
+    /// Sets the fetch of that number to fail, the first being 1. `Err` changes nothing.
     pub fn fail_at(&mut self, call: u64) -> Result<(), NoMemory>
         ensures files { SameFiles self.old self.new }
         ensures ok { OnOk result (calls_of self.new ≡ with_failing (calls_of self.old) call) }
@@ -133,7 +135,7 @@ impl MemSink {
         }
     }
 
-    /// Sets the write of that number to fail.
+    /// Sets the write of that number to fail, the first being 1. `Err` changes nothing.
     pub fn fail_at(&mut self, call: u64) -> Result<(), NoMemory>
         ensures bytes { written_bytes self.new ≡ written_bytes self.old }
         ensures room { room_left self.new ≡ room_left self.old }
@@ -143,7 +145,7 @@ impl MemSink {
         self.calls.fail_at(call)
     }
 
-    /// Makes room for exactly n more bytes.
+    /// Makes room for exactly n more bytes, whatever was left. `Err` changes nothing.
     pub fn room(&mut self, n: u64) -> Result<(), NoMemory>
         ensures bytes { written_bytes self.new ≡ written_bytes self.old }
         ensures ok { OnOk result (room_left self.new ≡ n) }
@@ -181,7 +183,8 @@ impl Sink for MemSink {
     /// then writes nothing.
     fn write(&mut self, piece: &[u8]) -> Wrote
         ensures later { fault_count self.old ≤ fault_count self.new }
-        ensures bytes { Writes result piece.now (Some (written_bytes self.old)) (Some (written_bytes self.new)) }
+        ensures bytes { Writes result piece.now
+            (Some (written_bytes self.old)) (Some (written_bytes self.new)) }
         ensures cause { WriteCause result (fault_count self.old) (fault_count self.new) }
         ensures calm { (n : ℕ) → IsSureOf self.old (length piece.now + n)
             → (result ≡ Wrote.Ok) × (fault_count self.new ≡ fault_count self.old) × IsSureOf self.new n }

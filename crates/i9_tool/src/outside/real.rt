@@ -7,6 +7,9 @@ use std::alloc::Global;
 use std::io::{Read, Write};
 use std::{fs, rt};
 
+/// How many bytes are asked of a file at a time.
+const CHUNK: usize = 4096;
+
 /// The files of the runtime. Their bytes aren't told, and all names share one count of faults.
 #[derive(Drop)]
 pub struct RealFiles<'a, R> {
@@ -17,7 +20,7 @@ pub struct RealFiles<'a, R> {
 impl<'a, R: rt::Files> RealFiles<'a, R> {
     ghost use Rattle.i9_tool.specs.RealFiles.{fault_count};
 
-    /// No fault was met.
+    /// The files that this runtime opens; no fault was met.
     pub fn new(rt: &'a R) -> RealFiles<'a, R>
         ensures { fault_count result ≡ 0 }
     {
@@ -54,15 +57,15 @@ impl<'a, R: rt::Files> Files for RealFiles<'a, R> {
     }
 }
 
-#[tactic(auto, using(crate::proofs::Reading::reading_rules))]
 /// Appends what a reader has left, as a file is fetched.
+#[tactic(auto, using(crate::proofs::Reading::reading_rules))]
 fn read_all<F: Read>(file: &mut F, into: &mut Vec<u8>) -> Fetch
     ensures { Fetches result (F.remaining file.old) into.old.items into.new.items }
 {
     let mut taken = 0u64;
-    let mut buffer = [0u8; 4096];
+    let mut buffer = [0u8; CHUNK];
     while taken <= FILE_LIMIT {
-        let size = (FILE_LIMIT + 1 - taken).min(4096) as usize;
+        let size = (FILE_LIMIT + 1 - taken).min(CHUNK as u64) as usize;
         match file.read(&mut buffer[..size]) {
             Err(_) => return Fetch::Failed,
             Ok(0) => return Fetch::Ok,
@@ -77,7 +80,7 @@ fn read_all<F: Read>(file: &mut F, into: &mut Vec<u8>) -> Fetch
     Fetch::TooLong(taken)
 }
 
-/// A sink over a writer. What was written isn't told.
+/// A sink over a writer. It tells the bytes that the writer tells; those of the system tell none.
 #[derive(Drop)]
 pub struct RealSink<W> {
     out: W,
@@ -85,20 +88,21 @@ pub struct RealSink<W> {
 }
 
 impl<W: Write + Drop> RealSink<W> {
-    ghost use Rattle.i9_tool.specs.RealSink.{fault_count};
+    ghost use Rattle.i9_tool.specs.RealSink.{fault_count, writer_of};
 
-    /// No fault was met.
+    /// A sink that writes to `out`; no fault was met.
     pub fn new(out: W) -> RealSink<W>
-        ensures { fault_count result ≡ 0 }
+        ensures writer { writer_of result ≡ out }
+        ensures faults { fault_count result ≡ 0 }
     {
         RealSink { out, faults: 0 }
     }
 }
 
 impl<W: Write + Drop> Sink for RealSink<W> {
-    ghost use Rattle.i9_tool.specs.RealSink.{fault_count};
+    ghost use Rattle.i9_tool.specs.RealSink.{fault_count, writer_of};
 
-    ghost told = { λ s. None };
+    ghost told = { λ s. W.contents (writer_of s) };
 
     ghost faults = { fault_count };
 
@@ -113,8 +117,8 @@ impl<W: Write + Drop> Sink for RealSink<W> {
     }
 }
 
-#[tactic(auto, using(crate::proofs::Writing::writing_rules))]
 /// Writes the whole piece, by as many writes as it takes.
+#[tactic(auto, using(crate::proofs::Writing::writing_rules))]
 fn write_all<W: Write>(out: &mut W, piece: &[u8]) -> Wrote
     ensures { Writes result piece.now (W.contents out.old) (W.contents out.new) }
 {

@@ -14,7 +14,7 @@ pub enum Fetch {
     Ok,
     /// The file could not be opened, or a read failed.
     Failed,
-    /// The file has more than `FILE_LIMIT` bytes; so many were taken.
+    /// The file has more than `FILE_LIMIT` bytes. The number says how many were taken.
     TooLong(u64),
     /// Memory was refused.
     Memory,
@@ -34,14 +34,15 @@ pub trait Files {
     /// The bytes of the file of a name, where they are told.
     ghost told: { Self → List ℕ → Option (List ℕ) };
 
-    /// How many faults were met at a name.
+    /// How many faults were met at a name; this never falls.
     ghost faults: { Self → List ℕ → ℕ };
 
     /// From now on no fetch of a name can fail.
     ghost sure: { Self → List ℕ → Type 0 };
 
     /// Appends the bytes of the file of that name to `into`. After another answer than `Ok`,
-    /// `into` has what it had and a front of the file, perhaps nothing.
+    /// `into` has what it had and a front of the file, perhaps nothing. A longer file than
+    /// `FILE_LIMIT` is answered `TooLong`, unless a read failed or memory was refused first.
     fn fetch(&mut self, alloc: Global, name: &str, into: &mut Vec<u8>) -> Fetch
         ensures same { (n : List ℕ) → told self.new n ≡ told self.old n }
         ensures later { (n : List ℕ) → faults self.old n ≤ faults self.new n }
@@ -57,13 +58,13 @@ pub trait Sink {
     /// The bytes written, where they are told.
     ghost told: { Self → Option (List ℕ) };
 
-    /// How many faults were met.
+    /// How many faults were met; this never falls.
     ghost faults: { Self → ℕ };
 
     /// Writes of so many bytes in all can't fail.
     ghost sure: { Self → ℕ → Type 0 };
 
-    /// Writes the piece after what was written before.
+    /// Writes the piece after what was written before. `Failed` may leave a front of it there.
     fn write(&mut self, piece: &[u8]) -> Wrote
         ensures later { faults self.old ≤ faults self.new }
         ensures bytes { Writes result piece.now (told self.old) (told self.new) }

@@ -1,4 +1,5 @@
 use Rattle.std.proofs.Common.{◌+◌, ◌-◌}
+use Rattle.i9_tool.specs.declared.outside.traits.TheConstants.{FILE_LIMIT}
 use Rattle.i9_tool.proofs.Reading.{HasRead}
 use Rattle.i9_tool.proofs.outside.real.read_all.Given as goal
 
@@ -6,4 +7,4 @@ abbrev pub invariant-loop-taken : goal.invariant-loop-taken
 invariant-loop-taken g l = HasRead (g.F.Read.remaining l.fn.file) (g.F.Read.remaining l.file) l.fn.into.items l.into.items l.taken
 
 abbrev pub decreases-loop-taken : goal.decreases-loop-taken
-decreases-loop-taken g l = 16777216 + 1 - l.taken
+decreases-loop-taken g l = FILE_LIMIT + 1 - l.taken
