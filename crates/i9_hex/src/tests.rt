@@ -105,32 +105,41 @@ fn refuses_the_first_fault(rt: HostRuntime) -> Result<(), Fail> {
     Ok(())
 }
 
-/// Appends a record whose data are this many zero bytes.
-fn push_zeros(
-    text: &mut Vec<u8>,
-    front: &[u8],
-    count: usize,
-    check: &[u8],
-) -> Result<(), AllocError> {
-    text.extend_from_slice(front)?;
+/// A line whose record has this many zero bytes of data.
+fn zeros(alloc: Global, front: &[u8], count: usize, check: &[u8]) -> Result<Vec<u8>, AllocError> {
+    let mut line = Vec::from_slice(alloc, front)?;
     for _ in 0..count {
-        text.extend_from_slice(b"00")?;
+        line.extend_from_slice(b"00")?;
     }
-    text.extend_from_slice(check)
+    line.extend_from_slice(check)?;
+    Ok(line)
 }
 
-// The limit of 4,194,304 bytes is 16,448 records of 255 bytes and one of 64, on line 16,449.
-#[test]
-fn limits_the_data(rt: HostRuntime) -> Result<(), Fail> {
-    let mut text = Vec::new(rt.alloc());
+/// The text of 16,448 records of 255 bytes, a last record and the end. The limit of 4,194,304
+/// bytes is 16,448 * 255 + 64.
+fn large_text(alloc: Global, last: &[u8]) -> Result<Vec<u8>, AllocError> {
+    let record = zeros(alloc, b":FF000000", 255, b"01\n")?;
+    let mut text = Vec::new(alloc);
     for _ in 0..16_448 {
-        push_zeros(&mut text, b":FF000000", 255, b"01\n")?;
+        text.extend_from_slice(&record)?;
     }
-    let length = text.len();
-    push_zeros(&mut text, b":40000000", 64, b"C0\n:00000001FF\n")?;
+    text.extend_from_slice(last)?;
+    text.extend_from_slice(b":00000001FF\n")?;
+    Ok(text)
+}
+
+#[test]
+fn reads_the_largest_image(rt: HostRuntime) -> Result<(), Fail> {
+    let last = zeros(rt.alloc(), b":40000000", 64, b"C0\n")?;
+    let text = large_text(rt.alloc(), &last)?;
     assert!(rt; read(rt.alloc(), &text).is_ok());
-    text.truncate(length);
-    push_zeros(&mut text, b":41000000", 65, b"BF\n:00000001FF\n")?;
+    Ok(())
+}
+
+#[test]
+fn refuses_one_byte_more(rt: HostRuntime) -> Result<(), Fail> {
+    let last = zeros(rt.alloc(), b":41000000", 65, b"BF\n")?;
+    let text = large_text(rt.alloc(), &last)?;
     assert_eq!(rt; refusal(rt.alloc(), &text), Some((16_449, 8)));
     Ok(())
 }
