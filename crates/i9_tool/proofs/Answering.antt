@@ -1,11 +1,9 @@
 -- A status is answered for what was printed.
-use Rattle.std.proofs.Common.{◌≡◌, ◌≢◌, ℕ, ◌<◌, ◌≤◌, ◌⊎◌, inl, inr, List, length, ◌+◌, Option, refl, sym, ap, ◌∙◌, subst, add-zero, arith}
-use Rattle.std.proofs.lemmas.List.{append-nil}
+use Rattle.std.proofs.Common.{ℕ, ◌<◌, ◌≤◌, ◌⊎◌, inl, inr, List, length, ◌+◌, Option, refl, sym, subst, add-zero, arith}
 use Rattle.i9_tool.specs.declared.print.Printed.{Printed}
 use Rattle.i9_tool.specs.declared.print.Printed.TheVariants.{Done, Write, Memory}
-use Rattle.i9_tool.specs.Counts.{Rose}
 use Rattle.i9_tool.specs.Print.{Prints}
-use Rattle.i9_tool.specs.Outcome.{GivesWhole, GivesFront, Answers, code_for}
+use Rattle.i9_tool.specs.Outcome.{Answers, code_for}
 
 module _ {K : Type 0} (told : K → Option (List ℕ)) (faults : K → ℕ) (sure : K → ℕ → Type 0) where
   -- a sink that is sure of a text is sure of it and nothing more

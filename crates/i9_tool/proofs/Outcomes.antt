@@ -1,15 +1,15 @@
 -- What the command answers for a file, and for the words.
-use Rattle.std.proofs.Common.{◌≡◌, ◌≢◌, ℕ, ◌<◌, ◌≤◌, ◌⊎◌, inl, inr, List, [], ◌∷◌, ◌++◌, length, Option, Some, None, refl, sym, ap, ◌∙◌, subst, arith}
+use Rattle.std.proofs.Common.{◌≡◌, ℕ, ◌<◌, ◌≤◌, ◌⊎◌, inl, inr, List, [], ◌++◌, length, Option, Some, None, refl, sym, subst, arith}
 use Rattle.i9_text.specs.Text.{lines_of}
 use Rattle.i9_model.specs.HexText.{IsImage, IsRefused}
-use Rattle.i9_model.specs.Run.{Finish, Exit, Limit, Unbuilt, IsRun}
+use Rattle.i9_model.specs.Run.{Finish, Exit, Limit, Unbuilt}
 use Rattle.i9_model.specs.PrintedText.{run_text, finish_code}
 use Rattle.i9_model.specs.CommandLine.{Command, Run, words_line, read_line, long_line, refused_line}
 use Rattle.i9_model.proofs.Ends.{run_goes_on}
 use Rattle.i9_hex.proofs.OneAnswer.{some_answer}
 use Rattle.i9_tool.specs.declared.outside.traits.TheConstants.{FILE_LIMIT}
 use Rattle.i9_tool.specs.declared.print.Printed.{Printed}
-use Rattle.i9_tool.specs.declared.print.Printed.TheVariants.{Done, Write, Memory}
+use Rattle.i9_tool.specs.declared.print.Printed.TheVariants.{Memory}
 use Rattle.i9_tool.specs.declared.run.Ran.{Ran}
 use Rattle.i9_tool.specs.Outside.{IsFile}
 use Rattle.i9_tool.specs.Print.{Prints}

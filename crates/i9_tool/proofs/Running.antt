@@ -1,8 +1,8 @@
 -- What is printed while an image runs is the text of its run, or a front of it.
-use Rattle.std.proofs.Common.{◌≡◌, ◌≢◌, ℕ, List, [], ◌∷◌, ◌++◌, map, flat_map, Option, Some, None, refl, sym, ap, ◌∙◌, append_assoc, subst}
+use Rattle.std.proofs.Common.{◌≡◌, ℕ, List, [], ◌∷◌, ◌++◌, map, flat_map, Option, refl, sym, ap, ◌∙◌}
 use Rattle.std.proofs.lemmas.List.{append-nil}
-use Rattle.i9_model.specs.Run.{Record, Finish, IsPast, IsRun, state_after}
-use Rattle.i9_model.specs.PrintedText.{Shown, shown_text, text_of, lines_by, lines_of, end_lines, run_text}
+use Rattle.i9_model.specs.Run.{Record, Finish, IsPast, IsRun}
+use Rattle.i9_model.specs.PrintedText.{Shown, text_of, lines_of, run_text}
 use Rattle.i9_model.proofs.Lines.{text_of-append, text_goes_on}
 use Rattle.i9_machine.specs.declared.line.End.{End}
 use Rattle.i9_machine.specs.declared.line.Issued.{Issued}
@@ -11,7 +11,7 @@ use Rattle.i9_machine.specs.declared.line.Turn.{Turn}
 use Rattle.i9_machine.specs.declared.line.Turn.TheVariants as turns
 use Rattle.i9_machine.specs.declared.machine.Machine.{Machine}
 use Rattle.i9_machine.specs.Line.{finish_of, shown_of}
-use Rattle.i9_machine.specs.StandsFor.{Advances, StandsFor}
+use Rattle.i9_machine.specs.StandsFor.{Advances}
 use Rattle.i9_tool.specs.declared.print.Printed.{Printed}
 use Rattle.i9_tool.specs.declared.print.Printed.TheVariants.{Done, Write, Memory}
 use Rattle.i9_tool.specs.declared.run.Ran.TheVariants as ran

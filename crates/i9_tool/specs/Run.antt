@@ -2,7 +2,6 @@
 use Rattle.std.specs.Prelude.{◌≡◌, ℕ, List, Option}
 use Rattle.i9_model.specs.Run.{Record, Finish, IsRun}
 use Rattle.i9_model.specs.PrintedText.{run_text}
-use Rattle.i9_machine.specs.declared.line.End.{End}
 use Rattle.i9_machine.specs.Line.{finish_of}
 use Rattle.i9_tool.specs.declared.print.Printed.{Printed}
 use Rattle.i9_tool.specs.declared.print.Printed.TheVariants as printed

@@ -108,8 +108,8 @@ fn work<F: Files, K: Sink>(alloc: Global, words: &Vec<String>, files: &mut F, ou
     ensures calm_files { FilesSure (F.sure files.old) (command_of (map string_bytes words.now.items))
         → (result.code ≢ 5) × ((n : List ℕ) → F.faults files.new n ≡ F.faults files.old n) }
     ensures calm_sink { ((code : ℕ) (text : List ℕ)
-            → Gives (F.told files.old) (λ n. Rose (F.faults files.old n) (F.faults files.new n)) (command_of (map string_bytes words.now.items)) code text
-            → K.sure out.old (length text))
+        → Gives (F.told files.old) (λ n. Rose (F.faults files.old n) (F.faults files.new n)) (command_of (map string_bytes words.now.items)) code text
+        → K.sure out.old (length text))
         → (result.code ≢ 6) × (K.faults out.new ≡ K.faults out.old) }
 {
     match asked(words) {
@@ -147,15 +147,15 @@ pub fn i960<F: Files, K: Sink>(
     ensures calm_files { FilesSure (F.sure files.old) (command_of (map string_bytes words.now.items))
         → (result.code ≢ 5) × ((n : List ℕ) → F.faults files.new n ≡ F.faults files.old n) }
     ensures calm_sink { ((code : ℕ) (text : List ℕ)
-            → Gives (F.told files.old) (λ n. Rose (F.faults files.old n) (F.faults files.new n)) (command_of (map string_bytes words.now.items)) code text
-            → K.sure out.old (length text))
+        → Gives (F.told files.old) (λ n. Rose (F.faults files.old n) (F.faults files.new n)) (command_of (map string_bytes words.now.items)) code text
+        → K.sure out.old (length text))
         → (result.code ≢ 6) × (K.faults out.new ≡ K.faults out.old) }
 
     // Completeness: where no such count rose, the answer is whole, or memory was refused.
     ensures complete { (FileRose (λ n. Rose (F.faults files.old n) (F.faults files.new n)) (command_of (map string_bytes words.now.items)) → ⊥)
         → (Rose (K.faults out.old) (K.faults out.new) → ⊥)
         → (result.code ≡ 7) ⊎ ((result.code < 5) × GivesWhole (Gives (F.told files.old) (λ n. Rose (F.faults files.old n) (F.faults files.new n)) (command_of (map string_bytes words.now.items)))
-            result.code (K.told out.old) (K.told out.new)) }
+        result.code (K.told out.old) (K.told out.new)) }
 {
     work(alloc, words, files, out)
 }

@@ -1,4 +1,4 @@
-use Rattle.std.proofs.Common.{List, [], ◌∷◌, ◌++◌}
+use Rattle.std.proofs.Common.{◌∷◌}
 use Rattle.i9_model.specs.Image.{pairs_of}
 use Rattle.i9_machine.specs.declared.line.Turn.TheVariants as turns
 use Rattle.i9_tool.proofs.Running.{ahead, nothing_yet, ran_write, ran_memory, ran_refused, ran_done, one_more}

@@ -1,4 +1,4 @@
-use Rattle.std.proofs.Common.{◌≡◌, ℕ, List, None}
+use Rattle.std.proofs.Common.{List, None}
 use Rattle.i9_model.specs.Image.{pairs_of}
 use Rattle.i9_model.specs.Run.{Record}
 use Rattle.i9_model.specs.PrintedText.{text_of, lines_of}

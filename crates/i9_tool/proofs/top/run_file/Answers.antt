@@ -1,5 +1,4 @@
-use Rattle.std.proofs.Common.{◌≡◌, ◌∙◌, sym}
-use Rattle.i9_model.specs.Image.{pairs_of}
+use Rattle.std.proofs.Common.{◌∙◌}
 use Rattle.i9_tool.proofs.Outcomes.{file_runs, file_refused, file_unread}
 use Rattle.i9_tool.proofs.top.run_file.Goals as goal
 

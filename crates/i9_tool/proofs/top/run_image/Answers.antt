@@ -1,4 +1,4 @@
-use Rattle.std.proofs.Common.{◌≡◌, ◌∙◌, sym}
+use Rattle.std.proofs.Common.{◌∙◌}
 use Rattle.i9_tool.proofs.Outcomes.{image_fetched, image_unread, image_too_long, image_refused}
 use Rattle.i9_tool.proofs.top.run_image.Goals as goal
 

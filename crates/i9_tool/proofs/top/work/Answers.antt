@@ -1,4 +1,4 @@
-use Rattle.std.proofs.Common.{◌≡◌, ◌∙◌, ap, map}
+use Rattle.std.proofs.Common.{◌∙◌, ap, map}
 use Rattle.std.specs.String.{string_bytes}
 use Rattle.i9_model.specs.CommandLine.{command_of}
 use Rattle.i9_tool.proofs.Outcomes.{answers_for, words_refused}
