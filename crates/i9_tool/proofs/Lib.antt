@@ -5,3 +5,4 @@ pub mod Writing
 pub mod Running
 pub mod Answering
 pub mod Outcomes
+pub mod OneOutcome

@@ -39,7 +39,7 @@ some_short file limit short =
       | inr bad ↦ (2, refused_line bad.0, inl (omega arith), refused bad.0 short bad.1)
     ]
 
-some_text : (file : List ℕ) (limit : ℕ) → SomeFor file limit
+pub some_text : (file : List ℕ) (limit : ℕ) → SomeFor file limit
 some_text file limit =
     elim (sized (length file)) [
       | inl short ↦ some_short file limit short

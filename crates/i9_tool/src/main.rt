@@ -1,6 +1,7 @@
 //! The command `i960`: a simulator of the core of the i960CA.
 #![tactic(auto)]
 
+pub mod laws;
 pub mod outside;
 mod print;
 mod run;

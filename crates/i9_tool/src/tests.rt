@@ -133,7 +133,7 @@ fn is_too_long(alloc: Global, size: usize) -> Result<bool, Fail> {
     sink.room(64)?;
     let words = words_of(alloc, "run a - - 10")?;
     let status = i960(alloc, &words, &mut files, &mut sink);
-    Ok(status.code == 2 && sink.bytes() == b"#image too long\n")
+    Ok(status.code == 2 && sink.bytes() == b"#image too long\n".as_slice())
 }
 
 #[test]

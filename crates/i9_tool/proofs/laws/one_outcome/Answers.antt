@@ -1,0 +1,12 @@
+use Rattle.i9_tool.proofs.Outcomes.{some_text}
+use Rattle.i9_tool.proofs.OneOutcome.{one_outcome}
+use Rattle.i9_tool.proofs.laws.one_outcome.Goals as goal
+
+pub returns-clause-some : goal.returns-clause-some
+returns-clause-some c = λ file limit. let s = some_text file limit in (s.0, s.1, s.3)
+
+pub returns-clause-status : goal.returns-clause-status
+returns-clause-status c = λ file limit c d s t g h. (one_outcome file limit c d s t g h).status
+
+pub returns-clause-text : goal.returns-clause-text
+returns-clause-text c = λ file limit c d s t g h. (one_outcome file limit c d s t g h).text
