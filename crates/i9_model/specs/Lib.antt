@@ -3,6 +3,8 @@ pub mod Image
 pub mod HexText
 pub mod Memory
 pub mod State
+pub mod Frames
+pub mod Hazards
 pub mod Words
 pub mod Operands
 pub mod Step

@@ -1,9 +1,9 @@
 -- Memory: a byte for each address below 2^32, and the memory configuration word of each of its sixteen regions.
-use Rattle.std.specs.Prelude.{ℕ, ◌+◌, Bool, not, nat_le, nat_lt, ◌&&◌, List, [], ◌∷◌, filter, Option, Some}
+use Rattle.std.specs.Prelude.{ℕ, ◌+◌, ◌/◌, ◌%◌, ◌^◌, Bool, not, ◌==◌, ◌&&◌, nat_le, nat_lt, if◌then◌else◌, List, [], ◌∷◌, filter, Option, Some}
 use Rattle.std.specs.Option.{option_and_then}
-use Rattle.std.specs.Int.{w32, from_le_bytes}
+use Rattle.std.specs.Int.{w16, w32, from_le_bytes, from_be_bytes, to_le_bytes, to_be_bytes}
 use Rattle.i9_model.specs.declared.layout.TheConstants.{PORT_PAGE, PORT_PAGE_SIZE, CONSOLE, EXIT_WORD}
-use Rattle.i9_model.specs.Writes.{wrapped, written, last_put}
+use Rattle.i9_model.specs.Writes.{wrapped, put, written, last_put, upwards}
 
 pub record Memory : Type 0 where
   pub bytes : ℕ → ℕ
@@ -20,6 +20,48 @@ stored m ps = written m (filter (λ p. not (in_port_page p.0)) ps)
 -- a word in little-endian order
 unfoldable pub word_at : (ℕ → ℕ) → ℕ → ℕ
 word_at m a = from_le_bytes w32 (m a ∷ m (wrapped (a + 1)) ∷ m (wrapped (a + 2)) ∷ m (wrapped (a + 3)) ∷ [])
+
+-- ---- byte orders
+
+-- the region of an address is its top four bits
+abbrev pub region_of : ℕ → ℕ
+region_of a = a / 2 ^ 28
+
+-- bit 22 of a region's memory configuration word says that the region is big-endian
+abbrev pub is_big : Memory → ℕ → Bool
+is_big m region = m.mcon region / 2 ^ 22 % 2 == 1
+
+-- the waits of a read are bits 3 to 7 of that word, those of a write bits 12 to 16
+abbrev pub waits_of : Memory → ℕ → Bool → ℕ
+waits_of m region write = if write then m.mcon region / 2 ^ 12 % 32 else m.mcon region / 2 ^ 3 % 32
+
+-- a half and a word in the order of the region of their first byte
+unfoldable pub half_in : Memory → ℕ → ℕ
+half_in m a =
+    let bytes = m.bytes a ∷ m.bytes (wrapped (a + 1)) ∷ [] in
+    if is_big m (region_of a) then from_be_bytes w16 bytes else from_le_bytes w16 bytes
+
+unfoldable pub word_in : Memory → ℕ → ℕ
+word_in m a =
+    let bytes = m.bytes a ∷ m.bytes (wrapped (a + 1)) ∷ m.bytes (wrapped (a + 2)) ∷ m.bytes (wrapped (a + 3)) ∷ [] in
+    if is_big m (region_of a) then from_be_bytes w32 bytes else from_le_bytes w32 bytes
+
+-- the bytes of a half and of a word that are stored at an address
+unfoldable pub half_bytes : Memory → ℕ → ℕ → List ℕ
+half_bytes m a v = if is_big m (region_of a) then to_be_bytes w16 v else to_le_bytes w16 v
+
+unfoldable pub word_bytes : Memory → ℕ → ℕ → List ℕ
+word_bytes m a v = if is_big m (region_of a) then to_be_bytes w32 v else to_le_bytes w32 v
+
+-- a memory after bytes were stored from an address on
+abbrev pub with_bytes : Memory → ℕ → List ℕ → Memory
+with_bytes m a bs = record m { bytes = stored m.bytes (upwards a bs) }
+
+-- a memory with another configuration word of a region
+abbrev pub with_mcon : Memory → ℕ → ℕ → Memory
+with_mcon m region w = record m { mcon = put m.mcon region w }
+
+-- ---- what stores do at the port page
 
 -- the byte that writes send to the console
 abbrev pub console_byte : List (ℕ × ℕ) → Option ℕ

@@ -3,7 +3,9 @@
 
 mod laws;
 pub mod layout;
+mod push;
 mod view;
 
 pub use laws::{every_run_ends, one_run};
+pub use push::Push;
 pub use view::View;

@@ -1,0 +1,49 @@
+-- Hazards: accesses that lean on the frame of a call that the processor may not have written to memory yet. Each names
+-- the least byte of the access that is concerned, counted upwards from its address.
+use Rattle.std.specs.Prelude.{ℕ, Bool, ◌==◌, if◌then◌else◌, List, [], ◌∷◌, Option, Some, None, Result, Ok, Err, find}
+use Rattle.i9_model.specs.declared.layout.TheConstants.{FRAME_SIZE}
+use Rattle.i9_model.specs.declared.push.Push.{Push}
+use Rattle.i9_model.specs.Memory.{in_port_page}
+use Rattle.i9_model.specs.State.{Frames}
+use Rattle.i9_model.specs.Frames.{places, in_frames, rounded_down, pushed}
+
+-- the first byte of an access that passes a test
+abbrev pub least : (ℕ → Bool) → ℕ → ℕ → Option ℕ
+least test a n = find test (places a n)
+
+-- a read of a soft byte
+unfoldable pub read_hazard : Frames → ℕ → ℕ → Option ℕ
+read_hazard s a n = least s.soft a n
+
+-- a write of a byte of a live frame
+unfoldable pub write_hazard : Frames → ℕ → ℕ → Option ℕ
+write_hazard s a n = least (in_frames s.live) a n
+
+-- a byte in the port page
+unfoldable pub port_hazard : ℕ → ℕ → Option ℕ
+port_hazard a n = least in_port_page a n
+
+-- the first hazard that there is
+abbrev pub or_else : Option ℕ → Option ℕ → Option ℕ
+or_else (Some a) later = Some a
+or_else None later = later
+
+-- a save area is written, and may not lie in the port page
+abbrev pub save_hazard : Frames → ℕ → Option ℕ
+save_hazard s a = or_else (write_hazard s a FRAME_SIZE) (port_hazard a FRAME_SIZE)
+
+-- a frame that is returned to has to be the first live one; where none is live, it is read from memory
+abbrev pub frame_hazard : List ℕ → Frames → ℕ → Option ℕ
+frame_hazard [] s a = read_hazard s a FRAME_SIZE
+frame_hazard (f ∷ live) s a = if a == f then None else Some a
+
+abbrev pub return_hazard : Frames → ℕ → Option ℕ
+return_hazard s a = or_else (frame_hazard s.live s a) (port_hazard a FRAME_SIZE)
+
+-- a push, or the hazard of its save area
+abbrev pub push_unless : Option ℕ → Push → Result Push ℕ
+push_unless None p = Ok p
+push_unless (Some a) p = Err a
+
+abbrev pub planned_push : Frames → ℕ → ℕ → ℕ → ℕ → Result Push ℕ
+planned_push s fp base extra kind = push_unless (save_hazard s (rounded_down fp)) (pushed fp base extra kind)
