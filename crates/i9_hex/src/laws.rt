@@ -14,5 +14,4 @@ pub fn one_answer()
         → IsImage (lines_of text) ps → IsImage (lines_of text) qs → ps ≡ qs }
     ensures one_fault { (text : List ℕ) (f g : ℕ × ℕ)
         → IsRefused (lines_of text) f → IsRefused (lines_of text) g → f ≡ g }
-{
-}
+{}
