@@ -109,3 +109,26 @@ still_refused (Some op) w w1 v r h = later (has_form (row_of op).format w) h
 pub refusal_free : (w w1 v : ℕ) (r : BadWord) → decoded w w1 ≡ Err r → decoded w v ≡ Err r
 unfolding decoded
 refusal_free w w1 v r h = still_refused (find (is_named w) names) w w1 v r h
+
+-- ---- refusals
+
+not_opcode : (op : Op) (a b c : Option Operand) (ea : Option Ea) (z : ℤ) (hint : Bool) → with_operands op a b c ea z hint ≡ Err BadWord.Opcode → ⊥
+not_opcode op (Some a) (Some b) (Some c) (Some ea) z hint h = absurd (cc)
+not_opcode op _ _ _ _ z hint h = absurd (cc)
+
+-- no word that is refused as Opcode has a name
+pub opcode_unnamed : (w w1 : ℕ) → decoded w w1 ≡ Err BadWord.Opcode → (op : Op) → HasName w op → ⊥
+unfolding decoded
+opcode_unnamed w w1 h op n = not_opcode op _ _ _ _ _ _ (rw (name_found w op n.opcode n.extension, n.formed) at h)
+
+-- a word that is refused as Operand has a name
+pub operand_named : (w w1 : ℕ) → decoded w w1 ≡ Err BadWord.Operand → (op : Op) × HasName w op
+unfolding decoded
+operand_named w w1 h = elim (find (is_named w) names) as (λ n. find (is_named w) names ≡ n → decoded_as n w w1 ≡ Err BadWord.Operand → (op : Op) × HasName w op) [
+  | None ↦ λ t e. absurd (cc)
+  | Some op ↦ λ t e. formed op t (has_form (row_of op).format w) refl e
+] refl h
+  where
+    formed : (op : Op) → find (is_named w) names ≡ Some op → (b : Bool) → has_form (row_of op).format w ≡ b → cond b (read_as op w w1) (Err BadWord.Opcode) ≡ Err BadWord.Operand → (op : Op) × HasName w op
+    formed op t true f e = let n = found_named w op t in (op, record { opcode = n.opcode; extension = n.extension; formed = f })
+    formed op t false f e = absurd (cc)
