@@ -1,1 +1,3 @@
 pub mod Look
+pub mod Spelling
+pub mod Ignored

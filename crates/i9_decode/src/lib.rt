@@ -3,6 +3,7 @@
 
 mod branch_names;
 mod decoder;
+mod encoder;
 mod fields;
 mod memory_names;
 mod names;
