@@ -1,15 +1,15 @@
 //! Encoding.
-ghost use Rattle.std.specs.Prelude.{◌≡◌, ℕ, ◌+◌, ◌*◌, ◌%◌, ◌^◌, ◌<◌, true, false, not, IsNone, IfSome, is_some};
+ghost use Rattle.std.specs.Prelude.{◌≡◌, ℕ, ◌+◌, ◌*◌, ◌%◌, ◌^◌, ◌<◌, true, false, not, ◌↔◌, IsNone, IsSome, IfSome};
 ghost use Rattle.i9_isa.specs.Operands.{field_number, has_offset, has_disp, is_address};
 ghost use Rattle.i9_isa.specs.Table.{row_of};
 ghost use Rattle.i9_isa.specs.Valid.{IsValid, FitsDisp};
-ghost use Rattle.i9_isa.specs.Words.{field, bit, signed_of, mode_in, Encodes};
+ghost use Rattle.i9_isa.specs.Words.{field, bit, signed_of, mode_in, words_of, Encodes};
 ghost use Rattle.i9_isa.specs.declared.format.Format.TheVariants.{Reg, Cobr, Ctrl, Mem};
 ghost use Rattle.i9_decode.specs.Ignored.{HasNone, ignored_bits};
 ghost use Rattle.i9_decode.specs.Spelling.{m_of, s_of};
 
 use crate::decoder::decode;
-use i9_isa::{BadWord, Ea, Format, Inst, Mode, Operand, Row, Use, row};
+use i9_isa::{BadWord, Ea, Format, Inst, Mode, Operand, Row, Use, row, word_count};
 
 /// The words of an instruction: the first, and where its mode has a displacement of 32 bits that one.
 #[derive(Clone, Copy, Debug, PartialEq, Eq)]
@@ -177,4 +177,90 @@ fn memory_word(row: &Row, c: Operand, ea: &Ea) -> u32
         + ((ea.base as u32) << 14)
         + mode_bits(ea.mode)
         + low
+}
+
+/// The word of an instruction in the register format.
+fn register_code(i: &Inst) -> u32
+    requires valid { IsValid i.now }
+    requires format { (row_of i.now.op).format ≡ Reg }
+    ensures form { (w1 : ℕ) → Encodes result w1 i.now }
+    ensures clear { HasNone (ignored_bits i.now) result }
+{
+    register_word(&row(i.op), i.a, i.b, i.c)
+}
+
+/// The word of an instruction in the compare-and-branch format.
+fn branch_code(i: &Inst) -> u32
+    requires valid { IsValid i.now }
+    requires format { (row_of i.now.op).format ≡ Cobr }
+    ensures form { (w1 : ℕ) → Encodes result w1 i.now }
+    ensures clear { HasNone (ignored_bits i.now) result }
+{
+    branch_word(&row(i.op), i.a, i.b, i.disp, i.hint)
+}
+
+/// The word of an instruction in the control format.
+fn control_code(i: &Inst) -> u32
+    requires valid { IsValid i.now }
+    requires format { (row_of i.now.op).format ≡ Ctrl }
+    ensures form { (w1 : ℕ) → Encodes result w1 i.now }
+    ensures clear { HasNone (ignored_bits i.now) result }
+{
+    control_word(&row(i.op), i.disp, i.hint)
+}
+
+/// The first word of an instruction in the memory format.
+fn memory_code(i: &Inst) -> u32
+    requires valid { IsValid i.now }
+    requires format { (row_of i.now.op).format ≡ Mem }
+    ensures form { (w1 : ℕ) → (has_disp i.now.ea.mode ≡ true → i.now.ea.disp ≡ w1)
+        → Encodes result w1 i.now }
+    ensures clear { HasNone (ignored_bits i.now) result }
+{
+    memory_word(&row(i.op), i.c, &i.ea)
+}
+
+/// The first word.
+fn first_word(i: &Inst) -> u32
+    requires { IsValid i.now }
+    ensures form { (w1 : ℕ) → (has_disp i.now.ea.mode ≡ true → i.now.ea.disp ≡ w1)
+        → Encodes result w1 i.now }
+    ensures clear { HasNone (ignored_bits i.now) result }
+{
+    match row(i.op).format {
+        Format::Reg => register_code(i),
+        Format::Cobr => branch_code(i),
+        Format::Ctrl => control_code(i),
+        Format::Mem => memory_code(i),
+    }
+}
+
+/// The words of an instruction, with the ignored bits of the first word 0. Where one word suffices, it stands
+/// for the instruction whatever the second word is.
+pub fn encode(i: &Inst) -> Code
+    requires { IsValid i.now }
+    ensures one { IsNone result.second → (w1 : ℕ) → Encodes result.first w1 i.now }
+    ensures two { IfSome result.second (λ w1. Encodes result.first w1 i.now) }
+    ensures count { IsSome result.second ↔ (words_of i.now ≡ 2) }
+    ensures clear { HasNone (ignored_bits i.now) result.first }
+{
+    let first = first_word(i);
+    let second = if word_count(i) == 2 {
+        Some(i.ea.disp)
+    } else {
+        None
+    };
+    Code { first, second }
+}
+
+/// The answer of `decode` to the words of an instruction, with `after` behind a single word: the instruction.
+pub fn decode_encoded(i: &Inst, after: u32) -> Result<Inst, BadWord>
+    requires { IsValid i.now }
+    ensures { result ≡ Ok i.now }
+{
+    let code = encode(i);
+    match code.second {
+        Some(second) => decode(code.first, second),
+        None => decode(code.first, after),
+    }
 }
