@@ -1,5 +1,6 @@
 //! An instruction, its operands and its effective address.
 ghost use Rattle.std.specs.Prelude.{◌≡◌};
+ghost use Rattle.i9_isa.specs.Operands.{has_base, has_disp, has_index, has_offset, field_number};
 ghost use Rattle.i9_isa.specs.Words.{words_of};
 
 use crate::op::Op;
@@ -7,6 +8,15 @@ use crate::op::Op;
 /// Memory was refused.
 #[derive(Clone, Copy, Debug, PartialEq, Eq)]
 pub struct NoMemory;
+
+/// Why the first word of an instruction is refused.
+#[derive(Clone, Copy, Debug, PartialEq, Eq)]
+pub enum BadWord {
+    /// No name has its opcode and extension, or its addressing mode is reserved. This comes before `Operand`.
+    Opcode,
+    /// An operand is one that the name does not allow.
+    Operand,
+}
 
 /// The side of the processor on which an instruction issues.
 #[derive(Clone, Copy, Debug, PartialEq, Eq)]
@@ -51,6 +61,53 @@ pub enum Mode {
     IndexDisp,
     /// A base register, a scaled index and a displacement.
     BaseIndexDisp,
+}
+
+impl Operand {
+    /// The number of the register, the literal, or the number of the special function register.
+    pub fn number(self) -> u8
+        ensures { result ≡ field_number self }
+    {
+        match self {
+            Operand::Reg(n) | Operand::Lit(n) | Operand::Sfr(n) => n,
+        }
+    }
+}
+
+impl Mode {
+    /// Whether the mode has a base register.
+    pub fn has_base(self) -> bool
+        ensures { result ≡ has_base self }
+    {
+        matches!(
+            self,
+            Mode::BaseOffset | Mode::Base | Mode::BaseIndex | Mode::BaseDisp | Mode::BaseIndexDisp
+        )
+    }
+
+    /// Whether the mode has a scaled index register.
+    pub fn has_index(self) -> bool
+        ensures { result ≡ has_index self }
+    {
+        matches!(self, Mode::BaseIndex | Mode::IndexDisp | Mode::BaseIndexDisp)
+    }
+
+    /// Whether the mode has a displacement of 32 bits, which is a second word.
+    pub fn has_disp(self) -> bool
+        ensures { result ≡ has_disp self }
+    {
+        matches!(
+            self,
+            Mode::Ip | Mode::Disp | Mode::BaseDisp | Mode::IndexDisp | Mode::BaseIndexDisp
+        )
+    }
+
+    /// Whether the mode has an offset of 12 bits, in the first word.
+    pub fn has_offset(self) -> bool
+        ensures { result ≡ has_offset self }
+    {
+        matches!(self, Mode::Offset | Mode::BaseOffset)
+    }
 }
 
 /// An effective address: register numbers of base and index, the index shifted left by `scale`.

@@ -1,8 +1,21 @@
-//! Instructions of the i960CA as values: names, operands and addressing modes.
+//! Instructions of the i960CA as values: names, operands, addressing modes, the table of what each name is,
+//! and what follows from it for an instruction alone.
 #![tactic(auto)]
 
+mod cost;
+mod format;
 mod inst;
+mod laws;
 mod op;
+mod resources;
+mod table;
+mod validity;
 
-pub use inst::{Ea, Inst, Mode, NoMemory, Operand, Side, word_count};
+pub use cost::{latency, side_of};
+pub use format::{Format, Row, Use};
+pub use inst::{BadWord, Ea, Inst, Mode, NoMemory, Operand, Side, word_count};
+pub use laws::{decoding_is_one, second_word_is_free};
 pub use op::Op;
+pub use resources::{CONDITION_CODE, FRAME_POINTER, LINK, LOCALS, reads, writes};
+pub use table::row;
+pub use validity::valid;

@@ -1,0 +1,11 @@
+pub mod Tables
+pub mod Modes
+pub mod Spelled
+pub mod Forms
+pub mod Bits
+pub mod Told
+pub mod Same
+pub mod SameMemory
+pub mod IgnoredBits
+pub mod Clear
+pub mod Built
