@@ -4,8 +4,9 @@ use Rattle.std.proofs.lemmas.Bool.Decides.{nat_tests}
 use Rattle.i9_isa.specs.declared.inst.Inst.{Inst}
 use Rattle.i9_model.specs.State.{State, boot}
 use Rattle.i9_model.specs.Step.{Action, action_of, acted}
+use Rattle.i9_model.specs.Access.{hazard_of, fetch_hazard}
 use Rattle.i9_model.specs.Unbuilt.{fetched}
-use Rattle.i9_model.specs.Run.{Finish, Limit, Record, record_of, Next, Does, Ends, state_after, due_after, next_by_word, next_in, next, IsPast, IsRun}
+use Rattle.i9_model.specs.Run.{Finish, Limit, Record, record_of, Next, Does, Ends, state_after, due_after, next_by_access, next_by_word, next_by_fetch, next_in, next, IsPast, IsRun}
 
 acted-count : (s : State) (a : Action) → (acted s a).count ≡ s.count + 1
 unfolding acted
@@ -20,15 +21,23 @@ pub record Counts (limit : ℕ) (s : State) (r : Record) : Type 0 where
   pub below : s.count ≢ limit
   pub one : r.after.count ≡ s.count + 1
 
-word_counts : (s : State) (o : Option Inst) (r : Record) → next_by_word s o ≡ Does r → r.after.count ≡ s.count + 1
-word_counts s None r e = absurd cc
-word_counts s (Some i) r e =
+access_counts : (s : State) (i : Inst) (h : Option ℕ) (r : Record) → next_by_access s i h ≡ Does r → r.after.count ≡ s.count + 1
+access_counts s i (Some a) r e = absurd cc
+access_counts s i None r e =
     let same : record_of i s ≡ r = cc in
     ap (λ (x : Record). x.after.count) (sym same) ∙ acted-count s (action_of i s)
 
-test_counts : (limit : ℕ) (b : Bool) (s : State) (r : Record) → eqb s.count limit ≡ b → cond b (Ends Limit) (next_by_word s (fetched s)) ≡ Does r → Counts limit s r
+word_counts : (s : State) (o : Option Inst) (r : Record) → next_by_word s o ≡ Does r → r.after.count ≡ s.count + 1
+word_counts s None r e = absurd cc
+word_counts s (Some i) r e = access_counts s i (hazard_of i s) r e
+
+fetch_counts : (s : State) (h : Option ℕ) (r : Record) → next_by_fetch s h ≡ Does r → r.after.count ≡ s.count + 1
+fetch_counts s (Some a) r e = absurd cc
+fetch_counts s None r e = word_counts s (fetched s) r e
+
+test_counts : (limit : ℕ) (b : Bool) (s : State) (r : Record) → eqb s.count limit ≡ b → cond b (Ends Limit) (next_by_fetch s (fetch_hazard s)) ≡ Does r → Counts limit s r
 test_counts limit true s r t e = absurd cc
-test_counts limit false s r t e = record { below = λ h. grind (arith, nat_tests, t, h); one = word_counts s (fetched s) r e }
+test_counts limit false s r t e = record { below = λ h. grind (arith, nat_tests, t, h); one = fetch_counts s (fetch_hazard s) r e }
 
 next_counts : (limit : ℕ) (due : Option Finish) (s : State) (r : Record) → next_in limit due s ≡ Does r → Counts limit s r
 next_counts limit (Some f) s r e = absurd cc

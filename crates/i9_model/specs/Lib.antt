@@ -5,10 +5,11 @@ pub mod Memory
 pub mod State
 pub mod Frames
 pub mod Hazards
-pub mod Words
 pub mod Operands
 pub mod Step
+pub mod Access
 pub mod Unbuilt
 pub mod Run
+pub mod Overlay
 pub mod PrintedText
 pub mod CommandLine

@@ -1,5 +1,6 @@
 -- Memory: a byte for each address below 2^32, and the memory configuration word of each of its sixteen regions.
-use Rattle.std.specs.Prelude.{ℕ, ◌+◌, ◌/◌, ◌%◌, ◌^◌, Bool, not, ◌==◌, ◌&&◌, nat_le, nat_lt, if◌then◌else◌, List, [], ◌∷◌, filter, Option, Some}
+use Rattle.std.specs.Prelude.{ℕ, ◌+◌, ◌*◌, ◌/◌, ◌%◌, ◌^◌, Bool, not, ◌==◌, ◌&&◌, nat_le, nat_lt, if◌then◌else◌, List, [], ◌∷◌, filter, map, Option, Some}
+use Rattle.std.specs.List.{range_with_len}
 use Rattle.std.specs.Option.{option_and_then}
 use Rattle.std.specs.Int.{w16, w32, from_le_bytes, from_be_bytes, to_le_bytes, to_be_bytes}
 use Rattle.i9_model.specs.declared.layout.TheConstants.{PORT_PAGE, PORT_PAGE_SIZE, CONSOLE, EXIT_WORD}
@@ -16,10 +17,6 @@ in_port_page a = nat_le PORT_PAGE a && nat_lt a (PORT_PAGE + PORT_PAGE_SIZE)
 -- bytes after writes, of which those in the port page are dropped
 abbrev pub stored : (ℕ → ℕ) → List (ℕ × ℕ) → ℕ → ℕ
 stored m ps = written m (filter (λ p. not (in_port_page p.0)) ps)
-
--- a word in little-endian order
-unfoldable pub word_at : (ℕ → ℕ) → ℕ → ℕ
-word_at m a = from_le_bytes w32 (m a ∷ m (wrapped (a + 1)) ∷ m (wrapped (a + 2)) ∷ m (wrapped (a + 3)) ∷ [])
 
 -- ---- byte orders
 
@@ -41,10 +38,11 @@ half_in m a =
     let bytes = m.bytes a ∷ m.bytes (wrapped (a + 1)) ∷ [] in
     if is_big m (region_of a) then from_be_bytes w16 bytes else from_le_bytes w16 bytes
 
+abbrev pub ordered_word : Memory → ℕ → List ℕ → ℕ
+ordered_word m a bytes = if is_big m (region_of a) then from_be_bytes w32 bytes else from_le_bytes w32 bytes
+
 unfoldable pub word_in : Memory → ℕ → ℕ
-word_in m a =
-    let bytes = m.bytes a ∷ m.bytes (wrapped (a + 1)) ∷ m.bytes (wrapped (a + 2)) ∷ m.bytes (wrapped (a + 3)) ∷ [] in
-    if is_big m (region_of a) then from_be_bytes w32 bytes else from_le_bytes w32 bytes
+word_in m a = ordered_word m a (m.bytes a ∷ m.bytes (wrapped (a + 1)) ∷ m.bytes (wrapped (a + 2)) ∷ m.bytes (wrapped (a + 3)) ∷ [])
 
 -- the bytes of a half and of a word that are stored at an address
 unfoldable pub half_bytes : Memory → ℕ → ℕ → List ℕ
@@ -56,6 +54,15 @@ word_bytes m a v = if is_big m (region_of a) then to_be_bytes w32 v else to_le_b
 -- a memory after bytes were stored from an address on
 abbrev pub with_bytes : Memory → ℕ → List ℕ → Memory
 with_bytes m a bs = record m { bytes = stored m.bytes (upwards a bs) }
+
+-- a memory after words were stored from an address on, one by one
+unfoldable pub with_words : Memory → ℕ → List ℕ → Memory
+with_words m a [] = m
+with_words m a (w ∷ ws) = with_words (with_bytes m a (word_bytes m a w)) (wrapped (a + 4)) ws
+
+-- so many words from an address on
+abbrev pub words_in : Memory → ℕ → ℕ → List ℕ
+words_in m a n = map (λ k. word_in m (wrapped (a + 4 * k))) (range_with_len 0 n)
 
 -- a memory with another configuration word of a region
 abbrev pub with_mcon : Memory → ℕ → ℕ → Memory
@@ -72,10 +79,10 @@ abbrev pub ◌>>=◌ : Option ℕ → (ℕ → Option ℕ) → Option ℕ
 o >>= f = option_and_then f o
 
 -- the word with which writes end the run, where they have all four of its bytes
-unfoldable pub exit_word : List (ℕ × ℕ) → Option ℕ
-exit_word ps = do
+unfoldable pub exit_word : Memory → List (ℕ × ℕ) → Option ℕ
+exit_word m ps = do
   a ← last_put ps EXIT_WORD
   b ← last_put ps (EXIT_WORD + 1)
   c ← last_put ps (EXIT_WORD + 2)
   d ← last_put ps (EXIT_WORD + 3)
-  Some (from_le_bytes w32 (a ∷ b ∷ c ∷ d ∷ []))
+  Some (ordered_word m EXIT_WORD (a ∷ b ∷ c ∷ d ∷ []))

@@ -1,10 +1,12 @@
--- Operands: the value of a source, the register of a destination, and the effective address.
-use Rattle.std.specs.Prelude.{ℕ, ◌+◌, ◌*◌, ◌^◌}
+-- Operands: the value of a source, the register of a destination, the effective address, and the target of a branch.
+use Rattle.std.specs.Prelude.{ℕ, ◌+◌, ◌*◌, ◌^◌, ℤ, pos, ◌+ℤ◌, unsigned_abs}
+use Rattle.std.specs.Int.{int_rem_euclid}
 use Rattle.i9_isa.specs.declared.inst.Operand.{Operand}
 use Rattle.i9_isa.specs.declared.inst.Operand.TheVariants.{Reg, Lit, Sfr}
 use Rattle.i9_isa.specs.declared.inst.Mode.{Mode}
 use Rattle.i9_isa.specs.declared.inst.Mode.TheVariants.{Offset, BaseOffset, Base, Ip, BaseIndex, Disp, BaseDisp, IndexDisp, BaseIndexDisp}
 use Rattle.i9_isa.specs.declared.inst.Ea.{Ea}
+use Rattle.i9_isa.specs.declared.inst.Inst.{Inst}
 use Rattle.i9_model.specs.Writes.{wrapped}
 use Rattle.i9_model.specs.State.{State}
 
@@ -38,3 +40,11 @@ sum_for BaseIndexDisp s e = s.regs e.base + scaled s e + e.disp
 -- the effective address
 abbrev pub address : State → Ea → ℕ
 address s e = wrapped (sum_for e.mode s e)
+
+-- a whole number modulo 2^32
+abbrev pub reduced : ℤ → ℕ
+reduced z = unsigned_abs (int_rem_euclid z (pos (2 ^ 32)))
+
+-- the target of a branch: the instruction's own address and its displacement
+abbrev pub target : Inst → State → ℕ
+target i s = reduced (pos s.ip +ℤ i.disp)

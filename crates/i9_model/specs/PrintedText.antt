@@ -7,10 +7,12 @@ use Rattle.hex.specs.Hex.{encode_upper}
 use Rattle.i9_model.specs.declared.view.View.{View}
 use Rattle.i9_model.specs.Memory.{console_byte}
 use Rattle.i9_model.specs.State.{State}
-use Rattle.i9_model.specs.Run.{Finish, Exit, Limit, Unbuilt, Kind, Record, writes_by, state_after}
+use Rattle.i9_model.specs.Step.{Action, Move, Stays, Saves, Returns, Flushes}
+use Rattle.i9_model.specs.Run.{Finish, Exit, Limit, Hazard, Unbuilt, Record, action_by_kind, writes_in, state_after}
 
--- the kinds of drained point
+-- the kinds of drained point: after flushreg, and at the end
 pub data Drained : Type 0 where
+  AtFlush : Drained
   AtEnd : Drained
 
 -- a printed line; a drained point has three
@@ -32,9 +34,16 @@ abbrev pub out_lines : Option ℕ → List Shown
 out_lines None = []
 out_lines (Some b) = Out b ∷ []
 
--- the line of the byte that a record sends to the console, from the state before it
-abbrev pub lines_by : Kind → State → List Shown
-lines_by k s = out_lines (console_byte (writes_by k s))
+-- the point behind a flush, from the state after it
+abbrev pub point_lines : Move → State → List Shown
+point_lines Stays s = []
+point_lines (Saves save words) s = []
+point_lines Returns s = []
+point_lines Flushes s = Point AtFlush (view_of s) ∷ []
+
+-- the lines of an action, from the state after it: a console byte, and a drained point
+abbrev pub action_lines : Action → State → List Shown
+action_lines a s = out_lines (console_byte (writes_in a)) ++ point_lines a.move s
 
 -- the end of a run: its drained point, and how it ended
 abbrev pub last_lines : View → Finish → List Shown
@@ -46,7 +55,7 @@ end_lines s f = last_lines (view_of s) f
 -- the lines of records, newest first
 abbrev pub lines_of : List (ℕ × ℕ) → List Record → List Shown
 lines_of image [] = []
-lines_of image (r ∷ rs) = lines_of image rs ++ lines_by r.kind (state_after image rs)
+lines_of image (r ∷ rs) = lines_of image rs ++ action_lines (action_by_kind r.kind (state_after image rs)) r.after
 
 -- ---- the bytes of a line
 
@@ -72,6 +81,7 @@ unfoldable pub words_text : List ℕ → List ℕ → List ℕ
 words_text label ws = label ++ flat_map spaced ws ++ line_feed
 
 abbrev pub drained_text : Drained → List ℕ
+drained_text AtFlush = codes "flush"
 drained_text AtEnd = codes "end"
 
 -- the count and kind of a drained point, and its address, AC and PC
@@ -81,6 +91,7 @@ point_text k v = words_text (codes "#point " ++ decimal v.count ++ codes " " ++ 
 unfoldable pub finish_text : Finish → List ℕ
 finish_text (Exit w) = words_text (codes "#end exit") (w ∷ [])
 finish_text Limit = codes "#end limit" ++ line_feed
+finish_text (Hazard a) = words_text (codes "#end hazard") (a ∷ [])
 finish_text (Unbuilt a) = words_text (codes "#end unbuilt") (a ∷ [])
 
 -- a drained point, with its global and its local registers
@@ -103,4 +114,5 @@ run_text image rs f = text_of (lines_of image rs ++ end_lines (state_after image
 abbrev pub finish_code : Finish → ℕ
 finish_code (Exit w) = 0
 finish_code Limit = 0
+finish_code (Hazard a) = 4
 finish_code (Unbuilt a) = 4

@@ -5,13 +5,16 @@ use Rattle.i9_isa.specs.declared.inst.Inst.{Inst}
 use Rattle.i9_model.specs.declared.layout.TheConstants.{PRCB_POINTER}
 use Rattle.i9_model.specs.Memory.{exit_word}
 use Rattle.i9_model.specs.State.{State, boot}
-use Rattle.i9_model.specs.Step.{action_of, acted}
+use Rattle.i9_model.specs.Writes.{upwards}
+use Rattle.i9_model.specs.Step.{Action, action_of, acted}
+use Rattle.i9_model.specs.Access.{hazard_of, fetch_hazard}
 use Rattle.i9_model.specs.Unbuilt.{has_tables, fetched}
 
--- how a run ends: with a word that the program wrote, at its length, or before what isn't built
+-- how a run ends: with a word that the program wrote, at its length, at a hazard, or before what isn't built
 pub data Finish : Type 0 where
   Exit : (word : ℕ) → Finish
   Limit : Finish
+  Hazard : (address : ℕ) → Finish
   Unbuilt : (address : ℕ) → Finish
 
 -- what was done
@@ -31,32 +34,46 @@ pub data Next : Type 0 where
 abbrev pub record_of : Inst → State → Record
 record_of i s = record { kind = Instruction i; after = acted s (action_of i s) }
 
--- the bytes that a record writes, from the state before it
-abbrev pub writes_by : Kind → State → List (ℕ × ℕ)
-writes_by (Instruction i) s = (action_of i s).writes
+-- what a record did, from the state before it
+abbrev pub action_by_kind : Kind → State → Action
+action_by_kind (Instruction i) s = action_of i s
+
+-- the bytes that an action writes, with their addresses
+abbrev pub writes_in : Action → List (ℕ × ℕ)
+writes_in a = upwards a.at a.bytes
 
 -- the state after the records
 abbrev pub state_after : List (ℕ × ℕ) → List Record → State
 state_after image [] = boot image
 state_after image (r ∷ rs) = r.after
 
--- the exit that writes bring
-abbrev pub exit_in : List (ℕ × ℕ) → Option Finish
-exit_in writes = option_map Exit (exit_word writes)
+-- the exit that an action brings in a state
+abbrev pub exit_in : State → Action → Option Finish
+exit_in s a = option_map Exit (exit_word s.memory (writes_in a))
 
 -- the end that stands after the records whatever the length: tables that boot would read, or an exit
 abbrev pub due_after : List (ℕ × ℕ) → List Record → Option Finish
 due_after image [] = if has_tables (boot image).memory.bytes then Some (Unbuilt PRCB_POINTER) else None
-due_after image (r ∷ rs) = exit_in (writes_by r.kind (state_after image rs))
+due_after image (r ∷ rs) = exit_in (state_after image rs) (action_by_kind r.kind (state_after image rs))
+
+-- an instruction that is built is done, unless its access meets a hazard
+abbrev pub next_by_access : State → Inst → Option ℕ → Next
+next_by_access s i (Some a) = Ends (Hazard a)
+next_by_access s i None = Does (record_of i s)
 
 abbrev pub next_by_word : State → Option Inst → Next
 next_by_word s None = Ends (Unbuilt s.ip)
-next_by_word s (Some i) = Does (record_of i s)
+next_by_word s (Some i) = next_by_access s i (hazard_of i s)
+
+-- the words of an instruction are fetched, unless that meets a hazard
+abbrev pub next_by_fetch : State → Option ℕ → Next
+next_by_fetch s (Some a) = Ends (Hazard a)
+next_by_fetch s None = next_by_word s (fetched s)
 
 -- what comes next in a state: the end that is due, the end of the length, or one instruction
 abbrev pub next_in : ℕ → Option Finish → State → Next
 next_in limit (Some f) s = Ends f
-next_in limit None s = if s.count == limit then Ends Limit else next_by_word s (fetched s)
+next_in limit None s = if s.count == limit then Ends Limit else next_by_fetch s (fetch_hazard s)
 
 -- what comes after the records
 abbrev pub next : List (ℕ × ℕ) → ℕ → List Record → Next

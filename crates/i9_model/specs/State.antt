@@ -2,7 +2,7 @@
 use Rattle.std.specs.Prelude.{ℕ, ◌-◌, ◌%◌, Bool, false, List, [], ◌∷◌}
 use Rattle.i9_model.specs.declared.layout.TheConstants.{FIRST_INSTRUCTION, BOOT_PC, FRAME_SIZE, SP, FP}
 use Rattle.i9_model.specs.Writes.{written}
-use Rattle.i9_model.specs.Memory.{Memory, stored, word_at}
+use Rattle.i9_model.specs.Memory.{Memory, stored, word_in}
 
 -- bytes that only the save of a frame wrote, and the save addresses of the frames that may be returned to, youngest first
 pub record Frames : Type 0 where
@@ -58,21 +58,21 @@ fault_config s = s.prcb 3
 abbrev pub aligned : ℕ → ℕ
 aligned a = a - a % 4
 
--- the bytes of an image; later pairs win
-abbrev pub image_bytes : List (ℕ × ℕ) → ℕ → ℕ
-image_bytes image = stored (λ _. 0) image
+-- the memory of an image; later pairs win, and all regions are little-endian
+abbrev pub image_memory : List (ℕ × ℕ) → Memory
+image_memory image = record { bytes = stored (λ _. 0) image; mcon = λ _. 0 }
 
 -- The state after boot. The words of the PRCB and of the control table count as 0, so the interrupt stack is at 0: fp is
 -- there and sp a frame above it.
 unfoldable pub boot : List (ℕ × ℕ) → State
 boot image = record {
   regs = written (λ _. 0) ((FP, 0) ∷ (SP, FRAME_SIZE) ∷ []);
-  ip = aligned (word_at (image_bytes image) FIRST_INSTRUCTION);
+  ip = aligned (word_in (image_memory image) FIRST_INSTRUCTION);
   ac = 0;
   pc = BOOT_PC;
   count = 0;
   check = false;
-  memory = record { bytes = image_bytes image; mcon = λ _. 0 };
+  memory = image_memory image;
   frames = record { soft = λ _. false; live = [] };
   interrupts = record { pending = 0; mask = 0; maps = λ _. 0; nmi = false };
   dma = record { channels = λ _. record { control = 0; count = 0; source = 0; target = 0 }; dmac = 0 };

@@ -31,8 +31,17 @@ pub const BOOT_PC: u32 = 0x001F_2002;
 /// The bytes of a frame's sixteen local registers.
 pub const FRAME_SIZE: u32 = 64;
 
+/// How many local registers there are.
+pub const LOCALS: usize = 16;
+
+/// The number of the previous frame pointer, r0.
+pub const PFP: u8 = 0;
+
 /// The number of the stack pointer, r1.
 pub const SP: u8 = 1;
+
+/// The number of the return instruction pointer, r2.
+pub const RIP: u8 = 2;
 
 /// The number of the frame pointer, g15.
 pub const FP: u8 = 31;

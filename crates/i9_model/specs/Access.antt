@@ -1,0 +1,50 @@
+-- The accesses of an instruction in a state, and the first hazard that they meet.
+use Rattle.std.specs.Prelude.{ℕ, ◌+◌, ◌==◌, if◌then◌else◌, Option, None, Result, Ok, Err}
+use Rattle.i9_isa.specs.declared.op.Op.{Op}
+use Rattle.i9_isa.specs.declared.op.Op.TheVariants.{Ld, St, Stob, Call, Ret}
+use Rattle.i9_isa.specs.declared.inst.Inst.{Inst}
+use Rattle.i9_isa.specs.declared.inst.BadWord.{BadWord}
+use Rattle.i9_isa.specs.Words.{words_of, decoded}
+use Rattle.i9_model.specs.declared.layout.TheConstants.{PFP, FP}
+use Rattle.i9_model.specs.Writes.{wrapped}
+use Rattle.i9_model.specs.State.{State, Frames}
+use Rattle.i9_model.specs.Frames.{rounded_down}
+use Rattle.i9_model.specs.Hazards.{or_else, read_hazard, write_hazard, save_hazard, return_hazard}
+use Rattle.i9_model.specs.Operands.{address}
+use Rattle.i9_model.specs.Step.{first_word, next_word}
+
+-- a read or a write of so many bytes, a save area, or a frame that is returned to
+pub data Access : Type 0 where
+  NoAccess : Access
+  Reads : (address : ℕ) → (count : ℕ) → Access
+  Writes : (address : ℕ) → (count : ℕ) → Access
+  SavesAt : (address : ℕ) → Access
+  ReturnsTo : (address : ℕ) → Access
+
+abbrev pub access_by : Op → Inst → State → Access
+access_by Ld i s = Reads (address s i.ea) 4
+access_by St i s = Writes (address s i.ea) 4
+access_by Stob i s = Writes (address s i.ea) 1
+access_by Call i s = SavesAt (rounded_down (s.regs FP))
+access_by Ret i s = ReturnsTo (rounded_down (s.regs PFP))
+access_by _ i s = NoAccess
+
+abbrev pub hazard_in : Frames → Access → Option ℕ
+hazard_in f NoAccess = None
+hazard_in f (Reads a n) = read_hazard f a n
+hazard_in f (Writes a n) = write_hazard f a n
+hazard_in f (SavesAt a) = save_hazard f a
+hazard_in f (ReturnsTo a) = return_hazard f a
+
+-- the hazard of an instruction's access
+unfoldable pub hazard_of : Inst → State → Option ℕ
+hazard_of i s = hazard_in s.frames (access_by i.op i s)
+
+-- the second word is read where the first one has it
+abbrev pub second_hazard : State → Result Inst BadWord → Option ℕ
+second_hazard s (Err e) = None
+second_hazard s (Ok i) = if words_of i == 2 then read_hazard s.frames (wrapped (s.ip + 4)) 4 else None
+
+-- the hazard of the fetch of an instruction's own words
+unfoldable pub fetch_hazard : State → Option ℕ
+fetch_hazard s = or_else (read_hazard s.frames s.ip 4) (second_hazard s (decoded (first_word s) (next_word s)))
