@@ -1,21 +1,17 @@
 -- The forms that the one-at-a-time machine decodes by a definition of its own.
-use Rattle.std.proofs.Common.{◌≡◌, ℕ, ◌/◌, ◌%◌, ◌^◌, ◌<◌, ◌+◌, Bool, true, false, not, ◌&&◌, cond, eqb, nat_lt, Option, Some, None, is_some, Result, Ok, refl, sym, ap, ◌∙◌, subst, arith, rules, pos}
-use Rattle.std.proofs.lemmas.Bool.{and_parts, eqb-true, ltb-true}
+use Rattle.std.proofs.Common.{◌≡◌, ℕ, ◌<◌, Bool, true, false, not, ◌&&◌, cond, eqb, nat_lt, Option, Some, None, is_some, Ok, refl, sym, subst, arith}
+use Rattle.std.proofs.lemmas.Bool.{and_parts, eqb-true}
 use Rattle.std.proofs.lemmas.Bool.Decides.{nat_tests}
 use Rattle.std.proofs.lemmas.Nat.{pow_pos, mod_below}
 use Rattle.i9_isa.specs.declared.op.Op.{Op}
 use Rattle.i9_isa.specs.declared.op.Op.TheVariants.{Mov, Lda, St, Stob}
-use Rattle.i9_isa.specs.declared.inst.Operand.{Operand}
 use Rattle.i9_isa.specs.declared.inst.Operand.TheVariants.{Reg, Lit}
-use Rattle.i9_isa.specs.declared.inst.Mode.TheVariants.{Offset, BaseOffset, Disp}
 use Rattle.i9_isa.specs.declared.inst.Ea.{Ea}
 use Rattle.i9_isa.specs.declared.inst.Inst.{Inst}
 use Rattle.i9_isa.specs.declared.format.Format.TheVariants as Format
-use Rattle.i9_isa.specs.declared.format.Use.{Use}
-use Rattle.i9_isa.specs.declared.format.Use.TheVariants.{Source, Destination, Load, Store}
-use Rattle.i9_isa.specs.Operands.{no_address}
+use Rattle.i9_isa.specs.declared.format.Use.TheVariants.{Source}
 use Rattle.i9_isa.specs.Table.{row_of}
-use Rattle.i9_isa.specs.Words.{field, bit, operand_in, mode_in, ea_in, decoded, HasName, Encodes}
+use Rattle.i9_isa.specs.Words.{field, bit, operand_in, mode_in, ea_in, decoded, Encodes}
 use Rattle.i9_isa.proofs.Decoding.{encodes_decoded}
 use Rattle.i9_model.specs.Words as built
 

@@ -1,17 +1,16 @@
 -- Words whose fields are as an instruction is spelled are a form of it.
-use Rattle.std.proofs.Common.{◌≡◌, ℕ, ◌*◌, ◌^◌, ◌<◌, Bool, true, false, not, ◌&&◌, refl, sym, ap, ◌∙◌, arith, Option, Some, None, cond, ltb, rules, nat_lt, ℤ, pos}
+use Rattle.std.proofs.Common.{◌≡◌, ℕ, ◌*◌, ◌<◌, Bool, true, false, ◌&&◌, refl, sym, ap, ◌∙◌, arith, Some, cond, nat_lt, ℤ}
 use Rattle.std.proofs.lemmas.Bool.{and_parts, ltb-true}
 use Rattle.std.proofs.lemmas.Bool.Decides.{nat_tests}
 use Rattle.i9_isa.specs.declared.inst.Inst.{Inst}
 use Rattle.i9_isa.specs.declared.inst.Ea.{Ea}
 use Rattle.i9_isa.specs.declared.inst.Mode.{Mode}
-use Rattle.i9_isa.specs.declared.inst.Mode.TheVariants.{Offset, BaseOffset, Base, Ip, BaseIndex, Disp, BaseDisp, IndexDisp, BaseIndexDisp}
+use Rattle.i9_isa.specs.declared.inst.Mode.TheVariants.{Offset, BaseOffset, Base, BaseIndex}
 use Rattle.i9_isa.specs.declared.format.Format.{Format}
-use Rattle.i9_isa.specs.declared.format.Format.TheVariants as Format
 use Rattle.i9_isa.specs.Operands.{field_number, is_address, has_base, has_index, has_offset, has_disp, disp_limit}
 use Rattle.i9_isa.specs.Table.{row_of}
 use Rattle.i9_isa.specs.Valid.{IsValid, FitsDisp}
-use Rattle.i9_isa.specs.Words.{field, bit, disp_in, hint_in, signed_of, mode_in, address_in, if_scaled, HasName, Encodes}
+use Rattle.i9_isa.specs.Words.{field, bit, disp_in, hint_in, signed_of, mode_in, address_in, if_scaled, Encodes}
 use Rattle.i9_decode.specs.Spelling.{m_of, s_of}
 use Rattle.i9_decode.proofs.Spelled.{operand_from, no_s, no_m, unused_is, row_fits_at, neither}
 

@@ -1,11 +1,10 @@
 -- The bits of a first word that are ignored.
-use Rattle.std.specs.Prelude.{◌≡◌, ℕ, ◌+◌, ◌-◌, ◌*◌, ◌^◌, ◌<◌, Bool, true, false, not, if◌then◌else◌, List, [], ◌∷◌, ◌++◌}
+use Rattle.std.specs.Prelude.{◌≡◌, ℕ, ◌+◌, ◌-◌, ◌*◌, ◌^◌, ◌<◌, Bool, true, false, not, if◌then◌else◌, List, [], ◌∷◌}
 use Rattle.std.specs.Int.{bit_at}
 use Rattle.i9_isa.specs.declared.inst.Inst.{Inst}
 use Rattle.i9_isa.specs.declared.inst.Mode.{Mode}
 use Rattle.i9_isa.specs.declared.format.Row.{Row}
 use Rattle.i9_isa.specs.declared.format.Format.{Format}
-use Rattle.i9_isa.specs.declared.format.Format.TheVariants as Format
 use Rattle.i9_isa.specs.declared.format.Use.{Use}
 use Rattle.i9_isa.specs.Operands.{is_unused, has_base, has_index, has_offset}
 use Rattle.i9_isa.specs.Table.{row_of}

@@ -16,3 +16,6 @@ pub use encoder::{Code, decode_encoded, encode};
 pub use i9_isa::BadWord;
 pub use laws::built_forms_agree;
 pub use spare::spare_bits;
+
+#[cfg(test)]
+mod tests;

@@ -1,16 +1,13 @@
 -- Decoding as a function and as a relation.
-use Rattle.std.proofs.Common.{◌≡◌, ℕ, Bool, true, false, cond, nat_lt, Option, Some, None, is_some, option_and_then, find, Result, Ok, Err, ℤ, refl, sym, ap, ◌∙◌, subst, rules}
-use Rattle.std.proofs.lemmas.Bool.{false≢true}
+use Rattle.std.proofs.Common.{◌≡◌, ℕ, Bool, true, false, cond, nat_lt, Option, Some, None, is_some, option_and_then, find, Ok, Err, ℤ, refl, sym, ap, ◌∙◌, subst}
 use Rattle.i9_isa.specs.declared.op.Op.{Op}
 use Rattle.i9_isa.specs.declared.inst.Operand.{Operand}
 use Rattle.i9_isa.specs.declared.inst.Mode.{Mode}
-use Rattle.i9_isa.specs.declared.inst.Mode.TheVariants.{Offset, BaseOffset, Base, Ip, BaseIndex, Disp, BaseDisp, IndexDisp, BaseIndexDisp}
+use Rattle.i9_isa.specs.declared.inst.Mode.TheVariants.{Offset, BaseOffset, Base, BaseIndex}
 use Rattle.i9_isa.specs.declared.inst.Ea.{Ea}
 use Rattle.i9_isa.specs.declared.inst.Inst.{Inst}
 use Rattle.i9_isa.specs.declared.inst.BadWord.{BadWord}
-use Rattle.i9_isa.specs.declared.inst.BadWord.TheVariants as BadWord
 use Rattle.i9_isa.specs.declared.format.Format.{Format}
-use Rattle.i9_isa.specs.declared.format.Format.TheVariants as Format
 use Rattle.i9_isa.specs.Table.{row_of, names}
 use Rattle.i9_isa.specs.Words.{words_of, words_of_mode, src1_in, src2_in, src_dst_in, disp_in, hint_in, mode_in, address_in, if_scaled, ea_in, is_named, has_form, with_operands, read_as, decoded_as, decoded, HasName, Encodes}
 use Rattle.i9_isa.proofs.Names.{name_found, found_named}

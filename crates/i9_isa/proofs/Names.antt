@@ -1,12 +1,11 @@
 -- Names by their opcode and extension.
-use Rattle.std.proofs.Common.{◌≡◌, ℕ, Bool, true, false, cond, eqb, ltb, ◌&&◌, List, [], ◌∷◌, Option, Some, None, find, refl, sym, ap, ◌∙◌, rules}
+use Rattle.std.proofs.Common.{◌≡◌, ℕ, Bool, true, false, cond, eqb, ltb, ◌&&◌, List, [], ◌∷◌, Some, find, refl, sym, ap, ◌∙◌}
 use Rattle.std.proofs.lemmas.Bool.{and_parts, eqb-true}
 use Rattle.i9_isa.specs.declared.op.Op.{Op}
 use Rattle.i9_isa.specs.declared.op.Op.TheVariants.{Notbit}
 use Rattle.i9_isa.specs.declared.format.Format.{Format}
-use Rattle.i9_isa.specs.declared.format.Format.TheVariants as Format
 use Rattle.i9_isa.specs.Table.{row_of, names}
-use Rattle.i9_isa.specs.Words.{field, is_named, extension_in, HasName}
+use Rattle.i9_isa.specs.Words.{field, is_named, extension_in}
 
 -- what is found passes the test
 pub find_passes : (p : Op → Bool) (xs : List Op) (x : Op) → find p xs ≡ Some x → p x ≡ true

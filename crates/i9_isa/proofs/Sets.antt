@@ -1,5 +1,5 @@
 -- Sets as the bits of a number.
-use Rattle.std.proofs.Common.{◌≡◌, ℕ, ◌+◌, ◌-◌, ◌*◌, ◌/◌, ◌%◌, ◌^◌, ◌<◌, ◌≤◌, Bool, true, false, ◌&&◌, ◌||◌, leb, ltb, eqb, max, refl, sym, ap, ◌∙◌, arith, bit_or, inl, inr, ◌⊎◌}
+use Rattle.std.proofs.Common.{◌≡◌, ℕ, ◌+◌, ◌-◌, ◌*◌, ◌%◌, ◌^◌, ◌<◌, ◌≤◌, Bool, true, false, ◌&&◌, ◌||◌, leb, ltb, eqb, max, refl, ◌∙◌, arith, bit_or, inl, inr}
 use Rattle.std.specs.Int.{bit_at, from_bool}
 use Rattle.std.proofs.lemmas.Bool.{cases_lt, cases_eq, and_parts, leb-true}
 use Rattle.std.proofs.lemmas.Bool.Decides.{nat_tests}
@@ -7,7 +7,7 @@ use Rattle.std.proofs.lemmas.Nat.{one_shl, pow-add, pow_pos, pow_below}
 use Rattle.std.proofs.lemmas.Nat.Bits.{bit_at_mask_inside, bit_at_mask_below, bit_at_mask_above, bit_at-pow_same, bit_at-pow_other, bit_at_or}
 use Rattle.i9_isa.specs.declared.op.Op.{Op}
 use Rattle.i9_isa.specs.declared.op.Op.TheVariants.{Notbit}
-use Rattle.i9_isa.specs.Operands.{words_read, words_written}
+use Rattle.i9_isa.specs.Operands.{words_read}
 use Rattle.i9_isa.specs.Resources.{IsSetOf}
 use Rattle.i9_isa.specs.Table.{row_of}
 

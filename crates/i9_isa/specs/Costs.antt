@@ -4,9 +4,7 @@ use Rattle.i9_isa.specs.declared.op.Op.{Op}
 use Rattle.i9_isa.specs.declared.op.Op.TheVariants.{Mulo, Muli, Emul, Divo, Divi, Remo, Remi, Modi, Ediv, Bx, Balx, Callx}
 use Rattle.i9_isa.specs.declared.inst.Inst.{Inst}
 use Rattle.i9_isa.specs.declared.inst.Side.{Side}
-use Rattle.i9_isa.specs.declared.inst.Side.TheVariants as Side
 use Rattle.i9_isa.specs.declared.format.Format.{Format}
-use Rattle.i9_isa.specs.declared.format.Format.TheVariants as Format
 use Rattle.i9_isa.specs.Table.{row_of}
 
 -- the side of a format; bx, balx and callx are branches and calls in the memory format

@@ -8,11 +8,9 @@ use Rattle.i9_isa.specs.declared.inst.Mode.TheVariants.{Offset, BaseOffset, Base
 use Rattle.i9_isa.specs.declared.inst.Ea.{Ea}
 use Rattle.i9_isa.specs.declared.inst.Inst.{Inst}
 use Rattle.i9_isa.specs.declared.inst.BadWord.{BadWord}
-use Rattle.i9_isa.specs.declared.inst.BadWord.TheVariants as BadWord
 use Rattle.i9_isa.specs.declared.format.Format.{Format}
-use Rattle.i9_isa.specs.declared.format.Format.TheVariants as Format
 use Rattle.i9_isa.specs.declared.format.Use.{Use}
-use Rattle.i9_isa.specs.declared.format.Use.TheVariants.{Unused, Source, Left, Right, Destination, Load, Store, Change}
+use Rattle.i9_isa.specs.declared.format.Use.TheVariants.{Unused, Source, Left, Right}
 use Rattle.i9_isa.specs.Operands.{takes, has_base, has_index, has_disp, has_offset, no_address}
 use Rattle.i9_isa.specs.Table.{row_of, names}
 

@@ -19,3 +19,6 @@ pub use op::Op;
 pub use resources::{CONDITION_CODE, FRAME_POINTER, LINK, LOCALS, reads, writes};
 pub use table::row;
 pub use validity::valid;
+
+#[cfg(test)]
+mod tests;

@@ -1,4 +1,3 @@
-use Rattle.std.proofs.Common.{rules}
 use Rattle.i9_decode.proofs.Clear.{memory_clear}
 use Rattle.i9_decode.proofs.Forms.{memory_form, address_read}
 use Rattle.i9_decode.proofs.encoder.memory_code.Goals as goal

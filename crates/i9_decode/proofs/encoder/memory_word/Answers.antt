@@ -1,4 +1,4 @@
-use Rattle.std.proofs.Common.{◌≡◌, ◌∙◌, arith, ◌+◌, ◌*◌, rules}
+use Rattle.std.proofs.Common.{◌∙◌, arith}
 use Rattle.i9_isa.specs.Operands.{has_offset}
 use Rattle.i9_decode.proofs.Modes.{mode_added, not_true, not_false}
 use Rattle.i9_decode.proofs.encoder.memory_word.Goals as goal

@@ -1,4 +1,3 @@
-use Rattle.std.proofs.Common.{rules}
 use Rattle.i9_decode.proofs.Clear.{register_clear}
 use Rattle.i9_decode.proofs.Forms.{register_form}
 use Rattle.i9_decode.proofs.encoder.register_code.Goals as goal

@@ -1,4 +1,4 @@
-use Rattle.std.proofs.Common.{◌≡◌, ◌∙◌, rules}
+use Rattle.std.proofs.Common.{◌∙◌}
 use Rattle.i9_decode.proofs.Tables.{look_found}
 use Rattle.i9_decode.proofs.names.name_of.Goals as goal
 

@@ -1,4 +1,4 @@
-use Rattle.std.proofs.Common.{◌≡◌, ◌∙◌, sym, ap, ◌≤◌, rules}
+use Rattle.std.proofs.Common.{◌∙◌}
 use Rattle.i9_isa.proofs.Sets.{or_set, few_read}
 use Rattle.i9_isa.proofs.resources.reads.Goals as goal
 

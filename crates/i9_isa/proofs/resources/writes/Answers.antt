@@ -1,4 +1,4 @@
-use Rattle.std.proofs.Common.{◌≡◌, ◌∙◌, sym, ap}
+use Rattle.std.proofs.Common.{◌∙◌}
 use Rattle.i9_isa.proofs.Sets.{or_set}
 use Rattle.i9_isa.proofs.resources.writes.Goals as goal
 
