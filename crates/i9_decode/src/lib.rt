@@ -5,7 +5,6 @@ mod branch_names;
 mod decoder;
 mod encoder;
 mod fields;
-mod laws;
 mod memory_names;
 mod names;
 mod register_names;
@@ -14,7 +13,6 @@ mod spare;
 pub use decoder::decode;
 pub use encoder::{Code, decode_encoded, encode};
 pub use i9_isa::BadWord;
-pub use laws::built_forms_agree;
 pub use spare::spare_bits;
 
 #[cfg(test)]
