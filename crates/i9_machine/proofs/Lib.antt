@@ -1,6 +1,8 @@
-pub mod Store
+pub mod BuiltForms
 pub mod Tables
-pub mod Registers
+pub mod RegisterList
 pub mod Copies
 pub mod Needs
-pub mod Load
+pub mod Loading
+pub mod Frames
+pub mod Overlaid

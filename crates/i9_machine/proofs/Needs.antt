@@ -1,16 +1,25 @@
--- Where room is needed, bytes are written.
-use Rattle.std.proofs.Common.{◌≡◌, ◌≢◌, ℕ, ◌<◌, List, [], ◌∷◌, length, None, refl, arith}
+-- Where a line is printed, bytes are stored or frames are flushed.
+use Rattle.std.proofs.Common.{◌≡◌, ℕ, ◌+◌, ◌<◌, Bool, true, false, List, [], ◌∷◌, length, nat_lt, ◌||◌, Option, Some, None, refl, arith}
+use Rattle.std.proofs.lemmas.Bool.Decides.{nat_tests}
+use Rattle.i9_model.specs.declared.layout.TheConstants.{CONSOLE}
 use Rattle.i9_model.specs.Writes.{upwards, last_put}
+use Rattle.i9_model.specs.Step.{Action, Move, Stays, Saves, Returns, Flushes}
+use Rattle.i9_model.specs.PrintedText.{out_lines}
+use Rattle.i9_machine.specs.Effect.{point_count, line_count, is_costly, needs_room}
 
-pub upwards-some : (a : ℕ) (bs : List ℕ) → 0 < length bs → upwards a bs ≢ []
-upwards-some a [] h e = absurd (omega arith)
-upwards-some a (b ∷ bs) h e = cc
+some_bytes : (b : ℕ) (bs : List ℕ) (c : Bool) → (nat_lt 0 (length (b ∷ bs)) || c) ≡ true
+some_bytes b bs true = grind arith
+some_bytes b bs false = let more : 0 < length (b ∷ bs) = omega arith in grind (arith, nat_tests)
 
-last_put-nil : (ps : List (ℕ × ℕ)) (x : ℕ) → ps ≡ [] → last_put ps x ≡ None
+by_bytes : (a : ℕ) (bs : List ℕ) (m : Move) → 0 < length (out_lines (last_put (upwards a bs) CONSOLE)) + point_count m → (nat_lt 0 (length bs) || is_costly m) ≡ true
 unfolding last_put
-last_put-nil ps x e = rw e refl
+by_bytes a [] Flushes h = refl
+by_bytes a [] (Saves save words) h = refl
+by_bytes a [] Stays h = absurd (omega arith)
+by_bytes a [] Returns h = absurd (omega arith)
+by_bytes a (b ∷ bs) m h = some_bytes b bs (is_costly m)
 
-pub writes-some : (ps : List (ℕ × ℕ)) (x : ℕ) → last_put ps x ≢ None → ps ≢ []
-writes-some ps x ne e = ne (last_put-nil ps x e)
+pub line_needs : (a : Action) → 0 < line_count a → needs_room a ≡ true
+line_needs a h = by_bytes a.at a.bytes a.move h
 
-pub ruleset needs_rules = (upwards-some, writes-some)
+pub ruleset needs_rules = (line_needs)

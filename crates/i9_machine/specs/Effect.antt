@@ -1,13 +1,76 @@
 -- A planned effect as the action of the definitions.
-use Rattle.std.specs.Prelude.{ℕ, ◌<◌, List}
+use Rattle.std.specs.Prelude.{◌≡◌, ℕ, ◌+◌, ◌<◌, ◌%◌, Bool, true, false, ◌||◌, nat_lt, List, length, None, Option, Some, Result, Ok, Err}
 use Rattle.std.specs.List.{AllByRecursion}
-use Rattle.i9_model.specs.Writes.{upwards}
-use Rattle.i9_model.specs.Step.{Action}
+use Rattle.i9_model.specs.Memory.{console_byte}
+use Rattle.i9_model.specs.State.{State, Frames}
+use Rattle.i9_model.specs.Hazards.{save_hazard}
+use Rattle.i9_model.specs.Step as plain
+use Rattle.i9_model.specs.Access.{Access, hazard_in}
+use Rattle.i9_model.specs.Run.{writes_in}
+use Rattle.i9_model.specs.PrintedText.{out_lines}
+use Rattle.i9_memory.specs.declared.memory.Memory.{Memory}
+use Rattle.i9_memory.specs.Memory.{HasRoom}
+use Rattle.i9_watch.specs.declared.watch.Watch.{Watch}
+use Rattle.i9_watch.specs.Watch.{spare_of, HasFrameMarks}
+use Rattle.i9_machine.specs.declared.effect.Move.{Move}
+use Rattle.i9_machine.specs.declared.effect.Move.TheVariants as moves
 use Rattle.i9_machine.specs.declared.effect.Effect.{Effect}
 
-abbrev pub action_in : Effect → Action
-action_in e = record { sets = e.sets.items; writes = upwards e.address e.bytes.items; next = e.next }
+abbrev pub move_in : Move → plain.Move
+move_in moves.Stays = plain.Stays
+move_in (moves.Saves save words) = plain.Saves save words.items
+move_in moves.Returns = plain.Returns
+move_in moves.Flushes = plain.Flushes
+
+abbrev pub action_in : Effect → plain.Action
+action_in e = record { sets = e.sets.items; at = e.address; bytes = e.bytes.items; move = move_in e.frames; next = e.next }
 
 -- each place is one of the 32 registers
 abbrev pub AreRegisters : List (ℕ × ℕ) → Type 0
 AreRegisters sets = AllByRecursion (λ p. p.0 < 32) sets
+
+-- a frame that is saved meets no hazard
+abbrev pub CanMove : Frames → Move → Type 0
+CanMove s moves.Stays = Unit {0}
+CanMove s (moves.Saves save words) = (save % 16 ≡ 0) × (save_hazard s save ≡ None)
+CanMove s moves.Returns = Unit {0}
+CanMove s moves.Flushes = Unit {0}
+
+-- an effect is this action, and can be applied in a state
+pub record IsEffect (s : State) (action : plain.Action) (e : Effect) : Type 0 where
+  pub same : action_in e ≡ action
+  pub registers : AreRegisters e.sets.items
+  pub moves : CanMove s.frames e.frames
+
+-- an action whose access meets no hazard, or the hazard
+abbrev pub IsPlanFor : State → Access → plain.Action → Result Effect ℕ → Type 0
+IsPlanFor s access action (Ok e) = (hazard_in s.frames access ≡ None) × IsEffect s action e
+IsPlanFor s access action (Err a) = hazard_in s.frames access ≡ Some a
+
+-- there is room for what is done to frames
+abbrev pub HasMoveRoom : Memory → Watch → Move → Type 0
+HasMoveRoom m w moves.Stays = Unit {0}
+HasMoveRoom m w (moves.Saves save words) = HasRoom m save 64 × ((0 < spare_of w) × HasFrameMarks w save)
+HasMoveRoom m w moves.Returns = Unit {0}
+HasMoveRoom m w moves.Flushes = Unit {0}
+
+-- how many drained points are printed
+abbrev pub point_count : plain.Move → ℕ
+point_count plain.Stays = 0
+point_count (plain.Saves save words) = 0
+point_count plain.Returns = 0
+point_count plain.Flushes = 1
+
+-- how many lines are printed
+abbrev pub line_count : plain.Action → ℕ
+line_count a = length (out_lines (console_byte (writes_in a))) + point_count a.move
+
+abbrev pub is_costly : plain.Move → Bool
+is_costly plain.Stays = false
+is_costly (plain.Saves save words) = true
+is_costly plain.Returns = false
+is_costly plain.Flushes = true
+
+-- memory may be needed: something is stored, saved or printed
+abbrev pub needs_room : plain.Action → Bool
+needs_room a = nat_lt 0 (length a.bytes) || is_costly a.move

@@ -1,7 +1,6 @@
 pub mod Line
-pub mod Decode
+pub mod Built
 pub mod Effect
-pub mod Memory
 pub mod Processor
 pub mod Issue
 pub mod Run

@@ -1,7 +1,7 @@
 -- The lines and ends of the machine in the plain forms of the definitions.
 use Rattle.std.specs.Prelude.{◌≡◌, List, ◌++◌, map}
-use Rattle.i9_model.specs.Run.{Finish, Exit, Limit, Unbuilt}
-use Rattle.i9_model.specs.PrintedText.{Drained, AtEnd, Shown, Out, Point, End}
+use Rattle.i9_model.specs.Run.{Finish, Exit, Limit, Hazard, Unbuilt}
+use Rattle.i9_model.specs.PrintedText.{Drained, AtFlush, AtEnd, Shown, Out, Point, End}
 use Rattle.i9_machine.specs.declared.line.End.{End as MachineEnd}
 use Rattle.i9_machine.specs.declared.line.End.TheVariants as ends
 use Rattle.i9_machine.specs.declared.line.Point.{Point as MachinePoint}
@@ -12,9 +12,11 @@ use Rattle.i9_machine.specs.declared.line.Line.TheVariants as lines
 abbrev pub finish_of : MachineEnd → Finish
 finish_of (ends.Exit w) = Exit w
 finish_of ends.Limit = Limit
+finish_of (ends.Hazard a) = Hazard a
 finish_of (ends.Unbuilt a) = Unbuilt a
 
 abbrev pub drained_of : MachinePoint → Drained
+drained_of points.Flush = AtFlush
 drained_of points.End = AtEnd
 
 abbrev pub shown_of : Line → Shown

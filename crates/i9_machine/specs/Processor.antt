@@ -1,12 +1,22 @@
 -- The state that the processor stands for. What it does not keep yet is as after boot.
-use Rattle.std.specs.Prelude.{ℕ, List, [], false, slice_index}
+use Rattle.std.specs.Prelude.{◌≡◌, ℕ, List, false, slice_index, Option, Some, None, IfSome, Result, Ok, Err}
+use Rattle.i9_isa.specs.declared.inst.Inst.{Inst}
+use Rattle.i9_memory.specs.Memory.{memory_of}
+use Rattle.i9_watch.specs.Watch.{frames_of}
+use Rattle.i9_model.specs.Memory.{Memory, stored}
 use Rattle.i9_model.specs.State.{State}
+use Rattle.i9_model.specs.Access.{fetch_hazard}
+use Rattle.i9_model.specs.Unbuilt.{fetched}
 use Rattle.i9_machine.specs.declared.processor.Processor.{Processor}
-use Rattle.i9_machine.specs.Memory.{byte_of}
+use Rattle.i9_machine.specs.Built.{IsBuilt}
 
 -- the register of each number, of 32 that are kept
 abbrev pub registers_of : List ℕ → ℕ → ℕ
 registers_of regs r = slice_index regs r
+
+-- a memory after the bytes of an image were stored
+abbrev pub with_pairs : Memory → List (ℕ × ℕ) → Memory
+with_pairs m ps = record m { bytes = stored m.bytes ps }
 
 abbrev pub state_of : Processor → State
 state_of p = record {
@@ -16,10 +26,21 @@ state_of p = record {
   pc = p.pc;
   count = p.count;
   check = false;
-  memory = record { bytes = byte_of p.memory; mcon = λ _. 0 };
-  frames = record { soft = λ _. false; live = [] };
+  memory = memory_of p.memory;
+  frames = frames_of p.watch;
   interrupts = record { pending = 0; mask = 0; maps = λ _. 0; nmi = false };
   dma = record { channels = λ _. record { control = 0; count = 0; source = 0; target = 0 }; dmac = 0 };
   trace = record { tc = p.tc; ipb = λ _. 0; dab = λ _. 0; bpcon = 0 };
   prcb = λ _. 0;
 }
+
+-- the instruction that is built, or none; no hazard meets its fetch
+pub record IsFetched (s : State) (o : Option Inst) : Type 0 where
+  pub clear : fetch_hazard s ≡ None
+  pub value : o ≡ fetched s
+  pub built : IfSome o IsBuilt
+
+-- what a fetch answers, or its hazard
+abbrev pub Fetches : State → Result (Option Inst) ℕ → Type 0
+Fetches s (Ok o) = IsFetched s o
+Fetches s (Err a) = fetch_hazard s ≡ Some a

@@ -1,8 +1,8 @@
 -- One step of a machine from its own fields, with no word on the records before.
 use Rattle.std.specs.Prelude.{◌≡◌, List, Some, None}
 use Rattle.std.specs.Option.{option_map}
-use Rattle.i9_model.specs.Run.{Record, Next, Does, Ends, next_in, exit_in, writes_by}
-use Rattle.i9_model.specs.PrintedText.{lines_by, end_lines}
+use Rattle.i9_model.specs.Run.{Record, Next, Does, Ends, next_in, exit_in, action_by_kind}
+use Rattle.i9_model.specs.PrintedText.{action_lines, end_lines}
 use Rattle.i9_machine.specs.declared.line.End.{End}
 use Rattle.i9_machine.specs.declared.line.Issued.{Issued}
 use Rattle.i9_machine.specs.declared.line.Line.{Line}
@@ -21,10 +21,10 @@ pub record Did (before : Machine) (t : Issued) (m : Machine) (old new : List Lin
   pub done : Record
   pub is_next : next_for before ≡ Does done
   pub state : state_of m.processor ≡ done.after
-  pub due : option_map finish_of m.due ≡ exit_in (writes_by done.kind (state_of before.processor))
+  pub due : option_map finish_of m.due ≡ exit_in (state_of before.processor) (action_by_kind done.kind (state_of before.processor))
   pub bound : m.length ≡ before.length
   pub ended : m.ended ≡ None
-  pub lines : AddsLines old new (lines_by done.kind (state_of before.processor))
+  pub lines : AddsLines old new (action_lines (action_by_kind done.kind (state_of before.processor)) done.after)
   pub tells : TellsRecord done.kind (state_of before.processor) t
 
 -- the same machine, but for the room that it has

@@ -1,9 +1,9 @@
 -- What a machine stands for, and what one step of it does.
-use Rattle.std.specs.Prelude.{◌≡◌, ◌≢◌, ℕ, ◌-◌, ◌<◌, List, [], ◌∷◌, Option, Some, None}
+use Rattle.std.specs.Prelude.{◌≡◌, ℕ, ◌-◌, ◌<◌, List, ◌∷◌, Option, Some, None, true}
 use Rattle.std.specs.Option.{option_map}
 use Rattle.i9_model.specs.State.{State}
-use Rattle.i9_model.specs.Run.{Finish, Kind, Record, Instruction, Next, Does, Ends, IsPast, state_after, due_after, next, writes_by}
-use Rattle.i9_model.specs.PrintedText.{lines_by, end_lines}
+use Rattle.i9_model.specs.Run.{Finish, Kind, Record, Instruction, Next, Does, Ends, IsPast, state_after, due_after, next, action_by_kind}
+use Rattle.i9_model.specs.PrintedText.{action_lines, end_lines}
 use Rattle.i9_machine.specs.declared.line.End.{End}
 use Rattle.i9_machine.specs.declared.line.Issued.{Issued}
 use Rattle.i9_machine.specs.declared.line.Line.{Line}
@@ -12,6 +12,7 @@ use Rattle.i9_machine.specs.declared.line.Turn.TheVariants as turns
 use Rattle.i9_machine.specs.declared.machine.Machine.{Machine}
 use Rattle.i9_machine.specs.Processor.{state_of}
 use Rattle.i9_machine.specs.Issue.{TellsIssue}
+use Rattle.i9_machine.specs.Effect.{needs_room}
 use Rattle.i9_machine.specs.Line.{finish_of, AddsLines}
 
 -- the run is over with this end, where there is one
@@ -36,7 +37,7 @@ pub record DoesNext (image : List (ℕ × ℕ)) (limit : ℕ) (rs : List Record)
   pub done : Record
   pub is_next : next image limit rs ≡ Does done
   pub stands : StandsFor image limit (done ∷ rs) None m
-  pub lines : AddsLines old new (lines_by done.kind (state_after image rs))
+  pub lines : AddsLines old new (action_lines (action_by_kind done.kind (state_after image rs)) done.after)
   pub tells : TellsRecord done.kind (state_after image rs) t
 
 -- the end was answered, and its lines were appended
@@ -45,10 +46,10 @@ pub record EndsRun (image : List (ℕ × ℕ)) (limit : ℕ) (rs : List Record) 
   pub stands : StandsFor image limit rs (Some f) m
   pub lines : AddsLines old new (end_lines (state_after image rs) f)
 
--- memory may be needed to print an end and to write, and for nothing else
+-- memory may be needed to print an end, and to store, save and print, and for nothing else
 abbrev pub NeedsRoom : State → Next → Type 0
 NeedsRoom s (Ends f) = Unit {0}
-NeedsRoom s (Does r) = writes_by r.kind s ≢ []
+NeedsRoom s (Does r) = needs_room (action_by_kind r.kind s) ≡ true
 
 -- memory was refused, and nothing has changed
 pub record IsRefused (image : List (ℕ × ℕ)) (limit : ℕ) (rs : List Record) (m : Machine) (old new : List Line) : Type 0 where

@@ -2,27 +2,47 @@
 ghost use Rattle.std.specs.Prelude.{◌≡◌, ◌<◌, ◌^◌, length};
 ghost use Rattle.i9_model.specs.Writes.{last_put, upwards};
 ghost use Rattle.i9_model.specs.Memory.{console_byte, exit_word};
+ghost use Rattle.i9_memory.specs.Memory.{memory_of};
+ghost use Rattle.i9_model.specs.Run.{writes_in};
 
 use arrayvec::ArrayVec;
+use i9_memory::Memory;
 use i9_model::layout::{CONSOLE, EXIT_WORD};
 
-/// The most registers that an instruction sets: the sixteen locals of a call, and fp.
-const MOST_SETS: usize = 17;
+/// The most registers that an instruction sets: the sixteen locals of a frame, and fp.
+pub(crate) const MOST_SETS: usize = 17;
 
-/// The most bytes that an instruction writes: four words.
-const MOST_BYTES: usize = 16;
+/// The most bytes that an instruction stores: four words.
+pub(crate) const MOST_BYTES: usize = 16;
 
-/// The registers that are set with their values, the bytes that are written from an address
-/// upwards, and the next instruction address.
+/// What is done to frames.
+#[derive(Debug, Drop)]
+pub(crate) enum Move {
+    /// Nothing.
+    Stays,
+    /// The locals are saved at an address.
+    Saves {
+        save: u32,
+        words: ArrayVec<u32, 16>,
+    },
+    /// The first live frame is returned to, where one is live.
+    Returns,
+    /// All live frames are in memory.
+    Flushes,
+}
+
+/// The registers that are set with their values, the bytes that are stored from an address on, what
+/// is done to frames, and the next instruction address.
 #[derive(Debug, Drop)]
 pub(crate) struct Effect {
     pub(crate) sets: ArrayVec<(u8, u32), MOST_SETS>,
     pub(crate) address: u32,
     pub(crate) bytes: ArrayVec<u8, MOST_BYTES>,
+    pub(crate) frames: Move,
     pub(crate) next: u32,
 }
 
-/// The byte at a place, of bytes that stand from an address upwards.
+/// The byte at a place, of bytes that stand from an address on.
 fn byte_of_run(address: u32, bytes: &[u8], place: u32) -> Option<u8>
     requires { length bytes.now < 2 ^ 32 }
     ensures { result ≡ last_put (upwards address bytes.now) place }
@@ -31,26 +51,19 @@ fn byte_of_run(address: u32, bytes: &[u8], place: u32) -> Option<u8>
 }
 
 impl Effect {
-    ghost use Rattle.i9_machine.specs.Effect.{action_in};
+    ghost use Rattle.i9_machine.specs.Effect.{action_in, line_count};
 
-    /// The byte that is written at an address.
-    fn byte_at(&self, place: u32) -> Option<u8>
-        ensures { result ≡ last_put (action_in self.now).writes place }
+    /// The byte that is stored at an address.
+    pub(crate) fn byte_at(&self, place: u32) -> Option<u8>
+        ensures { result ≡ last_put (writes_in (action_in self.now)) place }
     {
         byte_of_run(self.address, self.bytes.as_slice(), place)
     }
 
-    /// The byte that goes out at the console.
-    pub(crate) fn console_byte(&self) -> Option<u8>
-        ensures { result ≡ console_byte (action_in self.now).writes }
-    {
-        self.byte_at(CONSOLE)
-    }
-
-    /// The word that ends the run, where all four of its bytes are written.
+    /// The word that ends the run, in the order of its region.
     #[tactic(auto, unfolding(i9_model::specs::Memory::exit_word))]
-    pub(crate) fn exit_word(&self) -> Option<u32>
-        ensures { result ≡ exit_word (action_in self.now).writes }
+    pub(crate) fn exit_word(&self, memory: &Memory) -> Option<u32>
+        ensures { result ≡ exit_word (memory_of memory.now) (writes_in (action_in self.now)) }
     {
         let bytes = [
             self.byte_at(EXIT_WORD)?,
@@ -58,6 +71,28 @@ impl Effect {
             self.byte_at(EXIT_WORD + 2)?,
             self.byte_at(EXIT_WORD + 3)?,
         ];
-        Some(u32::from_le_bytes(bytes))
+        Some(if memory.big(14) {
+            u32::from_be_bytes(bytes)
+        } else {
+            u32::from_le_bytes(bytes)
+        })
+    }
+
+    /// How many lines are printed.
+    pub(crate) fn line_count(&self) -> usize
+        ensures { result ≡ line_count (action_in self.now) }
+    {
+        let points = match self.frames {
+            Move::Flushes => 1,
+            _ => 0,
+        };
+        usize::from(self.console_byte().is_some()) + points
+    }
+
+    /// The byte that goes out at the console.
+    pub(crate) fn console_byte(&self) -> Option<u8>
+        ensures { result ≡ console_byte (writes_in (action_in self.now)) }
+    {
+        self.byte_at(CONSOLE)
     }
 }

@@ -2,12 +2,15 @@
 //! machine, and each step brings the next record or the end.
 #![tactic(auto)]
 
-mod decode;
+mod apply;
+mod built;
 mod effect;
 mod line;
+mod load;
 mod machine;
-mod memory;
+mod plan;
 mod processor;
+mod registers;
 
 pub use line::{End, Issued, Line, Point, Turn};
 pub use machine::Machine;

@@ -10,6 +10,8 @@ pub enum End {
     Exit(u32),
     /// The length of the run was reached.
     Limit,
+    /// An access met this byte, of a frame that may not have been written to memory.
+    Hazard(u32),
     /// What stands at this address is not built yet.
     Unbuilt(u32),
 }
@@ -40,6 +42,9 @@ pub enum Turn {
 /// The kinds of drained point.
 #[derive(Clone, Copy, Debug, PartialEq, Eq)]
 pub enum Point {
+    /// After flushreg.
+    Flush,
+    /// At the end of the run.
     End,
 }
 

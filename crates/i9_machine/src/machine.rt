@@ -1,21 +1,25 @@
 //! The machine, one step at a time.
-ghost use Rattle.std.specs.Prelude.{◌≡◌, ◌≢◌, ◌++◌, ◌+◌, ◌<◌, ◌≤◌, ◌^◌, ◌∷◌, [], ℕ, List, Option, None, Some, OnOk, OnErr, IfOk, IfSome, vec_len, vec_capacity, length};
+ghost use Rattle.std.specs.Prelude.{◌≡◌, ◌++◌, ◌+◌, ◌<◌, ◌≤◌, ◌∷◌, [], ℕ, List, Option, None, Some, OnOk, OnErr, IfOk, IfSome, vec_len, vec_capacity, length, true};
 ghost use Rattle.std.specs.Option.{option_map};
+ghost use Rattle.i9_memory.specs.Memory.{memory_of, HasRoom};
+ghost use Rattle.i9_watch.specs.Watch.{frames_of};
 ghost use Rattle.i9_model.specs.declared.layout.TheConstants.{MAX_LENGTH};
 ghost use Rattle.i9_model.specs.Image.{pairs_of};
-ghost use Rattle.i9_model.specs.Memory.{console_byte};
-ghost use Rattle.i9_model.specs.Step.{acted};
-ghost use Rattle.i9_model.specs.Run.{Finish, Record, Does, Ends, record_of, state_after, exit_in};
-ghost use Rattle.i9_model.specs.PrintedText.{view_of, out_lines, last_lines};
+ghost use Rattle.i9_model.specs.Overlay.{overlay};
+ghost use Rattle.i9_model.specs.Access.{hazard_of};
+ghost use Rattle.i9_model.specs.State.{State};
+ghost use Rattle.i9_model.specs.Step.{acted, action_by};
+ghost use Rattle.i9_model.specs.Run.{Finish, Record, Does, Ends, record_of, next_by_access, state_after, exit_in};
+ghost use Rattle.i9_model.specs.PrintedText.{view_of, out_lines, point_lines, action_lines, last_lines};
 ghost use Rattle.i9_machine.specs.declared.line.End.{End};
-ghost use Rattle.i9_machine.specs.Decode.{IsBuilt};
-ghost use Rattle.i9_machine.specs.Effect.{action_in, AreRegisters};
+ghost use Rattle.i9_machine.specs.Built.{IsBuilt};
+ghost use Rattle.i9_machine.specs.Effect.{action_in, move_in, AreRegisters, CanMove, HasMoveRoom, IsEffect, point_count, line_count, needs_room};
 ghost use Rattle.i9_machine.specs.Line.{finish_of, AddsLines};
 ghost use Rattle.i9_machine.specs.Processor.{state_of};
-ghost use Rattle.i9_machine.specs.Memory.{HasRoom};
 
-use crate::effect::Effect;
+use crate::effect::{Effect, Move};
 use crate::line::{End, Line, Point, Turn, put_line};
+use crate::load::has_tables;
 use crate::processor::Processor;
 use i9_hex::Segments;
 use i9_isa::{Inst, NoMemory};
@@ -52,16 +56,17 @@ fn put_end(e: End, view: View, out: &mut Vec<Line>) -> Result<(), NoMemory>
     }
 }
 
-/// Makes room for the line of a byte that goes out at the console.
-fn reserve_out(byte: Option<u8>, out: &mut Vec<Line>) -> Result<(), NoMemory>
+/// Makes room for the lines of an effect.
+fn reserve_lines(e: &Effect, out: &mut Vec<Line>) -> Result<(), NoMemory>
     ensures items { out.new.items ≡ out.old.items }
-    ensures room { OnOk result (vec_len out.new + length (out_lines byte) ≤ vec_capacity out.new) }
-    ensures needed { OnErr result (byte ≢ None) }
+    ensures room { OnOk result (vec_len out.new + line_count (action_in e.now) ≤ vec_capacity out.new) }
+    ensures needed { OnErr result (needs_room (action_in e.now) ≡ true) }
 {
-    if byte.is_none() {
+    let lines = e.line_count();
+    if lines == 0 {
         return Ok(());
     }
-    match out.reserve(1) {
+    match out.reserve(lines) {
         Ok(()) => Ok(()),
         Err(_) => Err(NoMemory),
     }
@@ -70,20 +75,23 @@ fn reserve_out(byte: Option<u8>, out: &mut Vec<Line>) -> Result<(), NoMemory>
 /// Adds the line of a byte that goes out at the console.
 fn put_out(byte: Option<u8>, out: &mut Vec<Line>)
     requires { vec_len out.old + length (out_lines byte) ≤ vec_capacity out.old }
-    ensures { AddsLines out.old.items out.new.items (out_lines byte) }
+    ensures lines { AddsLines out.old.items out.new.items (out_lines byte) }
+    ensures len { vec_len out.new ≡ vec_len out.old + length (out_lines byte) }
+    ensures capacity { vec_capacity out.old ≤ vec_capacity out.new }
 {
     if let Some(b) = byte {
         put_line(out, Line::Out(b));
     }
 }
 
-/// The exit that is planned.
-fn exit_in(e: &Effect) -> Option<End>
-    ensures { option_map finish_of result ≡ exit_in (action_in e.now).writes }
+/// Adds the drained point behind a flush.
+fn put_point(m: &Move, view: View, out: &mut Vec<Line>)
+    requires { vec_len out.old + point_count (move_in m.now) ≤ vec_capacity out.old }
+    ensures { (s : State) → view ≡ view_of s → AddsLines out.old.items out.new.items (point_lines (move_in m.now) s) }
 {
-    match e.exit_word() {
-        Some(w) => Some(End::Exit(w)),
-        None => None,
+    if let Move::Flushes = m {
+        let kind = Point::Flush;
+        put_line(out, Line::Point { kind, view });
     }
 }
 
@@ -104,7 +112,7 @@ impl Machine {
         ensures { IfOk result (λ m. StandsFor (pairs_of image.now) length [] None m) }
     {
         let processor = Processor::boot(alloc, image)?;
-        let due = if processor.memory.has_tables() {
+        let due = if has_tables(&processor.memory) {
             Some(End::Unbuilt(PRCB_POINTER))
         } else {
             None
@@ -126,6 +134,15 @@ impl Machine {
         self.processor.view()
     }
 
+    /// A byte of overlaid memory: `None` exactly where it is not compared, which is where only the save
+    /// of a frame wrote it and that frame is not live any more.
+    pub fn byte(&self, a: u32) -> Option<u8>
+        ensures { (image : List (ℕ × ℕ)) (limit : ℕ) (rs : List Record) (end : Option Finish) → StandsFor image limit rs end self.now
+            → result ≡ overlay (state_after image rs) a }
+    {
+        self.processor.byte(a)
+    }
+
     /// Answers an end, once its lines are written.
     fn finish(&mut self, e: End, out: &mut Vec<Line>) -> Turn
         requires running { self.old.ended ≡ None }
@@ -142,8 +159,7 @@ impl Machine {
         }
     }
 
-    /// Makes room for what an instruction writes and prints.
-    #[tactic(auto, using(crate::proofs::Needs::needs_rules))]
+    /// Makes room for what an instruction stores, saves and prints.
     fn make_room(&mut self, e: &Effect, out: &mut Vec<Line>) -> Result<(), NoMemory>
         ensures state { state_of self.new.processor ≡ state_of self.old.processor }
         ensures count { self.new.processor.count ≡ self.old.processor.count }
@@ -151,49 +167,79 @@ impl Machine {
         ensures bound { self.new.length ≡ self.old.length }
         ensures ended { self.new.ended ≡ self.old.ended }
         ensures items { out.new.items ≡ out.old.items }
-        ensures room { OnOk result (HasRoom self.new.processor.memory e.now.address (length e.now.bytes.items)) }
-        ensures lines { OnOk result (vec_len out.new + length (out_lines (console_byte (action_in e.now).writes)) ≤ vec_capacity out.new) }
-        ensures needed { OnErr result ((action_in e.now).writes ≢ []) }
+        ensures bytes { OnOk result (HasRoom self.new.processor.memory e.now.address (length e.now.bytes.items)) }
+        ensures frames { OnOk result (HasMoveRoom self.new.processor.memory self.new.processor.watch e.now.frames) }
+        ensures lines { OnOk result (vec_len out.new + line_count (action_in e.now) ≤ vec_capacity out.new) }
+        ensures needed { OnErr result (needs_room (action_in e.now) ≡ true) }
     {
         self.processor.reserve(e)?;
-        reserve_out(e.console_byte(), out)
+        reserve_lines(e, out)
     }
 
-    /// Does what is planned, prints its byte, and keeps the exit that it brings.
+    /// The exit that an effect brings.
+    fn exit_in(&self, e: &Effect) -> Option<End>
+        ensures { option_map finish_of result ≡ exit_in (state_of self.now.processor) (action_in e.now) }
+    {
+        match e.exit_word(&self.processor.memory) {
+            Some(w) => Some(End::Exit(w)),
+            None => None,
+        }
+    }
+
+    /// Does what is planned, prints its lines, and keeps the exit that it brings.
     fn act(&mut self, e: &Effect, out: &mut Vec<Line>)
         requires registers { AreRegisters e.now.sets.items }
-        requires room { HasRoom self.old.processor.memory e.now.address (length e.now.bytes.items) }
-        requires lines { vec_len out.old + length (out_lines (console_byte (action_in e.now).writes)) ≤ vec_capacity out.old }
+        requires can { CanMove (frames_of self.old.processor.watch) e.now.frames }
+        requires bytes { HasRoom self.old.processor.memory e.now.address (length e.now.bytes.items) }
+        requires frames { HasMoveRoom self.old.processor.memory self.old.processor.watch e.now.frames }
+        requires lines { vec_len out.old + line_count (action_in e.now) ≤ vec_capacity out.old }
         requires below { self.old.processor.count < self.old.length }
         ensures state { state_of self.new.processor ≡ acted (state_of self.old.processor) (action_in e.now) }
         ensures count { self.new.processor.count ≡ self.old.processor.count + 1 }
-        ensures due { option_map finish_of self.new.due ≡ exit_in (action_in e.now).writes }
+        ensures due { option_map finish_of self.new.due ≡ exit_in (state_of self.old.processor) (action_in e.now) }
         ensures bound { self.new.length ≡ self.old.length }
         ensures ended { self.new.ended ≡ self.old.ended }
-        ensures lines { AddsLines out.old.items out.new.items (out_lines (console_byte (action_in e.now).writes)) }
+        ensures lines { AddsLines out.old.items out.new.items (action_lines (action_in e.now) (acted (state_of self.old.processor) (action_in e.now))) }
     {
+        let due = self.exit_in(e);
         self.processor.apply(e);
-        self.due = exit_in(e);
+        self.due = due;
         put_out(e.console_byte(), out);
+        put_point(&e.frames, self.processor.view(), out);
     }
 
-    /// Does an instruction.
-    fn issue(&mut self, i: &Inst, out: &mut Vec<Line>) -> Turn
+    /// Does an instruction whose effect is known.
+    fn perform(&mut self, i: &Inst, e: &Effect, out: &mut Vec<Line>) -> Turn
         requires running { self.old.ended ≡ None }
-        requires built { IsBuilt i.now }
         requires below { self.old.processor.count < self.old.length }
+        requires effect { IsEffect (state_of self.old.processor) (action_by i.now.op i.now (state_of self.old.processor)) e.now }
         requires is_next { next_for self.old ≡ Does (record_of i.now (state_of self.old.processor)) }
         ensures steps { Steps self.old result self.new out.old.items out.new.items }
         ensures fewer { LeavesFewer result (steps_left self.old) (steps_left self.new) }
     {
         let issued = self.processor.issued(i);
-        let effect = self.processor.plan(i);
-        match self.make_room(&effect, out) {
+        match self.make_room(e, out) {
             Ok(()) => {
-                self.act(&effect, out);
+                self.act(e, out);
                 Turn::Issued(issued)
             }
             Err(_) => Turn::Memory,
+        }
+    }
+
+    /// Does an instruction, unless its access meets a hazard.
+    #[tactic(auto, unfolding(i9_model::specs::Access::hazard_of))]
+    fn issue(&mut self, i: &Inst, out: &mut Vec<Line>) -> Turn
+        requires running { self.old.ended ≡ None }
+        requires built { IsBuilt i.now }
+        requires below { self.old.processor.count < self.old.length }
+        requires is_next { next_for self.old ≡ next_by_access (state_of self.old.processor) i.now (hazard_of i.now (state_of self.old.processor)) }
+        ensures steps { Steps self.old result self.new out.old.items out.new.items }
+        ensures fewer { LeavesFewer result (steps_left self.old) (steps_left self.new) }
+    {
+        match self.processor.plan(i) {
+            Ok(effect) => self.perform(i, &effect, out),
+            Err(address) => self.finish(End::Hazard(address), out),
         }
     }
 
@@ -210,11 +256,12 @@ impl Machine {
             return self.finish(End::Limit, out);
         }
         match self.processor.fetch() {
-            None => {
+            Err(address) => self.finish(End::Hazard(address), out),
+            Ok(None) => {
                 let address = self.processor.ip;
                 self.finish(End::Unbuilt(address), out)
             }
-            Some(i) => self.issue(&i, out),
+            Ok(Some(i)) => self.issue(&i, out),
         }
     }
 

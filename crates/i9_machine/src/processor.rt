@@ -1,27 +1,32 @@
-//! The registers, controls and memory of the machine.
-ghost use Rattle.std.specs.Prelude.{◌≡◌, ◌∷◌, [], ◌+◌, ◌^◌, ◌<◌, OnOk, OnErr, IfOk, IfSome, length};
+//! The registers, controls, memory and frames of the machine.
+ghost use Rattle.std.specs.Prelude.{◌≡◌, ◌+◌, ◌%◌, ◌<◌, ◌^◌, ◌==◌, ℕ, Option, None, Some, if◌then◌else◌, IfOk, IfSome, true};
+ghost use Rattle.i9_isa.specs.Valid.{IsValid};
+ghost use Rattle.i9_isa.specs.Words.{words_of};
+ghost use Rattle.i9_memory.specs.Memory.{memory_of};
+ghost use Rattle.i9_watch.specs.Watch.{frames_of};
 ghost use Rattle.i9_model.specs.Image.{pairs_of};
 ghost use Rattle.i9_model.specs.State.{State, boot};
-ghost use Rattle.i9_model.specs.Writes.{put, written};
-ghost use Rattle.i9_model.specs.Operands.{value, number_of, address};
-ghost use Rattle.i9_model.specs.Step.{action_of, acted, sets_by, bytes_by, second_word};
-ghost use Rattle.i9_model.specs.Unbuilt.{fetched, access_size, is_unaligned};
+ghost use Rattle.i9_model.specs.Writes.{wrapped};
+ghost use Rattle.i9_model.specs.Hazards.{read_hazard};
+ghost use Rattle.i9_model.specs.Operands.{value, address};
+ghost use Rattle.i9_model.specs.Step.{second_word};
+ghost use Rattle.i9_model.specs.Unbuilt.{is_built, is_built_mode, is_unaligned, is_other_return};
+ghost use Rattle.i9_model.specs.Overlay.{overlay};
 ghost use Rattle.i9_model.specs.PrintedText.{view_of};
+ghost use Rattle.i9_machine.specs.Built.{IsBuilt, IsSource};
 ghost use Rattle.i9_machine.specs.Issue.{TellsIssue};
-ghost use Rattle.i9_machine.specs.Decode.{IsBuilt, IsSource, IsRegister, IsBuiltMode};
-ghost use Rattle.i9_machine.specs.Effect.{action_in, AreRegisters};
-ghost use Rattle.i9_machine.specs.Memory.{byte_of, HasRoom};
-ghost use Rattle.i9_machine.specs.Processor.{registers_of};
 
-use crate::decode::decode;
-use crate::effect::Effect;
+use crate::built::{access_size, is_built_form, is_local_return};
 use crate::line::Issued;
-use crate::memory::Memory;
-use arrayvec::ArrayVec;
+use crate::load::load;
+use crate::registers::boot_registers;
+use i9_decode::decode;
 use i9_hex::Segments;
 use i9_isa::{Ea, Inst, Mode, NoMemory, Op, Operand, word_count};
+use i9_memory::Memory;
 use i9_model::View;
-use i9_model::layout::{BOOT_PC, FIRST_INSTRUCTION, FP, FRAME_SIZE, SP};
+use i9_model::layout::{BOOT_PC, FIRST_INSTRUCTION, PFP};
+use i9_watch::Watch;
 use std::alloc::Global;
 
 /// All that an instruction may read or change.
@@ -34,80 +39,11 @@ pub(crate) struct Processor {
     pub(crate) tc: u32,
     pub(crate) count: u64,
     pub(crate) memory: Memory,
-}
-
-/// The register of a destination.
-fn number_of(o: Operand) -> u8
-    requires { IsRegister o }
-    ensures value { result ≡ number_of o }
-    ensures range { result < 32 }
-{
-    match o {
-        Operand::Reg(r) => r,
-        _ => 0,
-    }
-}
-
-/// What the data access of an instruction has to be aligned to.
-fn access_size(op: Op) -> u32
-    ensures { result ≡ access_size op }
-{
-    match op {
-        Op::St => 4,
-        _ => 1,
-    }
-}
-
-/// The bytes that an instruction stores of a value.
-fn stored_bytes(op: Op, v: u32) -> ArrayVec<u8, 16>
-    ensures { result.items ≡ bytes_by op v }
-{
-    let mut bytes = ArrayVec::new();
-    match op {
-        Op::St => {
-            let [b0, b1, b2, b3] = v.to_le_bytes();
-            bytes.push(b0);
-            bytes.push(b1);
-            bytes.push(b2);
-            bytes.push(b3);
-        }
-        Op::Stob => bytes.push((v % 256) as u8),
-        _ => {}
-    }
-    bytes
-}
-
-/// Sets a register.
-#[tactic(auto, using(crate::proofs::Registers::register_rules))]
-fn set(regs: &mut [u32; 32], r: u8, v: u32)
-    requires { r < 32 }
-    ensures { registers_of regs.new ≡ put (registers_of regs.old) r v }
-{
-    regs[r as usize] = v;
-}
-
-/// Sets registers, one after the other.
-#[tactic(auto, using(crate::proofs::Registers::register_rules))]
-fn set_all(regs: &mut [u32; 32], sets: &[(u8, u32)])
-    requires { AreRegisters sets.now }
-    ensures { registers_of regs.new ≡ written (registers_of regs.old) sets.now }
-{
-    for (r, v) in sets {
-        set(regs, *r, *v);
-    }
-}
-
-/// The registers after boot, with the frame at 0.
-fn boot_registers() -> [u32; 32]
-    ensures { registers_of result ≡ written (λ _. 0) ((FP, 0) ∷ (SP, FRAME_SIZE) ∷ []) }
-{
-    let mut regs = [0; 32];
-    set_all(&mut regs, &[(FP, 0), (SP, FRAME_SIZE)]);
-    regs
+    pub(crate) watch: Watch,
 }
 
 impl Processor {
-    ghost use Rattle.i9_machine.specs.Processor.{state_of};
+    ghost use Rattle.i9_machine.specs.Processor.{state_of, Fetches};
 
     /// The state after boot.
     #[tactic(auto, unfolding(i9_model::specs::State::boot))]
@@ -116,7 +52,7 @@ impl Processor {
         ensures count { IfOk result (λ p. p.count ≡ 0) }
     {
         let mut memory = Memory::new(alloc);
-        memory.load(image)?;
+        load(&mut memory, image)?;
         let first = memory.word(FIRST_INSTRUCTION);
         Ok(Processor {
             regs: boot_registers(),
@@ -126,11 +62,12 @@ impl Processor {
             tc: 0,
             count: 0,
             memory,
+            watch: Watch::new(alloc),
         })
     }
 
     /// The value of a source.
-    fn value(&self, o: Operand) -> u32
+    pub(crate) fn value(&self, o: Operand) -> u32
         requires { IsSource o }
         ensures { result ≡ value (state_of self.now) o }
     {
@@ -142,8 +79,8 @@ impl Processor {
     }
 
     /// The effective address.
-    fn address(&self, e: &Ea) -> u32
-        requires mode { IsBuiltMode e.now.mode }
+    pub(crate) fn address(&self, e: &Ea) -> u32
+        requires mode { is_built_mode e.now.mode ≡ true }
         requires base { e.now.base < 32 }
         requires disp { e.now.disp < 2 ^ 32 }
         ensures { result ≡ address (state_of self.now) e.now }
@@ -154,51 +91,6 @@ impl Processor {
         }
     }
 
-    /// The registers that an instruction sets.
-    fn sets(&self, i: &Inst) -> ArrayVec<(u8, u32), 17>
-        requires { IsBuilt i.now }
-        ensures sets { result.items ≡ sets_by i.now.op i.now (state_of self.now) }
-        ensures registers { AreRegisters result.items }
-    {
-        let mut sets = ArrayVec::new();
-        match i.op {
-            Op::Mov => sets.push((number_of(i.c), self.value(i.a))),
-            Op::Lda => sets.push((number_of(i.c), self.address(&i.ea))),
-            _ => {}
-        }
-        sets
-    }
-
-    /// What an instruction will do.
-    #[tactic(auto, unfolding(i9_model::specs::Step::action_of))]
-    pub(crate) fn plan(&self, i: &Inst) -> Effect
-        requires { IsBuilt i.now }
-        ensures action { action_in result ≡ action_of i.now (state_of self.now) }
-        ensures registers { AreRegisters result.sets.items }
-    {
-        let value = self.value(i.c);
-        Effect {
-            sets: self.sets(i),
-            address: self.address(&i.ea),
-            bytes: stored_bytes(i.op, value),
-            next: self.ip.wrapping_add(4 * word_count(i)),
-        }
-    }
-
-    /// Does what was planned.
-    #[tactic(auto, unfolding(i9_model::specs::Step::acted))]
-    pub(crate) fn apply(&mut self, e: &Effect)
-        requires registers { AreRegisters e.now.sets.items }
-        requires room { HasRoom self.old.memory e.now.address (length e.now.bytes.items) }
-        requires count { self.old.count < 2 ^ 63 }
-        ensures state { state_of self.new ≡ acted (state_of self.old) (action_in e.now) }
-        ensures count { self.new.count ≡ self.old.count + 1 }
-    {
-        set_all(&mut self.regs, e.sets.as_slice());
-        self.memory.store(e.address, e.bytes.as_slice());
-        self.ip = e.next;
-        self.count += 1;
-    }
     /// Whether an instruction has a data access that isn't aligned.
     fn is_unaligned(&self, i: &Inst) -> bool
         requires { IsBuilt i.now }
@@ -207,22 +99,61 @@ impl Processor {
         self.address(&i.ea) % access_size(i.op) != 0
     }
 
-    /// The instruction at the instruction address, where it is built.
-    #[tactic(auto, unfolding(i9_model::specs::Unbuilt::fetched))]
-    pub(crate) fn fetch(&self) -> Option<Inst>
-        ensures value { result ≡ fetched (state_of self.now) }
+    /// Whether an instruction is a return of a type that is not built.
+    fn is_other_return(&self, op: Op) -> bool
+        ensures { result ≡ is_other_return op (state_of self.now) }
+    {
+        match op {
+            Op::Ret => !is_local_return(self.regs[PFP as usize]),
+            _ => false,
+        }
+    }
+
+    /// The instruction, where it is built.
+    #[tactic(auto, unfolding(i9_model::specs::Unbuilt::is_built), using(crate::proofs::BuiltForms::built_rules))]
+    fn if_built(&self, i: Inst) -> Option<Inst>
+        requires { IsValid i }
+        ensures value { result ≡ (if is_built i (state_of self.now) then Some i else None) }
         ensures built { IfSome result IsBuilt }
     {
-        if self.pc % 2 == 1 {
+        if !is_built_form(&i) {
             return None;
         }
-        let first = self.memory.word(self.ip);
-        let second = self.memory.word(self.ip.wrapping_add(4));
-        let i = decode(first, second)?;
-        if self.is_unaligned(&i) {
+        if self.is_unaligned(&i) || self.is_other_return(i.op) || self.pc % 2 == 1 {
             return None;
         }
         Some(i)
+    }
+
+    /// The hazard of the fetch of a second word.
+    fn second_hazard(&self, i: &Inst) -> Option<u32>
+        ensures { result ≡ (if words_of i.now == 2 then read_hazard (frames_of self.now.watch) (wrapped (self.now.ip + 4)) 4 else None) }
+    {
+        if word_count(i) == 2 {
+            self.watch.check_read(self.ip.wrapping_add(4), 4)
+        } else {
+            None
+        }
+    }
+
+    /// The instruction at the instruction address, where it is built, or the hazard of its fetch.
+    #[tactic(auto, unfolding(i9_model::specs::Unbuilt::fetched, i9_model::specs::Access::fetch_hazard))]
+    pub(crate) fn fetch(&self) -> Result<Option<Inst>, u32>
+        ensures { Fetches (state_of self.now) result }
+    {
+        if let Some(a) = self.watch.check_read(self.ip, 4) {
+            return Err(a);
+        }
+        let first = self.memory.word(self.ip);
+        let second = self.memory.word(self.ip.wrapping_add(4));
+        let i = match decode(first, second) {
+            Ok(i) => i,
+            Err(_) => return Ok(None),
+        };
+        if let Some(a) = self.second_hazard(&i) {
+            return Err(a);
+        }
+        Ok(self.if_built(i))
     }
 
     /// What is told of an instruction that stands at the instruction address.
@@ -243,7 +174,7 @@ impl Processor {
     }
 
     /// What a drained point shows.
-    #[tactic(auto, using(crate::proofs::Registers::register_rules))]
+    #[tactic(auto, using(crate::proofs::RegisterList::register_rules))]
     pub(crate) fn view(&self) -> View
         ensures { result ≡ view_of (state_of self.now) }
     {
@@ -257,13 +188,17 @@ impl Processor {
         }
     }
 
-    /// Makes room for the bytes of what is planned.
-    pub(crate) fn reserve(&mut self, e: &Effect) -> Result<(), NoMemory>
-        ensures state { state_of self.new ≡ state_of self.old }
-        ensures count { self.new.count ≡ self.old.count }
-        ensures room { OnOk result (HasRoom self.new.memory e.now.address (length e.now.bytes.items)) }
-        ensures needed { OnErr result (0 < length e.now.bytes.items) }
+    /// A byte of overlaid memory.
+    #[tactic(auto, unfolding(i9_model::specs::Overlay::overlay), using(crate::proofs::Overlaid::overlay_rules))]
+    pub(crate) fn byte(&self, a: u32) -> Option<u8>
+        ensures { result ≡ overlay (state_of self.now) a }
     {
-        self.memory.reserve(e.address, e.bytes.len() as u32)
+        if Watch::touches_port(a, 1).is_some() {
+            return Some(0);
+        }
+        if self.watch.soft(a) && self.watch.check_write(a, 1).is_none() {
+            return None;
+        }
+        Some(self.memory.byte(a))
     }
 }

@@ -1,6 +1,6 @@
 -- Operands: the value of a source, the register of a destination, the effective address, and the target of a branch.
-use Rattle.std.specs.Prelude.{ℕ, ◌+◌, ◌*◌, ◌^◌, ℤ, pos, ◌+ℤ◌, unsigned_abs}
-use Rattle.std.specs.Int.{int_rem_euclid}
+use Rattle.std.specs.Prelude.{ℕ, ◌+◌, ◌*◌, ◌^◌, ℤ, pos, unsigned_abs}
+use Rattle.std.specs.Int.{int_rem_euclid, w32, cast_unsigned}
 use Rattle.i9_isa.specs.declared.inst.Operand.{Operand}
 use Rattle.i9_isa.specs.declared.inst.Operand.TheVariants.{Reg, Lit, Sfr}
 use Rattle.i9_isa.specs.declared.inst.Mode.{Mode}
@@ -45,6 +45,6 @@ address s e = wrapped (sum_for e.mode s e)
 abbrev pub reduced : ℤ → ℕ
 reduced z = unsigned_abs (int_rem_euclid z (pos (2 ^ 32)))
 
--- the target of a branch: the instruction's own address and its displacement
+-- the target of a branch: the instruction's own address and its displacement in two's complement
 abbrev pub target : Inst → State → ℕ
-target i s = reduced (pos s.ip +ℤ i.disp)
+target i s = wrapped (s.ip + cast_unsigned w32 i.disp)

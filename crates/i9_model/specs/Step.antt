@@ -45,9 +45,13 @@ storing i s a bytes = record { sets = []; at = a; bytes = bytes; move = Stays; n
 abbrev pub frame_sets : List ℕ → ℕ → List (ℕ × ℕ)
 frame_sets locals fp = pairs_at (λ r. r) 0 locals ++ (FP, fp) ∷ []
 
--- the locals that a push saves, with the return address in rip
+-- what a push saves of a register: rip has the return address
+abbrev pub saved_local : State → ℕ → ℕ → ℕ
+saved_local s back r = if r == RIP then back else s.regs r
+
+-- the locals that a push saves
 abbrev pub saved_locals : State → ℕ → List ℕ
-saved_locals s back = map (λ r. if r == RIP then back else s.regs r) (range_with_len 0 LOCALS)
+saved_locals s back = map (saved_local s back) (range_with_len 0 LOCALS)
 
 -- call saves the locals, and goes on in a new frame above sp
 abbrev pub call_action : Inst → State → Action

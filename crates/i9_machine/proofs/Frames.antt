@@ -1,0 +1,93 @@
+-- The words of frames one by one, and what a push and a return do.
+use Rattle.std.proofs.Common.{◌≡◌, ℕ, Bool, zero, suc, ◌+◌, ◌*◌, ◌^◌, ◌<◌, ◌≤◌, List, [], ◌∷◌, ◌++◌, length, get_or, take, drop, Option, Some, None, Result, Ok, Err, refl, sym, ap, ◌∙◌, add-one, zero-add, arith}
+use Rattle.std.specs.Prelude.{map, slice_get, is_some, true, false}
+use Rattle.std.specs.List.{range_with_len, AllByRecursion}
+use Rattle.std.proofs.lemmas.List.{take_all, at_drop_more, at_drop_all}
+use Rattle.std.proofs.lemmas.List.FromFn.{map-range_with_len_more}
+use Rattle.i9_model.specs.declared.layout.TheConstants.{FP}
+use Rattle.i9_model.specs.declared.push.Push.{Push}
+use Rattle.i9_model.specs.Writes.{wrapped, pairs_at}
+use Rattle.i9_model.specs.Memory.{Memory, word_in, word_bytes, with_bytes, with_words, words_in}
+use Rattle.i9_model.specs.State.{Frames}
+use Rattle.i9_model.specs.Frames.{returned}
+use Rattle.i9_model.specs.Hazards.{push_unless}
+use Rattle.i9_model.specs.Step.{frame_sets}
+use Rattle.i9_machine.specs.Effect.{AreRegisters}
+
+-- ---- the registers of a frame
+
+abbrev pub same_number : ℕ → ℕ
+same_number r = r
+
+pairs_next : (n : ℕ) (xs : List ℕ) (k : ℕ) → k < length xs → pairs_at same_number n (take (suc k) xs) ≡ pairs_at same_number n (take k xs) ++ (n + k, get_or xs k 0) ∷ []
+pairs_next n [] k h = absurd (omega arith)
+pairs_next n (x ∷ xs) zero h = let here : n ≡ n + 0 = omega arith in ap (λ (m : ℕ). (m, x) ∷ []) here
+pairs_next n (x ∷ xs) (suc k) h =
+    let place : n + 1 + k ≡ n + suc k = omega arith in
+    ap (λ (ps : List (ℕ × ℕ)). (n, x) ∷ ps) (pairs_next (n + 1) xs k (omega arith))
+    ∙ ap (λ (m : ℕ). (n, x) ∷ pairs_at same_number (n + 1) (take k xs) ++ (m, get_or xs k 0) ∷ []) place
+
+-- one more register
+pub pairs_more : (xs : List ℕ) (k : ℕ) → k < length xs → pairs_at same_number 0 (take (k + 1) xs) ≡ pairs_at same_number 0 (take k xs) ++ (k, get_or xs k 0) ∷ []
+pairs_more xs k h =
+    ap (λ (j : ℕ). pairs_at same_number 0 (take j xs)) (add-one k)
+    ∙ pairs_next 0 xs k h
+    ∙ ap (λ (j : ℕ). pairs_at same_number 0 (take k xs) ++ (j, get_or xs k 0) ∷ []) (zero-add k)
+
+pub pairs_all : (xs : List ℕ) (k : ℕ) → length xs ≤ k → pairs_at same_number 0 (take k xs) ≡ pairs_at same_number 0 xs
+pairs_all xs k h = ap (pairs_at same_number 0) (take_all k xs h)
+
+pairs_registers : (n : ℕ) (xs : List ℕ) (f v : ℕ) → n + length xs ≤ 32 → f < 32 → AreRegisters (pairs_at same_number n xs ++ (f, v) ∷ [])
+pairs_registers n [] f v h k = (k, tt)
+pairs_registers n (x ∷ xs) f v h k = (omega arith, pairs_registers (n + 1) xs f v (omega arith) k)
+
+pub frame_registers : (xs : List ℕ) (v : ℕ) → length xs ≤ 32 → AreRegisters (frame_sets xs v)
+frame_registers xs v h = pairs_registers 0 xs FP v (omega arith) (omega arith)
+
+-- ---- the words of a frame
+
+pub locals_more : (f : ℕ → ℕ) (k : ℕ) → map f (range_with_len 0 (k + 1)) ≡ map f (range_with_len 0 k) ++ f k ∷ []
+locals_more f k = map-range_with_len_more f 0 k k (omega arith)
+
+pub ruleset frame_rules = (pairs_more, pairs_all, frame_registers, locals_more)
+
+-- one more word is stored
+pub with_words_more : (m : Memory) (a : ℕ) (ws : List ℕ) (i : ℕ) → i < length ws → with_words m a (drop i ws) ≡ with_words (with_bytes m a (word_bytes m a (get_or ws i 0))) (wrapped (a + 4)) (drop (i + 1) ws)
+unfolding with_words
+with_words_more m a ws i h = at_drop_more (with_words m a) ws i 0 h
+
+-- no word is left
+pub with_words_done : (m : Memory) (a : ℕ) (ws : List ℕ) (i : ℕ) → length ws ≤ i → with_words m a (drop i ws) ≡ m
+unfolding with_words
+with_words_done m a ws i h = at_drop_all (with_words m a) ws i h
+
+pub ruleset words_rules = (with_words_more, with_words_done)
+
+-- ---- pushes and returns
+
+pub push_free : (o : Option ℕ) (p q : Push) → push_unless o p ≡ Ok q → (o ≡ None) × (p ≡ q)
+push_free None p q e = (refl, cc)
+push_free (Some a) p q e = absurd cc
+
+pub push_hazard : (o : Option ℕ) (p : Push) (a : ℕ) → push_unless o p ≡ Err a → o ≡ Some a
+push_hazard None p a e = absurd cc
+push_hazard (Some b) p a e = cc
+
+pub ruleset push_rules = (push_free, push_hazard)
+
+none_dropped : (live : List ℕ) → is_some (slice_get live 0) ≡ false → drop 1 live ≡ live
+none_dropped [] e = refl
+none_dropped (x ∷ xs) e = absurd cc
+
+-- where no frame is live, none is dropped
+pub return_none : (s : Frames) → is_some (slice_get s.live 0) ≡ false → returned s ≡ s
+return_none s e = ap (λ (live : List ℕ). record s { live = live }) (none_dropped s.live e)
+
+some_live : (live : List ℕ) → is_some (slice_get live 0) ≡ true → 0 < length live
+some_live [] e = absurd cc
+some_live (x ∷ xs) e = omega arith
+
+pub return_some : (s : Frames) → is_some (slice_get s.live 0) ≡ true → 0 < length s.live
+return_some s e = some_live s.live e
+
+pub ruleset return_rules = (return_none, return_some)

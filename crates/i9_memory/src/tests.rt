@@ -1,0 +1,1 @@
+//! Bytes and words of either order against the manual's byte orders.
