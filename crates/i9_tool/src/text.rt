@@ -46,6 +46,7 @@ fn name_of(kind: Point) -> &'static [u8]
     ensures { result.now ≡ drained_text (drained_of kind) }
 {
     match kind {
+        Point::Flush => b"flush",
         Point::End => b"end",
     }
 }
@@ -84,6 +85,7 @@ fn end_line(alloc: Global, end: End) -> Result<Vec<u8>, AllocError>
     match end {
         End::Exit(word) => words_line(alloc, b"#end exit", &[word]),
         End::Limit => Vec::from_slice(alloc, b"#end limit\n"),
+        End::Hazard(address) => words_line(alloc, b"#end hazard", &[address]),
         End::Unbuilt(address) => words_line(alloc, b"#end unbuilt", &[address]),
     }
 }
