@@ -1,5 +1,6 @@
 pub mod Ends
 pub mod Unique
 pub mod Upwards
+pub mod Places
 pub mod Lines
 pub mod Stored

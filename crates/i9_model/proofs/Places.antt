@@ -1,0 +1,67 @@
+-- Addresses in a row: what one more of them adds, and how far above the first the others lie.
+use Rattle.std.proofs.Common.{◌≡◌, ℕ, zero, suc, ◌+◌, ◌-◌, ◌%◌, ◌^◌, ◌<◌, ◌≤◌, Bool, true, false, map, cond, eqb, nat_lt, List, [], ◌∷◌, ◌++◌, refl, sym, ap, ◌∙◌, add-one, add_assoc, arith}
+use Rattle.std.specs.Prelude.{◌==◌, ◌||◌}
+use Rattle.std.specs.List.{list_any, range_with_len, find}
+use Rattle.std.proofs.lemmas.List.Folds.{list_any-append}
+use Rattle.std.proofs.lemmas.List.FromFn.{map-range_with_len_more}
+use Rattle.std.proofs.lemmas.Bool.{eqb-true, eq-eqb}
+use Rattle.std.proofs.lemmas.Bool.Decides.{nat_tests}
+use Rattle.i9_model.specs.Writes.{wrapped}
+use Rattle.i9_model.specs.Frames.{places, in_bytes}
+
+pub places-more : (a n : ℕ) → places a (n + 1) ≡ places a n ++ wrapped (a + n) ∷ []
+places-more a n = map-range_with_len_more wrapped a n (a + n) refl
+
+or_false : (b c : Bool) → (b || (c || false)) ≡ (b || c)
+or_false b c = grind arith
+
+pub in_bytes-none : (a x : ℕ) → in_bytes a 0 x ≡ false
+unfolding in_bytes
+in_bytes-none a x = refl
+
+-- one more byte
+pub in_bytes-more : (a n x : ℕ) → in_bytes a (n + 1) x ≡ (in_bytes a n x || x == wrapped (a + n))
+unfolding in_bytes
+in_bytes-more a n x =
+    ap (list_any (λ (y : ℕ). x == y)) (places-more a n)
+    ∙ list_any-append (λ (y : ℕ). x == y) (places a n) (wrapped (a + n) ∷ [])
+    ∙ or_false (in_bytes a n x) (x == wrapped (a + n))
+
+same_test : (b c : Bool) → (b ≡ true → c ≡ true) → (c ≡ true → b ≡ true) → b ≡ c
+same_test true true f g = refl
+same_test false false f g = refl
+same_test true false f g = sym (f refl)
+same_test false true f g = g refl
+
+-- a byte is the one n above an address if it lies n above it
+above-this : (a n x : ℕ) → a < 2 ^ 32 → x < 2 ^ 32 → n < 2 ^ 32 → x ≡ wrapped (a + n) → (x + (2 ^ 32 - a)) % 2 ^ 32 ≡ n
+above-this a n x h k few e = omega arith
+
+this-above : (a n x : ℕ) → a < 2 ^ 32 → x < 2 ^ 32 → (x + (2 ^ 32 - a)) % 2 ^ 32 ≡ n → x ≡ wrapped (a + n)
+this-above a n x h k e = omega arith
+
+above-test : (a n x : ℕ) → a < 2 ^ 32 → x < 2 ^ 32 → n < 2 ^ 32 → (x == wrapped (a + n)) ≡ ((x + (2 ^ 32 - a)) % 2 ^ 32 == n)
+above-test a n x h k few = same_test _ _ (λ t. eq-eqb _ _ (above-this a n x h k few (eqb-true _ _ t))) (λ t. eq-eqb _ _ (this-above a n x h k (eqb-true _ _ t)))
+
+lt-zero : (d : ℕ) → nat_lt d 0 ≡ false
+lt-zero d = grind (arith, nat_tests)
+
+lt-suc : (d n : ℕ) → nat_lt d (n + 1) ≡ (nat_lt d n || d == n)
+lt-suc d n = grind (arith, nat_tests)
+
+-- a byte is one of n from an address on if it lies less than n above that address
+pub in_bytes-above : (a n x : ℕ) → a < 2 ^ 32 → x < 2 ^ 32 → n ≤ 2 ^ 32 → in_bytes a n x ≡ nat_lt ((x + (2 ^ 32 - a)) % 2 ^ 32) n
+in_bytes-above a zero x h k few = in_bytes-none a x ∙ sym (lt-zero ((x + (2 ^ 32 - a)) % 2 ^ 32))
+in_bytes-above a (suc n) x h k few =
+    let d = (x + (2 ^ 32 - a)) % 2 ^ 32 in
+    ap (λ (m : ℕ). in_bytes a m x) (sym (add-one n))
+    ∙ in_bytes-more a n x
+    ∙ ap (λ (b : Bool). b || x == wrapped (a + n)) (in_bytes-above a n x h k (omega arith))
+    ∙ ap (λ (b : Bool). nat_lt d n || b) (above-test a n x h k (omega arith))
+    ∙ sym (lt-suc d n)
+    ∙ ap (nat_lt d) (add-one n)
+
+-- the places one by one, counted from 0
+pub places-counted : (a b n : ℕ) → map wrapped (range_with_len (a + b) n) ≡ map (λ (k : ℕ). (a + k) % 2 ^ 32) (range_with_len b n)
+places-counted a b zero = refl
+places-counted a b (suc n) = ap (λ (xs : List ℕ). wrapped (a + b) ∷ xs) (ap (λ (c : ℕ). map wrapped (range_with_len c n)) (add_assoc a b 1) ∙ places-counted a (b + 1) n)

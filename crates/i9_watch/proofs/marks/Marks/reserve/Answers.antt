@@ -1,0 +1,16 @@
+use Rattle.std.proofs.Common.{◌/◌, ◌∙◌, rules}
+use Rattle.i9_watch.specs.Marks.{is_marked, HasPage}
+use Rattle.i9_watch.proofs.Marking.{without_page}
+use Rattle.i9_watch.proofs.marks.Marks.reserve.Goals as goal
+
+pub returns-clause-same : goal.returns-clause-same
+returns-clause-same c = c.reserve_page-2.ensures.same ∙ c.reserve_page.ensures.same
+
+pub returns-else-not-is_there-clause-same : goal.returns-else-not-is_there-clause-same
+returns-else-not-is_there-clause-same c = c.reserve_page-2.ensures.same ∙ c.reserve_page.ensures.same
+
+pub returns-then-not-is_there-clause-same : goal.returns-then-not-is_there-clause-same
+returns-then-not-is_there-clause-same c =
+    let lacks : HasPage c.args.self.now (c.args.a / 256) → ⊥ = search rules in
+    without_page c.args.self.now (is_marked c.remove_page.new.self) (is_marked c.reserve_page-2.new.self) (c.args.a / 256) lacks
+    (c.reserve_page-2.ensures.same ∙ c.reserve_page.ensures.same) c.remove_page.ensures.marks

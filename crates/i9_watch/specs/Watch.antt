@@ -1,0 +1,27 @@
+-- Watch: what it keeps, and what it has room for.
+use Rattle.std.specs.Prelude.{ℕ, ◌+◌, ◌<◌}
+use Rattle.i9_model.specs.declared.layout.TheConstants.{FRAME_SIZE}
+use Rattle.i9_model.specs.Writes.{wrapped}
+use Rattle.i9_model.specs.State.{Frames}
+use Rattle.i9_watch.specs.declared.watch.Watch.{Watch}
+use Rattle.i9_watch.specs.Marks.{is_marked, HasMark}
+
+-- the soft bytes and the live frames
+unfoldable pub frames_of : Watch → Frames
+frames_of w = record { soft = is_marked w.soft; live = w.live.items }
+
+-- so many frames can be saved
+unfoldable pub spare_of : Watch → ℕ
+spare_of w = w.spare
+
+-- a byte can be made soft
+unfoldable pub HasMarks : Watch → ℕ → Type 0
+HasMarks w a = HasMark w.soft a
+
+-- the bytes of a frame can be made soft
+abbrev pub HasFrameMarks : Watch → ℕ → Type 0
+HasFrameMarks w a = (k : ℕ) → k < FRAME_SIZE → HasMarks w (wrapped (a + k))
+
+-- what could be made soft still can be
+abbrev pub KeepsMarks : Watch → Watch → Type 0
+KeepsMarks old new = (a : ℕ) → HasMarks old a → HasMarks new a

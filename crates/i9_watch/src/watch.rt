@@ -1,0 +1,235 @@
+//! Soft bytes and live frames.
+ghost use Rattle.std.specs.Prelude.{◌≡◌, ℕ, Bool, ◌+◌, ◌%◌, ◌<◌, ◌≤◌, ◌⊎◌, None, OnOk, OnErr, length, slice_get};
+ghost use Rattle.std.specs.VecDeque.{deque_len, deque_capacity};
+ghost use Rattle.i9_model.specs.Frames.{in_bytes, in_frames, no_frames, saved, returned, flushed, wrote, rounded_down};
+ghost use Rattle.i9_model.specs.Hazards.{least, read_hazard, write_hazard, port_hazard, save_hazard, return_hazard, planned_push};
+ghost use Rattle.i9_model.specs.Memory.{in_port_page};
+
+use crate::marks::Marks;
+use i9_isa::NoMemory;
+use i9_model::Push;
+use i9_model::layout::{FRAME_SIZE, PORT_PAGE, PORT_PAGE_SIZE};
+use std::alloc::Global;
+use std::collections::VecDeque;
+
+/// The bytes that only the save of a frame wrote, which are soft, and the save addresses of the
+/// frames that may be returned to, which are live, youngest first.
+///
+/// The processor may keep a saved frame in its local register cache (the i960 CA/CF User's Manual,
+/// local register cache), so memory at such an address may be older than the frame. Which
+/// accesses count as hazards for this reason is this project's own.
+#[derive(Drop)]
+pub struct Watch {
+    soft: Marks,
+    live: VecDeque<u32>,
+    spare: usize,
+    ghost room: { deque_len live + spare ≤ deque_capacity live },
+}
+
+/// Whether an address is one of so many from a first one on.
+#[tactic(auto, using(crate::proofs::Watching::within_rules))]
+fn is_within(x: u32, first: u32, n: u32) -> bool
+    ensures { result ≡ in_bytes first n x }
+{
+    x.wrapping_sub(first) < n
+}
+
+/// Whether an address lies in the port page.
+fn in_port_page(a: u32) -> bool
+    ensures { result ≡ in_port_page a }
+{
+    PORT_PAGE <= a && a < PORT_PAGE + PORT_PAGE_SIZE
+}
+
+/// The first of so many addresses from one on that passes a test.
+fn first_place<F: Fn(u32) -> bool>(a: u32, n: u32, test: F) -> Option<u32>
+    requires { F.IsAlwaysCallable test }
+    ensures { (p : ℕ → Bool) → ((x : ℕ) (r : Bool) → F.post test x r → r ≡ p x) → result ≡ least p a n }
+{
+    for k in 0..n {
+        let x = a.wrapping_add(k);
+        if test(x) {
+            return Some(x);
+        }
+    }
+    None
+}
+
+#[tactic(auto, unfolding(crate::specs::Watch::frames_of, crate::specs::Watch::spare_of, crate::specs::Watch::HasMarks))]
+impl Watch {
+    ghost use Rattle.i9_watch.specs.Watch.{frames_of, spare_of, HasMarks, HasFrameMarks, KeepsMarks};
+
+    /// No byte is soft and no frame is live.
+    pub fn new(alloc: Global) -> Watch
+        ensures frames { frames_of result ≡ no_frames }
+        ensures spare { spare_of result ≡ 0 }
+    {
+        Watch {
+            soft: Marks::new(alloc),
+            live: VecDeque::new(alloc),
+            spare: 0,
+        }
+    }
+
+    /// Makes room for the save of a frame: one live entry to spare, and soft marks of the 64
+    /// addresses from `a` on.
+    pub fn reserve(&mut self, a: u32) -> Result<(), NoMemory>
+        ensures frames { frames_of self.new ≡ frames_of self.old }
+        ensures ok_spare { OnOk result (0 < spare_of self.new) }
+        ensures ok_marks { OnOk result (HasFrameMarks self.new a) }
+        ensures kept_spare { spare_of self.old ≤ spare_of self.new }
+        ensures kept_marks { KeepsMarks self.old self.new }
+
+        // Want of memory changes nothing.
+        ensures err_spare { OnErr result (spare_of self.new ≡ spare_of self.old) }
+        ensures err_marks { OnErr result (KeepsMarks self.new self.old) }
+    {
+        let spare = self.spare.max(1);
+        if self.live.reserve(spare).is_err() {
+            return Err(NoMemory);
+        }
+        self.soft.reserve(a)?;
+        self.spare = spare;
+        Ok(())
+    }
+
+    /// Whether a byte is soft.
+    pub fn soft(&self, a: u32) -> bool
+        ensures { result ≡ (frames_of self.now).soft a }
+    {
+        self.soft.is_marked(a)
+    }
+
+    /// Whether a byte is one of a live frame.
+    fn is_live(&self, a: u32) -> bool
+        ensures { result ≡ in_frames (frames_of self.now).live a }
+    {
+        self.live
+            .iter()
+            .any(|frame| is_within(a, *frame, FRAME_SIZE))
+    }
+
+    /// The least soft byte, counted upwards from `a`, of `n` bytes that are to be read.
+    pub fn check_read(&self, a: u32, n: u32) -> Option<u32>
+        ensures { result ≡ read_hazard (frames_of self.now) a n }
+    {
+        first_place(a, n, |x| self.soft(x))
+    }
+
+    /// The least byte of a live frame, counted upwards from `a`, of `n` bytes that are to be
+    /// written.
+    pub fn check_write(&self, a: u32, n: u32) -> Option<u32>
+        ensures { result ≡ write_hazard (frames_of self.now) a n }
+    {
+        first_place(a, n, |x| self.is_live(x))
+    }
+
+    /// The least byte in the port page, counted upwards from `a`, of `n` bytes.
+    pub fn touches_port(a: u32, n: u32) -> Option<u32>
+        ensures { result ≡ port_hazard a n }
+    {
+        first_place(a, n, |x| in_port_page(x))
+    }
+
+    /// The hazard of a return to the frame that was saved at `a`: it has to be the youngest live
+    /// one. Where none is live its 64 bytes are read from memory.
+    pub fn check_ret(&self, a: u32) -> Option<u32>
+        ensures { result ≡ return_hazard (frames_of self.now) a }
+    {
+        let hazard = match self.first_live() {
+            None => self.check_read(a, FRAME_SIZE),
+            Some(first) => (a != first).then_some(a),
+        };
+        hazard.or_else(|| Watch::touches_port(a, FRAME_SIZE))
+    }
+
+    /// The hazard of the save of a frame at `a`.
+    fn check_save(&self, a: u32) -> Option<u32>
+        ensures { result ≡ save_hazard (frames_of self.now) a }
+    {
+        self.check_write(a, FRAME_SIZE)
+            .or_else(|| Watch::touches_port(a, FRAME_SIZE))
+    }
+
+    /// What a push makes of a frame pointer `fp`, the base of the new frame, the size of the
+    /// record below it (0 or 16 bytes) and a return type (the low three bits of pfp); or the hazard
+    /// of its save area. After the i960 CA/CF User's Manual, local register cache.
+    pub fn plan_push(&self, fp: u32, base: u32, extra: u32, kind: u8) -> Result<Push, u32>
+        requires extra { (extra ≡ 0) ⊎ (extra ≡ 16) }
+        requires kind { kind < 8 }
+        ensures { result ≡ planned_push (frames_of self.now) fp base extra kind }
+    {
+        let save = fp - fp % 16;
+        if let Some(a) = self.check_save(save) {
+            return Err(a);
+        }
+        let frame = (base.wrapping_add(15) / 16 * 16).wrapping_add(extra);
+        Ok(Push {
+            save,
+            frame,
+            pfp: save + u32::from(kind),
+            sp: frame.wrapping_add(FRAME_SIZE),
+        })
+    }
+
+    /// A frame was saved at `a`: its 64 bytes are soft, and it is the youngest live one. Uses up
+    /// a spare entry.
+    pub fn called(&mut self, a: u32)
+        requires spare { 0 < spare_of self.old }
+        requires marks { HasFrameMarks self.old a }
+        requires aligned { a % 16 ≡ 0 }
+        requires free { save_hazard (frames_of self.old) a ≡ None }
+        ensures frames { frames_of self.new ≡ saved (frames_of self.old) a }
+        ensures spare { spare_of self.new + 1 ≡ spare_of self.old }
+        ensures marks { KeepsMarks self.old self.new }
+    {
+        self.soft.mark_all(a, FRAME_SIZE);
+        self.spare -= 1;
+        self.live.push_front(a).unwrap();
+    }
+
+    /// The youngest live frame was returned to. Its bytes stay soft.
+    pub fn returned(&mut self)
+        requires { 0 < length (frames_of self.old).live }
+        ensures frames { frames_of self.new ≡ returned (frames_of self.old) }
+        ensures spare { spare_of self.new ≡ spare_of self.old }
+        ensures marks { KeepsMarks self.old self.new }
+    {
+        let _ = self.live.pop_front();
+    }
+
+    /// Every frame was written to memory, as by flushreg: none is live, and the bytes of those
+    /// that were are not soft.
+    pub fn flushed(&mut self)
+        ensures frames { frames_of self.new ≡ flushed (frames_of self.old) }
+        ensures spare { spare_of self.new ≡ spare_of self.old }
+        ensures marks { KeepsMarks self.old self.new }
+    {
+        while let Some(frame) = self.live.pop_front() {
+            self.soft.clear_all(frame, FRAME_SIZE);
+        }
+    }
+
+    /// `n` bytes from `a` on were stored to, so they are not soft.
+    pub fn wrote(&mut self, a: u32, n: u32)
+        ensures frames { frames_of self.new ≡ wrote (frames_of self.old) a n }
+        ensures spare { spare_of self.new ≡ spare_of self.old }
+        ensures marks { KeepsMarks self.old self.new }
+    {
+        self.soft.clear_all(a, n);
+    }
+
+    /// The save address of the youngest live frame.
+    pub fn first_live(&self) -> Option<u32>
+        ensures { result ≡ slice_get (frames_of self.now).live 0 }
+    {
+        self.live.front().copied()
+    }
+
+    /// The save address of the live frame with so many younger ones.
+    pub fn live_at(&self, k: u64) -> Option<u32>
+        ensures { result ≡ slice_get (frames_of self.now).live k }
+    {
+        self.live.get(k as usize).copied()
+    }
+}
