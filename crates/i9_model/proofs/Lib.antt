@@ -2,5 +2,6 @@ pub mod Ends
 pub mod Unique
 pub mod Upwards
 pub mod Places
+pub mod FrameLaws
 pub mod Lines
 pub mod Stored

@@ -5,6 +5,7 @@ pub mod Memory
 pub mod State
 pub mod Frames
 pub mod Hazards
+pub mod Sound
 pub mod Words
 pub mod Operands
 pub mod Step
