@@ -5,3 +5,6 @@ mod memory;
 mod pages;
 
 pub use memory::Memory;
+
+#[cfg(test)]
+mod tests;
