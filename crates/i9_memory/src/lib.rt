@@ -1,7 +1,8 @@
-//! Memory: bytes by address, and the memory configuration word of each of the sixteen regions.
+//! The bytes of memory, and the configuration words of its regions.
 #![tactic(auto)]
 
 mod memory;
+mod pages;
 
 pub use memory::Memory;
 

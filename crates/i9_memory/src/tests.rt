@@ -1,1 +1,141 @@
-//! Bytes and words of either order against the manual's byte orders.
+//! Memory, worked out by hand.
+use crate::Memory;
+use std::alloc::Global;
+use std::test::Fail;
+
+/// Bit 22 of a configuration word, which makes its region big-endian.
+const BIG_ENDIAN: u32 = 0x0040_0000;
+
+/// What is done to a memory, or what it has to hold.
+#[derive(Clone, Copy)]
+enum Step {
+    PutByte(u32, u8),
+    PutHalf(u32, u16),
+    PutWord(u32, u32),
+    Byte(u32, u8),
+    Half(u32, u16),
+    Word(u32, u32),
+}
+
+use Step::{Byte, Half, PutByte, PutHalf, PutWord, Word};
+
+/// Does a step; false where memory holds something else.
+fn does(memory: &mut Memory, step: Step) -> Result<bool, Fail> {
+    match step {
+        PutByte(a, v) => {
+            memory.reserve(a, 1)?;
+            memory.put_byte(a, v);
+        }
+        PutHalf(a, v) => {
+            memory.reserve(a, 2)?;
+            memory.put_half(a, v);
+        }
+        PutWord(a, v) => {
+            memory.reserve(a, 4)?;
+            memory.put_word(a, v);
+        }
+        Byte(a, wanted) => return Ok(memory.byte(a) == wanted),
+        Half(a, wanted) => return Ok(memory.half(a) == wanted),
+        Word(a, wanted) => return Ok(memory.word(a) == wanted),
+    }
+    Ok(true)
+}
+
+/// A memory whose regions 1 and 15 are big-endian.
+fn memory(alloc: Global) -> Memory {
+    let mut memory = Memory::new(alloc);
+    memory.configure(1, BIG_ENDIAN);
+    memory.configure(15, BIG_ENDIAN);
+    memory
+}
+
+#[test]
+fn holds_bytes(rt: HostRuntime) -> Result<(), Fail> {
+    let stories: [&[Step]; 6] = [
+        // In a big-endian region the highest byte is the first, in others the last.
+        &[
+            PutWord(0x1000_0000, 0x0102_0304),
+            Byte(0x1000_0000, 1),
+            Byte(0x1000_0001, 2),
+            Byte(0x1000_0002, 3),
+            Byte(0x1000_0003, 4),
+            Half(0x1000_0001, 0x0203),
+            PutHalf(0x2000_0000, 0x0506),
+            Byte(0x2000_0000, 6),
+            Byte(0x2000_0001, 5),
+            Word(0x2000_0000, 0x0506),
+        ],
+        // A value over the end of a region has the order of the region of its first byte.
+        &[
+            PutWord(0x1FFF_FFFE, 0x0102_0304),
+            Byte(0x1FFF_FFFF, 2),
+            Byte(0x2000_0000, 3),
+            Word(0x1FFF_FFFE, 0x0102_0304),
+            Half(0x1FFF_FFFF, 0x0203),
+            Half(0x2000_0000, 0x0403),
+            PutHalf(0x0FFF_FFFF, 0x0708),
+            Byte(0x0FFF_FFFF, 8),
+            Byte(0x1000_0000, 7),
+        ],
+        // Addresses run on from the last to 0.
+        &[
+            PutWord(0xFFFF_FFFE, 0x0102_0304),
+            Byte(0xFFFF_FFFF, 2),
+            Byte(0, 3),
+            Byte(1, 4),
+            Word(0xFFFF_FFFE, 0x0102_0304),
+        ],
+        // The port page holds 0 whatever is stored there.
+        &[
+            PutWord(0xE000_0004, 0x0102_0304),
+            Word(0xE000_0004, 0),
+            PutWord(0xDFFF_FFFE, 0x0102_0304),
+            Word(0xDFFF_FFFE, 0x0304),
+            PutHalf(0xE000_0FFF, 0x0506),
+            Half(0xE000_0FFF, 0x0500),
+        ],
+        // Addresses 2 GiB apart are two.
+        &[
+            PutByte(0x0000_1234, 1),
+            PutByte(0x8000_1234, 2),
+            Byte(0x0000_1234, 1),
+            Byte(0x8000_1234, 2),
+            Byte(0x4000_1234, 0),
+        ],
+        // So are the bytes on either side of a page's end.
+        &[
+            PutHalf(0x20FF, 0x0102),
+            Byte(0x20FF, 2),
+            Byte(0x2100, 1),
+            Byte(0x2000, 0),
+        ],
+    ];
+    for (number, story) in stories.iter().enumerate() {
+        let mut memory = memory(rt.alloc());
+        for (index, step) in story.iter().enumerate() {
+            let is_right = does(&mut memory, *step)?;
+            assert!(rt; is_right, "story {number}, step {index}");
+        }
+    }
+    Ok(())
+}
+
+#[test]
+fn reads_configurations(rt: HostRuntime) {
+    let rows = [
+        (0x0000_0000, false, 0, 0),
+        (0x0040_0000, true, 0, 0),
+        (0xFFBF_FFFF, false, 31, 31),
+        (0x0000_00F8, false, 31, 0),
+        (0x0001_F000, false, 0, 31),
+        (0x0041_5050, true, 10, 21),
+    ];
+    let mut memory = Memory::new(rt.alloc());
+    for (word, big, read, write) in rows {
+        memory.configure(7, word);
+        assert_eq!(rt; memory.big(7), big);
+        assert_eq!(rt; memory.waits(7, false), read);
+        assert_eq!(rt; memory.waits(7, true), write);
+        assert_eq!(rt; memory.waits(6, true), 0);
+    }
+}

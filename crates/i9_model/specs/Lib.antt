@@ -5,6 +5,7 @@ pub mod Memory
 pub mod State
 pub mod Frames
 pub mod Hazards
+pub mod Sound
 pub mod Operands
 pub mod Step
 pub mod Access

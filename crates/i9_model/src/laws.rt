@@ -1,6 +1,10 @@
 //! Laws of the definitions, as the contracts of calls that do nothing.
 
-ghost use Rattle.std.specs.Prelude.{◌≡◌, ◌≤◌, ◌++◌, List, ℕ};
+ghost use Rattle.std.specs.Prelude.{◌≡◌, ◌≤◌, ◌++◌, List, ℕ, [], None};
+ghost use Rattle.i9_model.specs.State.{Frames};
+ghost use Rattle.i9_model.specs.Frames.{no_frames, saved, returned, flushed, wrote};
+ghost use Rattle.i9_model.specs.Hazards.{write_hazard, save_hazard};
+ghost use Rattle.i9_model.specs.Sound.{AreApart, IsSound};
 ghost use Rattle.i9_model.specs.Run.{Record, Finish, IsRun, IsPast, state_after};
 ghost use Rattle.i9_model.specs.PrintedText.{text_of, lines_of, run_text};
 
@@ -22,4 +26,24 @@ pub fn one_run()
         → IsRun image limit rs e → IsRun image limit qs f → rs ≡ qs }
     ensures end { (image : List (ℕ × ℕ)) (limit : ℕ) (rs qs : List Record) (e f : Finish)
         → IsRun image limit rs e → IsRun image limit qs f → e ≡ f }
+{}
+
+/// Live frames never overlap: no frame is live at first, and saves without a hazard, returns,
+/// flushes and stores keep live frames apart.
+pub fn live_frames_never_overlap()
+    ensures none { AreApart no_frames.live }
+    ensures saved { (s : Frames) (a : ℕ) → AreApart s.live → save_hazard s a ≡ None → AreApart (saved s a).live }
+    ensures returned { (s : Frames) → AreApart s.live → AreApart (returned s).live }
+    ensures flushed { (s : Frames) → AreApart s.live → AreApart (flushed s).live }
+    ensures wrote { (s : Frames) (a n : ℕ) → AreApart s.live → AreApart (wrote s a n).live }
+{}
+
+/// Frames stay sound, as they are at first, through saves and stores without a hazard, returns
+/// and flushes: live frames are apart and outside the port page, and their bytes are soft.
+pub fn frames_stay_sound()
+    ensures none { IsSound no_frames }
+    ensures saved { (s : Frames) (a : ℕ) → IsSound s → save_hazard s a ≡ None → IsSound (saved s a) }
+    ensures returned { (s : Frames) → IsSound s → IsSound (returned s) }
+    ensures flushed { (s : Frames) → IsSound s → IsSound (flushed s) }
+    ensures wrote { (s : Frames) (a n : ℕ) → IsSound s → write_hazard s a n ≡ None → IsSound (wrote s a n) }
 {}

@@ -6,6 +6,6 @@ pub mod layout;
 mod push;
 mod view;
 
-pub use laws::{every_run_ends, one_run};
+pub use laws::{every_run_ends, frames_stay_sound, live_frames_never_overlap, one_run};
 pub use push::Push;
 pub use view::View;

@@ -7,3 +7,6 @@ mod watch;
 
 pub use i9_model::Push;
 pub use watch::Watch;
+
+#[cfg(test)]
+mod tests;

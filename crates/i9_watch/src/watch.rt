@@ -1,5 +1,5 @@
 //! Soft bytes and live frames.
-ghost use Rattle.std.specs.Prelude.{◌≡◌, ℕ, Bool, ◌+◌, ◌%◌, ◌<◌, ◌≤◌, ◌⊎◌, None, OnOk, OnErr, length, slice_get};
+ghost use Rattle.std.specs.Prelude.{◌≡◌, ℕ, Bool, ◌+◌, ◌%◌, ◌<◌, ◌≤◌, ◌⊎◌, None, OnOk, OnErr, IfOk, length, slice_get};
 ghost use Rattle.std.specs.VecDeque.{deque_len, deque_capacity};
 ghost use Rattle.i9_model.specs.Frames.{in_bytes, in_frames, no_frames, saved, returned, flushed, wrote, rounded_down};
 ghost use Rattle.i9_model.specs.Hazards.{least, read_hazard, write_hazard, port_hazard, save_hazard, return_hazard, planned_push};
@@ -157,7 +157,11 @@ impl Watch {
     pub fn plan_push(&self, fp: u32, base: u32, extra: u32, kind: u8) -> Result<Push, u32>
         requires extra { (extra ≡ 0) ⊎ (extra ≡ 16) }
         requires kind { kind < 8 }
-        ensures { result ≡ planned_push (frames_of self.now) fp base extra kind }
+        ensures push { result ≡ planned_push (frames_of self.now) fp base extra kind }
+
+        // So the frame can be saved there.
+        ensures free { IfOk result (λ p. save_hazard (frames_of self.now) p.save ≡ None) }
+        ensures aligned { IfOk result (λ p. p.save % 16 ≡ 0) }
     {
         let save = fp - fp % 16;
         if let Some(a) = self.check_save(save) {

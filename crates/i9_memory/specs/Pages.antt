@@ -1,0 +1,23 @@
+-- Pages: the bytes that they hold, and those for which they have room.
+use Rattle.std.specs.Prelude.{ℕ, ◌/◌, ◌%◌, slice_index, Option, Some, None, IsSome}
+use Rattle.std.specs.Ordering.{nat_cmp}
+use Rattle.std.specs.BTreeMap.{get}
+use Rattle.i9_memory.specs.declared.pages.Page.{Page}
+use Rattle.i9_memory.specs.declared.pages.Pages.{Pages}
+
+-- the byte at a place of a page
+abbrev pub byte_in : Option Page → ℕ → ℕ
+byte_in None k = 0
+byte_in (Some p) k = slice_index p.bytes.value k
+
+-- the byte at an address
+abbrev pub byte_of : Pages → ℕ → ℕ
+byte_of m a = byte_in (get nat_cmp m.pages (a / 256)) (a % 256)
+
+-- a page is there
+abbrev pub HasPage : Pages → ℕ → Type 0
+HasPage m p = IsSome (get nat_cmp m.pages p)
+
+-- a byte can be written
+abbrev pub HasByte : Pages → ℕ → Type 0
+HasByte m a = HasPage m (a / 256)

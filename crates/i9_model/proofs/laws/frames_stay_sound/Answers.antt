@@ -1,0 +1,17 @@
+use Rattle.i9_model.proofs.FrameLaws.{sound-none, sound-saved, sound-returned, sound-flushed, sound-wrote}
+use Rattle.i9_model.proofs.laws.frames_stay_sound.Goals as goal
+
+pub returns-clause-none : goal.returns-clause-none
+returns-clause-none c = sound-none
+
+pub returns-clause-saved : goal.returns-clause-saved
+returns-clause-saved c = sound-saved
+
+pub returns-clause-returned : goal.returns-clause-returned
+returns-clause-returned c = sound-returned
+
+pub returns-clause-flushed : goal.returns-clause-flushed
+returns-clause-flushed c = sound-flushed
+
+pub returns-clause-wrote : goal.returns-clause-wrote
+returns-clause-wrote c = sound-wrote
