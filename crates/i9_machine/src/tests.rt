@@ -1,4 +1,4 @@
-//! The machine at an image of five instructions, worked out by hand.
+//! The machine at images of a few instructions, worked out by hand.
 use crate::{End, Line, Machine, Point, Turn};
 use i9_hex::Segments;
 use std::alloc::Global;
@@ -14,13 +14,16 @@ const PROGRAM: [u32; 6] = [
     0x92A5_6004,
 ];
 
-/// The program at 1000, which the boot record names.
-fn image(alloc: Global) -> Result<Segments, Fail> {
+/// `call f`, `f: ret`.
+const CALL_AND_RETURN: [u32; 2] = [0x0900_0004, 0x0A00_0000];
+
+/// A program at 1000, which the boot record names.
+fn image_of(alloc: Global, program: &[u32]) -> Result<Segments, Fail> {
     let mut image = Segments::new(alloc);
     put_word(&mut image, 0xFFFF_FF10, 0x1000)?;
     let mut address = 0x1000u32;
-    for word in PROGRAM {
-        put_word(&mut image, address, word)?;
+    for word in program {
+        put_word(&mut image, address, *word)?;
         address = address.wrapping_add(4);
     }
     Ok(image)
@@ -37,7 +40,7 @@ fn put_word(image: &mut Segments, address: u32, word: u32) -> Result<(), Fail> {
 
 #[test]
 fn steps_through_a_run(rt: HostRuntime) -> Result<(), Fail> {
-    let image = image(rt.alloc())?;
+    let image = image_of(rt.alloc(), &PROGRAM)?;
     let mut machine = Machine::new(rt.alloc(), &image, None, 100)?;
     let mut lines = Vec::new(rt.alloc());
     let steps = [
@@ -85,7 +88,7 @@ fn steps_through_a_run(rt: HostRuntime) -> Result<(), Fail> {
 fn ends_before_tables(rt: HostRuntime) -> Result<(), Fail> {
     let places = [0xFFFF_FF00, 0xFFFF_FF0C, 0xFFFF_FF14, 0xFFFF_FF17, 0, 111];
     for place in places {
-        let mut image = image(rt.alloc())?;
+        let mut image = image_of(rt.alloc(), &PROGRAM)?;
         image.put(place, 1)?;
         let mut machine = Machine::new(rt.alloc(), &image, None, 100)?;
         let mut lines = Vec::new(rt.alloc());
@@ -95,12 +98,32 @@ fn ends_before_tables(rt: HostRuntime) -> Result<(), Fail> {
             "at {place}"
         );
     }
-    let mut image = image(rt.alloc())?;
+    let mut image = image_of(rt.alloc(), &PROGRAM)?;
     for place in [0xFFFF_FF01, 0xFFFF_FF18, 112] {
         image.put(place, 1)?;
     }
     let mut machine = Machine::new(rt.alloc(), &image, None, 0)?;
     let mut lines = Vec::new(rt.alloc());
+    assert_eq!(rt; machine.advance(&mut lines), Turn::End(End::Limit));
+    Ok(())
+}
+
+#[test]
+fn compares_bytes_of_live_frames_alone(rt: HostRuntime) -> Result<(), Fail> {
+    let image = image_of(rt.alloc(), &CALL_AND_RETURN)?;
+    let mut machine = Machine::new(rt.alloc(), &image, None, 2)?;
+    let mut lines = Vec::new(rt.alloc());
+    let steps = [
+        (Some(0), Some(0), Some(0)),
+        (Some(0x40), Some(0x04), Some(0x10)),
+        (None, None, None),
+    ];
+    for (sp, back, back_above) in steps {
+        assert_eq!(rt; (machine.byte(4), machine.byte(8), machine.byte(9)), (sp, back, back_above));
+        assert_eq!(rt; (machine.byte(0x40), machine.byte(0x1000)), (Some(0), Some(0x04)));
+        assert_eq!(rt; machine.byte(0xE000_0000), Some(0));
+        let _ = machine.advance(&mut lines);
+    }
     assert_eq!(rt; machine.advance(&mut lines), Turn::End(End::Limit));
     Ok(())
 }

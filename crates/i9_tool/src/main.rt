@@ -8,6 +8,8 @@ mod run;
 mod status;
 #[cfg(test)]
 mod tests;
+#[cfg(test)]
+mod frame_tests;
 mod text;
 mod top;
 mod words;

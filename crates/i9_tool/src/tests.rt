@@ -43,10 +43,10 @@ const UNBUILT: &str = "#point 0 end 00001000 00000000 001F2002
 
 /// A case: the file that is held as `a`, the words, and what is printed.
 #[derive(Clone, Copy)]
-struct Case<'a> {
-    image: &'a str,
-    words: &'a str,
-    printed: &'a str,
+pub(crate) struct Case<'a> {
+    pub(crate) image: &'a str,
+    pub(crate) words: &'a str,
+    pub(crate) printed: &'a str,
 }
 
 /// The words between spaces.
@@ -60,7 +60,7 @@ fn words_of(alloc: Global, line: &str) -> Result<Vec<String>, Fail> {
 
 /// The status of a case that is run with enough room and one write that fails, and whether all that
 /// was printed is what the case says.
-fn run_case(alloc: Global, case: &Case<'_>, failing: u64) -> Result<(u8, bool), Fail> {
+pub(crate) fn run_case(alloc: Global, case: &Case<'_>, failing: u64) -> Result<(u8, bool), Fail> {
     let mut files = MemFiles::new(alloc);
     files.add("a", case.image.as_bytes())?;
     let mut sink = MemSink::new(alloc);
