@@ -9,3 +9,4 @@ pub mod SameMemory
 pub mod IgnoredBits
 pub mod Clear
 pub mod Built
+pub mod ValidWords

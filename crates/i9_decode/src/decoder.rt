@@ -2,6 +2,7 @@
 ghost use Rattle.std.specs.Prelude.{◌≡◌, IfOk};
 ghost use Rattle.i9_isa.specs.declared.inst.Inst.{Inst};
 ghost use Rattle.i9_isa.specs.declared.op.Op.{Op};
+ghost use Rattle.i9_isa.specs.Valid.{IsValid};
 ghost use Rattle.i9_isa.specs.Words.{decoded, HasName, Encodes};
 
 use crate::fields::{displacement, effective_address, flag, has_form, src_dst, src1, src2};
@@ -49,6 +50,7 @@ fn read(w0: u32, w1: u32) -> Result<Inst, BadWord>
 pub fn decode(w0: u32, w1: u32) -> Result<Inst, BadWord>
     ensures value { result ≡ decoded w0 w1 }
     ensures ok { IfOk result (λ i. Encodes w0 w1 i) }
+    ensures valid { IfOk result (λ i. IsValid i) }
     ensures all { (i : Inst) → Encodes w0 w1 i → result ≡ Ok i }
     ensures opcode { result ≡ Err BadWord.Opcode → (op : Op) → HasName w0 op → ⊥ }
     ensures operand { result ≡ Err BadWord.Operand → (op : Op) × HasName w0 op }

@@ -101,7 +101,8 @@ hint_in uses w = uses && bit w 1
 
 -- ---- effective address
 
--- the mode in bits 13 to 10, of which bit 12 is set; 0110 is reserved
+-- The mode in bits 13 to 10, of which bit 12 is set: 0100, 0101, 0111, 1100, 1101, 1110 and 1111 in the order below. 0110 is
+-- reserved.
 abbrev pub long_mode : ℕ → Option Mode
 long_mode m =
     if m == 4 then Some Base

@@ -123,6 +123,15 @@ pub struct Ea {
     pub disp: u32,
 }
 
+/// What stands for the effective address where there is none.
+pub const NO_ADDRESS: Ea = Ea {
+    mode: Mode::Offset,
+    base: 0,
+    index: 0,
+    scale: 0,
+    disp: 0,
+};
+
 /// An instruction: `a` is src1, `b` is src2, `c` is src/dst, `ea` the effective address, `disp` the
 /// displacement of a branch and `hint` its prediction. What a name does not use is `Reg(0)`, mode
 /// `Offset` with zeros, 0 and false.
