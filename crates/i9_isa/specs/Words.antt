@@ -161,7 +161,13 @@ with_operands op _ _ _ _ disp hint = Err BadWord.Operand
 -- the instruction of this name, read by its format and by the uses of its row
 abbrev pub read_as : Op → ℕ → ℕ → Result Inst BadWord
 read_as op w w1 = let row = row_of op in
-    with_operands op (src1_in row.format row.a w) (src2_in row.format row.b w) (src_dst_in row.format row.c w) (ea_in row.format w w1) (disp_in row.format row.disp w) (hint_in row.hint w)
+    with_operands op
+    (src1_in row.format row.a w)
+    (src2_in row.format row.b w)
+    (src_dst_in row.format row.c w)
+    (ea_in row.format w w1)
+    (disp_in row.format row.disp w)
+    (hint_in row.hint w)
 
 -- the answer, by the name that was found
 abbrev pub decoded_as : Option Op → ℕ → ℕ → Result Inst BadWord

@@ -12,7 +12,8 @@ pub struct NoMemory;
 /// Why the first word of an instruction is refused.
 #[derive(Clone, Copy, Debug, PartialEq, Eq)]
 pub enum BadWord {
-    /// No name has its opcode and extension, or its addressing mode is reserved. This comes before `Operand`.
+    /// No name has its opcode and extension, or its addressing mode is reserved. This comes before
+    /// `Operand`.
     Opcode,
     /// An operand is one that the name does not allow.
     Operand,

@@ -1,5 +1,5 @@
-//! Instructions of the i960CA as values: names, operands, addressing modes, the table of what each name is,
-//! and what follows from it for an instruction alone.
+//! Instructions of the i960CA as values: names, operands, addressing modes, the table of what each
+//! name is, and what follows from it for an instruction alone.
 #![tactic(auto)]
 
 mod cost;

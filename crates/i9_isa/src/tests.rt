@@ -1,6 +1,7 @@
 //! Resources, sides and latencies, worked out by hand from the descriptions of the instructions.
 use crate::{
-    CONDITION_CODE, Ea, Inst, Mode, NO_ADDRESS, Op, Operand, Side, latency, reads, side_of, valid, writes,
+    CONDITION_CODE, Ea, Inst, Mode, NO_ADDRESS, Op, Operand, Side, latency, reads, side_of, valid,
+    writes,
 };
 use std::test::*;
 

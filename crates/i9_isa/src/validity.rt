@@ -66,8 +66,8 @@ fn fits_address(format: Format, e: &Ea) -> bool
     }
 }
 
-/// Whether the instruction has words: the fields that its name uses are in range, and the others are as
-/// `Inst` says of what is not used.
+/// Whether the instruction has words: the fields that its name uses are in range, and the others
+/// are as `Inst` says of what is not used.
 pub fn valid(i: &Inst) -> bool
     ensures { IsTrue result ↔ IsValid i.now }
 {
