@@ -1,25 +1,24 @@
 -- What is decoded is valid.
-use Rattle.std.proofs.Common.{◌≡◌, ℕ, ◌+◌, ◌-◌, ◌*◌, ◌/◌, ◌%◌, ◌^◌, ◌<◌, ◌≤◌, Bool, true, false, not, ◌&&◌, cond, eqb, ltb, nat_lt, Option, Some, None, option_and_then, refl, sym, ap, ◌∙◌, subst, arith, rules, ℤ, pos, negsuc, ◌-ℤ◌}
-use Rattle.std.proofs.lemmas.Bool.{and_parts, ltb-true, ltb-false}
+use Rattle.std.proofs.Common.{◌≡◌, ℕ, ◌*◌, ◌%◌, ◌^◌, ◌<◌, Bool, true, false, ◌&&◌, cond, nat_lt, Option, Some, None, option_and_then, refl, sym, ap, ◌∙◌, arith, ℤ}
+use Rattle.std.proofs.lemmas.Bool.{and_parts}
 use Rattle.std.proofs.lemmas.Bool.Decides.{nat_tests}
 use Rattle.std.proofs.lemmas.Int.{ints}
 use Rattle.std.proofs.lemmas.Nat.{pow_pos, mod_below}
 use Rattle.i9_isa.specs.declared.inst.Operand.{Operand}
-use Rattle.i9_isa.specs.declared.inst.Operand.TheVariants.{Reg, Lit, Sfr}
+use Rattle.i9_isa.specs.declared.inst.Operand.TheVariants.{Reg}
 use Rattle.i9_isa.specs.declared.inst.Mode.{Mode}
 use Rattle.i9_isa.specs.declared.inst.Mode.TheVariants.{Offset, BaseOffset, Base, BaseIndex}
 use Rattle.i9_isa.specs.declared.inst.Ea.{Ea}
 use Rattle.i9_isa.specs.declared.inst.Inst.{Inst}
 use Rattle.i9_isa.specs.declared.format.Row.{Row}
 use Rattle.i9_isa.specs.declared.format.Format.{Format}
-use Rattle.i9_isa.specs.declared.format.Format.TheVariants as Format
 use Rattle.i9_isa.specs.declared.format.Use.{Use}
-use Rattle.i9_isa.specs.declared.format.Use.TheVariants.{Unused, Source, Left, Right, Destination, Load, Store, Change}
-use Rattle.i9_isa.specs.Operands.{takes, is_unused, has_base, has_index, has_disp, has_offset, disp_limit, is_address, no_address}
+use Rattle.i9_isa.specs.declared.format.Use.TheVariants.{Unused}
+use Rattle.i9_isa.specs.Operands.{takes, is_unused, has_base, has_index, has_disp, has_offset, disp_limit, is_address}
 use Rattle.i9_isa.specs.Table.{row_of}
 use Rattle.i9_isa.specs.Valid.{IsValid, FitsAddress, FitsDisp, is_within}
-use Rattle.i9_isa.specs.Words.{field, bit, operand_by, operand_in, src1_in, src2_in, src_dst_in, signed_of, disp_in, hint_in, mode_in, address_in, if_scaled, ea_in, Encodes}
-use Rattle.i9_decode.proofs.Spelled.{RowFits, row_fits_at, neither}
+use Rattle.i9_isa.specs.Words.{field, operand_by, operand_in, src1_in, src2_in, src_dst_in, signed_of, disp_in, hint_in, mode_in, address_in, if_scaled, ea_in, Encodes}
+use Rattle.i9_decode.proofs.Spelled.{RowFits, row_fits_at}
 
 -- ---- operands
 
