@@ -8,4 +8,4 @@ pub mod Same
 pub mod SameMemory
 pub mod IgnoredBits
 pub mod Clear
-pub mod Valid
+pub mod ValidWords

@@ -1,5 +1,5 @@
 -- The tables of names against the rows.
-use Rattle.std.proofs.Common.{◌≡◌, ℕ, suc, zero, ◌+◌, ◌-◌, ◌*◌, ◌/◌, ◌%◌, ◌<◌, ◌≤◌, Bool, true, false, cond, eqb, ltb, ◌&&◌, List, [], ◌∷◌, Option, Some, None, find, get_or, refl, sym, ap, ◌∙◌, arith, add-zero, zero-add}
+use Rattle.std.proofs.Common.{◌≡◌, ℕ, suc, zero, ◌+◌, ◌-◌, ◌*◌, ◌/◌, ◌%◌, ◌<◌, ◌≤◌, Bool, true, false, not, cond, eqb, ltb, ◌&&◌, List, [], ◌∷◌, Option, Some, None, find, get_or, refl, sym, ap, ◌∙◌, arith, add-zero, zero-add}
 use Rattle.std.proofs.lemmas.Bool.{and_parts, eqb-true, ltb-false}
 use Rattle.i9_isa.specs.declared.op.Op.{Op}
 use Rattle.i9_isa.specs.declared.op.Op.TheVariants.{Notbit}
@@ -64,7 +64,7 @@ other_extension _ e h = refl
 -- what stands at a place has this opcode, and no extension
 abbrev fits_alone : ℕ → ℕ → Option Op → Bool
 fits_alone first k None = true
-fits_alone first k (Some op) = eqb (row_of op).opcode (first + k) && (eqb (row_of op).extension 0 && eqb (cond (is_reg (row_of op).format) 1 0) 0)
+fits_alone first k (Some op) = eqb (row_of op).opcode (first + k) && (eqb (row_of op).extension 0 && not (is_reg (row_of op).format))
 
 -- what stands at a place has this opcode and this extension
 abbrev fits_group : ℕ → Option Op → Bool
@@ -85,15 +85,15 @@ record At (o e : ℕ) (op : Op) : Type 0 where
   opcode : (row_of op).opcode ≡ o
   extension : (row_of op).extension ≡ extension_of (row_of op).format e
 
-flag_false : (b : Bool) → eqb (cond b 1 0) 0 ≡ true → b ≡ false
-flag_false true h = cc
-flag_false false h = refl
+is_clear : (b : Bool) → not b ≡ true → b ≡ false
+is_clear true h = cc
+is_clear false h = refl
 
 alone_tells : (first k o e : ℕ) (op : Op) → first + k ≡ o → fits_alone first k (Some op) ≡ true → At o e op
 alone_tells first k o e op is t =
-    let p = and_parts (eqb (row_of op).opcode (first + k)) (eqb (row_of op).extension 0 && eqb (cond (is_reg (row_of op).format) 1 0) 0) t in
-    let q = and_parts (eqb (row_of op).extension 0) (eqb (cond (is_reg (row_of op).format) 1 0) 0) p.1 in
-    record { opcode = eqb-true _ _ p.0 ∙ is; extension = eqb-true (row_of op).extension 0 q.0 ∙ sym (other_extension (row_of op).format e (flag_false _ q.1)) }
+    let p = and_parts (eqb (row_of op).opcode (first + k)) (eqb (row_of op).extension 0 && not (is_reg (row_of op).format)) t in
+    let q = and_parts (eqb (row_of op).extension 0) (not (is_reg (row_of op).format)) p.1 in
+    record { opcode = eqb-true _ _ p.0 ∙ is; extension = eqb-true (row_of op).extension 0 q.0 ∙ sym (other_extension (row_of op).format e (is_clear _ q.1)) }
 
 group_tells : (k o e : ℕ) (op : Op) → 0x58 + k / 16 ≡ o → k % 16 ≡ e → fits_group k (Some op) ≡ true → At o e op
 group_tells k o e op io ie t =

@@ -20,7 +20,9 @@ at l n c = record { low = l; width = n; counts = c }
 
 -- the fields of the register format, by whether the row uses src1, src2 and src/dst
 abbrev pub reg_fields : Bool → Bool → Bool → List Field
-reg_fields a b c = at 24 8 true ∷ at 19 5 c ∷ at 14 5 b ∷ at 13 1 c ∷ at 12 1 b ∷ at 11 1 a ∷ at 7 4 true ∷ at 6 1 b ∷ at 5 1 a ∷ at 0 5 a ∷ []
+reg_fields a b c =
+    at 24 8 true ∷ at 19 5 c ∷ at 14 5 b ∷ at 13 1 c ∷ at 12 1 b ∷ at 11 1 a
+    ∷ at 7 4 true ∷ at 6 1 b ∷ at 5 1 a ∷ at 0 5 a ∷ []
 
 -- those of the compare-and-branch format, by whether the row uses src2, a displacement and a prediction
 abbrev pub cobr_fields : Bool → Bool → Bool → List Field
@@ -32,7 +34,9 @@ ctrl_fields disp hint = at 24 8 true ∷ at 2 22 disp ∷ at 1 1 hint ∷ at 0 1
 
 -- the low bits of the memory format: an offset, or the rest of the mode with a scale and an index
 abbrev pub low_fields : Mode → List Field
-low_fields m = if has_offset m then at 0 12 true ∷ [] else at 10 2 true ∷ at 7 3 (has_index m) ∷ at 5 2 false ∷ at 0 5 (has_index m) ∷ []
+low_fields m =
+    if has_offset m then at 0 12 true ∷ []
+    else at 10 2 true ∷ at 7 3 (has_index m) ∷ at 5 2 false ∷ at 0 5 (has_index m) ∷ []
 
 -- those of the memory format, by whether the row uses src/dst, and by the mode
 abbrev pub mem_fields : Bool → Mode → List Field

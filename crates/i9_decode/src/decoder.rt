@@ -44,13 +44,14 @@ fn read(w0: u32, w1: u32) -> Result<Inst, BadWord>
     })
 }
 
-/// The instruction that the first word and the second one stand for, or why the first is refused: `Opcode` where
-/// no name has its opcode and extension or its addressing mode is reserved, else `Operand` where an operand
-/// is one that the name does not allow. The second word counts where the instruction has two.
+/// The instruction that the first word and the second one stand for, or why the first is refused:
+/// `Opcode` where no name has its opcode and extension or its addressing mode is reserved, else
+/// `Operand` where an operand is one that the name does not allow. The second word counts where the
+/// instruction has two.
 pub fn decode(w0: u32, w1: u32) -> Result<Inst, BadWord>
     ensures value { result ≡ decoded w0 w1 }
     ensures ok { IfOk result (λ i. Encodes w0 w1 i) }
-    ensures valid { IfOk result IsValid }
+    ensures valid { IfOk result (λ i. IsValid i) }
     ensures all { (i : Inst) → Encodes w0 w1 i → result ≡ Ok i }
     ensures opcode { result ≡ Err BadWord.Opcode → (op : Op) → HasName w0 op → ⊥ }
     ensures operand { result ≡ Err BadWord.Operand → (op : Op) × HasName w0 op }

@@ -11,7 +11,8 @@ ghost use Rattle.i9_decode.specs.Spelling.{m_of, s_of};
 use crate::decoder::decode;
 use i9_isa::{BadWord, Ea, Format, Inst, Mode, Operand, Row, Use, row, word_count};
 
-/// The words of an instruction: the first, and where its mode has a displacement of 32 bits that one.
+/// The words of an instruction: the first, and where its mode has a displacement of 32 bits that
+/// one.
 #[derive(Clone, Copy, Debug, PartialEq, Eq)]
 pub struct Code {
     pub first: u32,
@@ -235,8 +236,8 @@ fn first_word(i: &Inst) -> u32
     }
 }
 
-/// The words of an instruction, with the ignored bits of the first word 0. Where one word suffices, it stands
-/// for the instruction whatever the second word is.
+/// The words of an instruction, with the ignored bits of the first word 0. Where one word suffices,
+/// it stands for the instruction whatever the second word is.
 pub fn encode(i: &Inst) -> Code
     requires { IsValid i.now }
     ensures one { IsNone result.second → (w1 : ℕ) → Encodes result.first w1 i.now }
@@ -253,7 +254,8 @@ pub fn encode(i: &Inst) -> Code
     Code { first, second }
 }
 
-/// The answer of `decode` to the words of an instruction, with `after` behind a single word: the instruction.
+/// The answer of `decode` to the words of an instruction, with `after` behind a single word: the
+/// instruction.
 pub fn decode_encoded(i: &Inst, after: u32) -> Result<Inst, BadWord>
     requires { IsValid i.now }
     ensures { result ≡ Ok i.now }

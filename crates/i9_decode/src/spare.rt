@@ -57,7 +57,8 @@ fn register_bits(a: bool, b: bool, c: bool) -> u32
     unless(a, REG_SRC1) + unless(b, REG_SRC2) + unless(c, REG_SRC_DST)
 }
 
-/// Those of the compare-and-branch format, by whether src2, a displacement and a prediction are used.
+/// Those of the compare-and-branch format, by whether src2, a displacement and a prediction are
+/// used.
 fn branch_bits(b: bool, disp: bool, hint: bool) -> u32
     ensures { result ≡ ignored_in (cobr_fields b disp hint) }
 {
@@ -73,7 +74,8 @@ fn control_bits(disp: bool, hint: bool) -> u32
 
 /// Those below the mode of the memory format.
 fn low_bits(mode: Mode) -> u32
-    ensures { result ≡ (if has_offset mode then 0 else MEM_GAP + (if has_index mode then 0 else MEM_INDEX)) }
+    ensures { result ≡ (if has_offset mode then 0
+        else MEM_GAP + (if has_index mode then 0 else MEM_INDEX)) }
 {
     if mode.has_offset() {
         0
@@ -104,8 +106,8 @@ fn bits_of(row: &Row, mode: Mode) -> u32
     }
 }
 
-/// The bits of the first word that are ignored: a word that differs in them alone stands for the same
-/// instruction, and one that differs in another bit does not.
+/// The bits of the first word that are ignored: a word that differs in them alone stands for the
+/// same instruction, and one that differs in another bit does not.
 pub fn spare_bits(i: &Inst) -> u32
     requires { IsValid i.now }
     ensures value { result ≡ ignored_bits i.now }

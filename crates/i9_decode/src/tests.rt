@@ -1,15 +1,7 @@
 //! Words against instructions that were worked out by hand from the instruction formats.
 use crate::{BadWord, Code, decode, encode, spare_bits};
-use i9_isa::{Ea, Inst, Mode, Op, Operand, valid};
+use i9_isa::{Ea, Inst, Mode, NO_ADDRESS, Op, Operand, valid};
 use std::test::*;
-
-const NO_ADDRESS: Ea = Ea {
-    mode: Mode::Offset,
-    base: 0,
-    index: 0,
-    scale: 0,
-    disp: 0,
-};
 
 /// What stands behind an instruction of one word.
 const AFTER: u32 = 0xDEAD_BEEF;
@@ -27,7 +19,7 @@ fn register(op: Op, a: Operand, b: Operand, c: Operand) -> Inst {
     }
 }
 
-/// An instruction of the memory format, of register g0 plus `c`.
+/// An instruction of the memory format on register `c`.
 fn memory(op: Op, c: u8, ea: Ea) -> Inst {
     Inst {
         op,

@@ -96,7 +96,11 @@ disp_limit m = if has_disp m then 2 ^ 32 else if has_offset m then 2 ^ 12 else 1
 
 -- the parts of an address that its mode has are in range (a scale is at most 4), and the others are 0
 abbrev pub is_address : Ea → Bool
-is_address e = nat_lt e.base (if has_base e.mode then 32 else 1) && (nat_lt e.index (if has_index e.mode then 32 else 1) && (nat_lt e.scale (if has_index e.mode then 5 else 1) && nat_lt e.disp (disp_limit e.mode)))
+is_address e =
+    nat_lt e.base (if has_base e.mode then 32 else 1)
+    && (nat_lt e.index (if has_index e.mode then 32 else 1)
+    && (nat_lt e.scale (if has_index e.mode then 5 else 1)
+    && nat_lt e.disp (disp_limit e.mode)))
 
 -- what stands where a name has no address
 abbrev pub no_address : Ea

@@ -101,7 +101,8 @@ hint_in uses w = uses && bit w 1
 
 -- ---- effective address
 
--- the mode in bits 13 to 10, of which bit 12 is set; 0110 is reserved
+-- The mode in bits 13 to 10, of which bit 12 is set: 0100, 0101, 0111, 1100, 1101, 1110 and 1111 in the order below. 0110 is
+-- reserved.
 abbrev pub long_mode : ℕ → Option Mode
 long_mode m =
     if m == 4 then Some Base
@@ -160,7 +161,13 @@ with_operands op _ _ _ _ disp hint = Err BadWord.Operand
 -- the instruction of this name, read by its format and by the uses of its row
 abbrev pub read_as : Op → ℕ → ℕ → Result Inst BadWord
 read_as op w w1 = let row = row_of op in
-    with_operands op (src1_in row.format row.a w) (src2_in row.format row.b w) (src_dst_in row.format row.c w) (ea_in row.format w w1) (disp_in row.format row.disp w) (hint_in row.hint w)
+    with_operands op
+    (src1_in row.format row.a w)
+    (src2_in row.format row.b w)
+    (src_dst_in row.format row.c w)
+    (ea_in row.format w w1)
+    (disp_in row.format row.disp w)
+    (hint_in row.hint w)
 
 -- the answer, by the name that was found
 abbrev pub decoded_as : Option Op → ℕ → ℕ → Result Inst BadWord

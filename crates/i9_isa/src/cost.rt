@@ -1,5 +1,5 @@
-//! Where an instruction issues, and how long it takes. Sides are those of the i960 CA/CF User's Manual,
-//! instruction scheduling; the numbers of turns are this project's own.
+//! Where an instruction issues, and how long it takes. Sides are those of the i960 CA/CF User's
+//! Manual, instruction scheduling; the numbers of turns are this project's own.
 ghost use Rattle.std.specs.Prelude.{◌≡◌};
 ghost use Rattle.i9_isa.specs.Costs.{issue_side, latency_of};
 
@@ -22,7 +22,8 @@ pub fn side_of(i: &Inst) -> Side
     }
 }
 
-/// How many turns pass from issue to result, without what waits, spills, refills and flushed frames add.
+/// How many turns pass from issue to result, without what waits, spills, refills and flushed frames
+/// add.
 pub fn latency(i: &Inst) -> u64
     ensures { result ≡ latency_of i.now.op }
 {

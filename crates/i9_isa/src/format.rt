@@ -17,8 +17,8 @@ pub enum Format {
     Mem,
 }
 
-/// What an instruction does with one of its three operands. A number is how many words it has, from 1 to 4:
-/// so many registers from the named one up.
+/// What an instruction does with one of its three operands. A number is how many words it has, from
+/// 1 to 4: so many registers from the named one up.
 #[derive(Clone, Copy, Debug, PartialEq, Eq)]
 pub enum Use {
     /// Its field is ignored.
@@ -59,8 +59,8 @@ pub struct Row {
     pub hint: bool,
 }
 
-/// Whether a group of so many words may begin at this register: a pair begins at an even number, three or
-/// four registers at a multiple of 4.
+/// Whether a group of so many words may begin at this register: a pair begins at an even number,
+/// three or four registers at a multiple of 4.
 fn starts_group(words: u8, register: u8) -> bool
     ensures { result ≡ starts_group words register }
 {

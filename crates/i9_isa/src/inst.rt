@@ -12,7 +12,8 @@ pub struct NoMemory;
 /// Why the first word of an instruction is refused.
 #[derive(Clone, Copy, Debug, PartialEq, Eq)]
 pub enum BadWord {
-    /// No name has its opcode and extension, or its addressing mode is reserved. This comes before `Operand`.
+    /// No name has its opcode and extension, or its addressing mode is reserved. This comes before
+    /// `Operand`.
     Opcode,
     /// An operand is one that the name does not allow.
     Operand,
@@ -122,6 +123,15 @@ pub struct Ea {
     pub scale: u8,
     pub disp: u32,
 }
+
+/// What stands for the effective address where there is none.
+pub const NO_ADDRESS: Ea = Ea {
+    mode: Mode::Offset,
+    base: 0,
+    index: 0,
+    scale: 0,
+    disp: 0,
+};
 
 /// An instruction: `a` is src1, `b` is src2, `c` is src/dst, `ea` the effective address, `disp` the
 /// displacement of a branch and `hint` its prediction. What a name does not use is `Reg(0)`, mode

@@ -1,5 +1,5 @@
-//! The resources that an instruction reads and writes, as sets: bit r for register r, and bit 32 for the
-//! condition code.
+//! The resources that an instruction reads and writes, as sets: bit r for register r, and bit 32
+//! for the condition code.
 ghost use Rattle.std.specs.Prelude.{◌≡◌, ◌==◌, ◌&&◌, ◌<◌, ◌≤◌};
 ghost use Rattle.i9_isa.specs.Operands.{field_number};
 ghost use Rattle.i9_isa.specs.Resources.{IsSetOf, is_in_group, is_in_operand, is_in_frame, is_read, is_written, reads_code, writes_code, writes_link, changes_frame};
@@ -79,8 +79,8 @@ fn reads_code(op: Op) -> bool
     }
 }
 
-/// Whether the condition code is a result: of a comparison, of a search, of a sum with carry, of a branch on
-/// a bit or a comparison, or as part of new controls.
+/// Whether the condition code is a result: of a comparison, of a search, of a sum with carry, of a
+/// branch on a bit or a comparison, or as part of new controls.
 fn writes_code(op: Op) -> bool
     ensures { result ≡ writes_code op }
 {
@@ -110,7 +110,8 @@ fn writes_link(op: Op) -> bool
     matches!(op, Op::Bal)
 }
 
-/// The resources that the instruction reads: those of its operands and its address, and the condition code.
+/// The resources that the instruction reads: those of its operands and its address, and the
+/// condition code.
 pub fn reads(i: &Inst) -> u64
     requires { IsValid i.now }
     ensures { IsSetOf result (is_read i.now) }
@@ -124,8 +125,8 @@ pub fn reads(i: &Inst) -> u64
         | one(reads_code(i.op), CONDITION_CODE)
 }
 
-/// The resources that the instruction writes: those of its operands, the link register of `bal`, the frame of
-/// a call, a return or `sysctl`, and the condition code.
+/// The resources that the instruction writes: those of its operands, the link register of `bal`,
+/// the frame of a call, a return or `sysctl`, and the condition code.
 pub fn writes(i: &Inst) -> u64
     requires { IsValid i.now }
     ensures { IsSetOf result (is_written i.now) }

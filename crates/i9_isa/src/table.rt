@@ -1,7 +1,7 @@
 //! The instruction table: one row for each name.
 //!
-//! Names, formats and operands are those of the i960 CA/CF User's Manual, instruction formats; the numbers
-//! of opcodes and extensions are this project's profile of it.
+//! Names, formats and operands are those of the i960 CA/CF User's Manual, instruction formats; the
+//! numbers of opcodes and extensions are this project's profile of it.
 ghost use Rattle.std.specs.Prelude.{◌≡◌};
 ghost use Rattle.i9_isa.specs.Table.{row_of, reg_row, test_row, branch_row, ctrl_row, mem_row};
 

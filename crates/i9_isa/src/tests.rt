@@ -1,16 +1,9 @@
 //! Resources, sides and latencies, worked out by hand from the descriptions of the instructions.
 use crate::{
-    CONDITION_CODE, Ea, Inst, Mode, Op, Operand, Side, latency, reads, side_of, valid, writes,
+    CONDITION_CODE, Ea, Inst, Mode, NO_ADDRESS, Op, Operand, Side, latency, reads, side_of, valid,
+    writes,
 };
 use std::test::*;
-
-const NO_ADDRESS: Ea = Ea {
-    mode: Mode::Offset,
-    base: 0,
-    index: 0,
-    scale: 0,
-    disp: 0,
-};
 
 /// The condition code alone.
 const CODE: u64 = 1 << CONDITION_CODE;

@@ -4,17 +4,8 @@ ghost use Rattle.i9_isa.specs.Operands.{is_address, disp_limit};
 ghost use Rattle.i9_isa.specs.Valid.{IsValid, FitsAddress, FitsDisp};
 
 use crate::format::Format;
-use crate::inst::{Ea, Inst, Mode};
+use crate::inst::{Ea, Inst, Mode, NO_ADDRESS};
 use crate::table::row;
-
-/// No address.
-const NO_ADDRESS: Ea = Ea {
-    mode: Mode::Offset,
-    base: 0,
-    index: 0,
-    scale: 0,
-    disp: 0,
-};
 
 /// What a field is below: `limit` where it is used, else 1, so that it is 0.
 fn limit_where(used: bool, limit: u8) -> u8
@@ -75,8 +66,8 @@ fn fits_address(format: Format, e: &Ea) -> bool
     }
 }
 
-/// Whether the instruction has words: the fields that its name uses are in range, and the others are as
-/// `Inst` says of what is not used.
+/// Whether the instruction has words: the fields that its name uses are in range, and the others
+/// are as `Inst` says of what is not used.
 pub fn valid(i: &Inst) -> bool
     ensures { IsTrue result ↔ IsValid i.now }
 {
