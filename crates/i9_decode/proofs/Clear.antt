@@ -25,16 +25,36 @@ pub register_clear : (w : ℕ) (i : Inst) → IsValid i → (row_of i.op).format
 register_clear w i v f ea am as' eb bm bs ec cm =
     let r = row_of i.op in let a = is_used r.a in let b = is_used r.b in let c = is_used r.c in
     let zeros : ZeroElse (reg_fields a b c) w = (
-      λ t. absurd (cc), (
-      λ t. ec ∙ unused_number r.c i.c v.c t, (
-      λ t. eb ∙ unused_number r.b i.b v.b t, (
-      λ t. bit_zero w 13 (cm ∙ unused_m r.c i.c t), (
-      λ t. bit_zero w 12 (bm ∙ unused_m r.b i.b t), (
-      λ t. bit_zero w 11 (am ∙ unused_m r.a i.a t), (
-      λ t. absurd (cc), (
-      λ t. bit_zero w 6 (bs ∙ unused_s r.b i.b t), (
-      λ t. bit_zero w 5 (as' ∙ unused_s r.a i.a t), (
-      λ t. ea ∙ unused_number r.a i.a v.a t, tt)))))))))) in
+      λ t. absurd (cc),
+      (
+        λ t. ec ∙ unused_number r.c i.c v.c t,
+        (
+          λ t. eb ∙ unused_number r.b i.b v.b t,
+          (
+            λ t. bit_zero w 13 (cm ∙ unused_m r.c i.c t),
+            (
+              λ t. bit_zero w 12 (bm ∙ unused_m r.b i.b t),
+              (
+                λ t. bit_zero w 11 (am ∙ unused_m r.a i.a t),
+                (
+                  λ t. absurd (cc),
+                  (
+                    λ t. bit_zero w 6 (bs ∙ unused_s r.b i.b t),
+                    (
+                      λ t. bit_zero w 5 (as' ∙ unused_s r.a i.a t),
+                      (
+                        λ t. ea ∙ unused_number r.a i.a v.a t,
+                        tt,
+                      ),
+                    ),
+                  ),
+                ),
+              ),
+            ),
+          ),
+        ),
+      ),
+    ) in
     rw f (exact_none (ignored_in (reg_fields a b c)) w (reg_fields a b c) (exact_reg a b c) zeros)
 
 no_hint_set : (uses hint : Bool) → (hint ≡ true → uses ≡ true) → uses ≡ false → hint ≡ false
@@ -54,13 +74,27 @@ pub branch_clear : (w : ℕ) (i : Inst) → IsValid i → (row_of i.op).format �
 branch_clear w i v f eb bs ed eh =
     let r = row_of i.op in let b = is_used r.b in
     let zeros : ZeroElse (cobr_fields b r.disp r.hint) w = (
-      λ t. absurd (cc), (
-      λ t. absurd (cc), (
-      λ t. eb ∙ unused_number r.b i.b v.b t, (
-      λ t. absurd (cc), (
-      near_zero r.disp i.disp w (rw f at v.disp) ed, (
-      λ t. bit_zero w 1 (eh ∙ no_hint_set r.hint i.hint v.hint t), (
-      λ t. bit_zero w 0 (bs ∙ unused_s r.b i.b t), tt))))))) in
+      λ t. absurd (cc),
+      (
+        λ t. absurd (cc),
+        (
+          λ t. eb ∙ unused_number r.b i.b v.b t,
+          (
+            λ t. absurd (cc),
+            (
+              near_zero r.disp i.disp w (rw f at v.disp) ed,
+              (
+                λ t. bit_zero w 1 (eh ∙ no_hint_set r.hint i.hint v.hint t),
+                (
+                  λ t. bit_zero w 0 (bs ∙ unused_s r.b i.b t),
+                  tt,
+                ),
+              ),
+            ),
+          ),
+        ),
+      ),
+    ) in
     rw f (exact_none (ignored_in (cobr_fields b r.disp r.hint)) w (cobr_fields b r.disp r.hint) (exact_cobr b r.disp r.hint) zeros)
 
 pub control_clear : (w : ℕ) (i : Inst) → IsValid i → (row_of i.op).format ≡ Format.Ctrl →
@@ -68,10 +102,18 @@ pub control_clear : (w : ℕ) (i : Inst) → IsValid i → (row_of i.op).format 
 control_clear w i v f ed eh er =
     let r = row_of i.op in
     let zeros : ZeroElse (ctrl_fields r.disp r.hint) w = (
-      λ t. absurd (cc), (
-      far_zero r.disp i.disp w (rw f at v.disp) ed, (
-      λ t. bit_zero w 1 (eh ∙ no_hint_set r.hint i.hint v.hint t), (
-      λ t. er, tt)))) in
+      λ t. absurd (cc),
+      (
+        far_zero r.disp i.disp w (rw f at v.disp) ed,
+        (
+          λ t. bit_zero w 1 (eh ∙ no_hint_set r.hint i.hint v.hint t),
+          (
+            λ t. er,
+            tt,
+          ),
+        ),
+      ),
+    ) in
     rw f (exact_none (ignored_in (ctrl_fields r.disp r.hint)) w (ctrl_fields r.disp r.hint) (exact_ctrl r.disp r.hint) zeros)
 
 part_zero : (has : Bool) (limit n f : ℕ) → nat_lt n (cond has limit 1) ≡ true → f ≡ n → has ≡ false → f ≡ 0
@@ -83,10 +125,18 @@ low_zero : (m : Mode) (w index scale : ℕ) → nat_lt index (cond (has_index m)
 low_zero Offset w index scale hi hs ei es eg = (λ t. absurd (cc), tt)
 low_zero BaseOffset w index scale hi hs ei es eg = (λ t. absurd (cc), tt)
 low_zero m w index scale hi hs ei es eg = (
-  λ t. absurd (cc), (
-  part_zero (has_index m) 5 scale (field w 7 3) hs (es refl), (
-  λ t. eg refl, (
-  part_zero (has_index m) 32 index (field w 0 5) hi (ei refl), tt))))
+  λ t. absurd (cc),
+  (
+    part_zero (has_index m) 5 scale (field w 7 3) hs (es refl),
+    (
+      λ t. eg refl,
+      (
+        part_zero (has_index m) 32 index (field w 0 5) hi (ei refl),
+        tt,
+      ),
+    ),
+  ),
+)
 
 pub memory_clear : (w : ℕ) (i : Inst) → IsValid i → (row_of i.op).format ≡ Format.Mem → is_address i.ea ≡ true →
     field w 19 5 ≡ field_number i.c → field w 14 5 ≡ i.ea.base →
@@ -95,10 +145,19 @@ memory_clear w i v f ia ec eb ei es eg =
     let r = row_of i.op in let c = is_used r.c in let m = i.ea.mode in
     let p = address_parts i.ea ia in
     let zeros : ZeroElse (mem_fields c m) w = (
-      λ t. absurd (cc), (
-      λ t. ec ∙ unused_number r.c i.c v.c t, (
-      part_zero (has_base m) 32 i.ea.base (field w 14 5) p.base eb, (
-      λ t. absurd (cc), (
       λ t. absurd (cc),
-      low_zero m w i.ea.index i.ea.scale p.index p.scale ei es eg))))) in
+      (
+        λ t. ec ∙ unused_number r.c i.c v.c t,
+        (
+          part_zero (has_base m) 32 i.ea.base (field w 14 5) p.base eb,
+          (
+            λ t. absurd (cc),
+            (
+              λ t. absurd (cc),
+              low_zero m w i.ea.index i.ea.scale p.index p.scale ei es eg,
+            ),
+          ),
+        ),
+      ),
+    ) in
     rw f (exact_none (ignored_in (mem_fields c m)) w (mem_fields c m) (exact_mem c m) zeros)

@@ -112,16 +112,36 @@ reg_tells w v w1 i f x y =
     let c = read_twice r.c i.c (bit w 13) (bit v 13) false false (field w 19 5) (field v 19 5) (rw f at x.c) (rw f at y.c) in
     let a_bits : (t : is_used r.a ≡ true) → (has_m r.a ≡ true) × (has_s r.a ≡ true) = λ t. and_parts _ _ (uses.a t) in
     let b_bits : (t : is_used r.b ≡ true) → (has_m r.b ≡ true) × (has_s r.b ≡ true) = λ t. and_parts _ _ (uses.b t) in (
-      λ _. sym x.name.opcode ∙ y.name.opcode, (
-      c.number, (
-      b.number, (
-      λ t. bit_field w v 13 (c.bit_m (uses.c t)), (
-      λ t. bit_field w v 12 (b.bit_m (b_bits t).0), (
-      λ t. bit_field w v 11 (a.bit_m (a_bits t).0), (
-      λ _. sym (rw f at x.name.extension) ∙ (rw f at y.name.extension), (
-      λ t. bit_field w v 6 (b.bit_s (b_bits t).1), (
-      λ t. bit_field w v 5 (a.bit_s (a_bits t).1), (
-      a.number, tt))))))))))
+      λ _. sym x.name.opcode ∙ y.name.opcode,
+      (
+        c.number,
+        (
+          b.number,
+          (
+            λ t. bit_field w v 13 (c.bit_m (uses.c t)),
+            (
+              λ t. bit_field w v 12 (b.bit_m (b_bits t).0),
+              (
+                λ t. bit_field w v 11 (a.bit_m (a_bits t).0),
+                (
+                  λ _. sym (rw f at x.name.extension) ∙ (rw f at y.name.extension),
+                  (
+                    λ t. bit_field w v 6 (b.bit_s (b_bits t).1),
+                    (
+                      λ t. bit_field w v 5 (a.bit_s (a_bits t).1),
+                      (
+                        a.number,
+                        tt,
+                      ),
+                    ),
+                  ),
+                ),
+              ),
+            ),
+          ),
+        ),
+      ),
+    )
 
 -- ---- the compare-and-branch format
 
@@ -155,13 +175,27 @@ cobr_tells w v w1 i f x y =
     let q = and_parts (has_m r.a) (implies (is_used r.b) (has_s r.b)) p.1 in
     let a = read_twice r.a i.a (bit w 13) (bit v 13) false false (field w 19 5) (field v 19 5) (rw f at x.a) (rw f at y.a) in
     let b = read_twice r.b i.b false false (bit w 0) (bit v 0) (field w 14 5) (field v 14 5) (rw f at x.b) (rw f at y.b) in (
-      λ _. sym x.name.opcode ∙ y.name.opcode, (
-      λ _. a.number p.0, (
-      b.number, (
-      λ _. bit_field w v 13 (a.bit_m q.0), (
-      near_tells r.disp i.disp w v (rw f at x.disp) (rw f at y.disp), (
-      hint_tells r.hint i.hint w v x.hint y.hint, (
-      λ t. bit_field w v 0 (b.bit_s (implied (is_used r.b) (has_s r.b) q.1 t)), tt)))))))
+      λ _. sym x.name.opcode ∙ y.name.opcode,
+      (
+        λ _. a.number p.0,
+        (
+          b.number,
+          (
+            λ _. bit_field w v 13 (a.bit_m q.0),
+            (
+              near_tells r.disp i.disp w v (rw f at x.disp) (rw f at y.disp),
+              (
+                hint_tells r.hint i.hint w v x.hint y.hint,
+                (
+                  λ t. bit_field w v 0 (b.bit_s (implied (is_used r.b) (has_s r.b) q.1 t)),
+                  tt,
+                ),
+              ),
+            ),
+          ),
+        ),
+      ),
+    )
 
 -- ---- the control format
 
@@ -182,7 +216,15 @@ ctrl_keeps w v w1 i f h form =
 pub ctrl_tells : (w v w1 : ℕ) (i : Inst) → (row_of i.op).format ≡ Format.Ctrl → Encodes w w1 i → Encodes v w1 i → SameWhere (ctrl_fields (row_of i.op).disp (row_of i.op).hint) w v
 ctrl_tells w v w1 i f x y =
     let r = row_of i.op in (
-      λ _. sym x.name.opcode ∙ y.name.opcode, (
-      far_tells r.disp i.disp w v (rw f at x.disp) (rw f at y.disp), (
-      hint_tells r.hint i.hint w v x.hint y.hint, (
-      λ t. absurd (cc), tt))))
+      λ _. sym x.name.opcode ∙ y.name.opcode,
+      (
+        far_tells r.disp i.disp w v (rw f at x.disp) (rw f at y.disp),
+        (
+          hint_tells r.hint i.hint w v x.hint y.hint,
+          (
+            λ t. absurd (cc),
+            tt,
+          ),
+        ),
+      ),
+    )

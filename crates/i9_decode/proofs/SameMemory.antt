@@ -154,8 +154,8 @@ ea_keeps : (e : Ea) (w v w1 : ℕ) → field w 12 1 ≡ field v 12 1 → field w
 ea_keeps e w v w1 e12 e13 base low h =
     let a = address_of w w1 e h in
     let four : bit w 12 ≡ true → field v 10 4 ≡ field w 10 4 = λ t.
-        let two = low.tail (ap not (long_tells w e.mode t a.mode).1) in
-        four_bits v ∙ omega (arith, e12, e13, two, four_bits w) in
+    let two = low.tail (ap not (long_tells w e.mode t a.mode).1) in
+    four_bits v ∙ omega (arith, e12, e13, two, four_bits w) in
     let mode : mode_in v ≡ Some e.mode = mode_same v w (sym e12) (sym e13) four ∙ a.mode in
     let whole : if_scaled (address_in e.mode w w1) ≡ Some e = rw a.mode at h in
     ap (option_and_then (λ m. if_scaled (address_in m v w1))) mode ∙ ap if_scaled (address_same e.mode w v w1 base low) ∙ whole
@@ -196,9 +196,18 @@ mem_tells w v w1 i f x y =
       scale = part_tells (has_index m) w v 7 3 i.ea.scale (ap (λ z. z.scale) p.parts) (ap (λ z. z.scale) q.parts);
       index = part_tells (has_index m) w v 0 5 i.ea.index (ap (λ z. z.index) p.parts) (ap (λ z. z.index) q.parts);
     } in (
-      λ _. sym x.name.opcode ∙ y.name.opcode, (
-      c.number, (
-      part_tells (has_base m) w v 14 5 i.ea.base (ap (λ z. z.base) p.parts) (ap (λ z. z.base) q.parts), (
-      λ _. bits.bit13, (
-      λ _. bits.bit12,
-      low_whole m w v low)))))
+      λ _. sym x.name.opcode ∙ y.name.opcode,
+      (
+        c.number,
+        (
+          part_tells (has_base m) w v 14 5 i.ea.base (ap (λ z. z.base) p.parts) (ap (λ z. z.base) q.parts),
+          (
+            λ _. bits.bit13,
+            (
+              λ _. bits.bit12,
+              low_whole m w v low,
+            ),
+          ),
+        ),
+      ),
+    )

@@ -4,7 +4,7 @@ ghost use Rattle.i9_isa.specs.declared.inst.Inst.{Inst};
 ghost use Rattle.i9_isa.specs.declared.op.Op.{Op};
 ghost use Rattle.i9_isa.specs.Words.{decoded, HasName, Encodes};
 
-use crate::fields::{displacement, effective_address, flag, has_form, src1, src2, src_dst};
+use crate::fields::{displacement, effective_address, flag, has_form, src_dst, src1, src2};
 use crate::names::name_of;
 use i9_isa::{BadWord, Inst, row};
 

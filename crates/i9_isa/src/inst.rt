@@ -89,7 +89,10 @@ impl Mode {
     pub fn has_index(self) -> bool
         ensures { result ≡ has_index self }
     {
-        matches!(self, Mode::BaseIndex | Mode::IndexDisp | Mode::BaseIndexDisp)
+        matches!(
+            self,
+            Mode::BaseIndex | Mode::IndexDisp | Mode::BaseIndexDisp
+        )
     }
 
     /// Whether the mode has a displacement of 32 bits, which is a second word.

@@ -5,7 +5,6 @@ ghost use Rattle.i9_isa.specs.declared.inst.Inst.{Inst};
 ghost use Rattle.i9_isa.specs.declared.inst.BadWord.{BadWord};
 ghost use Rattle.i9_isa.specs.Words.{decoded, Encodes, words_of};
 
-
 /// Decoding as a function and as a relation are the same.
 pub fn decoding_is_one()
     ensures { (w w1 : ℕ) (i : Inst) → (decoded w w1 ≡ Ok i) ↔ Encodes w w1 i }
