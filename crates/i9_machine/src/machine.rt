@@ -88,7 +88,7 @@ fn exit_in(e: &Effect) -> Option<End>
 }
 
 impl Machine {
-    ghost use Rattle.i9_machine.specs.StandsFor.{StandsFor, Advances, AnswersAgain, steps_left, LeavesFewer};
+    ghost use Rattle.i9_machine.specs.StandsFor.{StandsFor, Advances, AnswersAgain, steps_left, LeavesFewer, sets_of};
     ghost use Rattle.i9_machine.specs.Run.{Steps, next_for};
 
     /// A machine before its first step: its run has the image's bytes and at most so many instructions.
@@ -101,7 +101,8 @@ impl Machine {
     ) -> Result<Machine, NoMemory>
         requires sets { IfSome sets (λ n. 0 < n × n < 16) }
         requires length { length ≤ MAX_LENGTH }
-        ensures { IfOk result (λ m. StandsFor (pairs_of image.now) length [] None m) }
+        ensures stands { IfOk result (λ m. StandsFor (pairs_of image.now) length [] None m) }
+        ensures sets { IfOk result (λ m. sets_of m ≡ sets) }
     {
         let processor = Processor::boot(alloc, image)?;
         let due = if processor.memory.has_tables() {
@@ -132,6 +133,7 @@ impl Machine {
         requires is_end { next_for self.old ≡ Ends (finish_of e) }
         ensures steps { Steps self.old result self.new out.old.items out.new.items }
         ensures fewer { LeavesFewer result (steps_left self.old) (steps_left self.new) }
+        ensures sets { sets_of self.new ≡ sets_of self.old }
     {
         match put_end(e, self.processor.view(), out) {
             Ok(()) => {
@@ -150,6 +152,7 @@ impl Machine {
         ensures due { self.new.due ≡ self.old.due }
         ensures bound { self.new.length ≡ self.old.length }
         ensures ended { self.new.ended ≡ self.old.ended }
+        ensures sets { sets_of self.new ≡ sets_of self.old }
         ensures items { out.new.items ≡ out.old.items }
         ensures room { OnOk result (HasRoom self.new.processor.memory e.now.address (length e.now.bytes.items)) }
         ensures lines { OnOk result (vec_len out.new + length (out_lines (console_byte (action_in e.now).writes)) ≤ vec_capacity out.new) }
@@ -170,6 +173,7 @@ impl Machine {
         ensures due { option_map finish_of self.new.due ≡ exit_in (action_in e.now).writes }
         ensures bound { self.new.length ≡ self.old.length }
         ensures ended { self.new.ended ≡ self.old.ended }
+        ensures sets { sets_of self.new ≡ sets_of self.old }
         ensures lines { AddsLines out.old.items out.new.items (out_lines (console_byte (action_in e.now).writes)) }
     {
         self.processor.apply(e);
@@ -185,6 +189,7 @@ impl Machine {
         requires is_next { next_for self.old ≡ Does (record_of i.now (state_of self.old.processor)) }
         ensures steps { Steps self.old result self.new out.old.items out.new.items }
         ensures fewer { LeavesFewer result (steps_left self.old) (steps_left self.new) }
+        ensures sets { sets_of self.new ≡ sets_of self.old }
     {
         let issued = self.processor.issued(i);
         let effect = self.processor.plan(i);
@@ -202,6 +207,7 @@ impl Machine {
         requires { self.old.ended ≡ None }
         ensures steps { Steps self.old result self.new out.old.items out.new.items }
         ensures fewer { LeavesFewer result (steps_left self.old) (steps_left self.new) }
+        ensures sets { sets_of self.new ≡ sets_of self.old }
     {
         if let Some(e) = self.due {
             return self.finish(e, out);
@@ -227,6 +233,7 @@ impl Machine {
         ensures again { (image : List (ℕ × ℕ)) (limit : ℕ) (rs : List Record) (f : Finish) → StandsFor image limit rs (Some f) self.old
             → AnswersAgain image limit rs f result self.new out.old.items out.new.items }
         ensures fewer { LeavesFewer result (steps_left self.old) (steps_left self.new) }
+        ensures sets { sets_of self.new ≡ sets_of self.old }
     {
         match self.ended {
             Some(e) => Turn::End(e),
