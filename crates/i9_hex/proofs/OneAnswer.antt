@@ -1,5 +1,5 @@
 -- Each text has one answer: an image's pairs, or a first fault.
-use Rattle.std.proofs.Common.{◌≡◌, ℕ, ◌⊎◌, inl, inr, List, Result, Ok, Err, refl, sym, ap, ◌∙◌}
+use Rattle.std.proofs.Common.{◌≡◌, ℕ, ◌⊎◌, inl, inr, List, Result, Ok, Err, refl, ap}
 use Rattle.i9_text.specs.Text.{lines_of}
 use Rattle.i9_text.proofs.FirstFault.{SaysAll-read, read_from-says, read_from-refused, refused-read}
 use Rattle.i9_model.specs.HexText.{HexState, start, Says, fault_of, missing_end, IsImage, IsRefused}

@@ -72,6 +72,10 @@ pub record AnswersAgain (image : List (ℕ × ℕ)) (limit : ℕ) (rs : List Rec
   pub stands : StandsFor image limit rs (Some f) m
   pub lines : new ≡ old
 
+-- the number of register sets that it was made with, where one was given
+abbrev pub sets_of : Machine → Option ℕ
+sets_of m = m.sets
+
 -- how many instructions there may still be
 abbrev pub steps_left : Machine → ℕ
 steps_left m = m.length - m.processor.count

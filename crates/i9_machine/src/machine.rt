@@ -96,7 +96,7 @@ fn put_point(m: &Move, view: View, out: &mut Vec<Line>)
 }
 
 impl Machine {
-    ghost use Rattle.i9_machine.specs.StandsFor.{StandsFor, Advances, AnswersAgain, steps_left, LeavesFewer};
+    ghost use Rattle.i9_machine.specs.StandsFor.{StandsFor, Advances, AnswersAgain, steps_left, LeavesFewer, sets_of};
     ghost use Rattle.i9_machine.specs.Run.{Steps, next_for};
 
     /// A machine before its first step: its run has the image's bytes and at most so many instructions.
@@ -109,7 +109,8 @@ impl Machine {
     ) -> Result<Machine, NoMemory>
         requires sets { IfSome sets (λ n. 0 < n × n < 16) }
         requires length { length ≤ MAX_LENGTH }
-        ensures { IfOk result (λ m. StandsFor (pairs_of image.now) length [] None m) }
+        ensures stands { IfOk result (λ m. StandsFor (pairs_of image.now) length [] None m) }
+        ensures sets { IfOk result (λ m. sets_of m ≡ sets) }
     {
         let processor = Processor::boot(alloc, image)?;
         let due = if has_tables(&processor.memory) {
@@ -149,6 +150,7 @@ impl Machine {
         requires is_end { next_for self.old ≡ Ends (finish_of e) }
         ensures steps { Steps self.old result self.new out.old.items out.new.items }
         ensures fewer { LeavesFewer result (steps_left self.old) (steps_left self.new) }
+        ensures sets { sets_of self.new ≡ sets_of self.old }
     {
         match put_end(e, self.processor.view(), out) {
             Ok(()) => {
@@ -166,6 +168,7 @@ impl Machine {
         ensures due { self.new.due ≡ self.old.due }
         ensures bound { self.new.length ≡ self.old.length }
         ensures ended { self.new.ended ≡ self.old.ended }
+        ensures sets { sets_of self.new ≡ sets_of self.old }
         ensures items { out.new.items ≡ out.old.items }
         ensures bytes { OnOk result (HasRoom self.new.processor.memory e.now.address (length e.now.bytes.items)) }
         ensures frames { OnOk result (HasMoveRoom self.new.processor.memory self.new.processor.watch e.now.frames) }
@@ -199,6 +202,7 @@ impl Machine {
         ensures due { option_map finish_of self.new.due ≡ exit_in (state_of self.old.processor) (action_in e.now) }
         ensures bound { self.new.length ≡ self.old.length }
         ensures ended { self.new.ended ≡ self.old.ended }
+        ensures sets { sets_of self.new ≡ sets_of self.old }
         ensures lines { AddsLines out.old.items out.new.items (action_lines (action_in e.now) (acted (state_of self.old.processor) (action_in e.now))) }
     {
         let due = self.exit_in(e);
@@ -216,6 +220,7 @@ impl Machine {
         requires is_next { next_for self.old ≡ Does (record_of i.now (state_of self.old.processor)) }
         ensures steps { Steps self.old result self.new out.old.items out.new.items }
         ensures fewer { LeavesFewer result (steps_left self.old) (steps_left self.new) }
+        ensures sets { sets_of self.new ≡ sets_of self.old }
     {
         let issued = self.processor.issued(i);
         match self.make_room(e, out) {
@@ -236,6 +241,7 @@ impl Machine {
         requires is_next { next_for self.old ≡ next_by_access (state_of self.old.processor) i.now (hazard_of i.now (state_of self.old.processor)) }
         ensures steps { Steps self.old result self.new out.old.items out.new.items }
         ensures fewer { LeavesFewer result (steps_left self.old) (steps_left self.new) }
+        ensures sets { sets_of self.new ≡ sets_of self.old }
     {
         match self.processor.plan(i) {
             Ok(effect) => self.perform(i, &effect, out),
@@ -248,6 +254,7 @@ impl Machine {
         requires { self.old.ended ≡ None }
         ensures steps { Steps self.old result self.new out.old.items out.new.items }
         ensures fewer { LeavesFewer result (steps_left self.old) (steps_left self.new) }
+        ensures sets { sets_of self.new ≡ sets_of self.old }
     {
         if let Some(e) = self.due {
             return self.finish(e, out);
@@ -274,6 +281,7 @@ impl Machine {
         ensures again { (image : List (ℕ × ℕ)) (limit : ℕ) (rs : List Record) (f : Finish) → StandsFor image limit rs (Some f) self.old
             → AnswersAgain image limit rs f result self.new out.old.items out.new.items }
         ensures fewer { LeavesFewer result (steps_left self.old) (steps_left self.new) }
+        ensures sets { sets_of self.new ≡ sets_of self.old }
     {
         match self.ended {
             Some(e) => Turn::End(e),
