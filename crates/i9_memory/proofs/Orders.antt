@@ -25,6 +25,14 @@ two_at m a = m.bytes a ∷ m.bytes (wrapped (a + 1)) ∷ []
 abbrev pub four_at : Memory → ℕ → List ℕ
 four_at m a = m.bytes a ∷ m.bytes (wrapped (a + 1)) ∷ m.bytes (wrapped (a + 2)) ∷ m.bytes (wrapped (a + 3)) ∷ []
 
+pub two-are : (m : Memory) (a x y : ℕ) → x ≡ m.bytes a → y ≡ m.bytes (wrapped (a + 1)) → x ∷ y ∷ [] ≡ two_at m a
+two-are m a x y p q = λ i. p i ∷ q i ∷ []
+
+pub four-are : (m : Memory) (a x y z u : ℕ) → x ≡ m.bytes a → y ≡ m.bytes (wrapped (a + 1)) → z ≡ m.bytes (wrapped (a + 2)) → u ≡ m.bytes (wrapped (a + 3)) → x ∷ y ∷ z ∷ u ∷ [] ≡ four_at m a
+four-are m a x y z u p q r t = λ i. p i ∷ q i ∷ r i ∷ t i ∷ []
+
+-- ---- reads
+
 pub half_in-big : (m : Memory) (a : ℕ) → is_big m (region_of a) ≡ true → big_number 2 (two_at m a) ≡ half_in m a
 unfolding half_in
 half_in-big m a e =
@@ -48,6 +56,8 @@ unfolding word_in
 word_in-little m a e =
     little_word (m.bytes a) (m.bytes (wrapped (a + 1))) (m.bytes (wrapped (a + 2))) (m.bytes (wrapped (a + 3)))
     ∙ sym (ap (λ (b : Bool). cond b (from_be_bytes w32 (four_at m a)) (from_le_bytes w32 (four_at m a))) e)
+
+-- ---- writes
 
 pub half_bytes-big : (m : Memory) (a v : ℕ) → is_big m (region_of a) ≡ true → big_bytes 2 v ≡ half_bytes m a v
 unfolding half_bytes

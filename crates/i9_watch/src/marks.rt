@@ -1,12 +1,12 @@
 //! A mark for each address.
 ghost use Rattle.std.specs.Prelude.{◌≡◌, ◌≢◌, ℕ, ◌+◌, ◌/◌, ◌<◌, ◌==◌, if◌then◌else◌, ◌&&◌, ◌||◌, not, false, OnOk, OnErr};
 ghost use Rattle.i9_model.specs.Writes.{wrapped};
-ghost use Rattle.i9_model.specs.Frames.{in_bytes};
+ghost use Rattle.i9_model.specs.Frames.{in_bytes, in_frames};
 
 use i9_isa::NoMemory;
 use i9_model::layout::FRAME_SIZE;
 use std::alloc::Global;
-use std::collections::BTreeMap;
+use std::collections::{BTreeMap, VecDeque};
 
 /// How many addresses a page has.
 const PAGE_SIZE: u32 = 256;
@@ -137,6 +137,16 @@ impl Marks {
     {
         for k in 0..n {
             self.clear(a.wrapping_add(k));
+        }
+    }
+
+    /// Takes the marks of the bytes of frames away.
+    pub(crate) fn clear_frames(&mut self, frames: &VecDeque<u32>)
+        ensures marks { is_marked self.new ≡ (λ x. is_marked self.old x && not (in_frames frames.now.items x)) }
+        ensures keeps { (p : ℕ) → HasPage self.old p → HasPage self.new p }
+    {
+        for frame in frames.iter() {
+            self.clear_all(*frame, FRAME_SIZE);
         }
     }
 }

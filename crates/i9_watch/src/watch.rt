@@ -209,9 +209,8 @@ impl Watch {
         ensures spare { spare_of self.new ≡ spare_of self.old }
         ensures marks { KeepsMarks self.old self.new }
     {
-        while let Some(frame) = self.live.pop_front() {
-            self.soft.clear_all(frame, FRAME_SIZE);
-        }
+        self.soft.clear_frames(&self.live);
+        self.live.clear();
     }
 
     /// `n` bytes from `a` on were stored to, so they are not soft.
