@@ -32,7 +32,10 @@ fn is_built_operand(o: Operand) -> bool
 pub(crate) fn is_built_form(i: &Inst) -> bool
     ensures { result ≡ is_built_form i.now }
 {
-    is_built_name(i.op) && is_built_mode(i.ea.mode) && is_built_operand(i.a) && is_built_operand(i.c)
+    is_built_name(i.op)
+        && is_built_mode(i.ea.mode)
+        && is_built_operand(i.a)
+        && is_built_operand(i.c)
 }
 
 /// What the data access of an instruction has to be aligned to.

@@ -21,10 +21,7 @@ pub(crate) enum Move {
     /// Nothing.
     Stays,
     /// The locals are saved at an address.
-    Saves {
-        save: u32,
-        words: ArrayVec<u32, 16>,
-    },
+    Saves { save: u32, words: ArrayVec<u32, 16> },
     /// The first live frame is returned to, where one is live.
     Returns,
     /// All live frames are in memory.

@@ -159,7 +159,11 @@ impl Processor {
         requires { k < 32 }
         ensures { result ≡ saved_local (state_of self.now) back k }
     {
-        if k == RIP as usize { back } else { self.regs[k] }
+        if k == RIP as usize {
+            back
+        } else {
+            self.regs[k]
+        }
     }
 
     /// The locals that a push saves.

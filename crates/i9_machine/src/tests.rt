@@ -119,8 +119,14 @@ fn compares_bytes_of_live_frames_alone(rt: HostRuntime) -> Result<(), Fail> {
         (None, None, None),
     ];
     for (sp, back, back_above) in steps {
-        assert_eq!(rt; (machine.byte(4), machine.byte(8), machine.byte(9)), (sp, back, back_above));
-        assert_eq!(rt; (machine.byte(0x40), machine.byte(0x1000)), (Some(0), Some(0x04)));
+        assert_eq!(rt;
+            (machine.byte(4), machine.byte(8), machine.byte(9)),
+            (sp, back, back_above)
+        );
+        assert_eq!(rt;
+            (machine.byte(0x40), machine.byte(0x1000)),
+            (Some(0), Some(0x04))
+        );
         assert_eq!(rt; machine.byte(0xE000_0000), Some(0));
         let _ = machine.advance(&mut lines);
     }

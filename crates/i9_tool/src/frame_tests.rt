@@ -112,12 +112,42 @@ const SAVES_OVER_A_FRAME_PRINTS: &str = "#point 2 end 00001008 00000000 001F2002
 fn calls_returns_and_hazards(rt: HostRuntime) -> Result<(), Fail> {
     let cases = [
         (READS_A_FRAME, "run a - - 4", 4, READS_A_FRAME_PRINTS),
-        (READS_A_FLUSHED_FRAME, "run a - - 4", 0, READS_A_FLUSHED_FRAME_PRINTS),
-        (READS_BEHIND_A_STORE, "run a - - 9", 4, READS_BEHIND_A_STORE_PRINTS),
-        (READS_BEHIND_A_BYTE, "run a - - 9", 4, READS_BEHIND_A_BYTE_PRINTS),
-        (RETURNS_ELSEWHERE, "run a - - 9", 4, RETURNS_ELSEWHERE_PRINTS),
-        (RETURNS_ELSEWHERE_FLUSHED, "run a - - 4", 0, RETURNS_ELSEWHERE_FLUSHED_PRINTS),
-        (SAVES_OVER_A_FRAME, "run a - - 9", 4, SAVES_OVER_A_FRAME_PRINTS),
+        (
+            READS_A_FLUSHED_FRAME,
+            "run a - - 4",
+            0,
+            READS_A_FLUSHED_FRAME_PRINTS,
+        ),
+        (
+            READS_BEHIND_A_STORE,
+            "run a - - 9",
+            4,
+            READS_BEHIND_A_STORE_PRINTS,
+        ),
+        (
+            READS_BEHIND_A_BYTE,
+            "run a - - 9",
+            4,
+            READS_BEHIND_A_BYTE_PRINTS,
+        ),
+        (
+            RETURNS_ELSEWHERE,
+            "run a - - 9",
+            4,
+            RETURNS_ELSEWHERE_PRINTS,
+        ),
+        (
+            RETURNS_ELSEWHERE_FLUSHED,
+            "run a - - 4",
+            0,
+            RETURNS_ELSEWHERE_FLUSHED_PRINTS,
+        ),
+        (
+            SAVES_OVER_A_FRAME,
+            "run a - - 9",
+            4,
+            SAVES_OVER_A_FRAME_PRINTS,
+        ),
     ];
     for (image, words, code, printed) in cases {
         let case = Case {
@@ -125,7 +155,11 @@ fn calls_returns_and_hazards(rt: HostRuntime) -> Result<(), Fail> {
             words,
             printed,
         };
-        assert_eq!(rt; run_case(rt.alloc(), &case, 0)?, (code, true), "of {printed}");
+        assert_eq!(rt;
+            run_case(rt.alloc(), &case, 0)?,
+            (code, true),
+            "of {printed}"
+        );
     }
     Ok(())
 }

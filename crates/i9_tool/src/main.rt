@@ -1,6 +1,8 @@
 //! The command `i960`: a simulator of the core of the i960CA.
 #![tactic(auto)]
 
+#[cfg(test)]
+mod frame_tests;
 pub mod laws;
 pub mod outside;
 mod print;
@@ -8,8 +10,6 @@ mod run;
 mod status;
 #[cfg(test)]
 mod tests;
-#[cfg(test)]
-mod frame_tests;
 mod text;
 mod top;
 mod words;

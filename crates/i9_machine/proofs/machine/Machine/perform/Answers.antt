@@ -25,10 +25,10 @@ returns-in-Ok-clause-steps c =
       bound = c.act.ensures.bound ∙ c.make_room.ensures.bound;
       ended = c.act.ensures.ended ∙ c.make_room.ensures.ended ∙ c.requires.running;
       lines =
-        c.act.ensures.lines
-        ∙ ap (λ (ls : List Line). map shown_of ls ++ action_lines planned (acted (state_of c.make_room.new.self.processor) planned)) c.make_room.ensures.items
-        ∙ ap (λ (t : State). map shown_of c.args.out.now.items ++ action_lines planned (acted t planned)) room
-        ∙ ap (λ (a : Action). map shown_of c.args.out.now.items ++ action_lines a (acted s a)) same;
+          c.act.ensures.lines
+          ∙ ap (λ (ls : List Line). map shown_of ls ++ action_lines planned (acted (state_of c.make_room.new.self.processor) planned)) c.make_room.ensures.items
+          ∙ ap (λ (t : State). map shown_of c.args.out.now.items ++ action_lines planned (acted t planned)) room
+          ∙ ap (λ (a : Action). map shown_of c.args.out.now.items ++ action_lines a (acted s a)) same;
       tells = c.issued-issued.ensures;
     }
 
