@@ -39,11 +39,13 @@ pub fn live_frames_never_overlap()
 {}
 
 /// Frames stay sound, as they are at first, through saves and stores without a hazard, returns
-/// and flushes: live frames are apart and outside the port page, and their bytes are soft.
+/// and flushes, and so along every run: live frames are apart and outside the port page, and their
+/// bytes are soft.
 pub fn frames_stay_sound()
     ensures none { IsSound no_frames }
     ensures saved { (s : Frames) (a : ℕ) → IsSound s → save_hazard s a ≡ None → IsSound (saved s a) }
     ensures returned { (s : Frames) → IsSound s → IsSound (returned s) }
     ensures flushed { (s : Frames) → IsSound s → IsSound (flushed s) }
     ensures wrote { (s : Frames) (a n : ℕ) → IsSound s → write_hazard s a n ≡ None → IsSound (wrote s a n) }
+    ensures run { (image : List (ℕ × ℕ)) (limit : ℕ) (rs : List Record) → IsPast image limit rs → IsSound (state_after image rs).frames }
 {}

@@ -1,4 +1,5 @@
 use Rattle.i9_model.proofs.FrameLaws.{sound-none, sound-saved, sound-returned, sound-flushed, sound-wrote}
+use Rattle.i9_model.proofs.SoundRuns.{sound-after}
 use Rattle.i9_model.proofs.laws.frames_stay_sound.Goals as goal
 
 pub returns-clause-none : goal.returns-clause-none
@@ -15,3 +16,6 @@ returns-clause-flushed c = sound-flushed
 
 pub returns-clause-wrote : goal.returns-clause-wrote
 returns-clause-wrote c = sound-wrote
+
+pub returns-clause-run : goal.returns-clause-run
+returns-clause-run c = sound-after

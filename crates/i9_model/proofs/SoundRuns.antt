@@ -1,0 +1,82 @@
+-- Frames along a run are sound.
+use Rattle.std.proofs.Common.{◌≡◌, ℕ, ◌%◌, ◌^◌, Bool, true, false, cond, eqb, List, [], ◌∷◌, length, Option, Some, None, refl, sym, ap, subst}
+use Rattle.std.specs.Int.{w32, to_le_bytes, to_be_bytes}
+use Rattle.i9_isa.specs.declared.op.Op.{Op}
+use Rattle.i9_isa.specs.declared.op.Op.TheVariants.{St, Stob, Call, Ret, Flushreg}
+use Rattle.i9_isa.specs.declared.inst.Inst.{Inst}
+use Rattle.i9_model.specs.Memory.{Memory, region_of, is_big, word_bytes}
+use Rattle.i9_model.specs.State.{State, Frames, boot}
+use Rattle.i9_model.specs.Frames.{saved, returned, flushed, wrote, rounded_down}
+use Rattle.i9_model.specs.Hazards.{write_hazard}
+use Rattle.i9_model.specs.Operands.{value, address}
+use Rattle.i9_model.specs.Step.{action_by, action_of, acted}
+use Rattle.i9_model.specs.Access.{access_by, hazard_in, hazard_of, fetch_hazard}
+use Rattle.i9_model.specs.Unbuilt.{fetched}
+use Rattle.i9_model.specs.Sound.{IsSound}
+use Rattle.i9_model.specs.Run.{Finish, Limit, Record, record_of, Next, Does, Ends, state_after, due_after, next_by_access, next_by_word, next_by_fetch, next_in, next, IsPast}
+use Rattle.i9_model.specs.declared.layout.TheConstants.{FP}
+use Rattle.i9_model.proofs.FrameLaws.{sound-none, sound-saved, sound-returned, sound-flushed, sound-wrote}
+
+-- no byte is stored
+nothing_meets : (s : Frames) → write_hazard s 0 0 ≡ None
+unfolding write_hazard
+nothing_meets s = refl
+
+sound-stays : (s : Frames) → IsSound s → IsSound (wrote s 0 0)
+sound-stays s sound = sound-wrote s 0 0 sound (nothing_meets s)
+
+four_by : (b : Bool) (v : ℕ) → length (cond b (to_be_bytes w32 v) (to_le_bytes w32 v)) ≡ 4
+four_by true v = refl
+four_by false v = refl
+
+four_bytes : (m : Memory) (a v : ℕ) → length (word_bytes m a v) ≡ 4
+unfolding word_bytes
+four_bytes m a v = four_by (is_big m (region_of a)) v
+
+sound-word : (s : Frames) (m : Memory) (a v : ℕ) → IsSound s → write_hazard s a 4 ≡ None → IsSound (wrote s a (length (word_bytes m a v)))
+sound-word s m a v sound none = subst (λ (n : ℕ). IsSound (wrote s a n)) (sym (four_bytes m a v)) (sound-wrote s a 4 sound none)
+
+-- an action whose access meets no hazard keeps frames sound
+sound-by : (op : Op) (i : Inst) (s : State) → IsSound s.frames → hazard_in s.frames (access_by op i s) ≡ None → IsSound (acted s (action_by op i s)).frames
+unfolding acted
+sound-by St i s sound none = sound-word s.frames s.memory (address s i.ea) (value s i.c) sound none
+sound-by Stob i s sound none = sound-wrote s.frames (address s i.ea) 1 sound none
+sound-by Call i s sound none = sound-stays (saved s.frames (rounded_down (s.regs FP))) (sound-saved s.frames (rounded_down (s.regs FP)) sound none)
+sound-by Ret i s sound none = sound-stays (returned s.frames) (sound-returned s.frames sound)
+sound-by Flushreg i s sound none = sound-stays (flushed s.frames) (sound-flushed s.frames sound)
+sound-by _ i s sound none = sound-stays s.frames sound
+
+sound-action : (i : Inst) (s : State) → IsSound s.frames → hazard_of i s ≡ None → IsSound (acted s (action_of i s)).frames
+unfolding hazard_of action_of
+sound-action i s sound none = sound-by i.op i s sound none
+
+access_sound : (s : State) (i : Inst) (h : Option ℕ) (r : Record) → IsSound s.frames → hazard_of i s ≡ h → next_by_access s i h ≡ Does r → IsSound r.after.frames
+access_sound s i (Some a) r sound is e = absurd cc
+access_sound s i None r sound is e =
+    let same : record_of i s ≡ r = cc in
+    subst (λ (x : Record). IsSound x.after.frames) same (sound-action i s sound is)
+
+word_sound : (s : State) (o : Option Inst) (r : Record) → IsSound s.frames → next_by_word s o ≡ Does r → IsSound r.after.frames
+word_sound s None r sound e = absurd cc
+word_sound s (Some i) r sound e = access_sound s i (hazard_of i s) r sound refl e
+
+fetch_sound : (s : State) (h : Option ℕ) (r : Record) → IsSound s.frames → next_by_fetch s h ≡ Does r → IsSound r.after.frames
+fetch_sound s (Some a) r sound e = absurd cc
+fetch_sound s None r sound e = word_sound s (fetched s) r sound e
+
+test_sound : (b : Bool) (s : State) (r : Record) → IsSound s.frames → cond b (Ends Limit) (next_by_fetch s (fetch_hazard s)) ≡ Does r → IsSound r.after.frames
+test_sound true s r sound e = absurd cc
+test_sound false s r sound e = fetch_sound s (fetch_hazard s) r sound e
+
+next_sound : (limit : ℕ) (due : Option Finish) (s : State) (r : Record) → IsSound s.frames → next_in limit due s ≡ Does r → IsSound r.after.frames
+next_sound limit (Some f) s r sound e = absurd cc
+next_sound limit None s r sound e = test_sound (eqb s.count limit) s r sound e
+
+sound-boot : (image : List (ℕ × ℕ)) → IsSound (boot image).frames
+unfolding boot
+sound-boot image = sound-none
+
+-- frames are sound after each record of a run
+pub sound-after : (image : List (ℕ × ℕ)) (limit : ℕ) (rs : List Record) → IsPast image limit rs → IsSound (state_after image rs).frames
+sound-after image limit [] past = sound-boot image
+sound-after image limit (r ∷ rs) past = next_sound limit (due_after image rs) (state_after image rs) r (sound-after image limit rs past.0) past.1
