@@ -1,13 +1,13 @@
 -- The words of frames one by one, and what a push and a return do.
-use Rattle.std.proofs.Common.{◌≡◌, ℕ, Bool, zero, suc, ◌+◌, ◌*◌, ◌^◌, ◌<◌, ◌≤◌, List, [], ◌∷◌, ◌++◌, length, get_or, take, drop, Option, Some, None, Result, Ok, Err, refl, sym, ap, ◌∙◌, add-one, zero-add, arith}
+use Rattle.std.proofs.Common.{◌≡◌, ℕ, zero, suc, ◌+◌, ◌<◌, ◌≤◌, List, [], ◌∷◌, ◌++◌, length, get_or, take, drop, Option, Some, None, Ok, Err, refl, ap, ◌∙◌, add-one, zero-add, arith}
 use Rattle.std.specs.Prelude.{map, slice_get, is_some, true, false}
-use Rattle.std.specs.List.{range_with_len, AllByRecursion}
+use Rattle.std.specs.List.{range_with_len}
 use Rattle.std.proofs.lemmas.List.{take_all, at_drop_more, at_drop_all}
 use Rattle.std.proofs.lemmas.List.FromFn.{map-range_with_len_more}
 use Rattle.i9_model.specs.declared.layout.TheConstants.{FP}
 use Rattle.i9_model.specs.declared.push.Push.{Push}
 use Rattle.i9_model.specs.Writes.{wrapped, pairs_at}
-use Rattle.i9_model.specs.Memory.{Memory, word_in, word_bytes, with_bytes, with_words, words_in}
+use Rattle.i9_model.specs.Memory.{Memory, word_bytes, with_bytes, with_words}
 use Rattle.i9_model.specs.State.{Frames}
 use Rattle.i9_model.specs.Frames.{returned}
 use Rattle.i9_model.specs.Hazards.{push_unless}

@@ -1,5 +1,5 @@
 -- What is known of every instruction that is built.
-use Rattle.std.specs.Prelude.{◌≡◌, ℕ, ◌<◌, ◌^◌, true}
+use Rattle.std.specs.Prelude.{◌≡◌, ◌<◌, ◌^◌, true}
 use Rattle.i9_isa.specs.declared.inst.Operand.{Operand}
 use Rattle.i9_isa.specs.declared.inst.Operand.TheVariants.{Reg, Lit, Sfr}
 use Rattle.i9_isa.specs.declared.inst.Inst.{Inst}

@@ -1,5 +1,5 @@
 -- Frames along a run are sound.
-use Rattle.std.proofs.Common.{◌≡◌, ℕ, ◌%◌, ◌^◌, Bool, true, false, cond, eqb, List, [], ◌∷◌, length, Option, Some, None, refl, sym, ap, subst}
+use Rattle.std.proofs.Common.{◌≡◌, ℕ, Bool, true, false, cond, eqb, List, [], ◌∷◌, length, Option, Some, None, refl, sym, subst}
 use Rattle.std.specs.Int.{w32, to_le_bytes, to_be_bytes}
 use Rattle.i9_isa.specs.declared.op.Op.{Op}
 use Rattle.i9_isa.specs.declared.op.Op.TheVariants.{St, Stob, Call, Ret, Flushreg}
@@ -13,7 +13,7 @@ use Rattle.i9_model.specs.Step.{action_by, action_of, acted}
 use Rattle.i9_model.specs.Access.{access_by, hazard_in, hazard_of, fetch_hazard}
 use Rattle.i9_model.specs.Unbuilt.{fetched}
 use Rattle.i9_model.specs.Sound.{IsSound}
-use Rattle.i9_model.specs.Run.{Finish, Limit, Record, record_of, Next, Does, Ends, state_after, due_after, next_by_access, next_by_word, next_by_fetch, next_in, next, IsPast}
+use Rattle.i9_model.specs.Run.{Finish, Limit, Record, record_of, Does, Ends, state_after, due_after, next_by_access, next_by_word, next_by_fetch, next_in, IsPast}
 use Rattle.i9_model.specs.declared.layout.TheConstants.{FP}
 use Rattle.i9_model.proofs.FrameLaws.{sound-none, sound-saved, sound-returned, sound-flushed, sound-wrote}
 

@@ -3,7 +3,7 @@ use Rattle.std.proofs.Common.{◌≡◌, ℕ, ◌+◌, ◌^◌, ◌<◌, ◌≤�
 use Rattle.std.specs.Prelude.{not}
 use Rattle.std.proofs.lemmas.List.{at_drop_more, at_drop_all}
 use Rattle.i9_model.specs.Writes.{wrapped, put, written, upwards}
-use Rattle.i9_model.specs.Memory.{Memory, in_port_page, stored, with_bytes}
+use Rattle.i9_model.specs.Memory.{in_port_page, stored}
 use Rattle.i9_model.proofs.Stored.{stored-cons}
 use Rattle.i9_model.proofs.Upwards.{upwards-wrapped}
 

@@ -1,4 +1,4 @@
-use Rattle.std.proofs.Common.{◌≡◌, ◌∙◌, sym, Result, Ok, Err, IfOk, refl, arith}
+use Rattle.std.proofs.Common.{◌≡◌, ◌∙◌, sym, Result, Ok, Err, IfOk, refl}
 use Rattle.i9_isa.specs.declared.inst.Inst.{Inst}
 use Rattle.i9_isa.specs.declared.inst.BadWord.{BadWord}
 use Rattle.i9_isa.proofs.Decoding.{decoded_encodes, encodes_decoded, opcode_unnamed, operand_named}

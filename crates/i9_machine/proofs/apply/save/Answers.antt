@@ -1,4 +1,4 @@
-use Rattle.std.proofs.Common.{◌≡◌, ℕ, ◌+◌, ◌*◌, ◌<◌, subst, arith}
+use Rattle.std.proofs.Common.{◌≡◌, ◌+◌, ◌*◌, subst, arith}
 use Rattle.i9_model.specs.Writes.{wrapped}
 use Rattle.i9_memory.specs.Memory.{IsReserved}
 use Rattle.i9_machine.proofs.apply.save.Goals as goal

@@ -1,4 +1,4 @@
-use Rattle.std.proofs.Common.{◌≡◌, ℕ, Option, List, ◌++◌, map, sym, ap, ◌∙◌, append_assoc}
+use Rattle.std.proofs.Common.{ℕ, Option, List, ◌++◌, map, ap, ◌∙◌, append_assoc}
 use Rattle.i9_model.specs.Step.{acted}
 use Rattle.i9_model.specs.PrintedText.{Shown, view_of, out_lines, point_lines}
 use Rattle.i9_machine.specs.Effect.{action_in, move_in}
