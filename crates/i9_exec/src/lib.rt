@@ -1,0 +1,16 @@
+//! What instructions give: results over registers, branches and effective addresses.
+#![tactic(auto)]
+
+mod addresses;
+mod bits;
+mod branches;
+mod compare;
+mod results;
+mod done;
+mod signed;
+
+pub use addresses::address;
+pub use branches::{Jump, branch};
+pub use results::{compute, has_result};
+pub use done::Done;
+pub use i9_model::Arith;
