@@ -1,5 +1,5 @@
 //! Single bits, shifts and rotations of words.
-ghost use Rattle.std.specs.Prelude.{◌≡◌, ◌%◌, nat_lt, if◌then◌else◌, pos};
+ghost use Rattle.std.specs.Prelude.{◌≡◌, ◌%◌, ◌^◌, nat_lt, if◌then◌else◌, pos};
 ghost use Rattle.std.specs.Int.RustNames.{int_div};
 ghost use Rattle.i9_model.specs.Operands.{reduced};
 ghost use Rattle.i9_model.specs.Numbers.{bit_word, highest_one, shifted_down, signed};

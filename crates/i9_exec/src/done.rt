@@ -84,17 +84,17 @@ pub fn four_words(source: &[u32; 4], ac: u32) -> Done
 }
 
 /// A new condition code alone.
-pub fn code(code: u32, ac: u32) -> Done
-    ensures { answer_of result ≡ code code ac }
+pub fn code(new: u32, ac: u32) -> Done
+    ensures { answer_of result ≡ code new ac }
 {
-    words(ArrayVec::new(), with_code(ac, code))
+    words(ArrayVec::new(), with_code(ac, new))
 }
 
 /// One word and a new condition code.
-pub fn word_and_code(value: u32, code: u32, ac: u32) -> Done
-    ensures { answer_of result ≡ word_and_code value code ac }
+pub fn word_and_code(value: u32, new: u32, ac: u32) -> Done
+    ensures { answer_of result ≡ word_and_code value new ac }
 {
-    word(value, with_code(ac, code))
+    word(value, with_code(ac, new))
 }
 
 /// A fault.

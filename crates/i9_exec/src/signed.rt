@@ -26,12 +26,28 @@ pub fn subtract(a: u32, b: u32, ac: u32) -> Done
     checked(difference.cast_unsigned(), overflows, ac)
 }
 
-/// `b` times `a`.
+/// Whether a product leaves the signed range.
+fn product_overflows(a: u32, b: u32) -> bool
+    ensures { result ≡ not (fits (signed b *ℤ signed a)) }
+{
+    b.cast_signed().checked_mul(a.cast_signed()).is_none()
+}
+
+/// `b` times `a`. The low word of the product doesn't depend on the signs.
 pub fn multiply(a: u32, b: u32, ac: u32) -> Done
     ensures { answer_of result ≡ checked (signed b *ℤ signed a) ac }
 {
-    let (product, overflows) = b.cast_signed().overflowing_mul(a.cast_signed());
-    checked(product.cast_unsigned(), overflows, ac)
+    checked(b.wrapping_mul(a), product_overflows(a, b), ac)
+}
+
+/// The quotient of `b` by `a`, and whether it leaves the signed range.
+fn quotient(a: u32, b: u32) -> (u32, bool)
+    requires { 0 < a }
+    ensures value { result.0 ≡ reduced (int_div (signed b) (signed a)) }
+    ensures overflows { result.1 ≡ not (fits (int_div (signed b) (signed a))) }
+{
+    let (quotient, overflows) = b.cast_signed().overflowing_div(a.cast_signed());
+    (quotient.cast_unsigned(), overflows)
 }
 
 /// `b` over `a`, towards zero.
@@ -39,8 +55,8 @@ pub fn divide(a: u32, b: u32, ac: u32) -> Done
     requires { 0 < a }
     ensures { answer_of result ≡ checked (int_div (signed b) (signed a)) ac }
 {
-    let (quotient, overflows) = b.cast_signed().overflowing_div(a.cast_signed());
-    checked(quotient.cast_unsigned(), overflows, ac)
+    let (value, overflows) = quotient(a, b);
+    checked(value, overflows, ac)
 }
 
 /// The remainder of `b` by `a`, with the sign of `b`.
