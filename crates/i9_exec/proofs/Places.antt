@@ -55,7 +55,7 @@ turned b p q h e l =
     let whole : 2 ^ 32 ≡ 2 ^ q * 2 ^ p = ap (λ n. 2 ^ n) (sym e) ∙ (rw (add_comm p q) (pow-add 2 q p)) in
     let high : b * 2 ^ p / 2 ^ 32 ≡ b / 2 ^ q = rw whole (mul-div-mul_right b (2 ^ q) (pow_pos p)) in
     let low : b * 2 ^ p % 2 ^ 32 ≡ b % 2 ^ q * 2 ^ p =
-        ap (λ n. b * 2 ^ p % 2 ^ n) (sym e ∙ add_comm p q) ∙ mod-pow-add (b * 2 ^ p) q p ∙ rw (shl-shr b p, mul-mod_left b (2 ^ p), add-zero) refl in
+    ap (λ n. b * 2 ^ p % 2 ^ n) (sym e ∙ add_comm p q) ∙ mod-pow-add (b * 2 ^ p) q p ∙ rw (shl-shr b p, mul-mod_left b (2 ^ p), add-zero) refl in
     rw (small, high, low) (or_shifted (b % 2 ^ q) p (b / 2 ^ q) (shr_below b p q (rw e h)))
 
 pub turned_left_is : (b p : ℕ) → b < 2 ^ 32 → p < 32 → bit_or (b * 2 ^ p % 2 ^ 32) (b / 2 ^ ((32 - p) % 32)) ≡ turned_left b p

@@ -90,10 +90,7 @@ fn is_same_byte(a: u32, b: u32, place: u32) -> bool
 pub fn shares_byte(a: u32, b: u32) -> bool
     ensures { result ≡ shares_byte a b }
 {
-    is_same_byte(a, b, 0)
-        || is_same_byte(a, b, 1)
-        || is_same_byte(a, b, 2)
-        || is_same_byte(a, b, 3)
+    is_same_byte(a, b, 0) || is_same_byte(a, b, 1) || is_same_byte(a, b, 2) || is_same_byte(a, b, 3)
 }
 
 /// 1 where the condition of a mask holds, else 0.

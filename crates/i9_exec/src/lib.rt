@@ -5,12 +5,15 @@ mod addresses;
 mod bits;
 mod branches;
 mod compare;
-mod results;
 mod done;
+mod results;
 mod signed;
 
 pub use addresses::address;
 pub use branches::{Jump, branch};
-pub use results::{compute, has_result};
 pub use done::Done;
 pub use i9_model::Arith;
+pub use results::{compute, has_result};
+
+#[cfg(test)]
+mod tests;

@@ -109,11 +109,7 @@ fn shift_overflows(word: u32, places: u32) -> bool
 pub fn shift_multiplying(word: u32, places: u32, ac: u32) -> Done
     ensures { answer_of result ≡ checked (signed word *ℤ pos (2 ^ places)) ac }
 {
-    checked(
-        shift_left(word, places),
-        shift_overflows(word, places),
-        ac,
-    )
+    checked(shift_left(word, places), shift_overflows(word, places), ac)
 }
 
 /// Whether a number is out of the signed range of a word.
