@@ -6,6 +6,7 @@ mod bits;
 mod branches;
 mod compare;
 mod done;
+mod laws;
 mod results;
 mod signed;
 
@@ -13,6 +14,7 @@ pub use addresses::address;
 pub use branches::{Jump, branch};
 pub use done::Done;
 pub use i9_model::Arith;
+pub use laws::results_by_name;
 pub use results::{compute, has_result};
 
 #[cfg(test)]

@@ -1,6 +1,6 @@
 //! The table of results.
-ghost use Rattle.std.specs.Prelude.{◌≡◌, true, Some};
-ghost use Rattle.i9_model.specs.Results.{has_result, results, results_by};
+ghost use Rattle.std.specs.Prelude.{◌≡◌, [], true, Some, IsNone, IsSome, length};
+ghost use Rattle.i9_model.specs.Results.{destination_words, has_result, results};
 ghost use Rattle.i9_exec.specs.Shown.{answer_of};
 
 use crate::bits::{
@@ -40,16 +40,16 @@ pub fn has_result(op: Op) -> bool
     }
 }
 
-/// The same by name.
-fn result_by(op: Op, a: &[u32; 4], b: &[u32; 2], c: u32, ac: u32) -> Done
-    requires { has_result op ≡ true }
-    ensures { Some (answer_of result) ≡ results_by op a.now b.now c ac }
+/// The table of results.
+fn result_of(i: &Inst, a: &[u32; 4], b: &[u32; 2], c: u32, ac: u32) -> Done
+    requires { has_result i.now.op ≡ true }
+    ensures { Some (answer_of result) ≡ results i.now a.now b.now c ac }
 {
     let sources = a;
     let high = b[1];
     let a = a[0];
     let b = b[0];
-    match op {
+    match i.op {
         Op::And => word(b & a, ac),
         Op::Or => word(b | a, ac),
         Op::Xor => word(b ^ a, ac),
@@ -123,12 +123,17 @@ fn result_by(op: Op, a: &[u32; 4], b: &[u32; 2], c: u32, ac: u32) -> Done
     }
 }
 
-/// What an instruction gives (i960 CA/CF User's Manual, instruction set): `a` has the words of src1, `b` those
-/// of src2, each as many as the instruction reads and 0 behind them; `c` is the old word of src/dst, and `ac`
-/// the arithmetic controls. A name that `has_result` is asked; the operands themselves are not looked at.
+/// What an instruction gives (i960 CA/CF User's Manual, instruction set): `a` has the words of src1 and `b` those
+/// of src2, as many as the instruction reads and 0 behind them; `c` is the old word of src/dst, and `ac` the
+/// arithmetic controls. The name is one that `has_result` tells; the operands of `i` aren't looked at.
 pub fn compute(i: &Inst, a: &[u32; 4], b: &[u32; 2], c: u32, ac: u32) -> Done
     requires { has_result i.now.op ≡ true }
-    ensures { Some (answer_of result) ≡ results i.now a.now b.now c ac }
+    ensures table { Some (answer_of result) ≡ results i.now a.now b.now c ac }
+
+    // What follows from the table for every name in it.
+    ensures words { IsNone result.fault → length result.values.items ≡ destination_words i.now.op }
+    ensures unwritten { IsSome result.fault → result.values.items ≡ [] }
+    ensures unchanged { IsSome result.fault → result.ac ≡ ac }
 {
-    result_by(i.op, a, b, c, ac)
+    result_of(i, a, b, c, ac)
 }

@@ -1,4 +1,6 @@
 //! Results, branches and addresses that were worked out by hand from the descriptions of the instructions.
+ghost use Rattle.std.specs.Prelude.{◌≡◌};
+
 use crate::{Arith, Done, Jump, address, branch, compute, has_result};
 use i9_isa::{Ea, Inst, Mode, Op, Operand};
 use std::test::*;
@@ -22,7 +24,9 @@ const UNMASKED: u32 = 0x8001_0005;
 const CLEAR: u32 = 0x8001_0000;
 
 /// An instruction of this name; its operands don't count here.
-fn inst(op: Op) -> Inst {
+fn inst(op: Op) -> Inst
+    ensures { result.op ≡ op }
+{
     Inst {
         op,
         a: Operand::Reg(0),

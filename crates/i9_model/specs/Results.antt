@@ -228,3 +228,7 @@ has_result Fmark = false
 has_result Flushreg = false
 has_result Syncf = false
 has_result op = is_register_or_test (row_of op).format (words_written (row_of op).a)
+
+-- how many words the destination of a name has: src1 is that of a test, and src/dst of the others
+abbrev pub destination_words : Op → ℕ
+destination_words op = words_written (row_of op).a + words_written (row_of op).c
