@@ -1,5 +1,5 @@
 -- Masks, the highest 1 of a word, and rotations.
-use Rattle.std.proofs.Common.{◌≡◌, ℕ, suc, zero, ◌+◌, ◌-◌, ◌*◌, ◌/◌, ◌%◌, ◌^◌, ◌<◌, ◌≤◌, arith, refl, sym, ap, ◌∙◌, add-one, add-zero, add_comm, bit_and, bit_or, Option, Some, None, inl, inr, true, false, nat_eq}
+use Rattle.std.proofs.Common.{◌≡◌, ℕ, suc, zero, ◌+◌, ◌-◌, ◌*◌, ◌/◌, ◌%◌, ◌^◌, ◌<◌, ◌≤◌, arith, refl, sym, ap, ◌∙◌, add-one, add-zero, add_comm, bit_and, bit_or, Some, None, inl, inr, true, false}
 use Rattle.std.proofs.lemmas.Nat.{and_mask, one_shl, or_shifted, pow_pos, leading_top, le-div, div_below, shr_below, pow-add, mod-pow-add, shl-shr}
 use Rattle.std.proofs.Math.Nat.{pow-suc, pow-le-pow_right, mul-div-mul_right, mul-mod_left}
 use Rattle.std.proofs.lemmas.Bool.{cases_eq}

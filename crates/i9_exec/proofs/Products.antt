@@ -1,6 +1,6 @@
 -- Signed results: what is left of them in 32 bits, and whether they are in range.
 use Rattle.std.proofs.Common.{◌≡◌, ℕ, suc, zero, ◌+◌, ◌-◌, ◌*◌, ◌/◌, ◌%◌, ◌^◌, ◌<◌, ◌≤◌, arith, refl, sym, ap, ◌∙◌, ℤ, pos, negsuc, ◌*ℤ◌, neg_ℤ, leb, ltb, eqb, not, Bool, true, false, nat_lt, inl, inr}
-use Rattle.std.proofs.lemmas.Nat.{pow_pos, le-div, div_below, mul-le, pow-add, mod-pow-add}
+use Rattle.std.proofs.lemmas.Nat.{pow_pos, le-div, div_below, mul-le, pow-add}
 use Rattle.std.proofs.Math.Nat.{pow-le-pow_right}
 use Rattle.std.proofs.lemmas.Bool.{cases_eq, cases_lt}
 use Rattle.std.proofs.lemmas.Bool.Decides.{nat_tests}
@@ -38,7 +38,7 @@ reduced-times b k h =
     ∙ cast_unsigned-int_wrap (signed b *ℤ pos k)
 
 -- from 32 places on nothing is left
-mod-far : (b a : ℕ) → 32 ≤ a → b * 2 ^ a % 2 ^ 32 ≡ 0
+pub mod-far : (b a : ℕ) → 32 ≤ a → b * 2 ^ a % 2 ^ 32 ≡ 0
 mod-far b a h =
     let apart : 2 ^ a ≡ 2 ^ (a - 32) * 2 ^ 32 = ap (λ n. 2 ^ n) (let e : a ≡ (a - 32) + 32 = omega arith in e) ∙ pow-add 2 (a - 32) 32 in
     rw apart (omega arith)

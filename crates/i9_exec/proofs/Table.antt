@@ -1,5 +1,5 @@
 -- The table of results as a whole: its names, and what a fault leaves.
-use Rattle.std.proofs.Common.{◌≡◌, ℕ, ◌+◌, ◌-◌, ◌*◌, ◌/◌, ◌%◌, ◌^◌, nat_le, [], Bool, true, false, List, Option, Some, None, is_some, IsSome, refl, not, nat_eq, bit_or, ℤ, pos, ◌+ℤ◌, ◌-ℤ◌, ◌*ℤ◌, slice_index, if◌then◌else◌}
+use Rattle.std.proofs.Common.{◌≡◌, ℕ, ◌/◌, ◌%◌, ◌^◌, nat_le, [], Bool, true, false, List, Option, Some, None, is_some, IsSome, refl, not, nat_eq, bit_or, ℤ, pos, ◌+ℤ◌, ◌-ℤ◌, ◌*ℤ◌, slice_index, if◌then◌else◌}
 use Rattle.std.specs.Int.RustNames.{int_div, int_rem, int_lt}
 use Rattle.i9_isa.specs.declared.op.Op.{Op}
 use Rattle.i9_isa.specs.declared.op.Op.TheVariants.{Notbit, Addi, Subi, Muli, Shli, Divi, Divo, Remo, Remi, Modi, Ediv, Movl, Movt, Movq, Concmpo, Concmpi, Spanbit, Scanbit}

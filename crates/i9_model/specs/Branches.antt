@@ -1,5 +1,5 @@
 -- What branches do: the condition code afterwards, and whether control goes to the target.
-use Rattle.std.specs.Prelude.{ℕ, ◌==◌, Bool, true, false, not}
+use Rattle.std.specs.Prelude.{ℕ, Bool, true, false, not}
 use Rattle.i9_isa.specs.declared.op.Op.{Op}
 use Rattle.i9_isa.specs.declared.op.Op.TheVariants.{B, Bal, Bno, Bg, Be, Bge, Bl, Bne, Ble, Bo, Faultno, Faultg, Faulte, Faultge, Faultl, Faultne, Faultle, Faulto, Bbc, Bbs, Cmpobg, Cmpobe, Cmpobge, Cmpobl, Cmpobne, Cmpoble, Cmpibno, Cmpibg, Cmpibe, Cmpibge, Cmpibl, Cmpibne, Cmpible, Cmpibo}
 use Rattle.i9_isa.specs.declared.inst.Inst.{Inst}

@@ -1,5 +1,5 @@
 -- The condition code, bits 0 to 2 of the arithmetic controls: 100 is less, 010 equal and 001 greater.
-use Rattle.std.specs.Prelude.{ℕ, ◌+◌, ◌*◌, ◌/◌, ◌%◌, ◌^◌, ◌==◌, nat_lt, Bool, not, if◌then◌else◌, bit_and, int_lt}
+use Rattle.std.specs.Prelude.{ℕ, ◌+◌, ◌*◌, ◌/◌, ◌%◌, ◌==◌, nat_lt, Bool, not, if◌then◌else◌, bit_and, int_lt}
 use Rattle.i9_isa.specs.Words.{bit}
 use Rattle.i9_model.specs.Numbers.{signed}
 

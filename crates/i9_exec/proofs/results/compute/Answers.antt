@@ -1,5 +1,4 @@
-use Rattle.std.proofs.Common.{ap, sym, subst}
-use Rattle.i9_isa.specs.declared.op.Op.{Op}
+use Rattle.std.proofs.Common.{sym, subst}
 use Rattle.i9_exec.specs.Shown.{answer_of}
 use Rattle.i9_exec.proofs.Table.{kept, Keeps, Keeps-results}
 use Rattle.i9_exec.proofs.results.compute.Goals as goal
