@@ -7,13 +7,13 @@ ghost use Rattle.i9_exec.specs.Shown.{answer_of};
 use crate::done::{Done, code, word, words};
 use arrayvec::ArrayVec;
 
-/// Less.
+/// The condition code of less.
 const LESS: u32 = 0b100;
 
-/// Equal, and so.
+/// The condition code of equal, and of what is so.
 const EQUAL: u32 = 0b010;
 
-/// Greater.
+/// The condition code of greater.
 const GREATER: u32 = 0b001;
 
 /// Whether the condition of a mask holds: mask and code have a bit in common, or both are 0.

@@ -10,8 +10,8 @@ use i9_model::Arith;
 /// The overflow flag of the arithmetic controls.
 const OVERFLOW_FLAG: u32 = 1 << 8;
 
-/// The code of what is so, and of what was found.
-const SO: u32 = 0b010;
+/// The condition code where a bit was found.
+const FOUND: u32 = 0b010;
 
 /// What an instruction gives: the words for its destination, from the lowest register up; the arithmetic
 /// controls afterwards, with the condition code in bits 0 to 2 and the overflow flag in bit 8; and the
@@ -135,7 +135,7 @@ pub fn found(place: Option<u32>, ac: u32) -> Done
     ensures { answer_of result ≡ found place ac }
 {
     match place {
-        Some(place) => word_and_code(place, SO, ac),
+        Some(place) => word_and_code(place, FOUND, ac),
         None => word_and_code(u32::MAX, 0, ac),
     }
 }

@@ -17,7 +17,6 @@ use crate::signed::{
     add, add_with_carry, divide, long_divide, long_product, modulo, multiply, remainder,
     shift_multiplying, subtract,
 };
-use arrayvec::ArrayVec;
 use i9_isa::{Format, Inst, Op, Use, row};
 use i9_model::Arith;
 

@@ -8,7 +8,6 @@ ghost use Rattle.i9_exec.specs.Shown.{answer_of};
 
 use crate::bits::shift_left;
 use crate::done::{Done, checked, two_words, word_and_code};
-use arrayvec::ArrayVec;
 
 /// `b` plus `a`.
 pub fn add(a: u32, b: u32, ac: u32) -> Done

@@ -312,27 +312,41 @@ fn words_and_codes(rt: HostRuntime) -> Result<(), Fail> {
         (Op::Spanbit, 0, 0, 0b000, 31, 0b010),
         (Op::Alterbit, 35, 0, 0b010, 8, 0b010),
         (Op::Alterbit, 35, 0xF, 0b101, 7, 0b101),
-        (Op::Testno, 0, 0, 0b000, 1, 0b000),
-        (Op::Testno, 0, 0, 0b001, 0, 0b001),
-        (Op::Testg, 0, 0, 0b001, 1, 0b001),
-        (Op::Testg, 0, 0, 0b110, 0, 0b110),
-        (Op::Teste, 0, 0, 0b010, 1, 0b010),
-        (Op::Teste, 0, 0, 0b101, 0, 0b101),
-        (Op::Testge, 0, 0, 0b001, 1, 0b001),
-        (Op::Testge, 0, 0, 0b100, 0, 0b100),
-        (Op::Testl, 0, 0, 0b100, 1, 0b100),
-        (Op::Testl, 0, 0, 0b011, 0, 0b011),
-        (Op::Testne, 0, 0, 0b100, 1, 0b100),
-        (Op::Testne, 0, 0, 0b010, 0, 0b010),
-        (Op::Testle, 0, 0, 0b010, 1, 0b010),
-        (Op::Testle, 0, 0, 0b001, 0, 0b001),
-        (Op::Testo, 0, 0, 0b001, 1, 0b001),
-        (Op::Testo, 0, 0, 0b000, 0, 0b000),
     ];
     for (op, a, b, before, word, after) in table {
         let done = result(op, a, b, 0, CLEAR | before)?;
         assert_eq!(rt; done.values.as_slice(), &[word][..]);
         assert_eq!(rt; done.ac, CLEAR | after);
+        assert_eq!(rt; done.fault, None);
+    }
+    Ok(())
+}
+
+#[test]
+fn tests_of_the_code(rt: HostRuntime) -> Result<(), Fail> {
+    // Name, the condition code, the word.
+    let table = [
+        (Op::Testno, 0b000, 1),
+        (Op::Testno, 0b001, 0),
+        (Op::Testg, 0b001, 1),
+        (Op::Testg, 0b110, 0),
+        (Op::Teste, 0b010, 1),
+        (Op::Teste, 0b101, 0),
+        (Op::Testge, 0b001, 1),
+        (Op::Testge, 0b100, 0),
+        (Op::Testl, 0b100, 1),
+        (Op::Testl, 0b011, 0),
+        (Op::Testne, 0b100, 1),
+        (Op::Testne, 0b010, 0),
+        (Op::Testle, 0b010, 1),
+        (Op::Testle, 0b001, 0),
+        (Op::Testo, 0b001, 1),
+        (Op::Testo, 0b000, 0),
+    ];
+    for (op, code, word) in table {
+        let done = result(op, 0, 0, 0, CLEAR | code)?;
+        assert_eq!(rt; done.values.as_slice(), &[word][..]);
+        assert_eq!(rt; done.ac, CLEAR | code);
         assert_eq!(rt; done.fault, None);
     }
     Ok(())
