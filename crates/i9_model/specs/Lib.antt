@@ -6,7 +6,12 @@ pub mod State
 pub mod Frames
 pub mod Hazards
 pub mod Sound
+pub mod Addresses
 pub mod Operands
+pub mod Numbers
+pub mod Conditions
+pub mod Results
+pub mod Branches
 pub mod Step
 pub mod Access
 pub mod Unbuilt

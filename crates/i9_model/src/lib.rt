@@ -1,11 +1,13 @@
 //! The one-at-a-time machine: its definitions, their laws, and what they share with the code.
 #![tactic(auto)]
 
+mod arith;
 mod laws;
 pub mod layout;
 mod push;
 mod view;
 
+pub use arith::Arith;
 pub use laws::{every_run_ends, frames_stay_sound, live_frames_never_overlap, one_run};
 pub use push::Push;
 pub use view::View;

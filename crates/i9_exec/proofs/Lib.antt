@@ -1,0 +1,3 @@
+pub mod Places
+pub mod Products
+pub mod Table
