@@ -1,5 +1,5 @@
 -- The words of frames one by one, and what a push and a return do.
-use Rattle.std.proofs.Common.{◌≡◌, ℕ, zero, suc, ◌+◌, ◌<◌, ◌≤◌, List, [], ◌∷◌, ◌++◌, length, get_or, take, drop, Option, Some, None, Ok, Err, refl, ap, ◌∙◌, add-one, zero-add, arith}
+use Rattle.std.proofs.Common.{◌≡◌, ℕ, zero, suc, ◌+◌, ◌<◌, ◌≤◌, List, [], ◌∷◌, ◌++◌, length, get_or, take, drop, Option, Some, None, Ok, Err, refl, ap, ◌∙◌, add-one, arith}
 use Rattle.std.specs.Prelude.{map, slice_get, is_some, true, false}
 use Rattle.std.specs.List.{range_with_len}
 use Rattle.std.proofs.lemmas.List.{take_all, at_drop_more, at_drop_all}
@@ -28,28 +28,29 @@ pairs_next n (x ∷ xs) (suc k) h =
     ∙ ap (λ (m : ℕ). (n, x) ∷ pairs_at same_number (n + 1) (take k xs) ++ (m, get_or xs k 0) ∷ []) place
 
 -- one more register
-pub pairs_more : (xs : List ℕ) (k : ℕ) → k < length xs → pairs_at same_number 0 (take (k + 1) xs) ≡ pairs_at same_number 0 (take k xs) ++ (k, get_or xs k 0) ∷ []
-pairs_more xs k h =
-    ap (λ (j : ℕ). pairs_at same_number 0 (take j xs)) (add-one k)
-    ∙ pairs_next 0 xs k h
-    ∙ ap (λ (j : ℕ). pairs_at same_number 0 (take k xs) ++ (j, get_or xs k 0) ∷ []) (zero-add k)
+pub pairs_more : (n : ℕ) (xs : List ℕ) (k : ℕ) → k < length xs → pairs_at same_number n (take (k + 1) xs) ≡ pairs_at same_number n (take k xs) ++ (n + k, get_or xs k 0) ∷ []
+pairs_more n xs k h = ap (λ (j : ℕ). pairs_at same_number n (take j xs)) (add-one k) ∙ pairs_next n xs k h
 
-pub pairs_all : (xs : List ℕ) (k : ℕ) → length xs ≤ k → pairs_at same_number 0 (take k xs) ≡ pairs_at same_number 0 xs
-pairs_all xs k h = ap (pairs_at same_number 0) (take_all k xs h)
+pub pairs_all : (n : ℕ) (xs : List ℕ) (k : ℕ) → length xs ≤ k → pairs_at same_number n (take k xs) ≡ pairs_at same_number n xs
+pairs_all n xs k h = ap (pairs_at same_number n) (take_all k xs h)
 
-pairs_registers : (n : ℕ) (xs : List ℕ) (f v : ℕ) → n + length xs ≤ 32 → f < 32 → AreRegisters (pairs_at same_number n xs ++ (f, v) ∷ [])
-pairs_registers n [] f v h k = (k, tt)
-pairs_registers n (x ∷ xs) f v h k = (omega arith, pairs_registers (n + 1) xs f v (omega arith) k)
+pub pairs_registers : (n : ℕ) (xs : List ℕ) → n + length xs ≤ 32 → AreRegisters (pairs_at same_number n xs)
+pairs_registers n [] h = tt
+pairs_registers n (x ∷ xs) h = (omega arith, pairs_registers (n + 1) xs (omega arith))
+
+registers_append : (ps : List (ℕ × ℕ)) (r v : ℕ) → AreRegisters ps → r < 32 → AreRegisters (ps ++ (r, v) ∷ [])
+registers_append [] r v all h = (h, tt)
+registers_append (p ∷ ps) r v all h = (all.0, registers_append ps r v all.1 h)
 
 pub frame_registers : (xs : List ℕ) (v : ℕ) → length xs ≤ 32 → AreRegisters (frame_sets xs v)
-frame_registers xs v h = pairs_registers 0 xs FP v (omega arith) (omega arith)
+frame_registers xs v h = registers_append (pairs_at same_number 0 xs) FP v (pairs_registers 0 xs (omega arith)) (omega arith)
 
 -- ---- the words of a frame
 
 pub locals_more : (f : ℕ → ℕ) (k : ℕ) → map f (range_with_len 0 (k + 1)) ≡ map f (range_with_len 0 k) ++ f k ∷ []
 locals_more f k = map-range_with_len_more f 0 k k (omega arith)
 
-pub ruleset frame_rules = (pairs_more, pairs_all, frame_registers, locals_more)
+pub ruleset frame_rules = (pairs_more, pairs_all, pairs_registers, frame_registers, locals_more)
 
 -- one more word is stored
 pub with_words_more : (m : Memory) (a : ℕ) (ws : List ℕ) (i : ℕ) → i < length ws → with_words m a (drop i ws) ≡ with_words (with_bytes m a (word_bytes m a (get_or ws i 0))) (wrapped (a + 4)) (drop (i + 1) ws)

@@ -6,3 +6,4 @@ pub mod Needs
 pub mod Loading
 pub mod Frames
 pub mod Overlaid
+pub mod Answering

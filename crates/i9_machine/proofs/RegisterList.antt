@@ -1,6 +1,6 @@
 -- The kept registers as a function.
 use Rattle.std.proofs.Common.{◌≡◌, ℕ, zero, suc, ◌+◌, ◌<◌, ◌≤◌, Bool, true, false, cond, eqb, List, [], ◌∷◌, length, get_or, drop, map, replicate, slice_set, add-zero, zero-add, refl, sym, ap, ◌∙◌, arith}
-use Rattle.std.proofs.lemmas.List.{at_drop_more, at_drop_all, get_or-set_same, get_or-set_other}
+use Rattle.std.proofs.lemmas.List.{at_drop_more, at_drop_all, get_or-set_same, get_or-set_other, get_or_past}
 use Rattle.std.proofs.lemmas.Bool.Decides.{nat_tests}
 use Rattle.i9_model.specs.Writes.{put, written}
 use Rattle.std.specs.List.{range_with_len}
@@ -46,9 +46,13 @@ listed f a (suc n) (x ∷ xs) len same =
     let one : a + 1 + k ≡ a + suc k = omega arith in ap f one ∙ same (suc k) (omega arith)) in
     ap (λ (y : ℕ). y ∷ map f (range_with_len (a + 1) n)) first ∙ ap (λ (ys : List ℕ). x ∷ ys) rest
 
+-- there are no others
+pub registers_past : (regs : List ℕ) (r : ℕ) → length regs ≤ r → registers_of regs r ≡ 0
+registers_past regs r h = get_or_past regs r 0 h
+
 -- 32 registers in order are the kept ones
 pub register_list-of : (regs : List ℕ) → length regs ≡ 32 → register_list (registers_of regs) ≡ regs
 unfolding register_list
 register_list-of regs len = listed (registers_of regs) 0 32 regs len (λ k h. ap (registers_of regs) (zero-add k))
 
-pub ruleset register_rules = (registers_of-set, registers_of-zeros, register_list-of, register_at, written_more, written_done)
+pub ruleset register_rules = (registers_past, registers_of-set, registers_of-zeros, register_list-of, register_at, written_more, written_done)

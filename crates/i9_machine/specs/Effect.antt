@@ -1,5 +1,6 @@
 -- A planned effect as the action of the definitions.
-use Rattle.std.specs.Prelude.{◌≡◌, ℕ, ◌+◌, ◌<◌, ◌%◌, Bool, true, false, ◌||◌, nat_lt, List, length, None, Some, Result, Ok, Err}
+use Rattle.std.specs.Prelude.{◌≡◌, ℕ, ◌+◌, ◌<◌, ◌%◌, Bool, true, false, ◌||◌, nat_lt, List, length, Option, None, Some, is_some, Result, Ok, Err}
+use Rattle.std.specs.Option.{option_map}
 use Rattle.std.specs.List.{AllByRecursion}
 use Rattle.i9_model.specs.Memory.{console_byte}
 use Rattle.i9_model.specs.State.{State, Frames}
@@ -15,6 +16,7 @@ use Rattle.i9_watch.specs.Watch.{spare_of, HasFrameMarks}
 use Rattle.i9_machine.specs.declared.effect.Move.{Move}
 use Rattle.i9_machine.specs.declared.effect.Move.TheVariants as moves
 use Rattle.i9_machine.specs.declared.effect.Effect.{Effect}
+use Rattle.i9_machine.specs.Line.{drained_of}
 
 abbrev pub move_in : Move → plain.Move
 move_in moves.Stays = plain.Stays
@@ -23,7 +25,7 @@ move_in moves.Returns = plain.Returns
 move_in moves.Flushes = plain.Flushes
 
 abbrev pub action_in : Effect → plain.Action
-action_in e = record { sets = e.sets.items; at = e.address; bytes = e.bytes.items; move = move_in e.frames; next = e.next }
+action_in e = record { sets = e.sets.items; at = e.address; bytes = e.bytes.items; move = move_in e.frames; ac = e.ac; tc = e.tc; point = option_map drained_of e.point; next = e.next }
 
 -- each place is one of the 32 registers
 abbrev pub AreRegisters : List (ℕ × ℕ) → Type 0
@@ -55,22 +57,20 @@ HasMoveRoom m w moves.Returns = Unit {0}
 HasMoveRoom m w moves.Flushes = Unit {0}
 
 -- how many drained points are printed
-abbrev pub point_count : plain.Move → ℕ
-point_count plain.Stays = 0
-point_count (plain.Saves save words) = 0
-point_count plain.Returns = 0
-point_count plain.Flushes = 1
+abbrev pub point_count : Option plain.Drained → ℕ
+point_count None = 0
+point_count (Some kind) = 1
 
 -- how many lines are printed
 abbrev pub line_count : plain.Action → ℕ
-line_count a = length (out_lines (console_byte (writes_in a))) + point_count a.move
+line_count a = length (out_lines (console_byte (writes_in a))) + point_count a.point
 
 abbrev pub is_costly : plain.Move → Bool
 is_costly plain.Stays = false
 is_costly (plain.Saves save words) = true
 is_costly plain.Returns = false
-is_costly plain.Flushes = true
+is_costly plain.Flushes = false
 
 -- memory may be needed: something is stored, saved or printed
 abbrev pub needs_room : plain.Action → Bool
-needs_room a = nat_lt 0 (length a.bytes) || is_costly a.move
+needs_room a = nat_lt 0 (length a.bytes) || (is_costly a.move || is_some a.point)

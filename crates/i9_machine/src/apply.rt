@@ -119,6 +119,8 @@ impl Processor {
         store(&mut self.memory, e.address, e.bytes.as_slice());
         self.watch.wrote(e.address, e.bytes.len() as u32);
         set_all(&mut self.regs, e.sets.as_slice());
+        self.ac = e.ac;
+        self.tc = e.tc;
         self.ip = e.next;
         self.count += 1;
     }

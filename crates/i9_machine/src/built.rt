@@ -2,16 +2,18 @@
 ghost use Rattle.std.specs.Prelude.{◌≡◌, ◌<◌};
 ghost use Rattle.i9_model.specs.Unbuilt.{access_size, is_built_name, is_built_mode, is_built_operand, is_built_form, is_local_return};
 
+use i9_exec::has_result;
 use i9_isa::{Inst, Mode, Op, Operand};
 
 /// Whether a name is built.
 fn is_built_name(op: Op) -> bool
     ensures { result ≡ is_built_name op }
 {
-    matches!(
-        op,
-        Op::Mov | Op::Lda | Op::Ld | Op::St | Op::Stob | Op::Call | Op::Ret | Op::Flushreg
-    )
+    match op {
+        Op::Lda | Op::Ld | Op::St | Op::Stob | Op::Call | Op::Ret | Op::Flushreg => true,
+        Op::Syncf | Op::Modac | Op::Modtc | Op::Mark | Op::Fmark | Op::Udma => true,
+        _ => has_result(op),
+    }
 }
 
 /// Whether an addressing mode is built: an offset, a base and an offset, or a displacement.
@@ -35,6 +37,7 @@ pub(crate) fn is_built_form(i: &Inst) -> bool
     is_built_name(i.op)
         && is_built_mode(i.ea.mode)
         && is_built_operand(i.a)
+        && is_built_operand(i.b)
         && is_built_operand(i.c)
 }
 

@@ -5,6 +5,7 @@ ghost use Rattle.i9_model.specs.Memory.{console_byte, exit_word};
 ghost use Rattle.i9_memory.specs.Memory.{memory_of};
 ghost use Rattle.i9_model.specs.Run.{writes_in};
 
+use crate::line::Point;
 use arrayvec::ArrayVec;
 use i9_memory::Memory;
 use i9_model::layout::{CONSOLE, EXIT_WORD};
@@ -29,13 +30,17 @@ pub(crate) enum Move {
 }
 
 /// The registers that are set with their values, the bytes that are stored from an address on, what
-/// is done to frames, and the next instruction address.
+/// is done to frames, the arithmetic and trace controls afterwards, the drained point behind it, and
+/// the next instruction address.
 #[derive(Debug, Drop)]
 pub(crate) struct Effect {
     pub(crate) sets: ArrayVec<(u8, u32), MOST_SETS>,
     pub(crate) address: u32,
     pub(crate) bytes: ArrayVec<u8, MOST_BYTES>,
     pub(crate) frames: Move,
+    pub(crate) ac: u32,
+    pub(crate) tc: u32,
+    pub(crate) point: Option<Point>,
     pub(crate) next: u32,
 }
 
@@ -79,11 +84,7 @@ impl Effect {
     pub(crate) fn line_count(&self) -> usize
         ensures { result ≡ line_count (action_in self.now) }
     {
-        let points = match self.frames {
-            Move::Flushes => 1,
-            _ => 0,
-        };
-        usize::from(self.console_byte().is_some()) + points
+        usize::from(self.console_byte().is_some()) + usize::from(self.point.is_some())
     }
 
     /// The byte that goes out at the console.

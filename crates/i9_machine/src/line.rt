@@ -44,6 +44,8 @@ pub enum Turn {
 pub enum Point {
     /// After flushreg.
     Flush,
+    /// After syncf.
+    Sync,
     /// At the end of the run.
     End,
 }

@@ -13,11 +13,11 @@ ghost use Rattle.i9_model.specs.Run.{Finish, Record, Does, Ends, record_of, next
 ghost use Rattle.i9_model.specs.PrintedText.{view_of, out_lines, point_lines, action_lines, last_lines};
 ghost use Rattle.i9_machine.specs.declared.line.End.{End};
 ghost use Rattle.i9_machine.specs.Built.{IsBuilt};
-ghost use Rattle.i9_machine.specs.Effect.{action_in, move_in, AreRegisters, CanMove, HasMoveRoom, IsEffect, point_count, line_count, needs_room};
-ghost use Rattle.i9_machine.specs.Line.{finish_of, AddsLines};
+ghost use Rattle.i9_machine.specs.Effect.{action_in, AreRegisters, CanMove, HasMoveRoom, IsEffect, point_count, line_count, needs_room};
+ghost use Rattle.i9_machine.specs.Line.{finish_of, drained_of, AddsLines};
 ghost use Rattle.i9_machine.specs.Processor.{state_of};
 
-use crate::effect::{Effect, Move};
+use crate::effect::Effect;
 use crate::line::{End, Line, Point, Turn, put_line};
 use crate::load::has_tables;
 use crate::processor::Processor;
@@ -84,13 +84,12 @@ fn put_out(byte: Option<u8>, out: &mut Vec<Line>)
     }
 }
 
-/// Adds the drained point behind a flush.
-fn put_point(m: &Move, view: View, out: &mut Vec<Line>)
-    requires { vec_len out.old + point_count (move_in m.now) ≤ vec_capacity out.old }
-    ensures { (s : State) → view ≡ view_of s → AddsLines out.old.items out.new.items (point_lines (move_in m.now) s) }
+/// Adds a drained point, where there is one.
+fn put_point(point: Option<Point>, view: View, out: &mut Vec<Line>)
+    requires { vec_len out.old + point_count (option_map drained_of point) ≤ vec_capacity out.old }
+    ensures { (s : State) → view ≡ view_of s → AddsLines out.old.items out.new.items (point_lines (option_map drained_of point) s) }
 {
-    if let Move::Flushes = m {
-        let kind = Point::Flush;
+    if let Some(kind) = point {
         put_line(out, Line::Point { kind, view });
     }
 }
@@ -209,7 +208,7 @@ impl Machine {
         self.processor.apply(e);
         self.due = due;
         put_out(e.console_byte(), out);
-        put_point(&e.frames, self.processor.view(), out);
+        put_point(e.point, self.processor.view(), out);
     }
 
     /// Does an instruction whose effect is known.

@@ -1,22 +1,26 @@
 //! What an instruction will do.
-ghost use Rattle.std.specs.Prelude.{◌≡◌, ◌+◌, ◌%◌, ◌^◌, ◌<◌, ◌∷◌, [], length, replicate};
+ghost use Rattle.std.specs.Prelude.{◌≡◌, ◌+◌, ◌%◌, ◌^◌, ◌<◌, ◌∷◌, [], ◌≤◌, ◌==◌, not, Some, length, replicate};
 ghost use Rattle.i9_memory.specs.Memory.{memory_of};
 ghost use Rattle.i9_watch.specs.Watch.{frames_of};
 ghost use Rattle.i9_model.specs.Memory.{word_in, word_bytes, words_in};
 ghost use Rattle.i9_model.specs.Operands.{address, number_of};
-ghost use Rattle.i9_model.specs.Step.{following, setting, storing, frame_sets, saved_local, saved_locals, call_action, ret_action, action_by};
+ghost use Rattle.i9_model.specs.Step.{following, setting, storing, answer_in, answering, destination, group_sets, modified, modac_action, modtc_action, frame_sets, saved_local, saved_locals, call_action, ret_action, action_by};
+ghost use Rattle.i9_isa.specs.Operands.{words_written};
 ghost use Rattle.i9_model.specs.Access.{NoAccess, Reads, Writes, SavesAt, ReturnsTo, access_by};
 ghost use Rattle.i9_model.specs.Frames.{rounded_down};
 ghost use Rattle.i9_machine.specs.Built.{IsBuilt};
 ghost use Rattle.i9_machine.specs.Effect.{AreRegisters, CanMove, IsEffect, IsPlanFor, move_in};
+ghost use Rattle.i9_machine.specs.Line.{drained_of};
 
 use crate::effect::{Effect, MOST_BYTES, MOST_SETS, Move};
+use crate::line::Point;
 use crate::processor::Processor;
 use crate::registers::number_of;
 use arrayvec::ArrayVec;
-use i9_isa::{Inst, Op, word_count};
+use i9_exec::{has_result, results_by_name};
+use i9_isa::{Inst, Op, Operand, Use, row, word_count};
 use i9_model::Push;
-use i9_model::layout::{FP, LOCALS, PFP, RIP, SP};
+use i9_model::layout::{AC_MASK, FP, LOCALS, PFP, RIP, SP, TC_MASK};
 
 /// One register that is set.
 fn one_set(r: u8, v: u32) -> ArrayVec<(u8, u32), MOST_SETS>
@@ -27,6 +31,22 @@ fn one_set(r: u8, v: u32) -> ArrayVec<(u8, u32), MOST_SETS>
     sets
 }
 
+/// Words that go to registers from one up.
+#[tactic(auto, using(crate::proofs::Frames::frame_rules))]
+fn group_sets(r: u8, words: &[u32]) -> ArrayVec<(u8, u32), MOST_SETS>
+    requires few { length words.now ≤ 16 }
+    requires group { r + length words.now ≤ 32 }
+    ensures sets { result.items ≡ group_sets r words.now }
+    ensures count { length result.items ≡ length words.now }
+    ensures registers { AreRegisters result.items }
+{
+    let mut sets = ArrayVec::new();
+    for k in 0..words.len() {
+        sets.push((r + k as u8, words[k]));
+    }
+    sets
+}
+
 /// The locals and fp of a frame, set.
 #[tactic(auto, using(crate::proofs::Frames::frame_rules))]
 fn frame_sets(locals: &[u32], frame: u32) -> ArrayVec<(u8, u32), MOST_SETS>
@@ -34,12 +54,35 @@ fn frame_sets(locals: &[u32], frame: u32) -> ArrayVec<(u8, u32), MOST_SETS>
     ensures sets { result.items ≡ frame_sets locals.now frame }
     ensures registers { AreRegisters result.items }
 {
-    let mut sets = ArrayVec::new();
-    for k in 0..LOCALS {
-        sets.push((k as u8, locals[k]));
-    }
+    let mut sets = group_sets(0, locals);
     sets.push((FP, frame));
     sets
+}
+
+/// Controls with other bits where a mask has them, of which some are kept.
+#[tactic(auto, unfolding(i9_model::specs::Numbers::complement))]
+fn modified(old: u32, mask: u32, bits: u32, kept: u32) -> u32
+    ensures { result ≡ modified old mask bits kept }
+{
+    (bits & mask | old & !mask) & kept
+}
+
+/// Whether a use writes registers.
+fn writes(use_of: Use) -> bool
+    ensures { result ≡ not (words_written use_of == 0) }
+{
+    match use_of {
+        Use::Destination(n) | Use::Load(n) => n != 0,
+        Use::Change => true,
+        _ => false,
+    }
+}
+
+/// The destination of a result: src1 of a test, src/dst of the others.
+fn destination(i: &Inst) -> Operand
+    ensures { result ≡ destination i.now }
+{
+    if writes(row(i.op).a) { i.a } else { i.c }
 }
 
 /// The locals of a new frame: pfp, sp, and zeros.
@@ -85,20 +128,87 @@ impl Processor {
             address: 0,
             bytes: ArrayVec::new(),
             frames: Move::Stays,
+            ac: self.ac,
+            tc: self.tc,
+            point: None,
             next: self.following(i),
         }
     }
 
-    /// Nothing but what is done to frames.
-    fn moving(&self, i: &Inst, frames: Move) -> Effect
+    /// Nothing but what is done to frames, and a drained point.
+    fn draining(&self, i: &Inst, frames: Move, point: Point) -> Effect
         requires { CanMove (frames_of self.now.watch) frames }
-        ensures { IsEffect (state_of self.now) (record (setting i.now (state_of self.now) []) { move = move_in frames }) result }
+        ensures { IsEffect (state_of self.now) (record (setting i.now (state_of self.now) []) { move = move_in frames; point = Some (drained_of point) }) result }
     {
         Effect {
             sets: ArrayVec::new(),
             address: 0,
             bytes: ArrayVec::new(),
             frames,
+            ac: self.ac,
+            tc: self.tc,
+            point: Some(point),
+            next: self.following(i),
+        }
+    }
+
+    /// A result goes to its destination; a name with none does nothing.
+    #[tactic(auto, using(crate::proofs::Answering::answer_rules))]
+    fn answering(&self, i: &Inst) -> Effect
+        requires { IsBuilt i.now }
+        ensures { IsEffect (state_of self.now) (answering i.now (state_of self.now) (answer_in i.now (state_of self.now))) result }
+    {
+        let mut sets = ArrayVec::new();
+        let mut ac = self.ac;
+        if has_result(i.op) {
+            let answer = self.answer(i);
+            sets = group_sets(number_of(destination(i)), answer.values.as_slice());
+            ac = answer.ac;
+        } else {
+            results_by_name();
+        }
+        Effect {
+            sets,
+            address: 0,
+            bytes: ArrayVec::new(),
+            frames: Move::Stays,
+            ac,
+            tc: self.tc,
+            point: None,
+            next: self.following(i),
+        }
+    }
+
+    /// The old arithmetic controls are answered, and changed under a mask.
+    fn plan_modac(&self, i: &Inst) -> Effect
+        requires { IsBuilt i.now }
+        ensures { IsEffect (state_of self.now) (modac_action i.now (state_of self.now)) result }
+    {
+        Effect {
+            sets: one_set(number_of(i.c), self.ac),
+            address: 0,
+            bytes: ArrayVec::new(),
+            frames: Move::Stays,
+            ac: modified(self.ac, self.value(i.a), self.value(i.b), AC_MASK),
+            tc: self.tc,
+            point: None,
+            next: self.following(i),
+        }
+    }
+
+    /// The old trace controls are answered, and changed under a mask.
+    fn plan_modtc(&self, i: &Inst) -> Effect
+        requires { IsBuilt i.now }
+        ensures { IsEffect (state_of self.now) (modtc_action i.now (state_of self.now)) result }
+    {
+        Effect {
+            sets: one_set(number_of(i.c), self.tc),
+            address: 0,
+            bytes: ArrayVec::new(),
+            frames: Move::Stays,
+            ac: self.ac,
+            tc: modified(self.tc, self.value(i.a), self.value(i.b), TC_MASK),
+            point: None,
             next: self.following(i),
         }
     }
@@ -149,6 +259,9 @@ impl Processor {
                 address: a,
                 bytes,
                 frames: Move::Stays,
+                ac: self.ac,
+                tc: self.tc,
+                point: None,
                 next: self.following(i),
             }),
         }
@@ -207,13 +320,16 @@ impl Processor {
                 save: push.save,
                 words: self.saved_locals(self.following(i)),
             },
+            ac: self.ac,
+            tc: self.tc,
+            point: None,
             next: target - target % 4,
         })
     }
 
     /// The locals of the frame that pfp names are read, and that frame is entered again.
-    fn plan_return(&self) -> Result<Effect, u32>
-        ensures { IsPlanFor (state_of self.now) (ReturnsTo (rounded_down ((state_of self.now).regs PFP))) (ret_action (state_of self.now)) result }
+    fn plan_return(&self, i: &Inst) -> Result<Effect, u32>
+        ensures { IsPlanFor (state_of self.now) (ReturnsTo (rounded_down ((state_of self.now).regs PFP))) (ret_action i.now (state_of self.now)) result }
     {
         let a = rounded_down(self.regs[PFP as usize]);
         if let Some(hazard) = self.watch.check_ret(a) {
@@ -225,6 +341,9 @@ impl Processor {
             address: 0,
             bytes: ArrayVec::new(),
             frames: Move::Returns,
+            ac: self.ac,
+            tc: self.tc,
+            point: None,
             next: back - back % 4,
         })
     }
@@ -235,15 +354,17 @@ impl Processor {
         ensures { IsPlanFor (state_of self.now) (access_by i.now.op i.now (state_of self.now)) (action_by i.now.op i.now (state_of self.now)) result }
     {
         match i.op {
-            Op::Mov => Ok(self.setting(i, number_of(i.c), self.value(i.a))),
             Op::Lda => Ok(self.setting(i, number_of(i.c), self.address(&i.ea))),
             Op::Ld => self.plan_load(i),
             Op::St => self.plan_store(i, self.word_bytes(self.address(&i.ea), self.value(i.c))),
             Op::Stob => self.plan_store(i, one_byte((self.value(i.c) % 256) as u8)),
             Op::Call => self.plan_call(i),
-            Op::Ret => self.plan_return(),
-            Op::Flushreg => Ok(self.moving(i, Move::Flushes)),
-            _ => Ok(self.moving(i, Move::Stays)),
+            Op::Ret => self.plan_return(i),
+            Op::Flushreg => Ok(self.draining(i, Move::Flushes, Point::Flush)),
+            Op::Syncf => Ok(self.draining(i, Move::Stays, Point::Sync)),
+            Op::Modac => Ok(self.plan_modac(i)),
+            Op::Modtc => Ok(self.plan_modtc(i)),
+            _ => Ok(self.answering(i)),
         }
     }
 }

@@ -1,5 +1,5 @@
 //! The registers, controls, memory and frames of the machine.
-ghost use Rattle.std.specs.Prelude.{◌≡◌, ◌+◌, ◌%◌, ◌<◌, ◌^◌, ◌==◌, ℕ, Option, None, Some, if◌then◌else◌, IfOk, IfSome, true};
+ghost use Rattle.std.specs.Prelude.{◌≡◌, ◌+◌, ◌%◌, ◌<◌, ◌^◌, ◌==◌, ℕ, Option, None, Some, if◌then◌else◌, IfOk, IfSome, IsNone, IsSome, length, [], true};
 ghost use Rattle.i9_isa.specs.Valid.{IsValid};
 ghost use Rattle.i9_isa.specs.Words.{words_of};
 ghost use Rattle.i9_memory.specs.Memory.{memory_of};
@@ -8,9 +8,11 @@ ghost use Rattle.i9_model.specs.Image.{pairs_of};
 ghost use Rattle.i9_model.specs.State.{State, boot};
 ghost use Rattle.i9_model.specs.Writes.{wrapped};
 ghost use Rattle.i9_model.specs.Hazards.{read_hazard};
-ghost use Rattle.i9_model.specs.Operands.{value, address};
-ghost use Rattle.i9_model.specs.Step.{second_word};
-ghost use Rattle.i9_model.specs.Unbuilt.{is_built, is_built_mode, is_unaligned, is_other_return};
+ghost use Rattle.i9_model.specs.Operands.{value, word_of, address};
+ghost use Rattle.i9_model.specs.Step.{second_word, answer_in};
+ghost use Rattle.i9_model.specs.Unbuilt.{is_built, is_built_mode, is_unaligned, is_other_return, is_faulty};
+ghost use Rattle.i9_model.specs.Results.{has_result, destination_words};
+ghost use Rattle.i9_exec.specs.Shown.{answer_of};
 ghost use Rattle.i9_model.specs.Overlay.{overlay};
 ghost use Rattle.i9_model.specs.PrintedText.{view_of};
 ghost use Rattle.i9_machine.specs.Built.{IsBuilt, IsSource};
@@ -21,6 +23,7 @@ use crate::line::Issued;
 use crate::load::load;
 use crate::registers::boot_registers;
 use i9_decode::decode;
+use i9_exec::{Done, compute, has_result, results_by_name};
 use i9_hex::Segments;
 use i9_isa::{Ea, Inst, Mode, NoMemory, Op, Operand, word_count};
 use i9_memory::Memory;
@@ -99,6 +102,58 @@ impl Processor {
         self.address(&i.ea) % access_size(i.op) != 0
     }
 
+    /// A word of a source of several.
+    #[tactic(auto, using(crate::proofs::RegisterList::register_rules))]
+    fn word_of(&self, o: Operand, k: usize) -> u32
+        requires source { IsSource o }
+        requires few { k < 4 }
+        ensures { result ≡ word_of (state_of self.now) o k }
+    {
+        match o {
+            Operand::Reg(r) => {
+                let register = r as usize + k;
+                if register < 32 {
+                    self.regs[register]
+                } else {
+                    0
+                }
+            }
+            Operand::Lit(n) => if k == 0 { u32::from(n) } else { 0 },
+            Operand::Sfr(_) => 0,
+        }
+    }
+
+    /// What an instruction with a result gives.
+    pub(crate) fn answer(&self, i: &Inst) -> Done
+        requires built { IsBuilt i.now }
+        requires result { has_result i.now.op ≡ true }
+        ensures answer { Some (answer_of result) ≡ answer_in i.now (state_of self.now) }
+        ensures words { IsNone result.fault → length result.values.items ≡ destination_words i.now.op }
+        ensures unwritten { IsSome result.fault → result.values.items ≡ [] }
+    {
+        let a = [
+            self.word_of(i.a, 0),
+            self.word_of(i.a, 1),
+            self.word_of(i.a, 2),
+            self.word_of(i.a, 3),
+        ];
+        let b = [self.word_of(i.b, 0), self.word_of(i.b, 1)];
+        compute(i, &a, &b, self.value(i.c), self.ac)
+    }
+
+    /// Whether the result of an instruction is a fault.
+    #[tactic(auto, using(crate::proofs::Answering::answer_rules))]
+    fn is_faulty(&self, i: &Inst) -> bool
+        requires { IsBuilt i.now }
+        ensures { result ≡ is_faulty (answer_in i.now (state_of self.now)) }
+    {
+        if !has_result(i.op) {
+            results_by_name();
+            return false;
+        }
+        self.answer(i).fault.is_some()
+    }
+
     /// Whether an instruction is a return of a type that is not built.
     fn is_other_return(&self, op: Op) -> bool
         ensures { result ≡ is_other_return op (state_of self.now) }
@@ -119,7 +174,10 @@ impl Processor {
         if !is_built_form(&i) {
             return None;
         }
-        if self.is_unaligned(&i) || self.is_other_return(i.op) || self.pc % 2 == 1 {
+        if self.is_unaligned(&i) || self.is_other_return(i.op) || self.is_faulty(&i) {
+            return None;
+        }
+        if self.pc % 2 == 1 {
             return None;
         }
         Some(i)

@@ -2,7 +2,7 @@
 ghost use Rattle.std.specs.Prelude.{◌≡◌, ◌∷◌, [], ◌<◌};
 ghost use Rattle.i9_model.specs.Writes.{put, written};
 ghost use Rattle.i9_model.specs.Operands.{number_of};
-ghost use Rattle.i9_machine.specs.Built.{IsRegister};
+ghost use Rattle.i9_machine.specs.Built.{IsSource};
 ghost use Rattle.i9_machine.specs.Effect.{AreRegisters};
 ghost use Rattle.i9_machine.specs.Processor.{registers_of};
 
@@ -11,7 +11,7 @@ use i9_model::layout::{FP, FRAME_SIZE, SP};
 
 /// The register of a destination.
 pub(crate) fn number_of(o: Operand) -> u8
-    requires { IsRegister o }
+    requires { IsSource o }
     ensures value { result ≡ number_of o }
     ensures range { result < 32 }
 {

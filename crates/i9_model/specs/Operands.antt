@@ -1,5 +1,6 @@
 -- Operands: the value of a source, the register of a destination, the effective address, and the target of a branch.
-use Rattle.std.specs.Prelude.{ℕ, ◌+◌, ◌^◌, ℤ, pos, unsigned_abs}
+use Rattle.std.specs.Prelude.{ℕ, ◌+◌, ◌^◌, ◌==◌, if◌then◌else◌, List, map, ℤ, pos, unsigned_abs}
+use Rattle.std.specs.List.{range_with_len}
 use Rattle.std.specs.Int.{int_rem_euclid, w32, cast_unsigned}
 use Rattle.i9_isa.specs.declared.inst.Operand.{Operand}
 use Rattle.i9_isa.specs.declared.inst.Operand.TheVariants.{Reg, Lit, Sfr}
@@ -14,6 +15,16 @@ abbrev pub value : State → Operand → ℕ
 value s (Reg r) = s.regs r
 value s (Lit n) = n
 value s (Sfr k) = 0
+
+-- a word of a source of several: registers from the first one up, or the literal and then zeros
+abbrev pub word_of : State → Operand → ℕ → ℕ
+word_of s (Reg r) k = s.regs (r + k)
+word_of s (Lit n) k = if k == 0 then n else 0
+word_of s (Sfr j) k = 0
+
+-- so many words of a source
+abbrev pub source_words : State → Operand → ℕ → List ℕ
+source_words s o n = map (word_of s o) (range_with_len 0 n)
 
 -- the register of a destination
 abbrev pub number_of : Operand → ℕ

@@ -7,13 +7,8 @@ use Rattle.hex.specs.Hex.{encode_upper}
 use Rattle.i9_model.specs.declared.view.View.{View}
 use Rattle.i9_model.specs.Memory.{console_byte}
 use Rattle.i9_model.specs.State.{State}
-use Rattle.i9_model.specs.Step.{Action, Move, Stays, Saves, Returns, Flushes}
+use Rattle.i9_model.specs.Step.{Action, Drained, AtFlush, AtSync, AtEnd}
 use Rattle.i9_model.specs.Run.{Finish, Exit, Limit, Hazard, Unbuilt, Record, action_by_kind, writes_in, state_after}
-
--- the kinds of drained point: after flushreg, and at the end
-pub data Drained : Type 0 where
-  AtFlush : Drained
-  AtEnd : Drained
 
 -- a printed line; a drained point has three
 pub data Shown : Type 0 where
@@ -34,16 +29,14 @@ abbrev pub out_lines : Option ℕ → List Shown
 out_lines None = []
 out_lines (Some b) = Out b ∷ []
 
--- the point behind a flush, from the state after it
-abbrev pub point_lines : Move → State → List Shown
-point_lines Stays s = []
-point_lines (Saves save words) s = []
-point_lines Returns s = []
-point_lines Flushes s = Point AtFlush (view_of s) ∷ []
+-- a drained point, from the state there
+abbrev pub point_lines : Option Drained → State → List Shown
+point_lines None s = []
+point_lines (Some kind) s = Point kind (view_of s) ∷ []
 
 -- the lines of an action, from the state after it: a console byte, and a drained point
 abbrev pub action_lines : Action → State → List Shown
-action_lines a s = out_lines (console_byte (writes_in a)) ++ point_lines a.move s
+action_lines a s = out_lines (console_byte (writes_in a)) ++ point_lines a.point s
 
 -- the end of a run: its drained point, and how it ended
 abbrev pub last_lines : View → Finish → List Shown
@@ -82,6 +75,7 @@ words_text label ws = label ++ flat_map spaced ws ++ line_feed
 
 abbrev pub drained_text : Drained → List ℕ
 drained_text AtFlush = codes "flush"
+drained_text AtSync = codes "sync"
 drained_text AtEnd = codes "end"
 
 -- the count and kind of a drained point, and its address, AC and PC

@@ -1,8 +1,8 @@
 -- What is not built yet. A run ends before an instruction that is not built, and names its address.
-use Rattle.std.specs.Prelude.{ℕ, ◌%◌, Bool, true, false, not, ◌==◌, ◌&&◌, ◌||◌, if◌then◌else◌, List, ◌++◌, Option, Some, None, Result, Ok, Err}
+use Rattle.std.specs.Prelude.{ℕ, ◌%◌, Bool, true, false, not, ◌==◌, ◌&&◌, ◌||◌, if◌then◌else◌, List, ◌++◌, Option, Some, None, is_some, Result, Ok, Err}
 use Rattle.std.specs.List.{list_any, range_with_len}
 use Rattle.i9_isa.specs.declared.op.Op.{Op}
-use Rattle.i9_isa.specs.declared.op.Op.TheVariants.{Mov, Lda, Ld, St, Stob, Call, Ret, Flushreg}
+use Rattle.i9_isa.specs.declared.op.Op.TheVariants.{Lda, Ld, St, Stob, Call, Ret, Flushreg, Syncf, Modac, Modtc, Mark, Fmark, Udma}
 use Rattle.i9_isa.specs.declared.inst.Operand.{Operand}
 use Rattle.i9_isa.specs.declared.inst.Operand.TheVariants.{Reg, Lit, Sfr}
 use Rattle.i9_isa.specs.declared.inst.Mode.{Mode}
@@ -13,7 +13,8 @@ use Rattle.i9_isa.specs.Words.{bit, decoded}
 use Rattle.i9_model.specs.declared.layout.TheConstants.{BOOT_BYTES, PRCB_POINTER, CONTROL_TABLE_SIZE, PFP}
 use Rattle.i9_model.specs.State.{State, fault_config}
 use Rattle.i9_model.specs.Operands.{address}
-use Rattle.i9_model.specs.Step.{first_word, next_word}
+use Rattle.i9_model.specs.Results.{Answer, has_result}
+use Rattle.i9_model.specs.Step.{first_word, next_word, answer_in}
 
 -- ---- images
 
@@ -30,8 +31,8 @@ has_tables m = list_any (is_set m) boot_places
 
 -- ---- instructions
 
+-- the names with a result, and these
 abbrev pub is_built_name : Op → Bool
-is_built_name Mov = true
 is_built_name Lda = true
 is_built_name Ld = true
 is_built_name St = true
@@ -39,7 +40,13 @@ is_built_name Stob = true
 is_built_name Call = true
 is_built_name Ret = true
 is_built_name Flushreg = true
-is_built_name _ = false
+is_built_name Syncf = true
+is_built_name Modac = true
+is_built_name Modtc = true
+is_built_name Mark = true
+is_built_name Fmark = true
+is_built_name Udma = true
+is_built_name op = has_result op
 
 -- an offset, a base and an offset, or a displacement
 abbrev pub is_built_mode : Mode → Bool
@@ -56,7 +63,7 @@ is_built_operand (Sfr k) = false
 
 -- its form is built
 abbrev pub is_built_form : Inst → Bool
-is_built_form i = is_built_name i.op && is_built_mode i.ea.mode && is_built_operand i.a && is_built_operand i.c
+is_built_form i = is_built_name i.op && is_built_mode i.ea.mode && is_built_operand i.a && is_built_operand i.b && is_built_operand i.c
 
 -- the size of a data access, which its address has to be a multiple of; 1 where there is none
 abbrev pub access_size : Op → ℕ
@@ -76,13 +83,18 @@ abbrev pub is_other_return : Op → State → Bool
 is_other_return Ret s = not (is_local_return (s.regs PFP))
 is_other_return _ s = false
 
+-- its result is a fault
+abbrev pub is_faulty : Option Answer → Bool
+is_faulty None = false
+is_faulty (Some r) = is_some r.fault
+
 -- trace enable is bit 0 of PC
 abbrev pub is_traced : State → Bool
 is_traced s = bit s.pc 0
 
 -- the instruction is built in this state: its form is, it raises no fault, and trace enable is clear
 unfoldable pub is_built : Inst → State → Bool
-is_built i s = is_built_form i && not (is_unaligned i s) && not (is_other_return i.op s) && not (is_traced s)
+is_built i s = is_built_form i && not (is_unaligned i s) && not (is_other_return i.op s) && not (is_faulty (answer_in i s)) && not (is_traced s)
 
 abbrev pub if_built : State → Result Inst BadWord → Option Inst
 if_built s (Err e) = None

@@ -28,6 +28,13 @@ pub const CONTROL_TABLE_SIZE: u32 = 112;
 /// The process controls after boot: supervisor mode, interrupted, priority 31.
 pub const BOOT_PC: u32 = 0x001F_2002;
 
+/// The bits of the arithmetic controls that are kept: condition code, overflow flag and mask, no
+/// imprecise faults.
+pub const AC_MASK: u32 = 0x9107;
+
+/// The bits of the trace controls that are kept: modes, event flags and breakpoint flags.
+pub const TC_MASK: u32 = 0x0FFE_00FE;
+
 /// The bytes of a frame's sixteen local registers.
 pub const FRAME_SIZE: u32 = 64;
 

@@ -6,6 +6,8 @@ mod frame_tests;
 pub mod laws;
 pub mod outside;
 mod print;
+#[cfg(test)]
+mod result_tests;
 mod run;
 mod status;
 #[cfg(test)]

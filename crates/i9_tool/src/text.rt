@@ -47,6 +47,7 @@ fn name_of(kind: Point) -> &'static [u8]
 {
     match kind {
         Point::Flush => b"flush",
+        Point::Sync => b"sync",
         Point::End => b"end",
     }
 }
