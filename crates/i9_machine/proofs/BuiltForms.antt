@@ -15,7 +15,7 @@ use Rattle.i9_isa.specs.declared.format.Use.TheVariants.{Unused, Source, Left, R
 use Rattle.i9_isa.specs.Operands.{takes, words_written, starts_group, has_base, has_index, has_disp, has_offset, disp_limit}
 use Rattle.i9_isa.specs.Table.{row_of}
 use Rattle.i9_isa.specs.Valid.{FitsAddress, IsValid}
-use Rattle.i9_model.specs.Unbuilt.{is_built_name, is_built_mode, is_built_operand, is_built_form}
+use Rattle.i9_model.specs.Unbuilt.{is_built_name, is_built_operand, is_built_form}
 use Rattle.i9_machine.specs.Built.{IsSource, IsBuilt}
 use Rattle.i9_model.specs.Operands.{number_of}
 use Rattle.i9_model.specs.Results.{destination_words}
@@ -57,22 +57,11 @@ base_of Format.Reg e h = let same : e.base ≡ 0 = ap (λ (x : Ea). x.base) h in
 base_of Format.Cobr e h = let same : e.base ≡ 0 = ap (λ (x : Ea). x.base) h in omega arith
 base_of Format.Ctrl e h = let same : e.base ≡ 0 = ap (λ (x : Ea). x.base) h in omega arith
 
-disp_by : (b c : Bool) (x : ℕ) → nat_lt x (cond b (2 ^ 32) (cond c (2 ^ 12) 1)) ≡ true → x < 2 ^ 32
-disp_by true c x t = grind (arith, nat_tests, t)
-disp_by false true x t = grind (arith, nat_tests, t)
-disp_by false false x t = grind (arith, nat_tests, t)
-
-last_of : (a b c d : Bool) → (a && (b && (c && d))) ≡ true → d ≡ true
-last_of true true true d t = t
-last_of true true false d t = absurd cc
-last_of true false c d t = absurd cc
-last_of false b c d t = absurd cc
-
-disp_of : (f : Format) (e : Ea) → FitsAddress f e → e.disp < 2 ^ 32
-disp_of Format.Mem e h = disp_by (has_disp e.mode) (has_offset e.mode) e.disp (last_of (nat_lt e.base (cond (has_base e.mode) 32 1)) (nat_lt e.index (cond (has_index e.mode) 32 1)) (nat_lt e.scale (cond (has_index e.mode) 5 1)) (nat_lt e.disp (disp_limit e.mode)) h)
-disp_of Format.Reg e h = let same : e.disp ≡ 0 = ap (λ (x : Ea). x.disp) h in omega arith
-disp_of Format.Cobr e h = let same : e.disp ≡ 0 = ap (λ (x : Ea). x.disp) h in omega arith
-disp_of Format.Ctrl e h = let same : e.disp ≡ 0 = ap (λ (x : Ea). x.disp) h in omega arith
+index_of : (f : Format) (e : Ea) → FitsAddress f e → e.index < 32
+index_of Format.Mem e h = limit_by (has_index e.mode) e.index (and_parts _ _ (and_parts (nat_lt e.base (cond (has_base e.mode) 32 1)) (nat_lt e.index (cond (has_index e.mode) 32 1) && (nat_lt e.scale (cond (has_index e.mode) 5 1) && nat_lt e.disp (disp_limit e.mode))) h).1).0
+index_of Format.Reg e h = let same : e.index ≡ 0 = ap (λ (x : Ea). x.index) h in omega arith
+index_of Format.Cobr e h = let same : e.index ≡ 0 = ap (λ (x : Ea). x.index) h in omega arith
+index_of Format.Ctrl e h = let same : e.index ≡ 0 = ap (λ (x : Ea). x.index) h in omega arith
 
 -- ---- the registers of a result
 
@@ -139,25 +128,29 @@ group_by i false e v =
     let same = ap number_of here in
     omega (arith, none, h, same)
 
+words_by : (i : Inst) → IsValid i → number_of i.c + words_written (row_of i.op).c ≤ 32
+words_by i v =
+    let few = each_few i.op in
+    let parts = and_parts _ _ few in
+    group_of (row_of i.op).c i.c (and_parts _ _ parts.0).1 v.c
+
 pub built_of_valid : (i : Inst) → IsValid i → is_built_form i ≡ true → IsBuilt i
 built_of_valid i v t =
     let name = is_built_name i.op in
-    let mode = is_built_mode i.ea.mode in
     let a = is_built_operand i.a in
     let b = is_built_operand i.b in
-    let first = and_parts (name && mode && a && b) (is_built_operand i.c) t in
-    let second = and_parts (name && mode && a) b first.0 in
-    let third = and_parts (name && mode) a second.0 in
-    let fourth = and_parts name mode third.0 in
+    let first = and_parts (name && a && b) (is_built_operand i.c) t in
+    let second = and_parts (name && a) b first.0 in
+    let third = and_parts name a second.0 in
     record {
       form = t;
       a = source_of (row_of i.op).a i.a third.1 v.a;
       b = source_of (row_of i.op).b i.b second.1 v.b;
       c = source_of (row_of i.op).c i.c first.1 v.c;
-      mode = fourth.1;
       base = base_of (row_of i.op).format i.ea v.ea;
-      disp = disp_of (row_of i.op).format i.ea v.ea;
+      index = index_of (row_of i.op).format i.ea v.ea;
       group = group_by i (words_written (row_of i.op).a == 0) refl v;
+      words = words_by i v;
     }
 
 pub ruleset built_rules = (built_of_valid)

@@ -7,3 +7,4 @@ pub mod Loading
 pub mod Frames
 pub mod Overlaid
 pub mod Answering
+pub mod Transfers

@@ -1,26 +1,42 @@
 //! What is built so far, of the form of an instruction.
 ghost use Rattle.std.specs.Prelude.{◌≡◌, ◌<◌};
-ghost use Rattle.i9_model.specs.Unbuilt.{access_size, is_built_name, is_built_mode, is_built_operand, is_built_form, is_local_return};
+ghost use Rattle.i9_model.specs.Branches.{asks, question_of};
+ghost use Rattle.i9_model.specs.Unbuilt.{access_size, is_built_name, is_fault_name, is_built_operand, is_built_form, is_local_return};
 
-use i9_exec::has_result;
-use i9_isa::{Inst, Mode, Op, Operand};
+use i9_isa::{Inst, Op, Operand};
 
 /// Whether a name is built.
 fn is_built_name(op: Op) -> bool
     ensures { result ≡ is_built_name op }
 {
+    !matches!(
+        op,
+        Op::Callx | Op::Calls | Op::Modpc | Op::Sysctl | Op::Sdma
+    )
+}
+
+/// Whether a name is that of a fault instruction.
+pub(crate) fn is_fault_name(op: Op) -> bool
+    ensures { result ≡ is_fault_name op }
+{
     match op {
-        Op::Lda | Op::Ld | Op::St | Op::Stob | Op::Call | Op::Ret | Op::Flushreg => true,
-        Op::Syncf | Op::Modac | Op::Modtc | Op::Mark | Op::Fmark | Op::Udma => true,
-        _ => has_result(op),
+        Op::Faultno | Op::Faultg | Op::Faulte | Op::Faultge => true,
+        Op::Faultl | Op::Faultne | Op::Faultle | Op::Faulto => true,
+        _ => false,
     }
 }
 
-/// Whether an addressing mode is built: an offset, a base and an offset, or a displacement.
-fn is_built_mode(mode: Mode) -> bool
-    ensures { result ≡ is_built_mode mode }
+/// Whether a name asks something, as branches and fault instructions do.
+pub(crate) fn asks(op: Op) -> bool
+    ensures { result ≡ asks (question_of op) }
 {
-    matches!(mode, Mode::Offset | Mode::BaseOffset | Mode::Disp)
+    match op {
+        Op::B | Op::Bal | Op::Bno | Op::Bg | Op::Be | Op::Bge | Op::Bl | Op::Bne => true,
+        Op::Ble | Op::Bo | Op::Bbc | Op::Bbs | Op::Cmpobg | Op::Cmpobe | Op::Cmpobge => true,
+        Op::Cmpobl | Op::Cmpobne | Op::Cmpoble | Op::Cmpibno | Op::Cmpibg | Op::Cmpibe => true,
+        Op::Cmpibge | Op::Cmpibl | Op::Cmpibne | Op::Cmpible | Op::Cmpibo => true,
+        _ => is_fault_name(op),
+    }
 }
 
 /// Whether an operand is built: special function registers are not.
@@ -34,11 +50,7 @@ fn is_built_operand(o: Operand) -> bool
 pub(crate) fn is_built_form(i: &Inst) -> bool
     ensures { result ≡ is_built_form i.now }
 {
-    is_built_name(i.op)
-        && is_built_mode(i.ea.mode)
-        && is_built_operand(i.a)
-        && is_built_operand(i.b)
-        && is_built_operand(i.c)
+    is_built_name(i.op) && is_built_operand(i.a) && is_built_operand(i.b) && is_built_operand(i.c)
 }
 
 /// What the data access of an instruction has to be aligned to.
@@ -47,7 +59,10 @@ pub(crate) fn access_size(op: Op) -> u32
     ensures some { 0 < result }
 {
     match op {
+        Op::Ldos | Op::Ldis | Op::Stos | Op::Stis => 2,
         Op::Ld | Op::St => 4,
+        Op::Ldl | Op::Stl => 8,
+        Op::Ldt | Op::Ldq | Op::Stt | Op::Stq => 16,
         _ => 1,
     }
 }

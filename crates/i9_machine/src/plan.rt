@@ -1,26 +1,29 @@
 //! What an instruction will do.
-ghost use Rattle.std.specs.Prelude.{◌≡◌, ◌+◌, ◌%◌, ◌^◌, ◌<◌, ◌∷◌, [], ◌≤◌, ◌==◌, not, Some, length, replicate};
+ghost use Rattle.std.specs.Prelude.{◌≡◌, ◌+◌, ◌*◌, ◌%◌, ◌^◌, ◌<◌, ◌∷◌, ◌++◌, [], ◌≤◌, ◌==◌, not, Some, length, replicate};
 ghost use Rattle.i9_memory.specs.Memory.{memory_of};
 ghost use Rattle.i9_watch.specs.Watch.{frames_of};
-ghost use Rattle.i9_model.specs.Memory.{word_in, word_bytes, words_in};
-ghost use Rattle.i9_model.specs.Operands.{address, number_of};
-ghost use Rattle.i9_model.specs.Step.{following, setting, storing, answer_in, answering, destination, group_sets, modified, modac_action, modtc_action, frame_sets, saved_local, saved_locals, call_action, ret_action, action_by};
+ghost use Rattle.i9_model.specs.Memory.{half_bytes, word_bytes, words_in};
+ghost use Rattle.i9_model.specs.Operands.{address, value, source_words, number_of, target};
+ghost use Rattle.i9_model.specs.Step.{following, setting, extended, loaded, loading, bytes_of_words, stored_of, storing, merged, atomic_address, atomic, branching, linking, other_action, answer_in, answering, destination, group_sets, modified, modac_action, modtc_action, frame_sets, saved_local, saved_locals, call_action, ret_action, action_by};
 ghost use Rattle.i9_isa.specs.Operands.{words_written};
-ghost use Rattle.i9_model.specs.Access.{NoAccess, Reads, Writes, SavesAt, ReturnsTo, access_by};
+ghost use Rattle.i9_model.specs.Access.{Reads, Writes, Changes, SavesAt, ReturnsTo, access_by};
 ghost use Rattle.i9_model.specs.Frames.{rounded_down};
-ghost use Rattle.i9_machine.specs.Built.{IsBuilt};
+ghost use Rattle.i9_model.specs.State.{aligned};
+ghost use Rattle.i9_model.specs.Writes.{wrapped};
+ghost use Rattle.i9_machine.specs.Built.{IsBuilt, IsSource};
 ghost use Rattle.i9_machine.specs.Effect.{AreRegisters, CanMove, IsEffect, IsPlanFor, move_in};
 ghost use Rattle.i9_machine.specs.Line.{drained_of};
 
+use crate::built::asks;
 use crate::effect::{Effect, MOST_BYTES, MOST_SETS, Move};
 use crate::line::Point;
 use crate::processor::Processor;
 use crate::registers::number_of;
 use arrayvec::ArrayVec;
-use i9_exec::{has_result, results_by_name};
+use i9_exec::{branch, has_result, results_by_name};
 use i9_isa::{Inst, Op, Operand, Use, row, word_count};
 use i9_model::Push;
-use i9_model::layout::{AC_MASK, FP, LOCALS, PFP, RIP, SP, TC_MASK};
+use i9_model::layout::{AC_MASK, FP, LINK, LOCALS, PFP, RIP, SP, TC_MASK};
 
 /// One register that is set.
 fn one_set(r: u8, v: u32) -> ArrayVec<(u8, u32), MOST_SETS>
@@ -60,11 +63,73 @@ fn frame_sets(locals: &[u32], frame: u32) -> ArrayVec<(u8, u32), MOST_SETS>
 }
 
 /// Controls with other bits where a mask has them, of which some are kept.
-#[tactic(auto, unfolding(i9_model::specs::Numbers::complement))]
 fn modified(old: u32, mask: u32, bits: u32, kept: u32) -> u32
     ensures { result ≡ modified old mask bits kept }
 {
-    (bits & mask | old & !mask) & kept
+    merged(old, mask, bits) & kept
+}
+
+/// An old word with other bits where a mask has them.
+#[tactic(auto, unfolding(i9_model::specs::Numbers::complement))]
+fn merged(old: u32, mask: u32, bits: u32) -> u32
+    ensures { result ≡ merged old mask bits }
+{
+    bits & mask | old & !mask
+}
+
+/// The address with its low two bits cleared.
+fn aligned(a: u32) -> u32
+    ensures { result ≡ aligned a }
+{
+    a - a % 4
+}
+
+/// The address of a word of a group.
+fn word_address(a: u32, k: usize) -> u32
+    requires { k < 16 }
+    ensures { result ≡ wrapped (a + 4 * k) }
+{
+    a.wrapping_add(4 * k as u32)
+}
+
+/// One word.
+fn one_word(v: u32) -> ArrayVec<u32, 4>
+    ensures { result.items ≡ v ∷ [] }
+{
+    let mut words = ArrayVec::new();
+    words.push(v);
+    words
+}
+
+/// A byte with its sign above.
+fn extended_byte(v: u8) -> u32
+    ensures { result ≡ extended 8 v }
+{
+    let word = u32::from(v);
+    if word < 128 { word } else { word + 0xFFFF_FF00 }
+}
+
+/// A half with its sign above.
+fn extended_half(v: u16) -> u32
+    ensures { result ≡ extended 16 v }
+{
+    let word = u32::from(v);
+    if word < 32_768 {
+        word
+    } else {
+        word + 0xFFFF_0000
+    }
+}
+
+/// Bytes are appended for which there is room.
+#[tactic(auto, using(crate::proofs::Transfers::append_rules))]
+fn append(bytes: &mut ArrayVec<u8, MOST_BYTES>, more: &[u8])
+    requires { length bytes.old.items + length more.now ≤ MOST_BYTES }
+    ensures { bytes.new.items ≡ bytes.old.items ++ more.now }
+{
+    for b in more {
+        bytes.push(*b);
+    }
 }
 
 /// Whether a use writes registers.
@@ -213,17 +278,57 @@ impl Processor {
         }
     }
 
-    /// A register is loaded.
-    fn plan_load(&self, i: &Inst) -> Result<Effect, u32>
+    /// So many words from an address up.
+    #[tactic(auto, using(crate::proofs::Frames::frame_rules))]
+    fn words(&self, a: u32, n: usize) -> ArrayVec<u32, 4>
+        requires { n ≤ 4 }
+        ensures { result.items ≡ words_in (memory_of self.now.memory) a n }
+    {
+        let mut words = ArrayVec::new();
+        for k in 0..n {
+            words.push(self.memory.word(word_address(a, k)));
+        }
+        words
+    }
+
+    /// The words that a load reads.
+    fn loaded(&self, op: Op, a: u32) -> ArrayVec<u32, 4>
+        ensures { result.items ≡ loaded op (memory_of self.now.memory) a }
+    {
+        match op {
+            Op::Ldob => one_word(u32::from(self.memory.byte(a))),
+            Op::Ldib => one_word(extended_byte(self.memory.byte(a))),
+            Op::Ldos => one_word(u32::from(self.memory.half(a))),
+            Op::Ldis => one_word(extended_half(self.memory.half(a))),
+            Op::Ld => self.words(a, 1),
+            Op::Ldl => self.words(a, 2),
+            Op::Ldt => self.words(a, 3),
+            Op::Ldq => self.words(a, 4),
+            _ => ArrayVec::new(),
+        }
+    }
+
+    /// Registers are loaded from so many bytes.
+    #[tactic(auto, using(crate::proofs::Transfers::load_rules))]
+    fn plan_load(&self, i: &Inst, n: u32) -> Result<Effect, u32>
         requires { IsBuilt i.now }
-        ensures { IsPlanFor (state_of self.now) (Reads (address (state_of self.now) i.now.ea) 4)
-            (setting i.now (state_of self.now) ((number_of i.now.c, word_in (memory_of self.now.memory) (address (state_of self.now) i.now.ea)) ∷ [])) result }
+        ensures { IsPlanFor (state_of self.now) (Reads (address (state_of self.now) i.now.ea) n) (loading i.now.op i.now (state_of self.now)) result }
     {
         let a = self.address(&i.ea);
-        match self.watch.check_read(a, 4) {
-            Some(hazard) => Err(hazard),
-            None => Ok(self.setting(i, number_of(i.c), self.memory.word(a))),
+        if let Some(hazard) = self.watch.check_read(a, n) {
+            return Err(hazard);
         }
+        let words = self.loaded(i.op, a);
+        Ok(Effect {
+            sets: group_sets(number_of(i.c), words.as_slice()),
+            address: 0,
+            bytes: ArrayVec::new(),
+            frames: Move::Stays,
+            ac: self.ac,
+            tc: self.tc,
+            point: None,
+            next: self.following(i),
+        })
     }
 
     /// The bytes of a word that is stored.
@@ -245,25 +350,174 @@ impl Processor {
         bytes
     }
 
-    /// Bytes are stored.
-    fn plan_store(&self, i: &Inst, bytes: ArrayVec<u8, MOST_BYTES>) -> Result<Effect, u32>
+    /// The bytes of a half that is stored.
+    #[tactic(auto, unfolding(i9_model::specs::Memory::half_bytes))]
+    fn half_bytes(&self, a: u32, v: u16) -> ArrayVec<u8, MOST_BYTES>
+        ensures { result.items ≡ half_bytes (memory_of self.now.memory) a v }
+    {
+        let [b0, b1] = if self.memory.big((a / 268_435_456) as u8) {
+            v.to_be_bytes()
+        } else {
+            v.to_le_bytes()
+        };
+        let mut bytes = ArrayVec::new();
+        bytes.push(b0);
+        bytes.push(b1);
+        bytes
+    }
+
+    /// The bytes of so many words of a source that are stored.
+    #[tactic(auto, using(crate::proofs::Transfers::store_rules))]
+    fn words_bytes(&self, o: Operand, a: u32, n: usize) -> ArrayVec<u8, MOST_BYTES>
+        requires source { IsSource o }
+        requires few { n ≤ 4 }
+        ensures { result.items ≡ bytes_of_words (memory_of self.now.memory) a (source_words (state_of self.now) o n) }
+    {
+        let mut bytes = ArrayVec::new();
+        for k in 0..n {
+            let word = self.word_bytes(word_address(a, k), self.word_of(o, k));
+            append(&mut bytes, word.as_slice());
+        }
+        bytes
+    }
+
+    /// The bytes that a store writes.
+    fn stored(&self, op: Op, o: Operand, a: u32) -> ArrayVec<u8, MOST_BYTES>
+        requires { IsSource o }
+        ensures { result.items ≡ stored_of op (state_of self.now) o a }
+    {
+        match op {
+            Op::Stob | Op::Stib => one_byte((self.value(o) % 256) as u8),
+            Op::Stos | Op::Stis => self.half_bytes(a, (self.value(o) % 65_536) as u16),
+            Op::St => self.words_bytes(o, a, 1),
+            Op::Stl => self.words_bytes(o, a, 2),
+            Op::Stt => self.words_bytes(o, a, 3),
+            Op::Stq => self.words_bytes(o, a, 4),
+            _ => ArrayVec::new(),
+        }
+    }
+
+    /// Registers are stored to so many bytes.
+    fn plan_store(&self, i: &Inst, n: u32) -> Result<Effect, u32>
         requires { IsBuilt i.now }
-        ensures { IsPlanFor (state_of self.now) (Writes (address (state_of self.now) i.now.ea) (length bytes.items))
-            (storing i.now (state_of self.now) (address (state_of self.now) i.now.ea) bytes.items) result }
+        ensures { IsPlanFor (state_of self.now) (Writes (address (state_of self.now) i.now.ea) n) (storing i.now.op i.now (state_of self.now)) result }
     {
         let a = self.address(&i.ea);
-        match self.watch.check_write(a, bytes.len() as u32) {
-            Some(hazard) => Err(hazard),
-            None => Ok(Effect {
-                sets: ArrayVec::new(),
-                address: a,
-                bytes,
-                frames: Move::Stays,
-                ac: self.ac,
-                tc: self.tc,
-                point: None,
-                next: self.following(i),
-            }),
+        if let Some(hazard) = self.watch.check_write(a, n) {
+            return Err(hazard);
+        }
+        Ok(Effect {
+            sets: ArrayVec::new(),
+            address: a,
+            bytes: self.stored(i.op, i.c, a),
+            frames: Move::Stays,
+            ac: self.ac,
+            tc: self.tc,
+            point: None,
+            next: self.following(i),
+        })
+    }
+
+    /// The old word is answered, and a new one is stored in its place.
+    fn plan_atomic(&self, i: &Inst, a: u32, old: u32, new: u32) -> Result<Effect, u32>
+        requires { IsBuilt i.now }
+        ensures { IsPlanFor (state_of self.now) (Changes a 4)
+            (record (setting i.now (state_of self.now) ((number_of i.now.c, old) ∷ [])) { at = a; bytes = word_bytes (memory_of self.now.memory) a new }) result }
+    {
+        let hazard = self.watch.check_read(a, 4);
+        if let Some(hazard) = hazard.or_else(|| self.watch.check_write(a, 4)) {
+            return Err(hazard);
+        }
+        Ok(Effect {
+            sets: one_set(number_of(i.c), old),
+            address: a,
+            bytes: self.word_bytes(a, new),
+            frames: Move::Stays,
+            ac: self.ac,
+            tc: self.tc,
+            point: None,
+            next: self.following(i),
+        })
+    }
+
+    /// A word becomes its sum with src2.
+    fn plan_atadd(&self, i: &Inst) -> Result<Effect, u32>
+        requires { IsBuilt i.now }
+        ensures { IsPlanFor (state_of self.now) (Changes (atomic_address i.now (state_of self.now)) 4)
+            (atomic i.now (state_of self.now) (λ old. wrapped (old + value (state_of self.now) i.now.b))) result }
+    {
+        let a = aligned(self.value(i.a));
+        let old = self.memory.word(a);
+        self.plan_atomic(i, a, old, old.wrapping_add(self.value(i.b)))
+    }
+
+    /// A word gets the bits of src/dst where src2 has them.
+    fn plan_atmod(&self, i: &Inst) -> Result<Effect, u32>
+        requires { IsBuilt i.now }
+        ensures { IsPlanFor (state_of self.now) (Changes (atomic_address i.now (state_of self.now)) 4)
+            (atomic i.now (state_of self.now) (λ old. merged old (value (state_of self.now) i.now.b) (value (state_of self.now) i.now.c))) result }
+    {
+        let a = aligned(self.value(i.a));
+        let old = self.memory.word(a);
+        self.plan_atomic(i, a, old, merged(old, self.value(i.b), self.value(i.c)))
+    }
+
+    /// Where a branch or a call goes.
+    fn target(&self, i: &Inst) -> u32
+        ensures { result ≡ target i.now (state_of self.now) }
+    {
+        self.ip.wrapping_add_signed(i.disp)
+    }
+
+    /// A branch, or a fault instruction whose condition doesn't hold.
+    fn branching(&self, i: &Inst) -> Effect
+        requires { IsBuilt i.now }
+        ensures { IsEffect (state_of self.now) (branching i.now (state_of self.now)) result }
+    {
+        let jump = branch(i, self.value(i.a), self.value(i.b), self.ac);
+        let next = if jump.taken {
+            aligned(self.target(i))
+        } else {
+            self.following(i)
+        };
+        Effect {
+            sets: ArrayVec::new(),
+            address: 0,
+            bytes: ArrayVec::new(),
+            frames: Move::Stays,
+            ac: jump.ac,
+            tc: self.tc,
+            point: None,
+            next,
+        }
+    }
+
+    /// Control goes to an address, and registers are set.
+    fn linking(&self, i: &Inst, sets: ArrayVec<(u8, u32), MOST_SETS>, to: u32) -> Effect
+        requires { AreRegisters sets.items }
+        ensures { IsEffect (state_of self.now) (linking i.now (state_of self.now) sets.items to) result }
+    {
+        Effect {
+            sets,
+            address: 0,
+            bytes: ArrayVec::new(),
+            frames: Move::Stays,
+            ac: self.ac,
+            tc: self.tc,
+            point: None,
+            next: aligned(to),
+        }
+    }
+
+    /// A branch, or a name that goes by the table of results.
+    fn other(&self, i: &Inst) -> Effect
+        requires { IsBuilt i.now }
+        ensures { IsEffect (state_of self.now) (other_action i.now.op i.now (state_of self.now)) result }
+    {
+        if asks(i.op) {
+            self.branching(i)
+        } else {
+            self.answering(i)
         }
     }
 
@@ -298,7 +552,7 @@ impl Processor {
     {
         let mut words = ArrayVec::new();
         for k in 0..LOCALS {
-            words.push(self.memory.word(a.wrapping_add(4 * k as u32)));
+            words.push(self.memory.word(word_address(a, k)));
         }
         words
     }
@@ -311,7 +565,6 @@ impl Processor {
         let push = self
             .watch
             .plan_push(self.regs[FP as usize], self.regs[SP as usize], 0, 0)?;
-        let target = self.ip.wrapping_add_signed(i.disp);
         Ok(Effect {
             sets: frame_sets(&new_locals(&push), push.frame),
             address: 0,
@@ -323,7 +576,7 @@ impl Processor {
             ac: self.ac,
             tc: self.tc,
             point: None,
-            next: target - target % 4,
+            next: aligned(self.target(i)),
         })
     }
 
@@ -344,7 +597,7 @@ impl Processor {
             ac: self.ac,
             tc: self.tc,
             point: None,
-            next: back - back % 4,
+            next: aligned(back),
         })
     }
 
@@ -355,16 +608,34 @@ impl Processor {
     {
         match i.op {
             Op::Lda => Ok(self.setting(i, number_of(i.c), self.address(&i.ea))),
-            Op::Ld => self.plan_load(i),
-            Op::St => self.plan_store(i, self.word_bytes(self.address(&i.ea), self.value(i.c))),
-            Op::Stob => self.plan_store(i, one_byte((self.value(i.c) % 256) as u8)),
+            Op::Ldob | Op::Ldib => self.plan_load(i, 1),
+            Op::Ldos | Op::Ldis => self.plan_load(i, 2),
+            Op::Ld => self.plan_load(i, 4),
+            Op::Ldl => self.plan_load(i, 8),
+            Op::Ldt => self.plan_load(i, 12),
+            Op::Ldq => self.plan_load(i, 16),
+            Op::Stob | Op::Stib => self.plan_store(i, 1),
+            Op::Stos | Op::Stis => self.plan_store(i, 2),
+            Op::St => self.plan_store(i, 4),
+            Op::Stl => self.plan_store(i, 8),
+            Op::Stt => self.plan_store(i, 12),
+            Op::Stq => self.plan_store(i, 16),
+            Op::Atadd => self.plan_atadd(i),
+            Op::Atmod => self.plan_atmod(i),
+            Op::Bx => Ok(self.linking(i, ArrayVec::new(), self.address(&i.ea))),
+            Op::Balx => Ok(self.linking(
+                i,
+                one_set(number_of(i.c), self.following(i)),
+                self.address(&i.ea),
+            )),
+            Op::Bal => Ok(self.linking(i, one_set(LINK, self.following(i)), self.target(i))),
             Op::Call => self.plan_call(i),
             Op::Ret => self.plan_return(i),
             Op::Flushreg => Ok(self.draining(i, Move::Flushes, Point::Flush)),
             Op::Syncf => Ok(self.draining(i, Move::Stays, Point::Sync)),
             Op::Modac => Ok(self.plan_modac(i)),
             Op::Modtc => Ok(self.plan_modtc(i)),
-            _ => Ok(self.answering(i)),
+            _ => Ok(self.other(i)),
         }
     }
 }

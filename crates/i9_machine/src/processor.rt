@@ -10,7 +10,7 @@ ghost use Rattle.i9_model.specs.Writes.{wrapped};
 ghost use Rattle.i9_model.specs.Hazards.{read_hazard};
 ghost use Rattle.i9_model.specs.Operands.{value, word_of, address};
 ghost use Rattle.i9_model.specs.Step.{second_word, answer_in};
-ghost use Rattle.i9_model.specs.Unbuilt.{is_built, is_built_mode, is_unaligned, is_other_return, is_faulty};
+ghost use Rattle.i9_model.specs.Unbuilt.{is_built, is_unaligned, is_other_return, is_faulty, is_raised};
 ghost use Rattle.i9_model.specs.Results.{has_result, destination_words};
 ghost use Rattle.i9_exec.specs.Shown.{answer_of};
 ghost use Rattle.i9_model.specs.Overlay.{overlay};
@@ -18,14 +18,14 @@ ghost use Rattle.i9_model.specs.PrintedText.{view_of};
 ghost use Rattle.i9_machine.specs.Built.{IsBuilt, IsSource};
 ghost use Rattle.i9_machine.specs.Issue.{TellsIssue};
 
-use crate::built::{access_size, is_built_form, is_local_return};
+use crate::built::{access_size, is_built_form, is_fault_name, is_local_return};
 use crate::line::Issued;
 use crate::load::load;
 use crate::registers::boot_registers;
 use i9_decode::decode;
-use i9_exec::{Done, compute, has_result, results_by_name};
+use i9_exec::{Done, address, branch, compute, has_result, results_by_name};
 use i9_hex::Segments;
-use i9_isa::{Ea, Inst, Mode, NoMemory, Op, Operand, word_count};
+use i9_isa::{Ea, Inst, NoMemory, Op, Operand, word_count};
 use i9_memory::Memory;
 use i9_model::View;
 use i9_model::layout::{BOOT_PC, FIRST_INSTRUCTION, PFP};
@@ -83,15 +83,16 @@ impl Processor {
 
     /// The effective address.
     pub(crate) fn address(&self, e: &Ea) -> u32
-        requires mode { is_built_mode e.now.mode ≡ true }
         requires base { e.now.base < 32 }
-        requires disp { e.now.disp < 2 ^ 32 }
+        requires index { e.now.index < 32 }
         ensures { result ≡ address (state_of self.now) e.now }
     {
-        match e.mode {
-            Mode::BaseOffset => self.regs[e.base as usize].wrapping_add(e.disp),
-            _ => e.disp,
-        }
+        address(
+            e,
+            self.regs[e.base as usize],
+            self.regs[e.index as usize],
+            self.ip,
+        )
     }
 
     /// Whether an instruction has a data access that isn't aligned.
@@ -104,7 +105,7 @@ impl Processor {
 
     /// A word of a source of several.
     #[tactic(auto, using(crate::proofs::RegisterList::register_rules))]
-    fn word_of(&self, o: Operand, k: usize) -> u32
+    pub(crate) fn word_of(&self, o: Operand, k: usize) -> u32
         requires source { IsSource o }
         requires few { k < 4 }
         ensures { result ≡ word_of (state_of self.now) o k }
@@ -154,6 +155,14 @@ impl Processor {
         self.answer(i).fault.is_some()
     }
 
+    /// Whether an instruction is a fault instruction whose condition holds.
+    fn is_raised(&self, i: &Inst) -> bool
+        requires { IsBuilt i.now }
+        ensures { result ≡ is_raised i.now (state_of self.now) }
+    {
+        is_fault_name(i.op) && branch(i, self.value(i.a), self.value(i.b), self.ac).taken
+    }
+
     /// Whether an instruction is a return of a type that is not built.
     fn is_other_return(&self, op: Op) -> bool
         ensures { result ≡ is_other_return op (state_of self.now) }
@@ -177,7 +186,7 @@ impl Processor {
         if self.is_unaligned(&i) || self.is_other_return(i.op) || self.is_faulty(&i) {
             return None;
         }
-        if self.pc % 2 == 1 {
+        if self.is_raised(&i) || self.pc % 2 == 1 {
             return None;
         }
         Some(i)

@@ -1,16 +1,18 @@
 -- Frames along a run are sound.
-use Rattle.std.proofs.Common.{◌≡◌, ℕ, Bool, true, false, cond, eqb, List, [], ◌∷◌, length, Option, Some, None, refl, sym, subst}
-use Rattle.std.specs.Int.{w32, to_le_bytes, to_be_bytes}
+use Rattle.std.proofs.Common.{◌≡◌, ℕ, ◌+◌, ◌*◌, ◌%◌, ◌^◌, Bool, true, false, cond, eqb, List, [], ◌∷◌, length, Option, Some, None, refl, sym, ◌∙◌, subst, arith}
+use Rattle.std.proofs.lemmas.List.{length-append}
+use Rattle.std.specs.Int.{w16, w32, to_le_bytes, to_be_bytes}
 use Rattle.i9_isa.specs.declared.op.Op.{Op}
-use Rattle.i9_isa.specs.declared.op.Op.TheVariants.{St, Stob, Call, Ret, Flushreg}
+use Rattle.i9_isa.specs.declared.op.Op.TheVariants.{Stob, Stib, Stos, Stis, St, Stl, Stt, Stq, Atadd, Atmod, Call, Ret, Flushreg}
 use Rattle.i9_isa.specs.declared.inst.Inst.{Inst}
-use Rattle.i9_model.specs.Memory.{Memory, region_of, is_big, word_bytes}
+use Rattle.i9_model.specs.Writes.{wrapped}
+use Rattle.i9_model.specs.Memory.{Memory, region_of, is_big, half_bytes, word_in, word_bytes}
 use Rattle.i9_model.specs.State.{State, Frames, boot}
 use Rattle.i9_model.specs.Frames.{saved, returned, flushed, wrote, rounded_down}
-use Rattle.i9_model.specs.Hazards.{write_hazard}
-use Rattle.i9_model.specs.Operands.{value, address}
-use Rattle.i9_model.specs.Step.{action_by, action_of, acted}
-use Rattle.i9_model.specs.Access.{access_by, hazard_in, hazard_of, fetch_hazard}
+use Rattle.i9_model.specs.Hazards.{or_else, read_hazard, write_hazard}
+use Rattle.i9_model.specs.Operands.{value, source_words, address}
+use Rattle.i9_model.specs.Step.{bytes_of_words, stored_of, merged, atomic_address, atomic, action_by, action_of, acted}
+use Rattle.i9_model.specs.Access.{Changes, access_by, hazard_in, hazard_of, fetch_hazard}
 use Rattle.i9_model.specs.Unbuilt.{fetched}
 use Rattle.i9_model.specs.Sound.{IsSound}
 use Rattle.i9_model.specs.Run.{Finish, Limit, Record, record_of, Does, Ends, state_after, due_after, next_by_access, next_by_word, next_by_fetch, next_in, IsPast}
@@ -33,14 +35,51 @@ four_bytes : (m : Memory) (a v : ℕ) → length (word_bytes m a v) ≡ 4
 unfolding word_bytes
 four_bytes m a v = four_by (is_big m (region_of a)) v
 
-sound-word : (s : Frames) (m : Memory) (a v : ℕ) → IsSound s → write_hazard s a 4 ≡ None → IsSound (wrote s a (length (word_bytes m a v)))
-sound-word s m a v sound none = subst (λ (n : ℕ). IsSound (wrote s a n)) (sym (four_bytes m a v)) (sound-wrote s a 4 sound none)
+two_by : (b : Bool) (v : ℕ) → length (cond b (to_be_bytes w16 v) (to_le_bytes w16 v)) ≡ 2
+two_by true v = refl
+two_by false v = refl
+
+two_bytes : (m : Memory) (a v : ℕ) → length (half_bytes m a v) ≡ 2
+unfolding half_bytes
+two_bytes m a v = two_by (is_big m (region_of a)) v
+
+-- words have four bytes each
+pub words_long : (m : Memory) (a : ℕ) (ws : List ℕ) → length (bytes_of_words m a ws) ≡ 4 * length ws
+unfolding bytes_of_words
+words_long m a [] = refl
+words_long m a (w ∷ ws) =
+    let rest = words_long m (wrapped (a + 4)) ws in
+    let first = four_bytes m a w in
+    length-append (word_bytes m a w) (bytes_of_words m (wrapped (a + 4)) ws) ∙ omega (arith, first, rest)
+
+-- bytes are stored that meet no live frame
+sound-sized : (s : Frames) (a : ℕ) (bs : List ℕ) (n : ℕ) → length bs ≡ n → IsSound s → write_hazard s a n ≡ None → IsSound (wrote s a (length bs))
+sound-sized s a bs n e sound none = subst (λ (k : ℕ). IsSound (wrote s a k)) (sym e) (sound-wrote s a n sound none)
+
+second_none : (o p : Option ℕ) → or_else o p ≡ None → p ≡ None
+second_none None p e = e
+second_none (Some a) p e = absurd cc
+
+sound-atomic : (i : Inst) (s : State) (change : ℕ → ℕ) → IsSound s.frames → hazard_in s.frames (Changes (atomic_address i s) 4) ≡ None → IsSound (acted s (atomic i s change)).frames
+unfolding acted
+sound-atomic i s change sound none =
+    let a = atomic_address i s in
+    let new = change (word_in s.memory a) in
+    sound-sized s.frames a (word_bytes s.memory a new) 4 (four_bytes s.memory a new) sound (second_none (read_hazard s.frames a 4) (write_hazard s.frames a 4) none)
 
 -- an action whose access meets no hazard keeps frames sound
 sound-by : (op : Op) (i : Inst) (s : State) → IsSound s.frames → hazard_in s.frames (access_by op i s) ≡ None → IsSound (acted s (action_by op i s)).frames
 unfolding acted
-sound-by St i s sound none = sound-word s.frames s.memory (address s i.ea) (value s i.c) sound none
 sound-by Stob i s sound none = sound-wrote s.frames (address s i.ea) 1 sound none
+sound-by Stib i s sound none = sound-wrote s.frames (address s i.ea) 1 sound none
+sound-by Stos i s sound none = sound-sized s.frames (address s i.ea) (stored_of Stos s i.c (address s i.ea)) 2 (two_bytes s.memory (address s i.ea) (value s i.c % 2 ^ 16)) sound none
+sound-by Stis i s sound none = sound-sized s.frames (address s i.ea) (stored_of Stis s i.c (address s i.ea)) 2 (two_bytes s.memory (address s i.ea) (value s i.c % 2 ^ 16)) sound none
+sound-by St i s sound none = sound-sized s.frames (address s i.ea) (stored_of St s i.c (address s i.ea)) 4 (words_long s.memory (address s i.ea) (source_words s i.c 1)) sound none
+sound-by Stl i s sound none = sound-sized s.frames (address s i.ea) (stored_of Stl s i.c (address s i.ea)) 8 (words_long s.memory (address s i.ea) (source_words s i.c 2)) sound none
+sound-by Stt i s sound none = sound-sized s.frames (address s i.ea) (stored_of Stt s i.c (address s i.ea)) 12 (words_long s.memory (address s i.ea) (source_words s i.c 3)) sound none
+sound-by Stq i s sound none = sound-sized s.frames (address s i.ea) (stored_of Stq s i.c (address s i.ea)) 16 (words_long s.memory (address s i.ea) (source_words s i.c 4)) sound none
+sound-by Atadd i s sound none = sound-atomic i s (λ old. wrapped (old + value s i.b)) sound none
+sound-by Atmod i s sound none = sound-atomic i s (λ old. merged old (value s i.b) (value s i.c)) sound none
 sound-by Call i s sound none = sound-stays (saved s.frames (rounded_down (s.regs FP))) (sound-saved s.frames (rounded_down (s.regs FP)) sound none)
 sound-by Ret i s sound none = sound-stays (returned s.frames) (sound-returned s.frames sound)
 sound-by Flushreg i s sound none = sound-stays (flushed s.frames) (sound-flushed s.frames sound)

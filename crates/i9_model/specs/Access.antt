@@ -1,7 +1,7 @@
 -- The accesses of an instruction in a state, and the first hazard that they meet.
 use Rattle.std.specs.Prelude.{ℕ, ◌+◌, ◌==◌, if◌then◌else◌, Option, None, Result, Ok, Err}
 use Rattle.i9_isa.specs.declared.op.Op.{Op}
-use Rattle.i9_isa.specs.declared.op.Op.TheVariants.{Ld, St, Stob, Call, Ret}
+use Rattle.i9_isa.specs.declared.op.Op.TheVariants.{Ldob, Ldib, Ldos, Ldis, Ld, Ldl, Ldt, Ldq, Stob, Stib, Stos, Stis, St, Stl, Stt, Stq, Atadd, Atmod, Call, Ret}
 use Rattle.i9_isa.specs.declared.inst.Inst.{Inst}
 use Rattle.i9_isa.specs.declared.inst.BadWord.{BadWord}
 use Rattle.i9_isa.specs.Words.{words_of, decoded}
@@ -11,20 +11,36 @@ use Rattle.i9_model.specs.State.{State, Frames}
 use Rattle.i9_model.specs.Frames.{rounded_down}
 use Rattle.i9_model.specs.Hazards.{or_else, read_hazard, write_hazard, save_hazard, return_hazard}
 use Rattle.i9_model.specs.Operands.{address}
-use Rattle.i9_model.specs.Step.{first_word, next_word}
+use Rattle.i9_model.specs.Step.{first_word, next_word, atomic_address}
 
--- a read or a write of so many bytes, a save area, or a frame that is returned to
+-- a read or a write of so many bytes, both after one another, a save area, or a frame that is returned to
 pub data Access : Type 0 where
   NoAccess : Access
   Reads : (address : ℕ) → (count : ℕ) → Access
   Writes : (address : ℕ) → (count : ℕ) → Access
+  Changes : (address : ℕ) → (count : ℕ) → Access
   SavesAt : (address : ℕ) → Access
   ReturnsTo : (address : ℕ) → Access
 
 abbrev pub access_by : Op → Inst → State → Access
+access_by Ldob i s = Reads (address s i.ea) 1
+access_by Ldib i s = Reads (address s i.ea) 1
+access_by Ldos i s = Reads (address s i.ea) 2
+access_by Ldis i s = Reads (address s i.ea) 2
 access_by Ld i s = Reads (address s i.ea) 4
-access_by St i s = Writes (address s i.ea) 4
+access_by Ldl i s = Reads (address s i.ea) 8
+access_by Ldt i s = Reads (address s i.ea) 12
+access_by Ldq i s = Reads (address s i.ea) 16
 access_by Stob i s = Writes (address s i.ea) 1
+access_by Stib i s = Writes (address s i.ea) 1
+access_by Stos i s = Writes (address s i.ea) 2
+access_by Stis i s = Writes (address s i.ea) 2
+access_by St i s = Writes (address s i.ea) 4
+access_by Stl i s = Writes (address s i.ea) 8
+access_by Stt i s = Writes (address s i.ea) 12
+access_by Stq i s = Writes (address s i.ea) 16
+access_by Atadd i s = Changes (atomic_address i s) 4
+access_by Atmod i s = Changes (atomic_address i s) 4
 access_by Call i s = SavesAt (rounded_down (s.regs FP))
 access_by Ret i s = ReturnsTo (rounded_down (s.regs PFP))
 access_by _ i s = NoAccess
@@ -33,6 +49,7 @@ abbrev pub hazard_in : Frames → Access → Option ℕ
 hazard_in f NoAccess = None
 hazard_in f (Reads a n) = read_hazard f a n
 hazard_in f (Writes a n) = write_hazard f a n
+hazard_in f (Changes a n) = or_else (read_hazard f a n) (write_hazard f a n)
 hazard_in f (SavesAt a) = save_hazard f a
 hazard_in f (ReturnsTo a) = return_hazard f a
 

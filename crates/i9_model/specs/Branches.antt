@@ -53,6 +53,11 @@ question_of Cmpible = OfSigned 6
 question_of Cmpibo = OfSigned 7
 question_of _ = Never
 
+-- something is asked
+abbrev pub asks : Question → Bool
+asks Never = false
+asks _ = true
+
 -- the condition code after a question of a and b
 abbrev pub code_after : Question → ℕ → ℕ → ℕ → ℕ
 code_after (OfBit wanted) a b code = code_where (bit_in b a)

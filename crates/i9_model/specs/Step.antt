@@ -1,21 +1,22 @@
 -- One instruction in a state: what it does is data, and one function applies it.
-use Rattle.std.specs.Prelude.{ℕ, ◌+◌, ◌*◌, ◌%◌, ◌^◌, ◌==◌, if◌then◌else◌, bit_and, bit_or, List, [], ◌∷◌, ◌++◌, length, map, replicate, Option, Some, None}
+use Rattle.std.specs.Prelude.{ℕ, ◌+◌, ◌-◌, ◌*◌, nat_lt, ◌%◌, ◌^◌, ◌==◌, if◌then◌else◌, bit_and, bit_or, List, [], ◌∷◌, ◌++◌, length, map, replicate, Option, Some, None}
 use Rattle.std.specs.List.{range_with_len}
 use Rattle.i9_isa.specs.declared.op.Op.{Op}
-use Rattle.i9_isa.specs.declared.op.Op.TheVariants.{Lda, Ld, St, Stob, Call, Ret, Flushreg, Syncf, Modac, Modtc}
+use Rattle.i9_isa.specs.declared.op.Op.TheVariants.{Lda, Ldob, Ldib, Ldos, Ldis, Ld, Ldl, Ldt, Ldq, Stob, Stib, Stos, Stis, St, Stl, Stt, Stq, Atadd, Atmod, Bx, Balx, Bal, Call, Ret, Flushreg, Syncf, Modac, Modtc}
 use Rattle.i9_isa.specs.declared.inst.Operand.{Operand}
 use Rattle.i9_isa.specs.declared.inst.Inst.{Inst}
 use Rattle.i9_isa.specs.Operands.{words_written}
 use Rattle.i9_isa.specs.Table.{row_of}
 use Rattle.i9_isa.specs.Words.{words_of}
-use Rattle.i9_model.specs.declared.layout.TheConstants.{LOCALS, PFP, SP, RIP, FP, AC_MASK, TC_MASK}
+use Rattle.i9_model.specs.declared.layout.TheConstants.{LOCALS, PFP, SP, RIP, LINK, FP, AC_MASK, TC_MASK}
 use Rattle.i9_model.specs.Writes.{wrapped, written, pairs_at}
-use Rattle.i9_model.specs.Memory.{Memory, word_in, word_bytes, words_in, with_bytes, with_words}
+use Rattle.i9_model.specs.Memory.{Memory, half_in, half_bytes, word_in, word_bytes, words_in, with_bytes, with_words}
 use Rattle.i9_model.specs.State.{State, Frames, aligned}
 use Rattle.i9_model.specs.Frames.{pushed, rounded_down, saved, returned, flushed, wrote}
 use Rattle.i9_model.specs.Operands.{value, source_words, number_of, address, target}
 use Rattle.i9_model.specs.Numbers.{complement}
 use Rattle.i9_model.specs.Results.{Answer, results}
+use Rattle.i9_model.specs.Branches.{question_of, asks, branch_controls, is_taken}
 
 -- ---- what an instruction does
 
@@ -52,9 +53,78 @@ following i s = wrapped (s.ip + 4 * words_of i)
 abbrev pub setting : Inst → State → List (ℕ × ℕ) → Action
 setting i s sets = record { sets = sets; at = 0; bytes = []; move = Stays; ac = s.ac; tc = s.trace.tc; point = None; next = following i s }
 
--- bytes are stored, and nothing else
-abbrev pub storing : Inst → State → ℕ → List ℕ → Action
-storing i s a bytes = record (setting i s []) { at = a; bytes = bytes }
+-- ---- loads, stores and atomics
+
+-- words go to registers from one up
+abbrev pub group_sets : ℕ → List ℕ → List (ℕ × ℕ)
+group_sets r vs = pairs_at (λ k. k) r vs
+
+-- a number of so many bits in two's complement, as a word
+abbrev pub extended : ℕ → ℕ → ℕ
+extended width v = if nat_lt v (2 ^ (width - 1)) then v else v + 2 ^ 32 - 2 ^ width
+
+-- the words that a load reads: bytes and halves with zeros or the sign above, groups upwards
+abbrev pub loaded : Op → Memory → ℕ → List ℕ
+loaded Ldob m a = m.bytes a ∷ []
+loaded Ldib m a = extended 8 (m.bytes a) ∷ []
+loaded Ldos m a = half_in m a ∷ []
+loaded Ldis m a = extended 16 (half_in m a) ∷ []
+loaded Ld m a = words_in m a 1
+loaded Ldl m a = words_in m a 2
+loaded Ldt m a = words_in m a 3
+loaded Ldq m a = words_in m a 4
+loaded _ m a = []
+
+-- the bytes of words that are stored from an address up, each in the order of its own region
+unfoldable pub bytes_of_words : Memory → ℕ → List ℕ → List ℕ
+bytes_of_words m a [] = []
+bytes_of_words m a (w ∷ ws) = word_bytes m a w ++ bytes_of_words m (wrapped (a + 4)) ws
+
+-- the bytes that a store writes of its source: the low ones of a byte and of a half, groups upwards
+abbrev pub stored_of : Op → State → Operand → ℕ → List ℕ
+stored_of Stob s o a = value s o % 2 ^ 8 ∷ []
+stored_of Stib s o a = value s o % 2 ^ 8 ∷ []
+stored_of Stos s o a = half_bytes s.memory a (value s o % 2 ^ 16)
+stored_of Stis s o a = half_bytes s.memory a (value s o % 2 ^ 16)
+stored_of St s o a = bytes_of_words s.memory a (source_words s o 1)
+stored_of Stl s o a = bytes_of_words s.memory a (source_words s o 2)
+stored_of Stt s o a = bytes_of_words s.memory a (source_words s o 3)
+stored_of Stq s o a = bytes_of_words s.memory a (source_words s o 4)
+stored_of _ s o a = []
+
+abbrev pub loading : Op → Inst → State → Action
+loading op i s = setting i s (group_sets (number_of i.c) (loaded op s.memory (address s i.ea)))
+
+abbrev pub storing : Op → Inst → State → Action
+storing op i s = record (setting i s []) { at = address s i.ea; bytes = stored_of op s i.c (address s i.ea) }
+
+-- an old word with other bits where a mask has them
+abbrev pub merged : ℕ → ℕ → ℕ → ℕ
+merged old mask bits = bit_or (bit_and bits mask) (bit_and old (complement mask))
+
+-- the word that an atomic instruction works on is at src1, whose low two bits are cleared
+abbrev pub atomic_address : Inst → State → ℕ
+atomic_address i s = aligned (value s i.a)
+
+-- the old word is answered, and another one stored in its place
+abbrev pub atomic : Inst → State → (ℕ → ℕ) → Action
+atomic i s change =
+    let a = atomic_address i s in
+    let old = word_in s.memory a in
+    record (setting i s ((number_of i.c, old) ∷ [])) { at = a; bytes = word_bytes s.memory a (change old) }
+
+-- ---- branches
+
+-- the condition code changes, and control goes to the target where the branch is taken
+abbrev pub branching : Inst → State → Action
+branching i s = record (setting i s []) {
+  ac = branch_controls i (value s i.a) (value s i.b) s.ac;
+  next = if is_taken i (value s i.a) (value s i.b) s.ac then aligned (target i s) else following i s;
+}
+
+-- control goes to an address, and a register gets the address behind the instruction
+abbrev pub linking : Inst → State → List (ℕ × ℕ) → ℕ → Action
+linking i s sets to = record (setting i s sets) { next = aligned to }
 
 -- ---- results
 
@@ -74,17 +144,13 @@ abbrev pub controls_of : Option Answer → ℕ → ℕ
 controls_of None ac = ac
 controls_of (Some r) ac = r.controls
 
--- words go to registers from one up
-abbrev pub group_sets : ℕ → List ℕ → List (ℕ × ℕ)
-group_sets r vs = pairs_at (λ k. k) r vs
-
 -- a result goes to the destination, and the arithmetic controls change with it
 abbrev pub answering : Inst → State → Option Answer → Action
 answering i s o = record (setting i s (group_sets (number_of (destination i)) (values_of o))) { ac = controls_of o s.ac }
 
 -- controls with other bits where a mask has them, of which some are kept
 abbrev pub modified : ℕ → ℕ → ℕ → ℕ → ℕ
-modified old mask bits kept = bit_and (bit_or (bit_and bits mask) (bit_and old (complement mask))) kept
+modified old mask bits kept = bit_and (merged old mask bits) kept
 
 -- modac and modtc answer the old controls, and change them under the mask src1
 abbrev pub modac_action : Inst → State → Action
@@ -119,21 +185,44 @@ ret_action i s =
     let a = rounded_down (s.regs PFP) in
     record (setting i s (frame_sets (words_in s.memory a LOCALS) a)) { move = Returns; next = aligned (word_in s.memory (wrapped (a + 8))) }
 
--- Each name that is built: lda sets its destination to the effective address and ld to the word there; st stores a word
--- and stob the low byte; flushreg flushes, and drains as syncf does; mark, fmark and udma do nothing while trace enable is
--- clear; the others go by the table of results.
+-- a branch, and every other name by the table of results
+abbrev pub other_action : Op → Inst → State → Action
+other_action op i s = if asks (question_of op) then branching i s else answering i s (answer_in i s)
+
+-- Each name that is built: lda sets its destination to the effective address; loads and stores go between registers and
+-- memory; atadd and atmod answer the old word and store its sum with src2, or the bits of src/dst where src2 has them; bx,
+-- balx and bal jump, and the last two link; flushreg flushes, and drains as syncf does; mark, fmark and udma do nothing
+-- while trace enable is clear; the others branch or go by the table of results.
 abbrev pub action_by : Op → Inst → State → Action
 action_by Lda i s = setting i s ((number_of i.c, address s i.ea) ∷ [])
-action_by Ld i s = setting i s ((number_of i.c, word_in s.memory (address s i.ea)) ∷ [])
-action_by St i s = storing i s (address s i.ea) (word_bytes s.memory (address s i.ea) (value s i.c))
-action_by Stob i s = storing i s (address s i.ea) (value s i.c % 2 ^ 8 ∷ [])
+action_by Ldob i s = loading Ldob i s
+action_by Ldib i s = loading Ldib i s
+action_by Ldos i s = loading Ldos i s
+action_by Ldis i s = loading Ldis i s
+action_by Ld i s = loading Ld i s
+action_by Ldl i s = loading Ldl i s
+action_by Ldt i s = loading Ldt i s
+action_by Ldq i s = loading Ldq i s
+action_by Stob i s = storing Stob i s
+action_by Stib i s = storing Stib i s
+action_by Stos i s = storing Stos i s
+action_by Stis i s = storing Stis i s
+action_by St i s = storing St i s
+action_by Stl i s = storing Stl i s
+action_by Stt i s = storing Stt i s
+action_by Stq i s = storing Stq i s
+action_by Atadd i s = atomic i s (λ old. wrapped (old + value s i.b))
+action_by Atmod i s = atomic i s (λ old. merged old (value s i.b) (value s i.c))
+action_by Bx i s = linking i s [] (address s i.ea)
+action_by Balx i s = linking i s ((number_of i.c, following i s) ∷ []) (address s i.ea)
+action_by Bal i s = linking i s ((LINK, following i s) ∷ []) (target i s)
 action_by Call i s = call_action i s
 action_by Ret i s = ret_action i s
 action_by Flushreg i s = record (setting i s []) { move = Flushes; point = Some AtFlush }
 action_by Syncf i s = record (setting i s []) { point = Some AtSync }
 action_by Modac i s = modac_action i s
 action_by Modtc i s = modtc_action i s
-action_by _ i s = answering i s (answer_in i s)
+action_by op i s = other_action op i s
 
 unfoldable pub action_of : Inst → State → Action
 action_of i s = action_by i.op i s

@@ -2,18 +2,17 @@
 use Rattle.std.specs.Prelude.{ℕ, ◌%◌, Bool, true, false, not, ◌==◌, ◌&&◌, ◌||◌, if◌then◌else◌, List, ◌++◌, Option, Some, None, is_some, Result, Ok, Err}
 use Rattle.std.specs.List.{list_any, range_with_len}
 use Rattle.i9_isa.specs.declared.op.Op.{Op}
-use Rattle.i9_isa.specs.declared.op.Op.TheVariants.{Lda, Ld, St, Stob, Call, Ret, Flushreg, Syncf, Modac, Modtc, Mark, Fmark, Udma}
+use Rattle.i9_isa.specs.declared.op.Op.TheVariants.{Ldos, Ldis, Ld, Ldl, Ldt, Ldq, Stos, Stis, St, Stl, Stt, Stq, Ret, Callx, Calls, Modpc, Sysctl, Sdma, Faultno, Faultg, Faulte, Faultge, Faultl, Faultne, Faultle, Faulto}
 use Rattle.i9_isa.specs.declared.inst.Operand.{Operand}
 use Rattle.i9_isa.specs.declared.inst.Operand.TheVariants.{Reg, Lit, Sfr}
-use Rattle.i9_isa.specs.declared.inst.Mode.{Mode}
-use Rattle.i9_isa.specs.declared.inst.Mode.TheVariants.{Offset, BaseOffset, Disp}
 use Rattle.i9_isa.specs.declared.inst.Inst.{Inst}
 use Rattle.i9_isa.specs.declared.inst.BadWord.{BadWord}
 use Rattle.i9_isa.specs.Words.{bit, decoded}
 use Rattle.i9_model.specs.declared.layout.TheConstants.{BOOT_BYTES, PRCB_POINTER, CONTROL_TABLE_SIZE, PFP}
 use Rattle.i9_model.specs.State.{State, fault_config}
-use Rattle.i9_model.specs.Operands.{address}
-use Rattle.i9_model.specs.Results.{Answer, has_result}
+use Rattle.i9_model.specs.Operands.{value, address}
+use Rattle.i9_model.specs.Results.{Answer}
+use Rattle.i9_model.specs.Branches.{is_taken}
 use Rattle.i9_model.specs.Step.{first_word, next_word, answer_in}
 
 -- ---- images
@@ -31,29 +30,14 @@ has_tables m = list_any (is_set m) boot_places
 
 -- ---- instructions
 
--- the names with a result, and these
+-- calls by table and by address, and the instructions of system control, are not
 abbrev pub is_built_name : Op → Bool
-is_built_name Lda = true
-is_built_name Ld = true
-is_built_name St = true
-is_built_name Stob = true
-is_built_name Call = true
-is_built_name Ret = true
-is_built_name Flushreg = true
-is_built_name Syncf = true
-is_built_name Modac = true
-is_built_name Modtc = true
-is_built_name Mark = true
-is_built_name Fmark = true
-is_built_name Udma = true
-is_built_name op = has_result op
-
--- an offset, a base and an offset, or a displacement
-abbrev pub is_built_mode : Mode → Bool
-is_built_mode Offset = true
-is_built_mode BaseOffset = true
-is_built_mode Disp = true
-is_built_mode _ = false
+is_built_name Callx = false
+is_built_name Calls = false
+is_built_name Modpc = false
+is_built_name Sysctl = false
+is_built_name Sdma = false
+is_built_name _ = true
 
 -- special function registers are not
 abbrev pub is_built_operand : Operand → Bool
@@ -63,12 +47,22 @@ is_built_operand (Sfr k) = false
 
 -- its form is built
 abbrev pub is_built_form : Inst → Bool
-is_built_form i = is_built_name i.op && is_built_mode i.ea.mode && is_built_operand i.a && is_built_operand i.b && is_built_operand i.c
+is_built_form i = is_built_name i.op && is_built_operand i.a && is_built_operand i.b && is_built_operand i.c
 
--- the size of a data access, which its address has to be a multiple of; 1 where there is none
+-- what the address of a data access has to be a multiple of: its size, and 16 for three words; 1 where there is none
 abbrev pub access_size : Op → ℕ
+access_size Ldos = 2
+access_size Ldis = 2
 access_size Ld = 4
+access_size Ldl = 8
+access_size Ldt = 16
+access_size Ldq = 16
+access_size Stos = 2
+access_size Stis = 2
 access_size St = 4
+access_size Stl = 8
+access_size Stt = 16
+access_size Stq = 16
 access_size _ = 1
 
 -- an access that isn't aligned faults, unless bit 30 of the fault configuration is set
@@ -88,13 +82,28 @@ abbrev pub is_faulty : Option Answer → Bool
 is_faulty None = false
 is_faulty (Some r) = is_some r.fault
 
+-- a fault instruction whose condition holds raises its fault
+abbrev pub is_fault_name : Op → Bool
+is_fault_name Faultno = true
+is_fault_name Faultg = true
+is_fault_name Faulte = true
+is_fault_name Faultge = true
+is_fault_name Faultl = true
+is_fault_name Faultne = true
+is_fault_name Faultle = true
+is_fault_name Faulto = true
+is_fault_name _ = false
+
+abbrev pub is_raised : Inst → State → Bool
+is_raised i s = is_fault_name i.op && is_taken i (value s i.a) (value s i.b) s.ac
+
 -- trace enable is bit 0 of PC
 abbrev pub is_traced : State → Bool
 is_traced s = bit s.pc 0
 
 -- the instruction is built in this state: its form is, it raises no fault, and trace enable is clear
 unfoldable pub is_built : Inst → State → Bool
-is_built i s = is_built_form i && not (is_unaligned i s) && not (is_other_return i.op s) && not (is_faulty (answer_in i s)) && not (is_traced s)
+is_built i s = is_built_form i && not (is_unaligned i s) && not (is_other_return i.op s) && not (is_faulty (answer_in i s)) && not (is_raised i s) && not (is_traced s)
 
 abbrev pub if_built : State → Result Inst BadWord → Option Inst
 if_built s (Err e) = None

@@ -50,6 +50,9 @@ pub const SP: u8 = 1;
 /// The number of the return instruction pointer, r2.
 pub const RIP: u8 = 2;
 
+/// The number of the register that bal links, g14.
+pub const LINK: u8 = 30;
+
 /// The number of the frame pointer, g15.
 pub const FP: u8 = 31;
 

@@ -1,0 +1,63 @@
+-- Words of loads and bytes of stores.
+use Rattle.std.proofs.Common.{◌≡◌, ℕ, suc, ◌+◌, ◌*◌, ◌%◌, ◌^◌, ◌<◌, ◌≤◌, List, [], ◌∷◌, ◌++◌, length, get_or, take, map, refl, sym, ap, ◌∙◌, add-one, append_assoc, append-nil, arith}
+use Rattle.std.specs.List.{range_with_len}
+use Rattle.std.proofs.lemmas.List.{take_all}
+use Rattle.std.proofs.lemmas.List.FromFn.{map-range_with_len_more, length-map-range_with_len}
+use Rattle.std.proofs.Math.Seq.{take-suc}
+use Rattle.i9_isa.specs.declared.op.Op.{Op}
+use Rattle.i9_isa.specs.declared.op.Op.TheVariants.{Ldob, Ldib, Ldos, Ldis, Ld, Ldl, Ldt, Ldq}
+use Rattle.i9_isa.specs.declared.inst.Operand.{Operand}
+use Rattle.i9_isa.specs.Operands.{words_written}
+use Rattle.i9_isa.specs.Table.{row_of}
+use Rattle.i9_model.specs.Writes.{wrapped}
+use Rattle.i9_model.specs.Memory.{Memory, word_bytes}
+use Rattle.i9_model.specs.State.{State}
+use Rattle.i9_model.specs.Operands.{word_of, source_words}
+use Rattle.i9_model.specs.Step.{loaded, bytes_of_words}
+
+-- a load reads at most as many words as its src/dst has
+pub loaded_few : (op : Op) (m : Memory) (a : ℕ) → length (loaded op m a) ≤ words_written (row_of op).c
+loaded_few Ldob m a = omega arith
+loaded_few Ldib m a = omega arith
+loaded_few Ldos m a = omega arith
+loaded_few Ldis m a = omega arith
+loaded_few Ld m a = omega arith
+loaded_few Ldl m a = omega arith
+loaded_few Ldt m a = omega arith
+loaded_few Ldq m a = omega arith
+loaded_few _ m a = omega arith
+
+pub ruleset load_rules = (loaded_few)
+
+-- one more byte
+pub append_more : (xs bs : List ℕ) (k : ℕ) → k < length bs → (xs ++ take k bs) ++ get_or bs k 0 ∷ [] ≡ xs ++ take (k + 1) bs
+append_more xs bs k h =
+    append_assoc xs (take k bs) (get_or bs k 0 ∷ [])
+    ∙ ap (λ (ys : List ℕ). xs ++ ys) (sym (ap (λ (j : ℕ). take j bs) (add-one k) ∙ take-suc bs k 0 h))
+
+pub append_all : (xs bs : List ℕ) (k : ℕ) → length bs ≤ k → xs ++ take k bs ≡ xs ++ bs
+append_all xs bs k h = ap (λ (ys : List ℕ). xs ++ ys) (take_all k bs h)
+
+pub ruleset append_rules = (append_more, append_all)
+
+-- one more word
+words_then : (m : Memory) (a : ℕ) (ws : List ℕ) (w : ℕ) → a < 2 ^ 32 → bytes_of_words m a (ws ++ w ∷ []) ≡ bytes_of_words m a ws ++ word_bytes m (wrapped (a + 4 * length ws)) w
+unfolding bytes_of_words
+words_then m a [] w h = let here : a ≡ wrapped (a + 0) = omega arith in append-nil (word_bytes m a w) ∙ ap (λ (x : ℕ). word_bytes m x w) here
+words_then m a (v ∷ ws) w h =
+    let next : wrapped (wrapped (a + 4) + 4 * length ws) ≡ wrapped (a + 4 * suc (length ws)) = omega arith in
+    ap (λ (bs : List ℕ). word_bytes m a v ++ bs) (words_then m (wrapped (a + 4)) ws w (omega arith))
+    ∙ sym (append_assoc (word_bytes m a v) (bytes_of_words m (wrapped (a + 4)) ws) (word_bytes m (wrapped (wrapped (a + 4) + 4 * length ws)) w))
+    ∙ ap (λ (x : ℕ). (word_bytes m a v ++ bytes_of_words m (wrapped (a + 4)) ws) ++ word_bytes m x w) next
+
+pub source_more : (m : Memory) (a : ℕ) (s : State) (o : Operand) (k : ℕ) → a < 2 ^ 32 → bytes_of_words m a (source_words s o (k + 1)) ≡ bytes_of_words m a (source_words s o k) ++ word_bytes m (wrapped (a + 4 * k)) (word_of s o k)
+source_more m a s o k h =
+    ap (bytes_of_words m a) (map-range_with_len_more (word_of s o) 0 k k (omega arith))
+    ∙ words_then m a (source_words s o k) (word_of s o k) h
+    ∙ ap (λ (n : ℕ). bytes_of_words m a (source_words s o k) ++ word_bytes m (wrapped (a + 4 * n)) (word_of s o k)) (length-map-range_with_len (word_of s o) 0 k)
+
+pub source_none : (m : Memory) (a : ℕ) (s : State) (o : Operand) → bytes_of_words m a (source_words s o 0) ≡ []
+unfolding bytes_of_words
+source_none m a s o = refl
+
+pub ruleset store_rules = (source_more, source_none)
