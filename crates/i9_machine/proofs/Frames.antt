@@ -10,7 +10,7 @@ use Rattle.i9_model.specs.Writes.{wrapped, pairs_at}
 use Rattle.i9_model.specs.Memory.{Memory, word_bytes, with_bytes, with_words}
 use Rattle.i9_model.specs.State.{Frames}
 use Rattle.i9_model.specs.Frames.{returned}
-use Rattle.i9_model.specs.Hazards.{push_unless}
+use Rattle.i9_model.specs.Hazards.{unless}
 use Rattle.i9_model.specs.Step.{frame_sets}
 use Rattle.i9_machine.specs.Effect.{AreRegisters}
 
@@ -66,11 +66,11 @@ pub ruleset words_rules = (with_words_more, with_words_done)
 
 -- ---- pushes and returns
 
-pub push_free : (o : Option ℕ) (p q : Push) → push_unless o p ≡ Ok q → (o ≡ None) × (p ≡ q)
+pub push_free : (o : Option ℕ) (p q : Push) → unless o p ≡ Ok q → (o ≡ None) × (p ≡ q)
 push_free None p q e = (refl, cc)
 push_free (Some a) p q e = absurd cc
 
-pub push_hazard : (o : Option ℕ) (p : Push) (a : ℕ) → push_unless o p ≡ Err a → o ≡ Some a
+pub push_hazard : (o : Option ℕ) (p : Push) (a : ℕ) → unless o p ≡ Err a → o ≡ Some a
 push_hazard None p a e = absurd cc
 push_hazard (Some b) p a e = cc
 

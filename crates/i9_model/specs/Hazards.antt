@@ -40,10 +40,11 @@ frame_hazard (f ∷ live) s a = if a == f then None else Some a
 abbrev pub return_hazard : Frames → ℕ → Option ℕ
 return_hazard s a = or_else (frame_hazard s.live s a) (port_hazard a FRAME_SIZE)
 
--- a push, or the hazard of its save area
-abbrev pub push_unless : Option ℕ → Push → Result Push ℕ
-push_unless None p = Ok p
-push_unless (Some a) p = Err a
+-- what is planned, or the hazard that it meets
+abbrev pub unless : {A : Type 0} → Option ℕ → A → Result A ℕ
+unless None p = Ok p
+unless (Some a) p = Err a
 
+-- a push, or the hazard of its save area
 abbrev pub planned_push : Frames → ℕ → ℕ → ℕ → ℕ → Result Push ℕ
-planned_push s fp base extra kind = push_unless (save_hazard s (rounded_down fp)) (pushed fp base extra kind)
+planned_push s fp base extra kind = unless (save_hazard s (rounded_down fp)) (pushed fp base extra kind)

@@ -2,9 +2,11 @@ pub mod Writes
 pub mod Image
 pub mod HexText
 pub mod Memory
+pub mod Boot
 pub mod State
 pub mod Frames
 pub mod Hazards
+pub mod Tables
 pub mod Sound
 pub mod Addresses
 pub mod Operands

@@ -22,11 +22,24 @@ pub const FIRST_INSTRUCTION: u32 = 0xFFFF_FF10;
 /// The word of the initialisation boot record with the address of the PRCB.
 pub const PRCB_POINTER: u32 = 0xFFFF_FF14;
 
+/// The bytes of the ten words of the processor control block (PRCB).
+pub const PRCB_SIZE: u32 = 40;
+
 /// The bytes of the 28 words of the control table.
 pub const CONTROL_TABLE_SIZE: u32 = 112;
 
+/// The bytes of the four words of a control group.
+pub const CONTROL_GROUP_SIZE: u32 = 16;
+
+/// The least number of register sets that the PRCB gives.
+pub const LEAST_SETS: u8 = 5;
+
 /// The process controls after boot: supervisor mode, interrupted, priority 31.
 pub const BOOT_PC: u32 = 0x001F_2002;
+
+/// The bits of the process controls that are kept: trace enable, supervisor mode, trace fault
+/// pending, interrupted, priority.
+pub const PC_MASK: u32 = 0x001F_2403;
 
 /// The bits of the arithmetic controls that are kept: condition code, overflow flag and mask, no
 /// imprecise faults.

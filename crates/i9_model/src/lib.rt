@@ -5,9 +5,11 @@ mod arith;
 mod laws;
 pub mod layout;
 mod push;
+mod setup;
 mod view;
 
 pub use arith::Arith;
 pub use laws::{every_run_ends, frames_stay_sound, live_frames_never_overlap, one_run};
 pub use push::Push;
+pub use setup::{Breaks, CONTROL_WORDS, Setup, Tables};
 pub use view::View;
