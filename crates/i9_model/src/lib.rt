@@ -4,10 +4,12 @@
 mod arith;
 mod laws;
 pub mod layout;
+mod port;
 mod push;
 mod view;
 
 pub use arith::Arith;
 pub use laws::{every_run_ends, frames_stay_sound, live_frames_never_overlap, one_run};
+pub use port::in_port_page;
 pub use push::Push;
 pub use view::View;
