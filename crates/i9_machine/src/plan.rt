@@ -157,12 +157,13 @@ fn new_locals(push: &Push) -> [u32; 16]
     [push.pfp, push.sp, 0, 0, 0, 0, 0, 0, 0, 0, 0, 0, 0, 0, 0, 0]
 }
 
-/// A single byte that is stored.
-fn one_byte(v: u8) -> ArrayVec<u8, MOST_BYTES>
-    ensures { result.items ≡ v ∷ [] }
+/// The bytes of one value, as a list.
+fn listed(value: &[u8]) -> ArrayVec<u8, MOST_BYTES>
+    requires { length value.now ≤ MOST_BYTES }
+    ensures { result.items ≡ value.now }
 {
     let mut bytes = ArrayVec::new();
-    bytes.push(v);
+    append(&mut bytes, value);
     bytes
 }
 
@@ -331,41 +332,6 @@ impl Processor {
         })
     }
 
-    /// The bytes of a word that is stored.
-    #[tactic(auto, unfolding(i9_model::specs::Memory::word_bytes))]
-    fn word_bytes(&self, a: u32, v: u32) -> ArrayVec<u8, MOST_BYTES>
-        ensures bytes { result.items ≡ word_bytes (memory_of self.now.memory) a v }
-        ensures count { length result.items ≡ 4 }
-    {
-        let [b0, b1, b2, b3] = if self.memory.big((a / 268_435_456) as u8) {
-            v.to_be_bytes()
-        } else {
-            v.to_le_bytes()
-        };
-        let mut bytes = ArrayVec::new();
-        bytes.push(b0);
-        bytes.push(b1);
-        bytes.push(b2);
-        bytes.push(b3);
-        bytes
-    }
-
-    /// The bytes of a half that is stored.
-    #[tactic(auto, unfolding(i9_model::specs::Memory::half_bytes))]
-    fn half_bytes(&self, a: u32, v: u16) -> ArrayVec<u8, MOST_BYTES>
-        ensures { result.items ≡ half_bytes (memory_of self.now.memory) a v }
-    {
-        let [b0, b1] = if self.memory.big((a / 268_435_456) as u8) {
-            v.to_be_bytes()
-        } else {
-            v.to_le_bytes()
-        };
-        let mut bytes = ArrayVec::new();
-        bytes.push(b0);
-        bytes.push(b1);
-        bytes
-    }
-
     /// The bytes of so many words of a source that are stored.
     #[tactic(auto, using(crate::proofs::Transfers::store_rules))]
     fn words_bytes(&self, o: Operand, a: u32, n: usize) -> ArrayVec<u8, MOST_BYTES>
@@ -375,8 +341,8 @@ impl Processor {
     {
         let mut bytes = ArrayVec::new();
         for k in 0..n {
-            let word = self.word_bytes(word_address(a, k), self.word_of(o, k));
-            append(&mut bytes, word.as_slice());
+            let word = self.memory.word_bytes(word_address(a, k), self.word_of(o, k));
+            append(&mut bytes, &word);
         }
         bytes
     }
@@ -387,8 +353,10 @@ impl Processor {
         ensures { result.items ≡ stored_of op (state_of self.now) o a }
     {
         match op {
-            Op::Stob | Op::Stib => one_byte((self.value(o) % 256) as u8),
-            Op::Stos | Op::Stis => self.half_bytes(a, (self.value(o) % 65_536) as u16),
+            Op::Stob | Op::Stib => listed(&[(self.value(o) % 256) as u8]),
+            Op::Stos | Op::Stis => {
+                listed(&self.memory.half_bytes(a, (self.value(o) % 65_536) as u16))
+            }
             Op::St => self.words_bytes(o, a, 1),
             Op::Stl => self.words_bytes(o, a, 2),
             Op::Stt => self.words_bytes(o, a, 3),
@@ -431,7 +399,7 @@ impl Processor {
         Ok(Effect {
             sets: one_set(number_of(i.c), old),
             address: a,
-            bytes: self.word_bytes(a, new),
+            bytes: listed(&self.memory.word_bytes(a, new)),
             frames: Move::Stays,
             ac: self.ac,
             tc: self.tc,

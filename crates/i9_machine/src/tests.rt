@@ -17,6 +17,21 @@ const PROGRAM: [u32; 6] = [
 /// `call f`, `f: ret`.
 const CALL_AND_RETURN: [u32; 2] = [0x0900_0004, 0x0A00_0000];
 
+/// `lda 0x80003000, g0`, `mov 7, g4`, `stob g4, 0x3000`, `mov 9, g5`, `stob g5, (g0)`,
+/// `ldob 0x3000, g6`, `ldob (g0), g7`.
+const STORES_FAR_APART: [u32; 10] = [
+    0x8C80_3000,
+    0x8000_3000,
+    0x5CA0_0E07,
+    0x82A0_3000,
+    0x0000_3000,
+    0x5CA8_0E09,
+    0x82AC_2000,
+    0x80B0_3000,
+    0x0000_3000,
+    0x80BC_2000,
+];
+
 /// A program at 1000, which the boot record names.
 fn image_of(alloc: Global, program: &[u32]) -> Result<Segments, Fail> {
     let mut image = Segments::new(alloc);
@@ -131,5 +146,36 @@ fn compares_bytes_of_live_frames_alone(rt: HostRuntime) -> Result<(), Fail> {
         let _ = machine.advance(&mut lines);
     }
     assert_eq!(rt; machine.advance(&mut lines), Turn::End(End::Limit));
+    Ok(())
+}
+
+/// So many machines at once, each of which has stored two bytes 2 GiB apart.
+fn far_apart(alloc: Global, count: usize) -> Result<Vec<Machine>, Fail> {
+    let image = image_of(alloc, &STORES_FAR_APART)?;
+    let mut machines = Vec::new(alloc);
+    let mut lines = Vec::new(alloc);
+    for _ in 0..count {
+        let mut machine = Machine::new(alloc, &image, None, 7)?;
+        for _ in 0..7usize {
+            let _ = machine.advance(&mut lines);
+        }
+        machines.push(machine)?;
+    }
+    Ok(machines)
+}
+
+#[test]
+fn memory_grows_with_the_pages_that_are_touched(rt: HostRuntime) -> Result<(), Fail> {
+    // With all bytes from the first to the second these machines would hold 2 TiB.
+    let machines = far_apart(rt.alloc(), 1000)?;
+    assert_eq!(rt; machines.len(), 1000);
+    for machine in &machines {
+        let view = machine.view();
+        assert_eq!(rt; (view.count, view.regs[22], view.regs[23]), (7, 7, 9));
+        assert_eq!(rt;
+            (machine.byte(0x3000), machine.byte(0x8000_3000)),
+            (Some(7), Some(9))
+        );
+    }
     Ok(())
 }

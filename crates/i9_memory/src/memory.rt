@@ -118,8 +118,9 @@ impl Memory {
         self.store(a, &[v]);
     }
 
-    /// The bytes of a half that is stored at `a`.
-    fn half_bytes(&self, a: u32, v: u16) -> [u8; 2]
+    /// The bytes of a half that is stored at `a`, from the lowest address up: in the order of the
+    /// region of `a`.
+    pub fn half_bytes(&self, a: u32, v: u16) -> [u8; 2]
         ensures { result ≡ half_bytes (memory_of self.now) a v }
     {
         let mut bytes = [0; 2];
@@ -141,8 +142,9 @@ impl Memory {
         self.store(a, &bytes);
     }
 
-    /// The bytes of a word that is stored at `a`.
-    fn word_bytes(&self, a: u32, v: u32) -> [u8; 4]
+    /// The bytes of a word that is stored at `a`, from the lowest address up: in the order of the
+    /// region of `a`.
+    pub fn word_bytes(&self, a: u32, v: u32) -> [u8; 4]
         ensures { result ≡ word_bytes (memory_of self.now) a v }
     {
         let mut bytes = [0; 4];

@@ -1,10 +1,10 @@
 //! Bytes by address, in pages.
 ghost use Rattle.std.specs.Prelude.{◌≡◌, ℕ, ◌+◌, ◌/◌, ◌<◌, ◌∷◌, [], OnOk, length};
 ghost use Rattle.i9_model.specs.Writes.{wrapped, put, upwards};
-ghost use Rattle.i9_model.specs.Memory.{in_port_page, stored};
+ghost use Rattle.i9_model.specs.Memory.{stored};
 
 use i9_isa::NoMemory;
-use i9_model::layout::{PORT_PAGE, PORT_PAGE_SIZE};
+use i9_model::in_port_page;
 use std::alloc::Global;
 use std::collections::BTreeMap;
 
@@ -22,13 +22,6 @@ pub(crate) struct Page {
 pub(crate) struct Pages {
     alloc: Global,
     pages: BTreeMap<u32, Page>,
-}
-
-/// Whether an address lies in the port page.
-fn in_port_page(a: u32) -> bool
-    ensures { result ≡ in_port_page a }
-{
-    PORT_PAGE <= a && a < PORT_PAGE + PORT_PAGE_SIZE
 }
 
 impl Pages {
@@ -86,10 +79,10 @@ impl Pages {
     }
 
     /// Writes a byte for which there is room, unless it lies in the port page.
-    #[tactic(auto, using(crate::proofs::Store::store_rules))]
+    #[tactic(auto, using(i9_model::proofs::Stores::store_rules))]
     fn store_byte(&mut self, a: u32, v: u8)
         requires { HasByte self.old a }
-        ensures bytes { byte_of self.new ≡ stored (byte_of self.old) ((a, v) ∷ []) }
+        ensures bytes { byte_of self.new ≡ stored (byte_of self.old) (upwards a (v ∷ [])) }
         ensures keeps { (p : ℕ) → HasPage self.old p → HasPage self.new p }
     {
         if !in_port_page(a) {
@@ -98,7 +91,7 @@ impl Pages {
     }
 
     /// Writes bytes for which there is room from an address up, but for those in the port page.
-    #[tactic(auto, using(crate::proofs::Store::store_rules))]
+    #[tactic(auto, using(i9_model::proofs::Stores::store_rules))]
     pub(crate) fn store(&mut self, a: u32, bytes: &[u8])
         requires { (k : ℕ) → k < length bytes.now → HasByte self.old (wrapped (a + k)) }
         ensures bytes { byte_of self.new ≡ stored (byte_of self.old) (upwards a bytes.now) }

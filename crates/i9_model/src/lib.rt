@@ -4,12 +4,14 @@
 mod arith;
 mod laws;
 pub mod layout;
+mod port;
 mod push;
 mod setup;
 mod view;
 
 pub use arith::Arith;
 pub use laws::{every_run_ends, frames_stay_sound, live_frames_never_overlap, one_run};
+pub use port::in_port_page;
 pub use push::Push;
 pub use setup::{Breaks, CONTROL_WORDS, Setup, Tables};
 pub use view::View;

@@ -10,6 +10,8 @@ pub mod outside;
 mod print;
 #[cfg(test)]
 mod result_tests;
+#[cfg(test)]
+mod rows;
 mod run;
 mod status;
 #[cfg(test)]

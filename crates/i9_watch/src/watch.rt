@@ -3,12 +3,11 @@ ghost use Rattle.std.specs.Prelude.{◌≡◌, ℕ, Bool, ◌+◌, ◌%◌, ◌<
 ghost use Rattle.std.specs.VecDeque.{deque_len, deque_capacity};
 ghost use Rattle.i9_model.specs.Frames.{in_bytes, in_frames, no_frames, saved, returned, flushed, wrote, rounded_down};
 ghost use Rattle.i9_model.specs.Hazards.{least, read_hazard, write_hazard, port_hazard, save_hazard, return_hazard, planned_push};
-ghost use Rattle.i9_model.specs.Memory.{in_port_page};
 
 use crate::marks::Marks;
 use i9_isa::NoMemory;
-use i9_model::Push;
-use i9_model::layout::{FRAME_SIZE, PORT_PAGE, PORT_PAGE_SIZE};
+use i9_model::layout::FRAME_SIZE;
+use i9_model::{Push, in_port_page};
 use std::alloc::Global;
 use std::collections::VecDeque;
 
@@ -32,13 +31,6 @@ fn is_within(x: u32, first: u32, n: u32) -> bool
     ensures { result ≡ in_bytes first n x }
 {
     x.wrapping_sub(first) < n
-}
-
-/// Whether an address lies in the port page.
-fn in_port_page(a: u32) -> bool
-    ensures { result ≡ in_port_page a }
-{
-    PORT_PAGE <= a && a < PORT_PAGE + PORT_PAGE_SIZE
 }
 
 /// The first of so many addresses from one on that passes a test.
