@@ -2,18 +2,15 @@
 use Rattle.std.proofs.Common.{◌≡◌, ◌≢◌, ℕ, zero, suc, ◌+◌, ◌≤◌, Bool, true, false, cond, eqb, List, [], ◌∷◌, ◌++◌, Option, Some, None, refl, sym, ap, ◌∙◌, subst, append_assoc, arith}
 use Rattle.std.proofs.lemmas.Bool.Decides.{nat_tests}
 use Rattle.i9_isa.specs.declared.inst.Inst.{Inst}
-use Rattle.i9_model.specs.State.{State, boot}
-use Rattle.i9_model.specs.Step.{Action, action_of, acted}
+use Rattle.i9_model.specs.State.{State, started, boot}
+use Rattle.i9_model.specs.Step.{action_of}
+use Rattle.i9_model.proofs.ControlLaws.{acted-count}
 use Rattle.i9_model.specs.Access.{hazard_of, fetch_hazard}
 use Rattle.i9_model.specs.Unbuilt.{fetched}
 use Rattle.i9_model.specs.Run.{Finish, Limit, Record, record_of, Next, Does, Ends, state_after, due_after, next_by_access, next_by_word, next_by_fetch, next_in, next, IsPast, IsRun}
 
-acted-count : (s : State) (a : Action) → (acted s a).count ≡ s.count + 1
-unfolding acted
-acted-count s a = refl
-
 boot-count : (image : List (ℕ × ℕ)) → (boot image).count ≡ 0
-unfolding boot
+unfolding boot started
 boot-count image = refl
 
 -- a record comes below the length, and counts one

@@ -3,6 +3,7 @@ pub mod Unique
 pub mod Upwards
 pub mod Places
 pub mod FrameLaws
+pub mod ControlLaws
 pub mod SoundRuns
 pub mod Lines
 pub mod Stored

@@ -3,20 +3,21 @@ use Rattle.std.proofs.Common.{◌≡◌, ℕ, ◌+◌, ◌*◌, ◌%◌, ◌^◌
 use Rattle.std.proofs.lemmas.List.{length-append}
 use Rattle.std.specs.Int.{w16, w32, to_le_bytes, to_be_bytes}
 use Rattle.i9_isa.specs.declared.op.Op.{Op}
-use Rattle.i9_isa.specs.declared.op.Op.TheVariants.{Stob, Stib, Stos, Stis, St, Stl, Stt, Stq, Atadd, Atmod, Call, Ret, Flushreg}
+use Rattle.i9_isa.specs.declared.op.Op.TheVariants.{Stob, Stib, Stos, Stis, St, Stl, Stt, Stq, Atadd, Atmod, Call, Ret, Flushreg, Sysctl}
 use Rattle.i9_isa.specs.declared.inst.Inst.{Inst}
 use Rattle.i9_model.specs.Writes.{wrapped}
 use Rattle.i9_model.specs.Memory.{Memory, region_of, is_big, half_bytes, word_in, word_bytes}
-use Rattle.i9_model.specs.State.{State, Frames, boot}
+use Rattle.i9_model.specs.State.{State, Frames, started, boot}
 use Rattle.i9_model.specs.Frames.{saved, returned, flushed, wrote, rounded_down}
 use Rattle.i9_model.specs.Hazards.{or_else, read_hazard, write_hazard}
 use Rattle.i9_model.specs.Operands.{value, source_words, address}
-use Rattle.i9_model.specs.Step.{bytes_of_words, stored_of, merged, atomic_address, atomic, action_by, action_of, acted}
+use Rattle.i9_model.specs.Step.{bytes_of_words, stored_of, merged, atomic_address, atomic, Message, AsksNothing, AsksRestart, AsksGroup, message_of, message_kind, message_action, action_by, action_of, moved, acted}
 use Rattle.i9_model.specs.Access.{Changes, access_by, hazard_in, hazard_of, fetch_hazard}
 use Rattle.i9_model.specs.Unbuilt.{fetched}
 use Rattle.i9_model.specs.Sound.{IsSound}
 use Rattle.i9_model.specs.Run.{Finish, Limit, Record, record_of, Does, Ends, state_after, due_after, next_by_access, next_by_word, next_by_fetch, next_in, IsPast}
 use Rattle.i9_model.specs.declared.layout.TheConstants.{FP}
+use Rattle.i9_model.proofs.ControlLaws.{acted-frames}
 use Rattle.i9_model.proofs.FrameLaws.{sound-none, sound-saved, sound-returned, sound-flushed, sound-wrote}
 
 -- no byte is stored
@@ -60,16 +61,22 @@ second_none : (o p : Option ℕ) → or_else o p ≡ None → p ≡ None
 second_none None p e = e
 second_none (Some a) p e = absurd cc
 
-sound-atomic : (i : Inst) (s : State) (change : ℕ → ℕ) → IsSound s.frames → hazard_in s.frames (Changes (atomic_address i s) 4) ≡ None → IsSound (acted s (atomic i s change)).frames
-unfolding acted
+sound-atomic : (i : Inst) (s : State) (change : ℕ → ℕ) → IsSound s.frames → hazard_in s.frames (Changes (atomic_address i s) 4) ≡ None → IsSound (moved s (atomic i s change)).frames
+unfolding moved
 sound-atomic i s change sound none =
     let a = atomic_address i s in
     let new = change (word_in s.memory a) in
     sound-sized s.frames a (word_bytes s.memory a new) 4 (four_bytes s.memory a new) sound (second_none (read_hazard s.frames a 4) (write_hazard s.frames a 4) none)
 
+sound-message : (m : Message) (i : Inst) (s : State) → IsSound s.frames → IsSound (moved s (message_action m i s)).frames
+unfolding moved
+sound-message AsksNothing i s sound = sound-stays s.frames sound
+sound-message AsksRestart i s sound = sound-stays (flushed s.frames) (sound-flushed s.frames sound)
+sound-message AsksGroup i s sound = sound-stays (flushed s.frames) (sound-flushed s.frames sound)
+
 -- an action whose access meets no hazard keeps frames sound
-sound-by : (op : Op) (i : Inst) (s : State) → IsSound s.frames → hazard_in s.frames (access_by op i s) ≡ None → IsSound (acted s (action_by op i s)).frames
-unfolding acted
+sound-by : (op : Op) (i : Inst) (s : State) → IsSound s.frames → hazard_in s.frames (access_by op i s) ≡ None → IsSound (moved s (action_by op i s)).frames
+unfolding moved
 sound-by Stob i s sound none = sound-wrote s.frames (address s i.ea) 1 sound none
 sound-by Stib i s sound none = sound-wrote s.frames (address s i.ea) 1 sound none
 sound-by Stos i s sound none = sound-sized s.frames (address s i.ea) (stored_of Stos s i.c (address s i.ea)) 2 (two_bytes s.memory (address s i.ea) (value s i.c % 2 ^ 16)) sound none
@@ -83,11 +90,12 @@ sound-by Atmod i s sound none = sound-atomic i s (λ old. merged old (value s i.
 sound-by Call i s sound none = sound-stays (saved s.frames (rounded_down (s.regs FP))) (sound-saved s.frames (rounded_down (s.regs FP)) sound none)
 sound-by Ret i s sound none = sound-stays (returned s.frames) (sound-returned s.frames sound)
 sound-by Flushreg i s sound none = sound-stays (flushed s.frames) (sound-flushed s.frames sound)
+sound-by Sysctl i s sound none = sound-message (message_kind (message_of i s)) i s sound
 sound-by _ i s sound none = sound-stays s.frames sound
 
 sound-action : (i : Inst) (s : State) → IsSound s.frames → hazard_of i s ≡ None → IsSound (acted s (action_of i s)).frames
 unfolding hazard_of action_of
-sound-action i s sound none = sound-by i.op i s sound none
+sound-action i s sound none = subst IsSound (sym (acted-frames s (action_by i.op i s))) (sound-by i.op i s sound none)
 
 access_sound : (s : State) (i : Inst) (h : Option ℕ) (r : Record) → IsSound s.frames → hazard_of i s ≡ h → next_by_access s i h ≡ Does r → IsSound r.after.frames
 access_sound s i (Some a) r sound is e = absurd cc
@@ -112,7 +120,7 @@ next_sound limit (Some f) s r sound e = absurd cc
 next_sound limit None s r sound e = test_sound (eqb s.count limit) s r sound e
 
 sound-boot : (image : List (ℕ × ℕ)) → IsSound (boot image).frames
-unfolding boot
+unfolding boot started
 sound-boot image = sound-none
 
 -- frames are sound after each record of a run

@@ -1,19 +1,22 @@
 -- The accesses of an instruction in a state, and the first hazard that they meet.
 use Rattle.std.specs.Prelude.{ℕ, ◌+◌, ◌==◌, if◌then◌else◌, Option, None, Result, Ok, Err}
 use Rattle.i9_isa.specs.declared.op.Op.{Op}
-use Rattle.i9_isa.specs.declared.op.Op.TheVariants.{Ldob, Ldib, Ldos, Ldis, Ld, Ldl, Ldt, Ldq, Stob, Stib, Stos, Stis, St, Stl, Stt, Stq, Atadd, Atmod, Call, Ret}
+use Rattle.i9_isa.specs.declared.op.Op.TheVariants.{Ldob, Ldib, Ldos, Ldis, Ld, Ldl, Ldt, Ldq, Stob, Stib, Stos, Stis, St, Stl, Stt, Stq, Atadd, Atmod, Call, Ret, Sysctl}
 use Rattle.i9_isa.specs.declared.inst.Inst.{Inst}
 use Rattle.i9_isa.specs.declared.inst.BadWord.{BadWord}
 use Rattle.i9_isa.specs.Words.{words_of, decoded}
-use Rattle.i9_model.specs.declared.layout.TheConstants.{PFP, FP}
+use Rattle.i9_model.specs.declared.layout.TheConstants.{PRCB_SIZE, CONTROL_TABLE_SIZE, PFP, FP}
 use Rattle.i9_model.specs.Writes.{wrapped}
 use Rattle.i9_model.specs.State.{State, Frames}
-use Rattle.i9_model.specs.Frames.{rounded_down}
+use Rattle.i9_model.specs.Frames.{rounded_down, flushed}
 use Rattle.i9_model.specs.Hazards.{or_else, read_hazard, write_hazard, save_hazard, return_hazard}
-use Rattle.i9_model.specs.Operands.{address}
-use Rattle.i9_model.specs.Step.{first_word, next_word, atomic_address}
+use Rattle.i9_model.specs.Boot.{table_word}
+use Rattle.i9_model.specs.Tables.{group_hazard}
+use Rattle.i9_model.specs.Operands.{value, address}
+use Rattle.i9_model.specs.Step.{Message, AsksNothing, AsksRestart, AsksGroup, first_word, next_word, atomic_address, message_of, argument_of, message_kind}
 
--- a read or a write of so many bytes, both after one another, a save area, or a frame that is returned to
+-- a read or a write of so many bytes, both after one another, a save area, a frame that is returned to, or as after a flush
+-- the reads of a PRCB and of its control table, or of a control group
 pub data Access : Type 0 where
   NoAccess : Access
   Reads : (address : ℕ) → (count : ℕ) → Access
@@ -21,6 +24,13 @@ pub data Access : Type 0 where
   Changes : (address : ℕ) → (count : ℕ) → Access
   SavesAt : (address : ℕ) → Access
   ReturnsTo : (address : ℕ) → Access
+  ReadsTables : (prcb : ℕ) → (control : ℕ) → Access
+  ReadsGroup : (table : ℕ) → (group : ℕ) → Access
+
+abbrev pub message_access : Message → Inst → State → Access
+message_access AsksNothing i s = NoAccess
+message_access AsksRestart i s = ReadsTables (value s i.c) (table_word s.memory (value s i.c) 1)
+message_access AsksGroup i s = ReadsGroup s.tables.control_table (argument_of i s)
 
 abbrev pub access_by : Op → Inst → State → Access
 access_by Ldob i s = Reads (address s i.ea) 1
@@ -43,6 +53,7 @@ access_by Atadd i s = Changes (atomic_address i s) 4
 access_by Atmod i s = Changes (atomic_address i s) 4
 access_by Call i s = SavesAt (rounded_down (s.regs FP))
 access_by Ret i s = ReturnsTo (rounded_down (s.regs PFP))
+access_by Sysctl i s = message_access (message_kind (message_of i s)) i s
 access_by _ i s = NoAccess
 
 abbrev pub hazard_in : Frames → Access → Option ℕ
@@ -52,6 +63,8 @@ hazard_in f (Writes a n) = write_hazard f a n
 hazard_in f (Changes a n) = or_else (read_hazard f a n) (write_hazard f a n)
 hazard_in f (SavesAt a) = save_hazard f a
 hazard_in f (ReturnsTo a) = return_hazard f a
+hazard_in f (ReadsTables prcb control) = or_else (read_hazard (flushed f) prcb PRCB_SIZE) (read_hazard (flushed f) control CONTROL_TABLE_SIZE)
+hazard_in f (ReadsGroup table group) = group_hazard (flushed f) table group
 
 -- the hazard of an instruction's access
 unfoldable pub hazard_of : Inst → State → Option ℕ

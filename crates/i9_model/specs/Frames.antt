@@ -1,9 +1,10 @@
 -- Frames: where local registers are saved, which bytes only a save wrote, and which frames may be returned to.
-use Rattle.std.specs.Prelude.{ℕ, ◌+◌, ◌-◌, ◌*◌, ◌/◌, ◌%◌, Bool, false, ◌==◌, ◌&&◌, ◌||◌, not, List, [], ◌∷◌, drop, map}
+use Rattle.std.specs.Prelude.{ℕ, ◌+◌, Bool, false, ◌==◌, ◌&&◌, ◌||◌, not, List, [], ◌∷◌, drop, map}
 use Rattle.std.specs.List.{list_any, range_with_len}
 use Rattle.i9_model.specs.declared.layout.TheConstants.{FRAME_SIZE}
 use Rattle.i9_model.specs.declared.push.Push.{Push}
 use Rattle.i9_model.specs.Writes.{wrapped}
+pub use Rattle.i9_model.specs.Writes.{rounded_down, rounded_up}
 use Rattle.i9_model.specs.State.{Frames}
 
 -- so many addresses in a row, from the last on to 0
@@ -38,13 +39,6 @@ abbrev pub wrote : Frames → ℕ → ℕ → Frames
 wrote s a n = record s { soft = λ x. s.soft x && not (in_bytes a n x) }
 
 -- ---- pushes
-
--- addresses of frames are multiples of 16
-abbrev pub rounded_down : ℕ → ℕ
-rounded_down a = a - a % 16
-
-abbrev pub rounded_up : ℕ → ℕ
-rounded_up a = (a + 15) / 16 * 16
 
 -- The frame that a push makes: the locals are saved at fp; the new frame is at the base, above a record of so many bytes,
 -- and sp behind its locals; the new pfp is the save address with the return type in its low bits.

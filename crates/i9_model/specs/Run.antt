@@ -2,13 +2,12 @@
 use Rattle.std.specs.Prelude.{◌≡◌, ℕ, ◌==◌, if◌then◌else◌, Option, Some, None, List, [], ◌∷◌}
 use Rattle.std.specs.Option.{option_map}
 use Rattle.i9_isa.specs.declared.inst.Inst.{Inst}
-use Rattle.i9_model.specs.declared.layout.TheConstants.{PRCB_POINTER}
 use Rattle.i9_model.specs.Memory.{exit_word}
 use Rattle.i9_model.specs.State.{State, boot}
 use Rattle.i9_model.specs.Writes.{upwards}
 use Rattle.i9_model.specs.Step.{Action, action_of, acted}
 use Rattle.i9_model.specs.Access.{hazard_of, fetch_hazard}
-use Rattle.i9_model.specs.Unbuilt.{has_tables, fetched}
+use Rattle.i9_model.specs.Unbuilt.{fetched}
 
 -- how a run ends: with a word that the program wrote, at its length, at a hazard, or before what isn't built
 pub data Finish : Type 0 where
@@ -51,9 +50,9 @@ state_after image (r ∷ rs) = r.after
 abbrev pub exit_in : State → Action → Option Finish
 exit_in s a = option_map Exit (exit_word s.memory (writes_in a))
 
--- the end that stands after the records whatever the length: tables that boot would read, or an exit
+-- the exit that stands after the records whatever the length
 abbrev pub due_after : List (ℕ × ℕ) → List Record → Option Finish
-due_after image [] = if has_tables (boot image).memory.bytes then Some (Unbuilt PRCB_POINTER) else None
+due_after image [] = None
 due_after image (r ∷ rs) = exit_in (state_after image rs) (action_by_kind r.kind (state_after image rs))
 
 -- an instruction that is built is done, unless its access meets a hazard

@@ -1,8 +1,13 @@
--- The state of the one-at-a-time machine, and boot.
-use Rattle.std.specs.Prelude.{ℕ, ◌-◌, ◌%◌, Bool, false, List, [], ◌∷◌}
-use Rattle.i9_model.specs.declared.layout.TheConstants.{FIRST_INSTRUCTION, BOOT_PC, FRAME_SIZE, SP, FP}
-use Rattle.i9_model.specs.Writes.{written}
-use Rattle.i9_model.specs.Memory.{Memory, stored, word_in}
+-- The state of the one-at-a-time machine, and the state that start-up leaves.
+use Rattle.std.specs.Prelude.{ℕ, ◌+◌, bit_and, slice_index, Bool, false, List, [], ◌∷◌, ◌++◌, replicate}
+use Rattle.i9_model.specs.declared.layout.TheConstants.{BOOT_PC, FRAME_SIZE, FP, TC_MASK}
+use Rattle.i9_model.specs.declared.setup.Setup.{Setup}
+use Rattle.i9_model.specs.declared.setup.Tables.{Tables}
+use Rattle.i9_model.specs.declared.setup.Breaks.{Breaks}
+use Rattle.i9_model.specs.Writes.{wrapped, rounded_up, pairs_at, written}
+pub use Rattle.i9_model.specs.Writes.{aligned}
+use Rattle.i9_model.specs.Memory.{Memory, stored}
+use Rattle.i9_model.specs.Boot.{tables_of, boot_setup, boot_memory}
 
 -- bytes that only the save of a frame wrote, and the save addresses of the frames that may be returned to, youngest first
 pub record Frames : Type 0 where
@@ -13,7 +18,7 @@ pub record Frames : Type 0 where
 pub record Interrupts : Type 0 where
   pub pending : ℕ
   pub mask : ℕ
-  pub maps : ℕ → ℕ
+  pub maps : List ℕ
   pub nmi : Bool
 
 -- what a DMA channel was set up with, as far as it has come
@@ -27,12 +32,10 @@ pub record Dma : Type 0 where
   pub channels : ℕ → Channel
   pub dmac : ℕ
 
--- trace controls, and the words of the instruction and data breakpoints
+-- trace controls, and the breakpoints
 pub record Trace : Type 0 where
   pub tc : ℕ
-  pub ipb : ℕ → ℕ
-  pub dab : ℕ → ℕ
-  pub bpcon : ℕ
+  pub breaks : Breaks
 
 -- The registers (r0 to r15 are 0 to 15, g0 to g15 are 16 to 31), instruction address, arithmetic and process controls,
 -- count of instructions, whether the next choice of an interrupt looks at software ones, and the words of the PRCB.
@@ -48,34 +51,68 @@ pub record State : Type 0 where
   pub interrupts : Interrupts
   pub dma : Dma
   pub trace : Trace
-  pub prcb : ℕ → ℕ
+  pub tables : Tables
 
--- the fault configuration word
-abbrev pub fault_config : State → ℕ
-fault_config s = s.prcb 3
-
--- the low two bits of every new instruction address are cleared
-abbrev pub aligned : ℕ → ℕ
-aligned a = a - a % 4
-
--- the memory of an image; later pairs win, and all regions are little-endian
+-- the memory of an image before boot; later pairs win
 abbrev pub image_memory : List (ℕ × ℕ) → Memory
 image_memory image = record { bytes = stored (λ _. 0) image; mcon = λ _. 0 }
 
--- The state after boot. The words of the PRCB and of the control table count as 0, so the interrupt stack is at 0: fp is
--- there and sp a frame above it.
-unfoldable pub boot : List (ℕ × ℕ) → State
-boot image = record {
-  regs = written (λ _. 0) ((FP, 0) ∷ (SP, FRAME_SIZE) ∷ []);
-  ip = aligned (word_in (image_memory image) FIRST_INSTRUCTION);
-  ac = 0;
-  pc = BOOT_PC;
-  count = 0;
-  check = false;
-  memory = image_memory image;
-  frames = record { soft = λ _. false; live = [] };
-  interrupts = record { pending = 0; mask = 0; maps = λ _. 0; nmi = false };
-  dma = record { channels = λ _. record { control = 0; count = 0; source = 0; target = 0 }; dmac = 0 };
-  trace = record { tc = 0; ipb = λ _. 0; dab = λ _. 0; bpcon = 0 };
-  prcb = λ _. 0;
+-- ---- start-up
+
+-- the sixteen locals and fp
+abbrev pub frame_sets : List ℕ → ℕ → List (ℕ × ℕ)
+frame_sets locals fp = pairs_at (λ r. r) 0 locals ++ (FP, fp) ∷ []
+
+-- the first frame is at the interrupt stack
+abbrev pub first_frame : Setup → ℕ
+first_frame u = wrapped (rounded_up u.interrupt_stack)
+
+-- sp is a frame above fp, and the other locals are 0
+abbrev pub start_sets : Setup → List (ℕ × ℕ)
+start_sets u = frame_sets (0 ∷ wrapped (first_frame u + FRAME_SIZE) ∷ replicate 14 0) (first_frame u)
+
+-- no interrupt is pending or unmasked; words 4 to 6 of the control table are the interrupt maps
+abbrev pub start_interrupts : Setup → Interrupts
+start_interrupts u = record {
+  pending = 0;
+  mask = 0;
+  maps = slice_index u.control 4 ∷ slice_index u.control 5 ∷ slice_index u.control 6 ∷ [];
+  nmi = false;
 }
+
+abbrev pub no_dma : Dma
+no_dma = record { channels = λ _. record { control = 0; count = 0; source = 0; target = 0 }; dmac = 0 }
+
+-- words 0 to 3, 25 and 26 of the control table are the breakpoints, their controls and the trace controls
+abbrev pub start_trace : Setup → Trace
+start_trace u = record {
+  tc = bit_and (slice_index u.control 26) TC_MASK;
+  breaks = record {
+    ipb = slice_index u.control 0 ∷ slice_index u.control 1 ∷ [];
+    dab = slice_index u.control 2 ∷ slice_index u.control 3 ∷ [];
+    bpcon = slice_index u.control 25;
+  };
+}
+
+-- The state that start-up leaves, from the registers and the count before it, and the memory and the frames behind it.
+unfoldable pub started : Setup → (ℕ → ℕ) → ℕ → Memory → Frames → State
+started u regs count m f = record {
+  regs = written regs (start_sets u);
+  ip = aligned u.first;
+  ac = u.ac;
+  pc = BOOT_PC;
+  count = count;
+  check = false;
+  memory = m;
+  frames = f;
+  interrupts = start_interrupts u;
+  dma = no_dma;
+  trace = start_trace u;
+  tables = tables_of u;
+}
+
+-- the state after boot
+unfoldable pub boot : List (ℕ × ℕ) → State
+boot image =
+    let m = image_memory image in
+    started (boot_setup m) (λ _. 0) 0 (boot_memory m) (record { soft = λ _. false; live = [] })

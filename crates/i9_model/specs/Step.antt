@@ -1,17 +1,19 @@
 -- One instruction in a state: what it does is data, and one function applies it.
-use Rattle.std.specs.Prelude.{ℕ, ◌+◌, ◌-◌, ◌*◌, nat_lt, ◌%◌, ◌^◌, ◌==◌, if◌then◌else◌, bit_and, bit_or, List, [], ◌∷◌, ◌++◌, length, map, replicate, Option, Some, None}
+use Rattle.std.specs.Prelude.{ℕ, ◌+◌, ◌-◌, ◌*◌, ◌/◌, nat_lt, ◌%◌, ◌^◌, ◌==◌, if◌then◌else◌, bit_and, bit_or, List, [], ◌∷◌, ◌++◌, length, map, replicate, Option, Some, None}
 use Rattle.std.specs.List.{range_with_len}
 use Rattle.i9_isa.specs.declared.op.Op.{Op}
-use Rattle.i9_isa.specs.declared.op.Op.TheVariants.{Lda, Ldob, Ldib, Ldos, Ldis, Ld, Ldl, Ldt, Ldq, Stob, Stib, Stos, Stis, St, Stl, Stt, Stq, Atadd, Atmod, Bx, Balx, Bal, Call, Ret, Flushreg, Syncf, Modac, Modtc}
+use Rattle.i9_isa.specs.declared.op.Op.TheVariants.{Lda, Ldob, Ldib, Ldos, Ldis, Ld, Ldl, Ldt, Ldq, Stob, Stib, Stos, Stis, St, Stl, Stt, Stq, Atadd, Atmod, Bx, Balx, Bal, Call, Ret, Flushreg, Syncf, Modac, Modtc, Modpc, Sysctl}
 use Rattle.i9_isa.specs.declared.inst.Operand.{Operand}
 use Rattle.i9_isa.specs.declared.inst.Inst.{Inst}
 use Rattle.i9_isa.specs.Operands.{words_written}
 use Rattle.i9_isa.specs.Table.{row_of}
 use Rattle.i9_isa.specs.Words.{words_of}
-use Rattle.i9_model.specs.declared.layout.TheConstants.{LOCALS, PFP, SP, RIP, LINK, FP, AC_MASK, TC_MASK}
+use Rattle.i9_model.specs.declared.layout.TheConstants.{LOCALS, PFP, SP, RIP, LINK, FP, AC_MASK, PC_MASK, TC_MASK}
 use Rattle.i9_model.specs.Writes.{wrapped, written, pairs_at}
 use Rattle.i9_model.specs.Memory.{Memory, half_in, half_bytes, word_in, word_bytes, words_in, with_bytes, with_words}
 use Rattle.i9_model.specs.State.{State, Frames, aligned}
+pub use Rattle.i9_model.specs.State.{frame_sets}
+use Rattle.i9_model.specs.Controls.{Control, KeepsControls, Restarts, LoadsGroup, controlled}
 use Rattle.i9_model.specs.Frames.{pushed, rounded_down, saved, returned, flushed, wrote}
 use Rattle.i9_model.specs.Operands.{value, source_words, number_of, address, target}
 use Rattle.i9_model.specs.Numbers.{complement}
@@ -33,15 +35,17 @@ pub data Drained : Type 0 where
   AtSync : Drained
   AtEnd : Drained
 
--- the registers that are set, the bytes that are stored from an address on, the frames, the arithmetic and trace controls
--- afterwards, the drained point behind it, and the next address
+-- the registers that are set, the bytes that are stored from an address on, the frames, the arithmetic, process and trace
+-- controls afterwards, the other controls, the drained point behind it, and the next address
 pub record Action : Type 0 where
   pub sets : List (ℕ × ℕ)
   pub at : ℕ
   pub bytes : List ℕ
   pub move : Move
   pub ac : ℕ
+  pub pc : ℕ
   pub tc : ℕ
+  pub control : Control
   pub point : Option Drained
   pub next : ℕ
 
@@ -51,7 +55,7 @@ following i s = wrapped (s.ip + 4 * words_of i)
 
 -- registers are set, and nothing else
 abbrev pub setting : Inst → State → List (ℕ × ℕ) → Action
-setting i s sets = record { sets = sets; at = 0; bytes = []; move = Stays; ac = s.ac; tc = s.trace.tc; point = None; next = following i s }
+setting i s sets = record { sets = sets; at = 0; bytes = []; move = Stays; ac = s.ac; pc = s.pc; tc = s.trace.tc; control = KeepsControls; point = None; next = following i s }
 
 -- ---- loads, stores and atomics
 
@@ -159,11 +163,39 @@ modac_action i s = record (setting i s ((number_of i.c, s.ac) ∷ [])) { ac = mo
 abbrev pub modtc_action : Inst → State → Action
 modtc_action i s = record (setting i s ((number_of i.c, s.trace.tc) ∷ [])) { tc = modified s.trace.tc (value s i.a) (value s i.b) TC_MASK }
 
--- ---- calls and returns
+-- modpc answers the old process controls, and changes them under the mask src2 to bits of src/dst
+abbrev pub process_controls : Inst → State → ℕ
+process_controls i s = modified s.pc (value s i.b) (value s i.c) PC_MASK
 
--- the sixteen locals and fp
-abbrev pub frame_sets : List ℕ → ℕ → List (ℕ × ℕ)
-frame_sets locals fp = pairs_at (λ r. r) 0 locals ++ (FP, fp) ∷ []
+abbrev pub modpc_action : Inst → State → Action
+modpc_action i s = record (setting i s ((number_of i.c, s.pc) ∷ [])) { pc = process_controls i s }
+
+-- ---- system control
+
+-- the message of sysctl is bits 15 to 8 of src1, and its argument bits 7 to 0
+abbrev pub message_of : Inst → State → ℕ
+message_of i s = value s i.a / 2 ^ 8 % 2 ^ 8
+
+abbrev pub argument_of : Inst → State → ℕ
+argument_of i s = value s i.a % 2 ^ 8
+
+-- what a message asks of the controls: message 3 starts the processor anew at src2, by the PRCB at src/dst, and message 4
+-- loads a control group
+pub data Message : Type 0 where
+  AsksNothing : Message
+  AsksRestart : Message
+  AsksGroup : Message
+
+abbrev pub message_kind : ℕ → Message
+message_kind n = if n == 3 then AsksRestart else if n == 4 then AsksGroup else AsksNothing
+
+-- both flush first
+abbrev pub message_action : Message → Inst → State → Action
+message_action AsksNothing i s = setting i s []
+message_action AsksRestart i s = record (setting i s []) { move = Flushes; control = Restarts (value s i.b) (value s i.c) }
+message_action AsksGroup i s = record (setting i s []) { move = Flushes; control = LoadsGroup (argument_of i s) }
+
+-- ---- calls and returns
 
 -- what a push saves of a register: rip has the return address
 abbrev pub saved_local : State → ℕ → ℕ → ℕ
@@ -191,8 +223,8 @@ other_action op i s = if asks (question_of op) then branching i s else answering
 
 -- Each name that is built: lda sets its destination to the effective address; loads and stores go between registers and
 -- memory; atadd and atmod answer the old word and store its sum with src2, or the bits of src/dst where src2 has them; bx,
--- balx and bal jump, and the last two link; flushreg flushes, and drains as syncf does; mark, fmark and udma do nothing
--- while trace enable is clear; the others branch or go by the table of results.
+-- balx and bal jump, and the last two link; flushreg flushes, and drains as syncf does; sysctl goes by its message; mark,
+-- fmark and udma do nothing while trace enable is clear; the others branch or go by the table of results.
 abbrev pub action_by : Op → Inst → State → Action
 action_by Lda i s = setting i s ((number_of i.c, address s i.ea) ∷ [])
 action_by Ldob i s = loading Ldob i s
@@ -222,6 +254,8 @@ action_by Flushreg i s = record (setting i s []) { move = Flushes; point = Some 
 action_by Syncf i s = record (setting i s []) { point = Some AtSync }
 action_by Modac i s = modac_action i s
 action_by Modtc i s = modtc_action i s
+action_by Modpc i s = modpc_action i s
+action_by Sysctl i s = message_action (message_kind (message_of i s)) i s
 action_by op i s = other_action op i s
 
 unfoldable pub action_of : Inst → State → Action
@@ -241,16 +275,21 @@ frames_after s (Saves save words) = saved s save
 frames_after s Returns = returned s
 frames_after s Flushes = flushed s
 
-unfoldable pub acted : State → Action → State
-acted s a = record s {
+-- all but the controls of start-up and of control groups
+unfoldable pub moved : State → Action → State
+moved s a = record s {
   regs = written s.regs a.sets;
   ac = a.ac;
+  pc = a.pc;
   trace = record s.trace { tc = a.tc };
   memory = with_bytes (memory_after s.memory a.move) a.at a.bytes;
   frames = wrote (frames_after s.frames a.move) a.at (length a.bytes);
   ip = a.next;
   count = s.count + 1;
 }
+
+unfoldable pub acted : State → Action → State
+acted s a = controlled (moved s a) a.control
 
 -- ---- its own words
 

@@ -1,6 +1,6 @@
 -- Writes: places with their values laid over a function, where the last value of a place wins. They serve registers,
 -- bytes of memory and the loading of an image alike.
-use Rattle.std.specs.Prelude.{ℕ, ◌+◌, ◌%◌, ◌==◌, if◌then◌else◌, List, [], ◌∷◌, Option, Some, None}
+use Rattle.std.specs.Prelude.{ℕ, ◌+◌, ◌-◌, ◌*◌, ◌/◌, ◌%◌, ◌==◌, if◌then◌else◌, List, [], ◌∷◌, Option, Some, None}
 
 -- how many addresses there are, 2^32
 abbrev pub address_count : ℕ
@@ -18,6 +18,17 @@ pairs_at place n (v ∷ vs) = (place n, v) ∷ pairs_at place (n + 1) vs
 -- values in a row from an address on
 abbrev pub upwards : ℕ → List ℕ → List (ℕ × ℕ)
 upwards a vs = pairs_at wrapped a vs
+
+-- addresses of frames are multiples of 16
+abbrev pub rounded_down : ℕ → ℕ
+rounded_down a = a - a % 16
+
+abbrev pub rounded_up : ℕ → ℕ
+rounded_up a = (a + 15) / 16 * 16
+
+-- the low two bits of every new instruction address are cleared
+abbrev pub aligned : ℕ → ℕ
+aligned a = a - a % 4
 
 -- the function with another value at one place
 abbrev pub put : (ℕ → ℕ) → ℕ → ℕ → ℕ → ℕ
