@@ -32,7 +32,7 @@ four_by : (b : Bool) (v : ℕ) → length (cond b (to_be_bytes w32 v) (to_le_byt
 four_by true v = refl
 four_by false v = refl
 
-four_bytes : (m : Memory) (a v : ℕ) → length (word_bytes m a v) ≡ 4
+pub four_bytes : (m : Memory) (a v : ℕ) → length (word_bytes m a v) ≡ 4
 unfolding word_bytes
 four_bytes m a v = four_by (is_big m (region_of a)) v
 
@@ -40,7 +40,7 @@ two_by : (b : Bool) (v : ℕ) → length (cond b (to_be_bytes w16 v) (to_le_byte
 two_by true v = refl
 two_by false v = refl
 
-two_bytes : (m : Memory) (a v : ℕ) → length (half_bytes m a v) ≡ 2
+pub two_bytes : (m : Memory) (a v : ℕ) → length (half_bytes m a v) ≡ 2
 unfolding half_bytes
 two_bytes m a v = two_by (is_big m (region_of a)) v
 

@@ -5,6 +5,7 @@ use Rattle.i9_model.specs.Memory.{word_bytes}
 use Rattle.i9_model.specs.Operands.{word_of, source_words}
 use Rattle.i9_model.specs.Step.{bytes_of_words}
 use Rattle.i9_machine.specs.Processor.{state_of}
+use Rattle.i9_model.proofs.SoundRuns.{four_bytes}
 use Rattle.i9_machine.proofs.Transfers.{source_more}
 use Rattle.i9_machine.proofs.processor.Processor.words_bytes.Goals as goal
 
@@ -17,10 +18,10 @@ loop-k-preserved c =
     let m = memory_of c.args.self.now.memory in
     let s = state_of c.args.self.now in
     let before = c.loop-k.bytes.items in
-    let word = c.word_bytes-word.result.items in
-    let added : c.append.new.bytes.items ≡ before ++ word = c.append.ensures ∙ ap (λ (bs : List ℕ). before ++ bs) c.as_slice.ensures.value in
-    let said : word ≡ word_bytes m c.word_address.result c.word_of.result = c.word_bytes-word.ensures.bytes in
-    let four = c.word_bytes-word.ensures.count in
+    let word = c.word_bytes-word.result in
+    let added : c.append.new.bytes.items ≡ before ++ word = c.append.ensures in
+    let said : word ≡ word_bytes m c.word_address.result c.word_of.result = c.word_bytes-word.ensures in
+    let four = ap length said ∙ four_bytes m c.word_address.result c.word_of.result in
     let count = c.loop-k.invariant.count in
     record {
       bytes =
