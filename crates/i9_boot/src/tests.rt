@@ -1,0 +1,1 @@
+//! Start-up, worked out by hand.
