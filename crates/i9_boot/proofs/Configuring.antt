@@ -3,7 +3,7 @@ use Rattle.std.proofs.Common.{◌≡◌, ℕ, ◌+◌, ◌<◌, ◌≤◌, List,
 use Rattle.std.proofs.lemmas.List.{at_drop_more, at_drop_all, get_or-take, get_or-drop, length-take, length-drop}
 use Rattle.i9_model.specs.Writes.{written}
 use Rattle.i9_model.specs.Memory.{Memory, with_mcon}
-use Rattle.i9_model.specs.Boot.{with_regions}
+use Rattle.i9_model.specs.Boot.{with_regions, configured, with_boot_bytes}
 
 -- one more region
 pub regions_more : (m : Memory) (ws : List ℕ) (i : ℕ) → i < length ws → with_regions m i (drop i ws) ≡ with_regions (with_mcon m i (get_or ws i 0)) (i + 1) (drop (i + 1) ws)
@@ -26,9 +26,17 @@ part_at ws from n i h = get_or-take n (drop from ws) i 0 h ∙ get_or-drop from 
 pub length_regions : (control : List ℕ) → length control ≡ 28 → length (take 16 (drop 8 control)) ≡ 16
 length_regions control h = length_part control 8 16 (omega arith)
 
-pub regions_next : (m : Memory) (control : List ℕ) (i w : ℕ) → length control ≡ 28 → i < 16 → get_or control (8 + i) 0 ≡ w → with_regions m i (drop i (take 16 (drop 8 control))) ≡ with_regions (with_mcon m i w) (i + 1) (drop (i + 1) (take 16 (drop 8 control)))
-regions_next m control i w len h e =
+pub regions_next : (m : Memory) (control : List ℕ) (i : ℕ) → length control ≡ 28 → i < 16 → with_regions m i (drop i (take 16 (drop 8 control))) ≡ with_regions (with_mcon m i (get_or control (8 + i) 0)) (i + 1) (drop (i + 1) (take 16 (drop 8 control)))
+regions_next m control i len h =
     let ws = take 16 (drop 8 control) in
-    let same : get_or ws i 0 ≡ w = part_at control 8 16 i h ∙ e in
     regions_more m ws i (omega (arith, length_regions control len))
-    ∙ ap (λ (v : ℕ). with_regions (with_mcon m i v) (i + 1) (drop (i + 1) ws)) same
+    ∙ ap (λ (w : ℕ). with_regions (with_mcon m i w) (i + 1) (drop (i + 1) ws)) (part_at control 8 16 i h)
+
+-- configuring changes no byte
+pub configured-bytes : (old new : Memory) (control : List ℕ) → new ≡ configured old control → new.bytes ≡ old.bytes
+unfolding configured
+configured-bytes old new control e = ap (λ (m : Memory). m.bytes) e
+
+pub with_boot_bytes-bytes : (old new : Memory) → new ≡ with_boot_bytes old → new.bytes ≡ old.bytes
+unfolding with_boot_bytes
+with_boot_bytes-bytes old new e = ap (λ (m : Memory). m.bytes) e

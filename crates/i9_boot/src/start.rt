@@ -21,6 +21,7 @@ use i9_watch::Watch;
 pub fn boot(m: &mut Memory) -> Setup
     ensures setup { result ≡ boot_setup (memory_of m.old) }
     ensures memory { memory_of m.new ≡ boot_memory (memory_of m.old) }
+    ensures bytes { (memory_of m.new).bytes ≡ (memory_of m.old).bytes }
     ensures keeps { KeepsRoom m.old m.new }
 {
     use_boot_bytes(m);
@@ -47,6 +48,7 @@ fn tables_hazard(m: &Memory, w: &Watch, prcb: u32) -> Option<u32>
 pub fn reinit(m: &mut Memory, w: &Watch, first: u32, prcb: u32) -> Result<Setup, u32>
     ensures setup { result ≡ planned_setup (memory_of m.old) (frames_of w.now) first prcb }
     ensures memory { IfOk result (λ s. memory_of m.new ≡ configured (memory_of m.old) s.control) }
+    ensures bytes { (memory_of m.new).bytes ≡ (memory_of m.old).bytes }
     ensures refused { OnErr result (memory_of m.new ≡ memory_of m.old) }
     ensures keeps { KeepsRoom m.old m.new }
 {

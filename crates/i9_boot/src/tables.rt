@@ -11,12 +11,19 @@ use i9_model::{CONTROL_WORDS, Setup};
 
 // Words of the PRCB by number (i960 CA/CF User's Manual, initialisation).
 const FAULT_TABLE: u32 = 0;
+
 const CONTROL_TABLE: u32 = 1;
+
 const AC_IMAGE: u32 = 2;
+
 const FAULT_CONFIG: u32 = 3;
+
 const INTERRUPT_TABLE: u32 = 4;
+
 const SYSTEM_TABLE: u32 = 5;
+
 const INTERRUPT_STACK: u32 = 7;
+
 const REGISTER_CACHE: u32 = 9;
 
 /// The word of a table that has `k` words before it.

@@ -12,7 +12,7 @@ loop-region-preserved c =
     record {
       memory =
           ap (λ (m : Memory). with_regions m (i + 1) (drop (i + 1) (take 16 (drop 8 control)))) c.configure.ensures.word
-          ∙ sym (regions_next (memory_of c.loop-region.m) control i _ c.told-control c.loop-region-test.true ?)
+          ∙ sym (regions_next (memory_of c.loop-region.m) control i c.told-control c.loop-region-test.true)
           ∙ c.loop-region.invariant.memory;
       keeps = search rules;
     }
