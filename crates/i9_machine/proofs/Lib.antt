@@ -1,5 +1,4 @@
 pub mod BuiltForms
-pub mod Tables
 pub mod RegisterList
 pub mod Copies
 pub mod Needs
@@ -8,3 +7,5 @@ pub mod Frames
 pub mod Overlaid
 pub mod Answering
 pub mod Transfers
+pub mod Regions
+pub mod Restarts

@@ -5,6 +5,8 @@ use Rattle.std.specs.List.{AllByRecursion}
 use Rattle.i9_model.specs.Memory.{console_byte}
 use Rattle.i9_model.specs.State.{State, Frames}
 use Rattle.i9_model.specs.Hazards.{save_hazard}
+use Rattle.i9_model.specs.Tables.{tables_hazard, group_hazard}
+use Rattle.i9_model.specs.Controls as plain_controls
 use Rattle.i9_model.specs.Step as plain
 use Rattle.i9_model.specs.Access.{Access, hazard_in}
 use Rattle.i9_model.specs.Run.{writes_in}
@@ -15,6 +17,8 @@ use Rattle.i9_watch.specs.declared.watch.Watch.{Watch}
 use Rattle.i9_watch.specs.Watch.{spare_of, HasFrameMarks}
 use Rattle.i9_machine.specs.declared.effect.Move.{Move}
 use Rattle.i9_machine.specs.declared.effect.Move.TheVariants as moves
+use Rattle.i9_machine.specs.declared.effect.Control.{Control}
+use Rattle.i9_machine.specs.declared.effect.Control.TheVariants as controls
 use Rattle.i9_machine.specs.declared.effect.Effect.{Effect}
 use Rattle.i9_machine.specs.Line.{drained_of}
 
@@ -24,8 +28,13 @@ move_in (moves.Saves save words) = plain.Saves save words.items
 move_in moves.Returns = plain.Returns
 move_in moves.Flushes = plain.Flushes
 
+abbrev pub control_in : Control → plain_controls.Control
+control_in controls.Keeps = plain_controls.KeepsControls
+control_in (controls.Restarts first prcb) = plain_controls.Restarts first prcb
+control_in (controls.LoadsGroup group) = plain_controls.LoadsGroup group
+
 abbrev pub action_in : Effect → plain.Action
-action_in e = record { sets = e.sets.items; at = e.address; bytes = e.bytes.items; move = move_in e.frames; ac = e.ac; tc = e.tc; point = option_map drained_of e.point; next = e.next }
+action_in e = record { sets = e.sets.items; at = e.address; bytes = e.bytes.items; move = move_in e.frames; ac = e.ac; pc = e.pc; tc = e.tc; control = control_in e.control; point = option_map drained_of e.point; next = e.next }
 
 -- each place is one of the 32 registers
 abbrev pub AreRegisters : List (ℕ × ℕ) → Type 0
@@ -38,11 +47,18 @@ CanMove s (moves.Saves save words) = (save % 16 ≡ 0) × (save_hazard s save �
 CanMove s moves.Returns = Unit {0}
 CanMove s moves.Flushes = Unit {0}
 
+-- the tables that are read in a state meet no hazard
+abbrev pub CanControl : State → Control → Type 0
+CanControl s controls.Keeps = Unit {0}
+CanControl s (controls.Restarts first prcb) = tables_hazard s.memory s.frames prcb ≡ None
+CanControl s (controls.LoadsGroup group) = (group < 7) × (group_hazard s.frames s.tables.control_table group ≡ None)
+
 -- an effect is this action, and can be applied in a state
 pub record IsEffect (s : State) (action : plain.Action) (e : Effect) : Type 0 where
   pub same : action_in e ≡ action
   pub registers : AreRegisters e.sets.items
   pub moves : CanMove s.frames e.frames
+  pub controls : CanControl (plain.moved s action) e.control
 
 -- an action whose access meets no hazard, or the hazard
 abbrev pub IsPlanFor : State → Access → plain.Action → Result Effect ℕ → Type 0

@@ -4,9 +4,9 @@ use Rattle.i9_isa.specs.declared.inst.Inst.{Inst}
 use Rattle.i9_memory.specs.Memory.{memory_of}
 use Rattle.i9_watch.specs.Watch.{frames_of}
 use Rattle.i9_model.specs.Memory.{Memory, stored}
-use Rattle.i9_model.specs.State.{State}
+use Rattle.i9_model.specs.State.{State, no_dma}
 use Rattle.i9_model.specs.Access.{fetch_hazard}
-use Rattle.i9_model.specs.Unbuilt.{fetched}
+use Rattle.i9_model.specs.Unbuilt.{is_unbuilt_control, fetched}
 use Rattle.i9_machine.specs.declared.processor.Processor.{Processor}
 use Rattle.i9_machine.specs.Built.{IsBuilt}
 
@@ -28,10 +28,10 @@ state_of p = record {
   check = false;
   memory = memory_of p.memory;
   frames = frames_of p.watch;
-  interrupts = record { pending = 0; mask = 0; maps = λ _. 0; nmi = false };
-  dma = record { channels = λ _. record { control = 0; count = 0; source = 0; target = 0 }; dmac = 0 };
-  trace = record { tc = p.tc; ipb = λ _. 0; dab = λ _. 0; bpcon = 0 };
-  prcb = λ _. 0;
+  interrupts = record { pending = 0; mask = 0; maps = p.maps; nmi = false };
+  dma = no_dma;
+  trace = record { tc = p.tc; breaks = p.breaks };
+  tables = p.tables;
 }
 
 -- the instruction that is built, or none; no hazard meets its fetch
@@ -39,6 +39,7 @@ pub record IsFetched (s : State) (o : Option Inst) : Type 0 where
   pub clear : fetch_hazard s ≡ None
   pub value : o ≡ fetched s
   pub built : IfSome o IsBuilt
+  pub control : IfSome o (λ i. is_unbuilt_control i.op i s ≡ false)
 
 -- what a fetch answers, or its hazard
 abbrev pub Fetches : State → Result (Option Inst) ℕ → Type 0

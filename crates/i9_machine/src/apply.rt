@@ -4,15 +4,22 @@ ghost use Rattle.i9_memory.specs.Memory.{memory_of, HasRoom, KeepsRoom};
 ghost use Rattle.i9_watch.specs.Watch.{frames_of};
 ghost use Rattle.i9_model.specs.Memory.{with_bytes, with_words};
 ghost use Rattle.i9_model.specs.Frames.{returned};
-ghost use Rattle.i9_model.specs.Step.{memory_after, frames_after, acted};
-ghost use Rattle.i9_machine.specs.Effect.{action_in, move_in, AreRegisters, CanMove, HasMoveRoom, is_costly, needs_room};
+ghost use Rattle.i9_model.specs.Boot.{with_regions};
+ghost use Rattle.i9_model.specs.Controls.{with_group, controlled};
+ghost use Rattle.i9_model.specs.State.{started};
+ghost use Rattle.i9_model.specs.Step.{memory_after, frames_after, moved, acted};
+ghost use Rattle.i9_machine.specs.Effect.{action_in, move_in, control_in, AreRegisters, CanControl, CanMove, HasMoveRoom, is_costly, needs_room};
 
-use crate::effect::{Effect, Move};
+use crate::effect::{Control, Effect, Move};
 use crate::processor::Processor;
 use crate::registers::set_all;
+use crate::start::{start_breaks, start_maps, start_registers, start_trace_controls, tables_of};
+use crate::words::aligned;
+use i9_boot::{control_group, reinit};
 use i9_isa::NoMemory;
 use i9_memory::Memory;
-use i9_model::layout::FRAME_SIZE;
+use i9_model::Setup;
+use i9_model::layout::{BOOT_PC, FRAME_SIZE, TC_MASK};
 use i9_watch::Watch;
 
 /// Stores bytes for which there is room.
@@ -40,6 +47,17 @@ fn save(memory: &mut Memory, a: u32, words: &[u32])
     for w in words {
         memory.put_word(at, *w);
         at = at.wrapping_add(4);
+    }
+}
+
+/// Configures regions by words, from one region up.
+#[tactic(auto, using(crate::proofs::Regions::region_rules))]
+fn configure_regions(memory: &mut Memory, region: u8, words: &[u32])
+    requires { region + length words.now ≤ 16 }
+    ensures { memory_of memory.new ≡ with_regions (memory_of memory.old) region words.now }
+{
+    for k in 0..words.len() {
+        memory.configure(region + k as u8, words[k]);
     }
 }
 
@@ -90,7 +108,7 @@ fn reserve_move(memory: &mut Memory, watch: &mut Watch, m: &Move) -> Result<(), 
 }
 
 impl Processor {
-    ghost use Rattle.i9_machine.specs.Processor.{state_of};
+    ghost use Rattle.i9_machine.specs.Processor.{registers_of, state_of};
 
     /// Makes room for what is planned.
     pub(crate) fn reserve(&mut self, e: &Effect) -> Result<(), NoMemory>
@@ -104,15 +122,73 @@ impl Processor {
         reserve_move(&mut self.memory, &mut self.watch, &e.frames)
     }
 
-    /// Does what was planned.
-    #[tactic(auto, unfolding(i9_model::specs::Step::acted))]
-    pub(crate) fn apply(&mut self, e: &Effect)
+    /// Starts anew by what was read of the tables.
+    #[tactic(auto, unfolding(i9_model::specs::State::started))]
+    fn start(&mut self, setup: &Setup)
+        ensures state { state_of self.new ≡ started setup.now (registers_of self.old.regs) self.old.count (memory_of self.old.memory) (frames_of self.old.watch) }
+        ensures count { self.new.count ≡ self.old.count }
+    {
+        self.regs = start_registers(&self.regs, setup);
+        self.ip = aligned(setup.first);
+        self.ac = setup.ac;
+        self.pc = BOOT_PC;
+        self.tc = start_trace_controls(setup);
+        self.maps = start_maps(setup);
+        self.breaks = start_breaks(setup);
+        self.tables = tables_of(setup);
+    }
+
+    /// Loads a group of the control table.
+    fn load_group(&mut self, group: u8, words: [u32; 4])
+        requires { group < 7 }
+        ensures state { state_of self.new ≡ with_group (state_of self.old) group words }
+        ensures count { self.new.count ≡ self.old.count }
+    {
+        match group {
+            0 => {
+                self.breaks.ipb = [words[0], words[1]];
+                self.breaks.dab = [words[2], words[3]];
+            }
+            1 => self.maps = [words[0], words[1], words[2]],
+            6 => {
+                self.tc = words[2] & TC_MASK;
+                self.breaks.bpcon = words[1];
+            }
+            _ => configure_regions(&mut self.memory, 4 * (group - 2), &words),
+        }
+    }
+
+    /// Does what is done to the controls.
+    fn control(&mut self, c: Control)
+        requires { CanControl (state_of self.old) c }
+        ensures state { state_of self.new ≡ controlled (state_of self.old) (control_in c) }
+        ensures count { self.new.count ≡ self.old.count }
+    {
+        match c {
+            Control::Keeps => {}
+            Control::Restarts { first, prcb } => {
+                if let Ok(setup) = reinit(&mut self.memory, &self.watch, first, prcb) {
+                    self.start(&setup);
+                }
+            }
+            Control::LoadsGroup(group) => {
+                let table = self.tables.control_table;
+                if let Ok(words) = control_group(&self.memory, &self.watch, table, group) {
+                    self.load_group(group, words);
+                }
+            }
+        }
+    }
+
+    /// Does what was planned, but for what is done to the controls that start-up reads.
+    #[tactic(auto, unfolding(i9_model::specs::Step::moved))]
+    fn do_moves(&mut self, e: &Effect)
         requires registers { AreRegisters e.now.sets.items }
         requires can { CanMove (frames_of self.old.watch) e.now.frames }
         requires bytes { HasRoom self.old.memory e.now.address (length e.now.bytes.items) }
         requires frames { HasMoveRoom self.old.memory self.old.watch e.now.frames }
         requires count { self.old.count < 2 ^ 63 }
-        ensures state { state_of self.new ≡ acted (state_of self.old) (action_in e.now) }
+        ensures state { state_of self.new ≡ moved (state_of self.old) (action_in e.now) }
         ensures count { self.new.count ≡ self.old.count + 1 }
     {
         move_frames(&mut self.memory, &mut self.watch, &e.frames);
@@ -120,8 +196,25 @@ impl Processor {
         self.watch.wrote(e.address, e.bytes.len() as u32);
         set_all(&mut self.regs, e.sets.as_slice());
         self.ac = e.ac;
+        self.pc = e.pc;
         self.tc = e.tc;
         self.ip = e.next;
         self.count += 1;
+    }
+
+    /// Does what was planned.
+    #[tactic(auto, unfolding(i9_model::specs::Step::acted))]
+    pub(crate) fn apply(&mut self, e: &Effect)
+        requires registers { AreRegisters e.now.sets.items }
+        requires can { CanMove (frames_of self.old.watch) e.now.frames }
+        requires bytes { HasRoom self.old.memory e.now.address (length e.now.bytes.items) }
+        requires frames { HasMoveRoom self.old.memory self.old.watch e.now.frames }
+        requires controls { CanControl (moved (state_of self.old) (action_in e.now)) e.now.control }
+        requires count { self.old.count < 2 ^ 63 }
+        ensures state { state_of self.new ≡ acted (state_of self.old) (action_in e.now) }
+        ensures count { self.new.count ≡ self.old.count + 1 }
+    {
+        self.do_moves(e);
+        self.control(e.control);
     }
 }

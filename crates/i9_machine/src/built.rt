@@ -1,7 +1,7 @@
 //! What is built so far, of the form of an instruction.
 ghost use Rattle.std.specs.Prelude.{◌≡◌, ◌<◌};
 ghost use Rattle.i9_model.specs.Branches.{asks, question_of};
-ghost use Rattle.i9_model.specs.Unbuilt.{access_size, is_built_name, is_fault_name, is_built_operand, is_built_form, is_local_return};
+ghost use Rattle.i9_model.specs.Unbuilt.{access_size, is_built_name, is_fault_name, is_built_operand, is_built_form, is_local_return, is_unbuilt_message};
 
 use i9_isa::{Inst, Op, Operand};
 
@@ -9,10 +9,14 @@ use i9_isa::{Inst, Op, Operand};
 fn is_built_name(op: Op) -> bool
     ensures { result ≡ is_built_name op }
 {
-    !matches!(
-        op,
-        Op::Callx | Op::Calls | Op::Modpc | Op::Sysctl | Op::Sdma
-    )
+    !matches!(op, Op::Callx | Op::Calls | Op::Sdma)
+}
+
+/// Whether a message of sysctl is not built, or is refused with a fault.
+pub(crate) fn is_unbuilt_message(message: u8, argument: u8) -> bool
+    ensures { result ≡ is_unbuilt_message message argument }
+{
+    message == 0 || 4 < message || message == 4 && 6 < argument
 }
 
 /// Whether a name is that of a fault instruction.

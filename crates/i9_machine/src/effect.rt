@@ -29,9 +29,20 @@ pub(crate) enum Move {
     Flushes,
 }
 
+/// What is done to the controls that start-up reads.
+#[derive(Clone, Copy, Debug)]
+pub(crate) enum Control {
+    /// Nothing.
+    Keeps,
+    /// The processor starts anew at `first`, by the PRCB at `prcb`.
+    Restarts { first: u32, prcb: u32 },
+    /// A group of the control table is loaded.
+    LoadsGroup(u8),
+}
+
 /// The registers that are set with their values, the bytes that are stored from an address on, what
-/// is done to frames, the arithmetic and trace controls afterwards, the drained point behind it, and
-/// the next instruction address.
+/// is done to frames, the arithmetic, process and trace controls afterwards, what is done to the
+/// other controls, the drained point behind it, and the next instruction address.
 #[derive(Debug, Drop)]
 pub(crate) struct Effect {
     pub(crate) sets: ArrayVec<(u8, u32), MOST_SETS>,
@@ -39,7 +50,9 @@ pub(crate) struct Effect {
     pub(crate) bytes: ArrayVec<u8, MOST_BYTES>,
     pub(crate) frames: Move,
     pub(crate) ac: u32,
+    pub(crate) pc: u32,
     pub(crate) tc: u32,
+    pub(crate) control: Control,
     pub(crate) point: Option<Point>,
     pub(crate) next: u32,
 }

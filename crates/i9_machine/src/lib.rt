@@ -11,6 +11,8 @@ mod machine;
 mod plan;
 mod processor;
 mod registers;
+mod start;
+mod words;
 
 pub use line::{End, Issued, Line, Point, Turn};
 pub use machine::Machine;

@@ -1,5 +1,5 @@
 //! The machine, one step at a time.
-ghost use Rattle.std.specs.Prelude.{◌≡◌, ◌++◌, ◌+◌, ◌<◌, ◌≤◌, ◌∷◌, [], ℕ, List, Option, None, Some, OnOk, OnErr, IfOk, IfSome, vec_len, vec_capacity, length, true};
+ghost use Rattle.std.specs.Prelude.{◌≡◌, ◌++◌, ◌+◌, ◌<◌, ◌≤◌, ◌∷◌, [], ℕ, List, Option, None, Some, OnOk, OnErr, IfOk, IfSome, vec_len, vec_capacity, length, true, false};
 ghost use Rattle.std.specs.Option.{option_map};
 ghost use Rattle.i9_memory.specs.Memory.{memory_of, HasRoom};
 ghost use Rattle.i9_watch.specs.Watch.{frames_of};
@@ -8,23 +8,23 @@ ghost use Rattle.i9_model.specs.Image.{pairs_of};
 ghost use Rattle.i9_model.specs.Overlay.{overlay};
 ghost use Rattle.i9_model.specs.Access.{hazard_of};
 ghost use Rattle.i9_model.specs.State.{State};
-ghost use Rattle.i9_model.specs.Step.{acted, action_by};
+ghost use Rattle.i9_model.specs.Unbuilt.{is_unbuilt_control};
+ghost use Rattle.i9_model.specs.Step.{moved, acted, action_by};
 ghost use Rattle.i9_model.specs.Run.{Finish, Record, Does, Ends, record_of, next_by_access, state_after, exit_in};
 ghost use Rattle.i9_model.specs.PrintedText.{view_of, out_lines, point_lines, action_lines, last_lines};
 ghost use Rattle.i9_machine.specs.declared.line.End.{End};
 ghost use Rattle.i9_machine.specs.Built.{IsBuilt};
-ghost use Rattle.i9_machine.specs.Effect.{action_in, AreRegisters, CanMove, HasMoveRoom, IsEffect, point_count, line_count, needs_room};
+ghost use Rattle.i9_machine.specs.Effect.{action_in, AreRegisters, CanControl, CanMove, HasMoveRoom, IsEffect, point_count, line_count, needs_room};
 ghost use Rattle.i9_machine.specs.Line.{finish_of, drained_of, AddsLines};
 ghost use Rattle.i9_machine.specs.Processor.{state_of};
 
 use crate::effect::Effect;
 use crate::line::{End, Line, Point, Turn, put_line};
-use crate::load::has_tables;
 use crate::processor::Processor;
 use i9_hex::Segments;
 use i9_isa::{Inst, NoMemory};
 use i9_model::View;
-use i9_model::layout::{MAX_LENGTH, PRCB_POINTER};
+use i9_model::layout::MAX_LENGTH;
 use std::alloc::Global;
 
 /// A machine that runs an image: what an instruction may read or change, the length of the run, the
@@ -112,16 +112,11 @@ impl Machine {
         ensures sets { IfOk result (λ m. sets_of m ≡ sets) }
     {
         let processor = Processor::boot(alloc, image)?;
-        let due = if has_tables(&processor.memory) {
-            Some(End::Unbuilt(PRCB_POINTER))
-        } else {
-            None
-        };
         Ok(Machine {
             processor,
             sets,
             length,
-            due,
+            due: None,
             ended: None,
         })
     }
@@ -194,6 +189,7 @@ impl Machine {
         requires can { CanMove (frames_of self.old.processor.watch) e.now.frames }
         requires bytes { HasRoom self.old.processor.memory e.now.address (length e.now.bytes.items) }
         requires frames { HasMoveRoom self.old.processor.memory self.old.processor.watch e.now.frames }
+        requires controls { CanControl (moved (state_of self.old.processor) (action_in e.now)) e.now.control }
         requires lines { vec_len out.old + line_count (action_in e.now) ≤ vec_capacity out.old }
         requires below { self.old.processor.count < self.old.length }
         ensures state { state_of self.new.processor ≡ acted (state_of self.old.processor) (action_in e.now) }
@@ -236,6 +232,7 @@ impl Machine {
     fn issue(&mut self, i: &Inst, out: &mut Vec<Line>) -> Turn
         requires running { self.old.ended ≡ None }
         requires built { IsBuilt i.now }
+        requires control { is_unbuilt_control i.now.op i.now (state_of self.old.processor) ≡ false }
         requires below { self.old.processor.count < self.old.length }
         requires is_next { next_for self.old ≡ next_by_access (state_of self.old.processor) i.now (hazard_of i.now (state_of self.old.processor)) }
         ensures steps { Steps self.old result self.new out.old.items out.new.items }

@@ -1,29 +1,34 @@
 //! What an instruction will do.
-ghost use Rattle.std.specs.Prelude.{◌≡◌, ◌+◌, ◌*◌, ◌%◌, ◌^◌, ◌<◌, ◌∷◌, ◌++◌, [], ◌≤◌, ◌==◌, not, Some, length, replicate};
+ghost use Rattle.std.specs.Prelude.{◌≡◌, ◌+◌, ◌*◌, ◌%◌, ◌^◌, ◌<◌, ◌∷◌, ◌++◌, [], ◌≤◌, ◌==◌, not, Some, false, length, replicate};
 ghost use Rattle.i9_memory.specs.Memory.{memory_of};
 ghost use Rattle.i9_watch.specs.Watch.{frames_of};
 ghost use Rattle.i9_model.specs.Memory.{half_bytes, word_bytes, words_in};
 ghost use Rattle.i9_model.specs.Operands.{address, value, source_words, number_of, target};
-ghost use Rattle.i9_model.specs.Step.{following, setting, extended, loaded, loading, bytes_of_words, stored_of, storing, merged, atomic_address, atomic, branching, linking, other_action, answer_in, answering, destination, group_sets, modified, modac_action, modtc_action, frame_sets, saved_local, saved_locals, call_action, ret_action, action_by};
+ghost use Rattle.i9_model.specs.Step.{Flushes, AsksNothing, AsksRestart, AsksGroup, message_of, argument_of, message_kind, message_action, modpc_action, moved, following, setting, extended, loaded, loading, bytes_of_words, stored_of, storing, merged, atomic_address, atomic, branching, linking, other_action, answer_in, answering, destination, group_sets, modified, modac_action, modtc_action, frame_sets, saved_local, saved_locals, call_action, ret_action, action_by};
 ghost use Rattle.i9_isa.specs.Operands.{words_written};
-ghost use Rattle.i9_model.specs.Access.{Reads, Writes, Changes, SavesAt, ReturnsTo, access_by};
-ghost use Rattle.i9_model.specs.Frames.{rounded_down};
+ghost use Rattle.i9_model.specs.Unbuilt.{is_unbuilt_message, is_unbuilt_control};
+ghost use Rattle.i9_model.specs.Access.{Reads, Writes, Changes, SavesAt, ReturnsTo, ReadsTables, message_access, access_by, hazard_in};
+ghost use Rattle.i9_model.specs.Frames.{rounded_down, flushed};
+ghost use Rattle.i9_model.specs.Tables.{group_hazard};
 ghost use Rattle.i9_model.specs.State.{aligned};
 ghost use Rattle.i9_model.specs.Writes.{wrapped};
 ghost use Rattle.i9_machine.specs.Built.{IsBuilt, IsSource};
-ghost use Rattle.i9_machine.specs.Effect.{AreRegisters, CanMove, IsEffect, IsPlanFor, move_in};
+ghost use Rattle.i9_machine.specs.Effect.{AreRegisters, CanControl, CanMove, IsEffect, IsPlanFor, control_in, move_in};
 ghost use Rattle.i9_machine.specs.Line.{drained_of};
 
 use crate::built::asks;
-use crate::effect::{Effect, MOST_BYTES, MOST_SETS, Move};
+use crate::effect::{Control, Effect, MOST_BYTES, MOST_SETS, Move};
 use crate::line::Point;
 use crate::processor::Processor;
 use crate::registers::number_of;
+use crate::words::{aligned, merged, modified, rounded_down, word_address};
 use arrayvec::ArrayVec;
 use i9_exec::{branch, has_result, results_by_name};
 use i9_isa::{Inst, Op, Operand, Use, row, word_count};
 use i9_model::Push;
-use i9_model::layout::{AC_MASK, FP, LINK, LOCALS, PFP, RIP, SP, TC_MASK};
+use i9_model::layout::{
+    AC_MASK, CONTROL_GROUP_SIZE, CONTROL_TABLE_SIZE, FP, LINK, LOCALS, PFP, PRCB_SIZE, RIP, SP, TC_MASK,
+};
 
 /// One register that is set.
 fn one_set(r: u8, v: u32) -> ArrayVec<(u8, u32), MOST_SETS>
@@ -52,7 +57,7 @@ fn group_sets(r: u8, words: &[u32]) -> ArrayVec<(u8, u32), MOST_SETS>
 
 /// The locals and fp of a frame, set.
 #[tactic(auto, using(crate::proofs::Frames::frame_rules))]
-fn frame_sets(locals: &[u32], frame: u32) -> ArrayVec<(u8, u32), MOST_SETS>
+pub(crate) fn frame_sets(locals: &[u32], frame: u32) -> ArrayVec<(u8, u32), MOST_SETS>
     requires { length locals.now ≡ LOCALS }
     ensures sets { result.items ≡ frame_sets locals.now frame }
     ensures registers { AreRegisters result.items }
@@ -60,36 +65,6 @@ fn frame_sets(locals: &[u32], frame: u32) -> ArrayVec<(u8, u32), MOST_SETS>
     let mut sets = group_sets(0, locals);
     sets.push((FP, frame));
     sets
-}
-
-/// Controls with other bits where a mask has them, of which some are kept.
-fn modified(old: u32, mask: u32, bits: u32, kept: u32) -> u32
-    ensures { result ≡ modified old mask bits kept }
-{
-    merged(old, mask, bits) & kept
-}
-
-/// An old word with other bits where a mask has them.
-#[tactic(auto, unfolding(i9_model::specs::Numbers::complement))]
-fn merged(old: u32, mask: u32, bits: u32) -> u32
-    ensures { result ≡ merged old mask bits }
-{
-    bits & mask | old & !mask
-}
-
-/// The address with its low two bits cleared.
-fn aligned(a: u32) -> u32
-    ensures { result ≡ aligned a }
-{
-    a - a % 4
-}
-
-/// The address of a word of a group.
-fn word_address(a: u32, k: usize) -> u32
-    requires { k < 16 }
-    ensures { result ≡ wrapped (a + 4 * k) }
-{
-    a.wrapping_add(4 * k as u32)
 }
 
 /// One word.
@@ -167,13 +142,6 @@ fn listed(value: &[u8]) -> ArrayVec<u8, MOST_BYTES>
     bytes
 }
 
-/// The address of the frame that pfp names, or that is saved at fp.
-fn rounded_down(a: u32) -> u32
-    ensures { result ≡ rounded_down a }
-{
-    a - a % 16
-}
-
 impl Processor {
     ghost use Rattle.i9_machine.specs.Processor.{state_of};
 
@@ -184,21 +152,32 @@ impl Processor {
         self.ip.wrapping_add(4 * word_count(i))
     }
 
+    /// Nothing is done.
+    fn nothing(&self, i: &Inst) -> Effect
+        ensures { IsEffect (state_of self.now) (setting i.now (state_of self.now) []) result }
+    {
+        Effect {
+            sets: ArrayVec::new(),
+            address: 0,
+            bytes: ArrayVec::new(),
+            frames: Move::Stays,
+            ac: self.ac,
+            pc: self.pc,
+            tc: self.tc,
+            control: Control::Keeps,
+            point: None,
+            next: self.following(i),
+        }
+    }
+
     /// One register is set.
     fn setting(&self, i: &Inst, r: u8, v: u32) -> Effect
         requires { r < 32 }
         ensures { IsEffect (state_of self.now) (setting i.now (state_of self.now) ((r, v) ∷ [])) result }
     {
-        Effect {
-            sets: one_set(r, v),
-            address: 0,
-            bytes: ArrayVec::new(),
-            frames: Move::Stays,
-            ac: self.ac,
-            tc: self.tc,
-            point: None,
-            next: self.following(i),
-        }
+        let mut effect = self.nothing(i);
+        effect.sets = one_set(r, v);
+        effect
     }
 
     /// Nothing but what is done to frames, and a drained point.
@@ -206,16 +185,10 @@ impl Processor {
         requires { CanMove (frames_of self.now.watch) frames }
         ensures { IsEffect (state_of self.now) (record (setting i.now (state_of self.now) []) { move = move_in frames; point = Some (drained_of point) }) result }
     {
-        Effect {
-            sets: ArrayVec::new(),
-            address: 0,
-            bytes: ArrayVec::new(),
-            frames,
-            ac: self.ac,
-            tc: self.tc,
-            point: Some(point),
-            next: self.following(i),
-        }
+        let mut effect = self.nothing(i);
+        effect.frames = frames;
+        effect.point = Some(point);
+        effect
     }
 
     /// A result goes to its destination; a name with none does nothing.
@@ -224,25 +197,15 @@ impl Processor {
         requires { IsBuilt i.now }
         ensures { IsEffect (state_of self.now) (answering i.now (state_of self.now) (answer_in i.now (state_of self.now))) result }
     {
-        let mut sets = ArrayVec::new();
-        let mut ac = self.ac;
+        let mut effect = self.nothing(i);
         if has_result(i.op) {
             let answer = self.answer(i);
-            sets = group_sets(number_of(destination(i)), answer.values.as_slice());
-            ac = answer.ac;
+            effect.sets = group_sets(number_of(destination(i)), answer.values.as_slice());
+            effect.ac = answer.ac;
         } else {
             results_by_name();
         }
-        Effect {
-            sets,
-            address: 0,
-            bytes: ArrayVec::new(),
-            frames: Move::Stays,
-            ac,
-            tc: self.tc,
-            point: None,
-            next: self.following(i),
-        }
+        effect
     }
 
     /// The old arithmetic controls are answered, and changed under a mask.
@@ -250,16 +213,9 @@ impl Processor {
         requires { IsBuilt i.now }
         ensures { IsEffect (state_of self.now) (modac_action i.now (state_of self.now)) result }
     {
-        Effect {
-            sets: one_set(number_of(i.c), self.ac),
-            address: 0,
-            bytes: ArrayVec::new(),
-            frames: Move::Stays,
-            ac: modified(self.ac, self.value(i.a), self.value(i.b), AC_MASK),
-            tc: self.tc,
-            point: None,
-            next: self.following(i),
-        }
+        let mut effect = self.setting(i, number_of(i.c), self.ac);
+        effect.ac = modified(self.ac, self.value(i.a), self.value(i.b), AC_MASK);
+        effect
     }
 
     /// The old trace controls are answered, and changed under a mask.
@@ -267,16 +223,19 @@ impl Processor {
         requires { IsBuilt i.now }
         ensures { IsEffect (state_of self.now) (modtc_action i.now (state_of self.now)) result }
     {
-        Effect {
-            sets: one_set(number_of(i.c), self.tc),
-            address: 0,
-            bytes: ArrayVec::new(),
-            frames: Move::Stays,
-            ac: self.ac,
-            tc: modified(self.tc, self.value(i.a), self.value(i.b), TC_MASK),
-            point: None,
-            next: self.following(i),
-        }
+        let mut effect = self.setting(i, number_of(i.c), self.tc);
+        effect.tc = modified(self.tc, self.value(i.a), self.value(i.b), TC_MASK);
+        effect
+    }
+
+    /// The old process controls are answered, and changed under a mask.
+    fn plan_modpc(&self, i: &Inst) -> Effect
+        requires { IsBuilt i.now }
+        ensures { IsEffect (state_of self.now) (modpc_action i.now (state_of self.now)) result }
+    {
+        let mut effect = self.setting(i, number_of(i.c), self.pc);
+        effect.pc = self.process_controls(i);
+        effect
     }
 
     /// So many words from an address up.
@@ -320,16 +279,9 @@ impl Processor {
             return Err(hazard);
         }
         let words = self.loaded(i.op, a);
-        Ok(Effect {
-            sets: group_sets(number_of(i.c), words.as_slice()),
-            address: 0,
-            bytes: ArrayVec::new(),
-            frames: Move::Stays,
-            ac: self.ac,
-            tc: self.tc,
-            point: None,
-            next: self.following(i),
-        })
+        let mut effect = self.nothing(i);
+        effect.sets = group_sets(number_of(i.c), words.as_slice());
+        Ok(effect)
     }
 
     /// The bytes of so many words of a source that are stored.
@@ -374,16 +326,10 @@ impl Processor {
         if let Some(hazard) = self.watch.check_write(a, n) {
             return Err(hazard);
         }
-        Ok(Effect {
-            sets: ArrayVec::new(),
-            address: a,
-            bytes: self.stored(i.op, i.c, a),
-            frames: Move::Stays,
-            ac: self.ac,
-            tc: self.tc,
-            point: None,
-            next: self.following(i),
-        })
+        let mut effect = self.nothing(i);
+        effect.address = a;
+        effect.bytes = self.stored(i.op, i.c, a);
+        Ok(effect)
     }
 
     /// The old word is answered, and a new one is stored in its place.
@@ -396,16 +342,10 @@ impl Processor {
         if let Some(hazard) = hazard.or_else(|| self.watch.check_write(a, 4)) {
             return Err(hazard);
         }
-        Ok(Effect {
-            sets: one_set(number_of(i.c), old),
-            address: a,
-            bytes: listed(&self.memory.word_bytes(a, new)),
-            frames: Move::Stays,
-            ac: self.ac,
-            tc: self.tc,
-            point: None,
-            next: self.following(i),
-        })
+        let mut effect = self.setting(i, number_of(i.c), old);
+        effect.address = a;
+        effect.bytes = listed(&self.memory.word_bytes(a, new));
+        Ok(effect)
     }
 
     /// A word becomes its sum with src2.
@@ -443,21 +383,12 @@ impl Processor {
         ensures { IsEffect (state_of self.now) (branching i.now (state_of self.now)) result }
     {
         let jump = branch(i, self.value(i.a), self.value(i.b), self.ac);
-        let next = if jump.taken {
-            aligned(self.target(i))
-        } else {
-            self.following(i)
-        };
-        Effect {
-            sets: ArrayVec::new(),
-            address: 0,
-            bytes: ArrayVec::new(),
-            frames: Move::Stays,
-            ac: jump.ac,
-            tc: self.tc,
-            point: None,
-            next,
+        let mut effect = self.nothing(i);
+        effect.ac = jump.ac;
+        if jump.taken {
+            effect.next = aligned(self.target(i));
         }
+        effect
     }
 
     /// Control goes to an address, and registers are set.
@@ -465,16 +396,10 @@ impl Processor {
         requires { AreRegisters sets.items }
         ensures { IsEffect (state_of self.now) (linking i.now (state_of self.now) sets.items to) result }
     {
-        Effect {
-            sets,
-            address: 0,
-            bytes: ArrayVec::new(),
-            frames: Move::Stays,
-            ac: self.ac,
-            tc: self.tc,
-            point: None,
-            next: aligned(to),
-        }
+        let mut effect = self.nothing(i);
+        effect.sets = sets;
+        effect.next = aligned(to);
+        effect
     }
 
     /// A branch, or a name that goes by the table of results.
@@ -533,19 +458,14 @@ impl Processor {
         let push = self
             .watch
             .plan_push(self.regs[FP as usize], self.regs[SP as usize], 0, 0)?;
-        Ok(Effect {
-            sets: frame_sets(&new_locals(&push), push.frame),
-            address: 0,
-            bytes: ArrayVec::new(),
-            frames: Move::Saves {
-                save: push.save,
-                words: self.saved_locals(self.following(i)),
-            },
-            ac: self.ac,
-            tc: self.tc,
-            point: None,
-            next: aligned(self.target(i)),
-        })
+        let mut effect = self.nothing(i);
+        effect.sets = frame_sets(&new_locals(&push), push.frame);
+        effect.frames = Move::Saves {
+            save: push.save,
+            words: self.saved_locals(self.following(i)),
+        };
+        effect.next = aligned(self.target(i));
+        Ok(effect)
     }
 
     /// The locals of the frame that pfp names are read, and that frame is entered again.
@@ -557,21 +477,87 @@ impl Processor {
             return Err(hazard);
         }
         let back = self.memory.word(a.wrapping_add(8));
-        Ok(Effect {
-            sets: frame_sets(self.frame_words(a).as_slice(), a),
-            address: 0,
-            bytes: ArrayVec::new(),
-            frames: Move::Returns,
-            ac: self.ac,
-            tc: self.tc,
-            point: None,
-            next: aligned(back),
-        })
+        let mut effect = self.nothing(i);
+        effect.sets = frame_sets(self.frame_words(a).as_slice(), a);
+        effect.frames = Move::Returns;
+        effect.next = aligned(back);
+        Ok(effect)
+    }
+
+    /// Frames are flushed, and something is done to the controls that start-up reads.
+    fn controlling(&self, i: &Inst, control: Control) -> Effect
+        requires { CanControl (moved (state_of self.now) (record (setting i.now (state_of self.now) []) { move = Flushes; control = control_in control })) control }
+        ensures { IsEffect (state_of self.now) (record (setting i.now (state_of self.now) []) { move = Flushes; control = control_in control }) result }
+    {
+        let mut effect = self.nothing(i);
+        effect.frames = Move::Flushes;
+        effect.control = control;
+        effect
+    }
+
+    /// The hazard of the reads of a PRCB and of its control table as after a flush.
+    fn tables_hazard(&self, prcb: u32, control: u32) -> Option<u32>
+        ensures { result ≡ hazard_in (frames_of self.now.watch) (ReadsTables prcb control) }
+    {
+        self.watch
+            .check_flushed_read(prcb, PRCB_SIZE)
+            .or_else(|| self.watch.check_flushed_read(control, CONTROL_TABLE_SIZE))
+    }
+
+    /// The processor starts anew.
+    fn plan_restart(&self, i: &Inst) -> Result<Effect, u32>
+        requires { IsBuilt i.now }
+        ensures { IsPlanFor (state_of self.now) (message_access AsksRestart i.now (state_of self.now)) (message_action AsksRestart i.now (state_of self.now)) result }
+    {
+        let first = self.value(i.b);
+        let prcb = self.value(i.c);
+        if let Some(a) = self.tables_hazard(prcb, self.memory.word(prcb.wrapping_add(4))) {
+            return Err(a);
+        }
+        Ok(self.controlling(i, Control::Restarts { first, prcb }))
+    }
+
+    /// The hazard of the read of a control group as after a flush.
+    #[tactic(auto, unfolding(i9_model::specs::Tables::group_hazard))]
+    fn group_hazard(&self, group: u8) -> Option<u32>
+        requires { group < 7 }
+        ensures { result ≡ group_hazard (flushed (frames_of self.now.watch)) self.now.tables.control_table group }
+    {
+        let place = CONTROL_GROUP_SIZE * u32::from(group);
+        let a = self.tables.control_table.wrapping_add(place);
+        self.watch.check_flushed_read(a, CONTROL_GROUP_SIZE)
+    }
+
+    /// A group of the control table is loaded.
+    fn plan_group(&self, i: &Inst) -> Result<Effect, u32>
+        requires built { IsBuilt i.now }
+        requires group { argument_of i.now (state_of self.now) < 7 }
+        ensures { IsPlanFor (state_of self.now) (message_access AsksGroup i.now (state_of self.now)) (message_action AsksGroup i.now (state_of self.now)) result }
+    {
+        let group = self.argument(i);
+        if let Some(a) = self.group_hazard(group) {
+            return Err(a);
+        }
+        Ok(self.controlling(i, Control::LoadsGroup(group)))
+    }
+
+    /// What a message of sysctl will do, or the hazard of its tables.
+    fn plan_message(&self, i: &Inst) -> Result<Effect, u32>
+        requires built { IsBuilt i.now }
+        requires message { is_unbuilt_message (message_of i.now (state_of self.now)) (argument_of i.now (state_of self.now)) ≡ false }
+        ensures { IsPlanFor (state_of self.now) (message_access (message_kind (message_of i.now (state_of self.now))) i.now (state_of self.now)) (message_action (message_kind (message_of i.now (state_of self.now))) i.now (state_of self.now)) result }
+    {
+        match self.message(i) {
+            3 => self.plan_restart(i),
+            4 => self.plan_group(i),
+            _ => Ok(self.nothing(i)),
+        }
     }
 
     /// What an instruction will do, or the hazard of its access.
     pub(crate) fn plan(&self, i: &Inst) -> Result<Effect, u32>
-        requires { IsBuilt i.now }
+        requires built { IsBuilt i.now }
+        requires control { is_unbuilt_control i.now.op i.now (state_of self.now) ≡ false }
         ensures { IsPlanFor (state_of self.now) (access_by i.now.op i.now (state_of self.now)) (action_by i.now.op i.now (state_of self.now)) result }
     {
         match i.op {
@@ -603,6 +589,8 @@ impl Processor {
             Op::Syncf => Ok(self.draining(i, Move::Stays, Point::Sync)),
             Op::Modac => Ok(self.plan_modac(i)),
             Op::Modtc => Ok(self.plan_modtc(i)),
+            Op::Modpc => Ok(self.plan_modpc(i)),
+            Op::Sysctl => self.plan_message(i),
             _ => Ok(self.other(i)),
         }
     }

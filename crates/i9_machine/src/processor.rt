@@ -1,5 +1,5 @@
 //! The registers, controls, memory and frames of the machine.
-ghost use Rattle.std.specs.Prelude.{◌≡◌, ◌+◌, ◌%◌, ◌<◌, ◌^◌, ◌==◌, ℕ, Option, None, Some, if◌then◌else◌, IfOk, IfSome, IsNone, IsSome, length, [], true};
+ghost use Rattle.std.specs.Prelude.{◌≡◌, ◌+◌, ◌%◌, ◌<◌, ◌^◌, ◌==◌, ℕ, Option, None, Some, if◌then◌else◌, IfOk, IfSome, IsNone, IsSome, length, [], true, false};
 ghost use Rattle.i9_isa.specs.Valid.{IsValid};
 ghost use Rattle.i9_isa.specs.Words.{words_of};
 ghost use Rattle.i9_memory.specs.Memory.{memory_of};
@@ -9,8 +9,8 @@ ghost use Rattle.i9_model.specs.State.{State, boot};
 ghost use Rattle.i9_model.specs.Writes.{wrapped};
 ghost use Rattle.i9_model.specs.Hazards.{read_hazard};
 ghost use Rattle.i9_model.specs.Operands.{value, word_of, address};
-ghost use Rattle.i9_model.specs.Step.{second_word, answer_in};
-ghost use Rattle.i9_model.specs.Unbuilt.{is_built, is_unaligned, is_other_return, is_faulty, is_raised};
+ghost use Rattle.i9_model.specs.Step.{second_word, answer_in, process_controls, message_of, argument_of};
+ghost use Rattle.i9_model.specs.Unbuilt.{is_built, is_unaligned, is_other_return, is_faulty, is_raised, is_unbuilt_modpc, is_unbuilt_control};
 ghost use Rattle.i9_model.specs.Results.{has_result, destination_words};
 ghost use Rattle.i9_exec.specs.Shown.{answer_of};
 ghost use Rattle.i9_model.specs.Overlay.{overlay};
@@ -18,17 +18,19 @@ ghost use Rattle.i9_model.specs.PrintedText.{view_of};
 ghost use Rattle.i9_machine.specs.Built.{IsBuilt, IsSource};
 ghost use Rattle.i9_machine.specs.Issue.{TellsIssue};
 
-use crate::built::{access_size, is_built_form, is_fault_name, is_local_return};
+use crate::built::{access_size, is_built_form, is_fault_name, is_local_return, is_unbuilt_message};
 use crate::line::Issued;
 use crate::load::load;
-use crate::registers::boot_registers;
+use crate::start::{start_breaks, start_maps, start_registers, start_trace_controls, tables_of};
+use crate::words::{aligned, bit, modified, priority_of};
+use i9_boot::boot;
 use i9_decode::decode;
 use i9_exec::{Done, address, branch, compute, has_result, results_by_name};
 use i9_hex::Segments;
 use i9_isa::{Ea, Inst, NoMemory, Op, Operand, word_count};
 use i9_memory::Memory;
-use i9_model::View;
-use i9_model::layout::{BOOT_PC, FIRST_INSTRUCTION, PFP};
+use i9_model::layout::{BOOT_PC, PC_MASK, PFP};
+use i9_model::{Breaks, Tables, View};
 use i9_watch::Watch;
 use std::alloc::Global;
 
@@ -40,6 +42,9 @@ pub(crate) struct Processor {
     pub(crate) ac: u32,
     pub(crate) pc: u32,
     pub(crate) tc: u32,
+    pub(crate) maps: [u32; 3],
+    pub(crate) breaks: Breaks,
+    pub(crate) tables: Tables,
     pub(crate) count: u64,
     pub(crate) memory: Memory,
     pub(crate) watch: Watch,
@@ -49,20 +54,23 @@ impl Processor {
     ghost use Rattle.i9_machine.specs.Processor.{state_of, Fetches};
 
     /// The state after boot.
-    #[tactic(auto, unfolding(i9_model::specs::State::boot))]
+    #[tactic(auto, unfolding(i9_model::specs::State::boot, i9_model::specs::State::started))]
     pub(crate) fn boot(alloc: Global, image: &Segments) -> Result<Processor, NoMemory>
         ensures state { IfOk result (λ p. state_of p ≡ boot (pairs_of image.now)) }
         ensures count { IfOk result (λ p. p.count ≡ 0) }
     {
         let mut memory = Memory::new(alloc);
         load(&mut memory, image)?;
-        let first = memory.word(FIRST_INSTRUCTION);
+        let setup = boot(&mut memory);
         Ok(Processor {
-            regs: boot_registers(),
-            ip: first - first % 4,
-            ac: 0,
+            regs: start_registers(&[0; 32], &setup),
+            ip: aligned(setup.first),
+            ac: setup.ac,
             pc: BOOT_PC,
-            tc: 0,
+            tc: start_trace_controls(&setup),
+            maps: start_maps(&setup),
+            breaks: start_breaks(&setup),
+            tables: tables_of(&setup),
             count: 0,
             memory,
             watch: Watch::new(alloc),
@@ -95,12 +103,13 @@ impl Processor {
         )
     }
 
-    /// Whether an instruction has a data access that isn't aligned.
+    /// Whether an instruction has a data access that isn't aligned, which faults unless the fault
+    /// configuration masks that.
     fn is_unaligned(&self, i: &Inst) -> bool
         requires { IsBuilt i.now }
         ensures { result ≡ is_unaligned i.now (state_of self.now) }
     {
-        self.address(&i.ea) % access_size(i.op) != 0
+        self.address(&i.ea) % access_size(i.op) != 0 && !bit(self.tables.fault_config, 30)
     }
 
     /// A word of a source of several.
@@ -122,6 +131,30 @@ impl Processor {
             Operand::Lit(n) => if k == 0 { u32::from(n) } else { 0 },
             Operand::Sfr(_) => 0,
         }
+    }
+
+    /// The process controls after modpc.
+    pub(crate) fn process_controls(&self, i: &Inst) -> u32
+        requires { IsBuilt i.now }
+        ensures { result ≡ process_controls i.now (state_of self.now) }
+    {
+        modified(self.pc, self.value(i.b), self.value(i.c), PC_MASK)
+    }
+
+    /// The message of sysctl.
+    pub(crate) fn message(&self, i: &Inst) -> u8
+        requires { IsBuilt i.now }
+        ensures { result ≡ message_of i.now (state_of self.now) }
+    {
+        (self.value(i.a) / 256 % 256) as u8
+    }
+
+    /// The argument of a message of sysctl.
+    pub(crate) fn argument(&self, i: &Inst) -> u8
+        requires { IsBuilt i.now }
+        ensures { result ≡ argument_of i.now (state_of self.now) }
+    {
+        (self.value(i.a) % 256) as u8
     }
 
     /// What an instruction with a result gives.
@@ -163,6 +196,29 @@ impl Processor {
         is_fault_name(i.op) && branch(i, self.value(i.a), self.value(i.b), self.ac).taken
     }
 
+    /// Whether modpc faults, or looks at software interrupts, which are not built.
+    fn is_unbuilt_modpc(&self, i: &Inst) -> bool
+        requires { IsBuilt i.now }
+        ensures { result ≡ is_unbuilt_modpc i.now (state_of self.now) }
+    {
+        let after = self.process_controls(i);
+        self.value(i.b) != 0 && (!bit(self.pc, 1) || priority_of(after) < priority_of(self.pc))
+    }
+
+    /// Whether an instruction is a use of modpc or of sysctl that is not built.
+    fn is_unbuilt_control(&self, i: &Inst) -> bool
+        requires { IsBuilt i.now }
+        ensures { result ≡ is_unbuilt_control i.now.op i.now (state_of self.now) }
+    {
+        match i.op {
+            Op::Modpc => self.is_unbuilt_modpc(i),
+            Op::Sysctl => {
+                !bit(self.pc, 1) || is_unbuilt_message(self.message(i), self.argument(i))
+            }
+            _ => false,
+        }
+    }
+
     /// Whether an instruction is a return of a type that is not built.
     fn is_other_return(&self, op: Op) -> bool
         ensures { result ≡ is_other_return op (state_of self.now) }
@@ -179,6 +235,7 @@ impl Processor {
         requires { IsValid i }
         ensures value { result ≡ (if is_built i (state_of self.now) then Some i else None) }
         ensures built { IfSome result IsBuilt }
+        ensures control { IfSome result (λ i. is_unbuilt_control i.op i (state_of self.now) ≡ false) }
     {
         if !is_built_form(&i) {
             return None;
@@ -186,7 +243,7 @@ impl Processor {
         if self.is_unaligned(&i) || self.is_other_return(i.op) || self.is_faulty(&i) {
             return None;
         }
-        if self.is_raised(&i) || self.pc % 2 == 1 {
+        if self.is_raised(&i) || self.is_unbuilt_control(&i) || self.pc % 2 == 1 {
             return None;
         }
         Some(i)

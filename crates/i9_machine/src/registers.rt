@@ -1,5 +1,5 @@
 //! The 32 registers.
-ghost use Rattle.std.specs.Prelude.{◌≡◌, ◌∷◌, [], ◌<◌};
+ghost use Rattle.std.specs.Prelude.{◌≡◌, ◌<◌};
 ghost use Rattle.i9_model.specs.Writes.{put, written};
 ghost use Rattle.i9_model.specs.Operands.{number_of};
 ghost use Rattle.i9_machine.specs.Built.{IsSource};
@@ -7,7 +7,6 @@ ghost use Rattle.i9_machine.specs.Effect.{AreRegisters};
 ghost use Rattle.i9_machine.specs.Processor.{registers_of};
 
 use i9_isa::Operand;
-use i9_model::layout::{FP, FRAME_SIZE, SP};
 
 /// The register of a destination.
 pub(crate) fn number_of(o: Operand) -> u8
@@ -39,13 +38,4 @@ pub(crate) fn set_all(regs: &mut [u32; 32], sets: &[(u8, u32)])
     for (r, v) in sets {
         set(regs, *r, *v);
     }
-}
-
-/// The registers after boot, with the frame at 0.
-pub(crate) fn boot_registers() -> [u32; 32]
-    ensures { registers_of result ≡ written (λ _. 0) ((FP, 0) ∷ (SP, FRAME_SIZE) ∷ []) }
-{
-    let mut regs = [0; 32];
-    set_all(&mut regs, &[(FP, 0), (SP, FRAME_SIZE)]);
-    regs
 }

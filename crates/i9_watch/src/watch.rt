@@ -101,11 +101,26 @@ impl Watch {
             .any(|frame| is_within(a, *frame, FRAME_SIZE))
     }
 
+    /// Whether a byte stays soft over a flush.
+    fn stays_soft(&self, a: u32) -> bool
+        ensures { result ≡ (flushed (frames_of self.now)).soft a }
+    {
+        self.soft(a) && !self.is_live(a)
+    }
+
     /// The least soft byte, counted upwards from `a`, of `n` bytes that are to be read.
     pub fn check_read(&self, a: u32, n: u32) -> Option<u32>
         ensures { result ≡ read_hazard (frames_of self.now) a n }
     {
         first_place(a, n, |x| self.soft(x))
+    }
+
+    /// The least byte, counted upwards from `a`, of `n` bytes that are to be read as after a flush:
+    /// one that is soft and in no live frame.
+    pub fn check_flushed_read(&self, a: u32, n: u32) -> Option<u32>
+        ensures { result ≡ read_hazard (flushed (frames_of self.now)) a n }
+    {
+        first_place(a, n, |x| self.stays_soft(x))
     }
 
     /// The least byte of a live frame, counted upwards from `a`, of `n` bytes that are to be
