@@ -100,30 +100,6 @@ fn steps_through_a_run(rt: HostRuntime) -> Result<(), Fail> {
 }
 
 #[test]
-fn ends_before_tables(rt: HostRuntime) -> Result<(), Fail> {
-    let places = [0xFFFF_FF00, 0xFFFF_FF0C, 0xFFFF_FF14, 0xFFFF_FF17, 0, 111];
-    for place in places {
-        let mut image = image_of(rt.alloc(), &PROGRAM)?;
-        image.put(place, 1)?;
-        let mut machine = Machine::new(rt.alloc(), &image, None, 100)?;
-        let mut lines = Vec::new(rt.alloc());
-        assert_eq!(rt;
-            machine.advance(&mut lines),
-            Turn::End(End::Unbuilt(0xFFFF_FF14)),
-            "at {place}"
-        );
-    }
-    let mut image = image_of(rt.alloc(), &PROGRAM)?;
-    for place in [0xFFFF_FF01, 0xFFFF_FF18, 112] {
-        image.put(place, 1)?;
-    }
-    let mut machine = Machine::new(rt.alloc(), &image, None, 0)?;
-    let mut lines = Vec::new(rt.alloc());
-    assert_eq!(rt; machine.advance(&mut lines), Turn::End(End::Limit));
-    Ok(())
-}
-
-#[test]
 fn compares_bytes_of_live_frames_alone(rt: HostRuntime) -> Result<(), Fail> {
     let image = image_of(rt.alloc(), &CALL_AND_RETURN)?;
     let mut machine = Machine::new(rt.alloc(), &image, None, 2)?;

@@ -13,6 +13,8 @@ mod result_tests;
 #[cfg(test)]
 mod rows;
 mod run;
+#[cfg(test)]
+mod start_tests;
 mod status;
 #[cfg(test)]
 mod tests;
