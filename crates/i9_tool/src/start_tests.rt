@@ -240,6 +240,21 @@ const PRCB_IN_A_LIVE_FRAME: &str = ":02000004FFFFFC
 :00000001FF
 ";
 
+/// `lda 0x400000, g1`, `st g1, 0xA58`, `lda 0x405, g2`, `sysctl g2, g2, g2`, `lda 0xE0000002, g3`,
+/// `lda 0x11223344, g4`, `stl g4, (g3)`: the exit word is the low half of the first word and the
+/// high half of the second.
+const EXITS_IN_BIG_ENDIAN_ORDER: &str = ":02000004FFFFFC
+:08FF10000010000000080000D1
+:020000040000FA
+:1008000000090000000A0000000000000000004095
+:1008100000200000000B000000000000003000007D
+:080820000000000000000000D0
+:101000000030888C00004000580A88920504908CBB
+:10101000928494650030988C020000E00030A08C2F
+:081020004433221100E0A49A00
+:00000001FF
+";
+
 #[test]
 fn starts_by_its_tables(rt: HostRuntime) -> Result<(), Fail> {
     let rows = [
@@ -298,31 +313,8 @@ fn starts_by_its_tables(rt: HostRuntime) -> Result<(), Fail> {
             length: 35,
             before: "",
             point: "35 end 000010AC 00000000 001F2002",
-            globals: &[
-                (1, 0x0040_0000),
-                (2, 0xFFFF_FFFF),
-                (3, 0x402),
-                (4, 0x403),
-                (5, 0x404),
-                (6, 0x405),
-                (7, 0x406),
-                (8, 0x1000_0000),
-                (9, 1),
-                (10, 0x5000_0000),
-                (11, 0x9000_0000),
-                (12, 0xD000_0000),
-                (15, 0x3000),
-            ],
-            locals: &[
-                (1, 0x3040),
-                (4, 1),
-                (5, 1),
-                (6, 1),
-                (7, 1),
-                (8, 1),
-                (9, 0x0FFE_00FE),
-                (10, 1),
-            ],
+            globals: &[(1, 0x0040_0000), (2, 0xFFFF_FFFF), (3, 0x402), (4, 0x403), (5, 0x404), (6, 0x405), (7, 0x406), (8, 0x1000_0000), (9, 1), (10, 0x5000_0000), (11, 0x9000_0000), (12, 0xD000_0000), (15, 0x3000)],
+            locals: &[(1, 0x3040), (4, 1), (5, 1), (6, 1), (7, 1), (8, 1), (9, 0x0FFE_00FE), (10, 1)],
             end: "limit",
             code: 0,
         },
@@ -371,12 +363,7 @@ fn messages_and_process_controls(rt: HostRuntime) -> Result<(), Fail> {
             length: 9,
             before: "",
             point: "5 end 0000101C 00000000 001F0002",
-            globals: &[
-                (1, 0x2000),
-                (2, 0x001F_2002),
-                (3, 0x001F_0000),
-                (15, 0x3000),
-            ],
+            globals: &[(1, 0x2000), (2, 0x001F_2002), (3, 0x001F_0000), (15, 0x3000)],
             locals: &[(1, 0x3040)],
             end: "unbuilt 0000101C",
             code: 4,
@@ -416,19 +403,7 @@ fn unaligned_accesses_and_table_hazards(rt: HostRuntime) -> Result<(), Fail> {
             length: 20,
             before: "",
             point: "14 end 00001054 00000000 001F2002",
-            globals: &[
-                (0, 0x2001),
-                (1, 0x1122_3344),
-                (2, 0x2233_4400),
-                (4, 0x1122_3344),
-                (6, 0x0FFF_FFFE),
-                (7, 0x1122),
-                (8, 0xFFFF_FFFE),
-                (9, 0x1122),
-                (10, 0x1122_3344),
-                (11, 0xE000_0002),
-                (15, 0x3000),
-            ],
+            globals: &[(0, 0x2001), (1, 0x1122_3344), (2, 0x2233_4400), (4, 0x1122_3344), (6, 0x0FFF_FFFE), (7, 0x1122), (8, 0xFFFF_FFFE), (9, 0x1122), (10, 0x1122_3344), (11, 0xE000_0002), (15, 0x3000)],
             locals: &[(1, 0x3040)],
             end: "exit 00001122",
             code: 0,
@@ -471,6 +446,16 @@ fn unaligned_accesses_and_table_hazards(rt: HostRuntime) -> Result<(), Fail> {
             globals: &[(1, 0x300), (2, 0x3000), (3, 0x1200), (15, 0x5000)],
             locals: &[(1, 0x5040)],
             end: "limit",
+            code: 0,
+        },
+        Row {
+            image: EXITS_IN_BIG_ENDIAN_ORDER,
+            length: 9,
+            before: "",
+            point: "7 end 00001028 00000000 001F2002",
+            globals: &[(1, 0x0040_0000), (2, 0x405), (3, 0xE000_0002), (4, 0x1122_3344), (15, 0x3000)],
+            locals: &[(1, 0x3040)],
+            end: "exit 33440000",
             code: 0,
         },
     ];
