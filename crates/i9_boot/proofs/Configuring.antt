@@ -1,5 +1,5 @@
 -- Configuration words of regions, one by one.
-use Rattle.std.proofs.Common.{◌≡◌, ℕ, ◌+◌, ◌<◌, ◌≤◌, List, length, get_or, take, drop, refl, ap, ◌∙◌, arith}
+use Rattle.std.proofs.Common.{◌≡◌, ℕ, ◌+◌, ◌<◌, ◌≤◌, List, length, get_or, take, drop, ap, ◌∙◌, arith}
 use Rattle.std.proofs.lemmas.List.{at_drop_more, at_drop_all, get_or-take, get_or-drop, length-take, length-drop}
 use Rattle.i9_model.specs.Writes.{written}
 use Rattle.i9_model.specs.Memory.{Memory, with_mcon}

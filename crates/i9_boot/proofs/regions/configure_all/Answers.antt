@@ -1,4 +1,4 @@
-use Rattle.std.proofs.Common.{◌≡◌, ℕ, ◌+◌, ◌≤◌, length, take, drop, sym, ap, ◌∙◌, arith, rules}
+use Rattle.std.proofs.Common.{◌+◌, ◌≤◌, length, take, drop, sym, ap, ◌∙◌, arith, rules}
 use Rattle.i9_model.specs.Memory.{Memory}
 use Rattle.i9_model.specs.Boot.{with_regions}
 use Rattle.i9_memory.specs.Memory.{memory_of}
