@@ -20,6 +20,7 @@ const FIRST_REGION_WORD: usize = 8;
 #[tactic(auto, unfolding(i9_model::specs::Boot::with_boot_bytes))]
 pub(crate) fn use_boot_bytes(m: &mut Memory)
     ensures memory { memory_of m.new ≡ with_boot_bytes (memory_of m.old) }
+    ensures bytes { (memory_of m.new).bytes ≡ (memory_of m.old).bytes }
     ensures keeps { KeepsRoom m.old m.new }
 {
     let [a, b, c, d] = BOOT_BYTES;
@@ -31,6 +32,7 @@ pub(crate) fn use_boot_bytes(m: &mut Memory)
 #[tactic(auto, unfolding(i9_model::specs::Boot::configured))]
 pub(crate) fn configure_all(m: &mut Memory, control: &[u32; CONTROL_WORDS])
     ensures memory { memory_of m.new ≡ configured (memory_of m.old) control.now }
+    ensures bytes { (memory_of m.new).bytes ≡ (memory_of m.old).bytes }
     ensures keeps { KeepsRoom m.old m.new }
 {
     for region in 0..REGIONS {

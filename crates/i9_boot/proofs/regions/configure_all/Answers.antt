@@ -1,4 +1,4 @@
-use Rattle.std.proofs.Common.{◌≡◌, ℕ, ◌+◌, ◌≤◌, length, take, drop, sym, ap, ◌∙◌, arith, rules}
+use Rattle.std.proofs.Common.{◌+◌, ◌≤◌, length, take, drop, sym, ap, ◌∙◌, arith, rules}
 use Rattle.i9_model.specs.Memory.{Memory}
 use Rattle.i9_model.specs.Boot.{with_regions}
 use Rattle.i9_memory.specs.Memory.{memory_of}
@@ -12,8 +12,9 @@ loop-region-preserved c =
     record {
       memory =
           ap (λ (m : Memory). with_regions m (i + 1) (drop (i + 1) (take 16 (drop 8 control)))) c.configure.ensures.word
-          ∙ sym (regions_next (memory_of c.loop-region.m) control i c.told-control c.loop-region-test.true)
+          ∙ sym (regions_next (memory_of c.loop-region.m) control i c.told-control (omega arith))
           ∙ c.loop-region.invariant.memory;
+      bytes = ap (λ (m : Memory). m.bytes) c.configure.ensures.word ∙ c.loop-region.invariant.bytes;
       keeps = search rules;
     }
 

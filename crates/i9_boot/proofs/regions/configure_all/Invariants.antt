@@ -7,5 +7,6 @@ use Rattle.i9_boot.proofs.regions.configure_all.Given as goal
 abbrev pub invariant-loop-region : goal.invariant-loop-region
 invariant-loop-region l = record {
   memory : with_regions (memory_of l.m) l.region (drop l.region (take 16 (drop 8 l.control))) ≡ configured (memory_of l.fn.m) l.control;
+  bytes : (memory_of l.m).bytes ≡ (memory_of l.fn.m).bytes;
   keeps : KeepsRoom l.fn.m l.m;
 }
