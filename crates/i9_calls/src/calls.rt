@@ -67,8 +67,8 @@ fn enter_switched(w: &Watch, entry: u32, stack: u32, pc: u32, fp: u32) -> Result
     })
 }
 
-#[tactic(auto, unfolding(i9_model::specs::Calls::system_hazard, i9_model::specs::Calls::system_entered))]
 /// Procedure `n` of the system procedure table at `table` is called.
+#[tactic(auto, unfolding(i9_model::specs::Calls::system_hazard, i9_model::specs::Calls::system_entered))]
 fn enter(m: &Memory, w: &Watch, table: u32, n: u32, pc: u32, fp: u32, sp: u32) -> Result<Sys, u32>
     requires { n ≤ MOST_SYSTEM_CALL }
     ensures value { result ≡ planned_system (memory_of m.now) (frames_of w.now) table n pc fp sp 0 (call_type pc) }

@@ -62,11 +62,7 @@ fn controls_after(
     let is_supervisor = in_supervisor_mode(controls.pc);
     if takes_record(kind) {
         let saved = read_record(m, w, fp)?;
-        let pc = if is_supervisor {
-            saved.pc
-        } else {
-            controls.pc
-        };
+        let pc = if is_supervisor { saved.pc } else { controls.pc };
         return Ok(Controls { pc, ..saved });
     }
     if leaves_supervisor(kind) && is_supervisor {
@@ -76,11 +72,11 @@ fn controls_after(
     Ok(controls)
 }
 
-#[tactic(auto, unfolding(i9_model::specs::Calls::ret_hazard, i9_model::specs::Calls::popped))]
 /// What a return makes, from the previous frame pointer with its return type, the frame pointer, and
 /// the process and arithmetic controls; or the hazard of the first access that meets one: the words
 /// of PC and AC in the record below the frame, for the return types 001 and 111, and then the
 /// frame that is returned to. After the i960 CA/CF User's Manual, returns.
+#[tactic(auto, unfolding(i9_model::specs::Calls::ret_hazard, i9_model::specs::Calls::popped))]
 pub fn plan_ret(m: &Memory, w: &Watch, pfp: u32, fp: u32, pc: u32, ac: u32) -> Result<Pop, u32>
     ensures pop { result ≡ planned_ret (memory_of m.now) (frames_of w.now) pfp fp pc ac }
 
