@@ -1,10 +1,12 @@
 //! Calls to an address and by the system procedure table.
 ghost use Rattle.std.specs.Prelude.{◌≡◌, ◌≤◌, ◌%◌, true, false, None, IfOk};
+ghost use Rattle.i9_model.specs.declared.layout.TheConstants.{PC_MASK};
 ghost use Rattle.i9_model.specs.Frames.{rounded_down};
 ghost use Rattle.i9_model.specs.Hazards.{save_hazard, unless};
 ghost use Rattle.i9_model.specs.Calls.{planned_call, is_switch, call_type, entered_here, entered_switched, planned_system, planned_calls};
 ghost use Rattle.i9_memory.specs.Memory.{memory_of};
 ghost use Rattle.i9_watch.specs.Watch.{frames_of};
+ghost use Rattle.i9_calls.specs.Controls.{IsWithin};
 
 use crate::controls::{in_supervisor_mode, trace_enable, with_supervisor};
 use crate::words::{aligned, read_word};
@@ -37,11 +39,13 @@ fn is_switch(entry: u32, pc: u32) -> bool
 
 /// The procedure of a table's entry is called on the stack in use.
 fn enter_here(w: &Watch, entry: u32, pc: u32, fp: u32, sp: u32) -> Result<Sys, u32>
-    ensures value { result ≡ unless (save_hazard (frames_of w.now) (rounded_down fp)) (entered_here entry pc fp sp 0 (call_type pc false)) }
+    ensures value { result ≡ unless (save_hazard (frames_of w.now) (rounded_down fp))
+        (entered_here entry pc fp sp 0 (call_type pc false)) }
     ensures free { IfOk result (λ s. save_hazard (frames_of w.now) s.push.save ≡ None) }
     ensures aligned { IfOk result (λ s. s.push.save % 16 ≡ 0) }
+    ensures kept { IsWithin PC_MASK pc → IfOk result (λ s. IsWithin PC_MASK s.pc) }
 {
-    let push = w.plan_push(fp, sp, 0, LOCAL_RETURN)?;
+    let push = plan_call(w, fp, sp)?;
     Ok(Sys {
         push,
         target: aligned(entry),
@@ -53,9 +57,11 @@ fn enter_here(w: &Watch, entry: u32, pc: u32, fp: u32, sp: u32) -> Result<Sys, u
 /// The procedure of a table's entry is called on the supervisor stack, of which `stack` is the word
 /// in the table.
 fn enter_switched(w: &Watch, entry: u32, stack: u32, pc: u32, fp: u32) -> Result<Sys, u32>
-    ensures value { result ≡ unless (save_hazard (frames_of w.now) (rounded_down fp)) (entered_switched entry stack pc fp 0 (call_type pc true)) }
+    ensures value { result ≡ unless (save_hazard (frames_of w.now) (rounded_down fp))
+        (entered_switched entry stack pc fp 0 (call_type pc true)) }
     ensures free { IfOk result (λ s. save_hazard (frames_of w.now) s.push.save ≡ None) }
     ensures aligned { IfOk result (λ s. s.push.save % 16 ≡ 0) }
+    ensures kept { IsWithin PC_MASK pc → IfOk result (λ s. IsWithin PC_MASK s.pc) }
 {
     let kind = SUPERVISOR_RETURN + trace_enable(pc) as u8;
     let push = w.plan_push(fp, aligned(stack), 0, kind)?;
@@ -74,6 +80,7 @@ fn enter(m: &Memory, w: &Watch, table: u32, n: u32, pc: u32, fp: u32, sp: u32) -
     ensures value { result ≡ planned_system (memory_of m.now) (frames_of w.now) table n pc fp sp 0 (call_type pc) }
     ensures free { IfOk result (λ s. save_hazard (frames_of w.now) s.push.save ≡ None) }
     ensures aligned { IfOk result (λ s. s.push.save % 16 ≡ 0) }
+    ensures kept { IsWithin PC_MASK pc → IfOk result (λ s. IsWithin PC_MASK s.pc) }
 {
     let entry = read_word(m, w, table.wrapping_add(SYSTEM_TABLE_ENTRIES + 4 * n))?;
     if !is_switch(entry, pc) {
@@ -102,6 +109,9 @@ pub fn plan_calls(
     // So the frame can be saved there.
     ensures free { IfOk result (λ s. save_hazard (frames_of w.now) s.push.save ≡ None) }
     ensures aligned { IfOk result (λ s. s.push.save % 16 ≡ 0) }
+
+    // No bit of PC is set that is not kept.
+    ensures kept { IsWithin PC_MASK pc → IfOk result (λ s. IsWithin PC_MASK s.pc) }
 {
     if n > MOST_SYSTEM_CALL {
         return Err(CallsStop::Length);

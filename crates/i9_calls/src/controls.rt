@@ -1,6 +1,8 @@
 //! Supervisor mode and trace enable in the process controls.
 ghost use Rattle.std.specs.Prelude.{◌≡◌, ◌<◌};
+ghost use Rattle.i9_model.specs.declared.layout.TheConstants.{PC_MASK};
 ghost use Rattle.i9_model.specs.Calls.{in_supervisor_mode, trace_enable, with_supervisor, without_supervisor};
+ghost use Rattle.i9_calls.specs.Controls.{IsWithin};
 
 use crate::words::aligned;
 use i9_model::layout::SUPERVISOR;
@@ -21,17 +23,21 @@ pub(crate) fn trace_enable(pc: u32) -> u32
 }
 
 /// The process controls in supervisor mode, with another trace enable.
+#[tactic(auto, using(crate::proofs::Kept::kept_rules))]
 pub(crate) fn with_supervisor(pc: u32, trace: u32) -> u32
     requires { trace < 2 }
-    ensures { result ≡ with_supervisor pc trace }
+    ensures value { result ≡ with_supervisor pc trace }
+    ensures kept { IsWithin PC_MASK pc → IsWithin PC_MASK result }
 {
     aligned(pc) + (1 << SUPERVISOR) + trace
 }
 
 /// The process controls in user mode, with another trace enable.
+#[tactic(auto, using(crate::proofs::Kept::kept_rules))]
 pub(crate) fn without_supervisor(pc: u32, trace: u32) -> u32
     requires { trace < 2 }
-    ensures { result ≡ without_supervisor pc trace }
+    ensures value { result ≡ without_supervisor pc trace }
+    ensures kept { IsWithin PC_MASK pc → IsWithin PC_MASK result }
 {
     aligned(pc) + trace
 }

@@ -1,10 +1,11 @@
 //! Returns.
 ghost use Rattle.std.specs.Prelude.{◌≡◌, ◌<◌, ◌↔◌, IsTrue, IfOk, length};
+ghost use Rattle.i9_model.specs.declared.layout.TheConstants.{PC_MASK, AC_MASK};
 ghost use Rattle.i9_model.specs.Hazards.{unless};
 ghost use Rattle.i9_model.specs.Calls.{takes_record, leaves_supervisor, record_hazard, controls_hazard, planned_ret};
 ghost use Rattle.i9_memory.specs.Memory.{memory_of};
 ghost use Rattle.i9_watch.specs.Watch.{frames_of};
-ghost use Rattle.i9_calls.specs.Controls.{recorded, controls_after};
+ghost use Rattle.i9_calls.specs.Controls.{IsWithin, recorded, controls_after};
 
 use crate::controls::{in_supervisor_mode, without_supervisor};
 use crate::words::read_word;
@@ -37,8 +38,11 @@ fn leaves_supervisor(kind: u8) -> bool
 }
 
 /// The kept bits of the controls in the record below the frame at `fp`.
+#[tactic(auto, using(crate::proofs::Kept::kept_rules))]
 fn read_record(m: &Memory, w: &Watch, fp: u32) -> Result<Controls, u32>
-    ensures { result ≡ unless (record_hazard (frames_of w.now) fp) (recorded (memory_of m.now) fp) }
+    ensures value { result ≡ unless (record_hazard (frames_of w.now) fp) (recorded (memory_of m.now) fp) }
+    ensures kept_pc { IfOk result (λ c. IsWithin PC_MASK c.pc) }
+    ensures kept_ac { IfOk result (λ c. IsWithin AC_MASK c.ac) }
 {
     let record = (fp - fp % 16).wrapping_sub(RECORD_SIZE);
     let pc = read_word(m, w, record)?;
@@ -57,7 +61,10 @@ fn controls_after(
     fp: u32,
     controls: Controls,
 ) -> Result<Controls, u32>
-    ensures { result ≡ unless (controls_hazard (frames_of w.now) kind fp) (controls_after (memory_of m.now) kind fp controls) }
+    ensures value { result ≡ unless (controls_hazard (frames_of w.now) kind fp)
+        (controls_after (memory_of m.now) kind fp controls) }
+    ensures kept_pc { IsWithin PC_MASK controls.pc → IfOk result (λ c. IsWithin PC_MASK c.pc) }
+    ensures kept_ac { IsWithin AC_MASK controls.ac → IfOk result (λ c. IsWithin AC_MASK c.ac) }
 {
     let is_supervisor = in_supervisor_mode(controls.pc);
     if takes_record(kind) {
@@ -82,6 +89,10 @@ pub fn plan_ret(m: &Memory, w: &Watch, pfp: u32, fp: u32, pc: u32, ac: u32) -> R
 
     // So the youngest frame can be dropped.
     ensures live { IfOk result (λ p. IsTrue p.live ↔ (0 < length (frames_of w.now).live)) }
+
+    // No bit of PC or AC is set that is not kept.
+    ensures kept_pc { IsWithin PC_MASK pc → IfOk result (λ p. IsWithin PC_MASK p.pc) }
+    ensures kept_ac { IsWithin AC_MASK ac → IfOk result (λ p. IsWithin AC_MASK p.ac) }
 {
     let kind = (pfp % 8) as u8;
     let frame = pfp - pfp % 16;

@@ -343,6 +343,15 @@ fn refuses_returns(rt: HostRuntime) -> Result<(), Fail> {
     Ok(())
 }
 
+/// Returns as it is planned, if there is no hazard.
+fn return_by(memory: &Memory, watch: &mut Watch, pfp: u32, fp: u32, pc: u32) -> Result<Pop, u32> {
+    let pop = plan_ret(memory, watch, pfp, fp, pc, 0)?;
+    if pop.live {
+        watch.returned();
+    }
+    Ok(pop)
+}
+
 #[test]
 fn returns_at_the_edges(rt: HostRuntime) -> Result<(), Fail> {
     // A record below 0 is at the end of memory.
@@ -357,13 +366,48 @@ fn returns_at_the_edges(rt: HostRuntime) -> Result<(), Fail> {
             check: false,
         })
     };
-    assert_eq!(rt; plan_ret(&memory, &watch, 0x3001, 0xF, 2, 0), pop(true));
+    assert_eq!(rt; return_by(&memory, &mut watch, 0x3001, 0xF, 2), pop(true));
     // Where no frame is live, the bytes of the frame may not be soft.
-    if let Some(_) = watch.first_live() {
-        watch.returned();
-    }
-    assert_eq!(rt; plan_ret(&memory, &watch, 0x3001, 0xF, 2, 0), Err(0x3000));
+    assert_eq!(rt; return_by(&memory, &mut watch, 0x3001, 0xF, 2), Err(0x3000));
     watch.wrote(0x3000, 64);
-    assert_eq!(rt; plan_ret(&memory, &watch, 0x3001, 0xF, 2, 0), pop(false));
+    assert_eq!(rt; return_by(&memory, &mut watch, 0x3001, 0xF, 2), pop(false));
+    Ok(())
+}
+
+/// Calls system procedure `n` of the table at B00.
+fn call(memory: &Memory, watch: &mut Watch, n: u32, pc: u32, fp: u32) -> Result<Sys, Fail> {
+    match plan_calls(memory, watch, 0xB00, n, pc, fp, fp.wrapping_add(64)) {
+        Ok(sys) => {
+            watch.reserve(sys.push.save)?;
+            watch.called(sys.push.save);
+            Ok(sys)
+        }
+        Err(_) => Err("refused".into()),
+    }
+}
+
+#[test]
+fn returns_from_system_calls(rt: HostRuntime) -> Result<(), Fail> {
+    // The stack word's bit 0 is set, so the procedure is traced; a call from it stays on its stack.
+    let memory = memory(rt.alloc(), &table(0x5001))?;
+    let mut watch = watch(rt.alloc(), &[])?;
+    for pc in [0x1F_2000, 0x1F_2001] {
+        let outer = call(&memory, &mut watch, 5, pc, 0x3000)?;
+        let inner = call(&memory, &mut watch, 259, outer.pc, outer.push.frame)?;
+        assert_eq!(rt; (outer.pc, outer.push.frame), (0x1F_2003, 0x5000));
+        assert_eq!(rt; (inner.pc, inner.push.frame), (0x1F_2003, 0x5040));
+        let pops = [(inner, 0x5000, 0x1F_2003), (outer, 0x3000, pc)];
+        for (sys, frame, pc) in pops {
+            let wanted = Pop {
+                frame,
+                live: true,
+                pc,
+                ac: 0,
+                check: false,
+            };
+            let pop = return_by(&memory, &mut watch, sys.push.pfp, sys.push.frame, sys.pc);
+            assert_eq!(rt; pop, Ok(wanted));
+        }
+    }
     Ok(())
 }
