@@ -198,10 +198,10 @@ fn refuses_system_calls(rt: HostRuntime) -> Result<(), Fail> {
 fn reads_system_tables_anywhere(rt: HostRuntime) -> Result<(), Fail> {
     // The words run on from the last address to 0; in region 1 their highest byte is the first.
     let mut memory = memory(rt.alloc(), &[(0xFFFF_FFFC, 0x5001), (0x20, 0x1102)])?;
-    memory.reserve(0x1000_0000, 64)?;
-    let bytes = [(0xE, 0x60), (0xF, 0x01), (0x32, 0x13), (0x33, 0x02)];
-    for (k, byte) in bytes {
-        memory.put_byte(0x1000_0000 + k, byte);
+    for (k, byte) in [(0xE, 0x60), (0xF, 0x01), (0x32, 0x13), (0x33, 0x02)] {
+        let a = 0x1000_0000 + k;
+        memory.reserve(a, 1)?;
+        memory.put_byte(a, byte);
     }
     let watch = watch(rt.alloc(), &[])?;
     let rows = [(0xFFFF_FFF0, 0x5000, 0x1100), (0x1000_0000, 0x6000, 0x1300)];
