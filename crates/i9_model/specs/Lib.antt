@@ -8,6 +8,7 @@ pub mod Frames
 pub mod Hazards
 pub mod Tables
 pub mod Controls
+pub mod Calls
 pub mod Sound
 pub mod Addresses
 pub mod Operands

@@ -2,6 +2,7 @@
 #![tactic(auto)]
 
 mod arith;
+mod calls;
 mod laws;
 pub mod layout;
 mod port;
@@ -10,6 +11,7 @@ mod setup;
 mod view;
 
 pub use arith::Arith;
+pub use calls::{CallsStop, Pop, Sys};
 pub use laws::{every_run_ends, frames_stay_sound, live_frames_never_overlap, one_run};
 pub use port::in_port_page;
 pub use push::Push;
