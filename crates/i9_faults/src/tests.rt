@@ -1,0 +1,1 @@
+//! Faults, worked out by hand.
