@@ -2,9 +2,15 @@
 //! makes.
 #![tactic(auto)]
 
-mod raised;
+mod controls;
 
-pub use i9_model::{Entry, Fault, FaultStop};
+mod frames;
+mod handlers;
+mod raised;
+mod words;
+
+
+pub use i9_model::{Entry, Fault, FaultStop, Push};
 pub use raised::raises;
 
 #[cfg(test)]

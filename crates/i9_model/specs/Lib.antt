@@ -7,6 +7,7 @@ pub mod State
 pub mod Frames
 pub mod Hazards
 pub mod Tables
+pub mod Calls
 pub mod Sound
 pub mod Addresses
 pub mod Operands

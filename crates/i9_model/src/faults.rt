@@ -51,15 +51,18 @@ pub const FAULT_ENTRY_SIZE: u32 = 8;
 /// The second word of an entry of the fault table that names a system procedure.
 pub const SYSTEM_ENTRY: u32 = 0x0000_027F;
 
-/// The bytes of the record of a fault: four words.
-pub const RECORD_SIZE: u32 = 16;
-
-/// The return type of the frame of a fault handler, the low three bits of its pfp.
-pub const FAULT_RETURN: u8 = 1;
-
 /// The bits of the process controls that the entry of a fault clears: trace enable and trace fault
 /// pending.
 pub const TRACE_BITS: u32 = 0x0000_0401;
+
+/// The code of a dead entry whose first word is of no kind.
+pub const NO_HANDLER: u8 = 1;
+
+/// The code of a dead entry whose second word does not stand for a system procedure.
+pub const NO_SYSTEM_ENTRY: u8 = 2;
+
+/// The code of a dead entry of a system procedure past the end of its table.
+pub const NO_PROCEDURE: u8 = 3;
 
 /// A fault of an instruction: its type and subtype, and the address of the instruction.
 #[derive(Clone, Copy, Debug, PartialEq, Eq)]
@@ -79,13 +82,20 @@ pub struct Entry {
     pub words: [u32; 4],
 }
 
+/// What an entry of the fault table names: a handler at an address, or the system procedure of a
+/// number.
+#[derive(Clone, Copy, Debug, PartialEq, Eq)]
+pub enum Handler {
+    Local(u32),
+    System(u32),
+}
+
 /// Why a fault is not entered.
 #[derive(Clone, Copy, Debug, PartialEq, Eq)]
 pub enum FaultStop {
     /// An access is a hazard at this address.
     Hazard(u32),
-    /// A word of a table, at this address, is not one that an entry can have: 1 where the first word
-    /// of the fault table's entry is of no kind, 2 where the second names no system procedure, 3 where
-    /// the number of the system procedure is past the end of its table.
+    /// The entry of the fault table is dead, by its word at this address; the code is `NO_HANDLER`,
+    /// `NO_SYSTEM_ENTRY` or `NO_PROCEDURE`.
     Dead { code: u8, address: u32 },
 }

@@ -48,6 +48,36 @@ pub const AC_MASK: u32 = 0x9107;
 /// The bits of the trace controls that are kept: modes, event flags and breakpoint flags.
 pub const TC_MASK: u32 = 0x0FFE_00FE;
 
+/// The bit of the process controls that is set in supervisor mode.
+pub const SUPERVISOR: u32 = 1;
+
+/// The return type of a call to an address, and of a system call that does not switch stacks.
+pub const LOCAL_RETURN: u8 = 0;
+
+/// The return type of a fault.
+pub const FAULT_RETURN: u8 = 1;
+
+/// The return type of a system call that switched stacks, to which the old trace enable is added.
+pub const SUPERVISOR_RETURN: u8 = 2;
+
+/// The return type of an interrupt.
+pub const INTERRUPT_RETURN: u8 = 7;
+
+/// The offset of the supervisor stack word in the system procedure table.
+pub const SUPERVISOR_STACK: u32 = 12;
+
+/// The offset of the first entry of the system procedure table.
+pub const SYSTEM_TABLE_ENTRIES: u32 = 48;
+
+/// The greatest number of a system procedure.
+pub const MOST_SYSTEM_CALL: u32 = 259;
+
+/// The bit of an entry of the system procedure table that asks for the supervisor stack.
+pub const ASKS_SUPERVISOR: u32 = 1;
+
+/// The bytes of the record of a fault or an interrupt, which stands below its handler's frame.
+pub const RECORD_SIZE: u32 = 16;
+
 /// The bytes of a frame's sixteen local registers.
 pub const FRAME_SIZE: u32 = 64;
 

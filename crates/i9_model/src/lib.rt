@@ -2,6 +2,7 @@
 #![tactic(auto)]
 
 mod arith;
+mod calls;
 pub mod faults;
 mod laws;
 pub mod layout;
@@ -10,7 +11,8 @@ mod setup;
 mod view;
 
 pub use arith::Arith;
-pub use faults::{Entry, Fault, FaultStop};
+pub use calls::{CallsStop, Pop, Sys};
+pub use faults::{Entry, Fault, FaultStop, Handler};
 pub use laws::{every_run_ends, frames_stay_sound, live_frames_never_overlap, one_run};
 pub use push::Push;
 pub use setup::{Breaks, CONTROL_WORDS, Setup, Tables};
