@@ -123,9 +123,12 @@ saved_pc m fp = word_in m (record_address fp)
 abbrev pub saved_ac : Memory → ℕ → ℕ
 saved_ac m fp = word_in m (wrapped (record_address fp + 4))
 
-abbrev pub record_hazard : Frames → ℕ → ℕ → Option ℕ
-record_hazard f kind fp =
-    if takes_record kind then or_else (read_hazard f (record_address fp) 4) (read_hazard f (wrapped (record_address fp + 4)) 4) else None
+-- of a record, PC is read first
+abbrev pub record_hazard : Frames → ℕ → Option ℕ
+record_hazard f fp = or_else (read_hazard f (record_address fp) 4) (read_hazard f (wrapped (record_address fp + 4)) 4)
+
+abbrev pub controls_hazard : Frames → ℕ → ℕ → Option ℕ
+controls_hazard f kind fp = if takes_record kind then record_hazard f fp else None
 
 -- process controls change in supervisor mode alone
 abbrev pub returned_pc : Memory → ℕ → ℕ → ℕ → ℕ
@@ -140,7 +143,7 @@ returned_ac m kind fp ac = if takes_record kind then bit_and (saved_ac m fp) AC_
 
 -- the record is read, and then the frame that pfp names
 unfoldable pub ret_hazard : Frames → ℕ → ℕ → Option ℕ
-ret_hazard f pfp fp = or_else (record_hazard f (return_type pfp) fp) (return_hazard f (rounded_down pfp))
+ret_hazard f pfp fp = or_else (controls_hazard f (return_type pfp) fp) (return_hazard f (rounded_down pfp))
 
 -- a return: where a frame is live the youngest is left, and after an interrupt's return software interrupts are looked at
 unfoldable pub popped : Memory → Frames → ℕ → ℕ → ℕ → ℕ → Pop

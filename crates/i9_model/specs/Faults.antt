@@ -85,7 +85,7 @@ raised i a b access pc config =
     else if is_unaligned access config then Some (OPERATION, UNALIGNED)
     else None
 
--- ---- the entry of a fault
+-- ---- the fault table
 
 -- what comes next, unless the entry has stopped; a hazard stops it
 infixl 10 ◌>>=◌
@@ -111,12 +111,18 @@ handler_of at first second =
     else if nat_le (first / 4) MOST_SYSTEM_CALL then Ok (System (first / 4))
     else Err (Dead NO_PROCEDURE at)
 
--- both words are read first
-abbrev pub handler_hazard : Frames → ℕ → Option ℕ
-handler_hazard f at = or_else (read_hazard f at 4) (read_hazard f (wrapped (at + 4)) 4)
+-- a word of a table, which is read
+abbrev pub table_word : Memory → Frames → ℕ → Result ℕ FaultStop
+table_word m f a = or_stop (unless (read_hazard f a 4) (word_in m a))
 
+-- both words are read before the first decides
 unfoldable pub planned_handler : Memory → Frames → ℕ → Result Handler FaultStop
-planned_handler m f at = or_stop (unless (handler_hazard f at) (word_in m at, word_in m (wrapped (at + 4)))) >>= λ (first, second). handler_of at first second
+planned_handler m f at = do
+  first ← table_word m f at
+  second ← table_word m f (wrapped (at + 4))
+  handler_of at first second
+
+-- ---- the entry of a fault
 
 -- The handler is entered above a record and with the return type of a fault: on the stack in use, or as by a system call.
 unfoldable pub planned_frame : Memory → Frames → ℕ → ℕ → ℕ → ℕ → Handler → Result Sys ℕ
