@@ -3,13 +3,14 @@
 #![tactic(auto)]
 
 mod controls;
-
+mod entry;
 mod frames;
 mod handlers;
 mod raised;
+mod records;
 mod words;
 
-
+pub use entry::plan_fault;
 pub use i9_model::{Entry, Fault, FaultStop, Push};
 pub use raised::raises;
 

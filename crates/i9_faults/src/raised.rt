@@ -1,13 +1,12 @@
 //! Faults that come before an instruction does anything.
 ghost use Rattle.std.specs.Prelude.{◌≡◌};
 ghost use Rattle.i9_isa.specs.Valid.{IsValid};
-ghost use Rattle.i9_model.specs.Faults.{alignment, is_invalid, is_message, is_past_table, is_special, is_supervisor, is_supervisor_only, is_unaligned, mismatches, raised, uses_special};
+ghost use Rattle.i9_model.specs.Faults.{alignment, is_invalid, is_message, is_past_table, is_special, is_supervisor_only, is_unaligned, mismatches, raised, uses_special};
 
+use crate::controls::in_supervisor_mode;
 use i9_isa::{Inst, Op, Operand};
 use i9_model::faults::{INVALID_OPERAND, LENGTH, MISMATCH, OPERATION, PROTECTION, TYPE, UNALIGNED};
-
-/// The bit of supervisor mode in the process controls.
-const SUPERVISOR: u32 = 1;
+use i9_model::layout::MOST_SYSTEM_CALL;
 
 /// The bit of the fault configuration that masks the fault of an access that is not aligned.
 const UNALIGNED_MASK: u32 = 30;
@@ -20,16 +19,6 @@ const GROUPS: u32 = 7;
 
 /// How many DMA channels there are.
 const CHANNELS: u32 = 4;
-
-/// How many entries the system procedure table has.
-const SYSTEM_PROCEDURES: u32 = 260;
-
-/// Whether process controls are those of supervisor mode.
-fn is_supervisor(pc: u32) -> bool
-    ensures { result ≡ is_supervisor pc }
-{
-    (pc >> SUPERVISOR) % 2 == 1
-}
 
 /// Whether only supervisor mode may do this with the value `b` of src2.
 fn is_supervisor_only(op: Op, b: u32) -> bool
@@ -60,7 +49,7 @@ fn uses_special(i: &Inst) -> bool
 fn mismatches(i: &Inst, b: u32, pc: u32) -> bool
     ensures { result ≡ mismatches i.now b pc }
 {
-    !is_supervisor(pc) && (is_supervisor_only(i.op, b) || uses_special(i))
+    !in_supervisor_mode(pc) && (is_supervisor_only(i.op, b) || uses_special(i))
 }
 
 /// Whether sysctl has the message of this word.
@@ -86,7 +75,7 @@ fn is_invalid(op: Op, a: u32) -> bool
 fn is_past_table(op: Op, a: u32) -> bool
     ensures { result ≡ is_past_table op a }
 {
-    op == Op::Calls && a >= SYSTEM_PROCEDURES
+    op == Op::Calls && a > MOST_SYSTEM_CALL
 }
 
 /// What the address of an access of `n` bytes is to be a multiple of.
@@ -116,6 +105,7 @@ fn is_unaligned(access: Option<(u32, u32)>, config: u32) -> bool
 /// `a` and `b` are the values of src1 and src2, `access` is the address and the number of bytes of
 /// its data access where it has one, `pc` is the process controls, and bit 30 of the fault
 /// configuration `config` masks the fault of an unaligned access.
+#[tactic(auto, unfolding(i9_model::specs::Faults::raised))]
 pub fn raises(
     i: &Inst,
     a: u32,

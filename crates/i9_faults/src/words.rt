@@ -1,9 +1,7 @@
 //! Words of memory that are read with the hazard of the read.
 ghost use Rattle.std.specs.Prelude.{◌≡◌};
-ghost use Rattle.i9_model.specs.Memory.{word_in};
 ghost use Rattle.i9_model.specs.State.{aligned};
-ghost use Rattle.i9_model.specs.Hazards.{read_hazard, unless};
-ghost use Rattle.i9_model.specs.Faults.{or_stop};
+ghost use Rattle.i9_model.specs.Faults.{checked_word};
 ghost use Rattle.i9_memory.specs.Memory.{memory_of};
 ghost use Rattle.i9_watch.specs.Watch.{frames_of};
 
@@ -16,7 +14,7 @@ pub(crate) const WORD_SIZE: u32 = 4;
 
 /// The word at `a`, or the least soft byte of its four.
 pub(crate) fn read_word(m: &Memory, w: &Watch, a: u32) -> Result<u32, FaultStop>
-    ensures { result ≡ or_stop (unless (read_hazard (frames_of w.now) a 4) (word_in (memory_of m.now) a)) }
+    ensures { result ≡ checked_word (memory_of m.now) (frames_of w.now) a }
 {
     match w.check_read(a, WORD_SIZE) {
         Some(hazard) => Err(FaultStop::Hazard(hazard)),

@@ -112,14 +112,14 @@ handler_of at first second =
     else Err (Dead NO_PROCEDURE at)
 
 -- a word of a table, which is read
-abbrev pub table_word : Memory → Frames → ℕ → Result ℕ FaultStop
-table_word m f a = or_stop (unless (read_hazard f a 4) (word_in m a))
+abbrev pub checked_word : Memory → Frames → ℕ → Result ℕ FaultStop
+checked_word m f a = or_stop (unless (read_hazard f a 4) (word_in m a))
 
 -- both words are read before the first decides
 unfoldable pub planned_handler : Memory → Frames → ℕ → Result Handler FaultStop
 planned_handler m f at = do
-  first ← table_word m f at
-  second ← table_word m f (wrapped (at + 4))
+  first ← checked_word m f at
+  second ← checked_word m f (wrapped (at + 4))
   handler_of at first second
 
 -- ---- the entry of a fault
