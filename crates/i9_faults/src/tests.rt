@@ -251,14 +251,12 @@ fn entered(rt: &HostRuntime, f: Fault, scene: Scene) -> Result<Result<Entry, Fau
 
 /// What the entry of the division makes: the save address, the new frame and stack pointers, the
 /// target and the process controls before and after.
-fn entry(save: u32, frame: u32, sp: u32, target: u32, before: u32, after: u32) -> Entry
-    requires { save < 2 ^ 32 - 1 }
-{
+fn entry(save: u32, frame: u32, sp: u32, target: u32, before: u32, after: u32) -> Entry {
     Entry {
         push: Push {
             save,
             frame,
-            pfp: save + 1,
+            pfp: save | 1,
             sp,
         },
         target,
