@@ -19,6 +19,7 @@ pub mod Branches
 pub mod Step
 pub mod Access
 pub mod Unbuilt
+pub mod Faults
 pub mod Run
 pub mod Overlay
 pub mod PrintedText

@@ -3,6 +3,7 @@
 
 mod arith;
 mod calls;
+pub mod faults;
 mod laws;
 pub mod layout;
 mod port;
@@ -12,6 +13,7 @@ mod view;
 
 pub use arith::Arith;
 pub use calls::{CallsStop, Pop, Sys};
+pub use faults::{Entry, Fault, FaultStop, Handler};
 pub use laws::{every_run_ends, frames_stay_sound, live_frames_never_overlap, one_run};
 pub use port::in_port_page;
 pub use push::Push;

@@ -1,0 +1,69 @@
+//! The entry of a fault.
+ghost use Rattle.std.specs.Prelude.{◌≡◌, ◌%◌, None, IfOk};
+ghost use Rattle.i9_model.specs.Hazards.{save_hazard};
+ghost use Rattle.i9_model.specs.Faults.{fault_record, planned_fault, record_write_hazard};
+ghost use Rattle.i9_memory.specs.Memory.{memory_of};
+ghost use Rattle.i9_watch.specs.Watch.{frames_of};
+
+use crate::controls::without_trace;
+use crate::frames::enter;
+use crate::handlers::plan_handler;
+use crate::records::record_hazard;
+use i9_memory::Memory;
+use i9_model::faults::FAULT_ENTRY_SIZE;
+use i9_model::{Entry, Fault, FaultStop};
+use i9_watch::Watch;
+
+/// The words of the record of a fault, from the process and arithmetic controls before its entry.
+fn fault_record(f: &Fault, pc: u32, ac: u32) -> [u32; 4]
+    ensures { result ≡ fault_record f.now pc ac }
+{
+    let number = (u32::from(f.kind) << 16) + u32::from(f.subtype);
+    [pc, ac, number, f.address]
+}
+
+/// What the entry of a fault makes, from the addresses of the fault table and of the system
+/// procedure table, the process and arithmetic controls, and the frame and stack pointers (i960
+/// CA/CF User's Manual, faults; the layout of the record is this project's own). The fault table has
+/// two words for each type: the address of a handler, which is entered on the stack in use, or the
+/// number of a system procedure, which is entered as by a system call. The handler's frame stands
+/// above the record and has the return type of a fault; trace enable and trace fault pending are
+/// cleared.
+///
+/// `Err` is what comes first: the hazard of the entry's two words; a dead entry; the hazard of the
+/// procedure's word in its table, of the supervisor stack word where stacks are switched, of the
+/// save area, and of the record, which is written once the frame is saved.
+#[tactic(auto, unfolding(i9_model::specs::Faults::planned_fault))]
+pub fn plan_fault(
+    m: &Memory,
+    w: &Watch,
+    table: u32,
+    system: u32,
+    f: &Fault,
+    pc: u32,
+    ac: u32,
+    fp: u32,
+    sp: u32,
+) -> Result<Entry, FaultStop>
+    ensures entry { result ≡ planned_fault (memory_of m.now) (frames_of w.now) table system f.now pc ac fp sp }
+
+    // So the frame can be saved there.
+    ensures free { IfOk result (λ e. save_hazard (frames_of w.now) e.push.save ≡ None) }
+    ensures aligned { IfOk result (λ e. e.push.save % 16 ≡ 0) }
+
+    // And the record can be written below the new one.
+    ensures record { IfOk result (λ e. record_write_hazard (frames_of w.now) e.push ≡ None) }
+{
+    let at = table.wrapping_add(FAULT_ENTRY_SIZE * u32::from(f.kind));
+    let handler = plan_handler(m, w, at)?;
+    let sys = enter(m, w, system, handler, pc, fp, sp)?;
+    if let Some(hazard) = record_hazard(w, sys.push) {
+        return Err(FaultStop::Hazard(hazard));
+    }
+    Ok(Entry {
+        push: sys.push,
+        target: sys.target,
+        pc: without_trace(sys.pc),
+        words: fault_record(f, pc, ac),
+    })
+}
