@@ -341,7 +341,9 @@ impl Processor {
     {
         let mut bytes = ArrayVec::new();
         for k in 0..n {
-            let word = self.memory.word_bytes(word_address(a, k), self.word_of(o, k));
+            let word = self
+                .memory
+                .word_bytes(word_address(a, k), self.word_of(o, k));
             append(&mut bytes, &word);
         }
         bytes
