@@ -1,5 +1,5 @@
 -- A valid instruction of a form that is built has small fields.
-use Rattle.std.proofs.Common.{◌≡◌, ℕ, zero, suc, ◌+◌, ◌%◌, ◌^◌, ◌<◌, ◌≤◌, Bool, true, false, cond, nat_lt, ◌&&◌, refl, ap, arith}
+use Rattle.std.proofs.Common.{◌≡◌, ℕ, zero, suc, ◌+◌, ◌%◌, ◌<◌, ◌≤◌, Bool, true, false, cond, nat_lt, ◌&&◌, refl, ap, arith}
 use Rattle.std.proofs.lemmas.Bool.{and_parts, eqb-true}
 use Rattle.std.specs.Prelude.{nat_le, ◌||◌, ◌==◌}
 use Rattle.std.proofs.lemmas.Bool.Decides.{nat_tests}
@@ -12,7 +12,7 @@ use Rattle.i9_isa.specs.declared.inst.Inst.{Inst}
 use Rattle.i9_isa.specs.declared.format.Format.{Format}
 use Rattle.i9_isa.specs.declared.format.Use.{Use}
 use Rattle.i9_isa.specs.declared.format.Use.TheVariants.{Unused, Source, Left, Right, Destination, Load, Store, Change}
-use Rattle.i9_isa.specs.Operands.{takes, words_written, starts_group, has_base, has_index, has_disp, has_offset, disp_limit}
+use Rattle.i9_isa.specs.Operands.{takes, words_written, starts_group, has_base, has_index, disp_limit}
 use Rattle.i9_isa.specs.Table.{row_of}
 use Rattle.i9_isa.specs.Valid.{FitsAddress, IsValid}
 use Rattle.i9_model.specs.Unbuilt.{is_built_name, is_built_operand, is_built_form}

@@ -1,5 +1,5 @@
 -- A flush that stores nothing leaves memory as it is, so the tables are read as after a flush.
-use Rattle.std.proofs.Common.{◌≡◌, ℕ, Bool, true, false, ◌&&◌, List, [], length, Option, None, refl, ap, ◌∙◌, subst, sym}
+use Rattle.std.proofs.Common.{◌≡◌, ℕ, Bool, true, false, ◌&&◌, [], None, refl, ap, ◌∙◌, sym}
 use Rattle.std.specs.Prelude.{not}
 use Rattle.i9_isa.specs.declared.inst.Inst.{Inst}
 use Rattle.i9_model.specs.Writes.{written}

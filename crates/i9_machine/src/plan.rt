@@ -27,7 +27,8 @@ use i9_exec::{branch, has_result, results_by_name};
 use i9_isa::{Inst, Op, Operand, Use, row, word_count};
 use i9_model::Push;
 use i9_model::layout::{
-    AC_MASK, CONTROL_GROUP_SIZE, CONTROL_TABLE_SIZE, FP, LINK, LOCALS, PFP, PRCB_SIZE, RIP, SP, TC_MASK,
+    AC_MASK, CONTROL_GROUP_SIZE, CONTROL_TABLE_SIZE, FP, LINK, LOCALS, PFP, PRCB_SIZE, RIP, SP,
+    TC_MASK,
 };
 
 /// One register that is set.
@@ -293,7 +294,9 @@ impl Processor {
     {
         let mut bytes = ArrayVec::new();
         for k in 0..n {
-            let word = self.memory.word_bytes(word_address(a, k), self.word_of(o, k));
+            let word = self
+                .memory
+                .word_bytes(word_address(a, k), self.word_of(o, k));
             append(&mut bytes, &word);
         }
         bytes
@@ -499,9 +502,9 @@ impl Processor {
     fn tables_hazard(&self, prcb: u32, control: u32) -> Option<u32>
         ensures { result ≡ hazard_in (frames_of self.now.watch) (ReadsTables prcb control) }
     {
-        self.watch
-            .check_flushed_read(prcb, PRCB_SIZE)
-            .or_else(|| self.watch.check_flushed_read(control, CONTROL_TABLE_SIZE))
+        self.watch.check_flushed_read(prcb, PRCB_SIZE).or_else(|| self
+            .watch
+            .check_flushed_read(control, CONTROL_TABLE_SIZE))
     }
 
     /// The processor starts anew.

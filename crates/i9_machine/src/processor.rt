@@ -18,7 +18,9 @@ ghost use Rattle.i9_model.specs.PrintedText.{view_of};
 ghost use Rattle.i9_machine.specs.Built.{IsBuilt, IsSource};
 ghost use Rattle.i9_machine.specs.Issue.{TellsIssue};
 
-use crate::built::{access_size, is_built_form, is_fault_name, is_local_return, is_unbuilt_message};
+use crate::built::{
+    access_size, is_built_form, is_fault_name, is_local_return, is_unbuilt_message,
+};
 use crate::line::Issued;
 use crate::load::load;
 use crate::start::{start_breaks, start_maps, start_registers, start_trace_controls, tables_of};

@@ -5,8 +5,8 @@ ghost use Rattle.i9_model.specs.State.{first_frame, start_sets, start_interrupts
 ghost use Rattle.i9_model.specs.Writes.{wrapped, written};
 ghost use Rattle.i9_machine.specs.Processor.{registers_of};
 
-use crate::registers::set_all;
 use crate::plan::frame_sets;
+use crate::registers::set_all;
 use i9_model::layout::{FRAME_SIZE, TC_MASK};
 use i9_model::{Breaks, Setup, Tables};
 

@@ -19,18 +19,18 @@ returns-clause-state c =
     let setup = c.boot-setup.ensures.setup ∙ ap boot_setup loaded in
     let memory = c.boot-setup.ensures.memory ∙ ap boot_memory loaded in
     let kept : state_of record { regs = c.start_registers.result; ip = c.aligned.result; ac = c.boot-setup.result.ac; pc = BOOT_PC; tc = c.start_trace_controls.result; maps = c.start_maps.result; breaks = c.start_breaks.result; tables = c.tables_of.result; count = 0; memory = c.boot-setup.new.m; watch = c.new.result } ≡ started c.boot-setup.result (registers_of (replicate 32 0)) 0 (memory_of c.boot-setup.new.m) (frames_of c.new.result) =
-        λ i. record {
-          regs = c.start_registers.ensures i;
-          ip = c.aligned.ensures i;
-          ac = c.boot-setup.result.ac;
-          pc = BOOT_PC;
-          count = 0;
-          check = false;
-          memory = memory_of c.boot-setup.new.m;
-          frames = frames_of c.new.result;
-          interrupts = record { pending = 0; mask = 0; maps = c.start_maps.ensures i; nmi = false };
-          dma = no_dma;
-          trace = record { tc = c.start_trace_controls.ensures i; breaks = c.start_breaks.ensures i };
-          tables = c.tables_of.ensures i;
-        } in
+    λ i. record {
+      regs = c.start_registers.ensures i;
+      ip = c.aligned.ensures i;
+      ac = c.boot-setup.result.ac;
+      pc = BOOT_PC;
+      count = 0;
+      check = false;
+      memory = memory_of c.boot-setup.new.m;
+      frames = frames_of c.new.result;
+      interrupts = record { pending = 0; mask = 0; maps = c.start_maps.ensures i; nmi = false };
+      dma = no_dma;
+      trace = record { tc = c.start_trace_controls.ensures i; breaks = c.start_breaks.ensures i };
+      tables = c.tables_of.ensures i;
+    } in
     kept ∙ (λ i. started (setup i) (registers_of-zeros 32 i) 0 (memory i) (c.new.ensures.frames i))

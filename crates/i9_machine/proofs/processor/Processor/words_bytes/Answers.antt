@@ -1,8 +1,8 @@
-use Rattle.std.proofs.Common.{◌≡◌, ℕ, ◌+◌, ◌*◌, List, [], ◌++◌, length, sym, ap, ◌∙◌, arith}
+use Rattle.std.proofs.Common.{◌≡◌, ℕ, List, ◌++◌, length, sym, ap, ◌∙◌, arith}
 use Rattle.std.proofs.lemmas.List.{length-append}
 use Rattle.i9_memory.specs.Memory.{memory_of}
 use Rattle.i9_model.specs.Memory.{word_bytes}
-use Rattle.i9_model.specs.Operands.{word_of, source_words}
+use Rattle.i9_model.specs.Operands.{source_words}
 use Rattle.i9_model.specs.Step.{bytes_of_words}
 use Rattle.i9_machine.specs.Processor.{state_of}
 use Rattle.i9_model.proofs.SoundRuns.{four_bytes}
