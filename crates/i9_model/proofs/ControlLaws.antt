@@ -35,8 +35,7 @@ controlled-frames s KeepsControls = refl
 controlled-frames s (Restarts first prcb) = refl
 controlled-frames s (LoadsGroup group) = group_frames (eqb group 0) (eqb group 1) (eqb group 6) s group (group_words s.memory s.tables.control_table group)
 
--- each action counts one instruction
-pub acted-count : (s : State) (a : Action) → (acted s a).count ≡ s.count + 1
+pub acted-count : (s : State) (a : Action) → (acted s a).count ≡ s.count + a.counts
 unfolding acted moved
 acted-count s a = controlled-count (moved s a) a.control
 

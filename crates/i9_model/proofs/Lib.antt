@@ -4,6 +4,7 @@ pub mod Upwards
 pub mod Places
 pub mod FrameLaws
 pub mod ControlLaws
+pub mod CallLaws
 pub mod SoundRuns
 pub mod Lines
 pub mod Stored

@@ -1,36 +1,37 @@
 -- The accesses of an instruction in a state, and the first hazard that they meet.
-use Rattle.std.specs.Prelude.{ℕ, ◌+◌, ◌==◌, if◌then◌else◌, Option, None, Result, Ok, Err}
+use Rattle.std.specs.Prelude.{ℕ, ◌+◌, ◌==◌, if◌then◌else◌, Option, Some, None, Result, Ok, Err}
 use Rattle.i9_isa.specs.declared.op.Op.{Op}
-use Rattle.i9_isa.specs.declared.op.Op.TheVariants.{Ldob, Ldib, Ldos, Ldis, Ld, Ldl, Ldt, Ldq, Stob, Stib, Stos, Stis, St, Stl, Stt, Stq, Atadd, Atmod, Call, Ret, Sysctl}
+use Rattle.i9_isa.specs.declared.op.Op.TheVariants.{Ldob, Ldib, Ldos, Ldis, Ld, Ldl, Ldt, Ldq, Stob, Stib, Stos, Stis, St, Stl, Stt, Stq, Atadd, Atmod, Call, Callx, Calls, Ret, Sysctl}
 use Rattle.i9_isa.specs.declared.inst.Inst.{Inst}
 use Rattle.i9_isa.specs.declared.inst.BadWord.{BadWord}
 use Rattle.i9_isa.specs.Words.{words_of, decoded}
-use Rattle.i9_model.specs.declared.layout.TheConstants.{PRCB_SIZE, CONTROL_TABLE_SIZE, PFP, FP}
+use Rattle.i9_model.specs.declared.layout.TheConstants.{PFP, FP}
 use Rattle.i9_model.specs.Writes.{wrapped}
 use Rattle.i9_model.specs.State.{State, Frames}
 use Rattle.i9_model.specs.Frames.{rounded_down, flushed}
-use Rattle.i9_model.specs.Hazards.{or_else, read_hazard, write_hazard, save_hazard, return_hazard}
-use Rattle.i9_model.specs.Boot.{table_word}
-use Rattle.i9_model.specs.Tables.{group_hazard}
+use Rattle.i9_model.specs.Hazards.{or_else, read_hazard, write_hazard, save_hazard}
+use Rattle.i9_model.specs.Calls.{system_hazard, ret_hazard}
+use Rattle.i9_model.specs.Tables.{tables_hazard, group_hazard}
 use Rattle.i9_model.specs.Operands.{value, address}
 use Rattle.i9_model.specs.Step.{Message, AsksNothing, AsksRestart, AsksGroup, first_word, next_word, atomic_address, message_of, argument_of, message_kind}
 
--- a read or a write of so many bytes, both after one another, a save area, a frame that is returned to, or as after a flush
--- the reads of a PRCB and of its control table, or of a control group
+-- a read or a write of so many bytes, both after one another, a save area, a system procedure, a return, or as after a flush
+-- the reads of a PRCB with its control table, or of a control group
 pub data Access : Type 0 where
   NoAccess : Access
   Reads : (address : ℕ) → (count : ℕ) → Access
   Writes : (address : ℕ) → (count : ℕ) → Access
   Changes : (address : ℕ) → (count : ℕ) → Access
   SavesAt : (address : ℕ) → Access
-  ReturnsTo : (address : ℕ) → Access
-  ReadsTables : (prcb : ℕ) → (control : ℕ) → Access
-  ReadsGroup : (table : ℕ) → (group : ℕ) → Access
+  CallsSystem : (number : ℕ) → Access
+  ReturnsBy : (pfp : ℕ) → Access
+  ReadsTables : (prcb : ℕ) → Access
+  ReadsGroup : (group : ℕ) → Access
 
 abbrev pub message_access : Message → Inst → State → Access
 message_access AsksNothing i s = NoAccess
-message_access AsksRestart i s = ReadsTables (value s i.c) (table_word s.memory (value s i.c) 1)
-message_access AsksGroup i s = ReadsGroup s.tables.control_table (argument_of i s)
+message_access AsksRestart i s = ReadsTables (value s i.c)
+message_access AsksGroup i s = ReadsGroup (argument_of i s)
 
 abbrev pub access_by : Op → Inst → State → Access
 access_by Ldob i s = Reads (address s i.ea) 1
@@ -52,23 +53,33 @@ access_by Stq i s = Writes (address s i.ea) 16
 access_by Atadd i s = Changes (atomic_address i s) 4
 access_by Atmod i s = Changes (atomic_address i s) 4
 access_by Call i s = SavesAt (rounded_down (s.regs FP))
-access_by Ret i s = ReturnsTo (rounded_down (s.regs PFP))
+access_by Callx i s = SavesAt (rounded_down (s.regs FP))
+access_by Calls i s = CallsSystem (value s i.a)
+access_by Ret i s = ReturnsBy (s.regs PFP)
 access_by Sysctl i s = message_access (message_kind (message_of i s)) i s
 access_by _ i s = NoAccess
 
-abbrev pub hazard_in : Frames → Access → Option ℕ
-hazard_in f NoAccess = None
-hazard_in f (Reads a n) = read_hazard f a n
-hazard_in f (Writes a n) = write_hazard f a n
-hazard_in f (Changes a n) = or_else (read_hazard f a n) (write_hazard f a n)
-hazard_in f (SavesAt a) = save_hazard f a
-hazard_in f (ReturnsTo a) = return_hazard f a
-hazard_in f (ReadsTables prcb control) = or_else (read_hazard (flushed f) prcb PRCB_SIZE) (read_hazard (flushed f) control CONTROL_TABLE_SIZE)
-hazard_in f (ReadsGroup table group) = group_hazard (flushed f) table group
+-- the address and the number of bytes of a data access
+abbrev pub data_of : Access → Option (ℕ × ℕ)
+data_of (Reads a n) = Some (a, n)
+data_of (Writes a n) = Some (a, n)
+data_of (Changes a n) = Some (a, n)
+data_of _ = None
+
+abbrev pub hazard_in : State → Access → Option ℕ
+hazard_in s NoAccess = None
+hazard_in s (Reads a n) = read_hazard s.frames a n
+hazard_in s (Writes a n) = write_hazard s.frames a n
+hazard_in s (Changes a n) = or_else (read_hazard s.frames a n) (write_hazard s.frames a n)
+hazard_in s (SavesAt a) = save_hazard s.frames a
+hazard_in s (CallsSystem n) = system_hazard s.memory s.frames s.tables.system_table n s.pc (s.regs FP)
+hazard_in s (ReturnsBy pfp) = ret_hazard s.frames pfp (s.regs FP)
+hazard_in s (ReadsTables prcb) = tables_hazard s.memory (flushed s.frames) prcb
+hazard_in s (ReadsGroup group) = group_hazard (flushed s.frames) s.tables.control_table group
 
 -- the hazard of an instruction's access
 unfoldable pub hazard_of : Inst → State → Option ℕ
-hazard_of i s = hazard_in s.frames (access_by i.op i s)
+hazard_of i s = hazard_in s (access_by i.op i s)
 
 -- the second word is read where the first one has it
 abbrev pub second_hazard : State → Result Inst BadWord → Option ℕ

@@ -20,6 +20,7 @@ pub mod Step
 pub mod Access
 pub mod Unbuilt
 pub mod Faults
+pub mod Fetched
 pub mod Run
 pub mod Overlay
 pub mod PrintedText

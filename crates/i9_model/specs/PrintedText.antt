@@ -7,8 +7,8 @@ use Rattle.hex.specs.Hex.{encode_upper}
 use Rattle.i9_model.specs.declared.view.View.{View}
 use Rattle.i9_model.specs.Memory.{console_byte}
 use Rattle.i9_model.specs.State.{State}
-use Rattle.i9_model.specs.Step.{Action, Drained, AtFlush, AtSync, AtEnd}
-use Rattle.i9_model.specs.Run.{Finish, Exit, Limit, Hazard, Unbuilt, Record, action_by_kind, writes_in, state_after}
+use Rattle.i9_model.specs.Step.{Action, Drained, AtFlush, AtSync, AtFault, AtEnd}
+use Rattle.i9_model.specs.Run.{Finish, Exit, Limit, Hazard, Dead, Unbuilt, Record, action_by_kind, writes_in, state_after}
 
 -- a printed line; a drained point has three
 pub data Shown : Type 0 where
@@ -76,6 +76,7 @@ words_text label ws = label ++ flat_map spaced ws ++ line_feed
 abbrev pub drained_text : Drained → List ℕ
 drained_text AtFlush = codes "flush"
 drained_text AtSync = codes "sync"
+drained_text AtFault = codes "fault"
 drained_text AtEnd = codes "end"
 
 -- the count and kind of a drained point, and its address, AC and PC
@@ -86,6 +87,7 @@ unfoldable pub finish_text : Finish → List ℕ
 finish_text (Exit w) = words_text (codes "#end exit") (w ∷ [])
 finish_text Limit = codes "#end limit" ++ line_feed
 finish_text (Hazard a) = words_text (codes "#end hazard") (a ∷ [])
+finish_text (Dead code a) = words_text (codes "#end dead " ++ decimal code) (a ∷ [])
 finish_text (Unbuilt a) = words_text (codes "#end unbuilt") (a ∷ [])
 
 -- a drained point, with its global and its local registers
@@ -109,4 +111,5 @@ abbrev pub finish_code : Finish → ℕ
 finish_code (Exit w) = 0
 finish_code Limit = 0
 finish_code (Hazard a) = 4
+finish_code (Dead code a) = 4
 finish_code (Unbuilt a) = 4

@@ -2,19 +2,24 @@
 use Rattle.std.specs.Prelude.{ℕ, ◌+◌, ◌-◌, ◌*◌, ◌/◌, nat_lt, ◌%◌, ◌^◌, ◌==◌, if◌then◌else◌, bit_and, bit_or, List, [], ◌∷◌, ◌++◌, length, map, replicate, Option, Some, None}
 use Rattle.std.specs.List.{range_with_len}
 use Rattle.i9_isa.specs.declared.op.Op.{Op}
-use Rattle.i9_isa.specs.declared.op.Op.TheVariants.{Lda, Ldob, Ldib, Ldos, Ldis, Ld, Ldl, Ldt, Ldq, Stob, Stib, Stos, Stis, St, Stl, Stt, Stq, Atadd, Atmod, Bx, Balx, Bal, Call, Ret, Flushreg, Syncf, Modac, Modtc, Modpc, Sysctl}
+use Rattle.i9_isa.specs.declared.op.Op.TheVariants.{Lda, Ldob, Ldib, Ldos, Ldis, Ld, Ldl, Ldt, Ldq, Stob, Stib, Stos, Stis, St, Stl, Stt, Stq, Atadd, Atmod, Bx, Balx, Bal, Call, Callx, Calls, Ret, Flushreg, Syncf, Modac, Modtc, Modpc, Sysctl}
 use Rattle.i9_isa.specs.declared.inst.Operand.{Operand}
 use Rattle.i9_isa.specs.declared.inst.Inst.{Inst}
 use Rattle.i9_isa.specs.Operands.{words_written}
 use Rattle.i9_isa.specs.Table.{row_of}
 use Rattle.i9_isa.specs.Words.{words_of}
-use Rattle.i9_model.specs.declared.layout.TheConstants.{LOCALS, PFP, SP, RIP, LINK, FP, AC_MASK, PC_MASK, TC_MASK}
+use Rattle.i9_model.specs.declared.layout.TheConstants.{LOCALS, PFP, SP, RIP, LINK, FP, LOCAL_RETURN, AC_MASK, PC_MASK, TC_MASK}
+use Rattle.i9_model.specs.declared.push.Push.{Push}
+use Rattle.i9_model.specs.declared.calls.Sys.{Sys}
+use Rattle.i9_model.specs.declared.calls.Pop.{Pop}
+use Rattle.i9_model.specs.declared.faults.Entry.{Entry}
 use Rattle.i9_model.specs.Writes.{wrapped, written, pairs_at}
 use Rattle.i9_model.specs.Memory.{Memory, half_in, half_bytes, word_in, word_bytes, words_in, with_bytes, with_words}
 use Rattle.i9_model.specs.State.{State, Frames, aligned}
 pub use Rattle.i9_model.specs.State.{frame_sets}
 use Rattle.i9_model.specs.Controls.{Control, KeepsControls, Restarts, LoadsGroup, controlled}
-use Rattle.i9_model.specs.Frames.{pushed, rounded_down, saved, returned, flushed, wrote}
+use Rattle.i9_model.specs.Frames.{pushed, saved, returned, flushed, wrote}
+use Rattle.i9_model.specs.Calls.{call_type, system_entered, record_address, popped}
 use Rattle.i9_model.specs.Operands.{value, source_words, number_of, address, target}
 use Rattle.i9_model.specs.Numbers.{complement}
 use Rattle.i9_model.specs.Results.{Answer, results}
@@ -29,14 +34,15 @@ pub data Move : Type 0 where
   Returns : Move
   Flushes : Move
 
--- the kinds of drained point: after flushreg, after syncf, and at the end
+-- the kinds of drained point: after flushreg, after syncf, after the entry of a fault, and at the end
 pub data Drained : Type 0 where
   AtFlush : Drained
   AtSync : Drained
+  AtFault : Drained
   AtEnd : Drained
 
 -- the registers that are set, the bytes that are stored from an address on, the frames, the arithmetic, process and trace
--- controls afterwards, the other controls, the drained point behind it, and the next address
+-- controls afterwards, the other controls, the drained point behind it, the next address, and how many instructions it counts
 pub record Action : Type 0 where
   pub sets : List (ℕ × ℕ)
   pub at : ℕ
@@ -48,6 +54,23 @@ pub record Action : Type 0 where
   pub control : Control
   pub point : Option Drained
   pub next : ℕ
+  pub counts : ℕ
+
+-- nothing is done, but control goes to an address
+abbrev pub going : State → ℕ → Action
+going s next = record {
+  sets = [];
+  at = 0;
+  bytes = [];
+  move = Stays;
+  ac = s.ac;
+  pc = s.pc;
+  tc = s.trace.tc;
+  control = KeepsControls;
+  point = None;
+  next = next;
+  counts = 1;
+}
 
 -- the address behind an instruction
 abbrev pub following : Inst → State → ℕ
@@ -55,7 +78,7 @@ following i s = wrapped (s.ip + 4 * words_of i)
 
 -- registers are set, and nothing else
 abbrev pub setting : Inst → State → List (ℕ × ℕ) → Action
-setting i s sets = record { sets = sets; at = 0; bytes = []; move = Stays; ac = s.ac; pc = s.pc; tc = s.trace.tc; control = KeepsControls; point = None; next = following i s }
+setting i s sets = record (going s (following i s)) { sets = sets }
 
 -- ---- loads, stores and atomics
 
@@ -205,17 +228,54 @@ saved_local s back r = if r == RIP then back else s.regs r
 abbrev pub saved_locals : State → ℕ → List ℕ
 saved_locals s back = map (saved_local s back) (range_with_len 0 LOCALS)
 
--- call saves the locals, and goes on in a new frame above sp
-abbrev pub call_action : Inst → State → Action
-call_action i s =
-    let p = pushed (s.regs FP) (s.regs SP) 0 0 in
-    record (setting i s (frame_sets (p.pfp ∷ p.sp ∷ replicate 14 0) p.frame)) { move = Saves p.save (saved_locals s (following i s)); next = aligned (target i s) }
+-- the registers of a new frame: pfp and sp, and zeros in the other locals
+abbrev pub push_sets : Push → List (ℕ × ℕ)
+push_sets p = frame_sets (p.pfp ∷ p.sp ∷ replicate 14 0) p.frame
 
--- ret reads the locals of the frame that pfp names, and goes on at its rip
-abbrev pub ret_action : Inst → State → Action
-ret_action i s =
-    let a = rounded_down (s.regs PFP) in
-    record (setting i s (frame_sets (words_in s.memory a LOCALS) a)) { move = Returns; next = aligned (word_in s.memory (wrapped (a + 8))) }
+-- the locals are saved with a return address, and control goes on in a new frame
+abbrev pub pushing : State → Push → ℕ → ℕ → Action
+pushing s p back next = record (going s next) { sets = push_sets p; move = Saves p.save (saved_locals s back) }
+
+-- call and callx go on in a frame above sp
+abbrev pub call_action : Inst → State → ℕ → Action
+call_action i s to = pushing s (pushed (s.regs FP) (s.regs SP) 0 LOCAL_RETURN) (following i s) (aligned to)
+
+-- the procedure that calls enters
+abbrev pub system_call : Inst → State → Sys
+system_call i s = system_entered s.memory s.tables.system_table (value s i.a) s.pc (s.regs FP) (s.regs SP) 0 (call_type s.pc)
+
+abbrev pub calls_action : Inst → State → Action
+calls_action i s = record (pushing s (system_call i s).push (following i s) (system_call i s).target) { pc = (system_call i s).pc }
+
+-- what ret makes of the controls, and the frame that pfp names
+abbrev pub return_in : State → Pop
+return_in s = popped s.memory s.frames (s.regs PFP) (s.regs FP) s.pc s.ac
+
+-- ret reads the locals of that frame, and goes on at its rip
+abbrev pub ret_action : State → Action
+ret_action s = record (going s (aligned (word_in s.memory (wrapped ((return_in s).frame + 8))))) {
+  sets = frame_sets (words_in s.memory (return_in s).frame LOCALS) (return_in s).frame;
+  move = Returns;
+  pc = (return_in s).pc;
+  ac = (return_in s).ac;
+}
+
+-- ---- faults
+
+-- an instruction that faults is counted, and control goes behind its words
+abbrev pub faulting : ℕ → State → Action
+faulting words s = going s (wrapped (s.ip + 4 * words))
+
+-- The entry of a fault saves the locals with the address behind the instruction, writes its record, and goes on at its
+-- handler. It is no instruction of its own.
+abbrev pub entering : Entry → State → Action
+entering e s = record (pushing s e.push s.ip e.target) {
+  at = record_address e.push.frame;
+  bytes = bytes_of_words s.memory (record_address e.push.frame) e.words;
+  pc = e.pc;
+  point = Some AtFault;
+  counts = 0;
+}
 
 -- a branch, and every other name by the table of results
 abbrev pub other_action : Op → Inst → State → Action
@@ -248,8 +308,10 @@ action_by Atmod i s = atomic i s (λ old. merged old (value s i.b) (value s i.c)
 action_by Bx i s = linking i s [] (address s i.ea)
 action_by Balx i s = linking i s ((number_of i.c, following i s) ∷ []) (address s i.ea)
 action_by Bal i s = linking i s ((LINK, following i s) ∷ []) (target i s)
-action_by Call i s = call_action i s
-action_by Ret i s = ret_action i s
+action_by Call i s = call_action i s (target i s)
+action_by Callx i s = call_action i s (address s i.ea)
+action_by Calls i s = calls_action i s
+action_by Ret i s = ret_action s
 action_by Flushreg i s = record (setting i s []) { move = Flushes; point = Some AtFlush }
 action_by Syncf i s = record (setting i s []) { point = Some AtSync }
 action_by Modac i s = modac_action i s
@@ -285,7 +347,7 @@ moved s a = record s {
   memory = with_bytes (memory_after s.memory a.move) a.at a.bytes;
   frames = wrote (frames_after s.frames a.move) a.at (length a.bytes);
   ip = a.next;
-  count = s.count + 1;
+  count = s.count + a.counts;
 }
 
 unfoldable pub acted : State → Action → State

@@ -1,0 +1,100 @@
+-- What a plan of a call or of a fault's entry says of the frame that is saved and of the record.
+use Rattle.std.proofs.Common.{◌≡◌, ℕ, Bool, true, false, cond, List, length, Option, None, Some, Result, Ok, Err, refl, sym, ap, ◌∙◌, subst}
+use Rattle.i9_model.specs.declared.layout.TheConstants.{RECORD_SIZE}
+use Rattle.i9_model.specs.declared.push.Push.{Push}
+use Rattle.i9_model.specs.declared.calls.Sys.{Sys}
+use Rattle.i9_model.specs.declared.faults.Fault.{Fault}
+use Rattle.i9_model.specs.declared.faults.Entry.{Entry}
+use Rattle.i9_model.specs.declared.faults.Handler.{Handler}
+use Rattle.i9_model.specs.declared.faults.Handler.TheVariants.{Local, System}
+use Rattle.i9_model.specs.declared.faults.FaultStop.{FaultStop}
+use Rattle.i9_model.specs.Memory.{Memory, word_in}
+use Rattle.i9_model.specs.State.{Frames}
+use Rattle.i9_model.specs.Frames.{rounded_down, saved}
+use Rattle.i9_model.specs.Hazards.{or_else, unless, read_hazard, write_hazard, port_hazard, save_hazard}
+use Rattle.i9_model.specs.Calls.{entry_address, stack_address, is_switch, stack_hazard, system_hazard, entered_here, entered_switched, entered_by, system_entered, record_address}
+use Rattle.i9_model.specs.Faults.{◌>>=◌, or_stop, table_entry, planned_handler, planned_frame, record_write_hazard, fault_record, entry_of, planned_fault}
+
+pub first_none : (o p : Option ℕ) → or_else o p ≡ None → o ≡ None
+first_none None p e = refl
+first_none (Some a) p e = absurd cc
+
+pub second_none : (o p : Option ℕ) → or_else o p ≡ None → p ≡ None
+second_none None p e = e
+second_none (Some a) p e = absurd cc
+
+-- ---- system procedures
+
+-- the save area of a procedure's frame is checked last
+pub system_free : (m : Memory) (f : Frames) (table n pc fp : ℕ) → system_hazard m f table n pc fp ≡ None → save_hazard f (rounded_down fp) ≡ None
+unfolding system_hazard
+system_free m f table n pc fp e =
+    let at = entry_address table n in
+    let stack = stack_hazard f table (is_switch (word_in m at) pc) in
+    let area = save_hazard f (rounded_down fp) in
+    second_none stack area (second_none (read_hazard f at 4) (or_else stack area) e)
+
+save_by : (b : Bool) (entry stack pc fp sp extra : ℕ) (kind : Bool → ℕ) → (cond b (entered_switched entry stack pc fp extra (kind true)) (entered_here entry pc fp sp extra (kind false))).push.save ≡ rounded_down fp
+save_by true entry stack pc fp sp extra kind = refl
+save_by false entry stack pc fp sp extra kind = refl
+
+-- the locals are saved at fp
+pub system_save : (m : Memory) (table n pc fp sp extra : ℕ) (kind : Bool → ℕ) → (system_entered m table n pc fp sp extra kind).push.save ≡ rounded_down fp
+unfolding system_entered
+system_save m table n pc fp sp extra kind =
+    let entry = word_in m (entry_address table n) in
+    save_by (is_switch entry pc) entry (word_in m (stack_address table)) pc fp sp extra kind
+
+-- ---- the entry of a fault
+
+unless_ok : {A : Type 0} (h : Option ℕ) (x y : A) → unless h x ≡ Ok y → (h ≡ None) × (x ≡ y)
+unless_ok None x y e = (refl, cc)
+unless_ok (Some a) x y e = absurd cc
+
+stop_ok : {A : Type 0} (r : Result A ℕ) (x : A) → or_stop r ≡ Ok x → r ≡ Ok x
+stop_ok (Ok y) x e = cc
+stop_ok (Err a) x e = absurd cc
+
+bind_ok : {A B : Type 0} (r : Result A FaultStop) (next : A → Result B FaultStop) (y : B) → (r >>= next) ≡ Ok y → (x : A) × (next x ≡ Ok y)
+bind_ok (Ok x) next y e = (x, e)
+bind_ok (Err stop) next y e = absurd cc
+
+bind_both : {A B : Type 0} (r : Result A FaultStop) (next : A → Result B FaultStop) (y : B) → (r >>= next) ≡ Ok y → (x : A) × (r ≡ Ok x) × (next x ≡ Ok y)
+bind_both (Ok x) next y e = (x, refl, e)
+bind_both (Err stop) next y e = absurd cc
+
+frame_free : (m : Memory) (f : Frames) (system pc fp sp : ℕ) (h : Handler) (s : Sys) → planned_frame m f system pc fp sp h ≡ Ok s → save_hazard f s.push.save ≡ None
+unfolding planned_frame
+frame_free m f system pc fp sp (Local target) s e =
+    let u = unless_ok (save_hazard f (rounded_down fp)) (entered_here target pc fp sp RECORD_SIZE 1) s e in
+    ap (λ (x : Sys). save_hazard f x.push.save) (sym u.1) ∙ u.0
+frame_free m f system pc fp sp (System n) s e =
+    let t = system_entered m system n pc fp sp RECORD_SIZE (λ _. 1) in
+    let u = unless_ok (system_hazard m f system n pc fp) t s e in
+    ap (λ (x : Sys). save_hazard f x.push.save) (sym u.1)
+    ∙ ap (save_hazard f) (system_save m system n pc fp sp RECORD_SIZE (λ _. 1))
+    ∙ system_free m f system n pc fp u.0
+
+-- the save area and the record of an entry meet no hazard, and the record has four words
+pub record EntersFree (f : Frames) (e : Entry) : Type 0 where
+  pub save : save_hazard f e.push.save ≡ None
+  pub record_free : write_hazard (saved f e.push.save) (record_address e.push.frame) RECORD_SIZE ≡ None
+  pub four : length e.words ≡ 4
+
+record_of_entry : (f : Frames) (fault : Fault) (pc ac : ℕ) (s : Sys) (e : Entry) → save_hazard f s.push.save ≡ None → record_write_hazard f s.push ≡ None → entry_of fault pc ac s ≡ e → EntersFree f e
+unfolding record_write_hazard
+record_of_entry f fault pc ac s e save none same =
+    let here : EntersFree f (entry_of fault pc ac s) = record {
+      save = save;
+      record_free = first_none (write_hazard (saved f s.push.save) (record_address s.push.frame) RECORD_SIZE) (port_hazard (record_address s.push.frame) RECORD_SIZE) none;
+      four = refl;
+    } in
+    subst (EntersFree f) same here
+
+pub enters_free : (m : Memory) (f : Frames) (table system : ℕ) (fault : Fault) (pc ac fp sp : ℕ) (e : Entry) → planned_fault m f table system fault pc ac fp sp ≡ Ok e → EntersFree f e
+unfolding planned_fault
+enters_free m f table system fault pc ac fp sp e ok =
+    let a = bind_ok (planned_handler m f (table_entry table fault.kind)) (λ h. or_stop (planned_frame m f system pc fp sp h) >>= (λ s. or_stop (unless (record_write_hazard f s.push) (entry_of fault pc ac s)))) e ok in
+    let b = bind_both (or_stop (planned_frame m f system pc fp sp a.0)) (λ s. or_stop (unless (record_write_hazard f s.push) (entry_of fault pc ac s))) e a.1 in
+    let c = unless_ok (record_write_hazard f b.0.push) (entry_of fault pc ac b.0) e (stop_ok (unless (record_write_hazard f b.0.push) (entry_of fault pc ac b.0)) e b.2) in
+    record_of_entry f fault pc ac b.0 e (frame_free m f system pc fp sp a.0 b.0 (stop_ok (planned_frame m f system pc fp sp a.0) b.0 b.1)) c.0 c.1
