@@ -143,6 +143,7 @@ built_of_valid i v t =
     let second = and_parts (name && a) b first.0 in
     let third = and_parts name a second.0 in
     record {
+      valid = v;
       form = t;
       a = source_of (row_of i.op).a i.a third.1 v.a;
       b = source_of (row_of i.op).b i.b second.1 v.b;

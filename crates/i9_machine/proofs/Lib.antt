@@ -9,3 +9,4 @@ pub mod Answering
 pub mod Transfers
 pub mod Regions
 pub mod Restarts
+pub mod CallPlans

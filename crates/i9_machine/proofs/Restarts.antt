@@ -58,7 +58,3 @@ group_free i s group none =
     ap (λ (t : Tables). group_hazard (moved s (flushing i s (LoadsGroup group))).frames t.control_table group) (flushing-tables i s (LoadsGroup group))
     ∙ ap (λ (f : Frames). group_hazard f s.tables.control_table group) (flushing-frames i s (LoadsGroup group))
     ∙ none
-
-pub tables_free : (m : Memory) (f : Frames) (prcb control : ℕ) → control ≡ table_word m prcb 1 → or_else (read_hazard f prcb PRCB_SIZE) (read_hazard f control CONTROL_TABLE_SIZE) ≡ None → tables_hazard m f prcb ≡ None
-unfolding tables_hazard
-tables_free m f prcb control e none = ap (λ (a : ℕ). or_else (read_hazard f prcb PRCB_SIZE) (read_hazard f a CONTROL_TABLE_SIZE)) (sym e) ∙ none

@@ -1,6 +1,6 @@
 -- Words of loads and bytes of stores.
 use Rattle.std.proofs.Common.{◌≡◌, ℕ, suc, ◌+◌, ◌*◌, ◌^◌, ◌<◌, ◌≤◌, List, [], ◌∷◌, ◌++◌, length, get_or, take, refl, sym, ap, ◌∙◌, add-one, append_assoc, append-nil, arith}
-use Rattle.std.proofs.lemmas.List.{take_all}
+use Rattle.std.proofs.lemmas.List.{take_all, length-take}
 use Rattle.std.proofs.lemmas.List.FromFn.{map-range_with_len_more, length-map-range_with_len}
 use Rattle.std.proofs.Math.Seq.{take-suc}
 use Rattle.i9_isa.specs.declared.op.Op.{Op}
@@ -60,3 +60,18 @@ unfolding bytes_of_words
 source_none m a s o = refl
 
 pub ruleset store_rules = (source_more, source_none)
+
+-- ---- the record of a fault
+
+pub listed_more : (m : Memory) (a : ℕ) (ws : List ℕ) (k : ℕ) → a < 2 ^ 32 → k < length ws → bytes_of_words m a (take (k + 1) ws) ≡ bytes_of_words m a (take k ws) ++ word_bytes m (wrapped (a + 4 * k)) (get_or ws k 0)
+listed_more m a ws k h few =
+    let long : length (take k ws) ≡ k = omega (arith, length-take k ws) in
+    ap (bytes_of_words m a) (ap (λ (j : ℕ). take j ws) (add-one k) ∙ take-suc ws k 0 few)
+    ∙ words_then m a (take k ws) (get_or ws k 0) h
+    ∙ ap (λ (n : ℕ). bytes_of_words m a (take k ws) ++ word_bytes m (wrapped (a + 4 * n)) (get_or ws k 0)) long
+
+pub listed_none : (m : Memory) (a : ℕ) (ws : List ℕ) → bytes_of_words m a (take 0 ws) ≡ []
+unfolding bytes_of_words
+listed_none m a ws = refl
+
+pub ruleset record_rules = (listed_more, listed_none)

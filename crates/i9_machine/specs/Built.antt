@@ -9,6 +9,7 @@ use Rattle.i9_model.specs.Step.{destination}
 use Rattle.i9_model.specs.Unbuilt.{is_built_form}
 use Rattle.i9_isa.specs.Operands.{words_written}
 use Rattle.i9_isa.specs.Table.{row_of}
+use Rattle.i9_isa.specs.Valid.{IsValid}
 
 -- a register or a literal, below 32
 abbrev pub IsSource : Operand → Type 0
@@ -16,8 +17,9 @@ IsSource (Reg r) = r < 32
 IsSource (Lit n) = n < 32
 IsSource (Sfr k) = ⊥
 
--- its form is built, its fields are small, and the registers of its result and of its src/dst are there
+-- it is valid, its form is built, its fields are small, and the registers of its result and of its src/dst are there
 pub record IsBuilt (i : Inst) : Type 0 where
+  pub valid : IsValid i
   pub form : is_built_form i ≡ true
   pub a : IsSource i.a
   pub b : IsSource i.b

@@ -34,7 +34,7 @@ control_in (controls.Restarts first prcb) = plain_controls.Restarts first prcb
 control_in (controls.LoadsGroup group) = plain_controls.LoadsGroup group
 
 abbrev pub action_in : Effect → plain.Action
-action_in e = record { sets = e.sets.items; at = e.address; bytes = e.bytes.items; move = move_in e.frames; ac = e.ac; pc = e.pc; tc = e.tc; control = control_in e.control; point = option_map drained_of e.point; next = e.next }
+action_in e = record { sets = e.sets.items; at = e.address; bytes = e.bytes.items; move = move_in e.frames; ac = e.ac; pc = e.pc; tc = e.tc; control = control_in e.control; point = option_map drained_of e.point; next = e.next; counts = e.counts }
 
 -- each place is one of the 32 registers
 abbrev pub AreRegisters : List (ℕ × ℕ) → Type 0
@@ -62,8 +62,8 @@ pub record IsEffect (s : State) (action : plain.Action) (e : Effect) : Type 0 wh
 
 -- an action whose access meets no hazard, or the hazard
 abbrev pub IsPlanFor : State → Access → plain.Action → Result Effect ℕ → Type 0
-IsPlanFor s access action (Ok e) = (hazard_in s.frames access ≡ None) × IsEffect s action e
-IsPlanFor s access action (Err a) = hazard_in s.frames access ≡ Some a
+IsPlanFor s access action (Ok e) = (hazard_in s access ≡ None) × IsEffect s action e
+IsPlanFor s access action (Err a) = hazard_in s access ≡ Some a
 
 -- there is room for what is done to frames
 abbrev pub HasMoveRoom : Memory → Watch → Move → Type 0

@@ -1,4 +1,5 @@
 pub mod Line
+pub mod Due
 pub mod Built
 pub mod Effect
 pub mod Processor

@@ -1,7 +1,7 @@
 -- The lines and ends of the machine in the plain forms of the definitions.
 use Rattle.std.specs.Prelude.{◌≡◌, List, ◌++◌, map}
-use Rattle.i9_model.specs.Run.{Finish, Exit, Limit, Hazard, Unbuilt}
-use Rattle.i9_model.specs.Step.{Drained, AtFlush, AtSync, AtEnd}
+use Rattle.i9_model.specs.Run.{Finish, Exit, Limit, Hazard, Dead, Unbuilt}
+use Rattle.i9_model.specs.Step.{Drained, AtFlush, AtSync, AtFault, AtEnd}
 use Rattle.i9_model.specs.PrintedText.{Shown, Out, Point, End}
 use Rattle.i9_machine.specs.declared.line.End.{End as MachineEnd}
 use Rattle.i9_machine.specs.declared.line.End.TheVariants as ends
@@ -14,11 +14,13 @@ abbrev pub finish_of : MachineEnd → Finish
 finish_of (ends.Exit w) = Exit w
 finish_of ends.Limit = Limit
 finish_of (ends.Hazard a) = Hazard a
+finish_of (ends.Dead code a) = Dead code a
 finish_of (ends.Unbuilt a) = Unbuilt a
 
 abbrev pub drained_of : MachinePoint → Drained
 drained_of points.Flush = AtFlush
 drained_of points.Sync = AtSync
+drained_of points.Fault = AtFault
 drained_of points.End = AtEnd
 
 abbrev pub shown_of : Line → Shown

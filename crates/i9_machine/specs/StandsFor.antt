@@ -1,15 +1,16 @@
 -- What a machine stands for, and what one step of it does.
-use Rattle.std.specs.Prelude.{◌≡◌, ℕ, ◌-◌, ◌<◌, List, ◌∷◌, Option, Some, None, true}
+use Rattle.std.specs.Prelude.{◌≡◌, ℕ, ◌+◌, ◌-◌, ◌*◌, ◌<◌, List, ◌∷◌, Option, Some, None, true}
 use Rattle.std.specs.Option.{option_map}
 use Rattle.i9_model.specs.State.{State}
-use Rattle.i9_model.specs.Run.{Finish, Kind, Record, Instruction, Next, Does, Ends, IsPast, state_after, due_after, next, action_by_kind}
+use Rattle.i9_isa.specs.Words.{words_of}
+use Rattle.i9_model.specs.Run.{Finish, Kind, Record, Instruction, Faulted, Entered, Next, Does, Ends, IsPast, state_after, due_after, next, action_by_kind}
 use Rattle.i9_model.specs.PrintedText.{action_lines, end_lines}
 use Rattle.i9_machine.specs.declared.line.End.{End}
-use Rattle.i9_machine.specs.declared.line.Issued.{Issued}
 use Rattle.i9_machine.specs.declared.line.Line.{Line}
 use Rattle.i9_machine.specs.declared.line.Turn.{Turn}
 use Rattle.i9_machine.specs.declared.line.Turn.TheVariants as turns
 use Rattle.i9_machine.specs.declared.machine.Machine.{Machine}
+use Rattle.i9_machine.specs.Due.{due_in, pending}
 use Rattle.i9_machine.specs.Processor.{state_of}
 use Rattle.i9_machine.specs.Issue.{TellsIssue}
 use Rattle.i9_machine.specs.Effect.{needs_room}
@@ -24,21 +25,25 @@ IsOver image limit rs (Some f) = next image limit rs ≡ Ends f
 pub record StandsFor (image : List (ℕ × ℕ)) (limit : ℕ) (rs : List Record) (end : Option Finish) (m : Machine) : Type 0 where
   pub past : IsPast image limit rs
   pub state : state_of m.processor ≡ state_after image rs
-  pub due : option_map finish_of m.due ≡ due_after image rs
+  pub due : due_in m.due ≡ due_after image rs
   pub bound : m.length ≡ limit
   pub ended : option_map finish_of m.ended ≡ end
   pub over : IsOver image limit rs end
 
-abbrev pub TellsRecord : Kind → State → Issued → Type 0
-TellsRecord (Instruction i) s t = TellsIssue i s t
+-- an instruction is told, also where it faulted, and the entry of a fault is none
+abbrev pub TellsRecord : Kind → State → Turn → Type 0
+TellsRecord (Instruction i) s (turns.Issued t) = TellsIssue (words_of i) s t
+TellsRecord (Faulted words fault) s (turns.Issued t) = TellsIssue words s t
+TellsRecord (Entered e) s turns.On = Unit {0}
+TellsRecord _ s _ = ⊥
 
 -- the next record was done, and its lines were appended
-pub record DoesNext (image : List (ℕ × ℕ)) (limit : ℕ) (rs : List Record) (t : Issued) (m : Machine) (old new : List Line) : Type 0 where
+pub record DoesNext (image : List (ℕ × ℕ)) (limit : ℕ) (rs : List Record) (answer : Turn) (m : Machine) (old new : List Line) : Type 0 where
   pub done : Record
   pub is_next : next image limit rs ≡ Does done
   pub stands : StandsFor image limit (done ∷ rs) None m
   pub lines : AddsLines old new (action_lines (action_by_kind done.kind (state_after image rs)) done.after)
-  pub tells : TellsRecord done.kind (state_after image rs) t
+  pub tells : TellsRecord done.kind (state_after image rs) answer
 
 -- the end was answered, and its lines were appended
 pub record EndsRun (image : List (ℕ × ℕ)) (limit : ℕ) (rs : List Record) (f : Finish) (m : Machine) (old new : List Line) : Type 0 where
@@ -59,8 +64,8 @@ pub record IsRefused (image : List (ℕ × ℕ)) (limit : ℕ) (rs : List Record
 
 -- what a step does, by its answer
 abbrev pub Advances : List (ℕ × ℕ) → ℕ → List Record → Turn → Machine → List Line → List Line → Type 0
-Advances image limit rs turns.On m old new = ⊥
-Advances image limit rs (turns.Issued t) m old new = DoesNext image limit rs t m old new
+Advances image limit rs turns.On m old new = DoesNext image limit rs turns.On m old new
+Advances image limit rs (turns.Issued t) m old new = DoesNext image limit rs (turns.Issued t) m old new
 Advances image limit rs (turns.End e) m old new = EndsRun image limit rs (finish_of e) m old new
 Advances image limit rs turns.Memory m old new = IsRefused image limit rs m old new
 
@@ -76,13 +81,13 @@ pub record AnswersAgain (image : List (ℕ × ℕ)) (limit : ℕ) (rs : List Rec
 abbrev pub sets_of : Machine → Option ℕ
 sets_of m = m.sets
 
--- how many instructions there may still be
+-- how many steps there may still be: an instruction and its fault's entry, and an entry that is due
 abbrev pub steps_left : Machine → ℕ
-steps_left m = m.length - m.processor.count
+steps_left m = 2 * (m.length - m.processor.count) + pending m.due
 
--- an instruction leaves fewer
+-- an instruction and an entry leave fewer
 abbrev pub LeavesFewer : Turn → ℕ → ℕ → Type 0
-LeavesFewer turns.On before now = ⊥
+LeavesFewer turns.On before now = now < before
 LeavesFewer (turns.Issued t) before now = now < before
 LeavesFewer (turns.End e) before now = Unit {0}
 LeavesFewer turns.Memory before now = Unit {0}

@@ -187,9 +187,9 @@ impl Processor {
         requires can { CanMove (frames_of self.old.watch) e.now.frames }
         requires bytes { HasRoom self.old.memory e.now.address (length e.now.bytes.items) }
         requires frames { HasMoveRoom self.old.memory self.old.watch e.now.frames }
-        requires count { self.old.count < 2 ^ 63 }
+        requires count { self.old.count + e.now.counts < 2 ^ 63 }
         ensures state { state_of self.new ≡ moved (state_of self.old) (action_in e.now) }
-        ensures count { self.new.count ≡ self.old.count + 1 }
+        ensures count { self.new.count ≡ self.old.count + e.now.counts }
     {
         move_frames(&mut self.memory, &mut self.watch, &e.frames);
         store(&mut self.memory, e.address, e.bytes.as_slice());
@@ -199,7 +199,7 @@ impl Processor {
         self.pc = e.pc;
         self.tc = e.tc;
         self.ip = e.next;
-        self.count += 1;
+        self.count += e.counts;
     }
 
     /// Does what was planned.
@@ -210,9 +210,9 @@ impl Processor {
         requires bytes { HasRoom self.old.memory e.now.address (length e.now.bytes.items) }
         requires frames { HasMoveRoom self.old.memory self.old.watch e.now.frames }
         requires controls { CanControl (moved (state_of self.old) (action_in e.now)) e.now.control }
-        requires count { self.old.count < 2 ^ 63 }
+        requires count { self.old.count + e.now.counts < 2 ^ 63 }
         ensures state { state_of self.new ≡ acted (state_of self.old) (action_in e.now) }
-        ensures count { self.new.count ≡ self.old.count + 1 }
+        ensures count { self.new.count ≡ self.old.count + e.now.counts }
     {
         self.do_moves(e);
         self.control(e.control);

@@ -1,7 +1,8 @@
 //! What is built so far, of the form of an instruction.
-ghost use Rattle.std.specs.Prelude.{◌≡◌, ◌<◌};
+ghost use Rattle.std.specs.Prelude.{◌≡◌};
 ghost use Rattle.i9_model.specs.Branches.{asks, question_of};
-ghost use Rattle.i9_model.specs.Unbuilt.{access_size, is_built_name, is_fault_name, is_built_operand, is_built_form, is_local_return, is_unbuilt_message};
+ghost use Rattle.i9_model.specs.Fetched.{is_fault_name};
+ghost use Rattle.i9_model.specs.Unbuilt.{is_built_name, is_built_operand, is_built_form};
 
 use i9_isa::{Inst, Op, Operand};
 
@@ -9,14 +10,7 @@ use i9_isa::{Inst, Op, Operand};
 fn is_built_name(op: Op) -> bool
     ensures { result ≡ is_built_name op }
 {
-    !matches!(op, Op::Callx | Op::Calls | Op::Sdma)
-}
-
-/// Whether a message of sysctl is not built, or is refused with a fault.
-pub(crate) fn is_unbuilt_message(message: u8, argument: u8) -> bool
-    ensures { result ≡ is_unbuilt_message message argument }
-{
-    message == 0 || 4 < message || message == 4 && 6 < argument
+    !matches!(op, Op::Sdma)
 }
 
 /// Whether a name is that of a fault instruction.
@@ -55,26 +49,4 @@ pub(crate) fn is_built_form(i: &Inst) -> bool
     ensures { result ≡ is_built_form i.now }
 {
     is_built_name(i.op) && is_built_operand(i.a) && is_built_operand(i.b) && is_built_operand(i.c)
-}
-
-/// What the data access of an instruction has to be aligned to.
-pub(crate) fn access_size(op: Op) -> u32
-    ensures size { result ≡ access_size op }
-    ensures some { 0 < result }
-{
-    match op {
-        Op::Ldos | Op::Ldis | Op::Stos | Op::Stis => 2,
-        Op::Ld | Op::St => 4,
-        Op::Ldl | Op::Stl => 8,
-        Op::Ldt | Op::Ldq | Op::Stt | Op::Stq => 16,
-        _ => 1,
-    }
-}
-
-/// Whether a return of the type in pfp is built.
-pub(crate) fn is_local_return(pfp: u32) -> bool
-    ensures { result ≡ is_local_return pfp }
-{
-    let kind = pfp % 8;
-    kind == 0 || kind == 4 || kind == 5 || kind == 6
 }

@@ -42,7 +42,8 @@ pub(crate) enum Control {
 
 /// The registers that are set with their values, the bytes that are stored from an address on, what
 /// is done to frames, the arithmetic, process and trace controls afterwards, what is done to the
-/// other controls, the drained point behind it, and the next instruction address.
+/// other controls, the drained point behind it, the next instruction address, and how many
+/// instructions are counted.
 #[derive(Debug, Drop)]
 pub(crate) struct Effect {
     pub(crate) sets: ArrayVec<(u8, u32), MOST_SETS>,
@@ -55,6 +56,7 @@ pub(crate) struct Effect {
     pub(crate) control: Control,
     pub(crate) point: Option<Point>,
     pub(crate) next: u32,
+    pub(crate) counts: u64,
 }
 
 /// The byte at a place, of bytes that stand from an address on.

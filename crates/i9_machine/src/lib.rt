@@ -4,7 +4,10 @@
 
 mod apply;
 mod built;
+mod calls;
+mod due;
 mod effect;
+mod fetch;
 mod line;
 mod load;
 mod machine;
@@ -12,6 +15,7 @@ mod plan;
 mod processor;
 mod registers;
 mod start;
+mod system;
 mod words;
 
 pub use line::{End, Issued, Line, Point, Turn};

@@ -10,8 +10,13 @@ pub enum End {
     Exit(u32),
     /// The length of the run was reached.
     Limit,
-    /// An access met this byte, of a frame that may not have been written to memory.
+    /// An access met this byte, of a frame that may not have been written to memory or of the port page;
+    /// or a return met another frame than the youngest live one, at this address.
     Hazard(u32),
+    /// A fault met a dead entry of the fault table: its code (1 where its first word names no handler,
+    /// 2 where its second word names no system procedure, 3 where that procedure's number is too
+    /// great), and the address of that word.
+    Dead(u8, u32),
     /// What stands at this address is not built yet.
     Unbuilt(u32),
 }
@@ -29,7 +34,7 @@ pub struct Issued {
 /// What a step was.
 #[derive(Clone, Copy, Debug, PartialEq, Eq)]
 pub enum Turn {
-    /// No instruction and no end.
+    /// The entry of a fault.
     On,
     /// An instruction.
     Issued(Issued),
@@ -46,6 +51,8 @@ pub enum Point {
     Flush,
     /// After syncf.
     Sync,
+    /// After the entry of a fault.
+    Fault,
     /// At the end of the run.
     End,
 }

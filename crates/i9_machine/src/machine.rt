@@ -1,40 +1,41 @@
 //! The machine, one step at a time.
-ghost use Rattle.std.specs.Prelude.{◌≡◌, ◌++◌, ◌+◌, ◌<◌, ◌≤◌, ◌∷◌, [], ℕ, List, Option, None, Some, OnOk, OnErr, IfOk, IfSome, vec_len, vec_capacity, length, true, false};
+ghost use Rattle.std.specs.Prelude.{◌≡◌, ◌+◌, ◌*◌, ◌<◌, ◌≤◌, [], ℕ, List, Option, None, Some, OnOk, OnErr, IfOk, IfSome, vec_len, vec_capacity, length, true};
 ghost use Rattle.std.specs.Option.{option_map};
-ghost use Rattle.i9_memory.specs.Memory.{memory_of, HasRoom};
+ghost use Rattle.i9_memory.specs.Memory.{HasRoom};
 ghost use Rattle.i9_watch.specs.Watch.{frames_of};
 ghost use Rattle.i9_model.specs.declared.layout.TheConstants.{MAX_LENGTH};
 ghost use Rattle.i9_model.specs.Image.{pairs_of};
 ghost use Rattle.i9_model.specs.Overlay.{overlay};
 ghost use Rattle.i9_model.specs.Access.{hazard_of};
 ghost use Rattle.i9_model.specs.State.{State};
-ghost use Rattle.i9_model.specs.Unbuilt.{is_unbuilt_control};
-ghost use Rattle.i9_model.specs.Step.{moved, acted, action_by};
-ghost use Rattle.i9_model.specs.Run.{Finish, Record, Does, Ends, record_of, next_by_access, state_after, exit_in};
+ghost use Rattle.i9_model.specs.Step.{moved, acted};
+ghost use Rattle.i9_model.specs.Run.{Finish, Record, Does, Ends, Faulted, record_of, fault_at, end_due, next_by_access, state_after, exit_in};
 ghost use Rattle.i9_model.specs.PrintedText.{view_of, out_lines, point_lines, action_lines, last_lines};
-ghost use Rattle.i9_machine.specs.declared.line.End.{End};
-ghost use Rattle.i9_machine.specs.Built.{IsBuilt};
-ghost use Rattle.i9_machine.specs.Effect.{action_in, AreRegisters, CanControl, CanMove, HasMoveRoom, IsEffect, point_count, line_count, needs_room};
+ghost use Rattle.i9_machine.specs.Due.{due_in, pending};
+ghost use Rattle.i9_machine.specs.Effect.{action_in, AreRegisters, CanControl, CanMove, HasMoveRoom, point_count, line_count, needs_room};
 ghost use Rattle.i9_machine.specs.Line.{finish_of, drained_of, AddsLines};
-ghost use Rattle.i9_machine.specs.Processor.{state_of};
+ghost use Rattle.i9_machine.specs.Processor.{state_of, CanRun};
 
+use crate::due::Due;
 use crate::effect::Effect;
+use crate::fetch::Fetched;
 use crate::line::{End, Line, Point, Turn, put_line};
 use crate::processor::Processor;
+use i9_faults::{Fault, FaultStop};
 use i9_hex::Segments;
-use i9_isa::{Inst, NoMemory};
+use i9_isa::{Inst, NoMemory, word_count};
 use i9_model::View;
 use i9_model::layout::MAX_LENGTH;
 use std::alloc::Global;
 
-/// A machine that runs an image: what an instruction may read or change, the length of the run, the
-/// end that comes next whatever the length, and the end that was answered.
+/// A machine that runs an image: what an instruction may read or change, the length of the run, what
+/// comes next whatever the length, and the end that was answered.
 #[derive(Drop)]
 pub struct Machine {
     processor: Processor,
     sets: Option<u8>,
     length: u64,
-    due: Option<End>,
+    due: Due,
     ended: Option<End>,
     ghost short: { length ≤ MAX_LENGTH },
     ghost below: { processor.count ≤ length },
@@ -96,7 +97,7 @@ fn put_point(point: Option<Point>, view: View, out: &mut Vec<Line>)
 
 impl Machine {
     ghost use Rattle.i9_machine.specs.StandsFor.{StandsFor, Advances, AnswersAgain, steps_left, LeavesFewer, sets_of};
-    ghost use Rattle.i9_machine.specs.Run.{Steps, next_for};
+    ghost use Rattle.i9_machine.specs.Run.{Steps, IsStep, next_for};
 
     /// A machine before its first step: its run has the image's bytes and at most so many instructions.
     /// The number of register sets is kept, and not used yet.
@@ -116,7 +117,7 @@ impl Machine {
             processor,
             sets,
             length,
-            due: None,
+            due: Due::Nothing,
             ended: None,
         })
     }
@@ -173,55 +174,53 @@ impl Machine {
         reserve_lines(e, out)
     }
 
-    /// The exit that an effect brings.
-    fn exit_in(&self, e: &Effect) -> Option<End>
-        ensures { option_map finish_of result ≡ exit_in (state_of self.now.processor) (action_in e.now) }
+    /// What an instruction's effect makes due: its exit, where it brings one.
+    fn due_by(&self, e: &Effect) -> Due
+        ensures { due_in result ≡ end_due (exit_in (state_of self.now.processor) (action_in e.now)) }
     {
         match e.exit_word(&self.processor.memory) {
-            Some(w) => Some(End::Exit(w)),
-            None => None,
+            Some(w) => Due::End(End::Exit(w)),
+            None => Due::Nothing,
         }
     }
 
-    /// Does what is planned, prints its lines, and keeps the exit that it brings.
-    fn act(&mut self, e: &Effect, out: &mut Vec<Line>)
+    /// Does what is planned, prints its lines, and keeps what is due afterwards.
+    fn act(&mut self, e: &Effect, due: Due, out: &mut Vec<Line>)
         requires registers { AreRegisters e.now.sets.items }
         requires can { CanMove (frames_of self.old.processor.watch) e.now.frames }
         requires bytes { HasRoom self.old.processor.memory e.now.address (length e.now.bytes.items) }
         requires frames { HasMoveRoom self.old.processor.memory self.old.processor.watch e.now.frames }
         requires controls { CanControl (moved (state_of self.old.processor) (action_in e.now)) e.now.control }
         requires lines { vec_len out.old + line_count (action_in e.now) ≤ vec_capacity out.old }
-        requires below { self.old.processor.count < self.old.length }
+        requires below { self.old.processor.count + e.now.counts ≤ self.old.length }
         ensures state { state_of self.new.processor ≡ acted (state_of self.old.processor) (action_in e.now) }
-        ensures count { self.new.processor.count ≡ self.old.processor.count + 1 }
-        ensures due { option_map finish_of self.new.due ≡ exit_in (state_of self.old.processor) (action_in e.now) }
+        ensures count { self.new.processor.count ≡ self.old.processor.count + e.now.counts }
+        ensures due { self.new.due ≡ due }
         ensures bound { self.new.length ≡ self.old.length }
         ensures ended { self.new.ended ≡ self.old.ended }
         ensures sets { sets_of self.new ≡ sets_of self.old }
         ensures lines { AddsLines out.old.items out.new.items (action_lines (action_in e.now) (acted (state_of self.old.processor) (action_in e.now))) }
     {
-        let due = self.exit_in(e);
         self.processor.apply(e);
         self.due = due;
         put_out(e.console_byte(), out);
         put_point(e.point, self.processor.view(), out);
     }
 
-    /// Does an instruction whose effect is known.
-    fn perform(&mut self, i: &Inst, e: &Effect, out: &mut Vec<Line>) -> Turn
+    /// Makes room for an effect and does it, and answers as said.
+    fn perform(&mut self, e: &Effect, due: Due, answer: Turn, out: &mut Vec<Line>) -> Turn
         requires running { self.old.ended ≡ None }
-        requires below { self.old.processor.count < self.old.length }
-        requires effect { IsEffect (state_of self.old.processor) (action_by i.now.op i.now (state_of self.old.processor)) e.now }
-        requires is_next { next_for self.old ≡ Does (record_of i.now (state_of self.old.processor)) }
+        requires below { self.old.processor.count + e.now.counts ≤ self.old.length }
+        requires fewer { pending due + 1 ≤ 2 * e.now.counts + pending self.old.due }
+        requires step { IsStep (state_of self.old.processor) (next_for self.old) e.now due answer }
         ensures steps { Steps self.old result self.new out.old.items out.new.items }
         ensures fewer { LeavesFewer result (steps_left self.old) (steps_left self.new) }
         ensures sets { sets_of self.new ≡ sets_of self.old }
     {
-        let issued = self.processor.issued(i);
         match self.make_room(e, out) {
             Ok(()) => {
-                self.act(e, out);
-                Turn::Issued(issued)
+                self.act(e, due, out);
+                answer
             }
             Err(_) => Turn::Memory,
         }
@@ -231,17 +230,80 @@ impl Machine {
     #[tactic(auto, unfolding(i9_model::specs::Access::hazard_of))]
     fn issue(&mut self, i: &Inst, out: &mut Vec<Line>) -> Turn
         requires running { self.old.ended ≡ None }
-        requires built { IsBuilt i.now }
-        requires control { is_unbuilt_control i.now.op i.now (state_of self.old.processor) ≡ false }
+        requires ready { CanRun (state_of self.old.processor) i.now }
         requires below { self.old.processor.count < self.old.length }
         requires is_next { next_for self.old ≡ next_by_access (state_of self.old.processor) i.now (hazard_of i.now (state_of self.old.processor)) }
         ensures steps { Steps self.old result self.new out.old.items out.new.items }
         ensures fewer { LeavesFewer result (steps_left self.old) (steps_left self.new) }
         ensures sets { sets_of self.new ≡ sets_of self.old }
     {
+        let issued = self.processor.issued(word_count(i));
         match self.processor.plan(i) {
-            Ok(effect) => self.perform(i, &effect, out),
+            Ok(effect) => {
+                let due = self.due_by(&effect);
+                self.perform(&effect, due, Turn::Issued(issued), out)
+            }
             Err(address) => self.finish(End::Hazard(address), out),
+        }
+    }
+
+    /// An instruction of so many words faults, and the entry of its fault is due.
+    fn fault(&mut self, words: u32, number: (u8, u16), out: &mut Vec<Line>) -> Turn
+        requires running { self.old.ended ≡ None }
+        requires words { words < 3 }
+        requires below { self.old.processor.count < self.old.length }
+        requires is_next { next_for self.old ≡ Does (record_of (Faulted words (fault_at (state_of self.old.processor) number)) (state_of self.old.processor)) }
+        ensures steps { Steps self.old result self.new out.old.items out.new.items }
+        ensures fewer { LeavesFewer result (steps_left self.old) (steps_left self.new) }
+        ensures sets { sets_of self.new ≡ sets_of self.old }
+    {
+        let issued = self.processor.issued(words);
+        let fault = Fault {
+            kind: number.0,
+            subtype: number.1,
+            address: self.processor.ip,
+        };
+        let effect = self.processor.faulting(words);
+        self.perform(&effect, Due::Entry(fault), Turn::Issued(issued), out)
+    }
+
+    /// Enters a fault, unless that meets a hazard or a dead entry of the fault table.
+    fn enter(&mut self, fault: &Fault, out: &mut Vec<Line>) -> Turn
+        requires running { self.old.ended ≡ None }
+        requires due { self.old.due ≡ Due.Entry fault.now }
+        ensures steps { Steps self.old result self.new out.old.items out.new.items }
+        ensures fewer { LeavesFewer result (steps_left self.old) (steps_left self.new) }
+        ensures sets { sets_of self.new ≡ sets_of self.old }
+    {
+        match self.processor.plan_entry(fault) {
+            Ok(entry) => {
+                let effect = self.processor.entering(&entry);
+                self.perform(&effect, Due::Nothing, Turn::On, out)
+            }
+            Err(FaultStop::Hazard(address)) => self.finish(End::Hazard(address), out),
+            Err(FaultStop::Dead { code, address }) => self.finish(End::Dead(code, address), out),
+        }
+    }
+
+    /// One instruction, or the end that stands in its place.
+    fn next_instruction(&mut self, out: &mut Vec<Line>) -> Turn
+        requires running { self.old.ended ≡ None }
+        requires free { self.old.due ≡ Due.Nothing }
+        ensures steps { Steps self.old result self.new out.old.items out.new.items }
+        ensures fewer { LeavesFewer result (steps_left self.old) (steps_left self.new) }
+        ensures sets { sets_of self.new ≡ sets_of self.old }
+    {
+        if self.processor.count == self.length {
+            return self.finish(End::Limit, out);
+        }
+        match self.processor.fetch() {
+            Err(address) => self.finish(End::Hazard(address), out),
+            Ok(Fetched::NotBuilt) => {
+                let address = self.processor.ip;
+                self.finish(End::Unbuilt(address), out)
+            }
+            Ok(Fetched::Faults { words, number }) => self.fault(words, number, out),
+            Ok(Fetched::Runs(i)) => self.issue(&i, out),
         }
     }
 
@@ -252,24 +314,15 @@ impl Machine {
         ensures fewer { LeavesFewer result (steps_left self.old) (steps_left self.new) }
         ensures sets { sets_of self.new ≡ sets_of self.old }
     {
-        if let Some(e) = self.due {
-            return self.finish(e, out);
-        }
-        if self.processor.count == self.length {
-            return self.finish(End::Limit, out);
-        }
-        match self.processor.fetch() {
-            Err(address) => self.finish(End::Hazard(address), out),
-            Ok(None) => {
-                let address = self.processor.ip;
-                self.finish(End::Unbuilt(address), out)
-            }
-            Ok(Some(i)) => self.issue(&i, out),
+        match self.due {
+            Due::End(e) => self.finish(e, out),
+            Due::Entry(fault) => self.enter(&fault, out),
+            Due::Nothing => self.next_instruction(out),
         }
     }
 
-    /// One step of the run: the next record is done, or the end is answered, and the lines of it are
-    /// appended to `out`. Where memory is refused, the machine and `out` are as before. Once an end
+    /// One step of the run: the next instruction is done or faults, or its fault is entered, or the end is
+    /// answered, and the lines of it are appended to `out`. Where memory is refused, the machine and `out` are as before. Once an end
     /// was answered, each call answers it again and changes nothing.
     pub fn advance(&mut self, out: &mut Vec<Line>) -> Turn
         ensures next { (image : List (ℕ × ℕ)) (limit : ℕ) (rs : List Record) → StandsFor image limit rs None self.old

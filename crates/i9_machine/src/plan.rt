@@ -1,35 +1,28 @@
 //! What an instruction will do.
-ghost use Rattle.std.specs.Prelude.{◌≡◌, ◌+◌, ◌*◌, ◌%◌, ◌^◌, ◌<◌, ◌∷◌, ◌++◌, [], ◌≤◌, ◌==◌, not, Some, false, length, replicate};
+ghost use Rattle.std.specs.Prelude.{◌≡◌, ◌+◌, ◌%◌, ◌^◌, ◌<◌, ◌∷◌, ◌++◌, [], ◌≤◌, ◌==◌, not, Some, length};
 ghost use Rattle.i9_memory.specs.Memory.{memory_of};
 ghost use Rattle.i9_watch.specs.Watch.{frames_of};
-ghost use Rattle.i9_model.specs.Memory.{half_bytes, word_bytes, words_in};
+ghost use Rattle.i9_model.specs.Memory.{word_bytes, words_in};
 ghost use Rattle.i9_model.specs.Operands.{address, value, source_words, number_of, target};
-ghost use Rattle.i9_model.specs.Step.{Flushes, AsksNothing, AsksRestart, AsksGroup, message_of, argument_of, message_kind, message_action, modpc_action, moved, following, setting, extended, loaded, loading, bytes_of_words, stored_of, storing, merged, atomic_address, atomic, branching, linking, other_action, answer_in, answering, destination, group_sets, modified, modac_action, modtc_action, frame_sets, saved_local, saved_locals, call_action, ret_action, action_by};
+ghost use Rattle.i9_model.specs.Step.{going, following, setting, faulting, extended, loaded, loading, bytes_of_words, stored_of, storing, merged, atomic_address, atomic, branching, linking, other_action, answer_in, answering, destination, group_sets, frame_sets, action_by};
 ghost use Rattle.i9_isa.specs.Operands.{words_written};
-ghost use Rattle.i9_model.specs.Unbuilt.{is_unbuilt_message, is_unbuilt_control};
-ghost use Rattle.i9_model.specs.Access.{Reads, Writes, Changes, SavesAt, ReturnsTo, ReadsTables, message_access, access_by, hazard_in};
-ghost use Rattle.i9_model.specs.Frames.{rounded_down, flushed};
-ghost use Rattle.i9_model.specs.Tables.{group_hazard};
-ghost use Rattle.i9_model.specs.State.{aligned};
+ghost use Rattle.i9_model.specs.Access.{Reads, Writes, Changes, access_by};
 ghost use Rattle.i9_model.specs.Writes.{wrapped};
 ghost use Rattle.i9_machine.specs.Built.{IsBuilt, IsSource};
-ghost use Rattle.i9_machine.specs.Effect.{AreRegisters, CanControl, CanMove, IsEffect, IsPlanFor, control_in, move_in};
+ghost use Rattle.i9_machine.specs.Effect.{AreRegisters, CanMove, IsEffect, IsPlanFor, move_in};
 ghost use Rattle.i9_machine.specs.Line.{drained_of};
+ghost use Rattle.i9_machine.specs.Processor.{CanRun};
 
 use crate::built::asks;
 use crate::effect::{Control, Effect, MOST_BYTES, MOST_SETS, Move};
 use crate::line::Point;
 use crate::processor::Processor;
 use crate::registers::number_of;
-use crate::words::{aligned, merged, modified, rounded_down, word_address};
+use crate::words::{aligned, merged, word_address};
 use arrayvec::ArrayVec;
 use i9_exec::{branch, has_result, results_by_name};
 use i9_isa::{Inst, Op, Operand, Use, row, word_count};
-use i9_model::Push;
-use i9_model::layout::{
-    AC_MASK, CONTROL_GROUP_SIZE, CONTROL_TABLE_SIZE, FP, LINK, LOCALS, PFP, PRCB_SIZE, RIP, SP,
-    TC_MASK,
-};
+use i9_model::layout::{FP, LINK, LOCALS};
 
 /// One register that is set.
 fn one_set(r: u8, v: u32) -> ArrayVec<(u8, u32), MOST_SETS>
@@ -99,7 +92,7 @@ fn extended_half(v: u16) -> u32
 
 /// Bytes are appended for which there is room.
 #[tactic(auto, using(crate::proofs::Transfers::append_rules))]
-fn append(bytes: &mut ArrayVec<u8, MOST_BYTES>, more: &[u8])
+pub(crate) fn append(bytes: &mut ArrayVec<u8, MOST_BYTES>, more: &[u8])
     requires { length bytes.old.items + length more.now ≤ MOST_BYTES }
     ensures { bytes.new.items ≡ bytes.old.items ++ more.now }
 {
@@ -126,13 +119,6 @@ fn destination(i: &Inst) -> Operand
     if writes(row(i.op).a) { i.a } else { i.c }
 }
 
-/// The locals of a new frame: pfp, sp, and zeros.
-fn new_locals(push: &Push) -> [u32; 16]
-    ensures { result ≡ push.now.pfp ∷ push.now.sp ∷ replicate 14 0 }
-{
-    [push.pfp, push.sp, 0, 0, 0, 0, 0, 0, 0, 0, 0, 0, 0, 0, 0, 0]
-}
-
 /// The bytes of one value, as a list.
 fn listed(value: &[u8]) -> ArrayVec<u8, MOST_BYTES>
     requires { length value.now ≤ MOST_BYTES }
@@ -147,15 +133,15 @@ impl Processor {
     ghost use Rattle.i9_machine.specs.Processor.{state_of};
 
     /// The address behind an instruction.
-    fn following(&self, i: &Inst) -> u32
+    pub(crate) fn following(&self, i: &Inst) -> u32
         ensures { result ≡ following i.now (state_of self.now) }
     {
         self.ip.wrapping_add(4 * word_count(i))
     }
 
-    /// Nothing is done.
-    fn nothing(&self, i: &Inst) -> Effect
-        ensures { IsEffect (state_of self.now) (setting i.now (state_of self.now) []) result }
+    /// Nothing is done, but control goes to an address.
+    pub(crate) fn going(&self, next: u32) -> Effect
+        ensures { IsEffect (state_of self.now) (going (state_of self.now) next) result }
     {
         Effect {
             sets: ArrayVec::new(),
@@ -167,12 +153,28 @@ impl Processor {
             tc: self.tc,
             control: Control::Keeps,
             point: None,
-            next: self.following(i),
+            next,
+            counts: 1,
         }
     }
 
+    /// Nothing is done.
+    pub(crate) fn nothing(&self, i: &Inst) -> Effect
+        ensures { IsEffect (state_of self.now) (setting i.now (state_of self.now) []) result }
+    {
+        self.going(self.following(i))
+    }
+
+    /// An instruction of so many words faults.
+    pub(crate) fn faulting(&self, words: u32) -> Effect
+        requires { words < 3 }
+        ensures { IsEffect (state_of self.now) (faulting words (state_of self.now)) result }
+    {
+        self.going(self.ip.wrapping_add(4 * words))
+    }
+
     /// One register is set.
-    fn setting(&self, i: &Inst, r: u8, v: u32) -> Effect
+    pub(crate) fn setting(&self, i: &Inst, r: u8, v: u32) -> Effect
         requires { r < 32 }
         ensures { IsEffect (state_of self.now) (setting i.now (state_of self.now) ((r, v) ∷ [])) result }
     {
@@ -206,36 +208,6 @@ impl Processor {
         } else {
             results_by_name();
         }
-        effect
-    }
-
-    /// The old arithmetic controls are answered, and changed under a mask.
-    fn plan_modac(&self, i: &Inst) -> Effect
-        requires { IsBuilt i.now }
-        ensures { IsEffect (state_of self.now) (modac_action i.now (state_of self.now)) result }
-    {
-        let mut effect = self.setting(i, number_of(i.c), self.ac);
-        effect.ac = modified(self.ac, self.value(i.a), self.value(i.b), AC_MASK);
-        effect
-    }
-
-    /// The old trace controls are answered, and changed under a mask.
-    fn plan_modtc(&self, i: &Inst) -> Effect
-        requires { IsBuilt i.now }
-        ensures { IsEffect (state_of self.now) (modtc_action i.now (state_of self.now)) result }
-    {
-        let mut effect = self.setting(i, number_of(i.c), self.tc);
-        effect.tc = modified(self.tc, self.value(i.a), self.value(i.b), TC_MASK);
-        effect
-    }
-
-    /// The old process controls are answered, and changed under a mask.
-    fn plan_modpc(&self, i: &Inst) -> Effect
-        requires { IsBuilt i.now }
-        ensures { IsEffect (state_of self.now) (modpc_action i.now (state_of self.now)) result }
-    {
-        let mut effect = self.setting(i, number_of(i.c), self.pc);
-        effect.pc = self.process_controls(i);
         effect
     }
 
@@ -374,7 +346,7 @@ impl Processor {
     }
 
     /// Where a branch or a call goes.
-    fn target(&self, i: &Inst) -> u32
+    pub(crate) fn target(&self, i: &Inst) -> u32
         ensures { result ≡ target i.now (state_of self.now) }
     {
         self.ip.wrapping_add_signed(i.disp)
@@ -417,150 +389,9 @@ impl Processor {
         }
     }
 
-    /// The word that a push saves of a local: rip has the return address.
-    fn saved_local(&self, k: usize, back: u32) -> u32
-        requires { k < 32 }
-        ensures { result ≡ saved_local (state_of self.now) back k }
-    {
-        if k == RIP as usize {
-            back
-        } else {
-            self.regs[k]
-        }
-    }
-
-    /// The locals that a push saves.
-    #[tactic(auto, using(crate::proofs::Frames::frame_rules))]
-    fn saved_locals(&self, back: u32) -> ArrayVec<u32, LOCALS>
-        ensures { result.items ≡ saved_locals (state_of self.now) back }
-    {
-        let mut words = ArrayVec::new();
-        for k in 0..LOCALS {
-            words.push(self.saved_local(k, back));
-        }
-        words
-    }
-
-    /// The words of a frame in memory.
-    #[tactic(auto, using(crate::proofs::Frames::frame_rules))]
-    fn frame_words(&self, a: u32) -> ArrayVec<u32, LOCALS>
-        ensures { result.items ≡ words_in (memory_of self.now.memory) a LOCALS }
-    {
-        let mut words = ArrayVec::new();
-        for k in 0..LOCALS {
-            words.push(self.memory.word(word_address(a, k)));
-        }
-        words
-    }
-
-    /// The locals are saved, and a new frame is entered.
-    #[tactic(auto, using(crate::proofs::Frames::push_rules))]
-    fn plan_call(&self, i: &Inst) -> Result<Effect, u32>
-        ensures { IsPlanFor (state_of self.now) (SavesAt (rounded_down ((state_of self.now).regs FP))) (call_action i.now (state_of self.now)) result }
-    {
-        let push = self
-            .watch
-            .plan_push(self.regs[FP as usize], self.regs[SP as usize], 0, 0)?;
-        let mut effect = self.nothing(i);
-        effect.sets = frame_sets(&new_locals(&push), push.frame);
-        effect.frames = Move::Saves {
-            save: push.save,
-            words: self.saved_locals(self.following(i)),
-        };
-        effect.next = aligned(self.target(i));
-        Ok(effect)
-    }
-
-    /// The locals of the frame that pfp names are read, and that frame is entered again.
-    fn plan_return(&self, i: &Inst) -> Result<Effect, u32>
-        ensures { IsPlanFor (state_of self.now) (ReturnsTo (rounded_down ((state_of self.now).regs PFP))) (ret_action i.now (state_of self.now)) result }
-    {
-        let a = rounded_down(self.regs[PFP as usize]);
-        if let Some(hazard) = self.watch.check_ret(a) {
-            return Err(hazard);
-        }
-        let back = self.memory.word(a.wrapping_add(8));
-        let mut effect = self.nothing(i);
-        effect.sets = frame_sets(self.frame_words(a).as_slice(), a);
-        effect.frames = Move::Returns;
-        effect.next = aligned(back);
-        Ok(effect)
-    }
-
-    /// Frames are flushed, and something is done to the controls that start-up reads.
-    fn controlling(&self, i: &Inst, control: Control) -> Effect
-        requires { CanControl (moved (state_of self.now) (record (setting i.now (state_of self.now) []) { move = Flushes; control = control_in control })) control }
-        ensures { IsEffect (state_of self.now) (record (setting i.now (state_of self.now) []) { move = Flushes; control = control_in control }) result }
-    {
-        let mut effect = self.nothing(i);
-        effect.frames = Move::Flushes;
-        effect.control = control;
-        effect
-    }
-
-    /// The hazard of the reads of a PRCB and of its control table as after a flush.
-    fn tables_hazard(&self, prcb: u32, control: u32) -> Option<u32>
-        ensures { result ≡ hazard_in (frames_of self.now.watch) (ReadsTables prcb control) }
-    {
-        self.watch.check_flushed_read(prcb, PRCB_SIZE).or_else(|| self
-            .watch
-            .check_flushed_read(control, CONTROL_TABLE_SIZE))
-    }
-
-    /// The processor starts anew.
-    fn plan_restart(&self, i: &Inst) -> Result<Effect, u32>
-        requires { IsBuilt i.now }
-        ensures { IsPlanFor (state_of self.now) (message_access AsksRestart i.now (state_of self.now)) (message_action AsksRestart i.now (state_of self.now)) result }
-    {
-        let first = self.value(i.b);
-        let prcb = self.value(i.c);
-        if let Some(a) = self.tables_hazard(prcb, self.memory.word(prcb.wrapping_add(4))) {
-            return Err(a);
-        }
-        Ok(self.controlling(i, Control::Restarts { first, prcb }))
-    }
-
-    /// The hazard of the read of a control group as after a flush.
-    #[tactic(auto, unfolding(i9_model::specs::Tables::group_hazard))]
-    fn group_hazard(&self, group: u8) -> Option<u32>
-        requires { group < 7 }
-        ensures { result ≡ group_hazard (flushed (frames_of self.now.watch)) self.now.tables.control_table group }
-    {
-        let place = CONTROL_GROUP_SIZE * u32::from(group);
-        let a = self.tables.control_table.wrapping_add(place);
-        self.watch.check_flushed_read(a, CONTROL_GROUP_SIZE)
-    }
-
-    /// A group of the control table is loaded.
-    fn plan_group(&self, i: &Inst) -> Result<Effect, u32>
-        requires built { IsBuilt i.now }
-        requires group { argument_of i.now (state_of self.now) < 7 }
-        ensures { IsPlanFor (state_of self.now) (message_access AsksGroup i.now (state_of self.now)) (message_action AsksGroup i.now (state_of self.now)) result }
-    {
-        let group = self.argument(i);
-        if let Some(a) = self.group_hazard(group) {
-            return Err(a);
-        }
-        Ok(self.controlling(i, Control::LoadsGroup(group)))
-    }
-
-    /// What a message of sysctl will do, or the hazard of its tables.
-    fn plan_message(&self, i: &Inst) -> Result<Effect, u32>
-        requires built { IsBuilt i.now }
-        requires message { is_unbuilt_message (message_of i.now (state_of self.now)) (argument_of i.now (state_of self.now)) ≡ false }
-        ensures { IsPlanFor (state_of self.now) (message_access (message_kind (message_of i.now (state_of self.now))) i.now (state_of self.now)) (message_action (message_kind (message_of i.now (state_of self.now))) i.now (state_of self.now)) result }
-    {
-        match self.message(i) {
-            3 => self.plan_restart(i),
-            4 => self.plan_group(i),
-            _ => Ok(self.nothing(i)),
-        }
-    }
-
     /// What an instruction will do, or the hazard of its access.
     pub(crate) fn plan(&self, i: &Inst) -> Result<Effect, u32>
-        requires built { IsBuilt i.now }
-        requires control { is_unbuilt_control i.now.op i.now (state_of self.now) ≡ false }
+        requires { CanRun (state_of self.now) i.now }
         ensures { IsPlanFor (state_of self.now) (access_by i.now.op i.now (state_of self.now)) (action_by i.now.op i.now (state_of self.now)) result }
     {
         match i.op {
@@ -586,8 +417,10 @@ impl Processor {
                 self.address(&i.ea),
             )),
             Op::Bal => Ok(self.linking(i, one_set(LINK, self.following(i)), self.target(i))),
-            Op::Call => self.plan_call(i),
-            Op::Ret => self.plan_return(i),
+            Op::Call => self.plan_call(i, self.target(i)),
+            Op::Callx => self.plan_call(i, self.address(&i.ea)),
+            Op::Calls => self.plan_calls(i),
+            Op::Ret => self.plan_return(),
             Op::Flushreg => Ok(self.draining(i, Move::Flushes, Point::Flush)),
             Op::Syncf => Ok(self.draining(i, Move::Stays, Point::Sync)),
             Op::Modac => Ok(self.plan_modac(i)),

@@ -1,16 +1,9 @@
 //! The registers, controls, memory and frames of the machine.
-ghost use Rattle.std.specs.Prelude.{◌≡◌, ◌+◌, ◌%◌, ◌<◌, ◌^◌, ◌==◌, ℕ, Option, None, Some, if◌then◌else◌, IfOk, IfSome, IsNone, IsSome, length, [], true, false};
-ghost use Rattle.i9_isa.specs.Valid.{IsValid};
-ghost use Rattle.i9_isa.specs.Words.{words_of};
-ghost use Rattle.i9_memory.specs.Memory.{memory_of};
-ghost use Rattle.i9_watch.specs.Watch.{frames_of};
+ghost use Rattle.std.specs.Prelude.{◌≡◌, ◌<◌, Some, IfOk, IsNone, IsSome, length, [], true};
 ghost use Rattle.i9_model.specs.Image.{pairs_of};
-ghost use Rattle.i9_model.specs.State.{State, boot};
-ghost use Rattle.i9_model.specs.Writes.{wrapped};
-ghost use Rattle.i9_model.specs.Hazards.{read_hazard};
+ghost use Rattle.i9_model.specs.State.{boot};
 ghost use Rattle.i9_model.specs.Operands.{value, word_of, address};
-ghost use Rattle.i9_model.specs.Step.{second_word, answer_in, process_controls, message_of, argument_of};
-ghost use Rattle.i9_model.specs.Unbuilt.{is_built, is_unaligned, is_other_return, is_faulty, is_raised, is_unbuilt_modpc, is_unbuilt_control};
+ghost use Rattle.i9_model.specs.Step.{answer_in, process_controls, message_of, argument_of};
 ghost use Rattle.i9_model.specs.Results.{has_result, destination_words};
 ghost use Rattle.i9_exec.specs.Shown.{answer_of};
 ghost use Rattle.i9_model.specs.Overlay.{overlay};
@@ -18,20 +11,16 @@ ghost use Rattle.i9_model.specs.PrintedText.{view_of};
 ghost use Rattle.i9_machine.specs.Built.{IsBuilt, IsSource};
 ghost use Rattle.i9_machine.specs.Issue.{TellsIssue};
 
-use crate::built::{
-    access_size, is_built_form, is_fault_name, is_local_return, is_unbuilt_message,
-};
 use crate::line::Issued;
 use crate::load::load;
 use crate::start::{start_breaks, start_maps, start_registers, start_trace_controls, tables_of};
-use crate::words::{aligned, bit, modified, priority_of};
+use crate::words::{aligned, modified};
 use i9_boot::boot;
-use i9_decode::decode;
-use i9_exec::{Done, address, branch, compute, has_result, results_by_name};
+use i9_exec::{Done, address, compute};
 use i9_hex::Segments;
-use i9_isa::{Ea, Inst, NoMemory, Op, Operand, word_count};
+use i9_isa::{Ea, Inst, NoMemory, Operand};
 use i9_memory::Memory;
-use i9_model::layout::{BOOT_PC, PC_MASK, PFP};
+use i9_model::layout::{BOOT_PC, PC_MASK};
 use i9_model::{Breaks, Tables, View};
 use i9_watch::Watch;
 use std::alloc::Global;
@@ -53,7 +42,7 @@ pub(crate) struct Processor {
 }
 
 impl Processor {
-    ghost use Rattle.i9_machine.specs.Processor.{state_of, Fetches};
+    ghost use Rattle.i9_machine.specs.Processor.{state_of};
 
     /// The state after boot.
     #[tactic(auto, unfolding(i9_model::specs::State::boot, i9_model::specs::State::started))]
@@ -103,15 +92,6 @@ impl Processor {
             self.regs[e.index as usize],
             self.ip,
         )
-    }
-
-    /// Whether an instruction has a data access that isn't aligned, which faults unless the fault
-    /// configuration masks that.
-    fn is_unaligned(&self, i: &Inst) -> bool
-        requires { IsBuilt i.now }
-        ensures { result ≡ is_unaligned i.now (state_of self.now) }
-    {
-        self.address(&i.ea) % access_size(i.op) != 0 && !bit(self.tables.fault_config, 30)
     }
 
     /// A word of a source of several.
@@ -177,116 +157,11 @@ impl Processor {
         compute(i, &a, &b, self.value(i.c), self.ac)
     }
 
-    /// Whether the result of an instruction is a fault.
-    #[tactic(auto, using(crate::proofs::Answering::answer_rules))]
-    fn is_faulty(&self, i: &Inst) -> bool
-        requires { IsBuilt i.now }
-        ensures { result ≡ is_faulty (answer_in i.now (state_of self.now)) }
+    /// What is told of an instruction of so many words that stands at the instruction address.
+    pub(crate) fn issued(&self, words: u32) -> Issued
+        ensures { TellsIssue words (state_of self.now) result }
     {
-        if !has_result(i.op) {
-            results_by_name();
-            return false;
-        }
-        self.answer(i).fault.is_some()
-    }
-
-    /// Whether an instruction is a fault instruction whose condition holds.
-    fn is_raised(&self, i: &Inst) -> bool
-        requires { IsBuilt i.now }
-        ensures { result ≡ is_raised i.now (state_of self.now) }
-    {
-        is_fault_name(i.op) && branch(i, self.value(i.a), self.value(i.b), self.ac).taken
-    }
-
-    /// Whether modpc faults, or looks at software interrupts, which are not built.
-    fn is_unbuilt_modpc(&self, i: &Inst) -> bool
-        requires { IsBuilt i.now }
-        ensures { result ≡ is_unbuilt_modpc i.now (state_of self.now) }
-    {
-        let after = self.process_controls(i);
-        self.value(i.b) != 0 && (!bit(self.pc, 1) || priority_of(after) < priority_of(self.pc))
-    }
-
-    /// Whether an instruction is a use of modpc or of sysctl that is not built.
-    fn is_unbuilt_control(&self, i: &Inst) -> bool
-        requires { IsBuilt i.now }
-        ensures { result ≡ is_unbuilt_control i.now.op i.now (state_of self.now) }
-    {
-        match i.op {
-            Op::Modpc => self.is_unbuilt_modpc(i),
-            Op::Sysctl => {
-                !bit(self.pc, 1) || is_unbuilt_message(self.message(i), self.argument(i))
-            }
-            _ => false,
-        }
-    }
-
-    /// Whether an instruction is a return of a type that is not built.
-    fn is_other_return(&self, op: Op) -> bool
-        ensures { result ≡ is_other_return op (state_of self.now) }
-    {
-        match op {
-            Op::Ret => !is_local_return(self.regs[PFP as usize]),
-            _ => false,
-        }
-    }
-
-    /// The instruction, where it is built.
-    #[tactic(auto, unfolding(i9_model::specs::Unbuilt::is_built), using(crate::proofs::BuiltForms::built_rules))]
-    fn if_built(&self, i: Inst) -> Option<Inst>
-        requires { IsValid i }
-        ensures value { result ≡ (if is_built i (state_of self.now) then Some i else None) }
-        ensures built { IfSome result IsBuilt }
-        ensures control { IfSome result (λ i. is_unbuilt_control i.op i (state_of self.now) ≡ false) }
-    {
-        if !is_built_form(&i) {
-            return None;
-        }
-        if self.is_unaligned(&i) || self.is_other_return(i.op) || self.is_faulty(&i) {
-            return None;
-        }
-        if self.is_raised(&i) || self.is_unbuilt_control(&i) || self.pc % 2 == 1 {
-            return None;
-        }
-        Some(i)
-    }
-
-    /// The hazard of the fetch of a second word.
-    fn second_hazard(&self, i: &Inst) -> Option<u32>
-        ensures { result ≡ (if words_of i.now == 2 then read_hazard (frames_of self.now.watch) (wrapped (self.now.ip + 4)) 4 else None) }
-    {
-        if word_count(i) == 2 {
-            self.watch.check_read(self.ip.wrapping_add(4), 4)
-        } else {
-            None
-        }
-    }
-
-    /// The instruction at the instruction address, where it is built, or the hazard of its fetch.
-    #[tactic(auto, unfolding(i9_model::specs::Unbuilt::fetched, i9_model::specs::Access::fetch_hazard))]
-    pub(crate) fn fetch(&self) -> Result<Option<Inst>, u32>
-        ensures { Fetches (state_of self.now) result }
-    {
-        if let Some(a) = self.watch.check_read(self.ip, 4) {
-            return Err(a);
-        }
-        let first = self.memory.word(self.ip);
-        let second = self.memory.word(self.ip.wrapping_add(4));
-        let i = match decode(first, second) {
-            Ok(i) => i,
-            Err(_) => return Ok(None),
-        };
-        if let Some(a) = self.second_hazard(&i) {
-            return Err(a);
-        }
-        Ok(self.if_built(i))
-    }
-
-    /// What is told of an instruction that stands at the instruction address.
-    pub(crate) fn issued(&self, i: &Inst) -> Issued
-        ensures { TellsIssue i.now (state_of self.now) result }
-    {
-        let second = if word_count(i) == 2 {
+        let second = if words == 2 {
             self.memory.word(self.ip.wrapping_add(4))
         } else {
             0
