@@ -11,7 +11,10 @@ mod view;
 
 pub use arith::Arith;
 pub use calls::{CallsStop, Pop, Sys};
-pub use laws::{every_run_ends, frames_stay_sound, live_frames_never_overlap, one_run};
+pub use laws::{
+    every_run_ends, frames_stay_sound, live_frames_never_overlap, one_run,
+    returns_undo_system_calls,
+};
 pub use push::Push;
 pub use setup::{Breaks, CONTROL_WORDS, Setup, Tables};
 pub use view::View;
