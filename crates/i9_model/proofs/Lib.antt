@@ -9,3 +9,4 @@ pub mod SoundRuns
 pub mod Lines
 pub mod Stored
 pub mod Stores
+pub mod Undoing

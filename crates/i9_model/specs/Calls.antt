@@ -1,5 +1,5 @@
 -- Calls and returns: what they make of frames and controls, or the hazard that they meet.
-use Rattle.std.specs.Prelude.{ℕ, ◌+◌, ◌-◌, ◌*◌, ◌%◌, ◌^◌, Bool, true, false, not, ◌==◌, ◌&&◌, ◌||◌, nat_le, nat_lt, if◌then◌else◌, bit_and, length, Option, None, Result, Ok, Err}
+use Rattle.std.specs.Prelude.{◌≡◌, ℕ, ◌+◌, ◌-◌, ◌*◌, ◌%◌, ◌^◌, Bool, true, false, not, ◌==◌, ◌&&◌, ◌||◌, nat_le, nat_lt, if◌then◌else◌, bit_and, length, Option, None, Result, Ok, Err}
 use Rattle.i9_isa.specs.Words.{bit}
 use Rattle.i9_model.specs.declared.layout.TheConstants.{SUPERVISOR, SUPERVISOR_STACK, SYSTEM_TABLE_ENTRIES, MOST_SYSTEM_CALL, ASKS_SUPERVISOR, LOCAL_RETURN, FAULT_RETURN, SUPERVISOR_RETURN, INTERRUPT_RETURN, RECORD_SIZE, PC_MASK, AC_MASK}
 use Rattle.i9_model.specs.declared.push.Push.{Push}
@@ -10,11 +10,12 @@ use Rattle.i9_model.specs.declared.calls.Pop.{Pop}
 use Rattle.i9_model.specs.Writes.{address_count, wrapped}
 use Rattle.i9_model.specs.Memory.{Memory, word_in}
 use Rattle.i9_model.specs.State.{Frames, aligned}
-use Rattle.i9_model.specs.Frames.{rounded_down, pushed}
+use Rattle.i9_model.specs.Frames.{rounded_down, pushed, saved}
 use Rattle.i9_model.specs.Hazards.{or_else, unless, read_hazard, save_hazard, return_hazard, planned_push}
 
 -- ---- process controls
 
+-- supervisor mode is a bit of the process controls
 abbrev pub in_supervisor_mode : ℕ → Bool
 in_supervisor_mode pc = bit pc SUPERVISOR
 
@@ -22,10 +23,11 @@ in_supervisor_mode pc = bit pc SUPERVISOR
 abbrev pub trace_enable : ℕ → ℕ
 trace_enable pc = pc % 2
 
--- process controls with supervisor mode set or clear, and with another trace enable
+-- process controls with supervisor mode set, and with another trace enable
 abbrev pub with_supervisor : ℕ → ℕ → ℕ
 with_supervisor pc trace = aligned pc + 2 ^ SUPERVISOR + trace
 
+-- the same with supervisor mode clear
 abbrev pub without_supervisor : ℕ → ℕ → ℕ
 without_supervisor pc trace = aligned pc + trace
 
@@ -37,9 +39,11 @@ planned_call f fp sp = planned_push f fp sp 0 LOCAL_RETURN
 
 -- ---- the system procedure table
 
+-- the entries of the table are words in a row
 abbrev pub entry_address : ℕ → ℕ → ℕ
 entry_address table n = wrapped (table + (SYSTEM_TABLE_ENTRIES + 4 * n))
 
+-- the supervisor stack word stands before them
 abbrev pub stack_address : ℕ → ℕ
 stack_address table = wrapped (table + SUPERVISOR_STACK)
 
@@ -83,6 +87,7 @@ entered_by m table entry pc fp sp extra kind =
 unfoldable pub system_entered : Memory → ℕ → ℕ → ℕ → ℕ → ℕ → ℕ → (Bool → ℕ) → Sys
 system_entered m table n pc fp sp extra kind = entered_by m table (word_in m (entry_address table n)) pc fp sp extra kind
 
+-- what is planned of procedure n, or the hazard that it meets
 abbrev pub planned_system : Memory → Frames → ℕ → ℕ → ℕ → ℕ → ℕ → ℕ → (Bool → ℕ) → Result Sys ℕ
 planned_system m f table n pc fp sp extra kind = unless (system_hazard m f table n pc fp) (system_entered m table n pc fp sp extra kind)
 
@@ -90,6 +95,7 @@ planned_system m f table n pc fp sp extra kind = unless (system_hazard m f table
 abbrev pub call_type : ℕ → Bool → ℕ
 call_type pc switched = if switched then SUPERVISOR_RETURN + trace_enable pc else LOCAL_RETURN
 
+-- a hazard is one of the two reasons why a system call is refused
 abbrev pub calls_answer : Result Sys ℕ → Result Sys CallsStop
 calls_answer (Ok s) = Ok s
 calls_answer (Err a) = Err (Hazard a)
@@ -113,10 +119,11 @@ takes_record kind = kind == FAULT_RETURN || kind == INTERRUPT_RETURN
 abbrev pub leaves_supervisor : ℕ → Bool
 leaves_supervisor kind = kind == SUPERVISOR_RETURN || kind == SUPERVISOR_RETURN + 1
 
--- the record stands below the frame that is left: its words are PC, AC and two others
+-- the record stands below the frame that is left
 abbrev pub record_address : ℕ → ℕ
 record_address fp = wrapped (rounded_down fp + (address_count - RECORD_SIZE))
 
+-- its first two words are PC and AC
 abbrev pub saved_pc : Memory → ℕ → ℕ
 saved_pc m fp = word_in m (record_address fp)
 
@@ -127,6 +134,7 @@ saved_ac m fp = word_in m (wrapped (record_address fp + 4))
 abbrev pub record_hazard : Frames → ℕ → Option ℕ
 record_hazard f fp = or_else (read_hazard f (record_address fp) 4) (read_hazard f (wrapped (record_address fp + 4)) 4)
 
+-- the record is read by the types that take controls from it
 abbrev pub controls_hazard : Frames → ℕ → ℕ → Option ℕ
 controls_hazard f kind fp = if takes_record kind then record_hazard f fp else None
 
@@ -138,6 +146,7 @@ returned_pc m kind fp pc =
     else if leaves_supervisor kind then without_supervisor pc (kind % 2)
     else pc
 
+-- arithmetic controls change wherever the record is read
 abbrev pub returned_ac : Memory → ℕ → ℕ → ℕ → ℕ
 returned_ac m kind fp ac = if takes_record kind then bit_and (saved_ac m fp) AC_MASK else ac
 
@@ -155,5 +164,16 @@ popped m f pfp fp pc ac = record {
   check = return_type pfp == INTERRUPT_RETURN;
 }
 
+-- what is planned of a return, or the hazard that it meets
 abbrev pub planned_ret : Memory → Frames → ℕ → ℕ → ℕ → ℕ → Result Pop ℕ
 planned_ret m f pfp fp pc ac = unless (ret_hazard f pfp fp) (popped m f pfp fp pc ac)
+
+-- ---- the way back
+
+-- the return that undoes a system call goes to the frame that the call saved, with the controls from before it
+abbrev pub undone : Sys → ℕ → ℕ → Pop
+undone s pc ac = record { frame = s.push.save; live = true; pc = pc; ac = ac; check = false }
+
+-- a return right after a system call, made with the pfp, fp and process controls that the call left, undoes it
+abbrev pub Undoes : Memory → Frames → ℕ → ℕ → Sys → Type 0
+Undoes later f pc ac s = planned_ret later (saved f s.push.save) s.push.pfp s.push.frame s.pc ac ≡ Ok (undone s pc ac)

@@ -13,10 +13,14 @@ pub data Control : Type 0 where
 
 -- the four words of a group as the breakpoints of instructions and of data
 abbrev pub with_breakpoints : State → List ℕ → State
-with_breakpoints s ws = record s { trace = record s.trace { breaks = record s.trace.breaks {
-  ipb = slice_index ws 0 ∷ slice_index ws 1 ∷ [];
-  dab = slice_index ws 2 ∷ slice_index ws 3 ∷ [];
-} } }
+with_breakpoints s ws = record s {
+  trace = record s.trace {
+    breaks = record s.trace.breaks {
+      ipb = slice_index ws 0 ∷ slice_index ws 1 ∷ [];
+      dab = slice_index ws 2 ∷ slice_index ws 3 ∷ [];
+    };
+  };
+}
 
 -- the first three as the interrupt maps
 abbrev pub with_maps : State → List ℕ → State
@@ -24,10 +28,12 @@ with_maps s ws = record s { interrupts = record s.interrupts { maps = slice_inde
 
 -- the second and the third as the controls of breakpoints and of tracing
 abbrev pub with_trace_controls : State → List ℕ → State
-with_trace_controls s ws = record s { trace = record {
-  tc = bit_and (slice_index ws 2) TC_MASK;
-  breaks = record s.trace.breaks { bpcon = slice_index ws 1 };
-} }
+with_trace_controls s ws = record s {
+  trace = record {
+    tc = bit_and (slice_index ws 2) TC_MASK;
+    breaks = record s.trace.breaks { bpcon = slice_index ws 1 };
+  };
+}
 
 -- Group 0 has the breakpoints, group 1 the interrupt maps, groups 2 to 5 the configuration words of regions, four each, and
 -- group 6 the controls of breakpoints and of tracing.

@@ -1,9 +1,12 @@
 //! Laws of the definitions, as the contracts of calls that do nothing.
 
-ghost use Rattle.std.specs.Prelude.{◌≡◌, ◌≤◌, ◌++◌, List, ℕ, [], None};
+ghost use Rattle.std.specs.Prelude.{◌≡◌, ◌≤◌, ◌++◌, List, ℕ, [], None, Ok};
+ghost use Rattle.i9_model.specs.declared.calls.Sys.{Sys};
+ghost use Rattle.i9_model.specs.Memory.{Memory};
 ghost use Rattle.i9_model.specs.State.{Frames};
 ghost use Rattle.i9_model.specs.Frames.{no_frames, saved, returned, flushed, wrote};
 ghost use Rattle.i9_model.specs.Hazards.{write_hazard, save_hazard};
+ghost use Rattle.i9_model.specs.Calls.{planned_calls, Undoes};
 ghost use Rattle.i9_model.specs.Sound.{AreApart, IsSound};
 ghost use Rattle.i9_model.specs.Run.{Record, Finish, IsRun, IsPast, state_after};
 ghost use Rattle.i9_model.specs.PrintedText.{text_of, lines_of, run_text};
@@ -48,4 +51,11 @@ pub fn frames_stay_sound()
     ensures flushed { (s : Frames) → IsSound s → IsSound (flushed s) }
     ensures wrote { (s : Frames) (a n : ℕ) → IsSound s → write_hazard s a n ≡ None → IsSound (wrote s a n) }
     ensures run { (image : List (ℕ × ℕ)) (limit : ℕ) (rs : List Record) → IsPast image limit rs → IsSound (state_after image rs).frames }
+{}
+
+/// A return right after a system call undoes it, whatever is in memory then: it meets no hazard,
+/// goes to the frame that the call saved, and gives back the process controls.
+pub fn returns_undo_system_calls()
+    ensures { (m later : Memory) (f : Frames) (table n pc ac fp sp : ℕ) (s : Sys)
+        → planned_calls m f table n pc fp sp ≡ Ok s → Undoes later f pc ac s }
 {}

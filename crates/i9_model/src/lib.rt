@@ -14,7 +14,10 @@ mod view;
 pub use arith::Arith;
 pub use calls::{CallsStop, Pop, Sys};
 pub use faults::{Entry, Fault, FaultStop, Handler};
-pub use laws::{every_run_ends, frames_stay_sound, live_frames_never_overlap, one_run};
+pub use laws::{
+    every_run_ends, frames_stay_sound, live_frames_never_overlap, one_run,
+    returns_undo_system_calls,
+};
 pub use port::in_port_page;
 pub use push::Push;
 pub use setup::{Breaks, CONTROL_WORDS, Setup, Tables};

@@ -1,0 +1,141 @@
+-- A return right after a system call undoes it.
+use Rattle.std.proofs.Common.{◌≡◌, ℕ, zero, suc, ◌+◌, ◌/◌, ◌%◌, ◌<◌, Bool, true, false, cond, List, ◌∷◌, length, Option, Some, None, Result, Ok, Err, refl, ap, subst, ◌∙◌, arith, bit_and}
+use Rattle.std.specs.Prelude.{nat_le, nat_lt, ◌==◌, not, if◌then◌else◌}
+use Rattle.std.proofs.lemmas.Bool.{and_parts, eqb-false}
+use Rattle.i9_model.specs.declared.layout.TheConstants.{FRAME_SIZE, MOST_SYSTEM_CALL, PC_MASK, AC_MASK}
+use Rattle.i9_model.specs.declared.calls.Sys.{Sys}
+use Rattle.i9_model.specs.declared.calls.CallsStop.TheVariants.{Length}
+use Rattle.i9_model.specs.declared.calls.Pop.{Pop}
+use Rattle.i9_model.specs.Memory.{Memory, word_in}
+use Rattle.i9_model.specs.State.{Frames}
+use Rattle.i9_model.specs.Frames.{rounded_down, pushed, saved}
+use Rattle.i9_model.specs.Hazards.{or_else, unless, port_hazard, save_hazard, write_hazard, read_hazard, return_hazard}
+use Rattle.i9_model.specs.Calls.{in_supervisor_mode, with_supervisor, entry_address, stack_address, is_switch, stack_hazard, system_hazard, entered_here, entered_switched, system_entered, call_type, calls_answer, planned_calls, return_type, takes_record, leaves_supervisor, without_supervisor, record_hazard, controls_hazard, returned_pc, returned_ac, saved_pc, saved_ac, ret_hazard, popped, planned_ret, Undoes}
+
+-- a system call that is planned meets no hazard
+made : (b : Bool) (o : Option ℕ) (p s : Sys) → (if b then calls_answer (unless o p) else Err Length) ≡ Ok s → (o ≡ None) × (p ≡ s)
+made true None p s e = (refl, cc)
+made true (Some a) p s e = absurd (cc)
+made false o p s e = absurd (cc)
+
+later_none : (o p : Option ℕ) → or_else o p ≡ None → p ≡ None
+later_none None p e = e
+later_none (Some a) p e = absurd (cc)
+
+-- so its save area meets none, and is outside the port page
+saves : (m : Memory) (f : Frames) (table n pc fp : ℕ) → system_hazard m f table n pc fp ≡ None → port_hazard (rounded_down fp) FRAME_SIZE ≡ None
+unfolding system_hazard
+saves m f table n pc fp e =
+    let entry = entry_address table n in
+    let stack = stack_hazard f table (is_switch (word_in m entry) pc) in
+    let save = save_hazard f (rounded_down fp) in
+    later_none (write_hazard f (rounded_down fp) FRAME_SIZE) (port_hazard (rounded_down fp) FRAME_SIZE)
+    (later_none stack save (later_none (read_hazard f entry 4) (or_else stack save) e))
+
+same : (a : ℕ) → (a == a) ≡ true
+same a = grind arith
+
+one_more : (xs : List ℕ) (a : ℕ) → nat_lt 0 (length (a ∷ xs)) ≡ true
+one_more xs a = grind arith
+
+-- the frame that was saved is the first live one, and no record is read
+returned_to : (r k e l : Bool) (h port : Option ℕ) (a x p pc ac : ℕ) → r ≡ false → k ≡ false → e ≡ true → l ≡ true → port ≡ None → p ≡ pc →
+    ◌≡◌ {A = Result Pop ℕ}
+    (unless (or_else (if r then h else None) (or_else (if e then None else Some a) port)) (record { frame = a; live = l; pc = p; ac = if r then x else ac; check = k }))
+    (Ok (record { frame = a; live = true; pc = pc; ac = ac; check = false }))
+returned_to r k e l h port a x p pc ac er ek ee el en ep =
+    λ i. unless (or_else (if er i then h else None) (or_else (if ee i then None else Some a) (en i))) (record { frame = a; live = el i; pc = ep i; ac = if er i then x else ac; check = ek i })
+
+-- what a return makes of its type and of its frame
+abbrev answered : Memory → Frames → ℕ → ℕ → ℕ → ℕ → ℕ → Result Pop ℕ
+answered m f kind a fp pc ac =
+    unless (or_else (controls_hazard f kind fp) (return_hazard f a))
+    (record { frame = a; live = nat_lt 0 (length f.live); pc = returned_pc m kind fp pc; ac = returned_ac m kind fp ac; check = kind == 7 })
+
+by_type : (m : Memory) (f : Frames) (pfp kind a fp pc ac : ℕ) → return_type pfp ≡ kind → rounded_down pfp ≡ a → planned_ret m f pfp fp pc ac ≡ answered m f kind a fp pc ac
+unfolding ret_hazard popped
+by_type m f pfp kind a fp pc ac p q = λ i. answered m f (p i) (q i) fp pc ac
+
+-- the type is in the low bits of the pfp that a push makes
+undoes : (m : Memory) (f : Frames) (a kind fp new pc ac : ℕ) → a % 16 ≡ 0 → kind < 8 → takes_record kind ≡ false → (kind == 7) ≡ false → returned_pc m kind fp new ≡ pc → port_hazard a FRAME_SIZE ≡ None →
+    planned_ret m (saved f a) (a + kind) fp new ac ≡ Ok (record { frame = a; live = true; pc = pc; ac = ac; check = false })
+undoes m f a kind fp new pc ac low small t k e none =
+    by_type m (saved f a) (a + kind) kind a fp new ac (omega arith) (omega arith)
+    ∙ returned_to (takes_record kind) (kind == 7) (a == a) (nat_lt 0 (length (a ∷ f.live))) (record_hazard (saved f a) fp) (port_hazard a FRAME_SIZE) a (bit_and (saved_ac m fp) AC_MASK) (returned_pc m kind fp new) pc ac
+    t k (same a) (one_more f.live a) none e
+
+-- ---- the controls
+
+either : (b : Bool) (n : ℕ) → cond b n n ≡ n
+either true n = refl
+either false n = refl
+
+-- type 000 leaves the process controls
+local_pc : (m : Memory) (fp pc : ℕ) → returned_pc m 0 fp pc ≡ pc
+local_pc m fp pc = either (not (in_supervisor_mode pc)) pc
+
+two_more : (t : ℕ) → t < 2 → takes_record (2 + t) ≡ false
+two_more zero h = refl
+two_more (suc zero) h = refl
+two_more (suc (suc t)) h = absurd (omega arith)
+
+two_leave : (t : ℕ) → t < 2 → leaves_supervisor (2 + t) ≡ true
+two_leave zero h = refl
+two_leave (suc zero) h = refl
+two_leave (suc (suc t)) h = absurd (omega arith)
+
+no_check : (t : ℕ) → t < 2 → (2 + t == 7) ≡ false
+no_check zero h = refl
+no_check (suc zero) h = refl
+no_check (suc (suc t)) h = absurd (omega arith)
+
+user_bit : (pc : ℕ) → in_supervisor_mode pc ≡ false → pc / 2 % 2 ≡ 0
+user_bit pc e = let other : pc / 2 % 2 ≡ 1 → ⊥ = eqb-false _ _ e in omega arith
+
+supervisor_bit : (pc t : ℕ) → t < 2 → in_supervisor_mode (with_supervisor pc t) ≡ true
+supervisor_bit pc t h = let one : with_supervisor pc t / 2 % 2 ≡ 1 = omega arith in ap (λ (n : ℕ). n == 1) one
+
+-- types 010 and 011 give back user mode and trace enable
+switched_pc : (m : Memory) (fp pc t : ℕ) → in_supervisor_mode pc ≡ false → t < 2 → returned_pc m (2 + pc % 2) fp (with_supervisor pc t) ≡ pc
+switched_pc m fp pc t user h =
+    let kind : ℕ = 2 + pc % 2 in
+    let new : ℕ = with_supervisor pc t in
+    let parts : (s r l : Bool) (x y z : ℕ) → s ≡ true → r ≡ false → l ≡ true → (if not s then x else if r then y else if l then z else x) ≡ z =
+    λ s r l x y z es er el. λ i. if not (es i) then x else if er i then y else if el i then z else x in
+    let old : pc / 2 % 2 ≡ 0 = user_bit pc user in
+    parts (in_supervisor_mode new) (takes_record kind) (leaves_supervisor kind) new (bit_and (saved_pc m fp) PC_MASK) (without_supervisor new (kind % 2))
+    (supervisor_bit pc t h) (two_more (pc % 2) (omega arith)) (two_leave (pc % 2) (omega arith))
+    ∙ omega arith
+
+-- ---- both ways of a system call
+
+here : (later : Memory) (f : Frames) (entry pc fp sp ac : ℕ) → port_hazard (rounded_down fp) FRAME_SIZE ≡ None →
+    Undoes later f pc ac (entered_here entry pc fp sp 0 0)
+here later f entry pc fp sp ac none =
+    undoes later f (rounded_down fp) 0 _ pc pc ac (omega arith) (omega arith) refl refl (local_pc later (pushed fp sp 0 0).frame pc) none
+
+switched : (later : Memory) (f : Frames) (entry stack pc fp ac : ℕ) → in_supervisor_mode pc ≡ false → port_hazard (rounded_down fp) FRAME_SIZE ≡ None →
+    Undoes later f pc ac (entered_switched entry stack pc fp 0 (2 + pc % 2))
+switched later f entry stack pc fp ac user none =
+    undoes later f (rounded_down fp) (2 + pc % 2) _ _ pc ac (omega arith) (omega arith) (two_more (pc % 2) (omega arith)) (no_check (pc % 2) (omega arith)) (switched_pc later _ pc (stack % 2) user (omega arith)) none
+
+not_true : (b : Bool) → not b ≡ true → b ≡ false
+not_true true e = absurd (cc)
+not_true false e = refl
+
+by_switch : (b : Bool) (later : Memory) (f : Frames) (entry stack pc fp sp ac : ℕ) → (b ≡ true → in_supervisor_mode pc ≡ false) → port_hazard (rounded_down fp) FRAME_SIZE ≡ None →
+    Undoes later f pc ac (if b then entered_switched entry stack pc fp 0 (2 + pc % 2) else entered_here entry pc fp sp 0 0)
+by_switch true later f entry stack pc fp sp ac user none = switched later f entry stack pc fp ac (user refl) none
+by_switch false later f entry stack pc fp sp ac user none = here later f entry pc fp sp ac none
+
+entered : (m later : Memory) (f : Frames) (table n pc ac fp sp : ℕ) → port_hazard (rounded_down fp) FRAME_SIZE ≡ None → Undoes later f pc ac (system_entered m table n pc fp sp 0 (call_type pc))
+unfolding system_entered
+entered m later f table n pc ac fp sp none =
+    let entry : ℕ = word_in m (entry_address table n) in
+    by_switch (is_switch entry pc) later f entry (word_in m (stack_address table)) pc fp sp ac (λ e. not_true _ (and_parts _ _ e).1) none
+
+-- a return right after a system call undoes it
+pub call-undone : (m later : Memory) (f : Frames) (table n pc ac fp sp : ℕ) (s : Sys) → planned_calls m f table n pc fp sp ≡ Ok s → Undoes later f pc ac s
+call-undone m later f table n pc ac fp sp s e =
+    let both = made (nat_le n MOST_SYSTEM_CALL) (system_hazard m f table n pc fp) (system_entered m table n pc fp sp 0 (call_type pc)) s e in
+    subst (Undoes later f pc ac) both.1 (entered m later f table n pc ac fp sp (saves m f table n pc fp both.0))
