@@ -10,3 +10,5 @@ pub mod Transfers
 pub mod Regions
 pub mod Restarts
 pub mod CallPlans
+pub mod Faulting
+pub mod Stepping

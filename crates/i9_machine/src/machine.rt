@@ -176,7 +176,8 @@ impl Machine {
 
     /// What an instruction's effect makes due: its exit, where it brings one.
     fn due_by(&self, e: &Effect) -> Due
-        ensures { due_in result ≡ end_due (exit_in (state_of self.now.processor) (action_in e.now)) }
+        ensures none { pending result ≡ 0 }
+        ensures due { due_in result ≡ end_due (exit_in (state_of self.now.processor) (action_in e.now)) }
     {
         match e.exit_word(&self.processor.memory) {
             Some(w) => Due::End(End::Exit(w)),
@@ -250,7 +251,6 @@ impl Machine {
     /// An instruction of so many words faults, and the entry of its fault is due.
     fn fault(&mut self, words: u32, number: (u8, u16), out: &mut Vec<Line>) -> Turn
         requires running { self.old.ended ≡ None }
-        requires words { words < 3 }
         requires below { self.old.processor.count < self.old.length }
         requires is_next { next_for self.old ≡ Does (record_of (Faulted words (fault_at (state_of self.old.processor) number)) (state_of self.old.processor)) }
         ensures steps { Steps self.old result self.new out.old.items out.new.items }

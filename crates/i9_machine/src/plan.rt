@@ -167,10 +167,9 @@ impl Processor {
 
     /// An instruction of so many words faults.
     pub(crate) fn faulting(&self, words: u32) -> Effect
-        requires { words < 3 }
         ensures { IsEffect (state_of self.now) (faulting words (state_of self.now)) result }
     {
-        self.going(self.ip.wrapping_add(4 * words))
+        self.going(self.ip.wrapping_add(words.wrapping_mul(4)))
     }
 
     /// One register is set.

@@ -1,5 +1,6 @@
 //! What modac, modtc, modpc and sysctl will do.
 ghost use Rattle.std.specs.Prelude.{◌≡◌, ◌<◌, [], false};
+ghost use Rattle.i9_isa.specs.declared.op.Op.TheVariants.{Sysctl};
 ghost use Rattle.i9_memory.specs.Memory.{memory_of};
 ghost use Rattle.i9_watch.specs.Watch.{frames_of};
 ghost use Rattle.i9_model.specs.Boot.{table_word};
@@ -114,7 +115,7 @@ impl Processor {
     /// What a message of sysctl will do, or the hazard of its tables.
     pub(crate) fn plan_message(&self, i: &Inst) -> Result<Effect, u32>
         requires built { IsBuilt i.now }
-        requires message { is_invalid Op.Sysctl (value (state_of self.now) i.now.a) ≡ false }
+        requires message { is_invalid Sysctl (value (state_of self.now) i.now.a) ≡ false }
         ensures { IsPlanFor (state_of self.now) (message_access (message_kind (message_of i.now (state_of self.now))) i.now (state_of self.now)) (message_action (message_kind (message_of i.now (state_of self.now))) i.now (state_of self.now)) result }
     {
         match self.message(i) {

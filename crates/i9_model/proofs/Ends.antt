@@ -26,7 +26,7 @@ counts_message AsksNothing i s = refl
 counts_message AsksRestart i s = refl
 counts_message AsksGroup i s = refl
 
-counts_by : (op : Op) (i : Inst) (s : State) → (action_by op i s).counts ≡ 1
+pub counts_by : (op : Op) (i : Inst) (s : State) → (action_by op i s).counts ≡ 1
 counts_by Sysctl i s = counts_message (message_kind (message_of i s)) i s
 counts_by _ i s = refl
 
