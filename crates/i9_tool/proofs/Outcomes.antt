@@ -2,7 +2,7 @@
 use Rattle.std.proofs.Common.{◌≡◌, ℕ, ◌<◌, ◌≤◌, ◌⊎◌, inl, inr, List, [], ◌++◌, length, Option, Some, None, refl, sym, subst, arith}
 use Rattle.i9_text.specs.Text.{lines_of}
 use Rattle.i9_model.specs.HexText.{IsImage, IsRefused}
-use Rattle.i9_model.specs.Run.{Finish, Exit, Limit, Hazard, Unbuilt}
+use Rattle.i9_model.specs.Run.{Finish, Exit, Limit, Hazard, Dead, Unbuilt}
 use Rattle.i9_model.specs.PrintedText.{run_text, finish_code}
 use Rattle.i9_model.specs.CommandLine.{Command, Run, words_line, read_line, long_line, refused_line}
 use Rattle.i9_model.proofs.Ends.{run_goes_on}
@@ -25,6 +25,7 @@ known_finish : (f : Finish) → IsKnown (finish_code f)
 known_finish (Exit w) = inl (omega arith)
 known_finish Limit = inl (omega arith)
 known_finish (Hazard a) = inr (omega arith, omega arith)
+known_finish (Dead code a) = inr (omega arith, omega arith)
 known_finish (Unbuilt a) = inr (omega arith, omega arith)
 
 -- some status and text for a file

@@ -5,13 +5,12 @@ use Rattle.i9_model.specs.Run.{Record, Finish, IsPast, IsRun}
 use Rattle.i9_model.specs.PrintedText.{Shown, text_of, lines_of, run_text}
 use Rattle.i9_model.proofs.Lines.{text_of-append, text_goes_on}
 use Rattle.i9_machine.specs.declared.line.End.{End}
-use Rattle.i9_machine.specs.declared.line.Issued.{Issued}
 use Rattle.i9_machine.specs.declared.line.Line.{Line}
 use Rattle.i9_machine.specs.declared.line.Turn.{Turn}
 use Rattle.i9_machine.specs.declared.line.Turn.TheVariants as turns
 use Rattle.i9_machine.specs.declared.machine.Machine.{Machine}
 use Rattle.i9_machine.specs.Line.{finish_of, shown_of}
-use Rattle.i9_machine.specs.StandsFor.{Advances}
+use Rattle.i9_machine.specs.StandsFor.{DoesNext, Advances}
 use Rattle.i9_tool.specs.declared.print.Printed.{Printed}
 use Rattle.i9_tool.specs.declared.print.Printed.TheVariants.{Done, Write, Memory}
 use Rattle.i9_tool.specs.declared.run.Ran.TheVariants as ran
@@ -44,9 +43,12 @@ module _ (image : List (ℕ × ℕ)) (limit : ℕ) where
         text = ap (λ (t : List ℕ). t ++ g.2) (sym (text_of-append (lines_of image rs) shown) ∙ ap text_of (sym e)) ∙ g.4;
       }
 
+  ahead_done : (rs : List Record) (turn : Turn) (m : Machine) (ls : List Line) → DoesNext image limit rs turn m [] ls → Ahead rs (map shown_of ls)
+  ahead_done rs turn m ls a = ahead_of rs (a.done ∷ rs) (map shown_of ls) a.stands.past (ap (λ (x : List Shown). lines_of image rs ++ x) (sym a.lines))
+
   pub ahead : (rs : List Record) (turn : Turn) (m : Machine) (ls : List Line) → IsPast image limit rs → Advances image limit rs turn m [] ls → Ahead rs (map shown_of ls)
-  ahead rs turns.On m ls past a = absurd a
-  ahead rs (turns.Issued t) m ls past a = ahead_of rs (a.done ∷ rs) (map shown_of ls) a.stands.past (ap (λ (x : List Shown). lines_of image rs ++ x) (sym a.lines))
+  ahead rs turns.On m ls past a = ahead_done rs turns.On m ls a
+  ahead rs (turns.Issued t) m ls past a = ahead_done rs (turns.Issued t) m ls a
   ahead rs (turns.End e) m ls past a = record {
     records = rs;
     end = finish_of e;
@@ -110,9 +112,9 @@ module _ (image : List (ℕ × ℕ)) (limit : ℕ) where
     }
 
     -- one more record was printed
-    pub one_more : (a b c : K) (rs : List Record) (ls : List Line) (t : Issued) (m : Machine) → (d : Advances image limit rs (turns.Issued t) m [] ls)
+    pub one_more : (a b c : K) (rs : List Record) (ls : List Line) (turn : Turn) (m : Machine) → (d : DoesNext image limit rs turn m [] ls)
         → Printing Done a b (text_of (lines_of image rs)) → Printing Done b c (flat_map line_text ls) → Printing Done a c (text_of (lines_of image (d.done ∷ rs)))
-    one_more a b c rs ls t m d p q =
+    one_more a b c rs ls turn m d p q =
         prints_same told faults sure Done a c _ _
         (sym (text_of-append (lines_of image rs) (map shown_of ls)) ∙ ap (λ (x : List Shown). text_of (lines_of image rs ++ x)) d.lines) (both Done a b c rs ls p q)
 

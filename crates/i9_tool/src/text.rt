@@ -48,6 +48,7 @@ fn name_of(kind: Point) -> &'static [u8]
     match kind {
         Point::Flush => b"flush",
         Point::Sync => b"sync",
+        Point::Fault => b"fault",
         Point::End => b"end",
     }
 }
@@ -78,6 +79,15 @@ fn point_line(alloc: Global, kind: Point, view: &View) -> Result<Vec<u8>, AllocE
     words_line(alloc, &label, &[view.ip, view.ac, view.pc])
 }
 
+/// The line of a dead entry of the fault table.
+fn dead_line(alloc: Global, code: u8, address: u32) -> Result<Vec<u8>, AllocError>
+    ensures { IfOk result (λ t. t.items ≡ words_text (codes "#end dead " ++ decimal code) (address ∷ [])) }
+{
+    let mut label = Vec::from_slice(alloc, b"#end dead ")?;
+    add_count(alloc, &mut label, u64::from(code))?;
+    words_line(alloc, &label, &[address])
+}
+
 /// The line of the end of a run.
 #[tactic(auto, unfolding(i9_model::specs::PrintedText::finish_text))]
 fn end_line(alloc: Global, end: End) -> Result<Vec<u8>, AllocError>
@@ -87,6 +97,7 @@ fn end_line(alloc: Global, end: End) -> Result<Vec<u8>, AllocError>
         End::Exit(word) => words_line(alloc, b"#end exit", &[word]),
         End::Limit => Vec::from_slice(alloc, b"#end limit\n"),
         End::Hazard(address) => words_line(alloc, b"#end hazard", &[address]),
+        End::Dead(code, address) => dead_line(alloc, code, address),
         End::Unbuilt(address) => words_line(alloc, b"#end unbuilt", &[address]),
     }
 }

@@ -39,7 +39,7 @@ fn status_of_run(ran: Ran) -> Status
     match ran {
         Ran::Done(End::Exit(_)) => Status { code: 0 },
         Ran::Done(End::Limit) => Status { code: 0 },
-        Ran::Done(End::Hazard(_) | End::Unbuilt(_)) => Status { code: 4 },
+        Ran::Done(End::Hazard(_) | End::Dead(_, _) | End::Unbuilt(_)) => Status { code: 4 },
         Ran::Write => Status { code: 6 },
         Ran::Memory => Status { code: 7 },
     }

@@ -50,4 +50,13 @@ loop-lines-preserved g c =
     let limit = c.args.limit in
     let lines = c.advance-turn.new.out.items in
     let step = rw c.clear.ensures.items at (c.in-Issued.ensures.next image limit inv.0 inv.1) in
-    (step.done ∷ inv.0, step.stands, one_more image limit _ _ _ _ _ _ inv.0 lines c.in-Issued.field-0 c.advance-turn.new.self step inv.2 (rw c.deref.ensures.value at c.in-Done.ensures))
+    (step.done ∷ inv.0, step.stands, one_more image limit _ _ _ _ _ _ inv.0 lines (turns.Issued c.in-Issued.field-0) c.advance-turn.new.self step inv.2 (rw c.deref.ensures.value at c.in-Done.ensures))
+
+pub loop-lines-preserved-in-On : goal.loop-lines-preserved-in-On
+loop-lines-preserved-in-On g c =
+    let inv = c.loop-lines.invariant in
+    let image = pairs_of c.args.image.now in
+    let limit = c.args.limit in
+    let lines = c.advance-turn.new.out.items in
+    let step = rw c.clear.ensures.items at (c.in-On.ensures.next image limit inv.0 inv.1) in
+    (step.done ∷ inv.0, step.stands, one_more image limit _ _ _ _ _ _ inv.0 lines turns.On c.advance-turn.new.self step inv.2 (rw c.deref.ensures.value at c.in-Done.ensures))
