@@ -91,11 +91,7 @@ impl Processor {
     pub(crate) fn plan_call(&self, i: &Inst, to: u32) -> Result<Effect, u32>
         ensures { IsPlanFor (state_of self.now) (SavesAt (rounded_down ((state_of self.now).regs FP))) (call_action i.now (state_of self.now) to) result }
     {
-        let push = plan_call(
-            &self.watch,
-            self.regs[FP as usize],
-            self.regs[SP as usize],
-        )?;
+        let push = plan_call(&self.watch, self.regs[FP as usize], self.regs[SP as usize])?;
         Ok(self.pushing(&push, self.following(i), aligned(to)))
     }
 

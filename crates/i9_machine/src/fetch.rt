@@ -21,7 +21,8 @@ use i9_faults::raises;
 use i9_isa::{Inst, Op, word_count};
 use i9_model::Arith;
 use i9_model::faults::{
-    ARITHMETIC, CONSTRAINT, INVALID_OPCODE, INVALID_OPERAND, OPERATION, OVERFLOW, RANGE, ZERO_DIVIDE,
+    ARITHMETIC, CONSTRAINT, INVALID_OPCODE, INVALID_OPERAND, OPERATION, OVERFLOW, RANGE,
+    ZERO_DIVIDE,
 };
 use i9_model::layout::{INTERRUPT_RETURN, PFP, SUPERVISOR};
 

@@ -1,5 +1,5 @@
 //! The machine at images of a few instructions, worked out by hand.
-use crate::{End, Line, Machine, Point, Turn};
+use crate::{End, Issued, Line, Machine, Point, Turn};
 use i9_hex::Segments;
 use std::alloc::Global;
 use std::test::*;
@@ -96,6 +96,39 @@ fn steps_through_a_run(rt: HostRuntime) -> Result<(), Fail> {
         ]
         .as_slice()
     );
+    Ok(())
+}
+
+#[test]
+fn tells_a_fault_and_its_entry(rt: HostRuntime) -> Result<(), Fail> {
+    // The word 0 is no instruction. The fault table is at 0, and so is its handler.
+    let image = image_of(rt.alloc(), &[0])?;
+    let mut machine = Machine::new(rt.alloc(), &image, None, 1)?;
+    let mut lines = Vec::new(rt.alloc());
+    let issued = Issued {
+        count: 0,
+        address: 0x1000,
+        first: 0,
+        second: 0,
+    };
+    assert_eq!(rt; machine.advance(&mut lines), Turn::Issued(issued));
+    assert_eq!(rt; (machine.view().count, machine.view().ip), (1, 0x1004));
+    assert!(rt; lines.is_empty());
+    assert_eq!(rt; machine.advance(&mut lines), Turn::On);
+    let view = machine.view();
+    assert_eq!(rt; (view.count, view.ip, view.pc), (1, 0, 0x1F_2002));
+    assert_eq!(rt;
+        (view.regs[31], view.regs[0], view.regs[1]),
+        (0x50, 1, 0x90)
+    );
+    let kind = Point::Fault;
+    assert_eq!(rt; lines.as_slice(), [Line::Point { kind, view }].as_slice());
+    // The type, 2, and the subtype, 1, of the record at 40.
+    assert_eq!(rt;
+        (machine.byte(0x48), machine.byte(0x4A)),
+        (Some(1), Some(2))
+    );
+    assert_eq!(rt; machine.advance(&mut lines), Turn::End(End::Limit));
     Ok(())
 }
 

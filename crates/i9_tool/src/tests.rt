@@ -14,11 +14,11 @@ const SMALLEST: &str = ":02000004FFFFFC
 :00000001FF
 ";
 
-/// The word 0 at 1000, which is no instruction.
-const NO_INSTRUCTION: &str = ":02000004FFFFFC
+/// `mov sf0, g0`, which is not built.
+const NOT_BUILT: &str = ":02000004FFFFFC
 :04FF100000100000DD
 :020000040000FA
-:0410000000000000EC
+:041000002006805CEA
 :00000001FF
 ";
 
@@ -77,7 +77,7 @@ fn runs_and_refuses(rt: HostRuntime) -> Result<(), Fail> {
         (SMALLEST, "run a - - 100", 0, PRINTED),
         (SMALLEST, "run a - - 5", 0, PRINTED),
         (SMALLEST, "run a - - 0000000000", 0, AT_ONCE),
-        (NO_INSTRUCTION, "run a - - 10", 4, UNBUILT),
+        (NOT_BUILT, "run a - - 10", 4, UNBUILT),
         (SMALLEST, "run b - - 10", 5, "#read\n"),
         (SMALLEST, "run a", 1, "#words\n"),
         (SMALLEST, "run a - - 10000001", 1, "#words\n"),
