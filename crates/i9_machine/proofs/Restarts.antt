@@ -1,17 +1,14 @@
 -- A flush that stores nothing leaves memory as it is, so the tables are read as after a flush.
-use Rattle.std.proofs.Common.{◌≡◌, ℕ, Bool, true, false, ◌&&◌, [], None, refl, ap, ◌∙◌, sym}
+use Rattle.std.proofs.Common.{◌≡◌, ℕ, Bool, true, false, ◌&&◌, [], None, refl, ap, ◌∙◌}
 use Rattle.std.specs.Prelude.{not}
 use Rattle.i9_isa.specs.declared.inst.Inst.{Inst}
 use Rattle.i9_model.specs.Writes.{written}
 use Rattle.i9_model.specs.Memory.{Memory, with_bytes}
 use Rattle.i9_model.specs.State.{State, Frames}
 use Rattle.i9_model.specs.Frames.{in_bytes, flushed, wrote}
-use Rattle.i9_model.specs.Hazards.{or_else, read_hazard}
 use Rattle.i9_model.specs.Tables.{tables_hazard, group_hazard}
 use Rattle.i9_model.specs.Controls.{Control, Restarts, LoadsGroup}
 use Rattle.i9_model.specs.Step.{Flushes, Action, setting, moved}
-use Rattle.i9_model.specs.Boot.{table_word}
-use Rattle.i9_model.specs.declared.layout.TheConstants.{PRCB_SIZE, CONTROL_TABLE_SIZE}
 use Rattle.i9_model.specs.declared.setup.Tables.{Tables}
 
 abbrev pub flushing : Inst → State → Control → Action

@@ -1,7 +1,6 @@
 -- What a plan of a call or of a fault's entry says of the frame that is saved and of the record.
-use Rattle.std.proofs.Common.{◌≡◌, ℕ, Bool, true, false, cond, List, length, Option, None, Some, Result, Ok, Err, refl, sym, ap, ◌∙◌, subst}
+use Rattle.std.proofs.Common.{◌≡◌, ℕ, Bool, true, false, cond, length, Option, None, Some, Result, Ok, Err, refl, sym, ap, ◌∙◌, subst}
 use Rattle.i9_model.specs.declared.layout.TheConstants.{RECORD_SIZE}
-use Rattle.i9_model.specs.declared.push.Push.{Push}
 use Rattle.i9_model.specs.declared.calls.Sys.{Sys}
 use Rattle.i9_model.specs.declared.faults.Fault.{Fault}
 use Rattle.i9_model.specs.declared.faults.Entry.{Entry}
@@ -12,8 +11,8 @@ use Rattle.i9_model.specs.Memory.{Memory, word_in}
 use Rattle.i9_model.specs.State.{Frames}
 use Rattle.i9_model.specs.Frames.{rounded_down, saved}
 use Rattle.i9_model.specs.Hazards.{or_else, unless, read_hazard, write_hazard, port_hazard, save_hazard}
-use Rattle.i9_model.specs.Calls.{entry_address, stack_address, is_switch, stack_hazard, system_hazard, entered_here, entered_switched, entered_by, system_entered, record_address}
-use Rattle.i9_model.specs.Faults.{◌>>=◌, or_stop, table_entry, planned_handler, planned_frame, record_write_hazard, fault_record, entry_of, planned_fault}
+use Rattle.i9_model.specs.Calls.{entry_address, stack_address, is_switch, stack_hazard, system_hazard, entered_here, entered_switched, system_entered, record_address}
+use Rattle.i9_model.specs.Faults.{◌>>=◌, or_stop, table_entry, planned_handler, planned_frame, record_write_hazard, entry_of, planned_fault}
 
 pub first_none : (o p : Option ℕ) → or_else o p ≡ None → o ≡ None
 first_none None p e = refl

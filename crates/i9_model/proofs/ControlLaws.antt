@@ -1,9 +1,9 @@
 -- What start-up and the load of a control group leave as it was.
-use Rattle.std.proofs.Common.{◌≡◌, ℕ, Bool, true, false, cond, eqb, List, refl, ◌∙◌}
+use Rattle.std.proofs.Common.{◌≡◌, ℕ, Bool, true, false, cond, eqb, List, refl}
 use Rattle.std.specs.Prelude.{◌+◌, ◌-◌, ◌*◌}
 use Rattle.i9_model.specs.Boot.{with_regions}
 use Rattle.i9_model.specs.State.{State, started}
-use Rattle.i9_model.specs.Controls.{Control, KeepsControls, Restarts, LoadsGroup, with_breakpoints, with_maps, with_trace_controls, with_group, controlled}
+use Rattle.i9_model.specs.Controls.{Control, KeepsControls, Restarts, LoadsGroup, with_breakpoints, with_maps, with_trace_controls, controlled}
 use Rattle.i9_model.specs.Tables.{group_words}
 use Rattle.i9_model.specs.Step.{Action, moved, acted}
 

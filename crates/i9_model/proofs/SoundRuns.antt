@@ -15,7 +15,7 @@ use Rattle.i9_model.specs.Step.{bytes_of_words, stored_of, merged, atomic_addres
 use Rattle.i9_model.specs.Access.{Changes, CallsSystem, access_by, hazard_in, hazard_of, fetch_hazard}
 use Rattle.i9_model.specs.Fetched.{Fetched, NotBuilt, Faults, Runs, fetched}
 use Rattle.i9_model.specs.Sound.{IsSound}
-use Rattle.i9_model.specs.Run.{Finish, Limit, Instruction, Faulted, Entered, Kind, action_by_kind, Record, record_of, Does, Ends, Due, NothingDue, EndDue, EntryDue, fault_at, next_by_entry, entry_in, state_after, due_after, next_by_access, next_by_word, next_by_fetch, next_in, IsPast}
+use Rattle.i9_model.specs.Run.{Limit, Instruction, Faulted, Entered, Kind, action_by_kind, Record, record_of, Does, Ends, Due, NothingDue, EndDue, EntryDue, fault_at, next_by_entry, entry_in, state_after, due_after, next_by_access, next_by_word, next_by_fetch, next_in, IsPast}
 use Rattle.i9_model.specs.declared.layout.TheConstants.{FP, SP}
 use Rattle.i9_model.specs.declared.faults.Fault.{Fault}
 use Rattle.i9_model.specs.declared.faults.Entry.{Entry}

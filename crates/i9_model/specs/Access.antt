@@ -7,7 +7,7 @@ use Rattle.i9_isa.specs.declared.inst.BadWord.{BadWord}
 use Rattle.i9_isa.specs.Words.{words_of, decoded}
 use Rattle.i9_model.specs.declared.layout.TheConstants.{PFP, FP}
 use Rattle.i9_model.specs.Writes.{wrapped}
-use Rattle.i9_model.specs.State.{State, Frames}
+use Rattle.i9_model.specs.State.{State}
 use Rattle.i9_model.specs.Frames.{rounded_down, flushed}
 use Rattle.i9_model.specs.Hazards.{or_else, read_hazard, write_hazard, save_hazard}
 use Rattle.i9_model.specs.Calls.{system_hazard, ret_hazard}
