@@ -1,7 +1,7 @@
 //! Calls by table, returns and faults through the command, at images and registers worked out by hand. The
 //! images have a PRCB at 800, with the fault table at 900, the system procedure table at B00 and
 //! the interrupt stack at 3000.
-use crate::rows::{Drained, Row, holds};
+use crate::rows::{Row, holds};
 use std::test::*;
 
 /// `lda 259, g1`, `calls g1`, and 1102 at F3C, the last entry of the system procedure table: the
@@ -29,6 +29,11 @@ const CALLS_PAST_THE_TABLE: &str = ":02000004FFFFFC
 :081000000401888C1100006658
 :101100000030A090483000000030A8904C30000023
 :00000001FF
+";
+
+const CALLS_PAST_THE_TABLE_FIRST: &str = "#point 2 fault 00001100 00000000 001F2002
+#g 00000000 00000104 00000000 00000000 00000000 00000000 00000000 00000000 00000000 00000000 00000000 00000000 00000000 00000000 00000000 00003050
+#l 00003001 00003090 00000000 00000000 00000000 00000000 00000000 00000000 00000000 00000000 00000000 00000000 00000000 00000000 00000000 00000000
 ";
 
 /// `mov 2, g1`, `mov 0, g2`, `modpc 0, g1, g2`, `calls 5`, `mov 9, g6`, with 1102 at B44 and the
@@ -125,6 +130,14 @@ const DIVIDES_BY_ZERO: &str = ":02000004FFFFFC
 :00000001FF
 ";
 
+const DIVIDES_BY_ZERO_FIRST: &str = "#point 1 fault 00001100 00008000 001F2002
+#g 00000000 00000000 00000000 00000000 00000000 00000000 00000000 00000000 00000000 00000000 00000000 00000000 00000000 00000000 00000000 00003050
+#l 00003001 00003090 00000000 00000000 00000000 00000000 00000000 00000000 00000000 00000000 00000000 00000000 00000000 00000000 00000000 00000000
+#point 2 sync 00001104 00008000 001F2002
+#g 00000000 00000000 00000000 00000000 00000000 00000000 00000000 00000000 00000000 00000000 00000000 00000000 00000000 00000000 00000000 00003050
+#l 00003001 00003090 00000000 00000000 00000000 00000000 00000000 00000000 00000000 00000000 00000000 00000000 00000000 00000000 00000000 00000000
+";
+
 /// The same, with `ldq 0x3040, g4` in place of `syncf`: the record.
 const ITS_RECORD: &str = ":02000004FFFFFC
 :08FF10000010000000080000D1
@@ -136,6 +149,11 @@ const ITS_RECORD: &str = ":02000004FFFFFC
 :0810000080DDA1740198A859DC
 :081100000030A0B040300000F7
 :00000001FF
+";
+
+const ITS_RECORD_FIRST: &str = "#point 1 fault 00001100 00008000 001F2002
+#g 00000000 00000000 00000000 00000000 00000000 00000000 00000000 00000000 00000000 00000000 00000000 00000000 00000000 00000000 00000000 00003050
+#l 00003001 00003090 00000000 00000000 00000000 00000000 00000000 00000000 00000000 00000000 00000000 00000000 00000000 00000000 00000000 00000000
 ";
 
 /// `divi 0, 7, g4` with an AC image of 0.
@@ -198,6 +216,11 @@ const ENTERS_THE_LAST_PROCEDURE: &str = ":02000004FFFFFC
 :00000001FF
 ";
 
+const ENTERS_THE_LAST_PROCEDURE_FIRST: &str = "#point 1 fault 00001100 00000000 001F2002
+#g 00000000 00000000 00000000 00000000 00000000 00000000 00000000 00000000 00000000 00000000 00000000 00000000 00000000 00000000 00000000 00003050
+#l 00003001 00003090 00000000 00000000 00000000 00000000 00000000 00000000 00000000 00000000 00000000 00000000 00000000 00000000 00000000 00000000
+";
+
 /// `mov 2, g1`, `mov 0, g2`, `modpc 0, g1, g2`, `lda 0x8000, g3`, `modac g3, g3, g4`, `divo 0, 7,
 /// g5`, `mov 9, g6`, with a system entry of procedure 2, at 1100, and the supervisor stack word
 /// 6001; the handler is `ret`.
@@ -216,6 +239,11 @@ const FAULTS_IN_USER_MODE: &str = ":02000004FFFFFC
 :00000001FF
 ";
 
+const FAULTS_IN_USER_MODE_FIRST: &str = "#point 6 fault 00001100 00008000 001F2002
+#g 00000000 00000002 001F2002 00008000 00000000 00000000 00000000 00000000 00000000 00000000 00000000 00000000 00000000 00000000 00000000 00006010
+#l 00003001 00006050 00000000 00000000 00000000 00000000 00000000 00000000 00000000 00000000 00000000 00000000 00000000 00000000 00000000 00000000
+";
+
 /// `ld 0x2001, g4` of two words where unaligned accesses fault, and a handler that reads the saved
 /// rip: `flushreg`, `ld 0x3008, g4`.
 const RETURNS_BEHIND_TWO_WORDS: &str = ":02000004FFFFFC
@@ -230,6 +258,14 @@ const RETURNS_BEHIND_TWO_WORDS: &str = ":02000004FFFFFC
 :00000001FF
 ";
 
+const RETURNS_BEHIND_TWO_WORDS_FIRST: &str = "#point 1 fault 00001100 00000000 001F2002
+#g 00000000 00000000 00000000 00000000 00000000 00000000 00000000 00000000 00000000 00000000 00000000 00000000 00000000 00000000 00000000 00003050
+#l 00003001 00003090 00000000 00000000 00000000 00000000 00000000 00000000 00000000 00000000 00000000 00000000 00000000 00000000 00000000 00000000
+#point 2 flush 00001104 00000000 001F2002
+#g 00000000 00000000 00000000 00000000 00000000 00000000 00000000 00000000 00000000 00000000 00000000 00000000 00000000 00000000 00000000 00003050
+#l 00003001 00003090 00000000 00000000 00000000 00000000 00000000 00000000 00000000 00000000 00000000 00000000 00000000 00000000 00000000 00000000
+";
+
 /// A scale of 32 in a word of two words, which is refused, and the same handler.
 const RETURNS_BEHIND_A_REFUSED_WORD: &str = ":02000004FFFFFC
 :08FF10000010000000080000D1
@@ -241,6 +277,14 @@ const RETURNS_BEHIND_A_REFUSED_WORD: &str = ":02000004FFFFFC
 :08100000853EA09000200000D5
 :0C110000800600660030A090083000005F
 :00000001FF
+";
+
+const RETURNS_BEHIND_A_REFUSED_WORD_FIRST: &str = "#point 1 fault 00001100 00000000 001F2002
+#g 00000000 00000000 00000000 00000000 00000000 00000000 00000000 00000000 00000000 00000000 00000000 00000000 00000000 00000000 00000000 00003050
+#l 00003001 00003090 00000000 00000000 00000000 00000000 00000000 00000000 00000000 00000000 00000000 00000000 00000000 00000000 00000000 00000000
+#point 2 flush 00001104 00000000 001F2002
+#g 00000000 00000000 00000000 00000000 00000000 00000000 00000000 00000000 00000000 00000000 00000000 00000000 00000000 00000000 00000000 00003050
+#l 00003001 00003090 00000000 00000000 00000000 00000000 00000000 00000000 00000000 00000000 00000000 00000000 00000000 00000000 00000000 00000000
 ";
 
 /// `call f`, and the word 0 at f, with the fault table at 2FF0.
@@ -282,104 +326,80 @@ fn calls_and_returns(rt: HostRuntime) -> Result<(), Fail> {
         Row {
             image: CALLS_IN_SUPERVISOR_MODE,
             length: 2,
-            drained: &[Drained {
-                before: "",
-                point: "2 end 00001100 00000000 001F2002",
-                globals: &[(1, 0x103), (15, 0x3040)],
-                locals: &[(0, 0x3000), (1, 0x3080)],
-            }],
+            before: "",
+            point: "2 end 00001100 00000000 001F2002",
+            globals: &[(1, 0x103), (15, 0x3040)],
+            locals: &[(0, 0x3000), (1, 0x3080)],
             end: "limit",
             code: 0,
         },
         Row {
             image: CALLS_PAST_THE_TABLE,
             length: 4,
-            drained: &[
-                Drained {
-                    before: "",
-                    point: "2 fault 00001100 00000000 001F2002",
-                    globals: &[(1, 0x104), (15, 0x3050)],
-                    locals: &[(0, 0x3001), (1, 0x3090)],
-                },
-                Drained {
-                    before: "",
-                    point: "4 end 00001110 00000000 001F2002",
-                    globals: &[(1, 0x104), (4, 0x0007_0002), (5, 0x1004), (15, 0x3050)],
-                    locals: &[(0, 0x3001), (1, 0x3090)],
-                },
-            ],
+            before: CALLS_PAST_THE_TABLE_FIRST,
+            point: "4 end 00001110 00000000 001F2002",
+            globals: &[(1, 0x104), (4, 0x0007_0002), (5, 0x1004), (15, 0x3050)],
+            locals: &[(0, 0x3001), (1, 0x3090)],
             end: "limit",
             code: 0,
         },
         Row {
             image: CALLS_FROM_USER_MODE,
             length: 6,
-            drained: &[Drained {
-                before: "",
-                point: "6 end 00001014 00000000 001F2000",
-                globals: &[(1, 2), (2, 0x001F_2002), (6, 9), (15, 0x3000)],
-                locals: &[(1, 0x3040), (2, 0x1010)],
-            }],
+            before: "",
+            point: "6 end 00001014 00000000 001F2000",
+            globals: &[(1, 2), (2, 0x001F_2002), (6, 9), (15, 0x3000)],
+            locals: &[(1, 0x3040), (2, 0x1010)],
             end: "limit",
             code: 0,
         },
         Row {
             image: ENTERS_THE_SUPERVISOR_STACK,
             length: 4,
-            drained: &[Drained {
-                before: "",
-                point: "4 end 00001100 00000000 001F2002",
-                globals: &[(1, 2), (2, 0x001F_2002), (15, 0x6000)],
-                locals: &[(0, 0x3002), (1, 0x6040)],
-            }],
+            before: "",
+            point: "4 end 00001100 00000000 001F2002",
+            globals: &[(1, 2), (2, 0x001F_2002), (15, 0x6000)],
+            locals: &[(0, 0x3002), (1, 0x6040)],
             end: "limit",
             code: 0,
         },
         Row {
             image: CALLS_BY_ADDRESS,
             length: 2,
-            drained: &[Drained {
-                before: "",
-                point: "2 end 00001100 00000000 001F2002",
-                globals: &[(1, 0x1103), (15, 0x3040)],
-                locals: &[(0, 0x3000), (1, 0x3080)],
-            }],
+            before: "",
+            point: "2 end 00001100 00000000 001F2002",
+            globals: &[(1, 0x1103), (15, 0x3040)],
+            locals: &[(0, 0x3000), (1, 0x3080)],
             end: "limit",
             code: 0,
         },
         Row {
             image: RETURNS_FROM_A_FAULT_IN_USER_MODE,
             length: 8,
-            drained: &[Drained {
-                before: "",
-                point: "8 end 00000000 00009107 001F2000",
-                globals: &[(1, 2), (2, 0x001F_2002), (3, 0xFFFF_FFFF), (15, 0x5000)],
-                locals: &[],
-            }],
+            before: "",
+            point: "8 end 00000000 00009107 001F2000",
+            globals: &[(1, 2), (2, 0x001F_2002), (3, 0xFFFF_FFFF), (15, 0x5000)],
+            locals: &[],
             end: "limit",
             code: 0,
         },
         Row {
             image: RETURNS_FROM_A_FAULT,
             length: 5,
-            drained: &[Drained {
-                before: "",
-                point: "5 end 00000000 00009107 001F2403",
-                globals: &[(3, 0xFFFF_FFFF), (15, 0x5000)],
-                locals: &[],
-            }],
+            before: "",
+            point: "5 end 00000000 00009107 001F2403",
+            globals: &[(3, 0xFFFF_FFFF), (15, 0x5000)],
+            locals: &[],
             end: "limit",
             code: 0,
         },
         Row {
             image: RETURNS_FROM_AN_INTERRUPT,
             length: 5,
-            drained: &[Drained {
-                before: "",
-                point: "1 end 00001008 00000000 001F2002",
-                globals: &[(15, 0x3000)],
-                locals: &[(0, 0x5007), (1, 0x3040)],
-            }],
+            before: "",
+            point: "1 end 00001008 00000000 001F2002",
+            globals: &[(15, 0x3000)],
+            locals: &[(0, 0x5007), (1, 0x3040)],
             end: "unbuilt 00001008",
             code: 4,
         },
@@ -396,192 +416,106 @@ fn faults_are_entered(rt: HostRuntime) -> Result<(), Fail> {
         Row {
             image: DIVIDES_BY_ZERO,
             length: 2,
-            drained: &[
-                Drained {
-                    before: "",
-                    point: "1 fault 00001100 00008000 001F2002",
-                    globals: &[(15, 0x3050)],
-                    locals: &[(0, 0x3001), (1, 0x3090)],
-                },
-                Drained {
-                    before: "",
-                    point: "2 sync 00001104 00008000 001F2002",
-                    globals: &[(15, 0x3050)],
-                    locals: &[(0, 0x3001), (1, 0x3090)],
-                },
-                Drained {
-                    before: "",
-                    point: "2 end 00001104 00008000 001F2002",
-                    globals: &[(15, 0x3050)],
-                    locals: &[(0, 0x3001), (1, 0x3090)],
-                },
-            ],
+            before: DIVIDES_BY_ZERO_FIRST,
+            point: "2 end 00001104 00008000 001F2002",
+            globals: &[(15, 0x3050)],
+            locals: &[(0, 0x3001), (1, 0x3090)],
             end: "limit",
             code: 0,
         },
         Row {
             image: ITS_RECORD,
             length: 2,
-            drained: &[
-                Drained {
-                    before: "",
-                    point: "1 fault 00001100 00008000 001F2002",
-                    globals: &[(15, 0x3050)],
-                    locals: &[(0, 0x3001), (1, 0x3090)],
-                },
-                Drained {
-                    before: "",
-                    point: "2 end 00001108 00008000 001F2002",
-                    globals: &[
-                        (4, 0x001F_2002),
-                        (5, 0x8000),
-                        (6, 0x0003_0002),
-                        (7, 0x1000),
-                        (15, 0x3050),
-                    ],
-                    locals: &[(0, 0x3001), (1, 0x3090)],
-                },
+            before: ITS_RECORD_FIRST,
+            point: "2 end 00001108 00008000 001F2002",
+            globals: &[
+                (4, 0x001F_2002),
+                (5, 0x8000),
+                (6, 0x0003_0002),
+                (7, 0x1000),
+                (15, 0x3050),
             ],
+            locals: &[(0, 0x3001), (1, 0x3090)],
             end: "limit",
             code: 0,
         },
         Row {
             image: A_FAULT_THAT_MAY_BE_IMPRECISE,
             length: 5,
-            drained: &[Drained {
-                before: "",
-                point: "0 end 00001000 00000000 001F2002",
-                globals: &[(15, 0x3000)],
-                locals: &[(1, 0x3040)],
-            }],
+            before: "",
+            point: "0 end 00001000 00000000 001F2002",
+            globals: &[(15, 0x3000)],
+            locals: &[(1, 0x3040)],
             end: "unbuilt 00001000",
             code: 4,
         },
         Row {
             image: DEAD_BY_ITS_SECOND_WORD,
             length: 5,
-            drained: &[Drained {
-                before: "",
-                point: "1 end 00001004 00008000 001F2002",
-                globals: &[(15, 0x3000)],
-                locals: &[(1, 0x3040)],
-            }],
+            before: "",
+            point: "1 end 00001004 00008000 001F2002",
+            globals: &[(15, 0x3000)],
+            locals: &[(1, 0x3040)],
             end: "dead 2 0000091C",
             code: 4,
         },
         Row {
             image: DEAD_BY_ITS_FIRST_WORD,
             length: 5,
-            drained: &[Drained {
-                before: "",
-                point: "1 end 00001004 00000000 001F2002",
-                globals: &[(15, 0x3000)],
-                locals: &[(1, 0x3040)],
-            }],
+            before: "",
+            point: "1 end 00001004 00000000 001F2002",
+            globals: &[(15, 0x3000)],
+            locals: &[(1, 0x3040)],
             end: "dead 1 00000910",
             code: 4,
         },
         Row {
             image: DEAD_BY_ITS_NUMBER,
             length: 5,
-            drained: &[Drained {
-                before: "",
-                point: "1 end 00001004 00000000 001F2002",
-                globals: &[(15, 0x3000)],
-                locals: &[(1, 0x3040)],
-            }],
+            before: "",
+            point: "1 end 00001004 00000000 001F2002",
+            globals: &[(15, 0x3000)],
+            locals: &[(1, 0x3040)],
             end: "dead 3 00000910",
             code: 4,
         },
         Row {
             image: ENTERS_THE_LAST_PROCEDURE,
             length: 1,
-            drained: &[
-                Drained {
-                    before: "",
-                    point: "1 fault 00001100 00000000 001F2002",
-                    globals: &[(15, 0x3050)],
-                    locals: &[(0, 0x3001), (1, 0x3090)],
-                },
-                Drained {
-                    before: "",
-                    point: "1 end 00001100 00000000 001F2002",
-                    globals: &[(15, 0x3050)],
-                    locals: &[(0, 0x3001), (1, 0x3090)],
-                },
-            ],
+            before: ENTERS_THE_LAST_PROCEDURE_FIRST,
+            point: "1 end 00001100 00000000 001F2002",
+            globals: &[(15, 0x3050)],
+            locals: &[(0, 0x3001), (1, 0x3090)],
             end: "limit",
             code: 0,
         },
         Row {
             image: FAULTS_IN_USER_MODE,
             length: 8,
-            drained: &[
-                Drained {
-                    before: "",
-                    point: "6 fault 00001100 00008000 001F2002",
-                    globals: &[(1, 2), (2, 0x001F_2002), (3, 0x8000), (15, 0x6010)],
-                    locals: &[(0, 0x3001), (1, 0x6050)],
-                },
-                Drained {
-                    before: "",
-                    point: "8 end 00001020 00008000 001F2000",
-                    globals: &[(1, 2), (2, 0x001F_2002), (3, 0x8000), (6, 9), (15, 0x3000)],
-                    locals: &[(1, 0x3040), (2, 0x101C)],
-                },
-            ],
+            before: FAULTS_IN_USER_MODE_FIRST,
+            point: "8 end 00001020 00008000 001F2000",
+            globals: &[(1, 2), (2, 0x001F_2002), (3, 0x8000), (6, 9), (15, 0x3000)],
+            locals: &[(1, 0x3040), (2, 0x101C)],
             end: "limit",
             code: 0,
         },
         Row {
             image: RETURNS_BEHIND_TWO_WORDS,
             length: 3,
-            drained: &[
-                Drained {
-                    before: "",
-                    point: "1 fault 00001100 00000000 001F2002",
-                    globals: &[(15, 0x3050)],
-                    locals: &[(0, 0x3001), (1, 0x3090)],
-                },
-                Drained {
-                    before: "",
-                    point: "2 flush 00001104 00000000 001F2002",
-                    globals: &[(15, 0x3050)],
-                    locals: &[(0, 0x3001), (1, 0x3090)],
-                },
-                Drained {
-                    before: "",
-                    point: "3 end 0000110C 00000000 001F2002",
-                    globals: &[(4, 0x1008), (15, 0x3050)],
-                    locals: &[(0, 0x3001), (1, 0x3090)],
-                },
-            ],
+            before: RETURNS_BEHIND_TWO_WORDS_FIRST,
+            point: "3 end 0000110C 00000000 001F2002",
+            globals: &[(4, 0x1008), (15, 0x3050)],
+            locals: &[(0, 0x3001), (1, 0x3090)],
             end: "limit",
             code: 0,
         },
         Row {
             image: RETURNS_BEHIND_A_REFUSED_WORD,
             length: 3,
-            drained: &[
-                Drained {
-                    before: "",
-                    point: "1 fault 00001100 00000000 001F2002",
-                    globals: &[(15, 0x3050)],
-                    locals: &[(0, 0x3001), (1, 0x3090)],
-                },
-                Drained {
-                    before: "",
-                    point: "2 flush 00001104 00000000 001F2002",
-                    globals: &[(15, 0x3050)],
-                    locals: &[(0, 0x3001), (1, 0x3090)],
-                },
-                Drained {
-                    before: "",
-                    point: "3 end 0000110C 00000000 001F2002",
-                    globals: &[(4, 0x1004), (15, 0x3050)],
-                    locals: &[(0, 0x3001), (1, 0x3090)],
-                },
-            ],
+            before: RETURNS_BEHIND_A_REFUSED_WORD_FIRST,
+            point: "3 end 0000110C 00000000 001F2002",
+            globals: &[(4, 0x1004), (15, 0x3050)],
+            locals: &[(0, 0x3001), (1, 0x3090)],
             end: "limit",
             code: 0,
         },
@@ -598,36 +532,30 @@ fn entries_meet_hazards(rt: HostRuntime) -> Result<(), Fail> {
         Row {
             image: A_FAULT_TABLE_IN_A_FRAME,
             length: 5,
-            drained: &[Drained {
-                before: "",
-                point: "2 end 00001008 00000000 001F2002",
-                globals: &[(15, 0x3040)],
-                locals: &[(0, 0x3000), (1, 0x3080)],
-            }],
+            before: "",
+            point: "2 end 00001008 00000000 001F2002",
+            globals: &[(15, 0x3040)],
+            locals: &[(0, 0x3000), (1, 0x3080)],
             end: "hazard 00003000",
             code: 4,
         },
         Row {
             image: A_RECORD_OVER_A_FRAME,
             length: 5,
-            drained: &[Drained {
-                before: "",
-                point: "3 end 00001010 00000000 001F2002",
-                globals: &[(15, 0x3040)],
-                locals: &[(0, 0x3000), (1, 0x3000)],
-            }],
+            before: "",
+            point: "3 end 00001010 00000000 001F2002",
+            globals: &[(15, 0x3040)],
+            locals: &[(0, 0x3000), (1, 0x3000)],
             end: "hazard 00003000",
             code: 4,
         },
         Row {
             image: A_RECORD_IN_THE_PORT_PAGE,
             length: 5,
-            drained: &[Drained {
-                before: "",
-                point: "2 end 0000100C 00000000 001F2002",
-                globals: &[(15, 0x3000)],
-                locals: &[(1, 0xE000_0000)],
-            }],
+            before: "",
+            point: "2 end 0000100C 00000000 001F2002",
+            globals: &[(15, 0x3000)],
+            locals: &[(1, 0xE000_0000)],
             end: "hazard E0000000",
             code: 4,
         },

@@ -1,5 +1,5 @@
 //! Branches, loads, stores and atomics through the command, at images and registers worked out by hand.
-use crate::rows::{Drained, Row, holds};
+use crate::rows::{Row, holds};
 use std::test::*;
 
 /// `ld 0x2000, g1`, `st g1, 0x1010`, `mov 1, g4`, and `mov 2, g4` at 2000.
@@ -79,6 +79,11 @@ const BRANCHES_ON_BITS: &str = ":02000004FFFFFC
 :10102000180000080000A82010201C370000001F36
 :0C1030000000001A000000181F0EB85C41
 :00000001FF
+";
+
+const BRANCHES_ON_BITS_FIRST: &str = "#point 12 fault 00000000 00000000 001F2002
+#g 00000004 00000022 00000000 00000000 00000001 00000001 00000000 00000000 00000000 00000000 00000000 00000000 00000000 00000000 00000000 00000050
+#l 00000001 00000090 00000000 00000000 00000000 00000000 00000000 00000000 00000000 00000000 00000000 00000000 00000000 00000000 00000000 00000000
 ";
 
 /// `lda 0x2000, g0`, then bytes, halves and groups from the sixteen bytes 80 FF 7F 01 02 03 84 85
@@ -237,6 +242,11 @@ const LOADS_A_HALF_UNALIGNED: &str = ":02000004FFFFFC
 :00000001FF
 ";
 
+const LOADS_A_HALF_UNALIGNED_FIRST: &str = "#point 2 fault 00000000 00000000 001F2002
+#g 00000001 00000000 00000000 00000000 00000000 00000000 00000000 00000000 00000000 00000000 00000000 00000000 00000000 00000000 00000000 00000050
+#l 00000001 00000090 00000000 00000000 00000000 00000000 00000000 00000000 00000000 00000000 00000000 00000000 00000000 00000000 00000000 00000000
+";
+
 /// `mov 1, g0`, `stl g4, 3(g0)`.
 const STORES_A_PAIR_UNALIGNED: &str = ":02000004FFFFFC
 :04FF100000100000DD
@@ -245,12 +255,22 @@ const STORES_A_PAIR_UNALIGNED: &str = ":02000004FFFFFC
 :00000001FF
 ";
 
+const STORES_A_PAIR_UNALIGNED_FIRST: &str = "#point 2 fault 00000000 00000000 001F2002
+#g 00000001 00000000 00000000 00000000 00000000 00000000 00000000 00000000 00000000 00000000 00000000 00000000 00000000 00000000 00000000 00000050
+#l 00000001 00000090 00000000 00000000 00000000 00000000 00000000 00000000 00000000 00000000 00000000 00000000 00000000 00000000 00000000 00000000
+";
+
 /// `mov 1, g0`, `ldt 11(g0), g4`.
 const LOADS_THREE_UNALIGNED: &str = ":02000004FFFFFC
 :04FF100000100000DD
 :020000040000FA
 :08100000010E805C0B20A4A08E
 :00000001FF
+";
+
+const LOADS_THREE_UNALIGNED_FIRST: &str = "#point 2 fault 00000000 00000000 001F2002
+#g 00000001 00000000 00000000 00000000 00000000 00000000 00000000 00000000 00000000 00000000 00000000 00000000 00000000 00000000 00000000 00000050
+#l 00000001 00000090 00000000 00000000 00000000 00000000 00000000 00000000 00000000 00000000 00000000 00000000 00000000 00000000 00000000 00000000
 ";
 
 /// `lda 0x80003000, g0`, `mov 7, g4`, `stob g4, 0x3000`, `mov 9, g5`, `stob g5, (g0)`, `ldob
@@ -270,87 +290,67 @@ fn branches_and_jumps(rt: HostRuntime) -> Result<(), Fail> {
         Row {
             image: CHANGES_ITS_CODE,
             length: 3,
-            drained: &[Drained {
-                before: "",
-                point: "3 end 00001014 00000000 001F2002",
-                globals: &[(1, 0x5CA0_0E02), (4, 2)],
-                locals: &[(1, 0x40)],
-            }],
+            before: "",
+            point: "3 end 00001014 00000000 001F2002",
+            globals: &[(1, 0x5CA0_0E02), (4, 2)],
+            locals: &[(1, 0x40)],
             end: "limit",
             code: 0,
         },
         Row {
             image: CALLS_TWENTY_TIMES,
             length: 100,
-            drained: &[Drained {
-                before: "",
-                point: "82 end 00001014 00000002 001F2002",
-                globals: &[(5, 0xE000_0000)],
-                locals: &[(1, 0x40), (2, 0x1008)],
-            }],
+            before: "",
+            point: "82 end 00001014 00000002 001F2002",
+            globals: &[(5, 0xE000_0000)],
+            locals: &[(1, 0x40), (2, 0x1008)],
             end: "exit 00000000",
             code: 0,
         },
         Row {
             image: BRANCHES_BY_CODE,
             length: 226,
-            drained: &[Drained {
-                before: "",
-                point: "226 end 00001098 00000002 001F2002",
-                globals: &[(0, 8), (1, 1), (4, 0x0F5F_3F7F), (5, 0x8055_3377)],
-                locals: &[(1, 0x40)],
-            }],
+            before: "",
+            point: "226 end 00001098 00000002 001F2002",
+            globals: &[(0, 8), (1, 1), (4, 0x0F5F_3F7F), (5, 0x8055_3377)],
+            locals: &[(1, 0x40)],
             end: "limit",
             code: 0,
         },
         Row {
             image: COMPARES_AND_BRANCHES,
             length: 144,
-            drained: &[Drained {
-                before: "",
-                point: "144 end 00001118 00000004 001F2002",
-                globals: &[
-                    (0, 0xFFFF_FFFF),
-                    (1, 1),
-                    (4, 0x2A0F),
-                    (5, 0x755),
-                    (6, 0x1933),
-                    (14, 0x102C),
-                ],
-                locals: &[(1, 0x40)],
-            }],
+            before: "",
+            point: "144 end 00001118 00000004 001F2002",
+            globals: &[
+                (0, 0xFFFF_FFFF),
+                (1, 1),
+                (4, 0x2A0F),
+                (5, 0x755),
+                (6, 0x1933),
+                (14, 0x102C),
+            ],
+            locals: &[(1, 0x40)],
             end: "limit",
             code: 0,
         },
         Row {
             image: BRANCHES_ON_BITS,
             length: 20,
-            drained: &[
-                Drained {
-                    before: "",
-                    point: "12 fault 00000000 00000000 001F2002",
-                    globals: &[(0, 4), (1, 0x22), (4, 1), (5, 1), (15, 0x50)],
-                    locals: &[(0, 1), (1, 0x90)],
-                },
-                Drained {
-                    before: "",
-                    point: "12 end 00000000 00000000 001F2002",
-                    globals: &[(0, 4), (1, 0x22), (4, 1), (5, 1), (15, 0x50)],
-                    locals: &[(0, 1), (1, 0x90)],
-                },
-            ],
+            before: BRANCHES_ON_BITS_FIRST,
+            point: "12 end 00000000 00000000 001F2002",
+            globals: &[(0, 4), (1, 0x22), (4, 1), (5, 1), (15, 0x50)],
+            locals: &[(0, 1), (1, 0x90)],
             end: "hazard 00000000",
             code: 4,
         },
         Row {
             image: JUMPS,
             length: 6,
-            drained: &[Drained {
-                before: "",
-                point: "6 end 00000004 00000000 001F2002",
-                globals: &[(0, 0x1013), (1, 0x1014), (4, 0x1014), (14, 0x101C)],
-                locals: &[(1, 0x40)],
-            }],
+            before: "",
+            point: "6 end 00000004 00000000 001F2002",
+            globals: &[(0, 0x1013), (1, 0x1014), (4, 0x1014), (14, 0x101C)],
+            locals: &[(1, 0x40)],
             end: "limit",
             code: 0,
         },
@@ -367,149 +367,135 @@ fn loads_stores_and_addresses(rt: HostRuntime) -> Result<(), Fail> {
         Row {
             image: LOADS,
             length: 13,
-            drained: &[Drained {
-                before: "",
-                point: "13 end 00001038 00000000 001F2002",
-                globals: &[
-                    (0, 0x2000),
-                    (1, 0x80),
-                    (2, 0xFFFF_FF80),
-                    (3, 0x7F),
-                    (4, 0x17F),
-                    (5, 0x17F),
-                    (6, 0xFFFF_FF80),
-                    (7, 0xFF80),
-                    (8, 0x017F_FF80),
-                    (9, 0x8584_0302),
-                    (10, 0xFFFF_FF85),
-                    (11, 0xDD),
-                ],
-                locals: &[
-                    (1, 0x40),
-                    (4, 0x017F_FF80),
-                    (5, 0x8584_0302),
-                    (6, 0x1122_3344),
-                    (8, 0x017F_FF80),
-                    (9, 0x8584_0302),
-                    (10, 0x1122_3344),
-                    (11, 0xDDCC_BBAA),
-                ],
-            }],
+            before: "",
+            point: "13 end 00001038 00000000 001F2002",
+            globals: &[
+                (0, 0x2000),
+                (1, 0x80),
+                (2, 0xFFFF_FF80),
+                (3, 0x7F),
+                (4, 0x17F),
+                (5, 0x17F),
+                (6, 0xFFFF_FF80),
+                (7, 0xFF80),
+                (8, 0x017F_FF80),
+                (9, 0x8584_0302),
+                (10, 0xFFFF_FF85),
+                (11, 0xDD),
+            ],
+            locals: &[
+                (1, 0x40),
+                (4, 0x017F_FF80),
+                (5, 0x8584_0302),
+                (6, 0x1122_3344),
+                (8, 0x017F_FF80),
+                (9, 0x8584_0302),
+                (10, 0x1122_3344),
+                (11, 0xDDCC_BBAA),
+            ],
             end: "limit",
             code: 0,
         },
         Row {
             image: STORES,
             length: 21,
-            drained: &[Drained {
-                before: "",
-                point: "21 end 00001068 00000000 001F2002",
-                globals: &[
-                    (0, 0x3000),
-                    (4, 0x1122_3344),
-                    (5, 0x5566_7788),
-                    (6, 0x99AA_BBCC),
-                    (7, 0xDDEE_FF00),
-                    (8, 0xBBCC_8844),
-                    (9, 0xFF00),
-                    (10, 0x5566_7788),
-                    (11, 0x99AA_BBCC),
-                    (13, 0x5566),
-                ],
-                locals: &[
-                    (1, 0x40),
-                    (4, 0x1122_3344),
-                    (5, 0x5566_7788),
-                    (6, 0x99AA_BBCC),
-                    (7, 0xDDEE_FF00),
-                    (8, 0x1122_3344),
-                    (9, 0x5566_7788),
-                    (10, 0x99AA_BBCC),
-                ],
-            }],
+            before: "",
+            point: "21 end 00001068 00000000 001F2002",
+            globals: &[
+                (0, 0x3000),
+                (4, 0x1122_3344),
+                (5, 0x5566_7788),
+                (6, 0x99AA_BBCC),
+                (7, 0xDDEE_FF00),
+                (8, 0xBBCC_8844),
+                (9, 0xFF00),
+                (10, 0x5566_7788),
+                (11, 0x99AA_BBCC),
+                (13, 0x5566),
+            ],
+            locals: &[
+                (1, 0x40),
+                (4, 0x1122_3344),
+                (5, 0x5566_7788),
+                (6, 0x99AA_BBCC),
+                (7, 0xDDEE_FF00),
+                (8, 0x1122_3344),
+                (9, 0x5566_7788),
+                (10, 0x99AA_BBCC),
+            ],
             end: "limit",
             code: 0,
         },
         Row {
             image: ADDRESSES,
             length: 14,
-            drained: &[Drained {
-                before: "",
-                point: "14 end 00001058 00000000 001F2002",
-                globals: &[
-                    (0, 0xFFFF_FFF8),
-                    (1, 3),
-                    (2, 8),
-                    (3, 0xFFFF_FFF8),
-                    (4, 0x28),
-                    (5, 0x1040),
-                    (7, 0xFFFF_FFF4),
-                    (8, 0xFFFF_FFF8),
-                    (9, 0xFFFF_FF03),
-                    (10, 0xABC),
-                    (11, 0x8000_0018),
-                    (12, 0x8C80_3000),
-                    (13, 0x90E8_1400),
-                ],
-                locals: &[(1, 0x40)],
-            }],
+            before: "",
+            point: "14 end 00001058 00000000 001F2002",
+            globals: &[
+                (0, 0xFFFF_FFF8),
+                (1, 3),
+                (2, 8),
+                (3, 0xFFFF_FFF8),
+                (4, 0x28),
+                (5, 0x1040),
+                (7, 0xFFFF_FFF4),
+                (8, 0xFFFF_FFF8),
+                (9, 0xFFFF_FF03),
+                (10, 0xABC),
+                (11, 0x8000_0018),
+                (12, 0x8C80_3000),
+                (13, 0x90E8_1400),
+            ],
+            locals: &[(1, 0x40)],
             end: "limit",
             code: 0,
         },
         Row {
             image: ATOMICS,
             length: 11,
-            drained: &[Drained {
-                before: "",
-                point: "11 end 00001048 00000000 001F2002",
-                globals: &[
-                    (0, 0x2002),
-                    (1, 0x1234_5678),
-                    (2, 0x1234_5678),
-                    (3, 0xFFFF),
-                    (4, 0x1234_5680),
-                    (5, 0x1234_EF01),
-                    (6, 0x1234_EF01),
-                    (7, 0x1234_EF00),
-                ],
-                locals: &[(1, 0x40)],
-            }],
+            before: "",
+            point: "11 end 00001048 00000000 001F2002",
+            globals: &[
+                (0, 0x2002),
+                (1, 0x1234_5678),
+                (2, 0x1234_5678),
+                (3, 0xFFFF),
+                (4, 0x1234_5680),
+                (5, 0x1234_EF01),
+                (6, 0x1234_EF01),
+                (7, 0x1234_EF00),
+            ],
+            locals: &[(1, 0x40)],
             end: "limit",
             code: 0,
         },
         Row {
             image: WRITES_TO_THE_PORT_PAGE,
             length: 20,
-            drained: &[Drained {
-                before: "#out 41\n#out 41\n#out 09\n#out 41\n",
-                point: "10 end 00001034 00000000 001F2002",
-                globals: &[(0, 0xE000_0000), (1, 0xE000_0003), (4, 0x4443_4241), (5, 9)],
-                locals: &[(1, 0x40)],
-            }],
+            before: "#out 41\n#out 41\n#out 09\n#out 41\n",
+            point: "10 end 00001034 00000000 001F2002",
+            globals: &[(0, 0xE000_0000), (1, 0xE000_0003), (4, 0x4443_4241), (5, 9)],
+            locals: &[(1, 0x40)],
             end: "exit 00000009",
             code: 0,
         },
         Row {
             image: EXITS_BY_ATMOD,
             length: 20,
-            drained: &[Drained {
-                before: "",
-                point: "4 end 0000101C 00000000 001F2002",
-                globals: &[(0, 0xE000_0004), (1, 0x00FF_00FF)],
-                locals: &[(1, 0x40)],
-            }],
+            before: "",
+            point: "4 end 0000101C 00000000 001F2002",
+            globals: &[(0, 0xE000_0004), (1, 0x00FF_00FF)],
+            locals: &[(1, 0x40)],
             end: "exit 00340078",
             code: 0,
         },
         Row {
             image: STORES_FAR_APART,
             length: 7,
-            drained: &[Drained {
-                before: "",
-                point: "7 end 00001028 00000000 001F2002",
-                globals: &[(0, 0x8000_3000), (4, 7), (5, 9), (6, 7), (7, 9)],
-                locals: &[(1, 0x40)],
-            }],
+            before: "",
+            point: "7 end 00001028 00000000 001F2002",
+            globals: &[(0, 0x8000_3000), (4, 7), (5, 9), (6, 7), (7, 9)],
+            locals: &[(1, 0x40)],
             end: "limit",
             code: 0,
         },
@@ -526,132 +512,90 @@ fn accesses_meet_hazards_and_faults(rt: HostRuntime) -> Result<(), Fail> {
         Row {
             image: ATADD_ON_A_FRAME,
             length: 9,
-            drained: &[Drained {
-                before: "",
-                point: "1 end 00001004 00000000 001F2002",
-                globals: &[(15, 0x40)],
-                locals: &[(1, 0x80)],
-            }],
+            before: "",
+            point: "1 end 00001004 00000000 001F2002",
+            globals: &[(15, 0x40)],
+            locals: &[(1, 0x80)],
             end: "hazard 00000010",
             code: 4,
         },
         Row {
             image: STT_TO_A_FRAME,
             length: 9,
-            drained: &[Drained {
-                before: "",
-                point: "1 end 00001004 00000000 001F2002",
-                globals: &[(15, 0x40)],
-                locals: &[(1, 0x80)],
-            }],
+            before: "",
+            point: "1 end 00001004 00000000 001F2002",
+            globals: &[(15, 0x40)],
+            locals: &[(1, 0x80)],
             end: "hazard 00000020",
             code: 4,
         },
         Row {
             image: LDIB_OF_A_FRAME,
             length: 9,
-            drained: &[Drained {
-                before: "",
-                point: "1 end 00001004 00000000 001F2002",
-                globals: &[(15, 0x40)],
-                locals: &[(1, 0x80)],
-            }],
+            before: "",
+            point: "1 end 00001004 00000000 001F2002",
+            globals: &[(15, 0x40)],
+            locals: &[(1, 0x80)],
             end: "hazard 00000005",
             code: 4,
         },
         Row {
             image: STIB_TO_A_FRAME,
             length: 9,
-            drained: &[Drained {
-                before: "",
-                point: "1 end 00001004 00000000 001F2002",
-                globals: &[(15, 0x40)],
-                locals: &[(1, 0x80)],
-            }],
+            before: "",
+            point: "1 end 00001004 00000000 001F2002",
+            globals: &[(15, 0x40)],
+            locals: &[(1, 0x80)],
             end: "hazard 0000003F",
             code: 4,
         },
         Row {
             image: LDQ_BEHIND_A_BYTE,
             length: 9,
-            drained: &[Drained {
-                before: "",
-                point: "3 end 00001008 00000000 001F2002",
-                globals: &[],
-                locals: &[(1, 0x40), (2, 0x1004)],
-            }],
+            before: "",
+            point: "3 end 00001008 00000000 001F2002",
+            globals: &[],
+            locals: &[(1, 0x40), (2, 0x1004)],
             end: "hazard 00000011",
             code: 4,
         },
         Row {
             image: ATMOD_BEHIND_A_WORD,
             length: 9,
-            drained: &[Drained {
-                before: "",
-                point: "4 end 0000100C 00000000 001F2002",
-                globals: &[],
-                locals: &[(1, 0x40), (2, 0x1004)],
-            }],
+            before: "",
+            point: "4 end 0000100C 00000000 001F2002",
+            globals: &[],
+            locals: &[(1, 0x40), (2, 0x1004)],
             end: "hazard 00000014",
             code: 4,
         },
         Row {
             image: LOADS_A_HALF_UNALIGNED,
             length: 9,
-            drained: &[
-                Drained {
-                    before: "",
-                    point: "2 fault 00000000 00000000 001F2002",
-                    globals: &[(0, 1), (15, 0x50)],
-                    locals: &[(0, 1), (1, 0x90)],
-                },
-                Drained {
-                    before: "",
-                    point: "2 end 00000000 00000000 001F2002",
-                    globals: &[(0, 1), (15, 0x50)],
-                    locals: &[(0, 1), (1, 0x90)],
-                },
-            ],
+            before: LOADS_A_HALF_UNALIGNED_FIRST,
+            point: "2 end 00000000 00000000 001F2002",
+            globals: &[(0, 1), (15, 0x50)],
+            locals: &[(0, 1), (1, 0x90)],
             end: "hazard 00000000",
             code: 4,
         },
         Row {
             image: STORES_A_PAIR_UNALIGNED,
             length: 9,
-            drained: &[
-                Drained {
-                    before: "",
-                    point: "2 fault 00000000 00000000 001F2002",
-                    globals: &[(0, 1), (15, 0x50)],
-                    locals: &[(0, 1), (1, 0x90)],
-                },
-                Drained {
-                    before: "",
-                    point: "2 end 00000000 00000000 001F2002",
-                    globals: &[(0, 1), (15, 0x50)],
-                    locals: &[(0, 1), (1, 0x90)],
-                },
-            ],
+            before: STORES_A_PAIR_UNALIGNED_FIRST,
+            point: "2 end 00000000 00000000 001F2002",
+            globals: &[(0, 1), (15, 0x50)],
+            locals: &[(0, 1), (1, 0x90)],
             end: "hazard 00000000",
             code: 4,
         },
         Row {
             image: LOADS_THREE_UNALIGNED,
             length: 9,
-            drained: &[
-                Drained {
-                    before: "",
-                    point: "2 fault 00000000 00000000 001F2002",
-                    globals: &[(0, 1), (15, 0x50)],
-                    locals: &[(0, 1), (1, 0x90)],
-                },
-                Drained {
-                    before: "",
-                    point: "2 end 00000000 00000000 001F2002",
-                    globals: &[(0, 1), (15, 0x50)],
-                    locals: &[(0, 1), (1, 0x90)],
-                },
-            ],
+            before: LOADS_THREE_UNALIGNED_FIRST,
+            point: "2 end 00000000 00000000 001F2002",
+            globals: &[(0, 1), (15, 0x50)],
+            locals: &[(0, 1), (1, 0x90)],
             end: "hazard 00000000",
             code: 4,
         },

@@ -5,23 +5,17 @@ use crate::top::i960;
 use std::alloc::Global;
 use std::test::*;
 
-/// A drained point: the lines before it, its first line behind `#point`, and the registers g0 to g15
-/// and r0 to r15 that are not 0 there, by their numbers.
-#[derive(Clone, Copy)]
-pub(crate) struct Drained<'a> {
-    pub(crate) before: &'a str,
-    pub(crate) point: &'a str,
-    pub(crate) globals: &'a [(usize, u32)],
-    pub(crate) locals: &'a [(usize, u32)],
-}
-
-/// An image, the length of its run, and what is to be printed: its drained points, and the last line
-/// behind `#end`; and the status.
+/// An image, the length of its run, and what is to be printed: the lines before the last drained
+/// point, that point, the registers g0 to g15 and r0 to r15 that are not 0 there by their numbers,
+/// and the last line; and the status.
 #[derive(Clone, Copy)]
 pub(crate) struct Row<'a> {
     pub(crate) image: &'a str,
     pub(crate) length: u64,
-    pub(crate) drained: &'a [Drained<'a>],
+    pub(crate) before: &'a str,
+    pub(crate) point: &'a str,
+    pub(crate) globals: &'a [(usize, u32)],
+    pub(crate) locals: &'a [(usize, u32)],
     pub(crate) end: &'a str,
     pub(crate) code: u8,
 }
@@ -44,13 +38,10 @@ fn registers_line(alloc: Global, label: &str, given: &[(usize, u32)]) -> Result<
 
 /// All that a row's run is to print.
 fn text_of(alloc: Global, row: &Row<'_>) -> Result<String, Fail> {
-    let mut text = String::new(alloc);
-    for drained in row.drained {
-        text.push_str(drained.before)?;
-        text.push_str(&format!(in alloc; "#point {}\n", drained.point)?)?;
-        text.push_str(&registers_line(alloc, "#g", drained.globals)?)?;
-        text.push_str(&registers_line(alloc, "#l", drained.locals)?)?;
-    }
+    let mut text = String::from_str(alloc, row.before)?;
+    text.push_str(&format!(in alloc; "#point {}\n", row.point)?)?;
+    text.push_str(&registers_line(alloc, "#g", row.globals)?)?;
+    text.push_str(&registers_line(alloc, "#l", row.locals)?)?;
     text.push_str(&format!(in alloc; "#end {}\n", row.end)?)?;
     Ok(text)
 }

@@ -1,7 +1,7 @@
 //! Start-up, sysctl and modpc through the command, at images and registers worked out by hand. Most
 //! images have a PRCB at 800, with the control table at A00, fault configuration 40000000 and the
 //! interrupt stack at 3000.
-use crate::rows::{Drained, Row, holds};
+use crate::rows::{Row, holds};
 use std::test::*;
 
 /// `lda 0x10000000, fp`, `lda 64(fp), sp`, `mov 9, r5`, `call f`, `f: lda 0x400000, g1`, `st g1,
@@ -109,6 +109,11 @@ const MESSAGES_WITHOUT_EFFECT: &str = ":02000004FFFFFC
 :00000001FF
 ";
 
+const MESSAGES_WITHOUT_EFFECT_FIRST: &str = "#point 6 fault 00000000 00000000 001F2002
+#g 00000000 00000100 000002FF 00000500 00000000 00000000 00000000 00000000 00000000 00000000 00000000 00000000 00000000 00000000 00000000 00003050
+#l 00003001 00003090 00000000 00000000 00000000 00000000 00000000 00000000 00000000 00000000 00000000 00000000 00000000 00000000 00000000 00000000
+";
+
 /// `mov 9, g1`, `sysctl g1, g1, g1`.
 const MESSAGE_0: &str = ":02000004FFFFFC
 :08FF10000010000000080000D1
@@ -129,6 +134,11 @@ const GROUP_7: &str = ":02000004FFFFFC
 :080820000000000000000000D0
 :081000000704888C91448C6503
 :00000001FF
+";
+
+const GROUP_7_FIRST: &str = "#point 2 fault 00000000 00000000 001F2002
+#g 00000000 00000407 00000000 00000000 00000000 00000000 00000000 00000000 00000000 00000000 00000000 00000000 00000000 00000000 00000000 00003050
+#l 00003001 00003090 00000000 00000000 00000000 00000000 00000000 00000000 00000000 00000000 00000000 00000000 00000000 00000000 00000000 00000000
 ";
 
 /// `lda 0x2000, g1`, `mov 0, g2`, `modpc 0, g1, g2`, and `lda 0x1F0000, g3`, `mov 0, g4`, `modpc
@@ -155,6 +165,11 @@ const LEAVES_SUPERVISOR_MODE: &str = ":02000004FFFFFC
 :10100000020E885C000E905C804A94651F0E985C0E
 :08101000801A9865804AA4656E
 :00000001FF
+";
+
+const LEAVES_SUPERVISOR_MODE_FIRST: &str = "#point 6 fault 00000000 00000000 001F2000
+#g 00000000 00000002 001F2002 001F2000 00000000 00000000 00000000 00000000 00000000 00000000 00000000 00000000 00000000 00000000 00000000 00003050
+#l 00003001 00003090 00000000 00000000 00000000 00000000 00000000 00000000 00000000 00000000 00000000 00000000 00000000 00000000 00000000 00000000
 ";
 
 /// `mov 1, g1`, `modpc 0, g1, g1`, `mov 2, g2`.
@@ -262,95 +277,83 @@ fn starts_by_its_tables(rt: HostRuntime) -> Result<(), Fail> {
         Row {
             image: TURNS_A_REGION_BIG_ENDIAN,
             length: 9,
-            drained: &[Drained {
-                before: "",
-                point: "9 end 14100000 00000000 001F2002",
-                globals: &[(1, 0x0040_0000), (2, 0x402), (15, 0x1000_0000)],
-                locals: &[(1, 0x4000_0010), (2, 0x1410_0000), (5, 0x0900_0000)],
-            }],
+            before: "",
+            point: "9 end 14100000 00000000 001F2002",
+            globals: &[(1, 0x0040_0000), (2, 0x402), (15, 0x1000_0000)],
+            locals: &[(1, 0x4000_0010), (2, 0x1410_0000), (5, 0x0900_0000)],
             end: "limit",
             code: 0,
         },
         Row {
             image: STARTS_ANEW,
             length: 4,
-            drained: &[Drained {
-                before: "",
-                point: "4 end 00001200 00000000 001F2002",
-                globals: &[(1, 0x300), (2, 0x1200), (3, 0xC00), (15, 0x5000)],
-                locals: &[(1, 0x5040)],
-            }],
+            before: "",
+            point: "4 end 00001200 00000000 001F2002",
+            globals: &[(1, 0x300), (2, 0x1200), (3, 0xC00), (15, 0x5000)],
+            locals: &[(1, 0x5040)],
             end: "limit",
             code: 0,
         },
         Row {
             image: BOOTS_IN_BIG_ENDIAN_ORDER,
             length: 1,
-            drained: &[Drained {
-                before: "",
-                point: "1 end 00001008 00000000 001F2002",
-                globals: &[(0, 0x0010_0000), (15, 0x3000)],
-                locals: &[(1, 0x3040)],
-            }],
+            before: "",
+            point: "1 end 00001008 00000000 001F2002",
+            globals: &[(0, 0x0010_0000), (15, 0x3000)],
+            locals: &[(1, 0x3040)],
             end: "limit",
             code: 0,
         },
         Row {
             image: STAYS_IN_BIG_ENDIAN_ORDER,
             length: 1,
-            drained: &[Drained {
-                before: "",
-                point: "1 end 00001008 00000000 001F2002",
-                globals: &[(0, 0x1000), (15, 0x3000)],
-                locals: &[(1, 0x3040)],
-            }],
+            before: "",
+            point: "1 end 00001008 00000000 001F2002",
+            globals: &[(0, 0x1000), (15, 0x3000)],
+            locals: &[(1, 0x3040)],
             end: "limit",
             code: 0,
         },
         Row {
             image: MASKS_ITS_IMAGES,
             length: 1,
-            drained: &[Drained {
-                before: "",
-                point: "1 end 00001004 00009107 001F2002",
-                globals: &[(15, 0x3010)],
-                locals: &[(1, 0x3050), (4, 0x0FFE_00FE)],
-            }],
+            before: "",
+            point: "1 end 00001004 00009107 001F2002",
+            globals: &[(15, 0x3010)],
+            locals: &[(1, 0x3050), (4, 0x0FFE_00FE)],
             end: "limit",
             code: 0,
         },
         Row {
             image: LOADS_GROUPS,
             length: 35,
-            drained: &[Drained {
-                before: "",
-                point: "35 end 000010AC 00000000 001F2002",
-                globals: &[
-                    (1, 0x0040_0000),
-                    (2, 0xFFFF_FFFF),
-                    (3, 0x402),
-                    (4, 0x403),
-                    (5, 0x404),
-                    (6, 0x405),
-                    (7, 0x406),
-                    (8, 0x1000_0000),
-                    (9, 1),
-                    (10, 0x5000_0000),
-                    (11, 0x9000_0000),
-                    (12, 0xD000_0000),
-                    (15, 0x3000),
-                ],
-                locals: &[
-                    (1, 0x3040),
-                    (4, 1),
-                    (5, 1),
-                    (6, 1),
-                    (7, 1),
-                    (8, 1),
-                    (9, 0x0FFE_00FE),
-                    (10, 1),
-                ],
-            }],
+            before: "",
+            point: "35 end 000010AC 00000000 001F2002",
+            globals: &[
+                (1, 0x0040_0000),
+                (2, 0xFFFF_FFFF),
+                (3, 0x402),
+                (4, 0x403),
+                (5, 0x404),
+                (6, 0x405),
+                (7, 0x406),
+                (8, 0x1000_0000),
+                (9, 1),
+                (10, 0x5000_0000),
+                (11, 0x9000_0000),
+                (12, 0xD000_0000),
+                (15, 0x3000),
+            ],
+            locals: &[
+                (1, 0x3040),
+                (4, 1),
+                (5, 1),
+                (6, 1),
+                (7, 1),
+                (8, 1),
+                (9, 0x0FFE_00FE),
+                (10, 1),
+            ],
             end: "limit",
             code: 0,
         },
@@ -367,101 +370,65 @@ fn messages_and_process_controls(rt: HostRuntime) -> Result<(), Fail> {
         Row {
             image: MESSAGES_WITHOUT_EFFECT,
             length: 6,
-            drained: &[
-                Drained {
-                    before: "",
-                    point: "6 fault 00000000 00000000 001F2002",
-                    globals: &[(1, 0x100), (2, 0x2FF), (3, 0x500), (15, 0x3050)],
-                    locals: &[(0, 0x3001), (1, 0x3090)],
-                },
-                Drained {
-                    before: "",
-                    point: "6 end 00000000 00000000 001F2002",
-                    globals: &[(1, 0x100), (2, 0x2FF), (3, 0x500), (15, 0x3050)],
-                    locals: &[(0, 0x3001), (1, 0x3090)],
-                },
-            ],
+            before: MESSAGES_WITHOUT_EFFECT_FIRST,
+            point: "6 end 00000000 00000000 001F2002",
+            globals: &[(1, 0x100), (2, 0x2FF), (3, 0x500), (15, 0x3050)],
+            locals: &[(0, 0x3001), (1, 0x3090)],
             end: "limit",
             code: 0,
         },
         Row {
             image: MESSAGE_0,
             length: 9,
-            drained: &[Drained {
-                before: "",
-                point: "1 end 00001004 00000000 001F2002",
-                globals: &[(1, 9), (15, 0x3000)],
-                locals: &[(1, 0x3040)],
-            }],
+            before: "",
+            point: "1 end 00001004 00000000 001F2002",
+            globals: &[(1, 9), (15, 0x3000)],
+            locals: &[(1, 0x3040)],
             end: "unbuilt 00001004",
             code: 4,
         },
         Row {
             image: GROUP_7,
             length: 2,
-            drained: &[
-                Drained {
-                    before: "",
-                    point: "2 fault 00000000 00000000 001F2002",
-                    globals: &[(1, 0x407), (15, 0x3050)],
-                    locals: &[(0, 0x3001), (1, 0x3090)],
-                },
-                Drained {
-                    before: "",
-                    point: "2 end 00000000 00000000 001F2002",
-                    globals: &[(1, 0x407), (15, 0x3050)],
-                    locals: &[(0, 0x3001), (1, 0x3090)],
-                },
-            ],
+            before: GROUP_7_FIRST,
+            point: "2 end 00000000 00000000 001F2002",
+            globals: &[(1, 0x407), (15, 0x3050)],
+            locals: &[(0, 0x3001), (1, 0x3090)],
             end: "limit",
             code: 0,
         },
         Row {
             image: CHANGES_PC,
             length: 9,
-            drained: &[Drained {
-                before: "",
-                point: "5 end 0000101C 00000000 001F0002",
-                globals: &[
-                    (1, 0x2000),
-                    (2, 0x001F_2002),
-                    (3, 0x001F_0000),
-                    (15, 0x3000),
-                ],
-                locals: &[(1, 0x3040)],
-            }],
+            before: "",
+            point: "5 end 0000101C 00000000 001F0002",
+            globals: &[
+                (1, 0x2000),
+                (2, 0x001F_2002),
+                (3, 0x001F_0000),
+                (15, 0x3000),
+            ],
+            locals: &[(1, 0x3040)],
             end: "unbuilt 0000101C",
             code: 4,
         },
         Row {
             image: LEAVES_SUPERVISOR_MODE,
             length: 6,
-            drained: &[
-                Drained {
-                    before: "",
-                    point: "6 fault 00000000 00000000 001F2000",
-                    globals: &[(1, 2), (2, 0x001F_2002), (3, 0x001F_2000), (15, 0x3050)],
-                    locals: &[(0, 0x3001), (1, 0x3090)],
-                },
-                Drained {
-                    before: "",
-                    point: "6 end 00000000 00000000 001F2000",
-                    globals: &[(1, 2), (2, 0x001F_2002), (3, 0x001F_2000), (15, 0x3050)],
-                    locals: &[(0, 0x3001), (1, 0x3090)],
-                },
-            ],
+            before: LEAVES_SUPERVISOR_MODE_FIRST,
+            point: "6 end 00000000 00000000 001F2000",
+            globals: &[(1, 2), (2, 0x001F_2002), (3, 0x001F_2000), (15, 0x3050)],
+            locals: &[(0, 0x3001), (1, 0x3090)],
             end: "limit",
             code: 0,
         },
         Row {
             image: ENABLES_TRACING,
             length: 9,
-            drained: &[Drained {
-                before: "",
-                point: "2 end 00001008 00000000 001F2003",
-                globals: &[(1, 0x001F_2002), (15, 0x3000)],
-                locals: &[(1, 0x3040)],
-            }],
+            before: "",
+            point: "2 end 00001008 00000000 001F2003",
+            globals: &[(1, 0x001F_2002), (15, 0x3000)],
+            locals: &[(1, 0x3040)],
             end: "unbuilt 00001008",
             code: 4,
         },
@@ -478,90 +445,78 @@ fn unaligned_accesses_and_table_hazards(rt: HostRuntime) -> Result<(), Fail> {
         Row {
             image: ACCESSES_ANYWHERE,
             length: 20,
-            drained: &[Drained {
-                before: "",
-                point: "14 end 00001054 00000000 001F2002",
-                globals: &[
-                    (0, 0x2001),
-                    (1, 0x1122_3344),
-                    (2, 0x2233_4400),
-                    (4, 0x1122_3344),
-                    (6, 0x0FFF_FFFE),
-                    (7, 0x1122),
-                    (8, 0xFFFF_FFFE),
-                    (9, 0x1122),
-                    (10, 0x1122_3344),
-                    (11, 0xE000_0002),
-                    (15, 0x3000),
-                ],
-                locals: &[(1, 0x3040)],
-            }],
+            before: "",
+            point: "14 end 00001054 00000000 001F2002",
+            globals: &[
+                (0, 0x2001),
+                (1, 0x1122_3344),
+                (2, 0x2233_4400),
+                (4, 0x1122_3344),
+                (6, 0x0FFF_FFFE),
+                (7, 0x1122),
+                (8, 0xFFFF_FFFE),
+                (9, 0x1122),
+                (10, 0x1122_3344),
+                (11, 0xE000_0002),
+                (15, 0x3000),
+            ],
+            locals: &[(1, 0x3040)],
             end: "exit 00001122",
             code: 0,
         },
         Row {
             image: PRCB_IN_A_RETURNED_FRAME,
             length: 9,
-            drained: &[Drained {
-                before: "",
-                point: "4 end 00001010 00000000 001F2002",
-                globals: &[(1, 0x300), (2, 0x3000), (15, 0x3000)],
-                locals: &[(1, 0x3040), (2, 0x1004)],
-            }],
+            before: "",
+            point: "4 end 00001010 00000000 001F2002",
+            globals: &[(1, 0x300), (2, 0x3000), (15, 0x3000)],
+            locals: &[(1, 0x3040), (2, 0x1004)],
             end: "hazard 00003000",
             code: 4,
         },
         Row {
             image: CONTROL_TABLE_IN_A_RETURNED_FRAME,
             length: 9,
-            drained: &[Drained {
-                before: "",
-                point: "4 end 0000100C 00000000 001F2002",
-                globals: &[(1, 0x300), (2, 0xC00), (15, 0x3000)],
-                locals: &[(1, 0x3040), (2, 0x1004)],
-            }],
+            before: "",
+            point: "4 end 0000100C 00000000 001F2002",
+            globals: &[(1, 0x300), (2, 0xC00), (15, 0x3000)],
+            locals: &[(1, 0x3040), (2, 0x1004)],
             end: "hazard 00003000",
             code: 4,
         },
         Row {
             image: GROUP_IN_A_RETURNED_FRAME,
             length: 9,
-            drained: &[Drained {
-                before: "",
-                point: "5 end 00001010 00000000 001F2002",
-                globals: &[(1, 0x401), (2, 0x402), (15, 0x3000)],
-                locals: &[(1, 0x3040), (2, 0x1004)],
-            }],
+            before: "",
+            point: "5 end 00001010 00000000 001F2002",
+            globals: &[(1, 0x401), (2, 0x402), (15, 0x3000)],
+            locals: &[(1, 0x3040), (2, 0x1004)],
             end: "hazard 00003000",
             code: 4,
         },
         Row {
             image: PRCB_IN_A_LIVE_FRAME,
             length: 6,
-            drained: &[Drained {
-                before: "",
-                point: "6 end 00001200 00001004 001F2002",
-                globals: &[(1, 0x300), (2, 0x3000), (3, 0x1200), (15, 0x5000)],
-                locals: &[(1, 0x5040)],
-            }],
+            before: "",
+            point: "6 end 00001200 00001004 001F2002",
+            globals: &[(1, 0x300), (2, 0x3000), (3, 0x1200), (15, 0x5000)],
+            locals: &[(1, 0x5040)],
             end: "limit",
             code: 0,
         },
         Row {
             image: EXITS_IN_BIG_ENDIAN_ORDER,
             length: 9,
-            drained: &[Drained {
-                before: "",
-                point: "7 end 00001028 00000000 001F2002",
-                globals: &[
-                    (1, 0x0040_0000),
-                    (2, 0x405),
-                    (3, 0xE000_0002),
-                    (4, 0x1122_3344),
-                    (15, 0x3000),
-                ],
-                locals: &[(1, 0x3040)],
-            }],
+            before: "",
+            point: "7 end 00001028 00000000 001F2002",
+            globals: &[
+                (1, 0x0040_0000),
+                (2, 0x405),
+                (3, 0xE000_0002),
+                (4, 0x1122_3344),
+                (15, 0x3000),
+            ],
+            locals: &[(1, 0x3040)],
             end: "exit 33440000",
             code: 0,
         },
