@@ -24,7 +24,8 @@ const SYSTEM_TABLE: u32 = 5;
 
 const INTERRUPT_STACK: u32 = 7;
 
-const REGISTER_CACHE: u32 = 9;
+/// The number of the PRCB's word that says how many register sets there are.
+pub const REGISTER_CACHE: u32 = 9;
 
 /// The word of a table that has `k` words before it.
 fn table_word(m: &Memory, table: u32, k: u32) -> u32
@@ -75,9 +76,12 @@ pub(crate) fn group_words(m: &Memory, table: u32, group: u8) -> [u32; 4]
     ]
 }
 
-/// How many register sets the word of the register cache asks for.
-fn sets(word: u32) -> u8
-    ensures { result ≡ max LEAST_SETS (word % 16) }
+/// How many register sets the PRCB's word on the register cache asks for: its low four bits, or five where they ask for
+/// fewer.
+pub fn sets_asked(word: u32) -> u8
+    ensures value { result ≡ max LEAST_SETS (word % 16) }
+    ensures some { 0 < result }
+    ensures few { result < 16 }
 {
     LEAST_SETS.max((word % 16) as u8)
 }
@@ -97,7 +101,7 @@ pub(crate) fn setup(m: &Memory, first: u32, prcb: u32) -> Setup
         interrupt_table: table_word(m, prcb, INTERRUPT_TABLE),
         system_table: table_word(m, prcb, SYSTEM_TABLE),
         interrupt_stack: table_word(m, prcb, INTERRUPT_STACK),
-        sets: sets(table_word(m, prcb, REGISTER_CACHE)),
+        sets: sets_asked(table_word(m, prcb, REGISTER_CACHE)),
         control: control_words(m, control_table),
     }
 }

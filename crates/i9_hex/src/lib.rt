@@ -7,11 +7,13 @@ mod reader;
 mod reading;
 mod record;
 mod segments;
+mod writing;
 
 pub use error::{HexError, HexFault};
 pub use laws::one_answer;
 pub use reading::read;
 pub use segments::{Segment, Segments};
+pub use writing::write;
 
 #[cfg(test)]
 mod tests;

@@ -17,7 +17,7 @@ pub(crate) const UPPER: u8 = 4;
 pub(crate) const START_ADDRESS: u8 = 5;
 
 /// The sum modulo 256.
-fn sum_of(bytes: &[u8]) -> u8
+pub(crate) fn sum_of(bytes: &[u8]) -> u8
     ensures { result ≡ sum bytes.now % 256 }
 {
     let mut sum = 0u8;

@@ -1,4 +1,4 @@
-use crate::{HexError, HexFault, Segments, read};
+use crate::{HexError, HexFault, Segments, read, write};
 use std::alloc::{AllocError, Global};
 use std::test::Fail;
 
@@ -166,5 +166,44 @@ fn shows_errors(rt: HostRuntime) -> Result<(), Fail> {
     assert_eq!(rt; bad.as_str(), "refused");
     let memory = format!(in rt.alloc(); "{}", HexError::Memory)?;
     assert_eq!(rt; memory.as_str(), "no memory");
+    Ok(())
+}
+
+// A text, and the text that is written for its image; both are worked by hand.
+#[test]
+fn writes_images(rt: HostRuntime) -> Result<(), Fail> {
+    let rows: [(&[u8], &[u8]); 6] = [
+        (b":00000001FF", b":00000001FF\n"),
+        // Records of 16, and the upper half before the first record that has another one.
+        (
+            b":02000004FFFFFC\n:04FF100000100000DD\n:020000040000FA\n:181000004100A08C0030A88C000000E00060A582070EA05C0460A592F4\n:00000001FF\n",
+            b":02000004FFFFFC\n:04FF100000100000DD\n:020000040000FA\n:101000004100A08C0030A88C000000E00060A582A8\n:08101000070EA05C0460A5922C\n:00000001FF\n",
+        ),
+        // A cut at a multiple of 65536, where records of 16 begin anew,
+        (
+            b":17FFFA000000000000000000000000000000000000000000000000F0\n:00000001FF\n",
+            b":06FFFA0000000000000001\n:020000040001F9\n:1000000000000000000000000000000000000000F0\n:0100100000EF\n:00000001FF\n",
+        ),
+        // and at the last address, behind which 0 stands.
+        (
+            b":02000004ffffFC\n:02FFFF00AABB9B\n:00000001FF\n",
+            b":02000004FFFFFC\n:01FFFF00AA57\n:020000040000FA\n:01000000BB44\n:00000001FF\n",
+        ),
+        // Segments with one upper half, which is written once,
+        (
+            b":020000040001F9\n:01000000AA55\n:020000040001F9\n:01002000BB24\n:00000001FF\n",
+            b":020000040001F9\n:01000000AA55\n:01002000BB24\n:00000001FF\n",
+        ),
+        // and segments that overlap, in their order.
+        (
+            b":020010000102EB\n:0100110003EB\n:00000001FF\n",
+            b":020010000102EB\n:0100110003EB\n:00000001FF\n",
+        ),
+    ];
+    for (text, written) in rows {
+        let image = read(rt.alloc(), text)?;
+        let again = write(rt.alloc(), &image)?;
+        assert_eq!(rt; again.as_slice(), written);
+    }
     Ok(())
 }

@@ -1,15 +1,12 @@
--- The words of frames one by one, and what a push and a return do.
-use Rattle.std.proofs.Common.{◌≡◌, ℕ, zero, suc, ◌+◌, ◌<◌, ◌≤◌, List, [], ◌∷◌, ◌++◌, length, get_or, take, drop, Option, Some, None, Ok, Err, refl, ap, ◌∙◌, add-one, arith}
-use Rattle.std.specs.Prelude.{map, slice_get, is_some, true, false}
+-- The registers and the words of a frame one by one, and what a push does.
+use Rattle.std.proofs.Common.{◌≡◌, ℕ, zero, suc, ◌+◌, ◌<◌, ◌≤◌, List, [], ◌∷◌, ◌++◌, length, get_or, take, Option, Some, None, Ok, Err, refl, ap, ◌∙◌, add-one, arith}
+use Rattle.std.specs.Prelude.{map}
 use Rattle.std.specs.List.{range_with_len}
-use Rattle.std.proofs.lemmas.List.{take_all, at_drop_more, at_drop_all}
+use Rattle.std.proofs.lemmas.List.{take_all}
 use Rattle.std.proofs.lemmas.List.FromFn.{map-range_with_len_more}
 use Rattle.i9_model.specs.declared.layout.TheConstants.{FP}
 use Rattle.i9_model.specs.declared.push.Push.{Push}
-use Rattle.i9_model.specs.Writes.{wrapped, pairs_at}
-use Rattle.i9_model.specs.Memory.{Memory, word_bytes, with_bytes, with_words}
-use Rattle.i9_model.specs.State.{Frames}
-use Rattle.i9_model.specs.Frames.{returned}
+use Rattle.i9_model.specs.Writes.{pairs_at}
 use Rattle.i9_model.specs.Hazards.{unless}
 use Rattle.i9_model.specs.Step.{frame_sets}
 use Rattle.i9_machine.specs.Effect.{AreRegisters}
@@ -52,19 +49,7 @@ locals_more f k = map-range_with_len_more f 0 k k (omega arith)
 
 pub ruleset frame_rules = (pairs_more, pairs_all, pairs_registers, frame_registers, locals_more)
 
--- one more word is stored
-pub with_words_more : (m : Memory) (a : ℕ) (ws : List ℕ) (i : ℕ) → i < length ws → with_words m a (drop i ws) ≡ with_words (with_bytes m a (word_bytes m a (get_or ws i 0))) (wrapped (a + 4)) (drop (i + 1) ws)
-unfolding with_words
-with_words_more m a ws i h = at_drop_more (with_words m a) ws i 0 h
-
--- no word is left
-pub with_words_done : (m : Memory) (a : ℕ) (ws : List ℕ) (i : ℕ) → length ws ≤ i → with_words m a (drop i ws) ≡ m
-unfolding with_words
-with_words_done m a ws i h = at_drop_all (with_words m a) ws i h
-
-pub ruleset words_rules = (with_words_more, with_words_done)
-
--- ---- pushes and returns
+-- ---- pushes
 
 pub push_free : (o : Option ℕ) (p q : Push) → unless o p ≡ Ok q → (o ≡ None) × (p ≡ q)
 push_free None p q e = (refl, cc)
@@ -75,20 +60,3 @@ push_hazard None p a e = absurd cc
 push_hazard (Some b) p a e = cc
 
 pub ruleset push_rules = (push_free, push_hazard)
-
-none_dropped : (live : List ℕ) → is_some (slice_get live 0) ≡ false → drop 1 live ≡ live
-none_dropped [] e = refl
-none_dropped (x ∷ xs) e = absurd cc
-
--- where no frame is live, none is dropped
-pub return_none : (s : Frames) → is_some (slice_get s.live 0) ≡ false → returned s ≡ s
-return_none s e = ap (λ (live : List ℕ). record s { live = live }) (none_dropped s.live e)
-
-some_live : (live : List ℕ) → is_some (slice_get live 0) ≡ true → 0 < length live
-some_live [] e = absurd cc
-some_live (x ∷ xs) e = omega arith
-
-pub return_some : (s : Frames) → is_some (slice_get s.live 0) ≡ true → 0 < length s.live
-return_some s e = some_live s.live e
-
-pub ruleset return_rules = (return_none, return_some)

@@ -4,11 +4,12 @@ pub mod Copies
 pub mod Needs
 pub mod Loading
 pub mod Frames
+pub mod Applying
+pub mod Lifting
 pub mod Overlaid
 pub mod Answering
 pub mod Transfers
-pub mod Regions
-pub mod Restarts
 pub mod CallPlans
 pub mod Faulting
 pub mod Stepping
+pub mod NewSets

@@ -1,20 +1,21 @@
 -- A planned effect as the action of the definitions.
-use Rattle.std.specs.Prelude.{◌≡◌, ℕ, ◌+◌, ◌<◌, ◌%◌, Bool, true, false, ◌||◌, nat_lt, List, length, Option, None, Some, is_some, Result, Ok, Err}
+use Rattle.std.specs.Prelude.{◌≡◌, ℕ, ◌+◌, ◌<◌, ◌%◌, Bool, true, false, ◌||◌, nat_lt, List, [], length, Option, None, Some, unwrap_or, is_some, Result, Ok, Err}
 use Rattle.std.specs.Option.{option_map}
 use Rattle.std.specs.List.{AllByRecursion}
-use Rattle.i9_model.specs.Memory.{console_byte}
+use Rattle.i9_model.specs.Memory.{Memory, console_byte}
+use Rattle.i9_model.specs.Boot.{setup_of}
 use Rattle.i9_model.specs.State.{State, Frames}
 use Rattle.i9_model.specs.Hazards.{save_hazard}
 use Rattle.i9_model.specs.Tables.{tables_hazard, group_hazard}
+use Rattle.i9_model.specs.HeldFrames.{Cache, renewed, cache_acted, cache_configured}
 use Rattle.i9_model.specs.Controls as plain_controls
 use Rattle.i9_model.specs.Step as plain
 use Rattle.i9_model.specs.Access.{Access, hazard_in}
 use Rattle.i9_model.specs.Run.{writes_in}
 use Rattle.i9_model.specs.PrintedText.{out_lines}
-use Rattle.i9_memory.specs.declared.memory.Memory.{Memory}
-use Rattle.i9_memory.specs.Memory.{HasRoom}
-use Rattle.i9_watch.specs.declared.watch.Watch.{Watch}
-use Rattle.i9_watch.specs.Watch.{spare_of, HasFrameMarks}
+use Rattle.i9_frames.specs.Sets.{Held, held}
+use Rattle.i9_storage.specs.declared.storage.Storage.{Storage}
+use Rattle.i9_storage.specs.Storage.{cache_of, memory_in, size_of, HasFrameSpace}
 use Rattle.i9_machine.specs.declared.effect.Move.{Move}
 use Rattle.i9_machine.specs.declared.effect.Move.TheVariants as moves
 use Rattle.i9_machine.specs.declared.effect.Control.{Control}
@@ -24,7 +25,7 @@ use Rattle.i9_machine.specs.Line.{drained_of}
 
 abbrev pub move_in : Move → plain.Move
 move_in moves.Stays = plain.Stays
-move_in (moves.Saves save words) = plain.Saves save words.items
+move_in (moves.Saves f) = plain.Saves f.address f.words
 move_in moves.Returns = plain.Returns
 move_in moves.Flushes = plain.Flushes
 
@@ -34,7 +35,19 @@ control_in (controls.Restarts first prcb) = plain_controls.Restarts first prcb
 control_in (controls.LoadsGroup group) = plain_controls.LoadsGroup group
 
 abbrev pub action_in : Effect → plain.Action
-action_in e = record { sets = e.sets.items; at = e.address; bytes = e.bytes.items; move = move_in e.frames; ac = e.ac; pc = e.pc; tc = e.tc; control = control_in e.control; point = option_map drained_of e.point; next = e.next; counts = e.counts }
+action_in e = record {
+  sets = e.sets.items;
+  at = e.address;
+  bytes = e.bytes.items;
+  move = move_in e.frames;
+  ac = e.ac;
+  pc = e.pc;
+  tc = e.tc;
+  control = control_in e.control;
+  point = option_map drained_of e.point;
+  next = e.next;
+  counts = e.counts;
+}
 
 -- each place is one of the 32 registers
 abbrev pub AreRegisters : List (ℕ × ℕ) → Type 0
@@ -43,7 +56,7 @@ AreRegisters sets = AllByRecursion (λ p. p.0 < 32) sets
 -- a frame that is saved meets no hazard
 abbrev pub CanMove : Frames → Move → Type 0
 CanMove s moves.Stays = Unit {0}
-CanMove s (moves.Saves save words) = (save % 16 ≡ 0) × (save_hazard s save ≡ None)
+CanMove s (moves.Saves f) = (f.address % 16 ≡ 0) × (save_hazard s f.address ≡ None)
 CanMove s moves.Returns = Unit {0}
 CanMove s moves.Flushes = Unit {0}
 
@@ -66,11 +79,42 @@ IsPlanFor s access action (Ok e) = (hazard_in s access ≡ None) × IsEffect s a
 IsPlanFor s access action (Err a) = hazard_in s access ≡ Some a
 
 -- there is room for what is done to frames
-abbrev pub HasMoveRoom : Memory → Watch → Move → Type 0
-HasMoveRoom m w moves.Stays = Unit {0}
-HasMoveRoom m w (moves.Saves save words) = HasRoom m save 64 × ((0 < spare_of w) × HasFrameMarks w save)
-HasMoveRoom m w moves.Returns = Unit {0}
-HasMoveRoom m w moves.Flushes = Unit {0}
+abbrev pub HasMoveSpace : Storage → Move → Type 0
+HasMoveSpace s moves.Stays = Unit {0}
+HasMoveSpace s (moves.Saves f) = HasFrameSpace s f.address
+HasMoveSpace s moves.Returns = Unit {0}
+HasMoveSpace s moves.Flushes = Unit {0}
+
+-- nothing is held where something is done to the controls
+abbrev pub IsEmptied : Cache → Control → Type 0
+IsEmptied c controls.Keeps = Unit {0}
+IsEmptied c (controls.Restarts first prcb) = c.held ≡ []
+IsEmptied c (controls.LoadsGroup group) = c.held ≡ []
+
+-- what is held and what is behind after an action, with the configuration words that storage has then
+abbrev pub cache_through : Storage → plain.Action → Storage → Cache
+cache_through old a new = cache_configured (memory_in new) (cache_acted (size_of old) a (cache_of old))
+
+-- the number of sets after an action, where so many are asked for or none
+abbrev pub size_through : Option ℕ → Storage → plain.Action → ℕ
+size_through asked old a = renewed asked (memory_in old) a.control (size_of old)
+
+-- New sets are made where the processor starts anew: as many as are asked for, or as the PRCB asks for that is read in a
+-- memory.
+abbrev pub AreMade : Option ℕ → Memory → Control → Option Held → Type 0
+AreMade asked m controls.Keeps made = made ≡ None
+AreMade asked m (controls.Restarts first prcb) made = made ≡ Some (held (unwrap_or asked (setup_of m first prcb).sets) [])
+AreMade asked m (controls.LoadsGroup group) made = made ≡ None
+
+-- new sets take the place of the others behind a flush, and hold nothing
+abbrev pub CanTake : plain.Move → Option Held → Type 0
+CanTake v None = Unit {0}
+CanTake v (Some h) = (v ≡ plain.Flushes) × (h.frames ≡ [])
+
+-- the number of sets with such new ones, where there are any
+abbrev pub size_with : Option Held → ℕ → ℕ
+size_with None n = n
+size_with (Some h) n = h.size
 
 -- how many drained points are printed
 abbrev pub point_count : Option plain.Drained → ℕ
@@ -87,6 +131,12 @@ is_costly (plain.Saves save words) = true
 is_costly plain.Returns = false
 is_costly plain.Flushes = false
 
--- memory may be needed: something is stored, saved or printed
+-- the processor starts anew
+abbrev pub is_restart : plain_controls.Control → Bool
+is_restart plain_controls.KeepsControls = false
+is_restart (plain_controls.Restarts first prcb) = true
+is_restart (plain_controls.LoadsGroup group) = false
+
+-- memory may be needed: something is stored, saved or printed, or new sets are made
 abbrev pub needs_room : plain.Action → Bool
-needs_room a = nat_lt 0 (length a.bytes) || (is_costly a.move || is_some a.point)
+needs_room a = nat_lt 0 (length a.bytes) || (is_costly a.move || (is_restart a.control || is_some a.point))

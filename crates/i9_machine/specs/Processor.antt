@@ -1,8 +1,7 @@
 -- The state that the processor stands for. What it does not keep yet is as after boot.
 use Rattle.std.specs.Prelude.{◌≡◌, ℕ, List, false, slice_index, Some, None, Result, Ok, Err}
 use Rattle.i9_isa.specs.declared.inst.Inst.{Inst}
-use Rattle.i9_memory.specs.Memory.{memory_of}
-use Rattle.i9_watch.specs.Watch.{frames_of}
+use Rattle.i9_storage.specs.Storage.{memory_in, frames_in}
 use Rattle.i9_model.specs.Memory.{Memory, stored}
 use Rattle.i9_model.specs.State.{State, no_dma}
 use Rattle.i9_model.specs.Access.{fetch_hazard}
@@ -29,8 +28,8 @@ state_of p = record {
   pc = p.pc;
   count = p.count;
   check = false;
-  memory = memory_of p.memory;
-  frames = frames_of p.watch;
+  memory = memory_in p.storage;
+  frames = frames_in p.storage;
   interrupts = record { pending = 0; mask = 0; maps = p.maps; nmi = false };
   dma = no_dma;
   trace = record { tc = p.tc; breaks = p.breaks };

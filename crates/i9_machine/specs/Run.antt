@@ -2,6 +2,8 @@
 use Rattle.std.specs.Prelude.{◌≡◌, List, Some, None}
 use Rattle.i9_model.specs.State.{State}
 use Rattle.i9_model.specs.Run.{Kind, Record, Next, Does, Ends, next_in, due_by, action_by_kind, record_of}
+use Rattle.i9_model.specs.Alike.{AreAlike}
+use Rattle.i9_storage.specs.Storage.{cache_of, size_of}
 use Rattle.i9_model.specs.PrintedText.{action_lines, end_lines}
 use Rattle.i9_machine.specs.declared.line.End.{End}
 use Rattle.i9_machine.specs.declared.line.Line.{Line}
@@ -11,7 +13,7 @@ use Rattle.i9_machine.specs.declared.machine.Machine.{Machine}
 use Rattle.i9_machine.specs.declared.effect.Effect.{Effect}
 use Rattle.i9_machine.specs.declared.due.Due.{Due}
 use Rattle.i9_machine.specs.Due.{due_in}
-use Rattle.i9_machine.specs.Effect.{IsEffect}
+use Rattle.i9_machine.specs.Effect.{IsEffect, cache_through, size_through}
 use Rattle.i9_machine.specs.Processor.{state_of}
 use Rattle.i9_machine.specs.Line.{finish_of, AddsLines}
 use Rattle.i9_machine.specs.StandsFor.{TellsRecord, NeedsRoom}
@@ -23,7 +25,10 @@ next_for m = next_in m.length (due_in m.due) (state_of m.processor)
 pub record Did (before : Machine) (answer : Turn) (m : Machine) (old new : List Line) : Type 0 where
   pub done : Record
   pub is_next : next_for before ≡ Does done
-  pub state : state_of m.processor ≡ done.after
+  pub state : AreAlike done.after (state_of m.processor)
+  pub cache : cache_of m.processor.storage ≡ cache_through before.processor.storage (action_by_kind done.kind (state_of before.processor)) m.processor.storage
+  pub size : size_of m.processor.storage ≡ size_through before.sets before.processor.storage (action_by_kind done.kind (state_of before.processor))
+  pub sets : m.sets ≡ before.sets
   pub due : due_in m.due ≡ due_by done.kind (state_of before.processor)
   pub bound : m.length ≡ before.length
   pub ended : m.ended ≡ None
@@ -41,6 +46,9 @@ pub record IsStep (s : State) (following : Next) (e : Effect) (due : Due) (answe
 -- the same machine, but for the room that it has
 pub record IsSame (before m : Machine) : Type 0 where
   pub state : state_of m.processor ≡ state_of before.processor
+  pub cache : cache_of m.processor.storage ≡ cache_of before.processor.storage
+  pub size : size_of m.processor.storage ≡ size_of before.processor.storage
+  pub sets : m.sets ≡ before.sets
   pub due : m.due ≡ before.due
   pub bound : m.length ≡ before.length
 

@@ -4,12 +4,15 @@ use Rattle.std.specs.Option.{option_map}
 use Rattle.i9_model.specs.State.{State}
 use Rattle.i9_isa.specs.Words.{words_of}
 use Rattle.i9_model.specs.Run.{Finish, Kind, Record, Instruction, Faulted, Entered, Next, Does, Ends, IsPast, state_after, due_after, next, action_by_kind}
+use Rattle.i9_model.specs.Alike.{AreAlike}
 use Rattle.i9_model.specs.PrintedText.{action_lines, end_lines}
 use Rattle.i9_machine.specs.declared.line.End.{End}
 use Rattle.i9_machine.specs.declared.line.Line.{Line}
 use Rattle.i9_machine.specs.declared.line.Turn.{Turn}
 use Rattle.i9_machine.specs.declared.line.Turn.TheVariants as turns
 use Rattle.i9_machine.specs.declared.machine.Machine.{Machine}
+use Rattle.i9_model.specs.HeldFrames.{sets_in, cache_after}
+use Rattle.i9_storage.specs.Storage.{cache_of, size_of}
 use Rattle.i9_machine.specs.Due.{due_in, pending}
 use Rattle.i9_machine.specs.Processor.{state_of}
 use Rattle.i9_machine.specs.Issue.{TellsIssue}
@@ -21,10 +24,17 @@ abbrev pub IsOver : List (ℕ × ℕ) → ℕ → List Record → Option Finish 
 IsOver image limit rs None = Unit {0}
 IsOver image limit rs (Some f) = next image limit rs ≡ Ends f
 
+-- there are as many sets as were asked for, or as the PRCB asks for, and the frames in them and the memory behind are those
+-- of the run
+pub record Holds (image : List (ℕ × ℕ)) (rs : List Record) (m : Machine) : Type 0 where
+  pub size : size_of m.processor.storage ≡ sets_in m.sets (state_after image rs)
+  pub cache : cache_of m.processor.storage ≡ cache_after m.sets image rs
+
 -- The machine stands for the first records of the run of an image and a length, and has answered this end of it, if any.
 pub record StandsFor (image : List (ℕ × ℕ)) (limit : ℕ) (rs : List Record) (end : Option Finish) (m : Machine) : Type 0 where
   pub past : IsPast image limit rs
-  pub state : state_of m.processor ≡ state_after image rs
+  pub state : AreAlike (state_after image rs) (state_of m.processor)
+  pub held : Holds image rs m
   pub due : due_in m.due ≡ due_after image rs
   pub bound : m.length ≡ limit
   pub ended : option_map finish_of m.ended ≡ end
@@ -51,7 +61,7 @@ pub record EndsRun (image : List (ℕ × ℕ)) (limit : ℕ) (rs : List Record) 
   pub stands : StandsFor image limit rs (Some f) m
   pub lines : AddsLines old new (end_lines (state_after image rs) f)
 
--- memory may be needed to print an end, and to store, save and print, and for nothing else
+-- memory may be needed to print an end, to store, save and print, and to make new sets, and for nothing else
 abbrev pub NeedsRoom : State → Next → Type 0
 NeedsRoom s (Ends f) = Unit {0}
 NeedsRoom s (Does r) = needs_room (action_by_kind r.kind s) ≡ true

@@ -1,7 +1,5 @@
 //! What calls, returns and the entries of faults will do.
 ghost use Rattle.std.specs.Prelude.{◌≡◌, ◌<◌, ◌≤◌, ◌%◌, ◌∷◌, None, IfOk, replicate, length};
-ghost use Rattle.i9_memory.specs.Memory.{memory_of};
-ghost use Rattle.i9_watch.specs.Watch.{frames_of};
 ghost use Rattle.i9_model.specs.declared.layout.TheConstants.{FP, PFP, MOST_SYSTEM_CALL};
 ghost use Rattle.i9_model.specs.Memory.{words_in};
 ghost use Rattle.i9_model.specs.Hazards.{save_hazard};
@@ -19,8 +17,9 @@ use crate::plan::{append, frame_sets};
 use crate::processor::Processor;
 use crate::words::{aligned, word_address};
 use arrayvec::ArrayVec;
-use i9_calls::{CallsStop, Push, plan_call, plan_calls, plan_ret};
-use i9_faults::{Entry, Fault, FaultStop, plan_fault};
+use i9_calls::{CallsStop, Push, plan_call};
+use i9_faults::{Entry, Fault, FaultStop};
+use i9_frames::Frame;
 use i9_isa::Inst;
 use i9_model::layout::{FP, LOCALS, PFP, RECORD_SIZE, RIP, SP};
 
@@ -32,40 +31,28 @@ fn new_locals(push: &Push) -> [u32; 16]
 }
 
 impl Processor {
+    ghost use Rattle.i9_storage.specs.Storage.{memory_in, frames_in};
     ghost use Rattle.i9_machine.specs.Processor.{state_of};
 
-    /// The word that a push saves of a local: rip has the return address.
-    fn saved_local(&self, k: usize, back: u32) -> u32
-        requires { k < 32 }
-        ensures { result ≡ saved_local (state_of self.now) back k }
-    {
-        if k == RIP as usize {
-            back
-        } else {
-            self.regs[k]
-        }
-    }
-
     /// The locals that a push saves.
-    #[tactic(auto, using(crate::proofs::Frames::frame_rules))]
-    fn saved_locals(&self, back: u32) -> ArrayVec<u32, LOCALS>
-        ensures { result.items ≡ saved_locals (state_of self.now) back }
+    fn saved_locals(&self, back: u32) -> [u32; LOCALS]
+        ensures { result ≡ saved_locals (state_of self.now) back }
     {
-        let mut words = ArrayVec::new();
-        for k in 0..LOCALS {
-            words.push(self.saved_local(k, back));
-        }
-        words
+        let r = &self.regs;
+        [
+            r[0], r[1], back, r[3], r[4], r[5], r[6], r[7], r[8], r[9], r[10], r[11], r[12], r[13],
+            r[14], r[15],
+        ]
     }
 
     /// The words of a frame in memory.
     #[tactic(auto, using(crate::proofs::Frames::frame_rules))]
     fn frame_words(&self, a: u32) -> ArrayVec<u32, LOCALS>
-        ensures { result.items ≡ words_in (memory_of self.now.memory) a LOCALS }
+        ensures { result.items ≡ words_in (memory_in self.now.storage) a LOCALS }
     {
         let mut words = ArrayVec::new();
         for k in 0..LOCALS {
-            words.push(self.memory.word(word_address(a, k)));
+            words.push(self.storage.word(word_address(a, k)));
         }
         words
     }
@@ -73,16 +60,16 @@ impl Processor {
     /// The locals are saved with a return address, and control goes on in a new frame.
     #[tactic(auto, using(crate::proofs::Frames::frame_rules))]
     fn pushing(&self, push: &Push, back: u32, next: u32) -> Effect
-        requires free { save_hazard (frames_of self.now.watch) push.now.save ≡ None }
+        requires free { save_hazard (frames_in self.now.storage) push.now.save ≡ None }
         requires place { push.now.save % 16 ≡ 0 }
         ensures { IsEffect (state_of self.now) (pushing (state_of self.now) push.now back next) result }
     {
         let mut effect = self.going(next);
         effect.sets = frame_sets(&new_locals(push), push.frame);
-        effect.frames = Move::Saves {
-            save: push.save,
+        effect.frames = Move::Saves(Frame {
+            address: push.save,
             words: self.saved_locals(back),
-        };
+        });
         effect
     }
 
@@ -91,7 +78,11 @@ impl Processor {
     pub(crate) fn plan_call(&self, i: &Inst, to: u32) -> Result<Effect, u32>
         ensures { IsPlanFor (state_of self.now) (SavesAt (rounded_down ((state_of self.now).regs FP))) (call_action i.now (state_of self.now) to) result }
     {
-        let push = plan_call(&self.watch, self.regs[FP as usize], self.regs[SP as usize])?;
+        let push = plan_call(
+            self.storage.watch(),
+            self.regs[FP as usize],
+            self.regs[SP as usize],
+        )?;
         Ok(self.pushing(&push, self.following(i), aligned(to)))
     }
 
@@ -102,9 +93,7 @@ impl Processor {
         requires number { value (state_of self.now) i.now.a ≤ MOST_SYSTEM_CALL }
         ensures { IsPlanFor (state_of self.now) (CallsSystem (value (state_of self.now) i.now.a)) (calls_action i.now (state_of self.now)) result }
     {
-        let sys = match plan_calls(
-            &self.memory,
-            &self.watch,
+        let sys = match self.storage.plan_calls(
             self.tables.system_table,
             self.value(i.a),
             self.pc,
@@ -126,15 +115,13 @@ impl Processor {
     pub(crate) fn plan_return(&self) -> Result<Effect, u32>
         ensures { IsPlanFor (state_of self.now) (ReturnsBy ((state_of self.now).regs PFP)) (ret_action (state_of self.now)) result }
     {
-        let pop = plan_ret(
-            &self.memory,
-            &self.watch,
+        let pop = self.storage.plan_ret(
             self.regs[PFP as usize],
             self.regs[FP as usize],
             self.pc,
             self.ac,
         )?;
-        let back = self.memory.word(pop.frame.wrapping_add(8));
+        let back = self.storage.word(pop.frame.wrapping_add(8));
         let mut effect = self.going(aligned(back));
         effect.sets = frame_sets(self.frame_words(pop.frame).as_slice(), pop.frame);
         effect.frames = Move::Returns;
@@ -147,12 +134,10 @@ impl Processor {
     #[tactic(auto, unfolding(i9_model::specs::Run::entry_in))]
     pub(crate) fn plan_entry(&self, fault: &Fault) -> Result<Entry, FaultStop>
         ensures entry { result ≡ entry_in (state_of self.now) fault.now }
-        ensures free { IfOk result (λ e. save_hazard (frames_of self.now.watch) e.push.save ≡ None) }
+        ensures free { IfOk result (λ e. save_hazard (frames_in self.now.storage) e.push.save ≡ None) }
         ensures place { IfOk result (λ e. e.push.save % 16 ≡ 0) }
     {
-        plan_fault(
-            &self.memory,
-            &self.watch,
+        self.storage.plan_fault(
             self.tables.fault_table,
             self.tables.system_table,
             fault,
@@ -166,11 +151,11 @@ impl Processor {
     /// The bytes of the record of an entry.
     #[tactic(auto, using(crate::proofs::Transfers::record_rules))]
     fn record_bytes(&self, a: u32, words: &[u32; 4]) -> ArrayVec<u8, MOST_BYTES>
-        ensures { result.items ≡ bytes_of_words (memory_of self.now.memory) a words.now }
+        ensures { result.items ≡ bytes_of_words (memory_in self.now.storage) a words.now }
     {
         let mut bytes = ArrayVec::new();
         for k in 0..4usize {
-            let word = self.memory.word_bytes(word_address(a, k), words[k]);
+            let word = self.storage.word_bytes(word_address(a, k), words[k]);
             append(&mut bytes, &word);
         }
         bytes
@@ -178,7 +163,7 @@ impl Processor {
 
     /// The entry of a fault.
     pub(crate) fn entering(&self, e: &Entry) -> Effect
-        requires free { save_hazard (frames_of self.now.watch) e.now.push.save ≡ None }
+        requires free { save_hazard (frames_in self.now.storage) e.now.push.save ≡ None }
         requires place { e.now.push.save % 16 ≡ 0 }
         ensures { IsEffect (state_of self.now) (entering e.now (state_of self.now)) result }
     {

@@ -2,13 +2,13 @@
 ghost use Rattle.std.specs.Prelude.{◌≡◌, ◌<◌, ◌^◌, length};
 ghost use Rattle.i9_model.specs.Writes.{last_put, upwards};
 ghost use Rattle.i9_model.specs.Memory.{console_byte, exit_word};
-ghost use Rattle.i9_memory.specs.Memory.{memory_of};
 ghost use Rattle.i9_model.specs.Run.{writes_in};
 
 use crate::line::Point;
 use arrayvec::ArrayVec;
-use i9_memory::Memory;
+use i9_frames::Frame;
 use i9_model::layout::{CONSOLE, EXIT_WORD};
+use i9_storage::Storage;
 
 /// The most registers that an instruction sets: the sixteen locals of a frame, and fp.
 pub(crate) const MOST_SETS: usize = 17;
@@ -21,8 +21,8 @@ pub(crate) const MOST_BYTES: usize = 16;
 pub(crate) enum Move {
     /// Nothing.
     Stays,
-    /// The locals are saved at an address.
-    Saves { save: u32, words: ArrayVec<u32, 16> },
+    /// A frame is saved.
+    Saves(Frame),
     /// The first live frame is returned to, where one is live.
     Returns,
     /// All live frames are in memory.
@@ -69,6 +69,7 @@ fn byte_of_run(address: u32, bytes: &[u8], place: u32) -> Option<u8>
 
 impl Effect {
     ghost use Rattle.i9_machine.specs.Effect.{action_in, line_count};
+    ghost use Rattle.i9_storage.specs.Storage.{memory_in};
 
     /// The byte that is stored at an address.
     pub(crate) fn byte_at(&self, place: u32) -> Option<u8>
@@ -79,8 +80,8 @@ impl Effect {
 
     /// The word that ends the run, in the order of its region.
     #[tactic(auto, unfolding(i9_model::specs::Memory::exit_word))]
-    pub(crate) fn exit_word(&self, memory: &Memory) -> Option<u32>
-        ensures { result ≡ exit_word (memory_of memory.now) (writes_in (action_in self.now)) }
+    pub(crate) fn exit_word(&self, storage: &Storage) -> Option<u32>
+        ensures { result ≡ exit_word (memory_in storage.now) (writes_in (action_in self.now)) }
     {
         let bytes = [
             self.byte_at(EXIT_WORD)?,
@@ -88,7 +89,7 @@ impl Effect {
             self.byte_at(EXIT_WORD + 2)?,
             self.byte_at(EXIT_WORD + 3)?,
         ];
-        Some(if memory.big(14) {
+        Some(if storage.big(14) {
             u32::from_be_bytes(bytes)
         } else {
             u32::from_le_bytes(bytes)

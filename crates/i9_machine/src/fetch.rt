@@ -2,7 +2,6 @@
 ghost use Rattle.std.specs.Prelude.{◌≡◌, ◌+◌, ◌==◌, Option, None, Some, if◌then◌else◌, true, false};
 ghost use Rattle.i9_isa.specs.Valid.{IsValid};
 ghost use Rattle.i9_isa.specs.Words.{words_of};
-ghost use Rattle.i9_watch.specs.Watch.{frames_of};
 ghost use Rattle.i9_model.specs.Writes.{wrapped};
 ghost use Rattle.i9_model.specs.Hazards.{read_hazard};
 ghost use Rattle.i9_model.specs.Access.{access_by, data_of};
@@ -56,6 +55,7 @@ fn arithmetic_fault(f: Arith) -> (u8, u16)
 }
 
 impl Processor {
+    ghost use Rattle.i9_storage.specs.Storage.{memory_in, frames_in};
     ghost use Rattle.i9_machine.specs.Processor.{state_of, Fetches};
 
     /// The address and the number of bytes of an instruction's data access, where it has one.
@@ -222,10 +222,10 @@ impl Processor {
 
     /// The hazard of the fetch of a second word.
     fn second_hazard(&self, i: &Inst) -> Option<u32>
-        ensures { result ≡ (if words_of i.now == 2 then read_hazard (frames_of self.now.watch) (wrapped (self.now.ip + 4)) 4 else None) }
+        ensures { result ≡ (if words_of i.now == 2 then read_hazard (frames_in self.now.storage) (wrapped (self.now.ip + 4)) 4 else None) }
     {
         if word_count(i) == 2 {
-            self.watch.check_read(self.ip.wrapping_add(4), 4)
+            self.storage.watch().check_read(self.ip.wrapping_add(4), 4)
         } else {
             None
         }
@@ -236,11 +236,11 @@ impl Processor {
     pub(crate) fn fetch(&self) -> Result<Fetched, u32>
         ensures { Fetches (state_of self.now) result }
     {
-        if let Some(a) = self.watch.check_read(self.ip, 4) {
+        if let Some(a) = self.storage.watch().check_read(self.ip, 4) {
             return Err(a);
         }
-        let first = self.memory.word(self.ip);
-        let second = self.memory.word(self.ip.wrapping_add(4));
+        let first = self.storage.word(self.ip);
+        let second = self.storage.word(self.ip.wrapping_add(4));
         let decoded = decode(first, second);
         if let Ok(i) = &decoded {
             if let Some(a) = self.second_hazard(i) {

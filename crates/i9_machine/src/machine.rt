@@ -1,27 +1,32 @@
 //! The machine, one step at a time.
 ghost use Rattle.std.specs.Prelude.{◌≡◌, ◌+◌, ◌*◌, ◌<◌, ◌≤◌, [], ℕ, List, Option, None, Some, OnOk, OnErr, IfOk, IfSome, vec_len, vec_capacity, length, true};
 ghost use Rattle.std.specs.Option.{option_map};
-ghost use Rattle.i9_memory.specs.Memory.{HasRoom};
-ghost use Rattle.i9_watch.specs.Watch.{frames_of};
+ghost use Rattle.std.proofs.Props.{props};
+ghost use Rattle.i9_storage.specs.Storage.{cache_of, memory_in, frames_in, size_of, HasSpace};
 ghost use Rattle.i9_model.specs.declared.layout.TheConstants.{MAX_LENGTH};
 ghost use Rattle.i9_model.specs.Image.{pairs_of};
 ghost use Rattle.i9_model.specs.Overlay.{overlay};
 ghost use Rattle.i9_model.specs.Access.{hazard_of};
 ghost use Rattle.i9_model.specs.State.{State};
 ghost use Rattle.i9_model.specs.Step.{moved, acted};
+ghost use Rattle.i9_model.specs.Free.{IsFree};
+ghost use Rattle.i9_model.specs.Alike.{AreAlike};
+ghost use Rattle.i9_model.specs.HeldFrames.{cache_after, sets_in};
 ghost use Rattle.i9_model.specs.Run.{Finish, Record, Does, Ends, Faulted, record_of, fault_at, end_due, next_by_access, state_after, exit_in};
 ghost use Rattle.i9_model.specs.PrintedText.{view_of, out_lines, point_lines, action_lines, last_lines};
+ghost use Rattle.i9_frames.specs.Sets.{held};
 ghost use Rattle.i9_machine.specs.Due.{due_in, pending};
-ghost use Rattle.i9_machine.specs.Effect.{action_in, AreRegisters, CanControl, CanMove, HasMoveRoom, point_count, line_count, needs_room};
+ghost use Rattle.i9_machine.specs.Effect.{action_in, move_in, control_in, cache_through, AreMade, CanTake, size_with, is_restart, AreRegisters, CanControl, CanMove, HasMoveSpace, point_count, line_count, needs_room};
 ghost use Rattle.i9_machine.specs.Line.{finish_of, drained_of, AddsLines};
 ghost use Rattle.i9_machine.specs.Processor.{state_of, CanRun};
 
 use crate::due::Due;
-use crate::effect::Effect;
+use crate::effect::{Control, Effect};
 use crate::fetch::Fetched;
 use crate::line::{End, Line, Point, Turn, put_line};
 use crate::processor::Processor;
 use i9_faults::{Fault, FaultStop};
+use i9_frames::Sets;
 use i9_hex::Segments;
 use i9_isa::{Inst, NoMemory, word_count};
 use i9_model::View;
@@ -33,12 +38,14 @@ use std::alloc::Global;
 #[derive(Drop)]
 pub struct Machine {
     processor: Processor,
+    alloc: Global,
     sets: Option<u8>,
     length: u64,
     due: Due,
     ended: Option<End>,
     ghost short: { length ≤ MAX_LENGTH },
     ghost below: { processor.count ≤ length },
+    ghost few: { IfSome sets (λ n. 0 < n × n < 16) } by { Prim.hlevel props },
 }
 
 /// Adds the end point and the line of the end.
@@ -100,7 +107,6 @@ impl Machine {
     ghost use Rattle.i9_machine.specs.Run.{Steps, IsStep, next_for};
 
     /// A machine before its first step: its run has the image's bytes and at most so many instructions.
-    /// The number of register sets is kept, and not used yet.
     pub fn new(
         alloc: Global,
         image: &Segments,
@@ -112,9 +118,10 @@ impl Machine {
         ensures stands { IfOk result (λ m. StandsFor (pairs_of image.now) length [] None m) }
         ensures sets { IfOk result (λ m. sets_of m ≡ sets) }
     {
-        let processor = Processor::boot(alloc, image)?;
+        let processor = Processor::boot(alloc, image, sets)?;
         Ok(Machine {
             processor,
+            alloc,
             sets,
             length,
             due: Due::Nothing,
@@ -139,6 +146,14 @@ impl Machine {
         self.processor.byte(a)
     }
 
+    /// The frames that are held, each in a set.
+    pub fn held(&self) -> &Sets
+        ensures { (image : List (ℕ × ℕ)) (limit : ℕ) (rs : List Record) (end : Option Finish) → StandsFor image limit rs end self.now
+            → result.now ≡ held (sets_in (sets_of self.now) (state_after image rs)) (cache_after (sets_of self.now) image rs).held }
+    {
+        self.processor.storage.sets()
+    }
+
     /// Answers an end, once its lines are written.
     fn finish(&mut self, e: End, out: &mut Vec<Line>) -> Turn
         requires running { self.old.ended ≡ None }
@@ -156,22 +171,44 @@ impl Machine {
         }
     }
 
-    /// Makes room for what an instruction stores, saves and prints.
-    fn make_room(&mut self, e: &Effect, out: &mut Vec<Line>) -> Result<(), NoMemory>
+    /// New sets where the processor starts anew: as many as were asked for, or as the PRCB asks for.
+    fn make_sets(&self, c: Control) -> Result<Option<Sets>, NoMemory>
+        ensures made { IfOk result (AreMade (sets_of self.now) (memory_in self.now.processor.storage) c) }
+        ensures needed { OnErr result (is_restart (control_in c) ≡ true) }
+    {
+        match c {
+            Control::Restarts { first: _, prcb } => {
+                let n = match self.sets {
+                    Some(n) => n,
+                    None => self.processor.sets_at(prcb),
+                };
+                Ok(Some(Sets::new(self.alloc, n)?))
+            }
+            _ => Ok(None),
+        }
+    }
+
+    /// Makes room for what an instruction stores, saves and prints, and the new sets that it asks for.
+    fn make_room(&mut self, e: &Effect, out: &mut Vec<Line>) -> Result<Option<Sets>, NoMemory>
         ensures state { state_of self.new.processor ≡ state_of self.old.processor }
+        ensures cache { cache_of self.new.processor.storage ≡ cache_of self.old.processor.storage }
+        ensures size { size_of self.new.processor.storage ≡ size_of self.old.processor.storage }
         ensures count { self.new.processor.count ≡ self.old.processor.count }
         ensures due { self.new.due ≡ self.old.due }
         ensures bound { self.new.length ≡ self.old.length }
         ensures ended { self.new.ended ≡ self.old.ended }
         ensures sets { sets_of self.new ≡ sets_of self.old }
         ensures items { out.new.items ≡ out.old.items }
-        ensures bytes { OnOk result (HasRoom self.new.processor.memory e.now.address (length e.now.bytes.items)) }
-        ensures frames { OnOk result (HasMoveRoom self.new.processor.memory self.new.processor.watch e.now.frames) }
+        ensures bytes { OnOk result (HasSpace self.new.processor.storage e.now.address (length e.now.bytes.items)) }
+        ensures frames { OnOk result (HasMoveSpace self.new.processor.storage e.now.frames) }
         ensures lines { OnOk result (vec_len out.new + line_count (action_in e.now) ≤ vec_capacity out.new) }
+        ensures made { IfOk result (AreMade (sets_of self.old) (memory_in self.old.processor.storage) e.now.control) }
         ensures needed { OnErr result (needs_room (action_in e.now) ≡ true) }
     {
+        let sets = self.make_sets(e.control)?;
         self.processor.reserve(e)?;
-        reserve_lines(e, out)
+        reserve_lines(e, out)?;
+        Ok(sets)
     }
 
     /// What an instruction's effect makes due: its exit, where it brings one.
@@ -179,22 +216,26 @@ impl Machine {
         ensures none { pending result ≡ 0 }
         ensures due { due_in result ≡ end_due (exit_in (state_of self.now.processor) (action_in e.now)) }
     {
-        match e.exit_word(&self.processor.memory) {
+        match e.exit_word(&self.processor.storage) {
             Some(w) => Due::End(End::Exit(w)),
             None => Due::Nothing,
         }
     }
 
     /// Does what is planned, prints its lines, and keeps what is due afterwards.
-    fn act(&mut self, e: &Effect, due: Due, out: &mut Vec<Line>)
+    fn act(&mut self, e: &Effect, sets: Option<Sets>, due: Due, out: &mut Vec<Line>)
         requires registers { AreRegisters e.now.sets.items }
-        requires can { CanMove (frames_of self.old.processor.watch) e.now.frames }
-        requires bytes { HasRoom self.old.processor.memory e.now.address (length e.now.bytes.items) }
-        requires frames { HasMoveRoom self.old.processor.memory self.old.processor.watch e.now.frames }
+        requires can { CanMove (frames_in self.old.processor.storage) e.now.frames }
+        requires bytes { HasSpace self.old.processor.storage e.now.address (length e.now.bytes.items) }
+        requires frames { HasMoveSpace self.old.processor.storage e.now.frames }
+        requires free { IsFree (state_of self.old.processor) (action_in e.now) }
         requires controls { CanControl (moved (state_of self.old.processor) (action_in e.now)) e.now.control }
+        requires made { CanTake (move_in e.now.frames) sets }
         requires lines { vec_len out.old + line_count (action_in e.now) ≤ vec_capacity out.old }
         requires below { self.old.processor.count + e.now.counts ≤ self.old.length }
-        ensures state { state_of self.new.processor ≡ acted (state_of self.old.processor) (action_in e.now) }
+        ensures state { AreAlike (acted (state_of self.old.processor) (action_in e.now)) (state_of self.new.processor) }
+        ensures cache { cache_of self.new.processor.storage ≡ cache_through self.old.processor.storage (action_in e.now) self.new.processor.storage }
+        ensures size { size_of self.new.processor.storage ≡ size_with sets (size_of self.old.processor.storage) }
         ensures count { self.new.processor.count ≡ self.old.processor.count + e.now.counts }
         ensures due { self.new.due ≡ due }
         ensures bound { self.new.length ≡ self.old.length }
@@ -202,7 +243,7 @@ impl Machine {
         ensures sets { sets_of self.new ≡ sets_of self.old }
         ensures lines { AddsLines out.old.items out.new.items (action_lines (action_in e.now) (acted (state_of self.old.processor) (action_in e.now))) }
     {
-        self.processor.apply(e);
+        self.processor.apply(e, sets);
         self.due = due;
         put_out(e.console_byte(), out);
         put_point(e.point, self.processor.view(), out);
@@ -219,8 +260,8 @@ impl Machine {
         ensures sets { sets_of self.new ≡ sets_of self.old }
     {
         match self.make_room(e, out) {
-            Ok(()) => {
-                self.act(e, due, out);
+            Ok(sets) => {
+                self.act(e, sets, due, out);
                 answer
             }
             Err(_) => Turn::Memory,

@@ -1,7 +1,5 @@
 //! What an instruction will do.
 ghost use Rattle.std.specs.Prelude.{◌≡◌, ◌+◌, ◌%◌, ◌^◌, ◌<◌, ◌∷◌, ◌++◌, [], ◌≤◌, ◌==◌, not, Some, length};
-ghost use Rattle.i9_memory.specs.Memory.{memory_of};
-ghost use Rattle.i9_watch.specs.Watch.{frames_of};
 ghost use Rattle.i9_model.specs.Memory.{word_bytes, words_in};
 ghost use Rattle.i9_model.specs.Operands.{address, value, source_words, number_of, target};
 ghost use Rattle.i9_model.specs.Step.{going, following, setting, faulting, extended, loaded, loading, bytes_of_words, stored_of, storing, merged, atomic_address, atomic, branching, linking, other_action, answer_in, answering, destination, group_sets, frame_sets, action_by};
@@ -130,6 +128,7 @@ fn listed(value: &[u8]) -> ArrayVec<u8, MOST_BYTES>
 }
 
 impl Processor {
+    ghost use Rattle.i9_storage.specs.Storage.{memory_in, frames_in};
     ghost use Rattle.i9_machine.specs.Processor.{state_of};
 
     /// The address behind an instruction.
@@ -184,7 +183,7 @@ impl Processor {
 
     /// Nothing but what is done to frames, and a drained point.
     fn draining(&self, i: &Inst, frames: Move, point: Point) -> Effect
-        requires { CanMove (frames_of self.now.watch) frames }
+        requires { CanMove (frames_in self.now.storage) frames }
         ensures { IsEffect (state_of self.now) (record (setting i.now (state_of self.now) []) { move = move_in frames; point = Some (drained_of point) }) result }
     {
         let mut effect = self.nothing(i);
@@ -214,24 +213,24 @@ impl Processor {
     #[tactic(auto, using(crate::proofs::Frames::frame_rules))]
     fn words(&self, a: u32, n: usize) -> ArrayVec<u32, 4>
         requires { n ≤ 4 }
-        ensures { result.items ≡ words_in (memory_of self.now.memory) a n }
+        ensures { result.items ≡ words_in (memory_in self.now.storage) a n }
     {
         let mut words = ArrayVec::new();
         for k in 0..n {
-            words.push(self.memory.word(word_address(a, k)));
+            words.push(self.storage.word(word_address(a, k)));
         }
         words
     }
 
     /// The words that a load reads.
     fn loaded(&self, op: Op, a: u32) -> ArrayVec<u32, 4>
-        ensures { result.items ≡ loaded op (memory_of self.now.memory) a }
+        ensures { result.items ≡ loaded op (memory_in self.now.storage) a }
     {
         match op {
-            Op::Ldob => one_word(u32::from(self.memory.byte(a))),
-            Op::Ldib => one_word(extended_byte(self.memory.byte(a))),
-            Op::Ldos => one_word(u32::from(self.memory.half(a))),
-            Op::Ldis => one_word(extended_half(self.memory.half(a))),
+            Op::Ldob => one_word(u32::from(self.storage.byte(a))),
+            Op::Ldib => one_word(extended_byte(self.storage.byte(a))),
+            Op::Ldos => one_word(u32::from(self.storage.half(a))),
+            Op::Ldis => one_word(extended_half(self.storage.half(a))),
             Op::Ld => self.words(a, 1),
             Op::Ldl => self.words(a, 2),
             Op::Ldt => self.words(a, 3),
@@ -247,7 +246,7 @@ impl Processor {
         ensures { IsPlanFor (state_of self.now) (Reads (address (state_of self.now) i.now.ea) n) (loading i.now.op i.now (state_of self.now)) result }
     {
         let a = self.address(&i.ea);
-        if let Some(hazard) = self.watch.check_read(a, n) {
+        if let Some(hazard) = self.storage.watch().check_read(a, n) {
             return Err(hazard);
         }
         let words = self.loaded(i.op, a);
@@ -261,12 +260,12 @@ impl Processor {
     fn words_bytes(&self, o: Operand, a: u32, n: usize) -> ArrayVec<u8, MOST_BYTES>
         requires source { IsSource o }
         requires few { n ≤ 4 }
-        ensures { result.items ≡ bytes_of_words (memory_of self.now.memory) a (source_words (state_of self.now) o n) }
+        ensures { result.items ≡ bytes_of_words (memory_in self.now.storage) a (source_words (state_of self.now) o n) }
     {
         let mut bytes = ArrayVec::new();
         for k in 0..n {
             let word = self
-                .memory
+                .storage
                 .word_bytes(word_address(a, k), self.word_of(o, k));
             append(&mut bytes, &word);
         }
@@ -281,7 +280,7 @@ impl Processor {
         match op {
             Op::Stob | Op::Stib => listed(&[(self.value(o) % 256) as u8]),
             Op::Stos | Op::Stis => {
-                listed(&self.memory.half_bytes(a, (self.value(o) % 65_536) as u16))
+                listed(&self.storage.half_bytes(a, (self.value(o) % 65_536) as u16))
             }
             Op::St => self.words_bytes(o, a, 1),
             Op::Stl => self.words_bytes(o, a, 2),
@@ -297,7 +296,7 @@ impl Processor {
         ensures { IsPlanFor (state_of self.now) (Writes (address (state_of self.now) i.now.ea) n) (storing i.now.op i.now (state_of self.now)) result }
     {
         let a = self.address(&i.ea);
-        if let Some(hazard) = self.watch.check_write(a, n) {
+        if let Some(hazard) = self.storage.watch().check_write(a, n) {
             return Err(hazard);
         }
         let mut effect = self.nothing(i);
@@ -310,15 +309,15 @@ impl Processor {
     fn plan_atomic(&self, i: &Inst, a: u32, old: u32, new: u32) -> Result<Effect, u32>
         requires { IsBuilt i.now }
         ensures { IsPlanFor (state_of self.now) (Changes a 4)
-            (record (setting i.now (state_of self.now) ((number_of i.now.c, old) ∷ [])) { at = a; bytes = word_bytes (memory_of self.now.memory) a new }) result }
+            (record (setting i.now (state_of self.now) ((number_of i.now.c, old) ∷ [])) { at = a; bytes = word_bytes (memory_in self.now.storage) a new }) result }
     {
-        let hazard = self.watch.check_read(a, 4);
-        if let Some(hazard) = hazard.or_else(|| self.watch.check_write(a, 4)) {
+        let hazard = self.storage.watch().check_read(a, 4);
+        if let Some(hazard) = hazard.or_else(|| self.storage.watch().check_write(a, 4)) {
             return Err(hazard);
         }
         let mut effect = self.setting(i, number_of(i.c), old);
         effect.address = a;
-        effect.bytes = listed(&self.memory.word_bytes(a, new));
+        effect.bytes = listed(&self.storage.word_bytes(a, new));
         Ok(effect)
     }
 
@@ -329,7 +328,7 @@ impl Processor {
             (atomic i.now (state_of self.now) (λ old. wrapped (old + value (state_of self.now) i.now.b))) result }
     {
         let a = aligned(self.value(i.a));
-        let old = self.memory.word(a);
+        let old = self.storage.word(a);
         self.plan_atomic(i, a, old, old.wrapping_add(self.value(i.b)))
     }
 
@@ -340,7 +339,7 @@ impl Processor {
             (atomic i.now (state_of self.now) (λ old. merged old (value (state_of self.now) i.now.b) (value (state_of self.now) i.now.c))) result }
     {
         let a = aligned(self.value(i.a));
-        let old = self.memory.word(a);
+        let old = self.storage.word(a);
         self.plan_atomic(i, a, old, merged(old, self.value(i.b), self.value(i.c)))
     }
 

@@ -1,6 +1,8 @@
 //! The registers, controls, memory and frames of the machine.
-ghost use Rattle.std.specs.Prelude.{◌≡◌, ◌<◌, Some, IfOk, IsNone, IsSome, length, [], true};
+ghost use Rattle.std.specs.Prelude.{◌≡◌, ◌<◌, ℕ, Some, IfOk, IfSome, unwrap_or, IsNone, IsSome, length, [], true};
 ghost use Rattle.i9_model.specs.Image.{pairs_of};
+ghost use Rattle.i9_model.specs.HeldFrames.{cache, sets_in};
+ghost use Rattle.i9_model.specs.Boot.{setup_of};
 ghost use Rattle.i9_model.specs.State.{boot};
 ghost use Rattle.i9_model.specs.Operands.{value, word_of, address};
 ghost use Rattle.i9_model.specs.Step.{answer_in, process_controls, message_of, argument_of};
@@ -15,13 +17,14 @@ use crate::line::Issued;
 use crate::load::load;
 use crate::start::{start_breaks, start_maps, start_registers, start_trace_controls, tables_of};
 use crate::words::{aligned, modified};
-use i9_boot::boot;
+use i9_boot::{REGISTER_CACHE, boot, sets_asked};
 use i9_exec::{Done, address, compute};
 use i9_hex::Segments;
 use i9_isa::{Ea, Inst, NoMemory, Operand};
 use i9_memory::Memory;
 use i9_model::layout::{BOOT_PC, PC_MASK};
-use i9_model::{Breaks, Tables, View};
+use i9_model::{Breaks, Setup, Tables, View};
+use i9_storage::Storage;
 use i9_watch::Watch;
 use std::alloc::Global;
 
@@ -37,22 +40,44 @@ pub(crate) struct Processor {
     pub(crate) breaks: Breaks,
     pub(crate) tables: Tables,
     pub(crate) count: u64,
-    pub(crate) memory: Memory,
-    pub(crate) watch: Watch,
+    pub(crate) storage: Storage,
+}
+
+/// The number of sets: the one that is asked for, or the one of the PRCB.
+fn set_count(sets: Option<u8>, setup: &Setup) -> u8
+    requires asked { IfSome sets (λ n. 0 < n × n < 16) }
+    requires read { 0 < setup.now.sets × setup.now.sets < 16 }
+    ensures count { result ≡ unwrap_or sets setup.now.sets }
+    ensures some { 0 < result }
+    ensures few { result < 16 }
+{
+    match sets {
+        Some(n) => n,
+        None => setup.sets,
+    }
 }
 
 impl Processor {
     ghost use Rattle.i9_machine.specs.Processor.{state_of};
+    ghost use Rattle.i9_storage.specs.Storage.{cache_of, memory_in, size_of};
 
     /// The state after boot.
     #[tactic(auto, unfolding(i9_model::specs::State::boot, i9_model::specs::State::started))]
-    pub(crate) fn boot(alloc: Global, image: &Segments) -> Result<Processor, NoMemory>
+    pub(crate) fn boot(
+        alloc: Global,
+        image: &Segments,
+        sets: Option<u8>,
+    ) -> Result<Processor, NoMemory>
+        requires { IfSome sets (λ n. 0 < n × n < 16) }
         ensures state { IfOk result (λ p. state_of p ≡ boot (pairs_of image.now)) }
+        ensures cache { IfOk result (λ p. cache_of p.storage ≡ cache [] (boot (pairs_of image.now)).memory) }
+        ensures size { IfOk result (λ p. size_of p.storage ≡ sets_in sets (boot (pairs_of image.now))) }
         ensures count { IfOk result (λ p. p.count ≡ 0) }
     {
         let mut memory = Memory::new(alloc);
         load(&mut memory, image)?;
         let setup = boot(&mut memory);
+        let storage = Storage::new(alloc, memory, set_count(sets, &setup))?;
         Ok(Processor {
             regs: start_registers(&[0; 32], &setup),
             ip: aligned(setup.first),
@@ -63,9 +88,18 @@ impl Processor {
             breaks: start_breaks(&setup),
             tables: tables_of(&setup),
             count: 0,
-            memory,
-            watch: Watch::new(alloc),
+            storage,
         })
+    }
+
+    /// The number of sets that a PRCB asks for, as it is read with the held frames laid over memory.
+    #[tactic(auto, unfolding(i9_model::specs::Boot::setup_of))]
+    pub(crate) fn sets_at(&self, prcb: u32) -> u8
+        ensures value { (first : ℕ) → result ≡ (setup_of (memory_in self.now.storage) first prcb).sets }
+        ensures some { 0 < result }
+        ensures few { result < 16 }
+    {
+        sets_asked(self.storage.word(prcb.wrapping_add(4 * REGISTER_CACHE)))
     }
 
     /// The value of a source.
@@ -162,14 +196,14 @@ impl Processor {
         ensures { TellsIssue words (state_of self.now) result }
     {
         let second = if words == 2 {
-            self.memory.word(self.ip.wrapping_add(4))
+            self.storage.word(self.ip.wrapping_add(4))
         } else {
             0
         };
         Issued {
             count: self.count,
             address: self.ip,
-            first: self.memory.word(self.ip),
+            first: self.storage.word(self.ip),
             second,
         }
     }
@@ -194,12 +228,13 @@ impl Processor {
     pub(crate) fn byte(&self, a: u32) -> Option<u8>
         ensures { result ≡ overlay (state_of self.now) a }
     {
+        let watch = self.storage.watch();
         if Watch::touches_port(a, 1).is_some() {
             return Some(0);
         }
-        if self.watch.soft(a) && self.watch.check_write(a, 1).is_none() {
+        if watch.soft(a) && watch.check_write(a, 1).is_none() {
             return None;
         }
-        Some(self.memory.byte(a))
+        Some(self.storage.byte(a))
     }
 }

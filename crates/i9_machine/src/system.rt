@@ -1,8 +1,6 @@
 //! What modac, modtc, modpc and sysctl will do.
 ghost use Rattle.std.specs.Prelude.{◌≡◌, ◌<◌, [], false};
 ghost use Rattle.i9_isa.specs.declared.op.Op.TheVariants.{Sysctl};
-ghost use Rattle.i9_memory.specs.Memory.{memory_of};
-ghost use Rattle.i9_watch.specs.Watch.{frames_of};
 ghost use Rattle.i9_model.specs.Boot.{table_word};
 ghost use Rattle.i9_model.specs.Frames.{flushed};
 ghost use Rattle.i9_model.specs.Tables.{tables_hazard, group_hazard};
@@ -21,6 +19,7 @@ use i9_isa::Inst;
 use i9_model::layout::{AC_MASK, CONTROL_GROUP_SIZE, CONTROL_TABLE_SIZE, PRCB_SIZE, TC_MASK};
 
 impl Processor {
+    ghost use Rattle.i9_storage.specs.Storage.{memory_in, frames_in};
     ghost use Rattle.i9_machine.specs.Processor.{state_of};
 
     /// The old arithmetic controls are answered, and changed under a mask.
@@ -67,12 +66,13 @@ impl Processor {
     /// The hazard of the reads of a PRCB and of its control table as after a flush.
     #[tactic(auto, unfolding(i9_model::specs::Tables::tables_hazard))]
     fn tables_hazard(&self, prcb: u32, control: u32) -> Option<u32>
-        requires { control ≡ table_word (memory_of self.now.memory) prcb 1 }
-        ensures { result ≡ tables_hazard (memory_of self.now.memory) (flushed (frames_of self.now.watch)) prcb }
+        requires { control ≡ table_word (memory_in self.now.storage) prcb 1 }
+        ensures { result ≡ tables_hazard (memory_in self.now.storage) (flushed (frames_in self.now.storage)) prcb }
     {
-        self.watch.check_flushed_read(prcb, PRCB_SIZE).or_else(|| self
-            .watch
-            .check_flushed_read(control, CONTROL_TABLE_SIZE))
+        let watch = self.storage.watch();
+        watch
+            .check_flushed_read(prcb, PRCB_SIZE)
+            .or_else(|| watch.check_flushed_read(control, CONTROL_TABLE_SIZE))
     }
 
     /// The processor starts anew.
@@ -82,7 +82,7 @@ impl Processor {
     {
         let first = self.value(i.b);
         let prcb = self.value(i.c);
-        if let Some(a) = self.tables_hazard(prcb, self.memory.word(prcb.wrapping_add(4))) {
+        if let Some(a) = self.tables_hazard(prcb, self.storage.word(prcb.wrapping_add(4))) {
             return Err(a);
         }
         Ok(self.controlling(i, Control::Restarts { first, prcb }))
@@ -92,11 +92,13 @@ impl Processor {
     #[tactic(auto, unfolding(i9_model::specs::Tables::group_hazard))]
     fn group_hazard(&self, group: u8) -> Option<u32>
         requires { group < 7 }
-        ensures { result ≡ group_hazard (flushed (frames_of self.now.watch)) self.now.tables.control_table group }
+        ensures { result ≡ group_hazard (flushed (frames_in self.now.storage)) self.now.tables.control_table group }
     {
         let place = CONTROL_GROUP_SIZE * u32::from(group);
         let a = self.tables.control_table.wrapping_add(place);
-        self.watch.check_flushed_read(a, CONTROL_GROUP_SIZE)
+        self.storage
+            .watch()
+            .check_flushed_read(a, CONTROL_GROUP_SIZE)
     }
 
     /// A group of the control table is loaded.

@@ -1,6 +1,10 @@
 //! The machine at images of a few instructions, worked out by hand.
+ghost use Rattle.std.specs.Prelude.{◌<◌, IfSome};
+
 use crate::{End, Issued, Line, Machine, Point, Turn};
+use i9_frames::Frame;
 use i9_hex::Segments;
+use i9_model::View;
 use std::alloc::Global;
 use std::test::*;
 
@@ -16,6 +20,20 @@ const PROGRAM: [u32; 6] = [
 
 /// `call f`, `f: ret`.
 const CALL_AND_RETURN: [u32; 2] = [0x0900_0004, 0x0A00_0000];
+
+/// `lda 19, g0`, `call f`, `lda 0xE0000000, g5`, `st g0, 4(g5)`, `f: cmpobe 0, g0, back`,
+/// `subo 1, g0, g0`, `call f`, `back: ret`.
+const NESTED_CALLS: [u32; 9] = [
+    0x8C80_0013,
+    0x0900_0010,
+    0x8CA8_3000,
+    0xE000_0000,
+    0x9285_6004,
+    0x3204_200C,
+    0x5984_0901,
+    0x09FF_FFF8,
+    0x0A00_0000,
+];
 
 /// `lda 0x80003000, g0`, `mov 7, g4`, `stob g4, 0x3000`, `mov 9, g5`, `stob g5, (g0)`,
 /// `ldob 0x3000, g6`, `ldob (g0), g7`.
@@ -186,5 +204,151 @@ fn memory_grows_with_the_pages_that_are_touched(rt: HostRuntime) -> Result<(), F
             (Some(7), Some(9))
         );
     }
+    Ok(())
+}
+
+/// `call f`, `f: lda 0x300, g1`, `lda 0x1200, g2`, `lda 0xC00, g3`, `sysctl g1, g2, g3`.
+const CALL_AND_START_ANEW: [u32; 6] = [
+    0x0900_0004,
+    0x8C88_0300,
+    0x8C90_3000,
+    0x0000_1200,
+    0x8C98_0C00,
+    0x659C_8491,
+];
+
+/// `mov 7, r9`, `call f`, `f: lda 0x300, g1`, `lda 0x1200, g2`, `lda 0, g3`, `sysctl g1, g2, g3`: the new PRCB is the
+/// frame at 0, whose second word is sp and whose last word is r9.
+const START_BY_A_FRAME: [u32; 7] = [
+    0x5C48_0E07,
+    0x0900_0004,
+    0x8C88_0300,
+    0x8C90_3000,
+    0x0000_1200,
+    0x8C98_0000,
+    0x659C_8491,
+];
+
+/// A program at 1000 whose PRCB, at 800, asks for sets by a word, and another PRCB, at C00, by a second one.
+fn image_with_sets(
+    alloc: Global,
+    program: &[u32],
+    word: u32,
+    other: u32,
+) -> Result<Segments, Fail> {
+    let mut image = image_of(alloc, program)?;
+    put_word(&mut image, 0xFFFF_FF14, 0x800)?;
+    put_word(&mut image, 0x824, word)?;
+    put_word(&mut image, 0xC24, other)?;
+    Ok(image)
+}
+
+/// What a machine is asked for: that many sets, at most 15, or at 0 those of the PRCB.
+fn asked(sets: u8) -> Option<u8>
+    ensures { IfSome result (λ n. 0 < n × n < 16) }
+{
+    match sets {
+        0 => None,
+        n => Some(n.min(15)),
+    }
+}
+
+/// The most frames that a machine holds, and what it shows at its end: 0 asks for the sets of the PRCB, whose word is given.
+fn nested(alloc: Global, sets: u8, word: u32) -> Result<(u8, Turn, View), Fail> {
+    let image = image_with_sets(alloc, &NESTED_CALLS, word, 0)?;
+    let mut machine = Machine::new(alloc, &image, asked(sets), 100)?;
+    let mut lines = Vec::new(alloc);
+    let mut most = 0u8;
+    let mut last = Turn::Memory;
+    for _ in 0..83usize {
+        last = machine.advance(&mut lines);
+        most = most.max(machine.held().len());
+    }
+    Ok((most, last, machine.view()))
+}
+
+#[test]
+fn holds_as_many_frames_as_there_are_sets(rt: HostRuntime) -> Result<(), Fail> {
+    let cases = [
+        (1u8, 15u32, 1u8),
+        (5, 0, 5),
+        (15, 0, 15),
+        (0, 0, 5),
+        (0, 4, 5),
+        (0, 5, 5),
+        (0, 15, 15),
+        (0, 31, 15),
+    ];
+    for (sets, word, frames) in cases {
+        let (most, last, view) = nested(rt.alloc(), sets, word)?;
+        assert_eq!(rt; most, frames, "of {sets} and {word}");
+        assert_eq!(rt; last, Turn::End(End::Exit(0)));
+        assert_eq!(rt; (view.count, view.ip), (82, 0x1014));
+        assert_eq!(rt;
+            (view.regs[1], view.regs[2], view.regs[21]),
+            (0x40, 0x1008, 0xE000_0000)
+        );
+    }
+    Ok(())
+}
+
+/// How many sets there are behind a call and behind the start anew, where nothing may be held.
+fn sets_anew(alloc: Global, sets: u8, word: u32, other: u32) -> Result<(u8, u8, u8), Fail> {
+    let image = image_with_sets(alloc, &CALL_AND_START_ANEW, word, other)?;
+    let mut machine = Machine::new(alloc, &image, asked(sets), 100)?;
+    let mut lines = Vec::new(alloc);
+    let _ = machine.advance(&mut lines);
+    let before = machine.held().size();
+    for _ in 0..4usize {
+        let _ = machine.advance(&mut lines);
+    }
+    Ok((before, machine.held().size(), machine.held().len()))
+}
+
+#[test]
+fn a_new_prcb_makes_fewer_sets_and_more(rt: HostRuntime) -> Result<(), Fail> {
+    let cases = [
+        (0u8, 15u32, 0u32, 15u8, 5u8),
+        (0, 0, 15, 5, 15),
+        (0, 31, 22, 15, 6),
+        (3, 15, 9, 3, 3),
+    ];
+    for (sets, word, other, before, after) in cases {
+        assert_eq!(rt;
+            sets_anew(rt.alloc(), sets, word, other)?,
+            (before, after, 0)
+        );
+    }
+    Ok(())
+}
+
+#[test]
+fn reads_a_prcb_in_a_held_frame(rt: HostRuntime) -> Result<(), Fail> {
+    let image = image_with_sets(rt.alloc(), &START_BY_A_FRAME, 15, 0)?;
+    let mut machine = Machine::new(rt.alloc(), &image, None, 100)?;
+    let mut lines = Vec::new(rt.alloc());
+    for _ in 0..5usize {
+        let _ = machine.advance(&mut lines);
+    }
+    assert_eq!(rt; (machine.held().size(), machine.held().len()), (15, 1));
+    let _ = machine.advance(&mut lines);
+    assert_eq!(rt; (machine.held().size(), machine.held().len()), (7, 0));
+    assert_eq!(rt; (machine.view().count, machine.view().ip), (6, 0x1200));
+    assert_eq!(rt; machine.byte(36), Some(7));
+    Ok(())
+}
+
+#[test]
+fn holds_the_frame_of_a_call(rt: HostRuntime) -> Result<(), Fail> {
+    let image = image_of(rt.alloc(), &CALL_AND_RETURN)?;
+    let mut machine = Machine::new(rt.alloc(), &image, Some(2), 2)?;
+    let mut lines = Vec::new(rt.alloc());
+    assert_eq!(rt; machine.held().at(0).copied(), None);
+    let _ = machine.advance(&mut lines);
+    let words = [0, 0x40, 0x1004, 0, 0, 0, 0, 0, 0, 0, 0, 0, 0, 0, 0, 0];
+    let frame = Frame { address: 0, words };
+    assert_eq!(rt; machine.held().at(0).copied(), Some(frame));
+    let _ = machine.advance(&mut lines);
+    assert_eq!(rt; machine.held().len(), 0);
     Ok(())
 }

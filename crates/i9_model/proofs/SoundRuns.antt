@@ -27,7 +27,7 @@ use Rattle.i9_model.proofs.ControlLaws.{acted-frames}
 use Rattle.i9_model.proofs.FrameLaws.{sound-none, sound-saved, sound-returned, sound-flushed, sound-wrote}
 
 -- no byte is stored
-nothing_meets : (s : Frames) → write_hazard s 0 0 ≡ None
+pub nothing_meets : (s : Frames) → write_hazard s 0 0 ≡ None
 unfolding write_hazard
 nothing_meets s = refl
 

@@ -1,25 +1,43 @@
 -- The words of the command, and the lines that answer what was refused.
 use Rattle.std.specs.Prelude.{ℕ, Bool, ◌&&◌, not, ◌==◌, nat_le, if◌then◌else◌, List, [], ◌∷◌, ◌++◌, length, Option, Some, None, codes}
+use Rattle.std.specs.Option.{option_map}
 use Rattle.std.specs.Fmt.{decimal}
 use Rattle.std.specs.Str.{bytes_eq}
 use Rattle.i9_text.specs.Text.{number_of}
-use Rattle.i9_model.specs.declared.layout.TheConstants.{MAX_LENGTH}
+use Rattle.i9_model.specs.declared.layout.TheConstants.{MAX_LENGTH, MOST_SETS}
 
--- what the words ask for: to run the image of this name for at most so many instructions
+-- what the words ask for: to run the image of this name, with so many sets or, where none are asked for, with those of the
+-- PRCB, for at most so many instructions
 pub data Command : Type 0 where
-  Run : (image : List ℕ) → (limit : ℕ) → Command
-
-abbrev pub run_for : List ℕ → Option ℕ → Option Command
-run_for image None = None
-run_for image (Some limit) = if nat_le limit MAX_LENGTH then Some (Run image limit) else None
+  Run : (image : List ℕ) → (sets : Option ℕ) → (limit : ℕ) → Command
 
 abbrev pub is_dash : List ℕ → Bool
 is_dash word = bytes_eq word (codes "-")
 
--- `run IMAGE - - LENGTH`, with a name that isn't empty and a number of one to ten decimal digits
+-- a number that is there and lies in a range
+abbrev pub in_range : ℕ → ℕ → Option ℕ → Option ℕ
+in_range low high None = None
+in_range low high (Some n) = if nat_le low n && nat_le n high then Some n else None
+
+-- a number of one to ten decimal digits, in a range
+abbrev pub number_in : ℕ → ℕ → List ℕ → Option ℕ
+number_in low high word = in_range low high (number_of 10 10 word)
+
+-- a number of sets, or `-` where none is asked for
+unfoldable pub sets_for : List ℕ → Option (Option ℕ)
+sets_for word = if is_dash word then Some None else option_map (λ n. Some n) (number_in 1 MOST_SETS word)
+
+abbrev pub run_for : List ℕ → Option (Option ℕ) → Option ℕ → Option Command
+run_for image (Some sets) (Some limit) = Some (Run image sets limit)
+run_for image None limit = None
+run_for image (Some sets) None = None
+
+-- `run IMAGE - SETS LENGTH`, with a name that isn't empty
 unfoldable pub command_of : List (List ℕ) → Option Command
 command_of (name ∷ image ∷ schedule ∷ sets ∷ limit ∷ []) =
-    if bytes_eq name (codes "run") && not (length image == 0) && is_dash schedule && is_dash sets then run_for image (number_of 10 10 limit) else None
+    if bytes_eq name (codes "run") && not (length image == 0) && is_dash schedule
+    then run_for image (sets_for sets) (number_in 0 MAX_LENGTH limit)
+    else None
 command_of _ = None
 
 -- ---- lines that end with a line feed

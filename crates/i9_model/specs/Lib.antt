@@ -23,5 +23,16 @@ pub mod Faults
 pub mod Fetched
 pub mod Run
 pub mod Overlay
+pub mod Alike
+pub mod Free
+pub mod HeldFrames
+pub mod Turns
+pub mod Marks
+pub mod Needs
+pub mod Late
+pub mod Events
+pub mod ScheduleText
+pub mod PlannedRuns
+pub mod RunInSets
 pub mod PrintedText
 pub mod CommandLine

@@ -1,11 +1,14 @@
 -- The printed text of a run: its lines, and their bytes.
 use Rattle.std.specs.Prelude.{ℕ, Option, Some, None, List, [], ◌∷◌, ◌++◌, codes, take, drop, map}
 use Rattle.std.specs.Fmt.{decimal}
-use Rattle.std.specs.Int.{w32, to_be_bytes}
 use Rattle.std.specs.List.{flat_map, range_with_len}
-use Rattle.hex.specs.Hex.{encode_upper}
+use Rattle.i9_text.specs.Written.{word_text, byte_text}
 use Rattle.i9_model.specs.declared.view.View.{View}
+use Rattle.i9_model.specs.declared.event.Event.{Event}
+use Rattle.i9_model.specs.declared.event.Timed.{Timed}
 use Rattle.i9_model.specs.Memory.{console_byte}
+use Rattle.i9_model.specs.Events.{journal_text}
+use Rattle.i9_model.specs.ScheduleText.{timed_at}
 use Rattle.i9_model.specs.State.{State}
 use Rattle.i9_model.specs.Step.{Action, Drained, AtFlush, AtSync, AtFault, AtEnd}
 use Rattle.i9_model.specs.Run.{Finish, Exit, Limit, Hazard, Dead, Unbuilt, Record, action_by_kind, writes_in, state_after}
@@ -14,6 +17,8 @@ use Rattle.i9_model.specs.Run.{Finish, Exit, Limit, Hazard, Dead, Unbuilt, Recor
 pub data Shown : Type 0 where
   Out : (byte : ℕ) → Shown
   Point : (kind : Drained) → (view : View) → Shown
+  Journal : (count : ℕ) → (event : Event) → Shown
+  Bytes : (address : ℕ) → (list : List (Option ℕ)) → Shown
   End : (finish : Finish) → Shown
 
 -- the 32 registers in order
@@ -52,13 +57,6 @@ lines_of image (r ∷ rs) = lines_of image rs ++ action_lines (action_by_kind r.
 
 -- ---- the bytes of a line
 
--- a word and a byte in upper-case hexadecimal digits
-unfoldable pub word_text : ℕ → List ℕ
-word_text w = encode_upper (to_be_bytes w32 w)
-
-unfoldable pub byte_text : ℕ → List ℕ
-byte_text b = encode_upper (b ∷ [])
-
 abbrev pub line_feed : List ℕ
 line_feed = 10 ∷ []
 
@@ -94,13 +92,37 @@ finish_text (Unbuilt a) = words_text (codes "#end unbuilt") (a ∷ [])
 abbrev pub point_shown : Drained → View → List ℕ
 point_shown k v = point_text k v ++ (words_text (codes "#g") (drop 16 v.regs) ++ words_text (codes "#l") (take 16 v.regs))
 
+-- an event that was reached after so many instructions
+unfoldable pub event_text : ℕ → Event → List ℕ
+event_text k e = journal_text k e ++ line_feed
+
+-- a byte after a space, or two dashes where none is compared
+abbrev pub spaced_byte : Option ℕ → List ℕ
+spaced_byte None = codes " --"
+spaced_byte (Some b) = 32 ∷ byte_text b
+
+-- the bytes from an address on
+unfoldable pub bytes_text : ℕ → List (Option ℕ) → List ℕ
+bytes_text a bs = codes "#mem" ++ spaced a ++ flat_map spaced_byte bs ++ line_feed
+
 abbrev pub shown_text : Shown → List ℕ
 shown_text (Out b) = out_text b
 shown_text (Point k v) = point_shown k v
+shown_text (Journal k e) = event_text k e
+shown_text (Bytes a bs) = bytes_text a bs
 shown_text (End f) = finish_text f
 
 abbrev pub text_of : List Shown → List ℕ
 text_of ls = flat_map shown_text ls
+
+-- the events of lines, each at its count
+abbrev pub events_of : List Shown → List Timed
+events_of [] = []
+events_of (Journal k e ∷ ls) = timed_at k e ∷ events_of ls
+events_of (Out b ∷ ls) = events_of ls
+events_of (Point k v ∷ ls) = events_of ls
+events_of (Bytes a bs ∷ ls) = events_of ls
+events_of (End f ∷ ls) = events_of ls
 
 -- the text of a whole run
 abbrev pub run_text : List (ℕ × ℕ) → List Record → Finish → List ℕ

@@ -34,6 +34,9 @@ pub const CONTROL_GROUP_SIZE: u32 = 16;
 /// The least number of register sets that the PRCB gives.
 pub const LEAST_SETS: u8 = 5;
 
+/// The greatest number of register sets besides the one in use.
+pub const MOST_SETS: u8 = 15;
+
 /// The process controls after boot: supervisor mode, interrupted, priority 31.
 pub const BOOT_PC: u32 = 0x001F_2002;
 

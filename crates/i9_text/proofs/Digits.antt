@@ -1,13 +1,15 @@
 -- The number of a word: where it has one, and how large it is.
-use Rattle.std.proofs.Common.{◌≡◌, ℕ, ◌*◌, ◌^◌, ◌<◌, ◌≤◌, true, false, List, [], ◌∷◌, length, get_or, Some, None, refl, arith, lit<}
+use Rattle.std.proofs.Common.{◌≡◌, ℕ, ◌*◌, ◌^◌, ◌<◌, ◌≤◌, true, false, eqb, List, [], ◌∷◌, length, get_or, Some, None, refl, arith, lit<}
 use Rattle.std.specs.List.{list_all}
 use Rattle.std.specs.Char.{digit_value, is_digit}
 use Rattle.std.specs.Str.Parse.{AllDigits, digits_value}
-use Rattle.std.proofs.lemmas.Bool.{lt-ltb, le-ltb}
+use Rattle.std.proofs.lemmas.Bool.{lt-ltb, le-ltb, eqb-true}
 use Rattle.std.proofs.lemmas.List.Folds.{list_all_at}
 use Rattle.std.proofs.lemmas.Grind.{common_steps}
 use Rattle.std.proofs.Math.Nat.{pow-le-pow_left, pow-le-pow_right, mul-le-mul_left}
+use Rattle.hex.specs.Hex.{upper_digits}
 use Rattle.i9_text.specs.Text.{number_of}
+use Rattle.i9_text.proofs.Below.{passes_below}
 
 list_all-from_digits : (radix : ℕ) (word : List ℕ) → AllDigits radix word → list_all (λ c. is_digit c radix) word ≡ true
 list_all-from_digits radix [] h = refl
@@ -35,3 +37,7 @@ small_number radix value i most low high below lt few =
     let wider : 16 ^ i ≤ 16 ^ 14 = pow-le-pow_right {n = 16} (lit< tt) {i = i} {j = 14} (omega arith) in
     let times : value * radix ≤ value * 16 = mul-le-mul_left value high in
     (omega arith, omega arith)
+
+-- the value of a digit that is written in upper case
+pub digit_value-upper : (d : ℕ) → d < 16 → digit_value (get_or upper_digits d 0) ≡ d
+digit_value-upper d h = eqb-true _ _ (passes_below (λ k. eqb (digit_value (get_or upper_digits k 0)) k) 16 d refl h)

@@ -4,3 +4,8 @@ pub mod WordCuts
 pub mod Digits
 pub mod FirstFault
 pub mod Loop
+pub mod WrittenWords
+pub mod FirstFaultOnce
+pub mod Below
+pub mod WrittenDigits
+pub mod WrittenLines

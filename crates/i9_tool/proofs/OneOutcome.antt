@@ -1,11 +1,11 @@
 -- Each file and length have one status and one text.
-use Rattle.std.proofs.Common.{◌≡◌, ℕ, List, refl, sym, ap, ◌∙◌, subst, arith}
+use Rattle.std.proofs.Common.{◌≡◌, ℕ, Bool, true, List, Option, Some, refl, sym, ap, ◌∙◌, subst, arith}
 use Rattle.i9_model.specs.Run.{Record, Finish, IsRun}
 use Rattle.i9_model.specs.PrintedText.{run_text, finish_code}
-use Rattle.i9_model.specs.CommandLine.{refused_line}
+use Rattle.i9_model.specs.CommandLine.{Run, refused_line}
 use Rattle.i9_model.proofs.Unique.{same_records, same_end}
 use Rattle.i9_hex.proofs.OneAnswer.{image_apart, one_image, one_fault}
-use Rattle.i9_tool.specs.Outcome.{FileGives, too_long, refused, runs}
+use Rattle.i9_tool.specs.Outcome.{FileGives, too_long, refused, runs, Gives, unread, fetched}
 
 -- a status and a text at once
 pub record Same (c d : ℕ) (s t : List ℕ) : Type 0 where
@@ -35,3 +35,9 @@ one_outcome file limit c d s t (refused g short h) (runs qs us f short' image ru
 one_outcome file limit c d s t (runs ps rs e short image run) (too_long long) = absurd (omega arith)
 one_outcome file limit c d s t (runs ps rs e short image run) (refused g short' h) = absurd (image_apart file ps g image h)
 one_outcome file limit c d s t (runs ps rs e short image run) (runs qs us f short' image' run') = same_image ps qs limit rs us e f (one_image file ps qs image image') run run'
+
+-- no answer depends on the number of sets
+pub same_in_sets : (told : List ℕ → Option (List ℕ)) (risen : List ℕ → Bool) (image : List ℕ) (sets others : Option ℕ) (limit code : ℕ) (text : List ℕ)
+    → Gives told (λ n. risen n ≡ true) (Some (Run image sets limit)) code text → Gives told (λ n. risen n ≡ true) (Some (Run image others limit)) code text
+same_in_sets told risen image sets others limit code text (unread x o n rises) = unread image others limit rises
+same_in_sets told risen image sets others limit code text (fetched x o n file c t found gives) = fetched image others limit file code text found gives

@@ -74,25 +74,25 @@ module _ {K : Type 0} (told : K → Option (List ℕ)) (faults : K → ℕ) (sur
 
   module _ (files : List ℕ → Option (List ℕ)) (rose : List ℕ → Type 0) where
     -- what is answered for the file that was fetched
-    pub image_fetched : (image : List ℕ) (limit : ℕ) (file bytes : List ℕ) (code : ℕ) (a b : K) → IsFile (files image) file → bytes ≡ file → Answers (FileGives bytes limit) code told faults sure a b
-        → Answers (Gives files rose (Some (Run image limit))) code told faults sure a b
-    image_fetched image limit file bytes code a b is_file same h =
+    pub image_fetched : (image : List ℕ) (sets : Option ℕ) (limit : ℕ) (file bytes : List ℕ) (code : ℕ) (a b : K) → IsFile (files image) file → bytes ≡ file → Answers (FileGives bytes limit) code told faults sure a b
+        → Answers (Gives files rose (Some (Run image sets limit))) code told faults sure a b
+    image_fetched image sets limit file bytes code a b is_file same h =
         let found : IsFile (files image) bytes = subst (IsFile (files image)) (sym same) is_file in
-        answers_wider told faults sure (FileGives bytes limit) (Gives files rose (Some (Run image limit))) code a b (λ c t g. fetched image limit bytes c t found g) h
+        answers_wider told faults sure (FileGives bytes limit) (Gives files rose (Some (Run image sets limit))) code a b (λ c t g. fetched image sets limit bytes c t found g) h
 
-    pub image_unread : (image : List ℕ) (limit : ℕ) (p : Printed) (code : ℕ) (a b : K) → rose image → Prints p told faults sure a b read_line → code ≡ code_for p 5 → Answers (Gives files rose (Some (Run image limit))) code told faults sure a b
-    image_unread image limit p code a b rises printed e =
-        subst (λ (n : ℕ). Answers (Gives files rose (Some (Run image limit))) n told faults sure a b) (sym e)
-        (answers_printed told faults sure (Gives files rose (Some (Run image limit))) p 5 read_line a b (inr (omega arith, omega arith)) (unread image limit rises) printed)
+    pub image_unread : (image : List ℕ) (sets : Option ℕ) (limit : ℕ) (p : Printed) (code : ℕ) (a b : K) → rose image → Prints p told faults sure a b read_line → code ≡ code_for p 5 → Answers (Gives files rose (Some (Run image sets limit))) code told faults sure a b
+    image_unread image sets limit p code a b rises printed e =
+        subst (λ (n : ℕ). Answers (Gives files rose (Some (Run image sets limit))) n told faults sure a b) (sym e)
+        (answers_printed told faults sure (Gives files rose (Some (Run image sets limit))) p 5 read_line a b (inr (omega arith, omega arith)) (unread image sets limit rises) printed)
 
-    pub image_too_long : (image : List ℕ) (limit : ℕ) (file : List ℕ) (p : Printed) (code : ℕ) (a b : K) → IsFile (files image) file → FILE_LIMIT < length file → Prints p told faults sure a b long_line → code ≡ code_for p 2
-        → Answers (Gives files rose (Some (Run image limit))) code told faults sure a b
-    image_too_long image limit file p code a b is_file long printed e =
-        subst (λ (n : ℕ). Answers (Gives files rose (Some (Run image limit))) n told faults sure a b) (sym e)
-        (answers_printed told faults sure (Gives files rose (Some (Run image limit))) p 2 long_line a b (inl (omega arith)) (fetched image limit file 2 long_line is_file (too_long long)) printed)
+    pub image_too_long : (image : List ℕ) (sets : Option ℕ) (limit : ℕ) (file : List ℕ) (p : Printed) (code : ℕ) (a b : K) → IsFile (files image) file → FILE_LIMIT < length file → Prints p told faults sure a b long_line → code ≡ code_for p 2
+        → Answers (Gives files rose (Some (Run image sets limit))) code told faults sure a b
+    image_too_long image sets limit file p code a b is_file long printed e =
+        subst (λ (n : ℕ). Answers (Gives files rose (Some (Run image sets limit))) n told faults sure a b) (sym e)
+        (answers_printed told faults sure (Gives files rose (Some (Run image sets limit))) p 2 long_line a b (inl (omega arith)) (fetched image sets limit file 2 long_line is_file (too_long long)) printed)
 
-    pub image_refused : (image : List ℕ) (limit : ℕ) (file : List ℕ) (a : K) → IsFile (files image) file → Answers (Gives files rose (Some (Run image limit))) 7 told faults sure a a
-    image_refused image limit file a is_file = image_fetched image limit file file 7 a a is_file refl (file_unread file limit a)
+    pub image_refused : (image : List ℕ) (sets : Option ℕ) (limit : ℕ) (file : List ℕ) (a : K) → IsFile (files image) file → Answers (Gives files rose (Some (Run image sets limit))) 7 told faults sure a a
+    image_refused image sets limit file a is_file = image_fetched image sets limit file file 7 a a is_file refl (file_unread file limit a)
 
     -- what the words ask for, spelled in another way
     pub answers_for : (asked same : Option Command) (code : ℕ) (a b : K) → asked ≡ same → Answers (Gives files rose asked) code told faults sure a b → Answers (Gives files rose same) code told faults sure a b

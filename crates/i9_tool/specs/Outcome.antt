@@ -24,8 +24,8 @@ pub data FileGives (file : List ℕ) (limit : ℕ) : ℕ → List ℕ → Type 0
 -- files that are told, and `rose` of which names the count of faults rose.
 pub data Gives (told : List ℕ → Option (List ℕ)) (rose : List ℕ → Type 0) : Option Command → ℕ → List ℕ → Type 0 where
   in_no_form : Gives told rose None 1 words_line
-  unread : (image : List ℕ) (limit : ℕ) → rose image → Gives told rose (Some (Run image limit)) 5 read_line
-  fetched : (image : List ℕ) (limit : ℕ) (file : List ℕ) (code : ℕ) (text : List ℕ) → IsFile (told image) file → FileGives file limit code text → Gives told rose (Some (Run image limit)) code text
+  unread : (image : List ℕ) (sets : Option ℕ) (limit : ℕ) → rose image → Gives told rose (Some (Run image sets limit)) 5 read_line
+  fetched : (image : List ℕ) (sets : Option ℕ) (limit : ℕ) (file : List ℕ) (code : ℕ) (text : List ℕ) → IsFile (told image) file → FileGives file limit code text → Gives told rose (Some (Run image sets limit)) code text
 
 -- the status and its text were given whole, or a front of a text that could have been
 pub record GivesWhole (gives : ℕ → List ℕ → Type 0) (code : ℕ) (old new : Option (List ℕ)) : Type 0 where
@@ -56,9 +56,9 @@ code_for printed.Memory code = 7
 -- the count of a file that the words name rose
 abbrev pub FileRose : (List ℕ → Type 0) → Option Command → Type 0
 FileRose rose None = ⊥
-FileRose rose (Some (Run image limit)) = rose image
+FileRose rose (Some (Run image sets limit)) = rose image
 
 -- each file that the words name is sure to be fetched
 abbrev pub FilesSure : (List ℕ → Type 0) → Option Command → Type 0
 FilesSure sure None = Unit {0}
-FilesSure sure (Some (Run image limit)) = sure image
+FilesSure sure (Some (Run image sets limit)) = sure image

@@ -1,5 +1,5 @@
 //! Calls and returns through the command, at images of words and text worked out by hand.
-use crate::tests::{Case, run_case};
+use crate::tests::{Case, SETS, run_case};
 use std::test::*;
 
 /// `mov 5, r4`, `call f`, `f: ld 16(pfp), g4`.
@@ -225,55 +225,33 @@ const RETURNS_TO_THE_PORT_PAGE_PRINTS: &str = "#point 1 end 00001008 00000000 00
 #[test]
 fn calls_returns_and_hazards(rt: HostRuntime) -> Result<(), Fail> {
     let cases = [
-        (READS_A_FRAME, "run a - - 4", 4, READS_A_FRAME_PRINTS),
-        (
-            READS_A_FLUSHED_FRAME,
-            "run a - - 4",
-            0,
-            READS_A_FLUSHED_FRAME_PRINTS,
-        ),
-        (
-            READS_BEHIND_A_STORE,
-            "run a - - 9",
-            4,
-            READS_BEHIND_A_STORE_PRINTS,
-        ),
-        (
-            READS_BEHIND_A_BYTE,
-            "run a - - 9",
-            4,
-            READS_BEHIND_A_BYTE_PRINTS,
-        ),
-        (
-            RETURNS_ELSEWHERE,
-            "run a - - 9",
-            4,
-            RETURNS_ELSEWHERE_PRINTS,
-        ),
+        (READS_A_FRAME, 4, 4, READS_A_FRAME_PRINTS),
+        (READS_A_FLUSHED_FRAME, 4, 0, READS_A_FLUSHED_FRAME_PRINTS),
+        (READS_BEHIND_A_STORE, 9, 4, READS_BEHIND_A_STORE_PRINTS),
+        (READS_BEHIND_A_BYTE, 9, 4, READS_BEHIND_A_BYTE_PRINTS),
+        (RETURNS_ELSEWHERE, 9, 4, RETURNS_ELSEWHERE_PRINTS),
         (
             RETURNS_ELSEWHERE_FLUSHED,
-            "run a - - 4",
+            4,
             0,
             RETURNS_ELSEWHERE_FLUSHED_PRINTS,
         ),
-        (
-            SAVES_OVER_A_FRAME,
-            "run a - - 9",
-            4,
-            SAVES_OVER_A_FRAME_PRINTS,
-        ),
+        (SAVES_OVER_A_FRAME, 9, 4, SAVES_OVER_A_FRAME_PRINTS),
     ];
-    for (image, words, code, printed) in cases {
-        let case = Case {
-            image,
-            words,
-            printed,
-        };
-        assert_eq!(rt;
-            run_case(rt.alloc(), &case, 0)?,
-            (code, true),
-            "of {printed}"
-        );
+    for (image, length, code, printed) in cases {
+        for sets in SETS {
+            let words = format!(in rt.alloc(); "run a - {sets} {length}")?;
+            let case = Case {
+                image,
+                words: &words,
+                printed,
+            };
+            assert_eq!(rt;
+                run_case(rt.alloc(), &case, 0)?,
+                (code, true),
+                "with {sets} sets, of {printed}"
+            );
+        }
     }
     Ok(())
 }
@@ -281,56 +259,34 @@ fn calls_returns_and_hazards(rt: HostRuntime) -> Result<(), Fail> {
 #[test]
 fn frames_at_their_edges(rt: HostRuntime) -> Result<(), Fail> {
     let cases = [
-        (ENTERS_A_FRAME, "run a - - 9", 4, ENTERS_A_FRAME_PRINTS),
-        (
-            ENTERS_BEFORE_A_FRAME,
-            "run a - - 9",
-            4,
-            ENTERS_BEFORE_A_FRAME_PRINTS,
-        ),
-        (
-            STORES_TO_A_FRAME,
-            "run a - - 9",
-            4,
-            STORES_TO_A_FRAME_PRINTS,
-        ),
-        (RETURNS_TWICE, "run a - - 4", 0, RETURNS_TWICE_PRINTS),
-        (
-            RETURNS_BY_TYPE_110,
-            "run a - - 3",
-            0,
-            RETURNS_BY_TYPE_110_PRINTS,
-        ),
-        (
-            RETURNS_BY_TYPE_001,
-            "run a - - 2",
-            0,
-            RETURNS_BY_TYPE_001_PRINTS,
-        ),
-        (
-            SAVES_IN_THE_PORT_PAGE,
-            "run a - - 9",
-            4,
-            SAVES_IN_THE_PORT_PAGE_PRINTS,
-        ),
+        (ENTERS_A_FRAME, 9, 4, ENTERS_A_FRAME_PRINTS),
+        (ENTERS_BEFORE_A_FRAME, 9, 4, ENTERS_BEFORE_A_FRAME_PRINTS),
+        (STORES_TO_A_FRAME, 9, 4, STORES_TO_A_FRAME_PRINTS),
+        (RETURNS_TWICE, 4, 0, RETURNS_TWICE_PRINTS),
+        (RETURNS_BY_TYPE_110, 3, 0, RETURNS_BY_TYPE_110_PRINTS),
+        (RETURNS_BY_TYPE_001, 2, 0, RETURNS_BY_TYPE_001_PRINTS),
+        (SAVES_IN_THE_PORT_PAGE, 9, 4, SAVES_IN_THE_PORT_PAGE_PRINTS),
         (
             RETURNS_TO_THE_PORT_PAGE,
-            "run a - - 9",
+            9,
             4,
             RETURNS_TO_THE_PORT_PAGE_PRINTS,
         ),
     ];
-    for (image, words, code, printed) in cases {
-        let case = Case {
-            image,
-            words,
-            printed,
-        };
-        assert_eq!(rt;
-            run_case(rt.alloc(), &case, 0)?,
-            (code, true),
-            "of {printed}"
-        );
+    for (image, length, code, printed) in cases {
+        for sets in SETS {
+            let words = format!(in rt.alloc(); "run a - {sets} {length}")?;
+            let case = Case {
+                image,
+                words: &words,
+                printed,
+            };
+            assert_eq!(rt;
+                run_case(rt.alloc(), &case, 0)?,
+                (code, true),
+                "with {sets} sets, of {printed}"
+            );
+        }
     }
     Ok(())
 }

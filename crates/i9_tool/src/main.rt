@@ -16,6 +16,8 @@ mod result_tests;
 mod rows;
 mod run;
 #[cfg(test)]
+mod sets_tests;
+#[cfg(test)]
 mod start_tests;
 mod status;
 #[cfg(test)]

@@ -1,6 +1,6 @@
 //! Rows for tests: an image and what its run has to print, of which registers that are 0 are left out.
 use crate::outside::{MemFiles, MemSink};
-use crate::tests::words_of;
+use crate::tests::{SETS, words_of};
 use crate::top::i960;
 use std::alloc::Global;
 use std::test::*;
@@ -46,15 +46,25 @@ fn text_of(alloc: Global, row: &Row<'_>) -> Result<String, Fail> {
     Ok(text)
 }
 
-/// Whether a row's run has its status and prints its text.
-pub(crate) fn holds(alloc: Global, row: &Row<'_>) -> Result<bool, Fail> {
+/// Whether a row's run with so many sets has its status and prints its text.
+fn holds_with(alloc: Global, row: &Row<'_>, sets: &str) -> Result<bool, Fail> {
     let mut files = MemFiles::new(alloc);
     files.add("a", row.image.as_bytes())?;
     let mut sink = MemSink::new(alloc);
     sink.room(4096)?;
-    let line = format!(in alloc; "run a - - {}", row.length)?;
+    let line = format!(in alloc; "run a - {sets} {}", row.length)?;
     let words = words_of(alloc, &line)?;
     let status = i960(alloc, &words, &mut files, &mut sink);
     let text = text_of(alloc, row)?;
     Ok(status.code == row.code && sink.bytes() == text.as_bytes())
+}
+
+/// Whether a row's run has its status and prints its text, at each of these numbers of sets.
+pub(crate) fn holds(alloc: Global, row: &Row<'_>) -> Result<bool, Fail> {
+    for sets in SETS {
+        if !holds_with(alloc, row, sets)? {
+            return Ok(false);
+        }
+    }
+    Ok(true)
 }

@@ -3,6 +3,7 @@ ghost use Rattle.std.specs.Prelude.{◌≡◌, ◌≤◌};
 ghost use Rattle.i9_model.specs.declared.layout.TheConstants.{MAX_LENGTH};
 ghost use Rattle.i9_model.specs.Image.{pairs_of};
 ghost use Rattle.i9_tool.specs.Run.{Runs};
+ghost use Rattle.i9_tool.specs.Words.{AreFew};
 
 use crate::outside::Sink;
 use crate::print::{Printed, print_lines};
@@ -21,12 +22,19 @@ pub(crate) enum Ran {
     Memory,
 }
 
-/// Runs an image for at most so many instructions, and prints the lines of the run as they come.
-pub(crate) fn run<K: Sink>(alloc: Global, image: &Segments, limit: u64, out: &mut K) -> Ran
-    requires { limit ≤ MAX_LENGTH }
+/// Runs an image with its frames in so many sets, for at most so many instructions, and prints the lines of the run as they come.
+pub(crate) fn run<K: Sink>(
+    alloc: Global,
+    image: &Segments,
+    sets: Option<u8>,
+    limit: u64,
+    out: &mut K,
+) -> Ran
+    requires few { AreFew sets }
+    requires short { limit ≤ MAX_LENGTH }
     ensures { Runs result (pairs_of image.now) limit K.told K.faults K.sure out.old out.new }
 {
-    let mut machine = match Machine::new(alloc, image, None, limit) {
+    let mut machine = match Machine::new(alloc, image, sets, limit) {
         Ok(machine) => machine,
         Err(_) => return Ran::Memory,
     };

@@ -41,6 +41,9 @@ const UNBUILT: &str = "#point 0 end 00001000 00000000 001F2002
 #end unbuilt 00001000
 ";
 
+/// Numbers of sets as words of the command: that of the PRCB, and one, five and fifteen.
+pub(crate) const SETS: [&str; 4] = ["-", "1", "5", "15"];
+
 /// A case: the file that is held as `a`, the words, and what is printed.
 #[derive(Clone, Copy)]
 pub(crate) struct Case<'a> {
@@ -86,7 +89,14 @@ fn runs_and_refuses(rt: HostRuntime) -> Result<(), Fail> {
         (SMALLEST, "run a - - ", 1, "#words\n"),
         (SMALLEST, "run  - - 1", 1, "#words\n"),
         (SMALLEST, "run a x - 1", 1, "#words\n"),
-        (SMALLEST, "run a - 5 1", 1, "#words\n"),
+        (SMALLEST, "run a - 1 100", 0, PRINTED),
+        (SMALLEST, "run a - 0000000015 100", 0, PRINTED),
+        (SMALLEST, "run a - 00000000015 100", 1, "#words\n"),
+        (SMALLEST, "run a - 0 10", 1, "#words\n"),
+        (SMALLEST, "run a - 16 10", 1, "#words\n"),
+        (SMALLEST, "run a -  10", 1, "#words\n"),
+        (SMALLEST, "run a - -1 10", 1, "#words\n"),
+        (SMALLEST, "run b - 15 10", 5, "#read\n"),
         (SMALLEST, "walk a - - 1", 1, "#words\n"),
         (
             ":02000004FFFFFD\n",

@@ -3,7 +3,8 @@ ghost use Rattle.std.specs.Prelude.{◌≡◌, ◌++◌, ◌∷◌, [], ◌<◌,
 ghost use Rattle.std.specs.Fmt.{decimal};
 ghost use Rattle.std.specs.List.{flat_map};
 ghost use Rattle.i9_model.specs.CommandLine.{refused_line};
-ghost use Rattle.i9_model.specs.PrintedText.{word_text, byte_text, out_text, point_text, drained_text, words_text, spaced, finish_text, point_shown, shown_text, line_feed};
+ghost use Rattle.i9_text.specs.Written.{word_text, byte_text};
+ghost use Rattle.i9_model.specs.PrintedText.{out_text, point_text, drained_text, words_text, spaced, finish_text, point_shown, shown_text, line_feed};
 ghost use Rattle.i9_machine.specs.Line.{finish_of, drained_of, shown_of};
 ghost use Rattle.i9_hex.specs.Reading.{place_of};
 
@@ -13,7 +14,7 @@ use i9_model::View;
 use std::alloc::{AllocError, Global};
 
 /// Appends a word in eight upper-case hexadecimal digits.
-#[tactic(auto, unfolding(i9_model::specs::PrintedText::word_text))]
+#[tactic(auto, unfolding(i9_text::specs::Written::word_text))]
 fn add_word(alloc: Global, text: &mut Vec<u8>, word: u32) -> Result<(), AllocError>
     ensures { OnOk result (text.new.items ≡ text.old.items ++ word_text word) }
 {
@@ -30,7 +31,7 @@ fn add_count(alloc: Global, text: &mut Vec<u8>, count: u64) -> Result<(), AllocE
 }
 
 /// The line of a byte of the console.
-#[tactic(auto, unfolding(i9_model::specs::PrintedText::out_text, i9_model::specs::PrintedText::byte_text))]
+#[tactic(auto, unfolding(i9_model::specs::PrintedText::out_text, i9_text::specs::Written::byte_text))]
 fn out_line(alloc: Global, byte: u8) -> Result<Vec<u8>, AllocError>
     ensures { IfOk result (λ t. t.items ≡ out_text byte) }
 {

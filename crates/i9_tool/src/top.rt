@@ -3,7 +3,8 @@ ghost use Rattle.std.specs.Prelude.{◌≡◌, ◌≢◌, ◌≤◌, ◌<◌, �
 ghost use Rattle.std.specs.String.{string_bytes};
 ghost use Rattle.std.specs.Io.KnownBytes.{Appends};
 ghost use Rattle.i9_model.specs.declared.layout.TheConstants.{MAX_LENGTH};
-ghost use Rattle.i9_model.specs.CommandLine.{command_of, Run, read_line};
+ghost use Rattle.i9_model.specs.CommandLine.{command_of, read_line};
+ghost use Rattle.i9_tool.specs.Words.{asked_by, AreFew};
 ghost use Rattle.i9_model.specs.Run.{Finish};
 ghost use Rattle.i9_model.specs.PrintedText.{finish_code};
 ghost use Rattle.i9_tool.specs.declared.outside.traits.TheConstants.{FILE_LIMIT};
@@ -16,7 +17,7 @@ use crate::print::{Printed, print_piece};
 use crate::run::{Ran, run};
 use crate::status::Status;
 use crate::text::refused_line;
-use crate::words::asked;
+use crate::words::{RunWords, asked};
 use i9_hex::HexError;
 use i9_machine::End;
 use std::alloc::Global;
@@ -46,13 +47,20 @@ fn status_of_run(ran: Ran) -> Status
 }
 
 /// Runs the image of a file that was fetched, or says why it is refused.
-fn run_file<K: Sink>(alloc: Global, file: &[u8], limit: u64, out: &mut K) -> Status
+fn run_file<K: Sink>(
+    alloc: Global,
+    file: &[u8],
+    sets: Option<u8>,
+    limit: u64,
+    out: &mut K,
+) -> Status
+    requires few { AreFew sets }
     requires short { limit ≤ MAX_LENGTH }
     requires sized { length file.now ≤ FILE_LIMIT }
     ensures { Answers (FileGives file.now limit) result.code K.told K.faults K.sure out.old out.new }
 {
     match i9_hex::read(alloc, file) {
-        Ok(image) => status_of_run(run(alloc, &image, limit, out)),
+        Ok(image) => status_of_run(run(alloc, &image, sets, limit, out)),
         Err(HexError::Bad(fault)) => match refused_line(alloc, &fault) {
             Ok(line) => status_for(print_piece(&line, out), 2),
             Err(_) => Status { code: 7 },
@@ -64,20 +72,20 @@ fn run_file<K: Sink>(alloc: Global, file: &[u8], limit: u64, out: &mut K) -> Sta
 /// Fetches an image and runs it.
 fn run_image<F: Files, K: Sink>(
     alloc: Global,
-    image: &str,
-    limit: u64,
+    asked: &RunWords<'_>,
     files: &mut F,
     out: &mut K,
 ) -> Status
-    requires { limit ≤ MAX_LENGTH }
-    ensures answers { Answers (Gives (F.told files.old) (λ n. Rose (F.faults files.old n) (F.faults files.new n)) (Some (Run image.now limit)))
+    requires few { AreFew asked.now.sets }
+    requires short { asked.now.limit ≤ MAX_LENGTH }
+    ensures answers { Answers (Gives (F.told files.old) (λ n. Rose (F.faults files.old n) (F.faults files.new n)) (Some (asked_by asked.now)))
         result.code K.told K.faults K.sure out.old out.new }
-    ensures read { result.code ≡ 5 → Rose (F.faults files.old image.now) (F.faults files.new image.now) }
-    ensures calm { F.sure files.old image.now → (result.code ≢ 5) × ((n : List ℕ) → F.faults files.new n ≡ F.faults files.old n) }
+    ensures read { result.code ≡ 5 → Rose (F.faults files.old asked.now.image.now) (F.faults files.new asked.now.image.now) }
+    ensures calm { F.sure files.old asked.now.image.now → (result.code ≢ 5) × ((n : List ℕ) → F.faults files.new n ≡ F.faults files.old n) }
 {
     let mut file = Vec::new(alloc);
-    match files.fetch(alloc, image, &mut file) {
-        Fetch::Ok => run_file(alloc, &file, limit, out),
+    match files.fetch(alloc, asked.image, &mut file) {
+        Fetch::Ok => run_file(alloc, &file, asked.sets, asked.limit, out),
         Fetch::Failed => status_for(print_piece(b"#read\n", out), 5),
         Fetch::TooLong(_) => status_for(print_piece(b"#image too long\n", out), 2),
         Fetch::Memory => Status { code: 7 },
@@ -113,7 +121,7 @@ fn work<F: Files, K: Sink>(alloc: Global, words: &Vec<String>, files: &mut F, ou
         → (result.code ≢ 6) × (K.faults out.new ≡ K.faults out.old) }
 {
     match asked(words) {
-        Some(asked) => run_image(alloc, asked.image, asked.limit, files, out),
+        Some(asked) => run_image(alloc, &asked, files, out),
         None => status_for(print_piece(b"#words\n", out), 1),
     }
 }

@@ -1,5 +1,5 @@
 use Rattle.i9_tool.proofs.Outcomes.{some_text}
-use Rattle.i9_tool.proofs.OneOutcome.{one_outcome}
+use Rattle.i9_tool.proofs.OneOutcome.{one_outcome, same_in_sets}
 use Rattle.i9_tool.proofs.laws.one_outcome.Goals as goal
 
 pub returns-clause-some : goal.returns-clause-some
@@ -10,3 +10,6 @@ returns-clause-status c = λ file limit c d s t g h. (one_outcome file limit c d
 
 pub returns-clause-text : goal.returns-clause-text
 returns-clause-text c = λ file limit c d s t g h. (one_outcome file limit c d s t g h).text
+
+pub returns-clause-sets : goal.returns-clause-sets
+returns-clause-sets c = same_in_sets

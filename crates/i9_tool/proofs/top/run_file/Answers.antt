@@ -8,7 +8,8 @@ returns-in-Ok g c = file_runs _ _ _ _ _ _ _ _ _ _ c.requires.sized c.in-Ok.ensur
 pub returns-in-Ok-refused_line : goal.returns-in-Ok-refused_line
 returns-in-Ok-refused_line g c =
     let bad = rw c.in-Err-Bad.field-0-is at c.in-Err-Bad.ensures.refused in
-    file_refused _ _ _ _ _ _ _ _ _ _ _ c.requires.sized bad (c.deref.ensures.value ∙ c.in-Ok-refused_line.ensures) c.print_piece.ensures.prints c.status_for.ensures
+    let line = rw c.in-Err-Bad.field-0-is at (c.deref.ensures.value ∙ c.in-Ok-refused_line.ensures) in
+    file_refused _ _ _ _ _ _ _ _ _ _ _ c.requires.sized bad line c.print_piece.ensures.prints c.status_for.ensures
 
 pub returns-in-Err : goal.returns-in-Err
 returns-in-Err g c = file_unread _ _ _ c.args.file.now c.args.limit _

@@ -1,6 +1,6 @@
 use Rattle.std.proofs.Common.{◌≡◌, None, rules, sym, ◌∙◌, arith}
 use Rattle.i9_machine.specs.Processor.{state_of}
-use Rattle.i9_machine.proofs.Restarts.{group_free}
+use Rattle.i9_model.proofs.AlikeSteps.{group_readable}
 use Rattle.i9_machine.proofs.processor.Processor.plan_group.Goals as goal
 
 pub controlling-requires : goal.controlling-requires
@@ -8,4 +8,4 @@ controlling-requires c =
     let none : c.group_hazard.result ≡ None = search rules in
     let few = c.requires.group in
     let same = c.argument-group.ensures in
-    (omega arith, group_free c.args.i.now (state_of c.args.self.now) c.argument-group.result (sym c.group_hazard.ensures ∙ none))
+    (omega arith, group_readable c.args.i.now (state_of c.args.self.now) c.argument-group.result (sym c.group_hazard.ensures ∙ none))

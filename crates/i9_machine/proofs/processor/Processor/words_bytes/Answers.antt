@@ -1,6 +1,6 @@
 use Rattle.std.proofs.Common.{◌≡◌, ℕ, List, ◌++◌, length, sym, ap, ◌∙◌, arith}
 use Rattle.std.proofs.lemmas.List.{length-append}
-use Rattle.i9_memory.specs.Memory.{memory_of}
+use Rattle.i9_storage.specs.Storage.{memory_in}
 use Rattle.i9_model.specs.Memory.{word_bytes}
 use Rattle.i9_model.specs.Operands.{source_words}
 use Rattle.i9_model.specs.Step.{bytes_of_words}
@@ -15,7 +15,7 @@ loop-k-init c = record { bytes = c.new-bytes.ensures; count = ap length c.new-by
 
 pub loop-k-preserved : goal.loop-k-preserved
 loop-k-preserved c =
-    let m = memory_of c.args.self.now.memory in
+    let m = memory_in c.args.self.now.storage in
     let s = state_of c.args.self.now in
     let before = c.loop-k.bytes.items in
     let word = c.word_bytes-word.result in

@@ -1,0 +1,5 @@
+pub mod ReadLines
+pub mod ReadListing
+pub mod Once
+pub mod CodeLength
+pub mod Several

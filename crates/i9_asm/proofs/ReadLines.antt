@@ -1,0 +1,215 @@
+-- A printed statement, alone or with a comment behind it, is the instruction of its line.
+use Rattle.std.proofs.Common.{◌≡◌, ℕ, ◌+◌, ◌^◌, ◌<◌, Bool, true, false, not, cond, eqb, ◌||◌, List, [], ◌∷◌, ◌++◌, length, take, None, refl, sym, ap, ◌∙◌, arith, append_assoc}
+use Rattle.std.specs.Prelude.{codes}
+use Rattle.std.specs.List.{list_all}
+use Rattle.std.specs.Fmt.{digits}
+use Rattle.std.proofs.Math.Seq.{take-append-add}
+use Rattle.std.proofs.lemmas.Bool.{and_parts, eqb-true}
+use Rattle.i9_isa.specs.declared.op.Op.{Op}
+use Rattle.i9_isa.specs.declared.op.Op.TheVariants.{Notbit}
+use Rattle.i9_isa.specs.declared.inst.Inst.{Inst}
+use Rattle.i9_isa.specs.Valid.{IsValid}
+use Rattle.i9_text.specs.Text.{space, is_blank, is_in_word}
+use Rattle.i9_asm.specs.declared.comments.Quote.TheVariants.{Outside}
+use Rattle.i9_statement.specs.Cut.{before, from, is_byte}
+use Rattle.i9_statement.specs.Values.{is_name_byte, begins_name}
+use Rattle.i9_statement.specs.Mnemonics.{mnemonic, mnemonic_text}
+use Rattle.i9_statement.specs.Fields.{fields_of, join_fields}
+use Rattle.i9_statement.specs.Instructions.{Fields, operand_fields}
+use Rattle.i9_statement.specs.Statements.{open_brace, close_brace, fields_text, spare_text, statement_text}
+use Rattle.i9_asm.specs.Lines.{code_len, without_comment, ends_head, labelled_by, labelled, Org, Data, Instruction, one_value, some_values, directive_of, item_by, item_of, label_of, Says}
+use Rattle.i9_statement.proofs.Cutting.{not_true, is_free, stops, before-cut, from-cut, free_by, all_append}
+use Rattle.i9_statement.proofs.ReadInstructions.{mnemonic_bytes}
+use Rattle.i9_statement.proofs.Classes.{apart_by, IsField}
+use Rattle.i9_statement.proofs.ReadFields.{pad, fields_of-text}
+use Rattle.i9_statement.proofs.StatementBytes.{is_statement_byte, operand_statement, statement_bytes}
+
+-- ---- comments
+
+abbrev ends_code : ℕ → Bool
+ends_code b = is_byte 35 b || is_byte 34 b
+
+pub or_false : (a b : Bool) → (a || b) ≡ false → (a ≡ false) × (b ≡ false)
+or_false true b h = absurd cc
+or_false false b h = (refl, h)
+
+code_len-clean : (w t : List ℕ) → is_free ends_code w ≡ true → code_len Outside (w ++ t) ≡ length w + code_len Outside t
+unfolding code_len
+code_len-clean [] t free = omega arith
+code_len-clean (b ∷ w) t free =
+    let h = and_parts (not (ends_code b)) (is_free ends_code w) free in
+    let e = or_false (is_byte 35 b) (is_byte 34 b) (not_true (ends_code b) h.0) in
+    let rest = code_len-clean w t h.1 in
+    rw (e.0, e.1) (omega (arith, rest))
+
+statement_clean : (w : List ℕ) → list_all is_statement_byte w ≡ true → is_free ends_code w ≡ true
+statement_clean w h = free_by is_statement_byte ends_code (λ b in_q. rw (apart_by is_statement_byte 35 b refl in_q, apart_by is_statement_byte 34 b refl in_q) refl) w h
+
+-- what may stand behind a printed statement: nothing, or a space and a comment
+pub data Tail : Type 0 where
+  NoTail : Tail
+  Comment : List ℕ → Tail
+
+abbrev pub tail_text : Tail → List ℕ
+tail_text NoTail = []
+tail_text (Comment t) = 32 ∷ 35 ∷ t
+
+-- with a comment a space is left
+abbrev pub leaves : Tail → Bool
+leaves NoTail = false
+leaves (Comment t) = true
+
+pub without_comment-tail : (w : List ℕ) (t : Tail) → list_all is_statement_byte w ≡ true → without_comment (w ++ tail_text t) ≡ w ++ pad (leaves t)
+unfolding code_len
+without_comment-tail w NoTail h =
+    ap (λ n. take n (w ++ [])) (code_len-clean w [] (statement_clean w h)) ∙ take-append-add w [] 0
+without_comment-tail w (Comment t) h =
+    ap (λ n. take n (w ++ 32 ∷ 35 ∷ t)) (code_len-clean w (32 ∷ 35 ∷ t) (statement_clean w h)) ∙ take-append-add w (32 ∷ 35 ∷ t) 1
+
+-- ---- labels
+
+abbrev pub is_space : ℕ → Bool
+is_space b = eqb b 32
+
+head_stops : (t : List ℕ) → stops is_space t ≡ true → stops ends_head t ≡ true
+head_stops [] h = refl
+head_stops (b ∷ t) h = rw h refl
+
+no_label : (s head t : List ℕ) → stops is_space t ≡ true → labelled_by s head t ≡ record { label = None; rest = s }
+no_label s head [] h = refl
+no_label s head (b ∷ t) h = let e : b ≡ 32 = eqb-true b 32 h in rw e refl
+
+pub labelled-none : (w t : List ℕ) → is_free ends_head w ≡ true → stops is_space t ≡ true → labelled (w ++ t) ≡ record { label = None; rest = w ++ t }
+unfolding labelled
+labelled-none w t free stop =
+    ap (labelled_by (w ++ t) (before ends_head (w ++ t))) (from-cut ends_head w t free (head_stops t stop))
+    ∙ no_label (w ++ t) (before ends_head (w ++ t)) t stop
+
+-- a line from its first word on, where it begins with one
+pub from_word : (c : ℕ) (w : List ℕ) → is_blank c ≡ false → from is_in_word (c ∷ w) ≡ c ∷ w
+from_word c w h = rw h refl
+
+-- ---- the items of printed lines
+
+abbrev starts_item : (ℕ → Bool) → List ℕ → Bool
+starts_item p [] = false
+starts_item p (b ∷ s) = p b
+
+starts_append : (p : ℕ → Bool) (s t : List ℕ) → starts_item p s ≡ true → starts_item p (s ++ t) ≡ true
+starts_append p [] t h = absurd cc
+starts_append p (b ∷ s) t h = h
+
+from_start : (p : ℕ → Bool) → p 32 ≡ false → p 9 ≡ false → (s : List ℕ) → starts_item p s ≡ true → from is_in_word s ≡ s
+from_start p sp tb [] h = absurd cc
+from_start p sp tb (b ∷ s) h = from_word b s (rw (apart_by p 32 b sp h, apart_by p 9 b tb h) refl)
+
+letter_first : (op : Op) → starts_item begins_name (mnemonic op) ≡ true
+unfolding mnemonic
+letter_first Notbit = refl
+letter_first _ = refl
+
+item_by-letter : (s : List ℕ) → starts_item begins_name s ≡ true → item_by s ≡ Instruction s
+item_by-letter [] h = absurd cc
+item_by-letter (b ∷ s) h = rw (apart_by begins_name 46 b refl h) refl
+
+head_free : (w : List ℕ) → list_all is_name_byte w ≡ true → is_free ends_head w ≡ true
+head_free w h = free_by is_name_byte ends_head (λ b in_q. rw (apart_by is_name_byte 32 b refl in_q, apart_by is_name_byte 9 b refl in_q, apart_by is_name_byte 58 b refl in_q) refl) w h
+
+suffix_head : (hint : Bool) → is_free ends_head (cond hint (codes ".f") []) ≡ true
+suffix_head true = refl
+suffix_head false = refl
+
+spaced_rest : (fs : Fields) (x q : Bool) (t : List ℕ) → stops is_space ((fields_text fs ++ cond x [] (space ∷ t)) ++ pad q) ≡ true
+spaced_rest [] true true t = refl
+spaced_rest [] true false t = refl
+spaced_rest [] false q t = refl
+spaced_rest (f ∷ fs) x q t = refl
+
+-- an item behind its first word, in a line with a tail
+item_of-parts : (p : ℕ → Bool) (w t : List ℕ) (tail : Tail) → p 32 ≡ false → p 9 ≡ false → starts_item p w ≡ true → is_free ends_head w ≡ true → stops is_space (t ++ pad (leaves tail)) ≡ true
+    → list_all is_statement_byte (w ++ t) ≡ true → item_of ((w ++ t) ++ tail_text tail) ≡ item_by (w ++ (t ++ pad (leaves tail)))
+unfolding item_of
+item_of-parts p w t tail sp tb first head stop bytes =
+    let q = pad (leaves tail) in
+    ap (λ s. item_by (labelled (from is_in_word s)).rest) (without_comment-tail (w ++ t) tail bytes ∙ append_assoc w t q)
+    ∙ ap (λ s. item_by (labelled s).rest) (from_start p sp tb (w ++ (t ++ q)) (starts_append p w (t ++ q) first))
+    ∙ ap (λ l. item_by l.rest) (labelled-none w (t ++ q) head stop)
+
+label_of-parts : (p : ℕ → Bool) (w t : List ℕ) (tail : Tail) → p 32 ≡ false → p 9 ≡ false → starts_item p w ≡ true → is_free ends_head w ≡ true → stops is_space (t ++ pad (leaves tail)) ≡ true
+    → list_all is_statement_byte (w ++ t) ≡ true → label_of ((w ++ t) ++ tail_text tail) ≡ None
+label_of-parts p w t tail sp tb first head stop bytes =
+    let q = pad (leaves tail) in
+    ap (λ s. (labelled (from is_in_word s)).label) (without_comment-tail (w ++ t) tail bytes ∙ append_assoc w t q)
+    ∙ ap (λ s. (labelled s).label) (from_start p sp tb (w ++ (t ++ q)) (starts_append p w (t ++ q) first))
+    ∙ ap (λ l. l.label) (labelled-none w (t ++ q) head stop)
+
+-- the statement of a valid instruction
+pub says_statement : (ip : ℕ) (i : Inst) (bits : ℕ) (tail : Tail) → bits < 2 ^ 32 → IsValid i → Says (statement_text ip i bits ++ tail_text tail) (Instruction (statement_text ip i bits ++ pad (leaves tail)))
+unfolding statement_text
+says_statement ip i bits tail small v =
+    let m = mnemonic_text i.op i.hint in
+    let t = fields_text (operand_fields ip i) ++ spare_text bits in
+    let q = pad (leaves tail) in
+    let first = starts_append begins_name (mnemonic i.op) (cond i.hint (codes ".f") []) (letter_first i.op) in
+    let head = all_append (λ b. not (ends_head b)) (mnemonic i.op) (cond i.hint (codes ".f") []) (head_free (mnemonic i.op) (mnemonic_bytes i.op)) (suffix_head i.hint) in
+    let stop = spaced_rest (operand_fields ip i) (eqb bits 0) (leaves tail) (open_brace ∷ (digits 16 true bits ++ close_brace ∷ [])) in
+    let bytes = statement_bytes ip i bits small v in
+    record {
+      item = item_of-parts begins_name m t tail refl refl first head stop bytes ∙ item_by-letter (m ++ (t ++ q)) (starts_append begins_name m (t ++ q) first) ∙ ap Instruction (sym (append_assoc m t q));
+      label = label_of-parts begins_name m t tail refl refl first head stop bytes;
+    }
+
+-- ---- directives with one operand
+
+abbrev is_dot : ℕ → Bool
+is_dot b = eqb b 46
+
+-- the name of a directive, by a test that computes
+pub record IsDirective (d : List ℕ) : Type 0 where
+  pub dot : starts_item is_dot d ≡ true
+  pub head : is_free ends_head d ≡ true
+  pub bytes : list_all is_statement_byte d ≡ true
+
+item_by-dot : (s : List ℕ) → starts_item is_dot s ≡ true → item_by s ≡ directive_of (before is_blank s) (from is_blank s)
+item_by-dot [] h = absurd cc
+item_by-dot (b ∷ s) h = rw h refl
+
+blank_head : (w : List ℕ) → is_free ends_head w ≡ true → is_free is_blank w ≡ true
+blank_head [] h = refl
+blank_head (b ∷ w) h =
+    let parts = and_parts (not (ends_head b)) (is_free ends_head w) h in
+    let e = or_false (is_blank b) (is_byte 58 b) (not_true (ends_head b) parts.0) in
+    rw e.0 (blank_head w parts.1)
+
+-- what a directive with this operand says
+pub says_directive : (d f : List ℕ) (tail : Tail) → IsDirective d → IsField f → Says ((d ++ 32 ∷ f) ++ tail_text tail) (directive_of d (32 ∷ f ++ pad (leaves tail)))
+says_directive d f tail h field =
+    let q = pad (leaves tail) in
+    let bytes = all_append is_statement_byte d (32 ∷ f) h.bytes (operand_statement f field.bytes) in
+    let free = blank_head d h.head in
+    record {
+      item = item_of-parts is_dot d (32 ∷ f) tail refl refl h.dot h.head refl bytes
+          ∙ item_by-dot (d ++ (32 ∷ f ++ q)) (starts_append is_dot d (32 ∷ f ++ q) h.dot)
+          ∙ ap (λ s. directive_of s (from is_blank (d ++ (32 ∷ f ++ q)))) (before-cut is_blank d (32 ∷ f ++ q) free refl)
+          ∙ ap (directive_of d) (from-cut is_blank d (32 ∷ f ++ q) free refl);
+      label = label_of-parts is_dot d (32 ∷ f) tail refl refl h.dot h.head refl bytes;
+    }
+
+one_field : (f : List ℕ) (q : Bool) → IsField f → fields_of (32 ∷ f ++ pad q) ≡ f ∷ []
+unfolding join_fields
+one_field f q h = fields_of-text (f ∷ []) q (h, tt)
+
+pub says_word : (f : List ℕ) (tail : Tail) → IsField f → Says ((codes ".word" ++ 32 ∷ f) ++ tail_text tail) (Data 4 (f ∷ []))
+says_word f tail h =
+    let s = says_directive (codes ".word") f tail (record { dot = refl; head = refl; bytes = refl }) h in
+    record { item = s.item ∙ ap (some_values 4) (one_field f (leaves tail) h); label = s.label }
+
+pub says_byte : (f : List ℕ) (tail : Tail) → IsField f → Says ((codes ".byte" ++ 32 ∷ f) ++ tail_text tail) (Data 1 (f ∷ []))
+says_byte f tail h =
+    let s = says_directive (codes ".byte") f tail (record { dot = refl; head = refl; bytes = refl }) h in
+    record { item = s.item ∙ ap (some_values 1) (one_field f (leaves tail) h); label = s.label }
+
+pub says_org : (f : List ℕ) (tail : Tail) → IsField f → Says ((codes ".org" ++ 32 ∷ f) ++ tail_text tail) (Org f)
+says_org f tail h =
+    let s = says_directive (codes ".org") f tail (record { dot = refl; head = refl; bytes = refl }) h in
+    record { item = s.item ∙ ap (one_value Org) (one_field f (leaves tail) h); label = s.label }

@@ -1,0 +1,407 @@
+-- The lines of a listing assemble to the bytes that they were made of.
+use Rattle.std.proofs.Common.{◌≡◌, ℕ, zero, suc, ◌+◌, ◌*◌, ◌%◌, ◌^◌, ◌<◌, ◌≤◌, Bool, true, false, cond, eqb, ltb, ◌&&◌, List, [], ◌∷◌, ◌++◌, length, take, drop, filter, get_or, Some, None, Result, Ok, Err, refl, sym, ap, subst, ◌∙◌, arith, lit≤, append_assoc, add-zero, inl, inr}
+use Rattle.std.specs.Prelude.{codes, is_some, slice_index}
+use Rattle.std.specs.List.{list_all, flat_map, AllByRecursion}
+use Rattle.std.specs.Int.{w32, to_le_bytes, from_le_bytes}
+use Rattle.std.specs.Int.Bits.{bit_and}
+use Rattle.std.proofs.lemmas.Bool.{lt-ltb, le-ltb, ltb-false, cases_Bool}
+use Rattle.std.proofs.Math.Seq.{take-add}
+use Rattle.std.proofs.lemmas.List.{append-nil, length-take-le, length-drop, length-append, take-append-drop}
+use Rattle.i9_text.specs.FirstFault.{SaysAll}
+use Rattle.i9_text.proofs.FirstFaultOnce.{SaysAll-append}
+use Rattle.std.proofs.lemmas.Nat.{and_le_l, le_bytes_4}
+use Rattle.i9_isa.specs.declared.inst.Inst.{Inst}
+use Rattle.i9_isa.specs.declared.inst.BadWord.{BadWord}
+use Rattle.i9_isa.specs.Words.{words_of, decoded}
+use Rattle.i9_isa.proofs.Decoding.{decoded_encodes}
+use Rattle.i9_decode.specs.Ignored.{ignored_bits}
+use Rattle.i9_decode.proofs.ValidWords.{encodes_valid}
+use Rattle.i9_text.specs.Text.{space}
+use Rattle.i9_text.specs.Written.{word_text, byte_text}
+use Rattle.i9_statement.specs.Noted.{least}
+use Rattle.i9_statement.specs.Values.{Names, is_name_byte, settled}
+use Rattle.i9_statement.specs.Printed.{hex_text, hex_byte_text}
+use Rattle.i9_statement.specs.Statements.{statement_text}
+use Rattle.i9_asm.specs.Lines.{Item, Org, Data, Instruction, Says}
+use Rattle.i9_statement.specs.Codes.{taken}
+use Rattle.i9_asm.specs.Places.{is_ascii, all_names, no_names, if_fine, Place, statement_size, size_of, moved_to, assigned}
+use Rattle.i9_asm.specs.Source.{is_kept, start_source, Gives, gives_instruction, gives_data, gives_move, item_fault, append_last, Piece, Source, most_bytes, line_fault, Assembles, data_value, fits_width, low_bytes, past_bytes, HasRoom, AddsBytes}
+use Rattle.i9_asm.specs.Listing.{text_by, text_of, printed_words, printed_bytes, word_at, whole_size, is_single, line_size, whole_text, said_text, noted_words, first_line, Lists, lists_none, lists_line, org_line, ListsAll, lists_all, lists_run}
+use Rattle.i9_asm.specs.Laws.{IsLow, IsRun, bytes_in, IsAssembly}
+use Rattle.i9_statement.proofs.Cutting.{all_by, all_append}
+use Rattle.i9_text.proofs.WrittenDigits.{word_digits, byte_digits}
+use Rattle.i9_statement.proofs.NameBytes.{name_bytes, low_name}
+use Rattle.i9_statement.proofs.ReadValues.{value_of-hex, value_of-hex_byte}
+use Rattle.i9_statement.proofs.Classes.{hex_field, hex_byte_field}
+use Rattle.i9_statement.proofs.ReadFields.{pad}
+use Rattle.i9_statement.proofs.ReadStatements.{statement_of-text}
+use Rattle.i9_statement.proofs.StatementBytes.{is_statement_byte, low_statement, statement_bytes, operand_statement}
+use Rattle.i9_statement.proofs.StatementWords.{and_again, one_or_two, statement_stands}
+use Rattle.i9_asm.proofs.ReadLines.{Tail, NoTail, Comment, tail_text, leaves, or_false, says_statement, says_word, says_byte, says_org}
+
+-- ---- one line
+
+statement_ascii : (w : List ℕ) → list_all is_statement_byte w ≡ true → list_all is_ascii w ≡ true
+statement_ascii w h = all_by is_statement_byte is_ascii (λ b in_q. lt-ltb b 128 (low_statement b in_q)) w h
+
+-- an item that gives bytes and no more
+record IsPlain (names : Names) (p : Place) (item : Item) (bs : List ℕ) : Type 0 where
+  gives : Gives names p item bs
+  sound : item_fault names p item ≡ None
+  size : size_of p item ≡ length bs
+  stays : moved_to p item ≡ None
+  known : assigned p item ≡ p.known
+
+plain_assembles : (names : Names) (s : Source) (line bs : List ℕ) (item : Item) → Says line item → list_all is_ascii line ≡ true → IsPlain names s.place item bs → HasRoom s (length bs) → Assembles names s line (past_bytes s bs)
+unfolding line_fault
+plain_assembles names s line bs item says ascii plain room =
+    let inside : ltb (2 ^ 32) (s.place.location + length bs) ≡ false = le-ltb _ _ room.inside in
+    let few : ltb most_bytes (s.total + length bs) ≡ false = le-ltb _ _ room.few in
+    record {
+      bytes = bs;
+      sound = rw (ascii, says.label, says.item, plain.sound, plain.size, inside, few) refl;
+      gives = rw (says.label, says.item) plain.gives;
+      place = rw (says.label, says.item, ascii, plain.stays, plain.size, plain.known) refl;
+      pieces = rw (says.label, says.item, plain.stays) refl;
+      total = refl;
+    }
+
+-- ---- the lines of a run
+
+-- a number in hexadecimal digits as a value
+name_ascii : (w : List ℕ) → list_all is_name_byte w ≡ true → list_all is_ascii w ≡ true
+name_ascii w h = all_by is_name_byte is_ascii (λ n x. lt-ltb n 128 (low_name n x)) w h
+
+digits_ascii : (n : ℕ) → list_all is_ascii (word_text n) ≡ true
+digits_ascii n = name_ascii (word_text n) (name_bytes (word_text n) 16 (lit≤ tt) (word_digits n))
+
+-- `.word` with a number
+plain_word : (names : Names) (p : Place) (w : ℕ) → w < 2 ^ 32 → IsPlain names p (Data 4 (hex_text w ∷ [])) (to_le_bytes w32 w)
+plain_word names p w h =
+    let v = value_of-hex names w h in
+    let fits : fits_width 4 w ≡ true = rw (lt-ltb w (2 ^ 32) h) refl in
+    record {
+      gives = subst (λ bs. Gives names p (Data 4 (hex_text w ∷ [])) bs) (ap (λ o. flat_map (λ n. low_bytes 4 n) ((data_value 4 o).value ∷ [])) v ∙ rw fits refl) (gives_data 4 (hex_text w ∷ []));
+      sound = ap (λ o. least (data_value 4 o).fault None) v ∙ rw fits refl;
+      size = ap (λ o. cond (is_some o && true) 4 0) (value_of-hex no_names w h);
+      stays = refl;
+      known = refl;
+    }
+
+-- so many bytes have the words of an instruction
+taken_length : (i : Inst) (w0 w1 : ℕ) → 4 * words_of i ≡ length (flat_map (to_le_bytes w32) (taken w0 w1 i))
+taken_length i w0 w1 = elim (one_or_two i.ea.mode) [
+  | inl one ↦ rw one refl
+  | inr two ↦ rw two refl
+]
+
+-- an instruction
+plain_instruction : (names : Names) (p : Place) (i : Inst) (w0 w1 : ℕ) (q : Bool) → p.location < 2 ^ 32 → w0 < 2 ^ 32 → w1 < 2 ^ 32 → decoded w0 w1 ≡ Ok i
+    → IsPlain names p (Instruction (statement_text p.location i (bit_and w0 (ignored_bits i)) ++ pad q)) (flat_map (to_le_bytes w32) (taken w0 w1 i))
+plain_instruction names p i w0 w1 q low h0 h1 is =
+    let bits = bit_and w0 (ignored_bits i) in
+    let v = encodes_valid w0 w1 i h1 (decoded_encodes w0 w1 i is) in
+    let small : bits < 2 ^ 32 = omega (arith, and_le_l w0 (ignored_bits i)) in
+    let text = statement_text p.location i bits ++ pad q in
+    let read = λ (ns : Names). statement_of-text p.location ns i bits q low small v (and_again w0 (ignored_bits i)) in
+    record {
+      gives = gives_instruction text (taken w0 w1 i) (statement_stands names p.location w0 w1 i q low h0 h1 is);
+      sound = ap (λ n. n.fault) (read names);
+      size = ap statement_size (read no_names) ∙ taken_length i w0 w1;
+      stays = refl;
+      known = refl;
+    }
+
+-- ---- bytes of a run
+
+-- four bytes as a word and back
+word_bytes : (bs : List ℕ) → length bs ≡ 4 → ((i : ℕ) → get_or bs i 0 < 256) → to_le_bytes w32 (from_le_bytes w32 bs) ≡ bs
+word_bytes bs len low = le_bytes_4 bs (from_le_bytes w32 bs) len low refl
+
+low_at : (bs : List ℕ) → IsLow bs → (i : ℕ) → get_or bs i 0 < 256
+low_at [] h i = omega arith
+low_at (b ∷ bs) h zero = h.0
+low_at (b ∷ bs) h (suc i) = low_at bs h.1 i
+
+low_take : (n : ℕ) (bs : List ℕ) → IsLow bs → IsLow (take n bs)
+low_take zero bs h = tt
+low_take (suc n) [] h = tt
+low_take (suc n) (b ∷ bs) h = (h.0, low_take n bs h.1)
+
+low_drop : (n : ℕ) (bs : List ℕ) → IsLow bs → IsLow (drop n bs)
+low_drop zero bs h = h
+low_drop (suc n) [] h = tt
+low_drop (suc n) (b ∷ bs) h = low_drop n bs h.1
+
+-- the word at a place that is there
+word_at-bytes : (k : ℕ) (bs : List ℕ) → k + 4 ≤ length bs → IsLow bs → to_le_bytes w32 (word_at k bs) ≡ take 4 (drop k bs)
+word_at-bytes k bs room low =
+    word_bytes (take 4 (drop k bs)) (length-take-le 4 (drop k bs) (omega (arith, length-drop k bs))) (low_at (take 4 (drop k bs)) (low_take 4 (drop k bs) (low_drop k bs low)))
+
+word_small : (xs : List ℕ) → ((i : ℕ) → get_or xs i 0 < 256) → from_le_bytes w32 xs < 2 ^ 32
+word_small xs h =
+    let h0 : slice_index xs 0 < 256 = h 0 in
+    let h1 : slice_index xs 1 < 256 = h 1 in
+    let h2 : slice_index xs 2 < 256 = h 2 in
+    let h3 : slice_index xs 3 < 256 = h 3 in
+    omega arith
+
+word_at-small : (k : ℕ) (bs : List ℕ) → IsLow bs → word_at k bs < 2 ^ 32
+word_at-small k bs low = word_small (take 4 (drop k bs)) (low_at (take 4 (drop k bs)) (low_take 4 (drop k bs) (low_drop k bs low)))
+
+-- a line that says an item which gives bytes and no more
+record LineSays (names : Names) (p : Place) (line bs : List ℕ) : Type 0 where
+  item : Item
+  says : Says line item
+  ascii : list_all is_ascii line ≡ true
+  plain : IsPlain names p item bs
+
+tail_ascii : (said : List ℕ) (t : Tail) → list_all is_ascii said ≡ true → list_all is_ascii (tail_text t) ≡ true → list_all is_ascii (said ++ tail_text t) ≡ true
+tail_ascii said t h g = all_append is_ascii said (tail_text t) h g
+
+-- a byte
+byte_line : (names : Names) (p : Place) (b : ℕ) (t : Tail) → b < 256 → list_all is_ascii (tail_text t) ≡ true → LineSays names p ((codes ".byte " ++ hex_byte_text b) ++ tail_text t) (b ∷ [])
+byte_line names p b t h ascii =
+    let f = hex_byte_text b in
+    let v = value_of-hex_byte names b h in
+    let fits : fits_width 1 b ≡ true = rw (lt-ltb b 256 h) refl in
+    let low : b % 256 ≡ b = omega arith in
+    record {
+      item = Data 1 (f ∷ []);
+      says = says_byte f t (hex_byte_field b h);
+      ascii = tail_ascii (codes ".byte " ++ f) t (statement_ascii (codes ".byte " ++ f) (operand_statement f (hex_byte_field b h).bytes)) ascii;
+      plain = record {
+        gives = subst (λ bs. Gives names p (Data 1 (f ∷ [])) bs) (ap (λ o. flat_map (λ n. low_bytes 1 n) ((data_value 1 o).value ∷ [])) v ∙ rw (fits, low) refl) (gives_data 1 (f ∷ []));
+        sound = ap (λ o. least (data_value 1 o).fault None) v ∙ rw fits refl;
+        size = ap (λ o. cond (is_some o && true) 1 0) (value_of-hex_byte no_names b h);
+        stays = refl;
+        known = refl;
+      };
+    }
+
+-- a word
+word_line : (names : Names) (p : Place) (w : ℕ) (t : Tail) → w < 2 ^ 32 → list_all is_ascii (tail_text t) ≡ true → LineSays names p ((codes ".word " ++ hex_text w) ++ tail_text t) (to_le_bytes w32 w)
+word_line names p w t h ascii =
+    let f = hex_text w in
+    record {
+      item = Data 4 (f ∷ []);
+      says = says_word f t (hex_field w);
+      ascii = tail_ascii (codes ".word " ++ f) t (statement_ascii (codes ".word " ++ f) (operand_statement f (hex_field w).bytes)) ascii;
+      plain = plain_word names p w h;
+    }
+
+-- an instruction
+instruction_line : (names : Names) (p : Place) (i : Inst) (w0 w1 : ℕ) (t : Tail) → p.location < 2 ^ 32 → w0 < 2 ^ 32 → w1 < 2 ^ 32 → decoded w0 w1 ≡ Ok i → list_all is_ascii (tail_text t) ≡ true
+    → LineSays names p (text_by p.location w0 (Ok i) ++ tail_text t) (flat_map (to_le_bytes w32) (taken w0 w1 i))
+instruction_line names p i w0 w1 t low h0 h1 is ascii =
+    let bits = bit_and w0 (ignored_bits i) in
+    let v = encodes_valid w0 w1 i h1 (decoded_encodes w0 w1 i is) in
+    let small : bits < 2 ^ 32 = omega (arith, and_le_l w0 (ignored_bits i)) in
+    record {
+      item = Instruction (statement_text p.location i bits ++ pad (leaves t));
+      says = says_statement p.location i bits t small v;
+      ascii = tail_ascii (statement_text p.location i bits) t (statement_ascii (statement_text p.location i bits) (statement_bytes p.location i bits small v)) ascii;
+      plain = plain_instruction names p i w0 w1 (leaves t) low h0 h1 is;
+    }
+
+-- two words that are there
+eight : (bs : List ℕ) → 8 ≤ length bs → IsLow bs → to_le_bytes w32 (word_at 0 bs) ++ to_le_bytes w32 (word_at 4 bs) ≡ take 8 bs
+eight bs room low =
+    ap (λ x. x ++ to_le_bytes w32 (word_at 4 bs)) (word_at-bytes 0 bs (omega arith) low)
+    ∙ ap (λ x. take 4 bs ++ x) (word_at-bytes 4 bs room low)
+    ∙ sym (take-add 4 4 bs)
+
+-- where the instruction is whole, its words are the bytes of the line
+whole_bytes : (i : Inst) (bs : List ℕ) → IsLow bs → 4 ≤ length bs → ltb (length bs) (4 * words_of i) ≡ false → flat_map (to_le_bytes w32) (taken (word_at 0 bs) (word_at 4 bs) i) ≡ take (4 * words_of i) bs
+whole_bytes i bs low four whole =
+    let room = ltb-false _ _ whole in
+    elim (one_or_two i.ea.mode) [
+      | inl one ↦ rw one (word_at-bytes 0 bs (omega arith) low)
+      | inr two ↦ rw two (eight bs (omega (arith, two)) low)
+    ]
+
+-- the comment of a line
+abbrev comment_of : ℕ → List ℕ → Tail
+comment_of a bs = Comment (space ∷ (word_text a ++ noted_words (line_size a bs) bs))
+
+chosen_ascii : (q : Bool) (v w : List ℕ) → list_all is_ascii v ≡ true → list_all is_ascii w ≡ true → list_all is_ascii (cond q v w) ≡ true
+chosen_ascii true v w hv hw = hv
+chosen_ascii false v w hv hw = hw
+
+noted_ascii : (n : ℕ) (bs : List ℕ) → IsLow bs → list_all is_ascii (noted_words n bs) ≡ true
+noted_ascii n bs low =
+    let byte = name_ascii (byte_text (get_or bs 0 0)) (name_bytes (byte_text (get_or bs 0 0)) 16 (lit≤ tt) (byte_digits (get_or bs 0 0) (low_at bs low 0))) in
+    let one = digits_ascii (word_at 0 bs) in
+    chosen_ascii (eqb n 1) (space ∷ byte_text (get_or bs 0 0)) _ byte
+    (chosen_ascii (eqb n 4) (space ∷ word_text (word_at 0 bs)) _ one (all_append is_ascii (space ∷ word_text (word_at 0 bs)) (space ∷ word_text (word_at 4 bs)) one (digits_ascii (word_at 4 bs))))
+
+comment_ascii : (a : ℕ) (bs : List ℕ) → IsLow bs → list_all is_ascii (tail_text (comment_of a bs)) ≡ true
+comment_ascii a bs low = all_append is_ascii (word_text a) (noted_words (line_size a bs) bs) (digits_ascii a) (noted_ascii (line_size a bs) bs low)
+
+single_small : (a : ℕ) (xs : List ℕ) → is_single a xs ≡ false → 4 ≤ length xs
+single_small a xs h = ltb-false _ _ (or_false (ltb (length xs) 4) (ltb 0 (a % 4)) h).0
+
+-- the first line of a run says its first bytes
+line_says : (names : Names) (p : Place) (b : ℕ) (bs : List ℕ) (t : Tail) → IsLow (b ∷ bs) → p.location + length (b ∷ bs) ≤ 2 ^ 32 → list_all is_ascii (tail_text t) ≡ true
+    → LineSays names p (said_text p.location (b ∷ bs) ++ tail_text t) (take (line_size p.location (b ∷ bs)) (b ∷ bs))
+line_says names p b bs t low room ascii = elim (cases_Bool (is_single p.location (b ∷ bs))) [
+  | inl single ↦ rw single (byte_line names p b t low.0 ascii)
+  | inr many ↦ rw many (by_decoded (single_small p.location (b ∷ bs) many) (decoded (word_at 0 (b ∷ bs)) (word_at 4 (b ∷ bs))) refl)
+]
+  where
+    number : 4 ≤ length (b ∷ bs) → LineSays names p ((codes ".word " ++ hex_text (word_at 0 (b ∷ bs))) ++ tail_text t) (take 4 (b ∷ bs))
+    number four =
+        subst (λ ys. LineSays names p ((codes ".word " ++ hex_text (word_at 0 (b ∷ bs))) ++ tail_text t) ys) (word_at-bytes 0 (b ∷ bs) (omega arith) low)
+        (word_line names p (word_at 0 (b ∷ bs)) t (word_at-small 0 (b ∷ bs) low) ascii)
+
+    by_decoded : 4 ≤ length (b ∷ bs) → (r : Result Inst BadWord) → decoded (word_at 0 (b ∷ bs)) (word_at 4 (b ∷ bs)) ≡ r
+        → LineSays names p (whole_text p.location (b ∷ bs) r ++ tail_text t) (take (whole_size r (length (b ∷ bs))) (b ∷ bs))
+    by_decoded four (Err e) is = number four
+    by_decoded four (Ok i) is = elim (cases_Bool (ltb (length (b ∷ bs)) (4 * words_of i))) [
+      | inl cut ↦ rw cut (number four)
+      | inr whole ↦ rw whole
+          (subst (λ ys. LineSays names p (text_by p.location (word_at 0 (b ∷ bs)) (Ok i) ++ tail_text t) ys) (whole_bytes i (b ∷ bs) low four whole)
+          (instruction_line names p i (word_at 0 (b ∷ bs)) (word_at 4 (b ∷ bs)) t (omega arith) (word_at-small 0 (b ∷ bs) low) (word_at-small 4 (b ∷ bs) low) is ascii))
+    ]
+
+-- ---- runs
+
+line_assembles : (names : Names) (s : Source) (b : ℕ) (bs : List ℕ) → IsLow (b ∷ bs) → HasRoom s (length (b ∷ bs)) → line_size s.place.location (b ∷ bs) ≤ length (b ∷ bs)
+    → Assembles names s (first_line s.place.location (b ∷ bs)) (past_bytes s (take (line_size s.place.location (b ∷ bs)) (b ∷ bs)))
+line_assembles names s b bs low room few =
+    let a = s.place.location in
+    let xs = b ∷ bs in
+    let n = line_size a xs in
+    let said = line_says names s.place b bs (comment_of a xs) low room.inside (comment_ascii a xs low) in
+    let len : length (take n xs) ≡ n = length-take-le n xs few in
+    plain_assembles names s (first_line a xs) (take n xs) said.item said.says said.ascii said.plain (record { inside = omega (arith, room.inside); few = omega (arith, room.few) })
+
+line_size-le : (a : ℕ) (b : ℕ) (bs : List ℕ) → line_size a (b ∷ bs) ≤ length (b ∷ bs)
+line_size-le a b bs = elim (cases_Bool (is_single a (b ∷ bs))) [
+  | inl single ↦ rw single (omega arith)
+  | inr many ↦ rw many (whole_size-le (decoded (word_at 0 (b ∷ bs)) (word_at 4 (b ∷ bs))) (length (b ∷ bs)) (single_small a (b ∷ bs) many))
+]
+  where
+    whole_size-le : (r : Result Inst BadWord) (n : ℕ) → 4 ≤ n → whole_size r n ≤ n
+    whole_size-le (Err e) n four = four
+    whole_size-le (Ok i) n four = elim (cases_Bool (ltb n (4 * words_of i))) [
+      | inl cut ↦ rw cut four
+      | inr whole ↦ rw whole (ltb-false _ _ whole)
+    ]
+
+append_nothing : (ps : List Piece) → append_last ps [] ≡ ps
+append_nothing [] = refl
+append_nothing (p ∷ []) = ap (λ bs. (p.0, bs) ∷ []) (append-nil p.1)
+append_nothing (p ∷ q ∷ ps) = ap (λ qs. p ∷ qs) (append_nothing (q ∷ ps))
+
+append_twice : (ps : List Piece) (u v : List ℕ) → append_last (append_last ps u) v ≡ append_last ps (u ++ v)
+append_twice [] u v = refl
+append_twice (p ∷ []) u v = ap (λ bs. (p.0, bs) ∷ []) (append_assoc p.1 u v)
+append_twice (p ∷ q ∷ []) u v = ap (λ bs. p ∷ (q.0, bs) ∷ []) (append_assoc q.1 u v)
+append_twice (p ∷ q ∷ r ∷ ps) u v = ap (λ qs. p ∷ qs) (append_twice (q ∷ r ∷ ps) u v)
+
+append_new : (ps : List Piece) (a : ℕ) (bs : List ℕ) → append_last (ps ++ (a, []) ∷ []) bs ≡ ps ++ (a, bs) ∷ []
+append_new [] a bs = refl
+append_new (p ∷ []) a bs = refl
+append_new (p ∷ q ∷ ps) a bs = ap (λ qs. p ∷ qs) (append_new (q ∷ ps) a bs)
+
+past_nothing : (s : Source) → past_bytes s [] ≡ s
+past_nothing s = rw (add-zero, add-zero, append_nothing s.pieces) refl
+
+past_both : (s : Source) (u v : List ℕ) → past_bytes (past_bytes s u) v ≡ past_bytes s (u ++ v)
+past_both s u v =
+    let l : s.place.location + length u + length v ≡ s.place.location + length (u ++ v) = omega (arith, length-append u v) in
+    let t : s.total + length u + length v ≡ s.total + length (u ++ v) = omega (arith, length-append u v) in
+    rw (l, t, append_twice s.pieces u v) refl
+
+-- the lines of a run
+run_assembles : (names : Names) (a : ℕ) (bs : List ℕ) (lines : List (List ℕ)) → Lists a bs lines → (s : Source) → s.place.location ≡ a → IsLow bs → HasRoom s (length bs) → SaysAll (Assembles names) s lines (past_bytes s bs)
+run_assembles names _ _ _ (lists_none a) s at low room = sym (past_nothing s)
+run_assembles names _ _ _ (lists_line a b bs lines rest) s at low room =
+    let xs = b ∷ bs in
+    let n = line_size a xs in
+    let few = line_size-le a b bs in
+    let next = past_bytes s (take n xs) in
+    let len : length (take n xs) ≡ n = length-take-le n xs few in
+    let left = length-drop n xs in
+    let first : Assembles names s (first_line a xs) next =
+    subst (λ x. Assembles names s (first_line x xs) (past_bytes s (take (line_size x xs) xs))) at (line_assembles names s b bs low room (line_size-le s.place.location b bs)) in
+    let more = run_assembles names (a + n) (drop n xs) lines rest next (omega (arith, at)) (low_drop n xs low) (record { inside = omega (arith, room.inside); few = omega (arith, room.few) }) in
+    (next, first, subst (λ t. SaysAll (Assembles names) next lines t) (past_both s (take n xs) (drop n xs) ∙ ap (past_bytes s) (take-append-drop n xs)) more)
+
+-- ---- whole listings
+
+-- lines assemble without a fault behind a source, to these segments
+record Relists (names : Names) (s : Source) (lines : List (List ℕ)) (runs : List Piece) : Type 0 where
+  end : Source
+  assembled : SaysAll (Assembles names) s lines end
+  pieces : end.pieces ≡ s.pieces ++ runs
+  known : end.place.known ≡ s.place.known
+
+-- a new segment
+abbrev begun : Source → ℕ → Source
+begun s a = record { place = record { location = a; known = s.place.known }; pieces = s.pieces ++ (a, []) ∷ []; total = s.total }
+
+org_assembles : (names : Names) (s : Source) (a : ℕ) → a < 2 ^ 32 → s.place.location ≤ 2 ^ 32 → s.total ≤ most_bytes → Assembles names s (org_line a) (begun s a)
+unfolding line_fault
+org_assembles names s a low here few =
+    let f = hex_text a in
+    let line = org_line a in
+    let says : Says line (Org f) = subst (λ l. Says l (Org f)) (append-nil line) (says_org f NoTail (hex_field a)) in
+    let v = value_of-hex s.place.known a low in
+    let ascii : list_all is_ascii line ≡ true = statement_ascii line (operand_statement f (hex_field a).bytes) in
+    let moves : moved_to s.place (Org f) ≡ Some a = ap (λ o. if_fine (settled o) (Some (settled o).value)) v in
+    let sound : item_fault names s.place (Org f) ≡ None = ap (λ o. (settled o).fault) v in
+    let inside : ltb (2 ^ 32) (s.place.location + 0) ≡ false = le-ltb _ _ (omega arith) in
+    let small : ltb most_bytes (s.total + 0) ≡ false = le-ltb _ _ (omega arith) in
+    record {
+      bytes = [];
+      sound = rw (ascii, says.label, says.item, sound, inside, small) refl;
+      gives = rw (says.label, says.item) (gives_move f);
+      place = rw (says.label, says.item, ascii, moves) refl;
+      pieces = rw (says.label, says.item, moves) (sym (append_nothing (s.pieces ++ (a, []) ∷ [])));
+      total = sym (add-zero s.total);
+    }
+
+listing_assembles : (names : Names) (runs : List Piece) (lines : List (List ℕ)) → ListsAll runs lines → (s : Source) → AllByRecursion IsRun runs → s.place.location ≤ 2 ^ 32 → s.total + bytes_in runs ≤ most_bytes
+    → Relists names s lines runs
+listing_assembles names _ _ lists_all s runs here few = record { end = s; assembled = refl; pieces = sym (append-nil s.pieces); known = refl }
+listing_assembles names _ _ (lists_run a bs runs lines more run rest) s h here few =
+    let inside = h.0.inside in
+    let some = h.0.some in
+    let b = begun s a in
+    let t = past_bytes b bs in
+    let first = org_assembles names s a (omega arith) here (omega arith) in
+    let body = run_assembles names a bs lines run b refl h.0.low (record { inside = inside; few = omega arith }) in
+    let after = listing_assembles names runs more rest t h.1 inside (omega arith) in
+    record {
+      end = after.end;
+      assembled = (b, first, SaysAll-append (Assembles names) b t after.end lines more body after.assembled);
+      pieces = after.pieces ∙ ap (λ ps. ps ++ runs) (append_new s.pieces a bs) ∙ append_assoc s.pieces ((a, bs) ∷ []) runs;
+      known = after.known;
+    }
+
+kept_runs : (runs : List Piece) → AllByRecursion IsRun runs → filter is_kept ((0, []) ∷ runs) ≡ runs
+kept_runs [] h = refl
+kept_runs (run ∷ runs) h = rw (lt-ltb 0 (length run.1) h.0.some) (ap (λ rs. run ∷ rs) (kept_runs runs h.1))
+
+-- a listing is a source without fault, and its segments are the runs
+pub listing_is_assembly : (runs : List Piece) (lines : List (List ℕ)) → ListsAll runs lines → AllByRecursion IsRun runs → bytes_in runs ≤ most_bytes → IsAssembly lines runs
+listing_is_assembly runs lines listed h few =
+    let r = listing_assembles (all_names lines) runs lines listed start_source h (omega arith) (omega arith) in
+    record { end = r.end; assembled = r.assembled; kept = ap (filter is_kept) r.pieces ∙ kept_runs runs h }
+
+-- ---- the statement of two words
+
+adds_by : (names : Names) (w0 w1 : ℕ) (r : Result Inst BadWord) (s : Source) → s.place.location < 2 ^ 32 → w0 < 2 ^ 32 → w1 < 2 ^ 32 → decoded w0 w1 ≡ r → LineSays names s.place (text_by s.place.location w0 r ++ tail_text NoTail) (flat_map (to_le_bytes w32) (printed_words w0 w1 r))
+adds_by names w0 w1 (Ok i) s low h0 h1 is = instruction_line names s.place i w0 w1 NoTail low h0 h1 is refl
+adds_by names w0 w1 (Err e) s low h0 h1 is = word_line names s.place w0 NoTail h0 refl
+
+-- at its address it adds the words that it was printed of
+pub text_of-adds : (names : Names) (ip w0 w1 : ℕ) → ip < 2 ^ 32 → w0 < 2 ^ 32 → w1 < 2 ^ 32 → AddsBytes names ip (text_of ip w0 w1) (printed_bytes w0 w1)
+unfolding text_of
+text_of-adds names ip w0 w1 low h0 h1 s at room =
+    let r = decoded w0 w1 in
+    let said : LineSays names s.place (text_by s.place.location w0 r ++ tail_text NoTail) (printed_bytes w0 w1) = adds_by names w0 w1 r s (omega (arith, at)) h0 h1 refl in
+    subst (λ line. Assembles names s line (past_bytes s (printed_bytes w0 w1))) (append-nil (text_by s.place.location w0 r) ∙ ap (λ a. text_by a w0 r) at)
+    (plain_assembles names s _ (printed_bytes w0 w1) said.item said.says said.ascii said.plain room)

@@ -1,0 +1,31 @@
+-- What the laws of sources and listings speak of.
+use Rattle.std.specs.Prelude.{◌≡◌, ℕ, ◌+◌, ◌^◌, ◌<◌, ◌≤◌, List, [], ◌∷◌, length, None}
+use Rattle.std.specs.List.{AllByRecursion}
+use Rattle.i9_text.specs.FirstFault.{SaysAll, IsRefused}
+use Rattle.i9_asm.specs.Places.{all_names}
+use Rattle.i9_asm.specs.Source.{Piece, Source, start_source, fault_of, Assembles, segments_of}
+
+-- bytes
+abbrev pub IsLow : List ℕ → Type 0
+IsLow bs = AllByRecursion (λ b. b < 256) bs
+
+-- a run of bytes in the address space
+pub record IsRun (run : Piece) : Type 0 where
+  pub inside : run.0 + length run.1 ≤ 2 ^ 32
+  pub some : 0 < length run.1
+  pub low : IsLow run.1
+
+-- how many bytes runs have
+abbrev pub bytes_in : List Piece → ℕ
+bytes_in [] = 0
+bytes_in (run ∷ runs) = length run.1 + bytes_in runs
+
+-- the lines of a source without fault, under the values that its names have in it, and its segments
+pub record IsAssembly (lines : List (List ℕ)) (segments : List Piece) : Type 0 where
+  pub end : Source
+  pub assembled : SaysAll (Assembles (all_names lines)) start_source lines end
+  pub kept : segments_of end ≡ segments
+
+-- the first line at fault, counted from 1, and its least kind
+abbrev pub IsRefusedSource : List (List ℕ) → ℕ × ℕ → Type 0
+IsRefusedSource lines f = IsRefused (Assembles (all_names lines)) (fault_of (all_names lines)) (λ _. None) start_source lines f

@@ -1,0 +1,25 @@
+-- Why few records are open.
+use Rattle.std.specs.Prelude.{◌≡◌, ℕ, ◌+◌, ◌<◌, ◌≤◌, ◌^◌, ◌&&◌, List, length, IsTrue, nat_eq}
+use Rattle.std.specs.List.{AllByRecursion, count_by}
+use Rattle.i9_isa.specs.declared.inst.Side.{Side}
+use Rattle.i9_model.specs.declared.need.Need.{Need}
+use Rattle.i9_model.specs.declared.need.TimedNeed.{TimedNeed}
+use Rattle.i9_model.specs.Turns.{same_side, Pending, RequestsInOrder, is_plain}
+
+-- What is known of the open records, of which the last issued at the turn last.
+pub record Fits (last : ℕ) (rs : List TimedNeed) : Type 0 where
+  pub issued : AllByRecursion (λ r. r.issue ≤ last) rs
+  pub are_open : AllByRecursion (λ r. last < r.done) rs
+  pub plain : AllByRecursion (λ r. IsTrue (is_plain r.need) → r.done ≡ r.issue + 1) rs
+  pub in_order : RequestsInOrder rs
+  pub requests : count_by (λ r. r.need.request) rs ≤ 3
+  pub slow : count_by (λ r. r.need.slow) rs ≤ 1
+  pub sides : (side : Side) → count_by (λ r. same_side side r.need.side && nat_eq r.issue last) rs ≤ 1
+  pub barrier : 0 < count_by (λ r. r.need.barrier) rs → length rs ≤ 1
+
+-- The turns are far from the largest number.
+pub record IsEarly (p : Pending) (n : Need) : Type 0 where
+  pub last : p.last < 2 ^ 62
+  pub done : AllByRecursion (λ r. r.done < 2 ^ 62) p.records
+  pub waited : n.not_before < 2 ^ 62
+  pub cost : n.cost < 2 ^ 32

@@ -1,7 +1,0 @@
-use Rattle.std.proofs.Common.{◌≡◌, ◌+◌, drop}
-use Rattle.i9_model.specs.Boot.{with_regions}
-use Rattle.i9_memory.specs.Memory.{memory_of}
-use Rattle.i9_machine.proofs.apply.configure_regions.Given as goal
-
-abbrev pub invariant-loop-k : goal.invariant-loop-k
-invariant-loop-k l = with_regions (memory_of l.memory) (l.region + l.k) (drop l.k l.words) ≡ with_regions (memory_of l.fn.memory) l.region l.words

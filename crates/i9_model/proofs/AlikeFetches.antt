@@ -1,0 +1,271 @@
+-- In states that are alike every hazard is the same, and so is what is fetched, and how a fault is entered.
+use Rattle.std.proofs.Common.{◌≡◌, ℕ, ◌+◌, Bool, true, false, cond, eqb, nat_le, Option, Some, None, Result, Ok, Err, refl, sym, ap, ◌∙◌, inl, inr, arith}
+use Rattle.std.specs.Prelude.{not, ◌&&◌, ◌||◌, ◌⊎◌}
+use Rattle.std.proofs.lemmas.Bool.{eqb-true}
+use Rattle.i9_isa.specs.declared.op.Op.{Op}
+use Rattle.i9_isa.specs.declared.op.Op.TheVariants.{Modpc, Ret, Sysctl}
+use Rattle.i9_isa.specs.declared.inst.Mode.{Mode}
+use Rattle.i9_isa.specs.declared.inst.Mode.TheVariants.{Offset, BaseOffset, Base, Ip, BaseIndex, Disp, BaseDisp, IndexDisp, BaseIndexDisp}
+use Rattle.i9_isa.specs.declared.inst.Inst.{Inst}
+use Rattle.i9_isa.specs.declared.inst.BadWord.{BadWord}
+use Rattle.i9_isa.specs.Words.{words_of_mode, words_of, decoded}
+use Rattle.i9_model.specs.declared.layout.TheConstants.{FP, SP, RECORD_SIZE, FAULT_RETURN, MOST_SYSTEM_CALL, PRCB_SIZE, CONTROL_TABLE_SIZE}
+use Rattle.i9_model.specs.declared.calls.Sys.{Sys}
+use Rattle.i9_model.specs.declared.calls.Pop.{Pop}
+use Rattle.i9_model.specs.declared.calls.CallsStop.TheVariants.{Length}
+use Rattle.i9_model.specs.declared.faults.Fault.{Fault}
+use Rattle.i9_model.specs.declared.faults.Handler.{Handler}
+use Rattle.i9_model.specs.declared.faults.Handler.TheVariants.{Local, System}
+use Rattle.i9_model.specs.declared.faults.FaultStop.{FaultStop}
+use Rattle.i9_model.specs.Writes.{wrapped}
+use Rattle.i9_model.specs.Memory.{Memory, word_in}
+use Rattle.i9_model.specs.State.{State, Frames}
+use Rattle.i9_model.specs.Frames.{rounded_down, in_frames, flushed}
+use Rattle.i9_model.specs.Hazards.{unless, read_hazard, return_hazard}
+use Rattle.i9_model.specs.Operands.{value}
+use Rattle.i9_model.specs.Tables.{tables_hazard}
+use Rattle.i9_model.specs.Calls.{system_hazard, system_entered, planned_system, planned_calls, calls_answer, call_type, planned_ret, popped, ret_hazard, return_type, controls_hazard, returned_pc, returned_ac}
+use Rattle.i9_model.specs.Faults.{raised, ◌>>=◌, or_stop, table_entry, checked_word, planned_handler, planned_frame, planned_fault}
+use Rattle.i9_model.specs.Step.{Message, AsksNothing, AsksRestart, AsksGroup, answer_in, first_word, next_word, message_of, message_kind}
+use Rattle.i9_model.specs.Access.{Access, NoAccess, Reads, Writes, Changes, SavesAt, CallsSystem, ReturnsBy, ReadsTables, ReadsGroup, message_access, access_by, data_of, hazard_in, hazard_of, second_hazard, fetch_hazard}
+use Rattle.i9_model.specs.Unbuilt.{is_traced, is_built_form, is_built, is_other_return, is_imprecise, is_unbuilt_control}
+use Rattle.i9_model.specs.Fetched.{Fetched, NotBuilt, Faults, Runs, by_word, by_fault, answer_fault, range_fault, first_fault, raised_in, fault_of, fetched}
+use Rattle.i9_model.specs.Run.{entry_in}
+use Rattle.i9_model.specs.Alike.{is_beyond, is_hard, is_compared, AgreeWhere, with_other, with_memory, told_words}
+use Rattle.i9_model.proofs.CallLaws.{first_none, second_none}
+use Rattle.i9_model.proofs.Readings.{read_same, inner_word_same, word_same}
+use Rattle.i9_model.proofs.AlikeActions.{hard_bytes, or_else_same, system_hazard_same, system_same, saved_pc_same, saved_ac_same}
+use Rattle.i9_model.proofs.SecondWords.{AreOfWord, decoded_alike}
+
+-- ---- as after a flush
+
+pub flushed_compared : (f : Frames) (x : ℕ) → is_hard (flushed f) x ≡ true → is_compared f x ≡ true
+flushed_compared f x h = by_cases (is_beyond x) (f.soft x) (in_frames f.live x) h
+  where
+    by_cases : (beyond soft live : Bool) → (beyond || not (soft && not live)) ≡ true → ((beyond || not soft) || live) ≡ true
+    by_cases true soft live h = refl
+    by_cases false false live h = refl
+    by_cases false true true h = refl
+    by_cases false true false h = absurd cc
+
+pub flushed_hard : (f : Frames) (m : Memory) (bytes : ℕ → ℕ) → AgreeWhere (is_compared f) m bytes → AgreeWhere (is_hard (flushed f)) m bytes
+flushed_hard f m bytes same = λ x h. same x (flushed_compared f x h)
+
+pub tables_hazard_same : (f : Frames) (m : Memory) (bytes : ℕ → ℕ) (prcb : ℕ) → AgreeWhere (is_hard f) m bytes → tables_hazard (with_other m bytes) f prcb ≡ tables_hazard m f prcb
+unfolding tables_hazard
+tables_hazard_same f m bytes prcb same =
+    or_else_same (read_hazard f prcb PRCB_SIZE) _ _ (λ none.
+    ap (λ (w : ℕ). read_hazard f w CONTROL_TABLE_SIZE) (inner_word_same m bytes prcb PRCB_SIZE 4 (read_same f m bytes prcb PRCB_SIZE same none) (omega arith)))
+
+-- ---- hazards
+
+access_hazard_same : (x : Access) (s : State) (bytes : ℕ → ℕ) → AgreeWhere (is_compared s.frames) s.memory bytes → hazard_in (with_memory s bytes) x ≡ hazard_in s x
+access_hazard_same NoAccess s bytes same = refl
+access_hazard_same (Reads a n) s bytes same = refl
+access_hazard_same (Writes a n) s bytes same = refl
+access_hazard_same (Changes a n) s bytes same = refl
+access_hazard_same (SavesAt a) s bytes same = refl
+access_hazard_same (CallsSystem n) s bytes same = system_hazard_same s.frames s.memory bytes s.tables.system_table n s.pc (s.regs FP) (hard_bytes s.frames s.memory bytes same)
+access_hazard_same (ReturnsBy pfp) s bytes same = refl
+access_hazard_same (ReadsTables prcb) s bytes same = tables_hazard_same (flushed s.frames) s.memory bytes prcb (flushed_hard s.frames s.memory bytes same)
+access_hazard_same (ReadsGroup group) s bytes same = refl
+
+message_access_same : (m : Message) (i : Inst) (s : State) (bytes : ℕ → ℕ) → message_access m i (with_memory s bytes) ≡ message_access m i s
+message_access_same AsksNothing i s bytes = refl
+message_access_same AsksRestart i s bytes = refl
+message_access_same AsksGroup i s bytes = refl
+
+pub access_same : (op : Op) (i : Inst) (s : State) (bytes : ℕ → ℕ) → access_by op i (with_memory s bytes) ≡ access_by op i s
+access_same Sysctl i s bytes = message_access_same (message_kind (message_of i s)) i s bytes
+access_same _ i s bytes = refl
+
+pub hazard_same : (i : Inst) (s : State) (bytes : ℕ → ℕ) → AgreeWhere (is_compared s.frames) s.memory bytes → hazard_of i (with_memory s bytes) ≡ hazard_of i s
+unfolding hazard_of
+hazard_same i s bytes same = ap (hazard_in (with_memory s bytes)) (access_same i.op i s bytes) ∙ access_hazard_same (access_by i.op i s) s bytes same
+
+-- ---- the fetch
+
+first_word_same : (s : State) (bytes : ℕ → ℕ) → AgreeWhere (is_hard s.frames) s.memory bytes → read_hazard s.frames s.ip 4 ≡ None → first_word (with_memory s bytes) ≡ first_word s
+first_word_same s bytes same none = word_same s.frames s.memory bytes s.ip 4 same none (omega arith)
+
+second_hazard_same : (s : State) (bytes : ℕ → ℕ) (r q : Result Inst BadWord) → AreOfWord r q → second_hazard (with_memory s bytes) q ≡ second_hazard s r
+second_hazard_same s bytes (Ok i) (Ok j) h = ap (λ (n : ℕ). cond (eqb n 2) (read_hazard s.frames (wrapped (s.ip + 4)) 4) None) h.0
+second_hazard_same s bytes (Err e) (Err d) h = refl
+second_hazard_same s bytes (Ok i) (Err d) h = absurd h
+second_hazard_same s bytes (Err e) (Ok j) h = absurd h
+
+pub fetch_hazard_same : (s : State) (bytes : ℕ → ℕ) → AgreeWhere (is_hard s.frames) s.memory bytes → fetch_hazard (with_memory s bytes) ≡ fetch_hazard s
+unfolding fetch_hazard
+fetch_hazard_same s bytes same =
+    let t = with_memory s bytes in
+    or_else_same (read_hazard s.frames s.ip 4) _ _ (λ none.
+    ap (λ (w : ℕ). second_hazard t (decoded w (next_word t))) (first_word_same s bytes same none)
+    ∙ second_hazard_same s bytes (decoded (first_word s) (next_word s)) (decoded (first_word s) (next_word t)) (decoded_alike (first_word s) (next_word s) (next_word t)))
+
+-- what an instruction raises, and whether it is built, goes by registers alone
+raised_same : (i : Inst) (s : State) (bytes : ℕ → ℕ) → raised_in i (with_memory s bytes) ≡ raised_in i s
+raised_same i s bytes = ap (λ (x : Access). raised i (value s i.a) (value s i.b) (data_of x) s.pc s.tables.fault_config) (access_same i.op i s bytes)
+
+fault_same : (i : Inst) (s : State) (bytes : ℕ → ℕ) → fault_of i (with_memory s bytes) ≡ fault_of i s
+unfolding fault_of
+fault_same i s bytes = ap (λ (o : Option (ℕ × ℕ)). first_fault o (first_fault (answer_fault (answer_in i s)) (range_fault i s))) (raised_same i s bytes)
+
+return_built_same : (op : Op) (s : State) (bytes : ℕ → ℕ) → is_other_return op (with_memory s bytes) ≡ is_other_return op s
+return_built_same Ret s bytes = refl
+return_built_same _ s bytes = refl
+
+control_built_same : (op : Op) (i : Inst) (s : State) (bytes : ℕ → ℕ) → is_unbuilt_control op i (with_memory s bytes) ≡ is_unbuilt_control op i s
+control_built_same Modpc i s bytes = refl
+control_built_same Sysctl i s bytes = refl
+control_built_same _ i s bytes = refl
+
+pub built_same : (i : Inst) (s : State) (bytes : ℕ → ℕ) → is_built i (with_memory s bytes) ≡ is_built i s
+unfolding is_built
+built_same i s bytes =
+    ap (λ (b : Bool). is_built_form i && not b && not (is_imprecise i s) && not (is_unbuilt_control i.op i (with_memory s bytes))) (return_built_same i.op s bytes)
+    ∙ ap (λ (b : Bool). is_built_form i && not (is_other_return i.op s) && not (is_imprecise i s) && not b) (control_built_same i.op i s bytes)
+
+word_by_same : (s : State) (bytes : ℕ → ℕ) (r : Result Inst BadWord) → by_word (with_memory s bytes) r ≡ by_word s r
+word_by_same s bytes (Err e) = refl
+word_by_same s bytes (Ok i) =
+    ap (λ (b : Bool). cond b (by_fault i (fault_of i (with_memory s bytes))) NotBuilt) (built_same i s bytes)
+    ∙ ap (λ (o : Option (ℕ × ℕ)). cond (is_built i s) (by_fault i o) NotBuilt) (fault_same i s bytes)
+
+-- an instruction has one word or two
+one_or_two : (i : Inst) → (words_of i ≡ 1) ⊎ (words_of i ≡ 2)
+one_or_two i = by_mode i.ea.mode
+  where
+    by_mode : (m : Mode) → (words_of_mode m ≡ 1) ⊎ (words_of_mode m ≡ 2)
+    by_mode Offset = inl refl
+    by_mode BaseOffset = inl refl
+    by_mode Base = inl refl
+    by_mode BaseIndex = inl refl
+    by_mode Ip = inr refl
+    by_mode Disp = inr refl
+    by_mode BaseDisp = inr refl
+    by_mode IndexDisp = inr refl
+    by_mode BaseIndexDisp = inr refl
+
+-- where the second word isn't read it doesn't matter, and where it is, it is the same
+decoded_same : (s : State) (bytes : ℕ → ℕ) (r q : Result Inst BadWord) → AgreeWhere (is_hard s.frames) s.memory bytes → AreOfWord r q → second_hazard s r ≡ None → (next_word (with_memory s bytes) ≡ next_word s → q ≡ r) → q ≡ r
+decoded_same s bytes (Err e) (Err d) same h none next = ap (λ (x : BadWord). Err x) h
+decoded_same s bytes (Ok i) (Err d) same h none next = absurd h
+decoded_same s bytes (Err e) (Ok j) same h none next = absurd h
+decoded_same s bytes (Ok i) (Ok j) same h none next = elim (one_or_two i) [
+  | inl one ↦ ap (λ (x : Inst). Ok x) (h.1 one)
+  | inr two ↦
+      let a = wrapped (s.ip + 4) in
+      let read : read_hazard s.frames a 4 ≡ None = sym (ap (λ (n : ℕ). cond (eqb n 2) (read_hazard s.frames a 4) None) two) ∙ none in
+      next (word_same s.frames s.memory bytes a 4 same read (omega arith))
+]
+
+pub fetched_same : (s : State) (bytes : ℕ → ℕ) → AgreeWhere (is_hard s.frames) s.memory bytes → fetch_hazard s ≡ None → fetched (with_memory s bytes) ≡ fetched s
+unfolding fetched fetch_hazard
+fetched_same s bytes same none =
+    let t = with_memory s bytes in
+    let w = first_word s in
+    let first = first_word_same s bytes same (first_none (read_hazard s.frames s.ip 4) (second_hazard s (decoded w (next_word s))) none) in
+    let second = second_none (read_hazard s.frames s.ip 4) (second_hazard s (decoded w (next_word s))) none in
+    let word = decoded_same s bytes (decoded w (next_word s)) (decoded w (next_word t)) same (decoded_alike w (next_word s) (next_word t)) second (λ e. ap (decoded w) e) in
+    ap (λ (r : Result Inst BadWord). cond (is_traced s) NotBuilt (by_word t r)) (ap (λ (v : ℕ). decoded v (next_word t)) first ∙ word)
+    ∙ ap (λ (o : Fetched). cond (is_traced s) NotBuilt o) (word_by_same s bytes (decoded w (next_word s)))
+
+-- ---- the words of what is fetched
+
+abbrev pub fetched_words : Fetched → ℕ
+fetched_words NotBuilt = 0
+fetched_words (Faults words number) = words
+fetched_words (Runs i) = words_of i
+
+-- where there are two, the second one is read without a hazard
+second_read : (s : State) (b : Bool) (r : Result Inst BadWord) → second_hazard s r ≡ None → fetched_words (cond b NotBuilt (by_word s r)) ≡ 2 → read_hazard s.frames (wrapped (s.ip + 4)) 4 ≡ None
+second_read s true r none two = absurd (omega (arith, two))
+second_read s false (Err e) none two = absurd (omega (arith, two))
+second_read s false (Ok i) none two = by_fault_of (is_built i s) (fault_of i s) two
+  where
+    a : ℕ
+    a = wrapped (s.ip + 4)
+
+    read : words_of i ≡ 2 → read_hazard s.frames a 4 ≡ None
+    read e = sym (ap (λ (n : ℕ). cond (eqb n 2) (read_hazard s.frames a 4) None) e) ∙ none
+
+    by_fault_of : (b : Bool) (o : Option (ℕ × ℕ)) → fetched_words (cond b (by_fault i o) NotBuilt) ≡ 2 → read_hazard s.frames a 4 ≡ None
+    by_fault_of false o e = absurd (omega (arith, e))
+    by_fault_of true None e = read e
+    by_fault_of true (Some number) e = read e
+
+told_by : (n : ℕ) (b : Bool) (v w x y : ℕ) → eqb n 2 ≡ b → v ≡ w → (n ≡ 2 → x ≡ y) → ◌≡◌ {A = ℕ × ℕ} (v, cond b x 0) (w, cond b y 0)
+told_by n true v w x y t e f = let same : x ≡ y = f (eqb-true n 2 t) in λ i. (e i, same i)
+told_by n false v w x y t e f = λ i. (e i, 0)
+
+pub told_same : (s : State) (bytes : ℕ → ℕ) (o : Fetched) → AgreeWhere (is_hard s.frames) s.memory bytes → fetch_hazard s ≡ None → fetched s ≡ o → told_words (fetched_words o) (with_memory s bytes) ≡ told_words (fetched_words o) s
+unfolding fetched fetch_hazard
+told_same s bytes o same none is =
+    let w = first_word s in
+    let r = decoded w (next_word s) in
+    let first = first_none (read_hazard s.frames s.ip 4) (second_hazard s r) none in
+    let second = second_none (read_hazard s.frames s.ip 4) (second_hazard s r) none in
+    told_by (fetched_words o) (eqb (fetched_words o) 2) (first_word (with_memory s bytes)) w (next_word (with_memory s bytes)) (next_word s) refl (first_word_same s bytes same first)
+    (λ two. word_same s.frames s.memory bytes (wrapped (s.ip + 4)) 4 same (second_read s (is_traced s) r second (ap fetched_words is ∙ two)) (omega arith))
+
+-- ---- the entry of a fault
+
+bind_rest : {A B : Type 0} (r : Result A FaultStop) (f g : A → Result B FaultStop) → ((x : A) → g x ≡ f x) → (r >>= g) ≡ (r >>= f)
+bind_rest (Ok x) f g same = same x
+bind_rest (Err stop) f g same = refl
+
+bind_same : {A B : Type 0} (r q : Result A FaultStop) (f g : A → Result B FaultStop) → q ≡ r → ((x : A) → g x ≡ f x) → (q >>= g) ≡ (r >>= f)
+bind_same r q f g e same = ap (λ x. x >>= g) e ∙ bind_rest r f g same
+
+unless_same : {A : Type 0} (h : Option ℕ) (x y : A) → (h ≡ None → y ≡ x) → unless h y ≡ unless h x
+unless_same None x y same = ap (λ z. Ok z) (same refl)
+unless_same (Some a) x y same = refl
+
+checked_same : (f : Frames) (m : Memory) (bytes : ℕ → ℕ) (a : ℕ) → AgreeWhere (is_hard f) m bytes → checked_word (with_other m bytes) f a ≡ checked_word m f a
+checked_same f m bytes a same = ap or_stop (unless_same (read_hazard f a 4) (word_in m a) (word_in (with_other m bytes) a) (λ none. word_same f m bytes a 4 same none (omega arith)))
+
+handler_same : (f : Frames) (m : Memory) (bytes : ℕ → ℕ) (at : ℕ) → AgreeWhere (is_hard f) m bytes → planned_handler (with_other m bytes) f at ≡ planned_handler m f at
+unfolding planned_handler
+handler_same f m bytes at same =
+    bind_same _ _ _ _ (checked_same f m bytes at same) (λ first.
+    bind_same _ _ _ _ (checked_same f m bytes (wrapped (at + 4)) same) (λ second. refl))
+
+pub planned_system_same : (f : Frames) (m : Memory) (bytes : ℕ → ℕ) (table n pc fp sp extra : ℕ) (kind : Bool → ℕ) → AgreeWhere (is_hard f) m bytes
+    → planned_system (with_other m bytes) f table n pc fp sp extra kind ≡ planned_system m f table n pc fp sp extra kind
+planned_system_same f m bytes table n pc fp sp extra kind same =
+    ap (λ (h : Option ℕ). unless h (system_entered (with_other m bytes) table n pc fp sp extra kind)) (system_hazard_same f m bytes table n pc fp same)
+    ∙ unless_same (system_hazard m f table n pc fp) (system_entered m table n pc fp sp extra kind) (system_entered (with_other m bytes) table n pc fp sp extra kind) (λ none. system_same f m bytes table n pc fp sp extra kind same none)
+
+planned_frame_same : (f : Frames) (m : Memory) (bytes : ℕ → ℕ) (system pc fp sp : ℕ) (h : Handler) → AgreeWhere (is_hard f) m bytes → planned_frame (with_other m bytes) f system pc fp sp h ≡ planned_frame m f system pc fp sp h
+unfolding planned_frame
+planned_frame_same f m bytes system pc fp sp (Local target) same = refl
+planned_frame_same f m bytes system pc fp sp (System n) same = planned_system_same f m bytes system n pc fp sp RECORD_SIZE (λ _. FAULT_RETURN) same
+
+pub planned_fault_same : (f : Frames) (m : Memory) (bytes : ℕ → ℕ) (table system : ℕ) (fault : Fault) (pc ac fp sp : ℕ) → AgreeWhere (is_hard f) m bytes
+    → planned_fault (with_other m bytes) f table system fault pc ac fp sp ≡ planned_fault m f table system fault pc ac fp sp
+unfolding planned_fault
+planned_fault_same f m bytes table system fault pc ac fp sp same =
+    bind_same _ _ _ _ (handler_same f m bytes (table_entry table fault.kind) same) (λ handler.
+    bind_same _ _ _ _ (ap or_stop (planned_frame_same f m bytes system pc fp sp handler same)) (λ sys. refl))
+
+pub entry_same : (s : State) (bytes : ℕ → ℕ) (fault : Fault) → AgreeWhere (is_hard s.frames) s.memory bytes → entry_in (with_memory s bytes) fault ≡ entry_in s fault
+unfolding entry_in
+entry_same s bytes fault same = planned_fault_same s.frames s.memory bytes s.tables.fault_table s.tables.system_table fault s.pc s.ac (s.regs FP) (s.regs SP) same
+
+-- ---- calls and returns as they are planned
+
+pub planned_calls_same : (f : Frames) (m : Memory) (bytes : ℕ → ℕ) (table n pc fp sp : ℕ) → AgreeWhere (is_hard f) m bytes → planned_calls (with_other m bytes) f table n pc fp sp ≡ planned_calls m f table n pc fp sp
+planned_calls_same f m bytes table n pc fp sp same =
+    ap (λ (r : Result Sys ℕ). cond (nat_le n MOST_SYSTEM_CALL) (calls_answer r) (Err Length)) (planned_system_same f m bytes table n pc fp sp 0 (call_type pc) same)
+
+pub planned_ret_same : (f : Frames) (m : Memory) (bytes : ℕ → ℕ) (pfp fp pc ac : ℕ) → AgreeWhere (is_hard f) m bytes → planned_ret (with_other m bytes) f pfp fp pc ac ≡ planned_ret m f pfp fp pc ac
+unfolding popped ret_hazard
+planned_ret_same f m bytes pfp fp pc ac same =
+    let kind = return_type pfp in
+    unless_same (ret_hazard f pfp fp) (popped m f pfp fp pc ac) (popped (with_other m bytes) f pfp fp pc ac) (λ none.
+    let controls = first_none (controls_hazard f kind fp) (return_hazard f (rounded_down pfp)) none in
+    pop_by (popped m f pfp fp pc ac) (returned_pc (with_other m bytes) kind fp pc) (returned_pc m kind fp pc) (returned_ac (with_other m bytes) kind fp ac) (returned_ac m kind fp ac)
+    (saved_pc_same f m bytes kind fp pc same controls) (saved_ac_same f m bytes kind fp ac same controls))
+  where
+    pop_by : (p : Pop) (pc2 pc1 ac2 ac1 : ℕ) → pc2 ≡ pc1 → ac2 ≡ ac1 → record p { pc = pc2; ac = ac2 } ≡ record p { pc = pc1; ac = ac1 }
+    pop_by p pc2 pc1 ac2 ac1 e d = rw (e, d) refl

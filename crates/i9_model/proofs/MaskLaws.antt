@@ -1,0 +1,207 @@
+-- A record leaves the registers that its need does not write.
+use Rattle.std.proofs.Common.{◌≡◌, ℕ, suc, ◌+◌, ◌^◌, ◌≤◌, Bool, true, false, cond, ◌&&◌, ◌||◌, List, [], ◌∷◌, ◌++◌, length, Option, Some, None, refl, sym, ap, ◌∙◌, inl, inr, arith, ℤ}
+use Rattle.std.specs.Prelude.{◌⊎◌, ◌==◌, nat_le, not, bit_or}
+use Rattle.std.proofs.lemmas.Bool.{cond-false, or_parts, le-leb, leb-true, eqb-true}
+use Rattle.std.proofs.lemmas.Bool.Decides.{nat_tests}
+use Rattle.i9_isa.specs.declared.op.Op.{Op}
+use Rattle.i9_isa.specs.declared.op.Op.TheVariants.{Lda, Ldob, Ldib, Ldos, Ldis, Ld, Ldl, Ldt, Ldq, Stob, Stib, Stos, Stis, St, Stl, Stt, Stq, Atadd, Atmod, Bx, Balx, Bal, Call, Callx, Calls, Ret, Flushreg, Syncf, Modac, Modtc, Modpc, Sysctl, Addi, Subi, Muli, Shli, Divo, Remo, Divi, Remi, Modi, Ediv, Concmpo, Concmpi, Spanbit, Scanbit}
+use Rattle.i9_isa.specs.declared.inst.Operand.{Operand}
+use Rattle.i9_isa.specs.declared.inst.Operand.TheVariants.{Reg}
+use Rattle.i9_isa.specs.declared.inst.Inst.{Inst}
+use Rattle.i9_isa.specs.Operands.{words_written}
+use Rattle.i9_isa.specs.Resources.{is_in_group, is_in_operand, is_in_frame, changes_frame, writes_link}
+use Rattle.i9_isa.specs.declared.resources.TheConstants.{LINK}
+use Rattle.i9_isa.specs.Table.{row_of}
+use Rattle.i9_model.specs.declared.arith.Arith.TheVariants.{Overflow, ZeroDivide}
+use Rattle.i9_model.specs.Writes.{or_earlier, last_put}
+use Rattle.std.specs.Prelude.{replicate}
+use Rattle.i9_model.specs.declared.layout.TheConstants.{FP, SP, LOCAL_RETURN}
+use Rattle.i9_model.specs.declared.push.Push.{Push}
+use Rattle.i9_model.specs.Frames.{pushed}
+use Rattle.i9_model.specs.State.{State}
+use Rattle.i9_model.specs.Operands.{number_of, reduced, address}
+use Rattle.i9_model.specs.Memory.{word_in, words_in}
+use Rattle.i9_model.specs.Numbers.{signed, modulo, complement, highest_one}
+use Rattle.std.specs.Int.RustNames.{int_div, int_rem}
+use Rattle.std.specs.Prelude.{slice_index, ◌+ℤ◌, ◌-ℤ◌, ◌*ℤ◌, pos, ◌/◌, ◌%◌, int_lt}
+use Rattle.i9_isa.specs.Words.{bit}
+use Rattle.i9_model.specs.Results.{Answer, word, words, checked, faulting, code, found, results_by, destination_words, long, long_divided}
+use Rattle.i9_model.specs.Branches.{asks, question_of}
+use Rattle.i9_model.specs.Step.{group_sets, values_of, destination, loaded, frame_sets, action_by, push_sets, branching, answering, answer_in, atomic_address, following, return_in, message_kind, message_of, message_action, system_call, Message, AsksNothing, AsksRestart, AsksGroup}
+
+-- ---- how many words a result has
+
+overflow_few : (b c : Bool) (v ac : ℕ) → nat_le (length (cond b (cond c (word v (bit_or ac (2 ^ 8))) (faulting Overflow ac)) (word v ac)).values) 1 ≡ true
+overflow_few true true v ac = refl
+overflow_few true false v ac = refl
+overflow_few false c v ac = refl
+
+checked_few : (z : ℤ) (ac : ℕ) → nat_le (length (checked z ac).values) 1 ≡ true
+checked_few z ac = overflow_few _ _ _ ac
+
+divided_few : (b : Bool) (r : Answer) (n ac : ℕ) → nat_le (length r.values) n ≡ true → nat_le (length (cond b (faulting ZeroDivide ac) r).values) n ≡ true
+divided_few true r n ac h = le-leb 0 n (omega arith)
+divided_few false r n ac h = h
+
+unless_few : (b c : Bool) (ac : ℕ) → nat_le (length (cond b (words [] ac) (code (cond c 2 1) ac)).values) 0 ≡ true
+unless_few true c ac = refl
+unless_few false c ac = refl
+
+found_few : (o : Option ℕ) (ac : ℕ) → nat_le (length (found o ac).values) 1 ≡ true
+found_few None ac = refl
+found_few (Some p) ac = refl
+
+few_values : (op : Op) (a b : List ℕ) (c ac : ℕ) → nat_le (length (values_of (results_by op a b c ac))) (destination_words op) ≡ true
+few_values Addi a b c ac = checked_few (signed (slice_index b 0) +ℤ signed (slice_index a 0)) ac
+few_values Subi a b c ac = checked_few (signed (slice_index b 0) -ℤ signed (slice_index a 0)) ac
+few_values Muli a b c ac = checked_few (signed (slice_index b 0) *ℤ signed (slice_index a 0)) ac
+few_values Shli a b c ac = checked_few (signed (slice_index b 0) *ℤ pos (2 ^ slice_index a 0)) ac
+few_values Divo a b c ac = divided_few (slice_index a 0 == 0) (word (slice_index b 0 / slice_index a 0) ac) 1 ac refl
+few_values Remo a b c ac = divided_few (slice_index a 0 == 0) (word (slice_index b 0 % slice_index a 0) ac) 1 ac refl
+few_values Divi a b c ac = divided_few (slice_index a 0 == 0) (checked (int_div (signed (slice_index b 0)) (signed (slice_index a 0))) ac) 1 ac (checked_few (int_div (signed (slice_index b 0)) (signed (slice_index a 0))) ac)
+few_values Remi a b c ac = divided_few (slice_index a 0 == 0) (word (reduced (int_rem (signed (slice_index b 0)) (signed (slice_index a 0)))) ac) 1 ac refl
+few_values Modi a b c ac = divided_few (slice_index a 0 == 0) (word (reduced (modulo (signed (slice_index b 0)) (signed (slice_index a 0)))) ac) 1 ac refl
+few_values Ediv a b c ac = divided_few (slice_index a 0 == 0) (words (long_divided (long (slice_index b 0) (slice_index b 1)) (slice_index a 0)) ac) 2 ac refl
+few_values Concmpo a b c ac = unless_few (bit ac 2) (nat_le (slice_index a 0) (slice_index b 0)) ac
+few_values Concmpi a b c ac = unless_few (bit ac 2) (not (int_lt (signed (slice_index b 0)) (signed (slice_index a 0)))) ac
+few_values Spanbit a b c ac = found_few (highest_one 32 (complement (slice_index a 0))) ac
+few_values Scanbit a b c ac = found_few (highest_one 32 (slice_index a 0)) ac
+few_values _ a b c ac = refl
+
+-- ---- places beside a group
+
+group_beside : (r k : ℕ) (vs : List ℕ) → is_in_group r (length vs) k ≡ false → last_put (group_sets r vs) k ≡ None
+unfolding last_put
+group_beside r k [] h = refl
+group_beside r k (v ∷ vs) h =
+    let less : is_in_group (r + 1) (length vs) k ≡ false = grind (arith, nat_tests, h) in
+    let other : (k == r) ≡ false = grind (arith, nat_tests, h) in
+    ap (λ (o : Option ℕ). or_earlier o (cond (k == r) (Some v) None)) (group_beside (r + 1) k vs less) ∙ cond-false (k == r) (Some v) None other
+
+no_words : (vs : List ℕ) (n : ℕ) → length vs ≤ n → n ≡ 0 → vs ≡ []
+no_words [] n le e = refl
+no_words (v ∷ vs) n le e = absurd (let no : suc (length vs) ≤ n = le in omega (arith, no, e))
+
+-- an operand of so many words is a register, where there are some
+abbrev pub IsTarget : ℕ → Operand → Type 0
+IsTarget n o = (n ≡ 0) ⊎ ((r : ℕ) × (o ≡ Reg r))
+
+in_fewer : (r m n k : ℕ) → m ≤ n → is_in_group r n k ≡ false → is_in_group r m k ≡ false
+in_fewer r m n k le h = grind (arith, nat_tests, le, h)
+
+operand_beside : (o : Operand) (n k : ℕ) (vs : List ℕ) → nat_le (length vs) n ≡ true → IsTarget n o → is_in_operand o n k ≡ false → last_put (group_sets (number_of o) vs) k ≡ None
+unfolding last_put
+operand_beside o n k vs few (inl none) h = ap (λ (ws : List ℕ). last_put (group_sets (number_of o) ws) k) (no_words vs n (leb-true (length vs) n few) none)
+operand_beside o n k vs few (inr is) h =
+    let out : is_in_group is.0 n k ≡ false = sym (ap (λ (p : Operand). is_in_operand p n k) is.1) ∙ h in
+    ap (λ (p : Operand). last_put (group_sets (number_of p) vs) k) is.1
+    ∙ group_beside is.0 k vs (in_fewer is.0 (length vs) n k (leb-true (length vs) n few) out)
+
+-- ---- an instruction
+
+pub record IsOutside (i : Inst) (k : ℕ) : Type 0 where
+  pub a : is_in_operand i.a (words_written (row_of i.op).a) k ≡ false
+  pub c : is_in_operand i.c (words_written (row_of i.op).c) k ≡ false
+  pub link : (writes_link i.op && (k == LINK)) ≡ false
+  pub frame : (changes_frame i.op && is_in_frame k) ≡ false
+
+pub record HasTargets (i : Inst) : Type 0 where
+  pub a : IsTarget (words_written (row_of i.op).a) i.a
+  pub c : IsTarget (words_written (row_of i.op).c) i.c
+  pub one : ((words_written (row_of i.op).a == 0) || (words_written (row_of i.op).c == 0)) ≡ true
+
+c_beside : (op : Op) (i : Inst) (k : ℕ) (vs : List ℕ) → i.op ≡ op → nat_le (length vs) (words_written (row_of op).c) ≡ true → HasTargets i → IsOutside i k → last_put (group_sets (number_of i.c) vs) k ≡ None
+c_beside op i k vs e few t h = operand_beside i.c (words_written (row_of i.op).c) k vs (ap (λ (o : Op). nat_le (length vs) (words_written (row_of o).c)) e ∙ few) t.c h.c
+
+answer_beside : (first : Bool) (i : Inst) (k : ℕ) (vs : List ℕ) → (words_written (row_of i.op).a == 0) ≡ first → nat_le (length vs) (destination_words i.op) ≡ true → HasTargets i → IsOutside i k → last_put (group_sets (number_of (destination i)) vs) k ≡ None
+answer_beside true i k vs e few t h =
+    let none : words_written (row_of i.op).a ≡ 0 = eqb-true _ _ e in
+    ap (λ (b : Bool). last_put (group_sets (number_of (cond b i.c i.a)) vs) k) e
+    ∙ (let sum : words_written (row_of i.op).c ≡ destination_words i.op = omega (arith, none) in
+    operand_beside i.c (words_written (row_of i.op).c) k vs (ap (λ (n : ℕ). nat_le (length vs) n) sum ∙ few) t.c h.c)
+answer_beside false i k vs e few t h =
+    let c0 : words_written (row_of i.op).c ≡ 0 = eqb-true _ _ (sym (ap (λ (b : Bool). b || (words_written (row_of i.op).c == 0)) e) ∙ t.one) in
+    let sum : words_written (row_of i.op).a ≡ destination_words i.op = omega (arith, c0) in
+    ap (λ (b : Bool). last_put (group_sets (number_of (cond b i.c i.a)) vs) k) e
+    ∙ operand_beside i.a (words_written (row_of i.op).a) k vs (ap (λ (n : ℕ). nat_le (length vs) n) sum ∙ few) t.a h.a
+
+other_beside : (b : Bool) (i : Inst) (s : State) (k : ℕ) → HasTargets i → IsOutside i k → last_put (cond b (branching i s) (answering i s (answer_in i s))).sets k ≡ None
+unfolding last_put
+other_beside true i s k t h = refl
+other_beside false i s k t h = answer_beside (words_written (row_of i.op).a == 0) i k (values_of (answer_in i s)) refl (few_values i.op _ _ _ s.ac) t h
+
+pub or_none : (o p q : Option ℕ) → or_earlier (or_earlier o p) q ≡ or_earlier o (or_earlier p q)
+or_none None p q = refl
+or_none (Some v) p q = refl
+
+pub last_append : (ps qs : List (ℕ × ℕ)) (x : ℕ) → last_put (ps ++ qs) x ≡ or_earlier (last_put qs x) (last_put ps x)
+unfolding last_put
+last_append [] [] x = refl
+last_append [] (q ∷ qs) x = none_last (or_earlier (last_put qs x) (cond (x == q.0) (Some q.1) None))
+  where
+    none_last : (o : Option ℕ) → o ≡ or_earlier o None
+    none_last None = refl
+    none_last (Some v) = refl
+last_append (p ∷ ps) qs x =
+    ap (λ (o : Option ℕ). or_earlier o (cond (x == p.0) (Some p.1) None)) (last_append ps qs x)
+    ∙ or_none (last_put qs x) (last_put ps x) (cond (x == p.0) (Some p.1) None)
+
+pub frame_beside : (ws : List ℕ) (fp k : ℕ) → length ws ≡ 16 → is_in_frame k ≡ false → last_put (frame_sets ws fp) k ≡ None
+unfolding last_put
+frame_beside ws fp k whole h =
+    let parts = or_parts (is_in_group 0 16 k) (k == 31) h in
+    last_append (group_sets 0 ws) ((31, fp) ∷ []) k
+    ∙ ap (λ (o : Option ℕ). or_earlier o (last_put (group_sets 0 ws) k)) (cond-false (k == 31) (Some fp) None parts.1)
+    ∙ group_beside 0 k ws (ap (λ (n : ℕ). is_in_group 0 n k) whole ∙ parts.0)
+
+pub push_beside : (p : Push) (k : ℕ) → is_in_frame k ≡ false → last_put (push_sets p) k ≡ None
+push_beside p k h = frame_beside (p.pfp ∷ p.sp ∷ replicate 14 0) p.frame k refl h
+
+one_beside : (r v k : ℕ) → (k == r) ≡ false → last_put ((r, v) ∷ []) k ≡ None
+unfolding last_put
+one_beside r v k h = cond-false (k == r) (Some v) None h
+
+true_frame : (op : Op) (i : Inst) (k : ℕ) → i.op ≡ op → changes_frame op ≡ true → IsOutside i k → is_in_frame k ≡ false
+true_frame op i k e t h = sym (ap (λ (b : Bool). b && is_in_frame k) (ap changes_frame e ∙ t)) ∙ h.frame
+
+-- a register that the need does not write is not set
+pub sets_beside : (op : Op) (i : Inst) (s : State) (k : ℕ) → i.op ≡ op → HasTargets i → IsOutside i k → last_put (action_by op i s).sets k ≡ None
+unfolding last_put
+sets_beside Lda i s k e t h = c_beside Lda i k (address s i.ea ∷ []) e refl t h
+sets_beside Ldob i s k e t h = c_beside Ldob i k (loaded Ldob s.memory (address s i.ea)) e refl t h
+sets_beside Ldib i s k e t h = c_beside Ldib i k (loaded Ldib s.memory (address s i.ea)) e refl t h
+sets_beside Ldos i s k e t h = c_beside Ldos i k (loaded Ldos s.memory (address s i.ea)) e refl t h
+sets_beside Ldis i s k e t h = c_beside Ldis i k (loaded Ldis s.memory (address s i.ea)) e refl t h
+sets_beside Ld i s k e t h = c_beside Ld i k (loaded Ld s.memory (address s i.ea)) e refl t h
+sets_beside Ldl i s k e t h = c_beside Ldl i k (loaded Ldl s.memory (address s i.ea)) e refl t h
+sets_beside Ldt i s k e t h = c_beside Ldt i k (loaded Ldt s.memory (address s i.ea)) e refl t h
+sets_beside Ldq i s k e t h = c_beside Ldq i k (loaded Ldq s.memory (address s i.ea)) e refl t h
+sets_beside Stob i s k e t h = refl
+sets_beside Stib i s k e t h = refl
+sets_beside Stos i s k e t h = refl
+sets_beside Stis i s k e t h = refl
+sets_beside St i s k e t h = refl
+sets_beside Stl i s k e t h = refl
+sets_beside Stt i s k e t h = refl
+sets_beside Stq i s k e t h = refl
+sets_beside Atadd i s k e t h = c_beside Atadd i k (word_in s.memory (atomic_address i s) ∷ []) e refl t h
+sets_beside Atmod i s k e t h = c_beside Atmod i k (word_in s.memory (atomic_address i s) ∷ []) e refl t h
+sets_beside Bx i s k e t h = refl
+sets_beside Balx i s k e t h = c_beside Balx i k (following i s ∷ []) e refl t h
+sets_beside Bal i s k e t h = one_beside 30 (following i s) k (sym (ap (λ (b : Bool). b && (k == 30)) (ap writes_link e)) ∙ h.link)
+sets_beside Call i s k e t h = push_beside (pushed (s.regs FP) (s.regs SP) 0 LOCAL_RETURN) k (true_frame Call i k e refl h)
+sets_beside Callx i s k e t h = push_beside (pushed (s.regs FP) (s.regs SP) 0 LOCAL_RETURN) k (true_frame Callx i k e refl h)
+sets_beside Calls i s k e t h = push_beside (system_call i s).push k (true_frame Calls i k e refl h)
+sets_beside Ret i s k e t h = frame_beside (words_in s.memory (return_in s).frame 16) (return_in s).frame k refl (true_frame Ret i k e refl h)
+sets_beside Flushreg i s k e t h = refl
+sets_beside Syncf i s k e t h = refl
+sets_beside Modac i s k e t h = c_beside Modac i k (s.ac ∷ []) e refl t h
+sets_beside Modtc i s k e t h = c_beside Modtc i k (s.trace.tc ∷ []) e refl t h
+sets_beside Modpc i s k e t h = c_beside Modpc i k (s.pc ∷ []) e refl t h
+sets_beside Sysctl i s k e t h = by_message (message_kind (message_of i s))
+  where
+    by_message : (m : Message) → last_put (message_action m i s).sets k ≡ None
+    by_message AsksNothing = refl
+    by_message AsksRestart = refl
+    by_message AsksGroup = refl
+sets_beside op i s k e t h = other_beside (asks (question_of op)) i s k t h

@@ -1,0 +1,163 @@
+-- The events of a schedule are in range, in order, and not too many.
+use Rattle.std.proofs.Common.{◌≡◌, ℕ, ◌-◌, ◌*◌, ◌<◌, ◌≤◌, Bool, true, false, cond, ltb, List, [], ◌∷◌, ◌++◌, length, Option, Some, None, Result, Ok, Err, refl, ap, subst, ◌∙◌, arith, inl, inr, ◌⊎◌, length-append, ◌||◌, ◌==◌}
+use Rattle.std.specs.Option.{option_and_then}
+use Rattle.std.specs.Result.{result_ok}
+use Rattle.std.specs.List.{slice_get, AllByRecursion}
+use Rattle.std.proofs.lemmas.Bool.{ltb-false, le-ltb, cases_lt}
+use Rattle.hex.specs.Hex.{decode_of, IsBytes}
+use Rattle.hex.proofs.HexLemmas.{decode_of-ok}
+use Rattle.i9_text.specs.Text.{number_of}
+use Rattle.i9_text.specs.FirstFault.{SaysAll}
+use Rattle.i9_model.specs.Events.{Words, within, number_in, bytes_in, IsInRange, IsUnit, IsEvent, is_pin, is_nmi, is_dma, is_feed, is_show, last_pin, last_channel, last_address, most_shown}
+use Rattle.i9_model.specs.ScheduleText.{last_count, most_events, order_fault, fault_after, fault_of_count, first_fault, Says, says_nothing, says_event, IsTimed, is_at, IsSchedule, time_of, at_time, IsTimedInRange, InOrder, IsPlan}
+use Rattle.i9_model.specs.declared.event.Event.{Event}
+use Rattle.i9_model.specs.declared.event.When.{When}
+use Rattle.i9_model.specs.declared.event.When.TheVariants.{At}
+use Rattle.i9_model.specs.declared.event.Timed.{Timed}
+
+-- ---- what is read is in range
+
+within_some : (low high m n : ℕ) (a b : Bool) → ltb m low ≡ a → ltb high m ≡ b → within low high m ≡ Some n → (low ≤ n) × (n ≤ high)
+within_some low high m n true b e f h = absurd (cc (rw e at h))
+within_some low high m n false true e f h = absurd (cc (rw (e, f) at h))
+within_some low high m n false false e f h =
+    let same : m ≡ n = cc (rw (e, f) at h) in
+    (omega (arith, same, ltb-false _ _ e), omega (arith, same, ltb-false _ _ f))
+
+number_within : (low high n : ℕ) (o : Option ℕ) → option_and_then (within low high) o ≡ Some n → (low ≤ n) × (n ≤ high)
+number_within low high n None h = absurd cc
+number_within low high n (Some m) h = within_some low high m n _ _ refl refl h
+
+in_range : (radix most low high n : ℕ) (word : List ℕ) → number_in radix most low high word ≡ Some n → (low ≤ n) × (n ≤ high)
+unfolding number_in
+in_range radix most low high n word h = number_within low high n (number_of radix most word) h
+
+feed_cases : (n : ℕ) → (n == 2 || n == 4 || n == 8 || n == 32) ≡ true → ((n ≡ 2) ⊎ (n ≡ 4)) ⊎ ((n ≡ 8) ⊎ (n ≡ 32))
+feed_cases n h = grind (arith)
+
+feed_length : (n m : ℕ) → ((m ≡ 2) ⊎ (m ≡ 4)) ⊎ ((m ≡ 8) ⊎ (m ≡ 32)) → m ≡ 2 * n → IsUnit n
+feed_length n m (inl (inl e)) len = inl (inl (omega arith))
+feed_length n m (inl (inr e)) len = inl (inr (omega arith))
+feed_length n m (inr (inl e)) len = inr (inl (omega arith))
+feed_length n m (inr (inr e)) len = inr (inr (omega arith))
+
+ok_some : {A E : Type 0} (r : Result A E) (x : A) → result_ok r ≡ Some x → r ≡ Ok x
+ok_some (Ok y) x h = let e : y ≡ x = cc in ap Ok e
+ok_some (Err e) x h = absurd cc
+
+bytes_read : (word bs : List ℕ) (b : Bool) → (length word == 2 || length word == 4 || length word == 8 || length word == 32) ≡ b → cond b (result_ok (decode_of word)) None ≡ Some bs → IsUnit (length bs) × IsBytes bs
+bytes_read word bs false test h = absurd cc
+bytes_read word bs true test h =
+    let d = decode_of-ok word bs (ok_some (decode_of word) bs h) in
+    (feed_length (length bs) (length word) (feed_cases (length word) test) d.2, d.3)
+
+bytes_in-range : (word bs : List ℕ) → bytes_in word ≡ Some bs → IsUnit (length bs) × IsBytes bs
+unfolding bytes_in
+bytes_in-range word bs h = bytes_read word bs _ refl h
+
+event_in_range : (name : List ℕ) (ws : Words) (e : Event) → IsEvent name ws e → IsInRange e
+event_in_range name ws e (is_pin x n h) = (in_range 10 10 0 last_pin n x h).1
+event_in_range name ws e is_nmi = tt
+event_in_range name ws e (is_dma c n h) = (in_range 10 10 0 last_channel n c h).1
+event_in_range name ws e (is_feed c x n bs h g) = let b = bytes_in-range x bs g in ((in_range 10 10 0 last_channel n c h).1, b.0, b.1)
+event_in_range name ws e (is_show a l m n h g) = let b = in_range 10 10 1 most_shown n l g in ((in_range 16 8 0 last_address m a h).1, b.0, b.1)
+
+timed_in_range : (ws : Words) (t : Timed) → IsTimed ws t → IsTimedInRange t
+timed_in_range ws t (is_at k name operands n e h is) = record { count = (in_range 10 13 0 last_count n k h).1; event = event_in_range name operands e is }
+
+-- ---- the last time
+
+abbrev pub last_time : ℕ → List Timed → ℕ
+last_time time [] = time
+last_time time (t ∷ ts) = last_time (time_of t) ts
+
+pub last_time-push : (time : ℕ) (ts : List Timed) (t : Timed) → last_time time (ts ++ t ∷ []) ≡ time_of t
+last_time-push time [] t = refl
+last_time-push time (x ∷ ts) t = last_time-push (time_of x) ts t
+
+last_found : (time : ℕ) (x : Timed) (ts : List Timed) → (y : Timed) × (slice_get (x ∷ ts) (length ts) ≡ Some y) × (time_of y ≡ last_time time (x ∷ ts))
+last_found time x [] = (x, refl, refl)
+last_found time x (z ∷ zs) = last_found (time_of x) z zs
+
+last_at : (x : Timed) (ts : List Timed) (y : Timed) → slice_get (x ∷ ts) (length ts) ≡ Some y → slice_get (x ∷ ts) (length (x ∷ ts) - 1) ≡ Some y
+last_at x ts y h = let e : length (x ∷ ts) - 1 ≡ length ts = omega arith in ap (slice_get (x ∷ ts)) e ∙ h
+
+order_times : (w v : When) → at_time w ≤ at_time v → order_fault w v ≡ None
+order_times (At m) (At n) h = rw (le-ltb _ _ h) refl
+
+times_order : (w v : When) → order_fault w v ≡ None → at_time w ≤ at_time v
+times_order (At m) (At n) h = elim (cases_lt n m) [
+  | inl lt ↦ absurd (grind (arith))
+  | inr ge ↦ ge
+]
+
+first_none : (a b : Option ℕ) → first_fault a b ≡ None → (a ≡ None) × (b ≡ None)
+first_none None b h = (refl, h)
+first_none (Some k) b h = absurd cc
+
+few_none : (n : ℕ) → fault_of_count n ≡ None → n < most_events
+few_none n h = elim (cases_lt n most_events) [
+  | inl lt ↦ lt
+  | inr ge ↦ absurd (grind (arith))
+]
+
+few_fine : (n : ℕ) → n < most_events → fault_of_count n ≡ None
+few_fine n h = grind (arith)
+
+-- an event follows those before it exactly where its time is not below the last, and they are fewer than the limit
+pub follows_fine : (ts : List Timed) (t : Timed) → last_time 0 ts ≤ time_of t → length ts < most_events → fault_after ts t ≡ None
+unfolding fault_after
+follows_fine [] t h few = few_fine 0 few
+follows_fine (x ∷ ts) t h few =
+    let l = last_found 0 x ts in
+    let order = order_times l.0.when t.when (omega (arith, h, l.2)) in
+    rw (last_at x ts l.0 l.1, order) (few_fine (length (x ∷ ts)) few)
+
+pub fine_follows : (ts : List Timed) (t : Timed) → fault_after ts t ≡ None → (last_time 0 ts ≤ time_of t) × (length ts < most_events)
+unfolding fault_after
+fine_follows [] t h = (omega arith, few_none 0 h)
+fine_follows (x ∷ ts) t h =
+    let l = last_found 0 x ts in
+    let p = first_none (order_fault l.0.when t.when) (fault_of_count (length (x ∷ ts))) (rw (last_at x ts l.0 l.1) at h) in
+    (omega (arith, times_order l.0.when t.when p.0, l.2), few_none (length (x ∷ ts)) p.1)
+
+-- ---- one event more
+
+AllTimedInRange-push : (ts : List Timed) (t : Timed) → AllByRecursion IsTimedInRange ts → IsTimedInRange t → AllByRecursion IsTimedInRange (ts ++ t ∷ [])
+AllTimedInRange-push [] t h new = (new, tt)
+AllTimedInRange-push (x ∷ ts) t h new = (h.0, AllTimedInRange-push ts t h.1 new)
+
+InOrder-push : (time : ℕ) (ts : List Timed) (t : Timed) → InOrder time ts → last_time time ts ≤ time_of t → InOrder time (ts ++ t ∷ [])
+InOrder-push time [] t h new = (new, tt)
+InOrder-push time (x ∷ ts) t h new = (h.0, InOrder-push (time_of x) ts t h.1 new)
+
+line_plan : (ts us : List Timed) (line : List ℕ) → Says ts line us → IsPlan ts → IsPlan us
+line_plan ts us line (says_nothing xs l ascii skipped) plan = plan
+line_plan ts us line (says_event xs l t ascii some is fine) plan =
+    let f = fine_follows xs t fine in
+    record {
+      each = AllTimedInRange-push xs t plan.each (timed_in_range _ t is);
+      order = InOrder-push 0 xs t plan.order f.0;
+      few = omega (arith, length-append xs (t ∷ []), f.1);
+    }
+
+lines_plan : (ts us : List Timed) (lines : List (List ℕ)) → SaysAll Says ts lines us → IsPlan ts → IsPlan us
+lines_plan ts us [] h plan = subst (λ (x : List Timed). IsPlan x) h plan
+lines_plan ts us (line ∷ lines) h plan = lines_plan h.0 us lines h.2 (line_plan ts h.0 line h.1 plan)
+
+-- what a schedule's lines say
+pub schedule_is_plan : (lines : List (List ℕ)) (ts : List Timed) → IsSchedule lines ts → IsPlan ts
+schedule_is_plan lines ts h = lines_plan [] ts lines h (record { each = tt; order = tt; few = omega arith })
+
+-- ---- the front of a plan is one
+
+front_each : (ts us : List Timed) → AllByRecursion IsTimedInRange (ts ++ us) → AllByRecursion IsTimedInRange ts
+front_each [] us h = tt
+front_each (t ∷ ts) us h = (h.0, front_each ts us h.1)
+
+front_order : (time : ℕ) (ts us : List Timed) → InOrder time (ts ++ us) → InOrder time ts
+front_order time [] us h = tt
+front_order time (t ∷ ts) us h = (h.0, front_order (time_of t) ts us h.1)
+
+pub front_is_plan : (ts us : List Timed) → IsPlan (ts ++ us) → IsPlan ts
+front_is_plan ts us h = record { each = front_each ts us h.each; order = front_order 0 ts us h.order; few = omega (arith, h.few, length-append ts us) }

@@ -1,0 +1,107 @@
+-- Bytes that are stored from an address on: which bytes they leave, and what they make of memories that differ elsewhere.
+use Rattle.std.proofs.Common.{◌≡◌, ℕ, suc, ◌+◌, Bool, true, false, cond, List, [], ◌∷◌, ◌++◌, length, refl, sym, ap, ◌∙◌, inl, inr, arith}
+use Rattle.std.specs.Prelude.{not, ◌==◌, ◌⊎◌}
+use Rattle.std.proofs.lemmas.Bool.{or_from, or_parts, eqb-true}
+use Rattle.i9_model.specs.Writes.{wrapped, written, upwards}
+use Rattle.i9_model.specs.Memory.{Memory, in_port_page, stored, word_bytes, with_bytes, with_words}
+use Rattle.i9_model.specs.Frames.{in_bytes}
+use Rattle.i9_model.specs.Step.{bytes_of_words}
+use Rattle.i9_model.specs.Alike.{with_other}
+use Rattle.i9_model.proofs.Stored.{stored-cons, stored-append}
+use Rattle.i9_model.proofs.Upwards.{upwards-wrapped}
+use Rattle.i9_model.proofs.SoundRuns.{four_bytes}
+use Rattle.i9_model.proofs.AlikeActions.{stored_words_same}
+
+-- ---- one byte
+
+put_agree : (g h : ℕ → ℕ) (y b x : ℕ) (e : Bool) → (e ≡ false → g x ≡ h x) → cond e b (g x) ≡ cond e b (h x)
+put_agree g h y b x true out = refl
+put_agree g h y b x false out = out refl
+
+same_port : (x y : ℕ) (e : Bool) → (x == y) ≡ e → in_port_page y ≡ true → (in_port_page x ≡ true) ⊎ (e ≡ false)
+same_port x y true t p = inl (ap in_port_page (eqb-true x y t) ∙ p)
+same_port x y false t p = inr refl
+
+one_agree : (g h : ℕ → ℕ) (y b x : ℕ) → (in_port_page x ≡ true → g x ≡ h x) → ((x == y) ≡ false → g x ≡ h x) → stored g ((y, b) ∷ []) x ≡ stored h ((y, b) ∷ []) x
+unfolding written
+one_agree g h y b x port out = by_port (in_port_page y) refl
+  where
+    by_port : (p : Bool) → in_port_page y ≡ p → written g (cond (not p) ((y, b) ∷ []) []) x ≡ written h (cond (not p) ((y, b) ∷ []) []) x
+    by_port false t = put_agree g h y b x (x == y) out
+    by_port true t = elim (same_port x y (x == y) refl t) [ inl p ↦ port p | inr n ↦ out n ]
+
+one_kept : (g : ℕ → ℕ) (y b x : ℕ) → ((x == y) ≡ false) ⊎ (in_port_page x ≡ true) → stored g ((y, b) ∷ []) x ≡ g x
+unfolding written
+one_kept g y b x kept = by_port (in_port_page y) refl
+  where
+    put_kept : (e : Bool) → (x == y) ≡ e → in_port_page y ≡ false → (e ≡ false) ⊎ (in_port_page x ≡ true) → cond e b (g x) ≡ g x
+    put_kept false t p k = refl
+    put_kept true t p (inl n) = absurd cc
+    put_kept true t p (inr q) = let same : in_port_page x ≡ in_port_page y = ap in_port_page (eqb-true x y t) in absurd (let no : true ≡ false = sym q ∙ same ∙ p in cc no)
+
+    by_port : (p : Bool) → in_port_page y ≡ p → written g (cond (not p) ((y, b) ∷ []) []) x ≡ g x
+    by_port true t = refl
+    by_port false t = put_kept (x == y) refl t kept
+
+-- ---- bytes in a row
+
+-- memories agree after the same bytes were stored, where they agreed in the port page and beside these bytes
+pub stored_agree : (g h : ℕ → ℕ) (a : ℕ) (bs : List ℕ) (x : ℕ) → (in_port_page x ≡ true → g x ≡ h x) → (in_bytes a (length bs) x ≡ false → g x ≡ h x) → stored g (upwards a bs) x ≡ stored h (upwards a bs) x
+unfolding written in_bytes
+stored_agree g h a [] x port out = out refl
+stored_agree g h a (b ∷ bs) x port out =
+    let p : ℕ × ℕ = (wrapped a, b) in
+    ap (λ (m : ℕ → ℕ). m x) (stored-cons g p (upwards (a + 1) bs))
+    ∙ stored_agree (stored g (p ∷ [])) (stored h (p ∷ [])) (a + 1) bs x
+    (λ t. one_agree g h (wrapped a) b x port (λ e. port t))
+    (λ o. one_agree g h (wrapped a) b x port (λ e. out (or_from (x == wrapped a) (in_bytes (a + 1) (length bs) x) e o)))
+    ∙ sym (ap (λ (m : ℕ → ℕ). m x) (stored-cons h p (upwards (a + 1) bs)))
+
+first_kept : (a n x : ℕ) → (in_bytes a (suc n) x ≡ false) ⊎ (in_port_page x ≡ true) → ((x == wrapped a) ≡ false) ⊎ (in_port_page x ≡ true)
+unfolding in_bytes
+first_kept a n x (inl o) = inl (or_parts (x == wrapped a) (in_bytes (a + 1) n x) o).0
+first_kept a n x (inr p) = inr p
+
+later_kept : (a n x : ℕ) → (in_bytes a (suc n) x ≡ false) ⊎ (in_port_page x ≡ true) → (in_bytes (a + 1) n x ≡ false) ⊎ (in_port_page x ≡ true)
+unfolding in_bytes
+later_kept a n x (inl o) = inl (or_parts (x == wrapped a) (in_bytes (a + 1) n x) o).1
+later_kept a n x (inr p) = inr p
+
+-- a byte beside them, or in the port page, stays
+pub stored_kept : (g : ℕ → ℕ) (a : ℕ) (bs : List ℕ) (x : ℕ) → (in_bytes a (length bs) x ≡ false) ⊎ (in_port_page x ≡ true) → stored g (upwards a bs) x ≡ g x
+unfolding written
+stored_kept g a [] x kept = refl
+stored_kept g a (b ∷ bs) x kept =
+    let p : ℕ × ℕ = (wrapped a, b) in
+    ap (λ (m : ℕ → ℕ). m x) (stored-cons g p (upwards (a + 1) bs))
+    ∙ stored_kept (stored g (p ∷ [])) (a + 1) bs x (later_kept a (length bs) x kept)
+    ∙ one_kept g (wrapped a) b x (first_kept a (length bs) x kept)
+
+-- ---- words in a row
+
+upwards_append : (a : ℕ) (xs ys : List ℕ) → upwards a (xs ++ ys) ≡ upwards a xs ++ upwards (a + length xs) ys
+upwards_append a [] ys = let none : a ≡ a + 0 = omega arith in ap (λ (b : ℕ). upwards b ys) none
+upwards_append a (x ∷ xs) ys =
+    let next : a + 1 + length xs ≡ a + suc (length xs) = omega arith in
+    ap (λ (ps : List (ℕ × ℕ)). (wrapped a, x) ∷ ps) (upwards_append (a + 1) xs ys ∙ ap (λ (b : ℕ). upwards (a + 1) xs ++ upwards b ys) next)
+
+-- bytes behind four others
+behind_four : (m : Memory) (a : ℕ) (xs bs : List ℕ) → length xs ≡ 4 → with_bytes (with_bytes m a xs) (wrapped (a + 4)) bs ≡ with_bytes m a (xs ++ bs)
+behind_four m a xs bs four =
+    let place : wrapped (wrapped (a + 4)) ≡ wrapped (a + length xs) = omega (arith, four) in
+    ap (λ (g : ℕ → ℕ). with_other m g)
+    (ap (stored (stored m.bytes (upwards a xs))) (upwards-wrapped (wrapped (a + 4)) (a + length xs) bs place)
+    ∙ sym (stored-append m.bytes (upwards a xs) (upwards (a + length xs) bs))
+    ∙ ap (stored m.bytes) (sym (upwards_append a xs bs)))
+
+-- words stored one by one are their bytes stored at once
+pub words_as_bytes : (m : Memory) (a : ℕ) (ws : List ℕ) → with_words m a ws ≡ with_bytes m a (bytes_of_words m a ws)
+unfolding with_words bytes_of_words written
+words_as_bytes m a [] = refl
+words_as_bytes m a (w ∷ ws) =
+    let bs = word_bytes m a w in
+    let later = wrapped (a + 4) in
+    let one = with_bytes m a bs in
+    words_as_bytes one later ws
+    ∙ ap (with_bytes one later) (stored_words_same m one.bytes later ws)
+    ∙ behind_four m a bs (bytes_of_words m later ws) (four_bytes m a w)

@@ -1,0 +1,45 @@
+//! Laws of schedules and of the printed text, as the contracts of calls that do nothing.
+
+ghost use Rattle.std.specs.Prelude.{◌≡◌, ◌≤◌, ◌++◌, List, ℕ, Option, Some, Ok};
+ghost use Rattle.i9_text.specs.Text as texts;
+ghost use Rattle.i9_model.specs.declared.event.Event as events;
+ghost use Rattle.i9_model.specs.declared.event.Timed as timed;
+ghost use Rattle.i9_model.specs.Events.{Words, IsInRange, journal_text};
+ghost use Rattle.i9_model.specs.ScheduleText.{IsTimed, IsPlan, IsSchedule, timed_of, line_of, timed_at, last_count};
+ghost use Rattle.i9_model.specs.Run.{Record, Finish, Ends};
+ghost use Rattle.i9_model.specs.PlannedRuns.{Stepping, Tally, IsHeedful, next_by, IsPastBy};
+ghost use Rattle.i9_model.specs.PrintedText.{Shown, text_of, events_of};
+
+/// What the words of a line say, by cases, is what the function on words gives.
+pub fn words_say_events()
+    ensures read { (ws : Words) (t : timed.Timed) → timed_of ws ≡ Ok t → IsTimed ws t }
+    ensures only { (ws : Words) (t : timed.Timed) → IsTimed ws t → timed_of ws ≡ Ok t }
+{}
+
+/// The line that a journal prints for an event is read back as the same event at the same count.
+pub fn journal_is_read_back()
+    ensures words { (k : ℕ) (e : events.Event) → k ≤ last_count → IsInRange e
+        → IsTimed (texts.words_of (journal_text k e)) (timed_at k e) }
+    ensures line { (k : ℕ) (e : events.Event) → k ≤ last_count → IsInRange e
+        → line_of (journal_text k e) ≡ Ok (Some (timed_at k e)) }
+{}
+
+/// Printed lines are the text of a schedule, and its events are those that were printed, where these
+/// may stand in a schedule at all. The events of a schedule may, and so may the first ones of them.
+pub fn printed_text_is_a_schedule()
+    ensures replay { (ls : List Shown) → IsPlan (events_of ls)
+        → IsSchedule (texts.lines_of (text_of ls)) (events_of ls) }
+    ensures plan { (lines : List (List ℕ)) (ts : List timed.Timed) → IsSchedule lines ts → IsPlan ts }
+    ensures front { (ts us : List timed.Timed) → IsPlan (ts ++ us) → IsPlan ts }
+{}
+
+/// A run that reaches each event of its plan as it comes to stand reaches the first events of the
+/// plan, in order; and it is also the run of these events alone.
+pub fn runs_reach_the_front_of_their_plan()
+    ensures front { (next : Stepping) (t : Tally) → IsHeedful next t → (plan : List timed.Timed) (rs : List Record)
+        → IsPastBy next t plan rs → (rest : List timed.Timed) × (t.reached rs ++ rest ≡ plan) }
+    ensures again { (next : Stepping) (t : Tally) → IsHeedful next t
+        → (plan : List timed.Timed) (rs : List Record) (end : Finish) → IsPastBy next t plan rs
+        → next_by next t plan rs ≡ Ends end
+        → IsPastBy next t (t.reached rs) rs × (next_by next t (t.reached rs) rs ≡ Ends end) }
+{}

@@ -1,0 +1,4 @@
+pub mod Bytes
+pub mod Copies
+pub mod Settled
+pub mod Enqueued

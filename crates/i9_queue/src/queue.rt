@@ -1,0 +1,125 @@
+//! The requests that wait.
+
+ghost use Rattle.std.specs.Prelude.{◌≡◌, ◌<◌, ◌≤◌, ◌^◌, ◌∷◌, ◌++◌, [], length, MatchOption};
+ghost use Rattle.i9_model.specs.Late.{all_puts};
+ghost use Rattle.i9_model.specs.Writes.{upwards, last_put, or_earlier};
+ghost use Rattle.i9_queue.specs.Queue.{waits_in};
+
+use arrayvec::ArrayVec;
+use std::marker::Model;
+
+/// A load or a store that was issued.
+#[derive(Debug, Drop)]
+pub struct Request {
+    pub address: u32,
+    /// The bytes that it stores, in ascending addresses; a load has none.
+    pub bytes: ArrayVec<u8, 16>,
+    /// The turn at which it is done.
+    pub due: u64,
+}
+
+impl Default for Request {
+    fn default() -> Request {
+        Request {
+            address: 0,
+            bytes: ArrayVec::new(),
+            due: 0,
+        }
+    }
+}
+
+/// At most three requests, the oldest first.
+#[derive(Drop)]
+pub struct Queue {
+    items: ArrayVec<Request, 3>,
+}
+
+impl Model for Queue {
+    ghost use Rattle.std.specs.Prelude.{List};
+    ghost use Rattle.i9_model.specs.Late.{Wait};
+    ghost use Rattle.i9_queue.specs.Queue.{waits_in};
+
+    ghost Value = { List Wait };
+
+    ghost view = { λ q. waits_in q.items.items };
+}
+
+/// The byte at a place, of bytes that stand from an address on.
+fn byte_of_run(address: u32, bytes: &[u8], place: u32) -> Option<u8>
+    requires { length bytes.now < 2 ^ 32 }
+    ensures { result ≡ last_put (upwards address bytes.now) place }
+{
+    bytes.get(place.wrapping_sub(address) as usize).copied()
+}
+
+/// The byte of a request at a place, or what was found before.
+fn byte_or(r: &Request, a: u32, found: Option<u8>) -> Option<u8>
+    ensures { result ≡ or_earlier (last_put (upwards r.now.address r.now.bytes.items) a) found }
+{
+    match byte_of_run(r.address, r.bytes.as_slice(), a) {
+        Some(b) => Some(b),
+        None => found,
+    }
+}
+
+/// The byte that the last of these requests writes at an address.
+#[tactic(auto, using(crate::proofs::Bytes::request_rules))]
+fn byte_among(requests: &[Request], a: u32) -> Option<u8>
+    ensures { result ≡ last_put (all_puts (waits_in requests.now)) a }
+{
+    let mut found = None;
+    for r in requests {
+        found = byte_or(r, a, found);
+    }
+    found
+}
+
+impl Queue {
+    ghost use Rattle.i9_queue.specs.Queue.{NoneDue, wait_in};
+
+    /// No request waits.
+    pub fn new() -> Queue
+        ensures { result ≡ [] }
+    {
+        Queue {
+            items: ArrayVec::new(),
+        }
+    }
+
+    /// How many requests wait.
+    pub fn len(&self) -> u8
+        ensures { result ≡ length self.now }
+    {
+        self.items.len() as u8
+    }
+
+    /// Puts a request behind the others.
+    pub fn put(&mut self, r: Request)
+        requires { length self.old < 3 }
+        ensures { self.new ≡ self.old ++ wait_in r ∷ [] }
+    {
+        self.items.push(r);
+    }
+
+    /// Takes the first request, where it is due by `turn`.
+    pub fn take_due(&mut self, turn: u64) -> Option<Request>
+        ensures { MatchOption result (NoneDue turn self.old × (self.new ≡ self.old))
+            (λ r. (r.due ≤ turn) × (self.old ≡ wait_in r ∷ self.new)) }
+    {
+        if self.items.is_empty() {
+            return None;
+        }
+        let due = self.items[0].due;
+        if turn < due {
+            return None;
+        }
+        Some(self.items.remove(0))
+    }
+
+    /// The byte that the youngest waiting store to an address writes there.
+    pub fn forward(&self, a: u32) -> Option<u8>
+        ensures { result ≡ last_put (all_puts self.now) a }
+    {
+        byte_among(self.items.as_slice(), a)
+    }
+}

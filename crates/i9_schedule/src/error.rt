@@ -1,0 +1,67 @@
+//! Why a text is no schedule.
+
+use thiserror::Error;
+
+// The kinds of faults, as `LineFault` says them.
+pub(crate) const UNKNOWN_LINE: u8 = 1;
+
+pub(crate) const UNKNOWN_EVENT: u8 = 2;
+
+pub(crate) const BAD_OPERAND: u8 = 3;
+
+pub(crate) const EARLIER_TIME: u8 = 5;
+
+pub(crate) const TOO_MANY_EVENTS: u8 = 6;
+
+/// The first fault of a text: its line, counted from 1, and the least kind that applies to it. The
+/// kinds are this project's own.
+///
+/// | kind | the line |
+/// |---|---|
+/// | 1 | has a byte past ASCII, or its first word is not `at` |
+/// | 2 | has an unknown event word, or none |
+/// | 3 | has a number or operand out of its form or range, or lacks one, or has one too many |
+/// | 5 | has a count below that of the event before |
+/// | 6 | comes to more than 1,000,000 events |
+///
+/// Kind 4 is not used yet.
+#[derive(Clone, Copy, Debug, PartialEq, Eq)]
+pub struct LineFault {
+    pub line: u64,
+    pub kind: u8,
+}
+
+/// Why a text is not read.
+#[derive(Debug, Drop, Error)]
+pub enum LineError {
+    /// The text is no schedule.
+    #[error("refused")]
+    Bad(LineFault),
+    /// Memory was refused.
+    #[error("no memory")]
+    Memory,
+}
+
+/// Why a line is not taken.
+#[derive(Debug, Drop)]
+pub(crate) enum StepError {
+    /// The line has a fault of this kind.
+    Bad(u8),
+    /// Memory was refused.
+    Memory,
+}
+
+impl StepError {
+    ghost use Rattle.std.specs.Prelude.{◌≡◌};
+    ghost use Rattle.i9_schedule.specs.Reading.{error_at};
+
+    /// The error of the text, for the line of this number.
+    pub(crate) fn at(self, line: u64) -> LineError
+        ensures { result ≡ error_at self line }
+    {
+        match self {
+            StepError::Bad(kind) => LineError::Bad(LineFault { line, kind }),
+            StepError::Memory => LineError::Memory,
+        }
+    }
+}

@@ -1,0 +1,54 @@
+//! A schedule: its events in order, and how many of them were reached.
+ghost use Rattle.std.specs.Prelude.{◌≡◌, ◌+◌, ◌<◌, length, IfSome};
+ghost use Rattle.std.specs.Option.{option_copied};
+ghost use Rattle.std.specs.List.{slice_get};
+ghost use Rattle.i9_model.specs.ScheduleText.{IsPlan, IsTimedInRange};
+
+use i9_model::Timed;
+use std::marker::Model;
+
+/// Events in order, and the place of the next one among them.
+#[derive(Debug, Drop)]
+pub struct Schedule {
+    events: Vec<Timed>,
+    place: usize,
+}
+
+impl Model for Schedule {
+    ghost use Rattle.std.specs.Prelude.{◌≤◌, length};
+    ghost use Rattle.i9_model.specs.ScheduleText.{IsPlan};
+    ghost use Rattle.i9_schedule.specs.Plan.{Plan};
+
+    ghost Value = { Plan };
+
+    ghost view = { λ s. record { events = s.events.items; place = s.place } };
+
+    ghost invariant = { λ s. (s.place ≤ length s.events.items) × IsPlan s.events.items };
+}
+
+impl Schedule {
+    pub(crate) fn new(events: Vec<Timed>) -> Schedule
+        requires { IsPlan events.items }
+        ensures events { result.events ≡ events.items }
+        ensures place { result.place ≡ 0 }
+    {
+        Schedule { events, place: 0 }
+    }
+
+    /// The next event, where there is one.
+    pub fn next(&self) -> Option<&Timed>
+        ensures event { option_copied result ≡ slice_get self.now.events self.now.place }
+        // So `journal_line` may print it.
+        ensures ranges { IfSome result (λ t. IsTimedInRange t.now) }
+    {
+        self.events.get(self.place)
+    }
+
+    /// Goes on to the event behind the next one.
+    pub fn step(&mut self)
+        requires { self.old.place < length self.old.events }
+        ensures { self.new ≡ record self.old { place = self.old.place + 1 } }
+    {
+        self.place += 1;
+    }
+}

@@ -1,0 +1,211 @@
+-- The bytes of which printed operands are made.
+use Rattle.std.proofs.Common.{◌≡◌, ℕ, ◌+◌, ◌^◌, ◌<◌, ◌≤◌, Bool, true, false, cond, eqb, ◌||◌, List, [], ◌∷◌, ◌++◌, refl, ap, arith, inl, inr}
+use Rattle.std.specs.Prelude.{ℤ, get_or}
+use Rattle.std.specs.List.{list_all, AllByRecursion}
+use Rattle.std.proofs.lemmas.Bool.{eqb-true, cases_Bool}
+use Rattle.i9_isa.specs.declared.inst.Operand.{Operand}
+use Rattle.i9_isa.specs.declared.inst.Operand.TheVariants.{Reg, Lit, Sfr}
+use Rattle.i9_isa.specs.declared.inst.Mode.{Mode}
+use Rattle.i9_isa.specs.declared.inst.Mode.TheVariants.{Offset, BaseOffset, BaseIndex, Disp, BaseDisp, IndexDisp, BaseIndexDisp}
+use Rattle.i9_isa.specs.declared.inst.Ea.{Ea}
+use Rattle.i9_isa.specs.declared.inst.Inst.{Inst}
+use Rattle.i9_isa.specs.declared.format.Format.{Format}
+use Rattle.i9_isa.specs.declared.format.Format.TheVariants as format
+use Rattle.i9_isa.specs.declared.format.Use.{Use}
+use Rattle.i9_isa.specs.declared.format.Use.TheVariants.{Unused, Source, Left, Right, Destination, Load, Store, Change}
+use Rattle.i9_isa.specs.Operands.{takes, is_address}
+use Rattle.i9_isa.specs.Valid.{IsValid, FitsAddress}
+use Rattle.i9_isa.specs.Table.{row_of}
+use Rattle.i9_text.specs.Text.{is_blank}
+use Rattle.std.specs.Fmt.{decimal}
+use Rattle.i9_statement.specs.Cut.{is_byte}
+use Rattle.i9_statement.specs.Registers.{register_text}
+use Rattle.i9_statement.specs.Values.{is_name_byte}
+use Rattle.i9_statement.specs.Addresses.{scale_names}
+use Rattle.i9_statement.specs.Printed.{HasText, needs_bang, operand_text, hex_text, hex_byte_text, front_text, base_text, index_text, bang_text, address_text, target, target_text}
+use Rattle.i9_statement.specs.Instructions.{Fields, comes_first, first_use, last_use, operand_field, address_field, target_field, operand_fields}
+use Rattle.i9_statement.proofs.Cutting.{is_free, free_by, all_by, all_append}
+use Rattle.i9_statement.proofs.ReadValues.{has_byte, has_byte-some, register_bytes, register_some, decimal_bytes, decimal_some, hex_bytes, hex_byte_bytes}
+use Rattle.i9_statement.proofs.ReadOperands.{taken_in_range}
+use Rattle.i9_statement.proofs.ReadAddresses.{scale_name_bytes, Parts, parts, ea}
+
+-- a letter, a digit, `_`, or a sign of an address
+abbrev pub is_operand_byte : ℕ → Bool
+is_operand_byte b = is_name_byte b || (is_byte 33 b || (is_byte 40 b || (is_byte 41 b || (is_byte 42 b || (is_byte 91 b || is_byte 93 b)))))
+
+-- a byte that is not in a class is none of its bytes
+pub apart_by : (q : ℕ → Bool) (x b : ℕ) → q x ≡ false → q b ≡ true → is_byte x b ≡ false
+apart_by q x b other h = elim (cases_Bool (is_byte x b)) [
+  | inl same ↦ let e : b ≡ x = eqb-true b x same in absurd (cc (ap q e))
+  | inr differs ↦ differs
+]
+
+pub free_in : (q : ℕ → Bool) (x : ℕ) (w : List ℕ) → q x ≡ false → list_all q w ≡ true → is_free (is_byte x) w ≡ true
+free_in q x w other h = free_by q (is_byte x) (λ b. apart_by q x b other) w h
+
+pub free_of_blanks : (q : ℕ → Bool) (w : List ℕ) → q 32 ≡ false → q 9 ≡ false → list_all q w ≡ true → is_free is_blank w ≡ true
+free_of_blanks q w space tab h = free_by q is_blank (λ b in_q. rw (apart_by q 32 b space in_q, apart_by q 9 b tab in_q) refl) w h
+
+-- an operand as it is printed
+pub record IsField (f : List ℕ) : Type 0 where
+  pub bytes : list_all is_operand_byte f ≡ true
+  pub some : has_byte f ≡ true
+
+named_bytes : (w : List ℕ) → list_all is_name_byte w ≡ true → list_all is_operand_byte w ≡ true
+named_bytes w h = all_by is_name_byte is_operand_byte (λ b in_q. rw in_q refl) w h
+
+pub has_front : (v w : List ℕ) → has_byte v ≡ true → has_byte (v ++ w) ≡ true
+has_front [] w h = absurd cc
+has_front (b ∷ v) w h = refl
+
+pub has_back : (v w : List ℕ) → has_byte w ≡ true → has_byte (v ++ w) ≡ true
+has_back [] w h = h
+has_back (b ∷ v) w h = refl
+
+register_field : (k : ℕ) → k < 39 → IsField (register_text k)
+register_field k h = record { bytes = named_bytes (register_text k) (register_bytes k h); some = register_some k h }
+
+pub field_of_operand : (o : Operand) → HasText o → IsField (operand_text o)
+unfolding operand_text
+field_of_operand (Reg r) h = register_field r (omega arith)
+field_of_operand (Sfr s) h = register_field (32 + s) (omega arith)
+field_of_operand (Lit l) h = record { bytes = named_bytes (decimal l) (decimal_bytes l (omega arith)); some = has_byte-some (decimal l) (decimal_some l (omega arith)) }
+
+pub hex_field : (n : ℕ) → IsField (hex_text n)
+unfolding hex_text
+hex_field n = record { bytes = named_bytes (hex_text n) (hex_bytes n); some = refl }
+
+pub hex_byte_field : (b : ℕ) → b < 256 → IsField (hex_byte_text b)
+unfolding hex_byte_text
+hex_byte_field b h = record { bytes = named_bytes (hex_byte_text b) (hex_byte_bytes b h); some = refl }
+
+pub field_of_target : (ip : ℕ) (z : ℤ) → IsField (target_text ip z)
+unfolding target_text
+field_of_target ip z = hex_field (target ip z)
+
+-- ---- addresses
+
+-- the texts of the parts of an address
+bang_bytes : (q : Bool) → list_all is_operand_byte (cond q (33 ∷ []) []) ≡ true
+bang_bytes true = refl
+bang_bytes false = refl
+
+front_decimal : (q : Bool) (d : ℕ) → d < 2 ^ 32 → list_all is_operand_byte (cond q [] (decimal d)) ≡ true
+front_decimal true d h = refl
+front_decimal false d h = named_bytes (decimal d) (decimal_bytes d h)
+
+front_bytes : (m : Mode) (d : ℕ) → d < 2 ^ 32 → list_all is_operand_byte (front_text m d) ≡ true
+front_bytes Offset d h = named_bytes (decimal d) (decimal_bytes d h)
+front_bytes BaseOffset d h = front_decimal (eqb d 0) d h
+front_bytes Mode.Base d h = refl
+front_bytes BaseIndex d h = refl
+front_bytes _ d h = named_bytes (hex_text d) (hex_bytes d)
+
+round_bytes : (r : ℕ) → r < 32 → list_all is_operand_byte (40 ∷ register_text r ++ 41 ∷ []) ≡ true
+round_bytes r h = all_append is_operand_byte (register_text r) (41 ∷ []) (named_bytes (register_text r) (register_bytes r (omega arith))) refl
+
+base_bytes : (m : Mode) (r : ℕ) → r < 32 → list_all is_operand_byte (base_text m r) ≡ true
+base_bytes Mode.Ip r h = refl
+base_bytes Offset r h = refl
+base_bytes Disp r h = refl
+base_bytes IndexDisp r h = refl
+base_bytes _ r h = round_bytes r h
+
+square_bytes : (r s : ℕ) → r < 32 → s < 5 → list_all is_operand_byte (91 ∷ (register_text r ++ 42 ∷ get_or scale_names s []) ++ 93 ∷ []) ≡ true
+square_bytes r s hr hs =
+    all_append is_operand_byte (register_text r ++ 42 ∷ get_or scale_names s []) (93 ∷ [])
+    (all_append is_operand_byte (register_text r) (42 ∷ get_or scale_names s []) (named_bytes (register_text r) (register_bytes r (omega arith))) (named_bytes (get_or scale_names s []) (scale_name_bytes s hs))) refl
+
+index_bytes : (m : Mode) (r s : ℕ) → r < 32 → s < 5 → list_all is_operand_byte (index_text m r s) ≡ true
+index_bytes BaseIndex r s hr hs = square_bytes r s hr hs
+index_bytes IndexDisp r s hr hs = square_bytes r s hr hs
+index_bytes BaseIndexDisp r s hr hs = square_bytes r s hr hs
+index_bytes _ r s hr hs = refl
+
+-- what is printed of an address is not empty
+address_some : (m : Mode) (b i s d : ℕ) → d < 2 ^ 32 → has_byte (bang_text m d ++ (front_text m d ++ (base_text m b ++ index_text m i s))) ≡ true
+unfolding hex_text
+address_some Offset b i s d h = has_front (decimal d) _ (has_byte-some (decimal d) (decimal_some d h))
+address_some BaseOffset b i s d h = has_back (front_text BaseOffset d) _ refl
+address_some Mode.Base b i s d h = refl
+address_some BaseIndex b i s d h = refl
+address_some Disp b i s d h = has_back (bang_text Disp d) _ refl
+address_some BaseDisp b i s d h = has_back (bang_text BaseDisp d) _ refl
+address_some _ b i s d h = refl
+
+-- the parts of any address are in these ranges
+record Within (b i s d : ℕ) : Type 0 where
+  base : b < 32
+  index : i < 32
+  scale : s < 5
+  disp : d < 2 ^ 32
+
+widened : (b i s d lb li ls ld : ℕ) → lb ≤ 32 → li ≤ 32 → ls ≤ 5 → ld ≤ 2 ^ 32 → Parts b i s d lb li ls ld → Within b i s d
+widened b i s d lb li ls ld hb hi hs hd p = record { base = omega arith; index = omega arith; scale = omega arith; disp = omega arith }
+
+within : (m : Mode) (b i s d : ℕ) → is_address (ea m b i s d) ≡ true → Within b i s d
+within Offset b i s d h = widened b i s d _ _ _ _ (omega arith) (omega arith) (omega arith) (omega arith) (parts b i s d 1 1 1 4096 h)
+within BaseOffset b i s d h = widened b i s d _ _ _ _ (omega arith) (omega arith) (omega arith) (omega arith) (parts b i s d 32 1 1 4096 h)
+within Mode.Base b i s d h = widened b i s d _ _ _ _ (omega arith) (omega arith) (omega arith) (omega arith) (parts b i s d 32 1 1 1 h)
+within Mode.Ip b i s d h = widened b i s d _ _ _ _ (omega arith) (omega arith) (omega arith) (omega arith) (parts b i s d 1 1 1 (2 ^ 32) h)
+within BaseIndex b i s d h = widened b i s d _ _ _ _ (omega arith) (omega arith) (omega arith) (omega arith) (parts b i s d 32 32 5 1 h)
+within Disp b i s d h = widened b i s d _ _ _ _ (omega arith) (omega arith) (omega arith) (omega arith) (parts b i s d 1 1 1 (2 ^ 32) h)
+within BaseDisp b i s d h = widened b i s d _ _ _ _ (omega arith) (omega arith) (omega arith) (omega arith) (parts b i s d 32 1 1 (2 ^ 32) h)
+within IndexDisp b i s d h = widened b i s d _ _ _ _ (omega arith) (omega arith) (omega arith) (omega arith) (parts b i s d 1 32 5 (2 ^ 32) h)
+within BaseIndexDisp b i s d h = widened b i s d _ _ _ _ (omega arith) (omega arith) (omega arith) (omega arith) (parts b i s d 32 32 5 (2 ^ 32) h)
+
+address_bytes : (m : Mode) (b i s d : ℕ) → Within b i s d → list_all is_operand_byte (bang_text m d ++ (front_text m d ++ (base_text m b ++ index_text m i s))) ≡ true
+address_bytes m b i s d w =
+    all_append is_operand_byte (bang_text m d) _ (bang_bytes (needs_bang m d))
+    (all_append is_operand_byte (front_text m d) _ (front_bytes m d w.disp)
+    (all_append is_operand_byte (base_text m b) (index_text m i s) (base_bytes m b w.base) (index_bytes m i s w.index w.scale)))
+
+pub field_of_address : (e : Ea) → is_address e ≡ true → IsField (address_text e)
+unfolding address_text
+field_of_address e h =
+    let w = within e.mode e.base e.index e.scale e.disp h in
+    record { bytes = address_bytes e.mode e.base e.index e.scale e.disp w; some = address_some e.mode e.base e.index e.scale e.disp w.disp }
+
+-- ---- the operands of an instruction
+
+operand_fields-ok : (u : Use) (o : Operand) → takes u o ≡ true → AllByRecursion IsField (operand_field u o)
+operand_fields-ok Unused o h = tt
+operand_fields-ok (Source n) o h = (field_of_operand o (taken_in_range (Source n) o h), tt)
+operand_fields-ok Left o h = (field_of_operand o (taken_in_range Left o h), tt)
+operand_fields-ok Right o h = (field_of_operand o (taken_in_range Right o h), tt)
+operand_fields-ok (Destination n) o h = (field_of_operand o (taken_in_range (Destination n) o h), tt)
+operand_fields-ok (Load n) o h = (field_of_operand o (taken_in_range (Load n) o h), tt)
+operand_fields-ok (Store n) o h = (field_of_operand o (taken_in_range (Store n) o h), tt)
+operand_fields-ok Change o h = (field_of_operand o (taken_in_range Change o h), tt)
+
+address_fields-ok : (f : Format) (e : Ea) → FitsAddress f e → AllByRecursion IsField (address_field f e)
+address_fields-ok format.Mem e h = (field_of_address e h, tt)
+address_fields-ok format.Reg e h = tt
+address_fields-ok format.Cobr e h = tt
+address_fields-ok format.Ctrl e h = tt
+
+target_fields-ok : (uses : Bool) (ip : ℕ) (z : ℤ) → AllByRecursion IsField (target_field uses ip z)
+target_fields-ok true ip z = (field_of_target ip z, tt)
+target_fields-ok false ip z = tt
+
+use_first-ok : (q : Bool) (u : Use) (o : Operand) → takes u o ≡ true → AllByRecursion IsField (operand_field (cond q u Unused) o)
+use_first-ok true u o h = operand_fields-ok u o h
+use_first-ok false u o h = tt
+
+use_last-ok : (q : Bool) (u : Use) (o : Operand) → takes u o ≡ true → AllByRecursion IsField (operand_field (cond q Unused u) o)
+use_last-ok true u o h = tt
+use_last-ok false u o h = operand_fields-ok u o h
+
+fields_append : (fs gs : Fields) → AllByRecursion IsField fs → AllByRecursion IsField gs → AllByRecursion IsField (fs ++ gs)
+fields_append [] gs hf hg = hg
+fields_append (f ∷ fs) gs hf hg = (hf.0, fields_append fs gs hf.1 hg)
+
+pub operand_fields-fields : (ip : ℕ) (i : Inst) → IsValid i → AllByRecursion IsField (operand_fields ip i)
+unfolding operand_fields
+operand_fields-fields ip i v =
+    let r = row_of i.op in
+    fields_append (operand_field r.a i.a) _ (operand_fields-ok r.a i.a v.a)
+    (fields_append (operand_field r.b i.b) _ (operand_fields-ok r.b i.b v.b)
+    (fields_append (operand_field (first_use r) i.c) _ (use_first-ok (comes_first r.format r.c) r.c i.c v.c)
+    (fields_append (address_field r.format i.ea) _ (address_fields-ok r.format i.ea v.ea)
+    (fields_append (target_field r.disp ip i.disp) (operand_field (last_use r) i.c) (target_fields-ok r.disp ip i.disp) (use_last-ok (comes_first r.format r.c) r.c i.c v.c)))))

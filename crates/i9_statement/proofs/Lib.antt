@@ -1,0 +1,17 @@
+pub mod Cutting
+pub mod NameBytes
+pub mod ReadValues
+pub mod ReadOperands
+pub mod ReadTargets
+pub mod ReadAddresses
+pub mod ReadInstructions
+pub mod Classes
+pub mod ReadFields
+pub mod ReadStatements
+pub mod RegisterSearch
+pub mod Decimals
+pub mod ValidRead
+pub mod StatementWords
+pub mod StatementBytes
+pub mod Marked
+pub mod Pieces

@@ -1,0 +1,14 @@
+pub mod Noted
+pub mod Cut
+pub mod Registers
+pub mod Values
+pub mod Operands
+pub mod Addresses
+pub mod Targets
+pub mod Mnemonics
+pub mod Fields
+pub mod Printed
+pub mod Instructions
+pub mod Statements
+pub mod Codes
+pub mod Pieces

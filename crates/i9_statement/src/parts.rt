@@ -1,0 +1,41 @@
+//! Values and the parts of addresses.
+
+/// A value, modulo 2^32.
+#[derive(Clone, Copy, Debug, PartialEq, Eq)]
+pub enum Value {
+    /// A number without a name.
+    Number(u32),
+    /// A name, or a name and a number.
+    Named(u32),
+    /// Its number is out of range.
+    Beyond,
+    /// Its name is unknown.
+    Unknown,
+}
+
+/// What stands before the brackets of an address.
+#[derive(Clone, Copy)]
+pub enum Front {
+    Absent,
+    /// It has no form of a value.
+    Malformed,
+    Valued(Value),
+}
+
+/// What stands in round brackets in an address.
+#[derive(Clone, Copy)]
+pub enum Base {
+    Nothing,
+    /// `ip`
+    Ip,
+    /// A register, by its place in the table of register names.
+    Register(u8),
+}
+
+/// What stands in square brackets in an address.
+#[derive(Clone, Copy)]
+pub enum Index {
+    Nothing,
+    /// A register, by its place in the table of register names, and a scale as a power of 2.
+    Scaled(u8, u8),
+}

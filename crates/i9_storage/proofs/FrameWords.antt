@@ -1,0 +1,41 @@
+-- The words of a frame that are written to memory one by one, and frames that are returned to.
+use Rattle.std.proofs.Common.{◌≡◌, ℕ, ◌+◌, ◌<◌, ◌≤◌, List, [], ◌∷◌, length, get_or, drop, refl, ap, arith}
+use Rattle.std.specs.Prelude.{slice_get, is_some, true, false}
+use Rattle.std.proofs.lemmas.List.{at_drop_more, at_drop_all}
+use Rattle.i9_model.specs.Writes.{wrapped}
+use Rattle.i9_model.specs.Memory.{Memory, word_bytes, with_bytes, with_words}
+use Rattle.i9_model.specs.State.{Frames}
+use Rattle.i9_model.specs.Frames.{returned}
+
+-- ---- writes
+
+-- one more word is stored
+pub with_words_more : (m : Memory) (a : ℕ) (ws : List ℕ) (i : ℕ) → i < length ws → with_words m a (drop i ws) ≡ with_words (with_bytes m a (word_bytes m a (get_or ws i 0))) (wrapped (a + 4)) (drop (i + 1) ws)
+unfolding with_words
+with_words_more m a ws i h = at_drop_more (with_words m a) ws i 0 h
+
+-- no word is left
+pub with_words_done : (m : Memory) (a : ℕ) (ws : List ℕ) (i : ℕ) → length ws ≤ i → with_words m a (drop i ws) ≡ m
+unfolding with_words
+with_words_done m a ws i h = at_drop_all (with_words m a) ws i h
+
+pub ruleset words_rules = (with_words_more, with_words_done)
+
+-- ---- returns
+
+none_dropped : (live : List ℕ) → is_some (slice_get live 0) ≡ false → drop 1 live ≡ live
+none_dropped [] e = refl
+none_dropped (x ∷ xs) e = absurd cc
+
+-- where no frame is live, none is dropped
+pub return_none : (s : Frames) → is_some (slice_get s.live 0) ≡ false → returned s ≡ s
+return_none s e = ap (λ (live : List ℕ). record s { live = live }) (none_dropped s.live e)
+
+some_live : (live : List ℕ) → is_some (slice_get live 0) ≡ true → 0 < length live
+some_live [] e = absurd cc
+some_live (x ∷ xs) e = omega arith
+
+pub return_some : (s : Frames) → is_some (slice_get s.live 0) ≡ true → 0 < length s.live
+return_some s e = some_live s.live e
+
+pub ruleset return_rules = (return_none, return_some)

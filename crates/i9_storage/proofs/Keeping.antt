@@ -1,0 +1,111 @@
+-- What storage keeps true of its memory, its frames and its sets.
+use Rattle.std.proofs.Common.{◌≡◌, ℕ, ◌-◌, Bool, true, false, cond, ltb, zero, suc, List, [], ◌∷◌, ◌++◌, length, take, None, refl, sym, ap, ◌∙◌, subst}
+use Rattle.i9_model.specs.declared.layout.TheConstants.{LOCALS, FRAME_SIZE}
+use Rattle.i9_model.specs.declared.frame.Frame.{Frame}
+use Rattle.i9_model.specs.Memory as model
+use Rattle.i9_model.specs.Memory.{with_bytes, with_words}
+use Rattle.i9_model.specs.State.{Frames}
+use Rattle.i9_model.specs.Frames.{no_frames, saved, returned, flushed, wrote}
+use Rattle.i9_model.specs.Hazards.{write_hazard, save_hazard}
+use Rattle.i9_model.specs.Sound.{IsSound}
+use Rattle.i9_model.specs.Step.{Saves}
+use Rattle.i9_model.specs.Alike.{is_compared, AgreeWhere}
+use Rattle.i9_model.specs.HeldFrames.{Cache, over, overlaid, spilled, with_room, holding, taken, written_back, AreYoungest}
+use Rattle.i9_model.proofs.FrameLaws.{sound-none, sound-saved, sound-returned, sound-flushed, sound-wrote}
+use Rattle.i9_model.proofs.Overlays.{overlaid_holding, over_stored}
+use Rattle.i9_model.proofs.HeldFrames.{write_beside, return_keeps, move_keeps, taken_alike}
+use Rattle.i9_memory.specs.declared.memory.Memory.{Memory}
+use Rattle.i9_memory.specs.Memory.{memory_of, HasRoom, KeepsRoom}
+use Rattle.i9_watch.specs.declared.watch.Watch.{Watch}
+use Rattle.i9_watch.specs.Watch.{frames_of}
+use Rattle.i9_frames.specs.Sets.{Held, held}
+use Rattle.i9_storage.specs.Kept.{cache_in, HaveRoom, IsKept}
+use Rattle.i9_storage.proofs.HeldRooms.{kept_room}
+
+-- frames after a step are kept, from what holds of them
+kept_by : (m k : Memory) (w v : Watch) (h g : Held) (f : Frames) → frames_of v ≡ f → IsSound f → AreYoungest g.frames f.live → HaveRoom k g.frames → IsKept k v g
+kept_by m k w v h g f is sound youngest room = record {
+  sound = subst IsSound (sym is) sound;
+  youngest = subst (λ (x : Frames). AreYoungest g.frames x.live) (sym is) youngest;
+  room = room;
+}
+
+-- ---- at first
+
+pub kept_new : (m : Memory) (w : Watch) (h : Held) → frames_of w ≡ no_frames → h.frames ≡ [] → IsKept m w h
+kept_new m w h is none =
+    let young : AreYoungest [] [] = record { first = refl; whole = tt } in
+    kept_by m m w w h h no_frames is sound-none (subst (λ (fs : List Frame). AreYoungest fs []) (sym none) young) (subst (HaveRoom m) (sym none) tt)
+
+-- ---- stores
+
+pub kept_store : (m k : Memory) (w v : Watch) (h : Held) (a n : ℕ) → IsKept m w h → KeepsRoom m k → frames_of v ≡ wrote (frames_of w) a n → write_hazard (frames_of w) a n ≡ None → IsKept k v h
+kept_store m k w v h a n kept keeps is free =
+    kept_by m k w v h h (wrote (frames_of w) a n) is (sound-wrote (frames_of w) a n kept.sound free) kept.youngest (kept_room m k h.frames keeps kept.room)
+
+pub store_laid : (m k : Memory) (w : Watch) (h : Held) (a : ℕ) (bs : List ℕ) → IsKept m w h → write_hazard (frames_of w) a (length bs) ≡ None → memory_of k ≡ with_bytes (memory_of m) a bs → overlaid (cache_in k h) ≡ with_bytes (overlaid (cache_in m h)) a bs
+store_laid m k w h a bs kept free is =
+    ap (over h.frames) is ∙ over_stored h.frames (memory_of m) a bs kept.youngest.whole (write_beside (frames_of w) a (length bs) h.frames kept.youngest free)
+
+-- ---- saves
+
+room_push : (m : Memory) (hs : List Frame) (f : Frame) → HaveRoom m hs → HasRoom m f.address FRAME_SIZE → HaveRoom m (hs ++ f ∷ [])
+room_push m [] f all room = (room, tt)
+room_push m (h ∷ hs) f all room = (all.0, room_push m hs f all.1 room)
+
+room_spilled : (m : Memory) (hs : List Frame) (b : model.Memory) → HaveRoom m hs → HaveRoom m (spilled hs b).held
+room_spilled m [] b all = tt
+room_spilled m (h ∷ hs) b all = all.1
+
+room_by : (m : Memory) (t : Bool) (c : Cache) → HaveRoom m c.held → HaveRoom m (cond t c (spilled c.held c.behind)).held
+room_by m true c all = all
+room_by m false c all = room_spilled m c.held c.behind all
+
+pub kept_save : (m k : Memory) (w v : Watch) (h g : Held) (f : Frame) → IsKept m w h → KeepsRoom m k → frames_of v ≡ saved (frames_of w) f.address → save_hazard (frames_of w) f.address ≡ None
+    → cache_in k g ≡ holding h.size f (cache_in m h) → length f.words ≡ LOCALS → HasRoom m f.address FRAME_SIZE → IsKept k v g
+kept_save m k w v h g f kept keeps is free held whole room =
+    let c = cache_in m h in
+    let frames : g.frames ≡ (holding h.size f c).held = ap (λ (d : Cache). d.held) held in
+    let all = kept_room m k (holding h.size f c).held keeps (room_push m (with_room h.size c).held f (room_by m (ltb (length h.frames) h.size) c kept.room) room) in
+    kept_by m k w v h g (saved (frames_of w) f.address) is (sound-saved (frames_of w) f.address kept.sound free)
+    (subst (λ (fs : List Frame). AreYoungest fs (f.address ∷ (frames_of w).live)) (sym frames) (move_keeps h.size (Saves f.address f.words) c (frames_of w) whole kept.youngest))
+    (subst (HaveRoom k) (sym frames) all)
+
+pub save_laid : (n : ℕ) (f : Frame) (c d : Cache) → d ≡ holding n f c → overlaid d ≡ with_words (overlaid c) f.address f.words
+save_laid n f c d e = ap overlaid e ∙ overlaid_holding n f c
+
+-- ---- returns
+
+room_take : (m : Memory) (n : ℕ) (hs : List Frame) → HaveRoom m hs → HaveRoom m (take n hs)
+room_take m zero hs all = tt
+room_take m (suc n) [] all = tt
+room_take m (suc n) (h ∷ hs) all = (all.0, room_take m n hs all.1)
+
+pub kept_return : (m : Memory) (w v : Watch) (h g : Held) → IsKept m w h → frames_of v ≡ returned (frames_of w) → g ≡ held h.size (take (length h.frames - 1) h.frames) → IsKept m v g
+kept_return m w v h g kept is taken =
+    let left = take (length h.frames - 1) h.frames in
+    let here : IsKept m v (held h.size left) =
+    kept_by m m w v h (held h.size left) (returned (frames_of w)) is (sound-returned (frames_of w) kept.sound) (return_keeps h.frames (frames_of w).live kept.youngest)
+    (room_take m (length h.frames - 1) h.frames kept.room) in
+    subst (IsKept m v) (sym taken) here
+
+pub return_laid : (m : Memory) (w : Watch) (h g : Held) → IsKept m w h → g ≡ held h.size (take (length h.frames - 1) h.frames) → AgreeWhere (is_compared (returned (frames_of w))) (overlaid (cache_in m h)) (overlaid (cache_in m g)).bytes
+return_laid m w h g kept is =
+    subst (λ (x : Held). AgreeWhere (is_compared (returned (frames_of w))) (overlaid (cache_in m h)) (overlaid (cache_in m x)).bytes) (sym is) (taken_alike h.frames (memory_of m) (frames_of w) kept.sound kept.youngest)
+
+-- ---- flushes
+
+pub kept_flush : (m k : Memory) (w v : Watch) (h g : Held) → IsKept m w h → frames_of v ≡ flushed (frames_of w) → cache_in k g ≡ written_back (cache_in m h) → IsKept k v g
+kept_flush m k w v h g kept is written =
+    let none : g.frames ≡ [] = ap (λ (d : Cache). d.held) written in
+    let young : AreYoungest [] [] = record { first = refl; whole = tt } in
+    kept_by m k w v h g (flushed (frames_of w)) is (sound-flushed (frames_of w) kept.sound) (subst (λ (fs : List Frame). AreYoungest fs []) (sym none) young) (subst (HaveRoom k) (sym none) tt)
+
+pub flush_laid : (c d : Cache) → d ≡ written_back c → overlaid d ≡ overlaid c
+unfolding over
+flush_laid c d e = ap overlaid e
+
+-- ---- room
+
+pub kept_reserve : (m k : Memory) (w v : Watch) (h : Held) → IsKept m w h → KeepsRoom m k → frames_of v ≡ frames_of w → IsKept k v h
+kept_reserve m k w v h kept keeps is = kept_by m k w v h h (frames_of w) is kept.sound kept.youngest (kept_room m k h.frames keeps kept.room)

@@ -1,0 +1,19 @@
+use Rattle.std.proofs.Common.{rules, ◌≡◌, length}
+use Rattle.i9_model.specs.declared.layout.TheConstants.{LOCALS}
+use Rattle.i9_storage.specs.Kept.{cache_in}
+use Rattle.i9_storage.proofs.Keeping.{kept_save, save_laid}
+use Rattle.i9_storage.proofs.storage.Storage.save_frame.Goals as goal
+
+pub invariant_of-self : goal.invariant_of-self
+invariant_of-self c =
+    let old = c.args.self.now in
+    let whole : length c.args.f.words ≡ LOCALS = search rules in
+    record {
+      kept = kept_save old.memory c.hold.new.memory old.watch c.called.new.self old.sets c.hold.new.sets c.args.f old.kept c.hold.ensures.keeps c.called.ensures.frames c.requires.free
+          c.hold.ensures.cache whole c.requires.space.bytes;
+    }
+
+pub returns-clause-memory : goal.returns-clause-memory
+returns-clause-memory c =
+    let old = c.args.self.now in
+    save_laid old.sets.size c.args.f (cache_in old.memory old.sets) (cache_in c.hold.new.memory c.hold.new.sets) c.hold.ensures.cache

@@ -1,0 +1,10 @@
+//! Storage: memory, and the frames that are held in the sets of the local register cache in place
+//! of it.
+#![tactic(auto)]
+
+mod storage;
+
+pub use storage::Storage;
+
+#[cfg(test)]
+mod tests;

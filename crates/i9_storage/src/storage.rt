@@ -1,0 +1,193 @@
+//! Memory, and the frames that are held in place of it.
+ghost use Rattle.std.specs.Prelude.{◌≡◌, ◌+◌, ◌-◌, ◌%◌, ◌^◌, ◌<◌, ◌≤◌, None, Some, OnOk, OnErr, IfOk, [], length, take};
+ghost use Rattle.i9_model.specs.Memory.{with_bytes, with_words};
+ghost use Rattle.i9_model.specs.Frames.{no_frames, saved, returned, flushed, wrote};
+ghost use Rattle.i9_model.specs.Hazards.{write_hazard, save_hazard};
+ghost use Rattle.i9_model.specs.Sound.{IsSound};
+ghost use Rattle.i9_model.specs.Alike.{is_compared, AgreeWhere};
+ghost use Rattle.i9_model.specs.HeldFrames.{cache, AreYoungest, holding, taken, written_back, cache_stored};
+ghost use Rattle.i9_memory.specs.Memory.{memory_of, HasRoom, KeepsRoom};
+ghost use Rattle.i9_watch.specs.Watch.{frames_of};
+ghost use Rattle.i9_frames.specs.Sets.{held};
+ghost use Rattle.i9_storage.specs.Kept.{IsKept, IsKept-prop};
+
+mod plans;
+mod reading;
+mod spilling;
+
+use i9_frames::{Frame, Sets};
+use i9_isa::NoMemory;
+use i9_memory::Memory;
+use i9_model::layout::FRAME_SIZE;
+use i9_watch::Watch;
+use spilling::{hold, write_back};
+use std::alloc::Global;
+
+/// Memory as the accesses of a run see it. A frame that is saved is held in a set of the local
+/// register cache, and its words go to memory where another frame needs that set, or at a flush
+/// (the i960 CA/CF User's Manual, local register cache). What is read is memory with the held
+/// frames laid over it, the oldest first.
+///
+/// It keeps true that
+/// - live frames are apart and outside the port page, and all their bytes are soft;
+/// - the frames that are held are the youngest live ones, with sixteen words each;
+/// - memory has room for each held frame, so that no spill and no flush asks for memory.
+#[derive(Drop)]
+pub struct Storage {
+    memory: Memory,
+    watch: Watch,
+    sets: Sets,
+    ghost kept: { IsKept memory watch sets } by { IsKept-prop memory watch sets },
+}
+
+/// Stores bytes for which memory has room.
+#[tactic(auto, using(i9_model::proofs::Stores::store_rules))]
+fn put_bytes(memory: &mut Memory, a: u32, bytes: &[u8])
+    requires { HasRoom memory.old a (length bytes.now) }
+    ensures memory { memory_of memory.new ≡ with_bytes (memory_of memory.old) a bytes.now }
+    ensures keeps { KeepsRoom memory.old memory.new }
+{
+    let mut at = a;
+    for b in bytes {
+        memory.put_byte(at, *b);
+        at = at.wrapping_add(1);
+    }
+}
+
+/// Drops the youngest live frame, where one is live.
+#[tactic(auto, using(crate::proofs::FrameWords::return_rules))]
+fn drop_frame(watch: &mut Watch)
+    ensures { frames_of watch.new ≡ returned (frames_of watch.old) }
+{
+    if watch.first_live().is_some() {
+        watch.returned();
+    }
+}
+
+impl Storage {
+    ghost use Rattle.i9_storage.specs.Storage.{cache_of, memory_in, frames_in, size_of, HasSpace, HasFrameSpace, KeepsSpace};
+
+    /// Memory as it is, with `sets` sets and no frame saved.
+    pub fn new(alloc: Global, memory: Memory, sets: u8) -> Result<Storage, NoMemory>
+        requires { (0 < sets) × (sets < 16) }
+        ensures cache { IfOk result (λ s. cache_of s ≡ cache [] (memory_of memory)) }
+        ensures frames { IfOk result (λ s. frames_in s ≡ no_frames) }
+        ensures size { IfOk result (λ s. size_of s ≡ sets) }
+    {
+        Ok(Storage {
+            memory,
+            watch: Watch::new(alloc),
+            sets: Sets::new(alloc, sets)?,
+        })
+    }
+
+    /// Stores bytes for which there is space, beside the live frames.
+    pub fn store(&mut self, a: u32, bytes: &[u8])
+        requires space { HasSpace self.old a (length bytes.now) }
+        requires free { write_hazard (frames_in self.old) a (length bytes.now) ≡ None }
+        requires few { length bytes.now < 2 ^ 32 }
+        ensures cache { cache_of self.new ≡ cache_stored a bytes.now (cache_of self.old) }
+        ensures memory { memory_in self.new ≡ with_bytes (memory_in self.old) a bytes.now }
+        ensures frames { frames_in self.new ≡ wrote (frames_in self.old) a (length bytes.now) }
+        ensures size { size_of self.new ≡ size_of self.old }
+        ensures keeps { KeepsSpace self.old self.new }
+    {
+        put_bytes(&mut self.memory, a, bytes);
+        self.watch.wrote(a, bytes.len() as u32);
+    }
+
+    /// Saves a frame for which there is space. It is held, and goes to memory later; where all sets
+    /// are taken, the oldest held frame goes there now.
+    pub fn save_frame(&mut self, f: Frame)
+        requires space { HasFrameSpace self.old f.address }
+        requires free { save_hazard (frames_in self.old) f.address ≡ None }
+        requires place { f.address % 16 ≡ 0 }
+        ensures cache { cache_of self.new ≡ holding (size_of self.old) f (cache_of self.old) }
+        ensures memory { memory_in self.new ≡ with_words (memory_in self.old) f.address f.words }
+        ensures frames { frames_in self.new ≡ saved (frames_in self.old) f.address }
+        ensures size { size_of self.new ≡ size_of self.old }
+        ensures keeps { KeepsSpace self.old self.new }
+    {
+        hold(&mut self.memory, &mut self.sets, f);
+        self.watch.called(f.address);
+    }
+
+    /// The youngest live frame, where one is live, is returned to. It is held no more, and what is
+    /// left is the same memory as far as that is compared.
+    pub fn restore_frame(&mut self)
+        ensures cache { cache_of self.new ≡ taken (cache_of self.old) }
+        ensures memory { AgreeWhere (is_compared (returned (frames_in self.old))) (memory_in self.old) (memory_in self.new).bytes }
+        ensures frames { frames_in self.new ≡ returned (frames_in self.old) }
+        ensures size { size_of self.new ≡ size_of self.old }
+        ensures keeps { KeepsSpace self.old self.new }
+    {
+        let _ = self.sets.pop();
+        drop_frame(&mut self.watch);
+    }
+
+    /// All held frames go to memory, the oldest first, and no frame is live any more.
+    pub fn flush(&mut self)
+        ensures cache { cache_of self.new ≡ written_back (cache_of self.old) }
+        ensures memory { memory_in self.new ≡ memory_in self.old }
+        ensures frames { frames_in self.new ≡ flushed (frames_in self.old) }
+        ensures size { size_of self.new ≡ size_of self.old }
+        ensures keeps { KeepsSpace self.old self.new }
+    {
+        write_back(&mut self.memory, &mut self.sets);
+        self.watch.flushed();
+    }
+
+    /// Makes space for `n` bytes from `a` up, at most 64.
+    pub fn reserve(&mut self, a: u32, n: u32) -> Result<(), NoMemory>
+        requires { n ≤ 64 }
+        ensures cache { cache_of self.new ≡ cache_of self.old }
+        ensures frames { frames_in self.new ≡ frames_in self.old }
+        ensures space { OnOk result (HasSpace self.new a n) }
+        ensures needed { OnErr result (0 < n) }
+        ensures size { size_of self.new ≡ size_of self.old }
+        ensures keeps { KeepsSpace self.old self.new }
+    {
+        self.memory.reserve(a, n)
+    }
+
+    /// Makes space for a frame at `a`: for its words in memory, so that it can go there whenever it
+    /// has to, and for its save.
+    pub fn reserve_frame(&mut self, a: u32) -> Result<(), NoMemory>
+        ensures cache { cache_of self.new ≡ cache_of self.old }
+        ensures frames { frames_in self.new ≡ frames_in self.old }
+        ensures space { OnOk result (HasFrameSpace self.new a) }
+        ensures size { size_of self.new ≡ size_of self.old }
+        ensures keeps { KeepsSpace self.old self.new }
+    {
+        self.memory.reserve(a, FRAME_SIZE)?;
+        self.watch.reserve(a)
+    }
+
+    /// New sets, which hold nothing, take the place of the others, which hold nothing either.
+    pub fn renew(&mut self, sets: Sets)
+        requires empty { (cache_of self.old).held ≡ [] }
+        requires new { sets.frames ≡ [] }
+        ensures cache { cache_of self.new ≡ cache_of self.old }
+        ensures frames { frames_in self.new ≡ frames_in self.old }
+        ensures size { size_of self.new ≡ sets.size }
+        ensures keeps { KeepsSpace self.old self.new }
+    {
+        self.sets = sets;
+    }
+
+    /// The soft bytes and the live frames.
+    pub fn watch(&self) -> &Watch
+        ensures frames { frames_of result.now ≡ frames_in self.now }
+        ensures sound { IsSound (frames_in self.now) }
+    {
+        &self.watch
+    }
+
+    /// The sets, with the frames that are held.
+    pub fn sets(&self) -> &Sets
+        ensures held { result.now ≡ held (size_of self.now) (cache_of self.now).held }
+        ensures youngest { AreYoungest (cache_of self.now).held (frames_in self.now).live }
+    {
+        &self.sets
+    }
+}

@@ -1,0 +1,152 @@
+//! What system calls, returns and faults make, and what tables say. Each of their reads ends them at
+//! a byte that is soft, as all bytes of held frames are, so memory alone answers them.
+ghost use Rattle.std.specs.Prelude.{◌≡◌, ◌+◌, ◌%◌, ◌<◌, ◌≤◌, ◌↔◌, IsTrue, None, IfOk, OnErr, [], length};
+ghost use Rattle.i9_model.specs.declared.layout.TheConstants.{PC_MASK, AC_MASK};
+ghost use Rattle.i9_model.specs.Hazards.{save_hazard};
+ghost use Rattle.i9_model.specs.Boot.{with_regions, configured};
+ghost use Rattle.i9_model.specs.Tables.{planned_setup, planned_group};
+ghost use Rattle.i9_model.specs.Calls.{planned_calls, planned_ret};
+ghost use Rattle.i9_model.specs.Faults.{planned_fault, record_write_hazard};
+ghost use Rattle.i9_model.specs.HeldFrames.{cache_configured};
+ghost use Rattle.i9_calls.specs.Controls.{IsWithin};
+ghost use Rattle.i9_memory.specs.Memory.{memory_of, KeepsRoom};
+
+use super::Storage;
+use i9_boot::{control_group, reinit};
+use i9_calls::{CallsStop, Pop, Sys, plan_calls, plan_ret};
+use i9_faults::{Entry, Fault, FaultStop, plan_fault};
+use i9_memory::Memory;
+use i9_model::Setup;
+
+/// Configures regions by words, from one region up.
+#[tactic(auto, using(crate::proofs::Regions::region_rules))]
+fn configure_regions(memory: &mut Memory, region: u8, words: &[u32])
+    requires { region + length words.now ≤ 16 }
+    ensures memory { memory_of memory.new ≡ with_regions (memory_of memory.old) region words.now }
+    ensures keeps { KeepsRoom memory.old memory.new }
+{
+    for k in 0..words.len() {
+        memory.configure(region + k as u8, words[k]);
+    }
+}
+
+impl Storage {
+    ghost use Rattle.i9_storage.specs.Storage.{cache_of, memory_in, frames_in, size_of, KeepsSpace};
+
+    /// What a call of system procedure `n` makes, by the system procedure table at `table`, from the
+    /// process controls and the frame and stack pointers. `Err` says that there is no procedure of
+    /// this number, or names the hazard of the first access that meets one (the i960 CA/CF User's
+    /// Manual, system calls).
+    pub fn plan_calls(
+        &self,
+        table: u32,
+        n: u32,
+        pc: u32,
+        fp: u32,
+        sp: u32,
+    ) -> Result<Sys, CallsStop>
+        ensures sys { result ≡ planned_calls (memory_in self.now) (frames_in self.now) table n pc fp sp }
+
+        // So the frame can be saved there.
+        ensures free { IfOk result (λ s. save_hazard (frames_in self.now) s.push.save ≡ None) }
+        ensures aligned { IfOk result (λ s. s.push.save % 16 ≡ 0) }
+
+        // No bit of PC is set that is not kept.
+        ensures kept { IsWithin PC_MASK pc → IfOk result (λ s. IsWithin PC_MASK s.pc) }
+    {
+        plan_calls(&self.memory, &self.watch, table, n, pc, fp, sp)
+    }
+
+    /// What a return makes, from the previous frame pointer with its return type, the frame pointer,
+    /// and the process and arithmetic controls; or the hazard of the first access that meets one
+    /// (the i960 CA/CF User's Manual, returns).
+    pub fn plan_ret(&self, pfp: u32, fp: u32, pc: u32, ac: u32) -> Result<Pop, u32>
+        ensures pop { result ≡ planned_ret (memory_in self.now) (frames_in self.now) pfp fp pc ac }
+
+        // So the youngest frame can be dropped.
+        ensures live { IfOk result (λ p. IsTrue p.live ↔ (0 < length (frames_in self.now).live)) }
+
+        // No bit of PC or AC is set that is not kept.
+        ensures kept_pc { IsWithin PC_MASK pc → IfOk result (λ p. IsWithin PC_MASK p.pc) }
+        ensures kept_ac { IsWithin AC_MASK ac → IfOk result (λ p. IsWithin AC_MASK p.ac) }
+    {
+        plan_ret(&self.memory, &self.watch, pfp, fp, pc, ac)
+    }
+
+    /// What the entry of a fault makes, by the fault table at `table` and the system procedure table
+    /// at `system`, from the controls and the frame and stack pointers. `Err` is a hazard or a dead
+    /// entry, whichever comes first (the i960 CA/CF User's Manual, faults).
+    pub fn plan_fault(
+        &self,
+        table: u32,
+        system: u32,
+        fault: &Fault,
+        pc: u32,
+        ac: u32,
+        fp: u32,
+        sp: u32,
+    ) -> Result<Entry, FaultStop>
+        ensures entry { result ≡ planned_fault (memory_in self.now) (frames_in self.now) table system fault.now pc ac fp sp }
+
+        // So the frame can be saved there.
+        ensures free { IfOk result (λ e. save_hazard (frames_in self.now) e.push.save ≡ None) }
+        ensures aligned { IfOk result (λ e. e.push.save % 16 ≡ 0) }
+
+        // And the record can be written below the new one.
+        ensures record { IfOk result (λ e. record_write_hazard (frames_in self.now) e.push ≡ None) }
+    {
+        plan_fault(
+            &self.memory,
+            &self.watch,
+            table,
+            system,
+            fault,
+            pc,
+            ac,
+            fp,
+            sp,
+        )
+    }
+
+    /// Starts anew at the instruction address `first`, where nothing is held: reads the PRCB at
+    /// `prcb` and its control table, and configures all regions by that table (the i960 CA/CF User's
+    /// Manual, sysctl). `Err` is the hazard of these reads, and then nothing changes.
+    #[tactic(auto, using(crate::proofs::Configured::empty_rules))]
+    pub fn reinit(&mut self, first: u32, prcb: u32) -> Result<Setup, u32>
+        requires { (cache_of self.old).held ≡ [] }
+        ensures setup { result ≡ planned_setup (memory_in self.old) (frames_in self.old) first prcb }
+        ensures memory { IfOk result (λ s. memory_in self.new ≡ configured (memory_in self.old) s.control) }
+        ensures cache { cache_of self.new ≡ cache_configured (memory_in self.new) (cache_of self.old) }
+        ensures frames { frames_in self.new ≡ frames_in self.old }
+        ensures refused { OnErr result (cache_of self.new ≡ cache_of self.old) }
+        ensures size { size_of self.new ≡ size_of self.old }
+        ensures keeps { KeepsSpace self.old self.new }
+    {
+        reinit(&mut self.memory, &self.watch, first, prcb)
+    }
+
+    /// The four words of a group of the control table at `table`, where nothing is held. `Err` is the
+    /// hazard of this read.
+    #[tactic(auto, using(crate::proofs::Configured::empty_rules))]
+    pub fn control_group(&self, table: u32, group: u8) -> Result<[u32; 4], u32>
+        requires empty { (cache_of self.now).held ≡ [] }
+        requires group { group < 7 }
+        ensures { result ≡ planned_group (memory_in self.now) (frames_in self.now) table group }
+    {
+        control_group(&self.memory, &self.watch, table, group)
+    }
+
+    /// Gives regions from `region` up other configuration words, where nothing is held.
+    #[tactic(auto, using(crate::proofs::Configured::empty_rules))]
+    pub fn configure(&mut self, region: u8, words: &[u32])
+        requires empty { (cache_of self.old).held ≡ [] }
+        requires few { region + length words.now ≤ 16 }
+        ensures memory { memory_in self.new ≡ with_regions (memory_in self.old) region words.now }
+        ensures cache { cache_of self.new ≡ cache_configured (memory_in self.new) (cache_of self.old) }
+        ensures frames { frames_in self.new ≡ frames_in self.old }
+        ensures size { size_of self.new ≡ size_of self.old }
+        ensures keeps { KeepsSpace self.old self.new }
+    {
+        configure_regions(&mut self.memory, region, words);
+    }
+}

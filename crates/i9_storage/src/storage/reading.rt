@@ -1,0 +1,137 @@
+//! Bytes, halves and words of memory with the held frames laid over it.
+ghost use Rattle.std.specs.Prelude.{◌≡◌, ◌+◌, ◌-◌, ◌*◌, ◌/◌, ◌%◌, ◌<◌, false, IfNone, IfSome, length, get_or, take};
+ghost use Rattle.i9_model.specs.declared.layout.TheConstants.{FRAME_SIZE};
+ghost use Rattle.i9_model.specs.Memory.{in_port_page, is_big, half_in, word_in, half_bytes, word_bytes};
+ghost use Rattle.i9_model.specs.Writes.{wrapped};
+ghost use Rattle.i9_model.specs.HeldFrames.{over, overlaid, AreWhole};
+ghost use Rattle.i9_memory.specs.Memory.{memory_of};
+ghost use Rattle.i9_storage.specs.Kept.{cache_in, laid_without, byte_in_frame};
+
+use super::Storage;
+use i9_frames::{Frame, Sets};
+use i9_memory::Memory;
+use i9_model::in_port_page;
+use i9_model::layout::FRAME_SIZE;
+
+/// How many addresses a region has.
+const REGION_SIZE: u32 = 0x1000_0000;
+
+/// The byte so far above the address of a frame.
+fn frame_byte(memory: &Memory, f: &Frame, above: u32) -> u8
+    requires { above < FRAME_SIZE }
+    ensures { result ≡ byte_in_frame memory.now f.now above }
+{
+    let k = above / 4;
+    let word = memory.word_bytes(f.address.wrapping_add(4 * k), f.words[k as usize]);
+    word[(above % 4) as usize]
+}
+
+/// A byte of the frame with `k` younger ones, unless it lies beside that frame.
+#[tactic(auto, using(crate::proofs::HeldBytes::byte_rules))]
+fn byte_of(memory: &Memory, sets: &Sets, k: u8, a: u32) -> Option<u8>
+    requires whole { AreWhole sets.now.frames }
+    requires there { k < length sets.now.frames }
+    requires outside { in_port_page a ≡ false }
+    ensures past { IfNone result ((laid_without (k + 1) memory.now sets.now).bytes a ≡ (laid_without k memory.now sets.now).bytes a) }
+    ensures here { IfSome result (λ b. b ≡ (laid_without k memory.now sets.now).bytes a) }
+{
+    let f = sets.at(k).copied()?;
+    let above = a.wrapping_sub(f.address);
+    if above < FRAME_SIZE {
+        Some(frame_byte(memory, &f, above))
+    } else {
+        None
+    }
+}
+
+/// A byte of memory with the held frames laid over it: that of the youngest frame that has it, or
+/// else the one in memory.
+#[tactic(auto, using(crate::proofs::HeldBytes::laid_rules))]
+fn overlaid_byte(memory: &Memory, sets: &Sets, a: u32) -> u8
+    requires { AreWhole sets.now.frames }
+    ensures { result ≡ (overlaid (cache_in memory.now sets.now)).bytes a }
+{
+    if in_port_page(a) {
+        return memory.byte(a);
+    }
+    for k in 0..sets.len() {
+        if let Some(b) = byte_of(memory, sets, k, a) {
+            return b;
+        }
+    }
+    memory.byte(a)
+}
+
+impl Storage {
+    ghost use Rattle.i9_storage.specs.Storage.{memory_in};
+
+    /// The byte at `a`; 0 in the port page. All bytes of held frames are soft, so the sets are looked
+    /// at for a soft byte alone.
+    #[tactic(auto, using(crate::proofs::StoragePlans::hard_rules))]
+    pub fn byte(&self, a: u32) -> u8
+        ensures { result ≡ (memory_in self.now).bytes a }
+    {
+        if self.watch.soft(a) {
+            return overlaid_byte(&self.memory, &self.sets, a);
+        }
+        self.memory.byte(a)
+    }
+
+    /// Whether a region is big-endian.
+    #[tactic(auto, using(crate::proofs::HeldBytes::order_rules))]
+    pub fn big(&self, region: u8) -> bool
+        requires { region < 16 }
+        ensures { result ≡ is_big (memory_in self.now) region }
+    {
+        self.memory.big(region)
+    }
+
+    /// The two bytes from `a` up, in the order of the region of `a`.
+    #[tactic(auto, unfolding(i9_model::specs::Memory::half_in))]
+    pub fn half(&self, a: u32) -> u16
+        ensures { result ≡ half_in (memory_in self.now) a }
+    {
+        let bytes = [self.byte(a), self.byte(a.wrapping_add(1))];
+        if self.big((a / REGION_SIZE) as u8) {
+            u16::from_be_bytes(bytes)
+        } else {
+            u16::from_le_bytes(bytes)
+        }
+    }
+
+    /// The four bytes from `a` up, in the order of the region of `a`.
+    #[tactic(auto, unfolding(i9_model::specs::Memory::word_in))]
+    pub fn word(&self, a: u32) -> u32
+        ensures { result ≡ word_in (memory_in self.now) a }
+    {
+        let bytes = [
+            self.byte(a),
+            self.byte(a.wrapping_add(1)),
+            self.byte(a.wrapping_add(2)),
+            self.byte(a.wrapping_add(3)),
+        ];
+        if self.big((a / REGION_SIZE) as u8) {
+            u32::from_be_bytes(bytes)
+        } else {
+            u32::from_le_bytes(bytes)
+        }
+    }
+
+    /// The bytes of a half that is stored at `a`, from the lowest address up: in the order of the
+    /// region of `a`.
+    #[tactic(auto, using(crate::proofs::HeldBytes::order_rules))]
+    pub fn half_bytes(&self, a: u32, v: u16) -> [u8; 2]
+        ensures { result ≡ half_bytes (memory_in self.now) a v }
+    {
+        self.memory.half_bytes(a, v)
+    }
+
+    /// The bytes of a word that is stored at `a`, from the lowest address up: in the order of the
+    /// region of `a`.
+    #[tactic(auto, using(crate::proofs::HeldBytes::order_rules))]
+    pub fn word_bytes(&self, a: u32, v: u32) -> [u8; 4]
+        ensures { result ≡ word_bytes (memory_in self.now) a v }
+    {
+        self.memory.word_bytes(a, v)
+    }
+}

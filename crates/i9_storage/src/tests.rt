@@ -1,0 +1,386 @@
+//! Storage, worked out by hand.
+use crate::Storage;
+use i9_calls::{CallsStop, Pop, Sys};
+use i9_faults::{Entry, Fault};
+use i9_frames::{Frame, Sets};
+use i9_memory::Memory;
+use i9_model::{CONTROL_WORDS, Push, Setup};
+use std::alloc::Global;
+use std::test::Fail;
+
+/// Bit 22 of a configuration word, which makes its region big-endian.
+const BIG_ENDIAN: u32 = 0x0040_0000;
+
+/// Lays words from an address on, each in the order of its region.
+fn put_words(memory: &mut Memory, a: u32, words: &[u32]) -> Result<(), Fail> {
+    let mut at = a;
+    for word in words {
+        memory.reserve(at, 4)?;
+        memory.put_word(at, *word);
+        at = at.wrapping_add(4);
+    }
+    Ok(())
+}
+
+/// A memory of zeros, of which region 1 is big-endian.
+fn memory(alloc: Global) -> Memory {
+    let mut memory = Memory::new(alloc);
+    memory.configure(1, BIG_ENDIAN);
+    memory
+}
+
+/// Saves the frame at a frame pointer. Its words count up from a first one.
+fn save(storage: &mut Storage, fp: u32, first: u32) -> Result<(), Fail> {
+    let mut words = [first; 16];
+    for k in 0..16_u8 {
+        words[k as usize] = first.wrapping_add(u32::from(k));
+    }
+    match storage.watch().plan_push(fp, 0, 0, 0) {
+        Ok(push) => {
+            storage.reserve_frame(push.save)?;
+            let address = push.save;
+            storage.save_frame(Frame { address, words });
+            Ok(())
+        }
+        Err(_) => Err("a hazard".into()),
+    }
+}
+
+/// Stores bytes beside the live frames, at most four.
+fn store(storage: &mut Storage, a: u32, bytes: &[u8]) -> Result<(), Fail> {
+    let n = bytes.len();
+    if n > 4 || storage.watch().check_write(a, n as u32).is_some() {
+        return Err("a hazard".into());
+    }
+    storage.reserve(a, n as u32)?;
+    storage.store(a, bytes);
+    Ok(())
+}
+
+/// Flushes, and goes on with so many new sets.
+fn restart(alloc: Global, storage: &mut Storage, sets: u8) -> Result<(), Fail> {
+    if sets == 0 || sets > 15 {
+        return Err("no such sets".into());
+    }
+    let sets = Sets::new(alloc, sets)?;
+    storage.flush();
+    storage.renew(sets);
+    Ok(())
+}
+
+/// What is done to storage, or what it is asked and has to answer.
+#[derive(Clone, Copy)]
+enum Step {
+    Save(u32, u32),
+    Return,
+    Flush,
+    Restart(u8),
+    StoreHalf(u32, u16),
+    StoreWord(u32, u32),
+    Byte(u32, u8),
+    Half(u32, u16),
+    Word(u32, u32),
+    IsSoft(u32, bool),
+    Holds(u8, u8),
+    Held(u8, Option<u32>),
+}
+
+use Step::{
+    Byte, Flush, Half, Held, Holds, IsSoft, Restart, Return, Save, StoreHalf, StoreWord, Word,
+};
+
+/// Does a step; false where the answer is another one.
+fn does(alloc: Global, storage: &mut Storage, step: Step) -> Result<bool, Fail> {
+    match step {
+        Save(fp, first) => save(storage, fp, first)?,
+        Return => storage.restore_frame(),
+        Flush => storage.flush(),
+        Restart(sets) => restart(alloc, storage, sets)?,
+        StoreHalf(a, v) => {
+            let bytes = storage.half_bytes(a, v);
+            store(storage, a, &bytes)?;
+        }
+        StoreWord(a, v) => {
+            let bytes = storage.word_bytes(a, v);
+            store(storage, a, &bytes)?;
+        }
+        Byte(a, wanted) => return Ok(storage.byte(a) == wanted),
+        Half(a, wanted) => return Ok(storage.half(a) == wanted),
+        Word(a, wanted) => return Ok(storage.word(a) == wanted),
+        IsSoft(a, wanted) => return Ok(storage.watch().soft(a) == wanted),
+        Holds(frames, sets) => {
+            return Ok(storage.sets().len() == frames && storage.sets().size() == sets);
+        }
+        Held(k, wanted) => return Ok(storage.sets().at(k).map(|f| f.address) == wanted),
+    }
+    Ok(true)
+}
+
+#[test]
+fn holds_frames(rt: HostRuntime) -> Result<(), Fail> {
+    let stories: [&[Step]; 6] = [
+        // Three frames in two sets: the oldest goes to memory, and the others are read in their
+        // sets. Memory never gets what is returned to while it is held.
+        &[
+            Save(0x1000, 0x100),
+            Save(0x1040, 0x200),
+            Holds(2, 2),
+            Save(0x1080, 0x300),
+            Holds(2, 2),
+            Held(0, Some(0x1080)),
+            Held(1, Some(0x1040)),
+            Held(2, None),
+            Word(0x1000, 0x100),
+            Word(0x103C, 0x10F),
+            Word(0x1040, 0x200),
+            Byte(0x1085, 0x03),
+            Half(0x10BC, 0x30F),
+            // The last two bytes of a frame, and the first two of the next.
+            Word(0x107E, 0x0300_0000),
+            Return,
+            Holds(1, 2),
+            Held(0, Some(0x1040)),
+            Word(0x1080, 0),
+            IsSoft(0x1080, true),
+            Return,
+            Word(0x1040, 0),
+            Return,
+            Holds(0, 2),
+            Word(0x1000, 0x100),
+            IsSoft(0x1000, true),
+        ],
+        // A flush writes what is held, and not the frame that was returned to.
+        &[
+            Save(0x1000, 0x100),
+            Save(0x1040, 0x200),
+            Save(0x1080, 0x300),
+            Return,
+            Flush,
+            Holds(0, 2),
+            Word(0x1000, 0x100),
+            Word(0x107C, 0x20F),
+            Word(0x1080, 0),
+            IsSoft(0x1000, false),
+            IsSoft(0x1080, true),
+        ],
+        // A frame that is saved again hides what its place has in memory, until it is returned to.
+        &[
+            Save(0x1000, 0x100),
+            Flush,
+            Save(0x1000, 0x200),
+            Word(0x1004, 0x201),
+            Return,
+            Word(0x1004, 0x101),
+        ],
+        // Stores go to memory beside the frames, and their bytes are soft no more.
+        &[
+            Save(0x1000, 0x100),
+            Return,
+            Save(0x1040, 0x200),
+            StoreWord(0x103C, 0x1234_5678),
+            IsSoft(0x103B, true),
+            IsSoft(0x103C, false),
+            Half(0x103E, 0x1234),
+            // The last two bytes of the word, and the first two of the frame.
+            Word(0x103E, 0x0200_1234),
+            StoreWord(0xE000_0010, 0x1234_5678),
+            Word(0xE000_0010, 0),
+        ],
+        // Region 1 is big-endian, of memory and of frames.
+        &[
+            StoreWord(0x1000_0000, 0x1234_5678),
+            StoreHalf(0x1000_0004, 0x9ABC),
+            Byte(0x1000_0000, 0x12),
+            Byte(0x1000_0005, 0xBC),
+            Half(0x1000_0002, 0x5678),
+            Word(0x1000_0002, 0x5678_9ABC),
+            StoreHalf(0x2000_0004, 0x9ABC),
+            Byte(0x2000_0005, 0x9A),
+            Save(0x1000_0040, 0x0102_0304),
+            Byte(0x1000_0040, 0x01),
+            Half(0x1000_0046, 0x0305),
+            Word(0x1000_007C, 0x0102_0313),
+            // A frame runs on from the last address to 0.
+            Save(0xFFFF_FFE0, 0x100),
+            Byte(0xFFFF_FFFC, 0x07),
+            Word(0, 0x108),
+            Word(0xFFFF_FFFE, 0x0108_0000),
+        ],
+        // Other sets take over what is saved from then on.
+        &[
+            Save(0x1000, 0x100),
+            Restart(1),
+            Holds(0, 1),
+            Word(0x1000, 0x100),
+            IsSoft(0x1000, false),
+            Save(0x1000, 0x200),
+            Save(0x1040, 0x300),
+            Holds(1, 1),
+            Word(0x1000, 0x200),
+            Return,
+            Word(0x1040, 0),
+            Word(0x1000, 0x200),
+        ],
+    ];
+    for (number, story) in stories.iter().enumerate() {
+        let mut storage = Storage::new(rt.alloc(), memory(rt.alloc()), 2)?;
+        for (index, step) in story.iter().enumerate() {
+            let is_right = does(rt.alloc(), &mut storage, *step)?;
+            assert!(rt; is_right, "story {number}, step {index}");
+        }
+    }
+    Ok(())
+}
+
+/// Memory with a system procedure table at B00, whose procedure 5 is at 1104 on the supervisor stack
+/// at 5010; with a fault table at 900, whose faults of type 3 have their handler at 1100; and with
+/// PC and AC in the record below the frame at 5050.
+fn with_entries(alloc: Global) -> Result<Memory, Fail> {
+    let mut memory = memory(alloc);
+    put_words(&mut memory, 0xB0C, &[0x5013])?;
+    put_words(&mut memory, 0xB44, &[0x1106])?;
+    put_words(&mut memory, 0x918, &[0x1100, 0xFFFF_FFFF])?;
+    put_words(&mut memory, 0x5040, &[0xABCD_EF12, 0x1234_567D])?;
+    Ok(memory)
+}
+
+/// The push of a frame that is saved at 3000.
+fn push(frame: u32, pfp: u32, sp: u32) -> Push {
+    Push {
+        save: 0x3000,
+        frame,
+        pfp,
+        sp,
+    }
+}
+
+#[test]
+fn plans_beside_held_frames(rt: HostRuntime) -> Result<(), Fail> {
+    let mut storage = Storage::new(rt.alloc(), with_entries(rt.alloc())?, 1)?;
+    save(&mut storage, 0x4000, 0x100)?;
+    save(&mut storage, 0x4040, 0x200)?;
+    let call = |storage: &Storage, table: u32| {
+        storage.plan_calls(table, 5, 0x1F_2000, 0x3004, 0x3051)
+    };
+    let sys = Sys {
+        push: push(0x5010, 0x3002, 0x5050),
+        target: 0x1104,
+        pc: 0x1F_2003,
+        switched: true,
+    };
+    assert_eq!(rt; call(&storage, 0xB00), Ok(sys));
+    // The entry is at 4044, in the frame that is held, or at 4004, in the one that was spilled.
+    assert_eq!(rt; call(&storage, 0x4000), Err(CallsStop::Hazard(0x4044)));
+    assert_eq!(rt; call(&storage, 0x3FC0), Err(CallsStop::Hazard(0x4004)));
+
+    let division = Fault {
+        kind: 3,
+        subtype: 2,
+        address: 0x1000,
+    };
+    let entry = Entry {
+        push: push(0x3050, 0x3001, 0x3090),
+        target: 0x1100,
+        pc: 0x1F_2002,
+        words: [0x1F_2002, 0x8000, 0x0003_0002, 0x1000],
+    };
+    assert_eq!(rt;
+        storage.plan_fault(0x900, 0xB00, &division, 0x1F_2002, 0x8000, 0x3000, 0x3040),
+        Ok(entry)
+    );
+
+    // The record gives back PC and AC; then only the youngest frame is returned to.
+    let pop = Pop {
+        frame: 0x4040,
+        live: true,
+        pc: 0x0D_2402,
+        ac: 0x1005,
+        check: false,
+    };
+    assert_eq!(rt;
+        storage.plan_ret(0x4041, 0x5050, 0x1F_2003, 0x8001),
+        Ok(pop)
+    );
+    assert_eq!(rt;
+        storage.plan_ret(0x4001, 0x5050, 0x1F_2003, 0x8001),
+        Err(0x4000)
+    );
+    Ok(())
+}
+
+/// A processor control block (PRCB) that names a control table at 3000 and asks for seven sets.
+const PRCB: [u32; 10] = [
+    0x1110,
+    0x3000,
+    0xFFFF_6EFF,
+    0x4000_0000,
+    0x4440,
+    0x5550,
+    0x6660,
+    0x7770,
+    0x8880,
+    0x9997,
+];
+
+/// A control table that makes region 2 big-endian, and no other.
+const CONTROL: [u32; CONTROL_WORDS] = [
+    0xA0, 0xA1, 0xA2, 0xA3, 0, 0, 0, 0, 0, 0, BIG_ENDIAN, 0, 0, 0, 0, 0, 0, 0, 0, 0, 0, 0, 0, 0, 0,
+    0, 0, 0xC3,
+];
+
+/// Storage with nothing held, the PRCB at 2000 and the control table. Frames were returned to at
+/// the given frame pointers, so their bytes are soft.
+fn with_tables(alloc: Global, left: &[u32]) -> Result<Storage, Fail> {
+    let mut memory = memory(alloc);
+    put_words(&mut memory, 0x2000, &PRCB)?;
+    put_words(&mut memory, 0x3000, &CONTROL)?;
+    let mut storage = Storage::new(alloc, memory, 2)?;
+    for fp in left {
+        save(&mut storage, *fp, 0x100)?;
+        storage.restore_frame();
+    }
+    Ok(storage)
+}
+
+/// Whether regions 1 to 4 are big-endian.
+fn orders(storage: &Storage) -> [bool; 4] {
+    [
+        storage.big(1),
+        storage.big(2),
+        storage.big(3),
+        storage.big(4),
+    ]
+}
+
+#[test]
+fn reads_tables_where_nothing_is_held(rt: HostRuntime) -> Result<(), Fail> {
+    let mut storage = with_tables(rt.alloc(), &[0x3040])?;
+    save(&mut storage, 0x1000, 0x100)?;
+    storage.flush();
+    assert_eq!(rt; storage.control_group(0x3000, 2), Ok([0, 0, BIG_ENDIAN, 0]));
+    assert_eq!(rt; storage.control_group(0x3000, 4), Err(0x3040));
+    storage.configure(3, &[BIG_ENDIAN, 0]);
+    assert_eq!(rt; orders(&storage), [true, false, true, false]);
+    assert_eq!(rt; storage.reinit(0x1236, 0x2000), Err(0x3040));
+    assert_eq!(rt; orders(&storage), [true, false, true, false]);
+
+    let mut storage = with_tables(rt.alloc(), &[])?;
+    save(&mut storage, 0x1000, 0x100)?;
+    storage.flush();
+    let setup = Setup {
+        first: 0x1236,
+        fault_table: 0x1110,
+        control_table: 0x3000,
+        ac: 0x0000_0007,
+        fault_config: 0x4000_0000,
+        interrupt_table: 0x4440,
+        system_table: 0x5550,
+        interrupt_stack: 0x7770,
+        sets: 7,
+        control: CONTROL,
+    };
+    assert_eq!(rt; storage.reinit(0x1236, 0x2000), Ok(setup));
+    assert_eq!(rt; orders(&storage), [false, true, false, false]);
+    assert_eq!(rt; storage.word(0x1000), 0x100);
+    Ok(())
+}
