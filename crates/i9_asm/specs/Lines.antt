@@ -70,8 +70,8 @@ labelled s = labelled_by s (before ends_head s) (from ends_head s)
 
 -- ---- what follows
 
--- What a line says, by its first word. `Bad` is an unknown directive, or one with the wrong number of values; `Data` has how
--- many bytes each of its values has, and `Ascii` and `Instruction` the text that is left.
+-- What a line says, by its first word. `Bad` is an unknown directive, or one with the wrong number of values; `Data`
+-- has how many bytes each of its values has, and `Ascii` and `Instruction` the text that is left.
 pub data Item : Type 0 where
   Empty : Item
   Bad : Fault → Item

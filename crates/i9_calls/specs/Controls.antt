@@ -1,13 +1,10 @@
 -- Controls: those that a record keeps, and those after a return.
-use Rattle.std.specs.Prelude.{◌≡◌, ℕ, bit_and}
+use Rattle.std.specs.Prelude.{ℕ, bit_and}
 use Rattle.i9_model.specs.declared.layout.TheConstants.{PC_MASK, AC_MASK}
 use Rattle.i9_model.specs.Memory.{Memory}
 use Rattle.i9_model.specs.Calls.{saved_pc, saved_ac, returned_pc, returned_ac}
 use Rattle.i9_calls.specs.declared.returns.Controls.{Controls}
-
--- a word has no other bits than a mask
-abbrev pub IsWithin : ℕ → ℕ → Type 0
-IsWithin mask w = bit_and w mask ≡ w
+pub use Rattle.i9_entry.specs.Controls.{IsWithin}
 
 -- the kept bits of the controls in the record below a frame
 abbrev pub recorded : Memory → ℕ → Controls

@@ -2,9 +2,7 @@
 #![tactic(auto)]
 
 mod calls;
-mod controls;
 mod returns;
-mod words;
 
 pub use calls::{plan_call, plan_calls};
 pub use i9_model::{CallsStop, Pop, Push, Sys};

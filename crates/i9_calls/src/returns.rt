@@ -7,8 +7,7 @@ ghost use Rattle.i9_memory.specs.Memory.{memory_of};
 ghost use Rattle.i9_watch.specs.Watch.{frames_of};
 ghost use Rattle.i9_calls.specs.Controls.{IsWithin, recorded, controls_after};
 
-use crate::controls::{in_supervisor_mode, without_supervisor};
-use crate::words::read_word;
+use i9_entry::{WORD_SIZE, in_supervisor_mode, read_word, without_supervisor};
 use i9_memory::Memory;
 use i9_model::Pop;
 use i9_model::layout::{
@@ -38,7 +37,7 @@ fn leaves_supervisor(kind: u8) -> bool
 }
 
 /// The kept bits of the controls in the record below the frame at `fp`.
-#[tactic(auto, using(crate::proofs::Kept::kept_rules))]
+#[tactic(auto, using(crate::proofs::Kept::masked))]
 fn read_record(m: &Memory, w: &Watch, fp: u32) -> Result<Controls, u32>
     ensures value { result ≡ unless (record_hazard (frames_of w.now) fp) (recorded (memory_of m.now) fp) }
     ensures kept_pc { IfOk result (λ c. IsWithin PC_MASK c.pc) }
@@ -46,7 +45,7 @@ fn read_record(m: &Memory, w: &Watch, fp: u32) -> Result<Controls, u32>
 {
     let record = (fp - fp % 16).wrapping_sub(RECORD_SIZE);
     let pc = read_word(m, w, record)?;
-    let ac = read_word(m, w, record.wrapping_add(4))?;
+    let ac = read_word(m, w, record.wrapping_add(WORD_SIZE))?;
     Ok(Controls {
         pc: pc & PC_MASK,
         ac: ac & AC_MASK,

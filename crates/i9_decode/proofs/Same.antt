@@ -1,4 +1,5 @@
--- Words of the register, compare-and-branch and control formats: the same at the fields that count, and the same instruction.
+-- Words of the register, compare-and-branch and control formats: the same at the fields that count, and the same
+-- instruction.
 use Rattle.std.proofs.Common.{◌≡◌, ℕ, ◌*◌, ◌<◌, Bool, true, false, ◌&&◌, refl, sym, ap, ◌∙◌, arith, cond, ℤ}
 use Rattle.std.proofs.lemmas.Bool.{and_parts}
 use Rattle.std.proofs.lemmas.Bool.Decides.{nat_tests}

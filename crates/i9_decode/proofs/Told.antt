@@ -65,7 +65,8 @@ s_read Right o m true f e h = rw (← (some_same _ _ o h).1) refl
 s_read Right o m false f e h = rw (← (some_same _ _ o h).1) refl
 s_read _ o m s f e h = cc
 
--- An operand that is read twice, from fields with number f and bits M and S, and from ones with number g and bits n and t.
+-- An operand that is read twice, from fields with number f and bits M and S, and from ones with number g and bits n
+-- and t.
 pub record ReadTwice (u : Use) (o : Operand) (m n s t : Bool) (f g : ℕ) : Type 0 where
   pub number : is_used u ≡ true → f ≡ g
   pub bit_m : has_m u ≡ true → m ≡ n

@@ -1,5 +1,5 @@
 //! Words against instructions that were worked out by hand from the instruction formats.
-use crate::{BadWord, Code, decode, encode, spare_bits};
+use crate::{BadWord, Code, decode, decode_encoded, encode, spare_bits};
 use i9_isa::{Ea, Inst, Mode, NO_ADDRESS, Op, Operand, valid};
 use std::test::*;
 
@@ -109,6 +109,11 @@ fn words_and_instructions(rt: HostRuntime) -> Result<(), Fail> {
         );
         assert!(rt; valid(&inst), "at {first}");
         assert_eq!(rt; encode(&inst), Code { first, second }, "to {first}");
+        assert_eq!(rt;
+            decode_encoded(&inst, AFTER),
+            Ok(inst),
+            "to {first} and back"
+        );
     }
     Ok(())
 }

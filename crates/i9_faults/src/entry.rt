@@ -1,18 +1,57 @@
 //! The entry of a fault.
 ghost use Rattle.std.specs.Prelude.{◌≡◌, ◌%◌, None, IfOk};
 ghost use Rattle.i9_model.specs.Hazards.{save_hazard};
-ghost use Rattle.i9_model.specs.Faults.{fault_record, planned_fault, record_write_hazard};
+ghost use Rattle.i9_model.specs.Faults.{without_trace, fault_record, planned_frame, planned_fault, record_write_hazard};
 ghost use Rattle.i9_memory.specs.Memory.{memory_of};
 ghost use Rattle.i9_watch.specs.Watch.{frames_of};
 
-use crate::controls::without_trace;
-use crate::frames::enter;
 use crate::handlers::plan_handler;
-use crate::records::record_hazard;
+use i9_entry::{enter_here, enter_system, record_write_hazard};
 use i9_memory::Memory;
-use i9_model::faults::FAULT_ENTRY_SIZE;
-use i9_model::{Entry, Fault, FaultStop};
+use i9_model::faults::{FAULT_ENTRY_SIZE, TRACE_MASK};
+use i9_model::layout::{FAULT_RETURN, RECORD_SIZE};
+use i9_model::{Entry, Fault, FaultStop, Handler, Sys};
 use i9_watch::Watch;
+
+/// A handler is entered above a record, with the return type of a fault.
+#[tactic(auto, unfolding(i9_model::specs::Faults::planned_frame, i9_model::specs::Calls::system_entered))]
+fn enter_handler(
+    m: &Memory,
+    w: &Watch,
+    system: u32,
+    handler: Handler,
+    pc: u32,
+    fp: u32,
+    sp: u32,
+) -> Result<Sys, u32>
+    ensures sys { result ≡ planned_frame (memory_of m.now) (frames_of w.now) system pc fp sp handler }
+    ensures free { IfOk result (λ s. save_hazard (frames_of w.now) s.push.save ≡ None) }
+    ensures aligned { IfOk result (λ s. s.push.save % 16 ≡ 0) }
+    ensures above { IfOk result (λ s. s.push.frame % 16 ≡ 0) }
+{
+    match handler {
+        Handler::Local(target) => enter_here(w, target, pc, fp, sp, RECORD_SIZE, FAULT_RETURN),
+        Handler::System(n) => enter_system(
+            m,
+            w,
+            system,
+            n,
+            pc,
+            fp,
+            sp,
+            RECORD_SIZE,
+            FAULT_RETURN,
+            FAULT_RETURN,
+        ),
+    }
+}
+
+/// Process controls with trace enable and trace fault pending cleared.
+fn without_trace(pc: u32) -> u32
+    ensures { result ≡ without_trace pc }
+{
+    pc & !TRACE_MASK
+}
 
 /// The words of the record of a fault, from the process and arithmetic controls before its entry.
 fn fault_record(f: &Fault, pc: u32, ac: u32) -> [u32; 4]
@@ -56,8 +95,8 @@ pub fn plan_fault(
 {
     let at = table.wrapping_add(FAULT_ENTRY_SIZE * u32::from(f.kind));
     let handler = plan_handler(m, w, at)?;
-    let sys = enter(m, w, system, handler, pc, fp, sp)?;
-    if let Some(hazard) = record_hazard(w, sys.push) {
+    let sys = enter_handler(m, w, system, handler, pc, fp, sp).map_err(FaultStop::Hazard)?;
+    if let Some(hazard) = record_write_hazard(w, sys.push) {
         return Err(FaultStop::Hazard(hazard));
     }
     Ok(Entry {

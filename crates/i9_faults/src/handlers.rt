@@ -4,7 +4,7 @@ ghost use Rattle.i9_model.specs.Faults.{handler_of, planned_handler};
 ghost use Rattle.i9_memory.specs.Memory.{memory_of};
 ghost use Rattle.i9_watch.specs.Watch.{frames_of};
 
-use crate::words::{WORD_SIZE, read_word};
+use i9_entry::{WORD_SIZE, read_word};
 use i9_memory::Memory;
 use i9_model::faults::{NO_HANDLER, NO_PROCEDURE, NO_SYSTEM_ENTRY, SYSTEM_ENTRY};
 use i9_model::layout::MOST_SYSTEM_CALL;
@@ -37,7 +37,7 @@ fn handler_of(at: u32, first: u32, second: u32) -> Result<Handler, FaultStop>
 pub(crate) fn plan_handler(m: &Memory, w: &Watch, at: u32) -> Result<Handler, FaultStop>
     ensures { result ≡ planned_handler (memory_of m.now) (frames_of w.now) at }
 {
-    let first = read_word(m, w, at)?;
-    let second = read_word(m, w, at.wrapping_add(WORD_SIZE))?;
+    let first = read_word(m, w, at).map_err(FaultStop::Hazard)?;
+    let second = read_word(m, w, at.wrapping_add(WORD_SIZE)).map_err(FaultStop::Hazard)?;
     handler_of(at, first, second)
 }

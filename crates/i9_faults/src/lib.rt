@@ -2,13 +2,9 @@
 //! makes.
 #![tactic(auto)]
 
-mod controls;
 mod entry;
-mod frames;
 mod handlers;
 mod raised;
-mod records;
-mod words;
 
 pub use entry::plan_fault;
 pub use i9_model::{Entry, Fault, FaultStop, Push};

@@ -3,7 +3,7 @@ ghost use Rattle.std.specs.Prelude.{◌≡◌};
 ghost use Rattle.i9_isa.specs.Valid.{IsValid};
 ghost use Rattle.i9_model.specs.Faults.{alignment, is_invalid, is_message, is_past_table, is_special, is_supervisor_only, is_unaligned, mismatches, raised, uses_special};
 
-use crate::controls::in_supervisor_mode;
+use i9_entry::in_supervisor_mode;
 use i9_isa::{Inst, Op, Operand};
 use i9_model::faults::{INVALID_OPERAND, LENGTH, MISMATCH, OPERATION, PROTECTION, TYPE, UNALIGNED};
 use i9_model::layout::MOST_SYSTEM_CALL;

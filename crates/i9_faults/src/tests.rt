@@ -10,7 +10,7 @@ use std::test::Fail;
 const USER: u32 = 0x001F_2401;
 
 /// Process controls of supervisor mode, and nothing else.
-const SUPERVISOR: u32 = 0x0000_0002;
+const SUPERVISOR_PLACE: u32 = 0x0000_0002;
 
 /// The bit that masks the fault of an unaligned access.
 const MASKED: u32 = 0x4000_0000;
@@ -66,23 +66,23 @@ fn mismatches_first(rt: HostRuntime) -> Result<(), Fail> {
         (modpc, (7, 0), None, USER, None),
         (modpc, (0, 1), None, USER, MISMATCH),
         (modpc, (0, 0x8000_0000), None, USER, MISMATCH),
-        (modpc, (0, 1), None, SUPERVISOR, None),
+        (modpc, (0, 1), None, SUPERVISOR_PLACE, None),
         (special_mask, (0, 0), None, USER, MISMATCH),
-        (special_mask, (0, 0), None, SUPERVISOR, None),
+        (special_mask, (0, 0), None, SUPERVISOR_PLACE, None),
         (sysctl, (0x100, 0), None, USER, MISMATCH),
         (sysctl, (0x900, 0), None, USER, MISMATCH),
         (sdma, (0, 0), None, USER, MISMATCH),
         (sdma, (4, 0), None, USER, MISMATCH),
         (from_special, (0, 0), None, USER, MISMATCH),
-        (from_special, (0, 0), None, SUPERVISOR, None),
+        (from_special, (0, 0), None, SUPERVISOR_PLACE, None),
         (to_special, (1, 0), None, USER, MISMATCH),
-        (to_special, (1, 0), None, SUPERVISOR, None),
+        (to_special, (1, 0), None, SUPERVISOR_PLACE, None),
         (branch, (0, 0), None, USER, MISMATCH),
-        (branch, (0, 0), None, SUPERVISOR, None),
+        (branch, (0, 0), None, SUPERVISOR_PLACE, None),
         (special_call, (260, 0), None, USER, MISMATCH),
-        (special_call, (260, 0), None, SUPERVISOR, LENGTH),
+        (special_call, (260, 0), None, SUPERVISOR_PLACE, LENGTH),
         (atomic, (0x1002, 0), word, USER, MISMATCH),
-        (atomic, (0x1002, 0), word, SUPERVISOR, UNALIGNED),
+        (atomic, (0x1002, 0), word, SUPERVISOR_PLACE, UNALIGNED),
     ];
     for (i, values, access, pc, wanted) in rows {
         assert_eq!(rt;
@@ -104,29 +104,29 @@ fn refuses_values(rt: HostRuntime) -> Result<(), Fail> {
     let word = Some((0x1002, 4));
     let rows = [
         // Messages 0 to 3, whatever stands below and above them.
-        (sysctl, 0x0000, None, SUPERVISOR, None),
-        (sysctl, 0x00FF, None, SUPERVISOR, None),
-        (sysctl, 0xFFFF_03FF, None, SUPERVISOR, None),
+        (sysctl, 0x0000, None, SUPERVISOR_PLACE, None),
+        (sysctl, 0x00FF, None, SUPERVISOR_PLACE, None),
+        (sysctl, 0xFFFF_03FF, None, SUPERVISOR_PLACE, None),
         // Groups 0 to 6 of message 4.
-        (sysctl, 0x0400, None, SUPERVISOR, None),
-        (sysctl, 0xFFFF_0406, None, SUPERVISOR, None),
-        (sysctl, 0x0407, None, SUPERVISOR, INVALID_OPERAND),
-        (sysctl, 0x04FF, None, SUPERVISOR, INVALID_OPERAND),
-        (sysctl, 0x0500, None, SUPERVISOR, INVALID_OPERAND),
-        (sysctl, 0x0900, None, SUPERVISOR, INVALID_OPERAND),
-        (sysctl, 0xFF06, None, SUPERVISOR, INVALID_OPERAND),
-        (sdma, 3, None, SUPERVISOR, None),
-        (sdma, 4, None, SUPERVISOR, INVALID_OPERAND),
-        (sdma, 0xFFFF_FF00, None, SUPERVISOR, INVALID_OPERAND),
+        (sysctl, 0x0400, None, SUPERVISOR_PLACE, None),
+        (sysctl, 0xFFFF_0406, None, SUPERVISOR_PLACE, None),
+        (sysctl, 0x0407, None, SUPERVISOR_PLACE, INVALID_OPERAND),
+        (sysctl, 0x04FF, None, SUPERVISOR_PLACE, INVALID_OPERAND),
+        (sysctl, 0x0500, None, SUPERVISOR_PLACE, INVALID_OPERAND),
+        (sysctl, 0x0900, None, SUPERVISOR_PLACE, INVALID_OPERAND),
+        (sysctl, 0xFF06, None, SUPERVISOR_PLACE, INVALID_OPERAND),
+        (sdma, 3, None, SUPERVISOR_PLACE, None),
+        (sdma, 4, None, SUPERVISOR_PLACE, INVALID_OPERAND),
+        (sdma, 0xFFFF_FF00, None, SUPERVISOR_PLACE, INVALID_OPERAND),
         (calls, 259, None, USER, None),
         (calls, 260, None, USER, LENGTH),
-        (calls, 260, None, SUPERVISOR, LENGTH),
+        (calls, 260, None, SUPERVISOR_PLACE, LENGTH),
         (calls, 0xFFFF_FFFF, None, USER, LENGTH),
         // These numbers are nothing to other instructions.
         (addo, 260, None, USER, None),
         (addo, 0x0900, None, USER, None),
         // An unaligned access comes after them.
-        (sysctl, 0x0500, word, SUPERVISOR, INVALID_OPERAND),
+        (sysctl, 0x0500, word, SUPERVISOR_PLACE, INVALID_OPERAND),
         (calls, 260, word, USER, LENGTH),
         (calls, 259, word, USER, UNALIGNED),
     ];

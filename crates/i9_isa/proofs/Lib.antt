@@ -1,3 +1,4 @@
 pub mod Names
 pub mod Decoding
 pub mod Sets
+pub mod Moved

@@ -1,7 +1,7 @@
 -- Where an instruction issues, and how long it takes.
 use Rattle.std.specs.Prelude.{ℕ}
 use Rattle.i9_isa.specs.declared.op.Op.{Op}
-use Rattle.i9_isa.specs.declared.op.Op.TheVariants.{Mulo, Muli, Emul, Divo, Divi, Remo, Remi, Modi, Ediv, Bx, Balx, Callx}
+use Rattle.i9_isa.specs.declared.op.Op.TheVariants.{Mulo, Muli, Emul, Divo, Divi, Remo, Remi, Modi, Ediv, Bx, Balx, Call, Callx, Calls, Ret, Sysctl, Sdma, Atadd, Atmod}
 use Rattle.i9_isa.specs.declared.inst.Inst.{Inst}
 use Rattle.i9_isa.specs.declared.inst.Side.{Side}
 use Rattle.i9_isa.specs.declared.format.Format.{Format}
@@ -21,8 +21,8 @@ side_by Format.Mem op = Side.Mem
 abbrev pub issue_side : Inst → Side
 issue_side i = side_by (row_of i.op).format i.op
 
--- The turns from issue to result of an instruction alone: 5 for a multiplication, 37 for a division, else 1. What waits,
--- spills, refills and flushed frames add isn't known from the instruction.
+-- The turns from issue to result, by the name alone: 5 for a multiplication, 37 for a division, 4 for a call or a
+-- return, 8 for sysctl and sdma, 2 for an atomic, else 1. Frames that are moved and waits of memory add to them.
 abbrev pub latency_of : Op → ℕ
 latency_of Mulo = 5
 latency_of Muli = 5
@@ -33,4 +33,12 @@ latency_of Remo = 37
 latency_of Remi = 37
 latency_of Modi = 37
 latency_of Ediv = 37
+latency_of Call = 4
+latency_of Callx = 4
+latency_of Calls = 4
+latency_of Ret = 4
+latency_of Sysctl = 8
+latency_of Sdma = 8
+latency_of Atadd = 2
+latency_of Atmod = 2
 latency_of _ = 1

@@ -1,5 +1,5 @@
--- The resources of an instruction: the 32 registers, and the condition code. What a call, a return or a flush reads of the
--- frame isn't named, since these wait for everything before them.
+-- The resources of an instruction: the 32 registers, and the condition code. What a call, a return or a flush reads
+-- of the frame isn't named, since these wait for everything before them.
 use Rattle.std.specs.Prelude.{◌≡◌, ℕ, ◌+◌, ◌==◌, nat_le, nat_lt, ◌&&◌, ◌||◌, Bool, true, false}
 use Rattle.std.specs.Int.{bit_at, from_bool}
 use Rattle.i9_isa.specs.declared.op.Op.{Op}
@@ -25,9 +25,10 @@ is_in_operand (Reg r) count k = is_in_group r count k
 is_in_operand (Lit l) count k = false
 is_in_operand (Sfr s) count k = false
 
--- The condition code is an input: alterbit copies its bit 1; addc and subc take the carry in bit 1; concmpo and concmpi do
--- nothing where bit 2 is set; tests, conditional branches and conditional faults compare it with their mask; modac answers
--- the old controls. A compare and branch tests the code that it has just made, so it is no input there.
+-- The condition code is an input: alterbit copies its bit 1; addc and subc take the carry in bit 1; concmpo and
+-- concmpi do nothing where bit 2 is set; tests, conditional branches and conditional faults compare it with their
+-- mask; modac answers the old controls. A compare and branch tests the code that it has just made, so it is no input
+-- there.
 abbrev pub reads_code : Op → Bool
 reads_code Alterbit = true
 reads_code Addc = true
@@ -61,10 +62,10 @@ reads_code Faultle = true
 reads_code Faulto = true
 reads_code _ = false
 
--- The condition code is a result: of compares, also those that count up or down or hold under a condition; of chkbit and
--- scanbyte; of spanbit and scanbit, which say whether there is such a bit; of addc and subc, the carry and the overflow; of
--- a branch on a bit or a comparison. modac changes the controls, a return may take them from the frame, and sysctl may
--- start the processor again. Overflow of the other sums is a flag outside of the code.
+-- The condition code is a result: of compares, also those that count up or down or hold under a condition; of chkbit
+-- and scanbyte; of spanbit and scanbit, which say whether there is such a bit; of addc and subc, the carry and the
+-- overflow; of a branch on a bit or a comparison. modac changes the controls, a return may take them from the frame,
+-- and sysctl may start the processor again. Overflow of the other sums is a flag outside of the code.
 abbrev pub writes_code : Op → Bool
 writes_code Cmpo = true
 writes_code Cmpi = true
@@ -101,7 +102,8 @@ writes_code Ret = true
 writes_code Sysctl = true
 writes_code _ = false
 
--- a call, a return, or sysctl, which may start the processor again: these give new local registers and a new frame pointer
+-- a call, a return, or sysctl, which may start the processor again: these give new local registers and a new frame
+-- pointer
 abbrev pub changes_frame : Op → Bool
 changes_frame Call = true
 changes_frame Callx = true

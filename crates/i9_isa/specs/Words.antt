@@ -1,4 +1,5 @@
--- Instruction words: their fields, the operands and the address that they name, and decoding, as a function and as a relation.
+-- Instruction words: their fields, the operands and the address that they name, and decoding, as a function and as a
+-- relation.
 use Rattle.std.specs.Prelude.{◌≡◌, ℕ, ◌-◌, ◌*◌, ◌/◌, ◌%◌, ◌^◌, ◌==◌, nat_lt, ◌&&◌, Bool, true, false, if◌then◌else◌, ℤ, pos, ◌-ℤ◌, Option, Some, None, is_some, option_and_then, find, Result, Ok, Err}
 use Rattle.i9_isa.specs.declared.op.Op.{Op}
 use Rattle.i9_isa.specs.declared.inst.Operand.{Operand}
@@ -101,8 +102,8 @@ hint_in uses w = uses && bit w 1
 
 -- ---- effective address
 
--- The mode in bits 13 to 10, of which bit 12 is set: 0100, 0101, 0111, 1100, 1101, 1110 and 1111 in the order below. 0110 is
--- reserved.
+-- The mode in bits 13 to 10, of which bit 12 is set: 0100, 0101, 0111, 1100, 1101, 1110 and 1111 in the order below.
+-- 0110 is reserved.
 abbrev pub long_mode : ℕ → Option Mode
 long_mode m =
     if m == 4 then Some Base

@@ -1,6 +1,6 @@
 //! Where an instruction issues, and how long it takes. Sides are those of the i960 CA/CF User's
 //! Manual, instruction scheduling; the numbers of turns are this project's own.
-ghost use Rattle.std.specs.Prelude.{◌≡◌};
+ghost use Rattle.std.specs.Prelude.{◌≡◌, ◌≤◌};
 ghost use Rattle.i9_isa.specs.Costs.{issue_side, latency_of};
 
 use crate::format::Format;
@@ -22,14 +22,18 @@ pub fn side_of(i: &Inst) -> Side
     }
 }
 
-/// How many turns pass from issue to result, without what waits, spills, refills and flushed frames
-/// add.
+/// How many turns pass from issue to result, by the name alone. Frames that are moved and waits of
+/// memory add to them.
 pub fn latency(i: &Inst) -> u64
-    ensures { result ≡ latency_of i.now.op }
+    ensures turns { result ≡ latency_of i.now.op }
+    ensures few { result ≤ 37 }
 {
     match i.op {
         Op::Mulo | Op::Muli | Op::Emul => 5,
         Op::Divo | Op::Divi | Op::Remo | Op::Remi | Op::Modi | Op::Ediv => 37,
+        Op::Call | Op::Callx | Op::Calls | Op::Ret => 4,
+        Op::Sysctl | Op::Sdma => 8,
+        Op::Atadd | Op::Atmod => 2,
         _ => 1,
     }
 }

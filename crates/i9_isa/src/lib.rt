@@ -8,7 +8,9 @@ mod inst;
 mod laws;
 mod op;
 mod resources;
+mod size;
 mod table;
+mod transfers;
 mod validity;
 
 pub use cost::{latency, side_of};
@@ -17,7 +19,9 @@ pub use inst::{BadWord, Ea, Inst, Mode, NO_ADDRESS, NoMemory, Operand, Side, wor
 pub use laws::{decoding_is_one, second_word_is_free};
 pub use op::Op;
 pub use resources::{CONDITION_CODE, FRAME_POINTER, LINK, LOCALS, reads, writes};
+pub use size::{Direction, Size, Transfer};
 pub use table::row;
+pub use transfers::transfer;
 pub use validity::valid;
 
 #[cfg(test)]

@@ -1,15 +1,2 @@
-pub mod BuiltForms
-pub mod RegisterList
-pub mod Copies
-pub mod Needs
-pub mod Loading
-pub mod Frames
-pub mod Applying
 pub mod Lifting
-pub mod Overlaid
-pub mod Answering
-pub mod Transfers
-pub mod CallPlans
-pub mod Faulting
 pub mod Stepping
-pub mod NewSets

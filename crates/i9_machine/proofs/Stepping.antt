@@ -1,23 +1,32 @@
 -- A record that was done is what the step answers.
-use Rattle.std.proofs.Common.{◌≡◌, ℕ, ◌+◌, ◌-◌, ◌*◌, ◌<◌, ◌≤◌, List, arith}
+use Rattle.std.proofs.Common.{◌≡◌, ◌≢◌, ℕ, ◌+◌, ◌-◌, ◌*◌, ◌<◌, ◌≤◌, Bool, true, false, cond, eqb, List, length, ◌++◌, Option, Some, None, refl, sym, ap, ◌∙◌, subst, length-append, arith}
+use Rattle.std.proofs.lemmas.Bool.Decides.{nat_tests}
 use Rattle.i9_model.specs.State.{State}
-use Rattle.i9_model.specs.Run.{Kind, Instruction, Faulted, Entered}
-use Rattle.i9_machine.specs.declared.line.End.{End}
+use Rattle.i9_model.specs.Standing.{stands_at}
+use Rattle.i9_model.specs.declared.run.Point.{Point}
+use Rattle.i9_model.specs.declared.run.End.TheVariants.{Limit}
+use Rattle.i9_model.specs.Run.{Kind, Instruction, Faulted, Entered, Next, Ends, next_by_standing, next_in}
+use Rattle.i9_model.specs.PrintedText.{out_lines, point_lines}
+use Rattle.i9_processor.specs.State.{state_of}
+use Rattle.i9_model.specs.declared.run.Due.{Due}
+use Rattle.i9_model.specs.declared.run.Due.TheVariants as dues
+use Rattle.i9_machine.specs.Doing.{point_count}
+use Rattle.i9_model.specs.declared.run.End.{End}
 use Rattle.i9_machine.specs.declared.line.Line.{Line}
 use Rattle.i9_machine.specs.declared.line.Turn.{Turn}
 use Rattle.i9_machine.specs.declared.line.Turn.TheVariants as turns
 use Rattle.i9_machine.specs.declared.machine.Machine.{Machine}
-use Rattle.i9_machine.specs.Run.{Did, Steps}
-use Rattle.i9_machine.specs.StandsFor.{TellsRecord, LeavesFewer}
+use Rattle.i9_machine.specs.Step.{TellsRecord, next_for, Did, Steps}
+use Rattle.i9_machine.specs.StandsFor.{LeavesFewer}
 
 no_end : (k : Kind) (s : State) (e : End) → TellsRecord k s (turns.End e) → ⊥
 no_end (Instruction i) s e t = t
-no_end (Faulted words fault) s e t = t
+no_end (Faulted inst fault) s e t = t
 no_end (Entered x) s e t = t
 
 no_memory : (k : Kind) (s : State) → TellsRecord k s turns.Memory → ⊥
 no_memory (Instruction i) s t = t
-no_memory (Faulted words fault) s t = t
+no_memory (Faulted inst fault) s t = t
 no_memory (Entered x) s t = t
 
 pub did_steps : (before : Machine) (answer : Turn) (m : Machine) (old new : List Line) (s : State) (k : Kind) → TellsRecord k s answer → Did before answer m old new → Steps before answer m old new
@@ -35,3 +44,25 @@ fewer_by turns.Memory s k before now t h = tt
 -- steps that are left: a step counts k instructions, and what is due becomes p
 pub left_fewer : (l m c d k p r q : ℕ) → m ≡ l → d ≡ c + k → r ≡ p → c + k ≤ l → p + 1 ≤ 2 * k + q → 2 * (m - d) + r < 2 * (l - c) + q
 left_fewer l m c d k p r q one two three below less = omega arith
+
+-- ---- one instruction comes next
+
+before_length : (b : Bool) (x y : Next) → b ≡ false → cond b x y ≡ y
+before_length false x y e = refl
+before_length true x y e = absurd cc
+
+pub goes_on : (m : Machine) → m.due ≡ dues.Nothing → (state_of m.processor).count < m.length → next_for m ≡ next_by_standing (state_of m.processor) (stands_at (state_of m.processor))
+goes_on m none below =
+    let s = state_of m.processor in
+    let other : eqb s.count m.length ≡ false = grind (arith, nat_tests, below) in
+    ap (λ (d : Due). next_in m.length d s) none
+    ∙ before_length (eqb s.count m.length) (Ends Limit) (next_by_standing s (stands_at s)) other
+
+-- ---- lines
+
+pub points_long : (p : Option Point) (s : State) → length (point_lines p s) ≡ point_count p
+points_long None s = refl
+points_long (Some kind) s = refl
+
+pub lines_long : (b : Option ℕ) (p : Option Point) (s : State) → length (out_lines b ++ point_lines p s) ≡ length (out_lines b) + point_count p
+lines_long b p s = length-append (out_lines b) (point_lines p s) ∙ ap (λ (n : ℕ). length (out_lines b) + n) (points_long p s)

@@ -2,23 +2,12 @@
 //! machine, and each step brings the next record or the end.
 #![tactic(auto)]
 
-mod apply;
-mod built;
-mod calls;
-mod due;
-mod effect;
-mod fetch;
 mod line;
-mod load;
 mod machine;
-mod plan;
-mod processor;
-mod registers;
-mod start;
-mod system;
-mod words;
+mod step;
 
-pub use line::{End, Issued, Line, Point, Turn};
+pub use i9_model::{End, Point};
+pub use line::{Issued, Line, Turn};
 pub use machine::Machine;
 
 #[cfg(test)]

@@ -253,7 +253,8 @@ fn asked(sets: u8) -> Option<u8>
     }
 }
 
-/// The most frames that a machine holds, and what it shows at its end: 0 asks for the sets of the PRCB, whose word is given.
+/// The most frames that a machine holds, and what it shows at its end: 0 asks for the sets of the PRCB, whose word
+/// is given.
 fn nested(alloc: Global, sets: u8, word: u32) -> Result<(u8, Turn, View), Fail> {
     let image = image_with_sets(alloc, &NESTED_CALLS, word, 0)?;
     let mut machine = Machine::new(alloc, &image, asked(sets), 100)?;

@@ -1,5 +1,6 @@
 //! Memory, worked out by hand.
 use crate::Memory;
+use i9_model::in_port_page;
 use std::alloc::Global;
 use std::test::Fail;
 
@@ -118,6 +119,34 @@ fn holds_bytes(rt: HostRuntime) -> Result<(), Fail> {
         }
     }
     Ok(())
+}
+
+/// The order of bytes is that of the region of the first one.
+#[test]
+fn orders_bytes(rt: HostRuntime) {
+    let memory = memory(rt.alloc());
+    let rows = [
+        (0x0FFF_FFFF, [2, 1], [4, 3, 2, 1]),
+        (0x1000_0000, [1, 2], [1, 2, 3, 4]),
+        (0x1FFF_FFFF, [1, 2], [1, 2, 3, 4]),
+        (0x2000_0000, [2, 1], [4, 3, 2, 1]),
+        (0xE000_0004, [2, 1], [4, 3, 2, 1]),
+        (0xFFFF_FFFF, [1, 2], [1, 2, 3, 4]),
+    ];
+    for (a, half, word) in rows {
+        assert_eq!(rt; memory.half_bytes(a, 0x0102), half);
+        assert_eq!(rt; memory.word_bytes(a, 0x0102_0304), word);
+    }
+}
+
+#[test]
+fn knows_the_port_page(rt: HostRuntime) {
+    for a in [0xE000_0000, 0xE000_0004, 0xE000_0FFF] {
+        assert!(rt; in_port_page(a));
+    }
+    for a in [0, 0xDFFF_FFFF, 0xE000_1000, 0xF000_0000, 0xFFFF_FFFF] {
+        assert!(rt; !in_port_page(a));
+    }
 }
 
 #[test]

@@ -1,23 +1,28 @@
 -- In states that are alike the accesses of an instruction meet the same hazard, and without one it does the same.
-use Rattle.std.proofs.Common.{◌≡◌, ℕ, ◌+◌, ◌%◌, Bool, true, false, cond, List, [], ◌∷◌, ◌++◌, eqb, Option, Some, None, refl, sym, ap, ◌∙◌, arith}
+use Rattle.std.proofs.Common.{◌≡◌, ℕ, ◌+◌, ◌*◌, ◌%◌, Bool, true, false, cond, List, [], ◌∷◌, ◌++◌, eqb, Option, Some, None, refl, sym, ap, ◌∙◌, arith}
 use Rattle.std.specs.Prelude.{not, bit_and}
 use Rattle.std.proofs.lemmas.Bool.{or_left, or_right, eqb-true}
 use Rattle.i9_isa.specs.declared.op.Op.{Op}
-use Rattle.i9_isa.specs.declared.op.Op.TheVariants.{Ldob, Ldib, Ldos, Ldis, Ld, Ldl, Ldt, Ldq, Stob, Stib, Stos, Stis, St, Stl, Stt, Stq, Atadd, Atmod, Calls, Ret, Sysctl}
+use Rattle.i9_isa.specs.declared.op.Op.TheVariants.{Atadd, Atmod, Calls, Ret, Sysctl}
+use Rattle.i9_isa.specs.declared.size.Size.{Size}
+use Rattle.i9_isa.specs.declared.size.Size.TheVariants.{Byte, Half, Words}
+use Rattle.i9_isa.specs.declared.size.Direction.{Direction}
+use Rattle.i9_isa.specs.declared.size.Direction.TheVariants.{Load, Store}
+use Rattle.i9_isa.specs.declared.size.Transfer.{Transfer}
+use Rattle.i9_isa.specs.declared.inst.Operand.{Operand}
 use Rattle.i9_isa.specs.declared.inst.Inst.{Inst}
+use Rattle.i9_isa.specs.Transfers.{byte_count, transfer_of}
 use Rattle.i9_model.specs.declared.layout.TheConstants.{FP, SP, PFP, LOCALS, FRAME_SIZE, PC_MASK, AC_MASK}
 use Rattle.i9_model.specs.declared.calls.Sys.{Sys}
-use Rattle.i9_model.specs.Writes.{wrapped}
+use Rattle.i9_model.specs.Writes.{wrapped, upwards}
 use Rattle.i9_model.specs.Memory.{Memory, half_bytes, word_in, word_bytes, words_in}
-use Rattle.i9_model.specs.State.{State, Frames}
+use Rattle.i9_model.specs.State.{State, Frames, aligned}
 use Rattle.i9_model.specs.Frames.{rounded_down, in_bytes, in_frames}
 use Rattle.i9_model.specs.Hazards.{or_else, read_hazard, write_hazard, save_hazard, port_hazard, frame_hazard, return_hazard}
-use Rattle.i9_model.specs.Operands.{value, source_words, number_of, address}
+use Rattle.i9_model.specs.Operands.{value, source_words, address}
 use Rattle.i9_model.specs.Calls.{entry_address, stack_address, is_switch, stack_hazard, system_hazard, entered_here, entered_switched, system_entered, call_type, record_address, takes_record, return_type, record_hazard, controls_hazard, ret_hazard, returned_pc, returned_ac, popped, in_supervisor_mode, leaves_supervisor, without_supervisor}
-use Rattle.i9_model.specs.Step.{Action, extended, Message, AsksNothing, AsksRestart, AsksGroup, loaded, loading, group_sets, setting, going, bytes_of_words, stored_of, storing, merged, atomic_address, atomic, message_of, message_kind, message_action, following, pushing, calls_action, ret_action, frame_sets, action_by}
-use Rattle.i9_model.specs.State.{aligned}
-use Rattle.i9_model.specs.Step.{Returns}
-use Rattle.i9_model.specs.Access.{Changes, CallsSystem, ReturnsBy, access_by, hazard_in}
+use Rattle.i9_model.specs.Step.{Action, Returns, filled, Message, AsksNothing, AsksRestart, AsksGroup, loaded, moving, assigning, answering, passing, going, bytes_of_words, stored_of, merged, atomic_address, atomic, message_of, message_kind, message_action, following, pushing, calls_action, ret_action, frame_sets, action_by_name, action_by, action_of}
+use Rattle.i9_model.specs.Access.{Changes, CallsSystem, ReturnsBy, moved_access, access_by_name, access_by, hazard_in, hazard_of}
 use Rattle.i9_model.specs.Alike.{is_hard, is_compared, AgreeWhere, with_other, with_memory}
 use Rattle.i9_model.proofs.CallLaws.{first_none, second_none}
 use Rattle.i9_model.proofs.Readings.{half_same, word_same, SameBytes, read_same, inner_word_same, words_same, first_same, in_bytes-has}
@@ -32,28 +37,33 @@ unfolding bytes_of_words word_bytes
 stored_words_same m bytes a [] = refl
 stored_words_same m bytes a (w ∷ ws) = ap (λ bs. word_bytes m a w ++ bs) (stored_words_same m bytes (wrapped (a + 4)) ws)
 
-stored_same : (op : Op) (s : State) (bytes : ℕ → ℕ) (i : Inst) (a : ℕ) → stored_of op (with_memory s bytes) i.c a ≡ stored_of op s i.c a
+stored_same : (size : Size) (s : State) (bytes : ℕ → ℕ) (o : Operand) (a : ℕ) → stored_of size (with_memory s bytes) o a ≡ stored_of size s o a
 unfolding half_bytes
-stored_same Stos s bytes i a = refl
-stored_same Stis s bytes i a = refl
-stored_same St s bytes i a = stored_words_same s.memory bytes a (source_words s i.c 1)
-stored_same Stl s bytes i a = stored_words_same s.memory bytes a (source_words s i.c 2)
-stored_same Stt s bytes i a = stored_words_same s.memory bytes a (source_words s i.c 3)
-stored_same Stq s bytes i a = stored_words_same s.memory bytes a (source_words s i.c 4)
-stored_same _ s bytes i a = refl
+stored_same Byte s bytes o a = refl
+stored_same Half s bytes o a = refl
+stored_same (Words n) s bytes o a = stored_words_same s.memory bytes a (source_words s o n)
 
-storing_same : (op : Op) (i : Inst) (s : State) (bytes : ℕ → ℕ) → storing op i (with_memory s bytes) ≡ storing op i s
-storing_same op i s bytes = ap (λ (bs : List ℕ). record (setting i s []) { at = address s i.ea; bytes = bs }) (stored_same op s bytes i (address s i.ea))
+-- ---- loads, stores and atomics
 
-loading_same : (op : Op) (i : Inst) (s : State) (bytes : ℕ → ℕ) → loaded op (with_other s.memory bytes) (address s i.ea) ≡ loaded op s.memory (address s i.ea) → loading op i (with_memory s bytes) ≡ loading op i s
-loading_same op i s bytes e = ap (λ (vs : List ℕ). setting i s (group_sets (number_of i.c) vs)) e
+loaded_same : (size : Size) (signed : Bool) (f : Frames) (m : Memory) (bytes : ℕ → ℕ) (a : ℕ) → AgreeWhere (is_hard f) m bytes → read_hazard f a (byte_count size) ≡ None
+    → loaded size signed (with_other m bytes) a ≡ loaded size signed m a
+loaded_same Byte signed f m bytes a same none = ap (λ (v : ℕ). filled signed 8 v ∷ []) (first_same f m bytes a 1 same none (omega arith))
+loaded_same Half signed f m bytes a same none = ap (λ (v : ℕ). filled signed 16 v ∷ []) (half_same f m bytes a same none)
+loaded_same (Words n) signed f m bytes a same none = words_same m bytes a (4 * n) n (read_same f m bytes a (4 * n) same none) (omega arith)
+
+moving_same : (d : Direction) (size : Size) (signed : Bool) (i : Inst) (s : State) (bytes : ℕ → ℕ) → AgreeWhere (is_hard s.frames) s.memory bytes
+    → hazard_in s (moved_access d (address s i.ea) (byte_count size)) ≡ None → moving d size signed i (with_memory s bytes) ≡ moving d size signed i s
+moving_same Load size signed i s bytes same none =
+    ap (λ (vs : List ℕ). assigning i.c vs (passing i s)) (loaded_same size signed s.frames s.memory bytes (address s i.ea) same none)
+moving_same Store size signed i s bytes same none =
+    ap (λ (bs : List ℕ). record (passing i s) { writes = upwards (address s i.ea) bs }) (stored_same size s bytes i.c (address s i.ea))
 
 atomic_same : (i : Inst) (s : State) (bytes : ℕ → ℕ) (change : ℕ → ℕ) → AgreeWhere (is_hard s.frames) s.memory bytes → hazard_in s (Changes (atomic_address i s) 4) ≡ None → atomic i (with_memory s bytes) change ≡ atomic i s change
 unfolding word_bytes
 atomic_same i s bytes change same none =
     let a = atomic_address i s in
     let read = first_none (read_hazard s.frames a 4) (write_hazard s.frames a 4) none in
-    ap (λ (old : ℕ). record (setting i s ((number_of i.c, old) ∷ [])) { at = a; bytes = word_bytes s.memory a (change old) }) (word_same s.frames s.memory bytes a 4 same read (omega arith))
+    ap (λ (old : ℕ). record (answering i s old) { writes = upwards a (word_bytes s.memory a (change old)) }) (word_same s.frames s.memory bytes a 4 same read (omega arith))
 
 -- ---- system procedures
 
@@ -165,26 +175,18 @@ message_same AsksNothing i s bytes = refl
 message_same AsksRestart i s bytes = refl
 message_same AsksGroup i s bytes = refl
 
-pub action_same : (op : Op) (i : Inst) (s : State) (bytes : ℕ → ℕ) → AgreeWhere (is_compared s.frames) s.memory bytes → hazard_in s (access_by op i s) ≡ None → action_by op i (with_memory s bytes) ≡ action_by op i s
-action_same Ldob i s bytes same none = loading_same Ldob i s bytes (ap (λ (v : ℕ). v ∷ []) (first_same s.frames s.memory bytes (address s i.ea) 1 (hard_bytes s.frames s.memory bytes same) none (omega arith)))
-action_same Ldib i s bytes same none = loading_same Ldib i s bytes (ap (λ (v : ℕ). extended 8 v ∷ []) (first_same s.frames s.memory bytes (address s i.ea) 1 (hard_bytes s.frames s.memory bytes same) none (omega arith)))
-action_same Ldos i s bytes same none = loading_same Ldos i s bytes (ap (λ (v : ℕ). v ∷ []) (half_same s.frames s.memory bytes (address s i.ea) (hard_bytes s.frames s.memory bytes same) none))
-action_same Ldis i s bytes same none = loading_same Ldis i s bytes (ap (λ (v : ℕ). extended 16 v ∷ []) (half_same s.frames s.memory bytes (address s i.ea) (hard_bytes s.frames s.memory bytes same) none))
-action_same Ld i s bytes same none = loading_same Ld i s bytes (words_same s.memory bytes (address s i.ea) 4 1 (read_same s.frames s.memory bytes (address s i.ea) 4 (hard_bytes s.frames s.memory bytes same) none) (omega arith))
-action_same Ldl i s bytes same none = loading_same Ldl i s bytes (words_same s.memory bytes (address s i.ea) 8 2 (read_same s.frames s.memory bytes (address s i.ea) 8 (hard_bytes s.frames s.memory bytes same) none) (omega arith))
-action_same Ldt i s bytes same none = loading_same Ldt i s bytes (words_same s.memory bytes (address s i.ea) 12 3 (read_same s.frames s.memory bytes (address s i.ea) 12 (hard_bytes s.frames s.memory bytes same) none) (omega arith))
-action_same Ldq i s bytes same none = loading_same Ldq i s bytes (words_same s.memory bytes (address s i.ea) 16 4 (read_same s.frames s.memory bytes (address s i.ea) 16 (hard_bytes s.frames s.memory bytes same) none) (omega arith))
-action_same Stob i s bytes same none = storing_same Stob i s bytes
-action_same Stib i s bytes same none = storing_same Stib i s bytes
-action_same Stos i s bytes same none = storing_same Stos i s bytes
-action_same Stis i s bytes same none = storing_same Stis i s bytes
-action_same St i s bytes same none = storing_same St i s bytes
-action_same Stl i s bytes same none = storing_same Stl i s bytes
-action_same Stt i s bytes same none = storing_same Stt i s bytes
-action_same Stq i s bytes same none = storing_same Stq i s bytes
-action_same Atadd i s bytes same none = atomic_same i s bytes (λ old. wrapped (old + value s i.b)) (hard_bytes s.frames s.memory bytes same) none
-action_same Atmod i s bytes same none = atomic_same i s bytes (λ old. merged old (value s i.b) (value s i.c)) (hard_bytes s.frames s.memory bytes same) none
-action_same Calls i s bytes same none = calls_same i s bytes (hard_bytes s.frames s.memory bytes same) none
-action_same Ret i s bytes same none = ret_same s bytes same none
-action_same Sysctl i s bytes same none = message_same (message_kind (message_of i s)) i s bytes
-action_same _ i s bytes same none = refl
+name_same : (op : Op) (i : Inst) (s : State) (bytes : ℕ → ℕ) → AgreeWhere (is_compared s.frames) s.memory bytes → hazard_in s (access_by_name op i s) ≡ None → action_by_name op i (with_memory s bytes) ≡ action_by_name op i s
+name_same Atadd i s bytes same none = atomic_same i s bytes (λ old. wrapped (old + value s i.b)) (hard_bytes s.frames s.memory bytes same) none
+name_same Atmod i s bytes same none = atomic_same i s bytes (λ old. merged old (value s i.b) (value s i.c)) (hard_bytes s.frames s.memory bytes same) none
+name_same Calls i s bytes same none = calls_same i s bytes (hard_bytes s.frames s.memory bytes same) none
+name_same Ret i s bytes same none = ret_same s bytes same none
+name_same Sysctl i s bytes same none = message_same (message_kind (message_of i s)) i s bytes
+name_same _ i s bytes same none = refl
+
+pub action_same : (i : Inst) (s : State) (bytes : ℕ → ℕ) → AgreeWhere (is_compared s.frames) s.memory bytes → hazard_of i s ≡ None → action_of i (with_memory s bytes) ≡ action_of i s
+unfolding hazard_of action_of
+action_same i s bytes same none = by_transfer (transfer_of i.op) none
+  where
+    by_transfer : (o : Option Transfer) → hazard_in s (access_by o i s) ≡ None → action_by o i (with_memory s bytes) ≡ action_by o i s
+    by_transfer (Some t) e = moving_same t.direction t.size t.signed i s bytes (hard_bytes s.frames s.memory bytes same) e
+    by_transfer None e = name_same i.op i s bytes same e

@@ -1,4 +1,5 @@
--- In states that are alike every hazard is the same, and so is what is fetched, and how a fault is entered.
+-- In states that are alike every hazard is the same, and so is what stands at the instruction address, and how a
+-- fault is entered.
 use Rattle.std.proofs.Common.{◌≡◌, ℕ, ◌+◌, Bool, true, false, cond, eqb, nat_le, Option, Some, None, Result, Ok, Err, refl, sym, ap, ◌∙◌, inl, inr, arith}
 use Rattle.std.specs.Prelude.{not, ◌&&◌, ◌||◌, ◌⊎◌}
 use Rattle.std.proofs.lemmas.Bool.{eqb-true}
@@ -8,6 +9,8 @@ use Rattle.i9_isa.specs.declared.inst.Mode.{Mode}
 use Rattle.i9_isa.specs.declared.inst.Mode.TheVariants.{Offset, BaseOffset, Base, Ip, BaseIndex, Disp, BaseDisp, IndexDisp, BaseIndexDisp}
 use Rattle.i9_isa.specs.declared.inst.Inst.{Inst}
 use Rattle.i9_isa.specs.declared.inst.BadWord.{BadWord}
+use Rattle.i9_isa.specs.declared.size.Transfer.{Transfer}
+use Rattle.i9_isa.specs.Transfers.{transfer_of}
 use Rattle.i9_isa.specs.Words.{words_of_mode, words_of, decoded}
 use Rattle.i9_model.specs.declared.layout.TheConstants.{FP, SP, RECORD_SIZE, FAULT_RETURN, MOST_SYSTEM_CALL, PRCB_SIZE, CONTROL_TABLE_SIZE}
 use Rattle.i9_model.specs.declared.calls.Sys.{Sys}
@@ -26,16 +29,17 @@ use Rattle.i9_model.specs.Operands.{value}
 use Rattle.i9_model.specs.Tables.{tables_hazard}
 use Rattle.i9_model.specs.Calls.{system_hazard, system_entered, planned_system, planned_calls, calls_answer, call_type, planned_ret, popped, ret_hazard, return_type, controls_hazard, returned_pc, returned_ac}
 use Rattle.i9_model.specs.Faults.{raised, ◌>>=◌, or_stop, table_entry, checked_word, planned_handler, planned_frame, planned_fault}
-use Rattle.i9_model.specs.Step.{Message, AsksNothing, AsksRestart, AsksGroup, answer_in, first_word, next_word, message_of, message_kind}
-use Rattle.i9_model.specs.Access.{Access, NoAccess, Reads, Writes, Changes, SavesAt, CallsSystem, ReturnsBy, ReadsTables, ReadsGroup, message_access, access_by, data_of, hazard_in, hazard_of, second_hazard, fetch_hazard}
+use Rattle.i9_model.specs.Step.{Message, AsksNothing, AsksRestart, AsksGroup, first_word, next_word, message_of, message_kind}
+use Rattle.i9_model.specs.Access.{Access, NoAccess, Reads, Writes, Changes, SavesAt, CallsSystem, ReturnsBy, ReadsTables, ReadsGroup, message_access, access_by_name, access_by, access_of, data_of, hazard_in, hazard_of, second_hazard, fetch_hazard}
 use Rattle.i9_model.specs.Unbuilt.{is_traced, is_built_form, is_built, is_other_return, is_imprecise, is_unbuilt_control}
-use Rattle.i9_model.specs.Fetched.{Fetched, NotBuilt, Faults, Runs, by_word, by_fault, answer_fault, range_fault, first_fault, raised_in, fault_of, fetched}
+use Rattle.i9_model.specs.Standing.{Standing, NotBuilt, raised_in, later_fault, by_access, by_later, by_raised, by_word, by_fetch, stands_at}
 use Rattle.i9_model.specs.Run.{entry_in}
 use Rattle.i9_model.specs.Alike.{is_beyond, is_hard, is_compared, AgreeWhere, with_other, with_memory, told_words}
 use Rattle.i9_model.proofs.CallLaws.{first_none, second_none}
 use Rattle.i9_model.proofs.Readings.{read_same, inner_word_same, word_same}
 use Rattle.i9_model.proofs.AlikeActions.{hard_bytes, or_else_same, system_hazard_same, system_same, saved_pc_same, saved_ac_same}
 use Rattle.i9_model.proofs.SecondWords.{AreOfWord, decoded_alike}
+use Rattle.i9_model.proofs.Stands.{IsRead}
 
 -- ---- as after a flush
 
@@ -75,13 +79,20 @@ message_access_same AsksNothing i s bytes = refl
 message_access_same AsksRestart i s bytes = refl
 message_access_same AsksGroup i s bytes = refl
 
-pub access_same : (op : Op) (i : Inst) (s : State) (bytes : ℕ → ℕ) → access_by op i (with_memory s bytes) ≡ access_by op i s
-access_same Sysctl i s bytes = message_access_same (message_kind (message_of i s)) i s bytes
-access_same _ i s bytes = refl
+name_access_same : (op : Op) (i : Inst) (s : State) (bytes : ℕ → ℕ) → access_by_name op i (with_memory s bytes) ≡ access_by_name op i s
+name_access_same Sysctl i s bytes = message_access_same (message_kind (message_of i s)) i s bytes
+name_access_same _ i s bytes = refl
 
-pub hazard_same : (i : Inst) (s : State) (bytes : ℕ → ℕ) → AgreeWhere (is_compared s.frames) s.memory bytes → hazard_of i (with_memory s bytes) ≡ hazard_of i s
+access_same : (i : Inst) (s : State) (bytes : ℕ → ℕ) → access_of i (with_memory s bytes) ≡ access_of i s
+access_same i s bytes = by_transfer (transfer_of i.op)
+  where
+    by_transfer : (o : Option Transfer) → access_by o i (with_memory s bytes) ≡ access_by o i s
+    by_transfer (Some t) = refl
+    by_transfer None = name_access_same i.op i s bytes
+
+hazard_same : (i : Inst) (s : State) (bytes : ℕ → ℕ) → AgreeWhere (is_compared s.frames) s.memory bytes → hazard_of i (with_memory s bytes) ≡ hazard_of i s
 unfolding hazard_of
-hazard_same i s bytes same = ap (hazard_in (with_memory s bytes)) (access_same i.op i s bytes) ∙ access_hazard_same (access_by i.op i s) s bytes same
+hazard_same i s bytes same = ap (hazard_in (with_memory s bytes)) (access_same i s bytes) ∙ access_hazard_same (access_of i s) s bytes same
 
 -- ---- the fetch
 
@@ -94,7 +105,7 @@ second_hazard_same s bytes (Err e) (Err d) h = refl
 second_hazard_same s bytes (Ok i) (Err d) h = absurd h
 second_hazard_same s bytes (Err e) (Ok j) h = absurd h
 
-pub fetch_hazard_same : (s : State) (bytes : ℕ → ℕ) → AgreeWhere (is_hard s.frames) s.memory bytes → fetch_hazard (with_memory s bytes) ≡ fetch_hazard s
+fetch_hazard_same : (s : State) (bytes : ℕ → ℕ) → AgreeWhere (is_hard s.frames) s.memory bytes → fetch_hazard (with_memory s bytes) ≡ fetch_hazard s
 unfolding fetch_hazard
 fetch_hazard_same s bytes same =
     let t = with_memory s bytes in
@@ -104,11 +115,7 @@ fetch_hazard_same s bytes same =
 
 -- what an instruction raises, and whether it is built, goes by registers alone
 raised_same : (i : Inst) (s : State) (bytes : ℕ → ℕ) → raised_in i (with_memory s bytes) ≡ raised_in i s
-raised_same i s bytes = ap (λ (x : Access). raised i (value s i.a) (value s i.b) (data_of x) s.pc s.tables.fault_config) (access_same i.op i s bytes)
-
-fault_same : (i : Inst) (s : State) (bytes : ℕ → ℕ) → fault_of i (with_memory s bytes) ≡ fault_of i s
-unfolding fault_of
-fault_same i s bytes = ap (λ (o : Option (ℕ × ℕ)). first_fault o (first_fault (answer_fault (answer_in i s)) (range_fault i s))) (raised_same i s bytes)
+raised_same i s bytes = ap (λ (x : Access). raised i (value s i.a) (value s i.b) (data_of x) s.pc s.tables.fault_config) (access_same i s bytes)
 
 return_built_same : (op : Op) (s : State) (bytes : ℕ → ℕ) → is_other_return op (with_memory s bytes) ≡ is_other_return op s
 return_built_same Ret s bytes = refl
@@ -119,17 +126,26 @@ control_built_same Modpc i s bytes = refl
 control_built_same Sysctl i s bytes = refl
 control_built_same _ i s bytes = refl
 
-pub built_same : (i : Inst) (s : State) (bytes : ℕ → ℕ) → is_built i (with_memory s bytes) ≡ is_built i s
+built_same : (i : Inst) (s : State) (bytes : ℕ → ℕ) → is_built i (with_memory s bytes) ≡ is_built i s
 unfolding is_built
 built_same i s bytes =
-    ap (λ (b : Bool). is_built_form i && not b && not (is_imprecise i s) && not (is_unbuilt_control i.op i (with_memory s bytes))) (return_built_same i.op s bytes)
-    ∙ ap (λ (b : Bool). is_built_form i && not (is_other_return i.op s) && not (is_imprecise i s) && not b) (control_built_same i.op i s bytes)
+    ap (λ (b : Bool). is_built_form i && not b && not (is_unbuilt_control i.op i (with_memory s bytes))) (return_built_same i.op s bytes)
+    ∙ ap (λ (b : Bool). is_built_form i && not (is_other_return i.op s) && not b) (control_built_same i.op i s bytes)
 
-word_by_same : (s : State) (bytes : ℕ → ℕ) (r : Result Inst BadWord) → by_word (with_memory s bytes) r ≡ by_word s r
-word_by_same s bytes (Err e) = refl
-word_by_same s bytes (Ok i) =
-    ap (λ (b : Bool). cond b (by_fault i (fault_of i (with_memory s bytes))) NotBuilt) (built_same i s bytes)
-    ∙ ap (λ (o : Option (ℕ × ℕ)). cond (is_built i s) (by_fault i o) NotBuilt) (fault_same i s bytes)
+later_same : (i : Inst) (s : State) (bytes : ℕ → ℕ) (o : Option (ℕ × ℕ)) → AgreeWhere (is_compared s.frames) s.memory bytes → by_later i (with_memory s bytes) o ≡ by_later i s o
+later_same i s bytes (Some number) same = refl
+later_same i s bytes None same = ap (by_access i) (hazard_same i s bytes same)
+
+by_raised_same : (i : Inst) (s : State) (bytes : ℕ → ℕ) (o : Option (ℕ × ℕ)) → AgreeWhere (is_compared s.frames) s.memory bytes → by_raised i (with_memory s bytes) o ≡ by_raised i s o
+by_raised_same i s bytes (Some number) same = refl
+by_raised_same i s bytes None same = ap (λ (x : Standing). cond (is_imprecise i s) NotBuilt x) (later_same i s bytes (later_fault i s) same)
+
+by_word_same : (s : State) (bytes : ℕ → ℕ) (r : Result Inst BadWord) → AgreeWhere (is_compared s.frames) s.memory bytes → by_word (with_memory s bytes) r ≡ by_word s r
+by_word_same s bytes (Err e) same = refl
+by_word_same s bytes (Ok i) same =
+    let t = with_memory s bytes in
+    ap (λ (b : Bool). cond b (by_raised i t (raised_in i t)) NotBuilt) (built_same i s bytes)
+    ∙ ap (λ (x : Standing). cond (is_built i s) x NotBuilt) (ap (by_raised i t) (raised_same i s bytes) ∙ by_raised_same i s bytes (raised_in i s) same)
 
 -- an instruction has one word or two
 one_or_two : (i : Inst) → (words_of i ≡ 1) ⊎ (words_of i ≡ 2)
@@ -159,54 +175,37 @@ decoded_same s bytes (Ok i) (Ok j) same h none next = elim (one_or_two i) [
       next (word_same s.frames s.memory bytes a 4 same read (omega arith))
 ]
 
-pub fetched_same : (s : State) (bytes : ℕ → ℕ) → AgreeWhere (is_hard s.frames) s.memory bytes → fetch_hazard s ≡ None → fetched (with_memory s bytes) ≡ fetched s
-unfolding fetched fetch_hazard
-fetched_same s bytes same none =
+by_fetch_same : (s : State) (bytes : ℕ → ℕ) (h : Option ℕ) → AgreeWhere (is_compared s.frames) s.memory bytes → fetch_hazard s ≡ h → by_fetch (with_memory s bytes) h ≡ by_fetch s h
+unfolding fetch_hazard
+by_fetch_same s bytes (Some a) same is = refl
+by_fetch_same s bytes None same is =
     let t = with_memory s bytes in
     let w = first_word s in
-    let first = first_word_same s bytes same (first_none (read_hazard s.frames s.ip 4) (second_hazard s (decoded w (next_word s))) none) in
-    let second = second_none (read_hazard s.frames s.ip 4) (second_hazard s (decoded w (next_word s))) none in
-    let word = decoded_same s bytes (decoded w (next_word s)) (decoded w (next_word t)) same (decoded_alike w (next_word s) (next_word t)) second (λ e. ap (decoded w) e) in
-    ap (λ (r : Result Inst BadWord). cond (is_traced s) NotBuilt (by_word t r)) (ap (λ (v : ℕ). decoded v (next_word t)) first ∙ word)
-    ∙ ap (λ (o : Fetched). cond (is_traced s) NotBuilt o) (word_by_same s bytes (decoded w (next_word s)))
+    let r = decoded w (next_word s) in
+    let hard = hard_bytes s.frames s.memory bytes same in
+    let first = first_word_same s bytes hard (first_none (read_hazard s.frames s.ip 4) (second_hazard s r) is) in
+    let second = second_none (read_hazard s.frames s.ip 4) (second_hazard s r) is in
+    let word = decoded_same s bytes r (decoded w (next_word t)) hard (decoded_alike w (next_word s) (next_word t)) second (λ e. ap (decoded w) e) in
+    ap (λ (x : Standing). cond (is_traced s) NotBuilt x)
+    (ap (by_word t) (ap (λ (v : ℕ). decoded v (next_word t)) first ∙ word) ∙ by_word_same s bytes r same)
 
--- ---- the words of what is fetched
+-- the same stands at the instruction address
+pub stands_same : (s : State) (bytes : ℕ → ℕ) → AgreeWhere (is_compared s.frames) s.memory bytes → stands_at (with_memory s bytes) ≡ stands_at s
+unfolding stands_at
+stands_same s bytes same =
+    ap (by_fetch (with_memory s bytes)) (fetch_hazard_same s bytes (hard_bytes s.frames s.memory bytes same)) ∙ by_fetch_same s bytes (fetch_hazard s) same refl
 
-abbrev pub fetched_words : Fetched → ℕ
-fetched_words NotBuilt = 0
-fetched_words (Faults words number) = words
-fetched_words (Runs i) = words_of i
-
--- where there are two, the second one is read without a hazard
-second_read : (s : State) (b : Bool) (r : Result Inst BadWord) → second_hazard s r ≡ None → fetched_words (cond b NotBuilt (by_word s r)) ≡ 2 → read_hazard s.frames (wrapped (s.ip + 4)) 4 ≡ None
-second_read s true r none two = absurd (omega (arith, two))
-second_read s false (Err e) none two = absurd (omega (arith, two))
-second_read s false (Ok i) none two = by_fault_of (is_built i s) (fault_of i s) two
-  where
-    a : ℕ
-    a = wrapped (s.ip + 4)
-
-    read : words_of i ≡ 2 → read_hazard s.frames a 4 ≡ None
-    read e = sym (ap (λ (n : ℕ). cond (eqb n 2) (read_hazard s.frames a 4) None) e) ∙ none
-
-    by_fault_of : (b : Bool) (o : Option (ℕ × ℕ)) → fetched_words (cond b (by_fault i o) NotBuilt) ≡ 2 → read_hazard s.frames a 4 ≡ None
-    by_fault_of false o e = absurd (omega (arith, e))
-    by_fault_of true None e = read e
-    by_fault_of true (Some number) e = read e
+-- ---- its words
 
 told_by : (n : ℕ) (b : Bool) (v w x y : ℕ) → eqb n 2 ≡ b → v ≡ w → (n ≡ 2 → x ≡ y) → ◌≡◌ {A = ℕ × ℕ} (v, cond b x 0) (w, cond b y 0)
 told_by n true v w x y t e f = let same : x ≡ y = f (eqb-true n 2 t) in λ i. (e i, same i)
 told_by n false v w x y t e f = λ i. (e i, 0)
 
-pub told_same : (s : State) (bytes : ℕ → ℕ) (o : Fetched) → AgreeWhere (is_hard s.frames) s.memory bytes → fetch_hazard s ≡ None → fetched s ≡ o → told_words (fetched_words o) (with_memory s bytes) ≡ told_words (fetched_words o) s
-unfolding fetched fetch_hazard
-told_same s bytes o same none is =
-    let w = first_word s in
-    let r = decoded w (next_word s) in
-    let first = first_none (read_hazard s.frames s.ip 4) (second_hazard s r) none in
-    let second = second_none (read_hazard s.frames s.ip 4) (second_hazard s r) none in
-    told_by (fetched_words o) (eqb (fetched_words o) 2) (first_word (with_memory s bytes)) w (next_word (with_memory s bytes)) (next_word s) refl (first_word_same s bytes same first)
-    (λ two. word_same s.frames s.memory bytes (wrapped (s.ip + 4)) 4 same (second_read s (is_traced s) r second (ap fetched_words is ∙ two)) (omega arith))
+pub told_same : (s : State) (bytes : ℕ → ℕ) (words : ℕ) → AgreeWhere (is_hard s.frames) s.memory bytes → IsRead s words → told_words words (with_memory s bytes) ≡ told_words words s
+told_same s bytes words same read =
+    let t = with_memory s bytes in
+    told_by words (eqb words 2) (first_word t) (first_word s) (next_word t) (next_word s) refl (first_word_same s bytes same read.first)
+    (λ two. word_same s.frames s.memory bytes (wrapped (s.ip + 4)) 4 same (read.second two) (omega arith))
 
 -- ---- the entry of a fault
 

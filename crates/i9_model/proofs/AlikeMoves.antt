@@ -4,20 +4,21 @@ use Rattle.std.specs.Prelude.{not}
 use Rattle.std.proofs.lemmas.Bool.{or_left, or_right}
 use Rattle.i9_model.specs.declared.layout.TheConstants.{FRAME_SIZE}
 use Rattle.i9_model.specs.Writes.{address_count, upwards}
-use Rattle.i9_model.specs.Memory.{Memory, in_port_page, stored, with_bytes}
+use Rattle.i9_model.specs.Memory.{Memory, in_port_page, stored, with_bytes, with_writes}
 use Rattle.i9_model.specs.State.{State, Frames}
-use Rattle.i9_model.specs.Frames.{in_bytes, in_frames, saved, returned, flushed, wrote}
+use Rattle.i9_model.specs.Frames.{in_bytes, in_frames, saved, returned, flushed, is_put, wrote}
 use Rattle.i9_model.specs.Step.{Move, Stays, Saves, Returns, Flushes, Action, bytes_of_words, memory_after, frames_after, moved}
 use Rattle.i9_model.specs.Alike.{is_beyond, is_hard, is_compared, AgreeWhere, with_other, with_memory, AreAlike}
 use Rattle.i9_model.specs.Free.{IsWhole}
+use Rattle.i9_model.proofs.Runs.{is_put-upwards}
 use Rattle.i9_model.proofs.SoundRuns.{words_long}
 use Rattle.i9_model.proofs.AlikeActions.{stored_words_same}
 use Rattle.i9_model.proofs.Storing.{stored_agree, words_as_bytes}
 
 -- ---- what is compared afterwards was compared before, or is written
 
-beside_wrote : (f : Frames) (a n x : ℕ) → in_bytes a n x ≡ false → is_compared (wrote f a n) x ≡ true → is_compared f x ≡ true
-beside_wrote f a n x out h = by_cases (is_beyond x) (f.soft x) (in_frames f.live x) (in_bytes a n x) out h
+beside_wrote : (f : Frames) (ps : List (ℕ × ℕ)) (x : ℕ) → is_put ps x ≡ false → is_compared (wrote f ps) x ≡ true → is_compared f x ≡ true
+beside_wrote f ps x out h = by_cases (is_beyond x) (f.soft x) (in_frames f.live x) (is_put ps x) out h
   where
     by_cases : (beyond soft live here : Bool) → here ≡ false → ((beyond || not (soft && not here)) || live) ≡ true → ((beyond || not soft) || live) ≡ true
     by_cases true soft live here o h = refl
@@ -53,13 +54,15 @@ after_flush f x h = by_cases (is_beyond x) (f.soft x) (in_frames f.live x) h
 port_compared : (f : Frames) (x : ℕ) → in_port_page x ≡ true → is_compared f x ≡ true
 port_compared f x p = or_left (is_hard f x) (in_frames f.live x) (or_left (is_beyond x) (not (f.soft x)) (or_left (in_port_page x) (nat_le address_count x) p))
 
--- ---- moves of frames, and a store
+-- ---- moves of frames, and writes
 
-pub stored_alike : (f : Frames) (m : Memory) (bytes : ℕ → ℕ) (a : ℕ) (bs : List ℕ) → AgreeWhere (is_compared f) m bytes → AgreeWhere (is_compared (wrote f a (length bs))) (with_bytes m a bs) (stored bytes (upwards a bs))
-stored_alike f m bytes a bs same = λ x h. stored_agree bytes m.bytes a bs x (λ p. same x (port_compared f x p)) (λ out. same x (beside_wrote f a (length bs) x out h))
+pub stored_alike : (f : Frames) (m : Memory) (bytes : ℕ → ℕ) (ps : List (ℕ × ℕ)) → AgreeWhere (is_compared f) m bytes → AgreeWhere (is_compared (wrote f ps)) (with_writes m ps) (stored bytes ps)
+stored_alike f m bytes ps same = λ x h. stored_agree bytes m.bytes ps x (λ p. same x (port_compared f x p)) (λ out. same x (beside_wrote f ps x out h))
 
 saved_alike : (f : Frames) (m : Memory) (bytes : ℕ → ℕ) (a : ℕ) (bs : List ℕ) → length bs ≡ FRAME_SIZE → AgreeWhere (is_compared f) m bytes → AgreeWhere (is_compared (saved f a)) (with_bytes m a bs) (stored bytes (upwards a bs))
-saved_alike f m bytes a bs long same = λ x h. stored_agree bytes m.bytes a bs x (λ p. same x (port_compared f x p)) (λ out. same x (beside_saved f a x (sym (ap (λ (n : ℕ). in_bytes a n x) long) ∙ out) h))
+saved_alike f m bytes a bs long same = λ x h.
+    let put : is_put (upwards a bs) x ≡ in_bytes a FRAME_SIZE x = is_put-upwards a bs x ∙ ap (λ (n : ℕ). in_bytes a n x) long in
+    stored_agree bytes m.bytes (upwards a bs) x (λ p. same x (port_compared f x p)) (λ out. same x (beside_saved f a x (sym put ∙ out) h))
 
 move_alike : (v : Move) (f : Frames) (m : Memory) (bytes : ℕ → ℕ) → IsWhole v → AgreeWhere (is_compared f) m bytes → AgreeWhere (is_compared (frames_after f v)) (memory_after m v) (memory_after (with_other m bytes) v).bytes
 move_alike Stays f m bytes whole same = same
@@ -81,7 +84,7 @@ move_mcon (Saves save words) m = ap (λ (k : Memory). k.mcon) (words_as_bytes m 
 
 -- a state after an action with other bytes, from the memory after its move
 abbrev with_moved : State → Action → Memory → State
-with_moved s a m = record (moved s a) { memory = with_bytes m a.at a.bytes }
+with_moved s a m = record (moved s a) { memory = with_writes m a.writes }
 
 moved_rest : (s : State) (a : Action) (bytes : ℕ → ℕ) → moved (with_memory s bytes) a ≡ with_memory (moved s a) (moved (with_memory s bytes) a).memory.bytes
 unfolding moved
@@ -94,5 +97,5 @@ pub moved_alike : (s : State) (a : Action) (bytes : ℕ → ℕ) → IsWhole a.m
 unfolding moved
 moved_alike s a bytes whole same = record {
   rest = moved_rest s a bytes;
-  bytes = stored_alike (frames_after s.frames a.move) (memory_after s.memory a.move) (memory_after (with_other s.memory bytes) a.move).bytes a.at a.bytes (move_alike a.move s.frames s.memory bytes whole same);
+  bytes = stored_alike (frames_after s.frames a.move) (memory_after s.memory a.move) (memory_after (with_other s.memory bytes) a.move).bytes a.writes (move_alike a.move s.frames s.memory bytes whole same);
 }

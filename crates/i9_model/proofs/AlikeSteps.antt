@@ -1,8 +1,14 @@
 -- What comes next in states that are alike is the same record or the same end, and states stay alike.
-use Rattle.std.proofs.Common.{◌≡◌, ℕ, ◌+◌, ◌-◌, ◌*◌, ◌≤◌, Bool, true, false, cond, eqb, ◌&&◌, ◌||◌, nat_le, List, [], ◌∷◌, ◌++◌, Option, Some, None, Result, Ok, Err, refl, sym, ap, ◌∙◌, subst, arith}
+use Rattle.std.proofs.Common.{◌≡◌, ℕ, ◌+◌, ◌*◌, ◌≤◌, Bool, true, false, cond, eqb, ◌&&◌, ◌||◌, nat_le, List, [], ◌∷◌, ◌++◌, Option, Some, None, Result, Ok, Err, refl, sym, ap, ◌∙◌, subst, arith}
 use Rattle.std.specs.Prelude.{not, bit_and, max, ◌%◌}
 use Rattle.i9_isa.specs.declared.op.Op.{Op}
-use Rattle.i9_isa.specs.declared.op.Op.TheVariants.{Call, Callx, Calls, Sysctl}
+use Rattle.i9_isa.specs.declared.op.Op.TheVariants.{Sysctl}
+use Rattle.i9_isa.specs.declared.size.Size.{Size}
+use Rattle.i9_isa.specs.declared.size.Direction.{Direction}
+use Rattle.i9_isa.specs.declared.size.Direction.TheVariants.{Load, Store}
+use Rattle.i9_isa.specs.declared.size.Transfer.{Transfer}
+use Rattle.i9_isa.specs.Transfers.{transfer_of}
+use Rattle.i9_isa.specs.Words.{words_of}
 use Rattle.i9_isa.specs.declared.inst.Inst.{Inst}
 use Rattle.i9_model.specs.declared.layout.TheConstants.{PRCB_SIZE, CONTROL_TABLE_SIZE, CONTROL_GROUP_SIZE, AC_MASK, LEAST_SETS}
 use Rattle.i9_model.specs.declared.setup.TheConstants.{CONTROL_WORDS}
@@ -10,31 +16,34 @@ use Rattle.i9_model.specs.declared.setup.Setup.{Setup}
 use Rattle.i9_model.specs.declared.faults.Entry.{Entry}
 use Rattle.i9_model.specs.declared.faults.FaultStop.{FaultStop}
 use Rattle.i9_model.specs.declared.faults.FaultStop.TheVariants as stops
-use Rattle.i9_model.specs.Writes.{address_count, written}
+use Rattle.i9_model.specs.Writes.{address_count, written, upwards}
 use Rattle.i9_model.specs.Memory.{Memory, console_byte, in_port_page, words_in, exit_word}
 use Rattle.i9_model.specs.State.{State, Frames, started}
-use Rattle.i9_model.specs.Frames.{in_bytes, in_frames, flushed, wrote}
+use Rattle.i9_model.specs.Frames.{in_frames, flushed, is_put, wrote}
 use Rattle.i9_model.specs.Hazards.{read_hazard}
 use Rattle.i9_model.specs.Operands.{value}
-use Rattle.i9_model.specs.Boot.{table_word, setup_of, with_regions, configured}
+use Rattle.i9_model.specs.Boot.{table_word, setup_of, configured}
 use Rattle.i9_model.specs.Tables.{tables_hazard, group_address, group_hazard, group_words}
 use Rattle.i9_model.specs.Calls.{record_address}
-use Rattle.i9_model.specs.Controls.{Control, KeepsControls, Restarts, LoadsGroup, with_breakpoints, with_maps, with_trace_controls, with_group, controlled}
-use Rattle.i9_model.specs.Step.{Action, Drained, Flushes, Message, AsksNothing, AsksRestart, AsksGroup, setting, entering, message_of, argument_of, message_kind, message_action, action_by, action_of, moved, acted}
-use Rattle.i9_model.specs.Access.{access_by, message_access, hazard_in, hazard_of, fetch_hazard}
-use Rattle.i9_model.specs.Fetched.{Fetched, NotBuilt, Faults, Runs, fetched}
-use Rattle.i9_model.specs.Run.{Finish, writes_in, Limit, Kind, Instruction, Faulted, Entered, Record, action_by_kind, record_of, exit_in, due_by, end_due, Due, NothingDue, EndDue, EntryDue, Next, Does, Ends, next_by_access, next_by_word, next_by_fetch, next_by_entry, entry_in, fault_at, next_in}
+use Rattle.i9_model.specs.Controls.{Control, KeepsControls, Restarts, LoadsGroup, with_group, controlled}
+use Rattle.i9_model.specs.Step.{Action, Flushes, Message, AsksNothing, AsksRestart, AsksGroup, passing, moving, entering, message_of, argument_of, message_kind, message_action, action_by_name, action_by, action_of, moved, acted, counted}
+use Rattle.i9_model.specs.Access.{message_access, access_by_name, access_by, hazard_in, hazard_of}
+use Rattle.i9_model.specs.Standing.{Standing, Meets, NotBuilt, Refused, Faults, Runs, stands_at}
+use Rattle.i9_model.specs.Run.{End, Limit, Kind, Instruction, Faulted, Entered, Record, action_by_kind, action_done, counts_of, Point, point_of, after_kind, record_of, exit_in, due_by, end_due, Due, Next, Does, Ends, next_by_standing, next_by_entry, entry_in, fault_at, next_in}
 use Rattle.i9_model.specs.Overlay.{overlay}
-use Rattle.i9_model.specs.PrintedText.{Shown, Point, view_of, out_lines, point_lines, action_lines}
+use Rattle.i9_model.specs.PrintedText.{Shown, Drained, view_of, out_lines, point_lines, record_lines}
 use Rattle.i9_model.specs.declared.view.View.{View}
-use Rattle.i9_model.specs.Alike.{is_hard, is_compared, AgreeWhere, with_other, with_memory, AreAlike, told_words, told, AreRecordsAlike, AreNextAlike}
+use Rattle.i9_model.specs.Alike.{is_hard, is_compared, AgreeWhere, with_other, with_memory, AreAlike, told, AreRecordsAlike, AreNextAlike}
 use Rattle.i9_model.proofs.CallLaws.{first_none, second_none}
-use Rattle.i9_model.proofs.ControlLaws.{controlled-frames}
+use Rattle.i9_model.proofs.ControlLaws.{by_group, controlled-frames}
 use Rattle.i9_model.proofs.Readings.{read_same, inner_word_same, words_same}
 use Rattle.i9_model.proofs.AlikeActions.{hard_bytes, action_same, stored_words_same}
-use Rattle.i9_model.proofs.AlikeFetches.{hazard_same, fetch_hazard_same, fetched_same, fetched_words, told_same, entry_same}
+use Rattle.i9_model.proofs.Stands.{Known, known}
+use Rattle.i9_model.proofs.SoundRuns.{action_clear}
+use Rattle.i9_model.proofs.AlikeFetches.{stands_same, told_same, entry_same}
 use Rattle.i9_model.specs.Free.{IsWhole}
 use Rattle.i9_model.proofs.AlikeMoves.{moved_alike}
+use Rattle.i9_model.specs.declared.run.Due.TheVariants as dues
 
 -- ---- the tables of start-up
 
@@ -84,10 +93,6 @@ IsReadable s KeepsControls = Unit {0}
 IsReadable s (Restarts first prcb) = tables_hazard s.memory s.frames prcb ≡ None
 IsReadable s (LoadsGroup group) = group_hazard s.frames s.tables.control_table group ≡ None
 
-abbrev pub by_group : Bool → Bool → Bool → State → ℕ → List ℕ → State
-by_group a b c s group ws =
-    cond a (with_breakpoints s ws) (cond b (with_maps s ws) (cond c (with_trace_controls s ws) (record s { memory = with_regions s.memory (4 * (group - 2)) ws })))
-
 group_memory : (a b c : Bool) (s : State) (bytes : ℕ → ℕ) (group : ℕ) (ws : List ℕ) → by_group a b c (with_memory s bytes) group ws ≡ with_memory (by_group a b c s group ws) bytes
 group_memory true b c s bytes group ws = refl
 group_memory false true c s bytes group ws = refl
@@ -131,29 +136,15 @@ pub acted_alike : (s : State) (a : Action) (bytes : ℕ → ℕ) → IsWhole a.m
 unfolding acted
 acted_alike s a bytes whole readable same = controlled_alike a.control (moved s a) (moved (with_memory s bytes) a) readable (moved_alike s a bytes whole same)
 
--- ---- frames are saved whole
-
-pub whole_by : (op : Op) (i : Inst) (s : State) → IsWhole (action_by op i s).move
-whole_by Call i s = refl
-whole_by Callx i s = refl
-whole_by Calls i s = refl
-whole_by Sysctl i s = by_message (message_kind (message_of i s))
-  where
-    by_message : (m : Message) → IsWhole (message_action m i s).move
-    by_message AsksNothing = tt
-    by_message AsksRestart = tt
-    by_message AsksGroup = tt
-whole_by _ i s = tt
-
 -- ---- tables are read after a flush that stores nothing
 
 abbrev pub flushing : Inst → State → Control → Action
-flushing i s c = record (setting i s []) { move = Flushes; control = c }
+flushing i s c = record (passing i s) { move = Flushes; control = c }
 
-none_wrote : (f : Frames) → wrote f 0 0 ≡ f
-unfolding in_bytes
+none_wrote : (f : Frames) → wrote f [] ≡ f
+unfolding is_put
 none_wrote f =
-    let soft : ◌≡◌ {A = ℕ → Bool} (λ x. f.soft x && not (in_bytes 0 0 x)) f.soft = λ i x. and_true (f.soft x) i in
+    let soft : ◌≡◌ {A = ℕ → Bool} (λ x. f.soft x && not (is_put [] x)) f.soft = λ i x. and_true (f.soft x) i in
     ap (λ (g : ℕ → Bool). record f { soft = g }) soft
   where
     and_true : (b : Bool) → (b && true) ≡ b
@@ -173,9 +164,21 @@ message_readable AsksNothing i s none = tt
 message_readable AsksRestart i s none = restart_readable i s (value s i.b) (value s i.c) none
 message_readable AsksGroup i s none = group_readable i s (argument_of i s) none
 
-readable_by : (op : Op) (i : Inst) (s : State) → hazard_in s (access_by op i s) ≡ None → IsReadable (moved s (action_by op i s)) (action_by op i s).control
-readable_by Sysctl i s none = message_readable (message_kind (message_of i s)) i s none
-readable_by _ i s none = tt
+name_readable : (op : Op) (i : Inst) (s : State) → hazard_in s (access_by_name op i s) ≡ None → IsReadable (moved s (action_by_name op i s)) (action_by_name op i s).control
+name_readable Sysctl i s none = message_readable (message_kind (message_of i s)) i s none
+name_readable _ i s none = tt
+
+moving_readable : (d : Direction) (size : Size) (signed : Bool) (i : Inst) (s : State) → IsReadable (moved s (moving d size signed i s)) (moving d size signed i s).control
+moving_readable Load size signed i s = tt
+moving_readable Store size signed i s = tt
+
+action_readable : (i : Inst) (s : State) → hazard_of i s ≡ None → IsReadable (moved s (action_of i s)) (action_of i s).control
+unfolding hazard_of action_of
+action_readable i s none = by_transfer (transfer_of i.op) none
+  where
+    by_transfer : (o : Option Transfer) → hazard_in s (access_by o i s) ≡ None → IsReadable (moved s (action_by o i s)) (action_by o i s).control
+    by_transfer (Some t) e = moving_readable t.direction t.size t.signed i s
+    by_transfer None e = name_readable i.op i s e
 
 -- ---- records
 
@@ -184,77 +187,67 @@ exit_same : (s : State) (bytes : ℕ → ℕ) (a : Action) → exit_in (with_mem
 unfolding exit_word
 exit_same s bytes a = refl
 
-pub due_same : (k : Kind) (s : State) (bytes : ℕ → ℕ) → action_by_kind k (with_memory s bytes) ≡ action_by_kind k s → due_by k (with_memory s bytes) ≡ due_by k s
+due_same : (k : Kind) (s : State) (bytes : ℕ → ℕ) → action_by_kind k (with_memory s bytes) ≡ action_by_kind k s → due_by k (with_memory s bytes) ≡ due_by k s
 due_same (Instruction i) s bytes e = ap (λ (a : Action). end_due (exit_in (with_memory s bytes) a)) e ∙ ap end_due (exit_same s bytes (action_of i s))
-due_same (Faulted words fault) s bytes e = refl
+due_same (Faulted inst fault) s bytes e = refl
 due_same (Entered x) s bytes e = refl
 
--- what a record makes due in states that are alike
-pub due_alike : (k : Kind) (s t : State) → AreAlike s t → action_by_kind k t ≡ action_by_kind k s → due_by k t ≡ due_by k s
-due_alike k s t alike e =
-    ap (due_by k) alike.rest ∙ due_same k s t.memory.bytes (sym (ap (action_by_kind k) alike.rest) ∙ e)
+counted_alike : (n : ℕ) (s t : State) → AreAlike s t → AreAlike (counted n s) (counted n t)
+counted_alike n s t alike = record { rest = ap (counted n) alike.rest; bytes = alike.bytes }
 
 -- a record of one kind, of the same action
 record_alike : (k : Kind) (s : State) (bytes : ℕ → ℕ) → told k (with_memory s bytes) ≡ told k s → action_by_kind k (with_memory s bytes) ≡ action_by_kind k s → IsWhole (action_by_kind k s).move → IsReadable (moved s (action_by_kind k s)) (action_by_kind k s).control
-    → AgreeWhere (is_compared s.frames) s.memory bytes → AreNextAlike s (with_memory s bytes) (Does (record_of k s)) (Does (record_of k (with_memory s bytes)))
+    → AgreeWhere (is_compared s.frames) s.memory bytes → AreRecordsAlike (record_of k s) (record_of k (with_memory s bytes))
 record_alike k s bytes words e whole readable same =
     let t = with_memory s bytes in
+    let a = action_by_kind k s in
+    let after : AreAlike (counted (counts_of k) (acted s a)) (counted (counts_of k) (acted t a)) = counted_alike (counts_of k) (acted s a) (acted t a) (acted_alike s a bytes whole readable same) in
     record {
       kind = refl;
+      before = record { rest = refl; bytes = same };
       words = words;
       action = e;
-      after = subst (λ (u : State). AreAlike (acted s (action_by_kind k s)) u) (ap (acted t) (sym e)) (acted_alike s (action_by_kind k s) bytes whole readable same);
+      after = subst (λ (x : Action). AreAlike (after_kind k s) (counted (counts_of k) (acted t x))) (sym e) after;
     }
 
-instruction_alike : (i : Inst) (s : State) (bytes : ℕ → ℕ) → told (Instruction i) (with_memory s bytes) ≡ told (Instruction i) s → AgreeWhere (is_compared s.frames) s.memory bytes → hazard_of i s ≡ None → AreNextAlike s (with_memory s bytes) (Does (record_of (Instruction i) s)) (Does (record_of (Instruction i) (with_memory s bytes)))
-unfolding hazard_of action_of
-instruction_alike i s bytes words same none = record_alike (Instruction i) s bytes words (action_same i.op i s bytes same none) (whole_by i.op i s) (readable_by i.op i s none) same
+instruction_alike : (i : Inst) (s : State) (bytes : ℕ → ℕ) → told (Instruction i) (with_memory s bytes) ≡ told (Instruction i) s → AgreeWhere (is_compared s.frames) s.memory bytes → hazard_of i s ≡ None
+    → AreRecordsAlike (record_of (Instruction i) s) (record_of (Instruction i) (with_memory s bytes))
+instruction_alike i s bytes words same none =
+    record_alike (Instruction i) s bytes words (action_same i s bytes same none) (action_clear i s none).free.whole (action_readable i s none) same
 
 entering_same : (e : Entry) (s : State) (bytes : ℕ → ℕ) → entering e (with_memory s bytes) ≡ entering e s
-entering_same e s bytes = ap (λ (bs : List ℕ). record (entering e s) { bytes = bs }) (stored_words_same s.memory bytes (record_address e.push.frame) e.words)
+entering_same e s bytes = ap (λ (bs : List ℕ). record (entering e s) { writes = upwards (record_address e.push.frame) bs }) (stored_words_same s.memory bytes (record_address e.push.frame) e.words)
 
 -- ---- what comes next
 
-access_alike : (i : Inst) (s : State) (bytes : ℕ → ℕ) (h : Option ℕ) → told (Instruction i) (with_memory s bytes) ≡ told (Instruction i) s → hazard_of i s ≡ h → AgreeWhere (is_compared s.frames) s.memory bytes → AreNextAlike s (with_memory s bytes) (next_by_access s i h) (next_by_access (with_memory s bytes) i h)
-access_alike i s bytes None words is same = instruction_alike i s bytes words same is
-access_alike i s bytes (Some a) words is same = refl
+standing_alike : (s : State) (bytes : ℕ → ℕ) (x : Standing) → Known s x → AgreeWhere (is_compared s.frames) s.memory bytes → AreNextAlike (next_by_standing s x) (next_by_standing (with_memory s bytes) x)
+standing_alike s bytes (Meets a) k same = refl
+standing_alike s bytes NotBuilt k same = refl
+standing_alike s bytes (Refused number) k same = record_alike (Faulted None (fault_at s number)) s bytes (told_same s bytes 1 (hard_bytes s.frames s.memory bytes same) k) refl tt tt same
+standing_alike s bytes (Faults i number) k same = record_alike (Faulted (Some i) (fault_at s number)) s bytes (told_same s bytes (words_of i) (hard_bytes s.frames s.memory bytes same) k) refl tt tt same
+standing_alike s bytes (Runs i) k same = instruction_alike i s bytes (told_same s bytes (words_of i) (hard_bytes s.frames s.memory bytes same) k.0) same k.1
 
-word_alike : (s : State) (bytes : ℕ → ℕ) (o : Fetched) → told_words (fetched_words o) (with_memory s bytes) ≡ told_words (fetched_words o) s → AgreeWhere (is_compared s.frames) s.memory bytes → AreNextAlike s (with_memory s bytes) (next_by_word s o) (next_by_word (with_memory s bytes) o)
-word_alike s bytes NotBuilt words same = refl
-word_alike s bytes (Faults count number) words same = record_alike (Faulted count (fault_at s number)) s bytes words refl tt tt same
-word_alike s bytes (Runs i) words same =
-    let t = with_memory s bytes in
-    subst (λ (h : Option ℕ). AreNextAlike s t (next_by_access s i (hazard_of i s)) (next_by_access t i h)) (sym (hazard_same i s bytes same)) (access_alike i s bytes (hazard_of i s) words refl same)
-
-fetch_alike : (s : State) (bytes : ℕ → ℕ) (h : Option ℕ) → fetch_hazard s ≡ h → AgreeWhere (is_compared s.frames) s.memory bytes → AreNextAlike s (with_memory s bytes) (next_by_fetch s h) (next_by_fetch (with_memory s bytes) h)
-fetch_alike s bytes (Some a) is same = refl
-fetch_alike s bytes None is same =
-    let t = with_memory s bytes in
-    let hard = hard_bytes s.frames s.memory bytes same in
-    subst (λ (o : Fetched). AreNextAlike s t (next_by_word s (fetched s)) (next_by_word t o)) (sym (fetched_same s bytes hard is)) (word_alike s bytes (fetched s) (told_same s bytes (fetched s) hard is refl) same)
-
-entry_alike : (s : State) (bytes : ℕ → ℕ) (o : Result Entry FaultStop) → AgreeWhere (is_compared s.frames) s.memory bytes → AreNextAlike s (with_memory s bytes) (next_by_entry s o) (next_by_entry (with_memory s bytes) o)
+entry_alike : (s : State) (bytes : ℕ → ℕ) (o : Result Entry FaultStop) → AgreeWhere (is_compared s.frames) s.memory bytes → AreNextAlike (next_by_entry s o) (next_by_entry (with_memory s bytes) o)
 entry_alike s bytes (Ok e) same = record_alike (Entered e) s bytes refl (entering_same e s bytes) refl tt same
 entry_alike s bytes (Err (stops.Hazard a)) same = refl
 entry_alike s bytes (Err (stops.Dead code a)) same = refl
 
 by_length : (b : Bool) (s : State) (bytes : ℕ → ℕ) → AgreeWhere (is_compared s.frames) s.memory bytes
-    → AreNextAlike s (with_memory s bytes) (cond b (Ends Limit) (next_by_fetch s (fetch_hazard s))) (cond b (Ends Limit) (next_by_fetch (with_memory s bytes) (fetch_hazard (with_memory s bytes))))
+    → AreNextAlike (cond b (Ends Limit) (next_by_standing s (stands_at s))) (cond b (Ends Limit) (next_by_standing (with_memory s bytes) (stands_at (with_memory s bytes))))
 by_length true s bytes same = refl
 by_length false s bytes same =
-    let t = with_memory s bytes in
-    subst (λ (h : Option ℕ). AreNextAlike s t (next_by_fetch s (fetch_hazard s)) (next_by_fetch t h)) (sym (fetch_hazard_same s bytes (hard_bytes s.frames s.memory bytes same))) (fetch_alike s bytes (fetch_hazard s) refl same)
+    subst (λ (x : Standing). AreNextAlike (next_by_standing s (stands_at s)) (next_by_standing (with_memory s bytes) x)) (sym (stands_same s bytes same)) (standing_alike s bytes (stands_at s) (known s) same)
 
-next_by_due : (limit : ℕ) (due : Due) (s : State) (bytes : ℕ → ℕ) → AgreeWhere (is_compared s.frames) s.memory bytes → AreNextAlike s (with_memory s bytes) (next_in limit due s) (next_in limit due (with_memory s bytes))
-next_by_due limit (EndDue f) s bytes same = refl
-next_by_due limit (EntryDue fault) s bytes same =
+next_by_due : (limit : ℕ) (due : Due) (s : State) (bytes : ℕ → ℕ) → AgreeWhere (is_compared s.frames) s.memory bytes → AreNextAlike (next_in limit due s) (next_in limit due (with_memory s bytes))
+next_by_due limit (dues.End f) s bytes same = refl
+next_by_due limit (dues.Entry fault) s bytes same =
     let t = with_memory s bytes in
-    subst (λ (o : Result Entry FaultStop). AreNextAlike s t (next_by_entry s (entry_in s fault)) (next_by_entry t o)) (sym (entry_same s bytes fault (hard_bytes s.frames s.memory bytes same))) (entry_alike s bytes (entry_in s fault) same)
-next_by_due limit NothingDue s bytes same = by_length (eqb s.count limit) s bytes same
+    subst (λ (o : Result Entry FaultStop). AreNextAlike (next_by_entry s (entry_in s fault)) (next_by_entry t o)) (sym (entry_same s bytes fault (hard_bytes s.frames s.memory bytes same))) (entry_alike s bytes (entry_in s fault) same)
+next_by_due limit dues.Nothing s bytes same = by_length (eqb s.count limit) s bytes same
 
 -- what comes next in states that are alike
-pub next_alike : (limit : ℕ) (due : Due) (s t : State) → AreAlike s t → AreNextAlike s t (next_in limit due s) (next_in limit due t)
-next_alike limit due s t alike = subst (λ (u : State). AreNextAlike s u (next_in limit due s) (next_in limit due u)) (sym alike.rest) (next_by_due limit due s t.memory.bytes alike.bytes)
+pub next_alike : (limit : ℕ) (due : Due) (s t : State) → AreAlike s t → AreNextAlike (next_in limit due s) (next_in limit due t)
+next_alike limit due s t alike = subst (λ (u : State). AreNextAlike (next_in limit due s) (next_in limit due u)) (sym alike.rest) (next_by_due limit due s t.memory.bytes alike.bytes)
 
 -- ---- what is shown
 
@@ -289,34 +282,49 @@ alike_trans s t u p q = record {
 
 -- ---- what comes next, from what comes next in a state that is alike
 
-pub does_alike : (s t : State) (o p : Next) (q : Record) → AreNextAlike s t o p → p ≡ Does q → (r : Record) × (o ≡ Does r) × AreRecordsAlike s t r q
-does_alike s t (Does r) (Does x) q alike e = let same : x ≡ q = cc in (r, refl, subst (AreRecordsAlike s t r) same alike)
-does_alike s t (Does r) (Ends g) q alike e = absurd alike
-does_alike s t (Ends f) (Does x) q alike e = absurd alike
-does_alike s t (Ends f) (Ends g) q alike e = absurd cc
+pub does_alike : (o p : Next) (q : Record) → AreNextAlike o p → p ≡ Does q → (r : Record) × (o ≡ Does r) × AreRecordsAlike r q
+does_alike (Does r) (Does x) q alike e = let same : x ≡ q = cc in (r, refl, subst (AreRecordsAlike r) same alike)
+does_alike (Does r) (Ends g) q alike e = absurd alike
+does_alike (Ends f) (Does x) q alike e = absurd alike
+does_alike (Ends f) (Ends g) q alike e = absurd cc
 
-pub ends_alike : (s t : State) (o p : Next) (g : Finish) → AreNextAlike s t o p → p ≡ Ends g → o ≡ Ends g
-ends_alike s t (Ends f) (Ends h) g alike e = let same : h ≡ g = cc in ap (λ (x : Finish). Ends x) (sym alike ∙ same)
-ends_alike s t (Does r) (Ends h) g alike e = absurd alike
-ends_alike s t (Ends f) (Does x) g alike e = absurd alike
-ends_alike s t (Does r) (Does x) g alike e = absurd cc
+pub ends_alike : (o p : Next) (g : End) → AreNextAlike o p → p ≡ Ends g → o ≡ Ends g
+ends_alike (Ends f) (Ends h) g alike e = let same : h ≡ g = cc in ap (λ (x : End). Ends x) (sym alike ∙ same)
+ends_alike (Does r) (Ends h) g alike e = absurd alike
+ends_alike (Ends f) (Does x) g alike e = absurd alike
+ends_alike (Does r) (Does x) g alike e = absurd cc
 
 -- the other way round
-pub does_beside : (s t : State) (o p : Next) (r : Record) → AreNextAlike s t o p → o ≡ Does r → (q : Record) × (p ≡ Does q) × AreRecordsAlike s t r q
-does_beside s t (Does x) (Does q) r alike e = let same : x ≡ r = cc in (q, refl, subst (λ (y : Record). AreRecordsAlike s t y q) same alike)
-does_beside s t (Does x) (Ends g) r alike e = absurd alike
-does_beside s t (Ends f) (Does q) r alike e = absurd alike
-does_beside s t (Ends f) (Ends g) r alike e = absurd cc
+pub does_beside : (o p : Next) (r : Record) → AreNextAlike o p → o ≡ Does r → (q : Record) × (p ≡ Does q) × AreRecordsAlike r q
+does_beside (Does x) (Does q) r alike e = let same : x ≡ r = cc in (q, refl, subst (λ (y : Record). AreRecordsAlike y q) same alike)
+does_beside (Does x) (Ends g) r alike e = absurd alike
+does_beside (Ends f) (Does q) r alike e = absurd alike
+does_beside (Ends f) (Ends g) r alike e = absurd cc
 
-pub ends_beside : (s t : State) (o p : Next) (g : Finish) → AreNextAlike s t o p → o ≡ Ends g → p ≡ Ends g
-ends_beside s t (Ends f) (Ends h) g alike e = let same : f ≡ g = cc in ap (λ (x : Finish). Ends x) (alike ∙ same)
-ends_beside s t (Does r) (Ends h) g alike e = absurd alike
-ends_beside s t (Ends f) (Does x) g alike e = absurd alike
-ends_beside s t (Does r) (Does x) g alike e = absurd cc
+pub ends_beside : (o p : Next) (g : End) → AreNextAlike o p → o ≡ Ends g → p ≡ Ends g
+ends_beside (Ends f) (Ends h) g alike e = let same : f ≡ g = cc in ap (λ (x : End). Ends x) (alike ∙ same)
+ends_beside (Does r) (Ends h) g alike e = absurd alike
+ends_beside (Ends f) (Does x) g alike e = absurd alike
+ends_beside (Does r) (Does x) g alike e = absurd cc
 
-lines_by : (o : Option Drained) (s t : State) → view_of t ≡ view_of s → point_lines o t ≡ point_lines o s
+-- ---- what records that are alike do, make due and print
+
+pub done_alike : (r q : Record) → AreRecordsAlike r q → action_done q ≡ action_done r
+done_alike r q same = ap (λ (k : Kind). action_by_kind k q.before) same.kind ∙ same.action
+
+pub due_alike : (r q : Record) → AreRecordsAlike r q → due_by q.kind q.before ≡ due_by r.kind r.before
+due_alike r q same =
+    ap (λ (k : Kind). due_by k q.before) same.kind
+    ∙ ap (due_by r.kind) same.before.rest
+    ∙ due_same r.kind r.before q.before.memory.bytes (sym (ap (action_by_kind r.kind) same.before.rest) ∙ same.action)
+
+lines_by : (o : Option Point) (s t : State) → view_of t ≡ view_of s → point_lines o t ≡ point_lines o s
 lines_by None s t e = refl
-lines_by (Some kind) s t e = ap (λ (v : View). Point kind v ∷ []) e
+lines_by (Some kind) s t e = ap (λ (v : View). Drained kind v ∷ []) e
 
-pub lines_alike : (a : Action) (s t : State) → AreAlike s t → action_lines a t ≡ action_lines a s
-lines_alike a s t alike = ap (λ (ls : List Shown). out_lines (console_byte (writes_in a)) ++ ls) (lines_by a.point s t (view_alike s t alike))
+pub lines_alike : (r q : Record) → AreRecordsAlike r q → record_lines q ≡ record_lines r
+lines_alike r q same =
+    let points = point_lines (point_of q.kind) q.after in
+    ap (λ (a : Action). out_lines (console_byte a.writes) ++ points) (done_alike r q same)
+    ∙ ap (λ (ls : List Shown). out_lines (console_byte (action_done r).writes) ++ ls)
+    (ap (λ (k : Kind). point_lines (point_of k) q.after) same.kind ∙ lines_by (point_of r.kind) r.after q.after (view_alike r.after q.after same.after))

@@ -1,11 +1,16 @@
 -- An instruction that does not write the condition code leaves it.
-use Rattle.std.proofs.Common.{◌≡◌, ℕ, ◌+◌, ◌*◌, ◌/◌, ◌%◌, ◌^◌, ◌<◌, max, Bool, true, false, cond, List, refl, ap, ◌∙◌, arith, ℤ}
+use Rattle.std.proofs.Common.{◌≡◌, ℕ, ◌+◌, ◌*◌, ◌/◌, ◌%◌, ◌^◌, ◌<◌, max, Bool, true, false, cond, List, Option, Some, None, refl, ap, ◌∙◌, arith, ℤ}
 use Rattle.std.specs.Prelude.{bit_or, slice_index, ◌+ℤ◌, ◌-ℤ◌, ◌*ℤ◌, pos, ◌==◌}
 use Rattle.std.specs.Int.{bit_at}
 use Rattle.std.specs.Int.RustNames.{int_div, int_rem}
 use Rattle.std.proofs.lemmas.Nat.Bits.{bit_at_lowest, bit_at-suc, bit_at_or, bit_at-pow_other}
 use Rattle.i9_isa.specs.declared.op.Op.{Op}
-use Rattle.i9_isa.specs.declared.op.Op.TheVariants.{Cmpinco, Cmpinci, Cmpdeco, Cmpdeci, Addc, Subc, Modac, Spanbit, Scanbit, Cmpo, Cmpi, Concmpo, Concmpi, Scanbyte, Chkbit, Sysctl, Ret, Bbc, Bbs, Cmpobg, Cmpobe, Cmpobge, Cmpobl, Cmpobne, Cmpoble, Cmpibno, Cmpibg, Cmpibe, Cmpibge, Cmpibl, Cmpibne, Cmpible, Cmpibo, Addi, Subi, Muli, Shli, Divo, Remo, Divi, Remi, Modi, Ediv, Lda, Ldob, Ldib, Ldos, Ldis, Ld, Ldl, Ldt, Ldq, Stob, Stib, Stos, Stis, St, Stl, Stt, Stq, Atadd, Atmod, Bx, Balx, Bal, Call, Callx, Calls, Flushreg, Syncf, Modtc, Modpc}
+use Rattle.i9_isa.specs.declared.op.Op.TheVariants.{Cmpinco, Cmpinci, Cmpdeco, Cmpdeci, Addc, Subc, Modac, Spanbit, Scanbit, Cmpo, Cmpi, Concmpo, Concmpi, Scanbyte, Chkbit, Sysctl, Ret, Bbc, Bbs, Cmpobg, Cmpobe, Cmpobge, Cmpobl, Cmpobne, Cmpoble, Cmpibno, Cmpibg, Cmpibe, Cmpibge, Cmpibl, Cmpibne, Cmpible, Cmpibo, Addi, Subi, Muli, Shli, Divo, Remo, Divi, Remi, Modi, Ediv, Lda, Atadd, Atmod, Bx, Balx, Bal, Call, Callx, Calls, Flushreg, Modtc, Modpc}
+use Rattle.i9_isa.specs.declared.size.Size.{Size}
+use Rattle.i9_isa.specs.declared.size.Direction.{Direction}
+use Rattle.i9_isa.specs.declared.size.Direction.TheVariants.{Load, Store}
+use Rattle.i9_isa.specs.declared.size.Transfer.{Transfer}
+use Rattle.i9_isa.specs.Transfers.{transfer_of}
 use Rattle.i9_isa.specs.Resources.{writes_code}
 use Rattle.i9_model.specs.declared.arith.Arith.TheVariants.{Overflow, ZeroDivide}
 use Rattle.i9_model.specs.Operands.{reduced, value}
@@ -15,7 +20,7 @@ use Rattle.i9_isa.specs.declared.inst.Inst.{Inst}
 use Rattle.i9_model.specs.State.{State}
 use Rattle.i9_model.specs.Conditions.{with_code, code_of}
 use Rattle.i9_model.specs.Branches.{question_of, code_after, branch_controls, asks}
-use Rattle.i9_model.specs.Step.{controls_of, action_by, branching, answering, answer_in}
+use Rattle.i9_model.specs.Step.{controls_of, moving, branching, resulting, answer_in, action_by_name, action_by, action_of}
 
 low_bits : (x : ℕ) → x % 8 ≡ bit_at x 0 + 2 * bit_at x 1 + 4 * bit_at x 2
 low_bits x =
@@ -30,7 +35,7 @@ or_bit x i lt =
     let most : max (bit_at x i) 0 ≡ bit_at x i = omega arith in
     bit_at_or x (2 ^ 8) i ∙ ap (max (bit_at x i)) none ∙ most
 
-pub overflow_low : (x : ℕ) → bit_or x (2 ^ 8) % 8 ≡ x % 8
+overflow_low : (x : ℕ) → bit_or x (2 ^ 8) % 8 ≡ x % 8
 overflow_low x =
     let a = or_bit x 0 (omega arith) in
     let b = or_bit x 1 (omega arith) in
@@ -104,42 +109,37 @@ branch_code op i a b ac e h = ap (λ (o : Op). with_code ac (code_after (questio
     asked_code Cmpibo x y z w = absurd cc
     asked_code _ x y z w = same z
 
-other_code : (b : Bool) (op : Op) (i : Inst) (s : State) → i.op ≡ op → writes_code op ≡ false → (cond b (branching i s) (answering i s (answer_in i s))).ac % 8 ≡ s.ac % 8
+other_code : (b : Bool) (op : Op) (i : Inst) (s : State) → i.op ≡ op → writes_code op ≡ false → (cond b (branching i s) (resulting i s (answer_in i s))).ac % 8 ≡ s.ac % 8
 other_code true op i s e h = branch_code op i (value s i.a) (value s i.b) s.ac e h
 other_code false op i s e h = result_code i.op _ _ _ s.ac (ap writes_code e ∙ h)
 
+name_code : (op : Op) (i : Inst) (s : State) → i.op ≡ op → writes_code op ≡ false → (action_by_name op i s).ac % 8 ≡ s.ac % 8
+name_code Modac i s e h = absurd cc
+name_code Ret i s e h = absurd cc
+name_code Sysctl i s e h = absurd cc
+name_code Lda i s e h = refl
+name_code Atadd i s e h = refl
+name_code Atmod i s e h = refl
+name_code Bx i s e h = refl
+name_code Balx i s e h = refl
+name_code Bal i s e h = refl
+name_code Call i s e h = refl
+name_code Callx i s e h = refl
+name_code Calls i s e h = refl
+name_code Flushreg i s e h = refl
+name_code Modtc i s e h = refl
+name_code Modpc i s e h = refl
+name_code op i s e h = other_code (asks (question_of op)) op i s e h
+
+moving_code : (d : Direction) (size : Size) (signed : Bool) (i : Inst) (s : State) → (moving d size signed i s).ac % 8 ≡ s.ac % 8
+moving_code Load size signed i s = refl
+moving_code Store size signed i s = refl
+
 -- an instruction that does not write the condition code leaves it
-pub code_beside : (op : Op) (i : Inst) (s : State) → i.op ≡ op → writes_code op ≡ false → (action_by op i s).ac % 8 ≡ s.ac % 8
-code_beside Modac i s e h = absurd cc
-code_beside Ret i s e h = absurd cc
-code_beside Sysctl i s e h = absurd cc
-code_beside Lda i s e h = refl
-code_beside Ldob i s e h = refl
-code_beside Ldib i s e h = refl
-code_beside Ldos i s e h = refl
-code_beside Ldis i s e h = refl
-code_beside Ld i s e h = refl
-code_beside Ldl i s e h = refl
-code_beside Ldt i s e h = refl
-code_beside Ldq i s e h = refl
-code_beside Stob i s e h = refl
-code_beside Stib i s e h = refl
-code_beside Stos i s e h = refl
-code_beside Stis i s e h = refl
-code_beside St i s e h = refl
-code_beside Stl i s e h = refl
-code_beside Stt i s e h = refl
-code_beside Stq i s e h = refl
-code_beside Atadd i s e h = refl
-code_beside Atmod i s e h = refl
-code_beside Bx i s e h = refl
-code_beside Balx i s e h = refl
-code_beside Bal i s e h = refl
-code_beside Call i s e h = refl
-code_beside Callx i s e h = refl
-code_beside Calls i s e h = refl
-code_beside Flushreg i s e h = refl
-code_beside Syncf i s e h = refl
-code_beside Modtc i s e h = refl
-code_beside Modpc i s e h = refl
-code_beside op i s e h = other_code (asks (question_of op)) op i s e h
+pub code_beside : (i : Inst) (s : State) → writes_code i.op ≡ false → (action_of i s).ac % 8 ≡ s.ac % 8
+unfolding action_of
+code_beside i s h = by_transfer (transfer_of i.op)
+  where
+    by_transfer : (o : Option Transfer) → (action_by o i s).ac % 8 ≡ s.ac % 8
+    by_transfer (Some t) = moving_code t.direction t.size t.signed i s
+    by_transfer None = name_code i.op i s refl h

@@ -1,13 +1,14 @@
 -- What start-up and the load of a control group leave as it was.
 use Rattle.std.proofs.Common.{◌≡◌, ℕ, Bool, true, false, cond, eqb, List, refl}
-use Rattle.std.specs.Prelude.{◌+◌, ◌-◌, ◌*◌}
+use Rattle.std.specs.Prelude.{◌-◌, ◌*◌}
 use Rattle.i9_model.specs.Boot.{with_regions}
 use Rattle.i9_model.specs.State.{State, started}
 use Rattle.i9_model.specs.Controls.{Control, KeepsControls, Restarts, LoadsGroup, with_breakpoints, with_maps, with_trace_controls, controlled}
 use Rattle.i9_model.specs.Tables.{group_words}
 use Rattle.i9_model.specs.Step.{Action, moved, acted}
 
-abbrev by_group : Bool → Bool → Bool → State → ℕ → List ℕ → State
+-- the words of a group by which it is: 0, 1, 6 or another
+abbrev pub by_group : Bool → Bool → Bool → State → ℕ → List ℕ → State
 by_group a b c s group ws =
     cond a (with_breakpoints s ws) (cond b (with_maps s ws) (cond c (with_trace_controls s ws) (record s { memory = with_regions s.memory (4 * (group - 2)) ws })))
 
@@ -35,7 +36,7 @@ controlled-frames s KeepsControls = refl
 controlled-frames s (Restarts first prcb) = refl
 controlled-frames s (LoadsGroup group) = group_frames (eqb group 0) (eqb group 1) (eqb group 6) s group (group_words s.memory s.tables.control_table group)
 
-pub acted-count : (s : State) (a : Action) → (acted s a).count ≡ s.count + a.counts
+pub acted-count : (s : State) (a : Action) → (acted s a).count ≡ s.count
 unfolding acted moved
 acted-count s a = controlled-count (moved s a) a.control
 

@@ -1,40 +1,50 @@
 -- What is done before the length of a run is reached does not depend on that length.
 use Rattle.std.proofs.Common.{◌≡◌, ◌≢◌, ℕ, ◌≤◌, Bool, true, false, cond, eqb, List, [], ◌∷◌, refl, sym, ap, ◌∙◌, arith}
 use Rattle.std.proofs.lemmas.Bool.Decides.{nat_tests}
-use Rattle.i9_model.specs.State.{State}
-use Rattle.i9_model.specs.Access.{fetch_hazard}
-use Rattle.i9_model.specs.Run.{Finish, Limit, Record, Due, NothingDue, EndDue, EntryDue, Does, Ends, next_by_fetch, next_in, state_after, due_after, IsPast, IsRun}
+use Rattle.i9_model.specs.State.{State, boot}
+use Rattle.i9_model.specs.Standing.{stands_at}
+use Rattle.i9_model.specs.Run.{Given, End, Limit, Record, Due, Next, Does, Ends, next_by_standing, next_in, due_after, state_after, next, IsPast, IsRun}
 use Rattle.i9_model.proofs.Ends.{count_within}
+use Rattle.i9_model.specs.declared.run.Due.TheVariants as dues
+
+-- what is done at one thing given is done at another, where it comes next there too
+pub past_by : (g k : Given) → ((rs : List Record) (r : Record) → IsPast g rs → next g rs ≡ Does r → next k rs ≡ Does r) → (rs : List Record) → IsPast g rs → IsPast k rs
+past_by g k same [] past = tt
+past_by g k same (r ∷ rs) past = (past_by g k same rs past.0, same rs r past.0 past.1)
+
+-- a state goes by the image alone
+pub state_by : (g k : Given) (rs : List Record) → k.image ≡ g.image → state_after k rs ≡ state_after g rs
+state_by g k [] e = ap boot e
+state_by g k (r ∷ rs) e = refl
 
 -- before the length a longer one changes nothing
 below_more : (s : State) (limit more : ℕ) → s.count ≤ limit → limit ≤ more → eqb s.count limit ≡ false → eqb s.count more ≡ false
 below_more s limit more within longer e = grind (arith, nat_tests, e)
 
-does_by : (b c : Bool) (s : State) (r : Record) → (b ≡ false → c ≡ false) → cond b (Ends Limit) (next_by_fetch s (fetch_hazard s)) ≡ Does r → cond c (Ends Limit) (next_by_fetch s (fetch_hazard s)) ≡ Does r
-does_by true c s r same e = absurd cc
-does_by false c s r same e = ap (λ (x : Bool). cond x (Ends Limit) (next_by_fetch s (fetch_hazard s))) (same refl) ∙ e
+by_length : (b c : Bool) (x o : Next) → (b ≡ false → c ≡ false) → o ≢ Ends Limit → cond b (Ends Limit) x ≡ o → cond c (Ends Limit) x ≡ o
+by_length true c x o same other e = absurd (other (sym e))
+by_length false c x o same other e = ap (λ (d : Bool). cond d (Ends Limit) x) (same refl) ∙ e
 
-does_more : (limit more : ℕ) (due : Due) (s : State) (r : Record) → s.count ≤ limit → limit ≤ more → next_in limit due s ≡ Does r → next_in more due s ≡ Does r
-does_more limit more (EndDue f) s r within longer e = e
-does_more limit more (EntryDue fault) s r within longer e = e
-does_more limit more NothingDue s r within longer e = does_by (eqb s.count limit) (eqb s.count more) s r (below_more s limit more within longer) e
+-- what comes next but for the end of the length
+next_longer : (limit more : ℕ) (due : Due) (s : State) (o : Next) → s.count ≤ limit → limit ≤ more → o ≢ Ends Limit → next_in limit due s ≡ o → next_in more due s ≡ o
+next_longer limit more (dues.End f) s o within longer other e = e
+next_longer limit more (dues.Entry fault) s o within longer other e = e
+next_longer limit more dues.Nothing s o within longer other e =
+    by_length (eqb s.count limit) (eqb s.count more) (next_by_standing s (stands_at s)) o (below_more s limit more within longer) other e
 
-ends_by : (b c : Bool) (s : State) (f : Finish) → (b ≡ false → c ≡ false) → f ≢ Limit → cond b (Ends Limit) (next_by_fetch s (fetch_hazard s)) ≡ Ends f → cond c (Ends Limit) (next_by_fetch s (fetch_hazard s)) ≡ Ends f
-ends_by true c s f same other e = absurd (other (let is : Limit ≡ f = cc in sym is))
-ends_by false c s f same other e = ap (λ (x : Bool). cond x (Ends Limit) (next_by_fetch s (fetch_hazard s))) (same refl) ∙ e
+abbrev at_length : Given → ℕ → Given
+at_length g more = record g { length = more }
 
-ends_more : (limit more : ℕ) (due : Due) (s : State) (f : Finish) → s.count ≤ limit → limit ≤ more → f ≢ Limit → next_in limit due s ≡ Ends f → next_in more due s ≡ Ends f
-ends_more limit more (EndDue g) s f within longer other e = e
-ends_more limit more (EntryDue fault) s f within longer other e = e
-ends_more limit more NothingDue s f within longer other e = ends_by (eqb s.count limit) (eqb s.count more) s f (below_more s limit more within longer) other e
+next_more : (g : Given) (more : ℕ) (rs : List Record) (o : Next) → g.length ≤ more → IsPast g rs → o ≢ Ends Limit → next g rs ≡ o → next (at_length g more) rs ≡ o
+next_more g more rs o longer past other e =
+    ap (next_in more (due_after rs)) (state_by g (at_length g more) rs refl)
+    ∙ next_longer g.length more (due_after rs) (state_after g rs) o (count_within g rs past) longer other e
 
-pub past_more : (image : List (ℕ × ℕ)) (limit more : ℕ) (rs : List Record) → limit ≤ more → IsPast image limit rs → IsPast image more rs
-past_more image limit more [] longer past = tt
-past_more image limit more (r ∷ rs) longer past =
-    (past_more image limit more rs longer past.0, does_more limit more (due_after image rs) (state_after image rs) r (count_within image limit rs past.0) longer past.1)
+pub past_more : (g : Given) (more : ℕ) (rs : List Record) → g.length ≤ more → IsPast g rs → IsPast (at_length g more) rs
+past_more g more rs longer past = past_by g (at_length g more) (λ qs r before e. next_more g more qs (Does r) longer before (λ no. cc no) e) rs past
 
-pub run_more : (image : List (ℕ × ℕ)) (limit more : ℕ) (rs : List Record) (end : Finish) → limit ≤ more → end ≢ Limit → IsRun image limit rs end → IsRun image more rs end
-run_more image limit more rs end longer other run = record {
-  past = past_more image limit more rs longer run.past;
-  ends = ends_more limit more (due_after image rs) (state_after image rs) end (count_within image limit rs run.past) longer other run.ends;
+pub run_more : (g : Given) (more : ℕ) (rs : List Record) (end : End) → g.length ≤ more → end ≢ Limit → IsRun g rs end → IsRun (at_length g more) rs end
+run_more g more rs end longer other run = record {
+  past = past_more g more rs longer run.past;
+  ends = next_more g more rs (Ends end) longer run.past (λ no. other (let same : end ≡ Limit = cc in same)) run.ends;
 }

@@ -8,6 +8,7 @@ use Rattle.i9_model.specs.Writes.{address_count, wrapped, written, upwards}
 use Rattle.i9_model.specs.Memory.{Memory, in_port_page, stored, word_bytes, with_words}
 use Rattle.i9_model.specs.Frames.{in_bytes}
 use Rattle.i9_model.specs.Step.{bytes_of_words}
+use Rattle.i9_model.proofs.Runs.{is_put-upwards}
 use Rattle.i9_model.proofs.Stored.{stored-cons}
 use Rattle.i9_model.proofs.SoundRuns.{four_bytes}
 use Rattle.i9_model.proofs.Storing.{stored_kept, words_as_bytes}
@@ -41,7 +42,8 @@ stored_at g a (b ∷ bs) zero h few port =
     let none : a + 1 ≡ a + 1 + 0 = omega arith in
     ap (λ (m : ℕ → ℕ). m (wrapped (a + 0))) (stored-cons g p (upwards (a + 1) bs))
     ∙ ap (stored (stored g (p ∷ [])) (upwards (a + 1) bs)) here
-    ∙ stored_kept (stored g (p ∷ [])) (a + 1) bs (wrapped a) (inl (ap (λ (c : ℕ). in_bytes c (length bs) (wrapped a)) none ∙ not_later a (length bs) 0 (omega arith)))
+    ∙ stored_kept (stored g (p ∷ [])) (upwards (a + 1) bs) (wrapped a)
+    (inl (is_put-upwards (a + 1) bs (wrapped a) ∙ ap (λ (c : ℕ). in_bytes c (length bs) (wrapped a)) none ∙ not_later a (length bs) 0 (omega arith)))
     ∙ one_put g (wrapped a) b (sym (ap in_port_page here) ∙ port)
 stored_at g a (b ∷ bs) (suc k) h few port =
     let p : ℕ × ℕ = (wrapped a, b) in

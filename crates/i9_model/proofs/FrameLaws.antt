@@ -6,8 +6,9 @@ use Rattle.std.proofs.lemmas.Bool.{eqb-true}
 use Rattle.i9_model.specs.declared.layout.TheConstants.{FRAME_SIZE}
 use Rattle.i9_model.specs.Memory.{in_port_page}
 use Rattle.i9_model.specs.State.{Frames}
-use Rattle.i9_model.specs.Frames.{places, in_bytes, in_frames, no_frames, saved, returned, flushed, wrote}
-use Rattle.i9_model.specs.Hazards.{least, read_hazard, write_hazard, port_hazard, or_else, save_hazard}
+use Rattle.i9_model.specs.Writes.{places_of}
+use Rattle.i9_model.specs.Frames.{places, in_bytes, in_frames, no_frames, saved, returned, flushed, is_put, wrote}
+use Rattle.i9_model.specs.Hazards.{least, read_hazard, write_hazard, writes_hazard, port_hazard, or_else, save_hazard}
 use Rattle.i9_model.specs.Sound.{AreApart, IsSound}
 
 -- ---- accesses without a hazard
@@ -40,6 +41,10 @@ read_hazard-none s a n x none t = least-none s.soft a n x none t
 pub write_hazard-none : (s : Frames) (a n x : ℕ) → write_hazard s a n ≡ None → in_bytes a n x ≡ true → in_frames s.live x ≡ false
 unfolding write_hazard
 write_hazard-none s a n x none t = least-none (in_frames s.live) a n x none t
+
+pub writes_hazard-none : (s : Frames) (ps : List (ℕ × ℕ)) (x : ℕ) → writes_hazard s ps ≡ None → is_put ps x ≡ true → in_frames s.live x ≡ false
+unfolding writes_hazard is_put
+writes_hazard-none s ps x none t = none_found (in_frames s.live) (places_of ps) x none t
 
 pub port_hazard-none : (a n x : ℕ) → port_hazard a n ≡ None → in_bytes a n x ≡ true → in_port_page x ≡ false
 unfolding port_hazard
@@ -109,9 +114,9 @@ sound-returned s sound = record {
 pub sound-flushed : (s : Frames) → IsSound s → IsSound (flushed s)
 sound-flushed s sound = record { apart = tt; soft = λ x t. absurd (cc); outside = λ x t. absurd (cc) }
 
-pub sound-wrote : (s : Frames) (a n : ℕ) → IsSound s → write_hazard s a n ≡ None → IsSound (wrote s a n)
-sound-wrote s a n sound none = record {
+pub sound-wrote : (s : Frames) (ps : List (ℕ × ℕ)) → IsSound s → writes_hazard s ps ≡ None → IsSound (wrote s ps)
+sound-wrote s ps sound none = record {
   apart = sound.apart;
-  soft = λ x t. still_soft (in_frames s.live x) (s.soft x) (in_bytes a n x) t (sound.soft x) (write_hazard-none s a n x none);
+  soft = λ x t. still_soft (in_frames s.live x) (s.soft x) (is_put ps x) t (sound.soft x) (writes_hazard-none s ps x none);
   outside = sound.outside;
 }

@@ -8,15 +8,15 @@ use Rattle.std.proofs.lemmas.Bool.Decides.{nat_tests}
 use Rattle.i9_model.specs.declared.layout.TheConstants.{LOCALS, FRAME_SIZE}
 use Rattle.i9_model.specs.declared.frame.Frame.{Frame}
 use Rattle.i9_model.specs.Writes.{address_count, wrapped}
-use Rattle.i9_model.specs.Memory.{Memory, in_port_page, with_bytes, with_words}
+use Rattle.i9_model.specs.Memory.{Memory, in_port_page, with_writes, with_words}
 use Rattle.i9_model.specs.State.{State, Frames}
-use Rattle.i9_model.specs.Frames.{in_bytes, in_frames, saved, returned}
-use Rattle.i9_model.specs.Hazards.{write_hazard}
+use Rattle.i9_model.specs.Frames.{in_bytes, in_frames, is_put, saved, returned}
+use Rattle.i9_model.specs.Hazards.{writes_hazard}
 use Rattle.i9_model.specs.Sound.{AreApart, IsSound}
 use Rattle.i9_model.specs.Step.{Move, Stays, Saves, Returns, Flushes, Action, memory_after, frames_after, moved}
 use Rattle.i9_model.specs.Alike.{is_beyond, is_hard, is_compared, AgreeWhere}
 use Rattle.i9_model.specs.HeldFrames.{Cache, frame_at, over, overlaid, spilled, with_room, holding, cache_moved, cache_acted, youngest_first, AreWhole, AreYoungest}
-use Rattle.i9_model.proofs.FrameLaws.{write_hazard-none}
+use Rattle.i9_model.proofs.FrameLaws.{writes_hazard-none}
 use Rattle.i9_model.specs.Free.{IsWhole}
 use Rattle.i9_model.proofs.AlikeMoves.{stored_alike}
 use Rattle.i9_model.proofs.Overlays.{over_push, overlaid_holding, words_kept, AreBeside, over_stored, AreKept, over_kept}
@@ -104,22 +104,22 @@ pub later_live : (fs gs : List ℕ) (x : ℕ) → in_frames gs x ≡ true → in
 later_live [] gs x t = t
 later_live (f ∷ fs) gs x t = or_right (in_bytes f FRAME_SIZE x) (in_frames (fs ++ gs) x) (later_live fs gs x t)
 
--- a byte that is in none of these frames is in none that is held
-all_beside : (a n : ℕ) (hs : List Frame) (older : List ℕ) → ((x : ℕ) → in_bytes a n x ≡ true → in_frames (youngest_first hs ++ older) x ≡ false) → AreBeside a n hs
-all_beside a n [] older free = tt
-all_beside a n (h ∷ hs) older free =
+-- writes that are in none of these frames are in none that is held
+all_beside : (ps : List (ℕ × ℕ)) (hs : List Frame) (older : List ℕ) → ((x : ℕ) → is_put ps x ≡ true → in_frames (youngest_first hs ++ older) x ≡ false) → AreBeside ps hs
+all_beside ps [] older free = tt
+all_beside ps (h ∷ hs) older free =
     let order : youngest_first (h ∷ hs) ++ older ≡ youngest_first hs ++ (h.address ∷ older) = append_assoc (youngest_first hs) (h.address ∷ []) older in
-    let rest : (x : ℕ) → in_bytes a n x ≡ true → in_frames (youngest_first hs ++ (h.address ∷ older)) x ≡ false = λ x t. sym (ap (λ (l : List ℕ). in_frames l x) order) ∙ free x t in (
+    let rest : (x : ℕ) → is_put ps x ≡ true → in_frames (youngest_first hs ++ (h.address ∷ older)) x ≡ false = λ x t. sym (ap (λ (l : List ℕ). in_frames l x) order) ∙ free x t in (
       (λ x t. elim (cases_Bool (in_bytes h.address FRAME_SIZE x)) [
         | inr out ↦ out
         | inl inside ↦ absurd (both_ways (in_frames (youngest_first hs ++ (h.address ∷ older)) x) (rest x t) (later_live (youngest_first hs) (h.address ∷ older) x (or_left (in_bytes h.address FRAME_SIZE x) (in_frames older x) inside)))
       ]),
-      all_beside a n hs (h.address ∷ older) rest,
+      all_beside ps hs (h.address ∷ older) rest,
     )
 
--- a write without a hazard is beside every held frame
-pub write_beside : (f : Frames) (a n : ℕ) (hs : List Frame) → AreYoungest hs f.live → write_hazard f a n ≡ None → AreBeside a n hs
-write_beside f a n hs y none = all_beside a n hs (older_than hs f.live) (λ x t. sym (ap (λ (l : List ℕ). in_frames l x) (all_live hs f.live y)) ∙ write_hazard-none f a n x none t)
+-- writes without a hazard are beside every held frame
+pub write_beside : (f : Frames) (ps : List (ℕ × ℕ)) (hs : List Frame) → AreYoungest hs f.live → writes_hazard f ps ≡ None → AreBeside ps hs
+write_beside f ps hs y none = all_beside ps hs (older_than hs f.live) (λ x t. sym (ap (λ (l : List ℕ). in_frames l x) (all_live hs f.live y)) ∙ writes_hazard-none f ps x none t)
 
 -- ---- a frame that is returned to leaves the overlay
 
@@ -174,8 +174,9 @@ move_stands n (Saves save words) c f sound y = same_bytes (is_compared (saved f 
 move_stands n Returns c f sound y = taken_alike c.held c.behind f sound y
 move_stands n Flushes c f sound y = λ x h. refl
 
--- what is held and what is behind after an action, laid over one another, is memory after it, as far as that is compared
-pub acted_stands : (n : ℕ) (s : State) (a : Action) (c : Cache) → s.memory ≡ overlaid c → IsSound s.frames → AreYoungest c.held s.frames.live → IsWhole a.move → write_hazard (frames_after s.frames a.move) a.at (length a.bytes) ≡ None
+-- what is held and what is behind after an action, laid over one another, is memory after it, as far as that is
+-- compared
+pub acted_stands : (n : ℕ) (s : State) (a : Action) (c : Cache) → s.memory ≡ overlaid c → IsSound s.frames → AreYoungest c.held s.frames.live → IsWhole a.move → writes_hazard (frames_after s.frames a.move) a.writes ≡ None
     → AgreeWhere (is_compared (moved s a).frames) (moved s a).memory (overlaid (cache_acted n a c)).bytes
 unfolding moved
 acted_stands n s a c is sound y whole free = λ x h.
@@ -183,9 +184,9 @@ acted_stands n s a c is sound y whole free = λ x h.
     let f = frames_after s.frames a.move in
     let still = move_keeps n a.move c s.frames whole y in
     let m = memory_after (overlaid c) a.move in
-    ap (λ (k : Memory). k.bytes x) (over_stored d.held d.behind a.at a.bytes still.whole (write_beside f a.at (length a.bytes) d.held still free))
-    ∙ stored_alike f m (overlaid d).bytes a.at a.bytes (move_stands n a.move c s.frames sound y) x h
-    ∙ sym (ap (λ (k : Memory). (with_bytes (memory_after k a.move) a.at a.bytes).bytes x) is)
+    ap (λ (k : Memory). k.bytes x) (over_stored d.held d.behind a.writes still.whole (write_beside f a.writes d.held still free))
+    ∙ stored_alike f m (overlaid d).bytes a.writes (move_stands n a.move c s.frames sound y) x h
+    ∙ sym (ap (λ (k : Memory). (with_writes (memory_after k a.move) a.writes).bytes x) is)
 
 -- ---- the memory behind
 

@@ -1,5 +1,5 @@
 -- The words of held frames stand in memory.
-use Rattle.std.proofs.Common.{◌≡◌, ℕ, ◌+◌, ◌*◌, ◌<◌, ◌^◌, Bool, true, false, cond, List, [], ◌∷◌, ◌++◌, length, get_or, Option, refl, sym, ap, ◌∙◌, subst, inl, inr, append_assoc, arith}
+use Rattle.std.proofs.Common.{◌≡◌, ℕ, ◌+◌, ◌*◌, ◌<◌, ◌^◌, Bool, true, false, cond, List, [], ◌∷◌, ◌++◌, length, get_or, refl, sym, ap, ◌∙◌, subst, inl, inr, append_assoc, arith}
 use Rattle.std.proofs.lemmas.List.{append-nil}
 use Rattle.std.specs.List.{AllByRecursion}
 use Rattle.std.proofs.lemmas.Bool.{cases_Bool, or_left, or_right, or_from, both_ways}
@@ -11,7 +11,7 @@ use Rattle.i9_model.specs.Writes.{address_count, wrapped}
 use Rattle.i9_model.specs.Memory.{Memory, in_port_page, region_of, is_big, ordered_word, word_in, word_bytes, with_words}
 use Rattle.i9_model.specs.Frames.{in_bytes, in_frames}
 use Rattle.i9_model.specs.Sound.{AreApart}
-use Rattle.i9_model.specs.Run.{Record, IsPast, state_after}
+use Rattle.i9_model.specs.Run.{Given, Record, IsPast, state_after}
 use Rattle.i9_model.specs.Alike.{with_other, is_hard}
 use Rattle.i9_model.specs.HeldFrames.{over, overlaid, cache_after, youngest_first, AreWhole, AreInMemory}
 use Rattle.i9_model.proofs.SoundRuns.{four_bytes, sound-after}
@@ -125,12 +125,12 @@ same_live m g h (f ∷ fs) older same has =
     )
 
 -- along a run
-pub held-in-memory : (asked : Option ℕ) (image : List (ℕ × ℕ)) (limit : ℕ) (rs : List Record) → IsPast image limit rs → AreInMemory (state_after image rs).memory (cache_after asked image rs).held
-held-in-memory asked image limit rs past =
-    let s = state_after image rs in
-    let c = cache_after asked image rs in
-    let cached = cached-after asked image limit rs past in
-    let sound = sound-after image limit rs past in
+pub held-in-memory : (g : Given) (rs : List Record) → IsPast g rs → AreInMemory (state_after g rs).memory (cache_after g rs).held
+held-in-memory g rs past =
+    let s = state_after g rs in
+    let c = cache_after g rs in
+    let cached = cached-after g rs past in
+    let sound = sound-after g rs past in
     let older = older_than c.held s.frames.live in
     let all = all_live c.held s.frames.live cached.youngest in
     let live : (x : ℕ) → in_frames (youngest_first c.held ++ older) x ≡ true → in_frames s.frames.live x ≡ true = λ x t. ap (λ (l : List ℕ). in_frames l x) all ∙ t in

@@ -1,8 +1,11 @@
+pub mod Stands
+pub mod Comes
 pub mod Ends
 pub mod Unique
 pub mod Cuts
 pub mod Upwards
 pub mod Places
+pub mod Runs
 pub mod FrameLaws
 pub mod ControlLaws
 pub mod CallLaws

@@ -1,33 +1,41 @@
 -- A record leaves the registers that its need does not write.
-use Rattle.std.proofs.Common.{◌≡◌, ℕ, suc, ◌+◌, ◌^◌, ◌≤◌, Bool, true, false, cond, ◌&&◌, ◌||◌, List, [], ◌∷◌, ◌++◌, length, Option, Some, None, refl, sym, ap, ◌∙◌, inl, inr, arith, ℤ}
-use Rattle.std.specs.Prelude.{◌⊎◌, ◌==◌, nat_le, not, bit_or}
+use Rattle.std.proofs.Common.{◌≡◌, ℕ, ◌+◌, ◌*◌, ◌^◌, ◌≤◌, Bool, true, false, cond, ◌&&◌, ◌||◌, List, [], ◌∷◌, ◌++◌, length, Option, Some, None, refl, sym, ap, ◌∙◌, arith, ℤ}
+use Rattle.std.specs.Prelude.{◌==◌, nat_le, not, bit_or}
 use Rattle.std.proofs.lemmas.Bool.{cond-false, or_parts, le-leb, leb-true, eqb-true}
 use Rattle.std.proofs.lemmas.Bool.Decides.{nat_tests}
+use Rattle.std.proofs.lemmas.List.FromFn.{length-map-range_with_len}
 use Rattle.i9_isa.specs.declared.op.Op.{Op}
-use Rattle.i9_isa.specs.declared.op.Op.TheVariants.{Lda, Ldob, Ldib, Ldos, Ldis, Ld, Ldl, Ldt, Ldq, Stob, Stib, Stos, Stis, St, Stl, Stt, Stq, Atadd, Atmod, Bx, Balx, Bal, Call, Callx, Calls, Ret, Flushreg, Syncf, Modac, Modtc, Modpc, Sysctl, Addi, Subi, Muli, Shli, Divo, Remo, Divi, Remi, Modi, Ediv, Concmpo, Concmpi, Spanbit, Scanbit}
+use Rattle.i9_isa.specs.declared.op.Op.TheVariants.{Lda, Atadd, Atmod, Bx, Balx, Bal, Call, Callx, Calls, Ret, Flushreg, Modac, Modtc, Modpc, Sysctl, Addi, Subi, Muli, Shli, Divo, Remo, Divi, Remi, Modi, Ediv, Concmpo, Concmpi, Spanbit, Scanbit}
+use Rattle.i9_isa.specs.declared.size.Size.{Size}
+use Rattle.i9_isa.specs.declared.size.Size.TheVariants.{Byte, Half, Words}
+use Rattle.i9_isa.specs.declared.size.Direction.{Direction}
+use Rattle.i9_isa.specs.declared.size.Direction.TheVariants.{Load, Store}
+use Rattle.i9_isa.specs.declared.size.Transfer.{Transfer}
 use Rattle.i9_isa.specs.declared.inst.Operand.{Operand}
-use Rattle.i9_isa.specs.declared.inst.Operand.TheVariants.{Reg}
+use Rattle.i9_isa.specs.declared.inst.Operand.TheVariants.{Reg, Lit, Sfr}
 use Rattle.i9_isa.specs.declared.inst.Inst.{Inst}
 use Rattle.i9_isa.specs.Operands.{words_written}
 use Rattle.i9_isa.specs.Resources.{is_in_group, is_in_operand, is_in_frame, changes_frame, writes_link}
 use Rattle.i9_isa.specs.declared.resources.TheConstants.{LINK}
 use Rattle.i9_isa.specs.Table.{row_of}
+use Rattle.i9_isa.specs.Transfers.{register_count, transfer_of}
+use Rattle.i9_isa.proofs.Moved.{loads_registers}
 use Rattle.i9_model.specs.declared.arith.Arith.TheVariants.{Overflow, ZeroDivide}
-use Rattle.i9_model.specs.Writes.{or_earlier, last_put}
+use Rattle.i9_model.specs.Writes.{wrapped, pairs_at, or_earlier, last_put}
 use Rattle.std.specs.Prelude.{replicate}
 use Rattle.i9_model.specs.declared.layout.TheConstants.{FP, SP, LOCAL_RETURN}
 use Rattle.i9_model.specs.declared.push.Push.{Push}
 use Rattle.i9_model.specs.Frames.{pushed}
 use Rattle.i9_model.specs.State.{State}
-use Rattle.i9_model.specs.Operands.{number_of, reduced, address}
-use Rattle.i9_model.specs.Memory.{word_in, words_in}
+use Rattle.i9_model.specs.Operands.{assigned, reduced, address}
+use Rattle.i9_model.specs.Memory.{Memory, word_in, words_in}
 use Rattle.i9_model.specs.Numbers.{signed, modulo, complement, highest_one}
 use Rattle.std.specs.Int.RustNames.{int_div, int_rem}
 use Rattle.std.specs.Prelude.{slice_index, ◌+ℤ◌, ◌-ℤ◌, ◌*ℤ◌, pos, ◌/◌, ◌%◌, int_lt}
 use Rattle.i9_isa.specs.Words.{bit}
 use Rattle.i9_model.specs.Results.{Answer, word, words, checked, faulting, code, found, results_by, destination_words, long, long_divided}
 use Rattle.i9_model.specs.Branches.{asks, question_of}
-use Rattle.i9_model.specs.Step.{group_sets, values_of, destination, loaded, frame_sets, action_by, push_sets, branching, answering, answer_in, atomic_address, following, return_in, message_kind, message_of, message_action, system_call, Message, AsksNothing, AsksRestart, AsksGroup}
+use Rattle.i9_model.specs.Step.{values_of, destination, loaded, frame_sets, moving, action_by_name, action_by, action_of, push_sets, branching, resulting, answer_in, atomic_address, following, return_in, message_kind, message_of, message_action, system_call, Message, AsksNothing, AsksRestart, AsksGroup}
 
 -- ---- how many words a result has
 
@@ -68,9 +76,9 @@ few_values Spanbit a b c ac = found_few (highest_one 32 (complement (slice_index
 few_values Scanbit a b c ac = found_few (highest_one 32 (slice_index a 0)) ac
 few_values _ a b c ac = refl
 
--- ---- places beside a group
+-- ---- registers beside a destination
 
-group_beside : (r k : ℕ) (vs : List ℕ) → is_in_group r (length vs) k ≡ false → last_put (group_sets r vs) k ≡ None
+group_beside : (r k : ℕ) (vs : List ℕ) → is_in_group r (length vs) k ≡ false → last_put (pairs_at (λ n. n) r vs) k ≡ None
 unfolding last_put
 group_beside r k [] h = refl
 group_beside r k (v ∷ vs) h =
@@ -78,24 +86,14 @@ group_beside r k (v ∷ vs) h =
     let other : (k == r) ≡ false = grind (arith, nat_tests, h) in
     ap (λ (o : Option ℕ). or_earlier o (cond (k == r) (Some v) None)) (group_beside (r + 1) k vs less) ∙ cond-false (k == r) (Some v) None other
 
-no_words : (vs : List ℕ) (n : ℕ) → length vs ≤ n → n ≡ 0 → vs ≡ []
-no_words [] n le e = refl
-no_words (v ∷ vs) n le e = absurd (let no : suc (length vs) ≤ n = le in omega (arith, no, e))
-
--- an operand of so many words is a register, where there are some
-abbrev pub IsTarget : ℕ → Operand → Type 0
-IsTarget n o = (n ≡ 0) ⊎ ((r : ℕ) × (o ≡ Reg r))
-
 in_fewer : (r m n k : ℕ) → m ≤ n → is_in_group r n k ≡ false → is_in_group r m k ≡ false
 in_fewer r m n k le h = grind (arith, nat_tests, le, h)
 
-operand_beside : (o : Operand) (n k : ℕ) (vs : List ℕ) → nat_le (length vs) n ≡ true → IsTarget n o → is_in_operand o n k ≡ false → last_put (group_sets (number_of o) vs) k ≡ None
+operand_beside : (o : Operand) (n k : ℕ) (vs : List ℕ) → length vs ≤ n → is_in_operand o n k ≡ false → last_put (assigned o vs) k ≡ None
 unfolding last_put
-operand_beside o n k vs few (inl none) h = ap (λ (ws : List ℕ). last_put (group_sets (number_of o) ws) k) (no_words vs n (leb-true (length vs) n few) none)
-operand_beside o n k vs few (inr is) h =
-    let out : is_in_group is.0 n k ≡ false = sym (ap (λ (p : Operand). is_in_operand p n k) is.1) ∙ h in
-    ap (λ (p : Operand). last_put (group_sets (number_of p) vs) k) is.1
-    ∙ group_beside is.0 k vs (in_fewer is.0 (length vs) n k (leb-true (length vs) n few) out)
+operand_beside (Reg r) n k vs few h = group_beside r k vs (in_fewer r (length vs) n k few h)
+operand_beside (Lit l) n k vs few h = refl
+operand_beside (Sfr j) n k vs few h = refl
 
 -- ---- an instruction
 
@@ -105,30 +103,29 @@ pub record IsOutside (i : Inst) (k : ℕ) : Type 0 where
   pub link : (writes_link i.op && (k == LINK)) ≡ false
   pub frame : (changes_frame i.op && is_in_frame k) ≡ false
 
-pub record HasTargets (i : Inst) : Type 0 where
-  pub a : IsTarget (words_written (row_of i.op).a) i.a
-  pub c : IsTarget (words_written (row_of i.op).c) i.c
-  pub one : ((words_written (row_of i.op).a == 0) || (words_written (row_of i.op).c == 0)) ≡ true
+c_beside : (op : Op) (i : Inst) (k : ℕ) (vs : List ℕ) → i.op ≡ op → nat_le (length vs) (words_written (row_of op).c) ≡ true → IsOutside i k → last_put (assigned i.c vs) k ≡ None
+c_beside op i k vs e few h =
+    operand_beside i.c (words_written (row_of i.op).c) k vs (leb-true _ _ (ap (λ (o : Op). nat_le (length vs) (words_written (row_of o).c)) e ∙ few)) h.c
 
-c_beside : (op : Op) (i : Inst) (k : ℕ) (vs : List ℕ) → i.op ≡ op → nat_le (length vs) (words_written (row_of op).c) ≡ true → HasTargets i → IsOutside i k → last_put (group_sets (number_of i.c) vs) k ≡ None
-c_beside op i k vs e few t h = operand_beside i.c (words_written (row_of i.op).c) k vs (ap (λ (o : Op). nat_le (length vs) (words_written (row_of o).c)) e ∙ few) t.c h.c
+-- no name writes two operands
+one_target : (op : Op) → ((words_written (row_of op).a == 0) || (words_written (row_of op).c == 0)) ≡ true
+one_target Addi = refl
+one_target _ = refl
 
-answer_beside : (first : Bool) (i : Inst) (k : ℕ) (vs : List ℕ) → (words_written (row_of i.op).a == 0) ≡ first → nat_le (length vs) (destination_words i.op) ≡ true → HasTargets i → IsOutside i k → last_put (group_sets (number_of (destination i)) vs) k ≡ None
-answer_beside true i k vs e few t h =
+answer_beside : (first : Bool) (i : Inst) (k : ℕ) (vs : List ℕ) → (words_written (row_of i.op).a == 0) ≡ first → length vs ≤ destination_words i.op → IsOutside i k → last_put (assigned (destination i) vs) k ≡ None
+answer_beside true i k vs e few h =
     let none : words_written (row_of i.op).a ≡ 0 = eqb-true _ _ e in
-    ap (λ (b : Bool). last_put (group_sets (number_of (cond b i.c i.a)) vs) k) e
-    ∙ (let sum : words_written (row_of i.op).c ≡ destination_words i.op = omega (arith, none) in
-    operand_beside i.c (words_written (row_of i.op).c) k vs (ap (λ (n : ℕ). nat_le (length vs) n) sum ∙ few) t.c h.c)
-answer_beside false i k vs e few t h =
-    let c0 : words_written (row_of i.op).c ≡ 0 = eqb-true _ _ (sym (ap (λ (b : Bool). b || (words_written (row_of i.op).c == 0)) e) ∙ t.one) in
-    let sum : words_written (row_of i.op).a ≡ destination_words i.op = omega (arith, c0) in
-    ap (λ (b : Bool). last_put (group_sets (number_of (cond b i.c i.a)) vs) k) e
-    ∙ operand_beside i.a (words_written (row_of i.op).a) k vs (ap (λ (n : ℕ). nat_le (length vs) n) sum ∙ few) t.a h.a
+    ap (λ (b : Bool). last_put (assigned (cond b i.c i.a) vs) k) e
+    ∙ operand_beside i.c (words_written (row_of i.op).c) k vs (omega (arith, none, few)) h.c
+answer_beside false i k vs e few h =
+    let none : words_written (row_of i.op).c ≡ 0 = eqb-true _ _ (sym (ap (λ (b : Bool). b || (words_written (row_of i.op).c == 0)) e) ∙ one_target i.op) in
+    ap (λ (b : Bool). last_put (assigned (cond b i.c i.a) vs) k) e
+    ∙ operand_beside i.a (words_written (row_of i.op).a) k vs (omega (arith, none, few)) h.a
 
-other_beside : (b : Bool) (i : Inst) (s : State) (k : ℕ) → HasTargets i → IsOutside i k → last_put (cond b (branching i s) (answering i s (answer_in i s))).sets k ≡ None
+other_beside : (b : Bool) (i : Inst) (s : State) (k : ℕ) → IsOutside i k → last_put (cond b (branching i s) (resulting i s (answer_in i s))).sets k ≡ None
 unfolding last_put
-other_beside true i s k t h = refl
-other_beside false i s k t h = answer_beside (words_written (row_of i.op).a == 0) i k (values_of (answer_in i s)) refl (few_values i.op _ _ _ s.ac) t h
+other_beside true i s k h = refl
+other_beside false i s k h = answer_beside (words_written (row_of i.op).a == 0) i k (values_of (answer_in i s)) refl (leb-true _ _ (few_values i.op _ _ _ s.ac)) h
 
 pub or_none : (o p q : Option ℕ) → or_earlier (or_earlier o p) q ≡ or_earlier o (or_earlier p q)
 or_none None p q = refl
@@ -150,8 +147,8 @@ pub frame_beside : (ws : List ℕ) (fp k : ℕ) → length ws ≡ 16 → is_in_f
 unfolding last_put
 frame_beside ws fp k whole h =
     let parts = or_parts (is_in_group 0 16 k) (k == 31) h in
-    last_append (group_sets 0 ws) ((31, fp) ∷ []) k
-    ∙ ap (λ (o : Option ℕ). or_earlier o (last_put (group_sets 0 ws) k)) (cond-false (k == 31) (Some fp) None parts.1)
+    last_append (pairs_at (λ r. r) 0 ws) ((31, fp) ∷ []) k
+    ∙ ap (λ (o : Option ℕ). or_earlier o (last_put (pairs_at (λ r. r) 0 ws) k)) (cond-false (k == 31) (Some fp) None parts.1)
     ∙ group_beside 0 k ws (ap (λ (n : ℕ). is_in_group 0 n k) whole ∙ parts.0)
 
 pub push_beside : (p : Push) (k : ℕ) → is_in_frame k ≡ false → last_put (push_sets p) k ≡ None
@@ -164,44 +161,49 @@ one_beside r v k h = cond-false (k == r) (Some v) None h
 true_frame : (op : Op) (i : Inst) (k : ℕ) → i.op ≡ op → changes_frame op ≡ true → IsOutside i k → is_in_frame k ≡ false
 true_frame op i k e t h = sym (ap (λ (b : Bool). b && is_in_frame k) (ap changes_frame e ∙ t)) ∙ h.frame
 
--- a register that the need does not write is not set
-pub sets_beside : (op : Op) (i : Inst) (s : State) (k : ℕ) → i.op ≡ op → HasTargets i → IsOutside i k → last_put (action_by op i s).sets k ≡ None
+name_beside : (op : Op) (i : Inst) (s : State) (k : ℕ) → i.op ≡ op → IsOutside i k → last_put (action_by_name op i s).sets k ≡ None
 unfolding last_put
-sets_beside Lda i s k e t h = c_beside Lda i k (address s i.ea ∷ []) e refl t h
-sets_beside Ldob i s k e t h = c_beside Ldob i k (loaded Ldob s.memory (address s i.ea)) e refl t h
-sets_beside Ldib i s k e t h = c_beside Ldib i k (loaded Ldib s.memory (address s i.ea)) e refl t h
-sets_beside Ldos i s k e t h = c_beside Ldos i k (loaded Ldos s.memory (address s i.ea)) e refl t h
-sets_beside Ldis i s k e t h = c_beside Ldis i k (loaded Ldis s.memory (address s i.ea)) e refl t h
-sets_beside Ld i s k e t h = c_beside Ld i k (loaded Ld s.memory (address s i.ea)) e refl t h
-sets_beside Ldl i s k e t h = c_beside Ldl i k (loaded Ldl s.memory (address s i.ea)) e refl t h
-sets_beside Ldt i s k e t h = c_beside Ldt i k (loaded Ldt s.memory (address s i.ea)) e refl t h
-sets_beside Ldq i s k e t h = c_beside Ldq i k (loaded Ldq s.memory (address s i.ea)) e refl t h
-sets_beside Stob i s k e t h = refl
-sets_beside Stib i s k e t h = refl
-sets_beside Stos i s k e t h = refl
-sets_beside Stis i s k e t h = refl
-sets_beside St i s k e t h = refl
-sets_beside Stl i s k e t h = refl
-sets_beside Stt i s k e t h = refl
-sets_beside Stq i s k e t h = refl
-sets_beside Atadd i s k e t h = c_beside Atadd i k (word_in s.memory (atomic_address i s) ∷ []) e refl t h
-sets_beside Atmod i s k e t h = c_beside Atmod i k (word_in s.memory (atomic_address i s) ∷ []) e refl t h
-sets_beside Bx i s k e t h = refl
-sets_beside Balx i s k e t h = c_beside Balx i k (following i s ∷ []) e refl t h
-sets_beside Bal i s k e t h = one_beside 30 (following i s) k (sym (ap (λ (b : Bool). b && (k == 30)) (ap writes_link e)) ∙ h.link)
-sets_beside Call i s k e t h = push_beside (pushed (s.regs FP) (s.regs SP) 0 LOCAL_RETURN) k (true_frame Call i k e refl h)
-sets_beside Callx i s k e t h = push_beside (pushed (s.regs FP) (s.regs SP) 0 LOCAL_RETURN) k (true_frame Callx i k e refl h)
-sets_beside Calls i s k e t h = push_beside (system_call i s).push k (true_frame Calls i k e refl h)
-sets_beside Ret i s k e t h = frame_beside (words_in s.memory (return_in s).frame 16) (return_in s).frame k refl (true_frame Ret i k e refl h)
-sets_beside Flushreg i s k e t h = refl
-sets_beside Syncf i s k e t h = refl
-sets_beside Modac i s k e t h = c_beside Modac i k (s.ac ∷ []) e refl t h
-sets_beside Modtc i s k e t h = c_beside Modtc i k (s.trace.tc ∷ []) e refl t h
-sets_beside Modpc i s k e t h = c_beside Modpc i k (s.pc ∷ []) e refl t h
-sets_beside Sysctl i s k e t h = by_message (message_kind (message_of i s))
+name_beside Lda i s k e h = c_beside Lda i k (address s i.ea ∷ []) e refl h
+name_beside Atadd i s k e h = c_beside Atadd i k (word_in s.memory (atomic_address i s) ∷ []) e refl h
+name_beside Atmod i s k e h = c_beside Atmod i k (word_in s.memory (atomic_address i s) ∷ []) e refl h
+name_beside Bx i s k e h = refl
+name_beside Balx i s k e h = c_beside Balx i k (following i s ∷ []) e refl h
+name_beside Bal i s k e h = one_beside 30 (following i s) k (sym (ap (λ (b : Bool). b && (k == 30)) (ap writes_link e)) ∙ h.link)
+name_beside Call i s k e h = push_beside (pushed (s.regs FP) (s.regs SP) 0 LOCAL_RETURN) k (true_frame Call i k e refl h)
+name_beside Callx i s k e h = push_beside (pushed (s.regs FP) (s.regs SP) 0 LOCAL_RETURN) k (true_frame Callx i k e refl h)
+name_beside Calls i s k e h = push_beside (system_call i s).push k (true_frame Calls i k e refl h)
+name_beside Ret i s k e h = frame_beside (words_in s.memory (return_in s).frame 16) (return_in s).frame k refl (true_frame Ret i k e refl h)
+name_beside Flushreg i s k e h = refl
+name_beside Modac i s k e h = c_beside Modac i k (s.ac ∷ []) e refl h
+name_beside Modtc i s k e h = c_beside Modtc i k (s.trace.tc ∷ []) e refl h
+name_beside Modpc i s k e h = c_beside Modpc i k (s.pc ∷ []) e refl h
+name_beside Sysctl i s k e h = by_message (message_kind (message_of i s))
   where
     by_message : (m : Message) → last_put (message_action m i s).sets k ≡ None
     by_message AsksNothing = refl
     by_message AsksRestart = refl
     by_message AsksGroup = refl
-sets_beside op i s k e t h = other_beside (asks (question_of op)) i s k t h
+name_beside op i s k e h = other_beside (asks (question_of op)) i s k h
+
+-- a load has the words of its size
+loaded_long : (size : Size) (signed : Bool) (m : Memory) (a : ℕ) → length (loaded size signed m a) ≡ register_count size
+loaded_long Byte signed m a = refl
+loaded_long Half signed m a = refl
+loaded_long (Words n) signed m a = length-map-range_with_len (λ (k : ℕ). word_in m (wrapped (a + 4 * k))) 0 n
+
+moving_beside : (d : Direction) (size : Size) (signed : Bool) (i : Inst) (s : State) (k : ℕ) → (d ≡ Load → words_written (row_of i.op).c ≡ register_count size) → IsOutside i k → last_put (moving d size signed i s).sets k ≡ None
+unfolding last_put
+moving_beside Load size signed i s k row h =
+    let long = loaded_long size signed s.memory (address s i.ea) in
+    let words = row refl in
+    operand_beside i.c (words_written (row_of i.op).c) k (loaded size signed s.memory (address s i.ea)) (omega (arith, long, words)) h.c
+moving_beside Store size signed i s k row h = refl
+
+-- a register that the need does not write is not set
+pub sets_beside : (i : Inst) (s : State) (k : ℕ) → IsOutside i k → last_put (action_of i s).sets k ≡ None
+unfolding action_of
+sets_beside i s k h = by_transfer (transfer_of i.op) refl
+  where
+    by_transfer : (o : Option Transfer) → transfer_of i.op ≡ o → last_put (action_by o i s).sets k ≡ None
+    by_transfer (Some t) e = moving_beside t.direction t.size t.signed i s k (loads_registers i.op t e) h
+    by_transfer None e = name_beside i.op i s k refl h

@@ -1,95 +1,31 @@
 -- Laws of needs: what they cost, and what writes no memory.
 use Rattle.std.proofs.Common.{◌≡◌, ℕ, ◌≤◌, Bool, true, false, cond, ◌&&◌, ◌||◌, [], refl, ◌∙◌, inl, inr, arith}
-use Rattle.std.specs.Prelude.{not}
+use Rattle.std.specs.Prelude.{not, Option, Some, None, is_some}
 use Rattle.std.proofs.lemmas.Bool.{cases_Bool, cond-true, cond-false}
 use Rattle.i9_isa.specs.declared.op.Op.{Op}
-use Rattle.i9_isa.specs.declared.op.Op.TheVariants.{Ldob, Ldib, Ldos, Ldis, Ld, Ldl, Ldt, Ldq, Stob, Stib, Stos, Stis, St, Stl, Stt, Stq, Atadd, Atmod, Call, Callx, Calls, Ret, Flushreg, Syncf, Modac, Modtc, Modpc, Sysctl, Sdma, Mulo, Muli, Emul, Divo, Divi, Remo, Remi, Modi, Ediv}
+use Rattle.i9_isa.specs.declared.op.Op.TheVariants.{Mulo, Call, Callx, Calls, Ret, Flushreg, Atadd, Atmod, Sysctl}
+use Rattle.i9_isa.specs.declared.size.Transfer.{Transfer}
+use Rattle.i9_isa.specs.Transfers.{transfer_of}
 use Rattle.i9_isa.specs.declared.inst.Inst.{Inst}
+use Rattle.i9_isa.specs.Costs.{latency_of}
 use Rattle.i9_model.specs.declared.need.Facts.{Facts}
 use Rattle.i9_model.specs.State.{State}
-use Rattle.i9_model.specs.Step.{Stays, action_by, action_of}
+use Rattle.i9_model.specs.Step.{Stays, action_by_name, action_by, action_of}
 use Rattle.i9_model.specs.Turns.{HasCost}
 use Rattle.i9_model.specs.Needs.{is_request_name, is_slow_name, is_barrier_name, writes_sfr, is_calm, cost_by, inst_need, refused_need, event_need, entry_need}
 
 -- ---- costs
 
+some_turns : (op : Op) → 1 ≤ latency_of op
+some_turns Mulo = omega arith
+some_turns _ = omega arith
+
 some_cost : (op : Op) (waits frames : ℕ) → 1 ≤ cost_by op waits frames
-some_cost Call waits frames = omega arith
-some_cost Callx waits frames = omega arith
-some_cost Calls waits frames = omega arith
-some_cost Ret waits frames = omega arith
-some_cost Flushreg waits frames = omega arith
-some_cost Sysctl waits frames = omega arith
-some_cost Sdma waits frames = omega arith
-some_cost Atadd waits frames = omega arith
-some_cost Atmod waits frames = omega arith
-some_cost Ldob waits frames = omega arith
-some_cost Ldib waits frames = omega arith
-some_cost Ldos waits frames = omega arith
-some_cost Ldis waits frames = omega arith
-some_cost Ld waits frames = omega arith
-some_cost Ldl waits frames = omega arith
-some_cost Ldt waits frames = omega arith
-some_cost Ldq waits frames = omega arith
-some_cost Stob waits frames = omega arith
-some_cost Stib waits frames = omega arith
-some_cost Stos waits frames = omega arith
-some_cost Stis waits frames = omega arith
-some_cost St waits frames = omega arith
-some_cost Stl waits frames = omega arith
-some_cost Stt waits frames = omega arith
-some_cost Stq waits frames = omega arith
-some_cost Mulo waits frames = omega arith
-some_cost Muli waits frames = omega arith
-some_cost Emul waits frames = omega arith
-some_cost Divo waits frames = omega arith
-some_cost Divi waits frames = omega arith
-some_cost Remo waits frames = omega arith
-some_cost Remi waits frames = omega arith
-some_cost Modi waits frames = omega arith
-some_cost Ediv waits frames = omega arith
-some_cost _ waits frames = omega arith
+some_cost op waits frames = omega (arith, some_turns op)
 
 plain_cost : (op : Op) (waits frames : ℕ) → is_request_name op ≡ false → is_slow_name op ≡ false → is_barrier_name op ≡ false → cost_by op waits frames ≡ 1
-plain_cost Ldob waits frames q s b = absurd (cc q)
-plain_cost Ldib waits frames q s b = absurd (cc q)
-plain_cost Ldos waits frames q s b = absurd (cc q)
-plain_cost Ldis waits frames q s b = absurd (cc q)
-plain_cost Ld waits frames q s b = absurd (cc q)
-plain_cost Ldl waits frames q s b = absurd (cc q)
-plain_cost Ldt waits frames q s b = absurd (cc q)
-plain_cost Ldq waits frames q s b = absurd (cc q)
-plain_cost Stob waits frames q s b = absurd (cc q)
-plain_cost Stib waits frames q s b = absurd (cc q)
-plain_cost Stos waits frames q s b = absurd (cc q)
-plain_cost Stis waits frames q s b = absurd (cc q)
-plain_cost St waits frames q s b = absurd (cc q)
-plain_cost Stl waits frames q s b = absurd (cc q)
-plain_cost Stt waits frames q s b = absurd (cc q)
-plain_cost Stq waits frames q s b = absurd (cc q)
-plain_cost Mulo waits frames q s b = absurd (cc s)
-plain_cost Muli waits frames q s b = absurd (cc s)
-plain_cost Emul waits frames q s b = absurd (cc s)
-plain_cost Divo waits frames q s b = absurd (cc s)
-plain_cost Divi waits frames q s b = absurd (cc s)
-plain_cost Remo waits frames q s b = absurd (cc s)
-plain_cost Remi waits frames q s b = absurd (cc s)
-plain_cost Modi waits frames q s b = absurd (cc s)
-plain_cost Ediv waits frames q s b = absurd (cc s)
-plain_cost Call waits frames q s b = absurd (cc b)
-plain_cost Callx waits frames q s b = absurd (cc b)
-plain_cost Calls waits frames q s b = absurd (cc b)
-plain_cost Ret waits frames q s b = absurd (cc b)
-plain_cost Flushreg waits frames q s b = absurd (cc b)
-plain_cost Syncf waits frames q s b = absurd (cc b)
-plain_cost Modac waits frames q s b = absurd (cc b)
-plain_cost Modtc waits frames q s b = absurd (cc b)
-plain_cost Modpc waits frames q s b = absurd (cc b)
-plain_cost Atadd waits frames q s b = absurd (cc b)
-plain_cost Atmod waits frames q s b = absurd (cc b)
-plain_cost Sysctl waits frames q s b = absurd (cc b)
-plain_cost Sdma waits frames q s b = absurd (cc b)
-plain_cost _ waits frames q s b = refl
+plain_cost Mulo waits frames q s b = grind (arith, q, s, b)
+plain_cost _ waits frames q s b = grind (arith, q, s, b)
 
 calm_some : (b : Bool) (n : ℕ) → 1 ≤ n → 1 ≤ cond b n 1
 calm_some true n h = h
@@ -131,38 +67,21 @@ entry_cost frames = record { some = omega arith; plain = λ h. absurd (cc h) }
 
 -- ---- what is neither a request nor a barrier
 
-quiet_name : (op : Op) (i : Inst) (s : State) → is_request_name op ≡ false → is_barrier_name op ≡ false → ((action_by op i s).bytes ≡ []) × ((action_by op i s).move ≡ Stays)
-quiet_name Ldob i s q b = absurd (cc q)
-quiet_name Ldib i s q b = absurd (cc q)
-quiet_name Ldos i s q b = absurd (cc q)
-quiet_name Ldis i s q b = absurd (cc q)
-quiet_name Ld i s q b = absurd (cc q)
-quiet_name Ldl i s q b = absurd (cc q)
-quiet_name Ldt i s q b = absurd (cc q)
-quiet_name Ldq i s q b = absurd (cc q)
-quiet_name Stob i s q b = absurd (cc q)
-quiet_name Stib i s q b = absurd (cc q)
-quiet_name Stos i s q b = absurd (cc q)
-quiet_name Stis i s q b = absurd (cc q)
-quiet_name St i s q b = absurd (cc q)
-quiet_name Stl i s q b = absurd (cc q)
-quiet_name Stt i s q b = absurd (cc q)
-quiet_name Stq i s q b = absurd (cc q)
-quiet_name Call i s q b = absurd (cc b)
-quiet_name Callx i s q b = absurd (cc b)
-quiet_name Calls i s q b = absurd (cc b)
-quiet_name Ret i s q b = absurd (cc b)
-quiet_name Flushreg i s q b = absurd (cc b)
-quiet_name Syncf i s q b = absurd (cc b)
-quiet_name Modac i s q b = absurd (cc b)
-quiet_name Modtc i s q b = absurd (cc b)
-quiet_name Modpc i s q b = absurd (cc b)
-quiet_name Atadd i s q b = absurd (cc b)
-quiet_name Atmod i s q b = absurd (cc b)
-quiet_name Sysctl i s q b = absurd (cc b)
-quiet_name Sdma i s q b = absurd (cc b)
-quiet_name _ i s q b = (refl, refl)
+quiet_name : (op : Op) (i : Inst) (s : State) → is_barrier_name op ≡ false → ((action_by_name op i s).writes ≡ []) × ((action_by_name op i s).move ≡ Stays)
+quiet_name Call i s b = absurd (cc b)
+quiet_name Callx i s b = absurd (cc b)
+quiet_name Calls i s b = absurd (cc b)
+quiet_name Ret i s b = absurd (cc b)
+quiet_name Flushreg i s b = absurd (cc b)
+quiet_name Atadd i s b = absurd (cc b)
+quiet_name Atmod i s b = absurd (cc b)
+quiet_name Sysctl i s b = absurd (cc b)
+quiet_name _ i s b = (refl, refl)
 
-pub quiet : (i : Inst) (s : State) → is_request_name i.op ≡ false → is_barrier_name i.op ≡ false → ((action_of i s).bytes ≡ []) × ((action_of i s).move ≡ Stays)
+pub quiet : (i : Inst) (s : State) → is_request_name i.op ≡ false → is_barrier_name i.op ≡ false → ((action_of i s).writes ≡ []) × ((action_of i s).move ≡ Stays)
 unfolding action_of
-quiet i s q b = quiet_name i.op i s q b
+quiet i s q b = by_transfer (transfer_of i.op) q
+  where
+    by_transfer : (o : Option Transfer) → is_some o ≡ false → ((action_by o i s).writes ≡ []) × ((action_by o i s).move ≡ Stays)
+    by_transfer (Some t) e = absurd (cc e)
+    by_transfer None e = quiet_name i.op i s b

@@ -1,20 +1,20 @@
 -- An action leaves the resources that its need does not write.
-use Rattle.std.proofs.Common.{◌≡◌, ℕ, ◌<◌, ◌+◌, ◌-◌, ◌*◌, ◌%◌, Bool, true, false, cond, ◌||◌, ◌&&◌, List, ◌∷◌, Option, None, unwrap_or, refl, sym, ap, ◌∙◌, inl, inr}
+use Rattle.std.proofs.Common.{◌≡◌, ℕ, ◌<◌, ◌+◌, ◌-◌, ◌*◌, ◌%◌, Bool, true, false, cond, ◌||◌, ◌&&◌, List, ◌∷◌, Option, Some, None, unwrap_or, refl, sym, ap, ◌∙◌}
 use Rattle.std.specs.Prelude.{◌==◌, replicate}
 use Rattle.std.specs.Int.{bit_at, from_bool}
-use Rattle.std.proofs.lemmas.Bool.{or_parts, eqb-true, not-false, both_ways}
+use Rattle.std.proofs.lemmas.Bool.{or_parts, both_ways}
 use Rattle.i9_isa.specs.declared.op.Op.{Op}
-use Rattle.i9_isa.specs.declared.op.Op.TheVariants.{Addo, Lda, Ldob, Ldib, Ldos, Ldis, Ld, Ldl, Ldt, Ldq, Stob, Stib, Stos, Stis, St, Stl, Stt, Stq, Atadd, Atmod, Bx, Balx, Bal, Call, Callx, Calls, Ret, Flushreg, Syncf, Modac, Modtc, Modpc, Sysctl}
-use Rattle.i9_isa.specs.declared.format.Use.{Use}
-use Rattle.i9_isa.specs.declared.format.Use.TheVariants.{Unused, Source, Left, Right, Destination, Load, Store, Change}
-use Rattle.i9_isa.specs.declared.inst.Operand.{Operand}
-use Rattle.i9_isa.specs.declared.inst.Operand.TheVariants.{Reg, Lit, Sfr}
+use Rattle.i9_isa.specs.declared.op.Op.TheVariants.{Sysctl}
+use Rattle.i9_isa.specs.declared.size.Size.{Size}
+use Rattle.i9_isa.specs.declared.size.Direction.{Direction}
+use Rattle.i9_isa.specs.declared.size.Direction.TheVariants.{Load, Store}
+use Rattle.i9_isa.specs.declared.size.Transfer.{Transfer}
+use Rattle.i9_isa.specs.Transfers.{transfer_of}
 use Rattle.i9_isa.specs.declared.inst.Inst.{Inst}
 use Rattle.i9_isa.specs.declared.resources.TheConstants.{CONDITION_CODE, LINK}
-use Rattle.i9_isa.specs.Operands.{takes, words_written}
+use Rattle.i9_isa.specs.Operands.{words_written}
 use Rattle.i9_isa.specs.Resources.{is_in_frame, is_in_operand, writes_link, changes_frame, writes_code, is_written}
 use Rattle.i9_isa.specs.Table.{row_of}
-use Rattle.i9_isa.specs.Valid.{IsValid}
 use Rattle.i9_model.specs.declared.faults.Entry.{Entry}
 use Rattle.i9_model.specs.declared.need.Facts.{Facts}
 use Rattle.i9_model.specs.Writes.{last_put, wrapped}
@@ -24,41 +24,13 @@ use Rattle.i9_model.specs.State.{State, started, start_sets, first_frame}
 use Rattle.i9_model.specs.Boot.{setup_of, with_regions}
 use Rattle.i9_model.specs.Tables.{group_words}
 use Rattle.i9_model.specs.Controls.{Control, KeepsControls, Restarts, LoadsGroup, controlled, with_group, with_breakpoints, with_maps, with_trace_controls}
-use Rattle.i9_model.specs.Branches.{asks, question_of}
-use Rattle.i9_model.specs.Step.{Action, action_by, action_of, branching, answering, answer_in, entering, faulting, moved, acted}
+use Rattle.i9_model.specs.Step.{Action, moving, action_by_name, action_by, action_of, entering, faulting, moved, acted}
 use Rattle.i9_model.specs.Late.{resource, resources}
-use Rattle.i9_model.specs.Needs.{set_of, is_written_sfr, writes_sfr, inst_need, entry_need}
+use Rattle.i9_model.specs.Needs.{set_of, inst_need, entry_need}
 use Rattle.i9_model.proofs.Stored.{written-last}
 use Rattle.i9_model.proofs.SetLaws.{set_bits}
-use Rattle.i9_model.proofs.MaskLaws.{IsTarget, IsOutside, HasTargets, sets_beside, frame_beside, push_beside}
+use Rattle.i9_model.proofs.MaskLaws.{IsOutside, sets_beside, frame_beside, push_beside}
 use Rattle.i9_model.proofs.CodeLaws.{code_beside}
-
--- ---- the destinations of a valid instruction
-
-is_target : (u : Use) (o : Operand) → takes u o ≡ true → is_written_sfr o (words_written u) ≡ false → IsTarget (words_written u) o
-is_target Unused o h w = inl refl
-is_target (Source n) o h w = inl refl
-is_target Left o h w = inl refl
-is_target Right o h w = inl refl
-is_target (Store n) o h w = inl refl
-is_target (Destination n) (Reg r) h w = inr (r, refl)
-is_target (Destination n) (Lit l) h w = absurd (cc h)
-is_target (Destination n) (Sfr k) h w = inl (eqb-true n 0 (not-false (n == 0) w))
-is_target (Load n) (Reg r) h w = inr (r, refl)
-is_target (Load n) (Lit l) h w = absurd (cc h)
-is_target (Load n) (Sfr k) h w = absurd (cc h)
-is_target Change (Reg r) h w = inr (r, refl)
-is_target Change (Lit l) h w = absurd (cc h)
-is_target Change (Sfr k) h w = absurd (cc h)
-
-one_target : (op : Op) → ((words_written (row_of op).a == 0) || (words_written (row_of op).c == 0)) ≡ true
-one_target Addo = refl
-one_target _ = refl
-
-targets : (i : Inst) → IsValid i → writes_sfr i ≡ false → HasTargets i
-targets i valid none =
-    let p = or_parts (is_written_sfr i.a (words_written (row_of i.op).a)) (is_written_sfr i.c (words_written (row_of i.op).c)) none in
-    record { a = is_target (row_of i.op).a i.a valid.a p.0; c = is_target (row_of i.op).c i.c valid.c p.1; one = one_target i.op }
 
 -- ---- what is not in the need's set
 
@@ -137,44 +109,21 @@ acted_keeps s a r none code restart = controls_keep (moved s a) a.control r rest
 -- ---- an instruction
 
 -- only what writes the frame and the condition code starts the processor anew
-restarts : (op : Op) (i : Inst) (s : State) → IsRestart (action_by op i s).control → (changes_frame op ≡ true) × (writes_code op ≡ true)
-restarts Lda i s h = absurd h
-restarts Ldob i s h = absurd h
-restarts Ldib i s h = absurd h
-restarts Ldos i s h = absurd h
-restarts Ldis i s h = absurd h
-restarts Ld i s h = absurd h
-restarts Ldl i s h = absurd h
-restarts Ldt i s h = absurd h
-restarts Ldq i s h = absurd h
-restarts Stob i s h = absurd h
-restarts Stib i s h = absurd h
-restarts Stos i s h = absurd h
-restarts Stis i s h = absurd h
-restarts St i s h = absurd h
-restarts Stl i s h = absurd h
-restarts Stt i s h = absurd h
-restarts Stq i s h = absurd h
-restarts Atadd i s h = absurd h
-restarts Atmod i s h = absurd h
-restarts Bx i s h = absurd h
-restarts Balx i s h = absurd h
-restarts Bal i s h = absurd h
-restarts Call i s h = absurd h
-restarts Callx i s h = absurd h
-restarts Calls i s h = absurd h
-restarts Ret i s h = absurd h
-restarts Flushreg i s h = absurd h
-restarts Syncf i s h = absurd h
-restarts Modac i s h = absurd h
-restarts Modtc i s h = absurd h
-restarts Modpc i s h = absurd h
-restarts Sysctl i s h = (refl, refl)
-restarts op i s h = absurd (by_question (asks (question_of op)) h)
+name_restarts : (op : Op) (i : Inst) (s : State) → IsRestart (action_by_name op i s).control → (changes_frame op ≡ true) × (writes_code op ≡ true)
+name_restarts Sysctl i s h = (refl, refl)
+name_restarts _ i s h = absurd h
+
+moving_keeps : (d : Direction) (size : Size) (signed : Bool) (i : Inst) (s : State) → IsRestart (moving d size signed i s).control → ⊥
+moving_keeps Load size signed i s h = h
+moving_keeps Store size signed i s h = h
+
+restarts : (i : Inst) (s : State) → IsRestart (action_of i s).control → (changes_frame i.op ≡ true) × (writes_code i.op ≡ true)
+unfolding action_of
+restarts i s h = by_transfer (transfer_of i.op) h
   where
-    by_question : (b : Bool) → IsRestart (cond b (branching i s) (answering i s (answer_in i s))).control → ⊥
-    by_question true k = k
-    by_question false k = k
+    by_transfer : (o : Option Transfer) → IsRestart (action_by o i s).control → (changes_frame i.op ≡ true) × (writes_code i.op ≡ true)
+    by_transfer (Some t) k = absurd (moving_keeps t.direction t.size t.signed i s k)
+    by_transfer None k = name_restarts i.op i s k
 
 unset : (b c : Bool) → b ≡ true → (b && c) ≡ false → c ≡ false
 unset true c e h = h
@@ -184,13 +133,12 @@ set_with : (b c : Bool) → c ≡ true → (b && c) ≡ false → b ≡ false
 set_with false c e h = refl
 set_with true c e h = absurd (both_ways c h e)
 
-pub instruction_keeps : (f : Facts) (i : Inst) (s : State) (r : ℕ) → IsValid i → writes_sfr i ≡ false → r < resources → bit_at (inst_need i f).writes r ≡ 0 → resource (acted s (action_of i s)) r ≡ resource s r
-unfolding action_of
-instruction_keeps f i s r valid none lt h =
+pub instruction_keeps : (f : Facts) (i : Inst) (s : State) (r : ℕ) → r < resources → bit_at (inst_need i f).writes r ≡ 0 → resource (acted s (action_of i s)) r ≡ resource s r
+instruction_keeps f i s r lt h =
     let k = is_kept i r (not_in (is_written i) r lt h) in
-    acted_keeps s (action_by i.op i s) r (sets_beside i.op i s r refl (targets i valid none) k.outside)
-    (λ code. code_beside i.op i s refl (set_with (writes_code i.op) (r == CONDITION_CODE) code k.code))
-    (λ restart. let w = restarts i.op i s restart in (unset (writes_code i.op) (r == CONDITION_CODE) w.1 k.code, unset (changes_frame i.op) (is_in_frame r) w.0 k.outside.frame))
+    acted_keeps s (action_of i s) r (sets_beside i s r k.outside)
+    (λ code. code_beside i s (set_with (writes_code i.op) (r == CONDITION_CODE) code k.code))
+    (λ restart. let w = restarts i s restart in (unset (writes_code i.op) (r == CONDITION_CODE) w.1 k.code, unset (changes_frame i.op) (is_in_frame r) w.0 k.outside.frame))
 
 -- ---- what faults, and an entry
 

@@ -6,11 +6,12 @@ use Rattle.std.proofs.lemmas.Bool.{cases_Bool, both_ways}
 use Rattle.i9_model.specs.declared.layout.TheConstants.{LOCALS, FRAME_SIZE}
 use Rattle.i9_model.specs.declared.frame.Frame.{Frame}
 use Rattle.i9_model.specs.Writes.{upwards}
-use Rattle.i9_model.specs.Memory.{Memory, in_port_page, stored, with_bytes, with_words}
-use Rattle.i9_model.specs.Frames.{in_bytes}
+use Rattle.i9_model.specs.Memory.{Memory, in_port_page, stored, with_bytes, with_writes, with_words}
+use Rattle.i9_model.specs.Frames.{in_bytes, is_put}
 use Rattle.i9_model.specs.Step.{bytes_of_words}
 use Rattle.i9_model.specs.Alike.{with_other}
 use Rattle.i9_model.specs.HeldFrames.{Cache, over, overlaid, spilled, with_room, holding, AreWhole}
+use Rattle.i9_model.proofs.Runs.{is_put-upwards}
 use Rattle.i9_model.proofs.SoundRuns.{words_long}
 use Rattle.i9_model.proofs.AlikeActions.{stored_words_same}
 use Rattle.i9_model.proofs.Storing.{stored_agree, stored_kept, words_as_bytes}
@@ -43,6 +44,10 @@ overlaid_holding n f c =
 pub frame_long : (m : Memory) (a : ℕ) (ws : List ℕ) → length ws ≡ LOCALS → length (bytes_of_words m a ws) ≡ FRAME_SIZE
 frame_long m a ws whole = words_long m a ws ∙ ap (λ (n : ℕ). 4 * n) whole
 
+-- they are written where the frame is
+frame_put : (m : Memory) (a : ℕ) (ws : List ℕ) (x : ℕ) → length ws ≡ LOCALS → is_put (upwards a (bytes_of_words m a ws)) x ≡ in_bytes a FRAME_SIZE x
+frame_put m a ws x whole = is_put-upwards a (bytes_of_words m a ws) x ∙ ap (λ (n : ℕ). in_bytes a n x) (frame_long m a ws whole)
+
 pub words_mcon : (m : Memory) (a : ℕ) (ws : List ℕ) → (with_words m a ws).mcon ≡ m.mcon
 words_mcon m a ws = ap (λ (k : Memory). k.mcon) (words_as_bytes m a ws)
 
@@ -56,47 +61,47 @@ pub words_kept : (m : Memory) (a : ℕ) (ws : List ℕ) (x : ℕ) → length ws 
 words_kept m a ws x whole kept =
     let bs = bytes_of_words m a ws in
     ap (λ (k : Memory). k.bytes x) (words_as_bytes m a ws)
-    ∙ stored_kept m.bytes a bs x (subst (λ (n : ℕ). (in_bytes a n x ≡ false) ⊎ (in_port_page x ≡ true)) (sym (frame_long m a ws whole)) kept)
+    ∙ stored_kept m.bytes (upwards a bs) x (subst (λ (b : Bool). (b ≡ false) ⊎ (in_port_page x ≡ true)) (sym (frame_put m a ws x whole)) kept)
 
 -- a byte of a frame doesn't look at what was there
 words_agree : (m : Memory) (bytes : ℕ → ℕ) (a : ℕ) (ws : List ℕ) (x : ℕ) → length ws ≡ LOCALS → (in_port_page x ≡ true → bytes x ≡ m.bytes x) → (in_bytes a FRAME_SIZE x ≡ false → bytes x ≡ m.bytes x) → (with_words (with_other m bytes) a ws).bytes x ≡ (with_words m a ws).bytes x
 words_agree m bytes a ws x whole port out =
     let bs = bytes_of_words m a ws in
     ap (λ (k : Memory). k.bytes x) (words_as_bytes (with_other m bytes) a ws ∙ ap (with_bytes (with_other m bytes) a) (stored_words_same m bytes a ws))
-    ∙ stored_agree bytes m.bytes a bs x port (λ o. out (sym (ap (λ (n : ℕ). in_bytes a n x) (frame_long m a ws whole)) ∙ o))
+    ∙ stored_agree bytes m.bytes (upwards a bs) x port (λ o. out (sym (frame_put m a ws x whole) ∙ o))
     ∙ sym (ap (λ (k : Memory). k.bytes x) (words_as_bytes m a ws))
 
--- ---- stores beside frames
+-- ---- writes beside frames
 
--- none of so many bytes from an address on is in a frame
-abbrev pub IsBeside : ℕ → ℕ → ℕ → Type 0
-IsBeside a n f = (x : ℕ) → in_bytes a n x ≡ true → in_bytes f FRAME_SIZE x ≡ false
+-- no write is in a frame
+abbrev pub IsBeside : List (ℕ × ℕ) → ℕ → Type 0
+IsBeside ps f = (x : ℕ) → is_put ps x ≡ true → in_bytes f FRAME_SIZE x ≡ false
 
--- a store beside a frame may come before it or after it
-store_beside : (m : Memory) (a : ℕ) (bs : List ℕ) (f : ℕ) (ws : List ℕ) → length ws ≡ LOCALS → IsBeside a (length bs) f → with_words (with_bytes m a bs) f ws ≡ with_bytes (with_words m f ws) a bs
-store_beside m a bs f ws whole beside =
-    let under = stored m.bytes (upwards a bs) in
-    let at : (x : ℕ) → (with_words (with_bytes m a bs) f ws).bytes x ≡ stored (with_words m f ws).bytes (upwards a bs) x = λ x. elim (cases_Bool (in_bytes a (length bs) x)) [
+-- writes beside a frame may come before it or after it
+store_beside : (m : Memory) (ps : List (ℕ × ℕ)) (f : ℕ) (ws : List ℕ) → length ws ≡ LOCALS → IsBeside ps f → with_words (with_writes m ps) f ws ≡ with_writes (with_words m f ws) ps
+store_beside m ps f ws whole beside =
+    let under = stored m.bytes ps in
+    let at : (x : ℕ) → (with_words (with_writes m ps) f ws).bytes x ≡ stored (with_words m f ws).bytes ps x = λ x. elim (cases_Bool (is_put ps x)) [
       | inl inside ↦
-          words_kept (with_bytes m a bs) f ws x whole (inl (beside x inside))
-          ∙ sym (stored_agree (with_words m f ws).bytes m.bytes a bs x (λ p. words_kept m f ws x whole (inr p)) (λ out. absurd (both_ways (in_bytes a (length bs) x) out inside)))
+          words_kept (with_writes m ps) f ws x whole (inl (beside x inside))
+          ∙ sym (stored_agree (with_words m f ws).bytes m.bytes ps x (λ p. words_kept m f ws x whole (inr p)) (λ out. absurd (both_ways (is_put ps x) out inside)))
       | inr out ↦
-          words_agree m under f ws x whole (λ p. stored_kept m.bytes a bs x (inr p)) (λ o. stored_kept m.bytes a bs x (inl out))
-          ∙ sym (stored_kept (with_words m f ws).bytes a bs x (inl out))
+          words_agree m under f ws x whole (λ p. stored_kept m.bytes ps x (inr p)) (λ o. stored_kept m.bytes ps x (inl out))
+          ∙ sym (stored_kept (with_words m f ws).bytes ps x (inl out))
     ] in
-    let mcon : (with_words (with_bytes m a bs) f ws).mcon ≡ (with_words m f ws).mcon = words_mcon (with_bytes m a bs) f ws ∙ sym (words_mcon m f ws) in
+    let mcon : (with_words (with_writes m ps) f ws).mcon ≡ (with_words m f ws).mcon = words_mcon (with_writes m ps) f ws ∙ sym (words_mcon m f ws) in
     λ i. record { bytes = λ x. at x i; mcon = mcon i }
 
-abbrev pub AreBeside : ℕ → ℕ → List Frame → Type 0
-AreBeside a n hs = AllByRecursion (λ f. IsBeside a n f.address) hs
+abbrev pub AreBeside : List (ℕ × ℕ) → List Frame → Type 0
+AreBeside ps hs = AllByRecursion (λ f. IsBeside ps f.address) hs
 
--- a store beside the held frames reaches the memory with these laid over it
-pub over_stored : (hs : List Frame) (m : Memory) (a : ℕ) (bs : List ℕ) → AreWhole hs → AreBeside a (length bs) hs → over hs (with_bytes m a bs) ≡ with_bytes (over hs m) a bs
+-- writes beside the held frames reach the memory with these laid over it
+pub over_stored : (hs : List Frame) (m : Memory) (ps : List (ℕ × ℕ)) → AreWhole hs → AreBeside ps hs → over hs (with_writes m ps) ≡ with_writes (over hs m) ps
 unfolding over
-over_stored [] m a bs whole beside = refl
-over_stored (h ∷ hs) m a bs whole beside =
-    ap (over hs) (store_beside m a bs h.address h.words whole.0 beside.0)
-    ∙ over_stored hs (with_words m h.address h.words) a bs whole.1 beside.1
+over_stored [] m ps whole beside = refl
+over_stored (h ∷ hs) m ps whole beside =
+    ap (over hs) (store_beside m ps h.address h.words whole.0 beside.0)
+    ∙ over_stored hs (with_words m h.address h.words) ps whole.1 beside.1
 
 -- ---- bytes beside all held frames
 

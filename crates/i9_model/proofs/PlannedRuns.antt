@@ -9,7 +9,7 @@ use Rattle.i9_model.specs.declared.event.When.{When}
 use Rattle.i9_model.specs.declared.event.When.TheVariants.{At}
 use Rattle.i9_model.specs.declared.event.Timed.{Timed}
 use Rattle.i9_model.specs.ScheduleText.{timed_at, at_time, time_of, event_at, standing}
-use Rattle.i9_model.specs.Run.{Record, Finish, Does, Ends}
+use Rattle.i9_model.specs.Run.{Record, End, Does, Ends}
 use Rattle.i9_model.specs.PlannedRuns.{Stepping, Tally, IsHeedful, next_by, IsPastBy}
 
 at_seam : (xs ys : List Timed) → slice_get (xs ++ ys) (length xs) ≡ slice_get ys 0
@@ -95,7 +95,7 @@ module _ (next : Stepping) (tally : Tally) (heeds : IsHeedful next tally) where
       let before : tally.reached rs ++ (g.0 ++ more) ≡ front = sym (append_assoc (tally.reached rs) g.0 more) ∙ ap (λ (x : List Timed). x ++ more) (sym g.1) ∙ now in
       (past_of_front rs plan front rest (g.0 ++ more) whole before h.0, front_next rs r plan front rest (g.0 ++ more) more whole before now h.1)
 
-  end_unheard : (rs : List Record) (f : Finish) (o : Option Event) → next o rs ≡ Ends f → next None rs ≡ Ends f
+  end_unheard : (rs : List Record) (f : End) (o : Option Event) → next o rs ≡ Ends f → next None rs ≡ Ends f
   end_unheard rs f None h = h
   end_unheard rs f (Some e) h = elim (heeds.heard rs e) [
     | inl same ↦ sym same ∙ h
@@ -103,7 +103,7 @@ module _ (next : Stepping) (tally : Tally) (heeds : IsHeedful next tally) where
   ]
 
   -- a run is also the run of the events that it reached
-  pub run_of_reached : (plan : List Timed) (rs : List Record) (f : Finish) → IsPastBy next tally plan rs → next_by next tally plan rs ≡ Ends f → IsPastBy next tally (tally.reached rs) rs × (next_by next tally (tally.reached rs) rs ≡ Ends f)
+  pub run_of_reached : (plan : List Timed) (rs : List Record) (f : End) → IsPastBy next tally plan rs → next_by next tally plan rs ≡ Ends f → IsPastBy next tally (tally.reached rs) rs × (next_by next tally (tally.reached rs) rs ≡ Ends f)
   run_of_reached plan rs f past ends =
       let front = reached_front plan rs past in
       let none_left = slice_get_past (tally.reached rs) (length (tally.reached rs)) (omega arith) in (

@@ -10,13 +10,13 @@ use Rattle.i9_text.proofs.WrittenLines.{is_plain, plain-append, plain-decimal, p
 use Rattle.i9_model.specs.declared.view.View.{View}
 use Rattle.i9_model.specs.declared.event.Event.{Event}
 use Rattle.i9_model.specs.declared.event.Timed.{Timed}
-use Rattle.i9_model.specs.Step.{Drained, AtFlush, AtSync, AtFault, AtEnd}
-use Rattle.i9_model.specs.Run.{Finish, Exit, Limit, Hazard, Dead, Unbuilt}
+use Rattle.i9_model.specs.Run.{Point, End, Exit, Limit, Hazard, Dead, Unbuilt}
 use Rattle.i9_model.specs.Events.{journal_text}
 use Rattle.i9_model.specs.ScheduleText.{most_events, timed_at, Says, says_nothing, says_event, IsSchedule, IsTimedInRange, InOrder, IsPlan, is_skipped, fault_after}
-use Rattle.i9_model.specs.PrintedText.{Shown, Out, Point, Journal, Bytes, End, out_text, spaced, words_text, drained_text, point_text, point_shown, finish_text, event_text, spaced_byte, bytes_text, text_of, events_of}
+use Rattle.i9_model.specs.PrintedText.{Shown, Out, Drained, Journal, Bytes, Last, out_text, spaced, words_text, drained_text, point_text, point_shown, end_text, event_text, spaced_byte, bytes_text, text_of, events_of}
 use Rattle.i9_model.proofs.ReadBack.{journal_plain, journal_ascii, journal_not_skipped, journal_says}
 use Rattle.i9_model.proofs.Plans.{last_time, last_time-push, follows_fine}
+use Rattle.i9_model.specs.declared.run.Point.TheVariants as points
 
 -- a text that says nothing, whatever stands behind it
 abbrev Passes : List ℕ → Type 0
@@ -61,13 +61,13 @@ passes_out : (b : ℕ) → Passes (out_text b)
 unfolding out_text
 passes_out b = passes_line (codes "#out " ++ byte_text b) (plain-append (codes "#out ") (byte_text b) refl (plain-byte_text b)) refl
 
-plain_drained : (k : Drained) → is_plain (drained_text k) ≡ true
-plain_drained AtFlush = refl
-plain_drained AtSync = refl
-plain_drained AtFault = refl
-plain_drained AtEnd = refl
+plain_drained : (k : Point) → is_plain (drained_text k) ≡ true
+plain_drained points.Flush = refl
+plain_drained points.Sync = refl
+plain_drained points.Fault = refl
+plain_drained points.End = refl
 
-passes_point : (k : Drained) (v : View) → Passes (point_text k v)
+passes_point : (k : Point) (v : View) → Passes (point_text k v)
 unfolding point_text
 passes_point k v =
     let a = plain-append (codes "#point ") (decimal v.count) refl (plain-decimal v.count) in
@@ -75,14 +75,14 @@ passes_point k v =
     let c = plain-append (codes "#point " ++ decimal v.count ++ codes " ") (drained_text k) b (plain_drained k) in
     passes_words (codes "#point " ++ decimal v.count ++ codes " " ++ drained_text k) (v.ip ∷ v.ac ∷ v.pc ∷ []) c refl
 
-passes_shown_point : (k : Drained) (v : View) → Passes (point_shown k v)
+passes_shown_point : (k : Point) (v : View) → Passes (point_shown k v)
 passes_shown_point k v =
     let g = words_text (codes "#g") (drop 16 v.regs) in
     let l = words_text (codes "#l") (take 16 v.regs) in
     passes-append (point_text k v) (g ++ l) (passes_point k v) (passes-append g l (passes_words (codes "#g") (drop 16 v.regs) refl refl) (passes_words (codes "#l") (take 16 v.regs) refl refl))
 
-passes_finish : (f : Finish) → Passes (finish_text f)
-unfolding finish_text
+passes_finish : (f : End) → Passes (end_text f)
+unfolding end_text
 passes_finish (Exit w) = passes_words (codes "#end exit") (w ∷ []) refl refl
 passes_finish Limit = passes_line (codes "#end limit") refl refl
 passes_finish (Hazard a) = passes_words (codes "#end hazard") (a ∷ []) refl refl
@@ -112,9 +112,9 @@ replay_from : (ls : List Shown) (ts : List Timed) → AllByRecursion IsTimedInRa
     → SaysAll Says ts (texts.lines_of (text_of ls)) (ts ++ events_of ls)
 replay_from [] ts each order few = (ts, says_nothing ts [] refl refl, sym (append-nil ts))
 replay_from (Out b ∷ ls) ts each order few = passes_out b ts _ (text_of ls) (replay_from ls ts each order few)
-replay_from (Point k v ∷ ls) ts each order few = passes_shown_point k v ts _ (text_of ls) (replay_from ls ts each order few)
+replay_from (Drained k v ∷ ls) ts each order few = passes_shown_point k v ts _ (text_of ls) (replay_from ls ts each order few)
 replay_from (Bytes a bs ∷ ls) ts each order few = passes_bytes a bs ts _ (text_of ls) (replay_from ls ts each order few)
-replay_from (End f ∷ ls) ts each order few = passes_finish f ts _ (text_of ls) (replay_from ls ts each order few)
+replay_from (Last f ∷ ls) ts each order few = passes_finish f ts _ (text_of ls) (replay_from ls ts each order few)
 replay_from (Journal k e ∷ ls) ts each order few =
     let t = timed_at k e in
     let last : last_time 0 (ts ++ t ∷ []) ≡ k = last_time-push 0 ts t in

@@ -1,10 +1,10 @@
--- Bytes that are stored from an address on: which bytes they leave, and what they make of memories that differ elsewhere.
+-- Writes: which bytes they leave, and what they make of memories that differ elsewhere.
 use Rattle.std.proofs.Common.{◌≡◌, ℕ, suc, ◌+◌, Bool, true, false, cond, List, [], ◌∷◌, ◌++◌, length, refl, sym, ap, ◌∙◌, inl, inr, arith}
 use Rattle.std.specs.Prelude.{not, ◌==◌, ◌⊎◌}
 use Rattle.std.proofs.lemmas.Bool.{or_from, or_parts, eqb-true}
 use Rattle.i9_model.specs.Writes.{wrapped, written, upwards}
 use Rattle.i9_model.specs.Memory.{Memory, in_port_page, stored, word_bytes, with_bytes, with_words}
-use Rattle.i9_model.specs.Frames.{in_bytes}
+use Rattle.i9_model.specs.Frames.{is_put}
 use Rattle.i9_model.specs.Step.{bytes_of_words}
 use Rattle.i9_model.specs.Alike.{with_other}
 use Rattle.i9_model.proofs.Stored.{stored-cons, stored-append}
@@ -43,39 +43,37 @@ one_kept g y b x kept = by_port (in_port_page y) refl
     by_port true t = refl
     by_port false t = put_kept (x == y) refl t kept
 
--- ---- bytes in a row
+-- ---- several writes
 
--- memories agree after the same bytes were stored, where they agreed in the port page and beside these bytes
-pub stored_agree : (g h : ℕ → ℕ) (a : ℕ) (bs : List ℕ) (x : ℕ) → (in_port_page x ≡ true → g x ≡ h x) → (in_bytes a (length bs) x ≡ false → g x ≡ h x) → stored g (upwards a bs) x ≡ stored h (upwards a bs) x
-unfolding written in_bytes
-stored_agree g h a [] x port out = out refl
-stored_agree g h a (b ∷ bs) x port out =
-    let p : ℕ × ℕ = (wrapped a, b) in
-    ap (λ (m : ℕ → ℕ). m x) (stored-cons g p (upwards (a + 1) bs))
-    ∙ stored_agree (stored g (p ∷ [])) (stored h (p ∷ [])) (a + 1) bs x
-    (λ t. one_agree g h (wrapped a) b x port (λ e. port t))
-    (λ o. one_agree g h (wrapped a) b x port (λ e. out (or_from (x == wrapped a) (in_bytes (a + 1) (length bs) x) e o)))
-    ∙ sym (ap (λ (m : ℕ → ℕ). m x) (stored-cons h p (upwards (a + 1) bs)))
+-- bytes agree after the same writes, where they agreed in the port page and beside these writes
+pub stored_agree : (g h : ℕ → ℕ) (ps : List (ℕ × ℕ)) (x : ℕ) → (in_port_page x ≡ true → g x ≡ h x) → (is_put ps x ≡ false → g x ≡ h x) → stored g ps x ≡ stored h ps x
+unfolding written is_put
+stored_agree g h [] x port out = out refl
+stored_agree g h (p ∷ ps) x port out =
+    ap (λ (m : ℕ → ℕ). m x) (stored-cons g p ps)
+    ∙ stored_agree (stored g (p ∷ [])) (stored h (p ∷ [])) ps x
+    (λ t. one_agree g h p.0 p.1 x port (λ e. port t))
+    (λ o. one_agree g h p.0 p.1 x port (λ e. out (or_from (x == p.0) (is_put ps x) e o)))
+    ∙ sym (ap (λ (m : ℕ → ℕ). m x) (stored-cons h p ps))
 
-first_kept : (a n x : ℕ) → (in_bytes a (suc n) x ≡ false) ⊎ (in_port_page x ≡ true) → ((x == wrapped a) ≡ false) ⊎ (in_port_page x ≡ true)
-unfolding in_bytes
-first_kept a n x (inl o) = inl (or_parts (x == wrapped a) (in_bytes (a + 1) n x) o).0
-first_kept a n x (inr p) = inr p
+first_kept : (p : ℕ × ℕ) (ps : List (ℕ × ℕ)) (x : ℕ) → (is_put (p ∷ ps) x ≡ false) ⊎ (in_port_page x ≡ true) → ((x == p.0) ≡ false) ⊎ (in_port_page x ≡ true)
+unfolding is_put
+first_kept p ps x (inl o) = inl (or_parts (x == p.0) (is_put ps x) o).0
+first_kept p ps x (inr q) = inr q
 
-later_kept : (a n x : ℕ) → (in_bytes a (suc n) x ≡ false) ⊎ (in_port_page x ≡ true) → (in_bytes (a + 1) n x ≡ false) ⊎ (in_port_page x ≡ true)
-unfolding in_bytes
-later_kept a n x (inl o) = inl (or_parts (x == wrapped a) (in_bytes (a + 1) n x) o).1
-later_kept a n x (inr p) = inr p
+later_kept : (p : ℕ × ℕ) (ps : List (ℕ × ℕ)) (x : ℕ) → (is_put (p ∷ ps) x ≡ false) ⊎ (in_port_page x ≡ true) → (is_put ps x ≡ false) ⊎ (in_port_page x ≡ true)
+unfolding is_put
+later_kept p ps x (inl o) = inl (or_parts (x == p.0) (is_put ps x) o).1
+later_kept p ps x (inr q) = inr q
 
 -- a byte beside them, or in the port page, stays
-pub stored_kept : (g : ℕ → ℕ) (a : ℕ) (bs : List ℕ) (x : ℕ) → (in_bytes a (length bs) x ≡ false) ⊎ (in_port_page x ≡ true) → stored g (upwards a bs) x ≡ g x
+pub stored_kept : (g : ℕ → ℕ) (ps : List (ℕ × ℕ)) (x : ℕ) → (is_put ps x ≡ false) ⊎ (in_port_page x ≡ true) → stored g ps x ≡ g x
 unfolding written
-stored_kept g a [] x kept = refl
-stored_kept g a (b ∷ bs) x kept =
-    let p : ℕ × ℕ = (wrapped a, b) in
-    ap (λ (m : ℕ → ℕ). m x) (stored-cons g p (upwards (a + 1) bs))
-    ∙ stored_kept (stored g (p ∷ [])) (a + 1) bs x (later_kept a (length bs) x kept)
-    ∙ one_kept g (wrapped a) b x (first_kept a (length bs) x kept)
+stored_kept g [] x kept = refl
+stored_kept g (p ∷ ps) x kept =
+    ap (λ (m : ℕ → ℕ). m x) (stored-cons g p ps)
+    ∙ stored_kept (stored g (p ∷ [])) ps x (later_kept p ps x kept)
+    ∙ one_kept g p.0 p.1 x (first_kept p ps x kept)
 
 -- ---- words in a row
 

@@ -75,7 +75,8 @@ before-barrier b (r ∷ rs) is time h =
     let le : r.done ≤ b.issue = h.0.alone (inl is) in
     (omega arith, before-barrier b rs is time h.1)
 
--- the last turn of a list with a barrier in it is no later than that of what follows it, from the barrier's done turn on
+-- the last turn of a list with a barrier in it is no later than that of what follows it, from the barrier's done
+-- turn on
 pub last-le : (xs : List TimedNeed) (b : TimedNeed) (ys : List TimedNeed) → b.issue < b.done → last_issue (xs ++ b ∷ ys) ≤ last_from b.done xs
 last-le [] b ys h = omega arith
 last-le (x ∷ xs) b ys h = omega arith

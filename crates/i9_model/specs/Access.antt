@@ -1,10 +1,14 @@
 -- The accesses of an instruction in a state, and the first hazard that they meet.
 use Rattle.std.specs.Prelude.{ℕ, ◌+◌, ◌==◌, if◌then◌else◌, Option, Some, None, Result, Ok, Err}
 use Rattle.i9_isa.specs.declared.op.Op.{Op}
-use Rattle.i9_isa.specs.declared.op.Op.TheVariants.{Ldob, Ldib, Ldos, Ldis, Ld, Ldl, Ldt, Ldq, Stob, Stib, Stos, Stis, St, Stl, Stt, Stq, Atadd, Atmod, Call, Callx, Calls, Ret, Sysctl}
+use Rattle.i9_isa.specs.declared.op.Op.TheVariants.{Atadd, Atmod, Call, Callx, Calls, Ret, Sysctl}
+use Rattle.i9_isa.specs.declared.size.Transfer.{Transfer}
+use Rattle.i9_isa.specs.declared.size.Direction.{Direction}
+use Rattle.i9_isa.specs.declared.size.Direction.TheVariants.{Load, Store}
 use Rattle.i9_isa.specs.declared.inst.Inst.{Inst}
 use Rattle.i9_isa.specs.declared.inst.BadWord.{BadWord}
 use Rattle.i9_isa.specs.Words.{words_of, decoded}
+use Rattle.i9_isa.specs.Transfers.{transfer_of, byte_count}
 use Rattle.i9_model.specs.declared.layout.TheConstants.{PFP, FP}
 use Rattle.i9_model.specs.Writes.{wrapped}
 use Rattle.i9_model.specs.State.{State}
@@ -15,8 +19,8 @@ use Rattle.i9_model.specs.Tables.{tables_hazard, group_hazard}
 use Rattle.i9_model.specs.Operands.{value, address}
 use Rattle.i9_model.specs.Step.{Message, AsksNothing, AsksRestart, AsksGroup, first_word, next_word, atomic_address, message_of, argument_of, message_kind}
 
--- a read or a write of so many bytes, both after one another, a save area, a system procedure, a return, or as after a flush
--- the reads of a PRCB with its control table, or of a control group
+-- a read or a write of so many bytes, both after one another, a save area, a system procedure, a return, or as after
+-- a flush the reads of a PRCB with its control table, or of a control group
 pub data Access : Type 0 where
   NoAccess : Access
   Reads : (address : ℕ) → (count : ℕ) → Access
@@ -33,31 +37,27 @@ message_access AsksNothing i s = NoAccess
 message_access AsksRestart i s = ReadsTables (value s i.c)
 message_access AsksGroup i s = ReadsGroup (argument_of i s)
 
-abbrev pub access_by : Op → Inst → State → Access
-access_by Ldob i s = Reads (address s i.ea) 1
-access_by Ldib i s = Reads (address s i.ea) 1
-access_by Ldos i s = Reads (address s i.ea) 2
-access_by Ldis i s = Reads (address s i.ea) 2
-access_by Ld i s = Reads (address s i.ea) 4
-access_by Ldl i s = Reads (address s i.ea) 8
-access_by Ldt i s = Reads (address s i.ea) 12
-access_by Ldq i s = Reads (address s i.ea) 16
-access_by Stob i s = Writes (address s i.ea) 1
-access_by Stib i s = Writes (address s i.ea) 1
-access_by Stos i s = Writes (address s i.ea) 2
-access_by Stis i s = Writes (address s i.ea) 2
-access_by St i s = Writes (address s i.ea) 4
-access_by Stl i s = Writes (address s i.ea) 8
-access_by Stt i s = Writes (address s i.ea) 12
-access_by Stq i s = Writes (address s i.ea) 16
-access_by Atadd i s = Changes (atomic_address i s) 4
-access_by Atmod i s = Changes (atomic_address i s) 4
-access_by Call i s = SavesAt (rounded_down (s.regs FP))
-access_by Callx i s = SavesAt (rounded_down (s.regs FP))
-access_by Calls i s = CallsSystem (value s i.a)
-access_by Ret i s = ReturnsBy (s.regs PFP)
-access_by Sysctl i s = message_access (message_kind (message_of i s)) i s
-access_by _ i s = NoAccess
+abbrev pub access_by_name : Op → Inst → State → Access
+access_by_name Atadd i s = Changes (atomic_address i s) 4
+access_by_name Atmod i s = Changes (atomic_address i s) 4
+access_by_name Call i s = SavesAt (rounded_down (s.regs FP))
+access_by_name Callx i s = SavesAt (rounded_down (s.regs FP))
+access_by_name Calls i s = CallsSystem (value s i.a)
+access_by_name Ret i s = ReturnsBy (s.regs PFP)
+access_by_name Sysctl i s = message_access (message_kind (message_of i s)) i s
+access_by_name _ i s = NoAccess
+
+-- a load reads, and a store writes
+abbrev pub moved_access : Direction → ℕ → ℕ → Access
+moved_access Load a n = Reads a n
+moved_access Store a n = Writes a n
+
+abbrev pub access_by : Option Transfer → Inst → State → Access
+access_by (Some t) i s = moved_access t.direction (address s i.ea) (byte_count t.size)
+access_by None i s = access_by_name i.op i s
+
+abbrev pub access_of : Inst → State → Access
+access_of i s = access_by (transfer_of i.op) i s
 
 -- the address and the number of bytes of a data access
 abbrev pub data_of : Access → Option (ℕ × ℕ)
@@ -79,7 +79,7 @@ hazard_in s (ReadsGroup group) = group_hazard (flushed s.frames) s.tables.contro
 
 -- the hazard of an instruction's access
 unfoldable pub hazard_of : Inst → State → Option ℕ
-hazard_of i s = hazard_in s (access_by i.op i s)
+hazard_of i s = hazard_in s (access_of i s)
 
 -- the second word is read where the first one has it
 abbrev pub second_hazard : State → Result Inst BadWord → Option ℕ

@@ -6,7 +6,7 @@ use Rattle.i9_model.specs.State.{State, Frames}
 use Rattle.i9_model.specs.Frames.{in_frames}
 use Rattle.i9_model.specs.Step.{first_word, next_word}
 use Rattle.i9_isa.specs.Words.{words_of}
-use Rattle.i9_model.specs.Run.{Kind, Instruction, Faulted, Entered, Record, Next, Does, Ends, action_by_kind}
+use Rattle.i9_model.specs.Run.{Kind, Instruction, Faulted, Entered, Record, Next, Does, Ends, faulted_words, action_by_kind}
 
 -- no frame can have a byte here
 abbrev pub is_beyond : ℕ → Bool
@@ -43,19 +43,20 @@ told_words words s = (first_word s, if words == 2 then next_word s else 0)
 -- the words of an instruction that is done or faults
 abbrev pub told : Kind → State → ℕ × ℕ
 told (Instruction i) s = told_words (words_of i) s
-told (Faulted words fault) s = told_words words s
+told (Faulted inst fault) s = told_words (faulted_words inst) s
 told (Entered e) s = (0, 0)
 
--- a record of the same kind and the same words, which does the same and makes states that are alike
-pub record AreRecordsAlike (s t : State) (r q : Record) : Type 0 where
+-- a record of the same kind and the same words, which does the same between states that are alike
+pub record AreRecordsAlike (r q : Record) : Type 0 where
   pub kind : q.kind ≡ r.kind
-  pub words : told r.kind t ≡ told r.kind s
-  pub action : action_by_kind r.kind t ≡ action_by_kind r.kind s
+  pub before : AreAlike r.before q.before
+  pub words : told r.kind q.before ≡ told r.kind r.before
+  pub action : action_by_kind r.kind q.before ≡ action_by_kind r.kind r.before
   pub after : AreAlike r.after q.after
 
--- from states that are alike: such a record, or the same end
-abbrev pub AreNextAlike : State → State → Next → Next → Type 0
-AreNextAlike s t (Does r) (Does q) = AreRecordsAlike s t r q
-AreNextAlike s t (Ends f) (Ends g) = g ≡ f
-AreNextAlike s t (Does r) (Ends g) = ⊥
-AreNextAlike s t (Ends f) (Does q) = ⊥
+-- such a record, or the same end
+abbrev pub AreNextAlike : Next → Next → Type 0
+AreNextAlike (Does r) (Does q) = AreRecordsAlike r q
+AreNextAlike (Ends f) (Ends g) = g ≡ f
+AreNextAlike (Does r) (Ends g) = ⊥
+AreNextAlike (Ends f) (Does q) = ⊥

@@ -5,8 +5,8 @@ use Rattle.i9_isa.specs.declared.op.Op.TheVariants.{B, Bal, Bno, Bg, Be, Bge, Bl
 use Rattle.i9_isa.specs.declared.inst.Inst.{Inst}
 use Rattle.i9_model.specs.Conditions.{code_of, with_code, code_where, holds, compared, signed_compared, bit_in}
 
--- What a branch asks: nothing, and it goes always or never; its mask of the condition code; a bit of src2; or its mask of
--- the code of src1 against src2, as numbers from 0 or as signed ones.
+-- What a branch asks: nothing, and it goes always or never; its mask of the condition code; a bit of src2; or its
+-- mask of the code of src1 against src2, as numbers from 0 or as signed ones.
 pub data Question : Type 0 where
   Always : Question
   Never : Question

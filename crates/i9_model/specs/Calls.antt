@@ -1,7 +1,7 @@
 -- Calls and returns: what they make of frames and controls, or the hazard that they meet.
 use Rattle.std.specs.Prelude.{◌≡◌, ℕ, ◌+◌, ◌-◌, ◌*◌, ◌%◌, ◌^◌, Bool, true, false, not, ◌==◌, ◌&&◌, ◌||◌, nat_le, nat_lt, if◌then◌else◌, bit_and, length, Option, None, Result, Ok, Err}
 use Rattle.i9_isa.specs.Words.{bit}
-use Rattle.i9_model.specs.declared.layout.TheConstants.{SUPERVISOR, SUPERVISOR_STACK, SYSTEM_TABLE_ENTRIES, MOST_SYSTEM_CALL, ASKS_SUPERVISOR, LOCAL_RETURN, FAULT_RETURN, SUPERVISOR_RETURN, INTERRUPT_RETURN, RECORD_SIZE, PC_MASK, AC_MASK}
+use Rattle.i9_model.specs.declared.layout.TheConstants.{SUPERVISOR_PLACE, SUPERVISOR_STACK, SYSTEM_TABLE_ENTRIES, MOST_SYSTEM_CALL, ASKS_SUPERVISOR_PLACE, LOCAL_RETURN, FAULT_RETURN, SUPERVISOR_RETURN, INTERRUPT_RETURN, RECORD_SIZE, PC_MASK, AC_MASK}
 use Rattle.i9_model.specs.declared.push.Push.{Push}
 use Rattle.i9_model.specs.declared.calls.Sys.{Sys}
 use Rattle.i9_model.specs.declared.calls.CallsStop.{CallsStop}
@@ -17,7 +17,7 @@ use Rattle.i9_model.specs.Hazards.{or_else, unless, read_hazard, save_hazard, re
 
 -- supervisor mode is a bit of the process controls
 abbrev pub in_supervisor_mode : ℕ → Bool
-in_supervisor_mode pc = bit pc SUPERVISOR
+in_supervisor_mode pc = bit pc SUPERVISOR_PLACE
 
 -- trace enable is the lowest bit of the process controls
 abbrev pub trace_enable : ℕ → ℕ
@@ -25,7 +25,7 @@ trace_enable pc = pc % 2
 
 -- process controls with supervisor mode set, and with another trace enable
 abbrev pub with_supervisor : ℕ → ℕ → ℕ
-with_supervisor pc trace = aligned pc + 2 ^ SUPERVISOR + trace
+with_supervisor pc trace = aligned pc + 2 ^ SUPERVISOR_PLACE + trace
 
 -- the same with supervisor mode clear
 abbrev pub without_supervisor : ℕ → ℕ → ℕ
@@ -49,7 +49,7 @@ stack_address table = wrapped (table + SUPERVISOR_STACK)
 
 -- stacks are switched where the entry asks for the supervisor stack outside supervisor mode
 abbrev pub is_switch : ℕ → ℕ → Bool
-is_switch entry pc = bit entry ASKS_SUPERVISOR && not (in_supervisor_mode pc)
+is_switch entry pc = bit entry ASKS_SUPERVISOR_PLACE && not (in_supervisor_mode pc)
 
 -- the supervisor stack word is read where stacks are switched
 abbrev pub stack_hazard : Frames → ℕ → Bool → Option ℕ
@@ -66,8 +66,8 @@ system_hazard m f table n pc fp =
 abbrev pub entered_here : ℕ → ℕ → ℕ → ℕ → ℕ → ℕ → Sys
 entered_here entry pc fp sp extra kind = record { push = pushed fp sp extra kind; target = aligned entry; pc = pc; switched = false }
 
--- a procedure's frame is on the supervisor stack: of its word, the low two bits are no address, and the lowest is the new
--- trace enable
+-- a procedure's frame is on the supervisor stack: of its word, the low two bits are no address, and the lowest is
+-- the new trace enable
 abbrev pub entered_switched : ℕ → ℕ → ℕ → ℕ → ℕ → ℕ → Sys
 entered_switched entry stack pc fp extra kind = record {
   push = pushed fp (aligned stack) extra kind;
@@ -154,7 +154,8 @@ returned_ac m kind fp ac = if takes_record kind then bit_and (saved_ac m fp) AC_
 unfoldable pub ret_hazard : Frames → ℕ → ℕ → Option ℕ
 ret_hazard f pfp fp = or_else (controls_hazard f (return_type pfp) fp) (return_hazard f (rounded_down pfp))
 
--- a return: where a frame is live the youngest is left, and after an interrupt's return software interrupts are looked at
+-- a return: where a frame is live the youngest is left, and after an interrupt's return software interrupts are
+-- looked at
 unfoldable pub popped : Memory → Frames → ℕ → ℕ → ℕ → ℕ → Pop
 popped m f pfp fp pc ac = record {
   frame = rounded_down pfp;

@@ -6,8 +6,8 @@ use Rattle.std.specs.Str.{bytes_eq}
 use Rattle.i9_text.specs.Text.{number_of}
 use Rattle.i9_model.specs.declared.layout.TheConstants.{MAX_LENGTH, MOST_SETS}
 
--- what the words ask for: to run the image of this name, with so many sets or, where none are asked for, with those of the
--- PRCB, for at most so many instructions
+-- what the words ask for: to run the image of this name, with so many sets or, where none are asked for, with those
+-- of the PRCB, for at most so many instructions
 pub data Command : Type 0 where
   Run : (image : List ℕ) → (sets : Option ℕ) → (limit : ℕ) → Command
 

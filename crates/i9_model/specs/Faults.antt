@@ -1,4 +1,5 @@
--- Faults: the first that an instruction raises before it does anything, and the entry of a fault through the fault table.
+-- Faults: the first that an instruction raises before it does anything, and the entry of a fault through the fault
+-- table.
 use Rattle.std.specs.Prelude.{ℕ, ◌+◌, ◌*◌, ◌/◌, ◌%◌, ◌^◌, Bool, true, false, not, ◌==◌, nat_le, nat_lt, ◌&&◌, ◌||◌, if◌then◌else◌, bit_and, List, [], ◌∷◌, Option, Some, None, Result, Ok, Err}
 use Rattle.i9_isa.specs.declared.op.Op.{Op}
 use Rattle.i9_isa.specs.declared.op.Op.TheVariants.{Calls, Modpc, Sdma, Sysctl}
@@ -7,7 +8,7 @@ use Rattle.i9_isa.specs.declared.inst.Operand.TheVariants.{Reg, Lit, Sfr}
 use Rattle.i9_isa.specs.declared.inst.Inst.{Inst}
 use Rattle.i9_isa.specs.Words.{bit, field}
 use Rattle.i9_model.specs.declared.layout.TheConstants.{MOST_SYSTEM_CALL, FAULT_RETURN, RECORD_SIZE}
-use Rattle.i9_model.specs.declared.faults.TheConstants.{OPERATION, PROTECTION, TYPE, UNALIGNED, INVALID_OPERAND, LENGTH, MISMATCH, FAULT_ENTRY_SIZE, SYSTEM_ENTRY, TRACE_BITS, NO_HANDLER, NO_SYSTEM_ENTRY, NO_PROCEDURE}
+use Rattle.i9_model.specs.declared.faults.TheConstants.{OPERATION, PROTECTION, TYPE, UNALIGNED, INVALID_OPERAND, LENGTH, MISMATCH, FAULT_ENTRY_SIZE, SYSTEM_ENTRY, TRACE_MASK, NO_HANDLER, NO_SYSTEM_ENTRY, NO_PROCEDURE}
 use Rattle.i9_model.specs.declared.faults.Fault.{Fault}
 use Rattle.i9_model.specs.declared.faults.Entry.{Entry}
 use Rattle.i9_model.specs.declared.faults.Handler.{Handler}
@@ -75,8 +76,8 @@ abbrev pub is_unaligned : Option (ℕ × ℕ) → ℕ → Bool
 is_unaligned None config = false
 is_unaligned (Some access) config = not (access.0 % alignment access.1 == 0) && not (bit config 30)
 
--- The first fault, as type and subtype, of an instruction with these values of src1 and src2, the address and the number of
--- bytes of its data access where it has one, the process controls and the fault configuration.
+-- The first fault, as type and subtype, of an instruction with these values of src1 and src2, the address and the
+-- number of bytes of its data access where it has one, the process controls and the fault configuration.
 unfoldable pub raised : Inst → ℕ → ℕ → Option (ℕ × ℕ) → ℕ → ℕ → Option (ℕ × ℕ)
 raised i a b access pc config =
     if mismatches i b pc then Some (TYPE, MISMATCH)
@@ -124,7 +125,8 @@ planned_handler m f at = do
 
 -- ---- the entry of a fault
 
--- The handler is entered above a record and with the return type of a fault: on the stack in use, or as by a system call.
+-- The handler is entered above a record and with the return type of a fault: on the stack in use, or as by a system
+-- call.
 unfoldable pub planned_frame : Memory → Frames → ℕ → ℕ → ℕ → ℕ → Handler → Result Sys ℕ
 planned_frame m f system pc fp sp (Local target) = unless (save_hazard f (rounded_down fp)) (entered_here target pc fp sp RECORD_SIZE FAULT_RETURN)
 planned_frame m f system pc fp sp (System n) = planned_system m f system n pc fp sp RECORD_SIZE (λ _. FAULT_RETURN)
@@ -136,7 +138,7 @@ record_write_hazard f push =
 
 -- trace enable and trace fault pending are cleared
 abbrev pub without_trace : ℕ → ℕ
-without_trace pc = bit_and pc (complement TRACE_BITS)
+without_trace pc = bit_and pc (complement TRACE_MASK)
 
 -- what a record says: PC and AC before the entry, type and subtype, and the address of the instruction
 abbrev pub fault_record : Fault → ℕ → ℕ → List ℕ
@@ -145,8 +147,8 @@ fault_record fault pc ac = pc ∷ ac ∷ (fault.kind * 2 ^ 16 + fault.subtype) �
 abbrev pub entry_of : Fault → ℕ → ℕ → Sys → Entry
 entry_of fault pc ac s = record { push = s.push; target = s.target; pc = without_trace s.pc; words = fault_record fault pc ac }
 
--- The entry of a fault by a fault table and a system procedure table, or what stops it first: the entry's words are read,
--- then what a system procedure needs, then the frame is saved, and then the record is written.
+-- The entry of a fault by a fault table and a system procedure table, or what stops it first: the entry's words are
+-- read, then what a system procedure needs, then the frame is saved, and then the record is written.
 unfoldable pub planned_fault : Memory → Frames → ℕ → ℕ → Fault → ℕ → ℕ → ℕ → ℕ → Result Entry FaultStop
 planned_fault m f table system fault pc ac fp sp = do
   handler ← planned_handler m f (table_entry table fault.kind)

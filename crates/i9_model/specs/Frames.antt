@@ -3,7 +3,7 @@ use Rattle.std.specs.Prelude.{ℕ, ◌+◌, Bool, false, ◌==◌, ◌&&◌, ◌
 use Rattle.std.specs.List.{list_any, range_with_len}
 use Rattle.i9_model.specs.declared.layout.TheConstants.{FRAME_SIZE}
 use Rattle.i9_model.specs.declared.push.Push.{Push}
-use Rattle.i9_model.specs.Writes.{wrapped}
+use Rattle.i9_model.specs.Writes.{wrapped, places_of}
 pub use Rattle.i9_model.specs.Writes.{rounded_down, rounded_up}
 use Rattle.i9_model.specs.State.{Frames}
 
@@ -35,13 +35,21 @@ abbrev pub flushed : Frames → Frames
 flushed s = record { soft = λ x. s.soft x && not (in_frames s.live x); live = [] }
 
 -- so many bytes from an address on are stored to, and not soft any more
-abbrev pub wrote : Frames → ℕ → ℕ → Frames
-wrote s a n = record s { soft = λ x. s.soft x && not (in_bytes a n x) }
+abbrev pub wrote_run : Frames → ℕ → ℕ → Frames
+wrote_run s a n = record s { soft = λ x. s.soft x && not (in_bytes a n x) }
+
+-- a byte is written
+unfoldable pub is_put : List (ℕ × ℕ) → ℕ → Bool
+is_put ps x = list_any (λ y. x == y) (places_of ps)
+
+-- the bytes of writes are not soft any more
+abbrev pub wrote : Frames → List (ℕ × ℕ) → Frames
+wrote s ps = record s { soft = λ x. s.soft x && not (is_put ps x) }
 
 -- ---- pushes
 
--- The frame that a push makes: the locals are saved at fp; the new frame is at the base, above a record of so many bytes,
--- and sp behind its locals; the new pfp is the save address with the return type in its low bits.
+-- The frame that a push makes: the locals are saved at fp; the new frame is at the base, above a record of so many
+-- bytes, and sp behind its locals; the new pfp is the save address with the return type in its low bits.
 abbrev pub pushed : ℕ → ℕ → ℕ → ℕ → Push
 pushed fp base extra kind = record {
   save = rounded_down fp;

@@ -2,7 +2,7 @@
 use Rattle.std.specs.Prelude.{◌≡◌, ℕ, List, [], length, None}
 use Rattle.i9_model.specs.declared.layout.TheConstants.{LOCALS}
 use Rattle.i9_model.specs.State.{State}
-use Rattle.i9_model.specs.Hazards.{write_hazard}
+use Rattle.i9_model.specs.Hazards.{writes_hazard}
 use Rattle.i9_model.specs.Controls.{Control, KeepsControls, Restarts, LoadsGroup}
 use Rattle.i9_model.specs.Step.{Move, Stays, Saves, Returns, Flushes, Action, frames_after}
 
@@ -14,13 +14,13 @@ IsWhole Returns = Unit {0}
 IsWhole Flushes = Unit {0}
 
 -- what is done to controls comes after a flush that stores nothing
-abbrev pub ComesAfterFlush : Control → Move → List ℕ → Type 0
-ComesAfterFlush KeepsControls v bytes = Unit {0}
-ComesAfterFlush (Restarts first prcb) v bytes = (v ≡ Flushes) × (bytes ≡ [])
-ComesAfterFlush (LoadsGroup group) v bytes = (v ≡ Flushes) × (bytes ≡ [])
+abbrev pub ComesAfterFlush : Control → Move → List (ℕ × ℕ) → Type 0
+ComesAfterFlush KeepsControls v writes = Unit {0}
+ComesAfterFlush (Restarts first prcb) v writes = (v ≡ Flushes) × (writes ≡ [])
+ComesAfterFlush (LoadsGroup group) v writes = (v ≡ Flushes) × (writes ≡ [])
 
 -- it saves frames whole, stores beside live frames, and changes controls after a mere flush alone
 pub record IsFree (s : State) (a : Action) : Type 0 where
   pub whole : IsWhole a.move
-  pub free : write_hazard (frames_after s.frames a.move) a.at (length a.bytes) ≡ None
-  pub controls : ComesAfterFlush a.control a.move a.bytes
+  pub free : writes_hazard (frames_after s.frames a.move) a.writes ≡ None
+  pub controls : ComesAfterFlush a.control a.move a.writes

@@ -3,6 +3,7 @@
 use Rattle.std.specs.Prelude.{ℕ, Bool, ◌==◌, if◌then◌else◌, List, [], ◌∷◌, Option, Some, None, Result, Ok, Err, find}
 use Rattle.i9_model.specs.declared.layout.TheConstants.{FRAME_SIZE}
 use Rattle.i9_model.specs.declared.push.Push.{Push}
+use Rattle.i9_model.specs.Writes.{places_of}
 use Rattle.i9_model.specs.Memory.{in_port_page}
 use Rattle.i9_model.specs.State.{Frames}
 use Rattle.i9_model.specs.Frames.{places, in_frames, rounded_down, pushed}
@@ -18,6 +19,10 @@ read_hazard s a n = least s.soft a n
 -- a write of a byte of a live frame
 unfoldable pub write_hazard : Frames → ℕ → ℕ → Option ℕ
 write_hazard s a n = least (in_frames s.live) a n
+
+-- a write to a byte of a live frame
+unfoldable pub writes_hazard : Frames → List (ℕ × ℕ) → Option ℕ
+writes_hazard s ps = find (in_frames s.live) (places_of ps)
 
 -- a byte in the port page
 unfoldable pub port_hazard : ℕ → ℕ → Option ℕ

@@ -4,12 +4,12 @@ use Rattle.std.specs.List.{AllByRecursion}
 use Rattle.i9_model.specs.declared.layout.TheConstants.{LOCALS}
 use Rattle.i9_model.specs.declared.frame.Frame.{Frame}
 use Rattle.i9_model.specs.Writes.{address_count, wrapped}
-use Rattle.i9_model.specs.Memory.{Memory, word_in, with_bytes, with_words}
+use Rattle.i9_model.specs.Memory.{Memory, word_in, with_writes, with_words}
 use Rattle.i9_model.specs.State.{State, boot}
 use Rattle.i9_model.specs.Boot.{setup_of}
 use Rattle.i9_model.specs.Controls.{Control, KeepsControls, Restarts, LoadsGroup}
 use Rattle.i9_model.specs.Step.{Move, Stays, Saves, Returns, Flushes, Action}
-use Rattle.i9_model.specs.Run.{Record, state_after, action_by_kind}
+use Rattle.i9_model.specs.Run.{Given, Record, action_done}
 use Rattle.i9_model.specs.Alike.{is_compared, AgreeWhere}
 
 -- the frames that are held, the oldest first, and the memory behind them
@@ -60,13 +60,13 @@ cache_moved n (Saves save words) c = holding n (frame_at save words) c
 cache_moved n Returns c = taken c
 cache_moved n Flushes c = written_back c
 
--- bytes are stored behind them
-abbrev pub cache_stored : ℕ → List ℕ → Cache → Cache
-cache_stored a bs c = record c { behind = with_bytes c.behind a bs }
+-- bytes are written behind them
+abbrev pub cache_stored : List (ℕ × ℕ) → Cache → Cache
+cache_stored ps c = record c { behind = with_writes c.behind ps }
 
 -- what an action makes of them, with n sets
 abbrev pub cache_acted : ℕ → Action → Cache → Cache
-cache_acted n a c = cache_stored a.at a.bytes (cache_moved n a.move c)
+cache_acted n a c = cache_stored a.writes (cache_moved n a.move c)
 
 -- regions get the configuration words of a memory
 abbrev pub cache_configured : Memory → Cache → Cache
@@ -85,11 +85,9 @@ renewed asked m (Restarts first prcb) n = unwrap_or asked (setup_of m first prcb
 renewed asked m (LoadsGroup group) n = n
 
 -- what is held after the records of a run, and what is behind
-abbrev pub cache_after : Option ℕ → List (ℕ × ℕ) → List Record → Cache
-cache_after asked image [] = cache [] (boot image).memory
-cache_after asked image (r ∷ rs) =
-    let s = state_after image rs in
-    cache_configured r.after.memory (cache_acted (sets_in asked s) (action_by_kind r.kind s) (cache_after asked image rs))
+abbrev pub cache_after : Given → List Record → Cache
+cache_after g [] = cache [] (boot g.image).memory
+cache_after g (r ∷ rs) = cache_configured r.after.memory (cache_acted (sets_in g.sets r.before) (action_done r) (cache_after g rs))
 
 -- ---- what they stand for
 
@@ -107,8 +105,9 @@ pub record AreYoungest (held : List Frame) (live : List ℕ) : Type 0 where
   pub first : youngest_first held ≡ take (length held) live
   pub whole : AreWhole held
 
--- The frames that are held and the memory behind them stand for the memory of a state: laid over one another they are its
--- memory as far as that is compared, with its configuration words, and the frames are its youngest live ones.
+-- The frames that are held and the memory behind them stand for the memory of a state: laid over one another they
+-- are its memory as far as that is compared, with its configuration words, and the frames are its youngest live
+-- ones.
 pub record IsCached (s : State) (c : Cache) : Type 0 where
   pub bytes : AgreeWhere (is_compared s.frames) s.memory (overlaid c).bytes
   pub regions : c.behind.mcon ≡ s.memory.mcon

@@ -66,7 +66,8 @@ pub data Origin : Type 0 where
   Upper : ℕ → Origin
   Base : ℕ → Origin
 
--- The address of a number of a record. Past an upper half addresses run on; within a segment they begin anew after 65536.
+-- The address of a number of a record. Past an upper half addresses run on; within a segment they begin anew after
+-- 65536.
 abbrev pub address_in : Origin → ℕ → ℕ
 address_in (Upper half) n = (half * 65536 + n) % address_count
 address_in (Base base) n = base * 16 + n % 65536
@@ -149,8 +150,8 @@ fault_of_digits s (Err e) = Some bad_digits
 fault_of_digits s (Ok bytes) = first_fault (fault_of_bytes bytes) (fault_of_room s bytes)
 
 -- The fault of a line, the first that applies of these: the line stands after the end record; no colon stands first; no
--- pairs of digits follow it; there are fewer than 5 bytes, or not as many as the count says; they do not sum to 0 modulo
--- 256; the type is unknown; the count is not that of the type; there are too many data bytes.
+-- pairs of digits follow it; there are fewer than 5 bytes, or not as many as the count says; they do not sum to 0
+-- modulo 256; the type is unknown; the count is not that of the type; there are too many data bytes.
 unfoldable pub fault_of : HexState → List ℕ → Option ℕ
 fault_of s [] = None
 fault_of s (first ∷ digits) =

@@ -20,7 +20,8 @@ pub mod Step
 pub mod Access
 pub mod Unbuilt
 pub mod Faults
-pub mod Fetched
+pub mod Standing
+pub mod Given
 pub mod Run
 pub mod Overlay
 pub mod Alike

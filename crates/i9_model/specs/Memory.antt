@@ -51,9 +51,13 @@ half_bytes m a v = if is_big m (region_of a) then to_be_bytes w16 v else to_le_b
 unfoldable pub word_bytes : Memory → ℕ → ℕ → List ℕ
 word_bytes m a v = if is_big m (region_of a) then to_be_bytes w32 v else to_le_bytes w32 v
 
+-- a memory after writes
+abbrev pub with_writes : Memory → List (ℕ × ℕ) → Memory
+with_writes m ps = record m { bytes = stored m.bytes ps }
+
 -- a memory after bytes were stored from an address on
 abbrev pub with_bytes : Memory → ℕ → List ℕ → Memory
-with_bytes m a bs = record m { bytes = stored m.bytes (upwards a bs) }
+with_bytes m a bs = with_writes m (upwards a bs)
 
 -- a memory after words were stored from an address on, one by one
 unfoldable pub with_words : Memory → ℕ → List ℕ → Memory

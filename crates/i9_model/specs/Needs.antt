@@ -1,17 +1,20 @@
 -- What a record needs: its side, the resources that it reads and writes, whether it is a request, slow or a barrier,
 -- and how long it takes.
-use Rattle.std.specs.Prelude.{ℕ, zero, suc, ◌+◌, ◌*◌, ◌^◌, ◌==◌, ◌&&◌, ◌||◌, not, Bool, true, false, if◌then◌else◌, None}
+use Rattle.std.specs.Prelude.{ℕ, zero, suc, ◌+◌, ◌*◌, ◌^◌, ◌==◌, ◌&&◌, ◌||◌, not, Bool, true, false, if◌then◌else◌, Option, Some, None, is_some}
 use Rattle.i9_isa.specs.declared.op.Op.{Op}
-use Rattle.i9_isa.specs.declared.op.Op.TheVariants.{Ldob, Ldib, Ldos, Ldis, Ld, Ldl, Ldt, Ldq, Stob, Stib, Stos, Stis, St, Stl, Stt, Stq, Atadd, Atmod, Call, Callx, Calls, Ret, Flushreg, Syncf, Modac, Modtc, Modpc, Sysctl, Sdma, Mulo, Muli, Emul, Divo, Divi, Remo, Remi, Modi, Ediv}
+use Rattle.i9_isa.specs.declared.op.Op.TheVariants.{Atadd, Atmod, Call, Callx, Calls, Ret, Flushreg, Syncf, Modac, Modtc, Modpc, Sysctl, Sdma, Mulo, Muli, Emul, Divo, Divi, Remo, Remi, Modi, Ediv}
 use Rattle.i9_isa.specs.declared.inst.Operand.{Operand}
 use Rattle.i9_isa.specs.declared.inst.Operand.TheVariants.{Reg, Lit, Sfr}
 use Rattle.i9_isa.specs.declared.inst.Inst.{Inst}
 use Rattle.i9_isa.specs.declared.inst.Side.TheVariants.{Ctl}
+use Rattle.i9_isa.specs.declared.size.Direction.{Direction}
+use Rattle.i9_isa.specs.declared.size.Transfer.{Transfer}
 use Rattle.i9_isa.specs.Operands.{words_written}
 use Rattle.i9_isa.specs.Table.{row_of}
 use Rattle.i9_isa.specs.Words.{words_of}
 use Rattle.i9_isa.specs.Resources.{is_read, is_written, is_in_frame}
 use Rattle.i9_isa.specs.Costs.{issue_side, latency_of}
+use Rattle.i9_isa.specs.Transfers.{transfer_of}
 use Rattle.i9_model.specs.declared.need.Facts.{Facts}
 use Rattle.i9_model.specs.declared.need.Need.{Need}
 
@@ -19,35 +22,36 @@ use Rattle.i9_model.specs.declared.need.Need.{Need}
 
 -- a load or a store; lda is none
 abbrev pub is_request_name : Op → Bool
-is_request_name Ldob = true
-is_request_name Ldib = true
-is_request_name Ldos = true
-is_request_name Ldis = true
-is_request_name Ld = true
-is_request_name Ldl = true
-is_request_name Ldt = true
-is_request_name Ldq = true
-is_request_name Stob = true
-is_request_name Stib = true
-is_request_name Stos = true
-is_request_name Stis = true
-is_request_name St = true
-is_request_name Stl = true
-is_request_name Stt = true
-is_request_name Stq = true
-is_request_name _ = false
+is_request_name op = is_some (transfer_of op)
+
+-- to memory
+abbrev pub is_outward : Direction → Bool
+is_outward Direction.Load = false
+is_outward Direction.Store = true
+
+abbrev pub is_stored : Option Transfer → Bool
+is_stored None = false
+is_stored (Some t) = is_outward t.direction
 
 -- a store
 abbrev pub is_store_name : Op → Bool
-is_store_name Stob = true
-is_store_name Stib = true
-is_store_name Stos = true
-is_store_name Stis = true
-is_store_name St = true
-is_store_name Stl = true
-is_store_name Stt = true
-is_store_name Stq = true
-is_store_name _ = false
+is_store_name op = is_stored (transfer_of op)
+
+-- an atomic, a load or a store: these access memory, and wait for it
+abbrev pub has_access : Op → Bool
+has_access Atadd = true
+has_access Atmod = true
+has_access op = is_request_name op
+
+-- a call spills a frame, a return refills one, and a flush writes all that are held
+abbrev pub moves_frames : Op → Bool
+moves_frames Call = true
+moves_frames Callx = true
+moves_frames Calls = true
+moves_frames Ret = true
+moves_frames Flushreg = true
+moves_frames Sysctl = true
+moves_frames _ = false
 
 -- it multiplies or divides
 abbrev pub is_slow_name : Op → Bool
@@ -79,18 +83,10 @@ is_barrier_name Sysctl = true
 is_barrier_name Sdma = true
 is_barrier_name _ = false
 
--- the turns of an instruction that does not fault but by its result, with its waits and frames
+-- the turns of an instruction that does not fault but by its result: those of its name, its waits, and 16 for each
+-- frame
 abbrev pub cost_by : Op → ℕ → ℕ → ℕ
-cost_by Call waits frames = 4 + 16 * frames
-cost_by Callx waits frames = 4 + 16 * frames
-cost_by Calls waits frames = 4 + 16 * frames
-cost_by Ret waits frames = 4 + 16 * frames
-cost_by Flushreg waits frames = 1 + 16 * frames
-cost_by Sysctl waits frames = 8 + 16 * frames
-cost_by Sdma waits frames = 8
-cost_by Atadd waits frames = 2 + waits
-cost_by Atmod waits frames = 2 + waits
-cost_by op waits frames = if is_request_name op then 1 + waits else latency_of op
+cost_by op waits frames = latency_of op + (if has_access op then waits else 0) + 16 * (if moves_frames op then frames else 0)
 
 -- the operand is a special function register, and words are written to it
 abbrev pub is_written_sfr : Operand → ℕ → Bool

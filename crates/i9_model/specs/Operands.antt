@@ -1,12 +1,12 @@
 -- Operands: the value of a source, the register of a destination, the effective address, and the target of a branch.
-use Rattle.std.specs.Prelude.{ℕ, ◌+◌, ◌^◌, ◌==◌, if◌then◌else◌, List, map, ℤ, pos, unsigned_abs}
+use Rattle.std.specs.Prelude.{ℕ, ◌+◌, ◌^◌, ◌==◌, if◌then◌else◌, List, [], map, ℤ, pos, unsigned_abs}
 use Rattle.std.specs.List.{range_with_len}
 use Rattle.std.specs.Int.{int_rem_euclid, w32, cast_unsigned}
 use Rattle.i9_isa.specs.declared.inst.Operand.{Operand}
 use Rattle.i9_isa.specs.declared.inst.Operand.TheVariants.{Reg, Lit, Sfr}
 use Rattle.i9_isa.specs.declared.inst.Ea.{Ea}
 use Rattle.i9_isa.specs.declared.inst.Inst.{Inst}
-use Rattle.i9_model.specs.Writes.{wrapped}
+use Rattle.i9_model.specs.Writes.{wrapped, pairs_at}
 use Rattle.i9_model.specs.Addresses.{address_of}
 use Rattle.i9_model.specs.State.{State}
 
@@ -16,21 +16,25 @@ value s (Reg r) = s.regs r
 value s (Lit n) = n
 value s (Sfr k) = 0
 
--- a word of a source of several: registers from the first one up, or the literal and then zeros
+-- a further word of a source of several: that of a higher register, else 0
+abbrev pub higher_word : State → Operand → ℕ → ℕ
+higher_word s (Reg r) k = s.regs (r + k)
+higher_word s (Lit n) k = 0
+higher_word s (Sfr j) k = 0
+
+-- a word of a source of several
 abbrev pub word_of : State → Operand → ℕ → ℕ
-word_of s (Reg r) k = s.regs (r + k)
-word_of s (Lit n) k = if k == 0 then n else 0
-word_of s (Sfr j) k = 0
+word_of s o k = if k == 0 then value s o else higher_word s o k
 
 -- so many words of a source
 abbrev pub source_words : State → Operand → ℕ → List ℕ
 source_words s o n = map (word_of s o) (range_with_len 0 n)
 
--- the register of a destination
-abbrev pub number_of : Operand → ℕ
-number_of (Reg r) = r
-number_of (Lit n) = 0
-number_of (Sfr k) = 0
+-- what a destination gets: registers from one up; special function registers are not built
+abbrev pub assigned : Operand → List ℕ → List (ℕ × ℕ)
+assigned (Reg r) vs = pairs_at (λ k. k) r vs
+assigned (Lit n) vs = []
+assigned (Sfr k) vs = []
 
 -- the effective address
 abbrev pub address : State → Ea → ℕ

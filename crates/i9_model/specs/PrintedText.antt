@@ -10,16 +10,16 @@ use Rattle.i9_model.specs.Memory.{console_byte}
 use Rattle.i9_model.specs.Events.{journal_text}
 use Rattle.i9_model.specs.ScheduleText.{timed_at}
 use Rattle.i9_model.specs.State.{State}
-use Rattle.i9_model.specs.Step.{Action, Drained, AtFlush, AtSync, AtFault, AtEnd}
-use Rattle.i9_model.specs.Run.{Finish, Exit, Limit, Hazard, Dead, Unbuilt, Record, action_by_kind, writes_in, state_after}
+use Rattle.i9_model.specs.Run.{Given, Point, End, Exit, Limit, Hazard, Dead, Unbuilt, Record, point_of, action_done, state_after}
+use Rattle.i9_model.specs.declared.run.Point.TheVariants as points
 
 -- a printed line; a drained point has three
 pub data Shown : Type 0 where
   Out : (byte : ℕ) → Shown
-  Point : (kind : Drained) → (view : View) → Shown
+  Drained : (kind : Point) → (view : View) → Shown
   Journal : (count : ℕ) → (event : Event) → Shown
   Bytes : (address : ℕ) → (list : List (Option ℕ)) → Shown
-  End : (finish : Finish) → Shown
+  Last : (end : End) → Shown
 
 -- the 32 registers in order
 unfoldable pub register_list : (ℕ → ℕ) → List ℕ
@@ -35,25 +35,25 @@ out_lines None = []
 out_lines (Some b) = Out b ∷ []
 
 -- a drained point, from the state there
-abbrev pub point_lines : Option Drained → State → List Shown
+abbrev pub point_lines : Option Point → State → List Shown
 point_lines None s = []
-point_lines (Some kind) s = Point kind (view_of s) ∷ []
+point_lines (Some kind) s = Drained kind (view_of s) ∷ []
 
--- the lines of an action, from the state after it: a console byte, and a drained point
-abbrev pub action_lines : Action → State → List Shown
-action_lines a s = out_lines (console_byte (writes_in a)) ++ point_lines a.point s
+-- the lines of a record: a console byte, and a drained point
+abbrev pub record_lines : Record → List Shown
+record_lines r = out_lines (console_byte (action_done r).writes) ++ point_lines (point_of r.kind) r.after
 
 -- the end of a run: its drained point, and how it ended
-abbrev pub last_lines : View → Finish → List Shown
-last_lines v f = Point AtEnd v ∷ End f ∷ []
+abbrev pub last_lines : View → End → List Shown
+last_lines v f = Drained points.End v ∷ Last f ∷ []
 
-abbrev pub end_lines : State → Finish → List Shown
+abbrev pub end_lines : State → End → List Shown
 end_lines s f = last_lines (view_of s) f
 
 -- the lines of records, newest first
-abbrev pub lines_of : List (ℕ × ℕ) → List Record → List Shown
-lines_of image [] = []
-lines_of image (r ∷ rs) = lines_of image rs ++ action_lines (action_by_kind r.kind (state_after image rs)) r.after
+abbrev pub lines_of : List Record → List Shown
+lines_of [] = []
+lines_of (r ∷ rs) = lines_of rs ++ record_lines r
 
 -- ---- the bytes of a line
 
@@ -71,25 +71,25 @@ spaced w = 32 ∷ word_text w
 unfoldable pub words_text : List ℕ → List ℕ → List ℕ
 words_text label ws = label ++ flat_map spaced ws ++ line_feed
 
-abbrev pub drained_text : Drained → List ℕ
-drained_text AtFlush = codes "flush"
-drained_text AtSync = codes "sync"
-drained_text AtFault = codes "fault"
-drained_text AtEnd = codes "end"
+abbrev pub drained_text : Point → List ℕ
+drained_text points.Flush = codes "flush"
+drained_text points.Sync = codes "sync"
+drained_text points.Fault = codes "fault"
+drained_text points.End = codes "end"
 
 -- the count and kind of a drained point, and its address, AC and PC
-unfoldable pub point_text : Drained → View → List ℕ
+unfoldable pub point_text : Point → View → List ℕ
 point_text k v = words_text (codes "#point " ++ decimal v.count ++ codes " " ++ drained_text k) (v.ip ∷ v.ac ∷ v.pc ∷ [])
 
-unfoldable pub finish_text : Finish → List ℕ
-finish_text (Exit w) = words_text (codes "#end exit") (w ∷ [])
-finish_text Limit = codes "#end limit" ++ line_feed
-finish_text (Hazard a) = words_text (codes "#end hazard") (a ∷ [])
-finish_text (Dead code a) = words_text (codes "#end dead " ++ decimal code) (a ∷ [])
-finish_text (Unbuilt a) = words_text (codes "#end unbuilt") (a ∷ [])
+unfoldable pub end_text : End → List ℕ
+end_text (Exit w) = words_text (codes "#end exit") (w ∷ [])
+end_text Limit = codes "#end limit" ++ line_feed
+end_text (Hazard a) = words_text (codes "#end hazard") (a ∷ [])
+end_text (Dead code a) = words_text (codes "#end dead " ++ decimal code) (a ∷ [])
+end_text (Unbuilt a) = words_text (codes "#end unbuilt") (a ∷ [])
 
 -- a drained point, with its global and its local registers
-abbrev pub point_shown : Drained → View → List ℕ
+abbrev pub point_shown : Point → View → List ℕ
 point_shown k v = point_text k v ++ (words_text (codes "#g") (drop 16 v.regs) ++ words_text (codes "#l") (take 16 v.regs))
 
 -- an event that was reached after so many instructions
@@ -107,10 +107,10 @@ bytes_text a bs = codes "#mem" ++ spaced a ++ flat_map spaced_byte bs ++ line_fe
 
 abbrev pub shown_text : Shown → List ℕ
 shown_text (Out b) = out_text b
-shown_text (Point k v) = point_shown k v
+shown_text (Drained k v) = point_shown k v
 shown_text (Journal k e) = event_text k e
 shown_text (Bytes a bs) = bytes_text a bs
-shown_text (End f) = finish_text f
+shown_text (Last f) = end_text f
 
 abbrev pub text_of : List Shown → List ℕ
 text_of ls = flat_map shown_text ls
@@ -120,18 +120,18 @@ abbrev pub events_of : List Shown → List Timed
 events_of [] = []
 events_of (Journal k e ∷ ls) = timed_at k e ∷ events_of ls
 events_of (Out b ∷ ls) = events_of ls
-events_of (Point k v ∷ ls) = events_of ls
+events_of (Drained k v ∷ ls) = events_of ls
 events_of (Bytes a bs ∷ ls) = events_of ls
-events_of (End f ∷ ls) = events_of ls
+events_of (Last f ∷ ls) = events_of ls
 
 -- the text of a whole run
-abbrev pub run_text : List (ℕ × ℕ) → List Record → Finish → List ℕ
-run_text image rs f = text_of (lines_of image rs ++ end_lines (state_after image rs) f)
+abbrev pub run_text : Given → List Record → End → List ℕ
+run_text g rs f = text_of (lines_of rs ++ end_lines (state_after g rs) f)
 
 -- the status of the command for the end of a run
-abbrev pub finish_code : Finish → ℕ
-finish_code (Exit w) = 0
-finish_code Limit = 0
-finish_code (Hazard a) = 4
-finish_code (Dead code a) = 4
-finish_code (Unbuilt a) = 4
+abbrev pub end_code : End → ℕ
+end_code (Exit w) = 0
+end_code Limit = 0
+end_code (Hazard a) = 4
+end_code (Dead code a) = 4
+end_code (Unbuilt a) = 4

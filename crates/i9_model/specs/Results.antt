@@ -1,6 +1,6 @@
--- Results of instructions over registers: the words for the destination, the arithmetic controls afterwards, and perhaps a
--- fault. The table is that of the i960 CA/CF User's Manual, instruction set; what is this project's own is said beside it.
--- Numbers are whole numbers without bound, reduced at the end.
+-- Results of instructions over registers: the words for the destination, the arithmetic controls afterwards, and
+-- perhaps a fault. The table is that of the i960 CA/CF User's Manual, instruction set; what is this project's own is
+-- said beside it. Numbers are whole numbers without bound, reduced at the end.
 use Rattle.std.specs.Prelude.{ℕ, ◌+◌, ◌*◌, ◌/◌, ◌%◌, ◌^◌, ◌==◌, nat_lt, nat_le, Option, Some, None, bit_and, bit_or, bit_xor, Bool, true, false, not, ◌||◌, List, [], ◌∷◌, slice_index, if◌then◌else◌, ℤ, pos, ◌+ℤ◌, ◌-ℤ◌, ◌*ℤ◌, int_lt}
 use Rattle.std.specs.Int.{from_bool}
 use Rattle.std.specs.Int.RustNames.{int_div, int_rem}
@@ -192,7 +192,8 @@ result_of Testle a b c ac = Some (tested 6 ac)
 result_of Testo a b c ac = Some (tested 7 ac)
 result_of _ a b c ac = None
 
--- each name, of the words of src1 and src2, the old src/dst and the arithmetic controls; None where it has no result here
+-- each name, of the words of src1 and src2, the old src/dst and the arithmetic controls; None where it has no result
+-- here
 abbrev pub results_by : Op → List ℕ → List ℕ → ℕ → ℕ → Option Answer
 results_by Movl a b c ac = Some (words (slice_index a 0 ∷ slice_index a 1 ∷ []) ac)
 results_by Movt a b c ac = Some (words (slice_index a 0 ∷ slice_index a 1 ∷ slice_index a 2 ∷ []) ac)

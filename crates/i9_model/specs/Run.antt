@@ -1,7 +1,10 @@
 -- A run as the list of its records, newest first.
 use Rattle.std.specs.Prelude.{◌≡◌, ℕ, ◌==◌, if◌then◌else◌, Option, Some, None, List, [], ◌∷◌, Result, Ok, Err}
 use Rattle.std.specs.Option.{option_map}
+use Rattle.i9_isa.specs.declared.op.Op.{Op}
+use Rattle.i9_isa.specs.declared.op.Op.TheVariants.{Flushreg, Syncf}
 use Rattle.i9_isa.specs.declared.inst.Inst.{Inst}
+use Rattle.i9_isa.specs.Words.{words_of}
 use Rattle.i9_model.specs.declared.layout.TheConstants.{FP, SP}
 use Rattle.i9_model.specs.declared.faults.Fault.{Fault}
 use Rattle.i9_model.specs.declared.faults.Entry.{Entry}
@@ -9,96 +12,109 @@ use Rattle.i9_model.specs.declared.faults.FaultStop.{FaultStop}
 use Rattle.i9_model.specs.declared.faults.FaultStop.TheVariants as stops
 use Rattle.i9_model.specs.Memory.{exit_word}
 use Rattle.i9_model.specs.State.{State, boot}
-use Rattle.i9_model.specs.Writes.{upwards}
-use Rattle.i9_model.specs.Step.{Action, faulting, entering, action_of, acted}
-use Rattle.i9_model.specs.Access.{hazard_of, fetch_hazard}
-use Rattle.i9_model.specs.Fetched.{Fetched, NotBuilt, Faults, Runs, fetched}
+use Rattle.i9_model.specs.Step.{Action, faulting, entering, action_of, acted, counted}
+use Rattle.i9_model.specs.Standing.{Standing, Meets, NotBuilt, Refused, Faults, Runs, stands_at}
 use Rattle.i9_model.specs.Faults.{planned_fault}
+pub use Rattle.i9_model.specs.Given.{Given}
+pub use Rattle.i9_model.specs.declared.run.End.{End}
+pub use Rattle.i9_model.specs.declared.run.End.TheVariants.{Exit, Limit, Hazard, Dead, Unbuilt}
+pub use Rattle.i9_model.specs.declared.run.Point.{Point}
+pub use Rattle.i9_model.specs.declared.run.Due.{Due}
+use Rattle.i9_model.specs.declared.run.Point.TheVariants as points
+use Rattle.i9_model.specs.declared.run.Due.TheVariants as dues
 
--- how a run ends: with a word that the program wrote, at its length, at a hazard, at a dead entry of the fault table, or
--- before what isn't built
-pub data Finish : Type 0 where
-  Exit : (word : ℕ) → Finish
-  Limit : Finish
-  Hazard : (address : ℕ) → Finish
-  Dead : (code : ℕ) → (address : ℕ) → Finish
-  Unbuilt : (address : ℕ) → Finish
-
--- what was done: an instruction, one that faulted, of so many words, or the entry of the fault
+-- what was done: an instruction; one that faulted, where its word is not refused, with its fault; or the entry of
+-- the fault
 pub data Kind : Type 0 where
   Instruction : (inst : Inst) → Kind
-  Faulted : (words : ℕ) → (fault : Fault) → Kind
+  Faulted : (inst : Option Inst) → (fault : Fault) → Kind
   Entered : (entry : Entry) → Kind
 
--- what was done, and the state after it
+-- what was done, and the states before and after it
 pub record Record : Type 0 where
   pub kind : Kind
+  pub before : State
   pub after : State
 
 pub data Next : Type 0 where
   Does : Record → Next
-  Ends : Finish → Next
+  Ends : End → Next
 
--- what a record did, from the state before it
+-- ---- by the kind of a record
+
+-- a word that is refused counts as one
+abbrev pub faulted_words : Option Inst → ℕ
+faulted_words None = 1
+faulted_words (Some i) = words_of i
+
+-- what it does, from the state before it
 abbrev pub action_by_kind : Kind → State → Action
 action_by_kind (Instruction i) s = action_of i s
-action_by_kind (Faulted words fault) s = faulting words s
+action_by_kind (Faulted inst fault) s = faulting (faulted_words inst) s
 action_by_kind (Entered e) s = entering e s
+
+-- how many instructions it counts: the entry of a fault is none
+abbrev pub counts_of : Kind → ℕ
+counts_of (Instruction i) = 1
+counts_of (Faulted inst fault) = 1
+counts_of (Entered e) = 0
+
+abbrev pub point_by_name : Op → Option Point
+point_by_name Flushreg = Some points.Flush
+point_by_name Syncf = Some points.Sync
+point_by_name _ = None
+
+-- the drained point behind it
+abbrev pub point_of : Kind → Option Point
+point_of (Instruction i) = point_by_name i.op
+point_of (Faulted inst fault) = None
+point_of (Entered e) = Some points.Fault
+
+-- the state after it, from the one before
+abbrev pub after_kind : Kind → State → State
+after_kind k s = counted (counts_of k) (acted s (action_by_kind k s))
 
 -- the record of something that is done in a state
 abbrev pub record_of : Kind → State → Record
-record_of k s = record { kind = k; after = acted s (action_by_kind k s) }
+record_of k s = record { kind = k; before = s; after = after_kind k s }
 
--- the bytes that an action writes, with their addresses
-abbrev pub writes_in : Action → List (ℕ × ℕ)
-writes_in a = upwards a.at a.bytes
+-- what a record did
+abbrev pub action_done : Record → Action
+action_done r = action_by_kind r.kind r.before
 
--- the state after the records
-abbrev pub state_after : List (ℕ × ℕ) → List Record → State
-state_after image [] = boot image
-state_after image (r ∷ rs) = r.after
+-- ---- what is due
 
 -- the exit that an action brings in a state
-abbrev pub exit_in : State → Action → Option Finish
-exit_in s a = option_map Exit (exit_word s.memory (writes_in a))
+abbrev pub exit_in : State → Action → Option End
+exit_in s a = option_map Exit (exit_word s.memory a.writes)
 
 -- what comes after a record whatever the length: nothing, an end, or the entry of its fault
-pub data Due : Type 0 where
-  NothingDue : Due
-  EndDue : Finish → Due
-  EntryDue : Fault → Due
-
-abbrev pub end_due : Option Finish → Due
-end_due None = NothingDue
-end_due (Some f) = EndDue f
+abbrev pub end_due : Option End → Due
+end_due None = dues.Nothing
+end_due (Some f) = dues.End f
 
 abbrev pub due_by : Kind → State → Due
 due_by (Instruction i) s = end_due (exit_in s (action_of i s))
-due_by (Faulted words fault) s = EntryDue fault
-due_by (Entered e) s = NothingDue
+due_by (Faulted inst fault) s = dues.Entry fault
+due_by (Entered e) s = dues.Nothing
 
-abbrev pub due_after : List (ℕ × ℕ) → List Record → Due
-due_after image [] = NothingDue
-due_after image (r ∷ rs) = due_by r.kind (state_after image rs)
+abbrev pub due_after : List Record → Due
+due_after [] = dues.Nothing
+due_after (r ∷ rs) = due_by r.kind r.before
 
--- an instruction is done, unless its access meets a hazard
-abbrev pub next_by_access : State → Inst → Option ℕ → Next
-next_by_access s i (Some a) = Ends (Hazard a)
-next_by_access s i None = Does (record_of (Instruction i) s)
+-- ---- what comes next
 
 -- the fault of the instruction at the instruction address
 abbrev pub fault_at : State → ℕ × ℕ → Fault
 fault_at s number = record { kind = number.0; subtype = number.1; address = s.ip }
 
-abbrev pub next_by_word : State → Fetched → Next
-next_by_word s NotBuilt = Ends (Unbuilt s.ip)
-next_by_word s (Faults words number) = Does (record_of (Faulted words (fault_at s number)) s)
-next_by_word s (Runs i) = next_by_access s i (hazard_of i s)
-
--- the words of an instruction are fetched, unless that meets a hazard
-abbrev pub next_by_fetch : State → Option ℕ → Next
-next_by_fetch s (Some a) = Ends (Hazard a)
-next_by_fetch s None = next_by_word s (fetched s)
+-- an instruction is done or faults, unless a hazard is met
+abbrev pub next_by_standing : State → Standing → Next
+next_by_standing s (Meets a) = Ends (Hazard a)
+next_by_standing s NotBuilt = Ends (Unbuilt s.ip)
+next_by_standing s (Refused number) = Does (record_of (Faulted None (fault_at s number)) s)
+next_by_standing s (Faults i number) = Does (record_of (Faulted (Some i) (fault_at s number)) s)
+next_by_standing s (Runs i) = Does (record_of (Instruction i) s)
 
 -- a fault is entered, unless that meets a hazard or a dead entry
 abbrev pub next_by_entry : State → Result Entry FaultStop → Next
@@ -110,22 +126,29 @@ next_by_entry s (Err (stops.Dead code a)) = Ends (Dead code a)
 unfoldable pub entry_in : State → Fault → Result Entry FaultStop
 entry_in s fault = planned_fault s.memory s.frames s.tables.fault_table s.tables.system_table fault s.pc s.ac (s.regs FP) (s.regs SP)
 
--- what comes next in a state: what is due, the end of the length, or one instruction
+-- what comes next in a state, at a length: what is due, the end of the length, or one instruction
 abbrev pub next_in : ℕ → Due → State → Next
-next_in limit (EndDue f) s = Ends f
-next_in limit (EntryDue fault) s = next_by_entry s (entry_in s fault)
-next_in limit NothingDue s = if s.count == limit then Ends Limit else next_by_fetch s (fetch_hazard s)
+next_in limit (dues.End f) s = Ends f
+next_in limit (dues.Entry fault) s = next_by_entry s (entry_in s fault)
+next_in limit dues.Nothing s = if s.count == limit then Ends Limit else next_by_standing s (stands_at s)
+
+-- ---- runs of what is given
+
+-- the state after the records
+abbrev pub state_after : Given → List Record → State
+state_after g [] = boot g.image
+state_after g (r ∷ rs) = r.after
 
 -- what comes after the records
-abbrev pub next : List (ℕ × ℕ) → ℕ → List Record → Next
-next image limit rs = next_in limit (due_after image rs) (state_after image rs)
+abbrev pub next : Given → List Record → Next
+next g rs = next_in g.length (due_after rs) (state_after g rs)
 
--- these are the first records of the run of an image and a length
-abbrev pub IsPast : List (ℕ × ℕ) → ℕ → List Record → Type 0
-IsPast image limit [] = Unit {0}
-IsPast image limit (r ∷ rs) = IsPast image limit rs × (next image limit rs ≡ Does r)
+-- these are the first records of the run
+abbrev pub IsPast : Given → List Record → Type 0
+IsPast g [] = Unit {0}
+IsPast g (r ∷ rs) = IsPast g rs × (next g rs ≡ Does r)
 
 -- these are the records of the run, and this is its end
-pub record IsRun (image : List (ℕ × ℕ)) (limit : ℕ) (rs : List Record) (end : Finish) : Type 0 where
-  pub past : IsPast image limit rs
-  pub ends : next image limit rs ≡ Ends end
+pub record IsRun (g : Given) (rs : List Record) (end : End) : Type 0 where
+  pub past : IsPast g rs
+  pub ends : next g rs ≡ Ends end

@@ -9,7 +9,8 @@ pub use Rattle.i9_model.specs.Writes.{aligned}
 use Rattle.i9_model.specs.Memory.{Memory, stored}
 use Rattle.i9_model.specs.Boot.{tables_of, boot_setup, boot_memory}
 
--- bytes that only the save of a frame wrote, and the save addresses of the frames that may be returned to, youngest first
+-- bytes that only the save of a frame wrote, and the save addresses of the frames that may be returned to, youngest
+-- first
 pub record Frames : Type 0 where
   pub soft : ℕ → Bool
   pub live : List ℕ

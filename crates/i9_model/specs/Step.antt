@@ -1,26 +1,33 @@
 -- One instruction in a state: what it does is data, and one function applies it.
-use Rattle.std.specs.Prelude.{ℕ, ◌+◌, ◌-◌, ◌*◌, ◌/◌, nat_lt, ◌%◌, ◌^◌, ◌==◌, if◌then◌else◌, bit_and, bit_or, List, [], ◌∷◌, ◌++◌, length, map, replicate, Option, Some, None}
+use Rattle.std.specs.Prelude.{ℕ, ◌+◌, ◌-◌, ◌*◌, ◌/◌, nat_lt, ◌%◌, ◌^◌, ◌==◌, Bool, if◌then◌else◌, bit_and, bit_or, List, [], ◌∷◌, ◌++◌, map, replicate, Option, Some, None}
 use Rattle.std.specs.List.{range_with_len}
 use Rattle.i9_isa.specs.declared.op.Op.{Op}
-use Rattle.i9_isa.specs.declared.op.Op.TheVariants.{Lda, Ldob, Ldib, Ldos, Ldis, Ld, Ldl, Ldt, Ldq, Stob, Stib, Stos, Stis, St, Stl, Stt, Stq, Atadd, Atmod, Bx, Balx, Bal, Call, Callx, Calls, Ret, Flushreg, Syncf, Modac, Modtc, Modpc, Sysctl}
+use Rattle.i9_isa.specs.declared.op.Op.TheVariants.{Lda, Atadd, Atmod, Bx, Balx, Bal, Call, Callx, Calls, Ret, Flushreg, Modac, Modtc, Modpc, Sysctl}
+use Rattle.i9_isa.specs.declared.size.Transfer.{Transfer}
+use Rattle.i9_isa.specs.declared.size.Direction.{Direction}
+use Rattle.i9_isa.specs.declared.size.Direction.TheVariants.{Load, Store}
+use Rattle.i9_isa.specs.declared.size.Size.{Size}
+use Rattle.i9_isa.specs.declared.size.Size.TheVariants.{Byte, Half, Words}
 use Rattle.i9_isa.specs.declared.inst.Operand.{Operand}
+use Rattle.i9_isa.specs.declared.inst.Operand.TheVariants.{Reg}
 use Rattle.i9_isa.specs.declared.inst.Inst.{Inst}
 use Rattle.i9_isa.specs.Operands.{words_written}
 use Rattle.i9_isa.specs.Table.{row_of}
+use Rattle.i9_isa.specs.Transfers.{transfer_of}
 use Rattle.i9_isa.specs.Words.{words_of}
 use Rattle.i9_model.specs.declared.layout.TheConstants.{LOCALS, PFP, SP, RIP, LINK, FP, LOCAL_RETURN, AC_MASK, PC_MASK, TC_MASK}
 use Rattle.i9_model.specs.declared.push.Push.{Push}
 use Rattle.i9_model.specs.declared.calls.Sys.{Sys}
 use Rattle.i9_model.specs.declared.calls.Pop.{Pop}
 use Rattle.i9_model.specs.declared.faults.Entry.{Entry}
-use Rattle.i9_model.specs.Writes.{wrapped, written, pairs_at}
-use Rattle.i9_model.specs.Memory.{Memory, half_in, half_bytes, word_in, word_bytes, words_in, with_bytes, with_words}
-use Rattle.i9_model.specs.State.{State, Frames, aligned}
+use Rattle.i9_model.specs.Writes.{wrapped, written, upwards}
+use Rattle.i9_model.specs.Memory.{Memory, half_in, half_bytes, word_in, word_bytes, words_in, with_writes, with_words}
+use Rattle.i9_model.specs.State.{State, Frames, Interrupts, Dma, aligned}
 pub use Rattle.i9_model.specs.State.{frame_sets}
 use Rattle.i9_model.specs.Controls.{Control, KeepsControls, Restarts, LoadsGroup, controlled}
 use Rattle.i9_model.specs.Frames.{pushed, saved, returned, flushed, wrote}
 use Rattle.i9_model.specs.Calls.{call_type, system_entered, record_address, popped}
-use Rattle.i9_model.specs.Operands.{value, source_words, number_of, address, target}
+use Rattle.i9_model.specs.Operands.{value, source_words, assigned, address, target}
 use Rattle.i9_model.specs.Numbers.{complement}
 use Rattle.i9_model.specs.Results.{Answer, results}
 use Rattle.i9_model.specs.Branches.{question_of, asks, branch_controls, is_taken}
@@ -34,96 +41,93 @@ pub data Move : Type 0 where
   Returns : Move
   Flushes : Move
 
--- the kinds of drained point: after flushreg, after syncf, after the entry of a fault, and at the end
-pub data Drained : Type 0 where
-  AtFlush : Drained
-  AtSync : Drained
-  AtFault : Drained
-  AtEnd : Drained
-
--- the registers that are set, the bytes that are stored from an address on, the frames, the arithmetic, process and trace
--- controls afterwards, the other controls, the drained point behind it, the next address, and how many instructions it counts
+-- the registers that are set; the bytes that are written; the frames; the arithmetic, process and trace controls,
+-- the check flag, interrupts and DMA afterwards; the other controls; and the next address
 pub record Action : Type 0 where
   pub sets : List (ℕ × ℕ)
-  pub at : ℕ
-  pub bytes : List ℕ
+  pub writes : List (ℕ × ℕ)
   pub move : Move
   pub ac : ℕ
   pub pc : ℕ
   pub tc : ℕ
+  pub check : Bool
+  pub interrupts : Interrupts
+  pub dma : Dma
   pub control : Control
-  pub point : Option Drained
   pub next : ℕ
-  pub counts : ℕ
 
 -- nothing is done, but control goes to an address
 abbrev pub going : State → ℕ → Action
 going s next = record {
   sets = [];
-  at = 0;
-  bytes = [];
+  writes = [];
   move = Stays;
   ac = s.ac;
   pc = s.pc;
   tc = s.trace.tc;
+  check = s.check;
+  interrupts = s.interrupts;
+  dma = s.dma;
   control = KeepsControls;
-  point = None;
   next = next;
-  counts = 1;
 }
 
 -- the address behind an instruction
 abbrev pub following : Inst → State → ℕ
 following i s = wrapped (s.ip + 4 * words_of i)
 
--- registers are set, and nothing else
-abbrev pub setting : Inst → State → List (ℕ × ℕ) → Action
-setting i s sets = record (going s (following i s)) { sets = sets }
+-- nothing is done
+abbrev pub passing : Inst → State → Action
+passing i s = going s (following i s)
+
+-- a destination gets values
+abbrev pub assigning : Operand → List ℕ → Action → Action
+assigning o vs a = record a { sets = assigned o vs }
+
+-- a destination gets one value, and nothing else is done
+abbrev pub answering : Inst → State → ℕ → Action
+answering i s v = assigning i.c (v ∷ []) (passing i s)
 
 -- ---- loads, stores and atomics
-
--- words go to registers from one up
-abbrev pub group_sets : ℕ → List ℕ → List (ℕ × ℕ)
-group_sets r vs = pairs_at (λ k. k) r vs
 
 -- a number of so many bits in two's complement, as a word
 abbrev pub extended : ℕ → ℕ → ℕ
 extended width v = if nat_lt v (2 ^ (width - 1)) then v else v + 2 ^ 32 - 2 ^ width
 
--- the words that a load reads: bytes and halves with zeros or the sign above, groups upwards
-abbrev pub loaded : Op → Memory → ℕ → List ℕ
-loaded Ldob m a = m.bytes a ∷ []
-loaded Ldib m a = extended 8 (m.bytes a) ∷ []
-loaded Ldos m a = half_in m a ∷ []
-loaded Ldis m a = extended 16 (half_in m a) ∷ []
-loaded Ld m a = words_in m a 1
-loaded Ldl m a = words_in m a 2
-loaded Ldt m a = words_in m a 3
-loaded Ldq m a = words_in m a 4
-loaded _ m a = []
+-- a byte or a half with zeros above, or with its sign
+abbrev pub filled : Bool → ℕ → ℕ → ℕ
+filled signed width v = if signed then extended width v else v
+
+-- the words that a load of a size reads, groups upwards
+abbrev pub loaded : Size → Bool → Memory → ℕ → List ℕ
+loaded Byte signed m a = filled signed 8 (m.bytes a) ∷ []
+loaded Half signed m a = filled signed 16 (half_in m a) ∷ []
+loaded (Words n) signed m a = words_in m a n
 
 -- the bytes of words that are stored from an address up, each in the order of its own region
 unfoldable pub bytes_of_words : Memory → ℕ → List ℕ → List ℕ
 bytes_of_words m a [] = []
 bytes_of_words m a (w ∷ ws) = word_bytes m a w ++ bytes_of_words m (wrapped (a + 4)) ws
 
--- the bytes that a store writes of its source: the low ones of a byte and of a half, groups upwards
-abbrev pub stored_of : Op → State → Operand → ℕ → List ℕ
-stored_of Stob s o a = value s o % 2 ^ 8 ∷ []
-stored_of Stib s o a = value s o % 2 ^ 8 ∷ []
-stored_of Stos s o a = half_bytes s.memory a (value s o % 2 ^ 16)
-stored_of Stis s o a = half_bytes s.memory a (value s o % 2 ^ 16)
-stored_of St s o a = bytes_of_words s.memory a (source_words s o 1)
-stored_of Stl s o a = bytes_of_words s.memory a (source_words s o 2)
-stored_of Stt s o a = bytes_of_words s.memory a (source_words s o 3)
-stored_of Stq s o a = bytes_of_words s.memory a (source_words s o 4)
-stored_of _ s o a = []
+-- the bytes that a store of a size writes of its source: the low ones of a byte and of a half, groups upwards
+abbrev pub stored_of : Size → State → Operand → ℕ → List ℕ
+stored_of Byte s o a = value s o % 2 ^ 8 ∷ []
+stored_of Half s o a = half_bytes s.memory a (value s o % 2 ^ 16)
+stored_of (Words n) s o a = bytes_of_words s.memory a (source_words s o n)
 
-abbrev pub loading : Op → Inst → State → Action
-loading op i s = setting i s (group_sets (number_of i.c) (loaded op s.memory (address s i.ea)))
+abbrev pub loading : Size → Bool → Inst → State → Action
+loading size signed i s = assigning i.c (loaded size signed s.memory (address s i.ea)) (passing i s)
 
-abbrev pub storing : Op → Inst → State → Action
-storing op i s = record (setting i s []) { at = address s i.ea; bytes = stored_of op s i.c (address s i.ea) }
+abbrev pub storing : Size → Inst → State → Action
+storing size i s = record (passing i s) { writes = upwards (address s i.ea) (stored_of size s i.c (address s i.ea)) }
+
+-- loads and stores go between registers and memory
+abbrev pub moving : Direction → Size → Bool → Inst → State → Action
+moving Load size signed i s = loading size signed i s
+moving Store size signed i s = storing size i s
+
+abbrev pub transferring : Transfer → Inst → State → Action
+transferring t i s = moving t.direction t.size t.signed i s
 
 -- an old word with other bits where a mask has them
 abbrev pub merged : ℕ → ℕ → ℕ → ℕ
@@ -138,20 +142,23 @@ abbrev pub atomic : Inst → State → (ℕ → ℕ) → Action
 atomic i s change =
     let a = atomic_address i s in
     let old = word_in s.memory a in
-    record (setting i s ((number_of i.c, old) ∷ [])) { at = a; bytes = word_bytes s.memory a (change old) }
+    record (answering i s old) { writes = upwards a (word_bytes s.memory a (change old)) }
 
 -- ---- branches
 
 -- the condition code changes, and control goes to the target where the branch is taken
 abbrev pub branching : Inst → State → Action
-branching i s = record (setting i s []) {
+branching i s = record (passing i s) {
   ac = branch_controls i (value s i.a) (value s i.b) s.ac;
   next = if is_taken i (value s i.a) (value s i.b) s.ac then aligned (target i s) else following i s;
 }
 
--- control goes to an address, and a register gets the address behind the instruction
-abbrev pub linking : Inst → State → List (ℕ × ℕ) → ℕ → Action
-linking i s sets to = record (setting i s sets) { next = aligned to }
+-- control goes to an address, and a destination gets the address behind the instruction
+abbrev pub jumping : Inst → State → ℕ → Action
+jumping i s to = going s (aligned to)
+
+abbrev pub linking : Operand → Inst → State → ℕ → Action
+linking o i s to = assigning o (following i s ∷ []) (jumping i s to)
 
 -- ---- results
 
@@ -172,8 +179,8 @@ controls_of None ac = ac
 controls_of (Some r) ac = r.controls
 
 -- a result goes to the destination, and the arithmetic controls change with it
-abbrev pub answering : Inst → State → Option Answer → Action
-answering i s o = record (setting i s (group_sets (number_of (destination i)) (values_of o))) { ac = controls_of o s.ac }
+abbrev pub resulting : Inst → State → Option Answer → Action
+resulting i s o = record (assigning (destination i) (values_of o) (passing i s)) { ac = controls_of o s.ac }
 
 -- controls with other bits where a mask has them, of which some are kept
 abbrev pub modified : ℕ → ℕ → ℕ → ℕ → ℕ
@@ -181,17 +188,17 @@ modified old mask bits kept = bit_and (merged old mask bits) kept
 
 -- modac and modtc answer the old controls, and change them under the mask src1
 abbrev pub modac_action : Inst → State → Action
-modac_action i s = record (setting i s ((number_of i.c, s.ac) ∷ [])) { ac = modified s.ac (value s i.a) (value s i.b) AC_MASK }
+modac_action i s = record (answering i s s.ac) { ac = modified s.ac (value s i.a) (value s i.b) AC_MASK }
 
 abbrev pub modtc_action : Inst → State → Action
-modtc_action i s = record (setting i s ((number_of i.c, s.trace.tc) ∷ [])) { tc = modified s.trace.tc (value s i.a) (value s i.b) TC_MASK }
+modtc_action i s = record (answering i s s.trace.tc) { tc = modified s.trace.tc (value s i.a) (value s i.b) TC_MASK }
 
 -- modpc answers the old process controls, and changes them under the mask src2 to bits of src/dst
 abbrev pub process_controls : Inst → State → ℕ
 process_controls i s = modified s.pc (value s i.b) (value s i.c) PC_MASK
 
 abbrev pub modpc_action : Inst → State → Action
-modpc_action i s = record (setting i s ((number_of i.c, s.pc) ∷ [])) { pc = process_controls i s }
+modpc_action i s = record (answering i s s.pc) { pc = process_controls i s }
 
 -- ---- system control
 
@@ -202,8 +209,8 @@ message_of i s = value s i.a / 2 ^ 8 % 2 ^ 8
 abbrev pub argument_of : Inst → State → ℕ
 argument_of i s = value s i.a % 2 ^ 8
 
--- what a message asks of the controls: message 3 starts the processor anew at src2, by the PRCB at src/dst, and message 4
--- loads a control group
+-- what a message asks of the controls: message 3 starts the processor anew at src2, by the PRCB at src/dst, and
+-- message 4 loads a control group
 pub data Message : Type 0 where
   AsksNothing : Message
   AsksRestart : Message
@@ -214,9 +221,9 @@ message_kind n = if n == 3 then AsksRestart else if n == 4 then AsksGroup else A
 
 -- both flush first
 abbrev pub message_action : Message → Inst → State → Action
-message_action AsksNothing i s = setting i s []
-message_action AsksRestart i s = record (setting i s []) { move = Flushes; control = Restarts (value s i.b) (value s i.c) }
-message_action AsksGroup i s = record (setting i s []) { move = Flushes; control = LoadsGroup (argument_of i s) }
+message_action AsksNothing i s = passing i s
+message_action AsksRestart i s = record (passing i s) { move = Flushes; control = Restarts (value s i.b) (value s i.c) }
+message_action AsksGroup i s = record (passing i s) { move = Flushes; control = LoadsGroup (argument_of i s) }
 
 -- ---- calls and returns
 
@@ -270,58 +277,43 @@ faulting words s = going s (wrapped (s.ip + 4 * words))
 -- handler. It is no instruction of its own.
 abbrev pub entering : Entry → State → Action
 entering e s = record (pushing s e.push s.ip e.target) {
-  at = record_address e.push.frame;
-  bytes = bytes_of_words s.memory (record_address e.push.frame) e.words;
+  writes = upwards (record_address e.push.frame) (bytes_of_words s.memory (record_address e.push.frame) e.words);
   pc = e.pc;
-  point = Some AtFault;
-  counts = 0;
 }
 
 -- a branch, and every other name by the table of results
 abbrev pub other_action : Op → Inst → State → Action
-other_action op i s = if asks (question_of op) then branching i s else answering i s (answer_in i s)
+other_action op i s = if asks (question_of op) then branching i s else resulting i s (answer_in i s)
 
--- Each name that is built: lda sets its destination to the effective address; loads and stores go between registers and
--- memory; atadd and atmod answer the old word and store its sum with src2, or the bits of src/dst where src2 has them; bx,
--- balx and bal jump, and the last two link; flushreg flushes, and drains as syncf does; sysctl goes by its message; mark,
--- fmark and udma do nothing while trace enable is clear; the others branch or go by the table of results.
-abbrev pub action_by : Op → Inst → State → Action
-action_by Lda i s = setting i s ((number_of i.c, address s i.ea) ∷ [])
-action_by Ldob i s = loading Ldob i s
-action_by Ldib i s = loading Ldib i s
-action_by Ldos i s = loading Ldos i s
-action_by Ldis i s = loading Ldis i s
-action_by Ld i s = loading Ld i s
-action_by Ldl i s = loading Ldl i s
-action_by Ldt i s = loading Ldt i s
-action_by Ldq i s = loading Ldq i s
-action_by Stob i s = storing Stob i s
-action_by Stib i s = storing Stib i s
-action_by Stos i s = storing Stos i s
-action_by Stis i s = storing Stis i s
-action_by St i s = storing St i s
-action_by Stl i s = storing Stl i s
-action_by Stt i s = storing Stt i s
-action_by Stq i s = storing Stq i s
-action_by Atadd i s = atomic i s (λ old. wrapped (old + value s i.b))
-action_by Atmod i s = atomic i s (λ old. merged old (value s i.b) (value s i.c))
-action_by Bx i s = linking i s [] (address s i.ea)
-action_by Balx i s = linking i s ((number_of i.c, following i s) ∷ []) (address s i.ea)
-action_by Bal i s = linking i s ((LINK, following i s) ∷ []) (target i s)
-action_by Call i s = call_action i s (target i s)
-action_by Callx i s = call_action i s (address s i.ea)
-action_by Calls i s = calls_action i s
-action_by Ret i s = ret_action s
-action_by Flushreg i s = record (setting i s []) { move = Flushes; point = Some AtFlush }
-action_by Syncf i s = record (setting i s []) { point = Some AtSync }
-action_by Modac i s = modac_action i s
-action_by Modtc i s = modtc_action i s
-action_by Modpc i s = modpc_action i s
-action_by Sysctl i s = message_action (message_kind (message_of i s)) i s
-action_by op i s = other_action op i s
+-- Each name that is built and moves nothing between registers and memory: lda sets its destination to the effective
+-- address; atadd and atmod answer the old word and store its sum with src2, or the bits of src/dst where src2 has
+-- them; bx, balx and bal jump, and the last two link; flushreg flushes; sysctl goes by its message; syncf does
+-- nothing but drain, and mark, fmark and udma do nothing while trace enable is clear; the others branch or go by the
+-- table of results.
+abbrev pub action_by_name : Op → Inst → State → Action
+action_by_name Lda i s = answering i s (address s i.ea)
+action_by_name Atadd i s = atomic i s (λ old. wrapped (old + value s i.b))
+action_by_name Atmod i s = atomic i s (λ old. merged old (value s i.b) (value s i.c))
+action_by_name Bx i s = jumping i s (address s i.ea)
+action_by_name Balx i s = linking i.c i s (address s i.ea)
+action_by_name Bal i s = linking (Reg LINK) i s (target i s)
+action_by_name Call i s = call_action i s (target i s)
+action_by_name Callx i s = call_action i s (address s i.ea)
+action_by_name Calls i s = calls_action i s
+action_by_name Ret i s = ret_action s
+action_by_name Flushreg i s = record (passing i s) { move = Flushes }
+action_by_name Modac i s = modac_action i s
+action_by_name Modtc i s = modtc_action i s
+action_by_name Modpc i s = modpc_action i s
+action_by_name Sysctl i s = message_action (message_kind (message_of i s)) i s
+action_by_name op i s = other_action op i s
+
+abbrev pub action_by : Option Transfer → Inst → State → Action
+action_by (Some t) i s = transferring t i s
+action_by None i s = action_by_name i.op i s
 
 unfoldable pub action_of : Inst → State → Action
-action_of i s = action_by i.op i s
+action_of i s = action_by (transfer_of i.op) i s
 
 -- ---- the state after it
 
@@ -337,21 +329,27 @@ frames_after s (Saves save words) = saved s save
 frames_after s Returns = returned s
 frames_after s Flushes = flushed s
 
--- all but the controls of start-up and of control groups
+-- all but the count, and the controls of start-up and of control groups
 unfoldable pub moved : State → Action → State
 moved s a = record s {
   regs = written s.regs a.sets;
   ac = a.ac;
   pc = a.pc;
   trace = record s.trace { tc = a.tc };
-  memory = with_bytes (memory_after s.memory a.move) a.at a.bytes;
-  frames = wrote (frames_after s.frames a.move) a.at (length a.bytes);
+  check = a.check;
+  interrupts = a.interrupts;
+  dma = a.dma;
+  memory = with_writes (memory_after s.memory a.move) a.writes;
+  frames = wrote (frames_after s.frames a.move) a.writes;
   ip = a.next;
-  count = s.count + a.counts;
 }
 
 unfoldable pub acted : State → Action → State
 acted s a = controlled (moved s a) a.control
+
+-- a state with so many instructions more
+abbrev pub counted : ℕ → State → State
+counted n s = record s { count = s.count + n }
 
 -- ---- its own words
 
@@ -360,7 +358,3 @@ first_word s = word_in s.memory s.ip
 
 abbrev pub next_word : State → ℕ
 next_word s = word_in s.memory (wrapped (s.ip + 4))
-
--- the second word, which counts as 0 where there is none
-abbrev pub second_word : Inst → State → ℕ
-second_word i s = if words_of i == 2 then next_word s else 0

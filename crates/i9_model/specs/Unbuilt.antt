@@ -6,7 +6,7 @@ use Rattle.i9_isa.specs.declared.inst.Operand.{Operand}
 use Rattle.i9_isa.specs.declared.inst.Operand.TheVariants.{Reg, Lit, Sfr}
 use Rattle.i9_isa.specs.declared.inst.Inst.{Inst}
 use Rattle.i9_isa.specs.Words.{bit}
-use Rattle.i9_model.specs.declared.layout.TheConstants.{PFP, INTERRUPT_RETURN}
+use Rattle.i9_model.specs.declared.layout.TheConstants.{PFP, INTERRUPT_RETURN, PRECISE_FAULTS_PLACE, TRACE_ENABLE_PLACE}
 use Rattle.i9_model.specs.State.{State}
 use Rattle.i9_model.specs.Calls.{in_supervisor_mode, return_type}
 use Rattle.i9_model.specs.Results.{Answer}
@@ -37,9 +37,9 @@ abbrev pub is_faulty : Option Answer → Bool
 is_faulty None = false
 is_faulty (Some r) = is_some r.fault
 
--- an arithmetic fault is built where bit 15 of AC says that it is precise
+-- an arithmetic fault is built where AC says that it is precise
 abbrev pub is_imprecise : Inst → State → Bool
-is_imprecise i s = is_faulty (answer_in i s) && not (bit s.ac 15)
+is_imprecise i s = is_faulty (answer_in i s) && not (bit s.ac PRECISE_FAULTS_PLACE)
 
 -- the priority is bits 16 to 20 of PC
 abbrev pub priority_of : ℕ → ℕ
@@ -54,10 +54,10 @@ is_unbuilt_control Modpc i s = is_unbuilt_modpc i s
 is_unbuilt_control Sysctl i s = message_of i s == 0
 is_unbuilt_control _ i s = false
 
--- trace enable is bit 0 of PC
+-- trace enable is set
 abbrev pub is_traced : State → Bool
-is_traced s = bit s.pc 0
+is_traced s = bit s.pc TRACE_ENABLE_PLACE
 
--- the instruction is built in this state
+-- the instruction is built in this state, but for the fault of its result
 unfoldable pub is_built : Inst → State → Bool
-is_built i s = is_built_form i && not (is_other_return i.op s) && not (is_imprecise i s) && not (is_unbuilt_control i.op i s)
+is_built i s = is_built_form i && not (is_other_return i.op s) && not (is_unbuilt_control i.op i s)

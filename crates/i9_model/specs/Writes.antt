@@ -19,6 +19,11 @@ pairs_at place n (v ∷ vs) = (place n, v) ∷ pairs_at place (n + 1) vs
 abbrev pub upwards : ℕ → List ℕ → List (ℕ × ℕ)
 upwards a vs = pairs_at wrapped a vs
 
+-- the places of writes
+abbrev pub places_of : List (ℕ × ℕ) → List ℕ
+places_of [] = []
+places_of (p ∷ ps) = p.0 ∷ places_of ps
+
 -- addresses of frames are multiples of 16
 abbrev pub rounded_down : ℕ → ℕ
 rounded_down a = a - a % 16

@@ -53,7 +53,7 @@ pub const SYSTEM_ENTRY: u32 = 0x0000_027F;
 
 /// The bits of the process controls that the entry of a fault clears: trace enable and trace fault
 /// pending.
-pub const TRACE_BITS: u32 = 0x0000_0401;
+pub const TRACE_MASK: u32 = 0x0000_0401;
 
 /// The code of a dead entry whose first word is of no kind.
 pub const NO_HANDLER: u8 = 1;

@@ -1,47 +1,44 @@
 //! Laws of the definitions, as the contracts of calls that do nothing.
 
-ghost use Rattle.std.specs.Prelude.{◌≡◌, ◌≢◌, ◌<◌, ◌≤◌, ◌++◌, List, ℕ, Option, [], None, Ok, length};
+ghost use Rattle.std.specs.Prelude.{◌≡◌, ◌≢◌, ◌≤◌, ◌++◌, List, ℕ, Option, None, Ok};
 ghost use Rattle.i9_model.specs.declared.calls.Sys.{Sys};
 ghost use Rattle.i9_model.specs.Memory.{Memory};
 ghost use Rattle.i9_model.specs.State.{State, Frames};
 ghost use Rattle.i9_model.specs.Frames.{no_frames, saved, returned, flushed, wrote};
-ghost use Rattle.i9_model.specs.Hazards.{write_hazard, save_hazard};
+ghost use Rattle.i9_model.specs.Hazards.{writes_hazard, save_hazard};
 ghost use Rattle.i9_model.specs.Calls.{planned_calls, Undoes};
 ghost use Rattle.i9_model.specs.Sound.{AreApart, IsSound};
-ghost use Rattle.i9_model.specs.Run.{Record, Finish, Limit, Due, next_in, IsRun, IsPast, state_after};
+ghost use Rattle.i9_model.specs.Run.{Given, Record, End, Limit, Due, next_in, IsRun, IsPast, state_after};
 ghost use Rattle.i9_model.specs.Overlay.{overlay};
 ghost use Rattle.i9_model.specs.Alike.{AreAlike, AreNextAlike};
-ghost use Rattle.i9_model.specs.HeldFrames.{sets_in, cache_after, IsCached, AreInMemory};
+ghost use Rattle.i9_model.specs.HeldFrames.{cache_after, IsCached, AreInMemory};
 ghost use Rattle.i9_model.specs.RunInSets.{IsRunInSets};
 ghost use Rattle.i9_model.specs.PrintedText.{text_of, lines_of, run_text, view_of};
 
 /// Every run ends, whatever was done so far; no run counts more instructions than its length; and
 /// what was printed so far is the front of the text of the whole run.
 pub fn every_run_ends()
-    ensures ends { (image : List (ℕ × ℕ)) (limit : ℕ) (rs : List Record) → IsPast image limit rs
-        → (later : List Record) × (end : Finish) × IsRun image limit (later ++ rs) end }
-    ensures within { (image : List (ℕ × ℕ)) (limit : ℕ) (rs : List Record) → IsPast image limit rs
-        → (state_after image rs).count ≤ limit }
-    ensures front { (image : List (ℕ × ℕ)) (limit : ℕ) (rs : List Record) → IsPast image limit rs
-        → (later : List Record) × (end : Finish) × (rest : List ℕ) × IsRun image limit (later ++ rs) end
-        × (text_of (lines_of image rs) ++ rest ≡ run_text image (later ++ rs) end) }
+    ensures ends { (g : Given) (rs : List Record) → IsPast g rs
+        → (later : List Record) × (end : End) × IsRun g (later ++ rs) end }
+    ensures within { (g : Given) (rs : List Record) → IsPast g rs → (state_after g rs).count ≤ g.length }
+    ensures front { (g : Given) (rs : List Record) → IsPast g rs
+        → (later : List Record) × (end : End) × (rest : List ℕ) × IsRun g (later ++ rs) end
+        × (text_of (lines_of rs) ++ rest ≡ run_text g (later ++ rs) end) }
 {}
 
-/// A run is the only one of its image and length.
+/// A run is the only one of what it is given.
 pub fn one_run()
-    ensures records { (image : List (ℕ × ℕ)) (limit : ℕ) (rs qs : List Record) (e f : Finish)
-        → IsRun image limit rs e → IsRun image limit qs f → rs ≡ qs }
-    ensures end { (image : List (ℕ × ℕ)) (limit : ℕ) (rs qs : List Record) (e f : Finish)
-        → IsRun image limit rs e → IsRun image limit qs f → e ≡ f }
+    ensures records { (g : Given) (rs qs : List Record) (e f : End) → IsRun g rs e → IsRun g qs f → rs ≡ qs }
+    ensures end { (g : Given) (rs qs : List Record) (e f : End) → IsRun g rs e → IsRun g qs f → e ≡ f }
 {}
 
-/// The length of a run cuts it and changes nothing before the cut: what is done at a length is done at every greater one,
-/// and a run that ends before its length is the run of every greater one.
+/// The length of a run cuts it and changes nothing before the cut: what is done at a length is done at every greater
+/// one, and a run that ends before its length is the run of every greater one.
 pub fn a_length_cuts_the_run()
-    ensures past { (image : List (ℕ × ℕ)) (limit more : ℕ) (rs : List Record) → limit ≤ more
-        → IsPast image limit rs → IsPast image more rs }
-    ensures run { (image : List (ℕ × ℕ)) (limit more : ℕ) (rs : List Record) (end : Finish) → limit ≤ more
-        → end ≢ Limit → IsRun image limit rs end → IsRun image more rs end }
+    ensures past { (g : Given) (more : ℕ) (rs : List Record) → g.length ≤ more
+        → IsPast g rs → IsPast (record g { length = more }) rs }
+    ensures run { (g : Given) (more : ℕ) (rs : List Record) (end : End) → g.length ≤ more
+        → end ≢ Limit → IsRun g rs end → IsRun (record g { length = more }) rs end }
 {}
 
 /// Live frames never overlap: no frame is live at first, and saves without a hazard, returns,
@@ -51,7 +48,7 @@ pub fn live_frames_never_overlap()
     ensures saved { (s : Frames) (a : ℕ) → AreApart s.live → save_hazard s a ≡ None → AreApart (saved s a).live }
     ensures returned { (s : Frames) → AreApart s.live → AreApart (returned s).live }
     ensures flushed { (s : Frames) → AreApart s.live → AreApart (flushed s).live }
-    ensures wrote { (s : Frames) (a n : ℕ) → AreApart s.live → AreApart (wrote s a n).live }
+    ensures wrote { (s : Frames) (ps : List (ℕ × ℕ)) → AreApart s.live → AreApart (wrote s ps).live }
 {}
 
 /// Frames stay sound, as they are at first, through saves and stores without a hazard, returns
@@ -62,8 +59,8 @@ pub fn frames_stay_sound()
     ensures saved { (s : Frames) (a : ℕ) → IsSound s → save_hazard s a ≡ None → IsSound (saved s a) }
     ensures returned { (s : Frames) → IsSound s → IsSound (returned s) }
     ensures flushed { (s : Frames) → IsSound s → IsSound (flushed s) }
-    ensures wrote { (s : Frames) (a n : ℕ) → IsSound s → write_hazard s a n ≡ None → IsSound (wrote s a n) }
-    ensures run { (image : List (ℕ × ℕ)) (limit : ℕ) (rs : List Record) → IsPast image limit rs → IsSound (state_after image rs).frames }
+    ensures wrote { (s : Frames) (ps : List (ℕ × ℕ)) → IsSound s → writes_hazard s ps ≡ None → IsSound (wrote s ps) }
+    ensures run { (g : Given) (rs : List Record) → IsPast g rs → IsSound (state_after g rs).frames }
 {}
 
 /// A return right after a system call undoes it, whatever is in memory then: it meets no hazard,
@@ -73,11 +70,12 @@ pub fn returns_undo_system_calls()
         → planned_calls m f table n pc fp sp ≡ Ok s → Undoes later f pc ac s }
 {}
 
-/// Bytes that are not compared are not seen: states that are the same but for these show the same, and what comes next in
-/// them is the same end, or a record that does the same and leaves states that are again the same but for such bytes.
+/// Bytes that are not compared are not seen: states that are the same but for these show the same, and what comes
+/// next in them is the same end, or a record that does the same and leaves states that are again the same but for
+/// such bytes.
 pub fn only_compared_bytes_are_seen()
     ensures next { (limit : ℕ) (due : Due) (s t : State) → AreAlike s t
-        → AreNextAlike s t (next_in limit due s) (next_in limit due t) }
+        → AreNextAlike (next_in limit due s) (next_in limit due t) }
     ensures view { (s t : State) → AreAlike s t → view_of t ≡ view_of s }
     ensures overlay { (s t : State) (a : ℕ) → AreAlike s t → overlay t a ≡ overlay s a }
 {}
@@ -85,20 +83,19 @@ pub fn only_compared_bytes_are_seen()
 /// In any number of sets, along every run the frames that are held, laid over the memory behind them, are memory as far
 /// as it is compared, they are the youngest live frames, and their words are those in memory.
 pub fn held_frames_stand_for_memory()
-    ensures cached { (sets : Option ℕ) (image : List (ℕ × ℕ)) (limit : ℕ) (rs : List Record) → IsPast image limit rs
-        → IsCached (state_after image rs) (cache_after sets image rs) }
-    ensures words { (sets : Option ℕ) (image : List (ℕ × ℕ)) (limit : ℕ) (rs : List Record) → IsPast image limit rs
-        → AreInMemory (state_after image rs).memory (cache_after sets image rs).held }
+    ensures cached { (g : Given) (rs : List Record) → IsPast g rs → IsCached (state_after g rs) (cache_after g rs) }
+    ensures words { (g : Given) (rs : List Record) → IsPast g rs → AreInMemory (state_after g rs).memory (cache_after g rs).held }
 {}
 
 /// The text of a run does not depend on the number of sets: a machine that keeps its frames in any number of them, and
-/// reads all through the held frames, has a run beside the run of the one-at-a-time machine, and no run of another end or
-/// of another text.
+/// reads all through the held frames, has a run beside the run of the one-at-a-time machine, and no run of another
+/// end or of another text.
 pub fn text_does_not_depend_on_sets()
-    ensures some { (sets : Option ℕ) (image : List (ℕ × ℕ)) (limit : ℕ) (rs : List Record) (end : Finish)
-        → IsRun image limit rs end → (qs : List Record) × IsRunInSets sets image limit qs end × (run_text image qs end ≡ run_text image rs end) }
-    ensures only { (sets : Option ℕ) (image : List (ℕ × ℕ)) (limit : ℕ) (qs rs : List Record) (e f : Finish)
-        → IsRunInSets sets image limit qs e → IsRun image limit rs f → (e ≡ f) × (run_text image qs e ≡ run_text image rs f) }
-    ensures any { (sets others : Option ℕ) (image : List (ℕ × ℕ)) (limit : ℕ) (qs ps : List Record) (e f : Finish)
-        → IsRunInSets sets image limit qs e → IsRunInSets others image limit ps f → run_text image qs e ≡ run_text image ps f }
+    ensures some { (g : Given) (rs : List Record) (end : End)
+        → IsRun g rs end → (qs : List Record) × IsRunInSets g qs end × (run_text g qs end ≡ run_text g rs end) }
+    ensures only { (g : Given) (qs rs : List Record) (e f : End)
+        → IsRunInSets g qs e → IsRun g rs f → (e ≡ f) × (run_text g qs e ≡ run_text g rs f) }
+    ensures any { (g : Given) (others : Option ℕ) (qs ps : List Record) (e f : End)
+        → IsRunInSets g qs e → IsRunInSets (record g { sets = others }) ps f
+        → run_text g qs e ≡ run_text (record g { sets = others }) ps f }
 {}

@@ -51,8 +51,14 @@ pub const AC_MASK: u32 = 0x9107;
 /// The bits of the trace controls that are kept: modes, event flags and breakpoint flags.
 pub const TC_MASK: u32 = 0x0FFE_00FE;
 
-/// The bit of the process controls that is set in supervisor mode.
-pub const SUPERVISOR: u32 = 1;
+/// The place of the bit of the arithmetic controls that says that faults are precise.
+pub const PRECISE_FAULTS_PLACE: u32 = 15;
+
+/// The place of trace enable in the process controls.
+pub const TRACE_ENABLE_PLACE: u32 = 0;
+
+/// The place of the bit of the process controls that is set in supervisor mode.
+pub const SUPERVISOR_PLACE: u32 = 1;
 
 /// The return type of a call to an address, and of a system call that does not switch stacks.
 pub const LOCAL_RETURN: u8 = 0;
@@ -75,8 +81,8 @@ pub const SYSTEM_TABLE_ENTRIES: u32 = 48;
 /// The greatest number of a system procedure.
 pub const MOST_SYSTEM_CALL: u32 = 259;
 
-/// The bit of an entry of the system procedure table that asks for the supervisor stack.
-pub const ASKS_SUPERVISOR: u32 = 1;
+/// The place of the bit of an entry of the system procedure table that asks for the supervisor stack.
+pub const ASKS_SUPERVISOR_PLACE: u32 = 1;
 
 /// The bytes of the record of a fault or an interrupt, which stands below its handler's frame.
 pub const RECORD_SIZE: u32 = 16;

@@ -13,6 +13,7 @@ mod need;
 mod need_laws;
 mod port;
 mod push;
+mod run;
 mod schedule_laws;
 mod setup;
 mod turn_laws;
@@ -36,6 +37,7 @@ pub use need::{Cell, Facts, Need, Placed, TimedNeed};
 pub use need_laws::{actions_keep_to_their_needs, needs_have_costs, others_write_no_memory};
 pub use port::in_port_page;
 pub use push::Push;
+pub use run::{Due, End, Point};
 pub use schedule_laws::{
     journal_is_read_back, printed_text_is_a_schedule, runs_reach_the_front_of_their_plan,
     words_say_events,

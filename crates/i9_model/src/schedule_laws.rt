@@ -6,7 +6,7 @@ ghost use Rattle.i9_model.specs.declared.event.Event as events;
 ghost use Rattle.i9_model.specs.declared.event.Timed as timed;
 ghost use Rattle.i9_model.specs.Events.{Words, IsInRange, journal_text};
 ghost use Rattle.i9_model.specs.ScheduleText.{IsTimed, IsPlan, IsSchedule, timed_of, line_of, timed_at, last_count};
-ghost use Rattle.i9_model.specs.Run.{Record, Finish, Ends};
+ghost use Rattle.i9_model.specs.Run.{Record, End, Ends};
 ghost use Rattle.i9_model.specs.PlannedRuns.{Stepping, Tally, IsHeedful, next_by, IsPastBy};
 ghost use Rattle.i9_model.specs.PrintedText.{Shown, text_of, events_of};
 
@@ -39,7 +39,7 @@ pub fn runs_reach_the_front_of_their_plan()
     ensures front { (next : Stepping) (t : Tally) → IsHeedful next t → (plan : List timed.Timed) (rs : List Record)
         → IsPastBy next t plan rs → (rest : List timed.Timed) × (t.reached rs ++ rest ≡ plan) }
     ensures again { (next : Stepping) (t : Tally) → IsHeedful next t
-        → (plan : List timed.Timed) (rs : List Record) (end : Finish) → IsPastBy next t plan rs
+        → (plan : List timed.Timed) (rs : List Record) (end : End) → IsPastBy next t plan rs
         → next_by next t plan rs ≡ Ends end
         → IsPastBy next t (t.reached rs) rs × (next_by next t (t.reached rs) rs ≡ Ends end) }
 {}

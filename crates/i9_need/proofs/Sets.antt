@@ -6,7 +6,7 @@ use Rattle.std.proofs.lemmas.Bool.{cases_lt, or_from, and_parts}
 use Rattle.std.proofs.lemmas.Bool.Decides.{nat_tests}
 use Rattle.std.proofs.lemmas.Nat.Bits.{bit_at_above, same_from_bits_below}
 use Rattle.i9_isa.specs.declared.op.Op.{Op}
-use Rattle.i9_isa.specs.declared.op.Op.TheVariants.{Notbit, Stob, Stib, Stos, Stis, St, Stl, Stt, Stq}
+use Rattle.i9_isa.specs.declared.op.Op.TheVariants.{Notbit, Stob}
 use Rattle.i9_isa.specs.declared.format.Format.{Format}
 use Rattle.i9_isa.specs.declared.format.Use.{Use}
 use Rattle.i9_isa.specs.declared.format.Use.TheVariants.{Unused, Source, Left, Right, Destination, Load, Store, Change}
@@ -19,8 +19,7 @@ use Rattle.i9_isa.specs.Operands.{takes, starts_group, words_read, words_written
 use Rattle.i9_isa.specs.Resources.{IsSetOf, is_in_group, is_in_operand, is_in_frame, is_read, is_written, reads_code, writes_code, writes_link, changes_frame}
 use Rattle.i9_isa.specs.Table.{row_of}
 use Rattle.i9_isa.specs.Valid.{IsValid, FitsAddress}
-use Rattle.i9_model.specs.Needs.{set_below, set_of, is_store_name}
-use Rattle.i9_need.specs.Known.{has_access}
+use Rattle.i9_model.specs.Needs.{set_below, set_of, is_store_name, has_access}
 use Rattle.i9_model.proofs.SetLaws.{set_bits}
 
 -- ---- two numbers with the same bits
@@ -164,11 +163,4 @@ frame_set = refl
 -- a store has a data access
 pub stores_access : (op : Op) → is_store_name op ≡ true → has_access op ≡ true
 stores_access Stob h = refl
-stores_access Stib h = refl
-stores_access Stos h = refl
-stores_access Stis h = refl
-stores_access St h = refl
-stores_access Stl h = refl
-stores_access Stt h = refl
-stores_access Stq h = refl
-stores_access _ h = absurd (cc h)
+stores_access _ h = grind (arith, h)

@@ -2,16 +2,10 @@
 use Rattle.std.specs.Prelude.{◌≡◌, ◌≤◌, Bool, true, false}
 use Rattle.std.specs.Option.{is_some}
 use Rattle.i9_isa.specs.declared.op.Op.{Op}
-use Rattle.i9_isa.specs.declared.op.Op.TheVariants.{Atadd, Atmod, Call, Callx, Calls, Ret}
+use Rattle.i9_isa.specs.declared.op.Op.TheVariants.{Call, Callx, Calls, Ret}
 use Rattle.i9_isa.specs.declared.inst.Inst.{Inst}
 use Rattle.i9_model.specs.declared.need.Facts.{Facts}
-use Rattle.i9_model.specs.Needs.{is_request_name}
-
--- a load, a store or an atomic
-abbrev pub has_access : Op → Bool
-has_access Atadd = true
-has_access Atmod = true
-has_access op = is_request_name op
+use Rattle.i9_model.specs.Needs.{has_access}
 
 -- a call or a return
 abbrev pub moves_a_frame : Op → Bool

@@ -1,18 +1,17 @@
 //! Kinds of instructions by their names.
 
 ghost use Rattle.std.specs.Prelude.{◌≡◌};
-ghost use Rattle.i9_model.specs.Needs.{is_request_name, is_store_name, is_slow_name, is_barrier_name};
+ghost use Rattle.i9_model.specs.Needs.{is_request_name, is_store_name, has_access, moves_frames, is_slow_name, is_barrier_name};
 
-use i9_isa::Op;
+use i9_isa::{Direction, Op, transfer};
 
 /// A store.
 pub(crate) fn is_store(op: Op) -> bool
     ensures { result ≡ is_store_name op }
 {
-    match op {
-        Op::Stob | Op::Stib | Op::Stos | Op::Stis => true,
-        Op::St | Op::Stl | Op::Stt | Op::Stq => true,
-        _ => false,
+    match transfer(op) {
+        Some(t) => t.direction == Direction::Store,
+        None => false,
     }
 }
 
@@ -20,10 +19,24 @@ pub(crate) fn is_store(op: Op) -> bool
 pub(crate) fn is_request(op: Op) -> bool
     ensures { result ≡ is_request_name op }
 {
+    transfer(op).is_some()
+}
+
+/// An atomic, a load or a store.
+pub(crate) fn has_access(op: Op) -> bool
+    ensures { result ≡ has_access op }
+{
+    matches!(op, Op::Atadd | Op::Atmod) || is_request(op)
+}
+
+/// A name that spills, refills or flushes frames.
+pub(crate) fn moves_frames(op: Op) -> bool
+    ensures { result ≡ moves_frames op }
+{
     match op {
-        Op::Ldob | Op::Ldib | Op::Ldos | Op::Ldis => true,
-        Op::Ld | Op::Ldl | Op::Ldt | Op::Ldq => true,
-        _ => is_store(op),
+        Op::Call | Op::Callx | Op::Calls | Op::Ret => true,
+        Op::Flushreg | Op::Sysctl => true,
+        _ => false,
     }
 }
 

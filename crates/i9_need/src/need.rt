@@ -7,11 +7,10 @@ ghost use Rattle.i9_isa.specs.Resources.{is_read, is_written};
 ghost use Rattle.i9_isa.specs.Operands.{words_written};
 ghost use Rattle.std.specs.Option.{is_some};
 ghost use Rattle.i9_isa.specs.Valid.{IsValid};
-ghost use Rattle.i9_isa.specs.Costs.{latency_of};
-ghost use Rattle.i9_model.specs.Needs.{set_of, blank_need, is_request_name, is_store_name, is_barrier_name, is_calm, cost_by, is_written_sfr, writes_sfr, inst_need, refused_need, event_need, entry_need};
-ghost use Rattle.i9_need.specs.Known.{AreFacts, has_access};
+ghost use Rattle.i9_model.specs.Needs.{set_of, blank_need, is_store_name, has_access, is_barrier_name, is_calm, cost_by, is_written_sfr, writes_sfr, inst_need, refused_need, event_need, entry_need};
+ghost use Rattle.i9_need.specs.Known.{AreFacts};
 
-use crate::names::{is_barrier, is_request, is_slow, is_store};
+use crate::names::{has_access, is_barrier, is_request, is_slow, is_store, moves_frames};
 use i9_isa::{
     FRAME_POINTER, Inst, LOCALS, Op, Operand, Side, Use, latency, reads, row, side_of, word_count,
     writes,
@@ -95,34 +94,16 @@ fn stands_apart(i: &Inst, f: &Facts) -> bool
     is_barrier(i.op) || writes_sfr(i) || f.port || f.fault || f.trace || f.hazard
 }
 
-/// The turns of a request with its waits, or of what is no request.
-fn plain_cost(i: &Inst, waits: u64) -> u64
-    requires { waits ≤ 62 }
-    ensures cost { result ≡ (if is_request_name i.now.op then 1 + waits else latency_of i.now.op) }
-    ensures bound { result ≤ 248 }
-{
-    if is_request(i.op) {
-        1 + waits
-    } else {
-        latency(i)
-    }
-}
-
-/// The turns of a calm instruction.
+/// The turns of a calm instruction: those of its name, its waits, and 16 for each frame that it moves.
+#[tactic(auto, using(crate::proofs::Costs::few_turns))]
 fn calm_cost(i: &Inst, f: &Facts) -> u64
     requires { AreFacts i.now f.now }
     ensures cost { result ≡ cost_by i.now.op f.now.waits f.now.frames }
     ensures bound { result ≤ 248 }
 {
-    let moved = 16 * u64::from(f.frames);
-    match i.op {
-        Op::Call | Op::Callx | Op::Calls | Op::Ret => 4 + moved,
-        Op::Flushreg => 1 + moved,
-        Op::Sysctl => 8 + moved,
-        Op::Sdma => 8,
-        Op::Atadd | Op::Atmod => 2 + f.waits,
-        _ => plain_cost(i, f.waits),
-    }
+    let waits = if has_access(i.op) { f.waits } else { 0 };
+    let frames = if moves_frames(i.op) { f.frames } else { 0 };
+    latency(i) + waits + 16 * u64::from(frames)
 }
 
 /// The turns of an instruction: of one that is not calm, one.

@@ -1,9 +1,9 @@
 //! Needs, worked out by hand from the table of costs and the list of barriers.
 
 ghost use Rattle.std.specs.Prelude.{◌≡◌};
-ghost use Rattle.i9_need.specs.Known.{has_access, moves_a_frame};
+ghost use Rattle.i9_need.specs.Known.{moves_a_frame};
 
-use crate::names::is_request;
+use crate::names::has_access;
 use crate::{entry_need, event_need, inst_need, refused_need};
 use i9_isa::{Ea, Inst, Mode, NO_ADDRESS, Op, Operand, Side, Use, row, valid};
 use i9_model::{Facts, Need};
@@ -57,12 +57,6 @@ const REQUEST: (bool, bool, bool) = (true, false, false);
 const SLOW: (bool, bool, bool) = (false, true, false);
 
 const BARRIER: (bool, bool, bool) = (false, false, true);
-
-fn has_access(op: Op) -> bool
-    ensures { result ≡ has_access op }
-{
-    matches!(op, Op::Atadd | Op::Atmod) || is_request(op)
-}
 
 fn moves_a_frame(op: Op) -> bool
     ensures { result ≡ moves_a_frame op }

@@ -1,4 +1,5 @@
--- What is read as an instruction is always a valid one: what is at fault stands for register 0, address 0 or distance 0.
+-- What is read as an instruction is always a valid one: what is at fault stands for register 0, address 0 or
+-- distance 0.
 use Rattle.std.proofs.Common.{◌≡◌, ℕ, ◌-◌, ◌%◌, ◌^◌, ◌<◌, Bool, true, false, cond, ltb, leb, eqb, ◌&&◌, List, [], ◌∷◌, Option, Some, None, refl, sym, arith, inl, inr}
 use Rattle.std.specs.Prelude.{ℤ, pos}
 use Rattle.std.specs.Option.{option_map, option_and_then}

@@ -149,8 +149,8 @@ op_named s = find (λ op. bytes_eq s (mnemonic op)) names
 abbrev pub dot : ℕ
 dot = 46
 
--- The prediction by what stands behind the mnemonic: `.f` sets it, `.t` and nothing clear it. Only a name with a prediction
--- has an ending.
+-- The prediction by what stands behind the mnemonic: `.f` sets it, `.t` and nothing clear it. Only a name with a
+-- prediction has an ending.
 abbrev pub hint_by : Bool → List ℕ → Option Bool
 hint_by uses [] = Some false
 hint_by true s = if bytes_eq s (codes ".f") then Some true else if bytes_eq s (codes ".t") then Some false else None

@@ -3,15 +3,17 @@ use Rattle.std.proofs.Common.{◌≡◌, ℕ, ◌-◌, Bool, true, false, cond, 
 use Rattle.i9_model.specs.declared.layout.TheConstants.{LOCALS, FRAME_SIZE}
 use Rattle.i9_model.specs.declared.frame.Frame.{Frame}
 use Rattle.i9_model.specs.Memory as model
-use Rattle.i9_model.specs.Memory.{with_bytes, with_words}
+use Rattle.i9_model.specs.Memory.{with_writes, with_words}
 use Rattle.i9_model.specs.State.{Frames}
-use Rattle.i9_model.specs.Frames.{no_frames, saved, returned, flushed, wrote}
-use Rattle.i9_model.specs.Hazards.{write_hazard, save_hazard}
+use Rattle.i9_model.specs.Frames.{no_frames, saved, returned, flushed, wrote, wrote_run}
+use Rattle.i9_model.specs.Writes.{upwards}
+use Rattle.i9_model.specs.Hazards.{write_hazard, writes_hazard, save_hazard}
 use Rattle.i9_model.specs.Sound.{IsSound}
 use Rattle.i9_model.specs.Step.{Saves}
 use Rattle.i9_model.specs.Alike.{is_compared, AgreeWhere}
 use Rattle.i9_model.specs.HeldFrames.{Cache, over, overlaid, spilled, with_room, holding, taken, written_back, AreYoungest}
 use Rattle.i9_model.proofs.FrameLaws.{sound-none, sound-saved, sound-returned, sound-flushed, sound-wrote}
+use Rattle.i9_model.proofs.Runs.{writes_hazard-upwards, wrote-upwards}
 use Rattle.i9_model.proofs.Overlays.{overlaid_holding, over_stored}
 use Rattle.i9_model.proofs.HeldFrames.{write_beside, return_keeps, move_keeps, taken_alike}
 use Rattle.i9_memory.specs.declared.memory.Memory.{Memory}
@@ -39,13 +41,23 @@ kept_new m w h is none =
 
 -- ---- stores
 
-pub kept_store : (m k : Memory) (w v : Watch) (h : Held) (a n : ℕ) → IsKept m w h → KeepsRoom m k → frames_of v ≡ wrote (frames_of w) a n → write_hazard (frames_of w) a n ≡ None → IsKept k v h
-kept_store m k w v h a n kept keeps is free =
-    kept_by m k w v h h (wrote (frames_of w) a n) is (sound-wrote (frames_of w) a n kept.sound free) kept.youngest (kept_room m k h.frames keeps kept.room)
+pub kept_store : (m k : Memory) (w v : Watch) (h : Held) (ps : List (ℕ × ℕ)) → IsKept m w h → KeepsRoom m k → frames_of v ≡ wrote (frames_of w) ps → writes_hazard (frames_of w) ps ≡ None → IsKept k v h
+kept_store m k w v h ps kept keeps is free =
+    kept_by m k w v h h (wrote (frames_of w) ps) is (sound-wrote (frames_of w) ps kept.sound free) kept.youngest (kept_room m k h.frames keeps kept.room)
 
-pub store_laid : (m k : Memory) (w : Watch) (h : Held) (a : ℕ) (bs : List ℕ) → IsKept m w h → write_hazard (frames_of w) a (length bs) ≡ None → memory_of k ≡ with_bytes (memory_of m) a bs → overlaid (cache_in k h) ≡ with_bytes (overlaid (cache_in m h)) a bs
-store_laid m k w h a bs kept free is =
-    ap (over h.frames) is ∙ over_stored h.frames (memory_of m) a bs kept.youngest.whole (write_beside (frames_of w) a (length bs) h.frames kept.youngest free)
+pub store_laid : (m k : Memory) (w : Watch) (h : Held) (ps : List (ℕ × ℕ)) → IsKept m w h → writes_hazard (frames_of w) ps ≡ None → memory_of k ≡ with_writes (memory_of m) ps → overlaid (cache_in k h) ≡ with_writes (overlaid (cache_in m h)) ps
+store_laid m k w h ps kept free is =
+    ap (over h.frames) is ∙ over_stored h.frames (memory_of m) ps kept.youngest.whole (write_beside (frames_of w) ps h.frames kept.youngest free)
+
+-- a run of bytes that meets no live frame is writes that meet none
+pub run_free : (f : Frames) (a : ℕ) (bs : List ℕ) → write_hazard f a (length bs) ≡ None → writes_hazard f (upwards a bs) ≡ None
+run_free f a bs none = writes_hazard-upwards f a bs ∙ none
+
+pub ruleset run_rules = (run_free)
+
+-- a run of bytes that is marked is writes that are
+pub run_wrote : (f g : Frames) (a : ℕ) (bs : List ℕ) → g ≡ wrote_run f a (length bs) → g ≡ wrote f (upwards a bs)
+run_wrote f g a bs is = is ∙ sym (wrote-upwards f a bs)
 
 -- ---- saves
 

@@ -2,7 +2,8 @@
 ghost use Rattle.std.specs.Prelude.{◌≡◌, ◌+◌, ◌-◌, ◌%◌, ◌^◌, ◌<◌, ◌≤◌, None, Some, OnOk, OnErr, IfOk, [], length, take};
 ghost use Rattle.i9_model.specs.Memory.{with_bytes, with_words};
 ghost use Rattle.i9_model.specs.Frames.{no_frames, saved, returned, flushed, wrote};
-ghost use Rattle.i9_model.specs.Hazards.{write_hazard, save_hazard};
+ghost use Rattle.i9_model.specs.Writes.{upwards};
+ghost use Rattle.i9_model.specs.Hazards.{writes_hazard, save_hazard};
 ghost use Rattle.i9_model.specs.Sound.{IsSound};
 ghost use Rattle.i9_model.specs.Alike.{is_compared, AgreeWhere};
 ghost use Rattle.i9_model.specs.HeldFrames.{cache, AreYoungest, holding, taken, written_back, cache_stored};
@@ -84,11 +85,11 @@ impl Storage {
     /// Stores bytes for which there is space, beside the live frames.
     pub fn store(&mut self, a: u32, bytes: &[u8])
         requires space { HasSpace self.old a (length bytes.now) }
-        requires free { write_hazard (frames_in self.old) a (length bytes.now) ≡ None }
+        requires free { writes_hazard (frames_in self.old) (upwards a bytes.now) ≡ None }
         requires few { length bytes.now < 2 ^ 32 }
-        ensures cache { cache_of self.new ≡ cache_stored a bytes.now (cache_of self.old) }
+        ensures cache { cache_of self.new ≡ cache_stored (upwards a bytes.now) (cache_of self.old) }
         ensures memory { memory_in self.new ≡ with_bytes (memory_in self.old) a bytes.now }
-        ensures frames { frames_in self.new ≡ wrote (frames_in self.old) a (length bytes.now) }
+        ensures frames { frames_in self.new ≡ wrote (frames_in self.old) (upwards a bytes.now) }
         ensures size { size_of self.new ≡ size_of self.old }
         ensures keeps { KeepsSpace self.old self.new }
     {

@@ -47,6 +47,7 @@ fn save(storage: &mut Storage, fp: u32, first: u32) -> Result<(), Fail> {
 }
 
 /// Stores bytes beside the live frames, at most four.
+#[tactic(auto, using(crate::proofs::Keeping::run_rules))]
 fn store(storage: &mut Storage, a: u32, bytes: &[u8]) -> Result<(), Fail> {
     let n = bytes.len();
     if n > 4 || storage.watch().check_write(a, n as u32).is_some() {

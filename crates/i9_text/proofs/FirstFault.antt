@@ -1,5 +1,5 @@
--- Where a step function `after` and a test `fault` answer the relation `Says` on lines, both ways, reading up to the first
--- fault answers the relations on texts, both ways.
+-- Where a step function `after` and a test `fault` answer the relation `Says` on lines, both ways, reading up to the
+-- first fault answers the relations on texts, both ways.
 use Rattle.std.proofs.Common.{◌≡◌, ℕ, suc, ◌+◌, List, [], ◌∷◌, ◌++◌, length, Option, Some, None, Result, Ok, Err, refl, sym, ap, subst, ◌∙◌, arith, inl, inr, ◌⊎◌, add-zero, zero-add, append_assoc, length-append}
 use Rattle.std.proofs.lemmas.List.{append-nil}
 use Rattle.i9_text.specs.FirstFault.{or_fault, SaysAll, IsRefused, at_line, at_end}

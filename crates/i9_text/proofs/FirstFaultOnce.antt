@@ -1,5 +1,5 @@
--- Lines in two parts; and where a relation on lines leads to one state and only from lines without fault, a text has one end or one first fault.
--- No function from lines to states is needed.
+-- Lines in two parts; and where a relation on lines leads to one state and only from lines without fault, a text has
+-- one end or one first fault. No function from lines to states is needed.
 use Rattle.std.proofs.Common.{◌≡◌, ℕ, suc, ◌+◌, List, [], ◌∷◌, ◌++◌, length, Option, Some, None, sym, ap, subst, ◌∙◌, arith, inl, inr, ◌⊎◌, add-zero, zero-add}
 use Rattle.i9_text.specs.FirstFault.{SaysAll, IsRefused, at_line, at_end}
 

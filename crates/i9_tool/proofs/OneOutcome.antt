@@ -1,8 +1,12 @@
 -- Each file and length have one status and one text.
-use Rattle.std.proofs.Common.{◌≡◌, ℕ, Bool, true, List, Option, Some, refl, sym, ap, ◌∙◌, subst, arith}
-use Rattle.i9_model.specs.Run.{Record, Finish, IsRun}
-use Rattle.i9_model.specs.PrintedText.{run_text, finish_code}
+use Rattle.std.proofs.Common.{◌≡◌, ℕ, Bool, true, List, [], ◌++◌, Option, Some, refl, sym, ap, ◌∙◌, subst, arith}
+use Rattle.i9_model.specs.State.{State}
+use Rattle.i9_model.specs.Given.{Given, given}
+use Rattle.i9_model.specs.declared.run.End.{End}
+use Rattle.i9_model.specs.Run.{Record, due_after, next_in, next, IsRun}
+use Rattle.i9_model.specs.PrintedText.{text_of, lines_of, end_lines, run_text, end_code}
 use Rattle.i9_model.specs.CommandLine.{Run, refused_line}
+use Rattle.i9_model.proofs.Cuts.{past_by, state_by}
 use Rattle.i9_model.proofs.Unique.{same_records, same_end}
 use Rattle.i9_hex.proofs.OneAnswer.{image_apart, one_image, one_fault}
 use Rattle.i9_tool.specs.Outcome.{FileGives, too_long, refused, runs, Gives, unread, fetched}
@@ -13,31 +17,53 @@ pub record Same (c d : ℕ) (s t : List ℕ) : Type 0 where
   pub text : s ≡ t
 
 -- the same image runs the same
-same_run : (image : List (ℕ × ℕ)) (limit : ℕ) (rs qs : List Record) (e f : Finish) → IsRun image limit rs e → IsRun image limit qs f → Same (finish_code e) (finish_code f) (run_text image rs e) (run_text image qs f)
-same_run image limit rs qs e f a b =
-    let end = same_end image limit rs qs e f a b in
-    let records = same_records image limit rs qs e f a b in
-    record { status = ap finish_code end; text = ap (λ (x : List Record). run_text image x e) records ∙ ap (run_text image qs) end }
+same_run : (g : Given) (rs qs : List Record) (e f : End) → IsRun g rs e → IsRun g qs f → Same (end_code e) (end_code f) (run_text g rs e) (run_text g qs f)
+same_run g rs qs e f a b =
+    let end = same_end g rs qs e f a b in
+    let records = same_records g rs qs e f a b in
+    record { status = ap end_code end; text = ap (λ (x : List Record). run_text g x e) records ∙ ap (run_text g qs) end }
 
-same_image : (ps qs : List (ℕ × ℕ)) (limit : ℕ) (rs us : List Record) (e f : Finish) → ps ≡ qs → IsRun ps limit rs e → IsRun qs limit us f → Same (finish_code e) (finish_code f) (run_text ps rs e) (run_text qs us f)
-same_image ps qs limit rs us e f same a b =
-    let b' : IsRun ps limit us f = subst (λ (x : List (ℕ × ℕ)). IsRun x limit us f) (sym same) b in
-    let s = same_run ps limit rs us e f a b' in
-    record { status = s.status; text = s.text ∙ ap (λ (x : List (ℕ × ℕ)). run_text x us f) same }
+same_given : (g k : Given) (rs us : List Record) (e f : End) → g ≡ k → IsRun g rs e → IsRun k us f → Same (end_code e) (end_code f) (run_text g rs e) (run_text k us f)
+same_given g k rs us e f same a b =
+    let c : IsRun g us f = subst (λ (x : Given). IsRun x us f) (sym same) b in
+    let s = same_run g rs us e f a c in
+    record { status = s.status; text = s.text ∙ ap (λ (x : Given). run_text x us f) same }
 
-pub one_outcome : (file : List ℕ) (limit c d : ℕ) (s t : List ℕ) → FileGives file limit c s → FileGives file limit d t → Same c d s t
-one_outcome file limit c d s t (too_long long) (too_long longer) = record { status = refl; text = refl }
-one_outcome file limit c d s t (too_long long) (refused g short h) = absurd (omega arith)
-one_outcome file limit c d s t (too_long long) (runs qs us f short image run) = absurd (omega arith)
-one_outcome file limit c d s t (refused g short h) (too_long long) = absurd (omega arith)
-one_outcome file limit c d s t (refused g short h) (refused g' short' h') = record { status = refl; text = ap refused_line (one_fault file g g' h h') }
-one_outcome file limit c d s t (refused g short h) (runs qs us f short' image run) = absurd (image_apart file qs g image h)
-one_outcome file limit c d s t (runs ps rs e short image run) (too_long long) = absurd (omega arith)
-one_outcome file limit c d s t (runs ps rs e short image run) (refused g short' h) = absurd (image_apart file ps g image h)
-one_outcome file limit c d s t (runs ps rs e short image run) (runs qs us f short' image' run') = same_image ps qs limit rs us e f (one_image file ps qs image image') run run'
+pub one_outcome : (file : List ℕ) (sets : Option ℕ) (limit c d : ℕ) (s t : List ℕ) → FileGives file sets limit c s → FileGives file sets limit d t → Same c d s t
+one_outcome file sets limit c d s t (too_long long) (too_long longer) = record { status = refl; text = refl }
+one_outcome file sets limit c d s t (too_long long) (refused g short h) = absurd (omega arith)
+one_outcome file sets limit c d s t (too_long long) (runs qs us f short image run) = absurd (omega arith)
+one_outcome file sets limit c d s t (refused g short h) (too_long long) = absurd (omega arith)
+one_outcome file sets limit c d s t (refused g short h) (refused g' short' h') = record { status = refl; text = ap refused_line (one_fault file g g' h h') }
+one_outcome file sets limit c d s t (refused g short h) (runs qs us f short' image run) = absurd (image_apart file qs g image h)
+one_outcome file sets limit c d s t (runs ps rs e short image run) (too_long long) = absurd (omega arith)
+one_outcome file sets limit c d s t (runs ps rs e short image run) (refused g short' h) = absurd (image_apart file ps g image h)
+one_outcome file sets limit c d s t (runs ps rs e short image run) (runs qs us f short' image' run') =
+    same_given (given ps [] limit sets) (given qs [] limit sets) rs us e f (ap (λ (x : List (ℕ × ℕ)). given x [] limit sets) (one_image file ps qs image image')) run run'
 
--- no answer depends on the number of sets
+-- ---- no answer depends on the number of sets
+
+-- what comes next goes by the image and the length alone
+other_next : (ps : List (ℕ × ℕ)) (limit : ℕ) (sets others : Option ℕ) (rs : List Record) → next (given ps [] limit others) rs ≡ next (given ps [] limit sets) rs
+other_next ps limit sets others rs = ap (next_in limit (due_after rs)) (state_by (given ps [] limit sets) (given ps [] limit others) rs refl)
+
+other_run : (ps : List (ℕ × ℕ)) (limit : ℕ) (sets others : Option ℕ) (rs : List Record) (e : End) → IsRun (given ps [] limit sets) rs e → IsRun (given ps [] limit others) rs e
+other_run ps limit sets others rs e run = record {
+  past = past_by (given ps [] limit sets) (given ps [] limit others) (λ qs r past h. other_next ps limit sets others qs ∙ h) rs run.past;
+  ends = other_next ps limit sets others rs ∙ run.ends;
+}
+
+other_text : (ps : List (ℕ × ℕ)) (limit : ℕ) (sets others : Option ℕ) (rs : List Record) (e : End) → run_text (given ps [] limit others) rs e ≡ run_text (given ps [] limit sets) rs e
+other_text ps limit sets others rs e =
+    ap (λ (s : State). text_of (lines_of rs ++ end_lines s e)) (state_by (given ps [] limit sets) (given ps [] limit others) rs refl)
+
+other_file : (file : List ℕ) (sets others : Option ℕ) (limit code : ℕ) (text : List ℕ) → FileGives file sets limit code text → FileGives file others limit code text
+other_file file sets others limit code text (too_long long) = too_long long
+other_file file sets others limit code text (refused g short h) = refused g short h
+other_file file sets others limit code text (runs ps rs e short image run) =
+    subst (FileGives file others limit (end_code e)) (other_text ps limit sets others rs e) (runs ps rs e short image (other_run ps limit sets others rs e run))
+
 pub same_in_sets : (told : List ℕ → Option (List ℕ)) (risen : List ℕ → Bool) (image : List ℕ) (sets others : Option ℕ) (limit code : ℕ) (text : List ℕ)
     → Gives told (λ n. risen n ≡ true) (Some (Run image sets limit)) code text → Gives told (λ n. risen n ≡ true) (Some (Run image others limit)) code text
 same_in_sets told risen image sets others limit code text (unread x o n rises) = unread image others limit rises
-same_in_sets told risen image sets others limit code text (fetched x o n file c t found gives) = fetched image others limit file code text found gives
+same_in_sets told risen image sets others limit code text (fetched x o n file c t found gives) = fetched image others limit file code text found (other_file file sets others limit code text gives)

@@ -1,15 +1,15 @@
 -- What is printed while an image runs is the text of its run, or a front of it.
 use Rattle.std.proofs.Common.{◌≡◌, ℕ, List, [], ◌∷◌, ◌++◌, map, flat_map, Option, refl, sym, ap, ◌∙◌}
 use Rattle.std.proofs.lemmas.List.{append-nil}
-use Rattle.i9_model.specs.Run.{Record, Finish, IsPast, IsRun}
+use Rattle.i9_model.specs.declared.run.End.{End}
+use Rattle.i9_model.specs.Run.{Given, Record, IsPast, IsRun}
 use Rattle.i9_model.specs.PrintedText.{Shown, text_of, lines_of, run_text}
 use Rattle.i9_model.proofs.Lines.{text_of-append, text_goes_on}
-use Rattle.i9_machine.specs.declared.line.End.{End}
 use Rattle.i9_machine.specs.declared.line.Line.{Line}
 use Rattle.i9_machine.specs.declared.line.Turn.{Turn}
 use Rattle.i9_machine.specs.declared.line.Turn.TheVariants as turns
 use Rattle.i9_machine.specs.declared.machine.Machine.{Machine}
-use Rattle.i9_machine.specs.Line.{finish_of, shown_of}
+use Rattle.i9_machine.specs.Line.{shown_of}
 use Rattle.i9_machine.specs.StandsFor.{DoesNext, Advances}
 use Rattle.i9_tool.specs.declared.print.Printed.{Printed}
 use Rattle.i9_tool.specs.declared.print.Printed.TheVariants.{Done, Write, Memory}
@@ -23,52 +23,52 @@ lines-text : (ls : List Line) → flat_map line_text ls ≡ text_of (map shown_o
 lines-text [] = refl
 lines-text (l ∷ ls) = ap (λ (t : List ℕ). line_text l ++ t) (lines-text ls)
 
-module _ (image : List (ℕ × ℕ)) (limit : ℕ) where
+module _ (g : Given) where
   -- the run goes on after these records with these lines
   pub record Ahead (rs : List Record) (shown : List Shown) : Type 0 where
     pub records : List Record
-    pub end : Finish
-    pub run : IsRun image limit records end
+    pub end : End
+    pub run : IsRun g records end
     pub rest : List ℕ
-    pub text : (text_of (lines_of image rs) ++ text_of shown) ++ rest ≡ run_text image records end
+    pub text : (text_of (lines_of rs) ++ text_of shown) ++ rest ≡ run_text g records end
 
-  ahead_of : (rs qs : List Record) (shown : List Shown) → IsPast image limit qs → lines_of image qs ≡ lines_of image rs ++ shown → Ahead rs shown
+  ahead_of : (rs qs : List Record) (shown : List Shown) → IsPast g qs → lines_of qs ≡ lines_of rs ++ shown → Ahead rs shown
   ahead_of rs qs shown past e =
-      let g = text_goes_on image limit qs past in
+      let later = text_goes_on g qs past in
       record {
-        records = g.0 ++ qs;
-        end = g.1;
-        run = g.3;
-        rest = g.2;
-        text = ap (λ (t : List ℕ). t ++ g.2) (sym (text_of-append (lines_of image rs) shown) ∙ ap text_of (sym e)) ∙ g.4;
+        records = later.0 ++ qs;
+        end = later.1;
+        run = later.3;
+        rest = later.2;
+        text = ap (λ (t : List ℕ). t ++ later.2) (sym (text_of-append (lines_of rs) shown) ∙ ap text_of (sym e)) ∙ later.4;
       }
 
-  ahead_done : (rs : List Record) (turn : Turn) (m : Machine) (ls : List Line) → DoesNext image limit rs turn m [] ls → Ahead rs (map shown_of ls)
-  ahead_done rs turn m ls a = ahead_of rs (a.done ∷ rs) (map shown_of ls) a.stands.past (ap (λ (x : List Shown). lines_of image rs ++ x) (sym a.lines))
+  ahead_done : (rs : List Record) (turn : Turn) (m : Machine) (ls : List Line) → DoesNext g rs turn m [] ls → Ahead rs (map shown_of ls)
+  ahead_done rs turn m ls a = ahead_of rs (a.done ∷ rs) (map shown_of ls) a.stands.past (ap (λ (x : List Shown). lines_of rs ++ x) (sym a.lines))
 
-  pub ahead : (rs : List Record) (turn : Turn) (m : Machine) (ls : List Line) → IsPast image limit rs → Advances image limit rs turn m [] ls → Ahead rs (map shown_of ls)
+  pub ahead : (rs : List Record) (turn : Turn) (m : Machine) (ls : List Line) → IsPast g rs → Advances g rs turn m [] ls → Ahead rs (map shown_of ls)
   ahead rs turns.On m ls past a = ahead_done rs turns.On m ls a
   ahead rs (turns.Issued t) m ls past a = ahead_done rs (turns.Issued t) m ls a
   ahead rs (turns.End e) m ls past a = record {
     records = rs;
-    end = finish_of e;
+    end = e;
     run = record { past = past; ends = a.is_end };
     rest = [];
-    text = append-nil (text_of (lines_of image rs) ++ text_of (map shown_of ls)) ∙ sym (text_of-append (lines_of image rs) (map shown_of ls)) ∙ ap (λ (x : List Shown). text_of (lines_of image rs ++ x)) a.lines;
+    text = append-nil (text_of (lines_of rs) ++ text_of (map shown_of ls)) ∙ sym (text_of-append (lines_of rs) (map shown_of ls)) ∙ ap (λ (x : List Shown). text_of (lines_of rs ++ x)) a.lines;
   }
-  ahead rs turns.Memory m ls past a = ahead_of rs rs (map shown_of ls) past (sym (append-nil (lines_of image rs)) ∙ ap (λ (x : List Shown). lines_of image rs ++ x) (sym (ap (map shown_of) a.lines)))
+  ahead rs turns.Memory m ls past a = ahead_of rs rs (map shown_of ls) past (sym (append-nil (lines_of rs)) ∙ ap (λ (x : List Shown). lines_of rs ++ x) (sym (ap (map shown_of) a.lines)))
 
   module _ {K : Type 0} (told : K → Option (List ℕ)) (faults : K → ℕ) (sure : K → ℕ → Type 0) where
     abbrev Printing : Printed → K → K → List ℕ → Type 0
     Printing answer a b text = Prints answer told faults sure a b text
 
-    both : (answer : Printed) (a b c : K) (rs : List Record) (ls : List Line) → Printing Done a b (text_of (lines_of image rs)) → Printing answer b c (flat_map line_text ls)
-        → Printing answer a c (text_of (lines_of image rs) ++ text_of (map shown_of ls))
+    both : (answer : Printed) (a b c : K) (rs : List Record) (ls : List Line) → Printing Done a b (text_of (lines_of rs)) → Printing answer b c (flat_map line_text ls)
+        → Printing answer a c (text_of (lines_of rs) ++ text_of (map shown_of ls))
     both answer a b c rs ls p q = prints_then told faults sure answer a b c _ _ p (prints_same told faults sure answer b c _ _ (lines-text ls) q)
 
     -- a write of the lines of a step failed
-    pub ran_write : (a b c : K) (rs : List Record) (ls : List Line) → Ahead rs (map shown_of ls) → Printing Done a b (text_of (lines_of image rs)) → Printing Write b c (flat_map line_text ls)
-        → Runs ran.Write image limit told faults sure a c
+    pub ran_write : (a b c : K) (rs : List Record) (ls : List Line) → Ahead rs (map shown_of ls) → Printing Done a b (text_of (lines_of rs)) → Printing Write b c (flat_map line_text ls)
+        → Runs ran.Write g told faults sure a c
     ran_write a b c rs ls h p q = record {
       records = h.records;
       end = h.end;
@@ -78,8 +78,8 @@ module _ (image : List (ℕ × ℕ)) (limit : ℕ) where
     }
 
     -- memory was refused for the lines of a step
-    pub ran_memory : (a b c : K) (rs : List Record) (ls : List Line) → Ahead rs (map shown_of ls) → Printing Done a b (text_of (lines_of image rs)) → Printing Memory b c (flat_map line_text ls)
-        → Runs ran.Memory image limit told faults sure a c
+    pub ran_memory : (a b c : K) (rs : List Record) (ls : List Line) → Ahead rs (map shown_of ls) → Printing Done a b (text_of (lines_of rs)) → Printing Memory b c (flat_map line_text ls)
+        → Runs ran.Memory g told faults sure a c
     ran_memory a b c rs ls h p q = record {
       records = h.records;
       end = h.end;
@@ -89,8 +89,8 @@ module _ (image : List (ℕ × ℕ)) (limit : ℕ) where
     }
 
     -- memory was refused for a step
-    pub ran_refused : (a b c : K) (rs : List Record) (ls : List Line) → Ahead rs (map shown_of ls) → Printing Done a b (text_of (lines_of image rs)) → Printing Done b c (flat_map line_text ls)
-        → Runs ran.Memory image limit told faults sure a c
+    pub ran_refused : (a b c : K) (rs : List Record) (ls : List Line) → Ahead rs (map shown_of ls) → Printing Done a b (text_of (lines_of rs)) → Printing Done b c (flat_map line_text ls)
+        → Runs ran.Memory g told faults sure a c
     ran_refused a b c rs ls h p q = record {
       records = h.records;
       end = h.end;
@@ -100,26 +100,26 @@ module _ (image : List (ℕ × ℕ)) (limit : ℕ) where
     }
 
     -- the end was reached
-    pub ran_done : (a b c : K) (rs : List Record) (ls : List Line) (e : End) (m : Machine) → IsPast image limit rs → Advances image limit rs (turns.End e) m [] ls
-        → Printing Done a b (text_of (lines_of image rs)) → Printing Done b c (flat_map line_text ls) → Runs (ran.Done e) image limit told faults sure a c
+    pub ran_done : (a b c : K) (rs : List Record) (ls : List Line) (e : End) (m : Machine) → IsPast g rs → Advances g rs (turns.End e) m [] ls
+        → Printing Done a b (text_of (lines_of rs)) → Printing Done b c (flat_map line_text ls) → Runs (ran.Done e) g told faults sure a c
     ran_done a b c rs ls e m past d p q = record {
       records = rs;
-      end = finish_of e;
+      end = e;
       run = record { past = past; ends = d.is_end };
       prints = prints_same told faults sure Done a c _ _
-          (sym (text_of-append (lines_of image rs) (map shown_of ls)) ∙ ap (λ (x : List Shown). text_of (lines_of image rs ++ x)) d.lines) (both Done a b c rs ls p q);
+          (sym (text_of-append (lines_of rs) (map shown_of ls)) ∙ ap (λ (x : List Shown). text_of (lines_of rs ++ x)) d.lines) (both Done a b c rs ls p q);
       tells = refl;
     }
 
     -- one more record was printed
-    pub one_more : (a b c : K) (rs : List Record) (ls : List Line) (turn : Turn) (m : Machine) → (d : DoesNext image limit rs turn m [] ls)
-        → Printing Done a b (text_of (lines_of image rs)) → Printing Done b c (flat_map line_text ls) → Printing Done a c (text_of (lines_of image (d.done ∷ rs)))
+    pub one_more : (a b c : K) (rs : List Record) (ls : List Line) (turn : Turn) (m : Machine) → (d : DoesNext g rs turn m [] ls)
+        → Printing Done a b (text_of (lines_of rs)) → Printing Done b c (flat_map line_text ls) → Printing Done a c (text_of (lines_of (d.done ∷ rs)))
     one_more a b c rs ls turn m d p q =
         prints_same told faults sure Done a c _ _
-        (sym (text_of-append (lines_of image rs) (map shown_of ls)) ∙ ap (λ (x : List Shown). text_of (lines_of image rs ++ x)) d.lines) (both Done a b c rs ls p q)
+        (sym (text_of-append (lines_of rs) (map shown_of ls)) ∙ ap (λ (x : List Shown). text_of (lines_of rs ++ x)) d.lines) (both Done a b c rs ls p q)
 
     -- memory was refused before the first step
-    pub nothing_yet : (a : K) → Runs ran.Memory image limit told faults sure a a
+    pub nothing_yet : (a : K) → Runs ran.Memory g told faults sure a a
     nothing_yet a =
-        let g = text_goes_on image limit [] tt in
-        record { records = g.0 ++ []; end = g.1; run = g.3; prints = prints_refused told faults sure a _; tells = tt }
+        let later = text_goes_on g [] tt in
+        record { records = later.0 ++ []; end = later.1; run = later.3; prints = prints_refused told faults sure a _; tells = tt }

@@ -1,31 +1,49 @@
 -- What the command answers and prints, for its words and files.
-use Rattle.std.specs.Prelude.{◌≡◌, ◌≢◌, ◌⊎◌, ◌<◌, ◌≤◌, ℕ, List, length, Option, Some, None}
+use Rattle.std.specs.Prelude.{◌≡◌, ◌≢◌, ◌⊎◌, ◌<◌, ◌≤◌, ℕ, List, [], ◌∷◌, length, map, String, Option, Some, None}
+use Rattle.std.specs.List.{AllByRecursion}
+use Rattle.std.specs.String.{string_bytes}
 use Rattle.std.specs.Io.KnownBytes.{Appends}
 use Rattle.i9_text.specs.Text.{lines_of}
 use Rattle.i9_model.specs.HexText.{IsImage, IsRefused}
-use Rattle.i9_model.specs.Run.{Record, Finish, IsRun}
-use Rattle.i9_model.specs.PrintedText.{run_text, finish_code}
-use Rattle.i9_model.specs.CommandLine.{Command, Run, words_line, read_line, long_line, refused_line}
+use Rattle.i9_model.specs.Given.{given}
+use Rattle.i9_model.specs.declared.run.End.{End}
+use Rattle.i9_model.specs.Run.{Record, IsRun}
+use Rattle.i9_model.specs.PrintedText.{run_text, end_code}
+use Rattle.i9_model.specs.CommandLine.{Command, Run, command_of, words_line, read_line, long_line, refused_line}
 use Rattle.i9_tool.specs.declared.outside.traits.TheConstants.{FILE_LIMIT}
 use Rattle.i9_tool.specs.declared.print.Printed.{Printed}
 use Rattle.i9_tool.specs.declared.print.Printed.TheVariants as printed
 use Rattle.i9_tool.specs.Counts.{Rose}
 use Rattle.i9_tool.specs.Outside.{IsFile, AppendsFront}
 
--- The status and the text for a file that was fetched, whose image is to run for at most so many instructions: it is too
--- long, it is refused for its first line at fault, or its image runs to the end of its run.
-pub data FileGives (file : List ℕ) (limit : ℕ) : ℕ → List ℕ → Type 0 where
-  too_long : FILE_LIMIT < length file → FileGives file limit 2 long_line
-  refused : (fault : ℕ × ℕ) → length file ≤ FILE_LIMIT → IsRefused (lines_of file) fault → FileGives file limit 2 (refused_line fault)
-  runs : (pairs : List (ℕ × ℕ)) (records : List Record) (end : Finish) → length file ≤ FILE_LIMIT → IsImage (lines_of file) pairs → IsRun pairs limit records end
-      → FileGives file limit (finish_code end) (run_text pairs records end)
+-- The status and the text for a file that was fetched, whose image is to run in so many sets for at most so many
+-- instructions: it is too long, it is refused for its first line at fault, or its image runs to the end of its run.
+pub data FileGives (file : List ℕ) (sets : Option ℕ) (limit : ℕ) : ℕ → List ℕ → Type 0 where
+  too_long : FILE_LIMIT < length file → FileGives file sets limit 2 long_line
+  refused : (fault : ℕ × ℕ) → length file ≤ FILE_LIMIT → IsRefused (lines_of file) fault → FileGives file sets limit 2 (refused_line fault)
+  runs : (pairs : List (ℕ × ℕ)) (records : List Record) (end : End) → length file ≤ FILE_LIMIT → IsImage (lines_of file) pairs
+      → IsRun (given pairs [] limit sets) records end
+      → FileGives file sets limit (end_code end) (run_text (given pairs [] limit sets) records end)
 
 -- The status and the text for what the words ask for, where no write fails and memory isn't refused. `told` says the
 -- files that are told, and `rose` of which names the count of faults rose.
 pub data Gives (told : List ℕ → Option (List ℕ)) (rose : List ℕ → Type 0) : Option Command → ℕ → List ℕ → Type 0 where
   in_no_form : Gives told rose None 1 words_line
   unread : (image : List ℕ) (sets : Option ℕ) (limit : ℕ) → rose image → Gives told rose (Some (Run image sets limit)) 5 read_line
-  fetched : (image : List ℕ) (sets : Option ℕ) (limit : ℕ) (file : List ℕ) (code : ℕ) (text : List ℕ) → IsFile (told image) file → FileGives file limit code text → Gives told rose (Some (Run image sets limit)) code text
+  fetched : (image : List ℕ) (sets : Option ℕ) (limit : ℕ) (file : List ℕ) (code : ℕ) (text : List ℕ) → IsFile (told image) file
+      → FileGives file sets limit code text → Gives told rose (Some (Run image sets limit)) code text
+
+-- the command that words ask for
+abbrev pub asked_for : {Z : Type 0} → List (String Z) → Option Command
+asked_for words = command_of (map string_bytes words)
+
+-- the count of a name rose from one state of the files to another
+abbrev pub rose_in : {F : Type 0} → (F → List ℕ → ℕ) → F → F → List ℕ → Type 0
+rose_in faults old new name = Rose (faults old name) (faults new name)
+
+-- what the words give, by the files before the call and the counts that rose in it
+abbrev pub Outcomes : {F Z : Type 0} → (F → List ℕ → Option (List ℕ)) → (F → List ℕ → ℕ) → F → F → List (String Z) → ℕ → List ℕ → Type 0
+Outcomes told faults old new words code text = Gives (told old) (rose_in faults old new) (asked_for words) code text
 
 -- the status and its text were given whole, or a front of a text that could have been
 pub record GivesWhole (gives : ℕ → List ℕ → Type 0) (code : ℕ) (old new : Option (List ℕ)) : Type 0 where
@@ -53,12 +71,16 @@ code_for printed.Done code = code
 code_for printed.Write code = 6
 code_for printed.Memory code = 7
 
--- the count of a file that the words name rose
-abbrev pub FileRose : (List ℕ → Type 0) → Option Command → Type 0
-FileRose rose None = ⊥
-FileRose rose (Some (Run image sets limit)) = rose image
+-- the files that the words name, in the order in which they are read
+abbrev pub names_of : Option Command → List (List ℕ)
+names_of None = []
+names_of (Some (Run image sets limit)) = image ∷ []
 
--- each file that the words name is sure to be fetched
-abbrev pub FilesSure : (List ℕ → Type 0) → Option Command → Type 0
-FilesSure sure None = Unit {0}
-FilesSure sure (Some (Run image sets limit)) = sure image
+-- the count of one of these files rose
+abbrev pub AnyRose : (List ℕ → Type 0) → List (List ℕ) → Type 0
+AnyRose rose [] = ⊥
+AnyRose rose (name ∷ names) = rose name ⊎ AnyRose rose names
+
+-- each of these files is sure to be fetched
+abbrev pub AllSure : (List ℕ → Type 0) → List (List ℕ) → Type 0
+AllSure sure names = AllByRecursion sure names

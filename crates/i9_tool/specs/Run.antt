@@ -1,8 +1,8 @@
 -- What running an image does to a sink.
 use Rattle.std.specs.Prelude.{◌≡◌, ℕ, List, Option}
-use Rattle.i9_model.specs.Run.{Record, Finish, IsRun}
+use Rattle.i9_model.specs.declared.run.End.{End}
+use Rattle.i9_model.specs.Run.{Given, Record, IsRun}
 use Rattle.i9_model.specs.PrintedText.{run_text}
-use Rattle.i9_machine.specs.Line.{finish_of}
 use Rattle.i9_tool.specs.declared.print.Printed.{Printed}
 use Rattle.i9_tool.specs.declared.print.Printed.TheVariants as printed
 use Rattle.i9_tool.specs.declared.run.Ran.{Ran}
@@ -16,15 +16,15 @@ printed_of ran.Write = printed.Write
 printed_of ran.Memory = printed.Memory
 
 -- where all was printed, the end of the run is answered
-abbrev pub TellsEnd : Ran → Finish → Type 0
-TellsEnd (ran.Done end) f = finish_of end ≡ f
+abbrev pub TellsEnd : Ran → End → Type 0
+TellsEnd (ran.Done end) f = end ≡ f
 TellsEnd ran.Write f = Unit {0}
 TellsEnd ran.Memory f = Unit {0}
 
--- The text of the run of an image and a length was printed on a sink of this type, or a front of it.
-pub record Runs {K : Type 0} (answer : Ran) (image : List (ℕ × ℕ)) (limit : ℕ) (told : K → Option (List ℕ)) (faults : K → ℕ) (sure : K → ℕ → Type 0) (old new : K) : Type 0 where
+-- The text of the run of what is given was printed on a sink of this type, or a front of it.
+pub record Runs {K : Type 0} (answer : Ran) (g : Given) (told : K → Option (List ℕ)) (faults : K → ℕ) (sure : K → ℕ → Type 0) (old new : K) : Type 0 where
   pub records : List Record
-  pub end : Finish
-  pub run : IsRun image limit records end
-  pub prints : Prints (printed_of answer) told faults sure old new (run_text image records end)
+  pub end : End
+  pub run : IsRun g records end
+  pub prints : Prints (printed_of answer) told faults sure old new (run_text g records end)
   pub tells : TellsEnd answer end

@@ -1,18 +1,48 @@
-//! A law of the command's answers, as the contract of a call that does nothing.
+//! Laws of the command's answers, as the contracts of a call that does nothing, and of the command over files and a
+//! sink in memory.
 
-ghost use Rattle.std.specs.Prelude.{◌≡◌, ℕ, Bool, true, List, Option, Some};
+ghost use Rattle.std.specs.Prelude.{◌≡◌, ◌≢◌, ◌≤◌, ℕ, Bool, true, List, Option, Some, IsSome, length};
+ghost use Rattle.std.specs.List.{AllByRecursion};
 ghost use Rattle.i9_model.specs.CommandLine.{Run};
-ghost use Rattle.i9_tool.specs.Outcome.{FileGives, Gives};
+ghost use Rattle.i9_tool.specs.Calls.{NoneToFail};
+ghost use Rattle.i9_tool.specs.MemFiles as mem_files;
+ghost use Rattle.i9_tool.specs.MemSink as mem_sink;
+ghost use Rattle.i9_tool.specs.Outcome.{FileGives, Gives, Outcomes, asked_for, names_of, AllSure};
+
+use crate::outside::{MemFiles, MemSink};
+use crate::status::Status;
+use crate::top::i960;
+use std::alloc::Global;
 
 /// Each file and length have one status and one text: an image is accepted or refused, not both, for
 /// one fault, and its run is the only one. So each status is answered exactly where it is given. And
 /// no status and no text depends on the number of sets that is asked for.
 pub fn one_outcome()
-    ensures some { (file : List ℕ) (limit : ℕ) → (code : ℕ) × (text : List ℕ) × FileGives file limit code text }
-    ensures status { (file : List ℕ) (limit c d : ℕ) (s t : List ℕ) → FileGives file limit c s → FileGives file limit d t → c ≡ d }
-    ensures text { (file : List ℕ) (limit c d : ℕ) (s t : List ℕ) → FileGives file limit c s → FileGives file limit d t → s ≡ t }
+    ensures some { (file : List ℕ) (sets : Option ℕ) (limit : ℕ) → (code : ℕ) × (text : List ℕ) × FileGives file sets limit code text }
+    ensures status { (file : List ℕ) (sets : Option ℕ) (limit c d : ℕ) (s t : List ℕ) → FileGives file sets limit c s → FileGives file sets limit d t → c ≡ d }
+    ensures text { (file : List ℕ) (sets : Option ℕ) (limit c d : ℕ) (s t : List ℕ) → FileGives file sets limit c s → FileGives file sets limit d t → s ≡ t }
     ensures sets { (told : List ℕ → Option (List ℕ)) (risen : List ℕ → Bool) (image : List ℕ)
         (sets others : Option ℕ) (limit code : ℕ) (text : List ℕ)
         → Gives told (λ n. risen n ≡ true) (Some (Run image sets limit)) code text
         → Gives told (λ n. risen n ≡ true) (Some (Run image others limit)) code text }
 {}
+
+/// The command over files and a sink in memory: where no call is set to fail, each file that the words
+/// name is held, and the sink has room for what is printed, no count of faults rises, and neither 5 nor
+/// 6 is answered.
+pub fn i960_in_memory(
+    alloc: Global,
+    words: &Vec<String>,
+    files: &mut MemFiles,
+    out: &mut MemSink,
+) -> Status
+    ensures calm_files { NoneToFail (mem_files.calls_of files.old)
+        → AllByRecursion (λ name. IsSome (mem_files.held_file files.old name)) (names_of (asked_for words.now.items))
+        → (result.code ≢ 5) × (mem_files.fault_count files.new ≡ mem_files.fault_count files.old) }
+    ensures calm_sink { NoneToFail (mem_sink.calls_of out.old)
+        → ((code : ℕ) (text : List ℕ) → Outcomes mem_files.held_file (λ m n. mem_files.fault_count m) files.old files.new words.now.items code text
+        → length text ≤ mem_sink.room_left out.old)
+        → (result.code ≢ 6) × (mem_sink.fault_count out.new ≡ mem_sink.fault_count out.old) }
+{
+    i960(alloc, words, files, out)
+}

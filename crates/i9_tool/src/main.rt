@@ -27,7 +27,8 @@ mod top;
 mod words;
 
 use crate::outside::{RealFiles, RealSink};
-use crate::top::i960;
+pub use crate::status::Status;
+pub use crate::top::i960;
 use std::process::ExitCode;
 use std::{env, io};
 

@@ -1,7 +1,7 @@
 //! Rows for tests: an image and what its run has to print, of which registers that are 0 are left out.
+use crate::laws::i960_in_memory;
 use crate::outside::{MemFiles, MemSink};
 use crate::tests::{SETS, words_of};
-use crate::top::i960;
 use std::alloc::Global;
 use std::test::*;
 
@@ -54,7 +54,7 @@ fn holds_with(alloc: Global, row: &Row<'_>, sets: &str) -> Result<bool, Fail> {
     sink.room(4096)?;
     let line = format!(in alloc; "run a - {sets} {}", row.length)?;
     let words = words_of(alloc, &line)?;
-    let status = i960(alloc, &words, &mut files, &mut sink);
+    let status = i960_in_memory(alloc, &words, &mut files, &mut sink);
     let text = text_of(alloc, row)?;
     Ok(status.code == row.code && sink.bytes() == text.as_bytes())
 }

@@ -1,5 +1,6 @@
 //! Running an image to its end, and printing its lines.
-ghost use Rattle.std.specs.Prelude.{◌≡◌, ◌≤◌};
+ghost use Rattle.std.specs.Prelude.{◌≡◌, ◌≤◌, []};
+ghost use Rattle.i9_model.specs.Given.{given};
 ghost use Rattle.i9_model.specs.declared.layout.TheConstants.{MAX_LENGTH};
 ghost use Rattle.i9_model.specs.Image.{pairs_of};
 ghost use Rattle.i9_tool.specs.Run.{Runs};
@@ -22,7 +23,8 @@ pub(crate) enum Ran {
     Memory,
 }
 
-/// Runs an image with its frames in so many sets, for at most so many instructions, and prints the lines of the run as they come.
+/// Runs an image with its frames in so many sets, for at most so many instructions, and prints the
+/// lines of the run as they come.
 pub(crate) fn run<K: Sink>(
     alloc: Global,
     image: &Segments,
@@ -32,7 +34,7 @@ pub(crate) fn run<K: Sink>(
 ) -> Ran
     requires few { AreFew sets }
     requires short { limit ≤ MAX_LENGTH }
-    ensures { Runs result (pairs_of image.now) limit K.told K.faults K.sure out.old out.new }
+    ensures { Runs result (given (pairs_of image.now) [] limit sets) K.told K.faults K.sure out.old out.new }
 {
     let mut machine = match Machine::new(alloc, image, sets, limit) {
         Ok(machine) => machine,

@@ -42,8 +42,8 @@ const RETURNS_TO_AN_IMAGE: &str = ":02000004FFFFFC
 :00000001FF
 ";
 
-/// `mov 5, r5`, `call f`, `mov r5, g4`, `f: mov 6, r5`, `call g`, `mov r5, g5`, `ret`, `g: mov 7, r5`, `call h`, `mov r5,
-/// g6`, `ret`, `h: ret`.
+/// `mov 5, r5`, `call f`, `mov r5, g4`, `f: mov 6, r5`, `call g`, `mov r5, g5`, `ret`, `g: mov 7, r5`, `call h`,
+/// `mov r5, g6`, `ret`, `h: ret`.
 const RETURNS_FROM_THREE_CALLS: &str = ":02000004FFFFFC
 :04FF100000100000DD
 :020000040000FA

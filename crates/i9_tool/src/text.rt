@@ -4,8 +4,8 @@ ghost use Rattle.std.specs.Fmt.{decimal};
 ghost use Rattle.std.specs.List.{flat_map};
 ghost use Rattle.i9_model.specs.CommandLine.{refused_line};
 ghost use Rattle.i9_text.specs.Written.{word_text, byte_text};
-ghost use Rattle.i9_model.specs.PrintedText.{out_text, point_text, drained_text, words_text, spaced, finish_text, point_shown, shown_text, line_feed};
-ghost use Rattle.i9_machine.specs.Line.{finish_of, drained_of, shown_of};
+ghost use Rattle.i9_model.specs.PrintedText.{out_text, point_text, drained_text, words_text, spaced, end_text, point_shown, shown_text, line_feed};
+ghost use Rattle.i9_machine.specs.Line.{shown_of};
 ghost use Rattle.i9_hex.specs.Reading.{place_of};
 
 use i9_hex::HexFault;
@@ -44,7 +44,7 @@ fn out_line(alloc: Global, byte: u8) -> Result<Vec<u8>, AllocError>
 
 /// The name of a kind of drained point.
 fn name_of(kind: Point) -> &'static [u8]
-    ensures { result.now ≡ drained_text (drained_of kind) }
+    ensures { result.now ≡ drained_text kind }
 {
     match kind {
         Point::Flush => b"flush",
@@ -71,7 +71,7 @@ fn words_line(alloc: Global, label: &[u8], words: &[u32]) -> Result<Vec<u8>, All
 /// The first line of a drained point.
 #[tactic(auto, unfolding(i9_model::specs::PrintedText::point_text))]
 fn point_line(alloc: Global, kind: Point, view: &View) -> Result<Vec<u8>, AllocError>
-    ensures { IfOk result (λ t. t.items ≡ point_text (drained_of kind) view.now) }
+    ensures { IfOk result (λ t. t.items ≡ point_text kind view.now) }
 {
     let mut label = Vec::from_slice(alloc, b"#point ")?;
     add_count(alloc, &mut label, view.count)?;
@@ -90,9 +90,9 @@ fn dead_line(alloc: Global, code: u8, address: u32) -> Result<Vec<u8>, AllocErro
 }
 
 /// The line of the end of a run.
-#[tactic(auto, unfolding(i9_model::specs::PrintedText::finish_text))]
+#[tactic(auto, unfolding(i9_model::specs::PrintedText::end_text))]
 fn end_line(alloc: Global, end: End) -> Result<Vec<u8>, AllocError>
-    ensures { IfOk result (λ t. t.items ≡ finish_text (finish_of end)) }
+    ensures { IfOk result (λ t. t.items ≡ end_text end) }
 {
     match end {
         End::Exit(word) => words_line(alloc, b"#end exit", &[word]),
@@ -105,7 +105,7 @@ fn end_line(alloc: Global, end: End) -> Result<Vec<u8>, AllocError>
 
 /// The three lines of a drained point.
 fn point_lines(alloc: Global, kind: Point, view: &View) -> Result<Vec<Vec<u8>>, AllocError>
-    ensures { IfOk result (λ ts. flat_map (λ t. t.items) ts.items ≡ point_shown (drained_of kind) view.now) }
+    ensures { IfOk result (λ ts. flat_map (λ t. t.items) ts.items ≡ point_shown kind view.now) }
 {
     let (locals, globals) = view.regs.split_at(16);
     let mut lines = Vec::new(alloc);

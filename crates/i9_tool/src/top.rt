@@ -1,16 +1,15 @@
 //! The command as one call.
-ghost use Rattle.std.specs.Prelude.{◌≡◌, ◌≢◌, ◌≤◌, ◌<◌, ◌⊎◌, map, List, ℕ, length, None, Some};
-ghost use Rattle.std.specs.String.{string_bytes};
+ghost use Rattle.std.specs.Prelude.{◌≡◌, ◌≢◌, ◌≤◌, ◌<◌, ◌⊎◌, List, ℕ, length, None, Some};
 ghost use Rattle.std.specs.Io.KnownBytes.{Appends};
 ghost use Rattle.i9_model.specs.declared.layout.TheConstants.{MAX_LENGTH};
-ghost use Rattle.i9_model.specs.CommandLine.{command_of, read_line};
+ghost use Rattle.i9_model.specs.CommandLine.{read_line};
 ghost use Rattle.i9_tool.specs.Words.{asked_by, AreFew};
-ghost use Rattle.i9_model.specs.Run.{Finish};
-ghost use Rattle.i9_model.specs.PrintedText.{finish_code};
+ghost use Rattle.i9_model.specs.declared.run.End.{End};
+ghost use Rattle.i9_model.specs.PrintedText.{end_code};
 ghost use Rattle.i9_tool.specs.declared.outside.traits.TheConstants.{FILE_LIMIT};
 ghost use Rattle.i9_tool.specs.Counts.{Rose};
 ghost use Rattle.i9_tool.specs.Run.{TellsEnd, printed_of};
-ghost use Rattle.i9_tool.specs.Outcome.{FileGives, Gives, GivesWhole, GivesFront, Answers, FileRose, FilesSure, code_for};
+ghost use Rattle.i9_tool.specs.Outcome.{FileGives, Gives, GivesWhole, GivesFront, Answers, Outcomes, asked_for, rose_in, names_of, AnyRose, AllSure, code_for};
 
 use crate::outside::{FILE_LIMIT, Fetch, Files, Sink};
 use crate::print::{Printed, print_piece};
@@ -35,7 +34,7 @@ fn status_for(printed: Printed, code: u8) -> Status
 
 /// The status for a run that went so.
 fn status_of_run(ran: Ran) -> Status
-    ensures { (f : Finish) → TellsEnd ran f → result.code ≡ code_for (printed_of ran) (finish_code f) }
+    ensures { (f : End) → TellsEnd ran f → result.code ≡ code_for (printed_of ran) (end_code f) }
 {
     match ran {
         Ran::Done(End::Exit(_)) => Status { code: 0 },
@@ -57,7 +56,7 @@ fn run_file<K: Sink>(
     requires few { AreFew sets }
     requires short { limit ≤ MAX_LENGTH }
     requires sized { length file.now ≤ FILE_LIMIT }
-    ensures { Answers (FileGives file.now limit) result.code K.told K.faults K.sure out.old out.new }
+    ensures { Answers (FileGives file.now sets limit) result.code K.told K.faults K.sure out.old out.new }
 {
     match i9_hex::read(alloc, file) {
         Ok(image) => status_of_run(run(alloc, &image, sets, limit, out)),
@@ -78,7 +77,7 @@ fn run_image<F: Files, K: Sink>(
 ) -> Status
     requires few { AreFew asked.now.sets }
     requires short { asked.now.limit ≤ MAX_LENGTH }
-    ensures answers { Answers (Gives (F.told files.old) (λ n. Rose (F.faults files.old n) (F.faults files.new n)) (Some (asked_by asked.now)))
+    ensures answers { Answers (Gives (F.told files.old) (rose_in F.faults files.old files.new) (Some (asked_by asked.now)))
         result.code K.told K.faults K.sure out.old out.new }
     ensures read { result.code ≡ 5 → Rose (F.faults files.old asked.now.image.now) (F.faults files.new asked.now.image.now) }
     ensures calm { F.sure files.old asked.now.image.now → (result.code ≢ 5) × ((n : List ℕ) → F.faults files.new n ≡ F.faults files.old n) }
@@ -92,33 +91,13 @@ fn run_image<F: Files, K: Sink>(
     }
 }
 
-/// Does what the words ask for, but for the clause of completeness.
+/// Does what the words ask for.
 fn work<F: Files, K: Sink>(alloc: Global, words: &Vec<String>, files: &mut F, out: &mut K) -> Status
-    // Answered are 0 to 2 and 4 to 7.
-    ensures known { (result.code < 3) ⊎ ((4 ≤ result.code) × (result.code < 8)) }
-
-    // A status below 6 has its whole text, and both are those that the words and files give.
-    ensures whole { result.code < 6 → GivesWhole (Gives (F.told files.old) (λ n. Rose (F.faults files.old n) (F.faults files.new n)) (command_of (map string_bytes words.now.items)))
-        result.code (K.told out.old) (K.told out.new) }
-
-    // Where a write failed or memory was refused, a front of such a text was printed.
-    ensures front { 6 ≤ result.code → GivesFront (Gives (F.told files.old) (λ n. Rose (F.faults files.old n) (F.faults files.new n)) (command_of (map string_bytes words.now.items)))
-        (K.told out.old) (K.told out.new) }
-
-    // A file is fetched only where the words name it, and 5 is answered only where its count rose.
-    ensures unfetched { command_of (map string_bytes words.now.items) ≡ None → files.new ≡ files.old }
-    ensures read { result.code ≡ 5 → FileRose (λ n. Rose (F.faults files.old n) (F.faults files.new n)) (command_of (map string_bytes words.now.items)) }
-
-    // A write failed only where the sink's count rose.
-    ensures write { result.code ≡ 6 → Rose (K.faults out.old) (K.faults out.new) }
-
-    // Where no fetch and no write can fail, none does.
-    ensures calm_files { FilesSure (F.sure files.old) (command_of (map string_bytes words.now.items))
+    ensures answers { Answers (Outcomes F.told F.faults files.old files.new words.now.items) result.code K.told K.faults K.sure out.old out.new }
+    ensures unfetched { asked_for words.now.items ≡ None → files.new ≡ files.old }
+    ensures read { result.code ≡ 5 → AnyRose (rose_in F.faults files.old files.new) (names_of (asked_for words.now.items)) }
+    ensures calm { AllSure (F.sure files.old) (names_of (asked_for words.now.items))
         → (result.code ≢ 5) × ((n : List ℕ) → F.faults files.new n ≡ F.faults files.old n) }
-    ensures calm_sink { ((code : ℕ) (text : List ℕ)
-        → Gives (F.told files.old) (λ n. Rose (F.faults files.old n) (F.faults files.new n)) (command_of (map string_bytes words.now.items)) code text
-        → K.sure out.old (length text))
-        → (result.code ≢ 6) × (K.faults out.new ≡ K.faults out.old) }
 {
     match asked(words) {
         Some(asked) => run_image(alloc, &asked, files, out),
@@ -126,7 +105,10 @@ fn work<F: Files, K: Sink>(alloc: Global, words: &Vec<String>, files: &mut F, ou
     }
 }
 
-/// Does what the words ask for, and answers a status.
+/// Does what the words ask for, and answers a status: 0 where a run exited or reached its length; 1
+/// where the words are in no form; 2 where the image was refused, or is too long; 4 where the run
+/// ended early; 5 where a file was not read; 6 where a write failed; 7 where memory was refused.
+/// `Outcomes` says which status goes with which text.
 pub fn i960<F: Files, K: Sink>(
     alloc: Global,
     words: &Vec<String>,
@@ -137,33 +119,29 @@ pub fn i960<F: Files, K: Sink>(
     ensures known { (result.code < 3) ⊎ ((4 ≤ result.code) × (result.code < 8)) }
 
     // A status below 6 has its whole text, and both are those that the words and files give.
-    ensures whole { result.code < 6 → GivesWhole (Gives (F.told files.old) (λ n. Rose (F.faults files.old n) (F.faults files.new n)) (command_of (map string_bytes words.now.items)))
-        result.code (K.told out.old) (K.told out.new) }
+    ensures whole { result.code < 6 → GivesWhole (Outcomes F.told F.faults files.old files.new words.now.items) result.code (K.told out.old) (K.told out.new) }
 
     // Where a write failed or memory was refused, a front of such a text was printed.
-    ensures front { 6 ≤ result.code → GivesFront (Gives (F.told files.old) (λ n. Rose (F.faults files.old n) (F.faults files.new n)) (command_of (map string_bytes words.now.items)))
-        (K.told out.old) (K.told out.new) }
+    ensures front { 6 ≤ result.code → GivesFront (Outcomes F.told F.faults files.old files.new words.now.items) (K.told out.old) (K.told out.new) }
 
-    // A file is fetched only where the words name it, and 5 is answered only where its count rose.
-    ensures unfetched { command_of (map string_bytes words.now.items) ≡ None → files.new ≡ files.old }
-    ensures read { result.code ≡ 5 → FileRose (λ n. Rose (F.faults files.old n) (F.faults files.new n)) (command_of (map string_bytes words.now.items)) }
+    // A file is fetched only where the words name it, and 5 is answered only where the count of one of these rose.
+    ensures unfetched { asked_for words.now.items ≡ None → files.new ≡ files.old }
+    ensures read { result.code ≡ 5 → AnyRose (rose_in F.faults files.old files.new) (names_of (asked_for words.now.items)) }
 
     // A write failed only where the sink's count rose.
     ensures write { result.code ≡ 6 → Rose (K.faults out.old) (K.faults out.new) }
 
     // Where no fetch and no write can fail, none does.
-    ensures calm_files { FilesSure (F.sure files.old) (command_of (map string_bytes words.now.items))
+    ensures calm_files { AllSure (F.sure files.old) (names_of (asked_for words.now.items))
         → (result.code ≢ 5) × ((n : List ℕ) → F.faults files.new n ≡ F.faults files.old n) }
-    ensures calm_sink { ((code : ℕ) (text : List ℕ)
-        → Gives (F.told files.old) (λ n. Rose (F.faults files.old n) (F.faults files.new n)) (command_of (map string_bytes words.now.items)) code text
-        → K.sure out.old (length text))
+    ensures calm_sink { ((code : ℕ) (text : List ℕ) → Outcomes F.told F.faults files.old files.new words.now.items code text → K.sure out.old (length text))
         → (result.code ≢ 6) × (K.faults out.new ≡ K.faults out.old) }
 
     // Completeness: where no such count rose, the answer is whole, or memory was refused.
-    ensures complete { (FileRose (λ n. Rose (F.faults files.old n) (F.faults files.new n)) (command_of (map string_bytes words.now.items)) → ⊥)
+    ensures complete { (AnyRose (rose_in F.faults files.old files.new) (names_of (asked_for words.now.items)) → ⊥)
         → (Rose (K.faults out.old) (K.faults out.new) → ⊥)
-        → (result.code ≡ 7) ⊎ ((result.code < 5) × GivesWhole (Gives (F.told files.old) (λ n. Rose (F.faults files.old n) (F.faults files.new n)) (command_of (map string_bytes words.now.items)))
-        result.code (K.told out.old) (K.told out.new)) }
+        → (result.code ≡ 7) ⊎ ((result.code < 5)
+        × GivesWhole (Outcomes F.told F.faults files.old files.new words.now.items) result.code (K.told out.old) (K.told out.new)) }
 {
     work(alloc, words, files, out)
 }

@@ -10,13 +10,14 @@ enum Step {
     Flush,
     Store(u32, u32),
     Reads(u32, u32, Option<u32>),
+    ReadsFlushed(u32, u32, Option<u32>),
     Writes(u32, u32, Option<u32>),
     Returns(u32, Option<u32>),
     IsSoft(u32, bool),
     LiveAt(u64, Option<u32>),
 }
 
-use Step::{Flush, IsSoft, LiveAt, Reads, Return, Returns, Save, Store, Writes};
+use Step::{Flush, IsSoft, LiveAt, Reads, ReadsFlushed, Return, Returns, Save, Store, Writes};
 
 /// Saves the frame at a frame pointer.
 fn save(watch: &mut Watch, fp: u32) -> Result<(), Fail> {
@@ -42,6 +43,7 @@ fn does(watch: &mut Watch, step: Step) -> Result<bool, Fail> {
         Flush => watch.flushed(),
         Store(a, n) => watch.wrote(a, n),
         Reads(a, n, wanted) => return Ok(watch.check_read(a, n) == wanted),
+        ReadsFlushed(a, n, wanted) => return Ok(watch.check_flushed_read(a, n) == wanted),
         Writes(a, n, wanted) => return Ok(watch.check_write(a, n) == wanted),
         Returns(a, wanted) => return Ok(watch.check_ret(a) == wanted),
         IsSoft(a, wanted) => return Ok(watch.soft(a) == wanted),
@@ -91,6 +93,11 @@ fn keeps_frames(rt: HostRuntime) -> Result<(), Fail> {
             Return,
             LiveAt(0, Some(0x40)),
             Writes(0x80, 4, None),
+            Reads(0x40, 65, Some(0x40)),
+            ReadsFlushed(0x40, 64, None),
+            ReadsFlushed(0x40, 65, Some(0x80)),
+            ReadsFlushed(0xBF, 4, Some(0xBF)),
+            ReadsFlushed(0xC0, 4, None),
             Flush,
             Reads(0x40, 64, None),
             Reads(0x40, 65, Some(0x80)),

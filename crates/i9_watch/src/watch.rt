@@ -1,7 +1,7 @@
 //! Soft bytes and live frames.
 ghost use Rattle.std.specs.Prelude.{◌≡◌, ℕ, Bool, ◌+◌, ◌%◌, ◌<◌, ◌≤◌, ◌⊎◌, None, OnOk, OnErr, IfOk, length, slice_get};
 ghost use Rattle.std.specs.VecDeque.{deque_len, deque_capacity};
-ghost use Rattle.i9_model.specs.Frames.{in_bytes, in_frames, no_frames, saved, returned, flushed, wrote, rounded_down};
+ghost use Rattle.i9_model.specs.Frames.{in_bytes, in_frames, no_frames, saved, returned, flushed, wrote_run, rounded_down};
 ghost use Rattle.i9_model.specs.Hazards.{least, read_hazard, write_hazard, port_hazard, save_hazard, return_hazard, planned_push};
 
 use crate::marks::Marks;
@@ -222,7 +222,7 @@ impl Watch {
 
     /// `n` bytes from `a` on were stored to, so they are not soft.
     pub fn wrote(&mut self, a: u32, n: u32)
-        ensures frames { frames_of self.new ≡ wrote (frames_of self.old) a n }
+        ensures frames { frames_of self.new ≡ wrote_run (frames_of self.old) a n }
         ensures spare { spare_of self.new ≡ spare_of self.old }
         ensures marks { KeepsMarks self.old self.new }
     {

@@ -1,0 +1,17 @@
+//! How a procedure is entered, by a call, a fault or an interrupt: its word in the system procedure
+//! table, the switch of stacks, the push of its frame, and the record below that frame.
+#![tactic(auto)]
+
+mod controls;
+mod entries;
+mod records;
+mod words;
+
+pub use controls::{in_supervisor_mode, trace_enable, without_supervisor};
+pub use entries::{enter_here, enter_system};
+pub use i9_model::{Push, Sys};
+pub use records::record_write_hazard;
+pub use words::{WORD_SIZE, aligned, read_word};
+
+#[cfg(test)]
+mod tests;

@@ -1,0 +1,170 @@
+-- An instruction that is done is decoded from the words at the instruction address, and its literals are below 32.
+use Rattle.std.proofs.Common.{◌≡◌, ℕ, ◌<◌, Bool, true, false, cond, eqb, Option, Some, None, Result, Ok, Err, refl, subst, option_and_then, arith}
+use Rattle.i9_isa.specs.declared.inst.Operand.{Operand}
+use Rattle.i9_isa.specs.declared.inst.Operand.TheVariants.{Reg, Lit, Sfr}
+use Rattle.i9_isa.specs.declared.inst.Inst.{Inst}
+use Rattle.i9_isa.specs.declared.inst.BadWord.{BadWord}
+use Rattle.i9_isa.specs.declared.format.Format.{Format}
+use Rattle.i9_isa.specs.declared.format.Use.{Use}
+use Rattle.i9_isa.specs.declared.format.Use.TheVariants.{Unused, Source, Left, Right}
+use Rattle.i9_isa.specs.Operands.{takes}
+use Rattle.i9_isa.specs.Table.{row_of}
+use Rattle.i9_isa.specs.Words.{bit, field, operand_by, if_taken, operand_in, src1_in, src2_in, src_dst_in, decoded}
+use Rattle.i9_isa.proofs.Decoding.{decoded_encodes}
+use Rattle.i9_model.specs.declared.faults.Entry.{Entry}
+use Rattle.i9_model.specs.declared.faults.FaultStop.{FaultStop}
+use Rattle.i9_model.specs.declared.faults.FaultStop.TheVariants as stops
+use Rattle.i9_model.specs.State.{State}
+use Rattle.i9_model.specs.Step.{first_word, next_word}
+use Rattle.i9_model.specs.Access.{hazard_of, fetch_hazard}
+use Rattle.i9_model.specs.Unbuilt.{is_built, is_imprecise, is_traced}
+use Rattle.i9_model.specs.Standing.{Standing, Meets, NotBuilt, Refused, Faults, Runs, raised_in, later_fault, by_access, by_later, by_raised, by_word, by_fetch, stands_at}
+use Rattle.i9_model.specs.declared.run.Due.{Due}
+use Rattle.i9_model.specs.declared.run.Due.TheVariants as dues
+use Rattle.i9_model.specs.declared.run.End.TheVariants.{Limit}
+use Rattle.i9_model.specs.Run.{Kind, Instruction, Faulted, Entered, Record, record_of, Does, Ends, next_by_standing, next_by_entry, entry_in, next_in, fault_at}
+
+-- ---- what is done is decoded
+
+-- the words at the instruction address are this instruction
+abbrev IsDecoded : State → Inst → Type 0
+IsDecoded s i = decoded (first_word s) (next_word s) ≡ Ok i
+
+abbrev Stands : State → Standing → Type 0
+Stands s (Runs i) = IsDecoded s i
+Stands s _ = Unit {0}
+
+access_stands : (s : State) (i : Inst) (h : Option ℕ) → IsDecoded s i → Stands s (by_access i h)
+access_stands s i (Some a) d = tt
+access_stands s i None d = d
+
+later_stands : (s : State) (i : Inst) (o : Option (ℕ × ℕ)) → IsDecoded s i → Stands s (by_later i s o)
+later_stands s i (Some number) d = tt
+later_stands s i None d = access_stands s i (hazard_of i s) d
+
+raised_stands : (s : State) (i : Inst) (o : Option (ℕ × ℕ)) → IsDecoded s i → Stands s (by_raised i s o)
+raised_stands s i (Some number) d = tt
+raised_stands s i None d = by_precision (is_imprecise i s)
+  where
+    by_precision : (b : Bool) → Stands s (cond b NotBuilt (by_later i s (later_fault i s)))
+    by_precision true = tt
+    by_precision false = later_stands s i (later_fault i s) d
+
+word_stands : (s : State) (r : Result Inst BadWord) → decoded (first_word s) (next_word s) ≡ r → Stands s (by_word s r)
+word_stands s (Err e) d = tt
+word_stands s (Ok i) d = by_form (is_built i s)
+  where
+    by_form : (b : Bool) → Stands s (cond b (by_raised i s (raised_in i s)) NotBuilt)
+    by_form true = raised_stands s i (raised_in i s) d
+    by_form false = tt
+
+fetch_stands : (s : State) (h : Option ℕ) → Stands s (by_fetch s h)
+fetch_stands s (Some a) = tt
+fetch_stands s None = by_trace (is_traced s)
+  where
+    by_trace : (b : Bool) → Stands s (cond b NotBuilt (by_word s (decoded (first_word s) (next_word s))))
+    by_trace true = tt
+    by_trace false = word_stands s (decoded (first_word s) (next_word s)) refl
+
+abbrev pub IsRead : State → Kind → Type 0
+IsRead s (Instruction i) = IsDecoded s i
+IsRead s (Faulted inst fault) = Unit {0}
+IsRead s (Entered e) = Unit {0}
+
+read_by : (s : State) (k : Kind) (r : Record) → IsRead s k → Does (record_of k s) ≡ Does r → IsRead s r.kind
+read_by s k r d e = let same : record_of k s ≡ r = cc in subst (λ (q : Record). IsRead s q.kind) same d
+
+standing_read : (s : State) (x : Standing) (r : Record) → Stands s x → next_by_standing s x ≡ Does r → IsRead s r.kind
+standing_read s (Meets a) r d e = absurd cc
+standing_read s NotBuilt r d e = absurd cc
+standing_read s (Refused number) r d e = read_by s (Faulted None (fault_at s number)) r tt e
+standing_read s (Faults i number) r d e = read_by s (Faulted (Some i) (fault_at s number)) r tt e
+standing_read s (Runs i) r d e = read_by s (Instruction i) r d e
+
+entry_read : (s : State) (o : Result Entry FaultStop) (r : Record) → next_by_entry s o ≡ Does r → IsRead s r.kind
+entry_read s (Ok x) r e = read_by s (Entered x) r tt e
+entry_read s (Err (stops.Hazard a)) r e = absurd cc
+entry_read s (Err (stops.Dead code a)) r e = absurd cc
+
+pub next_read : (limit : ℕ) (due : Due) (s : State) (r : Record) → next_in limit due s ≡ Does r → IsRead s r.kind
+unfolding stands_at
+next_read limit (dues.End f) s r e = absurd cc
+next_read limit (dues.Entry fault) s r e = entry_read s (entry_in s fault) r e
+next_read limit dues.Nothing s r e = by_length (eqb s.count limit) e
+  where
+    by_length : (b : Bool) → cond b (Ends Limit) (next_by_standing s (stands_at s)) ≡ Does r → IsRead s r.kind
+    by_length true h = absurd cc
+    by_length false h = standing_read s (stands_at s) r (fetch_stands s (fetch_hazard s)) h
+
+-- ---- its literals
+
+abbrev pub IsSmall : Operand → Type 0
+IsSmall (Reg r) = Unit {0}
+IsSmall (Lit n) = n < 32
+IsSmall (Sfr k) = Unit {0}
+
+abbrev AreSmall : Option Operand → Type 0
+AreSmall None = Unit {0}
+AreSmall (Some o) = IsSmall o
+
+either_small : (b : Bool) (o p : Operand) → IsSmall o → IsSmall p → IsSmall (cond b o p)
+either_small true o p h k = h
+either_small false o p h k = k
+
+use_small : (u : Use) (m s : Bool) (f : ℕ) → f < 32 → AreSmall (operand_by u m s f)
+use_small (Source n) true true f h = tt
+use_small (Source n) true false f h = h
+use_small (Source n) false true f h = tt
+use_small (Source n) false false f h = tt
+use_small Left m s f h = either_small m (Lit f) (Reg f) h tt
+use_small Right m s f h = either_small s (Sfr f) (Reg f) tt tt
+use_small _ m s f h = either_small m (Sfr f) (Reg f) tt tt
+
+taken_small : (u : Use) (o : Option Operand) → AreSmall o → AreSmall (option_and_then (if_taken u) o)
+taken_small u None h = tt
+taken_small u (Some o) h = by_use (takes u o)
+  where
+    by_use : (b : Bool) → AreSmall (cond b (Some o) None)
+    by_use true = h
+    by_use false = tt
+
+operand_small : (u : Use) (m s : Bool) (f : ℕ) → f < 32 → AreSmall (operand_in u m s f)
+operand_small Unused m s f h = tt
+operand_small u m s f h = taken_small u (operand_by u m s f) (use_small u m s f h)
+
+field_small : (w low : ℕ) → field w low 5 < 32
+field_small w low = omega arith
+
+src1_small : (f : Format) (u : Use) (w : ℕ) → AreSmall (src1_in f u w)
+src1_small Format.Reg u w = operand_small u (bit w 11) (bit w 5) (field w 0 5) (field_small w 0)
+src1_small Format.Cobr u w = operand_small u (bit w 13) false (field w 19 5) (field_small w 19)
+src1_small Format.Ctrl u w = tt
+src1_small Format.Mem u w = tt
+
+src2_small : (f : Format) (u : Use) (w : ℕ) → AreSmall (src2_in f u w)
+src2_small Format.Reg u w = operand_small u (bit w 12) (bit w 6) (field w 14 5) (field_small w 14)
+src2_small Format.Cobr u w = operand_small u false (bit w 0) (field w 14 5) (field_small w 14)
+src2_small Format.Ctrl u w = tt
+src2_small Format.Mem u w = tt
+
+src_dst_small : (f : Format) (u : Use) (w : ℕ) → AreSmall (src_dst_in f u w)
+src_dst_small Format.Reg u w = operand_small u (bit w 13) false (field w 19 5) (field_small w 19)
+src_dst_small Format.Cobr u w = tt
+src_dst_small Format.Ctrl u w = tt
+src_dst_small Format.Mem u w = operand_small u false false (field w 19 5) (field_small w 19)
+
+-- the literals of an instruction
+pub record HasSmall (i : Inst) : Type 0 where
+  pub a : IsSmall i.a
+  pub b : IsSmall i.b
+  pub c : IsSmall i.c
+
+pub decoded_small : (w w1 : ℕ) (i : Inst) → decoded w w1 ≡ Ok i → HasSmall i
+decoded_small w w1 i d =
+    let e = decoded_encodes w w1 i d in
+    let row = row_of i.op in
+    record {
+      a = subst AreSmall e.a (src1_small row.format row.a w);
+      b = subst AreSmall e.b (src2_small row.format row.b w);
+      c = subst AreSmall e.c (src_dst_small row.format row.c w);
+    }

@@ -1,0 +1,128 @@
+-- What a system call and the entry of a fault enter: a procedure on the stack in use, or one on the supervisor stack, by
+-- words of memory.
+use Rattle.std.proofs.Common.{◌≡◌, ℕ, Bool, true, false, cond, Option, Some, None, Result, Ok, Err, refl, subst}
+use Rattle.std.specs.Prelude.{◌+◌, ◌/◌, ◌%◌, ◌==◌, not, nat_le}
+use Rattle.i9_isa.specs.declared.inst.Inst.{Inst}
+use Rattle.i9_model.specs.declared.layout.TheConstants.{FP, SP, RECORD_SIZE, FAULT_RETURN, MOST_SYSTEM_CALL}
+use Rattle.i9_model.specs.declared.calls.Sys.{Sys}
+use Rattle.i9_model.specs.declared.faults.TheConstants.{SYSTEM_ENTRY}
+use Rattle.i9_model.specs.declared.faults.Fault.{Fault}
+use Rattle.i9_model.specs.declared.faults.Entry.{Entry}
+use Rattle.i9_model.specs.declared.faults.Handler.{Handler}
+use Rattle.i9_model.specs.declared.faults.Handler.TheVariants.{Local, System}
+use Rattle.i9_model.specs.declared.faults.FaultStop.{FaultStop}
+use Rattle.i9_model.specs.Writes.{wrapped}
+use Rattle.i9_model.specs.Memory.{Memory, word_in}
+use Rattle.i9_model.specs.State.{State, Frames}
+use Rattle.i9_model.specs.Frames.{rounded_down}
+use Rattle.i9_model.specs.Hazards.{unless, read_hazard, save_hazard}
+use Rattle.i9_model.specs.Operands.{value}
+use Rattle.i9_model.specs.Calls.{entry_address, stack_address, is_switch, call_type, entered_here, entered_switched, system_entered, system_hazard}
+use Rattle.i9_model.specs.Faults.{◌>>=◌, or_stop, table_entry, checked_word, handler_of, planned_handler, planned_frame, record_write_hazard, entry_of, planned_fault}
+use Rattle.i9_model.specs.Step.{system_call}
+use Rattle.i9_model.specs.Run.{entry_in}
+
+-- something holds of a procedure that is entered, above a record of so many bytes, in either way
+pub record Ways (P : Sys → Type 0) (m : Memory) (pc fp sp extra : ℕ) (kind : Bool → ℕ) : Type 0 where
+  pub switched : (x y : ℕ) → P (entered_switched (word_in m x) (word_in m y) pc fp extra (kind true))
+  pub here : (x : ℕ) → P (entered_here (word_in m x) pc fp sp extra (kind false))
+
+system_by : (P : Sys → Type 0) (m : Memory) (table n pc fp sp extra : ℕ) (kind : Bool → ℕ)
+    → Ways P m pc fp sp extra kind → P (system_entered m table n pc fp sp extra kind)
+unfolding system_entered
+system_by P m table n pc fp sp extra kind ways = by_switch (is_switch entry pc)
+  where
+    entry : ℕ
+    entry = word_in m (entry_address table n)
+
+    stack : ℕ
+    stack = word_in m (stack_address table)
+
+    by_switch : (b : Bool)
+        → P (cond b (entered_switched entry stack pc fp extra (kind true)) (entered_here entry pc fp sp extra (kind false)))
+    by_switch true = ways.switched (entry_address table n) (stack_address table)
+    by_switch false = ways.here (entry_address table n)
+
+-- so it holds of what calls enters
+pub call_by : (P : Sys → Type 0) (i : Inst) (s : State)
+    → Ways P s.memory s.pc (s.regs FP) (s.regs SP) 0 (call_type s.pc) → P (system_call i s)
+call_by P i s ways = system_by P s.memory s.tables.system_table (value s i.a) s.pc (s.regs FP) (s.regs SP) 0 (call_type s.pc) ways
+
+-- ---- the entry of a fault
+
+planned_ok : {A : Type 0} (h : Option ℕ) (x y : A) → unless h x ≡ Ok y → x ≡ y
+planned_ok None x y e = cc
+planned_ok (Some a) x y e = absurd cc
+
+planned_free : {A : Type 0} (h : Option ℕ) (x y : A) → unless h x ≡ Ok y → h ≡ None
+planned_free None x y e = refl
+planned_free (Some a) x y e = absurd cc
+
+stop_ok : {A : Type 0} (r : Result A ℕ) (x : A) → or_stop r ≡ Ok x → r ≡ Ok x
+stop_ok (Ok y) x e = cc
+stop_ok (Err a) x e = absurd cc
+
+bind_ok : {A B : Type 0} (r : Result A FaultStop) (next : A → Result B FaultStop) (y : B) → (r >>= next) ≡ Ok y
+    → (x : A) × (r ≡ Ok x) × (next x ≡ Ok y)
+bind_ok (Ok x) next y e = (x, refl, e)
+bind_ok (Err stop) next y e = absurd cc
+
+-- a handler at an address has it from memory
+abbrev IsFrom : Memory → Handler → Type 0
+IsFrom m (Local target) = (x : ℕ) × (word_in m x ≡ target)
+IsFrom m (System n) = Unit {0}
+
+handler_from : (m : Memory) (at first second : ℕ) (h : Handler) → word_in m at ≡ first → handler_of at first second ≡ Ok h → IsFrom m h
+handler_from m at first second h word e =
+    by_tests (first % 4 == 0) (not (first % 4 == 2)) (not (second == SYSTEM_ENTRY)) (nat_le (first / 4) MOST_SYSTEM_CALL) _ _ _ e
+  where
+    by_tests : (a b c d : Bool) (p q r : FaultStop)
+        → cond a (Ok (Local first)) (cond b (Err p) (cond c (Err q) (cond d (Ok (System (first / 4))) (Err r)))) ≡ Ok h → IsFrom m h
+    by_tests true b c d p q r k = let same : Local first ≡ h = cc in subst (IsFrom m) same (at, word)
+    by_tests false true c d p q r k = absurd cc
+    by_tests false false true d p q r k = absurd cc
+    by_tests false false false true p q r k = let same : System (first / 4) ≡ h = cc in subst (IsFrom m) same tt
+    by_tests false false false false p q r k = absurd cc
+
+planned_from : (m : Memory) (f : Frames) (at : ℕ) (h : Handler) → planned_handler m f at ≡ Ok h → IsFrom m h
+unfolding planned_handler
+planned_from m f at h ok =
+    let last = λ (first second : ℕ). handler_of at first second in
+    let a = bind_ok (checked_word m f at) (λ first. checked_word m f (wrapped (at + 4)) >>= last first) h ok in
+    let b = bind_ok (checked_word m f (wrapped (at + 4))) (last a.0) h a.2 in
+    let hazard = read_hazard f at 4 in
+    let word = planned_ok hazard (word_in m at) a.0 (stop_ok (unless hazard (word_in m at)) a.0 a.1) in
+    handler_from m at a.0 b.0 h word b.2
+
+frame_by : (P : Sys → Type 0) (m : Memory) (f : Frames) (system pc fp sp : ℕ) (h : Handler) (sys : Sys)
+    → Ways P m pc fp sp RECORD_SIZE (λ _. FAULT_RETURN) → IsFrom m h → planned_frame m f system pc fp sp h ≡ Ok sys → P sys
+unfolding planned_frame
+frame_by P m f system pc fp sp (Local target) sys ways from e =
+    let here : P (entered_here target pc fp sp RECORD_SIZE FAULT_RETURN) =
+    subst (λ (t : ℕ). P (entered_here t pc fp sp RECORD_SIZE FAULT_RETURN)) from.1 (ways.here from.0) in
+    subst P (planned_ok (save_hazard f (rounded_down fp)) (entered_here target pc fp sp RECORD_SIZE FAULT_RETURN) sys e) here
+frame_by P m f system pc fp sp (System n) sys ways from e =
+    let entered = system_entered m system n pc fp sp RECORD_SIZE (λ _. FAULT_RETURN) in
+    subst P (planned_ok (system_hazard m f system n pc fp) entered sys e)
+    (system_by P m system n pc fp sp RECORD_SIZE (λ _. FAULT_RETURN) ways)
+
+-- and it holds of what the entry of a fault enters, whose record meets no hazard
+pub entry_by : (P : Sys → Type 0) (s : State) (fault : Fault) (e : Entry)
+    → Ways P s.memory s.pc (s.regs FP) (s.regs SP) RECORD_SIZE (λ _. FAULT_RETURN)
+    → entry_in s fault ≡ Ok e → (sys : Sys) × P sys × (entry_of fault s.pc s.ac sys ≡ e) × (record_write_hazard s.frames sys.push ≡ None)
+unfolding entry_in planned_fault
+entry_by P s fault e ways ok =
+    let m = s.memory in
+    let f = s.frames in
+    let made = λ (sys : Sys). or_stop (unless (record_write_hazard f sys.push) (entry_of fault s.pc s.ac sys)) in
+    let frame = λ (h : Handler). planned_frame m f s.tables.system_table s.pc (s.regs FP) (s.regs SP) h in
+    let at = table_entry s.tables.fault_table fault.kind in
+    let a = bind_ok (planned_handler m f at) (λ h. or_stop (frame h) >>= made) e ok in
+    let b = bind_ok (or_stop (frame a.0)) made e a.2 in
+    let from = planned_from m f at a.0 a.1 in
+    let plan = unless (record_write_hazard f b.0.push) (entry_of fault s.pc s.ac b.0) in (
+      b.0,
+      frame_by P m f s.tables.system_table s.pc (s.regs FP) (s.regs SP) a.0 b.0 ways from (stop_ok (frame a.0) b.0 b.1),
+      planned_ok (record_write_hazard f b.0.push) (entry_of fault s.pc s.ac b.0) e (stop_ok plan e b.2),
+      planned_free (record_write_hazard f b.0.push) (entry_of fault s.pc s.ac b.0) e (stop_ok plan e b.2),
+    )

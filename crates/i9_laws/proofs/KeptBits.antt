@@ -1,0 +1,297 @@
+-- Along every run controls keep to their masks, and the instruction address is a multiple of 4.
+use Rattle.std.proofs.Common.{◌≡◌, ℕ, ◌+◌, ◌*◌, ◌/◌, ◌%◌, ◌^◌, Bool, true, false, cond, eqb, List, [], ◌∷◌, Option, Some, None, Ok, refl, sym, ap, ◌∙◌, subst, arith, bit_and, bit_or, ℤ}
+use Rattle.std.specs.Prelude.{not, slice_index, ◌==◌, ◌+ℤ◌, ◌-ℤ◌, ◌*ℤ◌, pos}
+use Rattle.std.specs.Int.Bits.{and_self}
+use Rattle.std.specs.Int.{bit_at}
+use Rattle.std.specs.Int.RustNames.{int_div}
+use Rattle.std.proofs.lemmas.Nat.{and_assoc, and_comm, and_mod, and_mask, and_shr}
+use Rattle.std.proofs.lemmas.Nat.Bits.{bit_at_and, bit_at_or, same_from_bits}
+use Rattle.i9_isa.specs.declared.op.Op.{Op}
+use Rattle.i9_isa.specs.declared.op.Op.TheVariants.{Lda, Atadd, Atmod, Bx, Balx, Bal, Call, Callx, Calls, Ret, Flushreg, Modac, Modtc, Modpc, Sysctl, Cmpinco, Cmpinci, Cmpdeco, Cmpdeci, Addc, Subc, Spanbit, Scanbit, Cmpo, Cmpi, Concmpo, Concmpi, Scanbyte, Chkbit, Addi, Subi, Muli, Shli, Divo, Remo, Divi, Remi, Modi, Ediv}
+use Rattle.i9_isa.specs.declared.size.Size.{Size}
+use Rattle.i9_isa.specs.declared.size.Direction.{Direction}
+use Rattle.i9_isa.specs.declared.size.Direction.TheVariants.{Load, Store}
+use Rattle.i9_isa.specs.declared.size.Transfer.{Transfer}
+use Rattle.i9_isa.specs.declared.inst.Inst.{Inst}
+use Rattle.i9_isa.specs.Transfers.{transfer_of}
+use Rattle.i9_isa.specs.Words.{bit, words_of}
+use Rattle.i9_model.specs.declared.layout.TheConstants.{AC_MASK, PC_MASK, TC_MASK, PFP, FP}
+use Rattle.i9_model.specs.declared.arith.Arith.TheVariants.{Overflow, ZeroDivide}
+use Rattle.i9_model.specs.declared.calls.Sys.{Sys}
+use Rattle.i9_model.specs.declared.faults.Fault.{Fault}
+use Rattle.i9_model.specs.declared.faults.Entry.{Entry}
+use Rattle.i9_model.specs.declared.faults.TheConstants.{TRACE_MASK}
+use Rattle.i9_model.specs.Writes.{wrapped, aligned}
+use Rattle.i9_model.specs.Memory.{Memory, word_in}
+use Rattle.i9_model.specs.State.{State, started, boot}
+use Rattle.i9_model.specs.Numbers.{signed, complement, highest_one}
+use Rattle.i9_model.specs.Conditions.{with_code, code_of}
+use Rattle.i9_model.specs.Operands.{value}
+use Rattle.i9_model.specs.Results.{Answer, word, words, code, checked, faulting, found, results_by}
+use Rattle.i9_model.specs.Branches.{question_of, asks, code_after, is_taken}
+use Rattle.i9_model.specs.Boot.{setup_of, boot_setup}
+use Rattle.i9_model.specs.Calls.{in_supervisor_mode, takes_record, leaves_supervisor, with_supervisor, without_supervisor, saved_pc, saved_ac, return_type, popped}
+use Rattle.i9_model.specs.Tables.{group_words}
+use Rattle.i9_model.specs.Controls.{Control, KeepsControls, Restarts, LoadsGroup, controlled}
+use Rattle.i9_model.specs.Step.{Action, going, following, branching, resulting, controls_of, answer_in, moving, action_by_name, action_by, action_of, Message, AsksNothing, AsksRestart, AsksGroup, message_kind, message_of, message_action, system_call, calls_action, entering, moved, acted}
+use Rattle.i9_model.specs.declared.run.Due.{Due}
+use Rattle.i9_model.specs.Run.{Given, Record, Kind, Instruction, Faulted, Entered, action_by_kind, due_after, state_after, IsPast, entry_in, faulted_words}
+use Rattle.i9_model.proofs.ControlLaws.{by_group}
+use Rattle.i9_model.proofs.Comes.{MayCome, next_comes}
+use Rattle.i9_laws.specs.Kept.{IsWithin}
+use Rattle.i9_laws.proofs.Entered.{call_by, entry_by}
+
+-- ---- masks
+
+-- a masked word has no other bits
+masked : (mask w : ℕ) → IsWithin mask (bit_and w mask)
+masked mask w = and_assoc mask w mask ∙ ap (bit_and w) (and_self mask)
+
+-- nor has a word that is masked once more
+masked_more : (mask w n : ℕ) → IsWithin mask w → IsWithin mask (bit_and w n)
+masked_more mask w n h = and_assoc mask w n ∙ ap (bit_and w) (and_comm n mask) ∙ sym (and_assoc n w mask) ∙ ap (λ (x : ℕ). bit_and x n) h
+
+-- two such words joined
+masked_or : (mask w x : ℕ) → IsWithin mask w → IsWithin mask x → IsWithin mask (bit_or w x)
+masked_or mask w x h k = same_from_bits (bit_and (bit_or w x) mask) (bit_or w x) (λ i.
+    let p = sym (bit_at_and w mask i) ∙ ap (λ (n : ℕ). bit_at n i) h in
+    let q = sym (bit_at_and x mask i) ∙ ap (λ (n : ℕ). bit_at n i) k in
+    let r = bit_at_or w x i in
+    let a = bit_at_and (bit_or w x) mask i in
+    omega (arith, p, q, r, a))
+
+-- the mask of the process controls has their low two bits
+same_above : (w x : ℕ) → x / 4 ≡ w / 4 → IsWithin PC_MASK w → IsWithin PC_MASK x
+same_above w x e h =
+    let high : bit_and x PC_MASK / 4 ≡ x / 4 =
+    and_shr x PC_MASK 2 ∙ ap (λ (n : ℕ). bit_and n (PC_MASK / 4)) e ∙ sym (and_shr w PC_MASK 2) ∙ ap (λ (n : ℕ). n / 4) h ∙ sym e in
+    let low : bit_and x PC_MASK % 4 ≡ x % 4 = and_mod x PC_MASK 2 ∙ and_mask (x % 4) 2 ∙ omega arith in
+    omega arith
+
+-- the mask of the arithmetic controls has the condition code
+coded : (ac new : ℕ) → IsWithin AC_MASK ac → IsWithin AC_MASK (with_code ac new)
+coded ac new h =
+    let x = with_code ac new in
+    let e : x / 8 ≡ ac / 8 = omega arith in
+    let high : bit_and x AC_MASK / 8 ≡ x / 8 =
+    and_shr x AC_MASK 3 ∙ ap (λ (n : ℕ). bit_and n (AC_MASK / 8)) e ∙ sym (and_shr ac AC_MASK 3) ∙ ap (λ (n : ℕ). n / 8) h ∙ sym e in
+    let low : bit_and x AC_MASK % 8 ≡ x % 8 = and_mod x AC_MASK 3 ∙ and_mask (x % 8) 3 ∙ omega arith in
+    omega arith
+
+-- ---- arithmetic controls
+
+overflow_kept : (b c : Bool) (v ac : ℕ) → IsWithin AC_MASK ac
+    → IsWithin AC_MASK (cond b (cond c (word v (bit_or ac (2 ^ 8))) (faulting Overflow ac)) (word v ac)).controls
+overflow_kept true true v ac h = masked_or AC_MASK ac (2 ^ 8) h refl
+overflow_kept true false v ac h = h
+overflow_kept false c v ac h = h
+
+checked_kept : (z : ℤ) (ac : ℕ) → IsWithin AC_MASK ac → IsWithin AC_MASK (checked z ac).controls
+checked_kept z ac h = overflow_kept _ _ _ ac h
+
+divided_kept : (b : Bool) (r : Answer) (ac : ℕ) → IsWithin AC_MASK ac → IsWithin AC_MASK r.controls
+    → IsWithin AC_MASK (cond b (faulting ZeroDivide ac) r).controls
+divided_kept true r ac h k = h
+divided_kept false r ac h k = k
+
+found_kept : (o : Option ℕ) (ac : ℕ) → IsWithin AC_MASK ac → IsWithin AC_MASK (found o ac).controls
+found_kept None ac h = coded ac 0 h
+found_kept (Some p) ac h = coded ac 2 h
+
+unless_kept : (b : Bool) (new ac : ℕ) → IsWithin AC_MASK ac → IsWithin AC_MASK (cond b (words [] ac) (code new ac)).controls
+unless_kept true new ac h = h
+unless_kept false new ac h = coded ac new h
+
+result_kept : (op : Op) (a b : List ℕ) (c ac : ℕ) → IsWithin AC_MASK ac → IsWithin AC_MASK (controls_of (results_by op a b c ac) ac)
+result_kept Cmpinco a b c ac h = coded ac _ h
+result_kept Cmpinci a b c ac h = coded ac _ h
+result_kept Cmpdeco a b c ac h = coded ac _ h
+result_kept Cmpdeci a b c ac h = coded ac _ h
+result_kept Addc a b c ac h = coded ac _ h
+result_kept Subc a b c ac h = coded ac _ h
+result_kept Cmpo a b c ac h = coded ac _ h
+result_kept Cmpi a b c ac h = coded ac _ h
+result_kept Scanbyte a b c ac h = coded ac _ h
+result_kept Chkbit a b c ac h = coded ac _ h
+result_kept Spanbit a b c ac h = found_kept (highest_one 32 (complement (slice_index a 0))) ac h
+result_kept Scanbit a b c ac h = found_kept (highest_one 32 (slice_index a 0)) ac h
+result_kept Concmpo a b c ac h = unless_kept (bit ac 2) _ ac h
+result_kept Concmpi a b c ac h = unless_kept (bit ac 2) _ ac h
+result_kept Addi a b c ac h = checked_kept (signed (slice_index b 0) +ℤ signed (slice_index a 0)) ac h
+result_kept Subi a b c ac h = checked_kept (signed (slice_index b 0) -ℤ signed (slice_index a 0)) ac h
+result_kept Muli a b c ac h = checked_kept (signed (slice_index b 0) *ℤ signed (slice_index a 0)) ac h
+result_kept Shli a b c ac h = checked_kept (signed (slice_index b 0) *ℤ pos (2 ^ slice_index a 0)) ac h
+result_kept Divo a b c ac h = divided_kept (slice_index a 0 == 0) _ ac h h
+result_kept Remo a b c ac h = divided_kept (slice_index a 0 == 0) _ ac h h
+result_kept Remi a b c ac h = divided_kept (slice_index a 0 == 0) _ ac h h
+result_kept Modi a b c ac h = divided_kept (slice_index a 0 == 0) _ ac h h
+result_kept Ediv a b c ac h = divided_kept (slice_index a 0 == 0) _ ac h h
+result_kept Divi a b c ac h =
+    let z = int_div (signed (slice_index b 0)) (signed (slice_index a 0)) in
+    divided_kept (slice_index a 0 == 0) (checked z ac) ac h (checked_kept z ac h)
+result_kept _ a b c ac h = h
+
+-- ---- what an action leaves
+
+-- arithmetic, process and trace controls within their masks, and an instruction address
+pub record AreKept (a p t n : ℕ) : Type 0 where
+  pub ac : IsWithin AC_MASK a
+  pub pc : IsWithin PC_MASK p
+  pub tc : IsWithin TC_MASK t
+  pub ip : n % 4 ≡ 0
+
+abbrev pub IsKept : State → Type 0
+IsKept s = AreKept s.ac s.pc s.trace.tc s.ip
+
+abbrev Keeps : Action → Type 0
+Keeps a = AreKept a.ac a.pc a.tc a.next
+
+-- control goes to another address
+going_kept : (s : State) (to : ℕ) → IsKept s → to % 4 ≡ 0 → Keeps (going s to)
+going_kept s to h e = record { ac = h.ac; pc = h.pc; tc = h.tc; ip = e }
+
+pub following_even : (s : State) (words : ℕ) → IsKept s → wrapped (s.ip + 4 * words) % 4 ≡ 0
+following_even s words h = let e = h.ip in omega (arith, e)
+
+aligned_even : (a : ℕ) → aligned a % 4 ≡ 0
+aligned_even a = omega arith
+
+passing_kept : (s : State) (i : Inst) → IsKept s → Keeps (going s (following i s))
+passing_kept s i h = going_kept s (following i s) h (following_even s (words_of i) h)
+
+jumping_kept : (s : State) (to : ℕ) → IsKept s → Keeps (going s (aligned to))
+jumping_kept s to h = going_kept s (aligned to) h (aligned_even to)
+
+branched_even : (b : Bool) (x y : ℕ) → x % 4 ≡ 0 → y % 4 ≡ 0 → cond b x y % 4 ≡ 0
+branched_even true x y h k = h
+branched_even false x y h k = k
+
+other_kept : (b : Bool) (i : Inst) (s : State) → IsKept s → Keeps (cond b (branching i s) (resulting i s (answer_in i s)))
+other_kept true i s h = record {
+  ac = coded s.ac (code_after (question_of i.op) (value s i.a) (value s i.b) (code_of s.ac)) h.ac;
+  pc = h.pc;
+  tc = h.tc;
+  ip = branched_even (is_taken i (value s i.a) (value s i.b) s.ac) _ _ (aligned_even _) (following_even s (words_of i) h);
+}
+other_kept false i s h = record { ac = result_kept i.op _ _ _ s.ac h.ac; pc = h.pc; tc = h.tc; ip = following_even s (words_of i) h }
+
+-- ---- calls and returns
+
+supervisor_kept : (pc trace : ℕ) → IsWithin PC_MASK pc → IsWithin PC_MASK (with_supervisor pc (trace % 2))
+supervisor_kept pc trace h = same_above pc (with_supervisor pc (trace % 2)) (omega arith) h
+
+calls_kept : (i : Inst) (s : State) → IsKept s → Keeps (calls_action i s)
+calls_kept i s h = record { ac = h.ac; pc = both.0; tc = h.tc; ip = both.1 }
+  where
+    both : IsWithin PC_MASK (system_call i s).pc × ((system_call i s).target % 4 ≡ 0)
+    both = call_by (λ (x : Sys). IsWithin PC_MASK x.pc × (x.target % 4 ≡ 0)) i s (record {
+      switched = λ x y. (supervisor_kept s.pc (word_in s.memory y) h.pc, aligned_even (word_in s.memory x));
+      here = λ x. (h.pc, aligned_even (word_in s.memory x));
+    })
+
+returned_kept : (user takes leaves : Bool) (m : Memory) (kind fp pc : ℕ) → IsWithin PC_MASK pc
+    → IsWithin PC_MASK (cond user pc (cond takes (bit_and (saved_pc m fp) PC_MASK) (cond leaves (without_supervisor pc (kind % 2)) pc)))
+returned_kept true r l m kind fp pc h = h
+returned_kept false true l m kind fp pc h = masked PC_MASK (saved_pc m fp)
+returned_kept false false true m kind fp pc h = same_above pc (without_supervisor pc (kind % 2)) (omega arith) h
+returned_kept false false false m kind fp pc h = h
+
+read_kept : (b : Bool) (w ac : ℕ) → IsWithin AC_MASK ac → IsWithin AC_MASK (cond b (bit_and w AC_MASK) ac)
+read_kept true w ac h = masked AC_MASK w
+read_kept false w ac h = h
+
+-- ---- an instruction
+
+message_kept : (m : Message) (i : Inst) (s : State) → IsKept s → Keeps (message_action m i s)
+message_kept AsksNothing i s h = passing_kept s i h
+message_kept AsksRestart i s h = let k = passing_kept s i h in record { ac = k.ac; pc = k.pc; tc = k.tc; ip = k.ip }
+message_kept AsksGroup i s h = let k = passing_kept s i h in record { ac = k.ac; pc = k.pc; tc = k.tc; ip = k.ip }
+
+name_kept : (op : Op) (i : Inst) (s : State) → IsKept s → Keeps (action_by_name op i s)
+unfolding popped
+name_kept Lda i s h = passing_kept s i h
+name_kept Atadd i s h = passing_kept s i h
+name_kept Atmod i s h = passing_kept s i h
+name_kept Bx i s h = jumping_kept s _ h
+name_kept Balx i s h = jumping_kept s _ h
+name_kept Bal i s h = jumping_kept s _ h
+name_kept Call i s h = jumping_kept s _ h
+name_kept Callx i s h = jumping_kept s _ h
+name_kept Calls i s h = calls_kept i s h
+name_kept Ret i s h =
+    let kind = return_type (s.regs PFP) in
+    let fp = s.regs FP in record {
+      ac = read_kept (takes_record kind) (saved_ac s.memory fp) s.ac h.ac;
+      pc = returned_kept (not (in_supervisor_mode s.pc)) (takes_record kind) (leaves_supervisor kind) s.memory kind fp s.pc h.pc;
+      tc = h.tc;
+      ip = aligned_even _;
+    }
+name_kept Flushreg i s h = passing_kept s i h
+name_kept Modac i s h = record { ac = masked AC_MASK _; pc = h.pc; tc = h.tc; ip = following_even s (words_of i) h }
+name_kept Modtc i s h = record { ac = h.ac; pc = h.pc; tc = masked TC_MASK _; ip = following_even s (words_of i) h }
+name_kept Modpc i s h = record { ac = h.ac; pc = masked PC_MASK _; tc = h.tc; ip = following_even s (words_of i) h }
+name_kept Sysctl i s h = message_kept (message_kind (message_of i s)) i s h
+name_kept op i s h = other_kept (asks (question_of op)) i s h
+
+moving_kept : (d : Direction) (size : Size) (signed : Bool) (i : Inst) (s : State) → IsKept s → Keeps (moving d size signed i s)
+moving_kept Load size signed i s h = passing_kept s i h
+moving_kept Store size signed i s h = passing_kept s i h
+
+instruction_kept : (i : Inst) (s : State) → IsKept s → Keeps (action_of i s)
+unfolding action_of
+instruction_kept i s h = by_transfer (transfer_of i.op)
+  where
+    by_transfer : (o : Option Transfer) → Keeps (action_by o i s)
+    by_transfer (Some t) = moving_kept t.direction t.size t.signed i s h
+    by_transfer None = name_kept i.op i s h
+
+-- ---- what comes next
+
+entering_kept : (s : State) (fault : Fault) (e : Entry) → IsKept s → entry_in s fault ≡ Ok e → Keeps (entering e s)
+entering_kept s fault e h ok =
+    let made = entry_by (λ (x : Sys). IsWithin PC_MASK x.pc × (x.target % 4 ≡ 0)) s fault e (record {
+      switched = λ x y. (supervisor_kept s.pc (word_in s.memory y) h.pc, aligned_even (word_in s.memory x));
+      here = λ x. (h.pc, aligned_even (word_in s.memory x));
+    }) ok in
+    let pc = masked_more PC_MASK made.0.pc (complement TRACE_MASK) made.1.0 in
+    subst (λ (x : Entry). Keeps (entering x s)) made.2 (record { ac = h.ac; pc = pc; tc = h.tc; ip = made.1.1 })
+
+kind_kept : (limit : ℕ) (due : Due) (k : Kind) (s : State) → MayCome limit due s k → IsKept s → Keeps (action_by_kind k s)
+kind_kept limit due (Instruction i) s may h = instruction_kept i s h
+kind_kept limit due (Faulted inst fault) s may h =
+    let words = faulted_words inst in
+    going_kept s (wrapped (s.ip + 4 * words)) h (following_even s words h)
+kind_kept limit due (Entered e) s may h = entering_kept s may.0 e h may.2
+
+-- ---- the state after it
+
+group_kept : (a b c : Bool) (s : State) (group : ℕ) (ws : List ℕ) → IsKept s → IsKept (by_group a b c s group ws)
+group_kept true b c s group ws h = h
+group_kept false true c s group ws h = h
+group_kept false false true s group ws h = record { ac = h.ac; pc = h.pc; tc = masked TC_MASK (slice_index ws 2); ip = h.ip }
+group_kept false false false s group ws h = h
+
+controlled_kept : (s : State) (c : Control) → IsKept s → IsKept (controlled s c)
+unfolding started setup_of
+controlled_kept s KeepsControls h = h
+controlled_kept s (Restarts first prcb) h = record { ac = masked AC_MASK _; pc = refl; tc = masked TC_MASK _; ip = aligned_even _ }
+controlled_kept s (LoadsGroup group) h =
+    group_kept (eqb group 0) (eqb group 1) (eqb group 6) s group (group_words s.memory s.tables.control_table group) h
+
+acted_kept : (s : State) (a : Action) → Keeps a → IsKept (acted s a)
+unfolding acted moved
+acted_kept s a h = controlled_kept (moved s a) a.control (record { ac = h.ac; pc = h.pc; tc = h.tc; ip = h.ip })
+
+-- ---- a run
+
+boot_kept : (image : List (ℕ × ℕ)) → IsKept (boot image)
+unfolding boot started boot_setup setup_of
+boot_kept image = record { ac = masked AC_MASK _; pc = refl; tc = masked TC_MASK _; ip = aligned_even _ }
+
+pub kept_after : (g : Given) (rs : List Record) → IsPast g rs → IsKept (state_after g rs)
+kept_after g [] past = boot_kept g.image
+kept_after g (r ∷ rs) past =
+    let s = state_after g rs in
+    let comes = next_comes g.length (due_after rs) s r past.1 in
+    let keeps = kind_kept g.length (due_after rs) r.kind s comes.1 (kept_after g rs past.0) in
+    subst (λ (q : Record). IsKept q.after) (sym comes.0) (acted_kept s (action_by_kind r.kind s) keeps)

@@ -1,0 +1,11 @@
+pub mod Entered
+pub mod KeptBits
+pub mod Decoded
+pub mod StoredWords
+pub mod ResultWords
+pub mod WordsAfter
+pub mod LiveFrames
+pub mod FrameRegisters
+pub mod Pushes
+pub mod RecordWords
+pub mod Returns

@@ -1,0 +1,94 @@
+-- The entry of a fault writes the controls into the record below its frame.
+use Rattle.std.proofs.Common.{◌≡◌, ℕ, ◌+◌, ◌*◌, ◌<◌, Bool, true, false, cond, List, [], ◌∷◌, length, get_or, None, Ok, refl, sym, ap, ◌∙◌, subst, arith}
+use Rattle.std.specs.Prelude.{replicate}
+use Rattle.std.specs.Int.{w32, from_le_bytes, from_be_bytes, to_le_bytes, to_be_bytes}
+use Rattle.i9_model.specs.declared.layout.TheConstants.{FP, AC_MASK, PC_MASK, RECORD_SIZE}
+use Rattle.i9_model.specs.declared.calls.Sys.{Sys}
+use Rattle.i9_model.specs.declared.faults.Fault.{Fault}
+use Rattle.i9_model.specs.declared.faults.Entry.{Entry}
+use Rattle.i9_model.specs.Writes.{address_count, wrapped, upwards}
+use Rattle.i9_model.specs.Memory.{Memory, region_of, is_big, word_in, word_bytes, with_writes, with_words}
+use Rattle.i9_model.specs.State.{State}
+use Rattle.i9_model.specs.Frames.{saved}
+use Rattle.i9_model.specs.Hazards.{write_hazard, port_hazard}
+use Rattle.i9_model.specs.Calls.{record_address, saved_pc, saved_ac}
+use Rattle.i9_model.specs.Faults.{record_write_hazard, fault_record, entry_of}
+use Rattle.i9_model.specs.Step.{bytes_of_words, saved_locals, entering, moved, acted}
+use Rattle.i9_model.specs.Run.{entry_in}
+use Rattle.i9_model.proofs.CallLaws.{second_none}
+use Rattle.i9_model.proofs.FrameBytes.{stored_at, byte_of_words}
+use Rattle.i9_model.proofs.FrameLaws.{port_hazard-none}
+use Rattle.i9_model.proofs.Overlays.{words_mcon}
+use Rattle.i9_model.proofs.Readings.{in_bytes-has}
+use Rattle.i9_model.proofs.SoundRuns.{words_long}
+use Rattle.i9_laws.specs.Kept.{IsWord}
+use Rattle.i9_laws.specs.Undone.{HasControls}
+use Rattle.i9_laws.proofs.Entered.{entry_by}
+use Rattle.i9_laws.proofs.FrameRegisters.{frame_pointer}
+use Rattle.i9_laws.proofs.KeptBits.{IsKept}
+use Rattle.i9_laws.proofs.WordsAfter.{within_word}
+
+-- ---- a word by its four bytes
+
+abbrev bytes_by : Bool → ℕ → List ℕ
+bytes_by big w = cond big (to_be_bytes w32 w) (to_le_bytes w32 w)
+
+by_order : (big : Bool) (w p q r s : ℕ) → IsWord w → p ≡ get_or (bytes_by big w) 0 0 → q ≡ get_or (bytes_by big w) 1 0
+    → r ≡ get_or (bytes_by big w) 2 0 → s ≡ get_or (bytes_by big w) 3 0
+    → cond big (from_be_bytes w32 (p ∷ q ∷ r ∷ s ∷ [])) (from_le_bytes w32 (p ∷ q ∷ r ∷ s ∷ [])) ≡ w
+by_order true w p q r s small h i j k = omega (arith, small, h, i, j, k)
+by_order false w p q r s small h i j k = omega (arith, small, h, i, j, k)
+
+-- the word whose bytes, in the order of another memory with the same regions, stand at an address
+word_back : (m n : Memory) (x w : ℕ) → n.mcon ≡ m.mcon → x < address_count → IsWord w
+    → ((j : ℕ) → j < 4 → n.bytes (wrapped (x + j)) ≡ get_or (word_bytes m x w) j 0) → word_in n x ≡ w
+unfolding word_in word_bytes
+word_back m n x w same low small has =
+    let r = region_of x in
+    let order : is_big m r ≡ is_big n r = ap (λ (c : ℕ → ℕ). is_big (record m { mcon = c }) r) (sym same) in
+    let stands = λ (j : ℕ) (h : j < 4). has j h ∙ ap (λ (b : Bool). get_or (bytes_by b w) j 0) order in
+    let first : wrapped (x + 0) ≡ x = omega (arith, low) in
+    by_order (is_big n r) w (n.bytes x) (n.bytes (wrapped (x + 1))) (n.bytes (wrapped (x + 2))) (n.bytes (wrapped (x + 3))) small
+    (sym (ap n.bytes first) ∙ stands 0 (omega arith)) (stands 1 (omega arith)) (stands 2 (omega arith)) (stands 3 (omega arith))
+
+-- ---- a record
+
+-- words that are stored outside the port page stand there
+record_stands : (m n : Memory) (a : ℕ) (ws : List ℕ) (k : ℕ) → n.mcon ≡ m.mcon → a < address_count → port_hazard a RECORD_SIZE ≡ None
+    → length ws ≡ 4 → k < 4 → IsWord (get_or ws k 0)
+    → word_in (with_writes n (upwards a (bytes_of_words m a ws))) (wrapped (a + 4 * k)) ≡ get_or ws k 0
+record_stands m n a ws k same low free four h small =
+    let bs = bytes_of_words m a ws in
+    let long = words_long m a ws in
+    let after = with_writes n (upwards a bs) in
+    word_back m after (wrapped (a + 4 * k)) (get_or ws k 0) same (omega arith) small (λ j l.
+    let place : wrapped (wrapped (a + 4 * k) + j) ≡ wrapped (a + (4 * k + j)) = omega arith in
+    let inside = in_bytes-has a RECORD_SIZE (4 * k + j) (omega (arith, h, l)) in
+    let outside = port_hazard-none a RECORD_SIZE (wrapped (a + (4 * k + j))) free inside in
+    ap after.bytes place
+    ∙ stored_at n.bytes a bs (4 * k + j) (omega (arith, long, four, h, l)) (omega (arith, long, four)) outside
+    ∙ byte_of_words m a ws k j low (omega (arith, four, h)) l)
+
+pub entering_writes : (s : State) (fault : Fault) (e : Entry) → IsKept s → entry_in s fault ≡ Ok e → HasControls s (acted s (entering e s))
+unfolding acted moved record_write_hazard
+entering_writes s fault e kept ok =
+    let made = entry_by (λ (x : Sys). Unit {0}) s fault e (record { switched = λ x y. tt; here = λ x. tt }) ok in
+    let push = made.0.push in
+    let a = record_address push.frame in
+    let ws = fault_record fault s.pc s.ac in
+    let n = with_words s.memory push.save (saved_locals s s.ip) in
+    let free = second_none (write_hazard (saved s.frames push.save) a RECORD_SIZE) (port_hazard a RECORD_SIZE) made.3 in
+    let regions = words_mcon s.memory push.save (saved_locals s s.ip) in
+    let stands = λ (k : ℕ) (h : k < 4) (small : IsWord (get_or ws k 0)).
+    record_stands s.memory n a ws k regions (omega arith) free refl h small in
+    let after = with_writes n (upwards a (bytes_of_words s.memory a ws)) in
+    let start : wrapped (a + 0) ≡ a = omega arith in
+    let fp : (acted s (entering (entry_of fault s.pc s.ac made.0) s)).regs FP ≡ push.frame =
+    frame_pointer s.regs (push.pfp ∷ push.sp ∷ replicate 14 0) push.frame in
+    subst (λ (x : Entry). HasControls s (acted s (entering x s))) made.2 (record {
+      pc =
+          ap (saved_pc after) fp
+          ∙ sym (ap (word_in after) start)
+          ∙ stands 0 (omega arith) (within_word PC_MASK s.pc (omega arith) kept.pc);
+      ac = ap (saved_ac after) fp ∙ stands 1 (omega arith) (within_word AC_MASK s.ac (omega arith) kept.ac);
+    })

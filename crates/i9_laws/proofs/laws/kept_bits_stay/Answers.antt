@@ -1,0 +1,27 @@
+use Rattle.i9_laws.proofs.KeptBits.{kept_after}
+use Rattle.i9_laws.proofs.WordsAfter.{words_after, parts_bytes}
+use Rattle.i9_laws.proofs.laws.kept_bits_stay.Goals as goal
+
+pub returns-clause-ac : goal.returns-clause-ac
+returns-clause-ac c = λ g rs past. (kept_after g rs past).ac
+
+pub returns-clause-pc : goal.returns-clause-pc
+returns-clause-pc c = λ g rs past. (kept_after g rs past).pc
+
+pub returns-clause-tc : goal.returns-clause-tc
+returns-clause-tc c = λ g rs past. (kept_after g rs past).tc
+
+pub returns-clause-ip : goal.returns-clause-ip
+returns-clause-ip c = λ g rs past. (kept_after g rs past).ip
+
+pub returns-clause-registers : goal.returns-clause-registers
+returns-clause-registers c = λ g rs image past. (words_after g rs image past).regs
+
+pub returns-clause-address : goal.returns-clause-address
+returns-clause-address c = λ g rs image past. (words_after g rs image past).ip
+
+pub returns-clause-bytes : goal.returns-clause-bytes
+returns-clause-bytes c = λ g rs image past. (words_after g rs image past).bytes
+
+pub returns-clause-images : goal.returns-clause-images
+returns-clause-images c = parts_bytes

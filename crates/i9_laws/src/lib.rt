@@ -1,0 +1,6 @@
+//! Laws of the one-at-a-time machine, on which nothing stands.
+#![tactic(auto)]
+
+mod laws;
+
+pub use laws::{a_live_frame_keeps_its_words, a_return_undoes_a_call, kept_bits_stay};

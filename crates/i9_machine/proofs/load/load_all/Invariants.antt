@@ -1,9 +1,0 @@
-use Rattle.std.proofs.Common.{◌≡◌, drop, map}
-use Rattle.i9_hex.specs.Shown.{part_of}
-use Rattle.i9_memory.specs.Memory.{memory_of}
-use Rattle.i9_model.specs.Image.{pairs_of}
-use Rattle.i9_machine.specs.Processor.{with_pairs}
-use Rattle.i9_machine.proofs.load.load_all.Given as goal
-
-abbrev pub invariant-loop-segment : goal.invariant-loop-segment
-invariant-loop-segment l = with_pairs (memory_of l.memory) (pairs_of (map part_of (drop l.segment-index l.segments))) ≡ with_pairs (memory_of l.fn.memory) (pairs_of (map part_of l.segments))

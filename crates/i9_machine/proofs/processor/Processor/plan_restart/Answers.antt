@@ -1,9 +1,0 @@
-use Rattle.std.proofs.Common.{◌≡◌, None, rules, sym, ◌∙◌}
-use Rattle.i9_machine.specs.Processor.{state_of}
-use Rattle.i9_model.proofs.AlikeSteps.{restart_readable}
-use Rattle.i9_machine.proofs.processor.Processor.plan_restart.Goals as goal
-
-pub controlling-requires : goal.controlling-requires
-controlling-requires c =
-    let none : c.tables_hazard.result ≡ None = search rules in
-    restart_readable c.args.i.now (state_of c.args.self.now) c.value-first.result c.value-prcb.result (sym c.tables_hazard.ensures ∙ none)

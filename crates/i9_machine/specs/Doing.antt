@@ -1,0 +1,37 @@
+-- What a step prints and what it needs, from its effect.
+use Rattle.std.specs.Prelude.{ℕ, ◌+◌, ◌≤◌, Bool, ◌||◌, nat_lt, List, ◌++◌, length, Option, None, Some}
+use Rattle.std.specs.Option.{option_map}
+use Rattle.i9_model.specs.Memory.{console_byte}
+use Rattle.i9_model.specs.Free.{IsFree}
+use Rattle.i9_model.specs.State.{State}
+use Rattle.i9_model.specs.Step.{moved}
+use Rattle.i9_model.specs.declared.run.Point.{Point}
+use Rattle.i9_model.specs.PrintedText.{Shown, out_lines, point_lines}
+use Rattle.i9_processor.specs.Effect.{writes_in, action_in, AreRegisters, CanControl, CanMove, has_writes, is_restart}
+use Rattle.i9_machine.specs.declared.step.Step.{Step}
+
+-- the lines of a step, from the state after it
+abbrev pub lines_of : Step → State → List Shown
+lines_of step t = out_lines (console_byte (writes_in step.effect)) ++ point_lines (step.point) t
+
+-- how many drained points are printed
+abbrev pub point_count : Option Point → ℕ
+point_count None = 0
+point_count (Some kind) = 1
+
+-- how many lines are printed
+abbrev pub line_count : Step → ℕ
+line_count step = length (out_lines (console_byte (writes_in step.effect))) + point_count (step.point)
+
+-- it prints lines, stores bytes, saves a frame, or makes new sets
+abbrev pub asks_room : State → Step → Bool
+asks_room s step =
+    nat_lt 0 (line_count step) || (has_writes (action_in s step.effect) || is_restart (action_in s step.effect).control)
+
+-- its effect can be applied in a state, and its count fits a length
+pub record IsReady (s : State) (limit : ℕ) (step : Step) : Type 0 where
+  pub registers : AreRegisters step.effect.sets.items
+  pub moves : CanMove s.frames step.effect.frames
+  pub free : IsFree s (action_in s step.effect)
+  pub controls : CanControl (moved s (action_in s step.effect)) step.effect.control
+  pub below : s.count + step.counts ≤ limit

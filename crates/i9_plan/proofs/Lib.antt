@@ -1,0 +1,6 @@
+pub mod ValidGroups
+pub mod Answering
+pub mod WordBytes
+pub mod CallPlans
+pub mod Faulting
+pub mod Outcomes

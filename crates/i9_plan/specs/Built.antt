@@ -1,0 +1,18 @@
+-- What is known of every valid instruction, and which names do what.
+use Rattle.std.specs.Prelude.{ℕ, ◌+◌, ◌≤◌, Bool, false}
+use Rattle.i9_isa.specs.declared.op.Op.{Op}
+use Rattle.i9_isa.specs.declared.op.Op.TheVariants.{Bal}
+use Rattle.i9_isa.specs.declared.inst.Operand.{Operand}
+use Rattle.i9_isa.specs.declared.inst.Operand.TheVariants.{Reg, Lit, Sfr}
+use Rattle.i9_model.specs.Branches.{asks, question_of}
+
+-- so many registers from the one that an operand names are there
+abbrev pub HasGroup : Operand → ℕ → Type 0
+HasGroup (Reg r) n = r + n ≤ 32
+HasGroup (Lit l) n = Unit {0}
+HasGroup (Sfr k) n = Unit {0}
+
+-- names that branch, or fault by their condition, and do nothing else
+abbrev pub is_branch : Op → Bool
+is_branch Bal = false
+is_branch op = asks (question_of op)

@@ -1,0 +1,70 @@
+-- What is planned, in the plain forms of the definitions.
+use Rattle.std.specs.Prelude.{◌≡◌, ℕ, ◌==◌, Bool, true, false, if◌then◌else◌, Option, Some, None, Result, Ok, Err}
+use Rattle.i9_isa.specs.declared.inst.Inst.{Inst}
+use Rattle.i9_isa.specs.Words.{words_of}
+use Rattle.i9_model.specs.declared.arith.Arith.{Arith}
+use Rattle.i9_model.specs.declared.faults.Fault.{Fault}
+use Rattle.i9_model.specs.declared.faults.Entry.{Entry}
+use Rattle.i9_model.specs.declared.faults.FaultStop.{FaultStop}
+use Rattle.i9_model.specs.State.{State}
+use Rattle.i9_model.specs.Step.{Action, entering, action_of, first_word, next_word}
+use Rattle.i9_model.specs.Access.{Access, hazard_in}
+use Rattle.i9_model.specs.Standing as plain
+use Rattle.i9_model.specs.Run.{entry_in}
+use Rattle.i9_processor.specs.declared.effect.Effect.{Effect}
+use Rattle.i9_processor.specs.Effect.{IsEffect}
+use Rattle.i9_plan.specs.declared.planned.Words.{Words}
+use Rattle.i9_plan.specs.declared.planned.Planned.{Planned}
+use Rattle.i9_plan.specs.declared.planned.Planned.TheVariants as plans
+use Rattle.i9_plan.specs.declared.outcome.Outcome.{Outcome}
+use Rattle.i9_plan.specs.declared.outcome.Outcome.TheVariants as outcomes
+
+-- what stands at the instruction address
+abbrev pub standing_of : Planned → plain.Standing
+standing_of (plans.Meets a) = plain.Meets a
+standing_of plans.NotBuilt = plain.NotBuilt
+standing_of (plans.Refused words number) = plain.Refused number
+standing_of (plans.Faults words i number) = plain.Faults i number
+standing_of (plans.Runs words i e) = plain.Runs i
+
+-- the words of an instruction of so many, the second one as 0 where there is none
+pub record TellsWords (count : ℕ) (s : State) (words : Words) : Type 0 where
+  pub first : words.first ≡ first_word s
+  pub second : words.second ≡ (if count == 2 then next_word s else 0)
+
+-- its words are told, and its effect is its action
+abbrev pub IsPlanned : State → Planned → Type 0
+IsPlanned s (plans.Meets a) = Unit {0}
+IsPlanned s plans.NotBuilt = Unit {0}
+IsPlanned s (plans.Refused words number) = TellsWords 1 s words
+IsPlanned s (plans.Faults words i number) = TellsWords (words_of i) s words
+IsPlanned s (plans.Runs words i e) = TellsWords (words_of i) s words × IsEffect s (action_of i s) e
+
+-- what an instruction that is built comes to
+abbrev pub standing_in : Inst → Outcome → plain.Standing
+standing_in i (outcomes.Meets a) = plain.Meets a
+standing_in i outcomes.NotBuilt = plain.NotBuilt
+standing_in i (outcomes.Faults number) = plain.Faults i number
+standing_in i (outcomes.Runs e) = plain.Runs i
+
+-- what an instruction comes to whose result is this fault, or none: an imprecise one is not built
+abbrev pub by_result : Inst → Option Arith → Bool → plain.Standing
+by_result i None precise = plain.Runs i
+by_result i (Some f) true = plain.Faults i (plain.arithmetic_fault f)
+by_result i (Some f) false = plain.NotBuilt
+
+abbrev pub HasEffect : State → Inst → Outcome → Type 0
+HasEffect s i (outcomes.Meets a) = Unit {0}
+HasEffect s i outcomes.NotBuilt = Unit {0}
+HasEffect s i (outcomes.Faults number) = Unit {0}
+HasEffect s i (outcomes.Runs e) = IsEffect s (action_of i s) e
+
+-- an action whose access meets no hazard, or the hazard
+abbrev pub IsPlanFor : State → Access → Action → Result Effect ℕ → Type 0
+IsPlanFor s access action (Ok e) = (hazard_in s access ≡ None) × IsEffect s action e
+IsPlanFor s access action (Err a) = hazard_in s access ≡ Some a
+
+-- the entry of a fault, or what stops it
+abbrev pub PlansEntry : State → Fault → Result Effect FaultStop → Type 0
+PlansEntry s fault (Ok e) = (x : Entry) × (entry_in s fault ≡ Ok x) × IsEffect s (entering x s) e
+PlansEntry s fault (Err stop) = entry_in s fault ≡ Err stop

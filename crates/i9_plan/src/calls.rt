@@ -1,0 +1,136 @@
+//! What calls, returns and the entries of faults will do.
+ghost use Rattle.std.specs.Prelude.{◌≡◌, ◌≤◌, ◌%◌, ◌∷◌, None, replicate};
+ghost use Rattle.i9_model.specs.declared.layout.TheConstants.{FP, PFP, MOST_SYSTEM_CALL};
+ghost use Rattle.i9_model.specs.Hazards.{save_hazard};
+ghost use Rattle.i9_model.specs.Frames.{rounded_down};
+ghost use Rattle.i9_model.specs.Operands.{value};
+ghost use Rattle.i9_model.specs.Step.{saved_locals, pushing, call_action, calls_action, ret_action, entering};
+ghost use Rattle.i9_model.specs.Access.{SavesAt, CallsSystem, ReturnsBy};
+ghost use Rattle.i9_processor.specs.Effect.{IsEffect};
+ghost use Rattle.i9_processor.specs.State.{state_of};
+ghost use Rattle.i9_plan.specs.Planned.{IsPlanFor, PlansEntry};
+
+use crate::effects::going;
+use crate::sources::{following, value};
+use crate::transfers::{bytes_of_words, words};
+use i9_calls::{CallsStop, Push};
+use i9_entry::aligned;
+use i9_faults::{Entry, Fault, FaultStop};
+use i9_isa::Inst;
+use i9_model::layout::{LOCALS, RECORD_SIZE};
+use i9_processor::{Effect, Frame, Move, Processor, frame_sets};
+
+/// The locals of a new frame: pfp, sp, and zeros.
+fn new_locals(push: &Push) -> [u32; 16]
+    ensures { result ≡ push.now.pfp ∷ push.now.sp ∷ replicate 14 0 }
+{
+    [push.pfp, push.sp, 0, 0, 0, 0, 0, 0, 0, 0, 0, 0, 0, 0, 0, 0]
+}
+
+/// The locals that a push saves: rip is the return address.
+fn saved_locals(p: &Processor, back: u32) -> [u32; LOCALS]
+    ensures { result ≡ saved_locals (state_of p.now) back }
+{
+    let r = |k: u8| p.register(k);
+    [
+        r(0),
+        r(1),
+        back,
+        r(3),
+        r(4),
+        r(5),
+        r(6),
+        r(7),
+        r(8),
+        r(9),
+        r(10),
+        r(11),
+        r(12),
+        r(13),
+        r(14),
+        r(15),
+    ]
+}
+
+/// The locals are saved with a return address, and control goes on in a new frame.
+#[tactic(auto, using(i9_processor::proofs::Frames::frame_rules))]
+fn pushing(p: &Processor, push: &Push, back: u32, next: u32) -> Effect
+    requires free { save_hazard (state_of p.now).frames push.now.save ≡ None }
+    requires place { push.now.save % 16 ≡ 0 }
+    ensures { IsEffect (state_of p.now) (pushing (state_of p.now) push.now back next) result }
+{
+    let mut effect = going(p, next);
+    effect.sets = frame_sets(&new_locals(push), push.frame);
+    effect.frames = Move::Saves(Frame {
+        address: push.save,
+        words: saved_locals(p, back),
+    });
+    effect
+}
+
+/// A call to an address.
+#[tactic(auto, using(i9_processor::proofs::Frames::push_rules))]
+pub(crate) fn plan_call(p: &Processor, i: &Inst, to: u32) -> Result<Effect, u32>
+    ensures { IsPlanFor (state_of p.now) (SavesAt (rounded_down ((state_of p.now).regs FP))) (call_action i.now (state_of p.now) to) result }
+{
+    let push = p.plan_call()?;
+    Ok(pushing(p, &push, following(p, i), aligned(to)))
+}
+
+/// A call of a system procedure.
+#[tactic(auto, using(crate::proofs::CallPlans::call_rules))]
+pub(crate) fn plan_calls(p: &Processor, i: &Inst) -> Result<Effect, u32>
+    requires { value (state_of p.now) i.now.a ≤ MOST_SYSTEM_CALL }
+    ensures { IsPlanFor (state_of p.now) (CallsSystem (value (state_of p.now) i.now.a)) (calls_action i.now (state_of p.now)) result }
+{
+    let sys = match p.plan_calls(value(p, i.a)) {
+        Ok(sys) => sys,
+        Err(CallsStop::Hazard(a)) => return Err(a),
+        // A number that is too great has raised a fault before.
+        Err(CallsStop::Length) => return Err(p.ip()),
+    };
+    let mut effect = pushing(p, &sys.push, following(p, i), sys.target);
+    effect.pc = sys.pc;
+    Ok(effect)
+}
+
+/// The locals of the frame that pfp names are read, and that frame is entered again.
+#[tactic(auto, using(crate::proofs::CallPlans::call_rules))]
+pub(crate) fn plan_return(p: &Processor) -> Result<Effect, u32>
+    ensures { IsPlanFor (state_of p.now) (ReturnsBy ((state_of p.now).regs PFP)) (ret_action (state_of p.now)) result }
+{
+    let pop = p.plan_ret()?;
+    let locals = words(p, pop.frame, LOCALS);
+    let mut effect = going(p, aligned(p.word(pop.frame.wrapping_add(8))));
+    effect.sets = frame_sets(locals.as_slice(), pop.frame);
+    effect.frames = Move::Returns;
+    effect.pc = pop.pc;
+    effect.ac = pop.ac;
+    Ok(effect)
+}
+
+/// The entry of a fault: its record is written below the new frame.
+#[tactic(auto, using(crate::proofs::WordBytes::word_rules))]
+fn entering(p: &Processor, e: &Entry) -> Effect
+    requires free { save_hazard (state_of p.now).frames e.now.push.save ≡ None }
+    requires place { e.now.push.save % 16 ≡ 0 }
+    ensures { IsEffect (state_of p.now) (entering e.now (state_of p.now)) result }
+{
+    let record = (e.push.frame - e.push.frame % 16).wrapping_sub(RECORD_SIZE);
+    let mut effect = pushing(p, &e.push, p.ip(), e.target);
+    effect.address = record;
+    effect.bytes = bytes_of_words(p, record, &e.words, 4);
+    effect.pc = e.pc;
+    effect
+}
+
+/// How a fault is entered, or what stops that: a hazard or a dead entry of the fault table (the i960
+/// CA/CF User's Manual, faults).
+pub fn plan_entry(p: &Processor, fault: &Fault) -> Result<Effect, FaultStop>
+    ensures { PlansEntry (state_of p.now) fault.now result }
+{
+    match p.plan_fault(fault) {
+        Ok(entry) => Ok(entering(p, &entry)),
+        Err(stop) => Err(stop),
+    }
+}

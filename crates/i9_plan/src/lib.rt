@@ -1,0 +1,21 @@
+//! Planning: what stands at the instruction address, and what it will do. It looks at the state that
+//! a processor stands for, and changes nothing.
+#![tactic(auto)]
+
+mod built;
+mod calls;
+mod effects;
+mod outcome;
+mod planned;
+mod raised;
+mod sources;
+mod system;
+mod transfers;
+mod words;
+
+pub use calls::plan_entry;
+pub use effects::plan_faulting;
+pub use planned::{Planned, Words, plan_next};
+
+#[cfg(test)]
+mod tests;

@@ -1,0 +1,217 @@
+//! What an instruction that is built comes to.
+ghost use Rattle.std.specs.Prelude.{◌≡◌, ◌==◌, ◌&&◌, not, None, Some, true, false, length};
+ghost use Rattle.i9_isa.specs.Operands.{words_written};
+ghost use Rattle.i9_isa.specs.Valid.{IsValid};
+ghost use Rattle.i9_exec.specs.Shown.{answer_of};
+ghost use Rattle.i9_model.specs.Operands.{value};
+ghost use Rattle.i9_model.specs.Access.{access_by_name, access_of};
+ghost use Rattle.i9_model.specs.Branches.{branch_controls, is_taken};
+ghost use Rattle.i9_model.specs.Results.{has_result, destination_words};
+ghost use Rattle.i9_model.specs.Step.{Flushes, passing, destination, resulting, branching, action_by_name, action_of};
+ghost use Rattle.i9_isa.specs.Words.{bit};
+ghost use Rattle.i9_model.specs.declared.layout.TheConstants.{PRECISE_FAULTS_PLACE};
+ghost use Rattle.i9_model.specs.Standing.{is_fault_name, raised_in, by_raised};
+ghost use Rattle.i9_processor.specs.Effect.{IsEffect};
+ghost use Rattle.i9_processor.specs.State.{state_of};
+ghost use Rattle.i9_plan.specs.Built.{is_branch};
+ghost use Rattle.i9_plan.specs.Planned.{standing_in, by_result, HasEffect, IsPlanFor};
+
+use crate::built::{is_branch, is_fault_name};
+use crate::calls::{plan_call, plan_calls, plan_return};
+use crate::effects::{answering, assigned, jumping, linking, passing};
+use crate::raised::{arithmetic_fault, raised_in};
+use crate::sources::{address, answer, target, value};
+use crate::system::{plan_message, plan_modac, plan_modpc, plan_modtc};
+use crate::transfers::{plan_atadd, plan_atmod, plan_transfer};
+use crate::words::bit;
+use i9_entry::aligned;
+use i9_exec::{Done, Jump, branch, has_result, results_by_name};
+use i9_isa::{Inst, Op, Operand, Use, row, transfer};
+use i9_model::Arith;
+use i9_model::faults::{CONSTRAINT, RANGE};
+use i9_model::layout::{LINK, PRECISE_FAULTS_PLACE};
+use i9_processor::{Effect, Move, Processor};
+
+/// A hazard of its access, something that is not built, a fault of this type and subtype, or what it
+/// does.
+pub(crate) enum Outcome {
+    Meets(u32),
+    NotBuilt,
+    Faults((u8, u16)),
+    Runs(Effect),
+}
+
+/// Whether a use writes registers.
+fn writes(use_of: Use) -> bool
+    ensures { result ≡ not (words_written use_of == 0) }
+{
+    match use_of {
+        Use::Destination(n) | Use::Load(n) => n != 0,
+        Use::Change => true,
+        _ => false,
+    }
+}
+
+/// The destination of a result: src1 of a test, src/dst of the others.
+fn destination(i: &Inst) -> Operand
+    ensures { result ≡ destination i.now }
+{
+    if writes(row(i.op).a) { i.a } else { i.c }
+}
+
+/// A result goes to its destination.
+#[tactic(auto, using(crate::proofs::Answering::answer_rules, crate::proofs::ValidGroups::group_rules))]
+fn resulting(p: &Processor, i: &Inst, done: &Done) -> Effect
+    requires valid { IsValid i.now }
+    requires whole { length done.now.values.items ≡ destination_words i.now.op }
+    ensures { IsEffect (state_of p.now) (resulting i.now (state_of p.now) (Some (answer_of done.now))) result }
+{
+    let mut effect = passing(p, i);
+    effect.sets = assigned(destination(i), done.values.as_slice());
+    effect.ac = done.ac;
+    effect
+}
+
+/// An arithmetic fault: one that may be imprecise is not built.
+fn arithmetic_outcome(p: &Processor, i: &Inst, f: Arith) -> Outcome
+    ensures standing { standing_in i.now result ≡ by_result i.now (Some f) (bit (state_of p.now).ac PRECISE_FAULTS_PLACE) }
+    ensures effect { HasEffect (state_of p.now) i.now result }
+{
+    if bit(p.ac(), PRECISE_FAULTS_PLACE) {
+        Outcome::Faults(arithmetic_fault(f))
+    } else {
+        Outcome::NotBuilt
+    }
+}
+
+/// What an instruction with a result comes to.
+fn result_outcome(p: &Processor, i: &Inst) -> Outcome
+    requires valid { IsValid i.now }
+    requires result { has_result i.now.op ≡ true }
+    ensures standing { standing_in i.now result ≡ by_raised i.now (state_of p.now) None }
+    ensures effect { HasEffect (state_of p.now) i.now result }
+{
+    let done = answer(p, i);
+    match done.fault {
+        None => Outcome::Runs(resulting(p, i, &done)),
+        Some(f) => arithmetic_outcome(p, i, f),
+    }
+}
+
+/// What the condition of a branch gives.
+fn jump_of(p: &Processor, i: &Inst) -> Jump
+    ensures ac { result.ac ≡ branch_controls i.now (value (state_of p.now) i.now.a) (value (state_of p.now) i.now.b) (state_of p.now).ac }
+    ensures taken { result.taken ≡ is_taken i.now (value (state_of p.now) i.now.a) (value (state_of p.now) i.now.b) (state_of p.now).ac }
+{
+    branch(i, value(p, i.a), value(p, i.b), p.ac())
+}
+
+/// The condition code changes, and control goes to the target where the branch is taken.
+fn branching(p: &Processor, i: &Inst, jump: Jump) -> Effect
+    requires ac { jump.ac ≡ branch_controls i.now (value (state_of p.now) i.now.a) (value (state_of p.now) i.now.b) (state_of p.now).ac }
+    requires taken { jump.taken ≡ is_taken i.now (value (state_of p.now) i.now.a) (value (state_of p.now) i.now.b) (state_of p.now).ac }
+    ensures { IsEffect (state_of p.now) (branching i.now (state_of p.now)) result }
+{
+    let mut effect = passing(p, i);
+    effect.ac = jump.ac;
+    if jump.taken {
+        effect.next = aligned(target(p, i));
+    }
+    effect
+}
+
+/// Whether a fault instruction's condition holds.
+fn raises_range(i: &Inst, jump: Jump) -> bool
+    ensures { result ≡ (is_fault_name i.now.op && jump.taken) }
+{
+    is_fault_name(i.op) && jump.taken
+}
+
+/// What a branch comes to, or a fault instruction: its fault, where its condition holds.
+fn branch_outcome(p: &Processor, i: &Inst) -> Outcome
+    requires { is_branch i.now.op ≡ true }
+    ensures standing { standing_in i.now result ≡ by_raised i.now (state_of p.now) None }
+    ensures effect { HasEffect (state_of p.now) i.now result }
+{
+    results_by_name();
+    let jump = jump_of(p, i);
+    if raises_range(i, jump) {
+        Outcome::Faults((CONSTRAINT, RANGE))
+    } else {
+        Outcome::Runs(branching(p, i, jump))
+    }
+}
+
+/// Frames are flushed.
+fn flushing(p: &Processor, i: &Inst) -> Effect
+    ensures { IsEffect (state_of p.now) (record (passing i.now (state_of p.now)) { move = Flushes }) result }
+{
+    let mut effect = passing(p, i);
+    effect.frames = Move::Flushes;
+    effect
+}
+
+/// What an instruction does that neither branches nor has a result, or the hazard of its access.
+fn plan_by_name(p: &Processor, i: &Inst) -> Result<Effect, u32>
+    requires valid { IsValid i.now }
+    requires calm { raised_in i.now (state_of p.now) ≡ None }
+    requires result { has_result i.now.op ≡ false }
+    requires branch { is_branch i.now.op ≡ false }
+    ensures { IsPlanFor (state_of p.now) (access_by_name i.now.op i.now (state_of p.now)) (action_by_name i.now.op i.now (state_of p.now)) result }
+{
+    match i.op {
+        Op::Lda => Ok(answering(p, i, address(p, &i.ea))),
+        Op::Atadd => plan_atadd(p, i),
+        Op::Atmod => plan_atmod(p, i),
+        Op::Bx => Ok(jumping(p, i, address(p, &i.ea))),
+        Op::Balx => Ok(linking(p, i.c, i, address(p, &i.ea))),
+        Op::Bal => Ok(linking(p, Operand::Reg(LINK), i, target(p, i))),
+        Op::Call => plan_call(p, i, target(p, i)),
+        Op::Callx => plan_call(p, i, address(p, &i.ea)),
+        Op::Calls => plan_calls(p, i),
+        Op::Ret => plan_return(p),
+        Op::Flushreg => Ok(flushing(p, i)),
+        Op::Modac => Ok(plan_modac(p, i)),
+        Op::Modtc => Ok(plan_modtc(p, i)),
+        Op::Modpc => Ok(plan_modpc(p, i)),
+        Op::Sysctl => plan_message(p, i),
+        _ => Ok(passing(p, i)),
+    }
+}
+
+/// What an instruction does that neither branches nor has a result, or the hazard of its access.
+#[tactic(auto, unfolding(i9_model::specs::Step::action_of), using(crate::proofs::ValidGroups::group_rules))]
+fn plan(p: &Processor, i: &Inst) -> Result<Effect, u32>
+    requires valid { IsValid i.now }
+    requires calm { raised_in i.now (state_of p.now) ≡ None }
+    requires result { has_result i.now.op ≡ false }
+    requires branch { is_branch i.now.op ≡ false }
+    ensures { IsPlanFor (state_of p.now) (access_of i.now (state_of p.now)) (action_of i.now (state_of p.now)) result }
+{
+    match transfer(i.op) {
+        Some(t) => plan_transfer(p, i, t),
+        None => plan_by_name(p, i),
+    }
+}
+
+/// What an instruction comes to that is built.
+pub(crate) fn outcome_of(p: &Processor, i: &Inst) -> Outcome
+    requires { IsValid i.now }
+    ensures standing { standing_in i.now result ≡ by_raised i.now (state_of p.now) (raised_in i.now (state_of p.now)) }
+    ensures effect { HasEffect (state_of p.now) i.now result }
+{
+    if let Some(number) = raised_in(p, i) {
+        return Outcome::Faults(number);
+    }
+    if has_result(i.op) {
+        return result_outcome(p, i);
+    }
+    if is_branch(i.op) {
+        return branch_outcome(p, i);
+    }
+    results_by_name();
+    match plan(p, i) {
+        Ok(effect) => Outcome::Runs(effect),
+        Err(a) => Outcome::Meets(a),
+    }
+}

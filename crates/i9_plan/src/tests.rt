@@ -1,0 +1,412 @@
+//! Plans in a state that is worked out by hand: one frame is saved at 3000, and its words are all 9.
+ghost use Rattle.std.specs.Prelude.{◌≡◌, []};
+ghost use Rattle.i9_model.specs.Free.{IsFree};
+ghost use Rattle.i9_model.specs.Step.{moved};
+ghost use Rattle.i9_processor.specs.Effect.{action_in, AreRegisters, CanControl, CanMove};
+ghost use Rattle.i9_processor.specs.State.{state_of};
+
+use crate::{Planned, Words, plan_entry, plan_faulting, plan_next};
+use Rest::{Flushes, Group, Nothing, Restart, Returns, Saves, Stores};
+use Seen::{Faults, Meets, NotBuilt, Refused, Runs};
+use arrayvec::ArrayVec;
+use i9_faults::{Fault, FaultStop};
+use i9_hex::Segments;
+use i9_isa::Op;
+use i9_processor::{Control, Effect, Frame, Move, Processor, frame_sets, group_sets};
+use std::alloc::Global;
+use std::test::Fail;
+
+/// Process controls in supervisor mode, in user mode, and with trace enable.
+const PC: u32 = 0x001F_2002;
+
+const USER: u32 = 0x001F_2000;
+
+const TRACED: u32 = 0x001F_2003;
+
+/// Arithmetic controls by which no fault is imprecise.
+const PRECISE: u32 = 0x8000;
+
+/// g0 to g14.
+const GLOBALS: [u32; 15] = [
+    0x3010,
+    0x4001,
+    0x8000_0000,
+    0x0500,
+    5,
+    0x0600_0104,
+    1,
+    0x001F_0000,
+    0,
+    0x0300,
+    0x1234,
+    0x3000,
+    0x0406,
+    0x4008,
+    0,
+];
+
+/// What is planned, but for effects.
+#[derive(Clone, Copy, Debug, PartialEq, Eq)]
+enum Seen {
+    Meets(u32),
+    NotBuilt,
+    Refused(u8, u16),
+    Faults(Op, u8, u16),
+    Runs(Op),
+}
+
+fn seen_of(planned: &Planned) -> Seen {
+    match planned {
+        Planned::Meets(a) => Meets(*a),
+        Planned::NotBuilt => NotBuilt,
+        Planned::Refused { number, .. } => Refused(number.0, number.1),
+        Planned::Faults { inst, number, .. } => Faults(inst.op, number.0, number.1),
+        Planned::Runs { inst, .. } => Runs(inst.op),
+    }
+}
+
+/// What an effect does but for registers: the address, the number and the last of the bytes that it
+/// stores, and what is done to frames, or to the controls behind a flush.
+#[derive(Clone, Copy, Debug, PartialEq, Eq)]
+enum Rest {
+    Nothing,
+    Stores(u32, usize, u8),
+    Saves(Frame),
+    Returns,
+    Flushes,
+    Restart(u32, u32),
+    Group(u8),
+    Other,
+}
+
+fn rest_of(effect: &Effect) -> Rest {
+    let is_flush = matches!(effect.frames, Move::Flushes);
+    match effect.control {
+        Control::Restarts { first, prcb } if is_flush => Restart(first, prcb),
+        Control::LoadsGroup(group) if is_flush => Group(group),
+        Control::Keeps => moved_by(effect),
+        _ => Rest::Other,
+    }
+}
+
+fn moved_by(effect: &Effect) -> Rest {
+    match &effect.frames {
+        Move::Stays => match effect.bytes.last() {
+            Some(b) => Stores(effect.address, effect.bytes.len(), *b),
+            None => Nothing,
+        },
+        Move::Saves(f) => Saves(*f),
+        Move::Returns => Returns,
+        Move::Flushes => Flushes,
+    }
+}
+
+/// How many registers an effect sets, and the last one with its value.
+fn sets_of(effect: &Effect) -> (usize, Option<(u8, u32)>) {
+    (effect.sets.len(), effect.sets.last().copied())
+}
+
+/// The arithmetic, process and trace controls after an effect, and the next address.
+fn controls_of(effect: &Effect) -> (u32, u32, u32, u32) {
+    (effect.ac, effect.pc, effect.tc, effect.next)
+}
+
+fn put_word(image: &mut Segments, address: u32, word: u32) -> Result<(), Fail> {
+    let mut at = address;
+    for byte in word.to_le_bytes() {
+        image.put(at, byte)?;
+        at = at.wrapping_add(1);
+    }
+    Ok(())
+}
+
+/// The processor after boot of an image: two words of a program, a PRCB at 2000, a fault table, a
+/// system procedure table, and a word to load.
+fn booted(alloc: Global, at: u32, program: (u32, u32)) -> Result<Processor, Fail> {
+    let words = [
+        (at, program.0),
+        (at.wrapping_add(4), program.1),
+        (0xFFFF_FF14, 0x2000),
+        (0x2000, 0x1100),
+        (0x2004, 0x6000),
+        (0x2014, 0x5500),
+        (0x201C, 0x3000),
+        (0x1110, 0x1300),
+        (0x1118, 0x0001),
+        (0x5544, 0x1204),
+        (0x4000, 0x6543_8721),
+    ];
+    let mut image = Segments::new(alloc);
+    for (address, word) in words {
+        put_word(&mut image, address, word)?;
+    }
+    Ok(Processor::boot(alloc, &image, None)?)
+}
+
+/// Makes room for an effect that keeps the controls, and applies it.
+fn applies(p: &mut Processor, effect: &Effect) -> Result<(), Fail>
+    requires registers { AreRegisters effect.now.sets.items }
+    requires can { CanMove (state_of p.old).frames effect.now.frames }
+    requires free { IsFree (state_of p.old) (action_in (state_of p.old) effect.now) }
+    requires controls { CanControl (moved (state_of p.old) (action_in (state_of p.old) effect.now)) effect.now.control }
+{
+    if p.count() > 100 {
+        return Err("too many".into());
+    }
+    p.reserve(effect)?;
+    p.apply(effect, 0, None);
+    Ok(())
+}
+
+/// Saves the frame at 3000, and goes on in a new one.
+#[tactic(auto, unfolding(i9_model::specs::Hazards::writes_hazard), using(i9_processor::proofs::Frames::frame_rules))]
+fn saves(p: &mut Processor) -> Result<(), Fail> {
+    let push = match p.plan_call() {
+        Ok(push) => push,
+        Err(_) => return Err("a hazard".into()),
+    };
+    let mut locals = [0; 16];
+    locals[0] = push.pfp;
+    locals[1] = push.sp;
+    let frame = Frame {
+        address: push.save,
+        words: [9; 16],
+    };
+    let effect = Effect {
+        sets: frame_sets(&locals, push.frame),
+        address: 0,
+        bytes: ArrayVec::new(),
+        frames: Move::Saves(frame),
+        ac: 0,
+        pc: 0,
+        tc: 0,
+        control: Control::Keeps,
+        next: 0,
+    };
+    applies(p, &effect)
+}
+
+/// Sets g0 to g14, the controls and the instruction address.
+#[tactic(auto, unfolding(i9_model::specs::Hazards::writes_hazard))]
+fn goes(p: &mut Processor, ac: u32, pc: u32, next: u32) -> Result<(), Fail> {
+    let effect = Effect {
+        sets: group_sets(16, &GLOBALS),
+        address: 0,
+        bytes: ArrayVec::new(),
+        frames: Move::Stays,
+        ac,
+        pc,
+        tc: 0,
+        control: Control::Keeps,
+        next,
+    };
+    applies(p, &effect)
+}
+
+/// A processor that is about to do these words: its frame is at 3040, and the one at 3000 is live.
+fn ready(alloc: Global, at: u32, program: (u32, u32), ac: u32, pc: u32) -> Result<Processor, Fail> {
+    let mut p = booted(alloc, at, program)?;
+    saves(&mut p)?;
+    goes(&mut p, ac, pc, at)?;
+    Ok(p)
+}
+
+/// What stands where nothing is done: the arithmetic and process controls, a word, and what is seen.
+const STOPS: [(u32, u32, u32, Seen); 18] = [
+    // A word that is refused, and one whose operand is.
+    (0, PC, 0x0000_0000, Refused(2, 1)),
+    (0, PC, 0x5DA0_0611, Refused(2, 4)),
+    // modpc in user mode, sysctl by message 5, calls past the table, and ld at 4001.
+    (0, USER, 0x65A4_8292, Faults(Op::Modpc, 10, 1)),
+    (0, PC, 0x65A0_1493, Faults(Op::Sysctl, 2, 4)),
+    (0, PC, 0x6600_0015, Faults(Op::Calls, 7, 2)),
+    (0, PC, 0x90A4_6000, Faults(Op::Ld, 2, 3)),
+    // ld, st and atadd of the live frame.
+    (0, PC, 0x90A4_2000, Meets(0x3010)),
+    (0, PC, 0x92A4_2000, Meets(0x3010)),
+    (0, PC, 0x61A0_5110, Meets(0x3010)),
+    // addi that overflows, by an imprecise fault and by a precise one; divo by 0.
+    (0, PC, 0x59A4_8092, NotBuilt),
+    (PRECISE, PC, 0x59A4_8092, Faults(Op::Addi, 3, 1)),
+    (PRECISE, PC, 0x70A1_1D80, Faults(Op::Divo, 3, 2)),
+    // faulte where it is equal.
+    (2, PC, 0x1A00_0000, Faults(Op::Faulte, 5, 1)),
+    // modpc that lowers the priority, sysctl 0, mov of a special function register.
+    (0, PC, 0x65C5_C297, NotBuilt),
+    (0, PC, 0x65A0_1483, NotBuilt),
+    (0, PC, 0x5CA0_0620, NotBuilt),
+    // Whatever stands there while trace enable is set: addo, and a word that is refused.
+    (0, TRACED, 0x59A1_1803, NotBuilt),
+    (0, TRACED, 0x0000_0000, NotBuilt),
+];
+
+#[test]
+fn plans_stops(rt: HostRuntime) -> Result<(), Fail> {
+    for (ac, pc, word, wanted) in STOPS {
+        let p = ready(rt.alloc(), 0x1000, (word, 0), ac, pc)?;
+        assert_eq!(rt; seen_of(&plan_next(&p)), wanted, "{word}");
+    }
+    // The words themselves stand in the live frame: the first one, or the second.
+    for (at, hazard) in [(0x3002, 0x3002), (0x2FFC, 0x3000)] {
+        let p = ready(rt.alloc(), at, (0x8CA8_3000, 0), 0, PC)?;
+        assert_eq!(rt; seen_of(&plan_next(&p)), Meets(hazard));
+    }
+    Ok(())
+}
+
+/// What is done to registers and controls: the arithmetic controls, a word, its name, the register
+/// that is set, and the arithmetic, process and trace controls and the next address behind it.
+const RESULTS: [(u32, u32, Op, Option<(u8, u32)>, (u32, u32, u32, u32)); 13] = [
+    // addo 3, 4, g4; cmpo 3, 4; lda; addi that overflows, masked; ldib at 4001.
+    (0, 0x59A1_1803, Op::Addo, Some((20, 7)), (0, PC, 0, 0x1004)),
+    (1, 0x5A01_1803, Op::Cmpo, None, (4, PC, 0, 0x1004)),
+    (
+        0,
+        0x8CA8_3000,
+        Op::Lda,
+        Some((21, 0x1234)),
+        (0, PC, 0, 0x1008),
+    ),
+    (
+        0x1000,
+        0x59A4_8092,
+        Op::Addi,
+        Some((20, 0)),
+        (0x1100, PC, 0, 0x1004),
+    ),
+    (
+        0,
+        0xC0A4_6000,
+        Op::Ldib,
+        Some((20, 0xFFFF_FF87)),
+        (0, PC, 0, 0x1004),
+    ),
+    // cmpobe, taken and not; faulte where it is greater; b; bal.
+    (0, 0x3200_E010, Op::Cmpobe, None, (2, PC, 0, 0x1010)),
+    (0, 0x3208_E010, Op::Cmpobe, None, (1, PC, 0, 0x1004)),
+    (1, 0x1A00_0000, Op::Faulte, None, (1, PC, 0, 0x1004)),
+    (0, 0x0800_0008, Op::B, None, (0, PC, 0, 0x1008)),
+    (
+        0,
+        0x0B00_0008,
+        Op::Bal,
+        Some((30, 0x1004)),
+        (0, PC, 0, 0x1008),
+    ),
+    // modac, modtc, and modpc that sets trace enable.
+    (
+        0x8001,
+        0x64A0_9A87,
+        Op::Modac,
+        Some((20, 0x8001)),
+        (0x8002, PC, 0, 0x1004),
+    ),
+    (0, 0x65A7_DA06, Op::Modtc, Some((20, 0)), (0, PC, 6, 0x1004)),
+    (
+        0,
+        0x65B5_8296,
+        Op::Modpc,
+        Some((22, PC)),
+        (0, TRACED, 0, 0x1004),
+    ),
+];
+
+#[test]
+fn plans_results(rt: HostRuntime) -> Result<(), Fail> {
+    for (ac, word, op, set, controls) in RESULTS {
+        let p = ready(rt.alloc(), 0x1000, (word, 0x1234), ac, PC)?;
+        match plan_next(&p) {
+            Planned::Runs {
+                words,
+                inst,
+                effect,
+            } => {
+                let second = if op == Op::Lda { 0x1234 } else { 0 };
+                assert_eq!(rt;
+                    words,
+                    Words {
+                        first: word,
+                        second
+                    }
+                );
+                assert_eq!(rt; (inst.op, rest_of(&effect)), (op, Nothing));
+                assert_eq!(rt; sets_of(&effect), (usize::from(set.is_some()), set));
+                assert_eq!(rt; controls_of(&effect), controls);
+            }
+            _ => assert!(rt; false, "{word}"),
+        }
+    }
+    Ok(())
+}
+
+/// The save of the frame at 3040, with a return address.
+fn saved(back: u32) -> Rest {
+    Saves(Frame {
+        address: 0x3040,
+        words: [0x3000, 0x3080, back, 0, 0, 0, 0, 0, 0, 0, 0, 0, 0, 0, 0, 0],
+    })
+}
+
+#[test]
+fn plans_moves(rt: HostRuntime) -> Result<(), Fail> {
+    let call = saved(0x1004);
+    let rows = [
+        // call; calls 5; ret, whose rip is 9; flushreg; stl g4 at 4008.
+        (0x0900_0008, call, 17, Some((31, 0x3080)), 0x1008),
+        (0x6600_0805, call, 17, Some((31, 0x3080)), 0x1204),
+        (0x0A00_0000, Returns, 17, Some((31, 0x3000)), 8),
+        (0x6600_0680, Flushes, 0, None, 0x1004),
+        (0x9AA7_6000, Stores(0x4008, 8, 6), 0, None, 0x1004),
+        // sysctl 3, by the live frame as a PRCB; sysctl 4.
+        (0x65DE_8499, Restart(0x1234, 0x3000), 0, None, 0x1004),
+        (0x65A0_149C, Group(6), 0, None, 0x1004),
+    ];
+    for (word, rest, count, last, next) in rows {
+        let p = ready(rt.alloc(), 0x1000, (word, 0), 0, PC)?;
+        match plan_next(&p) {
+            Planned::Runs { effect, .. } => {
+                assert_eq!(rt; rest_of(&effect), rest);
+                assert_eq!(rt; sets_of(&effect), (count, last));
+                assert_eq!(rt; controls_of(&effect), (0, PC, 0, next));
+            }
+            _ => assert!(rt; false, "{word}"),
+        }
+    }
+    Ok(())
+}
+
+#[test]
+fn plans_faults(rt: HostRuntime) -> Result<(), Fail> {
+    let p = ready(rt.alloc(), 0x1000, (0, 0), PRECISE, PC)?;
+    let faulting = plan_faulting(&p, 2);
+    assert_eq!(rt;
+        (rest_of(&faulting), sets_of(&faulting)),
+        (Nothing, (0, None))
+    );
+    assert_eq!(rt; controls_of(&faulting), (PRECISE, PC, 0, 0x1008));
+    let fault = Fault {
+        kind: 2,
+        subtype: 1,
+        address: 0x0FFC,
+    };
+    match plan_entry(&p, &fault) {
+        Ok(effect) => {
+            assert_eq!(rt; (rest_of(&effect), effect.address), (saved(0x1000), 0x3080));
+            // The record is below the frame of the handler.
+            let record = [
+                2, 0x20, 0x1F, 0, 0, 0x80, 0, 0, 1, 0, 2, 0, 0xFC, 0x0F, 0, 0,
+            ];
+            assert_eq!(rt; effect.bytes.as_slice(), record.as_slice());
+            assert_eq!(rt; sets_of(&effect), (17, Some((31, 0x3090))));
+            assert_eq!(rt; controls_of(&effect), (PRECISE, PC, 0, 0x1300));
+        }
+        Err(_) => assert!(rt; false, "no entry"),
+    }
+    let dead = FaultStop::Dead {
+        code: 1,
+        address: 0x1118,
+    };
+    let other = Fault { kind: 3, ..fault };
+    assert_eq!(rt; plan_entry(&p, &other).err(), Some(dead));
+    Ok(())
+}

@@ -1,0 +1,194 @@
+//! Loads, stores and atomic instructions.
+ghost use Rattle.std.specs.Prelude.{◌≡◌, ◌+◌, ◌≤◌, ◌∷◌, [], take, length};
+ghost use Rattle.i9_isa.specs.declared.size.Direction.{Direction};
+ghost use Rattle.i9_isa.specs.Transfers.{byte_count, register_count};
+ghost use Rattle.i9_isa.specs.Valid.{IsValid};
+ghost use Rattle.i9_model.specs.Writes.{wrapped, upwards};
+ghost use Rattle.i9_model.specs.Memory.{words_in, word_bytes};
+ghost use Rattle.i9_model.specs.Operands.{address, value};
+ghost use Rattle.i9_model.specs.Access.{Reads, Writes, Changes, moved_access};
+ghost use Rattle.i9_model.specs.Step.{extended, filled, loaded, stored_of, loading, storing, transferring, bytes_of_words, atomic_address, atomic, merged, answering};
+ghost use Rattle.i9_processor.specs.State.{state_of};
+ghost use Rattle.i9_plan.specs.Built.{HasGroup};
+ghost use Rattle.i9_plan.specs.Planned.{IsPlanFor};
+
+use crate::effects::{answering, append, assigned, listed, passing};
+use crate::sources::{address, atomic_address, source_words, value};
+use crate::words::{merged, word_address};
+use arrayvec::ArrayVec;
+use i9_isa::{Direction, Inst, Operand, Size, Transfer};
+use i9_model::layout::LOCALS;
+use i9_processor::{Effect, MOST_BYTES, Processor};
+
+/// A byte as a word, with its sign above or with zeros.
+fn filled_byte(v: u8, signed: bool) -> u32
+    ensures { result ≡ filled signed 8 v }
+{
+    let word = u32::from(v);
+    if signed && word >= 128 {
+        word + 0xFFFF_FF00
+    } else {
+        word
+    }
+}
+
+/// A half as a word, with its sign above or with zeros.
+fn filled_half(v: u16, signed: bool) -> u32
+    ensures { result ≡ filled signed 16 v }
+{
+    let word = u32::from(v);
+    if signed && word >= 32_768 {
+        word + 0xFFFF_0000
+    } else {
+        word
+    }
+}
+
+/// One word.
+fn one_word(v: u32) -> ArrayVec<u32, LOCALS>
+    ensures { result.items ≡ v ∷ [] }
+{
+    let mut words = ArrayVec::new();
+    words.push(v);
+    words
+}
+
+/// So many words of memory, from an address up.
+#[tactic(auto, using(i9_processor::proofs::Frames::frame_rules))]
+pub(crate) fn words(p: &Processor, a: u32, n: usize) -> ArrayVec<u32, LOCALS>
+    requires { n ≤ 16 }
+    ensures words { result.items ≡ words_in (state_of p.now).memory a n }
+    ensures count { length result.items ≡ n }
+{
+    let mut words = ArrayVec::new();
+    for k in 0..n {
+        words.push(p.word(word_address(a, k)));
+    }
+    words
+}
+
+/// The words that a load of a size reads.
+fn loaded(p: &Processor, size: Size, signed: bool, a: u32) -> ArrayVec<u32, LOCALS>
+    requires { byte_count size ≤ 16 }
+    ensures words { result.items ≡ loaded size signed (state_of p.now).memory a }
+    ensures count { length result.items ≡ register_count size }
+{
+    match size {
+        Size::Byte => one_word(filled_byte(p.byte(a), signed)),
+        Size::Half => one_word(filled_half(p.half(a), signed)),
+        Size::Words(n) => words(p, a, usize::from(n)),
+    }
+}
+
+/// The bytes of the first words of a list, each in the order of its own region.
+#[tactic(auto, using(crate::proofs::WordBytes::word_rules))]
+pub(crate) fn bytes_of_words(
+    p: &Processor,
+    a: u32,
+    words: &[u32],
+    n: usize,
+) -> ArrayVec<u8, MOST_BYTES>
+    requires few { n ≤ 4 }
+    requires there { n ≤ length words.now }
+    ensures { result.items ≡ bytes_of_words (state_of p.now).memory a (take n words.now) }
+{
+    let mut bytes = ArrayVec::new();
+    for k in 0..n {
+        let word = p.word_bytes(word_address(a, k), words[k]);
+        append(&mut bytes, &word);
+    }
+    bytes
+}
+
+/// The bytes that a store of a size writes of its source.
+#[tactic(auto, using(crate::proofs::WordBytes::source_rules))]
+fn stored(p: &Processor, size: Size, o: Operand, a: u32) -> ArrayVec<u8, MOST_BYTES>
+    requires { byte_count size ≤ 16 }
+    ensures { result.items ≡ stored_of size (state_of p.now) o a }
+{
+    match size {
+        Size::Byte => listed(&[(value(p, o) % 256) as u8]),
+        Size::Half => listed(&p.half_bytes(a, (value(p, o) % 65_536) as u16)),
+        Size::Words(n) => bytes_of_words(p, a, &source_words(p, o), usize::from(n)),
+    }
+}
+
+/// Registers are loaded.
+fn plan_load(p: &Processor, i: &Inst, size: Size, signed: bool) -> Result<Effect, u32>
+    requires few { byte_count size ≤ 16 }
+    requires group { HasGroup i.now.c (register_count size) }
+    ensures { IsPlanFor (state_of p.now) (Reads (address (state_of p.now) i.now.ea) (byte_count size)) (loading size signed i.now (state_of p.now)) result }
+{
+    let a = address(p, &i.ea);
+    if let Some(hazard) = p.check_read(a, size.bytes()) {
+        return Err(hazard);
+    }
+    let mut effect = passing(p, i);
+    effect.sets = assigned(i.c, loaded(p, size, signed, a).as_slice());
+    Ok(effect)
+}
+
+/// Registers are stored.
+fn plan_store(p: &Processor, i: &Inst, size: Size) -> Result<Effect, u32>
+    requires { byte_count size ≤ 16 }
+    ensures { IsPlanFor (state_of p.now) (Writes (address (state_of p.now) i.now.ea) (byte_count size)) (storing size i.now (state_of p.now)) result }
+{
+    let a = address(p, &i.ea);
+    if let Some(hazard) = p.check_write(a, size.bytes()) {
+        return Err(hazard);
+    }
+    let mut effect = passing(p, i);
+    effect.address = a;
+    effect.bytes = stored(p, size, i.c, a);
+    Ok(effect)
+}
+
+/// A load or a store.
+pub(crate) fn plan_transfer(p: &Processor, i: &Inst, t: Transfer) -> Result<Effect, u32>
+    requires few { byte_count t.size ≤ 16 }
+    requires group { t.direction ≡ Direction.Load → HasGroup i.now.c (register_count t.size) }
+    ensures { IsPlanFor (state_of p.now) (moved_access t.direction (address (state_of p.now) i.now.ea) (byte_count t.size)) (transferring t i.now (state_of p.now)) result }
+{
+    match t.direction {
+        Direction::Load => plan_load(p, i, t.size, t.signed),
+        Direction::Store => plan_store(p, i, t.size),
+    }
+}
+
+/// The old word is answered, and a new one is stored in its place.
+fn plan_atomic(p: &Processor, i: &Inst, a: u32, old: u32, new: u32) -> Result<Effect, u32>
+    requires { IsValid i.now }
+    ensures { IsPlanFor (state_of p.now) (Changes a 4)
+        (record (answering i.now (state_of p.now) old) { writes = upwards a (word_bytes (state_of p.now).memory a new) }) result }
+{
+    let hazard = p.check_read(a, 4);
+    if let Some(hazard) = hazard.or_else(|| p.check_write(a, 4)) {
+        return Err(hazard);
+    }
+    let mut effect = answering(p, i, old);
+    effect.address = a;
+    effect.bytes = listed(&p.word_bytes(a, new));
+    Ok(effect)
+}
+
+/// A word becomes its sum with src2.
+pub(crate) fn plan_atadd(p: &Processor, i: &Inst) -> Result<Effect, u32>
+    requires { IsValid i.now }
+    ensures { IsPlanFor (state_of p.now) (Changes (atomic_address i.now (state_of p.now)) 4)
+        (atomic i.now (state_of p.now) (λ old. wrapped (old + value (state_of p.now) i.now.b))) result }
+{
+    let a = atomic_address(p, i);
+    let old = p.word(a);
+    plan_atomic(p, i, a, old, old.wrapping_add(value(p, i.b)))
+}
+
+/// A word gets the bits of src/dst where src2 has them.
+pub(crate) fn plan_atmod(p: &Processor, i: &Inst) -> Result<Effect, u32>
+    requires { IsValid i.now }
+    ensures { IsPlanFor (state_of p.now) (Changes (atomic_address i.now (state_of p.now)) 4)
+        (atomic i.now (state_of p.now) (λ old. merged old (value (state_of p.now) i.now.b) (value (state_of p.now) i.now.c))) result }
+{
+    let a = atomic_address(p, i);
+    let old = p.word(a);
+    plan_atomic(p, i, a, old, merged(old, value(p, i.b), value(p, i.c)))
+}

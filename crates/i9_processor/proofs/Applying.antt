@@ -1,0 +1,97 @@
+-- What was planned in a state can be done in one that is alike, and leaves states that are alike.
+use Rattle.std.proofs.Common.{◌≡◌, ℕ, ◌%◌, ◌<◌, ◌||◌, nat_lt, Bool, true, List, [], ◌∷◌, length, refl, sym, ap, ◌∙◌, subst, arith}
+use Rattle.std.specs.Prelude.{max}
+use Rattle.std.proofs.lemmas.Bool.{or_left, or_right}
+use Rattle.std.proofs.lemmas.Bool.Decides.{nat_tests}
+use Rattle.i9_model.specs.declared.layout.TheConstants.{LEAST_SETS, PRCB_POINTER}
+use Rattle.i9_model.specs.declared.setup.Setup.{Setup}
+use Rattle.i9_model.specs.Boot.{table_word, setup_of, boot_setup, with_boot_bytes}
+use Rattle.i9_model.specs.Memory.{Memory, word_in}
+use Rattle.i9_model.specs.State.{State}
+use Rattle.i9_model.specs.Tables.{tables_hazard, group_hazard}
+use Rattle.i9_model.specs.Controls as plain
+use Rattle.i9_model.specs.Writes.{upwards}
+use Rattle.i9_model.specs.Step.{Move, Action, moved, acted, counted}
+use Rattle.i9_model.specs.Alike.{AreAlike}
+use Rattle.i9_model.specs.Free.{IsFree}
+use Rattle.i9_model.specs.Sound.{IsSound}
+use Rattle.i9_model.specs.HeldFrames.{overlaid, cache_acted, AreYoungest}
+use Rattle.i9_model.proofs.HeldRuns.{moved_cached}
+use Rattle.i9_storage.proofs.Known.{frames_sound, held_youngest}
+use Rattle.i9_model.proofs.AlikeActions.{hard_bytes}
+use Rattle.i9_model.proofs.AlikeFetches.{tables_hazard_same}
+use Rattle.i9_model.proofs.AlikeSteps.{IsReadable, controlled_alike}
+use Rattle.i9_processor.specs.declared.effect.Control.{Control}
+use Rattle.i9_processor.specs.declared.effect.Control.TheVariants as controls
+use Rattle.i9_processor.specs.declared.processor.Processor.{Processor}
+use Rattle.i9_processor.specs.Effect.{control_in, CanControl, is_costly}
+use Rattle.i9_processor.specs.State.{state_of, cache_of, size_of}
+
+pub can_alike : (c : Control) (s t : State) → AreAlike s t → CanControl s c → CanControl t c
+can_alike controls.Keeps s t alike can = tt
+can_alike (controls.Restarts first prcb) s t alike can =
+    ap (λ (u : State). tables_hazard u.memory u.frames prcb) alike.rest
+    ∙ tables_hazard_same s.frames s.memory t.memory.bytes prcb (hard_bytes s.frames s.memory t.memory.bytes alike.bytes)
+    ∙ can
+can_alike (controls.LoadsGroup group) s t alike can = (can.0, ap (λ (u : State). group_hazard u.frames u.tables.control_table group) alike.rest ∙ can.1)
+
+readable : (c : Control) (s : State) → CanControl s c → IsReadable s (control_in c)
+readable controls.Keeps s can = tt
+readable (controls.Restarts first prcb) s can = can
+readable (controls.LoadsGroup group) s can = can.1
+
+pub applied_alike : (c : Control) (s t u : State) (a : Action) → control_in c ≡ a.control → CanControl (moved s a) c → AreAlike (moved s a) t → u ≡ plain.controlled t (control_in c) → AreAlike (acted s a) u
+unfolding acted
+applied_alike c s t u a is can alike e =
+    let here : AreAlike (plain.controlled (moved s a) (control_in c)) (plain.controlled t (control_in c)) = controlled_alike (control_in c) (moved s a) t (readable c (moved s a) can) alike in
+    subst (λ (x : State). AreAlike (plain.controlled (moved s a) a.control) x) (sym e)
+    (subst (λ (k : plain.Control). AreAlike (plain.controlled (moved s a) k) (plain.controlled t (control_in c))) is here)
+
+-- the PRCB gives at least five sets, and at most fifteen
+pub sets_few : (m : Memory) (u : Setup) → u ≡ boot_setup m → (0 < u.sets) × (u.sets < 16)
+unfolding boot_setup setup_of
+sets_few m u e =
+    let w = table_word (with_boot_bytes m) (word_in (with_boot_bytes m) PRCB_POINTER) 9 in
+    let same : u.sets ≡ max LEAST_SETS (w % 16) = ap (λ (x : Setup). x.sets) e in
+    (omega (arith, same), omega (arith, same))
+
+-- ---- what a processor keeps
+
+pub laid_memory : (p : Processor) → (state_of p).memory ≡ overlaid (cache_of p)
+unfolding state_of cache_of
+laid_memory p = refl
+
+sound_frames : (p : Processor) → IsSound (state_of p).frames
+unfolding state_of
+sound_frames p = frames_sound p.storage
+
+youngest_held : (p : Processor) → AreYoungest (cache_of p).held (state_of p).frames.live
+unfolding state_of cache_of
+youngest_held p = held_youngest p.storage
+
+-- the moves of an action were done, with what is held then laid over what is behind
+pub moved_alike_by : (p : Processor) (a : Action) (q : Processor) → IsFree (state_of p) a → state_of q ≡ record (moved (state_of p) a) { memory = (state_of q).memory } → (state_of q).memory ≡ overlaid (cache_of q)
+    → cache_of q ≡ cache_acted (size_of p) a (cache_of p) → AreAlike (moved (state_of p) a) (state_of q)
+moved_alike_by p a q free state memory cache =
+    let s = state_of p in
+    let moved_to = moved_cached (size_of p) s a (cache_of p) (cache_of q) (laid_memory p) (sound_frames p) (youngest_held p) free cache in
+    subst (AreAlike (moved s a)) (sym (state ∙ ap (λ (m : Memory). record (moved s a) { memory = m }) memory)) moved_to
+
+pub counted_alike : (n : ℕ) (s t : State) → AreAlike s t → AreAlike (counted n s) (counted n t)
+counted_alike n s t alike = record { rest = ap (counted n) alike.rest; bytes = alike.bytes }
+
+-- ---- room
+
+some_writes : (n : ℕ) (c : Bool) → 0 < n → (nat_lt 0 n || c) ≡ true
+some_writes n c h = or_left (nat_lt 0 n) c (grind (arith, nat_tests, h))
+
+-- where bytes are stored, something is written
+pub stored_writes : (a : ℕ) (bs : List ℕ) (c : Bool) → 0 < length bs → (nat_lt 0 (length (upwards a bs)) || c) ≡ true
+stored_writes a [] c h = absurd (omega arith)
+stored_writes a (b ∷ bs) c h = some_writes (length (upwards a (b ∷ bs))) c (omega arith)
+
+-- and where a frame is saved
+pub saved_writes : (n : ℕ) (m : Move) → is_costly m ≡ true → (nat_lt 0 n || is_costly m) ≡ true
+saved_writes n m h = or_right (nat_lt 0 n) (is_costly m) h
+
+pub ruleset room_rules = (stored_writes, saved_writes)

@@ -1,0 +1,7 @@
+pub mod RegisterList
+pub mod Copies
+pub mod Frames
+pub mod Loading
+pub mod Applying
+pub mod NewSets
+pub mod Overlaid

@@ -1,0 +1,42 @@
+use Rattle.std.proofs.Common.{◌≡◌, false, replicate, ap, ◌∙◌}
+use Rattle.i9_memory.specs.Memory.{memory_of}
+use Rattle.i9_model.specs.Image.{pairs_of}
+use Rattle.i9_model.specs.Memory.{Memory, with_writes}
+use Rattle.i9_model.specs.Boot.{boot_setup, boot_memory}
+use Rattle.i9_model.specs.State.{image_memory, no_dma, started, boot}
+use Rattle.i9_model.specs.HeldFrames.{over, overlaid}
+use Rattle.i9_model.specs.declared.layout.TheConstants.{BOOT_PC}
+use Rattle.i9_processor.specs.State.{registers_of, state_of}
+use Rattle.i9_storage.specs.Storage.{memory_in, frames_in}
+use Rattle.i9_processor.proofs.RegisterList.{registers_of-zeros}
+use Rattle.i9_processor.proofs.Applying.{sets_few}
+use Rattle.i9_processor.proofs.processor.Processor.boot.Goals as goal
+
+pub set_count-requires-clause-read : goal.set_count-requires-clause-read
+set_count-requires-clause-read c = sets_few (memory_of c.load.new.memory) c.boot-setup.result c.boot-setup.ensures.setup
+
+-- what is set is what start-up leaves, and what was read is what boot reads
+pub returns-clause-state : goal.returns-clause-state
+unfolding state_of started boot over
+returns-clause-state c =
+    let pairs = pairs_of c.args.image.now in
+    let loaded : memory_of c.load.new.memory ≡ image_memory pairs = c.in_ok-load.ensures ∙ ap (λ (m : Memory). with_writes m pairs) c.new-memory.ensures in
+    let setup = c.boot-setup.ensures.setup ∙ ap boot_setup loaded in
+    let storage = c.in_ok-storage.storage in
+    let memory : memory_in storage ≡ boot_memory (image_memory pairs) = ap overlaid c.in_ok-storage.ensures.cache ∙ c.boot-setup.ensures.memory ∙ ap boot_memory loaded in
+    let kept : state_of record { regs = c.start_registers.result; ip = c.aligned.result; ac = c.boot-setup.result.ac; pc = BOOT_PC; tc = c.start_trace_controls.result; maps = c.start_maps.result; breaks = c.start_breaks.result; tables = c.tables_of.result; count = 0; storage = storage } ≡ started c.boot-setup.result (registers_of (replicate 32 0)) 0 (memory_in storage) (frames_in storage) =
+    λ i. record {
+      regs = c.start_registers.ensures i;
+      ip = c.aligned.ensures i;
+      ac = c.boot-setup.result.ac;
+      pc = BOOT_PC;
+      count = 0;
+      check = false;
+      memory = memory_in storage;
+      frames = frames_in storage;
+      interrupts = record { pending = 0; mask = 0; maps = c.start_maps.ensures i; nmi = false };
+      dma = no_dma;
+      trace = record { tc = c.start_trace_controls.ensures i; breaks = c.start_breaks.ensures i };
+      tables = c.tables_of.ensures i;
+    } in
+    kept ∙ (λ i. started (setup i) (registers_of-zeros 32 i) 0 (memory i) (c.in_ok-storage.ensures.frames i))

@@ -1,0 +1,141 @@
+-- An effect as the action of the definitions, and where it can be applied.
+use Rattle.std.specs.Prelude.{◌≡◌, ℕ, ◌<◌, ◌%◌, Bool, true, false, ◌||◌, nat_lt, List, [], length, Option, None, Some, unwrap_or}
+use Rattle.std.specs.List.{AllByRecursion}
+use Rattle.i9_model.specs.Writes.{upwards}
+use Rattle.i9_model.specs.Memory.{Memory}
+use Rattle.i9_model.specs.Boot.{setup_of}
+use Rattle.i9_model.specs.State.{State, Frames}
+use Rattle.i9_model.specs.Hazards.{save_hazard}
+use Rattle.i9_model.specs.Tables.{tables_hazard, group_hazard}
+use Rattle.i9_model.specs.HeldFrames.{Cache, renewed, cache_acted, cache_configured}
+use Rattle.i9_model.specs.Controls as plain_controls
+use Rattle.i9_model.specs.Step as plain
+use Rattle.i9_frames.specs.Sets.{Held, held}
+use Rattle.i9_storage.specs.declared.storage.Storage.{Storage}
+use Rattle.i9_storage.specs.Storage.{HasSpace, HasFrameSpace}
+use Rattle.i9_processor.specs.declared.effect.Move.{Move}
+use Rattle.i9_processor.specs.declared.effect.Move.TheVariants as moves
+use Rattle.i9_processor.specs.declared.effect.Control.{Control}
+use Rattle.i9_processor.specs.declared.effect.Control.TheVariants as controls
+use Rattle.i9_processor.specs.declared.effect.Effect.{Effect}
+use Rattle.i9_processor.specs.declared.processor.Processor.{Processor}
+use Rattle.i9_processor.specs.State.{state_of, cache_of, size_of}
+
+abbrev pub move_in : Move → plain.Move
+move_in moves.Stays = plain.Stays
+move_in (moves.Saves f) = plain.Saves f.address f.words
+move_in moves.Returns = plain.Returns
+move_in moves.Flushes = plain.Flushes
+
+abbrev pub control_in : Control → plain_controls.Control
+control_in controls.Keeps = plain_controls.KeepsControls
+control_in (controls.Restarts first prcb) = plain_controls.Restarts first prcb
+control_in (controls.LoadsGroup group) = plain_controls.LoadsGroup group
+
+-- the bytes that an effect stores
+abbrev pub writes_in : Effect → List (ℕ × ℕ)
+writes_in e = upwards e.address e.bytes.items
+
+-- the action of an effect in a state; interrupts, DMA and the check flag stay as they are
+abbrev pub action_in : State → Effect → plain.Action
+action_in s e = record {
+  sets = e.sets.items;
+  writes = writes_in e;
+  move = move_in e.frames;
+  ac = e.ac;
+  pc = e.pc;
+  tc = e.tc;
+  check = s.check;
+  interrupts = s.interrupts;
+  dma = s.dma;
+  control = control_in e.control;
+  next = e.next;
+}
+
+-- each place is one of the 32 registers
+abbrev pub AreRegisters : List (ℕ × ℕ) → Type 0
+AreRegisters sets = AllByRecursion (λ p. p.0 < 32) sets
+
+-- a frame that is saved meets no hazard
+abbrev pub CanMove : Frames → Move → Type 0
+CanMove s moves.Stays = Unit {0}
+CanMove s (moves.Saves f) = (f.address % 16 ≡ 0) × (save_hazard s f.address ≡ None)
+CanMove s moves.Returns = Unit {0}
+CanMove s moves.Flushes = Unit {0}
+
+-- the tables that are read in a state meet no hazard
+abbrev pub CanControl : State → Control → Type 0
+CanControl s controls.Keeps = Unit {0}
+CanControl s (controls.Restarts first prcb) = tables_hazard s.memory s.frames prcb ≡ None
+CanControl s (controls.LoadsGroup group) = (group < 7) × (group_hazard s.frames s.tables.control_table group ≡ None)
+
+-- an effect is this action, and can be applied in a state
+pub record IsEffect (s : State) (action : plain.Action) (e : Effect) : Type 0 where
+  pub same : action_in s e ≡ action
+  pub registers : AreRegisters e.sets.items
+  pub moves : CanMove s.frames e.frames
+  pub controls : CanControl (plain.moved s action) e.control
+
+-- ---- room
+
+-- there is room for what is done to frames
+abbrev pub HasMoveSpace : Storage → Move → Type 0
+HasMoveSpace s moves.Stays = Unit {0}
+HasMoveSpace s (moves.Saves f) = HasFrameSpace s f.address
+HasMoveSpace s moves.Returns = Unit {0}
+HasMoveSpace s moves.Flushes = Unit {0}
+
+-- there is room for what an effect stores and saves
+pub record HasSpaceFor (p : Processor) (e : Effect) : Type 0 where
+  pub bytes : HasSpace p.storage e.address (length e.bytes.items)
+  pub frames : HasMoveSpace p.storage e.frames
+
+-- a frame is saved
+abbrev pub is_costly : plain.Move → Bool
+is_costly plain.Stays = false
+is_costly (plain.Saves save words) = true
+is_costly plain.Returns = false
+is_costly plain.Flushes = false
+
+-- something is stored or saved
+abbrev pub has_writes : plain.Action → Bool
+has_writes a = nat_lt 0 (length a.writes) || is_costly a.move
+
+-- the processor starts anew
+abbrev pub is_restart : plain_controls.Control → Bool
+is_restart plain_controls.KeepsControls = false
+is_restart (plain_controls.Restarts first prcb) = true
+is_restart (plain_controls.LoadsGroup group) = false
+
+-- ---- the frames in sets
+
+-- nothing is held where something is done to the controls
+abbrev pub IsEmptied : Cache → Control → Type 0
+IsEmptied c controls.Keeps = Unit {0}
+IsEmptied c (controls.Restarts first prcb) = c.held ≡ []
+IsEmptied c (controls.LoadsGroup group) = c.held ≡ []
+
+-- what is held and what is behind after an action, with the configuration words that memory has then
+abbrev pub cache_through : Processor → plain.Action → Processor → Cache
+cache_through old a new = cache_configured (state_of new).memory (cache_acted (size_of old) a (cache_of old))
+
+-- the number of sets after an action, where so many are asked for or none
+abbrev pub size_through : Option ℕ → Processor → plain.Action → ℕ
+size_through asked old a = renewed asked (state_of old).memory a.control (size_of old)
+
+-- New sets are made where the processor starts anew: as many as are asked for, or as the PRCB asks for that is read
+-- in a memory.
+abbrev pub AreMade : Option ℕ → Memory → Control → Option Held → Type 0
+AreMade asked m controls.Keeps made = made ≡ None
+AreMade asked m (controls.Restarts first prcb) made = made ≡ Some (held (unwrap_or asked (setup_of m first prcb).sets) [])
+AreMade asked m (controls.LoadsGroup group) made = made ≡ None
+
+-- new sets take the place of the others behind a flush, and hold nothing
+abbrev pub CanTake : plain.Move → Option Held → Type 0
+CanTake v None = Unit {0}
+CanTake v (Some h) = (v ≡ plain.Flushes) × (h.frames ≡ [])
+
+-- the number of sets with such new ones, where there are any
+abbrev pub size_with : Option Held → ℕ → ℕ
+size_with None n = n
+size_with (Some h) n = h.size

@@ -1,0 +1,34 @@
+-- The state that a processor stands for. What it does not keep yet is as after boot.
+use Rattle.std.specs.Prelude.{ℕ, List, false, slice_index}
+use Rattle.i9_storage.specs.Storage as storage
+use Rattle.i9_model.specs.State.{State, no_dma}
+use Rattle.i9_model.specs.HeldFrames.{Cache}
+use Rattle.i9_processor.specs.declared.processor.Processor.{Processor}
+
+-- the register of each number, of those that are kept
+abbrev pub registers_of : List ℕ → ℕ → ℕ
+registers_of regs r = slice_index regs r
+
+unfoldable pub state_of : Processor → State
+state_of p = record {
+  regs = registers_of p.regs;
+  ip = p.ip;
+  ac = p.ac;
+  pc = p.pc;
+  count = p.count;
+  check = false;
+  memory = storage.memory_in p.storage;
+  frames = storage.frames_in p.storage;
+  interrupts = record { pending = 0; mask = 0; maps = p.maps; nmi = false };
+  dma = no_dma;
+  trace = record { tc = p.tc; breaks = p.breaks };
+  tables = p.tables;
+}
+
+-- the frames that are held, and the memory behind them
+unfoldable pub cache_of : Processor → Cache
+cache_of p = storage.cache_of p.storage
+
+-- how many frames can be held
+unfoldable pub size_of : Processor → ℕ
+size_of p = storage.size_of p.storage

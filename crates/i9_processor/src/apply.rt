@@ -1,0 +1,208 @@
+//! An effect applied.
+ghost use Rattle.std.specs.Prelude.{◌≡◌, ◌+◌, ◌*◌, ◌^◌, ◌<◌, OnOk, OnErr, IfSome, IsSome, [], true};
+ghost use Rattle.i9_model.specs.Controls.{with_group, controlled};
+ghost use Rattle.i9_model.specs.State.{started};
+ghost use Rattle.i9_model.specs.Step.{frames_after, moved, acted, counted};
+ghost use Rattle.i9_model.specs.Free.{IsFree};
+ghost use Rattle.i9_model.specs.Alike.{AreAlike};
+ghost use Rattle.i9_model.specs.HeldFrames.{overlaid, cache_moved, cache_acted, cache_configured};
+ghost use Rattle.i9_storage.specs.Storage as stores;
+ghost use Rattle.i9_storage.specs.Storage.{KeepsSpace};
+ghost use Rattle.i9_processor.specs.Effect.{action_in, move_in, control_in, AreRegisters, CanControl, CanMove, HasMoveSpace, HasSpaceFor, IsEmptied, cache_through, CanTake, size_with, is_costly, has_writes};
+
+use crate::effect::{Control, Effect, Move};
+use crate::processor::Processor;
+use crate::registers::set_all;
+use crate::start::{start_breaks, start_maps, start_registers, start_trace_controls, tables_of};
+use i9_entry::aligned;
+use i9_frames::Sets;
+use i9_isa::NoMemory;
+use i9_model::Setup;
+use i9_model::layout::{BOOT_PC, TC_MASK};
+use i9_storage::Storage;
+
+/// Does what is done to frames.
+fn move_frames(storage: &mut Storage, m: &Move)
+    requires can { CanMove (stores.frames_in storage.old) m.now }
+    requires space { HasMoveSpace storage.old m.now }
+    ensures cache { stores.cache_of storage.new ≡ cache_moved (stores.size_of storage.old) (move_in m.now) (stores.cache_of storage.old) }
+    ensures frames { stores.frames_in storage.new ≡ frames_after (stores.frames_in storage.old) (move_in m.now) }
+    ensures size { stores.size_of storage.new ≡ stores.size_of storage.old }
+    ensures keeps { KeepsSpace storage.old storage.new }
+{
+    match m {
+        Move::Stays => {}
+        Move::Saves(f) => storage.save_frame(*f),
+        Move::Returns => storage.restore_frame(),
+        Move::Flushes => storage.flush(),
+    }
+}
+
+/// Makes room for what is done to frames.
+fn reserve_move(storage: &mut Storage, m: &Move) -> Result<(), NoMemory>
+    ensures cache { stores.cache_of storage.new ≡ stores.cache_of storage.old }
+    ensures frames { stores.frames_in storage.new ≡ stores.frames_in storage.old }
+    ensures size { stores.size_of storage.new ≡ stores.size_of storage.old }
+    ensures keeps { KeepsSpace storage.old storage.new }
+    ensures space { OnOk result (HasMoveSpace storage.new m.now) }
+    ensures needed { OnErr result (is_costly (move_in m.now) ≡ true) }
+{
+    match m {
+        Move::Saves(f) => storage.reserve_frame(f.address),
+        _ => Ok(()),
+    }
+}
+
+impl Processor {
+    ghost use Rattle.i9_processor.specs.State.{registers_of, state_of, cache_of, size_of};
+
+    /// Makes room for what an effect stores and saves.
+    #[tactic(auto, unfolding(crate::specs::State::state_of, crate::specs::State::cache_of, crate::specs::State::size_of), using(crate::proofs::Applying::room_rules))]
+    pub fn reserve(&mut self, e: &Effect) -> Result<(), NoMemory>
+        ensures state { state_of self.new ≡ state_of self.old }
+        ensures cache { cache_of self.new ≡ cache_of self.old }
+        ensures size { size_of self.new ≡ size_of self.old }
+        ensures space { OnOk result (HasSpaceFor self.new e.now) }
+        ensures needed { OnErr result (has_writes (action_in (state_of self.old) e.now) ≡ true) }
+    {
+        self.storage.reserve(e.address, e.bytes.len() as u32)?;
+        reserve_move(&mut self.storage, &e.frames)
+    }
+
+    /// Starts anew by what was read of the tables.
+    #[tactic(auto, unfolding(crate::specs::State::state_of, crate::specs::State::cache_of, crate::specs::State::size_of, i9_model::specs::State::started))]
+    fn start(&mut self, setup: &Setup)
+        ensures state { state_of self.new ≡ started setup.now (state_of self.old).regs (state_of self.old).count (state_of self.old).memory (state_of self.old).frames }
+        ensures cache { cache_of self.new ≡ cache_of self.old }
+        ensures size { size_of self.new ≡ size_of self.old }
+        ensures count { (state_of self.new).count ≡ (state_of self.old).count }
+    {
+        self.regs = start_registers(&self.regs, setup);
+        self.ip = aligned(setup.first);
+        self.ac = setup.ac;
+        self.pc = BOOT_PC;
+        self.tc = start_trace_controls(setup);
+        self.maps = start_maps(setup);
+        self.breaks = start_breaks(setup);
+        self.tables = tables_of(setup);
+    }
+
+    /// Loads a group of the control table.
+    #[tactic(auto, unfolding(crate::specs::State::state_of, crate::specs::State::cache_of, crate::specs::State::size_of))]
+    fn load_group(&mut self, group: u8, words: [u32; 4])
+        requires group { group < 7 }
+        requires empty { (cache_of self.old).held ≡ [] }
+        ensures state { state_of self.new ≡ with_group (state_of self.old) group words }
+        ensures cache { cache_of self.new ≡ cache_configured (state_of self.new).memory (cache_of self.old) }
+        ensures size { size_of self.new ≡ size_of self.old }
+        ensures count { (state_of self.new).count ≡ (state_of self.old).count }
+    {
+        match group {
+            0 => {
+                self.breaks.ipb = [words[0], words[1]];
+                self.breaks.dab = [words[2], words[3]];
+            }
+            1 => self.maps = [words[0], words[1], words[2]],
+            6 => {
+                self.tc = words[2] & TC_MASK;
+                self.breaks.bpcon = words[1];
+            }
+            _ => self.storage.configure(4 * (group - 2), &words),
+        }
+    }
+
+    /// Does what is done to the controls.
+    #[tactic(auto, unfolding(crate::specs::State::state_of, crate::specs::State::cache_of, crate::specs::State::size_of))]
+    fn control(&mut self, c: Control)
+        requires can { CanControl (state_of self.old) c }
+        requires empty { IsEmptied (cache_of self.old) c }
+        ensures state { state_of self.new ≡ controlled (state_of self.old) (control_in c) }
+        ensures cache { cache_of self.new ≡ cache_configured (state_of self.new).memory (cache_of self.old) }
+        ensures size { size_of self.new ≡ size_of self.old }
+        ensures count { (state_of self.new).count ≡ (state_of self.old).count }
+    {
+        match c {
+            Control::Keeps => {}
+            Control::Restarts { first, prcb } => {
+                if let Ok(setup) = self.storage.reinit(first, prcb) {
+                    self.start(&setup);
+                }
+            }
+            Control::LoadsGroup(group) => {
+                let table = self.tables.control_table;
+                if let Ok(words) = self.storage.control_group(table, group) {
+                    self.load_group(group, words);
+                }
+            }
+        }
+    }
+
+    /// Does what an effect says, but for what is done to the controls that start-up reads.
+    #[tactic(auto, unfolding(crate::specs::State::state_of, crate::specs::State::cache_of, crate::specs::State::size_of, i9_model::specs::Step::moved))]
+    fn do_moves(&mut self, e: &Effect)
+        requires registers { AreRegisters e.now.sets.items }
+        requires can { CanMove (state_of self.old).frames e.now.frames }
+        requires space { HasSpaceFor self.old e.now }
+        requires free { IsFree (state_of self.old) (action_in (state_of self.old) e.now) }
+        ensures state { state_of self.new ≡ record (moved (state_of self.old) (action_in (state_of self.old) e.now)) { memory = (state_of self.new).memory } }
+        ensures memory { (state_of self.new).memory ≡ overlaid (cache_of self.new) }
+        ensures cache { cache_of self.new ≡ cache_acted (size_of self.old) (action_in (state_of self.old) e.now) (cache_of self.old) }
+        ensures size { size_of self.new ≡ size_of self.old }
+        ensures count { (state_of self.new).count ≡ (state_of self.old).count }
+    {
+        move_frames(&mut self.storage, &e.frames);
+        self.storage.store(e.address, e.bytes.as_slice());
+        set_all(&mut self.regs, e.sets.as_slice());
+        self.ac = e.ac;
+        self.pc = e.pc;
+        self.tc = e.tc;
+        self.ip = e.next;
+    }
+
+    /// New sets take the place of the others, where there are any.
+    #[tactic(auto, unfolding(crate::specs::State::state_of, crate::specs::State::cache_of, crate::specs::State::size_of))]
+    fn renew(&mut self, sets: Option<Sets>)
+        requires empty { IsSome sets → (cache_of self.old).held ≡ [] }
+        requires new { IfSome sets (λ h. h.frames ≡ []) }
+        ensures state { state_of self.new ≡ state_of self.old }
+        ensures cache { cache_of self.new ≡ cache_of self.old }
+        ensures size { size_of self.new ≡ size_with sets (size_of self.old) }
+        ensures count { (state_of self.new).count ≡ (state_of self.old).count }
+    {
+        if let Some(sets) = sets {
+            self.storage.renew(sets);
+        }
+    }
+
+    /// Counts so many instructions.
+    #[tactic(auto, unfolding(crate::specs::State::state_of, crate::specs::State::cache_of, crate::specs::State::size_of))]
+    fn add_count(&mut self, n: u64)
+        requires { (state_of self.old).count + n < 2 ^ 63 }
+        ensures state { state_of self.new ≡ counted n (state_of self.old) }
+        ensures cache { cache_of self.new ≡ cache_of self.old }
+        ensures size { size_of self.new ≡ size_of self.old }
+    {
+        self.count += n;
+    }
+
+    /// Does what an effect says, with the new sets that were made for it, and counts so many
+    /// instructions. It needs no memory.
+    pub fn apply(&mut self, e: &Effect, counts: u64, sets: Option<Sets>)
+        requires registers { AreRegisters e.now.sets.items }
+        requires can { CanMove (state_of self.old).frames e.now.frames }
+        requires space { HasSpaceFor self.old e.now }
+        requires free { IsFree (state_of self.old) (action_in (state_of self.old) e.now) }
+        requires controls { CanControl (moved (state_of self.old) (action_in (state_of self.old) e.now)) e.now.control }
+        requires sets { CanTake (move_in e.now.frames) sets }
+        requires count { (state_of self.old).count + counts < 2 ^ 63 }
+        ensures state { AreAlike (counted counts (acted (state_of self.old) (action_in (state_of self.old) e.now))) (state_of self.new) }
+        ensures cache { cache_of self.new ≡ cache_through self.old (action_in (state_of self.old) e.now) self.new }
+        ensures size { size_of self.new ≡ size_with sets (size_of self.old) }
+        ensures count { (state_of self.new).count ≡ (state_of self.old).count + counts }
+    {
+        self.do_moves(e);
+        self.control(e.control);
+        self.renew(sets);
+        self.add_count(counts);
+    }
+}

@@ -1,0 +1,100 @@
+//! What is done to a processor, as data.
+ghost use Rattle.std.specs.Prelude.{◌≡◌, ◌<◌, ◌^◌, length};
+ghost use Rattle.i9_model.specs.Writes.{last_put, upwards};
+ghost use Rattle.i9_model.specs.Memory.{console_byte, exit_word};
+
+use crate::processor::Processor;
+use arrayvec::ArrayVec;
+use i9_frames::Frame;
+use i9_model::layout::{CONSOLE, EXIT_WORD};
+
+/// The most registers that an effect sets: the sixteen locals of a frame, and fp.
+pub const MOST_SETS: usize = 17;
+
+/// The most bytes that an effect stores: four words.
+pub const MOST_BYTES: usize = 16;
+
+/// What is done to frames.
+#[derive(Debug, Drop)]
+pub enum Move {
+    /// Nothing.
+    Stays,
+    /// A frame is saved.
+    Saves(Frame),
+    /// The first live frame is returned to, where one is live.
+    Returns,
+    /// All live frames are in memory.
+    Flushes,
+}
+
+/// What is done to the controls that start-up reads.
+#[derive(Clone, Copy, Debug)]
+pub enum Control {
+    /// Nothing.
+    Keeps,
+    /// The processor starts anew at `first`, by the PRCB at `prcb`.
+    Restarts { first: u32, prcb: u32 },
+    /// A group of the control table is loaded.
+    LoadsGroup(u8),
+}
+
+/// The registers that are set with their values, the bytes that are stored from an address on, what
+/// is done to frames, the arithmetic, process and trace controls afterwards, what is done to the
+/// other controls, and the next instruction address.
+#[derive(Debug, Drop)]
+pub struct Effect {
+    pub sets: ArrayVec<(u8, u32), MOST_SETS>,
+    pub address: u32,
+    pub bytes: ArrayVec<u8, MOST_BYTES>,
+    pub frames: Move,
+    pub ac: u32,
+    pub pc: u32,
+    pub tc: u32,
+    pub control: Control,
+    pub next: u32,
+}
+
+/// The byte at a place, of bytes that stand from an address on.
+fn byte_of_run(address: u32, bytes: &[u8], place: u32) -> Option<u8>
+    requires { length bytes.now < 2 ^ 32 }
+    ensures { result ≡ last_put (upwards address bytes.now) place }
+{
+    bytes.get(place.wrapping_sub(address) as usize).copied()
+}
+
+impl Effect {
+    ghost use Rattle.i9_processor.specs.Effect.{writes_in};
+    ghost use Rattle.i9_processor.specs.State.{state_of};
+
+    /// The byte that is stored at an address.
+    fn byte_at(&self, place: u32) -> Option<u8>
+        ensures { result ≡ last_put (writes_in self.now) place }
+    {
+        byte_of_run(self.address, self.bytes.as_slice(), place)
+    }
+
+    /// The word that ends the run, in the order of its region: stores to all four of its bytes.
+    #[tactic(auto, unfolding(i9_model::specs::Memory::exit_word))]
+    pub fn exit_word(&self, processor: &Processor) -> Option<u32>
+        ensures { result ≡ exit_word (state_of processor.now).memory (writes_in self.now) }
+    {
+        let bytes = [
+            self.byte_at(EXIT_WORD)?,
+            self.byte_at(EXIT_WORD + 1)?,
+            self.byte_at(EXIT_WORD + 2)?,
+            self.byte_at(EXIT_WORD + 3)?,
+        ];
+        Some(if processor.big(14) {
+            u32::from_be_bytes(bytes)
+        } else {
+            u32::from_le_bytes(bytes)
+        })
+    }
+
+    /// The byte that goes out at the console.
+    pub fn console_byte(&self) -> Option<u8>
+        ensures { result ≡ console_byte (writes_in self.now) }
+    {
+        self.byte_at(CONSOLE)
+    }
+}

@@ -1,0 +1,93 @@
+//! The registers, controls, memory and frames of the machine.
+ghost use Rattle.std.specs.Prelude.{◌≡◌, ◌<◌, ℕ, IfOk, IfSome, unwrap_or, []};
+ghost use Rattle.i9_model.specs.Image.{pairs_of};
+ghost use Rattle.i9_model.specs.HeldFrames.{cache, sets_in};
+ghost use Rattle.i9_model.specs.Boot.{setup_of};
+ghost use Rattle.i9_model.specs.State.{boot};
+
+mod plans;
+mod reading;
+
+use crate::load::load;
+use crate::start::{start_breaks, start_maps, start_registers, start_trace_controls, tables_of};
+use i9_boot::{REGISTER_CACHE, boot, sets_asked};
+use i9_entry::aligned;
+use i9_hex::Segments;
+use i9_isa::NoMemory;
+use i9_memory::Memory;
+use i9_model::layout::BOOT_PC;
+use i9_model::{Breaks, Setup, Tables};
+use i9_storage::Storage;
+use std::alloc::Global;
+
+/// All that an instruction may read or change: the registers and the controls, the tables that the
+/// processor goes by, the count of instructions, and the storage with its frames.
+#[derive(Drop)]
+pub struct Processor {
+    pub(crate) regs: [u32; 32],
+    pub(crate) ip: u32,
+    pub(crate) ac: u32,
+    pub(crate) pc: u32,
+    pub(crate) tc: u32,
+    pub(crate) maps: [u32; 3],
+    pub(crate) breaks: Breaks,
+    pub(crate) tables: Tables,
+    pub(crate) count: u64,
+    pub(crate) storage: Storage,
+}
+
+/// The number of sets: the one that is asked for, or the one of the PRCB.
+fn set_count(sets: Option<u8>, setup: &Setup) -> u8
+    requires asked { IfSome sets (λ n. 0 < n × n < 16) }
+    requires read { 0 < setup.now.sets × setup.now.sets < 16 }
+    ensures count { result ≡ unwrap_or sets setup.now.sets }
+    ensures some { 0 < result }
+    ensures few { result < 16 }
+{
+    match sets {
+        Some(n) => n,
+        None => setup.sets,
+    }
+}
+
+impl Processor {
+    ghost use Rattle.i9_processor.specs.State.{state_of, cache_of, size_of};
+
+    /// The state after boot, by the image's boot record, with so many sets or as many as its PRCB
+    /// asks for (the i960 CA/CF User's Manual, initialization).
+    #[tactic(auto, unfolding(crate::specs::State::state_of, crate::specs::State::cache_of, crate::specs::State::size_of, i9_model::specs::State::boot, i9_model::specs::State::started))]
+    pub fn boot(alloc: Global, image: &Segments, sets: Option<u8>) -> Result<Processor, NoMemory>
+        requires { IfSome sets (λ n. 0 < n × n < 16) }
+        ensures state { IfOk result (λ p. state_of p ≡ boot (pairs_of image.now)) }
+        ensures cache { IfOk result (λ p. cache_of p ≡ cache [] (boot (pairs_of image.now)).memory) }
+        ensures size { IfOk result (λ p. size_of p ≡ sets_in sets (boot (pairs_of image.now))) }
+        ensures count { IfOk result (λ p. (state_of p).count ≡ 0) }
+    {
+        let mut memory = Memory::new(alloc);
+        load(&mut memory, image)?;
+        let setup = boot(&mut memory);
+        let storage = Storage::new(alloc, memory, set_count(sets, &setup))?;
+        Ok(Processor {
+            regs: start_registers(&[0; 32], &setup),
+            ip: aligned(setup.first),
+            ac: setup.ac,
+            pc: BOOT_PC,
+            tc: start_trace_controls(&setup),
+            maps: start_maps(&setup),
+            breaks: start_breaks(&setup),
+            tables: tables_of(&setup),
+            count: 0,
+            storage,
+        })
+    }
+
+    /// The number of sets that the PRCB at an address asks for.
+    #[tactic(auto, unfolding(crate::specs::State::state_of, i9_model::specs::Boot::setup_of))]
+    pub fn sets_at(&self, prcb: u32) -> u8
+        ensures value { (first : ℕ) → result ≡ (setup_of (state_of self.now).memory first prcb).sets }
+        ensures some { 0 < result }
+        ensures few { result < 16 }
+    {
+        sets_asked(self.storage.word(prcb.wrapping_add(4 * REGISTER_CACHE)))
+    }
+}

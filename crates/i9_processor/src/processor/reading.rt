@@ -1,0 +1,197 @@
+//! What is read of the state that a processor stands for.
+ghost use Rattle.std.specs.Prelude.{◌≡◌, ◌+◌, ◌<◌};
+ghost use Rattle.i9_model.specs.Memory.{half_in, word_in, half_bytes, word_bytes, is_big};
+ghost use Rattle.i9_model.specs.Hazards.{read_hazard, write_hazard};
+ghost use Rattle.i9_model.specs.Frames.{flushed};
+ghost use Rattle.i9_model.specs.Overlay.{overlay};
+ghost use Rattle.i9_model.specs.PrintedText.{view_of};
+ghost use Rattle.i9_frames.specs.Sets.{held};
+
+use super::Processor;
+use i9_frames::Sets;
+use i9_model::{Tables, View};
+use i9_watch::Watch;
+
+impl Processor {
+    ghost use Rattle.i9_processor.specs.State.{state_of, cache_of, size_of};
+
+    /// A register: r0 to r15 are 0 to 15, g0 to g15 are 16 to 31, and there are no others.
+    #[tactic(auto, unfolding(crate::specs::State::state_of), using(crate::proofs::RegisterList::register_rules))]
+    pub fn register(&self, r: u8) -> u32
+        ensures { result ≡ (state_of self.now).regs r }
+    {
+        if r < 32 { self.regs[r as usize] } else { 0 }
+    }
+
+    /// The register that is `k` above another.
+    #[tactic(auto, unfolding(crate::specs::State::state_of), using(crate::proofs::RegisterList::register_rules))]
+    pub fn register_above(&self, r: u8, k: u8) -> u32
+        ensures { result ≡ (state_of self.now).regs (r + k) }
+    {
+        let register = usize::from(r) + usize::from(k);
+        if register < 32 {
+            self.regs[register]
+        } else {
+            0
+        }
+    }
+
+    /// The instruction address.
+    #[tactic(auto, unfolding(crate::specs::State::state_of))]
+    pub fn ip(&self) -> u32
+        ensures { result ≡ (state_of self.now).ip }
+    {
+        self.ip
+    }
+
+    /// The arithmetic controls.
+    #[tactic(auto, unfolding(crate::specs::State::state_of))]
+    pub fn ac(&self) -> u32
+        ensures { result ≡ (state_of self.now).ac }
+    {
+        self.ac
+    }
+
+    /// The process controls.
+    #[tactic(auto, unfolding(crate::specs::State::state_of))]
+    pub fn pc(&self) -> u32
+        ensures { result ≡ (state_of self.now).pc }
+    {
+        self.pc
+    }
+
+    /// The trace controls.
+    #[tactic(auto, unfolding(crate::specs::State::state_of))]
+    pub fn tc(&self) -> u32
+        ensures { result ≡ (state_of self.now).trace.tc }
+    {
+        self.tc
+    }
+
+    /// The words of the PRCB that the processor goes by.
+    #[tactic(auto, unfolding(crate::specs::State::state_of))]
+    pub fn tables(&self) -> &Tables
+        ensures { result.now ≡ (state_of self.now).tables }
+    {
+        &self.tables
+    }
+
+    /// How many instructions were counted.
+    #[tactic(auto, unfolding(crate::specs::State::state_of))]
+    pub fn count(&self) -> u64
+        ensures { result ≡ (state_of self.now).count }
+    {
+        self.count
+    }
+
+    /// The byte at `a`; 0 in the port page.
+    #[tactic(auto, unfolding(crate::specs::State::state_of))]
+    pub fn byte(&self, a: u32) -> u8
+        ensures { result ≡ (state_of self.now).memory.bytes a }
+    {
+        self.storage.byte(a)
+    }
+
+    /// The two bytes from `a` up, in the order of the region of `a`.
+    #[tactic(auto, unfolding(crate::specs::State::state_of))]
+    pub fn half(&self, a: u32) -> u16
+        ensures { result ≡ half_in (state_of self.now).memory a }
+    {
+        self.storage.half(a)
+    }
+
+    /// The four bytes from `a` up, in the order of the region of `a`.
+    #[tactic(auto, unfolding(crate::specs::State::state_of))]
+    pub fn word(&self, a: u32) -> u32
+        ensures { result ≡ word_in (state_of self.now).memory a }
+    {
+        self.storage.word(a)
+    }
+
+    /// The bytes of a half that is stored at `a`, from the lowest address up.
+    #[tactic(auto, unfolding(crate::specs::State::state_of))]
+    pub fn half_bytes(&self, a: u32, v: u16) -> [u8; 2]
+        ensures { result ≡ half_bytes (state_of self.now).memory a v }
+    {
+        self.storage.half_bytes(a, v)
+    }
+
+    /// The bytes of a word that is stored at `a`, from the lowest address up.
+    #[tactic(auto, unfolding(crate::specs::State::state_of))]
+    pub fn word_bytes(&self, a: u32, v: u32) -> [u8; 4]
+        ensures { result ≡ word_bytes (state_of self.now).memory a v }
+    {
+        self.storage.word_bytes(a, v)
+    }
+
+    /// Whether a region is big-endian.
+    #[tactic(auto, unfolding(crate::specs::State::state_of))]
+    pub fn big(&self, region: u8) -> bool
+        requires { region < 16 }
+        ensures { result ≡ is_big (state_of self.now).memory region }
+    {
+        self.storage.big(region)
+    }
+
+    /// The first byte of a read of `n` bytes from `a` up that is soft: only the save of a frame wrote it.
+    #[tactic(auto, unfolding(crate::specs::State::state_of))]
+    pub fn check_read(&self, a: u32, n: u32) -> Option<u32>
+        ensures { result ≡ read_hazard (state_of self.now).frames a n }
+    {
+        self.storage.watch().check_read(a, n)
+    }
+
+    /// The first byte of a write of `n` bytes from `a` up that is in a live frame.
+    #[tactic(auto, unfolding(crate::specs::State::state_of))]
+    pub fn check_write(&self, a: u32, n: u32) -> Option<u32>
+        ensures { result ≡ write_hazard (state_of self.now).frames a n }
+    {
+        self.storage.watch().check_write(a, n)
+    }
+
+    /// As `check_read`, but as after a flush of all live frames.
+    #[tactic(auto, unfolding(crate::specs::State::state_of))]
+    pub fn check_flushed_read(&self, a: u32, n: u32) -> Option<u32>
+        ensures { result ≡ read_hazard (flushed (state_of self.now).frames) a n }
+    {
+        self.storage.watch().check_flushed_read(a, n)
+    }
+
+    /// What a drained point shows.
+    #[tactic(auto, unfolding(crate::specs::State::state_of), using(crate::proofs::RegisterList::register_rules))]
+    pub fn view(&self) -> View
+        ensures { result ≡ view_of (state_of self.now) }
+    {
+        View {
+            count: self.count,
+            ip: self.ip,
+            ac: self.ac,
+            pc: self.pc,
+            tc: self.tc,
+            regs: self.regs,
+        }
+    }
+
+    /// A byte of overlaid memory: `None` where it is not compared.
+    #[tactic(auto, unfolding(crate::specs::State::state_of, i9_model::specs::Overlay::overlay), using(crate::proofs::Overlaid::overlay_rules))]
+    pub fn overlay(&self, a: u32) -> Option<u8>
+        ensures { result ≡ overlay (state_of self.now) a }
+    {
+        let watch = self.storage.watch();
+        if Watch::touches_port(a, 1).is_some() {
+            return Some(0);
+        }
+        if watch.soft(a) && watch.check_write(a, 1).is_none() {
+            return None;
+        }
+        Some(self.storage.byte(a))
+    }
+
+    /// The sets, with the frames that are held.
+    #[tactic(auto, unfolding(crate::specs::State::cache_of, crate::specs::State::size_of))]
+    pub fn sets(&self) -> &Sets
+        ensures { result.now ≡ held (size_of self.now) (cache_of self.now).held }
+    {
+        self.storage.sets()
+    }
+}

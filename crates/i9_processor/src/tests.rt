@@ -1,0 +1,389 @@
+//! The processor at an image of a few words, worked out by hand.
+ghost use Rattle.std.specs.Prelude.{◌≡◌, ◌<◌, [], None, OnOk};
+ghost use Rattle.i9_model.specs.Free.{IsFree};
+ghost use Rattle.i9_model.specs.Step.{moved};
+ghost use Rattle.i9_processor.specs.Effect.{action_in, move_in, AreRegisters, CanControl, CanMove, CanTake};
+ghost use Rattle.i9_processor.specs.State.{state_of};
+
+use crate::{Control, Effect, Frame, Move, Processor, frame_sets, group_sets};
+use arrayvec::ArrayVec;
+use i9_calls::{CallsStop, Pop, Push, Sys};
+use i9_entry::aligned;
+use i9_faults::{Entry, Fault, FaultStop};
+use i9_frames::Sets;
+use i9_hex::Segments;
+use i9_model::{Tables, View};
+use std::alloc::Global;
+use std::test::Fail;
+
+/// The process controls after boot.
+const BOOT_PC: u32 = 0x001F_2002;
+
+/// Bit 22 of a configuration word, which makes its region big-endian.
+const BIG_ENDIAN: u32 = 0x0040_0000;
+
+/// The image, as words that are little-endian: the boot record, the PRCB at 2000, its control table
+/// at 3000, which makes region 1 big-endian, a fault table, a system procedure table, words for
+/// reads, and the register cache words of two other PRCBs.
+const IMAGE: [(u32, u32); 22] = [
+    (0xFFFF_FF10, 0x0000_1236),
+    (0xFFFF_FF14, 0x0000_2000),
+    (0x2000, 0x0000_1100),
+    (0x2004, 0x0000_3000),
+    (0x2008, 0xFFFF_6EFF),
+    (0x200C, 0x4000_0000),
+    (0x2010, 0x0000_4440),
+    (0x2014, 0x0000_5500),
+    (0x201C, 0x0000_7771),
+    (0x2024, 0x0000_9997),
+    (0x3024, BIG_ENDIAN),
+    (0x3064, 0x0000_0005),
+    (0x3068, 0x1234_56FF),
+    (0x1110, 0x0000_1300),
+    (0x1118, 0x0000_0001),
+    (0x5544, 0x0000_1204),
+    (0x4000, 0x8765_4321),
+    (0x1000_4000, 0x8765_4321),
+    (0xE000_0008, 0x8765_4321),
+    (0x2104, 0x0000_6000),
+    (0x2124, 0x0000_000F),
+    (0x2224, 0x0000_0013),
+];
+
+fn put_word(image: &mut Segments, address: u32, word: u32) -> Result<(), Fail> {
+    let mut at = address;
+    for byte in word.to_le_bytes() {
+        image.put(at, byte)?;
+        at = at.wrapping_add(1);
+    }
+    Ok(())
+}
+
+/// The processor after boot of the image, with this configuration word of region 14.
+fn booted(alloc: Global, region: u32) -> Result<Processor, Fail> {
+    let mut image = Segments::new(alloc);
+    for (address, word) in IMAGE {
+        put_word(&mut image, address, word)?;
+    }
+    put_word(&mut image, 0x3058, region)?;
+    Ok(Processor::boot(alloc, &image, None)?)
+}
+
+#[test]
+fn boots(rt: HostRuntime) -> Result<(), Fail> {
+    let p = booted(rt.alloc(), 0)?;
+    let controls = (p.ip(), p.ac(), p.pc(), p.tc(), p.count());
+    assert_eq!(rt; controls, (0x1234, 7, BOOT_PC, 0x0234_00FE, 0));
+    let tables = Tables {
+        fault_table: 0x1100,
+        control_table: 0x3000,
+        fault_config: 0x4000_0000,
+        interrupt_table: 0x4440,
+        system_table: 0x5500,
+        interrupt_stack: 0x7771,
+        sets: 7,
+    };
+    assert_eq!(rt; *p.tables(), tables);
+    // The first frame is at the interrupt stack rounded up, and there are 32 registers.
+    let mut regs = [0; 32];
+    regs[1] = 0x77C0;
+    regs[31] = 0x7780;
+    let view = View {
+        count: 0,
+        ip: 0x1234,
+        ac: 7,
+        pc: BOOT_PC,
+        tc: 0x0234_00FE,
+        regs,
+    };
+    assert_eq!(rt; p.view(), view);
+    for (r, k, wanted) in [
+        (31, 0, 0x7780),
+        (1, 0, 0x77C0),
+        (30, 1, 0x7780),
+        (31, 1, 0),
+        (255, 255, 0),
+    ] {
+        assert_eq!(rt; p.register_above(r, k), wanted);
+    }
+    assert_eq!(rt; (p.register(31), p.register(32)), (0x7780, 0));
+    for (prcb, sets) in [(0x2000, 7), (0x2100, 15), (0x2200, 5), (0x2300, 5)] {
+        assert_eq!(rt; p.sets_at(prcb), sets);
+    }
+    assert_eq!(rt; (p.sets().size(), p.sets().len()), (7, 0));
+    Ok(())
+}
+
+#[test]
+fn reads_in_both_orders(rt: HostRuntime) -> Result<(), Fail> {
+    let p = booted(rt.alloc(), 0)?;
+    // The port page reads as 0, whatever the image says.
+    let rows = [
+        (0x4000, (0x21, 0x4321, 0x8765_4321)),
+        (0x4002, (0x65, 0x8765, 0x0000_8765)),
+        (0x1000_4000, (0x21, 0x2143, 0x2143_6587)),
+        (0xE000_0008, (0, 0, 0)),
+    ];
+    for (a, wanted) in rows {
+        assert_eq!(rt; (p.byte(a), p.half(a), p.word(a)), wanted);
+    }
+    assert_eq!(rt; (p.big(0), p.big(1), p.big(15)), (false, true, false));
+    assert_eq!(rt; p.half_bytes(0x0FFF_FFFF, 0x1234), [0x34, 0x12]);
+    assert_eq!(rt; p.half_bytes(0x1000_0000, 0x1234), [0x12, 0x34]);
+    assert_eq!(rt;
+        p.word_bytes(0x0FFF_FFFF, 0x1234_5678),
+        [0x78, 0x56, 0x34, 0x12]
+    );
+    assert_eq!(rt;
+        p.word_bytes(0x1000_0000, 0x1234_5678),
+        [0x12, 0x34, 0x56, 0x78]
+    );
+    Ok(())
+}
+
+#[test]
+fn lists_registers(rt: HostRuntime) {
+    assert_eq!(rt;
+        (aligned(0x1237), aligned(0xFFFF_FFFC)),
+        (0x1234, 0xFFFF_FFFC)
+    );
+    assert_eq!(rt;
+        group_sets(30, &[7, 8]).as_slice(),
+        [(30, 7), (31, 8)].as_slice()
+    );
+    let sets = frame_sets(&[9; 16], 0x40);
+    assert_eq!(rt; sets.len(), 17);
+    assert_eq!(rt;
+        (sets.first(), sets.get(15), sets.last()),
+        (Some(&(0, 9)), Some(&(15, 9)), Some(&(31, 0x40)))
+    );
+}
+
+#[test]
+fn plans(rt: HostRuntime) -> Result<(), Fail> {
+    let p = booted(rt.alloc(), 0)?;
+    let push = Push {
+        save: 0x7780,
+        frame: 0x77C0,
+        pfp: 0x7780,
+        sp: 0x7800,
+    };
+    assert_eq!(rt; p.plan_call(), Ok(push));
+    let sys = Sys {
+        push,
+        target: 0x1204,
+        pc: BOOT_PC,
+        switched: false,
+    };
+    assert_eq!(rt; p.plan_calls(5), Ok(sys));
+    assert_eq!(rt; p.plan_calls(260), Err(CallsStop::Length));
+    let pop = Pop {
+        frame: 0,
+        live: false,
+        pc: BOOT_PC,
+        ac: 7,
+        check: false,
+    };
+    assert_eq!(rt; p.plan_ret(), Ok(pop));
+    // The handler's frame stands above a record of sixteen bytes.
+    let entry = Entry {
+        push: Push {
+            save: 0x7780,
+            frame: 0x77D0,
+            pfp: 0x7781,
+            sp: 0x7810,
+        },
+        target: 0x1300,
+        pc: BOOT_PC,
+        words: [BOOT_PC, 7, 0x0002_0004, 0x1234],
+    };
+    let dead = FaultStop::Dead {
+        code: 1,
+        address: 0x1118,
+    };
+    for (kind, wanted) in [(2, Ok(entry)), (3, Err(dead))] {
+        let fault = Fault {
+            kind,
+            subtype: 4,
+            address: 0x1234,
+        };
+        assert_eq!(rt; p.plan_fault(&fault), wanted);
+    }
+    Ok(())
+}
+
+#[test]
+fn finds_bytes_of_the_port_page(rt: HostRuntime) -> Result<(), Fail> {
+    let rows = [
+        (0, 0xE000_0000, (Some(1), Some(0x0807_0605))),
+        (BIG_ENDIAN, 0xE000_0000, (Some(1), Some(0x0506_0708))),
+        (0, 0xE000_0001, (None, Some(0x0706_0504))),
+        (0, 0xE000_0005, (None, None)),
+        (0, 0xDFFF_FFF8, (Some(9), Some(0x100F_0E0D))),
+        (0, 0xDFFF_FFF7, (Some(10), None)),
+        (0, 0xDFFF_FFF0, (None, None)),
+    ];
+    for (region, address, wanted) in rows {
+        let p = booted(rt.alloc(), region)?;
+        let mut effect = going(&p, 0);
+        effect.address = address;
+        effect.bytes = ArrayVec::from([1, 2, 3, 4, 5, 6, 7, 8, 9, 10, 11, 12, 13, 14, 15, 16]);
+        assert_eq!(rt; (effect.console_byte(), effect.exit_word(&p)), wanted);
+    }
+    Ok(())
+}
+
+/// Nothing is done, but control goes to an address.
+fn going(p: &Processor, next: u32) -> Effect
+    ensures sets { result.sets.items ≡ [] }
+    ensures bytes { result.bytes.items ≡ [] }
+    ensures frames { result.frames ≡ Move.Stays }
+    ensures control { result.control ≡ Control.Keeps }
+{
+    Effect {
+        sets: ArrayVec::new(),
+        address: 0,
+        bytes: ArrayVec::new(),
+        frames: Move::Stays,
+        ac: p.ac(),
+        pc: p.pc(),
+        tc: p.tc(),
+        control: Control::Keeps,
+        next,
+    }
+}
+
+/// Makes room for an effect, applies it, and counts an instruction.
+fn applies(p: &mut Processor, effect: &Effect, sets: Option<Sets>) -> Result<(), Fail>
+    requires registers { AreRegisters effect.now.sets.items }
+    requires can { CanMove (state_of p.old).frames effect.now.frames }
+    requires free { IsFree (state_of p.old) (action_in (state_of p.old) effect.now) }
+    requires controls { CanControl (moved (state_of p.old) (action_in (state_of p.old) effect.now)) effect.now.control }
+    requires sets { CanTake (move_in effect.now.frames) sets }
+{
+    if p.count() > 100 {
+        return Err("too many".into());
+    }
+    p.reserve(effect)?;
+    p.apply(effect, 1, sets);
+    Ok(())
+}
+
+/// Saves a frame whose words are all the same, and goes on in a new one at 1300.
+#[tactic(auto, unfolding(i9_model::specs::Hazards::writes_hazard), using(crate::proofs::Frames::frame_rules))]
+fn saves(p: &mut Processor, word: u32) -> Result<(), Fail> {
+    let push = match p.plan_call() {
+        Ok(push) => push,
+        Err(_) => return Err("a hazard".into()),
+    };
+    let mut locals = [0; 16];
+    locals[0] = push.pfp;
+    locals[1] = push.sp;
+    let mut effect = going(p, 0x1300);
+    effect.sets = frame_sets(&locals, push.frame);
+    effect.frames = Move::Saves(Frame {
+        address: push.save,
+        words: [word; 16],
+    });
+    applies(p, &effect, None)
+}
+
+/// Stores two bytes.
+#[tactic(auto, unfolding(i9_model::specs::Hazards::writes_hazard, i9_model::specs::Hazards::write_hazard))]
+fn stores(p: &mut Processor, a: u32, bytes: (u8, u8)) -> Result<(), Fail> {
+    if p.check_write(a, 2).is_some() {
+        return Err("a hazard".into());
+    }
+    let mut effect = going(p, 0x1308);
+    effect.address = a;
+    effect.bytes.push(bytes.0);
+    effect.bytes.push(bytes.1);
+    applies(p, &effect, None)
+}
+
+/// Returns to the youngest live frame, or flushes all of them.
+#[tactic(auto, unfolding(i9_model::specs::Hazards::writes_hazard))]
+fn leaves(p: &mut Processor, by: Move) -> Result<(), Fail> {
+    let mut effect = going(p, 0x1304);
+    match by {
+        Move::Saves(_) => return Err("a save".into()),
+        other => effect.frames = other,
+    }
+    applies(p, &effect, None)
+}
+
+#[test]
+fn keeps_frames(rt: HostRuntime) -> Result<(), Fail> {
+    let mut p = booted(rt.alloc(), 0)?;
+    saves(&mut p, 9)?;
+    assert_eq!(rt;
+        (
+            p.count(),
+            p.ip(),
+            p.register(0),
+            p.register(1),
+            p.register(31)
+        ),
+        (1, 0x1300, 0x7780, 0x7800, 0x77C0)
+    );
+    // Its bytes are soft, and it is live and held.
+    assert_eq!(rt;
+        (
+            p.check_read(0x777C, 8),
+            p.check_write(0x77BE, 4),
+            p.check_flushed_read(0x7780, 64)
+        ),
+        (Some(0x7780), Some(0x77BE), None)
+    );
+    assert_eq!(rt;
+        (
+            p.word(0x77BC),
+            p.overlay(0x7780),
+            p.overlay(0x4000),
+            p.overlay(0xE000_0008)
+        ),
+        (9, Some(9), Some(0x21), Some(0))
+    );
+    let frame = Frame {
+        address: 0x7780,
+        words: [9; 16],
+    };
+    assert_eq!(rt; (p.sets().len(), p.sets().at(0).copied()), (1, Some(frame)));
+    // Behind the return they stay soft,
+    leaves(&mut p, Move::Returns)?;
+    assert_eq!(rt;
+        (
+            p.check_read(0x777C, 8),
+            p.check_write(0x77BE, 4),
+            p.check_flushed_read(0x7780, 64)
+        ),
+        (Some(0x7780), None, Some(0x7780))
+    );
+    assert_eq!(rt;
+        (p.overlay(0x7780), p.sets().len(), p.count()),
+        (None, 0, 2)
+    );
+    // until they are stored to.
+    stores(&mut p, 0x7780, (7, 8))?;
+    assert_eq!(rt;
+        (
+            p.check_read(0x777C, 64),
+            p.overlay(0x7781),
+            p.overlay(0x7782)
+        ),
+        (Some(0x7782), Some(8), None)
+    );
+    // A flush brings the words of live frames to memory.
+    saves(&mut p, 5)?;
+    leaves(&mut p, Move::Flushes)?;
+    assert_eq!(rt;
+        (
+            p.check_read(0x77C0, 64),
+            p.overlay(0x77C0),
+            p.sets().len(),
+            p.ip()
+        ),
+        (None, Some(5), 0, 0x1304)
+    );
+    Ok(())
+}
