@@ -13,10 +13,12 @@ use Rattle.i9_model.specs.Frames.{in_bytes}
 use Rattle.i9_model.proofs.Places.{in_bytes-none, in_bytes-more}
 use Rattle.i9_watch.specs.declared.page.Mark.{Mark}
 use Rattle.i9_watch.specs.declared.page.Mark.TheVariants.{Soft, Live}
+use Rattle.i9_watch.specs.declared.page.Change.{Change}
+use Rattle.i9_watch.specs.declared.page.Change.TheVariants.{Save, Store, Return, Flush}
 use Rattle.i9_watch.specs.declared.page.Page.{Page}
 use Rattle.i9_watch.specs.declared.marks.Marks.{Marks}
-use Rattle.i9_watch.specs.Page.{has_mark}
-use Rattle.i9_watch.specs.Marks.{is_marked, is_marked_in, HasPage}
+use Rattle.i9_watch.specs.Page.{has_mark, changed}
+use Rattle.i9_watch.specs.Marks.{is_marked, is_marked_in, changed_run, HasPage}
 
 -- functions that agree everywhere are one
 pub same_marks : (f g : ℕ → Bool) → ((x : ℕ) → f x ≡ g x) → f ≡ g
@@ -82,9 +84,6 @@ pub same_page_marks : (m : Mark) (s t : Marks) (x : ℕ) → get nat_cmp s.pages
 same_page_marks m s t x e = ap (λ (o : Option Page). is_marked_in m o (x % 256)) e
 
 -- ---- addresses in a row
-
-or_true : (b : Bool) → (b || true) ≡ true
-or_true b = grind arith
 
 wrapped-small : (a n : ℕ) → a + n < 2 ^ 32 → wrapped (a + n) ≡ a + n
 wrapped-small a n h = omega arith
@@ -210,28 +209,49 @@ pub set_place : (a n x : ℕ) (value before after : Bool) → a < 2 ^ 32 → a %
 set_place a n x value before after small fits within outside others =
     place_case (x / 256 == a / 256) (is_outside (a % 256) n (x % 256)) a n x value before after small fits refl refl within outside others
 
-not_set : (value : Bool) (A : Type 0) → (A → ⊥) → (value ≡ true → A) → false ≡ value
-not_set true A lacks room = absurd (lacks (room refl))
-not_set false A lacks room = refl
+-- where there is no room nothing is marked
+none_after : (c : Change) (m : Mark) (A : Type 0) → (A → ⊥) → (c ≡ Save → A) → false ≡ changed c m false
+none_after Save m A lacks room = absurd (lacks (room refl))
+none_after Store Soft A lacks room = refl
+none_after Store Live A lacks room = refl
+none_after Return Soft A lacks room = refl
+none_after Return Live A lacks room = refl
+none_after Flush m A lacks room = refl
 
--- where the page is lacking there is nothing to take away, and no room to set
-pub lacking_page : (m : Mark) (s : Marks) (a n : ℕ) (value : Bool) → a < 2 ^ 32 → a % 256 + n ≤ 256 → (HasPage s (a / 256) → ⊥) → (value ≡ true → HasPage s (a / 256)) → is_marked m s ≡ (λ x. if in_bytes a n x then value else is_marked m s x)
-lacking_page m s a n value small fits lacks room = same_marks _ _ (λ x.
-    set_place a n x value (is_marked m s x) (is_marked m s x) small fits
-    (λ e _ _. unmarked_page m s x (λ has. lacks (subst (HasPage s) e has)) ∙ not_set value (HasPage s (a / 256)) lacks room)
+-- where the page is lacking there is nothing to take away, and no room to save
+pub lacking_page : (c : Change) (m : Mark) (s : Marks) (a n : ℕ) → a < 2 ^ 32 → a % 256 + n ≤ 256 → (HasPage s (a / 256) → ⊥) → (c ≡ Save → HasPage s (a / 256)) → is_marked m s ≡ changed_run c m a n (is_marked m s)
+lacking_page c m s a n small fits lacks room = same_marks _ _ (λ x.
+    set_place a n x (changed c m (is_marked m s x)) (is_marked m s x) (is_marked m s x) small fits
+    (λ e _ _.
+    let none = unmarked_page m s x (λ has. lacks (subst (HasPage s) e has)) in
+    none ∙ none_after c m (HasPage s (a / 256)) lacks room ∙ ap (changed c m) (sym none))
     (λ _ _. refl)
     (λ _. refl))
 
-if_either : (b c value mark : Bool) → (if c then value else (if b then value else mark)) ≡ (if b || c then value else mark)
-if_either b c value mark = grind arith
+-- a change that is made twice
+twice : (c : Change) (m : Mark) (b : Bool) → changed c m (changed c m b) ≡ changed c m b
+twice Save m b = refl
+twice Store Soft b = refl
+twice Store Live b = refl
+twice Return Soft b = refl
+twice Return Live b = refl
+twice Flush m b = refl
 
-pub set_none : (a : ℕ) (value : Bool) (f : ℕ → Bool) → f ≡ (λ x. if in_bytes a 0 x then value else f x)
-set_none a value f = same_marks _ _ (λ x. ap (λ (b : Bool). if b then value else f x) (sym (in_bytes-none a x)))
+abbrev changed_if : Change → Mark → Bool → Bool → Bool
+changed_if c m here mark = if here then changed c m mark else mark
 
--- a run behind the run that is set already
-pub set_more : (a j k : ℕ) (value : Bool) (f g h : ℕ → Bool) → g ≡ (λ x. if in_bytes a j x then value else f x) → h ≡ (λ x. if in_bytes (wrapped (a + j)) k x then value else g x) → h ≡ (λ x. if in_bytes a (j + k) x then value else f x)
-set_more a j k value f g h p q = same_marks _ _ (λ x.
-    ap (λ (m : ℕ → Bool). m x) q
-    ∙ ap (λ (m : ℕ → Bool). if in_bytes (wrapped (a + j)) k x then value else m x) p
-    ∙ if_either (in_bytes a j x) (in_bytes (wrapped (a + j)) k x) value (f x)
-    ∙ ap (λ (b : Bool). if b then value else f x) (sym (in_bytes-split a j k x)))
+if_either : (c : Change) (m : Mark) (here there mark : Bool) → changed_if c m there (changed_if c m here mark) ≡ changed_if c m (here || there) mark
+if_either c m true true mark = twice c m mark
+if_either c m true false mark = refl
+if_either c m false there mark = refl
+
+pub change_none : (c : Change) (m : Mark) (a : ℕ) (f : ℕ → Bool) → f ≡ changed_run c m a 0 f
+change_none c m a f = same_marks _ _ (λ x. ap (λ (b : Bool). changed_if c m b (f x)) (sym (in_bytes-none a x)))
+
+-- a run behind the run that is changed already
+pub change_more : (c : Change) (m : Mark) (a j k : ℕ) (f g h : ℕ → Bool) → g ≡ changed_run c m a j f → h ≡ changed_run c m (wrapped (a + j)) k g → h ≡ changed_run c m a (j + k) f
+change_more c m a j k f g h p q = same_marks _ _ (λ x.
+    ap (λ (f : ℕ → Bool). f x) q
+    ∙ ap (λ (f : ℕ → Bool). changed_if c m (in_bytes (wrapped (a + j)) k x) (f x)) p
+    ∙ if_either c m (in_bytes a j x) (in_bytes (wrapped (a + j)) k x) (f x)
+    ∙ ap (λ (b : Bool). changed_if c m b (f x)) (sym (in_bytes-split a j k x)))

@@ -118,6 +118,14 @@ first_aligned xs ys a h e = subst AreAligned e h
 
 -- ---- soft marks
 
+if_same : (b c : Bool) → (if b then c else c) ≡ c
+if_same true c = refl
+if_same false c = refl
+
+-- marks that a change leaves as they are
+pub no_change : (a n : ℕ) (f g : ℕ → Bool) → g ≡ (λ x. if in_bytes a n x then f x else f x) → g ≡ f
+no_change a n f g q = λ i x. (ap (λ (m : ℕ → Bool). m x) q ∙ if_same (in_bytes a n x) (f x)) i
+
 pub soft-saved : (a : ℕ) (f g : ℕ → Bool) → g ≡ (λ x. if in_bytes a FRAME_SIZE x then true else f x) → g ≡ (λ x. in_bytes a FRAME_SIZE x || f x)
 soft-saved a f g q = λ i x. (ap (λ (m : ℕ → Bool). m x) q ∙ if_true_or (in_bytes a FRAME_SIZE x) (f x)) i
 

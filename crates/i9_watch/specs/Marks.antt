@@ -1,13 +1,15 @@
 -- Marks: which addresses are marked, and which have room for marks.
-use Rattle.std.specs.Prelude.{ℕ, ◌+◌, ◌/◌, ◌<◌, ◌%◌, Bool, false, Option, Some, None, IsSome}
+use Rattle.std.specs.Prelude.{ℕ, ◌+◌, ◌/◌, ◌<◌, ◌%◌, Bool, false, if◌then◌else◌, Option, Some, None, IsSome}
 use Rattle.std.specs.Ordering.{nat_cmp}
 use Rattle.std.specs.BTreeMap.{get}
 use Rattle.i9_model.specs.declared.layout.TheConstants.{FRAME_SIZE}
 use Rattle.i9_model.specs.Writes.{wrapped}
+use Rattle.i9_model.specs.Frames.{in_bytes}
 use Rattle.i9_watch.specs.declared.page.Mark.{Mark}
+use Rattle.i9_watch.specs.declared.page.Change.{Change}
 use Rattle.i9_watch.specs.declared.page.Page.{Page}
 use Rattle.i9_watch.specs.declared.marks.Marks.{Marks}
-use Rattle.i9_watch.specs.Page.{has_mark}
+use Rattle.i9_watch.specs.Page.{has_mark, changed}
 
 -- a place of a page that may be lacking has a mark
 abbrev pub is_marked_in : Mark → Option Page → ℕ → Bool
@@ -17,6 +19,10 @@ is_marked_in m (Some p) k = has_mark m p k
 -- an address has a mark
 abbrev pub is_marked : Mark → Marks → ℕ → Bool
 is_marked m s a = is_marked_in m (get nat_cmp s.pages (a / 256)) (a % 256)
+
+-- marks after a change of so many addresses from one on
+abbrev pub changed_run : Change → Mark → ℕ → ℕ → (ℕ → Bool) → ℕ → Bool
+changed_run c m a n marks x = if in_bytes a n x then changed c m (marks x) else marks x
 
 -- a page is there
 abbrev pub HasPage : Marks → ℕ → Type 0

@@ -3,7 +3,7 @@ ghost use Rattle.std.specs.Prelude.{◌≡◌, ◌≢◌, ℕ, ◌+◌, ◌/◌,
 ghost use Rattle.i9_model.specs.Writes.{wrapped};
 ghost use Rattle.i9_model.specs.Frames.{in_bytes, in_frames};
 
-use crate::page::{Mark, PAGE_SIZE, Page};
+use crate::page::{Change, Mark, PAGE_SIZE, Page};
 use i9_isa::NoMemory;
 use i9_model::layout::FRAME_SIZE;
 use std::alloc::Global;
@@ -27,7 +27,7 @@ fn count_in_page(a: u32, n: u32) -> u32
 }
 
 impl Marks {
-    ghost use Rattle.i9_watch.specs.Marks.{is_marked, HasPage, HasRoom, HasFrameRoom, KeepsPages};
+    ghost use Rattle.i9_watch.specs.Marks.{is_marked, changed_run, HasPage, HasRoom, HasFrameRoom, KeepsPages};
     ghost use Rattle.i9_watch.specs.Live.{AreAligned};
 
     /// No address is marked.
@@ -116,6 +116,9 @@ impl Marks {
     {
         let first = a / PAGE_SIZE;
         let last = a.wrapping_add(FRAME_SIZE - 1) / PAGE_SIZE;
+        if first == last {
+            return self.reserve_page(first);
+        }
         let is_there = self.pages.contains_key(&first);
         self.reserve_page(first)?;
         if let Err(error) = self.reserve_page(last) {
@@ -127,47 +130,43 @@ impl Marks {
         Ok(())
     }
 
-    /// Gives so many addresses of a page a mark, or takes it away.
-    fn set_in_page(&mut self, mark: Mark, a: u32, n: u32, value: bool)
+    /// Changes the marks of so many addresses of a page. All but a store is done to whole blocks.
+    fn change_in_page(&mut self, change: Change, a: u32, n: u32)
         requires within { a % 256 + n ≤ 256 }
-        requires blocks { mark ≡ Mark.Live → (a % 16 ≡ 0) × (n % 16 ≡ 0) }
-        requires room { value ≡ true → HasRoom self.old a }
-        ensures marks { is_marked mark self.new ≡ (λ x. if in_bytes a n x then value else is_marked mark self.old x) }
-        ensures other { (m : Mark) → m ≢ mark → is_marked m self.new ≡ is_marked m self.old }
+        requires blocks { change ≢ Change.Store → (a % 16 ≡ 0) × (n % 16 ≡ 0) }
+        requires room { change ≡ Change.Save → HasRoom self.old a }
+        ensures marks { (m : Mark) → is_marked m self.new ≡ changed_run change m a n (is_marked m self.old) }
         ensures keeps { KeepsPages self.old self.new }
     {
         if let Some(page) = self.pages.get_mut(&(a / PAGE_SIZE)) {
-            page.set(mark, a % PAGE_SIZE, n, value);
+            page.change(change, a % PAGE_SIZE, n);
         }
     }
 
-    /// Gives so many addresses from one on a mark, or takes it away. Live marks are those of whole
-    /// blocks.
-    pub(crate) fn set(&mut self, mark: Mark, a: u32, n: u32, value: bool)
-        requires blocks { mark ≡ Mark.Live → (a % 16 ≡ 0) × (n % 16 ≡ 0) }
-        requires room { value ≡ true → (k : ℕ) → k < n → HasRoom self.old (wrapped (a + k)) }
-        ensures marks { is_marked mark self.new ≡ (λ x. if in_bytes a n x then value else is_marked mark self.old x) }
-        ensures other { (m : Mark) → m ≢ mark → is_marked m self.new ≡ is_marked m self.old }
+    /// Changes the marks of so many addresses from one on. All but a store is done to whole blocks.
+    pub(crate) fn change(&mut self, change: Change, a: u32, n: u32)
+        requires blocks { change ≢ Change.Store → (a % 16 ≡ 0) × (n % 16 ≡ 0) }
+        requires room { change ≡ Change.Save → (k : ℕ) → k < n → HasRoom self.old (wrapped (a + k)) }
+        ensures marks { (m : Mark) → is_marked m self.new ≡ changed_run change m a n (is_marked m self.old) }
         ensures keeps { KeepsPages self.old self.new }
     {
         let mut done = 0;
         while done < n {
             let first = a.wrapping_add(done);
             let count = count_in_page(first, n - done);
-            self.set_in_page(mark, first, count, value);
+            self.change_in_page(change, first, count);
             done += count;
         }
     }
 
-    /// Takes a mark of the bytes of frames away.
-    pub(crate) fn clear_frames(&mut self, mark: Mark, frames: &VecDeque<u32>)
+    /// Takes the marks of the bytes of frames away.
+    pub(crate) fn flush(&mut self, frames: &VecDeque<u32>)
         requires { AreAligned frames.now.items }
-        ensures marks { is_marked mark self.new ≡ (λ x. is_marked mark self.old x && not (in_frames frames.now.items x)) }
-        ensures other { (m : Mark) → m ≢ mark → is_marked m self.new ≡ is_marked m self.old }
+        ensures marks { (m : Mark) → is_marked m self.new ≡ (λ x. is_marked m self.old x && not (in_frames frames.now.items x)) }
         ensures keeps { KeepsPages self.old self.new }
     {
         for frame in frames.iter() {
-            self.set(mark, *frame, FRAME_SIZE, false);
+            self.change(Change::Flush, *frame, FRAME_SIZE);
         }
     }
 }

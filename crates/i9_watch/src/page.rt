@@ -8,7 +8,7 @@ use std::alloc::Global;
 pub(crate) const PAGE_SIZE: u32 = 256;
 
 /// How many addresses a block has. Frames are whole blocks.
-const BLOCK_SIZE: u32 = 16;
+const BLOCK_SIZE: usize = 16;
 
 /// What an address can be marked as.
 #[derive(Clone, Copy)]
@@ -19,6 +19,19 @@ pub(crate) enum Mark {
     Live,
 }
 
+/// What happens to the bytes of a run.
+#[derive(Clone, Copy)]
+pub(crate) enum Change {
+    /// A frame is saved: they are soft and live.
+    Save,
+    /// They are stored to, and not soft any more.
+    Store,
+    /// Their frame is returned to, and not live any more.
+    Return,
+    /// Their frame is written to memory: they are neither.
+    Flush,
+}
+
 /// Which addresses of a page are soft, and which of its blocks are live.
 #[derive(Drop)]
 pub(crate) struct Page {
@@ -27,7 +40,7 @@ pub(crate) struct Page {
 }
 
 impl Page {
-    ghost use Rattle.i9_watch.specs.Page.{has_mark};
+    ghost use Rattle.i9_watch.specs.Page.{has_mark, changed};
 
     /// No address is marked.
     pub(crate) fn new(alloc: Global) -> Result<Page, NoMemory>
@@ -50,7 +63,7 @@ impl Page {
     {
         match mark {
             Mark::Soft => self.soft[place as usize],
-            Mark::Live => self.live[(place / BLOCK_SIZE) as usize],
+            Mark::Live => self.live[place as usize / BLOCK_SIZE],
         }
     }
 
@@ -59,31 +72,35 @@ impl Page {
         requires { place + n ≤ 256 }
         ensures { result ≡ false → (k : ℕ) → place ≤ k → k < place + n → has_mark mark self.now k ≡ false }
     {
-        let end = place + n;
+        let (from, to) = (place as usize, (place + n) as usize);
         match mark {
-            Mark::Soft => self.soft[place as usize..end as usize].contains(&true),
+            Mark::Soft => self.soft[from..to].contains(&true),
             Mark::Live => {
-                let first = place / BLOCK_SIZE;
-                let last = end.div_ceil(BLOCK_SIZE);
-                self.live[first as usize..last as usize].contains(&true)
+                let last = to.div_ceil(BLOCK_SIZE);
+                self.live[from / BLOCK_SIZE..last].contains(&true)
             }
         }
     }
 
-    /// Gives so many places from one on a mark, or takes it away. Live marks are those of whole
-    /// blocks.
-    pub(crate) fn set(&mut self, mark: Mark, place: u32, n: u32, value: bool)
+    /// Changes the marks of so many places from one on. All but a store is done to whole blocks.
+    pub(crate) fn change(&mut self, change: Change, place: u32, n: u32)
         requires room { place + n ≤ 256 }
-        requires blocks { mark ≡ Mark.Live → (place % 16 ≡ 0) × (n % 16 ≡ 0) }
-        ensures within { (k : ℕ) → place ≤ k → k < place + n → has_mark mark self.new k ≡ value }
-        ensures outside { (k : ℕ) → (k < place) ⊎ (place + n ≤ k) → has_mark mark self.new k ≡ has_mark mark self.old k }
-        ensures other { (m : Mark) → m ≢ mark → (k : ℕ) → has_mark m self.new k ≡ has_mark m self.old k }
+        requires blocks { change ≢ Change.Store → (place % 16 ≡ 0) × (n % 16 ≡ 0) }
+        ensures within { (m : Mark) (k : ℕ) → place ≤ k → k < place + n → has_mark m self.new k ≡ changed change m (has_mark m self.old k) }
+        ensures outside { (m : Mark) (k : ℕ) → (k < place) ⊎ (place + n ≤ k) → has_mark m self.new k ≡ has_mark m self.old k }
     {
-        let end = place + n;
-        match mark {
-            Mark::Soft => self.soft[place as usize..end as usize].fill(value),
-            Mark::Live => {
-                self.live[(place / BLOCK_SIZE) as usize..(end / BLOCK_SIZE) as usize].fill(value);
+        let (from, to) = (place as usize, (place + n) as usize);
+        let (first, last) = (from / BLOCK_SIZE, to / BLOCK_SIZE);
+        match change {
+            Change::Save => {
+                self.soft[from..to].fill(true);
+                self.live[first..last].fill(true);
+            }
+            Change::Store => self.soft[from..to].fill(false),
+            Change::Return => self.live[first..last].fill(false),
+            Change::Flush => {
+                self.soft[from..to].fill(false);
+                self.live[first..last].fill(false);
             }
         }
     }

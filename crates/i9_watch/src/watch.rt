@@ -9,7 +9,7 @@ ghost use Rattle.i9_watch.specs.Live.{AreAligned, AreAligned-prop, AreApart-prop
 ghost use Rattle.i9_watch.specs.declared.page.Mark.TheVariants.{Live};
 
 use crate::marks::Marks;
-use crate::page::Mark;
+use crate::page::{Change, Mark};
 use i9_isa::NoMemory;
 use i9_model::layout::{FRAME_SIZE, PORT_PAGE};
 use i9_model::{Push, in_port_page};
@@ -207,8 +207,7 @@ impl Watch {
         ensures spare { spare_of self.new + 1 ≡ spare_of self.old }
         ensures marks { KeepsMarks self.old self.new }
     {
-        self.marks.set(Mark::Soft, a, FRAME_SIZE, true);
-        self.marks.set(Mark::Live, a, FRAME_SIZE, true);
+        self.marks.change(Change::Save, a, FRAME_SIZE);
         self.spare -= 1;
         self.live.push_front_reserved(a);
     }
@@ -221,7 +220,7 @@ impl Watch {
         ensures marks { KeepsMarks self.old self.new }
     {
         if let Some(frame) = self.live.pop_front() {
-            self.marks.set(Mark::Live, frame, FRAME_SIZE, false);
+            self.marks.change(Change::Return, frame, FRAME_SIZE);
         }
     }
 
@@ -232,8 +231,7 @@ impl Watch {
         ensures spare { spare_of self.new ≡ spare_of self.old }
         ensures marks { KeepsMarks self.old self.new }
     {
-        self.marks.clear_frames(Mark::Soft, &self.live);
-        self.marks.clear_frames(Mark::Live, &self.live);
+        self.marks.flush(&self.live);
         self.live.clear();
     }
 
@@ -243,7 +241,7 @@ impl Watch {
         ensures spare { spare_of self.new ≡ spare_of self.old }
         ensures marks { KeepsMarks self.old self.new }
     {
-        self.marks.set(Mark::Soft, a, n, false);
+        self.marks.change(Change::Store, a, n);
     }
 
     /// The save address of the youngest live frame.

@@ -20,11 +20,10 @@ invariant_of-self-clause-apart c =
 
 pub invariant_of-self-clause-marked : goal.invariant_of-self-clause-marked
 invariant_of-self-clause-marked c =
-    live-saved c.args.a (is_marked Live c.set.new.self) (is_marked Live c.set-2.new.self) c.args.self.now.live.items
-    (c.set.ensures.other Live (λ e. cc) ∙ c.args.self.now.marked) c.set-2.ensures.marks
+    live-saved c.args.a (is_marked Live c.args.self.now.marks) (is_marked Live c.change.new.self) c.args.self.now.live.items c.args.self.now.marked (c.change.ensures.marks Live)
     ∙ ap in_frames (sym c.push_front_reserved.ensures.items)
 
 pub returns-clause-frames : goal.returns-clause-frames
 unfolding frames_of
 returns-clause-frames c =
-    same_frames (c.set-2.ensures.other Soft (λ e. cc) ∙ soft-saved c.args.a (is_marked Soft c.args.self.now.marks) (is_marked Soft c.set.new.self) c.set.ensures.marks) c.push_front_reserved.ensures.items
+    same_frames (soft-saved c.args.a (is_marked Soft c.args.self.now.marks) (is_marked Soft c.change.new.self) (c.change.ensures.marks Soft)) c.push_front_reserved.ensures.items

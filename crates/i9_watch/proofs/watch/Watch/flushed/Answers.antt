@@ -16,11 +16,9 @@ invariant_of-self-clause-apart c = subst AreApart (sym c.clear.ensures.items) tt
 
 pub invariant_of-self-clause-marked : goal.invariant_of-self-clause-marked
 invariant_of-self-clause-marked c =
-    live-flushed (is_marked Live c.clear_frames.new.self) (is_marked Live c.clear_frames-2.new.self) c.args.self.now.live.items
-    (c.clear_frames.ensures.other Live (λ e. cc) ∙ c.args.self.now.marked) c.clear_frames-2.ensures.marks
+    live-flushed (is_marked Live c.args.self.now.marks) (is_marked Live c.flush.new.self) c.args.self.now.live.items c.args.self.now.marked (c.flush.ensures.marks Live)
     ∙ ap in_frames (sym c.clear.ensures.items)
 
 pub returns-clause-frames : goal.returns-clause-frames
 unfolding frames_of
-returns-clause-frames c =
-    same_frames (c.clear_frames-2.ensures.other Soft (λ e. cc) ∙ c.clear_frames.ensures.marks) c.clear.ensures.items
+returns-clause-frames c = same_frames (c.flush.ensures.marks Soft) c.clear.ensures.items
