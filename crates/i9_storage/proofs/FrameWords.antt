@@ -1,9 +1,6 @@
 -- The words of a frame that are written to memory one by one, and frames that are returned to.
-use Rattle.std.proofs.Common.{◌≡◌, ℕ, ◌+◌, ◌<◌, ◌≤◌, List, [], ◌∷◌, length, get_or, drop, refl, ap, arith}
+use Rattle.std.proofs.Common.{◌≡◌, ℕ, ◌<◌, List, [], ◌∷◌, length, drop, refl, ap, arith}
 use Rattle.std.specs.Prelude.{slice_get, is_some, true, false}
-use Rattle.std.proofs.lemmas.List.{at_drop_more, at_drop_all}
-use Rattle.i9_model.specs.Writes.{wrapped}
-use Rattle.i9_model.specs.Memory.{Memory, word_bytes, with_bytes, with_words}
 use Rattle.i9_model.specs.State.{Frames}
 use Rattle.i9_model.specs.Frames.{returned}
 

@@ -1,9 +1,9 @@
 -- The words of the youngest held frame are words of memory with the held frames laid over it.
-use Rattle.std.proofs.Common.{◌≡◌, ℕ, ◌+◌, ◌-◌, ◌*◌, ◌^◌, ◌<◌, Bool, true, false, cond, List, [], ◌∷◌, ◌++◌, length, get_or, take, Some, refl, sym, ap, ◌∙◌, subst, arith}
+use Rattle.std.proofs.Common.{◌≡◌, ℕ, ◌+◌, ◌-◌, ◌*◌, ◌^◌, ◌<◌, Bool, true, false, cond, List, [], ◌∷◌, ◌++◌, length, get_or, take, Some, None, refl, sym, ap, ◌∙◌, subst, arith}
 use Rattle.std.specs.Prelude.{reverse, slice_get}
 use Rattle.std.specs.Int.{w32, from_le_bytes, from_be_bytes, to_le_bytes, to_be_bytes}
 use Rattle.std.proofs.lemmas.Bool.{or_left}
-use Rattle.std.proofs.lemmas.List.{take_more, take_all}
+use Rattle.std.proofs.lemmas.List.{take_more, take_all, length-reverse}
 use Rattle.std.proofs.lemmas.List.FromFn.{fill_by_all}
 use Rattle.std.proofs.lemmas.Nat.{from_le_bytes-to_le_bytes_4, from_be_bytes-to_be_bytes_4}
 use Rattle.i9_model.specs.declared.layout.TheConstants.{LOCALS, FRAME_SIZE}
@@ -64,14 +64,24 @@ words_back : (m : Memory) (f : Frame) → f.address < address_count → length f
 words_back m f low whole small outside =
     let n = with_words m f.address f.words in
     fill_by_all (λ (k : ℕ). word_in n (wrapped (f.address + 4 * k))) f.words LOCALS 0 whole (λ k h.
-        let x = wrapped (f.address + 4 * k) in
-        sym (word_by_bytes n x (get_or f.words k 0) (omega arith) (small k) (λ j l.
-            let place : wrapped (wrapped (f.address + 4 * k) + j) ≡ wrapped (f.address + (4 * k + j)) = omega arith in
-            ap n.bytes place
-            ∙ frame_byte m f.address f.words k j low whole h l (outside (4 * k + j) (omega arith))
-            ∙ ap (λ (bs : List ℕ). get_or bs j 0) (stored_orders m f.address f.words x (get_or f.words k 0)))))
+    let x = wrapped (f.address + 4 * k) in
+    sym (word_by_bytes n x (get_or f.words k 0) (omega arith) (small k) (λ j l.
+    let place : wrapped (wrapped (f.address + 4 * k) + j) ≡ wrapped (f.address + (4 * k + j)) = omega arith in
+    ap n.bytes place
+    ∙ frame_byte m f.address f.words k j low whole h l (outside (4 * k + j) (omega arith))
+    ∙ ap (λ (bs : List ℕ). get_or bs j 0) (stored_orders m f.address f.words x (get_or f.words k 0)))))
 
 -- ---- the youngest one
+
+none_at_first : (fs : List Frame) → slice_get fs 0 ≡ None → length fs ≡ 0
+none_at_first [] none = refl
+none_at_first (f ∷ fs) none = absurd cc
+
+-- where none is held, words are those of memory
+pub none_held : (fs : List Frame) (m : Memory) (a : ℕ) → slice_get (reverse fs) 0 ≡ None → words_in m a LOCALS ≡ words_in (over fs m) a LOCALS
+unfolding over
+none_held [] m a none = refl
+none_held (f ∷ fs) m a none = absurd (omega (arith, length-reverse (f ∷ fs), none_at_first (reverse (f ∷ fs)) none))
 
 some_held : (fs : List Frame) (f : Frame) → Some f ≡ slice_get (reverse fs) 0 → 0 < length fs
 some_held [] f is = absurd cc
@@ -92,6 +102,6 @@ youngest_is m w h f kept is low whole small =
     let live = (frames_of w).live in
     let first = first_is front f live (subst (λ (fs : List Frame). AreYoungest fs live) last kept.youngest) in
     words_back (over front (memory_of m)) f low whole small (λ j l.
-        let x = wrapped (f.address + j) in
-        kept.sound.outside x (ap (λ (l : List ℕ). in_frames l x) first.1 ∙ or_left (in_bytes f.address FRAME_SIZE x) (in_frames first.0 x) (in_bytes-has f.address FRAME_SIZE j l)))
+    let x = wrapped (f.address + j) in
+    kept.sound.outside x (ap (λ (l : List ℕ). in_frames l x) first.1 ∙ or_left (in_bytes f.address FRAME_SIZE x) (in_frames first.0 x) (in_bytes-has f.address FRAME_SIZE j l)))
     ∙ sym (ap (λ (n : Memory). words_in n f.address LOCALS) (ap (λ (fs : List Frame). over fs (memory_of m)) last ∙ over_push front f (memory_of m)))

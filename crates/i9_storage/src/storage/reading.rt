@@ -159,32 +159,21 @@ impl Storage {
         words
     }
 
-    /// The sixteen words of the youngest held frame, where it was saved at `a`.
-    fn youngest_words(&self, a: u32) -> Option<[u32; LOCALS]>
-        ensures { IfSome result (λ words. words ≡ words_in (memory_in self.now) a LOCALS) }
-    {
-        let f = self.sets.at(0).copied()?;
-        words_fit(&f.words);
-        if f.address == a {
-            Some(f.words)
-        } else {
-            None
-        }
-    }
-
     /// The sixteen words from `a` up, each in the order of its own region, as of the frame that a
-    /// return to `a` enters: those of the youngest held frame where it was saved there, and else
-    /// those of memory where none of their bytes is soft.
-    #[tactic(auto, using(crate::proofs::StoragePlans::hard_rules))]
+    /// return to `a` enters: those of memory where no frame is held, and of the youngest held frame
+    /// where it was saved there.
+    #[tactic(auto, using(crate::proofs::Youngest::none_held))]
     pub fn frame_words(&self, a: u32) -> [u32; LOCALS]
         ensures { result ≡ words_in (memory_in self.now) a LOCALS }
     {
-        if let Some(words) = self.youngest_words(a) {
-            return words;
-        }
-        match self.watch.check_read(a, FRAME_SIZE) {
-            None => self.memory.words(a),
-            Some(_) => self.laid_words(a),
+        let Some(f) = self.sets.at(0).copied() else {
+            return self.memory.words(a);
+        };
+        words_fit(&f.words);
+        if f.address == a {
+            f.words
+        } else {
+            self.laid_words(a)
         }
     }
 

@@ -1,4 +1,3 @@
-use Rattle.std.proofs.Common.{length}
 use Rattle.i9_model.specs.Writes.{upwards}
 use Rattle.i9_watch.specs.Watch.{frames_of}
 use Rattle.i9_storage.proofs.Keeping.{kept_store, store_laid, run_wrote}

@@ -1,15 +1,15 @@
-use Rattle.std.proofs.Common.{rules, ◌≡◌, ℕ, ◌^◌, ◌<◌, Some, length, get_or, sym, ap, ◌∙◌, arith}
+use Rattle.std.proofs.Common.{rules, ◌≡◌, ℕ, ◌^◌, ◌<◌, Some, length, ap, ◌∙◌}
 use Rattle.std.specs.Prelude.{reverse, slice_get}
 use Rattle.i9_model.specs.declared.layout.TheConstants.{LOCALS}
 use Rattle.i9_model.specs.Memory.{words_in}
 use Rattle.i9_storage.specs.Storage.{memory_in}
 use Rattle.i9_storage.proofs.Youngest.{youngest_is}
-use Rattle.i9_storage.proofs.storage.Storage.youngest_words.Goals as goal
+use Rattle.i9_storage.proofs.storage.Storage.frame_words.Goals as goal
 
 pub returns-then-f-a : goal.returns-then-f-a
 returns-then-f-a c =
     let s = c.args.self.now in
-    let f = c.in_ok-f.f in
+    let f = c.in-Some.f in
     let is : Some f ≡ slice_get (reverse s.sets.frames) 0 = search rules in
     let whole : length f.words ≡ LOCALS = search rules in
     let low : f.address < 2 ^ 32 = search rules in
