@@ -1,6 +1,5 @@
 //! The words of the PRCB and of the control table.
 ghost use Rattle.std.specs.Prelude.{◌≡◌, ◌<◌, ◌%◌, max};
-ghost use Rattle.i9_model.specs.Memory.{words_in};
 ghost use Rattle.i9_model.specs.Boot.{table_word, setup_of};
 ghost use Rattle.i9_model.specs.Tables.{group_address, group_words};
 ghost use Rattle.i9_memory.specs.Memory.{memory_of};
@@ -42,17 +41,6 @@ pub(crate) fn control_table(m: &Memory, prcb: u32) -> u32
     table_word(m, prcb, CONTROL_TABLE)
 }
 
-/// The words of a control table.
-fn control_words(m: &Memory, table: u32) -> [u32; CONTROL_WORDS]
-    ensures { result ≡ words_in (memory_of m.now) table CONTROL_WORDS }
-{
-    let mut words = [0; CONTROL_WORDS];
-    for k in 0..CONTROL_WORDS {
-        words[k] = table_word(m, table, k as u32);
-    }
-    words
-}
-
 /// The address of a group of the control table.
 pub(crate) fn group_address(table: u32, group: u8) -> u32
     requires { group < 7 }
@@ -67,13 +55,7 @@ pub(crate) fn group_words(m: &Memory, table: u32, group: u8) -> [u32; 4]
     requires { group < 7 }
     ensures { result ≡ group_words (memory_of m.now) table group }
 {
-    let first = group_address(table, group);
-    [
-        table_word(m, first, 0),
-        table_word(m, first, 1),
-        table_word(m, first, 2),
-        table_word(m, first, 3),
-    ]
+    m.words(group_address(table, group))
 }
 
 /// How many register sets the PRCB's word on the register cache asks for: its low four bits, or five where they ask for
@@ -102,6 +84,6 @@ pub(crate) fn setup(m: &Memory, first: u32, prcb: u32) -> Setup
         system_table: table_word(m, prcb, SYSTEM_TABLE),
         interrupt_stack: table_word(m, prcb, INTERRUPT_STACK),
         sets: sets_asked(table_word(m, prcb, REGISTER_CACHE)),
-        control: control_words(m, control_table),
+        control: m.words(control_table),
     }
 }

@@ -10,13 +10,17 @@ abbrev pub byte_in : Option Page → ℕ → ℕ
 byte_in None k = 0
 byte_in (Some p) k = slice_index p.bytes.value k
 
+-- the page of a number
+abbrev pub page_of : Pages → ℕ → Option Page
+page_of m p = get nat_cmp m.pages p
+
 -- the byte at an address
 abbrev pub byte_of : Pages → ℕ → ℕ
-byte_of m a = byte_in (get nat_cmp m.pages (a / 256)) (a % 256)
+byte_of m a = byte_in (page_of m (a / 256)) (a % 256)
 
 -- a page is there
 abbrev pub HasPage : Pages → ℕ → Type 0
-HasPage m p = IsSome (get nat_cmp m.pages p)
+HasPage m p = IsSome (page_of m p)
 
 -- a byte can be written
 abbrev pub HasByte : Pages → ℕ → Type 0

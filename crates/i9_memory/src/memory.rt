@@ -1,9 +1,8 @@
 //! Memory.
-ghost use Rattle.std.specs.Prelude.{◌≡◌, ℕ, ◌+◌, ◌<◌, ◌≤◌, ◌∷◌, [], OnOk, OnErr, length};
-ghost use Rattle.i9_model.specs.Memory.{region_of, is_big, waits_of, half_in, word_in, half_bytes, word_bytes, with_bytes, with_mcon};
+ghost use Rattle.std.specs.Prelude.{◌≡◌, ℕ, ◌+◌, ◌*◌, ◌/◌, ◌%◌, ◌<◌, ◌≤◌, ◌∷◌, [], Some, OnOk, OnErr, length};
+ghost use Rattle.i9_model.specs.Memory.{region_of, is_big, waits_of, half_in, word_in, words_in, ordered_word, half_bytes, word_bytes, with_bytes, with_words, with_mcon};
 
-use crate::pages::Pages;
-use byteorder::{BigEndian, ByteOrder, LittleEndian};
+use crate::pages::{PAGE_SIZE, Page, Pages};
 use i9_isa::NoMemory;
 use std::alloc::Global;
 
@@ -31,6 +30,7 @@ fn region_of(a: u32) -> u8
 #[tactic(auto, unfolding(crate::specs::Memory::memory_of, crate::specs::Memory::IsReserved))]
 impl Memory {
     ghost use Rattle.i9_memory.specs.Memory.{no_memory, memory_of, IsReserved, HasRoom, KeepsRoom};
+    ghost use Rattle.i9_memory.specs.Pages.{page_of};
 
     /// All bytes and configuration words are 0.
     pub fn new(alloc: Global) -> Memory
@@ -42,19 +42,15 @@ impl Memory {
         }
     }
 
-    /// Makes room for `n` bytes from `a` up, at most 64.
+    /// Makes room for `n` bytes from `a` up. Memory is refused only where room is lacking.
     pub fn reserve(&mut self, a: u32, n: u32) -> Result<(), NoMemory>
-        requires { n ≤ 64 }
         ensures same { memory_of self.new ≡ memory_of self.old }
         ensures ok { OnOk result (HasRoom self.new a n) }
         ensures needed { OnErr result (0 < n) }
+        ensures lacking { OnErr result (HasRoom self.old a n → ⊥) }
         ensures keeps { KeepsRoom self.old self.new }
     {
-        if n == 0 {
-            return Ok(());
-        }
-        self.pages.reserve(a)?;
-        self.pages.reserve(a.wrapping_add(n - 1))
+        self.pages.reserve_run(a, n as usize)
     }
 
     /// The byte at `a`; 0 in the port page.
@@ -72,41 +68,94 @@ impl Memory {
     }
 
     /// The two bytes from `a` up, in the order of the region of `a`.
+    #[tactic(auto, unfolding(crate::specs::Memory::memory_of, i9_model::specs::Memory::half_in))]
     pub fn half(&self, a: u32) -> u16
         ensures { result ≡ half_in (memory_of self.now) a }
     {
-        let bytes = [self.byte(a), self.byte(a.wrapping_add(1))];
+        let bytes = self.pages.two(a);
         if self.is_big_at(a) {
-            BigEndian::read_u16(&bytes)
+            u16::from_be_bytes(bytes)
         } else {
-            LittleEndian::read_u16(&bytes)
+            u16::from_le_bytes(bytes)
+        }
+    }
+
+    /// Four bytes as a word, in the order of the region of `a`.
+    fn ordered(&self, a: u32, bytes: [u8; 4]) -> u32
+        ensures { result ≡ ordered_word (memory_of self.now) a bytes }
+    {
+        if self.is_big_at(a) {
+            u32::from_be_bytes(bytes)
+        } else {
+            u32::from_le_bytes(bytes)
         }
     }
 
     /// The four bytes from `a` up, in the order of the region of `a`.
+    #[tactic(auto, unfolding(crate::specs::Memory::memory_of, i9_model::specs::Memory::word_in))]
     pub fn word(&self, a: u32) -> u32
         ensures { result ≡ word_in (memory_of self.now) a }
     {
-        let bytes = [
-            self.byte(a),
-            self.byte(a.wrapping_add(1)),
-            self.byte(a.wrapping_add(2)),
-            self.byte(a.wrapping_add(3)),
-        ];
-        if self.is_big_at(a) {
-            BigEndian::read_u32(&bytes)
-        } else {
-            LittleEndian::read_u32(&bytes)
+        self.ordered(a, self.pages.four(a))
+    }
+
+    /// Words from `a` up that one page has.
+    fn page_words<const N: usize>(&self, a: u32, page: &Page) -> [u32; N]
+        requires page { page_of self.now.pages (a / 256) ≡ Some page.now }
+        requires within { a % 256 + 4 * N ≤ 256 }
+        ensures { result ≡ words_in (memory_of self.now) a N }
+    {
+        let place = (a % PAGE_SIZE) as usize;
+        let mut words = [0; N];
+        for k in 0..N {
+            words[k] = self.ordered(a, page.four(place + 4 * k));
+        }
+        words
+    }
+
+    /// Words from `a` up, one by one.
+    fn words_apart<const N: usize>(&self, a: u32) -> [u32; N]
+        requires { N ≤ 64 }
+        ensures { result ≡ words_in (memory_of self.now) a N }
+    {
+        let mut words = [0; N];
+        for k in 0..N {
+            words[k] = self.word(a.wrapping_add(4 * k as u32));
+        }
+        words
+    }
+
+    /// Words from `a` up, each in the order of its own region; at most 64.
+    pub fn words<const N: usize>(&self, a: u32) -> [u32; N]
+        requires { N ≤ 64 }
+        ensures { result ≡ words_in (memory_of self.now) a N }
+    {
+        match self.pages.page_of(a, 4 * N) {
+            None => self.words_apart(a),
+            Some(page) => self.page_words(a, page),
         }
     }
 
     /// Stores bytes from `a` up, but for those in the port page.
-    fn store(&mut self, a: u32, bytes: &[u8])
+    pub fn store(&mut self, a: u32, bytes: &[u8])
         requires { HasRoom self.old a (length bytes.now) }
         ensures bytes { memory_of self.new ≡ with_bytes (memory_of self.old) a bytes.now }
         ensures keeps { KeepsRoom self.old self.new }
     {
         self.pages.store(a, bytes);
+    }
+
+    /// Makes room for bytes from `a` up, and stores them, but for those in the port page. Memory is
+    /// refused only where room is lacking, and then no byte changes.
+    pub fn load(&mut self, a: u32, bytes: &[u8]) -> Result<(), NoMemory>
+        ensures ok { OnOk result (memory_of self.new ≡ with_bytes (memory_of self.old) a bytes.now) }
+        ensures same { OnErr result (memory_of self.new ≡ memory_of self.old) }
+        ensures lacking { OnErr result (HasRoom self.old a (length bytes.now) → ⊥) }
+        ensures keeps { KeepsRoom self.old self.new }
+    {
+        self.pages.reserve_run(a, bytes.len())?;
+        self.pages.store(a, bytes);
+        Ok(())
     }
 
     /// Stores a byte at `a`, unless it lies in the port page.
@@ -120,16 +169,15 @@ impl Memory {
 
     /// The bytes of a half that is stored at `a`, from the lowest address up: in the order of the
     /// region of `a`.
+    #[tactic(auto, unfolding(i9_model::specs::Memory::half_bytes))]
     pub fn half_bytes(&self, a: u32, v: u16) -> [u8; 2]
         ensures { result ≡ half_bytes (memory_of self.now) a v }
     {
-        let mut bytes = [0; 2];
         if self.is_big_at(a) {
-            BigEndian::write_u16(&mut bytes, v);
+            v.to_be_bytes()
         } else {
-            LittleEndian::write_u16(&mut bytes, v);
+            v.to_le_bytes()
         }
-        bytes
     }
 
     /// Stores a half from `a` up in the order of the region of `a`, but for bytes in the port page.
@@ -144,16 +192,15 @@ impl Memory {
 
     /// The bytes of a word that is stored at `a`, from the lowest address up: in the order of the
     /// region of `a`.
+    #[tactic(auto, unfolding(i9_model::specs::Memory::word_bytes))]
     pub fn word_bytes(&self, a: u32, v: u32) -> [u8; 4]
         ensures { result ≡ word_bytes (memory_of self.now) a v }
     {
-        let mut bytes = [0; 4];
         if self.is_big_at(a) {
-            BigEndian::write_u32(&mut bytes, v);
+            v.to_be_bytes()
         } else {
-            LittleEndian::write_u32(&mut bytes, v);
+            v.to_le_bytes()
         }
-        bytes
     }
 
     /// Stores a word from `a` up in the order of the region of `a`, but for bytes in the port page.
@@ -164,6 +211,20 @@ impl Memory {
     {
         let bytes = self.word_bytes(a, v);
         self.store(a, &bytes);
+    }
+
+    /// Stores words from `a` up, each in the order of its own region, but for bytes in the port page.
+    #[tactic(auto, using(crate::proofs::WordRuns::words_rules))]
+    pub fn put_words(&mut self, a: u32, words: &[u32])
+        requires { HasRoom self.old a (4 * length words.now) }
+        ensures bytes { memory_of self.new ≡ with_words (memory_of self.old) a words.now }
+        ensures keeps { KeepsRoom self.old self.new }
+    {
+        let mut at = a;
+        for w in words {
+            self.put_word(at, *w);
+            at = at.wrapping_add(4);
+        }
     }
 
     /// Gives a region another configuration word.

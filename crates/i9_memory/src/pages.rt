@@ -1,6 +1,8 @@
 //! Bytes by address, in pages.
-ghost use Rattle.std.specs.Prelude.{◌≡◌, ℕ, ◌+◌, ◌/◌, ◌<◌, ◌∷◌, [], OnOk, length};
-ghost use Rattle.i9_model.specs.Writes.{wrapped, put, upwards};
+ghost use Rattle.std.specs.Prelude.{◌≡◌, ℕ, ◌+◌, ◌/◌, ◌%◌, ◌<◌, ◌≤◌, ◌∷◌, [], OnOk, OnErr, IfSome, Some, length};
+ghost use Rattle.std.specs.Ordering.{nat_cmp};
+ghost use Rattle.std.specs.BTreeMap.{get};
+ghost use Rattle.i9_model.specs.Writes.{wrapped, written, pairs_at, upwards};
 ghost use Rattle.i9_model.specs.Memory.{stored};
 
 use i9_isa::NoMemory;
@@ -9,12 +11,49 @@ use std::alloc::Global;
 use std::collections::BTreeMap;
 
 /// How many bytes a page has.
-const PAGE_SIZE: u32 = 256;
+pub(crate) const PAGE_SIZE: u32 = 256;
 
 /// The bytes of a page.
 #[derive(Drop)]
 pub(crate) struct Page {
     bytes: Box<[u8; 256]>,
+}
+
+impl Page {
+    ghost use Rattle.i9_memory.specs.Pages.{byte_in};
+
+    /// The four bytes from a place up.
+    pub(crate) fn four(&self, place: usize) -> [u8; 4]
+        requires { place + 4 ≤ 256 }
+        ensures { result ≡ byte_in (Some self.now) place ∷ byte_in (Some self.now) (place + 1) ∷ byte_in (Some self.now) (place + 2) ∷ byte_in (Some self.now) (place + 3) ∷ [] }
+    {
+        [
+            self.bytes[place],
+            self.bytes[place + 1],
+            self.bytes[place + 2],
+            self.bytes[place + 3],
+        ]
+    }
+
+    /// Writes bytes from a place up.
+    fn store(&mut self, place: usize, bytes: &[u8])
+        requires { place + length bytes.now ≤ 256 }
+        ensures { byte_in (Some self.new) ≡ written (byte_in (Some self.old)) (pairs_at (λ k. k) place bytes.now) }
+    {
+        for k in 0..bytes.len() {
+            self.bytes[place + k] = bytes[k];
+        }
+    }
+}
+
+/// How many of `n` bytes from an address up its page has.
+fn run_length(a: u32, n: usize) -> usize
+    requires { 0 < n }
+    ensures some { 0 < result }
+    ensures within { a % 256 + result ≤ 256 }
+    ensures enough { result ≤ n }
+{
+    n.min((PAGE_SIZE - a % PAGE_SIZE) as usize)
 }
 
 /// Pages by number. The bytes of a page that is lacking are 0.
@@ -25,7 +64,7 @@ pub(crate) struct Pages {
 }
 
 impl Pages {
-    ghost use Rattle.i9_memory.specs.Pages.{byte_of, HasPage, HasByte};
+    ghost use Rattle.i9_memory.specs.Pages.{byte_of, page_of, HasPage, HasByte};
 
     /// All bytes are 0.
     pub(crate) fn new(alloc: Global) -> Pages
@@ -47,10 +86,56 @@ impl Pages {
         }
     }
 
+    /// The two bytes from an address up.
+    pub(crate) fn two(&self, a: u32) -> [u8; 2]
+        ensures { result ≡ byte_of self.now a ∷ byte_of self.now (wrapped (a + 1)) ∷ [] }
+    {
+        let place = (a % PAGE_SIZE) as usize;
+        if place > 254 {
+            return [self.byte(a), self.byte(a.wrapping_add(1))];
+        }
+        match self.pages.get(&(a / PAGE_SIZE)) {
+            None => [0; 2],
+            Some(page) => [page.bytes[place], page.bytes[place + 1]],
+        }
+    }
+
+    /// The four bytes from an address up.
+    pub(crate) fn four(&self, a: u32) -> [u8; 4]
+        ensures { result ≡ byte_of self.now a ∷ byte_of self.now (wrapped (a + 1)) ∷ byte_of self.now (wrapped (a + 2)) ∷ byte_of self.now (wrapped (a + 3)) ∷ [] }
+    {
+        let place = (a % PAGE_SIZE) as usize;
+        if place > 252 {
+            return [
+                self.byte(a),
+                self.byte(a.wrapping_add(1)),
+                self.byte(a.wrapping_add(2)),
+                self.byte(a.wrapping_add(3)),
+            ];
+        }
+        match self.pages.get(&(a / PAGE_SIZE)) {
+            None => [0; 4],
+            Some(page) => page.four(place),
+        }
+    }
+
+    /// The page that has all of `n` bytes from an address up, where there is one.
+    pub(crate) fn page_of(&self, a: u32, n: usize) -> Option<&Page>
+        requires { n ≤ 256 }
+        ensures page { IfSome result (λ p. page_of self.now (a / 256) ≡ Some p.now) }
+        ensures within { IfSome result (λ p. a % 256 + n ≤ 256) }
+    {
+        if (a % PAGE_SIZE) as usize + n > PAGE_SIZE as usize {
+            return None;
+        }
+        self.pages.get(&(a / PAGE_SIZE))
+    }
+
     /// Makes room for the page of a byte.
     pub(crate) fn reserve(&mut self, a: u32) -> Result<(), NoMemory>
         ensures same { byte_of self.new ≡ byte_of self.old }
         ensures ok { OnOk result (HasByte self.new a) }
+        ensures lacking { OnErr result (HasByte self.old a → ⊥) }
         ensures keeps { (p : ℕ) → HasPage self.old p → HasPage self.new p }
     {
         let number = a / PAGE_SIZE;
@@ -67,40 +152,54 @@ impl Pages {
         }
     }
 
-    /// Writes a byte for which there is room.
-    fn put(&mut self, a: u32, v: u8)
-        requires { HasByte self.old a }
-        ensures bytes { byte_of self.new ≡ put (byte_of self.old) a v }
+    /// Makes room for `n` bytes from an address up, a page at a time.
+    pub(crate) fn reserve_run(&mut self, a: u32, n: usize) -> Result<(), NoMemory>
+        ensures same { byte_of self.new ≡ byte_of self.old }
+        ensures ok { OnOk result ((k : ℕ) → k < n → HasByte self.new (wrapped (a + k))) }
+        ensures needed { OnErr result (0 < n) }
+        ensures lacking { OnErr result (((k : ℕ) → k < n → HasByte self.old (wrapped (a + k))) → ⊥) }
         ensures keeps { (p : ℕ) → HasPage self.old p → HasPage self.new p }
     {
-        if let Some(page) = self.pages.get_mut(&(a / PAGE_SIZE)) {
-            page.bytes[(a % PAGE_SIZE) as usize] = v;
+        let mut at = a;
+        let mut done = 0;
+        while done < n {
+            self.reserve(at)?;
+            let run = run_length(at, n - done);
+            at = at.wrapping_add(run as u32);
+            done += run;
         }
+        Ok(())
     }
 
-    /// Writes a byte for which there is room, unless it lies in the port page.
-    #[tactic(auto, using(i9_model::proofs::Stores::store_rules))]
-    fn store_byte(&mut self, a: u32, v: u8)
-        requires { HasByte self.old a }
-        ensures bytes { byte_of self.new ≡ stored (byte_of self.old) (upwards a (v ∷ [])) }
+    /// Writes bytes that one page has, for which there is room, from an address up. The port page is
+    /// some of these pages, and keeps its bytes.
+    fn store_run(&mut self, a: u32, bytes: &[u8])
+        requires room { HasByte self.old a }
+        requires within { a % 256 + length bytes.now ≤ 256 }
+        ensures bytes { byte_of self.new ≡ stored (byte_of self.old) (upwards a bytes.now) }
         ensures keeps { (p : ℕ) → HasPage self.old p → HasPage self.new p }
     {
-        if !in_port_page(a) {
-            self.put(a, v);
+        if in_port_page(a) {
+            return;
+        }
+        if let Some(page) = self.pages.get_mut(&(a / PAGE_SIZE)) {
+            page.store((a % PAGE_SIZE) as usize, bytes);
         }
     }
 
     /// Writes bytes for which there is room from an address up, but for those in the port page.
-    #[tactic(auto, using(i9_model::proofs::Stores::store_rules))]
     pub(crate) fn store(&mut self, a: u32, bytes: &[u8])
         requires { (k : ℕ) → k < length bytes.now → HasByte self.old (wrapped (a + k)) }
         ensures bytes { byte_of self.new ≡ stored (byte_of self.old) (upwards a bytes.now) }
         ensures keeps { (p : ℕ) → HasPage self.old p → HasPage self.new p }
     {
         let mut at = a;
-        for b in bytes {
-            self.store_byte(at, *b);
-            at = at.wrapping_add(1);
+        let mut rest = bytes;
+        while !rest.is_empty() {
+            let (run, later) = rest.split_at(run_length(at, rest.len()));
+            self.store_run(at, run);
+            at = at.wrapping_add(run.len() as u32);
+            rest = later;
         }
     }
 }

@@ -121,6 +121,110 @@ fn holds_bytes(rt: HostRuntime) -> Result<(), Fail> {
     Ok(())
 }
 
+/// Each word of a run has the order of its own region.
+#[test]
+fn holds_words(rt: HostRuntime) -> Result<(), Fail> {
+    let words = [0x0102_0304, 0x0506_0708, 0x090A_0B0C];
+    let rows = [
+        // Within a page, over a page's end between two words and within one.
+        (0x2010, words, [4, 3, 2, 1, 8, 7, 6, 5, 12, 11, 10, 9]),
+        (0x20F8, words, [4, 3, 2, 1, 8, 7, 6, 5, 12, 11, 10, 9]),
+        (0x20FA, words, [4, 3, 2, 1, 8, 7, 6, 5, 12, 11, 10, 9]),
+        (0x1000_20FB, words, [1, 2, 3, 4, 5, 6, 7, 8, 9, 10, 11, 12]),
+        // Over the end of a region, between two words and within one.
+        (0x1FFF_FFFC, words, [1, 2, 3, 4, 8, 7, 6, 5, 12, 11, 10, 9]),
+        (0x1FFF_FFFA, words, [1, 2, 3, 4, 5, 6, 7, 8, 12, 11, 10, 9]),
+        // From the last address to 0.
+        (0xFFFF_FFF8, words, [1, 2, 3, 4, 5, 6, 7, 8, 12, 11, 10, 9]),
+        (0xFFFF_FFFE, words, [1, 2, 3, 4, 8, 7, 6, 5, 12, 11, 10, 9]),
+        // Into the port page and out of it.
+        (
+            0xDFFF_FFFC,
+            [0x0102_0304, 0, 0],
+            [4, 3, 2, 1, 0, 0, 0, 0, 0, 0, 0, 0],
+        ),
+        (
+            0xDFFF_FFFE,
+            [0x0304, 0, 0],
+            [4, 3, 0, 0, 0, 0, 0, 0, 0, 0, 0, 0],
+        ),
+        (
+            0xE000_0FFC,
+            [0, 0x0506_0708, 0x090A_0B0C],
+            [0, 0, 0, 0, 8, 7, 6, 5, 12, 11, 10, 9],
+        ),
+    ];
+    for (a, wanted, bytes) in rows {
+        let mut memory = memory(rt.alloc());
+        memory.reserve(a, 12)?;
+        memory.put_words(a, &words);
+        assert_eq!(rt; memory.words(a), wanted, "words at {a}");
+        let mut at: u32 = a;
+        for byte in bytes {
+            assert_eq!(rt; memory.byte(at), byte, "byte {at} of {a}");
+            at = at.wrapping_add(1);
+        }
+        assert_eq!(rt; memory.words(a.wrapping_add(12)), [0]);
+    }
+    Ok(())
+}
+
+/// Bytes of any number are loaded, over pages, over the last address, and about the port page.
+#[test]
+fn loads_bytes(rt: HostRuntime) -> Result<(), Fail> {
+    let mut memory = memory(rt.alloc());
+    memory.load(0x20F0, &[7; 600])?;
+    memory.load(0xFFFF_FFFE, &[1, 2, 3])?;
+    memory.load(0xDFFF_FFFF, &[4, 5])?;
+    memory.load(0xE000_0FFF, &[5, 6])?;
+    memory.load(0x3000, &[])?;
+    let rows = [
+        (0x20EF, 0),
+        (0x20F0, 7),
+        (0x20FF, 7),
+        (0x2100, 7),
+        (0x21FF, 7),
+        (0x2200, 7),
+        (0x2347, 7),
+        (0x2348, 0),
+        (0xFFFF_FFFD, 0),
+        (0xFFFF_FFFE, 1),
+        (0xFFFF_FFFF, 2),
+        (0x0000_0000, 3),
+        (0x0000_0001, 0),
+        (0xDFFF_FFFF, 4),
+        (0xE000_0000, 0),
+        (0xE000_0FFF, 0),
+        (0xE000_1000, 6),
+    ];
+    for (a, wanted) in rows {
+        assert_eq!(rt; memory.byte(a), wanted, "byte {a}");
+    }
+    Ok(())
+}
+
+/// What there is room for asks for no more.
+#[test]
+fn keeps_room(rt: HostRuntime) -> Result<(), Fail> {
+    let runs = [
+        (0x20FF, 1),
+        (0x20FF, 2),
+        (0x20F0, 17),
+        (0x20C1, 64),
+        (0x0020_0000, 0x0011_0000),
+        (0xFFFF_FFFF, 64),
+        (0x4000_0000, 0),
+    ];
+    let mut memory = memory(rt.alloc());
+    for (a, n) in runs {
+        memory.reserve(a, n)?;
+    }
+    for (a, n) in runs {
+        assert!(rt; memory.reserve(a, n).is_ok(), "{n} bytes from {a}");
+    }
+    Ok(())
+}
+
 /// The order of bytes is that of the region of the first one.
 #[test]
 fn orders_bytes(rt: HostRuntime) {

@@ -23,20 +23,6 @@ pub struct Behind {
     ghost order: { AreDueInOrder queue } by { AreDueInOrder-prop queue },
 }
 
-/// Stores bytes for which there is room.
-#[tactic(auto, using(i9_model::proofs::Stores::store_rules))]
-fn store(memory: &mut Memory, a: u32, bytes: &[u8])
-    requires { HasRoom memory.old a (length bytes.now) }
-    ensures memory { memory_of memory.new ≡ with_bytes (memory_of memory.old) a bytes.now }
-    ensures keeps { KeepsRoom memory.old memory.new }
-{
-    let mut at = a;
-    for b in bytes {
-        memory.put_byte(at, *b);
-        at = at.wrapping_add(1);
-    }
-}
-
 /// Stores the requests that are due by `turn`.
 fn land_all(memory: &mut Memory, queue: &mut Queue, turn: u64)
     requires room { HasRoomFor memory.old (all_puts queue.old) }
@@ -48,7 +34,7 @@ fn land_all(memory: &mut Memory, queue: &mut Queue, turn: u64)
     ensures keeps { KeepsRoom memory.old memory.new }
 {
     while let Some(r) = queue.take_due(turn) {
-        store(memory, r.address, r.bytes.as_slice());
+        memory.store(r.address, r.bytes.as_slice());
     }
 }
 
@@ -67,13 +53,13 @@ impl Behind {
         }
     }
 
-    /// Makes room for `n` bytes from `a` up, at most 64.
+    /// Makes room for `n` bytes from `a` up. Memory is refused only where room is lacking.
     pub fn reserve(&mut self, a: u32, n: u32) -> Result<(), NoMemory>
-        requires { n ≤ 64 }
         ensures acted { acted self.new ≡ acted self.old }
         ensures queue { waiting_of self.new ≡ waiting_of self.old }
         ensures ok { OnOk result (HasRoomIn self.new a n) }
         ensures needed { OnErr result (0 < n) }
+        ensures lacking { OnErr result (HasRoomIn self.old a n → ⊥) }
         ensures keeps { KeepsRoomIn self.old self.new }
     {
         self.memory.reserve(a, n)

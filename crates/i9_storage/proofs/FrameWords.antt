@@ -1,25 +1,8 @@
 -- The words of a frame that are written to memory one by one, and frames that are returned to.
-use Rattle.std.proofs.Common.{◌≡◌, ℕ, ◌+◌, ◌<◌, ◌≤◌, List, [], ◌∷◌, length, get_or, drop, refl, ap, arith}
+use Rattle.std.proofs.Common.{◌≡◌, ℕ, ◌<◌, List, [], ◌∷◌, length, drop, refl, ap, arith}
 use Rattle.std.specs.Prelude.{slice_get, is_some, true, false}
-use Rattle.std.proofs.lemmas.List.{at_drop_more, at_drop_all}
-use Rattle.i9_model.specs.Writes.{wrapped}
-use Rattle.i9_model.specs.Memory.{Memory, word_bytes, with_bytes, with_words}
 use Rattle.i9_model.specs.State.{Frames}
 use Rattle.i9_model.specs.Frames.{returned}
-
--- ---- writes
-
--- one more word is stored
-pub with_words_more : (m : Memory) (a : ℕ) (ws : List ℕ) (i : ℕ) → i < length ws → with_words m a (drop i ws) ≡ with_words (with_bytes m a (word_bytes m a (get_or ws i 0))) (wrapped (a + 4)) (drop (i + 1) ws)
-unfolding with_words
-with_words_more m a ws i h = at_drop_more (with_words m a) ws i 0 h
-
--- no word is left
-pub with_words_done : (m : Memory) (a : ℕ) (ws : List ℕ) (i : ℕ) → length ws ≤ i → with_words m a (drop i ws) ≡ m
-unfolding with_words
-with_words_done m a ws i h = at_drop_all (with_words m a) ws i h
-
-pub ruleset words_rules = (with_words_more, with_words_done)
 
 -- ---- returns
 

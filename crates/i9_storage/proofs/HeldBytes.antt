@@ -45,7 +45,7 @@ whole_at (g ∷ fs) zero f whole h = whole.0
 whole_at (g ∷ fs) (suc n) f whole h = whole_at fs n f whole.1 (omega arith)
 
 -- the frame with so many younger ones, by its place among the older ones
-place_of : (fs : List Frame) (k : ℕ) (f : Frame) → k < length fs → Some f ≡ slice_get (reverse fs) k → get_or fs (length fs - (k + 1)) f ≡ f
+pub place_of : (fs : List Frame) (k : ℕ) (f : Frame) → k < length fs → Some f ≡ slice_get (reverse fs) k → get_or fs (length fs - (k + 1)) f ≡ f
 place_of fs k f h is =
     let here : length fs - 1 - k ≡ length fs - (k + 1) = omega arith in
     sym (get_or-reverse fs k f h ∙ ap (λ (n : ℕ). get_or fs n f) here) ∙ get_or_from_slice_get (reverse fs) k f f (sym is)

@@ -6,3 +6,4 @@ pub mod StoragePlans
 pub mod Configured
 pub mod Regions
 pub mod Known
+pub mod Youngest

@@ -41,20 +41,6 @@ pub struct Storage {
     ghost kept: { IsKept memory watch sets } by { IsKept-prop memory watch sets },
 }
 
-/// Stores bytes for which memory has room.
-#[tactic(auto, using(i9_model::proofs::Stores::store_rules))]
-fn put_bytes(memory: &mut Memory, a: u32, bytes: &[u8])
-    requires { HasRoom memory.old a (length bytes.now) }
-    ensures memory { memory_of memory.new ≡ with_bytes (memory_of memory.old) a bytes.now }
-    ensures keeps { KeepsRoom memory.old memory.new }
-{
-    let mut at = a;
-    for b in bytes {
-        memory.put_byte(at, *b);
-        at = at.wrapping_add(1);
-    }
-}
-
 /// Drops the youngest live frame, where one is live.
 #[tactic(auto, using(crate::proofs::FrameWords::return_rules))]
 fn drop_frame(watch: &mut Watch)
@@ -93,7 +79,7 @@ impl Storage {
         ensures size { size_of self.new ≡ size_of self.old }
         ensures keeps { KeepsSpace self.old self.new }
     {
-        put_bytes(&mut self.memory, a, bytes);
+        self.memory.store(a, bytes);
         self.watch.wrote(a, bytes.len() as u32);
     }
 
@@ -138,13 +124,13 @@ impl Storage {
         self.watch.flushed();
     }
 
-    /// Makes space for `n` bytes from `a` up, at most 64.
+    /// Makes space for `n` bytes from `a` up. Memory is refused only where space is lacking.
     pub fn reserve(&mut self, a: u32, n: u32) -> Result<(), NoMemory>
-        requires { n ≤ 64 }
         ensures cache { cache_of self.new ≡ cache_of self.old }
         ensures frames { frames_in self.new ≡ frames_in self.old }
         ensures space { OnOk result (HasSpace self.new a n) }
         ensures needed { OnErr result (0 < n) }
+        ensures lacking { OnErr result (HasSpace self.old a n → ⊥) }
         ensures size { size_of self.new ≡ size_of self.old }
         ensures keeps { KeepsSpace self.old self.new }
     {

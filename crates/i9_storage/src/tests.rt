@@ -29,12 +29,19 @@ fn memory(alloc: Global) -> Memory {
     memory
 }
 
+/// Sixteen words, of which eight count up from a first one, and eight from the ninth.
+fn counting(first: u32, ninth: u32) -> [u32; 16] {
+    let mut words = [0; 16];
+    for k in 0..8_u8 {
+        words[k as usize] = first.wrapping_add(u32::from(k));
+        words[k as usize + 8] = ninth.wrapping_add(u32::from(k));
+    }
+    words
+}
+
 /// Saves the frame at a frame pointer. Its words count up from a first one.
 fn save(storage: &mut Storage, fp: u32, first: u32) -> Result<(), Fail> {
-    let mut words = [first; 16];
-    for k in 0..16_u8 {
-        words[k as usize] = first.wrapping_add(u32::from(k));
-    }
+    let words = counting(first, first.wrapping_add(8));
     match storage.watch().plan_push(fp, 0, 0, 0) {
         Ok(push) => {
             storage.reserve_frame(push.save)?;
@@ -81,13 +88,15 @@ enum Step {
     Byte(u32, u8),
     Half(u32, u16),
     Word(u32, u32),
+    FrameWords(u32, u32, u32),
     IsSoft(u32, bool),
     Holds(u8, u8),
     Held(u8, Option<u32>),
 }
 
 use Step::{
-    Byte, Flush, Half, Held, Holds, IsSoft, Restart, Return, Save, StoreHalf, StoreWord, Word,
+    Byte, Flush, FrameWords, Half, Held, Holds, IsSoft, Restart, Return, Save, StoreHalf,
+    StoreWord, Word,
 };
 
 /// Does a step; false where the answer is another one.
@@ -108,6 +117,9 @@ fn does(alloc: Global, storage: &mut Storage, step: Step) -> Result<bool, Fail> 
         Byte(a, wanted) => return Ok(storage.byte(a) == wanted),
         Half(a, wanted) => return Ok(storage.half(a) == wanted),
         Word(a, wanted) => return Ok(storage.word(a) == wanted),
+        FrameWords(a, first, ninth) => {
+            return Ok(storage.frame_words(a) == counting(first, ninth));
+        }
         IsSoft(a, wanted) => return Ok(storage.watch().soft(a) == wanted),
         Holds(frames, sets) => {
             return Ok(storage.sets().len() == frames && storage.sets().size() == sets);
@@ -136,6 +148,10 @@ fn holds_frames(rt: HostRuntime) -> Result<(), Fail> {
             Word(0x1040, 0x200),
             Byte(0x1085, 0x03),
             Half(0x10BC, 0x30F),
+            // The youngest frame, and one that is in memory under a part of another.
+            FrameWords(0x1080, 0x300, 0x308),
+            FrameWords(0x1000, 0x100, 0x108),
+            FrameWords(0x1020, 0x108, 0x200),
             // The last two bytes of a frame, and the first two of the next.
             Word(0x107E, 0x0300_0000),
             Return,
@@ -148,6 +164,7 @@ fn holds_frames(rt: HostRuntime) -> Result<(), Fail> {
             Return,
             Holds(0, 2),
             Word(0x1000, 0x100),
+            FrameWords(0x1000, 0x100, 0x108),
             IsSoft(0x1000, true),
         ],
         // A flush writes what is held, and not the frame that was returned to.

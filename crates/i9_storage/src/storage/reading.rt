@@ -1,7 +1,7 @@
 //! Bytes, halves and words of memory with the held frames laid over it.
-ghost use Rattle.std.specs.Prelude.{◌≡◌, ◌+◌, ◌-◌, ◌*◌, ◌/◌, ◌%◌, ◌<◌, false, IfNone, IfSome, length, get_or, take};
-ghost use Rattle.i9_model.specs.declared.layout.TheConstants.{FRAME_SIZE};
-ghost use Rattle.i9_model.specs.Memory.{in_port_page, is_big, half_in, word_in, half_bytes, word_bytes};
+ghost use Rattle.std.specs.Prelude.{◌≡◌, ℕ, ◌+◌, ◌-◌, ◌*◌, ◌/◌, ◌%◌, ◌^◌, ◌<◌, false, IfNone, IfSome, length, slice_index, take};
+ghost use Rattle.i9_model.specs.declared.layout.TheConstants.{LOCALS, FRAME_SIZE};
+ghost use Rattle.i9_model.specs.Memory.{in_port_page, is_big, half_in, word_in, words_in, half_bytes, word_bytes};
 ghost use Rattle.i9_model.specs.Writes.{wrapped};
 ghost use Rattle.i9_model.specs.HeldFrames.{over, overlaid, AreWhole};
 ghost use Rattle.i9_memory.specs.Memory.{memory_of};
@@ -11,7 +11,7 @@ use super::Storage;
 use i9_frames::{Frame, Sets};
 use i9_memory::Memory;
 use i9_model::in_port_page;
-use i9_model::layout::FRAME_SIZE;
+use i9_model::layout::{FRAME_SIZE, LOCALS};
 
 /// How many addresses a region has.
 const REGION_SIZE: u32 = 0x1000_0000;
@@ -24,6 +24,13 @@ fn frame_byte(memory: &Memory, f: &Frame, above: u32) -> u8
     let k = above / 4;
     let word = memory.word_bytes(f.address.wrapping_add(4 * k), f.words[k as usize]);
     word[(above % 4) as usize]
+}
+
+/// Words have 32 bits.
+fn words_fit(words: &[u32])
+    ensures { (k : ℕ) → slice_index words.now k < 2 ^ 32 }
+{
+    let _ = words;
 }
 
 /// A byte of the frame with `k` younger ones, unless it lies beside that frame.
@@ -86,9 +93,9 @@ impl Storage {
         self.memory.big(region)
     }
 
-    /// The two bytes from `a` up, in the order of the region of `a`.
+    /// The two bytes from `a` up, each from the youngest frame that has it.
     #[tactic(auto, unfolding(i9_model::specs::Memory::half_in))]
-    pub fn half(&self, a: u32) -> u16
+    fn laid_half(&self, a: u32) -> u16
         ensures { result ≡ half_in (memory_in self.now) a }
     {
         let bytes = [self.byte(a), self.byte(a.wrapping_add(1))];
@@ -99,9 +106,21 @@ impl Storage {
         }
     }
 
-    /// The four bytes from `a` up, in the order of the region of `a`.
+    /// The two bytes from `a` up, in the order of the region of `a`. Where none is soft memory has
+    /// them.
+    #[tactic(auto, using(crate::proofs::StoragePlans::hard_rules))]
+    pub fn half(&self, a: u32) -> u16
+        ensures { result ≡ half_in (memory_in self.now) a }
+    {
+        match self.watch.check_read(a, 2) {
+            None => self.memory.half(a),
+            Some(_) => self.laid_half(a),
+        }
+    }
+
+    /// The four bytes from `a` up, each from the youngest frame that has it.
     #[tactic(auto, unfolding(i9_model::specs::Memory::word_in))]
-    pub fn word(&self, a: u32) -> u32
+    fn laid_word(&self, a: u32) -> u32
         ensures { result ≡ word_in (memory_in self.now) a }
     {
         let bytes = [
@@ -114,6 +133,47 @@ impl Storage {
             u32::from_be_bytes(bytes)
         } else {
             u32::from_le_bytes(bytes)
+        }
+    }
+
+    /// The four bytes from `a` up, in the order of the region of `a`. Where none is soft memory has
+    /// them.
+    #[tactic(auto, using(crate::proofs::StoragePlans::hard_rules))]
+    pub fn word(&self, a: u32) -> u32
+        ensures { result ≡ word_in (memory_in self.now) a }
+    {
+        match self.watch.check_read(a, 4) {
+            None => self.memory.word(a),
+            Some(_) => self.laid_word(a),
+        }
+    }
+
+    /// The sixteen words from `a` up, one by one.
+    fn laid_words(&self, a: u32) -> [u32; LOCALS]
+        ensures { result ≡ words_in (memory_in self.now) a LOCALS }
+    {
+        let mut words = [0; LOCALS];
+        for k in 0..LOCALS {
+            words[k] = self.word(a.wrapping_add(4 * k as u32));
+        }
+        words
+    }
+
+    /// The sixteen words from `a` up, each in the order of its own region, as of the frame that a
+    /// return to `a` enters: those of memory where no frame is held, and of the youngest held frame
+    /// where it was saved there.
+    #[tactic(auto, using(crate::proofs::Youngest::none_held))]
+    pub fn frame_words(&self, a: u32) -> [u32; LOCALS]
+        ensures { result ≡ words_in (memory_in self.now) a LOCALS }
+    {
+        let Some(f) = self.sets.at(0).copied() else {
+            return self.memory.words(a);
+        };
+        words_fit(&f.words);
+        if f.address == a {
+            f.words
+        } else {
+            self.laid_words(a)
         }
     }
 

@@ -9,20 +9,6 @@ ghost use Rattle.i9_storage.specs.Kept.{cache_in, HaveRoom};
 use i9_frames::{Frame, Sets};
 use i9_memory::Memory;
 
-/// Writes the words of a frame to memory, which has room for them.
-#[tactic(auto, using(crate::proofs::FrameWords::words_rules))]
-fn write_frame(memory: &mut Memory, f: &Frame)
-    requires { HasRoom memory.old f.now.address FRAME_SIZE }
-    ensures memory { memory_of memory.new ≡ with_words (memory_of memory.old) f.now.address f.now.words }
-    ensures keeps { KeepsRoom memory.old memory.new }
-{
-    let mut at = f.address;
-    for w in &f.words {
-        memory.put_word(at, *w);
-        at = at.wrapping_add(4);
-    }
-}
-
 /// Holds a frame. Where all sets are taken, the oldest frame goes to memory.
 pub(super) fn hold(memory: &mut Memory, sets: &mut Sets, f: Frame)
     requires { HaveRoom memory.old sets.old.frames }
@@ -31,7 +17,7 @@ pub(super) fn hold(memory: &mut Memory, sets: &mut Sets, f: Frame)
     ensures keeps { KeepsRoom memory.old memory.new }
 {
     if let Some(oldest) = sets.push(f) {
-        write_frame(memory, &oldest);
+        memory.put_words(oldest.address, &oldest.words);
     }
 }
 
@@ -47,7 +33,7 @@ fn spill(memory: &mut Memory, sets: &mut Sets)
     ensures keeps { KeepsRoom memory.old memory.new }
 {
     if let Some(f) = sets.drain_oldest() {
-        write_frame(memory, &f);
+        memory.put_words(f.address, &f.words);
     }
 }
 

@@ -28,13 +28,13 @@ loop-r-preserved c =
     let order : AreDueInOrder (w ∷ ws) = subst AreDueInOrder q c.loop-r.invariant.order in
     record {
       memory =
-          ap (λ (n : Memory). with_puts n (due_puts u ws)) (c.store.ensures.memory ∙ ap (λ bs. with_bytes m c.in-Some.r.address bs) c.as_slice.ensures.value)
+          ap (λ (n : Memory). with_puts n (due_puts u ws)) (c.store.ensures.bytes ∙ ap (λ bs. with_bytes m c.in-Some.r.address bs) c.as_slice.ensures.value)
           ∙ ap (λ (g : ℕ → ℕ). record m { bytes = g }) (sym (stored-append m.bytes w.puts (due_puts u ws)))
           ∙ ap (with_puts m) (sym t.0 ∙ sym (ap (due_puts u) q))
           ∙ c.loop-r.invariant.memory;
       requests = sym t.1 ∙ sym (ap (left_waiting u) q) ∙ c.loop-r.invariant.requests;
       order = order.1;
-      room = room_kept c.loop-r.memory c.store.new.memory (all_puts ws) c.store.ensures.keeps (room_split c.loop-r.memory w.puts (all_puts ws) room).1;
+      room = room_kept c.loop-r.memory c.store.new.self (all_puts ws) c.store.ensures.keeps (room_split c.loop-r.memory w.puts (all_puts ws) room).1;
       keeps = λ a h. c.store.ensures.keeps a (c.loop-r.invariant.keeps a h);
     }
 

@@ -1,12 +1,15 @@
-use Rattle.std.proofs.Common.{◌≡◌, ℕ, ◌+◌, drop}
+use Rattle.std.proofs.Common.{◌≡◌, ℕ, ◌+◌, ◌<◌, length}
 use Rattle.i9_model.specs.Writes.{wrapped, upwards}
 use Rattle.i9_model.specs.Memory.{stored}
-use Rattle.i9_memory.specs.Pages.{byte_of, HasPage}
+use Rattle.i9_memory.specs.Pages.{byte_of, HasPage, HasByte}
 use Rattle.i9_memory.proofs.pages.Pages.store.Given as goal
 
-abbrev pub invariant-loop-b : goal.invariant-loop-b
-invariant-loop-b l = record {
-  at : l.at ≡ wrapped (l.fn.a + l.b-index);
-  rest : stored (byte_of l.self) (upwards l.at (drop l.b-index l.bytes)) ≡ stored (byte_of l.fn.self) (upwards l.fn.a l.bytes);
+abbrev pub invariant-loop-rest : goal.invariant-loop-rest
+invariant-loop-rest l = record {
+  rest : stored (byte_of l.self) (upwards l.at l.rest) ≡ stored (byte_of l.fn.self) (upwards l.fn.a l.fn.bytes);
+  room : (k : ℕ) → k < length l.rest → HasByte l.self (wrapped (l.at + k));
   keeps : (p : ℕ) → HasPage l.fn.self p → HasPage l.self p;
 }
+
+abbrev pub decreases-loop-rest : goal.decreases-loop-rest
+decreases-loop-rest l = length l.rest

@@ -1,0 +1,113 @@
+-- Bytes of one page that are written at once, and the runs of a longer one.
+use Rattle.std.proofs.Common.{◌≡◌, ℕ, suc, ◌+◌, ◌*◌, ◌/◌, ◌%◌, ◌^◌, ◌<◌, ◌≤◌, true, false, List, [], ◌∷◌, ◌++◌, length, get_or, drop, refl, sym, ap, ◌∙◌, arith}
+use Rattle.std.specs.Prelude.{◌==◌, if◌then◌else◌}
+use Rattle.std.proofs.Math.ListN.{set}
+use Rattle.std.proofs.lemmas.List.{at_drop_more, at_drop_all}
+use Rattle.std.proofs.lemmas.Grind.{common_steps}
+use Rattle.std.proofs.lemmas.Bool.Decides.{nat_tests}
+use Rattle.i9_model.specs.Writes.{wrapped, put, written, pairs_at, upwards}
+use Rattle.i9_model.specs.Memory.{in_port_page, stored}
+use Rattle.i9_model.proofs.Stored.{stored-cons}
+use Rattle.i9_model.proofs.Upwards.{upwards-wrapped}
+use Rattle.i9_memory.proofs.Paged.{same_bytes}
+
+-- ---- within a page
+
+-- the bytes of a page after one was written
+pub set_is_put : (xs : List ℕ) (i v : ℕ) → i < length xs → (λ x. get_or (set xs i v) x 0) ≡ put (λ x. get_or xs x 0) i v
+set_is_put xs i v h = same_bytes _ _ (λ x. grind (arith, common_steps, nat_tests))
+
+-- one more byte is written
+pub written_more : (f : ℕ → ℕ) (p : ℕ) (bs : List ℕ) (i : ℕ) → i < length bs → written f (pairs_at (λ k. k) (p + i) (drop i bs)) ≡ written (put f (p + i) (get_or bs i 0)) (pairs_at (λ k. k) (p + (i + 1)) (drop (i + 1) bs))
+unfolding written
+written_more f p bs i h =
+    let next : p + i + 1 ≡ p + (i + 1) = omega arith in
+    at_drop_more (λ (zs : List ℕ). written f (pairs_at (λ k. k) (p + i) zs)) bs i 0 h
+    ∙ ap (λ (q : ℕ). written (put f (p + i) (get_or bs i 0)) (pairs_at (λ k. k) q (drop (i + 1) bs))) next
+
+-- no byte is left
+pub written_done : (f : ℕ → ℕ) (p : ℕ) (bs : List ℕ) (i : ℕ) → length bs ≤ i → written f (pairs_at (λ k. k) (p + i) (drop i bs)) ≡ f
+unfolding written
+written_done f p bs i h = at_drop_all (λ (zs : List ℕ). written f (pairs_at (λ k. k) (p + i) zs)) bs i h
+
+-- ---- a page among others
+
+-- the bytes of all addresses, of which one page has those of its number
+abbrev pub with_page : (ℕ → ℕ) → ℕ → (ℕ → ℕ) → ℕ → ℕ
+with_page others n page x = if x / 256 == n then page (x % 256) else others x
+
+page_put : (others page : ℕ → ℕ) (n k v : ℕ) → k < 256 → with_page others n (put page k v) ≡ put (with_page others n page) (256 * n + k) v
+page_put others page n k v h = same_bytes _ _ (λ x. grind (arith, nat_tests))
+
+-- writes in a page are writes at the addresses of its places
+page_written : (others page : ℕ → ℕ) (n k : ℕ) (bs : List ℕ) → n < 2 ^ 24 → k + length bs ≤ 256 → with_page others n (written page (pairs_at (λ j. j) k bs)) ≡ written (with_page others n page) (upwards (256 * n + k) bs)
+unfolding written
+page_written others page n k [] h few = refl
+page_written others page n k (b ∷ bs) h few =
+    let here : 256 * n + k ≡ wrapped (256 * n + k) = omega arith in
+    let next : 256 * n + (k + 1) ≡ 256 * n + k + 1 = omega arith in
+    page_written others (put page k b) n (k + 1) bs h (omega arith)
+    ∙ ap (λ (f : ℕ → ℕ). written f (upwards (256 * n + (k + 1)) bs)) (page_put others page n k b (omega arith) ∙ ap (λ (x : ℕ). put (with_page others n page) x b) here)
+    ∙ ap (λ (x : ℕ). written (put (with_page others n page) (wrapped (256 * n + k)) b) (upwards x bs)) next
+
+-- the port page is whole pages
+port_of_page : (x y : ℕ) → x / 256 ≡ y / 256 → in_port_page x ≡ in_port_page y
+port_of_page x y e = grind (arith, nat_tests)
+
+stored_port : (f : ℕ → ℕ) (n k : ℕ) (bs : List ℕ) → n < 2 ^ 24 → k + length bs ≤ 256 → in_port_page (256 * n) ≡ true → stored f (upwards (256 * n + k) bs) ≡ f
+unfolding written
+stored_port f n k [] h few port = refl
+stored_port f n k (b ∷ bs) h few port =
+    let same : wrapped (256 * n + k) / 256 ≡ 256 * n / 256 = omega arith in
+    let next : 256 * n + k + 1 ≡ 256 * n + (k + 1) = omega arith in
+    rw (port_of_page (wrapped (256 * n + k)) (256 * n) same ∙ port, next) (stored_port f n (k + 1) bs h (omega arith) port)
+
+stored_page : (f : ℕ → ℕ) (n k : ℕ) (bs : List ℕ) → n < 2 ^ 24 → k + length bs ≤ 256 → in_port_page (256 * n) ≡ false → stored f (upwards (256 * n + k) bs) ≡ written f (upwards (256 * n + k) bs)
+unfolding written
+stored_page f n k [] h few port = refl
+stored_page f n k (b ∷ bs) h few port =
+    let same : wrapped (256 * n + k) / 256 ≡ 256 * n / 256 = omega arith in
+    let next : 256 * n + k + 1 ≡ 256 * n + (k + 1) = omega arith in
+    rw (port_of_page (wrapped (256 * n + k)) (256 * n) same ∙ port, next) (stored_page (put f (wrapped (256 * n + k)) b) n (k + 1) bs h (omega arith) port)
+
+in_page : (a : ℕ) → 256 * (a / 256) + a % 256 ≡ a
+in_page a = omega arith
+
+-- bytes of one page that are stored: none in the port page
+pub run_in_port : (f : ℕ → ℕ) (a : ℕ) (bs : List ℕ) → a < 2 ^ 32 → a % 256 + length bs ≤ 256 → in_port_page a ≡ true → stored f (upwards a bs) ≡ f
+run_in_port f a bs h few port =
+    let same : 256 * (a / 256) / 256 ≡ a / 256 = omega arith in
+    ap (λ (x : ℕ). stored f (upwards x bs)) (sym (in_page a))
+    ∙ stored_port f (a / 256) (a % 256) bs (omega arith) few (port_of_page (256 * (a / 256)) a same ∙ port)
+
+-- and elsewhere those of the page
+pub run_in_page : (others page : ℕ → ℕ) (a : ℕ) (bs : List ℕ) → a < 2 ^ 32 → a % 256 + length bs ≤ 256 → in_port_page a ≡ false
+    → with_page others (a / 256) (written page (pairs_at (λ k. k) (a % 256) bs)) ≡ stored (with_page others (a / 256) page) (upwards a bs)
+run_in_page others page a bs h few port =
+    let f = with_page others (a / 256) page in
+    let same : 256 * (a / 256) / 256 ≡ a / 256 = omega arith in
+    page_written others page (a / 256) (a % 256) bs (omega arith) few
+    ∙ sym (stored_page f (a / 256) (a % 256) bs (omega arith) few (port_of_page (256 * (a / 256)) a same ∙ port))
+    ∙ ap (λ (x : ℕ). stored f (upwards x bs)) (in_page a)
+
+-- ---- runs one after the other
+
+pub stored_runs : (f : ℕ → ℕ) (a : ℕ) (xs ys : List ℕ) → stored f (upwards a (xs ++ ys)) ≡ stored (stored f (upwards a xs)) (upwards (wrapped (a + length xs)) ys)
+unfolding written
+stored_runs f a [] ys = let here : wrapped a ≡ wrapped (wrapped (a + 0)) = omega arith in ap (stored f) (upwards-wrapped a (wrapped (a + 0)) ys here)
+stored_runs f a (x ∷ xs) ys =
+    let p : ℕ × ℕ = (wrapped a, x) in
+    let next : wrapped (a + 1 + length xs) ≡ wrapped (a + suc (length xs)) = omega arith in
+    stored-cons f p (upwards (a + 1) (xs ++ ys))
+    ∙ stored_runs (stored f (p ∷ [])) (a + 1) xs ys
+    ∙ ap (λ (g : ℕ → ℕ). stored g (upwards (wrapped (a + 1 + length xs)) ys)) (sym (stored-cons f p (upwards (a + 1) xs)))
+    ∙ ap (λ (b : ℕ). stored (stored f (upwards a (x ∷ xs))) (upwards b ys)) next
+
+pub stored_none : (f : ℕ → ℕ) (a : ℕ) (bs : List ℕ) → length bs ≡ 0 → stored f (upwards a bs) ≡ f
+unfolding written
+stored_none f a [] none = refl
+stored_none f a (b ∷ bs) none = absurd (omega arith)
+
+-- the addresses of a run have one page
+pub page_of_run : (a done at k run : ℕ) → at ≡ wrapped (a + done) → at % 256 + run ≤ 256 → done ≤ k → k < done + run → at / 256 ≡ wrapped (a + k) / 256
+page_of_run a done at k run e few low high = omega arith
