@@ -117,6 +117,57 @@ fn steps_through_a_run(rt: HostRuntime) -> Result<(), Fail> {
     Ok(())
 }
 
+/// How the run of a program ends, and after how many instructions, where memory has these words too.
+fn end_of(
+    alloc: Global,
+    program: &[u32],
+    words: &[(u32, u32)],
+    length: u32,
+) -> Result<(Option<End>, u64), Fail> {
+    let mut image = image_of(alloc, program)?;
+    for (address, word) in words {
+        put_word(&mut image, *address, *word)?;
+    }
+    let mut machine = Machine::new(alloc, &image, None, u64::from(length.min(100)))?;
+    let mut lines = Vec::new(alloc);
+    for _ in 0..201usize {
+        if let Turn::End(end) = machine.advance(&mut lines) {
+            return Ok((Some(end), machine.view().count));
+        }
+    }
+    Ok((None, machine.view().count))
+}
+
+#[test]
+fn ends_as_it_should(rt: HostRuntime) -> Result<(), Fail> {
+    // `call f`, `f: ld 16(pfp), g4` reads a saved frame; a word 0 is no instruction, whose fault's entry is at 16;
+    // `mov 1, sf2` is not built.
+    let reads_a_frame = [0x0900_0004u32, 0x90A0_2010];
+    let cases = [
+        (
+            PROGRAM.as_slice(),
+            [].as_slice(),
+            100u32,
+            End::Exit(7),
+            5u64,
+        ),
+        (&PROGRAM, &[], 5, End::Exit(7), 5),
+        (&PROGRAM, &[], 4, End::Limit, 4),
+        (&PROGRAM, &[], 0, End::Limit, 0),
+        (&reads_a_frame, &[], 100, End::Hazard(0x10), 1),
+        (&[0], &[(16, 1)], 100, End::Dead(1, 16), 1),
+        (&[0], &[(16, 3)], 100, End::Dead(1, 16), 1),
+        (&[0], &[(16, 2), (20, 0x27E)], 100, End::Dead(2, 20), 1),
+        (&[0], &[(16, 0x412), (20, 0x27F)], 100, End::Dead(3, 16), 1),
+        (&[0x5C10_2E01], &[], 100, End::Unbuilt(0x1000), 0),
+    ];
+    for (program, words, length, end, count) in cases {
+        let ended = end_of(rt.alloc(), program, words, length)?;
+        assert_eq!(rt; ended, (Some(end), count), "of {program:?}");
+    }
+    Ok(())
+}
+
 #[test]
 fn tells_a_fault_and_its_entry(rt: HostRuntime) -> Result<(), Fail> {
     // The word 0 is no instruction. The fault table is at 0, and so is its handler.

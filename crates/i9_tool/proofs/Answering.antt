@@ -2,46 +2,50 @@
 use Rattle.std.proofs.Common.{ℕ, ◌<◌, ◌≤◌, ◌⊎◌, inl, inr, List, length, ◌+◌, Option, refl, sym, subst, add-zero, arith}
 use Rattle.i9_tool.specs.declared.print.Printed.{Printed}
 use Rattle.i9_tool.specs.declared.print.Printed.TheVariants.{Done, Write, Memory}
-use Rattle.i9_tool.specs.Print.{Prints}
+use Rattle.i9_tool.specs.Print.{Account, Prints}
 use Rattle.i9_tool.specs.Outcome.{Answers, code_for}
 
-module _ {K : Type 0} (told : K → Option (List ℕ)) (faults : K → ℕ) (sure : K → ℕ → Type 0) where
+module _ {K : Type 0} (k : Account K) where
   -- a sink that is sure of a text is sure of it and nothing more
-  sure_of : (s : K) (text : List ℕ) → sure s (length text) → sure s (length text + 0)
-  sure_of s text h = subst (sure s) (sym (add-zero (length text))) h
+  sure_of : (s : K) (text : List ℕ) → k.sure s (length text) → k.sure s (length text + 0)
+  sure_of s text h = subst (k.sure s) (sym (add-zero (length text))) h
 
   -- a text that goes with a status was printed
   pub answers_printed : (gives : ℕ → List ℕ → Type 0) (p : Printed) (code : ℕ) (text : List ℕ) (a b : K) → (code < 3) ⊎ ((4 ≤ code) × (code < 6)) → gives code text
-      → Prints p told faults sure a b text → Answers gives (code_for p code) told faults sure a b
+      → Prints p k a b text → Answers gives (code_for p code) k a b
   answers_printed gives Done code text a b known is_given printed = record {
     known = elim known [ inl h ↦ inl h | inr h ↦ inr (h.0, omega arith) ];
-    whole = λ _. record { text = text; is_given = is_given; appended = printed.leaves };
+    whole = λ _. record { text = text; is_given = is_given; appended = printed.leaves; lines = printed.lines };
     front = λ high. elim known [ inl h ↦ absurd (omega arith) | inr h ↦ absurd (omega arith) ];
     write = λ six. elim known [ inl h ↦ absurd (omega arith) | inr h ↦ absurd (omega arith) ];
+    failed = λ more. absurd (omega (arith, printed.cause));
     calm = λ all. let q = printed.calm 0 (sure_of a text (all code text is_given)) in (λ six. elim known [ inl h ↦ omega arith | inr h ↦ omega arith ], q.1);
   }
   answers_printed gives Write code text a b known is_given printed = record {
     known = inr (omega arith, omega arith);
     whole = λ low. absurd (omega arith);
-    front = λ _. record { code = code; text = text; is_given = is_given; appended = printed.leaves };
+    front = λ _. record { code = code; text = text; is_given = is_given; appended = printed.leaves; lines = printed.lines };
     write = λ _. printed.cause;
+    failed = λ _. refl;
     calm = λ all. let q = printed.calm 0 (sure_of a text (all code text is_given)) in absurd (q.0 refl);
   }
   answers_printed gives Memory code text a b known is_given printed = record {
     known = inr (omega arith, omega arith);
     whole = λ low. absurd (omega arith);
-    front = λ _. record { code = code; text = text; is_given = is_given; appended = printed.leaves };
+    front = λ _. record { code = code; text = text; is_given = is_given; appended = printed.leaves; lines = printed.lines };
     write = λ six. absurd (omega arith);
+    failed = λ more. absurd (omega (arith, printed.cause));
     calm = λ all. (λ six. omega arith, printed.cause);
   }
 
   -- the same status and text in a wider choice
-  pub answers_wider : (gives wider : ℕ → List ℕ → Type 0) (code : ℕ) (a b : K) → ((c : ℕ) (t : List ℕ) → gives c t → wider c t) → Answers gives code told faults sure a b → Answers wider code told faults sure a b
+  pub answers_wider : (gives wider : ℕ → List ℕ → Type 0) (code : ℕ) (a b : K) → ((c : ℕ) (t : List ℕ) → gives c t → wider c t) → Answers gives code k a b → Answers wider code k a b
   answers_wider gives wider code a b more h = record {
     known = h.known;
-    whole = λ low. let w = h.whole low in record { text = w.text; is_given = more code w.text w.is_given; appended = w.appended };
-    front = λ high. let f = h.front high in record { code = f.code; text = f.text; is_given = more f.code f.text f.is_given; appended = f.appended };
+    whole = λ low. let w = h.whole low in record { text = w.text; is_given = more code w.text w.is_given; appended = w.appended; lines = w.lines };
+    front = λ high. let f = h.front high in record { code = f.code; text = f.text; is_given = more f.code f.text f.is_given; appended = f.appended; lines = f.lines };
     write = h.write;
+    failed = h.failed;
     calm = λ all. h.calm (λ c t g. all c t (more c t g));
   }
 

@@ -1,7 +1,5 @@
-pub mod Failing
 pub mod Prints
-pub mod Reading
-pub mod Writing
+pub mod LineCounts
 pub mod Running
 pub mod Answering
 pub mod Outcomes

@@ -9,12 +9,12 @@ use Rattle.i9_model.specs.PrintedText.{run_text, end_code}
 use Rattle.i9_model.specs.CommandLine.{Command, Run, words_line, read_line, long_line, refused_line}
 use Rattle.i9_model.proofs.Ends.{run_goes_on}
 use Rattle.i9_hex.proofs.OneAnswer.{some_answer}
-use Rattle.i9_tool.specs.declared.outside.traits.TheConstants.{FILE_LIMIT}
+use Rattle.i9_outside.specs.declared.traits.TheConstants.{FILE_LIMIT}
 use Rattle.i9_tool.specs.declared.print.Printed.{Printed}
 use Rattle.i9_tool.specs.declared.print.Printed.TheVariants.{Memory}
 use Rattle.i9_tool.specs.declared.run.Ran.{Ran}
-use Rattle.i9_tool.specs.Outside.{IsFile}
-use Rattle.i9_tool.specs.Print.{Prints}
+use Rattle.i9_outside.specs.Traits.{IsFile}
+use Rattle.i9_tool.specs.Print.{Account, Prints}
 use Rattle.i9_tool.specs.Run.{Runs, printed_of}
 use Rattle.i9_tool.specs.Outcome.{FileGives, too_long, refused, runs, Gives, in_no_form, unread, fetched, Answers, code_for}
 use Rattle.i9_tool.proofs.Prints.{prints_same, prints_refused}
@@ -53,55 +53,55 @@ some_text file sets limit =
     sized : (n : ℕ) → (n ≤ FILE_LIMIT) ⊎ (FILE_LIMIT < n)
     sized n = grind arith
 
-module _ {K : Type 0} (told : K → Option (List ℕ)) (faults : K → ℕ) (sure : K → ℕ → Type 0) where
+module _ {K : Type 0} (k : Account K) where
   -- the image of a file ran
   pub file_runs : (file : List ℕ) (sets : Option ℕ) (limit : ℕ) (pairs : List (ℕ × ℕ)) (ran : Ran) (code : ℕ) (a b : K) → length file ≤ FILE_LIMIT → IsImage (lines_of file) pairs
-      → (r : Runs ran (given pairs [] limit sets) told faults sure a b) → code ≡ code_for (printed_of ran) (end_code r.end) → Answers (FileGives file sets limit) code told faults sure a b
+      → (r : Runs ran (given pairs [] limit sets) k a b) → code ≡ code_for (printed_of ran) (end_code r.end) → Answers (FileGives file sets limit) code k a b
   file_runs file sets limit pairs ran code a b short image r e =
-      subst (λ (n : ℕ). Answers (FileGives file sets limit) n told faults sure a b) (sym e)
-      (answers_printed told faults sure (FileGives file sets limit) (printed_of ran) (end_code r.end) (run_text (given pairs [] limit sets) r.records r.end) a b (known_finish r.end) (runs pairs r.records r.end short image r.run) r.prints)
+      subst (λ (n : ℕ). Answers (FileGives file sets limit) n k a b) (sym e)
+      (answers_printed k (FileGives file sets limit) (printed_of ran) (end_code r.end) (run_text (given pairs [] limit sets) r.records r.end) a b (known_finish r.end) (runs pairs r.records r.end short image r.run) r.prints)
 
   -- it was said why a file is refused
   pub file_refused : (file : List ℕ) (sets : Option ℕ) (limit : ℕ) (fault : ℕ × ℕ) (line : List ℕ) (p : Printed) (code : ℕ) (a b : K) → length file ≤ FILE_LIMIT → IsRefused (lines_of file) fault → line ≡ refused_line fault
-      → Prints p told faults sure a b line → code ≡ code_for p 2 → Answers (FileGives file sets limit) code told faults sure a b
+      → Prints p k a b line → code ≡ code_for p 2 → Answers (FileGives file sets limit) code k a b
   file_refused file sets limit fault line p code a b short bad same printed e =
-      subst (λ (n : ℕ). Answers (FileGives file sets limit) n told faults sure a b) (sym e)
-      (answers_printed told faults sure (FileGives file sets limit) p 2 (refused_line fault) a b (inl (omega arith)) (refused fault short bad) (prints_same told faults sure p a b line (refused_line fault) same printed))
+      subst (λ (n : ℕ). Answers (FileGives file sets limit) n k a b) (sym e)
+      (answers_printed k (FileGives file sets limit) p 2 (refused_line fault) a b (inl (omega arith)) (refused fault short bad) (prints_same k p a b line (refused_line fault) same printed))
 
   -- memory was refused before anything was printed
-  pub file_unread : (file : List ℕ) (sets : Option ℕ) (limit : ℕ) (a : K) → Answers (FileGives file sets limit) 7 told faults sure a a
+  pub file_unread : (file : List ℕ) (sets : Option ℕ) (limit : ℕ) (a : K) → Answers (FileGives file sets limit) 7 k a a
   file_unread file sets limit a =
       let s = some_text file sets limit in
-      answers_printed told faults sure (FileGives file sets limit) Memory s.0 s.1 a a s.2 s.3 (prints_refused told faults sure a s.1)
+      answers_printed k (FileGives file sets limit) Memory s.0 s.1 a a s.2 s.3 (prints_refused k a s.1)
 
   module _ (files : List ℕ → Option (List ℕ)) (rose : List ℕ → Type 0) where
     -- what is answered for the file that was fetched
-    pub image_fetched : (image : List ℕ) (sets : Option ℕ) (limit : ℕ) (file bytes : List ℕ) (code : ℕ) (a b : K) → IsFile (files image) file → bytes ≡ file → Answers (FileGives bytes sets limit) code told faults sure a b
-        → Answers (Gives files rose (Some (Run image sets limit))) code told faults sure a b
+    pub image_fetched : (image : List ℕ) (sets : Option ℕ) (limit : ℕ) (file bytes : List ℕ) (code : ℕ) (a b : K) → IsFile (files image) file → bytes ≡ file → Answers (FileGives bytes sets limit) code k a b
+        → Answers (Gives files rose (Some (Run image sets limit))) code k a b
     image_fetched image sets limit file bytes code a b is_file same h =
         let found : IsFile (files image) bytes = subst (IsFile (files image)) (sym same) is_file in
-        answers_wider told faults sure (FileGives bytes sets limit) (Gives files rose (Some (Run image sets limit))) code a b (λ c t g. fetched image sets limit bytes c t found g) h
+        answers_wider k (FileGives bytes sets limit) (Gives files rose (Some (Run image sets limit))) code a b (λ c t g. fetched image sets limit bytes c t found g) h
 
-    pub image_unread : (image : List ℕ) (sets : Option ℕ) (limit : ℕ) (p : Printed) (code : ℕ) (a b : K) → rose image → Prints p told faults sure a b read_line → code ≡ code_for p 5 → Answers (Gives files rose (Some (Run image sets limit))) code told faults sure a b
+    pub image_unread : (image : List ℕ) (sets : Option ℕ) (limit : ℕ) (p : Printed) (code : ℕ) (a b : K) → rose image → Prints p k a b read_line → code ≡ code_for p 5 → Answers (Gives files rose (Some (Run image sets limit))) code k a b
     image_unread image sets limit p code a b rises printed e =
-        subst (λ (n : ℕ). Answers (Gives files rose (Some (Run image sets limit))) n told faults sure a b) (sym e)
-        (answers_printed told faults sure (Gives files rose (Some (Run image sets limit))) p 5 read_line a b (inr (omega arith, omega arith)) (unread image sets limit rises) printed)
+        subst (λ (n : ℕ). Answers (Gives files rose (Some (Run image sets limit))) n k a b) (sym e)
+        (answers_printed k (Gives files rose (Some (Run image sets limit))) p 5 read_line a b (inr (omega arith, omega arith)) (unread image sets limit rises) printed)
 
-    pub image_too_long : (image : List ℕ) (sets : Option ℕ) (limit : ℕ) (file : List ℕ) (p : Printed) (code : ℕ) (a b : K) → IsFile (files image) file → FILE_LIMIT < length file → Prints p told faults sure a b long_line → code ≡ code_for p 2
-        → Answers (Gives files rose (Some (Run image sets limit))) code told faults sure a b
+    pub image_too_long : (image : List ℕ) (sets : Option ℕ) (limit : ℕ) (file : List ℕ) (p : Printed) (code : ℕ) (a b : K) → IsFile (files image) file → FILE_LIMIT < length file → Prints p k a b long_line → code ≡ code_for p 2
+        → Answers (Gives files rose (Some (Run image sets limit))) code k a b
     image_too_long image sets limit file p code a b is_file long printed e =
-        subst (λ (n : ℕ). Answers (Gives files rose (Some (Run image sets limit))) n told faults sure a b) (sym e)
-        (answers_printed told faults sure (Gives files rose (Some (Run image sets limit))) p 2 long_line a b (inl (omega arith)) (fetched image sets limit file 2 long_line is_file (too_long long)) printed)
+        subst (λ (n : ℕ). Answers (Gives files rose (Some (Run image sets limit))) n k a b) (sym e)
+        (answers_printed k (Gives files rose (Some (Run image sets limit))) p 2 long_line a b (inl (omega arith)) (fetched image sets limit file 2 long_line is_file (too_long long)) printed)
 
-    pub image_refused : (image : List ℕ) (sets : Option ℕ) (limit : ℕ) (file : List ℕ) (a : K) → IsFile (files image) file → Answers (Gives files rose (Some (Run image sets limit))) 7 told faults sure a a
+    pub image_refused : (image : List ℕ) (sets : Option ℕ) (limit : ℕ) (file : List ℕ) (a : K) → IsFile (files image) file → Answers (Gives files rose (Some (Run image sets limit))) 7 k a a
     image_refused image sets limit file a is_file = image_fetched image sets limit file file 7 a a is_file refl (file_unread file sets limit a)
 
     -- what the words ask for, spelled in another way
-    pub answers_for : (asked same : Option Command) (code : ℕ) (a b : K) → asked ≡ same → Answers (Gives files rose asked) code told faults sure a b → Answers (Gives files rose same) code told faults sure a b
-    answers_for asked same code a b e h = subst (λ (o : Option Command). Answers (Gives files rose o) code told faults sure a b) e h
+    pub answers_for : (asked same : Option Command) (code : ℕ) (a b : K) → asked ≡ same → Answers (Gives files rose asked) code k a b → Answers (Gives files rose same) code k a b
+    answers_for asked same code a b e h = subst (λ (o : Option Command). Answers (Gives files rose o) code k a b) e h
 
     -- the words are in no form
-    pub words_refused : (p : Printed) (code : ℕ) (a b : K) → Prints p told faults sure a b words_line → code ≡ code_for p 1 → Answers (Gives files rose None) code told faults sure a b
+    pub words_refused : (p : Printed) (code : ℕ) (a b : K) → Prints p k a b words_line → code ≡ code_for p 1 → Answers (Gives files rose None) code k a b
     words_refused p code a b printed e =
-        subst (λ (n : ℕ). Answers (Gives files rose None) n told faults sure a b) (sym e)
-        (answers_printed told faults sure (Gives files rose None) p 1 words_line a b (inl (omega arith)) in_no_form printed)
+        subst (λ (n : ℕ). Answers (Gives files rose None) n k a b) (sym e)
+        (answers_printed k (Gives files rose None) p 1 words_line a b (inl (omega arith)) in_no_form printed)

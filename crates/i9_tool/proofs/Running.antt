@@ -14,7 +14,7 @@ use Rattle.i9_machine.specs.StandsFor.{DoesNext, Advances}
 use Rattle.i9_tool.specs.declared.print.Printed.{Printed}
 use Rattle.i9_tool.specs.declared.print.Printed.TheVariants.{Done, Write, Memory}
 use Rattle.i9_tool.specs.declared.run.Ran.TheVariants as ran
-use Rattle.i9_tool.specs.Print.{Prints, line_text}
+use Rattle.i9_tool.specs.Print.{Account, Prints, line_text}
 use Rattle.i9_tool.specs.Run.{Runs}
 use Rattle.i9_tool.proofs.Prints.{prints_then, prints_stop, prints_cut, prints_same, prints_refused}
 
@@ -58,55 +58,55 @@ module _ (g : Given) where
   }
   ahead rs turns.Memory m ls past a = ahead_of rs rs (map shown_of ls) past (sym (append-nil (lines_of rs)) ∙ ap (λ (x : List Shown). lines_of rs ++ x) (sym (ap (map shown_of) a.lines)))
 
-  module _ {K : Type 0} (told : K → Option (List ℕ)) (faults : K → ℕ) (sure : K → ℕ → Type 0) where
+  module _ {K : Type 0} (k : Account K) where
     abbrev Printing : Printed → K → K → List ℕ → Type 0
-    Printing answer a b text = Prints answer told faults sure a b text
+    Printing answer a b text = Prints answer k a b text
 
     both : (answer : Printed) (a b c : K) (rs : List Record) (ls : List Line) → Printing Done a b (text_of (lines_of rs)) → Printing answer b c (flat_map line_text ls)
         → Printing answer a c (text_of (lines_of rs) ++ text_of (map shown_of ls))
-    both answer a b c rs ls p q = prints_then told faults sure answer a b c _ _ p (prints_same told faults sure answer b c _ _ (lines-text ls) q)
+    both answer a b c rs ls p q = prints_then k answer a b c _ _ p (prints_same k answer b c _ _ (lines-text ls) q)
 
     -- a write of the lines of a step failed
     pub ran_write : (a b c : K) (rs : List Record) (ls : List Line) → Ahead rs (map shown_of ls) → Printing Done a b (text_of (lines_of rs)) → Printing Write b c (flat_map line_text ls)
-        → Runs ran.Write g told faults sure a c
+        → Runs ran.Write g k a c
     ran_write a b c rs ls h p q = record {
       records = h.records;
       end = h.end;
       run = h.run;
-      prints = prints_same told faults sure Write a c _ _ h.text (prints_stop told faults sure Write a c _ h.rest (λ e. cc) (both Write a b c rs ls p q));
+      prints = prints_same k Write a c _ _ h.text (prints_stop k Write a c _ h.rest (λ e. cc) (both Write a b c rs ls p q));
       tells = tt;
     }
 
     -- memory was refused for the lines of a step
     pub ran_memory : (a b c : K) (rs : List Record) (ls : List Line) → Ahead rs (map shown_of ls) → Printing Done a b (text_of (lines_of rs)) → Printing Memory b c (flat_map line_text ls)
-        → Runs ran.Memory g told faults sure a c
+        → Runs ran.Memory g k a c
     ran_memory a b c rs ls h p q = record {
       records = h.records;
       end = h.end;
       run = h.run;
-      prints = prints_same told faults sure Memory a c _ _ h.text (prints_stop told faults sure Memory a c _ h.rest (λ e. cc) (both Memory a b c rs ls p q));
+      prints = prints_same k Memory a c _ _ h.text (prints_stop k Memory a c _ h.rest (λ e. cc) (both Memory a b c rs ls p q));
       tells = tt;
     }
 
     -- memory was refused for a step
     pub ran_refused : (a b c : K) (rs : List Record) (ls : List Line) → Ahead rs (map shown_of ls) → Printing Done a b (text_of (lines_of rs)) → Printing Done b c (flat_map line_text ls)
-        → Runs ran.Memory g told faults sure a c
+        → Runs ran.Memory g k a c
     ran_refused a b c rs ls h p q = record {
       records = h.records;
       end = h.end;
       run = h.run;
-      prints = prints_same told faults sure Memory a c _ _ h.text (prints_cut told faults sure a c _ h.rest (both Done a b c rs ls p q));
+      prints = prints_same k Memory a c _ _ h.text (prints_cut k a c _ h.rest (both Done a b c rs ls p q));
       tells = tt;
     }
 
     -- the end was reached
     pub ran_done : (a b c : K) (rs : List Record) (ls : List Line) (e : End) (m : Machine) → IsPast g rs → Advances g rs (turns.End e) m [] ls
-        → Printing Done a b (text_of (lines_of rs)) → Printing Done b c (flat_map line_text ls) → Runs (ran.Done e) g told faults sure a c
+        → Printing Done a b (text_of (lines_of rs)) → Printing Done b c (flat_map line_text ls) → Runs (ran.Done e) g k a c
     ran_done a b c rs ls e m past d p q = record {
       records = rs;
       end = e;
       run = record { past = past; ends = d.is_end };
-      prints = prints_same told faults sure Done a c _ _
+      prints = prints_same k Done a c _ _
           (sym (text_of-append (lines_of rs) (map shown_of ls)) ∙ ap (λ (x : List Shown). text_of (lines_of rs ++ x)) d.lines) (both Done a b c rs ls p q);
       tells = refl;
     }
@@ -115,11 +115,11 @@ module _ (g : Given) where
     pub one_more : (a b c : K) (rs : List Record) (ls : List Line) (turn : Turn) (m : Machine) → (d : DoesNext g rs turn m [] ls)
         → Printing Done a b (text_of (lines_of rs)) → Printing Done b c (flat_map line_text ls) → Printing Done a c (text_of (lines_of (d.done ∷ rs)))
     one_more a b c rs ls turn m d p q =
-        prints_same told faults sure Done a c _ _
+        prints_same k Done a c _ _
         (sym (text_of-append (lines_of rs) (map shown_of ls)) ∙ ap (λ (x : List Shown). text_of (lines_of rs ++ x)) d.lines) (both Done a b c rs ls p q)
 
     -- memory was refused before the first step
-    pub nothing_yet : (a : K) → Runs ran.Memory g told faults sure a a
+    pub nothing_yet : (a : K) → Runs ran.Memory g k a a
     nothing_yet a =
         let later = text_goes_on g [] tt in
-        record { records = later.0 ++ []; end = later.1; run = later.3; prints = prints_refused told faults sure a _; tells = tt }
+        record { records = later.0 ++ []; end = later.1; run = later.3; prints = prints_refused k a _; tells = tt }

@@ -10,11 +10,12 @@ use Rattle.i9_model.specs.declared.run.End.{End}
 use Rattle.i9_model.specs.Run.{Record, IsRun}
 use Rattle.i9_model.specs.PrintedText.{run_text, end_code}
 use Rattle.i9_model.specs.CommandLine.{Command, Run, command_of, words_line, read_line, long_line, refused_line}
-use Rattle.i9_tool.specs.declared.outside.traits.TheConstants.{FILE_LIMIT}
+use Rattle.i9_outside.specs.declared.traits.TheConstants.{FILE_LIMIT}
 use Rattle.i9_tool.specs.declared.print.Printed.{Printed}
 use Rattle.i9_tool.specs.declared.print.Printed.TheVariants as printed
-use Rattle.i9_tool.specs.Counts.{Rose}
-use Rattle.i9_tool.specs.Outside.{IsFile, AppendsFront}
+use Rattle.i9_tool.specs.Print.{Account, CountsUpTo, line_count, counted_on}
+use Rattle.i9_outside.specs.Counts.{Rose}
+use Rattle.i9_outside.specs.Traits.{IsFile, AppendsFront}
 
 -- The status and the text for a file that was fetched, whose image is to run in so many sets for at most so many
 -- instructions: it is too long, it is refused for its first line at fault, or its image runs to the end of its run.
@@ -41,29 +42,37 @@ asked_for words = command_of (map string_bytes words)
 abbrev pub rose_in : {F : Type 0} → (F → List ℕ → ℕ) → F → F → List ℕ → Type 0
 rose_in faults old new name = Rose (faults old name) (faults new name)
 
+-- it is greater in the later state, which it is not once it stands at the end of its type
+abbrev pub grew_in : {F : Type 0} → (F → List ℕ → ℕ) → F → F → List ℕ → Type 0
+grew_in faults old new name = faults old name < faults new name
+
 -- what the words give, by the files before the call and the counts that rose in it
 abbrev pub Outcomes : {F Z : Type 0} → (F → List ℕ → Option (List ℕ)) → (F → List ℕ → ℕ) → F → F → List (String Z) → ℕ → List ℕ → Type 0
 Outcomes told faults old new words code text = Gives (told old) (rose_in faults old new) (asked_for words) code text
 
--- the status and its text were given whole, or a front of a text that could have been
-pub record GivesWhole (gives : ℕ → List ℕ → Type 0) (code : ℕ) (old new : Option (List ℕ)) : Type 0 where
+-- The status and its text were given whole, and each line of it by one write; or a front of a text that could have been,
+-- by at most one write for each line of that text.
+pub record GivesWhole {K : Type 0} (gives : ℕ → List ℕ → Type 0) (code : ℕ) (k : Account K) (old new : K) : Type 0 where
   pub text : List ℕ
   pub is_given : gives code text
-  pub appended : Appends old new text
+  pub appended : Appends (k.told old) (k.told new) text
+  pub lines : k.writes new ≡ counted_on (k.writes old) (line_count text)
 
-pub record GivesFront (gives : ℕ → List ℕ → Type 0) (old new : Option (List ℕ)) : Type 0 where
+pub record GivesFront {K : Type 0} (gives : ℕ → List ℕ → Type 0) (k : Account K) (old new : K) : Type 0 where
   pub code : ℕ
   pub text : List ℕ
   pub is_given : gives code text
-  pub appended : AppendsFront old new text
+  pub appended : AppendsFront (k.told old) (k.told new) text
+  pub lines : CountsUpTo (line_count text) (k.writes old) (k.writes new)
 
 -- What a call does that answers a status of these on a sink: 6 where a write failed and 7 where memory was refused.
-pub record Answers {K : Type 0} (gives : ℕ → List ℕ → Type 0) (code : ℕ) (told : K → Option (List ℕ)) (faults : K → ℕ) (sure : K → ℕ → Type 0) (old new : K) : Type 0 where
+pub record Answers {K : Type 0} (gives : ℕ → List ℕ → Type 0) (code : ℕ) (k : Account K) (old new : K) : Type 0 where
   pub known : (code < 3) ⊎ ((4 ≤ code) × (code < 8))
-  pub whole : code < 6 → GivesWhole gives code (told old) (told new)
-  pub front : 6 ≤ code → GivesFront gives (told old) (told new)
-  pub write : code ≡ 6 → Rose (faults old) (faults new)
-  pub calm : ((c : ℕ) (t : List ℕ) → gives c t → sure old (length t)) → (code ≢ 6) × (faults new ≡ faults old)
+  pub whole : code < 6 → GivesWhole gives code k old new
+  pub front : 6 ≤ code → GivesFront gives k old new
+  pub write : code ≡ 6 → Rose (k.faults old) (k.faults new)
+  pub failed : k.faults old < k.faults new → code ≡ 6
+  pub calm : ((c : ℕ) (t : List ℕ) → gives c t → k.sure old (length t)) → (code ≢ 6) × (k.faults new ≡ k.faults old)
 
 -- the status for a text that was printed so
 abbrev pub code_for : Printed → ℕ → ℕ

@@ -7,7 +7,7 @@ use Rattle.i9_tool.specs.declared.print.Printed.{Printed}
 use Rattle.i9_tool.specs.declared.print.Printed.TheVariants as printed
 use Rattle.i9_tool.specs.declared.run.Ran.{Ran}
 use Rattle.i9_tool.specs.declared.run.Ran.TheVariants as ran
-use Rattle.i9_tool.specs.Print.{Prints}
+use Rattle.i9_tool.specs.Print.{Account, Prints}
 
 -- how the printing of the run's text ended
 abbrev pub printed_of : Ran → Printed
@@ -22,9 +22,9 @@ TellsEnd ran.Write f = Unit {0}
 TellsEnd ran.Memory f = Unit {0}
 
 -- The text of the run of what is given was printed on a sink of this type, or a front of it.
-pub record Runs {K : Type 0} (answer : Ran) (g : Given) (told : K → Option (List ℕ)) (faults : K → ℕ) (sure : K → ℕ → Type 0) (old new : K) : Type 0 where
+pub record Runs {K : Type 0} (answer : Ran) (g : Given) (k : Account K) (old new : K) : Type 0 where
   pub records : List Record
   pub end : End
   pub run : IsRun g records end
-  pub prints : Prints (printed_of answer) told faults sure old new (run_text g records end)
+  pub prints : Prints (printed_of answer) k old new (run_text g records end)
   pub tells : TellsEnd answer end

@@ -237,28 +237,6 @@ fn calls_returns_and_hazards(rt: HostRuntime) -> Result<(), Fail> {
             RETURNS_ELSEWHERE_FLUSHED_PRINTS,
         ),
         (SAVES_OVER_A_FRAME, 9, 4, SAVES_OVER_A_FRAME_PRINTS),
-    ];
-    for (image, length, code, printed) in cases {
-        for sets in SETS {
-            let words = format!(in rt.alloc(); "run a - {sets} {length}")?;
-            let case = Case {
-                image,
-                words: &words,
-                printed,
-            };
-            assert_eq!(rt;
-                run_case(rt.alloc(), &case, 0)?,
-                (code, true),
-                "with {sets} sets, of {printed}"
-            );
-        }
-    }
-    Ok(())
-}
-
-#[test]
-fn frames_at_their_edges(rt: HostRuntime) -> Result<(), Fail> {
-    let cases = [
         (ENTERS_A_FRAME, 9, 4, ENTERS_A_FRAME_PRINTS),
         (ENTERS_BEFORE_A_FRAME, 9, 4, ENTERS_BEFORE_A_FRAME_PRINTS),
         (STORES_TO_A_FRAME, 9, 4, STORES_TO_A_FRAME_PRINTS),
@@ -282,7 +260,7 @@ fn frames_at_their_edges(rt: HostRuntime) -> Result<(), Fail> {
                 printed,
             };
             assert_eq!(rt;
-                run_case(rt.alloc(), &case, 0)?,
+                run_case(rt.alloc(), &case)?,
                 (code, true),
                 "with {sets} sets, of {printed}"
             );

@@ -4,14 +4,14 @@
 ghost use Rattle.std.specs.Prelude.{◌≡◌, ◌≢◌, ◌≤◌, ℕ, Bool, true, List, Option, Some, IsSome, length};
 ghost use Rattle.std.specs.List.{AllByRecursion};
 ghost use Rattle.i9_model.specs.CommandLine.{Run};
-ghost use Rattle.i9_tool.specs.Calls.{NoneToFail};
-ghost use Rattle.i9_tool.specs.MemFiles as mem_files;
-ghost use Rattle.i9_tool.specs.MemSink as mem_sink;
+ghost use Rattle.i9_outside.specs.Calls.{NoneToFail};
+ghost use Rattle.i9_outside.specs.MemFiles as mem_files;
+ghost use Rattle.i9_outside.specs.MemSink as mem_sink;
 ghost use Rattle.i9_tool.specs.Outcome.{FileGives, Gives, Outcomes, asked_for, names_of, AllSure};
 
-use crate::outside::{MemFiles, MemSink};
 use crate::status::Status;
 use crate::top::i960;
+use i9_outside::{MemFiles, MemSink};
 use std::alloc::Global;
 
 /// Each file and length have one status and one text: an image is accepted or refused, not both, for

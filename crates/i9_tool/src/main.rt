@@ -1,6 +1,10 @@
 //! The command `i960`: a simulator of the core of the i960CA.
 #![tactic(auto)]
 
+ghost use Rattle.std.specs.Prelude.{◌≡◌, ◌≢◌, IfOk, drop};
+ghost use Rattle.std.specs.Process.{exit_status};
+ghost use Rattle.std.specs.Vec.Iter.{into_iter_items};
+
 #[cfg(test)]
 mod fault_tests;
 #[cfg(test)]
@@ -8,7 +12,6 @@ mod flow_tests;
 #[cfg(test)]
 mod frame_tests;
 pub mod laws;
-pub mod outside;
 mod print;
 #[cfg(test)]
 mod result_tests;
@@ -26,37 +29,59 @@ mod text;
 mod top;
 mod words;
 
-use crate::outside::{RealFiles, RealSink};
 pub use crate::status::Status;
 pub use crate::top::i960;
+use i9_outside::{RealFiles, RealSink};
+use std::alloc::{AllocError, Global};
+use std::io::ErrorKind;
 use std::process::ExitCode;
 use std::{env, io};
 
-/// The words of the command, without the program's name.
-fn words_of(rt: &HostRuntime) -> io::Result<Vec<String>> {
-    let mut words = Vec::new(rt.alloc());
-    for word in env::args(rt)?.skip(1) {
+/// The words behind the program's name, of those that the system gave.
+fn without_name(alloc: Global, given: env::Args) -> Result<Vec<String>, AllocError>
+    ensures { IfOk result (λ words. words.items ≡ drop 1 (into_iter_items given)) }
+{
+    let mut left = given;
+    let _ = left.next();
+    let mut words = Vec::new(alloc);
+    while let Some(word) = left.next() {
         words.push(word)?;
     }
     Ok(words)
 }
 
-/// Does what the words ask for and ends with its status: 7 where there is no memory for the words,
-/// and 8 where the system doesn't give them.
+/// The words of the command.
+fn words_of(rt: &HostRuntime) -> io::Result<Vec<String>> {
+    let given = env::args(rt)?;
+    Ok(without_name(rt.alloc(), given)?)
+}
+
+/// The status where there are no words: 7 where there is no memory for them, and 8 where the system doesn't give them.
+fn status_without_words(kind: ErrorKind) -> Status
+    ensures memory { kind ≡ ErrorKind.OutOfMemory → result.code ≡ 7 }
+    ensures system { kind ≢ ErrorKind.OutOfMemory → result.code ≡ 8 }
+{
+    match kind {
+        ErrorKind::OutOfMemory => Status { code: 7 },
+        _ => Status { code: 8 },
+    }
+}
+
+/// The exit status that the process ends with.
+fn exit_of(status: Status) -> ExitCode
+    ensures { exit_status result ≡ status.code }
+{
+    ExitCode::from(status.code)
+}
+
+/// Does what the words ask for and ends with its status, or with that for no words.
 fn main(rt: HostRuntime) -> ExitCode {
     match words_of(&rt) {
         Ok(words) => {
             let mut files = RealFiles::new(&rt);
             let mut out = RealSink::new(io::writer(&rt));
-            let status = i960(rt.alloc(), &words, &mut files, &mut out);
-            ExitCode::from(status.code)
+            exit_of(i960(rt.alloc(), &words, &mut files, &mut out))
         }
-        Err(e) => {
-            if e.kind() == io::ErrorKind::OutOfMemory {
-                ExitCode::from(7)
-            } else {
-                ExitCode::from(8)
-            }
-        }
+        Err(error) => exit_of(status_without_words(error.kind())),
     }
 }

@@ -1,10 +1,10 @@
 //! Printing of lines.
 ghost use Rattle.std.specs.Prelude.{◌≢◌, flat_map};
-ghost use Rattle.i9_tool.specs.Print.{Prints, line_text};
+ghost use Rattle.i9_tool.specs.Print.{Prints, IsLine, AreLines, account, line_text};
 
-use crate::outside::{Sink, Wrote};
 use crate::text::lines_of;
 use i9_machine::Line;
+use i9_outside::{Sink, Wrote};
 use std::alloc::Global;
 
 /// How printing ended.
@@ -18,9 +18,10 @@ pub(crate) enum Printed {
     Memory,
 }
 
-/// Writes a piece by one call of the sink.
+/// Writes a line by one call of the sink.
 pub(crate) fn print_piece<K: Sink>(piece: &[u8], out: &mut K) -> Printed
-    ensures prints { Prints result K.told K.faults K.sure out.old out.new piece.now }
+    requires line { IsLine piece.now }
+    ensures prints { Prints result (account K.told K.faults K.writes K.sure) out.old out.new piece.now }
     ensures takes_no_memory { result ≢ Printed.Memory }
 {
     match out.write(piece) {
@@ -29,10 +30,11 @@ pub(crate) fn print_piece<K: Sink>(piece: &[u8], out: &mut K) -> Printed
     }
 }
 
-/// Writes pieces in order, each by one call of the sink.
+/// Writes lines in order, each by one call of the sink.
 #[tactic(auto, using(crate::proofs::Prints::prints_rules))]
 pub(crate) fn print_pieces<K: Sink>(pieces: &[Vec<u8>], out: &mut K) -> Printed
-    ensures prints { Prints result K.told K.faults K.sure out.old out.new
+    requires lines { AreLines pieces.now }
+    ensures prints { Prints result (account K.told K.faults K.writes K.sure) out.old out.new
         (flat_map (λ p. p.items) pieces.now) }
     ensures takes_no_memory { result ≢ Printed.Memory }
 {
@@ -49,7 +51,7 @@ pub(crate) fn print_pieces<K: Sink>(pieces: &[Vec<u8>], out: &mut K) -> Printed
 /// Writes the lines of l, each by one call of the sink.
 #[tactic(auto, using(crate::proofs::Prints::prints_rules))]
 pub(crate) fn print_line<K: Sink>(alloc: Global, l: &Line, out: &mut K) -> Printed
-    ensures { Prints result K.told K.faults K.sure out.old out.new (line_text l.now) }
+    ensures { Prints result (account K.told K.faults K.writes K.sure) out.old out.new (line_text l.now) }
 {
     match lines_of(alloc, l) {
         Ok(lines) => print_pieces(&lines, out),
@@ -60,7 +62,7 @@ pub(crate) fn print_line<K: Sink>(alloc: Global, l: &Line, out: &mut K) -> Print
 /// Writes lines in order.
 #[tactic(auto, using(crate::proofs::Prints::prints_rules))]
 pub(crate) fn print_lines<K: Sink>(alloc: Global, lines: &[Line], out: &mut K) -> Printed
-    ensures { Prints result K.told K.faults K.sure out.old out.new (flat_map line_text lines.now) }
+    ensures { Prints result (account K.told K.faults K.writes K.sure) out.old out.new (flat_map line_text lines.now) }
 {
     for line in lines {
         match print_line(alloc, line, out) {

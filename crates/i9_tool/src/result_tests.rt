@@ -84,11 +84,7 @@ fn results_and_faults(rt: HostRuntime) -> Result<(), Fail> {
             words,
             printed,
         };
-        assert_eq!(rt;
-            run_case(rt.alloc(), &case, 0)?,
-            (code, true),
-            "of {printed}"
-        );
+        assert_eq!(rt; run_case(rt.alloc(), &case)?, (code, true), "of {printed}");
     }
     Ok(())
 }

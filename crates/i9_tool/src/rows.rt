@@ -1,7 +1,7 @@
 //! Rows for tests: an image and what its run has to print, of which registers that are 0 are left out.
 use crate::laws::i960_in_memory;
-use crate::outside::{MemFiles, MemSink};
 use crate::tests::{SETS, words_of};
+use i9_outside::{MemFiles, MemSink};
 use std::alloc::Global;
 use std::test::*;
 

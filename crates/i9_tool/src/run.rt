@@ -3,13 +3,14 @@ ghost use Rattle.std.specs.Prelude.{◌≡◌, ◌≤◌, []};
 ghost use Rattle.i9_model.specs.Given.{given};
 ghost use Rattle.i9_model.specs.declared.layout.TheConstants.{MAX_LENGTH};
 ghost use Rattle.i9_model.specs.Image.{pairs_of};
+ghost use Rattle.i9_tool.specs.Print.{account};
 ghost use Rattle.i9_tool.specs.Run.{Runs};
 ghost use Rattle.i9_tool.specs.Words.{AreFew};
 
-use crate::outside::Sink;
 use crate::print::{Printed, print_lines};
 use i9_hex::Segments;
 use i9_machine::{End, Machine, Turn};
+use i9_outside::Sink;
 use std::alloc::Global;
 
 /// How running went.
@@ -34,7 +35,7 @@ pub(crate) fn run<K: Sink>(
 ) -> Ran
     requires few { AreFew sets }
     requires short { limit ≤ MAX_LENGTH }
-    ensures { Runs result (given (pairs_of image.now) [] limit sets) K.told K.faults K.sure out.old out.new }
+    ensures { Runs result (given (pairs_of image.now) [] limit sets) (account K.told K.faults K.writes K.sure) out.old out.new }
 {
     let mut machine = match Machine::new(alloc, image, sets, limit) {
         Ok(machine) => machine,

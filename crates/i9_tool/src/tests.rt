@@ -1,6 +1,6 @@
 //! The command over files and a sink in memory, at cases worked out by hand.
-use crate::outside::{MemFiles, MemSink};
 use crate::top::i960;
+use i9_outside::{MemFiles, MemSink};
 use std::alloc::Global;
 use std::test::*;
 
@@ -61,17 +61,22 @@ pub(crate) fn words_of(alloc: Global, line: &str) -> Result<Vec<String>, Fail> {
     Ok(words)
 }
 
-/// The status of a case that is run with enough room and one write that fails, and whether all that
+/// The status of a case whose sink takes so many bytes and fails at one write, the first being 1, and whether all that
 /// was printed is what the case says.
-pub(crate) fn run_case(alloc: Global, case: &Case<'_>, failing: u64) -> Result<(u8, bool), Fail> {
+fn run_with(alloc: Global, case: &Case<'_>, room: u64, failing: u64) -> Result<(u8, bool), Fail> {
     let mut files = MemFiles::new(alloc);
     files.add("a", case.image.as_bytes())?;
     let mut sink = MemSink::new(alloc);
-    sink.room(4096)?;
+    sink.room(room)?;
     sink.fail_at(failing)?;
     let words = words_of(alloc, case.words)?;
     let status = i960(alloc, &words, &mut files, &mut sink);
     Ok((status.code, sink.bytes() == case.printed.as_bytes()))
+}
+
+/// The same with enough room and no write that fails.
+pub(crate) fn run_case(alloc: Global, case: &Case<'_>) -> Result<(u8, bool), Fail> {
+    run_with(alloc, case, 4096, 0)
 }
 
 #[test]
@@ -83,6 +88,7 @@ fn runs_and_refuses(rt: HostRuntime) -> Result<(), Fail> {
         (NOT_BUILT, "run a - - 10", 4, UNBUILT),
         (SMALLEST, "run b - - 10", 5, "#read\n"),
         (SMALLEST, "run a", 1, "#words\n"),
+        (SMALLEST, "run a - - 10000000", 0, PRINTED),
         (SMALLEST, "run a - - 10000001", 1, "#words\n"),
         (SMALLEST, "run a - - 00000000010", 1, "#words\n"),
         (SMALLEST, "run a - - +1", 1, "#words\n"),
@@ -118,19 +124,57 @@ fn runs_and_refuses(rt: HostRuntime) -> Result<(), Fail> {
             words,
             printed,
         };
-        assert_eq!(rt; run_case(rt.alloc(), &case, 0)?, (code, true), "at {words}");
+        assert_eq!(rt; run_case(rt.alloc(), &case)?, (code, true), "at {words}");
+    }
+    Ok(())
+}
+
+/// The first so many lines of a text.
+fn first_lines(text: &str, count: usize) -> &str {
+    let mut left = count;
+    for (place, byte) in text.bytes().enumerate() {
+        if left == 0 {
+            return &text[..place];
+        }
+        if byte == b'\n' {
+            left -= 1;
+        }
+    }
+    text
+}
+
+#[test]
+fn failing_writes_leave_the_lines_before(rt: HostRuntime) -> Result<(), Fail> {
+    for failing in 1..6u64 {
+        let case = Case {
+            image: SMALLEST,
+            words: "run a - - 100",
+            printed: first_lines(PRINTED, failing as usize - 1),
+        };
+        assert_eq!(rt;
+            run_with(rt.alloc(), &case, 4096, failing)?,
+            (6, true),
+            "at {failing}"
+        );
     }
     Ok(())
 }
 
 #[test]
-fn failing_write_leaves_the_lines_before_it(rt: HostRuntime) -> Result<(), Fail> {
-    let case = Case {
-        image: SMALLEST,
-        words: "run a - - 100",
-        printed: "#out 41\n",
-    };
-    assert_eq!(rt; run_case(rt.alloc(), &case, 2)?, (6, true));
+fn a_line_for_which_there_is_no_room_is_not_begun(rt: HostRuntime) -> Result<(), Fail> {
+    // `#out 41` and its line feed are eight bytes, the line of the drained point is forty.
+    for (room, lines) in [(0, 0), (7, 0), (8, 1), (47, 1), (48, 2)] {
+        let case = Case {
+            image: SMALLEST,
+            words: "run a - - 100",
+            printed: first_lines(PRINTED, lines),
+        };
+        assert_eq!(rt;
+            run_with(rt.alloc(), &case, room, 0)?,
+            (6, true),
+            "with {room}"
+        );
+    }
     Ok(())
 }
 

@@ -7,6 +7,7 @@ ghost use Rattle.i9_text.specs.Written.{word_text, byte_text};
 ghost use Rattle.i9_model.specs.PrintedText.{out_text, point_text, drained_text, words_text, spaced, end_text, point_shown, shown_text, line_feed};
 ghost use Rattle.i9_machine.specs.Line.{shown_of};
 ghost use Rattle.i9_hex.specs.Reading.{place_of};
+ghost use Rattle.i9_tool.specs.Print.{IsLine, AreLines};
 
 use i9_hex::HexFault;
 use i9_machine::{End, Line, Point};
@@ -104,8 +105,10 @@ fn end_line(alloc: Global, end: End) -> Result<Vec<u8>, AllocError>
 }
 
 /// The three lines of a drained point.
+#[tactic(auto, using(crate::proofs::LineCounts::line_rules))]
 fn point_lines(alloc: Global, kind: Point, view: &View) -> Result<Vec<Vec<u8>>, AllocError>
-    ensures { IfOk result (λ ts. flat_map (λ t. t.items) ts.items ≡ point_shown kind view.now) }
+    ensures lines { IfOk result (λ ts. AreLines ts.items) }
+    ensures text { IfOk result (λ ts. flat_map (λ t. t.items) ts.items ≡ point_shown kind view.now) }
 {
     let (locals, globals) = view.regs.split_at(16);
     let mut lines = Vec::new(alloc);
@@ -116,8 +119,10 @@ fn point_lines(alloc: Global, kind: Point, view: &View) -> Result<Vec<Vec<u8>>, 
 }
 
 /// What is printed of a line: one text for each call of the sink.
+#[tactic(auto, using(crate::proofs::LineCounts::line_rules))]
 pub(crate) fn lines_of(alloc: Global, line: &Line) -> Result<Vec<Vec<u8>>, AllocError>
-    ensures { IfOk result (λ ts. flat_map (λ t. t.items) ts.items ≡ shown_text (shown_of line.now)) }
+    ensures lines { IfOk result (λ ts. AreLines ts.items) }
+    ensures text { IfOk result (λ ts. flat_map (λ t. t.items) ts.items ≡ shown_text (shown_of line.now)) }
 {
     match line {
         Line::Out(byte) => one(alloc, out_line(alloc, *byte)?),
@@ -128,7 +133,9 @@ pub(crate) fn lines_of(alloc: Global, line: &Line) -> Result<Vec<Vec<u8>>, Alloc
 
 /// One text alone.
 fn one(alloc: Global, text: Vec<u8>) -> Result<Vec<Vec<u8>>, AllocError>
-    ensures { IfOk result (λ ts. flat_map (λ t. t.items) ts.items ≡ text.items) }
+    requires line { IsLine text.items }
+    ensures lines { IfOk result (λ ts. AreLines ts.items) }
+    ensures text { IfOk result (λ ts. flat_map (λ t. t.items) ts.items ≡ text.items) }
 {
     let mut lines = Vec::new(alloc);
     lines.push(text)?;

@@ -6,12 +6,12 @@ ghost use Rattle.i9_model.specs.CommandLine.{read_line};
 ghost use Rattle.i9_tool.specs.Words.{asked_by, AreFew};
 ghost use Rattle.i9_model.specs.declared.run.End.{End};
 ghost use Rattle.i9_model.specs.PrintedText.{end_code};
-ghost use Rattle.i9_tool.specs.declared.outside.traits.TheConstants.{FILE_LIMIT};
-ghost use Rattle.i9_tool.specs.Counts.{Rose};
+ghost use Rattle.i9_outside.specs.declared.traits.TheConstants.{FILE_LIMIT};
+ghost use Rattle.i9_outside.specs.Counts.{one_more, Rose};
 ghost use Rattle.i9_tool.specs.Run.{TellsEnd, printed_of};
-ghost use Rattle.i9_tool.specs.Outcome.{FileGives, Gives, GivesWhole, GivesFront, Answers, Outcomes, asked_for, rose_in, names_of, AnyRose, AllSure, code_for};
+ghost use Rattle.i9_tool.specs.Print.{account, counted_on};
+ghost use Rattle.i9_tool.specs.Outcome.{grew_in, FileGives, Gives, GivesWhole, GivesFront, Answers, Outcomes, asked_for, rose_in, names_of, AnyRose, AllSure, code_for};
 
-use crate::outside::{FILE_LIMIT, Fetch, Files, Sink};
 use crate::print::{Printed, print_piece};
 use crate::run::{Ran, run};
 use crate::status::Status;
@@ -19,6 +19,7 @@ use crate::text::refused_line;
 use crate::words::{RunWords, asked};
 use i9_hex::HexError;
 use i9_machine::End;
+use i9_outside::{FILE_LIMIT, Fetch, Files, Sink};
 use std::alloc::Global;
 
 /// The status for a text that was printed so.
@@ -46,6 +47,7 @@ fn status_of_run(ran: Ran) -> Status
 }
 
 /// Runs the image of a file that was fetched, or says why it is refused.
+#[tactic(auto, using(crate::proofs::LineCounts::line_rules))]
 fn run_file<K: Sink>(
     alloc: Global,
     file: &[u8],
@@ -56,7 +58,7 @@ fn run_file<K: Sink>(
     requires few { AreFew sets }
     requires short { limit ≤ MAX_LENGTH }
     requires sized { length file.now ≤ FILE_LIMIT }
-    ensures { Answers (FileGives file.now sets limit) result.code K.told K.faults K.sure out.old out.new }
+    ensures { Answers (FileGives file.now sets limit) result.code (account K.told K.faults K.writes K.sure) out.old out.new }
 {
     match i9_hex::read(alloc, file) {
         Ok(image) => status_of_run(run(alloc, &image, sets, limit, out)),
@@ -78,7 +80,9 @@ fn run_image<F: Files, K: Sink>(
     requires few { AreFew asked.now.sets }
     requires short { asked.now.limit ≤ MAX_LENGTH }
     ensures answers { Answers (Gives (F.told files.old) (rose_in F.faults files.old files.new) (Some (asked_by asked.now)))
-        result.code K.told K.faults K.sure out.old out.new }
+        result.code (account K.told K.faults K.writes K.sure) out.old out.new }
+    ensures fetched { F.fetches files.new ≡ one_more (F.fetches files.old) }
+    ensures unread { F.faults files.old asked.now.image.now < F.faults files.new asked.now.image.now → (result.code ≡ 5) ⊎ (result.code ≡ 6) }
     ensures read { result.code ≡ 5 → Rose (F.faults files.old asked.now.image.now) (F.faults files.new asked.now.image.now) }
     ensures calm { F.sure files.old asked.now.image.now → (result.code ≢ 5) × ((n : List ℕ) → F.faults files.new n ≡ F.faults files.old n) }
 {
@@ -93,8 +97,11 @@ fn run_image<F: Files, K: Sink>(
 
 /// Does what the words ask for.
 fn work<F: Files, K: Sink>(alloc: Global, words: &Vec<String>, files: &mut F, out: &mut K) -> Status
-    ensures answers { Answers (Outcomes F.told F.faults files.old files.new words.now.items) result.code K.told K.faults K.sure out.old out.new }
+    ensures answers { Answers (Outcomes F.told F.faults files.old files.new words.now.items) result.code (account K.told K.faults K.writes K.sure) out.old out.new }
+    ensures formless { asked_for words.now.items ≡ None → result.code ≢ 7 }
     ensures unfetched { asked_for words.now.items ≡ None → files.new ≡ files.old }
+    ensures fetched { F.fetches files.new ≡ counted_on (F.fetches files.old) (length (names_of (asked_for words.now.items))) }
+    ensures unread { AnyRose (grew_in F.faults files.old files.new) (names_of (asked_for words.now.items)) → (result.code ≡ 5) ⊎ (result.code ≡ 6) }
     ensures read { result.code ≡ 5 → AnyRose (rose_in F.faults files.old files.new) (names_of (asked_for words.now.items)) }
     ensures calm { AllSure (F.sure files.old) (names_of (asked_for words.now.items))
         → (result.code ≢ 5) × ((n : List ℕ) → F.faults files.new n ≡ F.faults files.old n) }
@@ -118,18 +125,25 @@ pub fn i960<F: Files, K: Sink>(
     // Answered are 0 to 2 and 4 to 7.
     ensures known { (result.code < 3) ⊎ ((4 ≤ result.code) × (result.code < 8)) }
 
-    // A status below 6 has its whole text, and both are those that the words and files give.
-    ensures whole { result.code < 6 → GivesWhole (Outcomes F.told F.faults files.old files.new words.now.items) result.code (K.told out.old) (K.told out.new) }
+    // A status below 6 has its whole text, each line of it by one write, and both are those that the words and files give.
+    ensures whole { result.code < 6 → GivesWhole (Outcomes F.told F.faults files.old files.new words.now.items) result.code (account K.told K.faults K.writes K.sure) out.old out.new }
+
+    // Words in no form take no memory.
+    ensures formless { asked_for words.now.items ≡ None → result.code ≢ 7 }
 
     // Where a write failed or memory was refused, a front of such a text was printed.
-    ensures front { 6 ≤ result.code → GivesFront (Outcomes F.told F.faults files.old files.new words.now.items) (K.told out.old) (K.told out.new) }
+    ensures front { 6 ≤ result.code → GivesFront (Outcomes F.told F.faults files.old files.new words.now.items) (account K.told K.faults K.writes K.sure) out.old out.new }
 
-    // A file is fetched only where the words name it, and 5 is answered only where the count of one of these rose.
+    // Each file that the words name is fetched once, and no other; 5 is answered only where the count of one of these rose,
+    // and where it did, 5 is, or 6 where a write failed too.
     ensures unfetched { asked_for words.now.items ≡ None → files.new ≡ files.old }
+    ensures fetched { F.fetches files.new ≡ counted_on (F.fetches files.old) (length (names_of (asked_for words.now.items))) }
+    ensures unread { AnyRose (grew_in F.faults files.old files.new) (names_of (asked_for words.now.items)) → (result.code ≡ 5) ⊎ (result.code ≡ 6) }
     ensures read { result.code ≡ 5 → AnyRose (rose_in F.faults files.old files.new) (names_of (asked_for words.now.items)) }
 
-    // A write failed only where the sink's count rose.
+    // A write failed only where the sink's count rose, and where it did, 6 is answered.
     ensures write { result.code ≡ 6 → Rose (K.faults out.old) (K.faults out.new) }
+    ensures failed { K.faults out.old < K.faults out.new → result.code ≡ 6 }
 
     // Where no fetch and no write can fail, none does.
     ensures calm_files { AllSure (F.sure files.old) (names_of (asked_for words.now.items))
@@ -141,7 +155,7 @@ pub fn i960<F: Files, K: Sink>(
     ensures complete { (AnyRose (rose_in F.faults files.old files.new) (names_of (asked_for words.now.items)) → ⊥)
         → (Rose (K.faults out.old) (K.faults out.new) → ⊥)
         → (result.code ≡ 7) ⊎ ((result.code < 5)
-        × GivesWhole (Outcomes F.told F.faults files.old files.new words.now.items) result.code (K.told out.old) (K.told out.new)) }
+        × GivesWhole (Outcomes F.told F.faults files.old files.new words.now.items) result.code (account K.told K.faults K.writes K.sure) out.old out.new) }
 {
     work(alloc, words, files, out)
 }

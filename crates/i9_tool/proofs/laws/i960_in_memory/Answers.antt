@@ -1,6 +1,6 @@
 use Rattle.std.proofs.Common.{[]}
 use Rattle.i9_tool.specs.Outcome.{names_of, asked_for}
-use Rattle.i9_tool.proofs.Failing.{all_sure}
+use Rattle.i9_outside.proofs.Failing.{all_sure}
 use Rattle.i9_tool.proofs.laws.i960_in_memory.Goals as goal
 
 pub returns-clause-calm_files : goal.returns-clause-calm_files

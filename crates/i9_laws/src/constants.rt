@@ -1,0 +1,35 @@
+//! The constants that definitions and code share, by their values.
+
+ghost use Rattle.std.specs.Prelude.{◌≡◌, ◌∷◌, []};
+ghost use Rattle.i9_model.specs.declared.setup.TheConstants.{CONTROL_WORDS};
+ghost use Rattle.i9_model.specs.declared.layout.TheConstants.{PORT_PAGE, PORT_PAGE_SIZE, CONSOLE, EXIT_WORD, BOOT_BYTES, FIRST_INSTRUCTION, PRCB_POINTER};
+ghost use Rattle.i9_model.specs.declared.layout.TheConstants.{PRCB_SIZE, CONTROL_TABLE_SIZE, CONTROL_GROUP_SIZE, LEAST_SETS, MOST_SETS, MAX_LENGTH};
+ghost use Rattle.i9_model.specs.declared.layout.TheConstants.{BOOT_PC, PC_MASK, AC_MASK, TC_MASK, PRECISE_FAULTS_PLACE, TRACE_ENABLE_PLACE, SUPERVISOR_PLACE};
+ghost use Rattle.i9_model.specs.declared.layout.TheConstants.{LOCAL_RETURN, FAULT_RETURN, SUPERVISOR_RETURN, INTERRUPT_RETURN};
+ghost use Rattle.i9_model.specs.declared.layout.TheConstants.{SUPERVISOR_STACK, SYSTEM_TABLE_ENTRIES, MOST_SYSTEM_CALL, ASKS_SUPERVISOR_PLACE};
+ghost use Rattle.i9_model.specs.declared.layout.TheConstants.{RECORD_SIZE, FRAME_SIZE, LOCALS, PFP, SP, RIP, LINK, FP};
+ghost use Rattle.i9_model.specs.declared.faults.TheConstants.{TRACE, OPERATION, ARITHMETIC, CONSTRAINT, PROTECTION, TYPE};
+ghost use Rattle.i9_model.specs.declared.faults.TheConstants.{INVALID_OPCODE, UNALIGNED, INVALID_OPERAND, OVERFLOW, ZERO_DIVIDE, RANGE, LENGTH, MISMATCH};
+ghost use Rattle.i9_model.specs.declared.faults.TheConstants.{FAULT_ENTRY_SIZE, SYSTEM_ENTRY, TRACE_MASK, NO_HANDLER, NO_SYSTEM_ENTRY, NO_PROCEDURE};
+
+/// The constants that the definitions share with the code have these values, so that a wrong one cannot be wrong on both
+/// sides. After the i960 CA/CF User's Manual: initialisation, registers, controls, calls, faults. The port page with its
+/// two addresses, the most instructions of a run and the codes of a dead entry are this project's own.
+pub fn shared_constants()
+    ensures port_page { (PORT_PAGE ≡ 0xE0000000) × (PORT_PAGE_SIZE ≡ 0x1000) × (CONSOLE ≡ 0xE0000000) × (EXIT_WORD ≡ 0xE0000004) }
+    ensures boot_record { (BOOT_BYTES ≡ 0xFFFFFF00 ∷ 0xFFFFFF04 ∷ 0xFFFFFF08 ∷ 0xFFFFFF0C ∷ [])
+        × (FIRST_INSTRUCTION ≡ 0xFFFFFF10) × (PRCB_POINTER ≡ 0xFFFFFF14) }
+    ensures tables { (PRCB_SIZE ≡ 40) × (CONTROL_TABLE_SIZE ≡ 112) × (CONTROL_GROUP_SIZE ≡ 16) × (CONTROL_WORDS ≡ 28) }
+    ensures limits { (LEAST_SETS ≡ 5) × (MOST_SETS ≡ 15) × (MAX_LENGTH ≡ 10000000) }
+    ensures controls { (BOOT_PC ≡ 0x001F2002) × (PC_MASK ≡ 0x001F2403) × (AC_MASK ≡ 0x9107) × (TC_MASK ≡ 0x0FFE00FE) }
+    ensures places { (PRECISE_FAULTS_PLACE ≡ 15) × (TRACE_ENABLE_PLACE ≡ 0) × (SUPERVISOR_PLACE ≡ 1) }
+    ensures returns { (LOCAL_RETURN ≡ 0) × (FAULT_RETURN ≡ 1) × (SUPERVISOR_RETURN ≡ 2) × (INTERRUPT_RETURN ≡ 7) }
+    ensures system_table { (SUPERVISOR_STACK ≡ 12) × (SYSTEM_TABLE_ENTRIES ≡ 48) × (MOST_SYSTEM_CALL ≡ 259) × (ASKS_SUPERVISOR_PLACE ≡ 1) }
+    ensures frames { (RECORD_SIZE ≡ 16) × (FRAME_SIZE ≡ 64) × (LOCALS ≡ 16) }
+    ensures registers { (PFP ≡ 0) × (SP ≡ 1) × (RIP ≡ 2) × (LINK ≡ 30) × (FP ≡ 31) }
+    ensures fault_types { (TRACE ≡ 1) × (OPERATION ≡ 2) × (ARITHMETIC ≡ 3) × (CONSTRAINT ≡ 5) × (PROTECTION ≡ 7) × (TYPE ≡ 10) }
+    ensures subtypes { (INVALID_OPCODE ≡ 1) × (UNALIGNED ≡ 3) × (INVALID_OPERAND ≡ 4) × (OVERFLOW ≡ 1) × (ZERO_DIVIDE ≡ 2) × (RANGE ≡ 1)
+        × (LENGTH ≡ 2) × (MISMATCH ≡ 1) }
+    ensures fault_table { (FAULT_ENTRY_SIZE ≡ 8) × (SYSTEM_ENTRY ≡ 0x27F) × (TRACE_MASK ≡ 0x401)
+        × (NO_HANDLER ≡ 1) × (NO_SYSTEM_ENTRY ≡ 2) × (NO_PROCEDURE ≡ 3) }
+{}

@@ -1,0 +1,55 @@
+-- Writing a piece by as many writes as it takes.
+use Rattle.std.proofs.Common.{◌≡◌, ℕ, List, [], ◌++◌, length, take, drop, slice_range, Option, Some, None, refl, sym, ◌∙◌, ap, append_assoc, subst, arith}
+use Rattle.std.proofs.lemmas.List.{append-nil, take-append-drop}
+use Rattle.std.proofs.lemmas.Grind.{common_steps}
+use Rattle.std.specs.Io.KnownBytes.{Appends, Keeps}
+use Rattle.i9_outside.specs.Traits.{AppendsFront}
+
+-- a front of the piece was written, and this is its rest
+pub record HasWritten (old new : Option (List ℕ)) (piece rest : List ℕ) : Type 0 where
+  pub front : List ℕ
+  pub parts : front ++ rest ≡ piece
+  pub grows : Appends old new front
+
+pub Appends-nothing : (known : Option (List ℕ)) → Appends known known []
+Appends-nothing None = tt
+Appends-nothing (Some xs) = sym (append-nil xs)
+
+pub Appends-then : (a b c : Option (List ℕ)) (x y : List ℕ) → Appends a b x → Appends b c y → Appends a c (x ++ y)
+Appends-then None b c x y p q = tt
+Appends-then (Some a) None c x y p q = absurd p
+Appends-then (Some a) (Some b) None x y p q = absurd q
+Appends-then (Some a) (Some b) (Some c) x y p q = q ∙ ap (λ bs. bs ++ y) p ∙ append_assoc a x y
+
+Appends-kept : (a b c : Option (List ℕ)) (x : List ℕ) → Appends a b x → Keeps b c → Appends a c x
+Appends-kept None b c x p k = tt
+Appends-kept (Some a) None c x p k = absurd p
+Appends-kept (Some a) (Some b) None x p k = absurd k
+Appends-kept (Some a) (Some b) (Some c) x p k = k ∙ p
+
+take_rest : (n : ℕ) (rest : List ℕ) → slice_range rest n (length rest) ≡ drop n rest
+take_rest n rest = grind (arith, common_steps)
+
+pub written_nothing : (known : Option (List ℕ)) (piece : List ℕ) → HasWritten known known piece piece
+written_nothing known piece = record { front = []; parts = refl; grows = Appends-nothing known }
+
+-- the rest as the code takes it, `&rest[n..]`
+pub written_more : (a b c : Option (List ℕ)) (piece rest : List ℕ) (n : ℕ) → HasWritten a b piece rest → Appends b c (take n rest) → HasWritten a c piece (slice_range rest n (length rest))
+written_more a b c piece rest n w p = record {
+  front = w.front ++ take n rest;
+  parts = append_assoc w.front (take n rest) _ ∙ ap (λ bs. w.front ++ bs) (ap (λ bs. take n rest ++ bs) (take_rest n rest) ∙ take-append-drop n rest) ∙ w.parts;
+  grows = Appends-then a b c w.front (take n rest) w.grows p;
+}
+
+pub written_all : (a b : Option (List ℕ)) (piece : List ℕ) → HasWritten a b piece [] → Appends a b piece
+written_all a b piece w = subst (λ bs. Appends a b bs) (sym (append-nil w.front) ∙ w.parts) w.grows
+
+pub written_front : (a b c : Option (List ℕ)) (piece rest : List ℕ) → HasWritten a b piece rest → Keeps b c → AppendsFront a c piece
+written_front a b c piece rest w k = record { front = w.front; rest = rest; parts = w.parts; grows = Appends-kept a b c w.front w.grows k }
+
+pub written_short : (a b c : Option (List ℕ)) (piece rest : List ℕ) (n : ℕ) → HasWritten a b piece rest → Appends b c (take n rest) → AppendsFront a c piece
+written_short a b c piece rest n w p =
+    let more = written_more a b c piece rest n w p in
+    record { front = more.front; rest = slice_range rest n (length rest); parts = more.parts; grows = more.grows }
+
+pub ruleset writing_rules = (written_nothing, written_more, written_all, written_front, written_short)

@@ -1,0 +1,7 @@
+pub mod Counts
+pub mod Traits
+pub mod Calls
+pub mod MemFiles
+pub mod MemSink
+pub mod RealFiles
+pub mod RealSink

@@ -1,0 +1,78 @@
+-- Each printed line has one line feed.
+use Rattle.std.proofs.Common.{◌≡◌, ℕ, ◌+◌, Bool, true, false, List, [], ◌∷◌, ◌++◌, eqb, codes, refl, ap, ◌∙◌, arith}
+use Rattle.std.specs.List.{flat_map}
+use Rattle.std.specs.Fmt.{decimal}
+use Rattle.std.proofs.lemmas.Bool.{and_parts}
+use Rattle.i9_text.specs.Written.{byte_text}
+use Rattle.i9_text.proofs.WrittenLines.{is_plain_byte, is_plain, plain-append, plain-decimal, plain-word_text, plain-byte_text}
+use Rattle.i9_model.specs.declared.view.View.{View}
+use Rattle.i9_model.specs.declared.run.Point.{Point}
+use Rattle.i9_model.specs.declared.run.Point.TheVariants as points
+use Rattle.i9_model.specs.declared.run.End.{End}
+use Rattle.i9_model.specs.declared.run.End.TheVariants.{Exit, Limit, Hazard, Dead, Unbuilt}
+use Rattle.i9_model.specs.PrintedText.{out_text, spaced, words_text, drained_text, point_text, end_text}
+use Rattle.i9_model.specs.CommandLine.{refused_line}
+use Rattle.i9_tool.specs.Print.{line_count, IsLine}
+use Rattle.i9_tool.proofs.Prints.{line_count-append}
+
+not_feed : (b : ℕ) → is_plain_byte b ≡ true → eqb b 10 ≡ false
+not_feed b h = grind (arith)
+
+no_feeds : (xs : List ℕ) → is_plain xs ≡ true → line_count xs ≡ 0
+no_feeds [] h = refl
+no_feeds (b ∷ xs) h =
+    let p = and_parts (is_plain_byte b) (is_plain xs) h in
+    rw (not_feed b p.0) (no_feeds xs p.1)
+
+-- a plain text in front adds no line
+after_plain : (xs ys : List ℕ) → is_plain xs ≡ true → line_count (xs ++ ys) ≡ line_count ys
+after_plain xs ys h = omega (arith, line_count-append xs ys, no_feeds xs h)
+
+plain_words : (ws : List ℕ) → is_plain (flat_map spaced ws) ≡ true
+plain_words [] = refl
+plain_words (w ∷ ws) = plain-append (spaced w) (flat_map spaced ws) (plain-word_text w) (plain_words ws)
+
+pub line-words : (label ws : List ℕ) → is_plain label ≡ true → IsLine (words_text label ws)
+unfolding words_text
+line-words label ws h = after_plain (label ++ flat_map spaced ws) (10 ∷ []) (plain-append label (flat_map spaced ws) h (plain_words ws))
+
+pub line-out : (b : ℕ) → IsLine (out_text b)
+unfolding out_text
+line-out b = after_plain (codes "#out ") (byte_text b ++ 10 ∷ []) refl ∙ after_plain (byte_text b) (10 ∷ []) (plain-byte_text b)
+
+plain_drained : (k : Point) → is_plain (drained_text k) ≡ true
+plain_drained points.Flush = refl
+plain_drained points.Sync = refl
+plain_drained points.Fault = refl
+plain_drained points.End = refl
+
+pub line-point : (k : Point) (v : View) → IsLine (point_text k v)
+unfolding point_text
+line-point k v =
+    let counted = plain-append (codes "#point ") (decimal v.count) refl (plain-decimal v.count) in
+    let label = plain-append (codes "#point " ++ decimal v.count ++ codes " ") (drained_text k) (plain-append (codes "#point " ++ decimal v.count) (codes " ") counted refl) (plain_drained k) in
+    line-words (codes "#point " ++ decimal v.count ++ codes " " ++ drained_text k) (v.ip ∷ v.ac ∷ v.pc ∷ []) label
+
+pub line-end : (f : End) → IsLine (end_text f)
+unfolding end_text
+line-end (Exit w) = line-words (codes "#end exit") (w ∷ []) refl
+line-end Limit = refl
+line-end (Hazard a) = line-words (codes "#end hazard") (a ∷ []) refl
+line-end (Dead code a) = line-words (codes "#end dead " ++ decimal code) (a ∷ []) (plain-append (codes "#end dead ") (decimal code) refl (plain-decimal code))
+line-end (Unbuilt a) = line-words (codes "#end unbuilt") (a ∷ []) refl
+
+pub line-globals : (ws : List ℕ) → IsLine (words_text (codes "#g") ws)
+line-globals ws = line-words (codes "#g") ws refl
+
+pub line-locals : (ws : List ℕ) → IsLine (words_text (codes "#l") ws)
+line-locals ws = line-words (codes "#l") ws refl
+
+pub line-refused : (fault : ℕ × ℕ) → IsLine (refused_line fault)
+unfolding refused_line
+line-refused fault =
+    let line = plain-append (codes "#image line ") (decimal fault.0) refl (plain-decimal fault.0) in
+    let kind = plain-append (codes "#image line " ++ decimal fault.0) (codes " kind ") line refl in
+    after_plain (codes "#image line " ++ decimal fault.0 ++ codes " kind " ++ decimal fault.1) (10 ∷ [])
+    (plain-append (codes "#image line " ++ decimal fault.0 ++ codes " kind ") (decimal fault.1) kind (plain-decimal fault.1))
+
+pub ruleset line_rules = (line-out, line-point, line-end, line-globals, line-locals, line-refused)

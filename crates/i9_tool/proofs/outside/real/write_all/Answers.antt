@@ -1,5 +1,0 @@
-use Rattle.i9_tool.proofs.Writing.{written_more}
-use Rattle.i9_tool.proofs.outside.real.write_all.Goals as goal
-
-pub loop-rest-preserved : goal.loop-rest-preserved
-loop-rest-preserved g c = written_more _ _ _ _ _ _ c.loop-rest.invariant c.in-Ok.ensures.bytes
