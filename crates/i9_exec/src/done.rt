@@ -73,7 +73,8 @@ pub fn three_words(source: &[u32; 4], ac: u32) -> Done
 
 /// The four words of a source.
 pub fn four_words(source: &[u32; 4], ac: u32) -> Done
-    ensures { answer_of result ≡ words (slice_index source.now 0 ∷ slice_index source.now 1 ∷ slice_index source.now 2 ∷ slice_index source.now 3 ∷ []) ac }
+    ensures { answer_of result ≡ words (slice_index source.now 0 ∷ slice_index source.now 1
+        ∷ slice_index source.now 2 ∷ slice_index source.now 3 ∷ []) ac }
 {
     let mut values = ArrayVec::new();
     values.push(source[0]);

@@ -17,7 +17,7 @@ use crate::signed::{
     add, add_with_carry, divide, long_divide, long_product, modulo, multiply, remainder,
     shift_multiplying, subtract,
 };
-use i9_isa::{Format, Inst, Op, Use, row};
+use i9_isa::{Inst, Op};
 use i9_model::Arith;
 
 /// Whether `compute` has the results of a name: those of the register format but for the ones that work on
@@ -26,16 +26,18 @@ pub fn has_result(op: Op) -> bool
     ensures { result ≡ has_result op }
 {
     match op {
-        Op::Atadd | Op::Atmod | Op::Modac | Op::Modtc | Op::Modpc | Op::Sdma | Op::Udma => false,
-        Op::Sysctl | Op::Calls | Op::Mark | Op::Fmark | Op::Flushreg | Op::Syncf => false,
-        _ => {
-            let row = row(op);
-            match row.format {
-                Format::Reg => true,
-                Format::Cobr => matches!(row.a, Use::Load(1)),
-                _ => false,
-            }
-        }
+        Op::And | Op::Or | Op::Xor | Op::Nor | Op::Xnor | Op::Nand => true,
+        Op::Andnot | Op::Notand | Op::Ornot | Op::Notor | Op::Not | Op::Modify => true,
+        Op::Mov | Op::Movl | Op::Movt | Op::Movq | Op::Setbit | Op::Clrbit => true,
+        Op::Notbit | Op::Alterbit | Op::Chkbit | Op::Addo | Op::Subo | Op::Mulo => true,
+        Op::Addi | Op::Subi | Op::Muli | Op::Addc | Op::Subc | Op::Emul => true,
+        Op::Divo | Op::Remo | Op::Divi | Op::Remi | Op::Modi | Op::Ediv => true,
+        Op::Shro | Op::Shlo | Op::Shri | Op::Shrdi | Op::Shli | Op::Rotate => true,
+        Op::Extract | Op::Cmpo | Op::Cmpi | Op::Cmpinco | Op::Cmpinci | Op::Cmpdeco => true,
+        Op::Cmpdeci | Op::Concmpo | Op::Concmpi | Op::Scanbyte | Op::Spanbit | Op::Scanbit => true,
+        Op::Testno | Op::Testg | Op::Teste | Op::Testge | Op::Testl | Op::Testne => true,
+        Op::Testle | Op::Testo => true,
+        _ => false,
     }
 }
 

@@ -75,106 +75,281 @@ fn names_with_results(rt: HostRuntime) -> Result<(), Fail> {
     Ok(())
 }
 
-#[test]
-fn bits_of_words(rt: HostRuntime) -> Result<(), Fail> {
-    // src1 and src2 have the bits 1100 and 1010 in each place of four.
-    let table = [
-        (Op::And, 0x8888_8888),
-        (Op::Or, 0xEEEE_EEEE),
-        (Op::Xor, 0x6666_6666),
-        (Op::Nor, 0x1111_1111),
-        (Op::Xnor, 0x9999_9999),
-        (Op::Nand, 0x7777_7777),
-        (Op::Andnot, 0x2222_2222),
-        (Op::Notand, 0x4444_4444),
-        (Op::Ornot, 0xBBBB_BBBB),
-        (Op::Notor, 0xDDDD_DDDD),
-        (Op::Not, 0x3333_3333),
-        (Op::Mov, 0xCCCC_CCCC),
-    ];
-    for (op, word) in table {
-        let done = result(op, 0xCCCC_CCCC, 0xAAAA_AAAA, 0, MASKED)?;
-        assert_eq!(rt; done.values.as_slice(), &[word][..]);
-        assert_eq!(rt; done.ac, MASKED);
-        assert_eq!(rt; done.fault, None);
-    }
-    Ok(())
-}
+/// Results of one word: name, src1, src2, the old src/dst, the condition code before; the word, and the
+/// condition code after. The rows of the logic have the bits 1100 and 1010 in each place of four.
+const WORDS: [(Op, u32, u32, u32, u32, u32, u32); 96] = [
+    (
+        Op::And,
+        0xCCCC_CCCC,
+        0xAAAA_AAAA,
+        0,
+        0b101,
+        0x8888_8888,
+        0b101,
+    ),
+    (
+        Op::Or,
+        0xCCCC_CCCC,
+        0xAAAA_AAAA,
+        0,
+        0b101,
+        0xEEEE_EEEE,
+        0b101,
+    ),
+    (
+        Op::Xor,
+        0xCCCC_CCCC,
+        0xAAAA_AAAA,
+        0,
+        0b101,
+        0x6666_6666,
+        0b101,
+    ),
+    (
+        Op::Nor,
+        0xCCCC_CCCC,
+        0xAAAA_AAAA,
+        0,
+        0b101,
+        0x1111_1111,
+        0b101,
+    ),
+    (
+        Op::Xnor,
+        0xCCCC_CCCC,
+        0xAAAA_AAAA,
+        0,
+        0b101,
+        0x9999_9999,
+        0b101,
+    ),
+    (
+        Op::Nand,
+        0xCCCC_CCCC,
+        0xAAAA_AAAA,
+        0,
+        0b101,
+        0x7777_7777,
+        0b101,
+    ),
+    (
+        Op::Andnot,
+        0xCCCC_CCCC,
+        0xAAAA_AAAA,
+        0,
+        0b101,
+        0x2222_2222,
+        0b101,
+    ),
+    (
+        Op::Notand,
+        0xCCCC_CCCC,
+        0xAAAA_AAAA,
+        0,
+        0b101,
+        0x4444_4444,
+        0b101,
+    ),
+    (
+        Op::Ornot,
+        0xCCCC_CCCC,
+        0xAAAA_AAAA,
+        0,
+        0b101,
+        0xBBBB_BBBB,
+        0b101,
+    ),
+    (
+        Op::Notor,
+        0xCCCC_CCCC,
+        0xAAAA_AAAA,
+        0,
+        0b101,
+        0xDDDD_DDDD,
+        0b101,
+    ),
+    (
+        Op::Not,
+        0xCCCC_CCCC,
+        0xAAAA_AAAA,
+        0,
+        0b101,
+        0x3333_3333,
+        0b101,
+    ),
+    (
+        Op::Mov,
+        0xCCCC_CCCC,
+        0xAAAA_AAAA,
+        0,
+        0b101,
+        0xCCCC_CCCC,
+        0b101,
+    ),
+    (
+        Op::Modify,
+        0x0000_FFFF,
+        0x1234_5678,
+        0x9ABC_DEF0,
+        0b101,
+        0x9ABC_5678,
+        0b101,
+    ),
+    (Op::Setbit, 33, 0, 0, 0b101, 2, 0b101),
+    (Op::Clrbit, 63, 0xFFFF_FFFF, 0, 0b101, 0x7FFF_FFFF, 0b101),
+    (Op::Notbit, 32, 1, 0, 0b101, 0, 0b101),
+    (Op::Notbit, 0xFFFF_FFFF, 1, 0, 0b101, 0x8000_0001, 0b101),
+    (Op::Addo, 1, 0xFFFF_FFFF, 0, 0b101, 0, 0b101),
+    (Op::Subo, 1, 0, 0, 0b101, 0xFFFF_FFFF, 0b101),
+    (
+        Op::Mulo,
+        0x0001_0000,
+        0x0001_0001,
+        0,
+        0b101,
+        0x0001_0000,
+        0b101,
+    ),
+    (Op::Divo, 3, 0xFFFF_FFFF, 0, 0b101, 0x5555_5555, 0b101),
+    (Op::Remo, 16, 0xFFFF_FFFF, 0, 0b101, 15, 0b101),
+    (Op::Remi, 0xFFFF_FFFF, 0x8000_0000, 0, 0b101, 0, 0b101),
+    (Op::Remi, 3, 0xFFFF_FFF9, 0, 0b101, 0xFFFF_FFFF, 0b101),
+    (Op::Remi, 0xFFFF_FFFD, 7, 0, 0b101, 1, 0b101),
+    (Op::Modi, 0xFFFF_FFFF, 0x8000_0000, 0, 0b101, 0, 0b101),
+    (Op::Modi, 3, 0xFFFF_FFF9, 0, 0b101, 2, 0b101),
+    (Op::Modi, 0xFFFF_FFFD, 7, 0, 0b101, 0xFFFF_FFFE, 0b101),
+    (
+        Op::Modi,
+        0xFFFF_FFFD,
+        0xFFFF_FFF9,
+        0,
+        0b101,
+        0xFFFF_FFFF,
+        0b101,
+    ),
+    (Op::Modi, 3, 0xFFFF_FFFA, 0, 0b101, 0, 0b101),
+    (Op::Shro, 31, 0x8000_0000, 0, 0b101, 1, 0b101),
+    (Op::Shro, 32, 0x8000_0000, 0, 0b101, 0, 0b101),
+    (Op::Shro, 33, 0x8000_0000, 0, 0b101, 0, 0b101),
+    (Op::Shlo, 31, 3, 0, 0b101, 0x8000_0000, 0b101),
+    (Op::Shlo, 32, 3, 0, 0b101, 0, 0b101),
+    (Op::Shlo, 33, 3, 0, 0b101, 0, 0b101),
+    (Op::Shri, 1, 0xFFFF_FFF9, 0, 0b101, 0xFFFF_FFFC, 0b101),
+    (Op::Shri, 31, 0x8000_0000, 0, 0b101, 0xFFFF_FFFF, 0b101),
+    (Op::Shri, 32, 0x8000_0000, 0, 0b101, 0xFFFF_FFFF, 0b101),
+    (Op::Shri, 33, 0x7FFF_FFFF, 0, 0b101, 0, 0b101),
+    (Op::Shrdi, 1, 0xFFFF_FFF9, 0, 0b101, 0xFFFF_FFFD, 0b101),
+    (Op::Shrdi, 1, 0xFFFF_FFFF, 0, 0b101, 0, 0b101),
+    (Op::Shrdi, 31, 0x8000_0000, 0, 0b101, 0xFFFF_FFFF, 0b101),
+    (Op::Shrdi, 32, 0x8000_0000, 0, 0b101, 0, 0b101),
+    (Op::Shrdi, 33, 0x8000_0000, 0, 0b101, 0, 0b101),
+    (Op::Rotate, 0, 0x8000_0001, 0, 0b101, 0x8000_0001, 0b101),
+    (Op::Rotate, 1, 0x8000_0001, 0, 0b101, 0x0000_0003, 0b101),
+    (Op::Rotate, 32, 0x8000_0001, 0, 0b101, 0x8000_0001, 0b101),
+    (Op::Rotate, 33, 0x8000_0001, 0, 0b101, 0x0000_0003, 0b101),
+    (Op::Extract, 4, 8, 0x1234_5678, 0b101, 0x67, 0b101),
+    (Op::Extract, 0, 32, 0x1234_5678, 0b101, 0x1234_5678, 0b101),
+    (Op::Extract, 4, 33, 0x1234_5678, 0b101, 0x0123_4567, 0b101),
+    (Op::Extract, 4, 0, 0x1234_5678, 0b101, 0, 0b101),
+    (Op::Extract, 31, 1, 0x8000_0000, 0b101, 1, 0b101),
+    (Op::Extract, 32, 8, 0x1234_5678, 0b101, 0, 0b101),
+    (Op::Extract, 33, 40, 0x1234_5678, 0b101, 0, 0b101),
+    (Op::Cmpinco, 0xFFFF_FFFF, 0xFFFF_FFFF, 0, 0b000, 0, 0b010),
+    (Op::Cmpinci, 0, 0x7FFF_FFFF, 0, 0b000, 0x8000_0000, 0b100),
+    (Op::Cmpdeco, 1, 0, 0, 0b000, 0xFFFF_FFFF, 0b001),
+    (Op::Cmpdeci, 0, 0x8000_0000, 0, 0b000, 0x7FFF_FFFF, 0b001),
+    (Op::Addc, 1, 0xFFFF_FFFF, 0, 0b000, 0, 0b010),
+    (
+        Op::Addc,
+        0xFFFF_FFFF,
+        0xFFFF_FFFF,
+        0,
+        0b010,
+        0xFFFF_FFFF,
+        0b010,
+    ),
+    (Op::Addc, 1, 0x7FFF_FFFF, 0, 0b101, 0x8000_0000, 0b001),
+    (Op::Addc, 0, 0x7FFF_FFFF, 0, 0b010, 0x8000_0000, 0b001),
+    (Op::Addc, 0x8000_0000, 0x8000_0000, 0, 0b000, 0, 0b011),
+    (Op::Addc, 0, 0, 0, 0b111, 1, 0b000),
+    (Op::Subc, 1, 0, 0, 0b010, 0xFFFF_FFFF, 0b000),
+    (Op::Subc, 1, 0, 0, 0b101, 0xFFFF_FFFE, 0b000),
+    (Op::Subc, 1, 1, 0, 0b010, 0, 0b010),
+    (Op::Subc, 1, 0x8000_0000, 0, 0b010, 0x7FFF_FFFF, 0b011),
+    (
+        Op::Subc,
+        0xFFFF_FFFF,
+        0x7FFF_FFFF,
+        0,
+        0b010,
+        0x8000_0000,
+        0b001,
+    ),
+    (Op::Scanbit, 0, 0, 0, 0b111, 0xFFFF_FFFF, 0b000),
+    (Op::Scanbit, 1, 0, 0, 0b000, 0, 0b010),
+    (Op::Scanbit, 0x0000_0A00, 0, 0, 0b000, 11, 0b010),
+    (Op::Scanbit, 0xFFFF_FFFF, 0, 0, 0b000, 31, 0b010),
+    (Op::Spanbit, 0xFFFF_FFFF, 0, 0, 0b111, 0xFFFF_FFFF, 0b000),
+    (Op::Spanbit, 0xFFFF_FFFE, 0, 0, 0b000, 0, 0b010),
+    (Op::Spanbit, 0, 0, 0, 0b000, 31, 0b010),
+    (Op::Alterbit, 35, 0, 0, 0b010, 8, 0b010),
+    (Op::Alterbit, 35, 0xF, 0, 0b101, 7, 0b101),
+    (Op::Testno, 0, 0, 0, 0b000, 1, 0b000),
+    (Op::Testno, 0, 0, 0, 0b001, 0, 0b001),
+    (Op::Testg, 0, 0, 0, 0b001, 1, 0b001),
+    (Op::Testg, 0, 0, 0, 0b110, 0, 0b110),
+    (Op::Teste, 0, 0, 0, 0b010, 1, 0b010),
+    (Op::Teste, 0, 0, 0, 0b101, 0, 0b101),
+    (Op::Testge, 0, 0, 0, 0b001, 1, 0b001),
+    (Op::Testge, 0, 0, 0, 0b100, 0, 0b100),
+    (Op::Testl, 0, 0, 0, 0b100, 1, 0b100),
+    (Op::Testl, 0, 0, 0, 0b011, 0, 0b011),
+    (Op::Testne, 0, 0, 0, 0b100, 1, 0b100),
+    (Op::Testne, 0, 0, 0, 0b010, 0, 0b010),
+    (Op::Testle, 0, 0, 0, 0b010, 1, 0b010),
+    (Op::Testle, 0, 0, 0, 0b001, 0, 0b001),
+    (Op::Testo, 0, 0, 0, 0b001, 1, 0b001),
+    (Op::Testo, 0, 0, 0, 0b000, 0, 0b000),
+];
+
+/// Condition codes alone: name, src1, src2, the condition code before and after.
+const CODES: [(Op, u32, u32, u32, u32); 20] = [
+    (Op::Cmpo, 1, 0xFFFF_FFFF, 0b000, 0b100),
+    (Op::Cmpo, 5, 5, 0b111, 0b010),
+    (Op::Cmpo, 0x8000_0000, 0x7FFF_FFFF, 0b000, 0b001),
+    (Op::Cmpi, 1, 0xFFFF_FFFF, 0b000, 0b001),
+    (Op::Cmpi, 5, 5, 0b111, 0b010),
+    (Op::Cmpi, 0x8000_0000, 0x7FFF_FFFF, 0b000, 0b100),
+    (Op::Concmpo, 3, 3, 0b000, 0b010),
+    (Op::Concmpo, 4, 3, 0b010, 0b001),
+    (Op::Concmpo, 3, 3, 0b100, 0b100),
+    (Op::Concmpo, 4, 3, 0b111, 0b111),
+    (Op::Concmpi, 0xFFFF_FFFF, 0, 0b001, 0b010),
+    (Op::Concmpi, 0, 0xFFFF_FFFF, 0b011, 0b001),
+    (Op::Concmpi, 0, 0, 0b101, 0b101),
+    (Op::Scanbyte, 0x1234_5678, 0x0034_0000, 0b100, 0b010),
+    (Op::Scanbyte, 0x1234_5678, 0x1200_0000, 0b000, 0b010),
+    (Op::Scanbyte, 0x1234_5678, 0x0000_5600, 0b000, 0b010),
+    (Op::Scanbyte, 0x1234_5678, 0x0000_0078, 0b000, 0b010),
+    (Op::Scanbyte, 0x1234_5678, 0x3412_7856, 0b111, 0b000),
+    (Op::Chkbit, 33, 0x0000_0002, 0b101, 0b010),
+    (Op::Chkbit, 33, 0xFFFF_FFFD, 0b111, 0b000),
+];
 
 #[test]
-fn words_without_a_code(rt: HostRuntime) -> Result<(), Fail> {
-    // Name, src1, src2, the old src/dst, the new one.
-    let table = [
-        (
-            Op::Modify,
-            0x0000_FFFF,
-            0x1234_5678,
-            0x9ABC_DEF0,
-            0x9ABC_5678,
-        ),
-        (Op::Setbit, 33, 0, 0, 2),
-        (Op::Clrbit, 63, 0xFFFF_FFFF, 0, 0x7FFF_FFFF),
-        (Op::Notbit, 32, 1, 0, 0),
-        (Op::Notbit, 0xFFFF_FFFF, 1, 0, 0x8000_0001),
-        (Op::Addo, 1, 0xFFFF_FFFF, 0, 0),
-        (Op::Subo, 1, 0, 0, 0xFFFF_FFFF),
-        (Op::Mulo, 0x0001_0000, 0x0001_0001, 0, 0x0001_0000),
-        (Op::Divo, 3, 0xFFFF_FFFF, 0, 0x5555_5555),
-        (Op::Remo, 16, 0xFFFF_FFFF, 0, 15),
-        (Op::Remi, 0xFFFF_FFFF, 0x8000_0000, 0, 0),
-        (Op::Remi, 3, 0xFFFF_FFF9, 0, 0xFFFF_FFFF),
-        (Op::Remi, 0xFFFF_FFFD, 7, 0, 1),
-        (Op::Modi, 0xFFFF_FFFF, 0x8000_0000, 0, 0),
-        (Op::Modi, 3, 0xFFFF_FFF9, 0, 2),
-        (Op::Modi, 0xFFFF_FFFD, 7, 0, 0xFFFF_FFFE),
-        (Op::Modi, 0xFFFF_FFFD, 0xFFFF_FFF9, 0, 0xFFFF_FFFF),
-        (Op::Modi, 3, 0xFFFF_FFFA, 0, 0),
-    ];
-    for (op, a, b, c, word) in table {
-        let done = result(op, a, b, c, MASKED)?;
-        assert_eq!(rt; done.values.as_slice(), &[word][..]);
-        assert_eq!(rt; done.ac, MASKED);
-        assert_eq!(rt; done.fault, None);
-    }
-    Ok(())
-}
-
-#[test]
-fn shifted_words(rt: HostRuntime) -> Result<(), Fail> {
-    // Name, src1, src2, the old src/dst, the new one.
-    let table = [
-        (Op::Shro, 31, 0x8000_0000, 0, 1),
-        (Op::Shro, 32, 0x8000_0000, 0, 0),
-        (Op::Shro, 33, 0x8000_0000, 0, 0),
-        (Op::Shlo, 31, 3, 0, 0x8000_0000),
-        (Op::Shlo, 32, 3, 0, 0),
-        (Op::Shlo, 33, 3, 0, 0),
-        (Op::Shri, 1, 0xFFFF_FFF9, 0, 0xFFFF_FFFC),
-        (Op::Shri, 31, 0x8000_0000, 0, 0xFFFF_FFFF),
-        (Op::Shri, 32, 0x8000_0000, 0, 0xFFFF_FFFF),
-        (Op::Shri, 33, 0x7FFF_FFFF, 0, 0),
-        (Op::Shrdi, 1, 0xFFFF_FFF9, 0, 0xFFFF_FFFD),
-        (Op::Shrdi, 1, 0xFFFF_FFFF, 0, 0),
-        (Op::Shrdi, 31, 0x8000_0000, 0, 0xFFFF_FFFF),
-        (Op::Shrdi, 32, 0x8000_0000, 0, 0),
-        (Op::Shrdi, 33, 0x8000_0000, 0, 0),
-        (Op::Rotate, 0, 0x8000_0001, 0, 0x8000_0001),
-        (Op::Rotate, 1, 0x8000_0001, 0, 0x0000_0003),
-        (Op::Rotate, 32, 0x8000_0001, 0, 0x8000_0001),
-        (Op::Rotate, 33, 0x8000_0001, 0, 0x0000_0003),
-        (Op::Extract, 4, 8, 0x1234_5678, 0x67),
-        (Op::Extract, 0, 32, 0x1234_5678, 0x1234_5678),
-        (Op::Extract, 4, 33, 0x1234_5678, 0x0123_4567),
-        (Op::Extract, 4, 0, 0x1234_5678, 0),
-        (Op::Extract, 31, 1, 0x8000_0000, 1),
-        (Op::Extract, 32, 8, 0x1234_5678, 0),
-        (Op::Extract, 33, 40, 0x1234_5678, 0),
-    ];
-    for (op, a, b, c, word) in table {
-        let done = result(op, a, b, c, UNMASKED)?;
-        assert_eq!(rt; done.values.as_slice(), &[word][..]);
-        assert_eq!(rt; done.ac, UNMASKED);
-        assert_eq!(rt; done.fault, None);
+fn words_and_codes(rt: HostRuntime) -> Result<(), Fail> {
+    // The overflow mask does not count.
+    for controls in [CLEAR, CLEAR | 0x1000] {
+        for (op, a, b, c, before, word, after) in WORDS {
+            let done = result(op, a, b, c, controls | before)?;
+            assert_eq!(rt; done.values.as_slice(), &[word][..]);
+            assert_eq!(rt; (done.ac, done.fault), (controls | after, None));
+        }
+        for (op, a, b, before, after) in CODES {
+            let done = result(op, a, b, 0, controls | before)?;
+            assert!(rt; done.values.is_empty());
+            assert_eq!(rt; (done.ac, done.fault), (controls | after, None));
+        }
     }
     Ok(())
 }
@@ -232,122 +407,6 @@ fn zero_divides(rt: HostRuntime) -> Result<(), Fail> {
             assert_eq!(rt; done.ac, ac);
             assert_eq!(rt; done.fault, Some(Arith::ZeroDivide));
         }
-    }
-    Ok(())
-}
-
-#[test]
-fn codes_alone(rt: HostRuntime) -> Result<(), Fail> {
-    // Name, src1, src2, the condition code before and after.
-    let table = [
-        (Op::Cmpo, 1, 0xFFFF_FFFF, 0b000, 0b100),
-        (Op::Cmpo, 5, 5, 0b111, 0b010),
-        (Op::Cmpo, 0x8000_0000, 0x7FFF_FFFF, 0b000, 0b001),
-        (Op::Cmpi, 1, 0xFFFF_FFFF, 0b000, 0b001),
-        (Op::Cmpi, 5, 5, 0b111, 0b010),
-        (Op::Cmpi, 0x8000_0000, 0x7FFF_FFFF, 0b000, 0b100),
-        (Op::Concmpo, 3, 3, 0b000, 0b010),
-        (Op::Concmpo, 4, 3, 0b010, 0b001),
-        (Op::Concmpo, 3, 3, 0b100, 0b100),
-        (Op::Concmpo, 4, 3, 0b111, 0b111),
-        (Op::Concmpi, 0xFFFF_FFFF, 0, 0b001, 0b010),
-        (Op::Concmpi, 0, 0xFFFF_FFFF, 0b011, 0b001),
-        (Op::Concmpi, 0, 0, 0b101, 0b101),
-        (Op::Scanbyte, 0x1234_5678, 0x0034_0000, 0b100, 0b010),
-        (Op::Scanbyte, 0x1234_5678, 0x1200_0000, 0b000, 0b010),
-        (Op::Scanbyte, 0x1234_5678, 0x0000_5600, 0b000, 0b010),
-        (Op::Scanbyte, 0x1234_5678, 0x0000_0078, 0b000, 0b010),
-        (Op::Scanbyte, 0x1234_5678, 0x3412_7856, 0b111, 0b000),
-        (Op::Chkbit, 33, 0x0000_0002, 0b101, 0b010),
-        (Op::Chkbit, 33, 0xFFFF_FFFD, 0b111, 0b000),
-    ];
-    for (op, a, b, before, after) in table {
-        let done = result(op, a, b, 0, CLEAR | before)?;
-        assert!(rt; done.values.is_empty());
-        assert_eq!(rt; done.ac, CLEAR | after);
-        assert_eq!(rt; done.fault, None);
-    }
-    Ok(())
-}
-
-#[test]
-fn words_and_codes(rt: HostRuntime) -> Result<(), Fail> {
-    // Name, src1, src2, the condition code before; the word, the condition code after.
-    let table = [
-        (Op::Cmpinco, 0xFFFF_FFFF, 0xFFFF_FFFF, 0b000, 0, 0b010),
-        (Op::Cmpinci, 0, 0x7FFF_FFFF, 0b000, 0x8000_0000, 0b100),
-        (Op::Cmpdeco, 1, 0, 0b000, 0xFFFF_FFFF, 0b001),
-        (Op::Cmpdeci, 0, 0x8000_0000, 0b000, 0x7FFF_FFFF, 0b001),
-        (Op::Addc, 1, 0xFFFF_FFFF, 0b000, 0, 0b010),
-        (
-            Op::Addc,
-            0xFFFF_FFFF,
-            0xFFFF_FFFF,
-            0b010,
-            0xFFFF_FFFF,
-            0b010,
-        ),
-        (Op::Addc, 1, 0x7FFF_FFFF, 0b101, 0x8000_0000, 0b001),
-        (Op::Addc, 0, 0x7FFF_FFFF, 0b010, 0x8000_0000, 0b001),
-        (Op::Addc, 0x8000_0000, 0x8000_0000, 0b000, 0, 0b011),
-        (Op::Addc, 0, 0, 0b111, 1, 0b000),
-        (Op::Subc, 1, 0, 0b010, 0xFFFF_FFFF, 0b000),
-        (Op::Subc, 1, 0, 0b101, 0xFFFF_FFFE, 0b000),
-        (Op::Subc, 1, 1, 0b010, 0, 0b010),
-        (Op::Subc, 1, 0x8000_0000, 0b010, 0x7FFF_FFFF, 0b011),
-        (
-            Op::Subc,
-            0xFFFF_FFFF,
-            0x7FFF_FFFF,
-            0b010,
-            0x8000_0000,
-            0b001,
-        ),
-        (Op::Scanbit, 0, 0, 0b111, 0xFFFF_FFFF, 0b000),
-        (Op::Scanbit, 1, 0, 0b000, 0, 0b010),
-        (Op::Scanbit, 0x0000_0A00, 0, 0b000, 11, 0b010),
-        (Op::Scanbit, 0xFFFF_FFFF, 0, 0b000, 31, 0b010),
-        (Op::Spanbit, 0xFFFF_FFFF, 0, 0b111, 0xFFFF_FFFF, 0b000),
-        (Op::Spanbit, 0xFFFF_FFFE, 0, 0b000, 0, 0b010),
-        (Op::Spanbit, 0, 0, 0b000, 31, 0b010),
-        (Op::Alterbit, 35, 0, 0b010, 8, 0b010),
-        (Op::Alterbit, 35, 0xF, 0b101, 7, 0b101),
-    ];
-    for (op, a, b, before, word, after) in table {
-        let done = result(op, a, b, 0, CLEAR | before)?;
-        assert_eq!(rt; done.values.as_slice(), &[word][..]);
-        assert_eq!(rt; done.ac, CLEAR | after);
-        assert_eq!(rt; done.fault, None);
-    }
-    Ok(())
-}
-
-#[test]
-fn tests_of_the_code(rt: HostRuntime) -> Result<(), Fail> {
-    // Name, the condition code, the word.
-    let table = [
-        (Op::Testno, 0b000, 1),
-        (Op::Testno, 0b001, 0),
-        (Op::Testg, 0b001, 1),
-        (Op::Testg, 0b110, 0),
-        (Op::Teste, 0b010, 1),
-        (Op::Teste, 0b101, 0),
-        (Op::Testge, 0b001, 1),
-        (Op::Testge, 0b100, 0),
-        (Op::Testl, 0b100, 1),
-        (Op::Testl, 0b011, 0),
-        (Op::Testne, 0b100, 1),
-        (Op::Testne, 0b010, 0),
-        (Op::Testle, 0b010, 1),
-        (Op::Testle, 0b001, 0),
-        (Op::Testo, 0b001, 1),
-        (Op::Testo, 0b000, 0),
-    ];
-    for (op, code, word) in table {
-        let done = result(op, 0, 0, 0, CLEAR | code)?;
-        assert_eq!(rt; done.values.as_slice(), &[word][..]);
-        assert_eq!(rt; done.ac, CLEAR | code);
-        assert_eq!(rt; done.fault, None);
     }
     Ok(())
 }

@@ -2,6 +2,7 @@
 use Rattle.std.proofs.Common.{◌≡◌, ℕ, ◌≤◌, Bool, true, false, cond, Option, Some, None, Result, Ok, Err, refl, arith}
 use Rattle.std.specs.Prelude.{nat_le}
 use Rattle.std.proofs.lemmas.Bool.Decides.{nat_tests}
+use Rattle.i9_model.specs.declared.push.Push.{Push}
 use Rattle.i9_model.specs.declared.calls.Sys.{Sys}
 use Rattle.i9_model.specs.declared.calls.Pop.{Pop}
 use Rattle.i9_model.specs.declared.calls.CallsStop.{CallsStop}
@@ -59,3 +60,15 @@ ret_hazard_is None p a e = absurd cc
 ret_hazard_is (Some b) p a e = cc
 
 pub ruleset call_rules = (calls_ok, calls_hazard, calls_length, ret_ok, ret_hazard_is)
+
+-- ---- pushes
+
+pub push_free : (o : Option ℕ) (p q : Push) → unless o p ≡ Ok q → (o ≡ None) × (p ≡ q)
+push_free None p q e = (refl, cc)
+push_free (Some a) p q e = absurd cc
+
+pub push_hazard : (o : Option ℕ) (p : Push) (a : ℕ) → unless o p ≡ Err a → o ≡ Some a
+push_hazard None p a e = absurd cc
+push_hazard (Some b) p a e = cc
+
+pub ruleset push_rules = (push_free, push_hazard)

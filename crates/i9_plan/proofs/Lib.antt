@@ -4,3 +4,4 @@ pub mod WordBytes
 pub mod CallPlans
 pub mod Faulting
 pub mod Outcomes
+pub mod Fetching

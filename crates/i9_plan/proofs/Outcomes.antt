@@ -1,6 +1,6 @@
 -- What an instruction comes to that raises nothing before it does anything: by its result, by its condition, or by its
 -- access alone.
-use Rattle.std.proofs.Common.{◌≡◌, ℕ, Bool, true, false, cond, ◌&&◌, Option, Some, None, refl, sym, ap, ◌∙◌}
+use Rattle.std.proofs.Common.{◌≡◌, ℕ, Bool, true, false, cond, ◌&&◌, List, [], Option, Some, None, refl, sym, ap, ◌∙◌, subst}
 use Rattle.std.specs.Prelude.{is_some, not}
 use Rattle.std.specs.Option.{option_map}
 use Rattle.i9_isa.specs.declared.op.Op.{Op}
@@ -13,15 +13,19 @@ use Rattle.i9_model.specs.declared.arith.Arith.{Arith}
 use Rattle.i9_model.specs.declared.layout.TheConstants.{PRECISE_FAULTS_PLACE}
 use Rattle.i9_model.specs.declared.faults.TheConstants.{CONSTRAINT, RANGE}
 use Rattle.i9_model.specs.State.{State}
-use Rattle.i9_model.specs.Operands.{value}
+use Rattle.i9_isa.specs.declared.inst.Operand.{Operand}
+use Rattle.i9_isa.specs.declared.inst.Operand.TheVariants.{Reg, Lit, Sfr}
+use Rattle.i9_model.specs.Operands.{value, assigned}
 use Rattle.i9_model.specs.Branches.{asks, question_of, is_taken}
 use Rattle.i9_model.specs.Results.{Answer, has_result}
-use Rattle.i9_model.specs.Step.{Action, answer_in, resulting, branching, action_by_name, action_by, action_of}
+use Rattle.i9_model.specs.Step.{Action, passing, destination, answer_in, resulting, branching, action_by_name, action_by, action_of}
 use Rattle.i9_model.specs.Access.{NoAccess, access_by_name, access_by, access_of, hazard_in, hazard_of}
 use Rattle.i9_model.specs.Unbuilt.{is_faulty}
 use Rattle.i9_model.specs.Standing.{Standing, NotBuilt, Faults, Runs, arithmetic_fault, answer_fault, is_fault_name, range_fault, first_fault, later_fault, by_access, by_later, by_raised}
 use Rattle.i9_exec.specs.declared.done.Done.{Done}
 use Rattle.i9_exec.specs.Shown.{answer_of}
+use Rattle.i9_processor.specs.declared.effect.Effect.{Effect}
+use Rattle.i9_processor.specs.Effect.{IsEffect}
 use Rattle.i9_plan.specs.Built.{is_branch}
 use Rattle.i9_plan.specs.Planned.{by_result}
 
@@ -200,3 +204,67 @@ plain_stands i s r b e =
     let none = none_of (answer_in i s) (e ∙ r) in
     let calm = no_range (is_fault_name i.op) (is_taken i (value s i.a) (value s i.b) s.ac) (not_first (is_fault_name i.op) (is_branch i.op) (fault_branches i.op) b) in
     calm_answer i s none ∙ ap (by_later i s) calm
+
+-- none of the names that do something of their own
+pub record IsOther (op : Op) : Type 0 where
+  pub not_lda : op ≡ Lda → ⊥
+  pub not_atadd : op ≡ Atadd → ⊥
+  pub not_atmod : op ≡ Atmod → ⊥
+  pub not_bx : op ≡ Bx → ⊥
+  pub not_balx : op ≡ Balx → ⊥
+  pub not_bal : op ≡ Bal → ⊥
+  pub not_call : op ≡ Call → ⊥
+  pub not_callx : op ≡ Callx → ⊥
+  pub not_calls : op ≡ Calls → ⊥
+  pub not_ret : op ≡ Ret → ⊥
+  pub not_flushreg : op ≡ Flushreg → ⊥
+  pub not_modac : op ≡ Modac → ⊥
+  pub not_modtc : op ≡ Modtc → ⊥
+  pub not_modpc : op ≡ Modpc → ⊥
+  pub not_sysctl : op ≡ Sysctl → ⊥
+
+-- every other name does nothing, where it neither branches nor has a result
+nothing_assigned : (o : Operand) → assigned o [] ≡ []
+nothing_assigned (Reg r) = refl
+nothing_assigned (Lit l) = refl
+nothing_assigned (Sfr k) = refl
+
+nothing_given : (i : Inst) (s : State) → resulting i s None ≡ passing i s
+nothing_given i s = ap (λ (sets : List (ℕ × ℕ)). record (passing i s) { sets = sets }) (nothing_assigned (destination i))
+
+other_action_is : (op : Op) (i : Inst) (s : State) → IsOther op → is_branch op ≡ false → answer_in i s ≡ None → action_by_name op i s ≡ passing i s
+other_action_is Lda i s other b none = absurd (other.not_lda refl)
+other_action_is Atadd i s other b none = absurd (other.not_atadd refl)
+other_action_is Atmod i s other b none = absurd (other.not_atmod refl)
+other_action_is Bx i s other b none = absurd (other.not_bx refl)
+other_action_is Balx i s other b none = absurd (other.not_balx refl)
+other_action_is Bal i s other b none = absurd (other.not_bal refl)
+other_action_is Call i s other b none = absurd (other.not_call refl)
+other_action_is Callx i s other b none = absurd (other.not_callx refl)
+other_action_is Calls i s other b none = absurd (other.not_calls refl)
+other_action_is Ret i s other b none = absurd (other.not_ret refl)
+other_action_is Flushreg i s other b none = absurd (other.not_flushreg refl)
+other_action_is Modac i s other b none = absurd (other.not_modac refl)
+other_action_is Modtc i s other b none = absurd (other.not_modtc refl)
+other_action_is Modpc i s other b none = absurd (other.not_modpc refl)
+other_action_is Sysctl i s other b none = absurd (other.not_sysctl refl)
+other_action_is op i s other b none = unpicked (asks (question_of op)) (branching i s) (resulting i s (answer_in i s)) b ∙ ap (resulting i s) none ∙ nothing_given i s
+  where
+    unpicked : (b : Bool) (x y : Action) → b ≡ false → cond b x y ≡ y
+    unpicked false x y e = refl
+    unpicked true x y e = absurd cc
+
+other_access : (op : Op) (i : Inst) (s : State) → IsOther op → access_by_name op i s ≡ NoAccess
+other_access Atadd i s other = absurd (other.not_atadd refl)
+other_access Atmod i s other = absurd (other.not_atmod refl)
+other_access Call i s other = absurd (other.not_call refl)
+other_access Callx i s other = absurd (other.not_callx refl)
+other_access Calls i s other = absurd (other.not_calls refl)
+other_access Ret i s other = absurd (other.not_ret refl)
+other_access Sysctl i s other = absurd (other.not_sysctl refl)
+other_access _ i s other = refl
+
+pub other_plan : (i : Inst) (s : State) (e : Effect) → IsOther i.op → has_result i.op ≡ false → is_branch i.op ≡ false → is_some (answer_in i s) ≡ has_result i.op → IsEffect s (passing i s) e
+    → (hazard_in s (access_by_name i.op i s) ≡ None) × IsEffect s (action_by_name i.op i s) e
+other_plan i s e other r b answers is =
+    (ap (hazard_in s) (other_access i.op i s other), subst (λ (a : Action). IsEffect s a e) (sym (other_action_is i.op i s other b (none_of (answer_in i s) (answers ∙ r)))) is)

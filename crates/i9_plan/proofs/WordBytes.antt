@@ -1,5 +1,7 @@
 -- Words of loads and bytes of stores.
 use Rattle.std.proofs.Common.{◌≡◌, ℕ, zero, suc, ◌+◌, ◌*◌, ◌^◌, ◌<◌, ◌≤◌, List, [], ◌∷◌, ◌++◌, length, get_or, take, refl, sym, ap, ◌∙◌, add-one, append_assoc, append-nil, arith}
+use Rattle.std.specs.Prelude.{map}
+use Rattle.std.specs.List.{range_with_len}
 use Rattle.std.proofs.lemmas.List.{take_all, length-take}
 use Rattle.std.proofs.lemmas.List.FromFn.{map-range_with_len_more, length-map-range_with_len}
 use Rattle.std.proofs.Math.Seq.{take-suc}
@@ -61,3 +63,8 @@ pub take_all_words : (ws : List ℕ) (n : ℕ) → length ws ≤ n → take n ws
 take_all_words ws n h = take_all n ws h
 
 pub ruleset source_rules = (source_take, take_all_words)
+
+-- ---- the words of a load, one by one
+
+pub locals_more : (f : ℕ → ℕ) (k : ℕ) → map f (range_with_len 0 (k + 1)) ≡ map f (range_with_len 0 k) ++ f k ∷ []
+locals_more f k = map-range_with_len_more f 0 k k (omega arith)

@@ -7,8 +7,8 @@ use Rattle.i9_model.specs.declared.faults.Fault.{Fault}
 use Rattle.i9_model.specs.declared.faults.Entry.{Entry}
 use Rattle.i9_model.specs.declared.faults.FaultStop.{FaultStop}
 use Rattle.i9_model.specs.State.{State}
-use Rattle.i9_model.specs.Step.{Action, entering, action_of, first_word, next_word}
-use Rattle.i9_model.specs.Access.{Access, hazard_in}
+use Rattle.i9_model.specs.Step.{Action, Message, message_action, entering, action_of, first_word, next_word}
+use Rattle.i9_model.specs.Access.{Access, message_access, hazard_in}
 use Rattle.i9_model.specs.Standing as plain
 use Rattle.i9_model.specs.Run.{entry_in}
 use Rattle.i9_processor.specs.declared.effect.Effect.{Effect}
@@ -63,6 +63,10 @@ HasEffect s i (outcomes.Runs e) = IsEffect s (action_of i s) e
 abbrev pub IsPlanFor : State → Access → Action → Result Effect ℕ → Type 0
 IsPlanFor s access action (Ok e) = (hazard_in s access ≡ None) × IsEffect s action e
 IsPlanFor s access action (Err a) = hazard_in s access ≡ Some a
+
+-- what a message of sysctl does, or the hazard of its tables
+abbrev pub PlansMessage : Message → Inst → State → Result Effect ℕ → Type 0
+PlansMessage m i s r = IsPlanFor s (message_access m i s) (message_action m i s) r
 
 -- the entry of a fault, or what stops it
 abbrev pub PlansEntry : State → Fault → Result Effect FaultStop → Type 0

@@ -1,77 +1,40 @@
 //! What calls, returns and the entries of faults will do.
-ghost use Rattle.std.specs.Prelude.{◌≡◌, ◌≤◌, ◌%◌, ◌∷◌, None, replicate};
+ghost use Rattle.std.specs.Prelude.{◌≡◌, ◌≤◌, ◌%◌, None};
 ghost use Rattle.i9_model.specs.declared.layout.TheConstants.{FP, PFP, MOST_SYSTEM_CALL};
 ghost use Rattle.i9_model.specs.Hazards.{save_hazard};
 ghost use Rattle.i9_model.specs.Frames.{rounded_down};
 ghost use Rattle.i9_model.specs.Operands.{value};
-ghost use Rattle.i9_model.specs.Step.{saved_locals, pushing, call_action, calls_action, ret_action, entering};
+ghost use Rattle.i9_model.specs.Step.{pushing, call_action, calls_action, ret_action, entering};
 ghost use Rattle.i9_model.specs.Access.{SavesAt, CallsSystem, ReturnsBy};
 ghost use Rattle.i9_processor.specs.Effect.{IsEffect};
 ghost use Rattle.i9_processor.specs.State.{state_of};
 ghost use Rattle.i9_plan.specs.Planned.{IsPlanFor, PlansEntry};
 
-use crate::effects::going;
 use crate::sources::{following, value};
-use crate::transfers::{bytes_of_words, words};
+use crate::transfers::bytes_of_words;
 use i9_calls::{CallsStop, Push};
 use i9_entry::aligned;
 use i9_faults::{Entry, Fault, FaultStop};
 use i9_isa::Inst;
-use i9_model::layout::{LOCALS, RECORD_SIZE};
-use i9_processor::{Effect, Frame, Move, Processor, frame_sets};
-
-/// The locals of a new frame: pfp, sp, and zeros.
-fn new_locals(push: &Push) -> [u32; 16]
-    ensures { result ≡ push.now.pfp ∷ push.now.sp ∷ replicate 14 0 }
-{
-    [push.pfp, push.sp, 0, 0, 0, 0, 0, 0, 0, 0, 0, 0, 0, 0, 0, 0]
-}
-
-/// The locals that a push saves: rip is the return address.
-fn saved_locals(p: &Processor, back: u32) -> [u32; LOCALS]
-    ensures { result ≡ saved_locals (state_of p.now) back }
-{
-    let r = |k: u8| p.register(k);
-    [
-        r(0),
-        r(1),
-        back,
-        r(3),
-        r(4),
-        r(5),
-        r(6),
-        r(7),
-        r(8),
-        r(9),
-        r(10),
-        r(11),
-        r(12),
-        r(13),
-        r(14),
-        r(15),
-    ]
-}
+use i9_model::layout::RECORD_SIZE;
+use i9_processor::{Effect, Move, Processor};
 
 /// The locals are saved with a return address, and control goes on in a new frame.
-#[tactic(auto, using(i9_processor::proofs::Frames::frame_rules))]
 fn pushing(p: &Processor, push: &Push, back: u32, next: u32) -> Effect
     requires free { save_hazard (state_of p.now).frames push.now.save ≡ None }
     requires place { push.now.save % 16 ≡ 0 }
     ensures { IsEffect (state_of p.now) (pushing (state_of p.now) push.now back next) result }
 {
-    let mut effect = going(p, next);
-    effect.sets = frame_sets(&new_locals(push), push.frame);
-    effect.frames = Move::Saves(Frame {
-        address: push.save,
-        words: saved_locals(p, back),
-    });
+    let mut effect = Effect::going(p, next);
+    effect.frames = Move::Saves { push: *push, back };
     effect
 }
 
 /// A call to an address.
-#[tactic(auto, using(i9_processor::proofs::Frames::push_rules))]
+#[tactic(auto, using(crate::proofs::CallPlans::push_rules))]
 pub(crate) fn plan_call(p: &Processor, i: &Inst, to: u32) -> Result<Effect, u32>
-    ensures { IsPlanFor (state_of p.now) (SavesAt (rounded_down ((state_of p.now).regs FP))) (call_action i.now (state_of p.now) to) result }
+    ensures { IsPlanFor (state_of p.now) (SavesAt (rounded_down ((state_of p.now).regs FP)))
+        (call_action i.now (state_of p.now) to) result }
 {
     let push = p.plan_call()?;
     Ok(pushing(p, &push, following(p, i), aligned(to)))
@@ -100,10 +63,8 @@ pub(crate) fn plan_return(p: &Processor) -> Result<Effect, u32>
     ensures { IsPlanFor (state_of p.now) (ReturnsBy ((state_of p.now).regs PFP)) (ret_action (state_of p.now)) result }
 {
     let pop = p.plan_ret()?;
-    let locals = words(p, pop.frame, LOCALS);
-    let mut effect = going(p, aligned(p.word(pop.frame.wrapping_add(8))));
-    effect.sets = frame_sets(locals.as_slice(), pop.frame);
-    effect.frames = Move::Returns;
+    let mut effect = Effect::going(p, aligned(p.word(pop.frame.wrapping_add(8))));
+    effect.frames = Move::Returns(pop.frame);
     effect.pc = pop.pc;
     effect.ac = pop.ac;
     Ok(effect)

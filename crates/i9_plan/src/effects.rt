@@ -3,8 +3,7 @@ ghost use Rattle.std.specs.Prelude.{◌≡◌, ◌+◌, ◌≤◌, ◌∷◌, �
 ghost use Rattle.i9_isa.specs.Valid.{IsValid};
 ghost use Rattle.i9_model.specs.Step.{going, passing, assigning, answering, jumping, linking, faulting};
 ghost use Rattle.i9_model.specs.Run.{faulted_words};
-ghost use Rattle.i9_model.specs.Operands.{assigned};
-ghost use Rattle.i9_processor.specs.Effect.{AreRegisters, IsEffect};
+ghost use Rattle.i9_processor.specs.Effect.{IsEffect};
 ghost use Rattle.i9_processor.specs.State.{state_of};
 ghost use Rattle.i9_plan.specs.Built.{HasGroup};
 
@@ -12,50 +11,45 @@ use crate::sources::following;
 use arrayvec::ArrayVec;
 use i9_entry::aligned;
 use i9_isa::{Inst, Operand};
-use i9_processor::{Control, Effect, MOST_BYTES, MOST_SETS, Move, Processor, group_sets};
-
-/// Nothing is done, but control goes to an address.
-pub(crate) fn going(p: &Processor, next: u32) -> Effect
-    ensures { IsEffect (state_of p.now) (going (state_of p.now) next) result }
-{
-    Effect {
-        sets: ArrayVec::new(),
-        address: 0,
-        bytes: ArrayVec::new(),
-        frames: Move::Stays,
-        ac: p.ac(),
-        pc: p.pc(),
-        tc: p.tc(),
-        control: Control::Keeps,
-        next,
-    }
-}
+use i9_processor::{Effect, MOST_BYTES, MOST_VALUES, Processor};
 
 /// Nothing is done.
 pub(crate) fn passing(p: &Processor, i: &Inst) -> Effect
     ensures { IsEffect (state_of p.now) (passing i.now (state_of p.now)) result }
 {
-    going(p, following(p, i))
+    Effect::going(p, following(p, i))
 }
 
 /// What an instruction of so many words does that faults: control goes behind it.
 pub fn plan_faulting(p: &Processor, words: u32) -> Effect
     ensures { IsEffect (state_of p.now) (faulting words (state_of p.now)) result }
 {
-    going(p, p.ip().wrapping_add(words.wrapping_mul(4)))
+    Effect::going(p, p.ip().wrapping_add(words.wrapping_mul(4)))
 }
 
-/// What a destination gets: registers from one up.
-pub(crate) fn assigned(o: Operand, words: &[u32]) -> ArrayVec<(u8, u32), MOST_SETS>
-    requires few { length words.now ≤ 16 }
-    requires group { HasGroup o (length words.now) }
-    ensures sets { result.items ≡ assigned o words.now }
-    ensures registers { AreRegisters result.items }
+/// Control goes to an address, and a destination gets values.
+pub(crate) fn assigning(
+    p: &Processor,
+    next: u32,
+    o: Operand,
+    values: ArrayVec<u32, MOST_VALUES>,
+) -> Effect
+    requires { HasGroup o (length values.items) }
+    ensures { IsEffect (state_of p.now) (assigning o values.items (going (state_of p.now) next)) result }
 {
     match o {
-        Operand::Reg(r) => group_sets(r, words),
-        _ => ArrayVec::new(),
+        Operand::Reg(r) => Effect::setting(p, next, r, values),
+        _ => Effect::going(p, next),
     }
+}
+
+/// One word.
+pub(crate) fn one_word(v: u32) -> ArrayVec<u32, MOST_VALUES>
+    ensures { result.items ≡ v ∷ [] }
+{
+    let mut words = ArrayVec::new();
+    words.push(v);
+    words
 }
 
 /// src/dst gets one value.
@@ -63,16 +57,14 @@ pub(crate) fn answering(p: &Processor, i: &Inst, v: u32) -> Effect
     requires { IsValid i.now }
     ensures { IsEffect (state_of p.now) (answering i.now (state_of p.now) v) result }
 {
-    let mut effect = passing(p, i);
-    effect.sets = assigned(i.c, &[v]);
-    effect
+    assigning(p, following(p, i), i.c, one_word(v))
 }
 
 /// Control goes to an address.
 pub(crate) fn jumping(p: &Processor, i: &Inst, to: u32) -> Effect
     ensures { IsEffect (state_of p.now) (jumping i.now (state_of p.now) to) result }
 {
-    going(p, aligned(to))
+    Effect::going(p, aligned(to))
 }
 
 /// Control goes to an address, and a destination gets the one behind the instruction.
@@ -80,9 +72,7 @@ pub(crate) fn linking(p: &Processor, o: Operand, i: &Inst, to: u32) -> Effect
     requires { HasGroup o 1 }
     ensures { IsEffect (state_of p.now) (linking o i.now (state_of p.now) to) result }
 {
-    let mut effect = jumping(p, i, to);
-    effect.sets = assigned(o, &[following(p, i)]);
-    effect
+    assigning(p, aligned(to), o, one_word(following(p, i)))
 }
 
 /// Bytes are appended for which there is room.

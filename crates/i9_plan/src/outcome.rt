@@ -1,6 +1,5 @@
 //! What an instruction that is built comes to.
-ghost use Rattle.std.specs.Prelude.{◌≡◌, ◌==◌, ◌&&◌, not, None, Some, true, false, length};
-ghost use Rattle.i9_isa.specs.Operands.{words_written};
+ghost use Rattle.std.specs.Prelude.{◌≡◌, ◌&&◌, None, Some, true, false, length};
 ghost use Rattle.i9_isa.specs.Valid.{IsValid};
 ghost use Rattle.i9_exec.specs.Shown.{answer_of};
 ghost use Rattle.i9_model.specs.Operands.{value};
@@ -18,15 +17,15 @@ ghost use Rattle.i9_plan.specs.Planned.{standing_in, by_result, HasEffect, IsPla
 
 use crate::built::{is_branch, is_fault_name};
 use crate::calls::{plan_call, plan_calls, plan_return};
-use crate::effects::{answering, assigned, jumping, linking, passing};
+use crate::effects::{answering, assigning, jumping, linking, passing};
 use crate::raised::{arithmetic_fault, raised_in};
-use crate::sources::{address, answer, target, value};
+use crate::sources::{address, answer, following, target, value};
 use crate::system::{plan_message, plan_modac, plan_modpc, plan_modtc};
 use crate::transfers::{plan_atadd, plan_atmod, plan_transfer};
 use crate::words::bit;
 use i9_entry::aligned;
 use i9_exec::{Done, Jump, branch, has_result, results_by_name};
-use i9_isa::{Inst, Op, Operand, Use, row, transfer};
+use i9_isa::{Inst, Op, Operand, transfer};
 use i9_model::Arith;
 use i9_model::faults::{CONSTRAINT, RANGE};
 use i9_model::layout::{LINK, PRECISE_FAULTS_PLACE};
@@ -41,33 +40,25 @@ pub(crate) enum Outcome {
     Runs(Effect),
 }
 
-/// Whether a use writes registers.
-fn writes(use_of: Use) -> bool
-    ensures { result ≡ not (words_written use_of == 0) }
-{
-    match use_of {
-        Use::Destination(n) | Use::Load(n) => n != 0,
-        Use::Change => true,
-        _ => false,
-    }
-}
-
 /// The destination of a result: src1 of a test, src/dst of the others.
 fn destination(i: &Inst) -> Operand
     ensures { result ≡ destination i.now }
 {
-    if writes(row(i.op).a) { i.a } else { i.c }
+    match i.op {
+        Op::Testno | Op::Testg | Op::Teste | Op::Testge => i.a,
+        Op::Testl | Op::Testne | Op::Testle | Op::Testo => i.a,
+        _ => i.c,
+    }
 }
 
 /// A result goes to its destination.
 #[tactic(auto, using(crate::proofs::Answering::answer_rules, crate::proofs::ValidGroups::group_rules))]
-fn resulting(p: &Processor, i: &Inst, done: &Done) -> Effect
+fn resulting(p: &Processor, i: &Inst, done: Done) -> Effect
     requires valid { IsValid i.now }
-    requires whole { length done.now.values.items ≡ destination_words i.now.op }
-    ensures { IsEffect (state_of p.now) (resulting i.now (state_of p.now) (Some (answer_of done.now))) result }
+    requires whole { length done.values.items ≡ destination_words i.now.op }
+    ensures { IsEffect (state_of p.now) (resulting i.now (state_of p.now) (Some (answer_of done))) result }
 {
-    let mut effect = passing(p, i);
-    effect.sets = assigned(destination(i), done.values.as_slice());
+    let mut effect = assigning(p, following(p, i), destination(i), done.values);
     effect.ac = done.ac;
     effect
 }
@@ -93,7 +84,7 @@ fn result_outcome(p: &Processor, i: &Inst) -> Outcome
 {
     let done = answer(p, i);
     match done.fault {
-        None => Outcome::Runs(resulting(p, i, &done)),
+        None => Outcome::Runs(resulting(p, i, done)),
         Some(f) => arithmetic_outcome(p, i, f),
     }
 }
@@ -157,8 +148,10 @@ fn plan_by_name(p: &Processor, i: &Inst) -> Result<Effect, u32>
     requires calm { raised_in i.now (state_of p.now) ≡ None }
     requires result { has_result i.now.op ≡ false }
     requires branch { is_branch i.now.op ≡ false }
-    ensures { IsPlanFor (state_of p.now) (access_by_name i.now.op i.now (state_of p.now)) (action_by_name i.now.op i.now (state_of p.now)) result }
+    ensures { IsPlanFor (state_of p.now) (access_by_name i.now.op i.now (state_of p.now))
+        (action_by_name i.now.op i.now (state_of p.now)) result }
 {
+    results_by_name();
     match i.op {
         Op::Lda => Ok(answering(p, i, address(p, &i.ea))),
         Op::Atadd => plan_atadd(p, i),

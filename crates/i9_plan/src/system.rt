@@ -7,11 +7,11 @@ ghost use Rattle.i9_model.specs.Frames.{flushed};
 ghost use Rattle.i9_model.specs.Tables.{tables_hazard, group_hazard};
 ghost use Rattle.i9_model.specs.Operands.{value};
 ghost use Rattle.i9_model.specs.Faults.{is_invalid};
-ghost use Rattle.i9_model.specs.Step.{Flushes, AsksRestart, AsksGroup, passing, moved, message_of, argument_of, message_kind, message_action, modac_action, modtc_action, modpc_action};
-ghost use Rattle.i9_model.specs.Access.{message_access};
+ghost use Rattle.i9_model.specs.Step.{Flushes, AsksRestart, AsksGroup, passing, moved, message_of, argument_of, message_kind};
+ghost use Rattle.i9_model.specs.Step.{modac_action, modtc_action, modpc_action};
 ghost use Rattle.i9_processor.specs.Effect.{CanControl, IsEffect, control_in};
 ghost use Rattle.i9_processor.specs.State.{state_of};
-ghost use Rattle.i9_plan.specs.Planned.{IsPlanFor};
+ghost use Rattle.i9_plan.specs.Planned.{PlansMessage};
 
 use crate::effects::{answering, passing};
 use crate::sources::{argument, message, process_controls, value};
@@ -52,7 +52,8 @@ pub(crate) fn plan_modpc(p: &Processor, i: &Inst) -> Effect
 
 /// Frames are flushed, and something is done to the controls that start-up reads.
 fn controlling(p: &Processor, i: &Inst, control: Control) -> Effect
-    requires { CanControl (moved (state_of p.now) (record (passing i.now (state_of p.now)) { move = Flushes; control = control_in control })) control }
+    requires { CanControl (moved (state_of p.now)
+        (record (passing i.now (state_of p.now)) { move = Flushes; control = control_in control })) control }
     ensures { IsEffect (state_of p.now) (record (passing i.now (state_of p.now)) { move = Flushes; control = control_in control }) result }
 {
     let mut effect = passing(p, i);
@@ -74,7 +75,7 @@ fn tables_hazard(p: &Processor, prcb: u32, control: u32) -> Option<u32>
 /// The processor starts anew.
 fn plan_restart(p: &Processor, i: &Inst) -> Result<Effect, u32>
     requires { IsValid i.now }
-    ensures { IsPlanFor (state_of p.now) (message_access AsksRestart i.now (state_of p.now)) (message_action AsksRestart i.now (state_of p.now)) result }
+    ensures { PlansMessage AsksRestart i.now (state_of p.now) result }
 {
     let first = value(p, i.b);
     let prcb = value(p, i.c);
@@ -99,7 +100,7 @@ fn group_hazard(p: &Processor, group: u8) -> Option<u32>
 fn plan_group(p: &Processor, i: &Inst) -> Result<Effect, u32>
     requires valid { IsValid i.now }
     requires group { argument_of i.now (state_of p.now) < 7 }
-    ensures { IsPlanFor (state_of p.now) (message_access AsksGroup i.now (state_of p.now)) (message_action AsksGroup i.now (state_of p.now)) result }
+    ensures { PlansMessage AsksGroup i.now (state_of p.now) result }
 {
     let group = argument(p, i);
     if let Some(a) = group_hazard(p, group) {
@@ -112,7 +113,7 @@ fn plan_group(p: &Processor, i: &Inst) -> Result<Effect, u32>
 pub(crate) fn plan_message(p: &Processor, i: &Inst) -> Result<Effect, u32>
     requires valid { IsValid i.now }
     requires message { is_invalid Sysctl (value (state_of p.now) i.now.a) ≡ false }
-    ensures { IsPlanFor (state_of p.now) (message_access (message_kind (message_of i.now (state_of p.now))) i.now (state_of p.now)) (message_action (message_kind (message_of i.now (state_of p.now))) i.now (state_of p.now)) result }
+    ensures { PlansMessage (message_kind (message_of i.now (state_of p.now))) i.now (state_of p.now) result }
 {
     match message(p, i) {
         3 => plan_restart(p, i),

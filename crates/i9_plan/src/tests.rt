@@ -8,11 +8,11 @@ ghost use Rattle.i9_processor.specs.State.{state_of};
 use crate::{Planned, Words, plan_entry, plan_faulting, plan_next};
 use Rest::{Flushes, Group, Nothing, Restart, Returns, Saves, Stores};
 use Seen::{Faults, Meets, NotBuilt, Refused, Runs};
-use arrayvec::ArrayVec;
 use i9_faults::{Fault, FaultStop};
 use i9_hex::Segments;
 use i9_isa::Op;
-use i9_processor::{Control, Effect, Frame, Move, Processor, frame_sets, group_sets};
+use i9_model::Push;
+use i9_processor::{Control, Effect, Move, Processor};
 use std::alloc::Global;
 use std::test::Fail;
 
@@ -71,8 +71,8 @@ fn seen_of(planned: &Planned) -> Seen {
 enum Rest {
     Nothing,
     Stores(u32, usize, u8),
-    Saves(Frame),
-    Returns,
+    Saves(Push, u32),
+    Returns(u32),
     Flushes,
     Restart(u32, u32),
     Group(u8),
@@ -95,15 +95,15 @@ fn moved_by(effect: &Effect) -> Rest {
             Some(b) => Stores(effect.address, effect.bytes.len(), *b),
             None => Nothing,
         },
-        Move::Saves(f) => Saves(*f),
-        Move::Returns => Returns,
+        Move::Saves { push, back } => Saves(*push, *back),
+        Move::Returns(frame) => Returns(*frame),
         Move::Flushes => Flushes,
     }
 }
 
-/// How many registers an effect sets, and the last one with its value.
-fn sets_of(effect: &Effect) -> (usize, Option<(u8, u32)>) {
-    (effect.sets.len(), effect.sets.last().copied())
+/// The first register that an effect sets beside those of a frame, and its value.
+fn set_of(effect: &Effect) -> Option<(u8, u32)> {
+    effect.values.first().map(|v| (effect.register, *v))
 }
 
 /// The arithmetic, process and trace controls after an effect, and the next address.
@@ -145,7 +145,7 @@ fn booted(alloc: Global, at: u32, program: (u32, u32)) -> Result<Processor, Fail
 
 /// Makes room for an effect that keeps the controls, and applies it.
 fn applies(p: &mut Processor, effect: &Effect) -> Result<(), Fail>
-    requires registers { AreRegisters effect.now.sets.items }
+    requires registers { AreRegisters effect.now }
     requires can { CanMove (state_of p.old).frames effect.now.frames }
     requires free { IsFree (state_of p.old) (action_in (state_of p.old) effect.now) }
     requires controls { CanControl (moved (state_of p.old) (action_in (state_of p.old) effect.now)) effect.now.control }
@@ -159,47 +159,36 @@ fn applies(p: &mut Processor, effect: &Effect) -> Result<(), Fail>
 }
 
 /// Saves the frame at 3000, and goes on in a new one.
-#[tactic(auto, unfolding(i9_model::specs::Hazards::writes_hazard), using(i9_processor::proofs::Frames::frame_rules))]
+#[tactic(auto, unfolding(i9_model::specs::Hazards::writes_hazard), using(i9_processor::proofs::Applying::locals_whole))]
 fn saves(p: &mut Processor) -> Result<(), Fail> {
     let push = match p.plan_call() {
         Ok(push) => push,
         Err(_) => return Err("a hazard".into()),
     };
-    let mut locals = [0; 16];
-    locals[0] = push.pfp;
-    locals[1] = push.sp;
-    let frame = Frame {
-        address: push.save,
-        words: [9; 16],
-    };
-    let effect = Effect {
-        sets: frame_sets(&locals, push.frame),
-        address: 0,
-        bytes: ArrayVec::new(),
-        frames: Move::Saves(frame),
-        ac: 0,
-        pc: 0,
-        tc: 0,
-        control: Control::Keeps,
-        next: 0,
-    };
+    let mut effect = Effect::going(p, 0);
+    effect.frames = Move::Saves { push, back: 9 };
     applies(p, &effect)
 }
 
-/// Sets g0 to g14, the controls and the instruction address.
+/// Sets a register of g0 to g14.
+#[tactic(auto, unfolding(i9_model::specs::Hazards::writes_hazard))]
+fn sets(p: &mut Processor, k: u8, value: u32) -> Result<(), Fail> {
+    if k > 14 {
+        return Err("no such register".into());
+    }
+    let mut effect = Effect::going(p, 0);
+    effect.register = 16 + k;
+    effect.values.push(value);
+    applies(p, &effect)
+}
+
+/// Sets the controls and the instruction address.
 #[tactic(auto, unfolding(i9_model::specs::Hazards::writes_hazard))]
 fn goes(p: &mut Processor, ac: u32, pc: u32, next: u32) -> Result<(), Fail> {
-    let effect = Effect {
-        sets: group_sets(16, &GLOBALS),
-        address: 0,
-        bytes: ArrayVec::new(),
-        frames: Move::Stays,
-        ac,
-        pc,
-        tc: 0,
-        control: Control::Keeps,
-        next,
-    };
+    let mut effect = Effect::going(p, next);
+    effect.ac = ac;
+    effect.pc = pc;
+    effect.tc = 0;
     applies(p, &effect)
 }
 
@@ -207,6 +196,9 @@ fn goes(p: &mut Processor, ac: u32, pc: u32, next: u32) -> Result<(), Fail> {
 fn ready(alloc: Global, at: u32, program: (u32, u32), ac: u32, pc: u32) -> Result<Processor, Fail> {
     let mut p = booted(alloc, at, program)?;
     saves(&mut p)?;
+    for k in 0..15 {
+        sets(&mut p, k, GLOBALS[usize::from(k)])?;
+    }
     goes(&mut p, ac, pc, at)?;
     Ok(p)
 }
@@ -330,7 +322,7 @@ fn plans_results(rt: HostRuntime) -> Result<(), Fail> {
                     }
                 );
                 assert_eq!(rt; (inst.op, rest_of(&effect)), (op, Nothing));
-                assert_eq!(rt; sets_of(&effect), (usize::from(set.is_some()), set));
+                assert_eq!(rt; set_of(&effect), set);
                 assert_eq!(rt; controls_of(&effect), controls);
             }
             _ => assert!(rt; false, "{word}"),
@@ -341,10 +333,13 @@ fn plans_results(rt: HostRuntime) -> Result<(), Fail> {
 
 /// The save of the frame at 3040, with a return address.
 fn saved(back: u32) -> Rest {
-    Saves(Frame {
-        address: 0x3040,
-        words: [0x3000, 0x3080, back, 0, 0, 0, 0, 0, 0, 0, 0, 0, 0, 0, 0, 0],
-    })
+    let push = Push {
+        save: 0x3040,
+        frame: 0x3080,
+        pfp: 0x3040,
+        sp: 0x30C0,
+    };
+    Saves(push, back)
 }
 
 #[test]
@@ -352,21 +347,21 @@ fn plans_moves(rt: HostRuntime) -> Result<(), Fail> {
     let call = saved(0x1004);
     let rows = [
         // call; calls 5; ret, whose rip is 9; flushreg; stl g4 at 4008.
-        (0x0900_0008, call, 17, Some((31, 0x3080)), 0x1008),
-        (0x6600_0805, call, 17, Some((31, 0x3080)), 0x1204),
-        (0x0A00_0000, Returns, 17, Some((31, 0x3000)), 8),
-        (0x6600_0680, Flushes, 0, None, 0x1004),
-        (0x9AA7_6000, Stores(0x4008, 8, 6), 0, None, 0x1004),
+        (0x0900_0008, call, None, 0x1008),
+        (0x6600_0805, call, None, 0x1204),
+        (0x0A00_0000, Returns(0x3000), None, 8),
+        (0x6600_0680, Flushes, None, 0x1004),
+        (0x9AA7_6000, Stores(0x4008, 8, 6), None, 0x1004),
         // sysctl 3, by the live frame as a PRCB; sysctl 4.
-        (0x65DE_8499, Restart(0x1234, 0x3000), 0, None, 0x1004),
-        (0x65A0_149C, Group(6), 0, None, 0x1004),
+        (0x65DE_8499, Restart(0x1234, 0x3000), None, 0x1004),
+        (0x65A0_149C, Group(6), None, 0x1004),
     ];
-    for (word, rest, count, last, next) in rows {
+    for (word, rest, set, next) in rows {
         let p = ready(rt.alloc(), 0x1000, (word, 0), 0, PC)?;
         match plan_next(&p) {
             Planned::Runs { effect, .. } => {
                 assert_eq!(rt; rest_of(&effect), rest);
-                assert_eq!(rt; sets_of(&effect), (count, last));
+                assert_eq!(rt; set_of(&effect), set);
                 assert_eq!(rt; controls_of(&effect), (0, PC, 0, next));
             }
             _ => assert!(rt; false, "{word}"),
@@ -379,10 +374,7 @@ fn plans_moves(rt: HostRuntime) -> Result<(), Fail> {
 fn plans_faults(rt: HostRuntime) -> Result<(), Fail> {
     let p = ready(rt.alloc(), 0x1000, (0, 0), PRECISE, PC)?;
     let faulting = plan_faulting(&p, 2);
-    assert_eq!(rt;
-        (rest_of(&faulting), sets_of(&faulting)),
-        (Nothing, (0, None))
-    );
+    assert_eq!(rt; (rest_of(&faulting), set_of(&faulting)), (Nothing, None));
     assert_eq!(rt; controls_of(&faulting), (PRECISE, PC, 0, 0x1008));
     let fault = Fault {
         kind: 2,
@@ -391,13 +383,22 @@ fn plans_faults(rt: HostRuntime) -> Result<(), Fail> {
     };
     match plan_entry(&p, &fault) {
         Ok(effect) => {
-            assert_eq!(rt; (rest_of(&effect), effect.address), (saved(0x1000), 0x3080));
+            // The frame of the handler stands above a record of sixteen bytes.
+            let push = Push {
+                save: 0x3040,
+                frame: 0x3090,
+                pfp: 0x3041,
+                sp: 0x30D0,
+            };
+            assert_eq!(rt;
+                (rest_of(&effect), effect.address),
+                (Saves(push, 0x1000), 0x3080)
+            );
             // The record is below the frame of the handler.
             let record = [
                 2, 0x20, 0x1F, 0, 0, 0x80, 0, 0, 1, 0, 2, 0, 0xFC, 0x0F, 0, 0,
             ];
             assert_eq!(rt; effect.bytes.as_slice(), record.as_slice());
-            assert_eq!(rt; sets_of(&effect), (17, Some((31, 0x3090))));
             assert_eq!(rt; controls_of(&effect), (PRECISE, PC, 0, 0x1300));
         }
         Err(_) => assert!(rt; false, "no entry"),

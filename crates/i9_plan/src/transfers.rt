@@ -7,18 +7,18 @@ ghost use Rattle.i9_model.specs.Writes.{wrapped, upwards};
 ghost use Rattle.i9_model.specs.Memory.{words_in, word_bytes};
 ghost use Rattle.i9_model.specs.Operands.{address, value};
 ghost use Rattle.i9_model.specs.Access.{Reads, Writes, Changes, moved_access};
-ghost use Rattle.i9_model.specs.Step.{extended, filled, loaded, stored_of, loading, storing, transferring, bytes_of_words, atomic_address, atomic, merged, answering};
+ghost use Rattle.i9_model.specs.Step.{extended, filled, loaded, stored_of, loading, storing, transferring, bytes_of_words};
+ghost use Rattle.i9_model.specs.Step.{atomic_address, atomic, merged, answering};
 ghost use Rattle.i9_processor.specs.State.{state_of};
 ghost use Rattle.i9_plan.specs.Built.{HasGroup};
 ghost use Rattle.i9_plan.specs.Planned.{IsPlanFor};
 
-use crate::effects::{answering, append, assigned, listed, passing};
-use crate::sources::{address, atomic_address, source_words, value};
+use crate::effects::{answering, append, assigning, listed, one_word, passing};
+use crate::sources::{address, atomic_address, following, source_words, value};
 use crate::words::{merged, word_address};
 use arrayvec::ArrayVec;
 use i9_isa::{Direction, Inst, Operand, Size, Transfer};
-use i9_model::layout::LOCALS;
-use i9_processor::{Effect, MOST_BYTES, Processor};
+use i9_processor::{Effect, MOST_BYTES, MOST_VALUES, Processor};
 
 /// A byte as a word, with its sign above or with zeros.
 fn filled_byte(v: u8, signed: bool) -> u32
@@ -44,19 +44,10 @@ fn filled_half(v: u16, signed: bool) -> u32
     }
 }
 
-/// One word.
-fn one_word(v: u32) -> ArrayVec<u32, LOCALS>
-    ensures { result.items ≡ v ∷ [] }
-{
-    let mut words = ArrayVec::new();
-    words.push(v);
-    words
-}
-
 /// So many words of memory, from an address up.
-#[tactic(auto, using(i9_processor::proofs::Frames::frame_rules))]
-pub(crate) fn words(p: &Processor, a: u32, n: usize) -> ArrayVec<u32, LOCALS>
-    requires { n ≤ 16 }
+#[tactic(auto, using(crate::proofs::WordBytes::locals_more))]
+fn words(p: &Processor, a: u32, n: usize) -> ArrayVec<u32, MOST_VALUES>
+    requires { n ≤ 4 }
     ensures words { result.items ≡ words_in (state_of p.now).memory a n }
     ensures count { length result.items ≡ n }
 {
@@ -68,7 +59,7 @@ pub(crate) fn words(p: &Processor, a: u32, n: usize) -> ArrayVec<u32, LOCALS>
 }
 
 /// The words that a load of a size reads.
-fn loaded(p: &Processor, size: Size, signed: bool, a: u32) -> ArrayVec<u32, LOCALS>
+fn loaded(p: &Processor, size: Size, signed: bool, a: u32) -> ArrayVec<u32, MOST_VALUES>
     requires { byte_count size ≤ 16 }
     ensures words { result.items ≡ loaded size signed (state_of p.now).memory a }
     ensures count { length result.items ≡ register_count size }
@@ -117,21 +108,22 @@ fn stored(p: &Processor, size: Size, o: Operand, a: u32) -> ArrayVec<u8, MOST_BY
 fn plan_load(p: &Processor, i: &Inst, size: Size, signed: bool) -> Result<Effect, u32>
     requires few { byte_count size ≤ 16 }
     requires group { HasGroup i.now.c (register_count size) }
-    ensures { IsPlanFor (state_of p.now) (Reads (address (state_of p.now) i.now.ea) (byte_count size)) (loading size signed i.now (state_of p.now)) result }
+    ensures { IsPlanFor (state_of p.now) (Reads (address (state_of p.now) i.now.ea) (byte_count size))
+        (loading size signed i.now (state_of p.now)) result }
 {
     let a = address(p, &i.ea);
     if let Some(hazard) = p.check_read(a, size.bytes()) {
         return Err(hazard);
     }
-    let mut effect = passing(p, i);
-    effect.sets = assigned(i.c, loaded(p, size, signed, a).as_slice());
-    Ok(effect)
+    let values = loaded(p, size, signed, a);
+    Ok(assigning(p, following(p, i), i.c, values))
 }
 
 /// Registers are stored.
 fn plan_store(p: &Processor, i: &Inst, size: Size) -> Result<Effect, u32>
     requires { byte_count size ≤ 16 }
-    ensures { IsPlanFor (state_of p.now) (Writes (address (state_of p.now) i.now.ea) (byte_count size)) (storing size i.now (state_of p.now)) result }
+    ensures { IsPlanFor (state_of p.now) (Writes (address (state_of p.now) i.now.ea) (byte_count size))
+        (storing size i.now (state_of p.now)) result }
 {
     let a = address(p, &i.ea);
     if let Some(hazard) = p.check_write(a, size.bytes()) {
@@ -147,7 +139,8 @@ fn plan_store(p: &Processor, i: &Inst, size: Size) -> Result<Effect, u32>
 pub(crate) fn plan_transfer(p: &Processor, i: &Inst, t: Transfer) -> Result<Effect, u32>
     requires few { byte_count t.size ≤ 16 }
     requires group { t.direction ≡ Direction.Load → HasGroup i.now.c (register_count t.size) }
-    ensures { IsPlanFor (state_of p.now) (moved_access t.direction (address (state_of p.now) i.now.ea) (byte_count t.size)) (transferring t i.now (state_of p.now)) result }
+    ensures { IsPlanFor (state_of p.now) (moved_access t.direction (address (state_of p.now) i.now.ea) (byte_count t.size))
+        (transferring t i.now (state_of p.now)) result }
 {
     match t.direction {
         Direction::Load => plan_load(p, i, t.size, t.signed),

@@ -3,7 +3,7 @@ use Rattle.std.proofs.Common.{◌≡◌, ℕ, ◌%◌, ◌<◌, ◌||◌, nat_lt
 use Rattle.std.specs.Prelude.{max}
 use Rattle.std.proofs.lemmas.Bool.{or_left, or_right}
 use Rattle.std.proofs.lemmas.Bool.Decides.{nat_tests}
-use Rattle.i9_model.specs.declared.layout.TheConstants.{LEAST_SETS, PRCB_POINTER}
+use Rattle.i9_model.specs.declared.layout.TheConstants.{LEAST_SETS, LOCALS, PRCB_POINTER}
 use Rattle.i9_model.specs.declared.setup.Setup.{Setup}
 use Rattle.i9_model.specs.Boot.{table_word, setup_of, boot_setup, with_boot_bytes}
 use Rattle.i9_model.specs.Memory.{Memory, word_in}
@@ -11,7 +11,7 @@ use Rattle.i9_model.specs.State.{State}
 use Rattle.i9_model.specs.Tables.{tables_hazard, group_hazard}
 use Rattle.i9_model.specs.Controls as plain
 use Rattle.i9_model.specs.Writes.{upwards}
-use Rattle.i9_model.specs.Step.{Move, Action, moved, acted, counted}
+use Rattle.i9_model.specs.Step.{Move, Action, saved_locals, moved, acted, counted}
 use Rattle.i9_model.specs.Alike.{AreAlike}
 use Rattle.i9_model.specs.Free.{IsFree}
 use Rattle.i9_model.specs.Sound.{IsSound}
@@ -95,3 +95,7 @@ pub saved_writes : (n : ℕ) (m : Move) → is_costly m ≡ true → (nat_lt 0 n
 saved_writes n m h = or_right (nat_lt 0 n) (is_costly m) h
 
 pub ruleset room_rules = (stored_writes, saved_writes)
+
+-- a push saves all locals
+pub locals_whole : (s : State) (back : ℕ) → length (saved_locals s back) ≡ LOCALS
+locals_whole s back = refl

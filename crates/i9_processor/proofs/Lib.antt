@@ -1,6 +1,5 @@
 pub mod RegisterList
 pub mod Copies
-pub mod Frames
 pub mod Loading
 pub mod Applying
 pub mod NewSets

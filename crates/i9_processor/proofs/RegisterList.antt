@@ -1,11 +1,13 @@
 -- The kept registers as a function.
-use Rattle.std.proofs.Common.{◌≡◌, ℕ, zero, suc, ◌+◌, ◌<◌, ◌≤◌, Bool, true, false, cond, eqb, List, [], ◌∷◌, length, get_or, drop, map, replicate, slice_set, add-zero, zero-add, refl, sym, ap, ◌∙◌, arith}
-use Rattle.std.proofs.lemmas.List.{at_drop_more, at_drop_all, get_or-set_same, get_or-set_other, get_or_past}
+use Rattle.std.proofs.Common.{◌≡◌, ℕ, zero, suc, ◌+◌, ◌<◌, ◌≤◌, Bool, true, false, cond, eqb, List, [], ◌∷◌, ◌++◌, length, get_or, take, map, replicate, slice_set, add-one, add-zero, zero-add, refl, sym, ap, ◌∙◌, arith}
+use Rattle.std.proofs.lemmas.List.{take_all, get_or-set_same, get_or-set_other, get_or_past}
 use Rattle.std.proofs.lemmas.Bool.Decides.{nat_tests}
-use Rattle.i9_model.specs.Writes.{put, written}
+use Rattle.i9_model.specs.declared.layout.TheConstants.{FP}
+use Rattle.i9_model.specs.Writes.{put, pairs_at, written}
+use Rattle.i9_model.specs.State.{frame_sets}
+use Rattle.i9_model.proofs.Stored.{written-append}
 use Rattle.std.specs.List.{range_with_len}
 use Rattle.i9_model.specs.PrintedText.{register_list}
-use Rattle.i9_processor.specs.Effect.{AreRegisters}
 use Rattle.i9_processor.specs.State.{registers_of}
 
 set_at : (regs : List ℕ) (r v x : ℕ) (b : Bool) → r < length regs → eqb x r ≡ b → registers_of (slice_set regs r v) x ≡ cond b v (registers_of regs x)
@@ -23,18 +25,31 @@ zero_at (suc n) (suc x) = zero_at n x
 pub registers_of-zeros : (n : ℕ) → ◌≡◌ {A = ℕ → ℕ} (registers_of (replicate n 0)) (λ x. 0)
 registers_of-zeros n = λ i x. zero_at n x i
 
-pub written_more : (f : ℕ → ℕ) (ps : List (ℕ × ℕ)) (i : ℕ) (d : ℕ × ℕ) → i < length ps → written f (drop i ps) ≡ written (put f (get_or ps i d).0 (get_or ps i d).1) (drop (i + 1) ps)
-unfolding written
-written_more f ps i d h = at_drop_more (written f) ps i d h
+-- one more register, and all
+pairs_next : (n : ℕ) (xs : List ℕ) (k : ℕ) → k < length xs → pairs_at (λ r. r) n (take (suc k) xs) ≡ pairs_at (λ r. r) n (take k xs) ++ (n + k, get_or xs k 0) ∷ []
+pairs_next n [] k h = absurd (omega arith)
+pairs_next n (x ∷ xs) zero h = let here : n ≡ n + 0 = omega arith in ap (λ (m : ℕ). (m, x) ∷ []) here
+pairs_next n (x ∷ xs) (suc k) h =
+    let place : n + 1 + k ≡ n + suc k = omega arith in
+    ap (λ (ps : List (ℕ × ℕ)). (n, x) ∷ ps) (pairs_next (n + 1) xs k (omega arith))
+    ∙ ap (λ (m : ℕ). (n, x) ∷ pairs_at (λ r. r) (n + 1) (take k xs) ++ (m, get_or xs k 0) ∷ []) place
 
-pub written_done : (f : ℕ → ℕ) (ps : List (ℕ × ℕ)) (i : ℕ) → length ps ≤ i → written f (drop i ps) ≡ f
+pub written_more : (f : ℕ → ℕ) (n : ℕ) (xs : List ℕ) (k : ℕ) → k < length xs → written f (pairs_at (λ r. r) n (take (k + 1) xs)) ≡ put (written f (pairs_at (λ r. r) n (take k xs))) (n + k) (get_or xs k 0)
 unfolding written
-written_done f ps i h = at_drop_all (written f) ps i h
+written_more f n xs k h =
+    ap (λ (j : ℕ). written f (pairs_at (λ r. r) n (take j xs))) (add-one k)
+    ∙ ap (written f) (pairs_next n xs k h)
+    ∙ written-append f (pairs_at (λ r. r) n (take k xs)) ((n + k, get_or xs k 0) ∷ [])
 
-pub register_at : (ps : List (ℕ × ℕ)) (i : ℕ) (d : ℕ × ℕ) → AreRegisters ps → i < length ps → (get_or ps i d).0 < 32
-register_at [] i d all h = absurd (omega arith)
-register_at (p ∷ ps) zero d all h = all.0
-register_at (p ∷ ps) (suc i) d all h = register_at ps i d all.1 (omega arith)
+pub written_all : (f : ℕ → ℕ) (n : ℕ) (xs : List ℕ) (k : ℕ) → length xs ≤ k → written f (pairs_at (λ r. r) n (take k xs)) ≡ written f (pairs_at (λ r. r) n xs)
+written_all f n xs k h = ap (λ (ys : List ℕ). written f (pairs_at (λ r. r) n ys)) (take_all k xs h)
+
+-- the locals, and then fp
+pub frame_written : (f : ℕ → ℕ) (ws : List ℕ) (fp : ℕ) → written f (frame_sets ws fp) ≡ put (written f (pairs_at (λ r. r) 0 ws)) FP fp
+unfolding written
+frame_written f ws fp = written-append f (pairs_at (λ r. r) 0 ws) ((FP, fp) ∷ [])
+
+pub ruleset group_rules = (registers_of-set, written_more, written_all)
 
 listed : (f : ℕ → ℕ) (a n : ℕ) (xs : List ℕ) → length xs ≡ n → ((k : ℕ) → k < n → f (a + k) ≡ get_or xs k 0) → map f (range_with_len a n) ≡ xs
 listed f a zero [] len same = refl
@@ -55,4 +70,4 @@ pub register_list-of : (regs : List ℕ) → length regs ≡ 32 → register_lis
 unfolding register_list
 register_list-of regs len = listed (registers_of regs) 0 32 regs len (λ k h. ap (registers_of regs) (zero-add k))
 
-pub ruleset register_rules = (registers_past, registers_of-set, registers_of-zeros, register_list-of, register_at, written_more, written_done)
+pub ruleset register_rules = (registers_past, registers_of-set, registers_of-zeros, register_list-of)

@@ -1,10 +1,10 @@
 -- An effect as the action of the definitions, and where it can be applied.
-use Rattle.std.specs.Prelude.{◌≡◌, ℕ, ◌<◌, ◌%◌, Bool, true, false, ◌||◌, nat_lt, List, [], length, Option, None, Some, unwrap_or}
-use Rattle.std.specs.List.{AllByRecursion}
-use Rattle.i9_model.specs.Writes.{upwards}
-use Rattle.i9_model.specs.Memory.{Memory}
+use Rattle.std.specs.Prelude.{◌≡◌, ℕ, ◌+◌, ◌<◌, ◌≤◌, ◌%◌, Bool, true, false, ◌||◌, nat_lt, List, [], length, Option, None, Some, unwrap_or}
+use Rattle.i9_model.specs.declared.layout.TheConstants.{LOCALS}
+use Rattle.i9_model.specs.Writes.{pairs_at, upwards}
+use Rattle.i9_model.specs.Memory.{Memory, words_in}
 use Rattle.i9_model.specs.Boot.{setup_of}
-use Rattle.i9_model.specs.State.{State, Frames}
+use Rattle.i9_model.specs.State.{State, Frames, frame_sets}
 use Rattle.i9_model.specs.Hazards.{save_hazard}
 use Rattle.i9_model.specs.Tables.{tables_hazard, group_hazard}
 use Rattle.i9_model.specs.HeldFrames.{Cache, renewed, cache_acted, cache_configured}
@@ -21,16 +21,31 @@ use Rattle.i9_processor.specs.declared.effect.Effect.{Effect}
 use Rattle.i9_processor.specs.declared.processor.Processor.{Processor}
 use Rattle.i9_processor.specs.State.{state_of, cache_of, size_of}
 
-abbrev pub move_in : Move → plain.Move
-move_in moves.Stays = plain.Stays
-move_in (moves.Saves f) = plain.Saves f.address f.words
-move_in moves.Returns = plain.Returns
-move_in moves.Flushes = plain.Flushes
+-- what is done to frames in a state, whose locals are saved
+abbrev pub move_in : State → Move → plain.Move
+move_in s moves.Stays = plain.Stays
+move_in s (moves.Saves push back) = plain.Saves push.save (plain.saved_locals s back)
+move_in s (moves.Returns frame) = plain.Returns
+move_in s moves.Flushes = plain.Flushes
+
+-- the registers that are set: those of a frame that is entered, or else a group where frames stay
+abbrev pub sets_by : State → Move → List (ℕ × ℕ) → List (ℕ × ℕ)
+sets_by s moves.Stays group = group
+sets_by s (moves.Saves push back) group = plain.push_sets push
+sets_by s (moves.Returns frame) group = frame_sets (words_in s.memory frame LOCALS) frame
+sets_by s moves.Flushes group = []
 
 abbrev pub control_in : Control → plain_controls.Control
 control_in controls.Keeps = plain_controls.KeepsControls
 control_in (controls.Restarts first prcb) = plain_controls.Restarts first prcb
 control_in (controls.LoadsGroup group) = plain_controls.LoadsGroup group
+
+-- the group of registers that an effect sets
+abbrev pub group_in : Effect → List (ℕ × ℕ)
+group_in e = pairs_at (λ r. r) e.register e.values.items
+
+abbrev pub sets_in : State → Effect → List (ℕ × ℕ)
+sets_in s e = sets_by s e.frames (group_in e)
 
 -- the bytes that an effect stores
 abbrev pub writes_in : Effect → List (ℕ × ℕ)
@@ -39,9 +54,9 @@ writes_in e = upwards e.address e.bytes.items
 -- the action of an effect in a state; interrupts, DMA and the check flag stay as they are
 abbrev pub action_in : State → Effect → plain.Action
 action_in s e = record {
-  sets = e.sets.items;
+  sets = sets_in s e;
   writes = writes_in e;
-  move = move_in e.frames;
+  move = move_in s e.frames;
   ac = e.ac;
   pc = e.pc;
   tc = e.tc;
@@ -52,15 +67,15 @@ action_in s e = record {
   next = e.next;
 }
 
--- each place is one of the 32 registers
-abbrev pub AreRegisters : List (ℕ × ℕ) → Type 0
-AreRegisters sets = AllByRecursion (λ p. p.0 < 32) sets
+-- its group is one of the 32 registers
+abbrev pub AreRegisters : Effect → Type 0
+AreRegisters e = e.register + length e.values.items ≤ 32
 
 -- a frame that is saved meets no hazard
 abbrev pub CanMove : Frames → Move → Type 0
 CanMove s moves.Stays = Unit {0}
-CanMove s (moves.Saves f) = (f.address % 16 ≡ 0) × (save_hazard s f.address ≡ None)
-CanMove s moves.Returns = Unit {0}
+CanMove s (moves.Saves push back) = (push.save % 16 ≡ 0) × (save_hazard s push.save ≡ None)
+CanMove s (moves.Returns frame) = Unit {0}
 CanMove s moves.Flushes = Unit {0}
 
 -- the tables that are read in a state meet no hazard
@@ -72,7 +87,7 @@ CanControl s (controls.LoadsGroup group) = (group < 7) × (group_hazard s.frames
 -- an effect is this action, and can be applied in a state
 pub record IsEffect (s : State) (action : plain.Action) (e : Effect) : Type 0 where
   pub same : action_in s e ≡ action
-  pub registers : AreRegisters e.sets.items
+  pub registers : AreRegisters e
   pub moves : CanMove s.frames e.frames
   pub controls : CanControl (plain.moved s action) e.control
 
@@ -81,8 +96,8 @@ pub record IsEffect (s : State) (action : plain.Action) (e : Effect) : Type 0 wh
 -- there is room for what is done to frames
 abbrev pub HasMoveSpace : Storage → Move → Type 0
 HasMoveSpace s moves.Stays = Unit {0}
-HasMoveSpace s (moves.Saves f) = HasFrameSpace s f.address
-HasMoveSpace s moves.Returns = Unit {0}
+HasMoveSpace s (moves.Saves push back) = HasFrameSpace s push.save
+HasMoveSpace s (moves.Returns frame) = Unit {0}
 HasMoveSpace s moves.Flushes = Unit {0}
 
 -- there is room for what an effect stores and saves

@@ -1,42 +1,28 @@
 //! An effect applied.
-ghost use Rattle.std.specs.Prelude.{◌≡◌, ◌+◌, ◌*◌, ◌^◌, ◌<◌, OnOk, OnErr, IfSome, IsSome, [], true};
+ghost use Rattle.std.specs.Prelude.{◌≡◌, ◌+◌, ◌*◌, ◌^◌, ◌<◌, OnOk, OnErr, IfSome, IsSome, [], ◌∷◌, replicate, true};
 ghost use Rattle.i9_model.specs.Controls.{with_group, controlled};
-ghost use Rattle.i9_model.specs.State.{started};
-ghost use Rattle.i9_model.specs.Step.{frames_after, moved, acted, counted};
+ghost use Rattle.i9_model.specs.State.{State, started};
+ghost use Rattle.i9_model.specs.Memory.{words_in};
+ghost use Rattle.i9_model.specs.Writes.{written};
+ghost use Rattle.i9_model.specs.Step.{saved_locals, frames_after, moved, acted, counted};
 ghost use Rattle.i9_model.specs.Free.{IsFree};
 ghost use Rattle.i9_model.specs.Alike.{AreAlike};
 ghost use Rattle.i9_model.specs.HeldFrames.{overlaid, cache_moved, cache_acted, cache_configured};
 ghost use Rattle.i9_storage.specs.Storage as stores;
 ghost use Rattle.i9_storage.specs.Storage.{KeepsSpace};
-ghost use Rattle.i9_processor.specs.Effect.{action_in, move_in, control_in, AreRegisters, CanControl, CanMove, HasMoveSpace, HasSpaceFor, IsEmptied, cache_through, CanTake, size_with, is_costly, has_writes};
+ghost use Rattle.i9_processor.specs.Effect.{action_in, move_in, sets_in, control_in, cache_through, size_with, is_costly, has_writes};
+ghost use Rattle.i9_processor.specs.Effect.{AreRegisters, CanControl, CanMove, HasMoveSpace, HasSpaceFor, IsEmptied, CanTake};
 
 use crate::effect::{Control, Effect, Move};
 use crate::processor::Processor;
-use crate::registers::set_all;
+use crate::registers::{set_frame, set_group};
 use crate::start::{start_breaks, start_maps, start_registers, start_trace_controls, tables_of};
 use i9_entry::aligned;
-use i9_frames::Sets;
+use i9_frames::{Frame, Sets};
 use i9_isa::NoMemory;
-use i9_model::Setup;
-use i9_model::layout::{BOOT_PC, TC_MASK};
+use i9_model::layout::{BOOT_PC, LOCALS, TC_MASK};
+use i9_model::{Push, Setup};
 use i9_storage::Storage;
-
-/// Does what is done to frames.
-fn move_frames(storage: &mut Storage, m: &Move)
-    requires can { CanMove (stores.frames_in storage.old) m.now }
-    requires space { HasMoveSpace storage.old m.now }
-    ensures cache { stores.cache_of storage.new ≡ cache_moved (stores.size_of storage.old) (move_in m.now) (stores.cache_of storage.old) }
-    ensures frames { stores.frames_in storage.new ≡ frames_after (stores.frames_in storage.old) (move_in m.now) }
-    ensures size { stores.size_of storage.new ≡ stores.size_of storage.old }
-    ensures keeps { KeepsSpace storage.old storage.new }
-{
-    match m {
-        Move::Stays => {}
-        Move::Saves(f) => storage.save_frame(*f),
-        Move::Returns => storage.restore_frame(),
-        Move::Flushes => storage.flush(),
-    }
-}
 
 /// Makes room for what is done to frames.
 fn reserve_move(storage: &mut Storage, m: &Move) -> Result<(), NoMemory>
@@ -45,12 +31,19 @@ fn reserve_move(storage: &mut Storage, m: &Move) -> Result<(), NoMemory>
     ensures size { stores.size_of storage.new ≡ stores.size_of storage.old }
     ensures keeps { KeepsSpace storage.old storage.new }
     ensures space { OnOk result (HasMoveSpace storage.new m.now) }
-    ensures needed { OnErr result (is_costly (move_in m.now) ≡ true) }
+    ensures needed { (s : State) → OnErr result (is_costly (move_in s m.now) ≡ true) }
 {
     match m {
-        Move::Saves(f) => storage.reserve_frame(f.address),
+        Move::Saves { push, back: _ } => storage.reserve_frame(push.save),
         _ => Ok(()),
     }
+}
+
+/// The locals of a new frame: pfp, sp, and zeros.
+fn new_locals(push: &Push) -> [u32; LOCALS]
+    ensures { result ≡ push.now.pfp ∷ push.now.sp ∷ replicate 14 0 }
+{
+    [push.pfp, push.sp, 0, 0, 0, 0, 0, 0, 0, 0, 0, 0, 0, 0, 0, 0]
 }
 
 impl Processor {
@@ -72,7 +65,8 @@ impl Processor {
     /// Starts anew by what was read of the tables.
     #[tactic(auto, unfolding(crate::specs::State::state_of, crate::specs::State::cache_of, crate::specs::State::size_of, i9_model::specs::State::started))]
     fn start(&mut self, setup: &Setup)
-        ensures state { state_of self.new ≡ started setup.now (state_of self.old).regs (state_of self.old).count (state_of self.old).memory (state_of self.old).frames }
+        ensures state { state_of self.new ≡ started setup.now (state_of self.old).regs (state_of self.old).count
+            (state_of self.old).memory (state_of self.old).frames }
         ensures cache { cache_of self.new ≡ cache_of self.old }
         ensures size { size_of self.new ≡ size_of self.old }
         ensures count { (state_of self.new).count ≡ (state_of self.old).count }
@@ -137,22 +131,107 @@ impl Processor {
         }
     }
 
+    /// The locals as a push saves them: rip is the return address.
+    #[tactic(auto, unfolding(crate::specs::State::state_of), using(crate::proofs::RegisterList::register_rules))]
+    fn saved_locals(&self, back: u32) -> [u32; LOCALS]
+        ensures { result ≡ saved_locals (state_of self.now) back }
+    {
+        let r = |k: u8| self.register(k);
+        [
+            r(0),
+            r(1),
+            back,
+            r(3),
+            r(4),
+            r(5),
+            r(6),
+            r(7),
+            r(8),
+            r(9),
+            r(10),
+            r(11),
+            r(12),
+            r(13),
+            r(14),
+            r(15),
+        ]
+    }
+
+    /// The locals of a frame in memory.
+    fn frame_words(&self, frame: u32) -> [u32; LOCALS]
+        ensures { result ≡ words_in (state_of self.now).memory frame LOCALS }
+    {
+        let word = |k: u32| self.word(frame.wrapping_add(4 * k));
+        [
+            word(0),
+            word(1),
+            word(2),
+            word(3),
+            word(4),
+            word(5),
+            word(6),
+            word(7),
+            word(8),
+            word(9),
+            word(10),
+            word(11),
+            word(12),
+            word(13),
+            word(14),
+            word(15),
+        ]
+    }
+
+    /// Does what is done to frames, and sets registers.
+    #[tactic(auto, unfolding(crate::specs::State::state_of, crate::specs::State::cache_of, crate::specs::State::size_of))]
+    fn move_frames(&mut self, e: &Effect)
+        requires registers { AreRegisters e.now }
+        requires can { CanMove (state_of self.old).frames e.now.frames }
+        requires space { HasMoveSpace self.old.storage e.now.frames }
+        ensures state { state_of self.new ≡ record (state_of self.old) {
+          regs = written (state_of self.old).regs (sets_in (state_of self.old) e.now);
+          memory = (state_of self.new).memory;
+          frames = frames_after (state_of self.old).frames (move_in (state_of self.old) e.now.frames);
+        } }
+        ensures memory { (state_of self.new).memory ≡ overlaid (cache_of self.new) }
+        ensures cache { cache_of self.new ≡ cache_moved (size_of self.old) (move_in (state_of self.old) e.now.frames) (cache_of self.old) }
+        ensures size { size_of self.new ≡ size_of self.old }
+        ensures keeps { KeepsSpace self.old.storage self.new.storage }
+    {
+        match e.frames {
+            Move::Stays => set_group(&mut self.regs, e.register, e.values.as_slice()),
+            Move::Saves { push, back } => {
+                let address = push.save;
+                let words = self.saved_locals(back);
+                self.storage.save_frame(Frame { address, words });
+                set_frame(&mut self.regs, &new_locals(&push), push.frame);
+            }
+            Move::Returns(frame) => {
+                let locals = self.frame_words(frame);
+                self.storage.restore_frame();
+                set_frame(&mut self.regs, &locals, frame);
+            }
+            Move::Flushes => self.storage.flush(),
+        }
+    }
+
     /// Does what an effect says, but for what is done to the controls that start-up reads.
     #[tactic(auto, unfolding(crate::specs::State::state_of, crate::specs::State::cache_of, crate::specs::State::size_of, i9_model::specs::Step::moved))]
     fn do_moves(&mut self, e: &Effect)
-        requires registers { AreRegisters e.now.sets.items }
+        requires registers { AreRegisters e.now }
         requires can { CanMove (state_of self.old).frames e.now.frames }
         requires space { HasSpaceFor self.old e.now }
         requires free { IsFree (state_of self.old) (action_in (state_of self.old) e.now) }
-        ensures state { state_of self.new ≡ record (moved (state_of self.old) (action_in (state_of self.old) e.now)) { memory = (state_of self.new).memory } }
+        ensures state { state_of self.new ≡ record (moved (state_of self.old) (action_in (state_of self.old) e.now)) {
+          memory = (state_of self.new).memory;
+        } }
         ensures memory { (state_of self.new).memory ≡ overlaid (cache_of self.new) }
         ensures cache { cache_of self.new ≡ cache_acted (size_of self.old) (action_in (state_of self.old) e.now) (cache_of self.old) }
         ensures size { size_of self.new ≡ size_of self.old }
         ensures count { (state_of self.new).count ≡ (state_of self.old).count }
     {
-        move_frames(&mut self.storage, &e.frames);
+        self.move_frames(e);
         self.storage.store(e.address, e.bytes.as_slice());
-        set_all(&mut self.regs, e.sets.as_slice());
         self.ac = e.ac;
         self.pc = e.pc;
         self.tc = e.tc;
@@ -188,12 +267,12 @@ impl Processor {
     /// Does what an effect says, with the new sets that were made for it, and counts so many
     /// instructions. It needs no memory.
     pub fn apply(&mut self, e: &Effect, counts: u64, sets: Option<Sets>)
-        requires registers { AreRegisters e.now.sets.items }
+        requires registers { AreRegisters e.now }
         requires can { CanMove (state_of self.old).frames e.now.frames }
         requires space { HasSpaceFor self.old e.now }
         requires free { IsFree (state_of self.old) (action_in (state_of self.old) e.now) }
         requires controls { CanControl (moved (state_of self.old) (action_in (state_of self.old) e.now)) e.now.control }
-        requires sets { CanTake (move_in e.now.frames) sets }
+        requires sets { CanTake (move_in (state_of self.old) e.now.frames) sets }
         requires count { (state_of self.old).count + counts < 2 ^ 63 }
         ensures state { AreAlike (counted counts (acted (state_of self.old) (action_in (state_of self.old) e.now))) (state_of self.new) }
         ensures cache { cache_of self.new ≡ cache_through self.old (action_in (state_of self.old) e.now) self.new }

@@ -1,28 +1,30 @@
 //! What is done to a processor, as data.
-ghost use Rattle.std.specs.Prelude.{◌≡◌, ◌<◌, ◌^◌, length};
-ghost use Rattle.i9_model.specs.Writes.{last_put, upwards};
+ghost use Rattle.std.specs.Prelude.{◌≡◌, ◌+◌, ◌<◌, ◌≤◌, ◌^◌, [], length};
+ghost use Rattle.i9_model.specs.Writes.{last_put, pairs_at, upwards};
+ghost use Rattle.i9_model.specs.Step.{going};
 ghost use Rattle.i9_model.specs.Memory.{console_byte, exit_word};
 
 use crate::processor::Processor;
 use arrayvec::ArrayVec;
-use i9_frames::Frame;
+use i9_model::Push;
 use i9_model::layout::{CONSOLE, EXIT_WORD};
 
-/// The most registers that an effect sets: the sixteen locals of a frame, and fp.
-pub const MOST_SETS: usize = 17;
+/// The most registers that an effect sets beside those of a frame: a group of four.
+pub const MOST_VALUES: usize = 4;
 
 /// The most bytes that an effect stores: four words.
 pub const MOST_BYTES: usize = 16;
 
 /// What is done to frames.
-#[derive(Debug, Drop)]
+#[derive(Clone, Copy, Debug)]
 pub enum Move {
     /// Nothing.
     Stays,
-    /// A frame is saved.
-    Saves(Frame),
-    /// The first live frame is returned to, where one is live.
-    Returns,
+    /// The locals are saved, with this return address as rip, and a new frame is entered.
+    Saves { push: Push, back: u32 },
+    /// The first live frame is returned to, where one is live: the frame at this address is entered
+    /// again, with the locals that memory has there.
+    Returns(u32),
     /// All live frames are in memory.
     Flushes,
 }
@@ -38,12 +40,13 @@ pub enum Control {
     LoadsGroup(u8),
 }
 
-/// The registers that are set with their values, the bytes that are stored from an address on, what
-/// is done to frames, the arithmetic, process and trace controls afterwards, what is done to the
-/// other controls, and the next instruction address.
+/// The values that go to registers from one up, where nothing is done to frames; the bytes that are
+/// stored from an address on; what is done to frames; the arithmetic, process and trace controls
+/// afterwards; what is done to the other controls; and the next instruction address.
 #[derive(Debug, Drop)]
 pub struct Effect {
-    pub sets: ArrayVec<(u8, u32), MOST_SETS>,
+    pub register: u8,
+    pub values: ArrayVec<u32, MOST_VALUES>,
     pub address: u32,
     pub bytes: ArrayVec<u8, MOST_BYTES>,
     pub frames: Move,
@@ -63,8 +66,48 @@ fn byte_of_run(address: u32, bytes: &[u8], place: u32) -> Option<u8>
 }
 
 impl Effect {
-    ghost use Rattle.i9_processor.specs.Effect.{writes_in};
+    ghost use Rattle.i9_processor.specs.Effect.{writes_in, IsEffect};
     ghost use Rattle.i9_processor.specs.State.{state_of};
+
+    /// Values go to registers from one up, and control goes to an address.
+    pub fn setting(
+        processor: &Processor,
+        next: u32,
+        register: u8,
+        values: ArrayVec<u32, MOST_VALUES>,
+    ) -> Effect
+        requires { register + length values.items ≤ 32 }
+        ensures effect { IsEffect (state_of processor.now)
+            (record (going (state_of processor.now) next) { sets = pairs_at (λ r. r) register values.items }) result }
+        ensures values { result.values.items ≡ values.items }
+        ensures bytes { result.bytes.items ≡ [] }
+        ensures frames { result.frames ≡ Move.Stays }
+        ensures control { result.control ≡ Control.Keeps }
+    {
+        Effect {
+            register,
+            values,
+            address: 0,
+            bytes: ArrayVec::new(),
+            frames: Move::Stays,
+            ac: processor.ac(),
+            pc: processor.pc(),
+            tc: processor.tc(),
+            control: Control::Keeps,
+            next,
+        }
+    }
+
+    /// Nothing is done, but control goes to an address.
+    pub fn going(processor: &Processor, next: u32) -> Effect
+        ensures effect { IsEffect (state_of processor.now) (going (state_of processor.now) next) result }
+        ensures values { result.values.items ≡ [] }
+        ensures bytes { result.bytes.items ≡ [] }
+        ensures frames { result.frames ≡ Move.Stays }
+        ensures control { result.control ≡ Control.Keeps }
+    {
+        Effect::setting(processor, next, 0, ArrayVec::new())
+    }
 
     /// The byte that is stored at an address.
     fn byte_at(&self, place: u32) -> Option<u8>

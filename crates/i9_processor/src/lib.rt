@@ -9,10 +9,8 @@ mod processor;
 mod registers;
 mod start;
 
-pub use effect::{Control, Effect, MOST_BYTES, MOST_SETS, Move};
-pub use i9_frames::Frame;
+pub use effect::{Control, Effect, MOST_BYTES, MOST_VALUES, Move};
 pub use processor::Processor;
-pub use registers::{frame_sets, group_sets};
 
 #[cfg(test)]
 mod tests;

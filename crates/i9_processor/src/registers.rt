@@ -2,11 +2,8 @@
 ghost use Rattle.std.specs.Prelude.{◌≡◌, ◌+◌, ◌<◌, ◌≤◌, length};
 ghost use Rattle.i9_model.specs.Writes.{put, written, pairs_at};
 ghost use Rattle.i9_model.specs.State.{frame_sets};
-ghost use Rattle.i9_processor.specs.Effect.{AreRegisters};
 ghost use Rattle.i9_processor.specs.State.{registers_of};
 
-use crate::effect::MOST_SETS;
-use arrayvec::ArrayVec;
 use i9_model::layout::{FP, LOCALS};
 
 /// Sets a register.
@@ -18,41 +15,22 @@ fn set(regs: &mut [u32; 32], r: u8, v: u32)
     regs[r as usize] = v;
 }
 
-/// Sets registers, one after the other.
-#[tactic(auto, using(crate::proofs::RegisterList::register_rules))]
-pub(crate) fn set_all(regs: &mut [u32; 32], sets: &[(u8, u32)])
-    requires { AreRegisters sets.now }
-    ensures { registers_of regs.new ≡ written (registers_of regs.old) sets.now }
+/// Sets registers from one up.
+#[tactic(auto, using(crate::proofs::RegisterList::group_rules))]
+pub(crate) fn set_group(regs: &mut [u32; 32], r: u8, words: &[u32])
+    requires { r + length words.now ≤ 32 }
+    ensures { registers_of regs.new ≡ written (registers_of regs.old) (pairs_at (λ k. k) r words.now) }
 {
-    for (r, v) in sets {
-        set(regs, *r, *v);
-    }
-}
-
-/// Words that go to registers from one up.
-#[tactic(auto, using(crate::proofs::Frames::frame_rules))]
-pub fn group_sets(r: u8, words: &[u32]) -> ArrayVec<(u8, u32), MOST_SETS>
-    requires few { length words.now ≤ 16 }
-    requires group { r + length words.now ≤ 32 }
-    ensures sets { result.items ≡ pairs_at (λ k. k) r words.now }
-    ensures count { length result.items ≡ length words.now }
-    ensures registers { AreRegisters result.items }
-{
-    let mut sets = ArrayVec::new();
     for k in 0..words.len() {
-        sets.push((r + k as u8, words[k]));
+        set(regs, r + k as u8, words[k]);
     }
-    sets
 }
 
-/// The locals and fp of a frame, set.
-#[tactic(auto, using(crate::proofs::Frames::frame_rules))]
-pub fn frame_sets(locals: &[u32], frame: u32) -> ArrayVec<(u8, u32), MOST_SETS>
-    requires { length locals.now ≡ LOCALS }
-    ensures sets { result.items ≡ frame_sets locals.now frame }
-    ensures registers { AreRegisters result.items }
+/// Sets the locals and fp of a frame.
+#[tactic(auto, using(crate::proofs::RegisterList::frame_written))]
+pub(crate) fn set_frame(regs: &mut [u32; 32], locals: &[u32; LOCALS], frame: u32)
+    ensures { registers_of regs.new ≡ written (registers_of regs.old) (frame_sets locals.now frame) }
 {
-    let mut sets = group_sets(0, locals);
-    sets.push((FP, frame));
-    sets
+    set_group(regs, 0, locals);
+    set(regs, FP, frame);
 }

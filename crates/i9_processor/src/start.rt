@@ -5,7 +5,7 @@ ghost use Rattle.i9_model.specs.State.{first_frame, start_sets, start_interrupts
 ghost use Rattle.i9_model.specs.Writes.{wrapped, written};
 ghost use Rattle.i9_processor.specs.State.{registers_of};
 
-use crate::registers::{frame_sets, set_all};
+use crate::registers::set_frame;
 use i9_model::layout::{FRAME_SIZE, TC_MASK};
 use i9_model::{Breaks, Setup, Tables};
 
@@ -24,7 +24,7 @@ pub(crate) fn start_registers(regs: &[u32; 32], setup: &Setup) -> [u32; 32]
     let mut locals = [0; 16];
     locals[1] = frame.wrapping_add(FRAME_SIZE);
     let mut started = *regs;
-    set_all(&mut started, frame_sets(&locals, frame).as_slice());
+    set_frame(&mut started, &locals, frame);
     started
 }
 

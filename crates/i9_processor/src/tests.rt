@@ -5,12 +5,12 @@ ghost use Rattle.i9_model.specs.Step.{moved};
 ghost use Rattle.i9_processor.specs.Effect.{action_in, move_in, AreRegisters, CanControl, CanMove, CanTake};
 ghost use Rattle.i9_processor.specs.State.{state_of};
 
-use crate::{Control, Effect, Frame, Move, Processor, frame_sets, group_sets};
+use crate::{Control, Effect, Move, Processor};
 use arrayvec::ArrayVec;
 use i9_calls::{CallsStop, Pop, Push, Sys};
 use i9_entry::aligned;
 use i9_faults::{Entry, Fault, FaultStop};
-use i9_frames::Sets;
+use i9_frames::{Frame, Sets};
 use i9_hex::Segments;
 use i9_model::{Tables, View};
 use std::alloc::Global;
@@ -142,24 +142,6 @@ fn reads_in_both_orders(rt: HostRuntime) -> Result<(), Fail> {
 }
 
 #[test]
-fn lists_registers(rt: HostRuntime) {
-    assert_eq!(rt;
-        (aligned(0x1237), aligned(0xFFFF_FFFC)),
-        (0x1234, 0xFFFF_FFFC)
-    );
-    assert_eq!(rt;
-        group_sets(30, &[7, 8]).as_slice(),
-        [(30, 7), (31, 8)].as_slice()
-    );
-    let sets = frame_sets(&[9; 16], 0x40);
-    assert_eq!(rt; sets.len(), 17);
-    assert_eq!(rt;
-        (sets.first(), sets.get(15), sets.last()),
-        (Some(&(0, 9)), Some(&(15, 9)), Some(&(31, 0x40)))
-    );
-}
-
-#[test]
 fn plans(rt: HostRuntime) -> Result<(), Fail> {
     let p = booted(rt.alloc(), 0)?;
     let push = Push {
@@ -225,7 +207,7 @@ fn finds_bytes_of_the_port_page(rt: HostRuntime) -> Result<(), Fail> {
     ];
     for (region, address, wanted) in rows {
         let p = booted(rt.alloc(), region)?;
-        let mut effect = going(&p, 0);
+        let mut effect = Effect::going(&p, 0);
         effect.address = address;
         effect.bytes = ArrayVec::from([1, 2, 3, 4, 5, 6, 7, 8, 9, 10, 11, 12, 13, 14, 15, 16]);
         assert_eq!(rt; (effect.console_byte(), effect.exit_word(&p)), wanted);
@@ -233,33 +215,13 @@ fn finds_bytes_of_the_port_page(rt: HostRuntime) -> Result<(), Fail> {
     Ok(())
 }
 
-/// Nothing is done, but control goes to an address.
-fn going(p: &Processor, next: u32) -> Effect
-    ensures sets { result.sets.items ≡ [] }
-    ensures bytes { result.bytes.items ≡ [] }
-    ensures frames { result.frames ≡ Move.Stays }
-    ensures control { result.control ≡ Control.Keeps }
-{
-    Effect {
-        sets: ArrayVec::new(),
-        address: 0,
-        bytes: ArrayVec::new(),
-        frames: Move::Stays,
-        ac: p.ac(),
-        pc: p.pc(),
-        tc: p.tc(),
-        control: Control::Keeps,
-        next,
-    }
-}
-
 /// Makes room for an effect, applies it, and counts an instruction.
 fn applies(p: &mut Processor, effect: &Effect, sets: Option<Sets>) -> Result<(), Fail>
-    requires registers { AreRegisters effect.now.sets.items }
+    requires registers { AreRegisters effect.now }
     requires can { CanMove (state_of p.old).frames effect.now.frames }
     requires free { IsFree (state_of p.old) (action_in (state_of p.old) effect.now) }
     requires controls { CanControl (moved (state_of p.old) (action_in (state_of p.old) effect.now)) effect.now.control }
-    requires sets { CanTake (move_in effect.now.frames) sets }
+    requires sets { CanTake (move_in (state_of p.old) effect.now.frames) sets }
 {
     if p.count() > 100 {
         return Err("too many".into());
@@ -269,22 +231,15 @@ fn applies(p: &mut Processor, effect: &Effect, sets: Option<Sets>) -> Result<(),
     Ok(())
 }
 
-/// Saves a frame whose words are all the same, and goes on in a new one at 1300.
-#[tactic(auto, unfolding(i9_model::specs::Hazards::writes_hazard), using(crate::proofs::Frames::frame_rules))]
-fn saves(p: &mut Processor, word: u32) -> Result<(), Fail> {
+/// Saves a frame with a return address, and goes on in a new one at 1300.
+#[tactic(auto, unfolding(i9_model::specs::Hazards::writes_hazard), using(crate::proofs::Applying::locals_whole))]
+fn saves(p: &mut Processor, back: u32) -> Result<(), Fail> {
     let push = match p.plan_call() {
         Ok(push) => push,
         Err(_) => return Err("a hazard".into()),
     };
-    let mut locals = [0; 16];
-    locals[0] = push.pfp;
-    locals[1] = push.sp;
-    let mut effect = going(p, 0x1300);
-    effect.sets = frame_sets(&locals, push.frame);
-    effect.frames = Move::Saves(Frame {
-        address: push.save,
-        words: [word; 16],
-    });
+    let mut effect = Effect::going(p, 0x1300);
+    effect.frames = Move::Saves { push, back };
     applies(p, &effect, None)
 }
 
@@ -294,7 +249,7 @@ fn stores(p: &mut Processor, a: u32, bytes: (u8, u8)) -> Result<(), Fail> {
     if p.check_write(a, 2).is_some() {
         return Err("a hazard".into());
     }
-    let mut effect = going(p, 0x1308);
+    let mut effect = Effect::going(p, 0x1308);
     effect.address = a;
     effect.bytes.push(bytes.0);
     effect.bytes.push(bytes.1);
@@ -304,9 +259,9 @@ fn stores(p: &mut Processor, a: u32, bytes: (u8, u8)) -> Result<(), Fail> {
 /// Returns to the youngest live frame, or flushes all of them.
 #[tactic(auto, unfolding(i9_model::specs::Hazards::writes_hazard))]
 fn leaves(p: &mut Processor, by: Move) -> Result<(), Fail> {
-    let mut effect = going(p, 0x1304);
+    let mut effect = Effect::going(p, 0x1304);
     match by {
-        Move::Saves(_) => return Err("a save".into()),
+        Move::Saves { .. } => return Err("a save".into()),
         other => effect.frames = other,
     }
     applies(p, &effect, None)
@@ -337,8 +292,8 @@ fn keeps_frames(rt: HostRuntime) -> Result<(), Fail> {
     );
     assert_eq!(rt;
         (
-            p.word(0x77BC),
-            p.overlay(0x7780),
+            p.word(0x7788),
+            p.overlay(0x7788),
             p.overlay(0x4000),
             p.overlay(0xE000_0008)
         ),
@@ -346,11 +301,15 @@ fn keeps_frames(rt: HostRuntime) -> Result<(), Fail> {
     );
     let frame = Frame {
         address: 0x7780,
-        words: [9; 16],
+        words: [0, 0x77C0, 9, 0, 0, 0, 0, 0, 0, 0, 0, 0, 0, 0, 0, 0],
     };
     assert_eq!(rt; (p.sets().len(), p.sets().at(0).copied()), (1, Some(frame)));
-    // Behind the return they stay soft,
-    leaves(&mut p, Move::Returns)?;
+    // Behind the return they stay soft, and its locals are there again,
+    leaves(&mut p, Move::Returns(0x7780))?;
+    assert_eq!(rt;
+        (p.register(1), p.register(2), p.register(31)),
+        (0x77C0, 9, 0x7780)
+    );
     assert_eq!(rt;
         (
             p.check_read(0x777C, 8),
@@ -378,8 +337,8 @@ fn keeps_frames(rt: HostRuntime) -> Result<(), Fail> {
     leaves(&mut p, Move::Flushes)?;
     assert_eq!(rt;
         (
-            p.check_read(0x77C0, 64),
-            p.overlay(0x77C0),
+            p.check_read(0x7780, 64),
+            p.overlay(0x7788),
             p.sets().len(),
             p.ip()
         ),
