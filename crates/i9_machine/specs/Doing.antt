@@ -30,7 +30,7 @@ asks_room s step =
 
 -- its effect can be applied in a state, and its count fits a length
 pub record IsReady (s : State) (limit : ℕ) (step : Step) : Type 0 where
-  pub registers : AreRegisters step.effect.sets.items
+  pub registers : AreRegisters step.effect
   pub moves : CanMove s.frames step.effect.frames
   pub free : IsFree s (action_in s step.effect)
   pub controls : CanControl (moved s (action_in s step.effect)) step.effect.control

@@ -143,7 +143,7 @@ impl Machine {
     fn act(&mut self, step: Step, sets: Option<Sets>, out: &mut Vec<Line>) -> Turn
         requires ready { IsReady (state_of self.old.processor) self.old.length step }
         requires space { HasSpaceFor self.old.processor step.effect }
-        requires made { CanTake (move_in step.effect.frames) sets }
+        requires made { CanTake (move_in (state_of self.old.processor) step.effect.frames) sets }
         requires lines { vec_len out.old + line_count step ≤ vec_capacity out.old }
         ensures state { AreAlike (counted step.counts (acted (state_of self.old.processor) (action_in (state_of self.old.processor) step.effect))) (state_of self.new.processor) }
         ensures cache { cache_of self.new.processor ≡ cache_through self.old.processor (action_in (state_of self.old.processor) step.effect) self.new.processor }

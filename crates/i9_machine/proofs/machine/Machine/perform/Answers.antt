@@ -9,7 +9,7 @@ use Rattle.i9_model.specs.Alike.{AreAlike}
 use Rattle.i9_model.specs.HeldFrames.{Cache, renewed, cache_acted, cache_configured}
 use Rattle.i9_model.specs.PrintedText.{Shown, out_lines, point_lines}
 use Rattle.i9_model.proofs.HeldRuns.{next_free}
-use Rattle.i9_processor.specs.Effect.{action_in, CanControl}
+use Rattle.i9_processor.specs.Effect.{action_in, move_in, CanControl, CanTake}
 use Rattle.i9_processor.specs.State.{state_of, cache_of, size_of}
 use Rattle.i9_processor.proofs.NewSets.{made_size, made_takes}
 use Rattle.i9_machine.specs.declared.line.Line.{Line}
@@ -45,7 +45,8 @@ act-requires-clause-made c =
     let step = c.requires.step in
     let free = next_free old.length old.due s (record_of step.kind s) step.is_next in
     let planned : IsFree s (action_in s c.args.step.effect) = subst (IsFree s) (sym step.effect.same) free.1 in
-    made_takes old.sets s.memory c.args.step.effect.control c.in-Ok.sets (action_in s c.args.step.effect).move (action_in s c.args.step.effect).writes c.in-Ok.ensures.made planned.controls
+    subst (λ (t : State). CanTake (move_in t c.args.step.effect.frames) c.in-Ok.sets) (sym c.make_room.ensures.same.state)
+    (made_takes old.sets s.memory c.args.step.effect.control c.in-Ok.sets (action_in s c.args.step.effect).move (action_in s c.args.step.effect).writes c.in-Ok.ensures.made planned.controls)
 
 pub returns-in-Ok-clause-fewer : goal.returns-in-Ok-clause-fewer
 unfolding steps_left
