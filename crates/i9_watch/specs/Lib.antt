@@ -1,2 +1,4 @@
+pub mod Live
 pub mod Marks
+pub mod Page
 pub mod Watch

@@ -1,28 +1,41 @@
--- Marks: which addresses are marked, and which have room for a mark.
-use Rattle.std.specs.Prelude.{ℕ, ◌+◌, ◌/◌, ◌<◌, ◌%◌, Bool, false, slice_index_or, Option, Some, None, IsSome}
+-- Marks: which addresses are marked, and which have room for marks.
+use Rattle.std.specs.Prelude.{ℕ, ◌+◌, ◌/◌, ◌<◌, ◌%◌, Bool, false, if◌then◌else◌, Option, Some, None, IsSome}
 use Rattle.std.specs.Ordering.{nat_cmp}
 use Rattle.std.specs.BTreeMap.{get}
 use Rattle.i9_model.specs.declared.layout.TheConstants.{FRAME_SIZE}
 use Rattle.i9_model.specs.Writes.{wrapped}
-use Rattle.i9_watch.specs.declared.marks.Page.{Page}
+use Rattle.i9_model.specs.Frames.{in_bytes}
+use Rattle.i9_watch.specs.declared.page.Mark.{Mark}
+use Rattle.i9_watch.specs.declared.page.Change.{Change}
+use Rattle.i9_watch.specs.declared.page.Page.{Page}
 use Rattle.i9_watch.specs.declared.marks.Marks.{Marks}
+use Rattle.i9_watch.specs.Page.{has_mark, changed}
 
--- a place of a page is marked
-abbrev pub is_marked_in : Option Page → ℕ → Bool
-is_marked_in None k = false
-is_marked_in (Some p) k = slice_index_or p.marks.value k false
+-- a place of a page that may be lacking has a mark
+abbrev pub is_marked_in : Mark → Option Page → ℕ → Bool
+is_marked_in m None k = false
+is_marked_in m (Some p) k = has_mark m p k
 
-abbrev pub is_marked : Marks → ℕ → Bool
-is_marked m a = is_marked_in (get nat_cmp m.pages (a / 256)) (a % 256)
+-- an address has a mark
+abbrev pub is_marked : Mark → Marks → ℕ → Bool
+is_marked m s a = is_marked_in m (get nat_cmp s.pages (a / 256)) (a % 256)
+
+-- marks after a change of so many addresses from one on
+abbrev pub changed_run : Change → Mark → ℕ → ℕ → (ℕ → Bool) → ℕ → Bool
+changed_run c m a n marks x = if in_bytes a n x then changed c m (marks x) else marks x
 
 -- a page is there
 abbrev pub HasPage : Marks → ℕ → Type 0
-HasPage m p = IsSome (get nat_cmp m.pages p)
+HasPage s p = IsSome (get nat_cmp s.pages p)
 
 -- an address can be marked
-abbrev pub HasMark : Marks → ℕ → Type 0
-HasMark m a = HasPage m (a / 256)
+abbrev pub HasRoom : Marks → ℕ → Type 0
+HasRoom s a = HasPage s (a / 256)
 
 -- each byte of a frame can be marked
-abbrev pub HasFrameMarks : Marks → ℕ → Type 0
-HasFrameMarks m a = (k : ℕ) → k < FRAME_SIZE → HasMark m (wrapped (a + k))
+abbrev pub HasFrameRoom : Marks → ℕ → Type 0
+HasFrameRoom s a = (k : ℕ) → k < FRAME_SIZE → HasRoom s (wrapped (a + k))
+
+-- pages that were there still are
+abbrev pub KeepsPages : Marks → Marks → Type 0
+KeepsPages old new = (p : ℕ) → HasPage old p → HasPage new p

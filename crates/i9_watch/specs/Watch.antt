@@ -3,12 +3,13 @@ use Rattle.std.specs.Prelude.{ℕ, ◌+◌, ◌<◌}
 use Rattle.i9_model.specs.declared.layout.TheConstants.{FRAME_SIZE}
 use Rattle.i9_model.specs.Writes.{wrapped}
 use Rattle.i9_model.specs.State.{Frames}
+use Rattle.i9_watch.specs.declared.page.Mark.TheVariants.{Soft}
 use Rattle.i9_watch.specs.declared.watch.Watch.{Watch}
-use Rattle.i9_watch.specs.Marks.{is_marked, HasMark}
+use Rattle.i9_watch.specs.Marks.{is_marked, HasRoom}
 
 -- the soft bytes and the live frames
 unfoldable pub frames_of : Watch → Frames
-frames_of w = record { soft = is_marked w.soft; live = w.live.items }
+frames_of w = record { soft = is_marked Soft w.marks; live = w.live.items }
 
 -- so many frames can be saved
 unfoldable pub spare_of : Watch → ℕ
@@ -16,7 +17,7 @@ spare_of w = w.spare
 
 -- a byte can be made soft
 unfoldable pub HasMarks : Watch → ℕ → Type 0
-HasMarks w a = HasMark w.soft a
+HasMarks w a = HasRoom w.marks a
 
 -- the bytes of a frame can be made soft
 abbrev pub HasFrameMarks : Watch → ℕ → Type 0

@@ -3,6 +3,7 @@
 #![tactic(auto)]
 
 mod marks;
+mod page;
 mod watch;
 
 pub use i9_model::Push;

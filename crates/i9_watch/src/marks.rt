@@ -1,21 +1,13 @@
-//! A mark for each address.
-ghost use Rattle.std.specs.Prelude.{◌≡◌, ◌≢◌, ℕ, ◌+◌, ◌/◌, ◌<◌, ◌==◌, if◌then◌else◌, ◌&&◌, ◌||◌, not, false, OnOk, OnErr};
+//! The marks of all addresses.
+ghost use Rattle.std.specs.Prelude.{◌≡◌, ◌≢◌, ℕ, ◌+◌, ◌/◌, ◌%◌, ◌<◌, ◌≤◌, ◌==◌, if◌then◌else◌, ◌&&◌, not, true, false, OnOk, OnErr};
 ghost use Rattle.i9_model.specs.Writes.{wrapped};
 ghost use Rattle.i9_model.specs.Frames.{in_bytes, in_frames};
 
+use crate::page::{Change, Mark, PAGE_SIZE, Page};
 use i9_isa::NoMemory;
 use i9_model::layout::FRAME_SIZE;
 use std::alloc::Global;
 use std::collections::{BTreeMap, VecDeque};
-
-/// How many addresses a page has.
-const PAGE_SIZE: u32 = 256;
-
-/// The marks of the addresses of a page.
-#[derive(Drop)]
-pub(crate) struct Page {
-    marks: Box<[bool; 256]>,
-}
 
 /// Pages by number. No address of a page that is lacking is marked.
 #[derive(Drop)]
@@ -24,12 +16,23 @@ pub(crate) struct Marks {
     pages: BTreeMap<u32, Page>,
 }
 
+/// How many of so many addresses from one on lie in its page.
+fn count_in_page(a: u32, n: u32) -> u32
+    ensures most { result ≤ n }
+    ensures some { 0 < n → 0 < result }
+    ensures within { a % 256 + result ≤ 256 }
+    ensures blocks { a % 16 ≡ 0 → n % 16 ≡ 0 → result % 16 ≡ 0 }
+{
+    n.min(PAGE_SIZE - a % PAGE_SIZE)
+}
+
 impl Marks {
-    ghost use Rattle.i9_watch.specs.Marks.{is_marked, HasMark, HasPage, HasFrameMarks};
+    ghost use Rattle.i9_watch.specs.Marks.{is_marked, changed_run, HasPage, HasRoom, HasFrameRoom, KeepsPages};
+    ghost use Rattle.i9_watch.specs.Live.{AreAligned};
 
     /// No address is marked.
     pub(crate) fn new(alloc: Global) -> Marks
-        ensures { is_marked result ≡ (λ _. false) }
+        ensures { (m : Mark) → is_marked m result ≡ (λ _. false) }
     {
         Marks {
             alloc,
@@ -37,32 +40,57 @@ impl Marks {
         }
     }
 
-    /// Whether an address is marked.
-    pub(crate) fn is_marked(&self, a: u32) -> bool
-        ensures { result ≡ is_marked self.now a }
+    /// Whether an address has a mark.
+    pub(crate) fn is_marked(&self, mark: Mark, a: u32) -> bool
+        ensures { result ≡ is_marked mark self.now a }
     {
         match self.pages.get(&(a / PAGE_SIZE)) {
             None => false,
-            Some(page) => page.marks[(a % PAGE_SIZE) as usize],
+            Some(page) => page.has(mark, a % PAGE_SIZE),
         }
+    }
+
+    /// Whether one of so many addresses of a page has a mark.
+    fn has_any_in_page(&self, mark: Mark, a: u32, n: u32) -> bool
+        requires { a % 256 + n ≤ 256 }
+        ensures { result ≡ false → (k : ℕ) → k < n → is_marked mark self.now (wrapped (a + k)) ≡ false }
+    {
+        match self.pages.get(&(a / PAGE_SIZE)) {
+            None => false,
+            Some(page) => page.has_any(mark, a % PAGE_SIZE, n),
+        }
+    }
+
+    /// Whether one of so many addresses from one on has a mark.
+    pub(crate) fn has_any(&self, mark: Mark, a: u32, n: u32) -> bool
+        ensures { result ≡ false → (k : ℕ) → k < n → is_marked mark self.now (wrapped (a + k)) ≡ false }
+    {
+        let mut done = 0;
+        while done < n {
+            let first = a.wrapping_add(done);
+            let count = count_in_page(first, n - done);
+            if self.has_any_in_page(mark, first, count) {
+                return true;
+            }
+            done += count;
+        }
+        false
     }
 
     /// Makes room for the marks of a page.
     fn reserve_page(&mut self, page: u32) -> Result<(), NoMemory>
-        ensures same { is_marked self.new ≡ is_marked self.old }
+        ensures same { (m : Mark) → is_marked m self.new ≡ is_marked m self.old }
         ensures ok { OnOk result (HasPage self.new page) }
         ensures others { (p : ℕ) → p ≢ page → HasPage self.new p → HasPage self.old p }
-        ensures keeps { (p : ℕ) → HasPage self.old p → HasPage self.new p }
-        ensures err { OnErr result ((p : ℕ) → HasPage self.new p → HasPage self.old p) }
+        ensures keeps { KeepsPages self.old self.new }
+        ensures err { OnErr result (KeepsPages self.new self.old) }
+        ensures needed { OnErr result (HasPage self.old page → ⊥) }
     {
         if self.pages.contains_key(&page) {
             return Ok(());
         }
-        let marks = match Box::new(self.alloc, [false; 256]) {
-            Ok(marks) => marks,
-            Err(_) => return Err(NoMemory),
-        };
-        match self.pages.insert(page, Page { marks }) {
+        let marks = Page::new(self.alloc)?;
+        match self.pages.insert(page, marks) {
             Ok(_) => Ok(()),
             Err(_) => Err(NoMemory),
         }
@@ -70,9 +98,9 @@ impl Marks {
 
     /// Takes away the room for the marks of a page, and with it the marks.
     fn remove_page(&mut self, page: u32)
-        ensures marks { (a : ℕ) → is_marked self.new a ≡ (if a / 256 == page then false else is_marked self.old a) }
+        ensures marks { (m : Mark) (a : ℕ) → is_marked m self.new a ≡ (if a / 256 == page then false else is_marked m self.old a) }
         ensures keeps { (p : ℕ) → p ≢ page → HasPage self.old p → HasPage self.new p }
-        ensures fewer { (p : ℕ) → HasPage self.new p → HasPage self.old p }
+        ensures fewer { KeepsPages self.new self.old }
         ensures removed { HasPage self.new page → ⊥ }
     {
         self.pages.remove(&page);
@@ -80,13 +108,17 @@ impl Marks {
 
     /// Makes room for the marks of a frame.
     pub(crate) fn reserve(&mut self, a: u32) -> Result<(), NoMemory>
-        ensures same { is_marked self.new ≡ is_marked self.old }
-        ensures ok { OnOk result (HasFrameMarks self.new a) }
-        ensures keeps { (p : ℕ) → HasPage self.old p → HasPage self.new p }
-        ensures err { OnErr result ((p : ℕ) → HasPage self.new p → HasPage self.old p) }
+        ensures same { (m : Mark) → is_marked m self.new ≡ is_marked m self.old }
+        ensures ok { OnOk result (HasFrameRoom self.new a) }
+        ensures keeps { KeepsPages self.old self.new }
+        ensures err { OnErr result (KeepsPages self.new self.old) }
+        ensures needed { OnErr result (HasFrameRoom self.old a → ⊥) }
     {
         let first = a / PAGE_SIZE;
         let last = a.wrapping_add(FRAME_SIZE - 1) / PAGE_SIZE;
+        if first == last {
+            return self.reserve_page(first);
+        }
         let is_there = self.pages.contains_key(&first);
         self.reserve_page(first)?;
         if let Err(error) = self.reserve_page(last) {
@@ -98,55 +130,43 @@ impl Marks {
         Ok(())
     }
 
-    /// Marks an address.
-    fn mark(&mut self, a: u32)
-        requires { HasMark self.old a }
-        ensures marks { is_marked self.new ≡ (λ x. x == a || is_marked self.old x) }
-        ensures keeps { (p : ℕ) → HasPage self.old p → HasPage self.new p }
+    /// Changes the marks of so many addresses of a page. All but a store is done to whole blocks.
+    fn change_in_page(&mut self, change: Change, a: u32, n: u32)
+        requires within { a % 256 + n ≤ 256 }
+        requires blocks { change ≢ Change.Store → (a % 16 ≡ 0) × (n % 16 ≡ 0) }
+        requires room { change ≡ Change.Save → HasRoom self.old a }
+        ensures marks { (m : Mark) → is_marked m self.new ≡ changed_run change m a n (is_marked m self.old) }
+        ensures keeps { KeepsPages self.old self.new }
     {
         if let Some(page) = self.pages.get_mut(&(a / PAGE_SIZE)) {
-            page.marks[(a % PAGE_SIZE) as usize] = true;
+            page.change(change, a % PAGE_SIZE, n);
         }
     }
 
-    /// Takes the mark of an address away.
-    fn clear(&mut self, a: u32)
-        ensures marks { is_marked self.new ≡ (λ x. is_marked self.old x && not (x == a)) }
-        ensures keeps { (p : ℕ) → HasPage self.old p → HasPage self.new p }
+    /// Changes the marks of so many addresses from one on. All but a store is done to whole blocks.
+    pub(crate) fn change(&mut self, change: Change, a: u32, n: u32)
+        requires blocks { change ≢ Change.Store → (a % 16 ≡ 0) × (n % 16 ≡ 0) }
+        requires room { change ≡ Change.Save → (k : ℕ) → k < n → HasRoom self.old (wrapped (a + k)) }
+        ensures marks { (m : Mark) → is_marked m self.new ≡ changed_run change m a n (is_marked m self.old) }
+        ensures keeps { KeepsPages self.old self.new }
     {
-        if let Some(page) = self.pages.get_mut(&(a / PAGE_SIZE)) {
-            page.marks[(a % PAGE_SIZE) as usize] = false;
-        }
-    }
-
-    /// Marks so many addresses from one on.
-    pub(crate) fn mark_all(&mut self, a: u32, n: u32)
-        requires { (k : ℕ) → k < n → HasMark self.old (wrapped (a + k)) }
-        ensures marks { is_marked self.new ≡ (λ x. in_bytes a n x || is_marked self.old x) }
-        ensures keeps { (p : ℕ) → HasPage self.old p → HasPage self.new p }
-    {
-        for k in 0..n {
-            self.mark(a.wrapping_add(k));
-        }
-    }
-
-    /// Takes the marks of so many addresses from one on away.
-    pub(crate) fn clear_all(&mut self, a: u32, n: u32)
-        ensures marks { is_marked self.new ≡ (λ x. is_marked self.old x && not (in_bytes a n x)) }
-        ensures keeps { (p : ℕ) → HasPage self.old p → HasPage self.new p }
-    {
-        for k in 0..n {
-            self.clear(a.wrapping_add(k));
+        let mut done = 0;
+        while done < n {
+            let first = a.wrapping_add(done);
+            let count = count_in_page(first, n - done);
+            self.change_in_page(change, first, count);
+            done += count;
         }
     }
 
     /// Takes the marks of the bytes of frames away.
-    pub(crate) fn clear_frames(&mut self, frames: &VecDeque<u32>)
-        ensures marks { is_marked self.new ≡ (λ x. is_marked self.old x && not (in_frames frames.now.items x)) }
-        ensures keeps { (p : ℕ) → HasPage self.old p → HasPage self.new p }
+    pub(crate) fn flush(&mut self, frames: &VecDeque<u32>)
+        requires { AreAligned frames.now.items }
+        ensures marks { (m : Mark) → is_marked m self.new ≡ (λ x. is_marked m self.old x && not (in_frames frames.now.items x)) }
+        ensures keeps { KeepsPages self.old self.new }
     {
         for frame in frames.iter() {
-            self.clear_all(*frame, FRAME_SIZE);
+            self.change(Change::Flush, *frame, FRAME_SIZE);
         }
     }
 }

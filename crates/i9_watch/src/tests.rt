@@ -54,7 +54,7 @@ fn does(watch: &mut Watch, step: Step) -> Result<bool, Fail> {
 
 #[test]
 fn keeps_frames(rt: HostRuntime) -> Result<(), Fail> {
-    let stories: [&[Step]; 5] = [
+    let stories: [&[Step]; 8] = [
         // A store into a live frame makes its bytes hard, and is a hazard all the same.
         &[
             Reads(16, 4, None),
@@ -112,6 +112,60 @@ fn keeps_frames(rt: HostRuntime) -> Result<(), Fail> {
             Reads(0xFFFF_FFDC, 8, Some(0xFFFF_FFE0)),
             Writes(0xFFFF_FFFE, 4, Some(0xFFFF_FFFE)),
             Writes(0x1E, 4, Some(0x1E)),
+        ],
+        // A frame across the border of a page, and one that is saved over it after its return.
+        &[
+            Save(0xD0),
+            IsSoft(0xCF, false),
+            IsSoft(0x10F, true),
+            IsSoft(0x110, false),
+            Writes(0xCC, 4, None),
+            Writes(0xCC, 8, Some(0xD0)),
+            Writes(0xFE, 4, Some(0xFE)),
+            Writes(0x100, 4, Some(0x100)),
+            Writes(0x110, 4, None),
+            Store(0xFE, 4),
+            Reads(0xFE, 4, None),
+            Reads(0xFE, 5, Some(0x102)),
+            Return,
+            Writes(0xD0, 64, None),
+            Reads(0xF0, 64, Some(0xF0)),
+            Save(0xE0),
+            IsSoft(0xFE, true),
+            Writes(0xDF, 1, None),
+            Writes(0xDF, 2, Some(0xE0)),
+            Writes(0x11F, 2, Some(0x11F)),
+            Flush,
+            Writes(0xD0, 128, None),
+            Reads(0xD0, 64, Some(0xD0)),
+            Reads(0xE0, 64, None),
+        ],
+        // Frames on both sides of the last address.
+        &[
+            Save(0xFFFF_FFC0),
+            Writes(0, 64, None),
+            Save(0),
+            Writes(0xFFFF_FFBF, 1, None),
+            Writes(0xFFFF_FFBF, 2, Some(0xFFFF_FFC0)),
+            Return,
+            Writes(0, 64, None),
+            Writes(0xFFFF_FFFE, 4, Some(0xFFFF_FFFE)),
+            ReadsFlushed(0xFFFF_FFC0, 128, Some(0)),
+            Flush,
+            Reads(0xFFFF_FFC0, 64, None),
+            Reads(0xFFFF_FFC0, 128, Some(0)),
+        ],
+        // Frames side by side, of which the younger one is returned to.
+        &[
+            Save(0x110),
+            Save(0x150),
+            Writes(0x100, 0x10, None),
+            Writes(0x100, 0x11, Some(0x110)),
+            Writes(0x18F, 2, Some(0x18F)),
+            Writes(0x190, 16, None),
+            Return,
+            Writes(0x14F, 2, Some(0x14F)),
+            Writes(0x150, 64, None),
         ],
         // A frame that is returned to may not lie in the port page.
         &[
@@ -182,8 +236,44 @@ fn finds_the_port_page(rt: HostRuntime) {
         (0xDFFF_FFFC, 8, Some(0xE000_0000)),
         (0xE000_0FFF, 2, Some(0xE000_0FFF)),
         (0xE000_1000, 4, None),
+        (0xE000_0000, 0, None),
+        (0, 0xE000_0000, None),
+        (0, 0xE000_0001, Some(0xE000_0000)),
+        (0xE000_1000, 0xFFFF_F000, None),
+        (0xE000_1000, 0xFFFF_F001, Some(0xE000_0000)),
     ];
     for (a, n, wanted) in rows {
         assert_eq!(rt; Watch::touches_port(a, n), wanted);
     }
+}
+
+#[test]
+fn flushes_many_frames(rt: HostRuntime) -> Result<(), Fail> {
+    let mut watch = Watch::new(rt.alloc());
+    for k in 0..100 {
+        save(&mut watch, 0x1010 + 64 * k)?;
+    }
+    assert_eq!(rt; watch.live_at(99), Some(0x1010));
+    assert_eq!(rt; watch.check_write(0, 0x1_0000), Some(0x1010));
+    assert_eq!(rt; watch.check_write(0x2910, 64), None);
+    assert_eq!(rt; watch.check_flushed_read(0, 0x1_0000), None);
+    watch.flushed();
+    assert_eq!(rt; watch.first_live(), None);
+    assert_eq!(rt; watch.check_write(0, 0x1_0000), None);
+    assert_eq!(rt; watch.check_read(0, 0x1_0000), None);
+    Ok(())
+}
+
+#[test]
+fn refuses_no_room_that_is_there(rt: HostRuntime) -> Result<(), Fail> {
+    let mut watch = Watch::new(rt.alloc());
+    for page in 0..5000 {
+        watch.reserve(256 * page)?;
+    }
+    watch.reserve(0xFFFF_FFF0)?;
+    for k in 0..40 {
+        save(&mut watch, 0xFFFF_FFF0 - 64 * k)?;
+    }
+    assert_eq!(rt; watch.live_at(39), Some(0xFFFF_FFF0));
+    Ok(())
 }

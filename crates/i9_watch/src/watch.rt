@@ -1,12 +1,17 @@
 //! Soft bytes and live frames.
 ghost use Rattle.std.specs.Prelude.{◌≡◌, ℕ, Bool, ◌+◌, ◌%◌, ◌<◌, ◌≤◌, ◌⊎◌, None, OnOk, OnErr, IfOk, length, slice_get};
 ghost use Rattle.std.specs.VecDeque.{deque_len, deque_capacity};
-ghost use Rattle.i9_model.specs.Frames.{in_bytes, in_frames, no_frames, saved, returned, flushed, wrote_run, rounded_down};
+ghost use Rattle.i9_model.specs.Frames.{in_frames, no_frames, saved, returned, flushed, wrote_run};
 ghost use Rattle.i9_model.specs.Hazards.{least, read_hazard, write_hazard, port_hazard, save_hazard, return_hazard, planned_push};
+ghost use Rattle.i9_model.specs.Sound.{AreApart};
+ghost use Rattle.i9_watch.specs.Marks.{is_marked};
+ghost use Rattle.i9_watch.specs.Live.{AreAligned, AreAligned-prop, AreApart-prop};
+ghost use Rattle.i9_watch.specs.declared.page.Mark.TheVariants.{Live};
 
 use crate::marks::Marks;
+use crate::page::{Change, Mark};
 use i9_isa::NoMemory;
-use i9_model::layout::FRAME_SIZE;
+use i9_model::layout::{FRAME_SIZE, PORT_PAGE};
 use i9_model::{Push, in_port_page};
 use std::alloc::Global;
 use std::collections::VecDeque;
@@ -19,18 +24,13 @@ use std::collections::VecDeque;
 /// accesses count as hazards for this reason is this project's own.
 #[derive(Drop)]
 pub struct Watch {
-    soft: Marks,
+    marks: Marks,
     live: VecDeque<u32>,
     spare: usize,
     ghost room: { deque_len live + spare ≤ deque_capacity live },
-}
-
-/// Whether an address is one of so many from a first one on.
-#[tactic(auto, using(crate::proofs::Watching::within_rules))]
-fn is_within(x: u32, first: u32, n: u32) -> bool
-    ensures { result ≡ in_bytes first n x }
-{
-    x.wrapping_sub(first) < n
+    ghost aligned: { AreAligned live.items } by { AreAligned-prop live.items },
+    ghost apart: { AreApart live.items } by { AreApart-prop live.items },
+    ghost marked: { is_marked Live marks ≡ in_frames live.items },
 }
 
 /// The first of so many addresses from one on that passes a test.
@@ -57,7 +57,7 @@ impl Watch {
         ensures spare { spare_of result ≡ 0 }
     {
         Watch {
-            soft: Marks::new(alloc),
+            marks: Marks::new(alloc),
             live: VecDeque::new(alloc),
             spare: 0,
         }
@@ -75,12 +75,15 @@ impl Watch {
         // Want of memory changes nothing.
         ensures err_spare { OnErr result (spare_of self.new ≡ spare_of self.old) }
         ensures err_marks { OnErr result (KeepsMarks self.new self.old) }
+
+        // What is there already is not asked for again.
+        ensures needed { OnErr result ((spare_of self.old ≡ 0) ⊎ (HasFrameMarks self.old a → ⊥)) }
     {
         let spare = self.spare.max(1);
         if self.live.reserve(spare).is_err() {
             return Err(NoMemory);
         }
-        self.soft.reserve(a)?;
+        self.marks.reserve(a)?;
         self.spare = spare;
         Ok(())
     }
@@ -89,16 +92,14 @@ impl Watch {
     pub fn soft(&self, a: u32) -> bool
         ensures { result ≡ (frames_of self.now).soft a }
     {
-        self.soft.is_marked(a)
+        self.marks.is_marked(Mark::Soft, a)
     }
 
     /// Whether a byte is one of a live frame.
     fn is_live(&self, a: u32) -> bool
         ensures { result ≡ in_frames (frames_of self.now).live a }
     {
-        self.live
-            .iter()
-            .any(|frame| is_within(a, *frame, FRAME_SIZE))
+        self.marks.is_marked(Mark::Live, a)
     }
 
     /// Whether a byte stays soft over a flush.
@@ -112,6 +113,9 @@ impl Watch {
     pub fn check_read(&self, a: u32, n: u32) -> Option<u32>
         ensures { result ≡ read_hazard (frames_of self.now) a n }
     {
+        if !self.marks.has_any(Mark::Soft, a, n) {
+            return None;
+        }
         first_place(a, n, |x| self.soft(x))
     }
 
@@ -120,6 +124,9 @@ impl Watch {
     pub fn check_flushed_read(&self, a: u32, n: u32) -> Option<u32>
         ensures { result ≡ read_hazard (flushed (frames_of self.now)) a n }
     {
+        if !self.marks.has_any(Mark::Soft, a, n) {
+            return None;
+        }
         first_place(a, n, |x| self.stays_soft(x))
     }
 
@@ -128,6 +135,9 @@ impl Watch {
     pub fn check_write(&self, a: u32, n: u32) -> Option<u32>
         ensures { result ≡ write_hazard (frames_of self.now) a n }
     {
+        if !self.marks.has_any(Mark::Live, a, n) {
+            return None;
+        }
         first_place(a, n, |x| self.is_live(x))
     }
 
@@ -135,7 +145,10 @@ impl Watch {
     pub fn touches_port(a: u32, n: u32) -> Option<u32>
         ensures { result ≡ port_hazard a n }
     {
-        first_place(a, n, |x| in_port_page(x))
+        if 0 < n && in_port_page(a) {
+            return Some(a);
+        }
+        (PORT_PAGE.wrapping_sub(a) < n).then_some(PORT_PAGE)
     }
 
     /// The hazard of a return to the frame that was saved at `a`: it has to be the youngest live
@@ -194,9 +207,9 @@ impl Watch {
         ensures spare { spare_of self.new + 1 ≡ spare_of self.old }
         ensures marks { KeepsMarks self.old self.new }
     {
-        self.soft.mark_all(a, FRAME_SIZE);
+        self.marks.change(Change::Save, a, FRAME_SIZE);
         self.spare -= 1;
-        self.live.push_front(a).unwrap();
+        self.live.push_front_reserved(a);
     }
 
     /// The youngest live frame was returned to. Its bytes stay soft.
@@ -206,7 +219,9 @@ impl Watch {
         ensures spare { spare_of self.new ≡ spare_of self.old }
         ensures marks { KeepsMarks self.old self.new }
     {
-        let _ = self.live.pop_front();
+        if let Some(frame) = self.live.pop_front() {
+            self.marks.change(Change::Return, frame, FRAME_SIZE);
+        }
     }
 
     /// Every frame was written to memory, as by flushreg: none is live, and the bytes of those
@@ -216,7 +231,7 @@ impl Watch {
         ensures spare { spare_of self.new ≡ spare_of self.old }
         ensures marks { KeepsMarks self.old self.new }
     {
-        self.soft.clear_frames(&self.live);
+        self.marks.flush(&self.live);
         self.live.clear();
     }
 
@@ -226,7 +241,7 @@ impl Watch {
         ensures spare { spare_of self.new ≡ spare_of self.old }
         ensures marks { KeepsMarks self.old self.new }
     {
-        self.soft.clear_all(a, n);
+        self.marks.change(Change::Store, a, n);
     }
 
     /// The save address of the youngest live frame.

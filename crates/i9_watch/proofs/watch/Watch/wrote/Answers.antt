@@ -1,8 +1,19 @@
-use Rattle.std.proofs.Common.{refl}
+use Rattle.std.proofs.Common.{refl, ◌∙◌}
+use Rattle.i9_watch.specs.declared.page.Mark.TheVariants.{Soft, Live}
+use Rattle.i9_watch.specs.Marks.{is_marked}
 use Rattle.i9_watch.specs.Watch.{frames_of}
-use Rattle.i9_watch.proofs.Watching.{same_frames}
+use Rattle.i9_watch.proofs.Watching.{same_frames, no_change, soft-wrote}
 use Rattle.i9_watch.proofs.watch.Watch.wrote.Goals as goal
+
+pub invariant_of-self-clause-aligned : goal.invariant_of-self-clause-aligned
+invariant_of-self-clause-aligned c = c.args.self.now.aligned
+
+pub invariant_of-self-clause-apart : goal.invariant_of-self-clause-apart
+invariant_of-self-clause-apart c = c.args.self.now.apart
+
+pub invariant_of-self-clause-marked : goal.invariant_of-self-clause-marked
+invariant_of-self-clause-marked c = no_change c.args.a c.args.n (is_marked Live c.args.self.now.marks) (is_marked Live c.change.new.self) (c.change.ensures.marks Live) ∙ c.args.self.now.marked
 
 pub returns-clause-frames : goal.returns-clause-frames
 unfolding frames_of
-returns-clause-frames c = same_frames c.clear_all.ensures.marks refl
+returns-clause-frames c = same_frames (soft-wrote c.args.a c.args.n (is_marked Soft c.args.self.now.marks) (is_marked Soft c.change.new.self) (c.change.ensures.marks Soft)) refl

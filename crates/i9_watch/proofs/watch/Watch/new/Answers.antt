@@ -1,0 +1,21 @@
+use Rattle.std.proofs.Common.{sym, subst}
+use Rattle.i9_model.specs.Sound.{AreApart}
+use Rattle.i9_watch.specs.declared.page.Mark.TheVariants.{Soft, Live}
+use Rattle.i9_watch.specs.Live.{AreAligned}
+use Rattle.i9_watch.specs.Marks.{is_marked}
+use Rattle.i9_watch.specs.Watch.{frames_of}
+use Rattle.i9_watch.proofs.Watching.{same_frames, live-none}
+use Rattle.i9_watch.proofs.watch.Watch.new.Goals as goal
+
+pub invariant_of-result-clause-aligned : goal.invariant_of-result-clause-aligned
+invariant_of-result-clause-aligned c = subst AreAligned (sym c.new-2.ensures.items) tt
+
+pub invariant_of-result-clause-apart : goal.invariant_of-result-clause-apart
+invariant_of-result-clause-apart c = subst AreApart (sym c.new-2.ensures.items) tt
+
+pub invariant_of-result-clause-marked : goal.invariant_of-result-clause-marked
+invariant_of-result-clause-marked c = live-none (is_marked Live c.new.result) c.new-2.result.items (c.new.ensures Live) c.new-2.ensures.items
+
+pub returns-clause-frames : goal.returns-clause-frames
+unfolding frames_of
+returns-clause-frames c = same_frames (c.new.ensures Soft) c.new-2.ensures.items
