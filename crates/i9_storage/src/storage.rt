@@ -138,11 +138,12 @@ impl Storage {
     }
 
     /// Makes space for a frame at `a`: for its words in memory, so that it can go there whenever it
-    /// has to, and for its save.
+    /// has to, and for its save. Memory is refused only where space is lacking.
     pub fn reserve_frame(&mut self, a: u32) -> Result<(), NoMemory>
         ensures cache { cache_of self.new ≡ cache_of self.old }
         ensures frames { frames_in self.new ≡ frames_in self.old }
         ensures space { OnOk result (HasFrameSpace self.new a) }
+        ensures lacking { OnErr result (HasFrameSpace self.old a → ⊥) }
         ensures size { size_of self.new ≡ size_of self.old }
         ensures keeps { KeepsSpace self.old self.new }
     {
