@@ -157,31 +157,6 @@ impl Processor {
         ]
     }
 
-    /// The locals of a frame in memory.
-    fn frame_words(&self, frame: u32) -> [u32; LOCALS]
-        ensures { result ≡ words_in (state_of self.now).memory frame LOCALS }
-    {
-        let word = |k: u32| self.word(frame.wrapping_add(4 * k));
-        [
-            word(0),
-            word(1),
-            word(2),
-            word(3),
-            word(4),
-            word(5),
-            word(6),
-            word(7),
-            word(8),
-            word(9),
-            word(10),
-            word(11),
-            word(12),
-            word(13),
-            word(14),
-            word(15),
-        ]
-    }
-
     /// Does what is done to frames, and sets registers.
     #[tactic(auto, unfolding(crate::specs::State::state_of, crate::specs::State::cache_of, crate::specs::State::size_of))]
     fn move_frames(&mut self, e: &Effect)
@@ -207,7 +182,7 @@ impl Processor {
                 set_frame(&mut self.regs, &new_locals(&push), push.frame);
             }
             Move::Returns(frame) => {
-                let locals = self.frame_words(frame);
+                let locals = self.storage.frame_words(frame);
                 self.storage.restore_frame();
                 set_frame(&mut self.regs, &locals, frame);
             }

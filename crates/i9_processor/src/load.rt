@@ -3,25 +3,11 @@ ghost use Rattle.std.specs.Prelude.{◌≡◌, OnOk, map};
 ghost use Rattle.i9_hex.specs.Shown.{part_of};
 ghost use Rattle.i9_memory.specs.Memory.{memory_of};
 ghost use Rattle.i9_model.specs.Image.{pairs_of};
-ghost use Rattle.i9_model.specs.Memory.{with_bytes, with_writes};
+ghost use Rattle.i9_model.specs.Memory.{with_writes};
 
 use i9_hex::{Segment, Segments};
 use i9_isa::NoMemory;
 use i9_memory::Memory;
-
-/// Stores bytes from an address up.
-#[tactic(auto, using(i9_model::proofs::Stores::store_rules))]
-fn load_segment(memory: &mut Memory, a: u32, bytes: &[u8]) -> Result<(), NoMemory>
-    ensures { OnOk result (memory_of memory.new ≡ with_bytes (memory_of memory.old) a bytes.now) }
-{
-    let mut at = a;
-    for b in bytes {
-        memory.reserve(at, 1)?;
-        memory.put_byte(at, *b);
-        at = at.wrapping_add(1);
-    }
-    Ok(())
-}
 
 /// Stores the bytes of segments.
 #[tactic(auto, using(crate::proofs::Loading::load_rules))]
@@ -29,7 +15,7 @@ fn load_all(memory: &mut Memory, segments: &[Segment]) -> Result<(), NoMemory>
     ensures { OnOk result (memory_of memory.new ≡ with_writes (memory_of memory.old) (pairs_of (map part_of segments.now))) }
 {
     for segment in segments {
-        load_segment(memory, segment.address, &segment.bytes)?;
+        memory.load(segment.address, &segment.bytes)?;
     }
     Ok(())
 }
