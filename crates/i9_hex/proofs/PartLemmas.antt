@@ -1,5 +1,5 @@
 -- Images with one byte more.
-use Rattle.std.proofs.Common.{◌≡◌, ℕ, zero, suc, ◌+◌, ◌-◌, ◌%◌, ◌<◌, true, false, eqb, List, [], ◌∷◌, ◌++◌, length, get_or, set, take, map, refl, sym, ap, ◌∙◌, arith, append_assoc, add-zero, inl, inr}
+use Rattle.std.proofs.Common.{◌≡◌, ℕ, zero, suc, ◌+◌, ◌-◌, ◌%◌, ◌<◌, Bool, true, false, cond, eqb, List, [], ◌∷◌, ◌++◌, length, get_or, set, take, map, refl, sym, ap, subst, ◌∙◌, arith, append_assoc, add-zero, inl, inr}
 use Rattle.std.specs.List.{AllByRecursion}
 use Rattle.std.proofs.Math.Seq.{map-set_same}
 use Rattle.std.proofs.lemmas.Bool.{eqb-true, cases_Bool}
@@ -107,7 +107,7 @@ AreParts-with_byte [] b small h = tt
 AreParts-with_byte (p ∷ []) b small h = (record { address = h.0.address; bytes = AreBytes-push p.bytes b h.0.bytes small }, tt)
 AreParts-with_byte (p ∷ q ∷ ps) b small h = (h.0, AreParts-with_byte (q ∷ ps) b small h.1)
 
-AreParts-push : (ps : List Part) (p : Part) → AreParts ps → IsPart p → AreParts (ps ++ p ∷ [])
+pub AreParts-push : (ps : List Part) (p : Part) → AreParts ps → IsPart p → AreParts (ps ++ p ∷ [])
 AreParts-push [] p h new = (new, tt)
 AreParts-push (q ∷ ps) p h new = (h.0, AreParts-push ps p h.1 new)
 
@@ -117,3 +117,15 @@ AreParts-with_pair ps a b small byte h = elim (cases_Bool (ends_before ps a)) [
   | inl joins ↦ rw joins (AreParts-with_byte ps b byte h)
   | inr begins ↦ rw begins (AreParts-push ps (record { address = a; bytes = b ∷ [] }) h (record { address = small; bytes = (byte, tt) }))
 ]
+
+-- ---- a segment more
+
+AreBytes-from : (xs : List ℕ) → ((k : ℕ) → k < length xs → get_or xs k 0 < 256) → AllByRecursion (λ x. x < 256) xs
+AreBytes-from [] h = tt
+AreBytes-from (x ∷ xs) h = (h 0 (omega arith), AreBytes-from xs (λ k lt. h (suc k) (omega arith)))
+
+-- where a push went well or not
+pub AreParts-pushed : (well : Bool) (old new : List Segment) (s : Segment) → new ≡ cond well (old ++ s ∷ []) old → s.address < address_count → ((k : ℕ) → k < length s.bytes.items → get_or s.bytes.items k 0 < 256) → AreParts (map part_of old) → AreParts (map part_of new)
+AreParts-pushed true old new s is small low h =
+    subst (λ (ps : List Part). AreParts ps) (sym (ap (map part_of) is ∙ map_push part_of old s)) (AreParts-push (map part_of old) (part_of s) h (record { address = small; bytes = AreBytes-from s.bytes.items low }))
+AreParts-pushed false old new s is small low h = subst (λ (xs : List Segment). AreParts (map part_of xs)) (sym is) h

@@ -23,3 +23,8 @@ unfoldable pub with_pair : List Part → ℕ → ℕ → List Part
 with_pair ps a b =
     if ends_before ps a then with_byte ps b
     else ps ++ record { address = a; bytes = b ∷ [] } ∷ []
+
+-- the parts with one more; one without bytes is not kept
+abbrev pub with_part : List Part → ℕ → List ℕ → List Part
+with_part ps a [] = ps
+with_part ps a (b ∷ bs) = ps ++ record { address = a; bytes = b ∷ bs } ∷ []

@@ -42,7 +42,8 @@ impl Place {
     /// Puts the bytes of a data record, whose address field this is.
     fn put_all(self, segments: &mut Segments, address: u16, bytes: &[u8]) -> Result<(), NoMemory>
         requires { length bytes.now < 256 }
-        ensures { OnOk result (pairs_of segments.new ≡ pairs_of segments.old ++ pairs_at (address_in (origin_of self)) address bytes.now) }
+        ensures { OnOk result (pairs_of segments.new
+            ≡ pairs_of segments.old ++ pairs_at (address_in (origin_of self)) address bytes.now) }
     {
         for (index, byte) in bytes.iter().enumerate() {
             segments.put(self.address(u32::from(address) + index as u32), *byte)?;
@@ -109,7 +110,8 @@ impl Reader {
     /// Takes the bytes of a data record, whose address field this is.
     fn with_bytes(self, address: u16, bytes: &[u8]) -> Result<Reader, LineError>
         requires { length bytes.now < 256 }
-        ensures { Takes result (fault_of_more (state_of self) (length bytes.now)) (with_pairs (state_of self) address bytes.now) }
+        ensures { Takes result (fault_of_more (state_of self) (length bytes.now))
+            (with_pairs (state_of self) address bytes.now) }
     {
         let Reader {
             mut segments,

@@ -1,7 +1,7 @@
 //! Images: bytes at addresses, in segments.
 ghost use Rattle.std.specs.Prelude.{◌≡◌, [], ◌∷◌, ◌++◌, map, OnOk, OnErr};
 ghost use Rattle.i9_model.specs.Image.{pairs_of, AreParts};
-ghost use Rattle.i9_hex.specs.Put.{ends_before, with_pair};
+ghost use Rattle.i9_hex.specs.Put.{ends_before, with_pair, with_part};
 ghost use Rattle.i9_hex.specs.Shown.{part_of};
 
 use i9_isa::NoMemory;
@@ -86,6 +86,20 @@ impl Segments {
         match self.append(address, byte) {
             Ok(()) => Ok(()),
             Err(AllocError) => Err(NoMemory),
+        }
+    }
+
+    /// Appends a segment; one without bytes is not kept. An error leaves the image as it was.
+    pub fn push(&mut self, address: u32, bytes: Vec<u8>) -> Result<(), NoMemory>
+        ensures parts { OnOk result (self.new ≡ with_part self.old address bytes.items) }
+        ensures err { OnErr result (self.new ≡ self.old) }
+    {
+        if bytes.as_slice().is_empty() {
+            return Ok(());
+        }
+        match self.items.push(Segment { address, bytes }) {
+            Ok(()) => Ok(()),
+            Err(_) => Err(NoMemory),
         }
     }
 

@@ -28,8 +28,8 @@ fn refusal(alloc: Global, text: &[u8]) -> Option<(u64, u8)> {
 // Each image is worked by hand from the rule of its records' types.
 #[test]
 fn reads_images(rt: HostRuntime) -> Result<(), Fail> {
-    let two_segments =
-        b":02000004FFFFFC\n:04FF100000100000DD\n:020000040000FA\n:101000004100A08C0030A88C000000E00060A582A8\n:08101000070EA05C0460A5922C\n:00000001FF\n";
+    let two_segments = b":02000004FFFFFC\n:04FF100000100000DD\n:020000040000FA\n\
+          :101000004100A08C0030A88C000000E00060A582A8\n:08101000070EA05C0460A5922C\n:00000001FF\n";
     let code =
         b"\x41\x00\xA0\x8C\x00\x30\xA8\x8C\x00\x00\x00\xE0\x00\x60\xA5\x82\x07\x0E\xA0\x5C\x04\x60\xA5\x92";
     let rows: [(&[u8], &[(u32, &[u8])]); 8] = [
@@ -150,11 +150,16 @@ fn joins_bytes_in_a_row(rt: HostRuntime) -> Result<(), Fail> {
     for (address, byte) in [(5, 1), (6, 2), (6, 3), (0xFFFF_FFFF, 4), (0, 5), (2, 6)] {
         assert_eq!(rt; image.put(address, byte), Ok(()));
     }
-    let wanted: [(u32, &[u8]); 4] = [
+    // A segment that is pushed is not joined, and one without bytes is not kept.
+    let bytes = Vec::from_slice(rt.alloc(), b"\x07")?;
+    assert_eq!(rt; image.push(3, bytes), Ok(()));
+    assert_eq!(rt; image.push(4, Vec::new(rt.alloc())), Ok(()));
+    let wanted: [(u32, &[u8]); 5] = [
         (5, b"\x01\x02"),
         (6, b"\x03"),
         (0xFFFF_FFFF, b"\x04\x05"),
         (2, b"\x06"),
+        (3, b"\x07"),
     ];
     assert!(rt; has(&image, &wanted));
     Ok(())
@@ -176,13 +181,16 @@ fn writes_images(rt: HostRuntime) -> Result<(), Fail> {
         (b":00000001FF", b":00000001FF\n"),
         // Records of 16, and the upper half before the first record that has another one.
         (
-            b":02000004FFFFFC\n:04FF100000100000DD\n:020000040000FA\n:181000004100A08C0030A88C000000E00060A582070EA05C0460A592F4\n:00000001FF\n",
-            b":02000004FFFFFC\n:04FF100000100000DD\n:020000040000FA\n:101000004100A08C0030A88C000000E00060A582A8\n:08101000070EA05C0460A5922C\n:00000001FF\n",
+            b":02000004FFFFFC\n:04FF100000100000DD\n:020000040000FA\n\
+              :181000004100A08C0030A88C000000E00060A582070EA05C0460A592F4\n:00000001FF\n",
+            b":02000004FFFFFC\n:04FF100000100000DD\n:020000040000FA\n\
+              :101000004100A08C0030A88C000000E00060A582A8\n:08101000070EA05C0460A5922C\n:00000001FF\n",
         ),
         // A cut at a multiple of 65536, where records of 16 begin anew,
         (
             b":17FFFA000000000000000000000000000000000000000000000000F0\n:00000001FF\n",
-            b":06FFFA0000000000000001\n:020000040001F9\n:1000000000000000000000000000000000000000F0\n:0100100000EF\n:00000001FF\n",
+            b":06FFFA0000000000000001\n:020000040001F9\n\
+              :1000000000000000000000000000000000000000F0\n:0100100000EF\n:00000001FF\n",
         ),
         // and at the last address, behind which 0 stands.
         (
