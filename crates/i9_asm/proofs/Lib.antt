@@ -3,3 +3,8 @@ pub mod ReadListing
 pub mod Once
 pub mod CodeLength
 pub mod Several
+pub mod RelationLoop
+pub mod FieldLoops
+pub mod CharacterLoops
+pub mod GivenBytes
+pub mod TakenLines

@@ -1,32 +1,38 @@
 -- A line without fault leads to one source.
-use Rattle.std.proofs.Common.{◌≡◌, ℕ, List, [], ◌+◌, length, Option, Some, None, refl, sym, ap, ◌∙◌}
+use Rattle.std.proofs.Common.{◌≡◌, ℕ, List, [], ◌+◌, length, Option, Some, None, Result, Ok, Err, IfOk, IfErr, refl, sym, ap, ◌∙◌}
 use Rattle.std.specs.List.{flat_map}
 use Rattle.std.specs.Option.{option_map}
 use Rattle.std.specs.Int.{w32, to_le_bytes}
+use Rattle.i9_model.specs.Image.{Part}
 use Rattle.i9_text.specs.FirstFault.{SaysAll, IsRefused}
 use Rattle.i9_text.proofs.FirstFaultOnce.{all_once, refused_once, never_both}
 use Rattle.i9_statement.specs.Noted.{kind_of}
 use Rattle.i9_statement.specs.Values.{Names, value_of}
 use Rattle.i9_statement.specs.Codes.{Stands}
 use Rattle.i9_statement.proofs.StatementWords.{stands_once}
-use Rattle.i9_asm.specs.Lines.{Item, Empty, Bad, Org, Space, Align, Set, Data, Ascii, Instruction, item_of, label_of}
+use Rattle.i9_asm.specs.Lines.{Item, Empty, Org, Space, Align, Set, Data, Ascii, Instruction, item_of, label_of}
+use Rattle.i9_asm.specs.Lines as items
 use Rattle.i9_asm.specs.Strings.{string_of}
-use Rattle.i9_asm.specs.Places.{Place, past_label, size_of, moved_to}
-use Rattle.i9_asm.specs.Source.{zeros, low_bytes, data_value, Gives, gives_nothing, gives_instruction, gives_data, gives_characters, gives_zeros, gives_move, gives_alignment, gives_assignment, append_last, begin_at, Source, fault_of, Assembles}
+use Rattle.i9_asm.specs.Places.{Place, address_at, past_label, past_line, size_of, all_names}
+use Rattle.i9_asm.specs.Source.{zeros, low_bytes, data_value, Gives, gives_nothing, gives_instruction, gives_data, gives_characters, gives_zeros, gives_move, gives_alignment, gives_assignment, Source, fault_of, labelled_source, past_source, Assembles, start_source, segments_of}
+use Rattle.i9_asm.specs.Laws.{IsAssembly, IsRefusedSource}
+use Rattle.i9_asm.specs.declared.error.AsmError.{AsmError}
+use Rattle.i9_asm.specs.declared.error.AsmError.TheVariants.{Bad, Memory}
+use Rattle.i9_asm.specs.Reading.{fault_place, Answers, IfBad}
 
 -- ---- bytes
 
 -- the bytes of an item, by the item
 GivenBy : Names → Place → Item → List ℕ → Type 0
 GivenBy names p Empty bs = bs ≡ []
-GivenBy names p (Bad k) bs = ⊥
+GivenBy names p (items.Bad k) bs = ⊥
 GivenBy names p (Org f) bs = bs ≡ []
 GivenBy names p (Space f) bs = bs ≡ zeros (size_of p (Space f))
 GivenBy names p (Align f) bs = bs ≡ []
 GivenBy names p (Set name f) bs = bs ≡ []
 GivenBy names p (Data width fs) bs = bs ≡ flat_map (λ f. low_bytes width (data_value width (value_of names f)).value) fs
 GivenBy names p (Ascii s) bs = string_of s ≡ Some bs
-GivenBy names p (Instruction s) bs = (ws : List ℕ) × Stands names p.location s ws × (bs ≡ flat_map (to_le_bytes w32) ws)
+GivenBy names p (Instruction s) bs = (ws : List ℕ) × Stands names (address_at p) s ws × (bs ≡ flat_map (to_le_bytes w32) ws)
 
 given_by : (names : Names) (p : Place) (item : Item) (bs : List ℕ) → Gives names p item bs → GivenBy names p item bs
 unfolding GivenBy
@@ -42,7 +48,7 @@ given_by names p _ _ (gives_assignment name f) = refl
 given_once : (names : Names) (p : Place) (item : Item) (bs cs : List ℕ) → GivenBy names p item bs → GivenBy names p item cs → bs ≡ cs
 unfolding GivenBy
 given_once names p Empty bs cs x y = x ∙ sym y
-given_once names p (Bad k) bs cs x y = absurd x
+given_once names p (items.Bad k) bs cs x y = absurd x
 given_once names p (Org f) bs cs x y = x ∙ sym y
 given_once names p (Space f) bs cs x y = x ∙ sym y
 given_once names p (Align f) bs cs x y = x ∙ sym y
@@ -52,18 +58,16 @@ given_once names p (Ascii s) bs cs x y = let e = sym x ∙ y in some_same bs cs 
   where
     some_same : (a b : List ℕ) → ◌≡◌ {A = Option (List ℕ)} (Some a) (Some b) → a ≡ b
     some_same a b e = cc
-given_once names p (Instruction s) bs cs x y = x.2 ∙ ap (flat_map (to_le_bytes w32)) (stands_once names p.location s x.0 y.0 x.1 y.1) ∙ sym y.2
+given_once names p (Instruction s) bs cs x y = x.2 ∙ ap (flat_map (to_le_bytes w32)) (stands_once names (address_at p) s x.0 y.0 x.1 y.1) ∙ sym y.2
 
 pub gives_once : (names : Names) (p : Place) (item : Item) (bs cs : List ℕ) → Gives names p item bs → Gives names p item cs → bs ≡ cs
 gives_once names p item bs cs x y = given_once names p item bs cs (given_by names p item bs x) (given_by names p item cs y)
 
 pub assembles_once : (names : Names) (s : Source) (line : List ℕ) (t u : Source) → Assembles names s line t → Assembles names s line u → t ≡ u
 assembles_once names s line t u x y =
-    let same = gives_once names (past_label (label_of line) s.place) (item_of line) x.bytes y.bytes x.gives y.gives in
-    source_same t u (x.place ∙ sym y.place) (x.pieces ∙ ap (append_last (begin_at (moved_to (past_label (label_of line) s.place) (item_of line)) s.pieces)) same ∙ sym y.pieces) (x.total ∙ ap (λ bs. s.total + length bs) same ∙ sym y.total)
-  where
-    source_same : (t u : Source) → t.place ≡ u.place → t.pieces ≡ u.pieces → t.total ≡ u.total → t ≡ u
-    source_same t u a b c = rw (a, b, c) refl
+    let p = past_label (label_of line) s.place in
+    let same = gives_once names p (item_of line) x.bytes y.bytes x.gives y.gives in
+    x.after ∙ ap (past_source (labelled_source (label_of line) s) (past_line s.place line) (item_of line)) same ∙ sym y.after
 
 -- ---- whole sources
 
@@ -79,3 +83,26 @@ refusals_once names s lines f g x y = refused_once (Assembles names) (fault_of n
 
 pub source_or_refusal : (names : Names) (s t : Source) (lines : List (List ℕ)) (f : ℕ × ℕ) → IsRefused (Assembles names) (fault_of names) (λ _. None) s lines f → SaysAll (Assembles names) s lines t → ⊥
 source_or_refusal names s t lines f x y = never_both (Assembles names) (fault_of names) (assembles_once names) (no_fault names) s t lines f x y
+
+-- ---- answers
+
+pub assembly_once : (lines : List (List ℕ)) (a b : List Part) → IsAssembly lines a → IsAssembly lines b → a ≡ b
+assembly_once lines a b x y = sym x.kept ∙ ap segments_of (sources_once (all_names lines) start_source x.end y.end lines x.assembled y.assembled) ∙ y.kept
+
+pub refusal_once : (lines : List (List ℕ)) (f g : ℕ × ℕ) → IsRefusedSource lines f → IsRefusedSource lines g → f ≡ g
+refusal_once lines f g x y = refusals_once (all_names lines) start_source lines f g x y
+
+pub never_both_answers : (lines : List (List ℕ)) (a : List Part) (f : ℕ × ℕ) → IsAssembly lines a → IsRefusedSource lines f → ⊥
+never_both_answers lines a f x y = source_or_refusal (all_names lines) start_source x.end lines f y x.assembled
+
+-- what a result says of the lines, it says of each answer
+module _ (lines : List (List ℕ)) where
+  pub only_answer : (r : Result (List Part) AsmError) → IfOk r (λ a. IsAssembly lines a) → IfErr r (λ e. IfBad e (λ f. IsRefusedSource lines (fault_place f))) → (a : List Part) → IsAssembly lines a → Answers r (Ok a)
+  only_answer (Ok b) found refused a h = ap Ok (assembly_once lines a b h found)
+  only_answer (Err Memory) found refused a h = tt
+  only_answer (Err (Bad f)) found refused a h = absurd (never_both_answers lines a (fault_place f) h refused)
+
+  pub first_answer : (r : Result (List Part) AsmError) → IfOk r (λ a. IsAssembly lines a) → IfErr r (λ e. IfBad e (λ f. IsRefusedSource lines (fault_place f))) → (f : ℕ × ℕ) → IsRefusedSource lines f → Answers r (Err f)
+  first_answer (Ok b) found refused f h = absurd (never_both_answers lines b f found h)
+  first_answer (Err Memory) found refused f h = tt
+  first_answer (Err (Bad g)) found refused f h = ap Err (refusal_once lines f (fault_place g) h refused)

@@ -21,11 +21,13 @@ use Rattle.i9_text.specs.Written.{word_text, byte_text}
 use Rattle.i9_statement.specs.Noted.{least}
 use Rattle.i9_statement.specs.Values.{Names, is_name_byte, settled}
 use Rattle.i9_statement.specs.Printed.{hex_text, hex_byte_text}
-use Rattle.i9_statement.specs.Statements.{statement_text}
+use Rattle.i9_model.specs.Image.{Part}
+use Rattle.i9_hex.specs.Put.{with_part}
+use Rattle.i9_statement.specs.Statements.{statement_of, statement_text}
 use Rattle.i9_asm.specs.Lines.{Item, Org, Data, Instruction, Says}
-use Rattle.i9_statement.specs.Codes.{taken}
-use Rattle.i9_asm.specs.Places.{is_ascii, all_names, no_names, if_fine, Place, statement_size, size_of, moved_to, assigned}
-use Rattle.i9_asm.specs.Source.{is_kept, start_source, Gives, gives_instruction, gives_data, gives_move, item_fault, append_last, Piece, Source, most_bytes, line_fault, Assembles, data_value, fits_width, low_bytes, past_bytes, HasRoom, AddsBytes}
+use Rattle.i9_statement.specs.Codes.{Stands, taken}
+use Rattle.i9_asm.specs.Places.{is_ascii, all_names, no_names, if_fine, Place, address_at, location_count, statement_size, size_of, moved_to, assigned}
+use Rattle.i9_asm.specs.Source.{start_source, segments_of, Gives, gives_instruction, gives_data, gives_move, item_fault, Source, most_bytes, line_fault, Assembles, data_value, fits_width, low_bytes, past_bytes, HasRoom, AddsBytes}
 use Rattle.i9_asm.specs.Listing.{text_by, text_of, printed_words, printed_bytes, word_at, whole_size, is_single, line_size, whole_text, said_text, noted_words, first_line, Lists, lists_none, lists_line, org_line, ListsAll, lists_all, lists_run}
 use Rattle.i9_asm.specs.Laws.{IsLow, IsRun, bytes_in, IsAssembly}
 use Rattle.i9_statement.proofs.Cutting.{all_by, all_append}
@@ -57,13 +59,12 @@ unfolding line_fault
 plain_assembles names s line bs item says ascii plain room =
     let inside : ltb (2 ^ 32) (s.place.location + length bs) ≡ false = le-ltb _ _ room.inside in
     let few : ltb most_bytes (s.total + length bs) ≡ false = le-ltb _ _ room.few in
+    let next : (s.place.location + length bs) % location_count ≡ s.place.location + length bs = omega (arith, room.inside) in
     record {
       bytes = bs;
       sound = rw (ascii, says.label, says.item, plain.sound, plain.size, inside, few) refl;
       gives = rw (says.label, says.item) plain.gives;
-      place = rw (says.label, says.item, ascii, plain.stays, plain.size, plain.known) refl;
-      pieces = rw (says.label, says.item, plain.stays) refl;
-      total = refl;
+      after = rw (says.label, says.item, ascii, plain.stays, plain.size, plain.known, next) refl;
     }
 
 -- ---- the lines of a run
@@ -103,9 +104,10 @@ plain_instruction names p i w0 w1 q low h0 h1 is =
     let v = encodes_valid w0 w1 i h1 (decoded_encodes w0 w1 i is) in
     let small : bits < 2 ^ 32 = omega (arith, and_le_l w0 (ignored_bits i)) in
     let text = statement_text p.location i bits ++ pad q in
-    let read = λ (ns : Names). statement_of-text p.location ns i bits q low small v (and_again w0 (ignored_bits i)) in
+    let here : p.location ≡ address_at p = omega arith in
+    let read = λ (ns : Names). ap (λ a. statement_of a ns text) (sym here) ∙ statement_of-text p.location ns i bits q low small v (and_again w0 (ignored_bits i)) in
     record {
-      gives = gives_instruction text (taken w0 w1 i) (statement_stands names p.location w0 w1 i q low h0 h1 is);
+      gives = gives_instruction text (taken w0 w1 i) (subst (λ a. Stands names a text (taken w0 w1 i)) here (statement_stands names p.location w0 w1 i q low h0 h1 is));
       sound = ap (λ n. n.fault) (read names);
       size = ap statement_size (read no_names) ∙ taken_length i w0 w1;
       stays = refl;
@@ -289,30 +291,14 @@ line_size-le a b bs = elim (cases_Bool (is_single a (b ∷ bs))) [
       | inr whole ↦ rw whole (ltb-false _ _ whole)
     ]
 
-append_nothing : (ps : List Piece) → append_last ps [] ≡ ps
-append_nothing [] = refl
-append_nothing (p ∷ []) = ap (λ bs. (p.0, bs) ∷ []) (append-nil p.1)
-append_nothing (p ∷ q ∷ ps) = ap (λ qs. p ∷ qs) (append_nothing (q ∷ ps))
-
-append_twice : (ps : List Piece) (u v : List ℕ) → append_last (append_last ps u) v ≡ append_last ps (u ++ v)
-append_twice [] u v = refl
-append_twice (p ∷ []) u v = ap (λ bs. (p.0, bs) ∷ []) (append_assoc p.1 u v)
-append_twice (p ∷ q ∷ []) u v = ap (λ bs. p ∷ (q.0, bs) ∷ []) (append_assoc q.1 u v)
-append_twice (p ∷ q ∷ r ∷ ps) u v = ap (λ qs. p ∷ qs) (append_twice (q ∷ r ∷ ps) u v)
-
-append_new : (ps : List Piece) (a : ℕ) (bs : List ℕ) → append_last (ps ++ (a, []) ∷ []) bs ≡ ps ++ (a, bs) ∷ []
-append_new [] a bs = refl
-append_new (p ∷ []) a bs = refl
-append_new (p ∷ q ∷ ps) a bs = ap (λ qs. p ∷ qs) (append_new (q ∷ ps) a bs)
-
 past_nothing : (s : Source) → past_bytes s [] ≡ s
-past_nothing s = rw (add-zero, add-zero, append_nothing s.pieces) refl
+past_nothing s = rw (add-zero, add-zero, append-nil s.bytes) refl
 
 past_both : (s : Source) (u v : List ℕ) → past_bytes (past_bytes s u) v ≡ past_bytes s (u ++ v)
 past_both s u v =
     let l : s.place.location + length u + length v ≡ s.place.location + length (u ++ v) = omega (arith, length-append u v) in
     let t : s.total + length u + length v ≡ s.total + length (u ++ v) = omega (arith, length-append u v) in
-    rw (l, t, append_twice s.pieces u v) refl
+    rw (l, t, append_assoc s.bytes u v) refl
 
 -- the lines of a run
 run_assembles : (names : Names) (a : ℕ) (bs : List ℕ) (lines : List (List ℕ)) → Lists a bs lines → (s : Source) → s.place.location ≡ a → IsLow bs → HasRoom s (length bs) → SaysAll (Assembles names) s lines (past_bytes s bs)
@@ -332,17 +318,16 @@ run_assembles names _ _ _ (lists_line a b bs lines rest) s at low room =
 -- ---- whole listings
 
 -- lines assemble without a fault behind a source, to these segments
-record Relists (names : Names) (s : Source) (lines : List (List ℕ)) (runs : List Piece) : Type 0 where
+record Relists (names : Names) (s : Source) (lines : List (List ℕ)) (runs : List Part) : Type 0 where
   end : Source
   assembled : SaysAll (Assembles names) s lines end
-  pieces : end.pieces ≡ s.pieces ++ runs
-  known : end.place.known ≡ s.place.known
+  segments : segments_of end ≡ segments_of s ++ runs
 
 -- a new segment
-abbrev begun : Source → ℕ → Source
-begun s a = record { place = record { location = a; known = s.place.known }; pieces = s.pieces ++ (a, []) ∷ []; total = s.total }
+abbrev begun_at : Source → ℕ → Source
+begun_at s a = record { place = record { location = a; known = s.place.known }; segments = segments_of s; address = a; bytes = []; total = s.total }
 
-org_assembles : (names : Names) (s : Source) (a : ℕ) → a < 2 ^ 32 → s.place.location ≤ 2 ^ 32 → s.total ≤ most_bytes → Assembles names s (org_line a) (begun s a)
+org_assembles : (names : Names) (s : Source) (a : ℕ) → a < 2 ^ 32 → s.place.location ≤ 2 ^ 32 → s.total ≤ most_bytes → Assembles names s (org_line a) (begun_at s a)
 unfolding line_fault
 org_assembles names s a low here few =
     let f = hex_text a in
@@ -354,22 +339,27 @@ org_assembles names s a low here few =
     let sound : item_fault names s.place (Org f) ≡ None = ap (λ o. (settled o).fault) v in
     let inside : ltb (2 ^ 32) (s.place.location + 0) ≡ false = le-ltb _ _ (omega arith) in
     let small : ltb most_bytes (s.total + 0) ≡ false = le-ltb _ _ (omega arith) in
+    let location : a % location_count ≡ a = omega arith in
+    let begins : a % 2 ^ 32 ≡ a = omega arith in
     record {
       bytes = [];
       sound = rw (ascii, says.label, says.item, sound, inside, small) refl;
       gives = rw (says.label, says.item) (gives_move f);
-      place = rw (says.label, says.item, ascii, moves) refl;
-      pieces = rw (says.label, says.item, moves) (sym (append_nothing (s.pieces ++ (a, []) ∷ [])));
-      total = sym (add-zero s.total);
+      after = rw (says.label, says.item, ascii, moves, location, begins, add-zero) refl;
     }
 
-listing_assembles : (names : Names) (runs : List Piece) (lines : List (List ℕ)) → ListsAll runs lines → (s : Source) → AllByRecursion IsRun runs → s.place.location ≤ 2 ^ 32 → s.total + bytes_in runs ≤ most_bytes
+-- a segment with bytes is kept
+kept_segment : (ps : List Part) (a : ℕ) (bs : List ℕ) → 0 < length bs → with_part ps a bs ≡ ps ++ record { address = a; bytes = bs } ∷ []
+kept_segment ps a [] h = absurd (omega arith)
+kept_segment ps a (b ∷ bs) h = refl
+
+listing_assembles : (names : Names) (runs : List Part) (lines : List (List ℕ)) → ListsAll runs lines → (s : Source) → AllByRecursion IsRun runs → s.place.location ≤ 2 ^ 32 → s.total + bytes_in runs ≤ most_bytes
     → Relists names s lines runs
-listing_assembles names _ _ lists_all s runs here few = record { end = s; assembled = refl; pieces = sym (append-nil s.pieces); known = refl }
+listing_assembles names _ _ lists_all s runs here few = record { end = s; assembled = refl; segments = sym (append-nil (segments_of s)) }
 listing_assembles names _ _ (lists_run a bs runs lines more run rest) s h here few =
     let inside = h.0.inside in
     let some = h.0.some in
-    let b = begun s a in
+    let b = begun_at s a in
     let t = past_bytes b bs in
     let first = org_assembles names s a (omega arith) here (omega arith) in
     let body = run_assembles names a bs lines run b refl h.0.low (record { inside = inside; few = omega arith }) in
@@ -377,19 +367,14 @@ listing_assembles names _ _ (lists_run a bs runs lines more run rest) s h here f
     record {
       end = after.end;
       assembled = (b, first, SaysAll-append (Assembles names) b t after.end lines more body after.assembled);
-      pieces = after.pieces ∙ ap (λ ps. ps ++ runs) (append_new s.pieces a bs) ∙ append_assoc s.pieces ((a, bs) ∷ []) runs;
-      known = after.known;
+      segments = after.segments ∙ ap (λ ps. ps ++ runs) (kept_segment (segments_of s) a bs some) ∙ append_assoc (segments_of s) (record { address = a; bytes = bs } ∷ []) runs;
     }
 
-kept_runs : (runs : List Piece) → AllByRecursion IsRun runs → filter is_kept ((0, []) ∷ runs) ≡ runs
-kept_runs [] h = refl
-kept_runs (run ∷ runs) h = rw (lt-ltb 0 (length run.1) h.0.some) (ap (λ rs. run ∷ rs) (kept_runs runs h.1))
-
 -- a listing is a source without fault, and its segments are the runs
-pub listing_is_assembly : (runs : List Piece) (lines : List (List ℕ)) → ListsAll runs lines → AllByRecursion IsRun runs → bytes_in runs ≤ most_bytes → IsAssembly lines runs
+pub listing_is_assembly : (runs : List Part) (lines : List (List ℕ)) → ListsAll runs lines → AllByRecursion IsRun runs → bytes_in runs ≤ most_bytes → IsAssembly lines runs
 listing_is_assembly runs lines listed h few =
     let r = listing_assembles (all_names lines) runs lines listed start_source h (omega arith) (omega arith) in
-    record { end = r.end; assembled = r.assembled; kept = ap (filter is_kept) r.pieces ∙ kept_runs runs h }
+    record { end = r.end; assembled = r.assembled; kept = r.segments }
 
 -- ---- the statement of two words
 

@@ -2,26 +2,27 @@
 use Rattle.std.specs.Prelude.{◌≡◌, ℕ, ◌+◌, ◌^◌, ◌<◌, ◌≤◌, List, [], ◌∷◌, length, None}
 use Rattle.std.specs.List.{AllByRecursion}
 use Rattle.i9_text.specs.FirstFault.{SaysAll, IsRefused}
+use Rattle.i9_model.specs.Image.{Part}
 use Rattle.i9_asm.specs.Places.{all_names}
-use Rattle.i9_asm.specs.Source.{Piece, Source, start_source, fault_of, Assembles, segments_of}
+use Rattle.i9_asm.specs.Source.{Source, start_source, fault_of, Assembles, segments_of}
 
 -- bytes
 abbrev pub IsLow : List ℕ → Type 0
 IsLow bs = AllByRecursion (λ b. b < 256) bs
 
 -- a run of bytes in the address space
-pub record IsRun (run : Piece) : Type 0 where
-  pub inside : run.0 + length run.1 ≤ 2 ^ 32
-  pub some : 0 < length run.1
-  pub low : IsLow run.1
+pub record IsRun (run : Part) : Type 0 where
+  pub inside : run.address + length run.bytes ≤ 2 ^ 32
+  pub some : 0 < length run.bytes
+  pub low : IsLow run.bytes
 
 -- how many bytes runs have
-abbrev pub bytes_in : List Piece → ℕ
+abbrev pub bytes_in : List Part → ℕ
 bytes_in [] = 0
-bytes_in (run ∷ runs) = length run.1 + bytes_in runs
+bytes_in (run ∷ runs) = length run.bytes + bytes_in runs
 
 -- the lines of a source without fault, under the values that its names have in it, and its segments
-pub record IsAssembly (lines : List (List ℕ)) (segments : List Piece) : Type 0 where
+pub record IsAssembly (lines : List (List ℕ)) (segments : List Part) : Type 0 where
   pub end : Source
   pub assembled : SaysAll (Assembles (all_names lines)) start_source lines end
   pub kept : segments_of end ≡ segments

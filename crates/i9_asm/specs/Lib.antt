@@ -5,3 +5,4 @@ pub mod Source
 pub mod Listing
 pub mod Said
 pub mod Laws
+pub mod Reading

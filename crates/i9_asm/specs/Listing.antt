@@ -7,6 +7,7 @@ use Rattle.i9_isa.specs.declared.inst.Inst.{Inst}
 use Rattle.i9_isa.specs.declared.inst.BadWord.{BadWord}
 use Rattle.i9_isa.specs.Words.{words_of, decoded}
 use Rattle.i9_decode.specs.Ignored.{ignored_bits}
+use Rattle.i9_model.specs.Image.{Part}
 use Rattle.i9_text.specs.Text.{space}
 use Rattle.i9_text.specs.Written.{word_text, byte_text}
 use Rattle.i9_statement.specs.Printed.{hex_text, hex_byte_text}
@@ -89,7 +90,7 @@ abbrev pub org_line : ℕ → List ℕ
 org_line a = codes ".org " ++ hex_text a
 
 -- the lines of runs, one after the other
-pub data ListsAll : List (ℕ × List ℕ) → List (List ℕ) → Type 0 where
+pub data ListsAll : List Part → List (List ℕ) → Type 0 where
   lists_all : ListsAll [] []
-  lists_run : (a : ℕ) (bs : List ℕ) (runs : List (ℕ × List ℕ)) (lines more : List (List ℕ))
-      → Lists a bs lines → ListsAll runs more → ListsAll ((a, bs) ∷ runs) (org_line a ∷ (lines ++ more))
+  lists_run : (a : ℕ) (bs : List ℕ) (runs : List Part) (lines more : List (List ℕ))
+      → Lists a bs lines → ListsAll runs more → ListsAll (record { address = a; bytes = bs } ∷ runs) (org_line a ∷ (lines ++ more))

@@ -23,7 +23,7 @@ no_names name = None
 
 -- the first definition of a name counts
 abbrev pub define : List ℕ → ℕ → Names → Names
-define name value known = if is_some (known name) then known else update bytes_eq known name (Some (value % 2 ^ 32))
+define name value known = if is_some (known name) then known else update bytes_eq known name (Some value)
 
 -- ---- directives with one value, which speak of the names so far alone
 
@@ -45,15 +45,24 @@ alignment_of v = if_holds (is_alignment (settled v).value) (settled v)
 
 -- ---- places
 
--- where a line stands: its location, and the names that are defined before it
+-- Where a line stands: its location, and the names that are defined before it. Behind FFFFFFFF the location is 2^32,
+-- where no byte can stand. It counts modulo 2^33, so that this is told from 0; only lines behind a fault go further.
 pub record Place : Type 0 where
   pub location : ℕ
   pub known : Names
 
+-- where the location counts from 0 again
+abbrev pub location_count : ℕ
+location_count = 2 ^ 33
+
+-- the address there
+abbrev pub address_at : Place → ℕ
+address_at p = p.location % 2 ^ 32
+
 -- the place behind a label
 abbrev pub past_label : Option (List ℕ) → Place → Place
 past_label None p = p
-past_label (Some name) p = if is_name name then record p { known = define name p.location p.known } else p
+past_label (Some name) p = if is_name name then record p { known = define name (address_at p) p.known } else p
 
 -- a fault with which a line counts as no bytes
 abbrev pub is_form_fault : Option Fault → Bool
@@ -74,7 +83,7 @@ abbrev pub size_of : Place → Item → ℕ
 size_of p (Space f) = (space_of (value_of p.known f)).value
 size_of p (Data width fs) = if list_all (λ f. is_some (value_of no_names f)) fs then width * length fs else 0
 size_of p (Ascii s) = string_size (string_of s)
-size_of p (Instruction s) = statement_size (statement_of p.location no_names s)
+size_of p (Instruction s) = statement_size (statement_of (address_at p) no_names s)
 size_of p _ = 0
 
 -- a location moved up to a multiple
@@ -105,7 +114,10 @@ next_location None n = n
 
 -- the place behind an item
 abbrev pub past_item : Place → Item → Place
-past_item p item = record { location = next_location (moved_to p item) (p.location + size_of p item); known = assigned p item }
+past_item p item = record {
+  location = next_location (moved_to p item) (p.location + size_of p item) % location_count;
+  known = assigned p item;
+}
 
 -- a byte of ASCII
 abbrev pub is_ascii : ℕ → Bool

@@ -1,5 +1,5 @@
 -- Sources: the bytes and the faults of each line, and the segments.
-use Rattle.std.specs.Prelude.{◌≡◌, ℕ, zero, suc, ◌+◌, ◌-◌, ◌*◌, ◌^◌, ◌≤◌, ◌||◌, not, nat_lt, nat_le, Bool, List, [], ◌∷◌, ◌++◌, length, take, filter, Option, Some, None, is_some, if◌then◌else◌}
+use Rattle.std.specs.Prelude.{◌≡◌, ℕ, zero, suc, ◌+◌, ◌-◌, ◌*◌, ◌%◌, ◌^◌, ◌≤◌, ◌||◌, not, nat_lt, nat_le, Bool, List, [], ◌∷◌, ◌++◌, length, take, filter, Option, Some, None, is_some, if◌then◌else◌}
 use Rattle.std.specs.Option.{option_map}
 use Rattle.std.specs.List.{list_all, flat_map}
 use Rattle.std.specs.Int.{w32, to_le_bytes}
@@ -13,7 +13,9 @@ use Rattle.i9_statement.specs.Statements.{statement_of}
 use Rattle.i9_statement.specs.Codes.{Stands}
 use Rattle.i9_asm.specs.Lines.{Item, Empty, Bad, Org, Space, Align, Set, Data, Ascii, Instruction, item_of, label_of}
 use Rattle.i9_asm.specs.Strings.{string_of}
-use Rattle.i9_asm.specs.Places.{is_ascii, if_holds, space_of, alignment_of, Place, past_label, past_line, start_place, size_of, moved_to}
+use Rattle.i9_model.specs.Image.{Part}
+use Rattle.i9_hex.specs.Put.{with_part}
+use Rattle.i9_asm.specs.Places.{is_ascii, if_holds, space_of, alignment_of, Place, address_at, past_label, past_line, start_place, size_of, moved_to}
 
 -- ---- bytes
 
@@ -37,7 +39,7 @@ zeros (suc n) = 0 ∷ zeros n
 -- the bytes that an item gives at a place, by cases
 pub data Gives (names : Names) (p : Place) : Item → List ℕ → Type 0 where
   gives_nothing : Gives names p Empty []
-  gives_instruction : (s ws : List ℕ) → Stands names p.location s ws → Gives names p (Instruction s) (flat_map (to_le_bytes w32) ws)
+  gives_instruction : (s ws : List ℕ) → Stands names (address_at p) s ws → Gives names p (Instruction s) (flat_map (to_le_bytes w32) ws)
   gives_data : (width : ℕ) (fs : List (List ℕ))
       → Gives names p (Data width fs) (flat_map (λ f. low_bytes width (data_value width (value_of names f)).value) fs)
   gives_characters : (s cs : List ℕ) → string_of s ≡ Some cs → Gives names p (Ascii s) cs
@@ -69,7 +71,7 @@ item_fault names p (Align f) = (alignment_of (value_of p.known f)).fault
 item_fault names p (Set name f) = least (settled (value_of p.known f)).fault (label_fault (Some name) p.known)
 item_fault names p (Data width fs) = data_fault width names fs
 item_fault names p (Ascii s) = if is_some (string_of s) then None else Some fault.Form
-item_fault names p (Instruction s) = (statement_of p.location names s).fault
+item_fault names p (Instruction s) = (statement_of (address_at p) names s).fault
 
 -- a fault, where a test holds
 abbrev pub fault_if : Bool → Fault → Option Fault
@@ -77,45 +79,62 @@ fault_if test f = if test then Some f else None
 
 -- ---- segments
 
--- a segment, also an empty one: an address and bytes
-abbrev pub Piece : Type 0
-Piece = ℕ × List ℕ
-
--- bytes behind the last segment
-abbrev pub append_last : List Piece → List ℕ → List Piece
-append_last [] bs = []
-append_last (p ∷ []) bs = (p.0, p.1 ++ bs) ∷ []
-append_last (p ∷ q ∷ ps) bs = p ∷ append_last (q ∷ ps) bs
-
--- a new segment, where the location was moved
-abbrev pub begin_at : Option ℕ → List Piece → List Piece
-begin_at None ps = ps
-begin_at (Some a) ps = ps ++ (a, []) ∷ []
-
--- where a source stands: the place, the segments and how many bytes they have
+-- Where a source stands: the place, the segments that ended, the address and the bytes of the one that grows, which
+-- may be empty, and how many bytes were counted.
 pub record Source : Type 0 where
   pub place : Place
-  pub pieces : List Piece
+  pub segments : List Part
+  pub address : ℕ
+  pub bytes : List ℕ
   pub total : ℕ
 
 -- before the first line
 abbrev pub start_source : Source
-start_source = record { place = start_place; pieces = (0, []) ∷ []; total = 0 }
+start_source = record { place = start_place; segments = []; address = 0; bytes = []; total = 0 }
+
+-- the segments of a source
+abbrev pub segments_of : Source → List Part
+segments_of s = with_part s.segments s.address s.bytes
+
+-- a new segment, where the location was moved
+abbrev pub begun : Option ℕ → Source → Source
+begun None s = s
+begun (Some a) s = record s { segments = segments_of s; address = a % 2 ^ 32; bytes = [] }
+
+-- bytes behind the segment that grows, which count as so many, and the place behind them
+abbrev pub grown : Source → Place → ℕ → List ℕ → Source
+grown s p size bs = record s { place = p; bytes = s.bytes ++ bs; total = s.total + size }
+
+-- the source behind an item with these bytes, at this place
+abbrev pub past_source : Source → Place → Item → List ℕ → Source
+past_source s next item bs = grown (begun (moved_to s.place item) s) next (size_of s.place item) bs
 
 -- how many bytes a source has at most
 abbrev pub most_bytes : ℕ
 most_bytes = 4194304
 
+-- the least fault of a line up to its label
+abbrev pub front_fault : Place → List ℕ → Option Fault
+front_fault p line = least (fault_if (not (list_all is_ascii line)) fault.Form) (label_fault (label_of line) p.known)
+
+-- the least fault of so many bytes more
+abbrev pub room_fault : Source → ℕ → Option Fault
+room_fault s size =
+    least (fault_if (nat_lt (2 ^ 32) (s.place.location + size)) fault.Range)
+    (fault_if (nat_lt most_bytes (s.total + size)) fault.TooMany)
+
+-- the least fault of what a line says behind its label
+abbrev pub rest_fault : Names → Source → Item → Option Fault
+rest_fault names s item = least (item_fault names s.place item) (room_fault s (size_of s.place item))
+
+-- a source behind a label
+abbrev pub labelled_source : Option (List ℕ) → Source → Source
+labelled_source label s = record s { place = past_label label s.place }
+
 -- the least fault of a line
 unfoldable pub line_fault : Names → Source → List ℕ → Option Fault
 line_fault names s line =
-    let p = past_label (label_of line) s.place in
-    let size = size_of p (item_of line) in
-    least (fault_if (not (list_all is_ascii line)) fault.Form)
-    (least (label_fault (label_of line) s.place.known)
-    (least (item_fault names p (item_of line))
-    (least (fault_if (nat_lt (2 ^ 32) (p.location + size)) fault.Range)
-    (fault_if (nat_lt most_bytes (s.total + size)) fault.TooMany))))
+    least (front_fault s.place line) (rest_fault names (labelled_source (label_of line) s) (item_of line))
 
 -- its kind
 abbrev pub fault_of : Names → Source → List ℕ → Option ℕ
@@ -126,28 +145,13 @@ pub record Assembles (names : Names) (s : Source) (line : List ℕ) (t : Source)
   pub bytes : List ℕ
   pub sound : line_fault names s line ≡ None
   pub gives : Gives names (past_label (label_of line) s.place) (item_of line) bytes
-  pub place : t.place ≡ past_line s.place line
-  pub pieces : t.pieces
-      ≡ append_last (begin_at (moved_to (past_label (label_of line) s.place) (item_of line)) s.pieces) bytes
-  pub total : t.total ≡ s.total + length bytes
-
--- empty segments are not kept
-abbrev pub is_kept : Piece → Bool
-is_kept p = nat_lt 0 (length p.1)
-
--- the segments of a source
-abbrev pub segments_of : Source → List Piece
-segments_of s = filter is_kept s.pieces
+  pub after : t ≡ past_source (labelled_source (label_of line) s) (past_line s.place line) (item_of line) bytes
 
 -- ---- lines that add bytes
 
 -- the source behind bytes
 abbrev pub past_bytes : Source → List ℕ → Source
-past_bytes s bs = record {
-  place = record { location = s.place.location + length bs; known = s.place.known };
-  pieces = append_last s.pieces bs;
-  total = s.total + length bs;
-}
+past_bytes s bs = grown s (record { location = s.place.location + length bs; known = s.place.known }) (length bs) bs
 
 -- so many bytes have room behind a source
 pub record HasRoom (s : Source) (n : ℕ) : Type 0 where

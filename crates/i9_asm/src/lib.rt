@@ -6,12 +6,25 @@
 //! fault which gives these runs, and that a source has one answer, are laws.
 #![tactic(auto)]
 
+mod assembling;
 mod comments;
+mod data;
+mod error;
+mod items;
 mod laws;
 mod lines;
+mod places;
+mod source;
+mod strings;
 
+pub use assembling::assemble;
+pub use error::{AsmError, AsmFault};
 pub use laws::{listings_assemble, one_answer};
-pub use lines::{Line, Said, read_line};
+pub use lines::{Line, Said, Width, read_line};
 
 #[cfg(test)]
+mod source_tests;
+#[cfg(test)]
 mod tests;
+#[cfg(test)]
+mod word_tests;

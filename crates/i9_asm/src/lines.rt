@@ -5,10 +5,18 @@ ghost use Rattle.i9_statement.specs.declared.fault.Fault.TheVariants as fault;
 ghost use Rattle.i9_statement.specs.Cut.{before, from};
 ghost use Rattle.i9_statement.specs.Fields.{fields_of};
 ghost use Rattle.i9_asm.specs.Lines.{Item, Bad, Org, Space, Align, Set, ends_head, labelled, one_value, two_values, some_values, directive_of, item_by, item_of, label_of};
-ghost use Rattle.i9_asm.specs.Said.{item_as, label_as, label_in};
+ghost use Rattle.i9_asm.specs.Said.{bytes_of, item_as, label_as, label_in};
 
 use crate::comments::without_comment;
 use i9_statement::{Fault, cut_blank, cut_where, fields_of, split_field};
+
+/// How many bytes a value of a directive has.
+#[derive(Clone, Copy, Debug, PartialEq, Eq)]
+pub enum Width {
+    Byte,
+    Short,
+    Word,
+}
 
 /// What a line says behind its label.
 #[derive(Clone, Copy, Debug, PartialEq, Eq)]
@@ -22,7 +30,7 @@ pub enum Said<'a> {
     /// A name and a value.
     Set(&'a [u8], &'a [u8]),
     /// How many bytes each value has, and the text of the values.
-    Data(u8, &'a [u8]),
+    Data(Width, &'a [u8]),
     /// What stands behind `.ascii`.
     Ascii(&'a [u8]),
     /// A statement of an instruction.
@@ -45,7 +53,7 @@ fn cut_head(text: &[u8]) -> (&[u8], &[u8])
 }
 
 /// A text from its first word on.
-fn skip_blanks(text: &[u8]) -> &[u8]
+pub(crate) fn skip_blanks(text: &[u8]) -> &[u8]
     ensures { result.now ≡ from is_in_word text.now }
 {
     cut_where(text, |byte| byte != b' ' && byte != b'\t').1
@@ -91,8 +99,8 @@ fn two_values(rest: &[u8]) -> Option<(&[u8], &[u8])>
 }
 
 /// A directive of values of so many bytes.
-fn data(width: u8, rest: &[u8]) -> Said<'_>
-    ensures { item_as result ≡ some_values width (fields_of rest.now) }
+fn data(width: Width, rest: &[u8]) -> Said<'_>
+    ensures { item_as result ≡ some_values (bytes_of width) (fields_of rest.now) }
 {
     match fields_of(rest) {
         Some(text) => Said::Data(width, text),
@@ -145,11 +153,11 @@ fn directive<'a>(name: &[u8], rest: &'a [u8]) -> Said<'a>
     ensures { item_as result ≡ directive_of name.now rest.now }
 {
     if name == b".word".as_slice() {
-        data(4, rest)
+        data(Width::Word, rest)
     } else if name == b".short".as_slice() {
-        data(2, rest)
+        data(Width::Short, rest)
     } else if name == b".byte".as_slice() {
-        data(1, rest)
+        data(Width::Byte, rest)
     } else if name == b".org".as_slice() {
         origin(rest)
     } else if name == b".space".as_slice() {

@@ -1,5 +1,5 @@
 //! Lines of a source, read by hand.
-use crate::{Said, listings_assemble, one_answer, read_line};
+use crate::{Said, Width, listings_assemble, one_answer, read_line};
 use i9_statement::Fault;
 use std::test::Fail;
 
@@ -36,9 +36,9 @@ fn reads_lines(rt: HostRuntime) -> Result<(), Fail> {
         ),
         (b".set limit", None, Said::Bad(Fault::Form)),
         (b".set a, b, c", None, Said::Bad(Fault::Form)),
-        (b".word 1, x # 2", None, Said::Data(4, b" 1, x ")),
-        (b".short -1", None, Said::Data(2, b" -1")),
-        (b".byte\t1,,2", None, Said::Data(1, b"\t1,,2")),
+        (b".word 1, x # 2", None, Said::Data(Width::Word, b" 1, x ")),
+        (b".short -1", None, Said::Data(Width::Short, b" -1")),
+        (b".byte\t1,,2", None, Said::Data(Width::Byte, b"\t1,,2")),
         (b".byte", None, Said::Bad(Fault::Form)),
         (b".ascii \"a#b\" # c", None, Said::Ascii(b" \"a#b\" ")),
         (b".ascii \"\\\"#\"#", None, Said::Ascii(b" \"\\\"#\"")),

@@ -1,5 +1,5 @@
 //! The operands of a statement, between commas.
-ghost use Rattle.std.specs.Prelude.{◌≡◌, ◌<◌, ◌∷◌, [], length, map, IfSome};
+ghost use Rattle.std.specs.Prelude.{◌≡◌, ◌<◌, ◌∷◌, [], length, map, IfSome, MatchOption, ⊤};
 ghost use Rattle.std.specs.List.{position, slice_split};
 ghost use Rattle.i9_statement.specs.Fields.{is_comma, field_of, fields_of, fields_left};
 
@@ -31,7 +31,9 @@ fn place_of_comma(text: &[u8]) -> Option<usize>
 
 /// The first operand, and the text of the others.
 pub fn split_field(text: &[u8]) -> (&[u8], Option<&[u8]>)
-    ensures { map field_of (slice_split is_comma text.now) ≡ result.0.now ∷ fields_left result.1 }
+    ensures fields { map field_of (slice_split is_comma text.now) ≡ result.0.now ∷ fields_left result.1 }
+    // So a loop over the operands ends.
+    ensures shorter { MatchOption result.1 ⊤ (λ rest. length rest.now < length text.now) }
 {
     match place_of_comma(text) {
         Some(end) => (field_of(&text[..end]), Some(&text[end + 1..])),

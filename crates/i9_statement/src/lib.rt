@@ -36,7 +36,7 @@ pub use number_text::add_hex;
 pub use parts::Value;
 pub use statement_text::add_statement;
 pub use statements::{Statement, statement_of};
-pub use values::{Names, is_name, lookup, value_of};
+pub use values::{Names, is_name, lookup, settled, value_of};
 
 #[cfg(test)]
 mod tests;

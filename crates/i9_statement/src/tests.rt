@@ -1,8 +1,8 @@
 //! Statements against words that were worked out by hand from the instruction formats.
 use crate::{
     Fault, Names, Statement, Value, add_hex, add_statement, code_of, cut_blank, cut_where,
-    fields_of, is_name, least, lookup, split_field, statement_of, statements_read_back, value_of,
-    words_are_one,
+    fields_of, is_name, least, lookup, settled, split_field, statement_of, statements_read_back,
+    value_of, words_are_one,
 };
 use i9_decode::{decode, spare_bits};
 use std::alloc::Global;
@@ -275,6 +275,8 @@ fn reads_parts(rt: HostRuntime) -> Result<(), Fail> {
     assert_eq!(rt; value_of(&names, b"far-1"), Some(Value::Named(0xDFFF_FFFF)));
     assert_eq!(rt; value_of(&names, b"-1"), Some(Value::Number(0xFFFF_FFFF)));
     assert_eq!(rt; value_of(&names, b"g4"), None);
+    assert_eq!(rt; settled(value_of(&names, b"far")).value, 0xE000_0000);
+    assert_eq!(rt; settled(None).fault, Some(Fault::Form));
     assert_eq!(rt; cut_blank(b"ab\tc"), (b"ab".as_slice(), b"\tc".as_slice()));
     assert_eq!(rt;
         cut_where(b"ab:c", |byte| byte == b':'),

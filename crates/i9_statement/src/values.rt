@@ -227,3 +227,13 @@ pub(crate) fn value_noted(value: Value) -> Noted<u32>
         Value::Unknown => wrong(Fault::UnknownName, 0),
     }
 }
+
+/// What a text says as a value, or the fault that it has.
+pub fn settled(value: Option<Value>) -> Noted<u32>
+    ensures { result ≡ settled value }
+{
+    match value {
+        Some(value) => value_noted(value),
+        None => wrong(Fault::Form, 0),
+    }
+}

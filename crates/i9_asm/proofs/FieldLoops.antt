@@ -1,0 +1,87 @@
+-- One turn of a loop over the values of a directive.
+use Rattle.std.proofs.Common.{◌≡◌, ℕ, ◌+◌, ◌*◌, Bool, true, false, cond, ltb, List, [], ◌∷◌, ◌++◌, length, map, Option, Some, None, Bor, refl, sym, ap, ◌∙◌, arith, inl, inr, ◌≤◌, lit≤, zero-add}
+use Rattle.std.specs.Prelude.{is_some}
+use Rattle.std.specs.List.{list_all, slice_split, flat_map}
+use Rattle.std.proofs.lemmas.Bool.{ltb-true, ltb-false, lt-ltb, le-ltb, cases_Bool}
+use Rattle.i9_statement.specs.declared.fault.Fault.{Fault}
+use Rattle.i9_statement.specs.Noted.{kind_of, least}
+use Rattle.i9_statement.specs.Values.{Names, value_of}
+use Rattle.i9_statement.specs.Fields.{is_comma, field_of, fields_left}
+use Rattle.i9_asm.specs.declared.lines.Width.{Width}
+use Rattle.i9_asm.specs.declared.lines.Width.TheVariants.{Byte, Short, Word}
+use Rattle.i9_asm.specs.Said.{bytes_of}
+use Rattle.i9_asm.specs.Places.{no_names}
+use Rattle.i9_asm.specs.Source.{data_value, data_fault, low_bytes}
+
+-- all operands of a text
+abbrev pub fields_in : List ℕ → List (List ℕ)
+fields_in text = map field_of (slice_split is_comma text)
+
+-- the operands that are left begin with this one
+pub split_fields : (left : Option (Bor (List ℕ))) (text : Bor (List ℕ)) (f : List ℕ) (after : Option (Bor (List ℕ))) → left ≡ Some text → fields_in text.now ≡ f ∷ fields_left after → fields_left left ≡ f ∷ fields_left after
+split_fields left text f after some split = ap fields_left some ∙ split
+
+-- ---- sizes
+
+abbrev pub has_form : List ℕ → Bool
+has_form f = is_some (value_of no_names f)
+
+-- with so many bytes before
+abbrev pub sized : ℕ → ℕ → List (List ℕ) → ℕ
+sized k width fs = cond (list_all has_form fs) (k + width * length fs) 0
+
+pub sized-on : (k width : ℕ) (f : List ℕ) (fs : List (List ℕ)) → has_form f ≡ true → sized k width (f ∷ fs) ≡ sized (k + width) width fs
+sized-on k width f fs h = rw h (by_all (list_all has_form fs))
+  where
+    by_all : (b : Bool) → cond b (k + width * length (f ∷ fs)) 0 ≡ cond b (k + width + width * length fs) 0
+    by_all true = omega arith
+    by_all false = refl
+
+pub sized-off : (k width : ℕ) (f : List ℕ) (fs : List (List ℕ)) → has_form f ≡ false → sized k width (f ∷ fs) ≡ 0
+sized-off k width f fs h = rw h refl
+
+pub sized-end : (k width : ℕ) → sized k width [] ≡ k
+sized-end k width = omega arith
+
+pub sized-all : (width : ℕ) (fs : List (List ℕ)) → sized 0 width fs ≡ cond (list_all has_form fs) (width * length fs) 0
+sized-all width fs = ap (λ n. cond (list_all has_form fs) n 0) (zero-add (width * length fs))
+
+pub bytes_of-small : (width : Width) → bytes_of width ≤ 4
+bytes_of-small Byte = lit≤ tt
+bytes_of-small Short = lit≤ tt
+bytes_of-small Word = lit≤ tt
+
+-- ---- faults
+
+pub least-none : (a : Option Fault) → least a None ≡ a
+least-none None = refl
+least-none (Some a) = refl
+
+pub least_assoc : (a b c : Option Fault) → least (least a b) c ≡ least a (least b c)
+least_assoc None b c = refl
+least_assoc (Some a) None c = refl
+least_assoc (Some a) (Some b) None = by_first (ltb (kind_of b) (kind_of a))
+  where
+    by_first : (q : Bool) → least (cond q (Some b) (Some a)) None ≡ cond q (Some b) (Some a)
+    by_first true = refl
+    by_first false = refl
+least_assoc (Some a) (Some b) (Some c) = elim (cases_Bool (ltb (kind_of b) (kind_of a))) [
+  | inl ba ↦ elim (cases_Bool (ltb (kind_of c) (kind_of b))) [
+    | inl cb ↦ let ca : ltb (kind_of c) (kind_of a) ≡ true = lt-ltb _ _ (omega (arith, ltb-true _ _ ba, ltb-true _ _ cb)) in rw (ba, cb, ca) refl
+    | inr bc ↦ rw (ba, bc, ba) refl
+  ]
+  | inr ab ↦ elim (cases_Bool (ltb (kind_of c) (kind_of b))) [
+    | inl cb ↦ rw (ab, cb) refl
+    | inr bc ↦ let ac : ltb (kind_of c) (kind_of a) ≡ false = le-ltb _ _ (omega (arith, ltb-false _ _ ab, ltb-false _ _ bc)) in rw (ab, bc, ac, ab) refl
+  ]
+]
+
+-- a fault so far, and one value more
+pub data_fault-on : (width : ℕ) (names : Names) (fault : Option Fault) (f : List ℕ) (fs : List (List ℕ))
+    → least (least fault (data_value width (value_of names f)).fault) (data_fault width names fs) ≡ least fault (data_fault width names (f ∷ fs))
+data_fault-on width names fault f fs = least_assoc fault (data_value width (value_of names f)).fault (data_fault width names fs)
+
+-- ---- bytes
+
+abbrev pub bytes_in : ℕ → Names → List (List ℕ) → List ℕ
+bytes_in width names fs = flat_map (λ f. low_bytes width (data_value width (value_of names f)).value) fs

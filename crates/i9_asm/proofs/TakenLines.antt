@@ -1,0 +1,106 @@
+-- What a line does, from what its parts do.
+use Rattle.std.proofs.Common.{◌≡◌, ℕ, ◌+◌, Bool, true, false, not, List, ◌++◌, Option, Some, None, Result, Ok, Err, refl, sym, ap, subst, ◌∙◌}
+use Rattle.std.specs.Prelude.{is_some, if◌then◌else◌}
+use Rattle.std.specs.Option.{option_map}
+use Rattle.std.specs.List.{list_all}
+use Rattle.i9_model.specs.Image.{Part}
+use Rattle.i9_statement.specs.declared.fault.Fault.{Fault}
+use Rattle.i9_statement.specs.declared.fault.Fault.TheVariants.{Form, NameTwice}
+use Rattle.i9_statement.specs.Noted.{kind_of, least}
+use Rattle.i9_statement.specs.Values.{Names, is_name}
+use Rattle.i9_asm.specs.declared.source.Source as code
+use Rattle.i9_asm.specs.declared.source.LineError.{LineError}
+use Rattle.i9_asm.specs.declared.source.LineError.TheVariants as lines
+use Rattle.i9_asm.specs.Lines.{Item, item_of, label_of}
+use Rattle.i9_asm.specs.Places.{Place, is_ascii, is_label, moved_to, size_of, past_item, past_line, effect_of}
+use Rattle.i9_asm.specs.Source.{Source, Gives, item_fault, fault_if, label_fault, front_fault, rest_fault, line_fault, labelled_source, begun, grown, past_source}
+use Rattle.i9_asm.specs.Reading.{source_of, Adds, Grows, Continues, Takes, Faults, error_at, fault_place, IfBad}
+use Rattle.i9_asm.specs.Laws.{IsRefusedSource}
+
+-- ---- an item
+
+begun_place : (moved : Option ℕ) (s : Source) → (begun moved s).place ≡ s.place
+begun_place None s = refl
+begun_place (Some a) s = refl
+
+source_same : (t u : Source) → t.place ≡ u.place → t.segments ≡ u.segments → t.address ≡ u.address → t.bytes ≡ u.bytes → t.total ≡ u.total → t ≡ u
+source_same t u a b c d e = rw (a, b, c, d, e) refl
+
+begun_total : (moved : Option ℕ) (s : Source) → (begun moved s).total ≡ s.total
+begun_total None s = refl
+begun_total (Some a) s = refl
+
+-- where the segment was begun, bytes were added, and the place moved on
+pub grows : (names : Names) (s b t : Source) (item : Item) → b ≡ begun (moved_to s.place item) s → (item_fault names b.place item ≡ None → Adds names b.place item b.bytes t.bytes) → t.place ≡ past_item b.place item
+    → t.segments ≡ b.segments → t.address ≡ b.address → t.total ≡ b.total + size_of s.place item → item_fault names s.place item ≡ None → Grows names s item t
+grows names s b t item is adds place segments address total sound =
+    let here : b.place ≡ s.place = ap (λ u. u.place) is ∙ begun_place (moved_to s.place item) s in
+    let a = adds (subst (λ p. item_fault names p item ≡ None) (sym here) sound) in
+    record {
+      bytes = a.bytes;
+      gives = subst (λ p. Gives names p item a.bytes) here a.gives;
+      after = source_same t (past_source s (past_item s.place item) item a.bytes) (place ∙ ap (λ p. past_item p item) here) (segments ∙ ap (λ u. u.segments) is) (address ∙ ap (λ u. u.address) is)
+          (a.same ∙ ap (λ u. u.bytes ++ a.bytes) is) (total ∙ ap (λ u. u.total + size_of s.place item) is);
+    }
+
+-- ---- a line
+
+least_left : (a b : Option Fault) → least a b ≡ None → a ≡ None
+least_left None b h = refl
+least_left (Some a) None h = absurd cc
+least_left (Some a) (Some b) h = by_first _ h
+  where
+    by_first : (q : Bool) → ◌≡◌ {A = Option Fault} (if q then Some b else Some a) None → ◌≡◌ {A = Option Fault} (Some a) None
+    by_first true h = absurd cc
+    by_first false h = absurd cc
+
+least_right : (a b : Option Fault) → a ≡ None → least a b ≡ None → b ≡ None
+least_right a b e h = rw e at h
+
+ascii_by : (b : Bool) → fault_if (not b) Form ≡ None → b ≡ true
+ascii_by true h = refl
+ascii_by false h = absurd cc
+
+label_by : (o : Option (List ℕ)) (known : Names) → label_fault o known ≡ None → is_label o ≡ true
+label_by None known h = refl
+label_by (Some name) known h = by_name (is_name name) h
+  where
+    by_name : (b : Bool) → ◌≡◌ {A = Option Fault} (if b then (if is_some (known name) then Some NameTwice else None) else Some Form) None → b ≡ true
+    by_name true h = refl
+    by_name false h = absurd cc
+
+-- a line without fault up to its label does what it says
+effect_is_item : (p : Place) (line : List ℕ) → front_fault p line ≡ None → effect_of line ≡ item_of line
+effect_is_item p line h =
+    let form = least_left (fault_if (not (list_all is_ascii line)) Form) (label_fault (label_of line) p.known) h in
+    let ascii = ascii_by (list_all is_ascii line) form in
+    let label = label_by (label_of line) p.known (least_right (fault_if (not (list_all is_ascii line)) Form) (label_fault (label_of line) p.known) form h) in
+    rw (ascii, label) refl
+
+pub takes_line : (names : Names) (s u : Source) (line : List ℕ) (front : Option Fault) (item : Item) (r : Result code.Source LineError) → u ≡ labelled_source (label_of line) s → item ≡ item_of line → front ≡ front_fault s.place line
+    → Continues names u item (least front (rest_fault names u item)) r → Takes names s line r
+unfolding line_fault
+takes_line names s u line front item r source said label h =
+    takes r (subst (λ (v : Source). Continues names v (item_of line) (least (front_fault s.place line) (rest_fault names v (item_of line))) r) source
+    (subst (λ (i : Item). Continues names u i (least (front_fault s.place line) (rest_fault names u i)) r) said
+    (subst (λ (f : Option Fault). Continues names u item (least f (rest_fault names u item)) r) label h)))
+  where
+    takes : (r : Result code.Source LineError) → Continues names (labelled_source (label_of line) s) (item_of line) (line_fault names s line) r → Takes names s line r
+    takes (Err e) h = h
+    takes (Ok t) h =
+        let l = labelled_source (label_of line) s in
+        let front : front_fault s.place line ≡ None = least_left (front_fault s.place line) (rest_fault names l (item_of line)) h.0 in
+        record {
+          bytes = h.1.bytes;
+          sound = h.0;
+          gives = h.1.gives;
+          after = h.1.after ∙ ap (λ i. past_source l (past_item l.place i) (item_of line) h.1.bytes) (sym (effect_is_item s.place line front));
+        }
+
+-- ---- a source
+
+-- a line that is refused, where its fault is the first
+pub refused_at : (source : List (List ℕ)) (error : LineError) (fault : Option Fault) (number : ℕ) → Faults error fault → ((k : ℕ) → option_map kind_of fault ≡ Some k → IsRefusedSource source (number, k))
+    → IfBad (error_at error number) (λ f. IsRefusedSource source (fault_place f))
+refused_at source lines.Memory fault number fails known = tt
+refused_at source (lines.Bad f) fault number fails known = known (kind_of f) (ap (option_map kind_of) fails)

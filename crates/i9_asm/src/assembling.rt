@@ -1,0 +1,80 @@
+//! Assembling a source line by line, in two passes.
+ghost use Rattle.std.specs.Prelude.{◌≡◌, ℕ, List, IfOk, IfErr, Ok, Err};
+ghost use Rattle.std.specs.BTreeMap.{get_by_text};
+ghost use Rattle.i9_text.specs.Text.{lines_of};
+ghost use Rattle.i9_model.specs.Image.{Part};
+ghost use Rattle.i9_asm.specs.Places.{all_names};
+ghost use Rattle.i9_asm.specs.Laws.{IsAssembly, IsRefusedSource};
+ghost use Rattle.i9_asm.specs.Reading.{Answers, IfBad, fault_place};
+
+use crate::error::AsmError;
+use crate::places::Place;
+use crate::source::Source;
+use i9_hex::Segments;
+use i9_isa::NoMemory;
+use i9_statement::Names;
+use i9_text::split_line;
+use std::alloc::{AllocError, Global};
+
+/// The values of the names of a source.
+fn names_of(alloc: Global, text: &[u8]) -> Result<Names, AllocError>
+    ensures { IfOk result (λ names. get_by_text names ≡ all_names (lines_of text.now)) }
+{
+    let mut place = Place::new(alloc);
+    let mut rest = Some(text);
+    while let Some(lines) = rest {
+        let (line, after) = split_line(lines);
+        place = place.with_line(alloc, line)?;
+        rest = after;
+    }
+    Ok(place.known)
+}
+
+/// The segments of a source whose names have these values.
+fn segments_of(alloc: Global, names: &Names, text: &[u8]) -> Result<Segments, AsmError>
+    requires { get_by_text names.now ≡ all_names (lines_of text.now) }
+    ensures found { IfOk result (λ image. IsAssembly (lines_of text.now) image) }
+    ensures refused { IfErr result (λ e. IfBad e (λ f. IsRefusedSource (lines_of text.now) (fault_place f))) }
+{
+    let mut source = Source::new(alloc);
+    let mut number = 0u64;
+    let mut rest = Some(text);
+    while let Some(lines) = rest {
+        let (line, after) = split_line(lines);
+        number += 1;
+        match source.with_line(alloc, names, line) {
+            Ok(next) => source = next,
+            Err(error) => return Err(error.at(number)),
+        }
+        rest = after;
+    }
+    match source.finish() {
+        Ok(segments) => Ok(segments),
+        Err(NoMemory) => Err(AsmError::Memory),
+    }
+}
+
+/// Assembles a source for the i960.
+///
+/// Lines end with a line feed, which the last one may lack; one carriage return at a line's end is
+/// dropped. A line may have a label, and a directive or an instruction, and a comment behind `#`.
+/// A name is worth the address of the line that it labels, or what `.set` gave it. Each `.org`, and
+/// each `.align` that moves, begins a new segment; empty segments are not kept. The language is this
+/// project's own, near to that of Intel's assembler.
+///
+/// A source with a fault is refused with its first line at fault; see `AsmFault`.
+pub fn assemble(alloc: Global, text: &[u8]) -> Result<Segments, AsmError>
+    // What is assembled is what the lines say.
+    ensures found { IfOk result (λ image. IsAssembly (lines_of text.now) image) }
+    // What the lines say is assembled, unless memory runs out.
+    ensures only { (image : List Part) → IsAssembly (lines_of text.now) image → Answers result (Ok image) }
+    // What is refused has this first fault.
+    ensures refused { IfErr result (λ e. IfBad e (λ f. IsRefusedSource (lines_of text.now) (fault_place f))) }
+    // A source with a first fault is refused for it, unless memory runs out.
+    ensures first { (fault : ℕ × ℕ) → IsRefusedSource (lines_of text.now) fault → Answers result (Err fault) }
+{
+    match names_of(alloc, text) {
+        Ok(names) => segments_of(alloc, &names, text),
+        Err(AllocError) => Err(AsmError::Memory),
+    }
+}
