@@ -130,26 +130,23 @@ fn runs_and_refuses(rt: HostRuntime) -> Result<(), Fail> {
 }
 
 /// The first so many lines of a text.
-fn first_lines(text: &str, count: usize) -> &str {
-    let mut left = count;
-    for (place, byte) in text.bytes().enumerate() {
-        if left == 0 {
-            return &text[..place];
-        }
-        if byte == b'\n' {
-            left -= 1;
-        }
+fn first_lines(alloc: Global, text: &str, count: usize) -> Result<String, Fail> {
+    let mut front = String::new(alloc);
+    for line in text.lines().take(count) {
+        front.push_str(line)?;
+        front.push_str("\n")?;
     }
-    text
+    Ok(front)
 }
 
 #[test]
 fn failing_writes_leave_the_lines_before(rt: HostRuntime) -> Result<(), Fail> {
-    for failing in 1..6u64 {
+    for (failing, lines) in [(1, 0), (2, 1), (3, 2), (4, 3), (5, 4)] {
+        let printed = first_lines(rt.alloc(), PRINTED, lines)?;
         let case = Case {
             image: SMALLEST,
             words: "run a - - 100",
-            printed: first_lines(PRINTED, failing as usize - 1),
+            printed: &printed,
         };
         assert_eq!(rt;
             run_with(rt.alloc(), &case, 4096, failing)?,
@@ -164,10 +161,11 @@ fn failing_writes_leave_the_lines_before(rt: HostRuntime) -> Result<(), Fail> {
 fn a_line_for_which_there_is_no_room_is_not_begun(rt: HostRuntime) -> Result<(), Fail> {
     // `#out 41` and its line feed are eight bytes, the line of the drained point is forty.
     for (room, lines) in [(0, 0), (7, 0), (8, 1), (47, 1), (48, 2)] {
+        let printed = first_lines(rt.alloc(), PRINTED, lines)?;
         let case = Case {
             image: SMALLEST,
             words: "run a - - 100",
-            printed: first_lines(PRINTED, lines),
+            printed: &printed,
         };
         assert_eq!(rt;
             run_with(rt.alloc(), &case, room, 0)?,
