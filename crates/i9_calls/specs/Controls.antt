@@ -4,7 +4,6 @@ use Rattle.i9_model.specs.declared.layout.TheConstants.{PC_MASK, AC_MASK}
 use Rattle.i9_model.specs.Memory.{Memory}
 use Rattle.i9_model.specs.Calls.{saved_pc, saved_ac, returned_pc, returned_ac}
 use Rattle.i9_calls.specs.declared.returns.Controls.{Controls}
-pub use Rattle.i9_entry.specs.Controls.{IsWithin}
 
 -- the kept bits of the controls in the record below a frame
 abbrev pub recorded : Memory → ℕ → Controls

@@ -5,7 +5,7 @@ ghost use Rattle.i9_model.specs.Hazards.{save_hazard};
 ghost use Rattle.i9_model.specs.Calls.{planned_call, planned_calls};
 ghost use Rattle.i9_memory.specs.Memory.{memory_of};
 ghost use Rattle.i9_watch.specs.Watch.{frames_of};
-ghost use Rattle.i9_calls.specs.Controls.{IsWithin};
+ghost use Rattle.i9_model.specs.Numbers.{IsWithin};
 
 use i9_entry::{enter_system, trace_enable};
 use i9_memory::Memory;

@@ -37,7 +37,7 @@ fn leaves_supervisor(kind: u8) -> bool
 }
 
 /// The kept bits of the controls in the record below the frame at `fp`.
-#[tactic(auto, using(crate::proofs::Kept::masked))]
+#[tactic(auto, using(i9_model::proofs::KeptBits::masked))]
 fn read_record(m: &Memory, w: &Watch, fp: u32) -> Result<Controls, u32>
     ensures value { result ≡ unless (record_hazard (frames_of w.now) fp) (recorded (memory_of m.now) fp) }
     ensures kept_pc { IfOk result (λ c. IsWithin PC_MASK c.pc) }

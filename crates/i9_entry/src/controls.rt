@@ -2,7 +2,7 @@
 ghost use Rattle.std.specs.Prelude.{◌≡◌, ◌<◌};
 ghost use Rattle.i9_model.specs.declared.layout.TheConstants.{PC_MASK};
 ghost use Rattle.i9_model.specs.Calls.{in_supervisor_mode, trace_enable, with_supervisor, without_supervisor};
-ghost use Rattle.i9_entry.specs.Controls.{IsWithin};
+ghost use Rattle.i9_model.specs.Numbers.{IsWithin};
 
 use crate::words::aligned;
 use i9_model::layout::SUPERVISOR_PLACE;
@@ -25,7 +25,7 @@ pub fn trace_enable(word: u32) -> u32
 }
 
 /// The process controls in supervisor mode, with another trace enable, 0 or 1.
-#[tactic(auto, using(crate::proofs::Kept::same_above))]
+#[tactic(auto, using(i9_model::proofs::KeptBits::same_above))]
 pub(crate) fn with_supervisor(pc: u32, trace: u32) -> u32
     requires { trace < 2 }
     ensures value { result ≡ with_supervisor pc trace }
@@ -36,7 +36,7 @@ pub(crate) fn with_supervisor(pc: u32, trace: u32) -> u32
 
 /// The process controls in user mode, with another trace enable, 0 or 1 (i960 CA/CF User's Manual,
 /// process controls).
-#[tactic(auto, using(crate::proofs::Kept::same_above))]
+#[tactic(auto, using(i9_model::proofs::KeptBits::same_above))]
 pub fn without_supervisor(pc: u32, trace: u32) -> u32
     requires { trace < 2 }
     ensures value { result ≡ without_supervisor pc trace }

@@ -6,7 +6,7 @@ ghost use Rattle.i9_model.specs.Hazards.{save_hazard, unless};
 ghost use Rattle.i9_model.specs.Calls.{is_switch, entered_here, entered_switched, planned_system};
 ghost use Rattle.i9_memory.specs.Memory.{memory_of};
 ghost use Rattle.i9_watch.specs.Watch.{frames_of};
-ghost use Rattle.i9_entry.specs.Controls.{IsWithin};
+ghost use Rattle.i9_model.specs.Numbers.{IsWithin};
 ghost use Rattle.i9_entry.specs.Kinds.{kind_by};
 
 use crate::controls::{in_supervisor_mode, trace_enable, with_supervisor};

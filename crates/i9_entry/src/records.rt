@@ -1,6 +1,6 @@
 //! The record below the frame of a handler.
 ghost use Rattle.std.specs.Prelude.{◌≡◌, ◌%◌};
-ghost use Rattle.i9_model.specs.Faults.{record_write_hazard};
+ghost use Rattle.i9_model.specs.Hazards.{record_write_hazard};
 ghost use Rattle.i9_watch.specs.Watch.{frames_of};
 
 use i9_model::Push;
@@ -11,7 +11,7 @@ use i9_watch::Watch;
 /// written once the old frame is saved: the least byte of a live frame or of the saved one, counted
 /// upwards, or else the least in the port page. After the i960 CA/CF User's Manual, faults and
 /// interrupts.
-#[tactic(auto, unfolding(i9_model::specs::Faults::record_write_hazard), using(crate::proofs::SavedRecords::record_rules))]
+#[tactic(auto, unfolding(i9_model::specs::Hazards::record_write_hazard), using(crate::proofs::SavedRecords::record_rules))]
 pub fn record_write_hazard(w: &Watch, push: Push) -> Option<u32>
     requires save { push.save % 16 ≡ 0 }
     requires frame { push.frame % 16 ≡ 0 }

@@ -1,7 +1,8 @@
 //! The entry of a fault.
 ghost use Rattle.std.specs.Prelude.{◌≡◌, ◌%◌, None, IfOk};
 ghost use Rattle.i9_model.specs.Hazards.{save_hazard};
-ghost use Rattle.i9_model.specs.Faults.{without_trace, fault_record, planned_frame, planned_fault, record_write_hazard};
+ghost use Rattle.i9_model.specs.Faults.{without_trace, fault_record, planned_frame, planned_fault};
+ghost use Rattle.i9_model.specs.Hazards.{record_write_hazard};
 ghost use Rattle.i9_memory.specs.Memory.{memory_of};
 ghost use Rattle.i9_watch.specs.Watch.{frames_of};
 

@@ -18,9 +18,11 @@ use Rattle.i9_model.specs.Frames.{rounded_down}
 use Rattle.i9_model.specs.Hazards.{unless, read_hazard, save_hazard}
 use Rattle.i9_model.specs.Operands.{value}
 use Rattle.i9_model.specs.Calls.{entry_address, stack_address, is_switch, call_type, entered_here, entered_switched, system_entered, system_hazard}
-use Rattle.i9_model.specs.Faults.{◌>>=◌, or_stop, table_entry, checked_word, handler_of, planned_handler, planned_frame, record_write_hazard, entry_of, planned_fault}
+use Rattle.i9_model.specs.Faults.{◌>>=◌, or_stop, table_entry, checked_word, handler_of, planned_handler, planned_frame, entry_of, planned_fault}
+use Rattle.i9_model.specs.Hazards.{record_write_hazard}
 use Rattle.i9_model.specs.Step.{system_call}
 use Rattle.i9_model.specs.Run.{entry_in}
+use Rattle.i9_model.proofs.CallLaws.{unless_ok, stop_ok, bind_ok}
 
 -- something holds of a procedure that is entered, above a record of so many bytes, in either way
 pub record Ways (P : Sys → Type 0) (m : Memory) (pc fp sp extra : ℕ) (kind : Bool → ℕ) : Type 0 where
@@ -50,23 +52,6 @@ call_by P i s ways = system_by P s.memory s.tables.system_table (value s i.a) s.
 
 -- ---- the entry of a fault
 
-planned_ok : {A : Type 0} (h : Option ℕ) (x y : A) → unless h x ≡ Ok y → x ≡ y
-planned_ok None x y e = cc
-planned_ok (Some a) x y e = absurd cc
-
-planned_free : {A : Type 0} (h : Option ℕ) (x y : A) → unless h x ≡ Ok y → h ≡ None
-planned_free None x y e = refl
-planned_free (Some a) x y e = absurd cc
-
-stop_ok : {A : Type 0} (r : Result A ℕ) (x : A) → or_stop r ≡ Ok x → r ≡ Ok x
-stop_ok (Ok y) x e = cc
-stop_ok (Err a) x e = absurd cc
-
-bind_ok : {A B : Type 0} (r : Result A FaultStop) (next : A → Result B FaultStop) (y : B) → (r >>= next) ≡ Ok y
-    → (x : A) × (r ≡ Ok x) × (next x ≡ Ok y)
-bind_ok (Ok x) next y e = (x, refl, e)
-bind_ok (Err stop) next y e = absurd cc
-
 -- a handler at an address has it from memory
 abbrev IsFrom : Memory → Handler → Type 0
 IsFrom m (Local target) = (x : ℕ) × (word_in m x ≡ target)
@@ -91,7 +76,7 @@ planned_from m f at h ok =
     let a = bind_ok (checked_word m f at) (λ first. checked_word m f (wrapped (at + 4)) >>= last first) h ok in
     let b = bind_ok (checked_word m f (wrapped (at + 4))) (last a.0) h a.2 in
     let hazard = read_hazard f at 4 in
-    let word = planned_ok hazard (word_in m at) a.0 (stop_ok (unless hazard (word_in m at)) a.0 a.1) in
+    let word = (unless_ok hazard (word_in m at) a.0 (stop_ok (unless hazard (word_in m at)) a.0 a.1)).1 in
     handler_from m at a.0 b.0 h word b.2
 
 frame_by : (P : Sys → Type 0) (m : Memory) (f : Frames) (system pc fp sp : ℕ) (h : Handler) (sys : Sys)
@@ -100,10 +85,10 @@ unfolding planned_frame
 frame_by P m f system pc fp sp (Local target) sys ways from e =
     let here : P (entered_here target pc fp sp RECORD_SIZE FAULT_RETURN) =
     subst (λ (t : ℕ). P (entered_here t pc fp sp RECORD_SIZE FAULT_RETURN)) from.1 (ways.here from.0) in
-    subst P (planned_ok (save_hazard f (rounded_down fp)) (entered_here target pc fp sp RECORD_SIZE FAULT_RETURN) sys e) here
+    subst P (unless_ok (save_hazard f (rounded_down fp)) (entered_here target pc fp sp RECORD_SIZE FAULT_RETURN) sys e).1 here
 frame_by P m f system pc fp sp (System n) sys ways from e =
     let entered = system_entered m system n pc fp sp RECORD_SIZE (λ _. FAULT_RETURN) in
-    subst P (planned_ok (system_hazard m f system n pc fp) entered sys e)
+    subst P (unless_ok (system_hazard m f system n pc fp) entered sys e).1
     (system_by P m system n pc fp sp RECORD_SIZE (λ _. FAULT_RETURN) ways)
 
 -- and it holds of what the entry of a fault enters, whose record meets no hazard
@@ -120,9 +105,10 @@ entry_by P s fault e ways ok =
     let a = bind_ok (planned_handler m f at) (λ h. or_stop (frame h) >>= made) e ok in
     let b = bind_ok (or_stop (frame a.0)) made e a.2 in
     let from = planned_from m f at a.0 a.1 in
-    let plan = unless (record_write_hazard f b.0.push) (entry_of fault s.pc s.ac b.0) in (
+    let plan = unless (record_write_hazard f b.0.push) (entry_of fault s.pc s.ac b.0) in
+    let done = unless_ok (record_write_hazard f b.0.push) (entry_of fault s.pc s.ac b.0) e (stop_ok plan e b.2) in (
       b.0,
       frame_by P m f s.tables.system_table s.pc (s.regs FP) (s.regs SP) a.0 b.0 ways from (stop_ok (frame a.0) b.0 b.1),
-      planned_ok (record_write_hazard f b.0.push) (entry_of fault s.pc s.ac b.0) e (stop_ok plan e b.2),
-      planned_free (record_write_hazard f b.0.push) (entry_of fault s.pc s.ac b.0) e (stop_ok plan e b.2),
+      done.1,
+      done.0,
     )

@@ -38,16 +38,13 @@ use Rattle.i9_model.specs.declared.run.Due.{Due}
 use Rattle.i9_model.specs.Run.{Given, Record, Kind, Instruction, Faulted, Entered, action_by_kind, due_after, state_after, IsPast, entry_in, faulted_words}
 use Rattle.i9_model.proofs.ControlLaws.{by_group}
 use Rattle.i9_model.proofs.Comes.{MayCome, next_comes}
+use Rattle.i9_model.proofs.KeptBits.{masked, same_above}
 use Rattle.i9_laws.specs.Kept.{IsWithin}
 use Rattle.i9_laws.proofs.Entered.{call_by, entry_by}
 
 -- ---- masks
 
--- a masked word has no other bits
-masked : (mask w : ℕ) → IsWithin mask (bit_and w mask)
-masked mask w = and_assoc mask w mask ∙ ap (bit_and w) (and_self mask)
-
--- nor has a word that is masked once more
+-- a word that is masked once more has no other bits
 masked_more : (mask w n : ℕ) → IsWithin mask w → IsWithin mask (bit_and w n)
 masked_more mask w n h = and_assoc mask w n ∙ ap (bit_and w) (and_comm n mask) ∙ sym (and_assoc n w mask) ∙ ap (λ (x : ℕ). bit_and x n) h
 
@@ -59,14 +56,6 @@ masked_or mask w x h k = same_from_bits (bit_and (bit_or w x) mask) (bit_or w x)
     let r = bit_at_or w x i in
     let a = bit_at_and (bit_or w x) mask i in
     omega (arith, p, q, r, a))
-
--- the mask of the process controls has their low two bits
-same_above : (w x : ℕ) → x / 4 ≡ w / 4 → IsWithin PC_MASK w → IsWithin PC_MASK x
-same_above w x e h =
-    let high : bit_and x PC_MASK / 4 ≡ x / 4 =
-    and_shr x PC_MASK 2 ∙ ap (λ (n : ℕ). bit_and n (PC_MASK / 4)) e ∙ sym (and_shr w PC_MASK 2) ∙ ap (λ (n : ℕ). n / 4) h ∙ sym e in
-    let low : bit_and x PC_MASK % 4 ≡ x % 4 = and_mod x PC_MASK 2 ∙ and_mask (x % 4) 2 ∙ omega arith in
-    omega arith
 
 -- the mask of the arithmetic controls has the condition code
 coded : (ac new : ℕ) → IsWithin AC_MASK ac → IsWithin AC_MASK (with_code ac new)

@@ -12,7 +12,8 @@ use Rattle.i9_model.specs.State.{State}
 use Rattle.i9_model.specs.Frames.{saved}
 use Rattle.i9_model.specs.Hazards.{write_hazard, port_hazard}
 use Rattle.i9_model.specs.Calls.{record_address, saved_pc, saved_ac}
-use Rattle.i9_model.specs.Faults.{record_write_hazard, fault_record, entry_of}
+use Rattle.i9_model.specs.Faults.{fault_record, entry_of}
+use Rattle.i9_model.specs.Hazards.{record_write_hazard}
 use Rattle.i9_model.specs.Step.{bytes_of_words, saved_locals, entering, moved, acted}
 use Rattle.i9_model.specs.Run.{entry_in}
 use Rattle.i9_model.proofs.CallLaws.{second_none}

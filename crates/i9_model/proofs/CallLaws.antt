@@ -12,7 +12,8 @@ use Rattle.i9_model.specs.State.{Frames}
 use Rattle.i9_model.specs.Frames.{rounded_down, saved}
 use Rattle.i9_model.specs.Hazards.{or_else, unless, read_hazard, write_hazard, port_hazard, save_hazard}
 use Rattle.i9_model.specs.Calls.{entry_address, stack_address, is_switch, stack_hazard, system_hazard, entered_here, entered_switched, system_entered, record_address}
-use Rattle.i9_model.specs.Faults.{◌>>=◌, or_stop, table_entry, planned_handler, planned_frame, record_write_hazard, entry_of, planned_fault}
+use Rattle.i9_model.specs.Faults.{◌>>=◌, or_stop, table_entry, planned_handler, planned_frame, entry_of, planned_fault}
+use Rattle.i9_model.specs.Hazards.{record_write_hazard}
 
 pub first_none : (o p : Option ℕ) → or_else o p ≡ None → o ≡ None
 first_none None p e = refl
@@ -46,21 +47,17 @@ system_save m table n pc fp sp extra kind =
 
 -- ---- the entry of a fault
 
-unless_ok : {A : Type 0} (h : Option ℕ) (x y : A) → unless h x ≡ Ok y → (h ≡ None) × (x ≡ y)
+pub unless_ok : {A : Type 0} (h : Option ℕ) (x y : A) → unless h x ≡ Ok y → (h ≡ None) × (x ≡ y)
 unless_ok None x y e = (refl, cc)
 unless_ok (Some a) x y e = absurd cc
 
-stop_ok : {A : Type 0} (r : Result A ℕ) (x : A) → or_stop r ≡ Ok x → r ≡ Ok x
+pub stop_ok : {A : Type 0} (r : Result A ℕ) (x : A) → or_stop r ≡ Ok x → r ≡ Ok x
 stop_ok (Ok y) x e = cc
 stop_ok (Err a) x e = absurd cc
 
-bind_ok : {A B : Type 0} (r : Result A FaultStop) (next : A → Result B FaultStop) (y : B) → (r >>= next) ≡ Ok y → (x : A) × (next x ≡ Ok y)
-bind_ok (Ok x) next y e = (x, e)
+pub bind_ok : {A B : Type 0} (r : Result A FaultStop) (next : A → Result B FaultStop) (y : B) → (r >>= next) ≡ Ok y → (x : A) × (r ≡ Ok x) × (next x ≡ Ok y)
+bind_ok (Ok x) next y e = (x, refl, e)
 bind_ok (Err stop) next y e = absurd cc
-
-bind_both : {A B : Type 0} (r : Result A FaultStop) (next : A → Result B FaultStop) (y : B) → (r >>= next) ≡ Ok y → (x : A) × (r ≡ Ok x) × (next x ≡ Ok y)
-bind_both (Ok x) next y e = (x, refl, e)
-bind_both (Err stop) next y e = absurd cc
 
 frame_free : (m : Memory) (f : Frames) (system pc fp sp : ℕ) (h : Handler) (s : Sys) → planned_frame m f system pc fp sp h ≡ Ok s → save_hazard f s.push.save ≡ None
 unfolding planned_frame
@@ -94,6 +91,6 @@ pub enters_free : (m : Memory) (f : Frames) (table system : ℕ) (fault : Fault)
 unfolding planned_fault
 enters_free m f table system fault pc ac fp sp e ok =
     let a = bind_ok (planned_handler m f (table_entry table fault.kind)) (λ h. or_stop (planned_frame m f system pc fp sp h) >>= (λ s. or_stop (unless (record_write_hazard f s.push) (entry_of fault pc ac s)))) e ok in
-    let b = bind_both (or_stop (planned_frame m f system pc fp sp a.0)) (λ s. or_stop (unless (record_write_hazard f s.push) (entry_of fault pc ac s))) e a.1 in
+    let b = bind_ok (or_stop (planned_frame m f system pc fp sp a.0)) (λ s. or_stop (unless (record_write_hazard f s.push) (entry_of fault pc ac s))) e a.2 in
     let c = unless_ok (record_write_hazard f b.0.push) (entry_of fault pc ac b.0) e (stop_ok (unless (record_write_hazard f b.0.push) (entry_of fault pc ac b.0)) e b.2) in
     record_of_entry f fault pc ac b.0 e (frame_free m f system pc fp sp a.0 b.0 (stop_ok (planned_frame m f system pc fp sp a.0) b.0 b.1)) c.0 c.1

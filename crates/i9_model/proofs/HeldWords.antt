@@ -23,7 +23,7 @@ use Rattle.i9_model.proofs.HeldRuns.{cached-after}
 
 -- ---- a word by its four bytes
 
-four_list : (bs : List ℕ) → length bs ≡ 4 → get_or bs 0 0 ∷ get_or bs 1 0 ∷ get_or bs 2 0 ∷ get_or bs 3 0 ∷ [] ≡ bs
+pub four_list : (bs : List ℕ) → length bs ≡ 4 → get_or bs 0 0 ∷ get_or bs 1 0 ∷ get_or bs 2 0 ∷ get_or bs 3 0 ∷ [] ≡ bs
 four_list [] h = absurd (omega arith)
 four_list (a ∷ []) h = absurd (omega arith)
 four_list (a ∷ b ∷ []) h = absurd (omega arith)
@@ -31,11 +31,11 @@ four_list (a ∷ b ∷ c ∷ []) h = absurd (omega arith)
 four_list (a ∷ b ∷ c ∷ d ∷ []) h = refl
 four_list (a ∷ b ∷ c ∷ d ∷ e ∷ bs) h = absurd (omega arith)
 
-by_order : (big : Bool) (w : ℕ) → w < 2 ^ 32 → cond big (from_be_bytes w32 (cond big (to_be_bytes w32 w) (to_le_bytes w32 w))) (from_le_bytes w32 (cond big (to_be_bytes w32 w) (to_le_bytes w32 w))) ≡ w
+pub by_order : (big : Bool) (w : ℕ) → w < 2 ^ 32 → cond big (from_be_bytes w32 (cond big (to_be_bytes w32 w) (to_le_bytes w32 w))) (from_le_bytes w32 (cond big (to_be_bytes w32 w) (to_le_bytes w32 w))) ≡ w
 by_order true w h = from_be_bytes-to_be_bytes_4 w h
 by_order false w h = from_le_bytes-to_le_bytes_4 w h
 
-same_four : (m : Memory) (x p q r s v w y z : ℕ) → p ≡ v → q ≡ w → r ≡ y → s ≡ z → ordered_word m x (p ∷ q ∷ r ∷ s ∷ []) ≡ ordered_word m x (v ∷ w ∷ y ∷ z ∷ [])
+pub same_four : (m : Memory) (x p q r s v w y z : ℕ) → p ≡ v → q ≡ w → r ≡ y → s ≡ z → ordered_word m x (p ∷ q ∷ r ∷ s ∷ []) ≡ ordered_word m x (v ∷ w ∷ y ∷ z ∷ [])
 same_four m x p q r s v w y z h i j k = rw (h, i, j, k) refl
 
 -- the word whose bytes stand at an address

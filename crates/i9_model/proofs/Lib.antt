@@ -53,3 +53,4 @@ pub mod ReadBack
 pub mod Plans
 pub mod Replay
 pub mod PlannedRuns
+pub mod KeptBits

@@ -1,16 +1,17 @@
 -- Calls and returns: what they make of frames and controls, or the hazard that they meet.
-use Rattle.std.specs.Prelude.{◌≡◌, ℕ, ◌+◌, ◌-◌, ◌*◌, ◌%◌, ◌^◌, Bool, true, false, not, ◌==◌, ◌&&◌, ◌||◌, nat_le, nat_lt, if◌then◌else◌, bit_and, length, Option, None, Result, Ok, Err}
+use Rattle.std.specs.Prelude.{◌≡◌, ℕ, ◌+◌, ◌*◌, ◌%◌, ◌^◌, Bool, true, false, not, ◌==◌, ◌&&◌, ◌||◌, nat_le, nat_lt, if◌then◌else◌, bit_and, length, Option, None, Result, Ok, Err}
 use Rattle.i9_isa.specs.Words.{bit}
-use Rattle.i9_model.specs.declared.layout.TheConstants.{SUPERVISOR_PLACE, SUPERVISOR_STACK, SYSTEM_TABLE_ENTRIES, MOST_SYSTEM_CALL, ASKS_SUPERVISOR_PLACE, LOCAL_RETURN, FAULT_RETURN, SUPERVISOR_RETURN, INTERRUPT_RETURN, RECORD_SIZE, PC_MASK, AC_MASK}
+use Rattle.i9_model.specs.declared.layout.TheConstants.{SUPERVISOR_PLACE, SUPERVISOR_STACK, SYSTEM_TABLE_ENTRIES, MOST_SYSTEM_CALL, ASKS_SUPERVISOR_PLACE, LOCAL_RETURN, FAULT_RETURN, SUPERVISOR_RETURN, INTERRUPT_RETURN, PC_MASK, AC_MASK}
 use Rattle.i9_model.specs.declared.push.Push.{Push}
 use Rattle.i9_model.specs.declared.calls.Sys.{Sys}
 use Rattle.i9_model.specs.declared.calls.CallsStop.{CallsStop}
 use Rattle.i9_model.specs.declared.calls.CallsStop.TheVariants.{Hazard, Length}
 use Rattle.i9_model.specs.declared.calls.Pop.{Pop}
-use Rattle.i9_model.specs.Writes.{address_count, wrapped}
+use Rattle.i9_model.specs.Writes.{wrapped}
 use Rattle.i9_model.specs.Memory.{Memory, word_in}
 use Rattle.i9_model.specs.State.{Frames, aligned}
 use Rattle.i9_model.specs.Frames.{rounded_down, pushed, saved}
+pub use Rattle.i9_model.specs.Frames.{record_address}
 use Rattle.i9_model.specs.Hazards.{or_else, unless, read_hazard, save_hazard, return_hazard, planned_push}
 
 -- ---- process controls
@@ -119,11 +120,7 @@ takes_record kind = kind == FAULT_RETURN || kind == INTERRUPT_RETURN
 abbrev pub leaves_supervisor : ℕ → Bool
 leaves_supervisor kind = kind == SUPERVISOR_RETURN || kind == SUPERVISOR_RETURN + 1
 
--- the record stands below the frame that is left
-abbrev pub record_address : ℕ → ℕ
-record_address fp = wrapped (rounded_down fp + (address_count - RECORD_SIZE))
-
--- its first two words are PC and AC
+-- the first two words of the record below the frame that is left are PC and AC
 abbrev pub saved_pc : Memory → ℕ → ℕ
 saved_pc m fp = word_in m (record_address fp)
 

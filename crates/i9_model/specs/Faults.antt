@@ -15,15 +15,14 @@ use Rattle.i9_model.specs.declared.faults.Handler.{Handler}
 use Rattle.i9_model.specs.declared.faults.Handler.TheVariants.{Local, System}
 use Rattle.i9_model.specs.declared.faults.FaultStop.{FaultStop}
 use Rattle.i9_model.specs.declared.faults.FaultStop.TheVariants.{Hazard, Dead}
-use Rattle.i9_model.specs.declared.push.Push.{Push}
 use Rattle.i9_model.specs.declared.calls.Sys.{Sys}
 use Rattle.i9_model.specs.Writes.{wrapped}
 use Rattle.i9_model.specs.Memory.{Memory, word_in}
 use Rattle.i9_model.specs.State.{Frames}
-use Rattle.i9_model.specs.Frames.{saved, rounded_down}
-use Rattle.i9_model.specs.Hazards.{or_else, unless, read_hazard, write_hazard, port_hazard, save_hazard}
+use Rattle.i9_model.specs.Frames.{rounded_down}
+use Rattle.i9_model.specs.Hazards.{unless, read_hazard, save_hazard, record_write_hazard}
 use Rattle.i9_model.specs.Numbers.{complement}
-use Rattle.i9_model.specs.Calls.{in_supervisor_mode, entered_here, planned_system, record_address}
+use Rattle.i9_model.specs.Calls.{in_supervisor_mode, entered_here, planned_system}
 
 -- ---- the faults of an instruction
 
@@ -130,11 +129,6 @@ planned_handler m f at = do
 unfoldable pub planned_frame : Memory → Frames → ℕ → ℕ → ℕ → ℕ → Handler → Result Sys ℕ
 planned_frame m f system pc fp sp (Local target) = unless (save_hazard f (rounded_down fp)) (entered_here target pc fp sp RECORD_SIZE FAULT_RETURN)
 planned_frame m f system pc fp sp (System n) = planned_system m f system n pc fp sp RECORD_SIZE (λ _. FAULT_RETURN)
-
--- The record below a new frame is written once the old one is saved, and may not lie in the port page.
-unfoldable pub record_write_hazard : Frames → Push → Option ℕ
-record_write_hazard f push =
-    or_else (write_hazard (saved f push.save) (record_address push.frame) RECORD_SIZE) (port_hazard (record_address push.frame) RECORD_SIZE)
 
 -- trace enable and trace fault pending are cleared
 abbrev pub without_trace : ℕ → ℕ

@@ -1,9 +1,9 @@
 -- Frames: where local registers are saved, which bytes only a save wrote, and which frames may be returned to.
-use Rattle.std.specs.Prelude.{ℕ, ◌+◌, Bool, false, ◌==◌, ◌&&◌, ◌||◌, not, List, [], ◌∷◌, drop, map}
+use Rattle.std.specs.Prelude.{ℕ, ◌+◌, ◌-◌, Bool, false, ◌==◌, ◌&&◌, ◌||◌, not, List, [], ◌∷◌, drop, map}
 use Rattle.std.specs.List.{list_any, range_with_len}
-use Rattle.i9_model.specs.declared.layout.TheConstants.{FRAME_SIZE}
+use Rattle.i9_model.specs.declared.layout.TheConstants.{FRAME_SIZE, RECORD_SIZE}
 use Rattle.i9_model.specs.declared.push.Push.{Push}
-use Rattle.i9_model.specs.Writes.{wrapped, places_of}
+use Rattle.i9_model.specs.Writes.{address_count, wrapped, places_of}
 pub use Rattle.i9_model.specs.Writes.{rounded_down, rounded_up}
 use Rattle.i9_model.specs.State.{Frames}
 
@@ -57,3 +57,7 @@ pushed fp base extra kind = record {
   pfp = rounded_down fp + kind;
   sp = wrapped (wrapped (rounded_up base + extra) + FRAME_SIZE);
 }
+
+-- the record of a fault or an interrupt stands below the frame of its handler
+abbrev pub record_address : ℕ → ℕ
+record_address fp = wrapped (rounded_down fp + (address_count - RECORD_SIZE))

@@ -1,12 +1,12 @@
 -- Hazards: accesses that lean on the frame of a call that the processor may not have written to memory yet. Each names
 -- the least byte of the access that is concerned, counted upwards from its address.
 use Rattle.std.specs.Prelude.{ℕ, Bool, ◌==◌, if◌then◌else◌, List, [], ◌∷◌, Option, Some, None, Result, Ok, Err, find}
-use Rattle.i9_model.specs.declared.layout.TheConstants.{FRAME_SIZE}
+use Rattle.i9_model.specs.declared.layout.TheConstants.{FRAME_SIZE, RECORD_SIZE}
 use Rattle.i9_model.specs.declared.push.Push.{Push}
 use Rattle.i9_model.specs.Writes.{places_of}
 use Rattle.i9_model.specs.Memory.{in_port_page}
 use Rattle.i9_model.specs.State.{Frames}
-use Rattle.i9_model.specs.Frames.{places, in_frames, rounded_down, pushed}
+use Rattle.i9_model.specs.Frames.{places, in_frames, rounded_down, saved, pushed, record_address}
 
 -- the first byte of an access that passes a test
 abbrev pub least : (ℕ → Bool) → ℕ → ℕ → Option ℕ
@@ -53,3 +53,8 @@ unless (Some a) p = Err a
 -- a push, or the hazard of its save area
 abbrev pub planned_push : Frames → ℕ → ℕ → ℕ → ℕ → Result Push ℕ
 planned_push s fp base extra kind = unless (save_hazard s (rounded_down fp)) (pushed fp base extra kind)
+
+-- The record below a new frame is written once the old one is saved, and may not lie in the port page.
+unfoldable pub record_write_hazard : Frames → Push → Option ℕ
+record_write_hazard f push =
+    or_else (write_hazard (saved f push.save) (record_address push.frame) RECORD_SIZE) (port_hazard (record_address push.frame) RECORD_SIZE)

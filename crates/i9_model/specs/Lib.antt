@@ -20,6 +20,7 @@ pub mod Step
 pub mod Access
 pub mod Unbuilt
 pub mod Faults
+pub mod Interrupts
 pub mod Standing
 pub mod Given
 pub mod Run
@@ -36,4 +37,3 @@ pub mod ScheduleText
 pub mod PlannedRuns
 pub mod RunInSets
 pub mod PrintedText
-pub mod CommandLine

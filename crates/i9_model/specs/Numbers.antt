@@ -1,5 +1,5 @@
 -- Words of 32 bits as numbers: signed readings, quotients and remainders over whole numbers, and places of bits.
-use Rattle.std.specs.Prelude.{ℕ, zero, suc, ◌-◌, ◌/◌, ◌%◌, ◌^◌, Bool, true, false, nat_lt, if◌then◌else◌, ℤ, pos, negsuc, ◌+ℤ◌, Option, Some, None}
+use Rattle.std.specs.Prelude.{◌≡◌, ℕ, ◌<◌, zero, suc, ◌-◌, ◌/◌, ◌%◌, ◌^◌, Bool, true, false, nat_lt, bit_and, if◌then◌else◌, ℤ, pos, negsuc, ◌+ℤ◌, Option, Some, None}
 use Rattle.std.specs.Int.{cast_signed, w32}
 use Rattle.std.specs.Int.RustNames.{int_rem}
 use Rattle.i9_isa.specs.Words.{bit}
@@ -36,6 +36,14 @@ shifted_down (pos n) k = pos (n / 2 ^ k)
 shifted_down (negsuc n) k = negsuc (n / 2 ^ k)
 
 -- ---- bits
+
+-- a word has 32 bits
+abbrev pub IsWord : ℕ → Type 0
+IsWord w = w < 2 ^ 32
+
+-- a word has no other bits than a mask
+abbrev pub IsWithin : ℕ → ℕ → Type 0
+IsWithin mask w = bit_and w mask ≡ w
 
 -- the word with the other 32 bits
 abbrev pub complement : ℕ → ℕ

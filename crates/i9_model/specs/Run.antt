@@ -88,11 +88,12 @@ action_done r = action_by_kind r.kind r.before
 abbrev pub exit_in : State → Action → Option End
 exit_in s a = option_map Exit (exit_word s.memory a.writes)
 
--- what comes after a record whatever the length: nothing, an end, or the entry of its fault
+-- an exit ends the run
 abbrev pub end_due : Option End → Due
 end_due None = dues.Nothing
 end_due (Some f) = dues.End f
 
+-- what comes after a record whatever the length: nothing, an end, or the entry of its fault
 abbrev pub due_by : Kind → State → Due
 due_by (Instruction i) s = end_due (exit_in s (action_of i s))
 due_by (Faulted inst fault) s = dues.Entry fault

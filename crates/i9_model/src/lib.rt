@@ -6,6 +6,7 @@ mod calls;
 mod event;
 pub mod faults;
 mod frame;
+pub mod interrupts;
 mod late_laws;
 mod laws;
 pub mod layout;
@@ -24,6 +25,7 @@ pub use calls::{CallsStop, Pop, Sys};
 pub use event::{Event, Timed, When};
 pub use faults::{Entry, Fault, FaultStop, Handler};
 pub use frame::Frame;
+pub use interrupts::{Cause, Chosen};
 pub use late_laws::{
     landing_settles, requests_wait_in_order, shown_records_stay_shown, turns_keep_order,
     what_is_due_lands,

@@ -5,7 +5,6 @@ use Rattle.std.specs.Int.{w32, from_le_bytes, from_be_bytes, to_le_bytes, to_be_
 use Rattle.std.proofs.lemmas.Bool.{or_left}
 use Rattle.std.proofs.lemmas.List.{take_more, take_all, length-reverse}
 use Rattle.std.proofs.lemmas.List.FromFn.{fill_by_all}
-use Rattle.std.proofs.lemmas.Nat.{from_le_bytes-to_le_bytes_4, from_be_bytes-to_be_bytes_4}
 use Rattle.i9_model.specs.declared.layout.TheConstants.{LOCALS, FRAME_SIZE}
 use Rattle.i9_model.specs.declared.frame.Frame.{Frame}
 use Rattle.i9_model.specs.Writes.{address_count, wrapped}
@@ -17,6 +16,7 @@ use Rattle.i9_model.proofs.Readings.{in_bytes-has}
 use Rattle.i9_model.proofs.FrameBytes.{frame_byte}
 use Rattle.i9_model.proofs.Overlays.{words_mcon, over_push}
 use Rattle.i9_model.proofs.HeldFrames.{first_is}
+use Rattle.i9_model.proofs.HeldWords.{four_list, by_order, same_four}
 use Rattle.i9_memory.specs.declared.memory.Memory.{Memory as Kept}
 use Rattle.i9_memory.specs.Memory.{memory_of}
 use Rattle.i9_watch.specs.declared.watch.Watch.{Watch}
@@ -26,21 +26,6 @@ use Rattle.i9_storage.specs.Kept.{cache_in, IsKept}
 use Rattle.i9_storage.proofs.HeldBytes.{place_of}
 
 -- ---- a word by its four bytes
-
-four_list : (bs : List ℕ) → length bs ≡ 4 → get_or bs 0 0 ∷ get_or bs 1 0 ∷ get_or bs 2 0 ∷ get_or bs 3 0 ∷ [] ≡ bs
-four_list [] h = absurd (omega arith)
-four_list (a ∷ []) h = absurd (omega arith)
-four_list (a ∷ b ∷ []) h = absurd (omega arith)
-four_list (a ∷ b ∷ c ∷ []) h = absurd (omega arith)
-four_list (a ∷ b ∷ c ∷ d ∷ []) h = refl
-four_list (a ∷ b ∷ c ∷ d ∷ e ∷ bs) h = absurd (omega arith)
-
-by_order : (big : Bool) (w : ℕ) → w < 2 ^ 32 → cond big (from_be_bytes w32 (cond big (to_be_bytes w32 w) (to_le_bytes w32 w))) (from_le_bytes w32 (cond big (to_be_bytes w32 w) (to_le_bytes w32 w))) ≡ w
-by_order true w h = from_be_bytes-to_be_bytes_4 w h
-by_order false w h = from_le_bytes-to_le_bytes_4 w h
-
-same_four : (m : Memory) (x p q r s v w y z : ℕ) → p ≡ v → q ≡ w → r ≡ y → s ≡ z → ordered_word m x (p ∷ q ∷ r ∷ s ∷ []) ≡ ordered_word m x (v ∷ w ∷ y ∷ z ∷ [])
-same_four m x p q r s v w y z h i j k = rw (h, i, j, k) refl
 
 word_by_bytes : (m : Memory) (x w : ℕ) → x < address_count → w < 2 ^ 32 → ((j : ℕ) → j < 4 → m.bytes (wrapped (x + j)) ≡ get_or (word_bytes m x w) j 0) → word_in m x ≡ w
 unfolding word_in word_bytes

@@ -11,7 +11,7 @@ use Rattle.i9_model.specs.declared.run.Point.TheVariants as points
 use Rattle.i9_model.specs.declared.run.End.{End}
 use Rattle.i9_model.specs.declared.run.End.TheVariants.{Exit, Limit, Hazard, Dead, Unbuilt}
 use Rattle.i9_model.specs.PrintedText.{out_text, spaced, words_text, drained_text, point_text, end_text}
-use Rattle.i9_model.specs.CommandLine.{refused_line}
+use Rattle.i9_tool.specs.CommandLine.{refused_line}
 use Rattle.i9_tool.specs.Print.{line_count, IsLine}
 use Rattle.i9_tool.proofs.Prints.{line_count-append}
 

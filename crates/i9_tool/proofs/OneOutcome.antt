@@ -5,7 +5,7 @@ use Rattle.i9_model.specs.Given.{Given, given}
 use Rattle.i9_model.specs.declared.run.End.{End}
 use Rattle.i9_model.specs.Run.{Record, due_after, next_in, next, IsRun}
 use Rattle.i9_model.specs.PrintedText.{text_of, lines_of, end_lines, run_text, end_code}
-use Rattle.i9_model.specs.CommandLine.{Run, refused_line}
+use Rattle.i9_tool.specs.CommandLine.{Run, refused_line}
 use Rattle.i9_model.proofs.Cuts.{past_by, state_by}
 use Rattle.i9_model.proofs.Unique.{same_records, same_end}
 use Rattle.i9_hex.proofs.OneAnswer.{image_apart, one_image, one_fault}

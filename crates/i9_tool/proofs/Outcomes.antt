@@ -6,7 +6,7 @@ use Rattle.i9_model.specs.Given.{given}
 use Rattle.i9_model.specs.declared.run.End.{End}
 use Rattle.i9_model.specs.declared.run.End.TheVariants.{Exit, Limit, Hazard, Dead, Unbuilt}
 use Rattle.i9_model.specs.PrintedText.{run_text, end_code}
-use Rattle.i9_model.specs.CommandLine.{Command, Run, words_line, read_line, long_line, refused_line}
+use Rattle.i9_tool.specs.CommandLine.{Command, Run, words_line, read_line, long_line, refused_line}
 use Rattle.i9_model.proofs.Ends.{run_goes_on}
 use Rattle.i9_hex.proofs.OneAnswer.{some_answer}
 use Rattle.i9_outside.specs.declared.traits.TheConstants.{FILE_LIMIT}

@@ -9,7 +9,7 @@ use Rattle.i9_model.specs.Given.{given}
 use Rattle.i9_model.specs.declared.run.End.{End}
 use Rattle.i9_model.specs.Run.{Record, IsRun}
 use Rattle.i9_model.specs.PrintedText.{run_text, end_code}
-use Rattle.i9_model.specs.CommandLine.{Command, Run, command_of, words_line, read_line, long_line, refused_line}
+use Rattle.i9_tool.specs.CommandLine.{Command, Run, command_of, words_line, read_line, long_line, refused_line}
 use Rattle.i9_outside.specs.declared.traits.TheConstants.{FILE_LIMIT}
 use Rattle.i9_tool.specs.declared.print.Printed.{Printed}
 use Rattle.i9_tool.specs.declared.print.Printed.TheVariants as printed

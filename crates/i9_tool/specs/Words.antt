@@ -1,6 +1,6 @@
 -- What the words ask for in the plain form of the definitions.
 use Rattle.std.specs.Prelude.{ℕ, ◌<◌, Option, IfSome}
-use Rattle.i9_model.specs.CommandLine.{Command, Run}
+use Rattle.i9_tool.specs.CommandLine.{Command, Run}
 use Rattle.i9_tool.specs.declared.words.RunWords.{RunWords}
 
 abbrev pub asked_by : RunWords → Command

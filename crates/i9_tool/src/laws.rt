@@ -3,7 +3,7 @@
 
 ghost use Rattle.std.specs.Prelude.{◌≡◌, ◌≢◌, ◌≤◌, ℕ, Bool, true, List, Option, Some, IsSome, length};
 ghost use Rattle.std.specs.List.{AllByRecursion};
-ghost use Rattle.i9_model.specs.CommandLine.{Run};
+ghost use Rattle.i9_tool.specs.CommandLine.{Run};
 ghost use Rattle.i9_outside.specs.Calls.{NoneToFail};
 ghost use Rattle.i9_outside.specs.MemFiles as mem_files;
 ghost use Rattle.i9_outside.specs.MemSink as mem_sink;

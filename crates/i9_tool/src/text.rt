@@ -2,7 +2,7 @@
 ghost use Rattle.std.specs.Prelude.{◌≡◌, ◌++◌, ◌∷◌, [], ◌<◌, ◌^◌, IfOk, OnOk, codes};
 ghost use Rattle.std.specs.Fmt.{decimal};
 ghost use Rattle.std.specs.List.{flat_map};
-ghost use Rattle.i9_model.specs.CommandLine.{refused_line};
+ghost use Rattle.i9_tool.specs.CommandLine.{refused_line};
 ghost use Rattle.i9_text.specs.Written.{word_text, byte_text};
 ghost use Rattle.i9_model.specs.PrintedText.{out_text, point_text, drained_text, words_text, spaced, end_text, point_shown, shown_text, line_feed};
 ghost use Rattle.i9_machine.specs.Line.{shown_of};
@@ -143,7 +143,7 @@ fn one(alloc: Global, text: Vec<u8>) -> Result<Vec<Vec<u8>>, AllocError>
 }
 
 /// The line of a refused image.
-#[tactic(auto, unfolding(i9_model::specs::CommandLine::refused_line))]
+#[tactic(auto, unfolding(crate::specs::CommandLine::refused_line))]
 pub(crate) fn refused_line(alloc: Global, fault: &HexFault) -> Result<Vec<u8>, AllocError>
     ensures { IfOk result (λ t. t.items ≡ refused_line (place_of fault.now)) }
 {

@@ -3,7 +3,7 @@ ghost use Rattle.std.specs.Prelude.{◌≡◌, ◌≤◌, ◌<◌, IfSome, map};
 ghost use Rattle.std.specs.Option.{option_map};
 ghost use Rattle.std.specs.String.{string_bytes};
 ghost use Rattle.i9_model.specs.declared.layout.TheConstants.{MAX_LENGTH};
-ghost use Rattle.i9_model.specs.CommandLine.{sets_for, command_of};
+ghost use Rattle.i9_tool.specs.CommandLine.{sets_for, command_of};
 ghost use Rattle.i9_tool.specs.Words.{asked_by, AreFew};
 
 use i9_model::layout::{MAX_LENGTH, MOST_SETS};
@@ -19,7 +19,7 @@ pub(crate) struct RunWords<'a> {
 }
 
 /// The number of sets that a word asks for, of which `-` asks for none.
-#[tactic(auto, unfolding(i9_model::specs::CommandLine::sets_for))]
+#[tactic(auto, unfolding(crate::specs::CommandLine::sets_for))]
 fn sets_asked(word: &str) -> Option<Option<u8>>
     ensures asked { result ≡ sets_for word.now }
     ensures few { IfSome result AreFew }
@@ -35,7 +35,7 @@ fn sets_asked(word: &str) -> Option<Option<u8>>
 }
 
 /// What the words ask for, where they are in a form of the command.
-#[tactic(auto, unfolding(i9_model::specs::CommandLine::command_of))]
+#[tactic(auto, unfolding(crate::specs::CommandLine::command_of))]
 pub(crate) fn asked(words: &[String]) -> Option<RunWords<'_>>
     ensures asked { option_map asked_by result ≡ command_of (map string_bytes words.now) }
     ensures few { IfSome result (λ run. AreFew run.sets) }

@@ -6,9 +6,10 @@ ghost use Rattle.i9_model.specs.Hazards.{save_hazard};
 ghost use Rattle.i9_model.specs.Boot.{with_regions, configured};
 ghost use Rattle.i9_model.specs.Tables.{planned_setup, planned_group};
 ghost use Rattle.i9_model.specs.Calls.{planned_calls, planned_ret};
-ghost use Rattle.i9_model.specs.Faults.{planned_fault, record_write_hazard};
+ghost use Rattle.i9_model.specs.Faults.{planned_fault};
+ghost use Rattle.i9_model.specs.Hazards.{record_write_hazard};
 ghost use Rattle.i9_model.specs.HeldFrames.{cache_configured};
-ghost use Rattle.i9_calls.specs.Controls.{IsWithin};
+ghost use Rattle.i9_model.specs.Numbers.{IsWithin};
 ghost use Rattle.i9_memory.specs.Memory.{memory_of, KeepsRoom};
 
 use super::Storage;
