@@ -1,29 +1,9 @@
 //! The command `asm` over files and a sink in memory, at sources and texts worked out by hand.
-use crate::tests::words_of;
+use crate::tests::{SMALLEST, SMALLEST_SOURCE, words_of};
 use crate::top::i960;
 use i9_outside::{MemFiles, MemSink};
 use std::alloc::Global;
 use std::test::*;
-
-/// Prints `A` at the console, and exits with 7.
-const SMALLEST: &str = "
-        .org    0xFFFFFF10      # the boot record
-        .word   start
-        .org    0x1000
-start:  lda     0x41, g4
-        lda     0xE0000000, g5  # the console
-        stob    g4, (g5)
-        mov     7, g4
-        st      g4, 4(g5)
-";
-
-const SMALLEST_PRINTS: &str = ":02000004FFFFFC
-:04FF100000100000DD
-:020000040000FA
-:101000004100A08C0030A88C000000E00060A582A8
-:08101000070EA05C0460A5922C
-:00000001FF
-";
 
 /// Seventeen bytes from 0000FFFE on: two before a multiple of 65536, and fifteen behind it.
 const ACROSS_A_BOUNDARY: &str = "
@@ -59,7 +39,7 @@ fn assembles(
 #[test]
 fn assembles_and_refuses(rt: HostRuntime) -> Result<(), Fail> {
     let cases = [
-        (SMALLEST, "asm a", 0, SMALLEST_PRINTS),
+        (SMALLEST_SOURCE, "asm a", 0, SMALLEST),
         (ACROSS_A_BOUNDARY, "asm a", 0, ACROSS_A_BOUNDARY_PRINTS),
         ("", "asm a", 0, ":00000001FF\n"),
         ("# nothing", "asm a", 0, ":00000001FF\n"),
@@ -70,11 +50,11 @@ fn assembles_and_refuses(rt: HostRuntime) -> Result<(), Fail> {
             3,
             "#source line 2 kind 4\n",
         ),
-        (SMALLEST, "asm b", 5, "#read\n"),
-        (SMALLEST, "asm", 1, "#words\n"),
-        (SMALLEST, "asm ", 1, "#words\n"),
-        (SMALLEST, "asm a -", 1, "#words\n"),
-        (SMALLEST, "Asm a", 1, "#words\n"),
+        (SMALLEST_SOURCE, "asm b", 5, "#read\n"),
+        (SMALLEST_SOURCE, "asm", 1, "#words\n"),
+        (SMALLEST_SOURCE, "asm ", 1, "#words\n"),
+        (SMALLEST_SOURCE, "asm a -", 1, "#words\n"),
+        (SMALLEST_SOURCE, "Asm a", 1, "#words\n"),
     ];
     for (source, words, code, printed) in cases {
         assert_eq!(rt;

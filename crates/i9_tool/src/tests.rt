@@ -6,7 +6,7 @@ use std::alloc::Global;
 use std::test::*;
 
 /// Writes the letter A to the console, and ends with the word 7.
-const SMALLEST_SOURCE: &str = "
+pub(crate) const SMALLEST_SOURCE: &str = "
         .org  0xFFFFFF10
         .word start
         .org  0x1000
@@ -18,7 +18,7 @@ start:  lda   0x41, g4
 ";
 
 /// Its image.
-const SMALLEST: &str = ":02000004FFFFFC
+pub(crate) const SMALLEST: &str = ":02000004FFFFFC
 :04FF100000100000DD
 :020000040000FA
 :101000004100A08C0030A88C000000E00060A582A8
