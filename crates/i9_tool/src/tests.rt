@@ -1,5 +1,4 @@
 //! The command over files and a sink in memory, at cases worked out by hand.
-use crate::rows::hex_of;
 use crate::top::i960;
 use i9_outside::{MemFiles, MemSink};
 use std::alloc::Global;
@@ -67,13 +66,6 @@ fn run_with(alloc: Global, case: &Case<'_>, room: u64, failing: u64) -> Result<(
     let words = words_of(alloc, case.words)?;
     let status = i960(alloc, &words, &mut files, &mut sink);
     Ok((status.code, sink.bytes() == case.printed.as_bytes()))
-}
-
-#[test]
-fn a_source_gives_its_image(rt: HostRuntime) -> Result<(), Fail> {
-    let text = hex_of(rt.alloc(), &[SMALLEST_SOURCE])?;
-    assert!(rt; text.as_slice() == SMALLEST.as_bytes());
-    Ok(())
 }
 
 #[test]
