@@ -1,11 +1,12 @@
 //! Returns.
 ghost use Rattle.std.specs.Prelude.{◌≡◌, ◌<◌, ◌↔◌, IsTrue, IfOk, length};
 ghost use Rattle.i9_model.specs.declared.layout.TheConstants.{PC_MASK, AC_MASK};
+ghost use Rattle.i9_model.specs.Numbers.{IsWithin};
 ghost use Rattle.i9_model.specs.Hazards.{unless};
 ghost use Rattle.i9_model.specs.Calls.{takes_record, leaves_supervisor, record_hazard, controls_hazard, planned_ret};
 ghost use Rattle.i9_memory.specs.Memory.{memory_of};
 ghost use Rattle.i9_watch.specs.Watch.{frames_of};
-ghost use Rattle.i9_calls.specs.Controls.{IsWithin, recorded, controls_after};
+ghost use Rattle.i9_calls.specs.Controls.{recorded, controls_after};
 
 use i9_entry::{WORD_SIZE, in_supervisor_mode, read_word, without_supervisor};
 use i9_memory::Memory;

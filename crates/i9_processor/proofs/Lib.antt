@@ -4,3 +4,4 @@ pub mod Loading
 pub mod Applying
 pub mod NewSets
 pub mod Overlaid
+pub mod Rooms

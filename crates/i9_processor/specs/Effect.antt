@@ -1,5 +1,6 @@
 -- An effect as the action of the definitions, and where it can be applied.
 use Rattle.std.specs.Prelude.{◌≡◌, ℕ, ◌+◌, ◌<◌, ◌≤◌, ◌%◌, Bool, true, false, ◌||◌, nat_lt, List, [], length, Option, None, Some, unwrap_or}
+use Rattle.std.specs.List.{AllByRecursion}
 use Rattle.i9_model.specs.declared.layout.TheConstants.{LOCALS}
 use Rattle.i9_model.specs.Writes.{pairs_at, upwards}
 use Rattle.i9_model.specs.Memory.{Memory, words_in}
@@ -104,6 +105,18 @@ HasMoveSpace s moves.Flushes = Unit {0}
 pub record HasSpaceFor (p : Processor) (e : Effect) : Type 0 where
   pub bytes : HasSpace p.storage e.address (length e.bytes.items)
   pub frames : HasMoveSpace p.storage e.frames
+
+-- a frame can be saved where a move saves one
+abbrev pub HasRoomToMove : Storage → plain.Move → Type 0
+HasRoomToMove s plain.Stays = Unit {0}
+HasRoomToMove s (plain.Saves save words) = HasFrameSpace s save
+HasRoomToMove s plain.Returns = Unit {0}
+HasRoomToMove s plain.Flushes = Unit {0}
+
+-- there is room for each byte that an action writes, and for the frame that it saves
+pub record HasRoomFor (p : Processor) (a : plain.Action) : Type 0 where
+  pub bytes : AllByRecursion (λ w. HasSpace p.storage w.0 1) a.writes
+  pub frames : HasRoomToMove p.storage a.move
 
 -- a frame is saved
 abbrev pub is_costly : plain.Move → Bool

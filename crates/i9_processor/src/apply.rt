@@ -32,6 +32,7 @@ fn reserve_move(storage: &mut Storage, m: &Move) -> Result<(), NoMemory>
     ensures keeps { KeepsSpace storage.old storage.new }
     ensures space { OnOk result (HasMoveSpace storage.new m.now) }
     ensures needed { (s : State) → OnErr result (is_costly (move_in s m.now) ≡ true) }
+    ensures lacking { OnErr result (HasMoveSpace storage.old m.now → ⊥) }
 {
     match m {
         Move::Saves { push, back: _ } => storage.reserve_frame(push.save),
@@ -49,7 +50,7 @@ fn new_locals(push: &Push) -> [u32; LOCALS]
 impl Processor {
     ghost use Rattle.i9_processor.specs.State.{registers_of, state_of, cache_of, size_of};
 
-    /// Makes room for what an effect stores and saves.
+    /// Makes room for what an effect stores and saves. Memory is refused only where room is lacking.
     #[tactic(auto, unfolding(crate::specs::State::state_of, crate::specs::State::cache_of, crate::specs::State::size_of), using(crate::proofs::Applying::room_rules))]
     pub fn reserve(&mut self, e: &Effect) -> Result<(), NoMemory>
         ensures state { state_of self.new ≡ state_of self.old }
@@ -57,6 +58,7 @@ impl Processor {
         ensures size { size_of self.new ≡ size_of self.old }
         ensures space { OnOk result (HasSpaceFor self.new e.now) }
         ensures needed { OnErr result (has_writes (action_in (state_of self.old) e.now) ≡ true) }
+        ensures lacking { OnErr result (HasSpaceFor self.old e.now → ⊥) }
     {
         self.storage.reserve(e.address, e.bytes.len() as u32)?;
         reserve_move(&mut self.storage, &e.frames)

@@ -68,6 +68,13 @@ unfolding over
 none_held [] m a none = refl
 none_held (f ∷ fs) m a none = absurd (omega (arith, length-reverse (f ∷ fs), none_at_first (reverse (f ∷ fs)) none))
 
+pub none_held_word : (fs : List Frame) (m : Memory) (a : ℕ) → slice_get (reverse fs) 0 ≡ None → word_in m a ≡ word_in (over fs m) a
+unfolding over
+none_held_word [] m a none = refl
+none_held_word (f ∷ fs) m a none = absurd (omega (arith, length-reverse (f ∷ fs), none_at_first (reverse (f ∷ fs)) none))
+
+pub ruleset word_rules = (none_held_word)
+
 some_held : (fs : List Frame) (f : Frame) → Some f ≡ slice_get (reverse fs) 0 → 0 < length fs
 some_held [] f is = absurd cc
 some_held (g ∷ fs) f is = omega arith

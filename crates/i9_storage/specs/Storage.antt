@@ -35,6 +35,10 @@ pub record HasFrameSpace (s : Storage) (a : ℕ) : Type 0 where
   pub spare : 0 < spare_of s.watch
   pub marks : HasFrameMarks s.watch a
 
+-- where a frame could be saved one still can be
+abbrev pub KeepsFrameSpace : Storage → Storage → Type 0
+KeepsFrameSpace old new = (a : ℕ) → HasFrameSpace old a → HasFrameSpace new a
+
 -- what could be stored still can be
 abbrev pub KeepsSpace : Storage → Storage → Type 0
 KeepsSpace old new = KeepsRoom old.memory new.memory

@@ -52,7 +52,7 @@ fn drop_frame(watch: &mut Watch)
 }
 
 impl Storage {
-    ghost use Rattle.i9_storage.specs.Storage.{cache_of, memory_in, frames_in, size_of, HasSpace, HasFrameSpace, KeepsSpace};
+    ghost use Rattle.i9_storage.specs.Storage.{cache_of, memory_in, frames_in, size_of, HasSpace, HasFrameSpace, KeepsSpace, KeepsFrameSpace};
 
     /// Memory as it is, with `sets` sets and no frame saved.
     pub fn new(alloc: Global, memory: Memory, sets: u8) -> Result<Storage, NoMemory>
@@ -129,6 +129,7 @@ impl Storage {
         ensures cache { cache_of self.new ≡ cache_of self.old }
         ensures frames { frames_in self.new ≡ frames_in self.old }
         ensures space { OnOk result (HasSpace self.new a n) }
+        ensures frame_space { KeepsFrameSpace self.old self.new }
         ensures needed { OnErr result (0 < n) }
         ensures lacking { OnErr result (HasSpace self.old a n → ⊥) }
         ensures size { size_of self.new ≡ size_of self.old }

@@ -89,13 +89,14 @@ enum Step {
     Half(u32, u16),
     Word(u32, u32),
     FrameWords(u32, u32, u32),
+    FrameWord(u32, u8, u32),
     IsSoft(u32, bool),
     Holds(u8, u8),
     Held(u8, Option<u32>),
 }
 
 use Step::{
-    Byte, Flush, FrameWords, Half, Held, Holds, IsSoft, Restart, Return, Save, StoreHalf,
+    Byte, Flush, FrameWord, FrameWords, Half, Held, Holds, IsSoft, Restart, Return, Save, StoreHalf,
     StoreWord, Word,
 };
 
@@ -119,6 +120,9 @@ fn does(alloc: Global, storage: &mut Storage, step: Step) -> Result<bool, Fail> 
         Word(a, wanted) => return Ok(storage.word(a) == wanted),
         FrameWords(a, first, ninth) => {
             return Ok(storage.frame_words(a) == counting(first, ninth));
+        }
+        FrameWord(a, k, wanted) => {
+            return Ok(k < 16 && storage.frame_word(a, k) == wanted);
         }
         IsSoft(a, wanted) => return Ok(storage.watch().soft(a) == wanted),
         Holds(frames, sets) => {
@@ -152,6 +156,8 @@ fn holds_frames(rt: HostRuntime) -> Result<(), Fail> {
             FrameWords(0x1080, 0x300, 0x308),
             FrameWords(0x1000, 0x100, 0x108),
             FrameWords(0x1020, 0x108, 0x200),
+            FrameWord(0x1080, 2, 0x302),
+            FrameWord(0x1000, 15, 0x10F),
             // The last two bytes of a frame, and the first two of the next.
             Word(0x107E, 0x0300_0000),
             Return,
@@ -165,6 +171,7 @@ fn holds_frames(rt: HostRuntime) -> Result<(), Fail> {
             Holds(0, 2),
             Word(0x1000, 0x100),
             FrameWords(0x1000, 0x100, 0x108),
+            FrameWord(0x1000, 2, 0x102),
             IsSoft(0x1000, true),
         ],
         // A flush writes what is held, and not the frame that was returned to.
@@ -217,6 +224,7 @@ fn holds_frames(rt: HostRuntime) -> Result<(), Fail> {
             Save(0x1000_0040, 0x0102_0304),
             Byte(0x1000_0040, 0x01),
             Half(0x1000_0046, 0x0305),
+            FrameWord(0x1000_0040, 1, 0x0102_0305),
             Word(0x1000_007C, 0x0102_0313),
             // A frame runs on from the last address to 0.
             Save(0xFFFF_FFE0, 0x100),

@@ -1,5 +1,7 @@
 //! What is read of the state that a processor stands for.
-ghost use Rattle.std.specs.Prelude.{◌≡◌, ◌+◌, ◌<◌};
+ghost use Rattle.std.specs.Prelude.{◌≡◌, ◌+◌, ◌*◌, ◌<◌};
+ghost use Rattle.i9_model.specs.declared.layout.TheConstants.{LOCALS};
+ghost use Rattle.i9_model.specs.Writes.{wrapped};
 ghost use Rattle.i9_model.specs.Memory.{half_in, word_in, half_bytes, word_bytes, is_big};
 ghost use Rattle.i9_model.specs.Hazards.{read_hazard, write_hazard};
 ghost use Rattle.i9_model.specs.Frames.{flushed};
@@ -106,6 +108,15 @@ impl Processor {
         ensures { result ≡ word_in (state_of self.now).memory a }
     {
         self.storage.word(a)
+    }
+
+    /// Word `k` of the sixteen from `a` up, as of the frame that a return to `a` enters.
+    #[tactic(auto, unfolding(crate::specs::State::state_of))]
+    pub fn frame_word(&self, a: u32, k: u8) -> u32
+        requires { k < LOCALS }
+        ensures { result ≡ word_in (state_of self.now).memory (wrapped (a + 4 * k)) }
+    {
+        self.storage.frame_word(a, k)
     }
 
     /// The bytes of a half that is stored at `a`, from the lowest address up.

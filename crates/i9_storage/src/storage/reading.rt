@@ -177,6 +177,24 @@ impl Storage {
         }
     }
 
+    /// Word `k` of the sixteen that `frame_words` reads, alone.
+    #[tactic(auto, using(crate::proofs::Youngest::word_rules))]
+    pub fn frame_word(&self, a: u32, k: u8) -> u32
+        requires { k < LOCALS }
+        ensures { result ≡ word_in (memory_in self.now) (wrapped (a + 4 * k)) }
+    {
+        let at = a.wrapping_add(4 * u32::from(k));
+        let Some(f) = self.sets.at(0) else {
+            return self.memory.word(at);
+        };
+        words_fit(&f.words);
+        if f.address == a {
+            f.words[k as usize]
+        } else {
+            self.word(at)
+        }
+    }
+
     /// The bytes of a half that is stored at `a`, from the lowest address up: in the order of the
     /// region of `a`.
     #[tactic(auto, using(crate::proofs::HeldBytes::order_rules))]

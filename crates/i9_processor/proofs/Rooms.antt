@@ -1,0 +1,35 @@
+-- Room for effects: that of the action that an effect stands for, and room that stays.
+use Rattle.std.proofs.Common.{◌≡◌, ℕ, zero, suc, ◌+◌, ◌<◌, List, [], ◌∷◌, length, subst, arith}
+use Rattle.std.specs.List.{AllByRecursion}
+use Rattle.i9_model.specs.State.{State}
+use Rattle.i9_model.specs.Writes.{wrapped, upwards}
+use Rattle.i9_memory.specs.Memory.{IsReserved}
+use Rattle.i9_storage.specs.declared.storage.Storage.{Storage}
+use Rattle.i9_storage.specs.Storage.{HasSpace, KeepsFrameSpace}
+use Rattle.i9_processor.specs.declared.effect.Effect.{Effect}
+use Rattle.i9_processor.specs.declared.effect.Move.{Move}
+use Rattle.i9_processor.specs.declared.effect.Move.TheVariants as moves
+use Rattle.i9_processor.specs.declared.processor.Processor.{Processor}
+use Rattle.i9_processor.specs.Effect.{action_in, move_in, HasMoveSpace, HasSpaceFor, HasRoomToMove, HasRoomFor}
+
+-- bytes one by one are bytes in a row
+row_space : (s : Storage) (a : ℕ) (bs : List ℕ) → AllByRecursion (λ w. HasSpace s w.0 1) (upwards a bs) → (k : ℕ) → k < length bs → IsReserved s.memory (wrapped (a + k))
+row_space s a [] all k h = absurd (omega (arith, h))
+row_space s a (b ∷ bs) all zero h = let here : wrapped (wrapped a + 0) ≡ wrapped (a + 0) = omega arith in subst (IsReserved s.memory) here (all.0 0 (omega arith))
+row_space s a (b ∷ bs) all (suc k) h = let next : wrapped (a + 1 + k) ≡ wrapped (a + suc k) = omega arith in subst (IsReserved s.memory) next (row_space s (a + 1) bs all.1 k (omega (arith, h)))
+
+-- a frame that could be saved still can be
+pub move_kept : (s t : Storage) (m : Move) → KeepsFrameSpace s t → HasMoveSpace s m → HasMoveSpace t m
+move_kept s t moves.Stays keeps space = tt
+move_kept s t (moves.Saves push back) keeps space = keeps push.save space
+move_kept s t (moves.Returns frame) keeps space = tt
+move_kept s t moves.Flushes keeps space = tt
+
+move_space : (s : Storage) (t : State) (m : Move) → HasRoomToMove s (move_in t m) → HasMoveSpace s m
+move_space s t moves.Stays room = tt
+move_space s t (moves.Saves push back) room = room
+move_space s t (moves.Returns frame) room = tt
+move_space s t moves.Flushes room = tt
+
+pub room_space : (p : Processor) (s : State) (e : Effect) → HasRoomFor p (action_in s e) → HasSpaceFor p e
+room_space p s e room = record { bytes = row_space p.storage e.address e.bytes.items room.bytes; frames = move_space p.storage s e.frames room.frames }
