@@ -1,4 +1,5 @@
 pub mod Prints
+pub mod Lined
 pub mod LineCounts
 pub mod Running
 pub mod Answering

@@ -11,7 +11,7 @@ use Rattle.i9_model.specs.declared.run.Point.TheVariants as points
 use Rattle.i9_model.specs.declared.run.End.{End}
 use Rattle.i9_model.specs.declared.run.End.TheVariants.{Exit, Limit, Hazard, Dead, Unbuilt}
 use Rattle.i9_model.specs.PrintedText.{out_text, spaced, words_text, drained_text, point_text, end_text}
-use Rattle.i9_tool.specs.CommandLine.{refused_line}
+use Rattle.i9_tool.specs.CommandLine.{image_word, source_word, refused_line}
 use Rattle.i9_tool.specs.Print.{line_count, IsLine}
 use Rattle.i9_tool.proofs.Prints.{line_count-append}
 
@@ -67,12 +67,19 @@ line-globals ws = line-words (codes "#g") ws refl
 pub line-locals : (ws : List ℕ) → IsLine (words_text (codes "#l") ws)
 line-locals ws = line-words (codes "#l") ws refl
 
-pub line-refused : (fault : ℕ × ℕ) → IsLine (refused_line fault)
+line-refused : (what : List ℕ) (fault : ℕ × ℕ) → is_plain what ≡ true → IsLine (refused_line what fault)
 unfolding refused_line
-line-refused fault =
-    let line = plain-append (codes "#image line ") (decimal fault.0) refl (plain-decimal fault.0) in
-    let kind = plain-append (codes "#image line " ++ decimal fault.0) (codes " kind ") line refl in
-    after_plain (codes "#image line " ++ decimal fault.0 ++ codes " kind " ++ decimal fault.1) (10 ∷ [])
-    (plain-append (codes "#image line " ++ decimal fault.0 ++ codes " kind ") (decimal fault.1) kind (plain-decimal fault.1))
+line-refused what fault plain =
+    let begun = plain-append (codes "#" ++ what) (codes " line ") (plain-append (codes "#") what refl plain) refl in
+    let line = plain-append (codes "#" ++ what ++ codes " line ") (decimal fault.0) begun (plain-decimal fault.0) in
+    let kind = plain-append (codes "#" ++ what ++ codes " line " ++ decimal fault.0) (codes " kind ") line refl in
+    after_plain (codes "#" ++ what ++ codes " line " ++ decimal fault.0 ++ codes " kind " ++ decimal fault.1) (10 ∷ [])
+    (plain-append (codes "#" ++ what ++ codes " line " ++ decimal fault.0 ++ codes " kind ") (decimal fault.1) kind (plain-decimal fault.1))
 
-pub ruleset line_rules = (line-out, line-point, line-end, line-globals, line-locals, line-refused)
+pub line-image : (fault : ℕ × ℕ) → IsLine (refused_line image_word fault)
+line-image fault = line-refused image_word fault refl
+
+pub line-source : (fault : ℕ × ℕ) → IsLine (refused_line source_word fault)
+line-source fault = line-refused source_word fault refl
+
+pub ruleset line_rules = (line-out, line-point, line-end, line-globals, line-locals, line-image, line-source)

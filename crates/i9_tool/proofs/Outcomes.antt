@@ -1,100 +1,108 @@
 -- What the command answers for a file, and for the words.
 use Rattle.std.proofs.Common.{◌≡◌, ℕ, ◌<◌, ◌≤◌, ◌⊎◌, inl, inr, List, [], ◌++◌, length, Option, Some, None, refl, sym, subst, arith}
 use Rattle.i9_text.specs.Text.{lines_of}
+use Rattle.i9_model.specs.Image.{Part}
 use Rattle.i9_model.specs.HexText.{IsImage, IsRefused}
 use Rattle.i9_model.specs.Given.{given}
 use Rattle.i9_model.specs.declared.run.End.{End}
 use Rattle.i9_model.specs.declared.run.End.TheVariants.{Exit, Limit, Hazard, Dead, Unbuilt}
 use Rattle.i9_model.specs.PrintedText.{run_text, end_code}
-use Rattle.i9_tool.specs.CommandLine.{Command, Run, words_line, read_line, long_line, refused_line}
 use Rattle.i9_model.proofs.Ends.{run_goes_on}
+use Rattle.i9_hex.specs.Writing.{hex_text}
 use Rattle.i9_hex.proofs.OneAnswer.{some_answer}
+use Rattle.i9_asm.specs.Laws.{IsAssembly, IsRefusedSource}
 use Rattle.i9_outside.specs.declared.traits.TheConstants.{FILE_LIMIT}
 use Rattle.i9_tool.specs.declared.print.Printed.{Printed}
-use Rattle.i9_tool.specs.declared.print.Printed.TheVariants.{Memory}
 use Rattle.i9_tool.specs.declared.run.Ran.{Ran}
 use Rattle.i9_outside.specs.Traits.{IsFile}
+use Rattle.i9_tool.specs.CommandLine.{Command, file_of, words_line, read_line, image_word, source_word, long_line, refused_line}
 use Rattle.i9_tool.specs.Print.{Account, Prints}
 use Rattle.i9_tool.specs.Run.{Runs, printed_of}
-use Rattle.i9_tool.specs.Outcome.{FileGives, too_long, refused, runs, Gives, in_no_form, unread, fetched, Answers, code_for}
-use Rattle.i9_tool.proofs.Prints.{prints_same, prints_refused}
+use Rattle.i9_tool.specs.Outcome.{ImageGives, too_long, refused, runs, SourceGives, source_refused, assembled, FileGives, Gives, in_no_form, unread, fetched, Answers, code_for}
+use Rattle.i9_tool.proofs.Prints.{prints_same}
 use Rattle.i9_tool.proofs.Answering.{answers_printed, answers_wider}
 
-abbrev IsKnown : ℕ → Type 0
-IsKnown code = (code < 3) ⊎ ((4 ≤ code) × (code < 6))
+-- the status of an end
+known_finish : (f : End) → end_code f < 6
+known_finish (Exit w) = omega arith
+known_finish Limit = omega arith
+known_finish (Hazard a) = omega arith
+known_finish (Dead code a) = omega arith
+known_finish (Unbuilt a) = omega arith
 
-known_finish : (f : End) → IsKnown (end_code f)
-known_finish (Exit w) = inl (omega arith)
-known_finish Limit = inl (omega arith)
-known_finish (Hazard a) = inr (omega arith, omega arith)
-known_finish (Dead code a) = inr (omega arith, omega arith)
-known_finish (Unbuilt a) = inr (omega arith, omega arith)
-
--- some status and text for a file
+-- some status and text for an image
 abbrev SomeFor : List ℕ → Option ℕ → ℕ → Type 0
-SomeFor file sets limit = (code : ℕ) × (text : List ℕ) × IsKnown code × FileGives file sets limit code text
+SomeFor file sets limit = (code : ℕ) × (text : List ℕ) × ImageGives file sets limit code text
 
 some_short : (file : List ℕ) (sets : Option ℕ) (limit : ℕ) → length file ≤ FILE_LIMIT → SomeFor file sets limit
 some_short file sets limit short =
     elim (some_answer file) [
       | inl image ↦
           let later = run_goes_on (given image.0 [] limit sets) [] tt in
-          (end_code later.1, run_text (given image.0 [] limit sets) (later.0 ++ []) later.1, known_finish later.1, runs image.0 (later.0 ++ []) later.1 short image.1 later.2)
-      | inr bad ↦ (2, refused_line bad.0, inl (omega arith), refused bad.0 short bad.1)
+          (end_code later.1, run_text (given image.0 [] limit sets) (later.0 ++ []) later.1, runs image.0 (later.0 ++ []) later.1 short image.1 later.2)
+      | inr bad ↦ (2, refused_line image_word bad.0, refused bad.0 short bad.1)
     ]
 
 pub some_text : (file : List ℕ) (sets : Option ℕ) (limit : ℕ) → SomeFor file sets limit
 some_text file sets limit =
     elim (sized (length file)) [
       | inl short ↦ some_short file sets limit short
-      | inr long ↦ (2, long_line, inl (omega arith), too_long long)
+      | inr long ↦ (2, long_line image_word, too_long long)
     ]
   where
     sized : (n : ℕ) → (n ≤ FILE_LIMIT) ⊎ (FILE_LIMIT < n)
     sized n = grind arith
 
 module _ {K : Type 0} (k : Account K) where
+  -- a text that goes with a status below 6 was printed
+  answers_with : (gives : ℕ → List ℕ → Type 0) (p : Printed) (code status : ℕ) (text : List ℕ) (a b : K) → code < 6 → gives code text
+      → Prints p k a b text → status ≡ code_for p code → Answers gives status k a b
+  answers_with gives p code status text a b known is_given printed e =
+      subst (λ (n : ℕ). Answers gives n k a b) (sym e) (answers_printed k gives p code text a b known is_given printed)
+
   -- the image of a file ran
   pub file_runs : (file : List ℕ) (sets : Option ℕ) (limit : ℕ) (pairs : List (ℕ × ℕ)) (ran : Ran) (code : ℕ) (a b : K) → length file ≤ FILE_LIMIT → IsImage (lines_of file) pairs
-      → (r : Runs ran (given pairs [] limit sets) k a b) → code ≡ code_for (printed_of ran) (end_code r.end) → Answers (FileGives file sets limit) code k a b
+      → (r : Runs ran (given pairs [] limit sets) k a b) → code ≡ code_for (printed_of ran) (end_code r.end) → Answers (ImageGives file sets limit) code k a b
   file_runs file sets limit pairs ran code a b short image r e =
-      subst (λ (n : ℕ). Answers (FileGives file sets limit) n k a b) (sym e)
-      (answers_printed k (FileGives file sets limit) (printed_of ran) (end_code r.end) (run_text (given pairs [] limit sets) r.records r.end) a b (known_finish r.end) (runs pairs r.records r.end short image r.run) r.prints)
+      answers_with (ImageGives file sets limit) (printed_of ran) (end_code r.end) code (run_text (given pairs [] limit sets) r.records r.end) a b
+      (known_finish r.end) (runs pairs r.records r.end short image r.run) r.prints e
 
-  -- it was said why a file is refused
-  pub file_refused : (file : List ℕ) (sets : Option ℕ) (limit : ℕ) (fault : ℕ × ℕ) (line : List ℕ) (p : Printed) (code : ℕ) (a b : K) → length file ≤ FILE_LIMIT → IsRefused (lines_of file) fault → line ≡ refused_line fault
-      → Prints p k a b line → code ≡ code_for p 2 → Answers (FileGives file sets limit) code k a b
+  -- it was said why an image is refused
+  pub file_refused : (file : List ℕ) (sets : Option ℕ) (limit : ℕ) (fault : ℕ × ℕ) (line : List ℕ) (p : Printed) (code : ℕ) (a b : K) → length file ≤ FILE_LIMIT → IsRefused (lines_of file) fault
+      → line ≡ refused_line image_word fault → Prints p k a b line → code ≡ code_for p 2 → Answers (ImageGives file sets limit) code k a b
   file_refused file sets limit fault line p code a b short bad same printed e =
-      subst (λ (n : ℕ). Answers (FileGives file sets limit) n k a b) (sym e)
-      (answers_printed k (FileGives file sets limit) p 2 (refused_line fault) a b (inl (omega arith)) (refused fault short bad) (prints_same k p a b line (refused_line fault) same printed))
+      answers_with (ImageGives file sets limit) p 2 code (refused_line image_word fault) a b (omega arith) (refused fault short bad)
+      (prints_same k p a b line (refused_line image_word fault) same printed) e
 
-  -- memory was refused before anything was printed
-  pub file_unread : (file : List ℕ) (sets : Option ℕ) (limit : ℕ) (a : K) → Answers (FileGives file sets limit) 7 k a a
-  file_unread file sets limit a =
-      let s = some_text file sets limit in
-      answers_printed k (FileGives file sets limit) Memory s.0 s.1 a a s.2 s.3 (prints_refused k a s.1)
+  -- the segments of a source were printed
+  pub source_printed : (file : List ℕ) (image : List Part) (text : List ℕ) (p : Printed) (code : ℕ) (a b : K) → length file ≤ FILE_LIMIT → IsAssembly (lines_of file) image
+      → text ≡ hex_text image → Prints p k a b text → code ≡ code_for p 0 → Answers (SourceGives file) code k a b
+  source_printed file image text p code a b short made same printed e =
+      answers_with (SourceGives file) p 0 code (hex_text image) a b (omega arith) (assembled image short made) (prints_same k p a b text (hex_text image) same printed) e
+
+  -- it was said why a source is refused
+  pub source_fault : (file : List ℕ) (fault : ℕ × ℕ) (line : List ℕ) (p : Printed) (code : ℕ) (a b : K) → length file ≤ FILE_LIMIT → IsRefusedSource (lines_of file) fault
+      → line ≡ refused_line source_word fault → Prints p k a b line → code ≡ code_for p 3 → Answers (SourceGives file) code k a b
+  source_fault file fault line p code a b short bad same printed e =
+      answers_with (SourceGives file) p 3 code (refused_line source_word fault) a b (omega arith) (source_refused fault short bad)
+      (prints_same k p a b line (refused_line source_word fault) same printed) e
 
   module _ (files : List ℕ → Option (List ℕ)) (rose : List ℕ → Type 0) where
     -- what is answered for the file that was fetched
-    pub image_fetched : (image : List ℕ) (sets : Option ℕ) (limit : ℕ) (file bytes : List ℕ) (code : ℕ) (a b : K) → IsFile (files image) file → bytes ≡ file → Answers (FileGives bytes sets limit) code k a b
-        → Answers (Gives files rose (Some (Run image sets limit))) code k a b
-    image_fetched image sets limit file bytes code a b is_file same h =
-        let found : IsFile (files image) bytes = subst (IsFile (files image)) (sym same) is_file in
-        answers_wider k (FileGives bytes sets limit) (Gives files rose (Some (Run image sets limit))) code a b (λ c t g. fetched image sets limit bytes c t found g) h
+    pub file_fetched : (c : Command) (file bytes : List ℕ) (code : ℕ) (a b : K) → IsFile (files (file_of c)) file → bytes ≡ file → Answers (FileGives c bytes) code k a b
+        → Answers (Gives files rose (Some c)) code k a b
+    file_fetched c file bytes code a b is_file same h =
+        let found : IsFile (files (file_of c)) bytes = subst (IsFile (files (file_of c))) (sym same) is_file in
+        answers_wider k (FileGives c bytes) (Gives files rose (Some c)) code a b (λ n t g. fetched c bytes n t found g) h
 
-    pub image_unread : (image : List ℕ) (sets : Option ℕ) (limit : ℕ) (p : Printed) (code : ℕ) (a b : K) → rose image → Prints p k a b read_line → code ≡ code_for p 5 → Answers (Gives files rose (Some (Run image sets limit))) code k a b
-    image_unread image sets limit p code a b rises printed e =
-        subst (λ (n : ℕ). Answers (Gives files rose (Some (Run image sets limit))) n k a b) (sym e)
-        (answers_printed k (Gives files rose (Some (Run image sets limit))) p 5 read_line a b (inr (omega arith, omega arith)) (unread image sets limit rises) printed)
+    pub file_unread : (c : Command) (p : Printed) (code : ℕ) (a b : K) → rose (file_of c) → Prints p k a b read_line → code ≡ code_for p 5 → Answers (Gives files rose (Some c)) code k a b
+    file_unread c p code a b rises printed e = answers_with (Gives files rose (Some c)) p 5 code read_line a b (omega arith) (unread c rises) printed e
 
-    pub image_too_long : (image : List ℕ) (sets : Option ℕ) (limit : ℕ) (file : List ℕ) (p : Printed) (code : ℕ) (a b : K) → IsFile (files image) file → FILE_LIMIT < length file → Prints p k a b long_line → code ≡ code_for p 2
-        → Answers (Gives files rose (Some (Run image sets limit))) code k a b
-    image_too_long image sets limit file p code a b is_file long printed e =
-        subst (λ (n : ℕ). Answers (Gives files rose (Some (Run image sets limit))) n k a b) (sym e)
-        (answers_printed k (Gives files rose (Some (Run image sets limit))) p 2 long_line a b (inl (omega arith)) (fetched image sets limit file 2 long_line is_file (too_long long)) printed)
-
-    pub image_refused : (image : List ℕ) (sets : Option ℕ) (limit : ℕ) (file : List ℕ) (a : K) → IsFile (files image) file → Answers (Gives files rose (Some (Run image sets limit))) 7 k a a
-    image_refused image sets limit file a is_file = image_fetched image sets limit file file 7 a a is_file refl (file_unread file sets limit a)
+    -- a text for a file that is too long
+    pub file_too_long : (c : Command) (file : List ℕ) (status : ℕ) (text : List ℕ) (p : Printed) (code : ℕ) (a b : K) → IsFile (files (file_of c)) file → FileGives c file status text → status < 6
+        → Prints p k a b text → code ≡ code_for p status → Answers (Gives files rose (Some c)) code k a b
+    file_too_long c file status text p code a b is_file given known printed e =
+        answers_with (Gives files rose (Some c)) p status code text a b known (fetched c file status text is_file given) printed e
 
     -- what the words ask for, spelled in another way
     pub answers_for : (asked same : Option Command) (code : ℕ) (a b : K) → asked ≡ same → Answers (Gives files rose asked) code k a b → Answers (Gives files rose same) code k a b
@@ -102,6 +110,4 @@ module _ {K : Type 0} (k : Account K) where
 
     -- the words are in no form
     pub words_refused : (p : Printed) (code : ℕ) (a b : K) → Prints p k a b words_line → code ≡ code_for p 1 → Answers (Gives files rose None) code k a b
-    words_refused p code a b printed e =
-        subst (λ (n : ℕ). Answers (Gives files rose None) n k a b) (sym e)
-        (answers_printed k (Gives files rose None) p 1 words_line a b (inl (omega arith)) in_no_form printed)
+    words_refused p code a b printed e = answers_with (Gives files rose None) p 1 code words_line a b (omega arith) in_no_form printed e

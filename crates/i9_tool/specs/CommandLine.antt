@@ -6,10 +6,16 @@ use Rattle.std.specs.Str.{bytes_eq}
 use Rattle.i9_text.specs.Text.{number_of}
 use Rattle.i9_model.specs.declared.layout.TheConstants.{MAX_LENGTH, MOST_SETS}
 
--- what the words ask for: to run the image of this name, with so many sets or, where none are asked for, with those
--- of the PRCB, for at most so many instructions
+-- What the words ask for: to run the image of this name, with so many sets or, where none are asked for, with those of
+-- the PRCB, for at most so many instructions; or to assemble the source of this name.
 pub data Command : Type 0 where
   Run : (image : List ℕ) → (sets : Option ℕ) → (limit : ℕ) → Command
+  Asm : (source : List ℕ) → Command
+
+-- the file that a command reads
+abbrev pub file_of : Command → List ℕ
+file_of (Run image sets limit) = image
+file_of (Asm source) = source
 
 abbrev pub is_dash : List ℕ → Bool
 is_dash word = bytes_eq word (codes "-")
@@ -32,8 +38,9 @@ run_for image (Some sets) (Some limit) = Some (Run image sets limit)
 run_for image None limit = None
 run_for image (Some sets) None = None
 
--- `run IMAGE - SETS LENGTH`, with a name that isn't empty
+-- `asm SOURCE`, or `run IMAGE - SETS LENGTH`, with the name of a file that isn't empty
 unfoldable pub command_of : List (List ℕ) → Option Command
+command_of (name ∷ source ∷ []) = if bytes_eq name (codes "asm") && not (length source == 0) then Some (Asm source) else None
 command_of (name ∷ image ∷ schedule ∷ sets ∷ limit ∷ []) =
     if bytes_eq name (codes "run") && not (length image == 0) && is_dash schedule
     then run_for image (sets_for sets) (number_in 0 MAX_LENGTH limit)
@@ -48,9 +55,16 @@ words_line = codes "#words\n"
 abbrev pub read_line : List ℕ
 read_line = codes "#read\n"
 
-abbrev pub long_line : List ℕ
-long_line = codes "#image too long\n"
+-- what a file is that is too long or refused
+abbrev pub image_word : List ℕ
+image_word = codes "image"
+
+abbrev pub source_word : List ℕ
+source_word = codes "source"
+
+abbrev pub long_line : List ℕ → List ℕ
+long_line what = codes "#" ++ what ++ codes " too long\n"
 
 -- the first line at fault and its kind
-unfoldable pub refused_line : ℕ × ℕ → List ℕ
-refused_line fault = codes "#image line " ++ decimal fault.0 ++ codes " kind " ++ decimal fault.1 ++ 10 ∷ []
+unfoldable pub refused_line : List ℕ → ℕ × ℕ → List ℕ
+refused_line what fault = codes "#" ++ what ++ codes " line " ++ decimal fault.0 ++ codes " kind " ++ decimal fault.1 ++ 10 ∷ []

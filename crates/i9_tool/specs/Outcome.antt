@@ -9,7 +9,10 @@ use Rattle.i9_model.specs.Given.{given}
 use Rattle.i9_model.specs.declared.run.End.{End}
 use Rattle.i9_model.specs.Run.{Record, IsRun}
 use Rattle.i9_model.specs.PrintedText.{run_text, end_code}
-use Rattle.i9_tool.specs.CommandLine.{Command, Run, command_of, words_line, read_line, long_line, refused_line}
+use Rattle.i9_model.specs.Image.{Part}
+use Rattle.i9_hex.specs.Writing.{hex_text}
+use Rattle.i9_asm.specs.Laws.{IsAssembly, IsRefusedSource}
+use Rattle.i9_tool.specs.CommandLine.{Command, Run, Asm, file_of, command_of, words_line, read_line, image_word, source_word, long_line, refused_line}
 use Rattle.i9_outside.specs.declared.traits.TheConstants.{FILE_LIMIT}
 use Rattle.i9_tool.specs.declared.print.Printed.{Printed}
 use Rattle.i9_tool.specs.declared.print.Printed.TheVariants as printed
@@ -19,20 +22,34 @@ use Rattle.i9_outside.specs.Traits.{IsFile, AppendsFront}
 
 -- The status and the text for a file that was fetched, whose image is to run in so many sets for at most so many
 -- instructions: it is too long, it is refused for its first line at fault, or its image runs to the end of its run.
-pub data FileGives (file : List ℕ) (sets : Option ℕ) (limit : ℕ) : ℕ → List ℕ → Type 0 where
-  too_long : FILE_LIMIT < length file → FileGives file sets limit 2 long_line
-  refused : (fault : ℕ × ℕ) → length file ≤ FILE_LIMIT → IsRefused (lines_of file) fault → FileGives file sets limit 2 (refused_line fault)
+pub data ImageGives (file : List ℕ) (sets : Option ℕ) (limit : ℕ) : ℕ → List ℕ → Type 0 where
+  too_long : FILE_LIMIT < length file → ImageGives file sets limit 2 (long_line image_word)
+  refused : (fault : ℕ × ℕ) → length file ≤ FILE_LIMIT → IsRefused (lines_of file) fault
+      → ImageGives file sets limit 2 (refused_line image_word fault)
   runs : (pairs : List (ℕ × ℕ)) (records : List Record) (end : End) → length file ≤ FILE_LIMIT → IsImage (lines_of file) pairs
       → IsRun (given pairs [] limit sets) records end
-      → FileGives file sets limit (end_code end) (run_text (given pairs [] limit sets) records end)
+      → ImageGives file sets limit (end_code end) (run_text (given pairs [] limit sets) records end)
+
+-- The status and the text for a source that was fetched: it is too long, it is refused for its first line at fault, or
+-- the Intel HEX text of its segments is printed.
+pub data SourceGives (file : List ℕ) : ℕ → List ℕ → Type 0 where
+  source_too_long : FILE_LIMIT < length file → SourceGives file 3 (long_line source_word)
+  source_refused : (fault : ℕ × ℕ) → length file ≤ FILE_LIMIT → IsRefusedSource (lines_of file) fault
+      → SourceGives file 3 (refused_line source_word fault)
+  assembled : (image : List Part) → length file ≤ FILE_LIMIT → IsAssembly (lines_of file) image → SourceGives file 0 (hex_text image)
+
+-- what a command gives for its file
+abbrev pub FileGives : Command → List ℕ → ℕ → List ℕ → Type 0
+FileGives (Run image sets limit) file = ImageGives file sets limit
+FileGives (Asm source) file = SourceGives file
 
 -- The status and the text for what the words ask for, where no write fails and memory isn't refused. `told` says the
 -- files that are told, and `rose` of which names the count of faults rose.
 pub data Gives (told : List ℕ → Option (List ℕ)) (rose : List ℕ → Type 0) : Option Command → ℕ → List ℕ → Type 0 where
   in_no_form : Gives told rose None 1 words_line
-  unread : (image : List ℕ) (sets : Option ℕ) (limit : ℕ) → rose image → Gives told rose (Some (Run image sets limit)) 5 read_line
-  fetched : (image : List ℕ) (sets : Option ℕ) (limit : ℕ) (file : List ℕ) (code : ℕ) (text : List ℕ) → IsFile (told image) file
-      → FileGives file sets limit code text → Gives told rose (Some (Run image sets limit)) code text
+  unread : (c : Command) → rose (file_of c) → Gives told rose (Some c) 5 read_line
+  fetched : (c : Command) (file : List ℕ) (code : ℕ) (text : List ℕ) → IsFile (told (file_of c)) file
+      → FileGives c file code text → Gives told rose (Some c) code text
 
 -- the command that words ask for
 abbrev pub asked_for : {Z : Type 0} → List (String Z) → Option Command
@@ -50,24 +67,22 @@ grew_in faults old new name = faults old name < faults new name
 abbrev pub Outcomes : {F Z : Type 0} → (F → List ℕ → Option (List ℕ)) → (F → List ℕ → ℕ) → F → F → List (String Z) → ℕ → List ℕ → Type 0
 Outcomes told faults old new words code text = Gives (told old) (rose_in faults old new) (asked_for words) code text
 
--- The status and its text were given whole, and each line of it by one write; or a front of a text that could have been,
--- by at most one write for each line of that text.
+-- The status and its text were given whole, by as many writes as the text has lines; or nothing was printed, or a front of
+-- a text that could have been, by at most as many.
 pub record GivesWhole {K : Type 0} (gives : ℕ → List ℕ → Type 0) (code : ℕ) (k : Account K) (old new : K) : Type 0 where
   pub text : List ℕ
   pub is_given : gives code text
   pub appended : Appends (k.told old) (k.told new) text
   pub lines : k.writes new ≡ counted_on (k.writes old) (line_count text)
 
-pub record GivesFront {K : Type 0} (gives : ℕ → List ℕ → Type 0) (k : Account K) (old new : K) : Type 0 where
-  pub code : ℕ
-  pub text : List ℕ
-  pub is_given : gives code text
-  pub appended : AppendsFront (k.told old) (k.told new) text
-  pub lines : CountsUpTo (line_count text) (k.writes old) (k.writes new)
+pub data GivesFront {K : Type 0} (gives : ℕ → List ℕ → Type 0) (k : Account K) (old new : K) : Type 0 where
+  nothing : Appends (k.told old) (k.told new) [] → k.writes new ≡ k.writes old → GivesFront gives k old new
+  front : (code : ℕ) (text : List ℕ) → gives code text → AppendsFront (k.told old) (k.told new) text
+      → CountsUpTo (line_count text) (k.writes old) (k.writes new) → GivesFront gives k old new
 
 -- What a call does that answers a status of these on a sink: 6 where a write failed and 7 where memory was refused.
 pub record Answers {K : Type 0} (gives : ℕ → List ℕ → Type 0) (code : ℕ) (k : Account K) (old new : K) : Type 0 where
-  pub known : (code < 3) ⊎ ((4 ≤ code) × (code < 8))
+  pub known : code < 8
   pub whole : code < 6 → GivesWhole gives code k old new
   pub front : 6 ≤ code → GivesFront gives k old new
   pub write : code ≡ 6 → Rose (k.faults old) (k.faults new)
@@ -83,7 +98,7 @@ code_for printed.Memory code = 7
 -- the files that the words name, in the order in which they are read
 abbrev pub names_of : Option Command → List (List ℕ)
 names_of None = []
-names_of (Some (Run image sets limit)) = image ∷ []
+names_of (Some c) = file_of c ∷ []
 
 -- the count of one of these files rose
 abbrev pub AnyRose : (List ℕ → Type 0) → List (List ℕ) → Type 0

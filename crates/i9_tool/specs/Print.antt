@@ -1,5 +1,5 @@
 -- What printing a text does to a sink.
-use Rattle.std.specs.Prelude.{◌≡◌, ◌≢◌, ℕ, zero, suc, ◌+◌, ◌≤◌, List, length, filter, Option}
+use Rattle.std.specs.Prelude.{◌≡◌, ◌≢◌, ℕ, zero, suc, ◌+◌, ◌≤◌, Bool, true, List, [], ◌∷◌, length, filter, Option}
 use Rattle.std.specs.Global.{Vec}
 use Rattle.std.specs.List.{AllByRecursion}
 use Rattle.std.specs.Io.KnownBytes.{Appends}
@@ -26,6 +26,12 @@ account told faults writes sure = record { told = told; faults = faults; writes 
 -- how many lines a text has, each of which ends with a line feed
 abbrev pub line_count : List ℕ → ℕ
 line_count text = length (filter is_line_feed text)
+
+-- each line of a text ends with a line feed
+unfoldable pub is_lined : List ℕ → Bool
+is_lined [] = true
+is_lined (b ∷ []) = is_line_feed b
+is_lined (b ∷ c ∷ bs) = is_lined (c ∷ bs)
 
 -- a text that is one line
 abbrev pub IsLine : List ℕ → Type 0

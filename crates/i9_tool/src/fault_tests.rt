@@ -1,34 +1,28 @@
-//! Calls by table, returns and faults through the command, at images and registers worked out by hand. The
-//! images have a PRCB at 800, with the fault table at 900, the system procedure table at B00 and
-//! the interrupt stack at 3000.
-use crate::rows::{Row, holds};
+//! Calls by table, returns and faults through the command, at registers worked out by hand.
+use crate::rows::{PRCB, Row, TO_USER_MODE, holds};
 use std::test::*;
 
-/// `lda 259, g1`, `calls g1`, and 1102 at F3C, the last entry of the system procedure table: the
-/// stack stays.
-const CALLS_IN_SUPERVISOR_MODE: &str = ":02000004FFFFFC
-:08FF10000010000000080000D1
-:020000040000FA
-:1008000000090000000A0000000000000000004095
-:1008100000200000000B000000000000003000007D
-:080820000000000000000000D0
-:040F3C00021100009E
-:081000000301888C1100006659
-:00000001FF
+/// Calls the last entry of the system procedure table in supervisor mode: the stack stays.
+const CALLS_IN_SUPERVISOR_MODE: &str = "
+        lda   259, g1
+        calls g1
+        .org  procedure_259
+        .word callee+2          # to supervisor mode
+        .org  0x1100
+callee:
 ";
 
-/// `lda 260, g1`, `calls g1`, and a handler at 1100 that loads two words of the record: `ld
-/// 0x3048, g4`, `ld 0x304C, g5`.
-const CALLS_PAST_THE_TABLE: &str = ":02000004FFFFFC
-:08FF10000010000000080000D1
-:020000040000FA
-:1008000000090000000A0000000000000000004095
-:1008100000200000000B000000000000003000007D
-:080820000000000000000000D0
-:080938000011000000000000A6
-:081000000401888C1100006658
-:101100000030A090483000000030A8904C30000023
-:00000001FF
+/// Calls past the system procedure table; the handler loads the last two words of the record.
+const CALLS_PAST_THE_TABLE: &str = "
+        lda   260, g1
+        calls g1
+        .org  protection_faults
+        .word handler, 0
+        .org  0x1100
+handler:
+        ld    record+8, g4
+        ld    record+12, g5
+        .set  record, 0x3040
 ";
 
 const CALLS_PAST_THE_TABLE_FIRST: &str = "#point 2 fault 00001100 00000000 001F2002
@@ -36,98 +30,51 @@ const CALLS_PAST_THE_TABLE_FIRST: &str = "#point 2 fault 00001100 00000000 001F2
 #l 00003001 00003090 00000000 00000000 00000000 00000000 00000000 00000000 00000000 00000000 00000000 00000000 00000000 00000000 00000000 00000000
 ";
 
-/// `mov 2, g1`, `mov 0, g2`, `modpc 0, g1, g2`, `calls 5`, `mov 9, g6`, with 1102 at B44 and the
-/// supervisor stack 6000: the procedure at 1100 is `ret`.
-const CALLS_FROM_USER_MODE: &str = ":02000004FFFFFC
-:08FF10000010000000080000D1
-:020000040000FA
-:1008000000090000000A0000000000000000004095
-:1008100000200000000B000000000000003000007D
-:080820000000000000000000D0
-:040B0C000060000085
-:040B4400021100009A
-:10100000020E885C000E905C804A946505080066BC
-:04101000090EB05CB9
-:041100000000000AE1
-:00000001FF
+/// Calls to supervisor mode from user mode: the supervisor stack is taken, and the return gives the old one back.
+const CALLS_FROM_USER_MODE: &str = "
+        calls 5
+        mov   9, g6
+        .org  supervisor_stack
+        .word 0x6000
+        .org  procedure_5
+        .word callee+2          # to supervisor mode
+        .org  0x1100
+callee: ret
 ";
 
-/// The same for four instructions.
-const ENTERS_THE_SUPERVISOR_STACK: &str = ":02000004FFFFFC
-:08FF10000010000000080000D1
-:020000040000FA
-:1008000000090000000A0000000000000000004095
-:1008100000200000000B000000000000003000007D
-:080820000000000000000000D0
-:040B0C000060000085
-:040B4400021100009A
-:10100000020E885C000E905C804A946505080066BC
-:04101000090EB05CB9
-:041100000000000AE1
-:00000001FF
+/// The two low bits of the address are ignored.
+const CALLS_BY_ADDRESS: &str = "
+        lda   callee+3, g1
+        callx (g1)
+        .org  0x1100
+callee:
 ";
 
-/// `lda 0x1103, g1`, `callx (g1)`.
-const CALLS_BY_ADDRESS: &str = ":02000004FFFFFC
-:08FF10000010000000080000D1
-:020000040000FA
-:1008000000090000000A0000000000000000004095
-:1008100000200000000B000000000000003000007D
-:080820000000000000000000D0
-:0C1000000030888C0311000000600486A2
-:00000001FF
+/// Returns by type 001 to a frame of zeros at 5000, from a record of ones.
+const RETURNS_FROM_A_FAULT: &str = "
+        subo  1, 0, g3
+        st    g3, stack-16      # PC
+        st    g3, stack-12      # AC
+        lda   0x5001, pfp
+        ret
 ";
 
-/// `mov 2, g1`, `mov 0, g2`, `modpc 0, g1, g2`, `subo 1, 0, g3`, `st g3, 0x2FF0`, `st g3, 0x2FF4`,
-/// `lda 0x5001, pfp`, `ret`: AC is taken and PC is not.
-const RETURNS_FROM_A_FAULT_IN_USER_MODE: &str = ":02000004FFFFFC
-:08FF10000010000000080000D1
-:020000040000FA
-:1008000000090000000A0000000000000000004095
-:1008100000200000000B000000000000003000007D
-:080820000000000000000000D0
-:10100000020E885C000E905C804A94650119985924
-:1010100000309892F02F000000309892F42F0000DA
-:0C1020000030008C015000000000000AAD
-:00000001FF
+/// Returns by type 111.
+const RETURNS_FROM_AN_INTERRUPT: &str = "
+        lda   0x5007, pfp
+        ret
 ";
 
-/// `subo 1, 0, g3`, `st g3, 0x2FF0`, `st g3, 0x2FF4`, `lda 0x5001, pfp`, `ret`: both are taken,
-/// masked.
-const RETURNS_FROM_A_FAULT: &str = ":02000004FFFFFC
-:08FF10000010000000080000D1
-:020000040000FA
-:1008000000090000000A0000000000000000004095
-:1008100000200000000B000000000000003000007D
-:080820000000000000000000D0
-:101000000119985900309892F02F00000030989202
-:10101000F42F00000030008C015000000000000A96
-:00000001FF
-";
-
-/// `lda 0x5007, pfp`, `ret`.
-const RETURNS_FROM_AN_INTERRUPT: &str = ":02000004FFFFFC
-:08FF10000010000000080000D1
-:020000040000FA
-:1008000000090000000A0000000000000000004095
-:1008100000200000000B000000000000003000007D
-:080820000000000000000000D0
-:0C1000000030008C075000000000000AC7
-:00000001FF
-";
-
-/// An AC image of 8000 and a handler at 1100 for arithmetic faults: `divi 0, 7, g4`, `addo 1, 2,
-/// g5`, and `syncf` at 1100.
-const DIVIDES_BY_ZERO: &str = ":02000004FFFFFC
-:08FF10000010000000080000D1
-:020000040000FA
-:1008000000090000000A0000008000000000004015
-:1008100000200000000B000000000000003000007D
-:080820000000000000000000D0
-:080918000011000000000000C6
-:0810000080DDA1740198A859DC
-:0411000080070066FE
-:00000001FF
+/// Faults where no fault may be imprecise; what the handler does is to follow.
+const DIVIDES_BY_ZERO: &str = "
+        divi  0, 7, g4
+        addo  1, 2, g5
+        .org  ac_image
+        .word 0x8000            # no imprecise faults
+        .org  arithmetic_faults
+        .word handler, 0
+        .org  0x1100
+handler:
 ";
 
 const DIVIDES_BY_ZERO_FIRST: &str = "#point 1 fault 00001100 00008000 001F2002
@@ -138,82 +85,33 @@ const DIVIDES_BY_ZERO_FIRST: &str = "#point 1 fault 00001100 00008000 001F2002
 #l 00003001 00003090 00000000 00000000 00000000 00000000 00000000 00000000 00000000 00000000 00000000 00000000 00000000 00000000 00000000 00000000
 ";
 
-/// The same, with `ldq 0x3040, g4` in place of `syncf`: the record.
-const ITS_RECORD: &str = ":02000004FFFFFC
-:08FF10000010000000080000D1
-:020000040000FA
-:1008000000090000000A0000008000000000004015
-:1008100000200000000B000000000000003000007D
-:080820000000000000000000D0
-:080918000011000000000000C6
-:0810000080DDA1740198A859DC
-:081100000030A0B040300000F7
-:00000001FF
-";
-
 const ITS_RECORD_FIRST: &str = "#point 1 fault 00001100 00008000 001F2002
 #g 00000000 00000000 00000000 00000000 00000000 00000000 00000000 00000000 00000000 00000000 00000000 00000000 00000000 00000000 00000000 00003050
 #l 00003001 00003090 00000000 00000000 00000000 00000000 00000000 00000000 00000000 00000000 00000000 00000000 00000000 00000000 00000000 00000000
 ";
 
-/// `divi 0, 7, g4` with an AC image of 0.
-const A_FAULT_THAT_MAY_BE_IMPRECISE: &str = ":02000004FFFFFC
-:08FF10000010000000080000D1
-:020000040000FA
-:1008000000090000000A0000000000000000004095
-:1008100000200000000B000000000000003000007D
-:080820000000000000000000D0
-:0410000080DDA1747A
-:00000001FF
+/// Faults by an entry whose first word asks for a system procedure, where the second is not 27F.
+const DEAD_BY_ITS_SECOND_WORD: &str = "
+        divi  0, 7, g4
+        .org  ac_image
+        .word 0x8000            # no imprecise faults
+        .org  arithmetic_faults
+        .word 6, 0x27E
 ";
 
-/// `divi 0, 7, g4` with an AC image of 8000 and the words 6 and 27E for arithmetic faults.
-const DEAD_BY_ITS_SECOND_WORD: &str = ":02000004FFFFFC
-:08FF10000010000000080000D1
-:020000040000FA
-:1008000000090000000A0000008000000000004015
-:1008100000200000000B000000000000003000007D
-:080820000000000000000000D0
-:08091800060000007E02000051
-:0410000080DDA1747A
-:00000001FF
+/// A word that is no instruction; the entry for operation faults is to follow.
+const NO_INSTRUCTION: &str = "
+        .word 0
+        .org  operation_faults
 ";
 
-/// The word 0, which is no instruction, with the words 1 and 27F for operation faults.
-const DEAD_BY_ITS_FIRST_WORD: &str = ":02000004FFFFFC
-:08FF10000010000000080000D1
-:020000040000FA
-:1008000000090000000A0000000000000000004095
-:1008100000200000000B000000000000003000007D
-:080820000000000000000000D0
-:08091000010000007F0200005D
-:0410000000000000EC
-:00000001FF
-";
-
-/// The word 0 with a system entry of procedure 260 for operation faults.
-const DEAD_BY_ITS_NUMBER: &str = ":02000004FFFFFC
-:08FF10000010000000080000D1
-:020000040000FA
-:1008000000090000000A0000000000000000004095
-:1008100000200000000B000000000000003000007D
-:080820000000000000000000D0
-:08091000120400007F02000048
-:0410000000000000EC
-:00000001FF
-";
-
-/// The word 0 with a system entry of procedure 259, at 1100, for operation faults, at the length.
-const ENTERS_THE_LAST_PROCEDURE: &str = ":02000004FFFFFC
-:08FF10000010000000080000D1
-:020000040000FA
-:1008000000090000000A0000000000000000004095
-:1008100000200000000B000000000000003000007D
-:080820000000000000000000D0
-:080910000E0400007F0200004C
-:040F3C00021100009E
-:0410000000000000EC
-:00000001FF
+/// An entry of procedure 259.
+const ENTERS_THE_LAST_PROCEDURE: &str = "
+        .word 0x40E, 0x27F      # 4 * 259 + 2
+        .org  procedure_259
+        .word callee+2          # to supervisor mode
+        .org  0x1100
+callee:
 ";
 
 const ENTERS_THE_LAST_PROCEDURE_FIRST: &str = "#point 1 fault 00001100 00000000 001F2002
@@ -221,22 +119,21 @@ const ENTERS_THE_LAST_PROCEDURE_FIRST: &str = "#point 1 fault 00001100 00000000 
 #l 00003001 00003090 00000000 00000000 00000000 00000000 00000000 00000000 00000000 00000000 00000000 00000000 00000000 00000000 00000000 00000000
 ";
 
-/// `mov 2, g1`, `mov 0, g2`, `modpc 0, g1, g2`, `lda 0x8000, g3`, `modac g3, g3, g4`, `divo 0, 7,
-/// g5`, `mov 9, g6`, with a system entry of procedure 2, at 1100, and the supervisor stack word
-/// 6001; the handler is `ret`.
-const FAULTS_IN_USER_MODE: &str = ":02000004FFFFFC
-:08FF10000010000000080000D1
-:020000040000FA
-:1008000000090000000A0000000000000000004095
-:1008100000200000000B000000000000003000007D
-:080820000000000000000000D0
-:080918000A0000007F0200004C
-:040B0C000160000084
-:040B380002110000A6
-:10100000020E885C000E905C804A94650030988CDB
-:101010000080000093C2A46480DDA970090EB05C5A
-:041100000000000AE1
-:00000001FF
+/// Faults by an entry of procedure 2, which takes the supervisor stack and returns.
+const FAULTS_IN_USER_MODE: &str = "
+        lda   0x8000, g3
+        modac g3, g3, g4        # no imprecise faults
+        divo  0, 7, g5
+        mov   9, g6
+        .org  arithmetic_faults
+        .word 0xA, 0x27F        # 4 * 2 + 2
+        .org  supervisor_stack
+        .word 0x6001
+        .org  procedure_2
+        .word handler+2         # to supervisor mode
+        .org  0x1100
+handler:
+        ret
 ";
 
 const FAULTS_IN_USER_MODE_FIRST: &str = "#point 6 fault 00001100 00008000 001F2002
@@ -244,21 +141,29 @@ const FAULTS_IN_USER_MODE_FIRST: &str = "#point 6 fault 00001100 00008000 001F20
 #l 00003001 00006050 00000000 00000000 00000000 00000000 00000000 00000000 00000000 00000000 00000000 00000000 00000000 00000000 00000000 00000000
 ";
 
-/// `ld 0x2001, g4` of two words where unaligned accesses fault, and a handler that reads the saved
-/// rip: `flushreg`, `ld 0x3008, g4`.
-const RETURNS_BEHIND_TWO_WORDS: &str = ":02000004FFFFFC
-:08FF10000010000000080000D1
-:020000040000FA
-:1008000000090000000A00000000000000000000D5
-:1008100000200000000B000000000000003000007D
-:080820000000000000000000D0
-:080910000011000000000000CE
-:081000000030A0900120000067
-:0C110000800600660030A090083000005F
-:00000001FF
+/// A handler of operation faults that loads the saved rip.
+const LOADS_RIP: &str = "
+        .org  operation_faults
+        .word handler, 0
+        .org  0x1100
+handler:
+        flushreg
+        ld    stack+8, g4
 ";
 
-const RETURNS_BEHIND_TWO_WORDS_FIRST: &str = "#point 1 fault 00001100 00000000 001F2002
+/// An instruction of two words that faults, with `LOADS_RIP`.
+const RETURNS_BEHIND_TWO_WORDS: &str = "
+        ld    0x2001, g4
+        .org  fault_configuration
+        .word 0                 # unaligned accesses are faults
+";
+
+/// A scale of 32 in a word of two words, which is refused, with `LOADS_RIP`.
+const RETURNS_BEHIND_A_REFUSED_WORD: &str = "
+        .word 0x90A03E85, 0x2000
+";
+
+const LOADS_RIP_FIRST: &str = "#point 1 fault 00001100 00000000 001F2002
 #g 00000000 00000000 00000000 00000000 00000000 00000000 00000000 00000000 00000000 00000000 00000000 00000000 00000000 00000000 00000000 00003050
 #l 00003001 00003090 00000000 00000000 00000000 00000000 00000000 00000000 00000000 00000000 00000000 00000000 00000000 00000000 00000000 00000000
 #point 2 flush 00001104 00000000 001F2002
@@ -266,65 +171,32 @@ const RETURNS_BEHIND_TWO_WORDS_FIRST: &str = "#point 1 fault 00001100 00000000 0
 #l 00003001 00003090 00000000 00000000 00000000 00000000 00000000 00000000 00000000 00000000 00000000 00000000 00000000 00000000 00000000 00000000
 ";
 
-/// A scale of 32 in a word of two words, which is refused, and the same handler.
-const RETURNS_BEHIND_A_REFUSED_WORD: &str = ":02000004FFFFFC
-:08FF10000010000000080000D1
-:020000040000FA
-:1008000000090000000A0000000000000000004095
-:1008100000200000000B000000000000003000007D
-:080820000000000000000000D0
-:080910000011000000000000CE
-:08100000853EA09000200000D5
-:0C110000800600660030A090083000005F
-:00000001FF
+/// The entry for operation faults is in the frame that the call saved at 3000.
+const A_FAULT_TABLE_IN_A_FRAME: &str = "
+        call  f
+f:      .word 0
+        .org  fault_table_address
+        .word stack-0x10
 ";
 
-const RETURNS_BEHIND_A_REFUSED_WORD_FIRST: &str = "#point 1 fault 00001100 00000000 001F2002
-#g 00000000 00000000 00000000 00000000 00000000 00000000 00000000 00000000 00000000 00000000 00000000 00000000 00000000 00000000 00000000 00003050
-#l 00003001 00003090 00000000 00000000 00000000 00000000 00000000 00000000 00000000 00000000 00000000 00000000 00000000 00000000 00000000 00000000
-#point 2 flush 00001104 00000000 001F2002
-#g 00000000 00000000 00000000 00000000 00000000 00000000 00000000 00000000 00000000 00000000 00000000 00000000 00000000 00000000 00000000 00003050
-#l 00003001 00003090 00000000 00000000 00000000 00000000 00000000 00000000 00000000 00000000 00000000 00000000 00000000 00000000 00000000 00000000
+/// The record would lie in the frame that the call saved at 3000.
+const A_RECORD_OVER_A_FRAME: &str = "
+        call  f
+f:      lda   stack, sp
+        .word 0
 ";
 
-/// `call f`, and the word 0 at f, with the fault table at 2FF0.
-const A_FAULT_TABLE_IN_A_FRAME: &str = ":02000004FFFFFC
-:08FF10000010000000080000D1
-:020000040000FA
-:10080000F02F0000000A000000000000000000407F
-:1008100000200000000B000000000000003000007D
-:080820000000000000000000D0
-:081000000400000900000000DB
-:00000001FF
-";
-
-/// `call f`, `f: lda 0x3000, sp`, and the word 0: the record would lie in the frame at 3000.
-const A_RECORD_OVER_A_FRAME: &str = ":02000004FFFFFC
-:08FF10000010000000080000D1
-:020000040000FA
-:1008000000090000000A0000000000000000004095
-:1008100000200000000B000000000000003000007D
-:080820000000000000000000D0
-:10100000040000090030088C0030000000000000DF
-:00000001FF
-";
-
-/// `lda 0xE0000000, sp`, and the word 0.
-const A_RECORD_IN_THE_PORT_PAGE: &str = ":02000004FFFFFC
-:08FF10000010000000080000D1
-:020000040000FA
-:1008000000090000000A0000000000000000004095
-:1008100000200000000B000000000000003000007D
-:080820000000000000000000D0
-:0C1000000030088C000000E00000000040
-:00000001FF
+/// The record would lie in the port page.
+const A_RECORD_IN_THE_PORT_PAGE: &str = "
+        lda   0xE0000000, sp
+        .word 0
 ";
 
 #[test]
 fn calls_and_returns(rt: HostRuntime) -> Result<(), Fail> {
     let rows = [
         Row {
-            image: CALLS_IN_SUPERVISOR_MODE,
+            source: &[PRCB, CALLS_IN_SUPERVISOR_MODE],
             length: 2,
             before: "",
             point: "2 end 00001100 00000000 001F2002",
@@ -334,7 +206,7 @@ fn calls_and_returns(rt: HostRuntime) -> Result<(), Fail> {
             code: 0,
         },
         Row {
-            image: CALLS_PAST_THE_TABLE,
+            source: &[PRCB, CALLS_PAST_THE_TABLE],
             length: 4,
             before: CALLS_PAST_THE_TABLE_FIRST,
             point: "4 end 00001110 00000000 001F2002",
@@ -344,7 +216,7 @@ fn calls_and_returns(rt: HostRuntime) -> Result<(), Fail> {
             code: 0,
         },
         Row {
-            image: CALLS_FROM_USER_MODE,
+            source: &[PRCB, TO_USER_MODE, CALLS_FROM_USER_MODE],
             length: 6,
             before: "",
             point: "6 end 00001014 00000000 001F2000",
@@ -354,7 +226,8 @@ fn calls_and_returns(rt: HostRuntime) -> Result<(), Fail> {
             code: 0,
         },
         Row {
-            image: ENTERS_THE_SUPERVISOR_STACK,
+            // The same up to the call.
+            source: &[PRCB, TO_USER_MODE, CALLS_FROM_USER_MODE],
             length: 4,
             before: "",
             point: "4 end 00001100 00000000 001F2002",
@@ -364,7 +237,7 @@ fn calls_and_returns(rt: HostRuntime) -> Result<(), Fail> {
             code: 0,
         },
         Row {
-            image: CALLS_BY_ADDRESS,
+            source: &[PRCB, CALLS_BY_ADDRESS],
             length: 2,
             before: "",
             point: "2 end 00001100 00000000 001F2002",
@@ -374,7 +247,8 @@ fn calls_and_returns(rt: HostRuntime) -> Result<(), Fail> {
             code: 0,
         },
         Row {
-            image: RETURNS_FROM_A_FAULT_IN_USER_MODE,
+            // AC is taken, masked, and PC is not.
+            source: &[PRCB, TO_USER_MODE, RETURNS_FROM_A_FAULT],
             length: 8,
             before: "",
             point: "8 end 00000000 00009107 001F2000",
@@ -384,7 +258,8 @@ fn calls_and_returns(rt: HostRuntime) -> Result<(), Fail> {
             code: 0,
         },
         Row {
-            image: RETURNS_FROM_A_FAULT,
+            // Both are taken, masked.
+            source: &[PRCB, RETURNS_FROM_A_FAULT],
             length: 5,
             before: "",
             point: "5 end 00000000 00009107 001F2403",
@@ -394,7 +269,7 @@ fn calls_and_returns(rt: HostRuntime) -> Result<(), Fail> {
             code: 0,
         },
         Row {
-            image: RETURNS_FROM_AN_INTERRUPT,
+            source: &[PRCB, RETURNS_FROM_AN_INTERRUPT],
             length: 5,
             before: "",
             point: "1 end 00001008 00000000 001F2002",
@@ -414,7 +289,7 @@ fn calls_and_returns(rt: HostRuntime) -> Result<(), Fail> {
 fn faults_are_entered(rt: HostRuntime) -> Result<(), Fail> {
     let rows = [
         Row {
-            image: DIVIDES_BY_ZERO,
+            source: &[PRCB, DIVIDES_BY_ZERO, "syncf"],
             length: 2,
             before: DIVIDES_BY_ZERO_FIRST,
             point: "2 end 00001104 00008000 001F2002",
@@ -424,7 +299,8 @@ fn faults_are_entered(rt: HostRuntime) -> Result<(), Fail> {
             code: 0,
         },
         Row {
-            image: ITS_RECORD,
+            // The record.
+            source: &[PRCB, DIVIDES_BY_ZERO, "ldq 0x3040, g4"],
             length: 2,
             before: ITS_RECORD_FIRST,
             point: "2 end 00001108 00008000 001F2002",
@@ -440,7 +316,8 @@ fn faults_are_entered(rt: HostRuntime) -> Result<(), Fail> {
             code: 0,
         },
         Row {
-            image: A_FAULT_THAT_MAY_BE_IMPRECISE,
+            // The fault may be imprecise.
+            source: &[PRCB, "divi 0, 7, g4"],
             length: 5,
             before: "",
             point: "0 end 00001000 00000000 001F2002",
@@ -450,7 +327,7 @@ fn faults_are_entered(rt: HostRuntime) -> Result<(), Fail> {
             code: 4,
         },
         Row {
-            image: DEAD_BY_ITS_SECOND_WORD,
+            source: &[PRCB, DEAD_BY_ITS_SECOND_WORD],
             length: 5,
             before: "",
             point: "1 end 00001004 00008000 001F2002",
@@ -460,7 +337,8 @@ fn faults_are_entered(rt: HostRuntime) -> Result<(), Fail> {
             code: 4,
         },
         Row {
-            image: DEAD_BY_ITS_FIRST_WORD,
+            // No entry has 01 in its two low bits.
+            source: &[PRCB, NO_INSTRUCTION, ".word 1, 0x27F"],
             length: 5,
             before: "",
             point: "1 end 00001004 00000000 001F2002",
@@ -470,7 +348,8 @@ fn faults_are_entered(rt: HostRuntime) -> Result<(), Fail> {
             code: 4,
         },
         Row {
-            image: DEAD_BY_ITS_NUMBER,
+            // The entry asks for procedure 260.
+            source: &[PRCB, NO_INSTRUCTION, ".word 0x412, 0x27F"],
             length: 5,
             before: "",
             point: "1 end 00001004 00000000 001F2002",
@@ -480,7 +359,7 @@ fn faults_are_entered(rt: HostRuntime) -> Result<(), Fail> {
             code: 4,
         },
         Row {
-            image: ENTERS_THE_LAST_PROCEDURE,
+            source: &[PRCB, NO_INSTRUCTION, ENTERS_THE_LAST_PROCEDURE],
             length: 1,
             before: ENTERS_THE_LAST_PROCEDURE_FIRST,
             point: "1 end 00001100 00000000 001F2002",
@@ -490,7 +369,7 @@ fn faults_are_entered(rt: HostRuntime) -> Result<(), Fail> {
             code: 0,
         },
         Row {
-            image: FAULTS_IN_USER_MODE,
+            source: &[PRCB, TO_USER_MODE, FAULTS_IN_USER_MODE],
             length: 8,
             before: FAULTS_IN_USER_MODE_FIRST,
             point: "8 end 00001020 00008000 001F2000",
@@ -500,9 +379,9 @@ fn faults_are_entered(rt: HostRuntime) -> Result<(), Fail> {
             code: 0,
         },
         Row {
-            image: RETURNS_BEHIND_TWO_WORDS,
+            source: &[PRCB, RETURNS_BEHIND_TWO_WORDS, LOADS_RIP],
             length: 3,
-            before: RETURNS_BEHIND_TWO_WORDS_FIRST,
+            before: LOADS_RIP_FIRST,
             point: "3 end 0000110C 00000000 001F2002",
             globals: &[(4, 0x1008), (15, 0x3050)],
             locals: &[(0, 0x3001), (1, 0x3090)],
@@ -510,9 +389,9 @@ fn faults_are_entered(rt: HostRuntime) -> Result<(), Fail> {
             code: 0,
         },
         Row {
-            image: RETURNS_BEHIND_A_REFUSED_WORD,
+            source: &[PRCB, RETURNS_BEHIND_A_REFUSED_WORD, LOADS_RIP],
             length: 3,
-            before: RETURNS_BEHIND_A_REFUSED_WORD_FIRST,
+            before: LOADS_RIP_FIRST,
             point: "3 end 0000110C 00000000 001F2002",
             globals: &[(4, 0x1004), (15, 0x3050)],
             locals: &[(0, 0x3001), (1, 0x3090)],
@@ -530,7 +409,7 @@ fn faults_are_entered(rt: HostRuntime) -> Result<(), Fail> {
 fn entries_meet_hazards(rt: HostRuntime) -> Result<(), Fail> {
     let rows = [
         Row {
-            image: A_FAULT_TABLE_IN_A_FRAME,
+            source: &[PRCB, A_FAULT_TABLE_IN_A_FRAME],
             length: 5,
             before: "",
             point: "2 end 00001008 00000000 001F2002",
@@ -540,7 +419,7 @@ fn entries_meet_hazards(rt: HostRuntime) -> Result<(), Fail> {
             code: 4,
         },
         Row {
-            image: A_RECORD_OVER_A_FRAME,
+            source: &[PRCB, A_RECORD_OVER_A_FRAME],
             length: 5,
             before: "",
             point: "3 end 00001010 00000000 001F2002",
@@ -550,7 +429,7 @@ fn entries_meet_hazards(rt: HostRuntime) -> Result<(), Fail> {
             code: 4,
         },
         Row {
-            image: A_RECORD_IN_THE_PORT_PAGE,
+            source: &[PRCB, A_RECORD_IN_THE_PORT_PAGE],
             length: 5,
             before: "",
             point: "2 end 0000100C 00000000 001F2002",

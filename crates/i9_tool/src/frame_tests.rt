@@ -1,270 +1,284 @@
-//! Calls and returns through the command, at images of words and text worked out by hand.
-use crate::tests::{Case, SETS, run_case};
+//! Calls and returns through the command, at registers worked out by hand.
+use crate::rows::{BOOT, Row, holds};
 use std::test::*;
 
-/// `mov 5, r4`, `call f`, `f: ld 16(pfp), g4`.
-const READS_A_FRAME: &str = ":02000004FFFFFC
-:04FF100000100000DD
-:020000040000FA
-:0C100000050E205C040000091020A090E8
-:00000001FF
+/// A load from the caller's frame, which is kept in a set.
+const READS_A_FRAME: &str = "
+        mov   5, r4
+        call  f
+f:      ld    16(pfp), g4
 ";
 
-const READS_A_FRAME_PRINTS: &str = "#point 2 end 00001008 00000000 001F2002
+/// The same behind a flush.
+const READS_A_FLUSHED_FRAME: &str = "
+        mov   5, r4
+        call  f
+f:      flushreg
+        ld    16(pfp), g4
+";
+
+const READS_A_FLUSHED_FRAME_FIRST: &str = "#point 3 flush 0000100C 00000000 001F2002
 #g 00000000 00000000 00000000 00000000 00000000 00000000 00000000 00000000 00000000 00000000 00000000 00000000 00000000 00000000 00000000 00000040
 #l 00000000 00000080 00000000 00000000 00000000 00000000 00000000 00000000 00000000 00000000 00000000 00000000 00000000 00000000 00000000 00000000
-#end hazard 00000010
 ";
 
-/// `mov 5, r4`, `call f`, `f: flushreg`, `ld 16(pfp), g4`.
-const READS_A_FLUSHED_FRAME: &str = ":02000004FFFFFC
-:04FF100000100000DD
-:020000040000FA
-:10100000050E205C04000009800600661020A090F8
-:00000001FF
+/// Loads from the frame at 0, which a call saved and a return took back: a word that was stored there since may be read,
+/// and the one before it may not.
+const READS_BEHIND_A_STORE: &str = "
+        call  f
+        st    g4, 16
+        ld    16, g5
+        ld    12, g6
+f:      ret
 ";
 
-const READS_A_FLUSHED_FRAME_PRINTS: &str = "#point 3 flush 0000100C 00000000 001F2002
+/// The same with a byte: the rest of its word may not be read.
+const READS_BEHIND_A_BYTE: &str = "
+        call  f
+        stob  g4, 16
+        ld    16, g5
+        ld    12, g6
+f:      ret
+";
+
+/// A return to another frame than the caller's, which is not flushed.
+const RETURNS_ELSEWHERE: &str = "
+        call  f
+f:      lda   0x400, pfp
+        ret
+";
+
+/// The same behind a flush.
+const RETURNS_ELSEWHERE_FLUSHED: &str = "
+        call  f
+f:      flushreg
+        lda   0x400, pfp
+        ret
+";
+
+const RETURNS_ELSEWHERE_FLUSHED_FIRST: &str = "#point 2 flush 00001008 00000000 001F2002
 #g 00000000 00000000 00000000 00000000 00000000 00000000 00000000 00000000 00000000 00000000 00000000 00000000 00000000 00000000 00000000 00000040
 #l 00000000 00000080 00000000 00000000 00000000 00000000 00000000 00000000 00000000 00000000 00000000 00000000 00000000 00000000 00000000 00000000
-#point 4 end 00001010 00000000 001F2002
-#g 00000000 00000000 00000000 00000000 00000005 00000000 00000000 00000000 00000000 00000000 00000000 00000000 00000000 00000000 00000000 00000040
-#l 00000000 00000080 00000000 00000000 00000000 00000000 00000000 00000000 00000000 00000000 00000000 00000000 00000000 00000000 00000000 00000000
-#end limit
 ";
 
-/// `call f`, `st g4, 16`, `ld 16, g5`, `ld 12, g6`, `f: ret`.
-const READS_BEHIND_A_STORE: &str = ":02000004FFFFFC
-:04FF100000100000DD
-:020000040000FA
-:10100000100000091000A0921000A8900C00B090F1
-:041010000000000AD2
-:00000001FF
+/// A frame at 20 would be saved over the one at 0.
+const SAVES_OVER_A_FRAME: &str = "
+        call  f
+f:      lda   0x20, fp
+        call  g
+g:      mov   0, g0
 ";
 
-const READS_BEHIND_A_STORE_PRINTS: &str = "#point 4 end 0000100C 00000000 001F2002
-#g 00000000 00000000 00000000 00000000 00000000 00000000 00000000 00000000 00000000 00000000 00000000 00000000 00000000 00000000 00000000 00000000
-#l 00000000 00000040 00001004 00000000 00000000 00000000 00000000 00000000 00000000 00000000 00000000 00000000 00000000 00000000 00000000 00000000
-#end hazard 0000000C
+/// The instruction that is called lies in the caller's frame.
+const ENTERS_A_FRAME: &str = "
+        call  0x10
 ";
 
-/// `call f`, `stob g4, 16`, `ld 16, g5`, `ld 12, g6`, `f: ret`.
-const READS_BEHIND_A_BYTE: &str = ":02000004FFFFFC
-:04FF100000100000DD
-:020000040000FA
-:10100000100000091000A0821000A8900C00B09001
-:041010000000000AD2
-:00000001FF
+/// The second word of an instruction lies in the caller's frame.
+const ENTERS_BEFORE_A_FRAME: &str = "
+        lda   f+4, fp
+        call  f
+f:      lda   !0, g5
 ";
 
-const READS_BEHIND_A_BYTE_PRINTS: &str = "#point 3 end 00001008 00000000 001F2002
-#g 00000000 00000000 00000000 00000000 00000000 00000000 00000000 00000000 00000000 00000000 00000000 00000000 00000000 00000000 00000000 00000000
-#l 00000000 00000040 00001004 00000000 00000000 00000000 00000000 00000000 00000000 00000000 00000000 00000000 00000000 00000000 00000000 00000000
-#end hazard 00000011
+/// A store to the last word of the caller's frame.
+const STORES_TO_A_FRAME: &str = "
+        call  f
+f:      st    g4, 60
 ";
 
-/// `call f`, `f: lda 0x400, pfp`, `ret`.
-const RETURNS_ELSEWHERE: &str = ":02000004FFFFFC
-:04FF100000100000DD
-:020000040000FA
-:0C100000040000090004008C0000000A3D
-:00000001FF
+/// Two calls and their returns.
+const RETURNS_TWICE: &str = "
+        call  f
+        .word 0
+f:      call  g
+        ret
+g:      ret
 ";
 
-const RETURNS_ELSEWHERE_PRINTS: &str = "#point 2 end 00001008 00000000 001F2002
-#g 00000000 00000000 00000000 00000000 00000000 00000000 00000000 00000000 00000000 00000000 00000000 00000000 00000000 00000000 00000000 00000040
-#l 00000400 00000080 00000000 00000000 00000000 00000000 00000000 00000000 00000000 00000000 00000000 00000000 00000000 00000000 00000000 00000000
-#end hazard 00000400
+/// A return of type 110, which is as one of type 000.
+const RETURNS_BY_TYPE_110: &str = "
+        call  f
+        .word 0
+f:      lda   6, pfp
+        ret
 ";
 
-/// `call f`, `f: flushreg`, `lda 0x400, pfp`, `ret`.
-const RETURNS_ELSEWHERE_FLUSHED: &str = ":02000004FFFFFC
-:04FF100000100000DD
-:020000040000FA
-:1010000004000009800600660004008C0000000A4D
-:00000001FF
+/// A return from a fault, whose record is of zeros.
+const RETURNS_BY_TYPE_001: &str = "
+        lda   1, pfp
+        ret
 ";
 
-const RETURNS_ELSEWHERE_FLUSHED_PRINTS: &str = "#point 2 flush 00001008 00000000 001F2002
-#g 00000000 00000000 00000000 00000000 00000000 00000000 00000000 00000000 00000000 00000000 00000000 00000000 00000000 00000000 00000000 00000040
-#l 00000000 00000080 00000000 00000000 00000000 00000000 00000000 00000000 00000000 00000000 00000000 00000000 00000000 00000000 00000000 00000000
-#point 4 end 00000000 00000000 001F2002
-#g 00000000 00000000 00000000 00000000 00000000 00000000 00000000 00000000 00000000 00000000 00000000 00000000 00000000 00000000 00000000 00000400
-#l 00000000 00000000 00000000 00000000 00000000 00000000 00000000 00000000 00000000 00000000 00000000 00000000 00000000 00000000 00000000 00000000
-#end limit
+/// A frame in the port page would be saved.
+const SAVES_IN_THE_PORT_PAGE: &str = "
+        lda   0xE0000000, fp
+        call  f
+f:      ret
 ";
 
-/// `call f`, `f: lda 0x20, fp`, `call g`, `g: mov 0, g0`.
-const SAVES_OVER_A_FRAME: &str = ":02000004FFFFFC
-:04FF100000100000DD
-:020000040000FA
-:10100000040000092000F88C04000009000E805C38
-:00000001FF
-";
-
-const SAVES_OVER_A_FRAME_PRINTS: &str = "#point 2 end 00001008 00000000 001F2002
-#g 00000000 00000000 00000000 00000000 00000000 00000000 00000000 00000000 00000000 00000000 00000000 00000000 00000000 00000000 00000000 00000020
-#l 00000000 00000080 00000000 00000000 00000000 00000000 00000000 00000000 00000000 00000000 00000000 00000000 00000000 00000000 00000000 00000000
-#end hazard 00000020
-";
-
-/// `call 0x10`.
-const ENTERS_A_FRAME: &str = ":02000004FFFFFC
-:04FF100000100000DD
-:020000040000FA
-:0410000010F0FF09E4
-:00000001FF
-";
-
-const ENTERS_A_FRAME_PRINTS: &str = "#point 1 end 00000010 00000000 001F2002
-#g 00000000 00000000 00000000 00000000 00000000 00000000 00000000 00000000 00000000 00000000 00000000 00000000 00000000 00000000 00000000 00000040
-#l 00000000 00000080 00000000 00000000 00000000 00000000 00000000 00000000 00000000 00000000 00000000 00000000 00000000 00000000 00000000 00000000
-#end hazard 00000010
-";
-
-/// `lda 0x1010, fp`, `call f`, `f: lda 0, g5` with its second word at 1010.
-const ENTERS_BEFORE_A_FRAME: &str = ":02000004FFFFFC
-:04FF100000100000DD
-:020000040000FA
-:101000000030F88C10100000040000090030A88C9B
-:0410100000000000DC
-:00000001FF
-";
-
-const ENTERS_BEFORE_A_FRAME_PRINTS: &str = "#point 2 end 0000100C 00000000 001F2002
-#g 00000000 00000000 00000000 00000000 00000000 00000000 00000000 00000000 00000000 00000000 00000000 00000000 00000000 00000000 00000000 00000040
-#l 00001010 00000080 00000000 00000000 00000000 00000000 00000000 00000000 00000000 00000000 00000000 00000000 00000000 00000000 00000000 00000000
-#end hazard 00001010
-";
-
-/// `call f`, `f: st g4, 60`.
-const STORES_TO_A_FRAME: &str = ":02000004FFFFFC
-:04FF100000100000DD
-:020000040000FA
-:08100000040000093C00A0926D
-:00000001FF
-";
-
-const STORES_TO_A_FRAME_PRINTS: &str = "#point 1 end 00001004 00000000 001F2002
-#g 00000000 00000000 00000000 00000000 00000000 00000000 00000000 00000000 00000000 00000000 00000000 00000000 00000000 00000000 00000000 00000040
-#l 00000000 00000080 00000000 00000000 00000000 00000000 00000000 00000000 00000000 00000000 00000000 00000000 00000000 00000000 00000000 00000000
-#end hazard 0000003C
-";
-
-/// `call f`, the word 0, `f: call g`, `ret`, `g: ret`.
-const RETURNS_TWICE: &str = ":02000004FFFFFC
-:04FF100000100000DD
-:020000040000FA
-:101000000800000900000000080000090000000AB4
-:041010000000000AD2
-:00000001FF
-";
-
-const RETURNS_TWICE_PRINTS: &str = "#point 4 end 00001004 00000000 001F2002
-#g 00000000 00000000 00000000 00000000 00000000 00000000 00000000 00000000 00000000 00000000 00000000 00000000 00000000 00000000 00000000 00000000
-#l 00000000 00000040 00001004 00000000 00000000 00000000 00000000 00000000 00000000 00000000 00000000 00000000 00000000 00000000 00000000 00000000
-#end limit
-";
-
-/// `call f`, the word 0, `f: lda 6, pfp`, `ret`.
-const RETURNS_BY_TYPE_110: &str = ":02000004FFFFFC
-:04FF100000100000DD
-:020000040000FA
-:1010000008000009000000000600008C0000000A33
-:00000001FF
-";
-
-const RETURNS_BY_TYPE_110_PRINTS: &str = "#point 3 end 00001004 00000000 001F2002
-#g 00000000 00000000 00000000 00000000 00000000 00000000 00000000 00000000 00000000 00000000 00000000 00000000 00000000 00000000 00000000 00000000
-#l 00000000 00000040 00001004 00000000 00000000 00000000 00000000 00000000 00000000 00000000 00000000 00000000 00000000 00000000 00000000 00000000
-#end limit
-";
-
-/// `lda 1, pfp`, `ret`.
-const RETURNS_BY_TYPE_001: &str = ":02000004FFFFFC
-:04FF100000100000DD
-:020000040000FA
-:081000000100008C0000000A51
-:00000001FF
-";
-
-const RETURNS_BY_TYPE_001_PRINTS: &str = "#point 2 end 00000000 00000000 00000000
-#g 00000000 00000000 00000000 00000000 00000000 00000000 00000000 00000000 00000000 00000000 00000000 00000000 00000000 00000000 00000000 00000000
-#l 00000000 00000000 00000000 00000000 00000000 00000000 00000000 00000000 00000000 00000000 00000000 00000000 00000000 00000000 00000000 00000000
-#end limit
-";
-
-/// `lda 0xE0000000, fp`, `call f`, `f: ret`.
-const SAVES_IN_THE_PORT_PAGE: &str = ":02000004FFFFFC
-:04FF100000100000DD
-:020000040000FA
-:101000000030F88C000000E0040000090000000A35
-:00000001FF
-";
-
-const SAVES_IN_THE_PORT_PAGE_PRINTS: &str = "#point 1 end 00001008 00000000 001F2002
-#g 00000000 00000000 00000000 00000000 00000000 00000000 00000000 00000000 00000000 00000000 00000000 00000000 00000000 00000000 00000000 E0000000
-#l 00000000 00000040 00000000 00000000 00000000 00000000 00000000 00000000 00000000 00000000 00000000 00000000 00000000 00000000 00000000 00000000
-#end hazard E0000000
-";
-
-/// `lda 0xE0000040, pfp`, `ret`.
-const RETURNS_TO_THE_PORT_PAGE: &str = ":02000004FFFFFC
-:04FF100000100000DD
-:020000040000FA
-:0C1000000030008C400000E00000000AFE
-:00000001FF
-";
-
-const RETURNS_TO_THE_PORT_PAGE_PRINTS: &str = "#point 1 end 00001008 00000000 001F2002
-#g 00000000 00000000 00000000 00000000 00000000 00000000 00000000 00000000 00000000 00000000 00000000 00000000 00000000 00000000 00000000 00000000
-#l E0000040 00000040 00000000 00000000 00000000 00000000 00000000 00000000 00000000 00000000 00000000 00000000 00000000 00000000 00000000 00000000
-#end hazard E0000040
+/// A return to a frame in the port page.
+const RETURNS_TO_THE_PORT_PAGE: &str = "
+        lda   0xE0000040, pfp
+        ret
 ";
 
 #[test]
 fn calls_returns_and_hazards(rt: HostRuntime) -> Result<(), Fail> {
-    let cases = [
-        (READS_A_FRAME, 4, 4, READS_A_FRAME_PRINTS),
-        (READS_A_FLUSHED_FRAME, 4, 0, READS_A_FLUSHED_FRAME_PRINTS),
-        (READS_BEHIND_A_STORE, 9, 4, READS_BEHIND_A_STORE_PRINTS),
-        (READS_BEHIND_A_BYTE, 9, 4, READS_BEHIND_A_BYTE_PRINTS),
-        (RETURNS_ELSEWHERE, 9, 4, RETURNS_ELSEWHERE_PRINTS),
-        (
-            RETURNS_ELSEWHERE_FLUSHED,
-            4,
-            0,
-            RETURNS_ELSEWHERE_FLUSHED_PRINTS,
-        ),
-        (SAVES_OVER_A_FRAME, 9, 4, SAVES_OVER_A_FRAME_PRINTS),
-        (ENTERS_A_FRAME, 9, 4, ENTERS_A_FRAME_PRINTS),
-        (ENTERS_BEFORE_A_FRAME, 9, 4, ENTERS_BEFORE_A_FRAME_PRINTS),
-        (STORES_TO_A_FRAME, 9, 4, STORES_TO_A_FRAME_PRINTS),
-        (RETURNS_TWICE, 4, 0, RETURNS_TWICE_PRINTS),
-        (RETURNS_BY_TYPE_110, 3, 0, RETURNS_BY_TYPE_110_PRINTS),
-        (RETURNS_BY_TYPE_001, 2, 0, RETURNS_BY_TYPE_001_PRINTS),
-        (SAVES_IN_THE_PORT_PAGE, 9, 4, SAVES_IN_THE_PORT_PAGE_PRINTS),
-        (
-            RETURNS_TO_THE_PORT_PAGE,
-            9,
-            4,
-            RETURNS_TO_THE_PORT_PAGE_PRINTS,
-        ),
+    let rows = [
+        Row {
+            source: &[BOOT, READS_A_FRAME],
+            length: 4,
+            before: "",
+            point: "2 end 00001008 00000000 001F2002",
+            globals: &[(15, 0x40)],
+            locals: &[(1, 0x80)],
+            end: "hazard 00000010",
+            code: 4,
+        },
+        Row {
+            source: &[BOOT, READS_A_FLUSHED_FRAME],
+            length: 4,
+            before: READS_A_FLUSHED_FRAME_FIRST,
+            point: "4 end 00001010 00000000 001F2002",
+            globals: &[(4, 5), (15, 0x40)],
+            locals: &[(1, 0x80)],
+            end: "limit",
+            code: 0,
+        },
+        Row {
+            source: &[BOOT, READS_BEHIND_A_STORE],
+            length: 9,
+            before: "",
+            point: "4 end 0000100C 00000000 001F2002",
+            globals: &[],
+            locals: &[(1, 0x40), (2, 0x1004)],
+            end: "hazard 0000000C",
+            code: 4,
+        },
+        Row {
+            source: &[BOOT, READS_BEHIND_A_BYTE],
+            length: 9,
+            before: "",
+            point: "3 end 00001008 00000000 001F2002",
+            globals: &[],
+            locals: &[(1, 0x40), (2, 0x1004)],
+            end: "hazard 00000011",
+            code: 4,
+        },
+        Row {
+            source: &[BOOT, RETURNS_ELSEWHERE],
+            length: 9,
+            before: "",
+            point: "2 end 00001008 00000000 001F2002",
+            globals: &[(15, 0x40)],
+            locals: &[(0, 0x400), (1, 0x80)],
+            end: "hazard 00000400",
+            code: 4,
+        },
+        Row {
+            source: &[BOOT, RETURNS_ELSEWHERE_FLUSHED],
+            length: 4,
+            before: RETURNS_ELSEWHERE_FLUSHED_FIRST,
+            point: "4 end 00000000 00000000 001F2002",
+            globals: &[(15, 0x400)],
+            locals: &[],
+            end: "limit",
+            code: 0,
+        },
+        Row {
+            source: &[BOOT, SAVES_OVER_A_FRAME],
+            length: 9,
+            before: "",
+            point: "2 end 00001008 00000000 001F2002",
+            globals: &[(15, 0x20)],
+            locals: &[(1, 0x80)],
+            end: "hazard 00000020",
+            code: 4,
+        },
+        Row {
+            source: &[BOOT, ENTERS_A_FRAME],
+            length: 9,
+            before: "",
+            point: "1 end 00000010 00000000 001F2002",
+            globals: &[(15, 0x40)],
+            locals: &[(1, 0x80)],
+            end: "hazard 00000010",
+            code: 4,
+        },
+        Row {
+            source: &[BOOT, ENTERS_BEFORE_A_FRAME],
+            length: 9,
+            before: "",
+            point: "2 end 0000100C 00000000 001F2002",
+            globals: &[(15, 0x40)],
+            locals: &[(0, 0x1010), (1, 0x80)],
+            end: "hazard 00001010",
+            code: 4,
+        },
+        Row {
+            source: &[BOOT, STORES_TO_A_FRAME],
+            length: 9,
+            before: "",
+            point: "1 end 00001004 00000000 001F2002",
+            globals: &[(15, 0x40)],
+            locals: &[(1, 0x80)],
+            end: "hazard 0000003C",
+            code: 4,
+        },
+        Row {
+            source: &[BOOT, RETURNS_TWICE],
+            length: 4,
+            before: "",
+            point: "4 end 00001004 00000000 001F2002",
+            globals: &[],
+            locals: &[(1, 0x40), (2, 0x1004)],
+            end: "limit",
+            code: 0,
+        },
+        Row {
+            source: &[BOOT, RETURNS_BY_TYPE_110],
+            length: 3,
+            before: "",
+            point: "3 end 00001004 00000000 001F2002",
+            globals: &[],
+            locals: &[(1, 0x40), (2, 0x1004)],
+            end: "limit",
+            code: 0,
+        },
+        Row {
+            source: &[BOOT, RETURNS_BY_TYPE_001],
+            length: 2,
+            before: "",
+            point: "2 end 00000000 00000000 00000000",
+            globals: &[],
+            locals: &[],
+            end: "limit",
+            code: 0,
+        },
+        Row {
+            source: &[BOOT, SAVES_IN_THE_PORT_PAGE],
+            length: 9,
+            before: "",
+            point: "1 end 00001008 00000000 001F2002",
+            globals: &[(15, 0xE000_0000)],
+            locals: &[(1, 0x40)],
+            end: "hazard E0000000",
+            code: 4,
+        },
+        Row {
+            source: &[BOOT, RETURNS_TO_THE_PORT_PAGE],
+            length: 9,
+            before: "",
+            point: "1 end 00001008 00000000 001F2002",
+            globals: &[],
+            locals: &[(0, 0xE000_0040), (1, 0x40)],
+            end: "hazard E0000040",
+            code: 4,
+        },
     ];
-    for (image, length, code, printed) in cases {
-        for sets in SETS {
-            let words = format!(in rt.alloc(); "run a - {sets} {length}")?;
-            let case = Case {
-                image,
-                words: &words,
-                printed,
-            };
-            assert_eq!(rt;
-                run_case(rt.alloc(), &case)?,
-                (code, true),
-                "with {sets} sets, of {printed}"
-            );
-        }
+    for (number, row) in rows.iter().enumerate() {
+        assert!(rt; holds(rt.alloc(), row)?, "row {number}");
     }
     Ok(())
 }

@@ -3,24 +3,25 @@
 
 ghost use Rattle.std.specs.Prelude.{◌≡◌, ◌≢◌, ◌≤◌, ℕ, Bool, true, List, Option, Some, IsSome, length};
 ghost use Rattle.std.specs.List.{AllByRecursion};
-ghost use Rattle.i9_tool.specs.CommandLine.{Run};
+ghost use Rattle.i9_tool.specs.CommandLine.{Command, Run};
 ghost use Rattle.i9_outside.specs.Calls.{NoneToFail};
 ghost use Rattle.i9_outside.specs.MemFiles as mem_files;
 ghost use Rattle.i9_outside.specs.MemSink as mem_sink;
-ghost use Rattle.i9_tool.specs.Outcome.{FileGives, Gives, Outcomes, asked_for, names_of, AllSure};
+ghost use Rattle.i9_tool.specs.Outcome.{ImageGives, FileGives, Gives, Outcomes, asked_for, names_of, AllSure};
 
 use crate::status::Status;
 use crate::top::i960;
 use i9_outside::{MemFiles, MemSink};
 use std::alloc::Global;
 
-/// Each file and length have one status and one text: an image is accepted or refused, not both, for
-/// one fault, and its run is the only one. So each status is answered exactly where it is given. And
-/// no status and no text depends on the number of sets that is asked for.
+/// What a command gives for its file is one status and one text: an image is accepted or refused, not both, for one
+/// fault, and its run is the only one; a source has one list of segments or one first fault. So each status is answered
+/// exactly where it is given. There is a status and a text for each image, and none depends on the number of sets that
+/// is asked for.
 pub fn one_outcome()
-    ensures some { (file : List ℕ) (sets : Option ℕ) (limit : ℕ) → (code : ℕ) × (text : List ℕ) × FileGives file sets limit code text }
-    ensures status { (file : List ℕ) (sets : Option ℕ) (limit c d : ℕ) (s t : List ℕ) → FileGives file sets limit c s → FileGives file sets limit d t → c ≡ d }
-    ensures text { (file : List ℕ) (sets : Option ℕ) (limit c d : ℕ) (s t : List ℕ) → FileGives file sets limit c s → FileGives file sets limit d t → s ≡ t }
+    ensures some { (file : List ℕ) (sets : Option ℕ) (limit : ℕ) → (code : ℕ) × (text : List ℕ) × ImageGives file sets limit code text }
+    ensures status { (command : Command) (file : List ℕ) (c d : ℕ) (s t : List ℕ) → FileGives command file c s → FileGives command file d t → c ≡ d }
+    ensures text { (command : Command) (file : List ℕ) (c d : ℕ) (s t : List ℕ) → FileGives command file c s → FileGives command file d t → s ≡ t }
     ensures sets { (told : List ℕ → Option (List ℕ)) (risen : List ℕ → Bool) (image : List ℕ)
         (sets others : Option ℕ) (limit code : ℕ) (text : List ℕ)
         → Gives told (λ n. risen n ≡ true) (Some (Run image sets limit)) code text

@@ -1,6 +1,6 @@
 //! Printing of lines.
-ghost use Rattle.std.specs.Prelude.{◌≢◌, flat_map};
-ghost use Rattle.i9_tool.specs.Print.{Prints, IsLine, AreLines, account, line_text};
+ghost use Rattle.std.specs.Prelude.{◌≡◌, ◌≢◌, flat_map, true};
+ghost use Rattle.i9_tool.specs.Print.{Prints, IsLine, AreLines, account, is_lined, line_text};
 
 use crate::text::lines_of;
 use i9_machine::Line;
@@ -44,6 +44,25 @@ pub(crate) fn print_pieces<K: Sink>(pieces: &[Vec<u8>], out: &mut K) -> Printed
             Printed::Write => return Printed::Write,
             Printed::Memory => return Printed::Memory,
         }
+    }
+    Printed::Done
+}
+
+/// Writes the lines of a text, each by one call of the sink.
+#[tactic(auto, using(crate::proofs::Prints::prints_rules))]
+pub(crate) fn print_text<K: Sink>(text: &[u8], out: &mut K) -> Printed
+    requires lined { is_lined text.now ≡ true }
+    ensures prints { Prints result (account K.told K.faults K.writes K.sure) out.old out.new text.now }
+{
+    let mut rest = text;
+    while let Some(place) = rest.iter().position(|byte| *byte == b'\n') {
+        let (line, after) = rest.split_at(place + 1);
+        match print_piece(line, out) {
+            Printed::Done => {}
+            Printed::Write => return Printed::Write,
+            Printed::Memory => return Printed::Memory,
+        }
+        rest = after;
     }
     Printed::Done
 }

@@ -1,81 +1,83 @@
-//! Frames in sets through the command, at images and registers worked out by hand; each row holds at every number of
-//! sets.
-use crate::rows::{Row, holds};
+//! Frames in sets through the command, at registers worked out by hand; each row holds at every number of sets.
+use crate::rows::{BOOT, PRCB, Row, TO_USER_MODE, holds};
 use std::test::*;
 
-/// `mov 2, g1`, `mov 0, g2`, `modpc 0, g1, g2`, `call f`, `mov 9, g6`, `f: mov 5, r5`, the word 0 and `ret`, with a
-/// system entry of procedure 2 for operation faults and the supervisor stack word 6000; the handler at 1100 is `ret`.
-const FAULTS_OVER_FULL_SETS: &str = ":02000004FFFFFC
-:08FF10000010000000080000D1
-:020000040000FA
-:1008000000090000000A0000000000000000004095
-:1008100000200000000B000000000000003000007D
-:080820000000000000000000D0
-:080910000A0000007F02000054
-:040B0C000060000085
-:040B380002110000A6
-:10100000020E885C000E905C804A9465080000091E
-:10101000090EB05C050E285C000000000000000A0C
-:041100000000000AE1
-:00000001FF
+/// An operation fault of a procedure in user mode, by a system entry of procedure 2: the record is on the supervisor
+/// stack, and the handler returns behind the word.
+const FAULTS_OVER_FULL_SETS: &str = "
+        call  f
+        mov   9, g6
+f:      mov   5, r5
+        .word 0                 # no instruction
+        ret
+        .org  operation_faults
+        .word 0xA, 0x27F        # 4 * 2 + 2
+        .org  supervisor_stack
+        .word 0x6000
+        .org  procedure_2
+        .word handler+2         # to supervisor mode
+        .org  0x1100
+handler:
+        ret
 ";
 
-/// `mov 5, r5`, `call f`, `mov r5, g4`, `f: mov 6, r5`, `flushreg`, `call g`, `mov r5, g5`, `ret`, `g: ret`: the first
-/// return takes a frame that was saved behind the flush, and the second one refills a frame from before it.
-const REFILLS_BEHIND_A_FLUSH: &str = ":02000004FFFFFC
-:04FF100000100000DD
-:020000040000FA
-:10100000050E285C080000090506A05C060E285C99
-:10101000800600660C0000090506A85C0000000AB6
-:041020000000000AC2
-:00000001FF
+/// The first return takes a frame that was saved behind the flush, and the second one refills a frame from before it.
+const REFILLS_BEHIND_A_FLUSH: &str = "
+        mov   5, r5
+        call  f
+        mov   r5, g4
+f:      mov   6, r5
+        flushreg
+        call  g
+        mov   r5, g5
+        ret
+g:      ret
 ";
 
-/// `lda 0x400, pfp`, `ret`, and at 1010 `mov r5, g4`: a frame at 400 that no call saved has rip 1010 and r5 7.
-const RETURNS_TO_AN_IMAGE: &str = ":02000004FFFFFC
-:04FF100000100000DD
-:020000040000FA
-:0404080010100000D0
-:0404140007000000DD
-:101000000004008C0000000A000000000000000046
-:041010000506A05CD5
-:00000001FF
+/// Returns to a frame at 400 that no call saved.
+const RETURNS_TO_AN_IMAGE: &str = "
+        lda   0x400, pfp
+        ret
+        .space 8
+there:  mov   r5, g4
+        .org  0x408
+        .word there             # rip
+        .org  0x414
+        .word 7                 # r5
 ";
 
-/// `mov 5, r5`, `call f`, `mov r5, g4`, `f: mov 6, r5`, `call g`, `mov r5, g5`, `ret`, `g: mov 7, r5`, `call h`,
-/// `mov r5, g6`, `ret`, `h: ret`.
-const RETURNS_FROM_THREE_CALLS: &str = ":02000004FFFFFC
-:04FF100000100000DD
-:020000040000FA
-:10100000050E285C080000090506A05C060E285C99
-:101010000C0000090506A85C0000000A070E285C09
-:101020000C0000090506B05C0000000A0000000A80
-:00000001FF
+/// Each procedure has a value of its own in r5, and its caller takes it over behind the call.
+const RETURNS_FROM_THREE_CALLS: &str = "
+        mov   5, r5
+        call  f
+        mov   r5, g4
+f:      mov   6, r5
+        call  g
+        mov   r5, g5
+        ret
+g:      mov   7, r5
+        call  h
+        mov   r5, g6
+        ret
+h:      ret
 ";
 
-/// `call f`, `f: call g`, `g: st g4, 16`.
-const STORES_TO_A_SPILLED_FRAME: &str = ":02000004FFFFFC
-:04FF100000100000DD
-:020000040000FA
-:0C10000004000009040000091000A09288
-:00000001FF
+/// Two calls; what the second procedure does to the first frame, at 0, is to follow.
+const CALLS_TWICE: &str = "
+        call  f
+f:      call  g
+g:
 ";
 
-/// `call f`, `f: call g`, `g: ld 16, g4`.
-const READS_A_SPILLED_FRAME: &str = ":02000004FFFFFC
-:04FF100000100000DD
-:020000040000FA
-:0C10000004000009040000091000A0908A
-:00000001FF
-";
-
-/// `mov 5, r5`, `call f`, `f: mov 6, r5`, `call g`, `g: flushreg`, `ld 0x14, g4`, `ld 0x54, g5`.
-const READS_FLUSHED_FRAMES: &str = ":02000004FFFFFC
-:04FF100000100000DD
-:020000040000FA
-:10100000050E285C04000009060E285C0400000997
-:0C101000800600661400A0905400A89018
-:00000001FF
+/// Frames that were flushed may be read.
+const READS_FLUSHED_FRAMES: &str = "
+        mov   5, r5
+        call  f
+f:      mov   6, r5
+        call  g
+g:      flushreg
+        ld    0x14, g4
+        ld    0x54, g5
 ";
 
 const FAULTS_OVER_FULL_SETS_FIRST: &str = "#point 6 fault 00001100 00000000 001F2002
@@ -97,7 +99,7 @@ const READS_FLUSHED_FRAMES_FIRST: &str = "#point 5 flush 00001014 00000000 001F2
 fn spills_refills_and_flushes(rt: HostRuntime) -> Result<(), Fail> {
     let rows = [
         Row {
-            image: FAULTS_OVER_FULL_SETS,
+            source: &[PRCB, TO_USER_MODE, FAULTS_OVER_FULL_SETS],
             length: 9,
             before: FAULTS_OVER_FULL_SETS_FIRST,
             point: "9 end 00001014 00000000 001F2000",
@@ -107,7 +109,7 @@ fn spills_refills_and_flushes(rt: HostRuntime) -> Result<(), Fail> {
             code: 0,
         },
         Row {
-            image: REFILLS_BEHIND_A_FLUSH,
+            source: &[BOOT, REFILLS_BEHIND_A_FLUSH],
             length: 9,
             before: REFILLS_BEHIND_A_FLUSH_FIRST,
             point: "9 end 0000100C 00000000 001F2002",
@@ -117,7 +119,7 @@ fn spills_refills_and_flushes(rt: HostRuntime) -> Result<(), Fail> {
             code: 0,
         },
         Row {
-            image: RETURNS_TO_AN_IMAGE,
+            source: &[BOOT, RETURNS_TO_AN_IMAGE],
             length: 3,
             before: "",
             point: "3 end 00001014 00000000 001F2002",
@@ -127,7 +129,7 @@ fn spills_refills_and_flushes(rt: HostRuntime) -> Result<(), Fail> {
             code: 0,
         },
         Row {
-            image: RETURNS_FROM_THREE_CALLS,
+            source: &[BOOT, RETURNS_FROM_THREE_CALLS],
             length: 12,
             before: "",
             point: "12 end 0000100C 00000000 001F2002",
@@ -137,7 +139,7 @@ fn spills_refills_and_flushes(rt: HostRuntime) -> Result<(), Fail> {
             code: 0,
         },
         Row {
-            image: STORES_TO_A_SPILLED_FRAME,
+            source: &[BOOT, CALLS_TWICE, "st g4, 16"],
             length: 9,
             before: "",
             point: "2 end 00001008 00000000 001F2002",
@@ -147,7 +149,7 @@ fn spills_refills_and_flushes(rt: HostRuntime) -> Result<(), Fail> {
             code: 4,
         },
         Row {
-            image: READS_A_SPILLED_FRAME,
+            source: &[BOOT, CALLS_TWICE, "ld 16, g4"],
             length: 9,
             before: "",
             point: "2 end 00001008 00000000 001F2002",
@@ -157,7 +159,7 @@ fn spills_refills_and_flushes(rt: HostRuntime) -> Result<(), Fail> {
             code: 4,
         },
         Row {
-            image: READS_FLUSHED_FRAMES,
+            source: &[BOOT, READS_FLUSHED_FRAMES],
             length: 7,
             before: READS_FLUSHED_FRAMES_FIRST,
             point: "7 end 0000101C 00000000 001F2002",

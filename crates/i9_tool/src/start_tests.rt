@@ -1,112 +1,112 @@
-//! Start-up, sysctl and modpc through the command, at images and registers worked out by hand. Most
-//! images have a PRCB at 800, with the control table at A00, fault configuration 40000000 and the
-//! interrupt stack at 3000.
-use crate::rows::{Row, holds};
+//! Start-up, sysctl and modpc through the command, at registers worked out by hand.
+use crate::rows::{PRCB, Row, TO_USER_MODE, holds};
 use std::test::*;
 
-/// `lda 0x10000000, fp`, `lda 64(fp), sp`, `mov 9, r5`, `call f`, `f: lda 0x400000, g1`, `st g1,
-/// 0xA24`, `lda 0x402, g2`, `sysctl g2, g2, g2`, `ret`: the frame that is flushed in little-endian
-/// order is read in the other.
-const TURNS_A_REGION_BIG_ENDIAN: &str = ":02000004FFFFFC
-:08FF10000010000000080000D1
-:020000040000FA
-:1008000000090000000A0000000000000000004095
-:1008100000200000000B000000000000003000007D
-:080820000000000000000000D0
-:101000000030F88C0000001040E00F8C090E285CC6
-:10101000040000090030888C00004000240A8892F7
-:0C1020000204908C928494650000000A89
-:00000001FF
+/// A frame in region 1, which sysctl makes big-endian: it is flushed in little-endian order, and the return reads it in
+/// the other.
+const TURNS_A_REGION_BIG_ENDIAN: &str = "
+        lda   0x10000000, fp
+        lda   64(fp), sp
+        mov   9, r5
+        call  f
+f:      lda   0x400000, g1
+        st    g1, 0xA24         # region 1 in the control table
+        lda   0x402, g2
+        sysctl g2, g2, g2       # loads group 2
+        ret
 ";
 
-/// `lda 0x300, g1`, `lda 0x1200, g2`, `lda 0xC00, g3`, `sysctl g1, g2, g3`, and at C1C the
-/// interrupt stack 5000 and 15 register sets.
-const STARTS_ANEW: &str = ":02000004FFFFFC
-:08FF10000010000000080000D1
-:020000040000FA
-:1008000000090000000A0000000000000000004095
-:1008100000200000000B000000000000003000007D
-:080820000000000000000000D0
-:101000000003888C0030908C00120000000C988C3B
-:0410100091849C65C6
-:0C0C1C0000500000000000000F0000006D
-:00000001FF
+/// Starts anew at 1200 with a PRCB at C00.
+const STARTS_ANEW: &str = "
+        lda   0x300, g1
+        lda   0x1200, g2
+        lda   0xC00, g3
+        sysctl g1, g2, g3
+        .org  0xC1C
+        .word 0x5000            # the interrupt stack
+        .word 0
+        .word 15                # the register sets
 ";
 
-/// A boot record in big-endian order, as the third boot byte says, and a control table by which
-/// region 15 is little-endian afterwards: `ld 0xFFFFFF10, g0`.
-const BOOTS_IN_BIG_ENDIAN_ORDER: &str = ":02000004FFFFFC
-:01FF080040B8
-:08FF10000000100000000800D1
-:020000040000FA
-:1008000000090000000A0000000000000000004095
-:1008100000200000000B000000000000003000007D
-:080820000000000000000000D0
-:081000000030809010FFFFFF9B
-:00000001FF
+/// A boot record in big-endian order, as the third boot byte says. The control table is of zeros, by which region 15
+/// is little-endian afterwards.
+const BOOTS_IN_BIG_ENDIAN_ORDER: &str = "
+        ld    0xFFFFFF10, g0
+        .org  0xFFFFFF08
+        .byte 0x40              # the third boot byte
+        .org  0xFFFFFF10
+        .word 0x00100000        # the bytes of 1000
+        .word 0x00080000        # and of 800
 ";
 
-/// The same with a control table by which region 15 stays big-endian.
-const STAYS_IN_BIG_ENDIAN_ORDER: &str = ":02000004FFFFFC
-:01FF080040B8
-:08FF10000000100000000800D1
-:020000040000FA
-:1008000000090000000A0000000000000000004095
-:1008100000200000000B000000000000003000007D
-:080820000000000000000000D0
-:081000000030809010FFFFFF9B
-:040A5C000000400056
-:00000001FF
+/// With this in its control table it stays big-endian.
+const REGION_15_IS_BIG_ENDIAN: &str = "
+        .org  control_table+0x5C
+        .word 0x400000
 ";
 
-/// An AC image and a TC word of ones, and an interrupt stack at 3001: `modtc 0, 0, r4`.
-const MASKS_ITS_IMAGES: &str = ":02000004FFFFFC
-:08FF10000010000000080000D1
-:020000040000FA
-:1008000000090000000A0000000000000000004095
-:1008100000200000000B000000000000003000007D
-:080820000000000000000000D0
-:04100000001A20654D
-:04080800FFFFFFFFF0
-:04081C0001300000A7
-:040A6800FFFFFFFF8E
-:00000001FF
+/// An AC image and a TC word of ones, and an interrupt stack at 3001.
+const MASKS_ITS_IMAGES: &str = "
+        modtc 0, 0, r4
+        .org  ac_image
+        .word 0xFFFFFFFF
+        .org  interrupt_stack
+        .word stack+1
+        .org  control_table+0x68
+        .word 0xFFFFFFFF        # TC
 ";
 
-/// A word 400000 is stored for the regions 1, 5, 9 and 13 of the control table and ones for TC,
-/// and groups 2 to 6 are loaded; behind each of the first four a word 1 goes to its region, whose
-/// last byte is then 1. r9 gets TC, and r10 shows that region 0 stays little-endian.
-const LOADS_GROUPS: &str = ":02000004FFFFFC
-:08FF10000010000000080000D1
-:020000040000FA
-:1008000000090000000A0000000000000000004095
-:1008100000200000000B000000000000003000007D
-:080820000000000000000000D0
-:101000000030888C00004000240A8892340A8892BC
-:10101000440A8892540A88920030908CFFFFFFFFA8
-:10102000680A90920204988C0304A08C0404A88C93
-:101030000504B08C0604B88C0030C08C0000001091
-:10104000010EC85C0020CE9293C49C6500202680CF
-:101050000020CE9203202E809404A5650030D08C11
-:101060000000005000A0CE9203A036809544AD65EC
-:101070000030D88C0000009000E0CE9203E03E806B
-:101080009684B5650030E08C000000D00020CF923F
-:101090000320478097C4BD65001A48650030C89298
-:0C10A000003100000030508000310000E2
-:00000001FF
+/// Makes the regions 1, 5, 9 and 13 big-endian in the control table, and TC ones, and loads the groups 2 to 6. Behind
+/// each of the first four a word 1 goes to its region, whose last byte is then 1. In the end r9 gets TC, and r10 shows
+/// that region 0 stays little-endian.
+const LOADS_GROUPS: &str = "
+        lda   0x400000, g1
+        st    g1, 0xA24         # region 1, of group 2
+        st    g1, 0xA34         # region 5, of group 3
+        st    g1, 0xA44         # region 9, of group 4
+        st    g1, 0xA54         # region 13, of group 5
+        lda   0xFFFFFFFF, g2
+        st    g2, 0xA68         # TC, of group 6
+        lda   0x402, g3
+        lda   0x403, g4
+        lda   0x404, g5
+        lda   0x405, g6
+        lda   0x406, g7
+
+        lda   0x10000000, g8
+        mov   1, g9
+        st    g9, (g8)
+        sysctl g3, g3, g3
+        ldob  (g8), r4          # from before
+        st    g9, (g8)
+        ldob  3(g8), r5
+        sysctl g4, g4, g4
+        lda   0x50000000, g10
+        st    g9, (g10)
+        ldob  3(g10), r6
+        sysctl g5, g5, g5
+        lda   0x90000000, g11
+        st    g9, (g11)
+        ldob  3(g11), r7
+        sysctl g6, g6, g6
+        lda   0xD0000000, g12
+        st    g9, (g12)
+        ldob  3(g12), r8
+
+        sysctl g7, g7, g7
+        modtc 0, 0, r9
+        st    g9, 0x3100
+        ldob  0x3100, r10
 ";
 
-/// Messages 1 and 2, and a fault at message 5: `lda 0x100, g1`, `sysctl g1, g1, g1`, `lda 0x2FF,
-/// g2`, `sysctl g2, g2, g2`, `lda 0x500, g3`, `sysctl g3, g3, g3`.
-const MESSAGES_WITHOUT_EFFECT: &str = ":02000004FFFFFC
-:08FF10000010000000080000D1
-:020000040000FA
-:1008000000090000000A0000000000000000004095
-:1008100000200000000B000000000000003000007D
-:080820000000000000000000D0
-:101000000001888C91448C65FF02908C92849465D9
-:081010000005988C93C49C6557
-:00000001FF
+/// Messages 1 and 2, and a fault at message 5.
+const MESSAGES_WITHOUT_EFFECT: &str = "
+        lda   0x100, g1
+        sysctl g1, g1, g1
+        lda   0x2FF, g2
+        sysctl g2, g2, g2
+        lda   0x500, g3
+        sysctl g3, g3, g3
 ";
 
 const MESSAGES_WITHOUT_EFFECT_FIRST: &str = "#point 6 fault 00000000 00000000 001F2002
@@ -114,26 +114,16 @@ const MESSAGES_WITHOUT_EFFECT_FIRST: &str = "#point 6 fault 00000000 00000000 00
 #l 00003001 00003090 00000000 00000000 00000000 00000000 00000000 00000000 00000000 00000000 00000000 00000000 00000000 00000000 00000000 00000000
 ";
 
-/// `mov 9, g1`, `sysctl g1, g1, g1`.
-const MESSAGE_0: &str = ":02000004FFFFFC
-:08FF10000010000000080000D1
-:020000040000FA
-:1008000000090000000A0000000000000000004095
-:1008100000200000000B000000000000003000007D
-:080820000000000000000000D0
-:08100000090E885C91448C6527
-:00000001FF
+/// Message 0.
+const MESSAGE_0: &str = "
+        mov   9, g1
+        sysctl g1, g1, g1
 ";
 
-/// A fault at `lda 0x407, g1`, `sysctl g1, g1, g1`.
-const GROUP_7: &str = ":02000004FFFFFC
-:08FF10000010000000080000D1
-:020000040000FA
-:1008000000090000000A0000000000000000004095
-:1008100000200000000B000000000000003000007D
-:080820000000000000000000D0
-:081000000704888C91448C6503
-:00000001FF
+/// A fault at a group that there is not.
+const GROUP_7: &str = "
+        lda   0x407, g1
+        sysctl g1, g1, g1
 ";
 
 const GROUP_7_FIRST: &str = "#point 2 fault 00000000 00000000 001F2002
@@ -141,141 +131,112 @@ const GROUP_7_FIRST: &str = "#point 2 fault 00000000 00000000 001F2002
 #l 00003001 00003090 00000000 00000000 00000000 00000000 00000000 00000000 00000000 00000000 00000000 00000000 00000000 00000000 00000000 00000000
 ";
 
-/// `lda 0x2000, g1`, `mov 0, g2`, `modpc 0, g1, g2`, and `lda 0x1F0000, g3`, `mov 0, g4`, `modpc
-/// 0, g3, g4`, which lowers the priority.
-const CHANGES_PC: &str = ":02000004FFFFFC
-:08FF10000010000000080000D1
-:020000040000FA
-:1008000000090000000A0000000000000000004095
-:1008100000200000000B000000000000003000007D
-:080820000000000000000000D0
-:101000000030888C00200000000E905C804A9465BF
-:101010000030988C00001F00000EA05C80CAA46500
-:00000001FF
+/// Clears a bit of PC, and then lowers the priority, which is not built.
+const CHANGES_PC: &str = "
+        lda   0x2000, g1
+        mov   0, g2
+        modpc 0, g1, g2
+        lda   0x1F0000, g3
+        mov   0, g4
+        modpc 0, g3, g4
 ";
 
-/// In user mode a mask of 0 is no fault: `mov 2, g1`, `mov 0, g2`, `modpc 0, g1, g2`, `mov 31,
-/// g3`, `modpc 0, 0, g3`, `modpc 0, g1, g4`.
-const LEAVES_SUPERVISOR_MODE: &str = ":02000004FFFFFC
-:08FF10000010000000080000D1
-:020000040000FA
-:1008000000090000000A0000000000000000004095
-:1008100000200000000B000000000000003000007D
-:080820000000000000000000D0
-:10100000020E885C000E905C804A94651F0E985C0E
-:08101000801A9865804AA4656E
-:00000001FF
+/// In user mode a mask of 0 is no fault, and another is.
+const IN_USER_MODE: &str = "
+        mov   31, g3
+        modpc 0, 0, g3
+        modpc 0, g1, g4
 ";
 
-const LEAVES_SUPERVISOR_MODE_FIRST: &str = "#point 6 fault 00000000 00000000 001F2000
+const IN_USER_MODE_FIRST: &str = "#point 6 fault 00000000 00000000 001F2000
 #g 00000000 00000002 001F2002 001F2000 00000000 00000000 00000000 00000000 00000000 00000000 00000000 00000000 00000000 00000000 00000000 00003050
 #l 00003001 00003090 00000000 00000000 00000000 00000000 00000000 00000000 00000000 00000000 00000000 00000000 00000000 00000000 00000000 00000000
 ";
 
-/// `mov 1, g1`, `modpc 0, g1, g1`, `mov 2, g2`.
-const ENABLES_TRACING: &str = ":02000004FFFFFC
-:08FF10000010000000080000D1
-:020000040000FA
-:1008000000090000000A0000000000000000004095
-:1008100000200000000B000000000000003000007D
-:080820000000000000000000D0
-:0C100000010E885C804A8C65020E905C3A
-:00000001FF
+/// Sets the trace enable bit: what comes behind is not built.
+const ENABLES_TRACING: &str = "
+        mov   1, g1
+        modpc 0, g1, g1
+        mov   2, g2
 ";
 
-/// Unaligned accesses, which the fault configuration allows, also over the end of a region and the
-/// last address: `lda 0x2001, g0`, `lda 0x11223344, g1`, `st g1, (g0)`, `ld 0x2000, g2`, `ldl
-/// (g0), g4`, `lda 0xFFFFFFE, g6`, `st g1, (g6)`, `ldos 0x10000000, g7`, `lda 0xFFFFFFFE, g8`, `st
-/// g1, (g8)`, `ldos 0, g9`, `ld (g8), g10`, `lda 0xE0000002, g11`, `stl g4, (g11)`.
-const ACCESSES_ANYWHERE: &str = ":02000004FFFFFC
-:08FF10000010000000080000D1
-:020000040000FA
-:1008000000090000000A0000000000000000004095
-:1008100000200000000B000000000000003000007D
-:080820000000000000000000D0
-:101000000030808C012000000030888C4433221195
-:1010100000208C9200309090002000000020A498C6
-:101020000030B08CFEFFFF0F00A08D920030B8881A
-:10103000000000100030C08CFEFFFFFF00208E92E9
-:101040000000C8880020D6900030D88C020000E054
-:0410500000E0A69A7C
-:00000001FF
+/// Unaligned accesses, which the fault configuration allows, also over the end of a region and the last address, and
+/// to the exit word.
+const ACCESSES_ANYWHERE: &str = "
+        lda   0x2001, g0
+        lda   0x11223344, g1
+        st    g1, (g0)
+        ld    0x2000, g2
+        ldl   (g0), g4
+        lda   0x0FFFFFFE, g6
+        st    g1, (g6)
+        ldos  0x10000000, g7
+        lda   0xFFFFFFFE, g8
+        st    g1, (g8)
+        ldos  0, g9
+        ld    (g8), g10
+        lda   0xE0000002, g11
+        stl   g4, (g11)
 ";
 
-/// `call f`, `lda 0x300, g1`, `lda 0x3000, g2`, `sysctl g1, g1, g2`, `f: ret`.
-const PRCB_IN_A_RETURNED_FRAME: &str = ":02000004FFFFFC
-:08FF10000010000000080000D1
-:020000040000FA
-:1008000000090000000A0000000000000000004095
-:1008100000200000000B000000000000003000007D
-:080820000000000000000000D0
-:10100000140000090003888C0030908C0030000030
-:08101000914494650000000A00
-:00000001FF
+/// Starts anew by a PRCB at 3000, in the frame that a call saved and a return took back.
+const PRCB_IN_A_RETURNED_FRAME: &str = "
+        call  f
+        lda   0x300, g1
+        lda   0x3000, g2
+        sysctl g1, g1, g2
+f:      ret
 ";
 
-/// `call f`, `lda 0x300, g1`, `lda 0xC00, g2`, `sysctl g1, g1, g2`, `f: ret`, and at C04 the
-/// control table 2FF0.
-const CONTROL_TABLE_IN_A_RETURNED_FRAME: &str = ":02000004FFFFFC
-:08FF10000010000000080000D1
-:020000040000FA
-:1008000000090000000A0000000000000000004095
-:1008100000200000000B000000000000003000007D
-:080820000000000000000000D0
-:10100000100000090003888C000C908C91449465BA
-:041010000000000AD2
-:040C0400F02F0000CD
-:00000001FF
+/// Starts anew by a PRCB at C00, whose control table reaches into that frame.
+const CONTROL_TABLE_IN_A_RETURNED_FRAME: &str = "
+        call  f
+        lda   0x300, g1
+        lda   0xC00, g2
+        sysctl g1, g1, g2
+f:      ret
+        .org  0xC04
+        .word stack-0x10        # the control table
 ";
 
-/// `call f`, `lda 0x401, g1`, `sysctl g1, g1, g1`, `lda 0x402, g2`, `sysctl g2, g2, g2`, `f: ret`,
-/// and the control table at 2FE0.
-const GROUP_IN_A_RETURNED_FRAME: &str = ":02000004FFFFFC
-:08FF10000010000000080000D1
-:020000040000FA
-:1008000000090000000A0000000000000000004095
-:1008100000200000000B000000000000003000007D
-:080820000000000000000000D0
-:10100000140000090104888C91448C650204908CC2
-:08101000928494650000000ABF
-:04080400E02F0000E1
-:00000001FF
+/// Loads group 1, which is before that frame, and then group 2, which is in it.
+const GROUP_IN_A_RETURNED_FRAME: &str = "
+        call  f
+        lda   0x401, g1
+        sysctl g1, g1, g1
+        lda   0x402, g2
+        sysctl g2, g2, g2
+f:      ret
+        .org  control_table_address
+        .word stack-0x20
 ";
 
-/// `lda 0x5000, r7`, `call f`, `f: lda 0x300, g1`, `lda 0x3000, g2`, `lda 0x1200, g3`, `sysctl g1,
-/// g3, g2`: the flush writes the frame that is read as the PRCB, with its rip as the AC image.
-const PRCB_IN_A_LIVE_FRAME: &str = ":02000004FFFFFC
-:08FF10000010000000080000D1
-:020000040000FA
-:1008000000090000000A0000000000000000004095
-:1008100000200000000B000000000000003000007D
-:080820000000000000000000D0
-:101000000030388C00500000040000090003888C78
-:101010000030908C003000000030988C00120000EE
-:0410200091C494657E
-:00000001FF
+/// The flush writes the frame that is read as the PRCB, with its rip as the AC image and r7 as the interrupt stack.
+const PRCB_IN_A_LIVE_FRAME: &str = "
+        lda   0x5000, r7
+        call  f
+f:      lda   0x300, g1
+        lda   0x3000, g2
+        lda   0x1200, g3
+        sysctl g1, g3, g2
 ";
 
-/// `lda 0x400000, g1`, `st g1, 0xA58`, `lda 0x405, g2`, `sysctl g2, g2, g2`, `lda 0xE0000002, g3`,
-/// `lda 0x11223344, g4`, `stl g4, (g3)`: the exit word is the low half of the first word and the
-/// high half of the second.
-const EXITS_IN_BIG_ENDIAN_ORDER: &str = ":02000004FFFFFC
-:08FF10000010000000080000D1
-:020000040000FA
-:1008000000090000000A0000000000000000004095
-:1008100000200000000B000000000000003000007D
-:080820000000000000000000D0
-:101000000030888C00004000580A88920504908CBB
-:10101000928494650030988C020000E00030A08C2F
-:081020004433221100E0A49A00
-:00000001FF
+/// The exit word in big-endian order is the low half of the first word and the high half of the second.
+const EXITS_IN_BIG_ENDIAN_ORDER: &str = "
+        lda   0x400000, g1
+        st    g1, 0xA58         # region 14 in the control table
+        lda   0x405, g2
+        sysctl g2, g2, g2
+        lda   0xE0000002, g3
+        lda   0x11223344, g4
+        stl   g4, (g3)
 ";
 
 #[test]
 fn starts_by_its_tables(rt: HostRuntime) -> Result<(), Fail> {
     let rows = [
         Row {
-            image: TURNS_A_REGION_BIG_ENDIAN,
+            source: &[PRCB, TURNS_A_REGION_BIG_ENDIAN],
             length: 9,
             before: "",
             point: "9 end 14100000 00000000 001F2002",
@@ -285,7 +246,7 @@ fn starts_by_its_tables(rt: HostRuntime) -> Result<(), Fail> {
             code: 0,
         },
         Row {
-            image: STARTS_ANEW,
+            source: &[PRCB, STARTS_ANEW],
             length: 4,
             before: "",
             point: "4 end 00001200 00000000 001F2002",
@@ -295,7 +256,7 @@ fn starts_by_its_tables(rt: HostRuntime) -> Result<(), Fail> {
             code: 0,
         },
         Row {
-            image: BOOTS_IN_BIG_ENDIAN_ORDER,
+            source: &[PRCB, BOOTS_IN_BIG_ENDIAN_ORDER],
             length: 1,
             before: "",
             point: "1 end 00001008 00000000 001F2002",
@@ -305,7 +266,7 @@ fn starts_by_its_tables(rt: HostRuntime) -> Result<(), Fail> {
             code: 0,
         },
         Row {
-            image: STAYS_IN_BIG_ENDIAN_ORDER,
+            source: &[PRCB, BOOTS_IN_BIG_ENDIAN_ORDER, REGION_15_IS_BIG_ENDIAN],
             length: 1,
             before: "",
             point: "1 end 00001008 00000000 001F2002",
@@ -315,7 +276,7 @@ fn starts_by_its_tables(rt: HostRuntime) -> Result<(), Fail> {
             code: 0,
         },
         Row {
-            image: MASKS_ITS_IMAGES,
+            source: &[PRCB, MASKS_ITS_IMAGES],
             length: 1,
             before: "",
             point: "1 end 00001004 00009107 001F2002",
@@ -325,7 +286,7 @@ fn starts_by_its_tables(rt: HostRuntime) -> Result<(), Fail> {
             code: 0,
         },
         Row {
-            image: LOADS_GROUPS,
+            source: &[PRCB, LOADS_GROUPS],
             length: 35,
             before: "",
             point: "35 end 000010AC 00000000 001F2002",
@@ -368,7 +329,7 @@ fn starts_by_its_tables(rt: HostRuntime) -> Result<(), Fail> {
 fn messages_and_process_controls(rt: HostRuntime) -> Result<(), Fail> {
     let rows = [
         Row {
-            image: MESSAGES_WITHOUT_EFFECT,
+            source: &[PRCB, MESSAGES_WITHOUT_EFFECT],
             length: 6,
             before: MESSAGES_WITHOUT_EFFECT_FIRST,
             point: "6 end 00000000 00000000 001F2002",
@@ -378,7 +339,7 @@ fn messages_and_process_controls(rt: HostRuntime) -> Result<(), Fail> {
             code: 0,
         },
         Row {
-            image: MESSAGE_0,
+            source: &[PRCB, MESSAGE_0],
             length: 9,
             before: "",
             point: "1 end 00001004 00000000 001F2002",
@@ -388,7 +349,7 @@ fn messages_and_process_controls(rt: HostRuntime) -> Result<(), Fail> {
             code: 4,
         },
         Row {
-            image: GROUP_7,
+            source: &[PRCB, GROUP_7],
             length: 2,
             before: GROUP_7_FIRST,
             point: "2 end 00000000 00000000 001F2002",
@@ -398,7 +359,7 @@ fn messages_and_process_controls(rt: HostRuntime) -> Result<(), Fail> {
             code: 0,
         },
         Row {
-            image: CHANGES_PC,
+            source: &[PRCB, CHANGES_PC],
             length: 9,
             before: "",
             point: "5 end 0000101C 00000000 001F0002",
@@ -413,9 +374,9 @@ fn messages_and_process_controls(rt: HostRuntime) -> Result<(), Fail> {
             code: 4,
         },
         Row {
-            image: LEAVES_SUPERVISOR_MODE,
+            source: &[PRCB, TO_USER_MODE, IN_USER_MODE],
             length: 6,
-            before: LEAVES_SUPERVISOR_MODE_FIRST,
+            before: IN_USER_MODE_FIRST,
             point: "6 end 00000000 00000000 001F2000",
             globals: &[(1, 2), (2, 0x001F_2002), (3, 0x001F_2000), (15, 0x3050)],
             locals: &[(0, 0x3001), (1, 0x3090)],
@@ -423,7 +384,7 @@ fn messages_and_process_controls(rt: HostRuntime) -> Result<(), Fail> {
             code: 0,
         },
         Row {
-            image: ENABLES_TRACING,
+            source: &[PRCB, ENABLES_TRACING],
             length: 9,
             before: "",
             point: "2 end 00001008 00000000 001F2003",
@@ -443,7 +404,7 @@ fn messages_and_process_controls(rt: HostRuntime) -> Result<(), Fail> {
 fn unaligned_accesses_and_table_hazards(rt: HostRuntime) -> Result<(), Fail> {
     let rows = [
         Row {
-            image: ACCESSES_ANYWHERE,
+            source: &[PRCB, ACCESSES_ANYWHERE],
             length: 20,
             before: "",
             point: "14 end 00001054 00000000 001F2002",
@@ -465,7 +426,7 @@ fn unaligned_accesses_and_table_hazards(rt: HostRuntime) -> Result<(), Fail> {
             code: 0,
         },
         Row {
-            image: PRCB_IN_A_RETURNED_FRAME,
+            source: &[PRCB, PRCB_IN_A_RETURNED_FRAME],
             length: 9,
             before: "",
             point: "4 end 00001010 00000000 001F2002",
@@ -475,7 +436,7 @@ fn unaligned_accesses_and_table_hazards(rt: HostRuntime) -> Result<(), Fail> {
             code: 4,
         },
         Row {
-            image: CONTROL_TABLE_IN_A_RETURNED_FRAME,
+            source: &[PRCB, CONTROL_TABLE_IN_A_RETURNED_FRAME],
             length: 9,
             before: "",
             point: "4 end 0000100C 00000000 001F2002",
@@ -485,7 +446,7 @@ fn unaligned_accesses_and_table_hazards(rt: HostRuntime) -> Result<(), Fail> {
             code: 4,
         },
         Row {
-            image: GROUP_IN_A_RETURNED_FRAME,
+            source: &[PRCB, GROUP_IN_A_RETURNED_FRAME],
             length: 9,
             before: "",
             point: "5 end 00001010 00000000 001F2002",
@@ -495,7 +456,7 @@ fn unaligned_accesses_and_table_hazards(rt: HostRuntime) -> Result<(), Fail> {
             code: 4,
         },
         Row {
-            image: PRCB_IN_A_LIVE_FRAME,
+            source: &[PRCB, PRCB_IN_A_LIVE_FRAME],
             length: 6,
             before: "",
             point: "6 end 00001200 00001004 001F2002",
@@ -505,7 +466,7 @@ fn unaligned_accesses_and_table_hazards(rt: HostRuntime) -> Result<(), Fail> {
             code: 0,
         },
         Row {
-            image: EXITS_IN_BIG_ENDIAN_ORDER,
+            source: &[PRCB, EXITS_IN_BIG_ENDIAN_ORDER],
             length: 9,
             before: "",
             point: "7 end 00001028 00000000 001F2002",

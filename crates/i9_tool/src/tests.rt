@@ -4,21 +4,24 @@ use i9_outside::{MemFiles, MemSink};
 use std::alloc::Global;
 use std::test::*;
 
-/// The smallest image: `lda 0x41, g4`, `lda 0xE0000000, g5`, `stob g4, (g5)`, `mov 7, g4` and
-/// `st g4, 4(g5)` at 1000.
-const SMALLEST: &str = ":02000004FFFFFC
+/// Writes the letter A to the console, and ends with the word 7.
+pub(crate) const SMALLEST_SOURCE: &str = "
+        .org  0xFFFFFF10
+        .word start
+        .org  0x1000
+start:  lda   0x41, g4
+        lda   0xE0000000, g5
+        stob  g4, (g5)
+        mov   7, g4
+        st    g4, 4(g5)
+";
+
+/// Its image.
+pub(crate) const SMALLEST: &str = ":02000004FFFFFC
 :04FF100000100000DD
 :020000040000FA
 :101000004100A08C0030A88C000000E00060A582A8
 :08101000070EA05C0460A5922C
-:00000001FF
-";
-
-/// `mov sf0, g0`, which is not built.
-const NOT_BUILT: &str = ":02000004FFFFFC
-:04FF100000100000DD
-:020000040000FA
-:041000002006805CEA
 :00000001FF
 ";
 
@@ -35,21 +38,12 @@ const AT_ONCE: &str = "#point 0 end 00001000 00000000 001F2002
 #end limit
 ";
 
-const UNBUILT: &str = "#point 0 end 00001000 00000000 001F2002
-#g 00000000 00000000 00000000 00000000 00000000 00000000 00000000 00000000 00000000 00000000 00000000 00000000 00000000 00000000 00000000 00000000
-#l 00000000 00000040 00000000 00000000 00000000 00000000 00000000 00000000 00000000 00000000 00000000 00000000 00000000 00000000 00000000 00000000
-#end unbuilt 00001000
-";
-
-/// Numbers of sets as words of the command: that of the PRCB, and one, five and fifteen.
-pub(crate) const SETS: [&str; 4] = ["-", "1", "5", "15"];
-
 /// A case: the file that is held as `a`, the words, and what is printed.
 #[derive(Clone, Copy)]
-pub(crate) struct Case<'a> {
-    pub(crate) image: &'a str,
-    pub(crate) words: &'a str,
-    pub(crate) printed: &'a str,
+struct Case<'a> {
+    image: &'a str,
+    words: &'a str,
+    printed: &'a str,
 }
 
 /// The words between spaces.
@@ -74,18 +68,12 @@ fn run_with(alloc: Global, case: &Case<'_>, room: u64, failing: u64) -> Result<(
     Ok((status.code, sink.bytes() == case.printed.as_bytes()))
 }
 
-/// The same with enough room and no write that fails.
-pub(crate) fn run_case(alloc: Global, case: &Case<'_>) -> Result<(u8, bool), Fail> {
-    run_with(alloc, case, 4096, 0)
-}
-
 #[test]
 fn runs_and_refuses(rt: HostRuntime) -> Result<(), Fail> {
     let cases = [
         (SMALLEST, "run a - - 100", 0, PRINTED),
         (SMALLEST, "run a - - 5", 0, PRINTED),
         (SMALLEST, "run a - - 0000000000", 0, AT_ONCE),
-        (NOT_BUILT, "run a - - 10", 4, UNBUILT),
         (SMALLEST, "run b - - 10", 5, "#read\n"),
         (SMALLEST, "run a", 1, "#words\n"),
         (SMALLEST, "run a - - 10000000", 0, PRINTED),
@@ -124,7 +112,11 @@ fn runs_and_refuses(rt: HostRuntime) -> Result<(), Fail> {
             words,
             printed,
         };
-        assert_eq!(rt; run_case(rt.alloc(), &case)?, (code, true), "at {words}");
+        assert_eq!(rt;
+            run_with(rt.alloc(), &case, 4096, 0)?,
+            (code, true),
+            "at {words}"
+        );
     }
     Ok(())
 }
@@ -140,8 +132,22 @@ fn first_lines(alloc: Global, text: &str, count: usize) -> Result<String, Fail> 
 }
 
 #[test]
-fn failing_writes_leave_the_lines_before(rt: HostRuntime) -> Result<(), Fail> {
-    for (failing, lines) in [(1, 0), (2, 1), (3, 2), (4, 3), (5, 4)] {
+fn writes_that_fail_leave_the_lines_before(rt: HostRuntime) -> Result<(), Fail> {
+    // A line for which there is no room is not begun: `#out 41` and its line feed are eight bytes, the line of the
+    // drained point is forty.
+    let cases = [
+        (4096, 1, 0),
+        (4096, 2, 1),
+        (4096, 3, 2),
+        (4096, 4, 3),
+        (4096, 5, 4),
+        (0, 0, 0),
+        (7, 0, 0),
+        (8, 0, 1),
+        (47, 0, 1),
+        (48, 0, 2),
+    ];
+    for (room, failing, lines) in cases {
         let printed = first_lines(rt.alloc(), PRINTED, lines)?;
         let case = Case {
             image: SMALLEST,
@@ -149,28 +155,9 @@ fn failing_writes_leave_the_lines_before(rt: HostRuntime) -> Result<(), Fail> {
             printed: &printed,
         };
         assert_eq!(rt;
-            run_with(rt.alloc(), &case, 4096, failing)?,
+            run_with(rt.alloc(), &case, room, failing)?,
             (6, true),
-            "at {failing}"
-        );
-    }
-    Ok(())
-}
-
-#[test]
-fn a_line_for_which_there_is_no_room_is_not_begun(rt: HostRuntime) -> Result<(), Fail> {
-    // `#out 41` and its line feed are eight bytes, the line of the drained point is forty.
-    for (room, lines) in [(0, 0), (7, 0), (8, 1), (47, 1), (48, 2)] {
-        let printed = first_lines(rt.alloc(), PRINTED, lines)?;
-        let case = Case {
-            image: SMALLEST,
-            words: "run a - - 100",
-            printed: &printed,
-        };
-        assert_eq!(rt;
-            run_with(rt.alloc(), &case, room, 0)?,
-            (6, true),
-            "with {room}"
+            "with {room} at {failing}"
         );
     }
     Ok(())

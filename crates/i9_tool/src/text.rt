@@ -6,10 +6,8 @@ ghost use Rattle.i9_tool.specs.CommandLine.{refused_line};
 ghost use Rattle.i9_text.specs.Written.{word_text, byte_text};
 ghost use Rattle.i9_model.specs.PrintedText.{out_text, point_text, drained_text, words_text, spaced, end_text, point_shown, shown_text, line_feed};
 ghost use Rattle.i9_machine.specs.Line.{shown_of};
-ghost use Rattle.i9_hex.specs.Reading.{place_of};
 ghost use Rattle.i9_tool.specs.Print.{IsLine, AreLines};
 
-use i9_hex::HexFault;
 use i9_machine::{End, Line, Point};
 use i9_model::View;
 use std::alloc::{AllocError, Global};
@@ -142,15 +140,22 @@ fn one(alloc: Global, text: Vec<u8>) -> Result<Vec<Vec<u8>>, AllocError>
     Ok(lines)
 }
 
-/// The line of a refused image.
+/// The line of a refused image or source, with its first line at fault and its kind.
 #[tactic(auto, unfolding(crate::specs::CommandLine::refused_line))]
-pub(crate) fn refused_line(alloc: Global, fault: &HexFault) -> Result<Vec<u8>, AllocError>
-    ensures { IfOk result (λ t. t.items ≡ refused_line (place_of fault.now)) }
+pub(crate) fn refused_line(
+    alloc: Global,
+    what: &[u8],
+    line: u64,
+    kind: u8,
+) -> Result<Vec<u8>, AllocError>
+    ensures { IfOk result (λ t. t.items ≡ refused_line what.now (line, kind)) }
 {
-    let mut text = Vec::from_slice(alloc, b"#image line ")?;
-    add_count(alloc, &mut text, fault.line)?;
+    let mut text = Vec::from_slice(alloc, b"#")?;
+    text.extend_from_slice(what)?;
+    text.extend_from_slice(b" line ")?;
+    add_count(alloc, &mut text, line)?;
     text.extend_from_slice(b" kind ")?;
-    add_count(alloc, &mut text, u64::from(fault.kind))?;
+    add_count(alloc, &mut text, u64::from(kind))?;
     text.push(b'\n')?;
     Ok(text)
 }

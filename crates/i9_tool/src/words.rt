@@ -1,10 +1,10 @@
 //! The words of the command.
-ghost use Rattle.std.specs.Prelude.{◌≡◌, ◌≤◌, ◌<◌, IfSome, map};
+ghost use Rattle.std.specs.Prelude.{◌≡◌, ◌≤◌, ◌<◌, ◌∷◌, [], IfSome, map};
 ghost use Rattle.std.specs.Option.{option_map};
 ghost use Rattle.std.specs.String.{string_bytes};
 ghost use Rattle.i9_model.specs.declared.layout.TheConstants.{MAX_LENGTH};
-ghost use Rattle.i9_tool.specs.CommandLine.{sets_for, command_of};
-ghost use Rattle.i9_tool.specs.Words.{asked_by, AreFew};
+ghost use Rattle.i9_tool.specs.CommandLine.{sets_for, command_of, file_of};
+ghost use Rattle.i9_tool.specs.Words.{run_by, asked_by, AreFew, CanRun, Fits};
 
 use i9_model::layout::{MAX_LENGTH, MOST_SETS};
 use i9_text::number;
@@ -16,6 +16,25 @@ pub(crate) struct RunWords<'a> {
     pub(crate) image: &'a str,
     pub(crate) sets: Option<u8>,
     pub(crate) limit: u64,
+}
+
+/// What the words ask for: to run an image, or to assemble the source of this name.
+#[derive(Clone, Copy, Debug)]
+pub(crate) enum Asked<'a> {
+    Run(RunWords<'a>),
+    Asm(&'a str),
+}
+
+impl<'a> Asked<'a> {
+    /// The name of the file that is read.
+    pub(crate) fn file(&self) -> &'a str
+        ensures { result.now ≡ file_of (asked_by self.now) }
+    {
+        match self {
+            Asked::Run(run) => run.image,
+            Asked::Asm(source) => source,
+        }
+    }
 }
 
 /// The number of sets that a word asks for, of which `-` asks for none.
@@ -34,17 +53,19 @@ fn sets_asked(word: &str) -> Option<Option<u8>>
     Some(Some(n as u8))
 }
 
-/// What the words ask for, where they are in a form of the command.
+/// What `run` asks for with these words behind it, where they are in its form.
 #[tactic(auto, unfolding(crate::specs::CommandLine::command_of))]
-pub(crate) fn asked(words: &[String]) -> Option<RunWords<'_>>
-    ensures asked { option_map asked_by result ≡ command_of (map string_bytes words.now) }
-    ensures few { IfSome result (λ run. AreFew run.sets) }
-    ensures short { IfSome result (λ run. run.limit ≤ MAX_LENGTH) }
+fn run_asked<'a>(
+    name: &str,
+    image: &'a str,
+    schedule: &str,
+    sets: &str,
+    limit: &str,
+) -> Option<RunWords<'a>>
+    ensures asked { option_map run_by result ≡ command_of (name.now ∷ image.now ∷ schedule.now ∷ sets.now ∷ limit.now ∷ []) }
+    ensures can { IfSome result CanRun }
 {
-    let [name, image, schedule, sets, limit] = words else {
-        return None;
-    };
-    if name.as_str() != "run" || image.is_empty() || schedule.as_str() != "-" {
+    if name != "run" || image.is_empty() || schedule != "-" {
         return None;
     }
     let sets = sets_asked(sets)?;
@@ -52,6 +73,32 @@ pub(crate) fn asked(words: &[String]) -> Option<RunWords<'_>>
     if limit > MAX_LENGTH {
         return None;
     }
-    let image = image.as_str();
     Some(RunWords { image, sets, limit })
+}
+
+/// The source that `asm` asks for, where the words are in its form.
+#[tactic(auto, unfolding(crate::specs::CommandLine::command_of))]
+fn asm_asked<'a>(name: &str, source: &'a str) -> Option<Asked<'a>>
+    ensures { option_map asked_by result ≡ command_of (name.now ∷ source.now ∷ []) }
+{
+    if name != "asm" || source.is_empty() {
+        return None;
+    }
+    Some(Asked::Asm(source))
+}
+
+/// What the words ask for, where they are in a form of the command.
+#[tactic(auto, unfolding(crate::specs::CommandLine::command_of))]
+pub(crate) fn read_words(words: &[String]) -> Option<Asked<'_>>
+    ensures asked { option_map asked_by result ≡ command_of (map string_bytes words.now) }
+    ensures fits { IfSome result Fits }
+{
+    match words {
+        [name, source] => asm_asked(name, source),
+        [name, image, schedule, sets, limit] => {
+            let run = run_asked(name, image, schedule, sets, limit)?;
+            Some(Asked::Run(run))
+        }
+        _ => None,
+    }
 }
