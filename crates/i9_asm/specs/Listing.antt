@@ -10,7 +10,7 @@ use Rattle.i9_decode.specs.Ignored.{ignored_bits}
 use Rattle.i9_model.specs.Image.{Part}
 use Rattle.i9_text.specs.Text.{space}
 use Rattle.i9_text.specs.Written.{word_text, byte_text}
-use Rattle.i9_statement.specs.Printed.{hex_text, hex_byte_text}
+use Rattle.i9_value.specs.NumberText.{hex_text, hex_byte_text}
 use Rattle.i9_statement.specs.Statements.{statement_text}
 use Rattle.i9_statement.specs.Codes.{taken}
 use Rattle.i9_asm.specs.Lines.{hash}

@@ -1,6 +1,6 @@
 //! Lines of a source, read by hand.
 use crate::{Said, Width, listings_assemble, one_answer, read_line};
-use i9_statement::Fault;
+use i9_value::Fault;
 use std::test::Fail;
 
 // A line, its label, and what it says behind it.

@@ -1,8 +1,7 @@
 //! Statements against words that were worked out by hand from the instruction formats.
 use crate::{
-    Fault, Names, Statement, Value, add_hex, add_statement, code_of, cut_blank, cut_where,
-    fields_of, is_name, least, lookup, settled, split_field, statement_of, statements_read_back,
-    value_of, words_are_one,
+    Fault, Names, Statement, add_statement, code_of, fields_of, split_field, statement_of,
+    statements_read_back, words_are_one,
 };
 use i9_decode::{decode, spare_bits};
 use std::alloc::Global;
@@ -249,52 +248,14 @@ fn refuses(rt: HostRuntime) -> Result<(), Fail> {
     Ok(())
 }
 
+// The operands of a text, and the laws.
 #[test]
-fn reads_parts(rt: HostRuntime) -> Result<(), Fail> {
-    let names = names(rt.alloc())?;
-    let longest = [b'a'; 63];
-    let longer = [b'a'; 64];
-    let rows: [(&[u8], bool); 10] = [
-        (b"", false),
-        (b"_9", true),
-        (b"9a", false),
-        (b"a-b", false),
-        (b"g15", false),
-        (b"g16", true),
-        (b"ip", false),
-        (b"IP", true),
-        (&longest, true),
-        (&longer, false),
-    ];
-    for (text, is) in rows {
-        assert_eq!(rt; is_name(text), is);
-    }
-    let far = b"far".as_slice();
-    assert!(rt; is_name(far));
-    assert_eq!(rt; lookup(&names, far), Some(0xE000_0000));
-    assert_eq!(rt; value_of(&names, b"far-1"), Some(Value::Named(0xDFFF_FFFF)));
-    assert_eq!(rt; value_of(&names, b"-1"), Some(Value::Number(0xFFFF_FFFF)));
-    assert_eq!(rt; value_of(&names, b"g4"), None);
-    assert_eq!(rt; settled(value_of(&names, b"far")).value, 0xE000_0000);
-    assert_eq!(rt; settled(None).fault, Some(Fault::Form));
-    assert_eq!(rt; cut_blank(b"ab\tc"), (b"ab".as_slice(), b"\tc".as_slice()));
-    assert_eq!(rt;
-        cut_where(b"ab:c", |byte| byte == b':'),
-        (b"ab".as_slice(), b":c".as_slice())
-    );
+fn cuts_operands(rt: HostRuntime) -> Result<(), Fail> {
     assert_eq!(rt; fields_of(b" \t"), None);
     assert_eq!(rt;
         split_field(b" 1 , g4"),
         (b"1".as_slice(), Some(b" g4".as_slice()))
     );
-    assert_eq!(rt;
-        least(Some(Fault::Target), Some(Fault::Range)),
-        Some(Fault::Range)
-    );
-    assert_eq!(rt; Fault::TooMany.kind(), 8);
-    let mut text = Vec::new(rt.alloc());
-    add_hex(rt.alloc(), &mut text, 0xABC)?;
-    assert_eq!(rt; text.as_slice(), b"0x00000ABC".as_slice());
     statements_read_back();
     words_are_one();
     Ok(())
