@@ -93,4 +93,5 @@ org_line a = codes ".org " ++ hex_text a
 pub data ListsAll : List Part → List (List ℕ) → Type 0 where
   lists_all : ListsAll [] []
   lists_run : (a : ℕ) (bs : List ℕ) (runs : List Part) (lines more : List (List ℕ))
-      → Lists a bs lines → ListsAll runs more → ListsAll (record { address = a; bytes = bs } ∷ runs) (org_line a ∷ (lines ++ more))
+      → Lists a bs lines → ListsAll runs more
+      → ListsAll (record { address = a; bytes = bs } ∷ runs) (org_line a ∷ (lines ++ more))

@@ -15,7 +15,9 @@ use Rattle.i9_asm.specs.Lines.{Item, Empty, Bad, Org, Space, Align, Set, Data, A
 use Rattle.i9_asm.specs.Strings.{string_of}
 use Rattle.i9_model.specs.Image.{Part}
 use Rattle.i9_hex.specs.Put.{with_part}
-use Rattle.i9_asm.specs.Places.{is_ascii, if_holds, space_of, alignment_of, Place, address_at, past_label, past_line, start_place, size_of, moved_to}
+use Rattle.i9_asm.specs.Places.{
+  is_ascii, if_holds, space_of, alignment_of, Place, address_at, past_label, past_line, start_place, size_of, moved_to
+}
 
 -- ---- bytes
 
@@ -39,7 +41,8 @@ zeros (suc n) = 0 ∷ zeros n
 -- the bytes that an item gives at a place, by cases
 pub data Gives (names : Names) (p : Place) : Item → List ℕ → Type 0 where
   gives_nothing : Gives names p Empty []
-  gives_instruction : (s ws : List ℕ) → Stands names (address_at p) s ws → Gives names p (Instruction s) (flat_map (to_le_bytes w32) ws)
+  gives_instruction : (s ws : List ℕ) → Stands names (address_at p) s ws
+      → Gives names p (Instruction s) (flat_map (to_le_bytes w32) ws)
   gives_data : (width : ℕ) (fs : List (List ℕ))
       → Gives names p (Data width fs) (flat_map (λ f. low_bytes width (data_value width (value_of names f)).value) fs)
   gives_characters : (s cs : List ℕ) → string_of s ≡ Some cs → Gives names p (Ascii s) cs

@@ -12,9 +12,7 @@ use crate::operands::NO_OPERAND;
 use i9_decode::spare_bits;
 use i9_isa::{Inst, NO_ADDRESS, Op};
 use i9_text::{number, split_word};
-use i9_value::{
-    Fault, Names, Noted, behind, closed, cut_blank, cut_byte, fine, least, wrong,
-};
+use i9_value::{Fault, Names, Noted, behind, closed, cut_blank, cut_byte, fine, least, wrong};
 
 /// Digits between braces.
 fn braced(word: &[u8]) -> Option<u32>

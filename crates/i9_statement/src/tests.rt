@@ -1,12 +1,161 @@
 //! Statements against words that were worked out by hand from the instruction formats.
 use crate::{
-    Fault, Names, Statement, add_statement, code_of, fields_of, split_field, statement_of,
+    Names, Statement, add_statement, code_of, fields_of, split_field, statement_of,
     statements_read_back, words_are_one,
 };
 use i9_decode::{decode, spare_bits};
 use std::alloc::Global;
 use std::collections::BTreeMap;
 use std::test::Fail;
+
+/// Statements as they are printed. A row has an address, one word or two, and the statement.
+const PRINTED: &str = "0 5CA00E07: mov 7, g4
+0 5C200E05: mov 5, r4
+0 5C102E01: mov 1, sf2
+0 5C000621: mov sf1, pfp
+0 59B58901: subo 1, g6, g6
+0 59A09801: addo 1, 2, g4
+0 581FD800: notbit 0, 31, r3
+0 5DB00604: movl r4, g6
+0 5FE00E1F: movq 31, g12
+0 67B5089F: ediv 31, g4, g6
+0 5A07C800: cmpo 0, fp
+0 65314284: modpc r4, r5, r6
+0 63450801: sdma 1, g4, r8
+0 6600081F: calls 31
+0 66000780: syncf
+0 24800000: testl g0
+0 0A000000: ret
+0 18000000: faultno
+0 8CA00041: lda 65, g4
+0 8CA00000: lda 0, g4
+0 8CA00FFF: lda 4095, g4
+0 8CA03000 00000000: lda !0x00000000, g4
+0 8CA03000 00000FFF: lda !0x00000FFF, g4
+0 8CA03000 00001000: lda 0x00001000, g4
+0 8CA83000 E0000000: lda 0xE0000000, g5
+0 82A56000: stob g4, (g5)
+0 92A56004: st g4, 4(g5)
+0 90A02010: ld 16(pfp), g4
+0 88106FFF: ldos 4095(sp), rip
+0 90A55000: ld !(g5), g4
+0 98A57400 00000000: ldl !0x00000000(g5), g4
+0 B0A57400 00000FFF: ldq !0x00000FFF(g5), g4
+0 A0A57400 00001000: ldt 0x00001000(g5), g4
+0 B2A01400 00000008: stq g4, 0x00000008(ip)
+0 90B51D15: ld (g4)[g5*4], g6
+0 C0B03A15 00000000: ldib 0x00000000[g5*16], g6
+0 C8B53C15 FFFFFFFF: ldis 0xFFFFFFFF(g4)[g5*1], g6
+0 CA1FFC8F 00000020: stis r3, 0x00000020(fp)[r15*2]
+0 85F51D95: balx (g4)[g5*8], g14
+0 8407A000: bx (g14)
+0 86003000 00001000: callx 0x00001000
+0 66003E80: flushreg {3800}
+0 0AFFFFFF: ret {FFFFFF}
+0 5CA00E47: mov 7, g4 {40}
+0 90B51D75: ld (g4)[g5*4], g6 {60}
+1000 08000010: b 0x00001010
+1000 1200000A: be.f 0x00001008
+1008 3505BFF8: cmpobne 0, g6, 0x00001000
+1000 37F8AFFF: bbs.f 31, sf2, 0x00001FFC
+1000 3FA55000: cmpibo g4, g5, 0x00000000
+800000 08800000: b 0x00000000
+1000 097FFFFC: call 0x00800FFC
+FFFFFFFC 0B000004: bal 0x00000000
+0 10FFFFFC: bno 0xFFFFFFFC";
+
+/// Statements in other forms than they are printed in.
+const OTHER_FORMS: &str = "0 5CA00E07: mov\t7 ,\tg4 
+0 5C080600: mov r0, r1
+0 5CF80602: mov r2, g15
+0 5CA00E00: mov -0, g4
+0 5CA00E1F: mov 0x1F, g4
+0 5CA00E1F: mov 00031, g4
+0 5CA00E05: mov n, g4
+0 59A7D800: addo n-5, n+0x1A, g4
+0 8CA00041: lda 0x41, g4
+0 8CA56FFF: lda 0x0fff(g5), g4
+0 8CA03000 00001000: lda 4096, g4
+0 8CA03000 FFFFFFFF: lda -1, g4
+0 8CA03000 80000000: lda -2147483648, g4
+0 8CA57400 FFFFFFFF: lda 4294967295(g5), g4
+0 8CA03000 00000005: lda n, g4
+0 8CA57400 00000005: lda n(g5), g4
+0 8CA03000 DFFFFFFF: lda far-0x1, g4
+0 90A56000: ld 0(g5), g4
+0 90A01400 FFFFFFFC: ld -4(ip), g4
+0 90A03895 00000005: ld n[g5*2], g4
+0 90A57400 00000000: ld !0(g5), g4
+1000 12000008: be.t start+8
+1000 08000000: b start
+FFC 322DA004: cmpobe.t n, g6, start
+0 66003E80: flushreg\t{003800}
+0 0A000000: ret {0}
+0 5CA00E47: mov 7, g4{40}";
+
+/// Statements at address 0 that are refused, and their kind: of several faults the least.
+const REFUSED: &str = "1: frob 1
+1: MOV 1, g4
+1: mov.f 1, g4
+1: ret.t
+1: be.x 0
+1: {3800}
+1: flushreg{3800}
+2: mov 1
+2: mov 1, g4, g5
+2: mov 1,, g4
+2: mov 1 2, g4
+2: syncf g4
+2: mov 1, 5
+2: mov +5, g4
+2: mov n+-5, g4
+2: mov 0x, g4
+2: mov 0x123456789, g4
+5: mov R4, g4
+5: mov sf3, g4
+2: ld g5, g4
+2: ld (g4, g6
+2: ld (ip), g6
+2: ld 4 (g4), g6
+2: ld (g4)[g5*3], g6
+2: ld 4(ip)[g5*4], g6
+2: ld !(g4)[g5*4], g6
+2: ld !4(ip), g6
+2: b g4
+2: flushreg { 3800 }
+2: flushreg {}
+2: flushreg {123456789}
+2: flushreg {80}
+2: flushreg {3800} {0}
+3: movl g5, g6
+3: movl g4, g7
+3: movq g4, g6
+3: movl sf0, g4
+3: modify g4, g5, sf1
+3: cmpobe sf0, g4, 0
+3: testl sf0
+3: ld 4(g5), sf0
+3: ld (sf0), g4
+3: ld (g4)[sf2*1], g6
+3: stl g5, (g4)
+4: mov 32, g4
+4: mov -1, g4
+4: lda 4294967296, g4
+4: lda -2147483649, g4
+4: lda n+4294967296, g4
+4: b 99999999999999999999
+5: mov nowhere, g4
+5: lda nowhere-5(g4), g4
+5: b nowhere
+7: b 2
+7: b 0x00800000
+7: b 0xFF7FFFFC
+7: cmpobe 0, g4, 0x00001000
+7: cmpobe 0, g4, 0xFFFFEFFC
+2: mov 32, g5, g6
+3: movl nowhere, g5
+4: lda nowhere+4294967296, g4
+5: cmpobe nowhere, g4, 2";
 
 /// `n` is 5, `start` is 1000 and `far` is E0000000.
 fn names(alloc: Global) -> Result<Names, Fail> {
@@ -17,20 +166,41 @@ fn names(alloc: Global) -> Result<Names, Fail> {
     Ok(names)
 }
 
-/// The words of a statement at an address, or its fault.
-fn words(names: &Names, ip: u32, text: &[u8]) -> Result<(u32, Option<u32>), Fault> {
-    let read = statement_of(ip, names, text);
-    match read.fault {
-        Some(fault) => Err(fault),
-        None => {
-            let code = code_of(&read.value);
-            Ok((code.first, code.second))
-        }
+/// The words of a statement at an address, or the kind of its fault.
+fn words(alloc: Global, names: &Names, ip: u32, text: &str) -> Result<String, Fail> {
+    let read = statement_of(ip, names, text.as_bytes());
+    if let Some(fault) = read.fault {
+        return Ok(format!(in alloc; "{}", fault.kind())?);
+    }
+    let code = code_of(&read.value);
+    let first = code.first;
+    match code.second {
+        Some(second) => Ok(format!(in alloc; "{first:08X} {second:08X}")?),
+        None => Ok(format!(in alloc; "{first:08X}")?),
     }
 }
 
-/// The statement of two words at an address.
-fn printed(alloc: Global, ip: u32, first: u32, second: u32) -> Result<Vec<u8>, Fail> {
+/// Whether the statement of a row has its words at its address.
+fn is_read(alloc: Global, names: &Names, row: &str) -> Result<bool, Fail> {
+    let Some((place, text)) = row.split_once(": ") else {
+        return Ok(false);
+    };
+    match place.split_once(" ") {
+        Some((ip, wanted)) => {
+            let ip = u32::from_str_radix(ip, 16)?;
+            Ok(words(alloc, names, ip, text)?.as_str() == wanted)
+        }
+        None => Ok(false),
+    }
+}
+
+/// The statement of the words of a row at an address. Where the second word counts for nothing, it is
+/// missing in the row.
+fn printed(alloc: Global, ip: &str, words: &str) -> Result<Vec<u8>, Fail> {
+    let (first, second) = words.split_once(" ").unwrap_or((words, "DEADBEEF"));
+    let first = u32::from_str_radix(first, 16)?;
+    let second = u32::from_str_radix(second, 16)?;
+    let ip = u32::from_str_radix(ip, 16)?;
     let mut text = Vec::new(alloc);
     match decode(first, second) {
         Ok(inst) => {
@@ -42,208 +212,49 @@ fn printed(alloc: Global, ip: u32, first: u32, second: u32) -> Result<Vec<u8>, F
     }
 }
 
-// An address, a statement as it is printed, and its words.
+/// Whether the words of a row print as its statement at its address.
+fn is_printed(alloc: Global, row: &str) -> Result<bool, Fail> {
+    let Some((place, text)) = row.split_once(": ") else {
+        return Ok(false);
+    };
+    match place.split_once(" ") {
+        Some((ip, words)) => Ok(printed(alloc, ip, words)?.as_slice() == text.as_bytes()),
+        None => Ok(false),
+    }
+}
+
+/// Whether the statement of a row is refused for its kind.
+fn is_refused(alloc: Global, names: &Names, row: &str) -> Result<bool, Fail> {
+    match row.split_once(": ") {
+        Some((kind, text)) => Ok(words(alloc, names, 0, text)?.as_str() == kind),
+        None => Ok(false),
+    }
+}
+
 #[test]
 fn reads_and_prints(rt: HostRuntime) -> Result<(), Fail> {
     let names = names(rt.alloc())?;
-    let rows: [(u32, &[u8], u32, Option<u32>); 54] = [
-        (0, b"mov 7, g4", 0x5CA0_0E07, None),
-        (0, b"mov 5, r4", 0x5C20_0E05, None),
-        (0, b"mov 1, sf2", 0x5C10_2E01, None),
-        (0, b"mov sf1, pfp", 0x5C00_0621, None),
-        (0, b"subo 1, g6, g6", 0x59B5_8901, None),
-        (0, b"addo 1, 2, g4", 0x59A0_9801, None),
-        (0, b"notbit 0, 31, r3", 0x581F_D800, None),
-        (0, b"movl r4, g6", 0x5DB0_0604, None),
-        (0, b"movq 31, g12", 0x5FE0_0E1F, None),
-        (0, b"ediv 31, g4, g6", 0x67B5_089F, None),
-        (0, b"cmpo 0, fp", 0x5A07_C800, None),
-        (0, b"modpc r4, r5, r6", 0x6531_4284, None),
-        (0, b"sdma 1, g4, r8", 0x6345_0801, None),
-        (0, b"calls 31", 0x6600_081F, None),
-        (0, b"syncf", 0x6600_0780, None),
-        (0, b"testl g0", 0x2480_0000, None),
-        (0, b"ret", 0x0A00_0000, None),
-        (0, b"faultno", 0x1800_0000, None),
-        (0, b"lda 65, g4", 0x8CA0_0041, None),
-        (0, b"lda 0, g4", 0x8CA0_0000, None),
-        (0, b"lda 4095, g4", 0x8CA0_0FFF, None),
-        (0, b"lda !0x00000000, g4", 0x8CA0_3000, Some(0x0000_0000)),
-        (0, b"lda !0x00000FFF, g4", 0x8CA0_3000, Some(0x0000_0FFF)),
-        (0, b"lda 0x00001000, g4", 0x8CA0_3000, Some(0x0000_1000)),
-        (0, b"lda 0xE0000000, g5", 0x8CA8_3000, Some(0xE000_0000)),
-        (0, b"stob g4, (g5)", 0x82A5_6000, None),
-        (0, b"st g4, 4(g5)", 0x92A5_6004, None),
-        (0, b"ld 16(pfp), g4", 0x90A0_2010, None),
-        (0, b"ldos 4095(sp), rip", 0x8810_6FFF, None),
-        (0, b"ld !(g5), g4", 0x90A5_5000, None),
-        (
-            0,
-            b"ldl !0x00000000(g5), g4",
-            0x98A5_7400,
-            Some(0x0000_0000),
-        ),
-        (
-            0,
-            b"ldq !0x00000FFF(g5), g4",
-            0xB0A5_7400,
-            Some(0x0000_0FFF),
-        ),
-        (0, b"ldt 0x00001000(g5), g4", 0xA0A5_7400, Some(0x0000_1000)),
-        (0, b"stq g4, 0x00000008(ip)", 0xB2A0_1400, Some(0x0000_0008)),
-        (0, b"ld (g4)[g5*4], g6", 0x90B5_1D15, None),
-        (
-            0,
-            b"ldib 0x00000000[g5*16], g6",
-            0xC0B0_3A15,
-            Some(0x0000_0000),
-        ),
-        (
-            0,
-            b"ldis 0xFFFFFFFF(g4)[g5*1], g6",
-            0xC8B5_3C15,
-            Some(0xFFFF_FFFF),
-        ),
-        (
-            0,
-            b"stis r3, 0x00000020(fp)[r15*2]",
-            0xCA1F_FC8F,
-            Some(0x0000_0020),
-        ),
-        (0, b"balx (g4)[g5*8], g14", 0x85F5_1D95, None),
-        (0, b"bx (g14)", 0x8407_A000, None),
-        (0, b"callx 0x00001000", 0x8600_3000, Some(0x0000_1000)),
-        (0, b"flushreg {3800}", 0x6600_3E80, None),
-        (0, b"ret {FFFFFF}", 0x0AFF_FFFF, None),
-        (0, b"mov 7, g4 {40}", 0x5CA0_0E47, None),
-        (0, b"ld (g4)[g5*4], g6 {60}", 0x90B5_1D75, None),
-        (0x1000, b"b 0x00001010", 0x0800_0010, None),
-        (0x1000, b"be.f 0x00001008", 0x1200_000A, None),
-        (0x1008, b"cmpobne 0, g6, 0x00001000", 0x3505_BFF8, None),
-        (0x1000, b"bbs.f 31, sf2, 0x00001FFC", 0x37F8_AFFF, None),
-        (0x1000, b"cmpibo g4, g5, 0x00000000", 0x3FA5_5000, None),
-        (0x0080_0000, b"b 0x00000000", 0x0880_0000, None),
-        (0x1000, b"call 0x00800FFC", 0x097F_FFFC, None),
-        (0xFFFF_FFFC, b"bal 0x00000000", 0x0B00_0004, None),
-        (0, b"bno 0xFFFFFFFC", 0x10FF_FFFC, None),
-    ];
-    for (ip, text, first, second) in rows {
-        assert_eq!(rt; words(&names, ip, text), Ok((first, second)));
-        let again = printed(rt.alloc(), ip, first, second.unwrap_or(0xDEAD_BEEF))?;
-        assert_eq!(rt; again.as_slice(), text);
+    for row in PRINTED.lines() {
+        assert!(rt; is_read(rt.alloc(), &names, row)?, "{row}");
+        assert!(rt; is_printed(rt.alloc(), row)?, "{row}");
     }
     Ok(())
 }
 
-// Statements in other forms than they are printed in.
 #[test]
 fn reads_other_forms(rt: HostRuntime) -> Result<(), Fail> {
     let names = names(rt.alloc())?;
-    let rows: [(u32, &[u8], u32, Option<u32>); 27] = [
-        (0, b"mov\t7 ,\tg4 ", 0x5CA0_0E07, None),
-        (0, b"mov r0, r1", 0x5C08_0600, None),
-        (0, b"mov r2, g15", 0x5CF8_0602, None),
-        (0, b"mov -0, g4", 0x5CA0_0E00, None),
-        (0, b"mov 0x1F, g4", 0x5CA0_0E1F, None),
-        (0, b"mov 00031, g4", 0x5CA0_0E1F, None),
-        (0, b"mov n, g4", 0x5CA0_0E05, None),
-        (0, b"addo n-5, n+0x1A, g4", 0x59A7_D800, None),
-        (0, b"lda 0x41, g4", 0x8CA0_0041, None),
-        (0, b"lda 0x0fff(g5), g4", 0x8CA5_6FFF, None),
-        (0, b"lda 4096, g4", 0x8CA0_3000, Some(0x0000_1000)),
-        (0, b"lda -1, g4", 0x8CA0_3000, Some(0xFFFF_FFFF)),
-        (0, b"lda -2147483648, g4", 0x8CA0_3000, Some(0x8000_0000)),
-        (0, b"lda 4294967295(g5), g4", 0x8CA5_7400, Some(0xFFFF_FFFF)),
-        (0, b"lda n, g4", 0x8CA0_3000, Some(0x0000_0005)),
-        (0, b"lda n(g5), g4", 0x8CA5_7400, Some(0x0000_0005)),
-        (0, b"lda far-0x1, g4", 0x8CA0_3000, Some(0xDFFF_FFFF)),
-        (0, b"ld 0(g5), g4", 0x90A5_6000, None),
-        (0, b"ld -4(ip), g4", 0x90A0_1400, Some(0xFFFF_FFFC)),
-        (0, b"ld n[g5*2], g4", 0x90A0_3895, Some(0x0000_0005)),
-        (0, b"ld !0(g5), g4", 0x90A5_7400, Some(0x0000_0000)),
-        (0x1000, b"be.t start+8", 0x1200_0008, None),
-        (0x1000, b"b start", 0x0800_0000, None),
-        (0xFFC, b"cmpobe.t n, g6, start", 0x322D_A004, None),
-        (0, b"flushreg\t{003800}", 0x6600_3E80, None),
-        (0, b"ret {0}", 0x0A00_0000, None),
-        (0, b"mov 7, g4{40}", 0x5CA0_0E47, None),
-    ];
-    for (ip, text, first, second) in rows {
-        assert_eq!(rt; words(&names, ip, text), Ok((first, second)));
+    for row in OTHER_FORMS.lines() {
+        assert!(rt; is_read(rt.alloc(), &names, row)?, "{row}");
     }
     Ok(())
 }
 
-// Statements at address 0 that are refused, the last ones for the least kind of several.
 #[test]
 fn refuses(rt: HostRuntime) -> Result<(), Fail> {
     let names = names(rt.alloc())?;
-    let rows: [(&[u8], Fault); 62] = [
-        (b"frob 1", Fault::UnknownMnemonic),
-        (b"MOV 1, g4", Fault::UnknownMnemonic),
-        (b"mov.f 1, g4", Fault::UnknownMnemonic),
-        (b"ret.t", Fault::UnknownMnemonic),
-        (b"be.x 0", Fault::UnknownMnemonic),
-        (b"{3800}", Fault::UnknownMnemonic),
-        (b"flushreg{3800}", Fault::UnknownMnemonic),
-        (b"mov 1", Fault::Form),
-        (b"mov 1, g4, g5", Fault::Form),
-        (b"mov 1,, g4", Fault::Form),
-        (b"mov 1 2, g4", Fault::Form),
-        (b"syncf g4", Fault::Form),
-        (b"mov 1, 5", Fault::Form),
-        (b"mov +5, g4", Fault::Form),
-        (b"mov n+-5, g4", Fault::Form),
-        (b"mov 0x, g4", Fault::Form),
-        (b"mov 0x123456789, g4", Fault::Form),
-        (b"mov R4, g4", Fault::UnknownName),
-        (b"mov sf3, g4", Fault::UnknownName),
-        (b"ld g5, g4", Fault::Form),
-        (b"ld (g4, g6", Fault::Form),
-        (b"ld (ip), g6", Fault::Form),
-        (b"ld 4 (g4), g6", Fault::Form),
-        (b"ld (g4)[g5*3], g6", Fault::Form),
-        (b"ld 4(ip)[g5*4], g6", Fault::Form),
-        (b"ld !(g4)[g5*4], g6", Fault::Form),
-        (b"ld !4(ip), g6", Fault::Form),
-        (b"b g4", Fault::Form),
-        (b"flushreg { 3800 }", Fault::Form),
-        (b"flushreg {}", Fault::Form),
-        (b"flushreg {123456789}", Fault::Form),
-        (b"flushreg {80}", Fault::Form),
-        (b"flushreg {3800} {0}", Fault::Form),
-        (b"movl g5, g6", Fault::Register),
-        (b"movl g4, g7", Fault::Register),
-        (b"movq g4, g6", Fault::Register),
-        (b"movl sf0, g4", Fault::Register),
-        (b"modify g4, g5, sf1", Fault::Register),
-        (b"cmpobe sf0, g4, 0", Fault::Register),
-        (b"testl sf0", Fault::Register),
-        (b"ld 4(g5), sf0", Fault::Register),
-        (b"ld (sf0), g4", Fault::Register),
-        (b"ld (g4)[sf2*1], g6", Fault::Register),
-        (b"stl g5, (g4)", Fault::Register),
-        (b"mov 32, g4", Fault::Range),
-        (b"mov -1, g4", Fault::Range),
-        (b"lda 4294967296, g4", Fault::Range),
-        (b"lda -2147483649, g4", Fault::Range),
-        (b"lda n+4294967296, g4", Fault::Range),
-        (b"b 99999999999999999999", Fault::Range),
-        (b"mov nowhere, g4", Fault::UnknownName),
-        (b"lda nowhere-5(g4), g4", Fault::UnknownName),
-        (b"b nowhere", Fault::UnknownName),
-        (b"b 2", Fault::Target),
-        (b"b 0x00800000", Fault::Target),
-        (b"b 0xFF7FFFFC", Fault::Target),
-        (b"cmpobe 0, g4, 0x00001000", Fault::Target),
-        (b"cmpobe 0, g4, 0xFFFFEFFC", Fault::Target),
-        (b"mov 32, g5, g6", Fault::Form),
-        (b"movl nowhere, g5", Fault::Register),
-        (b"lda nowhere+4294967296, g4", Fault::Range),
-        (b"cmpobe nowhere, g4, 2", Fault::UnknownName),
-    ];
-    for (text, fault) in rows {
-        assert_eq!(rt; words(&names, 0, text), Err(fault));
+    for row in REFUSED.lines() {
+        assert!(rt; is_refused(rt.alloc(), &names, row)?, "{row}");
     }
     Ok(())
 }
