@@ -245,26 +245,26 @@ unfolding instruction_of faults both
 instruction_later ip op hint names fs =
     let r = row_of op in
     let a = take_operand r.a no_names fs in
-    let xa = take_operand r.a names fs in
+    let a' = take_operand r.a names fs in
     let b = take_operand r.b no_names a.1 in
-    let bs = take_operand r.b names xa.1 in
+    let b' = take_operand r.b names a'.1 in
     let first = take_operand (first_use r) no_names b.1 in
-    let firsts = take_operand (first_use r) names bs.1 in
+    let first' = take_operand (first_use r) names b'.1 in
     let ea = take_address r.format no_names first.1 in
-    let eas = take_address r.format names firsts.1 in
+    let ea' = take_address r.format names first'.1 in
     let disp = take_target r.disp ip r.format no_names ea.1 in
-    let disps = take_target r.disp ip r.format names eas.1 in
+    let disp' = take_target r.disp ip r.format names ea'.1 in
     let last = take_operand (last_use r) no_names disp.1 in
-    let lasts = take_operand (last_use r) names disps.1 in
+    let last' = take_operand (last_use r) names disp'.1 in
     let pa = operand_part r.a names fs fs refl in
-    let pb = operand_part r.b names a.1 xa.1 pa.rest in
-    let pfirst = operand_part (first_use r) names b.1 bs.1 pb.rest in
-    let pea = address_part r.format names first.1 firsts.1 pfirst.rest in
-    let pdisp = target_part r.disp ip r.format names ea.1 eas.1 pea.rest in
-    let plast = operand_part (last_use r) names disp.1 disps.1 pdisp.rest in
-    let left = faults (left_over last.1) (left_over lasts.1) (left_later last.1 lasts.1 plast.rest) in
-    let whole = both (faults a.0.fault xa.0.fault pa.late) (both (faults b.0.fault bs.0.fault pb.late) (both (faults first.0.fault firsts.0.fault pfirst.late)
-        (both (faults ea.0.fault eas.0.fault pea.ea.late) (both (faults disp.0.fault disps.0.fault pdisp.late) (both (faults last.0.fault lasts.0.fault plast.late) left))))) in
+    let pb = operand_part r.b names a.1 a'.1 pa.rest in
+    let pfirst = operand_part (first_use r) names b.1 b'.1 pb.rest in
+    let pea = address_part r.format names first.1 first'.1 pfirst.rest in
+    let pdisp = target_part r.disp ip r.format names ea.1 ea'.1 pea.rest in
+    let plast = operand_part (last_use r) names disp.1 disp'.1 pdisp.rest in
+    let left = faults (left_over last.1) (left_over last'.1) (left_later last.1 last'.1 plast.rest) in
+    let whole = both (faults a.0.fault a'.0.fault pa.late) (both (faults b.0.fault b'.0.fault pb.late) (both (faults first.0.fault first'.0.fault pfirst.late)
+    (both (faults ea.0.fault ea'.0.fault pea.ea.late) (both (faults disp.0.fault disp'.0.fault pdisp.late) (both (faults last.0.fault last'.0.fault plast.late) left))))) in
     record { op = refl; mode = pea.ea.mode; late = whole.late }
 
 -- ---- statements

@@ -15,9 +15,7 @@ use Rattle.i9_asm.specs.Lines.{Item, Empty, Bad, Org, Space, Align, Set, Data, A
 use Rattle.i9_asm.specs.Strings.{string_of}
 use Rattle.i9_model.specs.Image.{Part}
 use Rattle.i9_hex.specs.Put.{with_part}
-use Rattle.i9_asm.specs.Places.{
-  is_ascii, if_holds, space_of, alignment_of, Place, address_at, past_label, past_line, start_place, size_of, moved_to
-}
+use Rattle.i9_asm.specs.Places.{is_ascii, if_holds, space_of, alignment_of, Place, address_at, past_label, past_line, start_place, size_of, moved_to}
 
 -- ---- bytes
 
