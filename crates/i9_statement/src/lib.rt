@@ -28,6 +28,3 @@ pub use i9_value::{Fault, Names, Noted};
 pub use laws::{statements_read_back, words_are_one};
 pub use statement_text::add_statement;
 pub use statements::{Statement, statement_of};
-
-#[cfg(test)]
-mod tests;
