@@ -8,3 +8,5 @@ pub mod FieldLoops
 pub mod CharacterLoops
 pub mod GivenBytes
 pub mod TakenLines
+pub mod LaterNames
+pub mod CountedBytes

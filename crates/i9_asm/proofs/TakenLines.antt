@@ -4,10 +4,10 @@ use Rattle.std.specs.Prelude.{is_some, if◌then◌else◌}
 use Rattle.std.specs.Option.{option_map}
 use Rattle.std.specs.List.{list_all}
 use Rattle.i9_model.specs.Image.{Part}
-use Rattle.i9_statement.specs.declared.fault.Fault.{Fault}
-use Rattle.i9_statement.specs.declared.fault.Fault.TheVariants.{Form, NameTwice}
-use Rattle.i9_statement.specs.Noted.{kind_of, least}
-use Rattle.i9_statement.specs.Values.{Names, is_name}
+use Rattle.i9_value.specs.declared.fault.Fault.{Fault}
+use Rattle.i9_value.specs.declared.fault.Fault.TheVariants.{Form, NameTwice}
+use Rattle.i9_value.specs.Noted.{kind_of, least}
+use Rattle.i9_value.specs.Values.{Names, is_name}
 use Rattle.i9_asm.specs.declared.source.Source as code
 use Rattle.i9_asm.specs.declared.source.LineError.{LineError}
 use Rattle.i9_asm.specs.declared.source.LineError.TheVariants as lines
@@ -45,7 +45,7 @@ grows names s b t item is adds place segments address total sound =
 
 -- ---- a line
 
-least_left : (a b : Option Fault) → least a b ≡ None → a ≡ None
+pub least_left : (a b : Option Fault) → least a b ≡ None → a ≡ None
 least_left None b h = refl
 least_left (Some a) None h = absurd cc
 least_left (Some a) (Some b) h = by_first _ h
@@ -54,7 +54,7 @@ least_left (Some a) (Some b) h = by_first _ h
     by_first true h = absurd cc
     by_first false h = absurd cc
 
-least_right : (a b : Option Fault) → a ≡ None → least a b ≡ None → b ≡ None
+pub least_right : (a b : Option Fault) → a ≡ None → least a b ≡ None → b ≡ None
 least_right a b e h = rw e at h
 
 ascii_by : (b : Bool) → fault_if (not b) Form ≡ None → b ≡ true
@@ -70,7 +70,7 @@ label_by (Some name) known h = by_name (is_name name) h
     by_name false h = absurd cc
 
 -- a line without fault up to its label does what it says
-effect_is_item : (p : Place) (line : List ℕ) → front_fault p line ≡ None → effect_of line ≡ item_of line
+pub effect_is_item : (p : Place) (line : List ℕ) → front_fault p line ≡ None → effect_of line ≡ item_of line
 effect_is_item p line h =
     let form = least_left (fault_if (not (list_all is_ascii line)) Form) (label_fault (label_of line) p.known) h in
     let ascii = ascii_by (list_all is_ascii line) form in

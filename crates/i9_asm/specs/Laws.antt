@@ -3,7 +3,8 @@ use Rattle.std.specs.Prelude.{◌≡◌, ℕ, ◌+◌, ◌^◌, ◌<◌, ◌≤�
 use Rattle.std.specs.List.{AllByRecursion}
 use Rattle.i9_text.specs.FirstFault.{SaysAll, IsRefused}
 use Rattle.i9_model.specs.Image.{Part}
-use Rattle.i9_asm.specs.Places.{all_names}
+use Rattle.i9_asm.specs.Lines.{label_of}
+use Rattle.i9_asm.specs.Places.{Place, past_label, all_names}
 use Rattle.i9_asm.specs.Source.{Source, start_source, fault_of, Assembles, segments_of}
 
 -- bytes
@@ -20,6 +21,10 @@ pub record IsRun (run : Part) : Type 0 where
 abbrev pub bytes_in : List Part → ℕ
 bytes_in [] = 0
 bytes_in (run ∷ runs) = length run.bytes + bytes_in runs
+
+-- where a line of a source stands behind its label
+abbrev pub item_place : Source → List ℕ → Place
+item_place s line = past_label (label_of line) s.place
 
 -- the lines of a source without fault, under the values that its names have in it, and its segments
 pub record IsAssembly (lines : List (List ℕ)) (segments : List Part) : Type 0 where

@@ -10,7 +10,7 @@ use Rattle.i9_decode.specs.Ignored.{ignored_bits}
 use Rattle.i9_model.specs.Image.{Part}
 use Rattle.i9_text.specs.Text.{space}
 use Rattle.i9_text.specs.Written.{word_text, byte_text}
-use Rattle.i9_statement.specs.Printed.{hex_text, hex_byte_text}
+use Rattle.i9_value.specs.NumberText.{hex_text, hex_byte_text}
 use Rattle.i9_statement.specs.Statements.{statement_text}
 use Rattle.i9_statement.specs.Codes.{taken}
 use Rattle.i9_asm.specs.Lines.{hash}
@@ -93,4 +93,5 @@ org_line a = codes ".org " ++ hex_text a
 pub data ListsAll : List Part → List (List ℕ) → Type 0 where
   lists_all : ListsAll [] []
   lists_run : (a : ℕ) (bs : List ℕ) (runs : List Part) (lines more : List (List ℕ))
-      → Lists a bs lines → ListsAll runs more → ListsAll (record { address = a; bytes = bs } ∷ runs) (org_line a ∷ (lines ++ more))
+      → Lists a bs lines → ListsAll runs more
+      → ListsAll (record { address = a; bytes = bs } ∷ runs) (org_line a ∷ (lines ++ more))

@@ -4,9 +4,9 @@ use Rattle.std.specs.List.{flat_map}
 use Rattle.std.specs.Int.{w32, to_le_bytes}
 use Rattle.std.specs.BTreeMap.{get_by_text}
 use Rattle.i9_model.specs.Image.{Part}
-use Rattle.i9_statement.specs.declared.fault.Fault.{Fault}
-use Rattle.i9_statement.specs.Noted.{kind_of}
-use Rattle.i9_statement.specs.Values.{Names}
+use Rattle.i9_value.specs.declared.fault.Fault.{Fault}
+use Rattle.i9_value.specs.Noted.{kind_of}
+use Rattle.i9_value.specs.Values.{Names}
 use Rattle.i9_statement.specs.Codes.{Stands}
 use Rattle.i9_asm.specs.declared.strings.First as code
 use Rattle.i9_asm.specs.declared.strings.First.TheVariants.{Character, End, Malformed}

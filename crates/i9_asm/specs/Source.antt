@@ -3,12 +3,12 @@ use Rattle.std.specs.Prelude.{◌≡◌, ℕ, zero, suc, ◌+◌, ◌-◌, ◌*�
 use Rattle.std.specs.Option.{option_map}
 use Rattle.std.specs.List.{list_all, flat_map}
 use Rattle.std.specs.Int.{w32, to_le_bytes}
-use Rattle.i9_statement.specs.declared.fault.Fault.{Fault}
-use Rattle.i9_statement.specs.declared.fault.Fault.TheVariants as fault
-use Rattle.i9_statement.specs.declared.fault.Noted.{Noted}
-use Rattle.i9_statement.specs.declared.parts.Value.{Value}
-use Rattle.i9_statement.specs.Noted.{kind_of, least}
-use Rattle.i9_statement.specs.Values.{Names, is_name, value_of, settled}
+use Rattle.i9_value.specs.declared.fault.Fault.{Fault}
+use Rattle.i9_value.specs.declared.fault.Fault.TheVariants as fault
+use Rattle.i9_value.specs.declared.fault.Noted.{Noted}
+use Rattle.i9_value.specs.declared.values.Value.{Value}
+use Rattle.i9_value.specs.Noted.{kind_of, least}
+use Rattle.i9_value.specs.Values.{Names, is_name, value_of, settled}
 use Rattle.i9_statement.specs.Statements.{statement_of}
 use Rattle.i9_statement.specs.Codes.{Stands}
 use Rattle.i9_asm.specs.Lines.{Item, Empty, Bad, Org, Space, Align, Set, Data, Ascii, Instruction, item_of, label_of}
@@ -39,7 +39,8 @@ zeros (suc n) = 0 ∷ zeros n
 -- the bytes that an item gives at a place, by cases
 pub data Gives (names : Names) (p : Place) : Item → List ℕ → Type 0 where
   gives_nothing : Gives names p Empty []
-  gives_instruction : (s ws : List ℕ) → Stands names (address_at p) s ws → Gives names p (Instruction s) (flat_map (to_le_bytes w32) ws)
+  gives_instruction : (s ws : List ℕ) → Stands names (address_at p) s ws
+      → Gives names p (Instruction s) (flat_map (to_le_bytes w32) ws)
   gives_data : (width : ℕ) (fs : List (List ℕ))
       → Gives names p (Data width fs) (flat_map (λ f. low_bytes width (data_value width (value_of names f)).value) fs)
   gives_characters : (s cs : List ℕ) → string_of s ≡ Some cs → Gives names p (Ascii s) cs

@@ -12,8 +12,8 @@ use crate::places::Place;
 use crate::source::Source;
 use i9_hex::Segments;
 use i9_isa::NoMemory;
-use i9_statement::Names;
 use i9_text::split_line;
+use i9_value::Names;
 use std::alloc::{AllocError, Global};
 
 /// The values of the names of a source.

@@ -10,9 +10,8 @@ use crate::data::{add_data, data_fault};
 use crate::lines::Said;
 use crate::places::{Place, alignment_of, space_of};
 use crate::strings::{add_string, string_size};
-use i9_statement::{
-    Fault, Names, code_of, is_name, least, lookup, settled, statement_of, value_of,
-};
+use i9_statement::{code_of, statement_of};
+use i9_value::{Fault, Names, is_name, least, lookup, settled, value_of};
 use std::alloc::AllocError;
 
 /// Appends the words of a statement at an address, low bytes first.

@@ -4,7 +4,7 @@ ghost use Rattle.std.specs.BTreeMap.{get_by_text};
 ghost use Rattle.std.specs.Map.{update};
 ghost use Rattle.std.specs.Str.{bytes_eq};
 ghost use Rattle.std.specs.List.{list_all};
-ghost use Rattle.i9_statement.specs.Values.{is_name};
+ghost use Rattle.i9_value.specs.Values.{is_name};
 ghost use Rattle.i9_asm.specs.Lines.{item_of, label_of};
 ghost use Rattle.i9_asm.specs.Said.{item_as, label_in};
 ghost use Rattle.i9_asm.specs.Places.{define, is_alignment, space_of, alignment_of, is_ascii, is_label, is_form_fault, statement_size, moved_up, effect_of};
@@ -13,9 +13,8 @@ use crate::data::{data_size, if_holds};
 use crate::lines::{Line, Said, read_line};
 use crate::strings::string_size;
 use i9_isa::word_count;
-use i9_statement::{
-    Fault, Names, Noted, Statement, Value, is_name, lookup, settled, statement_of, value_of,
-};
+use i9_statement::{Statement, statement_of};
+use i9_value::{Fault, Names, Noted, Value, is_name, lookup, settled, value_of};
 use std::alloc::{AllocError, Global};
 
 /// How many bytes `.space` has at most.

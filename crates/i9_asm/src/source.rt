@@ -9,7 +9,7 @@ use crate::lines::{Said, read_line};
 use crate::places::{Place, is_ascii};
 use i9_hex::Segments;
 use i9_isa::NoMemory;
-use i9_statement::{Fault, Names, least};
+use i9_value::{Fault, Names, least};
 use std::alloc::{AllocError, Global};
 
 /// How many addresses there are.
@@ -64,7 +64,7 @@ pub(crate) struct Source {
 }
 
 impl Source {
-    ghost use Rattle.i9_statement.specs.Noted.{least};
+    ghost use Rattle.i9_value.specs.Noted.{least};
     ghost use Rattle.i9_asm.specs.Places.{size_of, past_label};
     ghost use Rattle.i9_asm.specs.Source.{start_source, item_fault, room_fault, rest_fault, begun, segments_of};
     ghost use Rattle.i9_asm.specs.Reading.{place_of, source_of, Grows, Continues, Takes};

@@ -1,6 +1,6 @@
 //! Lines of a source, read by hand.
-use crate::{Said, Width, listings_assemble, one_answer, read_line};
-use i9_statement::Fault;
+use crate::{Said, Width, lines_give_what_they_count, listings_assemble, one_answer, read_line};
+use i9_value::Fault;
 use std::test::Fail;
 
 // A line, its label, and what it says behind it.
@@ -53,6 +53,7 @@ fn reads_lines(rt: HostRuntime) -> Result<(), Fail> {
         assert_eq!(rt; line.label, label);
         assert_eq!(rt; line.said, said);
     }
+    lines_give_what_they_count();
     listings_assemble();
     one_answer();
     Ok(())

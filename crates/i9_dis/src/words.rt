@@ -1,12 +1,13 @@
 //! The statement of two words at an address.
 ghost use Rattle.std.specs.Prelude.{◌≡◌, ◌++◌, ℕ, List, OnOk, IfOk};
-ghost use Rattle.i9_statement.specs.Values.{Names};
+ghost use Rattle.i9_value.specs.Values.{Names};
 ghost use Rattle.i9_asm.specs.Source.{AddsBytes};
 ghost use Rattle.i9_asm.specs.Listing.{text_by, text_of, printed_bytes};
 
 use i9_decode::{decode, spare_bits};
 use i9_isa::NoMemory;
-use i9_statement::{Statement, add_hex, add_statement};
+use i9_statement::{Statement, add_statement};
+use i9_value::add_hex;
 use std::alloc::{AllocError, Global};
 
 /// Appends the statement of two words at an address.

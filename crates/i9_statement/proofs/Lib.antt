@@ -1,6 +1,3 @@
-pub mod Cutting
-pub mod NameBytes
-pub mod ReadValues
 pub mod ReadOperands
 pub mod ReadTargets
 pub mod ReadAddresses
@@ -8,8 +5,6 @@ pub mod ReadInstructions
 pub mod Classes
 pub mod ReadFields
 pub mod ReadStatements
-pub mod RegisterSearch
-pub mod Decimals
 pub mod ValidRead
 pub mod StatementWords
 pub mod StatementBytes

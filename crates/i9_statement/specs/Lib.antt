@@ -1,7 +1,3 @@
-pub mod Noted
-pub mod Cut
-pub mod Registers
-pub mod Values
 pub mod Operands
 pub mod Addresses
 pub mod Targets

@@ -5,7 +5,7 @@ use Rattle.std.specs.Str.{bytes_eq}
 use Rattle.i9_isa.specs.declared.op.Op.{Op}
 use Rattle.i9_isa.specs.declared.op.Op.TheVariants.{Notbit, And, Andnot, Setbit, Notand, Xor, Or, Nor, Xnor, Ornot, Clrbit, Notor, Nand, Alterbit, Addo, Addi, Subo, Subi, Shro, Shrdi, Shri, Shlo, Rotate, Shli, Cmpinco, Cmpinci, Cmpdeco, Cmpdeci, Addc, Subc, Atadd, Modac, Modtc, Emul, Ediv, Mulo, Remo, Divo, Muli, Remi, Modi, Divi, Not, Mov, Movl, Movt, Movq, Spanbit, Scanbit, Cmpo, Cmpi, Concmpo, Concmpi, Scanbyte, Chkbit, Atmod, Modify, Extract, Modpc, Sdma, Sysctl, Calls, Udma, Mark, Fmark, Flushreg, Syncf, Testno, Testg, Teste, Testge, Testl, Testne, Testle, Testo, Bbc, Cmpobg, Cmpobe, Cmpobge, Cmpobl, Cmpobne, Cmpoble, Bbs, Cmpibno, Cmpibg, Cmpibe, Cmpibge, Cmpibl, Cmpibne, Cmpible, Cmpibo, B, Call, Ret, Bal, Bno, Bg, Be, Bge, Bl, Bne, Ble, Bo, Faultno, Faultg, Faulte, Faultge, Faultl, Faultne, Faultle, Faulto, Ldob, Stob, Bx, Balx, Callx, Ldos, Stos, Lda, Ld, St, Ldl, Stl, Ldt, Stt, Ldq, Stq, Ldib, Stib, Ldis, Stis}
 use Rattle.i9_isa.specs.Table.{row_of, names}
-use Rattle.i9_statement.specs.Cut.{before, from, is_byte}
+use Rattle.i9_value.specs.Cut.{before, from, is_byte}
 
 -- the mnemonic of each name
 unfoldable pub mnemonic : Op → List ℕ

@@ -7,8 +7,8 @@ use Rattle.i9_isa.specs.declared.inst.Mode.{Mode}
 use Rattle.i9_isa.specs.declared.inst.Mode.TheVariants.{Offset, BaseOffset, BaseIndex, Disp, BaseDisp}
 use Rattle.i9_isa.specs.declared.inst.Ea.{Ea}
 use Rattle.i9_isa.specs.Operands.{has_base, has_index}
-use Rattle.i9_text.specs.Written.{word_text, byte_text}
-use Rattle.i9_statement.specs.Registers.{register_text}
+use Rattle.i9_value.specs.NumberText.{hex_text}
+use Rattle.i9_value.specs.Registers.{register_text}
 use Rattle.i9_statement.specs.Addresses.{bang, open_round, close_round, star, open_square, close_square, scale_names}
 
 -- a literal in decimal, or a register
@@ -16,14 +16,6 @@ unfoldable pub operand_text : Operand → List ℕ
 operand_text (Reg r) = register_text r
 operand_text (Lit l) = decimal l
 operand_text (Sfr s) = register_text (32 + s)
-
--- `0x` and eight digits
-unfoldable pub hex_text : ℕ → List ℕ
-hex_text n = 48 ∷ 120 ∷ word_text n
-
--- `0x` and two digits
-unfoldable pub hex_byte_text : ℕ → List ℕ
-hex_byte_text b = 48 ∷ 120 ∷ byte_text b
 
 -- where the form without `!` would be another mode
 abbrev pub needs_bang : Mode → ℕ → Bool

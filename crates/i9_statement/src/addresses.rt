@@ -1,14 +1,15 @@
 //! Addresses of the memory format.
 ghost use Rattle.std.specs.Prelude.{◌≡◌, ◌<◌, IfSome, MatchOption, None, Some};
 ghost use Rattle.std.specs.BTreeMap.{get_by_text};
-ghost use Rattle.i9_statement.specs.Addresses.{base_named, base_of, scale_of, scaled_register, if_last, index_of, front_of, is_short, mode_of, disp_part, plain_register, base_part, index_part, scale_part, address_by, with_index, with_base, address_behind, address_of};
+ghost use Rattle.i9_value.specs.Cut.{before, from};
+ghost use Rattle.i9_statement.specs.Addresses.{opens, base_named, base_of, scale_of, scaled_register, if_last, index_of, front_of, is_short, mode_of, disp_part, plain_register, base_part, index_part, scale_part, address_by, with_index, with_base, address_behind, address_of};
 
-use crate::cut::{behind, closed, cut_bracket, cut_byte};
-use crate::fault::{Fault, Noted, fine, least, wrong};
-use crate::parts::{Base, Front, Index, Value};
-use crate::registers::{register_at, register_place};
-use crate::values::{Names, value_noted, value_of};
+use crate::parts::{Base, Front, Index};
 use i9_isa::{Ea, Mode, NO_ADDRESS, Operand};
+use i9_value::{
+    Fault, Names, Noted, Value, behind, closed, cut_byte, cut_where, fine, least, register_at,
+    register_place, value_noted, value_of, wrong,
+};
 
 /// `ip` or a register.
 fn base_named(text: &[u8]) -> Option<Base>
@@ -207,6 +208,14 @@ fn address_by(mode: Option<Mode>, front: Front, base: Base, index: Index) -> Not
         },
         fault: least(register.fault, least(scaled.fault, disp.fault)),
     }
+}
+
+/// A text before the first bracket that opens, and from it on.
+fn cut_bracket(text: &[u8]) -> (&[u8], &[u8])
+    ensures front { result.0.now ≡ before opens text.now }
+    ensures back { result.1.now ≡ from opens text.now }
+{
+    cut_where(text, |byte| byte == b'(' || byte == b'[')
 }
 
 /// An address behind `!`, or without it.

@@ -7,13 +7,12 @@ ghost use Rattle.i9_statement.specs.Fields.{fields_of, fields_left};
 ghost use Rattle.i9_statement.specs.Instructions.{take_operand, take_address, take_target, left_over, chosen, instruction_of};
 
 use crate::addresses::address_of;
-use crate::fault::{Fault, Noted, fine, least, wrong};
 use crate::fields::{fields_of, split_field};
 use crate::operands::{NO_OPERAND, operand_of};
 use crate::order::{comes_first, first_use, last_use};
 use crate::targets::target_of;
-use crate::values::Names;
 use i9_isa::{Ea, Format, Inst, NO_ADDRESS, Op, Operand, Row, Use, row};
+use i9_value::{Fault, Names, Noted, fine, least, wrong};
 
 /// The operand of a use, where the use has one, and the operands that are left.
 fn take_operand<'a>(

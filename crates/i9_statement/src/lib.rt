@@ -9,34 +9,22 @@
 
 mod addresses;
 mod codes;
-mod cut;
-mod fault;
 mod fields;
 mod instructions;
 mod laws;
 mod mnemonics;
 mod names;
-mod number_text;
 mod operand_text;
 mod operands;
 mod order;
 mod parts;
-mod registers;
 mod statement_text;
 mod statements;
 mod targets;
-mod values;
 
 pub use codes::code_of;
-pub use cut::{cut_blank, cut_where};
-pub use fault::{Fault, Noted, least};
 pub use fields::{fields_of, split_field};
+pub use i9_value::{Fault, Names, Noted};
 pub use laws::{statements_read_back, words_are_one};
-pub use number_text::add_hex;
-pub use parts::Value;
 pub use statement_text::add_statement;
 pub use statements::{Statement, statement_of};
-pub use values::{Names, is_name, lookup, settled, value_of};
-
-#[cfg(test)]
-mod tests;

@@ -4,9 +4,9 @@ ghost use Rattle.std.specs.Str.{bytes_eq};
 ghost use Rattle.i9_isa.specs.Table.{row_of};
 ghost use Rattle.i9_statement.specs.Mnemonics.{mnemonic, op_named, hint_by, named_by};
 
-use crate::cut::cut_byte;
 use crate::names::mnemonic;
 use i9_isa::{Op, row};
+use i9_value::cut_byte;
 
 /// All names.
 const NAMES: [Op; 131] = [

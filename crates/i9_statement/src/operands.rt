@@ -3,11 +3,8 @@ ghost use Rattle.std.specs.Prelude.{◌≡◌};
 ghost use Rattle.std.specs.BTreeMap.{get_by_text};
 ghost use Rattle.i9_statement.specs.Operands.{small_literal, literal, takes_literals, operand_as, operand_of};
 
-use crate::fault::{Fault, Noted, fine, wrong};
-use crate::parts::Value;
-use crate::registers::register_of;
-use crate::values::{Names, value_of};
 use i9_isa::{Operand, Use};
+use i9_value::{Fault, Names, Noted, Value, fine, register_of, value_of, wrong};
 
 /// What stands for an operand that is missing or at fault.
 pub(crate) const NO_OPERAND: Operand = Operand::Reg(0);

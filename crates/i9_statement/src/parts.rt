@@ -1,17 +1,6 @@
-//! Values and the parts of addresses.
+//! The parts of addresses.
 
-/// A value, modulo 2^32.
-#[derive(Clone, Copy, Debug, PartialEq, Eq)]
-pub enum Value {
-    /// A number without a name.
-    Number(u32),
-    /// A name, or a name and a number.
-    Named(u32),
-    /// Its number is out of range.
-    Beyond,
-    /// Its name is unknown.
-    Unknown,
-}
+use i9_value::Value;
 
 /// What stands before the brackets of an address.
 #[derive(Clone, Copy)]

@@ -6,15 +6,13 @@ ghost use Rattle.i9_decode.specs.Ignored.{ignored_bits};
 ghost use Rattle.i9_statement.specs.Statements.{if_nothing_left, braced, spare_of, spare_noted, with_spare, statement_by, statement_of};
 ghost use Rattle.i9_isa.specs.Valid.{IsValid};
 
-use crate::cut::{behind, closed, cut_blank, cut_byte};
-use crate::fault::{Fault, Noted, fine, least, wrong};
 use crate::instructions::instruction_of;
 use crate::mnemonics::named_by;
 use crate::operands::NO_OPERAND;
-use crate::values::Names;
 use i9_decode::spare_bits;
 use i9_isa::{Inst, NO_ADDRESS, Op};
 use i9_text::{number, split_word};
+use i9_value::{Fault, Names, Noted, behind, closed, cut_blank, cut_byte, fine, least, wrong};
 
 /// Digits between braces.
 fn braced(word: &[u8]) -> Option<u32>

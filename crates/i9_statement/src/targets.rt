@@ -4,10 +4,8 @@ ghost use Rattle.std.specs.BTreeMap.{get_by_text};
 ghost use Rattle.i9_isa.specs.Valid.{is_within};
 ghost use Rattle.i9_statement.specs.Targets.{distance, reach, if_reached, target_by, target_of};
 
-use crate::fault::{Fault, Noted, fine, wrong};
-use crate::parts::Value;
-use crate::values::{Names, value_of};
 use i9_isa::Format;
+use i9_value::{Fault, Names, Noted, Value, fine, value_of, wrong};
 
 /// How far a target is from an address, modulo 2^32 as a signed number.
 fn distance(ip: u32, target: u32) -> i32

@@ -4,8 +4,8 @@ use Rattle.std.specs.BTreeMap.{get_by_text}
 use Rattle.std.specs.Map.{update}
 use Rattle.std.specs.Str.{bytes_eq}
 use Rattle.std.proofs.Math.Path.{fun_ext}
-use Rattle.i9_statement.specs.Values.{Names}
-use Rattle.i9_statement.proofs.Decimals.{name_utf8}
+use Rattle.i9_value.specs.Values.{Names}
+use Rattle.i9_value.proofs.Decimals.{name_utf8}
 use Rattle.i9_asm.specs.Places.{define}
 use Rattle.i9_asm.proofs.places.define.Goals as goal
 

@@ -1,8 +1,8 @@
 use Rattle.std.proofs.Common.{not, ap, ◌∙◌}
 use Rattle.std.specs.List.{list_all}
 use Rattle.std.specs.BTreeMap.{get_by_text}
-use Rattle.i9_statement.specs.declared.fault.Fault.TheVariants.{Form}
-use Rattle.i9_statement.specs.Noted.{least}
+use Rattle.i9_value.specs.declared.fault.Fault.TheVariants.{Form}
+use Rattle.i9_value.specs.Noted.{least}
 use Rattle.i9_asm.specs.Said.{item_as}
 use Rattle.i9_asm.specs.Places.{is_ascii}
 use Rattle.i9_asm.specs.Source.{fault_if, label_fault, labelled_source}

@@ -1,0 +1,191 @@
+-- A line without fault gives as many bytes as it counts.
+use Rattle.std.proofs.Common.{◌≡◌, ℕ, zero, suc, ◌+◌, ◌*◌, ◌%◌, ◌^◌, ◌<◌, ◌≤◌, Bool, true, false, cond, ltb, eqb, List, [], ◌∷◌, ◌++◌, length, length-append, Option, Some, None, refl, sym, ap, subst, ◌∙◌, arith, lit≤, inl, inr}
+use Rattle.std.specs.Prelude.{is_some, codes}
+use Rattle.std.specs.List.{list_all, flat_map}
+use Rattle.std.specs.Str.{bytes_eq}
+use Rattle.std.specs.Int.{w32, to_le_bytes}
+use Rattle.std.proofs.lemmas.Bool.{cases_Bool, ltb-false}
+use Rattle.std.proofs.lemmas.List.{length-take-le}
+use Rattle.i9_isa.specs.Words.{words_of}
+use Rattle.i9_text.specs.Text.{is_blank}
+use Rattle.i9_value.specs.declared.fault.Fault.{Fault}
+use Rattle.i9_value.specs.declared.fault.Fault.TheVariants as fault
+use Rattle.i9_value.specs.declared.values.Value.{Value}
+use Rattle.i9_value.specs.Cut.{before, from}
+use Rattle.i9_value.specs.Noted.{least}
+use Rattle.i9_value.specs.Values.{Names, is_name, value_of}
+use Rattle.i9_statement.specs.Fields.{fields_of}
+use Rattle.i9_statement.specs.Statements.{statement_of}
+use Rattle.i9_statement.specs.Codes.{Stands, stands_one, stands_two}
+use Rattle.i9_asm.specs.Lines.{Item, Empty, Bad, Org, Space, Align, Set, Data, Ascii, Instruction, dot, one_value, two_values, some_values, directive_of, item_by, item_of, label_of, code_of}
+use Rattle.i9_asm.specs.Strings.{string_of}
+use Rattle.i9_asm.specs.Places.{Place, no_names, address_at, location_count, next_location, past_label, past_line, past_item, size_of, string_size, moved_to, effect_of}
+use Rattle.i9_asm.specs.Source.{zeros, low_bytes, data_value, data_fault, fault_if, item_fault, front_fault, room_fault, rest_fault, line_fault, labelled_source, most_bytes, Source, Gives, gives_nothing, gives_instruction, gives_data, gives_characters, gives_zeros, gives_move, gives_alignment, gives_assignment}
+use Rattle.i9_asm.specs.Laws.{item_place}
+use Rattle.i9_asm.proofs.TakenLines.{least_left, least_right, effect_is_item}
+use Rattle.i9_asm.proofs.LaterNames.{Later, later_same, later_named, later_value, statement_counts}
+
+-- ---- the widths of data
+
+abbrev IsNarrow : Item → Type 0
+IsNarrow (Data width fs) = width ≤ 4
+IsNarrow _ = Unit {0}
+
+narrow_if : (q : Bool) (x y : Item) → IsNarrow x → IsNarrow y → IsNarrow (cond q x y)
+narrow_if true x y h k = h
+narrow_if false x y h k = k
+
+narrow_data : (width : ℕ) (fs : List (List ℕ)) → width ≤ 4 → IsNarrow (some_values width fs)
+narrow_data width [] h = tt
+narrow_data width (f ∷ fs) h = h
+
+narrow_one : (item : List ℕ → Item) (fs : List (List ℕ)) → ((f : List ℕ) → IsNarrow (item f)) → IsNarrow (one_value item fs)
+narrow_one item [] h = tt
+narrow_one item (f ∷ []) h = h f
+narrow_one item (f ∷ g ∷ fs) h = tt
+
+narrow_two : (fs : List (List ℕ)) → IsNarrow (two_values Set fs)
+narrow_two [] = tt
+narrow_two (f ∷ []) = tt
+narrow_two (f ∷ g ∷ []) = tt
+narrow_two (f ∷ g ∷ k ∷ fs) = tt
+
+narrow_directive : (name rest : List ℕ) → IsNarrow (directive_of name rest)
+narrow_directive name rest =
+    let fs = fields_of rest in
+    let is = λ (word : List ℕ). bytes_eq name word in
+    let ascii = cond (is (codes ".ascii")) (Ascii rest) (Bad fault.UnknownMnemonic) in
+    let set = cond (is (codes ".set")) (two_values Set fs) ascii in
+    let align = cond (is (codes ".align")) (one_value Align fs) set in
+    let space = cond (is (codes ".space")) (one_value Space fs) align in
+    let org = cond (is (codes ".org")) (one_value Org fs) space in
+    let byte = cond (is (codes ".byte")) (some_values 1 fs) org in
+    let short = cond (is (codes ".short")) (some_values 2 fs) byte in
+    narrow_if (is (codes ".word")) (some_values 4 fs) short (narrow_data 4 fs (lit≤ tt))
+    (narrow_if (is (codes ".short")) (some_values 2 fs) byte (narrow_data 2 fs (lit≤ tt))
+    (narrow_if (is (codes ".byte")) (some_values 1 fs) org (narrow_data 1 fs (lit≤ tt))
+    (narrow_if (is (codes ".org")) (one_value Org fs) space (narrow_one Org fs (λ f. tt))
+    (narrow_if (is (codes ".space")) (one_value Space fs) align (narrow_one Space fs (λ f. tt))
+    (narrow_if (is (codes ".align")) (one_value Align fs) set (narrow_one Align fs (λ f. tt))
+    (narrow_if (is (codes ".set")) (two_values Set fs) ascii (narrow_two fs)
+    (narrow_if (is (codes ".ascii")) (Ascii rest) (Bad fault.UnknownMnemonic) tt tt)))))))
+
+narrow_by : (s : List ℕ) → IsNarrow (item_by s)
+narrow_by [] = tt
+narrow_by (b ∷ s) = narrow_if (eqb b dot) (directive_of (before is_blank (b ∷ s)) (from is_blank (b ∷ s))) (Instruction (b ∷ s)) (narrow_directive (before is_blank (b ∷ s)) (from is_blank (b ∷ s))) tt
+
+narrow_item : (line : List ℕ) → IsNarrow (item_of line)
+unfolding item_of
+narrow_item line = narrow_by (code_of line).rest
+
+-- ---- bytes of items
+
+length-zeros : (n : ℕ) → length (zeros n) ≡ n
+unfolding zeros
+length-zeros zero = refl
+length-zeros (suc n) = ap suc (length-zeros n)
+
+stands_sound : (names : Names) (ip : ℕ) (s ws : List ℕ) → Stands names ip s ws → (statement_of ip names s).fault ≡ None
+stands_sound names ip s _ (stands_one i bits w0 read one code) = ap (λ n. n.fault) read
+stands_sound names ip s _ (stands_two i bits w0 w1 read two code) = ap (λ n. n.fault) read
+
+stands_length : (names : Names) (ip : ℕ) (s ws : List ℕ) → Stands names ip s ws → length (flat_map (to_le_bytes w32) ws) ≡ 4 * words_of (statement_of ip names s).value.inst
+stands_length names ip s _ (stands_one i bits w0 read one code) = ap (λ n. 4 * n) (sym one) ∙ ap (λ n. 4 * words_of n.value.inst) (sym read)
+stands_length names ip s _ (stands_two i bits w0 w1 read two code) = ap (λ n. 4 * n) (sym two) ∙ ap (λ n. 4 * words_of n.value.inst) (sym read)
+
+-- a value without fault has the form of one before names have values
+value_form : (width : ℕ) (a b : Option Value) → Later a b → (data_value width b).fault ≡ None → is_some a ≡ true
+value_form width _ _ (later_same None) h = absurd (cc h)
+value_form width _ _ (later_same (Some v)) h = refl
+value_form width _ _ (later_named n) h = refl
+
+values_form : (width : ℕ) (names : Names) (fs : List (List ℕ)) → data_fault width names fs ≡ None → list_all (λ f. is_some (value_of no_names f)) fs ≡ true
+values_form width names [] h = refl
+values_form width names (f ∷ fs) h =
+    let first = (data_value width (value_of names f)).fault in
+    let sound : first ≡ None = least_left first (data_fault width names fs) h in
+    rw (value_form width (value_of no_names f) (value_of names f) (later_value names f) sound)
+    (values_form width names fs (least_right first (data_fault width names fs) sound h))
+
+length-low_bytes : (width n : ℕ) → width ≤ 4 → length (low_bytes width n) ≡ width
+length-low_bytes width n h = length-take-le width (to_le_bytes w32 n) h
+
+length-values : (width : ℕ) (value : List ℕ → ℕ) (fs : List (List ℕ)) → width ≤ 4 → length (flat_map (λ f. low_bytes width (value f)) fs) ≡ width * length fs
+length-values width value [] h = omega arith
+length-values width value (f ∷ fs) h =
+    let e = length-append (low_bytes width (value f)) (flat_map (λ g. low_bytes width (value g)) fs) in
+    let a = length-low_bytes width (value f) h in
+    let b = length-values width value fs h in
+    e ∙ rw (a, b) (omega arith)
+
+data_counts : (width : ℕ) (names : Names) (p : Place) (fs : List (List ℕ)) → width ≤ 4 → data_fault width names fs ≡ None
+    → length (flat_map (λ f. low_bytes width (data_value width (value_of names f)).value) fs) ≡ size_of p (Data width fs)
+data_counts width names p fs h sound =
+    length-values width (λ f. (data_value width (value_of names f)).value) fs h ∙ rw (values_form width names fs sound) refl
+
+item_counts : (names : Names) (p : Place) (item : Item) (bs : List ℕ) → IsNarrow item → Gives names p item bs → item_fault names p item ≡ None → length bs ≡ size_of p item
+item_counts names p _ _ narrow gives_nothing h = refl
+item_counts names p _ _ narrow (gives_instruction s ws x) h =
+    stands_length names (address_at p) s ws x ∙ sym (statement_counts (address_at p) names s (stands_sound names (address_at p) s ws x))
+item_counts names p _ _ narrow (gives_data width fs) h = data_counts width names p fs narrow h
+item_counts names p _ _ narrow (gives_characters s cs e) h = sym (ap string_size e)
+item_counts names p _ _ narrow (gives_zeros f) h = length-zeros (size_of p (Space f))
+item_counts names p _ _ narrow (gives_move f) h = refl
+item_counts names p _ _ narrow (gives_alignment f) h = refl
+item_counts names p _ _ narrow (gives_assignment name f) h = refl
+
+-- ---- lines
+
+-- what is behind the label is without fault, where the line is
+rest_sound : (names : Names) (s : Source) (line : List ℕ) → line_fault names s line ≡ None → rest_fault names (labelled_source (label_of line) s) (item_of line) ≡ None
+unfolding line_fault
+rest_sound names s line h =
+    let rest = rest_fault names (labelled_source (label_of line) s) (item_of line) in
+    least_right (front_fault s.place line) rest (least_left (front_fault s.place line) rest h) h
+
+front_sound : (names : Names) (s : Source) (line : List ℕ) → line_fault names s line ≡ None → front_fault s.place line ≡ None
+unfolding line_fault
+front_sound names s line h = least_left (front_fault s.place line) (rest_fault names (labelled_source (label_of line) s) (item_of line)) h
+
+pub line_counts : (names : Names) (s : Source) (line bs : List ℕ) → line_fault names s line ≡ None → Gives names (item_place s line) (item_of line) bs → length bs ≡ size_of (item_place s line) (item_of line)
+line_counts names s line bs h gives =
+    let u = labelled_source (label_of line) s in
+    let sound = least_left (item_fault names u.place (item_of line)) (room_fault u (size_of u.place (item_of line))) (rest_sound names s line h) in
+    item_counts names (item_place s line) (item_of line) bs (narrow_item line) gives sound
+
+label_stays : (label : Option (List ℕ)) (p : Place) → (past_label label p).location ≡ p.location
+label_stays None p = refl
+label_stays (Some name) p = elim (cases_Bool (is_name name)) [
+  | inl good ↦ rw good refl
+  | inr bad ↦ rw bad refl
+]
+
+no_range_fault : (q : Bool) → fault_if q fault.Range ≡ None → q ≡ false
+no_range_fault true h = absurd (cc h)
+no_range_fault false h = refl
+
+-- a line without fault has room up to the last address
+line_fits : (names : Names) (s : Source) (line : List ℕ) → line_fault names s line ≡ None → (item_place s line).location + size_of (item_place s line) (item_of line) ≤ 2 ^ 32
+line_fits names s line h =
+    let u = labelled_source (label_of line) s in
+    let size = size_of u.place (item_of line) in
+    let rest = rest_sound names s line h in
+    let item = item_fault names u.place (item_of line) in
+    let room : room_fault u size ≡ None = least_right item (room_fault u size) (least_left item (room_fault u size) rest) rest in
+    let range = least_left (fault_if (ltb (2 ^ 32) (u.place.location + size)) fault.Range) (fault_if (ltb most_bytes (u.total + size)) fault.TooMany) room in
+    ltb-false _ _ (no_range_fault (ltb (2 ^ 32) (u.place.location + size)) range)
+
+-- and the first pass moves on by its bytes
+pub line_moves : (names : Names) (s : Source) (line bs : List ℕ) → line_fault names s line ≡ None → Gives names (item_place s line) (item_of line) bs
+    → moved_to (item_place s line) (item_of line) ≡ None → (past_line s.place line).location ≡ s.place.location + length bs
+line_moves names s line bs h gives stays =
+    let p = item_place s line in
+    let item = item_of line in
+    let effect : effect_of line ≡ item = effect_is_item s.place line (front_sound names s line h) in
+    let here : p.location ≡ s.place.location = label_stays (label_of line) s.place in
+    let counts : length bs ≡ size_of p item = line_counts names s line bs h gives in
+    let fits : p.location + size_of p item ≤ 2 ^ 32 = line_fits names s line h in
+    let next : (p.location + size_of p item) % location_count ≡ p.location + size_of p item = omega arith in
+    ap (λ (i : Item). (past_item p i).location) effect
+    ∙ ap (λ (o : Option ℕ). next_location o (p.location + size_of p item) % location_count) stays
+    ∙ next ∙ ap (λ n. n + size_of p item) here ∙ ap (λ n. s.place.location + n) (sym counts)

@@ -1,0 +1,5 @@
+pub mod Cutting
+pub mod NameBytes
+pub mod ReadValues
+pub mod RegisterSearch
+pub mod Decimals

@@ -1,0 +1,5 @@
+pub mod Noted
+pub mod Cut
+pub mod Registers
+pub mod Values
+pub mod NumberText
