@@ -1,0 +1,54 @@
+-- Bytes of the interrupt table that are stored, one after the other.
+use Rattle.std.proofs.Common.{◌≡◌, ℕ, ◌+◌, ◌/◌, ◌%◌, ◌^◌, ◌<◌, ◌≤◌, Bool, true, false, List, [], ◌∷◌, refl, sym, ap, ◌∙◌, subst, arith}
+use Rattle.std.specs.Prelude.{not, ◌==◌, ◌&&◌, ◌||◌}
+use Rattle.i9_model.specs.declared.interrupts.TheConstants.{PENDING_SIZE, PENDING_VECTORS}
+use Rattle.i9_model.specs.Writes.{wrapped, upwards}
+use Rattle.i9_model.specs.Memory.{Memory, stored, with_writes, with_bytes}
+use Rattle.i9_model.specs.State.{Frames}
+use Rattle.i9_model.specs.Frames.{is_put, wrote, wrote_run}
+use Rattle.i9_model.specs.Interrupts.{priority_place, pending_place}
+use Rattle.i9_model.proofs.Runs.{wrote-upwards}
+use Rattle.i9_model.proofs.Stored.{stored-cons}
+use Rattle.i9_memory.specs.declared.memory.Memory.{Memory as Kept}
+use Rattle.i9_memory.specs.Memory.{IsReserved, HasRoom, KeepsRoom}
+
+one_write : (a v : ℕ) → a < 2 ^ 32 → upwards a (v ∷ []) ≡ (a, v) ∷ []
+one_write a v h = let same : wrapped a ≡ a = omega arith in ap (λ (x : ℕ). (x, v) ∷ []) same
+
+-- a byte is stored
+pub store_memory : (m n : Memory) (a v : ℕ) → a < 2 ^ 32 → n ≡ with_bytes m a (v ∷ []) → n ≡ with_writes m ((a, v) ∷ [])
+store_memory m n a v h is = is ∙ ap (with_writes m) (one_write a v h)
+
+pub store_frames : (f g : Frames) (a v : ℕ) → a < 2 ^ 32 → g ≡ wrote_run f a 1 → g ≡ wrote f ((a, v) ∷ [])
+store_frames f g a v h is = is ∙ sym (wrote-upwards f a (v ∷ [])) ∙ ap (wrote f) (one_write a v h)
+
+-- a byte is stored, and then others
+pub then_memory : (m k n : Memory) (p : ℕ × ℕ) (ps : List (ℕ × ℕ)) → k ≡ with_writes m (p ∷ []) → n ≡ with_writes k ps → n ≡ with_writes m (p ∷ ps)
+then_memory m k n p ps first later =
+    later ∙ ap (λ (j : Memory). with_writes j ps) first ∙ ap (λ (bytes : ℕ → ℕ). record m { bytes = bytes }) (sym (stored-cons m.bytes p ps))
+
+not_put : (s b c : Bool) → ((s && not (b || false)) && not c) ≡ (s && not (b || c))
+not_put s b c = grind arith
+
+wrote_twice : (f : Frames) (p : ℕ × ℕ) (ps : List (ℕ × ℕ)) → wrote (wrote f (p ∷ [])) ps ≡ wrote f (p ∷ ps)
+unfolding is_put
+wrote_twice f p ps = λ i. record f { soft = λ x. not_put (f.soft x) (x == p.0) (is_put ps x) i }
+
+pub then_frames : (f g h : Frames) (p : ℕ × ℕ) (ps : List (ℕ × ℕ)) → g ≡ wrote f (p ∷ []) → h ≡ wrote g ps → h ≡ wrote f (p ∷ ps)
+then_frames f g h p ps first later = later ∙ ap (λ (j : Frames). wrote j ps) first ∙ wrote_twice f p ps
+
+-- ---- room
+
+room_at : (m : Kept) (table k a : ℕ) → HasRoom m table PENDING_SIZE → k < PENDING_SIZE → a ≡ wrapped (table + k) → HasRoom m a 1
+room_at m table k a room few e = λ j h. let at : wrapped (table + k) ≡ wrapped (a + j) = omega arith in subst (IsReserved m) at (room k few)
+
+pub priority_room : (m : Kept) (table v a : ℕ) → v < 256 → HasRoom m table PENDING_SIZE → a ≡ priority_place table v → HasRoom m a 1
+priority_room m table v a small room e = room_at m table (v / 8 / 8) a room (omega arith) e
+
+pub pending_room : (m : Kept) (table v a : ℕ) → v < 256 → HasRoom m table PENDING_SIZE → a ≡ pending_place table v → HasRoom m a 1
+pending_room m table v a small room e = room_at m table (PENDING_VECTORS + v / 8) a room (omega arith) e
+
+pub room_kept : (m n : Kept) (a : ℕ) → HasRoom m a 1 → KeepsRoom m n → HasRoom n a 1
+room_kept m n a room keeps = λ k h. keeps (wrapped (a + k)) (room k h)
+
+pub ruleset storing_rules = (store_memory, store_frames)
