@@ -1,12 +1,13 @@
 -- Bytes of the interrupt table that are stored, one after the other.
-use Rattle.std.proofs.Common.{◌≡◌, ℕ, ◌+◌, ◌/◌, ◌%◌, ◌^◌, ◌<◌, ◌≤◌, Bool, true, false, List, [], ◌∷◌, refl, sym, ap, ◌∙◌, subst, arith}
-use Rattle.std.specs.Prelude.{not, ◌==◌, ◌&&◌, ◌||◌}
+use Rattle.std.proofs.Common.{◌≡◌, ℕ, ◌+◌, ◌/◌, ◌%◌, ◌^◌, ◌<◌, ◌≤◌, Bool, true, false, List, [], ◌∷◌, ◌++◌, refl, sym, ap, ◌∙◌, subst, arith}
+use Rattle.std.specs.Prelude.{not, ◌==◌, ◌&&◌, ◌||◌, if◌then◌else◌}
+use Rattle.std.proofs.lemmas.Bool.{eq-eqb, ne_eqb}
 use Rattle.i9_model.specs.declared.interrupts.TheConstants.{PENDING_SIZE, PENDING_VECTORS}
-use Rattle.i9_model.specs.Writes.{wrapped, upwards}
+use Rattle.i9_model.specs.Writes.{wrapped, upwards, written}
 use Rattle.i9_model.specs.Memory.{Memory, stored, with_writes, with_bytes}
 use Rattle.i9_model.specs.State.{Frames}
 use Rattle.i9_model.specs.Frames.{is_put, wrote, wrote_run}
-use Rattle.i9_model.specs.Interrupts.{priority_place, pending_place}
+use Rattle.i9_model.specs.Interrupts.{priority_place, pending_place, vector_priority, without_bit, left_pending, taken_writes}
 use Rattle.i9_model.proofs.Runs.{wrote-upwards}
 use Rattle.i9_model.proofs.Stored.{stored-cons}
 use Rattle.i9_memory.specs.declared.memory.Memory.{Memory as Kept}
@@ -51,4 +52,34 @@ pending_room m table v a small room e = room_at m table (PENDING_VECTORS + v / 8
 pub room_kept : (m n : Kept) (a : ℕ) → HasRoom m a 1 → KeepsRoom m n → HasRoom n a 1
 room_kept m n a room keeps = λ k h. keeps (wrapped (a + k)) (room k h)
 
-pub ruleset storing_rules = (store_memory, store_frames)
+-- ---- no bytes
+
+pub no_memory_writes : (m : Memory) → m ≡ with_writes m []
+unfolding written
+no_memory_writes m = refl
+
+all_kept : (b : Bool) → b ≡ (b && not false)
+all_kept b = grind arith
+
+pub no_frame_writes : (f : Frames) → f ≡ wrote f []
+unfolding is_put
+no_frame_writes f = λ i. record f { soft = λ x. all_kept (f.soft x) i }
+
+pub ruleset none_rules = (no_memory_writes, no_frame_writes)
+
+-- ---- what is written where a vector is taken
+
+module _ (m : Memory) (table v : ℕ) where
+  abbrev pub priority_write : ℕ × ℕ
+  priority_write = (priority_place table v, without_bit (m.bytes (priority_place table v)) (vector_priority v % 8))
+
+  abbrev pub pending_write : ℕ × ℕ
+  pending_write = (pending_place table v, left_pending m table v)
+
+  pub taken_last : left_pending m table v ≡ 0 → taken_writes m table v ≡ priority_write ∷ pending_write ∷ []
+  unfolding taken_writes
+  taken_last e = ap (λ (b : Bool). (if b then priority_write ∷ [] else []) ++ pending_write ∷ []) (eq-eqb (left_pending m table v) 0 e)
+
+  pub taken_others : (left_pending m table v ≡ 0 → ⊥) → taken_writes m table v ≡ pending_write ∷ []
+  unfolding taken_writes
+  taken_others ne = ap (λ (b : Bool). (if b then priority_write ∷ [] else []) ++ pending_write ∷ []) (ne_eqb (left_pending m table v) 0 ne)

@@ -55,7 +55,7 @@ fn request_hazard(w: &Watch, table: u32, vector: u8) -> Option<u32>
 }
 
 /// Stores a byte at `a`, which is not soft any more.
-#[tactic(auto, using(crate::proofs::Storing::storing_rules))]
+#[tactic(auto, using(crate::proofs::Storing::store_memory))]
 fn store(m: &mut Memory, w: &mut Watch, a: u32, byte: u8)
     requires { HasRoom m.old a 1 }
     ensures memory { memory_of m.new ≡ with_writes (memory_of m.old) ((a, byte) ∷ []) }
@@ -69,7 +69,6 @@ fn store(m: &mut Memory, w: &mut Watch, a: u32, byte: u8)
 }
 
 /// Clears the bit of a vector, and that of its priority with the last of its vectors.
-#[tactic(auto, unfolding(i9_model::specs::Interrupts::taken_writes), using(crate::proofs::Storing::storing_rules))]
 fn clear_request(m: &mut Memory, w: &mut Watch, table: u32, vector: u8)
     requires { HasRoom m.old table PENDING_SIZE }
     ensures memory { memory_of m.new ≡ with_writes (memory_of m.old) (taken_writes (memory_of m.old) table vector) }
@@ -95,7 +94,6 @@ impl Ints {
     /// its own are set. Both bytes are read, and then both are written; `Err` is the hazard of the
     /// first access that meets one, and then nothing changes. After the i960 CA/CF User's Manual,
     /// interrupts.
-    #[tactic(auto, unfolding(i9_model::specs::Interrupts::request_writes), using(crate::proofs::Storing::storing_rules))]
     pub fn request(m: &mut Memory, w: &mut Watch, table: u32, v: u8) -> Result<(), u32>
         requires { HasRoom m.old table PENDING_SIZE }
         ensures hazard { result ≡ unless (request_hazard (frames_of w.old) table v) tt }
@@ -122,6 +120,7 @@ impl Ints {
     /// What chose an interrupt is not asked for any more: of a request of software the bit of the
     /// vector is cleared, and that of its priority with the last of its vectors. To be called once
     /// the frame is saved and the record is written. After the i960 CA/CF User's Manual, interrupts.
+    #[tactic(auto, using(crate::proofs::Storing::none_rules))]
     pub fn take(&mut self, m: &mut Memory, w: &mut Watch, table: u32, c: &Chosen)
         requires room { HasRoom m.old table PENDING_SIZE }
         requires free { clearing_hazard c.now.cause (memory_of m.old) (frames_of w.old) table c.now.vector ≡ None }
@@ -133,8 +132,9 @@ impl Ints {
         ensures marks { KeepsMarks w.old w.new }
     {
         self.clear(c.cause);
-        if c.cause == Cause::Soft {
-            clear_request(m, w, table, c.vector);
+        match c.cause {
+            Cause::Soft => clear_request(m, w, table, c.vector),
+            Cause::Nmi | Cause::Line(_) => {}
         }
     }
 }
