@@ -1,5 +1,5 @@
 -- Bytes of the interrupt table that are stored, one after the other.
-use Rattle.std.proofs.Common.{◌≡◌, ℕ, ◌+◌, ◌/◌, ◌%◌, ◌^◌, ◌<◌, ◌≤◌, Bool, true, false, List, [], ◌∷◌, ◌++◌, refl, sym, ap, ◌∙◌, subst, arith}
+use Rattle.std.proofs.Common.{◌≡◌, ◌⊎◌, inl, inr, ℕ, ◌+◌, ◌/◌, ◌%◌, ◌^◌, ◌<◌, ◌≤◌, Bool, true, false, List, [], ◌∷◌, ◌++◌, refl, sym, ap, ◌∙◌, subst, arith}
 use Rattle.std.specs.Prelude.{not, ◌==◌, ◌&&◌, ◌||◌, if◌then◌else◌}
 use Rattle.std.proofs.lemmas.Bool.{eq-eqb, ne_eqb}
 use Rattle.i9_model.specs.declared.interrupts.TheConstants.{PENDING_SIZE, PENDING_VECTORS}
@@ -7,7 +7,9 @@ use Rattle.i9_model.specs.Writes.{wrapped, upwards, written}
 use Rattle.i9_model.specs.Memory.{Memory, stored, with_writes, with_bytes}
 use Rattle.i9_model.specs.State.{Frames}
 use Rattle.i9_model.specs.Frames.{is_put, wrote, wrote_run}
-use Rattle.i9_model.specs.Interrupts.{priority_place, pending_place, vector_priority, without_bit, left_pending, taken_writes}
+use Rattle.i9_model.specs.Interrupts.{priority_place, pending_place, vector_priority, without_bit, left_pending, taken_writes, clearing_writes}
+use Rattle.i9_model.specs.declared.interrupts.Cause.{Cause}
+use Rattle.i9_model.specs.declared.interrupts.Cause.TheVariants.{Nmi, Line}
 use Rattle.i9_model.proofs.Runs.{wrote-upwards}
 use Rattle.i9_model.proofs.Stored.{stored-cons}
 use Rattle.i9_memory.specs.declared.memory.Memory.{Memory as Kept}
@@ -65,7 +67,9 @@ pub no_frame_writes : (f : Frames) → f ≡ wrote f []
 unfolding is_put
 no_frame_writes f = λ i. record f { soft = λ x. all_kept (f.soft x) i }
 
-pub ruleset none_rules = (no_memory_writes, no_frame_writes)
+pub nothing_cleared : (cause : Cause) (m : Memory) (table v : ℕ) → (cause ≡ Nmi) ⊎ ((k : ℕ) × (cause ≡ Line k)) → clearing_writes cause m table v ≡ []
+nothing_cleared cause m table v (inl e) = ap (λ (c : Cause). clearing_writes c m table v) e
+nothing_cleared cause m table v (inr (k, e)) = ap (λ (c : Cause). clearing_writes c m table v) e
 
 -- ---- what is written where a vector is taken
 

@@ -120,7 +120,6 @@ impl Ints {
     /// What chose an interrupt is not asked for any more: of a request of software the bit of the
     /// vector is cleared, and that of its priority with the last of its vectors. To be called once
     /// the frame is saved and the record is written. After the i960 CA/CF User's Manual, interrupts.
-    #[tactic(auto, using(crate::proofs::Storing::none_rules))]
     pub fn take(&mut self, m: &mut Memory, w: &mut Watch, table: u32, c: &Chosen)
         requires room { HasRoom m.old table PENDING_SIZE }
         requires free { clearing_hazard c.now.cause (memory_of m.old) (frames_of w.old) table c.now.vector ≡ None }
