@@ -4,17 +4,18 @@ use Rattle.std.specs.Prelude.{not, ◌&&◌, ◌||◌, if◌then◌else◌}
 use Rattle.std.proofs.lemmas.Bool.Decides.{nat_tests}
 use Rattle.i9_model.specs.declared.layout.TheConstants.{FRAME_SIZE, RECORD_SIZE}
 use Rattle.i9_model.specs.declared.push.Push.{Push}
+use Rattle.i9_model.specs.declared.interrupts.Cause.{Cause}
 use Rattle.i9_model.specs.Writes.{wrapped, address_count, upwards}
-use Rattle.i9_model.specs.Memory.{Memory, in_port_page, stored, word_bytes}
+use Rattle.i9_model.specs.Memory.{Memory, in_port_page, stored, word_bytes, with_words}
 use Rattle.i9_model.specs.State.{Frames}
-use Rattle.i9_model.specs.Frames.{in_bytes, in_frames, is_put, saved, wrote, record_address}
+use Rattle.i9_model.specs.Frames.{in_bytes, in_frames, is_put, saved, wrote, record_address, wrote_run}
 use Rattle.i9_model.specs.Hazards.{least, or_else, read_hazard, write_hazard, port_hazard, record_write_hazard}
 use Rattle.i9_model.specs.Step.{bytes_of_words}
-use Rattle.i9_model.specs.Interrupts.{record_writes, byte_hazard, priority_place, pending_place, priority_hazard, taken_hazard}
+use Rattle.i9_model.specs.Interrupts.{record_writes, byte_hazard, priority_place, pending_place, priority_hazard, taken_hazard, clearing_hazard}
 use Rattle.i9_model.proofs.Places.{in_bytes-above}
-use Rattle.i9_model.proofs.Runs.{is_put-upwards}
+use Rattle.i9_model.proofs.Runs.{is_put-upwards, wrote-upwards}
 use Rattle.i9_model.proofs.SoundRuns.{words_long}
-use Rattle.i9_model.proofs.Storing.{stored_kept}
+use Rattle.i9_model.proofs.Storing.{stored_kept, words_as_bytes}
 use Rattle.i9_model.proofs.FrameBytes.{stored_at, byte_of_words}
 use Rattle.i9_ints.specs.After.{memory_after, frames_after}
 
@@ -156,3 +157,19 @@ port_free (Some a) port e = absurd (cc)
 pub record_free : (f : Frames) (push : Push) → record_write_hazard f push ≡ None → port_hazard (record_address push.frame) RECORD_SIZE ≡ None
 unfolding record_write_hazard
 record_free f push e = port_free (write_hazard (saved f push.save) (record_address push.frame) RECORD_SIZE) (port_hazard (record_address push.frame) RECORD_SIZE) e
+
+-- ---- what was planned for later
+
+-- Once the frame is saved and the words of the record are written, what clears a request meets no hazard.
+pub clears_freely : (cause : Cause) (m n : Memory) (f g : Frames) (push : Push) (words : List ℕ) (table v : ℕ) → length words ≡ 4
+    → n ≡ with_words m (record_address push.frame) words → g ≡ wrote_run (saved f push.save) (record_address push.frame) RECORD_SIZE
+    → clearing_hazard cause (memory_after m push words) (frames_after m f push words) table v ≡ None → clearing_hazard cause n g table v ≡ None
+clears_freely cause m n f g push words table v four stores wrote free =
+    let place = record_address push.frame in
+    let bytes = bytes_of_words m place words in
+    let long : RECORD_SIZE ≡ length bytes = sym (words_long m place words ∙ ap (λ (k : ℕ). 4 * k) four) in
+    let memory : n ≡ memory_after m push words = stores ∙ words_as_bytes m place words in
+    let frames : g ≡ frames_after m f push words = wrote ∙ ap (wrote_run (saved f push.save) place) long ∙ sym (wrote-upwards (saved f push.save) place bytes) in
+    ap (λ (k : Memory). clearing_hazard cause k g table v) memory
+    ∙ ap (λ (h : Frames). clearing_hazard cause (memory_after m push words) h table v) frames
+    ∙ free

@@ -10,7 +10,7 @@ module _ (s : Interrupts) (pc k : ℕ) where
   more P before here j h = elim (cases_lt j k) [
     | inl l ↦ before j l
     | inr g ↦ let same : k ≡ j = omega arith in subst P same here
-    ]
+  ]
 
   -- it isn't ready
   pub best_kept : (best : Option ℕ) → IsBestLine s pc k best → is_ready s pc k ≡ false → IsBestLine s pc (k + 1) best

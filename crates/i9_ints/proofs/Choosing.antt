@@ -50,7 +50,7 @@ module _ (s : Interrupts) (soft : ℕ → Bool) (pc : ℕ) where
       ap (find (counts s soft pc)) (filtered (λ k. choice (Line k) v) (λ k. line_vector s.maps k == v) (range_with_len 0 LINES))
       ∙ parts_none (counts s soft pc) (λ k. cond (line_vector s.maps k == v) (choice (Line k) v ∷ []) []) 0 LINES
       (λ k low high. tested_none (counts s soft pc) (line_vector s.maps k == v) (choice (Line k) v)
-        (λ t. let e = eqb-true (line_vector s.maps k) v t in sym (line_counts k v big e) ∙ none k high e))
+      (λ t. let e = eqb-true (line_vector s.maps k) v t in sym (line_counts k v big e) ∙ none k high e))
 
   lines_some : (k v : ℕ) → 8 ≤ v → k < LINES → line_vector s.maps k ≡ v → is_ready s pc k ≡ true → ((j : ℕ) → j < k → line_vector s.maps j ≡ v → is_ready s pc j ≡ false)
       → find (counts s soft pc) (lines_with s.maps v) ≡ Some (choice (Line k) v)
@@ -59,7 +59,7 @@ module _ (s : Interrupts) (soft : ℕ → Bool) (pc : ℕ) where
       ∙ parts_some (counts s soft pc) (λ j. cond (line_vector s.maps j == v) (choice (Line j) v ∷ []) []) 0 LINES k (choice (Line k) v) (omega arith) few
       (tested_some (counts s soft pc) (line_vector s.maps k == v) (choice (Line k) v) (eq-eqb (line_vector s.maps k) v e) (sym (line_counts k v big e) ∙ ready))
       (λ j low high. tested_none (counts s soft pc) (line_vector s.maps j == v) (choice (Line j) v)
-        (λ t. let same = eqb-true (line_vector s.maps j) v t in sym (line_counts j v big same) ∙ none j high same))
+      (λ t. let same = eqb-true (line_vector s.maps j) v t in sym (line_counts j v big same) ∙ none j high same))
 
   -- ---- the lines and the requests of one priority
 
@@ -109,8 +109,8 @@ module _ (s : Interrupts) (soft : ℕ → Bool) (pc : ℕ) where
       below_some (counts s soft pc) (choices_at s.maps) (HIGHEST_PRIORITY + 1) HIGHEST_PRIORITY (vector_priority v) (choice (Line k) v) (omega arith) (omega arith)
       (first_some (counts s soft pc) (flat_map (lines_with s.maps) (vectors_of (vector_priority v))) (map (choice Soft) (vectors_of (vector_priority v))) (choice (Line k) v) (hard_some k best))
       (λ p low high. both_none p (omega arith)
-        (λ j few e. false_if (is_ready s pc j) (λ t. let least = best.none_greater j few t in omega arith))
-        (λ u l h. none u (omega arith) (omega arith)))
+      (λ j few e. false_if (is_ready s pc j) (λ t. let least = best.none_greater j few t in omega arith))
+      (λ u l h. none u (omega arith) (omega arith)))
 
   soft_chosen : (v : ℕ) → IsTop (is_wanted soft pc) 8 256 v → ((k : ℕ) → k < LINES → is_ready s pc k ≡ true → vector_priority (line_vector s.maps k) < vector_priority v)
       → find (counts s soft pc) (choices s.maps) ≡ Some (choice Soft v)
@@ -120,11 +120,11 @@ module _ (s : Interrupts) (soft : ℕ → Bool) (pc : ℕ) where
       let p = vector_priority v in
       below_some (counts s soft pc) (choices_at s.maps) (HIGHEST_PRIORITY + 1) HIGHEST_PRIORITY p (choice Soft v) (omega arith) (omega arith)
       (first_none (counts s soft pc) (flat_map (lines_with s.maps) (vectors_of p)) (map (choice Soft) (vectors_of p))
-        (hard_none p (omega arith) (λ k few e. false_if (is_ready s pc k) (λ t. let less = lower k few t in omega arith)))
-        ∙ soft_some v top)
+      (hard_none p (omega arith) (λ k few e. false_if (is_ready s pc k) (λ t. let less = lower k few t in omega arith)))
+      ∙ soft_some v top)
       (λ q l h. both_none q (omega arith)
-        (λ k few e. false_if (is_ready s pc k) (λ t. let less = lower k few t in omega arith))
-        (λ u m n. top.none_greater u (omega arith) (omega arith)))
+      (λ k few e. false_if (is_ready s pc k) (λ t. let less = lower k few t in omega arith))
+      (λ u m n. top.none_greater u (omega arith) (omega arith)))
 
   -- ---- the two bests
 

@@ -43,12 +43,12 @@ pub parts_some : {X : Type 0} (P : X → Bool) (f : ℕ → List X) (a n i : ℕ
 parts_some P f a zero i x low high here before = absurd (omega arith)
 parts_some P f a (suc n) i x low high here before = elim (cases_lt a i) [
   | inl h ↦
-    first_none P (f a) (flat_map f (range_with_len (a + 1) n)) (before a (omega arith) h)
-    ∙ parts_some P f (a + 1) n i x (omega arith) (omega arith) here (λ j l u. before j (omega arith) u)
+      first_none P (f a) (flat_map f (range_with_len (a + 1) n)) (before a (omega arith) h)
+      ∙ parts_some P f (a + 1) n i x (omega arith) (omega arith) here (λ j l u. before j (omega arith) u)
   | inr h ↦
-    let same : i ≡ a = omega arith in
-    first_some P (f a) (flat_map f (range_with_len (a + 1) n)) x (subst (λ (k : ℕ). find P (f k) ≡ Some x) same here)
-  ]
+      let same : i ≡ a = omega arith in
+      first_some P (f a) (flat_map f (range_with_len (a + 1) n)) x (subst (λ (k : ℕ). find P (f k) ≡ Some x) same here)
+]
 
 flat_map-map : {X : Type 0} (f : ℕ → List X) (g : ℕ → ℕ) (xs : List ℕ) → flat_map f (map g xs) ≡ flat_map (λ j. f (g j)) xs
 flat_map-map f g [] = refl

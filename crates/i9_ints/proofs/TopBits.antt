@@ -58,10 +58,10 @@ module _ (m : Memory) (table pc p : ℕ) where
     from = omega arith;
     below = omega arith;
     passes =
-      let at : 8 * p + r - 8 * p ≡ r = omega arith in
-      let set : bit vectors (8 * p + r - 8 * p) ≡ true = ap (bit vectors) at ∙ at_top vectors r low high in
-      wanted_is (8 * p + r) (omega arith) (omega arith) ∙ grind arith;
+        let at : 8 * p + r - 8 * p ≡ r = omega arith in
+        let set : bit vectors (8 * p + r - 8 * p) ≡ true = ap (bit vectors) at ∙ at_top vectors r low high in
+        wanted_is (8 * p + r) (omega arith) (omega arith) ∙ grind arith;
     none_greater = λ u more less.
-      let none : bit vectors (u - 8 * p) ≡ false = above_top vectors r (u - 8 * p) high (omega arith) in
-      wanted_is u (omega arith) less ∙ grind arith;
+        let none : bit vectors (u - 8 * p) ≡ false = above_top vectors r (u - 8 * p) high (omega arith) in
+        wanted_is u (omega arith) less ∙ grind arith;
   }

@@ -95,7 +95,13 @@ fn taken_hazard_after(m: &Memory, w: &Watch, e: &Entry, table: u32, vector: u8) 
 
 /// The hazard of what clears the request of an interrupt afterwards.
 #[tactic(auto, using(crate::proofs::AfterRecords::record_free))]
-pub(crate) fn cleared_hazard(m: &Memory, w: &Watch, table: u32, c: &Chosen, e: &Entry) -> Option<u32>
+pub(crate) fn cleared_hazard(
+    m: &Memory,
+    w: &Watch,
+    table: u32,
+    c: &Chosen,
+    e: &Entry,
+) -> Option<u32>
     requires { record_write_hazard (frames_of w.now) e.now.push ≡ None }
     ensures { result ≡ cleared_hazard (memory_of m.now) (frames_of w.now) table c.now e.now.push e.now.words }
 {

@@ -25,7 +25,11 @@ pub(crate) fn without_bit(word: u32, k: u8) -> u32
     ensures value { result ≡ without_bit word k }
     ensures no_greater { result ≤ word }
 {
-    if k < 32 { word & (u32::MAX - (1 << k)) } else { 0 }
+    if k < 32 {
+        word & (u32::MAX - (1 << k))
+    } else {
+        0
+    }
 }
 
 /// A byte with bit `k`, 0 to 7, cleared.

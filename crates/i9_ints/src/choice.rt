@@ -12,9 +12,7 @@ use crate::Ints;
 use crate::bits::has_bit;
 use crate::requests::{VECTORS, pending_place, priority_place};
 use i9_memory::Memory;
-use i9_model::interrupts::{
-    HIGHEST_PRIORITY, LINES, NMI_VECTOR, PENDING_SIZE, PRIORITY_PLACE,
-};
+use i9_model::interrupts::{HIGHEST_PRIORITY, LINES, NMI_VECTOR, PENDING_SIZE, PRIORITY_PLACE};
 use i9_model::{Cause, Chosen};
 use i9_watch::Watch;
 
@@ -170,7 +168,13 @@ impl Ints {
     /// requests, which are read in any case. After the i960 CA/CF User's Manual, interrupts; the
     /// order of lines and software is this project's own.
     #[tactic(auto, using(crate::proofs::Choosing::choice_rules))]
-    pub fn choose_soft(&self, m: &Memory, w: &Watch, table: u32, pc: u32) -> Result<Option<Chosen>, u32>
+    pub fn choose_soft(
+        &self,
+        m: &Memory,
+        w: &Watch,
+        table: u32,
+        pc: u32,
+    ) -> Result<Option<Chosen>, u32>
         ensures { result ≡ chosen_soft (interrupts_of self.now) (memory_of m.now) (frames_of w.now) table pc }
     {
         if let Some(hazard) = w.check_read(table, PENDING_SIZE) {

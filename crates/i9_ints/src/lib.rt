@@ -9,8 +9,7 @@ mod entry;
 mod requests;
 mod state;
 
-pub use i9_model::Entry as IntEntry;
-pub use i9_model::{Cause, Chosen};
+pub use i9_model::{Cause, Chosen, Entry as IntEntry};
 pub use state::Ints;
 
 #[cfg(test)]

@@ -49,7 +49,9 @@ fn request_hazard(w: &Watch, table: u32, vector: u8) -> Option<u32>
 {
     let priority = priority_place(table, vector);
     let pending = pending_place(table, vector);
-    let read = w.check_read(priority, 1).or_else(|| w.check_read(pending, 1));
+    let read = w
+        .check_read(priority, 1)
+        .or_else(|| w.check_read(pending, 1));
     read.or_else(|| byte_hazard(w, priority))
         .or_else(|| byte_hazard(w, pending))
 }

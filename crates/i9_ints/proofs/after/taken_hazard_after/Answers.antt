@@ -14,7 +14,7 @@ returns-then-is_soft_after c =
     let f = frames_after m (frames_of c.args.w.now) c.args.e.now.push c.args.e.now.words in
     let at = c.priority_place-priority.ensures in
     let soft : f.soft (priority_place c.args.table c.args.vector) ≡ true =
-      ap f.soft (sym at) ∙ sym (c.is_soft_after.ensures m) ∙ c.if-is_soft_after.true in
+    ap f.soft (sym at) ∙ sym (c.is_soft_after.ensures m) ∙ c.if-is_soft_after.true in
     ap (λ (x : ℕ). Some x) at ∙ sym (taken_by_priority n f c.args.table c.args.vector soft)
 
 pub returns-then-is_soft_after-2 : goal.returns-then-is_soft_after-2
@@ -24,9 +24,9 @@ returns-then-is_soft_after-2 c =
     let f = frames_after m (frames_of c.args.w.now) c.args.e.now.push c.args.e.now.words in
     let at = c.pending_place-pending.ensures in
     let hard : f.soft (priority_place c.args.table c.args.vector) ≡ false =
-      ap f.soft (sym c.priority_place-priority.ensures) ∙ sym (c.is_soft_after.ensures m) ∙ c.if-is_soft_after.false in
+    ap f.soft (sym c.priority_place-priority.ensures) ∙ sym (c.is_soft_after.ensures m) ∙ c.if-is_soft_after.false in
     let soft : f.soft (pending_place c.args.table c.args.vector) ≡ true =
-      ap f.soft (sym at) ∙ sym (c.is_soft_after-2.ensures m) ∙ c.if-is_soft_after-2.true in
+    ap f.soft (sym at) ∙ sym (c.is_soft_after-2.ensures m) ∙ c.if-is_soft_after-2.true in
     ap (λ (x : ℕ). Some x) at ∙ sym (taken_by_pending n f c.args.table c.args.vector hard soft)
 
 pub returns-in-Some : goal.returns-in-Some
@@ -35,9 +35,9 @@ returns-in-Some c =
     let n = memory_after m c.args.e.now.push c.args.e.now.words in
     let f = frames_after m (frames_of c.args.w.now) c.args.e.now.push c.args.e.now.words in
     let hard : f.soft (priority_place c.args.table c.args.vector) ≡ false =
-      ap f.soft (sym c.priority_place-priority.ensures) ∙ sym (c.is_soft_after.ensures m) ∙ c.if-is_soft_after.false in
+    ap f.soft (sym c.priority_place-priority.ensures) ∙ sym (c.is_soft_after.ensures m) ∙ c.if-is_soft_after.false in
     let hard_too : f.soft (pending_place c.args.table c.args.vector) ≡ false =
-      ap f.soft (sym c.pending_place-pending.ensures) ∙ sym (c.is_soft_after-2.ensures m) ∙ c.if-is_soft_after-2.false in
+    ap f.soft (sym c.pending_place-pending.ensures) ∙ sym (c.is_soft_after-2.ensures m) ∙ c.if-is_soft_after-2.false in
     let found : Some c.in-Some.hazard ≡ priority_hazard n f c.args.table c.args.vector = sym c.in-Some.is ∙ c.priority_hazard_after.ensures in
     ap (λ (o : Option ℕ). or_else o (byte_hazard f (pending_place c.args.table c.args.vector))) found
     ∙ sym (taken_by_writes n f c.args.table c.args.vector hard hard_too)
@@ -48,9 +48,9 @@ returns c =
     let n = memory_after m c.args.e.now.push c.args.e.now.words in
     let f = frames_after m (frames_of c.args.w.now) c.args.e.now.push c.args.e.now.words in
     let hard : f.soft (priority_place c.args.table c.args.vector) ≡ false =
-      ap f.soft (sym c.priority_place-priority.ensures) ∙ sym (c.is_soft_after.ensures m) ∙ c.if-is_soft_after.false in
+    ap f.soft (sym c.priority_place-priority.ensures) ∙ sym (c.is_soft_after.ensures m) ∙ c.if-is_soft_after.false in
     let hard_too : f.soft (pending_place c.args.table c.args.vector) ≡ false =
-      ap f.soft (sym c.pending_place-pending.ensures) ∙ sym (c.is_soft_after-2.ensures m) ∙ c.if-is_soft_after-2.false in
+    ap f.soft (sym c.pending_place-pending.ensures) ∙ sym (c.is_soft_after-2.ensures m) ∙ c.if-is_soft_after-2.false in
     let none : None ≡ priority_hazard n f c.args.table c.args.vector = sym c.in_default.is ∙ c.priority_hazard_after.ensures in
     c.byte_hazard_after.ensures m
     ∙ ap (byte_hazard f) c.pending_place-pending.ensures

@@ -15,14 +15,14 @@ returns-clause-memory c =
     let last = pending_write m c.args.table c.args.vector in
     elim c.if-left-eq0.branch [
       | then-left-eq0 w ↦
-        let none : left_pending m c.args.table c.args.vector ≡ 0 = cc in
-        let before : memory_of c.if-left-eq0.m ≡ with_writes m (first ∷ []) = cc in
-        let after : memory_of c.store-2.new.m ≡ with_writes (memory_of c.if-left-eq0.m) (last ∷ []) = cc in
-        then_memory m (memory_of c.if-left-eq0.m) (memory_of c.store-2.new.m) first (last ∷ []) before after
-        ∙ ap (with_writes m) (sym (taken_last m c.args.table c.args.vector none))
+          let none : left_pending m c.args.table c.args.vector ≡ 0 = cc in
+          let before : memory_of c.if-left-eq0.m ≡ with_writes m (first ∷ []) = cc in
+          let after : memory_of c.store-2.new.m ≡ with_writes (memory_of c.if-left-eq0.m) (last ∷ []) = cc in
+          then_memory m (memory_of c.if-left-eq0.m) (memory_of c.store-2.new.m) first (last ∷ []) before after
+          ∙ ap (with_writes m) (sym (taken_last m c.args.table c.args.vector none))
       | else-left-eq0 w ↦
-        let after : memory_of c.store-2.new.m ≡ with_writes m (last ∷ []) = cc in
-        after ∙ ap (with_writes m) (sym (taken_others m c.args.table c.args.vector (λ e. w.if-left-eq0.false (cc))))
+          let after : memory_of c.store-2.new.m ≡ with_writes m (last ∷ []) = cc in
+          after ∙ ap (with_writes m) (sym (taken_others m c.args.table c.args.vector (λ e. w.if-left-eq0.false (cc))))
     ]
 
 pub returns-clause-frames : goal.returns-clause-frames
@@ -33,12 +33,12 @@ returns-clause-frames c =
     let last = pending_write m c.args.table c.args.vector in
     elim c.if-left-eq0.branch [
       | then-left-eq0 w ↦
-        let none : left_pending m c.args.table c.args.vector ≡ 0 = cc in
-        let before : frames_of c.if-left-eq0.w ≡ wrote f (first ∷ []) = cc in
-        let after : frames_of c.store-2.new.w ≡ wrote (frames_of c.if-left-eq0.w) (last ∷ []) = cc in
-        then_frames f (frames_of c.if-left-eq0.w) (frames_of c.store-2.new.w) first (last ∷ []) before after
-        ∙ ap (wrote f) (sym (taken_last m c.args.table c.args.vector none))
+          let none : left_pending m c.args.table c.args.vector ≡ 0 = cc in
+          let before : frames_of c.if-left-eq0.w ≡ wrote f (first ∷ []) = cc in
+          let after : frames_of c.store-2.new.w ≡ wrote (frames_of c.if-left-eq0.w) (last ∷ []) = cc in
+          then_frames f (frames_of c.if-left-eq0.w) (frames_of c.store-2.new.w) first (last ∷ []) before after
+          ∙ ap (wrote f) (sym (taken_last m c.args.table c.args.vector none))
       | else-left-eq0 w ↦
-        let after : frames_of c.store-2.new.w ≡ wrote f (last ∷ []) = cc in
-        after ∙ ap (wrote f) (sym (taken_others m c.args.table c.args.vector (λ e. w.if-left-eq0.false (cc))))
+          let after : frames_of c.store-2.new.w ≡ wrote f (last ∷ []) = cc in
+          after ∙ ap (wrote f) (sym (taken_others m c.args.table c.args.vector (λ e. w.if-left-eq0.false (cc))))
     ]
