@@ -1,5 +1,7 @@
 //! Printing of lines.
 ghost use Rattle.std.specs.Prelude.{◌≡◌, ◌≢◌, flat_map, true};
+ghost use Rattle.std.specs.List.{position};
+ghost use Rattle.i9_text.specs.Text.{is_line_feed};
 ghost use Rattle.i9_tool.specs.Print.{Prints, IsLine, AreLines, account, is_lined, line_text};
 
 use crate::text::lines_of;
@@ -48,6 +50,13 @@ pub(crate) fn print_pieces<K: Sink>(pieces: &[Vec<u8>], out: &mut K) -> Printed
     Printed::Done
 }
 
+/// The place of the first line feed of a text.
+fn feed_place(text: &[u8]) -> Option<usize>
+    ensures { result ≡ position is_line_feed text.now }
+{
+    text.iter().position(|byte| *byte == b'\n')
+}
+
 /// Writes the lines of a text, each by one call of the sink.
 #[tactic(auto, using(crate::proofs::Prints::prints_rules))]
 pub(crate) fn print_text<K: Sink>(text: &[u8], out: &mut K) -> Printed
@@ -55,7 +64,7 @@ pub(crate) fn print_text<K: Sink>(text: &[u8], out: &mut K) -> Printed
     ensures prints { Prints result (account K.told K.faults K.writes K.sure) out.old out.new text.now }
 {
     let mut rest = text;
-    while let Some(place) = rest.iter().position(|byte| *byte == b'\n') {
+    while let Some(place) = feed_place(rest) {
         let (line, after) = rest.split_at(place + 1);
         match print_piece(line, out) {
             Printed::Done => {}
