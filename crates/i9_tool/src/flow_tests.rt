@@ -276,9 +276,48 @@ fn blocks(alloc: Global, branches: &str, operands: &str) -> Result<String, Fail>
 }
 
 #[test]
-fn branches_and_jumps(rt: HostRuntime) -> Result<(), Fail> {
+fn branches_by_code(rt: HostRuntime) -> Result<(), Fail> {
     let by_code = blocks(rt.alloc(), BRANCHES, "")?;
+    let row = Row {
+        source: &[BOOT, FOR_EACH_CODE, &by_code, NEXT_CODE],
+        length: 226,
+        before: "",
+        point: "226 end 00001098 00000002 001F2002",
+        globals: &[(0, 8), (1, 1), (4, 0x0F5F_3F7F), (5, 0x8055_3377)],
+        locals: &[(1, 0x40)],
+        end: "limit",
+        code: 0,
+    };
+    assert!(rt; holds(rt.alloc(), &row)?);
+    Ok(())
+}
+
+#[test]
+fn branches_by_comparison(rt: HostRuntime) -> Result<(), Fail> {
     let by_comparison = blocks(rt.alloc(), COMPARE_BRANCHES, "g0, g1, ")?;
+    let row = Row {
+        source: &[BOOT, COMPARES_THREE_PAIRS, &by_comparison, LEAVES],
+        length: 144,
+        before: "",
+        point: "144 end 00001118 00000004 001F2002",
+        globals: &[
+            (0, 0xFFFF_FFFF),
+            (1, 1),
+            (4, 0x2A0F),
+            (5, 0x755),
+            (6, 0x1933),
+            (14, 0x102C),
+        ],
+        locals: &[(1, 0x40)],
+        end: "limit",
+        code: 0,
+    };
+    assert!(rt; holds(rt.alloc(), &row)?);
+    Ok(())
+}
+
+#[test]
+fn branches_and_jumps(rt: HostRuntime) -> Result<(), Fail> {
     let rows = [
         Row {
             source: &[BOOT, CHANGES_ITS_CODE],
@@ -298,33 +337,6 @@ fn branches_and_jumps(rt: HostRuntime) -> Result<(), Fail> {
             globals: &[(5, 0xE000_0000)],
             locals: &[(1, 0x40), (2, 0x1008)],
             end: "exit 00000000",
-            code: 0,
-        },
-        Row {
-            source: &[BOOT, FOR_EACH_CODE, &by_code, NEXT_CODE],
-            length: 226,
-            before: "",
-            point: "226 end 00001098 00000002 001F2002",
-            globals: &[(0, 8), (1, 1), (4, 0x0F5F_3F7F), (5, 0x8055_3377)],
-            locals: &[(1, 0x40)],
-            end: "limit",
-            code: 0,
-        },
-        Row {
-            source: &[BOOT, COMPARES_THREE_PAIRS, &by_comparison, LEAVES],
-            length: 144,
-            before: "",
-            point: "144 end 00001118 00000004 001F2002",
-            globals: &[
-                (0, 0xFFFF_FFFF),
-                (1, 1),
-                (4, 0x2A0F),
-                (5, 0x755),
-                (6, 0x1933),
-                (14, 0x102C),
-            ],
-            locals: &[(1, 0x40)],
-            end: "limit",
             code: 0,
         },
         Row {
