@@ -1,5 +1,5 @@
 -- A step of a machine is the next record, or the end, of what the machine stands for.
-use Rattle.std.proofs.Common.{◌≡◌, ℕ, ◌||◌, nat_lt, List, ◌∷◌, ◌++◌, Option, None, length, map, true, sym, ap, ◌∙◌, subst}
+use Rattle.std.proofs.Common.{◌≡◌, ℕ, ◌≤◌, ◌||◌, nat_lt, List, ◌∷◌, ◌++◌, Option, None, length, map, true, sym, ap, ◌∙◌, subst}
 use Rattle.std.specs.Option.{option_map}
 use Rattle.i9_model.specs.State.{State}
 use Rattle.i9_model.specs.Step.{Action}
@@ -11,7 +11,7 @@ use Rattle.i9_model.specs.HeldFrames.{Cache, renewed, sets_in, cache_acted, cach
 use Rattle.i9_model.specs.declared.view.View.{View}
 use Rattle.i9_model.proofs.AlikeSteps.{next_alike, does_alike, ends_alike, done_alike, due_alike, view_alike, lines_alike, alike_trans}
 use Rattle.i9_model.proofs.HeldRuns.{IsFreeRecord, next_free, configured_by, sets_after}
-use Rattle.i9_processor.specs.Effect.{has_writes, is_restart}
+use Rattle.i9_processor.specs.Effect.{HasRoomFor, has_writes, is_restart}
 use Rattle.i9_processor.specs.State.{state_of, cache_of, size_of}
 use Rattle.i9_model.specs.declared.run.End.{End}
 use Rattle.i9_machine.specs.declared.line.Line.{Line}
@@ -19,7 +19,7 @@ use Rattle.i9_machine.specs.declared.line.Turn.{Turn}
 use Rattle.i9_machine.specs.declared.line.Turn.TheVariants as turns
 use Rattle.i9_machine.specs.declared.machine.Machine.{Machine}
 use Rattle.i9_machine.specs.Line.{shown_of}
-use Rattle.i9_machine.specs.Step.{TellsRecord, needs_room, NeedsRoom, IsSame, next_for, Did, Ended, Refused, Steps}
+use Rattle.i9_machine.specs.Step.{TellsRecord, needs_room, NeedsRoom, HasRoomToDo, HasRoom, IsSame, next_for, Did, Ended, Refused, Steps}
 use Rattle.i9_machine.specs.StandsFor.{StandsFor, DoesNext, EndsRun, IsRefused, Advances}
 
 -- what comes next for the machine, beside what comes next in the run
@@ -163,6 +163,20 @@ refused g rs before m old new stands d = record {
   lines = d.lines;
   needed = needs_alike (next g rs) (next_for before) (beside g rs before stands) d.needed;
 }
+
+-- room for what comes next in the run is room for what comes next for the machine
+room_alike : (m : Machine) (spare : ℕ) (o p : Next) → AreNextAlike o p → HasRoom m spare o → HasRoom m spare p
+room_alike m spare (Ends f) (Ends g) alike room = room
+room_alike m spare (Ends f) (Does q) alike room = absurd alike
+room_alike m spare (Does r) (Ends g) alike room = absurd alike
+room_alike m spare (Does r) (Does q) alike room = record {
+  lines = subst (λ (ls : List Shown). length ls ≤ spare) (sym (lines_alike r q alike)) room.lines;
+  effect = subst (HasRoomFor m.processor) (sym (done_alike r q alike)) room.effect;
+  no_sets = ap (λ (a : Action). is_restart a.control) (done_alike r q alike) ∙ room.no_sets;
+}
+
+pub next_room : (g : Given) (rs : List Record) (m : Machine) (spare : ℕ) → StandsFor g rs None m → HasRoom m spare (next g rs) → HasRoom m spare (next_for m)
+next_room g rs m spare stands room = room_alike m spare (next g rs) (next_for m) (beside g rs m stands) room
 
 pub steps_advance : (g : Given) (rs : List Record) (before : Machine) (answer : Turn) (m : Machine) (old new : List Line) → StandsFor g rs None before → Steps before answer m old new → Advances g rs answer m old new
 steps_advance g rs before turns.On m old new stands d = did g rs before turns.On m old new stands d

@@ -5,18 +5,23 @@ use Rattle.i9_model.specs.State.{State}
 use Rattle.i9_model.specs.Standing.{stands_at}
 use Rattle.i9_model.specs.declared.run.Point.{Point}
 use Rattle.i9_model.specs.declared.run.End.TheVariants.{Limit}
-use Rattle.i9_model.specs.Run.{Kind, Instruction, Faulted, Entered, Next, Ends, next_by_standing, next_in}
-use Rattle.i9_model.specs.PrintedText.{out_lines, point_lines}
+use Rattle.i9_model.specs.Memory.{console_byte}
+use Rattle.i9_model.specs.Step.{Action}
+use Rattle.i9_model.specs.Run.{Kind, Instruction, Faulted, Entered, Next, Ends, action_done, record_of, point_of, next_by_standing, next_in}
+use Rattle.i9_model.specs.PrintedText.{out_lines, point_lines, record_lines}
 use Rattle.i9_processor.specs.State.{state_of}
 use Rattle.i9_model.specs.declared.run.Due.{Due}
 use Rattle.i9_model.specs.declared.run.Due.TheVariants as dues
-use Rattle.i9_machine.specs.Doing.{point_count}
+use Rattle.i9_processor.specs.Effect.{writes_in, HasRoomFor, is_restart}
+use Rattle.i9_processor.proofs.Rooms.{room_space}
+use Rattle.i9_machine.specs.Doing.{point_count, line_count, HasRoomForStep}
+use Rattle.i9_machine.specs.declared.step.Step.{Step}
 use Rattle.i9_model.specs.declared.run.End.{End}
 use Rattle.i9_machine.specs.declared.line.Line.{Line}
 use Rattle.i9_machine.specs.declared.line.Turn.{Turn}
 use Rattle.i9_machine.specs.declared.line.Turn.TheVariants as turns
 use Rattle.i9_machine.specs.declared.machine.Machine.{Machine}
-use Rattle.i9_machine.specs.Step.{TellsRecord, next_for, Did, Steps}
+use Rattle.i9_machine.specs.Step.{TellsRecord, IsStep, HasRoomToDo, HasRoom, next_for, Did, Steps}
 use Rattle.i9_machine.specs.StandsFor.{LeavesFewer}
 
 no_end : (k : Kind) (s : State) (e : End) → TellsRecord k s (turns.End e) → ⊥
@@ -24,7 +29,7 @@ no_end (Instruction i) s e t = t
 no_end (Faulted inst fault) s e t = t
 no_end (Entered x) s e t = t
 
-no_memory : (k : Kind) (s : State) → TellsRecord k s turns.Memory → ⊥
+pub no_memory : (k : Kind) (s : State) → TellsRecord k s turns.Memory → ⊥
 no_memory (Instruction i) s t = t
 no_memory (Faulted inst fault) s t = t
 no_memory (Entered x) s t = t
@@ -66,3 +71,22 @@ points_long (Some kind) s = refl
 
 pub lines_long : (b : Option ℕ) (p : Option Point) (s : State) → length (out_lines b ++ point_lines p s) ≡ length (out_lines b) + point_count p
 lines_long b p s = length-append (out_lines b) (point_lines p s) ∙ ap (λ (n : ℕ). length (out_lines b) + n) (points_long p s)
+
+-- ---- room
+
+-- room for what comes next is room for the step that does it
+pub step_room : (m : Machine) (spare : ℕ) (step : Step) → IsStep m step → HasRoom m spare (next_for m) → HasRoomForStep m spare step
+step_room m spare step is room =
+    let s = state_of m.processor in
+    let r = record_of is.kind s in
+    let here : HasRoomToDo m spare r = subst (HasRoom m spare) is.is_next room in
+    let bytes = console_byte (writes_in step.effect) in
+    let lines : length (record_lines r) ≡ line_count step =
+    lines_long (console_byte (action_done r).writes) (point_of is.kind) r.after
+    ∙ ap (λ (a : Action). length (out_lines (console_byte a.writes)) + point_count (point_of is.kind)) (sym is.effect.same)
+    ∙ ap (λ (p : Option Point). length (out_lines bytes) + point_count p) (sym is.point) in
+    record {
+      lines = subst (λ (n : ℕ). n ≤ spare) lines here.lines;
+      effect = room_space m.processor s step.effect (subst (HasRoomFor m.processor) (sym is.effect.same) here.effect);
+      no_sets = ap (λ (a : Action). is_restart a.control) is.effect.same ∙ here.no_sets;
+    }

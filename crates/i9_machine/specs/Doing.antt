@@ -1,5 +1,5 @@
 -- What a step prints and what it needs, from its effect.
-use Rattle.std.specs.Prelude.{ℕ, ◌+◌, ◌≤◌, Bool, ◌||◌, nat_lt, List, ◌++◌, length, Option, None, Some}
+use Rattle.std.specs.Prelude.{◌≡◌, ℕ, ◌+◌, ◌≤◌, Bool, false, ◌||◌, nat_lt, List, ◌++◌, length, Option, None, Some}
 use Rattle.std.specs.Option.{option_map}
 use Rattle.i9_model.specs.Memory.{console_byte}
 use Rattle.i9_model.specs.Free.{IsFree}
@@ -7,7 +7,8 @@ use Rattle.i9_model.specs.State.{State}
 use Rattle.i9_model.specs.Step.{moved}
 use Rattle.i9_model.specs.declared.run.Point.{Point}
 use Rattle.i9_model.specs.PrintedText.{Shown, out_lines, point_lines}
-use Rattle.i9_processor.specs.Effect.{writes_in, action_in, AreRegisters, CanControl, CanMove, has_writes, is_restart}
+use Rattle.i9_processor.specs.Effect.{writes_in, action_in, control_in, AreRegisters, CanControl, CanMove, HasSpaceFor, has_writes, is_restart}
+use Rattle.i9_machine.specs.declared.machine.Machine.{Machine}
 use Rattle.i9_machine.specs.declared.step.Step.{Step}
 
 -- the lines of a step, from the state after it
@@ -27,6 +28,13 @@ line_count step = length (out_lines (console_byte (writes_in step.effect))) + po
 abbrev pub asks_room : State → Step → Bool
 asks_room s step =
     nat_lt 0 (line_count step) || (has_writes (action_in s step.effect) || is_restart (action_in s step.effect).control)
+
+-- There is room for a step, with this many lines to spare: for its lines, and for what it stores and saves; and no new
+-- sets are made.
+pub record HasRoomForStep (m : Machine) (spare : ℕ) (step : Step) : Type 0 where
+  pub lines : line_count step ≤ spare
+  pub effect : HasSpaceFor m.processor step.effect
+  pub no_sets : is_restart (control_in step.effect.control) ≡ false
 
 -- its effect can be applied in a state, and its count fits a length
 pub record IsReady (s : State) (limit : ℕ) (step : Step) : Type 0 where

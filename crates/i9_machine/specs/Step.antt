@@ -1,12 +1,12 @@
 -- One step of a machine from its own fields, with no word on the records before.
-use Rattle.std.specs.Prelude.{◌≡◌, ℕ, ◌+◌, ◌-◌, ◌*◌, ◌≤◌, Bool, true, ◌||◌, nat_lt, List, length, Some, None, Result, Ok, Err}
+use Rattle.std.specs.Prelude.{◌≡◌, ℕ, ◌+◌, ◌-◌, ◌*◌, ◌≤◌, Bool, true, false, ◌||◌, nat_lt, List, length, Some, None, Result, Ok, Err}
 use Rattle.std.specs.Option.{option_map}
 use Rattle.i9_isa.specs.Words.{words_of}
 use Rattle.i9_model.specs.State.{State}
 use Rattle.i9_model.specs.Run.{Kind, Instruction, Faulted, Entered, Record, Next, Does, Ends, next_in, due_by, faulted_words, action_by_kind, counts_of, point_of, record_of, action_done}
 use Rattle.i9_model.specs.Alike.{AreAlike}
 use Rattle.i9_model.specs.PrintedText.{record_lines, end_lines}
-use Rattle.i9_processor.specs.Effect.{IsEffect, cache_through, size_through, has_writes, is_restart}
+use Rattle.i9_processor.specs.Effect.{IsEffect, HasRoomFor, cache_through, size_through, has_writes, is_restart}
 use Rattle.i9_processor.specs.State.{state_of, cache_of, size_of}
 use Rattle.i9_model.specs.declared.run.End.{End}
 use Rattle.i9_machine.specs.declared.line.Line.{Line}
@@ -41,6 +41,18 @@ needs_room r = nat_lt 0 (length (record_lines r)) || (has_writes (action_done r)
 abbrev pub NeedsRoom : Next → Type 0
 NeedsRoom (Ends f) = Unit {0}
 NeedsRoom (Does r) = needs_room r ≡ true
+
+-- There is room to do a record, with this many lines to spare: for its lines, and for what it stores and saves; and no
+-- new sets are made.
+pub record HasRoomToDo (m : Machine) (spare : ℕ) (r : Record) : Type 0 where
+  pub lines : length (record_lines r) ≤ spare
+  pub effect : HasRoomFor m.processor (action_done r)
+  pub no_sets : is_restart (action_done r).control ≡ false
+
+-- there is room for what comes next: an end has two lines
+abbrev pub HasRoom : Machine → ℕ → Next → Type 0
+HasRoom m spare (Ends f) = 2 ≤ spare
+HasRoom m spare (Does r) = HasRoomToDo m spare r
 
 -- ---- what a step is to do
 

@@ -1,5 +1,5 @@
 //! The machine, one step at a time.
-ghost use Rattle.std.specs.Prelude.{◌≡◌, ◌<◌, ◌≤◌, [], ℕ, List, Option, None, Some, IfOk, IfSome};
+ghost use Rattle.std.specs.Prelude.{◌≡◌, ◌-◌, ◌<◌, ◌≤◌, [], ℕ, List, Option, None, Some, IfOk, IfSome, vec_len, vec_capacity};
 ghost use Rattle.std.proofs.Props.{props};
 ghost use Rattle.i9_model.specs.declared.layout.TheConstants.{MAX_LENGTH};
 ghost use Rattle.i9_model.specs.declared.event.Timed.{Timed};
@@ -8,7 +8,7 @@ ghost use Rattle.i9_model.specs.Overlay.{overlay};
 ghost use Rattle.i9_model.specs.HeldFrames.{cache_after, sets_in};
 ghost use Rattle.i9_model.specs.Given.{Given, given};
 ghost use Rattle.i9_model.specs.declared.run.End.{End};
-ghost use Rattle.i9_model.specs.Run.{Record, state_after};
+ghost use Rattle.i9_model.specs.Run.{Record, state_after, next};
 ghost use Rattle.i9_model.specs.PrintedText.{view_of};
 ghost use Rattle.i9_frames.specs.Sets.{held};
 ghost use Rattle.i9_processor.specs.State.{state_of};
@@ -42,7 +42,7 @@ pub struct Machine {
 
 impl Machine {
     ghost use Rattle.i9_machine.specs.StandsFor.{StandsFor, Advances, AnswersAgain, LeavesFewer};
-    ghost use Rattle.i9_machine.specs.Step.{Steps, steps_left};
+    ghost use Rattle.i9_machine.specs.Step.{Steps, HasRoom, next_for, steps_left};
 
     /// A machine before its first step: its run has the image's bytes, so many register sets or as many
     /// as the PRCB asks for, and at most so many instructions.
@@ -96,6 +96,7 @@ impl Machine {
     fn step(&mut self, out: &mut Vec<Line>) -> Turn
         requires { self.old.ended ≡ None }
         ensures steps { Steps self.old result self.new out.old.items out.new.items }
+        ensures lacking { result ≡ Turn.Memory → HasRoom self.old (vec_capacity out.old - vec_len out.old) (next_for self.old) → ⊥ }
         ensures fewer { LeavesFewer result (steps_left self.old) (steps_left self.new) }
     {
         match self.planned() {
@@ -105,13 +106,16 @@ impl Machine {
     }
 
     /// One step of the run: the next instruction is done or faults, or its fault is entered, or the end is
-    /// answered, and the lines of it are appended to `out`. Where memory is refused, the machine and `out`
-    /// are as before. Once an end was answered, each call answers it again and changes nothing.
+    /// answered, and the lines of it are appended to `out`. Memory is refused only where room is lacking in
+    /// the machine or in `out`, or where new sets are to be made; then both are as before. Once an end was
+    /// answered, each call answers it again and changes nothing.
     pub fn advance(&mut self, out: &mut Vec<Line>) -> Turn
         ensures next { (g : Given) (rs : List Record) → StandsFor g rs None self.old
             → Advances g rs result self.new out.old.items out.new.items }
         ensures again { (g : Given) (rs : List Record) (f : End) → StandsFor g rs (Some f) self.old
             → AnswersAgain g rs f result self.new out.old.items out.new.items }
+        ensures lacking { (g : Given) (rs : List Record) → StandsFor g rs None self.old → result ≡ Turn.Memory
+            → HasRoom self.old (vec_capacity out.old - vec_len out.old) (next g rs) → ⊥ }
         ensures fewer { LeavesFewer result (steps_left self.old) (steps_left self.new) }
     {
         match self.ended {

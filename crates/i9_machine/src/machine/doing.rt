@@ -1,5 +1,5 @@
 //! A step done, or an end answered, once there is room for what it needs.
-ghost use Rattle.std.specs.Prelude.{◌≡◌, ◌+◌, ◌<◌, ◌≤◌, ◌^◌, ◌++◌, None, IfOk, OnOk, OnErr, vec_len, vec_capacity, length, nat_lt, true};
+ghost use Rattle.std.specs.Prelude.{◌≡◌, ◌+◌, ◌-◌, ◌<◌, ◌≤◌, ◌^◌, ◌++◌, None, IfOk, OnOk, OnErr, vec_len, vec_capacity, length, nat_lt, true};
 ghost use Rattle.std.specs.Option.{option_map};
 ghost use Rattle.i9_model.specs.State.{State};
 ghost use Rattle.i9_model.specs.Memory.{console_byte};
@@ -25,6 +25,7 @@ use i9_processor::Control;
 fn put_end(e: End, view: View, out: &mut Vec<Line>) -> Result<(), NoMemory>
     ensures ok { OnOk result (AddsLines out.old.items out.new.items (last_lines view e)) }
     ensures err { OnErr result (out.new.items ≡ out.old.items) }
+    ensures lacking { OnErr result (vec_capacity out.old < vec_len out.old + 2) }
 {
     match out.reserve(2) {
         Ok(()) => {
@@ -42,6 +43,7 @@ fn reserve_lines(lines: usize, out: &mut Vec<Line>) -> Result<(), NoMemory>
     ensures items { out.new.items ≡ out.old.items }
     ensures room { OnOk result (vec_len out.new + lines ≤ vec_capacity out.new) }
     ensures needed { OnErr result (nat_lt 0 lines ≡ true) }
+    ensures lacking { OnErr result (vec_capacity out.old < vec_len out.old + lines) }
 {
     if lines == 0 {
         return Ok(());
@@ -87,14 +89,15 @@ impl Step {
 
 impl Machine {
     ghost use Rattle.i9_machine.specs.StandsFor.{LeavesFewer};
-    ghost use Rattle.i9_machine.specs.Step.{IsStep, IsSame, Steps, next_for, steps_left};
-    ghost use Rattle.i9_machine.specs.Doing.{lines_of, line_count, asks_room, IsReady};
+    ghost use Rattle.i9_machine.specs.Step.{IsStep, IsSame, Steps, HasRoom, next_for, steps_left};
+    ghost use Rattle.i9_machine.specs.Doing.{lines_of, line_count, asks_room, HasRoomForStep, IsReady};
 
     /// Answers an end, once its lines are written.
     pub(super) fn finish(&mut self, e: End, out: &mut Vec<Line>) -> Turn
         requires running { self.old.ended ≡ None }
         requires is_end { next_for self.old ≡ Ends e }
         ensures steps { Steps self.old result self.new out.old.items out.new.items }
+        ensures lacking { result ≡ Turn.Memory → HasRoom self.old (vec_capacity out.old - vec_len out.old) (next_for self.old) → ⊥ }
         ensures fewer { LeavesFewer result (steps_left self.old) (steps_left self.new) }
     {
         match put_end(e, self.processor.view(), out) {
@@ -132,6 +135,7 @@ impl Machine {
         ensures lines { OnOk result (vec_len out.new + line_count step.now ≤ vec_capacity out.new) }
         ensures made { IfOk result (AreMade self.old.sets (state_of self.old.processor).memory step.now.effect.control) }
         ensures needed { OnErr result (asks_room (state_of self.old.processor) step.now ≡ true) }
+        ensures lacking { OnErr result (HasRoomForStep self.old (vec_capacity out.old - vec_len out.old) step.now → ⊥) }
     {
         let sets = self.make_sets(step.effect.control)?;
         self.processor.reserve(&step.effect)?;
@@ -169,6 +173,7 @@ impl Machine {
         requires running { self.old.ended ≡ None }
         requires step { IsStep self.old step }
         ensures steps { Steps self.old result self.new out.old.items out.new.items }
+        ensures lacking { result ≡ Turn.Memory → HasRoom self.old (vec_capacity out.old - vec_len out.old) (next_for self.old) → ⊥ }
         ensures fewer { LeavesFewer result (steps_left self.old) (steps_left self.new) }
     {
         match self.make_room(&step, out) {

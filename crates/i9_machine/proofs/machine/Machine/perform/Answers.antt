@@ -1,3 +1,4 @@
+use Rattle.std.specs.Prelude.{◌-◌, vec_capacity, vec_len}
 use Rattle.std.proofs.Common.{◌≡◌, ℕ, ◌+◌, Option, List, ◌++◌, map, refl, sym, ap, ◌∙◌, subst}
 use Rattle.i9_model.specs.Memory.{console_byte}
 use Rattle.i9_model.specs.State.{State}
@@ -18,8 +19,8 @@ use Rattle.i9_machine.specs.StandsFor.{LeavesFewer}
 use Rattle.i9_machine.specs.Due.{pending}
 use Rattle.i9_machine.specs.Doing.{lines_of, IsReady}
 use Rattle.i9_machine.specs.Line.{shown_of}
-use Rattle.i9_machine.specs.Step.{steps_left}
-use Rattle.i9_machine.proofs.Stepping.{did_steps, fewer_by, left_fewer}
+use Rattle.i9_machine.specs.Step.{TellsRecord, steps_left}
+use Rattle.i9_machine.proofs.Stepping.{no_memory, did_steps, fewer_by, left_fewer, step_room}
 use Rattle.i9_machine.proofs.machine.Machine.perform.Goals as goal
 
 pub act-requires-clause-ready : goal.act-requires-clause-ready
@@ -62,3 +63,14 @@ returns-in-Ok-clause-fewer c =
     let fewer = left_fewer old.length new.length s.count (state_of new.processor).count n (pending c.args.step.due) (pending new.due) (pending old.due) bound count due step.below step.fewer in
     subst (λ (t : Turn). LeavesFewer t (steps_left old) (steps_left new)) (sym c.act.ensures.answer)
     (fewer_by c.args.step.answer s step.kind (steps_left old) (steps_left new) step.tells fewer)
+
+pub returns-in-Ok-clause-lacking : goal.returns-in-Ok-clause-lacking
+returns-in-Ok-clause-lacking c = λ is room.
+    let step = c.requires.step in
+    let s = state_of c.args.self.now.processor in
+    absurd (no_memory step.kind s (subst (TellsRecord step.kind s) (sym c.act.ensures.answer ∙ is) step.tells))
+
+pub returns-in-Err-clause-lacking : goal.returns-in-Err-clause-lacking
+returns-in-Err-clause-lacking c = λ is room.
+    let out = c.args.out.now in
+    c.in-Err.ensures.lacking (step_room c.args.self.now (vec_capacity out - vec_len out) c.args.step c.requires.step room)
