@@ -17,8 +17,8 @@ take-requires-clause-free c =
     let words = c.in-Ok.entry.words in
     let stores : memory_of c.put_words.new.self ≡ with_words m (record_address push.frame) words = cc in
     let wrote : frames_of c.wrote.new.self ≡ wrote_run (saved f push.save) (record_address push.frame) RECORD_SIZE =
-      c.wrote.ensures.frames
-      ∙ ap (λ (g : Frames). wrote_run g (record_address push.frame) RECORD_SIZE) (c.called.ensures.frames ∙ ap (λ (g : Frames). saved g push.save) c.reserve-in-Ok-2.ensures.frames)
+    c.wrote.ensures.frames
+    ∙ ap (λ (g : Frames). wrote_run g (record_address push.frame) RECORD_SIZE) (c.called.ensures.frames ∙ ap (λ (g : Frames). saved g push.save) c.reserve-in-Ok-2.ensures.frames)
     in
     clears_freely c.args.chosen.now.cause m (memory_of c.put_words.new.self) f (frames_of c.wrote.new.self) push words 16384 c.args.chosen.now.vector (omega arith)
     stores wrote c.in-Ok.ensures.take
