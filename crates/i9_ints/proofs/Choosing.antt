@@ -1,6 +1,6 @@
 -- The choice of an interrupt: the best line and the greatest vector that software asks for give the first choice that is
 -- asked for and let in.
-use Rattle.std.proofs.Common.{◌≡◌, ℕ, ◌+◌, ◌*◌, ◌/◌, ◌%◌, ◌^◌, ◌<◌, ◌≤◌, Bool, true, false, cond, List, [], ◌∷◌, ◌++◌, map, Option, Some, None, min, refl, sym, ap, ◌∙◌, arith}
+use Rattle.std.proofs.Common.{◌≡◌, ℕ, ◌+◌, ◌*◌, ◌<◌, ◌≤◌, Bool, true, false, cond, List, [], ◌∷◌, map, Option, Some, None, min, refl, sym, ap, ◌∙◌, arith}
 use Rattle.std.specs.Prelude.{find, flat_map, nat_le, nat_lt, bit_and, ◌==◌, ◌&&◌, if◌then◌else◌}
 use Rattle.std.specs.Int.{bit_at}
 use Rattle.std.specs.List.{range_with_len}
@@ -12,7 +12,7 @@ use Rattle.i9_model.specs.declared.interrupts.TheConstants.{LINES, NMI_VECTOR, H
 use Rattle.i9_model.specs.declared.interrupts.Cause.TheVariants.{Nmi, Line, Soft}
 use Rattle.i9_model.specs.declared.interrupts.Chosen.{Chosen}
 use Rattle.i9_model.specs.State.{Interrupts}
-use Rattle.i9_model.specs.Interrupts.{vector_priority, line_vector, passes, is_open, choice, lines_with, vectors_of, choices_at, choices, below, is_asked, chosen_of}
+use Rattle.i9_model.specs.Interrupts.{vector_priority, line_vector, passes, is_open, choice, lines_with, vectors_of, choices_at, choices, is_asked, chosen_of}
 use Rattle.i9_ints.specs.Best.{is_let_in, is_ready, IsBest, IsBestLine, IsTop, IsGreatest, is_wanted, preferred}
 use Rattle.i9_ints.proofs.Firsts.{first_some, first_none, tested_some, tested_none, parts_none, parts_some, below_none, below_some, each_none, each_some, filtered}
 

@@ -9,7 +9,7 @@ use Rattle.i9_isa.specs.Words.{bit}
 use Rattle.i9_model.specs.Memory.{Memory}
 use Rattle.i9_model.specs.declared.interrupts.TheConstants.{PENDING_VECTORS}
 use Rattle.i9_model.specs.Writes.{wrapped}
-use Rattle.i9_model.specs.Interrupts.{is_requested, priority_place, pending_place, vector_priority, passes}
+use Rattle.i9_model.specs.Interrupts.{is_requested, priority_place, pending_place, passes}
 use Rattle.i9_ints.specs.Best.{is_let_in, is_wanted, IsTop}
 
 -- a byte has no bit above its highest

@@ -1,4 +1,4 @@
-use Rattle.std.proofs.Common.{◌≡◌, ℕ, true, false, Option, Some, None, refl, sym, ap, ◌∙◌, arith}
+use Rattle.std.proofs.Common.{◌≡◌, ℕ, true, false, Option, Some, None, sym, ap, ◌∙◌}
 use Rattle.i9_model.specs.Hazards.{or_else}
 use Rattle.i9_model.specs.Interrupts.{priority_place, pending_place, priority_hazard, byte_hazard}
 use Rattle.i9_memory.specs.Memory.{memory_of}

@@ -1,4 +1,4 @@
-use Rattle.std.proofs.Common.{◌≡◌, ℕ, ◌*◌, ◌%◌, ◌^◌, ◌<◌, ◌≤◌, true, subst, ap, ◌∙◌, arith}
+use Rattle.std.proofs.Common.{◌≡◌, ℕ, ◌*◌, ◌%◌, ◌^◌, ◌<◌, ◌≤◌, true, subst, ap, ◌∙◌}
 use Rattle.i9_isa.specs.Words.{bit}
 use Rattle.i9_memory.specs.Memory.{memory_of}
 use Rattle.i9_ints.specs.Best.{is_let_in}

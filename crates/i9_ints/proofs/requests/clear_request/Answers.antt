@@ -1,4 +1,4 @@
-use Rattle.std.proofs.Common.{◌≡◌, ℕ, List, [], ◌∷◌, sym, ap, ◌∙◌}
+use Rattle.std.proofs.Common.{◌≡◌, [], ◌∷◌, sym, ap, ◌∙◌}
 use Rattle.i9_model.specs.Memory.{with_writes}
 use Rattle.i9_model.specs.Frames.{wrote}
 use Rattle.i9_model.specs.Interrupts.{left_pending}

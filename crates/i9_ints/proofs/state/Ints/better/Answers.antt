@@ -1,4 +1,4 @@
-use Rattle.std.proofs.Common.{◌≡◌, ℕ, ◌<◌, ◌≤◌, true, false, Option, subst, arith}
+use Rattle.std.proofs.Common.{◌≡◌, ◌<◌, ◌≤◌, true, subst, arith}
 use Rattle.i9_model.specs.Interrupts.{line_vector}
 use Rattle.i9_ints.specs.Ints.{interrupts_of}
 use Rattle.i9_ints.specs.Best.{is_ready, IsBestLine}

@@ -1,4 +1,4 @@
-use Rattle.std.proofs.Common.{◌≡◌, ℕ, ◌/◌, ◌%◌, List, [], ◌∷◌}
+use Rattle.std.proofs.Common.{◌≡◌, ℕ, ◌/◌, ◌%◌, [], ◌∷◌}
 use Rattle.i9_model.specs.Memory.{with_writes}
 use Rattle.i9_model.specs.Frames.{wrote}
 use Rattle.i9_model.specs.Interrupts.{with_bit, priority_place, pending_place, request_writes}

@@ -1,4 +1,4 @@
-use Rattle.std.proofs.Common.{List, refl, sym, ap, ◌∙◌}
+use Rattle.std.proofs.Common.{refl, sym, ap, ◌∙◌}
 use Rattle.i9_model.specs.Memory.{with_writes}
 use Rattle.i9_model.specs.Frames.{wrote}
 use Rattle.i9_memory.specs.Memory.{memory_of}
