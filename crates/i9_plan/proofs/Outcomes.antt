@@ -1,10 +1,11 @@
 -- What an instruction comes to that raises nothing before it does anything: by its result, by its condition, or by its
 -- access alone.
-use Rattle.std.proofs.Common.{◌≡◌, ℕ, Bool, true, false, cond, ◌&&◌, List, [], Option, Some, None, refl, sym, ap, ◌∙◌, subst}
-use Rattle.std.specs.Prelude.{is_some, not}
+use Rattle.std.proofs.Common.{◌≡◌, ℕ, Bool, true, false, cond, ◌&&◌, List, [], Option, Some, None, Result, refl, sym, ap, ◌∙◌, subst}
+use Rattle.std.specs.Prelude.{is_some, not, ◌||◌}
 use Rattle.std.specs.Option.{option_map}
+use Rattle.std.proofs.lemmas.Bool.{and_parts}
 use Rattle.i9_isa.specs.declared.op.Op.{Op}
-use Rattle.i9_isa.specs.declared.op.Op.TheVariants.{Lda, Atadd, Atmod, Bx, Balx, Bal, Call, Callx, Calls, Ret, Flushreg, Modac, Modtc, Modpc, Sysctl}
+use Rattle.i9_isa.specs.declared.op.Op.TheVariants.{Lda, Atadd, Atmod, Bx, Balx, Bal, Call, Callx, Calls, Ret, Flushreg, Modac, Modtc, Modpc, Sysctl, Sdma}
 use Rattle.i9_isa.specs.declared.inst.Inst.{Inst}
 use Rattle.i9_isa.specs.declared.size.Transfer.{Transfer}
 use Rattle.i9_isa.specs.Words.{bit}
@@ -18,16 +19,18 @@ use Rattle.i9_isa.specs.declared.inst.Operand.TheVariants.{Reg, Lit, Sfr}
 use Rattle.i9_model.specs.Operands.{value, assigned}
 use Rattle.i9_model.specs.Branches.{asks, question_of, is_taken}
 use Rattle.i9_model.specs.Results.{Answer, has_result}
-use Rattle.i9_model.specs.Step.{Action, passing, destination, answer_in, resulting, branching, action_by_name, action_by, action_of}
-use Rattle.i9_model.specs.Access.{NoAccess, access_by_name, access_by, access_of, hazard_in, hazard_of}
-use Rattle.i9_model.specs.Unbuilt.{is_faulty}
-use Rattle.i9_model.specs.Standing.{Standing, NotBuilt, Faults, Runs, arithmetic_fault, answer_fault, is_fault_name, range_fault, first_fault, later_fault, by_access, by_later, by_raised}
+use Rattle.i9_model.specs.Step.{Action, passing, destination, answer_in, resulting, branching, other_action, action_by_name, action_by, action_of}
+use Rattle.i9_model.specs.Access.{NoAccess, access_by_name, access_by, access_of, data_of, hazard_in, hazard_of}
+use Rattle.i9_model.specs.Calls.{in_supervisor_mode}
+use Rattle.i9_model.specs.Faults.{is_supervisor_only, is_special, uses_special, is_invalid, is_past_table, is_unaligned, raised}
+use Rattle.i9_model.specs.Unbuilt.{is_built_name, is_built_operand, is_built_form, is_other_return, is_unbuilt_control, is_faulty, is_built}
+use Rattle.i9_model.specs.Standing.{Standing, NotBuilt, Faults, Runs, arithmetic_fault, answer_fault, is_fault_name, range_fault, raised_in, first_fault, by_access, by_later, by_raised}
 use Rattle.i9_exec.specs.declared.done.Done.{Done}
 use Rattle.i9_exec.specs.Shown.{answer_of}
 use Rattle.i9_processor.specs.declared.effect.Effect.{Effect}
 use Rattle.i9_processor.specs.Effect.{IsEffect}
 use Rattle.i9_plan.specs.Built.{is_branch}
-use Rattle.i9_plan.specs.Planned.{by_result}
+use Rattle.i9_plan.specs.Planned.{IsPlanFor}
 
 -- ---- no name is of two kinds
 
@@ -70,72 +73,102 @@ picked false x y e = absurd cc
 
 -- ---- what they do and access
 
+-- names that do something of their own
+abbrev is_own : Op → Bool
+is_own Lda = true
+is_own Atadd = true
+is_own Atmod = true
+is_own Bx = true
+is_own Balx = true
+is_own Bal = true
+is_own Call = true
+is_own Callx = true
+is_own Calls = true
+is_own Ret = true
+is_own Flushreg = true
+is_own Modac = true
+is_own Modtc = true
+is_own Modpc = true
+is_own Sysctl = true
+is_own _ = false
+
+result_own : (op : Op) → (has_result op && is_own op) ≡ false
+result_own Lda = refl
+result_own _ = refl
+
+branch_own : (op : Op) → (is_branch op && is_own op) ≡ false
+branch_own Lda = refl
+branch_own _ = refl
+
+-- the other ones branch or go by the table of results, and access nothing
+plain_action : (op : Op) (i : Inst) (s : State) → is_own op ≡ false → action_by_name op i s ≡ other_action op i s
+plain_action Lda i s e = absurd cc
+plain_action Atadd i s e = absurd cc
+plain_action Atmod i s e = absurd cc
+plain_action Bx i s e = absurd cc
+plain_action Balx i s e = absurd cc
+plain_action Bal i s e = absurd cc
+plain_action Call i s e = absurd cc
+plain_action Callx i s e = absurd cc
+plain_action Calls i s e = absurd cc
+plain_action Ret i s e = absurd cc
+plain_action Flushreg i s e = absurd cc
+plain_action Modac i s e = absurd cc
+plain_action Modtc i s e = absurd cc
+plain_action Modpc i s e = absurd cc
+plain_action Sysctl i s e = absurd cc
+plain_action _ i s e = refl
+
+plain_access : (op : Op) (i : Inst) (s : State) → is_own op ≡ false → access_by_name op i s ≡ NoAccess
+plain_access Lda i s e = absurd cc
+plain_access Atadd i s e = absurd cc
+plain_access Atmod i s e = absurd cc
+plain_access Bx i s e = absurd cc
+plain_access Balx i s e = absurd cc
+plain_access Bal i s e = absurd cc
+plain_access Call i s e = absurd cc
+plain_access Callx i s e = absurd cc
+plain_access Calls i s e = absurd cc
+plain_access Ret i s e = absurd cc
+plain_access Flushreg i s e = absurd cc
+plain_access Modac i s e = absurd cc
+plain_access Modtc i s e = absurd cc
+plain_access Modpc i s e = absurd cc
+plain_access Sysctl i s e = absurd cc
+plain_access _ i s e = refl
+
+unpicked : (b : Bool) (x y : Action) → b ≡ false → cond b x y ≡ y
+unpicked false x y e = refl
+unpicked true x y e = absurd cc
+
+result_question : (op : Op) → (has_result op && asks (question_of op)) ≡ false
+result_question Lda = refl
+result_question _ = refl
+
+branch_question : (op : Op) → (is_branch op && not (asks (question_of op))) ≡ false
+branch_question Lda = refl
+branch_question _ = refl
+
+sure : (a b : Bool) → (a && not b) ≡ false → a ≡ true → b ≡ true
+sure true true e t = refl
+sure true false e t = absurd cc
+sure false b e t = absurd cc
+
 result_action : (op : Op) (i : Inst) (s : State) → has_result op ≡ true → action_by_name op i s ≡ resulting i s (answer_in i s)
-result_action Lda i s e = absurd cc
-result_action Atadd i s e = absurd cc
-result_action Atmod i s e = absurd cc
-result_action Bx i s e = absurd cc
-result_action Balx i s e = absurd cc
-result_action Bal i s e = absurd cc
-result_action Call i s e = absurd cc
-result_action Callx i s e = absurd cc
-result_action Calls i s e = absurd cc
-result_action Ret i s e = absurd cc
-result_action Flushreg i s e = absurd cc
-result_action Modac i s e = absurd cc
-result_action Modtc i s e = absurd cc
-result_action Modpc i s e = absurd cc
-result_action Sysctl i s e = absurd cc
-result_action op i s e = unpicked (asks (question_of op)) (branching i s) (resulting i s (answer_in i s)) (no_question op e)
-  where
-    unpicked : (b : Bool) (x y : Action) → b ≡ false → cond b x y ≡ y
-    unpicked false x y e = refl
-    unpicked true x y e = absurd cc
-
-    apart : (op : Op) → (has_result op && asks (question_of op)) ≡ false
-    apart Lda = refl
-    apart _ = refl
-
-    no_question : (op : Op) → has_result op ≡ true → asks (question_of op) ≡ false
-    no_question op e = other (has_result op) (asks (question_of op)) (apart op) e
+result_action op i s t =
+    plain_action op i s (other (has_result op) (is_own op) (result_own op) t)
+    ∙ unpicked (asks (question_of op)) (branching i s) (resulting i s (answer_in i s)) (other (has_result op) (asks (question_of op)) (result_question op) t)
 
 branch_action : (op : Op) (i : Inst) (s : State) → is_branch op ≡ true → action_by_name op i s ≡ branching i s
-branch_action Lda i s e = absurd cc
-branch_action Atadd i s e = absurd cc
-branch_action Atmod i s e = absurd cc
-branch_action Bx i s e = absurd cc
-branch_action Balx i s e = absurd cc
-branch_action Bal i s e = absurd cc
-branch_action Call i s e = absurd cc
-branch_action Callx i s e = absurd cc
-branch_action Calls i s e = absurd cc
-branch_action Ret i s e = absurd cc
-branch_action Flushreg i s e = absurd cc
-branch_action Modac i s e = absurd cc
-branch_action Modtc i s e = absurd cc
-branch_action Modpc i s e = absurd cc
-branch_action Sysctl i s e = absurd cc
-branch_action op i s e = picked (asks (question_of op)) (branching i s) (resulting i s (answer_in i s)) e
+branch_action op i s t =
+    plain_action op i s (other (is_branch op) (is_own op) (branch_own op) t)
+    ∙ picked (asks (question_of op)) (branching i s) (resulting i s (answer_in i s)) (sure (is_branch op) (asks (question_of op)) (branch_question op) t)
 
 result_access : (op : Op) (i : Inst) (s : State) → has_result op ≡ true → access_by_name op i s ≡ NoAccess
-result_access Atadd i s e = absurd cc
-result_access Atmod i s e = absurd cc
-result_access Call i s e = absurd cc
-result_access Callx i s e = absurd cc
-result_access Calls i s e = absurd cc
-result_access Ret i s e = absurd cc
-result_access Sysctl i s e = absurd cc
-result_access _ i s e = refl
+result_access op i s t = plain_access op i s (other (has_result op) (is_own op) (result_own op) t)
 
 branch_access : (op : Op) (i : Inst) (s : State) → is_branch op ≡ true → access_by_name op i s ≡ NoAccess
-branch_access Atadd i s e = absurd cc
-branch_access Atmod i s e = absurd cc
-branch_access Call i s e = absurd cc
-branch_access Callx i s e = absurd cc
-branch_access Calls i s e = absurd cc
-branch_access Ret i s e = absurd cc
-branch_access Sysctl i s e = absurd cc
-branch_access _ i s e = refl
+branch_access op i s t = plain_access op i s (other (is_branch op) (is_own op) (branch_own op) t)
 
 -- a name that moves nothing between registers and memory goes by itself
 by_itself : (i : Inst) (s : State) → transfer_of i.op ≡ None → action_of i s ≡ action_by_name i.op i s
@@ -146,7 +179,110 @@ no_hazard : (i : Inst) (s : State) → transfer_of i.op ≡ None → access_by_n
 unfolding hazard_of
 no_hazard i s none access = ap (λ (t : Option Transfer). hazard_in s (access_by t i s)) none ∙ ap (hazard_in s) access
 
+-- ---- what is raised before they do anything
+
+-- names that may need supervisor mode, or whose source may name what there is not
+abbrev is_asking : Op → Bool
+is_asking Calls = true
+is_asking Modpc = true
+is_asking Sysctl = true
+is_asking Sdma = true
+is_asking _ = false
+
+result_asking : (op : Op) → (has_result op && is_asking op) ≡ false
+result_asking Lda = refl
+result_asking _ = refl
+
+branch_asking : (op : Op) → (is_branch op && is_asking op) ≡ false
+branch_asking Lda = refl
+branch_asking _ = refl
+
+plain_calls : (op : Op) (b : ℕ) → is_asking op ≡ false → is_supervisor_only op b ≡ false
+plain_calls Calls b e = absurd cc
+plain_calls Modpc b e = absurd cc
+plain_calls Sysctl b e = absurd cc
+plain_calls Sdma b e = absurd cc
+plain_calls _ b e = refl
+
+plain_names : (op : Op) (a : ℕ) → is_asking op ≡ false → is_invalid op a ≡ false
+plain_names Calls a e = absurd cc
+plain_names Modpc a e = absurd cc
+plain_names Sysctl a e = absurd cc
+plain_names Sdma a e = absurd cc
+plain_names _ a e = refl
+
+plain_table : (op : Op) (a : ℕ) → is_asking op ≡ false → is_past_table op a ≡ false
+plain_table Calls a e = absurd cc
+plain_table Modpc a e = absurd cc
+plain_table Sysctl a e = absurd cc
+plain_table Sdma a e = absurd cc
+plain_table _ a e = refl
+
+-- built operands are no special function registers
+plain_operand : (o : Operand) → is_built_operand o ≡ true → is_special o ≡ false
+plain_operand (Reg r) e = refl
+plain_operand (Lit l) e = refl
+plain_operand (Sfr k) e = absurd cc
+
+plain_by : (n a b c : Bool) → (n && a && b && c) ≡ true → (a ≡ true) × (b ≡ true) × (c ≡ true)
+plain_by true true true true e = (refl, refl, refl)
+plain_by false a b c e = absurd cc
+plain_by true false b c e = absurd cc
+plain_by true true false c e = absurd cc
+plain_by true true true false e = absurd cc
+
+uses_none : (i : Inst) → is_built_form i ≡ true → uses_special i ≡ false
+uses_none i form =
+    let parts = plain_by (is_built_name i.op) (is_built_operand i.a) (is_built_operand i.b) (is_built_operand i.c) form in
+    none_used (is_special i.a) (is_special i.b) (is_special i.c) (plain_operand i.a parts.0) (plain_operand i.b parts.1) (plain_operand i.c parts.2)
+  where
+    none_used : (a b c : Bool) → a ≡ false → b ≡ false → c ≡ false → (a || b || c) ≡ false
+    none_used false false false d e f = refl
+    none_used true b c d e f = absurd cc
+    none_used false true c d e f = absurd cc
+    none_used false false true d e f = absurd cc
+
+calm_form : (m v u q r : Bool) (config : ℕ) (w x y z : ℕ × ℕ) (access : Option (ℕ × ℕ)) → v ≡ false → u ≡ false → q ≡ false → r ≡ false → access ≡ None
+    → cond (m && (v || u)) (Some w) (cond q (Some x) (cond r (Some y) (cond (is_unaligned access config) (Some z) None))) ≡ None
+calm_form true false false false false config w x y z None d e f g h = refl
+calm_form false false false false false config w x y z None d e f g h = refl
+calm_form m true u q r config w x y z access d e f g h = absurd cc
+calm_form m false true q r config w x y z access d e f g h = absurd cc
+calm_form m false false true r config w x y z access d e f g h = absurd cc
+calm_form m false false false true config w x y z access d e f g h = absurd cc
+calm_form m false false false false config w x y z (Some p) d e f g h = absurd cc
+
+no_data : (i : Inst) (s : State) → transfer_of i.op ≡ None → access_by_name i.op i s ≡ NoAccess → data_of (access_of i s) ≡ None
+no_data i s none access = ap (λ (t : Option Transfer). data_of (access_by t i s)) none ∙ ap data_of access
+
+calm : (i : Inst) (s : State) → is_built_form i ≡ true → is_asking i.op ≡ false → transfer_of i.op ≡ None → access_by_name i.op i s ≡ NoAccess → raised_in i s ≡ None
+unfolding raised
+calm i s form quiet moves access =
+    calm_form (not (in_supervisor_mode s.pc)) (is_supervisor_only i.op (value s i.b)) (uses_special i) (is_invalid i.op (value s i.a)) (is_past_table i.op (value s i.a)) s.tables.fault_config _ _ _ _
+    (data_of (access_of i s)) (plain_calls i.op (value s i.b) quiet) (uses_none i form) (plain_names i.op (value s i.a) quiet) (plain_table i.op (value s i.a) quiet) (no_data i s moves access)
+
+built_form : (i : Inst) (s : State) → is_built i s ≡ true → is_built_form i ≡ true
+unfolding is_built
+built_form i s e =
+    let other = not (is_other_return i.op s) in
+    (and_parts (is_built_form i) other (and_parts (is_built_form i && other) (not (is_unbuilt_control i.op i s)) e).0).0
+
+-- an instruction that is built raises nothing before its result, or before its condition
+pub result_calm : (i : Inst) (s : State) → is_built i s ≡ true → has_result i.op ≡ true → raised_in i s ≡ None
+result_calm i s built t =
+    calm i s (built_form i s built) (other (has_result i.op) (is_asking i.op) (result_asking i.op) t) (none_of (transfer_of i.op) (other (has_result i.op) (is_some (transfer_of i.op)) (result_moves i.op) t)) (result_access i.op i s t)
+
+pub branch_calm : (i : Inst) (s : State) → is_built i s ≡ true → is_branch i.op ≡ true → raised_in i s ≡ None
+branch_calm i s built t =
+    calm i s (built_form i s built) (other (is_branch i.op) (is_asking i.op) (branch_asking i.op) t) (none_of (transfer_of i.op) (other (is_branch i.op) (is_some (transfer_of i.op)) (branch_moves i.op) t)) (branch_access i.op i s t)
+
 -- ---- by its result
+
+-- what an instruction comes to whose result is this fault, or none: an imprecise one is not built
+abbrev pub by_result : Inst → Option Arith → Bool → Standing
+by_result i None precise = Runs i
+by_result i (Some f) true = Faults i (arithmetic_fault f)
+by_result i (Some f) false = NotBuilt
 
 result_by : (i : Inst) (s : State) (f : Option Arith) (p : Bool) (r : Option (ℕ × ℕ)) → r ≡ None → hazard_of i s ≡ None
     → cond (is_some f && not p) NotBuilt (by_later i s (first_fault (option_map arithmetic_fault f) r)) ≡ by_result i f p
@@ -205,6 +341,10 @@ plain_stands i s r b e =
     let calm = no_range (is_fault_name i.op) (is_taken i (value s i.a) (value s i.b) s.ac) (not_first (is_fault_name i.op) (is_branch i.op) (fault_branches i.op) b) in
     calm_answer i s none ∙ ap (by_later i s) calm
 
+-- what an instruction of a name comes to
+pub by_name : (n : Op) (i : Inst) (s : State) (r : Result Effect ℕ) → i.op ≡ n → IsPlanFor s (access_by_name n i s) (action_by_name n i s) r → IsPlanFor s (access_by_name i.op i s) (action_by_name i.op i s) r
+by_name n i s r is planned = subst (λ (op : Op). IsPlanFor s (access_by_name op i s) (action_by_name op i s) r) (sym is) planned
+
 -- none of the names that do something of their own
 pub record IsOther (op : Op) : Type 0 where
   pub not_lda : op ≡ Lda → ⊥
@@ -232,39 +372,41 @@ nothing_assigned (Sfr k) = refl
 nothing_given : (i : Inst) (s : State) → resulting i s None ≡ passing i s
 nothing_given i s = ap (λ (sets : List (ℕ × ℕ)). record (passing i s) { sets = sets }) (nothing_assigned (destination i))
 
-other_action_is : (op : Op) (i : Inst) (s : State) → IsOther op → is_branch op ≡ false → answer_in i s ≡ None → action_by_name op i s ≡ passing i s
-other_action_is Lda i s other b none = absurd (other.not_lda refl)
-other_action_is Atadd i s other b none = absurd (other.not_atadd refl)
-other_action_is Atmod i s other b none = absurd (other.not_atmod refl)
-other_action_is Bx i s other b none = absurd (other.not_bx refl)
-other_action_is Balx i s other b none = absurd (other.not_balx refl)
-other_action_is Bal i s other b none = absurd (other.not_bal refl)
-other_action_is Call i s other b none = absurd (other.not_call refl)
-other_action_is Callx i s other b none = absurd (other.not_callx refl)
-other_action_is Calls i s other b none = absurd (other.not_calls refl)
-other_action_is Ret i s other b none = absurd (other.not_ret refl)
-other_action_is Flushreg i s other b none = absurd (other.not_flushreg refl)
-other_action_is Modac i s other b none = absurd (other.not_modac refl)
-other_action_is Modtc i s other b none = absurd (other.not_modtc refl)
-other_action_is Modpc i s other b none = absurd (other.not_modpc refl)
-other_action_is Sysctl i s other b none = absurd (other.not_sysctl refl)
-other_action_is op i s other b none = unpicked (asks (question_of op)) (branching i s) (resulting i s (answer_in i s)) b ∙ ap (resulting i s) none ∙ nothing_given i s
-  where
-    unpicked : (b : Bool) (x y : Action) → b ≡ false → cond b x y ≡ y
-    unpicked false x y e = refl
-    unpicked true x y e = absurd cc
+not_own : (op : Op) → IsOther op → is_own op ≡ false
+not_own Lda other = absurd (other.not_lda refl)
+not_own Atadd other = absurd (other.not_atadd refl)
+not_own Atmod other = absurd (other.not_atmod refl)
+not_own Bx other = absurd (other.not_bx refl)
+not_own Balx other = absurd (other.not_balx refl)
+not_own Bal other = absurd (other.not_bal refl)
+not_own Call other = absurd (other.not_call refl)
+not_own Callx other = absurd (other.not_callx refl)
+not_own Calls other = absurd (other.not_calls refl)
+not_own Ret other = absurd (other.not_ret refl)
+not_own Flushreg other = absurd (other.not_flushreg refl)
+not_own Modac other = absurd (other.not_modac refl)
+not_own Modtc other = absurd (other.not_modtc refl)
+not_own Modpc other = absurd (other.not_modpc refl)
+not_own Sysctl other = absurd (other.not_sysctl refl)
+not_own _ other = refl
 
-other_access : (op : Op) (i : Inst) (s : State) → IsOther op → access_by_name op i s ≡ NoAccess
-other_access Atadd i s other = absurd (other.not_atadd refl)
-other_access Atmod i s other = absurd (other.not_atmod refl)
-other_access Call i s other = absurd (other.not_call refl)
-other_access Callx i s other = absurd (other.not_callx refl)
-other_access Calls i s other = absurd (other.not_calls refl)
-other_access Ret i s other = absurd (other.not_ret refl)
-other_access Sysctl i s other = absurd (other.not_sysctl refl)
-other_access _ i s other = refl
+unbranched : (op : Op) → (asks (question_of op) && not (is_branch op || is_own op)) ≡ false
+unbranched Lda = refl
+unbranched _ = refl
+
+no_branch : (a b c : Bool) → (a && not (b || c)) ≡ false → b ≡ false → c ≡ false → a ≡ false
+no_branch true false false e f g = absurd cc
+no_branch true true c e f g = absurd cc
+no_branch true false true e f g = absurd cc
+no_branch false b c e f g = refl
+
+other_action_is : (op : Op) (i : Inst) (s : State) → is_own op ≡ false → is_branch op ≡ false → answer_in i s ≡ None → action_by_name op i s ≡ passing i s
+other_action_is op i s own b none =
+    plain_action op i s own
+    ∙ unpicked (asks (question_of op)) (branching i s) (resulting i s (answer_in i s)) (no_branch (asks (question_of op)) (is_branch op) (is_own op) (unbranched op) b own)
+    ∙ ap (resulting i s) none ∙ nothing_given i s
 
 pub other_plan : (i : Inst) (s : State) (e : Effect) → IsOther i.op → has_result i.op ≡ false → is_branch i.op ≡ false → is_some (answer_in i s) ≡ has_result i.op → IsEffect s (passing i s) e
     → (hazard_in s (access_by_name i.op i s) ≡ None) × IsEffect s (action_by_name i.op i s) e
 other_plan i s e other r b answers is =
-    (ap (hazard_in s) (other_access i.op i s other), subst (λ (a : Action). IsEffect s a e) (sym (other_action_is i.op i s other b (none_of (answer_in i s) (answers ∙ r)))) is)
+    (ap (hazard_in s) (plain_access i.op i s (not_own i.op other)), subst (λ (a : Action). IsEffect s a e) (sym (other_action_is i.op i s (not_own i.op other) b (none_of (answer_in i s) (answers ∙ r)))) is)

@@ -1,19 +1,24 @@
 -- What is planned, in the plain forms of the definitions.
-use Rattle.std.specs.Prelude.{◌≡◌, ℕ, ◌==◌, Bool, true, false, if◌then◌else◌, Option, Some, None, Result, Ok, Err}
+use Rattle.std.specs.Prelude.{◌≡◌, ℕ, ◌==◌, if◌then◌else◌, Some, None, Result, Ok, Err}
 use Rattle.i9_isa.specs.declared.inst.Inst.{Inst}
-use Rattle.i9_isa.specs.Words.{words_of}
-use Rattle.i9_model.specs.declared.arith.Arith.{Arith}
+use Rattle.i9_isa.specs.Valid.{IsValid}
+use Rattle.i9_isa.specs.Words.{words_of, decoded}
 use Rattle.i9_model.specs.declared.faults.Fault.{Fault}
 use Rattle.i9_model.specs.declared.faults.Entry.{Entry}
 use Rattle.i9_model.specs.declared.faults.FaultStop.{FaultStop}
 use Rattle.i9_model.specs.State.{State}
-use Rattle.i9_model.specs.Step.{Action, Message, message_action, entering, action_of, first_word, next_word}
-use Rattle.i9_model.specs.Access.{Access, message_access, hazard_in}
+use Rattle.i9_model.specs.Step.{Action, Message, passing, message_action, entering, action_of, first_word, next_word}
+use Rattle.i9_model.specs.Access.{Access, message_access, hazard_in, fetch_hazard}
 use Rattle.i9_model.specs.Standing as plain
 use Rattle.i9_model.specs.Run.{entry_in}
 use Rattle.i9_processor.specs.declared.effect.Effect.{Effect}
+use Rattle.i9_processor.specs.declared.effect.Move.{Move}
+use Rattle.i9_processor.specs.declared.effect.Control.{Control}
 use Rattle.i9_processor.specs.Effect.{IsEffect}
-use Rattle.i9_plan.specs.declared.planned.Words.{Words}
+use Rattle.i9_plan.specs.declared.fetched.Words.{Words}
+use Rattle.i9_plan.specs.declared.fetched.Fetched.{Fetched}
+use Rattle.i9_plan.specs.declared.fetched.Unread.{Unread}
+use Rattle.i9_plan.specs.declared.fetched.Unread.TheVariants as unreads
 use Rattle.i9_plan.specs.declared.planned.Planned.{Planned}
 use Rattle.i9_plan.specs.declared.planned.Planned.TheVariants as plans
 use Rattle.i9_plan.specs.declared.outcome.Outcome.{Outcome}
@@ -32,6 +37,19 @@ pub record TellsWords (count : ℕ) (s : State) (words : Words) : Type 0 where
   pub first : words.first ≡ first_word s
   pub second : words.second ≡ (if count == 2 then next_word s else 0)
 
+-- an instruction that is read, with its words
+pub record IsRead (s : State) (f : Fetched) : Type 0 where
+  pub clear : fetch_hazard s ≡ None
+  pub read : decoded (first_word s) (next_word s) ≡ Ok f.inst
+  pub valid : IsValid f.inst
+  pub words : TellsWords (words_of f.inst) s f.words
+
+-- what a fetch gives: an instruction, the hazard that it meets, or a first word that is refused
+abbrev pub IsFetched : State → Result Fetched Unread → Type 0
+IsFetched s (Ok f) = IsRead s f
+IsFetched s (Err (unreads.Meets a)) = fetch_hazard s ≡ Some a
+IsFetched s (Err (unreads.Refused first why)) = (fetch_hazard s ≡ None) × (decoded (first_word s) (next_word s) ≡ Err why) × (first ≡ first_word s)
+
 -- its words are told, and its effect is its action
 abbrev pub IsPlanned : State → Planned → Type 0
 IsPlanned s (plans.Meets a) = Unit {0}
@@ -40,24 +58,25 @@ IsPlanned s (plans.Refused words number) = TellsWords 1 s words
 IsPlanned s (plans.Faults words i number) = TellsWords (words_of i) s words
 IsPlanned s (plans.Runs words i e) = TellsWords (words_of i) s words × IsEffect s (action_of i s) e
 
+-- an effect by which nothing is done, but control goes on behind an instruction
+pub record Passes (s : State) (i : Inst) (e : Effect) : Type 0 where
+  pub effect : IsEffect s (passing i s) e
+  pub frames : e.frames ≡ Move.Stays
+  pub control : e.control ≡ Control.Keeps
+
 -- what an instruction that is built comes to
 abbrev pub standing_in : Inst → Outcome → plain.Standing
 standing_in i (outcomes.Meets a) = plain.Meets a
 standing_in i outcomes.NotBuilt = plain.NotBuilt
 standing_in i (outcomes.Faults number) = plain.Faults i number
-standing_in i (outcomes.Runs e) = plain.Runs i
+standing_in i outcomes.Runs = plain.Runs i
 
--- what an instruction comes to whose result is this fault, or none: an imprecise one is not built
-abbrev pub by_result : Inst → Option Arith → Bool → plain.Standing
-by_result i None precise = plain.Runs i
-by_result i (Some f) true = plain.Faults i (plain.arithmetic_fault f)
-by_result i (Some f) false = plain.NotBuilt
-
-abbrev pub HasEffect : State → Inst → Outcome → Type 0
-HasEffect s i (outcomes.Meets a) = Unit {0}
-HasEffect s i outcomes.NotBuilt = Unit {0}
-HasEffect s i (outcomes.Faults number) = Unit {0}
-HasEffect s i (outcomes.Runs e) = IsEffect s (action_of i s) e
+-- where it runs, an effect is its action
+abbrev pub HasEffect : State → Inst → Outcome → Effect → Type 0
+HasEffect s i (outcomes.Meets a) e = Unit {0}
+HasEffect s i outcomes.NotBuilt e = Unit {0}
+HasEffect s i (outcomes.Faults number) e = Unit {0}
+HasEffect s i outcomes.Runs e = IsEffect s (action_of i s) e
 
 -- an action whose access meets no hazard, or the hazard
 abbrev pub IsPlanFor : State → Access → Action → Result Effect ℕ → Type 0

@@ -16,7 +16,7 @@ use i9_calls::{CallsStop, Push};
 use i9_entry::aligned;
 use i9_faults::{Entry, Fault, FaultStop};
 use i9_isa::Inst;
-use i9_model::layout::RECORD_SIZE;
+use i9_model::layout::{RECORD_SIZE, RIP};
 use i9_processor::{Effect, Move, Processor};
 
 /// The locals are saved with a return address, and control goes on in a new frame.
@@ -63,7 +63,7 @@ pub(crate) fn plan_return(p: &Processor) -> Result<Effect, u32>
     ensures { IsPlanFor (state_of p.now) (ReturnsBy ((state_of p.now).regs PFP)) (ret_action (state_of p.now)) result }
 {
     let pop = p.plan_ret()?;
-    let mut effect = Effect::going(p, aligned(p.word(pop.frame.wrapping_add(8))));
+    let mut effect = Effect::going(p, aligned(p.frame_word(pop.frame, RIP)));
     effect.frames = Move::Returns(pop.frame);
     effect.pc = pop.pc;
     effect.ac = pop.ac;

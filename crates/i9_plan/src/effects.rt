@@ -1,11 +1,12 @@
 //! The effects that others are made of.
 ghost use Rattle.std.specs.Prelude.{◌≡◌, ◌+◌, ◌≤◌, ◌∷◌, ◌++◌, [], Option, length};
 ghost use Rattle.i9_isa.specs.Valid.{IsValid};
-ghost use Rattle.i9_model.specs.Step.{going, passing, assigning, answering, jumping, linking, faulting};
+ghost use Rattle.i9_model.specs.Step.{going, assigning, answering, jumping, linking, faulting};
 ghost use Rattle.i9_model.specs.Run.{faulted_words};
 ghost use Rattle.i9_processor.specs.Effect.{IsEffect};
 ghost use Rattle.i9_processor.specs.State.{state_of};
 ghost use Rattle.i9_plan.specs.Built.{HasGroup};
+ghost use Rattle.i9_plan.specs.Planned.{Passes};
 
 use crate::sources::following;
 use arrayvec::ArrayVec;
@@ -15,7 +16,7 @@ use i9_processor::{Effect, MOST_BYTES, MOST_VALUES, Processor};
 
 /// Nothing is done.
 pub(crate) fn passing(p: &Processor, i: &Inst) -> Effect
-    ensures { IsEffect (state_of p.now) (passing i.now (state_of p.now)) result }
+    ensures { Passes (state_of p.now) i.now result }
 {
     Effect::going(p, following(p, i))
 }

@@ -5,6 +5,7 @@
 mod built;
 mod calls;
 mod effects;
+mod fetched;
 mod outcome;
 mod planned;
 mod raised;
@@ -15,7 +16,8 @@ mod words;
 
 pub use calls::plan_entry;
 pub use effects::plan_faulting;
-pub use planned::{Planned, Words, plan_next};
+pub use fetched::Words;
+pub use planned::{Planned, plan_next};
 
 #[cfg(test)]
 mod tests;

@@ -7,37 +7,36 @@ ghost use Rattle.i9_model.specs.Access.{access_by_name, access_of};
 ghost use Rattle.i9_model.specs.Branches.{branch_controls, is_taken};
 ghost use Rattle.i9_model.specs.Results.{has_result, destination_words};
 ghost use Rattle.i9_model.specs.Step.{Flushes, passing, destination, resulting, branching, action_by_name, action_of};
-ghost use Rattle.i9_isa.specs.Words.{bit};
-ghost use Rattle.i9_model.specs.declared.layout.TheConstants.{PRECISE_FAULTS_PLACE};
 ghost use Rattle.i9_model.specs.Standing.{is_fault_name, raised_in, by_raised};
+ghost use Rattle.i9_model.specs.Unbuilt.{is_built};
 ghost use Rattle.i9_processor.specs.Effect.{IsEffect};
 ghost use Rattle.i9_processor.specs.State.{state_of};
 ghost use Rattle.i9_plan.specs.Built.{is_branch};
-ghost use Rattle.i9_plan.specs.Planned.{standing_in, by_result, HasEffect, IsPlanFor};
+ghost use Rattle.i9_plan.specs.Planned.{standing_in, HasEffect, IsPlanFor, Passes};
 
 use crate::built::{is_branch, is_fault_name};
 use crate::calls::{plan_call, plan_calls, plan_return};
-use crate::effects::{answering, assigning, jumping, linking, passing};
+use crate::effects::{answering, jumping, linking, passing};
 use crate::raised::{arithmetic_fault, raised_in};
-use crate::sources::{address, answer, following, target, value};
+use crate::sources::{address, answer, target, value};
 use crate::system::{plan_message, plan_modac, plan_modpc, plan_modtc};
 use crate::transfers::{plan_atadd, plan_atmod, plan_transfer};
 use crate::words::bit;
 use i9_entry::aligned;
 use i9_exec::{Done, Jump, branch, has_result, results_by_name};
 use i9_isa::{Inst, Op, Operand, transfer};
-use i9_model::Arith;
 use i9_model::faults::{CONSTRAINT, RANGE};
 use i9_model::layout::{LINK, PRECISE_FAULTS_PLACE};
 use i9_processor::{Effect, Move, Processor};
 
-/// A hazard of its access, something that is not built, a fault of this type and subtype, or what it
-/// does.
+/// A hazard of its access, something that is not built, or a fault of this type and subtype; or it is
+/// done.
+#[derive(Clone, Copy, Debug)]
 pub(crate) enum Outcome {
     Meets(u32),
     NotBuilt,
     Faults((u8, u16)),
-    Runs(Effect),
+    Runs,
 }
 
 /// The destination of a result: src1 of a test, src/dst of the others.
@@ -53,39 +52,35 @@ fn destination(i: &Inst) -> Operand
 
 /// A result goes to its destination.
 #[tactic(auto, using(crate::proofs::Answering::answer_rules, crate::proofs::ValidGroups::group_rules))]
-fn resulting(p: &Processor, i: &Inst, done: Done) -> Effect
+fn resulting(p: &Processor, i: &Inst, done: Done, effect: &mut Effect)
     requires valid { IsValid i.now }
     requires whole { length done.values.items ≡ destination_words i.now.op }
-    ensures { IsEffect (state_of p.now) (resulting i.now (state_of p.now) (Some (answer_of done))) result }
+    requires passes { Passes (state_of p.now) i.now effect.old }
+    ensures { IsEffect (state_of p.now) (resulting i.now (state_of p.now) (Some (answer_of done))) effect.new }
 {
-    let mut effect = assigning(p, following(p, i), destination(i), done.values);
     effect.ac = done.ac;
-    effect
-}
-
-/// An arithmetic fault: one that may be imprecise is not built.
-fn arithmetic_outcome(p: &Processor, i: &Inst, f: Arith) -> Outcome
-    ensures standing { standing_in i.now result ≡ by_result i.now (Some f) (bit (state_of p.now).ac PRECISE_FAULTS_PLACE) }
-    ensures effect { HasEffect (state_of p.now) i.now result }
-{
-    if bit(p.ac(), PRECISE_FAULTS_PLACE) {
-        Outcome::Faults(arithmetic_fault(f))
-    } else {
-        Outcome::NotBuilt
+    if let Operand::Reg(r) = destination(i) {
+        effect.register = r;
+        effect.values = done.values;
     }
 }
 
-/// What an instruction with a result comes to.
-fn result_outcome(p: &Processor, i: &Inst) -> Outcome
+/// What an instruction with a result comes to: an arithmetic fault that may be imprecise is not built.
+fn result_outcome(p: &Processor, i: &Inst, effect: &mut Effect) -> Outcome
     requires valid { IsValid i.now }
     requires result { has_result i.now.op ≡ true }
+    requires passes { Passes (state_of p.now) i.now effect.old }
     ensures standing { standing_in i.now result ≡ by_raised i.now (state_of p.now) None }
-    ensures effect { HasEffect (state_of p.now) i.now result }
+    ensures effect { HasEffect (state_of p.now) i.now result effect.new }
 {
     let done = answer(p, i);
     match done.fault {
-        None => Outcome::Runs(resulting(p, i, done)),
-        Some(f) => arithmetic_outcome(p, i, f),
+        None => {
+            resulting(p, i, done, effect);
+            Outcome::Runs
+        }
+        Some(f) if bit(p.ac(), PRECISE_FAULTS_PLACE) => Outcome::Faults(arithmetic_fault(f)),
+        Some(_) => Outcome::NotBuilt,
     }
 }
 
@@ -98,17 +93,16 @@ fn jump_of(p: &Processor, i: &Inst) -> Jump
 }
 
 /// The condition code changes, and control goes to the target where the branch is taken.
-fn branching(p: &Processor, i: &Inst, jump: Jump) -> Effect
+fn branching(p: &Processor, i: &Inst, jump: Jump, effect: &mut Effect)
     requires ac { jump.ac ≡ branch_controls i.now (value (state_of p.now) i.now.a) (value (state_of p.now) i.now.b) (state_of p.now).ac }
     requires taken { jump.taken ≡ is_taken i.now (value (state_of p.now) i.now.a) (value (state_of p.now) i.now.b) (state_of p.now).ac }
-    ensures { IsEffect (state_of p.now) (branching i.now (state_of p.now)) result }
+    requires passes { Passes (state_of p.now) i.now effect.old }
+    ensures { IsEffect (state_of p.now) (branching i.now (state_of p.now)) effect.new }
 {
-    let mut effect = passing(p, i);
     effect.ac = jump.ac;
     if jump.taken {
         effect.next = aligned(target(p, i));
     }
-    effect
 }
 
 /// Whether a fault instruction's condition holds.
@@ -119,17 +113,19 @@ fn raises_range(i: &Inst, jump: Jump) -> bool
 }
 
 /// What a branch comes to, or a fault instruction: its fault, where its condition holds.
-fn branch_outcome(p: &Processor, i: &Inst) -> Outcome
-    requires { is_branch i.now.op ≡ true }
+fn branch_outcome(p: &Processor, i: &Inst, effect: &mut Effect) -> Outcome
+    requires branch { is_branch i.now.op ≡ true }
+    requires passes { Passes (state_of p.now) i.now effect.old }
     ensures standing { standing_in i.now result ≡ by_raised i.now (state_of p.now) None }
-    ensures effect { HasEffect (state_of p.now) i.now result }
+    ensures effect { HasEffect (state_of p.now) i.now result effect.new }
 {
     results_by_name();
     let jump = jump_of(p, i);
     if raises_range(i, jump) {
         Outcome::Faults((CONSTRAINT, RANGE))
     } else {
-        Outcome::Runs(branching(p, i, jump))
+        branching(p, i, jump, effect);
+        Outcome::Runs
     }
 }
 
@@ -187,24 +183,44 @@ fn plan(p: &Processor, i: &Inst) -> Result<Effect, u32>
     }
 }
 
-/// What an instruction comes to that is built.
-pub(crate) fn outcome_of(p: &Processor, i: &Inst) -> Outcome
-    requires { IsValid i.now }
+/// What an instruction comes to that neither branches nor has a result.
+#[inline(never)]
+fn plain_outcome(p: &Processor, i: &Inst, effect: &mut Effect) -> Outcome
+    requires valid { IsValid i.now }
+    requires result { has_result i.now.op ≡ false }
+    requires branch { is_branch i.now.op ≡ false }
     ensures standing { standing_in i.now result ≡ by_raised i.now (state_of p.now) (raised_in i.now (state_of p.now)) }
-    ensures effect { HasEffect (state_of p.now) i.now result }
+    ensures effect { HasEffect (state_of p.now) i.now result effect.new }
 {
     if let Some(number) = raised_in(p, i) {
         return Outcome::Faults(number);
     }
-    if has_result(i.op) {
-        return result_outcome(p, i);
-    }
-    if is_branch(i.op) {
-        return branch_outcome(p, i);
-    }
     results_by_name();
     match plan(p, i) {
-        Ok(effect) => Outcome::Runs(effect),
+        Ok(planned) => {
+            *effect = planned;
+            Outcome::Runs
+        }
         Err(a) => Outcome::Meets(a),
+    }
+}
+
+/// What an instruction comes to that is built, with its effect in the place of one that passes. An
+/// instruction with a result or a condition raises nothing before.
+// Others call it, so that the effect stays where it is and is not moved piece by piece.
+#[inline(never)]
+pub(crate) fn outcome_of(p: &Processor, i: &Inst, effect: &mut Effect) -> Outcome
+    requires valid { IsValid i.now }
+    requires built { is_built i.now (state_of p.now) ≡ true }
+    requires passes { Passes (state_of p.now) i.now effect.old }
+    ensures standing { standing_in i.now result ≡ by_raised i.now (state_of p.now) (raised_in i.now (state_of p.now)) }
+    ensures effect { HasEffect (state_of p.now) i.now result effect.new }
+{
+    if has_result(i.op) {
+        result_outcome(p, i, effect)
+    } else if is_branch(i.op) {
+        branch_outcome(p, i, effect)
+    } else {
+        plain_outcome(p, i, effect)
     }
 }

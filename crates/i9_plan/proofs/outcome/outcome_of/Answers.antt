@@ -1,24 +1,17 @@
-use Rattle.std.proofs.Common.{◌≡◌, None, rules, sym, ap, ◌∙◌}
-use Rattle.i9_model.specs.Access.{hazard_of}
-use Rattle.i9_model.specs.Standing.{by_access, by_raised}
+use Rattle.std.proofs.Common.{sym, ap, ◌∙◌}
+use Rattle.i9_model.specs.Standing.{by_raised}
 use Rattle.i9_processor.specs.State.{state_of}
-use Rattle.i9_plan.proofs.Outcomes.{plain_stands}
+use Rattle.i9_plan.proofs.Outcomes.{result_calm, branch_calm}
 use Rattle.i9_plan.proofs.outcome.outcome_of.Goals as goal
 
-pub returns-in-Ok-clause-standing : goal.returns-in-Ok-clause-standing
-unfolding hazard_of
-returns-in-Ok-clause-standing c =
+pub returns-then-has_result-clause-standing : goal.returns-then-has_result-clause-standing
+returns-then-has_result-clause-standing c =
     let i = c.args.i.now in
     let s = state_of c.args.p.now in
-    let none : c.raised_in.result ≡ None = search rules in
-    let plain = plain_stands i s (sym c.has_result.ensures ∙ c.if-has_result.false) (sym c.is_branch.ensures ∙ c.if-is_branch.false) (c.results_by_name.ensures i _ _ _ _) in
-    sym (ap (by_raised i s) (sym c.raised_in.ensures ∙ none) ∙ plain ∙ ap (by_access i) c.in-Ok.ensures.0)
+    c.result_outcome.ensures.standing ∙ sym (ap (by_raised i s) (result_calm i s c.requires.built (sym c.has_result.ensures ∙ c.if-has_result.true)))
 
-pub returns-in-Err-clause-standing : goal.returns-in-Err-clause-standing
-unfolding hazard_of
-returns-in-Err-clause-standing c =
+pub returns-then-is_branch-clause-standing : goal.returns-then-is_branch-clause-standing
+returns-then-is_branch-clause-standing c =
     let i = c.args.i.now in
     let s = state_of c.args.p.now in
-    let none : c.raised_in.result ≡ None = search rules in
-    let plain = plain_stands i s (sym c.has_result.ensures ∙ c.if-has_result.false) (sym c.is_branch.ensures ∙ c.if-is_branch.false) (c.results_by_name.ensures i _ _ _ _) in
-    sym (ap (by_raised i s) (sym c.raised_in.ensures ∙ none) ∙ plain ∙ ap (by_access i) c.in-Err.ensures)
+    c.branch_outcome.ensures.standing ∙ sym (ap (by_raised i s) (branch_calm i s c.requires.built (sym c.is_branch.ensures ∙ c.if-is_branch.true)))

@@ -1,6 +1,15 @@
+use Rattle.std.proofs.Common.{ℕ, Ok, refl, subst}
+use Rattle.i9_isa.specs.declared.op.Op.TheVariants.{Lda, Atadd, Atmod, Bx, Balx, Bal, Call, Callx, Calls, Ret, Flushreg, Modac, Modtc, Modpc, Sysctl}
+use Rattle.i9_model.specs.Step.{answering, jumping, linking, call_action}
+use Rattle.i9_model.specs.Access.{SavesAt}
+use Rattle.i9_isa.specs.declared.inst.Operand.TheVariants.{Reg}
+use Rattle.i9_model.specs.declared.layout.TheConstants.{FP, LINK}
+use Rattle.i9_model.specs.Frames.{rounded_down}
+use Rattle.i9_processor.specs.Effect.{IsEffect}
 use Rattle.i9_processor.specs.State.{state_of}
+use Rattle.i9_plan.specs.Planned.{IsPlanFor}
 use Rattle.i9_plan.proofs.Faulting.{calls_number, sysctl_message}
-use Rattle.i9_plan.proofs.Outcomes.{IsOther, other_plan}
+use Rattle.i9_plan.proofs.Outcomes.{IsOther, other_plan, by_name}
 use Rattle.i9_plan.proofs.outcome.plan_by_name.Goals as goal
 
 pub plan_calls-requires : goal.plan_calls-requires
@@ -30,4 +39,94 @@ returns-in_default c =
       not_modpc = c.in_default.not-Modpc;
       not_sysctl = c.in_default.not-Sysctl;
     } in
-    other_plan i s c.passing.result other c.requires.result c.requires.branch (c.results_by_name.ensures i _ _ _ _) c.passing.ensures
+    other_plan i s c.passing.result other c.requires.result c.requires.branch (c.results_by_name.ensures i _ _ _ _) c.passing.ensures.effect
+
+pub returns-in-Atadd : goal.returns-in-Atadd
+returns-in-Atadd c =
+    let i = c.args.i.now in
+    let s = state_of c.args.p.now in
+    by_name Atadd i s _ c.in-Atadd.is c.plan_atadd.ensures
+
+pub returns-in-Atmod : goal.returns-in-Atmod
+returns-in-Atmod c =
+    let i = c.args.i.now in
+    let s = state_of c.args.p.now in
+    by_name Atmod i s _ c.in-Atmod.is c.plan_atmod.ensures
+
+pub returns-in-Calls : goal.returns-in-Calls
+returns-in-Calls c =
+    let i = c.args.i.now in
+    let s = state_of c.args.p.now in
+    by_name Calls i s _ c.in-Calls.is c.plan_calls.ensures
+
+pub returns-in-Ret : goal.returns-in-Ret
+returns-in-Ret c =
+    let i = c.args.i.now in
+    let s = state_of c.args.p.now in
+    by_name Ret i s _ c.in-Ret.is c.plan_return.ensures
+
+pub returns-in-Sysctl : goal.returns-in-Sysctl
+returns-in-Sysctl c =
+    let i = c.args.i.now in
+    let s = state_of c.args.p.now in
+    by_name Sysctl i s _ c.in-Sysctl.is c.plan_message.ensures
+
+pub returns-in-Modac : goal.returns-in-Modac
+returns-in-Modac c =
+    let i = c.args.i.now in
+    let s = state_of c.args.p.now in
+    by_name Modac i s (Ok c.plan_modac.result) c.in-Modac.is (refl, c.plan_modac.ensures)
+
+pub returns-in-Modtc : goal.returns-in-Modtc
+returns-in-Modtc c =
+    let i = c.args.i.now in
+    let s = state_of c.args.p.now in
+    by_name Modtc i s (Ok c.plan_modtc.result) c.in-Modtc.is (refl, c.plan_modtc.ensures)
+
+pub returns-in-Modpc : goal.returns-in-Modpc
+returns-in-Modpc c =
+    let i = c.args.i.now in
+    let s = state_of c.args.p.now in
+    by_name Modpc i s (Ok c.plan_modpc.result) c.in-Modpc.is (refl, c.plan_modpc.ensures)
+
+pub returns-in-Flushreg : goal.returns-in-Flushreg
+returns-in-Flushreg c =
+    let i = c.args.i.now in
+    let s = state_of c.args.p.now in
+    by_name Flushreg i s (Ok c.flushing.result) c.in-Flushreg.is (refl, c.flushing.ensures)
+
+pub returns-in-Lda : goal.returns-in-Lda
+returns-in-Lda c =
+    let i = c.args.i.now in
+    let s = state_of c.args.p.now in
+    by_name Lda i s (Ok c.answering.result) c.in-Lda.is (refl, subst (λ (v : ℕ). IsEffect s (answering i s v) c.answering.result) c.address.ensures c.answering.ensures)
+
+pub returns-in-Bx : goal.returns-in-Bx
+returns-in-Bx c =
+    let i = c.args.i.now in
+    let s = state_of c.args.p.now in
+    by_name Bx i s (Ok c.jumping.result) c.in-Bx.is (refl, subst (λ (a : ℕ). IsEffect s (jumping i s a) c.jumping.result) c.address-in-Bx.ensures c.jumping.ensures)
+
+pub returns-in-Balx : goal.returns-in-Balx
+returns-in-Balx c =
+    let i = c.args.i.now in
+    let s = state_of c.args.p.now in
+    by_name Balx i s (Ok c.linking.result) c.in-Balx.is (refl, subst (λ (a : ℕ). IsEffect s (linking i.c i s a) c.linking.result) c.address-in-Balx.ensures c.linking.ensures)
+
+pub returns-in-Bal : goal.returns-in-Bal
+returns-in-Bal c =
+    let i = c.args.i.now in
+    let s = state_of c.args.p.now in
+    by_name Bal i s (Ok c.linking-in-Bal.result) c.in-Bal.is (refl, subst (λ (a : ℕ). IsEffect s (linking (Reg LINK) i s a) c.linking-in-Bal.result) c.target.ensures c.linking-in-Bal.ensures)
+
+pub returns-in-Call : goal.returns-in-Call
+returns-in-Call c =
+    let i = c.args.i.now in
+    let s = state_of c.args.p.now in
+    by_name Call i s _ c.in-Call.is (subst (λ (a : ℕ). IsPlanFor s (SavesAt (rounded_down (s.regs FP))) (call_action i s a) c.plan_call.result) c.target-in-Call.ensures c.plan_call.ensures)
+
+pub returns-in-Callx : goal.returns-in-Callx
+returns-in-Callx c =
+    let i = c.args.i.now in
+    let s = state_of c.args.p.now in
+    by_name Callx i s _ c.in-Callx.is (subst (λ (a : ℕ). IsPlanFor s (SavesAt (rounded_down (s.regs FP))) (call_action i s a) c.plan_call-in-Callx.result) c.address-in-Callx.ensures c.plan_call-in-Callx.ensures)

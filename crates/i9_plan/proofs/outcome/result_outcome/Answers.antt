@@ -1,12 +1,11 @@
-use Rattle.std.proofs.Common.{Option, Some, None, sym, ap, ◌∙◌, subst}
+use Rattle.std.proofs.Common.{Option, sym, ap, ◌∙◌, subst}
 use Rattle.i9_isa.specs.Words.{bit}
 use Rattle.i9_model.specs.declared.arith.Arith.{Arith}
 use Rattle.i9_model.specs.declared.layout.TheConstants.{PRECISE_FAULTS_PLACE}
 use Rattle.i9_model.specs.Step.{Action}
 use Rattle.i9_processor.specs.Effect.{IsEffect}
 use Rattle.i9_processor.specs.State.{state_of}
-use Rattle.i9_plan.specs.Planned.{by_result}
-use Rattle.i9_plan.proofs.Outcomes.{result_stands, result_does}
+use Rattle.i9_plan.proofs.Outcomes.{by_result, result_stands, result_does}
 use Rattle.i9_plan.proofs.outcome.result_outcome.Goals as goal
 
 pub returns-in-None-clause-standing : goal.returns-in-None-clause-standing
@@ -20,12 +19,4 @@ pub returns-in-None-clause-effect : goal.returns-in-None-clause-effect
 returns-in-None-clause-effect c =
     let i = c.args.i.now in
     let s = state_of c.args.p.now in
-    subst (λ (a : Action). IsEffect s a c.resulting.result) (result_does i s c.answer-done.result c.requires.result c.answer-done.ensures.answer) c.resulting.ensures
-
-pub returns-in-Some-clause-standing : goal.returns-in-Some-clause-standing
-returns-in-Some-clause-standing c =
-    let i = c.args.i.now in
-    let s = state_of c.args.p.now in
-    let d = c.answer-done.result in
-    c.arithmetic_outcome.ensures.standing
-    ∙ sym (result_stands i s d c.requires.result c.answer-done.ensures.answer ∙ ap (λ (f : Option Arith). by_result i f (bit s.ac PRECISE_FAULTS_PLACE)) c.in-Some.is)
+    subst (λ (a : Action). IsEffect s a c.resulting.new.effect) (result_does i s c.answer-done.result c.requires.result c.answer-done.ensures.answer) c.resulting.ensures

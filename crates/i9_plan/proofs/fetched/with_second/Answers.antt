@@ -1,5 +1,5 @@
 use Rattle.i9_plan.proofs.Fetching.{second_given, decoded_valid}
-use Rattle.i9_plan.proofs.planned.with_second.Goals as goal
+use Rattle.i9_plan.proofs.fetched.with_second.Goals as goal
 
 pub returns-clause-read : goal.returns-clause-read
 returns-clause-read c = λ w read. second_given w 0 c.args.second c.args.inst c.requires read
