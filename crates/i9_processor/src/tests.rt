@@ -1,5 +1,6 @@
 //! The processor at an image of a few words, worked out by hand.
-ghost use Rattle.std.specs.Prelude.{◌≡◌, ◌<◌, [], None, OnOk};
+ghost use Rattle.std.specs.Prelude.{◌≡◌, ◌<◌, [], None, OnOk, IfSome};
+ghost use Rattle.i9_model.specs.Frames.{flushed};
 ghost use Rattle.i9_model.specs.Free.{IsFree};
 ghost use Rattle.i9_model.specs.Step.{moved};
 ghost use Rattle.i9_processor.specs.Effect.{action_in, move_in, AreRegisters, CanControl, CanMove, CanTake};
@@ -12,7 +13,8 @@ use i9_entry::aligned;
 use i9_faults::{Entry, Fault, FaultStop};
 use i9_frames::{Frame, Sets};
 use i9_hex::Segments;
-use i9_model::{Tables, View};
+use i9_model::layout::{CONTROL_GROUP_SIZE, CONTROL_TABLE_SIZE, PRCB_SIZE};
+use i9_model::{Breaks, Tables, View};
 use std::alloc::Global;
 use std::test::Fail;
 
@@ -24,8 +26,9 @@ const BIG_ENDIAN: u32 = 0x0040_0000;
 
 /// The image, as words that are little-endian: the boot record, the PRCB at 2000, its control table
 /// at 3000, which makes region 1 big-endian, a fault table, a system procedure table, words for
-/// reads, and the register cache words of two other PRCBs.
-const IMAGE: [(u32, u32); 22] = [
+/// reads, a PRCB at 2100, its control table at 6000, which makes region 2 big-endian, and the
+/// register cache word of another PRCB.
+const IMAGE: [(u32, u32); 38] = [
     (0xFFFF_FF10, 0x0000_1236),
     (0xFFFF_FF14, 0x0000_2000),
     (0x2000, 0x0000_1100),
@@ -45,8 +48,24 @@ const IMAGE: [(u32, u32); 22] = [
     (0x4000, 0x8765_4321),
     (0x1000_4000, 0x8765_4321),
     (0xE000_0008, 0x8765_4321),
+    (0x2100, 0x0000_1500),
     (0x2104, 0x0000_6000),
+    (0x2108, 0x1234_9105),
+    (0x210C, 0x4000_0001),
+    (0x2110, 0x0000_4450),
+    (0x2114, 0x0000_5600),
+    (0x211C, 0x0000_8881),
     (0x2124, 0x0000_000F),
+    (0x6000, 0x0000_0011),
+    (0x6004, 0x0000_0012),
+    (0x6008, 0x0000_0013),
+    (0x600C, 0x0000_0014),
+    (0x6010, 0x0000_0021),
+    (0x6014, 0x0000_0022),
+    (0x6018, 0x0000_0023),
+    (0x6028, BIG_ENDIAN),
+    (0x6064, 0x0000_0031),
+    (0x6068, 0xFFFF_FFFF),
     (0x2224, 0x0000_0013),
 ];
 
@@ -293,11 +312,12 @@ fn keeps_frames(rt: HostRuntime) -> Result<(), Fail> {
     assert_eq!(rt;
         (
             p.word(0x7788),
+            p.frame_word(0x7780, 2),
             p.overlay(0x7788),
             p.overlay(0x4000),
             p.overlay(0xE000_0008)
         ),
-        (9, Some(9), Some(0x21), Some(0))
+        (9, 9, Some(9), Some(0x21), Some(0))
     );
     let frame = Frame {
         address: 0x7780,
@@ -344,5 +364,200 @@ fn keeps_frames(rt: HostRuntime) -> Result<(), Fail> {
         ),
         (None, Some(5), 0, 0x1304)
     );
+    Ok(())
+}
+
+/// Sets g0 to g3.
+#[tactic(auto, unfolding(i9_model::specs::Hazards::writes_hazard))]
+fn sets_four(p: &mut Processor, values: [u32; 4]) -> Result<(), Fail> {
+    let effect = Effect::setting(p, 0x130C, 16, ArrayVec::from(values));
+    applies(p, &effect, None)
+}
+
+/// Flushes, and does something to the controls.
+#[tactic(auto, unfolding(i9_model::specs::Hazards::writes_hazard))]
+fn controls(p: &mut Processor, control: Control, sets: Option<Sets>) -> Result<(), Fail>
+    requires can { CanControl (record (state_of p.old) { frames = flushed (state_of p.old).frames }) control }
+    requires sets { IfSome sets (λ h. h.frames ≡ []) }
+{
+    let mut effect = Effect::going(p, 0x1310);
+    effect.frames = Move::Flushes;
+    effect.control = control;
+    applies(p, &effect, sets)
+}
+
+/// Starts anew by the PRCB at an address, with as many sets as it asks for.
+#[tactic(auto, unfolding(i9_model::specs::Tables::tables_hazard))]
+fn restarts(alloc: Global, p: &mut Processor, first: u32, prcb: u32) -> Result<(), Fail> {
+    let table = p.word(prcb.wrapping_add(4));
+    if p.check_flushed_read(prcb, PRCB_SIZE).is_some()
+        || p.check_flushed_read(table, CONTROL_TABLE_SIZE).is_some()
+    {
+        return Err("a hazard".into());
+    }
+    let sets = Sets::new(alloc, p.sets_at(prcb))?;
+    controls(p, Control::Restarts { first, prcb }, Some(sets))
+}
+
+/// Loads a group of the control table.
+#[tactic(auto, unfolding(i9_model::specs::Tables::group_hazard))]
+fn loads(p: &mut Processor, group: u8) -> Result<(), Fail> {
+    if group > 6 {
+        return Err("no such group".into());
+    }
+    let table = p.tables().control_table;
+    let at = table.wrapping_add(CONTROL_GROUP_SIZE * u32::from(group));
+    if p.check_flushed_read(at, CONTROL_GROUP_SIZE).is_some() {
+        return Err("a hazard".into());
+    }
+    controls(p, Control::LoadsGroup(group), None)
+}
+
+#[test]
+fn starts_anew(rt: HostRuntime) -> Result<(), Fail> {
+    let mut p = booted(rt.alloc(), 0)?;
+    sets_four(&mut p, [5, 6, 7, 8])?;
+    saves(&mut p, 9)?;
+    restarts(rt.alloc(), &mut p, 0x1403, 0x2100)?;
+    // The first frame is at the interrupt stack rounded up, and the globals stay.
+    let mut regs = [0; 32];
+    regs[1] = 0x88D0;
+    regs[16] = 5;
+    regs[17] = 6;
+    regs[18] = 7;
+    regs[19] = 8;
+    regs[31] = 0x8890;
+    let view = View {
+        count: 3,
+        ip: 0x1400,
+        ac: 0x9105,
+        pc: BOOT_PC,
+        tc: 0x0FFE_00FE,
+        regs,
+    };
+    assert_eq!(rt; p.view(), view);
+    let tables = Tables {
+        fault_table: 0x1500,
+        control_table: 0x6000,
+        fault_config: 0x4000_0001,
+        interrupt_table: 0x4450,
+        system_table: 0x5600,
+        interrupt_stack: 0x8881,
+        sets: 15,
+    };
+    assert_eq!(rt; *p.tables(), tables);
+    let breaks = Breaks {
+        ipb: [0x11, 0x12],
+        dab: [0x13, 0x14],
+        bpcon: 0x31,
+    };
+    assert_eq!(rt; (p.breaks, p.maps), (breaks, [0x21, 0x22, 0x23]));
+    assert_eq!(rt; (p.big(1), p.big(2)), (false, true));
+    // The frame that was held is in memory, and there are new sets.
+    assert_eq!(rt;
+        (
+            p.sets().size(),
+            p.sets().len(),
+            p.check_read(0x7780, 64),
+            p.word(0x7788)
+        ),
+        (15, 0, None, 9)
+    );
+    Ok(())
+}
+
+/// Whether these regions are big-endian, and no others.
+fn has_big(p: &Processor, wanted: &[u8]) -> bool {
+    for region in 0..16_u8 {
+        if p.big(region) != wanted.contains(&region) {
+            return false;
+        }
+    }
+    true
+}
+
+/// A place, and two bytes that are stored there.
+type Pair = (u32, (u8, u8));
+
+/// What control groups set: the breakpoints, the interrupt maps, the trace controls, and the
+/// regions that are big-endian.
+type Loaded = (Breaks, [u32; 3], u32, &'static [u8]);
+
+#[test]
+fn loads_control_groups(rt: HostRuntime) -> Result<(), Fail> {
+    let breaks = Breaks {
+        ipb: [0, 0],
+        dab: [0, 0],
+        bpcon: 5,
+    };
+    let (maps, tc) = ([0; 3], 0x0234_00FE);
+    let first = Breaks {
+        ipb: [0x1211, 0],
+        dab: [0, 0x1413],
+        bpcon: 5,
+    };
+    let last = Breaks {
+        bpcon: 0x2277,
+        ..breaks
+    };
+    // A group, the places where two bytes are stored in the control table before it is loaded, and
+    // what there is then.
+    let rows: [(u8, Pair, Pair, Loaded); 7] = [
+        (
+            0,
+            (0x3000, (0x11, 0x12)),
+            (0x300C, (0x13, 0x14)),
+            (first, maps, tc, &[1]),
+        ),
+        (
+            1,
+            (0x3014, (0x21, 0x22)),
+            (0x301A, (0x23, 0x24)),
+            (breaks, [0, 0x2221, 0x2423_0000], tc, &[1]),
+        ),
+        (
+            2,
+            (0x3026, (0, 0)),
+            (0x302E, (0x40, 0)),
+            (breaks, maps, tc, &[3]),
+        ),
+        (
+            3,
+            (0x3032, (0x40, 0)),
+            (0x303E, (0x40, 0)),
+            (breaks, maps, tc, &[1, 4, 7]),
+        ),
+        (
+            4,
+            (0x3046, (0x40, 0)),
+            (0x304E, (0x40, 0)),
+            (breaks, maps, tc, &[1, 9, 11]),
+        ),
+        (
+            5,
+            (0x3052, (0x40, 0)),
+            (0x305A, (0x40, 0)),
+            (breaks, maps, tc, &[1, 12, 14]),
+        ),
+        (
+            6,
+            (0x3064, (0x77, 0x22)),
+            (0x306A, (0xFF, 0xFF)),
+            (last, maps, 0x0FFE_00FE, &[1]),
+        ),
+    ];
+    for (group, one, other, (breaks, maps, tc, big)) in rows {
+        let mut p = booted(rt.alloc(), 0)?;
+        stores(&mut p, one.0, one.1)?;
+        stores(&mut p, other.0, other.1)?;
+        loads(&mut p, group)?;
+        assert_eq!(rt;
+            (p.breaks, p.maps, p.tc()),
+            (breaks, maps, tc),
+            "group {group}"
+        );
+        assert!(rt; has_big(&p, big), "group {group}");
+        assert_eq!(rt; (p.ip(), p.count(), p.sets().size()), (0x1310, 3, 7));
+    }
     Ok(())
 }
