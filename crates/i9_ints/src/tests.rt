@@ -6,64 +6,48 @@ use i9_watch::Watch;
 use std::alloc::Global;
 use std::test::Fail;
 
-/// The interrupt table of these tests.
+/// The interrupt table of most tests.
 const TABLE: u32 = 0x4000;
-
-/// The words of a controller, and whether the interrupt that is never masked is posted.
-#[derive(Clone, Copy)]
-struct Words {
-    pending: u32,
-    mask: u32,
-    maps: (u32, u32, u32),
-    nmi: bool,
-}
-
-/// Every line is posted and unmasked, and has vector 2.
-const ALL: Words = Words {
-    pending: 0xFFF,
-    mask: 0xFFF,
-    maps: (0, 0, 0),
-    nmi: false,
-};
-
-/// Nothing is posted.
-const NONE: Words = Words { pending: 0, ..ALL };
-
-/// A controller with these words.
-fn controller(words: Words) -> Ints {
-    let mut ints = Ints::new();
-    ints.set_pending(words.pending);
-    ints.set_mask(words.mask);
-    ints.set_map(0, words.maps.0);
-    ints.set_map(1, words.maps.1);
-    ints.set_map(2, words.maps.2);
-    if words.nmi {
-        ints.post_nmi();
-    }
-    ints
-}
-
-/// The choice of a line.
-fn line(k: u8, vector: u8) -> Option<Chosen> {
-    Some(Chosen {
-        vector,
-        cause: Cause::Line(k),
-    })
-}
-
-/// The choice of a request of software.
-fn soft(vector: u8) -> Chosen {
-    Chosen {
-        vector,
-        cause: Cause::Soft,
-    }
-}
 
 /// The choice of the interrupt that is never masked.
 const NMI: Chosen = Chosen {
     vector: 248,
     cause: Cause::Nmi,
 };
+
+/// Frames that were saved: those that were left again, so that their bytes are soft, those that are
+/// live, and the bytes that were written to since, so many from an address on.
+type Saved<'a> = (&'a [u32], &'a [u32], (u32, u32));
+
+/// No frame was saved.
+const UNSAVED: Saved<'static> = (&[], &[], (0, 0));
+
+/// A controller of a pending word, a mask word and map words.
+fn controller(pending: u32, mask: u32, maps: (u32, u32, u32)) -> Ints {
+    let mut ints = Ints::new();
+    ints.set_pending(pending);
+    ints.set_mask(mask);
+    ints.set_map(0, maps.0);
+    ints.set_map(1, maps.1);
+    ints.set_map(2, maps.2);
+    ints
+}
+
+/// The choice of a line, with its vector.
+fn line((k, vector): (u8, u8)) -> Chosen {
+    Chosen {
+        vector,
+        cause: Cause::Line(k),
+    }
+}
+
+/// The choice of a vector that software asks for.
+fn soft(vector: u8) -> Chosen {
+    Chosen {
+        vector,
+        cause: Cause::Soft,
+    }
+}
 
 /// A memory with room for 36 bytes at a table, and these bytes.
 fn memory(alloc: Global, table: u32, bytes: &[(u32, u8)]) -> Result<Memory, Fail> {
@@ -88,34 +72,20 @@ fn save(watch: &mut Watch, fp: u32) -> Result<(), Fail> {
     }
 }
 
-/// Which frames were saved: those that were left again, so that their bytes are soft, those that are
-/// live, and the bytes that were written to since: so many from an address on.
-#[derive(Clone, Copy)]
-struct Saved<'a> {
-    left: &'a [u32],
-    live: &'a [u32],
-    written: (u32, u32),
-}
-
-const NOTHING_SAVED: Saved<'static> = Saved {
-    left: &[],
-    live: &[],
-    written: (0, 0),
-};
-
 /// A watch of these frames.
 fn watch(alloc: Global, saved: Saved) -> Result<Watch, Fail> {
+    let (left, live, written) = saved;
     let mut watch = Watch::new(alloc);
-    for fp in saved.left {
+    for fp in left {
         save(&mut watch, *fp)?;
         if watch.first_live().is_some() {
             watch.returned();
         }
     }
-    for fp in saved.live {
+    for fp in live {
         save(&mut watch, *fp)?;
     }
-    watch.wrote(saved.written.0, saved.written.1);
+    watch.wrote(written.0, written.1);
     Ok(watch)
 }
 
@@ -138,279 +108,121 @@ fn posts(rt: HostRuntime) {
 
 #[test]
 fn chooses_lines(rt: HostRuntime) {
-    let pin_0 = Words {
-        pending: 1,
-        maps: (1, 0, 0),
-        ..ALL
-    };
+    // The pending and the mask word, the maps, PC, and the line that is chosen, with its vector.
     let rows = [
-        // Pin 0 has vector 18, of priority 2.
-        (pin_0, 0x0002_0000, None),
-        (pin_0, 0x0001_0000, line(0, 18)),
-        // The other bits of PC don't count.
-        (pin_0, 0xFFE1_FFFF, line(0, 18)),
-        (pin_0, 0xFFE2_FFFF, None),
+        // Pin 0 has vector 18, of priority 2. The other bits of PC don't count.
+        ((1, 0xFFF, (1, 0, 0)), 0x0002_0000, None),
+        ((1, 0xFFF, (1, 0, 0)), 0x0001_0000, Some((0, 18))),
+        ((1, 0xFFF, (1, 0, 0)), 0xFFE1_FFFF, Some((0, 18))),
         // It is masked, or another pin is posted.
-        (
-            Words {
-                mask: 0xFFE,
-                ..pin_0
-            },
-            0,
-            None,
-        ),
-        (
-            Words {
-                pending: 2,
-                ..pin_0
-            },
-            0,
-            None,
-        ),
+        ((1, 0xFFE, (1, 0, 0)), 0, None),
+        ((2, 0xFFF, (1, 0, 0)), 0, None),
         // No vector below 8 is entered.
-        (ALL, 0, None),
+        ((0xFFF, 0xFFF, (0, 0, 0)), 0, None),
         // The greatest vector, and of one vector the lowest line.
+        ((0xFFF, 0xFFF, (0x1432, 0x5, 0)), 0, Some((4, 82))),
+        ((0xFFF, 0xFFF, (0x0400, 0, 0x40)), 0, Some((2, 66))),
+        // Fields of the maps, as far as line 11 with vector 242.
+        ((0xFFF, 0xFFF, (0x7001, 0, 0)), 0, Some((3, 114))),
+        ((0xFFF, 0xFFF, (0, 0x7001, 0)), 0, Some((7, 114))),
+        ((0xFFF, 0xFFF, (0, 0, 1)), 0, Some((8, 18))),
         (
-            Words {
-                maps: (0x1432, 0x5, 0),
-                ..ALL
-            },
-            0,
-            line(4, 82),
-        ),
-        (
-            Words {
-                maps: (0x0400, 0, 0x40),
-                ..ALL
-            },
-            0,
-            line(2, 66),
-        ),
-        (
-            Words {
-                maps: (0x0300, 0, 0x40),
-                ..ALL
-            },
-            0,
-            line(9, 66),
-        ),
-        // The first and the last field of each map, as far as line 11 with vector 242.
-        (
-            Words {
-                maps: (0x7001, 0, 0),
-                ..ALL
-            },
-            0,
-            line(3, 114),
-        ),
-        (
-            Words {
-                maps: (0, 0x7001, 0),
-                ..ALL
-            },
-            0,
-            line(7, 114),
-        ),
-        (
-            Words {
-                maps: (0, 0x0001, 0),
-                ..ALL
-            },
-            0,
-            line(4, 18),
-        ),
-        (
-            Words {
-                maps: (0, 0, 0x0001),
-                ..ALL
-            },
-            0,
-            line(8, 18),
-        ),
-        (
-            Words {
-                maps: (0, 0, 0xFFFF_F000),
-                ..ALL
-            },
+            (0xFFF, 0xFFF, (0, 0, 0xFFFF_F000)),
             0x001D_0000,
-            line(11, 242),
+            Some((11, 242)),
         ),
-        (
-            Words {
-                maps: (0, 0, 0xFFFF_F000),
-                ..ALL
-            },
-            0x001E_0000,
-            None,
-        ),
-        // The interrupt that is never masked comes first.
-        (
-            Words {
-                nmi: true,
-                mask: 0,
-                ..ALL
-            },
-            0x001F_2002,
-            Some(NMI),
-        ),
-        (
-            Words {
-                nmi: true,
-                maps: (0xFFFF, 0xFFFF, 0xFFFF),
-                ..ALL
-            },
-            0,
-            Some(NMI),
-        ),
-        (Words { nmi: true, ..NONE }, 0, Some(NMI)),
+        ((0xFFF, 0xFFF, (0, 0, 0xFFFF_F000)), 0x001E_0000, None),
     ];
-    for (number, (words, pc, wanted)) in rows.iter().enumerate() {
-        assert_eq!(rt; controller(*words).choose(*pc), *wanted, "row {number}");
+    for ((pending, mask, maps), pc, wanted) in rows {
+        let chosen = controller(pending, mask, maps).choose(pc);
+        assert_eq!(rt; chosen, wanted.map(line), "{pending:?} {maps:?}");
+    }
+    // The interrupt that is never masked comes first.
+    for (pending, mask) in [(0, 0), (0xFFF, 0), (0xFFF, 0xFFF)] {
+        let mut ints = controller(pending, mask, (0xFFFF, 0xFFFF, 0xFFFF));
+        ints.post_nmi();
+        assert_eq!(rt; ints.choose(0x001F_2002), Some(NMI));
     }
 }
 
 #[test]
 fn chooses_requests(rt: HostRuntime) -> Result<(), Fail> {
-    let pin_0 = Words {
-        pending: 1,
-        maps: (1, 0, 0),
-        ..ALL
-    };
-    let nmi = Words { nmi: true, ..NONE };
-    // The words of the controller, the bytes of the table, PC, and what is chosen.
-    let rows: [(Words, &[(u32, u8)], u32, Option<Chosen>); 15] = [
-        (NONE, &[], 0, None),
+    let watch = watch(rt.alloc(), UNSAVED)?;
+    // Two bytes of the table, PC, and the vector that is chosen.
+    let rows = [
         // Vector 250 has priority 31: bit 7 of byte 3, and bit 2 of byte 35.
-        (
-            NONE,
-            &[(0x4003, 0x80), (0x4023, 0x04)],
-            0x001F_2002,
-            Some(soft(250)),
-        ),
-        (
-            NONE,
-            &[(0x4003, 0x80), (0x4023, 0x44)],
-            0x001F_2002,
-            Some(soft(254)),
-        ),
+        ((0x4003, 0x80), (0x4023, 0x04), 0x001F_2002, Some(250)),
         // One of the two bits is not set.
-        (NONE, &[(0x4003, 0x40), (0x4023, 0x04)], 0, None),
-        (NONE, &[(0x4003, 0x80), (0x4022, 0x04)], 0, None),
-        // Vectors 18 and 23 have priority 2.
-        (
-            NONE,
-            &[(0x4000, 0x04), (0x4006, 0x84)],
-            0x0001_0000,
-            Some(soft(23)),
-        ),
-        (
-            NONE,
-            &[(0x4000, 0x04), (0x4006, 0x04)],
-            0x0001_0000,
-            Some(soft(18)),
-        ),
-        (NONE, &[(0x4000, 0x04), (0x4006, 0x84)], 0x0002_0000, None),
-        // Vector 24 has priority 3.
-        (
-            NONE,
-            &[(0x4000, 0x0C), (0x4006, 0x84), (0x4007, 0x01)],
-            0,
-            Some(soft(24)),
-        ),
+        ((0x4003, 0x40), (0x4023, 0x04), 0, None),
+        ((0x4003, 0x80), (0x4022, 0x04), 0, None),
+        // Vectors 18 and 23 have priority 2, and vector 24 has priority 3.
+        ((0x4000, 0x04), (0x4006, 0x84), 0x0001_0000, Some(23)),
+        ((0x4000, 0x04), (0x4006, 0x04), 0x0001_0000, Some(18)),
+        ((0x4000, 0x04), (0x4006, 0x84), 0x0002_0000, None),
+        ((0x4000, 0x0C), (0x4007, 0x01), 0x0002_0000, Some(24)),
         // Priority 0 is never let in.
-        (NONE, &[(0x4000, 0x01), (0x4004, 0xFF)], 0, None),
-        // Pin 0 has vector 18: at one priority it comes first.
-        (pin_0, &[(0x4000, 0x04), (0x4006, 0x80)], 0, line(0, 18)),
-        (pin_0, &[(0x4000, 0x08), (0x4007, 0x01)], 0, Some(soft(24))),
-        (pin_0, &[(0x4000, 0x02), (0x4005, 0x80)], 0, line(0, 18)),
-        (pin_0, &[], 0, line(0, 18)),
-        (nmi, &[(0x4003, 0x80), (0x4023, 0x04)], 0, Some(NMI)),
+        ((0x4000, 0x01), (0x4004, 0xFF), 0, None),
     ];
-    let watch = watch(rt.alloc(), NOTHING_SAVED)?;
-    for (number, (words, bytes, pc, wanted)) in rows.iter().enumerate() {
-        let memory = memory(rt.alloc(), TABLE, bytes)?;
-        let chosen = controller(*words).choose_soft(&memory, &watch, TABLE, *pc);
-        assert_eq!(rt; chosen, Ok(*wanted), "row {number}");
+    for (first, second, pc, wanted) in rows {
+        let memory = memory(rt.alloc(), TABLE, &[first, second])?;
+        let chosen = Ints::new().choose_soft(&memory, &watch, TABLE, pc);
+        assert_eq!(rt; chosen, Ok(wanted.map(soft)), "{second:?}");
+    }
+    // Pin 0 has vector 18: of one priority it comes first, whatever vector software asks for.
+    let pin_0 = controller(1, 1, (1, 0, 0));
+    let rows = [
+        ((0x4000, 0x04), (0x4006, 0x80), line((0, 18))),
+        ((0x4000, 0x02), (0x4005, 0x80), line((0, 18))),
+        ((0x4000, 0x08), (0x4007, 0x01), soft(24)),
+    ];
+    for (first, second, wanted) in rows {
+        let memory = memory(rt.alloc(), TABLE, &[first, second])?;
+        let chosen = pin_0.choose_soft(&memory, &watch, TABLE, 0);
+        assert_eq!(rt; chosen, Ok(Some(wanted)), "{second:?}");
     }
     Ok(())
 }
 
 #[test]
 fn reads_all_requests(rt: HostRuntime) -> Result<(), Fail> {
-    // A frame that was left, and the first soft byte of the 36.
-    let rows: [(&[u32], Option<u32>); 4] = [
-        (&[0x3FC0], None),
-        (&[0x3FD0], Some(0x4000)),
-        (&[0x4020], Some(0x4020)),
-        (&[0x4030], None),
-    ];
     let memory = memory(rt.alloc(), TABLE, &[])?;
     // They are read where the interrupt that is never masked is posted too.
-    let ints = controller(Words { nmi: true, ..NONE });
-    for (left, hazard) in rows {
-        let watch = watch(
-            rt.alloc(),
-            Saved {
-                left,
-                ..NOTHING_SAVED
-            },
-        )?;
-        let wanted = hazard.map_or(Ok(Some(NMI)), Err);
+    let mut ints = Ints::new();
+    ints.post_nmi();
+    // A frame that was left, and what comes of it.
+    let rows = [
+        (0x3FC0, Ok(Some(NMI))),
+        (0x3FD0, Err(0x4000)),
+        (0x4020, Err(0x4020)),
+        (0x4030, Ok(Some(NMI))),
+    ];
+    for (left, wanted) in rows {
+        let watch = watch(rt.alloc(), (&[left], &[], (0, 0)))?;
         assert_eq!(rt; ints.choose_soft(&memory, &watch, TABLE, 0), wanted);
     }
     Ok(())
 }
 
-/// Where an interrupt is entered: the bytes of memory, the frames that were saved, the table, the
-/// interrupt, and the controls and pointers before.
-#[derive(Clone, Copy)]
-struct Scene<'a> {
-    bytes: &'a [(u32, u8)],
-    saved: Saved<'a>,
-    table: u32,
-    chosen: Chosen,
-    pc: u32,
-    ac: u32,
-    fp: u32,
-    sp: u32,
-}
-
-/// Vector 23 of software, with its handler at 1100, while an interrupt is handled.
-const SCENE: Scene<'static> = Scene {
-    bytes: HANDLER,
-    saved: NOTHING_SAVED,
-    table: TABLE,
-    chosen: Chosen {
-        vector: 23,
-        cause: Cause::Soft,
-    },
-    pc: 0x0001_2403,
-    ac: 0x8000,
-    fp: 0x3004,
-    sp: 0x3041,
-};
-
-/// The word of vector 23, which is at 4060, with low bits that don't count.
+/// The word of vector 23, which is at 4060: a handler at 1100, with low bits that don't count.
 const HANDLER: &[(u32, u8)] = &[(0x4060, 0x03), (0x4061, 0x11)];
 
-/// What an entry makes in a scene, where the interrupt stack is at 8008.
-fn entered(rt: &HostRuntime, scene: Scene) -> Result<Result<IntEntry, u32>, Fail> {
-    let memory = memory(rt.alloc(), scene.table, scene.bytes)?;
-    let watch = watch(rt.alloc(), scene.saved)?;
-    Ok(Ints::new().plan_int(
-        &memory,
-        &watch,
-        scene.table,
-        0x8008,
-        &scene.chosen,
-        scene.pc,
-        scene.ac,
-        scene.fp,
-        scene.sp,
-    ))
+/// What an entry makes from the process controls, the frame and the stack pointer, where AC is 8084
+/// and the interrupt stack is at 8008.
+fn entered(
+    rt: &HostRuntime,
+    bytes: &[(u32, u8)],
+    saved: Saved,
+    table: u32,
+    chosen: Chosen,
+    (pc, fp, sp): (u32, u32, u32),
+) -> Result<Result<IntEntry, u32>, Fail> {
+    let memory = memory(rt.alloc(), table, bytes)?;
+    let watch = watch(rt.alloc(), saved)?;
+    let ints = Ints::new();
+    Ok(ints.plan_int(&memory, &watch, table, 0x8008, &chosen, pc, 0x8084, fp, sp))
 }
 
-/// An entry with the handler at 1100, from the frame at 3000 and AC 8000.
+/// An entry with the handler at 1100, from the frame at 3000 and AC 8084.
 fn entry(frame: u32, sp: u32, pc: u32, old: u32, vector: u32) -> IntEntry {
     IntEntry {
         push: Push {
@@ -421,353 +233,167 @@ fn entry(frame: u32, sp: u32, pc: u32, old: u32, vector: u32) -> IntEntry {
         },
         target: 0x1100,
         pc,
-        words: [old, 0x8000, vector, 0],
+        words: [old, 0x8084, vector, 0],
     }
 }
 
+/// Process controls while an interrupt is handled, a frame pointer and a stack pointer.
+const HANDLED: (u32, u32, u32) = (0x0001_2403, 0x3004, 0x3041);
+
 #[test]
 fn enters(rt: HostRuntime) -> Result<(), Fail> {
-    let pin_0 = Chosen {
-        vector: 18,
-        cause: Cause::Line(0),
-    };
+    let other: &[(u32, u8)] = &[(0x404D, 0x11), (0x43E5, 0x11)];
     let rows = [
         // On the stack in use while an interrupt is handled, and else on the interrupt stack.
-        (SCENE, entry(0x3060, 0x30A0, 0x0002_2002, 0x0001_2403, 23)),
         (
-            Scene {
-                pc: 0x0001_DFFF,
-                ..SCENE
-            },
+            HANDLER,
+            soft(23),
+            HANDLED,
+            entry(0x3060, 0x30A0, 0x0002_2002, 0x0001_2403, 23),
+        ),
+        (
+            HANDLER,
+            soft(23),
+            (0x0001_DFFF, 0x3004, 0x3041),
             entry(0x8020, 0x8060, 0x0002_2002, 0x0001_DFFF, 23),
         ),
         // The word of vector 18 is at 404C, and that of vector 248 at 43E4.
         (
-            Scene {
-                bytes: &[(0x404C, 0x00), (0x404D, 0x11)],
-                chosen: pin_0,
-                pc: 0,
-                ..SCENE
-            },
+            other,
+            line((0, 18)),
+            (0, 0x3004, 0x3041),
             entry(0x8020, 0x8060, 0x0002_2002, 0, 18),
         ),
         (
-            Scene {
-                bytes: &[(0x43E4, 0x01), (0x43E5, 0x11)],
-                chosen: NMI,
-                ..SCENE
-            },
+            other,
+            NMI,
+            HANDLED,
             entry(0x3060, 0x30A0, 0x001F_2002, 0x0001_2403, 248),
         ),
     ];
-    for (number, (scene, wanted)) in rows.iter().enumerate() {
-        assert_eq!(rt; entered(&rt, *scene)?, Ok(*wanted), "row {number}");
+    for (bytes, chosen, before, wanted) in rows {
+        let made = entered(&rt, bytes, UNSAVED, TABLE, chosen, before)?;
+        assert_eq!(rt; made, Ok(wanted));
     }
     Ok(())
 }
 
-/// Vector 23 by the table at 3FFC or 3FFE, so that the byte of its priority stands before 4000, and
-/// that of its vectors behind it.
-const APART: Scene<'static> = Scene {
-    table: 0x3FFC,
-    ..SCENE
-};
-
 #[test]
 fn meets_hazards_in_order(rt: HostRuntime) -> Result<(), Fail> {
-    let left = |left| Saved {
-        left,
-        ..NOTHING_SAVED
-    };
-    let live = |live| Saved {
-        live,
-        ..NOTHING_SAVED
-    };
-    // Live bytes that were written to are not soft.
-    let hard = Saved {
-        live: &[0x4000],
-        written: (0x4000, 36),
-        ..NOTHING_SAVED
-    };
-    let rows = [
-        // The word of the vector, and everything later.
+    // The frames, the table, PC with fp and sp, and the hazard.
+    let rows: [(Saved, u32, (u32, u32, u32), u32); 13] = [
+        // The word of the vector, the save area, and the record, with everything later.
         (
-            Scene {
-                saved: Saved {
-                    left: &[0x4060, 0x4000],
-                    live: &[0x3010, 0x3050],
-                    ..NOTHING_SAVED
-                },
-                ..SCENE
-            },
+            (&[0x4060, 0x4000], &[0x3010, 0x3050], (0, 0)),
+            TABLE,
+            HANDLED,
             0x4060,
         ),
-        // The save area, and the record; in the port page too.
         (
-            Scene {
-                saved: Saved {
-                    left: &[0x4000],
-                    live: &[0x3010, 0x3050],
-                    ..NOTHING_SAVED
-                },
-                ..SCENE
-            },
+            (&[0x4000], &[0x3010, 0x3050], (0, 0)),
+            TABLE,
+            HANDLED,
             0x3010,
         ),
-        (
-            Scene {
-                fp: 0xDFFF_FFDF,
-                ..SCENE
-            },
-            0xE000_0000,
-        ),
-        (
-            Scene {
-                saved: Saved {
-                    left: &[0x4000],
-                    live: &[0x3050],
-                    ..NOTHING_SAVED
-                },
-                ..SCENE
-            },
-            0x3050,
-        ),
-        (
-            Scene {
-                saved: live(&[0x8000]),
-                pc: 0,
-                ..SCENE
-            },
-            0x8010,
-        ),
-        (
-            Scene {
-                sp: 0x2FF1,
-                ..SCENE
-            },
-            0x3000,
-        ),
-        (
-            Scene {
-                sp: 0xDFFF_FFF1,
-                ..SCENE
-            },
-            0xE000_0000,
-        ),
+        ((&[0x4000], &[0x3050], (0, 0)), TABLE, HANDLED, 0x3050),
+        ((&[], &[0x8000], (0, 0)), TABLE, (0, 0x3004, 0x3041), 0x8010),
+        (UNSAVED, TABLE, (0x2000, 0x3004, 0x2FF1), 0x3000),
+        // The same in the port page.
+        (UNSAVED, TABLE, (0, 0xDFFF_FFDF, 0x3041), 0xE000_0000),
+        (UNSAVED, TABLE, (0x2000, 0x3004, 0xDFFF_FFF1), 0xE000_0000),
         // The byte of the priority, and that of the vectors: they are soft, or the entry saves them.
-        (
-            Scene {
-                saved: left(&[0x4000]),
-                ..SCENE
-            },
-            0x4000,
-        ),
-        (
-            Scene {
-                saved: left(&[0x4000]),
-                ..APART
-            },
-            0x4002,
-        ),
-        (
-            Scene {
-                fp: 0x4000,
-                ..SCENE
-            },
-            0x4000,
-        ),
-        (
-            Scene {
-                fp: 0x4000,
-                ..APART
-            },
-            0x4002,
-        ),
-        // The byte of the priority is written where no other vector is left.
-        (
-            Scene {
-                saved: hard,
-                bytes: &[(0x4006, 0x84)],
-                ..SCENE
-            },
-            0x4006,
-        ),
-        (
-            Scene {
-                saved: hard,
-                bytes: &[(0x4006, 0x80)],
-                ..SCENE
-            },
-            0x4000,
-        ),
-        (
-            Scene {
-                saved: hard,
-                bytes: &[],
-                ..APART
-            },
-            0x4002,
-        ),
-        (
-            Scene {
-                table: 0xE000_0000,
-                ..SCENE
-            },
-            0xE000_0000,
-        ),
-        (
-            Scene {
-                table: 0xDFFF_FFFC,
-                ..SCENE
-            },
-            0xE000_0002,
-        ),
+        ((&[0x4000], &[], (0, 0)), TABLE, HANDLED, 0x4000),
+        ((&[0x4000], &[], (0, 0)), 0x3FFC, HANDLED, 0x4002),
+        (UNSAVED, TABLE, (0, 0x4000, 0x3041), 0x4000),
+        (UNSAVED, 0x3FFC, (0, 0x4000, 0x3041), 0x4002),
+        // They are written in the port page.
+        (UNSAVED, 0xE000_0000, HANDLED, 0xE000_0000),
+        (UNSAVED, 0xDFFF_FFFC, HANDLED, 0xE000_0002),
     ];
-    for (number, (scene, wanted)) in rows.iter().enumerate() {
-        assert_eq!(rt; entered(&rt, *scene)?, Err(*wanted), "row {number}");
+    for (saved, table, before, wanted) in rows {
+        let made = entered(&rt, HANDLER, saved, table, soft(23), before)?;
+        assert_eq!(rt; made, Err(wanted));
+    }
+    Ok(())
+}
+
+#[test]
+fn writes_live_bytes(rt: HostRuntime) -> Result<(), Fail> {
+    // Live bytes that were written to are not soft.
+    let hard: Saved = (&[], &[0x4000], (0x4000, 36));
+    // The byte of the vectors: that of the priority is written where no other vector is left.
+    for (vectors, wanted) in [(0x84, 0x4006), (0x80, 0x4000), (0x00, 0x4000)] {
+        let made = entered(&rt, &[(0x4006, vectors)], hard, TABLE, soft(23), HANDLED)?;
+        assert_eq!(rt; made, Err(wanted));
     }
     Ok(())
 }
 
 #[test]
 fn reads_the_record(rt: HostRuntime) -> Result<(), Fail> {
-    // The record is at 4000, and AC at 4004, where the bits of the vectors are.
-    let over = Scene {
-        saved: Saved {
-            live: &[0x3FC0],
-            written: (0x3FFE, 2),
-            ..NOTHING_SAVED
-        },
-        table: 0x3FFE,
-        sp: 0x4000,
-        ..SCENE
-    };
-    let last: &[(u32, u8)] = &[(0x4004, 0x80), (0x405F, 0x11)];
-    let other: &[(u32, u8)] = &[(0x4004, 0x84), (0x405F, 0x11)];
+    let before = (0x0001_2403, 0x3004, 0x4000);
+    // The record is at 4000 and AC at 4004, where the bits of the vectors are: 18 and 23 are set.
+    let live: Saved = (&[], &[0x3FC0], (0x3FFE, 2));
+    let bytes = &[(0x4004, 0x80), (0x405F, 0x11)];
     let wanted = entry(0x4010, 0x4050, 0x0002_2002, 0x0001_2403, 23);
-    let rows = [
-        (
-            Scene {
-                bytes: other,
-                ac: 0x8480,
-                ..over
-            },
-            Err(0x3FFE),
-        ),
-        (
-            Scene {
-                bytes: last,
-                ac: 0x8084,
-                ..over
-            },
-            Ok(IntEntry {
-                words: [0x0001_2403, 0x8084, 23, 0],
-                ..wanted
-            }),
-        ),
-        // Soft bytes under the record are not soft any more.
-        (
-            Scene {
-                saved: Saved {
-                    left: &[0x4000],
-                    ..NOTHING_SAVED
-                },
-                sp: 0x4000,
-                ..SCENE
-            },
-            Ok(wanted),
-        ),
-        // A line reads nothing of the requests.
-        (
-            Scene {
-                saved: Saved {
-                    left: &[0x4000],
-                    ..NOTHING_SAVED
-                },
-                chosen: Chosen {
-                    vector: 23,
-                    cause: Cause::Line(5),
-                },
-                ..SCENE
-            },
-            Ok(entry(0x3060, 0x30A0, 0x0002_2002, 0x0001_2403, 23)),
-        ),
-    ];
-    for (number, (scene, wanted)) in rows.iter().enumerate() {
-        assert_eq!(rt; entered(&rt, *scene)?, *wanted, "row {number}");
-    }
+    let made = entered(&rt, bytes, live, 0x3FFE, soft(23), before)?;
+    assert_eq!(rt; made, Ok(wanted));
+    // Soft bytes under the record are not soft any more.
+    let left: Saved = (&[0x4000], &[], (0, 0));
+    let made = entered(&rt, HANDLER, left, TABLE, soft(23), before)?;
+    assert_eq!(rt; made, Ok(wanted));
+    // A line reads nothing of the requests.
+    let made = entered(&rt, HANDLER, left, TABLE, line((5, 23)), HANDLED)?;
+    assert_eq!(rt;
+        made,
+        Ok(entry(0x3060, 0x30A0, 0x0002_2002, 0x0001_2403, 23))
+    );
     Ok(())
 }
 
 #[test]
 fn requests(rt: HostRuntime) -> Result<(), Fail> {
-    // The bytes of the priority and of the vectors before; the vector; where they are, and after.
-    let rows: [(&[(u32, u8)], u8, (u32, u8), (u32, u8)); 5] = [
-        (&[], 23, (0x4000, 0x04), (0x4006, 0x80)),
-        (
-            &[(0x4000, 0x10), (0x4006, 0x01)],
-            23,
-            (0x4000, 0x14),
-            (0x4006, 0x81),
-        ),
-        (
-            &[(0x4000, 0x04), (0x4006, 0x80)],
-            23,
-            (0x4000, 0x04),
-            (0x4006, 0x80),
-        ),
-        (&[], 250, (0x4003, 0x80), (0x4023, 0x04)),
-        (&[], 0, (0x4000, 0x01), (0x4004, 0x01)),
+    // The vector; where the bytes of its priority and of its vectors are; before and after.
+    let rows = [
+        (23, (0x4000, 0x4006), (0, 0), (0x04, 0x80)),
+        (23, (0x4000, 0x4006), (0x10, 0x01), (0x14, 0x81)),
+        (23, (0x4000, 0x4006), (0x04, 0x80), (0x04, 0x80)),
+        (250, (0x4003, 0x4023), (0, 0), (0x80, 0x04)),
+        (0, (0x4000, 0x4004), (0, 0), (0x01, 0x01)),
     ];
-    for (number, (bytes, vector, priority, pending)) in rows.iter().enumerate() {
-        let mut memory = memory(rt.alloc(), TABLE, bytes)?;
-        let mut watch = watch(rt.alloc(), NOTHING_SAVED)?;
+    for (vector, at, before, after) in rows {
+        let mut memory = memory(rt.alloc(), TABLE, &[(at.0, before.0), (at.1, before.1)])?;
+        let mut watch = watch(rt.alloc(), UNSAVED)?;
         memory.reserve(TABLE, 36)?;
         assert_eq!(rt;
-            Ints::request(&mut memory, &mut watch, TABLE, *vector),
-            Ok(()),
-            "row {number}"
+            Ints::request(&mut memory, &mut watch, TABLE, vector),
+            Ok(())
         );
-        assert_eq!(rt; memory.byte(priority.0), priority.1, "row {number}");
-        assert_eq!(rt; memory.byte(pending.0), pending.1, "row {number}");
-        assert_eq!(rt; memory.byte(0x4001), 0, "row {number}");
+        assert_eq!(rt; (memory.byte(at.0), memory.byte(at.1)), after);
     }
     Ok(())
 }
 
 #[test]
 fn requests_meet_hazards(rt: HostRuntime) -> Result<(), Fail> {
-    let left = Saved {
-        left: &[0x4000],
-        ..NOTHING_SAVED
-    };
-    let hard = Saved {
-        live: &[0x4000],
-        written: (0x4000, 36),
-        ..NOTHING_SAVED
-    };
-    // The byte of the priority is live, and that of the vectors is soft.
-    let both = Saved {
-        left: &[0x4000],
-        live: &[0x3FC0],
-        written: (0x3FFC, 4),
-    };
+    let left: Saved = (&[0x4000], &[], (0, 0));
+    let hard: Saved = (&[], &[0x4000], (0x4000, 36));
     let rows = [
-        (left, 0x4000, 0x4000),
+        (left, TABLE, 0x4000),
         (left, 0x3FFC, 0x4002),
-        (hard, 0x4000, 0x4000),
+        (hard, TABLE, 0x4000),
         (hard, 0x3FFC, 0x4002),
-        (both, 0x3FFC, 0x4002),
-        (NOTHING_SAVED, 0xE000_0000, 0xE000_0000),
-        (NOTHING_SAVED, 0xDFFF_FFFC, 0xE000_0002),
+        // The byte of the priority is live, and that of the vectors is soft, which comes first.
+        ((&[0x4000], &[0x3FC0], (0x3FFC, 4)), 0x3FFC, 0x4002),
+        (UNSAVED, 0xE000_0000, 0xE000_0000),
+        (UNSAVED, 0xDFFF_FFFC, 0xE000_0002),
     ];
-    for (number, (saved, table, wanted)) in rows.iter().enumerate() {
-        let mut memory = memory(rt.alloc(), *table, &[])?;
-        let mut watch = watch(rt.alloc(), *saved)?;
-        memory.reserve(*table, 36)?;
-        let done = Ints::request(&mut memory, &mut watch, *table, 23);
-        assert_eq!(rt; done, Err(*wanted), "row {number}");
-        assert_eq!(rt; memory.byte(*table), 0, "row {number}");
+    for (saved, table, wanted) in rows {
+        let mut memory = memory(rt.alloc(), table, &[])?;
+        let mut watch = watch(rt.alloc(), saved)?;
+        memory.reserve(table, 36)?;
+        let done = Ints::request(&mut memory, &mut watch, table, 23);
+        assert_eq!(rt; (done, memory.byte(table)), (Err(wanted), 0));
     }
     Ok(())
 }
@@ -775,18 +401,14 @@ fn requests_meet_hazards(rt: HostRuntime) -> Result<(), Fail> {
 #[test]
 fn takes_lines(rt: HostRuntime) -> Result<(), Fail> {
     let mut memory = memory(rt.alloc(), TABLE, &[])?;
-    let mut watch = watch(rt.alloc(), NOTHING_SAVED)?;
+    let mut watch = watch(rt.alloc(), UNSAVED)?;
     memory.reserve(TABLE, 36)?;
-    let mut ints = controller(Words {
-        nmi: true,
-        maps: (0x0100, 0, 0),
-        ..ALL
-    });
+    let mut ints = controller(0xFFF, 0xFFF, (0x0100, 0, 0));
+    ints.post_nmi();
     let pin_2 = Chosen {
         vector: 18,
         cause: Cause::Line(2),
     };
-    assert_eq!(rt; ints.choose(0), Some(NMI));
     ints.take(&mut memory, &mut watch, TABLE, &NMI);
     assert_eq!(rt; (ints.pending(), ints.choose(0)), (0xFFF, Some(pin_2)));
     ints.take(&mut memory, &mut watch, TABLE, &pin_2);
@@ -819,21 +441,22 @@ fn enter(
 
 #[test]
 fn takes_requests(rt: HostRuntime) -> Result<(), Fail> {
-    // Vectors 18 and 23 have priority 2, and vector 9 has priority 1. Before, the vector, and after.
-    let rows: [(&[(u32, u8)], u8, u8, u8); 4] = [
-        (&[(0x4000, 0x06), (0x4006, 0x84)], 23, 0x06, 0x04),
-        (&[(0x4000, 0x06), (0x4006, 0x84)], 18, 0x06, 0x80),
-        (&[(0x4000, 0x06), (0x4006, 0x80)], 23, 0x02, 0x00),
-        (&[(0x4000, 0x04), (0x4006, 0x04)], 18, 0x00, 0x00),
+    // Vectors 18 and 23 have priority 2, and another vector has priority 1: the bytes at 4000 and
+    // 4006 before, the vector, and both bytes after.
+    let rows = [
+        ((0x06, 0x84), 23, (0x06, 0x04)),
+        ((0x06, 0x84), 18, (0x06, 0x80)),
+        ((0x06, 0x80), 23, (0x02, 0x00)),
+        ((0x04, 0x04), 18, (0x00, 0x00)),
     ];
-    for (number, (bytes, vector, priorities, vectors)) in rows.iter().enumerate() {
-        let mut memory = memory(rt.alloc(), TABLE, bytes)?;
-        let mut watch = watch(rt.alloc(), NOTHING_SAVED)?;
-        let mut ints = controller(ALL);
-        enter(&mut ints, &mut memory, &mut watch, &soft(*vector))?;
-        assert_eq!(rt; memory.byte(0x4000), *priorities, "row {number}");
-        assert_eq!(rt; memory.byte(0x4006), *vectors, "row {number}");
-        assert_eq!(rt; ints.pending(), 0xFFF, "row {number}");
+    for (before, vector, after) in rows {
+        let bytes = [(0x4000, before.0), (0x4006, before.1)];
+        let mut memory = memory(rt.alloc(), TABLE, &bytes)?;
+        let mut watch = watch(rt.alloc(), UNSAVED)?;
+        let mut ints = controller(0xFFF, 0xFFF, (0, 0, 0));
+        enter(&mut ints, &mut memory, &mut watch, &soft(vector))?;
+        assert_eq!(rt; (memory.byte(0x4000), memory.byte(0x4006)), after);
+        assert_eq!(rt; ints.pending(), 0xFFF);
     }
     Ok(())
 }
