@@ -100,7 +100,7 @@ impl Machine {
         ensures fewer { LeavesFewer result (steps_left self.old) (steps_left self.new) }
     {
         match self.planned() {
-            Ok(step) => self.perform(step, out),
+            Ok(step) => self.perform(&step, out),
             Err(end) => self.finish(end, out),
         }
     }

@@ -96,8 +96,8 @@ enum Step {
 }
 
 use Step::{
-    Byte, Flush, FrameWord, FrameWords, Half, Held, Holds, IsSoft, Restart, Return, Save, StoreHalf,
-    StoreWord, Word,
+    Byte, Flush, FrameWord, FrameWords, Half, Held, Holds, IsSoft, Restart, Return, Save,
+    StoreHalf, StoreWord, Word,
 };
 
 /// Does a step; false where the answer is another one.

@@ -144,22 +144,22 @@ impl Machine {
     }
 
     /// Does what is planned, prints its lines, and keeps what is due afterwards.
-    fn act(&mut self, step: Step, sets: Option<Sets>, out: &mut Vec<Line>) -> Turn
-        requires ready { IsReady (state_of self.old.processor) self.old.length step }
-        requires space { HasSpaceFor self.old.processor step.effect }
-        requires made { CanTake (move_in (state_of self.old.processor) step.effect.frames) sets }
-        requires lines { vec_len out.old + line_count step ≤ vec_capacity out.old }
-        ensures state { AreAlike (counted step.counts (acted (state_of self.old.processor) (action_in (state_of self.old.processor) step.effect))) (state_of self.new.processor) }
-        ensures cache { cache_of self.new.processor ≡ cache_through self.old.processor (action_in (state_of self.old.processor) step.effect) self.new.processor }
+    fn act(&mut self, step: &Step, sets: Option<Sets>, out: &mut Vec<Line>) -> Turn
+        requires ready { IsReady (state_of self.old.processor) self.old.length step.now }
+        requires space { HasSpaceFor self.old.processor step.now.effect }
+        requires made { CanTake (move_in (state_of self.old.processor) step.now.effect.frames) sets }
+        requires lines { vec_len out.old + line_count step.now ≤ vec_capacity out.old }
+        ensures state { AreAlike (counted step.now.counts (acted (state_of self.old.processor) (action_in (state_of self.old.processor) step.now.effect))) (state_of self.new.processor) }
+        ensures cache { cache_of self.new.processor ≡ cache_through self.old.processor (action_in (state_of self.old.processor) step.now.effect) self.new.processor }
         ensures size { size_of self.new.processor ≡ size_with sets (size_of self.old.processor) }
-        ensures due { self.new.due ≡ step.due }
+        ensures due { self.new.due ≡ step.now.due }
         ensures length { self.new.length ≡ self.old.length }
         ensures sets { self.new.sets ≡ self.old.sets }
         ensures ended { self.new.ended ≡ self.old.ended }
-        ensures answer { result ≡ step.answer }
-        ensures count { (state_of self.new.processor).count ≡ (state_of self.old.processor).count + step.counts }
-        ensures lines { AddsLines out.old.items out.new.items (lines_of step
-            (counted step.counts (acted (state_of self.old.processor) (action_in (state_of self.old.processor) step.effect)))) }
+        ensures answer { result ≡ step.now.answer }
+        ensures count { (state_of self.new.processor).count ≡ (state_of self.old.processor).count + step.now.counts }
+        ensures lines { AddsLines out.old.items out.new.items (lines_of step.now
+            (counted step.now.counts (acted (state_of self.old.processor) (action_in (state_of self.old.processor) step.now.effect)))) }
     {
         self.processor.apply(&step.effect, step.counts, sets);
         self.due = step.due;
@@ -169,14 +169,14 @@ impl Machine {
     }
 
     /// Makes room for a step and does it.
-    pub(super) fn perform(&mut self, step: Step, out: &mut Vec<Line>) -> Turn
+    pub(super) fn perform(&mut self, step: &Step, out: &mut Vec<Line>) -> Turn
         requires running { self.old.ended ≡ None }
-        requires step { IsStep self.old step }
+        requires step { IsStep self.old step.now }
         ensures steps { Steps self.old result self.new out.old.items out.new.items }
         ensures lacking { result ≡ Turn.Memory → HasRoom self.old (vec_capacity out.old - vec_len out.old) (next_for self.old) → ⊥ }
         ensures fewer { LeavesFewer result (steps_left self.old) (steps_left self.new) }
     {
-        match self.make_room(&step, out) {
+        match self.make_room(step, out) {
             Ok(sets) => self.act(step, sets, out),
             Err(_) => Turn::Memory,
         }

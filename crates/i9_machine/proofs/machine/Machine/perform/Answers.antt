@@ -29,15 +29,15 @@ act-requires-clause-ready c =
     let s = state_of old.processor in
     let step = c.requires.step in
     let free = next_free old.length old.due s (record_of step.kind s) step.is_next in
-    let ready : IsReady s old.length c.args.step = record {
+    let ready : IsReady s old.length c.args.step.now = record {
       registers = step.effect.registers;
       moves = step.effect.moves;
       free = subst (IsFree s) (sym step.effect.same) free.1;
-      controls = subst (λ (a : Action). CanControl (moved s a) c.args.step.effect.control) (sym step.effect.same) step.effect.controls;
+      controls = subst (λ (a : Action). CanControl (moved s a) c.args.step.now.effect.control) (sym step.effect.same) step.effect.controls;
       below = step.below;
     } in
-    subst (λ (n : ℕ). IsReady (state_of c.make_room.new.self.processor) n c.args.step) (sym c.make_room.ensures.same.length)
-    (subst (λ (t : State). IsReady t old.length c.args.step) (sym c.make_room.ensures.same.state) ready)
+    subst (λ (n : ℕ). IsReady (state_of c.make_room.new.self.processor) n c.args.step.now) (sym c.make_room.ensures.same.length)
+    (subst (λ (t : State). IsReady t old.length c.args.step.now) (sym c.make_room.ensures.same.state) ready)
 
 pub act-requires-clause-made : goal.act-requires-clause-made
 act-requires-clause-made c =
@@ -45,9 +45,9 @@ act-requires-clause-made c =
     let s = state_of old.processor in
     let step = c.requires.step in
     let free = next_free old.length old.due s (record_of step.kind s) step.is_next in
-    let planned : IsFree s (action_in s c.args.step.effect) = subst (IsFree s) (sym step.effect.same) free.1 in
-    subst (λ (t : State). CanTake (move_in t c.args.step.effect.frames) c.in-Ok.sets) (sym c.make_room.ensures.same.state)
-    (made_takes old.sets s.memory c.args.step.effect.control c.in-Ok.sets (action_in s c.args.step.effect).move (action_in s c.args.step.effect).writes c.in-Ok.ensures.made planned.controls)
+    let planned : IsFree s (action_in s c.args.step.now.effect) = subst (IsFree s) (sym step.effect.same) free.1 in
+    subst (λ (t : State). CanTake (move_in t c.args.step.now.effect.frames) c.in-Ok.sets) (sym c.make_room.ensures.same.state)
+    (made_takes old.sets s.memory c.args.step.now.effect.control c.in-Ok.sets (action_in s c.args.step.now.effect).move (action_in s c.args.step.now.effect).writes c.in-Ok.ensures.made planned.controls)
 
 pub returns-in-Ok-clause-fewer : goal.returns-in-Ok-clause-fewer
 unfolding steps_left
@@ -56,13 +56,13 @@ returns-in-Ok-clause-fewer c =
     let old = c.args.self.now in
     let new = c.act.new.self in
     let s = state_of old.processor in
-    let n = c.args.step.counts in
+    let n = c.args.step.now.counts in
     let bound : new.length ≡ old.length = c.act.ensures.length ∙ c.make_room.ensures.same.length in
     let count : (state_of new.processor).count ≡ s.count + n = c.act.ensures.count ∙ ap (λ (t : State). t.count + n) c.make_room.ensures.same.state in
-    let due : pending new.due ≡ pending c.args.step.due = ap pending c.act.ensures.due in
-    let fewer = left_fewer old.length new.length s.count (state_of new.processor).count n (pending c.args.step.due) (pending new.due) (pending old.due) bound count due step.below step.fewer in
+    let due : pending new.due ≡ pending c.args.step.now.due = ap pending c.act.ensures.due in
+    let fewer = left_fewer old.length new.length s.count (state_of new.processor).count n (pending c.args.step.now.due) (pending new.due) (pending old.due) bound count due step.below step.fewer in
     subst (λ (t : Turn). LeavesFewer t (steps_left old) (steps_left new)) (sym c.act.ensures.answer)
-    (fewer_by c.args.step.answer s step.kind (steps_left old) (steps_left new) step.tells fewer)
+    (fewer_by c.args.step.now.answer s step.kind (steps_left old) (steps_left new) step.tells fewer)
 
 pub returns-in-Ok-clause-lacking : goal.returns-in-Ok-clause-lacking
 returns-in-Ok-clause-lacking c = λ is room.
@@ -73,4 +73,4 @@ returns-in-Ok-clause-lacking c = λ is room.
 pub returns-in-Err-clause-lacking : goal.returns-in-Err-clause-lacking
 returns-in-Err-clause-lacking c = λ is room.
     let out = c.args.out.now in
-    c.in-Err.ensures.lacking (step_room c.args.self.now (vec_capacity out - vec_len out) c.args.step c.requires.step room)
+    c.in-Err.ensures.lacking (step_room c.args.self.now (vec_capacity out - vec_len out) c.args.step.now c.requires.step room)
