@@ -1,6 +1,5 @@
 -- A step of a machine is the next record, or the end, of what the machine stands for.
 use Rattle.std.proofs.Common.{◌≡◌, ℕ, ◌≤◌, ◌||◌, nat_lt, List, ◌∷◌, ◌++◌, Option, None, length, map, true, sym, ap, ◌∙◌, subst}
-use Rattle.std.specs.Option.{option_map}
 use Rattle.i9_model.specs.State.{State}
 use Rattle.i9_model.specs.Step.{Action}
 use Rattle.i9_model.specs.declared.run.Due.{Due}
@@ -19,7 +18,7 @@ use Rattle.i9_machine.specs.declared.line.Turn.{Turn}
 use Rattle.i9_machine.specs.declared.line.Turn.TheVariants as turns
 use Rattle.i9_machine.specs.declared.machine.Machine.{Machine}
 use Rattle.i9_machine.specs.Line.{shown_of}
-use Rattle.i9_machine.specs.Step.{TellsRecord, needs_room, NeedsRoom, HasRoomToDo, HasRoom, IsSame, next_for, Did, Ended, Refused, Steps}
+use Rattle.i9_machine.specs.Step.{TellsRecord, NeedsRoom, HasRoom, next_for, Did, Ended, Refused, Steps}
 use Rattle.i9_machine.specs.StandsFor.{StandsFor, DoesNext, EndsRun, IsRefused, Advances}
 
 -- what comes next for the machine, beside what comes next in the run

@@ -1,6 +1,5 @@
 -- What a step prints and what it needs, from its effect.
 use Rattle.std.specs.Prelude.{◌≡◌, ℕ, ◌+◌, ◌≤◌, Bool, false, ◌||◌, nat_lt, List, ◌++◌, length, Option, None, Some}
-use Rattle.std.specs.Option.{option_map}
 use Rattle.i9_model.specs.Memory.{console_byte}
 use Rattle.i9_model.specs.Free.{IsFree}
 use Rattle.i9_model.specs.State.{State}

@@ -1,8 +1,7 @@
 -- What a machine stands for, and what one step of it does.
 use Rattle.std.specs.Prelude.{◌≡◌, ℕ, ◌<◌, List, ◌∷◌, Option, Some, None}
-use Rattle.std.specs.Option.{option_map}
 use Rattle.i9_model.specs.declared.run.End.{End}
-use Rattle.i9_model.specs.Run.{Given, Record, Next, Does, Ends, IsPast, state_after, due_after, next}
+use Rattle.i9_model.specs.Run.{Given, Record, Does, Ends, IsPast, state_after, due_after, next}
 use Rattle.i9_model.specs.Alike.{AreAlike}
 use Rattle.i9_model.specs.HeldFrames.{sets_in, cache_after}
 use Rattle.i9_model.specs.PrintedText.{record_lines, end_lines}

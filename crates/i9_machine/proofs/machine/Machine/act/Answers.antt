@@ -1,5 +1,4 @@
 use Rattle.std.proofs.Common.{ℕ, Option, List, ◌++◌, map, ap, ◌∙◌, append_assoc}
-use Rattle.std.specs.Option.{option_map}
 use Rattle.i9_model.specs.Step.{acted, counted}
 use Rattle.i9_model.specs.PrintedText.{Shown, out_lines, point_lines}
 use Rattle.i9_model.proofs.AlikeSteps.{view_alike}

@@ -1,5 +1,4 @@
 use Rattle.std.proofs.Common.{Some, None, refl, sym, ap, ◌∙◌}
-use Rattle.i9_model.specs.Standing.{Standing}
 use Rattle.i9_model.specs.Run.{next_by_standing}
 use Rattle.i9_processor.specs.State.{state_of}
 use Rattle.i9_plan.specs.Planned.{standing_of}

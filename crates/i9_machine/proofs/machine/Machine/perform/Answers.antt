@@ -1,26 +1,19 @@
 use Rattle.std.specs.Prelude.{◌-◌, vec_capacity, vec_len}
-use Rattle.std.proofs.Common.{◌≡◌, ℕ, ◌+◌, Option, List, ◌++◌, map, refl, sym, ap, ◌∙◌, subst}
-use Rattle.i9_model.specs.Memory.{console_byte}
+use Rattle.std.proofs.Common.{◌≡◌, ℕ, ◌+◌, sym, ap, ◌∙◌, subst}
 use Rattle.i9_model.specs.State.{State}
-use Rattle.i9_model.specs.Step.{Action, moved, acted, counted}
-use Rattle.i9_model.specs.declared.run.Point.{Point}
-use Rattle.i9_model.specs.Run.{action_by_kind, record_of}
+use Rattle.i9_model.specs.Step.{Action, moved}
+use Rattle.i9_model.specs.Run.{record_of}
 use Rattle.i9_model.specs.Free.{IsFree}
-use Rattle.i9_model.specs.Alike.{AreAlike}
-use Rattle.i9_model.specs.HeldFrames.{Cache, renewed, cache_acted, cache_configured}
-use Rattle.i9_model.specs.PrintedText.{Shown, out_lines, point_lines}
 use Rattle.i9_model.proofs.HeldRuns.{next_free}
 use Rattle.i9_processor.specs.Effect.{action_in, move_in, CanControl, CanTake}
-use Rattle.i9_processor.specs.State.{state_of, cache_of, size_of}
-use Rattle.i9_processor.proofs.NewSets.{made_size, made_takes}
-use Rattle.i9_machine.specs.declared.line.Line.{Line}
+use Rattle.i9_processor.specs.State.{state_of}
+use Rattle.i9_processor.proofs.NewSets.{made_takes}
 use Rattle.i9_machine.specs.declared.line.Turn.{Turn}
 use Rattle.i9_machine.specs.StandsFor.{LeavesFewer}
 use Rattle.i9_machine.specs.Due.{pending}
-use Rattle.i9_machine.specs.Doing.{lines_of, IsReady}
-use Rattle.i9_machine.specs.Line.{shown_of}
+use Rattle.i9_machine.specs.Doing.{IsReady}
 use Rattle.i9_machine.specs.Step.{TellsRecord, steps_left}
-use Rattle.i9_machine.proofs.Stepping.{no_memory, did_steps, fewer_by, left_fewer, step_room}
+use Rattle.i9_machine.proofs.Stepping.{no_memory, fewer_by, left_fewer, step_room}
 use Rattle.i9_machine.proofs.machine.Machine.perform.Goals as goal
 
 pub act-requires-clause-ready : goal.act-requires-clause-ready
