@@ -3,6 +3,9 @@ use Rattle.std.proofs.Common.{◌≡◌, ℕ, zero, suc, ◌+◌, ◌<◌, ◌�
 use Rattle.std.specs.List.{position, position_or_len}
 use Rattle.std.proofs.lemmas.List.{append-nil, take-append-drop}
 use Rattle.i9_text.specs.Text.{is_line_feed}
+use Rattle.std.specs.List.{flat_map}
+use Rattle.i9_model.specs.Image.{Part}
+use Rattle.i9_hex.specs.Writing.{with_line_feed, hex_lines, hex_text}
 use Rattle.i9_text.proofs.Cuts.{position_or_len-found, position_or_len-missing}
 use Rattle.i9_tool.specs.declared.print.Printed.{Printed}
 use Rattle.i9_tool.specs.declared.print.Printed.TheVariants.{Done}
@@ -20,15 +23,34 @@ lined_drop zero text h = h
 lined_drop (suc n) [] h = h
 lined_drop (suc n) (b ∷ bs) h = lined_drop n bs (lined_tail b bs h)
 
+-- a line feed and a text behind a text
+lined_append : (front text : List ℕ) → is_lined text ≡ true → is_lined (front ++ 10 ∷ text) ≡ true
+unfolding is_lined
+lined_append [] [] h = refl
+lined_append [] (c ∷ cs) h = h
+lined_append (b ∷ []) text h = lined_append [] text h
+lined_append (b ∷ c ∷ cs) text h = lined_append (c ∷ cs) text h
+
+lined_lines : (ls : List (List ℕ)) → is_lined (flat_map with_line_feed ls) ≡ true
+unfolding is_lined
+lined_lines [] = refl
+lined_lines (l ∷ ls) =
+    rw (append_assoc l (10 ∷ []) (flat_map with_line_feed ls)) (lined_append l (flat_map with_line_feed ls) (lined_lines ls))
+
+-- a HEX text
+pub lined_hex : (image : List Part) → is_lined (hex_text image) ≡ true
+lined_hex image = lined_lines (hex_lines image)
+
 -- some text has a line feed
 feed_inside : (b : ℕ) (bs : List ℕ) → is_lined (b ∷ bs) ≡ true → position_or_len is_line_feed (b ∷ bs) < length (b ∷ bs)
 unfolding is_lined
 feed_inside b [] h = rw h (omega arith)
-feed_inside b (c ∷ cs) h = by_first (is_line_feed b) refl
+feed_inside b (c ∷ cs) h = by_first (feed_inside c cs h) (is_line_feed b) refl
   where
-    by_first : (t : Bool) → is_line_feed b ≡ t → position_or_len is_line_feed (b ∷ c ∷ cs) < length (b ∷ c ∷ cs)
-    by_first true e = rw e (omega arith)
-    by_first false e = rw e (omega (arith, feed_inside c cs h))
+    by_first : position_or_len is_line_feed (c ∷ cs) < length (c ∷ cs) → (t : Bool) → is_line_feed b ≡ t
+        → position_or_len is_line_feed (b ∷ c ∷ cs) < length (b ∷ c ∷ cs)
+    by_first later true e = rw e (omega arith)
+    by_first later false e = rw e (omega (arith, later))
 
 pub no_feed : (text : List ℕ) → None ≡ position is_line_feed text → is_lined text ≡ true → text ≡ []
 no_feed [] e h = refl
@@ -37,12 +59,16 @@ no_feed (b ∷ bs) e h = absurd (omega (arith, feed_inside b bs h, position_or_l
 -- what stands up to the first line feed is one line
 first_line : (text : List ℕ) → position_or_len is_line_feed text < length text → line_count (take (position_or_len is_line_feed text + 1) text) ≡ 1
 first_line [] h = absurd (omega arith)
-first_line (b ∷ bs) h = by_first (is_line_feed b) refl h
+first_line (b ∷ bs) h = by_first (λ k. first_line bs k) (is_line_feed b) refl h
   where
-    by_first : (t : Bool) → is_line_feed b ≡ t → position_or_len is_line_feed (b ∷ bs) < length (b ∷ bs)
+    by_first : (position_or_len is_line_feed bs < length bs → line_count (take (position_or_len is_line_feed bs + 1) bs) ≡ 1)
+        → (t : Bool) → is_line_feed b ≡ t → position_or_len is_line_feed (b ∷ bs) < length (b ∷ bs)
         → line_count (take (position_or_len is_line_feed (b ∷ bs) + 1) (b ∷ bs)) ≡ 1
-    by_first true e k = rw e refl
-    by_first false e k = rw e (first_line bs (omega (arith, rw e at k)))
+    by_first later true e k = rw e (rw e refl)
+    by_first later false e k =
+        let n = position_or_len is_line_feed bs in
+        let next : 1 + n + 1 ≡ suc (n + 1) = omega arith in
+        rw e (rw next (rw e (later (let j = rw e at k in omega (arith, j)))))
 
 pub line_found : (text : List ℕ) (i : ℕ) → Some i ≡ position is_line_feed text → IsLine (take (i + 1) text)
 line_found text i e =

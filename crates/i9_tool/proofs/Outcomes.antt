@@ -15,10 +15,10 @@ use Rattle.i9_outside.specs.declared.traits.TheConstants.{FILE_LIMIT}
 use Rattle.i9_tool.specs.declared.print.Printed.{Printed}
 use Rattle.i9_tool.specs.declared.run.Ran.{Ran}
 use Rattle.i9_outside.specs.Traits.{IsFile}
-use Rattle.i9_tool.specs.CommandLine.{Command, file_of, words_line, read_line, image_word, source_word, long_line, refused_line}
+use Rattle.i9_tool.specs.CommandLine.{Command, Run, Asm, file_of, words_line, read_line, image_word, source_word, long_line, refused_line}
 use Rattle.i9_tool.specs.Print.{Account, Prints}
 use Rattle.i9_tool.specs.Run.{Runs, printed_of}
-use Rattle.i9_tool.specs.Outcome.{ImageGives, too_long, refused, runs, SourceGives, source_refused, assembled, FileGives, Gives, in_no_form, unread, fetched, Answers, code_for}
+use Rattle.i9_tool.specs.Outcome.{ImageGives, too_long, refused, runs, SourceGives, source_too_long, source_refused, assembled, FileGives, Gives, in_no_form, unread, fetched, Answers, code_for}
 use Rattle.i9_tool.proofs.Prints.{prints_same}
 use Rattle.i9_tool.proofs.Answering.{answers_printed, answers_wider}
 
@@ -53,9 +53,34 @@ some_text file sets limit =
     sized : (n : ℕ) → (n ≤ FILE_LIMIT) ⊎ (FILE_LIMIT < n)
     sized n = grind arith
 
+no_five : (f : End) → end_code f ≡ 5 → ⊥
+no_five (Exit w) e = absurd (omega arith)
+no_five Limit e = absurd (omega arith)
+no_five (Hazard a) e = absurd (omega arith)
+no_five (Dead code a) e = absurd (omega arith)
+no_five (Unbuilt a) e = absurd (omega arith)
+
+image_read : (file : List ℕ) (sets : Option ℕ) (limit code : ℕ) (text : List ℕ) → ImageGives file sets limit code text → code ≡ 5 → ⊥
+image_read file sets limit code text (too_long long) e = absurd (omega arith)
+image_read file sets limit code text (refused f short h) e = absurd (omega arith)
+image_read file sets limit code text (runs ps rs end short image run) e = no_five end e
+
+source_read : (file : List ℕ) (code : ℕ) (text : List ℕ) → SourceGives file code text → code ≡ 5 → ⊥
+source_read file code text (source_too_long long) e = absurd (omega arith)
+source_read file code text (source_refused f short h) e = absurd (omega arith)
+source_read file code text (assembled image short h) e = absurd (omega arith)
+
+-- a file that was read is not answered by the status of one that was not
+file_read : (c : Command) (file : List ℕ) (code : ℕ) (text : List ℕ) → FileGives c file code text → code ≡ 5 → ⊥
+file_read (Run image sets limit) file code text g e = image_read file sets limit code text g e
+file_read (Asm source) file code text g e = source_read file code text g e
+
 module _ {K : Type 0} (k : Account K) where
+  pub answers_read : (c : Command) (file : List ℕ) (code : ℕ) (a b : K) → Answers (FileGives c file) code k a b → code ≡ 5 → ⊥
+  answers_read c file code a b h e = let w = h.whole (omega arith) in file_read c file code w.text w.is_given e
+
   -- a text that goes with a status below 6 was printed
-  answers_with : (gives : ℕ → List ℕ → Type 0) (p : Printed) (code status : ℕ) (text : List ℕ) (a b : K) → code < 6 → gives code text
+  pub answers_with : (gives : ℕ → List ℕ → Type 0) (p : Printed) (code status : ℕ) (text : List ℕ) (a b : K) → code < 6 → gives code text
       → Prints p k a b text → status ≡ code_for p code → Answers gives status k a b
   answers_with gives p code status text a b known is_given printed e =
       subst (λ (n : ℕ). Answers gives n k a b) (sym e) (answers_printed k gives p code text a b known is_given printed)
@@ -97,12 +122,6 @@ module _ {K : Type 0} (k : Account K) where
 
     pub file_unread : (c : Command) (p : Printed) (code : ℕ) (a b : K) → rose (file_of c) → Prints p k a b read_line → code ≡ code_for p 5 → Answers (Gives files rose (Some c)) code k a b
     file_unread c p code a b rises printed e = answers_with (Gives files rose (Some c)) p 5 code read_line a b (omega arith) (unread c rises) printed e
-
-    -- a text for a file that is too long
-    pub file_too_long : (c : Command) (file : List ℕ) (status : ℕ) (text : List ℕ) (p : Printed) (code : ℕ) (a b : K) → IsFile (files (file_of c)) file → FileGives c file status text → status < 6
-        → Prints p k a b text → code ≡ code_for p status → Answers (Gives files rose (Some c)) code k a b
-    file_too_long c file status text p code a b is_file given known printed e =
-        answers_with (Gives files rose (Some c)) p status code text a b known (fetched c file status text is_file given) printed e
 
     -- what the words ask for, spelled in another way
     pub answers_for : (asked same : Option Command) (code : ℕ) (a b : K) → asked ≡ same → Answers (Gives files rose asked) code k a b → Answers (Gives files rose same) code k a b

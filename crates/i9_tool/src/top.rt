@@ -128,12 +128,7 @@ fn refuse_long<K: Sink>(asked: &Asked<'_>, out: &mut K) -> Status
 }
 
 /// Fetches the file that the words name, and does with it what they ask for.
-fn answer<F: Files, K: Sink>(
-    alloc: Global,
-    asked: &Asked<'_>,
-    files: &mut F,
-    out: &mut K,
-) -> Status
+fn answer<F: Files, K: Sink>(alloc: Global, asked: &Asked<'_>, files: &mut F, out: &mut K) -> Status
     requires fits { Fits asked.now }
     ensures answers { Answers (Gives (F.told files.old) (rose_in F.faults files.old files.new) (Some (asked_by asked.now)))
         result.code (account K.told K.faults K.writes K.sure) out.old out.new }
