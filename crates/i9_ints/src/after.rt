@@ -64,7 +64,8 @@ fn byte_hazard_after(w: &Watch, e: &Entry, a: u32) -> Option<u32>
 /// of its priority.
 fn priority_hazard_after(m: &Memory, w: &Watch, e: &Entry, table: u32, vector: u8) -> Option<u32>
     requires { port_hazard (record_address e.now.push.frame) RECORD_SIZE ≡ None }
-    ensures { result ≡ priority_hazard (memory_after (memory_of m.now) e.now.push e.now.words) (frames_after (memory_of m.now) (frames_of w.now) e.now.push e.now.words) table vector }
+    ensures { result ≡ priority_hazard (memory_after (memory_of m.now) e.now.push e.now.words)
+        (frames_after (memory_of m.now) (frames_of w.now) e.now.push e.now.words) table vector }
 {
     let vectors = byte_after(m, e, pending_place(table, vector));
     if byte_without_bit(vectors, vector % BITS) != 0 {
@@ -77,7 +78,8 @@ fn priority_hazard_after(m: &Memory, w: &Watch, e: &Entry, table: u32, vector: u
 /// change are written.
 fn taken_hazard_after(m: &Memory, w: &Watch, e: &Entry, table: u32, vector: u8) -> Option<u32>
     requires { port_hazard (record_address e.now.push.frame) RECORD_SIZE ≡ None }
-    ensures { result ≡ taken_hazard (memory_after (memory_of m.now) e.now.push e.now.words) (frames_after (memory_of m.now) (frames_of w.now) e.now.push e.now.words) table vector }
+    ensures { result ≡ taken_hazard (memory_after (memory_of m.now) e.now.push e.now.words)
+        (frames_after (memory_of m.now) (frames_of w.now) e.now.push e.now.words) table vector }
 {
     let priority = priority_place(table, vector);
     let pending = pending_place(table, vector);

@@ -87,7 +87,8 @@ impl Ints {
         ensures record { IfOk result (λ e. record_write_hazard (frames_of w.now) e.push ≡ None) }
 
         // And then what chose the interrupt can be cleared.
-        ensures take { IfOk result (λ e. clearing_hazard c.now.cause (memory_after (memory_of m.now) e.push e.words) (frames_after (memory_of m.now) (frames_of w.now) e.push e.words) table c.now.vector ≡ None) }
+        ensures take { IfOk result (λ e. clearing_hazard c.now.cause (memory_after (memory_of m.now) e.push e.words)
+            (frames_after (memory_of m.now) (frames_of w.now) e.push e.words) table c.now.vector ≡ None) }
     {
         let target = read_word(m, w, vector_place(table, c.vector))?;
         let base = base_for(pc, sp, stack);

@@ -126,7 +126,8 @@ impl Ints {
         requires room { HasRoom m.old table PENDING_SIZE }
         requires free { clearing_hazard c.now.cause (memory_of m.old) (frames_of w.old) table c.now.vector ≡ None }
         ensures interrupts { interrupts_of self.new ≡ cleared c.now.cause (interrupts_of self.old) }
-        ensures memory { memory_of m.new ≡ with_writes (memory_of m.old) (clearing_writes c.now.cause (memory_of m.old) table c.now.vector) }
+        ensures memory { memory_of m.new
+            ≡ with_writes (memory_of m.old) (clearing_writes c.now.cause (memory_of m.old) table c.now.vector) }
         ensures frames { frames_of w.new ≡ wrote (frames_of w.old) (clearing_writes c.now.cause (memory_of m.old) table c.now.vector) }
         ensures room { KeepsRoom m.old m.new }
         ensures spare { spare_of w.new ≡ spare_of w.old }
