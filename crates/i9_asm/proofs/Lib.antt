@@ -10,3 +10,4 @@ pub mod GivenBytes
 pub mod TakenLines
 pub mod LaterNames
 pub mod CountedBytes
+pub mod SomeAnswer

@@ -1,5 +1,5 @@
 //! Laws of the definitions, as the contracts of calls that do nothing.
-ghost use Rattle.std.specs.Prelude.{◌≡◌, ◌≤◌, ◌+◌, ℕ, List, length, None};
+ghost use Rattle.std.specs.Prelude.{◌≡◌, ◌≤◌, ◌⊎◌, ◌+◌, ℕ, List, length, None};
 ghost use Rattle.std.specs.List.{AllByRecursion};
 ghost use Rattle.i9_model.specs.Image.{Part};
 ghost use Rattle.i9_value.specs.Values.{Names};
@@ -17,6 +17,8 @@ pub fn listings_assemble()
 
 /// A source has one list of segments, or one first line at fault with its least kind, and not both.
 pub fn one_answer()
+    ensures some { (lines : List (List ℕ)) → ((a : List Part) × IsAssembly lines a)
+        ⊎ ((f : ℕ × ℕ) × IsRefusedSource lines f) }
     ensures segments { (lines : List (List ℕ)) (a b : List Part) → IsAssembly lines a
         → IsAssembly lines b → a ≡ b }
     ensures fault { (lines : List (List ℕ)) (f g : ℕ × ℕ) → IsRefusedSource lines f

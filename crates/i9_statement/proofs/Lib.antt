@@ -10,3 +10,5 @@ pub mod StatementWords
 pub mod StatementBytes
 pub mod Marked
 pub mod Pieces
+pub mod ValidCode
+pub mod SomeWords

@@ -1,5 +1,5 @@
 //! Laws of the definitions, as the contracts of calls that do nothing.
-ghost use Rattle.std.specs.Prelude.{◌≡◌, ◌<◌, ◌^◌, ℕ, List, Ok};
+ghost use Rattle.std.specs.Prelude.{◌≡◌, ◌<◌, ◌^◌, ℕ, List, None, Ok};
 ghost use Rattle.std.specs.Int.Bits.{bit_and};
 ghost use Rattle.i9_isa.specs.declared.inst.Inst.{Inst};
 ghost use Rattle.i9_isa.specs.Valid.{IsValid};
@@ -21,8 +21,10 @@ pub fn statements_read_back()
         → Stands names ip (statement_text ip i (bit_and w0 (ignored_bits i))) (taken w0 w1 i) }
 {}
 
-/// A statement stands for one list of words.
+/// A statement without fault stands for words, and a statement stands for one list of them.
 pub fn words_are_one()
-    ensures { (names : Names) (ip : ℕ) (s us vs : List ℕ) → Stands names ip s us → Stands names ip s vs
+    ensures some { (names : Names) (ip : ℕ) (s : List ℕ) → (statement_of ip names s).fault ≡ None
+        → (ws : List ℕ) × Stands names ip s ws }
+    ensures one { (names : Names) (ip : ℕ) (s us vs : List ℕ) → Stands names ip s us → Stands names ip s vs
         → us ≡ vs }
 {}

@@ -1,5 +1,9 @@
 use Rattle.i9_asm.proofs.Once.{assembly_once, refusal_once, never_both_answers}
+use Rattle.i9_asm.proofs.SomeAnswer.{some_answer}
 use Rattle.i9_asm.proofs.laws.one_answer.Goals as goal
+
+pub returns-clause-some : goal.returns-clause-some
+returns-clause-some c = some_answer
 
 pub returns-clause-segments : goal.returns-clause-segments
 returns-clause-segments c = assembly_once
