@@ -1,5 +1,5 @@
 -- A line without fault gives as many bytes as it counts.
-use Rattle.std.proofs.Common.{◌≡◌, ℕ, zero, suc, ◌+◌, ◌*◌, ◌%◌, ◌^◌, ◌<◌, ◌≤◌, Bool, true, false, cond, ltb, eqb, List, [], ◌∷◌, ◌++◌, length, length-append, Option, Some, None, refl, sym, ap, subst, ◌∙◌, arith, lit≤, inl, inr}
+use Rattle.std.proofs.Common.{◌≡◌, ℕ, zero, suc, ◌+◌, ◌*◌, ◌%◌, ◌^◌, ◌≤◌, Bool, true, false, cond, ltb, eqb, List, [], ◌∷◌, length, length-append, Option, Some, None, refl, sym, ap, ◌∙◌, arith, lit≤, inl, inr}
 use Rattle.std.specs.Prelude.{is_some, codes}
 use Rattle.std.specs.List.{list_all, flat_map}
 use Rattle.std.specs.Str.{bytes_eq}
@@ -8,17 +8,14 @@ use Rattle.std.proofs.lemmas.Bool.{cases_Bool, ltb-false}
 use Rattle.std.proofs.lemmas.List.{length-take-le}
 use Rattle.i9_isa.specs.Words.{words_of}
 use Rattle.i9_text.specs.Text.{is_blank}
-use Rattle.i9_value.specs.declared.fault.Fault.{Fault}
 use Rattle.i9_value.specs.declared.fault.Fault.TheVariants as fault
 use Rattle.i9_value.specs.declared.values.Value.{Value}
 use Rattle.i9_value.specs.Cut.{before, from}
-use Rattle.i9_value.specs.Noted.{least}
 use Rattle.i9_value.specs.Values.{Names, is_name, value_of}
 use Rattle.i9_statement.specs.Fields.{fields_of}
 use Rattle.i9_statement.specs.Statements.{statement_of}
 use Rattle.i9_statement.specs.Codes.{Stands, stands_one, stands_two}
-use Rattle.i9_asm.specs.Lines.{Item, Empty, Bad, Org, Space, Align, Set, Data, Ascii, Instruction, dot, one_value, two_values, some_values, directive_of, item_by, item_of, label_of, code_of}
-use Rattle.i9_asm.specs.Strings.{string_of}
+use Rattle.i9_asm.specs.Lines.{Item, Bad, Org, Space, Align, Set, Data, Ascii, Instruction, dot, one_value, two_values, some_values, directive_of, item_by, item_of, label_of, code_of}
 use Rattle.i9_asm.specs.Places.{Place, no_names, address_at, location_count, next_location, past_label, past_line, past_item, size_of, string_size, moved_to, effect_of}
 use Rattle.i9_asm.specs.Source.{zeros, low_bytes, data_value, data_fault, fault_if, item_fault, front_fault, room_fault, rest_fault, line_fault, labelled_source, most_bytes, Source, Gives, gives_nothing, gives_instruction, gives_data, gives_characters, gives_zeros, gives_move, gives_alignment, gives_assignment}
 use Rattle.i9_asm.specs.Laws.{item_place}

@@ -15,14 +15,14 @@ use Rattle.i9_statement.specs.declared.statements.Statement.{Statement}
 use Rattle.i9_value.specs.Values.{Names, value_of}
 use Rattle.i9_statement.specs.Statements.{statement_of}
 use Rattle.i9_value.specs.Noted.{fine}
-use Rattle.i9_statement.specs.Codes.{IsCode, Stands, stands_one, stands_two}
+use Rattle.i9_statement.specs.Codes.{IsCode, stands_one, stands_two}
 use Rattle.i9_asm.specs.declared.lines.Said as code
 use Rattle.i9_asm.specs.declared.lines.Said.TheVariants as said
 use Rattle.i9_asm.specs.Said.{item_as}
 use Rattle.i9_asm.specs.Lines.{Item, Data, Ascii, Space, Instruction}
 use Rattle.i9_asm.specs.Strings.{string_of}
 use Rattle.i9_asm.specs.Places.{Place, address_at, size_of}
-use Rattle.i9_asm.specs.Source.{zeros, low_bytes, data_value, item_fault, Gives, gives_nothing, gives_instruction, gives_data, gives_characters, gives_zeros, gives_move, gives_alignment, gives_assignment}
+use Rattle.i9_asm.specs.Source.{zeros, low_bytes, data_value, item_fault, gives_nothing, gives_instruction, gives_data, gives_characters, gives_zeros, gives_move, gives_alignment, gives_assignment}
 use Rattle.i9_asm.specs.Reading.{Adds, AddsWords}
 
 zeros-suc : (n : ℕ) → zeros n ++ 0 ∷ [] ≡ 0 ∷ zeros n

@@ -1,19 +1,18 @@
 -- Each source has segments or a first line at fault.
-use Rattle.std.proofs.Common.{◌≡◌, ℕ, ◌+◌, List, [], ◌∷◌, ◌++◌, length, Option, Some, None, refl, sym, ap, subst, ◌∙◌, inl, inr, ◌⊎◌}
+use Rattle.std.proofs.Common.{◌≡◌, ℕ, ◌+◌, List, [], ◌∷◌, length, Option, Some, None, refl, ap, inl, inr, ◌⊎◌}
 use Rattle.std.specs.List.{flat_map}
 use Rattle.std.specs.Int.{w32, to_le_bytes}
 use Rattle.std.specs.Option.{option_map}
 use Rattle.i9_model.specs.Image.{Part}
 use Rattle.i9_text.specs.FirstFault.{SaysAll, IsRefused, at_line, at_end}
 use Rattle.i9_value.specs.declared.fault.Fault.{Fault}
-use Rattle.i9_value.specs.declared.fault.Fault.TheVariants as fault
 use Rattle.i9_value.specs.Noted.{kind_of}
 use Rattle.i9_value.specs.Values.{Names, value_of}
 use Rattle.i9_statement.proofs.SomeWords.{some_words}
 use Rattle.i9_asm.specs.Lines.{Item, Empty, Org, Space, Align, Set, Data, Ascii, Instruction, item_of, label_of}
 use Rattle.i9_asm.specs.Lines as items
 use Rattle.i9_asm.specs.Strings.{string_of}
-use Rattle.i9_asm.specs.Places.{Place, address_at, past_label, past_line, size_of, all_names}
+use Rattle.i9_asm.specs.Places.{Place, address_at, past_line, size_of, all_names}
 use Rattle.i9_asm.specs.Source.{zeros, low_bytes, data_value, item_fault, front_fault, room_fault, rest_fault, line_fault, fault_of, labelled_source, past_source, start_source, segments_of, Source, Assembles}
 use Rattle.i9_asm.specs.Source.{Gives, gives_nothing, gives_instruction, gives_data, gives_characters, gives_zeros, gives_move, gives_alignment, gives_assignment}
 use Rattle.i9_asm.specs.Laws.{IsAssembly, IsRefusedSource}

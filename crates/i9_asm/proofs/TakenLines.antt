@@ -3,7 +3,6 @@ use Rattle.std.proofs.Common.{◌≡◌, ℕ, ◌+◌, Bool, true, false, not, L
 use Rattle.std.specs.Prelude.{is_some, if◌then◌else◌}
 use Rattle.std.specs.Option.{option_map}
 use Rattle.std.specs.List.{list_all}
-use Rattle.i9_model.specs.Image.{Part}
 use Rattle.i9_value.specs.declared.fault.Fault.{Fault}
 use Rattle.i9_value.specs.declared.fault.Fault.TheVariants.{Form, NameTwice}
 use Rattle.i9_value.specs.Noted.{kind_of, least}
@@ -12,9 +11,9 @@ use Rattle.i9_asm.specs.declared.source.Source as code
 use Rattle.i9_asm.specs.declared.source.LineError.{LineError}
 use Rattle.i9_asm.specs.declared.source.LineError.TheVariants as lines
 use Rattle.i9_asm.specs.Lines.{Item, item_of, label_of}
-use Rattle.i9_asm.specs.Places.{Place, is_ascii, is_label, moved_to, size_of, past_item, past_line, effect_of}
-use Rattle.i9_asm.specs.Source.{Source, Gives, item_fault, fault_if, label_fault, front_fault, rest_fault, line_fault, labelled_source, begun, grown, past_source}
-use Rattle.i9_asm.specs.Reading.{source_of, Adds, Grows, Continues, Takes, Faults, error_at, fault_place, IfBad}
+use Rattle.i9_asm.specs.Places.{Place, is_ascii, is_label, moved_to, size_of, past_item, effect_of}
+use Rattle.i9_asm.specs.Source.{Source, Gives, item_fault, fault_if, label_fault, front_fault, rest_fault, line_fault, labelled_source, begun, past_source}
+use Rattle.i9_asm.specs.Reading.{Adds, Grows, Continues, Takes, Faults, error_at, fault_place, IfBad}
 use Rattle.i9_asm.specs.Laws.{IsRefusedSource}
 
 -- ---- an item

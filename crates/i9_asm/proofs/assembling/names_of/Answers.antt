@@ -1,6 +1,6 @@
-use Rattle.std.proofs.Common.{◌≡◌, sym, ap, ◌∙◌}
+use Rattle.std.proofs.Common.{sym, ap, ◌∙◌}
 use Rattle.i9_text.specs.Text.{lines_left}
-use Rattle.i9_text.proofs.Loop.{left_len-split, lines_left-split}
+use Rattle.i9_text.proofs.Loop.{lines_left-split}
 use Rattle.i9_asm.specs.Places.{past_lines}
 use Rattle.i9_asm.specs.Reading.{place_of}
 use Rattle.i9_asm.proofs.assembling.names_of.Goals as goal

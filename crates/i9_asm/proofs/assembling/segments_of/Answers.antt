@@ -7,7 +7,7 @@ use Rattle.i9_asm.specs.Reading.{source_of}
 use Rattle.i9_text.specs.FirstFault.{IsRefused}
 use Rattle.i9_value.specs.Values.{Names}
 use Rattle.i9_asm.proofs.TakenLines.{refused_at}
-use Rattle.i9_asm.proofs.RelationLoop.{turn, wrong, done}
+use Rattle.i9_asm.proofs.RelationLoop.{turn, wrong}
 use Rattle.i9_asm.proofs.assembling.segments_of.Goals as goal
 
 pub loop-rest-preserved : goal.loop-rest-preserved

@@ -1,5 +1,4 @@
 use Rattle.std.proofs.Common.{◌++◌, refl, ap, ◌∙◌}
-use Rattle.std.specs.Prelude.{IsSome, IsNone}
 use Rattle.std.specs.BTreeMap.{get_by_text}
 use Rattle.i9_asm.proofs.GivenBytes.{after_ok, is_one_word, one_word, two_words}
 use Rattle.i9_asm.proofs.items.add_code.Goals as goal

@@ -1,6 +1,5 @@
-use Rattle.std.proofs.Common.{◌≡◌, refl, sym, ap, ◌∙◌}
+use Rattle.std.proofs.Common.{ap, ◌∙◌}
 use Rattle.std.specs.BTreeMap.{get_by_text}
-use Rattle.i9_statement.specs.Fields.{fields_left}
 use Rattle.i9_asm.specs.Said.{item_as, bytes_of}
 use Rattle.i9_asm.specs.Places.{space_of}
 use Rattle.i9_asm.specs.Reading.{place_of}

@@ -1,7 +1,6 @@
-use Rattle.std.proofs.Common.{◌≡◌, ◌+◌, refl, sym, ap, ◌∙◌}
+use Rattle.std.proofs.Common.{◌+◌, refl, ap, ◌∙◌}
 use Rattle.std.specs.BTreeMap.{get_by_text}
 use Rattle.i9_asm.specs.Said.{item_as}
-use Rattle.i9_asm.specs.Places.{size_of}
 use Rattle.i9_asm.specs.Source.{Source, begun}
 use Rattle.i9_asm.specs.Reading.{place_of, source_of}
 use Rattle.i9_asm.proofs.TakenLines.{grows}
