@@ -3,8 +3,8 @@ use Rattle.std.proofs.Common.{◌≡◌, ℕ, ◌<◌, ◌≤◌, List, length, 
 use Rattle.i9_tool.specs.declared.print.Printed.{Printed}
 use Rattle.i9_tool.specs.declared.print.Printed.TheVariants.{Done, Write, Memory}
 use Rattle.i9_tool.specs.Print.{Account, Prints}
-use Rattle.i9_tool.specs.Outcome.{Answers, GivesFront, nothing, front, code_for}
-use Rattle.i9_outside.proofs.Writing.{Appends-nothing}
+use Rattle.i9_tool.specs.Outcome.{Answers, code_for}
+use Rattle.i9_tool.proofs.Prints.{prints_refused}
 
 module _ {K : Type 0} (k : Account K) where
   -- a sink that is sure of a text is sure of it and nothing more
@@ -25,7 +25,7 @@ module _ {K : Type 0} (k : Account K) where
   answers_printed gives Write code text a b known is_given printed = record {
     known = omega arith;
     whole = λ low. absurd (omega arith);
-    front = λ _. front code text is_given printed.leaves printed.lines;
+    front = λ _. record { code = code; text = text; is_given = is_given; appended = printed.leaves; lines = printed.lines };
     write = λ _. printed.cause;
     failed = λ _. refl;
     calm = λ all. let q = printed.calm 0 (sure_of a text (all code text is_given)) in absurd (q.0 refl);
@@ -33,33 +33,31 @@ module _ {K : Type 0} (k : Account K) where
   answers_printed gives Memory code text a b known is_given printed = record {
     known = omega arith;
     whole = λ low. absurd (omega arith);
-    front = λ _. front code text is_given printed.leaves printed.lines;
+    front = λ _. record { code = code; text = text; is_given = is_given; appended = printed.leaves; lines = printed.lines };
     write = λ six. absurd (omega arith);
     failed = λ more. absurd (omega (arith, printed.cause));
     calm = λ all. (λ six. omega arith, printed.cause);
   }
 
-  -- memory was refused before anything was printed
-  pub answers_nothing : (gives : ℕ → List ℕ → Type 0) (a : K) → Answers gives 7 k a a
-  answers_nothing gives a = record {
+  -- memory was refused before anything of a text was printed
+  pub answers_nothing : (gives : ℕ → List ℕ → Type 0) (code : ℕ) (text : List ℕ) (a : K) → gives code text → Answers gives 7 k a a
+  answers_nothing gives code text a is_given = let printed = prints_refused k a text in record {
     known = omega arith;
     whole = λ low. absurd (omega arith);
-    front = λ _. nothing (Appends-nothing (k.told a)) refl;
+    front = λ _. record { code = code; text = text; is_given = is_given; appended = printed.leaves; lines = printed.lines };
     write = λ six. absurd (omega arith);
     failed = λ more. absurd (omega arith);
     calm = λ all. (λ six. omega arith, refl);
   }
-
-  wider_front : (gives wider : ℕ → List ℕ → Type 0) (a b : K) → ((c : ℕ) (t : List ℕ) → gives c t → wider c t) → GivesFront gives k a b → GivesFront wider k a b
-  wider_front gives wider a b more (nothing told writes) = nothing told writes
-  wider_front gives wider a b more (front code text given told lines) = front code text (more code text given) told lines
 
   -- the same status and text in a wider choice
   pub answers_wider : (gives wider : ℕ → List ℕ → Type 0) (code : ℕ) (a b : K) → ((c : ℕ) (t : List ℕ) → gives c t → wider c t) → Answers gives code k a b → Answers wider code k a b
   answers_wider gives wider code a b more h = record {
     known = h.known;
     whole = λ low. let w = h.whole low in record { text = w.text; is_given = more code w.text w.is_given; appended = w.appended; lines = w.lines };
-    front = λ high. wider_front gives wider a b more (h.front high);
+    front = λ high.
+        let f = h.front high in
+        record { code = f.code; text = f.text; is_given = more f.code f.text f.is_given; appended = f.appended; lines = f.lines };
     write = h.write;
     failed = h.failed;
     calm = λ all. h.calm (λ c t g. all c t (more c t g));

@@ -10,6 +10,7 @@ use Rattle.i9_model.specs.PrintedText.{run_text, end_code}
 use Rattle.i9_model.proofs.Ends.{run_goes_on}
 use Rattle.i9_hex.specs.Writing.{hex_text}
 use Rattle.i9_hex.proofs.OneAnswer.{some_answer}
+use Rattle.i9_asm.proofs.SomeAnswer.{some_answer as some_assembly}
 use Rattle.i9_asm.specs.Laws.{IsAssembly, IsRefusedSource}
 use Rattle.i9_outside.specs.declared.traits.TheConstants.{FILE_LIMIT}
 use Rattle.i9_tool.specs.declared.print.Printed.{Printed}
@@ -20,7 +21,7 @@ use Rattle.i9_tool.specs.Print.{Account, Prints}
 use Rattle.i9_tool.specs.Run.{Runs, printed_of}
 use Rattle.i9_tool.specs.Outcome.{ImageGives, too_long, refused, runs, SourceGives, source_too_long, source_refused, assembled, FileGives, Gives, in_no_form, unread, fetched, Answers, code_for}
 use Rattle.i9_tool.proofs.Prints.{prints_same}
-use Rattle.i9_tool.proofs.Answering.{answers_printed, answers_wider}
+use Rattle.i9_tool.proofs.Answering.{answers_printed, answers_nothing, answers_wider}
 
 -- the status of an end
 known_finish : (f : End) → end_code f < 6
@@ -30,28 +31,53 @@ known_finish (Hazard a) = omega arith
 known_finish (Dead code a) = omega arith
 known_finish (Unbuilt a) = omega arith
 
--- some status and text for an image
-abbrev SomeFor : List ℕ → Option ℕ → ℕ → Type 0
-SomeFor file sets limit = (code : ℕ) × (text : List ℕ) × ImageGives file sets limit code text
+-- ---- some status and text for each file
 
-some_short : (file : List ℕ) (sets : Option ℕ) (limit : ℕ) → length file ≤ FILE_LIMIT → SomeFor file sets limit
-some_short file sets limit short =
+sized : (n : ℕ) → (n ≤ FILE_LIMIT) ⊎ (FILE_LIMIT < n)
+sized n = grind arith
+
+abbrev SomeFor : (ℕ → List ℕ → Type 0) → Type 0
+SomeFor gives = (code : ℕ) × (text : List ℕ) × gives code text
+
+short_image : (file : List ℕ) (sets : Option ℕ) (limit : ℕ) → length file ≤ FILE_LIMIT → SomeFor (ImageGives file sets limit)
+short_image file sets limit short =
     elim (some_answer file) [
       | inl image ↦
           let later = run_goes_on (given image.0 [] limit sets) [] tt in
-          (end_code later.1, run_text (given image.0 [] limit sets) (later.0 ++ []) later.1, runs image.0 (later.0 ++ []) later.1 short image.1 later.2)
+          let records = later.0 ++ [] in
+          (end_code later.1, run_text (given image.0 [] limit sets) records later.1, runs image.0 records later.1 short image.1 later.2)
       | inr bad ↦ (2, refused_line image_word bad.0, refused bad.0 short bad.1)
     ]
 
-pub some_text : (file : List ℕ) (sets : Option ℕ) (limit : ℕ) → SomeFor file sets limit
-some_text file sets limit =
+some_image : (file : List ℕ) (sets : Option ℕ) (limit : ℕ) → SomeFor (ImageGives file sets limit)
+some_image file sets limit =
     elim (sized (length file)) [
-      | inl short ↦ some_short file sets limit short
+      | inl short ↦ short_image file sets limit short
       | inr long ↦ (2, long_line image_word, too_long long)
     ]
-  where
-    sized : (n : ℕ) → (n ≤ FILE_LIMIT) ⊎ (FILE_LIMIT < n)
-    sized n = grind arith
+
+short_source : (file : List ℕ) → length file ≤ FILE_LIMIT → SomeFor (SourceGives file)
+short_source file short =
+    elim (some_assembly (lines_of file)) [
+      | inl made ↦ (0, hex_text made.0, assembled made.0 short made.1)
+      | inr bad ↦ (3, refused_line source_word bad.0, source_refused bad.0 short bad.1)
+    ]
+
+some_source : (file : List ℕ) → SomeFor (SourceGives file)
+some_source file =
+    elim (sized (length file)) [
+      | inl short ↦ short_source file short
+      | inr long ↦ (3, long_line source_word, source_too_long long)
+    ]
+
+pub some_text : (c : Command) (file : List ℕ) → SomeFor (FileGives c file)
+some_text (Run image sets limit) file = some_image file sets limit
+some_text (Asm source) file = some_source file
+
+-- a file that may be the one that is told
+some_file : (told : Option (List ℕ)) → (file : List ℕ) × IsFile told file
+some_file None = ([], tt)
+some_file (Some file) = (file, refl)
 
 no_five : (f : End) → end_code f ≡ 5 → ⊥
 no_five (Exit w) e = absurd (omega arith)
@@ -112,7 +138,21 @@ module _ {K : Type 0} (k : Account K) where
       answers_with (SourceGives file) p 3 code (refused_line source_word fault) a b (omega arith) (source_refused fault short bad)
       (prints_same k p a b line (refused_line source_word fault) same printed) e
 
+  -- memory was refused before anything was printed
+  pub image_unprinted : (file : List ℕ) (sets : Option ℕ) (limit : ℕ) (a : K) → Answers (ImageGives file sets limit) 7 k a a
+  image_unprinted file sets limit a = let s = some_image file sets limit in answers_nothing k (ImageGives file sets limit) s.0 s.1 a s.2
+
+  pub source_unprinted : (file : List ℕ) (a : K) → Answers (SourceGives file) 7 k a a
+  source_unprinted file a = let s = some_source file in answers_nothing k (SourceGives file) s.0 s.1 a s.2
+
   module _ (files : List ℕ → Option (List ℕ)) (rose : List ℕ → Type 0) where
+    -- memory was refused before the file was fetched
+    pub file_unfetched : (c : Command) (a : K) → Answers (Gives files rose (Some c)) 7 k a a
+    file_unfetched c a =
+        let f = some_file (files (file_of c)) in
+        let s = some_text c f.0 in
+        answers_nothing k (Gives files rose (Some c)) s.0 s.1 a (fetched c f.0 s.0 s.1 f.1 s.2)
+
     -- what is answered for the file that was fetched
     pub file_fetched : (c : Command) (file bytes : List ℕ) (code : ℕ) (a b : K) → IsFile (files (file_of c)) file → bytes ≡ file → Answers (FileGives c bytes) code k a b
         → Answers (Gives files rose (Some c)) code k a b

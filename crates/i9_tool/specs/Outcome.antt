@@ -67,18 +67,20 @@ grew_in faults old new name = faults old name < faults new name
 abbrev pub Outcomes : {F Z : Type 0} → (F → List ℕ → Option (List ℕ)) → (F → List ℕ → ℕ) → F → F → List (String Z) → ℕ → List ℕ → Type 0
 Outcomes told faults old new words code text = Gives (told old) (rose_in faults old new) (asked_for words) code text
 
--- The status and its text were given whole, by as many writes as the text has lines; or nothing was printed, or a front of
--- a text that could have been, by at most as many.
+-- The status and its text were given whole, by as many writes as the text has lines; or a front of a text that could have
+-- been, perhaps nothing of it, by at most as many.
 pub record GivesWhole {K : Type 0} (gives : ℕ → List ℕ → Type 0) (code : ℕ) (k : Account K) (old new : K) : Type 0 where
   pub text : List ℕ
   pub is_given : gives code text
   pub appended : Appends (k.told old) (k.told new) text
   pub lines : k.writes new ≡ counted_on (k.writes old) (line_count text)
 
-pub data GivesFront {K : Type 0} (gives : ℕ → List ℕ → Type 0) (k : Account K) (old new : K) : Type 0 where
-  nothing : Appends (k.told old) (k.told new) [] → k.writes new ≡ k.writes old → GivesFront gives k old new
-  front : (code : ℕ) (text : List ℕ) → gives code text → AppendsFront (k.told old) (k.told new) text
-      → CountsUpTo (line_count text) (k.writes old) (k.writes new) → GivesFront gives k old new
+pub record GivesFront {K : Type 0} (gives : ℕ → List ℕ → Type 0) (k : Account K) (old new : K) : Type 0 where
+  pub code : ℕ
+  pub text : List ℕ
+  pub is_given : gives code text
+  pub appended : AppendsFront (k.told old) (k.told new) text
+  pub lines : CountsUpTo (line_count text) (k.writes old) (k.writes new)
 
 -- What a call does that answers a status of these on a sink: 6 where a write failed and 7 where memory was refused.
 pub record Answers {K : Type 0} (gives : ℕ → List ℕ → Type 0) (code : ℕ) (k : Account K) (old new : K) : Type 0 where

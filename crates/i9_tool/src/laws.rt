@@ -7,7 +7,7 @@ ghost use Rattle.i9_tool.specs.CommandLine.{Command, Run};
 ghost use Rattle.i9_outside.specs.Calls.{NoneToFail};
 ghost use Rattle.i9_outside.specs.MemFiles as mem_files;
 ghost use Rattle.i9_outside.specs.MemSink as mem_sink;
-ghost use Rattle.i9_tool.specs.Outcome.{ImageGives, FileGives, Gives, Outcomes, asked_for, names_of, AllSure};
+ghost use Rattle.i9_tool.specs.Outcome.{FileGives, Gives, Outcomes, asked_for, names_of, AllSure};
 
 use crate::status::Status;
 use crate::top::i960;
@@ -16,10 +16,10 @@ use std::alloc::Global;
 
 /// What a command gives for its file is one status and one text: an image is accepted or refused, not both, for one
 /// fault, and its run is the only one; a source has one list of segments or one first fault. So each status is answered
-/// exactly where it is given. There is a status and a text for each image, and none depends on the number of sets that
+/// exactly where it is given. There is a status and a text for each file, and none depends on the number of sets that
 /// is asked for.
 pub fn one_outcome()
-    ensures some { (file : List ℕ) (sets : Option ℕ) (limit : ℕ) → (code : ℕ) × (text : List ℕ) × ImageGives file sets limit code text }
+    ensures some { (command : Command) (file : List ℕ) → (code : ℕ) × (text : List ℕ) × FileGives command file code text }
     ensures status { (command : Command) (file : List ℕ) (c d : ℕ) (s t : List ℕ) → FileGives command file c s → FileGives command file d t → c ≡ d }
     ensures text { (command : Command) (file : List ℕ) (c d : ℕ) (s t : List ℕ) → FileGives command file c s → FileGives command file d t → s ≡ t }
     ensures sets { (told : List ℕ → Option (List ℕ)) (risen : List ℕ → Bool) (image : List ℕ)

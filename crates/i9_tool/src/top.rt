@@ -184,7 +184,7 @@ pub fn i960<F: Files, K: Sink>(
     // Words in no form take no memory.
     ensures formless { asked_for words.now.items ≡ None → result.code ≢ 7 }
 
-    // Where a write failed or memory was refused, nothing or a front of such a text was printed.
+    // Where a write failed or memory was refused, a front of such a text was printed, perhaps nothing of it.
     ensures front { 6 ≤ result.code → GivesFront (Outcomes F.told F.faults files.old files.new words.now.items) (account K.told K.faults K.writes K.sure) out.old out.new }
 
     // As many fetches are made as the words name files; 5 is answered only where the count of one of these rose, and where

@@ -3,7 +3,7 @@ use Rattle.i9_tool.proofs.OneOutcome.{one_outcome, same_in_sets}
 use Rattle.i9_tool.proofs.laws.one_outcome.Goals as goal
 
 pub returns-clause-some : goal.returns-clause-some
-returns-clause-some c = λ file sets limit. some_text file sets limit
+returns-clause-some c = λ command file. some_text command file
 
 pub returns-clause-status : goal.returns-clause-status
 returns-clause-status c = λ command file c d s t g h. (one_outcome command file c d s t g h).status

@@ -1,7 +1,6 @@
 use Rattle.std.proofs.Common.{◌∙◌, refl}
 use Rattle.i9_tool.specs.Words.{asked_by}
-use Rattle.i9_tool.proofs.Answering.{answers_nothing}
-use Rattle.i9_tool.proofs.Outcomes.{file_fetched, file_unread, answers_read}
+use Rattle.i9_tool.proofs.Outcomes.{file_unfetched, file_fetched, file_unread, answers_read}
 use Rattle.i9_tool.proofs.top.answer.Goals as goal
 
 pub returns-in-Ok-clause-answers : goal.returns-in-Ok-clause-answers
@@ -21,7 +20,7 @@ returns-in-TooLong-clause-answers g c =
     file_fetched _ _ _ (asked_by c.args.asked.now) f.file f.file _ _ _ found refl (c.refuse_long.ensures f.file f.leaves.0)
 
 pub returns-clause-answers : goal.returns-clause-answers
-returns-clause-answers g c = answers_nothing _ _ _
+returns-clause-answers g c = file_unfetched _ _ _ (asked_by c.args.asked.now) _
 
 pub returns-in-Ok-clause-read : goal.returns-in-Ok-clause-read
 returns-in-Ok-clause-read g c = λ e. absurd (answers_read _ (asked_by c.args.asked.now) _ _ _ _ c.use_file.ensures e)

@@ -1,7 +1,6 @@
 use Rattle.std.proofs.Common.{◌∙◌}
-use Rattle.i9_tool.proofs.Answering.{answers_nothing}
 use Rattle.i9_tool.proofs.Lined.{lined_hex}
-use Rattle.i9_tool.proofs.Outcomes.{source_printed}
+use Rattle.i9_tool.proofs.Outcomes.{source_unprinted, source_printed}
 use Rattle.i9_tool.proofs.top.print_image.Goals as goal
 
 pub print_text-requires : goal.print_text-requires
@@ -12,4 +11,4 @@ returns-in-Ok g c = λ file short made.
     source_printed _ file c.args.image.now _ _ _ _ _ short made (c.deref.ensures.value ∙ c.in-Ok.ensures.text) c.print_text.ensures.prints c.status_for.ensures
 
 pub returns-in-Err : goal.returns-in-Err
-returns-in-Err g c = λ file short made. answers_nothing _ _ _
+returns-in-Err g c = λ file short made. source_unprinted _ file _

@@ -1,6 +1,5 @@
 use Rattle.std.proofs.Common.{◌∙◌}
-use Rattle.i9_tool.proofs.Answering.{answers_nothing}
-use Rattle.i9_tool.proofs.Outcomes.{file_runs, file_refused}
+use Rattle.i9_tool.proofs.Outcomes.{image_unprinted, file_runs, file_refused}
 use Rattle.i9_tool.proofs.top.run_file.Goals as goal
 
 pub returns-in-Ok : goal.returns-in-Ok
@@ -13,7 +12,7 @@ returns-in-Ok-refused_line g c =
     file_refused _ _ _ _ _ _ _ _ _ _ c.requires.sized bad line c.print_piece.ensures.prints c.status_for.ensures
 
 pub returns-in-Err : goal.returns-in-Err
-returns-in-Err g c = answers_nothing _ _ _
+returns-in-Err g c = image_unprinted _ c.args.file.now c.args.sets c.args.limit _
 
 pub returns-in-Err-Memory : goal.returns-in-Err-Memory
-returns-in-Err-Memory g c = answers_nothing _ _ _
+returns-in-Err-Memory g c = image_unprinted _ c.args.file.now c.args.sets c.args.limit _
