@@ -1,6 +1,6 @@
 //! Sources against images and faults that were worked out by hand.
 use crate::{AsmError, AsmFault, assemble};
-use i9_hex::{Segments, write};
+use i9_hex::{Segment, Segments, write};
 use std::alloc::Global;
 use std::test::Fail;
 
@@ -27,99 +27,88 @@ fn refusal(alloc: Global, source: &[u8]) -> Option<(u64, u8)> {
     }
 }
 
-// A source, and its segments.
+/// Sources, with `|` for the ends of their lines; each behind the addresses and bytes of its segments in hexadecimal
+/// digits. They are of values at their limits, of strings, of directives that move, of names before and after their
+/// line, and of blanks and ends of lines.
+const IMAGES: &str = "none;
+none;||# only a comment\r|
+none;.org 5|x:|.align 8|.set y, 1|.space 0|.ascii \"\"|
+0 01 00 00 00 FF FF FF FF EF CD AB 89 FF FF FF FF 00 00 00 80;.word 1, -1, 0x89ABCDEF, 4294967295, -2147483648
+0 FF FF 00 80 01 00 00 80;.short 65535, -32768, 1, 0xFFFF8000
+0 FF 80 00 FF;.byte 255, -128, 0, 0xFFFFFFFF
+0 61 23 62;.ascii \"a#b\" # c
+0 78 20 79;\t.ascii\t\"x y\" \t
+0 0A 00 22 5C;.ascii \"\\n\\0\\\"\\\\\"
+0 22 23;.ascii \"\\\"#\"# \"
+0 00 00 00 01 02;.space 3|.byte 1|.space 0|.byte 2
+0 01, 2 02, 1000 03;.align 2|.byte 1|.align 2|.byte 2|.align 4096|.byte 3
+0 00 00 00 00 01;.word 0|.align 4|.byte 1
+0 01, 1 02;.byte 1|.org 1|.byte 2
+0 01, 0 02;.byte 1|.org 0|.byte 2
+FFFFFFFF 01, FFFFFFFE 02;.org 4294967295|.byte 1|.org -2|.byte 2
+FFFFFFFC 01 00 00 00, 8 00 00 00 00;.org 0xFFFFFFFC|.word 1|end:|.org 8|.word end
+0 01, 8 00;.set four, 4|.byte 1|.align four|.org four+4|.space four-3
+0 04 00 00 00 FF FF FF FF 0C 00 00 00 0C 00 00 00;x: .word x+4, x-1, y|y: .word y
+0 15 00 00 00 FF FF FF FF;.set a, 5|.set b, a+0x10|.word b, c-1|.set c, 0
+0 00 01 01;.byte 0|x:||# c|y: .byte x, y
+0 00, 8 01 08;.byte 0|x: .align 8|y: .byte x, y
+10 00 10;x: .org 16|y: .byte x, y
+0 00 00 00 08 04 00 00 08 FA FF FF 12;loop: b loop|b next|next: be.f loop
+0 00 00 00 08;mov: b mov
+0 1F 0E A0 5C;mov n, g4|.set n, 31
+0 00 30 A0 8C 08 00 00 00;lda end, g4|end:
+0 00 00 00 00 00 00 00;g16:|r16:|sf3:|IP:|SP:|r01:|_:|.byte g16, r16, sf3, IP, SP, r01, _
+0 00;aaaaaaaaaaaaaaaaaaaaaaaaaaaaaaaaaaaaaaaaaaaaaaaaaaaaaaaaaaaaaaa: .byte \
+              aaaaaaaaaaaaaaaaaaaaaaaaaaaaaaaaaaaaaaaaaaaaaaaaaaaaaaaaaaaaaaa
+0 07 0E A0 5C;\tmov\t7 ,\tg4 \t# seven
+0 00 00 00 0A 00 00 00 0A;x:ret\r|  y:\t ret # again\r";
+
+/// Whether a segment has the address and the bytes of a text.
+fn is_segment(alloc: Global, segment: &Segment, wanted: &str) -> Result<bool, Fail> {
+    let Some((address, digits)) = wanted.split_once(" ") else {
+        return Ok(false);
+    };
+    let mut bytes = Vec::new(alloc);
+    for byte in digits.split_whitespace() {
+        bytes.push(u8::from_str_radix(byte, 16)?)?;
+    }
+    Ok(
+        segment.address == u32::from_str_radix(address, 16)?
+            && segment.bytes.as_slice() == bytes.as_slice(),
+    )
+}
+
+/// Whether an image has the segments of a text.
+fn has_segments(alloc: Global, image: &Segments, wanted: &str) -> Result<bool, Fail> {
+    let segments = image.as_slice();
+    if wanted == "none" {
+        return Ok(segments.is_empty());
+    }
+    for (index, part) in wanted.split(", ").enumerate() {
+        let Some(segment) = segments.get(index) else {
+            return Ok(false);
+        };
+        if !is_segment(alloc, segment, part)? {
+            return Ok(false);
+        }
+    }
+    Ok(segments.len() == wanted.split(", ").count())
+}
+
+/// Whether the source of a row has its segments.
+fn is_assembled(alloc: Global, row: &str) -> Result<bool, Fail> {
+    let Some((wanted, lines)) = row.split_once(";") else {
+        return Ok(false);
+    };
+    let source = lines.replace(alloc, "|", "\n")?;
+    let image = assemble(alloc, source.as_bytes())?;
+    has_segments(alloc, &image, wanted)
+}
+
 #[test]
 fn assembles_sources(rt: HostRuntime) -> Result<(), Fail> {
-    let rows: [(&[u8], &[(u32, &[u8])]); 31] = [
-        (b"", &[]),
-        (b"\n\n# only a comment\r\n", &[]),
-        (
-            b".org 5\nx:\n.align 8\n.set y, 1\n.space 0\n.ascii \"\"\n",
-            &[],
-        ),
-        // Values at their limits.
-        (
-            b".word 1, -1, 0x89ABCDEF, 4294967295, -2147483648",
-            &[(
-                0,
-                b"\x01\0\0\0\xFF\xFF\xFF\xFF\xEF\xCD\xAB\x89\xFF\xFF\xFF\xFF\0\0\0\x80",
-            )],
-        ),
-        (
-            b".short 65535, -32768, 1, 0xFFFF8000",
-            &[(0, b"\xFF\xFF\0\x80\x01\0\0\x80")],
-        ),
-        (b".byte 255, -128, 0, 0xFFFFFFFF", &[(0, b"\xFF\x80\0\xFF")]),
-        // Strings.
-        (b".ascii \"a#b\" # c", &[(0, b"a#b")]),
-        (b"\t.ascii\t\"x y\" \t", &[(0, b"x y")]),
-        (b".ascii \"\\n\\0\\\"\\\\\"", &[(0, b"\n\0\"\\")]),
-        (b".ascii \"\\\"#\"# \"", &[(0, b"\"#")]),
-        // Directives that move.
-        (
-            b".space 3\n.byte 1\n.space 0\n.byte 2",
-            &[(0, b"\0\0\0\x01\x02")],
-        ),
-        (
-            b".align 2\n.byte 1\n.align 2\n.byte 2\n.align 4096\n.byte 3",
-            &[(0, b"\x01"), (2, b"\x02"), (4096, b"\x03")],
-        ),
-        (b".word 0\n.align 4\n.byte 1", &[(0, b"\0\0\0\0\x01")]),
-        (b".byte 1\n.org 1\n.byte 2", &[(0, b"\x01"), (1, b"\x02")]),
-        (b".byte 1\n.org 0\n.byte 2", &[(0, b"\x01"), (0, b"\x02")]),
-        (
-            b".org 4294967295\n.byte 1\n.org -2\n.byte 2",
-            &[(0xFFFF_FFFF, b"\x01"), (0xFFFF_FFFE, b"\x02")],
-        ),
-        (
-            b".org 0xFFFFFFFC\n.word 1\nend:\n.org 8\n.word end",
-            &[(0xFFFF_FFFC, b"\x01\0\0\0"), (8, b"\0\0\0\0")],
-        ),
-        (
-            b".set four, 4\n.byte 1\n.align four\n.org four+4\n.space four-3",
-            &[(0, b"\x01"), (8, b"\0")],
-        ),
-        // Names before and after their line.
-        (
-            b"x: .word x+4, x-1, y\ny: .word y",
-            &[(0, b"\x04\0\0\0\xFF\xFF\xFF\xFF\x0C\0\0\0\x0C\0\0\0")],
-        ),
-        (
-            b".set a, 5\n.set b, a+0x10\n.word b, c-1\n.set c, 0",
-            &[(0, b"\x15\0\0\0\xFF\xFF\xFF\xFF")],
-        ),
-        (b".byte 0\nx:\n\n# c\ny: .byte x, y", &[(0, b"\0\x01\x01")]),
-        (
-            b".byte 0\nx: .align 8\ny: .byte x, y",
-            &[(0, b"\0"), (8, b"\x01\x08")],
-        ),
-        (b"x: .org 16\ny: .byte x, y", &[(16, b"\0\x10")]),
-        (
-            b"loop: b loop\nb next\nnext: be.f loop",
-            &[(0, b"\0\0\0\x08\x04\0\0\x08\xFA\xFF\xFF\x12")],
-        ),
-        (b"mov: b mov", &[(0, b"\0\0\0\x08")]),
-        (b"mov n, g4\n.set n, 31", &[(0, b"\x1F\x0E\xA0\x5C")]),
-        (b"lda end, g4\nend:", &[(0, b"\0\x30\xA0\x8C\x08\0\0\0")]),
-        (
-            b"g16:\nr16:\nsf3:\nIP:\nSP:\nr01:\n_:\n.byte g16, r16, sf3, IP, SP, r01, _",
-            &[(0, b"\0\0\0\0\0\0\0")],
-        ),
-        (
-            b"aaaaaaaaaaaaaaaaaaaaaaaaaaaaaaaaaaaaaaaaaaaaaaaaaaaaaaaaaaaaaaa: .byte \
-              aaaaaaaaaaaaaaaaaaaaaaaaaaaaaaaaaaaaaaaaaaaaaaaaaaaaaaaaaaaaaaa",
-            &[(0, b"\0")],
-        ),
-        // Blanks and ends of lines.
-        (
-            b"x:ret\r\n  y:\t ret # again\r",
-            &[(0, b"\0\0\0\x0A\0\0\0\x0A")],
-        ),
-        (b"\tmov\t7 ,\tg4 \t# seven", &[(0, b"\x07\x0E\xA0\x5C")]),
-    ];
-    for (source, wanted) in rows {
-        let image = assemble(rt.alloc(), source)?;
-        assert!(rt; has(&image, wanted));
+    for row in IMAGES.lines() {
+        assert!(rt; is_assembled(rt.alloc(), row)?);
     }
     Ok(())
 }
@@ -424,84 +413,80 @@ fn refuses_lines(rt: HostRuntime) -> Result<(), Fail> {
     Ok(())
 }
 
-// A source, and its first line at fault with the least kind.
+/// Sources, with `|` for the ends of their lines; each behind its first line at fault and that line's least kind. They
+/// are of lines as they are counted, of names, of bytes past FFFFFFFF, of too many bytes, of faults that the second
+/// pass finds before one that the first could see, of how many bytes a line at fault counts (with kinds 1 to 3 none, so
+/// that x is 255 or 256), and of what a `.set` at fault defines (with kind 2 nothing, else 0; the first value stays).
+const REFUSALS: &str = "2 1 mov 1, g4|frob|frob
+4 1 \r||# x|\tfrob
+1 1 ret\r\r|
+1 2 mov 1, g4\r\r|
+1 1 ret\0
+2 6 x:|x:
+2 6 x:|.set x, 0
+2 6 .set x, 1|x:
+2 6 .set x, 1|.set x, 1
+1 5 .org x|x:
+1 5 .space x|.set x, 1
+1 5 .align x|.set x, 4
+1 5 .set x, y|.set y, 1
+1 2 aaaaaaaaaaaaaaaaaaaaaaaaaaaaaaaaaaaaaaaaaaaaaaaaaaaaaaaaaaaaaaaa:
+1 2 .set aaaaaaaaaaaaaaaaaaaaaaaaaaaaaaaaaaaaaaaaaaaaaaaaaaaaaaaaaaaaaaaa, 1
+1 2 .word aaaaaaaaaaaaaaaaaaaaaaaaaaaaaaaaaaaaaaaaaaaaaaaaaaaaaaaaaaaaaaaa
+2 4 .org 0xFFFFFFFD|.word 0
+3 4 .org 0xFFFFFFFC|.word 0|.byte 0
+2 4 .org 0xFFFFFFFF|.ascii \"ab\"
+2 4 .org 0xFFFFFFFF|.space 2
+2 4 .org 0xFFFFFFFC|lda 4096, g4
+3 4 .org 0xFFFFFFFF|.align 4096|.byte 0
+2 4 .org 0xFFFFFFFE|b 1
+6 8 .space 1048576|.space 1048576|.space 1048576|.space 1048576||.byte 0
+5 8 .space 1048576|.space 1048576|.space 1048576|.space 1048575|lda 4096, g4
+1 4 .byte late|frob|.set late, 256
+1 1 frob|.byte late|.set late, 256
+1 7 b far|frob|.set far, 2
+2 1 .word x|x: frob
+2 2 .word x|1x:|x:
+2 2 .byte x|mov g4|.space 254|x:
+1 4 .byte x|mov g4|.space 255|x:
+2 3 .byte x|lda 4096, sf0|.space 254|x:
+2 2 .byte x|.word 1+1|.space 254|x:
+2 4 .byte x|mov 32, g4|.space 250|x:
+1 4 .byte x|mov 32, g4|.space 251|x:
+2 5 .byte x|lda nowhere, g4|.space 246|x:
+1 4 .byte x|lda nowhere, g4|.space 247|x:
+1 4 .byte x|.word 0, nowhere|.space 247|x:
+1 4 .byte x|b 2|.space 251|x:
+2 4 .byte x|.space 1048577|.space 254|x:
+2 4 .byte x|.align 3|.space 254|x:
+2 4 .byte x|.org 4294967296|.space 254|x:
+1 5 .word x|.set x, 1+1
+2 4 .word x|.set x, 4294967296
+2 5 .word x|.set x, y
+3 6 .byte x|.set x, 1|.set x, 256
+1 4 .byte x|.set x, 256|.set x, 1";
+
+/// Whether the source of a row is refused for its line and kind.
+fn is_refused_source(alloc: Global, row: &str) -> Result<bool, Fail> {
+    let Some((line, rest)) = row.split_once(" ") else {
+        return Ok(false);
+    };
+    let Some((kind, lines)) = rest.split_once(" ") else {
+        return Ok(false);
+    };
+    let source = lines.replace(alloc, "|", "\n")?;
+    let wanted = Some((
+        u64::from_str_radix(line, 10)?,
+        u8::from_str_radix(kind, 10)?,
+    ));
+    Ok(refusal(alloc, source.as_bytes()) == wanted)
+}
+
 #[test]
 fn refuses_sources(rt: HostRuntime) -> Result<(), Fail> {
-    let rows: [(&[u8], (u64, u8)); 49] = [
-        // The first line at fault, and lines as they are counted.
-        (b"mov 1, g4\nfrob\nfrob", (2, 1)),
-        (b"\r\n\n# x\n\tfrob", (4, 1)),
-        (b"ret\r\r\n", (1, 1)),
-        (b"mov 1, g4\r\r\n", (1, 2)),
-        (b"ret\0", (1, 1)),
-        // Names.
-        (b"x:\nx:", (2, 6)),
-        (b"x:\n.set x, 0", (2, 6)),
-        (b".set x, 1\nx:", (2, 6)),
-        (b".set x, 1\n.set x, 1", (2, 6)),
-        (b".org x\nx:", (1, 5)),
-        (b".space x\n.set x, 1", (1, 5)),
-        (b".align x\n.set x, 4", (1, 5)),
-        (b".set x, y\n.set y, 1", (1, 5)),
-        (
-            b"aaaaaaaaaaaaaaaaaaaaaaaaaaaaaaaaaaaaaaaaaaaaaaaaaaaaaaaaaaaaaaaa:",
-            (1, 2),
-        ),
-        (
-            b".set aaaaaaaaaaaaaaaaaaaaaaaaaaaaaaaaaaaaaaaaaaaaaaaaaaaaaaaaaaaaaaaa, 1",
-            (1, 2),
-        ),
-        (
-            b".word aaaaaaaaaaaaaaaaaaaaaaaaaaaaaaaaaaaaaaaaaaaaaaaaaaaaaaaaaaaaaaaa",
-            (1, 2),
-        ),
-        // Bytes past FFFFFFFF.
-        (b".org 0xFFFFFFFD\n.word 0", (2, 4)),
-        (b".org 0xFFFFFFFC\n.word 0\n.byte 0", (3, 4)),
-        (b".org 0xFFFFFFFF\n.ascii \"ab\"", (2, 4)),
-        (b".org 0xFFFFFFFF\n.space 2", (2, 4)),
-        (b".org 0xFFFFFFFC\nlda 4096, g4", (2, 4)),
-        (b".org 0xFFFFFFFF\n.align 4096\n.byte 0", (3, 4)),
-        (b".org 0xFFFFFFFE\nb 1", (2, 4)),
-        // Too many bytes.
-        (
-            b".space 1048576\n.space 1048576\n.space 1048576\n.space 1048576\n\n.byte 0",
-            (6, 8),
-        ),
-        (
-            b".space 1048576\n.space 1048576\n.space 1048576\n.space 1048575\nlda 4096, g4",
-            (5, 8),
-        ),
-        // A fault that the second pass finds, before one that the first could see.
-        (b".byte late\nfrob\n.set late, 256", (1, 4)),
-        (b"frob\n.byte late\n.set late, 256", (1, 1)),
-        (b"b far\nfrob\n.set far, 2", (1, 7)),
-        (b".word x\nx: frob", (2, 1)),
-        (b".word x\nx: # \x80", (2, 2)),
-        (b".word x\n1x:\nx:", (2, 2)),
-        // How many bytes a line at fault counts: with kinds 1 to 3 none, so that x is 255 or 256.
-        (b".byte x\nmov g4\n.space 254\nx:", (2, 2)),
-        (b".byte x\nmov g4\n.space 255\nx:", (1, 4)),
-        (b".byte x\nlda 4096, sf0\n.space 254\nx:", (2, 3)),
-        (b".byte x\n.word 1+1\n.space 254\nx:", (2, 2)),
-        (b".byte x\nmov 32, g4\n.space 250\nx:", (2, 4)),
-        (b".byte x\nmov 32, g4\n.space 251\nx:", (1, 4)),
-        (b".byte x\nlda nowhere, g4\n.space 246\nx:", (2, 5)),
-        (b".byte x\nlda nowhere, g4\n.space 247\nx:", (1, 4)),
-        (b".byte x\n.word 0, nowhere\n.space 247\nx:", (1, 4)),
-        (b".byte x\nb 2\n.space 251\nx:", (1, 4)),
-        (b".byte x\n.space 1048577\n.space 254\nx:", (2, 4)),
-        (b".byte x\n.align 3\n.space 254\nx:", (2, 4)),
-        (b".byte x\n.org 4294967296\n.space 254\nx:", (2, 4)),
-        // What a `.set` at fault defines: with kind 2 nothing, else 0; the first value stays.
-        (b".word x\n.set x, 1+1", (1, 5)),
-        (b".word x\n.set x, 4294967296", (2, 4)),
-        (b".word x\n.set x, y", (2, 5)),
-        (b".byte x\n.set x, 1\n.set x, 256", (3, 6)),
-        (b".byte x\n.set x, 256\n.set x, 1", (1, 4)),
-    ];
-    for (source, wanted) in rows {
-        assert_eq!(rt; refusal(rt.alloc(), source), Some(wanted));
+    for row in REFUSALS.lines() {
+        assert!(rt; is_refused_source(rt.alloc(), row)?);
     }
+    assert_eq!(rt; refusal(rt.alloc(), b".word x\nx: # \x80"), Some((2, 2)));
     Ok(())
 }
