@@ -10,7 +10,7 @@ use i9_outside::{Sink, Wrote};
 use std::alloc::Global;
 
 /// How printing ended.
-#[derive(Clone, Copy, Debug, PartialEq, Eq)]
+#[derive(Clone, Copy)]
 pub(crate) enum Printed {
     /// The whole text was written.
     Done,
