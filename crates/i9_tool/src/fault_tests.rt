@@ -47,7 +47,7 @@ run 2
 #l 0=3000 1=3080
 #end limit
 status 0
-== The same in supervisor mode: both are taken, masked.
+== Returns by type 001 in supervisor mode, from a record of ones: AC and PC are taken, masked.
         subo  1, 0, g3
         st    g3, stack-16      # PC
         st    g3, stack-12      # AC
@@ -132,7 +132,7 @@ run 2
 #l 0=3001 1=3090
 #end limit
 status 0
-== The record.
+== The record of the same fault.
         divi  0, 7, g4
         addo  1, 2, g5
         .org  ac_image
@@ -180,7 +180,7 @@ run 5
 #l 1=3040
 #end dead 1 00000910
 status 4
-== The entry asks for procedure 260.
+== The same with an entry of procedure 260, which there is not.
         .word 0
         .org  operation_faults
         .word 0x412, 0x27F
@@ -190,7 +190,7 @@ run 5
 #l 1=3040
 #end dead 3 00000910
 status 4
-== An entry of procedure 259.
+== The same with an entry of procedure 259.
         .word 0
         .org  operation_faults
         .word 0x40E, 0x27F      # 4 * 259 + 2

@@ -3,6 +3,7 @@ use crate::rows::{BOOT, held};
 use std::alloc::Global;
 use std::test::*;
 
+/// The end of the loop over the codes, behind the branches, and what its run prints.
 const NEXT_CODE: &str = "
 == Takes the bits for the codes 0 to 3 to g5, and goes on with the next code.
         cmpobne 3, g0, more
@@ -17,8 +18,9 @@ run 226
 status 0
 ";
 
+/// The end of the subroutine, behind the branches, and what the run prints.
 const LEAVES: &str = "
-== MISSING
+== Returns with the bits of the branches that a pair takes.
         bx    (g14)
 done:
 run 144
