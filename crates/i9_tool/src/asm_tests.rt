@@ -1,7 +1,5 @@
 //! The command `asm` over files and a sink in memory, at sources and texts worked out by hand.
-use crate::tests::{SMALLEST, SMALLEST_SOURCE, words_of};
-use crate::top::i960;
-use i9_outside::{MemFiles, MemSink};
+use crate::tests::{Case, SMALLEST, SMALLEST_SOURCE, answers, answers_long, run_with};
 use std::alloc::Global;
 use std::test::*;
 
@@ -17,78 +15,54 @@ const ACROSS_A_BOUNDARY_PRINTS: &str = ":02FFFE0041427E
 :00000001FF
 ";
 
-/// The status for a source that is held as `a`, on a sink that takes so many bytes and fails at one write, the first
-/// being 1, and whether all that was printed is this text.
-fn assembles(
-    alloc: Global,
-    source: &[u8],
-    words: &str,
-    failing: u64,
-    printed: &str,
-) -> Result<(u8, bool), Fail> {
-    let mut files = MemFiles::new(alloc);
-    files.add("a", source)?;
-    let mut sink = MemSink::new(alloc);
-    sink.room(4096)?;
-    sink.fail_at(failing)?;
-    let words = words_of(alloc, words)?;
-    let status = i960(alloc, &words, &mut files, &mut sink);
-    Ok((status.code, sink.bytes() == printed.as_bytes()))
-}
+/// Words in no form.
+const FORMLESS: &str = "asm
+asm\x20
+asm a -
+Asm a";
 
 #[test]
 fn assembles_and_refuses(rt: HostRuntime) -> Result<(), Fail> {
-    let cases = [
-        (SMALLEST_SOURCE, "asm a", 0, SMALLEST),
-        (ACROSS_A_BOUNDARY, "asm a", 0, ACROSS_A_BOUNDARY_PRINTS),
-        ("", "asm a", 0, ":00000001FF\n"),
-        ("# nothing", "asm a", 0, ":00000001FF\n"),
-        ("frob 1", "asm a", 3, "#source line 1 kind 1\n"),
-        (
-            "mov 1, g0\nmov 32, g0\nfrob 1\n",
-            "asm a",
-            3,
-            "#source line 2 kind 4\n",
-        ),
-        (SMALLEST_SOURCE, "asm b", 5, "#read\n"),
-        (SMALLEST_SOURCE, "asm", 1, "#words\n"),
-        (SMALLEST_SOURCE, "asm ", 1, "#words\n"),
-        (SMALLEST_SOURCE, "asm a -", 1, "#words\n"),
-        (SMALLEST_SOURCE, "Asm a", 1, "#words\n"),
-    ];
-    for (source, words, code, printed) in cases {
-        assert_eq!(rt;
-            assembles(rt.alloc(), source.as_bytes(), words, 0, printed)?,
-            (code, true),
-            "at {words} of {source}"
-        );
-    }
+    let alloc = rt.alloc();
+    let across = ACROSS_A_BOUNDARY;
+    let empty = ":00000001FF\n";
+    let two_faults = "mov 1, g0\nmov 32, g0\nfrob 1\n";
+    assert!(rt; answers(alloc, SMALLEST_SOURCE, "asm a", 0, SMALLEST)?);
+    assert!(rt; answers(alloc, across, "asm a", 0, ACROSS_A_BOUNDARY_PRINTS)?);
+    assert!(rt; answers(alloc, "", "asm a", 0, empty)?);
+    assert!(rt; answers(alloc, "# nothing", "asm a", 0, empty)?);
+    assert!(rt; answers(alloc, "frob 1", "asm a", 3, "#source line 1 kind 1\n")?);
+    assert!(rt; answers(alloc, two_faults, "asm a", 3, "#source line 2 kind 4\n")?);
+    assert!(rt; answers(alloc, SMALLEST_SOURCE, "asm b", 5, "#read\n")?);
+    assert!(rt; answers(alloc, SMALLEST_SOURCE, FORMLESS, 1, "#words\n")?);
     Ok(())
+}
+
+/// Whether a write that fails leaves this front of the text.
+fn leaves(alloc: Global, failing: u64, printed: &str) -> Result<bool, Fail> {
+    let case = Case {
+        file: ACROSS_A_BOUNDARY.as_bytes(),
+        words: "asm a",
+        printed,
+    };
+    Ok(run_with(alloc, &case, 4096, failing)? == (6, true))
 }
 
 #[test]
 fn each_line_of_a_text_is_one_write(rt: HostRuntime) -> Result<(), Fail> {
-    let fronts = [
-        (1, ""),
-        (2, ":02FFFE0041427E\n"),
-        (3, ":02FFFE0041427E\n:020000040001F9\n"),
-    ];
-    for (failing, printed) in fronts {
-        let source = ACROSS_A_BOUNDARY.as_bytes();
-        assert_eq!(rt;
-            assembles(rt.alloc(), source, "asm a", failing, printed)?,
-            (6, true),
-            "at {failing}"
-        );
-    }
+    let one = ":02FFFE0041427E\n";
+    let two = ":02FFFE0041427E\n:020000040001F9\n";
+    assert!(rt; leaves(rt.alloc(), 1, "")?);
+    assert!(rt; leaves(rt.alloc(), 2, one)?);
+    assert!(rt; leaves(rt.alloc(), 3, two)?);
     Ok(())
 }
 
 #[test]
 fn long_sources_are_refused(rt: HostRuntime) -> Result<(), Fail> {
-    let long = vec![in rt.alloc(); b'\n'; 16_777_217]?;
+    let line = "#source too long\n";
     assert_eq!(rt;
-        assembles(rt.alloc(), &long, "asm a", 0, "#source too long\n")?,
+        answers_long(rt.alloc(), b'\n', 16_777_217, "asm a", line)?,
         (3, true)
     );
     Ok(())

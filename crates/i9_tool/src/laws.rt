@@ -1,13 +1,14 @@
 //! Laws of the command's answers, as the contracts of a call that does nothing, and of the command over files and a
 //! sink in memory.
 
-ghost use Rattle.std.specs.Prelude.{◌≡◌, ◌≢◌, ◌≤◌, ℕ, Bool, true, List, Option, Some, IsSome, length};
+ghost use Rattle.std.specs.Prelude.{◌≡◌, ◌≢◌, ◌≤◌, ◌<◌, ℕ, Bool, true, List, Option, Some, IsSome, length};
 ghost use Rattle.std.specs.List.{AllByRecursion};
 ghost use Rattle.i9_tool.specs.CommandLine.{Command, Run};
 ghost use Rattle.i9_outside.specs.Calls.{NoneToFail};
 ghost use Rattle.i9_outside.specs.MemFiles as mem_files;
 ghost use Rattle.i9_outside.specs.MemSink as mem_sink;
-ghost use Rattle.i9_tool.specs.Outcome.{FileGives, Gives, Outcomes, asked_for, names_of, AllSure};
+ghost use Rattle.i9_tool.specs.Outcome.{FileGives, Gives, GivesWhole, Outcomes, asked_for, names_of, AllSure};
+ghost use Rattle.i9_tool.specs.Print.{account};
 
 use crate::status::Status;
 use crate::top::i960;
@@ -28,15 +29,18 @@ pub fn one_outcome()
         → Gives told (λ n. risen n ≡ true) (Some (Run image others limit)) code text }
 {}
 
-/// The command over files and a sink in memory: where no call is set to fail, each file that the words
-/// name is held, and the sink has room for what is printed, no count of faults rises, and neither 5 nor
-/// 6 is answered.
+/// The command over files and a sink in memory: a status below 6 has its whole text. Where no call is set to fail, each
+/// file that the words name is held, and the sink has room for what is printed, no count of faults rises, and neither 5
+/// nor 6 is answered.
 pub fn i960_in_memory(
     alloc: Global,
     words: &Vec<String>,
     files: &mut MemFiles,
     out: &mut MemSink,
 ) -> Status
+    ensures whole { result.code < 6
+        → GivesWhole (Outcomes mem_files.held_file (λ m n. mem_files.fault_count m) files.old files.new words.now.items)
+        result.code (account (λ s. Some (mem_sink.written_bytes s)) mem_sink.fault_count mem_sink.write_count mem_sink.IsSureOf) out.old out.new }
     ensures calm_files { NoneToFail (mem_files.calls_of files.old)
         → AllByRecursion (λ name. IsSome (mem_files.held_file files.old name)) (names_of (asked_for words.now.items))
         → (result.code ≢ 5) × (mem_files.fault_count files.new ≡ mem_files.fault_count files.old) }

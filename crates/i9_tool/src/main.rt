@@ -39,17 +39,25 @@ use std::io::ErrorKind;
 use std::process::ExitCode;
 use std::{env, io};
 
+/// All of the words that the system gave.
+fn all_words(alloc: Global, given: env::Args) -> Result<Vec<String>, AllocError>
+    ensures { IfOk result (λ words. words.items ≡ into_iter_items given) }
+{
+    let mut left = given;
+    let mut words = Vec::new(alloc);
+    while let Some(word) = left.next() {
+        words.push(word)?;
+    }
+    Ok(words)
+}
+
 /// The words behind the program's name, of those that the system gave.
 fn without_name(alloc: Global, given: env::Args) -> Result<Vec<String>, AllocError>
     ensures { IfOk result (λ words. words.items ≡ drop 1 (into_iter_items given)) }
 {
     let mut left = given;
     let _ = left.next();
-    let mut words = Vec::new(alloc);
-    while let Some(word) = left.next() {
-        words.push(word)?;
-    }
-    Ok(words)
+    all_words(alloc, left)
 }
 
 /// The words of the command.

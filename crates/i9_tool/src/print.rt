@@ -10,7 +10,7 @@ use i9_outside::{Sink, Wrote};
 use std::alloc::Global;
 
 /// How printing ended.
-#[derive(Clone, Copy, Debug, PartialEq, Eq)]
+#[derive(Clone, Copy)]
 pub(crate) enum Printed {
     /// The whole text was written.
     Done,
@@ -62,6 +62,7 @@ fn feed_place(text: &[u8]) -> Option<usize>
 pub(crate) fn print_text<K: Sink>(text: &[u8], out: &mut K) -> Printed
     requires lined { is_lined text.now ≡ true }
     ensures prints { Prints result (account K.told K.faults K.writes K.sure) out.old out.new text.now }
+    ensures takes_no_memory { result ≢ Printed.Memory }
 {
     let mut rest = text;
     while let Some(place) = feed_place(rest) {

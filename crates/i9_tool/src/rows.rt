@@ -1,4 +1,4 @@
-//! Rows for tests: a source and what the run of its image has to print, of which registers that are 0 are left out.
+//! Tables for tests: sources and what the runs of their images have to print; registers that are 0 are left out.
 use crate::laws::i960_in_memory;
 use crate::tests::words_of;
 use i9_asm::assemble;
@@ -62,77 +62,122 @@ pub(crate) const TO_USER_MODE: &str = "
 /// Numbers of sets as words of the command: that of the PRCB, and one, five and fifteen.
 const SETS: [&str; 4] = ["-", "1", "5", "15"];
 
-/// A source in parts, the length of the run of its image, and what is to be printed: the lines before the last drained
-/// point, that point, the registers g0 to g15 and r0 to r15 that are not 0 there by their numbers, and the last line;
-/// and the status.
-#[derive(Clone, Copy)]
-pub(crate) struct Row<'a> {
-    pub(crate) source: &'a [&'a str],
-    pub(crate) length: u64,
-    pub(crate) before: &'a str,
-    pub(crate) point: &'a str,
-    pub(crate) globals: &'a [(usize, u32)],
-    pub(crate) locals: &'a [(usize, u32)],
-    pub(crate) end: &'a str,
-    pub(crate) code: u8,
+/// A case: a source, the length of the run of its image as a word of the command, and what is to be printed.
+#[derive(Drop)]
+struct Case {
+    source: String,
+    length: String,
+    printed: String,
 }
 
-/// The HEX text of the image that a source in parts says.
-pub(crate) fn hex_of(alloc: Global, source: &[&str]) -> Result<Vec<u8>, Fail> {
-    let mut text = String::new(alloc);
-    for part in source {
-        text.push_str(part)?;
-    }
-    let image = assemble(alloc, text.as_bytes())?;
+/// The HEX text of the image that a source says.
+fn hex_of(alloc: Global, source: &str) -> Result<Vec<u8>, Fail> {
+    let image = assemble(alloc, source.as_bytes())?;
     Ok(i9_hex::write(alloc, &image)?)
 }
 
-/// The line of sixteen registers, of which those that are not 0 are given.
-fn registers_line(alloc: Global, label: &str, given: &[(usize, u32)]) -> Result<String, Fail> {
-    let mut line = String::from_str(alloc, label)?;
-    for number in 0..16usize {
-        let mut word = 0;
-        for (place, value) in given {
-            if *place == number {
-                word = *value;
+/// The word of the register of this number, of those that are given, as `4=1F`.
+fn register(given: &str, number: u32) -> Result<u32, Fail> {
+    for part in given.split(' ') {
+        if let Some((place, word)) = part.split_once("=") {
+            if u32::from_str_radix(place, 10)? == number {
+                return Ok(u32::from_str_radix(word, 16)?);
             }
         }
-        line.push_str(&format!(in alloc; " {word:08X}")?)?;
     }
-    line.push_str("\n")?;
-    Ok(line)
+    Ok(0)
 }
 
-/// All that a row's run is to print.
-fn text_of(alloc: Global, row: &Row<'_>) -> Result<String, Fail> {
-    let mut text = String::from_str(alloc, row.before)?;
-    text.push_str(&format!(in alloc; "#point {}\n", row.point)?)?;
-    text.push_str(&registers_line(alloc, "#g", row.globals)?)?;
-    text.push_str(&registers_line(alloc, "#l", row.locals)?)?;
-    text.push_str(&format!(in alloc; "#end {}\n", row.end)?)?;
-    Ok(text)
+/// Appends the line of sixteen registers, of which those that are not 0 are given.
+fn add_registers(alloc: Global, text: &mut String, label: &str, given: &str) -> Result<(), Fail> {
+    text.push_str(label)?;
+    for number in 0..16u32 {
+        let word = register(given, number)?;
+        text.push_str(&format!(in alloc; " {word:08X}")?)?;
+    }
+    text.push_str("\n")?;
+    Ok(())
 }
 
-/// Whether a row's run with so many sets has its status and prints its text.
-fn holds_with(alloc: Global, row: &Row<'_>, image: &[u8], sets: &str) -> Result<bool, Fail> {
+/// Appends a line.
+fn add_line(text: &mut String, line: &str) -> Result<(), Fail> {
+    text.push_str(line)?;
+    text.push_str("\n")?;
+    Ok(())
+}
+
+/// Whether the run of a case's image with so many sets has this status and prints the case's text.
+fn holds_with(
+    alloc: Global,
+    case: &Case,
+    image: &[u8],
+    sets: &str,
+    code: u8,
+) -> Result<bool, Fail> {
     let mut files = MemFiles::new(alloc);
     files.add("a", image)?;
     let mut sink = MemSink::new(alloc);
     sink.room(4096)?;
-    let line = format!(in alloc; "run a - {sets} {}", row.length)?;
+    let line = format!(in alloc; "run a - {sets} {}", case.length)?;
     let words = words_of(alloc, &line)?;
     let status = i960_in_memory(alloc, &words, &mut files, &mut sink);
-    let text = text_of(alloc, row)?;
-    Ok(status.code == row.code && sink.bytes() == text.as_bytes())
+    Ok(status.code == code && sink.bytes() == case.printed.as_bytes())
 }
 
-/// Whether a row's run has its status and prints its text, at each of these numbers of sets.
-pub(crate) fn holds(alloc: Global, row: &Row<'_>) -> Result<bool, Fail> {
-    let image = hex_of(alloc, row.source)?;
+/// Whether a case's run has its status and prints its text, at each of these numbers of sets, behind the fronts of its
+/// source.
+fn holds(alloc: Global, fronts: &[&str], case: &Case, code: u8) -> Result<bool, Fail> {
+    let mut source = String::new(alloc);
+    for front in fronts {
+        source.push_str(front)?;
+    }
+    source.push_str(&case.source)?;
+    let image = hex_of(alloc, &source)?;
     for sets in SETS {
-        if !holds_with(alloc, row, &image, sets)? {
+        if !holds_with(alloc, case, &image, sets, code)? {
             return Ok(false);
         }
     }
     Ok(true)
+}
+
+/// Takes a line of a table to the case that is being read, if it is not the line of its status.
+fn take_line(alloc: Global, case: &mut Case, line: &str) -> Result<(), Fail> {
+    match line.split_once(" ").unwrap_or((line, "")) {
+        ("==", _) => case.source.clear(),
+        ("--", _) => {}
+        ("run", length) => {
+            case.length.clear();
+            case.length.push_str(length)?;
+            case.printed.clear();
+        }
+        ("#g", given) => add_registers(alloc, &mut case.printed, "#g", given)?,
+        ("#l", given) => add_registers(alloc, &mut case.printed, "#l", given)?,
+        _ if line.starts_with('#') => add_line(&mut case.printed, line)?,
+        _ => add_line(&mut case.source, line)?,
+    }
+    Ok(())
+}
+
+/// How many cases of a table hold. Behind the title, which begins with `==`, come the lines of the source, the length
+/// of the run, what is to be printed, where those registers are given that are not 0, and the status. Where a title
+/// begins with `--`, the source goes on from the case before.
+pub(crate) fn held(alloc: Global, fronts: &[&str], table: &str) -> Result<u32, Fail> {
+    let mut case = Case {
+        source: String::new(alloc),
+        length: String::new(alloc),
+        printed: String::new(alloc),
+    };
+    let mut count: u32 = 0;
+    for line in table.lines() {
+        match line.strip_prefix("status ") {
+            Some(code) => {
+                if holds(alloc, fronts, &case, code.parse::<u8>()?)? {
+                    count = count.saturating_add(1);
+                }
+            }
+            None => take_line(alloc, &mut case, line)?,
+        }
+    }
+    Ok(count)
 }

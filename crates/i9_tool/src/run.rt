@@ -14,7 +14,7 @@ use i9_outside::Sink;
 use std::alloc::Global;
 
 /// How running went.
-#[derive(Clone, Copy, Debug, PartialEq, Eq)]
+#[derive(Clone, Copy)]
 pub(crate) enum Ran {
     /// To this end, and all was printed.
     Done(End),

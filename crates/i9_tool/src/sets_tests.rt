@@ -1,10 +1,11 @@
 //! Frames in sets through the command, at registers worked out by hand; each row holds at every number of sets.
-use crate::rows::{BOOT, PRCB, Row, TO_USER_MODE, holds};
+use crate::rows::{BOOT, PRCB, TO_USER_MODE, held};
 use std::test::*;
 
-/// An operation fault of a procedure in user mode, by a system entry of procedure 2: the record is on the supervisor
-/// stack, and the handler returns behind the word.
-const FAULTS_OVER_FULL_SETS: &str = "
+/// A fault over full sets.
+const SPILLS_IN_USER_MODE: &str = "
+== An operation fault of a procedure in user mode, by a system entry of procedure 2: the record is on the supervisor
+== stack, and the handler returns behind the word.
         call  f
         mov   9, g6
 f:      mov   5, r5
@@ -19,10 +20,20 @@ f:      mov   5, r5
         .org  0x1100
 handler:
         ret
+run 9
+#point 6 fault 00001100 00000000 001F2002
+#g 1=2 2=1F2002 15=6010
+#l 0=3041 1=6050
+#point 9 end 00001014 00000000 001F2000
+#g 1=2 2=1F2002 6=9 15=3000
+#l 1=3040 2=1010
+#end limit
+status 0
 ";
 
-/// The first return takes a frame that was saved behind the flush, and the second one refills a frame from before it.
-const REFILLS_BEHIND_A_FLUSH: &str = "
+/// Frames that go to memory and come back.
+const SPILLS: &str = "
+== The first return takes a frame that was saved behind the flush, and the second one refills a frame from before it.
         mov   5, r5
         call  f
         mov   r5, g4
@@ -32,10 +43,16 @@ f:      mov   6, r5
         mov   r5, g5
         ret
 g:      ret
-";
-
-/// Returns to a frame at 400 that no call saved.
-const RETURNS_TO_AN_IMAGE: &str = "
+run 9
+#point 4 flush 00001014 00000000 001F2002
+#g 15=40
+#l 1=80 5=6
+#point 9 end 0000100C 00000000 001F2002
+#g 4=5 5=6
+#l 1=40 2=1008 5=5
+#end limit
+status 0
+== Returns to a frame at 400 that no call saved.
         lda   0x400, pfp
         ret
         .space 8
@@ -44,10 +61,13 @@ there:  mov   r5, g4
         .word there             # rip
         .org  0x414
         .word 7                 # r5
-";
-
-/// Each procedure has a value of its own in r5, and its caller takes it over behind the call.
-const RETURNS_FROM_THREE_CALLS: &str = "
+run 3
+#point 3 end 00001014 00000000 001F2002
+#g 4=7 15=400
+#l 2=1010 5=7
+#end limit
+status 0
+== Each procedure has a value of its own in r5, and its caller takes it over behind the call.
         mov   5, r5
         call  f
         mov   r5, g4
@@ -60,17 +80,35 @@ g:      mov   7, r5
         mov   r5, g6
         ret
 h:      ret
-";
-
-/// Two calls; what the second procedure does to the first frame, at 0, is to follow.
-const CALLS_TWICE: &str = "
+run 12
+#point 12 end 0000100C 00000000 001F2002
+#g 4=5 5=6 6=7
+#l 1=40 2=1008 5=5
+#end limit
+status 0
+== Two calls; the second procedure stores to the first frame, at 0.
         call  f
 f:      call  g
 g:
-";
-
-/// Frames that were flushed may be read.
-const READS_FLUSHED_FRAMES: &str = "
+        st    g4, 16
+run 9
+#point 2 end 00001008 00000000 001F2002
+#g 15=80
+#l 0=40 1=C0
+#end hazard 00000010
+status 4
+== The same with a load.
+        call  f
+f:      call  g
+g:
+        ld    16, g4
+run 9
+#point 2 end 00001008 00000000 001F2002
+#g 15=80
+#l 0=40 1=C0
+#end hazard 00000010
+status 4
+== Frames that were flushed may be read.
         mov   5, r5
         call  f
 f:      mov   6, r5
@@ -78,99 +116,23 @@ f:      mov   6, r5
 g:      flushreg
         ld    0x14, g4
         ld    0x54, g5
-";
-
-const FAULTS_OVER_FULL_SETS_FIRST: &str = "#point 6 fault 00001100 00000000 001F2002
-#g 00000000 00000002 001F2002 00000000 00000000 00000000 00000000 00000000 00000000 00000000 00000000 00000000 00000000 00000000 00000000 00006010
-#l 00003041 00006050 00000000 00000000 00000000 00000000 00000000 00000000 00000000 00000000 00000000 00000000 00000000 00000000 00000000 00000000
-";
-
-const REFILLS_BEHIND_A_FLUSH_FIRST: &str = "#point 4 flush 00001014 00000000 001F2002
-#g 00000000 00000000 00000000 00000000 00000000 00000000 00000000 00000000 00000000 00000000 00000000 00000000 00000000 00000000 00000000 00000040
-#l 00000000 00000080 00000000 00000000 00000000 00000006 00000000 00000000 00000000 00000000 00000000 00000000 00000000 00000000 00000000 00000000
-";
-
-const READS_FLUSHED_FRAMES_FIRST: &str = "#point 5 flush 00001014 00000000 001F2002
-#g 00000000 00000000 00000000 00000000 00000000 00000000 00000000 00000000 00000000 00000000 00000000 00000000 00000000 00000000 00000000 00000080
-#l 00000040 000000C0 00000000 00000000 00000000 00000000 00000000 00000000 00000000 00000000 00000000 00000000 00000000 00000000 00000000 00000000
+run 7
+#point 5 flush 00001014 00000000 001F2002
+#g 15=80
+#l 0=40 1=C0
+#point 7 end 0000101C 00000000 001F2002
+#g 4=5 5=6 15=80
+#l 0=40 1=C0
+#end limit
+status 0
 ";
 
 #[test]
 fn spills_refills_and_flushes(rt: HostRuntime) -> Result<(), Fail> {
-    let rows = [
-        Row {
-            source: &[PRCB, TO_USER_MODE, FAULTS_OVER_FULL_SETS],
-            length: 9,
-            before: FAULTS_OVER_FULL_SETS_FIRST,
-            point: "9 end 00001014 00000000 001F2000",
-            globals: &[(1, 2), (2, 0x001F_2002), (6, 9), (15, 0x3000)],
-            locals: &[(1, 0x3040), (2, 0x1010)],
-            end: "limit",
-            code: 0,
-        },
-        Row {
-            source: &[BOOT, REFILLS_BEHIND_A_FLUSH],
-            length: 9,
-            before: REFILLS_BEHIND_A_FLUSH_FIRST,
-            point: "9 end 0000100C 00000000 001F2002",
-            globals: &[(4, 5), (5, 6)],
-            locals: &[(1, 0x40), (2, 0x1008), (5, 5)],
-            end: "limit",
-            code: 0,
-        },
-        Row {
-            source: &[BOOT, RETURNS_TO_AN_IMAGE],
-            length: 3,
-            before: "",
-            point: "3 end 00001014 00000000 001F2002",
-            globals: &[(4, 7), (15, 0x400)],
-            locals: &[(2, 0x1010), (5, 7)],
-            end: "limit",
-            code: 0,
-        },
-        Row {
-            source: &[BOOT, RETURNS_FROM_THREE_CALLS],
-            length: 12,
-            before: "",
-            point: "12 end 0000100C 00000000 001F2002",
-            globals: &[(4, 5), (5, 6), (6, 7)],
-            locals: &[(1, 0x40), (2, 0x1008), (5, 5)],
-            end: "limit",
-            code: 0,
-        },
-        Row {
-            source: &[BOOT, CALLS_TWICE, "st g4, 16"],
-            length: 9,
-            before: "",
-            point: "2 end 00001008 00000000 001F2002",
-            globals: &[(15, 0x80)],
-            locals: &[(0, 0x40), (1, 0xC0)],
-            end: "hazard 00000010",
-            code: 4,
-        },
-        Row {
-            source: &[BOOT, CALLS_TWICE, "ld 16, g4"],
-            length: 9,
-            before: "",
-            point: "2 end 00001008 00000000 001F2002",
-            globals: &[(15, 0x80)],
-            locals: &[(0, 0x40), (1, 0xC0)],
-            end: "hazard 00000010",
-            code: 4,
-        },
-        Row {
-            source: &[BOOT, READS_FLUSHED_FRAMES],
-            length: 7,
-            before: READS_FLUSHED_FRAMES_FIRST,
-            point: "7 end 0000101C 00000000 001F2002",
-            globals: &[(4, 5), (5, 6), (15, 0x80)],
-            locals: &[(0, 0x40), (1, 0xC0)],
-            end: "limit",
-            code: 0,
-        },
-    ];
-    for (number, row) in rows.iter().enumerate() {
-        assert!(rt; holds(rt.alloc(), row)?, "row {number}");
-    }
+    assert_eq!(rt;
+        held(rt.alloc(), &[PRCB, TO_USER_MODE], SPILLS_IN_USER_MODE)?,
+        1
+    );
+    assert_eq!(rt; held(rt.alloc(), &[BOOT], SPILLS)?, 6);
     Ok(())
 }

@@ -38,12 +38,51 @@ const AT_ONCE: &str = "#point 0 end 00001000 00000000 001F2002
 #end limit
 ";
 
+/// Words that run the smallest image to its end.
+const RUNS: &str = "run a - - 100
+run a - - 5
+run a - - 10000000
+run a - 1 100
+run a - 0000000015 100";
+
+/// Words in no form.
+const FORMLESS: &str = "run a
+run a - - 10000001
+run a - - 00000000010
+run a - - +1
+run a - -\x20
+run  - - 1
+run a x - 1
+run a - 00000000015 100
+run a - 0 10
+run a - 16 10
+run a -  10
+run a - -1 10
+walk a - - 1";
+
+/// Words that name a file that there is not.
+const UNREAD: &str = "run b - - 10
+run b - 15 10";
+
+/// Room for bytes, the write that fails, and the lines that are printed. A line for which there is no room is not begun:
+/// `#out 41` and its line feed are eight bytes, the line of the drained point is forty.
+const FAILING_WRITES: &str = "4096 1 0
+4096 2 1
+4096 3 2
+4096 4 3
+4096 5 4
+0 0 0
+7 0 0
+8 0 1
+47 0 1
+48 0 2";
+
 /// A case: the file that is held as `a`, the words, and what is printed.
 #[derive(Clone, Copy)]
-struct Case<'a> {
-    image: &'a str,
-    words: &'a str,
-    printed: &'a str,
+pub(crate) struct Case<'a> {
+    pub(crate) file: &'a [u8],
+    pub(crate) words: &'a str,
+    pub(crate) printed: &'a str,
 }
 
 /// The words between spaces.
@@ -57,9 +96,14 @@ pub(crate) fn words_of(alloc: Global, line: &str) -> Result<Vec<String>, Fail> {
 
 /// The status of a case whose sink takes so many bytes and fails at one write, the first being 1, and whether all that
 /// was printed is what the case says.
-fn run_with(alloc: Global, case: &Case<'_>, room: u64, failing: u64) -> Result<(u8, bool), Fail> {
+pub(crate) fn run_with(
+    alloc: Global,
+    case: &Case<'_>,
+    room: u64,
+    failing: u64,
+) -> Result<(u8, bool), Fail> {
     let mut files = MemFiles::new(alloc);
-    files.add("a", case.image.as_bytes())?;
+    files.add("a", case.file)?;
     let mut sink = MemSink::new(alloc);
     sink.room(room)?;
     sink.fail_at(failing)?;
@@ -68,56 +112,40 @@ fn run_with(alloc: Global, case: &Case<'_>, room: u64, failing: u64) -> Result<(
     Ok((status.code, sink.bytes() == case.printed.as_bytes()))
 }
 
-#[test]
-fn runs_and_refuses(rt: HostRuntime) -> Result<(), Fail> {
-    let cases = [
-        (SMALLEST, "run a - - 100", 0, PRINTED),
-        (SMALLEST, "run a - - 5", 0, PRINTED),
-        (SMALLEST, "run a - - 0000000000", 0, AT_ONCE),
-        (SMALLEST, "run b - - 10", 5, "#read\n"),
-        (SMALLEST, "run a", 1, "#words\n"),
-        (SMALLEST, "run a - - 10000000", 0, PRINTED),
-        (SMALLEST, "run a - - 10000001", 1, "#words\n"),
-        (SMALLEST, "run a - - 00000000010", 1, "#words\n"),
-        (SMALLEST, "run a - - +1", 1, "#words\n"),
-        (SMALLEST, "run a - - ", 1, "#words\n"),
-        (SMALLEST, "run  - - 1", 1, "#words\n"),
-        (SMALLEST, "run a x - 1", 1, "#words\n"),
-        (SMALLEST, "run a - 1 100", 0, PRINTED),
-        (SMALLEST, "run a - 0000000015 100", 0, PRINTED),
-        (SMALLEST, "run a - 00000000015 100", 1, "#words\n"),
-        (SMALLEST, "run a - 0 10", 1, "#words\n"),
-        (SMALLEST, "run a - 16 10", 1, "#words\n"),
-        (SMALLEST, "run a -  10", 1, "#words\n"),
-        (SMALLEST, "run a - -1 10", 1, "#words\n"),
-        (SMALLEST, "run b - 15 10", 5, "#read\n"),
-        (SMALLEST, "walk a - - 1", 1, "#words\n"),
-        (
-            ":02000004FFFFFD\n",
-            "run a - - 10",
-            2,
-            "#image line 1 kind 4\n",
-        ),
-        (
-            ":00000001FF\nx\n",
-            "run a - - 10",
-            2,
-            "#image line 2 kind 7\n",
-        ),
-        ("", "run a - - 10", 2, "#image line 1 kind 6\n"),
-    ];
-    for (image, words, code, printed) in cases {
+/// Whether each of these lines of words answers this status and prints this text.
+pub(crate) fn answers(
+    alloc: Global,
+    file: &str,
+    lines: &str,
+    code: u8,
+    printed: &str,
+) -> Result<bool, Fail> {
+    for words in lines.lines() {
         let case = Case {
-            image,
+            file: file.as_bytes(),
             words,
             printed,
         };
-        assert_eq!(rt;
-            run_with(rt.alloc(), &case, 4096, 0)?,
-            (code, true),
-            "at {words}"
-        );
+        if run_with(alloc, &case, 4096, 0)? != (code, true) {
+            return Ok(false);
+        }
     }
+    Ok(true)
+}
+
+#[test]
+fn runs_and_refuses(rt: HostRuntime) -> Result<(), Fail> {
+    let alloc = rt.alloc();
+    let some = "run a - - 10";
+    let no_type = ":02000004FFFFFD\n";
+    let no_record = ":00000001FF\nx\n";
+    assert!(rt; answers(alloc, SMALLEST, RUNS, 0, PRINTED)?);
+    assert!(rt; answers(alloc, SMALLEST, "run a - - 0000000000", 0, AT_ONCE)?);
+    assert!(rt; answers(alloc, SMALLEST, FORMLESS, 1, "#words\n")?);
+    assert!(rt; answers(alloc, SMALLEST, UNREAD, 5, "#read\n")?);
+    assert!(rt; answers(alloc, no_type, some, 2, "#image line 1 kind 4\n")?);
+    assert!(rt; answers(alloc, no_record, some, 2, "#image line 2 kind 7\n")?);
+    assert!(rt; answers(alloc, "", some, 2, "#image line 1 kind 6\n")?);
     Ok(())
 }
 
@@ -131,53 +159,54 @@ fn first_lines(alloc: Global, text: &str, count: usize) -> Result<String, Fail> 
     Ok(front)
 }
 
+/// Whether a row's room and failing write leave its lines of the smallest run.
+fn leaves_lines(alloc: Global, row: &str) -> Result<bool, Fail> {
+    let mut numbers = row.split(' ');
+    let room = numbers.next().unwrap_or("").parse::<u64>()?;
+    let failing = numbers.next().unwrap_or("").parse::<u64>()?;
+    let lines = numbers.next().unwrap_or("").parse::<usize>()?;
+    let printed = first_lines(alloc, PRINTED, lines)?;
+    let case = Case {
+        file: SMALLEST.as_bytes(),
+        words: "run a - - 100",
+        printed: &printed,
+    };
+    Ok(run_with(alloc, &case, room, failing)? == (6, true))
+}
+
 #[test]
 fn writes_that_fail_leave_the_lines_before(rt: HostRuntime) -> Result<(), Fail> {
-    // A line for which there is no room is not begun: `#out 41` and its line feed are eight bytes, the line of the
-    // drained point is forty.
-    let cases = [
-        (4096, 1, 0),
-        (4096, 2, 1),
-        (4096, 3, 2),
-        (4096, 4, 3),
-        (4096, 5, 4),
-        (0, 0, 0),
-        (7, 0, 0),
-        (8, 0, 1),
-        (47, 0, 1),
-        (48, 0, 2),
-    ];
-    for (room, failing, lines) in cases {
-        let printed = first_lines(rt.alloc(), PRINTED, lines)?;
-        let case = Case {
-            image: SMALLEST,
-            words: "run a - - 100",
-            printed: &printed,
-        };
-        assert_eq!(rt;
-            run_with(rt.alloc(), &case, room, failing)?,
-            (6, true),
-            "with {room} at {failing}"
-        );
+    for row in FAILING_WRITES.lines() {
+        assert!(rt; leaves_lines(rt.alloc(), row)?, "at {row}");
     }
     Ok(())
 }
 
-/// A file of so many bytes, and whether it is refused as too long.
-fn is_too_long(alloc: Global, size: usize) -> Result<bool, Fail> {
-    let mut files = MemFiles::new(alloc);
-    let long = vec![in alloc; b':'; size]?;
-    files.add("a", &long)?;
-    let mut sink = MemSink::new(alloc);
-    sink.room(64)?;
-    let words = words_of(alloc, "run a - - 10")?;
-    let status = i960(alloc, &words, &mut files, &mut sink);
-    Ok(status.code == 2 && sink.bytes() == b"#image too long\n".as_slice())
+/// The status for a file of so many of this byte, and whether this line is printed.
+pub(crate) fn answers_long(
+    alloc: Global,
+    byte: u8,
+    size: usize,
+    words: &str,
+    printed: &str,
+) -> Result<(u8, bool), Fail> {
+    let long = vec![in alloc; byte; size]?;
+    let case = Case {
+        file: &long,
+        words,
+        printed,
+    };
+    run_with(alloc, &case, 64, 0)
 }
 
 #[test]
 fn long_files_are_refused(rt: HostRuntime) -> Result<(), Fail> {
-    assert!(rt; is_too_long(rt.alloc(), 16_777_217)?);
-    assert!(rt; !is_too_long(rt.alloc(), 1_000)?);
+    let words = "run a - - 10";
+    let line = "#image too long\n";
+    assert_eq!(rt;
+        answers_long(rt.alloc(), b':', 16_777_217, words, line)?,
+        (2, true)
+    );
+    assert!(rt; !answers_long(rt.alloc(), b':', 1_000, words, line)?.1);
     Ok(())
 }

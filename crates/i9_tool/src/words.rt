@@ -11,7 +11,7 @@ use i9_text::number;
 
 /// What `run` asks for: to run the image of this name, with so many register sets or with those of the PRCB, for at
 /// most so many instructions.
-#[derive(Clone, Copy, Debug)]
+#[derive(Clone, Copy)]
 pub(crate) struct RunWords<'a> {
     pub(crate) image: &'a str,
     pub(crate) sets: Option<u8>,
@@ -19,7 +19,7 @@ pub(crate) struct RunWords<'a> {
 }
 
 /// What the words ask for: to run an image, or to assemble the source of this name.
-#[derive(Clone, Copy, Debug)]
+#[derive(Clone, Copy)]
 pub(crate) enum Asked<'a> {
     Run(RunWords<'a>),
     Asm(&'a str),

@@ -15,11 +15,10 @@ print_piece-requires g c =
     let found : Some c.in-Some.place ≡ position is_line_feed c.loop-place.rest.now = sym c.in-Some.is ∙ c.feed_place.ensures in
     record { line = rw c.split_at.ensures.front (line_found c.loop-place.rest.now c.in-Some.place found) }
 
-pub returns-in-Write : goal.returns-in-Write
-returns-in-Write g c = record {
-  prints = text_stops _ Write _ _ _ _ c.loop-place.rest.now (c.in-Some.place + 1) (λ e. cc) c.loop-place.invariant
-      (prints_same _ _ _ _ _ _ c.split_at.ensures.front c.in-Write.ensures.prints);
-}
+pub returns-in-Write-clause-prints : goal.returns-in-Write-clause-prints
+returns-in-Write-clause-prints g c =
+    text_stops _ Write _ _ _ _ c.loop-place.rest.now (c.in-Some.place + 1) (λ e. cc) c.loop-place.invariant
+    (prints_same _ _ _ _ _ _ c.split_at.ensures.front c.in-Write.ensures.prints)
 
 pub loop-place-smaller : goal.loop-place-smaller
 loop-place-smaller g c =
@@ -31,5 +30,6 @@ loop-place-preserved g c =
     rw c.split_at.ensures.back (text_goes_on _ _ _ _ _ c.loop-place.rest.now (c.in-Some.place + 1) c.loop-place.invariant
     (prints_same _ _ _ _ _ _ c.split_at.ensures.front c.in-Done.ensures.prints))
 
-pub returns : goal.returns
-returns g c = record { prints = text_ends _ _ _ _ c.loop-place.rest.now (sym c.in_default.is ∙ c.feed_place.ensures) c.loop-place.invariant }
+pub returns-clause-prints : goal.returns-clause-prints
+returns-clause-prints g c =
+    text_ends _ _ _ _ c.loop-place.rest.now (sym c.in_default.is ∙ c.feed_place.ensures) c.loop-place.invariant
