@@ -12,6 +12,7 @@ use Rattle.i9_model.specs.PrintedText.{out_lines, point_lines, record_lines}
 use Rattle.i9_processor.specs.State.{state_of}
 use Rattle.i9_model.specs.declared.run.Due.{Due}
 use Rattle.i9_model.specs.declared.run.Due.TheVariants as dues
+use Rattle.i9_processor.specs.declared.effect.Effect.{Effect}
 use Rattle.i9_processor.specs.Effect.{writes_in, HasRoomFor, is_restart}
 use Rattle.i9_processor.proofs.Rooms.{room_space}
 use Rattle.i9_machine.specs.Doing.{point_count, line_count, HasRoomForStep}
@@ -75,18 +76,18 @@ lines_long b p s = length-append (out_lines b) (point_lines p s) ∙ ap (λ (n :
 -- ---- room
 
 -- room for what comes next is room for the step that does it
-pub step_room : (m : Machine) (spare : ℕ) (step : Step) → IsStep m step → HasRoom m spare (next_for m) → HasRoomForStep m spare step
-step_room m spare step is room =
+pub step_room : (m : Machine) (spare : ℕ) (step : Step) (e : Effect) → IsStep m step e → HasRoom m spare (next_for m) → HasRoomForStep m spare e step
+step_room m spare step e is room =
     let s = state_of m.processor in
     let r = record_of is.kind s in
     let here : HasRoomToDo m spare r = subst (HasRoom m spare) is.is_next room in
-    let bytes = console_byte (writes_in step.effect) in
-    let lines : length (record_lines r) ≡ line_count step =
+    let bytes = console_byte (writes_in e) in
+    let lines : length (record_lines r) ≡ line_count e step =
     lines_long (console_byte (action_done r).writes) (point_of is.kind) r.after
     ∙ ap (λ (a : Action). length (out_lines (console_byte a.writes)) + point_count (point_of is.kind)) (sym is.effect.same)
     ∙ ap (λ (p : Option Point). length (out_lines bytes) + point_count p) (sym is.point) in
     record {
       lines = subst (λ (n : ℕ). n ≤ spare) lines here.lines;
-      effect = room_space m.processor s step.effect (subst (HasRoomFor m.processor) (sym is.effect.same) here.effect);
+      effect = room_space m.processor s e (subst (HasRoomFor m.processor) (sym is.effect.same) here.effect);
       no_sets = ap (λ (a : Action). is_restart a.control) is.effect.same ∙ here.no_sets;
     }

@@ -5,6 +5,7 @@ use Rattle.i9_model.specs.State.{State}
 use Rattle.i9_model.specs.Run.{Kind, Instruction, Faulted, Entered, Record, Next, Does, Ends, next_in, due_by, faulted_words, action_by_kind, counts_of, point_of, record_of, action_done}
 use Rattle.i9_model.specs.Alike.{AreAlike}
 use Rattle.i9_model.specs.PrintedText.{record_lines, end_lines}
+use Rattle.i9_processor.specs.declared.effect.Effect.{Effect}
 use Rattle.i9_processor.specs.Effect.{IsEffect, HasRoomFor, cache_through, size_through, has_writes, is_restart}
 use Rattle.i9_processor.specs.State.{state_of, cache_of, size_of}
 use Rattle.i9_model.specs.declared.run.End.{End}
@@ -56,10 +57,10 @@ HasRoom m spare (Does r) = HasRoomToDo m spare r
 -- ---- what a step is to do
 
 -- what comes next is a record of this effect, drained point and count, which makes this due and is answered so
-pub record IsStep (m : Machine) (step : Step) : Type 0 where
+pub record IsStep (m : Machine) (step : Step) (e : Effect) : Type 0 where
   pub kind : Kind
   pub is_next : next_for m ≡ Does (record_of kind (state_of m.processor))
-  pub effect : IsEffect (state_of m.processor) (action_by_kind kind (state_of m.processor)) step.effect
+  pub effect : IsEffect (state_of m.processor) (action_by_kind kind (state_of m.processor)) e
   pub point : step.point ≡ point_of kind
   pub counts : step.counts ≡ counts_of kind
   pub due : step.due ≡ due_by kind (state_of m.processor)
@@ -68,9 +69,9 @@ pub record IsStep (m : Machine) (step : Step) : Type 0 where
   pub fewer : pending step.due + 1 ≤ 2 * step.counts + pending m.due
 
 -- what comes next is such a record, or this end
-abbrev pub IsNext : Machine → Result Step End → Type 0
-IsNext m (Ok step) = IsStep m step
-IsNext m (Err e) = next_for m ≡ Ends e
+abbrev pub IsNext : Machine → Result Step End → Effect → Type 0
+IsNext m (Ok step) e = IsStep m step e
+IsNext m (Err f) e = next_for m ≡ Ends f
 
 -- ---- what it has done
 

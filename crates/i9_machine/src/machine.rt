@@ -22,7 +22,7 @@ use i9_hex::Segments;
 use i9_isa::NoMemory;
 use i9_model::layout::MAX_LENGTH;
 use i9_model::{Due, End, View};
-use i9_processor::Processor;
+use i9_processor::{Effect, Processor};
 use std::alloc::Global;
 
 /// A machine that runs an image: what an instruction may read or change, the length of the run, what
@@ -99,8 +99,9 @@ impl Machine {
         ensures lacking { result ≡ Turn.Memory → HasRoom self.old (vec_capacity out.old - vec_len out.old) (next_for self.old) → ⊥ }
         ensures fewer { LeavesFewer result (steps_left self.old) (steps_left self.new) }
     {
-        match self.planned() {
-            Ok(step) => self.perform(&step, out),
+        let mut effect = Effect::blank();
+        match self.plan(&mut effect) {
+            Ok(step) => self.perform(&step, &effect, out),
             Err(end) => self.finish(end, out),
         }
     }

@@ -1,5 +1,5 @@
 -- What is planned, in the plain forms of the definitions.
-use Rattle.std.specs.Prelude.{◌≡◌, ℕ, ◌==◌, if◌then◌else◌, Some, None, Result, Ok, Err}
+use Rattle.std.specs.Prelude.{◌≡◌, ℕ, ◌==◌, if◌then◌else◌, Option, Some, None, Result, Ok, Err}
 use Rattle.i9_isa.specs.declared.inst.Inst.{Inst}
 use Rattle.i9_isa.specs.Valid.{IsValid}
 use Rattle.i9_isa.specs.Words.{words_of, decoded}
@@ -30,7 +30,7 @@ standing_of (plans.Meets a) = plain.Meets a
 standing_of plans.NotBuilt = plain.NotBuilt
 standing_of (plans.Refused words number) = plain.Refused number
 standing_of (plans.Faults words i number) = plain.Faults i number
-standing_of (plans.Runs words i e) = plain.Runs i
+standing_of (plans.Runs words i) = plain.Runs i
 
 -- the words of an instruction of so many, the second one as 0 where there is none
 pub record TellsWords (count : ℕ) (s : State) (words : Words) : Type 0 where
@@ -51,12 +51,12 @@ IsFetched s (Err (unreads.Meets a)) = fetch_hazard s ≡ Some a
 IsFetched s (Err (unreads.Refused first why)) = (fetch_hazard s ≡ None) × (decoded (first_word s) (next_word s) ≡ Err why) × (first ≡ first_word s)
 
 -- its words are told, and its effect is its action
-abbrev pub IsPlanned : State → Planned → Type 0
-IsPlanned s (plans.Meets a) = Unit {0}
-IsPlanned s plans.NotBuilt = Unit {0}
-IsPlanned s (plans.Refused words number) = TellsWords 1 s words
-IsPlanned s (plans.Faults words i number) = TellsWords (words_of i) s words
-IsPlanned s (plans.Runs words i e) = TellsWords (words_of i) s words × IsEffect s (action_of i s) e
+abbrev pub IsPlanned : State → Planned → Effect → Type 0
+IsPlanned s (plans.Meets a) e = Unit {0}
+IsPlanned s plans.NotBuilt e = Unit {0}
+IsPlanned s (plans.Refused words number) e = TellsWords 1 s words
+IsPlanned s (plans.Faults words i number) e = TellsWords (words_of i) s words
+IsPlanned s (plans.Runs words i) e = TellsWords (words_of i) s words × IsEffect s (action_of i s) e
 
 -- an effect by which nothing is done, but control goes on behind an instruction
 pub record Passes (s : State) (i : Inst) (e : Effect) : Type 0 where
@@ -82,6 +82,11 @@ HasEffect s i outcomes.Runs e = IsEffect s (action_of i s) e
 abbrev pub IsPlanFor : State → Access → Action → Result Effect ℕ → Type 0
 IsPlanFor s access action (Ok e) = (hazard_in s access ≡ None) × IsEffect s action e
 IsPlanFor s access action (Err a) = hazard_in s access ≡ Some a
+
+-- the hazard of an access, or none where an effect is the action
+abbrev pub Plans : State → Access → Action → Option ℕ → Effect → Type 0
+Plans s access action None e = (hazard_in s access ≡ None) × IsEffect s action e
+Plans s access action (Some a) e = hazard_in s access ≡ Some a
 
 -- what a message of sysctl does, or the hazard of its tables
 abbrev pub PlansMessage : Message → Inst → State → Result Effect ℕ → Type 0

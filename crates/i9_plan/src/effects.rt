@@ -1,7 +1,7 @@
 //! The effects that others are made of.
 ghost use Rattle.std.specs.Prelude.{◌≡◌, ◌+◌, ◌≤◌, ◌∷◌, ◌++◌, [], Option, length};
 ghost use Rattle.i9_isa.specs.Valid.{IsValid};
-ghost use Rattle.i9_model.specs.Step.{going, assigning, answering, jumping, linking, faulting};
+ghost use Rattle.i9_model.specs.Step.{going, passing, assigning, answering, jumping, linking, faulting};
 ghost use Rattle.i9_model.specs.Run.{faulted_words};
 ghost use Rattle.i9_processor.specs.Effect.{IsEffect};
 ghost use Rattle.i9_processor.specs.State.{state_of};
@@ -21,11 +21,18 @@ pub(crate) fn passing(p: &Processor, i: &Inst) -> Effect
     Effect::going(p, following(p, i))
 }
 
-/// What an instruction of so many words does that faults: control goes behind it.
-pub fn plan_faulting(p: &Processor, words: u32) -> Effect
-    ensures { IsEffect (state_of p.now) (faulting words (state_of p.now)) result }
+/// An effect becomes the one by which nothing is done.
+pub(crate) fn pass(p: &Processor, i: &Inst, effect: &mut Effect)
+    ensures { Passes (state_of p.now) i.now effect.new }
 {
-    Effect::going(p, p.ip().wrapping_add(words.wrapping_mul(4)))
+    effect.go(p, following(p, i));
+}
+
+/// What an instruction of so many words does that faults: control goes behind it.
+pub fn plan_faulting(p: &Processor, words: u32, effect: &mut Effect)
+    ensures { IsEffect (state_of p.now) (faulting words (state_of p.now)) effect.new }
+{
+    effect.go(p, p.ip().wrapping_add(words.wrapping_mul(4)));
 }
 
 /// Control goes to an address, and a destination gets values.
@@ -41,6 +48,24 @@ pub(crate) fn assigning(
     match o {
         Operand::Reg(r) => Effect::setting(p, next, r, values),
         _ => Effect::going(p, next),
+    }
+}
+
+/// A destination gets values.
+pub(crate) fn assign(
+    p: &Processor,
+    i: &Inst,
+    o: Operand,
+    values: ArrayVec<u32, MOST_VALUES>,
+    effect: &mut Effect,
+)
+    requires group { HasGroup o (length values.items) }
+    requires passes { Passes (state_of p.now) i.now effect.old }
+    ensures { IsEffect (state_of p.now) (assigning o values.items (passing i.now (state_of p.now))) effect.new }
+{
+    if let Operand::Reg(r) = o {
+        effect.register = r;
+        effect.values = values;
     }
 }
 

@@ -54,11 +54,11 @@ fn fetch_long(p: &Processor, first: u32, inst: Inst) -> Result<Fetched, Unread>
     ensures { IsFetched (state_of p.now) result }
 {
     let at = p.ip().wrapping_add(4);
-    let second = p.word(at);
-    let inst = with_second(inst, second);
     if let Some(a) = p.check_read(at, 4) {
         return Err(Unread::Meets(a));
     }
+    let second = p.hard_word(at);
+    let inst = with_second(inst, second);
     Ok(Fetched {
         words: Words { first, second },
         inst,
@@ -74,7 +74,7 @@ pub(crate) fn fetch(p: &Processor) -> Result<Fetched, Unread>
     if let Some(a) = p.check_read(p.ip(), 4) {
         return Err(Unread::Meets(a));
     }
-    let first = p.word(p.ip());
+    let first = p.hard_word(p.ip());
     match decode(first, 0) {
         Err(why) => Err(Unread::Refused { first, why }),
         Ok(inst) if word_count(&inst) == 1 => Ok(Fetched {

@@ -12,7 +12,7 @@ ghost use Rattle.i9_model.specs.Unbuilt.{is_built};
 ghost use Rattle.i9_processor.specs.Effect.{IsEffect};
 ghost use Rattle.i9_processor.specs.State.{state_of};
 ghost use Rattle.i9_plan.specs.Built.{is_branch};
-ghost use Rattle.i9_plan.specs.Planned.{standing_in, HasEffect, IsPlanFor, Passes};
+ghost use Rattle.i9_plan.specs.Planned.{standing_in, HasEffect, IsPlanFor, Plans, Passes};
 
 use crate::built::{is_branch, is_fault_name};
 use crate::calls::{plan_call, plan_calls, plan_return};
@@ -168,18 +168,37 @@ fn plan_by_name(p: &Processor, i: &Inst) -> Result<Effect, u32>
     }
 }
 
-/// What an instruction does that neither branches nor has a result, or the hazard of its access.
-#[tactic(auto, unfolding(i9_model::specs::Step::action_of), using(crate::proofs::ValidGroups::group_rules))]
-fn plan(p: &Processor, i: &Inst) -> Result<Effect, u32>
+/// What an instruction does that neither branches nor has a result, nor moves data, or the hazard of its access.
+fn plan_named(p: &Processor, i: &Inst, effect: &mut Effect) -> Option<u32>
     requires valid { IsValid i.now }
     requires calm { raised_in i.now (state_of p.now) ≡ None }
     requires result { has_result i.now.op ≡ false }
     requires branch { is_branch i.now.op ≡ false }
-    ensures { IsPlanFor (state_of p.now) (access_of i.now (state_of p.now)) (action_of i.now (state_of p.now)) result }
+    ensures { Plans (state_of p.now) (access_by_name i.now.op i.now (state_of p.now))
+        (action_by_name i.now.op i.now (state_of p.now)) result effect.new }
+{
+    match plan_by_name(p, i) {
+        Ok(planned) => {
+            *effect = planned;
+            None
+        }
+        Err(a) => Some(a),
+    }
+}
+
+/// What an instruction does that neither branches nor has a result, or the hazard of its access.
+#[tactic(auto, unfolding(i9_model::specs::Step::action_of), using(crate::proofs::ValidGroups::group_rules))]
+fn plan(p: &Processor, i: &Inst, effect: &mut Effect) -> Option<u32>
+    requires valid { IsValid i.now }
+    requires calm { raised_in i.now (state_of p.now) ≡ None }
+    requires result { has_result i.now.op ≡ false }
+    requires branch { is_branch i.now.op ≡ false }
+    requires passes { Passes (state_of p.now) i.now effect.old }
+    ensures { Plans (state_of p.now) (access_of i.now (state_of p.now)) (action_of i.now (state_of p.now)) result effect.new }
 {
     match transfer(i.op) {
-        Some(t) => plan_transfer(p, i, t),
-        None => plan_by_name(p, i),
+        Some(t) => plan_transfer(p, i, t, effect),
+        None => plan_named(p, i, effect),
     }
 }
 
@@ -189,6 +208,7 @@ fn plain_outcome(p: &Processor, i: &Inst, effect: &mut Effect) -> Outcome
     requires valid { IsValid i.now }
     requires result { has_result i.now.op ≡ false }
     requires branch { is_branch i.now.op ≡ false }
+    requires passes { Passes (state_of p.now) i.now effect.old }
     ensures standing { standing_in i.now result ≡ by_raised i.now (state_of p.now) (raised_in i.now (state_of p.now)) }
     ensures effect { HasEffect (state_of p.now) i.now result effect.new }
 {
@@ -196,12 +216,9 @@ fn plain_outcome(p: &Processor, i: &Inst, effect: &mut Effect) -> Outcome
         return Outcome::Faults(number);
     }
     results_by_name();
-    match plan(p, i) {
-        Ok(planned) => {
-            *effect = planned;
-            Outcome::Runs
-        }
-        Err(a) => Outcome::Meets(a),
+    match plan(p, i, effect) {
+        None => Outcome::Runs,
+        Some(a) => Outcome::Meets(a),
     }
 }
 

@@ -4,7 +4,7 @@ ghost use Rattle.i9_model.specs.Standing.{stands_at};
 ghost use Rattle.i9_processor.specs.State.{state_of};
 ghost use Rattle.i9_plan.specs.Planned.{standing_of, IsFetched, IsPlanned};
 
-use crate::effects::passing;
+use crate::effects::pass;
 use crate::fetched::{Fetched, Unread, Words, fetch};
 use crate::outcome::{Outcome, outcome_of};
 use crate::raised::{is_built, word_fault};
@@ -31,11 +31,10 @@ pub enum Planned {
         inst: Inst,
         number: (u8, u16),
     },
-    /// An instruction that is done, with what it does.
+    /// An instruction that is done.
     Runs {
         words: Words,
         inst: Inst,
-        effect: Effect,
     },
 }
 
@@ -45,7 +44,7 @@ pub enum Planned {
 fn unread(p: &Processor, why: Unread) -> Planned
     requires { IsFetched (state_of p.now) (Err why) }
     ensures standing { standing_of result ≡ stands_at (state_of p.now) }
-    ensures planned { IsPlanned (state_of p.now) result }
+    ensures planned { (e : Effect) → IsPlanned (state_of p.now) result e }
 {
     match why {
         Unread::Meets(a) => Planned::Meets(a),
@@ -59,13 +58,14 @@ fn unread(p: &Processor, why: Unread) -> Planned
 
 /// What stands at the instruction address: the hazard of its fetch, which comes first; an instruction
 /// that is refused, or that faults, or that is not built; the hazard of its access; or what it does.
-/// Each result is worked out once (the i960 CA/CF User's Manual, instruction set and faults).
-// It is no part of the code that calls it: LLVM would take its plan apart there, and move it piece by piece.
+/// Each result is worked out once, and the effect of what is done is made in `effect` (the i960 CA/CF
+/// User's Manual, instruction set and faults).
+// It is no part of the code that calls it: LLVM would take the effect apart there, and move it piece by piece.
 #[inline(never)]
 #[tactic(auto, unfolding(i9_model::specs::Standing::stands_at))]
-pub fn plan_next(p: &Processor) -> Planned
+pub fn plan_next(p: &Processor, effect: &mut Effect) -> Planned
     ensures standing { standing_of result ≡ stands_at (state_of p.now) }
-    ensures planned { IsPlanned (state_of p.now) result }
+    ensures planned { IsPlanned (state_of p.now) result effect.new }
 {
     let Fetched { words, inst } = match fetch(p) {
         Ok(fetched) => fetched,
@@ -74,8 +74,8 @@ pub fn plan_next(p: &Processor) -> Planned
     if bit(p.pc(), TRACE_ENABLE_PLACE) || !is_built(p, &inst) {
         return Planned::NotBuilt;
     }
-    let mut effect = passing(p, &inst);
-    match outcome_of(p, &inst, &mut effect) {
+    pass(p, &inst, effect);
+    match outcome_of(p, &inst, effect) {
         Outcome::Meets(a) => Planned::Meets(a),
         Outcome::NotBuilt => Planned::NotBuilt,
         Outcome::Faults(number) => Planned::Faults {
@@ -83,10 +83,6 @@ pub fn plan_next(p: &Processor) -> Planned
             inst,
             number,
         },
-        Outcome::Runs => Planned::Runs {
-            words,
-            inst,
-            effect,
-        },
+        Outcome::Runs => Planned::Runs { words, inst },
     }
 }

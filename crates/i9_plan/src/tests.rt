@@ -236,12 +236,19 @@ const STOPS: [(u32, u32, u32, Seen); 18] = [
 fn plans_stops(rt: HostRuntime) -> Result<(), Fail> {
     for (ac, pc, word, wanted) in STOPS {
         let p = ready(rt.alloc(), 0x1000, (word, 0), ac, pc)?;
-        assert_eq!(rt; seen_of(&plan_next(&p)), wanted, "{word}");
+        assert_eq!(rt;
+            seen_of(&plan_next(&p, &mut Effect::blank())),
+            wanted,
+            "{word}"
+        );
     }
     // The words themselves stand in the live frame: the first one, or the second.
     for (at, hazard) in [(0x3002, 0x3002), (0x2FFC, 0x3000)] {
         let p = ready(rt.alloc(), at, (0x8CA8_3000, 0), 0, PC)?;
-        assert_eq!(rt; seen_of(&plan_next(&p)), Meets(hazard));
+        assert_eq!(rt;
+            seen_of(&plan_next(&p, &mut Effect::blank())),
+            Meets(hazard)
+        );
     }
     Ok(())
 }
@@ -307,12 +314,9 @@ const RESULTS: [(u32, u32, Op, Option<(u8, u32)>, (u32, u32, u32, u32)); 13] = [
 fn plans_results(rt: HostRuntime) -> Result<(), Fail> {
     for (ac, word, op, set, controls) in RESULTS {
         let p = ready(rt.alloc(), 0x1000, (word, 0x1234), ac, PC)?;
-        match plan_next(&p) {
-            Planned::Runs {
-                words,
-                inst,
-                effect,
-            } => {
+        let mut effect = Effect::blank();
+        match plan_next(&p, &mut effect) {
+            Planned::Runs { words, inst } => {
                 let second = if op == Op::Lda { 0x1234 } else { 0 };
                 assert_eq!(rt;
                     words,
@@ -358,8 +362,9 @@ fn plans_moves(rt: HostRuntime) -> Result<(), Fail> {
     ];
     for (word, rest, set, next) in rows {
         let p = ready(rt.alloc(), 0x1000, (word, 0), 0, PC)?;
-        match plan_next(&p) {
-            Planned::Runs { effect, .. } => {
+        let mut effect = Effect::blank();
+        match plan_next(&p, &mut effect) {
+            Planned::Runs { .. } => {
                 assert_eq!(rt; rest_of(&effect), rest);
                 assert_eq!(rt; set_of(&effect), set);
                 assert_eq!(rt; controls_of(&effect), (0, PC, 0, next));
@@ -373,7 +378,8 @@ fn plans_moves(rt: HostRuntime) -> Result<(), Fail> {
 #[test]
 fn plans_faults(rt: HostRuntime) -> Result<(), Fail> {
     let p = ready(rt.alloc(), 0x1000, (0, 0), PRECISE, PC)?;
-    let faulting = plan_faulting(&p, 2);
+    let mut faulting = Effect::blank();
+    plan_faulting(&p, 2, &mut faulting);
     assert_eq!(rt; (rest_of(&faulting), set_of(&faulting)), (Nothing, None));
     assert_eq!(rt; controls_of(&faulting), (PRECISE, PC, 0, 0x1008));
     let fault = Fault {

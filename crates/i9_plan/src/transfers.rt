@@ -11,10 +11,10 @@ ghost use Rattle.i9_model.specs.Step.{extended, filled, loaded, stored_of, loadi
 ghost use Rattle.i9_model.specs.Step.{atomic_address, atomic, merged, answering};
 ghost use Rattle.i9_processor.specs.State.{state_of};
 ghost use Rattle.i9_plan.specs.Built.{HasGroup};
-ghost use Rattle.i9_plan.specs.Planned.{IsPlanFor};
+ghost use Rattle.i9_plan.specs.Planned.{IsPlanFor, Plans, Passes};
 
-use crate::effects::{answering, append, assigning, listed, one_word, passing};
-use crate::sources::{address, atomic_address, following, source_words, value};
+use crate::effects::{answering, append, assign, listed, one_word};
+use crate::sources::{address, atomic_address, source_words, value};
 use crate::words::{merged, word_address};
 use arrayvec::ArrayVec;
 use i9_isa::{Direction, Inst, Operand, Size, Transfer};
@@ -105,46 +105,53 @@ fn stored(p: &Processor, size: Size, o: Operand, a: u32) -> ArrayVec<u8, MOST_BY
 }
 
 /// Registers are loaded.
-fn plan_load(p: &Processor, i: &Inst, size: Size, signed: bool) -> Result<Effect, u32>
+fn plan_load(p: &Processor, i: &Inst, size: Size, signed: bool, effect: &mut Effect) -> Option<u32>
     requires few { byte_count size ≤ 16 }
     requires group { HasGroup i.now.c (register_count size) }
-    ensures { IsPlanFor (state_of p.now) (Reads (address (state_of p.now) i.now.ea) (byte_count size))
-        (loading size signed i.now (state_of p.now)) result }
+    requires passes { Passes (state_of p.now) i.now effect.old }
+    ensures { Plans (state_of p.now) (Reads (address (state_of p.now) i.now.ea) (byte_count size))
+        (loading size signed i.now (state_of p.now)) result effect.new }
 {
     let a = address(p, &i.ea);
-    if let Some(hazard) = p.check_read(a, size.bytes()) {
-        return Err(hazard);
+    let hazard = p.check_read(a, size.bytes());
+    if hazard.is_none() {
+        assign(p, i, i.c, loaded(p, size, signed, a), effect);
     }
-    let values = loaded(p, size, signed, a);
-    Ok(assigning(p, following(p, i), i.c, values))
+    hazard
 }
 
 /// Registers are stored.
-fn plan_store(p: &Processor, i: &Inst, size: Size) -> Result<Effect, u32>
-    requires { byte_count size ≤ 16 }
-    ensures { IsPlanFor (state_of p.now) (Writes (address (state_of p.now) i.now.ea) (byte_count size))
-        (storing size i.now (state_of p.now)) result }
+fn plan_store(p: &Processor, i: &Inst, size: Size, effect: &mut Effect) -> Option<u32>
+    requires few { byte_count size ≤ 16 }
+    requires passes { Passes (state_of p.now) i.now effect.old }
+    ensures { Plans (state_of p.now) (Writes (address (state_of p.now) i.now.ea) (byte_count size))
+        (storing size i.now (state_of p.now)) result effect.new }
 {
     let a = address(p, &i.ea);
-    if let Some(hazard) = p.check_write(a, size.bytes()) {
-        return Err(hazard);
+    let hazard = p.check_write(a, size.bytes());
+    if hazard.is_none() {
+        effect.address = a;
+        effect.bytes = stored(p, size, i.c, a);
     }
-    let mut effect = passing(p, i);
-    effect.address = a;
-    effect.bytes = stored(p, size, i.c, a);
-    Ok(effect)
+    hazard
 }
 
 /// A load or a store.
-pub(crate) fn plan_transfer(p: &Processor, i: &Inst, t: Transfer) -> Result<Effect, u32>
+pub(crate) fn plan_transfer(
+    p: &Processor,
+    i: &Inst,
+    t: Transfer,
+    effect: &mut Effect,
+) -> Option<u32>
     requires few { byte_count t.size ≤ 16 }
     requires group { t.direction ≡ Direction.Load → HasGroup i.now.c (register_count t.size) }
-    ensures { IsPlanFor (state_of p.now) (moved_access t.direction (address (state_of p.now) i.now.ea) (byte_count t.size))
-        (transferring t i.now (state_of p.now)) result }
+    requires passes { Passes (state_of p.now) i.now effect.old }
+    ensures { Plans (state_of p.now) (moved_access t.direction (address (state_of p.now) i.now.ea) (byte_count t.size))
+        (transferring t i.now (state_of p.now)) result effect.new }
 {
     match t.direction {
-        Direction::Load => plan_load(p, i, t.size, t.signed),
-        Direction::Store => plan_store(p, i, t.size),
+        Direction::Load => plan_load(p, i, t.size, t.signed, effect),
+        Direction::Store => plan_store(p, i, t.size, effect),
     }
 }
 

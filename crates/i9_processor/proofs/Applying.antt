@@ -1,21 +1,22 @@
 -- What was planned in a state can be done in one that is alike, and leaves states that are alike.
-use Rattle.std.proofs.Common.{◌≡◌, ℕ, ◌%◌, ◌<◌, ◌||◌, nat_lt, Bool, true, List, [], ◌∷◌, length, refl, sym, ap, ◌∙◌, subst, arith}
-use Rattle.std.specs.Prelude.{max}
+use Rattle.std.proofs.Common.{◌≡◌, ℕ, ◌%◌, ◌<◌, ◌||◌, ◌&&◌, ◌==◌, nat_lt, Bool, true, false, List, [], ◌∷◌, length, refl, sym, ap, ◌∙◌, subst, arith}
+use Rattle.std.specs.Prelude.{max, not}
 use Rattle.std.proofs.lemmas.Bool.{or_left, or_right}
 use Rattle.std.proofs.lemmas.Bool.Decides.{nat_tests}
 use Rattle.i9_model.specs.declared.layout.TheConstants.{LEAST_SETS, LOCALS, PRCB_POINTER}
 use Rattle.i9_model.specs.declared.setup.Setup.{Setup}
 use Rattle.i9_model.specs.Boot.{table_word, setup_of, boot_setup, with_boot_bytes}
-use Rattle.i9_model.specs.Memory.{Memory, word_in}
-use Rattle.i9_model.specs.State.{State}
+use Rattle.i9_model.specs.Memory.{Memory, word_in, with_writes}
+use Rattle.i9_model.specs.Frames.{is_put, wrote}
+use Rattle.i9_model.specs.State.{State, Frames}
 use Rattle.i9_model.specs.Tables.{tables_hazard, group_hazard}
 use Rattle.i9_model.specs.Controls as plain
-use Rattle.i9_model.specs.Writes.{upwards}
+use Rattle.i9_model.specs.Writes.{written, upwards}
 use Rattle.i9_model.specs.Step.{Move, Action, saved_locals, moved, acted, counted}
 use Rattle.i9_model.specs.Alike.{AreAlike}
 use Rattle.i9_model.specs.Free.{IsFree}
 use Rattle.i9_model.specs.Sound.{IsSound}
-use Rattle.i9_model.specs.HeldFrames.{overlaid, cache_acted, AreYoungest}
+use Rattle.i9_model.specs.HeldFrames.{Cache, overlaid, cache_stored, cache_acted, AreYoungest}
 use Rattle.i9_model.proofs.HeldRuns.{moved_cached}
 use Rattle.i9_storage.proofs.Known.{frames_sound, held_youngest}
 use Rattle.i9_model.proofs.AlikeActions.{hard_bytes}
@@ -54,6 +55,32 @@ sets_few m u e =
     let w = table_word (with_boot_bytes m) (word_in (with_boot_bytes m) PRCB_POINTER) 9 in
     let same : u.sets ≡ max LEAST_SETS (w % 16) = ap (λ (x : Setup). x.sets) e in
     (omega (arith, same), omega (arith, same))
+
+-- ---- where no byte is stored
+
+pub none_wrote : (f : Frames) → wrote f [] ≡ f
+unfolding is_put
+none_wrote f =
+    let soft : ◌≡◌ {A = ℕ → Bool} (λ x. f.soft x && not (is_put [] x)) f.soft = λ i x. and_true (f.soft x) i in
+    ap (λ (g : ℕ → Bool). record f { soft = g }) soft
+  where
+    and_true : (b : Bool) → (b && true) ≡ b
+    and_true true = refl
+    and_true false = refl
+
+pub no_bytes_cache : (c : Cache) (a : ℕ) (bs : List ℕ) → (length bs == 0) ≡ true → c ≡ cache_stored (upwards a bs) c
+unfolding written
+no_bytes_cache c a [] none = refl
+no_bytes_cache c a (b ∷ bs) none = absurd (grind (arith, nat_tests, none))
+
+pub no_bytes_memory : (m : Memory) (a : ℕ) (bs : List ℕ) → (length bs == 0) ≡ true → m ≡ with_writes m (upwards a bs)
+unfolding written
+no_bytes_memory m a [] none = refl
+no_bytes_memory m a (b ∷ bs) none = absurd (grind (arith, nat_tests, none))
+
+pub no_bytes_frames : (f : Frames) (a : ℕ) (bs : List ℕ) → (length bs == 0) ≡ true → f ≡ wrote f (upwards a bs)
+no_bytes_frames f a [] none = sym (none_wrote f)
+no_bytes_frames f a (b ∷ bs) none = absurd (grind (arith, nat_tests, none))
 
 -- ---- what a processor keeps
 

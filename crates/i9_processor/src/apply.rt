@@ -1,16 +1,18 @@
 //! An effect applied.
-ghost use Rattle.std.specs.Prelude.{◌≡◌, ◌+◌, ◌*◌, ◌^◌, ◌<◌, OnOk, OnErr, IfSome, IsSome, [], ◌∷◌, replicate, true};
+ghost use Rattle.std.specs.Prelude.{◌≡◌, ◌+◌, ◌*◌, ◌^◌, ◌<◌, OnOk, OnErr, IfSome, IsSome, None, [], ◌∷◌, length, replicate, true};
 ghost use Rattle.i9_model.specs.Controls.{with_group, controlled};
 ghost use Rattle.i9_model.specs.State.{State, started};
-ghost use Rattle.i9_model.specs.Memory.{words_in};
+ghost use Rattle.i9_model.specs.Memory.{words_in, with_writes};
+ghost use Rattle.i9_model.specs.Frames.{wrote};
+ghost use Rattle.i9_model.specs.Hazards.{writes_hazard};
 ghost use Rattle.i9_model.specs.Writes.{written};
 ghost use Rattle.i9_model.specs.Step.{saved_locals, frames_after, moved, acted, counted};
 ghost use Rattle.i9_model.specs.Free.{IsFree};
 ghost use Rattle.i9_model.specs.Alike.{AreAlike};
-ghost use Rattle.i9_model.specs.HeldFrames.{overlaid, cache_moved, cache_acted, cache_configured};
+ghost use Rattle.i9_model.specs.HeldFrames.{overlaid, cache_moved, cache_acted, cache_configured, cache_stored};
 ghost use Rattle.i9_storage.specs.Storage as stores;
-ghost use Rattle.i9_storage.specs.Storage.{KeepsSpace};
-ghost use Rattle.i9_processor.specs.Effect.{action_in, move_in, sets_in, control_in, cache_through, size_with, is_costly, has_writes};
+ghost use Rattle.i9_storage.specs.Storage.{HasSpace, KeepsSpace};
+ghost use Rattle.i9_processor.specs.Effect.{action_in, writes_in, move_in, sets_in, control_in, cache_through, size_with, is_costly, has_writes};
 ghost use Rattle.i9_processor.specs.Effect.{AreRegisters, CanControl, CanMove, HasMoveSpace, HasSpaceFor, IsEmptied, CanTake};
 
 use crate::effect::{Control, Effect, Move};
@@ -40,6 +42,20 @@ fn reserve_move(storage: &mut Storage, m: &Move) -> Result<(), NoMemory>
     }
 }
 
+/// Stores the bytes of an effect. Most effects have none, and then nothing is looked up.
+fn store_bytes(storage: &mut Storage, e: &Effect)
+    requires space { HasSpace storage.old e.now.address (length e.now.bytes.items) }
+    requires free { writes_hazard (stores.frames_in storage.old) (writes_in e.now) ≡ None }
+    ensures cache { stores.cache_of storage.new ≡ cache_stored (writes_in e.now) (stores.cache_of storage.old) }
+    ensures memory { stores.memory_in storage.new ≡ with_writes (stores.memory_in storage.old) (writes_in e.now) }
+    ensures frames { stores.frames_in storage.new ≡ wrote (stores.frames_in storage.old) (writes_in e.now) }
+    ensures size { stores.size_of storage.new ≡ stores.size_of storage.old }
+{
+    if !e.bytes.is_empty() {
+        storage.store(e.address, e.bytes.as_slice());
+    }
+}
+
 /// The locals of a new frame: pfp, sp, and zeros.
 fn new_locals(push: &Push) -> [u32; LOCALS]
     ensures { result ≡ push.now.pfp ∷ push.now.sp ∷ replicate 14 0 }
@@ -60,6 +76,9 @@ impl Processor {
         ensures needed { OnErr result (has_writes (action_in (state_of self.old) e.now) ≡ true) }
         ensures lacking { OnErr result (HasSpaceFor self.old e.now → ⊥) }
     {
+        if e.bytes.is_empty() {
+            return reserve_move(&mut self.storage, &e.frames);
+        }
         self.storage.reserve(e.address, e.bytes.len() as u32)?;
         reserve_move(&mut self.storage, &e.frames)
     }
@@ -208,7 +227,7 @@ impl Processor {
         ensures count { (state_of self.new).count ≡ (state_of self.old).count }
     {
         self.move_frames(e);
-        self.storage.store(e.address, e.bytes.as_slice());
+        store_bytes(&mut self.storage, e);
         self.ac = e.ac;
         self.pc = e.pc;
         self.tc = e.tc;

@@ -109,6 +109,47 @@ impl Effect {
         Effect::setting(processor, next, 0, ArrayVec::new())
     }
 
+    /// An effect to plan in: it sets no register, stores no byte, and leaves frames alone.
+    pub fn blank() -> Effect
+        ensures values { result.values.items ≡ [] }
+        ensures bytes { result.bytes.items ≡ [] }
+        ensures frames { result.frames ≡ Move.Stays }
+        ensures control { result.control ≡ Control.Keeps }
+    {
+        Effect {
+            register: 0,
+            values: ArrayVec::new(),
+            address: 0,
+            bytes: ArrayVec::new(),
+            frames: Move::Stays,
+            ac: 0,
+            pc: 0,
+            tc: 0,
+            control: Control::Keeps,
+            next: 0,
+        }
+    }
+
+    /// Becomes the effect by which nothing is done, but control goes to an address.
+    pub fn go(&mut self, processor: &Processor, next: u32)
+        ensures effect { IsEffect (state_of processor.now) (going (state_of processor.now) next) self.new }
+        ensures values { self.new.values.items ≡ [] }
+        ensures bytes { self.new.bytes.items ≡ [] }
+        ensures frames { self.new.frames ≡ Move.Stays }
+        ensures control { self.new.control ≡ Control.Keeps }
+    {
+        self.register = 0;
+        self.values.clear();
+        self.address = 0;
+        self.bytes.clear();
+        self.frames = Move::Stays;
+        self.ac = processor.ac();
+        self.pc = processor.pc();
+        self.tc = processor.tc();
+        self.control = Control::Keeps;
+        self.next = next;
+    }
+
     /// The byte that is stored at an address.
     fn byte_at(&self, place: u32) -> Option<u8>
         ensures { result ≡ last_put (writes_in self.now) place }

@@ -145,6 +145,10 @@ fn reads_in_both_orders(rt: HostRuntime) -> Result<(), Fail> {
     ];
     for (a, wanted) in rows {
         assert_eq!(rt; (p.byte(a), p.half(a), p.word(a)), wanted);
+        match p.check_read(a, 4) {
+            None => assert_eq!(rt; p.hard_word(a), wanted.2),
+            Some(_) => assert!(rt; false, "{a}"),
+        }
     }
     assert_eq!(rt; (p.big(0), p.big(1), p.big(15)), (false, true, false));
     assert_eq!(rt; p.half_bytes(0x0FFF_FFFF, 0x1234), [0x34, 0x12]);
@@ -268,7 +272,8 @@ fn stores(p: &mut Processor, a: u32, bytes: (u8, u8)) -> Result<(), Fail> {
     if p.check_write(a, 2).is_some() {
         return Err("a hazard".into());
     }
-    let mut effect = Effect::going(p, 0x1308);
+    let mut effect = Effect::blank();
+    effect.go(p, 0x1308);
     effect.address = a;
     effect.bytes.push(bytes.0);
     effect.bytes.push(bytes.1);

@@ -100,6 +100,14 @@ use Step::{
     StoreHalf, StoreWord, Word,
 };
 
+/// Whether a word is read so where none of its bytes is soft.
+fn hard(storage: &Storage, a: u32, wanted: u32) -> bool {
+    match storage.watch().check_read(a, 4) {
+        None => storage.hard_word(a) == wanted,
+        Some(_) => true,
+    }
+}
+
 /// Does a step; false where the answer is another one.
 fn does(alloc: Global, storage: &mut Storage, step: Step) -> Result<bool, Fail> {
     match step {
@@ -117,7 +125,7 @@ fn does(alloc: Global, storage: &mut Storage, step: Step) -> Result<bool, Fail> 
         }
         Byte(a, wanted) => return Ok(storage.byte(a) == wanted),
         Half(a, wanted) => return Ok(storage.half(a) == wanted),
-        Word(a, wanted) => return Ok(storage.word(a) == wanted),
+        Word(a, wanted) => return Ok(storage.word(a) == wanted && hard(storage, a, wanted)),
         FrameWords(a, first, ninth) => {
             return Ok(storage.frame_words(a) == counting(first, ninth));
         }
@@ -408,5 +416,9 @@ fn reads_tables_where_nothing_is_held(rt: HostRuntime) -> Result<(), Fail> {
     assert_eq!(rt; storage.reinit(0x1236, 0x2000), Ok(setup));
     assert_eq!(rt; orders(&storage), [false, true, false, false]);
     assert_eq!(rt; storage.word(0x1000), 0x100);
+    assert_eq!(rt;
+        (storage.watch().soft(0x1000), hard(&storage, 0x1000, 0x100)),
+        (false, true)
+    );
     Ok(())
 }

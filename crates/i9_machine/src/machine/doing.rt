@@ -19,7 +19,7 @@ use crate::step::Step;
 use i9_frames::Sets;
 use i9_isa::NoMemory;
 use i9_model::{End, Point, View};
-use i9_processor::Control;
+use i9_processor::{Control, Effect};
 
 /// Adds the end point and the line of the end.
 fn put_end(e: End, view: View, out: &mut Vec<Line>) -> Result<(), NoMemory>
@@ -80,10 +80,10 @@ impl Step {
     ghost use Rattle.i9_machine.specs.Doing.{line_count};
 
     /// How many lines it prints: a byte of the console, and a drained point.
-    fn line_count(&self) -> usize
-        ensures { result ≡ line_count self.now }
+    fn line_count(&self, effect: &Effect) -> usize
+        ensures { result ≡ line_count effect.now self.now }
     {
-        usize::from(self.effect.console_byte().is_some()) + usize::from(self.point.is_some())
+        usize::from(effect.console_byte().is_some()) + usize::from(self.point.is_some())
     }
 }
 
@@ -127,30 +127,30 @@ impl Machine {
     }
 
     /// Makes room for what a step stores, saves and prints, and the new sets that it asks for.
-    fn make_room(&mut self, step: &Step, out: &mut Vec<Line>) -> Result<Option<Sets>, NoMemory>
+    fn make_room(&mut self, step: &Step, effect: &Effect, out: &mut Vec<Line>) -> Result<Option<Sets>, NoMemory>
         ensures same { IsSame self.old self.new }
         ensures ended { self.new.ended ≡ self.old.ended }
         ensures items { out.new.items ≡ out.old.items }
-        ensures space { OnOk result (HasSpaceFor self.new.processor step.now.effect) }
-        ensures lines { OnOk result (vec_len out.new + line_count step.now ≤ vec_capacity out.new) }
-        ensures made { IfOk result (AreMade self.old.sets (state_of self.old.processor).memory step.now.effect.control) }
-        ensures needed { OnErr result (asks_room (state_of self.old.processor) step.now ≡ true) }
-        ensures lacking { OnErr result (HasRoomForStep self.old (vec_capacity out.old - vec_len out.old) step.now → ⊥) }
+        ensures space { OnOk result (HasSpaceFor self.new.processor effect.now) }
+        ensures lines { OnOk result (vec_len out.new + line_count effect.now step.now ≤ vec_capacity out.new) }
+        ensures made { IfOk result (AreMade self.old.sets (state_of self.old.processor).memory effect.now.control) }
+        ensures needed { OnErr result (asks_room (state_of self.old.processor) effect.now step.now ≡ true) }
+        ensures lacking { OnErr result (HasRoomForStep self.old (vec_capacity out.old - vec_len out.old) effect.now step.now → ⊥) }
     {
-        let sets = self.make_sets(step.effect.control)?;
-        self.processor.reserve(&step.effect)?;
-        reserve_lines(step.line_count(), out)?;
+        let sets = self.make_sets(effect.control)?;
+        self.processor.reserve(effect)?;
+        reserve_lines(step.line_count(effect), out)?;
         Ok(sets)
     }
 
     /// Does what is planned, prints its lines, and keeps what is due afterwards.
-    fn act(&mut self, step: &Step, sets: Option<Sets>, out: &mut Vec<Line>) -> Turn
-        requires ready { IsReady (state_of self.old.processor) self.old.length step.now }
-        requires space { HasSpaceFor self.old.processor step.now.effect }
-        requires made { CanTake (move_in (state_of self.old.processor) step.now.effect.frames) sets }
-        requires lines { vec_len out.old + line_count step.now ≤ vec_capacity out.old }
-        ensures state { AreAlike (counted step.now.counts (acted (state_of self.old.processor) (action_in (state_of self.old.processor) step.now.effect))) (state_of self.new.processor) }
-        ensures cache { cache_of self.new.processor ≡ cache_through self.old.processor (action_in (state_of self.old.processor) step.now.effect) self.new.processor }
+    fn act(&mut self, step: &Step, effect: &Effect, sets: Option<Sets>, out: &mut Vec<Line>) -> Turn
+        requires ready { IsReady (state_of self.old.processor) self.old.length effect.now step.now }
+        requires space { HasSpaceFor self.old.processor effect.now }
+        requires made { CanTake (move_in (state_of self.old.processor) effect.now.frames) sets }
+        requires lines { vec_len out.old + line_count effect.now step.now ≤ vec_capacity out.old }
+        ensures state { AreAlike (counted step.now.counts (acted (state_of self.old.processor) (action_in (state_of self.old.processor) effect.now))) (state_of self.new.processor) }
+        ensures cache { cache_of self.new.processor ≡ cache_through self.old.processor (action_in (state_of self.old.processor) effect.now) self.new.processor }
         ensures size { size_of self.new.processor ≡ size_with sets (size_of self.old.processor) }
         ensures due { self.new.due ≡ step.now.due }
         ensures length { self.new.length ≡ self.old.length }
@@ -158,26 +158,26 @@ impl Machine {
         ensures ended { self.new.ended ≡ self.old.ended }
         ensures answer { result ≡ step.now.answer }
         ensures count { (state_of self.new.processor).count ≡ (state_of self.old.processor).count + step.now.counts }
-        ensures lines { AddsLines out.old.items out.new.items (lines_of step.now
-            (counted step.now.counts (acted (state_of self.old.processor) (action_in (state_of self.old.processor) step.now.effect)))) }
+        ensures lines { AddsLines out.old.items out.new.items (lines_of effect.now step.now
+            (counted step.now.counts (acted (state_of self.old.processor) (action_in (state_of self.old.processor) effect.now)))) }
     {
-        self.processor.apply(&step.effect, step.counts, sets);
+        self.processor.apply(effect, step.counts, sets);
         self.due = step.due;
-        put_out(step.effect.console_byte(), out);
+        put_out(effect.console_byte(), out);
         put_point(step.point, self.processor.view(), out);
         step.answer
     }
 
     /// Makes room for a step and does it.
-    pub(super) fn perform(&mut self, step: &Step, out: &mut Vec<Line>) -> Turn
+    pub(super) fn perform(&mut self, step: &Step, effect: &Effect, out: &mut Vec<Line>) -> Turn
         requires running { self.old.ended ≡ None }
-        requires step { IsStep self.old step.now }
+        requires step { IsStep self.old step.now effect.now }
         ensures steps { Steps self.old result self.new out.old.items out.new.items }
         ensures lacking { result ≡ Turn.Memory → HasRoom self.old (vec_capacity out.old - vec_len out.old) (next_for self.old) → ⊥ }
         ensures fewer { LeavesFewer result (steps_left self.old) (steps_left self.new) }
     {
-        match self.make_room(step, out) {
-            Ok(sets) => self.act(step, sets, out),
+        match self.make_room(step, effect, out) {
+            Ok(sets) => self.act(step, effect, sets, out),
             Err(_) => Turn::Memory,
         }
     }

@@ -58,38 +58,36 @@ impl Machine {
     }
 
     /// An instruction is done.
-    fn does(&self, words: Words, inst: &Inst, effect: Effect) -> Step
+    fn does(&self, words: Words, inst: &Inst, effect: &Effect) -> Step
         requires below { (state_of self.now.processor).count < self.now.length }
         requires is_next { next_for self.now ≡ Does (record_of (Instruction inst.now) (state_of self.now.processor)) }
         requires words { TellsWords (words_of inst.now) (state_of self.now.processor) words }
-        requires effect { IsEffect (state_of self.now.processor) (action_of inst.now (state_of self.now.processor)) effect }
-        ensures { IsStep self.now result }
+        requires effect { IsEffect (state_of self.now.processor) (action_of inst.now (state_of self.now.processor)) effect.now }
+        ensures { IsStep self.now result effect.now }
     {
-        let due = self.due_by(&effect);
         Step {
-            effect,
             point: point_by_name(inst.op),
             counts: 1,
-            due,
+            due: self.due_by(effect),
             answer: Turn::Issued(self.issued(words)),
         }
     }
 
     /// An instruction of so many words faults, and the entry of its fault is due.
-    fn faults(&self, words: Words, count: u32, number: (u8, u16)) -> Step
+    fn faults(&self, words: Words, count: u32, number: (u8, u16), effect: &mut Effect) -> Step
         requires below { (state_of self.now.processor).count < self.now.length }
         requires is_next { (inst : Option Inst) × (count ≡ faulted_words inst)
             × (next_for self.now ≡ Does (record_of (Faulted inst (fault_at (state_of self.now.processor) number)) (state_of self.now.processor))) }
         requires words { TellsWords count (state_of self.now.processor) words }
-        ensures { IsStep self.now result }
+        ensures { IsStep self.now result effect.new }
     {
         let fault = Fault {
             kind: number.0,
             subtype: number.1,
             address: self.processor.ip(),
         };
+        plan_faulting(&self.processor, count, effect);
         Step {
-            effect: plan_faulting(&self.processor, count),
             point: None,
             counts: 1,
             due: Due::Entry(fault),
@@ -98,55 +96,54 @@ impl Machine {
     }
 
     /// The next instruction, or the end that stands in its place.
-    fn next_instruction(&self) -> Result<Step, End>
+    fn next_instruction(&self, effect: &mut Effect) -> Result<Step, End>
         requires below { (state_of self.now.processor).count < self.now.length }
         requires free { self.now.due ≡ Due.Nothing }
-        ensures { IsNext self.now result }
+        ensures { IsNext self.now result effect.new }
     {
-        match plan_next(&self.processor) {
+        match plan_next(&self.processor, effect) {
             Planned::Meets(a) => Err(End::Hazard(a)),
             Planned::NotBuilt => Err(End::Unbuilt(self.processor.ip())),
-            Planned::Refused { words, number } => Ok(self.faults(words, 1, number)),
+            Planned::Refused { words, number } => Ok(self.faults(words, 1, number, effect)),
             Planned::Faults {
                 words,
                 inst,
                 number,
-            } => Ok(self.faults(words, word_count(&inst), number)),
-            Planned::Runs {
-                words,
-                inst,
-                effect,
-            } => Ok(self.does(words, &inst, effect)),
+            } => Ok(self.faults(words, word_count(&inst), number, effect)),
+            Planned::Runs { words, inst } => Ok(self.does(words, &inst, effect)),
         }
     }
 
     /// The entry of a fault, or the hazard or the dead entry of the fault table that ends the run.
-    fn entry(&self, fault: &Fault) -> Result<Step, End>
+    fn entry(&self, fault: &Fault, effect: &mut Effect) -> Result<Step, End>
         requires { self.now.due ≡ Due.Entry fault.now }
-        ensures { IsNext self.now result }
+        ensures { IsNext self.now result effect.new }
     {
         match plan_entry(&self.processor, fault) {
-            Ok(effect) => Ok(Step {
-                effect,
-                point: Some(Point::Fault),
-                counts: 0,
-                due: Due::Nothing,
-                answer: Turn::On,
-            }),
+            Ok(entry) => {
+                *effect = entry;
+                Ok(Step {
+                    point: Some(Point::Fault),
+                    counts: 0,
+                    due: Due::Nothing,
+                    answer: Turn::On,
+                })
+            }
             Err(FaultStop::Hazard(a)) => Err(End::Hazard(a)),
             Err(FaultStop::Dead { code, address }) => Err(End::Dead(code, address)),
         }
     }
 
-    /// What comes next: what is due, the end of the length, or one instruction.
-    pub(super) fn planned(&self) -> Result<Step, End>
-        ensures { IsNext self.now result }
+    /// What comes next: what is due, the end of the length, or one instruction. Its effect is made in
+    /// `effect`.
+    pub(super) fn plan(&self, effect: &mut Effect) -> Result<Step, End>
+        ensures { IsNext self.now result effect.new }
     {
         match &self.due {
             Due::End(e) => Err(*e),
-            Due::Entry(fault) => self.entry(fault),
+            Due::Entry(fault) => self.entry(fault, effect),
             Due::Nothing if self.processor.count() == self.length => Err(End::Limit),
-            Due::Nothing => self.next_instruction(),
+            Due::Nothing => self.next_instruction(effect),
         }
     }
 }

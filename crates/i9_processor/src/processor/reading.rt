@@ -1,5 +1,5 @@
 //! What is read of the state that a processor stands for.
-ghost use Rattle.std.specs.Prelude.{◌≡◌, ◌+◌, ◌*◌, ◌<◌};
+ghost use Rattle.std.specs.Prelude.{◌≡◌, ◌+◌, ◌*◌, ◌<◌, None};
 ghost use Rattle.i9_model.specs.declared.layout.TheConstants.{LOCALS};
 ghost use Rattle.i9_model.specs.Writes.{wrapped};
 ghost use Rattle.i9_model.specs.Memory.{half_in, word_in, half_bytes, word_bytes, is_big};
@@ -108,6 +108,15 @@ impl Processor {
         ensures { result ≡ word_in (state_of self.now).memory a }
     {
         self.storage.word(a)
+    }
+
+    /// The four bytes from `a` up, in the order of the region of `a`, where none of them is soft.
+    #[tactic(auto, unfolding(crate::specs::State::state_of))]
+    pub fn hard_word(&self, a: u32) -> u32
+        requires { read_hazard (state_of self.now).frames a 4 ≡ None }
+        ensures { result ≡ word_in (state_of self.now).memory a }
+    {
+        self.storage.hard_word(a)
     }
 
     /// Word `k` of the sixteen from `a` up, as of the frame that a return to `a` enters.

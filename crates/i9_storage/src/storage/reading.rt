@@ -1,6 +1,7 @@
 //! Bytes, halves and words of memory with the held frames laid over it.
-ghost use Rattle.std.specs.Prelude.{◌≡◌, ℕ, ◌+◌, ◌-◌, ◌*◌, ◌/◌, ◌%◌, ◌^◌, ◌<◌, false, IfNone, IfSome, length, slice_index, take};
+ghost use Rattle.std.specs.Prelude.{◌≡◌, ℕ, ◌+◌, ◌-◌, ◌*◌, ◌/◌, ◌%◌, ◌^◌, ◌<◌, false, None, IfNone, IfSome, length, slice_index, take};
 ghost use Rattle.i9_model.specs.declared.layout.TheConstants.{LOCALS, FRAME_SIZE};
+ghost use Rattle.i9_model.specs.Hazards.{read_hazard};
 ghost use Rattle.i9_model.specs.Memory.{in_port_page, is_big, half_in, word_in, words_in, half_bytes, word_bytes};
 ghost use Rattle.i9_model.specs.Writes.{wrapped};
 ghost use Rattle.i9_model.specs.HeldFrames.{over, overlaid, AreWhole};
@@ -70,7 +71,7 @@ fn overlaid_byte(memory: &Memory, sets: &Sets, a: u32) -> u8
 }
 
 impl Storage {
-    ghost use Rattle.i9_storage.specs.Storage.{memory_in};
+    ghost use Rattle.i9_storage.specs.Storage.{memory_in, frames_in};
 
     /// The byte at `a`; 0 in the port page. All bytes of held frames are soft, so the sets are looked
     /// at for a soft byte alone.
@@ -136,6 +137,16 @@ impl Storage {
         }
     }
 
+    /// The four bytes from `a` up, in the order of the region of `a`, where none of them is soft: memory
+    /// has them.
+    #[tactic(auto, using(crate::proofs::StoragePlans::hard_rules))]
+    pub fn hard_word(&self, a: u32) -> u32
+        requires { read_hazard (frames_in self.now) a 4 ≡ None }
+        ensures { result ≡ word_in (memory_in self.now) a }
+    {
+        self.memory.word(a)
+    }
+
     /// The four bytes from `a` up, in the order of the region of `a`. Where none is soft memory has
     /// them.
     #[tactic(auto, using(crate::proofs::StoragePlans::hard_rules))]
@@ -143,7 +154,7 @@ impl Storage {
         ensures { result ≡ word_in (memory_in self.now) a }
     {
         match self.watch.check_read(a, 4) {
-            None => self.memory.word(a),
+            None => self.hard_word(a),
             Some(_) => self.laid_word(a),
         }
     }

@@ -1,7 +1,7 @@
 use Rattle.std.proofs.Common.{◌≡◌, ℕ, ◌&&◌, Bool, true, false, List, [], None, refl, sym, ap, ◌∙◌, subst}
 use Rattle.std.specs.Prelude.{not}
 use Rattle.i9_model.specs.State.{State, Frames}
-use Rattle.i9_model.specs.Frames.{is_put, flushed, wrote}
+use Rattle.i9_model.specs.Frames.{flushed, wrote}
 use Rattle.i9_model.specs.Writes.{upwards, written}
 use Rattle.i9_model.specs.Memory.{with_writes}
 use Rattle.i9_model.specs.Tables.{tables_hazard, group_hazard}
@@ -13,17 +13,8 @@ use Rattle.i9_processor.specs.declared.effect.Control.{Control}
 use Rattle.i9_processor.specs.declared.effect.Control.TheVariants as kinds
 use Rattle.i9_processor.specs.Effect.{action_in, CanControl}
 use Rattle.i9_processor.specs.State.{state_of}
+use Rattle.i9_processor.proofs.Applying.{none_wrote}
 use Rattle.i9_processor.proofs.tests.controls.Goals as goal
-
-none_wrote : (f : Frames) → wrote f [] ≡ f
-unfolding is_put
-none_wrote f =
-    let soft : ◌≡◌ {A = ℕ → Bool} (λ x. f.soft x && not (is_put [] x)) f.soft = λ i x. and_true (f.soft x) i in
-    ap (λ (g : ℕ → Bool). record f { soft = g }) soft
-  where
-    and_true : (b : Bool) → (b && true) ≡ b
-    and_true true = refl
-    and_true false = refl
 
 -- behind a mere flush the tables are read as they are
 behind : (c : Control) (s : State) (a : Action) → a.move ≡ Flushes → a.writes ≡ [] → CanControl (record s { frames = flushed s.frames }) c → CanControl (moved s a) c

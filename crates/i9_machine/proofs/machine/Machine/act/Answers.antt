@@ -10,7 +10,7 @@ use Rattle.i9_machine.proofs.machine.Machine.act.Goals as goal
 pub returns-clause-lines : goal.returns-clause-lines
 returns-clause-lines c =
     let s = state_of c.args.self.now.processor in
-    let after = counted c.args.step.now.counts (acted s (action_in s c.args.step.now.effect)) in
+    let after = counted c.args.step.now.counts (acted s (action_in s c.args.effect.now)) in
     let points = point_lines (c.args.step.now.point) after in
     let old = map shown_of c.args.out.now.items in
     c.put_point.ensures after (c.view.ensures ∙ view_alike after (state_of c.apply.new.self) c.apply.ensures.state)

@@ -22,15 +22,15 @@ act-requires-clause-ready c =
     let s = state_of old.processor in
     let step = c.requires.step in
     let free = next_free old.length old.due s (record_of step.kind s) step.is_next in
-    let ready : IsReady s old.length c.args.step.now = record {
+    let ready : IsReady s old.length c.args.effect.now c.args.step.now = record {
       registers = step.effect.registers;
       moves = step.effect.moves;
       free = subst (IsFree s) (sym step.effect.same) free.1;
-      controls = subst (λ (a : Action). CanControl (moved s a) c.args.step.now.effect.control) (sym step.effect.same) step.effect.controls;
+      controls = subst (λ (a : Action). CanControl (moved s a) c.args.effect.now.control) (sym step.effect.same) step.effect.controls;
       below = step.below;
     } in
-    subst (λ (n : ℕ). IsReady (state_of c.make_room.new.self.processor) n c.args.step.now) (sym c.make_room.ensures.same.length)
-    (subst (λ (t : State). IsReady t old.length c.args.step.now) (sym c.make_room.ensures.same.state) ready)
+    subst (λ (n : ℕ). IsReady (state_of c.make_room.new.self.processor) n c.args.effect.now c.args.step.now) (sym c.make_room.ensures.same.length)
+    (subst (λ (t : State). IsReady t old.length c.args.effect.now c.args.step.now) (sym c.make_room.ensures.same.state) ready)
 
 pub act-requires-clause-made : goal.act-requires-clause-made
 act-requires-clause-made c =
@@ -38,9 +38,9 @@ act-requires-clause-made c =
     let s = state_of old.processor in
     let step = c.requires.step in
     let free = next_free old.length old.due s (record_of step.kind s) step.is_next in
-    let planned : IsFree s (action_in s c.args.step.now.effect) = subst (IsFree s) (sym step.effect.same) free.1 in
-    subst (λ (t : State). CanTake (move_in t c.args.step.now.effect.frames) c.in-Ok.sets) (sym c.make_room.ensures.same.state)
-    (made_takes old.sets s.memory c.args.step.now.effect.control c.in-Ok.sets (action_in s c.args.step.now.effect).move (action_in s c.args.step.now.effect).writes c.in-Ok.ensures.made planned.controls)
+    let planned : IsFree s (action_in s c.args.effect.now) = subst (IsFree s) (sym step.effect.same) free.1 in
+    subst (λ (t : State). CanTake (move_in t c.args.effect.now.frames) c.in-Ok.sets) (sym c.make_room.ensures.same.state)
+    (made_takes old.sets s.memory c.args.effect.now.control c.in-Ok.sets (action_in s c.args.effect.now).move (action_in s c.args.effect.now).writes c.in-Ok.ensures.made planned.controls)
 
 pub returns-in-Ok-clause-fewer : goal.returns-in-Ok-clause-fewer
 unfolding steps_left
@@ -66,4 +66,4 @@ returns-in-Ok-clause-lacking c = λ is room.
 pub returns-in-Err-clause-lacking : goal.returns-in-Err-clause-lacking
 returns-in-Err-clause-lacking c = λ is room.
     let out = c.args.out.now in
-    c.in-Err.ensures.lacking (step_room c.args.self.now (vec_capacity out - vec_len out) c.args.step.now c.requires.step room)
+    c.in-Err.ensures.lacking (step_room c.args.self.now (vec_capacity out - vec_len out) c.args.step.now c.args.effect.now c.requires.step room)

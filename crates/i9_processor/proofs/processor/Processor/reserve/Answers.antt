@@ -6,4 +6,4 @@ pub returns-clause-lacking : goal.returns-clause-lacking
 returns-clause-lacking c =
     let old = c.args.self.now.storage in
     let mid = c.reserve.new.self in
-    on_err_weaker c.reserve_move.result (λ lacks space. lacks (move_kept old mid c.args.e.now.frames c.reserve.ensures.frame_space space.frames)) c.reserve_move.ensures.lacking
+    on_err_weaker c.reserve_move-2.result (λ lacks space. lacks (move_kept old mid c.args.e.now.frames c.reserve.ensures.frame_space space.frames)) c.reserve_move-2.ensures.lacking
