@@ -54,11 +54,11 @@ fn fetch_long(p: &Processor, first: u32, inst: Inst) -> Result<Fetched, Unread>
     ensures { IsFetched (state_of p.now) result }
 {
     let at = p.ip().wrapping_add(4);
+    let second = p.word(at);
+    let inst = with_second(inst, second);
     if let Some(a) = p.check_read(at, 4) {
         return Err(Unread::Meets(a));
     }
-    let second = p.hard_word(at);
-    let inst = with_second(inst, second);
     Ok(Fetched {
         words: Words { first, second },
         inst,
