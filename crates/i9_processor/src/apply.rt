@@ -27,6 +27,8 @@ use i9_model::{Push, Setup};
 use i9_storage::Storage;
 
 /// Makes room for what is done to frames.
+// Two calls need it, and LLVM would keep it apart; most effects leave frames alone.
+#[inline(always)]
 fn reserve_move(storage: &mut Storage, m: &Move) -> Result<(), NoMemory>
     ensures cache { stores.cache_of storage.new ≡ stores.cache_of storage.old }
     ensures frames { stores.frames_in storage.new ≡ stores.frames_in storage.old }
