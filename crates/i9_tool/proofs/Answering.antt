@@ -1,5 +1,5 @@
 -- A status is answered for what was printed.
-use Rattle.std.proofs.Common.{◌≡◌, ℕ, ◌<◌, ◌≤◌, List, length, ◌+◌, Option, refl, sym, subst, add-zero, arith}
+use Rattle.std.proofs.Common.{ℕ, ◌<◌, List, length, ◌+◌, refl, sym, subst, add-zero, arith}
 use Rattle.i9_tool.specs.declared.print.Printed.{Printed}
 use Rattle.i9_tool.specs.declared.print.Printed.TheVariants.{Done, Write, Memory}
 use Rattle.i9_tool.specs.Print.{Account, Prints}

@@ -8,7 +8,6 @@ use Rattle.i9_model.specs.PrintedText.{text_of, lines_of, end_lines, run_text, e
 use Rattle.i9_hex.specs.Writing.{hex_text}
 use Rattle.i9_asm.proofs.Once.{assembly_once, refusal_once, never_both_answers}
 use Rattle.i9_text.specs.Text.{lines_of as text_lines}
-use Rattle.i9_model.specs.Image.{Part}
 use Rattle.i9_tool.specs.CommandLine.{Command, Run, Asm, image_word, source_word, refused_line}
 use Rattle.i9_model.proofs.Cuts.{past_by, state_by}
 use Rattle.i9_model.proofs.Unique.{same_records, same_end}

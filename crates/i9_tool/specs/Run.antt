@@ -1,5 +1,5 @@
 -- What running an image does to a sink.
-use Rattle.std.specs.Prelude.{◌≡◌, ℕ, List, Option}
+use Rattle.std.specs.Prelude.{◌≡◌, List}
 use Rattle.i9_model.specs.declared.run.End.{End}
 use Rattle.i9_model.specs.Run.{Given, Record, IsRun}
 use Rattle.i9_model.specs.PrintedText.{run_text}

@@ -1,4 +1,4 @@
-use Rattle.std.proofs.Common.{◌≡◌, ◌+◌, ◌<◌, ◌∙◌, length, sym, ap, arith, Some}
+use Rattle.std.proofs.Common.{◌≡◌, ◌+◌, ◌∙◌, sym, arith, Some}
 use Rattle.std.specs.List.{position}
 use Rattle.i9_text.specs.Text.{is_line_feed}
 use Rattle.i9_text.proofs.Cuts.{position_or_len-found}

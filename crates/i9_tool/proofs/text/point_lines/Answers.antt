@@ -1,4 +1,3 @@
-use Rattle.std.proofs.Common.{◌≡◌}
 use Rattle.i9_tool.proofs.LineCounts.{line-point, line-globals, line-locals}
 use Rattle.i9_tool.proofs.text.point_lines.Goals as goal
 
