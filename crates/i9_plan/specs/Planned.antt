@@ -1,8 +1,13 @@
 -- What is planned, in the plain forms of the definitions.
-use Rattle.std.specs.Prelude.{◌≡◌, ℕ, ◌==◌, if◌then◌else◌, Option, Some, None, Result, Ok, Err}
+use Rattle.std.specs.Prelude.{◌≡◌, ℕ, ◌≤◌, ◌==◌, if◌then◌else◌, Option, Some, None, Result, Ok, Err}
 use Rattle.i9_isa.specs.declared.inst.Inst.{Inst}
 use Rattle.i9_isa.specs.Valid.{IsValid}
 use Rattle.i9_isa.specs.Words.{words_of, decoded}
+use Rattle.i9_isa.specs.Table.{row_of}
+use Rattle.i9_isa.specs.Operands.{words_written}
+use Rattle.i9_isa.specs.declared.size.Direction.{Direction}
+use Rattle.i9_isa.specs.Transfers.{transfer_of, byte_count, register_count}
+use Rattle.i9_model.specs.Operands.{address}
 use Rattle.i9_model.specs.declared.faults.Fault.{Fault}
 use Rattle.i9_model.specs.declared.faults.Entry.{Entry}
 use Rattle.i9_model.specs.declared.faults.FaultStop.{FaultStop}
@@ -21,6 +26,7 @@ use Rattle.i9_plan.specs.declared.fetched.Unread.{Unread}
 use Rattle.i9_plan.specs.declared.fetched.Unread.TheVariants as unreads
 use Rattle.i9_plan.specs.declared.planned.Planned.{Planned}
 use Rattle.i9_plan.specs.declared.planned.Planned.TheVariants as plans
+use Rattle.i9_plan.specs.declared.transfers.Moving.{Moving}
 use Rattle.i9_plan.specs.declared.outcome.Outcome.{Outcome}
 use Rattle.i9_plan.specs.declared.outcome.Outcome.TheVariants as outcomes
 
@@ -82,6 +88,18 @@ HasEffect s i outcomes.Runs e = IsEffect s (action_of i s) e
 abbrev pub IsPlanFor : State → Access → Action → Result Effect ℕ → Type 0
 IsPlanFor s access action (Ok e) = (hazard_in s access ≡ None) × IsEffect s action e
 IsPlanFor s access action (Err a) = hazard_in s access ≡ Some a
+
+-- it is the transfer of an instruction, where its effective address is; its registers are there
+pub record IsMove (s : State) (i : Inst) (m : Moving) : Type 0 where
+  pub same : transfer_of i.op ≡ Some m.transfer
+  pub place : m.address ≡ address s i.ea
+  pub few : byte_count m.transfer.size ≤ 16
+  pub loaded : m.transfer.direction ≡ Direction.Load → words_written (row_of i.op).c ≡ register_count m.transfer.size
+
+-- the transfer that an instruction is, where it is one
+abbrev pub Moves : State → Inst → Option Moving → Type 0
+Moves s i None = transfer_of i.op ≡ None
+Moves s i (Some m) = IsMove s i m
 
 -- the hazard of an access, or none where an effect is the action
 abbrev pub Plans : State → Access → Action → Option ℕ → Effect → Type 0

@@ -12,7 +12,7 @@ ghost use Rattle.i9_model.specs.Unbuilt.{is_built};
 ghost use Rattle.i9_processor.specs.Effect.{IsEffect};
 ghost use Rattle.i9_processor.specs.State.{state_of};
 ghost use Rattle.i9_plan.specs.Built.{is_branch};
-ghost use Rattle.i9_plan.specs.Planned.{standing_in, HasEffect, IsPlanFor, Plans, Passes};
+ghost use Rattle.i9_plan.specs.Planned.{standing_in, HasEffect, IsPlanFor, Plans, Passes, Moves};
 
 use crate::built::{is_branch, is_fault_name};
 use crate::calls::{plan_call, plan_calls, plan_return};
@@ -20,11 +20,11 @@ use crate::effects::{answering, jumping, linking, passing};
 use crate::raised::{arithmetic_fault, raised_in};
 use crate::sources::{address, answer, target, value};
 use crate::system::{plan_message, plan_modac, plan_modpc, plan_modtc};
-use crate::transfers::{plan_atadd, plan_atmod, plan_transfer};
+use crate::transfers::{Moving, plan_atadd, plan_atmod, plan_transfer, transfer_at};
 use crate::words::bit;
 use i9_entry::aligned;
 use i9_exec::{Done, Jump, branch, has_result, results_by_name};
-use i9_isa::{Inst, Op, Operand, transfer};
+use i9_isa::{Inst, Op, Operand};
 use i9_model::faults::{CONSTRAINT, RANGE};
 use i9_model::layout::{LINK, PRECISE_FAULTS_PLACE};
 use i9_processor::{Effect, Move, Processor};
@@ -188,16 +188,17 @@ fn plan_named(p: &Processor, i: &Inst, effect: &mut Effect) -> Option<u32>
 
 /// What an instruction does that neither branches nor has a result, or the hazard of its access.
 #[tactic(auto, unfolding(i9_model::specs::Step::action_of), using(crate::proofs::ValidGroups::group_rules))]
-fn plan(p: &Processor, i: &Inst, effect: &mut Effect) -> Option<u32>
+fn plan(p: &Processor, i: &Inst, moving: Option<Moving>, effect: &mut Effect) -> Option<u32>
     requires valid { IsValid i.now }
     requires calm { raised_in i.now (state_of p.now) ≡ None }
     requires result { has_result i.now.op ≡ false }
     requires branch { is_branch i.now.op ≡ false }
+    requires moves { Moves (state_of p.now) i.now moving }
     requires passes { Passes (state_of p.now) i.now effect.old }
     ensures { Plans (state_of p.now) (access_of i.now (state_of p.now)) (action_of i.now (state_of p.now)) result effect.new }
 {
-    match transfer(i.op) {
-        Some(t) => plan_transfer(p, i, t, effect),
+    match moving {
+        Some(m) => plan_transfer(p, i, m, effect),
         None => plan_named(p, i, effect),
     }
 }
@@ -212,11 +213,12 @@ fn plain_outcome(p: &Processor, i: &Inst, effect: &mut Effect) -> Outcome
     ensures standing { standing_in i.now result ≡ by_raised i.now (state_of p.now) (raised_in i.now (state_of p.now)) }
     ensures effect { HasEffect (state_of p.now) i.now result effect.new }
 {
-    if let Some(number) = raised_in(p, i) {
+    let moving = transfer_at(p, i);
+    if let Some(number) = raised_in(p, i, moving) {
         return Outcome::Faults(number);
     }
     results_by_name();
-    match plan(p, i, effect) {
+    match plan(p, i, moving, effect) {
         None => Outcome::Runs,
         Some(a) => Outcome::Meets(a),
     }

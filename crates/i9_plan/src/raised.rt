@@ -5,13 +5,15 @@ ghost use Rattle.i9_model.specs.Access.{access_of, data_of};
 ghost use Rattle.i9_model.specs.Unbuilt.{is_built, is_other_return, is_unbuilt_modpc, is_unbuilt_control};
 ghost use Rattle.i9_model.specs.Standing.{word_fault, arithmetic_fault, raised_in};
 ghost use Rattle.i9_processor.specs.State.{state_of};
+ghost use Rattle.i9_plan.specs.Planned.{Moves};
 
 use crate::built::is_built_form;
-use crate::sources::{address, atomic_address, message, process_controls, value};
+use crate::sources::{atomic_address, message, process_controls, value};
+use crate::transfers::Moving;
 use crate::words::{bit, priority_of};
 use i9_decode::BadWord;
 use i9_faults::raises;
-use i9_isa::{Inst, Op, transfer};
+use i9_isa::{Inst, Op};
 use i9_model::Arith;
 use i9_model::faults::{
     ARITHMETIC, INVALID_OPCODE, INVALID_OPERAND, OPERATION, OVERFLOW, ZERO_DIVIDE,
@@ -40,11 +42,12 @@ pub(crate) fn arithmetic_fault(f: Arith) -> (u8, u16)
 }
 
 /// The address and the number of bytes of an instruction's data access, where it has one.
-fn data_access(p: &Processor, i: &Inst) -> Option<(u32, u32)>
+fn data_access(p: &Processor, i: &Inst, moving: Option<Moving>) -> Option<(u32, u32)>
+    requires { Moves (state_of p.now) i.now moving }
     ensures { result ≡ data_of (access_of i.now (state_of p.now)) }
 {
-    if let Some(t) = transfer(i.op) {
-        return Some((address(p, &i.ea), t.size.bytes()));
+    if let Some(m) = moving {
+        return Some((m.address, m.transfer.size.bytes()));
     }
     match i.op {
         Op::Atadd | Op::Atmod => Some((atomic_address(p, i), 4)),
@@ -53,11 +56,12 @@ fn data_access(p: &Processor, i: &Inst) -> Option<(u32, u32)>
 }
 
 /// The fault that an instruction raises before it does anything.
-pub(crate) fn raised_in(p: &Processor, i: &Inst) -> Option<(u8, u16)>
-    requires { IsValid i.now }
+pub(crate) fn raised_in(p: &Processor, i: &Inst, moving: Option<Moving>) -> Option<(u8, u16)>
+    requires valid { IsValid i.now }
+    requires moves { Moves (state_of p.now) i.now moving }
     ensures { result ≡ raised_in i.now (state_of p.now) }
 {
-    let access = data_access(p, i);
+    let access = data_access(p, i, moving);
     let config = p.tables().fault_config;
     raises(i, value(p, i.a), value(p, i.b), access, p.pc(), config)
 }

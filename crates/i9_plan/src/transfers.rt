@@ -11,14 +11,34 @@ ghost use Rattle.i9_model.specs.Step.{extended, filled, loaded, stored_of, loadi
 ghost use Rattle.i9_model.specs.Step.{atomic_address, atomic, merged, answering};
 ghost use Rattle.i9_processor.specs.State.{state_of};
 ghost use Rattle.i9_plan.specs.Built.{HasGroup};
-ghost use Rattle.i9_plan.specs.Planned.{IsPlanFor, Plans, Passes};
+ghost use Rattle.i9_plan.specs.Planned.{IsPlanFor, Plans, Passes, Moves};
 
 use crate::effects::{answering, append, assign, listed, one_word};
 use crate::sources::{address, atomic_address, source_words, value};
 use crate::words::{merged, word_address};
 use arrayvec::ArrayVec;
-use i9_isa::{Direction, Inst, Operand, Size, Transfer};
+use i9_isa::{Direction, Inst, Operand, Size, Transfer, transfer};
 use i9_processor::{Effect, MOST_BYTES, MOST_VALUES, Processor};
+
+/// A transfer between registers and memory, and the address where it begins.
+#[derive(Clone, Copy, Debug)]
+pub(crate) struct Moving {
+    pub transfer: Transfer,
+    pub address: u32,
+}
+
+/// The transfer that an instruction is, where it is one.
+pub(crate) fn transfer_at(p: &Processor, i: &Inst) -> Option<Moving>
+    ensures { Moves (state_of p.now) i.now result }
+{
+    match transfer(i.op) {
+        None => None,
+        Some(transfer) => Some(Moving {
+            transfer,
+            address: address(p, &i.ea),
+        }),
+    }
+}
 
 /// A byte as a word, with its sign above or with zeros.
 fn filled_byte(v: u8, signed: bool) -> u32
@@ -105,53 +125,52 @@ fn stored(p: &Processor, size: Size, o: Operand, a: u32) -> ArrayVec<u8, MOST_BY
 }
 
 /// Registers are loaded.
-fn plan_load(p: &Processor, i: &Inst, size: Size, signed: bool, effect: &mut Effect) -> Option<u32>
-    requires few { byte_count size ≤ 16 }
-    requires group { HasGroup i.now.c (register_count size) }
+fn plan_load(p: &Processor, i: &Inst, m: Moving, effect: &mut Effect) -> Option<u32>
+    requires few { byte_count m.transfer.size ≤ 16 }
+    requires place { m.address ≡ address (state_of p.now) i.now.ea }
+    requires group { HasGroup i.now.c (register_count m.transfer.size) }
     requires passes { Passes (state_of p.now) i.now effect.old }
-    ensures { Plans (state_of p.now) (Reads (address (state_of p.now) i.now.ea) (byte_count size))
-        (loading size signed i.now (state_of p.now)) result effect.new }
+    ensures { Plans (state_of p.now) (Reads (address (state_of p.now) i.now.ea) (byte_count m.transfer.size))
+        (loading m.transfer.size m.transfer.signed i.now (state_of p.now)) result effect.new }
 {
-    let a = address(p, &i.ea);
-    let hazard = p.check_read(a, size.bytes());
+    let t = m.transfer;
+    let hazard = p.check_read(m.address, t.size.bytes());
     if hazard.is_none() {
-        assign(p, i, i.c, loaded(p, size, signed, a), effect);
+        assign(p, i, i.c, loaded(p, t.size, t.signed, m.address), effect);
     }
     hazard
 }
 
 /// Registers are stored.
-fn plan_store(p: &Processor, i: &Inst, size: Size, effect: &mut Effect) -> Option<u32>
-    requires few { byte_count size ≤ 16 }
+fn plan_store(p: &Processor, i: &Inst, m: Moving, effect: &mut Effect) -> Option<u32>
+    requires few { byte_count m.transfer.size ≤ 16 }
+    requires place { m.address ≡ address (state_of p.now) i.now.ea }
     requires passes { Passes (state_of p.now) i.now effect.old }
-    ensures { Plans (state_of p.now) (Writes (address (state_of p.now) i.now.ea) (byte_count size))
-        (storing size i.now (state_of p.now)) result effect.new }
+    ensures { Plans (state_of p.now) (Writes (address (state_of p.now) i.now.ea) (byte_count m.transfer.size))
+        (storing m.transfer.size i.now (state_of p.now)) result effect.new }
 {
-    let a = address(p, &i.ea);
-    let hazard = p.check_write(a, size.bytes());
+    let size = m.transfer.size;
+    let hazard = p.check_write(m.address, size.bytes());
     if hazard.is_none() {
-        effect.address = a;
-        effect.bytes = stored(p, size, i.c, a);
+        effect.address = m.address;
+        effect.bytes = stored(p, size, i.c, m.address);
     }
     hazard
 }
 
 /// A load or a store.
-pub(crate) fn plan_transfer(
-    p: &Processor,
-    i: &Inst,
-    t: Transfer,
-    effect: &mut Effect,
-) -> Option<u32>
-    requires few { byte_count t.size ≤ 16 }
-    requires group { t.direction ≡ Direction.Load → HasGroup i.now.c (register_count t.size) }
+pub(crate) fn plan_transfer(p: &Processor, i: &Inst, m: Moving, effect: &mut Effect) -> Option<u32>
+    requires few { byte_count m.transfer.size ≤ 16 }
+    requires place { m.address ≡ address (state_of p.now) i.now.ea }
+    requires group { m.transfer.direction ≡ Direction.Load → HasGroup i.now.c (register_count m.transfer.size) }
     requires passes { Passes (state_of p.now) i.now effect.old }
-    ensures { Plans (state_of p.now) (moved_access t.direction (address (state_of p.now) i.now.ea) (byte_count t.size))
-        (transferring t i.now (state_of p.now)) result effect.new }
+    ensures { Plans (state_of p.now)
+        (moved_access m.transfer.direction (address (state_of p.now) i.now.ea) (byte_count m.transfer.size))
+        (transferring m.transfer i.now (state_of p.now)) result effect.new }
 {
-    match t.direction {
-        Direction::Load => plan_load(p, i, t.size, t.signed, effect),
-        Direction::Store => plan_store(p, i, t.size, effect),
+    match m.transfer.direction {
+        Direction::Load => plan_load(p, i, m, effect),
+        Direction::Store => plan_store(p, i, m, effect),
     }
 }
 

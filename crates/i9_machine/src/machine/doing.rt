@@ -127,7 +127,12 @@ impl Machine {
     }
 
     /// Makes room for what a step stores, saves and prints, and the new sets that it asks for.
-    fn make_room(&mut self, step: &Step, effect: &Effect, out: &mut Vec<Line>) -> Result<Option<Sets>, NoMemory>
+    fn make_room(
+        &mut self,
+        step: &Step,
+        effect: &Effect,
+        out: &mut Vec<Line>,
+    ) -> Result<Option<Sets>, NoMemory>
         ensures same { IsSame self.old self.new }
         ensures ended { self.new.ended ≡ self.old.ended }
         ensures items { out.new.items ≡ out.old.items }
