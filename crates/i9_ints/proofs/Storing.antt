@@ -10,6 +10,7 @@ use Rattle.i9_model.specs.Frames.{is_put, wrote, wrote_run}
 use Rattle.i9_model.specs.Interrupts.{priority_place, pending_place, vector_priority, without_bit, left_pending, taken_writes, clearing_writes}
 use Rattle.i9_model.specs.declared.interrupts.Cause.{Cause}
 use Rattle.i9_model.specs.declared.interrupts.Cause.TheVariants.{Nmi, Line}
+use Rattle.i9_model.proofs.AlikeSteps.{none_wrote}
 use Rattle.i9_model.proofs.Runs.{wrote-upwards}
 use Rattle.i9_model.proofs.Stored.{stored-cons}
 use Rattle.i9_memory.specs.declared.memory.Memory.{Memory as Kept}
@@ -60,12 +61,8 @@ pub no_memory_writes : (m : Memory) → m ≡ with_writes m []
 unfolding written
 no_memory_writes m = refl
 
-all_kept : (b : Bool) → b ≡ (b && not false)
-all_kept b = grind arith
-
 pub no_frame_writes : (f : Frames) → f ≡ wrote f []
-unfolding is_put
-no_frame_writes f = λ i. record f { soft = λ x. all_kept (f.soft x) i }
+no_frame_writes f = sym (none_wrote f)
 
 pub nothing_cleared : (cause : Cause) (m : Memory) (table v : ℕ) → (cause ≡ Nmi) ⊎ ((k : ℕ) × (cause ≡ Line k)) → clearing_writes cause m table v ≡ []
 nothing_cleared cause m table v (inl e) = ap (λ (c : Cause). clearing_writes c m table v) e

@@ -155,8 +155,10 @@ has_form Format.Mem w = is_some (mode_in w)
 has_form _ w = true
 
 -- the instruction, if its operands and its address are there
-abbrev pub with_operands : Op → Option Operand → Option Operand → Option Operand → Option Ea → ℤ → Bool → Result Inst BadWord
-with_operands op (Some a) (Some b) (Some c) (Some ea) disp hint = Ok (record { op = op; a = a; b = b; c = c; ea = ea; disp = disp; hint = hint })
+abbrev pub with_operands : Op → Option Operand → Option Operand → Option Operand → Option Ea → ℤ → Bool
+    → Result Inst BadWord
+with_operands op (Some a) (Some b) (Some c) (Some ea) disp hint =
+    Ok (record { op = op; a = a; b = b; c = c; ea = ea; disp = disp; hint = hint })
 with_operands op _ _ _ _ disp hint = Err BadWord.Operand
 
 -- the instruction of this name, read by its format and by the uses of its row

@@ -83,6 +83,7 @@ impl Use {
     }
 
     /// Whether this use allows the operand. What is not used stands as `Reg(0)`.
+    #[inline(always)]
     pub fn takes(self, operand: Operand) -> bool
         ensures { result ≡ takes self operand }
     {

@@ -90,6 +90,7 @@ fn mem_row(opcode: u8, c: Use) -> Row
 }
 
 /// The row of a name in the instruction table.
+#[inline(always)]
 pub fn row(op: Op) -> Row
     ensures { result ≡ row_of op }
 {

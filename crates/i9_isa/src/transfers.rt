@@ -35,6 +35,7 @@ fn store(size: Size, signed: bool) -> Option<Transfer>
 
 /// What a load or a store moves, from 1 to 16 bytes; nothing for the other names, `lda` among them.
 /// A load writes its registers, and a store reads them.
+#[inline(always)]
 pub fn transfer(op: Op) -> Option<Transfer>
     ensures table { result ≡ transfer_of op }
     ensures something { IfSome result (λ t. 1 ≤ byte_count t.size) }

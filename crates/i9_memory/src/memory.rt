@@ -92,6 +92,7 @@ impl Memory {
     }
 
     /// The four bytes from `a` up, in the order of the region of `a`.
+    #[inline(always)]
     #[tactic(auto, unfolding(crate::specs::Memory::memory_of, i9_model::specs::Memory::word_in))]
     pub fn word(&self, a: u32) -> u32
         ensures { result ≡ word_in (memory_of self.now) a }

@@ -36,6 +36,7 @@ impl Page {
     }
 
     /// Writes bytes from a place up.
+    #[inline(always)]
     fn store(&mut self, place: usize, bytes: &[u8])
         requires { place + length bytes.now ≤ 256 }
         ensures { byte_in (Some self.new) ≡ written (byte_in (Some self.old)) (pairs_at (λ k. k) place bytes.now) }
@@ -153,6 +154,7 @@ impl Pages {
     }
 
     /// Makes room for `n` bytes from an address up, a page at a time.
+    #[inline(always)]
     pub(crate) fn reserve_run(&mut self, a: u32, n: usize) -> Result<(), NoMemory>
         ensures same { byte_of self.new ≡ byte_of self.old }
         ensures ok { OnOk result ((k : ℕ) → k < n → HasByte self.new (wrapped (a + k))) }

@@ -141,7 +141,7 @@ acted_alike s a bytes whole readable same = controlled_alike a.control (moved s 
 abbrev pub flushing : Inst → State → Control → Action
 flushing i s c = record (passing i s) { move = Flushes; control = c }
 
-none_wrote : (f : Frames) → wrote f [] ≡ f
+pub none_wrote : (f : Frames) → wrote f [] ≡ f
 unfolding is_put
 none_wrote f =
     let soft : ◌≡◌ {A = ℕ → Bool} (λ x. f.soft x && not (is_put [] x)) f.soft = λ i x. and_true (f.soft x) i in

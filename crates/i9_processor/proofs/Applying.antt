@@ -1,13 +1,13 @@
 -- What was planned in a state can be done in one that is alike, and leaves states that are alike.
-use Rattle.std.proofs.Common.{◌≡◌, ℕ, ◌%◌, ◌<◌, ◌||◌, ◌&&◌, ◌==◌, nat_lt, Bool, true, false, List, [], ◌∷◌, length, refl, sym, ap, ◌∙◌, subst, arith}
-use Rattle.std.specs.Prelude.{max, not}
+use Rattle.std.proofs.Common.{◌≡◌, ℕ, ◌%◌, ◌<◌, ◌||◌, ◌==◌, nat_lt, Bool, true, false, List, [], ◌∷◌, length, refl, sym, ap, ◌∙◌, subst, arith}
+use Rattle.std.specs.Prelude.{max}
 use Rattle.std.proofs.lemmas.Bool.{or_left, or_right}
 use Rattle.std.proofs.lemmas.Bool.Decides.{nat_tests}
 use Rattle.i9_model.specs.declared.layout.TheConstants.{LEAST_SETS, LOCALS, PRCB_POINTER}
 use Rattle.i9_model.specs.declared.setup.Setup.{Setup}
 use Rattle.i9_model.specs.Boot.{table_word, setup_of, boot_setup, with_boot_bytes}
 use Rattle.i9_model.specs.Memory.{Memory, word_in, with_writes}
-use Rattle.i9_model.specs.Frames.{is_put, wrote}
+use Rattle.i9_model.specs.Frames.{wrote}
 use Rattle.i9_model.specs.State.{State, Frames}
 use Rattle.i9_model.specs.Tables.{tables_hazard, group_hazard}
 use Rattle.i9_model.specs.Controls as plain
@@ -17,6 +17,7 @@ use Rattle.i9_model.specs.Alike.{AreAlike}
 use Rattle.i9_model.specs.Free.{IsFree}
 use Rattle.i9_model.specs.Sound.{IsSound}
 use Rattle.i9_model.specs.HeldFrames.{Cache, overlaid, cache_stored, cache_acted, AreYoungest}
+use Rattle.i9_model.proofs.AlikeSteps.{none_wrote}
 use Rattle.i9_model.proofs.HeldRuns.{moved_cached}
 use Rattle.i9_storage.proofs.Known.{frames_sound, held_youngest}
 use Rattle.i9_model.proofs.AlikeActions.{hard_bytes}
@@ -57,16 +58,6 @@ sets_few m u e =
     (omega (arith, same), omega (arith, same))
 
 -- ---- where no byte is stored
-
-pub none_wrote : (f : Frames) → wrote f [] ≡ f
-unfolding is_put
-none_wrote f =
-    let soft : ◌≡◌ {A = ℕ → Bool} (λ x. f.soft x && not (is_put [] x)) f.soft = λ i x. and_true (f.soft x) i in
-    ap (λ (g : ℕ → Bool). record f { soft = g }) soft
-  where
-    and_true : (b : Bool) → (b && true) ≡ b
-    and_true true = refl
-    and_true false = refl
 
 pub no_bytes_cache : (c : Cache) (a : ℕ) (bs : List ℕ) → (length bs == 0) ≡ true → c ≡ cache_stored (upwards a bs) c
 unfolding written

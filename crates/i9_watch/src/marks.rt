@@ -51,6 +51,7 @@ impl Marks {
     }
 
     /// Whether one of so many addresses of a page has a mark.
+    #[inline(always)]
     fn has_any_in_page(&self, mark: Mark, a: u32, n: u32) -> bool
         requires { a % 256 + n ≤ 256 }
         ensures { result ≡ false → (k : ℕ) → k < n → is_marked mark self.now (wrapped (a + k)) ≡ false }
@@ -62,6 +63,7 @@ impl Marks {
     }
 
     /// Whether one of so many addresses from one on has a mark.
+    #[inline(always)]
     pub(crate) fn has_any(&self, mark: Mark, a: u32, n: u32) -> bool
         ensures { result ≡ false → (k : ℕ) → k < n → is_marked mark self.now (wrapped (a + k)) ≡ false }
     {

@@ -68,6 +68,7 @@ impl Page {
     }
 
     /// Whether one of so many places from one on has a mark.
+    #[inline(always)]
     pub(crate) fn has_any(&self, mark: Mark, place: u32, n: u32) -> bool
         requires { place + n ≤ 256 }
         ensures { result ≡ false → (k : ℕ) → place ≤ k → k < place + n → has_mark mark self.now k ≡ false }

@@ -110,6 +110,7 @@ impl Watch {
     }
 
     /// The least soft byte, counted upwards from `a`, of `n` bytes that are to be read.
+    #[inline(always)]
     pub fn check_read(&self, a: u32, n: u32) -> Option<u32>
         ensures { result ≡ read_hazard (frames_of self.now) a n }
     {

@@ -149,6 +149,7 @@ impl Storage {
 
     /// The four bytes from `a` up, in the order of the region of `a`. Where none is soft memory has
     /// them.
+    #[inline(always)]
     #[tactic(auto, using(crate::proofs::StoragePlans::hard_rules))]
     pub fn word(&self, a: u32) -> u32
         ensures { result ≡ word_in (memory_in self.now) a }

@@ -13,7 +13,7 @@ use Rattle.i9_processor.specs.declared.effect.Control.{Control}
 use Rattle.i9_processor.specs.declared.effect.Control.TheVariants as kinds
 use Rattle.i9_processor.specs.Effect.{action_in, CanControl}
 use Rattle.i9_processor.specs.State.{state_of}
-use Rattle.i9_processor.proofs.Applying.{none_wrote}
+use Rattle.i9_model.proofs.AlikeSteps.{none_wrote}
 use Rattle.i9_processor.proofs.tests.controls.Goals as goal
 
 -- behind a mere flush the tables are read as they are
