@@ -216,7 +216,7 @@ bind_rest (Err stop) f g same = refl
 bind_same : {A B : Type 0} (r q : Result A FaultStop) (f g : A → Result B FaultStop) → q ≡ r → ((x : A) → g x ≡ f x) → (q >>= g) ≡ (r >>= f)
 bind_same r q f g e same = ap (λ x. x >>= g) e ∙ bind_rest r f g same
 
-unless_same : {A : Type 0} (h : Option ℕ) (x y : A) → (h ≡ None → y ≡ x) → unless h y ≡ unless h x
+pub unless_same : {A : Type 0} (h : Option ℕ) (x y : A) → (h ≡ None → y ≡ x) → unless h y ≡ unless h x
 unless_same None x y same = ap (λ z. Ok z) (same refl)
 unless_same (Some a) x y same = refl
 

@@ -1,6 +1,7 @@
 -- What comes next in states that are alike is the same record or the same end, and states stay alike.
 use Rattle.std.proofs.Common.{◌≡◌, ℕ, ◌+◌, ◌*◌, ◌≤◌, Bool, true, false, cond, eqb, ◌&&◌, ◌||◌, nat_le, List, [], ◌∷◌, ◌++◌, Option, Some, None, Result, Ok, Err, refl, sym, ap, ◌∙◌, subst, arith}
-use Rattle.std.specs.Prelude.{not, bit_and, max, ◌%◌}
+use Rattle.std.specs.Prelude.{not, bit_and, max, map, ◌%◌}
+use Rattle.std.specs.List.{range_with_len}
 use Rattle.i9_isa.specs.declared.op.Op.{Op}
 use Rattle.i9_isa.specs.declared.op.Op.TheVariants.{Sysctl}
 use Rattle.i9_isa.specs.declared.size.Size.{Size}
@@ -13,10 +14,15 @@ use Rattle.i9_isa.specs.declared.inst.Inst.{Inst}
 use Rattle.i9_model.specs.declared.layout.TheConstants.{PRCB_SIZE, CONTROL_TABLE_SIZE, CONTROL_GROUP_SIZE, AC_MASK, LEAST_SETS}
 use Rattle.i9_model.specs.declared.setup.TheConstants.{CONTROL_WORDS}
 use Rattle.i9_model.specs.declared.setup.Setup.{Setup}
+use Rattle.i9_model.specs.declared.interrupts.Chosen.{Chosen}
+use Rattle.i9_model.specs.declared.event.Event.{Event}
+use Rattle.i9_model.specs.declared.event.Event.TheVariants as events
+use Rattle.i9_model.specs.ScheduleText.{timed_at}
+use Rattle.i9_model.specs.Before.{choice_in, interrupt_in}
 use Rattle.i9_model.specs.declared.faults.Entry.{Entry}
 use Rattle.i9_model.specs.declared.faults.FaultStop.{FaultStop}
 use Rattle.i9_model.specs.declared.faults.FaultStop.TheVariants as stops
-use Rattle.i9_model.specs.Writes.{address_count, written, upwards}
+use Rattle.i9_model.specs.Writes.{address_count, wrapped, written, upwards}
 use Rattle.i9_model.specs.Memory.{Memory, console_byte, in_port_page, words_in, exit_word}
 use Rattle.i9_model.specs.State.{State, Frames, started}
 use Rattle.i9_model.specs.Frames.{in_frames, flushed, is_put, wrote}
@@ -29,9 +35,9 @@ use Rattle.i9_model.specs.Controls.{Control, KeepsControls, Restarts, LoadsGroup
 use Rattle.i9_model.specs.Step.{Action, Flushes, Message, AsksNothing, AsksRestart, AsksGroup, passing, moving, entering, message_of, argument_of, message_kind, message_action, action_by_name, action_by, action_of, moved, acted, counted}
 use Rattle.i9_model.specs.Access.{message_access, access_by_name, access_by, hazard_in, hazard_of}
 use Rattle.i9_model.specs.Standing.{Standing, Meets, NotBuilt, Refused, Faults, Runs, stands_at}
-use Rattle.i9_model.specs.Run.{End, Limit, Kind, Instruction, Faulted, Entered, Record, action_by_kind, action_done, counts_of, Point, point_of, after_kind, record_of, exit_in, due_by, end_due, Due, Next, Does, Ends, next_by_standing, next_by_entry, entry_in, fault_at, next_in}
+use Rattle.i9_model.specs.Run.{End, Limit, Kind, Instruction, Faulted, Entered, Interrupted, Reached, Record, action_by_kind, action_done, counts_of, Point, point_of, after_kind, record_of, exit_in, due_by, end_due, Due, Next, Does, Ends, next_by_standing, next_by_event, next_by_interrupt, next_by_choice, next_by_entry, entry_in, fault_at, next_in, reached_by}
 use Rattle.i9_model.specs.Overlay.{overlay}
-use Rattle.i9_model.specs.PrintedText.{Shown, Drained, view_of, out_lines, point_lines, record_lines}
+use Rattle.i9_model.specs.PrintedText.{Shown, Drained, Journal, Bytes, view_of, out_lines, point_lines, overlays, bytes_lines, event_lines, record_lines}
 use Rattle.i9_model.specs.declared.view.View.{View}
 use Rattle.i9_model.specs.Alike.{is_hard, is_compared, AgreeWhere, with_other, with_memory, AreAlike, told, AreRecordsAlike, AreNextAlike}
 use Rattle.i9_model.proofs.CallLaws.{first_none, second_none}
@@ -43,6 +49,8 @@ use Rattle.i9_model.proofs.SoundRuns.{action_clear}
 use Rattle.i9_model.proofs.AlikeFetches.{stands_same, told_same, entry_same}
 use Rattle.i9_model.specs.Free.{IsWhole}
 use Rattle.i9_model.proofs.AlikeMoves.{moved_alike}
+use Rattle.i9_model.proofs.InterruptsFree.{interrupts_free}
+use Rattle.i9_model.proofs.AlikeInterrupts.{choice_same, interrupt_same, interrupting_same}
 use Rattle.i9_model.specs.declared.run.Due.TheVariants as dues
 
 -- ---- the tables of start-up
@@ -191,6 +199,8 @@ due_same : (k : Kind) (s : State) (bytes : ℕ → ℕ) → action_by_kind k (wi
 due_same (Instruction i) s bytes e = ap (λ (a : Action). end_due (exit_in (with_memory s bytes) a)) e ∙ ap end_due (exit_same s bytes (action_of i s))
 due_same (Faulted inst fault) s bytes e = refl
 due_same (Entered x) s bytes e = refl
+due_same (Interrupted c x) s bytes e = refl
+due_same (Reached x) s bytes e = refl
 
 counted_alike : (n : ℕ) (s t : State) → AreAlike s t → AreAlike (counted n s) (counted n t)
 counted_alike n s t alike = record { rest = ap (counted n) alike.rest; bytes = alike.bytes }
@@ -232,22 +242,40 @@ entry_alike s bytes (Ok e) same = record_alike (Entered e) s bytes refl (enterin
 entry_alike s bytes (Err (stops.Hazard a)) same = refl
 entry_alike s bytes (Err (stops.Dead code a)) same = refl
 
-by_length : (b : Bool) (s : State) (bytes : ℕ → ℕ) → AgreeWhere (is_compared s.frames) s.memory bytes
-    → AreNextAlike (cond b (Ends Limit) (next_by_standing s (stands_at s))) (cond b (Ends Limit) (next_by_standing (with_memory s bytes) (stands_at (with_memory s bytes))))
-by_length true s bytes same = refl
-by_length false s bytes same =
+event_alike : (stands : Option Event) (s : State) (bytes : ℕ → ℕ) → AgreeWhere (is_compared s.frames) s.memory bytes → AreNextAlike (next_by_event stands s) (next_by_event stands (with_memory s bytes))
+event_alike (Some e) s bytes same = record_alike (Reached e) s bytes refl refl tt tt same
+event_alike None s bytes same =
     subst (λ (x : Standing). AreNextAlike (next_by_standing s (stands_at s)) (next_by_standing (with_memory s bytes) x)) (sym (stands_same s bytes same)) (standing_alike s bytes (stands_at s) (known s) same)
 
-next_by_due : (limit : ℕ) (due : Due) (s : State) (bytes : ℕ → ℕ) → AgreeWhere (is_compared s.frames) s.memory bytes → AreNextAlike (next_in limit due s) (next_in limit due (with_memory s bytes))
-next_by_due limit (dues.End f) s bytes same = refl
-next_by_due limit (dues.Entry fault) s bytes same =
+interrupt_alike : (s : State) (bytes : ℕ → ℕ) (c : Chosen) (o : Result Entry ℕ) → interrupt_in s c ≡ o → AgreeWhere (is_compared s.frames) s.memory bytes → AreNextAlike (next_by_interrupt s c o) (next_by_interrupt (with_memory s bytes) c o)
+interrupt_alike s bytes c (Ok e) is same =
+    record_alike (Interrupted c e) s bytes refl (interrupting_same s bytes c e (hard_bytes s.frames s.memory bytes same) (interrupts_free s c e is)) refl tt same
+interrupt_alike s bytes c (Err a) is same = refl
+
+choice_alike : (stands : Option Event) (s : State) (bytes : ℕ → ℕ) (o : Result (Option Chosen) ℕ) → AgreeWhere (is_compared s.frames) s.memory bytes → AreNextAlike (next_by_choice stands s o) (next_by_choice stands (with_memory s bytes) o)
+choice_alike stands s bytes (Ok (Some c)) same =
+    subst (λ (o : Result Entry ℕ). AreNextAlike (next_by_interrupt s c (interrupt_in s c)) (next_by_interrupt (with_memory s bytes) c o)) (sym (interrupt_same s bytes c (hard_bytes s.frames s.memory bytes same)))
+    (interrupt_alike s bytes c (interrupt_in s c) refl same)
+choice_alike stands s bytes (Ok None) same = event_alike stands s bytes same
+choice_alike stands s bytes (Err a) same = refl
+
+by_length : (b : Bool) (stands : Option Event) (s : State) (bytes : ℕ → ℕ) → AgreeWhere (is_compared s.frames) s.memory bytes
+    → AreNextAlike (cond b (Ends Limit) (next_by_choice stands s (choice_in s))) (cond b (Ends Limit) (next_by_choice stands (with_memory s bytes) (choice_in (with_memory s bytes))))
+by_length true stands s bytes same = refl
+by_length false stands s bytes same =
+    subst (λ (o : Result (Option Chosen) ℕ). AreNextAlike (next_by_choice stands s (choice_in s)) (next_by_choice stands (with_memory s bytes) o)) (sym (choice_same s bytes (hard_bytes s.frames s.memory bytes same)))
+    (choice_alike stands s bytes (choice_in s) same)
+
+next_by_due : (limit : ℕ) (due : Due) (stands : Option Event) (s : State) (bytes : ℕ → ℕ) → AgreeWhere (is_compared s.frames) s.memory bytes → AreNextAlike (next_in limit due stands s) (next_in limit due stands (with_memory s bytes))
+next_by_due limit (dues.End f) stands s bytes same = refl
+next_by_due limit (dues.Entry fault) stands s bytes same =
     let t = with_memory s bytes in
     subst (λ (o : Result Entry FaultStop). AreNextAlike (next_by_entry s (entry_in s fault)) (next_by_entry t o)) (sym (entry_same s bytes fault (hard_bytes s.frames s.memory bytes same))) (entry_alike s bytes (entry_in s fault) same)
-next_by_due limit dues.Nothing s bytes same = by_length (eqb s.count limit) s bytes same
+next_by_due limit dues.Nothing stands s bytes same = by_length (eqb s.count limit) stands s bytes same
 
 -- what comes next in states that are alike
-pub next_alike : (limit : ℕ) (due : Due) (s t : State) → AreAlike s t → AreNextAlike (next_in limit due s) (next_in limit due t)
-next_alike limit due s t alike = subst (λ (u : State). AreNextAlike (next_in limit due s) (next_in limit due u)) (sym alike.rest) (next_by_due limit due s t.memory.bytes alike.bytes)
+pub next_alike : (limit : ℕ) (due : Due) (stands : Option Event) (s t : State) → AreAlike s t → AreNextAlike (next_in limit due stands s) (next_in limit due stands t)
+next_alike limit due stands s t alike = subst (λ (u : State). AreNextAlike (next_in limit due stands s) (next_in limit due stands u)) (sym alike.rest) (next_by_due limit due stands s t.memory.bytes alike.bytes)
 
 -- ---- what is shown
 
@@ -322,9 +350,47 @@ lines_by : (o : Option Point) (s t : State) → view_of t ≡ view_of s → poin
 lines_by None s t e = refl
 lines_by (Some kind) s t e = ap (λ (v : View). Drained kind v ∷ []) e
 
+-- what an event shows, and its own line
+overlays_alike : (s t : State) (a n : ℕ) → AreAlike s t → overlays t a n ≡ overlays s a n
+overlays_alike s t a n alike = by_places (range_with_len 0 n)
+  where
+    by_places : (ks : List ℕ) → map (λ k. overlay t (wrapped (a + k))) ks ≡ map (λ k. overlay s (wrapped (a + k))) ks
+    by_places [] = refl
+    by_places (k ∷ ks) =
+        ap (λ (b : Option ℕ). b ∷ map (λ j. overlay t (wrapped (a + j))) ks) (overlay_alike s t (wrapped (a + k)) alike) ∙ ap (λ (bs : List (Option ℕ)). overlay s (wrapped (a + k)) ∷ bs) (by_places ks)
+
+bytes_alike : (e : Event) (s t : State) → AreAlike s t → bytes_lines e t ≡ bytes_lines e s
+bytes_alike (events.Pin x) s t alike = refl
+bytes_alike events.Nmi s t alike = refl
+bytes_alike (events.Dma c) s t alike = refl
+bytes_alike (events.Feed c bytes) s t alike = refl
+bytes_alike (events.Show a n) s t alike = ap (λ (bs : List (Option ℕ)). Bytes a bs ∷ []) (overlays_alike s t a n alike)
+
+events_alike : (k : Kind) (s t : State) → AreAlike s t → event_lines k t ≡ event_lines k s
+events_alike (Instruction i) s t alike = refl
+events_alike (Faulted inst fault) s t alike = refl
+events_alike (Entered e) s t alike = refl
+events_alike (Interrupted c e) s t alike = refl
+events_alike (Reached e) s t alike =
+    ap (λ (u : State). Journal u.count e ∷ bytes_lines e t) alike.rest ∙ ap (λ (ls : List Shown). Journal s.count e ∷ ls) (bytes_alike e s t alike)
+
+-- which event was reached
+reached_same : (k : Kind) (s t : State) → AreAlike s t → reached_by k t ≡ reached_by k s
+reached_same (Instruction i) s t alike = refl
+reached_same (Faulted inst fault) s t alike = refl
+reached_same (Entered e) s t alike = refl
+reached_same (Interrupted c e) s t alike = refl
+reached_same (Reached e) s t alike = ap (λ (u : State). timed_at u.count e ∷ []) alike.rest
+
+pub reached_alike : (r q : Record) → AreRecordsAlike r q → reached_by q.kind q.before ≡ reached_by r.kind r.before
+reached_alike r q same = ap (λ (k : Kind). reached_by k q.before) same.kind ∙ reached_same r.kind r.before q.before same.before
+
 pub lines_alike : (r q : Record) → AreRecordsAlike r q → record_lines q ≡ record_lines r
 lines_alike r q same =
     let points = point_lines (point_of q.kind) q.after in
-    ap (λ (a : Action). out_lines (console_byte a.writes) ++ points) (done_alike r q same)
-    ∙ ap (λ (ls : List Shown). out_lines (console_byte (action_done r).writes) ++ ls)
+    let bytes = out_lines (console_byte (action_done q).writes) in
+    ap (λ (k : Kind). event_lines k q.before ++ (bytes ++ points)) same.kind
+    ∙ ap (λ (ls : List Shown). ls ++ (bytes ++ points)) (events_alike r.kind r.before q.before same.before)
+    ∙ ap (λ (a : Action). event_lines r.kind r.before ++ (out_lines (console_byte a.writes) ++ points)) (done_alike r q same)
+    ∙ ap (λ (ls : List Shown). event_lines r.kind r.before ++ (out_lines (console_byte (action_done r).writes) ++ ls))
     (ap (λ (k : Kind). point_lines (point_of k) q.after) same.kind ∙ lines_by (point_of r.kind) r.after q.after (view_alike r.after q.after same.after))

@@ -1,9 +1,11 @@
 -- What is done before the length of a run is reached does not depend on that length.
-use Rattle.std.proofs.Common.{◌≡◌, ◌≢◌, ℕ, ◌≤◌, Bool, true, false, cond, eqb, List, [], ◌∷◌, refl, sym, ap, ◌∙◌, arith}
+use Rattle.std.proofs.Common.{◌≡◌, ◌≢◌, ℕ, ◌≤◌, Bool, true, false, cond, eqb, List, [], ◌∷◌, length, Option, refl, sym, ap, ◌∙◌, arith}
 use Rattle.std.proofs.lemmas.Bool.Decides.{nat_tests}
 use Rattle.i9_model.specs.State.{State, boot}
-use Rattle.i9_model.specs.Standing.{stands_at}
-use Rattle.i9_model.specs.Run.{Given, End, Limit, Record, Due, Next, Does, Ends, next_by_standing, next_in, due_after, state_after, next, IsPast, IsRun}
+use Rattle.i9_model.specs.declared.event.Event.{Event}
+use Rattle.i9_model.specs.ScheduleText.{standing}
+use Rattle.i9_model.specs.Before.{choice_in}
+use Rattle.i9_model.specs.Run.{Given, End, Limit, Record, Due, Next, Does, Ends, next_by_choice, next_in, due_after, reached_after, event_after, state_after, next, IsPast, IsRun}
 use Rattle.i9_model.proofs.Ends.{count_within}
 use Rattle.i9_model.specs.declared.run.Due.TheVariants as dues
 
@@ -17,6 +19,13 @@ pub state_by : (g k : Given) (rs : List Record) → k.image ≡ g.image → stat
 state_by g k [] e = ap boot e
 state_by g k (r ∷ rs) e = refl
 
+-- what comes next, from the state that it comes in
+abbrev pub next_from : Given → List Record → State → Next
+next_from g rs s = next_in g.length (due_after rs) (standing g.plan (length (reached_after rs)) s.count) s
+
+pub next_by_state : (g : Given) (rs : List Record) (s : State) → state_after g rs ≡ s → next g rs ≡ next_from g rs s
+next_by_state g rs s e = ap (next_from g rs) e
+
 -- before the length a longer one changes nothing
 below_more : (s : State) (limit more : ℕ) → s.count ≤ limit → limit ≤ more → eqb s.count limit ≡ false → eqb s.count more ≡ false
 below_more s limit more within longer e = grind (arith, nat_tests, e)
@@ -26,19 +35,19 @@ by_length true c x o same other e = absurd (other (sym e))
 by_length false c x o same other e = ap (λ (d : Bool). cond d (Ends Limit) x) (same refl) ∙ e
 
 -- what comes next but for the end of the length
-next_longer : (limit more : ℕ) (due : Due) (s : State) (o : Next) → s.count ≤ limit → limit ≤ more → o ≢ Ends Limit → next_in limit due s ≡ o → next_in more due s ≡ o
-next_longer limit more (dues.End f) s o within longer other e = e
-next_longer limit more (dues.Entry fault) s o within longer other e = e
-next_longer limit more dues.Nothing s o within longer other e =
-    by_length (eqb s.count limit) (eqb s.count more) (next_by_standing s (stands_at s)) o (below_more s limit more within longer) other e
+next_longer : (limit more : ℕ) (due : Due) (stands : Option Event) (s : State) (o : Next) → s.count ≤ limit → limit ≤ more → o ≢ Ends Limit → next_in limit due stands s ≡ o → next_in more due stands s ≡ o
+next_longer limit more (dues.End f) stands s o within longer other e = e
+next_longer limit more (dues.Entry fault) stands s o within longer other e = e
+next_longer limit more dues.Nothing stands s o within longer other e =
+    by_length (eqb s.count limit) (eqb s.count more) (next_by_choice stands s (choice_in s)) o (below_more s limit more within longer) other e
 
 abbrev at_length : Given → ℕ → Given
 at_length g more = record g { length = more }
 
 next_more : (g : Given) (more : ℕ) (rs : List Record) (o : Next) → g.length ≤ more → IsPast g rs → o ≢ Ends Limit → next g rs ≡ o → next (at_length g more) rs ≡ o
 next_more g more rs o longer past other e =
-    ap (next_in more (due_after rs)) (state_by g (at_length g more) rs refl)
-    ∙ next_longer g.length more (due_after rs) (state_after g rs) o (count_within g rs past) longer other e
+    next_by_state (at_length g more) rs (state_after g rs) (state_by g (at_length g more) rs refl)
+    ∙ next_longer g.length more (due_after rs) (event_after g rs) (state_after g rs) o (count_within g rs past) longer other e
 
 pub past_more : (g : Given) (more : ℕ) (rs : List Record) → g.length ≤ more → IsPast g rs → IsPast (at_length g more) rs
 past_more g more rs longer past = past_by g (at_length g more) (λ qs r before e. next_more g more qs (Does r) longer before (λ no. cc no) e) rs past

@@ -2,6 +2,7 @@
 use Rattle.std.proofs.Common.{◌≡◌, ℕ, Bool, true, false, cond, eqb, ltb, List, [], ◌∷◌, length, Option, refl, ap, sym, ◌∙◌, subst, inl, inr}
 use Rattle.std.specs.Prelude.{◌⊎◌, unwrap_or}
 use Rattle.i9_model.specs.declared.frame.Frame.{Frame}
+use Rattle.i9_model.specs.declared.event.Event.{Event}
 use Rattle.i9_model.specs.Writes.{written}
 use Rattle.i9_model.specs.declared.setup.Tables.{Tables}
 use Rattle.i9_model.specs.Memory.{Memory, with_writes}
@@ -11,7 +12,7 @@ use Rattle.i9_model.specs.State.{State, Frames, started, boot}
 use Rattle.i9_model.specs.Controls.{Control, KeepsControls, Restarts, LoadsGroup, controlled}
 use Rattle.i9_model.specs.Step.{Move, Stays, Saves, Returns, Flushes, Action, memory_after, moved, acted, counted}
 use Rattle.i9_model.specs.Sound.{IsSound}
-use Rattle.i9_model.specs.Run.{Given, action_by_kind, action_done, counts_of, Record, record_of, Does, Due, state_after, due_after, next_in, IsPast}
+use Rattle.i9_model.specs.Run.{Given, action_by_kind, action_done, counts_of, Record, record_of, Does, Due, state_after, due_after, event_after, next_in, IsPast}
 use Rattle.i9_model.specs.Alike.{is_compared, with_other, with_memory, AreAlike}
 use Rattle.i9_model.specs.HeldFrames.{Cache, cache, spilled, over, overlaid, cache_moved, cache_acted, cache_configured, sets_in, renewed, cache_after, AreYoungest, IsCached}
 use Rattle.i9_model.specs.Free.{ComesAfterFlush, IsFree}
@@ -29,8 +30,8 @@ use Rattle.i9_model.proofs.HeldFrames.{move_keeps, acted_stands}
 abbrev pub IsFreeRecord : State → Record → Type 0
 IsFreeRecord s r = (r ≡ record_of r.kind s) × IsFree s (action_by_kind r.kind s)
 
-pub next_free : (limit : ℕ) (due : Due) (s : State) (r : Record) → next_in limit due s ≡ Does r → IsFreeRecord s r
-next_free limit due s r e = let comes = next_comes limit due s r e in (comes.0, (kind_clear limit due r.kind s comes.1).free)
+pub next_free : (limit : ℕ) (due : Due) (stands : Option Event) (s : State) (r : Record) → next_in limit due stands s ≡ Does r → IsFreeRecord s r
+next_free limit due stands s r e = let comes = next_comes limit due stands s r e in (comes.0, (kind_clear limit due stands r.kind s comes.1).free)
 
 -- ---- one record
 
@@ -156,7 +157,7 @@ cached-after g (r ∷ rs) past =
     let a = action_by_kind r.kind s in
     let n = sets_in g.sets s in
     let c = cache_after g rs in
-    let free = next_free g.length (due_after rs) s r past.1 in
+    let free = next_free g.length (due_after rs) (event_after g rs) s r past.1 in
     let here : IsCached (acted s a) (cache_configured (acted s a).memory (cache_acted n a c)) = cached-acted n s a c (sound-after g rs past.0) free.1 (cached-after g rs past.0) in
     subst (λ (q : Record). IsCached q.after (cache_configured q.after.memory (cache_acted (sets_in g.sets q.before) (action_done q) c))) (sym free.0)
     (cached-counted (counts_of r.kind) (acted s a) (cache_configured (acted s a).memory (cache_acted n a c)) here)

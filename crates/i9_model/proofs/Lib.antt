@@ -1,5 +1,6 @@
 pub mod Stands
 pub mod Comes
+pub mod Left
 pub mod Ends
 pub mod Unique
 pub mod Cuts
@@ -9,6 +10,7 @@ pub mod Runs
 pub mod FrameLaws
 pub mod ControlLaws
 pub mod CallLaws
+pub mod InterruptsFree
 pub mod SoundRuns
 pub mod Lines
 pub mod Readings
@@ -17,6 +19,8 @@ pub mod SecondWords
 pub mod AlikeFetches
 pub mod Storing
 pub mod AlikeMoves
+pub mod AlikeChoices
+pub mod AlikeInterrupts
 pub mod AlikeSteps
 pub mod Overlays
 pub mod FrameBytes

@@ -64,6 +64,8 @@ passes_out b = passes_line (codes "#out " ++ byte_text b) (plain-append (codes "
 plain_drained : (k : Point) → is_plain (drained_text k) ≡ true
 plain_drained points.Flush = refl
 plain_drained points.Sync = refl
+plain_drained points.Event = refl
+plain_drained points.Int = refl
 plain_drained points.Fault = refl
 plain_drained points.End = refl
 

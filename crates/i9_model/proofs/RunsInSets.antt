@@ -1,34 +1,42 @@
 -- A machine that keeps its frames in sets has a run beside each run, which prints the same.
-use Rattle.std.proofs.Common.{◌≡◌, ℕ, Option, List, [], ◌∷◌, ◌++◌, refl, sym, ap, ◌∙◌, subst}
+use Rattle.std.proofs.Common.{◌≡◌, ℕ, Option, List, [], ◌∷◌, ◌++◌, length, refl, sym, ap, ◌∙◌, subst}
+use Rattle.i9_model.specs.declared.event.Event.{Event}
+use Rattle.i9_model.specs.declared.event.Timed.{Timed}
+use Rattle.i9_model.specs.ScheduleText.{standing}
 use Rattle.i9_model.specs.Memory.{Memory}
 use Rattle.i9_model.specs.State.{State}
 use Rattle.i9_model.specs.Step.{Action}
-use Rattle.i9_model.specs.Run.{Given, End, Record, Due, action_done, state_after, due_after, next_in, next, IsPast, IsRun}
+use Rattle.i9_model.specs.Run.{Given, End, Record, Due, action_done, state_after, due_after, reached_by, reached_after, event_after, next_in, next, IsPast, IsRun}
 use Rattle.i9_model.specs.declared.view.View.{View}
 use Rattle.i9_model.specs.PrintedText.{Shown, view_of, record_lines, last_lines, lines_of, text_of, run_text}
 use Rattle.i9_model.specs.Alike.{AreAlike, AreRecordsAlike, AreNextAlike}
 use Rattle.i9_model.specs.HeldFrames.{Cache, overlaid, cache_acted, cache_configured, cache_after, sets_in}
 use Rattle.i9_model.specs.RunInSets.{in_sets, IsPastInSets, IsRunInSets}
 use Rattle.i9_model.proofs.Ends.{run_goes_on}
-use Rattle.i9_model.proofs.Cuts.{past_by, state_by}
+use Rattle.i9_model.proofs.Cuts.{past_by, state_by, next_by_state}
 use Rattle.i9_model.proofs.Unique.{same_records, same_end}
 use Rattle.i9_model.proofs.Overlays.{over_mcon}
-use Rattle.i9_model.proofs.AlikeSteps.{alike_same, done_alike, due_alike, next_alike, does_alike, does_beside, ends_alike, ends_beside, lines_alike, view_alike}
+use Rattle.i9_model.proofs.AlikeSteps.{alike_same, done_alike, due_alike, reached_alike, next_alike, does_alike, does_beside, ends_alike, ends_beside, lines_alike, view_alike}
 use Rattle.i9_model.proofs.HeldRuns.{configured_by, overlaid_memory, cached-after}
 
 -- records of a machine with sets beside records of the one-at-a-time machine
 record AreBeside (g : Given) (rs qs : List Record) : Type 0 where
   pub state : AreAlike (state_after g rs) (state_after g qs)
   pub due : due_after qs ≡ due_after rs
+  pub reached : reached_after qs ≡ reached_after rs
   pub cache : cache_after g qs ≡ cache_after g rs
   pub lines : lines_of qs ≡ lines_of rs
 
 none_beside : (g : Given) → AreBeside g [] []
-none_beside g = record { state = alike_same (state_after g []); due = refl; cache = refl; lines = refl }
+none_beside g = record { state = alike_same (state_after g []); due = refl; reached = refl; cache = refl; lines = refl }
 
 next_beside : (g : Given) (rs qs : List Record) → AreBeside g rs qs → AreNextAlike (next g rs) (next g qs)
 next_beside g rs qs beside =
-    subst (λ (d : Due). AreNextAlike (next g rs) (next_in g.length d (state_after g qs))) (sym beside.due) (next_alike g.length (due_after rs) (state_after g rs) (state_after g qs) beside.state)
+    let t = state_after g qs in
+    let stands : event_after g qs ≡ event_after g rs =
+    ap (λ (ts : List Timed). standing g.plan (length ts) t.count) beside.reached ∙ ap (λ (u : State). standing g.plan (length (reached_after rs)) u.count) beside.state.rest in
+    subst (λ (d : Due). AreNextAlike (next g rs) (next_in g.length d (event_after g qs) t)) (sym beside.due)
+    (subst (λ (o : Option Event). AreNextAlike (next g rs) (next_in g.length (due_after rs) o t)) (sym stands) (next_alike g.length (due_after rs) (event_after g rs) (state_after g rs) t beside.state))
 
 -- what is held after records that are alike
 same_cache : (g : Given) (rs qs : List Record) (r p : Record) → AreBeside g rs qs → AreRecordsAlike r p → cache_after g (p ∷ qs) ≡ cache_after g (r ∷ rs)
@@ -67,6 +75,7 @@ one_beside g rs qs r p past beside same =
     record {
       state = after;
       due = due_alike r q alike;
+      reached = ap (λ (ts : List Timed). reached_after qs ++ ts) (reached_alike r q alike) ∙ ap (λ (ts : List Timed). ts ++ reached_by r.kind r.before) beside.reached;
       cache = cache_in_sets g qs p ∙ cache;
       lines = ap (λ (ls : List Shown). lines_of qs ++ ls) (lines_alike r q alike) ∙ ap (λ (ls : List Shown). ls ++ record_lines r) beside.lines;
     }
@@ -129,7 +138,7 @@ run_same g others rs e run = record {
 }
   where
     next_same : (qs : List Record) → next (with_sets g others) qs ≡ next g qs
-    next_same qs = ap (next_in g.length (due_after qs)) (state_by g (with_sets g others) qs refl)
+    next_same qs = next_by_state (with_sets g others) qs (state_after g qs) (state_by g (with_sets g others) qs refl)
 
 -- so two runs in sets, in any numbers of them, have one text
 pub any_sets : (g : Given) (others : Option ℕ) (qs ps : List Record) (e f : End) → IsRunInSets g qs e → IsRunInSets (with_sets g others) ps f → run_text g qs e ≡ run_text (with_sets g others) ps f

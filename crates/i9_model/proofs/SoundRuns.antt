@@ -1,5 +1,6 @@
 -- What is done without a hazard is free, and frames along a run are sound.
-use Rattle.std.proofs.Common.{◌≡◌, ℕ, ◌+◌, ◌*◌, ◌%◌, ◌^◌, Bool, true, false, cond, List, [], ◌∷◌, length, Option, Some, None, refl, ap, sym, ◌∙◌, subst, arith}
+use Rattle.std.proofs.Common.{◌≡◌, ℕ, ◌+◌, ◌*◌, ◌/◌, ◌%◌, ◌^◌, Bool, true, false, cond, List, [], ◌∷◌, ◌++◌, length, find, Option, Some, None, refl, ap, sym, ◌∙◌, subst, arith}
+use Rattle.std.specs.Prelude.{◌==◌}
 use Rattle.std.proofs.lemmas.List.{length-append}
 use Rattle.std.proofs.lemmas.List.FromFn.{length-map-range_with_len}
 use Rattle.std.specs.Int.{w16, w32, to_le_bytes, to_be_bytes}
@@ -13,24 +14,33 @@ use Rattle.i9_isa.specs.declared.size.Transfer.{Transfer}
 use Rattle.i9_isa.specs.declared.inst.Operand.{Operand}
 use Rattle.i9_isa.specs.declared.inst.Inst.{Inst}
 use Rattle.i9_isa.specs.Transfers.{byte_count, transfer_of}
-use Rattle.i9_model.specs.Writes.{wrapped, upwards}
-use Rattle.i9_model.specs.Memory.{Memory, region_of, is_big, half_bytes, word_in, word_bytes}
+use Rattle.i9_model.specs.Writes.{wrapped, places_of, upwards}
+use Rattle.i9_model.specs.Memory.{Memory, with_writes, region_of, is_big, half_bytes, word_in, word_bytes}
 use Rattle.i9_model.specs.State.{State, Frames, started, boot}
-use Rattle.i9_model.specs.Hazards.{read_hazard, write_hazard, writes_hazard, save_hazard}
+use Rattle.i9_model.specs.Hazards.{or_else, read_hazard, write_hazard, writes_hazard, port_hazard, save_hazard}
 use Rattle.i9_model.specs.Operands.{value, word_of, source_words, address}
 use Rattle.i9_model.specs.Step.{Move, Stays, Saves, Returns, Flushes, Action, bytes_of_words, stored_of, moving, merged, atomic_address, atomic, Message, AsksNothing, AsksRestart, AsksGroup, message_of, message_kind, message_action, entering, action_by_name, action_by, action_of, frames_after, moved, acted}
 use Rattle.i9_model.specs.Access.{Changes, moved_access, access_by_name, access_by, hazard_in, hazard_of}
 use Rattle.i9_model.specs.Sound.{IsSound}
 use Rattle.i9_model.specs.Free.{IsFree}
-use Rattle.i9_model.specs.Run.{Given, Instruction, Faulted, Entered, Kind, action_by_kind, Record, Does, Due, entry_in, state_after, due_after, next_in, IsPast}
+use Rattle.i9_model.specs.Run.{Given, Instruction, Faulted, Entered, Interrupted, Reached, Kind, action_by_kind, Record, Does, Due, entry_in, state_after, due_after, event_after, next_in, IsPast}
 use Rattle.i9_model.specs.declared.layout.TheConstants.{FP, SP}
 use Rattle.i9_model.specs.declared.faults.Entry.{Entry}
+use Rattle.i9_model.specs.declared.interrupts.Chosen.{Chosen}
+use Rattle.i9_model.specs.declared.event.Event.{Event}
+use Rattle.i9_model.specs.declared.interrupts.Cause.{Cause}
+use Rattle.i9_model.specs.declared.interrupts.Cause.TheVariants.{Nmi, Line, Soft}
+use Rattle.i9_model.specs.declared.interrupts.TheConstants.{PENDING_VECTORS}
+use Rattle.i9_model.specs.Frames.{in_frames, saved, wrote}
+use Rattle.i9_model.specs.Interrupts.{vector_priority, without_bit, byte_hazard, priority_place, pending_place, left_pending, priority_writes, taken_writes, priority_hazard, taken_hazard, clearing_writes, clearing_hazard, record_writes}
+use Rattle.i9_model.specs.Before.{entry_writes, interrupting}
 use Rattle.i9_model.specs.Calls.{call_type, record_address}
-use Rattle.i9_model.proofs.CallLaws.{second_none, system_free, system_save, EntersFree, enters_free}
+use Rattle.i9_model.proofs.CallLaws.{first_none, second_none, system_free, system_save, EntersFree, enters_free}
 use Rattle.i9_model.proofs.ControlLaws.{acted-frames}
 use Rattle.i9_model.proofs.FrameLaws.{sound-none, sound-saved, sound-returned, sound-flushed, sound-wrote}
 use Rattle.i9_model.proofs.Runs.{writes_hazard-upwards}
 use Rattle.i9_model.proofs.Comes.{MayCome, next_comes}
+use Rattle.i9_model.proofs.InterruptsFree.{InterruptsFree, interrupts_free}
 
 -- ---- how many bytes are stored
 
@@ -138,13 +148,77 @@ entering_clear s e free =
     let long : length bs ≡ 16 = words_long s.memory a e.words ∙ ap (λ (n : ℕ). 4 * n) free.four in
     record { save = free.save; free = record { whole = refl; free = run_free (frames_after s.frames (entering e s).move) a bs 16 long free.record_free; controls = tt } }
 
+-- ---- the entry of an interrupt
+
+writes_append : (f : Frames) (ps qs : List (ℕ × ℕ)) → writes_hazard f ps ≡ None → writes_hazard f qs ≡ None → writes_hazard f (ps ++ qs) ≡ None
+unfolding writes_hazard
+writes_append f [] qs one two = two
+writes_append f (p ∷ ps) qs one two = by_live (in_frames f.live p.0) one (λ later. writes_append f ps qs later two)
+  where
+    by_live : (b : Bool) → cond b (Some p.0) (find (in_frames f.live) (places_of ps)) ≡ None → (find (in_frames f.live) (places_of ps) ≡ None → find (in_frames f.live) (places_of (ps ++ qs)) ≡ None)
+        → cond b (Some p.0) (find (in_frames f.live) (places_of (ps ++ qs))) ≡ None
+    by_live true e later = absurd cc
+    by_live false e later = later e
+
+-- one byte is written beside live frames
+byte_free : (f : Frames) (a v : ℕ) → byte_hazard f (wrapped a) ≡ None → writes_hazard f ((wrapped a, v) ∷ []) ≡ None
+byte_free f a v none =
+    let same : wrapped (wrapped a) ≡ wrapped a = omega arith in
+    subst (λ (x : ℕ). writes_hazard f ((x, v) ∷ []) ≡ None) same
+    (run_free f (wrapped a) (v ∷ []) 1 refl (first_none (write_hazard f (wrapped a) 1) (port_hazard (wrapped a) 1) none))
+
+priority_free : (m : Memory) (f : Frames) (table v : ℕ) → priority_hazard m f table v ≡ None → writes_hazard f (priority_writes m table v) ≡ None
+priority_free m f table v none = by_left (left_pending m table v == 0) none
+  where
+    byte : ℕ
+    byte = without_bit (m.bytes (priority_place table v)) (vector_priority v % 8)
+
+    by_left : (b : Bool) → cond b (byte_hazard f (priority_place table v)) None ≡ None → writes_hazard f (cond b ((priority_place table v, byte) ∷ []) []) ≡ None
+    by_left true e = byte_free f (table + vector_priority v / 8) byte e
+    by_left false e = no_writes f
+
+taken_free : (m : Memory) (f : Frames) (table v : ℕ) → taken_hazard m f table v ≡ None → writes_hazard f (taken_writes m table v) ≡ None
+unfolding taken_hazard taken_writes
+taken_free m f table v none =
+    let priority = priority_hazard m f table v in
+    let byte = byte_hazard f (pending_place table v) in
+    let two = or_else (read_hazard f (pending_place table v) 1) (or_else priority byte) in
+    let written = second_none (read_hazard f (pending_place table v) 1) (or_else priority byte) (second_none (read_hazard f (priority_place table v) 1) two none) in
+    writes_append f (priority_writes m table v) ((pending_place table v, left_pending m table v) ∷ [])
+    (priority_free m f table v (first_none priority byte written))
+    (byte_free f (table + (PENDING_VECTORS + v / 8)) (left_pending m table v) (second_none priority byte written))
+
+clearing_free : (cause : Cause) (m : Memory) (f : Frames) (table v : ℕ) → clearing_hazard cause m f table v ≡ None → writes_hazard f (clearing_writes cause m table v) ≡ None
+clearing_free Nmi m f table v none = no_writes f
+clearing_free (Line k) m f table v none = no_writes f
+clearing_free Soft m f table v none = taken_free m f table v none
+
+-- it saves a frame, stores its record, and then clears what chose it
+entry_free : (s : State) (c : Chosen) (e : Entry) → InterruptsFree s c e → writes_hazard (saved s.frames e.push.save) (entry_writes s c e) ≡ None
+unfolding writes_hazard
+entry_free s c e free =
+    let m = s.memory in
+    let a = record_address e.push.frame in
+    let bs = bytes_of_words m a e.words in
+    let long : length bs ≡ 16 = words_long m a e.words ∙ ap (λ (n : ℕ). 4 * n) free.enters.four in
+    let recorded = record_writes m e.push e.words in
+    let saves = saved s.frames e.push.save in
+    writes_append saves recorded (clearing_writes c.cause (with_writes m recorded) s.tables.interrupt_table c.vector)
+    (run_free saves a bs 16 long free.enters.record_free)
+    (clearing_free c.cause (with_writes m recorded) (wrote saves recorded) s.tables.interrupt_table c.vector free.clears)
+
+interrupting_clear : (s : State) (c : Chosen) (e : Entry) → InterruptsFree s c e → IsClear s (interrupting c e s)
+interrupting_clear s c e free = record { save = free.enters.save; free = record { whole = refl; free = entry_free s c e free; controls = tt } }
+
 -- what comes next
-pub kind_clear : (limit : ℕ) (due : Due) (k : Kind) (s : State) → MayCome limit due s k → IsClear s (action_by_kind k s)
+pub kind_clear : (limit : ℕ) (due : Due) (stands : Option Event) (k : Kind) (s : State) → MayCome limit due stands s k → IsClear s (action_by_kind k s)
 unfolding entry_in
-kind_clear limit due (Instruction i) s may = action_clear i s may.2
-kind_clear limit due (Faulted inst fault) s may = record { save = tt; free = record { whole = tt; free = no_writes s.frames; controls = tt } }
-kind_clear limit due (Entered e) s may =
+kind_clear limit due stands (Instruction i) s may = action_clear i s may.2
+kind_clear limit due stands (Faulted inst fault) s may = record { save = tt; free = record { whole = tt; free = no_writes s.frames; controls = tt } }
+kind_clear limit due stands (Entered e) s may =
     entering_clear s e (enters_free s.memory s.frames s.tables.fault_table s.tables.system_table may.0 s.pc s.ac (s.regs FP) (s.regs SP) e may.2)
+kind_clear limit due stands (Interrupted c e) s may = interrupting_clear s c e (interrupts_free s c e may.3)
+kind_clear limit due stands (Reached e) s may = record { save = tt; free = record { whole = tt; free = no_writes s.frames; controls = tt } }
 
 -- ---- frames along a run
 
@@ -158,10 +232,10 @@ sound-acted : (s : State) (a : Action) → IsClear s a → IsSound s.frames → 
 unfolding moved
 sound-acted s a clear sound = subst IsSound (sym (acted-frames s a)) (sound-wrote (frames_after s.frames a.move) a.writes (sound-moved a.move s.frames clear.save sound) clear.free.free)
 
-next_sound : (limit : ℕ) (due : Due) (s : State) (r : Record) → IsSound s.frames → next_in limit due s ≡ Does r → IsSound r.after.frames
-next_sound limit due s r sound e =
-    let comes = next_comes limit due s r e in
-    subst (λ (x : Record). IsSound x.after.frames) (sym comes.0) (sound-acted s (action_by_kind r.kind s) (kind_clear limit due r.kind s comes.1) sound)
+next_sound : (limit : ℕ) (due : Due) (stands : Option Event) (s : State) (r : Record) → IsSound s.frames → next_in limit due stands s ≡ Does r → IsSound r.after.frames
+next_sound limit due stands s r sound e =
+    let comes = next_comes limit due stands s r e in
+    subst (λ (x : Record). IsSound x.after.frames) (sym comes.0) (sound-acted s (action_by_kind r.kind s) (kind_clear limit due stands r.kind s comes.1) sound)
 
 sound-boot : (image : List (ℕ × ℕ)) → IsSound (boot image).frames
 unfolding boot started
@@ -170,4 +244,4 @@ sound-boot image = sound-none
 -- frames are sound after each record of a run
 pub sound-after : (g : Given) (rs : List Record) → IsPast g rs → IsSound (state_after g rs).frames
 sound-after g [] past = sound-boot g.image
-sound-after g (r ∷ rs) past = next_sound g.length (due_after rs) (state_after g rs) r (sound-after g rs past.0) past.1
+sound-after g (r ∷ rs) past = next_sound g.length (due_after rs) (event_after g rs) (state_after g rs) r (sound-after g rs past.0) past.1

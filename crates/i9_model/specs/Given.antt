@@ -3,7 +3,7 @@ use Rattle.std.specs.Prelude.{ℕ, List, Option}
 use Rattle.i9_model.specs.declared.event.Timed.{Timed}
 
 -- The pairs of address and byte of an image; the plan of events; the most instructions; and the number of register
--- sets, where one is asked for. The plan moves nothing yet.
+-- sets, where one is asked for.
 pub record Given : Type 0 where
   pub image : List (ℕ × ℕ)
   pub plan : List Timed

@@ -22,6 +22,8 @@ pub mod Unbuilt
 pub mod Faults
 pub mod Interrupts
 pub mod Standing
+pub mod Before
+pub mod Left
 pub mod Given
 pub mod Run
 pub mod Overlay

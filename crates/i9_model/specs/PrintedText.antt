@@ -1,16 +1,19 @@
 -- The printed text of a run: its lines, and their bytes.
-use Rattle.std.specs.Prelude.{ℕ, Option, Some, None, List, [], ◌∷◌, ◌++◌, codes, take, drop, map}
+use Rattle.std.specs.Prelude.{ℕ, ◌+◌, Option, Some, None, List, [], ◌∷◌, ◌++◌, codes, take, drop, map}
 use Rattle.std.specs.Fmt.{decimal}
 use Rattle.std.specs.List.{flat_map, range_with_len}
 use Rattle.i9_text.specs.Written.{word_text, byte_text}
 use Rattle.i9_model.specs.declared.view.View.{View}
 use Rattle.i9_model.specs.declared.event.Event.{Event}
+use Rattle.i9_model.specs.declared.event.Event.TheVariants.{Pin, Nmi, Dma, Feed, Show}
 use Rattle.i9_model.specs.declared.event.Timed.{Timed}
+use Rattle.i9_model.specs.Writes.{wrapped}
 use Rattle.i9_model.specs.Memory.{console_byte}
+use Rattle.i9_model.specs.Overlay.{overlay}
 use Rattle.i9_model.specs.Events.{journal_text}
 use Rattle.i9_model.specs.ScheduleText.{timed_at}
 use Rattle.i9_model.specs.State.{State}
-use Rattle.i9_model.specs.Run.{Given, Point, End, Exit, Limit, Hazard, Dead, Unbuilt, Record, point_of, action_done, state_after}
+use Rattle.i9_model.specs.Run.{Given, Point, End, Exit, Limit, Hazard, Dead, Unbuilt, Kind, Instruction, Faulted, Entered, Interrupted, Reached, Record, point_of, action_done, state_after}
 use Rattle.i9_model.specs.declared.run.Point.TheVariants as points
 
 -- a printed line; a drained point has three
@@ -39,9 +42,30 @@ abbrev pub point_lines : Option Point → State → List Shown
 point_lines None s = []
 point_lines (Some kind) s = Drained kind (view_of s) ∷ []
 
--- the lines of a record: a console byte, and a drained point
+-- the bytes from an address up, as far as they are compared
+abbrev pub overlays : State → ℕ → ℕ → List (Option ℕ)
+overlays s a n = map (λ k. overlay s (wrapped (a + k))) (range_with_len 0 n)
+
+-- the bytes that an event shows
+abbrev pub bytes_lines : Event → State → List Shown
+bytes_lines (Pin x) s = []
+bytes_lines Nmi s = []
+bytes_lines (Dma c) s = []
+bytes_lines (Feed c bytes) s = []
+bytes_lines (Show a n) s = Bytes a (overlays s a n) ∷ []
+
+-- an event's own line comes before what it shows
+abbrev pub event_lines : Kind → State → List Shown
+event_lines (Instruction i) s = []
+event_lines (Faulted inst fault) s = []
+event_lines (Entered e) s = []
+event_lines (Interrupted c e) s = []
+event_lines (Reached e) s = Journal s.count e ∷ bytes_lines e s
+
+-- the lines of a record: those of an event, from the state before it; a console byte; and a drained point
 abbrev pub record_lines : Record → List Shown
-record_lines r = out_lines (console_byte (action_done r).writes) ++ point_lines (point_of r.kind) r.after
+record_lines r =
+    event_lines r.kind r.before ++ (out_lines (console_byte (action_done r).writes) ++ point_lines (point_of r.kind) r.after)
 
 -- the end of a run: its drained point, and how it ended
 abbrev pub last_lines : View → End → List Shown
@@ -74,6 +98,8 @@ words_text label ws = label ++ flat_map spaced ws ++ line_feed
 abbrev pub drained_text : Point → List ℕ
 drained_text points.Flush = codes "flush"
 drained_text points.Sync = codes "sync"
+drained_text points.Event = codes "event"
+drained_text points.Int = codes "int"
 drained_text points.Fault = codes "fault"
 drained_text points.End = codes "end"
 

@@ -1,5 +1,5 @@
 -- A run as the list of its records, newest first.
-use Rattle.std.specs.Prelude.{◌≡◌, ℕ, ◌==◌, if◌then◌else◌, Option, Some, None, List, [], ◌∷◌, Result, Ok, Err}
+use Rattle.std.specs.Prelude.{◌≡◌, ℕ, ◌==◌, if◌then◌else◌, Option, Some, None, List, [], ◌∷◌, ◌++◌, length, Result, Ok, Err}
 use Rattle.std.specs.Option.{option_map}
 use Rattle.i9_isa.specs.declared.op.Op.{Op}
 use Rattle.i9_isa.specs.declared.op.Op.TheVariants.{Flushreg, Syncf}
@@ -10,9 +10,14 @@ use Rattle.i9_model.specs.declared.faults.Fault.{Fault}
 use Rattle.i9_model.specs.declared.faults.Entry.{Entry}
 use Rattle.i9_model.specs.declared.faults.FaultStop.{FaultStop}
 use Rattle.i9_model.specs.declared.faults.FaultStop.TheVariants as stops
+use Rattle.i9_model.specs.declared.interrupts.Chosen.{Chosen}
+use Rattle.i9_model.specs.declared.event.Event.{Event}
+use Rattle.i9_model.specs.declared.event.Timed.{Timed}
 use Rattle.i9_model.specs.Memory.{exit_word}
 use Rattle.i9_model.specs.State.{State, boot}
 use Rattle.i9_model.specs.Step.{Action, faulting, entering, action_of, acted, counted}
+use Rattle.i9_model.specs.Before.{choice_in, interrupt_in, interrupting, receiving}
+use Rattle.i9_model.specs.ScheduleText.{timed_at, standing}
 use Rattle.i9_model.specs.Standing.{Standing, Meets, NotBuilt, Refused, Faults, Runs, stands_at}
 use Rattle.i9_model.specs.Faults.{planned_fault}
 pub use Rattle.i9_model.specs.Given.{Given}
@@ -23,12 +28,14 @@ pub use Rattle.i9_model.specs.declared.run.Due.{Due}
 use Rattle.i9_model.specs.declared.run.Point.TheVariants as points
 use Rattle.i9_model.specs.declared.run.Due.TheVariants as dues
 
--- what was done: an instruction; one that faulted, where its word is not refused, with its fault; or the entry of
--- the fault
+-- what was done: an instruction; one that faulted, where its word is not refused, with its fault; the entry of the
+-- fault; the entry of an interrupt that was chosen; or an event that was reached
 pub data Kind : Type 0 where
   Instruction : (inst : Inst) → Kind
   Faulted : (inst : Option Inst) → (fault : Fault) → Kind
   Entered : (entry : Entry) → Kind
+  Interrupted : (choice : Chosen) → (entry : Entry) → Kind
+  Reached : (event : Event) → Kind
 
 -- what was done, and the states before and after it
 pub record Record : Type 0 where
@@ -52,12 +59,16 @@ abbrev pub action_by_kind : Kind → State → Action
 action_by_kind (Instruction i) s = action_of i s
 action_by_kind (Faulted inst fault) s = faulting (faulted_words inst) s
 action_by_kind (Entered e) s = entering e s
+action_by_kind (Interrupted c e) s = interrupting c e s
+action_by_kind (Reached e) s = receiving e s
 
--- how many instructions it counts: the entry of a fault is none
+-- how many instructions it counts: an entry is none, and no more is an event
 abbrev pub counts_of : Kind → ℕ
 counts_of (Instruction i) = 1
 counts_of (Faulted inst fault) = 1
 counts_of (Entered e) = 0
+counts_of (Interrupted c e) = 0
+counts_of (Reached e) = 0
 
 abbrev pub point_by_name : Op → Option Point
 point_by_name Flushreg = Some points.Flush
@@ -69,6 +80,8 @@ abbrev pub point_of : Kind → Option Point
 point_of (Instruction i) = point_by_name i.op
 point_of (Faulted inst fault) = None
 point_of (Entered e) = Some points.Fault
+point_of (Interrupted c e) = Some points.Int
+point_of (Reached e) = Some points.Event
 
 -- the state after it, from the one before
 abbrev pub after_kind : Kind → State → State
@@ -98,6 +111,8 @@ abbrev pub due_by : Kind → State → Due
 due_by (Instruction i) s = end_due (exit_in s (action_of i s))
 due_by (Faulted inst fault) s = dues.Entry fault
 due_by (Entered e) s = dues.Nothing
+due_by (Interrupted c e) s = dues.Nothing
+due_by (Reached e) s = dues.Nothing
 
 abbrev pub due_after : List Record → Due
 due_after [] = dues.Nothing
@@ -127,11 +142,28 @@ next_by_entry s (Err (stops.Dead code a)) = Ends (Dead code a)
 unfoldable pub entry_in : State → Fault → Result Entry FaultStop
 entry_in s fault = planned_fault s.memory s.frames s.tables.fault_table s.tables.system_table fault s.pc s.ac (s.regs FP) (s.regs SP)
 
--- what comes next in a state, at a length: what is due, the end of the length, or one instruction
-abbrev pub next_in : ℕ → Due → State → Next
-next_in limit (dues.End f) s = Ends f
-next_in limit (dues.Entry fault) s = next_by_entry s (entry_in s fault)
-next_in limit dues.Nothing s = if s.count == limit then Ends Limit else next_by_standing s (stands_at s)
+-- the event that stands there is reached; where none does it is the instruction's turn
+abbrev pub next_by_event : Option Event → State → Next
+next_by_event (Some e) s = Does (record_of (Reached e) s)
+next_by_event None s = next_by_standing s (stands_at s)
+
+-- an interrupt is entered, unless that meets a hazard
+abbrev pub next_by_interrupt : State → Chosen → Result Entry ℕ → Next
+next_by_interrupt s c (Ok e) = Does (record_of (Interrupted c e) s)
+next_by_interrupt s c (Err a) = Ends (Hazard a)
+
+-- an interrupt that is chosen comes before an event and before an instruction; the choice may meet a hazard
+abbrev pub next_by_choice : Option Event → State → Result (Option Chosen) ℕ → Next
+next_by_choice stands s (Ok (Some c)) = next_by_interrupt s c (interrupt_in s c)
+next_by_choice stands s (Ok None) = next_by_event stands s
+next_by_choice stands s (Err a) = Ends (Hazard a)
+
+-- what comes next in a state, at a length, where this event stands: what is due, the end of the length, the entry of an
+-- interrupt, the event, or one instruction
+abbrev pub next_in : ℕ → Due → Option Event → State → Next
+next_in limit (dues.End f) stands s = Ends f
+next_in limit (dues.Entry fault) stands s = next_by_entry s (entry_in s fault)
+next_in limit dues.Nothing stands s = if s.count == limit then Ends Limit else next_by_choice stands s (choice_in s)
 
 -- ---- runs of what is given
 
@@ -140,9 +172,26 @@ abbrev pub state_after : Given → List Record → State
 state_after g [] = boot g.image
 state_after g (r ∷ rs) = r.after
 
+-- the events that a record reached, each at its count
+abbrev pub reached_by : Kind → State → List Timed
+reached_by (Instruction i) s = []
+reached_by (Faulted inst fault) s = []
+reached_by (Entered e) s = []
+reached_by (Interrupted c e) s = []
+reached_by (Reached e) s = timed_at s.count e ∷ []
+
+-- the events that the records reached, the first one first
+abbrev pub reached_after : List Record → List Timed
+reached_after [] = []
+reached_after (r ∷ rs) = reached_after rs ++ reached_by r.kind r.before
+
+-- the event that stands there: the first one of the plan that was not reached, once its count has come
+abbrev pub event_after : Given → List Record → Option Event
+event_after g rs = standing g.plan (length (reached_after rs)) (state_after g rs).count
+
 -- what comes after the records
 abbrev pub next : Given → List Record → Next
-next g rs = next_in g.length (due_after rs) (state_after g rs)
+next g rs = next_in g.length (due_after rs) (event_after g rs) (state_after g rs)
 
 -- these are the first records of the run
 abbrev pub IsPast : Given → List Record → Type 0

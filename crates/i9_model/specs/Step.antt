@@ -1,5 +1,5 @@
 -- One instruction in a state: what it does is data, and one function applies it.
-use Rattle.std.specs.Prelude.{ℕ, ◌+◌, ◌-◌, ◌*◌, ◌/◌, nat_lt, ◌%◌, ◌^◌, ◌==◌, Bool, if◌then◌else◌, bit_and, bit_or, List, [], ◌∷◌, ◌++◌, map, replicate, Option, Some, None}
+use Rattle.std.specs.Prelude.{ℕ, ◌+◌, ◌-◌, ◌*◌, ◌/◌, nat_lt, ◌%◌, ◌^◌, ◌==◌, Bool, false, if◌then◌else◌, bit_and, bit_or, List, [], ◌∷◌, ◌++◌, map, replicate, Option, Some, None}
 use Rattle.std.specs.List.{range_with_len}
 use Rattle.i9_isa.specs.declared.op.Op.{Op}
 use Rattle.i9_isa.specs.declared.op.Op.TheVariants.{Lda, Atadd, Atmod, Bx, Balx, Bal, Call, Callx, Calls, Ret, Flushreg, Modac, Modtc, Modpc, Sysctl}
@@ -56,7 +56,8 @@ pub record Action : Type 0 where
   pub control : Control
   pub next : ℕ
 
--- nothing is done, but control goes to an address
+-- Nothing is done, but control goes to an address. The choice of an interrupt that came before has looked at what
+-- software asks for, where the check flag was set, so the flag is clear.
 abbrev pub going : State → ℕ → Action
 going s next = record {
   sets = [];
@@ -65,7 +66,7 @@ going s next = record {
   ac = s.ac;
   pc = s.pc;
   tc = s.trace.tc;
-  check = s.check;
+  check = false;
   interrupts = s.interrupts;
   dma = s.dma;
   control = KeepsControls;
@@ -274,11 +275,12 @@ abbrev pub faulting : ℕ → State → Action
 faulting words s = going s (wrapped (s.ip + 4 * words))
 
 -- The entry of a fault saves the locals with the address behind the instruction, writes its record, and goes on at its
--- handler. It is no instruction of its own.
+-- handler. It is no instruction of its own, and comes before the next choice of an interrupt: the check flag stays.
 abbrev pub entering : Entry → State → Action
 entering e s = record (pushing s e.push s.ip e.target) {
   writes = upwards (record_address e.push.frame) (bytes_of_words s.memory (record_address e.push.frame) e.words);
   pc = e.pc;
+  check = s.check;
 }
 
 -- a branch, and every other name by the table of results

@@ -2,6 +2,7 @@
 
 ghost use Rattle.std.specs.Prelude.{◌≡◌, ◌≢◌, ◌≤◌, ◌++◌, List, ℕ, Option, None, Ok};
 ghost use Rattle.i9_model.specs.declared.calls.Sys.{Sys};
+ghost use Rattle.i9_model.specs.declared.event.Event.{Event};
 ghost use Rattle.i9_model.specs.Memory.{Memory};
 ghost use Rattle.i9_model.specs.State.{State, Frames};
 ghost use Rattle.i9_model.specs.Frames.{no_frames, saved, returned, flushed, wrote};
@@ -74,8 +75,8 @@ pub fn returns_undo_system_calls()
 /// next in them is the same end, or a record that does the same and leaves states that are again the same but for
 /// such bytes.
 pub fn only_compared_bytes_are_seen()
-    ensures next { (limit : ℕ) (due : Due) (s t : State) → AreAlike s t
-        → AreNextAlike (next_in limit due s) (next_in limit due t) }
+    ensures next { (limit : ℕ) (due : Due) (stands : Option Event) (s t : State) → AreAlike s t
+        → AreNextAlike (next_in limit due stands s) (next_in limit due stands t) }
     ensures view { (s t : State) → AreAlike s t → view_of t ≡ view_of s }
     ensures overlay { (s t : State) (a : ℕ) → AreAlike s t → overlay t a ≡ overlay s a }
 {}

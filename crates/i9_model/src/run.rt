@@ -27,6 +27,10 @@ pub enum Point {
     Flush,
     /// After syncf.
     Sync,
+    /// After an event from outside.
+    Event,
+    /// After the entry of an interrupt.
+    Int,
     /// After the entry of a fault.
     Fault,
     /// At the end of the run.

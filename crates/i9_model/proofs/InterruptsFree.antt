@@ -1,0 +1,48 @@
+-- The entry of an interrupt that meets no hazard writes beside live frames.
+use Rattle.std.proofs.Common.{◌≡◌, ℕ, ◌*◌, Bool, true, false, cond, List, [], ◌∷◌, ◌++◌, length, Option, None, Some, Ok, find, refl, sym, ap, ◌∙◌, subst}
+use Rattle.i9_model.specs.declared.layout.TheConstants.{FP, SP, RECORD_SIZE}
+use Rattle.i9_model.specs.declared.push.Push.{Push}
+use Rattle.i9_model.specs.declared.faults.Entry.{Entry}
+use Rattle.i9_model.specs.declared.interrupts.Cause.{Cause}
+use Rattle.i9_model.specs.declared.interrupts.Cause.TheVariants.{Nmi, Line, Soft}
+use Rattle.i9_model.specs.declared.interrupts.Chosen.{Chosen}
+use Rattle.i9_model.specs.Writes.{wrapped, places_of, upwards}
+use Rattle.i9_model.specs.Memory.{Memory, with_writes}
+use Rattle.i9_model.specs.State.{State, Frames}
+use Rattle.i9_model.specs.Frames.{saved, wrote, record_address}
+use Rattle.i9_model.specs.Hazards.{or_else, read_hazard, write_hazard, writes_hazard, port_hazard, save_hazard, record_write_hazard}
+use Rattle.i9_model.specs.Interrupts.{byte_hazard, priority_place, pending_place, left_pending, priority_writes, taken_writes, priority_hazard, taken_hazard, clearing_writes, clearing_hazard, vector_place, interrupt_push, interrupt_record, record_writes, cleared_hazard, interrupt_hazard, interrupt_entry, planned_interrupt}
+use Rattle.i9_model.specs.Step.{bytes_of_words}
+use Rattle.i9_model.specs.Before.{interrupt_in, entry_writes}
+use Rattle.i9_model.proofs.CallLaws.{first_none, second_none, unless_ok, EntersFree}
+use Rattle.i9_model.proofs.Runs.{writes_hazard-upwards}
+
+-- the entry meets no hazard, where its record has four words
+pub record InterruptsFree (s : State) (c : Chosen) (e : Entry) : Type 0 where
+  pub vector : read_hazard s.frames (vector_place s.tables.interrupt_table c.vector) 4 ≡ None
+  pub enters : EntersFree s.frames e
+  pub clears : cleared_hazard s.memory s.frames s.tables.interrupt_table c e.push e.words ≡ None
+
+pub interrupts_free : (s : State) (c : Chosen) (e : Entry) → interrupt_in s c ≡ Ok e → InterruptsFree s c e
+unfolding interrupt_in planned_interrupt interrupt_hazard record_write_hazard
+interrupts_free s c e is =
+    let m = s.memory in
+    let f = s.frames in
+    let table = s.tables.interrupt_table in
+    let push = interrupt_push s.tables.interrupt_stack s.pc (s.regs FP) (s.regs SP) in
+    let words = interrupt_record c.vector s.pc s.ac in
+    let vector = read_hazard f (vector_place table c.vector) 4 in
+    let record_first = or_else (record_write_hazard f push) (cleared_hazard m f table c push words) in
+    let found = unless_ok (or_else vector (or_else (save_hazard f push.save) record_first)) (interrupt_entry m table c push words) e is in
+    let later = second_none vector (or_else (save_hazard f push.save) record_first) found.0 in
+    let last = second_none (save_hazard f push.save) record_first later in
+    let here : InterruptsFree s c (interrupt_entry m table c push words) = record {
+      vector = first_none vector (or_else (save_hazard f push.save) record_first) found.0;
+      enters = record {
+        save = first_none (save_hazard f push.save) record_first later;
+        record_free = first_none (write_hazard (saved f push.save) (record_address push.frame) RECORD_SIZE) (port_hazard (record_address push.frame) RECORD_SIZE) (first_none (record_write_hazard f push) (cleared_hazard m f table c push words) last);
+        four = refl;
+      };
+      clears = second_none (record_write_hazard f push) (cleared_hazard m f table c push words) last;
+    } in
+    subst (InterruptsFree s c) found.1 here
