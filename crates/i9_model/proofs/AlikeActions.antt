@@ -1,6 +1,6 @@
 -- In states that are alike the accesses of an instruction meet the same hazard, and without one it does the same.
 use Rattle.std.proofs.Common.{◌≡◌, ℕ, ◌+◌, ◌*◌, ◌%◌, Bool, true, false, cond, List, [], ◌∷◌, ◌++◌, eqb, Option, Some, None, refl, sym, ap, ◌∙◌, arith}
-use Rattle.std.specs.Prelude.{not, bit_and}
+use Rattle.std.specs.Prelude.{not, bit_and, ◌==◌}
 use Rattle.std.proofs.lemmas.Bool.{or_left, or_right, eqb-true}
 use Rattle.i9_isa.specs.declared.op.Op.{Op}
 use Rattle.i9_isa.specs.declared.op.Op.TheVariants.{Atadd, Atmod, Calls, Ret, Sysctl}
@@ -12,17 +12,18 @@ use Rattle.i9_isa.specs.declared.size.Transfer.{Transfer}
 use Rattle.i9_isa.specs.declared.inst.Operand.{Operand}
 use Rattle.i9_isa.specs.declared.inst.Inst.{Inst}
 use Rattle.i9_isa.specs.Transfers.{byte_count, transfer_of}
-use Rattle.i9_model.specs.declared.layout.TheConstants.{FP, SP, PFP, LOCALS, FRAME_SIZE, PC_MASK, AC_MASK}
+use Rattle.i9_model.specs.declared.layout.TheConstants.{FP, SP, PFP, LOCALS, FRAME_SIZE, INTERRUPT_RETURN, PC_MASK, AC_MASK}
 use Rattle.i9_model.specs.declared.calls.Sys.{Sys}
 use Rattle.i9_model.specs.Writes.{wrapped, upwards}
 use Rattle.i9_model.specs.Memory.{Memory, half_bytes, word_in, word_bytes, words_in}
 use Rattle.i9_model.specs.State.{State, Frames, aligned}
 use Rattle.i9_model.specs.Frames.{rounded_down, in_bytes, in_frames}
+use Rattle.i9_model.specs.Requests.{with_bit, vector_priority, priority_place, pending_place, byte_hazard, request_hazard, request_writes}
 use Rattle.i9_model.specs.Hazards.{or_else, read_hazard, write_hazard, save_hazard, port_hazard, frame_hazard, return_hazard}
 use Rattle.i9_model.specs.Operands.{value, source_words, address}
 use Rattle.i9_model.specs.Calls.{entry_address, stack_address, is_switch, stack_hazard, system_hazard, entered_here, entered_switched, system_entered, call_type, record_address, takes_record, return_type, record_hazard, controls_hazard, ret_hazard, returned_pc, returned_ac, popped, in_supervisor_mode, leaves_supervisor, without_supervisor}
-use Rattle.i9_model.specs.Step.{Action, Returns, filled, Message, AsksNothing, AsksRestart, AsksGroup, loaded, moving, assigning, answering, passing, going, bytes_of_words, stored_of, merged, atomic_address, atomic, message_of, message_kind, message_action, following, pushing, calls_action, ret_action, frame_sets, action_by_name, action_by, action_of}
-use Rattle.i9_model.specs.Access.{Changes, CallsSystem, ReturnsBy, moved_access, access_by_name, access_by, hazard_in, hazard_of}
+use Rattle.i9_model.specs.Step.{Action, Returns, filled, Message, AsksNothing, AsksInterrupt, AsksRestart, AsksGroup, loaded, moving, assigning, answering, passing, going, bytes_of_words, stored_of, merged, atomic_address, atomic, message_of, argument_of, message_kind, message_action, following, pushing, calls_action, ret_action, frame_sets, action_by_name, action_by, action_of}
+use Rattle.i9_model.specs.Access.{Changes, CallsSystem, ReturnsBy, moved_access, message_access, access_by_name, access_by, hazard_in, hazard_of}
 use Rattle.i9_model.specs.Alike.{is_hard, is_compared, AgreeWhere, with_other, with_memory}
 use Rattle.i9_model.proofs.CallLaws.{first_none, second_none}
 use Rattle.i9_model.proofs.Readings.{half_same, word_same, SameBytes, read_same, inner_word_same, words_same, first_same, in_bytes-has}
@@ -144,7 +145,13 @@ saved_ac_same f m bytes kind fp ac same none = by_record (takes_record kind) non
 
 -- what a return does, by what it reads
 abbrev restoring : State → ℕ → ℕ → List ℕ → ℕ → ℕ → Action
-restoring s frame back words pc ac = record (going s (aligned back)) { sets = frame_sets words frame; move = Returns; pc = pc; ac = ac }
+restoring s frame back words pc ac = record (going s (aligned back)) {
+  sets = frame_sets words frame;
+  move = Returns;
+  pc = pc;
+  ac = ac;
+  check = return_type (s.regs PFP) == INTERRUPT_RETURN;
+}
 
 by_parts : (s : State) (frame back back2 : ℕ) (ws ws2 : List ℕ) (pc pc2 ac ac2 : ℕ) → back ≡ back2 → ws ≡ ws2 → pc ≡ pc2 → ac ≡ ac2 → restoring s frame back ws pc ac ≡ restoring s frame back2 ws2 pc2 ac2
 by_parts s frame back back2 ws ws2 pc pc2 ac ac2 h i j k = rw (h, i, j, k) refl
@@ -170,17 +177,32 @@ ret_same s bytes same none =
 
 -- ---- every name
 
-message_same : (m : Message) (i : Inst) (s : State) (bytes : ℕ → ℕ) → message_action m i (with_memory s bytes) ≡ message_action m i s
-message_same AsksNothing i s bytes = refl
-message_same AsksRestart i s bytes = refl
-message_same AsksGroup i s bytes = refl
+-- a request changes two bytes that are read
+pub request_same : (f : Frames) (m : Memory) (bytes : ℕ → ℕ) (table v : ℕ) → AgreeWhere (is_hard f) m bytes → request_hazard f table v ≡ None → request_writes (with_other m bytes) table v ≡ request_writes m table v
+unfolding request_hazard request_writes
+request_same f m bytes table v same none =
+    let p = priority_place table v in
+    let q = pending_place table v in
+    let one = read_hazard f p 1 in
+    let two = read_hazard f q 1 in
+    let written = or_else (byte_hazard f p) (byte_hazard f q) in
+    let first : bytes p ≡ m.bytes p = first_same f m bytes p 1 same (first_none one (or_else two written) none) (omega arith) in
+    let second : bytes q ≡ m.bytes q = first_same f m bytes q 1 same (first_none two written (second_none one (or_else two written) none)) (omega arith) in
+    ap (λ (b : ℕ). (p, with_bit b (vector_priority v % 8)) ∷ (q, with_bit (bytes q) (v % 8)) ∷ []) first
+    ∙ ap (λ (b : ℕ). (p, with_bit (m.bytes p) (vector_priority v % 8)) ∷ (q, with_bit b (v % 8)) ∷ []) second
+
+message_same : (m : Message) (i : Inst) (s : State) (bytes : ℕ → ℕ) → AgreeWhere (is_hard s.frames) s.memory bytes → hazard_in s (message_access m i s) ≡ None → message_action m i (with_memory s bytes) ≡ message_action m i s
+message_same AsksNothing i s bytes same none = refl
+message_same AsksInterrupt i s bytes same none = ap (λ (ps : List (ℕ × ℕ)). record (message_action AsksInterrupt i s) { writes = ps }) (request_same s.frames s.memory bytes s.tables.interrupt_table (argument_of i s) same none)
+message_same AsksRestart i s bytes same none = refl
+message_same AsksGroup i s bytes same none = refl
 
 name_same : (op : Op) (i : Inst) (s : State) (bytes : ℕ → ℕ) → AgreeWhere (is_compared s.frames) s.memory bytes → hazard_in s (access_by_name op i s) ≡ None → action_by_name op i (with_memory s bytes) ≡ action_by_name op i s
 name_same Atadd i s bytes same none = atomic_same i s bytes (λ old. wrapped (old + value s i.b)) (hard_bytes s.frames s.memory bytes same) none
 name_same Atmod i s bytes same none = atomic_same i s bytes (λ old. merged old (value s i.b) (value s i.c)) (hard_bytes s.frames s.memory bytes same) none
 name_same Calls i s bytes same none = calls_same i s bytes (hard_bytes s.frames s.memory bytes same) none
 name_same Ret i s bytes same none = ret_same s bytes same none
-name_same Sysctl i s bytes same none = message_same (message_kind (message_of i s)) i s bytes
+name_same Sysctl i s bytes same none = message_same (message_kind (message_of i s)) i s bytes (hard_bytes s.frames s.memory bytes same) none
 name_same _ i s bytes same none = refl
 
 pub action_same : (i : Inst) (s : State) (bytes : ℕ → ℕ) → AgreeWhere (is_compared s.frames) s.memory bytes → hazard_of i s ≡ None → action_of i (with_memory s bytes) ≡ action_of i s

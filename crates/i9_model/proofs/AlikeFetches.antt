@@ -29,9 +29,9 @@ use Rattle.i9_model.specs.Operands.{value}
 use Rattle.i9_model.specs.Tables.{tables_hazard}
 use Rattle.i9_model.specs.Calls.{system_hazard, system_entered, planned_system, planned_calls, calls_answer, call_type, planned_ret, popped, ret_hazard, return_type, controls_hazard, returned_pc, returned_ac}
 use Rattle.i9_model.specs.Faults.{raised, ◌>>=◌, or_stop, table_entry, checked_word, planned_handler, planned_frame, planned_fault}
-use Rattle.i9_model.specs.Step.{Message, AsksNothing, AsksRestart, AsksGroup, first_word, next_word, message_of, message_kind}
-use Rattle.i9_model.specs.Access.{Access, NoAccess, Reads, Writes, Changes, SavesAt, CallsSystem, ReturnsBy, ReadsTables, ReadsGroup, message_access, access_by_name, access_by, access_of, data_of, hazard_in, hazard_of, second_hazard, fetch_hazard}
-use Rattle.i9_model.specs.Unbuilt.{is_traced, is_built_form, is_built, is_other_return, is_imprecise, is_unbuilt_control}
+use Rattle.i9_model.specs.Step.{Message, AsksNothing, AsksInterrupt, AsksRestart, AsksGroup, first_word, next_word, message_of, message_kind}
+use Rattle.i9_model.specs.Access.{Access, NoAccess, Reads, Writes, Changes, SavesAt, CallsSystem, ReturnsBy, Requests, ReadsTables, ReadsGroup, message_access, access_by_name, access_by, access_of, data_of, hazard_in, hazard_of, second_hazard, fetch_hazard}
+use Rattle.i9_model.specs.Unbuilt.{is_traced, is_built, is_imprecise}
 use Rattle.i9_model.specs.Standing.{Standing, NotBuilt, raised_in, later_fault, by_access, by_later, by_raised, by_word, by_fetch, stands_at}
 use Rattle.i9_model.specs.Run.{entry_in}
 use Rattle.i9_model.specs.Alike.{is_beyond, is_hard, is_compared, AgreeWhere, with_other, with_memory, told_words}
@@ -71,11 +71,13 @@ access_hazard_same (Changes a n) s bytes same = refl
 access_hazard_same (SavesAt a) s bytes same = refl
 access_hazard_same (CallsSystem n) s bytes same = system_hazard_same s.frames s.memory bytes s.tables.system_table n s.pc (s.regs FP) (hard_bytes s.frames s.memory bytes same)
 access_hazard_same (ReturnsBy pfp) s bytes same = refl
+access_hazard_same (Requests v) s bytes same = refl
 access_hazard_same (ReadsTables prcb) s bytes same = tables_hazard_same (flushed s.frames) s.memory bytes prcb (flushed_hard s.frames s.memory bytes same)
 access_hazard_same (ReadsGroup group) s bytes same = refl
 
 message_access_same : (m : Message) (i : Inst) (s : State) (bytes : ℕ → ℕ) → message_access m i (with_memory s bytes) ≡ message_access m i s
 message_access_same AsksNothing i s bytes = refl
+message_access_same AsksInterrupt i s bytes = refl
 message_access_same AsksRestart i s bytes = refl
 message_access_same AsksGroup i s bytes = refl
 
@@ -113,24 +115,9 @@ fetch_hazard_same s bytes same =
     ap (λ (w : ℕ). second_hazard t (decoded w (next_word t))) (first_word_same s bytes same none)
     ∙ second_hazard_same s bytes (decoded (first_word s) (next_word s)) (decoded (first_word s) (next_word t)) (decoded_alike (first_word s) (next_word s) (next_word t)))
 
--- what an instruction raises, and whether it is built, goes by registers alone
+-- what an instruction raises goes by registers alone
 raised_same : (i : Inst) (s : State) (bytes : ℕ → ℕ) → raised_in i (with_memory s bytes) ≡ raised_in i s
 raised_same i s bytes = ap (λ (x : Access). raised i (value s i.a) (value s i.b) (data_of x) s.pc s.tables.fault_config) (access_same i s bytes)
-
-return_built_same : (op : Op) (s : State) (bytes : ℕ → ℕ) → is_other_return op (with_memory s bytes) ≡ is_other_return op s
-return_built_same Ret s bytes = refl
-return_built_same _ s bytes = refl
-
-control_built_same : (op : Op) (i : Inst) (s : State) (bytes : ℕ → ℕ) → is_unbuilt_control op i (with_memory s bytes) ≡ is_unbuilt_control op i s
-control_built_same Modpc i s bytes = refl
-control_built_same Sysctl i s bytes = refl
-control_built_same _ i s bytes = refl
-
-built_same : (i : Inst) (s : State) (bytes : ℕ → ℕ) → is_built i (with_memory s bytes) ≡ is_built i s
-unfolding is_built
-built_same i s bytes =
-    ap (λ (b : Bool). is_built_form i && not b && not (is_unbuilt_control i.op i (with_memory s bytes))) (return_built_same i.op s bytes)
-    ∙ ap (λ (b : Bool). is_built_form i && not (is_other_return i.op s) && not b) (control_built_same i.op i s bytes)
 
 later_same : (i : Inst) (s : State) (bytes : ℕ → ℕ) (o : Option (ℕ × ℕ)) → AgreeWhere (is_compared s.frames) s.memory bytes → by_later i (with_memory s bytes) o ≡ by_later i s o
 later_same i s bytes (Some number) same = refl
@@ -144,8 +131,7 @@ by_word_same : (s : State) (bytes : ℕ → ℕ) (r : Result Inst BadWord) → A
 by_word_same s bytes (Err e) same = refl
 by_word_same s bytes (Ok i) same =
     let t = with_memory s bytes in
-    ap (λ (b : Bool). cond b (by_raised i t (raised_in i t)) NotBuilt) (built_same i s bytes)
-    ∙ ap (λ (x : Standing). cond (is_built i s) x NotBuilt) (ap (by_raised i t) (raised_same i s bytes) ∙ by_raised_same i s bytes (raised_in i s) same)
+    ap (λ (x : Standing). cond (is_built i) x NotBuilt) (ap (by_raised i t) (raised_same i s bytes) ∙ by_raised_same i s bytes (raised_in i s) same)
 
 -- an instruction has one word or two
 one_or_two : (i : Inst) → (words_of i ≡ 1) ⊎ (words_of i ≡ 2)

@@ -11,7 +11,7 @@ use Rattle.i9_model.specs.declared.interrupts.Chosen.{Chosen}
 use Rattle.i9_model.specs.declared.interrupts.TheConstants.{PENDING_SIZE, PENDING_VECTORS}
 use Rattle.i9_model.specs.Writes.{address_count, wrapped, upwards}
 use Rattle.i9_model.specs.Memory.{Memory, in_port_page, stored, word_in, with_writes}
-use Rattle.i9_model.specs.State.{State, Frames, aligned}
+use Rattle.i9_model.specs.State.{State, Frames, Interrupts, aligned}
 use Rattle.i9_model.specs.Frames.{in_bytes, is_put, saved, wrote, record_address}
 use Rattle.i9_model.specs.Hazards.{or_else, unless, read_hazard, save_hazard, record_write_hazard}
 use Rattle.i9_model.specs.Interrupts.{vector_priority, priority_place, pending_place, is_requested, chosen_of, chosen, chosen_soft, without_bit, byte_hazard, left_pending, priority_writes, taken_writes, priority_hazard, taken_hazard, clearing_writes, clearing_hazard, vector_place, interrupt_push, interrupt_record, record_writes, cleared_hazard, interrupt_hazard, interrupt_entry, planned_interrupt}
@@ -34,13 +34,15 @@ requested_same f m bytes table v same none h =
     ap (λ (b : ℕ). bit b (vector_priority v % 8) && bit (bytes (pending_place table v)) (v % 8)) one
     ∙ ap (λ (b : ℕ). bit (m.bytes (priority_place table v)) (vector_priority v % 8) && bit b (v % 8)) two
 
+pub chosen_soft_same : (i : Interrupts) (f : Frames) (m : Memory) (bytes : ℕ → ℕ) (table pc : ℕ) → AgreeWhere (is_hard f) m bytes → chosen_soft i (with_other m bytes) f table pc ≡ chosen_soft i m f table pc
+chosen_soft_same i f m bytes table pc same =
+    unless_same (read_hazard f table PENDING_SIZE) (chosen_of i (is_requested m table) pc) (chosen_of i (is_requested (with_other m bytes) table) pc) (λ none.
+    chosen_of_same i pc (is_requested (with_other m bytes) table) (is_requested m table) (λ v h. requested_same f m bytes table v same none h))
+
 pub choice_same : (s : State) (bytes : ℕ → ℕ) → AgreeWhere (is_hard s.frames) s.memory bytes → choice_in (with_memory s bytes) ≡ choice_in s
 unfolding choice_in
 choice_same s bytes same =
-    let table = s.tables.interrupt_table in
-    let soft = unless_same (read_hazard s.frames table PENDING_SIZE) (chosen_of s.interrupts (is_requested s.memory table) s.pc) (chosen_of s.interrupts (is_requested (with_other s.memory bytes) table) s.pc) (λ none.
-    chosen_of_same s.interrupts s.pc (is_requested (with_other s.memory bytes) table) (is_requested s.memory table) (λ v h. requested_same s.frames s.memory bytes table v same none h)) in
-    ap (λ (r : Result (Option Chosen) ℕ). cond s.check r (Ok (chosen s.interrupts s.pc))) soft
+    ap (λ (r : Result (Option Chosen) ℕ). cond s.check r (Ok (chosen s.interrupts s.pc))) (chosen_soft_same s.interrupts s.frames s.memory bytes s.tables.interrupt_table s.pc same)
 
 -- ---- what clears the request
 
@@ -117,7 +119,7 @@ cleared_hazard_same f m bytes table c push words same =
     ap (λ (qs : List (ℕ × ℕ)). clearing_hazard c.cause (with_writes (with_other m bytes) qs) (wrote (saved f push.save) qs) table c.vector) (records_same m bytes push words)
     ∙ clearing_hazard_same c.cause (wrote (saved f push.save) ps) (with_writes m ps) (stored bytes ps) table c.vector (recorded_hard f m bytes push.save ps same)
 
-planned_same : (f : Frames) (m : Memory) (bytes : ℕ → ℕ) (table stack : ℕ) (c : Chosen) (pc ac fp sp : ℕ) → AgreeWhere (is_hard f) m bytes → planned_interrupt (with_other m bytes) f table stack c pc ac fp sp ≡ planned_interrupt m f table stack c pc ac fp sp
+pub planned_same : (f : Frames) (m : Memory) (bytes : ℕ → ℕ) (table stack : ℕ) (c : Chosen) (pc ac fp sp : ℕ) → AgreeWhere (is_hard f) m bytes → planned_interrupt (with_other m bytes) f table stack c pc ac fp sp ≡ planned_interrupt m f table stack c pc ac fp sp
 unfolding planned_interrupt interrupt_hazard
 planned_same f m bytes table stack c pc ac fp sp same =
     let n = with_other m bytes in
@@ -133,14 +135,21 @@ pub interrupt_same : (s : State) (bytes : ℕ → ℕ) (c : Chosen) → AgreeWhe
 unfolding interrupt_in
 interrupt_same s bytes c same = planned_same s.frames s.memory bytes s.tables.interrupt_table s.tables.interrupt_stack c s.pc s.ac (s.regs FP) (s.regs SP) same
 
+-- the bytes that clear the request, behind the push and the record
+pub cleared_same : (f : Frames) (m : Memory) (bytes : ℕ → ℕ) (table : ℕ) (c : Chosen) (push : Push) (words : List ℕ) → AgreeWhere (is_hard f) m bytes → cleared_hazard m f table c push words ≡ None
+    → clearing_writes c.cause (with_writes (with_other m bytes) (record_writes (with_other m bytes) push words)) table c.vector ≡ clearing_writes c.cause (with_writes m (record_writes m push words)) table c.vector
+cleared_same f m bytes table c push words same none =
+    let ps = record_writes m push words in
+    ap (λ (qs : List (ℕ × ℕ)). clearing_writes c.cause (with_writes (with_other m bytes) qs) table c.vector) (records_same m bytes push words)
+    ∙ clearing_writes_same c.cause (wrote (saved f push.save) ps) (with_writes m ps) (stored bytes ps) table c.vector (recorded_hard f m bytes push.save ps same) none
+
 pub interrupting_same : (s : State) (bytes : ℕ → ℕ) (c : Chosen) (e : Entry) → AgreeWhere (is_hard s.frames) s.memory bytes → InterruptsFree s c e → interrupting c e (with_memory s bytes) ≡ interrupting c e s
 interrupting_same s bytes c e same free =
     let m = s.memory in
     let n = with_other m bytes in
     let table = s.tables.interrupt_table in
     let ps = record_writes m e.push e.words in
-    let cleared : clearing_writes c.cause (with_writes n ps) table c.vector ≡ clearing_writes c.cause (with_writes m ps) table c.vector =
-    clearing_writes_same c.cause (wrote (saved s.frames e.push.save) ps) (with_writes m ps) (stored bytes ps) table c.vector (recorded_hard s.frames m bytes e.push.save ps same) free.clears in
     let writes : entry_writes (with_memory s bytes) c e ≡ entry_writes s c e =
-    ap (λ (qs : List (ℕ × ℕ)). qs ++ clearing_writes c.cause (with_writes n qs) table c.vector) (records_same m bytes e.push e.words) ∙ ap (λ (qs : List (ℕ × ℕ)). ps ++ qs) cleared in
+    ap (λ (qs : List (ℕ × ℕ)). qs ++ clearing_writes c.cause (with_writes n (record_writes n e.push e.words)) table c.vector) (records_same m bytes e.push e.words)
+    ∙ ap (λ (qs : List (ℕ × ℕ)). ps ++ qs) (cleared_same s.frames m bytes table c e.push e.words same free.clears) in
     ap (λ (ws : List (ℕ × ℕ)). record (interrupting c e s) { writes = ws }) writes

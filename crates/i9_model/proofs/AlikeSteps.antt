@@ -32,7 +32,7 @@ use Rattle.i9_model.specs.Boot.{table_word, setup_of, configured}
 use Rattle.i9_model.specs.Tables.{tables_hazard, group_address, group_hazard, group_words}
 use Rattle.i9_model.specs.Calls.{record_address}
 use Rattle.i9_model.specs.Controls.{Control, KeepsControls, Restarts, LoadsGroup, with_group, controlled}
-use Rattle.i9_model.specs.Step.{Action, Flushes, Message, AsksNothing, AsksRestart, AsksGroup, passing, moving, entering, message_of, argument_of, message_kind, message_action, action_by_name, action_by, action_of, moved, acted, counted}
+use Rattle.i9_model.specs.Step.{Action, Flushes, Message, AsksNothing, AsksInterrupt, AsksRestart, AsksGroup, passing, moving, entering, message_of, argument_of, message_kind, message_action, action_by_name, action_by, action_of, moved, acted, counted}
 use Rattle.i9_model.specs.Access.{message_access, access_by_name, access_by, hazard_in, hazard_of}
 use Rattle.i9_model.specs.Standing.{Standing, Meets, NotBuilt, Refused, Faults, Runs, stands_at}
 use Rattle.i9_model.specs.Run.{End, Limit, Kind, Instruction, Faulted, Entered, Interrupted, Reached, Record, action_by_kind, action_done, counts_of, Point, point_of, after_kind, record_of, exit_in, due_by, end_due, Due, Next, Does, Ends, next_by_standing, next_by_event, next_by_interrupt, next_by_choice, next_by_entry, entry_in, fault_at, next_in, reached_by}
@@ -169,6 +169,7 @@ group_readable i s group none = ap (λ (f : Frames). group_hazard f s.tables.con
 
 message_readable : (m : Message) (i : Inst) (s : State) → hazard_in s (message_access m i s) ≡ None → IsReadable (moved s (message_action m i s)) (message_action m i s).control
 message_readable AsksNothing i s none = tt
+message_readable AsksInterrupt i s none = tt
 message_readable AsksRestart i s none = restart_readable i s (value s i.b) (value s i.c) none
 message_readable AsksGroup i s none = group_readable i s (argument_of i s) none
 

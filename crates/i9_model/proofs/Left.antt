@@ -11,7 +11,9 @@ use Rattle.std.proofs.lemmas.Nat.Bits.{bit_at_and, bit_at_not, bit_at-pow_same}
 use Rattle.i9_isa.specs.Words.{bit}
 use Rattle.i9_isa.specs.declared.inst.Inst.{Inst}
 use Rattle.i9_isa.specs.declared.op.Op.{Op}
-use Rattle.i9_isa.specs.declared.op.Op.TheVariants.{Atadd, Sysctl}
+use Rattle.i9_isa.specs.declared.op.Op.TheVariants.{Lda, Atadd, Atmod, Bx, Balx, Bal, Call, Callx, Calls, Ret, Flushreg, Modac, Modtc, Modpc, Sysctl}
+use Rattle.i9_isa.specs.declared.inst.Operand.{Operand}
+use Rattle.i9_isa.specs.declared.inst.Operand.TheVariants.{Reg, Lit, Sfr}
 use Rattle.i9_isa.specs.declared.size.Size.{Size}
 use Rattle.i9_isa.specs.declared.size.Direction.{Direction}
 use Rattle.i9_isa.specs.declared.size.Direction.TheVariants.{Load, Store}
@@ -20,7 +22,7 @@ use Rattle.i9_isa.specs.Transfers.{transfer_of}
 use Rattle.i9_model.specs.declared.interrupts.Cause.{Cause}
 use Rattle.i9_model.specs.declared.interrupts.Cause.TheVariants.{Nmi, Line, Soft}
 use Rattle.i9_model.specs.declared.interrupts.Chosen.{Chosen}
-use Rattle.i9_model.specs.declared.interrupts.TheConstants.{NMI_VECTOR, PENDING_SIZE}
+use Rattle.i9_model.specs.declared.interrupts.TheConstants.{NMI_VECTOR, PENDING_SIZE, LINE_MASK}
 use Rattle.i9_model.specs.declared.event.Event.{Event}
 use Rattle.i9_model.specs.declared.event.Event.TheVariants as events
 use Rattle.i9_model.specs.declared.event.Timed.{Timed}
@@ -32,7 +34,10 @@ use Rattle.i9_model.specs.Tables.{group_words}
 use Rattle.i9_model.specs.Hazards.{unless, read_hazard}
 use Rattle.i9_model.specs.Interrupts.{with_bit, without_bit, is_open, is_asked, is_requested, passes, vector_priority, choice, choices, chosen_of, chosen, chosen_soft, cleared}
 use Rattle.i9_model.specs.ScheduleText.{time_of, event_at, standing}
-use Rattle.i9_model.specs.Step.{Action, Message, AsksNothing, AsksRestart, AsksGroup, message_of, message_kind, message_action, moving, action_by_name, action_by, action_of, faulting, entering, moved, acted}
+use Rattle.i9_model.specs.Memory.{word_in}
+use Rattle.i9_model.specs.Branches.{asks, question_of}
+use Rattle.i9_model.specs.Operands.{with_pending, with_mask, interrupts_assigned, address}
+use Rattle.i9_model.specs.Step.{Action, Message, AsksNothing, AsksInterrupt, AsksRestart, AsksGroup, message_of, message_kind, message_action, following, loaded, atomic_address, branching, resulting, answer_in, values_of, destination, moving, action_by_name, action_by, action_of, faulting, entering, moved, acted}
 use Rattle.i9_model.specs.Before.{choice_in, interrupting, posted_by, receiving}
 use Rattle.i9_model.specs.Left.{flag, asked, event_work, plan_work, pending, left_in}
 use Rattle.i9_model.specs.Run.{Kind, Instruction, Faulted, Entered, Interrupted, Reached, Record, record_of, counts_of, after_kind, action_by_kind, due_by, reached_by, Does, next_in}
@@ -190,25 +195,80 @@ acted_asked s a = controlled_asked (moved s a) a.control
 
 -- ---- one instruction
 
--- an instruction posts nothing
-message_posts : (m : Message) (i : Inst) (s : State) → asked_of (message_action m i s) ≡ s.interrupts.pending + flag s.interrupts.nmi + 0
-message_posts AsksNothing i s = refl
-message_posts AsksRestart i s = refl
-message_posts AsksGroup i s = refl
+-- an instruction may write the pending word, and have software's requests looked at
+abbrev PostsFew : Action → State → Type 0
+PostsFew a s = asked_of a ≤ s.interrupts.pending + flag s.interrupts.nmi + 4096
 
-name_posts : (op : Op) (i : Inst) (s : State) → asked_of (action_by_name op i s) ≡ s.interrupts.pending + flag s.interrupts.nmi + 0
+flag_small : (b : Bool) → flag b ≤ 1
+flag_small true = omega arith
+flag_small false = omega arith
+
+special_posts : (a b : Bool) (v : ℕ) (i : Interrupts) → (cond a (with_pending i v) (cond b (with_mask i v) i)).pending ≤ i.pending + 4095
+special_posts true b v i = let few = and_le_r v LINE_MASK in omega (arith, few)
+special_posts false true v i = omega arith
+special_posts false false v i = omega arith
+
+special_nmi : (a b : Bool) (v : ℕ) (i : Interrupts) → (cond a (with_pending i v) (cond b (with_mask i v) i)).nmi ≡ i.nmi
+special_nmi true b v i = refl
+special_nmi false true v i = refl
+special_nmi false false v i = refl
+
+operand_posts : (o : Operand) (vs : List ℕ) (i : Interrupts) → ((interrupts_assigned o vs i).pending ≤ i.pending + 4095) × ((interrupts_assigned o vs i).nmi ≡ i.nmi)
+operand_posts (Reg r) vs i = (omega arith, refl)
+operand_posts (Lit n) vs i = (omega arith, refl)
+operand_posts (Sfr k) [] i = (omega arith, refl)
+operand_posts (Sfr k) (v ∷ vs) i = (special_posts (k == 0) (k == 1) v i, special_nmi (k == 0) (k == 1) v i)
+
+-- a destination gets values, and the check flag is set or not
+assigning_posts : (o : Operand) (vs : List ℕ) (a : Action) (s : State) → a.interrupts ≡ interrupts_assigned o vs s.interrupts → PostsFew a s
+assigning_posts o vs a s is =
+    let parts = operand_posts o vs s.interrupts in
+    let pending : a.interrupts.pending ≡ (interrupts_assigned o vs s.interrupts).pending = ap (λ (i : Interrupts). i.pending) is in
+    let nmi : flag a.interrupts.nmi ≡ flag s.interrupts.nmi = ap (λ (i : Interrupts). flag i.nmi) is ∙ ap flag parts.1 in
+    let few = parts.0 in
+    let small = flag_small a.check in
+    omega (arith, pending, nmi, few, small)
+
+quiet_posts : (a : Action) (s : State) → a.interrupts ≡ s.interrupts → PostsFew a s
+quiet_posts a s is = assigning_posts (Reg 0) [] a s is
+
+message_posts : (m : Message) (i : Inst) (s : State) → PostsFew (message_action m i s) s
+message_posts AsksNothing i s = quiet_posts (message_action AsksNothing i s) s refl
+message_posts AsksInterrupt i s = quiet_posts (message_action AsksInterrupt i s) s refl
+message_posts AsksRestart i s = quiet_posts (message_action AsksRestart i s) s refl
+message_posts AsksGroup i s = quiet_posts (message_action AsksGroup i s) s refl
+
+other_posts : (b : Bool) (i : Inst) (s : State) → PostsFew (cond b (branching i s) (resulting i s (answer_in i s))) s
+other_posts true i s = quiet_posts (branching i s) s refl
+other_posts false i s = assigning_posts (destination i) (values_of (answer_in i s)) (resulting i s (answer_in i s)) s refl
+
+name_posts : (op : Op) (i : Inst) (s : State) → PostsFew (action_by_name op i s) s
 name_posts Sysctl i s = message_posts (message_kind (message_of i s)) i s
-name_posts _ i s = refl
+name_posts Lda i s = assigning_posts i.c (address s i.ea ∷ []) (action_by_name Lda i s) s refl
+name_posts Atadd i s = assigning_posts i.c (word_in s.memory (atomic_address i s) ∷ []) (action_by_name Atadd i s) s refl
+name_posts Atmod i s = assigning_posts i.c (word_in s.memory (atomic_address i s) ∷ []) (action_by_name Atmod i s) s refl
+name_posts Bx i s = quiet_posts (action_by_name Bx i s) s refl
+name_posts Balx i s = assigning_posts i.c (following i s ∷ []) (action_by_name Balx i s) s refl
+name_posts Bal i s = quiet_posts (action_by_name Bal i s) s refl
+name_posts Call i s = quiet_posts (action_by_name Call i s) s refl
+name_posts Callx i s = quiet_posts (action_by_name Callx i s) s refl
+name_posts Calls i s = quiet_posts (action_by_name Calls i s) s refl
+name_posts Ret i s = quiet_posts (action_by_name Ret i s) s refl
+name_posts Flushreg i s = quiet_posts (action_by_name Flushreg i s) s refl
+name_posts Modac i s = assigning_posts i.c (s.ac ∷ []) (action_by_name Modac i s) s refl
+name_posts Modtc i s = assigning_posts i.c (s.trace.tc ∷ []) (action_by_name Modtc i s) s refl
+name_posts Modpc i s = assigning_posts i.c (s.pc ∷ []) (action_by_name Modpc i s) s refl
+name_posts op i s = other_posts (asks (question_of op)) i s
 
-moving_posts : (d : Direction) (size : Size) (signed : Bool) (i : Inst) (s : State) → asked_of (moving d size signed i s) ≡ s.interrupts.pending + flag s.interrupts.nmi + 0
-moving_posts Load size signed i s = refl
-moving_posts Store size signed i s = refl
+moving_posts : (d : Direction) (size : Size) (signed : Bool) (i : Inst) (s : State) → PostsFew (moving d size signed i s) s
+moving_posts Load size signed i s = assigning_posts i.c (loaded size signed s.memory (address s i.ea)) (moving Load size signed i s) s refl
+moving_posts Store size signed i s = quiet_posts (moving Store size signed i s) s refl
 
-action_posts : (i : Inst) (s : State) → asked_of (action_of i s) ≤ asked s
+action_posts : (i : Inst) (s : State) → PostsFew (action_of i s) s
 unfolding action_of
-action_posts i s = let same = by_transfer (transfer_of i.op) in omega (arith, same)
+action_posts i s = by_transfer (transfer_of i.op)
   where
-    by_transfer : (o : Option Transfer) → asked_of (action_by o i s) ≡ s.interrupts.pending + flag s.interrupts.nmi + 0
+    by_transfer : (o : Option Transfer) → PostsFew (action_by o i s) s
     by_transfer (Some t) = moving_posts t.direction t.size t.signed i s
     by_transfer None = name_posts i.op i s
 

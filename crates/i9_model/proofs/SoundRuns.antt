@@ -19,8 +19,8 @@ use Rattle.i9_model.specs.Memory.{Memory, with_writes, region_of, is_big, half_b
 use Rattle.i9_model.specs.State.{State, Frames, started, boot}
 use Rattle.i9_model.specs.Hazards.{or_else, read_hazard, write_hazard, writes_hazard, port_hazard, save_hazard}
 use Rattle.i9_model.specs.Operands.{value, word_of, source_words, address}
-use Rattle.i9_model.specs.Step.{Move, Stays, Saves, Returns, Flushes, Action, bytes_of_words, stored_of, moving, merged, atomic_address, atomic, Message, AsksNothing, AsksRestart, AsksGroup, message_of, message_kind, message_action, entering, action_by_name, action_by, action_of, frames_after, moved, acted}
-use Rattle.i9_model.specs.Access.{Changes, moved_access, access_by_name, access_by, hazard_in, hazard_of}
+use Rattle.i9_model.specs.Step.{Move, Stays, Saves, Returns, Flushes, Action, bytes_of_words, stored_of, moving, merged, atomic_address, atomic, Message, AsksNothing, AsksInterrupt, AsksRestart, AsksGroup, message_of, argument_of, message_kind, message_action, entering, action_by_name, action_by, action_of, frames_after, moved, acted}
+use Rattle.i9_model.specs.Access.{Changes, message_access, moved_access, access_by_name, access_by, hazard_in, hazard_of}
 use Rattle.i9_model.specs.Sound.{IsSound}
 use Rattle.i9_model.specs.Free.{IsFree}
 use Rattle.i9_model.specs.Run.{Given, Instruction, Faulted, Entered, Interrupted, Reached, Kind, action_by_kind, Record, Does, Due, entry_in, state_after, due_after, event_after, next_in, IsPast}
@@ -32,7 +32,7 @@ use Rattle.i9_model.specs.declared.interrupts.Cause.{Cause}
 use Rattle.i9_model.specs.declared.interrupts.Cause.TheVariants.{Nmi, Line, Soft}
 use Rattle.i9_model.specs.declared.interrupts.TheConstants.{PENDING_VECTORS}
 use Rattle.i9_model.specs.Frames.{in_frames, saved, wrote}
-use Rattle.i9_model.specs.Interrupts.{vector_priority, without_bit, byte_hazard, priority_place, pending_place, left_pending, priority_writes, taken_writes, priority_hazard, taken_hazard, clearing_writes, clearing_hazard, record_writes}
+use Rattle.i9_model.specs.Interrupts.{vector_priority, with_bit, without_bit, byte_hazard, request_hazard, request_writes, priority_place, pending_place, left_pending, priority_writes, taken_writes, priority_hazard, taken_hazard, clearing_writes, clearing_hazard, record_writes}
 use Rattle.i9_model.specs.Before.{entry_writes, interrupting}
 use Rattle.i9_model.specs.Calls.{call_type, record_address}
 use Rattle.i9_model.proofs.CallLaws.{first_none, second_none, system_free, system_save, EntersFree, enters_free}
@@ -110,10 +110,44 @@ atomic_clear i s change none =
     let free = run_free s.frames a (word_bytes s.memory a new) 4 (four_bytes s.memory a new) (second_none (read_hazard s.frames a 4) (write_hazard s.frames a 4) none) in
     record { save = tt; free = record { whole = tt; free = free; controls = tt } }
 
-message_clear : (m : Message) (i : Inst) (s : State) → IsClear s (message_action m i s)
-message_clear AsksNothing i s = record { save = tt; free = record { whole = tt; free = no_writes s.frames; controls = tt } }
-message_clear AsksRestart i s = record { save = tt; free = record { whole = tt; free = no_writes (frames_after s.frames Flushes); controls = (refl, refl) } }
-message_clear AsksGroup i s = record { save = tt; free = record { whole = tt; free = no_writes (frames_after s.frames Flushes); controls = (refl, refl) } }
+-- ---- bytes that are written alone
+
+pub writes_append : (f : Frames) (ps qs : List (ℕ × ℕ)) → writes_hazard f ps ≡ None → writes_hazard f qs ≡ None → writes_hazard f (ps ++ qs) ≡ None
+unfolding writes_hazard
+writes_append f [] qs one two = two
+writes_append f (p ∷ ps) qs one two = by_live (in_frames f.live p.0) one (λ later. writes_append f ps qs later two)
+  where
+    by_live : (b : Bool) → cond b (Some p.0) (find (in_frames f.live) (places_of ps)) ≡ None → (find (in_frames f.live) (places_of ps) ≡ None → find (in_frames f.live) (places_of (ps ++ qs)) ≡ None)
+        → cond b (Some p.0) (find (in_frames f.live) (places_of (ps ++ qs))) ≡ None
+    by_live true e later = absurd cc
+    by_live false e later = later e
+
+-- one byte is written beside live frames
+byte_free : (f : Frames) (a v : ℕ) → byte_hazard f (wrapped a) ≡ None → writes_hazard f ((wrapped a, v) ∷ []) ≡ None
+byte_free f a v none =
+    let same : wrapped (wrapped a) ≡ wrapped a = omega arith in
+    subst (λ (x : ℕ). writes_hazard f ((x, v) ∷ []) ≡ None) same
+    (run_free f (wrapped a) (v ∷ []) 1 refl (first_none (write_hazard f (wrapped a) 1) (port_hazard (wrapped a) 1) none))
+
+-- a request is written beside live frames
+pub request_free : (m : Memory) (f : Frames) (table v : ℕ) → request_hazard f table v ≡ None → writes_hazard f (request_writes m table v) ≡ None
+unfolding request_hazard request_writes
+request_free m f table v none =
+    let one = read_hazard f (priority_place table v) 1 in
+    let two = read_hazard f (pending_place table v) 1 in
+    let first = byte_hazard f (priority_place table v) in
+    let second = byte_hazard f (pending_place table v) in
+    let written = second_none two (or_else first second) (second_none one (or_else two (or_else first second)) none) in
+    let byte = with_bit (m.bytes (priority_place table v)) (vector_priority v % 8) in
+    writes_append f ((priority_place table v, byte) ∷ []) ((pending_place table v, with_bit (m.bytes (pending_place table v)) (v % 8)) ∷ [])
+    (byte_free f (table + vector_priority v / 8) byte (first_none first second written))
+    (byte_free f (table + (PENDING_VECTORS + v / 8)) (with_bit (m.bytes (pending_place table v)) (v % 8)) (second_none first second written))
+
+message_clear : (m : Message) (i : Inst) (s : State) → hazard_in s (message_access m i s) ≡ None → IsClear s (message_action m i s)
+message_clear AsksNothing i s none = record { save = tt; free = record { whole = tt; free = no_writes s.frames; controls = tt } }
+message_clear AsksInterrupt i s none = record { save = tt; free = record { whole = tt; free = request_free s.memory s.frames s.tables.interrupt_table (argument_of i s) none; controls = tt } }
+message_clear AsksRestart i s none = record { save = tt; free = record { whole = tt; free = no_writes (frames_after s.frames Flushes); controls = (refl, refl) } }
+message_clear AsksGroup i s none = record { save = tt; free = record { whole = tt; free = no_writes (frames_after s.frames Flushes); controls = (refl, refl) } }
 
 calls_save : (i : Inst) (s : State) → hazard_in s (access_by_name Calls i s) ≡ None → IsSafe s.frames (action_by_name Calls i s).move
 calls_save i s none =
@@ -128,7 +162,7 @@ name_clear Callx i s none = record { save = none; free = record { whole = refl; 
 name_clear Calls i s none = record { save = calls_save i s none; free = record { whole = refl; free = no_writes (frames_after s.frames (action_by_name Calls i s).move); controls = tt } }
 name_clear Ret i s none = record { save = tt; free = record { whole = tt; free = no_writes (frames_after s.frames Returns); controls = tt } }
 name_clear Flushreg i s none = record { save = tt; free = record { whole = tt; free = no_writes (frames_after s.frames Flushes); controls = tt } }
-name_clear Sysctl i s none = message_clear (message_kind (message_of i s)) i s
+name_clear Sysctl i s none = message_clear (message_kind (message_of i s)) i s none
 name_clear _ i s none = record { save = tt; free = record { whole = tt; free = no_writes s.frames; controls = tt } }
 
 -- an instruction whose access meets no hazard
@@ -149,23 +183,6 @@ entering_clear s e free =
     record { save = free.save; free = record { whole = refl; free = run_free (frames_after s.frames (entering e s).move) a bs 16 long free.record_free; controls = tt } }
 
 -- ---- the entry of an interrupt
-
-writes_append : (f : Frames) (ps qs : List (ℕ × ℕ)) → writes_hazard f ps ≡ None → writes_hazard f qs ≡ None → writes_hazard f (ps ++ qs) ≡ None
-unfolding writes_hazard
-writes_append f [] qs one two = two
-writes_append f (p ∷ ps) qs one two = by_live (in_frames f.live p.0) one (λ later. writes_append f ps qs later two)
-  where
-    by_live : (b : Bool) → cond b (Some p.0) (find (in_frames f.live) (places_of ps)) ≡ None → (find (in_frames f.live) (places_of ps) ≡ None → find (in_frames f.live) (places_of (ps ++ qs)) ≡ None)
-        → cond b (Some p.0) (find (in_frames f.live) (places_of (ps ++ qs))) ≡ None
-    by_live true e later = absurd cc
-    by_live false e later = later e
-
--- one byte is written beside live frames
-byte_free : (f : Frames) (a v : ℕ) → byte_hazard f (wrapped a) ≡ None → writes_hazard f ((wrapped a, v) ∷ []) ≡ None
-byte_free f a v none =
-    let same : wrapped (wrapped a) ≡ wrapped a = omega arith in
-    subst (λ (x : ℕ). writes_hazard f ((x, v) ∷ []) ≡ None) same
-    (run_free f (wrapped a) (v ∷ []) 1 refl (first_none (write_hazard f (wrapped a) 1) (port_hazard (wrapped a) 1) none))
 
 priority_free : (m : Memory) (f : Frames) (table v : ℕ) → priority_hazard m f table v ≡ None → writes_hazard f (priority_writes m table v) ≡ None
 priority_free m f table v none = by_left (left_pending m table v == 0) none

@@ -43,7 +43,7 @@ raised_known s i None read = by_precision (is_imprecise i s)
 
 word_known : (s : State) (r : Result Inst BadWord) → read_hazard s.frames s.ip 4 ≡ None → second_hazard s r ≡ None → Known s (by_word s r)
 word_known s (Err e) first second = record { first = first; second = λ two. absurd (omega (arith, two)) }
-word_known s (Ok i) first second = by_form (is_built i s)
+word_known s (Ok i) first second = by_form (is_built i)
   where
     read : IsRead s (words_of i)
     read = record {

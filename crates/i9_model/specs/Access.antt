@@ -14,13 +14,14 @@ use Rattle.i9_model.specs.Writes.{wrapped}
 use Rattle.i9_model.specs.State.{State}
 use Rattle.i9_model.specs.Frames.{rounded_down, flushed}
 use Rattle.i9_model.specs.Hazards.{or_else, read_hazard, write_hazard, save_hazard}
+use Rattle.i9_model.specs.Requests.{request_hazard}
 use Rattle.i9_model.specs.Calls.{system_hazard, ret_hazard}
 use Rattle.i9_model.specs.Tables.{tables_hazard, group_hazard}
 use Rattle.i9_model.specs.Operands.{value, address}
-use Rattle.i9_model.specs.Step.{Message, AsksNothing, AsksRestart, AsksGroup, first_word, next_word, atomic_address, message_of, argument_of, message_kind}
+use Rattle.i9_model.specs.Step.{Message, AsksNothing, AsksInterrupt, AsksRestart, AsksGroup, first_word, next_word, atomic_address, message_of, argument_of, message_kind}
 
--- a read or a write of so many bytes, both after one another, a save area, a system procedure, a return, or as after
--- a flush the reads of a PRCB with its control table, or of a control group
+-- a read or a write of so many bytes, both after one another, a save area, a system procedure, a return, a request of
+-- a vector, or as after a flush the reads of a PRCB with its control table, or of a control group
 pub data Access : Type 0 where
   NoAccess : Access
   Reads : (address : ℕ) → (count : ℕ) → Access
@@ -29,11 +30,13 @@ pub data Access : Type 0 where
   SavesAt : (address : ℕ) → Access
   CallsSystem : (number : ℕ) → Access
   ReturnsBy : (pfp : ℕ) → Access
+  Requests : (vector : ℕ) → Access
   ReadsTables : (prcb : ℕ) → Access
   ReadsGroup : (group : ℕ) → Access
 
 abbrev pub message_access : Message → Inst → State → Access
 message_access AsksNothing i s = NoAccess
+message_access AsksInterrupt i s = Requests (argument_of i s)
 message_access AsksRestart i s = ReadsTables (value s i.c)
 message_access AsksGroup i s = ReadsGroup (argument_of i s)
 
@@ -74,6 +77,7 @@ hazard_in s (Changes a n) = or_else (read_hazard s.frames a n) (write_hazard s.f
 hazard_in s (SavesAt a) = save_hazard s.frames a
 hazard_in s (CallsSystem n) = system_hazard s.memory s.frames s.tables.system_table n s.pc (s.regs FP)
 hazard_in s (ReturnsBy pfp) = ret_hazard s.frames pfp (s.regs FP)
+hazard_in s (Requests v) = request_hazard s.frames s.tables.interrupt_table v
 hazard_in s (ReadsTables prcb) = tables_hazard s.memory (flushed s.frames) prcb
 hazard_in s (ReadsGroup group) = group_hazard (flushed s.frames) s.tables.control_table group
 

@@ -1,6 +1,7 @@
 -- Calls and returns: what they make of frames and controls, or the hazard that they meet.
 use Rattle.std.specs.Prelude.{◌≡◌, ℕ, ◌+◌, ◌*◌, ◌%◌, ◌^◌, Bool, true, false, not, ◌==◌, ◌&&◌, ◌||◌, nat_le, nat_lt, if◌then◌else◌, bit_and, length, Option, None, Result, Ok, Err}
-use Rattle.i9_isa.specs.Words.{bit}
+use Rattle.i9_isa.specs.Words.{bit, field}
+use Rattle.i9_model.specs.declared.interrupts.TheConstants.{PRIORITY_PLACE}
 use Rattle.i9_model.specs.declared.layout.TheConstants.{SUPERVISOR_PLACE, SUPERVISOR_STACK, SYSTEM_TABLE_ENTRIES, MOST_SYSTEM_CALL, ASKS_SUPERVISOR_PLACE, LOCAL_RETURN, FAULT_RETURN, SUPERVISOR_RETURN, INTERRUPT_RETURN, PC_MASK, AC_MASK}
 use Rattle.i9_model.specs.declared.push.Push.{Push}
 use Rattle.i9_model.specs.declared.calls.Sys.{Sys}
@@ -19,6 +20,10 @@ use Rattle.i9_model.specs.Hazards.{or_else, unless, read_hazard, save_hazard, re
 -- supervisor mode is a bit of the process controls
 abbrev pub in_supervisor_mode : ℕ → Bool
 in_supervisor_mode pc = bit pc SUPERVISOR_PLACE
+
+-- the priority is a field of five bits
+abbrev pub priority_of : ℕ → ℕ
+priority_of pc = field pc PRIORITY_PLACE 5
 
 -- trace enable is the lowest bit of the process controls
 abbrev pub trace_enable : ℕ → ℕ

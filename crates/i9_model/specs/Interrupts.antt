@@ -15,17 +15,12 @@ use Rattle.i9_model.specs.State.{Frames, Interrupts, aligned}
 use Rattle.i9_model.specs.Frames.{saved, wrote, pushed, record_address}
 use Rattle.i9_model.specs.Hazards.{or_else, unless, read_hazard, write_hazard, port_hazard, save_hazard, record_write_hazard}
 use Rattle.i9_model.specs.Numbers.{complement}
+pub use Rattle.i9_model.specs.Requests.{with_bit, without_bit, vector_priority, priority_place, pending_place, byte_hazard}
+unfoldable pub use Rattle.i9_model.specs.Requests.{request_hazard, request_writes}
+pub use Rattle.i9_model.specs.Calls.{priority_of}
 use Rattle.i9_model.specs.Step.{bytes_of_words}
 
 -- ---- posting
-
--- a word with one more bit
-abbrev pub with_bit : ℕ → ℕ → ℕ
-with_bit w k = bit_or w (2 ^ k)
-
--- a word without a bit
-abbrev pub without_bit : ℕ → ℕ → ℕ
-without_bit w k = bit_and w (complement (2 ^ k))
 
 -- a line is posted in the pending word
 abbrev pub posted : Interrupts → ℕ → Interrupts
@@ -35,12 +30,6 @@ abbrev pub posted_nmi : Interrupts → Interrupts
 posted_nmi s = record s { nmi = true }
 
 -- ---- vectors
-
-abbrev pub vector_priority : ℕ → ℕ
-vector_priority v = v / 8
-
-abbrev pub priority_of : ℕ → ℕ
-priority_of pc = field pc PRIORITY_PLACE 5
 
 -- a priority is let in where it is above that of the process controls, or is the highest
 abbrev pub passes : ℕ → ℕ → Bool
@@ -55,13 +44,6 @@ line_vector maps k = field (slice_index maps (k / 4)) (4 * (k % 4)) 4 * 16 + 2
 -- a line is posted and not masked
 abbrev pub is_open : Interrupts → ℕ → Bool
 is_open s k = bit s.pending k && bit s.mask k
-
--- software asks for a vector by a bit for its priority and a bit of its own, in the first bytes of the interrupt table
-abbrev pub priority_place : ℕ → ℕ → ℕ
-priority_place table v = wrapped (table + vector_priority v / 8)
-
-abbrev pub pending_place : ℕ → ℕ → ℕ
-pending_place table v = wrapped (table + (PENDING_VECTORS + v / 8))
 
 abbrev pub is_requested : Memory → ℕ → ℕ → Bool
 is_requested m table v =
@@ -112,24 +94,6 @@ chosen s pc = chosen_of s (λ v. false) pc
 -- a choice in which software has a part reads all bits of requests
 abbrev pub chosen_soft : Interrupts → Memory → Frames → ℕ → ℕ → Result (Option Chosen) ℕ
 chosen_soft s m f table pc = unless (read_hazard f table PENDING_SIZE) (chosen_of s (is_requested m table) pc)
-
--- ---- requests of software
-
-abbrev pub byte_hazard : Frames → ℕ → Option ℕ
-byte_hazard f a = or_else (write_hazard f a 1) (port_hazard a 1)
-
--- both bytes are read, and then both are written
-unfoldable pub request_hazard : Frames → ℕ → ℕ → Option ℕ
-request_hazard f table v =
-    or_else (read_hazard f (priority_place table v) 1)
-    (or_else (read_hazard f (pending_place table v) 1)
-    (or_else (byte_hazard f (priority_place table v)) (byte_hazard f (pending_place table v))))
-
--- with their bits set
-unfoldable pub request_writes : Memory → ℕ → ℕ → List (ℕ × ℕ)
-request_writes m table v =
-    (priority_place table v, with_bit (m.bytes (priority_place table v)) (vector_priority v % 8))
-    ∷ (pending_place table v, with_bit (m.bytes (pending_place table v)) (v % 8)) ∷ []
 
 -- ---- what an entry clears
 

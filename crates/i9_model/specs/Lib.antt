@@ -16,6 +16,7 @@ pub mod Numbers
 pub mod Conditions
 pub mod Results
 pub mod Branches
+pub mod Requests
 pub mod Step
 pub mod Access
 pub mod Unbuilt

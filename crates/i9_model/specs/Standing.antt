@@ -89,7 +89,7 @@ by_raised i s None = if is_imprecise i s then NotBuilt else by_later i s (later_
 -- by the first word that is there
 abbrev pub by_word : State → Result Inst BadWord → Standing
 by_word s (Err e) = Refused (word_fault e)
-by_word s (Ok i) = if is_built i s then by_raised i s (raised_in i s) else NotBuilt
+by_word s (Ok i) = if is_built i then by_raised i s (raised_in i s) else NotBuilt
 
 abbrev pub by_fetch : State → Option ℕ → Standing
 by_fetch s (Some a) = Meets a

@@ -1,5 +1,5 @@
 -- One instruction in a state: what it does is data, and one function applies it.
-use Rattle.std.specs.Prelude.{ℕ, ◌+◌, ◌-◌, ◌*◌, ◌/◌, nat_lt, ◌%◌, ◌^◌, ◌==◌, Bool, false, if◌then◌else◌, bit_and, bit_or, List, [], ◌∷◌, ◌++◌, map, replicate, Option, Some, None}
+use Rattle.std.specs.Prelude.{ℕ, ◌+◌, ◌-◌, ◌*◌, ◌/◌, nat_lt, ◌%◌, ◌^◌, ◌==◌, Bool, true, false, if◌then◌else◌, bit_and, bit_or, List, [], ◌∷◌, ◌++◌, map, replicate, Option, Some, None}
 use Rattle.std.specs.List.{range_with_len}
 use Rattle.i9_isa.specs.declared.op.Op.{Op}
 use Rattle.i9_isa.specs.declared.op.Op.TheVariants.{Lda, Atadd, Atmod, Bx, Balx, Bal, Call, Callx, Calls, Ret, Flushreg, Modac, Modtc, Modpc, Sysctl}
@@ -26,8 +26,9 @@ use Rattle.i9_model.specs.State.{State, Frames, Interrupts, Dma, aligned}
 pub use Rattle.i9_model.specs.State.{frame_sets}
 use Rattle.i9_model.specs.Controls.{Control, KeepsControls, Restarts, LoadsGroup, controlled}
 use Rattle.i9_model.specs.Frames.{pushed, saved, returned, flushed, wrote}
-use Rattle.i9_model.specs.Calls.{call_type, system_entered, record_address, popped}
-use Rattle.i9_model.specs.Operands.{value, source_words, assigned, address, target}
+use Rattle.i9_model.specs.Requests.{request_writes}
+use Rattle.i9_model.specs.Calls.{priority_of, call_type, system_entered, record_address, popped}
+use Rattle.i9_model.specs.Operands.{value, source_words, assigned, interrupts_assigned, address, target}
 use Rattle.i9_model.specs.Numbers.{complement}
 use Rattle.i9_model.specs.Results.{Answer, results}
 use Rattle.i9_model.specs.Branches.{question_of, asks, branch_controls, is_taken}
@@ -83,7 +84,7 @@ passing i s = going s (following i s)
 
 -- a destination gets values
 abbrev pub assigning : Operand → List ℕ → Action → Action
-assigning o vs a = record a { sets = assigned o vs }
+assigning o vs a = record a { sets = assigned o vs; interrupts = interrupts_assigned o vs a.interrupts }
 
 -- a destination gets one value, and nothing else is done
 abbrev pub answering : Inst → State → ℕ → Action
@@ -198,8 +199,12 @@ modtc_action i s = record (answering i s s.trace.tc) { tc = modified s.trace.tc 
 abbrev pub process_controls : Inst → State → ℕ
 process_controls i s = modified s.pc (value s i.b) (value s i.c) PC_MASK
 
+-- where it lowers the priority, the next choice of an interrupt looks at what software asks for
 abbrev pub modpc_action : Inst → State → Action
-modpc_action i s = record (answering i s s.pc) { pc = process_controls i s }
+modpc_action i s = record (answering i s s.pc) {
+  pc = process_controls i s;
+  check = nat_lt (priority_of (process_controls i s)) (priority_of s.pc);
+}
 
 -- ---- system control
 
@@ -210,19 +215,25 @@ message_of i s = value s i.a / 2 ^ 8 % 2 ^ 8
 abbrev pub argument_of : Inst → State → ℕ
 argument_of i s = value s i.a % 2 ^ 8
 
--- what a message asks of the controls: message 3 starts the processor anew at src2, by the PRCB at src/dst, and
--- message 4 loads a control group
+-- what a message asks for: message 0 asks for an interrupt by its vector, message 3 starts the processor anew at
+-- src2, by the PRCB at src/dst, and message 4 loads a control group
 pub data Message : Type 0 where
   AsksNothing : Message
+  AsksInterrupt : Message
   AsksRestart : Message
   AsksGroup : Message
 
 abbrev pub message_kind : ℕ → Message
-message_kind n = if n == 3 then AsksRestart else if n == 4 then AsksGroup else AsksNothing
+message_kind n =
+    if n == 0 then AsksInterrupt else if n == 3 then AsksRestart else if n == 4 then AsksGroup else AsksNothing
 
--- both flush first
+-- a request is looked at before the next instruction; the others flush first
 abbrev pub message_action : Message → Inst → State → Action
 message_action AsksNothing i s = passing i s
+message_action AsksInterrupt i s = record (passing i s) {
+  writes = request_writes s.memory s.tables.interrupt_table (argument_of i s);
+  check = true;
+}
 message_action AsksRestart i s = record (passing i s) { move = Flushes; control = Restarts (value s i.b) (value s i.c) }
 message_action AsksGroup i s = record (passing i s) { move = Flushes; control = LoadsGroup (argument_of i s) }
 
@@ -259,13 +270,14 @@ calls_action i s = record (pushing s (system_call i s).push (following i s) (sys
 abbrev pub return_in : State → Pop
 return_in s = popped s.memory s.frames (s.regs PFP) (s.regs FP) s.pc s.ac
 
--- ret reads the locals of that frame, and goes on at its rip
+-- ret reads the locals of that frame, and goes on at its rip; that of an interrupt has software's requests looked at
 abbrev pub ret_action : State → Action
 ret_action s = record (going s (aligned (word_in s.memory (wrapped ((return_in s).frame + 8))))) {
   sets = frame_sets (words_in s.memory (return_in s).frame LOCALS) (return_in s).frame;
   move = Returns;
   pc = (return_in s).pc;
   ac = (return_in s).ac;
+  check = (return_in s).check;
 }
 
 -- ---- faults
