@@ -1,2 +1,3 @@
 pub mod Lifting
 pub mod Stepping
+pub mod Showing

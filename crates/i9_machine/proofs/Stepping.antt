@@ -1,45 +1,61 @@
 -- A record that was done is what the step answers.
-use Rattle.std.proofs.Common.{◌≡◌, ℕ, ◌+◌, ◌-◌, ◌*◌, ◌<◌, ◌≤◌, Bool, true, false, cond, eqb, List, length, ◌++◌, Option, Some, None, refl, sym, ap, ◌∙◌, subst, length-append, arith}
+use Rattle.std.proofs.Common.{◌≡◌, ℕ, ◌+◌, ◌-◌, ◌*◌, ◌<◌, ◌≤◌, Bool, true, false, cond, eqb, List, length, drop, ◌++◌, Option, Some, None, Ok, refl, sym, ap, ◌∙◌, subst, length-append, arith}
 use Rattle.std.proofs.lemmas.Bool.Decides.{nat_tests}
+use Rattle.std.specs.Prelude.{is_some, IsSome}
+use Rattle.std.specs.List.{slice_get}
+use Rattle.std.proofs.lemmas.Option.{slice_get_within}
+use Rattle.i9_model.specs.declared.event.Event.{Event}
+use Rattle.i9_model.specs.declared.event.Event.TheVariants as events
+use Rattle.i9_model.specs.declared.event.Timed.{Timed}
+use Rattle.i9_model.specs.Alike.{AreAlike}
+use Rattle.i9_model.specs.Before.{choice_in}
+use Rattle.i9_model.specs.Left.{left_in}
+use Rattle.i9_model.proofs.Comes.{MayCome, next_comes}
+use Rattle.i9_model.proofs.Left.{counts_after, stands_there, plan_after, next_leaves}
+use Rattle.i9_schedule.specs.Plan.{Plan}
 use Rattle.i9_model.specs.State.{State}
 use Rattle.i9_model.specs.Standing.{stands_at}
 use Rattle.i9_model.specs.declared.run.Point.{Point}
 use Rattle.i9_model.specs.declared.run.End.TheVariants.{Limit}
 use Rattle.i9_model.specs.Memory.{console_byte}
 use Rattle.i9_model.specs.Step.{Action}
-use Rattle.i9_model.specs.Run.{Kind, Instruction, Faulted, Entered, Next, Ends, action_done, record_of, point_of, next_by_standing, next_in}
-use Rattle.i9_model.specs.PrintedText.{out_lines, point_lines, record_lines}
+use Rattle.i9_model.specs.Run.{Kind, Instruction, Faulted, Entered, Interrupted, Reached, Record, Next, Does, Ends, action_done, record_of, counts_of, due_by, point_of, reached_by, next_by_standing, next_by_event, next_by_choice, next_in}
+use Rattle.i9_model.specs.PrintedText.{out_lines, point_lines, bytes_lines, event_lines, record_lines}
 use Rattle.i9_processor.specs.State.{state_of}
 use Rattle.i9_model.specs.declared.run.Due.{Due}
 use Rattle.i9_model.specs.declared.run.Due.TheVariants as dues
 use Rattle.i9_processor.specs.declared.effect.Effect.{Effect}
 use Rattle.i9_processor.specs.Effect.{writes_in, HasRoomFor, is_restart}
 use Rattle.i9_processor.proofs.Rooms.{room_space}
-use Rattle.i9_machine.specs.Doing.{point_count, line_count, HasRoomForStep}
+use Rattle.i9_machine.specs.Doing.{point_count, bytes_count, reached_lines, reached_count, line_count, HasRoomForStep}
 use Rattle.i9_machine.specs.declared.step.Step.{Step}
 use Rattle.i9_model.specs.declared.run.End.{End}
 use Rattle.i9_machine.specs.declared.line.Line.{Line}
 use Rattle.i9_machine.specs.declared.line.Turn.{Turn}
 use Rattle.i9_machine.specs.declared.line.Turn.TheVariants as turns
 use Rattle.i9_machine.specs.declared.machine.Machine.{Machine}
-use Rattle.i9_machine.specs.Step.{TellsRecord, IsStep, HasRoomToDo, HasRoom, next_for, Did, Steps}
+use Rattle.i9_machine.specs.Step.{TellsRecord, IsStep, HasRoomToDo, HasRoom, event_for, next_for, event_of, plan_behind, steps_left, Did, Steps}
 use Rattle.i9_machine.specs.StandsFor.{LeavesFewer}
 
 no_end : (k : Kind) (s : State) (e : End) → TellsRecord k s (turns.End e) → ⊥
 no_end (Instruction i) s e t = t
 no_end (Faulted inst fault) s e t = t
 no_end (Entered x) s e t = t
+no_end (Interrupted c x) s e t = t
+no_end (Reached x) s e t = t
 
 pub no_memory : (k : Kind) (s : State) → TellsRecord k s turns.Memory → ⊥
 no_memory (Instruction i) s t = t
 no_memory (Faulted inst fault) s t = t
 no_memory (Entered x) s t = t
+no_memory (Interrupted c x) s t = t
+no_memory (Reached x) s t = t
 
-pub did_steps : (before : Machine) (answer : Turn) (m : Machine) (old new : List Line) (s : State) (k : Kind) → TellsRecord k s answer → Did before answer m old new → Steps before answer m old new
-did_steps before turns.On m old new s k t d = d
-did_steps before (turns.Issued i) m old new s k t d = d
-did_steps before (turns.End e) m old new s k t d = absurd (no_end k s e t)
-did_steps before turns.Memory m old new s k t d = absurd (no_memory k s t)
+pub did_steps : (before : Machine) (answer : Turn) (m : Machine) (was plan : Plan) (old new : List Line) (s : State) (k : Kind) → TellsRecord k s answer → Did before answer m was plan old new → Steps before answer m was plan old new
+did_steps before turns.On m was plan old new s k t d = d
+did_steps before (turns.Issued i) m was plan old new s k t d = d
+did_steps before (turns.End e) m was plan old new s k t d = absurd (no_end k s e t)
+did_steps before turns.Memory m was plan old new s k t d = absurd (no_memory k s t)
 
 pub fewer_by : (answer : Turn) (s : State) (k : Kind) (before now : ℕ) → TellsRecord k s answer → now < before → LeavesFewer answer before now
 fewer_by turns.On s k before now t h = h
@@ -47,9 +63,35 @@ fewer_by (turns.Issued i) s k before now t h = h
 fewer_by (turns.End e) s k before now t h = tt
 fewer_by turns.Memory s k before now t h = tt
 
--- steps that are left: a step counts k instructions, and what is due becomes p
-pub left_fewer : (l m c d k p r q : ℕ) → m ≡ l → d ≡ c + k → r ≡ p → c + k ≤ l → p + 1 ≤ 2 * k + q → 2 * (m - d) + r < 2 * (l - c) + q
-left_fewer l m c d k p r q one two three below less = omega arith
+-- ---- what is left
+
+-- what is left in states that are alike
+left_alike : (l : ℕ) (ts : List Timed) (d : Due) (s t : State) → AreAlike s t → left_in l ts d t ≡ left_in l ts d s
+left_alike l ts d s t alike = ap (left_in l ts d) alike.rest
+
+-- a step leaves less
+pub did_fewer : (before m : Machine) (was plan : Plan) (r : Record) → (state_of before.processor).count ≤ before.length → next_for before was ≡ Does r → AreAlike r.after (state_of m.processor) → m.due ≡ due_by r.kind r.before → m.length ≡ before.length
+    → plan ≡ plan_behind was r → steps_left m plan < steps_left before was
+unfolding steps_left
+did_fewer before m was plan r within is alike due bound behind =
+    let leaves = next_leaves before.length was.events was.place before.due (state_of before.processor) r is in
+    let less = leaves.less within in
+    let events = plan_after was.events was.place r in
+    let same : steps_left m plan ≡ left_in before.length events (due_by r.kind r.before) r.after =
+    ap (λ (p : Plan). left_in m.length (drop p.place p.events) m.due (state_of m.processor)) behind
+    ∙ ap (λ (l : ℕ). left_in l events m.due (state_of m.processor)) bound
+    ∙ ap (λ (d : Due). left_in before.length events d (state_of m.processor)) due
+    ∙ left_alike before.length events (due_by r.kind r.before) r.after (state_of m.processor) alike in
+    subst (λ (n : ℕ). n < steps_left before was) (sym same) less
+
+-- a step stays within the length
+pub did_within : (m : Machine) (was : Plan) (k : Kind) → (state_of m.processor).count ≤ m.length → next_for m was ≡ Does (record_of k (state_of m.processor)) → (state_of m.processor).count + counts_of k ≤ m.length
+did_within m was k within is =
+    let s = state_of m.processor in
+    let leaves = next_leaves m.length was.events was.place m.due s (record_of k s) is in
+    let fits = leaves.within within in
+    let count = counts_after k s in
+    omega (arith, fits, count)
 
 -- ---- one instruction comes next
 
@@ -57,12 +99,21 @@ before_length : (b : Bool) (x y : Next) → b ≡ false → cond b x y ≡ y
 before_length false x y e = refl
 before_length true x y e = absurd cc
 
-pub goes_on : (m : Machine) → m.due ≡ dues.Nothing → (state_of m.processor).count < m.length → next_for m ≡ next_by_standing (state_of m.processor) (stands_at (state_of m.processor))
-goes_on m none below =
+-- below the length what comes goes by the choice of an interrupt
+pub goes_on : (m : Machine) (plan : Plan) → m.due ≡ dues.Nothing → (state_of m.processor).count < m.length → next_for m plan ≡ next_by_choice (event_for m plan) (state_of m.processor) (choice_in (state_of m.processor))
+goes_on m plan none below =
     let s = state_of m.processor in
     let other : eqb s.count m.length ≡ false = grind (arith, nat_tests, below) in
-    ap (λ (d : Due). next_in m.length d s) none
-    ∙ before_length (eqb s.count m.length) (Ends Limit) (next_by_standing s (stands_at s)) other
+    ap (λ (d : Due). next_in m.length d (event_for m plan) s) none
+    ∙ before_length (eqb s.count m.length) (Ends Limit) (next_by_choice (event_for m plan) s (choice_in s)) other
+
+-- where none is chosen it goes by the event that stands there
+pub goes_by_event : (m : Machine) (plan : Plan) → m.due ≡ dues.Nothing → (state_of m.processor).count < m.length → choice_in (state_of m.processor) ≡ Ok None → next_for m plan ≡ next_by_event (event_for m plan) (state_of m.processor)
+goes_by_event m plan none below chosen = goes_on m plan none below ∙ ap (next_by_choice (event_for m plan) (state_of m.processor)) chosen
+
+-- and where none stands there it is the instruction's turn
+pub goes_by_itself : (m : Machine) (plan : Plan) → m.due ≡ dues.Nothing → (state_of m.processor).count < m.length → choice_in (state_of m.processor) ≡ Ok None → event_for m plan ≡ None → next_for m plan ≡ next_by_standing (state_of m.processor) (stands_at (state_of m.processor))
+goes_by_itself m plan none below chosen stands = goes_by_event m plan none below chosen ∙ ap (λ (o : Option Event). next_by_event o (state_of m.processor)) stands
 
 -- ---- lines
 
@@ -73,19 +124,69 @@ points_long (Some kind) s = refl
 pub lines_long : (b : Option ℕ) (p : Option Point) (s : State) → length (out_lines b ++ point_lines p s) ≡ length (out_lines b) + point_count p
 lines_long b p s = length-append (out_lines b) (point_lines p s) ∙ ap (λ (n : ℕ). length (out_lines b) + n) (points_long p s)
 
+-- the lines of the event that a record reached
+pub event_lines_of : (k : Kind) (s : State) → event_lines k s ≡ reached_lines (event_of k) s
+event_lines_of (Instruction i) s = refl
+event_lines_of (Faulted inst fault) s = refl
+event_lines_of (Entered e) s = refl
+event_lines_of (Interrupted c e) s = refl
+event_lines_of (Reached e) s = refl
+
+bytes_long : (e : Event) (s : State) → length (bytes_lines e s) ≡ bytes_count e
+bytes_long (events.Pin x) s = refl
+bytes_long events.Nmi s = refl
+bytes_long (events.Dma c) s = refl
+bytes_long (events.Feed c bytes) s = refl
+bytes_long (events.Show a n) s = refl
+
+pub reached_long : (o : Option Event) (s : State) → length (reached_lines o s) ≡ reached_count o
+reached_long None s = refl
+reached_long (Some e) s = let long = bytes_long e s in omega (arith, long)
+
+-- ---- the schedule
+
+-- a record reaches the event that it names, and no other
+pub reached_one : (k : Kind) (s : State) → length (reached_by k s) ≡ cond (is_some (event_of k)) 1 0
+reached_one (Instruction i) s = refl
+reached_one (Faulted inst fault) s = refl
+reached_one (Entered e) s = refl
+reached_one (Interrupted c e) s = refl
+reached_one (Reached e) s = refl
+
+stands_within : (m : Machine) (plan : Plan) (e : Event) → event_for m plan ≡ Some e → plan.place < length plan.events
+stands_within m plan e is =
+    let found = stands_there (state_of m.processor).count (slice_get plan.events plan.place) e is in
+    slice_get_within plan.events plan.place found.0 found.1
+
+reaches_within : (m : Machine) (plan : Plan) (k : Kind) → MayCome m.length m.due (event_for m plan) (state_of m.processor) k → IsSome (event_of k) → plan.place < length plan.events
+reaches_within m plan (Instruction i) may some = absurd some
+reaches_within m plan (Faulted inst fault) may some = absurd some
+reaches_within m plan (Entered e) may some = absurd some
+reaches_within m plan (Interrupted c e) may some = absurd some
+reaches_within m plan (Reached e) may some = stands_within m plan e may.2
+
+-- a schedule has the event that a step reaches
+pub step_within : (m : Machine) (plan : Plan) (k : Kind) → next_for m plan ≡ Does (record_of k (state_of m.processor)) → IsSome (event_of k) → plan.place < length plan.events
+step_within m plan k is some =
+    reaches_within m plan k (next_comes m.length m.due (event_for m plan) (state_of m.processor) (record_of k (state_of m.processor)) is).1 some
+
 -- ---- room
 
 -- room for what comes next is room for the step that does it
-pub step_room : (m : Machine) (spare : ℕ) (step : Step) (e : Effect) → IsStep m step e → HasRoom m spare (next_for m) → HasRoomForStep m spare e step
-step_room m spare step e is room =
+pub step_room : (m : Machine) (plan : Plan) (spare : ℕ) (step : Step) (e : Effect) → IsStep m plan step e → HasRoom m spare (next_for m plan) → HasRoomForStep m spare e step
+step_room m plan spare step e is room =
     let s = state_of m.processor in
     let r = record_of is.kind s in
     let here : HasRoomToDo m spare r = subst (HasRoom m spare) is.is_next room in
     let bytes = console_byte (writes_in e) in
-    let lines : length (record_lines r) ≡ line_count e step =
+    let rest : length (out_lines (console_byte (action_done r).writes) ++ point_lines (point_of is.kind) r.after) ≡ length (out_lines bytes) + point_count (step.point) =
     lines_long (console_byte (action_done r).writes) (point_of is.kind) r.after
     ∙ ap (λ (a : Action). length (out_lines (console_byte a.writes)) + point_count (point_of is.kind)) (sym is.effect.same)
     ∙ ap (λ (p : Option Point). length (out_lines bytes) + point_count p) (sym is.point) in
+    let event : length (event_lines is.kind s) ≡ reached_count (step.event) =
+    ap length (event_lines_of is.kind s) ∙ reached_long (event_of is.kind) s ∙ ap reached_count (sym is.event) in
+    let lines : length (record_lines r) ≡ line_count e step =
+    length-append (event_lines is.kind s) (out_lines (console_byte (action_done r).writes) ++ point_lines (point_of is.kind) r.after) ∙ omega (arith, rest, event) in
     record {
       lines = subst (λ (n : ℕ). n ≤ spare) lines here.lines;
       effect = room_space m.processor s e (subst (HasRoomFor m.processor) (sym is.effect.same) here.effect);

@@ -1,19 +1,41 @@
 -- What a step prints and what it needs, from its effect.
-use Rattle.std.specs.Prelude.{◌≡◌, ℕ, ◌+◌, ◌≤◌, Bool, false, ◌||◌, nat_lt, List, ◌++◌, length, Option, None, Some}
+use Rattle.std.specs.Prelude.{◌≡◌, ℕ, ◌+◌, ◌≤◌, Bool, false, ◌||◌, nat_lt, List, [], ◌∷◌, ◌++◌, length, Option, None, Some, IfSome, is_some, if◌then◌else◌}
+use Rattle.i9_model.specs.declared.event.Event.{Event}
+use Rattle.i9_model.specs.declared.event.Event.TheVariants.{Pin, Nmi, Dma, Feed, Show}
+use Rattle.i9_model.specs.Events.{IsInRange}
 use Rattle.i9_model.specs.Memory.{console_byte}
 use Rattle.i9_model.specs.Free.{IsFree}
 use Rattle.i9_model.specs.State.{State}
-use Rattle.i9_model.specs.Step.{moved}
+use Rattle.i9_model.specs.Step.{Action, moved, acted, counted}
+use Rattle.i9_schedule.specs.Plan.{Plan}
+use Rattle.i9_processor.specs.State.{state_of}
 use Rattle.i9_model.specs.declared.run.Point.{Point}
-use Rattle.i9_model.specs.PrintedText.{Shown, out_lines, point_lines}
+use Rattle.i9_model.specs.PrintedText.{Shown, Journal, bytes_lines, out_lines, point_lines}
 use Rattle.i9_processor.specs.declared.effect.Effect.{Effect}
-use Rattle.i9_processor.specs.Effect.{writes_in, action_in, control_in, AreRegisters, CanControl, CanMove, HasSpaceFor, has_writes, is_restart}
+use Rattle.i9_processor.specs.Effect.{writes_in, action_in, control_in, AreRegisters, CanPost, CanControl, CanMove, HasSpaceFor, has_writes, is_restart}
 use Rattle.i9_machine.specs.declared.machine.Machine.{Machine}
 use Rattle.i9_machine.specs.declared.step.Step.{Step}
 
--- the lines of a step, from the state after it
-abbrev pub lines_of : Effect → Step → State → List Shown
-lines_of e step t = out_lines (console_byte (writes_in e)) ++ point_lines (step.point) t
+-- the lines of an event that is reached, where one is, from the state before it
+abbrev pub reached_lines : Option Event → State → List Shown
+reached_lines None s = []
+reached_lines (Some event) s = Journal s.count event ∷ bytes_lines event s
+
+-- the lines of a step, from the states before and after it
+abbrev pub lines_of : Effect → Step → State → State → List Shown
+lines_of e step s t = reached_lines (step.event) s ++ (out_lines (console_byte (writes_in e)) ++ point_lines (step.point) t)
+
+-- how many bytes lines an event has
+abbrev pub bytes_count : Event → ℕ
+bytes_count (Pin x) = 0
+bytes_count Nmi = 0
+bytes_count (Dma c) = 0
+bytes_count (Feed c bytes) = 0
+bytes_count (Show a n) = 1
+
+abbrev pub reached_count : Option Event → ℕ
+reached_count None = 0
+reached_count (Some event) = 1 + bytes_count event
 
 -- how many drained points are printed
 abbrev pub point_count : Option Point → ℕ
@@ -22,7 +44,7 @@ point_count (Some kind) = 1
 
 -- how many lines are printed
 abbrev pub line_count : Effect → Step → ℕ
-line_count e step = length (out_lines (console_byte (writes_in e))) + point_count (step.point)
+line_count e step = reached_count (step.event) + (length (out_lines (console_byte (writes_in e))) + point_count (step.point))
 
 -- it prints lines, stores bytes, saves a frame, or makes new sets
 abbrev pub asks_room : State → Effect → Step → Bool
@@ -39,7 +61,20 @@ pub record HasRoomForStep (m : Machine) (spare : ℕ) (e : Effect) (step : Step)
 -- its effect can be applied in a state, and its count fits a length
 pub record IsReady (s : State) (limit : ℕ) (e : Effect) (step : Step) : Type 0 where
   pub registers : AreRegisters e
+  pub posts : CanPost e.posting
   pub moves : CanMove s.frames e.frames
   pub free : IsFree s (action_in s e)
   pub controls : CanControl (moved s (action_in s e)) e.control
   pub below : s.count + step.counts ≤ limit
+  pub event : IfSome step.event IsInRange
+
+-- the action that an effect is for a machine, and the state behind a step
+abbrev pub action_for : Machine → Effect → Action
+action_for m e = action_in (state_of m.processor) e
+
+abbrev pub state_behind : Machine → Effect → Step → State
+state_behind m e step = counted step.counts (acted (state_of m.processor) (action_for m e))
+
+-- a schedule behind a step
+abbrev pub plan_after_step : Plan → Step → Plan
+plan_after_step plan step = record plan { place = plan.place + (if is_some step.event then 1 else 0) }

@@ -1,5 +1,4 @@
 pub mod Line
-pub mod Due
 pub mod Issue
 pub mod Step
 pub mod Doing

@@ -1,7 +1,8 @@
 -- What a machine stands for, and what one step of it does.
-use Rattle.std.specs.Prelude.{◌≡◌, ℕ, ◌<◌, List, ◌∷◌, Option, Some, None}
+use Rattle.std.specs.Prelude.{◌≡◌, ℕ, ◌<◌, List, ◌∷◌, length, Option, Some, None}
 use Rattle.i9_model.specs.declared.run.End.{End}
-use Rattle.i9_model.specs.Run.{Given, Record, Does, Ends, IsPast, state_after, due_after, next}
+use Rattle.i9_model.specs.Run.{Given, Record, Does, Ends, IsPast, state_after, due_after, reached_after, next}
+use Rattle.i9_schedule.specs.Plan.{Plan}
 use Rattle.i9_model.specs.Alike.{AreAlike}
 use Rattle.i9_model.specs.HeldFrames.{sets_in, cache_after}
 use Rattle.i9_model.specs.PrintedText.{record_lines, end_lines}
@@ -32,32 +33,40 @@ pub record StandsFor (g : Given) (rs : List Record) (end : Option End) (m : Mach
   pub ended : m.ended ≡ end
   pub over : IsOver g rs end
 
+-- a schedule is the plan of the run, and stands behind the events that the records reached
+pub record Follows (g : Given) (rs : List Record) (plan : Plan) : Type 0 where
+  pub events : plan.events ≡ g.plan
+  pub place : plan.place ≡ length (reached_after rs)
+
 -- the next record was done, and its lines were appended
-pub record DoesNext (g : Given) (rs : List Record) (answer : Turn) (m : Machine) (old new : List Line) : Type 0 where
+pub record DoesNext (g : Given) (rs : List Record) (answer : Turn) (m : Machine) (plan : Plan) (old new : List Line) : Type 0 where
   pub done : Record
   pub is_next : next g rs ≡ Does done
   pub stands : StandsFor g (done ∷ rs) None m
+  pub follows : Follows g (done ∷ rs) plan
   pub lines : AddsLines old new (record_lines done)
   pub tells : TellsRecord done.kind done.before answer
 
 -- the end was answered, and its lines were appended
-pub record EndsRun (g : Given) (rs : List Record) (f : End) (m : Machine) (old new : List Line) : Type 0 where
+pub record EndsRun (g : Given) (rs : List Record) (f : End) (m : Machine) (plan : Plan) (old new : List Line) : Type 0 where
   pub is_end : next g rs ≡ Ends f
   pub stands : StandsFor g rs (Some f) m
+  pub follows : Follows g rs plan
   pub lines : AddsLines old new (end_lines (state_after g rs) f)
 
 -- memory was refused, and nothing has changed
-pub record IsRefused (g : Given) (rs : List Record) (m : Machine) (old new : List Line) : Type 0 where
+pub record IsRefused (g : Given) (rs : List Record) (m : Machine) (plan : Plan) (old new : List Line) : Type 0 where
   pub stands : StandsFor g rs None m
+  pub follows : Follows g rs plan
   pub lines : new ≡ old
   pub needed : NeedsRoom (next g rs)
 
 -- what a step does, by its answer
-abbrev pub Advances : Given → List Record → Turn → Machine → List Line → List Line → Type 0
-Advances g rs turns.On m old new = DoesNext g rs turns.On m old new
-Advances g rs (turns.Issued t) m old new = DoesNext g rs (turns.Issued t) m old new
-Advances g rs (turns.End e) m old new = EndsRun g rs e m old new
-Advances g rs turns.Memory m old new = IsRefused g rs m old new
+abbrev pub Advances : Given → List Record → Turn → Machine → Plan → List Line → List Line → Type 0
+Advances g rs turns.On m plan old new = DoesNext g rs turns.On m plan old new
+Advances g rs (turns.Issued t) m plan old new = DoesNext g rs (turns.Issued t) m plan old new
+Advances g rs (turns.End e) m plan old new = EndsRun g rs e m plan old new
+Advances g rs turns.Memory m plan old new = IsRefused g rs m plan old new
 
 -- the end is answered again, and nothing has changed
 pub record AnswersAgain (g : Given) (rs : List Record) (f : End) (answer : Turn) (m : Machine) (old new : List Line) : Type 0 where
@@ -67,7 +76,7 @@ pub record AnswersAgain (g : Given) (rs : List Record) (f : End) (answer : Turn)
   pub stands : StandsFor g rs (Some f) m
   pub lines : new ≡ old
 
--- an instruction and an entry leave fewer
+-- a record leaves less
 abbrev pub LeavesFewer : Turn → ℕ → ℕ → Type 0
 LeavesFewer turns.On before now = now < before
 LeavesFewer (turns.Issued t) before now = now < before

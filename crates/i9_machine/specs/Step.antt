@@ -1,8 +1,13 @@
 -- One step of a machine from its own fields, with no word on the records before.
-use Rattle.std.specs.Prelude.{◌≡◌, ℕ, ◌+◌, ◌-◌, ◌*◌, ◌≤◌, Bool, true, false, ◌||◌, nat_lt, List, length, Some, None, Result, Ok, Err}
+use Rattle.std.specs.Prelude.{◌≡◌, ℕ, ◌+◌, ◌≤◌, Bool, true, false, ◌||◌, nat_lt, List, length, drop, Option, Some, None, IfSome, Result, Ok, Err}
 use Rattle.i9_isa.specs.Words.{words_of}
 use Rattle.i9_model.specs.State.{State}
-use Rattle.i9_model.specs.Run.{Kind, Instruction, Faulted, Entered, Record, Next, Does, Ends, next_in, due_by, faulted_words, action_by_kind, counts_of, point_of, record_of, action_done}
+use Rattle.i9_model.specs.declared.event.Event.{Event}
+use Rattle.i9_model.specs.Events.{IsInRange}
+use Rattle.i9_model.specs.ScheduleText.{standing}
+use Rattle.i9_model.specs.Left.{left_in}
+use Rattle.i9_model.specs.Run.{Kind, Instruction, Faulted, Entered, Interrupted, Reached, Record, Next, Does, Ends, next_in, due_by, faulted_words, action_by_kind, counts_of, point_of, record_of, reached_by, action_done}
+use Rattle.i9_schedule.specs.Plan.{Plan}
 use Rattle.i9_model.specs.Alike.{AreAlike}
 use Rattle.i9_model.specs.PrintedText.{record_lines, end_lines}
 use Rattle.i9_processor.specs.declared.effect.Effect.{Effect}
@@ -14,23 +19,36 @@ use Rattle.i9_machine.specs.declared.line.Turn.{Turn}
 use Rattle.i9_machine.specs.declared.line.Turn.TheVariants as turns
 use Rattle.i9_machine.specs.declared.machine.Machine.{Machine}
 use Rattle.i9_machine.specs.declared.step.Step.{Step}
-use Rattle.i9_machine.specs.Due.{pending}
 use Rattle.i9_machine.specs.Issue.{TellsIssue}
 use Rattle.i9_machine.specs.Line.{AddsLines}
 
--- what comes next for the machine
-abbrev pub next_for : Machine → Next
-next_for m = next_in m.length m.due (state_of m.processor)
+-- the event of a schedule that stands there for the machine
+abbrev pub event_for : Machine → Plan → Option Event
+event_for m plan = standing plan.events plan.place (state_of m.processor).count
 
--- How many steps there may still be: an instruction and the entry of its fault, and an entry that is due.
-unfoldable pub steps_left : Machine → ℕ
-steps_left m = 2 * (m.length - (state_of m.processor).count) + pending m.due
+-- what comes next for the machine, by a schedule
+abbrev pub next_for : Machine → Plan → Next
+next_for m plan = next_in m.length m.due (event_for m plan) (state_of m.processor)
 
--- an instruction is told, also where it faulted, and the entry of a fault is none
+-- how much is left of a run
+unfoldable pub steps_left : Machine → Plan → ℕ
+steps_left m plan = left_in m.length (drop plan.place plan.events) m.due (state_of m.processor)
+
+-- the event that a record reached, where it reached one
+abbrev pub event_of : Kind → Option Event
+event_of (Instruction i) = None
+event_of (Faulted inst fault) = None
+event_of (Entered e) = None
+event_of (Interrupted c e) = None
+event_of (Reached e) = Some e
+
+-- an instruction is told, also where it faulted; an entry and an event are none
 abbrev pub TellsRecord : Kind → State → Turn → Type 0
 TellsRecord (Instruction i) s (turns.Issued t) = TellsIssue (words_of i) s t
 TellsRecord (Faulted inst fault) s (turns.Issued t) = TellsIssue (faulted_words inst) s t
 TellsRecord (Entered e) s turns.On = Unit {0}
+TellsRecord (Interrupted c e) s turns.On = Unit {0}
+TellsRecord (Reached e) s turns.On = Unit {0}
 TellsRecord _ s _ = ⊥
 
 -- memory may be needed for a record that prints lines, stores bytes, saves a frame, or makes new sets
@@ -56,28 +74,32 @@ HasRoom m spare (Does r) = HasRoomToDo m spare r
 
 -- ---- what a step is to do
 
--- what comes next is a record of this effect, drained point and count, which makes this due and is answered so
-pub record IsStep (m : Machine) (step : Step) (e : Effect) : Type 0 where
+-- What comes next is a record of this effect, drained point, event and count, which makes this due and is answered so.
+pub record IsStep (m : Machine) (plan : Plan) (step : Step) (e : Effect) : Type 0 where
   pub kind : Kind
-  pub is_next : next_for m ≡ Does (record_of kind (state_of m.processor))
+  pub is_next : next_for m plan ≡ Does (record_of kind (state_of m.processor))
   pub effect : IsEffect (state_of m.processor) (action_by_kind kind (state_of m.processor)) e
   pub point : step.point ≡ point_of kind
   pub counts : step.counts ≡ counts_of kind
   pub due : step.due ≡ due_by kind (state_of m.processor)
+  pub event : step.event ≡ event_of kind
+  pub ranges : IfSome step.event IsInRange
   pub tells : TellsRecord kind (state_of m.processor) step.answer
-  pub below : (state_of m.processor).count + step.counts ≤ m.length
-  pub fewer : pending step.due + 1 ≤ 2 * step.counts + pending m.due
 
 -- what comes next is such a record, or this end
-abbrev pub IsNext : Machine → Result Step End → Effect → Type 0
-IsNext m (Ok step) e = IsStep m step e
-IsNext m (Err f) e = next_for m ≡ Ends f
+abbrev pub IsNext : Machine → Plan → Result Step End → Effect → Type 0
+IsNext m plan (Ok step) e = IsStep m plan step e
+IsNext m plan (Err f) e = next_for m plan ≡ Ends f
 
 -- ---- what it has done
 
-pub record Did (before : Machine) (answer : Turn) (m : Machine) (old new : List Line) : Type 0 where
+-- a schedule goes on behind the event that a record reached
+abbrev pub plan_behind : Plan → Record → Plan
+plan_behind plan r = record plan { place = plan.place + length (reached_by r.kind r.before) }
+
+pub record Did (before : Machine) (answer : Turn) (m : Machine) (was plan : Plan) (old new : List Line) : Type 0 where
   pub done : Record
-  pub is_next : next_for before ≡ Does done
+  pub is_next : next_for before was ≡ Does done
   pub state : AreAlike done.after (state_of m.processor)
   pub cache : cache_of m.processor ≡ cache_through before.processor (action_done done) m.processor
   pub size : size_of m.processor ≡ size_through before.sets before.processor (action_done done)
@@ -85,6 +107,7 @@ pub record Did (before : Machine) (answer : Turn) (m : Machine) (old new : List 
   pub length : m.length ≡ before.length
   pub sets : m.sets ≡ before.sets
   pub ended : m.ended ≡ None
+  pub plan : plan ≡ plan_behind was done
   pub lines : AddsLines old new (record_lines done)
   pub tells : TellsRecord done.kind done.before answer
 
@@ -97,20 +120,22 @@ pub record IsSame (before m : Machine) : Type 0 where
   pub length : m.length ≡ before.length
   pub sets : m.sets ≡ before.sets
 
-pub record Ended (before : Machine) (e : End) (m : Machine) (old new : List Line) : Type 0 where
-  pub is_end : next_for before ≡ Ends e
+pub record Ended (before : Machine) (e : End) (m : Machine) (was plan : Plan) (old new : List Line) : Type 0 where
+  pub is_end : next_for before was ≡ Ends e
   pub same : IsSame before m
   pub ended : m.ended ≡ Some e
+  pub plan : plan ≡ was
   pub lines : AddsLines old new (end_lines (state_of before.processor) e)
 
-pub record Refused (before : Machine) (m : Machine) (old new : List Line) : Type 0 where
+pub record Refused (before : Machine) (m : Machine) (was plan : Plan) (old new : List Line) : Type 0 where
   pub same : IsSame before m
   pub ended : m.ended ≡ None
+  pub plan : plan ≡ was
   pub lines : new ≡ old
-  pub needed : NeedsRoom (next_for before)
+  pub needed : NeedsRoom (next_for before was)
 
-abbrev pub Steps : Machine → Turn → Machine → List Line → List Line → Type 0
-Steps before turns.On m old new = Did before turns.On m old new
-Steps before (turns.Issued t) m old new = Did before (turns.Issued t) m old new
-Steps before (turns.End e) m old new = Ended before e m old new
-Steps before turns.Memory m old new = Refused before m old new
+abbrev pub Steps : Machine → Turn → Machine → Plan → Plan → List Line → List Line → Type 0
+Steps before turns.On m was plan old new = Did before turns.On m was plan old new
+Steps before (turns.Issued t) m was plan old new = Did before (turns.Issued t) m was plan old new
+Steps before (turns.End e) m was plan old new = Ended before e m was plan old new
+Steps before turns.Memory m was plan old new = Refused before m was plan old new

@@ -6,7 +6,7 @@ mod line;
 mod machine;
 mod step;
 
-pub use i9_model::{End, Point};
+pub use i9_model::{End, Event, Point};
 pub use line::{Issued, Line, Turn};
 pub use machine::Machine;
 

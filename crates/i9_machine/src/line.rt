@@ -1,7 +1,11 @@
 //! What a step answers, and the lines that it prints.
 ghost use Rattle.std.specs.Prelude.{◌≡◌, ◌+◌, ◌<◌, ◌≤◌, ◌++◌, ◌∷◌, [], vec_len, vec_capacity};
 
-use i9_model::{End, Point, View};
+use arrayvec::ArrayVec;
+use i9_model::{End, Event, Point, View};
+
+/// The most bytes that an event shows.
+pub(crate) const MOST_SHOWN: usize = 64;
 
 /// An instruction that was issued: how many came before it, its address and its words. The second
 /// is 0 where the instruction has one word.
@@ -16,7 +20,7 @@ pub struct Issued {
 /// What a step was.
 #[derive(Clone, Copy, Debug, PartialEq, Eq)]
 pub enum Turn {
-    /// The entry of a fault.
+    /// The entry of a fault or of an interrupt, or an event.
     On,
     /// An instruction.
     Issued(Issued),
@@ -27,12 +31,19 @@ pub enum Turn {
 }
 
 /// What is printed.
-#[derive(Clone, Copy, Debug, PartialEq, Eq)]
+#[derive(Clone, Debug, Drop, PartialEq, Eq)]
 pub enum Line {
     /// A byte of the console.
     Out(u8),
+    /// An event that was reached after so many instructions.
+    Event { count: u64, event: Event },
     /// A drained point.
     Point { kind: Point, view: View },
+    /// The bytes from an address up, `None` where none is compared.
+    Bytes {
+        address: u32,
+        list: ArrayVec<Option<u8>, MOST_SHOWN>,
+    },
     /// The end of the run.
     End(End),
 }

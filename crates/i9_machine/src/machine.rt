@@ -23,6 +23,7 @@ use i9_isa::NoMemory;
 use i9_model::layout::MAX_LENGTH;
 use i9_model::{Due, End, View};
 use i9_processor::{Effect, Processor};
+use i9_schedule::Schedule;
 use std::alloc::Global;
 
 /// A machine that runs an image: what an instruction may read or change, the length of the run, what
@@ -41,7 +42,7 @@ pub struct Machine {
 }
 
 impl Machine {
-    ghost use Rattle.i9_machine.specs.StandsFor.{StandsFor, Advances, AnswersAgain, LeavesFewer};
+    ghost use Rattle.i9_machine.specs.StandsFor.{StandsFor, Follows, Advances, AnswersAgain, LeavesFewer};
     ghost use Rattle.i9_machine.specs.Step.{Steps, HasRoom, next_for, steps_left};
 
     /// A machine before its first step: its run has the image's bytes, so many register sets or as many
@@ -93,35 +94,38 @@ impl Machine {
     }
 
     /// One step of a machine that has answered no end.
-    fn step(&mut self, out: &mut Vec<Line>) -> Turn
+    fn step(&mut self, plan: &mut Schedule, out: &mut Vec<Line>) -> Turn
         requires { self.old.ended ≡ None }
-        ensures steps { Steps self.old result self.new out.old.items out.new.items }
-        ensures lacking { result ≡ Turn.Memory → HasRoom self.old (vec_capacity out.old - vec_len out.old) (next_for self.old) → ⊥ }
-        ensures fewer { LeavesFewer result (steps_left self.old) (steps_left self.new) }
+        ensures steps { Steps self.old result self.new plan.old plan.new out.old.items out.new.items }
+        ensures lacking { result ≡ Turn.Memory
+            → HasRoom self.old (vec_capacity out.old - vec_len out.old) (next_for self.old plan.old) → ⊥ }
+        ensures fewer { LeavesFewer result (steps_left self.old plan.old) (steps_left self.new plan.new) }
     {
         let mut effect = Effect::blank();
-        match self.plan(&mut effect) {
-            Ok(step) => self.perform(&step, &effect, out),
-            Err(end) => self.finish(end, out),
+        match self.next_step(plan, &mut effect) {
+            Ok(step) => self.perform(&step, &effect, plan, out),
+            Err(end) => self.finish(end, plan, out),
         }
     }
 
-    /// One step of the run: the next instruction is done or faults, or its fault is entered, or the end is
-    /// answered, and the lines of it are appended to `out`. Memory is refused only where room is lacking in
-    /// the machine or in `out`, or where new sets are to be made; then both are as before. Once an end was
-    /// answered, each call answers it again and changes nothing.
-    pub fn advance(&mut self, out: &mut Vec<Line>) -> Turn
-        ensures next { (g : Given) (rs : List Record) → StandsFor g rs None self.old
-            → Advances g rs result self.new out.old.items out.new.items }
+    /// One step of the run: the next instruction is done or faults, or its fault is entered, or before it an
+    /// interrupt that is chosen is entered or the event of the schedule that stands there is reached, or the
+    /// end is answered; and the lines of it are appended to `out`. The schedule is the one of the run, behind
+    /// the events that were reached so far, and goes on where an event is reached. Memory is refused only
+    /// where room is lacking in the machine or in `out`, or where new sets are to be made; then all three are
+    /// as before. Once an end was answered, each call answers it again and changes nothing.
+    pub fn advance(&mut self, plan: &mut Schedule, out: &mut Vec<Line>) -> Turn
+        ensures next { (g : Given) (rs : List Record) → StandsFor g rs None self.old → Follows g rs plan.old
+            → Advances g rs result self.new plan.new out.old.items out.new.items }
         ensures again { (g : Given) (rs : List Record) (f : End) → StandsFor g rs (Some f) self.old
-            → AnswersAgain g rs f result self.new out.old.items out.new.items }
-        ensures lacking { (g : Given) (rs : List Record) → StandsFor g rs None self.old → result ≡ Turn.Memory
-            → HasRoom self.old (vec_capacity out.old - vec_len out.old) (next g rs) → ⊥ }
-        ensures fewer { LeavesFewer result (steps_left self.old) (steps_left self.new) }
+            → AnswersAgain g rs f result self.new out.old.items out.new.items × (plan.new ≡ plan.old) }
+        ensures lacking { (g : Given) (rs : List Record) → StandsFor g rs None self.old → Follows g rs plan.old
+            → result ≡ Turn.Memory → HasRoom self.old (vec_capacity out.old - vec_len out.old) (next g rs) → ⊥ }
+        ensures fewer { LeavesFewer result (steps_left self.old plan.old) (steps_left self.new plan.new) }
     {
         match self.ended {
             Some(e) => Turn::End(e),
-            None => self.step(out),
+            None => self.step(plan, out),
         }
     }
 }

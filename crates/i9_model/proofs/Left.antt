@@ -46,7 +46,7 @@ use Rattle.i9_model.proofs.ControlLaws.{by_group, acted-count}
 use Rattle.i9_model.proofs.Comes.{MayCome, next_comes}
 
 -- the instructions that a record counts
-counts_after : (k : Kind) (s : State) → (after_kind k s).count ≡ s.count + counts_of k
+pub counts_after : (k : Kind) (s : State) → (after_kind k s).count ≡ s.count + counts_of k
 counts_after k s = ap (λ (n : ℕ). n + counts_of k) (acted-count s (action_by_kind k s))
 
 -- ---- bits
@@ -288,7 +288,7 @@ drop_work (x ∷ plan) zero t is = let same : x ≡ t = cc in ap (λ (y : Timed)
 drop_work (x ∷ plan) (suc place) t is = drop_work plan place t is
 
 -- an event that stands is the one at its place
-stands_there : (k : ℕ) (o : Option Timed) (e : Event) → event_at k o ≡ Some e → (t : Timed) × (o ≡ Some t) × (t.event ≡ e)
+pub stands_there : (k : ℕ) (o : Option Timed) (e : Event) → event_at k o ≡ Some e → (t : Timed) × (o ≡ Some t) × (t.event ≡ e)
 stands_there k None e is = absurd cc
 stands_there k (Some t) e is = by_time (time_of t == k) is
   where

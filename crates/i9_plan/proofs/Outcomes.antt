@@ -12,18 +12,18 @@ use Rattle.i9_isa.specs.Words.{bit}
 use Rattle.i9_isa.specs.Transfers.{transfer_of}
 use Rattle.i9_model.specs.declared.arith.Arith.{Arith}
 use Rattle.i9_model.specs.declared.layout.TheConstants.{PRECISE_FAULTS_PLACE}
-use Rattle.i9_model.specs.declared.faults.TheConstants.{CONSTRAINT, RANGE}
-use Rattle.i9_model.specs.State.{State}
+use Rattle.i9_model.specs.declared.faults.TheConstants.{CONSTRAINT, RANGE, TYPE, MISMATCH}
+use Rattle.i9_model.specs.State.{State, Interrupts}
 use Rattle.i9_isa.specs.declared.inst.Operand.{Operand}
 use Rattle.i9_isa.specs.declared.inst.Operand.TheVariants.{Reg, Lit, Sfr}
-use Rattle.i9_model.specs.Operands.{value, assigned}
+use Rattle.i9_model.specs.Operands.{value, assigned, interrupts_assigned}
 use Rattle.i9_model.specs.Branches.{asks, question_of, is_taken}
 use Rattle.i9_model.specs.Results.{Answer, has_result}
 use Rattle.i9_model.specs.Step.{Action, passing, destination, answer_in, resulting, branching, other_action, action_by_name, action_by, action_of}
 use Rattle.i9_model.specs.Access.{NoAccess, access_by_name, access_by, access_of, data_of, hazard_in, hazard_of}
 use Rattle.i9_model.specs.Calls.{in_supervisor_mode}
-use Rattle.i9_model.specs.Faults.{is_supervisor_only, is_special, uses_special, is_invalid, is_past_table, is_unaligned, raised}
-use Rattle.i9_model.specs.Unbuilt.{is_built_name, is_built_operand, is_built_form, is_other_return, is_unbuilt_control, is_faulty, is_built}
+use Rattle.i9_model.specs.Faults.{is_supervisor_only, uses_special, mismatches, is_invalid, is_past_table, is_unaligned, raised}
+use Rattle.i9_model.specs.Unbuilt.{is_faulty}
 use Rattle.i9_model.specs.Standing.{Standing, NotBuilt, Faults, Runs, arithmetic_fault, answer_fault, is_fault_name, range_fault, raised_in, first_fault, by_access, by_later, by_raised}
 use Rattle.i9_exec.specs.declared.done.Done.{Done}
 use Rattle.i9_exec.specs.Shown.{answer_of}
@@ -218,63 +218,54 @@ plain_table Sysctl a e = absurd cc
 plain_table Sdma a e = absurd cc
 plain_table _ a e = refl
 
--- built operands are no special function registers
-plain_operand : (o : Operand) → is_built_operand o ≡ true → is_special o ≡ false
-plain_operand (Reg r) e = refl
-plain_operand (Lit l) e = refl
-plain_operand (Sfr k) e = absurd cc
+-- outside supervisor mode no special function register is used
+no_mismatch : (m v u : Bool) → (m && u) ≡ false → v ≡ false → (m && (v || u)) ≡ false
+no_mismatch true false u e f = e
+no_mismatch false v u e f = refl
+no_mismatch true true u e f = absurd cc
 
-plain_by : (n a b c : Bool) → (n && a && b && c) ≡ true → (a ≡ true) × (b ≡ true) × (c ≡ true)
-plain_by true true true true e = (refl, refl, refl)
-plain_by false a b c e = absurd cc
-plain_by true false b c e = absurd cc
-plain_by true true false c e = absurd cc
-plain_by true true true false e = absurd cc
-
-uses_none : (i : Inst) → is_built_form i ≡ true → uses_special i ≡ false
-uses_none i form =
-    let parts = plain_by (is_built_name i.op) (is_built_operand i.a) (is_built_operand i.b) (is_built_operand i.c) form in
-    none_used (is_special i.a) (is_special i.b) (is_special i.c) (plain_operand i.a parts.0) (plain_operand i.b parts.1) (plain_operand i.c parts.2)
-  where
-    none_used : (a b c : Bool) → a ≡ false → b ≡ false → c ≡ false → (a || b || c) ≡ false
-    none_used false false false d e f = refl
-    none_used true b c d e f = absurd cc
-    none_used false true c d e f = absurd cc
-    none_used false false true d e f = absurd cc
-
-calm_form : (m v u q r : Bool) (config : ℕ) (w x y z : ℕ × ℕ) (access : Option (ℕ × ℕ)) → v ≡ false → u ≡ false → q ≡ false → r ≡ false → access ≡ None
-    → cond (m && (v || u)) (Some w) (cond q (Some x) (cond r (Some y) (cond (is_unaligned access config) (Some z) None))) ≡ None
-calm_form true false false false false config w x y z None d e f g h = refl
-calm_form false false false false false config w x y z None d e f g h = refl
-calm_form m true u q r config w x y z access d e f g h = absurd cc
-calm_form m false true q r config w x y z access d e f g h = absurd cc
-calm_form m false false true r config w x y z access d e f g h = absurd cc
-calm_form m false false false true config w x y z access d e f g h = absurd cc
-calm_form m false false false false config w x y z (Some p) d e f g h = absurd cc
+calm_form : (m q r : Bool) (config : ℕ) (w x y z : ℕ × ℕ) (access : Option (ℕ × ℕ)) → m ≡ false → q ≡ false → r ≡ false → access ≡ None
+    → cond m (Some w) (cond q (Some x) (cond r (Some y) (cond (is_unaligned access config) (Some z) None))) ≡ None
+calm_form false false false config w x y z None d f g h = refl
+calm_form true q r config w x y z access d f g h = absurd cc
+calm_form false true r config w x y z access d f g h = absurd cc
+calm_form false false true config w x y z access d f g h = absurd cc
+calm_form false false false config w x y z (Some p) d f g h = absurd cc
 
 no_data : (i : Inst) (s : State) → transfer_of i.op ≡ None → access_by_name i.op i s ≡ NoAccess → data_of (access_of i s) ≡ None
 no_data i s none access = ap (λ (t : Option Transfer). data_of (access_by t i s)) none ∙ ap data_of access
 
-calm : (i : Inst) (s : State) → is_built_form i ≡ true → is_asking i.op ≡ false → transfer_of i.op ≡ None → access_by_name i.op i s ≡ NoAccess → raised_in i s ≡ None
+-- no special function register is used outside supervisor mode
+abbrev Matches : Inst → State → Type 0
+Matches i s = (not (in_supervisor_mode s.pc) && uses_special i) ≡ false
+
+calm : (i : Inst) (s : State) → Matches i s → is_asking i.op ≡ false → transfer_of i.op ≡ None → access_by_name i.op i s ≡ NoAccess → raised_in i s ≡ None
 unfolding raised
-calm i s form quiet moves access =
-    calm_form (not (in_supervisor_mode s.pc)) (is_supervisor_only i.op (value s i.b)) (uses_special i) (is_invalid i.op (value s i.a)) (is_past_table i.op (value s i.a)) s.tables.fault_config _ _ _ _
-    (data_of (access_of i s)) (plain_calls i.op (value s i.b) quiet) (uses_none i form) (plain_names i.op (value s i.a) quiet) (plain_table i.op (value s i.a) quiet) (no_data i s moves access)
+calm i s fits quiet moves access =
+    calm_form (mismatches i (value s i.b) s.pc) (is_invalid i.op (value s i.a)) (is_past_table i.op (value s i.a)) s.tables.fault_config _ _ _ _
+    (data_of (access_of i s))
+    (no_mismatch (not (in_supervisor_mode s.pc)) (is_supervisor_only i.op (value s i.b)) (uses_special i) fits (plain_calls i.op (value s i.b) quiet))
+    (plain_names i.op (value s i.a) quiet) (plain_table i.op (value s i.a) quiet) (no_data i s moves access)
 
-built_form : (i : Inst) (s : State) → is_built i s ≡ true → is_built_form i ≡ true
-unfolding is_built
-built_form i s e =
-    let other = not (is_other_return i.op s) in
-    (and_parts (is_built_form i) other (and_parts (is_built_form i && other) (not (is_unbuilt_control i.op i s)) e).0).0
+-- an instruction raises nothing before its result, or before its condition
+pub result_calm : (i : Inst) (s : State) → Matches i s → has_result i.op ≡ true → raised_in i s ≡ None
+result_calm i s fits t =
+    calm i s fits (other (has_result i.op) (is_asking i.op) (result_asking i.op) t) (none_of (transfer_of i.op) (other (has_result i.op) (is_some (transfer_of i.op)) (result_moves i.op) t)) (result_access i.op i s t)
 
--- an instruction that is built raises nothing before its result, or before its condition
-pub result_calm : (i : Inst) (s : State) → is_built i s ≡ true → has_result i.op ≡ true → raised_in i s ≡ None
-result_calm i s built t =
-    calm i s (built_form i s built) (other (has_result i.op) (is_asking i.op) (result_asking i.op) t) (none_of (transfer_of i.op) (other (has_result i.op) (is_some (transfer_of i.op)) (result_moves i.op) t)) (result_access i.op i s t)
+pub branch_calm : (i : Inst) (s : State) → Matches i s → is_branch i.op ≡ true → raised_in i s ≡ None
+branch_calm i s fits t =
+    calm i s fits (other (is_branch i.op) (is_asking i.op) (branch_asking i.op) t) (none_of (transfer_of i.op) (other (is_branch i.op) (is_some (transfer_of i.op)) (branch_moves i.op) t)) (branch_access i.op i s t)
 
-pub branch_calm : (i : Inst) (s : State) → is_built i s ≡ true → is_branch i.op ≡ true → raised_in i s ≡ None
-branch_calm i s built t =
-    calm i s (built_form i s built) (other (is_branch i.op) (is_asking i.op) (branch_asking i.op) t) (none_of (transfer_of i.op) (other (is_branch i.op) (is_some (transfer_of i.op)) (branch_moves i.op) t)) (branch_access i.op i s t)
+-- where one is used there, that is what is raised
+used_there : (m v u : Bool) (o : Option (ℕ × ℕ)) → (m && u) ≡ true → cond (m && (v || u)) (Some (TYPE, MISMATCH)) o ≡ Some (TYPE, MISMATCH)
+used_there true false true o e = refl
+used_there true true u o e = refl
+used_there true false false o e = absurd cc
+used_there false v u o e = absurd cc
+
+pub mismatch_raised : (i : Inst) (s : State) → (not (in_supervisor_mode s.pc) && uses_special i) ≡ true → raised_in i s ≡ Some (TYPE, MISMATCH)
+unfolding raised
+mismatch_raised i s used = used_there (not (in_supervisor_mode s.pc)) (is_supervisor_only i.op (value s i.b)) (uses_special i) _ used
 
 -- ---- by its result
 
@@ -369,8 +360,16 @@ nothing_assigned (Reg r) = refl
 nothing_assigned (Lit l) = refl
 nothing_assigned (Sfr k) = refl
 
+nothing_posted : (o : Operand) (x : Interrupts) → interrupts_assigned o [] x ≡ x
+nothing_posted (Reg r) x = refl
+nothing_posted (Lit l) x = refl
+nothing_posted (Sfr k) x = refl
+
 nothing_given : (i : Inst) (s : State) → resulting i s None ≡ passing i s
-nothing_given i s = ap (λ (sets : List (ℕ × ℕ)). record (passing i s) { sets = sets }) (nothing_assigned (destination i))
+nothing_given i s =
+    let o = destination i in
+    ap (λ (sets : List (ℕ × ℕ)). record (passing i s) { sets = sets; interrupts = interrupts_assigned o [] s.interrupts }) (nothing_assigned o)
+    ∙ ap (λ (x : Interrupts). record (passing i s) { interrupts = x }) (nothing_posted o s.interrupts)
 
 not_own : (op : Op) → IsOther op → is_own op ≡ false
 not_own Lda other = absurd (other.not_lda refl)

@@ -12,7 +12,10 @@ use Rattle.i9_model.specs.declared.faults.Fault.{Fault}
 use Rattle.i9_model.specs.declared.faults.Entry.{Entry}
 use Rattle.i9_model.specs.declared.faults.FaultStop.{FaultStop}
 use Rattle.i9_model.specs.State.{State}
-use Rattle.i9_model.specs.Step.{Action, Message, passing, message_action, entering, action_of, first_word, next_word}
+use Rattle.i9_model.specs.declared.interrupts.Chosen.{Chosen}
+use Rattle.i9_model.specs.Step.{Action, Message, passing, pushing, message_action, entering, action_of, first_word, next_word}
+use Rattle.i9_model.specs.Interrupts.{record_writes}
+use Rattle.i9_model.specs.Before.{interrupt_in, interrupting}
 use Rattle.i9_model.specs.Access.{Access, message_access, hazard_in, fetch_hazard}
 use Rattle.i9_model.specs.Standing as plain
 use Rattle.i9_model.specs.Run.{entry_in}
@@ -114,3 +117,12 @@ PlansMessage m i s r = IsPlanFor s (message_access m i s) (message_action m i s)
 abbrev pub PlansEntry : State → Fault → Result Effect FaultStop → Type 0
 PlansEntry s fault (Ok e) = (x : Entry) × (entry_in s fault ≡ Ok x) × IsEffect s (entering x s) e
 PlansEntry s fault (Err stop) = entry_in s fault ≡ Err stop
+
+-- a handler is entered: its frame is made, and its record is written below it
+abbrev pub recording : Entry → State → Action
+recording x s = record (pushing s x.push s.ip x.target) { writes = record_writes s.memory x.push x.words; pc = x.pc }
+
+-- the entry of an interrupt that is chosen, or the hazard that it meets
+abbrev pub PlansInterrupt : State → Chosen → Result Effect ℕ → Type 0
+PlansInterrupt s c (Ok e) = (x : Entry) × (interrupt_in s c ≡ Ok x) × IsEffect s (interrupting c x s) e
+PlansInterrupt s c (Err a) = interrupt_in s c ≡ Err a

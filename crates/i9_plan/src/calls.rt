@@ -1,5 +1,5 @@
-//! What calls, returns and the entries of faults will do.
-ghost use Rattle.std.specs.Prelude.{◌≡◌, ◌≤◌, ◌%◌, None};
+//! What calls, returns, the entries of faults and interrupts, and events will do.
+ghost use Rattle.std.specs.Prelude.{◌≡◌, ◌≤◌, ◌%◌, None, []};
 ghost use Rattle.i9_model.specs.declared.layout.TheConstants.{FP, PFP, MOST_SYSTEM_CALL};
 ghost use Rattle.i9_model.specs.Hazards.{save_hazard};
 ghost use Rattle.i9_model.specs.Frames.{rounded_down};
@@ -8,7 +8,9 @@ ghost use Rattle.i9_model.specs.Step.{pushing, call_action, calls_action, ret_ac
 ghost use Rattle.i9_model.specs.Access.{SavesAt, CallsSystem, ReturnsBy};
 ghost use Rattle.i9_processor.specs.Effect.{IsEffect};
 ghost use Rattle.i9_processor.specs.State.{state_of};
-ghost use Rattle.i9_plan.specs.Planned.{IsPlanFor, PlansEntry};
+ghost use Rattle.i9_model.specs.Events.{IsInRange};
+ghost use Rattle.i9_model.specs.Before.{receiving};
+ghost use Rattle.i9_plan.specs.Planned.{IsPlanFor, PlansEntry, PlansInterrupt, recording};
 
 use crate::sources::{following, value};
 use crate::transfers::bytes_of_words;
@@ -17,13 +19,17 @@ use i9_entry::aligned;
 use i9_faults::{Entry, Fault, FaultStop};
 use i9_isa::Inst;
 use i9_model::layout::{RECORD_SIZE, RIP};
-use i9_processor::{Effect, Move, Processor};
+use i9_model::{Chosen, Event};
+use i9_processor::{Control, Effect, Move, Posting, Processor};
 
 /// The locals are saved with a return address, and control goes on in a new frame.
 fn pushing(p: &Processor, push: &Push, back: u32, next: u32) -> Effect
     requires free { save_hazard (state_of p.now).frames push.now.save ≡ None }
     requires place { push.now.save % 16 ≡ 0 }
-    ensures { IsEffect (state_of p.now) (pushing (state_of p.now) push.now back next) result }
+    ensures effect { IsEffect (state_of p.now) (pushing (state_of p.now) push.now back next) result }
+    ensures requests { result.requests.items ≡ [] }
+    ensures posting { result.posting ≡ Posting.Keeps }
+    ensures control { result.control ≡ Control.Keeps }
 {
     let mut effect = Effect::going(p, next);
     effect.frames = Move::Saves { push: *push, back };
@@ -67,21 +73,36 @@ pub(crate) fn plan_return(p: &Processor) -> Result<Effect, u32>
     effect.frames = Move::Returns(pop.frame);
     effect.pc = pop.pc;
     effect.ac = pop.ac;
+    effect.check = pop.check;
     Ok(effect)
 }
 
-/// The entry of a fault: its record is written below the new frame.
+/// A handler is entered: the record of its entry is written below the new frame.
 #[tactic(auto, using(crate::proofs::WordBytes::word_rules))]
-fn entering(p: &Processor, e: &Entry) -> Effect
+fn recording(p: &Processor, e: &Entry) -> Effect
     requires free { save_hazard (state_of p.now).frames e.now.push.save ≡ None }
     requires place { e.now.push.save % 16 ≡ 0 }
-    ensures { IsEffect (state_of p.now) (entering e.now (state_of p.now)) result }
+    ensures effect { IsEffect (state_of p.now) (recording e.now (state_of p.now)) result }
+    ensures requests { result.requests.items ≡ [] }
+    ensures posting { result.posting ≡ Posting.Keeps }
+    ensures control { result.control ≡ Control.Keeps }
 {
     let record = (e.push.frame - e.push.frame % 16).wrapping_sub(RECORD_SIZE);
     let mut effect = pushing(p, &e.push, p.ip(), e.target);
     effect.address = record;
     effect.bytes = bytes_of_words(p, record, &e.words, 4);
     effect.pc = e.pc;
+    effect
+}
+
+/// The entry of a fault, which leaves the check flag as it is.
+fn entering(p: &Processor, e: &Entry) -> Effect
+    requires free { save_hazard (state_of p.now).frames e.now.push.save ≡ None }
+    requires place { e.now.push.save % 16 ≡ 0 }
+    ensures { IsEffect (state_of p.now) (entering e.now (state_of p.now)) result }
+{
+    let mut effect = recording(p, e);
+    effect.check = p.check();
     effect
 }
 
@@ -94,4 +115,30 @@ pub fn plan_entry(p: &Processor, fault: &Fault) -> Result<Effect, FaultStop>
         Ok(entry) => Ok(entering(p, &entry)),
         Err(stop) => Err(stop),
     }
+}
+
+/// How an interrupt is entered that was chosen, or the hazard of the first access that meets one (the
+/// i960 CA/CF User's Manual, interrupts).
+pub fn plan_interrupt(p: &Processor, c: &Chosen) -> Result<Effect, u32>
+    ensures { PlansInterrupt (state_of p.now) c.now result }
+{
+    let entry = p.plan_interrupt(c)?;
+    let mut effect = recording(p, &entry);
+    effect.requests = p.clearing_bytes(c, &entry);
+    effect.posting = Posting::Clears(c.cause);
+    Ok(effect)
+}
+
+/// What an event does that was reached: it posts its interrupt, or nothing.
+pub fn plan_event(p: &Processor, event: &Event) -> Effect
+    requires { IsInRange event.now }
+    ensures { IsEffect (state_of p.now) (receiving event.now (state_of p.now)) result }
+{
+    let mut effect = Effect::going(p, p.ip());
+    effect.posting = match event {
+        Event::Pin(x) => Posting::Pin(*x),
+        Event::Nmi => Posting::Nmi,
+        Event::Dma(_) | Event::Feed(_, _) | Event::Show(_, _) => Posting::Keeps,
+    };
+    effect
 }

@@ -3,7 +3,10 @@ ghost use Rattle.std.specs.Prelude.{◌≡◌, ◌+◌, ◌≤◌, ◌∷◌, �
 ghost use Rattle.i9_isa.specs.Valid.{IsValid};
 ghost use Rattle.i9_model.specs.Step.{going, passing, assigning, answering, jumping, linking, faulting};
 ghost use Rattle.i9_model.specs.Run.{faulted_words};
-ghost use Rattle.i9_processor.specs.Effect.{IsEffect};
+ghost use Rattle.i9_isa.specs.declared.inst.Operand.TheVariants.{Sfr};
+ghost use Rattle.i9_model.specs.State.{Interrupts};
+ghost use Rattle.i9_model.specs.Operands.{interrupts_assigned};
+ghost use Rattle.i9_processor.specs.Effect.{IsEffect, CanPost, posting_in};
 ghost use Rattle.i9_processor.specs.State.{state_of};
 ghost use Rattle.i9_plan.specs.Built.{HasGroup};
 ghost use Rattle.i9_plan.specs.Planned.{Passes};
@@ -12,7 +15,7 @@ use crate::sources::following;
 use arrayvec::ArrayVec;
 use i9_entry::aligned;
 use i9_isa::{Inst, Operand};
-use i9_processor::{Effect, MOST_BYTES, MOST_VALUES, Processor};
+use i9_processor::{Effect, MOST_BYTES, MOST_VALUES, Posting, Processor};
 
 /// Nothing is done.
 pub(crate) fn passing(p: &Processor, i: &Inst) -> Effect
@@ -35,6 +38,19 @@ pub fn plan_faulting(p: &Processor, words: u32, effect: &mut Effect)
     effect.go(p, p.ip().wrapping_add(words.wrapping_mul(4)));
 }
 
+/// What is done to interrupts where a special function register gets a value: sf0 is the pending word,
+/// and sf1 the mask word.
+pub(crate) fn posting(k: u8, values: &[u32]) -> Posting
+    ensures same { (i : Interrupts) → posting_in result i ≡ interrupts_assigned (Sfr k) values.now i }
+    ensures posts { CanPost result }
+{
+    match (k, values) {
+        (0, [v, ..]) => Posting::Pending(*v),
+        (1, [v, ..]) => Posting::Mask(*v),
+        _ => Posting::Keeps,
+    }
+}
+
 /// Control goes to an address, and a destination gets values.
 pub(crate) fn assigning(
     p: &Processor,
@@ -47,7 +63,12 @@ pub(crate) fn assigning(
 {
     match o {
         Operand::Reg(r) => Effect::setting(p, next, r, values),
-        _ => Effect::going(p, next),
+        Operand::Lit(_) => Effect::going(p, next),
+        Operand::Sfr(k) => {
+            let mut effect = Effect::going(p, next);
+            effect.posting = posting(k, values.as_slice());
+            effect
+        }
     }
 }
 
@@ -63,9 +84,13 @@ pub(crate) fn assign(
     requires passes { Passes (state_of p.now) i.now effect.old }
     ensures { IsEffect (state_of p.now) (assigning o values.items (passing i.now (state_of p.now))) effect.new }
 {
-    if let Operand::Reg(r) = o {
-        effect.register = r;
-        effect.values = values;
+    match o {
+        Operand::Reg(r) => {
+            effect.register = r;
+            effect.values = values;
+        }
+        Operand::Lit(_) => {}
+        Operand::Sfr(k) => effect.posting = posting(k, values.as_slice()),
     }
 }
 

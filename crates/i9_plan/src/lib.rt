@@ -14,7 +14,7 @@ mod system;
 mod transfers;
 mod words;
 
-pub use calls::plan_entry;
+pub use calls::{plan_entry, plan_event, plan_interrupt};
 pub use effects::plan_faulting;
 pub use fetched::Words;
 pub use planned::{Planned, plan_next};

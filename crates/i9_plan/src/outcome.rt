@@ -8,7 +8,6 @@ ghost use Rattle.i9_model.specs.Branches.{branch_controls, is_taken};
 ghost use Rattle.i9_model.specs.Results.{has_result, destination_words};
 ghost use Rattle.i9_model.specs.Step.{Flushes, passing, destination, resulting, branching, action_by_name, action_of};
 ghost use Rattle.i9_model.specs.Standing.{is_fault_name, raised_in, by_raised};
-ghost use Rattle.i9_model.specs.Unbuilt.{is_built};
 ghost use Rattle.i9_processor.specs.Effect.{IsEffect};
 ghost use Rattle.i9_processor.specs.State.{state_of};
 ghost use Rattle.i9_plan.specs.Built.{is_branch};
@@ -16,8 +15,8 @@ ghost use Rattle.i9_plan.specs.Planned.{standing_in, HasEffect, IsPlanFor, Plans
 
 use crate::built::{is_branch, is_fault_name};
 use crate::calls::{plan_call, plan_calls, plan_return};
-use crate::effects::{answering, jumping, linking, passing};
-use crate::raised::{arithmetic_fault, raised_in};
+use crate::effects::{answering, jumping, linking, passing, posting};
+use crate::raised::{arithmetic_fault, mismatches, raised_in};
 use crate::sources::{address, answer, target, value};
 use crate::system::{plan_message, plan_modac, plan_modpc, plan_modtc};
 use crate::transfers::{Moving, plan_atadd, plan_atmod, plan_transfer, transfer_at};
@@ -25,7 +24,7 @@ use crate::words::bit;
 use i9_entry::aligned;
 use i9_exec::{Done, Jump, branch, has_result, results_by_name};
 use i9_isa::{Inst, Op, Operand};
-use i9_model::faults::{CONSTRAINT, RANGE};
+use i9_model::faults::{CONSTRAINT, MISMATCH, RANGE, TYPE};
 use i9_model::layout::{LINK, PRECISE_FAULTS_PLACE};
 use i9_processor::{Effect, Move, Processor};
 
@@ -59,9 +58,13 @@ fn resulting(p: &Processor, i: &Inst, done: Done, effect: &mut Effect)
     ensures { IsEffect (state_of p.now) (resulting i.now (state_of p.now) (Some (answer_of done))) effect.new }
 {
     effect.ac = done.ac;
-    if let Operand::Reg(r) = destination(i) {
-        effect.register = r;
-        effect.values = done.values;
+    match destination(i) {
+        Operand::Reg(r) => {
+            effect.register = r;
+            effect.values = done.values;
+        }
+        Operand::Lit(_) => {}
+        Operand::Sfr(k) => effect.posting = posting(k, done.values.as_slice()),
     }
 }
 
@@ -225,17 +228,19 @@ fn plain_outcome(p: &Processor, i: &Inst, effect: &mut Effect) -> Outcome
 }
 
 /// What an instruction comes to that is built, with its effect in the place of one that passes. An
-/// instruction with a result or a condition raises nothing before.
+/// instruction with a result or a condition raises nothing before, but for a special function register
+/// that it uses outside supervisor mode.
 // Others call it, so that the effect stays where it is and is not moved piece by piece.
 #[inline(never)]
 pub(crate) fn outcome_of(p: &Processor, i: &Inst, effect: &mut Effect) -> Outcome
     requires valid { IsValid i.now }
-    requires built { is_built i.now (state_of p.now) ≡ true }
     requires passes { Passes (state_of p.now) i.now effect.old }
     ensures standing { standing_in i.now result ≡ by_raised i.now (state_of p.now) (raised_in i.now (state_of p.now)) }
     ensures effect { HasEffect (state_of p.now) i.now result effect.new }
 {
-    if has_result(i.op) {
+    if mismatches(p, i) {
+        Outcome::Faults((TYPE, MISMATCH))
+    } else if has_result(i.op) {
         result_outcome(p, i, effect)
     } else if is_branch(i.op) {
         branch_outcome(p, i, effect)

@@ -7,7 +7,8 @@ ghost use Rattle.i9_plan.specs.Planned.{standing_of, IsFetched, IsPlanned};
 use crate::effects::pass;
 use crate::fetched::{Fetched, Unread, Words, fetch};
 use crate::outcome::{Outcome, outcome_of};
-use crate::raised::{is_built, word_fault};
+use crate::built::is_built;
+use crate::raised::word_fault;
 use crate::words::bit;
 use i9_isa::Inst;
 use i9_model::layout::TRACE_ENABLE_PLACE;
@@ -71,7 +72,7 @@ pub fn plan_next(p: &Processor, effect: &mut Effect) -> Planned
         Ok(fetched) => fetched,
         Err(why) => return unread(p, why),
     };
-    if bit(p.pc(), TRACE_ENABLE_PLACE) || !is_built(p, &inst) {
+    if bit(p.pc(), TRACE_ENABLE_PLACE) || !is_built(&inst) {
         return Planned::NotBuilt;
     }
     pass(p, &inst, effect);

@@ -1,16 +1,17 @@
-//! The fault that an instruction raises before it does anything, and what is not built of it.
-ghost use Rattle.std.specs.Prelude.{◌≡◌};
+//! The fault that an instruction raises before it does anything.
+ghost use Rattle.std.specs.Prelude.{◌≡◌, ◌&&◌, not};
 ghost use Rattle.i9_isa.specs.Valid.{IsValid};
 ghost use Rattle.i9_model.specs.Access.{access_of, data_of};
-ghost use Rattle.i9_model.specs.Unbuilt.{is_built, is_other_return, is_unbuilt_modpc, is_unbuilt_control};
+ghost use Rattle.i9_model.specs.Calls.{in_supervisor_mode};
+ghost use Rattle.i9_model.specs.Faults.{uses_special};
 ghost use Rattle.i9_model.specs.Standing.{word_fault, arithmetic_fault, raised_in};
 ghost use Rattle.i9_processor.specs.State.{state_of};
 ghost use Rattle.i9_plan.specs.Planned.{Moves};
 
-use crate::built::is_built_form;
-use crate::sources::{atomic_address, message, process_controls, value};
+use crate::built::uses_special;
+use crate::sources::{atomic_address, value};
 use crate::transfers::Moving;
-use crate::words::{bit, priority_of};
+use crate::words::bit;
 use i9_decode::BadWord;
 use i9_faults::raises;
 use i9_isa::{Inst, Op};
@@ -18,7 +19,7 @@ use i9_model::Arith;
 use i9_model::faults::{
     ARITHMETIC, INVALID_OPCODE, INVALID_OPERAND, OPERATION, OVERFLOW, ZERO_DIVIDE,
 };
-use i9_model::layout::{INTERRUPT_RETURN, PFP, SUPERVISOR_PLACE};
+use i9_model::layout::SUPERVISOR_PLACE;
 use i9_processor::Processor;
 
 /// The fault of a word that is refused.
@@ -66,39 +67,9 @@ pub(crate) fn raised_in(p: &Processor, i: &Inst, moving: Option<Moving>) -> Opti
     raises(i, value(p, i.a), value(p, i.b), access, p.pc(), config)
 }
 
-/// Whether modpc lowers the priority.
-fn is_unbuilt_modpc(p: &Processor, i: &Inst) -> bool
-    ensures { result ≡ is_unbuilt_modpc i.now (state_of p.now) }
+/// Whether an instruction uses special function registers outside supervisor mode.
+pub(crate) fn mismatches(p: &Processor, i: &Inst) -> bool
+    ensures { result ≡ (not (in_supervisor_mode (state_of p.now).pc) && uses_special i.now) }
 {
-    let after = process_controls(p, i);
-    bit(p.pc(), SUPERVISOR_PLACE) && priority_of(after) < priority_of(p.pc())
-}
-
-/// Whether an instruction is a use of modpc or of sysctl that is not built.
-fn is_unbuilt_control(p: &Processor, i: &Inst) -> bool
-    ensures { result ≡ is_unbuilt_control i.now.op i.now (state_of p.now) }
-{
-    match i.op {
-        Op::Modpc => is_unbuilt_modpc(p, i),
-        Op::Sysctl => message(p, i) == 0,
-        _ => false,
-    }
-}
-
-/// Whether an instruction is the return of an interrupt.
-fn is_other_return(p: &Processor, op: Op) -> bool
-    ensures { result ≡ is_other_return op (state_of p.now) }
-{
-    match op {
-        Op::Ret => p.register(PFP) % 8 == u32::from(INTERRUPT_RETURN),
-        _ => false,
-    }
-}
-
-/// Whether an instruction is built here, but for the fault of its result.
-#[tactic(auto, unfolding(i9_model::specs::Unbuilt::is_built))]
-pub(crate) fn is_built(p: &Processor, i: &Inst) -> bool
-    ensures { result ≡ is_built i.now (state_of p.now) }
-{
-    is_built_form(i) && !is_other_return(p, i.op) && !is_unbuilt_control(p, i)
+    !bit(p.pc(), SUPERVISOR_PLACE) && uses_special(i)
 }

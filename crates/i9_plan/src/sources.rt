@@ -20,7 +20,7 @@ pub(crate) fn value(p: &Processor, o: Operand) -> u32
     match o {
         Operand::Reg(r) => p.register(r),
         Operand::Lit(n) => u32::from(n),
-        Operand::Sfr(_) => 0,
+        Operand::Sfr(k) => p.special(k),
     }
 }
 

@@ -7,7 +7,7 @@ ghost use Rattle.i9_model.specs.Frames.{flushed};
 ghost use Rattle.i9_model.specs.Tables.{tables_hazard, group_hazard};
 ghost use Rattle.i9_model.specs.Operands.{value};
 ghost use Rattle.i9_model.specs.Faults.{is_invalid};
-ghost use Rattle.i9_model.specs.Step.{Flushes, AsksRestart, AsksGroup, passing, moved, message_of, argument_of, message_kind};
+ghost use Rattle.i9_model.specs.Step.{Flushes, AsksInterrupt, AsksRestart, AsksGroup, passing, moved, message_of, argument_of, message_kind};
 ghost use Rattle.i9_model.specs.Step.{modac_action, modtc_action, modpc_action};
 ghost use Rattle.i9_processor.specs.Effect.{CanControl, IsEffect, control_in};
 ghost use Rattle.i9_processor.specs.State.{state_of};
@@ -15,7 +15,8 @@ ghost use Rattle.i9_plan.specs.Planned.{PlansMessage};
 
 use crate::effects::{answering, passing};
 use crate::sources::{argument, message, process_controls, value};
-use crate::words::modified;
+use crate::words::{modified, priority_of};
+use arrayvec::ArrayVec;
 use i9_isa::Inst;
 use i9_model::layout::{AC_MASK, CONTROL_GROUP_SIZE, CONTROL_TABLE_SIZE, PRCB_SIZE, TC_MASK};
 use i9_processor::{Control, Effect, Move, Processor};
@@ -40,13 +41,15 @@ pub(crate) fn plan_modtc(p: &Processor, i: &Inst) -> Effect
     effect
 }
 
-/// The old process controls are answered, and changed under a mask.
+/// The old process controls are answered, and changed under a mask. Where that lowers the priority, the
+/// next choice of an interrupt looks at what software asks for.
 pub(crate) fn plan_modpc(p: &Processor, i: &Inst) -> Effect
     requires { IsValid i.now }
     ensures { IsEffect (state_of p.now) (modpc_action i.now (state_of p.now)) result }
 {
     let mut effect = answering(p, i, p.pc());
     effect.pc = process_controls(p, i);
+    effect.check = priority_of(effect.pc) < priority_of(p.pc());
     effect
 }
 
@@ -109,6 +112,17 @@ fn plan_group(p: &Processor, i: &Inst) -> Result<Effect, u32>
     Ok(controlling(p, i, Control::LoadsGroup(group)))
 }
 
+/// Software asks for an interrupt, which the next choice looks at.
+fn plan_request(p: &Processor, i: &Inst) -> Result<Effect, u32>
+    ensures { PlansMessage AsksInterrupt i.now (state_of p.now) result }
+{
+    let bytes = p.plan_request(argument(p, i))?;
+    let mut effect = passing(p, i);
+    effect.requests = ArrayVec::from(bytes);
+    effect.check = true;
+    Ok(effect)
+}
+
 /// What a message of sysctl will do, or the hazard of its tables.
 pub(crate) fn plan_message(p: &Processor, i: &Inst) -> Result<Effect, u32>
     requires valid { IsValid i.now }
@@ -116,6 +130,7 @@ pub(crate) fn plan_message(p: &Processor, i: &Inst) -> Result<Effect, u32>
     ensures { PlansMessage (message_kind (message_of i.now (state_of p.now))) i.now (state_of p.now) result }
 {
     match message(p, i) {
+        0 => plan_request(p, i),
         3 => plan_restart(p, i),
         4 => plan_group(p, i),
         _ => Ok(passing(p, i)),

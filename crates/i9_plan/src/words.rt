@@ -3,7 +3,9 @@ ghost use Rattle.std.specs.Prelude.{◌≡◌, ◌+◌, ◌*◌, ◌<◌};
 ghost use Rattle.i9_isa.specs.Words.{bit};
 ghost use Rattle.i9_model.specs.Writes.{wrapped};
 ghost use Rattle.i9_model.specs.Step.{merged, modified};
-ghost use Rattle.i9_model.specs.Unbuilt.{priority_of};
+ghost use Rattle.i9_model.specs.Calls.{priority_of};
+
+use i9_model::interrupts::PRIORITY_PLACE;
 
 /// A bit of a word.
 pub(crate) fn bit(w: u32, place: u32) -> bool
@@ -17,7 +19,7 @@ pub(crate) fn bit(w: u32, place: u32) -> bool
 pub(crate) fn priority_of(pc: u32) -> u32
     ensures { result ≡ priority_of pc }
 {
-    (pc >> 16) % 32
+    (pc >> PRIORITY_PLACE) % 32
 }
 
 /// An old word with other bits where a mask has them.

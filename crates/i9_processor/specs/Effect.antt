@@ -1,11 +1,13 @@
 -- An effect as the action of the definitions, and where it can be applied.
-use Rattle.std.specs.Prelude.{◌≡◌, ℕ, ◌+◌, ◌<◌, ◌≤◌, ◌%◌, Bool, true, false, ◌||◌, nat_lt, List, [], length, Option, None, Some, unwrap_or}
+use Rattle.std.specs.Prelude.{◌≡◌, ℕ, ◌+◌, ◌<◌, ◌≤◌, ◌%◌, Bool, true, false, ◌||◌, nat_lt, List, [], ◌++◌, length, Option, None, Some, unwrap_or}
 use Rattle.std.specs.List.{AllByRecursion}
 use Rattle.i9_model.specs.declared.layout.TheConstants.{LOCALS}
 use Rattle.i9_model.specs.Writes.{pairs_at, upwards}
 use Rattle.i9_model.specs.Memory.{Memory, words_in}
 use Rattle.i9_model.specs.Boot.{setup_of}
-use Rattle.i9_model.specs.State.{State, Frames, frame_sets}
+use Rattle.i9_model.specs.State.{State, Frames, Interrupts, frame_sets}
+use Rattle.i9_model.specs.Operands.{with_pending, with_mask}
+use Rattle.i9_model.specs.Interrupts.{posted, posted_nmi, cleared}
 use Rattle.i9_model.specs.Hazards.{save_hazard}
 use Rattle.i9_model.specs.Tables.{tables_hazard, group_hazard}
 use Rattle.i9_model.specs.HeldFrames.{Cache, renewed, cache_acted, cache_configured}
@@ -16,6 +18,8 @@ use Rattle.i9_storage.specs.declared.storage.Storage.{Storage}
 use Rattle.i9_storage.specs.Storage.{HasSpace, HasFrameSpace}
 use Rattle.i9_processor.specs.declared.effect.Move.{Move}
 use Rattle.i9_processor.specs.declared.effect.Move.TheVariants as moves
+use Rattle.i9_processor.specs.declared.effect.Posting.{Posting}
+use Rattle.i9_processor.specs.declared.effect.Posting.TheVariants as postings
 use Rattle.i9_processor.specs.declared.effect.Control.{Control}
 use Rattle.i9_processor.specs.declared.effect.Control.TheVariants as controls
 use Rattle.i9_processor.specs.declared.effect.Effect.{Effect}
@@ -48,11 +52,23 @@ group_in e = pairs_at (λ r. r) e.register e.values.items
 abbrev pub sets_in : State → Effect → List (ℕ × ℕ)
 sets_in s e = sets_by s e.frames (group_in e)
 
--- the bytes that an effect stores
-abbrev pub writes_in : Effect → List (ℕ × ℕ)
-writes_in e = upwards e.address e.bytes.items
+-- what is done to interrupts
+abbrev pub posting_in : Posting → Interrupts → Interrupts
+posting_in postings.Keeps i = i
+posting_in (postings.Pin x) i = posted i x
+posting_in postings.Nmi i = posted_nmi i
+posting_in (postings.Clears c) i = cleared c i
+posting_in (postings.Pending v) i = with_pending i v
+posting_in (postings.Mask v) i = with_mask i v
 
--- the action of an effect in a state; interrupts, DMA and the check flag stay as they are
+-- the bytes in a row that an effect stores, and those with bits of requests behind them
+abbrev pub run_in : Effect → List (ℕ × ℕ)
+run_in e = upwards e.address e.bytes.items
+
+abbrev pub writes_in : Effect → List (ℕ × ℕ)
+writes_in e = run_in e ++ e.requests.items
+
+-- the action of an effect in a state; DMA stays as it is
 abbrev pub action_in : State → Effect → plain.Action
 action_in s e = record {
   sets = sets_in s e;
@@ -61,8 +77,8 @@ action_in s e = record {
   ac = e.ac;
   pc = e.pc;
   tc = e.tc;
-  check = s.check;
-  interrupts = s.interrupts;
+  check = e.check;
+  interrupts = posting_in e.posting s.interrupts;
   dma = s.dma;
   control = control_in e.control;
   next = e.next;
@@ -71,6 +87,11 @@ action_in s e = record {
 -- its group is one of the 32 registers
 abbrev pub AreRegisters : Effect → Type 0
 AreRegisters e = e.register + length e.values.items ≤ 32
+
+-- a pin is one of eight
+abbrev pub CanPost : Posting → Type 0
+CanPost (postings.Pin x) = x < 8
+CanPost _ = Unit {0}
 
 -- a frame that is saved meets no hazard
 abbrev pub CanMove : Frames → Move → Type 0
@@ -89,6 +110,7 @@ CanControl s (controls.LoadsGroup group) = (group < 7) × (group_hazard s.frames
 pub record IsEffect (s : State) (action : plain.Action) (e : Effect) : Type 0 where
   pub same : action_in s e ≡ action
   pub registers : AreRegisters e
+  pub posts : CanPost e.posting
   pub moves : CanMove s.frames e.frames
   pub controls : CanControl (plain.moved s action) e.control
 
@@ -101,9 +123,14 @@ HasMoveSpace s (moves.Saves push back) = HasFrameSpace s push.save
 HasMoveSpace s (moves.Returns frame) = Unit {0}
 HasMoveSpace s moves.Flushes = Unit {0}
 
+-- there is room for each of these bytes
+abbrev pub AreSpacious : Storage → List (ℕ × ℕ) → Type 0
+AreSpacious s ps = AllByRecursion (λ w. HasSpace s w.0 1) ps
+
 -- there is room for what an effect stores and saves
 pub record HasSpaceFor (p : Processor) (e : Effect) : Type 0 where
   pub bytes : HasSpace p.storage e.address (length e.bytes.items)
+  pub requests : AreSpacious p.storage e.requests.items
   pub frames : HasMoveSpace p.storage e.frames
 
 -- a frame can be saved where a move saves one
@@ -115,7 +142,7 @@ HasRoomToMove s plain.Flushes = Unit {0}
 
 -- there is room for each byte that an action writes, and for the frame that it saves
 pub record HasRoomFor (p : Processor) (a : plain.Action) : Type 0 where
-  pub bytes : AllByRecursion (λ w. HasSpace p.storage w.0 1) a.writes
+  pub bytes : AreSpacious p.storage a.writes
   pub frames : HasRoomToMove p.storage a.move
 
 -- a frame is saved

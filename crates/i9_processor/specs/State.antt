@@ -1,5 +1,6 @@
 -- The state that a processor stands for. What it does not keep yet is as after boot.
-use Rattle.std.specs.Prelude.{ℕ, List, false, slice_index}
+use Rattle.std.specs.Prelude.{ℕ, List, slice_index}
+use Rattle.i9_ints.specs.Ints.{interrupts_of}
 use Rattle.i9_storage.specs.Storage as storage
 use Rattle.i9_model.specs.State.{State, no_dma}
 use Rattle.i9_model.specs.HeldFrames.{Cache}
@@ -16,10 +17,10 @@ state_of p = record {
   ac = p.ac;
   pc = p.pc;
   count = p.count;
-  check = false;
+  check = p.check;
   memory = storage.memory_in p.storage;
   frames = storage.frames_in p.storage;
-  interrupts = record { pending = 0; mask = 0; maps = p.maps; nmi = false };
+  interrupts = interrupts_of p.ints;
   dma = no_dma;
   trace = record { tc = p.tc; breaks = p.breaks };
   tables = p.tables;

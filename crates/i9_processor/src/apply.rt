@@ -11,14 +11,14 @@ ghost use Rattle.i9_model.specs.Free.{IsFree};
 ghost use Rattle.i9_model.specs.Alike.{AreAlike};
 ghost use Rattle.i9_model.specs.HeldFrames.{overlaid, cache_moved, cache_acted, cache_configured, cache_stored};
 ghost use Rattle.i9_storage.specs.Storage as stores;
-ghost use Rattle.i9_storage.specs.Storage.{HasSpace, KeepsSpace};
-ghost use Rattle.i9_processor.specs.Effect.{action_in, writes_in, move_in, sets_in, control_in, cache_through, size_with, is_costly, has_writes};
-ghost use Rattle.i9_processor.specs.Effect.{AreRegisters, CanControl, CanMove, HasMoveSpace, HasSpaceFor, IsEmptied, CanTake};
+ghost use Rattle.i9_storage.specs.Storage.{HasSpace, KeepsSpace, KeepsFrameSpace};
+ghost use Rattle.i9_processor.specs.Effect.{action_in, run_in, writes_in, posting_in, move_in, sets_in, control_in, cache_through, size_with, is_costly, has_writes};
+ghost use Rattle.i9_processor.specs.Effect.{AreRegisters, AreSpacious, CanPost, CanControl, CanMove, HasMoveSpace, HasSpaceFor, IsEmptied, CanTake};
 
-use crate::effect::{Control, Effect, Move};
+use crate::effect::{Control, Effect, Move, Posting};
 use crate::processor::Processor;
 use crate::registers::{set_frame, set_group};
-use crate::start::{start_breaks, start_maps, start_registers, start_trace_controls, tables_of};
+use crate::start::{start_breaks, start_interrupts, start_registers, start_trace_controls, tables_of};
 use i9_entry::aligned;
 use i9_frames::{Frame, Sets};
 use i9_isa::NoMemory;
@@ -44,18 +44,68 @@ fn reserve_move(storage: &mut Storage, m: &Move) -> Result<(), NoMemory>
     }
 }
 
-/// Stores the bytes of an effect. Most effects have none, and then nothing is looked up.
+/// Makes room for bytes with bits of requests.
+#[tactic(auto, using(crate::proofs::Requests::request_rules))]
+fn reserve_requests(storage: &mut Storage, requests: &[(u32, u8)]) -> Result<(), NoMemory>
+    ensures cache { stores.cache_of storage.new ≡ stores.cache_of storage.old }
+    ensures frames { stores.frames_in storage.new ≡ stores.frames_in storage.old }
+    ensures size { stores.size_of storage.new ≡ stores.size_of storage.old }
+    ensures keeps { KeepsSpace storage.old storage.new }
+    ensures frame_space { KeepsFrameSpace storage.old storage.new }
+    ensures space { OnOk result (AreSpacious storage.new requests.now) }
+    ensures needed { OnErr result (0 < length requests.now) }
+    ensures lacking { OnErr result (AreSpacious storage.old requests.now → ⊥) }
+{
+    if let [(address, _), rest @ ..] = requests {
+        storage.reserve(*address, 1)?;
+        reserve_requests(storage, rest)?;
+    }
+    Ok(())
+}
+
+/// Stores the bytes in a row of an effect. Most effects have none, and then nothing is looked up.
+fn store_run(storage: &mut Storage, e: &Effect)
+    requires space { HasSpace storage.old e.now.address (length e.now.bytes.items) }
+    requires free { writes_hazard (stores.frames_in storage.old) (run_in e.now) ≡ None }
+    ensures cache { stores.cache_of storage.new ≡ cache_stored (run_in e.now) (stores.cache_of storage.old) }
+    ensures memory { stores.memory_in storage.new ≡ with_writes (stores.memory_in storage.old) (run_in e.now) }
+    ensures frames { stores.frames_in storage.new ≡ wrote (stores.frames_in storage.old) (run_in e.now) }
+    ensures size { stores.size_of storage.new ≡ stores.size_of storage.old }
+    ensures keeps { KeepsSpace storage.old storage.new }
+{
+    if !e.bytes.is_empty() {
+        storage.store(e.address, e.bytes.as_slice());
+    }
+}
+
+/// Stores bytes with bits of requests.
+#[tactic(auto, using(crate::proofs::Requests::request_rules))]
+fn store_requests(storage: &mut Storage, requests: &[(u32, u8)])
+    requires space { AreSpacious storage.old requests.now }
+    requires free { writes_hazard (stores.frames_in storage.old) requests.now ≡ None }
+    ensures cache { stores.cache_of storage.new ≡ cache_stored requests.now (stores.cache_of storage.old) }
+    ensures memory { stores.memory_in storage.new ≡ with_writes (stores.memory_in storage.old) requests.now }
+    ensures frames { stores.frames_in storage.new ≡ wrote (stores.frames_in storage.old) requests.now }
+    ensures size { stores.size_of storage.new ≡ stores.size_of storage.old }
+{
+    if let [(address, byte), rest @ ..] = requests {
+        storage.store(*address, &[*byte]);
+        store_requests(storage, rest);
+    }
+}
+
+/// Stores the bytes of an effect.
 fn store_bytes(storage: &mut Storage, e: &Effect)
     requires space { HasSpace storage.old e.now.address (length e.now.bytes.items) }
+    requires requests { AreSpacious storage.old e.now.requests.items }
     requires free { writes_hazard (stores.frames_in storage.old) (writes_in e.now) ≡ None }
     ensures cache { stores.cache_of storage.new ≡ cache_stored (writes_in e.now) (stores.cache_of storage.old) }
     ensures memory { stores.memory_in storage.new ≡ with_writes (stores.memory_in storage.old) (writes_in e.now) }
     ensures frames { stores.frames_in storage.new ≡ wrote (stores.frames_in storage.old) (writes_in e.now) }
     ensures size { stores.size_of storage.new ≡ stores.size_of storage.old }
 {
-    if !e.bytes.is_empty() {
-        storage.store(e.address, e.bytes.as_slice());
-    }
+    store_run(storage, e);
+    store_requests(storage, e.requests.as_slice());
 }
 
 /// The locals of a new frame: pfp, sp, and zeros.
@@ -78,10 +128,10 @@ impl Processor {
         ensures needed { OnErr result (has_writes (action_in (state_of self.old) e.now) ≡ true) }
         ensures lacking { OnErr result (HasSpaceFor self.old e.now → ⊥) }
     {
-        if e.bytes.is_empty() {
-            return reserve_move(&mut self.storage, &e.frames);
+        if !e.bytes.is_empty() {
+            self.storage.reserve(e.address, e.bytes.len() as u32)?;
         }
-        self.storage.reserve(e.address, e.bytes.len() as u32)?;
+        reserve_requests(&mut self.storage, e.requests.as_slice())?;
         reserve_move(&mut self.storage, &e.frames)
     }
 
@@ -99,7 +149,8 @@ impl Processor {
         self.ac = setup.ac;
         self.pc = BOOT_PC;
         self.tc = start_trace_controls(setup);
-        self.maps = start_maps(setup);
+        self.check = false;
+        self.ints = start_interrupts(setup);
         self.breaks = start_breaks(setup);
         self.tables = tables_of(setup);
     }
@@ -119,7 +170,11 @@ impl Processor {
                 self.breaks.ipb = [words[0], words[1]];
                 self.breaks.dab = [words[2], words[3]];
             }
-            1 => self.maps = [words[0], words[1], words[2]],
+            1 => {
+                self.ints.set_map(0, words[0]);
+                self.ints.set_map(1, words[1]);
+                self.ints.set_map(2, words[2]);
+            }
             6 => {
                 self.tc = words[2] & TC_MASK;
                 self.breaks.bpcon = words[1];
@@ -213,10 +268,30 @@ impl Processor {
         }
     }
 
+    /// Does what is done to interrupts.
+    #[tactic(auto, unfolding(crate::specs::State::state_of, crate::specs::State::cache_of, crate::specs::State::size_of))]
+    fn post(&mut self, p: Posting)
+        requires { CanPost p }
+        ensures state { state_of self.new ≡ record (state_of self.old) { interrupts = posting_in p (state_of self.old).interrupts } }
+        ensures cache { cache_of self.new ≡ cache_of self.old }
+        ensures size { size_of self.new ≡ size_of self.old }
+        ensures storage { self.new.storage ≡ self.old.storage }
+    {
+        match p {
+            Posting::Keeps => {}
+            Posting::Pin(x) => self.ints.post_pin(x),
+            Posting::Nmi => self.ints.post_nmi(),
+            Posting::Clears(cause) => self.ints.clear(cause),
+            Posting::Pending(v) => self.ints.set_pending(v),
+            Posting::Mask(v) => self.ints.set_mask(v),
+        }
+    }
+
     /// Does what an effect says, but for what is done to the controls that start-up reads.
     #[tactic(auto, unfolding(crate::specs::State::state_of, crate::specs::State::cache_of, crate::specs::State::size_of, i9_model::specs::Step::moved))]
     fn do_moves(&mut self, e: &Effect)
         requires registers { AreRegisters e.now }
+        requires posts { CanPost e.now.posting }
         requires can { CanMove (state_of self.old).frames e.now.frames }
         requires space { HasSpaceFor self.old e.now }
         requires free { IsFree (state_of self.old) (action_in (state_of self.old) e.now) }
@@ -230,9 +305,11 @@ impl Processor {
     {
         self.move_frames(e);
         store_bytes(&mut self.storage, e);
+        self.post(e.posting);
         self.ac = e.ac;
         self.pc = e.pc;
         self.tc = e.tc;
+        self.check = e.check;
         self.ip = e.next;
     }
 
@@ -266,6 +343,7 @@ impl Processor {
     /// instructions. It needs no memory.
     pub fn apply(&mut self, e: &Effect, counts: u64, sets: Option<Sets>)
         requires registers { AreRegisters e.now }
+        requires posts { CanPost e.now.posting }
         requires can { CanMove (state_of self.old).frames e.now.frames }
         requires space { HasSpaceFor self.old e.now }
         requires free { IsFree (state_of self.old) (action_in (state_of self.old) e.now) }

@@ -6,7 +6,7 @@ ghost use Rattle.i9_model.specs.Memory.{console_byte, exit_word};
 
 use crate::processor::Processor;
 use arrayvec::ArrayVec;
-use i9_model::Push;
+use i9_model::{Cause, Push};
 use i9_model::layout::{CONSOLE, EXIT_WORD};
 
 /// The most registers that an effect sets beside those of a frame: a group of four.
@@ -14,6 +14,10 @@ pub const MOST_VALUES: usize = 4;
 
 /// The most bytes that an effect stores: four words.
 pub const MOST_BYTES: usize = 16;
+
+/// The most bytes with bits of requests that an effect stores: that of a priority, and that of its
+/// vectors.
+pub const MOST_REQUESTS: usize = 2;
 
 /// What is done to frames.
 #[derive(Clone, Copy, Debug)]
@@ -40,19 +44,40 @@ pub enum Control {
     LoadsGroup(u8),
 }
 
+/// What is done to the interrupts that are posted, and to the lines that are not masked.
+#[derive(Clone, Copy, Debug)]
+pub enum Posting {
+    /// Nothing.
+    Keeps,
+    /// The pin of this number, 0 to 7, is posted.
+    Pin(u8),
+    /// The interrupt that is never masked is posted.
+    Nmi,
+    /// What chose an interrupt is not posted any more.
+    Clears(Cause),
+    /// The pending word is set.
+    Pending(u32),
+    /// The mask word is set.
+    Mask(u32),
+}
+
 /// The values that go to registers from one up, where nothing is done to frames; the bytes that are
-/// stored from an address on; what is done to frames; the arithmetic, process and trace controls
-/// afterwards; what is done to the other controls; and the next instruction address.
+/// stored from an address on, and then those with bits of requests, each at an address of its own;
+/// what is done to frames; the arithmetic, process and trace controls and the check flag afterwards;
+/// what is done to the other controls and to interrupts; and the next instruction address.
 #[derive(Debug, Drop)]
 pub struct Effect {
     pub register: u8,
     pub values: ArrayVec<u32, MOST_VALUES>,
     pub address: u32,
     pub bytes: ArrayVec<u8, MOST_BYTES>,
+    pub requests: ArrayVec<(u32, u8), MOST_REQUESTS>,
     pub frames: Move,
     pub ac: u32,
     pub pc: u32,
     pub tc: u32,
+    pub check: bool,
+    pub posting: Posting,
     pub control: Control,
     pub next: u32,
 }
@@ -63,6 +88,18 @@ fn byte_of_run(address: u32, bytes: &[u8], place: u32) -> Option<u8>
     ensures { result ≡ last_put (upwards address bytes.now) place }
 {
     bytes.get(place.wrapping_sub(address) as usize).copied()
+}
+
+/// The byte at a place, of bytes with bits of requests: the last one that stands there.
+fn byte_of_requests(requests: &[(u32, u8)], place: u32) -> Option<u8>
+    requires { length requests.now ≤ MOST_REQUESTS }
+    ensures { result ≡ last_put requests.now place }
+{
+    match requests {
+        [_, (at, byte)] if *at == place => Some(*byte),
+        [(at, byte), ..] if *at == place => Some(*byte),
+        _ => None,
+    }
 }
 
 impl Effect {
@@ -81,7 +118,9 @@ impl Effect {
             (record (going (state_of processor.now) next) { sets = pairs_at (λ r. r) register values.items }) result }
         ensures values { result.values.items ≡ values.items }
         ensures bytes { result.bytes.items ≡ [] }
+        ensures requests { result.requests.items ≡ [] }
         ensures frames { result.frames ≡ Move.Stays }
+        ensures posting { result.posting ≡ Posting.Keeps }
         ensures control { result.control ≡ Control.Keeps }
     {
         Effect {
@@ -89,10 +128,13 @@ impl Effect {
             values,
             address: 0,
             bytes: ArrayVec::new(),
+            requests: ArrayVec::new(),
             frames: Move::Stays,
             ac: processor.ac(),
             pc: processor.pc(),
             tc: processor.tc(),
+            check: false,
+            posting: Posting::Keeps,
             control: Control::Keeps,
             next,
         }
@@ -103,7 +145,9 @@ impl Effect {
         ensures effect { IsEffect (state_of processor.now) (going (state_of processor.now) next) result }
         ensures values { result.values.items ≡ [] }
         ensures bytes { result.bytes.items ≡ [] }
+        ensures requests { result.requests.items ≡ [] }
         ensures frames { result.frames ≡ Move.Stays }
+        ensures posting { result.posting ≡ Posting.Keeps }
         ensures control { result.control ≡ Control.Keeps }
     {
         Effect::setting(processor, next, 0, ArrayVec::new())
@@ -113,7 +157,9 @@ impl Effect {
     pub fn blank() -> Effect
         ensures values { result.values.items ≡ [] }
         ensures bytes { result.bytes.items ≡ [] }
+        ensures requests { result.requests.items ≡ [] }
         ensures frames { result.frames ≡ Move.Stays }
+        ensures posting { result.posting ≡ Posting.Keeps }
         ensures control { result.control ≡ Control.Keeps }
     {
         Effect {
@@ -121,10 +167,13 @@ impl Effect {
             values: ArrayVec::new(),
             address: 0,
             bytes: ArrayVec::new(),
+            requests: ArrayVec::new(),
             frames: Move::Stays,
             ac: 0,
             pc: 0,
             tc: 0,
+            check: false,
+            posting: Posting::Keeps,
             control: Control::Keeps,
             next: 0,
         }
@@ -135,17 +184,22 @@ impl Effect {
         ensures effect { IsEffect (state_of processor.now) (going (state_of processor.now) next) self.new }
         ensures values { self.new.values.items ≡ [] }
         ensures bytes { self.new.bytes.items ≡ [] }
+        ensures requests { self.new.requests.items ≡ [] }
         ensures frames { self.new.frames ≡ Move.Stays }
+        ensures posting { self.new.posting ≡ Posting.Keeps }
         ensures control { self.new.control ≡ Control.Keeps }
     {
         self.register = 0;
         self.values.clear();
         self.address = 0;
         self.bytes.clear();
+        self.requests.clear();
         self.frames = Move::Stays;
         self.ac = processor.ac();
         self.pc = processor.pc();
         self.tc = processor.tc();
+        self.check = false;
+        self.posting = Posting::Keeps;
         self.control = Control::Keeps;
         self.next = next;
     }
@@ -154,7 +208,8 @@ impl Effect {
     fn byte_at(&self, place: u32) -> Option<u8>
         ensures { result ≡ last_put (writes_in self.now) place }
     {
-        byte_of_run(self.address, self.bytes.as_slice(), place)
+        byte_of_requests(self.requests.as_slice(), place)
+            .or_else(|| byte_of_run(self.address, self.bytes.as_slice(), place))
     }
 
     /// The word that ends the run, in the order of its region: stores to all four of its bytes.

@@ -9,10 +9,11 @@ mod plans;
 mod reading;
 
 use crate::load::load;
-use crate::start::{start_breaks, start_maps, start_registers, start_trace_controls, tables_of};
+use crate::start::{start_breaks, start_interrupts, start_registers, start_trace_controls, tables_of};
 use i9_boot::{REGISTER_CACHE, boot, sets_asked};
 use i9_entry::aligned;
 use i9_hex::Segments;
+use i9_ints::Ints;
 use i9_isa::NoMemory;
 use i9_memory::Memory;
 use i9_model::layout::BOOT_PC;
@@ -20,7 +21,8 @@ use i9_model::{Breaks, Setup, Tables};
 use i9_storage::Storage;
 use std::alloc::Global;
 
-/// All that an instruction may read or change: the registers and the controls, the tables that the
+/// All that an instruction may read or change: the registers and the controls, whether the next choice
+/// of an interrupt looks at what software asks for, the interrupts that are posted, the tables that the
 /// processor goes by, the count of instructions, and the storage with its frames.
 #[derive(Drop)]
 pub struct Processor {
@@ -29,7 +31,8 @@ pub struct Processor {
     pub(crate) ac: u32,
     pub(crate) pc: u32,
     pub(crate) tc: u32,
-    pub(crate) maps: [u32; 3],
+    pub(crate) check: bool,
+    pub(crate) ints: Ints,
     pub(crate) breaks: Breaks,
     pub(crate) tables: Tables,
     pub(crate) count: u64,
@@ -73,7 +76,8 @@ impl Processor {
             ac: setup.ac,
             pc: BOOT_PC,
             tc: start_trace_controls(&setup),
-            maps: start_maps(&setup),
+            check: false,
+            ints: start_interrupts(&setup),
             breaks: start_breaks(&setup),
             tables: tables_of(&setup),
             count: 0,

@@ -3,9 +3,11 @@ ghost use Rattle.std.specs.Prelude.{◌≡◌, ℕ, ◌+◌, ◌<◌, bit_and, s
 ghost use Rattle.i9_model.specs.Boot.{tables_of};
 ghost use Rattle.i9_model.specs.State.{first_frame, start_sets, start_interrupts, start_trace};
 ghost use Rattle.i9_model.specs.Writes.{wrapped, written};
+ghost use Rattle.i9_ints.specs.Ints.{interrupts_of};
 ghost use Rattle.i9_processor.specs.State.{registers_of};
 
 use crate::registers::set_frame;
+use i9_ints::Ints;
 use i9_model::layout::{FRAME_SIZE, TC_MASK};
 use i9_model::{Breaks, Setup, Tables};
 
@@ -28,11 +30,15 @@ pub(crate) fn start_registers(regs: &[u32; 32], setup: &Setup) -> [u32; 32]
     started
 }
 
-/// The interrupt maps.
-pub(crate) fn start_maps(setup: &Setup) -> [u32; 3]
-    ensures { result ≡ (start_interrupts setup.now).maps }
+/// Nothing is posted, and every line is masked; words of the control table are the interrupt maps.
+pub(crate) fn start_interrupts(setup: &Setup) -> Ints
+    ensures { interrupts_of result ≡ start_interrupts setup.now }
 {
-    [setup.control[4], setup.control[5], setup.control[6]]
+    let mut ints = Ints::new();
+    ints.set_map(0, setup.control[4]);
+    ints.set_map(1, setup.control[5]);
+    ints.set_map(2, setup.control[6]);
+    ints
 }
 
 /// The breakpoints.

@@ -1,5 +1,5 @@
 //! A step done, or an end answered, once there is room for what it needs.
-ghost use Rattle.std.specs.Prelude.{◌≡◌, ◌+◌, ◌-◌, ◌<◌, ◌≤◌, ◌^◌, ◌++◌, None, IfOk, OnOk, OnErr, vec_len, vec_capacity, length, nat_lt, true};
+ghost use Rattle.std.specs.Prelude.{◌≡◌, ◌+◌, ◌-◌, ◌<◌, ◌≤◌, ◌^◌, ◌++◌, None, IfSome, IsSome, IfOk, OnOk, OnErr, vec_len, vec_capacity, length, nat_lt, true};
 ghost use Rattle.std.specs.Option.{option_map};
 ghost use Rattle.i9_model.specs.State.{State};
 ghost use Rattle.i9_model.specs.Memory.{console_byte};
@@ -7,19 +7,22 @@ ghost use Rattle.i9_model.specs.Free.{IsFree};
 ghost use Rattle.i9_model.specs.Alike.{AreAlike};
 ghost use Rattle.i9_model.specs.Step.{moved, acted, counted};
 ghost use Rattle.i9_model.specs.Run.{Ends};
-ghost use Rattle.i9_model.specs.PrintedText.{view_of, out_lines, point_lines, last_lines};
+ghost use Rattle.i9_model.specs.PrintedText.{view_of, out_lines, point_lines, last_lines, overlays};
 ghost use Rattle.i9_processor.specs.Effect.{action_in, move_in, control_in, AreRegisters, AreMade, CanControl, CanMove, CanTake, HasSpaceFor, cache_through, size_with, has_writes, is_restart};
 ghost use Rattle.i9_processor.specs.State.{state_of, cache_of, size_of};
-ghost use Rattle.i9_machine.specs.Doing.{point_count};
+ghost use Rattle.i9_model.specs.Events.{IsInRange};
+ghost use Rattle.i9_machine.specs.Doing.{point_count, reached_lines, reached_count, plan_after_step};
 ghost use Rattle.i9_machine.specs.Line.{AddsLines};
 
 use super::Machine;
-use crate::line::{Line, Turn, put_line};
+use crate::line::{Line, MOST_SHOWN, Turn, put_line};
 use crate::step::Step;
+use arrayvec::ArrayVec;
 use i9_frames::Sets;
 use i9_isa::NoMemory;
-use i9_model::{End, Point, View};
-use i9_processor::{Control, Effect};
+use i9_model::{End, Event, Point, View};
+use i9_processor::{Control, Effect, Processor};
+use i9_schedule::Schedule;
 
 /// Adds the end point and the line of the end.
 fn put_end(e: End, view: View, out: &mut Vec<Line>) -> Result<(), NoMemory>
@@ -76,29 +79,89 @@ fn put_point(point: Option<Point>, view: View, out: &mut Vec<Line>)
     }
 }
 
+/// The bytes from an address up, as far as they are compared.
+#[tactic(auto, using(crate::proofs::Showing::overlay_rules))]
+fn shown(p: &Processor, a: u32, n: u8) -> ArrayVec<Option<u8>, MOST_SHOWN>
+    requires { n ≤ MOST_SHOWN }
+    ensures bytes { result.items ≡ overlays (state_of p.now) a n }
+    ensures count { length result.items ≡ n }
+{
+    let mut list = ArrayVec::new();
+    for k in 0..n {
+        list.push(p.overlay(a.wrapping_add(u32::from(k))));
+    }
+    list
+}
+
+/// Adds the lines of an event that is reached, where one is.
+fn put_event(event: &Option<Event>, p: &Processor, out: &mut Vec<Line>)
+    requires room { vec_len out.old + reached_count event.now ≤ vec_capacity out.old }
+    requires ranges { IfSome event.now IsInRange }
+    ensures lines { AddsLines out.old.items out.new.items (reached_lines event.now (state_of p.now)) }
+    ensures len { vec_len out.new ≡ vec_len out.old + reached_count event.now }
+    ensures capacity { vec_capacity out.old ≤ vec_capacity out.new }
+{
+    let Some(event) = event else {
+        return;
+    };
+    let line = Line::Event {
+        count: p.count(),
+        event: event.clone(),
+    };
+    put_line(out, line);
+    if let Event::Show(address, n) = event {
+        let list = shown(p, *address, *n);
+        let address = *address;
+        put_line(out, Line::Bytes { address, list });
+    }
+}
+
+/// How many lines an event has that is reached, where one is.
+fn reached_count(event: &Option<Event>) -> usize
+    ensures { result ≡ reached_count event.now }
+{
+    match event {
+        None => 0,
+        Some(Event::Show(_, _)) => 2,
+        Some(_) => 1,
+    }
+}
+
 impl Step {
     ghost use Rattle.i9_machine.specs.Doing.{line_count};
 
-    /// How many lines it prints: a byte of the console, and a drained point.
+    /// How many lines it prints: those of an event, a byte of the console, and a drained point.
     fn line_count(&self, effect: &Effect) -> usize
         ensures { result ≡ line_count effect.now self.now }
     {
-        usize::from(effect.console_byte().is_some()) + usize::from(self.point.is_some())
+        let console = usize::from(effect.console_byte().is_some());
+        reached_count(&self.event) + (console + usize::from(self.point.is_some()))
+    }
+}
+
+/// A schedule goes on behind the event that a step reaches, where it reaches one.
+fn go_on(step: &Step, plan: &mut Schedule)
+    requires { IsSome step.now.event → plan.old.place < length plan.old.events }
+    ensures { plan.new ≡ plan_after_step plan.old step.now }
+{
+    if step.event.is_some() {
+        plan.step();
     }
 }
 
 impl Machine {
     ghost use Rattle.i9_machine.specs.StandsFor.{LeavesFewer};
     ghost use Rattle.i9_machine.specs.Step.{IsStep, IsSame, Steps, HasRoom, next_for, steps_left};
-    ghost use Rattle.i9_machine.specs.Doing.{lines_of, line_count, asks_room, HasRoomForStep, IsReady};
+    ghost use Rattle.i9_machine.specs.Doing.{lines_of, line_count, asks_room, HasRoomForStep, IsReady, action_for, state_behind};
 
     /// Answers an end, once its lines are written.
-    pub(super) fn finish(&mut self, e: End, out: &mut Vec<Line>) -> Turn
+    pub(super) fn finish(&mut self, e: End, plan: &Schedule, out: &mut Vec<Line>) -> Turn
         requires running { self.old.ended ≡ None }
-        requires is_end { next_for self.old ≡ Ends e }
-        ensures steps { Steps self.old result self.new out.old.items out.new.items }
-        ensures lacking { result ≡ Turn.Memory → HasRoom self.old (vec_capacity out.old - vec_len out.old) (next_for self.old) → ⊥ }
-        ensures fewer { LeavesFewer result (steps_left self.old) (steps_left self.new) }
+        requires is_end { next_for self.old plan.now ≡ Ends e }
+        ensures steps { Steps self.old result self.new plan.now plan.now out.old.items out.new.items }
+        ensures lacking { result ≡ Turn.Memory
+            → HasRoom self.old (vec_capacity out.old - vec_len out.old) (next_for self.old plan.now) → ⊥ }
+        ensures fewer { LeavesFewer result (steps_left self.old plan.now) (steps_left self.new plan.now) }
     {
         match put_end(e, self.processor.view(), out) {
             Ok(()) => {
@@ -154,8 +217,9 @@ impl Machine {
         requires space { HasSpaceFor self.old.processor effect.now }
         requires made { CanTake (move_in (state_of self.old.processor) effect.now.frames) sets }
         requires lines { vec_len out.old + line_count effect.now step.now ≤ vec_capacity out.old }
-        ensures state { AreAlike (counted step.now.counts (acted (state_of self.old.processor) (action_in (state_of self.old.processor) effect.now))) (state_of self.new.processor) }
-        ensures cache { cache_of self.new.processor ≡ cache_through self.old.processor (action_in (state_of self.old.processor) effect.now) self.new.processor }
+        ensures state { AreAlike (state_behind self.old effect.now step.now) (state_of self.new.processor) }
+        ensures cache { cache_of self.new.processor
+            ≡ cache_through self.old.processor (action_for self.old effect.now) self.new.processor }
         ensures size { size_of self.new.processor ≡ size_with sets (size_of self.old.processor) }
         ensures due { self.new.due ≡ step.now.due }
         ensures length { self.new.length ≡ self.old.length }
@@ -163,9 +227,10 @@ impl Machine {
         ensures ended { self.new.ended ≡ self.old.ended }
         ensures answer { result ≡ step.now.answer }
         ensures count { (state_of self.new.processor).count ≡ (state_of self.old.processor).count + step.now.counts }
-        ensures lines { AddsLines out.old.items out.new.items (lines_of effect.now step.now
-            (counted step.now.counts (acted (state_of self.old.processor) (action_in (state_of self.old.processor) effect.now)))) }
+        ensures lines { AddsLines out.old.items out.new.items
+            (lines_of effect.now step.now (state_of self.old.processor) (state_behind self.old effect.now step.now)) }
     {
+        put_event(&step.event, &self.processor, out);
         self.processor.apply(effect, step.counts, sets);
         self.due = step.due;
         put_out(effect.console_byte(), out);
@@ -173,16 +238,26 @@ impl Machine {
         step.answer
     }
 
-    /// Makes room for a step and does it.
-    pub(super) fn perform(&mut self, step: &Step, effect: &Effect, out: &mut Vec<Line>) -> Turn
+    /// Makes room for a step and does it. Where it reaches an event, the schedule goes on behind that.
+    pub(super) fn perform(
+        &mut self,
+        step: &Step,
+        effect: &Effect,
+        plan: &mut Schedule,
+        out: &mut Vec<Line>,
+    ) -> Turn
         requires running { self.old.ended ≡ None }
-        requires step { IsStep self.old step.now effect.now }
-        ensures steps { Steps self.old result self.new out.old.items out.new.items }
-        ensures lacking { result ≡ Turn.Memory → HasRoom self.old (vec_capacity out.old - vec_len out.old) (next_for self.old) → ⊥ }
-        ensures fewer { LeavesFewer result (steps_left self.old) (steps_left self.new) }
+        requires step { IsStep self.old plan.old step.now effect.now }
+        ensures steps { Steps self.old result self.new plan.old plan.new out.old.items out.new.items }
+        ensures lacking { result ≡ Turn.Memory
+            → HasRoom self.old (vec_capacity out.old - vec_len out.old) (next_for self.old plan.old) → ⊥ }
+        ensures fewer { LeavesFewer result (steps_left self.old plan.old) (steps_left self.new plan.new) }
     {
         match self.make_room(step, effect, out) {
-            Ok(sets) => self.act(step, effect, sets, out),
+            Ok(sets) => {
+                go_on(step, plan);
+                self.act(step, effect, sets, out)
+            }
             Err(_) => Turn::Memory,
         }
     }

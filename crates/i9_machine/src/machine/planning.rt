@@ -1,6 +1,9 @@
 //! What comes next for the machine: a step, or the end.
-ghost use Rattle.std.specs.Prelude.{◌≡◌, ◌<◌, ℕ, Option};
-ghost use Rattle.std.specs.Option.{option_map};
+ghost use Rattle.std.specs.Prelude.{◌≡◌, ◌<◌, ℕ, Option, Some, None, Ok, IfSome};
+ghost use Rattle.std.specs.Option.{option_map, option_copied};
+ghost use Rattle.i9_model.specs.Events.{IsInRange};
+ghost use Rattle.i9_model.specs.ScheduleText.{standing};
+ghost use Rattle.i9_model.specs.Before.{choice_in};
 ghost use Rattle.i9_isa.specs.declared.inst.Inst.{Inst};
 ghost use Rattle.i9_isa.specs.Words.{words_of};
 ghost use Rattle.i9_model.specs.Step.{action_of};
@@ -8,7 +11,6 @@ ghost use Rattle.i9_model.specs.Run.{Does, Instruction, Faulted, faulted_words, 
 ghost use Rattle.i9_plan.specs.Planned.{TellsWords};
 ghost use Rattle.i9_processor.specs.Effect.{action_in, IsEffect};
 ghost use Rattle.i9_processor.specs.State.{state_of};
-ghost use Rattle.i9_machine.specs.Due.{pending};
 ghost use Rattle.i9_machine.specs.Issue.{TellsIssue};
 
 use super::Machine;
@@ -16,9 +18,10 @@ use crate::line::{Issued, Turn};
 use crate::step::Step;
 use i9_faults::{Fault, FaultStop};
 use i9_isa::{Inst, Op, word_count};
-use i9_model::{Due, End, Point};
-use i9_plan::{Planned, Words, plan_entry, plan_faulting, plan_next};
+use i9_model::{Chosen, Due, End, Event, Point, When};
+use i9_plan::{Planned, Words, plan_entry, plan_event, plan_faulting, plan_interrupt, plan_next};
 use i9_processor::Effect;
+use i9_schedule::Schedule;
 
 /// The drained point behind an instruction.
 fn point_by_name(op: Op) -> Option<Point>
@@ -31,8 +34,39 @@ fn point_by_name(op: Op) -> Option<Point>
     }
 }
 
+/// The entry of a fault or of an interrupt, behind which there is this drained point.
+fn entered(point: Point) -> Step
+    ensures event { result.event ≡ None }
+    ensures point { result.point ≡ Some point }
+    ensures counts { result.counts ≡ 0 }
+    ensures due { result.due ≡ Due.Nothing }
+    ensures answer { result.answer ≡ Turn.On }
+{
+    Step {
+        event: None,
+        point: Some(point),
+        counts: 0,
+        due: Due::Nothing,
+        answer: Turn::On,
+    }
+}
+
+/// The next event of a schedule, where its count has come.
+fn standing(plan: &Schedule, count: u64) -> Option<&Event>
+    ensures event { option_copied result ≡ standing plan.now.events plan.now.place count }
+    ensures ranges { IfSome result (λ e. IsInRange e.now) }
+{
+    let next = plan.next()?;
+    let When::At(time) = next.when;
+    if time == count {
+        Some(&next.event)
+    } else {
+        None
+    }
+}
+
 impl Machine {
-    ghost use Rattle.i9_machine.specs.Step.{IsStep, IsNext, next_for};
+    ghost use Rattle.i9_machine.specs.Step.{IsStep, IsNext, event_for, next_for};
 
     /// What is told of an instruction of these words.
     fn issued(&self, words: Words) -> Issued
@@ -48,8 +82,7 @@ impl Machine {
 
     /// What an effect makes due: an exit, where it brings one.
     fn due_by(&self, e: &Effect) -> Due
-        ensures none { pending result ≡ 0 }
-        ensures due { result ≡ end_due (exit_in (state_of self.now.processor) (action_in (state_of self.now.processor) e.now)) }
+        ensures { result ≡ end_due (exit_in (state_of self.now.processor) (action_in (state_of self.now.processor) e.now)) }
     {
         match e.exit_word(&self.processor) {
             Some(w) => Due::End(End::Exit(w)),
@@ -58,14 +91,15 @@ impl Machine {
     }
 
     /// An instruction is done.
-    fn does(&self, words: Words, inst: &Inst, effect: &Effect) -> Step
+    fn does(&self, words: Words, inst: &Inst, plan: &Schedule, effect: &Effect) -> Step
         requires below { (state_of self.now.processor).count < self.now.length }
-        requires is_next { next_for self.now ≡ Does (record_of (Instruction inst.now) (state_of self.now.processor)) }
+        requires is_next { next_for self.now plan.now ≡ Does (record_of (Instruction inst.now) (state_of self.now.processor)) }
         requires words { TellsWords (words_of inst.now) (state_of self.now.processor) words }
         requires effect { IsEffect (state_of self.now.processor) (action_of inst.now (state_of self.now.processor)) effect.now }
-        ensures { IsStep self.now result effect.now }
+        ensures { IsStep self.now plan.now result effect.now }
     {
         Step {
+            event: None,
             point: point_by_name(inst.op),
             counts: 1,
             due: self.due_by(effect),
@@ -74,12 +108,19 @@ impl Machine {
     }
 
     /// An instruction of so many words faults, and the entry of its fault is due.
-    fn faults(&self, words: Words, count: u32, number: (u8, u16), effect: &mut Effect) -> Step
+    fn faults(
+        &self,
+        words: Words,
+        count: u32,
+        number: (u8, u16),
+        plan: &Schedule,
+        effect: &mut Effect,
+    ) -> Step
         requires below { (state_of self.now.processor).count < self.now.length }
         requires is_next { (inst : Option Inst) × (count ≡ faulted_words inst)
-            × (next_for self.now ≡ Does (record_of (Faulted inst (fault_at (state_of self.now.processor) number)) (state_of self.now.processor))) }
+            × (next_for self.now plan.now ≡ Does (record_of (Faulted inst (fault_at (state_of self.now.processor) number)) (state_of self.now.processor))) }
         requires words { TellsWords count (state_of self.now.processor) words }
-        ensures { IsStep self.now result effect.new }
+        ensures { IsStep self.now plan.now result effect.new }
     {
         let fault = Fault {
             kind: number.0,
@@ -88,6 +129,7 @@ impl Machine {
         };
         plan_faulting(&self.processor, count, effect);
         Step {
+            event: None,
             point: None,
             counts: 1,
             due: Due::Entry(fault),
@@ -96,54 +138,113 @@ impl Machine {
     }
 
     /// The next instruction, or the end that stands in its place.
-    fn next_instruction(&self, effect: &mut Effect) -> Result<Step, End>
+    fn next_instruction(&self, plan: &Schedule, effect: &mut Effect) -> Result<Step, End>
         requires below { (state_of self.now.processor).count < self.now.length }
         requires free { self.now.due ≡ Due.Nothing }
-        ensures { IsNext self.now result effect.new }
+        requires chosen { choice_in (state_of self.now.processor) ≡ Ok None }
+        requires stands { event_for self.now plan.now ≡ None }
+        ensures { IsNext self.now plan.now result effect.new }
     {
         match plan_next(&self.processor, effect) {
             Planned::Meets(a) => Err(End::Hazard(a)),
             Planned::NotBuilt => Err(End::Unbuilt(self.processor.ip())),
-            Planned::Refused { words, number } => Ok(self.faults(words, 1, number, effect)),
+            Planned::Refused { words, number } => Ok(self.faults(words, 1, number, plan, effect)),
             Planned::Faults {
                 words,
                 inst,
                 number,
-            } => Ok(self.faults(words, word_count(&inst), number, effect)),
-            Planned::Runs { words, inst } => Ok(self.does(words, &inst, effect)),
+            } => Ok(self.faults(words, word_count(&inst), number, plan, effect)),
+            Planned::Runs { words, inst } => Ok(self.does(words, &inst, plan, effect)),
         }
     }
 
     /// The entry of a fault, or the hazard or the dead entry of the fault table that ends the run.
-    fn entry(&self, fault: &Fault, effect: &mut Effect) -> Result<Step, End>
+    fn entry(&self, fault: &Fault, plan: &Schedule, effect: &mut Effect) -> Result<Step, End>
         requires { self.now.due ≡ Due.Entry fault.now }
-        ensures { IsNext self.now result effect.new }
+        ensures { IsNext self.now plan.now result effect.new }
     {
         match plan_entry(&self.processor, fault) {
             Ok(entry) => {
                 *effect = entry;
-                Ok(Step {
-                    point: Some(Point::Fault),
-                    counts: 0,
-                    due: Due::Nothing,
-                    answer: Turn::On,
-                })
+                Ok(entered(Point::Fault))
             }
             Err(FaultStop::Hazard(a)) => Err(End::Hazard(a)),
             Err(FaultStop::Dead { code, address }) => Err(End::Dead(code, address)),
         }
     }
 
-    /// What comes next: what is due, the end of the length, or one instruction. Its effect is made in
-    /// `effect`.
-    pub(super) fn plan(&self, effect: &mut Effect) -> Result<Step, End>
-        ensures { IsNext self.now result effect.new }
+    /// The entry of an interrupt that is chosen, or the hazard that ends the run.
+    fn interrupt(&self, choice: &Chosen, plan: &Schedule, effect: &mut Effect) -> Result<Step, End>
+        requires below { (state_of self.now.processor).count < self.now.length }
+        requires free { self.now.due ≡ Due.Nothing }
+        requires chosen { choice_in (state_of self.now.processor) ≡ Ok (Some choice.now) }
+        ensures { IsNext self.now plan.now result effect.new }
+    {
+        match plan_interrupt(&self.processor, choice) {
+            Ok(entry) => {
+                *effect = entry;
+                Ok(entered(Point::Int))
+            }
+            Err(a) => Err(End::Hazard(a)),
+        }
+    }
+
+    /// An event is reached.
+    fn reaches(&self, event: &Event, plan: &Schedule, effect: &mut Effect) -> Step
+        requires below { (state_of self.now.processor).count < self.now.length }
+        requires free { self.now.due ≡ Due.Nothing }
+        requires chosen { choice_in (state_of self.now.processor) ≡ Ok None }
+        requires stands { event_for self.now plan.now ≡ Some event.now }
+        requires ranges { IsInRange event.now }
+        ensures { IsStep self.now plan.now result effect.new }
+    {
+        *effect = plan_event(&self.processor, event);
+        Step {
+            event: Some(event.clone()),
+            point: Some(Point::Event),
+            counts: 0,
+            due: Due::Nothing,
+            answer: Turn::On,
+        }
+    }
+
+    /// The event that stands there, where no interrupt is chosen, or else the next instruction.
+    fn event_or_instruction(&self, plan: &Schedule, effect: &mut Effect) -> Result<Step, End>
+        requires below { (state_of self.now.processor).count < self.now.length }
+        requires free { self.now.due ≡ Due.Nothing }
+        requires chosen { choice_in (state_of self.now.processor) ≡ Ok None }
+        ensures { IsNext self.now plan.now result effect.new }
+    {
+        match standing(plan, self.processor.count()) {
+            Some(event) => Ok(self.reaches(event, plan, effect)),
+            None => self.next_instruction(plan, effect),
+        }
+    }
+
+    /// What comes next where nothing is due and the length is not reached: the entry of an interrupt that is
+    /// chosen, an event, or one instruction.
+    fn next_freely(&self, plan: &Schedule, effect: &mut Effect) -> Result<Step, End>
+        requires below { (state_of self.now.processor).count < self.now.length }
+        requires free { self.now.due ≡ Due.Nothing }
+        ensures { IsNext self.now plan.now result effect.new }
+    {
+        match self.processor.choose() {
+            Ok(None) => self.event_or_instruction(plan, effect),
+            Ok(Some(choice)) => self.interrupt(&choice, plan, effect),
+            Err(a) => Err(End::Hazard(a)),
+        }
+    }
+
+    /// What comes next: what is due, the end of the length, or what comes before or is the next instruction.
+    /// Its effect is made in `effect`.
+    pub(super) fn next_step(&self, plan: &Schedule, effect: &mut Effect) -> Result<Step, End>
+        ensures { IsNext self.now plan.now result effect.new }
     {
         match &self.due {
             Due::End(e) => Err(*e),
-            Due::Entry(fault) => self.entry(fault, effect),
+            Due::Entry(fault) => self.entry(fault, plan, effect),
             Due::Nothing if self.processor.count() == self.length => Err(End::Limit),
-            Due::Nothing => self.next_instruction(effect),
+            Due::Nothing => self.next_freely(plan, effect),
         }
     }
 }

@@ -1,13 +1,21 @@
-//! What calls, returns and the entries of faults make in the state that a processor stands for.
+//! What calls, returns, requests of software and the entries of faults and interrupts make in the state
+//! that a processor stands for.
 ghost use Rattle.std.specs.Prelude.{◌≡◌, ◌%◌, None, IfOk};
 ghost use Rattle.i9_model.specs.declared.layout.TheConstants.{FP, SP, PFP};
-ghost use Rattle.i9_model.specs.Hazards.{save_hazard};
+ghost use Rattle.i9_model.specs.Memory.{with_writes};
+ghost use Rattle.i9_model.specs.Hazards.{unless, save_hazard, record_write_hazard};
+ghost use Rattle.i9_model.specs.Requests.{request_hazard, request_writes};
+ghost use Rattle.i9_model.specs.Interrupts.{cleared_hazard, clearing_writes, record_writes};
+ghost use Rattle.i9_model.specs.Before.{choice_in, interrupt_in};
 ghost use Rattle.i9_model.specs.Calls.{planned_call, planned_calls, planned_ret};
 ghost use Rattle.i9_model.specs.Run.{entry_in};
 
 use super::Processor;
+use crate::effect::MOST_REQUESTS;
+use arrayvec::ArrayVec;
 use i9_calls::{CallsStop, Pop, Push, Sys, plan_call};
 use i9_faults::{Entry, Fault, FaultStop};
+use i9_model::Chosen;
 use i9_model::layout::{FP, PFP, SP};
 
 impl Processor {
@@ -74,5 +82,66 @@ impl Processor {
             self.regs[FP as usize],
             self.regs[SP as usize],
         )
+    }
+
+    /// The interrupt that comes next, if there is one, or the hazard of a look at what software asks for.
+    #[tactic(auto, unfolding(crate::specs::State::state_of, i9_model::specs::Before::choice_in))]
+    pub fn choose(&self) -> Result<Option<Chosen>, u32>
+        ensures { result ≡ choice_in (state_of self.now) }
+    {
+        if self.check {
+            self.storage
+                .choose_soft(&self.ints, self.tables.interrupt_table, self.pc)
+        } else {
+            Ok(self.ints.choose(self.pc))
+        }
+    }
+
+    /// What the entry of an interrupt makes, or the hazard of the first access that meets one.
+    #[tactic(auto, unfolding(crate::specs::State::state_of, i9_model::specs::Before::interrupt_in))]
+    pub fn plan_interrupt(&self, c: &Chosen) -> Result<Entry, u32>
+        ensures entry { result ≡ interrupt_in (state_of self.now) c.now }
+        ensures free { IfOk result (λ e. save_hazard (state_of self.now).frames e.push.save ≡ None) }
+        ensures aligned { IfOk result (λ e. e.push.save % 16 ≡ 0) }
+        // So the record can be written, and what chose the interrupt can be cleared behind it.
+        ensures record { IfOk result (λ e. record_write_hazard (state_of self.now).frames e.push ≡ None) }
+        ensures clear { IfOk result (λ e. cleared_hazard (state_of self.now).memory (state_of self.now).frames
+            (state_of self.now).tables.interrupt_table c.now e.push e.words ≡ None) }
+    {
+        self.storage.plan_interrupt(
+            &self.ints,
+            self.tables.interrupt_table,
+            self.tables.interrupt_stack,
+            c,
+            self.pc,
+            self.ac,
+            self.regs[FP as usize],
+            self.regs[SP as usize],
+        )
+    }
+
+    /// The bytes that clear what chose an interrupt, behind its frame and its record.
+    #[tactic(auto, unfolding(crate::specs::State::state_of))]
+    pub fn clearing_bytes(&self, c: &Chosen, e: &Entry) -> ArrayVec<(u32, u8), MOST_REQUESTS>
+        requires record { record_write_hazard (state_of self.now).frames e.now.push ≡ None }
+        requires clear { cleared_hazard (state_of self.now).memory (state_of self.now).frames
+            (state_of self.now).tables.interrupt_table c.now e.now.push e.now.words ≡ None }
+        ensures { result.items ≡ clearing_writes c.now.cause
+            (with_writes (state_of self.now).memory (record_writes (state_of self.now).memory e.now.push e.now.words))
+            (state_of self.now).tables.interrupt_table c.now.vector }
+    {
+        self.storage
+            .clearing_bytes(self.tables.interrupt_table, c, e)
+    }
+
+    /// The bytes that a request of software for a vector stores, or the hazard of the first access that
+    /// meets one.
+    #[tactic(auto, unfolding(crate::specs::State::state_of))]
+    pub fn plan_request(&self, vector: u8) -> Result<[(u32, u8); MOST_REQUESTS], u32>
+        ensures { result ≡ unless (request_hazard (state_of self.now).frames (state_of self.now).tables.interrupt_table vector)
+            (request_writes (state_of self.now).memory (state_of self.now).tables.interrupt_table vector) }
+    {
+        self.storage
+            .plan_request(self.tables.interrupt_table, vector)
     }
 }

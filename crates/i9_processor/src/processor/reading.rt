@@ -6,6 +6,7 @@ ghost use Rattle.i9_model.specs.Memory.{half_in, word_in, half_bytes, word_bytes
 ghost use Rattle.i9_model.specs.Hazards.{read_hazard, write_hazard};
 ghost use Rattle.i9_model.specs.Frames.{flushed};
 ghost use Rattle.i9_model.specs.Overlay.{overlay};
+ghost use Rattle.i9_model.specs.Operands.{special};
 ghost use Rattle.i9_model.specs.PrintedText.{view_of};
 ghost use Rattle.i9_frames.specs.Sets.{held};
 
@@ -68,6 +69,27 @@ impl Processor {
         ensures { result ≡ (state_of self.now).trace.tc }
     {
         self.tc
+    }
+
+    /// A special function register: sf0 is the pending word, sf1 the mask word, and sf2 the DMA command
+    /// word, which is 0.
+    #[tactic(auto, unfolding(crate::specs::State::state_of))]
+    pub fn special(&self, k: u8) -> u32
+        ensures { result ≡ special (state_of self.now) k }
+    {
+        match k {
+            0 => self.ints.pending(),
+            1 => self.ints.mask(),
+            _ => 0,
+        }
+    }
+
+    /// Whether the next choice of an interrupt looks at what software asks for.
+    #[tactic(auto, unfolding(crate::specs::State::state_of))]
+    pub fn check(&self) -> bool
+        ensures { result ≡ (state_of self.now).check }
+    {
+        self.check
     }
 
     /// The words of the PRCB that the processor goes by.

@@ -1,8 +1,8 @@
-use Rattle.std.proofs.Common.{refl, ap, ◌∙◌, arith}
+use Rattle.std.proofs.Common.{refl, tt, ap, ◌∙◌}
+use Rattle.i9_model.specs.declared.run.Due.{Due}
 use Rattle.i9_model.specs.Run.{Entered, next_in, next_by_entry}
 use Rattle.i9_processor.specs.State.{state_of}
-use Rattle.i9_model.specs.declared.run.Due.{Due}
-use Rattle.i9_machine.specs.Due.{pending}
+use Rattle.i9_machine.specs.Step.{event_for}
 use Rattle.i9_machine.proofs.machine.Machine.entry.Goals as goal
 
 pub returns-in-Ok : goal.returns-in-Ok
@@ -10,16 +10,15 @@ returns-in-Ok c =
     let m = c.args.self.now in
     let s = state_of m.processor in
     let plan = c.in-Ok.ensures in
-    let within = m.below in
-    let due = ap pending c.requires in
+    let step = c.entered.ensures in
     record {
       kind = Entered plan.0;
-      is_next = ap (λ (d : Due). next_in m.length d s) c.requires ∙ ap (next_by_entry s) plan.1;
+      is_next = ap (λ (d : Due). next_in m.length d (event_for m c.args.plan.now) s) c.requires ∙ ap (next_by_entry s) plan.1;
       effect = plan.2;
-      point = refl;
-      counts = refl;
-      due = refl;
-      tells = tt;
-      below = omega (arith, within);
-      fewer = omega (arith, due);
+      point = step.point;
+      counts = step.counts;
+      due = step.due;
+      event = step.event;
+      ranges = no_range step.event;
+      tells = tells_on step.answer;
     }
