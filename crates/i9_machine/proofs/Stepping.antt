@@ -1,7 +1,7 @@
 -- A record that was done is what the step answers.
 use Rattle.std.proofs.Common.{◌≡◌, ℕ, ◌+◌, ◌-◌, ◌*◌, ◌<◌, ◌≤◌, Bool, true, false, cond, eqb, List, length, drop, ◌++◌, Option, Some, None, Ok, refl, sym, ap, ◌∙◌, subst, length-append, arith}
 use Rattle.std.proofs.lemmas.Bool.Decides.{nat_tests}
-use Rattle.std.specs.Prelude.{is_some, IsSome}
+use Rattle.std.specs.Prelude.{is_some, IsSome, IfSome}
 use Rattle.std.specs.List.{slice_get}
 use Rattle.std.proofs.lemmas.Option.{slice_get_within}
 use Rattle.i9_model.specs.declared.event.Event.{Event}
@@ -18,8 +18,9 @@ use Rattle.i9_model.specs.Standing.{stands_at}
 use Rattle.i9_model.specs.declared.run.Point.{Point}
 use Rattle.i9_model.specs.declared.run.End.TheVariants.{Limit}
 use Rattle.i9_model.specs.Memory.{console_byte}
-use Rattle.i9_model.specs.Step.{Action}
-use Rattle.i9_model.specs.Run.{Kind, Instruction, Faulted, Entered, Interrupted, Reached, Record, Next, Does, Ends, action_done, record_of, counts_of, due_by, point_of, reached_by, next_by_standing, next_by_event, next_by_choice, next_in}
+use Rattle.i9_model.specs.Step.{Action, acted, counted}
+use Rattle.i9_model.specs.Events.{IsInRange}
+use Rattle.i9_model.specs.Run.{Kind, Instruction, Faulted, Entered, Interrupted, Reached, Record, Next, Does, Ends, action_by_kind, action_done, record_of, counts_of, due_by, point_of, reached_by, next_by_standing, next_by_event, next_by_choice, next_in}
 use Rattle.i9_model.specs.PrintedText.{out_lines, point_lines, bytes_lines, event_lines, record_lines}
 use Rattle.i9_processor.specs.State.{state_of}
 use Rattle.i9_model.specs.declared.run.Due.{Due}
@@ -27,7 +28,7 @@ use Rattle.i9_model.specs.declared.run.Due.TheVariants as dues
 use Rattle.i9_processor.specs.declared.effect.Effect.{Effect}
 use Rattle.i9_processor.specs.Effect.{writes_in, HasRoomFor, is_restart}
 use Rattle.i9_processor.proofs.Rooms.{room_space}
-use Rattle.i9_machine.specs.Doing.{point_count, bytes_count, reached_lines, reached_count, line_count, HasRoomForStep}
+use Rattle.i9_machine.specs.Doing.{state_behind, plan_after_step, point_count, bytes_count, reached_lines, reached_count, line_count, HasRoomForStep}
 use Rattle.i9_machine.specs.declared.step.Step.{Step}
 use Rattle.i9_model.specs.declared.run.End.{End}
 use Rattle.i9_machine.specs.declared.line.Line.{Line}
@@ -93,6 +94,13 @@ did_within m was k within is =
     let count = counts_after k s in
     omega (arith, fits, count)
 
+-- the state behind a step is that behind its record
+pub behind_alike : (m : Machine) (plan : Plan) (step : Step) (e : Effect) (t : State) → (is : IsStep m plan step e) → AreAlike (state_behind m e step) t → AreAlike (record_of is.kind (state_of m.processor)).after t
+behind_alike m plan step e t is alike =
+    let s = state_of m.processor in
+    subst (λ (n : ℕ). AreAlike (counted n (acted s (action_by_kind is.kind s))) t) is.counts
+    (subst (λ (a : Action). AreAlike (counted step.counts (acted s a)) t) is.effect.same alike)
+
 -- ---- one instruction comes next
 
 before_length : (b : Bool) (x y : Next) → b ≡ false → cond b x y ≡ y
@@ -145,6 +153,21 @@ reached_long (Some e) s = let long = bytes_long e s in omega (arith, long)
 
 -- ---- the schedule
 
+pub no_event : (o : Option Event) → o ≡ None → IfSome o IsInRange
+no_event None is = tt
+no_event (Some e) is = absurd cc
+
+pub one_event : (o : Option Event) (e : Event) → o ≡ Some e → IsInRange e → IfSome o IsInRange
+one_event None e is fits = absurd cc
+one_event (Some x) e is fits = let same : e ≡ x = sym (inner x e is) in subst IsInRange same fits
+  where
+    inner : (x y : Event) → Some x ≡ Some y → x ≡ y
+    inner x y h = cc
+
+-- what is answered as no instruction
+pub tells_on : (k : Kind) (s : State) (answer : Turn) → answer ≡ turns.On → TellsRecord k s turns.On → TellsRecord k s answer
+tells_on k s answer is tells = subst (TellsRecord k s) (sym is) tells
+
 -- a record reaches the event that it names, and no other
 pub reached_one : (k : Kind) (s : State) → length (reached_by k s) ≡ cond (is_some (event_of k)) 1 0
 reached_one (Instruction i) s = refl
@@ -152,6 +175,13 @@ reached_one (Faulted inst fault) s = refl
 reached_one (Entered e) s = refl
 reached_one (Interrupted c e) s = refl
 reached_one (Reached e) s = refl
+
+-- a schedule behind a step is behind its record
+pub plan_is_behind : (m : Machine) (plan : Plan) (step : Step) (e : Effect) → (is : IsStep m plan step e) → plan_after_step plan step ≡ plan_behind plan (record_of is.kind (state_of m.processor))
+plan_is_behind m plan step e is =
+    let s = state_of m.processor in
+    ap (λ (o : Option Event). record plan { place = plan.place + cond (is_some o) 1 0 }) is.event
+    ∙ ap (λ (n : ℕ). record plan { place = plan.place + n }) (sym (reached_one is.kind s))
 
 stands_within : (m : Machine) (plan : Plan) (e : Event) → event_for m plan ≡ Some e → plan.place < length plan.events
 stands_within m plan e is =

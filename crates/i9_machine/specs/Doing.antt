@@ -72,8 +72,11 @@ pub record IsReady (s : State) (limit : ℕ) (e : Effect) (step : Step) : Type 0
 abbrev pub action_for : Machine → Effect → Action
 action_for m e = action_in (state_of m.processor) e
 
+abbrev pub state_behind_of : State → Effect → Step → State
+state_behind_of s e step = counted step.counts (acted s (action_in s e))
+
 abbrev pub state_behind : Machine → Effect → Step → State
-state_behind m e step = counted step.counts (acted (state_of m.processor) (action_for m e))
+state_behind m e step = state_behind_of (state_of m.processor) e step
 
 -- a schedule behind a step
 abbrev pub plan_after_step : Plan → Step → Plan

@@ -2,7 +2,7 @@
 ghost use Rattle.std.specs.Prelude.{◌≡◌, []};
 ghost use Rattle.i9_model.specs.Free.{IsFree};
 ghost use Rattle.i9_model.specs.Step.{moved};
-ghost use Rattle.i9_processor.specs.Effect.{action_in, AreRegisters, CanControl, CanMove};
+ghost use Rattle.i9_processor.specs.Effect.{action_in, AreRegisters, CanPost, CanControl, CanMove};
 ghost use Rattle.i9_processor.specs.State.{state_of};
 
 use crate::{Planned, Words, plan_entry, plan_faulting, plan_next};
@@ -146,6 +146,7 @@ fn booted(alloc: Global, at: u32, program: (u32, u32)) -> Result<Processor, Fail
 /// Makes room for an effect that keeps the controls, and applies it.
 fn applies(p: &mut Processor, effect: &Effect) -> Result<(), Fail>
     requires registers { AreRegisters effect.now }
+    requires posts { CanPost effect.now.posting }
     requires can { CanMove (state_of p.old).frames effect.now.frames }
     requires free { IsFree (state_of p.old) (action_in (state_of p.old) effect.now) }
     requires controls { CanControl (moved (state_of p.old) (action_in (state_of p.old) effect.now)) effect.now.control }

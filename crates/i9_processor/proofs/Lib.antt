@@ -4,4 +4,5 @@ pub mod Loading
 pub mod Applying
 pub mod NewSets
 pub mod Overlaid
+pub mod Requests
 pub mod Rooms

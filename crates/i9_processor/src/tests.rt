@@ -3,10 +3,10 @@ ghost use Rattle.std.specs.Prelude.{◌≡◌, ◌<◌, [], None, OnOk, IfSome};
 ghost use Rattle.i9_model.specs.Frames.{flushed};
 ghost use Rattle.i9_model.specs.Free.{IsFree};
 ghost use Rattle.i9_model.specs.Step.{moved};
-ghost use Rattle.i9_processor.specs.Effect.{action_in, move_in, AreRegisters, CanControl, CanMove, CanTake};
+ghost use Rattle.i9_processor.specs.Effect.{action_in, CanPost, move_in, AreRegisters, CanControl, CanMove, CanTake};
 ghost use Rattle.i9_processor.specs.State.{state_of};
 
-use crate::{Control, Effect, Move, Processor};
+use crate::{Control, Effect, Move, Posting, Processor};
 use arrayvec::ArrayVec;
 use i9_calls::{CallsStop, Pop, Push, Sys};
 use i9_entry::aligned;
@@ -241,6 +241,7 @@ fn finds_bytes_of_the_port_page(rt: HostRuntime) -> Result<(), Fail> {
 /// Makes room for an effect, applies it, and counts an instruction.
 fn applies(p: &mut Processor, effect: &Effect, sets: Option<Sets>) -> Result<(), Fail>
     requires registers { AreRegisters effect.now }
+    requires posts { CanPost effect.now.posting }
     requires can { CanMove (state_of p.old).frames effect.now.frames }
     requires free { IsFree (state_of p.old) (action_in (state_of p.old) effect.now) }
     requires controls { CanControl (moved (state_of p.old) (action_in (state_of p.old) effect.now)) effect.now.control }
@@ -418,6 +419,36 @@ fn loads(p: &mut Processor, group: u8) -> Result<(), Fail> {
     controls(p, Control::LoadsGroup(group), None)
 }
 
+/// Does something to interrupts, with the process controls of priority 0.
+#[tactic(auto, unfolding(i9_model::specs::Hazards::writes_hazard))]
+fn posts(p: &mut Processor, posting: Posting) -> Result<(), Fail>
+    requires { CanPost posting }
+{
+    let mut effect = Effect::going(p, 0x1310);
+    effect.pc = 2;
+    effect.posting = posting;
+    applies(p, &effect, None)
+}
+
+/// The vector that comes next, where one does.
+fn chosen(p: &Processor) -> Option<u8> {
+    match p.choose() {
+        Ok(Some(choice)) => Some(choice.vector),
+        _ => None,
+    }
+}
+
+/// The vectors of lines 0, 4 and 8, the first of each interrupt map, where they can be chosen.
+fn vectors(p: &mut Processor) -> Result<[Option<u8>; 3], Fail> {
+    let mut vectors = [None; 3];
+    posts(p, Posting::Mask(0x111))?;
+    for (k, line) in [0, 4, 8].into_iter().enumerate() {
+        posts(p, Posting::Pending(1 << line))?;
+        vectors[k] = chosen(p);
+    }
+    Ok(vectors)
+}
+
 #[test]
 fn starts_anew(rt: HostRuntime) -> Result<(), Fail> {
     let mut p = booted(rt.alloc(), 0)?;
@@ -456,7 +487,7 @@ fn starts_anew(rt: HostRuntime) -> Result<(), Fail> {
         dab: [0x13, 0x14],
         bpcon: 0x31,
     };
-    assert_eq!(rt; (p.breaks, p.maps), (breaks, [0x21, 0x22, 0x23]));
+    assert_eq!(rt; p.breaks, breaks);
     assert_eq!(rt; (p.big(1), p.big(2)), (false, true));
     // The frame that was held is in memory, and there are new sets.
     assert_eq!(rt;
@@ -468,6 +499,8 @@ fn starts_anew(rt: HostRuntime) -> Result<(), Fail> {
         ),
         (15, 0, None, 9)
     );
+    // The interrupt maps are 21, 22 and 23.
+    assert_eq!(rt; vectors(&mut p)?, [Some(18), Some(34), Some(50)]);
     Ok(())
 }
 
@@ -484,9 +517,9 @@ fn has_big(p: &Processor, wanted: &[u8]) -> bool {
 /// A place, and two bytes that are stored there.
 type Pair = (u32, (u8, u8));
 
-/// What control groups set: the breakpoints, the interrupt maps, the trace controls, and the
-/// regions that are big-endian.
-type Loaded = (Breaks, [u32; 3], u32, &'static [u8]);
+/// What control groups set: the breakpoints, the vectors that the interrupt maps give lines 0, 4 and 8,
+/// the trace controls, and the regions that are big-endian.
+type Loaded = (Breaks, [Option<u8>; 3], u32, &'static [u8]);
 
 #[test]
 fn loads_control_groups(rt: HostRuntime) -> Result<(), Fail> {
@@ -495,7 +528,7 @@ fn loads_control_groups(rt: HostRuntime) -> Result<(), Fail> {
         dab: [0, 0],
         bpcon: 5,
     };
-    let (maps, tc) = ([0; 3], 0x0234_00FE);
+    let (maps, tc) = ([None; 3], 0x0234_00FE);
     let first = Breaks {
         ipb: [0x1211, 0],
         dab: [0, 0x1413],
@@ -517,8 +550,8 @@ fn loads_control_groups(rt: HostRuntime) -> Result<(), Fail> {
         (
             1,
             (0x3014, (0x21, 0x22)),
-            (0x301A, (0x23, 0x24)),
-            (breaks, [0, 0x2221, 0x2423_0000], tc, &[1]),
+            (0x3018, (0x23, 0x24)),
+            (breaks, [None, Some(18), Some(50)], tc, &[1]),
         ),
         (
             2,
@@ -557,12 +590,13 @@ fn loads_control_groups(rt: HostRuntime) -> Result<(), Fail> {
         stores(&mut p, other.0, other.1)?;
         loads(&mut p, group)?;
         assert_eq!(rt;
-            (p.breaks, p.maps, p.tc()),
-            (breaks, maps, tc),
+            (p.breaks, p.tc()),
+            (breaks, tc),
             "group {group}"
         );
         assert!(rt; has_big(&p, big), "group {group}");
         assert_eq!(rt; (p.ip(), p.count(), p.sets().size()), (0x1310, 3, 7));
+        assert_eq!(rt; vectors(&mut p)?, maps, "group {group}");
     }
     Ok(())
 }

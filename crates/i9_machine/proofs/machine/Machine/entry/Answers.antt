@@ -1,8 +1,9 @@
-use Rattle.std.proofs.Common.{refl, tt, ap, ◌∙◌}
+use Rattle.std.proofs.Common.{ap, ◌∙◌}
 use Rattle.i9_model.specs.declared.run.Due.{Due}
 use Rattle.i9_model.specs.Run.{Entered, next_in, next_by_entry}
 use Rattle.i9_processor.specs.State.{state_of}
 use Rattle.i9_machine.specs.Step.{event_for}
+use Rattle.i9_machine.proofs.Stepping.{no_event, tells_on}
 use Rattle.i9_machine.proofs.machine.Machine.entry.Goals as goal
 
 pub returns-in-Ok : goal.returns-in-Ok
@@ -19,6 +20,6 @@ returns-in-Ok c =
       counts = step.counts;
       due = step.due;
       event = step.event;
-      ranges = no_range step.event;
-      tells = tells_on step.answer;
+      ranges = no_event c.entered.result.event step.event;
+      tells = tells_on (Entered plan.0) s c.entered.result.answer step.answer tt;
     }

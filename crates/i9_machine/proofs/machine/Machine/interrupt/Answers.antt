@@ -1,0 +1,36 @@
+use Rattle.std.proofs.Common.{ap, ◌∙◌}
+use Rattle.i9_model.specs.Run.{Interrupted, next_by_choice, next_by_interrupt}
+use Rattle.i9_processor.specs.State.{state_of}
+use Rattle.i9_machine.specs.Step.{event_for}
+use Rattle.i9_machine.proofs.Stepping.{goes_on, no_event, tells_on}
+use Rattle.i9_machine.proofs.machine.Machine.interrupt.Goals as goal
+
+pub returns-in-Ok : goal.returns-in-Ok
+returns-in-Ok c =
+    let m = c.args.self.now in
+    let s = state_of m.processor in
+    let choice = c.args.choice.now in
+    let plan = c.in-Ok.ensures in
+    let step = c.entered.ensures in
+    record {
+      kind = Interrupted choice plan.0;
+      is_next =
+          goes_on m c.args.plan.now c.requires.free c.requires.below
+          ∙ ap (next_by_choice (event_for m c.args.plan.now) s) c.requires.chosen
+          ∙ ap (next_by_interrupt s choice) plan.1;
+      effect = plan.2;
+      point = step.point;
+      counts = step.counts;
+      due = step.due;
+      event = step.event;
+      ranges = no_event c.entered.result.event step.event;
+      tells = tells_on (Interrupted choice plan.0) s c.entered.result.answer step.answer tt;
+    }
+
+pub returns-in-Err : goal.returns-in-Err
+returns-in-Err c =
+    let m = c.args.self.now in
+    let s = state_of m.processor in
+    goes_on m c.args.plan.now c.requires.free c.requires.below
+    ∙ ap (next_by_choice (event_for m c.args.plan.now) s) c.requires.chosen
+    ∙ ap (next_by_interrupt s c.args.choice.now) c.in-Err.ensures
