@@ -1,5 +1,5 @@
 -- Bytes of the interrupt table that are stored, one after the other.
-use Rattle.std.proofs.Common.{◌≡◌, ◌⊎◌, inl, inr, ℕ, ◌+◌, ◌/◌, ◌%◌, ◌^◌, ◌<◌, Bool, false, List, [], ◌∷◌, ◌++◌, refl, sym, ap, ◌∙◌, subst, arith}
+use Rattle.std.proofs.Common.{◌≡◌, ◌⊎◌, inl, inr, ℕ, ◌+◌, ◌/◌, ◌%◌, ◌^◌, ◌<◌, Bool, false, List, [], ◌∷◌, ◌++◌, get_or, Option, Ok, refl, sym, ap, ◌∙◌, subst, arith}
 use Rattle.std.specs.Prelude.{not, ◌==◌, ◌&&◌, ◌||◌, if◌then◌else◌}
 use Rattle.std.proofs.lemmas.Bool.{eq-eqb, ne_eqb}
 use Rattle.i9_model.specs.declared.interrupts.TheConstants.{PENDING_SIZE, PENDING_VECTORS}
@@ -7,9 +7,11 @@ use Rattle.i9_model.specs.Writes.{wrapped, upwards, written}
 use Rattle.i9_model.specs.Memory.{Memory, with_writes, with_bytes}
 use Rattle.i9_model.specs.State.{Frames}
 use Rattle.i9_model.specs.Frames.{is_put, wrote, wrote_run}
-use Rattle.i9_model.specs.Interrupts.{priority_place, pending_place, vector_priority, without_bit, left_pending, taken_writes, clearing_writes}
+use Rattle.i9_model.specs.Interrupts.{priority_place, pending_place, vector_priority, without_bit, request_writes, left_pending, taken_writes, clearing_writes}
 use Rattle.i9_model.specs.declared.interrupts.Cause.{Cause}
 use Rattle.i9_model.specs.declared.interrupts.Cause.TheVariants.{Nmi, Line}
+use Rattle.i9_model.specs.Hazards.{unless}
+use Rattle.i9_model.proofs.CallLaws.{unless_ok}
 use Rattle.i9_model.proofs.AlikeSteps.{none_wrote}
 use Rattle.i9_model.proofs.Runs.{wrote-upwards}
 use Rattle.i9_model.proofs.Stored.{stored-cons}
@@ -84,3 +86,39 @@ module _ (m : Memory) (table v : ℕ) where
   pub taken_others : (left_pending m table v ≡ 0 → ⊥) → taken_writes m table v ≡ pending_write ∷ []
   unfolding taken_writes
   taken_others ne = ap (λ (b : Bool). (if b then priority_write ∷ [] else []) ++ pending_write ∷ []) (ne_eqb (left_pending m table v) 0 ne)
+
+  -- both bytes in a list, or the one
+  pub both_listed : (a x b y : ℕ) (none one two : List (ℕ × ℕ)) → none ≡ [] → one ≡ none ++ (a, x) ∷ [] → two ≡ one ++ (b, y) ∷ []
+      → a ≡ priority_place table v → x ≡ without_bit (m.bytes a) (v / 8 % 8) → b ≡ pending_place table v → y ≡ without_bit (m.bytes b) (v % 8) → y ≡ 0 → two ≡ taken_writes m table v
+  both_listed a x b y none one two empty first last at old place left zero =
+      let both : two ≡ priority_write ∷ pending_write ∷ [] = cc in
+      both ∙ sym (taken_last (cc))
+
+  pub one_listed : (b y : ℕ) (none one : List (ℕ × ℕ)) → none ≡ [] → one ≡ none ++ (b, y) ∷ [] → b ≡ pending_place table v → y ≡ without_bit (m.bytes b) (v % 8) → (y ≡ 0 → ⊥) → one ≡ taken_writes m table v
+  one_listed b y none one empty last place left some =
+      let alone : one ≡ pending_write ∷ [] = cc in
+      alone ∙ sym (taken_others (λ e. some (cc)))
+
+-- ---- what is planned of a request, and then stored
+
+module _ (m : Memory) (table v : ℕ) (h : Option ℕ) (ps : List (ℕ × ℕ)) (is : Ok ps ≡ unless h (request_writes m table v)) where
+  planned : ps ≡ request_writes m table v
+  planned = sym (unless_ok h (request_writes m table v) ps (sym is)).1
+
+  pub planned_priority : (get_or ps 0 (0, 0)).0 ≡ priority_place table v
+  unfolding request_writes
+  planned_priority = ap (λ (qs : List (ℕ × ℕ)). (get_or qs 0 (0, 0)).0) planned
+
+  pub planned_pending : (get_or ps 1 (0, 0)).0 ≡ pending_place table v
+  unfolding request_writes
+  planned_pending = ap (λ (qs : List (ℕ × ℕ)). (get_or qs 1 (0, 0)).0) planned
+
+  both : get_or ps 0 (0, 0) ∷ get_or ps 1 (0, 0) ∷ [] ≡ request_writes m table v
+  unfolding request_writes
+  both = ap (λ (qs : List (ℕ × ℕ)). get_or qs 0 (0, 0) ∷ get_or qs 1 (0, 0) ∷ []) planned
+
+  pub planned_memory : (k n : Memory) → k ≡ with_writes m (get_or ps 0 (0, 0) ∷ []) → n ≡ with_writes k (get_or ps 1 (0, 0) ∷ []) → n ≡ with_writes m (request_writes m table v)
+  planned_memory k n first last = then_memory m k n (get_or ps 0 (0, 0)) (get_or ps 1 (0, 0) ∷ []) first last ∙ ap (with_writes m) both
+
+  pub planned_frames : (f g e : Frames) → g ≡ wrote f (get_or ps 0 (0, 0) ∷ []) → e ≡ wrote g (get_or ps 1 (0, 0) ∷ []) → e ≡ wrote f (request_writes m table v)
+  planned_frames f g e first last = then_frames f g e (get_or ps 0 (0, 0)) (get_or ps 1 (0, 0) ∷ []) first last ∙ ap (wrote f) both

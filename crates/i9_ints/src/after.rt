@@ -4,13 +4,14 @@ ghost use Rattle.i9_model.specs.declared.layout.TheConstants.{RECORD_SIZE};
 ghost use Rattle.i9_model.specs.Memory.{Memory as Bytes};
 ghost use Rattle.i9_model.specs.Frames.{record_address};
 ghost use Rattle.i9_model.specs.Hazards.{port_hazard, record_write_hazard};
-ghost use Rattle.i9_model.specs.Interrupts.{byte_hazard, priority_hazard, taken_hazard, cleared_hazard};
+ghost use Rattle.i9_model.specs.Interrupts.{byte_hazard, priority_hazard, taken_hazard, taken_writes, cleared_hazard, clearing_writes};
 ghost use Rattle.i9_memory.specs.Memory.{memory_of};
 ghost use Rattle.i9_watch.specs.Watch.{frames_of};
 ghost use Rattle.i9_ints.specs.After.{memory_after, frames_after};
 
 use crate::bits::byte_without_bit;
-use crate::requests::{BITS, byte_hazard, pending_place, priority_place};
+use crate::requests::{BITS, VECTORS, byte_hazard, pending_place, priority_place};
+use arrayvec::ArrayVec;
 use i9_entry::WORD_SIZE;
 use i9_memory::Memory;
 use i9_model::layout::{FRAME_SIZE, RECORD_SIZE};
@@ -110,5 +111,40 @@ pub(crate) fn cleared_hazard(
     match c.cause {
         Cause::Soft => taken_hazard_after(m, w, e, table, c.vector),
         Cause::Nmi | Cause::Line(_) => None,
+    }
+}
+
+/// The bytes that clear a request of software afterwards: without the bit of the vector, and with the
+/// last of its vectors without that of its priority.
+fn taken_bytes(m: &Memory, table: u32, vector: u8, e: &Entry) -> ArrayVec<(u32, u8), 2>
+    requires { port_hazard (record_address e.now.push.frame) RECORD_SIZE ≡ None }
+    ensures { result.items ≡ taken_writes (memory_after (memory_of m.now) e.now.push e.now.words) table vector }
+{
+    let mut bytes = ArrayVec::new();
+    let pending = pending_place(table, vector);
+    let left = byte_without_bit(byte_after(m, e, pending), vector % BITS);
+    if left == 0 {
+        let priority = priority_place(table, vector);
+        let priorities = byte_after(m, e, priority);
+        bytes.push((
+            priority,
+            byte_without_bit(priorities, vector / VECTORS % BITS),
+        ));
+    }
+    bytes.push((pending, left));
+    bytes
+}
+
+/// The bytes that clear what chose an interrupt, each with its address, once the frame is saved and
+/// the record is written: of a request of software the byte without the bit of the vector, and with
+/// the last of its vectors before it the byte without the bit of its priority. After the i960 CA/CF
+/// User's Manual, interrupts.
+pub fn clearing_bytes(m: &Memory, table: u32, c: &Chosen, e: &Entry) -> ArrayVec<(u32, u8), 2>
+    requires { port_hazard (record_address e.now.push.frame) RECORD_SIZE ≡ None }
+    ensures { result.items ≡ clearing_writes c.now.cause (memory_after (memory_of m.now) e.now.push e.now.words) table c.now.vector }
+{
+    match c.cause {
+        Cause::Soft => taken_bytes(m, table, c.vector, e),
+        Cause::Nmi | Cause::Line(_) => ArrayVec::new(),
     }
 }

@@ -9,7 +9,9 @@ mod entry;
 mod requests;
 mod state;
 
+pub use after::clearing_bytes;
 pub use i9_model::{Cause, Chosen, Entry as IntEntry};
+pub use requests::plan_request;
 pub use state::Ints;
 
 #[cfg(test)]

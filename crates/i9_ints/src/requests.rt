@@ -89,6 +89,25 @@ fn clear_request(m: &mut Memory, w: &mut Watch, table: u32, vector: u8)
     store(m, w, pending, left);
 }
 
+/// What a request of software for vector `v` stores, in the interrupt table at `table`: the byte with
+/// the bit of its priority and the byte with its own, each with its address and with that bit set.
+/// Both bytes are read, and then both are written; `Err` is the hazard of the first access that meets
+/// one. After the i960 CA/CF User's Manual, interrupts.
+#[tactic(auto, unfolding(i9_model::specs::Requests::request_writes))]
+pub fn plan_request(m: &Memory, w: &Watch, table: u32, v: u8) -> Result<[(u32, u8); 2], u32>
+    ensures { result ≡ unless (request_hazard (frames_of w.now) table v) (request_writes (memory_of m.now) table v) }
+{
+    if let Some(hazard) = request_hazard(w, table, v) {
+        return Err(hazard);
+    }
+    let priority = priority_place(table, v);
+    let pending = pending_place(table, v);
+    Ok([
+        (priority, with_bit(m.byte(priority), v / VECTORS % BITS)),
+        (pending, with_bit(m.byte(pending), v % BITS)),
+    ])
+}
+
 impl Ints {
     ghost use Rattle.i9_ints.specs.Ints.{interrupts_of};
 
@@ -107,15 +126,9 @@ impl Ints {
         ensures spare { spare_of w.new ≡ spare_of w.old }
         ensures marks { KeepsMarks w.old w.new }
     {
-        if let Some(hazard) = request_hazard(w, table, v) {
-            return Err(hazard);
-        }
-        let priority = priority_place(table, v);
-        let pending = pending_place(table, v);
-        let priorities = with_bit(m.byte(priority), v / VECTORS % BITS);
-        let vectors = with_bit(m.byte(pending), v % BITS);
-        store(m, w, priority, priorities);
-        store(m, w, pending, vectors);
+        let [priority, pending] = plan_request(m, w, table, v)?;
+        store(m, w, priority.0, priority.1);
+        store(m, w, pending.0, pending.1);
         Ok(())
     }
 

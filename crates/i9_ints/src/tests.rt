@@ -1,5 +1,6 @@
 //! Interrupts, worked out by hand.
-use crate::{Cause, Chosen, IntEntry, Ints};
+use crate::{Cause, Chosen, IntEntry, Ints, clearing_bytes, plan_request};
+use arrayvec::ArrayVec;
 use i9_memory::Memory;
 use i9_model::Push;
 use i9_watch::Watch;
@@ -366,6 +367,10 @@ fn requests(rt: HostRuntime) -> Result<(), Fail> {
         let mut watch = watch(rt.alloc(), UNSAVED)?;
         memory.reserve(TABLE, 36)?;
         assert_eq!(rt;
+            plan_request(&memory, &watch, TABLE, vector),
+            Ok([(at.0, after.0), (at.1, after.1)])
+        );
+        assert_eq!(rt;
             Ints::request(&mut memory, &mut watch, TABLE, vector),
             Ok(())
         );
@@ -457,6 +462,67 @@ fn takes_requests(rt: HostRuntime) -> Result<(), Fail> {
         enter(&mut ints, &mut memory, &mut watch, &soft(vector))?;
         assert_eq!(rt; (memory.byte(0x4000), memory.byte(0x4006)), after);
         assert_eq!(rt; ints.pending(), 0xFFF);
+    }
+    Ok(())
+}
+
+/// The bytes that clear what chose an interrupt, where no frame was saved.
+#[tactic(auto, using(crate::proofs::AfterRecords::record_free))]
+fn cleared(
+    rt: &HostRuntime,
+    memory: &Memory,
+    table: u32,
+    chosen: &Chosen,
+    (pc, fp, sp): (u32, u32, u32),
+) -> Result<ArrayVec<(u32, u8), 2>, Fail> {
+    let watch = watch(rt.alloc(), UNSAVED)?;
+    let ints = Ints::new();
+    match ints.plan_int(memory, &watch, table, 0x8008, chosen, pc, 0x8084, fp, sp) {
+        Ok(entry) => Ok(clearing_bytes(memory, table, chosen, &entry)),
+        Err(_) => Err("a hazard".into()),
+    }
+}
+
+#[test]
+fn clears_requests(rt: HostRuntime) -> Result<(), Fail> {
+    let at_record = (0x0001_2403, 0x3004, 0x4000);
+    // Two bytes before, the table, what was chosen, PC with fp and sp, and the bytes that clear it.
+    let rows: [([(u32, u8); 2], u32, Chosen, (u32, u32, u32), &[(u32, u8)]); 5] = [
+        (
+            [(0x4000, 0x06), (0x4006, 0x84)],
+            TABLE,
+            soft(23),
+            HANDLED,
+            &[(0x4006, 0x04)],
+        ),
+        (
+            [(0x4000, 0x06), (0x4006, 0x80)],
+            TABLE,
+            soft(23),
+            HANDLED,
+            &[(0x4000, 0x02), (0x4006, 0x00)],
+        ),
+        // The record is at 4000, and AC, which is 8084, at 4004, where the bits of the vectors are.
+        (
+            [(0x3FFE, 0x06), (0x4004, 0x80)],
+            0x3FFE,
+            soft(23),
+            at_record,
+            &[(0x4004, 0x04)],
+        ),
+        (
+            [(0x4000, 0x06), (0x4006, 0x80)],
+            TABLE,
+            line((5, 23)),
+            HANDLED,
+            &[],
+        ),
+        ([(0x4000, 0x06), (0x4006, 0x80)], TABLE, NMI, HANDLED, &[]),
+    ];
+    for (before, table, chosen, registers, wanted) in rows {
+        let memory = memory(rt.alloc(), table, &before)?;
+        let bytes = cleared(&rt, &memory, table, &chosen, registers)?;
+        assert_eq!(rt; bytes.as_slice(), wanted);
     }
     Ok(())
 }
