@@ -130,7 +130,7 @@ impl Ints {
     }
 
     /// What chose an interrupt is not posted any more; a request of software stands in memory.
-    pub(crate) fn clear(&mut self, cause: Cause)
+    pub fn clear(&mut self, cause: Cause)
         ensures { interrupts_of self.new ≡ cleared cause (interrupts_of self.old) }
     {
         match cause {

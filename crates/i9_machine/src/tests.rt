@@ -1,10 +1,12 @@
 //! The machine at images of a few instructions, worked out by hand.
 ghost use Rattle.std.specs.Prelude.{◌<◌, IfSome};
 
-use crate::{End, Issued, Line, Machine, Point, Turn};
+use crate::{End, Event, Issued, Line, Machine, Point, Turn};
+use arrayvec::ArrayVec;
 use i9_frames::Frame;
 use i9_hex::Segments;
 use i9_model::View;
+use i9_schedule::{Schedule, read};
 use std::alloc::Global;
 use std::test::*;
 
@@ -71,10 +73,19 @@ fn put_word(image: &mut Segments, address: u32, word: u32) -> Result<(), Fail> {
     Ok(())
 }
 
+/// The schedule that a text says.
+fn events(alloc: Global, text: &[u8]) -> Result<Schedule, Fail> {
+    match read(alloc, text) {
+        Ok(plan) => Ok(plan),
+        Err(_) => Err("no schedule".into()),
+    }
+}
+
 #[test]
 fn steps_through_a_run(rt: HostRuntime) -> Result<(), Fail> {
     let image = image_of(rt.alloc(), &PROGRAM)?;
     let mut machine = Machine::new(rt.alloc(), &image, None, 100)?;
+    let mut plan = events(rt.alloc(), b"")?;
     let mut lines = Vec::new(rt.alloc());
     let steps = [
         (0x1000, 0x8CA0_0041, 0),
@@ -86,7 +97,7 @@ fn steps_through_a_run(rt: HostRuntime) -> Result<(), Fail> {
     let mut count = 0u64;
     for (address, first, second) in steps {
         assert_eq!(rt; machine.view().count, count);
-        match machine.advance(&mut lines) {
+        match machine.advance(&mut plan, &mut lines) {
             Turn::Issued(t) => {
                 assert_eq!(rt; (t.count, t.address), (count, address));
                 assert_eq!(rt; (t.first, t.second), (first, second));
@@ -95,8 +106,8 @@ fn steps_through_a_run(rt: HostRuntime) -> Result<(), Fail> {
         }
         count = count.saturating_add(1);
     }
-    assert_eq!(rt; machine.advance(&mut lines), Turn::End(End::Exit(7)));
-    assert_eq!(rt; machine.advance(&mut lines), Turn::End(End::Exit(7)));
+    assert_eq!(rt; machine.advance(&mut plan, &mut lines), Turn::End(End::Exit(7)));
+    assert_eq!(rt; machine.advance(&mut plan, &mut lines), Turn::End(End::Exit(7)));
     let view = machine.view();
     assert_eq!(rt; (view.count, view.ip), (5, 0x1018));
     assert_eq!(rt; (view.ac, view.pc, view.tc), (0, 0x1F_2002, 0));
@@ -129,9 +140,10 @@ fn end_of(
         put_word(&mut image, *address, *word)?;
     }
     let mut machine = Machine::new(alloc, &image, None, u64::from(length.min(100)))?;
+    let mut plan = events(alloc, b"")?;
     let mut lines = Vec::new(alloc);
     for _ in 0..201usize {
-        if let Turn::End(end) = machine.advance(&mut lines) {
+        if let Turn::End(end) = machine.advance(&mut plan, &mut lines) {
             return Ok((Some(end), machine.view().count));
         }
     }
@@ -173,6 +185,7 @@ fn tells_a_fault_and_its_entry(rt: HostRuntime) -> Result<(), Fail> {
     // The word 0 is no instruction. The fault table is at 0, and so is its handler.
     let image = image_of(rt.alloc(), &[0])?;
     let mut machine = Machine::new(rt.alloc(), &image, None, 1)?;
+    let mut plan = events(rt.alloc(), b"")?;
     let mut lines = Vec::new(rt.alloc());
     let issued = Issued {
         count: 0,
@@ -180,10 +193,10 @@ fn tells_a_fault_and_its_entry(rt: HostRuntime) -> Result<(), Fail> {
         first: 0,
         second: 0,
     };
-    assert_eq!(rt; machine.advance(&mut lines), Turn::Issued(issued));
+    assert_eq!(rt; machine.advance(&mut plan, &mut lines), Turn::Issued(issued));
     assert_eq!(rt; (machine.view().count, machine.view().ip), (1, 0x1004));
     assert!(rt; lines.is_empty());
-    assert_eq!(rt; machine.advance(&mut lines), Turn::On);
+    assert_eq!(rt; machine.advance(&mut plan, &mut lines), Turn::On);
     let view = machine.view();
     assert_eq!(rt; (view.count, view.ip, view.pc), (1, 0, 0x1F_2002));
     assert_eq!(rt;
@@ -197,7 +210,7 @@ fn tells_a_fault_and_its_entry(rt: HostRuntime) -> Result<(), Fail> {
         (machine.byte(0x48), machine.byte(0x4A)),
         (Some(1), Some(2))
     );
-    assert_eq!(rt; machine.advance(&mut lines), Turn::End(End::Limit));
+    assert_eq!(rt; machine.advance(&mut plan, &mut lines), Turn::End(End::Limit));
     Ok(())
 }
 
@@ -205,6 +218,7 @@ fn tells_a_fault_and_its_entry(rt: HostRuntime) -> Result<(), Fail> {
 fn compares_bytes_of_live_frames_alone(rt: HostRuntime) -> Result<(), Fail> {
     let image = image_of(rt.alloc(), &CALL_AND_RETURN)?;
     let mut machine = Machine::new(rt.alloc(), &image, None, 2)?;
+    let mut plan = events(rt.alloc(), b"")?;
     let mut lines = Vec::new(rt.alloc());
     let steps = [
         (Some(0), Some(0), Some(0)),
@@ -221,9 +235,9 @@ fn compares_bytes_of_live_frames_alone(rt: HostRuntime) -> Result<(), Fail> {
             (Some(0), Some(0x04))
         );
         assert_eq!(rt; machine.byte(0xE000_0000), Some(0));
-        let _ = machine.advance(&mut lines);
+        let _ = machine.advance(&mut plan, &mut lines);
     }
-    assert_eq!(rt; machine.advance(&mut lines), Turn::End(End::Limit));
+    assert_eq!(rt; machine.advance(&mut plan, &mut lines), Turn::End(End::Limit));
     Ok(())
 }
 
@@ -231,11 +245,12 @@ fn compares_bytes_of_live_frames_alone(rt: HostRuntime) -> Result<(), Fail> {
 fn far_apart(alloc: Global, count: usize) -> Result<Vec<Machine>, Fail> {
     let image = image_of(alloc, &STORES_FAR_APART)?;
     let mut machines = Vec::new(alloc);
+    let mut plan = events(alloc, b"")?;
     let mut lines = Vec::new(alloc);
     for _ in 0..count {
         let mut machine = Machine::new(alloc, &image, None, 7)?;
         for _ in 0..7usize {
-            let _ = machine.advance(&mut lines);
+            let _ = machine.advance(&mut plan, &mut lines);
         }
         machines.push(machine)?;
     }
@@ -309,11 +324,12 @@ fn asked(sets: u8) -> Option<u8>
 fn nested(alloc: Global, sets: u8, word: u32) -> Result<(u8, Turn, View), Fail> {
     let image = image_with_sets(alloc, &NESTED_CALLS, word, 0)?;
     let mut machine = Machine::new(alloc, &image, asked(sets), 100)?;
+    let mut plan = events(alloc, b"")?;
     let mut lines = Vec::new(alloc);
     let mut most = 0u8;
     let mut last = Turn::Memory;
     for _ in 0..83usize {
-        last = machine.advance(&mut lines);
+        last = machine.advance(&mut plan, &mut lines);
         most = most.max(machine.held().len());
     }
     Ok((most, last, machine.view()))
@@ -348,11 +364,12 @@ fn holds_as_many_frames_as_there_are_sets(rt: HostRuntime) -> Result<(), Fail> {
 fn sets_anew(alloc: Global, sets: u8, word: u32, other: u32) -> Result<(u8, u8, u8), Fail> {
     let image = image_with_sets(alloc, &CALL_AND_START_ANEW, word, other)?;
     let mut machine = Machine::new(alloc, &image, asked(sets), 100)?;
+    let mut plan = events(alloc, b"")?;
     let mut lines = Vec::new(alloc);
-    let _ = machine.advance(&mut lines);
+    let _ = machine.advance(&mut plan, &mut lines);
     let before = machine.held().size();
     for _ in 0..4usize {
-        let _ = machine.advance(&mut lines);
+        let _ = machine.advance(&mut plan, &mut lines);
     }
     Ok((before, machine.held().size(), machine.held().len()))
 }
@@ -378,12 +395,13 @@ fn a_new_prcb_makes_fewer_sets_and_more(rt: HostRuntime) -> Result<(), Fail> {
 fn reads_a_prcb_in_a_held_frame(rt: HostRuntime) -> Result<(), Fail> {
     let image = image_with_sets(rt.alloc(), &START_BY_A_FRAME, 15, 0)?;
     let mut machine = Machine::new(rt.alloc(), &image, None, 100)?;
+    let mut plan = events(rt.alloc(), b"")?;
     let mut lines = Vec::new(rt.alloc());
     for _ in 0..5usize {
-        let _ = machine.advance(&mut lines);
+        let _ = machine.advance(&mut plan, &mut lines);
     }
     assert_eq!(rt; (machine.held().size(), machine.held().len()), (15, 1));
-    let _ = machine.advance(&mut lines);
+    let _ = machine.advance(&mut plan, &mut lines);
     assert_eq!(rt; (machine.held().size(), machine.held().len()), (7, 0));
     assert_eq!(rt; (machine.view().count, machine.view().ip), (6, 0x1200));
     assert_eq!(rt; machine.byte(36), Some(7));
@@ -394,13 +412,82 @@ fn reads_a_prcb_in_a_held_frame(rt: HostRuntime) -> Result<(), Fail> {
 fn holds_the_frame_of_a_call(rt: HostRuntime) -> Result<(), Fail> {
     let image = image_of(rt.alloc(), &CALL_AND_RETURN)?;
     let mut machine = Machine::new(rt.alloc(), &image, Some(2), 2)?;
+    let mut plan = events(rt.alloc(), b"")?;
     let mut lines = Vec::new(rt.alloc());
     assert_eq!(rt; machine.held().at(0).copied(), None);
-    let _ = machine.advance(&mut lines);
+    let _ = machine.advance(&mut plan, &mut lines);
     let words = [0, 0x40, 0x1004, 0, 0, 0, 0, 0, 0, 0, 0, 0, 0, 0, 0, 0];
     let frame = Frame { address: 0, words };
     assert_eq!(rt; machine.held().at(0).copied(), Some(frame));
-    let _ = machine.advance(&mut lines);
+    let _ = machine.advance(&mut plan, &mut lines);
     assert_eq!(rt; machine.held().len(), 0);
+    Ok(())
+}
+
+/// `lda 0x41, g4` at 1000, and `mov 7, g4` at 1200, where the interrupt that is never masked is handled.
+fn image_with_handler(alloc: Global) -> Result<Segments, Fail> {
+    let mut image = image_of(alloc, &PROGRAM)?;
+    put_word(&mut image, 0x03E4, 0x1200)?;
+    put_word(&mut image, 0x1200, 0x5CA0_0E07)?;
+    Ok(image)
+}
+
+#[test]
+fn meets_events(rt: HostRuntime) -> Result<(), Fail> {
+    let image = image_with_handler(rt.alloc())?;
+    let mut machine = Machine::new(rt.alloc(), &image, None, 2)?;
+    let text = b"at 0 show 1000 4\nat 1 pin 3\nat 1 nmi\nat 2 dma 0\n";
+    let mut plan = events(rt.alloc(), text)?;
+    let mut lines = Vec::new(rt.alloc());
+    // The event at the start comes before the first instruction, and the others before the second one: the pin,
+    // which is masked, and then the interrupt that is never masked, whose handler is entered at once.
+    let steps = [
+        (false, 0, 0x1000),
+        (true, 1, 0x1004),
+        (false, 1, 0x1004),
+        (false, 1, 0x1004),
+        (false, 1, 0x1200),
+        (true, 2, 0x1204),
+    ];
+    let mut views = Vec::new(rt.alloc());
+    for (issued, count, ip) in steps {
+        let turn = machine.advance(&mut plan, &mut lines);
+        assert_eq!(rt; matches!(turn, Turn::Issued(_)), issued);
+        let view = machine.view();
+        assert_eq!(rt; (view.count, view.ip), (count, ip));
+        views.push(view)?;
+    }
+    // No event at the length is reached.
+    assert_eq!(rt; machine.advance(&mut plan, &mut lines), Turn::End(End::Limit));
+    assert_eq!(rt; plan.next().is_some(), true);
+    // The frame of the handler stands above sp, since an interrupt is handled, and above its record.
+    let entered = views[4];
+    assert_eq!(rt;
+        (entered.regs[31], entered.regs[0], entered.regs[1], entered.pc),
+        (0x50, 7, 0x90, 0x1F_2002)
+    );
+    assert_eq!(rt; (machine.byte(0x48), machine.byte(0x42)), (Some(248), Some(0x1F)));
+    let mut list = ArrayVec::new();
+    for byte in [0x41, 0x00, 0xA0, 0x8C] {
+        list.push(Some(byte));
+    }
+    let event = |count: u64, event: Event| Line::Event { count, event };
+    let point = |kind: Point, view: View| Line::Point { kind, view };
+    let wanted = [
+        event(0, Event::Show(0x1000, 4)),
+        Line::Bytes {
+            address: 0x1000,
+            list,
+        },
+        point(Point::Event, views[0]),
+        event(1, Event::Pin(3)),
+        point(Point::Event, views[2]),
+        event(1, Event::Nmi),
+        point(Point::Event, views[3]),
+        point(Point::Int, views[4]),
+        point(Point::End, views[5]),
+        Line::End(End::Limit),
+    ];
+    assert_eq!(rt; lines.as_slice(), wanted.as_slice());
     Ok(())
 }

@@ -5,14 +5,14 @@ ghost use Rattle.i9_model.specs.Step.{moved};
 ghost use Rattle.i9_processor.specs.Effect.{action_in, AreRegisters, CanPost, CanControl, CanMove};
 ghost use Rattle.i9_processor.specs.State.{state_of};
 
-use crate::{Planned, Words, plan_entry, plan_faulting, plan_next};
+use crate::{Planned, Words, plan_entry, plan_event, plan_faulting, plan_interrupt, plan_next};
 use Rest::{Flushes, Group, Nothing, Restart, Returns, Saves, Stores};
 use Seen::{Faults, Meets, NotBuilt, Refused, Runs};
 use i9_faults::{Fault, FaultStop};
 use i9_hex::Segments;
 use i9_isa::Op;
-use i9_model::Push;
-use i9_processor::{Control, Effect, Move, Processor};
+use i9_model::{Cause, Chosen, Event, Push};
+use i9_processor::{Control, Effect, Move, Posting, Processor};
 use std::alloc::Global;
 use std::test::Fail;
 
@@ -129,12 +129,18 @@ fn booted(alloc: Global, at: u32, program: (u32, u32)) -> Result<Processor, Fail
         (0xFFFF_FF14, 0x2000),
         (0x2000, 0x1100),
         (0x2004, 0x6000),
+        (0x2010, 0x1400),
         (0x2014, 0x5500),
         (0x201C, 0x3000),
         (0x1110, 0x1300),
         (0x1118, 0x0001),
         (0x5544, 0x1204),
         (0x4000, 0x6543_8721),
+        // Software asks for vector 18; the handlers of 18 and 248.
+        (0x1400, 0x0000_0004),
+        (0x1404, 0x0004_0000),
+        (0x144C, 0x1700),
+        (0x17E4, 0x1600),
     ];
     let mut image = Segments::new(alloc);
     for (address, word) in words {
@@ -205,7 +211,7 @@ fn ready(alloc: Global, at: u32, program: (u32, u32), ac: u32, pc: u32) -> Resul
 }
 
 /// What stands where nothing is done: the arithmetic and process controls, a word, and what is seen.
-const STOPS: [(u32, u32, u32, Seen); 18] = [
+const STOPS: [(u32, u32, u32, Seen); 17] = [
     // A word that is refused, and one whose operand is.
     (0, PC, 0x0000_0000, Refused(2, 1)),
     (0, PC, 0x5DA0_0611, Refused(2, 4)),
@@ -224,10 +230,9 @@ const STOPS: [(u32, u32, u32, Seen); 18] = [
     (PRECISE, PC, 0x70A1_1D80, Faults(Op::Divo, 3, 2)),
     // faulte where it is equal.
     (2, PC, 0x1A00_0000, Faults(Op::Faulte, 5, 1)),
-    // modpc that lowers the priority, sysctl 0, mov of a special function register.
-    (0, PC, 0x65C5_C297, NotBuilt),
-    (0, PC, 0x65A0_1483, NotBuilt),
-    (0, PC, 0x5CA0_0620, NotBuilt),
+    // mov of sf2, and of sf0 in user mode.
+    (0, PC, 0x5CA0_0622, NotBuilt),
+    (0, USER, 0x5CA0_0620, Faults(Op::Mov, 10, 1)),
     // Whatever stands there while trace enable is set: addo, and a word that is refused.
     (0, TRACED, 0x59A1_1803, NotBuilt),
     (0, TRACED, 0x0000_0000, NotBuilt),
@@ -256,7 +261,7 @@ fn plans_stops(rt: HostRuntime) -> Result<(), Fail> {
 
 /// What is done to registers and controls: the arithmetic controls, a word, its name, the register
 /// that is set, and the arithmetic, process and trace controls and the next address behind it.
-const RESULTS: [(u32, u32, Op, Option<(u8, u32)>, (u32, u32, u32, u32)); 13] = [
+const RESULTS: [(u32, u32, Op, Option<(u8, u32)>, (u32, u32, u32, u32)); 14] = [
     // addo 3, 4, g4; cmpo 3, 4; lda; addi that overflows, masked; ldib at 4001.
     (0, 0x59A1_1803, Op::Addo, Some((20, 7)), (0, PC, 0, 0x1004)),
     (1, 0x5A01_1803, Op::Cmpo, None, (4, PC, 0, 0x1004)),
@@ -281,6 +286,8 @@ const RESULTS: [(u32, u32, Op, Option<(u8, u32)>, (u32, u32, u32, u32)); 13] = [
         Some((20, 0xFFFF_FF87)),
         (0, PC, 0, 0x1004),
     ),
+    // mov of sf1, which is 0.
+    (0, 0x5CA0_0621, Op::Mov, Some((20, 0)), (0, PC, 0, 0x1004)),
     // cmpobe, taken and not; faulte where it is greater; b; bal.
     (0, 0x3200_E010, Op::Cmpobe, None, (2, PC, 0, 0x1010)),
     (0, 0x3208_E010, Op::Cmpobe, None, (1, PC, 0, 0x1004)),
@@ -416,5 +423,102 @@ fn plans_faults(rt: HostRuntime) -> Result<(), Fail> {
     };
     let other = Fault { kind: 3, ..fault };
     assert_eq!(rt; plan_entry(&p, &other).err(), Some(dead));
+    Ok(())
+}
+
+/// What is done to interrupts: the process controls, a word, the bytes with bits of requests, what is
+/// posted, and the process controls and the check flag afterwards.
+type Posts = (u32, u32, &'static [(u32, u8)], Posting, (u32, bool));
+
+#[test]
+fn plans_posts(rt: HostRuntime) -> Result<(), Fail> {
+    let rows: [Posts; 6] = [
+        // mov 5, sf0, and sf1; sysctl 0 for vector 0, beside vector 18.
+        (PC, 0x5C00_2E05, &[], Posting::Pending(5), (PC, false)),
+        (PC, 0x5C08_2E05, &[], Posting::Mask(5), (PC, false)),
+        (
+            PC,
+            0x65A0_1483,
+            &[(0x1400, 5), (0x1404, 1)],
+            Posting::Keeps,
+            (PC, true),
+        ),
+        // modpc that lowers the priority, leaves it alone, and raises it.
+        (PC, 0x65C5_C297, &[], Posting::Keeps, (0x2002, true)),
+        (PC, 0x65B5_8296, &[], Posting::Keeps, (TRACED, false)),
+        (2, 0x65BD_C297, &[], Posting::Keeps, (0x001F_0002, false)),
+    ];
+    for (pc, word, requests, posting, (after, check)) in rows {
+        let p = ready(rt.alloc(), 0x1000, (word, 0), 0, pc)?;
+        let mut effect = Effect::blank();
+        match plan_next(&p, &mut effect) {
+            Planned::Runs { .. } => {
+                assert_eq!(rt; effect.requests.as_slice(), requests);
+                assert_eq!(rt; effect.posting, posting);
+                assert_eq!(rt; (effect.pc, effect.check), (after, check));
+            }
+            _ => assert!(rt; false, "{word}"),
+        }
+    }
+    Ok(())
+}
+
+#[test]
+fn plans_interrupts(rt: HostRuntime) -> Result<(), Fail> {
+    // The handler's frame stands on the stack in use, since an interrupt is handled, and above a
+    // record of sixteen bytes.
+    let push = Push {
+        save: 0x3040,
+        frame: 0x3090,
+        pfp: 0x3047,
+        sp: 0x30D0,
+    };
+    let rows: [(u8, Cause, u32, u32, &[(u32, u8)]); 2] = [
+        (248, Cause::Nmi, 0x1600, 0x001F_2002, &[]),
+        (
+            18,
+            Cause::Soft,
+            0x1700,
+            0x0002_2002,
+            &[(0x1400, 0), (0x1406, 0)],
+        ),
+    ];
+    for (vector, cause, handler, pc, requests) in rows {
+        let p = ready(rt.alloc(), 0x1000, (0, 0), PRECISE, PC)?;
+        match plan_interrupt(&p, &Chosen { vector, cause }) {
+            Ok(effect) => {
+                assert_eq!(rt;
+                    (rest_of(&effect), effect.address),
+                    (Saves(push, 0x1000), 0x3080)
+                );
+                let record = [
+                    2, 0x20, 0x1F, 0, 0, 0x80, 0, 0, vector, 0, 0, 0, 0, 0, 0, 0,
+                ];
+                assert_eq!(rt; effect.bytes.as_slice(), record.as_slice());
+                assert_eq!(rt; effect.requests.as_slice(), requests);
+                assert_eq!(rt; effect.posting, Posting::Clears(cause));
+                assert_eq!(rt; controls_of(&effect), (PRECISE, pc, 0, handler));
+            }
+            Err(_) => assert!(rt; false, "no entry"),
+        }
+    }
+    Ok(())
+}
+
+#[test]
+fn plans_events(rt: HostRuntime) -> Result<(), Fail> {
+    let p = ready(rt.alloc(), 0x1000, (0, 0), 1, PC)?;
+    let rows = [
+        (Event::Pin(3), Posting::Pin(3)),
+        (Event::Nmi, Posting::Nmi),
+        (Event::Dma(1), Posting::Keeps),
+        (Event::Show(0x3000, 4), Posting::Keeps),
+    ];
+    for (event, posting) in rows {
+        let effect = plan_event(&p, &event);
+        assert_eq!(rt; (rest_of(&effect), set_of(&effect)), (Nothing, None));
+        assert_eq!(rt; controls_of(&effect), (1, PC, 0, 0x1000));
+        assert_eq!(rt; (effect.posting, effect.check), (posting, false));
+    }
     Ok(())
 }

@@ -45,7 +45,7 @@ pub enum Control {
 }
 
 /// What is done to the interrupts that are posted, and to the lines that are not masked.
-#[derive(Clone, Copy, Debug)]
+#[derive(Clone, Copy, Debug, PartialEq, Eq)]
 pub enum Posting {
     /// Nothing.
     Keeps,
