@@ -1,8 +1,11 @@
 pub mod Entered
+pub mod Vectors
 pub mod KeptBits
+pub mod KeptLines
 pub mod Decoded
 pub mod StoredWords
 pub mod ResultWords
+pub mod BytesAfter
 pub mod WordsAfter
 pub mod LiveFrames
 pub mod FrameRegisters
