@@ -12,3 +12,5 @@ pub mod FrameRegisters
 pub mod Pushes
 pub mod RecordWords
 pub mod Returns
+pub mod RunsAgain
+pub mod Passed
