@@ -14,6 +14,9 @@ use Rattle.i9_isa.proofs.Decoding.{decoded_encodes}
 use Rattle.i9_model.specs.declared.faults.Entry.{Entry}
 use Rattle.i9_model.specs.declared.faults.FaultStop.{FaultStop}
 use Rattle.i9_model.specs.declared.faults.FaultStop.TheVariants as stops
+use Rattle.i9_model.specs.declared.interrupts.Chosen.{Chosen}
+use Rattle.i9_model.specs.declared.event.Event.{Event}
+use Rattle.i9_model.specs.Before.{choice_in, interrupt_in}
 use Rattle.i9_model.specs.State.{State}
 use Rattle.i9_model.specs.Step.{first_word, next_word}
 use Rattle.i9_model.specs.Access.{hazard_of, fetch_hazard}
@@ -22,7 +25,7 @@ use Rattle.i9_model.specs.Standing.{Standing, Meets, NotBuilt, Refused, Faults, 
 use Rattle.i9_model.specs.declared.run.Due.{Due}
 use Rattle.i9_model.specs.declared.run.Due.TheVariants as dues
 use Rattle.i9_model.specs.declared.run.End.TheVariants.{Limit}
-use Rattle.i9_model.specs.Run.{Kind, Instruction, Faulted, Entered, Record, record_of, Does, Ends, next_by_standing, next_by_entry, entry_in, next_in, fault_at}
+use Rattle.i9_model.specs.Run.{Kind, Instruction, Faulted, Entered, Interrupted, Reached, Record, record_of, Does, Ends, next_by_standing, next_by_entry, entry_in, next_by_event, next_by_interrupt, next_by_choice, next_in, fault_at}
 
 -- ---- what is done is decoded
 
@@ -52,7 +55,7 @@ raised_stands s i None d = by_precision (is_imprecise i s)
 
 word_stands : (s : State) (r : Result Inst BadWord) → decoded (first_word s) (next_word s) ≡ r → Stands s (by_word s r)
 word_stands s (Err e) d = tt
-word_stands s (Ok i) d = by_form (is_built i s)
+word_stands s (Ok i) d = by_form (is_built i)
   where
     by_form : (b : Bool) → Stands s (cond b (by_raised i s (raised_in i s)) NotBuilt)
     by_form true = raised_stands s i (raised_in i s) d
@@ -70,6 +73,8 @@ abbrev pub IsRead : State → Kind → Type 0
 IsRead s (Instruction i) = IsDecoded s i
 IsRead s (Faulted inst fault) = Unit {0}
 IsRead s (Entered e) = Unit {0}
+IsRead s (Interrupted c e) = Unit {0}
+IsRead s (Reached e) = Unit {0}
 
 read_by : (s : State) (k : Kind) (r : Record) → IsRead s k → Does (record_of k s) ≡ Does r → IsRead s r.kind
 read_by s k r d e = let same : record_of k s ≡ r = cc in subst (λ (q : Record). IsRead s q.kind) same d
@@ -86,15 +91,30 @@ entry_read s (Ok x) r e = read_by s (Entered x) r tt e
 entry_read s (Err (stops.Hazard a)) r e = absurd cc
 entry_read s (Err (stops.Dead code a)) r e = absurd cc
 
-pub next_read : (limit : ℕ) (due : Due) (s : State) (r : Record) → next_in limit due s ≡ Does r → IsRead s r.kind
+event_read : (stands : Option Event) (s : State) (r : Record) → next_by_event stands s ≡ Does r → IsRead s r.kind
 unfolding stands_at
-next_read limit (dues.End f) s r e = absurd cc
-next_read limit (dues.Entry fault) s r e = entry_read s (entry_in s fault) r e
-next_read limit dues.Nothing s r e = by_length (eqb s.count limit) e
+event_read (Some x) s r e = read_by s (Reached x) r tt e
+event_read None s r e = standing_read s (stands_at s) r (fetch_stands s (fetch_hazard s)) e
+
+interrupt_read : (s : State) (c : Chosen) (o : Result Entry ℕ) (r : Record) → next_by_interrupt s c o ≡ Does r → IsRead s r.kind
+interrupt_read s c (Ok x) r e = read_by s (Interrupted c x) r tt e
+interrupt_read s c (Err a) r e = absurd cc
+
+choice_read : (stands : Option Event) (s : State) (o : Result (Option Chosen) ℕ) (r : Record) → next_by_choice stands s o ≡ Does r
+    → IsRead s r.kind
+choice_read stands s (Ok (Some c)) r e = interrupt_read s c (interrupt_in s c) r e
+choice_read stands s (Ok None) r e = event_read stands s r e
+choice_read stands s (Err a) r e = absurd cc
+
+pub next_read : (limit : ℕ) (due : Due) (stands : Option Event) (s : State) (r : Record) → next_in limit due stands s ≡ Does r
+    → IsRead s r.kind
+next_read limit (dues.End f) stands s r e = absurd cc
+next_read limit (dues.Entry fault) stands s r e = entry_read s (entry_in s fault) r e
+next_read limit dues.Nothing stands s r e = by_length (eqb s.count limit) e
   where
-    by_length : (b : Bool) → cond b (Ends Limit) (next_by_standing s (stands_at s)) ≡ Does r → IsRead s r.kind
+    by_length : (b : Bool) → cond b (Ends Limit) (next_by_choice stands s (choice_in s)) ≡ Does r → IsRead s r.kind
     by_length true h = absurd cc
-    by_length false h = standing_read s (stands_at s) r (fetch_stands s (fetch_hazard s)) h
+    by_length false h = choice_read stands s (choice_in s) r h
 
 -- ---- its literals
 

@@ -1,7 +1,7 @@
 -- What a system call and the entry of a fault enter: a procedure on the stack in use, or one on the supervisor stack, by
--- words of memory.
-use Rattle.std.proofs.Common.{◌≡◌, ℕ, Bool, true, false, cond, Option, Some, None, Result, Ok, Err, refl, subst}
-use Rattle.std.specs.Prelude.{◌+◌, ◌/◌, ◌%◌, ◌==◌, not, nat_le}
+-- words of memory; and what the entry of an interrupt makes.
+use Rattle.std.proofs.Common.{◌≡◌, ℕ, Bool, true, false, cond, None, Ok, Err, subst}
+use Rattle.std.specs.Prelude.{◌+◌, ◌/◌, ◌%◌, ◌==◌, not, nat_le, List}
 use Rattle.i9_isa.specs.declared.inst.Inst.{Inst}
 use Rattle.i9_model.specs.declared.layout.TheConstants.{FP, SP, RECORD_SIZE, FAULT_RETURN, MOST_SYSTEM_CALL}
 use Rattle.i9_model.specs.declared.calls.Sys.{Sys}
@@ -11,18 +11,22 @@ use Rattle.i9_model.specs.declared.faults.Entry.{Entry}
 use Rattle.i9_model.specs.declared.faults.Handler.{Handler}
 use Rattle.i9_model.specs.declared.faults.Handler.TheVariants.{Local, System}
 use Rattle.i9_model.specs.declared.faults.FaultStop.{FaultStop}
+use Rattle.i9_model.specs.declared.push.Push.{Push}
+use Rattle.i9_model.specs.declared.interrupts.Chosen.{Chosen}
 use Rattle.i9_model.specs.Writes.{wrapped}
 use Rattle.i9_model.specs.Memory.{Memory, word_in}
 use Rattle.i9_model.specs.State.{State, Frames}
 use Rattle.i9_model.specs.Frames.{rounded_down}
-use Rattle.i9_model.specs.Hazards.{unless, read_hazard, save_hazard}
+use Rattle.i9_model.specs.Hazards.{or_else, unless, read_hazard, save_hazard}
 use Rattle.i9_model.specs.Operands.{value}
 use Rattle.i9_model.specs.Calls.{entry_address, stack_address, is_switch, call_type, entered_here, entered_switched, system_entered, system_hazard}
 use Rattle.i9_model.specs.Faults.{◌>>=◌, or_stop, table_entry, checked_word, handler_of, planned_handler, planned_frame, entry_of, planned_fault}
 use Rattle.i9_model.specs.Hazards.{record_write_hazard}
 use Rattle.i9_model.specs.Step.{system_call}
 use Rattle.i9_model.specs.Run.{entry_in}
-use Rattle.i9_model.proofs.CallLaws.{unless_ok, stop_ok, bind_ok}
+use Rattle.i9_model.specs.Interrupts.{vector_place, interrupt_push, interrupt_record, cleared_hazard, interrupt_hazard, interrupt_entry, planned_interrupt}
+use Rattle.i9_model.specs.Before.{interrupt_in}
+use Rattle.i9_model.proofs.CallLaws.{first_none, second_none, unless_ok, stop_ok, bind_ok}
 
 -- something holds of a procedure that is entered, above a record of so many bytes, in either way
 pub record Ways (P : Sys → Type 0) (m : Memory) (pc fp sp extra : ℕ) (kind : Bool → ℕ) : Type 0 where
@@ -112,3 +116,30 @@ entry_by P s fault e ways ok =
       done.1,
       done.0,
     )
+
+-- ---- the entry of an interrupt
+
+-- its push, and the words of its record
+abbrev pub push_for : State → Push
+push_for s = interrupt_push s.tables.interrupt_stack s.pc (s.regs FP) (s.regs SP)
+
+abbrev pub words_for : State → Chosen → List ℕ
+words_for s c = interrupt_record c.vector s.pc s.ac
+
+abbrev pub entry_for : State → Chosen → Entry
+entry_for s c = interrupt_entry s.memory s.tables.interrupt_table c (push_for s) (words_for s c)
+
+-- where it meets no hazard, its record meets none
+pub interrupt_made : (s : State) (c : Chosen) (e : Entry) → interrupt_in s c ≡ Ok e
+    → (entry_for s c ≡ e) × (record_write_hazard s.frames (push_for s) ≡ None)
+unfolding interrupt_in planned_interrupt interrupt_hazard
+interrupt_made s c e ok =
+    let f = s.frames in
+    let push = push_for s in
+    let vector = read_hazard f (vector_place s.tables.interrupt_table c.vector) 4 in
+    let clears = cleared_hazard s.memory f s.tables.interrupt_table c push (words_for s c) in
+    let records = or_else (record_write_hazard f push) clears in
+    let saves = or_else (save_hazard f push.save) records in
+    let found = unless_ok (or_else vector saves) (entry_for s c) e ok in
+    let later = second_none (save_hazard f push.save) records (second_none vector saves found.0) in
+    (found.1, first_none (record_write_hazard f push) clears later)

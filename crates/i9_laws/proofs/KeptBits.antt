@@ -1,7 +1,6 @@
 -- Along every run controls keep to their masks, and the instruction address is a multiple of 4.
 use Rattle.std.proofs.Common.{◌≡◌, ℕ, ◌+◌, ◌*◌, ◌/◌, ◌%◌, ◌^◌, Bool, true, false, cond, eqb, List, [], ◌∷◌, Option, Some, None, Ok, refl, sym, ap, ◌∙◌, subst, arith, bit_and, bit_or, ℤ}
 use Rattle.std.specs.Prelude.{not, slice_index, ◌==◌, ◌+ℤ◌, ◌-ℤ◌, ◌*ℤ◌, pos}
-use Rattle.std.specs.Int.Bits.{and_self}
 use Rattle.std.specs.Int.{bit_at}
 use Rattle.std.specs.Int.RustNames.{int_div}
 use Rattle.std.proofs.lemmas.Nat.{and_assoc, and_comm, and_mod, and_mask, and_shr}
@@ -33,23 +32,27 @@ use Rattle.i9_model.specs.Boot.{setup_of, boot_setup}
 use Rattle.i9_model.specs.Calls.{in_supervisor_mode, takes_record, leaves_supervisor, with_supervisor, without_supervisor, saved_pc, saved_ac, return_type, popped}
 use Rattle.i9_model.specs.Tables.{group_words}
 use Rattle.i9_model.specs.Controls.{Control, KeepsControls, Restarts, LoadsGroup, controlled}
-use Rattle.i9_model.specs.Step.{Action, going, following, branching, resulting, controls_of, answer_in, moving, action_by_name, action_by, action_of, Message, AsksNothing, AsksRestart, AsksGroup, message_kind, message_of, message_action, system_call, calls_action, entering, moved, acted}
+use Rattle.i9_model.specs.Step.{Action, going, following, branching, resulting, controls_of, answer_in, moving, action_by_name, action_by, action_of, Message, AsksNothing, AsksInterrupt, AsksRestart, AsksGroup, message_kind, message_of, message_action, system_call, calls_action, entering, moved, acted}
 use Rattle.i9_model.specs.declared.run.Due.{Due}
-use Rattle.i9_model.specs.Run.{Given, Record, Kind, Instruction, Faulted, Entered, action_by_kind, due_after, state_after, IsPast, entry_in, faulted_words}
+use Rattle.i9_model.specs.declared.interrupts.Chosen.{Chosen}
+use Rattle.i9_model.specs.declared.event.Event.{Event}
+use Rattle.i9_model.specs.Before.{choice_in, interrupt_in, interrupting}
+use Rattle.i9_model.specs.Run.{Given, Record, Kind, Instruction, Faulted, Entered, Interrupted, Reached, action_by_kind, due_after, event_after, state_after, IsPast, entry_in, faulted_words}
 use Rattle.i9_model.proofs.ControlLaws.{by_group}
 use Rattle.i9_model.proofs.Comes.{MayCome, next_comes}
 use Rattle.i9_model.proofs.KeptBits.{masked, same_above}
 use Rattle.i9_laws.specs.Kept.{IsWithin}
-use Rattle.i9_laws.proofs.Entered.{call_by, entry_by}
+use Rattle.i9_laws.proofs.Entered.{call_by, entry_by, interrupt_made}
+use Rattle.i9_laws.proofs.Vectors.{vector_small, interrupt_kept}
 
 -- ---- masks
 
 -- a word that is masked once more has no other bits
-masked_more : (mask w n : ℕ) → IsWithin mask w → IsWithin mask (bit_and w n)
+pub masked_more : (mask w n : ℕ) → IsWithin mask w → IsWithin mask (bit_and w n)
 masked_more mask w n h = and_assoc mask w n ∙ ap (bit_and w) (and_comm n mask) ∙ sym (and_assoc n w mask) ∙ ap (λ (x : ℕ). bit_and x n) h
 
 -- two such words joined
-masked_or : (mask w x : ℕ) → IsWithin mask w → IsWithin mask x → IsWithin mask (bit_or w x)
+pub masked_or : (mask w x : ℕ) → IsWithin mask w → IsWithin mask x → IsWithin mask (bit_or w x)
 masked_or mask w x h k = same_from_bits (bit_and (bit_or w x) mask) (bit_or w x) (λ i.
     let p = sym (bit_at_and w mask i) ∙ ap (λ (n : ℕ). bit_at n i) h in
     let q = sym (bit_at_and x mask i) ∙ ap (λ (n : ℕ). bit_at n i) k in
@@ -193,6 +196,7 @@ read_kept false w ac h = h
 
 message_kept : (m : Message) (i : Inst) (s : State) → IsKept s → Keeps (message_action m i s)
 message_kept AsksNothing i s h = passing_kept s i h
+message_kept AsksInterrupt i s h = let k = passing_kept s i h in record { ac = k.ac; pc = k.pc; tc = k.tc; ip = k.ip }
 message_kept AsksRestart i s h = let k = passing_kept s i h in record { ac = k.ac; pc = k.pc; tc = k.tc; ip = k.ip }
 message_kept AsksGroup i s h = let k = passing_kept s i h in record { ac = k.ac; pc = k.pc; tc = k.tc; ip = k.ip }
 
@@ -245,12 +249,21 @@ entering_kept s fault e h ok =
     let pc = masked_more PC_MASK made.0.pc (complement TRACE_MASK) made.1.0 in
     subst (λ (x : Entry). Keeps (entering x s)) made.2 (record { ac = h.ac; pc = pc; tc = h.tc; ip = made.1.1 })
 
-kind_kept : (limit : ℕ) (due : Due) (k : Kind) (s : State) → MayCome limit due s k → IsKept s → Keeps (action_by_kind k s)
-kind_kept limit due (Instruction i) s may h = instruction_kept i s h
-kind_kept limit due (Faulted inst fault) s may h =
+interrupting_kept : (s : State) (c : Chosen) (e : Entry) → IsKept s → choice_in s ≡ Ok (Some c) → interrupt_in s c ≡ Ok e
+    → Keeps (interrupting c e s)
+interrupting_kept s c e h chosen ok =
+    let pc = interrupt_kept c.vector (vector_small s c chosen) in
+    subst (λ (x : Entry). Keeps (interrupting c x s)) (interrupt_made s c e ok).0 (record { ac = h.ac; pc = pc; tc = h.tc; ip = aligned_even _ })
+
+kind_kept : (limit : ℕ) (due : Due) (stands : Option Event) (k : Kind) (s : State) → MayCome limit due stands s k → IsKept s
+    → Keeps (action_by_kind k s)
+kind_kept limit due stands (Instruction i) s may h = instruction_kept i s h
+kind_kept limit due stands (Faulted inst fault) s may h =
     let words = faulted_words inst in
     going_kept s (wrapped (s.ip + 4 * words)) h (following_even s words h)
-kind_kept limit due (Entered e) s may h = entering_kept s may.0 e h may.2
+kind_kept limit due stands (Entered e) s may h = entering_kept s may.0 e h may.2
+kind_kept limit due stands (Interrupted c e) s may h = interrupting_kept s c e h may.2 may.3
+kind_kept limit due stands (Reached e) s may h = record { ac = h.ac; pc = h.pc; tc = h.tc; ip = h.ip }
 
 -- ---- the state after it
 
@@ -281,6 +294,6 @@ pub kept_after : (g : Given) (rs : List Record) → IsPast g rs → IsKept (stat
 kept_after g [] past = boot_kept g.image
 kept_after g (r ∷ rs) past =
     let s = state_after g rs in
-    let comes = next_comes g.length (due_after rs) s r past.1 in
-    let keeps = kind_kept g.length (due_after rs) r.kind s comes.1 (kept_after g rs past.0) in
+    let comes = next_comes g.length (due_after rs) (event_after g rs) s r past.1 in
+    let keeps = kind_kept g.length (due_after rs) (event_after g rs) r.kind s comes.1 (kept_after g rs past.0) in
     subst (λ (q : Record). IsKept q.after) (sym comes.0) (acted_kept s (action_by_kind r.kind s) keeps)

@@ -1,11 +1,16 @@
 pub mod Entered
+pub mod Vectors
 pub mod KeptBits
+pub mod KeptLines
 pub mod Decoded
 pub mod StoredWords
 pub mod ResultWords
+pub mod BytesAfter
 pub mod WordsAfter
 pub mod LiveFrames
 pub mod FrameRegisters
 pub mod Pushes
 pub mod RecordWords
 pub mod Returns
+pub mod RunsAgain
+pub mod Passed

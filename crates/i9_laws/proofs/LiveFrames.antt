@@ -10,7 +10,8 @@ use Rattle.i9_model.specs.Writes.{wrapped}
 use Rattle.i9_model.specs.Memory.{Memory, word_in}
 use Rattle.i9_model.specs.State.{State, Frames, started, boot}
 use Rattle.i9_model.specs.Step.{Move, Stays, Saves, Returns, Flushes, frames_after, moved}
-use Rattle.i9_model.specs.Run.{Given, Record, Does, record_of, action_by_kind, due_after, action_done, state_after, next, IsPast}
+use Rattle.i9_model.specs.Run.{Given, Record, Does, record_of, action_by_kind, due_after, action_done, event_after, state_after, next, IsPast}
+use Rattle.i9_model.specs.ScheduleText.{IsPlan}
 use Rattle.i9_model.specs.HeldFrames.{Cache, frame_at, spilled, cache_moved, cache_after, AreInMemory}
 use Rattle.i9_model.proofs.ControlLaws.{acted-frames}
 use Rattle.i9_model.proofs.Comes.{next_comes}
@@ -33,7 +34,7 @@ moved_addresses Flushes f live e = refl
 
 -- a record's action, from the state before it
 pub done_from : (g : Given) (r : Record) (rs : List Record) → next g rs ≡ Does r → r ≡ record_of r.kind (state_after g rs)
-done_from g r rs e = (next_comes g.length (due_after rs) (state_after g rs) r e).0
+done_from g r rs e = (next_comes g.length (due_after rs) (event_after g rs) (state_after g rs) r e).0
 
 pub live_addresses : (g : Given) (rs : List Record) → IsPast g rs → (state_after g rs).frames.live ≡ addresses_of (live_after rs)
 unfolding boot started moved
@@ -125,7 +126,7 @@ live_in_memory g rs past =
     same_state [] = refl
     same_state (q ∷ qs) = refl
 
--- ---- where the bytes of the image have 8 bits
+-- ---- where the bytes of the image have 8 bits, and the plan is one of a schedule
 
 abbrev IsFrame : Frame → Type 0
 IsFrame f = IsWord f.address × (length f.words ≡ LOCALS) × AreWords f.words
@@ -140,10 +141,10 @@ moved_frames Returns [] h all = tt
 moved_frames Returns (f ∷ live) h all = all.1
 moved_frames Flushes live h all = tt
 
-live_frames : (g : Given) (rs : List Record) → HasBytes g.image → IsPast g rs → AreFrames (live_after rs)
-live_frames g [] image past = tt
-live_frames g (r ∷ rs) image past =
-    moved_frames (action_done r).move (live_after rs) (saved_after g r rs image past) (live_frames g rs image past.0)
+live_frames : (g : Given) (rs : List Record) → HasBytes g.image → IsPlan g.plan → IsPast g rs → AreFrames (live_after rs)
+live_frames g [] image plan past = tt
+live_frames g (r ∷ rs) image plan past =
+    moved_frames (action_done r).move (live_after rs) (saved_after g r rs image plan past) (live_frames g rs image plan past.0)
 
 all_saved : (m : Memory) (live : List Frame) → AreFrames live → AreInMemory m live → AreSaved m live
 all_saved m [] all stand = tt
@@ -152,5 +153,7 @@ all_saved m (f ∷ live) all stand =
     let same = fill_by_all word f.words LOCALS 0 all.0.1 (λ k h. sym (stand.0 all.0.0 k h (item_word f.words k all.0.2))) in
     (sym same, all_saved m live all.1 stand.1)
 
-pub live_saved : (g : Given) (rs : List Record) → HasBytes g.image → IsPast g rs → AreSaved (state_after g rs).memory (live_after rs)
-live_saved g rs image past = all_saved (state_after g rs).memory (live_after rs) (live_frames g rs image past) (live_in_memory g rs past)
+pub live_saved : (g : Given) (rs : List Record) → HasBytes g.image → IsPlan g.plan → IsPast g rs
+    → AreSaved (state_after g rs).memory (live_after rs)
+live_saved g rs image plan past =
+    all_saved (state_after g rs).memory (live_after rs) (live_frames g rs image plan past) (live_in_memory g rs past)

@@ -1,11 +1,11 @@
--- A call, or the entry of a fault, saves the locals with its return address, and leaves its type in pfp.
-use Rattle.std.proofs.Common.{◌≡◌, ℕ, ◌+◌, ◌<◌, Bool, true, false, List, ◌∷◌, None, Ok, refl, sym, ap, ◌∙◌, subst, arith}
+-- A call, or the entry of a fault or of an interrupt, saves the locals with its return address, and leaves its type in pfp.
+use Rattle.std.proofs.Common.{◌≡◌, ℕ, ◌+◌, ◌<◌, Bool, true, false, List, ◌∷◌, Option, None, Ok, refl, sym, ap, ◌∙◌, subst, arith}
 use Rattle.std.specs.Prelude.{IsTrue, replicate}
 use Rattle.i9_isa.specs.declared.op.Op.{Op}
 use Rattle.i9_isa.specs.declared.op.Op.TheVariants.{Call, Callx, Calls}
 use Rattle.i9_isa.specs.declared.inst.Inst.{Inst}
 use Rattle.i9_isa.specs.Transfers.{transfer_of}
-use Rattle.i9_model.specs.declared.layout.TheConstants.{PFP, FP, SP, LOCAL_RETURN, FAULT_RETURN}
+use Rattle.i9_model.specs.declared.layout.TheConstants.{PFP, FP, SP, LOCAL_RETURN, FAULT_RETURN, INTERRUPT_RETURN}
 use Rattle.i9_model.specs.declared.push.Push.{Push}
 use Rattle.i9_model.specs.declared.calls.Sys.{Sys}
 use Rattle.i9_model.specs.declared.faults.Fault.{Fault}
@@ -17,10 +17,13 @@ use Rattle.i9_model.specs.Calls.{call_type}
 use Rattle.i9_model.specs.Controls.{Control, KeepsControls, controlled}
 use Rattle.i9_model.specs.Step.{Saves, Action, saved_locals, push_sets, system_call, following, entering, action_by_name, action_by, action_of, moved, acted}
 use Rattle.i9_model.specs.declared.run.Due.{Due}
-use Rattle.i9_model.specs.Run.{Kind, Instruction, Faulted, Entered, action_by_kind, entry_in}
+use Rattle.i9_model.specs.declared.interrupts.Chosen.{Chosen}
+use Rattle.i9_model.specs.declared.event.Event.{Event}
+use Rattle.i9_model.specs.Before.{interrupt_in, interrupting}
+use Rattle.i9_model.specs.Run.{Kind, Instruction, Faulted, Entered, Interrupted, Reached, action_by_kind, entry_in}
 use Rattle.i9_model.proofs.Comes.{MayCome}
 use Rattle.i9_laws.specs.Undone.{is_call_name, is_call, return_address}
-use Rattle.i9_laws.proofs.Entered.{call_by, entry_by}
+use Rattle.i9_laws.proofs.Entered.{call_by, entry_by, entry_for, interrupt_made}
 use Rattle.i9_laws.proofs.FrameRegisters.{frame_local}
 use Rattle.i9_model.specs.Operands.{target, address}
 use Rattle.i9_model.specs.Step.{call_action}
@@ -34,6 +37,8 @@ abbrev pub type_of : Kind → State → ℕ
 type_of (Instruction i) s = type_by_name i.op i s
 type_of (Faulted inst fault) s = LOCAL_RETURN
 type_of (Entered e) s = FAULT_RETURN
+type_of (Interrupted c e) s = INTERRUPT_RETURN
+type_of (Reached e) s = LOCAL_RETURN
 
 -- an action saves the locals with a return address, and goes on in a frame whose pfp has a return type
 pub record Pushes (s : State) (a : Action) (back kind : ℕ) : Type 0 where
@@ -94,11 +99,18 @@ entering_pushes s fault e ok =
       small = omega arith;
     })
 
-pub kind_pushes : (limit : ℕ) (due : Due) (k : Kind) (s : State) → MayCome limit due s k → IsTrue (is_call k)
-    → Pushes s (action_by_kind k s) (return_address k s) (type_of k s)
-kind_pushes limit due (Instruction i) s may h = instruction_pushes i s h
-kind_pushes limit due (Faulted inst fault) s may h = absurd cc
-kind_pushes limit due (Entered e) s may h = entering_pushes s may.0 e may.2
+interrupting_pushes : (s : State) (c : Chosen) (e : Entry) → interrupt_in s c ≡ Ok e → Pushes s (interrupting c e s) s.ip INTERRUPT_RETURN
+interrupting_pushes s c e ok =
+    subst (λ (x : Entry). Pushes s (interrupting c x s) s.ip INTERRUPT_RETURN) (interrupt_made s c e ok).0
+    (record { sets = ((entry_for s c).push, refl, refl); move = refl; control = refl; small = omega arith })
+
+pub kind_pushes : (limit : ℕ) (due : Due) (stands : Option Event) (k : Kind) (s : State) → MayCome limit due stands s k
+    → IsTrue (is_call k) → Pushes s (action_by_kind k s) (return_address k s) (type_of k s)
+kind_pushes limit due stands (Instruction i) s may h = instruction_pushes i s h
+kind_pushes limit due stands (Faulted inst fault) s may h = absurd cc
+kind_pushes limit due stands (Entered e) s may h = entering_pushes s may.0 e may.2
+kind_pushes limit due stands (Interrupted c e) s may h = interrupting_pushes s c e may.3
+kind_pushes limit due stands (Reached e) s may h = absurd cc
 
 pfp_written : (f : ℕ → ℕ) (p : Push) → written f (push_sets p) PFP ≡ p.pfp
 pfp_written f p = frame_local f (p.pfp ∷ p.sp ∷ replicate 14 0) p.frame PFP refl (omega arith)

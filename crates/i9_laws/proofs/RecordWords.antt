@@ -1,30 +1,41 @@
--- The entry of a fault writes the controls into the record below its frame.
-use Rattle.std.proofs.Common.{◌≡◌, ℕ, ◌+◌, ◌*◌, ◌<◌, Bool, true, false, cond, List, [], ◌∷◌, length, get_or, None, Ok, refl, sym, ap, ◌∙◌, subst, arith}
-use Rattle.std.specs.Prelude.{replicate}
+-- The entry of a fault or of an interrupt writes the controls into the record below its frame.
+use Rattle.std.proofs.Common.{◌≡◌, ℕ, ◌+◌, ◌*◌, ◌<◌, Bool, true, false, cond, List, [], ◌∷◌, ◌++◌, length, get_or, Option, None, Ok, refl, inl, sym, ap, ◌∙◌, subst, arith}
+use Rattle.std.specs.Prelude.{◌%◌, ◌==◌, IsTrue, replicate}
+use Rattle.std.proofs.lemmas.Bool.{ne_eqb, or_from}
 use Rattle.std.specs.Int.{w32, from_le_bytes, from_be_bytes, to_le_bytes, to_be_bytes}
 use Rattle.i9_model.specs.declared.layout.TheConstants.{FP, AC_MASK, PC_MASK, RECORD_SIZE}
 use Rattle.i9_model.specs.declared.calls.Sys.{Sys}
 use Rattle.i9_model.specs.declared.faults.Fault.{Fault}
 use Rattle.i9_model.specs.declared.faults.Entry.{Entry}
 use Rattle.i9_model.specs.Writes.{address_count, wrapped, upwards}
-use Rattle.i9_model.specs.Memory.{Memory, region_of, is_big, word_in, word_bytes, with_writes, with_words}
+use Rattle.i9_model.specs.Memory.{Memory, stored, region_of, is_big, word_in, word_bytes, with_writes, with_words}
+use Rattle.i9_model.specs.declared.interrupts.Cause.{Cause}
+use Rattle.i9_model.specs.declared.interrupts.Cause.TheVariants.{Nmi, Line, Soft}
+use Rattle.i9_model.specs.declared.interrupts.Chosen.{Chosen}
+use Rattle.i9_model.specs.declared.event.Event.{Event}
+use Rattle.i9_model.specs.declared.run.Due.{Due}
 use Rattle.i9_model.specs.State.{State}
-use Rattle.i9_model.specs.Frames.{saved}
+use Rattle.i9_model.specs.Frames.{saved, in_bytes, is_put}
 use Rattle.i9_model.specs.Hazards.{write_hazard, port_hazard}
 use Rattle.i9_model.specs.Calls.{record_address, saved_pc, saved_ac}
 use Rattle.i9_model.specs.Faults.{fault_record, entry_of}
 use Rattle.i9_model.specs.Hazards.{record_write_hazard}
 use Rattle.i9_model.specs.Step.{bytes_of_words, saved_locals, entering, moved, acted}
-use Rattle.i9_model.specs.Run.{entry_in}
+use Rattle.i9_model.specs.Interrupts.{without_bit, vector_priority, priority_place, pending_place, left_pending, taken_writes, clearing_writes, record_writes}
+use Rattle.i9_model.specs.Before.{interrupt_in, interrupting}
+use Rattle.i9_model.specs.Run.{Kind, Instruction, Faulted, Entered, Interrupted, Reached, action_by_kind, entry_in}
+use Rattle.i9_model.proofs.Comes.{MayCome}
 use Rattle.i9_model.proofs.CallLaws.{second_none}
 use Rattle.i9_model.proofs.FrameBytes.{stored_at, byte_of_words}
 use Rattle.i9_model.proofs.FrameLaws.{port_hazard-none}
 use Rattle.i9_model.proofs.Overlays.{words_mcon}
 use Rattle.i9_model.proofs.Readings.{in_bytes-has}
 use Rattle.i9_model.proofs.SoundRuns.{words_long}
+use Rattle.i9_model.proofs.Stored.{stored-append}
+use Rattle.i9_model.proofs.Storing.{stored_kept}
 use Rattle.i9_laws.specs.Kept.{IsWord}
-use Rattle.i9_laws.specs.Undone.{HasControls}
-use Rattle.i9_laws.proofs.Entered.{entry_by}
+use Rattle.i9_laws.specs.Undone.{is_entry, AreBeside, LeavesRecord, HasControls}
+use Rattle.i9_laws.proofs.Entered.{entry_by, push_for, words_for, entry_for, interrupt_made}
 use Rattle.i9_laws.proofs.FrameRegisters.{frame_pointer}
 use Rattle.i9_laws.proofs.KeptBits.{IsKept}
 use Rattle.i9_laws.proofs.WordsAfter.{within_word}
@@ -54,19 +65,20 @@ word_back m n x w same low small has =
 
 -- ---- a record
 
--- words that are stored outside the port page stand there
-record_stands : (m n : Memory) (a : ℕ) (ws : List ℕ) (k : ℕ) → n.mcon ≡ m.mcon → a < address_count → port_hazard a RECORD_SIZE ≡ None
-    → length ws ≡ 4 → k < 4 → IsWord (get_or ws k 0)
-    → word_in (with_writes n (upwards a (bytes_of_words m a ws))) (wrapped (a + 4 * k)) ≡ get_or ws k 0
-record_stands m n a ws k same low free four h small =
+-- words that are stored outside the port page stand in every later memory that has their bytes
+record_stands : (m n after : Memory) (a : ℕ) (ws : List ℕ) (k : ℕ) → after.mcon ≡ m.mcon → a < address_count
+    → port_hazard a RECORD_SIZE ≡ None → length ws ≡ 4 → k < 4 → IsWord (get_or ws k 0)
+    → ((x : ℕ) → in_bytes a RECORD_SIZE x ≡ true → after.bytes x ≡ stored n.bytes (upwards a (bytes_of_words m a ws)) x)
+    → word_in after (wrapped (a + 4 * k)) ≡ get_or ws k 0
+record_stands m n after a ws k same low free four h small stays =
     let bs = bytes_of_words m a ws in
     let long = words_long m a ws in
-    let after = with_writes n (upwards a bs) in
     word_back m after (wrapped (a + 4 * k)) (get_or ws k 0) same (omega arith) small (λ j l.
     let place : wrapped (wrapped (a + 4 * k) + j) ≡ wrapped (a + (4 * k + j)) = omega arith in
     let inside = in_bytes-has a RECORD_SIZE (4 * k + j) (omega (arith, h, l)) in
     let outside = port_hazard-none a RECORD_SIZE (wrapped (a + (4 * k + j))) free inside in
     ap after.bytes place
+    ∙ stays (wrapped (a + (4 * k + j))) inside
     ∙ stored_at n.bytes a bs (4 * k + j) (omega (arith, long, four, h, l)) (omega (arith, long, four)) outside
     ∙ byte_of_words m a ws k j low (omega (arith, four, h)) l)
 
@@ -80,9 +92,9 @@ entering_writes s fault e kept ok =
     let n = with_words s.memory push.save (saved_locals s s.ip) in
     let free = second_none (write_hazard (saved s.frames push.save) a RECORD_SIZE) (port_hazard a RECORD_SIZE) made.3 in
     let regions = words_mcon s.memory push.save (saved_locals s s.ip) in
-    let stands = λ (k : ℕ) (h : k < 4) (small : IsWord (get_or ws k 0)).
-    record_stands s.memory n a ws k regions (omega arith) free refl h small in
     let after = with_writes n (upwards a (bytes_of_words s.memory a ws)) in
+    let stands = λ (k : ℕ) (h : k < 4) (small : IsWord (get_or ws k 0)).
+    record_stands s.memory n after a ws k regions (omega arith) free refl h small (λ x inside. refl) in
     let start : wrapped (a + 0) ≡ a = omega arith in
     let fp : (acted s (entering (entry_of fault s.pc s.ac made.0) s)).regs FP ≡ push.frame =
     frame_pointer s.regs (push.pfp ∷ push.sp ∷ replicate 14 0) push.frame in
@@ -93,3 +105,79 @@ entering_writes s fault e kept ok =
           ∙ stands 0 (omega arith) (within_word PC_MASK s.pc (omega arith) kept.pc);
       ac = ap (saved_ac after) fp ∙ stands 1 (omega arith) (within_word AC_MASK s.ac (omega arith) kept.ac);
     })
+
+-- ---- an interrupt
+
+other_place : (a n x y : ℕ) → in_bytes a n x ≡ true → in_bytes a n y ≡ false → (x == y) ≡ false
+other_place a n x y h k = ne_eqb x y (λ e. let clash : true ≡ false = sym h ∙ ap (in_bytes a n) e ∙ k in cc clash)
+
+-- what clears a request is no byte of a record that it lies beside
+clearing_beside : (c : Cause) (m : Memory) (table v a : ℕ) → AreBeside c table v a → (x : ℕ) → in_bytes a RECORD_SIZE x ≡ true
+    → is_put (clearing_writes c m table v) x ≡ false
+unfolding is_put taken_writes
+clearing_beside Nmi m table v a beside x h = refl
+clearing_beside (Line k) m table v a beside x h = refl
+clearing_beside Soft m table v a beside x h = by_left (left_pending m table v == 0)
+  where
+    first : ℕ
+    first = priority_place table v
+
+    second : ℕ × ℕ
+    second = (pending_place table v, left_pending m table v)
+
+    last : is_put (second ∷ []) x ≡ false
+    last = or_from (x == pending_place table v) false (other_place a RECORD_SIZE x (pending_place table v) h beside.1) refl
+
+    by_left : (b : Bool)
+        → is_put (cond b ((first, without_bit (m.bytes first) (vector_priority v % 8)) ∷ []) [] ++ second ∷ []) x ≡ false
+    by_left true = or_from (x == first) (is_put (second ∷ []) x) (other_place a RECORD_SIZE x first h beside.0) last
+    by_left false = last
+
+made_writes : (s : State) (c : Chosen) → IsKept s → record_write_hazard s.frames (push_for s) ≡ None
+    → AreBeside c.cause s.tables.interrupt_table c.vector (record_address (push_for s).frame)
+    → HasControls s (acted s (interrupting c (entry_for s c) s))
+unfolding acted moved record_write_hazard
+made_writes s c kept hazard beside =
+    let push = push_for s in
+    let a = record_address push.frame in
+    let ws = words_for s c in
+    let n = with_words s.memory push.save (saved_locals s s.ip) in
+    let recorded = record_writes s.memory push ws in
+    let clears = clearing_writes c.cause (with_writes s.memory recorded) s.tables.interrupt_table c.vector in
+    let after = with_writes n (recorded ++ clears) in
+    let free = second_none (write_hazard (saved s.frames push.save) a RECORD_SIZE) (port_hazard a RECORD_SIZE) hazard in
+    let regions = words_mcon s.memory push.save (saved_locals s s.ip) in
+    let stays = λ (x : ℕ) (inside : in_bytes a RECORD_SIZE x ≡ true).
+    ap (λ (f : ℕ → ℕ). f x) (stored-append n.bytes recorded clears)
+    ∙ stored_kept (stored n.bytes recorded) clears x
+    (inl (clearing_beside c.cause (with_writes s.memory recorded) s.tables.interrupt_table c.vector a beside x inside)) in
+    let stands = λ (k : ℕ) (h : k < 4) (small : IsWord (get_or ws k 0)).
+    record_stands s.memory n after a ws k regions (omega arith) free refl h small stays in
+    let start : wrapped (a + 0) ≡ a = omega arith in
+    let fp : (acted s (interrupting c (entry_for s c) s)).regs FP ≡ push.frame =
+    frame_pointer s.regs (push.pfp ∷ push.sp ∷ replicate 14 0) push.frame in
+    record {
+      pc =
+          ap (saved_pc after) fp
+          ∙ sym (ap (word_in after) start)
+          ∙ stands 0 (omega arith) (within_word PC_MASK s.pc (omega arith) kept.pc);
+      ac = ap (saved_ac after) fp ∙ stands 1 (omega arith) (within_word AC_MASK s.ac (omega arith) kept.ac);
+    }
+
+pub interrupting_writes : (s : State) (c : Chosen) (e : Entry) → IsKept s → interrupt_in s c ≡ Ok e
+    → AreBeside c.cause s.tables.interrupt_table c.vector (record_address e.push.frame) → HasControls s (acted s (interrupting c e s))
+interrupting_writes s c e kept ok beside =
+    let made = interrupt_made s c e ok in
+    let place = ap (λ (x : Entry). record_address x.push.frame) (sym made.0) in
+    let left = subst (AreBeside c.cause s.tables.interrupt_table c.vector) place beside in
+    subst (λ (x : Entry). HasControls s (acted s (interrupting c x s))) made.0 (made_writes s c kept made.1 left)
+
+-- ---- an entry of either kind
+
+pub entry_writes_controls : (limit : ℕ) (due : Due) (stands : Option Event) (k : Kind) (s : State) → IsKept s → MayCome limit due stands s k
+    → IsTrue (is_entry k) → LeavesRecord k s → HasControls s (acted s (action_by_kind k s))
+entry_writes_controls limit due stands (Instruction i) s kept may h left = absurd cc
+entry_writes_controls limit due stands (Faulted inst fault) s kept may h left = absurd cc
+entry_writes_controls limit due stands (Entered e) s kept may h left = entering_writes s may.0 e kept may.2
+entry_writes_controls limit due stands (Interrupted c e) s kept may h left = interrupting_writes s c e kept may.3 left
+entry_writes_controls limit due stands (Reached e) s kept may h left = absurd cc

@@ -1,5 +1,5 @@
 -- A return undoes the call whose frame is the first live one.
-use Rattle.std.proofs.Common.{◌≡◌, ◌≢◌, ℕ, zero, suc, ◌+◌, ◌%◌, ◌<◌, ◌≤◌, Bool, true, false, cond, List, [], ◌∷◌, ◌++◌, get_or, Some, None, refl, sym, ap, ◌∙◌, subst, arith, bit_and}
+use Rattle.std.proofs.Common.{◌≡◌, ◌≢◌, ℕ, zero, suc, ◌+◌, ◌%◌, ◌<◌, ◌≤◌, Bool, true, false, cond, List, [], ◌∷◌, ◌++◌, get_or, Option, Some, None, refl, sym, ap, ◌∙◌, subst, arith, bit_and}
 use Rattle.std.specs.Prelude.{IsTrue, ◌==◌, ◌&&◌, not}
 use Rattle.std.proofs.lemmas.Bool.{ne_eqb, eqb-true}
 use Rattle.std.proofs.lemmas.List.FromFn.{get_or-map-range_with_len}
@@ -9,7 +9,7 @@ use Rattle.i9_isa.specs.declared.inst.Inst.{Inst}
 use Rattle.i9_isa.specs.Transfers.{transfer_of}
 use Rattle.i9_isa.specs.Words.{words_of}
 use Rattle.i9_model.specs.declared.layout.TheConstants.{LOCALS, FRAME_SIZE, PFP, RIP, FP, PC_MASK, AC_MASK}
-use Rattle.i9_model.specs.declared.faults.Entry.{Entry}
+use Rattle.i9_model.specs.declared.event.Event.{Event}
 use Rattle.i9_model.specs.Writes.{wrapped, aligned, written}
 use Rattle.i9_model.specs.Memory.{word_in, words_in}
 use Rattle.i9_model.specs.State.{State, Frames, frame_sets}
@@ -18,19 +18,20 @@ use Rattle.i9_model.specs.Hazards.{port_hazard, frame_hazard, return_hazard}
 use Rattle.i9_model.specs.Access.{access_by_name, access_by, hazard_in, hazard_of}
 use Rattle.i9_model.specs.Calls.{in_supervisor_mode, trace_enable, without_supervisor, call_type, return_type, takes_record, leaves_supervisor, saved_pc, saved_ac, controls_hazard, returned_pc, returned_ac, ret_hazard, popped}
 use Rattle.i9_model.specs.Step.{Move, Action, saved_local, saved_locals, system_call, ret_action, action_by_name, action_by, action_of, moved, acted, counted}
+use Rattle.i9_model.specs.ScheduleText.{IsPlan}
 use Rattle.i9_model.specs.HeldFrames.{frame_at}
 use Rattle.i9_model.specs.declared.run.Due.{Due}
-use Rattle.i9_model.specs.Run.{Given, Record, Kind, Instruction, Faulted, Entered, action_by_kind, action_done, after_kind, record_of, due_after, state_after, IsPast}
+use Rattle.i9_model.specs.Run.{Given, Record, Kind, Instruction, Faulted, Entered, Interrupted, Reached, action_by_kind, action_done, after_kind, record_of, due_after, event_after, state_after, IsPast}
 use Rattle.i9_model.proofs.CallLaws.{first_none, second_none}
 use Rattle.i9_model.proofs.Comes.{MayCome, next_comes}
 use Rattle.i9_laws.specs.Kept.{HasBytes}
 use Rattle.i9_laws.specs.LiveFrames.{live_moved, live_after, addresses_of, AreSaved}
-use Rattle.i9_laws.specs.Undone.{is_call, is_return_name, is_return, return_address, pc_by_name, pc_back, ac_back, GivesRegisters, GivesControls, HasControls, GivesOldControls}
+use Rattle.i9_laws.specs.Undone.{is_call, is_entry, is_return_name, is_return, return_address, pc_by_name, pc_of_record, pc_back, ac_of_record, ac_back, LeavesRecord, GivesRegisters, GivesControls, HasControls, GivesOldControls}
 use Rattle.i9_laws.proofs.KeptBits.{IsKept, following_even, kept_after}
 use Rattle.i9_laws.proofs.LiveFrames.{live_addresses, live_saved}
 use Rattle.i9_laws.proofs.FrameRegisters.{frame_local, frame_pointer, frame_others}
 use Rattle.i9_laws.proofs.Pushes.{type_by_name, type_of, Pushes, kind_pushes, pushed_pfp}
-use Rattle.i9_laws.proofs.RecordWords.{entering_writes}
+use Rattle.i9_laws.proofs.RecordWords.{entry_writes_controls}
 
 -- ---- registers after a return
 
@@ -116,19 +117,23 @@ name_ac : (op : Op) (i : Inst) (s u : State) → returned_ac u.memory (type_by_n
 name_ac Calls i s u = system_ac (system_call i s).switched s u
 name_ac _ i s u = refl
 
-fault_pc : (b : Bool) (pc w : ℕ) → cond (not b) pc w ≡ cond b w pc
-fault_pc true pc w = refl
-fault_pc false pc w = refl
+record_pc : (b : Bool) (pc w : ℕ) → cond (not b) pc w ≡ cond b w pc
+record_pc true pc w = refl
+record_pc false pc w = refl
 
 kind_pc : (k : Kind) (s u : State) → IsTrue (is_call k) → returned_pc u.memory (type_of k s) (u.regs FP) u.pc ≡ pc_back k s u
 kind_pc (Instruction i) s u h = name_pc i.op i s u
 kind_pc (Faulted inst fault) s u h = absurd cc
-kind_pc (Entered e) s u h = fault_pc (in_supervisor_mode u.pc) u.pc (bit_and (saved_pc u.memory (u.regs FP)) PC_MASK)
+kind_pc (Entered e) s u h = record_pc (in_supervisor_mode u.pc) u.pc (bit_and (saved_pc u.memory (u.regs FP)) PC_MASK)
+kind_pc (Interrupted c e) s u h = record_pc (in_supervisor_mode u.pc) u.pc (bit_and (saved_pc u.memory (u.regs FP)) PC_MASK)
+kind_pc (Reached e) s u h = absurd cc
 
 kind_ac : (k : Kind) (s u : State) → IsTrue (is_call k) → returned_ac u.memory (type_of k s) (u.regs FP) u.ac ≡ ac_back k u
 kind_ac (Instruction i) s u h = name_ac i.op i s u
 kind_ac (Faulted inst fault) s u h = absurd cc
 kind_ac (Entered e) s u h = refl
+kind_ac (Interrupted c e) s u h = refl
+kind_ac (Reached e) s u h = absurd cc
 
 controls_back : (k : Kind) (s u : State) → IsTrue (is_call k) → u.regs PFP ≡ rounded_down (s.regs FP) + type_of k s → type_of k s < 8
     → ((acted u (ret_action u)).pc ≡ pc_back k s u) × ((acted u (ret_action u)).ac ≡ ac_back k u)
@@ -155,12 +160,15 @@ return_after (Instruction i) u h = ap (λ (a : Action). counted 1 (acted u a)) (
     by_name _ e t = absurd cc
 return_after (Faulted inst fault) u h = absurd cc
 return_after (Entered e) u h = absurd cc
+return_after (Interrupted c e) u h = absurd cc
+return_after (Reached e) u h = absurd cc
 
 -- it meets no hazard
-return_free : (limit : ℕ) (due : Due) (k : Kind) (u : State) → IsTrue (is_return k) → MayCome limit due u k
+return_free : (limit : ℕ) (due : Due) (stands : Option Event) (k : Kind) (u : State) → IsTrue (is_return k)
+    → MayCome limit due stands u k
     → ret_hazard u.frames (u.regs PFP) (u.regs FP) ≡ None
 unfolding hazard_of
-return_free limit due (Instruction i) u h may = by_name i.op refl h
+return_free limit due stands (Instruction i) u h may = by_name i.op refl h
   where
     by_name : (op : Op) → i.op ≡ op → IsTrue (is_return_name op) → ret_hazard u.frames (u.regs PFP) (u.regs FP) ≡ None
     by_name Ret e t =
@@ -168,14 +176,18 @@ return_free limit due (Instruction i) u h may = by_name i.op refl h
         ∙ sym (ap (λ (o : Op). hazard_in u (access_by (transfer_of o) i u)) e)
         ∙ may.2
     by_name _ e t = absurd cc
-return_free limit due (Faulted inst fault) u h may = absurd cc
-return_free limit due (Entered e) u h may = absurd cc
+return_free limit due stands (Faulted inst fault) u h may = absurd cc
+return_free limit due stands (Entered e) u h may = absurd cc
+return_free limit due stands (Interrupted c e) u h may = absurd cc
+return_free limit due stands (Reached e) u h may = absurd cc
 
 -- no call returns to an address with low bits
 address_even : (k : Kind) (s : State) → IsKept s → return_address k s % 4 ≡ 0
 address_even (Instruction i) s h = following_even s (words_of i) h
 address_even (Faulted inst fault) s h = h.ip
 address_even (Entered e) s h = h.ip
+address_even (Interrupted c e) s h = h.ip
+address_even (Reached e) s h = h.ip
 
 -- ---- a run
 
@@ -200,20 +212,20 @@ is_back g rs between call back past is_called is_returned =
     let all = between ++ call ∷ rs in
     let u = state_after g all in
     let before = past_before g between (call ∷ rs) past.0 in
-    let c = next_comes g.length (due_after rs) s call before.1 in
-    let b = next_comes g.length (due_after all) u back past.1 in
+    let c = next_comes g.length (due_after rs) (event_after g rs) s call before.1 in
+    let b = next_comes g.length (due_after all) (event_after g all) u back past.1 in
     record {
       call_is = c.0;
-      pushes = kind_pushes g.length (due_after rs) call.kind s c.1 is_called;
+      pushes = kind_pushes g.length (due_after rs) (event_after g rs) call.kind s c.1 is_called;
       kept = kept_after g rs before.0;
       back_is = b.0 ∙ ap (λ (t : State). record { kind = back.kind; before = u; after = t }) (return_after back.kind u is_returned);
-      free = return_free g.length (due_after all) back.kind u is_returned b.1;
+      free = return_free g.length (due_after all) (event_after g all) back.kind u is_returned b.1;
     }
 
-pub registers_back : (g : Given) (rs between : List Record) (call back : Record) → HasBytes g.image
+pub registers_back : (g : Given) (rs between : List Record) (call back : Record) → HasBytes g.image → IsPlan g.plan
     → IsPast g (back ∷ between ++ call ∷ rs) → IsTrue (is_call call.kind) → IsTrue (is_return back.kind)
     → live_after (between ++ call ∷ rs) ≡ live_after (call ∷ rs) → GivesRegisters call back
-registers_back g rs between call back image past is_called is_returned live =
+registers_back g rs between call back image plan past is_called is_returned live =
     let s = state_after g rs in
     let all = between ++ call ∷ rs in
     let u = state_after g all in
@@ -224,7 +236,7 @@ registers_back g rs between call back image past is_called is_returned live =
     live
     ∙ ap (λ (q : Record). live_moved (action_done q).move (live_after rs)) i.call_is
     ∙ ap (λ (v : Move). live_moved v (live_after rs)) i.pushes.move in
-    let saved = subst (AreSaved u.memory) frames (live_saved g all image past.0) in
+    let saved = subst (AreSaved u.memory) frames (live_saved g all image plan past.0) in
     let addresses : u.frames.live ≡ save ∷ addresses_of (live_after rs) = live_addresses g all past.0 ∙ ap addresses_of frames in
     let first = first_live u.frames (u.regs PFP) (u.regs FP) save (addresses_of (live_after rs)) addresses i.free in
     let l = gives_locals s u address first saved.0 in
@@ -254,47 +266,68 @@ control_back g rs between call back past is_called is_returned pfp =
     subst (λ (q : Record). GivesControls q back) (sym i.call_is) (subst (GivesControls (record_of call.kind s)) (sym i.back_is) here)
 
 -- a return right after a call finds what the call left
-pub at_once : (g : Given) (rs : List Record) (call back : Record) → HasBytes g.image → IsPast g (back ∷ call ∷ rs)
+pub at_once : (g : Given) (rs : List Record) (call back : Record) → HasBytes g.image → IsPlan g.plan → IsPast g (back ∷ call ∷ rs)
     → IsTrue (is_call call.kind) → IsTrue (is_return back.kind) → GivesRegisters call back × GivesControls call back
-at_once g rs call back image past is_called is_returned =
-    let b = next_comes g.length (due_after (call ∷ rs)) call.after back past.1 in (
-      registers_back g rs [] call back image past is_called is_returned refl,
+at_once g rs call back image plan past is_called is_returned =
+    let b = next_comes g.length (due_after (call ∷ rs)) (event_after g (call ∷ rs)) call.after back past.1 in (
+      registers_back g rs [] call back image plan past is_called is_returned refl,
       control_back g rs [] call back past is_called is_returned (ap (λ (q : Record). q.before.regs PFP) b.0),
     )
 
--- ---- a fault
+-- ---- the entry of a fault or of an interrupt
 
-pub fault_back : (g : Given) (rs between : List Record) (call back : Record) (e : Entry) → IsPast g (back ∷ between ++ call ∷ rs)
-    → call.kind ≡ Entered e → IsTrue (is_return back.kind) → back.before.regs PFP ≡ call.after.regs PFP
+entry_is_call : (k : Kind) → IsTrue (is_entry k) → IsTrue (is_call k)
+entry_is_call (Instruction i) h = absurd cc
+entry_is_call (Faulted inst fault) h = absurd cc
+entry_is_call (Entered e) h = h
+entry_is_call (Interrupted c e) h = h
+entry_is_call (Reached e) h = absurd cc
+
+entry_pc : (k : Kind) (s u : State) → IsTrue (is_entry k) → pc_back k s u ≡ pc_of_record u
+entry_pc (Instruction i) s u h = absurd cc
+entry_pc (Faulted inst fault) s u h = absurd cc
+entry_pc (Entered e) s u h = refl
+entry_pc (Interrupted c e) s u h = refl
+entry_pc (Reached e) s u h = absurd cc
+
+entry_ac : (k : Kind) (u : State) → IsTrue (is_entry k) → ac_back k u ≡ ac_of_record u
+entry_ac (Instruction i) u h = absurd cc
+entry_ac (Faulted inst fault) u h = absurd cc
+entry_ac (Entered e) u h = refl
+entry_ac (Interrupted c e) u h = refl
+entry_ac (Reached e) u h = absurd cc
+
+pub entry_back : (g : Given) (rs between : List Record) (call back : Record) → IsPast g (back ∷ between ++ call ∷ rs)
+    → IsTrue (is_entry call.kind) → IsTrue (is_return back.kind) → back.before.regs PFP ≡ call.after.regs PFP
     → HasControls call.before back.before → GivesOldControls call back
-fault_back g rs between call back e past is is_returned pfp stands =
+entry_back g rs between call back past is_entered is_returned pfp stands =
     let u = back.before in
     let before = past_before g between (call ∷ rs) past.0 in
-    let was = ap (λ (q : Record). q.before) (next_comes g.length (due_after rs) (state_after g rs) call before.1).0 in
+    let was = ap (λ (q : Record). q.before) (next_comes g.length (due_after rs) (event_after g rs) (state_after g rs) call before.1).0 in
     let kept = subst IsKept (sym was) (kept_after g rs before.0) in
-    let controls = control_back g rs between call back past (ap is_call is) is_returned pfp in
+    let controls = control_back g rs between call back past (entry_is_call call.kind is_entered) is_returned pfp in
     record {
       pc = λ mode.
           controls.pc
-          ∙ ap (λ (k : Kind). pc_back k call.before u) is
+          ∙ entry_pc call.kind call.before u is_entered
           ∙ ap (λ (b : Bool). cond b (bit_and (saved_pc u.memory (u.regs FP)) PC_MASK) u.pc) mode
           ∙ ap (λ (w : ℕ). bit_and w PC_MASK) stands.pc
           ∙ kept.pc;
-      ac = controls.ac ∙ ap (λ (k : Kind). ac_back k u) is ∙ ap (λ (w : ℕ). bit_and w AC_MASK) stands.ac ∙ kept.ac;
+      ac = controls.ac ∙ entry_ac call.kind u is_entered ∙ ap (λ (w : ℕ). bit_and w AC_MASK) stands.ac ∙ kept.ac;
     }
 
--- a return right after the entry of a fault finds the record as the entry wrote it
-pub fault_at_once : (g : Given) (rs : List Record) (call back : Record) (e : Entry) → IsPast g (back ∷ call ∷ rs)
-    → call.kind ≡ Entered e → IsTrue (is_return back.kind) → GivesOldControls call back
-fault_at_once g rs call back e past is is_returned =
+-- a return right after such an entry finds the record as the entry left it
+pub entry_at_once : (g : Given) (rs : List Record) (call back : Record) → IsPast g (back ∷ call ∷ rs)
+    → IsTrue (is_entry call.kind) → LeavesRecord call.kind call.before → IsTrue (is_return back.kind) → GivesOldControls call back
+entry_at_once g rs call back past is_entered left is_returned =
     let s = state_after g rs in
-    let c = next_comes g.length (due_after rs) s call past.0.1 in
-    let b = next_comes g.length (due_after (call ∷ rs)) call.after back past.1 in
+    let c = next_comes g.length (due_after rs) (event_after g rs) s call past.0.1 in
+    let b = next_comes g.length (due_after (call ∷ rs)) (event_after g (call ∷ rs)) call.after back past.1 in
     let found : back.before ≡ call.after = ap (λ (q : Record). q.before) b.0 in
-    let may = subst (MayCome g.length (due_after rs) s) is c.1 in
-    let wrote = entering_writes s may.0 e (kept_after g rs past.0.0) may.2 in
-    let here : HasControls (record_of (Entered e) s).before (record_of (Entered e) s).after = record { pc = wrote.pc; ac = wrote.ac } in
-    let same : call ≡ record_of (Entered e) s = c.0 ∙ ap (λ (k : Kind). record_of k s) is in
-    let left = subst (λ (q : Record). HasControls q.before q.after) (sym same) here in
-    let stands = subst (HasControls call.before) (sym found) left in
-    fault_back g rs [] call back e past is is_returned (ap (λ (t : State). t.regs PFP) found) stands
+    let beside = subst (LeavesRecord call.kind) (ap (λ (q : Record). q.before) c.0) left in
+    let kept = kept_after g rs past.0.0 in
+    let wrote = entry_writes_controls g.length (due_after rs) (event_after g rs) call.kind s kept c.1 is_entered beside in
+    let here : HasControls (record_of call.kind s).before (record_of call.kind s).after = record { pc = wrote.pc; ac = wrote.ac } in
+    let after = subst (λ (q : Record). HasControls q.before q.after) (sym c.0) here in
+    let stands = subst (HasControls call.before) (sym found) after in
+    entry_back g rs [] call back past is_entered is_returned (ap (λ (t : State). t.regs PFP) found) stands

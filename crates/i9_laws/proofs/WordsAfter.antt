@@ -1,5 +1,5 @@
 -- Along every run registers are below 2^32 and bytes of memory below 256, where the bytes of the image are.
-use Rattle.std.proofs.Common.{◌≡◌, ℕ, zero, suc, ◌+◌, ◌-◌, ◌%◌, ◌^◌, ◌<◌, Bool, true, false, cond, List, [], ◌∷◌, Option, Some, None, Ok, length, refl, sym, subst, arith}
+use Rattle.std.proofs.Common.{◌≡◌, ℕ, zero, suc, ◌+◌, ◌-◌, ◌^◌, ◌<◌, Bool, true, false, cond, List, [], ◌∷◌, Option, Some, None, Ok, length, refl, sym, subst, arith}
 use Rattle.std.specs.Prelude.{◌==◌, replicate}
 use Rattle.std.proofs.lemmas.Nat.{and_le_r}
 use Rattle.i9_isa.specs.declared.op.Op.{Op}
@@ -13,7 +13,7 @@ use Rattle.i9_isa.specs.declared.inst.Operand.{Operand}
 use Rattle.i9_isa.specs.declared.inst.Operand.TheVariants.{Reg, Lit, Sfr}
 use Rattle.i9_isa.specs.declared.inst.Inst.{Inst}
 use Rattle.i9_isa.specs.Transfers.{transfer_of}
-use Rattle.i9_model.specs.declared.layout.TheConstants.{AC_MASK, PC_MASK, TC_MASK, FP, SP, RIP, PFP, LOCALS, LOCAL_RETURN, FRAME_SIZE, RECORD_SIZE, FAULT_RETURN, FIRST_INSTRUCTION}
+use Rattle.i9_model.specs.declared.layout.TheConstants.{AC_MASK, PC_MASK, TC_MASK, FP, SP, RIP, PFP, LOCALS, LOCAL_RETURN, FRAME_SIZE, RECORD_SIZE, FAULT_RETURN, INTERRUPT_RETURN, FIRST_INSTRUCTION}
 use Rattle.i9_model.specs.declared.push.Push.{Push}
 use Rattle.i9_model.specs.declared.calls.Sys.{Sys}
 use Rattle.i9_model.specs.declared.faults.Fault.{Fault}
@@ -21,25 +21,33 @@ use Rattle.i9_model.specs.declared.faults.Entry.{Entry}
 use Rattle.i9_model.specs.declared.setup.Setup.{Setup}
 use Rattle.i9_model.specs.Writes.{pairs_at, wrapped, aligned}
 use Rattle.i9_model.specs.Image.{Part, pairs_of_part, pairs_of, AreParts}
-use Rattle.i9_model.specs.Memory.{Memory, half_in, word_in, word_bytes, words_in}
-use Rattle.i9_model.specs.Boot.{setup_of, configured, with_boot_bytes, boot_setup, boot_memory}
+use Rattle.i9_model.specs.Memory.{Memory, half_in, word_in, words_in}
+use Rattle.i9_model.specs.Boot.{setup_of, configured, with_boot_bytes, boot_setup}
 use Rattle.i9_model.specs.State.{State, image_memory, frame_sets, first_frame, start_sets, started, boot}
 use Rattle.i9_model.specs.Frames.{rounded_down, pushed}
 use Rattle.i9_model.specs.Operands.{value, higher_word, word_of, source_words, assigned, address, target}
 use Rattle.i9_model.specs.Branches.{asks, question_of, is_taken}
-use Rattle.i9_model.specs.Calls.{record_address, popped}
+use Rattle.i9_model.specs.Calls.{popped}
 use Rattle.i9_model.specs.Controls.{Control, KeepsControls, Restarts, LoadsGroup, controlled}
 use Rattle.i9_model.specs.Tables.{group_words}
-use Rattle.i9_model.specs.Step.{Move, Stays, Saves, Returns, Flushes, Action, saved_local, saved_locals, pushing, call_action, calls_action, ret_action, first_word, next_word, loaded, stored_of, bytes_of_words, moving, merged, atomic, atomic_address, following, answer_in, destination, values_of, branching, resulting, Message, AsksNothing, AsksRestart, AsksGroup, message_kind, message_of, message_action, push_sets, system_call, entering, action_by_name, action_by, action_of, memory_after, moved, acted}
+use Rattle.i9_model.specs.Step.{Move, Stays, Saves, Returns, Flushes, Action, saved_local, saved_locals, pushing, call_action, calls_action, ret_action, first_word, next_word, loaded, moving, merged, atomic, atomic_address, following, answer_in, destination, values_of, branching, resulting, Message, AsksNothing, AsksInterrupt, AsksRestart, AsksGroup, message_kind, message_of, message_action, push_sets, system_call, entering, action_by_name, action_by, action_of, moved, acted}
 use Rattle.i9_model.specs.declared.run.Due.{Due}
-use Rattle.i9_model.specs.Run.{Given, Record, Kind, Instruction, Faulted, Entered, action_by_kind, action_done, due_after, state_after, IsPast, entry_in}
+use Rattle.i9_model.specs.declared.interrupts.TheConstants.{LINE_MASK}
+use Rattle.i9_model.specs.declared.interrupts.Chosen.{Chosen}
+use Rattle.i9_model.specs.declared.event.Event.{Event}
+use Rattle.i9_model.specs.ScheduleText.{IsPlan}
+use Rattle.i9_model.specs.Interrupts.{vector_place, base_for}
+use Rattle.i9_model.specs.Before.{interrupt_in, interrupting}
+use Rattle.i9_model.specs.Run.{Given, Record, Kind, Instruction, Faulted, Entered, Interrupted, Reached, action_by_kind, action_done, due_after, event_after, state_after, IsPast, entry_in}
 use Rattle.i9_model.proofs.ControlLaws.{by_group}
 use Rattle.i9_model.proofs.Comes.{MayCome, next_comes}
 use Rattle.i9_laws.specs.Kept.{IsWithin, IsWord, HasBytes}
-use Rattle.i9_laws.proofs.Entered.{call_by, entry_by}
+use Rattle.i9_laws.proofs.Entered.{call_by, entry_by, entry_for, interrupt_made}
 use Rattle.i9_laws.proofs.KeptBits.{IsKept, kept_after}
+use Rattle.i9_laws.proofs.KeptLines.{HasLines, lines_after}
+use Rattle.i9_laws.proofs.BytesAfter.{kind_stores, moved_bytes, image_bytes, boot_bytes}
 use Rattle.i9_laws.proofs.Decoded.{IsSmall, HasSmall, decoded_small, IsRead, next_read}
-use Rattle.i9_laws.proofs.StoredWords.{ArePut, AreBelow, put_append, put_pairs, below_map, written_below, stored_below, word_bytes_below, half_bytes_below, words_bytes_below, with_words_below, half_below, word_below, words_below}
+use Rattle.i9_laws.proofs.StoredWords.{ArePut, put_append, put_pairs, below_map, written_below, half_below, word_below, words_below}
 use Rattle.i9_laws.proofs.ResultWords.{AreWords, either_word, results_words}
 
 -- registers and the instruction address are words, and bytes are bytes
@@ -61,41 +69,45 @@ StartsWord KeepsControls = Unit {0}
 StartsWord (Restarts first prcb) = IsWord first
 StartsWord (LoadsGroup group) = Unit {0}
 
--- what an action sets, writes and saves, and where control goes
-record AreDone (sets writes : List (ℕ × ℕ)) (v : Move) (c : Control) (to : ℕ) : Type 0 where
+-- what an action sets and saves, and where control goes
+record AreDone (sets : List (ℕ × ℕ)) (v : Move) (c : Control) (to : ℕ) : Type 0 where
   registers : ArePut (2 ^ 32) sets
-  stores : ArePut 256 writes
   saves : SavesWords v
   starts : StartsWord c
   next : IsWord to
 
 abbrev DoesWords : Action → Type 0
-DoesWords a = AreDone a.sets a.writes a.move a.control a.next
+DoesWords a = AreDone a.sets a.move a.control a.next
 
 -- it sets registers alone
-setting : {sets : List (ℕ × ℕ)} {to : ℕ} → ArePut (2 ^ 32) sets → IsWord to → AreDone sets [] Stays KeepsControls to
-setting h k = record { registers = h; stores = tt; saves = tt; starts = tt; next = k }
+setting : {sets : List (ℕ × ℕ)} {to : ℕ} → ArePut (2 ^ 32) sets → IsWord to → AreDone sets Stays KeepsControls to
+setting h k = record { registers = h; saves = tt; starts = tt; next = k }
 
 pub within_word : (mask w : ℕ) → IsWord mask → IsWithin mask w → IsWord w
 within_word mask w h e = let k = and_le_r w mask in omega (arith, h, e, k)
 
 -- ---- sources and destinations
 
-value_word : (s : State) (o : Operand) → HasWords s → IsSmall o → IsWord (value s o)
-value_word s (Reg r) h k = h.regs r
-value_word s (Lit n) h k = omega (arith, k)
-value_word s (Sfr j) h k = omega arith
+special_word : (a b : Bool) (s : State) → HasLines s → IsWord (cond a s.interrupts.pending (cond b s.interrupts.mask s.dma.dmac))
+special_word true b s l = within_word LINE_MASK s.interrupts.pending (omega arith) l.pending
+special_word false true s l = within_word LINE_MASK s.interrupts.mask (omega arith) l.mask
+special_word false false s l = l.command
+
+value_word : (s : State) (o : Operand) → HasWords s → HasLines s → IsSmall o → IsWord (value s o)
+value_word s (Reg r) h l k = h.regs r
+value_word s (Lit n) h l k = omega (arith, k)
+value_word s (Sfr j) h l k = special_word (j == 0) (j == 1) s l
 
 higher_is_word : (s : State) (o : Operand) (k : ℕ) → HasWords s → IsWord (higher_word s o k)
 higher_is_word s (Reg r) k h = h.regs (r + k)
 higher_is_word s (Lit n) k h = omega arith
 higher_is_word s (Sfr j) k h = omega arith
 
-sources_words : (s : State) (o : Operand) (n : ℕ) → HasWords s → IsSmall o → AreWords (source_words s o n)
-sources_words s o n h small = below_map (2 ^ 32) (word_of s o) 0 n (λ k. by_place k (k == 0))
+sources_words : (s : State) (o : Operand) (n : ℕ) → HasWords s → HasLines s → IsSmall o → AreWords (source_words s o n)
+sources_words s o n h l small = below_map (2 ^ 32) (word_of s o) 0 n (λ k. by_place k (k == 0))
   where
     by_place : (k : ℕ) (b : Bool) → IsWord (cond b (value s o) (higher_word s o k))
-    by_place k true = value_word s o h small
+    by_place k true = value_word s o h l small
     by_place k false = higher_is_word s o k h
 
 assigned_words : (o : Operand) (vs : List ℕ) → AreWords vs → ArePut (2 ^ 32) (assigned o vs)
@@ -119,11 +131,6 @@ loaded_words Byte signed m a h = let k = h a in (filled_word signed _ 8 (m.bytes
 loaded_words Half signed m a h = let k = half_below m a h in (filled_word signed _ 16 (half_in m a) k (omega (arith, k)), tt)
 loaded_words (Words n) signed m a h = words_below m a n h
 
-stored_bytes : (size : Size) (s : State) (o : Operand) (a : ℕ) → AreBelow 256 (stored_of size s o a)
-stored_bytes Byte s o a = (omega arith, tt)
-stored_bytes Half s o a = half_bytes_below s.memory a (value s o % 2 ^ 16)
-stored_bytes (Words n) s o a = words_bytes_below s.memory a (source_words s o n)
-
 -- control goes behind an instruction, or to an address whose low bits are cleared
 behind_word : (i : Inst) (s : State) → IsWord (following i s)
 behind_word i s = omega arith
@@ -135,10 +142,7 @@ moving_words : (d : Direction) (size : Size) (signed : Bool) (i : Inst) (s : Sta
 moving_words Load size signed i s h =
     let a = address s i.ea in
     setting (assigned_words i.c (loaded size signed s.memory a) (loaded_words size signed s.memory a h.bytes)) (behind_word i s)
-moving_words Store size signed i s h =
-    let a = address s i.ea in
-    let stores = put_pairs 256 wrapped a (stored_of size s i.c a) (stored_bytes size s i.c a) in
-    record { registers = tt; stores = stores; saves = tt; starts = tt; next = behind_word i s }
+moving_words Store size signed i s h = setting tt (behind_word i s)
 
 -- ---- pushes
 
@@ -168,7 +172,6 @@ local_words s back h k = below_map (2 ^ 32) (saved_local s back) 0 LOCALS (λ r.
 pushing_words : (s : State) (p : Push) (back to : ℕ) → HasWords s → IsPushed p → IsWord back → IsWord to → DoesWords (pushing s p back to)
 pushing_words s p back to h push k next = record {
   registers = sets_pushed p push;
-  stores = tt;
   saves = (push.save, refl, local_words s back h k);
   starts = tt;
   next = next;
@@ -176,15 +179,15 @@ pushing_words s p back to h push k next = record {
 
 -- ---- an instruction
 
-other_words : (b : Bool) (i : Inst) (s : State) → HasWords s → HasSmall i
+other_words : (b : Bool) (i : Inst) (s : State) → HasWords s → HasLines s → HasSmall i
     → DoesWords (cond b (branching i s) (resulting i s (answer_in i s)))
-other_words true i s h small =
+other_words true i s h l small =
     let to = aligned_word (target i s) (omega arith) in
     setting tt (either_word (is_taken i (value s i.a) (value s i.b) s.ac) (aligned (target i s)) (following i s) to (behind_word i s))
-other_words false i s h small =
-    let a = sources_words s i.a 4 h small.a in
-    let b = sources_words s i.b 2 h small.b in
-    let c = value_word s i.c h small.c in
+other_words false i s h l small =
+    let a = sources_words s i.a 4 h l small.a in
+    let b = sources_words s i.b 2 h l small.b in
+    let c = value_word s i.c h l small.c in
     let results = results_words i.op (source_words s i.a 4) (source_words s i.b 2) (value s i.c) s.ac a b c in
     setting (assigned_words (destination i) (values_of (answer_in i s)) results) (behind_word i s)
 
@@ -195,19 +198,14 @@ one_set o v h = assigned_words o (v ∷ []) (h, tt)
 atomic_words : (i : Inst) (s : State) (change : ℕ → ℕ) → HasWords s → DoesWords (atomic i s change)
 atomic_words i s change h =
     let a = atomic_address i s in
-    let old = word_in s.memory a in record {
-      registers = one_set i.c old (word_below s.memory a h.bytes);
-      stores = put_pairs 256 wrapped a (word_bytes s.memory a (change old)) (word_bytes_below s.memory a (change old));
-      saves = tt;
-      starts = tt;
-      next = behind_word i s;
-    }
+    setting (one_set i.c (word_in s.memory a) (word_below s.memory a h.bytes)) (behind_word i s)
 
-message_words : (m : Message) (i : Inst) (s : State) → HasWords s → HasSmall i → DoesWords (message_action m i s)
-message_words AsksNothing i s h small = setting tt (behind_word i s)
-message_words AsksRestart i s h small =
-    record { registers = tt; stores = tt; saves = tt; starts = value_word s i.b h small.b; next = behind_word i s }
-message_words AsksGroup i s h small = record { registers = tt; stores = tt; saves = tt; starts = tt; next = behind_word i s }
+message_words : (m : Message) (i : Inst) (s : State) → HasWords s → HasLines s → HasSmall i → DoesWords (message_action m i s)
+message_words AsksNothing i s h l small = setting tt (behind_word i s)
+message_words AsksInterrupt i s h l small = setting tt (behind_word i s)
+message_words AsksRestart i s h l small =
+    record { registers = tt; saves = tt; starts = value_word s i.b h l small.b; next = behind_word i s }
+message_words AsksGroup i s h l small = record { registers = tt; saves = tt; starts = tt; next = behind_word i s }
 
 -- a call to an address
 call_words : (i : Inst) (s : State) (to : ℕ) → HasWords s → IsWord to → DoesWords (call_action i s to)
@@ -231,37 +229,36 @@ ret_words s h =
     let a = rounded_down (s.regs PFP) in
     let pfp = h.regs PFP in record {
       registers = frame_words (words_in s.memory a LOCALS) a (words_below s.memory a LOCALS h.bytes) (omega (arith, pfp));
-      stores = tt;
       saves = tt;
       starts = tt;
       next = aligned_word _ (word_below s.memory (wrapped (a + 8)) h.bytes);
     }
 
-name_words : (op : Op) (i : Inst) (s : State) → HasWords s → IsKept s → HasSmall i → DoesWords (action_by_name op i s)
-name_words Lda i s h k small = setting (one_set i.c (address s i.ea) (omega arith)) (behind_word i s)
-name_words Atadd i s h k small = atomic_words i s (λ old. wrapped (old + value s i.b)) h
-name_words Atmod i s h k small = atomic_words i s (λ old. merged old (value s i.b) (value s i.c)) h
-name_words Bx i s h k small = setting tt (aligned_word (address s i.ea) (omega arith))
-name_words Balx i s h k small = setting (one_set i.c (following i s) (behind_word i s)) (aligned_word (address s i.ea) (omega arith))
-name_words Bal i s h k small = setting (behind_word i s, tt) (aligned_word (target i s) (omega arith))
-name_words Call i s h k small = call_words i s (target i s) h (omega arith)
-name_words Callx i s h k small = call_words i s (address s i.ea) h (omega arith)
-name_words Calls i s h k small = calls_words i s h
-name_words Ret i s h k small = ret_words s h
-name_words Flushreg i s h k small = record { registers = tt; stores = tt; saves = tt; starts = tt; next = behind_word i s }
-name_words Modac i s h k small = setting (one_set i.c s.ac (within_word AC_MASK s.ac (omega arith) k.ac)) (behind_word i s)
-name_words Modtc i s h k small = setting (one_set i.c s.trace.tc (within_word TC_MASK s.trace.tc (omega arith) k.tc)) (behind_word i s)
-name_words Modpc i s h k small = setting (one_set i.c s.pc (within_word PC_MASK s.pc (omega arith) k.pc)) (behind_word i s)
-name_words Sysctl i s h k small = message_words (message_kind (message_of i s)) i s h small
-name_words op i s h k small = other_words (asks (question_of op)) i s h small
+name_words : (op : Op) (i : Inst) (s : State) → HasWords s → HasLines s → IsKept s → HasSmall i → DoesWords (action_by_name op i s)
+name_words Lda i s h l k small = setting (one_set i.c (address s i.ea) (omega arith)) (behind_word i s)
+name_words Atadd i s h l k small = atomic_words i s (λ old. wrapped (old + value s i.b)) h
+name_words Atmod i s h l k small = atomic_words i s (λ old. merged old (value s i.b) (value s i.c)) h
+name_words Bx i s h l k small = setting tt (aligned_word (address s i.ea) (omega arith))
+name_words Balx i s h l k small = setting (one_set i.c (following i s) (behind_word i s)) (aligned_word (address s i.ea) (omega arith))
+name_words Bal i s h l k small = setting (behind_word i s, tt) (aligned_word (target i s) (omega arith))
+name_words Call i s h l k small = call_words i s (target i s) h (omega arith)
+name_words Callx i s h l k small = call_words i s (address s i.ea) h (omega arith)
+name_words Calls i s h l k small = calls_words i s h
+name_words Ret i s h l k small = ret_words s h
+name_words Flushreg i s h l k small = record { registers = tt; saves = tt; starts = tt; next = behind_word i s }
+name_words Modac i s h l k small = setting (one_set i.c s.ac (within_word AC_MASK s.ac (omega arith) k.ac)) (behind_word i s)
+name_words Modtc i s h l k small = setting (one_set i.c s.trace.tc (within_word TC_MASK s.trace.tc (omega arith) k.tc)) (behind_word i s)
+name_words Modpc i s h l k small = setting (one_set i.c s.pc (within_word PC_MASK s.pc (omega arith) k.pc)) (behind_word i s)
+name_words Sysctl i s h l k small = message_words (message_kind (message_of i s)) i s h l small
+name_words op i s h l k small = other_words (asks (question_of op)) i s h l small
 
-instruction_words : (i : Inst) (s : State) → HasWords s → IsKept s → HasSmall i → DoesWords (action_of i s)
+instruction_words : (i : Inst) (s : State) → HasWords s → HasLines s → IsKept s → HasSmall i → DoesWords (action_of i s)
 unfolding action_of
-instruction_words i s h k small = by_transfer (transfer_of i.op)
+instruction_words i s h l k small = by_transfer (transfer_of i.op)
   where
     by_transfer : (o : Option Transfer) → DoesWords (action_by o i s)
     by_transfer (Some t) = moving_words t.direction t.size t.signed i s h
-    by_transfer None = name_words i.op i s h k small
+    by_transfer None = name_words i.op i s h l k small
 
 -- ---- what comes next
 
@@ -273,27 +270,27 @@ entering_words s fault e h ok =
     (record { switched = λ x y. (push (aligned (word_in s.memory y)), target x); here = λ x. (push (s.regs SP), target x) }) ok in
     let both : IsPushed e.push × IsWord e.target = subst (λ (x : Entry). IsPushed x.push × IsWord x.target) made.2 made.1 in
     let pushes = pushing_words s e.push s.ip e.target h both.0 h.ip both.1 in
-    let a = record_address e.push.frame in record {
-      registers = pushes.registers;
-      stores = put_pairs 256 wrapped a (bytes_of_words s.memory a e.words) (words_bytes_below s.memory a e.words);
-      saves = pushes.saves;
-      starts = tt;
-      next = pushes.next;
-    }
+    record { registers = pushes.registers; saves = pushes.saves; starts = tt; next = pushes.next }
 
-kind_words : (limit : ℕ) (due : Due) (k : Kind) (s : State) → MayCome limit due s k → IsRead s k → HasWords s → IsKept s
-    → DoesWords (action_by_kind k s)
-kind_words limit due (Instruction i) s may d h k = instruction_words i s h k (decoded_small (first_word s) (next_word s) i d)
-kind_words limit due (Faulted inst fault) s may d h k = setting tt (omega arith)
-kind_words limit due (Entered e) s may d h k = entering_words s may.0 e h may.2
+interrupting_words : (s : State) (c : Chosen) (e : Entry) → HasWords s → interrupt_in s c ≡ Ok e → DoesWords (interrupting c e s)
+interrupting_words s c e h ok =
+    let base = base_for s.pc (s.regs SP) s.tables.interrupt_stack in
+    let push = pushed_words (s.regs FP) base RECORD_SIZE INTERRUPT_RETURN (h.regs FP) (omega arith) in
+    let at = vector_place s.tables.interrupt_table c.vector in
+    let made = entry_for s c in
+    let pushes = pushing_words s made.push s.ip made.target h push h.ip (aligned_word (word_in s.memory at) (word_below s.memory at h.bytes)) in
+    subst (λ (x : Entry). DoesWords (interrupting c x s)) (interrupt_made s c e ok).0
+    (record { registers = pushes.registers; saves = pushes.saves; starts = tt; next = pushes.next })
+
+kind_words : (limit : ℕ) (due : Due) (stands : Option Event) (k : Kind) (s : State) → MayCome limit due stands s k → IsRead s k
+    → HasWords s → HasLines s → IsKept s → DoesWords (action_by_kind k s)
+kind_words limit due stands (Instruction i) s may d h l k = instruction_words i s h l k (decoded_small (first_word s) (next_word s) i d)
+kind_words limit due stands (Faulted inst fault) s may d h l k = setting tt (omega arith)
+kind_words limit due stands (Entered e) s may d h l k = entering_words s may.0 e h may.2
+kind_words limit due stands (Interrupted c e) s may d h l k = interrupting_words s c e h may.3
+kind_words limit due stands (Reached e) s may d h l k = setting tt h.ip
 
 -- ---- the state after it
-
-move_bytes : (v : Move) (m : Memory) → ((x : ℕ) → m.bytes x < 256) → (x : ℕ) → (memory_after m v).bytes x < 256
-move_bytes Stays m h = h
-move_bytes (Saves save words) m h = with_words_below m save words h
-move_bytes Returns m h = h
-move_bytes Flushes m h = h
 
 start_words : (u : Setup) → ArePut (2 ^ 32) (start_sets u)
 start_words u =
@@ -316,47 +313,50 @@ controlled_words s (Restarts first prcb) word h =
 controlled_words s (LoadsGroup group) first h =
     group_words_kept (group == 0) (group == 1) (group == 6) s group (group_words s.memory s.tables.control_table group) h
 
-acted_words : (s : State) (a : Action) → DoesWords a → HasWords s → HasWords (acted s a)
+acted_words : (s : State) (a : Action) → DoesWords a → ArePut 256 a.writes → HasWords s → HasWords (acted s a)
 unfolding acted moved
-acted_words s a k h = controlled_words (moved s a) a.control k.starts (record {
+acted_words s a k stores h = controlled_words (moved s a) a.control k.starts (record {
   regs = written_below (2 ^ 32) s.regs a.sets h.regs k.registers;
   ip = k.next;
-  bytes = stored_below (memory_after s.memory a.move).bytes a.writes (move_bytes a.move s.memory h.bytes) k.stores;
+  bytes = moved_bytes s a h.bytes stores;
 })
 
 -- ---- a run
 
 boot_words : (image : List (ℕ × ℕ)) → HasBytes image → HasWords (boot image)
-unfolding boot started boot_memory boot_setup configured with_boot_bytes setup_of
+unfolding boot started boot_setup setup_of with_boot_bytes
 boot_words image h =
-    let m = image_memory image in
-    let bytes = stored_below (λ _. 0) image (λ x. omega arith) h in record {
+    let m = image_memory image in record {
       regs = written_below (2 ^ 32) (λ _. 0) (start_sets (boot_setup m)) (λ x. omega arith) (start_words (boot_setup m));
-      ip = aligned_word _ (word_below (with_boot_bytes m) FIRST_INSTRUCTION bytes);
-      bytes = bytes;
+      ip = aligned_word _ (word_below (with_boot_bytes m) FIRST_INSTRUCTION (image_bytes image h));
+      bytes = boot_bytes image h;
     }
 
-done_words : (g : Given) (r : Record) (rs : List Record) → IsPast g (r ∷ rs) → HasWords (state_after g rs)
+done_words : (g : Given) (r : Record) (rs : List Record) → IsPlan g.plan → IsPast g (r ∷ rs) → HasWords (state_after g rs)
     → DoesWords (action_by_kind r.kind (state_after g rs))
-done_words g r rs past h =
+done_words g r rs plan past h =
     let s = state_after g rs in
-    let comes = next_comes g.length (due_after rs) s r past.1 in
-    kind_words g.length (due_after rs) r.kind s comes.1 (next_read g.length (due_after rs) s r past.1) h (kept_after g rs past.0)
+    let event = event_after g rs in
+    let comes = next_comes g.length (due_after rs) event s r past.1 in
+    let read = next_read g.length (due_after rs) event s r past.1 in
+    kind_words g.length (due_after rs) event r.kind s comes.1 read h (lines_after g rs plan past.0) (kept_after g rs past.0)
 
-pub words_after : (g : Given) (rs : List Record) → HasBytes g.image → IsPast g rs → HasWords (state_after g rs)
-words_after g [] image past = boot_words g.image image
-words_after g (r ∷ rs) image past =
+pub words_after : (g : Given) (rs : List Record) → HasBytes g.image → IsPlan g.plan → IsPast g rs → HasWords (state_after g rs)
+words_after g [] image plan past = boot_words g.image image
+words_after g (r ∷ rs) image plan past =
     let s = state_after g rs in
-    let h = words_after g rs image past.0 in
-    let after = acted_words s (action_by_kind r.kind s) (done_words g r rs past h) h in
-    let comes = next_comes g.length (due_after rs) s r past.1 in
+    let h = words_after g rs image plan past.0 in
+    let stores = kind_stores r.kind s h.bytes in
+    let after = acted_words s (action_by_kind r.kind s) (done_words g r rs plan past h) stores h in
+    let comes = next_comes g.length (due_after rs) (event_after g rs) s r past.1 in
     subst (λ (q : Record). HasWords q.after) (sym comes.0) (record { regs = after.regs; ip = after.ip; bytes = after.bytes })
 
 -- the frames that are saved
-pub saved_after : (g : Given) (r : Record) (rs : List Record) → HasBytes g.image → IsPast g (r ∷ rs) → SavesWords (action_done r).move
-saved_after g r rs image past =
-    let comes = next_comes g.length (due_after rs) (state_after g rs) r past.1 in
-    let done = done_words g r rs past (words_after g rs image past.0) in
+pub saved_after : (g : Given) (r : Record) (rs : List Record) → HasBytes g.image → IsPlan g.plan → IsPast g (r ∷ rs)
+    → SavesWords (action_done r).move
+saved_after g r rs image plan past =
+    let comes = next_comes g.length (due_after rs) (event_after g rs) (state_after g rs) r past.1 in
+    let done = done_words g r rs plan past (words_after g rs image plan past.0) in
     subst (λ (q : Record). SavesWords (action_done q).move) (sym comes.0) done.saves
 
 -- ---- images

@@ -1,4 +1,6 @@
 use Rattle.i9_laws.proofs.KeptBits.{kept_after}
+use Rattle.i9_laws.proofs.KeptLines.{lines_after}
+use Rattle.i9_laws.proofs.BytesAfter.{bytes_after}
 use Rattle.i9_laws.proofs.WordsAfter.{words_after, parts_bytes}
 use Rattle.i9_laws.proofs.laws.kept_bits_stay.Goals as goal
 
@@ -14,14 +16,20 @@ returns-clause-tc c = λ g rs past. (kept_after g rs past).tc
 pub returns-clause-ip : goal.returns-clause-ip
 returns-clause-ip c = λ g rs past. (kept_after g rs past).ip
 
+pub returns-clause-pending : goal.returns-clause-pending
+returns-clause-pending c = λ g rs plan past. (lines_after g rs plan past).pending
+
+pub returns-clause-mask : goal.returns-clause-mask
+returns-clause-mask c = λ g rs plan past. (lines_after g rs plan past).mask
+
 pub returns-clause-registers : goal.returns-clause-registers
-returns-clause-registers c = λ g rs image past. (words_after g rs image past).regs
+returns-clause-registers c = λ g rs image plan past. (words_after g rs image plan past).regs
 
 pub returns-clause-address : goal.returns-clause-address
-returns-clause-address c = λ g rs image past. (words_after g rs image past).ip
+returns-clause-address c = λ g rs image plan past. (words_after g rs image plan past).ip
 
 pub returns-clause-bytes : goal.returns-clause-bytes
-returns-clause-bytes c = λ g rs image past. (words_after g rs image past).bytes
+returns-clause-bytes c = bytes_after
 
 pub returns-clause-images : goal.returns-clause-images
 returns-clause-images c = parts_bytes

@@ -1,0 +1,196 @@
+-- Along every run of a schedule's plan the pending and the mask word have the bits of lines alone.
+use Rattle.std.proofs.Common.{◌≡◌, ℕ, zero, suc, ◌^◌, ◌<◌, Bool, true, false, cond, eqb, List, [], ◌∷◌, length, Option, Some, None, refl, sym, ◌∙◌, subst, arith}
+use Rattle.std.specs.Prelude.{◌==◌}
+use Rattle.std.specs.List.{slice_get, AllByRecursion}
+use Rattle.std.proofs.lemmas.Nat.{and_mask, pow_below}
+use Rattle.i9_isa.specs.declared.op.Op.{Op}
+use Rattle.i9_isa.specs.declared.op.Op.TheVariants.{Lda, Atadd, Atmod, Bx, Balx, Bal, Call, Callx, Calls, Ret, Flushreg, Modac, Modtc, Modpc, Sysctl}
+use Rattle.i9_isa.specs.declared.size.Size.{Size}
+use Rattle.i9_isa.specs.declared.size.Direction.{Direction}
+use Rattle.i9_isa.specs.declared.size.Direction.TheVariants.{Load, Store}
+use Rattle.i9_isa.specs.declared.size.Transfer.{Transfer}
+use Rattle.i9_isa.specs.declared.inst.Operand.{Operand}
+use Rattle.i9_isa.specs.declared.inst.Operand.TheVariants.{Reg, Lit, Sfr}
+use Rattle.i9_isa.specs.declared.inst.Inst.{Inst}
+use Rattle.i9_isa.specs.Transfers.{transfer_of}
+use Rattle.i9_model.specs.declared.interrupts.TheConstants.{LINE_MASK}
+use Rattle.i9_model.specs.declared.interrupts.Cause.{Cause}
+use Rattle.i9_model.specs.declared.interrupts.Cause.TheVariants as causes
+use Rattle.i9_model.specs.declared.event.Event.{Event}
+use Rattle.i9_model.specs.declared.event.Event.TheVariants.{Pin, Nmi, Dma, Feed, Show}
+use Rattle.i9_model.specs.declared.event.Timed.{Timed}
+use Rattle.i9_model.specs.declared.run.Due.{Due}
+use Rattle.i9_model.specs.Events.{IsInRange}
+use Rattle.i9_model.specs.ScheduleText.{IsTimedInRange, IsPlan, time_of, event_at, standing}
+use Rattle.i9_model.specs.Memory.{word_in}
+use Rattle.i9_model.specs.State as states
+use Rattle.i9_model.specs.State.{State, Interrupts, started, boot}
+use Rattle.i9_model.specs.Numbers.{complement}
+use Rattle.i9_model.specs.Branches.{asks, question_of}
+use Rattle.i9_model.specs.Operands.{with_pending, with_mask, interrupts_assigned, address}
+use Rattle.i9_model.specs.Interrupts.{cleared}
+use Rattle.i9_model.specs.Tables.{group_words}
+use Rattle.i9_model.specs.Controls.{Control, KeepsControls, Restarts, LoadsGroup, controlled}
+use Rattle.i9_model.specs.Step.{Action, loaded, atomic_address, following, values_of, destination, answer_in, branching, resulting, moving, Message, AsksNothing, AsksInterrupt, AsksRestart, AsksGroup, message_kind, message_of, message_action, action_by_name, action_by, action_of, moved, acted}
+use Rattle.i9_model.specs.Before.{posted_by}
+use Rattle.i9_model.specs.Run.{Given, Record, Kind, Instruction, Faulted, Entered, Interrupted, Reached, action_by_kind, due_after, reached_after, event_after, state_after, IsPast}
+use Rattle.i9_model.proofs.ControlLaws.{by_group}
+use Rattle.i9_model.proofs.Comes.{MayCome, next_comes}
+use Rattle.i9_model.proofs.KeptBits.{masked}
+use Rattle.i9_laws.specs.Kept.{IsWithin, IsWord}
+use Rattle.i9_laws.proofs.KeptBits.{masked_more, masked_or}
+
+-- the words of the special function registers: two of lines, and the DMA command word
+pub record AreLines (i : Interrupts) (d : states.Dma) : Type 0 where
+  pub pending : IsWithin LINE_MASK i.pending
+  pub mask : IsWithin LINE_MASK i.mask
+  pub command : IsWord d.dmac
+
+abbrev pub HasLines : State → Type 0
+HasLines s = AreLines s.interrupts s.dma
+
+abbrev LeavesLines : Action → Type 0
+LeavesLines a = AreLines a.interrupts a.dma
+
+-- ---- what posts and clears
+
+-- the bits of lines are the low twelve
+line_bit : (k : ℕ) → k < 12 → IsWithin LINE_MASK (2 ^ k)
+line_bit k h = let small = pow_below k 12 h in and_mask (2 ^ k) 12 ∙ omega (arith, small)
+
+posted_lines : (e : Event) (i : Interrupts) (d : states.Dma) → IsInRange e → AreLines i d → AreLines (posted_by e i) d
+posted_lines (Pin x) i d range h =
+    record { pending = masked_or LINE_MASK i.pending (2 ^ x) h.pending (line_bit x (omega (arith, range))); mask = h.mask; command = h.command }
+posted_lines Nmi i d range h = record { pending = h.pending; mask = h.mask; command = h.command }
+posted_lines (Dma c) i d range h = h
+posted_lines (Feed c bytes) i d range h = h
+posted_lines (Show a n) i d range h = h
+
+cleared_lines : (c : Cause) (i : Interrupts) (d : states.Dma) → AreLines i d → AreLines (cleared c i) d
+cleared_lines causes.Nmi i d h = record { pending = h.pending; mask = h.mask; command = h.command }
+cleared_lines (causes.Line k) i d h =
+    record { pending = masked_more LINE_MASK i.pending (complement (2 ^ k)) h.pending; mask = h.mask; command = h.command }
+cleared_lines causes.Soft i d h = h
+
+special_lines : (a b : Bool) (v : ℕ) (i : Interrupts) (d : states.Dma) → AreLines i d
+    → AreLines (cond a (with_pending i v) (cond b (with_mask i v) i)) d
+special_lines true b v i d h = record { pending = masked LINE_MASK v; mask = h.mask; command = h.command }
+special_lines false true v i d h = record { pending = h.pending; mask = masked LINE_MASK v; command = h.command }
+special_lines false false v i d h = h
+
+assigned_lines : (o : Operand) (vs : List ℕ) (i : Interrupts) (d : states.Dma) → AreLines i d → AreLines (interrupts_assigned o vs i) d
+assigned_lines (Reg r) vs i d h = h
+assigned_lines (Lit n) vs i d h = h
+assigned_lines (Sfr k) [] i d h = h
+assigned_lines (Sfr k) (v ∷ vs) i d h = special_lines (k == 0) (k == 1) v i d h
+
+-- ---- an instruction
+
+-- a destination gets values
+assigning_lines : (o : Operand) (vs : List ℕ) (s : State) → HasLines s → AreLines (interrupts_assigned o vs s.interrupts) s.dma
+assigning_lines o vs s h = assigned_lines o vs s.interrupts s.dma h
+
+message_lines : (m : Message) (i : Inst) (s : State) → HasLines s → LeavesLines (message_action m i s)
+message_lines AsksNothing i s h = h
+message_lines AsksInterrupt i s h = h
+message_lines AsksRestart i s h = h
+message_lines AsksGroup i s h = h
+
+other_lines : (b : Bool) (i : Inst) (s : State) → HasLines s → LeavesLines (cond b (branching i s) (resulting i s (answer_in i s)))
+other_lines true i s h = h
+other_lines false i s h = assigning_lines (destination i) (values_of (answer_in i s)) s h
+
+name_lines : (op : Op) (i : Inst) (s : State) → HasLines s → LeavesLines (action_by_name op i s)
+name_lines Lda i s h = assigning_lines i.c (address s i.ea ∷ []) s h
+name_lines Atadd i s h = assigning_lines i.c (word_in s.memory (atomic_address i s) ∷ []) s h
+name_lines Atmod i s h = assigning_lines i.c (word_in s.memory (atomic_address i s) ∷ []) s h
+name_lines Bx i s h = h
+name_lines Balx i s h = assigning_lines i.c (following i s ∷ []) s h
+name_lines Bal i s h = h
+name_lines Call i s h = h
+name_lines Callx i s h = h
+name_lines Calls i s h = h
+name_lines Ret i s h = h
+name_lines Flushreg i s h = h
+name_lines Modac i s h = assigning_lines i.c (s.ac ∷ []) s h
+name_lines Modtc i s h = assigning_lines i.c (s.trace.tc ∷ []) s h
+name_lines Modpc i s h = assigning_lines i.c (s.pc ∷ []) s h
+name_lines Sysctl i s h = message_lines (message_kind (message_of i s)) i s h
+name_lines op i s h = other_lines (asks (question_of op)) i s h
+
+moving_lines : (d : Direction) (size : Size) (signed : Bool) (i : Inst) (s : State) → HasLines s → LeavesLines (moving d size signed i s)
+moving_lines Load size signed i s h = assigning_lines i.c (loaded size signed s.memory (address s i.ea)) s h
+moving_lines Store size signed i s h = h
+
+instruction_lines : (i : Inst) (s : State) → HasLines s → LeavesLines (action_of i s)
+unfolding action_of
+instruction_lines i s h = by_transfer (transfer_of i.op)
+  where
+    by_transfer : (o : Option Transfer) → LeavesLines (action_by o i s)
+    by_transfer (Some t) = moving_lines t.direction t.size t.signed i s h
+    by_transfer None = name_lines i.op i s h
+
+-- ---- what comes next
+
+-- an event of a plan is in its range
+plan_range : (plan : List Timed) (place : ℕ) (t : Timed) → AllByRecursion IsTimedInRange plan → slice_get plan place ≡ Some t
+    → IsInRange t.event
+plan_range [] place t all is = absurd cc
+plan_range (x ∷ plan) zero t all is = let same : x ≡ t = cc in subst (λ (y : Timed). IsInRange y.event) same all.0.event
+plan_range (x ∷ plan) (suc place) t all is = plan_range plan place t all.1 is
+
+-- and so is one that stands
+standing_range : (plan : List Timed) (place k : ℕ) (e : Event) → AllByRecursion IsTimedInRange plan → standing plan place k ≡ Some e
+    → IsInRange e
+standing_range plan place k e all is = by_place (slice_get plan place) refl is
+  where
+    by_time : (t : Timed) (b : Bool) → IsInRange t.event → cond b (Some t.event) None ≡ Some e → IsInRange e
+    by_time t true range h = let same : t.event ≡ e = cc in subst IsInRange same range
+    by_time t false range h = absurd cc
+
+    by_place : (o : Option Timed) → slice_get plan place ≡ o → event_at k o ≡ Some e → IsInRange e
+    by_place None at h = absurd cc
+    by_place (Some t) at h = by_time t (time_of t == k) (plan_range plan place t all at) h
+
+kind_lines : (limit : ℕ) (due : Due) (stands : Option Event) (k : Kind) (s : State) → ((e : Event) → stands ≡ Some e → IsInRange e)
+    → MayCome limit due stands s k → HasLines s → LeavesLines (action_by_kind k s)
+kind_lines limit due stands (Instruction i) s range may h = instruction_lines i s h
+kind_lines limit due stands (Faulted inst fault) s range may h = h
+kind_lines limit due stands (Entered e) s range may h = h
+kind_lines limit due stands (Interrupted c e) s range may h = cleared_lines c.cause s.interrupts s.dma h
+kind_lines limit due stands (Reached e) s range may h = posted_lines e s.interrupts s.dma (range e may.2) h
+
+-- ---- the state after it
+
+group_lines : (a b c : Bool) (s : State) (group : ℕ) (ws : List ℕ) → HasLines s → HasLines (by_group a b c s group ws)
+group_lines true b c s group ws h = h
+group_lines false true c s group ws h = record { pending = h.pending; mask = h.mask; command = h.command }
+group_lines false false true s group ws h = h
+group_lines false false false s group ws h = h
+
+controlled_lines : (s : State) (c : Control) → HasLines s → HasLines (controlled s c)
+unfolding started
+controlled_lines s KeepsControls h = h
+controlled_lines s (Restarts first prcb) h = record { pending = refl; mask = refl; command = omega arith }
+controlled_lines s (LoadsGroup group) h =
+    group_lines (eqb group 0) (eqb group 1) (eqb group 6) s group (group_words s.memory s.tables.control_table group) h
+
+acted_lines : (s : State) (a : Action) → LeavesLines a → HasLines (acted s a)
+unfolding acted moved
+acted_lines s a h = controlled_lines (moved s a) a.control h
+
+-- ---- a run
+
+boot_lines : (image : List (ℕ × ℕ)) → HasLines (boot image)
+unfolding boot started
+boot_lines image = record { pending = refl; mask = refl; command = omega arith }
+
+pub lines_after : (g : Given) (rs : List Record) → IsPlan g.plan → IsPast g rs → HasLines (state_after g rs)
+lines_after g [] plan past = boot_lines g.image
+lines_after g (r ∷ rs) plan past =
+    let s = state_after g rs in
+    let event = event_after g rs in
+    let range = λ (e : Event) (is : event ≡ Some e). standing_range g.plan (length (reached_after rs)) s.count e plan.each is in
+    let comes = next_comes g.length (due_after rs) event s r past.1 in
+    let leaves = kind_lines g.length (due_after rs) event r.kind s range comes.1 (lines_after g rs plan past.0) in
+    subst (λ (q : Record). HasLines q.after) (sym comes.0) (acted_lines s (action_by_kind r.kind s) leaves)

@@ -1,0 +1,15 @@
+use Rattle.i9_laws.proofs.RunsAgain.{reaches_front, text_is_schedule, run_again}
+use Rattle.i9_laws.proofs.Passed.{none_passed}
+use Rattle.i9_laws.proofs.replay.printed_text_replays_its_run.Goals as goal
+
+pub returns-clause-reached : goal.returns-clause-reached
+returns-clause-reached c = reaches_front
+
+pub returns-clause-passed : goal.returns-clause-passed
+returns-clause-passed c = none_passed
+
+pub returns-clause-text : goal.returns-clause-text
+returns-clause-text c = text_is_schedule
+
+pub returns-clause-again : goal.returns-clause-again
+returns-clause-again c = run_again
