@@ -1,18 +1,28 @@
 -- What is planned by reads that meet no hazard is planned by the memory behind the held frames.
-use Rattle.std.proofs.Common.{◌≡◌, ℕ, false, None, sym, ap, ◌∙◌, arith}
-use Rattle.std.specs.Prelude.{not}
+use Rattle.std.proofs.Common.{◌≡◌, ℕ, false, List, None, Result, Ok, Err, sym, ap, ◌∙◌, subst, arith}
+use Rattle.std.specs.Prelude.{not, IfOk}
 use Rattle.std.proofs.lemmas.Bool.{or_right}
 use Rattle.i9_model.specs.declared.faults.Fault.{Fault}
+use Rattle.i9_model.specs.declared.faults.Entry.{Entry}
+use Rattle.i9_model.specs.declared.push.Push.{Push}
+use Rattle.i9_model.specs.declared.interrupts.Chosen.{Chosen}
 use Rattle.i9_model.specs.Memory as model
-use Rattle.i9_model.specs.Memory.{half_in, word_in}
-use Rattle.i9_model.specs.Hazards.{read_hazard}
+use Rattle.i9_model.specs.Memory.{half_in, word_in, with_writes}
+use Rattle.i9_model.specs.State.{Frames, Interrupts}
+use Rattle.i9_model.specs.Hazards.{or_else, unless, read_hazard, save_hazard, record_write_hazard}
+use Rattle.i9_model.specs.Requests.{request_hazard, request_writes}
+use Rattle.i9_model.specs.Interrupts.{chosen_soft, clearing_writes, vector_place, interrupt_push, interrupt_record, record_writes, cleared_hazard, interrupt_hazard, interrupt_entry, planned_interrupt}
 use Rattle.i9_model.specs.Calls.{planned_calls, planned_ret}
 use Rattle.i9_model.specs.Faults.{planned_fault}
-use Rattle.i9_model.specs.Alike.{is_beyond}
-use Rattle.i9_model.specs.HeldFrames.{overlaid}
+use Rattle.i9_model.specs.Alike.{is_beyond, is_hard, AgreeWhere, with_other}
+use Rattle.i9_model.specs.HeldFrames.{Cache, overlaid}
+use Rattle.i9_model.proofs.CallLaws.{second_none, unless_ok}
+use Rattle.i9_model.proofs.Overlays.{over_mcon}
 use Rattle.i9_model.proofs.HeldFrames.{hard_behind}
 use Rattle.i9_model.proofs.Readings.{half_same, word_same}
-use Rattle.i9_model.proofs.AlikeFetches.{planned_calls_same, planned_ret_same, planned_fault_same}
+use Rattle.i9_model.proofs.AlikeFetches.{unless_same, planned_calls_same, planned_ret_same, planned_fault_same}
+use Rattle.i9_model.proofs.AlikeActions.{request_same}
+use Rattle.i9_model.proofs.AlikeInterrupts.{chosen_soft_same, planned_same, cleared_same}
 use Rattle.i9_memory.specs.declared.memory.Memory.{Memory}
 use Rattle.i9_memory.specs.Memory.{memory_of}
 use Rattle.i9_watch.specs.declared.watch.Watch.{Watch}
@@ -63,3 +73,62 @@ fault_laid m w h table system fault pc ac fp sp kept =
     let f = frames_of w in
     sym (planned_fault_same f (memory_of m) (overlaid c).bytes table system fault pc ac fp sp (hard_behind c f kept.sound kept.youngest))
     ∙ ap (λ (x : model.Memory). planned_fault x f table system fault pc ac fp sp) (laid_other c)
+
+-- ---- interrupts
+
+pub chosen_laid : (m : Memory) (w : Watch) (h : Held) (i : Interrupts) (table pc : ℕ) → IsKept m w h → chosen_soft i (memory_of m) (frames_of w) table pc ≡ chosen_soft i (overlaid (cache_in m h)) (frames_of w) table pc
+chosen_laid m w h i table pc kept =
+    let c = cache_in m h in
+    let f = frames_of w in
+    sym (chosen_soft_same i f (memory_of m) (overlaid c).bytes table pc (hard_behind c f kept.sound kept.youngest))
+    ∙ ap (λ (x : model.Memory). chosen_soft i x f table pc) (laid_other c)
+
+pub interrupt_laid : (m : Memory) (w : Watch) (h : Held) (table stack : ℕ) (chosen : Chosen) (pc ac fp sp : ℕ) → IsKept m w h
+    → planned_interrupt (memory_of m) (frames_of w) table stack chosen pc ac fp sp ≡ planned_interrupt (overlaid (cache_in m h)) (frames_of w) table stack chosen pc ac fp sp
+interrupt_laid m w h table stack chosen pc ac fp sp kept =
+    let c = cache_in m h in
+    let f = frames_of w in
+    sym (planned_same f (memory_of m) (overlaid c).bytes table stack chosen pc ac fp sp (hard_behind c f kept.sound kept.youngest))
+    ∙ ap (λ (x : model.Memory). planned_interrupt x f table stack chosen pc ac fp sp) (laid_other c)
+
+-- what chose an interrupt whose entry is planned can be cleared
+planned_clears : (m : model.Memory) (f : Frames) (table stack : ℕ) (c : Chosen) (pc ac fp sp : ℕ) (e : Entry) → planned_interrupt m f table stack c pc ac fp sp ≡ Ok e → cleared_hazard m f table c e.push e.words ≡ None
+unfolding planned_interrupt interrupt_hazard
+planned_clears m f table stack c pc ac fp sp e is =
+    let push = interrupt_push stack pc fp sp in
+    let words = interrupt_record c.vector pc ac in
+    let vector = read_hazard f (vector_place table c.vector) 4 in
+    let clear = cleared_hazard m f table c push words in
+    let recorded = or_else (record_write_hazard f push) clear in
+    let later = or_else (save_hazard f push.save) recorded in
+    let found = unless_ok (or_else vector later) (interrupt_entry m table c push words) e is in
+    let none = second_none (record_write_hazard f push) clear (second_none (save_hazard f push.save) recorded (second_none vector later found.0)) in
+    subst (λ (x : Entry). cleared_hazard m f table c x.push x.words ≡ None) found.1 none
+
+pub plan_clears : (m : model.Memory) (f : Frames) (table stack : ℕ) (c : Chosen) (pc ac fp sp : ℕ) (r : Result Entry ℕ) → r ≡ planned_interrupt m f table stack c pc ac fp sp → IfOk r (λ e. cleared_hazard m f table c e.push e.words ≡ None)
+plan_clears m f table stack c pc ac fp sp (Ok e) is = planned_clears m f table stack c pc ac fp sp e (sym is)
+plan_clears m f table stack c pc ac fp sp (Err a) is = tt
+
+-- memory behind the frames has the configuration words of what lies over it
+behind_other : (c : Cache) → with_other (overlaid c) c.behind.bytes ≡ c.behind
+behind_other c = ap (λ (k : ℕ → ℕ). record { bytes = c.behind.bytes; mcon = k }) (over_mcon c.held c.behind)
+
+pub clearing_laid : (m : Memory) (w : Watch) (h : Held) (table : ℕ) (chosen : Chosen) (push : Push) (words : List ℕ) → IsKept m w h → cleared_hazard (overlaid (cache_in m h)) (frames_of w) table chosen push words ≡ None
+    → clearing_writes chosen.cause (with_writes (memory_of m) (record_writes (memory_of m) push words)) table chosen.vector
+    ≡ clearing_writes chosen.cause (with_writes (overlaid (cache_in m h)) (record_writes (overlaid (cache_in m h)) push words)) table chosen.vector
+clearing_laid m w h table chosen push words kept none =
+    let c = cache_in m h in
+    let f = frames_of w in
+    let same : AgreeWhere (is_hard f) (overlaid c) c.behind.bytes = λ x hard. sym (hard_behind c f kept.sound kept.youngest x hard) in
+    sym (ap (λ (x : model.Memory). clearing_writes chosen.cause (with_writes x (record_writes x push words)) table chosen.vector) (behind_other c))
+    ∙ cleared_same f (overlaid c) c.behind.bytes table chosen push words same none
+
+pub request_laid : (m : Memory) (w : Watch) (h : Held) (table v : ℕ) → IsKept m w h
+    → unless (request_hazard (frames_of w) table v) (request_writes (memory_of m) table v) ≡ unless (request_hazard (frames_of w) table v) (request_writes (overlaid (cache_in m h)) table v)
+request_laid m w h table v kept =
+    let c = cache_in m h in
+    let f = frames_of w in
+    let hazard = request_hazard f table v in
+    sym (unless_same hazard (request_writes (memory_of m) table v) (request_writes (with_other (memory_of m) (overlaid c).bytes) table v)
+    (λ none. request_same f (memory_of m) (overlaid c).bytes table v (hard_behind c f kept.sound kept.youngest) none))
+    ∙ ap (λ (x : model.Memory). unless hazard (request_writes x table v)) (laid_other c)

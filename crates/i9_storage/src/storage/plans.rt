@@ -1,5 +1,5 @@
-//! What system calls, returns and faults make, and what tables say. Each of their reads ends them at
-//! a byte that is soft, as all bytes of held frames are, so memory alone answers them.
+//! What system calls, returns, faults and interrupts make, and what tables say. Each of their reads
+//! ends them at a byte that is soft, as all bytes of held frames are, so memory alone answers them.
 ghost use Rattle.std.specs.Prelude.{◌≡◌, ◌+◌, ◌%◌, ◌<◌, ◌≤◌, ◌↔◌, IsTrue, None, IfOk, OnErr, [], length};
 ghost use Rattle.i9_model.specs.declared.layout.TheConstants.{PC_MASK, AC_MASK};
 ghost use Rattle.i9_model.specs.Hazards.{save_hazard};
@@ -7,15 +7,21 @@ ghost use Rattle.i9_model.specs.Boot.{with_regions, configured};
 ghost use Rattle.i9_model.specs.Tables.{planned_setup, planned_group};
 ghost use Rattle.i9_model.specs.Calls.{planned_calls, planned_ret};
 ghost use Rattle.i9_model.specs.Faults.{planned_fault};
-ghost use Rattle.i9_model.specs.Hazards.{record_write_hazard};
+ghost use Rattle.i9_model.specs.Memory.{with_writes};
+ghost use Rattle.i9_model.specs.Hazards.{record_write_hazard, unless};
+ghost use Rattle.i9_model.specs.Requests.{request_hazard, request_writes};
+ghost use Rattle.i9_model.specs.Interrupts.{chosen_soft, record_writes, cleared_hazard, clearing_writes, planned_interrupt};
 ghost use Rattle.i9_model.specs.HeldFrames.{cache_configured};
 ghost use Rattle.i9_model.specs.Numbers.{IsWithin};
 ghost use Rattle.i9_memory.specs.Memory.{memory_of, KeepsRoom};
+ghost use Rattle.i9_ints.specs.Ints.{interrupts_of};
 
 use super::Storage;
+use arrayvec::ArrayVec;
 use i9_boot::{control_group, reinit};
 use i9_calls::{CallsStop, Pop, Sys, plan_calls, plan_ret};
 use i9_faults::{Entry, Fault, FaultStop, plan_fault};
+use i9_ints::{Chosen, IntEntry, Ints, clearing_bytes, plan_request};
 use i9_memory::Memory;
 use i9_model::Setup;
 
@@ -107,6 +113,68 @@ impl Storage {
             fp,
             sp,
         )
+    }
+
+    /// The interrupt that comes next where the requests of software count too, by the interrupt
+    /// table at `table` and the process controls. `Err` is the hazard of the bytes with the requests,
+    /// which are read in any case (the i960 CA/CF User's Manual, interrupts).
+    pub fn choose_soft(&self, ints: &Ints, table: u32, pc: u32) -> Result<Option<Chosen>, u32>
+        ensures { result ≡ chosen_soft (interrupts_of ints.now) (memory_in self.now) (frames_in self.now) table pc }
+    {
+        ints.choose_soft(&self.memory, &self.watch, table, pc)
+    }
+
+    /// What the entry of an interrupt makes, by the interrupt table at `table`, the interrupt stack
+    /// at `stack`, the controls, and the frame and stack pointers. `Err` is the hazard of the first
+    /// access that meets one: the word of the vector, the save area, the record, and what then clears
+    /// a request of software (the i960 CA/CF User's Manual, interrupts).
+    pub fn plan_interrupt(
+        &self,
+        ints: &Ints,
+        table: u32,
+        stack: u32,
+        c: &Chosen,
+        pc: u32,
+        ac: u32,
+        fp: u32,
+        sp: u32,
+    ) -> Result<IntEntry, u32>
+        ensures entry { result ≡ planned_interrupt (memory_in self.now) (frames_in self.now) table stack c.now pc ac fp sp }
+
+        // So the frame can be saved there.
+        ensures free { IfOk result (λ e. save_hazard (frames_in self.now) e.push.save ≡ None) }
+        ensures aligned { IfOk result (λ e. e.push.save % 16 ≡ 0) }
+
+        // The record can be written below the new one.
+        ensures record { IfOk result (λ e. record_write_hazard (frames_in self.now) e.push ≡ None) }
+
+        // And then what chose the interrupt can be cleared.
+        ensures clear { IfOk result (λ e. cleared_hazard (memory_in self.now) (frames_in self.now) table c.now e.push e.words ≡ None) }
+    {
+        ints.plan_int(&self.memory, &self.watch, table, stack, c, pc, ac, fp, sp)
+    }
+
+    /// The bytes that clear what chose an interrupt, each with its address, once its frame is saved
+    /// and its record is written: of a request of software the byte without the bit of the vector,
+    /// and with the last of its vectors before it the byte without the bit of its priority (the i960
+    /// CA/CF User's Manual, interrupts).
+    pub fn clearing_bytes(&self, table: u32, c: &Chosen, e: &IntEntry) -> ArrayVec<(u32, u8), 2>
+        requires record { record_write_hazard (frames_in self.now) e.now.push ≡ None }
+        requires clear { cleared_hazard (memory_in self.now) (frames_in self.now) table c.now e.now.push e.now.words ≡ None }
+        ensures { result.items ≡ clearing_writes c.now.cause
+            (with_writes (memory_in self.now) (record_writes (memory_in self.now) e.now.push e.now.words)) table c.now.vector }
+    {
+        clearing_bytes(&self.memory, table, c, e)
+    }
+
+    /// What a request of software for vector `v` stores, in the interrupt table at `table`: the byte
+    /// with the bit of its priority and the byte with its own, each with its address and with that
+    /// bit set. `Err` is the hazard of the first access that meets one: both bytes are read, and then
+    /// both are written (after the i960 CA/CF User's Manual, interrupts).
+    pub fn plan_request(&self, table: u32, v: u8) -> Result<[(u32, u8); 2], u32>
+        ensures { result ≡ unless (request_hazard (frames_in self.now) table v) (request_writes (memory_in self.now) table v) }
+    {
+        plan_request(&self.memory, &self.watch, table, v)
     }
 
     /// Starts anew at the instruction address `first`, where nothing is held: reads the PRCB at
