@@ -104,6 +104,13 @@ impl Ints {
         self.maps[k as usize] = v;
     }
 
+    /// Sets all three map words.
+    pub fn set_maps(&mut self, maps: [u32; 3])
+        ensures { interrupts_of self.new ≡ record (interrupts_of self.old) { maps = maps } }
+    {
+        self.maps = maps;
+    }
+
     /// Whether the interrupt that is never masked is posted.
     pub(crate) fn is_nmi_posted(&self) -> bool
         ensures { result ≡ (interrupts_of self.now).nmi }

@@ -28,7 +28,7 @@ fn controller(pending: u32, mask: u32, maps: (u32, u32, u32)) -> Ints {
     let mut ints = Ints::new();
     ints.set_pending(pending);
     ints.set_mask(mask);
-    ints.set_map(0, maps.0);
+    ints.set_maps([maps.0, 0, 0]);
     ints.set_map(1, maps.1);
     ints.set_map(2, maps.2);
     ints

@@ -1,5 +1,5 @@
 -- What was planned in a state can be done in one that is alike, and leaves states that are alike.
-use Rattle.std.proofs.Common.{◌≡◌, ℕ, ◌%◌, ◌<◌, ◌||◌, ◌==◌, nat_lt, Bool, true, false, List, [], ◌∷◌, length, refl, sym, ap, ◌∙◌, subst, arith}
+use Rattle.std.proofs.Common.{◌≡◌, ℕ, ◌%◌, ◌<◌, ◌||◌, ◌==◌, nat_lt, Bool, true, false, List, [], ◌∷◌, ◌++◌, length, refl, sym, ap, ◌∙◌, subst, arith}
 use Rattle.std.specs.Prelude.{max}
 use Rattle.std.proofs.lemmas.Bool.{or_left, or_right}
 use Rattle.std.proofs.lemmas.Bool.Decides.{nat_tests}
@@ -28,6 +28,7 @@ use Rattle.i9_processor.specs.declared.effect.Control.TheVariants as controls
 use Rattle.i9_processor.specs.declared.processor.Processor.{Processor}
 use Rattle.i9_processor.specs.Effect.{control_in, CanControl, is_costly}
 use Rattle.i9_processor.specs.State.{state_of, cache_of, size_of}
+use Rattle.i9_processor.proofs.Appending.{longer_first, longer_later}
 
 pub can_alike : (c : Control) (s t : State) → AreAlike s t → CanControl s c → CanControl t c
 can_alike controls.Keeps s t alike can = tt
@@ -104,15 +105,21 @@ some_writes : (n : ℕ) (c : Bool) → 0 < n → (nat_lt 0 n || c) ≡ true
 some_writes n c h = or_left (nat_lt 0 n) c (grind (arith, nat_tests, h))
 
 -- where bytes are stored, something is written
-pub stored_writes : (a : ℕ) (bs : List ℕ) (c : Bool) → 0 < length bs → (nat_lt 0 (length (upwards a bs)) || c) ≡ true
-stored_writes a [] c h = absurd (omega arith)
-stored_writes a (b ∷ bs) c h = some_writes (length (upwards a (b ∷ bs))) c (omega arith)
+run_long : (a : ℕ) (bs : List ℕ) → 0 < length bs → 0 < length (upwards a bs)
+run_long a [] h = absurd (omega arith)
+run_long a (b ∷ bs) h = omega arith
+
+pub stored_writes : (a : ℕ) (bs : List ℕ) (qs : List (ℕ × ℕ)) (c : Bool) → 0 < length bs → (nat_lt 0 (length (upwards a bs ++ qs)) || c) ≡ true
+stored_writes a bs qs c h = some_writes (length (upwards a bs ++ qs)) c (longer_first (upwards a bs) qs (run_long a bs h))
+
+pub requested_writes : (ps qs : List (ℕ × ℕ)) (c : Bool) → 0 < length qs → (nat_lt 0 (length (ps ++ qs)) || c) ≡ true
+requested_writes ps qs c h = some_writes (length (ps ++ qs)) c (longer_later ps qs h)
 
 -- and where a frame is saved
 pub saved_writes : (n : ℕ) (m : Move) → is_costly m ≡ true → (nat_lt 0 n || is_costly m) ≡ true
 saved_writes n m h = or_right (nat_lt 0 n) (is_costly m) h
 
-pub ruleset room_rules = (stored_writes, saved_writes)
+pub ruleset room_rules = (stored_writes, requested_writes, saved_writes)
 
 -- a push saves all locals
 pub locals_whole : (s : State) (back : ℕ) → length (saved_locals s back) ≡ LOCALS

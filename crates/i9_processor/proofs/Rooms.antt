@@ -10,7 +10,8 @@ use Rattle.i9_processor.specs.declared.effect.Effect.{Effect}
 use Rattle.i9_processor.specs.declared.effect.Move.{Move}
 use Rattle.i9_processor.specs.declared.effect.Move.TheVariants as moves
 use Rattle.i9_processor.specs.declared.processor.Processor.{Processor}
-use Rattle.i9_processor.specs.Effect.{action_in, run_in, move_in, AreSpacious, HasMoveSpace, HasSpaceFor, HasRoomToMove, HasRoomFor}
+use Rattle.i9_processor.proofs.Appending.{first_spacious, later_spacious}
+use Rattle.i9_processor.specs.Effect.{action_in, run_in, requests_in, move_in, HasMoveSpace, HasSpaceFor, HasRoomToMove, HasRoomFor}
 
 -- bytes one by one are bytes in a row
 row_space : (s : Storage) (a : ℕ) (bs : List ℕ) → AllByRecursion (λ w. HasSpace s w.0 1) (upwards a bs) → (k : ℕ) → k < length bs → IsReserved s.memory (wrapped (a + k))
@@ -31,17 +32,9 @@ move_space s t (moves.Saves push back) room = room
 move_space s t (moves.Returns frame) room = tt
 move_space s t moves.Flushes room = tt
 
-first_space : (s : Storage) (ps qs : List (ℕ × ℕ)) → AreSpacious s (ps ++ qs) → AreSpacious s ps
-first_space s [] qs all = tt
-first_space s (p ∷ ps) qs all = (all.0, first_space s ps qs all.1)
-
-later_space : (s : Storage) (ps qs : List (ℕ × ℕ)) → AreSpacious s (ps ++ qs) → AreSpacious s qs
-later_space s [] qs all = all
-later_space s (p ∷ ps) qs all = later_space s ps qs all.1
-
 pub room_space : (p : Processor) (s : State) (e : Effect) → HasRoomFor p (action_in s e) → HasSpaceFor p e
 room_space p s e room = record {
-  bytes = row_space p.storage e.address e.bytes.items (first_space p.storage (run_in e) e.requests.items room.bytes);
-  requests = later_space p.storage (run_in e) e.requests.items room.bytes;
+  bytes = row_space p.storage e.address e.bytes.items (first_spacious p.storage (run_in e) (requests_in e.requests) room.bytes);
+  requests = later_spacious p.storage (run_in e) (requests_in e.requests) room.bytes;
   frames = move_space p.storage s e.frames room.frames;
 }

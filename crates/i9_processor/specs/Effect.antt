@@ -1,5 +1,5 @@
 -- An effect as the action of the definitions, and where it can be applied.
-use Rattle.std.specs.Prelude.{◌≡◌, ℕ, ◌+◌, ◌<◌, ◌≤◌, ◌%◌, Bool, true, false, ◌||◌, nat_lt, List, [], ◌++◌, length, Option, None, Some, unwrap_or}
+use Rattle.std.specs.Prelude.{◌≡◌, ℕ, ◌+◌, ◌<◌, ◌≤◌, ◌%◌, Bool, true, false, ◌||◌, nat_lt, List, [], ◌∷◌, ◌++◌, length, Option, None, Some, unwrap_or}
 use Rattle.std.specs.List.{AllByRecursion}
 use Rattle.i9_model.specs.declared.layout.TheConstants.{LOCALS}
 use Rattle.i9_model.specs.Writes.{pairs_at, upwards}
@@ -18,6 +18,7 @@ use Rattle.i9_storage.specs.declared.storage.Storage.{Storage}
 use Rattle.i9_storage.specs.Storage.{HasSpace, HasFrameSpace}
 use Rattle.i9_processor.specs.declared.effect.Move.{Move}
 use Rattle.i9_processor.specs.declared.effect.Move.TheVariants as moves
+use Rattle.i9_processor.specs.declared.effect.Requests.{Requests}
 use Rattle.i9_processor.specs.declared.effect.Posting.{Posting}
 use Rattle.i9_processor.specs.declared.effect.Posting.TheVariants as postings
 use Rattle.i9_processor.specs.declared.effect.Control.{Control}
@@ -61,12 +62,23 @@ posting_in (postings.Clears c) i = cleared c i
 posting_in (postings.Pending v) i = with_pending i v
 posting_in (postings.Mask v) i = with_mask i v
 
+-- bytes with bits of requests, each with its address
+abbrev pub one_in : Option (ℕ × ℕ) → List (ℕ × ℕ)
+one_in None = []
+one_in (Some p) = p ∷ []
+
+abbrev pub requests_in : Requests → List (ℕ × ℕ)
+requests_in r = one_in r.first ++ one_in r.second
+
+abbrev pub no_requests : Requests
+no_requests = record { first = None; second = None }
+
 -- the bytes in a row that an effect stores, and those with bits of requests behind them
 abbrev pub run_in : Effect → List (ℕ × ℕ)
 run_in e = upwards e.address e.bytes.items
 
 abbrev pub writes_in : Effect → List (ℕ × ℕ)
-writes_in e = run_in e ++ e.requests.items
+writes_in e = run_in e ++ requests_in e.requests
 
 -- the action of an effect in a state; DMA stays as it is
 abbrev pub action_in : State → Effect → plain.Action
@@ -130,7 +142,7 @@ AreSpacious s ps = AllByRecursion (λ w. HasSpace s w.0 1) ps
 -- there is room for what an effect stores and saves
 pub record HasSpaceFor (p : Processor) (e : Effect) : Type 0 where
   pub bytes : HasSpace p.storage e.address (length e.bytes.items)
-  pub requests : AreSpacious p.storage e.requests.items
+  pub requests : AreSpacious p.storage (requests_in e.requests)
   pub frames : HasMoveSpace p.storage e.frames
 
 -- a frame can be saved where a move saves one

@@ -12,10 +12,10 @@ ghost use Rattle.i9_model.specs.Alike.{AreAlike};
 ghost use Rattle.i9_model.specs.HeldFrames.{overlaid, cache_moved, cache_acted, cache_configured, cache_stored};
 ghost use Rattle.i9_storage.specs.Storage as stores;
 ghost use Rattle.i9_storage.specs.Storage.{HasSpace, KeepsSpace, KeepsFrameSpace};
-ghost use Rattle.i9_processor.specs.Effect.{action_in, run_in, writes_in, posting_in, move_in, sets_in, control_in, cache_through, size_with, is_costly, has_writes};
+ghost use Rattle.i9_processor.specs.Effect.{action_in, one_in, requests_in, run_in, writes_in, posting_in, move_in, sets_in, control_in, cache_through, size_with, is_costly, has_writes};
 ghost use Rattle.i9_processor.specs.Effect.{AreRegisters, AreSpacious, CanPost, CanControl, CanMove, HasMoveSpace, HasSpaceFor, IsEmptied, CanTake};
 
-use crate::effect::{Control, Effect, Move, Posting};
+use crate::effect::{Control, Effect, Move, Posting, Requests};
 use crate::processor::Processor;
 use crate::registers::{set_frame, set_group};
 use crate::start::{start_breaks, start_interrupts, start_registers, start_trace_controls, tables_of};
@@ -44,23 +44,54 @@ fn reserve_move(storage: &mut Storage, m: &Move) -> Result<(), NoMemory>
     }
 }
 
-/// Makes room for bytes with bits of requests.
-#[tactic(auto, using(crate::proofs::Requests::request_rules))]
-fn reserve_requests(storage: &mut Storage, requests: &[(u32, u8)]) -> Result<(), NoMemory>
+/// Makes room for the bytes in a row of an effect. Most effects have none, and then nothing is looked up.
+fn reserve_run(storage: &mut Storage, e: &Effect) -> Result<(), NoMemory>
     ensures cache { stores.cache_of storage.new ≡ stores.cache_of storage.old }
     ensures frames { stores.frames_in storage.new ≡ stores.frames_in storage.old }
     ensures size { stores.size_of storage.new ≡ stores.size_of storage.old }
     ensures keeps { KeepsSpace storage.old storage.new }
     ensures frame_space { KeepsFrameSpace storage.old storage.new }
-    ensures space { OnOk result (AreSpacious storage.new requests.now) }
-    ensures needed { OnErr result (0 < length requests.now) }
-    ensures lacking { OnErr result (AreSpacious storage.old requests.now → ⊥) }
+    ensures space { OnOk result (HasSpace storage.new e.now.address (length e.now.bytes.items)) }
+    ensures needed { OnErr result (0 < length e.now.bytes.items) }
+    ensures lacking { OnErr result (HasSpace storage.old e.now.address (length e.now.bytes.items) → ⊥) }
 {
-    if let [(address, _), rest @ ..] = requests {
-        storage.reserve(*address, 1)?;
-        reserve_requests(storage, rest)?;
+    if e.bytes.is_empty() {
+        return Ok(());
     }
-    Ok(())
+    storage.reserve(e.address, e.bytes.len() as u32)
+}
+
+/// Makes room for a byte at an address, where there is one.
+fn reserve_one(storage: &mut Storage, byte: Option<(u32, u8)>) -> Result<(), NoMemory>
+    ensures cache { stores.cache_of storage.new ≡ stores.cache_of storage.old }
+    ensures frames { stores.frames_in storage.new ≡ stores.frames_in storage.old }
+    ensures size { stores.size_of storage.new ≡ stores.size_of storage.old }
+    ensures keeps { KeepsSpace storage.old storage.new }
+    ensures frame_space { KeepsFrameSpace storage.old storage.new }
+    ensures space { OnOk result (AreSpacious storage.new (one_in byte)) }
+    ensures needed { OnErr result (0 < length (one_in byte)) }
+    ensures lacking { OnErr result (AreSpacious storage.old (one_in byte) → ⊥) }
+{
+    match byte {
+        Some((address, _)) => storage.reserve(address, 1),
+        None => Ok(()),
+    }
+}
+
+/// Makes room for bytes with bits of requests.
+#[tactic(auto, using(crate::proofs::Appending::room_rules))]
+fn reserve_requests(storage: &mut Storage, requests: &Requests) -> Result<(), NoMemory>
+    ensures cache { stores.cache_of storage.new ≡ stores.cache_of storage.old }
+    ensures frames { stores.frames_in storage.new ≡ stores.frames_in storage.old }
+    ensures size { stores.size_of storage.new ≡ stores.size_of storage.old }
+    ensures keeps { KeepsSpace storage.old storage.new }
+    ensures frame_space { KeepsFrameSpace storage.old storage.new }
+    ensures space { OnOk result (AreSpacious storage.new (requests_in requests.now)) }
+    ensures needed { OnErr result (0 < length (requests_in requests.now)) }
+    ensures lacking { OnErr result (AreSpacious storage.old (requests_in requests.now) → ⊥) }
+{
+    reserve_one(storage, requests.first)?;
+    reserve_one(storage, requests.second)
 }
 
 /// Stores the bytes in a row of an effect. Most effects have none, and then nothing is looked up.
@@ -78,26 +109,40 @@ fn store_run(storage: &mut Storage, e: &Effect)
     }
 }
 
+/// Stores a byte at an address, where there is one.
+#[tactic(auto, using(crate::proofs::Appending::none_rules))]
+fn store_one(storage: &mut Storage, byte: Option<(u32, u8)>)
+    requires space { AreSpacious storage.old (one_in byte) }
+    requires free { writes_hazard (stores.frames_in storage.old) (one_in byte) ≡ None }
+    ensures cache { stores.cache_of storage.new ≡ cache_stored (one_in byte) (stores.cache_of storage.old) }
+    ensures memory { stores.memory_in storage.new ≡ with_writes (stores.memory_in storage.old) (one_in byte) }
+    ensures frames { stores.frames_in storage.new ≡ wrote (stores.frames_in storage.old) (one_in byte) }
+    ensures size { stores.size_of storage.new ≡ stores.size_of storage.old }
+    ensures keeps { KeepsSpace storage.old storage.new }
+{
+    match byte {
+        Some((address, value)) => storage.store(address, &[value]),
+        None => {}
+    }
+}
+
 /// Stores bytes with bits of requests.
-#[tactic(auto, using(crate::proofs::Requests::request_rules))]
-fn store_requests(storage: &mut Storage, requests: &[(u32, u8)])
-    requires space { AreSpacious storage.old requests.now }
-    requires free { writes_hazard (stores.frames_in storage.old) requests.now ≡ None }
-    ensures cache { stores.cache_of storage.new ≡ cache_stored requests.now (stores.cache_of storage.old) }
-    ensures memory { stores.memory_in storage.new ≡ with_writes (stores.memory_in storage.old) requests.now }
-    ensures frames { stores.frames_in storage.new ≡ wrote (stores.frames_in storage.old) requests.now }
+fn store_requests(storage: &mut Storage, requests: &Requests)
+    requires space { AreSpacious storage.old (requests_in requests.now) }
+    requires free { writes_hazard (stores.frames_in storage.old) (requests_in requests.now) ≡ None }
+    ensures cache { stores.cache_of storage.new ≡ cache_stored (requests_in requests.now) (stores.cache_of storage.old) }
+    ensures memory { stores.memory_in storage.new ≡ with_writes (stores.memory_in storage.old) (requests_in requests.now) }
+    ensures frames { stores.frames_in storage.new ≡ wrote (stores.frames_in storage.old) (requests_in requests.now) }
     ensures size { stores.size_of storage.new ≡ stores.size_of storage.old }
 {
-    if let [(address, byte), rest @ ..] = requests {
-        storage.store(*address, &[*byte]);
-        store_requests(storage, rest);
-    }
+    store_one(storage, requests.first);
+    store_one(storage, requests.second);
 }
 
 /// Stores the bytes of an effect.
 fn store_bytes(storage: &mut Storage, e: &Effect)
     requires space { HasSpace storage.old e.now.address (length e.now.bytes.items) }
-    requires requests { AreSpacious storage.old e.now.requests.items }
+    requires requests { AreSpacious storage.old (requests_in e.now.requests) }
     requires free { writes_hazard (stores.frames_in storage.old) (writes_in e.now) ≡ None }
     ensures cache { stores.cache_of storage.new ≡ cache_stored (writes_in e.now) (stores.cache_of storage.old) }
     ensures memory { stores.memory_in storage.new ≡ with_writes (stores.memory_in storage.old) (writes_in e.now) }
@@ -105,7 +150,7 @@ fn store_bytes(storage: &mut Storage, e: &Effect)
     ensures size { stores.size_of storage.new ≡ stores.size_of storage.old }
 {
     store_run(storage, e);
-    store_requests(storage, e.requests.as_slice());
+    store_requests(storage, &e.requests);
 }
 
 /// The locals of a new frame: pfp, sp, and zeros.
@@ -128,10 +173,8 @@ impl Processor {
         ensures needed { OnErr result (has_writes (action_in (state_of self.old) e.now) ≡ true) }
         ensures lacking { OnErr result (HasSpaceFor self.old e.now → ⊥) }
     {
-        if !e.bytes.is_empty() {
-            self.storage.reserve(e.address, e.bytes.len() as u32)?;
-        }
-        reserve_requests(&mut self.storage, e.requests.as_slice())?;
+        reserve_run(&mut self.storage, e)?;
+        reserve_requests(&mut self.storage, &e.requests)?;
         reserve_move(&mut self.storage, &e.frames)
     }
 
@@ -170,11 +213,7 @@ impl Processor {
                 self.breaks.ipb = [words[0], words[1]];
                 self.breaks.dab = [words[2], words[3]];
             }
-            1 => {
-                self.ints.set_map(0, words[0]);
-                self.ints.set_map(1, words[1]);
-                self.ints.set_map(2, words[2]);
-            }
+            1 => self.ints.set_maps([words[0], words[1], words[2]]),
             6 => {
                 self.tc = words[2] & TC_MASK;
                 self.breaks.bpcon = words[1];

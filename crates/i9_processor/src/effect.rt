@@ -3,6 +3,7 @@ ghost use Rattle.std.specs.Prelude.{◌≡◌, ◌+◌, ◌<◌, ◌≤◌, ◌^
 ghost use Rattle.i9_model.specs.Writes.{last_put, pairs_at, upwards};
 ghost use Rattle.i9_model.specs.Step.{going};
 ghost use Rattle.i9_model.specs.Memory.{console_byte, exit_word};
+ghost use Rattle.i9_processor.specs.Effect.{one_in};
 
 use crate::processor::Processor;
 use arrayvec::ArrayVec;
@@ -15,9 +16,13 @@ pub const MOST_VALUES: usize = 4;
 /// The most bytes that an effect stores: four words.
 pub const MOST_BYTES: usize = 16;
 
-/// The most bytes with bits of requests that an effect stores: that of a priority, and that of its
-/// vectors.
-pub const MOST_REQUESTS: usize = 2;
+/// Bytes with bits of requests of software that are stored after others, each at an address of its own:
+/// at most that of a priority and that of its vectors.
+#[derive(Clone, Copy, Debug, PartialEq, Eq)]
+pub struct Requests {
+    pub first: Option<(u32, u8)>,
+    pub second: Option<(u32, u8)>,
+}
 
 /// What is done to frames.
 #[derive(Clone, Copy, Debug)]
@@ -71,7 +76,7 @@ pub struct Effect {
     pub values: ArrayVec<u32, MOST_VALUES>,
     pub address: u32,
     pub bytes: ArrayVec<u8, MOST_BYTES>,
-    pub requests: ArrayVec<(u32, u8), MOST_REQUESTS>,
+    pub requests: Requests,
     pub frames: Move,
     pub ac: u32,
     pub pc: u32,
@@ -90,20 +95,51 @@ fn byte_of_run(address: u32, bytes: &[u8], place: u32) -> Option<u8>
     bytes.get(place.wrapping_sub(address) as usize).copied()
 }
 
-/// The byte at a place, of bytes with bits of requests: the last one that stands there.
-fn byte_of_requests(requests: &[(u32, u8)], place: u32) -> Option<u8>
-    requires { length requests.now ≤ MOST_REQUESTS }
-    ensures { result ≡ last_put requests.now place }
+/// The byte at a place, of one that stands at an address, where there is one.
+#[tactic(auto, unfolding(i9_model::specs::Writes::last_put))]
+fn byte_of_one(byte: Option<(u32, u8)>, place: u32) -> Option<u8>
+    ensures { result ≡ last_put (one_in byte) place }
 {
-    match requests {
-        [_, (at, byte)] if *at == place => Some(*byte),
-        [(at, byte), ..] if *at == place => Some(*byte),
+    match byte {
+        Some((at, value)) if place == at => Some(value),
         _ => None,
     }
 }
 
+impl Requests {
+    ghost use Rattle.i9_processor.specs.Effect.{requests_in, no_requests};
+
+    /// No byte.
+    pub const NONE: Requests = Requests {
+        first: None,
+        second: None,
+    };
+
+    /// Two bytes, one, or none.
+    #[tactic(auto, using(crate::proofs::Appending::listed_rules))]
+    pub fn listed(bytes: &[(u32, u8)]) -> Requests
+        requires { length bytes.now ≤ 2 }
+        ensures { requests_in result ≡ bytes.now }
+    {
+        Requests {
+            first: bytes.first().copied(),
+            second: bytes.get(1).copied(),
+        }
+    }
+
+    /// The byte at a place: the second one where both stand there.
+    fn byte_at(&self, place: u32) -> Option<u8>
+        ensures { result ≡ last_put (requests_in self.now) place }
+    {
+        match byte_of_one(self.second, place) {
+            Some(byte) => Some(byte),
+            None => byte_of_one(self.first, place),
+        }
+    }
+}
+
 impl Effect {
-    ghost use Rattle.i9_processor.specs.Effect.{writes_in, IsEffect};
+    ghost use Rattle.i9_processor.specs.Effect.{writes_in, no_requests, IsEffect};
     ghost use Rattle.i9_processor.specs.State.{state_of};
 
     /// Values go to registers from one up, and control goes to an address.
@@ -118,7 +154,7 @@ impl Effect {
             (record (going (state_of processor.now) next) { sets = pairs_at (λ r. r) register values.items }) result }
         ensures values { result.values.items ≡ values.items }
         ensures bytes { result.bytes.items ≡ [] }
-        ensures requests { result.requests.items ≡ [] }
+        ensures requests { result.requests ≡ no_requests }
         ensures frames { result.frames ≡ Move.Stays }
         ensures posting { result.posting ≡ Posting.Keeps }
         ensures control { result.control ≡ Control.Keeps }
@@ -128,7 +164,7 @@ impl Effect {
             values,
             address: 0,
             bytes: ArrayVec::new(),
-            requests: ArrayVec::new(),
+            requests: Requests::NONE,
             frames: Move::Stays,
             ac: processor.ac(),
             pc: processor.pc(),
@@ -145,7 +181,7 @@ impl Effect {
         ensures effect { IsEffect (state_of processor.now) (going (state_of processor.now) next) result }
         ensures values { result.values.items ≡ [] }
         ensures bytes { result.bytes.items ≡ [] }
-        ensures requests { result.requests.items ≡ [] }
+        ensures requests { result.requests ≡ no_requests }
         ensures frames { result.frames ≡ Move.Stays }
         ensures posting { result.posting ≡ Posting.Keeps }
         ensures control { result.control ≡ Control.Keeps }
@@ -157,7 +193,7 @@ impl Effect {
     pub fn blank() -> Effect
         ensures values { result.values.items ≡ [] }
         ensures bytes { result.bytes.items ≡ [] }
-        ensures requests { result.requests.items ≡ [] }
+        ensures requests { result.requests ≡ no_requests }
         ensures frames { result.frames ≡ Move.Stays }
         ensures posting { result.posting ≡ Posting.Keeps }
         ensures control { result.control ≡ Control.Keeps }
@@ -167,7 +203,7 @@ impl Effect {
             values: ArrayVec::new(),
             address: 0,
             bytes: ArrayVec::new(),
-            requests: ArrayVec::new(),
+            requests: Requests::NONE,
             frames: Move::Stays,
             ac: 0,
             pc: 0,
@@ -184,7 +220,7 @@ impl Effect {
         ensures effect { IsEffect (state_of processor.now) (going (state_of processor.now) next) self.new }
         ensures values { self.new.values.items ≡ [] }
         ensures bytes { self.new.bytes.items ≡ [] }
-        ensures requests { self.new.requests.items ≡ [] }
+        ensures requests { self.new.requests ≡ no_requests }
         ensures frames { self.new.frames ≡ Move.Stays }
         ensures posting { self.new.posting ≡ Posting.Keeps }
         ensures control { self.new.control ≡ Control.Keeps }
@@ -193,7 +229,7 @@ impl Effect {
         self.values.clear();
         self.address = 0;
         self.bytes.clear();
-        self.requests.clear();
+        self.requests = Requests::NONE;
         self.frames = Move::Stays;
         self.ac = processor.ac();
         self.pc = processor.pc();
@@ -208,8 +244,10 @@ impl Effect {
     fn byte_at(&self, place: u32) -> Option<u8>
         ensures { result ≡ last_put (writes_in self.now) place }
     {
-        byte_of_requests(self.requests.as_slice(), place)
-            .or_else(|| byte_of_run(self.address, self.bytes.as_slice(), place))
+        match self.requests.byte_at(place) {
+            Some(byte) => Some(byte),
+            None => byte_of_run(self.address, self.bytes.as_slice(), place),
+        }
     }
 
     /// The word that ends the run, in the order of its region: stores to all four of its bytes.

@@ -35,9 +35,7 @@ pub(crate) fn start_interrupts(setup: &Setup) -> Ints
     ensures { interrupts_of result ≡ start_interrupts setup.now }
 {
     let mut ints = Ints::new();
-    ints.set_map(0, setup.control[4]);
-    ints.set_map(1, setup.control[5]);
-    ints.set_map(2, setup.control[6]);
+    ints.set_maps([setup.control[4], setup.control[5], setup.control[6]]);
     ints
 }
 

@@ -1,18 +1,18 @@
 //! What calls, returns, requests of software and the entries of faults and interrupts make in the state
 //! that a processor stands for.
-ghost use Rattle.std.specs.Prelude.{◌≡◌, ◌%◌, None, IfOk};
+ghost use Rattle.std.specs.Prelude.{◌≡◌, ◌%◌, None, Some, IfOk, IfErr};
 ghost use Rattle.i9_model.specs.declared.layout.TheConstants.{FP, SP, PFP};
 ghost use Rattle.i9_model.specs.Memory.{with_writes};
 ghost use Rattle.i9_model.specs.Hazards.{unless, save_hazard, record_write_hazard};
 ghost use Rattle.i9_model.specs.Requests.{request_hazard, request_writes};
 ghost use Rattle.i9_model.specs.Interrupts.{cleared_hazard, clearing_writes, record_writes};
 ghost use Rattle.i9_model.specs.Before.{choice_in, interrupt_in};
+ghost use Rattle.i9_processor.specs.Effect.{requests_in};
 ghost use Rattle.i9_model.specs.Calls.{planned_call, planned_calls, planned_ret};
 ghost use Rattle.i9_model.specs.Run.{entry_in};
 
 use super::Processor;
-use crate::effect::MOST_REQUESTS;
-use arrayvec::ArrayVec;
+use crate::effect::Requests;
 use i9_calls::{CallsStop, Pop, Push, Sys, plan_call};
 use i9_faults::{Entry, Fault, FaultStop};
 use i9_model::Chosen;
@@ -122,26 +122,31 @@ impl Processor {
 
     /// The bytes that clear what chose an interrupt, behind its frame and its record.
     #[tactic(auto, unfolding(crate::specs::State::state_of))]
-    pub fn clearing_bytes(&self, c: &Chosen, e: &Entry) -> ArrayVec<(u32, u8), MOST_REQUESTS>
+    pub fn clearing_bytes(&self, c: &Chosen, e: &Entry) -> Requests
         requires record { record_write_hazard (state_of self.now).frames e.now.push ≡ None }
         requires clear { cleared_hazard (state_of self.now).memory (state_of self.now).frames
             (state_of self.now).tables.interrupt_table c.now e.now.push e.now.words ≡ None }
-        ensures { result.items ≡ clearing_writes c.now.cause
+        ensures { requests_in result ≡ clearing_writes c.now.cause
             (with_writes (state_of self.now).memory (record_writes (state_of self.now).memory e.now.push e.now.words))
             (state_of self.now).tables.interrupt_table c.now.vector }
     {
-        self.storage
-            .clearing_bytes(self.tables.interrupt_table, c, e)
+        let bytes = self
+            .storage
+            .clearing_bytes(self.tables.interrupt_table, c, e);
+        Requests::listed(bytes.as_slice())
     }
 
     /// The bytes that a request of software for a vector stores, or the hazard of the first access that
     /// meets one.
     #[tactic(auto, unfolding(crate::specs::State::state_of))]
-    pub fn plan_request(&self, vector: u8) -> Result<[(u32, u8); MOST_REQUESTS], u32>
-        ensures { result ≡ unless (request_hazard (state_of self.now).frames (state_of self.now).tables.interrupt_table vector)
-            (request_writes (state_of self.now).memory (state_of self.now).tables.interrupt_table vector) }
+    pub fn plan_request(&self, vector: u8) -> Result<Requests, u32>
+        ensures ok { IfOk result (λ r. (request_hazard (state_of self.now).frames (state_of self.now).tables.interrupt_table vector ≡ None)
+            × (requests_in r ≡ request_writes (state_of self.now).memory (state_of self.now).tables.interrupt_table vector)) }
+        ensures err { IfErr result (λ a. request_hazard (state_of self.now).frames (state_of self.now).tables.interrupt_table vector ≡ Some a) }
     {
-        self.storage
-            .plan_request(self.tables.interrupt_table, vector)
+        let bytes = self
+            .storage
+            .plan_request(self.tables.interrupt_table, vector)?;
+        Ok(Requests::listed(&bytes))
     }
 }

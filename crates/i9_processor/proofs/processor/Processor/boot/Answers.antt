@@ -24,7 +24,7 @@ returns-clause-state c =
     let setup = c.boot-setup.ensures.setup ∙ ap boot_setup loaded in
     let storage = c.in_ok-storage.storage in
     let memory : memory_in storage ≡ boot_memory (image_memory pairs) = ap overlaid c.in_ok-storage.ensures.cache ∙ c.boot-setup.ensures.memory ∙ ap boot_memory loaded in
-    let kept : state_of record { regs = c.start_registers.result; ip = c.aligned.result; ac = c.boot-setup.result.ac; pc = BOOT_PC; tc = c.start_trace_controls.result; maps = c.start_maps.result; breaks = c.start_breaks.result; tables = c.tables_of.result; count = 0; storage = storage } ≡ started c.boot-setup.result (registers_of (replicate 32 0)) 0 (memory_in storage) (frames_in storage) =
+    let kept : state_of record { regs = c.start_registers.result; ip = c.aligned.result; ac = c.boot-setup.result.ac; pc = BOOT_PC; tc = c.start_trace_controls.result; check = false; ints = c.start_interrupts.result; breaks = c.start_breaks.result; tables = c.tables_of.result; count = 0; storage = storage } ≡ started c.boot-setup.result (registers_of (replicate 32 0)) 0 (memory_in storage) (frames_in storage) =
     λ i. record {
       regs = c.start_registers.ensures i;
       ip = c.aligned.ensures i;
@@ -34,7 +34,7 @@ returns-clause-state c =
       check = false;
       memory = memory_in storage;
       frames = frames_in storage;
-      interrupts = record { pending = 0; mask = 0; maps = c.start_maps.ensures i; nmi = false };
+      interrupts = c.start_interrupts.ensures i;
       dma = no_dma;
       trace = record { tc = c.start_trace_controls.ensures i; breaks = c.start_breaks.ensures i };
       tables = c.tables_of.ensures i;

@@ -1,7 +1,7 @@
 -- Bytes that are stored after others, one by one.
-use Rattle.std.proofs.Common.{◌≡◌, ℕ, ◌+◌, ◌<◌, ◌^◌, ◌||◌, ◌&&◌, ◌==◌, Bool, true, false, cond, List, [], ◌∷◌, ◌++◌, find, Option, Some, None, refl, sym, ap, ◌∙◌, subst, arith}
+use Rattle.std.proofs.Common.{◌≡◌, ℕ, ◌+◌, ◌<◌, ◌^◌, ◌||◌, ◌&&◌, ◌==◌, Bool, true, false, cond, List, [], ◌∷◌, ◌++◌, length, length-append, ◌≤◌, find, Option, Some, None, refl, sym, ap, ◌∙◌, subst, arith}
 use Rattle.std.specs.Prelude.{not}
-use Rattle.std.specs.List.{AllByRecursion}
+use Rattle.std.specs.List.{slice_get}
 use Rattle.i9_model.specs.Writes.{wrapped, places_of, upwards, written}
 use Rattle.i9_model.specs.Memory.{Memory, with_writes}
 use Rattle.i9_model.specs.State.{Frames}
@@ -9,9 +9,10 @@ use Rattle.i9_model.specs.Frames.{in_frames, is_put, wrote}
 use Rattle.i9_model.specs.Hazards.{writes_hazard}
 use Rattle.i9_model.specs.HeldFrames.{Cache, cache_stored}
 use Rattle.i9_model.proofs.Stored.{stored-append}
+use Rattle.i9_model.proofs.AlikeSteps.{none_wrote}
 use Rattle.i9_storage.specs.declared.storage.Storage.{Storage}
 use Rattle.i9_storage.specs.Storage.{KeepsSpace}
-use Rattle.i9_processor.specs.Effect.{AreSpacious}
+use Rattle.i9_processor.specs.Effect.{one_in, AreSpacious}
 
 -- ---- writes after others
 
@@ -65,31 +66,7 @@ later_free f (p ∷ ps) qs rs none = by_live (in_frames f.live p.0) none (later_
 pub one_write : (a v : ℕ) → a < 2 ^ 32 → upwards a (v ∷ []) ≡ (a, v) ∷ []
 one_write a v h = let same : wrapped a ≡ a = omega arith in ap (λ (x : ℕ). (x, v) ∷ []) same
 
-pub one_free : (f : Frames) (a v : ℕ) (qs : List (ℕ × ℕ)) → a < 2 ^ 32 → writes_hazard f ((a, v) ∷ qs) ≡ None → writes_hazard f (upwards a (v ∷ [])) ≡ None
-one_free f a v qs h none = ap (writes_hazard f) (one_write a v h) ∙ first_free f ((a, v) ∷ []) qs none
-
-pub rest_free : (f g : Frames) (a v : ℕ) (qs : List (ℕ × ℕ)) → g ≡ wrote f (upwards a (v ∷ [])) → writes_hazard f ((a, v) ∷ qs) ≡ None → writes_hazard g qs ≡ None
-rest_free f g a v qs is none = ap (λ (h : Frames). writes_hazard h qs) is ∙ later_free f ((a, v) ∷ []) qs (upwards a (v ∷ [])) none
-
-pub one_cache : (c : Cache) (a v : ℕ) (qs : List (ℕ × ℕ)) → a < 2 ^ 32 → cache_stored qs (cache_stored (upwards a (v ∷ [])) c) ≡ cache_stored ((a, v) ∷ qs) c
-one_cache c a v qs h = ap (λ (ps : List (ℕ × ℕ)). cache_stored qs (cache_stored ps c)) (one_write a v h) ∙ cache_append c ((a, v) ∷ []) qs
-
-pub one_memory : (m : Memory) (a v : ℕ) (qs : List (ℕ × ℕ)) → a < 2 ^ 32 → with_writes (with_writes m (upwards a (v ∷ []))) qs ≡ with_writes m ((a, v) ∷ qs)
-one_memory m a v qs h = ap (λ (ps : List (ℕ × ℕ)). with_writes (with_writes m ps) qs) (one_write a v h) ∙ memory_append m ((a, v) ∷ []) qs
-
-pub one_frames : (f : Frames) (a v : ℕ) (qs : List (ℕ × ℕ)) → a < 2 ^ 32 → wrote (wrote f (upwards a (v ∷ []))) qs ≡ wrote f ((a, v) ∷ qs)
-one_frames f a v qs h = ap (λ (ps : List (ℕ × ℕ)). wrote (wrote f ps) qs) (one_write a v h) ∙ frames_append f ((a, v) ∷ []) qs
-
--- where bytes could be stored they still can be
-pub spacious_kept : (s t : Storage) (ps : List (ℕ × ℕ)) → KeepsSpace s t → AreSpacious s ps → AreSpacious t ps
-spacious_kept s t [] keeps space = tt
-spacious_kept s t (p ∷ ps) keeps space = ((λ k h. keeps (wrapped (p.0 + k)) (space.0 k h)), spacious_kept s t ps keeps space.1)
-
 -- ---- no byte
-
-no_put : (s : Bool) → (s && not false) ≡ s
-no_put true = refl
-no_put false = refl
 
 pub none_cache : (c : Cache) → c ≡ cache_stored [] c
 unfolding written
@@ -99,4 +76,44 @@ pub none_memory : (m : Memory) → m ≡ with_writes m []
 unfolding written
 none_memory m = refl
 
-pub ruleset request_rules = (one_free, rest_free, spacious_kept)
+pub none_frames : (f : Frames) → f ≡ wrote f []
+none_frames f = sym (none_wrote f)
+
+pub ruleset none_rules = (none_cache, none_memory, none_frames, one_write)
+
+-- ---- room
+
+-- where bytes could be stored they still can be
+pub spacious_kept : (s t : Storage) (ps : List (ℕ × ℕ)) → KeepsSpace s t → AreSpacious s ps → AreSpacious t ps
+spacious_kept s t [] keeps space = tt
+spacious_kept s t (p ∷ ps) keeps space = ((λ k h. keeps (wrapped (p.0 + k)) (space.0 k h)), spacious_kept s t ps keeps space.1)
+
+pub first_spacious : (s : Storage) (ps qs : List (ℕ × ℕ)) → AreSpacious s (ps ++ qs) → AreSpacious s ps
+first_spacious s [] qs all = tt
+first_spacious s (p ∷ ps) qs all = (all.0, first_spacious s ps qs all.1)
+
+pub later_spacious : (s : Storage) (ps qs : List (ℕ × ℕ)) → AreSpacious s (ps ++ qs) → AreSpacious s qs
+later_spacious s [] qs all = all
+later_spacious s (p ∷ ps) qs all = later_spacious s ps qs all.1
+
+pub both_spacious : (s : Storage) (ps qs : List (ℕ × ℕ)) → AreSpacious s ps → AreSpacious s qs → AreSpacious s (ps ++ qs)
+both_spacious s [] qs one two = two
+both_spacious s (p ∷ ps) qs one two = (one.0, both_spacious s ps qs one.1 two)
+
+pub longer_first : (ps qs : List (ℕ × ℕ)) → 0 < length ps → 0 < length (ps ++ qs)
+longer_first ps qs h = let sum = length-append ps qs in omega (arith, sum, h)
+
+pub longer_later : (ps qs : List (ℕ × ℕ)) → 0 < length qs → 0 < length (ps ++ qs)
+longer_later ps qs h = let sum = length-append ps qs in omega (arith, sum, h)
+
+pub ruleset room_rules = (spacious_kept, both_spacious, longer_first, longer_later)
+
+-- ---- at most two bytes
+
+pub two_listed : (xs : List (ℕ × ℕ)) → length xs ≤ 2 → one_in (slice_get xs 0) ++ one_in (slice_get xs 1) ≡ xs
+two_listed [] few = refl
+two_listed (x ∷ []) few = refl
+two_listed (x ∷ y ∷ []) few = refl
+two_listed (x ∷ y ∷ z ∷ xs) few = absurd (omega (arith, few))
+
+pub ruleset listed_rules = (two_listed)
