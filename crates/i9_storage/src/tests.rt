@@ -3,8 +3,9 @@ use crate::Storage;
 use i9_calls::{CallsStop, Pop, Sys};
 use i9_faults::{Entry, Fault};
 use i9_frames::{Frame, Sets};
+use i9_ints::{Chosen, IntEntry, Ints};
 use i9_memory::Memory;
-use i9_model::{CONTROL_WORDS, Push, Setup};
+use i9_model::{CONTROL_WORDS, Cause, Push, Setup};
 use std::alloc::Global;
 use std::test::Fail;
 
@@ -340,6 +341,92 @@ fn plans_beside_held_frames(rt: HostRuntime) -> Result<(), Fail> {
         Err(0x4000)
     );
     Ok(())
+}
+
+/// Storage with an interrupt table at 6000, in which software asks for vectors 18 and 23, both of
+/// priority 2, and for one of priority 1. The handler of vector 23 is at 1100. The frame at 4040 is
+/// held, and the one at 4000 was spilled.
+fn with_requests(alloc: Global) -> Result<Storage, Fail> {
+    let mut memory = memory(alloc);
+    put_words(&mut memory, 0x6000, &[0x06, 0x0084_0000])?;
+    put_words(&mut memory, 0x6060, &[0x1103])?;
+    let mut storage = Storage::new(alloc, memory, 1)?;
+    save(&mut storage, 0x4000, 0x100)?;
+    save(&mut storage, 0x4040, 0x200)?;
+    Ok(storage)
+}
+
+/// The choice of a vector that software asks for.
+fn soft(vector: u8) -> Chosen {
+    Chosen {
+        vector,
+        cause: Cause::Soft,
+    }
+}
+
+#[test]
+fn chooses_and_asks_beside_held_frames(rt: HostRuntime) -> Result<(), Fail> {
+    let storage = with_requests(rt.alloc())?;
+    let ints = Ints::new();
+    // The table, PC, and what is chosen: the requests are in no frame, in the frame that is held, or
+    // in the one that was spilled.
+    let rows = [
+        (0x6000, 0x0001_0000, Ok(Some(soft(23)))),
+        (0x6000, 0x0002_0000, Ok(None)),
+        (0x4040, 0, Err(0x4040)),
+        (0x3FE0, 0, Err(0x4000)),
+    ];
+    for (table, pc, wanted) in rows {
+        assert_eq!(rt; storage.choose_soft(&ints, table, pc), wanted);
+    }
+    // The table, the vector, and the bytes of its priority and of its vectors.
+    let rows = [
+        (0x6000, 16, Ok([(0x6000, 0x06), (0x6006, 0x85)])),
+        (0x6000, 250, Ok([(0x6003, 0x80), (0x6023, 0x04)])),
+        (0x4040, 16, Err(0x4040)),
+        (0x3FFC, 16, Err(0x4002)),
+    ];
+    for (table, vector, wanted) in rows {
+        assert_eq!(rt; storage.plan_request(table, vector), wanted);
+    }
+    Ok(())
+}
+
+#[test]
+fn enters_interrupts_beside_held_frames(rt: HostRuntime) -> Result<(), Fail> {
+    let storage = with_requests(rt.alloc())?;
+    let ints = Ints::new();
+    let plan = |storage: &Storage, table: u32, chosen: &Chosen| {
+        storage.plan_interrupt(
+            &ints,
+            table,
+            0x8008,
+            chosen,
+            0x0001_2403,
+            0x8084,
+            0x3004,
+            0x3041,
+        )
+    };
+    let wanted = IntEntry {
+        push: push(0x3060, 0x3007, 0x30A0),
+        target: 0x1100,
+        pc: 0x0002_2002,
+        words: [0x0001_2403, 0x8084, 23, 0],
+    };
+    assert_eq!(rt; plan(&storage, 0x6000, &soft(23)), Ok(wanted));
+    // The word of the vector is in the frame that is held, or in the one that was spilled.
+    assert_eq!(rt; plan(&storage, 0x3FE0, &soft(23)), Err(0x4040));
+    assert_eq!(rt; plan(&storage, 0x3FA0, &soft(23)), Err(0x4000));
+    // Of both vectors 18 is left.
+    match storage.plan_interrupt(&ints, 0x6000, 0x8008, &soft(23), 0, 0, 0x3000, 0x3040) {
+        Ok(entry) => {
+            let bytes = storage.clearing_bytes(0x6000, &soft(23), &entry);
+            assert_eq!(rt; bytes.as_slice(), [(0x6006, 0x04)].as_slice());
+            Ok(())
+        }
+        Err(_) => Err("a hazard".into()),
+    }
 }
 
 /// A processor control block (PRCB) that names a control table at 3000 and asks for seven sets.
