@@ -22,7 +22,8 @@ use Rattle.i9_model.specs.Run.{entry_in}
 use Rattle.i9_processor.specs.declared.effect.Effect.{Effect}
 use Rattle.i9_processor.specs.declared.effect.Move.{Move}
 use Rattle.i9_processor.specs.declared.effect.Control.{Control}
-use Rattle.i9_processor.specs.Effect.{IsEffect}
+use Rattle.i9_processor.specs.declared.effect.Posting.{Posting}
+use Rattle.i9_processor.specs.Effect.{IsEffect, no_requests}
 use Rattle.i9_plan.specs.declared.fetched.Words.{Words}
 use Rattle.i9_plan.specs.declared.fetched.Fetched.{Fetched}
 use Rattle.i9_plan.specs.declared.fetched.Unread.{Unread}
@@ -70,6 +71,8 @@ IsPlanned s (plans.Runs words i) e = TellsWords (words_of i) s words × IsEffect
 -- an effect by which nothing is done, but control goes on behind an instruction
 pub record Passes (s : State) (i : Inst) (e : Effect) : Type 0 where
   pub effect : IsEffect s (passing i s) e
+  pub requests : e.requests ≡ no_requests
+  pub posting : e.posting ≡ Posting.Keeps
   pub frames : e.frames ≡ Move.Stays
   pub control : e.control ≡ Control.Keeps
 

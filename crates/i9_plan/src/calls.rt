@@ -1,12 +1,12 @@
 //! What calls, returns, the entries of faults and interrupts, and events will do.
-ghost use Rattle.std.specs.Prelude.{◌≡◌, ◌≤◌, ◌%◌, None, []};
+ghost use Rattle.std.specs.Prelude.{◌≡◌, ◌≤◌, ◌%◌, None};
 ghost use Rattle.i9_model.specs.declared.layout.TheConstants.{FP, PFP, MOST_SYSTEM_CALL};
 ghost use Rattle.i9_model.specs.Hazards.{save_hazard};
 ghost use Rattle.i9_model.specs.Frames.{rounded_down};
 ghost use Rattle.i9_model.specs.Operands.{value};
 ghost use Rattle.i9_model.specs.Step.{pushing, call_action, calls_action, ret_action, entering};
 ghost use Rattle.i9_model.specs.Access.{SavesAt, CallsSystem, ReturnsBy};
-ghost use Rattle.i9_processor.specs.Effect.{IsEffect};
+ghost use Rattle.i9_processor.specs.Effect.{IsEffect, no_requests};
 ghost use Rattle.i9_processor.specs.State.{state_of};
 ghost use Rattle.i9_model.specs.Events.{IsInRange};
 ghost use Rattle.i9_model.specs.Before.{receiving};
@@ -27,7 +27,7 @@ fn pushing(p: &Processor, push: &Push, back: u32, next: u32) -> Effect
     requires free { save_hazard (state_of p.now).frames push.now.save ≡ None }
     requires place { push.now.save % 16 ≡ 0 }
     ensures effect { IsEffect (state_of p.now) (pushing (state_of p.now) push.now back next) result }
-    ensures requests { result.requests.items ≡ [] }
+    ensures requests { result.requests ≡ no_requests }
     ensures posting { result.posting ≡ Posting.Keeps }
     ensures control { result.control ≡ Control.Keeps }
 {
@@ -83,7 +83,7 @@ fn recording(p: &Processor, e: &Entry) -> Effect
     requires free { save_hazard (state_of p.now).frames e.now.push.save ≡ None }
     requires place { e.now.push.save % 16 ≡ 0 }
     ensures effect { IsEffect (state_of p.now) (recording e.now (state_of p.now)) result }
-    ensures requests { result.requests.items ≡ [] }
+    ensures requests { result.requests ≡ no_requests }
     ensures posting { result.posting ≡ Posting.Keeps }
     ensures control { result.control ≡ Control.Keeps }
 {

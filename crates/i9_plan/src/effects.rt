@@ -6,7 +6,7 @@ ghost use Rattle.i9_model.specs.Run.{faulted_words};
 ghost use Rattle.i9_isa.specs.declared.inst.Operand.TheVariants.{Sfr};
 ghost use Rattle.i9_model.specs.State.{Interrupts};
 ghost use Rattle.i9_model.specs.Operands.{interrupts_assigned};
-ghost use Rattle.i9_processor.specs.Effect.{IsEffect, CanPost, posting_in};
+ghost use Rattle.i9_processor.specs.Effect.{IsEffect, CanPost, no_requests, posting_in};
 ghost use Rattle.i9_processor.specs.State.{state_of};
 ghost use Rattle.i9_plan.specs.Built.{HasGroup};
 ghost use Rattle.i9_plan.specs.Planned.{Passes};
@@ -59,7 +59,8 @@ pub(crate) fn assigning(
     values: ArrayVec<u32, MOST_VALUES>,
 ) -> Effect
     requires { HasGroup o (length values.items) }
-    ensures { IsEffect (state_of p.now) (assigning o values.items (going (state_of p.now) next)) result }
+    ensures effect { IsEffect (state_of p.now) (assigning o values.items (going (state_of p.now) next)) result }
+    ensures requests { result.requests ≡ no_requests }
 {
     match o {
         Operand::Reg(r) => Effect::setting(p, next, r, values),
@@ -106,7 +107,8 @@ pub(crate) fn one_word(v: u32) -> ArrayVec<u32, MOST_VALUES>
 /// src/dst gets one value.
 pub(crate) fn answering(p: &Processor, i: &Inst, v: u32) -> Effect
     requires { IsValid i.now }
-    ensures { IsEffect (state_of p.now) (answering i.now (state_of p.now) v) result }
+    ensures effect { IsEffect (state_of p.now) (answering i.now (state_of p.now) v) result }
+    ensures requests { result.requests ≡ no_requests }
 {
     assigning(p, following(p, i), i.c, one_word(v))
 }

@@ -16,7 +16,6 @@ ghost use Rattle.i9_plan.specs.Planned.{PlansMessage};
 use crate::effects::{answering, passing};
 use crate::sources::{argument, message, process_controls, value};
 use crate::words::{modified, priority_of};
-use arrayvec::ArrayVec;
 use i9_isa::Inst;
 use i9_model::layout::{AC_MASK, CONTROL_GROUP_SIZE, CONTROL_TABLE_SIZE, PRCB_SIZE, TC_MASK};
 use i9_processor::{Control, Effect, Move, Processor};
@@ -116,9 +115,9 @@ fn plan_group(p: &Processor, i: &Inst) -> Result<Effect, u32>
 fn plan_request(p: &Processor, i: &Inst) -> Result<Effect, u32>
     ensures { PlansMessage AsksInterrupt i.now (state_of p.now) result }
 {
-    let bytes = p.plan_request(argument(p, i))?;
+    let requests = p.plan_request(argument(p, i))?;
     let mut effect = passing(p, i);
-    effect.requests = ArrayVec::from(bytes);
+    effect.requests = requests;
     effect.check = true;
     Ok(effect)
 }

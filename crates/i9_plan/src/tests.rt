@@ -12,7 +12,7 @@ use i9_faults::{Fault, FaultStop};
 use i9_hex::Segments;
 use i9_isa::Op;
 use i9_model::{Cause, Chosen, Event, Push};
-use i9_processor::{Control, Effect, Move, Posting, Processor};
+use i9_processor::{Control, Effect, Move, Posting, Processor, Requests};
 use std::alloc::Global;
 use std::test::Fail;
 
@@ -428,32 +428,40 @@ fn plans_faults(rt: HostRuntime) -> Result<(), Fail> {
 
 /// What is done to interrupts: the process controls, a word, the bytes with bits of requests, what is
 /// posted, and the process controls and the check flag afterwards.
-type Posts = (u32, u32, &'static [(u32, u8)], Posting, (u32, bool));
+type Posts = (u32, u32, Requests, Posting, (u32, bool));
+
+/// Two bytes of requests, each with its address.
+fn both(first: (u32, u8), second: (u32, u8)) -> Requests {
+    Requests {
+        first: Some(first),
+        second: Some(second),
+    }
+}
 
 #[test]
 fn plans_posts(rt: HostRuntime) -> Result<(), Fail> {
     let rows: [Posts; 6] = [
         // mov 5, sf0, and sf1; sysctl 0 for vector 0, beside vector 18.
-        (PC, 0x5C00_2E05, &[], Posting::Pending(5), (PC, false)),
-        (PC, 0x5C08_2E05, &[], Posting::Mask(5), (PC, false)),
+        (PC, 0x5C00_2E05, Requests::NONE, Posting::Pending(5), (PC, false)),
+        (PC, 0x5C08_2E05, Requests::NONE, Posting::Mask(5), (PC, false)),
         (
             PC,
             0x65A0_1483,
-            &[(0x1400, 5), (0x1404, 1)],
+            both((0x1400, 5), (0x1404, 1)),
             Posting::Keeps,
             (PC, true),
         ),
         // modpc that lowers the priority, leaves it alone, and raises it.
-        (PC, 0x65C5_C297, &[], Posting::Keeps, (0x2002, true)),
-        (PC, 0x65B5_8296, &[], Posting::Keeps, (TRACED, false)),
-        (2, 0x65BD_C297, &[], Posting::Keeps, (0x001F_0002, false)),
+        (PC, 0x65C5_C297, Requests::NONE, Posting::Keeps, (0x2002, true)),
+        (PC, 0x65B5_8296, Requests::NONE, Posting::Keeps, (TRACED, false)),
+        (2, 0x65BD_C297, Requests::NONE, Posting::Keeps, (0x001F_0002, false)),
     ];
     for (pc, word, requests, posting, (after, check)) in rows {
         let p = ready(rt.alloc(), 0x1000, (word, 0), 0, pc)?;
         let mut effect = Effect::blank();
         match plan_next(&p, &mut effect) {
             Planned::Runs { .. } => {
-                assert_eq!(rt; effect.requests.as_slice(), requests);
+                assert_eq!(rt; effect.requests, requests);
                 assert_eq!(rt; effect.posting, posting);
                 assert_eq!(rt; (effect.pc, effect.check), (after, check));
             }
@@ -473,14 +481,14 @@ fn plans_interrupts(rt: HostRuntime) -> Result<(), Fail> {
         pfp: 0x3047,
         sp: 0x30D0,
     };
-    let rows: [(u8, Cause, u32, u32, &[(u32, u8)]); 2] = [
-        (248, Cause::Nmi, 0x1600, 0x001F_2002, &[]),
+    let rows = [
+        (248, Cause::Nmi, 0x1600, 0x001F_2002, Requests::NONE),
         (
             18,
             Cause::Soft,
             0x1700,
             0x0002_2002,
-            &[(0x1400, 0), (0x1406, 0)],
+            both((0x1400, 0), (0x1406, 0)),
         ),
     ];
     for (vector, cause, handler, pc, requests) in rows {
@@ -495,7 +503,7 @@ fn plans_interrupts(rt: HostRuntime) -> Result<(), Fail> {
                     2, 0x20, 0x1F, 0, 0, 0x80, 0, 0, vector, 0, 0, 0, 0, 0, 0, 0,
                 ];
                 assert_eq!(rt; effect.bytes.as_slice(), record.as_slice());
-                assert_eq!(rt; effect.requests.as_slice(), requests);
+                assert_eq!(rt; effect.requests, requests);
                 assert_eq!(rt; effect.posting, Posting::Clears(cause));
                 assert_eq!(rt; controls_of(&effect), (PRECISE, pc, 0, handler));
             }

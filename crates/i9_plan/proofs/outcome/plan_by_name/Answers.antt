@@ -99,7 +99,7 @@ pub returns-in-Lda : goal.returns-in-Lda
 returns-in-Lda c =
     let i = c.args.i.now in
     let s = state_of c.args.p.now in
-    by_name Lda i s (Ok c.answering.result) c.in-Lda.is (refl, subst (λ (v : ℕ). IsEffect s (answering i s v) c.answering.result) c.address.ensures c.answering.ensures)
+    by_name Lda i s (Ok c.answering.result) c.in-Lda.is (refl, subst (λ (v : ℕ). IsEffect s (answering i s v) c.answering.result) c.address.ensures c.answering.ensures.effect)
 
 pub returns-in-Bx : goal.returns-in-Bx
 returns-in-Bx c =
