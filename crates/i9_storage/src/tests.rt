@@ -1,5 +1,6 @@
 //! Storage, worked out by hand.
 use crate::Storage;
+use arrayvec::ArrayVec;
 use i9_calls::{CallsStop, Pop, Sys};
 use i9_faults::{Entry, Fault};
 use i9_frames::{Frame, Sets};
@@ -418,15 +419,30 @@ fn enters_interrupts_beside_held_frames(rt: HostRuntime) -> Result<(), Fail> {
     // The word of the vector is in the frame that is held, or in the one that was spilled.
     assert_eq!(rt; plan(&storage, 0x3FE0, &soft(23)), Err(0x4040));
     assert_eq!(rt; plan(&storage, 0x3FA0, &soft(23)), Err(0x4000));
-    // Of both vectors 18 is left.
-    match storage.plan_interrupt(&ints, 0x6000, 0x8008, &soft(23), 0, 0, 0x3000, 0x3040) {
-        Ok(entry) => {
-            let bytes = storage.clearing_bytes(0x6000, &soft(23), &entry);
-            assert_eq!(rt; bytes.as_slice(), [(0x6006, 0x04)].as_slice());
-            Ok(())
-        }
+    Ok(())
+}
+
+/// The bytes that clear what chose an interrupt, once it is entered by the interrupt table at 6000.
+fn cleared(storage: &Storage, chosen: &Chosen) -> Result<ArrayVec<(u32, u8), 2>, Fail> {
+    match storage.plan_interrupt(&Ints::new(), 0x6000, 0x8008, chosen, 0, 0, 0x3000, 0x3040) {
+        Ok(entry) => Ok(storage.clearing_bytes(0x6000, chosen, &entry)),
         Err(_) => Err("a hazard".into()),
     }
+}
+
+#[test]
+fn clears_requests_beside_held_frames(rt: HostRuntime) -> Result<(), Fail> {
+    let storage = with_requests(rt.alloc())?;
+    // Of both vectors 18 is left.
+    let bytes = cleared(&storage, &soft(23))?;
+    assert_eq!(rt; bytes.as_slice(), [(0x6006, 0x04)].as_slice());
+    let line = Chosen {
+        vector: 23,
+        cause: Cause::Line(5),
+    };
+    let bytes = cleared(&storage, &line)?;
+    assert!(rt; bytes.is_empty());
+    Ok(())
 }
 
 /// A processor control block (PRCB) that names a control table at 3000 and asks for seven sets.
