@@ -140,7 +140,7 @@ did g rs before answer m was plan old new stands follows d =
         ended = d.ended;
         over = tt;
       };
-      follows = follows_next g rs was plan r q follows same d.plan;
+      follows = follows_next g rs was plan r q follows same d.behind;
       lines = d.lines ∙ ap (λ (ls : List Shown). map shown_of old ++ ls) (lines_alike r q same);
       tells = tells_alike r.kind r.before q.before answer same.before same.words (subst (λ (k : Kind). TellsRecord k q.before answer) same.kind d.tells);
     }
@@ -167,7 +167,7 @@ ended_run g rs before e m was plan old new stands follows d =
         ended = d.ended;
         over = is_end;
       };
-      follows = subst (Follows g rs) (sym d.plan) follows;
+      follows = subst (Follows g rs) (sym d.kept) follows;
       lines = d.lines ∙ ap (λ (v : View). map shown_of old ++ last_lines v e) (view_alike s (state_of before.processor) stands.state);
     }
 
@@ -194,7 +194,7 @@ refused g rs before m was plan old new stands follows d = record {
     ended = d.ended;
     over = tt;
   };
-  follows = subst (Follows g rs) (sym d.plan) follows;
+  follows = subst (Follows g rs) (sym d.kept) follows;
   lines = d.lines;
   needed = needs_alike (next g rs) (next_for before was) (beside g rs before was stands follows) d.needed;
 }

@@ -68,6 +68,7 @@ fewer_by turns.Memory s k before now t h = tt
 
 -- what is left in states that are alike
 left_alike : (l : ℕ) (ts : List Timed) (d : Due) (s t : State) → AreAlike s t → left_in l ts d t ≡ left_in l ts d s
+unfolding left_in
 left_alike l ts d s t alike = ap (left_in l ts d) alike.rest
 
 -- a step leaves less
@@ -188,11 +189,15 @@ stands_within m plan e is =
     let found = stands_there (state_of m.processor).count (slice_get plan.events plan.place) e is in
     slice_get_within plan.events plan.place found.0 found.1
 
+none_there : (o : Option Event) → o ≡ None → IsSome o → ⊥
+none_there None none some = let no : false ≡ true = some in cc no
+none_there (Some e) none some = cc none
+
 reaches_within : (m : Machine) (plan : Plan) (k : Kind) → MayCome m.length m.due (event_for m plan) (state_of m.processor) k → IsSome (event_of k) → plan.place < length plan.events
-reaches_within m plan (Instruction i) may some = absurd some
-reaches_within m plan (Faulted inst fault) may some = absurd some
-reaches_within m plan (Entered e) may some = absurd some
-reaches_within m plan (Interrupted c e) may some = absurd some
+reaches_within m plan (Instruction i) may some = absurd (none_there None refl some)
+reaches_within m plan (Faulted inst fault) may some = absurd (none_there None refl some)
+reaches_within m plan (Entered e) may some = absurd (none_there None refl some)
+reaches_within m plan (Interrupted c e) may some = absurd (none_there None refl some)
 reaches_within m plan (Reached e) may some = stands_within m plan e may.2
 
 -- a schedule has the event that a step reaches

@@ -107,7 +107,7 @@ pub record Did (before : Machine) (answer : Turn) (m : Machine) (was plan : Plan
   pub length : m.length ≡ before.length
   pub sets : m.sets ≡ before.sets
   pub ended : m.ended ≡ None
-  pub plan : plan ≡ plan_behind was done
+  pub behind : plan ≡ plan_behind was done
   pub lines : AddsLines old new (record_lines done)
   pub tells : TellsRecord done.kind done.before answer
 
@@ -124,13 +124,13 @@ pub record Ended (before : Machine) (e : End) (m : Machine) (was plan : Plan) (o
   pub is_end : next_for before was ≡ Ends e
   pub same : IsSame before m
   pub ended : m.ended ≡ Some e
-  pub plan : plan ≡ was
+  pub kept : plan ≡ was
   pub lines : AddsLines old new (end_lines (state_of before.processor) e)
 
 pub record Refused (before : Machine) (m : Machine) (was plan : Plan) (old new : List Line) : Type 0 where
   pub same : IsSame before m
   pub ended : m.ended ≡ None
-  pub plan : plan ≡ was
+  pub kept : plan ≡ was
   pub lines : new ≡ old
   pub needed : NeedsRoom (next_for before was)
 

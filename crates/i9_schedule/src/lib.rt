@@ -1,6 +1,7 @@
 //! Schedules of events from outside.
 #![tactic(auto)]
 
+mod copying;
 mod error;
 mod journal;
 mod laws;
@@ -9,6 +10,7 @@ mod parsing;
 mod reading;
 mod schedule;
 
+pub use copying::copied;
 pub use error::{LineError, LineFault};
 pub use i9_model::{Event, Timed, When};
 pub use journal::journal_line;

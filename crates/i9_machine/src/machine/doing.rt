@@ -22,7 +22,7 @@ use i9_frames::Sets;
 use i9_isa::NoMemory;
 use i9_model::{End, Event, Point, View};
 use i9_processor::{Control, Effect, Processor};
-use i9_schedule::Schedule;
+use i9_schedule::{Schedule, copied};
 
 /// Adds the end point and the line of the end.
 fn put_end(e: End, view: View, out: &mut Vec<Line>) -> Result<(), NoMemory>
@@ -106,7 +106,7 @@ fn put_event(event: &Option<Event>, p: &Processor, out: &mut Vec<Line>)
     };
     let line = Line::Event {
         count: p.count(),
-        event: event.clone(),
+        event: copied(event),
     };
     put_line(out, line);
     if let Event::Show(address, n) = event {

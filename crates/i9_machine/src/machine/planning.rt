@@ -21,7 +21,7 @@ use i9_isa::{Inst, Op, word_count};
 use i9_model::{Chosen, Due, End, Event, Point, When};
 use i9_plan::{Planned, Words, plan_entry, plan_event, plan_faulting, plan_interrupt, plan_next};
 use i9_processor::Effect;
-use i9_schedule::Schedule;
+use i9_schedule::{Schedule, copied};
 
 /// The drained point behind an instruction.
 fn point_by_name(op: Op) -> Option<Point>
@@ -200,7 +200,7 @@ impl Machine {
     {
         *effect = plan_event(&self.processor, event);
         Step {
-            event: Some(event.clone()),
+            event: Some(copied(event)),
             point: Some(Point::Event),
             counts: 0,
             due: Due::Nothing,

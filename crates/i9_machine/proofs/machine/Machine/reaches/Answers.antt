@@ -1,4 +1,5 @@
-use Rattle.std.proofs.Common.{Option, refl, ap, ◌∙◌}
+use Rattle.std.proofs.Common.{Option, Some, refl, sym, ap, ◌∙◌, subst}
+use Rattle.i9_model.specs.Events.{IsInRange}
 use Rattle.i9_model.specs.declared.event.Event.{Event}
 use Rattle.i9_model.specs.Run.{Reached, next_by_event}
 use Rattle.i9_processor.specs.State.{state_of}
@@ -17,7 +18,7 @@ returns c =
       point = refl;
       counts = refl;
       due = refl;
-      event = refl;
-      ranges = c.requires.ranges;
+      event = ap (λ (e : Event). Some e) c.copied.ensures;
+      ranges = subst IsInRange (sym c.copied.ensures) c.requires.ranges;
       tells = tt;
     }
