@@ -36,9 +36,15 @@ pub enum Line {
     /// A byte of the console.
     Out(u8),
     /// An event that was reached after so many instructions.
-    Event { count: u64, event: Event },
+    Event {
+        count: u64,
+        event: Event,
+    },
     /// A drained point.
-    Point { kind: Point, view: View },
+    Point {
+        kind: Point,
+        view: View,
+    },
     /// The bytes from an address up, `None` where none is compared.
     Bytes {
         address: u32,

@@ -106,8 +106,14 @@ fn steps_through_a_run(rt: HostRuntime) -> Result<(), Fail> {
         }
         count = count.saturating_add(1);
     }
-    assert_eq!(rt; machine.advance(&mut plan, &mut lines), Turn::End(End::Exit(7)));
-    assert_eq!(rt; machine.advance(&mut plan, &mut lines), Turn::End(End::Exit(7)));
+    assert_eq!(rt;
+        machine.advance(&mut plan, &mut lines),
+        Turn::End(End::Exit(7))
+    );
+    assert_eq!(rt;
+        machine.advance(&mut plan, &mut lines),
+        Turn::End(End::Exit(7))
+    );
     let view = machine.view();
     assert_eq!(rt; (view.count, view.ip), (5, 0x1018));
     assert_eq!(rt; (view.ac, view.pc, view.tc), (0, 0x1F_2002, 0));
@@ -193,7 +199,10 @@ fn tells_a_fault_and_its_entry(rt: HostRuntime) -> Result<(), Fail> {
         first: 0,
         second: 0,
     };
-    assert_eq!(rt; machine.advance(&mut plan, &mut lines), Turn::Issued(issued));
+    assert_eq!(rt;
+        machine.advance(&mut plan, &mut lines),
+        Turn::Issued(issued)
+    );
     assert_eq!(rt; (machine.view().count, machine.view().ip), (1, 0x1004));
     assert!(rt; lines.is_empty());
     assert_eq!(rt; machine.advance(&mut plan, &mut lines), Turn::On);
@@ -210,7 +219,10 @@ fn tells_a_fault_and_its_entry(rt: HostRuntime) -> Result<(), Fail> {
         (machine.byte(0x48), machine.byte(0x4A)),
         (Some(1), Some(2))
     );
-    assert_eq!(rt; machine.advance(&mut plan, &mut lines), Turn::End(End::Limit));
+    assert_eq!(rt;
+        machine.advance(&mut plan, &mut lines),
+        Turn::End(End::Limit)
+    );
     Ok(())
 }
 
@@ -237,7 +249,10 @@ fn compares_bytes_of_live_frames_alone(rt: HostRuntime) -> Result<(), Fail> {
         assert_eq!(rt; machine.byte(0xE000_0000), Some(0));
         let _ = machine.advance(&mut plan, &mut lines);
     }
-    assert_eq!(rt; machine.advance(&mut plan, &mut lines), Turn::End(End::Limit));
+    assert_eq!(rt;
+        machine.advance(&mut plan, &mut lines),
+        Turn::End(End::Limit)
+    );
     Ok(())
 }
 
@@ -458,15 +473,26 @@ fn meets_events(rt: HostRuntime) -> Result<(), Fail> {
         views.push(view)?;
     }
     // No event at the length is reached.
-    assert_eq!(rt; machine.advance(&mut plan, &mut lines), Turn::End(End::Limit));
+    assert_eq!(rt;
+        machine.advance(&mut plan, &mut lines),
+        Turn::End(End::Limit)
+    );
     assert_eq!(rt; plan.next().is_some(), true);
     // The frame of the handler stands above sp, since an interrupt is handled, and above its record.
     let entered = views[4];
     assert_eq!(rt;
-        (entered.regs[31], entered.regs[0], entered.regs[1], entered.pc),
+        (
+            entered.regs[31],
+            entered.regs[0],
+            entered.regs[1],
+            entered.pc
+        ),
         (0x50, 7, 0x90, 0x1F_2002)
     );
-    assert_eq!(rt; (machine.byte(0x48), machine.byte(0x42)), (Some(248), Some(0x1F)));
+    assert_eq!(rt;
+        (machine.byte(0x48), machine.byte(0x42)),
+        (Some(248), Some(0x1F))
+    );
     let mut list = ArrayVec::new();
     for byte in [0x41, 0x00, 0xA0, 0x8C] {
         list.push(Some(byte));

@@ -4,10 +4,10 @@ ghost use Rattle.i9_model.specs.Standing.{stands_at};
 ghost use Rattle.i9_processor.specs.State.{state_of};
 ghost use Rattle.i9_plan.specs.Planned.{standing_of, IsFetched, IsPlanned};
 
+use crate::built::is_built;
 use crate::effects::pass;
 use crate::fetched::{Fetched, Unread, Words, fetch};
 use crate::outcome::{Outcome, outcome_of};
-use crate::built::is_built;
 use crate::raised::word_fault;
 use crate::words::bit;
 use i9_isa::Inst;

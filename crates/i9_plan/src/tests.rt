@@ -442,8 +442,20 @@ fn both(first: (u32, u8), second: (u32, u8)) -> Requests {
 fn plans_posts(rt: HostRuntime) -> Result<(), Fail> {
     let rows: [Posts; 6] = [
         // mov 5, sf0, and sf1; sysctl 0 for vector 0, beside vector 18.
-        (PC, 0x5C00_2E05, Requests::NONE, Posting::Pending(5), (PC, false)),
-        (PC, 0x5C08_2E05, Requests::NONE, Posting::Mask(5), (PC, false)),
+        (
+            PC,
+            0x5C00_2E05,
+            Requests::NONE,
+            Posting::Pending(5),
+            (PC, false),
+        ),
+        (
+            PC,
+            0x5C08_2E05,
+            Requests::NONE,
+            Posting::Mask(5),
+            (PC, false),
+        ),
         (
             PC,
             0x65A0_1483,
@@ -452,9 +464,27 @@ fn plans_posts(rt: HostRuntime) -> Result<(), Fail> {
             (PC, true),
         ),
         // modpc that lowers the priority, leaves it alone, and raises it.
-        (PC, 0x65C5_C297, Requests::NONE, Posting::Keeps, (0x2002, true)),
-        (PC, 0x65B5_8296, Requests::NONE, Posting::Keeps, (TRACED, false)),
-        (2, 0x65BD_C297, Requests::NONE, Posting::Keeps, (0x001F_0002, false)),
+        (
+            PC,
+            0x65C5_C297,
+            Requests::NONE,
+            Posting::Keeps,
+            (0x2002, true),
+        ),
+        (
+            PC,
+            0x65B5_8296,
+            Requests::NONE,
+            Posting::Keeps,
+            (TRACED, false),
+        ),
+        (
+            2,
+            0x65BD_C297,
+            Requests::NONE,
+            Posting::Keeps,
+            (0x001F_0002, false),
+        ),
     ];
     for (pc, word, requests, posting, (after, check)) in rows {
         let p = ready(rt.alloc(), 0x1000, (word, 0), 0, pc)?;
@@ -499,9 +529,7 @@ fn plans_interrupts(rt: HostRuntime) -> Result<(), Fail> {
                     (rest_of(&effect), effect.address),
                     (Saves(push, 0x1000), 0x3080)
                 );
-                let record = [
-                    2, 0x20, 0x1F, 0, 0, 0x80, 0, 0, vector, 0, 0, 0, 0, 0, 0, 0,
-                ];
+                let record = [2, 0x20, 0x1F, 0, 0, 0x80, 0, 0, vector, 0, 0, 0, 0, 0, 0, 0];
                 assert_eq!(rt; effect.bytes.as_slice(), record.as_slice());
                 assert_eq!(rt; effect.requests, requests);
                 assert_eq!(rt; effect.posting, Posting::Clears(cause));

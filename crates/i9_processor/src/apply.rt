@@ -18,7 +18,9 @@ ghost use Rattle.i9_processor.specs.Effect.{AreRegisters, AreSpacious, CanPost, 
 use crate::effect::{Control, Effect, Move, Posting, Requests};
 use crate::processor::Processor;
 use crate::registers::{set_frame, set_group};
-use crate::start::{start_breaks, start_interrupts, start_registers, start_trace_controls, tables_of};
+use crate::start::{
+    start_breaks, start_interrupts, start_registers, start_trace_controls, tables_of,
+};
 use i9_entry::aligned;
 use i9_frames::{Frame, Sets};
 use i9_isa::NoMemory;

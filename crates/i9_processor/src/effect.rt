@@ -7,8 +7,8 @@ ghost use Rattle.i9_processor.specs.Effect.{one_in};
 
 use crate::processor::Processor;
 use arrayvec::ArrayVec;
-use i9_model::{Cause, Push};
 use i9_model::layout::{CONSOLE, EXIT_WORD};
+use i9_model::{Cause, Push};
 
 /// The most registers that an effect sets beside those of a frame: a group of four.
 pub const MOST_VALUES: usize = 4;

@@ -9,7 +9,9 @@ mod plans;
 mod reading;
 
 use crate::load::load;
-use crate::start::{start_breaks, start_interrupts, start_registers, start_trace_controls, tables_of};
+use crate::start::{
+    start_breaks, start_interrupts, start_registers, start_trace_controls, tables_of,
+};
 use i9_boot::{REGISTER_CACHE, boot, sets_asked};
 use i9_entry::aligned;
 use i9_hex::Segments;

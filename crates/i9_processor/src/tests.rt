@@ -589,11 +589,7 @@ fn loads_control_groups(rt: HostRuntime) -> Result<(), Fail> {
         stores(&mut p, one.0, one.1)?;
         stores(&mut p, other.0, other.1)?;
         loads(&mut p, group)?;
-        assert_eq!(rt;
-            (p.breaks, p.tc()),
-            (breaks, tc),
-            "group {group}"
-        );
+        assert_eq!(rt; (p.breaks, p.tc()), (breaks, tc), "group {group}");
         assert!(rt; has_big(&p, big), "group {group}");
         assert_eq!(rt; (p.ip(), p.count(), p.sets().size()), (0x1310, 3, 7));
         assert_eq!(rt; vectors(&mut p)?, maps, "group {group}");

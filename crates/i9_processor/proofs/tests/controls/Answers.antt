@@ -1,4 +1,4 @@
-use Rattle.std.proofs.Common.{◌≡◌, ℕ, ◌&&◌, Bool, true, false, List, [], None, refl, sym, ap, ◌∙◌, subst}
+use Rattle.std.proofs.Common.{◌≡◌, ℕ, ◌&&◌, Bool, true, false, List, [], ◌++◌, None, refl, sym, ap, ◌∙◌, subst}
 use Rattle.std.specs.Prelude.{not}
 use Rattle.i9_model.specs.State.{State, Frames}
 use Rattle.i9_model.specs.Frames.{flushed, wrote}
@@ -11,7 +11,7 @@ use Rattle.i9_processor.specs.declared.effect.Move.TheVariants as moves
 use Rattle.i9_processor.specs.declared.effect.Effect.{Effect}
 use Rattle.i9_processor.specs.declared.effect.Control.{Control}
 use Rattle.i9_processor.specs.declared.effect.Control.TheVariants as kinds
-use Rattle.i9_processor.specs.Effect.{action_in, CanControl}
+use Rattle.i9_processor.specs.Effect.{action_in, requests_in, CanControl}
 use Rattle.i9_processor.specs.State.{state_of}
 use Rattle.i9_model.proofs.AlikeSteps.{none_wrote}
 use Rattle.i9_processor.proofs.tests.controls.Goals as goal
@@ -36,4 +36,5 @@ applies-requires-clause-controls c =
     let s = state_of c.args.p.now in
     let e = c.going-effect.result in
     let effect : Effect = record e { frames = moves.Flushes; control = c.args.control } in
-    behind c.args.control s (action_in s effect) refl (ap (λ (bs : List ℕ). upwards e.address bs) c.going-effect.ensures.bytes) c.requires.can
+    let none = ap (λ (bs : List ℕ). upwards e.address bs ++ requests_in e.requests) c.going-effect.ensures.bytes ∙ ap requests_in c.going-effect.ensures.requests in
+    behind c.args.control s (action_in s effect) refl none c.requires.can
