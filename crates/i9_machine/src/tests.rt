@@ -447,6 +447,18 @@ fn image_with_handler(alloc: Global) -> Result<Segments, Fail> {
     Ok(image)
 }
 
+/// What a turn did: whether an instruction was issued, how many have been, and the address of the next; with the view
+/// after the turn.
+fn turned(
+    machine: &mut Machine,
+    plan: &mut Schedule,
+    lines: &mut Vec<Line>,
+) -> ((bool, u64, u32), View) {
+    let turn = machine.advance(plan, lines);
+    let view = machine.view();
+    ((matches!(turn, Turn::Issued(_)), view.count, view.ip), view)
+}
+
 #[test]
 fn meets_events(rt: HostRuntime) -> Result<(), Fail> {
     let image = image_with_handler(rt.alloc())?;
@@ -456,22 +468,23 @@ fn meets_events(rt: HostRuntime) -> Result<(), Fail> {
     let mut lines = Vec::new(rt.alloc());
     // The event at the start comes before the first instruction, and the others before the second one: the pin,
     // which is masked, and then the interrupt that is never masked, whose handler is entered at once.
-    let steps = [
-        (false, 0, 0x1000),
-        (true, 1, 0x1004),
-        (false, 1, 0x1004),
-        (false, 1, 0x1004),
-        (false, 1, 0x1200),
-        (true, 2, 0x1204),
-    ];
-    let mut views = Vec::new(rt.alloc());
-    for (issued, count, ip) in steps {
-        let turn = machine.advance(&mut plan, &mut lines);
-        assert_eq!(rt; matches!(turn, Turn::Issued(_)), issued);
-        let view = machine.view();
-        assert_eq!(rt; (view.count, view.ip), (count, ip));
-        views.push(view)?;
-    }
+    let (first, shown) = turned(&mut machine, &mut plan, &mut lines);
+    let (second, _) = turned(&mut machine, &mut plan, &mut lines);
+    let (third, posted) = turned(&mut machine, &mut plan, &mut lines);
+    let (fourth, asked) = turned(&mut machine, &mut plan, &mut lines);
+    let (fifth, entered) = turned(&mut machine, &mut plan, &mut lines);
+    let (sixth, last) = turned(&mut machine, &mut plan, &mut lines);
+    assert_eq!(rt;
+        [first, second, third, fourth, fifth, sixth],
+        [
+            (false, 0, 0x1000),
+            (true, 1, 0x1004),
+            (false, 1, 0x1004),
+            (false, 1, 0x1004),
+            (false, 1, 0x1200),
+            (true, 2, 0x1204),
+        ]
+    );
     // No event at the length is reached.
     assert_eq!(rt;
         machine.advance(&mut plan, &mut lines),
@@ -479,7 +492,6 @@ fn meets_events(rt: HostRuntime) -> Result<(), Fail> {
     );
     assert_eq!(rt; plan.next().is_some(), true);
     // The frame of the handler stands above sp, since an interrupt is handled, and above its record.
-    let entered = views[4];
     assert_eq!(rt;
         (
             entered.regs[31],
@@ -505,13 +517,13 @@ fn meets_events(rt: HostRuntime) -> Result<(), Fail> {
             address: 0x1000,
             list,
         },
-        point(Point::Event, views[0]),
+        point(Point::Event, shown),
         event(1, Event::Pin(3)),
-        point(Point::Event, views[2]),
+        point(Point::Event, posted),
         event(1, Event::Nmi),
-        point(Point::Event, views[3]),
-        point(Point::Int, views[4]),
-        point(Point::End, views[5]),
+        point(Point::Event, asked),
+        point(Point::Int, entered),
+        point(Point::End, last),
         Line::End(End::Limit),
     ];
     assert_eq!(rt; lines.as_slice(), wanted.as_slice());
