@@ -83,12 +83,7 @@ fn no_events(alloc: Global) -> Result<Schedule, NoMemory>
 }
 
 /// Runs an image that was accepted, without events.
-fn run_alone<K: Sink>(
-    alloc: Global,
-    image: &Segments,
-    words: &RunWords<'_>,
-    out: &mut K,
-) -> Status
+fn run_alone<K: Sink>(alloc: Global, image: &Segments, words: &RunWords<'_>, out: &mut K) -> Status
     requires can { CanRun words.now }
     ensures answers { Answers (RunGives words.now.sets words.now.limit (pairs_of image.now) [])
         result.code (account K.told K.faults K.writes K.sure) out.old out.new }
