@@ -1,12 +1,10 @@
 -- Which files are fetched, and whose count of faults rises.
-use Rattle.std.proofs.Common.{◌≡◌, ◌≢◌, ℕ, ◌≤◌, ◌<◌, ◌⊎◌, inl, inr, List, [], ◌∷◌, Option, Some, None, length, refl, sym, ◌∙◌, subst, arith}
-use Rattle.std.specs.List.{AllByRecursion}
+use Rattle.std.proofs.Common.{◌≡◌, ◌≢◌, ℕ, ◌≤◌, ◌<◌, ◌⊎◌, inl, inr, List, [], ◌∷◌, Option, None, length, refl, sym, ◌∙◌, subst, arith}
 use Rattle.i9_text.specs.Text.{lines_of}
 use Rattle.i9_model.specs.HexText.{IsRefused}
 use Rattle.i9_hex.proofs.OneAnswer.{image_apart}
 use Rattle.i9_outside.specs.declared.traits.TheConstants.{FILE_LIMIT}
 use Rattle.i9_outside.specs.Counts.{one_more, Rose}
-use Rattle.i9_outside.specs.Traits.{IsFile}
 use Rattle.i9_tool.specs.declared.print.Printed.{Printed}
 use Rattle.i9_tool.specs.declared.print.Printed.TheVariants.{Done, Write, Memory}
 use Rattle.i9_tool.specs.CommandLine.{Command}

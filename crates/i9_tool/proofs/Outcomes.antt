@@ -1,9 +1,7 @@
 -- What the command answers for its files, and for the words.
-use Rattle.std.proofs.Common.{◌≡◌, ◌≢◌, ℕ, ◌<◌, ◌≤◌, ◌⊎◌, inl, inr, List, [], ◌++◌, length, Option, Some, None, refl, sym, subst, arith}
+use Rattle.std.proofs.Common.{◌≡◌, ℕ, ◌<◌, ◌≤◌, ◌⊎◌, inl, inr, List, [], ◌++◌, length, Option, Some, None, refl, sym, subst, arith}
 use Rattle.i9_text.specs.Text.{lines_of}
-use Rattle.i9_model.specs.Image.{Part}
-use Rattle.i9_model.specs.HexText.{IsImage, IsRefused}
-use Rattle.i9_model.specs.ScheduleText.{IsSchedule, IsRefused as IsRefusedSchedule}
+use Rattle.i9_model.specs.ScheduleText.{IsSchedule}
 use Rattle.i9_model.specs.declared.event.Timed.{Timed}
 use Rattle.i9_model.specs.Given.{given}
 use Rattle.i9_model.specs.declared.run.End.{End}
@@ -14,7 +12,6 @@ use Rattle.i9_hex.specs.Writing.{hex_text}
 use Rattle.i9_hex.proofs.OneAnswer.{some_answer}
 use Rattle.i9_schedule.proofs.OneAnswer.{some_answer as some_schedule}
 use Rattle.i9_asm.proofs.SomeAnswer.{some_answer as some_assembly}
-use Rattle.i9_asm.specs.Laws.{IsAssembly, IsRefusedSource}
 use Rattle.i9_outside.specs.declared.traits.TheConstants.{FILE_LIMIT}
 use Rattle.i9_outside.specs.Traits.{IsFile}
 use Rattle.i9_tool.specs.declared.print.Printed.{Printed}

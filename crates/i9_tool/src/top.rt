@@ -16,10 +16,9 @@ ghost use Rattle.i9_tool.specs.Outcome.{Reads, RunGives, ScheduleGives, PlanGive
 ghost use Rattle.i9_tool.specs.Outcome.{GivesWhole, GivesFront, Answers, Outcomes, asked_for, rose_in, code_for};
 ghost use Rattle.i9_tool.specs.Outcome.{names_of, AnyRose, AllSure, FetchesOnce, FetchesPlan, FetchesAfter, FetchesFiles};
 
-use crate::print::{Printed, print_piece, print_text};
+use crate::print::{Printed, print_piece, print_refusal, print_text};
 use crate::run::{Ran, run};
 use crate::status::Status;
-use crate::text::refused_line;
 use crate::words::{Asked, RunWords, read_words};
 use i9_asm::{AsmError, assemble};
 use i9_hex::{HexError, Segments};
@@ -113,10 +112,10 @@ fn use_schedule<K: Sink>(
     match i9_schedule::read(alloc, file) {
         Ok(mut plan) => run_image(alloc, image, &mut plan, words, out),
         Err(LineError::Bad(fault)) => {
-            match refused_line(alloc, b"schedule", fault.line, fault.kind) {
-                Ok(line) => status_for(print_piece(&line, out), 3),
-                Err(_) => Status { code: 7 },
-            }
+            status_for(
+                print_refusal(alloc, b"schedule", fault.line, fault.kind, out),
+                3,
+            )
         }
         Err(LineError::Memory) => Status { code: 7 },
     }
@@ -196,10 +195,10 @@ fn use_image<F: Files, K: Sink>(
     match i9_hex::read(alloc, file) {
         Ok(image) => run_planned(alloc, &image, words, files, out),
         Err(HexError::Bad(fault)) => {
-            match refused_line(alloc, b"image", fault.line, fault.kind) {
-                Ok(line) => status_for(print_piece(&line, out), 2),
-                Err(_) => Status { code: 7 },
-            }
+            status_for(
+                print_refusal(alloc, b"image", fault.line, fault.kind, out),
+                2,
+            )
         }
         Err(HexError::Memory) => Status { code: 7 },
     }
@@ -251,10 +250,10 @@ fn use_source<K: Sink>(alloc: Global, file: &[u8], out: &mut K) -> Status
     match assemble(alloc, file) {
         Ok(image) => print_image(alloc, &image, out),
         Err(AsmError::Bad(fault)) => {
-            match refused_line(alloc, b"source", fault.line, fault.kind) {
-                Ok(line) => status_for(print_piece(&line, out), 3),
-                Err(_) => Status { code: 7 },
-            }
+            status_for(
+                print_refusal(alloc, b"source", fault.line, fault.kind, out),
+                3,
+            )
         }
         Err(AsmError::Memory) => Status { code: 7 },
     }

@@ -1,6 +1,5 @@
 use Rattle.std.proofs.Common.{◌∙◌, arith}
 use Rattle.i9_tool.specs.Outcome.{assembled}
-use Rattle.i9_tool.proofs.Fetching.{other_status}
 use Rattle.i9_tool.proofs.Lined.{lined_hex}
 use Rattle.i9_tool.proofs.Outcomes.{answers_unprinted, answers_line, some_source}
 use Rattle.i9_tool.proofs.top.print_image.Goals as goal
@@ -11,9 +10,6 @@ print_text-requires g c = record { lined = rw (c.deref.ensures.value ∙ c.in-Ok
 pub returns-in-Ok-clause-answers : goal.returns-in-Ok-clause-answers
 returns-in-Ok-clause-answers g c = λ file short made.
     answers_line _ _ _ 0 _ _ _ _ _ (omega arith) (assembled c.args.image.now short made) (c.deref.ensures.value ∙ c.in-Ok.ensures.text) c.print_text.ensures.prints c.status_for.ensures
-
-pub returns-in-Ok-clause-read : goal.returns-in-Ok-clause-read
-returns-in-Ok-clause-read g c = other_status _ 0 _ (omega arith) c.status_for.ensures
 
 pub returns-in-Err-clause-answers : goal.returns-in-Err-clause-answers
 returns-in-Err-clause-answers g c = λ file short made. answers_unprinted _ _ _ (some_source file)
