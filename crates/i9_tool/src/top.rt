@@ -112,10 +112,8 @@ fn use_schedule<K: Sink>(
     match i9_schedule::read(alloc, file) {
         Ok(mut plan) => run_image(alloc, image, &mut plan, words, out),
         Err(LineError::Bad(fault)) => {
-            status_for(
-                print_refusal(alloc, b"schedule", fault.line, fault.kind, out),
-                3,
-            )
+            let printed = print_refusal(alloc, b"schedule", fault.line, fault.kind, out);
+            status_for(printed, 3)
         }
         Err(LineError::Memory) => Status { code: 7 },
     }
@@ -195,10 +193,8 @@ fn use_image<F: Files, K: Sink>(
     match i9_hex::read(alloc, file) {
         Ok(image) => run_planned(alloc, &image, words, files, out),
         Err(HexError::Bad(fault)) => {
-            status_for(
-                print_refusal(alloc, b"image", fault.line, fault.kind, out),
-                2,
-            )
+            let printed = print_refusal(alloc, b"image", fault.line, fault.kind, out);
+            status_for(printed, 2)
         }
         Err(HexError::Memory) => Status { code: 7 },
     }
@@ -250,10 +246,8 @@ fn use_source<K: Sink>(alloc: Global, file: &[u8], out: &mut K) -> Status
     match assemble(alloc, file) {
         Ok(image) => print_image(alloc, &image, out),
         Err(AsmError::Bad(fault)) => {
-            status_for(
-                print_refusal(alloc, b"source", fault.line, fault.kind, out),
-                3,
-            )
+            let printed = print_refusal(alloc, b"source", fault.line, fault.kind, out);
+            status_for(printed, 3)
         }
         Err(AsmError::Memory) => Status { code: 7 },
     }

@@ -15,7 +15,7 @@ returns-in-Ok-clause-fetched g c =
 pub returns-in-Err-Bad-clause-answers : goal.returns-in-Err-Bad-clause-answers
 returns-in-Err-Bad-clause-answers g c =
     let bad = rw c.in-Err-Bad.field-0-is at c.in-Err-Bad.ensures.refused in
-    answers_with _ _ _ 2 _ _ _ _ (omega arith) (refused _ c.requires.sized bad) c.print_refusal.ensures c.status_for.ensures
+    answers_with _ _ _ 2 _ _ _ _ (omega arith) (refused _ c.requires.sized bad) c.print_refusal-printed.ensures c.status_for.ensures
 
 pub returns-in-Err-Bad-clause-fetched : goal.returns-in-Err-Bad-clause-fetched
 returns-in-Err-Bad-clause-fetched g c =

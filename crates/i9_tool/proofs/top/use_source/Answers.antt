@@ -9,7 +9,7 @@ returns-in-Ok-clause-answers g c = c.print_image.ensures.answers c.args.file.now
 pub returns-in-Err-Bad-clause-answers : goal.returns-in-Err-Bad-clause-answers
 returns-in-Err-Bad-clause-answers g c =
     let bad = rw c.in-Err-Bad.field-0-is at c.in-Err-Bad.ensures.refused in
-    answers_with _ _ _ 3 _ _ _ _ (omega arith) (source_refused _ c.requires.sized bad) c.print_refusal.ensures c.status_for.ensures
+    answers_with _ _ _ 3 _ _ _ _ (omega arith) (source_refused _ c.requires.sized bad) c.print_refusal-printed.ensures c.status_for.ensures
 
 pub returns-in-Err-Memory-clause-answers : goal.returns-in-Err-Memory-clause-answers
 returns-in-Err-Memory-clause-answers g c = answers_unprinted _ _ _ (some_source c.args.file.now)
