@@ -45,15 +45,15 @@ pub fn journal_line(alloc: Global, count: u64, event: &Event) -> Result<Vec<u8>,
     ensures says { IfOk result (λ line. IsTimed (words_of line.items) (timed_at count event.now)) }
     ensures read { IfOk result (λ line. line_of line.items ≡ Ok (Some (timed_at count event.now))) }
 {
-    match line_text(alloc, count, event) {
+    match event_text(alloc, count, event) {
         Ok(line) => Ok(line),
         Err(_) => Err(NoMemory),
     }
 }
 
-/// The same of any count and operands, as far as it prints.
+/// The same line for any count and operands, which `read` may refuse.
 #[tactic(auto, unfolding(i9_model::specs::Events::journal_text, i9_text::specs::Written::word_text))]
-fn line_text(alloc: Global, count: u64, event: &Event) -> Result<Vec<u8>, AllocError>
+pub fn event_text(alloc: Global, count: u64, event: &Event) -> Result<Vec<u8>, AllocError>
     ensures { IfOk result (λ line. line.items ≡ journal_text count event.now) }
 {
     let mut line = Vec::from_slice(alloc, b"at")?;

@@ -13,7 +13,7 @@ mod schedule;
 pub use copying::copied;
 pub use error::{LineError, LineFault};
 pub use i9_model::{Event, Timed, When};
-pub use journal::journal_line;
+pub use journal::{event_text, journal_line};
 pub use laws::one_answer;
 pub use reading::read;
 pub use schedule::Schedule;

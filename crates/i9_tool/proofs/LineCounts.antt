@@ -1,5 +1,5 @@
 -- Each printed line has one line feed.
-use Rattle.std.proofs.Common.{◌≡◌, ℕ, true, false, List, [], ◌∷◌, ◌++◌, eqb, codes, refl, ◌∙◌, arith}
+use Rattle.std.proofs.Common.{◌≡◌, ℕ, true, false, List, [], ◌∷◌, ◌++◌, Option, Some, None, eqb, codes, refl, ◌∙◌, arith}
 use Rattle.std.specs.List.{flat_map}
 use Rattle.std.specs.Fmt.{decimal}
 use Rattle.std.proofs.lemmas.Bool.{and_parts}
@@ -10,8 +10,11 @@ use Rattle.i9_model.specs.declared.run.Point.{Point}
 use Rattle.i9_model.specs.declared.run.Point.TheVariants as points
 use Rattle.i9_model.specs.declared.run.End.{End}
 use Rattle.i9_model.specs.declared.run.End.TheVariants.{Exit, Limit, Hazard, Dead, Unbuilt}
-use Rattle.i9_model.specs.PrintedText.{out_text, spaced, words_text, drained_text, point_text, end_text}
-use Rattle.i9_tool.specs.CommandLine.{image_word, source_word, refused_line}
+use Rattle.i9_model.specs.PrintedText.{out_text, spaced, spaced_byte, words_text, drained_text, point_text, event_text, bytes_text, end_text}
+use Rattle.i9_model.specs.declared.event.Event.{Event}
+use Rattle.i9_model.specs.Events.{journal_text}
+use Rattle.i9_model.proofs.ReadBack.{journal_plain}
+use Rattle.i9_tool.specs.CommandLine.{image_word, schedule_word, source_word, refused_line}
 use Rattle.i9_tool.specs.Print.{line_count, IsLine}
 use Rattle.i9_tool.proofs.Prints.{line_count-append}
 
@@ -43,6 +46,8 @@ line-out b = after_plain (codes "#out ") (byte_text b ++ 10 ∷ []) refl ∙ aft
 plain_drained : (k : Point) → is_plain (drained_text k) ≡ true
 plain_drained points.Flush = refl
 plain_drained points.Sync = refl
+plain_drained points.Event = refl
+plain_drained points.Int = refl
 plain_drained points.Fault = refl
 plain_drained points.End = refl
 
@@ -52,6 +57,24 @@ line-point k v =
     let counted = plain-append (codes "#point ") (decimal v.count) refl (plain-decimal v.count) in
     let label = plain-append (codes "#point " ++ decimal v.count ++ codes " ") (drained_text k) (plain-append (codes "#point " ++ decimal v.count) (codes " ") counted refl) (plain_drained k) in
     line-words (codes "#point " ++ decimal v.count ++ codes " " ++ drained_text k) (v.ip ∷ v.ac ∷ v.pc ∷ []) label
+
+pub line-event : (k : ℕ) (e : Event) → IsLine (event_text k e)
+unfolding event_text
+line-event k e = after_plain (journal_text k e) (10 ∷ []) (journal_plain k e)
+
+plain_byte : (b : Option ℕ) → is_plain (spaced_byte b) ≡ true
+plain_byte None = refl
+plain_byte (Some b) = plain-append (codes " ") (byte_text b) refl (plain-byte_text b)
+
+plain_bytes : (bs : List (Option ℕ)) → is_plain (flat_map spaced_byte bs) ≡ true
+plain_bytes [] = refl
+plain_bytes (b ∷ bs) = plain-append (spaced_byte b) (flat_map spaced_byte bs) (plain_byte b) (plain_bytes bs)
+
+pub line-bytes : (a : ℕ) (bs : List (Option ℕ)) → IsLine (bytes_text a bs)
+unfolding bytes_text
+line-bytes a bs =
+    let begun = plain-append (codes "#mem") (spaced a) refl (plain-word_text a) in
+    after_plain (codes "#mem" ++ spaced a ++ flat_map spaced_byte bs) (10 ∷ []) (plain-append (codes "#mem" ++ spaced a) (flat_map spaced_byte bs) begun (plain_bytes bs))
 
 pub line-end : (f : End) → IsLine (end_text f)
 unfolding end_text
@@ -79,7 +102,10 @@ line-refused what fault plain =
 pub line-image : (fault : ℕ × ℕ) → IsLine (refused_line image_word fault)
 line-image fault = line-refused image_word fault refl
 
+pub line-schedule : (fault : ℕ × ℕ) → IsLine (refused_line schedule_word fault)
+line-schedule fault = line-refused schedule_word fault refl
+
 pub line-source : (fault : ℕ × ℕ) → IsLine (refused_line source_word fault)
 line-source fault = line-refused source_word fault refl
 
-pub ruleset line_rules = (line-out, line-point, line-end, line-globals, line-locals, line-image, line-source)
+pub ruleset line_rules = (line-out, line-point, line-event, line-bytes, line-end, line-globals, line-locals, line-image, line-schedule, line-source)

@@ -1,18 +1,22 @@
 -- Each file and length have one status and one text.
-use Rattle.std.proofs.Common.{◌≡◌, ℕ, Bool, true, List, [], ◌++◌, Option, Some, refl, sym, ap, ◌∙◌, subst, arith}
+use Rattle.std.proofs.Common.{◌≡◌, ◌≢◌, ℕ, List, [], ◌++◌, Option, Some, None, refl, sym, ap, ◌∙◌, subst, arith}
+use Rattle.std.specs.Prelude.{IsSome}
 use Rattle.i9_model.specs.State.{State}
 use Rattle.i9_model.specs.Given.{Given, given}
+use Rattle.i9_model.specs.declared.event.Timed.{Timed}
 use Rattle.i9_model.specs.declared.run.End.{End}
-use Rattle.i9_model.specs.Run.{Record, due_after, next_in, next, IsRun}
+use Rattle.i9_model.specs.Run.{Record, next, IsRun}
 use Rattle.i9_model.specs.PrintedText.{text_of, lines_of, end_lines, run_text, end_code}
 use Rattle.i9_hex.specs.Writing.{hex_text}
 use Rattle.i9_asm.proofs.Once.{assembly_once, refusal_once, never_both_answers}
 use Rattle.i9_text.specs.Text.{lines_of as text_lines}
-use Rattle.i9_tool.specs.CommandLine.{Command, Run, Asm, image_word, source_word, refused_line}
-use Rattle.i9_model.proofs.Cuts.{past_by, state_by}
+use Rattle.i9_tool.specs.CommandLine.{Command, Run, Asm, files_of, with_name, image_word, schedule_word, source_word, refused_line}
+use Rattle.i9_model.proofs.Cuts.{past_by, state_by, next_from}
 use Rattle.i9_model.proofs.Unique.{same_records, same_end}
 use Rattle.i9_hex.proofs.OneAnswer.{image_apart, one_image, one_fault}
-use Rattle.i9_tool.specs.Outcome.{ImageGives, too_long, refused, runs, SourceGives, source_too_long, source_refused, assembled, FileGives, Gives, unread, fetched}
+use Rattle.i9_schedule.proofs.OneAnswer.{answers_apart, one_schedule, one_fault as one_schedule_fault}
+use Rattle.i9_tool.specs.Outcome.{Reads, unread, fetched, RunGives, runs, ScheduleGives, schedule_too_long, schedule_refused, scheduled, ImageGives, too_long, refused, accepted, SourceGives, source_too_long, source_refused, assembled, PlanGives, CommandGives, Gives, in_no_form, in_form, AllTold, names_of}
+use Rattle.i9_tool.proofs.Outcomes.{reads_wider, image_wider, plan_wider}
 
 -- a status and a text at once
 pub record Same (c d : ℕ) (s t : List ℕ) : Type 0 where
@@ -26,65 +30,99 @@ same_run g rs qs e f a b =
     let records = same_records g rs qs e f a b in
     record { status = ap end_code end; text = ap (λ (x : List Record). run_text g x e) records ∙ ap (run_text g qs) end }
 
-same_given : (g k : Given) (rs us : List Record) (e f : End) → g ≡ k → IsRun g rs e → IsRun k us f → Same (end_code e) (end_code f) (run_text g rs e) (run_text k us f)
-same_given g k rs us e f same a b =
-    let c : IsRun g us f = subst (λ (x : Given). IsRun x us f) (sym same) b in
-    let s = same_run g rs us e f a c in
-    record { status = s.status; text = s.text ∙ ap (λ (x : Given). run_text x us f) same }
+-- one status and one text, but for those of a file that was not read
+abbrev Once : (ℕ → List ℕ → Type 0) → Type 0
+Once gives = (c d : ℕ) (s t : List ℕ) → c ≢ 5 → d ≢ 5 → gives c s → gives d t → Same c d s t
 
-one_image_outcome : (file : List ℕ) (sets : Option ℕ) (limit c d : ℕ) (s t : List ℕ) → ImageGives file sets limit c s → ImageGives file sets limit d t → Same c d s t
-one_image_outcome file sets limit c d s t (too_long long) (too_long longer) = record { status = refl; text = refl }
-one_image_outcome file sets limit c d s t (too_long long) (refused g short h) = absurd (omega arith)
-one_image_outcome file sets limit c d s t (too_long long) (runs qs us f short image run) = absurd (omega arith)
-one_image_outcome file sets limit c d s t (refused g short h) (too_long long) = absurd (omega arith)
-one_image_outcome file sets limit c d s t (refused g short h) (refused g' short' h') = record { status = refl; text = ap (refused_line image_word) (one_fault file g g' h h') }
-one_image_outcome file sets limit c d s t (refused g short h) (runs qs us f short' image run) = absurd (image_apart file qs g image h)
-one_image_outcome file sets limit c d s t (runs ps rs e short image run) (too_long long) = absurd (omega arith)
-one_image_outcome file sets limit c d s t (runs ps rs e short image run) (refused g short' h) = absurd (image_apart file ps g image h)
-one_image_outcome file sets limit c d s t (runs ps rs e short image run) (runs qs us f short' image' run') =
-    same_given (given ps [] limit sets) (given qs [] limit sets) rs us e f (ap (λ (x : List (ℕ × ℕ)). given x [] limit sets) (one_image file ps qs image image')) run run'
+-- the same of two choices that are one
+once_both : {X : Type 0} (gives : X → ℕ → List ℕ → Type 0) → ((x : X) → Once (gives x)) → (x y : X) → x ≡ y → (c d : ℕ) (s t : List ℕ) → c ≢ 5 → d ≢ 5 → gives x c s → gives y d t → Same c d s t
+once_both gives once x y same c d s t p q g h = once x c d s t p q g (subst (λ (z : _). gives z d t) (sym same) h)
 
-one_source_outcome : (file : List ℕ) (c d : ℕ) (s t : List ℕ) → SourceGives file c s → SourceGives file d t → Same c d s t
-one_source_outcome file c d s t (source_too_long long) (source_too_long longer) = record { status = refl; text = refl }
-one_source_outcome file c d s t (source_too_long long) (source_refused g short h) = absurd (omega arith)
-one_source_outcome file c d s t (source_too_long long) (assembled image short h) = absurd (omega arith)
-one_source_outcome file c d s t (source_refused f short h) (source_too_long long) = absurd (omega arith)
-one_source_outcome file c d s t (source_refused f short h) (source_refused g short' h') =
+once_run : (sets : Option ℕ) (limit : ℕ) (pairs : List (ℕ × ℕ)) (events : List Timed) → Once (RunGives sets limit pairs events)
+once_run sets limit pairs events c d s t p q (runs rs e run) (runs us f other) = same_run (given pairs events limit sets) rs us e f run other
+
+once_schedule : (run : List Timed → ℕ → List ℕ → Type 0) → ((events : List Timed) → Once (run events)) → (file : List ℕ) → Once (ScheduleGives run file)
+once_schedule run once file c d s t p q (schedule_too_long long) (schedule_too_long longer) = record { status = refl; text = refl }
+once_schedule run once file c d s t p q (schedule_too_long long) (schedule_refused g short h) = absurd (omega arith)
+once_schedule run once file c d s t p q (schedule_too_long long) (scheduled us d' t' short says gives) = absurd (omega arith)
+once_schedule run once file c d s t p q (schedule_refused g short h) (schedule_too_long long) = absurd (omega arith)
+once_schedule run once file c d s t p q (schedule_refused g short h) (schedule_refused g' short' h') =
+    record { status = refl; text = ap (refused_line schedule_word) (one_schedule_fault file g g' h h') }
+once_schedule run once file c d s t p q (schedule_refused g short h) (scheduled us d' t' short' says gives) = absurd (answers_apart file us g says h)
+once_schedule run once file c d s t p q (scheduled ts c' s' short says gives) (schedule_too_long long) = absurd (omega arith)
+once_schedule run once file c d s t p q (scheduled ts c' s' short says gives) (schedule_refused g short' h) = absurd (answers_apart file ts g says h)
+once_schedule run once file c d s t p q (scheduled ts c' s' short says gives) (scheduled us d' t' short' says' gives') =
+    once_both run once ts us (one_schedule file ts us says says') c d s t p q gives gives'
+
+once_image : (after : List (ℕ × ℕ) → ℕ → List ℕ → Type 0) → ((pairs : List (ℕ × ℕ)) → Once (after pairs)) → (file : List ℕ) → Once (ImageGives after file)
+once_image after once file c d s t p q (too_long long) (too_long longer) = record { status = refl; text = refl }
+once_image after once file c d s t p q (too_long long) (refused g short h) = absurd (omega arith)
+once_image after once file c d s t p q (too_long long) (accepted us d' t' image gives) = absurd (omega (arith, image.short))
+once_image after once file c d s t p q (refused g short h) (too_long long) = absurd (omega arith)
+once_image after once file c d s t p q (refused g short h) (refused g' short' h') = record { status = refl; text = ap (refused_line image_word) (one_fault file g g' h h') }
+once_image after once file c d s t p q (refused g short h) (accepted us d' t' image gives) = absurd (image_apart file us g image.image h)
+once_image after once file c d s t p q (accepted ps c' s' image gives) (too_long long) = absurd (omega (arith, image.short))
+once_image after once file c d s t p q (accepted ps c' s' image gives) (refused g short h) = absurd (image_apart file ps g image.image h)
+once_image after once file c d s t p q (accepted ps c' s' image gives) (accepted us d' t' image' gives') =
+    once_both after once ps us (one_image file ps us image.image image'.image) c d s t p q gives gives'
+
+once_source : (file : List ℕ) → Once (SourceGives file)
+once_source file c d s t p q (source_too_long long) (source_too_long longer) = record { status = refl; text = refl }
+once_source file c d s t p q (source_too_long long) (source_refused g short h) = absurd (omega arith)
+once_source file c d s t p q (source_too_long long) (assembled image short h) = absurd (omega arith)
+once_source file c d s t p q (source_refused f short h) (source_too_long long) = absurd (omega arith)
+once_source file c d s t p q (source_refused f short h) (source_refused g short' h') =
     record { status = refl; text = ap (refused_line source_word) (refusal_once (text_lines file) f g h h') }
-one_source_outcome file c d s t (source_refused f short h) (assembled image short' h') = absurd (never_both_answers (text_lines file) image f h' h)
-one_source_outcome file c d s t (assembled image short h) (source_too_long long) = absurd (omega arith)
-one_source_outcome file c d s t (assembled image short h) (source_refused g short' h') = absurd (never_both_answers (text_lines file) image g h h')
-one_source_outcome file c d s t (assembled image short h) (assembled other short' h') =
+once_source file c d s t p q (source_refused f short h) (assembled image short' h') = absurd (never_both_answers (text_lines file) image f h' h)
+once_source file c d s t p q (assembled image short h) (source_too_long long) = absurd (omega arith)
+once_source file c d s t p q (assembled image short h) (source_refused g short' h') = absurd (never_both_answers (text_lines file) image g h h')
+once_source file c d s t p q (assembled image short h) (assembled other short' h') =
     record { status = refl; text = ap hex_text (assembly_once (text_lines file) image other h h') }
 
-pub one_outcome : (command : Command) (file : List ℕ) (c d : ℕ) (s t : List ℕ) → FileGives command file c s → FileGives command file d t → Same c d s t
-one_outcome (Run image sets limit) file c d s t g h = one_image_outcome file sets limit c d s t g h
-one_outcome (Asm source) file c d s t g h = one_source_outcome file c d s t g h
+-- a file that is told, where it was read
+once_read : (told : Option (List ℕ)) (rose : Type 0) (gives : List ℕ → ℕ → List ℕ → Type 0) → IsSome told → ((file : List ℕ) → Once (gives file)) → Once (Reads told rose gives)
+once_read None rose gives some once c d s t p q g h = absurd cc
+once_read (Some f) rose gives some once c d s t p q (unread r) h = absurd (p refl)
+once_read (Some f) rose gives some once c d s t p q (fetched x c' s' is_x g) (unread r) = absurd (q refl)
+once_read (Some f) rose gives some once c d s t p q (fetched x c' s' is_x g) (fetched y d' t' is_y h) = once_both gives once x y (is_x ∙ sym is_y) c d s t p q g h
+
+module _ (told : List ℕ → Option (List ℕ)) (rose : List ℕ → Type 0) where
+  once_plan : (schedule : Option (List ℕ)) (run : List Timed → ℕ → List ℕ → Type 0) → AllTold told (with_name schedule) → ((events : List Timed) → Once (run events)) → Once (PlanGives told rose schedule run)
+  once_plan None run known once = once []
+  once_plan (Some name) run known once = once_read (told name) (rose name) (ScheduleGives run) known.0 (once_schedule run once)
+
+  once_command : (command : Command) → AllTold told (files_of command) → Once (CommandGives told rose command)
+  once_command (Run image schedule sets limit) known =
+      once_read (told image) (rose image) _ known.0 (once_image _ (λ pairs. once_plan schedule (RunGives sets limit pairs) known.1 (once_run sets limit pairs)))
+  once_command (Asm source) known = once_read (told source) (rose source) SourceGives known.0 once_source
+
+  pub one_outcome : (asked : Option Command) → AllTold told (names_of asked) → Once (Gives told rose asked)
+  one_outcome None known c d s t p q in_no_form in_no_form = record { status = refl; text = refl }
+  one_outcome (Some command) known c d s t p q (in_form x c' s' g) (in_form y d' t' h) = once_command command known c d s t p q g h
 
 -- ---- no answer depends on the number of sets
 
--- what comes next goes by the image and the length alone
-other_next : (ps : List (ℕ × ℕ)) (limit : ℕ) (sets others : Option ℕ) (rs : List Record) → next (given ps [] limit others) rs ≡ next (given ps [] limit sets) rs
-other_next ps limit sets others rs = ap (next_in limit (due_after rs)) (state_by (given ps [] limit sets) (given ps [] limit others) rs refl)
+-- what comes next goes by the image, the events and the length alone
+other_next : (ps : List (ℕ × ℕ)) (ts : List Timed) (limit : ℕ) (sets others : Option ℕ) (rs : List Record) → next (given ps ts limit others) rs ≡ next (given ps ts limit sets) rs
+other_next ps ts limit sets others rs = ap (next_from (given ps ts limit sets) rs) (state_by (given ps ts limit sets) (given ps ts limit others) rs refl)
 
-other_run : (ps : List (ℕ × ℕ)) (limit : ℕ) (sets others : Option ℕ) (rs : List Record) (e : End) → IsRun (given ps [] limit sets) rs e → IsRun (given ps [] limit others) rs e
-other_run ps limit sets others rs e run = record {
-  past = past_by (given ps [] limit sets) (given ps [] limit others) (λ qs r past h. other_next ps limit sets others qs ∙ h) rs run.past;
-  ends = other_next ps limit sets others rs ∙ run.ends;
+other_run : (ps : List (ℕ × ℕ)) (ts : List Timed) (limit : ℕ) (sets others : Option ℕ) (rs : List Record) (e : End) → IsRun (given ps ts limit sets) rs e → IsRun (given ps ts limit others) rs e
+other_run ps ts limit sets others rs e run = record {
+  past = past_by (given ps ts limit sets) (given ps ts limit others) (λ qs r past h. other_next ps ts limit sets others qs ∙ h) rs run.past;
+  ends = other_next ps ts limit sets others rs ∙ run.ends;
 }
 
-other_text : (ps : List (ℕ × ℕ)) (limit : ℕ) (sets others : Option ℕ) (rs : List Record) (e : End) → run_text (given ps [] limit others) rs e ≡ run_text (given ps [] limit sets) rs e
-other_text ps limit sets others rs e =
-    ap (λ (s : State). text_of (lines_of rs ++ end_lines s e)) (state_by (given ps [] limit sets) (given ps [] limit others) rs refl)
+other_text : (ps : List (ℕ × ℕ)) (ts : List Timed) (limit : ℕ) (sets others : Option ℕ) (rs : List Record) (e : End) → run_text (given ps ts limit others) rs e ≡ run_text (given ps ts limit sets) rs e
+other_text ps ts limit sets others rs e =
+    ap (λ (s : State). text_of (lines_of rs ++ end_lines s e)) (state_by (given ps ts limit sets) (given ps ts limit others) rs refl)
 
-other_file : (file : List ℕ) (sets others : Option ℕ) (limit code : ℕ) (text : List ℕ) → ImageGives file sets limit code text → ImageGives file others limit code text
-other_file file sets others limit code text (too_long long) = too_long long
-other_file file sets others limit code text (refused g short h) = refused g short h
-other_file file sets others limit code text (runs ps rs e short image run) =
-    subst (ImageGives file others limit (end_code e)) (other_text ps limit sets others rs e) (runs ps rs e short image (other_run ps limit sets others rs e run))
+other_sets : (sets others : Option ℕ) (limit : ℕ) (ps : List (ℕ × ℕ)) (ts : List Timed) (code : ℕ) (text : List ℕ) → RunGives sets limit ps ts code text → RunGives others limit ps ts code text
+other_sets sets others limit ps ts code text (runs rs e run) =
+    subst (RunGives others limit ps ts (end_code e)) (other_text ps ts limit sets others rs e) (runs rs e (other_run ps ts limit sets others rs e run))
 
-pub same_in_sets : (told : List ℕ → Option (List ℕ)) (risen : List ℕ → Bool) (image : List ℕ) (sets others : Option ℕ) (limit code : ℕ) (text : List ℕ)
-    → Gives told (λ n. risen n ≡ true) (Some (Run image sets limit)) code text → Gives told (λ n. risen n ≡ true) (Some (Run image others limit)) code text
-same_in_sets told risen image sets others limit code text (unread c rises) = unread (Run image others limit) rises
-same_in_sets told risen image sets others limit code text (fetched c file n t found gives) =
-    fetched (Run image others limit) file code text found (other_file file sets others limit code text gives)
+pub same_in_sets : (told : List ℕ → Option (List ℕ)) (rose : List ℕ → Type 0) (image : List ℕ) (schedule : Option (List ℕ)) (sets others : Option ℕ) (limit code : ℕ) (text : List ℕ)
+    → Gives told rose (Some (Run image schedule sets limit)) code text → Gives told rose (Some (Run image schedule others limit)) code text
+same_in_sets told rose image schedule sets others limit code text (in_form c n t g) =
+    let plan = λ (pairs : List (ℕ × ℕ)). plan_wider told told rose rose (λ n f is_file. is_file) (λ n r. r) schedule (RunGives sets limit pairs) (RunGives others limit pairs) (other_sets sets others limit pairs) in
+    in_form (Run image schedule others limit) code text
+    (reads_wider (told image) (told image) (rose image) (rose image) _ _ (λ f is_file. is_file) (λ r. r) (image_wider _ _ plan) code text g)

@@ -1,8 +1,8 @@
--- What the command answers for a file, and for the words.
+-- What the command answers for its files, and for the words.
 use Rattle.std.proofs.Common.{◌≡◌, ℕ, ◌<◌, ◌≤◌, ◌⊎◌, inl, inr, List, [], ◌++◌, length, Option, Some, None, refl, sym, subst, arith}
 use Rattle.i9_text.specs.Text.{lines_of}
-use Rattle.i9_model.specs.Image.{Part}
-use Rattle.i9_model.specs.HexText.{IsImage, IsRefused}
+use Rattle.i9_model.specs.ScheduleText.{IsSchedule}
+use Rattle.i9_model.specs.declared.event.Timed.{Timed}
 use Rattle.i9_model.specs.Given.{given}
 use Rattle.i9_model.specs.declared.run.End.{End}
 use Rattle.i9_model.specs.declared.run.End.TheVariants.{Exit, Limit, Hazard, Dead, Unbuilt}
@@ -10,16 +10,16 @@ use Rattle.i9_model.specs.PrintedText.{run_text, end_code}
 use Rattle.i9_model.proofs.Ends.{run_goes_on}
 use Rattle.i9_hex.specs.Writing.{hex_text}
 use Rattle.i9_hex.proofs.OneAnswer.{some_answer}
+use Rattle.i9_schedule.proofs.OneAnswer.{some_answer as some_schedule}
 use Rattle.i9_asm.proofs.SomeAnswer.{some_answer as some_assembly}
-use Rattle.i9_asm.specs.Laws.{IsAssembly, IsRefusedSource}
 use Rattle.i9_outside.specs.declared.traits.TheConstants.{FILE_LIMIT}
+use Rattle.i9_outside.specs.Traits.{IsFile}
 use Rattle.i9_tool.specs.declared.print.Printed.{Printed}
 use Rattle.i9_tool.specs.declared.run.Ran.{Ran}
-use Rattle.i9_outside.specs.Traits.{IsFile}
-use Rattle.i9_tool.specs.CommandLine.{Command, Run, Asm, file_of, words_line, read_line, image_word, source_word, long_line, refused_line}
+use Rattle.i9_tool.specs.CommandLine.{Command, Run, Asm, words_line, read_line, image_word, schedule_word, source_word, long_line, refused_line}
 use Rattle.i9_tool.specs.Print.{Account, Prints}
 use Rattle.i9_tool.specs.Run.{Runs, printed_of}
-use Rattle.i9_tool.specs.Outcome.{ImageGives, too_long, refused, runs, SourceGives, source_too_long, source_refused, assembled, FileGives, Gives, in_no_form, unread, fetched, Answers, code_for}
+use Rattle.i9_tool.specs.Outcome.{Reads, unread, fetched, RunGives, runs, ScheduleGives, schedule_too_long, schedule_refused, scheduled, IsAccepted, ImageGives, too_long, refused, accepted, SourceGives, source_too_long, source_refused, assembled, PlanGives, CommandGives, Gives, in_no_form, in_form, Answers, code_for}
 use Rattle.i9_tool.proofs.Prints.{prints_same}
 use Rattle.i9_tool.proofs.Answering.{answers_printed, answers_nothing, answers_wider}
 
@@ -36,23 +36,54 @@ known_finish (Unbuilt a) = omega arith
 sized : (n : ℕ) → (n ≤ FILE_LIMIT) ⊎ (FILE_LIMIT < n)
 sized n = grind arith
 
-abbrev SomeFor : (ℕ → List ℕ → Type 0) → Type 0
+abbrev pub SomeFor : (ℕ → List ℕ → Type 0) → Type 0
 SomeFor gives = (code : ℕ) × (text : List ℕ) × gives code text
 
-short_image : (file : List ℕ) (sets : Option ℕ) (limit : ℕ) → length file ≤ FILE_LIMIT → SomeFor (ImageGives file sets limit)
-short_image file sets limit short =
+pub some_run : (sets : Option ℕ) (limit : ℕ) (pairs : List (ℕ × ℕ)) (events : List Timed) → SomeFor (RunGives sets limit pairs events)
+some_run sets limit pairs events =
+    let g = given pairs events limit sets in
+    let later = run_goes_on g [] tt in
+    let records = later.0 ++ [] in
+    (end_code later.1, run_text g records later.1, runs records later.1 later.2)
+
+-- a file that may be the one that is told
+some_file : (told : Option (List ℕ)) → (file : List ℕ) × IsFile told file
+some_file None = ([], tt)
+some_file (Some file) = (file, refl)
+
+pub some_read : (told : Option (List ℕ)) (rose : Type 0) (gives : List ℕ → ℕ → List ℕ → Type 0) → ((file : List ℕ) → SomeFor (gives file)) → SomeFor (Reads told rose gives)
+some_read told rose gives some =
+    let f = some_file told in
+    let s = some f.0 in
+    (s.0, s.1, fetched f.0 s.0 s.1 f.1 s.2)
+
+short_plan : (run : List Timed → ℕ → List ℕ → Type 0) (file : List ℕ) → ((events : List Timed) → SomeFor (run events)) → length file ≤ FILE_LIMIT → SomeFor (ScheduleGives run file)
+short_plan run file some short =
+    elim (some_schedule file) [
+      | inl says ↦ let s = some says.0 in (s.0, s.1, scheduled says.0 s.0 s.1 short says.1 s.2)
+      | inr bad ↦ (3, refused_line schedule_word bad.0, schedule_refused bad.0 short bad.1)
+    ]
+
+pub some_plan : (run : List Timed → ℕ → List ℕ → Type 0) → ((events : List Timed) → SomeFor (run events)) → (file : List ℕ) → SomeFor (ScheduleGives run file)
+some_plan run some file =
+    elim (sized (length file)) [
+      | inl short ↦ short_plan run file some short
+      | inr long ↦ (3, long_line schedule_word, schedule_too_long long)
+    ]
+
+short_image : (after : List (ℕ × ℕ) → ℕ → List ℕ → Type 0) (file : List ℕ) → ((pairs : List (ℕ × ℕ)) → SomeFor (after pairs)) → length file ≤ FILE_LIMIT → SomeFor (ImageGives after file)
+short_image after file some short =
     elim (some_answer file) [
       | inl image ↦
-          let later = run_goes_on (given image.0 [] limit sets) [] tt in
-          let records = later.0 ++ [] in
-          (end_code later.1, run_text (given image.0 [] limit sets) records later.1, runs image.0 records later.1 short image.1 later.2)
+          let s = some image.0 in
+          (s.0, s.1, accepted image.0 s.0 s.1 (record { short = short; image = image.1 }) s.2)
       | inr bad ↦ (2, refused_line image_word bad.0, refused bad.0 short bad.1)
     ]
 
-some_image : (file : List ℕ) (sets : Option ℕ) (limit : ℕ) → SomeFor (ImageGives file sets limit)
-some_image file sets limit =
+pub some_image : (after : List (ℕ × ℕ) → ℕ → List ℕ → Type 0) → ((pairs : List (ℕ × ℕ)) → SomeFor (after pairs)) → (file : List ℕ) → SomeFor (ImageGives after file)
+some_image after some file =
     elim (sized (length file)) [
-      | inl short ↦ short_image file sets limit short
+      | inl short ↦ short_image after file some short
       | inr long ↦ (2, long_line image_word, too_long long)
     ]
 
@@ -63,110 +94,117 @@ short_source file short =
       | inr bad ↦ (3, refused_line source_word bad.0, source_refused bad.0 short bad.1)
     ]
 
-some_source : (file : List ℕ) → SomeFor (SourceGives file)
+pub some_source : (file : List ℕ) → SomeFor (SourceGives file)
 some_source file =
     elim (sized (length file)) [
       | inl short ↦ short_source file short
       | inr long ↦ (3, long_line source_word, source_too_long long)
     ]
 
-pub some_text : (c : Command) (file : List ℕ) → SomeFor (FileGives c file)
-some_text (Run image sets limit) file = some_image file sets limit
-some_text (Asm source) file = some_source file
+module _ (told : List ℕ → Option (List ℕ)) (rose : List ℕ → Type 0) where
+  pub some_planned : (schedule : Option (List ℕ)) (run : List Timed → ℕ → List ℕ → Type 0) → ((events : List Timed) → SomeFor (run events)) → SomeFor (PlanGives told rose schedule run)
+  some_planned None run some = some []
+  some_planned (Some name) run some = some_read (told name) (rose name) (ScheduleGives run) (some_plan run some)
 
--- a file that may be the one that is told
-some_file : (told : Option (List ℕ)) → (file : List ℕ) × IsFile told file
-some_file None = ([], tt)
-some_file (Some file) = (file, refl)
+  pub some_command : (c : Command) → SomeFor (CommandGives told rose c)
+  some_command (Run image schedule sets limit) =
+      some_read (told image) (rose image) _ (some_image _ (λ pairs. some_planned schedule (RunGives sets limit pairs) (some_run sets limit pairs)))
+  some_command (Asm source) = some_read (told source) (rose source) SourceGives some_source
 
-no_five : (f : End) → end_code f ≡ 5 → ⊥
-no_five (Exit w) e = absurd (omega arith)
-no_five Limit e = absurd (omega arith)
-no_five (Hazard a) e = absurd (omega arith)
-no_five (Dead code a) e = absurd (omega arith)
-no_five (Unbuilt a) e = absurd (omega arith)
+  pub some_outcome : (asked : Option Command) → SomeFor (Gives told rose asked)
+  some_outcome None = (1, words_line, in_no_form)
+  some_outcome (Some c) = let s = some_command c in (s.0, s.1, in_form c s.0 s.1 s.2)
 
-image_read : (file : List ℕ) (sets : Option ℕ) (limit code : ℕ) (text : List ℕ) → ImageGives file sets limit code text → code ≡ 5 → ⊥
-image_read file sets limit code text (too_long long) e = absurd (omega arith)
-image_read file sets limit code text (refused f short h) e = absurd (omega arith)
-image_read file sets limit code text (runs ps rs end short image run) e = no_five end e
+-- ---- the same in a wider choice
 
-source_read : (file : List ℕ) (code : ℕ) (text : List ℕ) → SourceGives file code text → code ≡ 5 → ⊥
-source_read file code text (source_too_long long) e = absurd (omega arith)
-source_read file code text (source_refused f short h) e = absurd (omega arith)
-source_read file code text (assembled image short h) e = absurd (omega arith)
+pub reads_wider : (told other : Option (List ℕ)) (rose risen : Type 0) (gives wider : List ℕ → ℕ → List ℕ → Type 0) → ((f : List ℕ) → IsFile told f → IsFile other f) → (rose → risen)
+    → ((f : List ℕ) (c : ℕ) (t : List ℕ) → gives f c t → wider f c t) → (c : ℕ) (t : List ℕ) → Reads told rose gives c t → Reads other risen wider c t
+reads_wider told other rose risen gives wider found rises more c t (unread r) = unread (rises r)
+reads_wider told other rose risen gives wider found rises more c t (fetched f d s is_file g) = fetched f c t (found f is_file) (more f c t g)
 
--- a file that was read is not answered by the status of one that was not
-file_read : (c : Command) (file : List ℕ) (code : ℕ) (text : List ℕ) → FileGives c file code text → code ≡ 5 → ⊥
-file_read (Run image sets limit) file code text g e = image_read file sets limit code text g e
-file_read (Asm source) file code text g e = source_read file code text g e
+pub schedule_wider : (run other : List Timed → ℕ → List ℕ → Type 0) → ((events : List Timed) (c : ℕ) (t : List ℕ) → run events c t → other events c t)
+    → (f : List ℕ) (c : ℕ) (t : List ℕ) → ScheduleGives run f c t → ScheduleGives other f c t
+schedule_wider run other more f c t (schedule_too_long long) = schedule_too_long long
+schedule_wider run other more f c t (schedule_refused fault short bad) = schedule_refused fault short bad
+schedule_wider run other more f c t (scheduled events d s short says g) = scheduled events c t short says (more events c t g)
+
+pub image_wider : (after other : List (ℕ × ℕ) → ℕ → List ℕ → Type 0) → ((pairs : List (ℕ × ℕ)) (c : ℕ) (t : List ℕ) → after pairs c t → other pairs c t)
+    → (f : List ℕ) (c : ℕ) (t : List ℕ) → ImageGives after f c t → ImageGives other f c t
+image_wider after other more f c t (too_long long) = too_long long
+image_wider after other more f c t (refused fault short bad) = refused fault short bad
+image_wider after other more f c t (accepted pairs d s image g) = accepted pairs c t image (more pairs c t g)
+
+pub plan_wider : (told other : List ℕ → Option (List ℕ)) (rose risen : List ℕ → Type 0) → ((n f : List ℕ) → IsFile (told n) f → IsFile (other n) f) → ((n : List ℕ) → rose n → risen n)
+    → (schedule : Option (List ℕ)) (run wider : List Timed → ℕ → List ℕ → Type 0) → ((events : List Timed) (c : ℕ) (t : List ℕ) → run events c t → wider events c t)
+    → (c : ℕ) (t : List ℕ) → PlanGives told rose schedule run c t → PlanGives other risen schedule wider c t
+plan_wider told other rose risen found rises None run wider more c t g = more [] c t g
+plan_wider told other rose risen found rises (Some name) run wider more c t g =
+    reads_wider (told name) (other name) (rose name) (risen name) (ScheduleGives run) (ScheduleGives wider) (found name) (rises name) (schedule_wider run wider more) c t g
+
+-- ---- what is answered
 
 module _ {K : Type 0} (k : Account K) where
-  pub answers_read : (c : Command) (file : List ℕ) (code : ℕ) (a b : K) → Answers (FileGives c file) code k a b → code ≡ 5 → ⊥
-  answers_read c file code a b h e = let w = h.whole (omega arith) in file_read c file code w.text w.is_given e
-
   -- a text that goes with a status below 6 was printed
   pub answers_with : (gives : ℕ → List ℕ → Type 0) (p : Printed) (code status : ℕ) (text : List ℕ) (a b : K) → code < 6 → gives code text
       → Prints p k a b text → status ≡ code_for p code → Answers gives status k a b
   answers_with gives p code status text a b known is_given printed e =
       subst (λ (n : ℕ). Answers gives n k a b) (sym e) (answers_printed k gives p code text a b known is_given printed)
 
-  -- the image of a file ran
-  pub file_runs : (file : List ℕ) (sets : Option ℕ) (limit : ℕ) (pairs : List (ℕ × ℕ)) (ran : Ran) (code : ℕ) (a b : K) → length file ≤ FILE_LIMIT → IsImage (lines_of file) pairs
-      → (r : Runs ran (given pairs [] limit sets) k a b) → code ≡ code_for (printed_of ran) (end_code r.end) → Answers (ImageGives file sets limit) code k a b
-  file_runs file sets limit pairs ran code a b short image r e =
-      answers_with (ImageGives file sets limit) (printed_of ran) (end_code r.end) code (run_text (given pairs [] limit sets) r.records r.end) a b
-      (known_finish r.end) (runs pairs r.records r.end short image r.run) r.prints e
-
-  -- it was said why an image is refused
-  pub file_refused : (file : List ℕ) (sets : Option ℕ) (limit : ℕ) (fault : ℕ × ℕ) (line : List ℕ) (p : Printed) (code : ℕ) (a b : K) → length file ≤ FILE_LIMIT → IsRefused (lines_of file) fault
-      → line ≡ refused_line image_word fault → Prints p k a b line → code ≡ code_for p 2 → Answers (ImageGives file sets limit) code k a b
-  file_refused file sets limit fault line p code a b short bad same printed e =
-      answers_with (ImageGives file sets limit) p 2 code (refused_line image_word fault) a b (omega arith) (refused fault short bad)
-      (prints_same k p a b line (refused_line image_word fault) same printed) e
-
-  -- the segments of a source were printed
-  pub source_printed : (file : List ℕ) (image : List Part) (text : List ℕ) (p : Printed) (code : ℕ) (a b : K) → length file ≤ FILE_LIMIT → IsAssembly (lines_of file) image
-      → text ≡ hex_text image → Prints p k a b text → code ≡ code_for p 0 → Answers (SourceGives file) code k a b
-  source_printed file image text p code a b short made same printed e =
-      answers_with (SourceGives file) p 0 code (hex_text image) a b (omega arith) (assembled image short made) (prints_same k p a b text (hex_text image) same printed) e
-
-  -- it was said why a source is refused
-  pub source_fault : (file : List ℕ) (fault : ℕ × ℕ) (line : List ℕ) (p : Printed) (code : ℕ) (a b : K) → length file ≤ FILE_LIMIT → IsRefusedSource (lines_of file) fault
-      → line ≡ refused_line source_word fault → Prints p k a b line → code ≡ code_for p 3 → Answers (SourceGives file) code k a b
-  source_fault file fault line p code a b short bad same printed e =
-      answers_with (SourceGives file) p 3 code (refused_line source_word fault) a b (omega arith) (source_refused fault short bad)
-      (prints_same k p a b line (refused_line source_word fault) same printed) e
+  -- the same of a text that is spelled in another way
+  pub answers_line : (gives : ℕ → List ℕ → Type 0) (p : Printed) (code status : ℕ) (line text : List ℕ) (a b : K) → code < 6 → gives code text → line ≡ text
+      → Prints p k a b line → status ≡ code_for p code → Answers gives status k a b
+  answers_line gives p code status line text a b known is_given same printed e =
+      answers_with gives p code status text a b known is_given (prints_same k p a b line text same printed) e
 
   -- memory was refused before anything was printed
-  pub image_unprinted : (file : List ℕ) (sets : Option ℕ) (limit : ℕ) (a : K) → Answers (ImageGives file sets limit) 7 k a a
-  image_unprinted file sets limit a = let s = some_image file sets limit in answers_nothing k (ImageGives file sets limit) s.0 s.1 a s.2
+  pub answers_unprinted : (gives : ℕ → List ℕ → Type 0) (a : K) → SomeFor gives → Answers gives 7 k a a
+  answers_unprinted gives a some = answers_nothing k gives some.0 some.1 a some.2
 
-  pub source_unprinted : (file : List ℕ) (a : K) → Answers (SourceGives file) 7 k a a
-  source_unprinted file a = let s = some_source file in answers_nothing k (SourceGives file) s.0 s.1 a s.2
+  -- an image ran
+  pub image_runs : (sets : Option ℕ) (limit : ℕ) (pairs : List (ℕ × ℕ)) (events : List Timed) (ran : Ran) (code : ℕ) (a b : K)
+      → (r : Runs ran (given pairs events limit sets) k a b) → code ≡ code_for (printed_of ran) (end_code r.end) → Answers (RunGives sets limit pairs events) code k a b
+  image_runs sets limit pairs events ran code a b r e =
+      answers_with (RunGives sets limit pairs events) (printed_of ran) (end_code r.end) code _ a b (known_finish r.end) (runs r.records r.end r.run) r.prints e
 
-  module _ (files : List ℕ → Option (List ℕ)) (rose : List ℕ → Type 0) where
-    -- memory was refused before the file was fetched
-    pub file_unfetched : (c : Command) (a : K) → Answers (Gives files rose (Some c)) 7 k a a
-    file_unfetched c a =
-        let f = some_file (files (file_of c)) in
-        let s = some_text c f.0 in
-        answers_nothing k (Gives files rose (Some c)) s.0 s.1 a (fetched c f.0 s.0 s.1 f.1 s.2)
+  -- a schedule was fetched whose events a run has
+  pub schedule_runs : (run : List Timed → ℕ → List ℕ → Type 0) (file : List ℕ) (events : List Timed) (code : ℕ) (a b : K) → length file ≤ FILE_LIMIT → IsSchedule (lines_of file) events
+      → Answers (run events) code k a b → Answers (ScheduleGives run file) code k a b
+  schedule_runs run file events code a b short says h = answers_wider k (run events) (ScheduleGives run file) code a b (λ c t g. scheduled events c t short says g) h
 
-    -- what is answered for the file that was fetched
-    pub file_fetched : (c : Command) (file bytes : List ℕ) (code : ℕ) (a b : K) → IsFile (files (file_of c)) file → bytes ≡ file → Answers (FileGives c bytes) code k a b
-        → Answers (Gives files rose (Some c)) code k a b
-    file_fetched c file bytes code a b is_file same h =
-        let found : IsFile (files (file_of c)) bytes = subst (IsFile (files (file_of c))) (sym same) is_file in
-        answers_wider k (FileGives c bytes) (Gives files rose (Some c)) code a b (λ n t g. fetched c bytes n t found g) h
+  -- an image was fetched and accepted
+  pub image_accepted : (after : List (ℕ × ℕ) → ℕ → List ℕ → Type 0) (file : List ℕ) (pairs : List (ℕ × ℕ)) (code : ℕ) (a b : K) → IsAccepted file pairs
+      → Answers (after pairs) code k a b → Answers (ImageGives after file) code k a b
+  image_accepted after file pairs code a b image h = answers_wider k (after pairs) (ImageGives after file) code a b (λ c t g. accepted pairs c t image g) h
 
-    pub file_unread : (c : Command) (p : Printed) (code : ℕ) (a b : K) → rose (file_of c) → Prints p k a b read_line → code ≡ code_for p 5 → Answers (Gives files rose (Some c)) code k a b
-    file_unread c p code a b rises printed e = answers_with (Gives files rose (Some c)) p 5 code read_line a b (omega arith) (unread c rises) printed e
+  -- what is answered for a file that was fetched
+  pub file_fetched : (told : Option (List ℕ)) (rose : Type 0) (gives : List ℕ → ℕ → List ℕ → Type 0) (file bytes : List ℕ) (code : ℕ) (a b : K) → IsFile told file → bytes ≡ file
+      → Answers (gives bytes) code k a b → Answers (Reads told rose gives) code k a b
+  file_fetched told rose gives file bytes code a b is_file same h =
+      let found : IsFile told bytes = subst (IsFile told) (sym same) is_file in
+      answers_wider k (gives bytes) (Reads told rose gives) code a b (λ c t g. fetched bytes c t found g) h
 
-    -- what the words ask for, spelled in another way
-    pub answers_for : (asked same : Option Command) (code : ℕ) (a b : K) → asked ≡ same → Answers (Gives files rose asked) code k a b → Answers (Gives files rose same) code k a b
-    answers_for asked same code a b e h = subst (λ (o : Option Command). Answers (Gives files rose o) code k a b) e h
+  -- it was said that a file was not read
+  pub file_unread : (told : Option (List ℕ)) (rose : Type 0) (gives : List ℕ → ℕ → List ℕ → Type 0) (p : Printed) (code : ℕ) (a b : K) → rose → Prints p k a b read_line → code ≡ code_for p 5
+      → Answers (Reads told rose gives) code k a b
+  file_unread told rose gives p code a b rises printed e = answers_with (Reads told rose gives) p 5 code read_line a b (omega arith) (unread rises) printed e
+
+  -- what is answered for a schedule in a later state of the files
+  pub later_plan : (told other : List ℕ → Option (List ℕ)) (rose risen : List ℕ → Type 0) → ((n : List ℕ) → other n ≡ told n) → ((n : List ℕ) → rose n → risen n)
+      → (schedule : Option (List ℕ)) (sets : Option ℕ) (limit : ℕ) (file : List ℕ) (code : ℕ) (a b : K)
+      → Answers (ImageGives (λ pairs. PlanGives other rose schedule (RunGives sets limit pairs)) file) code k a b
+      → Answers (ImageGives (λ pairs. PlanGives told risen schedule (RunGives sets limit pairs)) file) code k a b
+  later_plan told other rose risen same rises schedule sets limit file code a b h =
+      let found : (n f : List ℕ) → IsFile (other n) f → IsFile (told n) f = λ n f is_file. subst (λ (o : Option (List ℕ)). IsFile o f) (same n) is_file in
+      answers_wider k _ _ code a b
+      (image_wider _ _ (λ pairs. plan_wider other told rose risen found rises schedule (RunGives sets limit pairs) (RunGives sets limit pairs) (λ events c t g. g)) file) h
+
+  module _ (told : List ℕ → Option (List ℕ)) (rose : List ℕ → Type 0) where
+    -- what a command is answered, where the words ask for it
+    pub command_answered : (asked : Option Command) (c : Command) (code : ℕ) (a b : K) → Some c ≡ asked → Answers (CommandGives told rose c) code k a b → Answers (Gives told rose asked) code k a b
+    command_answered asked c code a b e h =
+        subst (λ (o : Option Command). Answers (Gives told rose o) code k a b) e (answers_wider k (CommandGives told rose c) (Gives told rose (Some c)) code a b (λ d t g. in_form c d t g) h)
 
     -- the words are in no form
-    pub words_refused : (p : Printed) (code : ℕ) (a b : K) → Prints p k a b words_line → code ≡ code_for p 1 → Answers (Gives files rose None) code k a b
-    words_refused p code a b printed e = answers_with (Gives files rose None) p 1 code words_line a b (omega arith) in_no_form printed e
+    pub words_refused : (asked : Option Command) (p : Printed) (code : ℕ) (a b : K) → None ≡ asked → Prints p k a b words_line → code ≡ code_for p 1 → Answers (Gives told rose asked) code k a b
+    words_refused asked p code a b none printed e =
+        subst (λ (o : Option Command). Answers (Gives told rose o) code k a b) none (answers_with (Gives told rose None) p 1 code words_line a b (omega arith) in_no_form printed e)

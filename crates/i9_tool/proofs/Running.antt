@@ -9,6 +9,7 @@ use Rattle.i9_machine.specs.declared.line.Line.{Line}
 use Rattle.i9_machine.specs.declared.line.Turn.{Turn}
 use Rattle.i9_machine.specs.declared.line.Turn.TheVariants as turns
 use Rattle.i9_machine.specs.declared.machine.Machine.{Machine}
+use Rattle.i9_schedule.specs.Plan.{Plan}
 use Rattle.i9_machine.specs.Line.{shown_of}
 use Rattle.i9_machine.specs.StandsFor.{DoesNext, Advances}
 use Rattle.i9_tool.specs.declared.print.Printed.{Printed}
@@ -43,20 +44,20 @@ module _ (g : Given) where
         text = ap (λ (t : List ℕ). t ++ later.2) (sym (text_of-append (lines_of rs) shown) ∙ ap text_of (sym e)) ∙ later.4;
       }
 
-  ahead_done : (rs : List Record) (turn : Turn) (m : Machine) (ls : List Line) → DoesNext g rs turn m [] ls → Ahead rs (map shown_of ls)
-  ahead_done rs turn m ls a = ahead_of rs (a.done ∷ rs) (map shown_of ls) a.stands.past (ap (λ (x : List Shown). lines_of rs ++ x) (sym a.lines))
+  ahead_done : (rs : List Record) (turn : Turn) (m : Machine) (plan : Plan) (ls : List Line) → DoesNext g rs turn m plan [] ls → Ahead rs (map shown_of ls)
+  ahead_done rs turn m plan ls a = ahead_of rs (a.done ∷ rs) (map shown_of ls) a.stands.past (ap (λ (x : List Shown). lines_of rs ++ x) (sym a.lines))
 
-  pub ahead : (rs : List Record) (turn : Turn) (m : Machine) (ls : List Line) → IsPast g rs → Advances g rs turn m [] ls → Ahead rs (map shown_of ls)
-  ahead rs turns.On m ls past a = ahead_done rs turns.On m ls a
-  ahead rs (turns.Issued t) m ls past a = ahead_done rs (turns.Issued t) m ls a
-  ahead rs (turns.End e) m ls past a = record {
+  pub ahead : (rs : List Record) (turn : Turn) (m : Machine) (plan : Plan) (ls : List Line) → IsPast g rs → Advances g rs turn m plan [] ls → Ahead rs (map shown_of ls)
+  ahead rs turns.On m plan ls past a = ahead_done rs turns.On m plan ls a
+  ahead rs (turns.Issued t) m plan ls past a = ahead_done rs (turns.Issued t) m plan ls a
+  ahead rs (turns.End e) m plan ls past a = record {
     records = rs;
     end = e;
     run = record { past = past; ends = a.is_end };
     rest = [];
     text = append-nil (text_of (lines_of rs) ++ text_of (map shown_of ls)) ∙ sym (text_of-append (lines_of rs) (map shown_of ls)) ∙ ap (λ (x : List Shown). text_of (lines_of rs ++ x)) a.lines;
   }
-  ahead rs turns.Memory m ls past a = ahead_of rs rs (map shown_of ls) past (sym (append-nil (lines_of rs)) ∙ ap (λ (x : List Shown). lines_of rs ++ x) (sym (ap (map shown_of) a.lines)))
+  ahead rs turns.Memory m plan ls past a = ahead_of rs rs (map shown_of ls) past (sym (append-nil (lines_of rs)) ∙ ap (λ (x : List Shown). lines_of rs ++ x) (sym (ap (map shown_of) a.lines)))
 
   module _ {K : Type 0} (k : Account K) where
     abbrev Printing : Printed → K → K → List ℕ → Type 0
@@ -100,9 +101,9 @@ module _ (g : Given) where
     }
 
     -- the end was reached
-    pub ran_done : (a b c : K) (rs : List Record) (ls : List Line) (e : End) (m : Machine) → IsPast g rs → Advances g rs (turns.End e) m [] ls
+    pub ran_done : (a b c : K) (rs : List Record) (ls : List Line) (e : End) (m : Machine) (plan : Plan) → IsPast g rs → Advances g rs (turns.End e) m plan [] ls
         → Printing Done a b (text_of (lines_of rs)) → Printing Done b c (flat_map line_text ls) → Runs (ran.Done e) g k a c
-    ran_done a b c rs ls e m past d p q = record {
+    ran_done a b c rs ls e m plan past d p q = record {
       records = rs;
       end = e;
       run = record { past = past; ends = d.is_end };
@@ -112,9 +113,9 @@ module _ (g : Given) where
     }
 
     -- one more record was printed
-    pub one_more : (a b c : K) (rs : List Record) (ls : List Line) (turn : Turn) (m : Machine) → (d : DoesNext g rs turn m [] ls)
+    pub one_more : (a b c : K) (rs : List Record) (ls : List Line) (turn : Turn) (m : Machine) (plan : Plan) → (d : DoesNext g rs turn m plan [] ls)
         → Printing Done a b (text_of (lines_of rs)) → Printing Done b c (flat_map line_text ls) → Printing Done a c (text_of (lines_of (d.done ∷ rs)))
-    one_more a b c rs ls turn m d p q =
+    one_more a b c rs ls turn m plan d p q =
         prints_same k Done a c _ _
         (sym (text_of-append (lines_of rs) (map shown_of ls)) ∙ ap (λ (x : List Shown). text_of (lines_of rs ++ x)) d.lines) (both Done a b c rs ls p q)
 

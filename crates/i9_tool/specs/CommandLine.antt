@@ -6,16 +6,22 @@ use Rattle.std.specs.Str.{bytes_eq}
 use Rattle.i9_text.specs.Text.{number_of}
 use Rattle.i9_model.specs.declared.layout.TheConstants.{MAX_LENGTH, MOST_SETS}
 
--- What the words ask for: to run the image of this name, with so many sets or, where none are asked for, with those of
--- the PRCB, for at most so many instructions; or to assemble the source of this name.
+-- What the words ask for: to run the image of this name, with the events of the schedule of this name or with none, with
+-- so many sets or, where none are asked for, with those of the PRCB, for at most so many instructions; or to assemble the
+-- source of this name.
 pub data Command : Type 0 where
-  Run : (image : List ℕ) → (sets : Option ℕ) → (limit : ℕ) → Command
+  Run : (image : List ℕ) → (schedule : Option (List ℕ)) → (sets : Option ℕ) → (limit : ℕ) → Command
   Asm : (source : List ℕ) → Command
 
--- the file that a command reads
-abbrev pub file_of : Command → List ℕ
-file_of (Run image sets limit) = image
-file_of (Asm source) = source
+-- a name that there may be
+abbrev pub with_name : Option (List ℕ) → List (List ℕ)
+with_name None = []
+with_name (Some name) = name ∷ []
+
+-- the files that a command names, in the order in which they are read
+abbrev pub files_of : Command → List (List ℕ)
+files_of (Run image schedule sets limit) = image ∷ with_name schedule
+files_of (Asm source) = source ∷ []
 
 abbrev pub is_dash : List ℕ → Bool
 is_dash word = bytes_eq word (codes "-")
@@ -33,17 +39,22 @@ number_in low high word = in_range low high (number_of 10 10 word)
 unfoldable pub sets_for : List ℕ → Option (Option ℕ)
 sets_for word = if is_dash word then Some None else option_map (λ n. Some n) (number_in 1 MOST_SETS word)
 
-abbrev pub run_for : List ℕ → Option (Option ℕ) → Option ℕ → Option Command
-run_for image (Some sets) (Some limit) = Some (Run image sets limit)
-run_for image None limit = None
-run_for image (Some sets) None = None
+-- the name of a schedule, which isn't empty, or `-` for none
+unfoldable pub schedule_for : List ℕ → Option (Option (List ℕ))
+schedule_for word = if is_dash word then Some None else if length word == 0 then None else Some (Some word)
 
--- `asm SOURCE`, or `run IMAGE - SETS LENGTH`, with the name of a file that isn't empty
+abbrev pub run_for : List ℕ → Option (Option (List ℕ)) → Option (Option ℕ) → Option ℕ → Option Command
+run_for image (Some schedule) (Some sets) (Some limit) = Some (Run image schedule sets limit)
+run_for image None sets limit = None
+run_for image (Some schedule) None limit = None
+run_for image (Some schedule) (Some sets) None = None
+
+-- `asm SOURCE`, or `run IMAGE SCHEDULE SETS LENGTH`, with names of files that aren't empty
 unfoldable pub command_of : List (List ℕ) → Option Command
 command_of (name ∷ source ∷ []) = if bytes_eq name (codes "asm") && not (length source == 0) then Some (Asm source) else None
 command_of (name ∷ image ∷ schedule ∷ sets ∷ limit ∷ []) =
-    if bytes_eq name (codes "run") && not (length image == 0) && is_dash schedule
-    then run_for image (sets_for sets) (number_in 0 MAX_LENGTH limit)
+    if bytes_eq name (codes "run") && not (length image == 0)
+    then run_for image (schedule_for schedule) (sets_for sets) (number_in 0 MAX_LENGTH limit)
     else None
 command_of _ = None
 
@@ -58,6 +69,9 @@ read_line = codes "#read\n"
 -- what a file is that is too long or refused
 abbrev pub image_word : List ℕ
 image_word = codes "image"
+
+abbrev pub schedule_word : List ℕ
+schedule_word = codes "schedule"
 
 abbrev pub source_word : List ℕ
 source_word = codes "source"

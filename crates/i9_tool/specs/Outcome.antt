@@ -1,10 +1,12 @@
 -- What the command answers and prints, for its words and files.
-use Rattle.std.specs.Prelude.{◌≡◌, ◌≢◌, ◌⊎◌, ◌<◌, ◌≤◌, ℕ, List, [], ◌∷◌, length, map, String, Option, Some, None}
+use Rattle.std.specs.Prelude.{◌≡◌, ◌≢◌, ◌⊎◌, ◌<◌, ◌≤◌, ℕ, List, [], ◌∷◌, length, map, String, Option, Some, None, IsSome}
 use Rattle.std.specs.List.{AllByRecursion}
 use Rattle.std.specs.String.{string_bytes}
 use Rattle.std.specs.Io.KnownBytes.{Appends}
 use Rattle.i9_text.specs.Text.{lines_of}
 use Rattle.i9_model.specs.HexText.{IsImage, IsRefused}
+use Rattle.i9_model.specs.ScheduleText.{IsSchedule, IsRefused as IsRefusedSchedule}
+use Rattle.i9_model.specs.declared.event.Timed.{Timed}
 use Rattle.i9_model.specs.Given.{given}
 use Rattle.i9_model.specs.declared.run.End.{End}
 use Rattle.i9_model.specs.Run.{Record, IsRun}
@@ -12,44 +14,74 @@ use Rattle.i9_model.specs.PrintedText.{run_text, end_code}
 use Rattle.i9_model.specs.Image.{Part}
 use Rattle.i9_hex.specs.Writing.{hex_text}
 use Rattle.i9_asm.specs.Laws.{IsAssembly, IsRefusedSource}
-use Rattle.i9_tool.specs.CommandLine.{Command, Run, Asm, file_of, command_of, words_line, read_line, image_word, source_word, long_line, refused_line}
+use Rattle.i9_tool.specs.CommandLine.{Command, Run, Asm, files_of, command_of, words_line, read_line, image_word, schedule_word, source_word, long_line, refused_line}
 use Rattle.i9_outside.specs.declared.traits.TheConstants.{FILE_LIMIT}
 use Rattle.i9_tool.specs.declared.print.Printed.{Printed}
 use Rattle.i9_tool.specs.declared.print.Printed.TheVariants as printed
 use Rattle.i9_tool.specs.Print.{Account, CountsUpTo, line_count, counted_on}
-use Rattle.i9_outside.specs.Counts.{Rose}
+use Rattle.i9_outside.specs.Counts.{one_more, Rose}
 use Rattle.i9_outside.specs.Traits.{IsFile, AppendsFront}
 
--- The status and the text for a file that was fetched, whose image is to run in so many sets for at most so many
--- instructions: it is too long, it is refused for its first line at fault, or its image runs to the end of its run.
-pub data ImageGives (file : List ℕ) (sets : Option ℕ) (limit : ℕ) : ℕ → List ℕ → Type 0 where
-  too_long : FILE_LIMIT < length file → ImageGives file sets limit 2 (long_line image_word)
-  refused : (fault : ℕ × ℕ) → length file ≤ FILE_LIMIT → IsRefused (lines_of file) fault
-      → ImageGives file sets limit 2 (refused_line image_word fault)
-  runs : (pairs : List (ℕ × ℕ)) (records : List Record) (end : End) → length file ≤ FILE_LIMIT → IsImage (lines_of file) pairs
-      → IsRun (given pairs [] limit sets) records end
-      → ImageGives file sets limit (end_code end) (run_text (given pairs [] limit sets) records end)
+-- ---- the status and the text, where no write fails and memory isn't refused
 
--- The status and the text for a source that was fetched: it is too long, it is refused for its first line at fault, or
--- the Intel HEX text of its segments is printed.
+-- For a file by its name: the count of its faults rose, and it was not read; or it was fetched.
+pub data Reads (told : Option (List ℕ)) (rose : Type 0) (gives : List ℕ → ℕ → List ℕ → Type 0) : ℕ → List ℕ → Type 0 where
+  unread : rose → Reads told rose gives 5 read_line
+  fetched : (file : List ℕ) (code : ℕ) (text : List ℕ) → IsFile told file → gives file code text → Reads told rose gives code text
+
+-- For an image that was accepted, with these events: its run is printed to its end.
+pub data RunGives (sets : Option ℕ) (limit : ℕ) (pairs : List (ℕ × ℕ)) (events : List Timed) : ℕ → List ℕ → Type 0 where
+  runs : (records : List Record) (end : End) → IsRun (given pairs events limit sets) records end
+      → RunGives sets limit pairs events (end_code end) (run_text (given pairs events limit sets) records end)
+
+-- For a schedule that was fetched: it is too long, it is refused for its first line at fault, or a run has its events.
+pub data ScheduleGives (run : List Timed → ℕ → List ℕ → Type 0) (file : List ℕ) : ℕ → List ℕ → Type 0 where
+  schedule_too_long : FILE_LIMIT < length file → ScheduleGives run file 3 (long_line schedule_word)
+  schedule_refused : (fault : ℕ × ℕ) → length file ≤ FILE_LIMIT → IsRefusedSchedule (lines_of file) fault
+      → ScheduleGives run file 3 (refused_line schedule_word fault)
+  scheduled : (events : List Timed) (code : ℕ) (text : List ℕ) → length file ≤ FILE_LIMIT → IsSchedule (lines_of file) events
+      → run events code text → ScheduleGives run file code text
+
+-- the image of a file is accepted, and has these bytes
+pub record IsAccepted (file : List ℕ) (pairs : List (ℕ × ℕ)) : Type 0 where
+  pub short : length file ≤ FILE_LIMIT
+  pub image : IsImage (lines_of file) pairs
+
+-- For an image that was fetched: it is too long, it is refused for its first line at fault, or it is accepted.
+pub data ImageGives (after : List (ℕ × ℕ) → ℕ → List ℕ → Type 0) (file : List ℕ) : ℕ → List ℕ → Type 0 where
+  too_long : FILE_LIMIT < length file → ImageGives after file 2 (long_line image_word)
+  refused : (fault : ℕ × ℕ) → length file ≤ FILE_LIMIT → IsRefused (lines_of file) fault
+      → ImageGives after file 2 (refused_line image_word fault)
+  accepted : (pairs : List (ℕ × ℕ)) (code : ℕ) (text : List ℕ) → IsAccepted file pairs → after pairs code text
+      → ImageGives after file code text
+
+-- For a source that was fetched: it is too long, it is refused for its first line at fault, or the Intel HEX text of its
+-- segments is printed.
 pub data SourceGives (file : List ℕ) : ℕ → List ℕ → Type 0 where
   source_too_long : FILE_LIMIT < length file → SourceGives file 3 (long_line source_word)
   source_refused : (fault : ℕ × ℕ) → length file ≤ FILE_LIMIT → IsRefusedSource (lines_of file) fault
       → SourceGives file 3 (refused_line source_word fault)
   assembled : (image : List Part) → length file ≤ FILE_LIMIT → IsAssembly (lines_of file) image → SourceGives file 0 (hex_text image)
 
--- what a command gives for its file
-abbrev pub FileGives : Command → List ℕ → ℕ → List ℕ → Type 0
-FileGives (Run image sets limit) file = ImageGives file sets limit
-FileGives (Asm source) file = SourceGives file
+-- `told` says the files that are told, and `rose` of which names the count of faults rose.
+module _ (told : List ℕ → Option (List ℕ)) (rose : List ℕ → Type 0) where
+  -- a schedule is read where one is named, and else a run has no events
+  abbrev pub PlanGives : Option (List ℕ) → (List Timed → ℕ → List ℕ → Type 0) → ℕ → List ℕ → Type 0
+  PlanGives None run = run []
+  PlanGives (Some name) run = Reads (told name) (rose name) (ScheduleGives run)
 
--- The status and the text for what the words ask for, where no write fails and memory isn't refused. `told` says the
--- files that are told, and `rose` of which names the count of faults rose.
+  -- the image comes first, and the schedule only where it is accepted
+  abbrev pub CommandGives : Command → ℕ → List ℕ → Type 0
+  CommandGives (Run image schedule sets limit) =
+      Reads (told image) (rose image) (ImageGives (λ pairs. PlanGives schedule (RunGives sets limit pairs)))
+  CommandGives (Asm source) = Reads (told source) (rose source) SourceGives
+
+-- The status and the text for what the words ask for.
 pub data Gives (told : List ℕ → Option (List ℕ)) (rose : List ℕ → Type 0) : Option Command → ℕ → List ℕ → Type 0 where
   in_no_form : Gives told rose None 1 words_line
-  unread : (c : Command) → rose (file_of c) → Gives told rose (Some c) 5 read_line
-  fetched : (c : Command) (file : List ℕ) (code : ℕ) (text : List ℕ) → IsFile (told (file_of c)) file
-      → FileGives c file code text → Gives told rose (Some c) code text
+  in_form : (c : Command) (code : ℕ) (text : List ℕ) → CommandGives told rose c code text → Gives told rose (Some c) code text
+
+-- ---- the same for a call of the command
 
 -- the command that words ask for
 abbrev pub asked_for : {Z : Type 0} → List (String Z) → Option Command
@@ -58,10 +90,6 @@ asked_for words = command_of (map string_bytes words)
 -- the count of a name rose from one state of the files to another
 abbrev pub rose_in : {F : Type 0} → (F → List ℕ → ℕ) → F → F → List ℕ → Type 0
 rose_in faults old new name = Rose (faults old name) (faults new name)
-
--- it is greater in the later state, which it is not once it stands at the end of its type
-abbrev pub grew_in : {F : Type 0} → (F → List ℕ → ℕ) → F → F → List ℕ → Type 0
-grew_in faults old new name = faults old name < faults new name
 
 -- what the words give, by the files before the call and the counts that rose in it
 abbrev pub Outcomes : {F Z : Type 0} → (F → List ℕ → Option (List ℕ)) → (F → List ℕ → ℕ) → F → F → List (String Z) → ℕ → List ℕ → Type 0
@@ -97,10 +125,12 @@ code_for printed.Done code = code
 code_for printed.Write code = 6
 code_for printed.Memory code = 7
 
+-- ---- the files
+
 -- the files that the words name, in the order in which they are read
 abbrev pub names_of : Option Command → List (List ℕ)
 names_of None = []
-names_of (Some c) = file_of c ∷ []
+names_of (Some c) = files_of c
 
 -- the count of one of these files rose
 abbrev pub AnyRose : (List ℕ → Type 0) → List (List ℕ) → Type 0
@@ -110,3 +140,40 @@ AnyRose rose (name ∷ names) = rose name ⊎ AnyRose rose names
 -- each of these files is sure to be fetched
 abbrev pub AllSure : (List ℕ → Type 0) → List (List ℕ) → Type 0
 AllSure sure names = AllByRecursion sure names
+
+-- each of these files is told
+abbrev pub AllTold : (List ℕ → Option (List ℕ)) → List (List ℕ) → Type 0
+AllTold told names = AllByRecursion (λ name. IsSome (told name)) names
+
+-- A file was fetched once. Where its count is greater then, which it is not once it stands at the end of its type, the
+-- status is 5, or 6 where a write failed too.
+pub record FetchesOnce {F : Type 0} (faults : F → List ℕ → ℕ) (fetches : F → ℕ) (name : List ℕ) (code : ℕ) (old new : F) : Type 0 where
+  pub once : fetches new ≡ one_more (fetches old)
+  pub unread : faults old name < faults new name → (code ≡ 5) ⊎ (code ≡ 6)
+
+-- a schedule that is named was fetched once, and else nothing
+abbrev pub FetchesPlan : {F : Type 0} → (F → List ℕ → ℕ) → (F → ℕ) → Option (List ℕ) → ℕ → F → F → Type 0
+FetchesPlan faults fetches None code old new = new ≡ old
+FetchesPlan faults fetches (Some name) code old new = FetchesOnce faults fetches name code old new
+
+-- What was fetched after an image that is this file: the schedule, where it is accepted; nothing, where it isn't, or where
+-- memory was refused.
+pub data FetchesAfter {F : Type 0} (faults : F → List ℕ → ℕ) (fetches : F → ℕ) (file : List ℕ) (schedule : Option (List ℕ)) (code : ℕ) (old new : F) : Type 0 where
+  after_accepted : (pairs : List (ℕ × ℕ)) → IsAccepted file pairs → FetchesPlan faults fetches schedule code old new
+      → FetchesAfter faults fetches file schedule code old new
+  not_accepted : ((pairs : List (ℕ × ℕ)) → IsAccepted file pairs → ⊥) → new ≡ old → FetchesAfter faults fetches file schedule code old new
+  without_memory : code ≡ 7 → new ≡ old → FetchesAfter faults fetches file schedule code old new
+
+-- The files that the words name were fetched in order, each at most once: a source; an image, and nothing after it where it
+-- was not read.
+pub data FetchesFiles {F : Type 0} (told : F → List ℕ → Option (List ℕ)) (faults : F → List ℕ → ℕ) (fetches : F → ℕ) (code : ℕ) (old : F) : Option Command → F → Type 0 where
+  no_files : FetchesFiles told faults fetches code old None old
+  source_file : (source : List ℕ) (new : F) → FetchesOnce faults fetches source code old new
+      → FetchesFiles told faults fetches code old (Some (Asm source)) new
+  image_unread : (image : List ℕ) (schedule : Option (List ℕ)) (sets : Option ℕ) (limit : ℕ) (new : F)
+      → FetchesOnce faults fetches image code old new → Rose (faults old image) (faults new image) ⊎ (code ≡ 7)
+      → FetchesFiles told faults fetches code old (Some (Run image schedule sets limit)) new
+  image_read : (image : List ℕ) (schedule : Option (List ℕ)) (sets : Option ℕ) (limit : ℕ) (file : List ℕ) (mid new : F)
+      → FetchesOnce faults fetches image code old mid → IsFile (told old image) file
+      → FetchesAfter faults fetches file schedule code mid new
+      → FetchesFiles told faults fetches code old (Some (Run image schedule sets limit)) new

@@ -1,5 +1,6 @@
 -- What the words ask for in the plain form of the definitions.
 use Rattle.std.specs.Prelude.{ℕ, ◌<◌, ◌≤◌, Option, IfSome}
+use Rattle.std.specs.Option.{option_copied}
 use Rattle.i9_model.specs.declared.layout.TheConstants.{MAX_LENGTH}
 use Rattle.i9_tool.specs.CommandLine.{Command, Run, Asm}
 use Rattle.i9_tool.specs.declared.words.Asked.{Asked}
@@ -7,7 +8,7 @@ use Rattle.i9_tool.specs.declared.words.Asked.TheVariants as asked
 use Rattle.i9_tool.specs.declared.words.RunWords.{RunWords}
 
 abbrev pub run_by : RunWords → Command
-run_by run = Run run.image.now run.sets run.limit
+run_by run = Run run.image.now (option_copied run.schedule) run.sets run.limit
 
 abbrev pub asked_by : Asked → Command
 asked_by (asked.Run run) = run_by run

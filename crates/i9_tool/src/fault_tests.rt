@@ -59,15 +59,15 @@ run 5
 #l
 #end limit
 status 0
-== Returns by type 111.
+== Returns by type 111 in supervisor mode to a frame of zeros at 5000, from a record of zeros.
         lda   0x5007, pfp
         ret
-run 5
-#point 1 end 00001008 00000000 001F2002
-#g 15=3000
-#l 0=5007 1=3040
-#end unbuilt 00001008
-status 4
+run 2
+#point 2 end 00000000 00000000 00000000
+#g 15=5000
+#l
+#end limit
+status 0
 ";
 
 /// Calls and returns in user mode.

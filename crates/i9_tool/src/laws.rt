@@ -7,7 +7,7 @@ ghost use Rattle.i9_tool.specs.CommandLine.{Command, Run};
 ghost use Rattle.i9_outside.specs.Calls.{NoneToFail};
 ghost use Rattle.i9_outside.specs.MemFiles as mem_files;
 ghost use Rattle.i9_outside.specs.MemSink as mem_sink;
-ghost use Rattle.i9_tool.specs.Outcome.{FileGives, Gives, GivesWhole, Outcomes, asked_for, names_of, AllSure};
+ghost use Rattle.i9_tool.specs.Outcome.{Gives, GivesWhole, Outcomes, asked_for, names_of, AllTold};
 ghost use Rattle.i9_tool.specs.Print.{account};
 
 use crate::status::Status;
@@ -15,18 +15,22 @@ use crate::top::i960;
 use i9_outside::{MemFiles, MemSink};
 use std::alloc::Global;
 
-/// What a command gives for its file is one status and one text: an image is accepted or refused, not both, for one
-/// fault, and its run is the only one; a source has one list of segments or one first fault. So each status is answered
-/// exactly where it is given. There is a status and a text for each file, and none depends on the number of sets that
-/// is asked for.
+/// What words give for files that are told and were read is one status and one text: an image is accepted or refused, not
+/// both, for one fault, and so is a schedule, and the run of both is the only one; a source has one list of segments or one
+/// first fault. So each status is answered exactly where it is given. There is a status and a text for all words and files,
+/// and none depends on the number of sets that is asked for.
 pub fn one_outcome()
-    ensures some { (command : Command) (file : List ℕ) → (code : ℕ) × (text : List ℕ) × FileGives command file code text }
-    ensures status { (command : Command) (file : List ℕ) (c d : ℕ) (s t : List ℕ) → FileGives command file c s → FileGives command file d t → c ≡ d }
-    ensures text { (command : Command) (file : List ℕ) (c d : ℕ) (s t : List ℕ) → FileGives command file c s → FileGives command file d t → s ≡ t }
-    ensures sets { (told : List ℕ → Option (List ℕ)) (risen : List ℕ → Bool) (image : List ℕ)
+    ensures some { (told : List ℕ → Option (List ℕ)) (asked : Option Command) → (code : ℕ) × (text : List ℕ) × Gives told (λ n. ⊥) asked code text }
+    ensures status { (told : List ℕ → Option (List ℕ)) (risen : List ℕ → Bool) (asked : Option Command) (c d : ℕ) (s t : List ℕ)
+        → AllTold told (names_of asked) → c ≢ 5 → d ≢ 5
+        → Gives told (λ n. risen n ≡ true) asked c s → Gives told (λ n. risen n ≡ true) asked d t → c ≡ d }
+    ensures text { (told : List ℕ → Option (List ℕ)) (risen : List ℕ → Bool) (asked : Option Command) (c d : ℕ) (s t : List ℕ)
+        → AllTold told (names_of asked) → c ≢ 5 → d ≢ 5
+        → Gives told (λ n. risen n ≡ true) asked c s → Gives told (λ n. risen n ≡ true) asked d t → s ≡ t }
+    ensures sets { (told : List ℕ → Option (List ℕ)) (risen : List ℕ → Bool) (image : List ℕ) (schedule : Option (List ℕ))
         (sets others : Option ℕ) (limit code : ℕ) (text : List ℕ)
-        → Gives told (λ n. risen n ≡ true) (Some (Run image sets limit)) code text
-        → Gives told (λ n. risen n ≡ true) (Some (Run image others limit)) code text }
+        → Gives told (λ n. risen n ≡ true) (Some (Run image schedule sets limit)) code text
+        → Gives told (λ n. risen n ≡ true) (Some (Run image schedule others limit)) code text }
 {}
 
 /// The command over files and a sink in memory: a status below 6 has its whole text. Where no call is set to fail, each

@@ -2,9 +2,10 @@
 ghost use Rattle.std.specs.Prelude.{◌≡◌, ◌≢◌, flat_map, true};
 ghost use Rattle.std.specs.List.{position};
 ghost use Rattle.i9_text.specs.Text.{is_line_feed};
+ghost use Rattle.i9_tool.specs.CommandLine.{refused_line};
 ghost use Rattle.i9_tool.specs.Print.{Prints, IsLine, AreLines, account, is_lined, line_text};
 
-use crate::text::lines_of;
+use crate::text::{lines_of, refused_line};
 use i9_machine::Line;
 use i9_outside::{Sink, Wrote};
 use std::alloc::Global;
@@ -75,6 +76,24 @@ pub(crate) fn print_text<K: Sink>(text: &[u8], out: &mut K) -> Printed
         rest = after;
     }
     Printed::Done
+}
+
+/// Writes the line of a refused image, schedule or source, with its first line at fault and its kind.
+#[tactic(auto, using(crate::proofs::Prints::prints_rules))]
+pub(crate) fn print_refusal<K: Sink>(
+    alloc: Global,
+    what: &[u8],
+    line: u64,
+    kind: u8,
+    out: &mut K,
+) -> Printed
+    requires line { IsLine (refused_line what.now (line, kind)) }
+    ensures { Prints result (account K.told K.faults K.writes K.sure) out.old out.new (refused_line what.now (line, kind)) }
+{
+    match refused_line(alloc, what, line, kind) {
+        Ok(text) => print_piece(&text, out),
+        Err(_) => Printed::Memory,
+    }
 }
 
 /// Writes the lines of l, each by one call of the sink.

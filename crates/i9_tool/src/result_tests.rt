@@ -51,8 +51,8 @@ run 9
 #l 1=40
 #end unbuilt 00001008
 status 4
-== A special function register.
-        mov   sf0, g0
+== The DMA command word.
+        mov   sf2, g0
 run 9
 #point 0 end 00001000 00000000 001F2002
 #g

@@ -62,10 +62,12 @@ pub(crate) const TO_USER_MODE: &str = "
 /// Numbers of sets as words of the command: that of the PRCB, and one, five and fifteen.
 const SETS: [&str; 4] = ["-", "1", "5", "15"];
 
-/// A case: a source, the length of the run of its image as a word of the command, and what is to be printed.
+/// A case: a source, the lines of a schedule, the length of the run of the image as a word of the command, and what is to
+/// be printed.
 #[derive(Drop)]
 struct Case {
     source: String,
+    schedule: String,
     length: String,
     printed: String,
 }
@@ -106,26 +108,30 @@ fn add_line(text: &mut String, line: &str) -> Result<(), Fail> {
     Ok(())
 }
 
-/// Whether the run of a case's image with so many sets has this status and prints the case's text.
+/// Whether the run of a case's image with the events of a text, or with none where it is empty, and with so many sets has
+/// this status and prints the case's text.
 fn holds_with(
     alloc: Global,
     case: &Case,
     image: &[u8],
+    schedule: &str,
     sets: &str,
     code: u8,
 ) -> Result<bool, Fail> {
     let mut files = MemFiles::new(alloc);
     files.add("a", image)?;
+    files.add("b", schedule.as_bytes())?;
     let mut sink = MemSink::new(alloc);
     sink.room(4096)?;
-    let line = format!(in alloc; "run a - {sets} {}", case.length)?;
+    let plan = if schedule.is_empty() { "-" } else { "b" };
+    let line = format!(in alloc; "run a {plan} {sets} {}", case.length)?;
     let words = words_of(alloc, &line)?;
     let status = i960_in_memory(alloc, &words, &mut files, &mut sink);
     Ok(status.code == code && sink.bytes() == case.printed.as_bytes())
 }
 
 /// Whether a case's run has its status and prints its text, at each of these numbers of sets, behind the fronts of its
-/// source.
+/// source; and also where the text that it prints is its schedule.
 fn holds(alloc: Global, fronts: &[&str], case: &Case, code: u8) -> Result<bool, Fail> {
     let mut source = String::new(alloc);
     for front in fronts {
@@ -134,23 +140,31 @@ fn holds(alloc: Global, fronts: &[&str], case: &Case, code: u8) -> Result<bool, 
     source.push_str(&case.source)?;
     let image = hex_of(alloc, &source)?;
     for sets in SETS {
-        if !holds_with(alloc, case, &image, sets, code)? {
+        if !holds_with(alloc, case, &image, &case.schedule, sets, code)? {
             return Ok(false);
         }
     }
-    Ok(true)
+    holds_with(alloc, case, &image, &case.printed, "-", code)
+}
+
+/// Begins a case behind its source.
+fn begin_case(case: &mut Case) {
+    case.schedule.clear();
+    case.length.clear();
+    case.printed.clear();
 }
 
 /// Takes a line of a table to the case that is being read, if it is not the line of its status.
 fn take_line(alloc: Global, case: &mut Case, line: &str) -> Result<(), Fail> {
     match line.split_once(" ").unwrap_or((line, "")) {
-        ("==", _) => case.source.clear(),
-        ("--", _) => {}
-        ("run", length) => {
-            case.length.clear();
-            case.length.push_str(length)?;
-            case.printed.clear();
+        ("==", _) => {
+            case.source.clear();
+            begin_case(case);
         }
+        ("--", _) => begin_case(case),
+        ("at", _) if case.length.is_empty() => add_line(&mut case.schedule, line)?,
+        ("at", _) => add_line(&mut case.printed, line)?,
+        ("run", length) => case.length.push_str(length)?,
         ("#g", given) => add_registers(alloc, &mut case.printed, "#g", given)?,
         ("#l", given) => add_registers(alloc, &mut case.printed, "#l", given)?,
         _ if line.starts_with('#') => add_line(&mut case.printed, line)?,
@@ -159,12 +173,13 @@ fn take_line(alloc: Global, case: &mut Case, line: &str) -> Result<(), Fail> {
     Ok(())
 }
 
-/// How many cases of a table hold. Behind the title, which begins with `==`, come the lines of the source, the length
-/// of the run, what is to be printed, where those registers are given that are not 0, and the status. Where a title
-/// begins with `--`, the source goes on from the case before.
+/// How many cases of a table hold. Behind the title, which begins with `==`, come the lines of the source, those of the
+/// schedule, which begin with `at`, the length of the run, what is to be printed, where those registers are given that are
+/// not 0, and the status. Where a title begins with `--`, the source goes on from the case before.
 pub(crate) fn held(alloc: Global, fronts: &[&str], table: &str) -> Result<u32, Fail> {
     let mut case = Case {
         source: String::new(alloc),
+        schedule: String::new(alloc),
         length: String::new(alloc),
         printed: String::new(alloc),
     };

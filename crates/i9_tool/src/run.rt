@@ -1,5 +1,5 @@
 //! Running an image to its end, and printing its lines.
-ghost use Rattle.std.specs.Prelude.{◌≡◌, ◌≤◌, []};
+ghost use Rattle.std.specs.Prelude.{◌≡◌, ◌≤◌};
 ghost use Rattle.i9_model.specs.Given.{given};
 ghost use Rattle.i9_model.specs.declared.layout.TheConstants.{MAX_LENGTH};
 ghost use Rattle.i9_model.specs.Image.{pairs_of};
@@ -11,6 +11,7 @@ use crate::print::{Printed, print_lines};
 use i9_hex::Segments;
 use i9_machine::{End, Machine, Turn};
 use i9_outside::Sink;
+use i9_schedule::Schedule;
 use std::alloc::Global;
 
 /// How running went.
@@ -24,18 +25,20 @@ pub(crate) enum Ran {
     Memory,
 }
 
-/// Runs an image with its frames in so many sets, for at most so many instructions, and prints the
-/// lines of the run as they come.
+/// Runs an image with the events of a schedule and its frames in so many sets, for at most so many
+/// instructions, and prints the lines of the run as they come.
 pub(crate) fn run<K: Sink>(
     alloc: Global,
     image: &Segments,
+    plan: &mut Schedule,
     sets: Option<u8>,
     limit: u64,
     out: &mut K,
 ) -> Ran
+    requires begins { plan.old.place ≡ 0 }
     requires few { AreFew sets }
     requires short { limit ≤ MAX_LENGTH }
-    ensures { Runs result (given (pairs_of image.now) [] limit sets) (account K.told K.faults K.writes K.sure) out.old out.new }
+    ensures { Runs result (given (pairs_of image.now) plan.old.events limit sets) (account K.told K.faults K.writes K.sure) out.old out.new }
 {
     let mut machine = match Machine::new(alloc, image, sets, limit) {
         Ok(machine) => machine,
@@ -44,7 +47,7 @@ pub(crate) fn run<K: Sink>(
     let mut lines = Vec::new(alloc);
     loop {
         lines.clear();
-        let turn = machine.advance(&mut lines);
+        let turn = machine.advance(plan, &mut lines);
         match print_lines(alloc, &lines, out) {
             Printed::Done => {}
             Printed::Write => return Ran::Write,

@@ -139,15 +139,17 @@ run 6
 #l 0=3001 1=3090
 #end limit
 status 0
-== Message 0.
+== Message 0 asks for vector 9, which isn't let in, by two bits of the interrupt table.
         mov   9, g1
         sysctl g1, g1, g1
-run 9
-#point 1 end 00001004 00000000 001F2002
-#g 1=9 15=3000
+        ldob  0x2000, g2        # that of its priority, 1
+        ldob  0x2005, g3        # its own
+run 4
+#point 4 end 00001018 00000000 001F2002
+#g 1=9 2=2 3=2 15=3000
 #l 1=3040
-#end unbuilt 00001004
-status 4
+#end limit
+status 0
 == A fault at a group that there is not.
         lda   0x407, g1
         sysctl g1, g1, g1
@@ -160,19 +162,19 @@ run 2
 #l 0=3001 1=3090
 #end limit
 status 0
-== Clears a bit of PC, and then lowers the priority, which is not built.
+== Clears a bit of PC, and then lowers the priority.
         lda   0x2000, g1
         mov   0, g2
         modpc 0, g1, g2
         lda   0x1F0000, g3
         mov   0, g4
         modpc 0, g3, g4
-run 9
-#point 5 end 0000101C 00000000 001F0002
-#g 1=2000 2=1F2002 3=1F0000 15=3000
+run 6
+#point 6 end 00001020 00000000 00000002
+#g 1=2000 2=1F2002 3=1F0000 4=1F0002 15=3000
 #l 1=3040
-#end unbuilt 0000101C
-status 4
+#end limit
+status 0
 == Sets the trace enable bit: what comes behind is not built.
         mov   1, g1
         modpc 0, g1, g1

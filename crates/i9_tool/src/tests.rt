@@ -52,7 +52,8 @@ run a - - 00000000010
 run a - - +1
 run a - -\x20
 run  - - 1
-run a x - 1
+run a  - 1
+run a - - 1 -
 run a - 00000000015 100
 run a - 0 10
 run a - 16 10
@@ -62,7 +63,9 @@ walk a - - 1";
 
 /// Words that name a file that there is not.
 const UNREAD: &str = "run b - - 10
-run b - 15 10";
+run b - 15 10
+run b a - 10
+run a b - 10";
 
 /// Room for bytes, the write that fails, and the lines that are printed. A line for which there is no room is not begun:
 /// `#out 41` and its line feed are eight bytes, the line of the drained point is forty.
@@ -144,6 +147,16 @@ fn runs_and_refuses(rt: HostRuntime) -> Result<(), Fail> {
     assert!(rt; answers(alloc, SMALLEST, FORMLESS, 1, "#words\n")?);
     assert!(rt; answers(alloc, SMALLEST, UNREAD, 5, "#read\n")?);
     assert!(rt; answers(alloc, no_type, some, 2, "#image line 1 kind 4\n")?);
+    assert!(rt; answers(alloc, no_type, "run a b - 10", 2, "#image line 1 kind 4\n")?);
+    assert!(rt;
+        answers(
+            alloc,
+            SMALLEST,
+            "run a a - 10",
+            3,
+            "#schedule line 1 kind 1\n"
+        )?
+    );
     assert!(rt; answers(alloc, no_record, some, 2, "#image line 2 kind 7\n")?);
     assert!(rt; answers(alloc, "", some, 2, "#image line 1 kind 6\n")?);
     Ok(())

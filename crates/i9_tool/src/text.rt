@@ -4,12 +4,12 @@ ghost use Rattle.std.specs.Fmt.{decimal};
 ghost use Rattle.std.specs.List.{flat_map};
 ghost use Rattle.i9_tool.specs.CommandLine.{refused_line};
 ghost use Rattle.i9_text.specs.Written.{word_text, byte_text};
-ghost use Rattle.i9_model.specs.PrintedText.{out_text, point_text, drained_text, words_text, spaced, end_text, point_shown, shown_text, line_feed};
+ghost use Rattle.i9_model.specs.PrintedText.{out_text, point_text, drained_text, words_text, spaced, spaced_byte, event_text, bytes_text, end_text, point_shown, shown_text, line_feed};
 ghost use Rattle.i9_machine.specs.Line.{shown_of};
 ghost use Rattle.i9_tool.specs.Print.{IsLine, AreLines};
 
 use i9_machine::{End, Line, Point};
-use i9_model::View;
+use i9_model::{Event, View};
 use std::alloc::{AllocError, Global};
 
 /// Appends a word in eight upper-case hexadecimal digits.
@@ -48,9 +48,50 @@ fn name_of(kind: Point) -> &'static [u8]
     match kind {
         Point::Flush => b"flush",
         Point::Sync => b"sync",
+        Point::Event => b"event",
+        Point::Int => b"int",
         Point::Fault => b"fault",
         Point::End => b"end",
     }
+}
+
+/// The line of an event that was reached after so many instructions.
+#[tactic(auto, unfolding(i9_model::specs::PrintedText::event_text))]
+fn event_line(alloc: Global, count: u64, event: &Event) -> Result<Vec<u8>, AllocError>
+    ensures { IfOk result (λ t. t.items ≡ event_text count event.now) }
+{
+    let mut text = i9_schedule::event_text(alloc, count, event)?;
+    text.push(b'\n')?;
+    Ok(text)
+}
+
+/// Appends a byte after a space, or two dashes where none is compared.
+#[tactic(auto, unfolding(i9_text::specs::Written::byte_text))]
+fn add_byte(alloc: Global, text: &mut Vec<u8>, byte: Option<u8>) -> Result<(), AllocError>
+    ensures { OnOk result (text.new.items ≡ text.old.items ++ spaced_byte byte) }
+{
+    match byte {
+        None => text.extend_from_slice(b" --"),
+        Some(byte) => {
+            text.push(b' ')?;
+            let digits = hex::encode_upper(alloc, [byte])?;
+            text.extend_from_slice(digits.as_bytes())
+        }
+    }
+}
+
+/// The line of the bytes from an address on.
+#[tactic(auto, unfolding(i9_model::specs::PrintedText::bytes_text))]
+fn bytes_line(alloc: Global, address: u32, list: &[Option<u8>]) -> Result<Vec<u8>, AllocError>
+    ensures { IfOk result (λ t. t.items ≡ bytes_text address list.now) }
+{
+    let mut text = Vec::from_slice(alloc, b"#mem ")?;
+    add_word(alloc, &mut text, address)?;
+    for byte in list {
+        add_byte(alloc, &mut text, *byte)?;
+    }
+    text.push(b'\n')?;
+    Ok(text)
 }
 
 /// A label and words, each after a space.
@@ -124,7 +165,9 @@ pub(crate) fn lines_of(alloc: Global, line: &Line) -> Result<Vec<Vec<u8>>, Alloc
 {
     match line {
         Line::Out(byte) => one(alloc, out_line(alloc, *byte)?),
+        Line::Event { count, event } => one(alloc, event_line(alloc, *count, event)?),
         Line::Point { kind, view } => point_lines(alloc, *kind, view),
+        Line::Bytes { address, list } => one(alloc, bytes_line(alloc, *address, list.as_slice())?),
         Line::End(end) => one(alloc, end_line(alloc, *end)?),
     }
 }
@@ -140,7 +183,7 @@ fn one(alloc: Global, text: Vec<u8>) -> Result<Vec<Vec<u8>>, AllocError>
     Ok(lines)
 }
 
-/// The line of a refused image or source, with its first line at fault and its kind.
+/// The line of a refused image, schedule or source, with its first line at fault and its kind.
 #[tactic(auto, unfolding(crate::specs::CommandLine::refused_line))]
 pub(crate) fn refused_line(
     alloc: Global,

@@ -1,28 +1,31 @@
 //! The command as one call.
-ghost use Rattle.std.specs.Prelude.{◌≡◌, ◌≢◌, ◌≤◌, ◌<◌, ◌⊎◌, List, ℕ, length, None, Some};
-ghost use Rattle.std.specs.Io.KnownBytes.{Appends};
-ghost use Rattle.i9_model.specs.declared.layout.TheConstants.{MAX_LENGTH};
-ghost use Rattle.i9_tool.specs.CommandLine.{file_of, read_line};
-ghost use Rattle.i9_tool.specs.Words.{asked_by, AreFew, Fits};
+ghost use Rattle.std.specs.Prelude.{◌≡◌, ◌≢◌, ◌≤◌, ◌<◌, ◌⊎◌, List, ℕ, [], length, None, Some, IfOk};
+ghost use Rattle.std.specs.Option.{option_copied};
+ghost use Rattle.i9_tool.specs.CommandLine.{Asm, files_of, with_name};
+ghost use Rattle.i9_tool.specs.Words.{run_by, asked_by, CanRun, Fits};
 ghost use Rattle.i9_model.specs.declared.run.End.{End};
 ghost use Rattle.i9_text.specs.Text.{lines_of};
+ghost use Rattle.i9_model.specs.Image.{pairs_of};
 ghost use Rattle.i9_model.specs.PrintedText.{end_code};
 ghost use Rattle.i9_asm.specs.Laws.{IsAssembly};
 ghost use Rattle.i9_outside.specs.declared.traits.TheConstants.{FILE_LIMIT};
-ghost use Rattle.i9_outside.specs.Counts.{one_more, Rose};
+ghost use Rattle.i9_outside.specs.Counts.{Rose};
 ghost use Rattle.i9_tool.specs.Run.{TellsEnd, printed_of};
-ghost use Rattle.i9_tool.specs.Print.{account, counted_on};
-ghost use Rattle.i9_tool.specs.Outcome.{grew_in, ImageGives, SourceGives, FileGives, Gives, GivesWhole, GivesFront, Answers, Outcomes, asked_for, rose_in, names_of, AnyRose, AllSure, code_for};
+ghost use Rattle.i9_tool.specs.Print.{account};
+ghost use Rattle.i9_tool.specs.Outcome.{Reads, RunGives, ScheduleGives, PlanGives, ImageGives, SourceGives, CommandGives};
+ghost use Rattle.i9_tool.specs.Outcome.{GivesWhole, GivesFront, Answers, Outcomes, asked_for, rose_in, code_for};
+ghost use Rattle.i9_tool.specs.Outcome.{names_of, AnyRose, AllSure, FetchesOnce, FetchesPlan, FetchesAfter, FetchesFiles};
 
-use crate::print::{Printed, print_piece, print_text};
+use crate::print::{Printed, print_piece, print_refusal, print_text};
 use crate::run::{Ran, run};
 use crate::status::Status;
-use crate::text::refused_line;
-use crate::words::{Asked, read_words};
+use crate::words::{Asked, RunWords, read_words};
 use i9_asm::{AsmError, assemble};
 use i9_hex::{HexError, Segments};
+use i9_isa::NoMemory;
 use i9_machine::End;
-use i9_outside::{FILE_LIMIT, Fetch, Files, Sink};
+use i9_outside::{Fetch, Files, Sink};
+use i9_schedule::{LineError, Schedule};
 use std::alloc::Global;
 
 /// The status for a text that was printed so.
@@ -38,7 +41,8 @@ fn status_for(printed: Printed, code: u8) -> Status
 
 /// The status for a run that went so.
 fn status_of_run(ran: Ran) -> Status
-    ensures { (f : End) → TellsEnd ran f → result.code ≡ code_for (printed_of ran) (end_code f) }
+    ensures ended { (f : End) → TellsEnd ran f → result.code ≡ code_for (printed_of ran) (end_code f) }
+    ensures read { result.code ≢ 5 }
 {
     match ran {
         Ran::Done(End::Exit(_)) => Status { code: 0 },
@@ -49,36 +53,182 @@ fn status_of_run(ran: Ran) -> Status
     }
 }
 
-/// Runs the image of a file that was fetched, or says why it is refused.
-#[tactic(auto, using(crate::proofs::LineCounts::line_rules))]
-fn run_file<K: Sink>(
+/// Runs an image that was accepted, with the events of a schedule.
+fn run_image<K: Sink>(
     alloc: Global,
-    file: &[u8],
-    sets: Option<u8>,
-    limit: u64,
+    image: &Segments,
+    plan: &mut Schedule,
+    words: &RunWords<'_>,
     out: &mut K,
 ) -> Status
-    requires few { AreFew sets }
-    requires short { limit ≤ MAX_LENGTH }
+    requires can { CanRun words.now }
+    requires begins { plan.old.place ≡ 0 }
+    ensures answers { Answers (RunGives words.now.sets words.now.limit (pairs_of image.now) plan.old.events)
+        result.code (account K.told K.faults K.writes K.sure) out.old out.new }
+    ensures read { result.code ≢ 5 }
+{
+    status_of_run(run(alloc, image, plan, words.sets, words.limit, out))
+}
+
+/// A schedule without events.
+fn no_events(alloc: Global) -> Result<Schedule, NoMemory>
+    ensures events { IfOk result (λ s. s.events ≡ []) }
+    ensures place { IfOk result (λ s. s.place ≡ 0) }
+{
+    match i9_schedule::read(alloc, b"") {
+        Ok(schedule) => Ok(schedule),
+        Err(_) => Err(NoMemory),
+    }
+}
+
+/// Runs an image that was accepted, without events.
+fn run_alone<K: Sink>(alloc: Global, image: &Segments, words: &RunWords<'_>, out: &mut K) -> Status
+    requires can { CanRun words.now }
+    ensures answers { Answers (RunGives words.now.sets words.now.limit (pairs_of image.now) [])
+        result.code (account K.told K.faults K.writes K.sure) out.old out.new }
+    ensures read { result.code ≢ 5 }
+{
+    match no_events(alloc) {
+        Ok(mut plan) => run_image(alloc, image, &mut plan, words, out),
+        Err(_) => Status { code: 7 },
+    }
+}
+
+/// Runs an image with the events of a schedule that was fetched, or says why the schedule is refused.
+#[tactic(auto, using(crate::proofs::LineCounts::line_rules))]
+fn use_schedule<K: Sink>(
+    alloc: Global,
+    image: &Segments,
+    words: &RunWords<'_>,
+    file: &[u8],
+    out: &mut K,
+) -> Status
+    requires can { CanRun words.now }
     requires sized { length file.now ≤ FILE_LIMIT }
-    ensures { Answers (ImageGives file.now sets limit) result.code (account K.told K.faults K.writes K.sure) out.old out.new }
+    ensures answers { Answers (ScheduleGives (RunGives words.now.sets words.now.limit (pairs_of image.now)) file.now)
+        result.code (account K.told K.faults K.writes K.sure) out.old out.new }
+    ensures read { result.code ≢ 5 }
+{
+    match i9_schedule::read(alloc, file) {
+        Ok(mut plan) => run_image(alloc, image, &mut plan, words, out),
+        Err(LineError::Bad(fault)) => {
+            let printed = print_refusal(alloc, b"schedule", fault.line, fault.kind, out);
+            status_for(printed, 3)
+        }
+        Err(LineError::Memory) => Status { code: 7 },
+    }
+}
+
+/// Fetches the schedule of this name, and runs an image with its events.
+fn fetch_schedule<F: Files, K: Sink>(
+    alloc: Global,
+    image: &Segments,
+    words: &RunWords<'_>,
+    name: &str,
+    files: &mut F,
+    out: &mut K,
+) -> Status
+    requires can { CanRun words.now }
+    ensures answers { Answers (Reads (F.told files.old name.now) (rose_in F.faults files.old files.new name.now)
+        (ScheduleGives (RunGives words.now.sets words.now.limit (pairs_of image.now))))
+        result.code (account K.told K.faults K.writes K.sure) out.old out.new }
+    ensures fetched { FetchesOnce F.faults F.fetches name.now result.code files.old files.new }
+    ensures read { result.code ≡ 5 → rose_in F.faults files.old files.new name.now }
+    ensures calm { F.sure files.old name.now
+        → (result.code ≢ 5) × ((n : List ℕ) → F.faults files.new n ≡ F.faults files.old n) }
+{
+    let mut file = Vec::new(alloc);
+    match files.fetch(alloc, name, &mut file) {
+        Fetch::Ok => use_schedule(alloc, image, words, &file, out),
+        Fetch::Failed => status_for(print_piece(b"#read\n", out), 5),
+        Fetch::TooLong(_) => status_for(print_piece(b"#schedule too long\n", out), 3),
+        Fetch::Memory => Status { code: 7 },
+    }
+}
+
+/// Runs an image that was accepted, with the events of the schedule that the words name.
+fn run_planned<F: Files, K: Sink>(
+    alloc: Global,
+    image: &Segments,
+    words: &RunWords<'_>,
+    files: &mut F,
+    out: &mut K,
+) -> Status
+    requires can { CanRun words.now }
+    ensures answers { Answers (PlanGives (F.told files.old) (rose_in F.faults files.old files.new) (option_copied words.now.schedule)
+        (RunGives words.now.sets words.now.limit (pairs_of image.now)))
+        result.code (account K.told K.faults K.writes K.sure) out.old out.new }
+    ensures fetched { FetchesPlan F.faults F.fetches (option_copied words.now.schedule) result.code files.old files.new }
+    ensures read { result.code ≡ 5
+        → AnyRose (rose_in F.faults files.old files.new) (with_name (option_copied words.now.schedule)) }
+    ensures calm { AllSure (F.sure files.old) (with_name (option_copied words.now.schedule))
+        → (result.code ≢ 5) × ((n : List ℕ) → F.faults files.new n ≡ F.faults files.old n) }
+{
+    match words.schedule {
+        Some(name) => fetch_schedule(alloc, image, words, name, files, out),
+        None => run_alone(alloc, image, words, out),
+    }
+}
+
+/// Runs the image of a file that was fetched, or says why it is refused.
+#[tactic(auto, using(crate::proofs::LineCounts::line_rules))]
+fn use_image<F: Files, K: Sink>(
+    alloc: Global,
+    file: &[u8],
+    words: &RunWords<'_>,
+    files: &mut F,
+    out: &mut K,
+) -> Status
+    requires can { CanRun words.now }
+    requires sized { length file.now ≤ FILE_LIMIT }
+    ensures answers { Answers (ImageGives (λ pairs. PlanGives (F.told files.old) (rose_in F.faults files.old files.new)
+        (option_copied words.now.schedule) (RunGives words.now.sets words.now.limit pairs)) file.now)
+        result.code (account K.told K.faults K.writes K.sure) out.old out.new }
+    ensures fetched { FetchesAfter F.faults F.fetches file.now (option_copied words.now.schedule) result.code files.old files.new }
+    ensures read { result.code ≡ 5
+        → AnyRose (rose_in F.faults files.old files.new) (with_name (option_copied words.now.schedule)) }
+    ensures calm { AllSure (F.sure files.old) (with_name (option_copied words.now.schedule))
+        → (result.code ≢ 5) × ((n : List ℕ) → F.faults files.new n ≡ F.faults files.old n) }
 {
     match i9_hex::read(alloc, file) {
-        Ok(image) => status_of_run(run(alloc, &image, sets, limit, out)),
+        Ok(image) => run_planned(alloc, &image, words, files, out),
         Err(HexError::Bad(fault)) => {
-            match refused_line(alloc, b"image", fault.line, fault.kind) {
-                Ok(line) => status_for(print_piece(&line, out), 2),
-                Err(_) => Status { code: 7 },
-            }
+            let printed = print_refusal(alloc, b"image", fault.line, fault.kind, out);
+            status_for(printed, 2)
         }
         Err(HexError::Memory) => Status { code: 7 },
     }
 }
 
+/// Fetches the image that the words name, and then the schedule where the image is accepted, and runs it.
+fn fetch_image<F: Files, K: Sink>(
+    alloc: Global,
+    words: &RunWords<'_>,
+    files: &mut F,
+    out: &mut K,
+) -> Status
+    requires can { CanRun words.now }
+    ensures answers { Answers (CommandGives (F.told files.old) (rose_in F.faults files.old files.new) (run_by words.now))
+        result.code (account K.told K.faults K.writes K.sure) out.old out.new }
+    ensures fetched { FetchesFiles F.told F.faults F.fetches result.code files.old (Some (run_by words.now)) files.new }
+    ensures read { result.code ≡ 5 → AnyRose (rose_in F.faults files.old files.new) (files_of (run_by words.now)) }
+    ensures calm { AllSure (F.sure files.old) (files_of (run_by words.now))
+        → (result.code ≢ 5) × ((n : List ℕ) → F.faults files.new n ≡ F.faults files.old n) }
+{
+    let mut file = Vec::new(alloc);
+    match files.fetch(alloc, words.image, &mut file) {
+        Fetch::Ok => use_image(alloc, &file, words, files, out),
+        Fetch::Failed => status_for(print_piece(b"#read\n", out), 5),
+        Fetch::TooLong(_) => status_for(print_piece(b"#image too long\n", out), 2),
+        Fetch::Memory => Status { code: 7 },
+    }
+}
+
 /// Prints the Intel HEX text of segments.
 fn print_image<K: Sink>(alloc: Global, image: &Segments, out: &mut K) -> Status
-    ensures { (file : List ℕ) → length file ≤ FILE_LIMIT → IsAssembly (lines_of file) image.now
+    ensures answers { (file : List ℕ) → length file ≤ FILE_LIMIT → IsAssembly (lines_of file) image.now
         → Answers (SourceGives file) result.code (account K.told K.faults K.writes K.sure) out.old out.new }
+    ensures read { result.code ≢ 5 }
 {
     match i9_hex::write(alloc, image) {
         Ok(text) => status_for(print_text(&text, out), 0),
@@ -88,63 +238,52 @@ fn print_image<K: Sink>(alloc: Global, image: &Segments, out: &mut K) -> Status
 
 /// Assembles the source of a file that was fetched, or says why it is refused.
 #[tactic(auto, using(crate::proofs::LineCounts::line_rules))]
-fn assemble_file<K: Sink>(alloc: Global, file: &[u8], out: &mut K) -> Status
+fn use_source<K: Sink>(alloc: Global, file: &[u8], out: &mut K) -> Status
     requires sized { length file.now ≤ FILE_LIMIT }
-    ensures { Answers (SourceGives file.now) result.code (account K.told K.faults K.writes K.sure) out.old out.new }
+    ensures answers { Answers (SourceGives file.now) result.code (account K.told K.faults K.writes K.sure) out.old out.new }
+    ensures read { result.code ≢ 5 }
 {
     match assemble(alloc, file) {
         Ok(image) => print_image(alloc, &image, out),
         Err(AsmError::Bad(fault)) => {
-            match refused_line(alloc, b"source", fault.line, fault.kind) {
-                Ok(line) => status_for(print_piece(&line, out), 3),
-                Err(_) => Status { code: 7 },
-            }
+            let printed = print_refusal(alloc, b"source", fault.line, fault.kind, out);
+            status_for(printed, 3)
         }
         Err(AsmError::Memory) => Status { code: 7 },
     }
 }
 
-/// Does what the words ask for with the file that they name.
-fn use_file<K: Sink>(alloc: Global, asked: &Asked<'_>, file: &[u8], out: &mut K) -> Status
-    requires fits { Fits asked.now }
-    requires sized { length file.now ≤ FILE_LIMIT }
-    ensures { Answers (FileGives (asked_by asked.now) file.now) result.code (account K.told K.faults K.writes K.sure) out.old out.new }
-{
-    match asked {
-        Asked::Run(run) => run_file(alloc, file, run.sets, run.limit, out),
-        Asked::Asm(_) => assemble_file(alloc, file, out),
-    }
-}
-
-/// Says that the file is too long that the words name.
-fn refuse_long<K: Sink>(asked: &Asked<'_>, out: &mut K) -> Status
-    ensures { (file : List ℕ) → FILE_LIMIT < length file
-        → Answers (FileGives (asked_by asked.now) file) result.code (account K.told K.faults K.writes K.sure) out.old out.new }
-{
-    match asked {
-        Asked::Run(_) => status_for(print_piece(b"#image too long\n", out), 2),
-        Asked::Asm(_) => status_for(print_piece(b"#source too long\n", out), 3),
-    }
-}
-
-/// Fetches the file that the words name, and does with it what they ask for.
-fn answer<F: Files, K: Sink>(alloc: Global, asked: &Asked<'_>, files: &mut F, out: &mut K) -> Status
-    requires fits { Fits asked.now }
-    ensures answers { Answers (Gives (F.told files.old) (rose_in F.faults files.old files.new) (Some (asked_by asked.now)))
+/// Fetches the source of this name, and assembles it.
+fn fetch_source<F: Files, K: Sink>(alloc: Global, name: &str, files: &mut F, out: &mut K) -> Status
+    ensures answers { Answers (CommandGives (F.told files.old) (rose_in F.faults files.old files.new) (Asm name.now))
         result.code (account K.told K.faults K.writes K.sure) out.old out.new }
-    ensures fetched { F.fetches files.new ≡ one_more (F.fetches files.old) }
-    ensures unread { F.faults files.old (file_of (asked_by asked.now)) < F.faults files.new (file_of (asked_by asked.now))
-        → (result.code ≡ 5) ⊎ (result.code ≡ 6) }
-    ensures read { result.code ≡ 5 → Rose (F.faults files.old (file_of (asked_by asked.now))) (F.faults files.new (file_of (asked_by asked.now))) }
-    ensures calm { F.sure files.old (file_of (asked_by asked.now))
+    ensures fetched { FetchesFiles F.told F.faults F.fetches result.code files.old (Some (Asm name.now)) files.new }
+    ensures read { result.code ≡ 5 → AnyRose (rose_in F.faults files.old files.new) (files_of (Asm name.now)) }
+    ensures calm { AllSure (F.sure files.old) (files_of (Asm name.now))
         → (result.code ≢ 5) × ((n : List ℕ) → F.faults files.new n ≡ F.faults files.old n) }
 {
     let mut file = Vec::new(alloc);
-    match files.fetch(alloc, asked.file(), &mut file) {
-        Fetch::Ok => use_file(alloc, asked, &file, out),
+    match files.fetch(alloc, name, &mut file) {
+        Fetch::Ok => use_source(alloc, &file, out),
         Fetch::Failed => status_for(print_piece(b"#read\n", out), 5),
-        Fetch::TooLong(_) => refuse_long(asked, out),
+        Fetch::TooLong(_) => status_for(print_piece(b"#source too long\n", out), 3),
         Fetch::Memory => Status { code: 7 },
+    }
+}
+
+/// Fetches the files that the words name, and does with them what they ask for.
+fn answer<F: Files, K: Sink>(alloc: Global, asked: &Asked<'_>, files: &mut F, out: &mut K) -> Status
+    requires fits { Fits asked.now }
+    ensures answers { Answers (CommandGives (F.told files.old) (rose_in F.faults files.old files.new) (asked_by asked.now))
+        result.code (account K.told K.faults K.writes K.sure) out.old out.new }
+    ensures fetched { FetchesFiles F.told F.faults F.fetches result.code files.old (Some (asked_by asked.now)) files.new }
+    ensures read { result.code ≡ 5 → AnyRose (rose_in F.faults files.old files.new) (files_of (asked_by asked.now)) }
+    ensures calm { AllSure (F.sure files.old) (files_of (asked_by asked.now))
+        → (result.code ≢ 5) × ((n : List ℕ) → F.faults files.new n ≡ F.faults files.old n) }
+{
+    match asked {
+        Asked::Run(words) => fetch_image(alloc, words, files, out),
+        Asked::Asm(source) => fetch_source(alloc, source, files, out),
     }
 }
 
@@ -153,8 +292,7 @@ fn work<F: Files, K: Sink>(alloc: Global, words: &Vec<String>, files: &mut F, ou
     ensures answers { Answers (Outcomes F.told F.faults files.old files.new words.now.items) result.code (account K.told K.faults K.writes K.sure) out.old out.new }
     ensures formless { asked_for words.now.items ≡ None → result.code ≢ 7 }
     ensures unfetched { asked_for words.now.items ≡ None → files.new ≡ files.old }
-    ensures fetched { F.fetches files.new ≡ counted_on (F.fetches files.old) (length (names_of (asked_for words.now.items))) }
-    ensures unread { AnyRose (grew_in F.faults files.old files.new) (names_of (asked_for words.now.items)) → (result.code ≡ 5) ⊎ (result.code ≡ 6) }
+    ensures fetched { FetchesFiles F.told F.faults F.fetches result.code files.old (asked_for words.now.items) files.new }
     ensures read { result.code ≡ 5 → AnyRose (rose_in F.faults files.old files.new) (names_of (asked_for words.now.items)) }
     ensures calm { AllSure (F.sure files.old) (names_of (asked_for words.now.items))
         → (result.code ≢ 5) × ((n : List ℕ) → F.faults files.new n ≡ F.faults files.old n) }
@@ -167,8 +305,8 @@ fn work<F: Files, K: Sink>(alloc: Global, words: &Vec<String>, files: &mut F, ou
 
 /// Does what the words ask for, and answers a status: 0 where a run exited or reached its length, and
 /// where a source was assembled; 1 where the words are in no form; 2 where the image was refused, or
-/// is too long; 3 where the source was; 4 where the run ended early; 5 where a file was not read; 6
-/// where a write failed; 7 where memory was refused. `Outcomes` says which status goes with which text.
+/// is too long; 3 where the schedule or the source was; 4 where the run ended early; 5 where a file was
+/// not read; 6 where a write failed; 7 where memory was refused. `Outcomes` says which status goes with which text.
 pub fn i960<F: Files, K: Sink>(
     alloc: Global,
     words: &Vec<String>,
@@ -187,11 +325,11 @@ pub fn i960<F: Files, K: Sink>(
     // Where a write failed or memory was refused, a front of such a text was printed, perhaps nothing of it.
     ensures front { 6 ≤ result.code → GivesFront (Outcomes F.told F.faults files.old files.new words.now.items) (account K.told K.faults K.writes K.sure) out.old out.new }
 
-    // As many fetches are made as the words name files; 5 is answered only where the count of one of these rose, and where
-    // it did, 5 is, or 6 where a write failed too.
+    // The files that the words name are fetched in order, each once: a schedule only after its image was accepted. 5 is
+    // answered only where the count of one of these rose, and where it did in the file's own fetch, 5 is, or 6 where a
+    // write failed too.
     ensures unfetched { asked_for words.now.items ≡ None → files.new ≡ files.old }
-    ensures fetched { F.fetches files.new ≡ counted_on (F.fetches files.old) (length (names_of (asked_for words.now.items))) }
-    ensures unread { AnyRose (grew_in F.faults files.old files.new) (names_of (asked_for words.now.items)) → (result.code ≡ 5) ⊎ (result.code ≡ 6) }
+    ensures fetched { FetchesFiles F.told F.faults F.fetches result.code files.old (asked_for words.now.items) files.new }
     ensures read { result.code ≡ 5 → AnyRose (rose_in F.faults files.old files.new) (names_of (asked_for words.now.items)) }
 
     // A write failed only where the sink's count rose, and where it did, 6 is answered.

@@ -1,19 +1,20 @@
 //! The words of the command.
 ghost use Rattle.std.specs.Prelude.{◌≡◌, ◌≤◌, ◌<◌, ◌∷◌, [], IfSome, map};
-ghost use Rattle.std.specs.Option.{option_map};
+ghost use Rattle.std.specs.Option.{option_map, option_copied};
 ghost use Rattle.std.specs.String.{string_bytes};
 ghost use Rattle.i9_model.specs.declared.layout.TheConstants.{MAX_LENGTH};
-ghost use Rattle.i9_tool.specs.CommandLine.{sets_for, command_of, file_of};
+ghost use Rattle.i9_tool.specs.CommandLine.{sets_for, schedule_for, command_of};
 ghost use Rattle.i9_tool.specs.Words.{run_by, asked_by, AreFew, CanRun, Fits};
 
 use i9_model::layout::{MAX_LENGTH, MOST_SETS};
 use i9_text::number;
 
-/// What `run` asks for: to run the image of this name, with so many register sets or with those of the PRCB, for at
-/// most so many instructions.
+/// What `run` asks for: to run the image of this name, with the events of the schedule of this name or with none, with
+/// so many register sets or with those of the PRCB, for at most so many instructions.
 #[derive(Clone, Copy)]
 pub(crate) struct RunWords<'a> {
     pub(crate) image: &'a str,
+    pub(crate) schedule: Option<&'a str>,
     pub(crate) sets: Option<u8>,
     pub(crate) limit: u64,
 }
@@ -23,18 +24,6 @@ pub(crate) struct RunWords<'a> {
 pub(crate) enum Asked<'a> {
     Run(RunWords<'a>),
     Asm(&'a str),
-}
-
-impl<'a> Asked<'a> {
-    /// The name of the file that is read.
-    pub(crate) fn file(&self) -> &'a str
-        ensures { result.now ≡ file_of (asked_by self.now) }
-    {
-        match self {
-            Asked::Run(run) => run.image,
-            Asked::Asm(source) => source,
-        }
-    }
 }
 
 /// The number of sets that a word asks for, of which `-` asks for none.
@@ -53,27 +42,47 @@ fn sets_asked(word: &str) -> Option<Option<u8>>
     Some(Some(n as u8))
 }
 
+/// The name of the schedule that a word asks for, of which `-` asks for none.
+#[tactic(auto, unfolding(crate::specs::CommandLine::schedule_for))]
+fn schedule_asked(word: &str) -> Option<Option<&str>>
+    ensures { option_map option_copied result ≡ schedule_for word.now }
+{
+    if word == "-" {
+        return Some(None);
+    }
+    if word.is_empty() {
+        return None;
+    }
+    Some(Some(word))
+}
+
 /// What `run` asks for with these words behind it, where they are in its form.
 #[tactic(auto, unfolding(crate::specs::CommandLine::command_of))]
 fn run_asked<'a>(
     name: &str,
     image: &'a str,
-    schedule: &str,
+    schedule: &'a str,
     sets: &str,
     limit: &str,
 ) -> Option<RunWords<'a>>
     ensures asked { option_map run_by result ≡ command_of (name.now ∷ image.now ∷ schedule.now ∷ sets.now ∷ limit.now ∷ []) }
     ensures can { IfSome result CanRun }
 {
-    if name != "run" || image.is_empty() || schedule != "-" {
+    if name != "run" || image.is_empty() {
         return None;
     }
+    let schedule = schedule_asked(schedule)?;
     let sets = sets_asked(sets)?;
     let limit = number(limit.as_bytes(), 10, 10)?;
     if limit > MAX_LENGTH {
         return None;
     }
-    Some(RunWords { image, sets, limit })
+    Some(RunWords {
+        image,
+        schedule,
+        sets,
+        limit,
+    })
 }
 
 /// The source that `asm` asks for, where the words are in its form.
