@@ -506,9 +506,8 @@ fn meets_events(rt: HostRuntime) -> Result<(), Fail> {
         (Some(248), Some(0x1F))
     );
     let mut list = ArrayVec::new();
-    for byte in [0x41, 0x00, 0xA0, 0x8C] {
-        list.push(Some(byte));
-    }
+    let shown_bytes = [Some(0x41), Some(0x00), Some(0xA0), Some(0x8C)];
+    assert_eq!(rt; list.try_extend_from_slice(&shown_bytes).is_ok(), true);
     let event = |count: u64, event: Event| Line::Event { count, event };
     let point = |kind: Point, view: View| Line::Point { kind, view };
     let wanted = [

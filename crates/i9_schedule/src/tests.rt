@@ -1,4 +1,4 @@
-use crate::{LineError, LineFault, When, journal_line, read};
+use crate::{LineError, LineFault, When, copied, event_text, journal_line, read};
 use std::alloc::{AllocError, Global};
 use std::test::Fail;
 
@@ -98,8 +98,8 @@ fn reads_a_million_events(rt: HostRuntime) -> Result<(), Fail> {
     Ok(())
 }
 
-// The events of all these lines come in order, each at its count, and print as the rules of the
-// format say.
+// The events of all these lines come in order, each at its count, and print as the rules of the format say, and so do
+// their copies.
 #[test]
 fn prints_what_it_reads(rt: HostRuntime) -> Result<(), Fail> {
     let rows: [(&[u8], u64, &[u8]); 8] = [
@@ -133,6 +133,8 @@ fn prints_what_it_reads(rt: HostRuntime) -> Result<(), Fail> {
         assert_eq!(rt; timed.when, When::At(count));
         let printed = journal_line(rt.alloc(), count, &timed.event)?;
         assert_eq!(rt; printed.as_slice(), line);
+        let text = event_text(rt.alloc(), count, &copied(&timed.event))?;
+        assert_eq!(rt; text.as_slice(), line);
         schedule.step();
     }
     assert!(rt; schedule.next().is_none());
