@@ -1,5 +1,5 @@
 -- A choice of interrupts looks at what software asks for at vectors below 256 alone.
-use Rattle.std.proofs.Common.{◌≡◌, ℕ, zero, suc, ◌+◌, ◌-◌, ◌*◌, ◌/◌, ◌<◌, ◌≤◌, Bool, true, false, cond, List, [], ◌∷◌, ◌++◌, map, find, Option, Some, None, refl, sym, ap, ◌∙◌, arith}
+use Rattle.std.proofs.Common.{◌≡◌, ℕ, zero, suc, ◌+◌, ◌-◌, ◌*◌, ◌<◌, Bool, cond, List, [], ◌∷◌, ◌++◌, map, find, Option, Some, refl, sym, ap, ◌∙◌, arith}
 use Rattle.std.specs.Prelude.{◌&&◌, ◌==◌, filter, flat_map}
 use Rattle.std.specs.List.{range_with_len}
 use Rattle.std.specs.Option.{option_or}
@@ -8,7 +8,7 @@ use Rattle.i9_model.specs.declared.interrupts.TheConstants.{LINES, NMI_VECTOR, H
 use Rattle.i9_model.specs.declared.interrupts.Cause.TheVariants.{Nmi, Line, Soft}
 use Rattle.i9_model.specs.declared.interrupts.Chosen.{Chosen}
 use Rattle.i9_model.specs.State.{Interrupts}
-use Rattle.i9_model.specs.Interrupts.{vector_priority, passes, line_vector, below, vectors_of, choice, lines_with, choices_at, choices, is_asked, chosen_of}
+use Rattle.i9_model.specs.Interrupts.{vector_priority, passes, line_vector, below, vectors_of, choice, lines_with, choices_at, is_asked, chosen_of}
 
 -- two tests find the same
 abbrev FindSame : (Chosen → Bool) → (Chosen → Bool) → List Chosen → Type 0

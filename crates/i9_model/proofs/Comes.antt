@@ -11,7 +11,7 @@ use Rattle.i9_model.specs.State.{State}
 use Rattle.i9_model.specs.Access.{hazard_of}
 use Rattle.i9_model.specs.Before.{choice_in, interrupt_in}
 use Rattle.i9_model.specs.Standing.{Standing, Meets, NotBuilt, Refused, Faults, Runs, stands_at}
-use Rattle.i9_model.specs.Run.{Limit, Kind, Instruction, Faulted, Entered, Interrupted, Reached, Record, record_of, Due, Next, Does, Ends, fault_at, next_by_standing, next_by_entry, entry_in, next_by_event, next_by_interrupt, next_by_choice, next_in}
+use Rattle.i9_model.specs.Run.{Limit, Kind, Instruction, Faulted, Entered, Interrupted, Reached, Record, record_of, Due, Does, Ends, fault_at, next_by_standing, next_by_entry, entry_in, next_by_event, next_by_interrupt, next_by_choice, next_in}
 use Rattle.i9_model.proofs.Stands.{Known, known}
 use Rattle.i9_model.specs.declared.run.Due.TheVariants as dues
 

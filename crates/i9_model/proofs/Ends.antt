@@ -1,7 +1,6 @@
 -- Every run ends: each record leaves less work, and none counts beyond the length.
-use Rattle.std.proofs.Common.{◌≡◌, ℕ, zero, suc, ◌+◌, ◌<◌, ◌≤◌, List, [], ◌∷◌, ◌++◌, length, drop, refl, ap, sym, ◌∙◌, subst, append_assoc, length-append, arith}
+use Rattle.std.proofs.Common.{◌≡◌, ℕ, zero, suc, ◌+◌, ◌<◌, ◌≤◌, List, [], ◌∷◌, ◌++◌, length, drop, refl, sym, subst, append_assoc, length-append, arith}
 use Rattle.i9_model.specs.State.{started, boot}
-use Rattle.i9_model.specs.declared.event.Timed.{Timed}
 use Rattle.i9_model.specs.Left.{left_in}
 use Rattle.i9_model.specs.Run.{Given, End, Record, Next, Does, Ends, reached_by, reached_after, state_after, due_after, next, IsPast, IsRun}
 use Rattle.i9_model.proofs.Left.{next_leaves}

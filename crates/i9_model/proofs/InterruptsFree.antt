@@ -1,21 +1,14 @@
 -- The entry of an interrupt that meets no hazard writes beside live frames.
-use Rattle.std.proofs.Common.{◌≡◌, ℕ, ◌*◌, Bool, true, false, cond, List, [], ◌∷◌, ◌++◌, length, Option, None, Some, Ok, find, refl, sym, ap, ◌∙◌, subst}
+use Rattle.std.proofs.Common.{◌≡◌, None, Ok, refl, subst}
 use Rattle.i9_model.specs.declared.layout.TheConstants.{FP, SP, RECORD_SIZE}
-use Rattle.i9_model.specs.declared.push.Push.{Push}
 use Rattle.i9_model.specs.declared.faults.Entry.{Entry}
-use Rattle.i9_model.specs.declared.interrupts.Cause.{Cause}
-use Rattle.i9_model.specs.declared.interrupts.Cause.TheVariants.{Nmi, Line, Soft}
 use Rattle.i9_model.specs.declared.interrupts.Chosen.{Chosen}
-use Rattle.i9_model.specs.Writes.{wrapped, places_of, upwards}
-use Rattle.i9_model.specs.Memory.{Memory, with_writes}
-use Rattle.i9_model.specs.State.{State, Frames}
-use Rattle.i9_model.specs.Frames.{saved, wrote, record_address}
-use Rattle.i9_model.specs.Hazards.{or_else, read_hazard, write_hazard, writes_hazard, port_hazard, save_hazard, record_write_hazard}
-use Rattle.i9_model.specs.Interrupts.{byte_hazard, priority_place, pending_place, left_pending, priority_writes, taken_writes, priority_hazard, taken_hazard, clearing_writes, clearing_hazard, vector_place, interrupt_push, interrupt_record, record_writes, cleared_hazard, interrupt_hazard, interrupt_entry, planned_interrupt}
-use Rattle.i9_model.specs.Step.{bytes_of_words}
-use Rattle.i9_model.specs.Before.{interrupt_in, entry_writes}
+use Rattle.i9_model.specs.State.{State}
+use Rattle.i9_model.specs.Frames.{saved, record_address}
+use Rattle.i9_model.specs.Hazards.{or_else, read_hazard, write_hazard, port_hazard, save_hazard, record_write_hazard}
+use Rattle.i9_model.specs.Interrupts.{vector_place, interrupt_push, interrupt_record, cleared_hazard, interrupt_hazard, interrupt_entry, planned_interrupt}
+use Rattle.i9_model.specs.Before.{interrupt_in}
 use Rattle.i9_model.proofs.CallLaws.{first_none, second_none, unless_ok, EntersFree}
-use Rattle.i9_model.proofs.Runs.{writes_hazard-upwards}
 
 -- the entry meets no hazard, where its record has four words
 pub record InterruptsFree (s : State) (c : Chosen) (e : Entry) : Type 0 where

@@ -1,12 +1,11 @@
 -- Each record leaves less of a run, and none counts beyond the length.
-use Rattle.std.proofs.Common.{◌≡◌, ◌≢◌, ℕ, zero, suc, ◌+◌, ◌-◌, ◌*◌, ◌/◌, ◌%◌, ◌^◌, ◌<◌, ◌≤◌, Bool, true, false, cond, eqb, List, [], ◌∷◌, length, drop, Option, Some, None, Result, Ok, Err, find, refl, sym, ap, subst, ◌∙◌, inl, inr, arith}
-use Rattle.std.specs.Prelude.{◌&&◌, ◌||◌, ◌==◌, bit_and, bit_or, min}
+use Rattle.std.proofs.Common.{◌≡◌, ◌≢◌, ℕ, zero, suc, ◌+◌, ◌-◌, ◌*◌, ◌/◌, ◌%◌, ◌^◌, ◌<◌, ◌≤◌, Bool, true, false, cond, eqb, List, [], ◌∷◌, length, drop, Option, Some, None, Ok, find, refl, sym, ap, subst, ◌∙◌, inl, inr, arith}
+use Rattle.std.specs.Prelude.{◌&&◌, ◌==◌, bit_and, min}
 use Rattle.std.specs.List.{slice_get}
 use Rattle.std.specs.Int.{w32, bit_at}
 use Rattle.std.specs.Int.Bits.{or_add_and}
 use Rattle.std.proofs.lemmas.Bool.{cases_lt, eqb-true}
-use Rattle.std.proofs.lemmas.Bool.Decides.{nat_tests}
-use Rattle.std.proofs.lemmas.Nat.{and_le_l, and_le_r, pow_below, pow_pos}
+use Rattle.std.proofs.lemmas.Nat.{and_le_l, and_le_r, pow_below}
 use Rattle.std.proofs.lemmas.Nat.Bits.{bit_at_and, bit_at_not, bit_at-pow_same}
 use Rattle.i9_isa.specs.Words.{bit}
 use Rattle.i9_isa.specs.declared.inst.Inst.{Inst}
@@ -31,13 +30,13 @@ use Rattle.i9_model.specs.declared.run.Due.TheVariants as dues
 use Rattle.i9_model.specs.State.{State, Interrupts, started}
 use Rattle.i9_model.specs.Controls.{Control, KeepsControls, Restarts, LoadsGroup, controlled}
 use Rattle.i9_model.specs.Tables.{group_words}
-use Rattle.i9_model.specs.Hazards.{unless, read_hazard}
-use Rattle.i9_model.specs.Interrupts.{with_bit, without_bit, is_open, is_asked, is_requested, passes, vector_priority, choice, choices, chosen_of, chosen, chosen_soft, cleared}
+use Rattle.i9_model.specs.Hazards.{read_hazard}
+use Rattle.i9_model.specs.Interrupts.{with_bit, without_bit, is_asked, is_requested, passes, vector_priority, choice, choices, chosen_of, chosen, chosen_soft, cleared}
 use Rattle.i9_model.specs.ScheduleText.{time_of, event_at, standing}
 use Rattle.i9_model.specs.Memory.{word_in}
 use Rattle.i9_model.specs.Branches.{asks, question_of}
 use Rattle.i9_model.specs.Operands.{with_pending, with_mask, interrupts_assigned, address}
-use Rattle.i9_model.specs.Step.{Action, Message, AsksNothing, AsksInterrupt, AsksRestart, AsksGroup, message_of, message_kind, message_action, following, loaded, atomic_address, branching, resulting, answer_in, values_of, destination, moving, action_by_name, action_by, action_of, faulting, entering, moved, acted}
+use Rattle.i9_model.specs.Step.{Action, Message, AsksNothing, AsksInterrupt, AsksRestart, AsksGroup, message_of, message_kind, message_action, following, loaded, atomic_address, branching, resulting, answer_in, values_of, destination, moving, action_by_name, action_by, action_of, entering, moved, acted}
 use Rattle.i9_model.specs.Before.{choice_in, interrupting, posted_by, receiving}
 use Rattle.i9_model.specs.Left.{flag, asked, event_work, plan_work, pending, left_in}
 use Rattle.i9_model.specs.Run.{Kind, Instruction, Faulted, Entered, Interrupted, Reached, Record, record_of, counts_of, after_kind, action_by_kind, due_by, reached_by, Does, next_in}

@@ -1,11 +1,11 @@
 -- What comes before the next instruction: the entry of an interrupt that is chosen, or an event from outside.
-use Rattle.std.specs.Prelude.{ℕ, ◌++◌, if◌then◌else◌, false, List, Option, Result, Ok}
+use Rattle.std.specs.Prelude.{ℕ, ◌++◌, if◌then◌else◌, List, Option, Result, Ok}
 use Rattle.i9_model.specs.declared.layout.TheConstants.{FP, SP}
 use Rattle.i9_model.specs.declared.interrupts.Chosen.{Chosen}
 use Rattle.i9_model.specs.declared.faults.Entry.{Entry}
 use Rattle.i9_model.specs.declared.event.Event.{Event}
 use Rattle.i9_model.specs.declared.event.Event.TheVariants.{Pin, Nmi, Dma, Feed, Show}
-use Rattle.i9_model.specs.Memory.{Memory, with_writes}
+use Rattle.i9_model.specs.Memory.{with_writes}
 use Rattle.i9_model.specs.State.{State, Interrupts}
 use Rattle.i9_model.specs.Interrupts.{posted, posted_nmi, chosen, chosen_soft, cleared, clearing_writes, record_writes, planned_interrupt}
 use Rattle.i9_model.specs.Step.{Action, going, pushing}

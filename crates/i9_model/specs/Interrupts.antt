@@ -1,9 +1,9 @@
 -- Interrupts: how they are posted, which one is chosen, and what its entry makes.
-use Rattle.std.specs.Prelude.{ℕ, ◌+◌, ◌-◌, ◌*◌, ◌/◌, ◌%◌, ◌^◌, Bool, true, false, ◌==◌, ◌&&◌, ◌||◌, nat_le, nat_lt, if◌then◌else◌, bit_and, bit_or, slice_index, List, [], ◌∷◌, ◌++◌, map, filter, flat_map, find, Option, Some, None, Result, Ok, Err}
+use Rattle.std.specs.Prelude.{ℕ, ◌+◌, ◌-◌, ◌*◌, ◌/◌, ◌%◌, ◌^◌, Bool, true, false, ◌==◌, ◌&&◌, ◌||◌, nat_lt, if◌then◌else◌, slice_index, List, [], ◌∷◌, ◌++◌, map, filter, flat_map, find, Option, Some, None, Result}
 use Rattle.std.specs.List.{range_with_len}
 use Rattle.i9_isa.specs.Words.{bit, field}
 use Rattle.i9_model.specs.declared.layout.TheConstants.{RECORD_SIZE, INTERRUPT_RETURN, SUPERVISOR_PLACE}
-use Rattle.i9_model.specs.declared.interrupts.TheConstants.{LINES, NMI_VECTOR, HIGHEST_PRIORITY, PRIORITY_PLACE, INTERRUPTED_PLACE, PENDING_SIZE, PENDING_VECTORS, VECTOR_WORDS}
+use Rattle.i9_model.specs.declared.interrupts.TheConstants.{LINES, NMI_VECTOR, HIGHEST_PRIORITY, PRIORITY_PLACE, INTERRUPTED_PLACE, PENDING_SIZE, VECTOR_WORDS}
 use Rattle.i9_model.specs.declared.interrupts.Cause.{Cause}
 use Rattle.i9_model.specs.declared.interrupts.Cause.TheVariants.{Nmi, Line, Soft}
 use Rattle.i9_model.specs.declared.interrupts.Chosen.{Chosen}
@@ -13,8 +13,7 @@ use Rattle.i9_model.specs.Writes.{wrapped, upwards}
 use Rattle.i9_model.specs.Memory.{Memory, word_in, with_writes}
 use Rattle.i9_model.specs.State.{Frames, Interrupts, aligned}
 use Rattle.i9_model.specs.Frames.{saved, wrote, pushed, record_address}
-use Rattle.i9_model.specs.Hazards.{or_else, unless, read_hazard, write_hazard, port_hazard, save_hazard, record_write_hazard}
-use Rattle.i9_model.specs.Numbers.{complement}
+use Rattle.i9_model.specs.Hazards.{or_else, unless, read_hazard, save_hazard, record_write_hazard}
 pub use Rattle.i9_model.specs.Requests.{with_bit, without_bit, vector_priority, priority_place, pending_place, byte_hazard}
 unfoldable pub use Rattle.i9_model.specs.Requests.{request_hazard, request_writes}
 pub use Rattle.i9_model.specs.Calls.{priority_of}
