@@ -1,5 +1,5 @@
 -- Room for effects: that of the action that an effect stands for, and room that stays.
-use Rattle.std.proofs.Common.{◌≡◌, ℕ, zero, suc, ◌+◌, ◌<◌, List, [], ◌∷◌, ◌++◌, length, subst, arith}
+use Rattle.std.proofs.Common.{◌≡◌, ℕ, zero, suc, ◌+◌, ◌<◌, List, [], ◌∷◌, length, subst, arith}
 use Rattle.std.specs.List.{AllByRecursion}
 use Rattle.i9_model.specs.State.{State}
 use Rattle.i9_model.specs.Writes.{wrapped, upwards}

@@ -1,9 +1,9 @@
-use Rattle.std.proofs.Common.{ℕ, List, ap, ◌∙◌}
+use Rattle.std.proofs.Common.{ap, ◌∙◌}
 use Rattle.i9_model.specs.Memory.{Memory, with_writes}
 use Rattle.i9_model.specs.State.{Frames}
 use Rattle.i9_model.specs.Frames.{wrote}
 use Rattle.i9_model.specs.Hazards.{writes_hazard}
-use Rattle.i9_model.specs.HeldFrames.{Cache, cache_stored}
+use Rattle.i9_model.specs.HeldFrames.{cache_stored}
 use Rattle.i9_storage.specs.Storage.{cache_of, memory_in, frames_in}
 use Rattle.i9_processor.specs.Effect.{one_in}
 use Rattle.i9_processor.proofs.Appending.{cache_append, memory_append, frames_append, first_free, later_free, spacious_kept, first_spacious, later_spacious}

@@ -1,6 +1,4 @@
 use Rattle.std.proofs.lemmas.Result.{on_err_weaker}
-use Rattle.i9_processor.specs.Effect.{requests_in}
-use Rattle.i9_processor.proofs.Appending.{spacious_kept}
 use Rattle.i9_processor.proofs.Rooms.{move_kept}
 use Rattle.i9_processor.proofs.processor.Processor.reserve.Goals as goal
 
