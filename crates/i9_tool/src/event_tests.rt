@@ -95,8 +95,8 @@ at 0 feed 0 0A0B
 #l 0=3007 1=3090
 #end limit
 status 0
-== A pin's line waits for its bit of the mask, and for a priority below its own, 30. The record below the handler's frame
-== has PC from before the entry and the vector, 242. The handler finds the line posted no more.
+== A pin's line waits for its bit of the mask, and for a priority below its own, 30. The record below the handler's
+== frame has PC from before the entry and the vector, 242. The handler finds the line posted no more.
         mov   1, g4
         mov   g4, sf1
         lda   0x1F0000, g5

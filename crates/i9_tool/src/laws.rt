@@ -15,20 +15,23 @@ use crate::top::i960;
 use i9_outside::{MemFiles, MemSink};
 use std::alloc::Global;
 
-/// What words give for files that are told and were read is one status and one text: an image is accepted or refused, not
-/// both, for one fault, and so is a schedule, and the run of both is the only one; a source has one list of segments or one
-/// first fault. So each status is answered exactly where it is given. There is a status and a text for all words and files,
-/// and none depends on the number of sets that is asked for.
+/// What words give for files that are told and were read is one status and one text: an image is accepted or refused,
+/// not both, for one fault, and so is a schedule, and the run of both is the only one; a source has one list of segments
+/// or one first fault. So each status is answered exactly where it is given. There is a status and a text for all words
+/// and files, and none depends on the number of sets that is asked for.
 pub fn one_outcome()
-    ensures some { (told : List ℕ → Option (List ℕ)) (asked : Option Command) → (code : ℕ) × (text : List ℕ) × Gives told (λ n. ⊥) asked code text }
-    ensures status { (told : List ℕ → Option (List ℕ)) (risen : List ℕ → Bool) (asked : Option Command) (c d : ℕ) (s t : List ℕ)
+    ensures some { (told : List ℕ → Option (List ℕ)) (asked : Option Command)
+        → (code : ℕ) × (text : List ℕ) × Gives told (λ n. ⊥) asked code text }
+    ensures status { (told : List ℕ → Option (List ℕ)) (risen : List ℕ → Bool) (asked : Option Command)
+        (c d : ℕ) (s t : List ℕ)
         → AllTold told (names_of asked) → c ≢ 5 → d ≢ 5
         → Gives told (λ n. risen n ≡ true) asked c s → Gives told (λ n. risen n ≡ true) asked d t → c ≡ d }
-    ensures text { (told : List ℕ → Option (List ℕ)) (risen : List ℕ → Bool) (asked : Option Command) (c d : ℕ) (s t : List ℕ)
+    ensures text { (told : List ℕ → Option (List ℕ)) (risen : List ℕ → Bool) (asked : Option Command)
+        (c d : ℕ) (s t : List ℕ)
         → AllTold told (names_of asked) → c ≢ 5 → d ≢ 5
         → Gives told (λ n. risen n ≡ true) asked c s → Gives told (λ n. risen n ≡ true) asked d t → s ≡ t }
-    ensures sets { (told : List ℕ → Option (List ℕ)) (risen : List ℕ → Bool) (image : List ℕ) (schedule : Option (List ℕ))
-        (sets others : Option ℕ) (limit code : ℕ) (text : List ℕ)
+    ensures sets { (told : List ℕ → Option (List ℕ)) (risen : List ℕ → Bool) (image : List ℕ)
+        (schedule : Option (List ℕ)) (sets others : Option ℕ) (limit code : ℕ) (text : List ℕ)
         → Gives told (λ n. risen n ≡ true) (Some (Run image schedule sets limit)) code text
         → Gives told (λ n. risen n ≡ true) (Some (Run image schedule others limit)) code text }
 {}

@@ -88,7 +88,8 @@ pub(crate) fn print_refusal<K: Sink>(
     out: &mut K,
 ) -> Printed
     requires line { IsLine (refused_line what.now (line, kind)) }
-    ensures { Prints result (account K.told K.faults K.writes K.sure) out.old out.new (refused_line what.now (line, kind)) }
+    ensures { Prints result (account K.told K.faults K.writes K.sure) out.old out.new
+        (refused_line what.now (line, kind)) }
 {
     match refused_line(alloc, what, line, kind) {
         Ok(text) => print_piece(&text, out),

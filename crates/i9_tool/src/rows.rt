@@ -62,8 +62,8 @@ pub(crate) const TO_USER_MODE: &str = "
 /// Numbers of sets as words of the command: that of the PRCB, and one, five and fifteen.
 const SETS: [&str; 4] = ["-", "1", "5", "15"];
 
-/// A case: a source, the lines of a schedule, the length of the run of the image as a word of the command, and what is to
-/// be printed.
+/// A case: a source, the lines of a schedule, the length of the run of the image as a word of the command, and what is
+/// to be printed.
 #[derive(Drop)]
 struct Case {
     source: String,
@@ -108,8 +108,8 @@ fn add_line(text: &mut String, line: &str) -> Result<(), Fail> {
     Ok(())
 }
 
-/// Whether the run of a case's image with the events of a text, or with none where it is empty, and with so many sets has
-/// this status and prints the case's text.
+/// Whether the run of a case's image with the events of a text, or with none where it is empty, and with so many sets
+/// has this status and prints the case's text.
 fn holds_with(
     alloc: Global,
     case: &Case,
@@ -174,8 +174,8 @@ fn take_line(alloc: Global, case: &mut Case, line: &str) -> Result<(), Fail> {
 }
 
 /// How many cases of a table hold. Behind the title, which begins with `==`, come the lines of the source, those of the
-/// schedule, which begin with `at`, the length of the run, what is to be printed, where those registers are given that are
-/// not 0, and the status. Where a title begins with `--`, the source goes on from the case before.
+/// schedule, which begin with `at`, the length of the run, what is to be printed, where those registers are given that
+/// are not 0, and the status. Where a title begins with `--`, the source goes on from the case before.
 pub(crate) fn held(alloc: Global, fronts: &[&str], table: &str) -> Result<u32, Fail> {
     let mut case = Case {
         source: String::new(alloc),

@@ -38,7 +38,8 @@ pub(crate) fn run<K: Sink>(
     requires begins { plan.old.place ≡ 0 }
     requires few { AreFew sets }
     requires short { limit ≤ MAX_LENGTH }
-    ensures { Runs result (given (pairs_of image.now) plan.old.events limit sets) (account K.told K.faults K.writes K.sure) out.old out.new }
+    ensures { Runs result (given (pairs_of image.now) plan.old.events limit sets)
+        (account K.told K.faults K.writes K.sure) out.old out.new }
 {
     let mut machine = match Machine::new(alloc, image, sets, limit) {
         Ok(machine) => machine,

@@ -4,7 +4,8 @@ ghost use Rattle.std.specs.Fmt.{decimal};
 ghost use Rattle.std.specs.List.{flat_map};
 ghost use Rattle.i9_tool.specs.CommandLine.{refused_line};
 ghost use Rattle.i9_text.specs.Written.{word_text, byte_text};
-ghost use Rattle.i9_model.specs.PrintedText.{out_text, point_text, drained_text, words_text, spaced, spaced_byte, event_text, bytes_text, end_text, point_shown, shown_text, line_feed};
+ghost use Rattle.i9_model.specs.PrintedText.{out_text, event_text, drained_text, point_text, point_shown, bytes_text};
+ghost use Rattle.i9_model.specs.PrintedText.{end_text, shown_text, words_text, spaced, spaced_byte, line_feed};
 ghost use Rattle.i9_machine.specs.Line.{shown_of};
 ghost use Rattle.i9_tool.specs.Print.{IsLine, AreLines};
 

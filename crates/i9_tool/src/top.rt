@@ -12,9 +12,11 @@ ghost use Rattle.i9_outside.specs.declared.traits.TheConstants.{FILE_LIMIT};
 ghost use Rattle.i9_outside.specs.Counts.{Rose};
 ghost use Rattle.i9_tool.specs.Run.{TellsEnd, printed_of};
 ghost use Rattle.i9_tool.specs.Print.{account};
-ghost use Rattle.i9_tool.specs.Outcome.{Reads, RunGives, ScheduleGives, PlanGives, ImageGives, SourceGives, CommandGives};
-ghost use Rattle.i9_tool.specs.Outcome.{GivesWhole, GivesFront, Answers, Outcomes, asked_for, rose_in, code_for};
-ghost use Rattle.i9_tool.specs.Outcome.{names_of, AnyRose, AllSure, FetchesOnce, FetchesPlan, FetchesAfter, FetchesFiles};
+ghost use Rattle.i9_tool.specs.Outcome.{Reads, RunGives, ScheduleGives, PlanGives, ImageGives, SourceGives};
+ghost use Rattle.i9_tool.specs.Outcome.{CommandGives};
+ghost use Rattle.i9_tool.specs.Outcome.{Answers, GivesWhole, GivesFront, Outcomes, asked_for, rose_in, code_for};
+ghost use Rattle.i9_tool.specs.Outcome.{FetchesOnce, FetchesPlan, FetchesAfter, FetchesFiles, names_of, AnyRose};
+ghost use Rattle.i9_tool.specs.Outcome.{AllSure};
 
 use crate::print::{Printed, print_piece, print_refusal, print_text};
 use crate::run::{Ran, run};
@@ -155,10 +157,11 @@ fn run_planned<F: Files, K: Sink>(
     out: &mut K,
 ) -> Status
     requires can { CanRun words.now }
-    ensures answers { Answers (PlanGives (F.told files.old) (rose_in F.faults files.old files.new) (option_copied words.now.schedule)
-        (RunGives words.now.sets words.now.limit (pairs_of image.now)))
+    ensures answers { Answers (PlanGives (F.told files.old) (rose_in F.faults files.old files.new)
+        (option_copied words.now.schedule) (RunGives words.now.sets words.now.limit (pairs_of image.now)))
         result.code (account K.told K.faults K.writes K.sure) out.old out.new }
-    ensures fetched { FetchesPlan F.faults F.fetches (option_copied words.now.schedule) result.code files.old files.new }
+    ensures fetched { FetchesPlan F.faults F.fetches (option_copied words.now.schedule)
+        result.code files.old files.new }
     ensures read { result.code ≡ 5
         → AnyRose (rose_in F.faults files.old files.new) (with_name (option_copied words.now.schedule)) }
     ensures calm { AllSure (F.sure files.old) (with_name (option_copied words.now.schedule))
@@ -184,7 +187,8 @@ fn use_image<F: Files, K: Sink>(
     ensures answers { Answers (ImageGives (λ pairs. PlanGives (F.told files.old) (rose_in F.faults files.old files.new)
         (option_copied words.now.schedule) (RunGives words.now.sets words.now.limit pairs)) file.now)
         result.code (account K.told K.faults K.writes K.sure) out.old out.new }
-    ensures fetched { FetchesAfter F.faults F.fetches file.now (option_copied words.now.schedule) result.code files.old files.new }
+    ensures fetched { FetchesAfter F.faults F.fetches file.now (option_copied words.now.schedule)
+        result.code files.old files.new }
     ensures read { result.code ≡ 5
         → AnyRose (rose_in F.faults files.old files.new) (with_name (option_copied words.now.schedule)) }
     ensures calm { AllSure (F.sure files.old) (with_name (option_copied words.now.schedule))
@@ -208,7 +212,8 @@ fn fetch_image<F: Files, K: Sink>(
     out: &mut K,
 ) -> Status
     requires can { CanRun words.now }
-    ensures answers { Answers (CommandGives (F.told files.old) (rose_in F.faults files.old files.new) (run_by words.now))
+    ensures answers { Answers
+        (CommandGives (F.told files.old) (rose_in F.faults files.old files.new) (run_by words.now))
         result.code (account K.told K.faults K.writes K.sure) out.old out.new }
     ensures fetched { FetchesFiles F.told F.faults F.fetches result.code files.old (Some (run_by words.now)) files.new }
     ensures read { result.code ≡ 5 → AnyRose (rose_in F.faults files.old files.new) (files_of (run_by words.now)) }
@@ -240,7 +245,8 @@ fn print_image<K: Sink>(alloc: Global, image: &Segments, out: &mut K) -> Status
 #[tactic(auto, using(crate::proofs::LineCounts::line_rules))]
 fn use_source<K: Sink>(alloc: Global, file: &[u8], out: &mut K) -> Status
     requires sized { length file.now ≤ FILE_LIMIT }
-    ensures answers { Answers (SourceGives file.now) result.code (account K.told K.faults K.writes K.sure) out.old out.new }
+    ensures answers { Answers (SourceGives file.now) result.code
+        (account K.told K.faults K.writes K.sure) out.old out.new }
     ensures read { result.code ≢ 5 }
 {
     match assemble(alloc, file) {
@@ -274,9 +280,11 @@ fn fetch_source<F: Files, K: Sink>(alloc: Global, name: &str, files: &mut F, out
 /// Fetches the files that the words name, and does with them what they ask for.
 fn answer<F: Files, K: Sink>(alloc: Global, asked: &Asked<'_>, files: &mut F, out: &mut K) -> Status
     requires fits { Fits asked.now }
-    ensures answers { Answers (CommandGives (F.told files.old) (rose_in F.faults files.old files.new) (asked_by asked.now))
+    ensures answers { Answers
+        (CommandGives (F.told files.old) (rose_in F.faults files.old files.new) (asked_by asked.now))
         result.code (account K.told K.faults K.writes K.sure) out.old out.new }
-    ensures fetched { FetchesFiles F.told F.faults F.fetches result.code files.old (Some (asked_by asked.now)) files.new }
+    ensures fetched { FetchesFiles F.told F.faults F.fetches result.code files.old
+        (Some (asked_by asked.now)) files.new }
     ensures read { result.code ≡ 5 → AnyRose (rose_in F.faults files.old files.new) (files_of (asked_by asked.now)) }
     ensures calm { AllSure (F.sure files.old) (files_of (asked_by asked.now))
         → (result.code ≢ 5) × ((n : List ℕ) → F.faults files.new n ≡ F.faults files.old n) }
@@ -292,7 +300,8 @@ fn work<F: Files, K: Sink>(alloc: Global, words: &Vec<String>, files: &mut F, ou
     ensures answers { Answers (Outcomes F.told F.faults files.old files.new words.now.items) result.code (account K.told K.faults K.writes K.sure) out.old out.new }
     ensures formless { asked_for words.now.items ≡ None → result.code ≢ 7 }
     ensures unfetched { asked_for words.now.items ≡ None → files.new ≡ files.old }
-    ensures fetched { FetchesFiles F.told F.faults F.fetches result.code files.old (asked_for words.now.items) files.new }
+    ensures fetched { FetchesFiles F.told F.faults F.fetches result.code files.old
+        (asked_for words.now.items) files.new }
     ensures read { result.code ≡ 5 → AnyRose (rose_in F.faults files.old files.new) (names_of (asked_for words.now.items)) }
     ensures calm { AllSure (F.sure files.old) (names_of (asked_for words.now.items))
         → (result.code ≢ 5) × ((n : List ℕ) → F.faults files.new n ≡ F.faults files.old n) }
@@ -329,7 +338,8 @@ pub fn i960<F: Files, K: Sink>(
     // answered only where the count of one of these rose, and where it did in the file's own fetch, 5 is, or 6 where a
     // write failed too.
     ensures unfetched { asked_for words.now.items ≡ None → files.new ≡ files.old }
-    ensures fetched { FetchesFiles F.told F.faults F.fetches result.code files.old (asked_for words.now.items) files.new }
+    ensures fetched { FetchesFiles F.told F.faults F.fetches result.code files.old
+        (asked_for words.now.items) files.new }
     ensures read { result.code ≡ 5 → AnyRose (rose_in F.faults files.old files.new) (names_of (asked_for words.now.items)) }
 
     // A write failed only where the sink's count rose, and where it did, 6 is answered.

@@ -65,7 +65,8 @@ fn run_asked<'a>(
     sets: &str,
     limit: &str,
 ) -> Option<RunWords<'a>>
-    ensures asked { option_map run_by result ≡ command_of (name.now ∷ image.now ∷ schedule.now ∷ sets.now ∷ limit.now ∷ []) }
+    ensures asked { option_map run_by result ≡ command_of
+        (name.now ∷ image.now ∷ schedule.now ∷ sets.now ∷ limit.now ∷ []) }
     ensures can { IfSome result CanRun }
 {
     if name != "run" || image.is_empty() {
