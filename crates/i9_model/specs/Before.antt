@@ -1,12 +1,14 @@
 -- What comes before the next instruction: the entry of an interrupt that is chosen, or an event from outside.
-use Rattle.std.specs.Prelude.{ℕ, ◌++◌, if◌then◌else◌, List, Option, Result, Ok}
+use Rattle.std.specs.Prelude.{ℕ, ◌+◌, ◌++◌, if◌then◌else◌, List, [], Option, Some, None, Result, Ok, Err}
 use Rattle.i9_model.specs.declared.layout.TheConstants.{FP, SP}
+use Rattle.i9_model.specs.declared.interrupts.TheConstants.{FIRST_DMA_LINE}
 use Rattle.i9_model.specs.declared.interrupts.Chosen.{Chosen}
 use Rattle.i9_model.specs.declared.faults.Entry.{Entry}
 use Rattle.i9_model.specs.declared.event.Event.{Event}
 use Rattle.i9_model.specs.declared.event.Event.TheVariants.{Pin, Nmi, Dma, Feed, Show}
 use Rattle.i9_model.specs.Memory.{with_writes}
-use Rattle.i9_model.specs.State.{State, Interrupts}
+use Rattle.i9_model.specs.State.{State, Interrupts, Dma}
+use Rattle.i9_model.specs.Dma.{Unit, next_unit}
 use Rattle.i9_model.specs.Interrupts.{posted, posted_nmi, chosen, chosen_soft, cleared, clearing_writes, record_writes, planned_interrupt}
 use Rattle.i9_model.specs.Step.{Action, going, pushing}
 
@@ -40,14 +42,41 @@ interrupting c e s = record (pushing s e.push s.ip e.target) {
 
 -- ---- events
 
--- what an event posts; those of DMA move nothing yet
-abbrev pub posted_by : Event → Interrupts → Interrupts
-posted_by (Pin x) i = posted i x
-posted_by Nmi i = posted_nmi i
-posted_by (Dma c) i = i
-posted_by (Feed c bytes) i = i
-posted_by (Show a n) i = i
+-- what an event does: the bytes that it writes, and DMA and interrupts afterwards
+pub record Received : Type 0 where
+  pub writes : List (ℕ × ℕ)
+  pub dma : Dma
+  pub interrupts : Interrupts
+
+-- nothing is moved, and these are the interrupts
+abbrev pub posting : State → Interrupts → Received
+posting s i = record { writes = []; dma = s.dma; interrupts = i }
+
+-- a unit of a channel, where one is moved
+abbrev pub moving_unit : State → ℕ → Option Unit → Received
+moving_unit s c None = posting s s.interrupts
+moving_unit s c (Some u) = record {
+  writes = u.writes;
+  dma = u.dma;
+  interrupts = if u.posts then posted s.interrupts (FIRST_DMA_LINE + c) else s.interrupts;
+}
+
+abbrev pub received_by : State → ℕ → Result (Option Unit) ℕ → Result Received ℕ
+received_by s c (Ok u) = Ok (moving_unit s c u)
+received_by s c (Err a) = Err a
+
+-- the next unit of a channel, from memory or with the bytes of a device, or the hazard that it meets
+abbrev pub unit_in : State → ℕ → Option (List ℕ) → Result Received ℕ
+unit_in s c given = received_by s c (next_unit s.memory s.frames s.dma c given)
+
+-- what an event does in a state, or the hazard that it meets: only those of DMA meet one
+unfoldable pub received_in : State → Event → Result Received ℕ
+received_in s (Pin x) = Ok (posting s (posted s.interrupts x))
+received_in s Nmi = Ok (posting s (posted_nmi s.interrupts))
+received_in s (Dma c) = unit_in s c None
+received_in s (Feed c bytes) = unit_in s c (Some bytes.items)
+received_in s (Show a n) = Ok (posting s s.interrupts)
 
 -- an event is no instruction: control stays where it is
-abbrev pub receiving : Event → State → Action
-receiving e s = record (going s s.ip) { interrupts = posted_by e s.interrupts }
+abbrev pub receiving : Received → State → Action
+receiving r s = record (going s s.ip) { writes = r.writes; dma = r.dma; interrupts = r.interrupts }

@@ -1,5 +1,6 @@
 -- How much of a run is left: a number that each record makes less.
 use Rattle.std.specs.Prelude.{ℕ, ◌+◌, ◌-◌, ◌*◌, ◌^◌, Bool, true, false, List, [], ◌∷◌}
+use Rattle.i9_model.specs.declared.interrupts.TheConstants.{FIRST_DMA_LINE}
 use Rattle.i9_model.specs.declared.event.Event.{Event}
 use Rattle.i9_model.specs.declared.event.Event.TheVariants.{Pin, Nmi, Dma, Feed, Show}
 use Rattle.i9_model.specs.declared.event.Timed.{Timed}
@@ -16,12 +17,12 @@ flag true = 1
 abbrev pub asked : State → ℕ
 asked s = s.interrupts.pending + flag s.interrupts.nmi + flag s.check
 
--- an event is itself one step, beside what it posts
+-- an event is itself one step, beside what it may post
 abbrev pub event_work : Event → ℕ
 event_work (Pin x) = 1 + 2 ^ x
 event_work Nmi = 2
-event_work (Dma c) = 1
-event_work (Feed c bytes) = 1
+event_work (Dma c) = 1 + 2 ^ (FIRST_DMA_LINE + c)
+event_work (Feed c bytes) = 1 + 2 ^ (FIRST_DMA_LINE + c)
 event_work (Show a n) = 1
 
 abbrev pub plan_work : List Timed → ℕ

@@ -17,6 +17,7 @@ pub mod Conditions
 pub mod Results
 pub mod Branches
 pub mod Requests
+pub mod Dma
 pub mod Step
 pub mod Access
 pub mod Unbuilt

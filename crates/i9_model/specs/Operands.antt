@@ -8,8 +8,9 @@ use Rattle.i9_isa.specs.declared.inst.Ea.{Ea}
 use Rattle.i9_isa.specs.declared.inst.Inst.{Inst}
 use Rattle.i9_model.specs.Writes.{wrapped, pairs_at}
 use Rattle.i9_model.specs.Addresses.{address_of}
+use Rattle.i9_model.specs.declared.dma.TheConstants.{COMMAND_MASK}
 use Rattle.i9_model.specs.declared.interrupts.TheConstants.{LINE_MASK}
-use Rattle.i9_model.specs.State.{State, Interrupts}
+use Rattle.i9_model.specs.State.{State, Interrupts, Dma}
 
 -- ---- special function registers
 
@@ -17,7 +18,7 @@ use Rattle.i9_model.specs.State.{State, Interrupts}
 abbrev pub special : State → ℕ → ℕ
 special s k = if k == 0 then s.interrupts.pending else if k == 1 then s.interrupts.mask else s.dma.dmac
 
--- of the first two the bits of lines are kept
+-- of the first two the bits of lines are kept, and of the third the two bits of each channel
 abbrev pub with_pending : Interrupts → ℕ → Interrupts
 with_pending i v = record i { pending = bit_and v LINE_MASK }
 
@@ -26,6 +27,12 @@ with_mask i v = record i { mask = bit_and v LINE_MASK }
 
 abbrev pub with_special : ℕ → ℕ → Interrupts → Interrupts
 with_special k v i = if k == 0 then with_pending i v else if k == 1 then with_mask i v else i
+
+abbrev pub with_command : Dma → ℕ → Dma
+with_command d v = record d { dmac = bit_and v COMMAND_MASK }
+
+abbrev pub with_dma_special : ℕ → ℕ → Dma → Dma
+with_dma_special k v d = if k == 2 then with_command d v else d
 
 -- ---- sources and destinations
 
@@ -61,6 +68,12 @@ interrupts_assigned (Sfr k) (v ∷ vs) i = with_special k v i
 interrupts_assigned (Sfr k) [] i = i
 interrupts_assigned (Reg r) vs i = i
 interrupts_assigned (Lit n) vs i = i
+
+abbrev pub dma_assigned : Operand → List ℕ → Dma → Dma
+dma_assigned (Sfr k) (v ∷ vs) d = with_dma_special k v d
+dma_assigned (Sfr k) [] d = d
+dma_assigned (Reg r) vs d = d
+dma_assigned (Lit n) vs d = d
 
 -- the effective address
 abbrev pub address : State → Ea → ℕ

@@ -13,7 +13,7 @@ use Rattle.i9_model.specs.Overlay.{overlay}
 use Rattle.i9_model.specs.Events.{journal_text}
 use Rattle.i9_model.specs.ScheduleText.{timed_at}
 use Rattle.i9_model.specs.State.{State}
-use Rattle.i9_model.specs.Run.{Given, Point, End, Exit, Limit, Hazard, Dead, Unbuilt, Kind, Instruction, Faulted, Entered, Interrupted, Reached, Record, point_of, action_done, state_after}
+use Rattle.i9_model.specs.Run.{Given, Point, End, Exit, Limit, Hazard, Dead, Unbuilt, Kind, Instruction, Faulted, Entered, Interrupted, Reached, Blocked, Record, point_of, action_done, state_after}
 use Rattle.i9_model.specs.declared.run.Point.TheVariants as points
 
 -- a printed line; a drained point has three
@@ -60,7 +60,8 @@ event_lines (Instruction i) s = []
 event_lines (Faulted inst fault) s = []
 event_lines (Entered e) s = []
 event_lines (Interrupted c e) s = []
-event_lines (Reached e) s = Journal s.count e ∷ bytes_lines e s
+event_lines (Reached e u) s = Journal s.count e ∷ bytes_lines e s
+event_lines (Blocked e a) s = Journal s.count e ∷ []
 
 -- the lines of a record: those of an event, from the state before it; a console byte; and a drained point
 abbrev pub record_lines : Record → List Shown

@@ -15,8 +15,8 @@ use Rattle.i9_model.specs.declared.event.Event.{Event}
 use Rattle.i9_model.specs.declared.event.Timed.{Timed}
 use Rattle.i9_model.specs.Memory.{exit_word}
 use Rattle.i9_model.specs.State.{State, boot}
-use Rattle.i9_model.specs.Step.{Action, faulting, entering, action_of, acted, counted}
-use Rattle.i9_model.specs.Before.{choice_in, interrupt_in, interrupting, receiving}
+use Rattle.i9_model.specs.Step.{Action, going, faulting, entering, action_of, acted, counted}
+use Rattle.i9_model.specs.Before.{Received, choice_in, interrupt_in, interrupting, received_in, receiving}
 use Rattle.i9_model.specs.ScheduleText.{timed_at, standing}
 use Rattle.i9_model.specs.Standing.{Standing, Meets, NotBuilt, Refused, Faults, Runs, stands_at}
 use Rattle.i9_model.specs.Faults.{planned_fault}
@@ -29,13 +29,15 @@ use Rattle.i9_model.specs.declared.run.Point.TheVariants as points
 use Rattle.i9_model.specs.declared.run.Due.TheVariants as dues
 
 -- what was done: an instruction; one that faulted, where its word is not refused, with its fault; the entry of the
--- fault; the entry of an interrupt that was chosen; or an event that was reached
+-- fault; the entry of an interrupt that was chosen; an event that was reached, with what it does; or an event that
+-- was reached and met a hazard, which does nothing
 pub data Kind : Type 0 where
   Instruction : (inst : Inst) → Kind
   Faulted : (inst : Option Inst) → (fault : Fault) → Kind
   Entered : (entry : Entry) → Kind
   Interrupted : (choice : Chosen) → (entry : Entry) → Kind
-  Reached : (event : Event) → Kind
+  Reached : (event : Event) → (does : Received) → Kind
+  Blocked : (event : Event) → (hazard : ℕ) → Kind
 
 -- what was done, and the states before and after it
 pub record Record : Type 0 where
@@ -60,7 +62,8 @@ action_by_kind (Instruction i) s = action_of i s
 action_by_kind (Faulted inst fault) s = faulting (faulted_words inst) s
 action_by_kind (Entered e) s = entering e s
 action_by_kind (Interrupted c e) s = interrupting c e s
-action_by_kind (Reached e) s = receiving e s
+action_by_kind (Reached e u) s = receiving u s
+action_by_kind (Blocked e a) s = going s s.ip
 
 -- how many instructions it counts: an entry is none, and no more is an event
 abbrev pub counts_of : Kind → ℕ
@@ -68,7 +71,8 @@ counts_of (Instruction i) = 1
 counts_of (Faulted inst fault) = 1
 counts_of (Entered e) = 0
 counts_of (Interrupted c e) = 0
-counts_of (Reached e) = 0
+counts_of (Reached e u) = 0
+counts_of (Blocked e a) = 0
 
 abbrev pub point_by_name : Op → Option Point
 point_by_name Flushreg = Some points.Flush
@@ -81,7 +85,8 @@ point_of (Instruction i) = point_by_name i.op
 point_of (Faulted inst fault) = None
 point_of (Entered e) = Some points.Fault
 point_of (Interrupted c e) = Some points.Int
-point_of (Reached e) = Some points.Event
+point_of (Reached e u) = Some points.Event
+point_of (Blocked e a) = None
 
 -- the state after it, from the one before
 abbrev pub after_kind : Kind → State → State
@@ -112,7 +117,8 @@ due_by (Instruction i) s = end_due (exit_in s (action_of i s))
 due_by (Faulted inst fault) s = dues.Entry fault
 due_by (Entered e) s = dues.Nothing
 due_by (Interrupted c e) s = dues.Nothing
-due_by (Reached e) s = dues.Nothing
+due_by (Reached e u) s = dues.Nothing
+due_by (Blocked e a) s = dues.End (Hazard a)
 
 abbrev pub due_after : List Record → Due
 due_after [] = dues.Nothing
@@ -142,9 +148,14 @@ next_by_entry s (Err (stops.Dead code a)) = Ends (Dead code a)
 unfoldable pub entry_in : State → Fault → Result Entry FaultStop
 entry_in s fault = planned_fault s.memory s.frames s.tables.fault_table s.tables.system_table fault s.pc s.ac (s.regs FP) (s.regs SP)
 
+-- an event is reached whether it meets a hazard or not
+abbrev pub reached_kind : Event → Result Received ℕ → Kind
+reached_kind e (Ok u) = Reached e u
+reached_kind e (Err a) = Blocked e a
+
 -- the event that stands there is reached; where none does it is the instruction's turn
 abbrev pub next_by_event : Option Event → State → Next
-next_by_event (Some e) s = Does (record_of (Reached e) s)
+next_by_event (Some e) s = Does (record_of (reached_kind e (received_in s e)) s)
 next_by_event None s = next_by_standing s (stands_at s)
 
 -- an interrupt is entered, unless that meets a hazard
@@ -178,7 +189,8 @@ reached_by (Instruction i) s = []
 reached_by (Faulted inst fault) s = []
 reached_by (Entered e) s = []
 reached_by (Interrupted c e) s = []
-reached_by (Reached e) s = timed_at s.count e ∷ []
+reached_by (Reached e u) s = timed_at s.count e ∷ []
+reached_by (Blocked e a) s = timed_at s.count e ∷ []
 
 -- the events that the records reached, the first one first
 abbrev pub reached_after : List Record → List Timed

@@ -17,7 +17,7 @@ use Rattle.i9_model.specs.Results.{Answer}
 use Rattle.i9_model.specs.Branches.{is_taken}
 use Rattle.i9_model.specs.Step.{first_word, next_word, answer_in}
 use Rattle.i9_model.specs.Access.{access_of, data_of, hazard_of, fetch_hazard}
-use Rattle.i9_model.specs.Unbuilt.{is_built, is_imprecise, is_traced}
+use Rattle.i9_model.specs.Unbuilt.{is_imprecise, is_traced}
 use Rattle.i9_model.specs.Faults.{raised}
 
 -- ---- the fault of an instruction, as type and subtype
@@ -89,7 +89,7 @@ by_raised i s None = if is_imprecise i s then NotBuilt else by_later i s (later_
 -- by the first word that is there
 abbrev pub by_word : State → Result Inst BadWord → Standing
 by_word s (Err e) = Refused (word_fault e)
-by_word s (Ok i) = if is_built i then by_raised i s (raised_in i s) else NotBuilt
+by_word s (Ok i) = by_raised i s (raised_in i s)
 
 abbrev pub by_fetch : State → Option ℕ → Standing
 by_fetch s (Some a) = Meets a

@@ -2,7 +2,7 @@
 use Rattle.std.specs.Prelude.{ℕ, ◌+◌, ◌-◌, ◌*◌, ◌/◌, nat_lt, ◌%◌, ◌^◌, ◌==◌, Bool, true, false, if◌then◌else◌, bit_and, bit_or, List, [], ◌∷◌, ◌++◌, map, replicate, Option, Some, None}
 use Rattle.std.specs.List.{range_with_len}
 use Rattle.i9_isa.specs.declared.op.Op.{Op}
-use Rattle.i9_isa.specs.declared.op.Op.TheVariants.{Lda, Atadd, Atmod, Bx, Balx, Bal, Call, Callx, Calls, Ret, Flushreg, Modac, Modtc, Modpc, Sysctl}
+use Rattle.i9_isa.specs.declared.op.Op.TheVariants.{Lda, Atadd, Atmod, Bx, Balx, Bal, Call, Callx, Calls, Ret, Flushreg, Modac, Modtc, Modpc, Sdma, Sysctl}
 use Rattle.i9_isa.specs.declared.size.Transfer.{Transfer}
 use Rattle.i9_isa.specs.declared.size.Direction.{Direction}
 use Rattle.i9_isa.specs.declared.size.Direction.TheVariants.{Load, Store}
@@ -22,13 +22,14 @@ use Rattle.i9_model.specs.declared.calls.Pop.{Pop}
 use Rattle.i9_model.specs.declared.faults.Entry.{Entry}
 use Rattle.i9_model.specs.Writes.{wrapped, written, upwards}
 use Rattle.i9_model.specs.Memory.{Memory, half_in, half_bytes, word_in, word_bytes, words_in, with_writes, with_words}
-use Rattle.i9_model.specs.State.{State, Frames, Interrupts, Dma, aligned}
+use Rattle.i9_model.specs.State.{State, Frames, Interrupts, Dma, Channel, aligned}
 pub use Rattle.i9_model.specs.State.{frame_sets}
 use Rattle.i9_model.specs.Controls.{Control, KeepsControls, Restarts, LoadsGroup, controlled}
 use Rattle.i9_model.specs.Frames.{pushed, saved, returned, flushed, wrote}
 use Rattle.i9_model.specs.Requests.{request_writes}
+use Rattle.i9_model.specs.Dma.{set_up}
 use Rattle.i9_model.specs.Calls.{priority_of, call_type, system_entered, record_address, popped}
-use Rattle.i9_model.specs.Operands.{value, source_words, assigned, interrupts_assigned, address, target}
+use Rattle.i9_model.specs.Operands.{value, word_of, source_words, assigned, interrupts_assigned, dma_assigned, address, target}
 use Rattle.i9_model.specs.Numbers.{complement}
 use Rattle.i9_model.specs.Results.{Answer, results}
 use Rattle.i9_model.specs.Branches.{question_of, asks, branch_controls, is_taken}
@@ -84,7 +85,11 @@ passing i s = going s (following i s)
 
 -- a destination gets values
 abbrev pub assigning : Operand → List ℕ → Action → Action
-assigning o vs a = record a { sets = assigned o vs; interrupts = interrupts_assigned o vs a.interrupts }
+assigning o vs a = record a {
+  sets = assigned o vs;
+  interrupts = interrupts_assigned o vs a.interrupts;
+  dma = dma_assigned o vs a.dma;
+}
 
 -- a destination gets one value, and nothing else is done
 abbrev pub answering : Inst → State → ℕ → Action
@@ -237,6 +242,20 @@ message_action AsksInterrupt i s = record (passing i s) {
 message_action AsksRestart i s = record (passing i s) { move = Flushes; control = Restarts (value s i.b) (value s i.c) }
 message_action AsksGroup i s = record (passing i s) { move = Flushes; control = LoadsGroup (argument_of i s) }
 
+-- ---- DMA
+
+-- what sdma sets a channel up with: the control word src2, and a byte count, a source and a target in three registers
+abbrev pub channel_in : Inst → State → Channel
+channel_in i s = record {
+  control = value s i.b;
+  count = word_of s i.c 0;
+  source = word_of s i.c 1;
+  target = word_of s i.c 2;
+}
+
+abbrev pub sdma_action : Inst → State → Action
+sdma_action i s = record (passing i s) { dma = set_up s.dma (value s i.a) (channel_in i s) }
+
 -- ---- calls and returns
 
 -- what a push saves of a register: rip has the return address
@@ -301,8 +320,8 @@ other_action op i s = if asks (question_of op) then branching i s else resulting
 
 -- Each name that is built and moves nothing between registers and memory: lda sets its destination to the effective
 -- address; atadd and atmod answer the old word and store its sum with src2, or the bits of src/dst where src2 has
--- them; bx, balx and bal jump, and the last two link; flushreg flushes; sysctl goes by its message; syncf does
--- nothing but drain, and mark, fmark and udma do nothing while trace enable is clear; the others branch or go by the
+-- them; bx, balx and bal jump, and the last two link; flushreg flushes; sdma sets up the channel of src1; sysctl goes by
+-- its message; syncf does nothing but drain, and mark, fmark and udma do nothing while trace enable is clear; the others branch or go by the
 -- table of results.
 abbrev pub action_by_name : Op → Inst → State → Action
 action_by_name Lda i s = answering i s (address s i.ea)
@@ -319,6 +338,7 @@ action_by_name Flushreg i s = record (passing i s) { move = Flushes }
 action_by_name Modac i s = modac_action i s
 action_by_name Modtc i s = modtc_action i s
 action_by_name Modpc i s = modpc_action i s
+action_by_name Sdma i s = sdma_action i s
 action_by_name Sysctl i s = message_action (message_kind (message_of i s)) i s
 action_by_name op i s = other_action op i s
 

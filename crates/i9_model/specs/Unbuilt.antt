@@ -1,30 +1,11 @@
 -- What is not built yet. A run ends before an instruction that is not built, and names its address.
-use Rattle.std.specs.Prelude.{Bool, true, false, not, ◌&&◌, nat_lt, Option, Some, None, is_some}
-use Rattle.i9_isa.specs.declared.op.Op.{Op}
-use Rattle.i9_isa.specs.declared.op.Op.TheVariants.{Sdma}
-use Rattle.i9_isa.specs.declared.inst.Operand.{Operand}
-use Rattle.i9_isa.specs.declared.inst.Operand.TheVariants.{Reg, Lit, Sfr}
+use Rattle.std.specs.Prelude.{Bool, false, not, ◌&&◌, Option, Some, None, is_some}
 use Rattle.i9_isa.specs.declared.inst.Inst.{Inst}
 use Rattle.i9_isa.specs.Words.{bit}
 use Rattle.i9_model.specs.declared.layout.TheConstants.{PRECISE_FAULTS_PLACE, TRACE_ENABLE_PLACE}
 use Rattle.i9_model.specs.State.{State}
 use Rattle.i9_model.specs.Results.{Answer}
 use Rattle.i9_model.specs.Step.{answer_in}
-
--- the set-up of DMA channels is not
-abbrev pub is_built_name : Op → Bool
-is_built_name Sdma = false
-is_built_name _ = true
-
--- the DMA command word, sf2, is not
-abbrev pub is_built_operand : Operand → Bool
-is_built_operand (Reg r) = true
-is_built_operand (Lit n) = true
-is_built_operand (Sfr k) = nat_lt k 2
-
--- the instruction is built, but for the fault of its result
-unfoldable pub is_built : Inst → Bool
-is_built i = is_built_name i.op && is_built_operand i.a && is_built_operand i.b && is_built_operand i.c
 
 -- its result is a fault
 abbrev pub is_faulty : Option Answer → Bool

@@ -3,6 +3,7 @@
 
 mod arith;
 mod calls;
+pub mod dma;
 mod event;
 pub mod faults;
 mod frame;
