@@ -31,7 +31,7 @@ use Rattle.i9_model.specs.Calls.{system_hazard, system_entered, planned_system, 
 use Rattle.i9_model.specs.Faults.{raised, ◌>>=◌, or_stop, table_entry, checked_word, planned_handler, planned_frame, planned_fault}
 use Rattle.i9_model.specs.Step.{Message, AsksNothing, AsksInterrupt, AsksRestart, AsksGroup, first_word, next_word, message_of, message_kind}
 use Rattle.i9_model.specs.Access.{Access, NoAccess, Reads, Writes, Changes, SavesAt, CallsSystem, ReturnsBy, Requests, ReadsTables, ReadsGroup, message_access, access_by_name, access_by, access_of, data_of, hazard_in, hazard_of, second_hazard, fetch_hazard}
-use Rattle.i9_model.specs.Unbuilt.{is_traced, is_built, is_imprecise}
+use Rattle.i9_model.specs.Unbuilt.{is_traced, is_imprecise}
 use Rattle.i9_model.specs.Standing.{Standing, NotBuilt, raised_in, later_fault, by_access, by_later, by_raised, by_word, by_fetch, stands_at}
 use Rattle.i9_model.specs.Run.{entry_in}
 use Rattle.i9_model.specs.Alike.{is_beyond, is_hard, is_compared, AgreeWhere, with_other, with_memory, told_words}

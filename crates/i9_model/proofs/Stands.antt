@@ -9,7 +9,7 @@ use Rattle.i9_model.specs.State.{State}
 use Rattle.i9_model.specs.Hazards.{read_hazard}
 use Rattle.i9_model.specs.Step.{first_word, next_word}
 use Rattle.i9_model.specs.Access.{hazard_of, second_hazard, fetch_hazard}
-use Rattle.i9_model.specs.Unbuilt.{is_built, is_imprecise, is_traced}
+use Rattle.i9_model.specs.Unbuilt.{is_imprecise, is_traced}
 use Rattle.i9_model.specs.Standing.{Standing, Meets, NotBuilt, Refused, Faults, Runs, raised_in, later_fault, by_access, by_later, by_raised, by_word, by_fetch, stands_at}
 use Rattle.i9_model.proofs.CallLaws.{first_none, second_none}
 

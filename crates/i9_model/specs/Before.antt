@@ -7,7 +7,8 @@ use Rattle.i9_model.specs.declared.faults.Entry.{Entry}
 use Rattle.i9_model.specs.declared.event.Event.{Event}
 use Rattle.i9_model.specs.declared.event.Event.TheVariants.{Pin, Nmi, Dma, Feed, Show}
 use Rattle.i9_model.specs.Memory.{with_writes}
-use Rattle.i9_model.specs.State.{State, Interrupts, Dma}
+use Rattle.i9_model.specs.State.{State, Interrupts}
+use Rattle.i9_model.specs.State as states
 use Rattle.i9_model.specs.Dma.{Unit, next_unit}
 use Rattle.i9_model.specs.Interrupts.{posted, posted_nmi, chosen, chosen_soft, cleared, clearing_writes, record_writes, planned_interrupt}
 use Rattle.i9_model.specs.Step.{Action, going, pushing}
@@ -45,7 +46,7 @@ interrupting c e s = record (pushing s e.push s.ip e.target) {
 -- what an event does: the bytes that it writes, and DMA and interrupts afterwards
 pub record Received : Type 0 where
   pub writes : List (ℕ × ℕ)
-  pub dma : Dma
+  pub dma : states.Dma
   pub interrupts : Interrupts
 
 -- nothing is moved, and these are the interrupts
