@@ -131,7 +131,7 @@ by_word_same : (s : State) (bytes : ℕ → ℕ) (r : Result Inst BadWord) → A
 by_word_same s bytes (Err e) same = refl
 by_word_same s bytes (Ok i) same =
     let t = with_memory s bytes in
-    ap (λ (x : Standing). cond (is_built i) x NotBuilt) (ap (by_raised i t) (raised_same i s bytes) ∙ by_raised_same i s bytes (raised_in i s) same)
+    ap (by_raised i t) (raised_same i s bytes) ∙ by_raised_same i s bytes (raised_in i s) same
 
 -- an instruction has one word or two
 one_or_two : (i : Inst) → (words_of i ≡ 1) ⊎ (words_of i ≡ 2)

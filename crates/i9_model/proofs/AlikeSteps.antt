@@ -18,7 +18,7 @@ use Rattle.i9_model.specs.declared.interrupts.Chosen.{Chosen}
 use Rattle.i9_model.specs.declared.event.Event.{Event}
 use Rattle.i9_model.specs.declared.event.Event.TheVariants as events
 use Rattle.i9_model.specs.ScheduleText.{timed_at}
-use Rattle.i9_model.specs.Before.{choice_in, interrupt_in}
+use Rattle.i9_model.specs.Before.{Received, choice_in, interrupt_in, received_in}
 use Rattle.i9_model.specs.declared.faults.Entry.{Entry}
 use Rattle.i9_model.specs.declared.faults.FaultStop.{FaultStop}
 use Rattle.i9_model.specs.declared.faults.FaultStop.TheVariants as stops
@@ -35,7 +35,7 @@ use Rattle.i9_model.specs.Controls.{Control, KeepsControls, Restarts, LoadsGroup
 use Rattle.i9_model.specs.Step.{Action, Flushes, Message, AsksNothing, AsksInterrupt, AsksRestart, AsksGroup, passing, moving, entering, message_of, argument_of, message_kind, message_action, action_by_name, action_by, action_of, moved, acted, counted}
 use Rattle.i9_model.specs.Access.{message_access, access_by_name, access_by, hazard_in, hazard_of}
 use Rattle.i9_model.specs.Standing.{Standing, Meets, NotBuilt, Refused, Faults, Runs, stands_at}
-use Rattle.i9_model.specs.Run.{End, Limit, Kind, Instruction, Faulted, Entered, Interrupted, Reached, Record, action_by_kind, action_done, counts_of, Point, point_of, after_kind, record_of, exit_in, due_by, end_due, Due, Next, Does, Ends, next_by_standing, next_by_event, next_by_interrupt, next_by_choice, next_by_entry, entry_in, fault_at, next_in, reached_by}
+use Rattle.i9_model.specs.Run.{End, Limit, Kind, Instruction, Faulted, Entered, Interrupted, Reached, Blocked, Record, reached_kind, action_by_kind, action_done, counts_of, Point, point_of, after_kind, record_of, exit_in, due_by, end_due, Due, Next, Does, Ends, next_by_standing, next_by_event, next_by_interrupt, next_by_choice, next_by_entry, entry_in, fault_at, next_in, reached_by}
 use Rattle.i9_model.specs.Overlay.{overlay}
 use Rattle.i9_model.specs.PrintedText.{Shown, Drained, Journal, Bytes, view_of, out_lines, point_lines, overlays, bytes_lines, event_lines, record_lines}
 use Rattle.i9_model.specs.declared.view.View.{View}
@@ -50,6 +50,7 @@ use Rattle.i9_model.proofs.AlikeFetches.{stands_same, told_same, entry_same}
 use Rattle.i9_model.specs.Free.{IsWhole}
 use Rattle.i9_model.proofs.AlikeMoves.{moved_alike}
 use Rattle.i9_model.proofs.InterruptsFree.{interrupts_free}
+use Rattle.i9_model.proofs.Units.{received_same}
 use Rattle.i9_model.proofs.AlikeInterrupts.{choice_same, interrupt_same, interrupting_same}
 use Rattle.i9_model.specs.declared.run.Due.TheVariants as dues
 
@@ -201,7 +202,8 @@ due_same (Instruction i) s bytes e = ap (λ (a : Action). end_due (exit_in (with
 due_same (Faulted inst fault) s bytes e = refl
 due_same (Entered x) s bytes e = refl
 due_same (Interrupted c x) s bytes e = refl
-due_same (Reached x) s bytes e = refl
+due_same (Reached x u) s bytes e = refl
+due_same (Blocked x a) s bytes e = refl
 
 counted_alike : (n : ℕ) (s t : State) → AreAlike s t → AreAlike (counted n s) (counted n t)
 counted_alike n s t alike = record { rest = ap (counted n) alike.rest; bytes = alike.bytes }
@@ -243,8 +245,14 @@ entry_alike s bytes (Ok e) same = record_alike (Entered e) s bytes refl (enterin
 entry_alike s bytes (Err (stops.Hazard a)) same = refl
 entry_alike s bytes (Err (stops.Dead code a)) same = refl
 
+reached_alike_by : (e : Event) (s : State) (bytes : ℕ → ℕ) (p : Result Received ℕ) → AgreeWhere (is_compared s.frames) s.memory bytes → AreRecordsAlike (record_of (reached_kind e p) s) (record_of (reached_kind e p) (with_memory s bytes))
+reached_alike_by e s bytes (Ok u) same = record_alike (Reached e u) s bytes refl refl tt tt same
+reached_alike_by e s bytes (Err a) same = record_alike (Blocked e a) s bytes refl refl tt tt same
+
 event_alike : (stands : Option Event) (s : State) (bytes : ℕ → ℕ) → AgreeWhere (is_compared s.frames) s.memory bytes → AreNextAlike (next_by_event stands s) (next_by_event stands (with_memory s bytes))
-event_alike (Some e) s bytes same = record_alike (Reached e) s bytes refl refl tt tt same
+event_alike (Some e) s bytes same =
+    subst (λ (p : Result Received ℕ). AreNextAlike (Does (record_of (reached_kind e (received_in s e)) s)) (Does (record_of (reached_kind e p) (with_memory s bytes)))) (sym (received_same s bytes e (hard_bytes s.frames s.memory bytes same)))
+    (reached_alike_by e s bytes (received_in s e) same)
 event_alike None s bytes same =
     subst (λ (x : Standing). AreNextAlike (next_by_standing s (stands_at s)) (next_by_standing (with_memory s bytes) x)) (sym (stands_same s bytes same)) (standing_alike s bytes (stands_at s) (known s) same)
 
@@ -372,7 +380,8 @@ events_alike (Instruction i) s t alike = refl
 events_alike (Faulted inst fault) s t alike = refl
 events_alike (Entered e) s t alike = refl
 events_alike (Interrupted c e) s t alike = refl
-events_alike (Reached e) s t alike =
+events_alike (Blocked e a) s t alike = ap (λ (u : State). Journal u.count e ∷ []) alike.rest
+events_alike (Reached e u) s t alike =
     ap (λ (u : State). Journal u.count e ∷ bytes_lines e t) alike.rest ∙ ap (λ (ls : List Shown). Journal s.count e ∷ ls) (bytes_alike e s t alike)
 
 -- which event was reached
@@ -381,7 +390,8 @@ reached_same (Instruction i) s t alike = refl
 reached_same (Faulted inst fault) s t alike = refl
 reached_same (Entered e) s t alike = refl
 reached_same (Interrupted c e) s t alike = refl
-reached_same (Reached e) s t alike = ap (λ (u : State). timed_at u.count e ∷ []) alike.rest
+reached_same (Reached e u) s t alike = ap (λ (v : State). timed_at v.count e ∷ []) alike.rest
+reached_same (Blocked e a) s t alike = ap (λ (u : State). timed_at u.count e ∷ []) alike.rest
 
 pub reached_alike : (r q : Record) → AreRecordsAlike r q → reached_by q.kind q.before ≡ reached_by r.kind r.before
 reached_alike r q same = ap (λ (k : Kind). reached_by k q.before) same.kind ∙ reached_same r.kind r.before q.before same.before

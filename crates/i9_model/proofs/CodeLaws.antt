@@ -5,7 +5,7 @@ use Rattle.std.specs.Int.{bit_at}
 use Rattle.std.specs.Int.RustNames.{int_div, int_rem}
 use Rattle.std.proofs.lemmas.Nat.Bits.{bit_at_lowest, bit_at-suc, bit_at_or, bit_at-pow_other}
 use Rattle.i9_isa.specs.declared.op.Op.{Op}
-use Rattle.i9_isa.specs.declared.op.Op.TheVariants.{Cmpinco, Cmpinci, Cmpdeco, Cmpdeci, Addc, Subc, Modac, Spanbit, Scanbit, Cmpo, Cmpi, Concmpo, Concmpi, Scanbyte, Chkbit, Sysctl, Ret, Bbc, Bbs, Cmpobg, Cmpobe, Cmpobge, Cmpobl, Cmpobne, Cmpoble, Cmpibno, Cmpibg, Cmpibe, Cmpibge, Cmpibl, Cmpibne, Cmpible, Cmpibo, Addi, Subi, Muli, Shli, Divo, Remo, Divi, Remi, Modi, Ediv, Lda, Atadd, Atmod, Bx, Balx, Bal, Call, Callx, Calls, Flushreg, Modtc, Modpc}
+use Rattle.i9_isa.specs.declared.op.Op.TheVariants.{Cmpinco, Cmpinci, Cmpdeco, Cmpdeci, Addc, Subc, Modac, Sdma, Spanbit, Scanbit, Cmpo, Cmpi, Concmpo, Concmpi, Scanbyte, Chkbit, Sysctl, Ret, Bbc, Bbs, Cmpobg, Cmpobe, Cmpobge, Cmpobl, Cmpobne, Cmpoble, Cmpibno, Cmpibg, Cmpibe, Cmpibge, Cmpibl, Cmpibne, Cmpible, Cmpibo, Addi, Subi, Muli, Shli, Divo, Remo, Divi, Remi, Modi, Ediv, Lda, Atadd, Atmod, Bx, Balx, Bal, Call, Callx, Calls, Flushreg, Modtc, Modpc}
 use Rattle.i9_isa.specs.declared.size.Size.{Size}
 use Rattle.i9_isa.specs.declared.size.Direction.{Direction}
 use Rattle.i9_isa.specs.declared.size.Direction.TheVariants.{Load, Store}
@@ -129,6 +129,7 @@ name_code Calls i s e h = refl
 name_code Flushreg i s e h = refl
 name_code Modtc i s e h = refl
 name_code Modpc i s e h = refl
+name_code Sdma i s e h = refl
 name_code op i s e h = other_code (asks (question_of op)) op i s e h
 
 moving_code : (d : Direction) (size : Size) (signed : Bool) (i : Inst) (s : State) → (moving d size signed i s).ac % 8 ≡ s.ac % 8

@@ -1,5 +1,5 @@
 -- Each record leaves less of a run, and none counts beyond the length.
-use Rattle.std.proofs.Common.{◌≡◌, ◌≢◌, ℕ, zero, suc, ◌+◌, ◌-◌, ◌*◌, ◌/◌, ◌%◌, ◌^◌, ◌<◌, ◌≤◌, Bool, true, false, cond, eqb, List, [], ◌∷◌, length, drop, Option, Some, None, Ok, find, refl, sym, ap, subst, ◌∙◌, inl, inr, arith}
+use Rattle.std.proofs.Common.{◌≡◌, ◌≢◌, ℕ, zero, suc, ◌+◌, ◌-◌, ◌*◌, ◌/◌, ◌%◌, ◌^◌, ◌<◌, ◌≤◌, Bool, true, false, cond, eqb, List, [], ◌∷◌, length, drop, Result, Ok, Err, Option, Some, None, find, refl, sym, ap, subst, ◌∙◌, inl, inr, arith}
 use Rattle.std.specs.Prelude.{◌&&◌, ◌==◌, bit_and, min}
 use Rattle.std.specs.List.{slice_get}
 use Rattle.std.specs.Int.{w32, bit_at}
@@ -10,7 +10,7 @@ use Rattle.std.proofs.lemmas.Nat.Bits.{bit_at_and, bit_at_not, bit_at-pow_same}
 use Rattle.i9_isa.specs.Words.{bit}
 use Rattle.i9_isa.specs.declared.inst.Inst.{Inst}
 use Rattle.i9_isa.specs.declared.op.Op.{Op}
-use Rattle.i9_isa.specs.declared.op.Op.TheVariants.{Lda, Atadd, Atmod, Bx, Balx, Bal, Call, Callx, Calls, Ret, Flushreg, Modac, Modtc, Modpc, Sysctl}
+use Rattle.i9_isa.specs.declared.op.Op.TheVariants.{Lda, Atadd, Atmod, Bx, Balx, Bal, Call, Callx, Calls, Ret, Flushreg, Modac, Modtc, Modpc, Sdma, Sysctl}
 use Rattle.i9_isa.specs.declared.inst.Operand.{Operand}
 use Rattle.i9_isa.specs.declared.inst.Operand.TheVariants.{Reg, Lit, Sfr}
 use Rattle.i9_isa.specs.declared.size.Size.{Size}
@@ -21,7 +21,7 @@ use Rattle.i9_isa.specs.Transfers.{transfer_of}
 use Rattle.i9_model.specs.declared.interrupts.Cause.{Cause}
 use Rattle.i9_model.specs.declared.interrupts.Cause.TheVariants.{Nmi, Line, Soft}
 use Rattle.i9_model.specs.declared.interrupts.Chosen.{Chosen}
-use Rattle.i9_model.specs.declared.interrupts.TheConstants.{NMI_VECTOR, PENDING_SIZE, LINE_MASK}
+use Rattle.i9_model.specs.declared.interrupts.TheConstants.{NMI_VECTOR, PENDING_SIZE, LINE_MASK, FIRST_DMA_LINE}
 use Rattle.i9_model.specs.declared.event.Event.{Event}
 use Rattle.i9_model.specs.declared.event.Event.TheVariants as events
 use Rattle.i9_model.specs.declared.event.Timed.{Timed}
@@ -31,15 +31,16 @@ use Rattle.i9_model.specs.State.{State, Interrupts, started}
 use Rattle.i9_model.specs.Controls.{Control, KeepsControls, Restarts, LoadsGroup, controlled}
 use Rattle.i9_model.specs.Tables.{group_words}
 use Rattle.i9_model.specs.Hazards.{read_hazard}
-use Rattle.i9_model.specs.Interrupts.{with_bit, without_bit, is_asked, is_requested, passes, vector_priority, choice, choices, chosen_of, chosen, chosen_soft, cleared}
+use Rattle.i9_model.specs.Interrupts.{with_bit, without_bit, is_asked, is_requested, passes, vector_priority, choice, choices, chosen_of, chosen, chosen_soft, cleared, posted}
 use Rattle.i9_model.specs.ScheduleText.{time_of, event_at, standing}
 use Rattle.i9_model.specs.Memory.{word_in}
 use Rattle.i9_model.specs.Branches.{asks, question_of}
 use Rattle.i9_model.specs.Operands.{with_pending, with_mask, interrupts_assigned, address}
-use Rattle.i9_model.specs.Step.{Action, Message, AsksNothing, AsksInterrupt, AsksRestart, AsksGroup, message_of, message_kind, message_action, following, loaded, atomic_address, branching, resulting, answer_in, values_of, destination, moving, action_by_name, action_by, action_of, entering, moved, acted}
-use Rattle.i9_model.specs.Before.{choice_in, interrupting, posted_by, receiving}
+use Rattle.i9_model.specs.Step.{Action, going, Message, AsksNothing, AsksInterrupt, AsksRestart, AsksGroup, message_of, message_kind, message_action, following, loaded, atomic_address, branching, resulting, answer_in, values_of, destination, moving, action_by_name, action_by, action_of, entering, moved, acted}
+use Rattle.i9_model.specs.Dma.{Unit, next_unit}
+use Rattle.i9_model.specs.Before.{Received, choice_in, interrupting, moving_unit, received_by, received_in, receiving}
 use Rattle.i9_model.specs.Left.{flag, asked, event_work, plan_work, pending, left_in}
-use Rattle.i9_model.specs.Run.{Kind, Instruction, Faulted, Entered, Interrupted, Reached, Record, record_of, counts_of, after_kind, action_by_kind, due_by, reached_by, Does, next_in}
+use Rattle.i9_model.specs.Run.{Kind, Instruction, Faulted, Entered, Interrupted, Reached, Blocked, Record, record_of, counts_of, after_kind, action_by_kind, due_by, reached_by, Does, next_in}
 use Rattle.i9_model.proofs.CallLaws.{unless_ok}
 use Rattle.i9_model.proofs.ControlLaws.{by_group, acted-count}
 use Rattle.i9_model.proofs.Comes.{MayCome, next_comes}
@@ -257,6 +258,7 @@ name_posts Flushreg i s = quiet_posts (action_by_name Flushreg i s) s refl
 name_posts Modac i s = assigning_posts i.c (s.ac ∷ []) (action_by_name Modac i s) s refl
 name_posts Modtc i s = assigning_posts i.c (s.trace.tc ∷ []) (action_by_name Modtc i s) s refl
 name_posts Modpc i s = assigning_posts i.c (s.pc ∷ []) (action_by_name Modpc i s) s refl
+name_posts Sdma i s = quiet_posts (action_by_name Sdma i s) s refl
 name_posts op i s = other_posts (asks (question_of op)) i s
 
 moving_posts : (d : Direction) (size : Size) (signed : Bool) (i : Inst) (s : State) → PostsFew (moving d size signed i s) s
@@ -273,12 +275,43 @@ action_posts i s = by_transfer (transfer_of i.op)
 
 -- ---- one event
 
-posted_most : (e : Event) (i : Interrupts) → (posted_by e i).pending + flag (posted_by e i).nmi + 1 ≤ i.pending + flag i.nmi + event_work e
-posted_most (events.Pin x) i = let most = with_bit_most i.pending x in omega (arith, most)
-posted_most events.Nmi i = omega arith
-posted_most (events.Dma c) i = omega arith
-posted_most (events.Feed c bytes) i = omega arith
-posted_most (events.Show a n) i = omega arith
+-- these interrupts ask for no more than those before them and what an event may post
+abbrev PostsMost : ℕ → Interrupts → Interrupts → Type 0
+PostsMost work i j = j.pending + flag j.nmi + 1 ≤ i.pending + flag i.nmi + work
+
+line_most : (b : Bool) (k : ℕ) (i : Interrupts) → PostsMost (1 + 2 ^ k) i (cond b (posted i k) i)
+line_most true k i = let most = with_bit_most i.pending k in omega (arith, most)
+line_most false k i = omega arith
+
+moving_most : (s : State) (c : ℕ) (o : Option Unit) → PostsMost (1 + 2 ^ (FIRST_DMA_LINE + c)) s.interrupts (moving_unit s c o).interrupts
+moving_most s c None = omega arith
+moving_most s c (Some u) = line_most u.posts (FIRST_DMA_LINE + c) s.interrupts
+
+unit_most : (s : State) (c : ℕ) (p : Result (Option Unit) ℕ) (u : Received) → received_by s c p ≡ Ok u → PostsMost (1 + 2 ^ (FIRST_DMA_LINE + c)) s.interrupts u.interrupts
+unit_most s c (Ok o) u is =
+    let same : moving_unit s c o ≡ u = cc in
+    subst (λ (v : Received). PostsMost (1 + 2 ^ (FIRST_DMA_LINE + c)) s.interrupts v.interrupts) same (moving_most s c o)
+unit_most s c (Err a) u is = absurd cc
+
+quiet_most : (work : ℕ) (i : Interrupts) (r u : Received) → ◌≡◌ {A = Result Received ℕ} (Ok r) (Ok u) → PostsMost work i r.interrupts → PostsMost work i u.interrupts
+quiet_most work i r u is most =
+    let same : r ≡ u = cc in
+    subst (λ (v : Received). PostsMost work i v.interrupts) same most
+
+received_most : (s : State) (e : Event) (u : Received) → received_in s e ≡ Ok u → PostsMost (event_work e) s.interrupts u.interrupts
+unfolding received_in
+received_most s (events.Pin x) u is = quiet_most (1 + 2 ^ x) s.interrupts _ u is (line_most true x s.interrupts)
+received_most s events.Nmi u is = quiet_most 2 s.interrupts _ u is (omega arith)
+received_most s (events.Dma c) u is = unit_most s c (next_unit s.memory s.frames s.dma c None) u is
+received_most s (events.Feed c given) u is = unit_most s c (next_unit s.memory s.frames s.dma c (Some given.items)) u is
+received_most s (events.Show a n) u is = quiet_most 1 s.interrupts _ u is (omega arith)
+
+some_work : (e : Event) → 1 ≤ event_work e
+some_work (events.Pin x) = omega arith
+some_work events.Nmi = omega arith
+some_work (events.Dma c) = omega arith
+some_work (events.Feed c given) = omega arith
+some_work (events.Show a n) = omega arith
 
 -- the events from one on
 drop_work : (plan : List Timed) (place : ℕ) (t : Timed) → slice_get plan place ≡ Some t → plan_work (drop place plan) ≡ event_work t.event + plan_work (drop (suc place) plan)
@@ -341,14 +374,23 @@ instruction_leaves limit plan place due i s other =
     let posts = action_posts i s in
     quiet_leaves limit plan place due (Instruction i) s refl (λ h. omega (arith, other)) (omega (arith, small, acts, posts))
 
-reached_leaves : (limit : ℕ) (plan : List Timed) (place : ℕ) (due : Due) (e : Event) (s : State) → standing plan place s.count ≡ Some e → Leaves limit plan place due s (record_of (Reached e) s)
+reached_leaves : (limit : ℕ) (plan : List Timed) (place : ℕ) (due : Due) (e : Event) (u : Received) (s : State) → standing plan place s.count ≡ Some e → received_in s e ≡ Ok u → Leaves limit plan place due s (record_of (Reached e u) s)
 unfolding left_in
-reached_leaves limit plan place due e s stands =
-    let count = counts_after (Reached e) s in
-    let acts = acted_asked s (receiving e s) in
-    let posts = posted_most e s.interrupts in
+reached_leaves limit plan place due e u s stands does =
+    let count = counts_after (Reached e u) s in
+    let acts = acted_asked s (receiving u s) in
+    let posts = received_most s e u does in
     let work = event_less plan place s.count e stands in
     record { within = λ h. omega (arith, count); less = λ h. omega (arith, count, acts, posts, work) }
+
+blocked_leaves : (limit : ℕ) (plan : List Timed) (place : ℕ) (due : Due) (e : Event) (a : ℕ) (s : State) → standing plan place s.count ≡ Some e → Leaves limit plan place due s (record_of (Blocked e a) s)
+unfolding left_in
+blocked_leaves limit plan place due e a s stands =
+    let count = counts_after (Blocked e a) s in
+    let acts = acted_asked s (going s s.ip) in
+    let some = some_work e in
+    let work = event_less plan place s.count e stands in
+    record { within = λ h. omega (arith, count); less = λ h. omega (arith, count, acts, some, work) }
 
 kind_leaves : (limit : ℕ) (plan : List Timed) (place : ℕ) (due : Due) (k : Kind) (s : State) → MayCome limit due (standing plan place s.count) s k → Leaves limit plan place due s (record_of k s)
 kind_leaves limit plan place due (Instruction i) s may = instruction_leaves limit plan place due i s may.1
@@ -364,7 +406,8 @@ kind_leaves limit plan place due (Interrupted c e) s may =
     let acts = acted_asked s (interrupting c e s) in
     let less = entry_less s c may.2 in
     quiet_leaves limit plan place due (Interrupted c e) s refl (λ h. omega arith) (omega (arith, acts, less))
-kind_leaves limit plan place due (Reached e) s may = reached_leaves limit plan place due e s may.2
+kind_leaves limit plan place due (Reached e u) s may = reached_leaves limit plan place due e u s may.2 may.3
+kind_leaves limit plan place due (Blocked e a) s may = blocked_leaves limit plan place due e a s may.2
 
 pub next_leaves : (limit : ℕ) (plan : List Timed) (place : ℕ) (due : Due) (s : State) (r : Record) → next_in limit due (standing plan place s.count) s ≡ Does r → Leaves limit plan place due s r
 next_leaves limit plan place due s r e =

@@ -21,6 +21,7 @@ pub mod Storing
 pub mod AlikeMoves
 pub mod AlikeChoices
 pub mod AlikeInterrupts
+pub mod Units
 pub mod AlikeSteps
 pub mod Overlays
 pub mod FrameBytes

@@ -5,7 +5,7 @@ use Rattle.std.proofs.lemmas.Bool.{cond-false, or_parts, le-leb, leb-true, eqb-t
 use Rattle.std.proofs.lemmas.Bool.Decides.{nat_tests}
 use Rattle.std.proofs.lemmas.List.FromFn.{length-map-range_with_len}
 use Rattle.i9_isa.specs.declared.op.Op.{Op}
-use Rattle.i9_isa.specs.declared.op.Op.TheVariants.{Lda, Atadd, Atmod, Bx, Balx, Bal, Call, Callx, Calls, Ret, Flushreg, Modac, Modtc, Modpc, Sysctl, Addi, Subi, Muli, Shli, Divo, Remo, Divi, Remi, Modi, Ediv, Concmpo, Concmpi, Spanbit, Scanbit}
+use Rattle.i9_isa.specs.declared.op.Op.TheVariants.{Lda, Atadd, Atmod, Bx, Balx, Bal, Call, Callx, Calls, Ret, Flushreg, Modac, Modtc, Modpc, Sdma, Sysctl, Addi, Subi, Muli, Shli, Divo, Remo, Divi, Remi, Modi, Ediv, Concmpo, Concmpi, Spanbit, Scanbit}
 use Rattle.i9_isa.specs.declared.size.Size.{Size}
 use Rattle.i9_isa.specs.declared.size.Size.TheVariants.{Byte, Half, Words}
 use Rattle.i9_isa.specs.declared.size.Direction.{Direction}
@@ -177,6 +177,7 @@ name_beside Flushreg i s k e h = refl
 name_beside Modac i s k e h = c_beside Modac i k (s.ac ∷ []) e refl h
 name_beside Modtc i s k e h = c_beside Modtc i k (s.trace.tc ∷ []) e refl h
 name_beside Modpc i s k e h = c_beside Modpc i k (s.pc ∷ []) e refl h
+name_beside Sdma i s k e h = refl
 name_beside Sysctl i s k e h = by_message (message_kind (message_of i s))
   where
     by_message : (m : Message) → last_put (message_action m i s).sets k ≡ None

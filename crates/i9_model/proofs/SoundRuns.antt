@@ -23,7 +23,7 @@ use Rattle.i9_model.specs.Step.{Move, Stays, Saves, Returns, Flushes, Action, by
 use Rattle.i9_model.specs.Access.{Changes, message_access, moved_access, access_by_name, access_by, hazard_in, hazard_of}
 use Rattle.i9_model.specs.Sound.{IsSound}
 use Rattle.i9_model.specs.Free.{IsFree}
-use Rattle.i9_model.specs.Run.{Given, Instruction, Faulted, Entered, Interrupted, Reached, Kind, action_by_kind, Record, Does, Due, entry_in, state_after, due_after, event_after, next_in, IsPast}
+use Rattle.i9_model.specs.Run.{Given, Instruction, Faulted, Entered, Interrupted, Reached, Blocked, Kind, action_by_kind, Record, Does, Due, entry_in, state_after, due_after, event_after, next_in, IsPast}
 use Rattle.i9_model.specs.declared.layout.TheConstants.{FP, SP}
 use Rattle.i9_model.specs.declared.faults.Entry.{Entry}
 use Rattle.i9_model.specs.declared.interrupts.Chosen.{Chosen}
@@ -35,6 +35,7 @@ use Rattle.i9_model.specs.Frames.{in_frames, saved, wrote}
 use Rattle.i9_model.specs.Interrupts.{vector_priority, with_bit, without_bit, byte_hazard, request_hazard, request_writes, priority_place, pending_place, left_pending, priority_writes, taken_writes, priority_hazard, taken_hazard, clearing_writes, clearing_hazard, record_writes}
 use Rattle.i9_model.specs.Before.{entry_writes, interrupting}
 use Rattle.i9_model.specs.Calls.{call_type, record_address}
+use Rattle.i9_model.proofs.Units.{received_free}
 use Rattle.i9_model.proofs.CallLaws.{first_none, second_none, system_free, system_save, EntersFree, enters_free}
 use Rattle.i9_model.proofs.ControlLaws.{acted-frames}
 use Rattle.i9_model.proofs.FrameLaws.{sound-none, sound-saved, sound-returned, sound-flushed, sound-wrote}
@@ -235,7 +236,8 @@ kind_clear limit due stands (Faulted inst fault) s may = record { save = tt; fre
 kind_clear limit due stands (Entered e) s may =
     entering_clear s e (enters_free s.memory s.frames s.tables.fault_table s.tables.system_table may.0 s.pc s.ac (s.regs FP) (s.regs SP) e may.2)
 kind_clear limit due stands (Interrupted c e) s may = interrupting_clear s c e (interrupts_free s c e may.3)
-kind_clear limit due stands (Reached e) s may = record { save = tt; free = record { whole = tt; free = no_writes s.frames; controls = tt } }
+kind_clear limit due stands (Reached e u) s may = record { save = tt; free = record { whole = tt; free = received_free s e u may.3; controls = tt } }
+kind_clear limit due stands (Blocked e a) s may = record { save = tt; free = record { whole = tt; free = no_writes s.frames; controls = tt } }
 
 -- ---- frames along a run
 

@@ -43,17 +43,13 @@ raised_known s i None read = by_precision (is_imprecise i s)
 
 word_known : (s : State) (r : Result Inst BadWord) → read_hazard s.frames s.ip 4 ≡ None → second_hazard s r ≡ None → Known s (by_word s r)
 word_known s (Err e) first second = record { first = first; second = λ two. absurd (omega (arith, two)) }
-word_known s (Ok i) first second = by_form (is_built i)
+word_known s (Ok i) first second = raised_known s i (raised_in i s) read
   where
     read : IsRead s (words_of i)
     read = record {
       first = first;
       second = λ two. sym (ap (λ (n : ℕ). cond (eqb n 2) (read_hazard s.frames (wrapped (s.ip + 4)) 4) None) two) ∙ second;
     }
-
-    by_form : (b : Bool) → Known s (cond b (by_raised i s (raised_in i s)) NotBuilt)
-    by_form true = raised_known s i (raised_in i s) read
-    by_form false = tt
 
 fetch_known : (s : State) (h : Option ℕ) → fetch_hazard s ≡ h → Known s (by_fetch s h)
 unfolding fetch_hazard
