@@ -1,0 +1,1 @@
+//! DMA, worked out by hand.
