@@ -112,6 +112,14 @@ impl Channels {
         self.channel(c).posts()
     }
 
+    /// Whether the next unit of channel `c`, 0 to 3, is its last.
+    pub fn is_last(&self, c: u8) -> bool
+        requires { c < CHANNELS }
+        ensures { result ≡ is_last ((dma_of self.now).channels c) }
+    {
+        self.channel(c).behind().count == 0
+    }
+
     /// Whether nothing moves: channel `c` is not enabled, nothing is left, or the bytes come from
     /// elsewhere.
     pub(crate) fn is_idle(&self, c: u8, given: Option<&[u8]>) -> bool

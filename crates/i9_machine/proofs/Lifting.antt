@@ -7,7 +7,7 @@ use Rattle.i9_schedule.specs.Plan.{Plan}
 use Rattle.i9_model.specs.State.{State}
 use Rattle.i9_model.specs.Step.{Action}
 use Rattle.i9_model.specs.declared.run.Due.{Due}
-use Rattle.i9_model.specs.Run.{Given, Kind, Instruction, Faulted, Entered, Interrupted, Reached, Record, Next, Does, Ends, action_by_kind, action_done, reached_by, reached_after, due_after, event_after, next_in, state_after, next}
+use Rattle.i9_model.specs.Run.{Given, Kind, Instruction, Faulted, Entered, Interrupted, Reached, Blocked, Record, Next, Does, Ends, action_by_kind, action_done, reached_by, reached_after, due_after, event_after, next_in, state_after, next}
 use Rattle.i9_model.specs.PrintedText.{Shown, record_lines, last_lines}
 use Rattle.i9_model.specs.Alike.{AreAlike, AreRecordsAlike, AreNextAlike, told}
 use Rattle.i9_model.specs.HeldFrames.{Cache, renewed, sets_in, cache_acted, cache_configured, cache_after}
@@ -60,7 +60,8 @@ tells_alike (Faulted inst fault) s t (turns.Issued x) alike words tells = record
 }
 tells_alike (Entered e) s t turns.On alike words tells = tt
 tells_alike (Interrupted c e) s t turns.On alike words tells = tt
-tells_alike (Reached e) s t turns.On alike words tells = tt
+tells_alike (Reached e u) s t turns.On alike words tells = tt
+tells_alike (Blocked e a) s t turns.On alike words tells = tt
 tells_alike (Instruction i) s t turns.On alike words tells = absurd tells
 tells_alike (Instruction i) s t (turns.End e) alike words tells = absurd tells
 tells_alike (Instruction i) s t turns.Memory alike words tells = absurd tells
@@ -73,9 +74,12 @@ tells_alike (Entered x) s t turns.Memory alike words tells = absurd tells
 tells_alike (Interrupted c x) s t (turns.Issued i) alike words tells = absurd tells
 tells_alike (Interrupted c x) s t (turns.End e) alike words tells = absurd tells
 tells_alike (Interrupted c x) s t turns.Memory alike words tells = absurd tells
-tells_alike (Reached x) s t (turns.Issued i) alike words tells = absurd tells
-tells_alike (Reached x) s t (turns.End e) alike words tells = absurd tells
-tells_alike (Reached x) s t turns.Memory alike words tells = absurd tells
+tells_alike (Reached x u) s t (turns.Issued i) alike words tells = absurd tells
+tells_alike (Blocked x a) s t (turns.Issued i) alike words tells = absurd tells
+tells_alike (Reached x u) s t (turns.End e) alike words tells = absurd tells
+tells_alike (Blocked x a) s t (turns.End e) alike words tells = absurd tells
+tells_alike (Reached x u) s t turns.Memory alike words tells = absurd tells
+tells_alike (Blocked x a) s t turns.Memory alike words tells = absurd tells
 
 -- the number of sets after a record of the machine
 size_next : (g : Given) (rs : List Record) (before m : Machine) (r q : Record) → StandsFor g rs None before → AreRecordsAlike r q → IsFreeRecord (state_of before.processor) q

@@ -1,7 +1,8 @@
 -- A record that was done is what the step answers.
 use Rattle.std.proofs.Common.{◌≡◌, ℕ, ◌+◌, ◌-◌, ◌*◌, ◌<◌, ◌≤◌, Bool, true, false, cond, eqb, List, length, drop, ◌++◌, Option, Some, None, Ok, refl, sym, ap, ◌∙◌, subst, length-append, arith}
 use Rattle.std.proofs.lemmas.Bool.Decides.{nat_tests}
-use Rattle.std.specs.Prelude.{is_some, IsSome, IfSome}
+use Rattle.std.specs.Prelude.{is_some}
+use Rattle.std.specs.Option.{option_map}
 use Rattle.std.specs.List.{slice_get}
 use Rattle.std.proofs.lemmas.Option.{slice_get_within}
 use Rattle.i9_model.specs.declared.event.Event.{Event}
@@ -19,8 +20,7 @@ use Rattle.i9_model.specs.declared.run.Point.{Point}
 use Rattle.i9_model.specs.declared.run.End.TheVariants.{Limit}
 use Rattle.i9_model.specs.Memory.{console_byte}
 use Rattle.i9_model.specs.Step.{Action, acted, counted}
-use Rattle.i9_model.specs.Events.{IsInRange}
-use Rattle.i9_model.specs.Run.{Kind, Instruction, Faulted, Entered, Interrupted, Reached, Record, Next, Does, Ends, action_by_kind, action_done, record_of, counts_of, due_by, point_of, reached_by, next_by_standing, next_by_event, next_by_choice, next_in}
+use Rattle.i9_model.specs.Run.{Kind, Instruction, Faulted, Entered, Interrupted, Reached, Blocked, Record, Next, Does, Ends, action_by_kind, action_done, record_of, counts_of, due_by, point_of, reached_by, next_by_standing, next_by_event, next_by_choice, next_in}
 use Rattle.i9_model.specs.PrintedText.{out_lines, point_lines, bytes_lines, event_lines, record_lines}
 use Rattle.i9_processor.specs.State.{state_of}
 use Rattle.i9_model.specs.declared.run.Due.{Due}
@@ -28,7 +28,7 @@ use Rattle.i9_model.specs.declared.run.Due.TheVariants as dues
 use Rattle.i9_processor.specs.declared.effect.Effect.{Effect}
 use Rattle.i9_processor.specs.Effect.{writes_in, HasRoomFor, is_restart}
 use Rattle.i9_processor.proofs.Rooms.{room_space}
-use Rattle.i9_machine.specs.Doing.{state_behind, plan_after_step, point_count, bytes_count, reached_lines, reached_count, line_count, HasRoomForStep}
+use Rattle.i9_machine.specs.Doing.{state_behind, plan_after_step, point_count, bytes_count, reached_lines, reached_count, event_in, line_count, HasRoomForStep}
 use Rattle.i9_machine.specs.declared.step.Step.{Step}
 use Rattle.i9_model.specs.declared.run.End.{End}
 use Rattle.i9_machine.specs.declared.line.Line.{Line}
@@ -43,14 +43,16 @@ no_end (Instruction i) s e t = t
 no_end (Faulted inst fault) s e t = t
 no_end (Entered x) s e t = t
 no_end (Interrupted c x) s e t = t
-no_end (Reached x) s e t = t
+no_end (Reached x u) s e t = t
+no_end (Blocked x a) s e t = t
 
 pub no_memory : (k : Kind) (s : State) → TellsRecord k s turns.Memory → ⊥
 no_memory (Instruction i) s t = t
 no_memory (Faulted inst fault) s t = t
 no_memory (Entered x) s t = t
 no_memory (Interrupted c x) s t = t
-no_memory (Reached x) s t = t
+no_memory (Reached x u) s t = t
+no_memory (Blocked x a) s t = t
 
 pub did_steps : (before : Machine) (answer : Turn) (m : Machine) (was plan : Plan) (old new : List Line) (s : State) (k : Kind) → TellsRecord k s answer → Did before answer m was plan old new → Steps before answer m was plan old new
 did_steps before turns.On m was plan old new s k t d = d
@@ -139,7 +141,8 @@ event_lines_of (Instruction i) s = refl
 event_lines_of (Faulted inst fault) s = refl
 event_lines_of (Entered e) s = refl
 event_lines_of (Interrupted c e) s = refl
-event_lines_of (Reached e) s = refl
+event_lines_of (Reached e u) s = refl
+event_lines_of (Blocked e a) s = refl
 
 bytes_long : (e : Event) (s : State) → length (bytes_lines e s) ≡ bytes_count e
 bytes_long (events.Pin x) s = refl
@@ -154,16 +157,17 @@ reached_long (Some e) s = let long = bytes_long e s in omega (arith, long)
 
 -- ---- the schedule
 
-pub no_event : (o : Option Event) → o ≡ None → IfSome o IsInRange
-no_event None is = tt
-no_event (Some e) is = absurd cc
+-- a step that reaches no event
+pub no_event : (plan : Plan) (step : Step) → step.reaches ≡ false → event_in plan step ≡ None
+no_event plan step none = ap (λ (b : Bool). cond b (option_map (λ (t : Timed). t.event) (slice_get plan.events plan.place)) None) none
 
-pub one_event : (o : Option Event) (e : Event) → o ≡ Some e → IsInRange e → IfSome o IsInRange
-one_event None e is fits = absurd cc
-one_event (Some x) e is fits = let same : e ≡ x = sym (inner x e is) in subst IsInRange same fits
-  where
-    inner : (x y : Event) → Some x ≡ Some y → x ≡ y
-    inner x y h = cc
+-- a step that reaches the event that stands there
+pub one_event : (m : Machine) (plan : Plan) (step : Step) (e : Event) → step.reaches ≡ true → event_for m plan ≡ Some e → event_in plan step ≡ Some e
+one_event m plan step e reaches stands =
+    let found = stands_there (state_of m.processor).count (slice_get plan.events plan.place) e stands in
+    ap (λ (b : Bool). cond b (option_map (λ (t : Timed). t.event) (slice_get plan.events plan.place)) None) reaches
+    ∙ ap (option_map (λ (t : Timed). t.event)) found.1
+    ∙ ap (λ (x : Event). Some x) found.2
 
 -- what is answered as no instruction
 pub tells_on : (k : Kind) (s : State) (answer : Turn) → answer ≡ turns.On → TellsRecord k s turns.On → TellsRecord k s answer
@@ -175,13 +179,14 @@ reached_one (Instruction i) s = refl
 reached_one (Faulted inst fault) s = refl
 reached_one (Entered e) s = refl
 reached_one (Interrupted c e) s = refl
-reached_one (Reached e) s = refl
+reached_one (Reached e u) s = refl
+reached_one (Blocked e a) s = refl
 
 -- a schedule behind a step is behind its record
 pub plan_is_behind : (m : Machine) (plan : Plan) (step : Step) (e : Effect) → (is : IsStep m plan step e) → plan_after_step plan step ≡ plan_behind plan (record_of is.kind (state_of m.processor))
 plan_is_behind m plan step e is =
     let s = state_of m.processor in
-    ap (λ (o : Option Event). record plan { place = plan.place + cond (is_some o) 1 0 }) is.event
+    ap (λ (b : Bool). record plan { place = plan.place + cond b 1 0 }) is.reaches
     ∙ ap (λ (n : ℕ). record plan { place = plan.place + n }) (sym (reached_one is.kind s))
 
 stands_within : (m : Machine) (plan : Plan) (e : Event) → event_for m plan ≡ Some e → plan.place < length plan.events
@@ -189,26 +194,23 @@ stands_within m plan e is =
     let found = stands_there (state_of m.processor).count (slice_get plan.events plan.place) e is in
     slice_get_within plan.events plan.place found.0 found.1
 
-none_there : (o : Option Event) → o ≡ None → IsSome o → ⊥
-none_there None none some = let no : false ≡ true = some in cc no
-none_there (Some e) none some = cc none
-
-reaches_within : (m : Machine) (plan : Plan) (k : Kind) → MayCome m.length m.due (event_for m plan) (state_of m.processor) k → IsSome (event_of k) → plan.place < length plan.events
-reaches_within m plan (Instruction i) may some = absurd (none_there None refl some)
-reaches_within m plan (Faulted inst fault) may some = absurd (none_there None refl some)
-reaches_within m plan (Entered e) may some = absurd (none_there None refl some)
-reaches_within m plan (Interrupted c e) may some = absurd (none_there None refl some)
-reaches_within m plan (Reached e) may some = stands_within m plan e may.2
+reaches_within : (m : Machine) (plan : Plan) (k : Kind) → MayCome m.length m.due (event_for m plan) (state_of m.processor) k → is_some (event_of k) ≡ true → plan.place < length plan.events
+reaches_within m plan (Instruction i) may some = absurd cc
+reaches_within m plan (Faulted inst fault) may some = absurd cc
+reaches_within m plan (Entered e) may some = absurd cc
+reaches_within m plan (Interrupted c e) may some = absurd cc
+reaches_within m plan (Reached e u) may some = stands_within m plan e may.2
+reaches_within m plan (Blocked e a) may some = stands_within m plan e may.2
 
 -- a schedule has the event that a step reaches
-pub step_within : (m : Machine) (plan : Plan) (k : Kind) → next_for m plan ≡ Does (record_of k (state_of m.processor)) → IsSome (event_of k) → plan.place < length plan.events
+pub step_within : (m : Machine) (plan : Plan) (k : Kind) → next_for m plan ≡ Does (record_of k (state_of m.processor)) → is_some (event_of k) ≡ true → plan.place < length plan.events
 step_within m plan k is some =
     reaches_within m plan k (next_comes m.length m.due (event_for m plan) (state_of m.processor) (record_of k (state_of m.processor)) is).1 some
 
 -- ---- room
 
 -- room for what comes next is room for the step that does it
-pub step_room : (m : Machine) (plan : Plan) (spare : ℕ) (step : Step) (e : Effect) → IsStep m plan step e → HasRoom m spare (next_for m plan) → HasRoomForStep m spare e step
+pub step_room : (m : Machine) (plan : Plan) (spare : ℕ) (step : Step) (e : Effect) → IsStep m plan step e → HasRoom m spare (next_for m plan) → HasRoomForStep m spare e step (event_in plan step)
 step_room m plan spare step e is room =
     let s = state_of m.processor in
     let r = record_of is.kind s in
@@ -218,9 +220,9 @@ step_room m plan spare step e is room =
     lines_long (console_byte (action_done r).writes) (point_of is.kind) r.after
     ∙ ap (λ (a : Action). length (out_lines (console_byte a.writes)) + point_count (point_of is.kind)) (sym is.effect.same)
     ∙ ap (λ (p : Option Point). length (out_lines bytes) + point_count p) (sym is.point) in
-    let event : length (event_lines is.kind s) ≡ reached_count (step.event) =
+    let event : length (event_lines is.kind s) ≡ reached_count (event_in plan step) =
     ap length (event_lines_of is.kind s) ∙ reached_long (event_of is.kind) s ∙ ap reached_count (sym is.event) in
-    let lines : length (record_lines r) ≡ line_count e step =
+    let lines : length (record_lines r) ≡ line_count e step (event_in plan step) =
     length-append (event_lines is.kind s) (out_lines (console_byte (action_done r).writes) ++ point_lines (point_of is.kind) r.after) ∙ omega (arith, rest, event) in
     record {
       lines = subst (λ (n : ℕ). n ≤ spare) lines here.lines;

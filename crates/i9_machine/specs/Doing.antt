@@ -1,8 +1,9 @@
 -- What a step prints and what it needs, from its effect.
-use Rattle.std.specs.Prelude.{◌≡◌, ℕ, ◌+◌, ◌≤◌, Bool, false, ◌||◌, nat_lt, List, [], ◌∷◌, ◌++◌, length, Option, None, Some, IfSome, is_some, if◌then◌else◌}
+use Rattle.std.specs.Prelude.{◌≡◌, ℕ, ◌+◌, ◌≤◌, Bool, false, ◌||◌, nat_lt, List, [], ◌∷◌, ◌++◌, length, Option, None, Some, if◌then◌else◌}
+use Rattle.std.specs.List.{slice_get}
+use Rattle.std.specs.Option.{option_map}
 use Rattle.i9_model.specs.declared.event.Event.{Event}
 use Rattle.i9_model.specs.declared.event.Event.TheVariants.{Pin, Nmi, Dma, Feed, Show}
-use Rattle.i9_model.specs.Events.{IsInRange}
 use Rattle.i9_model.specs.Memory.{console_byte}
 use Rattle.i9_model.specs.Free.{IsFree}
 use Rattle.i9_model.specs.State.{State}
@@ -12,7 +13,7 @@ use Rattle.i9_processor.specs.State.{state_of}
 use Rattle.i9_model.specs.declared.run.Point.{Point}
 use Rattle.i9_model.specs.PrintedText.{Shown, Journal, bytes_lines, out_lines, point_lines}
 use Rattle.i9_processor.specs.declared.effect.Effect.{Effect}
-use Rattle.i9_processor.specs.Effect.{writes_in, action_in, control_in, AreRegisters, CanPost, CanControl, CanMove, HasSpaceFor, has_writes, is_restart}
+use Rattle.i9_processor.specs.Effect.{writes_in, action_in, control_in, AreRegisters, CanPost, CanChange, CanControl, CanMove, HasSpaceFor, has_writes, is_restart}
 use Rattle.i9_machine.specs.declared.machine.Machine.{Machine}
 use Rattle.i9_machine.specs.declared.step.Step.{Step}
 
@@ -21,9 +22,13 @@ abbrev pub reached_lines : Option Event → State → List Shown
 reached_lines None s = []
 reached_lines (Some event) s = Journal s.count event ∷ bytes_lines event s
 
--- the lines of a step, from the states before and after it
-abbrev pub lines_of : Effect → Step → State → State → List Shown
-lines_of e step s t = reached_lines (step.event) s ++ (out_lines (console_byte (writes_in e)) ++ point_lines (step.point) t)
+-- the event that a step reaches, the next one of a schedule, where it reaches one
+abbrev pub event_in : Plan → Step → Option Event
+event_in plan step = if step.reaches then option_map (λ t. t.event) (slice_get plan.events plan.place) else None
+
+-- the lines of a step that reaches an event or none, from the states before and after it
+abbrev pub lines_of : Effect → Step → Option Event → State → State → List Shown
+lines_of e step event s t = reached_lines event s ++ (out_lines (console_byte (writes_in e)) ++ point_lines (step.point) t)
 
 -- how many bytes lines an event has
 abbrev pub bytes_count : Event → ℕ
@@ -43,18 +48,18 @@ point_count None = 0
 point_count (Some kind) = 1
 
 -- how many lines are printed
-abbrev pub line_count : Effect → Step → ℕ
-line_count e step = reached_count (step.event) + (length (out_lines (console_byte (writes_in e))) + point_count (step.point))
+abbrev pub line_count : Effect → Step → Option Event → ℕ
+line_count e step event = reached_count event + (length (out_lines (console_byte (writes_in e))) + point_count (step.point))
 
 -- it prints lines, stores bytes, saves a frame, or makes new sets
-abbrev pub asks_room : State → Effect → Step → Bool
-asks_room s e step =
-    nat_lt 0 (line_count e step) || (has_writes (action_in s e) || is_restart (action_in s e).control)
+abbrev pub asks_room : State → Effect → Step → Option Event → Bool
+asks_room s e step event =
+    nat_lt 0 (line_count e step event) || (has_writes (action_in s e) || is_restart (action_in s e).control)
 
 -- There is room for a step, with this many lines to spare: for its lines, and for what it stores and saves; and no new
 -- sets are made.
-pub record HasRoomForStep (m : Machine) (spare : ℕ) (e : Effect) (step : Step) : Type 0 where
-  pub lines : line_count e step ≤ spare
+pub record HasRoomForStep (m : Machine) (spare : ℕ) (e : Effect) (step : Step) (event : Option Event) : Type 0 where
+  pub lines : line_count e step event ≤ spare
   pub effect : HasSpaceFor m.processor e
   pub no_sets : is_restart (control_in e.control) ≡ false
 
@@ -62,11 +67,11 @@ pub record HasRoomForStep (m : Machine) (spare : ℕ) (e : Effect) (step : Step)
 pub record IsReady (s : State) (limit : ℕ) (e : Effect) (step : Step) : Type 0 where
   pub registers : AreRegisters e
   pub posts : CanPost e.posting
+  pub changes : CanChange e.dma
   pub moves : CanMove s.frames e.frames
   pub free : IsFree s (action_in s e)
   pub controls : CanControl (moved s (action_in s e)) e.control
   pub below : s.count + step.counts ≤ limit
-  pub event : IfSome step.event IsInRange
 
 -- the action that an effect is for a machine, and the state behind a step
 abbrev pub action_for : Machine → Effect → Action
@@ -80,4 +85,4 @@ state_behind m e step = state_behind_of (state_of m.processor) e step
 
 -- a schedule behind a step
 abbrev pub plan_after_step : Plan → Step → Plan
-plan_after_step plan step = record plan { place = plan.place + (if is_some step.event then 1 else 0) }
+plan_after_step plan step = record plan { place = plan.place + (if step.reaches then 1 else 0) }

@@ -1,12 +1,11 @@
 -- One step of a machine from its own fields, with no word on the records before.
-use Rattle.std.specs.Prelude.{◌≡◌, ℕ, ◌+◌, ◌≤◌, Bool, true, false, ◌||◌, nat_lt, List, length, drop, Option, Some, None, IfSome, Result, Ok, Err}
+use Rattle.std.specs.Prelude.{◌≡◌, ℕ, ◌+◌, ◌≤◌, Bool, true, false, ◌||◌, nat_lt, List, length, drop, Option, Some, None, is_some, Result, Ok, Err}
 use Rattle.i9_isa.specs.Words.{words_of}
 use Rattle.i9_model.specs.State.{State}
 use Rattle.i9_model.specs.declared.event.Event.{Event}
-use Rattle.i9_model.specs.Events.{IsInRange}
 use Rattle.i9_model.specs.ScheduleText.{standing}
 use Rattle.i9_model.specs.Left.{left_in}
-use Rattle.i9_model.specs.Run.{Kind, Instruction, Faulted, Entered, Interrupted, Reached, Record, Next, Does, Ends, next_in, due_by, faulted_words, action_by_kind, counts_of, point_of, record_of, reached_by, action_done}
+use Rattle.i9_model.specs.Run.{Kind, Instruction, Faulted, Entered, Interrupted, Reached, Blocked, Record, Next, Does, Ends, next_in, due_by, faulted_words, action_by_kind, counts_of, point_of, record_of, reached_by, action_done}
 use Rattle.i9_schedule.specs.Plan.{Plan}
 use Rattle.i9_model.specs.Alike.{AreAlike}
 use Rattle.i9_model.specs.PrintedText.{record_lines, end_lines}
@@ -20,6 +19,7 @@ use Rattle.i9_machine.specs.declared.line.Turn.TheVariants as turns
 use Rattle.i9_machine.specs.declared.machine.Machine.{Machine}
 use Rattle.i9_machine.specs.declared.step.Step.{Step}
 use Rattle.i9_machine.specs.Issue.{TellsIssue}
+use Rattle.i9_machine.specs.Doing.{event_in}
 use Rattle.i9_machine.specs.Line.{AddsLines}
 
 -- the event of a schedule that stands there for the machine
@@ -40,7 +40,8 @@ event_of (Instruction i) = None
 event_of (Faulted inst fault) = None
 event_of (Entered e) = None
 event_of (Interrupted c e) = None
-event_of (Reached e) = Some e
+event_of (Reached e u) = Some e
+event_of (Blocked e a) = Some e
 
 -- an instruction is told, also where it faulted; an entry and an event are none
 abbrev pub TellsRecord : Kind → State → Turn → Type 0
@@ -48,7 +49,8 @@ TellsRecord (Instruction i) s (turns.Issued t) = TellsIssue (words_of i) s t
 TellsRecord (Faulted inst fault) s (turns.Issued t) = TellsIssue (faulted_words inst) s t
 TellsRecord (Entered e) s turns.On = Unit {0}
 TellsRecord (Interrupted c e) s turns.On = Unit {0}
-TellsRecord (Reached e) s turns.On = Unit {0}
+TellsRecord (Reached e u) s turns.On = Unit {0}
+TellsRecord (Blocked e a) s turns.On = Unit {0}
 TellsRecord _ s _ = ⊥
 
 -- memory may be needed for a record that prints lines, stores bytes, saves a frame, or makes new sets
@@ -74,7 +76,8 @@ HasRoom m spare (Does r) = HasRoomToDo m spare r
 
 -- ---- what a step is to do
 
--- What comes next is a record of this effect, drained point, event and count, which makes this due and is answered so.
+-- What comes next is a record of this effect, drained point and count, which reaches the next event or none, makes this
+-- due and is answered so.
 pub record IsStep (m : Machine) (plan : Plan) (step : Step) (e : Effect) : Type 0 where
   pub kind : Kind
   pub is_next : next_for m plan ≡ Does (record_of kind (state_of m.processor))
@@ -82,8 +85,8 @@ pub record IsStep (m : Machine) (plan : Plan) (step : Step) (e : Effect) : Type 
   pub point : step.point ≡ point_of kind
   pub counts : step.counts ≡ counts_of kind
   pub due : step.due ≡ due_by kind (state_of m.processor)
-  pub event : step.event ≡ event_of kind
-  pub ranges : IfSome step.event IsInRange
+  pub reaches : step.reaches ≡ is_some (event_of kind)
+  pub event : event_in plan step ≡ event_of kind
   pub tells : TellsRecord kind (state_of m.processor) step.answer
 
 -- what comes next is such a record, or this end

@@ -375,14 +375,17 @@ bytes_alike (events.Dma c) s t alike = refl
 bytes_alike (events.Feed c bytes) s t alike = refl
 bytes_alike (events.Show a n) s t alike = ap (λ (bs : List (Option ℕ)). Bytes a bs ∷ []) (overlays_alike s t a n alike)
 
+journal_alike : (e : Event) (s t : State) → AreAlike s t → ◌≡◌ {A = List Shown} (Journal t.count e ∷ bytes_lines e t) (Journal s.count e ∷ bytes_lines e s)
+journal_alike e s t alike =
+    ap (λ (u : State). Journal u.count e ∷ bytes_lines e t) alike.rest ∙ ap (λ (ls : List Shown). Journal s.count e ∷ ls) (bytes_alike e s t alike)
+
 events_alike : (k : Kind) (s t : State) → AreAlike s t → event_lines k t ≡ event_lines k s
 events_alike (Instruction i) s t alike = refl
 events_alike (Faulted inst fault) s t alike = refl
 events_alike (Entered e) s t alike = refl
 events_alike (Interrupted c e) s t alike = refl
-events_alike (Blocked e a) s t alike = ap (λ (u : State). Journal u.count e ∷ []) alike.rest
-events_alike (Reached e u) s t alike =
-    ap (λ (u : State). Journal u.count e ∷ bytes_lines e t) alike.rest ∙ ap (λ (ls : List Shown). Journal s.count e ∷ ls) (bytes_alike e s t alike)
+events_alike (Reached e u) s t alike = journal_alike e s t alike
+events_alike (Blocked e a) s t alike = journal_alike e s t alike
 
 -- which event was reached
 reached_same : (k : Kind) (s t : State) → AreAlike s t → reached_by k t ≡ reached_by k s

@@ -34,7 +34,7 @@ places_same f g a (suc n) same =
     ap (λ (x : ℕ). f (wrapped x)) (sym next) ∙ same (suc k) (omega arith) ∙ ap (λ (x : ℕ). g (wrapped x)) next) in
     ap (λ (v : ℕ). v ∷ map f (places (a + 1) n)) first ∙ ap (λ (vs : List ℕ). g (wrapped a) ∷ vs) later
 
-bytes_same : (f : Frames) (m : Memory) (bytes : ℕ → ℕ) (c : Channel) (given : Option (List ℕ)) → AgreeWhere (is_hard f) m bytes → unit_hazard f c given ≡ None → unit_bytes (with_other m bytes) c given ≡ unit_bytes m c given
+pub bytes_same : (f : Frames) (m : Memory) (bytes : ℕ → ℕ) (c : Channel) (given : Option (List ℕ)) → AgreeWhere (is_hard f) m bytes → unit_hazard f c given ≡ None → unit_bytes (with_other m bytes) c given ≡ unit_bytes m c given
 unfolding unit_hazard unit_bytes
 bytes_same f m bytes c None same none =
     let read = read_hazard f c.source (unit_length c) in

@@ -61,7 +61,7 @@ event_lines (Faulted inst fault) s = []
 event_lines (Entered e) s = []
 event_lines (Interrupted c e) s = []
 event_lines (Reached e u) s = Journal s.count e ∷ bytes_lines e s
-event_lines (Blocked e a) s = Journal s.count e ∷ []
+event_lines (Blocked e a) s = Journal s.count e ∷ bytes_lines e s
 
 -- the lines of a record: those of an event, from the state before it; a console byte; and a drained point
 abbrev pub record_lines : Record → List Shown

@@ -3,5 +3,6 @@ pub mod Answering
 pub mod WordBytes
 pub mod CallPlans
 pub mod Faulting
+pub mod UnitPlans
 pub mod Outcomes
 pub mod Fetching

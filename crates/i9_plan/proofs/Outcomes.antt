@@ -12,10 +12,10 @@ use Rattle.i9_isa.specs.Transfers.{transfer_of}
 use Rattle.i9_model.specs.declared.arith.Arith.{Arith}
 use Rattle.i9_model.specs.declared.layout.TheConstants.{PRECISE_FAULTS_PLACE}
 use Rattle.i9_model.specs.declared.faults.TheConstants.{CONSTRAINT, RANGE, TYPE, MISMATCH}
-use Rattle.i9_model.specs.State.{State, Interrupts}
+use Rattle.i9_model.specs.State.{State, Interrupts, Dma}
 use Rattle.i9_isa.specs.declared.inst.Operand.{Operand}
 use Rattle.i9_isa.specs.declared.inst.Operand.TheVariants.{Reg, Lit, Sfr}
-use Rattle.i9_model.specs.Operands.{value, assigned, interrupts_assigned}
+use Rattle.i9_model.specs.Operands.{value, assigned, interrupts_assigned, dma_assigned}
 use Rattle.i9_model.specs.Branches.{asks, question_of, is_taken}
 use Rattle.i9_model.specs.Results.{Answer, has_result}
 use Rattle.i9_model.specs.Step.{Action, passing, destination, answer_in, resulting, branching, other_action, action_by_name, action_by, action_of}
@@ -28,7 +28,7 @@ use Rattle.i9_exec.specs.declared.done.Done.{Done}
 use Rattle.i9_exec.specs.Shown.{answer_of}
 use Rattle.i9_processor.specs.declared.effect.Effect.{Effect}
 use Rattle.i9_processor.specs.Effect.{IsEffect}
-use Rattle.i9_plan.specs.Built.{is_branch}
+use Rattle.i9_plan.specs.Names.{is_branch}
 use Rattle.i9_plan.specs.Planned.{IsPlanFor}
 
 -- ---- no name is of two kinds
@@ -88,6 +88,7 @@ is_own Flushreg = true
 is_own Modac = true
 is_own Modtc = true
 is_own Modpc = true
+is_own Sdma = true
 is_own Sysctl = true
 is_own _ = false
 
@@ -115,6 +116,7 @@ plain_action Flushreg i s e = absurd cc
 plain_action Modac i s e = absurd cc
 plain_action Modtc i s e = absurd cc
 plain_action Modpc i s e = absurd cc
+plain_action Sdma i s e = absurd cc
 plain_action Sysctl i s e = absurd cc
 plain_action _ i s e = refl
 
@@ -133,6 +135,7 @@ plain_access Flushreg i s e = absurd cc
 plain_access Modac i s e = absurd cc
 plain_access Modtc i s e = absurd cc
 plain_access Modpc i s e = absurd cc
+plain_access Sdma i s e = absurd cc
 plain_access Sysctl i s e = absurd cc
 plain_access _ i s e = refl
 
@@ -351,6 +354,7 @@ pub record IsOther (op : Op) : Type 0 where
   pub not_modac : op ≡ Modac → ⊥
   pub not_modtc : op ≡ Modtc → ⊥
   pub not_modpc : op ≡ Modpc → ⊥
+  pub not_sdma : op ≡ Sdma → ⊥
   pub not_sysctl : op ≡ Sysctl → ⊥
 
 -- every other name does nothing, where it neither branches nor has a result
@@ -364,11 +368,17 @@ nothing_posted (Reg r) x = refl
 nothing_posted (Lit l) x = refl
 nothing_posted (Sfr k) x = refl
 
+nothing_changed : (o : Operand) (d : Dma) → dma_assigned o [] d ≡ d
+nothing_changed (Reg r) d = refl
+nothing_changed (Lit l) d = refl
+nothing_changed (Sfr k) d = refl
+
 nothing_given : (i : Inst) (s : State) → resulting i s None ≡ passing i s
 nothing_given i s =
     let o = destination i in
-    ap (λ (sets : List (ℕ × ℕ)). record (passing i s) { sets = sets; interrupts = interrupts_assigned o [] s.interrupts }) (nothing_assigned o)
-    ∙ ap (λ (x : Interrupts). record (passing i s) { interrupts = x }) (nothing_posted o s.interrupts)
+    ap (λ (sets : List (ℕ × ℕ)). record (passing i s) { sets = sets; interrupts = interrupts_assigned o [] s.interrupts; dma = dma_assigned o [] s.dma }) (nothing_assigned o)
+    ∙ ap (λ (x : Interrupts). record (passing i s) { interrupts = x; dma = dma_assigned o [] s.dma }) (nothing_posted o s.interrupts)
+    ∙ ap (λ (d : Dma). record (passing i s) { dma = d }) (nothing_changed o s.dma)
 
 not_own : (op : Op) → IsOther op → is_own op ≡ false
 not_own Lda other = absurd (other.not_lda refl)
@@ -385,6 +395,7 @@ not_own Flushreg other = absurd (other.not_flushreg refl)
 not_own Modac other = absurd (other.not_modac refl)
 not_own Modtc other = absurd (other.not_modtc refl)
 not_own Modpc other = absurd (other.not_modpc refl)
+not_own Sdma other = absurd (other.not_sdma refl)
 not_own Sysctl other = absurd (other.not_sysctl refl)
 not_own _ other = refl
 

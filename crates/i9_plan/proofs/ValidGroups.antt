@@ -13,7 +13,7 @@ use Rattle.i9_isa.specs.declared.format.Use.TheVariants.{Unused, Source, Left, R
 use Rattle.i9_isa.specs.Operands.{takes, words_written, starts_group}
 use Rattle.i9_isa.specs.Table.{row_of}
 use Rattle.i9_isa.specs.Valid.{IsValid}
-use Rattle.i9_plan.specs.Built.{HasGroup}
+use Rattle.i9_plan.specs.Names.{HasGroup}
 use Rattle.i9_model.specs.Results.{destination_words}
 use Rattle.i9_model.specs.Step.{destination}
 

@@ -1,2 +1,2 @@
-pub mod Built
+pub mod Names
 pub mod Planned

@@ -12,10 +12,11 @@ use Rattle.i9_model.specs.declared.faults.Fault.{Fault}
 use Rattle.i9_model.specs.declared.faults.Entry.{Entry}
 use Rattle.i9_model.specs.declared.faults.FaultStop.{FaultStop}
 use Rattle.i9_model.specs.State.{State}
+use Rattle.i9_model.specs.declared.event.Event.{Event}
 use Rattle.i9_model.specs.declared.interrupts.Chosen.{Chosen}
 use Rattle.i9_model.specs.Step.{Action, Message, passing, pushing, message_action, entering, action_of, first_word, next_word}
 use Rattle.i9_model.specs.Interrupts.{record_writes}
-use Rattle.i9_model.specs.Before.{interrupt_in, interrupting}
+use Rattle.i9_model.specs.Before.{Received, interrupt_in, interrupting, received_in, receiving}
 use Rattle.i9_model.specs.Access.{Access, message_access, hazard_in, fetch_hazard}
 use Rattle.i9_model.specs.Standing as plain
 use Rattle.i9_model.specs.Run.{entry_in}
@@ -23,6 +24,7 @@ use Rattle.i9_processor.specs.declared.effect.Effect.{Effect}
 use Rattle.i9_processor.specs.declared.effect.Move.{Move}
 use Rattle.i9_processor.specs.declared.effect.Control.{Control}
 use Rattle.i9_processor.specs.declared.effect.Posting.{Posting}
+use Rattle.i9_processor.specs.declared.effect.DmaChange.{DmaChange}
 use Rattle.i9_processor.specs.Effect.{IsEffect, no_requests}
 use Rattle.i9_plan.specs.declared.fetched.Words.{Words}
 use Rattle.i9_plan.specs.declared.fetched.Fetched.{Fetched}
@@ -73,10 +75,11 @@ pub record Passes (s : State) (i : Inst) (e : Effect) : Type 0 where
   pub effect : IsEffect s (passing i s) e
   pub requests : e.requests ≡ no_requests
   pub posting : e.posting ≡ Posting.Keeps
+  pub dma : e.dma ≡ DmaChange.Keeps
   pub frames : e.frames ≡ Move.Stays
   pub control : e.control ≡ Control.Keeps
 
--- what an instruction that is built comes to
+-- what an instruction comes to that is read
 abbrev pub standing_in : Inst → Outcome → plain.Standing
 standing_in i (outcomes.Meets a) = plain.Meets a
 standing_in i outcomes.NotBuilt = plain.NotBuilt
@@ -129,3 +132,11 @@ recording x s = record (pushing s x.push s.ip x.target) { writes = record_writes
 abbrev pub PlansInterrupt : State → Chosen → Result Effect ℕ → Type 0
 PlansInterrupt s c (Ok e) = (x : Entry) × (interrupt_in s c ≡ Ok x) × IsEffect s (interrupting c x s) e
 PlansInterrupt s c (Err a) = interrupt_in s c ≡ Err a
+
+-- what an event does, or the hazard that it meets
+abbrev pub PlansReceived : State → Result Received ℕ → Result Effect ℕ → Type 0
+PlansReceived s received (Ok e) = (u : Received) × (received ≡ Ok u) × IsEffect s (receiving u s) e
+PlansReceived s received (Err a) = received ≡ Err a
+
+abbrev pub PlansEvent : State → Event → Result Effect ℕ → Type 0
+PlansEvent s event r = PlansReceived s (received_in s event) r

@@ -1,4 +1,4 @@
-//! What calls, returns, the entries of faults and interrupts, and events will do.
+//! What calls, returns, and the entries of faults and interrupts will do.
 ghost use Rattle.std.specs.Prelude.{◌≡◌, ◌≤◌, ◌%◌, None};
 ghost use Rattle.i9_model.specs.declared.layout.TheConstants.{FP, PFP, MOST_SYSTEM_CALL};
 ghost use Rattle.i9_model.specs.Hazards.{save_hazard};
@@ -8,8 +8,6 @@ ghost use Rattle.i9_model.specs.Step.{pushing, call_action, calls_action, ret_ac
 ghost use Rattle.i9_model.specs.Access.{SavesAt, CallsSystem, ReturnsBy};
 ghost use Rattle.i9_processor.specs.Effect.{IsEffect, no_requests};
 ghost use Rattle.i9_processor.specs.State.{state_of};
-ghost use Rattle.i9_model.specs.Events.{IsInRange};
-ghost use Rattle.i9_model.specs.Before.{receiving};
 ghost use Rattle.i9_plan.specs.Planned.{IsPlanFor, PlansEntry, PlansInterrupt, recording};
 
 use crate::sources::{following, value};
@@ -19,8 +17,8 @@ use i9_entry::aligned;
 use i9_faults::{Entry, Fault, FaultStop};
 use i9_isa::Inst;
 use i9_model::layout::{RECORD_SIZE, RIP};
-use i9_model::{Chosen, Event};
-use i9_processor::{Control, Effect, Move, Posting, Processor};
+use i9_model::Chosen;
+use i9_processor::{Control, DmaChange, Effect, Move, Posting, Processor};
 
 /// The locals are saved with a return address, and control goes on in a new frame.
 fn pushing(p: &Processor, push: &Push, back: u32, next: u32) -> Effect
@@ -29,6 +27,7 @@ fn pushing(p: &Processor, push: &Push, back: u32, next: u32) -> Effect
     ensures effect { IsEffect (state_of p.now) (pushing (state_of p.now) push.now back next) result }
     ensures requests { result.requests ≡ no_requests }
     ensures posting { result.posting ≡ Posting.Keeps }
+    ensures dma { result.dma ≡ DmaChange.Keeps }
     ensures control { result.control ≡ Control.Keeps }
 {
     let mut effect = Effect::going(p, next);
@@ -85,6 +84,7 @@ fn recording(p: &Processor, e: &Entry) -> Effect
     ensures effect { IsEffect (state_of p.now) (recording e.now (state_of p.now)) result }
     ensures requests { result.requests ≡ no_requests }
     ensures posting { result.posting ≡ Posting.Keeps }
+    ensures dma { result.dma ≡ DmaChange.Keeps }
     ensures control { result.control ≡ Control.Keeps }
 {
     let record = (e.push.frame - e.push.frame % 16).wrapping_sub(RECORD_SIZE);
@@ -127,18 +127,4 @@ pub fn plan_interrupt(p: &Processor, c: &Chosen) -> Result<Effect, u32>
     effect.requests = p.clearing_bytes(c, &entry);
     effect.posting = Posting::Clears(c.cause);
     Ok(effect)
-}
-
-/// What an event does that was reached: it posts its interrupt, or nothing.
-pub fn plan_event(p: &Processor, event: &Event) -> Effect
-    requires { IsInRange event.now }
-    ensures { IsEffect (state_of p.now) (receiving event.now (state_of p.now)) result }
-{
-    let mut effect = Effect::going(p, p.ip());
-    effect.posting = match event {
-        Event::Pin(x) => Posting::Pin(*x),
-        Event::Nmi => Posting::Nmi,
-        Event::Dma(_) | Event::Feed(_, _) | Event::Show(_, _) => Posting::Keeps,
-    };
-    effect
 }

@@ -4,18 +4,18 @@ ghost use Rattle.i9_isa.specs.Valid.{IsValid};
 ghost use Rattle.i9_model.specs.Step.{going, passing, assigning, answering, jumping, linking, faulting};
 ghost use Rattle.i9_model.specs.Run.{faulted_words};
 ghost use Rattle.i9_isa.specs.declared.inst.Operand.TheVariants.{Sfr};
-ghost use Rattle.i9_model.specs.State.{Interrupts};
-ghost use Rattle.i9_model.specs.Operands.{interrupts_assigned};
-ghost use Rattle.i9_processor.specs.Effect.{IsEffect, CanPost, no_requests, posting_in};
+ghost use Rattle.i9_model.specs.State.{Interrupts, Dma};
+ghost use Rattle.i9_model.specs.Operands.{interrupts_assigned, dma_assigned};
+ghost use Rattle.i9_processor.specs.Effect.{IsEffect, CanPost, CanChange, no_requests, posting_in, change_in};
 ghost use Rattle.i9_processor.specs.State.{state_of};
-ghost use Rattle.i9_plan.specs.Built.{HasGroup};
+ghost use Rattle.i9_plan.specs.Names.{HasGroup};
 ghost use Rattle.i9_plan.specs.Planned.{Passes};
 
 use crate::sources::following;
 use arrayvec::ArrayVec;
 use i9_entry::aligned;
 use i9_isa::{Inst, Operand};
-use i9_processor::{Effect, MOST_BYTES, MOST_VALUES, Posting, Processor};
+use i9_processor::{DmaChange, Effect, MOST_BYTES, MOST_VALUES, Posting, Processor};
 
 /// Nothing is done.
 pub(crate) fn passing(p: &Processor, i: &Inst) -> Effect
@@ -51,6 +51,17 @@ pub(crate) fn posting(k: u8, values: &[u32]) -> Posting
     }
 }
 
+/// What is done to DMA where a special function register gets a value: sf2 is the command word.
+pub(crate) fn dma_change(k: u8, values: &[u32]) -> DmaChange
+    ensures same { (d : Dma) → change_in result d ≡ dma_assigned (Sfr k) values.now d }
+    ensures changes { CanChange result }
+{
+    match (k, values) {
+        (2, [v, ..]) => DmaChange::Command(*v),
+        _ => DmaChange::Keeps,
+    }
+}
+
 /// Control goes to an address, and a destination gets values.
 pub(crate) fn assigning(
     p: &Processor,
@@ -68,6 +79,7 @@ pub(crate) fn assigning(
         Operand::Sfr(k) => {
             let mut effect = Effect::going(p, next);
             effect.posting = posting(k, values.as_slice());
+            effect.dma = dma_change(k, values.as_slice());
             effect
         }
     }
@@ -91,7 +103,10 @@ pub(crate) fn assign(
             effect.values = values;
         }
         Operand::Lit(_) => {}
-        Operand::Sfr(k) => effect.posting = posting(k, values.as_slice()),
+        Operand::Sfr(k) => {
+            effect.posting = posting(k, values.as_slice());
+            effect.dma = dma_change(k, values.as_slice());
+        }
     }
 }
 

@@ -2,10 +2,12 @@
 //! a processor stands for, and changes nothing.
 #![tactic(auto)]
 
-mod built;
 mod calls;
+mod dma;
 mod effects;
+mod events;
 mod fetched;
+mod names;
 mod outcome;
 mod planned;
 mod raised;
@@ -14,8 +16,9 @@ mod system;
 mod transfers;
 mod words;
 
-pub use calls::{plan_entry, plan_event, plan_interrupt};
+pub use calls::{plan_entry, plan_interrupt};
 pub use effects::plan_faulting;
+pub use events::plan_event;
 pub use fetched::Words;
 pub use planned::{Planned, plan_next};
 

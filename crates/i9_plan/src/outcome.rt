@@ -1,4 +1,4 @@
-//! What an instruction that is built comes to.
+//! What an instruction comes to that is read.
 ghost use Rattle.std.specs.Prelude.{◌≡◌, ◌&&◌, None, Some, true, false, length};
 ghost use Rattle.i9_isa.specs.Valid.{IsValid};
 ghost use Rattle.i9_exec.specs.Shown.{answer_of};
@@ -10,12 +10,13 @@ ghost use Rattle.i9_model.specs.Step.{Flushes, passing, destination, resulting, 
 ghost use Rattle.i9_model.specs.Standing.{is_fault_name, raised_in, by_raised};
 ghost use Rattle.i9_processor.specs.Effect.{IsEffect};
 ghost use Rattle.i9_processor.specs.State.{state_of};
-ghost use Rattle.i9_plan.specs.Built.{is_branch};
+ghost use Rattle.i9_plan.specs.Names.{is_branch};
 ghost use Rattle.i9_plan.specs.Planned.{standing_in, HasEffect, IsPlanFor, Plans, Passes, Moves};
 
-use crate::built::{is_branch, is_fault_name};
+use crate::names::{is_branch, is_fault_name};
 use crate::calls::{plan_call, plan_calls, plan_return};
-use crate::effects::{answering, jumping, linking, passing, posting};
+use crate::dma::plan_sdma;
+use crate::effects::{answering, dma_change, jumping, linking, passing, posting};
 use crate::raised::{arithmetic_fault, mismatches, raised_in};
 use crate::sources::{address, answer, target, value};
 use crate::system::{plan_message, plan_modac, plan_modpc, plan_modtc};
@@ -64,7 +65,10 @@ fn resulting(p: &Processor, i: &Inst, done: Done, effect: &mut Effect)
             effect.values = done.values;
         }
         Operand::Lit(_) => {}
-        Operand::Sfr(k) => effect.posting = posting(k, done.values.as_slice()),
+        Operand::Sfr(k) => {
+            effect.posting = posting(k, done.values.as_slice());
+            effect.dma = dma_change(k, done.values.as_slice());
+        }
     }
 }
 
@@ -166,6 +170,7 @@ fn plan_by_name(p: &Processor, i: &Inst) -> Result<Effect, u32>
         Op::Modac => Ok(plan_modac(p, i)),
         Op::Modtc => Ok(plan_modtc(p, i)),
         Op::Modpc => Ok(plan_modpc(p, i)),
+        Op::Sdma => Ok(plan_sdma(p, i)),
         Op::Sysctl => plan_message(p, i),
         _ => Ok(passing(p, i)),
     }
@@ -227,7 +232,7 @@ fn plain_outcome(p: &Processor, i: &Inst, effect: &mut Effect) -> Outcome
     }
 }
 
-/// What an instruction comes to that is built, with its effect in the place of one that passes. An
+/// What an instruction comes to that is read, with its effect in the place of one that passes. An
 /// instruction with a result or a condition raises nothing before, but for a special function register
 /// that it uses outside supervisor mode.
 // Others call it, so that the effect stays where it is and is not moved piece by piece.

@@ -4,7 +4,6 @@ ghost use Rattle.i9_model.specs.Standing.{stands_at};
 ghost use Rattle.i9_processor.specs.State.{state_of};
 ghost use Rattle.i9_plan.specs.Planned.{standing_of, IsFetched, IsPlanned};
 
-use crate::built::is_built;
 use crate::effects::pass;
 use crate::fetched::{Fetched, Unread, Words, fetch};
 use crate::outcome::{Outcome, outcome_of};
@@ -72,7 +71,7 @@ pub fn plan_next(p: &Processor, effect: &mut Effect) -> Planned
         Ok(fetched) => fetched,
         Err(why) => return unread(p, why),
     };
-    if bit(p.pc(), TRACE_ENABLE_PLACE) || !is_built(&inst) {
+    if bit(p.pc(), TRACE_ENABLE_PLACE) {
         return Planned::NotBuilt;
     }
     pass(p, &inst, effect);

@@ -8,7 +8,7 @@ ghost use Rattle.i9_model.specs.Standing.{word_fault, arithmetic_fault, raised_i
 ghost use Rattle.i9_processor.specs.State.{state_of};
 ghost use Rattle.i9_plan.specs.Planned.{Moves};
 
-use crate::built::uses_special;
+use crate::names::uses_special;
 use crate::sources::{atomic_address, value};
 use crate::transfers::Moving;
 use crate::words::bit;

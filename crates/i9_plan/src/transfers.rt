@@ -10,7 +10,7 @@ ghost use Rattle.i9_model.specs.Access.{Reads, Writes, Changes, moved_access};
 ghost use Rattle.i9_model.specs.Step.{extended, filled, loaded, stored_of, loading, storing, transferring, bytes_of_words};
 ghost use Rattle.i9_model.specs.Step.{atomic_address, atomic, merged, answering};
 ghost use Rattle.i9_processor.specs.State.{state_of};
-ghost use Rattle.i9_plan.specs.Built.{HasGroup};
+ghost use Rattle.i9_plan.specs.Names.{HasGroup};
 ghost use Rattle.i9_plan.specs.Planned.{IsPlanFor, Plans, Passes, Moves};
 
 use crate::effects::{answering, append, assign, listed, one_word};

@@ -5,8 +5,10 @@ use Rattle.i9_model.specs.declared.layout.TheConstants.{LOCALS}
 use Rattle.i9_model.specs.Writes.{pairs_at, upwards}
 use Rattle.i9_model.specs.Memory.{Memory, words_in}
 use Rattle.i9_model.specs.Boot.{setup_of}
-use Rattle.i9_model.specs.State.{State, Frames, Interrupts, frame_sets}
-use Rattle.i9_model.specs.Operands.{with_pending, with_mask}
+use Rattle.i9_model.specs.declared.interrupts.TheConstants.{FIRST_DMA_LINE}
+use Rattle.i9_model.specs.State.{State, Frames, Interrupts, Dma, frame_sets}
+use Rattle.i9_model.specs.Dma.{set_up, dma_behind}
+use Rattle.i9_model.specs.Operands.{with_pending, with_mask, with_command}
 use Rattle.i9_model.specs.Interrupts.{posted, posted_nmi, cleared}
 use Rattle.i9_model.specs.Hazards.{save_hazard}
 use Rattle.i9_model.specs.Tables.{tables_hazard, group_hazard}
@@ -21,6 +23,9 @@ use Rattle.i9_processor.specs.declared.effect.Move.TheVariants as moves
 use Rattle.i9_processor.specs.declared.effect.Requests.{Requests}
 use Rattle.i9_processor.specs.declared.effect.Posting.{Posting}
 use Rattle.i9_processor.specs.declared.effect.Posting.TheVariants as postings
+use Rattle.i9_dma.specs.Channels.{channel_of}
+use Rattle.i9_processor.specs.declared.effect.DmaChange.{DmaChange}
+use Rattle.i9_processor.specs.declared.effect.DmaChange.TheVariants as changes
 use Rattle.i9_processor.specs.declared.effect.Control.{Control}
 use Rattle.i9_processor.specs.declared.effect.Control.TheVariants as controls
 use Rattle.i9_processor.specs.declared.effect.Effect.{Effect}
@@ -57,10 +62,18 @@ sets_in s e = sets_by s e.frames (group_in e)
 abbrev pub posting_in : Posting → Interrupts → Interrupts
 posting_in postings.Keeps i = i
 posting_in (postings.Pin x) i = posted i x
+posting_in (postings.Dma c) i = posted i (FIRST_DMA_LINE + c)
 posting_in postings.Nmi i = posted_nmi i
 posting_in (postings.Clears c) i = cleared c i
 posting_in (postings.Pending v) i = with_pending i v
 posting_in (postings.Mask v) i = with_mask i v
+
+-- what is done to DMA
+abbrev pub change_in : DmaChange → Dma → Dma
+change_in changes.Keeps d = d
+change_in (changes.Command v) d = with_command d v
+change_in (changes.SetsUp c channel) d = set_up d c (channel_of channel)
+change_in (changes.Passes c) d = dma_behind d c
 
 -- bytes with bits of requests, each with its address
 abbrev pub one_in : Option (ℕ × ℕ) → List (ℕ × ℕ)
@@ -80,7 +93,7 @@ run_in e = upwards e.address e.bytes.items
 abbrev pub writes_in : Effect → List (ℕ × ℕ)
 writes_in e = run_in e ++ requests_in e.requests
 
--- the action of an effect in a state; DMA stays as it is
+-- the action of an effect in a state
 abbrev pub action_in : State → Effect → plain.Action
 action_in s e = record {
   sets = sets_in s e;
@@ -91,7 +104,7 @@ action_in s e = record {
   tc = e.tc;
   check = e.check;
   interrupts = posting_in e.posting s.interrupts;
-  dma = s.dma;
+  dma = change_in e.dma s.dma;
   control = control_in e.control;
   next = e.next;
 }
@@ -100,10 +113,16 @@ action_in s e = record {
 abbrev pub AreRegisters : Effect → Type 0
 AreRegisters e = e.register + length e.values.items ≤ 32
 
--- a pin is one of eight
+-- a pin is one of eight, and a channel one of four
 abbrev pub CanPost : Posting → Type 0
 CanPost (postings.Pin x) = x < 8
+CanPost (postings.Dma c) = c < 4
 CanPost _ = Unit {0}
+
+abbrev pub CanChange : DmaChange → Type 0
+CanChange (changes.SetsUp c channel) = c < 4
+CanChange (changes.Passes c) = c < 4
+CanChange _ = Unit {0}
 
 -- a frame that is saved meets no hazard
 abbrev pub CanMove : Frames → Move → Type 0
@@ -123,6 +142,7 @@ pub record IsEffect (s : State) (action : plain.Action) (e : Effect) : Type 0 wh
   pub same : action_in s e ≡ action
   pub registers : AreRegisters e
   pub posts : CanPost e.posting
+  pub changes : CanChange e.dma
   pub moves : CanMove s.frames e.frames
   pub controls : CanControl (plain.moved s action) e.control
 

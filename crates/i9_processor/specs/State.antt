@@ -1,8 +1,9 @@
--- The state that a processor stands for. What it does not keep yet is as after boot.
+-- The state that a processor stands for.
 use Rattle.std.specs.Prelude.{ℕ, List, slice_index}
 use Rattle.i9_ints.specs.Ints.{interrupts_of}
+use Rattle.i9_dma.specs.Channels.{dma_of}
 use Rattle.i9_storage.specs.Storage as storage
-use Rattle.i9_model.specs.State.{State, no_dma}
+use Rattle.i9_model.specs.State.{State}
 use Rattle.i9_model.specs.HeldFrames.{Cache}
 use Rattle.i9_processor.specs.declared.processor.Processor.{Processor}
 
@@ -21,7 +22,7 @@ state_of p = record {
   memory = storage.memory_in p.storage;
   frames = storage.frames_in p.storage;
   interrupts = interrupts_of p.ints;
-  dma = no_dma;
+  dma = dma_of p.channels;
   trace = record { tc = p.tc; breaks = p.breaks };
   tables = p.tables;
 }

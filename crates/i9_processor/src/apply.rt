@@ -12,15 +12,16 @@ ghost use Rattle.i9_model.specs.Alike.{AreAlike};
 ghost use Rattle.i9_model.specs.HeldFrames.{overlaid, cache_moved, cache_acted, cache_configured, cache_stored};
 ghost use Rattle.i9_storage.specs.Storage as stores;
 ghost use Rattle.i9_storage.specs.Storage.{HasSpace, KeepsSpace, KeepsFrameSpace};
-ghost use Rattle.i9_processor.specs.Effect.{action_in, one_in, requests_in, run_in, writes_in, posting_in, move_in, sets_in, control_in, cache_through, size_with, is_costly, has_writes};
-ghost use Rattle.i9_processor.specs.Effect.{AreRegisters, AreSpacious, CanPost, CanControl, CanMove, HasMoveSpace, HasSpaceFor, IsEmptied, CanTake};
+ghost use Rattle.i9_processor.specs.Effect.{action_in, one_in, requests_in, run_in, writes_in, posting_in, change_in, move_in, sets_in, control_in, cache_through, size_with, is_costly, has_writes};
+ghost use Rattle.i9_processor.specs.Effect.{AreRegisters, AreSpacious, CanPost, CanChange, CanControl, CanMove, HasMoveSpace, HasSpaceFor, IsEmptied, CanTake};
 
-use crate::effect::{Control, Effect, Move, Posting, Requests};
+use crate::effect::{Control, DmaChange, Effect, Move, Posting, Requests};
 use crate::processor::Processor;
 use crate::registers::{set_frame, set_group};
 use crate::start::{
     start_breaks, start_interrupts, start_registers, start_trace_controls, tables_of,
 };
+use i9_dma::{Channel, Channels};
 use i9_entry::aligned;
 use i9_frames::{Frame, Sets};
 use i9_isa::NoMemory;
@@ -196,6 +197,7 @@ impl Processor {
         self.tc = start_trace_controls(setup);
         self.check = false;
         self.ints = start_interrupts(setup);
+        self.channels = Channels::new();
         self.breaks = start_breaks(setup);
         self.tables = tables_of(setup);
     }
@@ -322,9 +324,37 @@ impl Processor {
             Posting::Keeps => {}
             Posting::Pin(x) => self.ints.post_pin(x),
             Posting::Nmi => self.ints.post_nmi(),
+            Posting::Dma(c) => self.ints.post_dma(c),
             Posting::Clears(cause) => self.ints.clear(cause),
             Posting::Pending(v) => self.ints.set_pending(v),
             Posting::Mask(v) => self.ints.set_mask(v),
+        }
+    }
+
+    /// Does what is done to DMA.
+    #[tactic(auto, unfolding(crate::specs::State::state_of, crate::specs::State::cache_of, crate::specs::State::size_of))]
+    fn change_dma(&mut self, change: DmaChange)
+        requires { CanChange change }
+        ensures state { state_of self.new ≡ record (state_of self.old) { dma = change_in change (state_of self.old).dma } }
+        ensures cache { cache_of self.new ≡ cache_of self.old }
+        ensures size { size_of self.new ≡ size_of self.old }
+        ensures storage { self.new.storage ≡ self.old.storage }
+    {
+        match change {
+            DmaChange::Keeps => {}
+            DmaChange::Command(v) => self.channels.set_dmac(v),
+            DmaChange::SetsUp(c, channel) => {
+                let Channel {
+                    control,
+                    count,
+                    source,
+                    target,
+                } = channel;
+                self.channels.setup(c, control, count, source, target);
+            }
+            DmaChange::Passes(c) => {
+                let _ = self.channels.pass_unit(c);
+            }
         }
     }
 
@@ -333,6 +363,7 @@ impl Processor {
     fn do_moves(&mut self, e: &Effect)
         requires registers { AreRegisters e.now }
         requires posts { CanPost e.now.posting }
+        requires changes { CanChange e.now.dma }
         requires can { CanMove (state_of self.old).frames e.now.frames }
         requires space { HasSpaceFor self.old e.now }
         requires free { IsFree (state_of self.old) (action_in (state_of self.old) e.now) }
@@ -347,6 +378,7 @@ impl Processor {
         self.move_frames(e);
         store_bytes(&mut self.storage, e);
         self.post(e.posting);
+        self.change_dma(e.dma);
         self.ac = e.ac;
         self.pc = e.pc;
         self.tc = e.tc;
@@ -385,6 +417,7 @@ impl Processor {
     pub fn apply(&mut self, e: &Effect, counts: u64, sets: Option<Sets>)
         requires registers { AreRegisters e.now }
         requires posts { CanPost e.now.posting }
+        requires changes { CanChange e.now.dma }
         requires can { CanMove (state_of self.old).frames e.now.frames }
         requires space { HasSpaceFor self.old e.now }
         requires free { IsFree (state_of self.old) (action_in (state_of self.old) e.now) }

@@ -7,6 +7,7 @@ ghost use Rattle.i9_processor.specs.Effect.{one_in};
 
 use crate::processor::Processor;
 use arrayvec::ArrayVec;
+use i9_dma::Channel;
 use i9_model::layout::{CONSOLE, EXIT_WORD};
 use i9_model::{Cause, Push};
 
@@ -58,6 +59,8 @@ pub enum Posting {
     Pin(u8),
     /// The interrupt that is never masked is posted.
     Nmi,
+    /// The interrupt of the DMA channel of this number, 0 to 3, is posted.
+    Dma(u8),
     /// What chose an interrupt is not posted any more.
     Clears(Cause),
     /// The pending word is set.
@@ -66,10 +69,23 @@ pub enum Posting {
     Mask(u32),
 }
 
+/// What is done to DMA.
+#[derive(Clone, Copy, Debug, PartialEq, Eq)]
+pub enum DmaChange {
+    /// Nothing.
+    Keeps,
+    /// The command word is set.
+    Command(u32),
+    /// The channel of this number, 0 to 3, is set up.
+    SetsUp(u8, Channel),
+    /// The channel of this number, 0 to 3, goes behind its next unit, whose bytes are moved.
+    Passes(u8),
+}
+
 /// The values that go to registers from one up, where nothing is done to frames; the bytes that are
 /// stored from an address on, and then those with bits of requests, each at an address of its own;
 /// what is done to frames; the arithmetic, process and trace controls and the check flag afterwards;
-/// what is done to the other controls and to interrupts; and the next instruction address.
+/// what is done to the other controls, to interrupts and to DMA; and the next instruction address.
 #[derive(Debug, Drop)]
 pub struct Effect {
     pub register: u8,
@@ -83,6 +99,7 @@ pub struct Effect {
     pub tc: u32,
     pub check: bool,
     pub posting: Posting,
+    pub dma: DmaChange,
     pub control: Control,
     pub next: u32,
 }
@@ -157,6 +174,7 @@ impl Effect {
         ensures requests { result.requests ≡ no_requests }
         ensures frames { result.frames ≡ Move.Stays }
         ensures posting { result.posting ≡ Posting.Keeps }
+        ensures dma { result.dma ≡ DmaChange.Keeps }
         ensures control { result.control ≡ Control.Keeps }
     {
         Effect {
@@ -171,6 +189,7 @@ impl Effect {
             tc: processor.tc(),
             check: false,
             posting: Posting::Keeps,
+            dma: DmaChange::Keeps,
             control: Control::Keeps,
             next,
         }
@@ -184,6 +203,7 @@ impl Effect {
         ensures requests { result.requests ≡ no_requests }
         ensures frames { result.frames ≡ Move.Stays }
         ensures posting { result.posting ≡ Posting.Keeps }
+        ensures dma { result.dma ≡ DmaChange.Keeps }
         ensures control { result.control ≡ Control.Keeps }
     {
         Effect::setting(processor, next, 0, ArrayVec::new())
@@ -196,6 +216,7 @@ impl Effect {
         ensures requests { result.requests ≡ no_requests }
         ensures frames { result.frames ≡ Move.Stays }
         ensures posting { result.posting ≡ Posting.Keeps }
+        ensures dma { result.dma ≡ DmaChange.Keeps }
         ensures control { result.control ≡ Control.Keeps }
     {
         Effect {
@@ -210,6 +231,7 @@ impl Effect {
             tc: 0,
             check: false,
             posting: Posting::Keeps,
+            dma: DmaChange::Keeps,
             control: Control::Keeps,
             next: 0,
         }
@@ -223,6 +245,7 @@ impl Effect {
         ensures requests { self.new.requests ≡ no_requests }
         ensures frames { self.new.frames ≡ Move.Stays }
         ensures posting { self.new.posting ≡ Posting.Keeps }
+        ensures dma { self.new.dma ≡ DmaChange.Keeps }
         ensures control { self.new.control ≡ Control.Keeps }
     {
         self.register = 0;
@@ -236,6 +259,7 @@ impl Effect {
         self.tc = processor.tc();
         self.check = false;
         self.posting = Posting::Keeps;
+        self.dma = DmaChange::Keeps;
         self.control = Control::Keeps;
         self.next = next;
     }

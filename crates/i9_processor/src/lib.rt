@@ -9,7 +9,7 @@ mod processor;
 mod registers;
 mod start;
 
-pub use effect::{Control, Effect, MOST_BYTES, MOST_VALUES, Move, Posting, Requests};
+pub use effect::{Control, DmaChange, Effect, MOST_BYTES, MOST_VALUES, Move, Posting, Requests};
 pub use processor::Processor;
 
 #[cfg(test)]

@@ -13,6 +13,7 @@ use crate::start::{
     start_breaks, start_interrupts, start_registers, start_trace_controls, tables_of,
 };
 use i9_boot::{REGISTER_CACHE, boot, sets_asked};
+use i9_dma::Channels;
 use i9_entry::aligned;
 use i9_hex::Segments;
 use i9_ints::Ints;
@@ -24,8 +25,8 @@ use i9_storage::Storage;
 use std::alloc::Global;
 
 /// All that an instruction may read or change: the registers and the controls, whether the next choice
-/// of an interrupt looks at what software asks for, the interrupts that are posted, the tables that the
-/// processor goes by, the count of instructions, and the storage with its frames.
+/// of an interrupt looks at what software asks for, the interrupts that are posted, the DMA channels, the
+/// tables that the processor goes by, the count of instructions, and the storage with its frames.
 #[derive(Drop)]
 pub struct Processor {
     pub(crate) regs: [u32; 32],
@@ -35,6 +36,7 @@ pub struct Processor {
     pub(crate) tc: u32,
     pub(crate) check: bool,
     pub(crate) ints: Ints,
+    pub(crate) channels: Channels,
     pub(crate) breaks: Breaks,
     pub(crate) tables: Tables,
     pub(crate) count: u64,
@@ -80,6 +82,7 @@ impl Processor {
             tc: start_trace_controls(&setup),
             check: false,
             ints: start_interrupts(&setup),
+            channels: Channels::new(),
             breaks: start_breaks(&setup),
             tables: tables_of(&setup),
             count: 0,

@@ -1,5 +1,5 @@
 -- What is planned by reads that meet no hazard is planned by the memory behind the held frames.
-use Rattle.std.proofs.Common.{◌≡◌, ℕ, false, List, None, Result, Ok, Err, sym, ap, ◌∙◌, subst, arith}
+use Rattle.std.proofs.Common.{◌≡◌, ℕ, false, cond, List, Option, None, Some, Result, Ok, Err, sym, ap, ◌∙◌, subst, arith}
 use Rattle.std.specs.Prelude.{not, IfOk}
 use Rattle.std.proofs.lemmas.Bool.{or_right}
 use Rattle.i9_model.specs.declared.faults.Fault.{Fault}
@@ -8,7 +8,8 @@ use Rattle.i9_model.specs.declared.push.Push.{Push}
 use Rattle.i9_model.specs.declared.interrupts.Chosen.{Chosen}
 use Rattle.i9_model.specs.Memory as model
 use Rattle.i9_model.specs.Memory.{half_in, word_in, with_writes}
-use Rattle.i9_model.specs.State.{Frames, Interrupts}
+use Rattle.i9_model.specs.State.{Frames, Interrupts, Dma}
+use Rattle.i9_model.specs.Dma.{is_idle, unit_hazard, unit_bytes}
 use Rattle.i9_model.specs.Hazards.{or_else, unless, read_hazard, save_hazard, record_write_hazard}
 use Rattle.i9_model.specs.Requests.{request_hazard, request_writes}
 use Rattle.i9_model.specs.Interrupts.{chosen_soft, clearing_writes, vector_place, interrupt_push, interrupt_record, record_writes, cleared_hazard, interrupt_hazard, interrupt_entry, planned_interrupt}
@@ -22,12 +23,14 @@ use Rattle.i9_model.proofs.HeldFrames.{hard_behind}
 use Rattle.i9_model.proofs.Readings.{half_same, word_same}
 use Rattle.i9_model.proofs.AlikeFetches.{unless_same, planned_calls_same, planned_ret_same, planned_fault_same}
 use Rattle.i9_model.proofs.AlikeActions.{request_same}
+use Rattle.i9_model.proofs.Units.{bytes_same}
 use Rattle.i9_model.proofs.AlikeInterrupts.{chosen_soft_same, planned_same, cleared_same}
 use Rattle.i9_memory.specs.declared.memory.Memory.{Memory}
 use Rattle.i9_memory.specs.Memory.{memory_of}
 use Rattle.i9_watch.specs.declared.watch.Watch.{Watch}
 use Rattle.i9_watch.specs.Watch.{frames_of}
 use Rattle.i9_frames.specs.Sets.{Held}
+use Rattle.i9_dma.specs.Units.{planned_bytes}
 use Rattle.i9_storage.specs.Kept.{cache_in, IsKept}
 use Rattle.i9_storage.proofs.HeldBytes.{laid_other}
 
@@ -132,3 +135,18 @@ request_laid m w h table v kept =
     sym (unless_same hazard (request_writes (memory_of m) table v) (request_writes (with_other (memory_of m) (overlaid c).bytes) table v)
     (λ none. request_same f (memory_of m) (overlaid c).bytes table v (hard_behind c f kept.sound kept.youngest) none))
     ∙ ap (λ (x : model.Memory). unless hazard (request_writes x table v)) (laid_other c)
+
+-- ---- DMA
+
+pub unit_laid : (m : Memory) (w : Watch) (h : Held) (d : Dma) (k : ℕ) (given : Option (List ℕ)) → IsKept m w h
+    → planned_bytes (memory_of m) (frames_of w) d k given ≡ planned_bytes (overlaid (cache_in m h)) (frames_of w) d k given
+unfolding planned_bytes
+unit_laid m w h d k given kept =
+    let c = cache_in m h in
+    let f = frames_of w in
+    let channel = d.channels k in
+    let hazard = unit_hazard f channel given in
+    let other = with_other (memory_of m) (overlaid c).bytes in
+    sym (ap (cond (is_idle d k given) (Ok None)) (unless_same hazard (Some (unit_bytes (memory_of m) channel given)) (Some (unit_bytes other channel given))
+    (λ none. ap (λ (bs : List ℕ). Some bs) (bytes_same f (memory_of m) (overlaid c).bytes channel given (hard_behind c f kept.sound kept.youngest) none))))
+    ∙ ap (λ (x : model.Memory). cond (is_idle d k given) (Ok None) (unless hazard (Some (unit_bytes x channel given)))) (laid_other c)

@@ -1,6 +1,6 @@
 //! A step done, or an end answered, once there is room for what it needs.
-ghost use Rattle.std.specs.Prelude.{◌≡◌, ◌+◌, ◌-◌, ◌<◌, ◌≤◌, ◌^◌, ◌++◌, None, IfSome, IsSome, IfOk, OnOk, OnErr, vec_len, vec_capacity, length, nat_lt, true};
-ghost use Rattle.std.specs.Option.{option_map};
+ghost use Rattle.std.specs.Prelude.{◌≡◌, ◌+◌, ◌-◌, ◌<◌, ◌≤◌, ◌^◌, ◌++◌, None, IfSome, IfOk, OnOk, OnErr, vec_len, vec_capacity, length, nat_lt, true};
+ghost use Rattle.std.specs.Option.{option_copied, option_map};
 ghost use Rattle.i9_model.specs.State.{State};
 ghost use Rattle.i9_model.specs.Memory.{console_byte};
 ghost use Rattle.i9_model.specs.Free.{IsFree};
@@ -94,11 +94,11 @@ fn shown(p: &Processor, a: u32, n: u8) -> ArrayVec<Option<u8>, MOST_SHOWN>
 }
 
 /// Adds the lines of an event that is reached, where one is.
-fn put_event(event: &Option<Event>, p: &Processor, out: &mut Vec<Line>)
-    requires room { vec_len out.old + reached_count event.now ≤ vec_capacity out.old }
-    requires ranges { IfSome event.now IsInRange }
-    ensures lines { AddsLines out.old.items out.new.items (reached_lines event.now (state_of p.now)) }
-    ensures len { vec_len out.new ≡ vec_len out.old + reached_count event.now }
+fn put_event(event: Option<&Event>, p: &Processor, out: &mut Vec<Line>)
+    requires room { vec_len out.old + reached_count (option_copied event) ≤ vec_capacity out.old }
+    requires ranges { IfSome event (λ e. IsInRange e.now) }
+    ensures lines { AddsLines out.old.items out.new.items (reached_lines (option_copied event) (state_of p.now)) }
+    ensures len { vec_len out.new ≡ vec_len out.old + reached_count (option_copied event) }
     ensures capacity { vec_capacity out.old ≤ vec_capacity out.new }
 {
     let Some(event) = event else {
@@ -117,8 +117,8 @@ fn put_event(event: &Option<Event>, p: &Processor, out: &mut Vec<Line>)
 }
 
 /// How many lines an event has that is reached, where one is.
-fn reached_count(event: &Option<Event>) -> usize
-    ensures { result ≡ reached_count event.now }
+fn reached_count(event: Option<&Event>) -> usize
+    ensures { result ≡ reached_count (option_copied event) }
 {
     match event {
         None => 0,
@@ -130,21 +130,22 @@ fn reached_count(event: &Option<Event>) -> usize
 impl Step {
     ghost use Rattle.i9_machine.specs.Doing.{line_count};
 
-    /// How many lines it prints: those of an event, a byte of the console, and a drained point.
-    fn line_count(&self, effect: &Effect) -> usize
-        ensures { result ≡ line_count effect.now self.now }
+    /// How many lines it prints: those of an event that it reaches, a byte of the console, and a drained
+    /// point.
+    fn line_count(&self, effect: &Effect, event: Option<&Event>) -> usize
+        ensures { result ≡ line_count effect.now self.now (option_copied event) }
     {
         let console = usize::from(effect.console_byte().is_some());
-        reached_count(&self.event) + (console + usize::from(self.point.is_some()))
+        reached_count(event) + (console + usize::from(self.point.is_some()))
     }
 }
 
 /// A schedule goes on behind the event that a step reaches, where it reaches one.
 fn go_on(step: &Step, plan: &mut Schedule)
-    requires { IsSome step.now.event → plan.old.place < length plan.old.events }
+    requires { step.now.reaches ≡ true → plan.old.place < length plan.old.events }
     ensures { plan.new ≡ plan_after_step plan.old step.now }
 {
-    if step.event.is_some() {
+    if step.reaches {
         plan.step();
     }
 }
@@ -194,29 +195,38 @@ impl Machine {
         &mut self,
         step: &Step,
         effect: &Effect,
+        event: Option<&Event>,
         out: &mut Vec<Line>,
     ) -> Result<Option<Sets>, NoMemory>
         ensures same { IsSame self.old self.new }
         ensures ended { self.new.ended ≡ self.old.ended }
         ensures items { out.new.items ≡ out.old.items }
         ensures space { OnOk result (HasSpaceFor self.new.processor effect.now) }
-        ensures lines { OnOk result (vec_len out.new + line_count effect.now step.now ≤ vec_capacity out.new) }
+        ensures lines { OnOk result (vec_len out.new + line_count effect.now step.now (option_copied event) ≤ vec_capacity out.new) }
         ensures made { IfOk result (AreMade self.old.sets (state_of self.old.processor).memory effect.now.control) }
-        ensures needed { OnErr result (asks_room (state_of self.old.processor) effect.now step.now ≡ true) }
-        ensures lacking { OnErr result (HasRoomForStep self.old (vec_capacity out.old - vec_len out.old) effect.now step.now → ⊥) }
+        ensures needed { OnErr result (asks_room (state_of self.old.processor) effect.now step.now (option_copied event) ≡ true) }
+        ensures lacking { OnErr result (HasRoomForStep self.old (vec_capacity out.old - vec_len out.old) effect.now step.now (option_copied event) → ⊥) }
     {
         let sets = self.make_sets(effect.control)?;
         self.processor.reserve(effect)?;
-        reserve_lines(step.line_count(effect), out)?;
+        reserve_lines(step.line_count(effect, event), out)?;
         Ok(sets)
     }
 
     /// Does what is planned, prints its lines, and keeps what is due afterwards.
-    fn act(&mut self, step: &Step, effect: &Effect, sets: Option<Sets>, out: &mut Vec<Line>) -> Turn
+    fn act(
+        &mut self,
+        step: &Step,
+        effect: &Effect,
+        event: Option<&Event>,
+        sets: Option<Sets>,
+        out: &mut Vec<Line>,
+    ) -> Turn
         requires ready { IsReady (state_of self.old.processor) self.old.length effect.now step.now }
         requires space { HasSpaceFor self.old.processor effect.now }
         requires made { CanTake (move_in (state_of self.old.processor) effect.now.frames) sets }
-        requires lines { vec_len out.old + line_count effect.now step.now ≤ vec_capacity out.old }
+        requires lines { vec_len out.old + line_count effect.now step.now (option_copied event) ≤ vec_capacity out.old }
+        requires ranges { IfSome event (λ e. IsInRange e.now) }
         ensures state { AreAlike (state_behind self.old effect.now step.now) (state_of self.new.processor) }
         ensures cache { cache_of self.new.processor
             ≡ cache_through self.old.processor (action_for self.old effect.now) self.new.processor }
@@ -228,9 +238,10 @@ impl Machine {
         ensures answer { result ≡ step.now.answer }
         ensures count { (state_of self.new.processor).count ≡ (state_of self.old.processor).count + step.now.counts }
         ensures lines { AddsLines out.old.items out.new.items
-            (lines_of effect.now step.now (state_of self.old.processor) (state_behind self.old effect.now step.now)) }
+            (lines_of effect.now step.now (option_copied event) (state_of self.old.processor)
+            (state_behind self.old effect.now step.now)) }
     {
-        put_event(&step.event, &self.processor, out);
+        put_event(event, &self.processor, out);
         self.processor.apply(effect, step.counts, sets);
         self.due = step.due;
         put_out(effect.console_byte(), out);
@@ -253,10 +264,12 @@ impl Machine {
             → HasRoom self.old (vec_capacity out.old - vec_len out.old) (next_for self.old plan.old) → ⊥ }
         ensures fewer { LeavesFewer result (steps_left self.old plan.old) (steps_left self.new plan.new) }
     {
-        match self.make_room(step, effect, out) {
+        let event = step.event(plan);
+        match self.make_room(step, effect, event, out) {
             Ok(sets) => {
+                let answer = self.act(step, effect, event, sets, out);
                 go_on(step, plan);
-                self.act(step, effect, sets, out)
+                answer
             }
             Err(_) => Turn::Memory,
         }

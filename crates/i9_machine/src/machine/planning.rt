@@ -1,5 +1,5 @@
 //! What comes next for the machine: a step, or the end.
-ghost use Rattle.std.specs.Prelude.{◌≡◌, ◌<◌, ℕ, Option, Some, None, Ok, IfSome};
+ghost use Rattle.std.specs.Prelude.{◌≡◌, ◌<◌, ℕ, Option, Some, None, Ok, IfSome, true, false};
 ghost use Rattle.std.specs.Option.{option_map, option_copied};
 ghost use Rattle.i9_model.specs.Events.{IsInRange};
 ghost use Rattle.i9_model.specs.ScheduleText.{standing};
@@ -21,7 +21,7 @@ use i9_isa::{Inst, Op, word_count};
 use i9_model::{Chosen, Due, End, Event, Point, When};
 use i9_plan::{Planned, Words, plan_entry, plan_event, plan_faulting, plan_interrupt, plan_next};
 use i9_processor::Effect;
-use i9_schedule::{Schedule, copied};
+use i9_schedule::Schedule;
 
 /// The drained point behind an instruction.
 fn point_by_name(op: Op) -> Option<Point>
@@ -36,17 +36,34 @@ fn point_by_name(op: Op) -> Option<Point>
 
 /// The entry of a fault or of an interrupt, behind which there is this drained point.
 fn entered(point: Point) -> Step
-    ensures event { result.event ≡ None }
+    ensures reaches { result.reaches ≡ false }
     ensures point { result.point ≡ Some point }
     ensures counts { result.counts ≡ 0 }
     ensures due { result.due ≡ Due.Nothing }
     ensures answer { result.answer ≡ Turn.On }
 {
     Step {
-        event: None,
+        reaches: false,
         point: Some(point),
         counts: 0,
         due: Due::Nothing,
+        answer: Turn::On,
+    }
+}
+
+/// An event that is reached, behind which there is a drained point or none, and this is due.
+fn reached(point: Option<Point>, due: Due) -> Step
+    ensures reaches { result.reaches ≡ true }
+    ensures point { result.point ≡ point }
+    ensures counts { result.counts ≡ 0 }
+    ensures due { result.due ≡ due }
+    ensures answer { result.answer ≡ Turn.On }
+{
+    Step {
+        reaches: true,
+        point,
+        counts: 0,
+        due,
         answer: Turn::On,
     }
 }
@@ -99,7 +116,7 @@ impl Machine {
         ensures { IsStep self.now plan.now result effect.now }
     {
         Step {
-            event: None,
+            reaches: false,
             point: point_by_name(inst.op),
             counts: 1,
             due: self.due_by(effect),
@@ -129,7 +146,7 @@ impl Machine {
         };
         plan_faulting(&self.processor, count, effect);
         Step {
-            event: None,
+            reaches: false,
             point: None,
             counts: 1,
             due: Due::Entry(fault),
@@ -189,7 +206,7 @@ impl Machine {
         }
     }
 
-    /// An event is reached.
+    /// An event is reached: it does something, or it meets a hazard, which ends the run.
     fn reaches(&self, event: &Event, plan: &Schedule, effect: &mut Effect) -> Step
         requires below { (state_of self.now.processor).count < self.now.length }
         requires free { self.now.due ≡ Due.Nothing }
@@ -198,13 +215,15 @@ impl Machine {
         requires ranges { IsInRange event.now }
         ensures { IsStep self.now plan.now result effect.new }
     {
-        *effect = plan_event(&self.processor, event);
-        Step {
-            event: Some(copied(event)),
-            point: Some(Point::Event),
-            counts: 0,
-            due: Due::Nothing,
-            answer: Turn::On,
+        match plan_event(&self.processor, event) {
+            Ok(planned) => {
+                *effect = planned;
+                reached(Some(Point::Event), Due::Nothing)
+            }
+            Err(a) => {
+                effect.go(&self.processor, self.processor.ip());
+                reached(None, Due::End(End::Hazard(a)))
+            }
         }
     }
 

@@ -1,18 +1,21 @@
-//! What calls, returns, requests of software and the entries of faults and interrupts make in the state
-//! that a processor stands for.
-ghost use Rattle.std.specs.Prelude.{◌≡◌, ◌%◌, None, Some, IfOk, IfErr};
+//! What calls, returns, requests of software, the entries of faults and interrupts, and DMA make in the
+//! state that a processor stands for.
+ghost use Rattle.std.specs.Prelude.{◌≡◌, ◌%◌, ◌<◌, ◌&&◌, None, Some, IfOk, IfErr};
 ghost use Rattle.i9_model.specs.declared.layout.TheConstants.{FP, SP, PFP};
 ghost use Rattle.i9_model.specs.Memory.{with_writes};
 ghost use Rattle.i9_model.specs.Hazards.{unless, save_hazard, record_write_hazard};
 ghost use Rattle.i9_model.specs.Requests.{request_hazard, request_writes};
 ghost use Rattle.i9_model.specs.Interrupts.{cleared_hazard, clearing_writes, record_writes};
 ghost use Rattle.i9_model.specs.Before.{choice_in, interrupt_in};
+ghost use Rattle.i9_model.specs.Dma.{is_last, posts_at_end};
+ghost use Rattle.i9_dma.specs.Units.{given_in, bytes_in, planned_bytes};
 ghost use Rattle.i9_processor.specs.Effect.{requests_in};
 ghost use Rattle.i9_model.specs.Calls.{planned_call, planned_calls, planned_ret};
 ghost use Rattle.i9_model.specs.Run.{entry_in};
 
 use super::Processor;
-use crate::effect::Requests;
+use crate::effect::{MOST_BYTES, Requests};
+use arrayvec::ArrayVec;
 use i9_calls::{CallsStop, Pop, Push, Sys, plan_call};
 use i9_faults::{Entry, Fault, FaultStop};
 use i9_model::Chosen;
@@ -148,5 +151,38 @@ impl Processor {
             .storage
             .plan_request(self.tables.interrupt_table, vector)?;
         Ok(Requests::listed(&bytes))
+    }
+
+    /// The bytes of the next unit of DMA channel `c`, from memory or as a device gives them; None where
+    /// nothing moves, and `Err` with the hazard that the unit meets.
+    #[tactic(auto, unfolding(crate::specs::State::state_of))]
+    pub fn plan_unit(
+        &self,
+        c: u8,
+        given: Option<&[u8]>,
+    ) -> Result<Option<ArrayVec<u8, MOST_BYTES>>, u32>
+        requires { c < 4 }
+        ensures { bytes_in result ≡ planned_bytes (state_of self.now).memory (state_of self.now).frames (state_of self.now).dma c (given_in given.entry) }
+    {
+        self.storage.plan_unit(&self.channels, c, given)
+    }
+
+    /// Where the next unit of DMA channel `c` goes.
+    #[tactic(auto, unfolding(crate::specs::State::state_of))]
+    pub fn unit_target(&self, c: u8) -> u32
+        requires { c < 4 }
+        ensures { result ≡ ((state_of self.now).dma.channels c).target }
+    {
+        self.channels.target(c).0
+    }
+
+    /// Whether the interrupt of DMA channel `c` is posted behind its next unit: where that is the last,
+    /// and its control word asks for the interrupt.
+    #[tactic(auto, unfolding(crate::specs::State::state_of))]
+    pub fn posts_behind_unit(&self, c: u8) -> bool
+        requires { c < 4 }
+        ensures { result ≡ (is_last ((state_of self.now).dma.channels c) && posts_at_end ((state_of self.now).dma.channels c)) }
+    {
+        self.channels.is_last(c) && self.channels.posts(c)
     }
 }

@@ -72,7 +72,7 @@ impl Processor {
     }
 
     /// A special function register: sf0 is the pending word, sf1 the mask word, and sf2 the DMA command
-    /// word, which is 0.
+    /// word.
     #[tactic(auto, unfolding(crate::specs::State::state_of))]
     pub fn special(&self, k: u8) -> u32
         ensures { result ≡ special (state_of self.now) k }
@@ -80,7 +80,7 @@ impl Processor {
         match k {
             0 => self.ints.pending(),
             1 => self.ints.mask(),
-            _ => 0,
+            _ => self.channels.dmac(),
         }
     }
 

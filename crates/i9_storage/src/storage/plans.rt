@@ -1,4 +1,4 @@
-//! What system calls, returns, faults and interrupts make, and what tables say. Each of their reads
+//! What system calls, returns, faults, interrupts and DMA make, and what tables say. Each of their reads
 //! ends them at a byte that is soft, as all bytes of held frames are, so memory alone answers them.
 ghost use Rattle.std.specs.Prelude.{◌≡◌, ◌+◌, ◌%◌, ◌<◌, ◌≤◌, ◌↔◌, IsTrue, None, IfOk, OnErr, [], length};
 ghost use Rattle.i9_model.specs.declared.layout.TheConstants.{PC_MASK, AC_MASK};
@@ -15,11 +15,14 @@ ghost use Rattle.i9_model.specs.HeldFrames.{cache_configured};
 ghost use Rattle.i9_model.specs.Numbers.{IsWithin};
 ghost use Rattle.i9_memory.specs.Memory.{memory_of, KeepsRoom};
 ghost use Rattle.i9_ints.specs.Ints.{interrupts_of};
+ghost use Rattle.i9_dma.specs.Channels.{dma_of};
+ghost use Rattle.i9_dma.specs.Units.{given_in, bytes_in, planned_bytes};
 
 use super::Storage;
 use arrayvec::ArrayVec;
 use i9_boot::{control_group, reinit};
 use i9_calls::{CallsStop, Pop, Sys, plan_calls, plan_ret};
+use i9_dma::Channels;
 use i9_faults::{Entry, Fault, FaultStop, plan_fault};
 use i9_ints::{Chosen, IntEntry, Ints, clearing_bytes, plan_request};
 use i9_memory::Memory;
@@ -175,6 +178,20 @@ impl Storage {
         ensures { result ≡ unless (request_hazard (frames_in self.now) table v) (request_writes (memory_in self.now) table v) }
     {
         plan_request(&self.memory, &self.watch, table, v)
+    }
+
+    /// The bytes of the next unit of DMA channel `c`, 0 to 3, from memory or as a device gives them; None
+    /// where nothing moves, and `Err` with the hazard that the unit meets (this project's own).
+    pub fn plan_unit(
+        &self,
+        channels: &Channels,
+        c: u8,
+        given: Option<&[u8]>,
+    ) -> Result<Option<ArrayVec<u8, 16>>, u32>
+        requires { c < 4 }
+        ensures { bytes_in result ≡ planned_bytes (memory_in self.now) (frames_in self.now) (dma_of channels.now) c (given_in given.entry) }
+    {
+        channels.plan_unit(&self.memory, &self.watch, c, given)
     }
 
     /// Starts anew at the instruction address `first`, where nothing is held: reads the PRCB at

@@ -1,5 +1,5 @@
 use Rattle.std.proofs.Common.{ℕ, Ok, refl, subst}
-use Rattle.i9_isa.specs.declared.op.Op.TheVariants.{Lda, Atadd, Atmod, Bx, Balx, Bal, Call, Callx, Calls, Ret, Flushreg, Modac, Modtc, Modpc, Sysctl}
+use Rattle.i9_isa.specs.declared.op.Op.TheVariants.{Lda, Atadd, Atmod, Bx, Balx, Bal, Call, Callx, Calls, Ret, Flushreg, Modac, Modtc, Modpc, Sdma, Sysctl}
 use Rattle.i9_model.specs.Step.{answering, jumping, linking, call_action}
 use Rattle.i9_model.specs.Access.{SavesAt}
 use Rattle.i9_isa.specs.declared.inst.Operand.TheVariants.{Reg}
@@ -8,12 +8,15 @@ use Rattle.i9_model.specs.Frames.{rounded_down}
 use Rattle.i9_processor.specs.Effect.{IsEffect}
 use Rattle.i9_processor.specs.State.{state_of}
 use Rattle.i9_plan.specs.Planned.{IsPlanFor}
-use Rattle.i9_plan.proofs.Faulting.{calls_number, sysctl_message}
+use Rattle.i9_plan.proofs.Faulting.{calls_number, sdma_channel, sysctl_message}
 use Rattle.i9_plan.proofs.Outcomes.{IsOther, other_plan, by_name}
 use Rattle.i9_plan.proofs.outcome.plan_by_name.Goals as goal
 
 pub plan_calls-requires : goal.plan_calls-requires
 plan_calls-requires c = calls_number c.args.i.now _ _ _ _ _ c.in-Calls.is c.requires.calm
+
+pub plan_sdma-requires : goal.plan_sdma-requires
+plan_sdma-requires c = sdma_channel c.args.i.now _ _ _ _ _ c.in-Sdma.is c.requires.calm
 
 pub plan_message-requires-clause-message : goal.plan_message-requires-clause-message
 plan_message-requires-clause-message c = sysctl_message c.args.i.now _ _ _ _ _ c.in-Sysctl.is c.requires.calm
@@ -37,6 +40,7 @@ returns-in_default c =
       not_modac = c.in_default.not-Modac;
       not_modtc = c.in_default.not-Modtc;
       not_modpc = c.in_default.not-Modpc;
+      not_sdma = c.in_default.not-Sdma;
       not_sysctl = c.in_default.not-Sysctl;
     } in
     other_plan i s c.passing.result other c.requires.result c.requires.branch (c.results_by_name.ensures i _ _ _ _) c.passing.ensures.effect
@@ -70,6 +74,12 @@ returns-in-Sysctl c =
     let i = c.args.i.now in
     let s = state_of c.args.p.now in
     by_name Sysctl i s _ c.in-Sysctl.is c.plan_message.ensures
+
+pub returns-in-Sdma : goal.returns-in-Sdma
+returns-in-Sdma c =
+    let i = c.args.i.now in
+    let s = state_of c.args.p.now in
+    by_name Sdma i s (Ok c.plan_sdma.result) c.in-Sdma.is (refl, c.plan_sdma.ensures)
 
 pub returns-in-Modac : goal.returns-in-Modac
 returns-in-Modac c =

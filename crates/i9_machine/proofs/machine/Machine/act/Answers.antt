@@ -1,4 +1,5 @@
 use Rattle.std.proofs.Common.{ℕ, Option, List, ◌++◌, map, ap, ◌∙◌, append_assoc}
+use Rattle.std.specs.Option.{option_copied}
 use Rattle.i9_model.specs.PrintedText.{Shown, out_lines, point_lines}
 use Rattle.i9_model.proofs.AlikeSteps.{view_alike}
 use Rattle.i9_processor.specs.State.{state_of}
@@ -10,7 +11,7 @@ pub returns-clause-lines : goal.returns-clause-lines
 returns-clause-lines c =
     let s = state_of c.args.self.now.processor in
     let after = state_behind c.args.self.now c.args.effect.now c.args.step.now in
-    let event = reached_lines (c.args.step.now.event) s in
+    let event = reached_lines (option_copied c.args.event) s in
     let points = point_lines (c.args.step.now.point) after in
     let bytes = out_lines c.console_byte.result in
     let old = map shown_of c.args.out.now.items in

@@ -22,8 +22,8 @@ returns-in-Ok c =
       point = step.point;
       counts = step.counts;
       due = step.due;
-      event = step.event;
-      ranges = no_event c.entered.result.event step.event;
+      reaches = step.reaches;
+      event = no_event c.args.plan.now c.entered.result step.reaches;
       tells = tells_on (Interrupted choice plan.0) s c.entered.result.answer step.answer tt;
     }
 

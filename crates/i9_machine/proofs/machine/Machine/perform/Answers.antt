@@ -1,4 +1,4 @@
-use Rattle.std.specs.Prelude.{◌-◌, vec_capacity, vec_len, IsSome}
+use Rattle.std.specs.Prelude.{◌-◌, vec_capacity, vec_len}
 use Rattle.std.proofs.Common.{◌≡◌, ℕ, ◌+◌, ◌≤◌, Option, sym, ap, ◌∙◌, subst}
 use Rattle.i9_model.specs.declared.event.Event.{Event}
 use Rattle.i9_model.specs.State.{State}
@@ -12,15 +12,15 @@ use Rattle.i9_processor.specs.State.{state_of}
 use Rattle.i9_processor.proofs.NewSets.{made_takes}
 use Rattle.i9_machine.specs.declared.line.Turn.{Turn}
 use Rattle.i9_machine.specs.StandsFor.{LeavesFewer}
-use Rattle.i9_machine.specs.Doing.{IsReady, state_behind_of}
+use Rattle.i9_machine.specs.Doing.{event_in, HasRoomForStep, IsReady, state_behind_of}
 use Rattle.i9_machine.specs.Step.{TellsRecord, event_for, steps_left}
 use Rattle.i9_machine.proofs.Stepping.{no_memory, fewer_by, did_fewer, did_within, behind_alike, step_within, step_room, plan_is_behind}
 use Rattle.i9_machine.proofs.machine.Machine.perform.Goals as goal
 
 pub go_on-requires : goal.go_on-requires
-go_on-requires c = λ some.
+go_on-requires c = λ reaches.
     let step = c.requires.step in
-    step_within c.args.self.now c.args.plan.now step.kind step.is_next (subst (λ (o : Option Event). IsSome o) step.event some)
+    step_within c.args.self.now c.args.plan.now step.kind step.is_next (sym step.reaches ∙ reaches)
 
 pub act-requires-clause-ready : goal.act-requires-clause-ready
 act-requires-clause-ready c =
@@ -32,11 +32,11 @@ act-requires-clause-ready c =
     let ready : IsReady s old.length c.args.effect.now c.args.step.now = record {
       registers = step.effect.registers;
       posts = step.effect.posts;
+      changes = step.effect.changes;
       moves = step.effect.moves;
       free = subst (IsFree s) (sym step.effect.same) free.1;
       controls = subst (λ (a : Action). CanControl (moved s a) c.args.effect.now.control) (sym step.effect.same) step.effect.controls;
       below = subst (λ (n : ℕ). s.count + n ≤ old.length) (sym step.counts) (did_within old plan step.kind old.below step.is_next);
-      event = step.ranges;
     } in
     subst (λ (n : ℕ). IsReady (state_of c.make_room.new.self.processor) n c.args.effect.now c.args.step.now) (sym c.make_room.ensures.same.length)
     (subst (λ (t : State). IsReady t old.length c.args.effect.now c.args.step.now) (sym c.make_room.ensures.same.state) ready)
@@ -76,4 +76,7 @@ returns-in-Ok-clause-lacking c = λ is room.
 pub returns-in-Err-clause-lacking : goal.returns-in-Err-clause-lacking
 returns-in-Err-clause-lacking c = λ is room.
     let out = c.args.out.now in
-    c.in-Err.ensures.lacking (step_room c.args.self.now c.args.plan.now (vec_capacity out - vec_len out) c.args.step.now c.args.effect.now c.requires.step room)
+    let event = event_in c.args.plan.now c.args.step.now in
+    let spare = vec_capacity out - vec_len out in
+    c.in-Err.ensures.lacking (subst (HasRoomForStep c.args.self.now spare c.args.effect.now c.args.step.now) (sym c.event.ensures.event)
+    (step_room c.args.self.now c.args.plan.now spare c.args.step.now c.args.effect.now c.requires.step room))

@@ -1,24 +1,50 @@
-use Rattle.std.proofs.Common.{Option, Some, refl, sym, ap, ◌∙◌, subst}
-use Rattle.i9_model.specs.Events.{IsInRange}
+use Rattle.std.proofs.Common.{Option, Result, ℕ, ap, ◌∙◌}
 use Rattle.i9_model.specs.declared.event.Event.{Event}
-use Rattle.i9_model.specs.Run.{Reached, next_by_event}
+use Rattle.i9_model.specs.Before.{Received}
+use Rattle.i9_model.specs.Run.{Reached, Blocked, Does, record_of, reached_kind, next_by_event}
 use Rattle.i9_processor.specs.State.{state_of}
-use Rattle.i9_machine.proofs.Stepping.{goes_by_event}
+use Rattle.i9_machine.proofs.Stepping.{goes_by_event, one_event, tells_on}
 use Rattle.i9_machine.proofs.machine.Machine.reaches.Goals as goal
 
-pub returns : goal.returns
-returns c =
+pub returns-in-Ok : goal.returns-in-Ok
+returns-in-Ok c =
     let m = c.args.self.now in
     let s = state_of m.processor in
     let event = c.args.event.now in
+    let plan = c.in-Ok.ensures in
+    let step = c.reached.ensures in
     record {
-      kind = Reached event;
-      is_next = goes_by_event m c.args.plan.now c.requires.free c.requires.below c.requires.chosen ∙ ap (λ (o : Option Event). next_by_event o s) c.requires.stands;
-      effect = c.plan_event.ensures;
-      point = refl;
-      counts = refl;
-      due = refl;
-      event = ap (λ (e : Event). Some e) c.copied.ensures;
-      ranges = subst IsInRange (sym c.copied.ensures) c.requires.ranges;
-      tells = tt;
+      kind = Reached event plan.0;
+      is_next =
+          goes_by_event m c.args.plan.now c.requires.free c.requires.below c.requires.chosen
+          ∙ ap (λ (o : Option Event). next_by_event o s) c.requires.stands
+          ∙ ap (λ (p : Result Received ℕ). Does (record_of (reached_kind event p) s)) plan.1;
+      effect = plan.2;
+      point = step.point;
+      counts = step.counts;
+      due = step.due;
+      reaches = step.reaches;
+      event = one_event m c.args.plan.now c.reached.result event step.reaches c.requires.stands;
+      tells = tells_on (Reached event plan.0) s c.reached.result.answer step.answer tt;
+    }
+
+pub returns-in-Err : goal.returns-in-Err
+returns-in-Err c =
+    let m = c.args.self.now in
+    let s = state_of m.processor in
+    let event = c.args.event.now in
+    let step = c.reached-in-Err.ensures in
+    record {
+      kind = Blocked event c.in-Err.a;
+      is_next =
+          goes_by_event m c.args.plan.now c.requires.free c.requires.below c.requires.chosen
+          ∙ ap (λ (o : Option Event). next_by_event o s) c.requires.stands
+          ∙ ap (λ (p : Result Received ℕ). Does (record_of (reached_kind event p) s)) c.in-Err.ensures;
+      effect = c.go.ensures.effect;
+      point = step.point;
+      counts = step.counts;
+      due = step.due;
+      reaches = step.reaches;
+      event = one_event m c.args.plan.now c.reached-in-Err.result event step.reaches c.requires.stands;
+      tells = tells_on (Blocked event c.in-Err.a) s c.reached-in-Err.result.answer step.answer tt;
     }

@@ -1,9 +1,8 @@
-//! What is built so far, which operands are special function registers, and which names do what.
+//! Which operands are special function registers, and which names do what.
 ghost use Rattle.std.specs.Prelude.{◌≡◌};
 ghost use Rattle.i9_model.specs.Standing.{is_fault_name};
 ghost use Rattle.i9_model.specs.Faults.{is_special, uses_special};
-ghost use Rattle.i9_model.specs.Unbuilt.{is_built_name, is_built_operand, is_built};
-ghost use Rattle.i9_plan.specs.Built.{is_branch};
+ghost use Rattle.i9_plan.specs.Names.{is_branch};
 
 use i9_isa::{Inst, Op, Operand};
 
@@ -43,29 +42,4 @@ pub(crate) fn uses_special(i: &Inst) -> bool
     ensures { result ≡ uses_special i.now }
 {
     is_special(i.a) || is_special(i.b) || is_special(i.c)
-}
-
-/// Whether an operand is built: the DMA command word, sf2, is not.
-fn is_built_operand(o: Operand) -> bool
-    ensures { result ≡ is_built_operand o }
-{
-    match o {
-        Operand::Sfr(k) => k < 2,
-        _ => true,
-    }
-}
-
-/// Whether a name is built: the set-up of DMA channels is not.
-fn is_built_name(op: Op) -> bool
-    ensures { result ≡ is_built_name op }
-{
-    !matches!(op, Op::Sdma)
-}
-
-/// Whether an instruction is built, but for the fault of its result.
-#[tactic(auto, unfolding(i9_model::specs::Unbuilt::is_built))]
-pub(crate) fn is_built(i: &Inst) -> bool
-    ensures { result ≡ is_built i.now }
-{
-    is_built_name(i.op) && is_built_operand(i.a) && is_built_operand(i.b) && is_built_operand(i.c)
 }
