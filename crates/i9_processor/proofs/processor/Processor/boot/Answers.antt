@@ -3,7 +3,7 @@ use Rattle.i9_memory.specs.Memory.{memory_of}
 use Rattle.i9_model.specs.Image.{pairs_of}
 use Rattle.i9_model.specs.Memory.{Memory, with_writes}
 use Rattle.i9_model.specs.Boot.{boot_setup, boot_memory}
-use Rattle.i9_model.specs.State.{image_memory, no_dma, started, boot}
+use Rattle.i9_model.specs.State.{image_memory, started, boot}
 use Rattle.i9_model.specs.HeldFrames.{over, overlaid}
 use Rattle.i9_model.specs.declared.layout.TheConstants.{BOOT_PC}
 use Rattle.i9_processor.specs.State.{registers_of, state_of}
@@ -24,7 +24,7 @@ returns-clause-state c =
     let setup = c.boot-setup.ensures.setup ∙ ap boot_setup loaded in
     let storage = c.in_ok-storage.storage in
     let memory : memory_in storage ≡ boot_memory (image_memory pairs) = ap overlaid c.in_ok-storage.ensures.cache ∙ c.boot-setup.ensures.memory ∙ ap boot_memory loaded in
-    let kept : state_of record { regs = c.start_registers.result; ip = c.aligned.result; ac = c.boot-setup.result.ac; pc = BOOT_PC; tc = c.start_trace_controls.result; check = false; ints = c.start_interrupts.result; breaks = c.start_breaks.result; tables = c.tables_of.result; count = 0; storage = storage } ≡ started c.boot-setup.result (registers_of (replicate 32 0)) 0 (memory_in storage) (frames_in storage) =
+    let kept : state_of record { regs = c.start_registers.result; ip = c.aligned.result; ac = c.boot-setup.result.ac; pc = BOOT_PC; tc = c.start_trace_controls.result; check = false; ints = c.start_interrupts.result; channels = c.new-2.result; breaks = c.start_breaks.result; tables = c.tables_of.result; count = 0; storage = storage } ≡ started c.boot-setup.result (registers_of (replicate 32 0)) 0 (memory_in storage) (frames_in storage) =
     λ i. record {
       regs = c.start_registers.ensures i;
       ip = c.aligned.ensures i;
@@ -35,7 +35,7 @@ returns-clause-state c =
       memory = memory_in storage;
       frames = frames_in storage;
       interrupts = c.start_interrupts.ensures i;
-      dma = no_dma;
+      dma = c.new-2.ensures i;
       trace = record { tc = c.start_trace_controls.ensures i; breaks = c.start_breaks.ensures i };
       tables = c.tables_of.ensures i;
     } in

@@ -7,4 +7,4 @@ use Rattle.i9_storage.proofs.storage.Storage.plan_unit.Goals as goal
 pub returns : goal.returns
 returns c =
     let s = c.args.self.now in
-    c.plan_unit.ensures ∙ unit_laid s.memory s.watch s.sets (dma_of c.args.channels.now) c.args.c (given_in c.args.given.entry) s.kept
+    c.plan_unit.ensures ∙ unit_laid s.memory s.watch s.sets (dma_of c.args.channels.now) c.args.c (given_in c.args.given) s.kept
