@@ -1,6 +1,6 @@
--- Along every run bytes of memory are below 256, where the bytes of the image are.
-use Rattle.std.proofs.Common.{ℕ, ◌+◌, ◌-◌, ◌%◌, ◌^◌, ◌<◌, Bool, true, false, cond, eqb, List, [], ◌∷◌, Option, Some, None, sym, subst, arith}
-use Rattle.std.specs.Prelude.{◌==◌}
+-- Along every run of a schedule's plan bytes of memory are below 256, where the bytes of the image are.
+use Rattle.std.proofs.Common.{◌≡◌, ℕ, ◌+◌, ◌-◌, ◌%◌, ◌^◌, ◌<◌, Bool, true, false, cond, eqb, List, [], ◌∷◌, Option, Some, None, sym, subst, arith}
+use Rattle.std.specs.Prelude.{slice_index, ◌==◌}
 use Rattle.std.proofs.lemmas.Nat.{and_le_l, or_of_8, pow_below}
 use Rattle.i9_isa.specs.declared.op.Op.{Op}
 use Rattle.i9_isa.specs.declared.op.Op.TheVariants.{Atadd, Atmod, Sysctl, Lda, Bx, Balx, Bal, Call, Callx, Calls, Ret, Flushreg, Modac, Modtc, Modpc}
@@ -15,10 +15,16 @@ use Rattle.i9_isa.specs.Transfers.{transfer_of}
 use Rattle.i9_model.specs.declared.push.Push.{Push}
 use Rattle.i9_model.specs.declared.interrupts.Cause.{Cause}
 use Rattle.i9_model.specs.declared.interrupts.Cause.TheVariants.{Nmi, Line, Soft}
+use Rattle.i9_model.specs.declared.event.Event.{Event}
+use Rattle.i9_model.specs.declared.event.Event.TheVariants as events
+use Rattle.i9_model.specs.declared.run.Due.{Due}
+use Rattle.i9_model.specs.Events.{IsInRange}
+use Rattle.i9_model.specs.ScheduleText.{IsPlan}
 use Rattle.i9_model.specs.Writes.{wrapped}
 use Rattle.i9_model.specs.Memory.{Memory, word_in, word_bytes, with_writes}
 use Rattle.i9_model.specs.Boot.{boot_memory, configured, with_boot_bytes}
-use Rattle.i9_model.specs.State.{State, image_memory, started, boot}
+use Rattle.i9_model.specs.State.{State, Channel, image_memory, started, boot}
+use Rattle.i9_model.specs.Frames.{places}
 use Rattle.i9_model.specs.Operands.{value, source_words, address}
 use Rattle.i9_model.specs.Branches.{asks, question_of}
 use Rattle.i9_model.specs.Calls.{record_address}
@@ -26,11 +32,14 @@ use Rattle.i9_model.specs.Interrupts.{with_bit, without_bit, vector_priority, pr
 use Rattle.i9_model.specs.Tables.{group_words}
 use Rattle.i9_model.specs.Controls.{Control, KeepsControls, Restarts, LoadsGroup, controlled}
 use Rattle.i9_model.specs.Step.{Move, Stays, Saves, Returns, Flushes, Action, stored_of, bytes_of_words, moving, merged, atomic, atomic_address, branching, resulting, answer_in, Message, AsksNothing, AsksInterrupt, AsksRestart, AsksGroup, message_kind, message_of, argument_of, message_action, action_by_name, action_by, action_of, memory_after, moved, acted}
-use Rattle.i9_model.specs.Run.{Given, Record, Kind, Instruction, Faulted, Entered, Interrupted, Reached, action_by_kind, due_after, event_after, state_after, IsPast}
+use Rattle.i9_model.specs.Dma.{unit_length, unit_bytes}
+use Rattle.i9_model.specs.Before.{Received}
+use Rattle.i9_model.specs.Run.{Given, Record, Kind, Instruction, Faulted, Entered, Interrupted, Reached, Blocked, action_by_kind, due_after, event_after, state_after, IsPast}
 use Rattle.i9_model.proofs.ControlLaws.{by_group}
-use Rattle.i9_model.proofs.Comes.{next_comes}
+use Rattle.i9_model.proofs.Comes.{MayCome, next_comes}
 use Rattle.i9_laws.specs.Kept.{HasBytes}
-use Rattle.i9_laws.proofs.StoredWords.{ArePut, AreBelow, put_append, put_pairs, stored_below, word_bytes_below, half_bytes_below, words_bytes_below, with_words_below}
+use Rattle.i9_laws.proofs.EventCases.{event_range, IsByUnit, IsByEvent, received_as}
+use Rattle.i9_laws.proofs.StoredWords.{ArePut, AreBelow, put_append, put_pairs, below_map, below_take, stored_below, word_bytes_below, half_bytes_below, words_bytes_below, with_words_below}
 
 abbrev pub AreBytes : Memory → Type 0
 AreBytes m = (x : ℕ) → m.bytes x < 256
@@ -133,17 +142,49 @@ record_stores m push words =
     let a = record_address push.frame in
     put_pairs 256 wrapped a (bytes_of_words m a words) (words_bytes_below m a words)
 
-pub kind_stores : (k : Kind) (s : State) → AreBytes s.memory → ArePut 256 (action_by_kind k s).writes
-kind_stores (Instruction i) s h = instruction_stores i s h
-kind_stores (Faulted inst fault) s h = tt
-kind_stores (Entered e) s h = record_stores s.memory e.push e.words
-kind_stores (Interrupted c e) s h =
+-- ---- an event
+
+abbrev ReceivesBytes : Received → Type 0
+ReceivesBytes u = ArePut 256 u.writes
+
+-- the bytes of a device
+abbrev AreGiven : Option (List ℕ) → Type 0
+AreGiven None = Unit {0}
+AreGiven (Some given) = (k : ℕ) → slice_index given k < 256
+
+moved_stores : (m : Memory) (c : Channel) (given : Option (List ℕ)) → AreGiven given → AreBytes m → AreBelow 256 (unit_bytes m c given)
+unfolding unit_bytes
+moved_stores m c None bytes h = below_map 256 m.bytes (places c.source (unit_length c)) h
+moved_stores m c (Some given) bytes h = below_take 256 (unit_length c) given bytes
+
+unit_stores : (s : State) (c : ℕ) (given : Option (List ℕ)) → AreGiven given → AreBytes s.memory → IsByUnit ReceivesBytes s c given
+unit_stores s c given bytes h =
+    let channel = s.dma.channels c in
+    (tt, put_pairs 256 wrapped channel.target (unit_bytes s.memory channel given) (moved_stores s.memory channel given bytes h))
+
+event_stores : (s : State) (e : Event) → IsInRange e → AreBytes s.memory → IsByEvent ReceivesBytes s e
+event_stores s (events.Pin x) range h = tt
+event_stores s events.Nmi range h = tt
+event_stores s (events.Dma c) range h = unit_stores s c None tt h
+event_stores s (events.Feed c bytes) range h = unit_stores s c (Some bytes.items) range.2 h
+event_stores s (events.Show a n) range h = tt
+
+-- ---- what comes next
+
+kind_stores : (limit : ℕ) (due : Due) (stands : Option Event) (k : Kind) (s : State) → ((e : Event) → stands ≡ Some e → IsInRange e)
+    → MayCome limit due stands s k → AreBytes s.memory → ArePut 256 (action_by_kind k s).writes
+kind_stores limit due stands (Instruction i) s range may h = instruction_stores i s h
+kind_stores limit due stands (Faulted inst fault) s range may h = tt
+kind_stores limit due stands (Entered e) s range may h = record_stores s.memory e.push e.words
+kind_stores limit due stands (Interrupted c e) s range may h =
     let recorded = record_writes s.memory e.push e.words in
     let m = with_writes s.memory recorded in
     let stores = record_stores s.memory e.push e.words in
     put_append 256 recorded (clearing_writes c.cause m s.tables.interrupt_table c.vector) stores
     (clearing_stores c.cause m s.tables.interrupt_table c.vector (stored_below s.memory.bytes recorded h stores))
-kind_stores (Reached e) s h = tt
+kind_stores limit due stands (Reached e u) s range may h =
+    received_as ReceivesBytes s e u (event_stores s e (range e may.2) h) may.3
+kind_stores limit due stands (Blocked e a) s range may h = tt
 
 -- ---- the state after it
 
@@ -183,10 +224,21 @@ pub boot_bytes : (image : List (ℕ × ℕ)) → HasBytes image → AreBytes (bo
 unfolding boot started boot_memory configured with_boot_bytes
 boot_bytes image h = image_bytes image h
 
-pub bytes_after : (g : Given) (rs : List Record) → HasBytes g.image → IsPast g rs → AreBytes (state_after g rs).memory
-bytes_after g [] image past = boot_bytes g.image image
-bytes_after g (r ∷ rs) image past =
+-- what comes next writes bytes
+pub done_stores : (g : Given) (r : Record) (rs : List Record) → IsPlan g.plan → IsPast g (r ∷ rs) → AreBytes (state_after g rs).memory
+    → ArePut 256 (action_by_kind r.kind (state_after g rs)).writes
+done_stores g r rs plan past h =
     let s = state_after g rs in
-    let h = bytes_after g rs image past.0 in
+    let event = event_after g rs in
+    let range = λ (e : Event) (is : event ≡ Some e). event_range g rs e plan is in
+    let comes = next_comes g.length (due_after rs) event s r past.1 in
+    kind_stores g.length (due_after rs) event r.kind s range comes.1 h
+
+pub bytes_after : (g : Given) (rs : List Record) → HasBytes g.image → IsPlan g.plan → IsPast g rs → AreBytes (state_after g rs).memory
+bytes_after g [] image plan past = boot_bytes g.image image
+bytes_after g (r ∷ rs) image plan past =
+    let s = state_after g rs in
+    let h = bytes_after g rs image plan past.0 in
     let comes = next_comes g.length (due_after rs) (event_after g rs) s r past.1 in
-    subst (λ (q : Record). AreBytes q.after.memory) (sym comes.0) (acted_bytes s (action_by_kind r.kind s) h (kind_stores r.kind s h))
+    let acted = acted_bytes s (action_by_kind r.kind s) h (done_stores g r rs plan past h) in
+    subst (λ (q : Record). AreBytes q.after.memory) (sym comes.0) acted

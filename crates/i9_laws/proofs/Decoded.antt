@@ -16,16 +16,16 @@ use Rattle.i9_model.specs.declared.faults.FaultStop.{FaultStop}
 use Rattle.i9_model.specs.declared.faults.FaultStop.TheVariants as stops
 use Rattle.i9_model.specs.declared.interrupts.Chosen.{Chosen}
 use Rattle.i9_model.specs.declared.event.Event.{Event}
-use Rattle.i9_model.specs.Before.{choice_in, interrupt_in}
+use Rattle.i9_model.specs.Before.{Received, choice_in, interrupt_in, received_in}
 use Rattle.i9_model.specs.State.{State}
 use Rattle.i9_model.specs.Step.{first_word, next_word}
 use Rattle.i9_model.specs.Access.{hazard_of, fetch_hazard}
-use Rattle.i9_model.specs.Unbuilt.{is_built, is_imprecise, is_traced}
+use Rattle.i9_model.specs.Unbuilt.{is_imprecise, is_traced}
 use Rattle.i9_model.specs.Standing.{Standing, Meets, NotBuilt, Refused, Faults, Runs, raised_in, later_fault, by_access, by_later, by_raised, by_word, by_fetch, stands_at}
 use Rattle.i9_model.specs.declared.run.Due.{Due}
 use Rattle.i9_model.specs.declared.run.Due.TheVariants as dues
 use Rattle.i9_model.specs.declared.run.End.TheVariants.{Limit}
-use Rattle.i9_model.specs.Run.{Kind, Instruction, Faulted, Entered, Interrupted, Reached, Record, record_of, Does, Ends, next_by_standing, next_by_entry, entry_in, next_by_event, next_by_interrupt, next_by_choice, next_in, fault_at}
+use Rattle.i9_model.specs.Run.{Kind, Instruction, Faulted, Entered, Interrupted, Reached, Blocked, Record, record_of, reached_kind, Does, Ends, next_by_standing, next_by_entry, entry_in, next_by_event, next_by_interrupt, next_by_choice, next_in, fault_at}
 
 -- ---- what is done is decoded
 
@@ -55,11 +55,7 @@ raised_stands s i None d = by_precision (is_imprecise i s)
 
 word_stands : (s : State) (r : Result Inst BadWord) → decoded (first_word s) (next_word s) ≡ r → Stands s (by_word s r)
 word_stands s (Err e) d = tt
-word_stands s (Ok i) d = by_form (is_built i)
-  where
-    by_form : (b : Bool) → Stands s (cond b (by_raised i s (raised_in i s)) NotBuilt)
-    by_form true = raised_stands s i (raised_in i s) d
-    by_form false = tt
+word_stands s (Ok i) d = raised_stands s i (raised_in i s) d
 
 fetch_stands : (s : State) (h : Option ℕ) → Stands s (by_fetch s h)
 fetch_stands s (Some a) = tt
@@ -74,7 +70,8 @@ IsRead s (Instruction i) = IsDecoded s i
 IsRead s (Faulted inst fault) = Unit {0}
 IsRead s (Entered e) = Unit {0}
 IsRead s (Interrupted c e) = Unit {0}
-IsRead s (Reached e) = Unit {0}
+IsRead s (Reached e u) = Unit {0}
+IsRead s (Blocked e a) = Unit {0}
 
 read_by : (s : State) (k : Kind) (r : Record) → IsRead s k → Does (record_of k s) ≡ Does r → IsRead s r.kind
 read_by s k r d e = let same : record_of k s ≡ r = cc in subst (λ (q : Record). IsRead s q.kind) same d
@@ -91,9 +88,14 @@ entry_read s (Ok x) r e = read_by s (Entered x) r tt e
 entry_read s (Err (stops.Hazard a)) r e = absurd cc
 entry_read s (Err (stops.Dead code a)) r e = absurd cc
 
+reached_read : (x : Event) (s : State) (o : Result Received ℕ) (r : Record) → Does (record_of (reached_kind x o) s) ≡ Does r
+    → IsRead s r.kind
+reached_read x s (Ok u) r e = read_by s (Reached x u) r tt e
+reached_read x s (Err a) r e = read_by s (Blocked x a) r tt e
+
 event_read : (stands : Option Event) (s : State) (r : Record) → next_by_event stands s ≡ Does r → IsRead s r.kind
 unfolding stands_at
-event_read (Some x) s r e = read_by s (Reached x) r tt e
+event_read (Some x) s r e = reached_read x s (received_in s x) r e
 event_read None s r e = standing_read s (stands_at s) r (fetch_stands s (fetch_hazard s)) e
 
 interrupt_read : (s : State) (c : Chosen) (o : Result Entry ℕ) (r : Record) → next_by_interrupt s c o ≡ Does r → IsRead s r.kind

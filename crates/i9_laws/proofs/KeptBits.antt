@@ -6,7 +6,7 @@ use Rattle.std.specs.Int.RustNames.{int_div}
 use Rattle.std.proofs.lemmas.Nat.{and_assoc, and_comm, and_mod, and_mask, and_shr}
 use Rattle.std.proofs.lemmas.Nat.Bits.{bit_at_and, bit_at_or, same_from_bits}
 use Rattle.i9_isa.specs.declared.op.Op.{Op}
-use Rattle.i9_isa.specs.declared.op.Op.TheVariants.{Lda, Atadd, Atmod, Bx, Balx, Bal, Call, Callx, Calls, Ret, Flushreg, Modac, Modtc, Modpc, Sysctl, Cmpinco, Cmpinci, Cmpdeco, Cmpdeci, Addc, Subc, Spanbit, Scanbit, Cmpo, Cmpi, Concmpo, Concmpi, Scanbyte, Chkbit, Addi, Subi, Muli, Shli, Divo, Remo, Divi, Remi, Modi, Ediv}
+use Rattle.i9_isa.specs.declared.op.Op.TheVariants.{Lda, Atadd, Atmod, Bx, Balx, Bal, Call, Callx, Calls, Ret, Flushreg, Modac, Modtc, Modpc, Sdma, Sysctl, Cmpinco, Cmpinci, Cmpdeco, Cmpdeci, Addc, Subc, Spanbit, Scanbit, Cmpo, Cmpi, Concmpo, Concmpi, Scanbyte, Chkbit, Addi, Subi, Muli, Shli, Divo, Remo, Divi, Remi, Modi, Ediv}
 use Rattle.i9_isa.specs.declared.size.Size.{Size}
 use Rattle.i9_isa.specs.declared.size.Direction.{Direction}
 use Rattle.i9_isa.specs.declared.size.Direction.TheVariants.{Load, Store}
@@ -37,7 +37,7 @@ use Rattle.i9_model.specs.declared.run.Due.{Due}
 use Rattle.i9_model.specs.declared.interrupts.Chosen.{Chosen}
 use Rattle.i9_model.specs.declared.event.Event.{Event}
 use Rattle.i9_model.specs.Before.{choice_in, interrupt_in, interrupting}
-use Rattle.i9_model.specs.Run.{Given, Record, Kind, Instruction, Faulted, Entered, Interrupted, Reached, action_by_kind, due_after, event_after, state_after, IsPast, entry_in, faulted_words}
+use Rattle.i9_model.specs.Run.{Given, Record, Kind, Instruction, Faulted, Entered, Interrupted, Reached, Blocked, action_by_kind, due_after, event_after, state_after, IsPast, entry_in, faulted_words}
 use Rattle.i9_model.proofs.ControlLaws.{by_group}
 use Rattle.i9_model.proofs.Comes.{MayCome, next_comes}
 use Rattle.i9_model.proofs.KeptBits.{masked, same_above}
@@ -223,6 +223,7 @@ name_kept Flushreg i s h = passing_kept s i h
 name_kept Modac i s h = record { ac = masked AC_MASK _; pc = h.pc; tc = h.tc; ip = following_even s (words_of i) h }
 name_kept Modtc i s h = record { ac = h.ac; pc = h.pc; tc = masked TC_MASK _; ip = following_even s (words_of i) h }
 name_kept Modpc i s h = record { ac = h.ac; pc = masked PC_MASK _; tc = h.tc; ip = following_even s (words_of i) h }
+name_kept Sdma i s h = passing_kept s i h
 name_kept Sysctl i s h = message_kept (message_kind (message_of i s)) i s h
 name_kept op i s h = other_kept (asks (question_of op)) i s h
 
@@ -263,7 +264,8 @@ kind_kept limit due stands (Faulted inst fault) s may h =
     going_kept s (wrapped (s.ip + 4 * words)) h (following_even s words h)
 kind_kept limit due stands (Entered e) s may h = entering_kept s may.0 e h may.2
 kind_kept limit due stands (Interrupted c e) s may h = interrupting_kept s c e h may.2 may.3
-kind_kept limit due stands (Reached e) s may h = record { ac = h.ac; pc = h.pc; tc = h.tc; ip = h.ip }
+kind_kept limit due stands (Reached e u) s may h = record { ac = h.ac; pc = h.pc; tc = h.tc; ip = h.ip }
+kind_kept limit due stands (Blocked e a) s may h = going_kept s s.ip h h.ip
 
 -- ---- the state after it
 

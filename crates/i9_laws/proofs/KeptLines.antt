@@ -1,10 +1,10 @@
--- Along every run of a schedule's plan the pending and the mask word have the bits of lines alone.
-use Rattle.std.proofs.Common.{◌≡◌, ℕ, zero, suc, ◌^◌, ◌<◌, Bool, true, false, cond, eqb, List, [], ◌∷◌, length, Option, Some, None, refl, sym, ◌∙◌, subst, arith}
-use Rattle.std.specs.Prelude.{◌==◌}
-use Rattle.std.specs.List.{slice_get, AllByRecursion}
+-- Along every run of a schedule's plan the pending and the mask word have the bits of lines alone, and the DMA command word
+-- those of channels.
+use Rattle.std.proofs.Common.{◌≡◌, ℕ, ◌+◌, ◌^◌, ◌<◌, ◌≤◌, Bool, true, false, cond, eqb, List, [], ◌∷◌, Option, Some, None, refl, sym, ◌∙◌, subst, arith}
+use Rattle.std.specs.Prelude.{◌==◌, ◌&&◌}
 use Rattle.std.proofs.lemmas.Nat.{and_mask, pow_below}
 use Rattle.i9_isa.specs.declared.op.Op.{Op}
-use Rattle.i9_isa.specs.declared.op.Op.TheVariants.{Lda, Atadd, Atmod, Bx, Balx, Bal, Call, Callx, Calls, Ret, Flushreg, Modac, Modtc, Modpc, Sysctl}
+use Rattle.i9_isa.specs.declared.op.Op.TheVariants.{Lda, Atadd, Atmod, Bx, Balx, Bal, Call, Callx, Calls, Ret, Flushreg, Modac, Modtc, Modpc, Sdma, Sysctl}
 use Rattle.i9_isa.specs.declared.size.Size.{Size}
 use Rattle.i9_isa.specs.declared.size.Direction.{Direction}
 use Rattle.i9_isa.specs.declared.size.Direction.TheVariants.{Load, Store}
@@ -13,38 +13,41 @@ use Rattle.i9_isa.specs.declared.inst.Operand.{Operand}
 use Rattle.i9_isa.specs.declared.inst.Operand.TheVariants.{Reg, Lit, Sfr}
 use Rattle.i9_isa.specs.declared.inst.Inst.{Inst}
 use Rattle.i9_isa.specs.Transfers.{transfer_of}
-use Rattle.i9_model.specs.declared.interrupts.TheConstants.{LINE_MASK}
+use Rattle.i9_model.specs.declared.interrupts.TheConstants.{LINE_MASK, FIRST_DMA_LINE}
+use Rattle.i9_model.specs.declared.dma.TheConstants.{COMMAND_MASK, FIRST_ENDED_PLACE}
 use Rattle.i9_model.specs.declared.interrupts.Cause.{Cause}
 use Rattle.i9_model.specs.declared.interrupts.Cause.TheVariants as causes
 use Rattle.i9_model.specs.declared.event.Event.{Event}
 use Rattle.i9_model.specs.declared.event.Event.TheVariants.{Pin, Nmi, Dma, Feed, Show}
-use Rattle.i9_model.specs.declared.event.Timed.{Timed}
 use Rattle.i9_model.specs.declared.run.Due.{Due}
-use Rattle.i9_model.specs.Events.{IsInRange}
-use Rattle.i9_model.specs.ScheduleText.{IsTimedInRange, IsPlan, time_of, event_at, standing}
+use Rattle.i9_model.specs.Events.{last_channel, IsInRange}
+use Rattle.i9_model.specs.ScheduleText.{IsPlan}
 use Rattle.i9_model.specs.Memory.{word_in}
 use Rattle.i9_model.specs.State as states
-use Rattle.i9_model.specs.State.{State, Interrupts, started, boot}
+use Rattle.i9_model.specs.State.{State, Interrupts, Channel, started, boot}
 use Rattle.i9_model.specs.Numbers.{complement}
 use Rattle.i9_model.specs.Branches.{asks, question_of}
-use Rattle.i9_model.specs.Operands.{with_pending, with_mask, interrupts_assigned, address}
-use Rattle.i9_model.specs.Interrupts.{cleared}
+use Rattle.i9_model.specs.Operands.{with_pending, with_mask, with_command, with_dma_special, interrupts_assigned, dma_assigned, value, address}
+use Rattle.i9_model.specs.Interrupts.{posted, cleared}
+use Rattle.i9_model.specs.Requests.{without_bit}
+use Rattle.i9_model.specs.Dma.{set_up, is_last, posts_at_end, ended, dma_behind}
 use Rattle.i9_model.specs.Tables.{group_words}
 use Rattle.i9_model.specs.Controls.{Control, KeepsControls, Restarts, LoadsGroup, controlled}
-use Rattle.i9_model.specs.Step.{Action, loaded, atomic_address, following, values_of, destination, answer_in, branching, resulting, moving, Message, AsksNothing, AsksInterrupt, AsksRestart, AsksGroup, message_kind, message_of, message_action, action_by_name, action_by, action_of, moved, acted}
-use Rattle.i9_model.specs.Before.{posted_by}
-use Rattle.i9_model.specs.Run.{Given, Record, Kind, Instruction, Faulted, Entered, Interrupted, Reached, action_by_kind, due_after, reached_after, event_after, state_after, IsPast}
+use Rattle.i9_model.specs.Step.{Action, loaded, atomic_address, following, values_of, destination, answer_in, branching, resulting, moving, channel_in, Message, AsksNothing, AsksInterrupt, AsksRestart, AsksGroup, message_kind, message_of, message_action, action_by_name, action_by, action_of, moved, acted}
+use Rattle.i9_model.specs.Before.{Received}
+use Rattle.i9_model.specs.Run.{Given, Record, Kind, Instruction, Faulted, Entered, Interrupted, Reached, Blocked, action_by_kind, due_after, event_after, state_after, IsPast}
 use Rattle.i9_model.proofs.ControlLaws.{by_group}
 use Rattle.i9_model.proofs.Comes.{MayCome, next_comes}
 use Rattle.i9_model.proofs.KeptBits.{masked}
-use Rattle.i9_laws.specs.Kept.{IsWithin, IsWord}
+use Rattle.i9_laws.specs.Kept.{IsWithin}
+use Rattle.i9_laws.proofs.EventCases.{event_range, IsByUnit, IsByEvent, received_as}
 use Rattle.i9_laws.proofs.KeptBits.{masked_more, masked_or}
 
--- the words of the special function registers: two of lines, and the DMA command word
+-- the words of the special function registers: two of lines, and the DMA command word with the bits of channels
 pub record AreLines (i : Interrupts) (d : states.Dma) : Type 0 where
   pub pending : IsWithin LINE_MASK i.pending
   pub mask : IsWithin LINE_MASK i.mask
-  pub command : IsWord d.dmac
+  pub command : IsWithin COMMAND_MASK d.dmac
 
 abbrev pub HasLines : State → Type 0
 HasLines s = AreLines s.interrupts s.dma
@@ -58,13 +61,9 @@ LeavesLines a = AreLines a.interrupts a.dma
 line_bit : (k : ℕ) → k < 12 → IsWithin LINE_MASK (2 ^ k)
 line_bit k h = let small = pow_below k 12 h in and_mask (2 ^ k) 12 ∙ omega (arith, small)
 
-posted_lines : (e : Event) (i : Interrupts) (d : states.Dma) → IsInRange e → AreLines i d → AreLines (posted_by e i) d
-posted_lines (Pin x) i d range h =
-    record { pending = masked_or LINE_MASK i.pending (2 ^ x) h.pending (line_bit x (omega (arith, range))); mask = h.mask; command = h.command }
-posted_lines Nmi i d range h = record { pending = h.pending; mask = h.mask; command = h.command }
-posted_lines (Dma c) i d range h = h
-posted_lines (Feed c bytes) i d range h = h
-posted_lines (Show a n) i d range h = h
+posted_lines : (k : ℕ) (i : Interrupts) (d : states.Dma) → k < 12 → AreLines i d → AreLines (posted i k) d
+posted_lines k i d small h =
+    record { pending = masked_or LINE_MASK i.pending (2 ^ k) h.pending (line_bit k small); mask = h.mask; command = h.command }
 
 cleared_lines : (c : Cause) (i : Interrupts) (d : states.Dma) → AreLines i d → AreLines (cleared c i) d
 cleared_lines causes.Nmi i d h = record { pending = h.pending; mask = h.mask; command = h.command }
@@ -78,16 +77,46 @@ special_lines true b v i d h = record { pending = masked LINE_MASK v; mask = h.m
 special_lines false true v i d h = record { pending = h.pending; mask = masked LINE_MASK v; command = h.command }
 special_lines false false v i d h = h
 
-assigned_lines : (o : Operand) (vs : List ℕ) (i : Interrupts) (d : states.Dma) → AreLines i d → AreLines (interrupts_assigned o vs i) d
+command_lines : (b : Bool) (v : ℕ) (i : Interrupts) (d : states.Dma) → AreLines i d → AreLines i (cond b (with_command d v) d)
+command_lines true v i d h = record { pending = h.pending; mask = h.mask; command = masked COMMAND_MASK v }
+command_lines false v i d h = h
+
+assigned_lines : (o : Operand) (vs : List ℕ) (i : Interrupts) (d : states.Dma) → AreLines i d
+    → AreLines (interrupts_assigned o vs i) (dma_assigned o vs d)
 assigned_lines (Reg r) vs i d h = h
 assigned_lines (Lit n) vs i d h = h
 assigned_lines (Sfr k) [] i d h = h
-assigned_lines (Sfr k) (v ∷ vs) i d h = special_lines (k == 0) (k == 1) v i d h
+assigned_lines (Sfr k) (v ∷ vs) i d h =
+    special_lines (k == 0) (k == 1) v i (with_dma_special k v d) (command_lines (k == 2) v i d h)
+
+-- ---- the DMA command word
+
+-- the bits of channels are the low eight
+channel_bit : (k : ℕ) → k < 8 → IsWithin COMMAND_MASK (2 ^ k)
+channel_bit k h = let small = pow_below k 8 h in and_mask (2 ^ k) 8 ∙ omega (arith, small)
+
+without_command : (w k : ℕ) → IsWithin COMMAND_MASK w → IsWithin COMMAND_MASK (without_bit w k)
+without_command w k h = masked_more COMMAND_MASK w (complement (2 ^ k)) h
+
+-- a channel has ended or not
+ended_command : (b : Bool) (w c : ℕ) → c ≤ last_channel → IsWithin COMMAND_MASK w → IsWithin COMMAND_MASK (cond b (ended w c) w)
+ended_command true w c small h =
+    let k = FIRST_ENDED_PLACE + c in
+    masked_or COMMAND_MASK (without_bit w c) (2 ^ k) (without_command w c h) (channel_bit k (omega (arith, small)))
+ended_command false w c small h = h
+
+set_up_lines : (c : ℕ) (channel : Channel) (s : State) → HasLines s → AreLines s.interrupts (set_up s.dma c channel)
+unfolding set_up
+set_up_lines c channel s h =
+    let w = s.dma.dmac in
+    let command = without_command (without_bit w c) (FIRST_ENDED_PLACE + c) (without_command w c h.command) in
+    record { pending = h.pending; mask = h.mask; command = command }
 
 -- ---- an instruction
 
 -- a destination gets values
-assigning_lines : (o : Operand) (vs : List ℕ) (s : State) → HasLines s → AreLines (interrupts_assigned o vs s.interrupts) s.dma
+assigning_lines : (o : Operand) (vs : List ℕ) (s : State) → HasLines s
+    → AreLines (interrupts_assigned o vs s.interrupts) (dma_assigned o vs s.dma)
 assigning_lines o vs s h = assigned_lines o vs s.interrupts s.dma h
 
 message_lines : (m : Message) (i : Inst) (s : State) → HasLines s → LeavesLines (message_action m i s)
@@ -115,6 +144,7 @@ name_lines Flushreg i s h = h
 name_lines Modac i s h = assigning_lines i.c (s.ac ∷ []) s h
 name_lines Modtc i s h = assigning_lines i.c (s.trace.tc ∷ []) s h
 name_lines Modpc i s h = assigning_lines i.c (s.pc ∷ []) s h
+name_lines Sdma i s h = set_up_lines (value s i.a) (channel_in i s) s h
 name_lines Sysctl i s h = message_lines (message_kind (message_of i s)) i s h
 name_lines op i s h = other_lines (asks (question_of op)) i s h
 
@@ -132,25 +162,29 @@ instruction_lines i s h = by_transfer (transfer_of i.op)
 
 -- ---- what comes next
 
--- an event of a plan is in its range
-plan_range : (plan : List Timed) (place : ℕ) (t : Timed) → AllByRecursion IsTimedInRange plan → slice_get plan place ≡ Some t
-    → IsInRange t.event
-plan_range [] place t all is = absurd cc
-plan_range (x ∷ plan) zero t all is = let same : x ≡ t = cc in subst (λ (y : Timed). IsInRange y.event) same all.0.event
-plan_range (x ∷ plan) (suc place) t all is = plan_range plan place t all.1 is
+-- what is received leaves lines
+abbrev ReceivesLines : Received → Type 0
+ReceivesLines u = AreLines u.interrupts u.dma
 
--- and so is one that stands
-standing_range : (plan : List Timed) (place k : ℕ) (e : Event) → AllByRecursion IsTimedInRange plan → standing plan place k ≡ Some e
-    → IsInRange e
-standing_range plan place k e all is = by_place (slice_get plan place) refl is
+unit_lines : (s : State) (c : ℕ) (given : Option (List ℕ)) → c ≤ last_channel → HasLines s → IsByUnit ReceivesLines s c given
+unfolding dma_behind
+unit_lines s c given small h = (h, posted_at_end (is_last (s.dma.channels c) && posts_at_end (s.dma.channels c)))
   where
-    by_time : (t : Timed) (b : Bool) → IsInRange t.event → cond b (Some t.event) None ≡ Some e → IsInRange e
-    by_time t true range h = let same : t.event ≡ e = cc in subst IsInRange same range
-    by_time t false range h = absurd cc
+    behind : AreLines s.interrupts (dma_behind s.dma c)
+    behind =
+        let command = ended_command (is_last (s.dma.channels c)) s.dma.dmac c small h.command in
+        record { pending = h.pending; mask = h.mask; command = command }
 
-    by_place : (o : Option Timed) → slice_get plan place ≡ o → event_at k o ≡ Some e → IsInRange e
-    by_place None at h = absurd cc
-    by_place (Some t) at h = by_time t (time_of t == k) (plan_range plan place t all at) h
+    posted_at_end : (b : Bool) → AreLines (cond b (posted s.interrupts (FIRST_DMA_LINE + c)) s.interrupts) (dma_behind s.dma c)
+    posted_at_end true = posted_lines (FIRST_DMA_LINE + c) s.interrupts (dma_behind s.dma c) (omega (arith, small)) behind
+    posted_at_end false = behind
+
+event_lines : (s : State) (e : Event) → IsInRange e → HasLines s → IsByEvent ReceivesLines s e
+event_lines s (Pin x) range h = posted_lines x s.interrupts s.dma (omega (arith, range)) h
+event_lines s Nmi range h = record { pending = h.pending; mask = h.mask; command = h.command }
+event_lines s (Dma c) range h = unit_lines s c None range h
+event_lines s (Feed c bytes) range h = unit_lines s c (Some bytes.items) range.0 h
+event_lines s (Show a n) range h = h
 
 kind_lines : (limit : ℕ) (due : Due) (stands : Option Event) (k : Kind) (s : State) → ((e : Event) → stands ≡ Some e → IsInRange e)
     → MayCome limit due stands s k → HasLines s → LeavesLines (action_by_kind k s)
@@ -158,7 +192,8 @@ kind_lines limit due stands (Instruction i) s range may h = instruction_lines i 
 kind_lines limit due stands (Faulted inst fault) s range may h = h
 kind_lines limit due stands (Entered e) s range may h = h
 kind_lines limit due stands (Interrupted c e) s range may h = cleared_lines c.cause s.interrupts s.dma h
-kind_lines limit due stands (Reached e) s range may h = posted_lines e s.interrupts s.dma (range e may.2) h
+kind_lines limit due stands (Reached e u) s range may h = received_as ReceivesLines s e u (event_lines s e (range e may.2) h) may.3
+kind_lines limit due stands (Blocked e a) s range may h = h
 
 -- ---- the state after it
 
@@ -171,7 +206,7 @@ group_lines false false false s group ws h = h
 controlled_lines : (s : State) (c : Control) → HasLines s → HasLines (controlled s c)
 unfolding started
 controlled_lines s KeepsControls h = h
-controlled_lines s (Restarts first prcb) h = record { pending = refl; mask = refl; command = omega arith }
+controlled_lines s (Restarts first prcb) h = record { pending = refl; mask = refl; command = refl }
 controlled_lines s (LoadsGroup group) h =
     group_lines (eqb group 0) (eqb group 1) (eqb group 6) s group (group_words s.memory s.tables.control_table group) h
 
@@ -183,14 +218,14 @@ acted_lines s a h = controlled_lines (moved s a) a.control h
 
 boot_lines : (image : List (ℕ × ℕ)) → HasLines (boot image)
 unfolding boot started
-boot_lines image = record { pending = refl; mask = refl; command = omega arith }
+boot_lines image = record { pending = refl; mask = refl; command = refl }
 
 pub lines_after : (g : Given) (rs : List Record) → IsPlan g.plan → IsPast g rs → HasLines (state_after g rs)
 lines_after g [] plan past = boot_lines g.image
 lines_after g (r ∷ rs) plan past =
     let s = state_after g rs in
     let event = event_after g rs in
-    let range = λ (e : Event) (is : event ≡ Some e). standing_range g.plan (length (reached_after rs)) s.count e plan.each is in
+    let range = λ (e : Event) (is : event ≡ Some e). event_range g rs e plan is in
     let comes = next_comes g.length (due_after rs) event s r past.1 in
     let leaves = kind_lines g.length (due_after rs) event r.kind s range comes.1 (lines_after g rs plan past.0) in
     subst (λ (q : Record). HasLines q.after) (sym comes.0) (acted_lines s (action_by_kind r.kind s) leaves)

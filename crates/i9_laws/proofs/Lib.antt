@@ -1,5 +1,6 @@
 pub mod Entered
 pub mod Vectors
+pub mod EventCases
 pub mod KeptBits
 pub mod KeptLines
 pub mod Decoded

@@ -13,8 +13,8 @@ use Rattle.i9_model.specs.declared.run.Due.TheVariants as dues
 use Rattle.i9_model.specs.declared.run.End.TheVariants.{Limit}
 use Rattle.i9_model.specs.State.{State, started, boot}
 use Rattle.i9_model.specs.ScheduleText.{time_of, InOrder, IsPlan, standing}
-use Rattle.i9_model.specs.Before.{choice_in, interrupt_in}
-use Rattle.i9_model.specs.Run.{Given, Kind, Instruction, Faulted, Entered, Interrupted, Reached, Record, record_of, counts_of, action_by_kind, Does, Ends, next_by_entry, entry_in, next_by_event, next_by_interrupt, next_by_choice, next_in, due_after, reached_by, reached_after, event_after, state_after, IsPast}
+use Rattle.i9_model.specs.Before.{Received, choice_in, interrupt_in, received_in}
+use Rattle.i9_model.specs.Run.{Given, Kind, Instruction, Faulted, Entered, Interrupted, Reached, Blocked, Record, record_of, reached_kind, counts_of, action_by_kind, Does, Ends, next_by_entry, entry_in, next_by_event, next_by_interrupt, next_by_choice, next_in, due_after, reached_by, reached_after, event_after, state_after, IsPast}
 use Rattle.i9_model.proofs.ControlLaws.{acted-count}
 use Rattle.i9_model.proofs.Comes.{next_comes}
 
@@ -69,10 +69,16 @@ kind_counts (Instruction i) = inr (refl, refl)
 kind_counts (Faulted inst fault) = inr (refl, refl)
 kind_counts (Entered e) = inl refl
 kind_counts (Interrupted c e) = inl refl
-kind_counts (Reached e) = inl refl
+kind_counts (Reached e u) = inl refl
+kind_counts (Blocked e a) = inl refl
+
+reached_counts : (x : Event) (s : State) (o : Result Received ℕ) (r : Record) → Does (record_of (reached_kind x o) s) ≡ Does r
+    → Counts (Some x) r.kind
+reached_counts x s (Ok u) r e = counts_by (Some x) s (Reached x u) r (inl refl) e
+reached_counts x s (Err a) r e = counts_by (Some x) s (Blocked x a) r (inl refl) e
 
 event_counts : (stands : Option Event) (s : State) (r : Record) → next_by_event stands s ≡ Does r → Counts stands r.kind
-event_counts (Some x) s r e = counts_by (Some x) s (Reached x) r (inl refl) e
+event_counts (Some x) s r e = reached_counts x s (received_in s x) r e
 event_counts None s r e = kind_counts r.kind
 
 interrupt_counts : (stands : Option Event) (s : State) (c : Chosen) (o : Result Entry ℕ) (r : Record)

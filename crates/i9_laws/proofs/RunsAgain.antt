@@ -12,9 +12,9 @@ use Rattle.i9_model.specs.declared.run.End.{End}
 use Rattle.i9_model.specs.declared.run.End.TheVariants.{Limit}
 use Rattle.i9_model.specs.declared.run.Point.{Point}
 use Rattle.i9_model.specs.State.{State}
-use Rattle.i9_model.specs.ScheduleText.{IsPlan, IsSchedule}
-use Rattle.i9_model.specs.Before.{choice_in}
-use Rattle.i9_model.specs.Run.{Given, Kind, Instruction, Faulted, Entered, Interrupted, Reached, Record, record_of, Next, Does, Ends, action_done, point_of, next_by_choice, next_in, due_after, reached_by, reached_after, state_after, next, IsPast, IsRun}
+use Rattle.i9_model.specs.ScheduleText.{timed_at, IsPlan, IsSchedule}
+use Rattle.i9_model.specs.Before.{Received, choice_in, received_in}
+use Rattle.i9_model.specs.Run.{Given, Kind, Instruction, Faulted, Entered, Interrupted, Reached, Blocked, Record, record_of, reached_kind, Next, Does, Ends, action_done, point_of, next_by_choice, next_in, due_after, reached_by, reached_after, state_after, next, IsPast, IsRun}
 use Rattle.i9_model.specs.PrintedText.{Shown, Out, Drained, Journal, Bytes, Last, out_lines, point_lines, bytes_lines, event_lines, record_lines, lines_of, end_lines, text_of, events_of, run_text}
 use Rattle.i9_model.specs.Memory.{console_byte}
 use Rattle.i9_model.specs.PlannedRuns.{Stepping, Tally, IsHeedful, next_by, IsPastBy}
@@ -37,7 +37,8 @@ none_reached limit due s u (Instruction i) may = refl
 none_reached limit due s u (Faulted inst fault) may = refl
 none_reached limit due s u (Entered e) may = refl
 none_reached limit due s u (Interrupted c e) may = refl
-none_reached limit due s u (Reached e) may = absurd (let no = may.2 in cc no)
+none_reached limit due s u (Reached e does) may = absurd (let no = may.2 in cc no)
+none_reached limit due s u (Blocked e a) may = absurd (let no = may.2 in cc no)
 
 quietly : (g : Given) (rs : List Record) (r : Record) → step g None rs ≡ Does r → reached_after (r ∷ rs) ≡ reached_after rs
 quietly g rs r e =
@@ -46,13 +47,21 @@ quietly g rs r e =
     ap (λ (ts : List Timed). reached_after rs ++ ts) (none_reached g.length (due_after rs) s r.before r.kind comes.1)
     ∙ append-nil (reached_after rs)
 
+-- the record of an event that is reached, whether it does something or meets a hazard
+abbrev reached_record : State → Event → Record
+reached_record s e = record_of (reached_kind e (received_in s e)) s
+
+it_reached : (s : State) (e : Event) (o : Result Received ℕ) → reached_by (reached_kind e o) s ≡ timed_at s.count e ∷ []
+it_reached s e (Ok u) = refl
+it_reached s e (Err a) = refl
+
 -- an event that stands changes nothing, or it is reached
 abbrev Heeds : ℕ → Due → State → Event → Type 0
 Heeds limit due s e =
-    (next_in limit due (Some e) s ≡ next_in limit due None s) ⊎ (next_in limit due (Some e) s ≡ Does (record_of (Reached e) s))
+    (next_in limit due (Some e) s ≡ next_in limit due None s) ⊎ (next_in limit due (Some e) s ≡ Does (reached_record s e))
 
 choice_heeds : (s : State) (e : Event) (o : Result (Option Chosen) ℕ)
-    → (next_by_choice (Some e) s o ≡ next_by_choice None s o) ⊎ (next_by_choice (Some e) s o ≡ Does (record_of (Reached e) s))
+    → (next_by_choice (Some e) s o ≡ next_by_choice None s o) ⊎ (next_by_choice (Some e) s o ≡ Does (reached_record s e))
 choice_heeds s e (Ok (Some c)) = inl refl
 choice_heeds s e (Ok None) = inr refl
 choice_heeds s e (Err a) = inl refl
@@ -63,9 +72,9 @@ due_heeds limit (dues.Entry fault) s e = inl refl
 due_heeds limit dues.Nothing s e = by_length (eqb s.count limit) (choice_heeds s e (choice_in s))
   where
     by_length : (b : Bool)
-        → (next_by_choice (Some e) s (choice_in s) ≡ next_by_choice None s (choice_in s)) ⊎ (next_by_choice (Some e) s (choice_in s) ≡ Does (record_of (Reached e) s))
+        → (next_by_choice (Some e) s (choice_in s) ≡ next_by_choice None s (choice_in s)) ⊎ (next_by_choice (Some e) s (choice_in s) ≡ Does (reached_record s e))
         → (cond b (Ends Limit) (next_by_choice (Some e) s (choice_in s)) ≡ cond b (Ends Limit) (next_by_choice None s (choice_in s)))
-        ⊎ (cond b (Ends Limit) (next_by_choice (Some e) s (choice_in s)) ≡ Does (record_of (Reached e) s))
+        ⊎ (cond b (Ends Limit) (next_by_choice (Some e) s (choice_in s)) ≡ Does (reached_record s e))
     by_length true h = inl refl
     by_length false h = h
 
@@ -75,7 +84,9 @@ is_heedful g = record {
   quiet = quietly g;
   heard = λ rs e. elim (due_heeds g.length (due_after rs) (state_after g rs) e) [
     | inl same ↦ inl same
-    | inr does ↦ inr (record_of (Reached e) (state_after g rs), does, refl)
+    | inr does ↦
+        let s = state_after g rs in
+        inr (reached_record s e, does, ap (λ (ts : List Timed). reached_after rs ++ ts) (it_reached s e (received_in s e)))
   ];
 }
 
@@ -143,7 +154,8 @@ event_reached (Instruction i) s = refl
 event_reached (Faulted inst fault) s = refl
 event_reached (Entered e) s = refl
 event_reached (Interrupted c e) s = refl
-event_reached (Reached e) s = ap (λ (ts : List Timed). events_of (Journal s.count e ∷ []) ++ ts) (bytes_none e s)
+event_reached (Reached e u) s = ap (λ (ts : List Timed). events_of (Journal s.count e ∷ []) ++ ts) (bytes_none e s)
+event_reached (Blocked e a) s = refl
 
 -- those of a record are what it reached
 record_reached : (r : Record) → events_of (record_lines r) ≡ reached_by r.kind r.before

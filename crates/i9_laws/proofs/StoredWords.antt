@@ -1,6 +1,6 @@
 -- Writes of words and of bytes: what is laid over keeps below the limit of what is written.
-use Rattle.std.proofs.Common.{ℕ, zero, suc, ◌+◌, ◌*◌, ◌^◌, ◌<◌, Bool, true, false, cond, List, [], ◌∷◌, ◌++◌, map, arith}
-use Rattle.std.specs.Prelude.{not, filter, ◌==◌}
+use Rattle.std.proofs.Common.{ℕ, zero, suc, ◌+◌, ◌*◌, ◌^◌, ◌<◌, Bool, true, false, cond, List, [], ◌∷◌, ◌++◌, map, take, arith}
+use Rattle.std.specs.Prelude.{not, filter, slice_index, ◌==◌}
 use Rattle.std.specs.List.{AllByRecursion, range_with_len}
 use Rattle.std.specs.Int.{w16, w32, to_le_bytes, to_be_bytes, from_le_bytes, from_be_bytes}
 use Rattle.i9_model.specs.Writes.{put, written, pairs_at, upwards, wrapped}
@@ -28,9 +28,14 @@ pub put_pairs : (limit : ℕ) (place : ℕ → ℕ) (n : ℕ) (vs : List ℕ) �
 put_pairs limit place n [] h = tt
 put_pairs limit place n (v ∷ vs) h = (h.0, put_pairs limit place (n + 1) vs h.1)
 
-pub below_map : (limit : ℕ) (f : ℕ → ℕ) (a n : ℕ) → ((k : ℕ) → f k < limit) → AreBelow limit (map f (range_with_len a n))
-below_map limit f a zero h = tt
-below_map limit f a (suc n) h = (h a, below_map limit f (a + 1) n h)
+pub below_map : (limit : ℕ) (f : ℕ → ℕ) (xs : List ℕ) → ((x : ℕ) → f x < limit) → AreBelow limit (map f xs)
+below_map limit f [] h = tt
+below_map limit f (x ∷ xs) h = (h x, below_map limit f xs h)
+
+pub below_take : (limit n : ℕ) (vs : List ℕ) → ((k : ℕ) → slice_index vs k < limit) → AreBelow limit (take n vs)
+below_take limit zero vs h = tt
+below_take limit (suc n) [] h = tt
+below_take limit (suc n) (v ∷ vs) h = (h 0, below_take limit n vs (λ k. h (suc k)))
 
 -- ---- writes
 
@@ -113,4 +118,6 @@ word_below m a h =
     word_by (is_big m (region_of a)) (m.bytes a) (m.bytes x) (m.bytes y) (m.bytes z) (h a) (h x) (h y) (h z)
 
 pub words_below : (m : Memory) (a n : ℕ) → ((x : ℕ) → m.bytes x < 256) → AreBelow (2 ^ 32) (words_in m a n)
-words_below m a n h = below_map (2 ^ 32) (λ k. word_in m (wrapped (a + 4 * k))) 0 n (λ k. word_below m (wrapped (a + 4 * k)) h)
+words_below m a n h =
+    let word = λ (k : ℕ). word_in m (wrapped (a + 4 * k)) in
+    below_map (2 ^ 32) word (range_with_len 0 n) (λ k. word_below m (wrapped (a + 4 * k)) h)

@@ -1,9 +1,10 @@
 -- Along every run registers are below 2^32 and bytes of memory below 256, where the bytes of the image are.
 use Rattle.std.proofs.Common.{◌≡◌, ℕ, zero, suc, ◌+◌, ◌-◌, ◌^◌, ◌<◌, Bool, true, false, cond, List, [], ◌∷◌, Option, Some, None, Ok, length, refl, sym, subst, arith}
 use Rattle.std.specs.Prelude.{◌==◌, replicate}
+use Rattle.std.specs.List.{range_with_len}
 use Rattle.std.proofs.lemmas.Nat.{and_le_r}
 use Rattle.i9_isa.specs.declared.op.Op.{Op}
-use Rattle.i9_isa.specs.declared.op.Op.TheVariants.{Lda, Atadd, Atmod, Bx, Balx, Bal, Call, Callx, Calls, Ret, Flushreg, Modac, Modtc, Modpc, Sysctl}
+use Rattle.i9_isa.specs.declared.op.Op.TheVariants.{Lda, Atadd, Atmod, Bx, Balx, Bal, Call, Callx, Calls, Ret, Flushreg, Modac, Modtc, Modpc, Sdma, Sysctl}
 use Rattle.i9_isa.specs.declared.size.Size.{Size}
 use Rattle.i9_isa.specs.declared.size.Size.TheVariants.{Byte, Half, Words}
 use Rattle.i9_isa.specs.declared.size.Direction.{Direction}
@@ -33,19 +34,20 @@ use Rattle.i9_model.specs.Tables.{group_words}
 use Rattle.i9_model.specs.Step.{Move, Stays, Saves, Returns, Flushes, Action, saved_local, saved_locals, pushing, call_action, calls_action, ret_action, first_word, next_word, loaded, moving, merged, atomic, atomic_address, following, answer_in, destination, values_of, branching, resulting, Message, AsksNothing, AsksInterrupt, AsksRestart, AsksGroup, message_kind, message_of, message_action, push_sets, system_call, entering, action_by_name, action_by, action_of, moved, acted}
 use Rattle.i9_model.specs.declared.run.Due.{Due}
 use Rattle.i9_model.specs.declared.interrupts.TheConstants.{LINE_MASK}
+use Rattle.i9_model.specs.declared.dma.TheConstants.{COMMAND_MASK}
 use Rattle.i9_model.specs.declared.interrupts.Chosen.{Chosen}
 use Rattle.i9_model.specs.declared.event.Event.{Event}
 use Rattle.i9_model.specs.ScheduleText.{IsPlan}
 use Rattle.i9_model.specs.Interrupts.{vector_place, base_for}
 use Rattle.i9_model.specs.Before.{interrupt_in, interrupting}
-use Rattle.i9_model.specs.Run.{Given, Record, Kind, Instruction, Faulted, Entered, Interrupted, Reached, action_by_kind, action_done, due_after, event_after, state_after, IsPast, entry_in}
+use Rattle.i9_model.specs.Run.{Given, Record, Kind, Instruction, Faulted, Entered, Interrupted, Reached, Blocked, action_by_kind, action_done, due_after, event_after, state_after, IsPast, entry_in}
 use Rattle.i9_model.proofs.ControlLaws.{by_group}
 use Rattle.i9_model.proofs.Comes.{MayCome, next_comes}
 use Rattle.i9_laws.specs.Kept.{IsWithin, IsWord, HasBytes}
 use Rattle.i9_laws.proofs.Entered.{call_by, entry_by, entry_for, interrupt_made}
 use Rattle.i9_laws.proofs.KeptBits.{IsKept, kept_after}
 use Rattle.i9_laws.proofs.KeptLines.{HasLines, lines_after}
-use Rattle.i9_laws.proofs.BytesAfter.{kind_stores, moved_bytes, image_bytes, boot_bytes}
+use Rattle.i9_laws.proofs.BytesAfter.{done_stores, moved_bytes, image_bytes, boot_bytes}
 use Rattle.i9_laws.proofs.Decoded.{IsSmall, HasSmall, decoded_small, IsRead, next_read}
 use Rattle.i9_laws.proofs.StoredWords.{ArePut, put_append, put_pairs, below_map, written_below, half_below, word_below, words_below}
 use Rattle.i9_laws.proofs.ResultWords.{AreWords, either_word, results_words}
@@ -91,7 +93,7 @@ within_word mask w h e = let k = and_le_r w mask in omega (arith, h, e, k)
 special_word : (a b : Bool) (s : State) → HasLines s → IsWord (cond a s.interrupts.pending (cond b s.interrupts.mask s.dma.dmac))
 special_word true b s l = within_word LINE_MASK s.interrupts.pending (omega arith) l.pending
 special_word false true s l = within_word LINE_MASK s.interrupts.mask (omega arith) l.mask
-special_word false false s l = l.command
+special_word false false s l = within_word COMMAND_MASK s.dma.dmac (omega arith) l.command
 
 value_word : (s : State) (o : Operand) → HasWords s → HasLines s → IsSmall o → IsWord (value s o)
 value_word s (Reg r) h l k = h.regs r
@@ -104,7 +106,7 @@ higher_is_word s (Lit n) k h = omega arith
 higher_is_word s (Sfr j) k h = omega arith
 
 sources_words : (s : State) (o : Operand) (n : ℕ) → HasWords s → HasLines s → IsSmall o → AreWords (source_words s o n)
-sources_words s o n h l small = below_map (2 ^ 32) (word_of s o) 0 n (λ k. by_place k (k == 0))
+sources_words s o n h l small = below_map (2 ^ 32) (word_of s o) (range_with_len 0 n) (λ k. by_place k (k == 0))
   where
     by_place : (k : ℕ) (b : Bool) → IsWord (cond b (value s o) (higher_word s o k))
     by_place k true = value_word s o h l small
@@ -163,7 +165,7 @@ sets_pushed : (p : Push) → IsPushed p → ArePut (2 ^ 32) (push_sets p)
 sets_pushed p h = frame_words (p.pfp ∷ p.sp ∷ replicate 14 0) p.frame (h.pfp, (h.sp, zero_words 14)) h.frame
 
 local_words : (s : State) (back : ℕ) → HasWords s → IsWord back → AreWords (saved_locals s back)
-local_words s back h k = below_map (2 ^ 32) (saved_local s back) 0 LOCALS (λ r. by_register r (r == RIP))
+local_words s back h k = below_map (2 ^ 32) (saved_local s back) (range_with_len 0 LOCALS) (λ r. by_register r (r == RIP))
   where
     by_register : (r : ℕ) (b : Bool) → IsWord (cond b back (s.regs r))
     by_register r true = k
@@ -249,6 +251,7 @@ name_words Flushreg i s h l k small = record { registers = tt; saves = tt; start
 name_words Modac i s h l k small = setting (one_set i.c s.ac (within_word AC_MASK s.ac (omega arith) k.ac)) (behind_word i s)
 name_words Modtc i s h l k small = setting (one_set i.c s.trace.tc (within_word TC_MASK s.trace.tc (omega arith) k.tc)) (behind_word i s)
 name_words Modpc i s h l k small = setting (one_set i.c s.pc (within_word PC_MASK s.pc (omega arith) k.pc)) (behind_word i s)
+name_words Sdma i s h l k small = setting tt (behind_word i s)
 name_words Sysctl i s h l k small = message_words (message_kind (message_of i s)) i s h l small
 name_words op i s h l k small = other_words (asks (question_of op)) i s h l small
 
@@ -288,7 +291,8 @@ kind_words limit due stands (Instruction i) s may d h l k = instruction_words i 
 kind_words limit due stands (Faulted inst fault) s may d h l k = setting tt (omega arith)
 kind_words limit due stands (Entered e) s may d h l k = entering_words s may.0 e h may.2
 kind_words limit due stands (Interrupted c e) s may d h l k = interrupting_words s c e h may.3
-kind_words limit due stands (Reached e) s may d h l k = setting tt h.ip
+kind_words limit due stands (Reached e u) s may d h l k = setting tt h.ip
+kind_words limit due stands (Blocked e a) s may d h l k = setting tt h.ip
 
 -- ---- the state after it
 
@@ -346,7 +350,7 @@ words_after g [] image plan past = boot_words g.image image
 words_after g (r ∷ rs) image plan past =
     let s = state_after g rs in
     let h = words_after g rs image plan past.0 in
-    let stores = kind_stores r.kind s h.bytes in
+    let stores = done_stores g r rs plan past h.bytes in
     let after = acted_words s (action_by_kind r.kind s) (done_words g r rs plan past h) stores h in
     let comes = next_comes g.length (due_after rs) (event_after g rs) s r past.1 in
     subst (λ (q : Record). HasWords q.after) (sym comes.0) (record { regs = after.regs; ip = after.ip; bytes = after.bytes })

@@ -4,6 +4,7 @@ ghost use Rattle.std.specs.Prelude.{◌≡◌, ◌%◌, ◌<◌, ◌∷◌, ◌+
 ghost use Rattle.i9_model.specs.declared.layout.TheConstants.{AC_MASK, PC_MASK, TC_MASK, PFP};
 ghost use Rattle.i9_model.specs.Image.{Part, pairs_of, AreParts};
 ghost use Rattle.i9_model.specs.declared.interrupts.TheConstants.{LINE_MASK};
+ghost use Rattle.i9_model.specs.declared.dma.TheConstants.{COMMAND_MASK};
 ghost use Rattle.i9_model.specs.ScheduleText.{IsPlan};
 ghost use Rattle.i9_model.specs.Run.{Given, Record, IsPast, state_after};
 ghost use Rattle.i9_model.specs.HeldFrames.{AreInMemory};
@@ -12,9 +13,10 @@ ghost use Rattle.i9_laws.specs.LiveFrames.{live_after, addresses_of, AreSaved};
 ghost use Rattle.i9_laws.specs.Undone.{is_call, is_entry, is_return, LeavesRecord, GivesRegisters, GivesControls, HasControls, GivesOldControls};
 
 /// Kept bits stay: along every run the arithmetic, the process and the trace controls have no bits but those that are
-/// kept, and the instruction address is a multiple of 4; where the bytes of the image have 8 bits, as those of segments
-/// have, bytes of memory have 8; where the plan is one of a schedule, whose pins are 0 to 7, the pending and the mask
-/// word have the bits of lines alone; and where both hold, registers and the instruction address have 32 bits.
+/// kept, and the instruction address is a multiple of 4; where the plan is one of a schedule, whose pins are 0 to 7 and
+/// channels 0 to 3, the pending and the mask word have the bits of lines alone, and the DMA command word those of
+/// channels; and where besides the bytes of the image have 8 bits, as those of segments and of a schedule's feeds have,
+/// bytes of memory have 8 bits, and registers and the instruction address 32.
 pub fn kept_bits_stay()
     ensures ac { (g : Given) (rs : List Record) → IsPast g rs → IsWithin AC_MASK (state_after g rs).ac }
     ensures pc { (g : Given) (rs : List Record) → IsPast g rs → IsWithin PC_MASK (state_after g rs).pc }
@@ -24,12 +26,14 @@ pub fn kept_bits_stay()
         → IsWithin LINE_MASK (state_after g rs).interrupts.pending }
     ensures mask { (g : Given) (rs : List Record) → IsPlan g.plan → IsPast g rs
         → IsWithin LINE_MASK (state_after g rs).interrupts.mask }
+    ensures command { (g : Given) (rs : List Record) → IsPlan g.plan → IsPast g rs
+        → IsWithin COMMAND_MASK (state_after g rs).dma.dmac }
     ensures registers { (g : Given) (rs : List Record) → HasBytes g.image → IsPlan g.plan → IsPast g rs
         → (r : ℕ) → IsWord ((state_after g rs).regs r) }
     ensures address { (g : Given) (rs : List Record) → HasBytes g.image → IsPlan g.plan → IsPast g rs
         → IsWord (state_after g rs).ip }
-    ensures bytes { (g : Given) (rs : List Record) → HasBytes g.image → IsPast g rs → (a : ℕ)
-        → (state_after g rs).memory.bytes a < 256 }
+    ensures bytes { (g : Given) (rs : List Record) → HasBytes g.image → IsPlan g.plan → IsPast g rs
+        → (a : ℕ) → (state_after g rs).memory.bytes a < 256 }
     ensures images { (ps : List Part) → AreParts ps → HasBytes (pairs_of ps) }
 {}
 

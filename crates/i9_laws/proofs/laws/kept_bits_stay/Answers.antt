@@ -22,6 +22,9 @@ returns-clause-pending c = λ g rs plan past. (lines_after g rs plan past).pendi
 pub returns-clause-mask : goal.returns-clause-mask
 returns-clause-mask c = λ g rs plan past. (lines_after g rs plan past).mask
 
+pub returns-clause-command : goal.returns-clause-command
+returns-clause-command c = λ g rs plan past. (lines_after g rs plan past).command
+
 pub returns-clause-registers : goal.returns-clause-registers
 returns-clause-registers c = λ g rs image plan past. (words_after g rs image plan past).regs
 
