@@ -9,6 +9,7 @@ use i9_schedule::Schedule;
 
 /// What a step does beside its effect: whether it reaches the next event of the schedule, the drained
 /// point behind it, how many instructions it counts, what is due after it, and what it is answered as.
+#[derive(Clone, Copy)]
 pub(crate) struct Step {
     pub(crate) reaches: bool,
     pub(crate) point: Option<Point>,

@@ -97,8 +97,8 @@ fn shown(p: &Processor, a: u32, n: u8) -> ArrayVec<Option<u8>, MOST_SHOWN>
 fn put_event(event: Option<&Event>, p: &Processor, out: &mut Vec<Line>)
     requires room { vec_len out.old + reached_count (option_copied event) ≤ vec_capacity out.old }
     requires ranges { IfSome event (λ e. IsInRange e.now) }
-    ensures lines { AddsLines out.old.items out.new.items (reached_lines (option_copied event) (state_of p.now)) }
-    ensures len { vec_len out.new ≡ vec_len out.old + reached_count (option_copied event) }
+    ensures lines { AddsLines out.old.items out.new.items (reached_lines (option_copied event.entry) (state_of p.now)) }
+    ensures len { vec_len out.new ≡ vec_len out.old + reached_count (option_copied event.entry) }
     ensures capacity { vec_capacity out.old ≤ vec_capacity out.new }
 {
     let Some(event) = event else {
@@ -118,7 +118,7 @@ fn put_event(event: Option<&Event>, p: &Processor, out: &mut Vec<Line>)
 
 /// How many lines an event has that is reached, where one is.
 fn reached_count(event: Option<&Event>) -> usize
-    ensures { result ≡ reached_count (option_copied event) }
+    ensures { result ≡ reached_count (option_copied event.entry) }
 {
     match event {
         None => 0,
@@ -133,7 +133,7 @@ impl Step {
     /// How many lines it prints: those of an event that it reaches, a byte of the console, and a drained
     /// point.
     fn line_count(&self, effect: &Effect, event: Option<&Event>) -> usize
-        ensures { result ≡ line_count effect.now self.now (option_copied event) }
+        ensures { result ≡ line_count effect.now self.now (option_copied event.entry) }
     {
         let console = usize::from(effect.console_byte().is_some());
         reached_count(event) + (console + usize::from(self.point.is_some()))
@@ -202,10 +202,10 @@ impl Machine {
         ensures ended { self.new.ended ≡ self.old.ended }
         ensures items { out.new.items ≡ out.old.items }
         ensures space { OnOk result (HasSpaceFor self.new.processor effect.now) }
-        ensures lines { OnOk result (vec_len out.new + line_count effect.now step.now (option_copied event) ≤ vec_capacity out.new) }
+        ensures lines { OnOk result (vec_len out.new + line_count effect.now step.now (option_copied event.entry) ≤ vec_capacity out.new) }
         ensures made { IfOk result (AreMade self.old.sets (state_of self.old.processor).memory effect.now.control) }
-        ensures needed { OnErr result (asks_room (state_of self.old.processor) effect.now step.now (option_copied event) ≡ true) }
-        ensures lacking { OnErr result (HasRoomForStep self.old (vec_capacity out.old - vec_len out.old) effect.now step.now (option_copied event) → ⊥) }
+        ensures needed { OnErr result (asks_room (state_of self.old.processor) effect.now step.now (option_copied event.entry) ≡ true) }
+        ensures lacking { OnErr result (HasRoomForStep self.old (vec_capacity out.old - vec_len out.old) effect.now step.now (option_copied event.entry) → ⊥) }
     {
         let sets = self.make_sets(effect.control)?;
         self.processor.reserve(effect)?;
@@ -238,7 +238,7 @@ impl Machine {
         ensures answer { result ≡ step.now.answer }
         ensures count { (state_of self.new.processor).count ≡ (state_of self.old.processor).count + step.now.counts }
         ensures lines { AddsLines out.old.items out.new.items
-            (lines_of effect.now step.now (option_copied event) (state_of self.old.processor)
+            (lines_of effect.now step.now (option_copied event.entry) (state_of self.old.processor)
             (state_behind self.old effect.now step.now)) }
     {
         put_event(event, &self.processor, out);

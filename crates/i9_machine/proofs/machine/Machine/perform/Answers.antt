@@ -22,8 +22,8 @@ go_on-requires c = λ reaches.
     let step = c.requires.step in
     step_within c.args.self.now c.args.plan.now step.kind step.is_next (sym step.reaches ∙ reaches)
 
-pub act-requires-clause-ready : goal.act-requires-clause-ready
-act-requires-clause-ready c =
+pub act-answer-requires-clause-ready : goal.act-answer-requires-clause-ready
+act-answer-requires-clause-ready c =
     let old = c.args.self.now in
     let plan = c.args.plan.now in
     let s = state_of old.processor in
@@ -41,8 +41,8 @@ act-requires-clause-ready c =
     subst (λ (n : ℕ). IsReady (state_of c.make_room.new.self.processor) n c.args.effect.now c.args.step.now) (sym c.make_room.ensures.same.length)
     (subst (λ (t : State). IsReady t old.length c.args.effect.now c.args.step.now) (sym c.make_room.ensures.same.state) ready)
 
-pub act-requires-clause-made : goal.act-requires-clause-made
-act-requires-clause-made c =
+pub act-answer-requires-clause-made : goal.act-answer-requires-clause-made
+act-answer-requires-clause-made c =
     let old = c.args.self.now in
     let s = state_of old.processor in
     let step = c.requires.step in
@@ -56,27 +56,27 @@ returns-in-Ok-clause-fewer c =
     let step = c.requires.step in
     let old = c.args.self.now in
     let mid = c.make_room.new.self in
-    let new = c.act.new.self in
+    let new = c.act-answer.new.self in
     let was = c.args.plan.now in
     let plan = c.go_on.new.plan in
     let s = state_of old.processor in
-    let bound : new.length ≡ old.length = c.act.ensures.length ∙ c.make_room.ensures.same.length in
-    let alike = subst (λ (t : State). AreAlike (state_behind_of t c.args.effect.now c.args.step.now) (state_of new.processor)) c.make_room.ensures.same.state c.act.ensures.state in
+    let bound : new.length ≡ old.length = c.act-answer.ensures.length ∙ c.make_room.ensures.same.length in
+    let alike = subst (λ (t : State). AreAlike (state_behind_of t c.args.effect.now c.args.step.now) (state_of new.processor)) c.make_room.ensures.same.state c.act-answer.ensures.state in
     let after = behind_alike old was c.args.step.now c.args.effect.now (state_of new.processor) step alike in
-    let fewer = did_fewer old new was plan (record_of step.kind s) old.below step.is_next after (c.act.ensures.due ∙ step.due) bound (c.go_on.ensures ∙ plan_is_behind old was c.args.step.now c.args.effect.now step) in
-    subst (λ (t : Turn). LeavesFewer t (steps_left old was) (steps_left new plan)) (sym c.act.ensures.answer)
+    let fewer = did_fewer old new was plan (record_of step.kind s) old.below step.is_next after (c.act-answer.ensures.due ∙ step.due) bound (c.go_on.ensures ∙ plan_is_behind old was c.args.step.now c.args.effect.now step) in
+    subst (λ (t : Turn). LeavesFewer t (steps_left old was) (steps_left new plan)) (sym c.act-answer.ensures.answer)
     (fewer_by c.args.step.now.answer s step.kind (steps_left old was) (steps_left new plan) step.tells fewer)
 
 pub returns-in-Ok-clause-lacking : goal.returns-in-Ok-clause-lacking
 returns-in-Ok-clause-lacking c = λ is room.
     let step = c.requires.step in
     let s = state_of c.args.self.now.processor in
-    absurd (no_memory step.kind s (subst (TellsRecord step.kind s) (sym c.act.ensures.answer ∙ is) step.tells))
+    absurd (no_memory step.kind s (subst (TellsRecord step.kind s) (sym c.act-answer.ensures.answer ∙ is) step.tells))
 
 pub returns-in-Err-clause-lacking : goal.returns-in-Err-clause-lacking
 returns-in-Err-clause-lacking c = λ is room.
     let out = c.args.out.now in
     let event = event_in c.args.plan.now c.args.step.now in
     let spare = vec_capacity out - vec_len out in
-    c.in-Err.ensures.lacking (subst (HasRoomForStep c.args.self.now spare c.args.effect.now c.args.step.now) (sym c.event.ensures.event)
+    c.in-Err.ensures.lacking (subst (HasRoomForStep c.args.self.now spare c.args.effect.now c.args.step.now) (sym c.event-event.ensures.event)
     (step_room c.args.self.now c.args.plan.now spare c.args.step.now c.args.effect.now c.requires.step room))

@@ -1,7 +1,9 @@
-use Rattle.std.proofs.Common.{Option, Result, ℕ, ap, ◌∙◌}
+use Rattle.std.proofs.Common.{Option, Result, ℕ, ap, ◌∙◌, subst}
 use Rattle.i9_model.specs.declared.event.Event.{Event}
 use Rattle.i9_model.specs.Before.{Received}
+use Rattle.i9_model.specs.Step.{going}
 use Rattle.i9_model.specs.Run.{Reached, Blocked, Does, record_of, reached_kind, next_by_event}
+use Rattle.i9_processor.specs.Effect.{IsEffect}
 use Rattle.i9_processor.specs.State.{state_of}
 use Rattle.i9_machine.proofs.Stepping.{goes_by_event, one_event, tells_on}
 use Rattle.i9_machine.proofs.machine.Machine.reaches.Goals as goal
@@ -40,7 +42,7 @@ returns-in-Err c =
           goes_by_event m c.args.plan.now c.requires.free c.requires.below c.requires.chosen
           ∙ ap (λ (o : Option Event). next_by_event o s) c.requires.stands
           ∙ ap (λ (p : Result Received ℕ). Does (record_of (reached_kind event p) s)) c.in-Err.ensures;
-      effect = c.go.ensures.effect;
+      effect = subst (λ (n : ℕ). IsEffect s (going s n) c.go.new.self) c.ip.ensures c.go.ensures.effect;
       point = step.point;
       counts = step.counts;
       due = step.due;
