@@ -1,5 +1,5 @@
-use Rattle.std.proofs.Common.{◌<◌, length, Option, Some, None, Result, Ok, Err, refl, sym, ap, ◌∙◌, subst, arith}
-use Rattle.i9_model.specs.Dma.{is_last, unit_length}
+use Rattle.std.proofs.Common.{Some, None, Ok, Err, refl, sym, ap, ◌∙◌, arith}
+use Rattle.i9_model.specs.Dma.{is_last}
 use Rattle.i9_memory.specs.Memory.{memory_of}
 use Rattle.i9_watch.specs.Watch.{frames_of}
 use Rattle.i9_dma.specs.Channels.{dma_of}
