@@ -2,17 +2,19 @@
 ghost use Rattle.std.specs.Prelude.{◌≡◌, []};
 ghost use Rattle.i9_model.specs.Free.{IsFree};
 ghost use Rattle.i9_model.specs.Step.{moved};
-ghost use Rattle.i9_processor.specs.Effect.{action_in, AreRegisters, CanPost, CanControl, CanMove};
+ghost use Rattle.i9_processor.specs.Effect.{action_in, AreRegisters, CanPost, CanChange, CanControl, CanMove};
 ghost use Rattle.i9_processor.specs.State.{state_of};
 
 use crate::{Planned, Words, plan_entry, plan_event, plan_faulting, plan_interrupt, plan_next};
 use Rest::{Flushes, Group, Nothing, Restart, Returns, Saves, Stores};
 use Seen::{Faults, Meets, NotBuilt, Refused, Runs};
+use arrayvec::ArrayVec;
+use i9_dma::Channel;
 use i9_faults::{Fault, FaultStop};
 use i9_hex::Segments;
 use i9_isa::Op;
 use i9_model::{Cause, Chosen, Event, Push};
-use i9_processor::{Control, Effect, Move, Posting, Processor, Requests};
+use i9_processor::{Control, DmaChange, Effect, Move, Posting, Processor, Requests};
 use std::alloc::Global;
 use std::test::Fail;
 
@@ -153,6 +155,7 @@ fn booted(alloc: Global, at: u32, program: (u32, u32)) -> Result<Processor, Fail
 fn applies(p: &mut Processor, effect: &Effect) -> Result<(), Fail>
     requires registers { AreRegisters effect.now }
     requires posts { CanPost effect.now.posting }
+    requires changes { CanChange effect.now.dma }
     requires can { CanMove (state_of p.old).frames effect.now.frames }
     requires free { IsFree (state_of p.old) (action_in (state_of p.old) effect.now) }
     requires controls { CanControl (moved (state_of p.old) (action_in (state_of p.old) effect.now)) effect.now.control }
@@ -211,7 +214,7 @@ fn ready(alloc: Global, at: u32, program: (u32, u32), ac: u32, pc: u32) -> Resul
 }
 
 /// What stands where nothing is done: the arithmetic and process controls, a word, and what is seen.
-const STOPS: [(u32, u32, u32, Seen); 17] = [
+const STOPS: [(u32, u32, u32, Seen); 18] = [
     // A word that is refused, and one whose operand is.
     (0, PC, 0x0000_0000, Refused(2, 1)),
     (0, PC, 0x5DA0_0611, Refused(2, 4)),
@@ -230,9 +233,10 @@ const STOPS: [(u32, u32, u32, Seen); 17] = [
     (PRECISE, PC, 0x70A1_1D80, Faults(Op::Divo, 3, 2)),
     // faulte where it is equal.
     (2, PC, 0x1A00_0000, Faults(Op::Faulte, 5, 1)),
-    // mov of sf2, and of sf0 in user mode.
-    (0, PC, 0x5CA0_0622, NotBuilt),
+    // mov of sf0 in user mode; sdma in user mode, and of channel 4.
     (0, USER, 0x5CA0_0620, Faults(Op::Mov, 10, 1)),
+    (0, USER, 0x63C5_0801, Faults(Op::Sdma, 10, 1)),
+    (0, PC, 0x63C5_0804, Faults(Op::Sdma, 2, 4)),
     // Whatever stands there while trace enable is set: addo, and a word that is refused.
     (0, TRACED, 0x59A1_1803, NotBuilt),
     (0, TRACED, 0x0000_0000, NotBuilt),
@@ -551,10 +555,86 @@ fn plans_events(rt: HostRuntime) -> Result<(), Fail> {
         (Event::Show(0x3000, 4), Posting::Keeps),
     ];
     for (event, posting) in rows {
-        let effect = plan_event(&p, &event);
-        assert_eq!(rt; (rest_of(&effect), set_of(&effect)), (Nothing, None));
-        assert_eq!(rt; controls_of(&effect), (1, PC, 0, 0x1000));
-        assert_eq!(rt; (effect.posting, effect.check), (posting, false));
+        match plan_event(&p, &event) {
+            Ok(effect) => {
+                assert_eq!(rt; (rest_of(&effect), set_of(&effect)), (Nothing, None));
+                assert_eq!(rt; controls_of(&effect), (1, PC, 0, 0x1000));
+                assert_eq!(rt; (effect.posting, effect.check), (posting, false));
+                assert_eq!(rt; effect.dma, DmaChange::Keeps);
+            }
+            Err(_) => assert!(rt; false, "a hazard"),
+        }
     }
+    Ok(())
+}
+
+#[test]
+fn plans_set_ups(rt: HostRuntime) -> Result<(), Fail> {
+    let channel = Channel {
+        control: 5,
+        count: 0,
+        source: 0x0300,
+        target: 0x1234,
+    };
+    // mov 5, sf2; sdma 1, g4, g8; mov sf2, g4.
+    let rows = [
+        (0x5C10_2E05, DmaChange::Command(5)),
+        (0x63C5_0801, DmaChange::SetsUp(1, channel)),
+        (0x5CA0_0622, DmaChange::Keeps),
+    ];
+    for (word, dma) in rows {
+        let p = ready(rt.alloc(), 0x1000, (word, 0), 0, PC)?;
+        let mut effect = Effect::blank();
+        match plan_next(&p, &mut effect) {
+            Planned::Runs { .. } => {
+                assert_eq!(rt; (effect.dma, effect.next), (dma, 0x1004));
+                assert_eq!(rt; (effect.posting, rest_of(&effect)), (Posting::Keeps, Nothing));
+            }
+            _ => assert!(rt; false, "{word}"),
+        }
+    }
+    Ok(())
+}
+
+/// Does something to DMA.
+#[tactic(auto, unfolding(i9_model::specs::Hazards::writes_hazard))]
+fn changes(p: &mut Processor, change: DmaChange) -> Result<(), Fail>
+    requires { CanChange change }
+{
+    let mut effect = Effect::going(p, 0x1000);
+    effect.dma = change;
+    applies(p, &effect)
+}
+
+#[test]
+fn plans_units(rt: HostRuntime) -> Result<(), Fail> {
+    let mut p = ready(rt.alloc(), 0x1000, (0, 0), 1, PC)?;
+    let mut channel = Channel {
+        control: 0x42,
+        count: 4,
+        source: 0x4000,
+        target: 0x5000,
+    };
+    changes(&mut p, DmaChange::SetsUp(0, channel))?;
+    changes(&mut p, DmaChange::Command(1))?;
+    match plan_event(&p, &Event::Dma(0)) {
+        Ok(effect) => {
+            assert_eq!(rt; effect.address, 0x5000);
+            assert_eq!(rt; effect.bytes.as_slice(), [0x21, 0x87, 0x43, 0x65].as_slice());
+            assert_eq!(rt; (effect.dma, effect.posting), (DmaChange::Passes(0), Posting::Dma(0)));
+            assert_eq!(rt; controls_of(&effect), (1, PC, 0, 0x1000));
+        }
+        Err(_) => assert!(rt; false, "a hazard"),
+    }
+    // The channel has its bytes from memory.
+    match plan_event(&p, &Event::Feed(0, ArrayVec::from([9; 16]))) {
+        Ok(effect) => assert_eq!(rt; (rest_of(&effect), effect.dma), (Nothing, DmaChange::Keeps)),
+        Err(_) => assert!(rt; false, "a hazard"),
+    }
+    // The frame at 3000 is live.
+    channel.target = 0x300D;
+    changes(&mut p, DmaChange::SetsUp(0, channel))?;
+    changes(&mut p, DmaChange::Command(1))?;
+    assert_eq!(rt; plan_event(&p, &Event::Dma(0)).err(), Some(0x300D));
     Ok(())
 }

@@ -3,12 +3,13 @@ ghost use Rattle.std.specs.Prelude.{◌≡◌, ◌<◌, [], None, OnOk, IfSome};
 ghost use Rattle.i9_model.specs.Frames.{flushed};
 ghost use Rattle.i9_model.specs.Free.{IsFree};
 ghost use Rattle.i9_model.specs.Step.{moved};
-ghost use Rattle.i9_processor.specs.Effect.{action_in, CanPost, move_in, AreRegisters, CanControl, CanMove, CanTake};
+ghost use Rattle.i9_processor.specs.Effect.{action_in, CanPost, CanChange, move_in, AreRegisters, CanControl, CanMove, CanTake};
 ghost use Rattle.i9_processor.specs.State.{state_of};
 
-use crate::{Control, Effect, Move, Posting, Processor};
+use crate::{Control, DmaChange, Effect, Move, Posting, Processor};
 use arrayvec::ArrayVec;
 use i9_calls::{CallsStop, Pop, Push, Sys};
+use i9_dma::Channel;
 use i9_entry::aligned;
 use i9_faults::{Entry, Fault, FaultStop};
 use i9_frames::{Frame, Sets};
@@ -242,6 +243,7 @@ fn finds_bytes_of_the_port_page(rt: HostRuntime) -> Result<(), Fail> {
 fn applies(p: &mut Processor, effect: &Effect, sets: Option<Sets>) -> Result<(), Fail>
     requires registers { AreRegisters effect.now }
     requires posts { CanPost effect.now.posting }
+    requires changes { CanChange effect.now.dma }
     requires can { CanMove (state_of p.old).frames effect.now.frames }
     requires free { IsFree (state_of p.old) (action_in (state_of p.old) effect.now) }
     requires controls { CanControl (moved (state_of p.old) (action_in (state_of p.old) effect.now)) effect.now.control }
@@ -594,5 +596,65 @@ fn loads_control_groups(rt: HostRuntime) -> Result<(), Fail> {
         assert_eq!(rt; (p.ip(), p.count(), p.sets().size()), (0x1310, 3, 7));
         assert_eq!(rt; vectors(&mut p)?, maps, "group {group}");
     }
+    Ok(())
+}
+
+/// Does something to DMA.
+#[tactic(auto, unfolding(i9_model::specs::Hazards::writes_hazard))]
+fn changes(p: &mut Processor, change: DmaChange) -> Result<(), Fail>
+    requires { CanChange change }
+{
+    let mut effect = Effect::going(p, 0x1310);
+    effect.dma = change;
+    applies(p, &effect, None)
+}
+
+/// The bytes of the next unit of channel 2, and where it goes; None where nothing moves, or at a hazard.
+fn unit(p: &Processor, given: Option<&[u8]>) -> Option<(ArrayVec<u8, 16>, u32)> {
+    match p.plan_unit(2, given) {
+        Ok(Some(bytes)) => Some((bytes, p.unit_target(2))),
+        _ => None,
+    }
+}
+
+#[test]
+fn moves_units(rt: HostRuntime) -> Result<(), Fail> {
+    let mut p = booted(rt.alloc(), 0)?;
+    // Units of two bytes, of which three are left, with an interrupt at the end.
+    let channel = Channel {
+        control: 0x41,
+        count: 3,
+        source: 0x4001,
+        target: 0x5000,
+    };
+    changes(&mut p, DmaChange::SetsUp(2, channel))?;
+    assert_eq!(rt; unit(&p, None).is_none(), true);
+    changes(&mut p, DmaChange::Command(0x1F4))?;
+    assert_eq!(rt; p.special(2), 0xF4);
+    assert_eq!(rt; unit(&p, Some(&[1, 2])).is_none(), true);
+    let moved = |p: &Processor, bytes: &[u8], target: u32| match unit(p, None) {
+        Some((list, to)) => list.as_slice() == bytes && to == target,
+        None => false,
+    };
+    assert_eq!(rt; moved(&p, &[0x43, 0x65], 0x5000), true);
+    assert_eq!(rt; p.posts_behind_unit(2), false);
+    changes(&mut p, DmaChange::Passes(2))?;
+    assert_eq!(rt; moved(&p, &[0x87], 0x5002), true);
+    assert_eq!(rt; p.posts_behind_unit(2), true);
+    changes(&mut p, DmaChange::Passes(2))?;
+    assert_eq!(rt; unit(&p, None).is_none(), true);
+    assert_eq!(rt; p.special(2), 0xF0);
+    // A unit that is written to a live frame meets a hazard.
+    saves(&mut p, 9)?;
+    let channel = Channel {
+        target: 0x77BF,
+        ..channel
+    };
+    changes(&mut p, DmaChange::SetsUp(2, channel))?;
+    changes(&mut p, DmaChange::Command(4))?;
+    assert_eq!(rt; p.plan_unit(2, None).err(), Some(0x77BF));
+    // The interrupt of channel 0 is line 8.
+    posts(&mut p, Posting::Dma(0))?;
+    assert_eq!(rt; p.special(0), 0x100);
     Ok(())
 }

@@ -64,7 +64,7 @@ at 1 nmi
 #l 1=3040 2=1004
 #end limit
 status 0
-== An interrupt that is chosen comes before an event of the same count. Events of DMA move nothing.
+== An interrupt that is chosen comes before an event of the same count. Channels that are not set up move nothing.
         mov   1, g4
         .org  vector_248
         .word handler

@@ -51,14 +51,16 @@ run 9
 #l 1=40
 #end unbuilt 00001008
 status 4
-== The DMA command word.
+== The DMA command word keeps eight bits.
+        lda   0x1FF, g4
+        mov   g4, sf2
         mov   sf2, g0
-run 9
-#point 0 end 00001000 00000000 001F2002
-#g
+run 3
+#point 3 end 0000100C 00000000 001F2002
+#g 0=FF 4=1FF
 #l 1=40
-#end unbuilt 00001000
-status 4
+#end limit
+status 0
 ";
 
 #[test]
