@@ -273,7 +273,7 @@ line_assembles names s b bs low room few =
     let len : length (take n xs) ≡ n = length-take-le n xs few in
     plain_assembles names s (first_line a xs) (take n xs) said.item said.says said.clean said.plain (record { inside = omega (arith, room.inside); few = omega (arith, room.few) })
 
-line_size-le : (a : ℕ) (b : ℕ) (bs : List ℕ) → line_size a (b ∷ bs) ≤ length (b ∷ bs)
+pub line_size-le : (a : ℕ) (b : ℕ) (bs : List ℕ) → line_size a (b ∷ bs) ≤ length (b ∷ bs)
 line_size-le a b bs = elim (cases_Bool (is_single a (b ∷ bs))) [
   | inl single ↦ rw single (omega arith)
   | inr many ↦ rw many (whole_size-le (decoded (word_at 0 (b ∷ bs)) (word_at 4 (b ∷ bs))) (length (b ∷ bs)) (single_small a (b ∷ bs) many))

@@ -1,15 +1,19 @@
 -- Pairs that rise, joined into runs.
-use Rattle.std.proofs.Common.{◌≡◌, ⊤, ℕ, zero, suc, ◌+◌, ◌%◌, ◌^◌, ◌<◌, ◌≤◌, Bool, true, false, cond, eqb, List, [], ◌∷◌, ◌++◌, length, refl, sym, ap, subst, ◌∙◌, arith, inl, inr, append_assoc, length-append, add-zero}
-use Rattle.std.specs.List.{flat_map, AllByRecursion}
+use Rattle.std.specs.Prelude.{⊤}
+use Rattle.std.proofs.Common.{◌≡◌, ℕ, zero, suc, ◌+◌, ◌%◌, ◌^◌, ◌<◌, ◌≤◌, Bool, true, false, cond, eqb, List, [], ◌∷◌, ◌++◌, length, get_or, take, map, refl, sym, ap, subst, ◌∙◌, arith, inl, inr, append_assoc, length-append, add-zero}
+use Rattle.std.specs.List.{flat_map, All, AllByRecursion}
 use Rattle.std.proofs.lemmas.Bool.{cases_Bool, eqb-true}
-use Rattle.std.proofs.lemmas.List.{append-nil}
+use Rattle.std.proofs.lemmas.List.{append-nil, take_more, map_push}
+use Rattle.std.proofs.lemmas.Grind.{flat_map-append}
 use Rattle.i9_model.specs.Image.{Part, address_count, wrapped, upwards, pairs_of_part, pairs_of}
+use Rattle.i9_hex.specs.Shown.{part_of}
+use Rattle.i9_hex.specs.declared.segments.Segment.{Segment}
 use Rattle.i9_hex.specs.Put.{next_address, ends_before, with_byte, with_pair}
 use Rattle.i9_hex.proofs.PartLemmas.{pairs_of-with_pair}
 use Rattle.i9_asm.specs.Laws.{IsLow, IsRun, SaySameBytes}
 use Rattle.i9_asm.specs.Listing.{AreApart, AreRunsOf}
-use Rattle.i9_dis.proofs.Rising.{Rises, rises-from, rises_once, IsPlaced, ArePlaced, eqb-apart, kept}
-use Rattle.i9_dis.specs.Pairs.{begins_at}
+use Rattle.i9_dis.proofs.Rising.{Rises, rises-from, rises_once, ArePlaced, are_placed, eqb-apart, kept, kept_rises, kept_placed, kept_says, climbs_sorted}
+use Rattle.i9_dis.specs.Pairs.{IsPlaced, AreInOrder, begins_at}
 
 -- the runs behind these, with pairs that are put one after the other
 abbrev pub joined : List Part → List (ℕ × ℕ) → List Part
@@ -142,6 +146,13 @@ joined_runs pairs ps same rise placed =
     let j = joins 0 [] ps (record { each = tt; apart = tt; ends = tt }) rise placed in
     record { each = j.each; apart = j.apart; same = subst (λ qs. SaySameBytes pairs qs) (sym j.pairs) same }
 
+-- where no pairs are left
+pub joined_end : (pairs rest : List (ℕ × ℕ)) (runs : List Part) → All IsPlaced pairs → AreInOrder pairs → length rest < 1 → joined runs (kept rest) ≡ joined [] (kept pairs) → AreRunsOf pairs runs
+joined_end pairs [] runs placed order none is =
+    subst (λ rs. AreRunsOf pairs rs) (sym is)
+    (joined_runs pairs (kept pairs) (kept_says pairs) (kept_rises 0 pairs (climbs_sorted 0 pairs (λ k d lt. omega arith) order)) (kept_placed pairs (are_placed pairs placed)))
+joined_end pairs (p ∷ rest) runs placed order none is = absurd (omega arith)
+
 -- ---- runs are those that their pairs are joined to
 
 -- the pairs of runs rise
@@ -186,7 +197,7 @@ joined_bytes front a xs (b ∷ bs) ps =
     let place = (a + length xs) % address_count in
     let joins_it : ends_before (front ++ run ∷ []) place ≡ true = ends_behind front run place ∙ same place in
     let len : a + length xs + 1 ≡ a + length (xs ++ b ∷ []) = omega (arith, length-append xs (b ∷ [])) in
-    rw joins_it
+    rw (joined, joins_it)
     (ap (λ runs. joined runs (upwards (a + length xs + 1) bs ++ ps)) (byte_behind front run b)
     ∙ ap (λ k. joined (front ++ record { address = a; bytes = xs ++ b ∷ [] } ∷ []) (upwards k bs ++ ps)) len
     ∙ joined_bytes front a (xs ++ b ∷ []) bs ps
@@ -235,3 +246,15 @@ runs_once pairs a b h g =
     first : (runs : List Part) → Begins [] runs
     first [] = tt
     first (run ∷ runs) = refl
+
+-- ---- the pairs of segments
+
+pub pairs_more : (segments : List Segment) (i : ℕ) (s : Segment) (qs rs : List (ℕ × ℕ)) → i < length segments → s ≡ get_or segments i s → qs ≡ pairs_of (map part_of (take i segments))
+    → rs ≡ qs ++ upwards s.address s.bytes.items → rs ≡ pairs_of (map part_of (take (i + 1) segments))
+unfolding pairs_of
+pairs_more segments i s qs rs lt is before now =
+    let more : take (i + 1) segments ≡ take i segments ++ s ∷ [] = take_more segments i s lt ∙ ap (λ x. take i segments ++ x ∷ []) (sym is) in
+    let parts : map part_of (take (i + 1) segments) ≡ map part_of (take i segments) ++ part_of s ∷ [] = ap (map part_of) more ∙ map_push part_of (take i segments) s in
+    now ∙ ap (λ ps. ps ++ upwards s.address s.bytes.items) before
+    ∙ ap (λ ps. pairs_of (map part_of (take i segments)) ++ ps) (sym (append-nil (upwards s.address s.bytes.items)))
+    ∙ sym (flat_map-append pairs_of_part (map part_of (take i segments)) (part_of s ∷ [])) ∙ sym (ap pairs_of parts)

@@ -1,18 +1,20 @@
 -- Each image has one listing, which assembles to its bytes.
-use Rattle.std.proofs.Common.{◌≡◌, ⊤, ℕ, zero, suc, ◌+◌, ◌*◌, ◌%◌, ◌^◌, ◌<◌, ◌≤◌, Bool, true, false, cond, eqb, ltb, List, [], ◌∷◌, ◌++◌, length, drop, Result, Ok, Err, refl, sym, ap, subst, ◌∙◌, arith, inl, inr, length-drop}
+use Rattle.std.proofs.Common.{◌≡◌, ℕ, zero, suc, ◌+◌, ◌*◌, ◌%◌, ◌^◌, ◌<◌, ◌≤◌, Bool, true, false, cond, eqb, ltb, List, [], ◌∷◌, ◌++◌, length, drop, Result, Ok, Err, refl, sym, ap, subst, ◌∙◌, arith, inl, inr, length-drop}
 use Rattle.std.specs.List.{flat_map, AllByRecursion}
 use Rattle.std.proofs.lemmas.Bool.{cases_Bool}
 use Rattle.i9_isa.specs.declared.inst.Inst.{Inst}
 use Rattle.i9_isa.specs.declared.inst.BadWord.{BadWord}
 use Rattle.i9_isa.specs.Words.{words_of, decoded}
 use Rattle.i9_statement.proofs.StatementWords.{one_or_two}
-use Rattle.i9_model.specs.Image.{Part, address_count, wrapped, upwards, pairs_of_part, pairs_of}
+use Rattle.i9_model.specs.Image.{Part, address_count, wrapped, upwards, pairs_of_part, pairs_of, AreParts}
 use Rattle.i9_hex.specs.Writing.{with_line_feed}
 use Rattle.i9_asm.specs.Source.{most_bytes}
-use Rattle.i9_asm.specs.Laws.{IsRun, bytes_in, SaySameBytes, Reassembles}
+use Rattle.i9_asm.specs.Laws.{IsLow, IsRun, bytes_in, SaySameBytes, Reassembles}
 use Rattle.i9_asm.specs.Listing.{word_at, whole_size, is_single, line_size, first_line, Lists, lists_none, lists_line, org_line, ListsAll, lists_all, lists_run, AreRunsOf, AreRuns, IsListing}
-use Rattle.i9_asm.proofs.ReadListing.{text_is_assembly}
-use Rattle.i9_dis.proofs.Rising.{IsPlaced, ArePlaced, in_order, in_order_rises, in_order_placed, in_order_says}
+use Rattle.i9_asm.proofs.ReadListing.{line_size-le, text_is_assembly}
+use Rattle.i9_dis.specs.Pairs.{IsPlaced}
+use Rattle.i9_dis.specs.Printed.{AddsRuns}
+use Rattle.i9_dis.proofs.Rising.{ArePlaced, in_order, in_order_rises, in_order_placed, in_order_says}
 use Rattle.i9_dis.proofs.Joining.{joined, joined_runs, runs_once}
 
 -- ---- the lines of a run
@@ -34,6 +36,11 @@ line_some a bs = elim (cases_Bool (is_single a bs)) [
   | inr many ↦ rw many (whole_some (decoded (word_at 0 bs) (word_at 4 bs)) (length bs))
 ]
 
+-- and no more than there is
+pub line_fits : (a : ℕ) (bs : List ℕ) → 0 < length bs → line_size a bs ≤ length bs
+line_fits a [] some = absurd (omega arith)
+line_fits a (b ∷ bs) some = line_size-le a b bs
+
 -- the lines of bytes, by the bytes
 ListsBy : ℕ → List ℕ → List (List ℕ) → Type 0
 ListsBy a [] lines = lines ≡ []
@@ -50,7 +57,7 @@ unfolding ListsBy
 lists_once _ _ _ ys (lists_none a) other = sym (lists_by a [] ys other)
 lists_once _ _ _ ys (lists_line a b bs lines rest) other =
     let by = lists_by a (b ∷ bs) ys other in
-    ap (λ more. first_line a (b ∷ bs) ∷ more) (lists_once _ _ lines by.0 rest by.1.0) ∙ sym by.1.1
+    ap (λ more. first_line a (b ∷ bs) ∷ more) (lists_once _ _ lines by.0 rest by.1) ∙ sym by.2
 
 lists_some : (n a : ℕ) (bs : List ℕ) → length bs ≤ n → (lines : List (List ℕ)) × Lists a bs lines
 lists_some n a [] few = ([], lists_none a)
@@ -79,9 +86,9 @@ lists_all_once [] xs ys h g = lists_all_by [] xs h ∙ sym (lists_all_by [] ys g
 lists_all_once (run ∷ runs) xs ys h g =
     let p = lists_all_by (run ∷ runs) xs h in
     let q = lists_all_by (run ∷ runs) ys g in
-    let lines = lists_once run.address run.bytes p.0 q.0 p.1.1.0 q.1.1.0 in
-    let more = lists_all_once runs p.1.0 q.1.0 p.1.1.1.0 q.1.1.1.0 in
-    p.1.1.1.1 ∙ ap (λ l. org_line run.address ∷ (l ++ p.1.0)) lines ∙ ap (λ m. org_line run.address ∷ (q.0 ++ m)) more ∙ sym q.1.1.1.1
+    let lines = lists_once run.address run.bytes p.0 q.0 p.2 q.2 in
+    let more = lists_all_once runs p.1 q.1 p.3 q.3 in
+    p.4 ∙ ap (λ l. org_line run.address ∷ (l ++ p.1)) lines ∙ ap (λ m. org_line run.address ∷ (q.0 ++ m)) more ∙ sym q.4
 
 lists_all_some : (runs : List Part) → (lines : List (List ℕ)) × ListsAll runs lines
 lists_all_some [] = ([], lists_all)
@@ -101,6 +108,16 @@ pub image_placed : (image : List Part) → AllByRecursion (λ (p : ℕ × ℕ). 
 unfolding pairs_of
 image_placed [] low = tt
 image_placed (part ∷ image) low = placed_run part.address part.bytes (pairs_of image) low (image_placed image)
+
+-- so do those of segments
+placed_bytes : (a : ℕ) (bs : List ℕ) (ps : List (ℕ × ℕ)) → IsLow bs → ArePlaced ps → ArePlaced (upwards a bs ++ ps)
+placed_bytes a [] ps low rest = rest
+placed_bytes a (b ∷ bs) ps low rest = (record { address = omega arith; byte = low.0 }, placed_bytes (a + 1) bs ps low.1 rest)
+
+pub parts_placed : (image : List Part) → AreParts image → ArePlaced (pairs_of image)
+unfolding pairs_of
+parts_placed [] h = tt
+parts_placed (part ∷ image) h = placed_bytes part.address part.bytes (pairs_of image) h.0.bytes (parts_placed image h.1)
 
 pub some_listing : (image : List Part) → AllByRecursion (λ (p : ℕ × ℕ). p.1 < 256) (pairs_of image) → (text : List ℕ) × IsListing image text
 some_listing image low =
@@ -125,3 +142,7 @@ listing_reassembles image runs t h are few =
     let same = runs_once (pairs_of image) runs h.runs are h.are in
     let assembled = text_is_assembly h.runs h.lines h.listed h.are.each (subst (λ rs. bytes_in rs ≤ most_bytes) same few) in
     record { segments = h.runs; assembled = rw (← h.whole) assembled; same = h.are.same }
+
+-- what the code prints of these runs
+pub printed_listing : (image runs : List Part) (t : List ℕ) → AreRuns image runs → AddsRuns runs [] t → IsListing image t
+printed_listing image runs t are h = record { runs = runs; lines = h.lines; are = are; listed = h.listed; whole = sym h.text }

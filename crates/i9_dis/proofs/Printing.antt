@@ -26,7 +26,7 @@ goes_start start bytes old tail lists = record { lines = tail; listed = lists; t
 
 pub goes_turn : (start : ℕ) (bytes old : List ℕ) (place next n : ℕ) (rest left text more : List ℕ) → 0 < length rest → Goes start bytes old place rest text
     → more ≡ text ++ with_line_feed (first_line place rest) → n ≡ line_size place rest → next ≡ place + n → left ≡ drop n rest → Goes start bytes old next left more
-goes_turn start bytes old place next n [] left text more some goes is size on cut = absurd (omega arith)
+goes_turn start bytes old place next n [] left text more some goes is size on cut tail lists = absurd (omega arith)
 goes_turn start bytes old place next n (b ∷ bs) left text more some goes is size on cut tail lists =
     let there : next ≡ place + line_size place (b ∷ bs) = on ∙ ap (λ k. place + k) size in
     let behind : left ≡ drop (line_size place (b ∷ bs)) (b ∷ bs) = cut ∙ ap (λ k. drop k (b ∷ bs)) size in

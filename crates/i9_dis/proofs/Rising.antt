@@ -1,13 +1,13 @@
 -- Pairs in the order of their addresses, and what they say.
-use Rattle.std.proofs.Common.{◌≡◌, ⊤, ℕ, zero, suc, ◌+◌, ◌%◌, ◌<◌, ◌≤◌, Bool, true, false, not, ◌&&◌, eqb, ltb, cond, List, [], ◌∷◌, ◌++◌, length, get_or, Option, Some, None, refl, sym, ap, subst, ◌∙◌, arith, inl, inr}
-use Rattle.std.specs.Prelude.{is_some}
-use Rattle.std.specs.List.{filter, AllByRecursion}
+use Rattle.std.specs.Prelude.{⊤}
+use Rattle.std.proofs.Common.{◌≡◌, ℕ, zero, suc, ◌+◌, ◌%◌, ◌<◌, ◌≤◌, Bool, true, false, not, ◌&&◌, eqb, ltb, cond, List, [], ◌∷◌, ◌++◌, length, get_or, Option, Some, None, refl, sym, ap, subst, ◌∙◌, arith, inl, inr}
+use Rattle.std.specs.List.{filter, All, AllByRecursion}
 use Rattle.std.specs.List.Sorted.{IsNonDecreasingBy, IsStableByKey, ties}
 use Rattle.std.specs.Ordering.{nat_cmp, is_lt}
 use Rattle.std.proofs.lemmas.Bool.{cases_Bool, cases_lt, eqb-true}
 use Rattle.i9_model.specs.Writes.{address_count, wrapped, upwards, or_earlier, last_put}
 use Rattle.i9_asm.specs.Laws.{SaySameBytes}
-use Rattle.i9_dis.specs.Pairs.{begins_at}
+use Rattle.i9_dis.specs.Pairs.{IsPlaced, AreInOrder, begins_at}
 
 -- ---- what is said of one address
 
@@ -27,7 +27,7 @@ said_by p a = cond (eqb a p.0) (Some p.1) None
 says_own : (p : ℕ × ℕ) (a : ℕ) → a ≡ p.0 → said_by p a ≡ Some p.1
 says_own p a e = let t : eqb a p.0 ≡ true = grind arith in rw t refl
 
-eqb-apart : (a b : ℕ) → (a ≡ b → ⊥) → eqb a b ≡ false
+pub eqb-apart : (a b : ℕ) → (a ≡ b → ⊥) → eqb a b ≡ false
 eqb-apart a b other = elim (cases_Bool (eqb a b)) [
   | inl same ↦ absurd (other (eqb-true a b same))
   | inr apart ↦ apart
@@ -70,6 +70,7 @@ never_some v e = absurd cc
 
 -- pairs that rise are known by what they say
 pub rises_once : (n : ℕ) (ps qs : List (ℕ × ℕ)) → Rises n ps → Rises n qs → SaySameBytes ps qs → ps ≡ qs
+unfolding last_put
 rises_once n [] [] h g same = refl
 rises_once n [] (q ∷ qs) h g same = absurd (never_some q.1 (sym (same q.0) ∙ rises-head n q qs g))
 rises_once n (p ∷ ps) [] h g same = absurd (never_some p.1 (same p.0 ∙ rises-head n p ps h))
@@ -89,17 +90,16 @@ rises_once n (p ∷ ps) (q ∷ qs) h g same = elim (cases_lt p.0 q.0) [
 ]
   where
     same_cons : (x y : ℕ × ℕ) (xs ys : List (ℕ × ℕ)) → x.0 ≡ y.0 → x.1 ≡ y.1 → xs ≡ ys → x ∷ xs ≡ y ∷ ys
-    same_cons x y xs ys e v t = cc
+    same_cons x y xs ys e v t = ap (λ a. (a, x.1) ∷ xs) e ∙ ap (λ b. (y.0, b) ∷ xs) v ∙ ap (λ zs. y ∷ zs) t
 
 -- ---- bytes at addresses
 
--- an address with a byte
-pub record IsPlaced (p : ℕ × ℕ) : Type 0 where
-  pub address : p.0 < address_count
-  pub byte : p.1 < 256
-
 abbrev pub ArePlaced : List (ℕ × ℕ) → Type 0
 ArePlaced ps = AllByRecursion IsPlaced ps
+
+pub are_placed : (ps : List (ℕ × ℕ)) → All IsPlaced ps → ArePlaced ps
+are_placed [] h = tt
+are_placed (p ∷ ps) h = (h 0 p (omega arith), are_placed ps (λ k d lt. h (suc k) d (omega arith)))
 
 -- ---- pairs in order, of which the later counts
 

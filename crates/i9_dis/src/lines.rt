@@ -94,6 +94,7 @@ fn add_digits(alloc: Global, text: &mut Vec<u8>, bytes: &[u8]) -> Result<(), All
 }
 
 /// Appends the words or the byte of a line that says so many bytes.
+#[tactic(auto, unfolding(i9_text::specs::Written::byte_text, i9_text::specs::Written::word_text))]
 fn add_noted(alloc: Global, text: &mut Vec<u8>, size: usize, bytes: &[u8]) -> Result<(), AllocError>
     ensures { OnOk result (text.new.items ≡ text.old.items ++ noted_words size bytes.now) }
 {
@@ -108,6 +109,7 @@ fn add_noted(alloc: Global, text: &mut Vec<u8>, size: usize, bytes: &[u8]) -> Re
 }
 
 /// Appends the first line of a run, and answers how many bytes it says.
+#[tactic(auto, unfolding(i9_text::specs::Written::word_text))]
 fn add_line(alloc: Global, text: &mut Vec<u8>, address: u32, bytes: &[u8]) -> Result<usize, AllocError>
     ensures text { OnOk result (text.new.items ≡ text.old.items ++ with_line_feed (first_line address bytes.now)) }
     ensures size { IfOk result (λ n. n ≡ line_size address bytes.now) }
@@ -129,8 +131,9 @@ fn add_lines(alloc: Global, text: &mut Vec<u8>, start: u32, bytes: &[u8]) -> Res
     let mut rest = bytes;
     while !rest.is_empty() {
         let size = add_line(alloc, text, place as u32, rest)?;
+        let (_, after) = rest.split_at(size);
         place += size as u64;
-        rest = &rest[size..];
+        rest = after;
     }
     Ok(())
 }

@@ -1,11 +1,12 @@
 //! The maximal runs of the bytes of an image.
 ghost use Rattle.std.specs.Prelude.{◌≡◌, ◌++◌, map, OnOk, IfOk, if◌then◌else◌};
+ghost use Rattle.std.specs.List.{All};
 ghost use Rattle.i9_model.specs.Image.{upwards, pairs_of};
 ghost use Rattle.i9_hex.specs.Put.{with_pair};
 ghost use Rattle.i9_hex.specs.Shown.{part_of};
 ghost use Rattle.i9_asm.specs.Laws.{SaySameBytes};
 ghost use Rattle.i9_asm.specs.Listing.{AreRunsOf, AreRuns};
-ghost use Rattle.i9_dis.specs.Pairs.{AreInOrder, begins_at};
+ghost use Rattle.i9_dis.specs.Pairs.{IsPlaced, AreInOrder, begins_at};
 
 use i9_hex::{Segment, Segments};
 use i9_isa::NoMemory;
@@ -39,6 +40,7 @@ fn bytes_of(alloc: Global, segments: &[Segment]) -> Result<Vec<Placed>, AllocErr
 
 /// The bytes of an image by their addresses. Of bytes at one address the later stands behind.
 fn sorted_bytes(alloc: Global, image: &Segments) -> Result<Vec<Placed>, AllocError>
+    ensures placed { IfOk result (λ pairs. All IsPlaced pairs.items) }
     ensures order { IfOk result (λ pairs. AreInOrder pairs.items) }
     ensures same { IfOk result (λ pairs. SaySameBytes (pairs_of image.now) pairs.items) }
 {
@@ -59,7 +61,8 @@ fn put_last(runs: &mut Segments, byte: Placed, after: &[Placed]) -> Result<(), N
 
 /// The runs of bytes that stand in order.
 fn joined(alloc: Global, pairs: &[Placed]) -> Result<Segments, NoMemory>
-    requires { AreInOrder pairs.now }
+    requires placed { All IsPlaced pairs.now }
+    requires order { AreInOrder pairs.now }
     ensures { IfOk result (λ runs. AreRunsOf pairs.now runs) }
 {
     let mut runs = Segments::new(alloc);
