@@ -24,9 +24,9 @@ whole_some (Err e) n = omega arith
 whole_some (Ok i) n = elim (cases_Bool (ltb n (4 * words_of i))) [
   | inl cut ↦ rw cut (omega arith)
   | inr whole ↦ elim (one_or_two i.ea.mode) [
-      | inl one ↦ rw (whole, one) (omega arith)
-      | inr two ↦ rw (whole, two) (omega arith)
-    ]
+    | inl one ↦ rw (whole, one) (omega arith)
+    | inr two ↦ rw (whole, two) (omega arith)
+  ]
 ]
 
 -- a line says something

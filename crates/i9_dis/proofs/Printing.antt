@@ -50,10 +50,10 @@ run_more : (rs : List Part) (a : ℕ) (bs t begun done : List ℕ) → AddsRuns 
 run_more rs a bs t begun done h org lines =
     let own = org_line a ∷ (lines.lines ++ []) in
     let text : done ≡ flat (h.lines ++ own) =
-      lines.text ∙ ap (λ x. x ++ flat lines.lines) (org ∙ ap (λ x. x ++ with_line_feed (org_line a)) h.text)
-      ∙ append_assoc (flat h.lines) (with_line_feed (org_line a)) (flat lines.lines)
-      ∙ ap (λ ls. flat h.lines ++ (with_line_feed (org_line a) ++ flat ls)) (sym (append-nil lines.lines))
-      ∙ sym (flat_map-append with_line_feed h.lines own) in
+    lines.text ∙ ap (λ x. x ++ flat lines.lines) (org ∙ ap (λ x. x ++ with_line_feed (org_line a)) h.text)
+    ∙ append_assoc (flat h.lines) (with_line_feed (org_line a)) (flat lines.lines)
+    ∙ ap (λ ls. flat h.lines ++ (with_line_feed (org_line a) ++ flat ls)) (sym (append-nil lines.lines))
+    ∙ sym (flat_map-append with_line_feed h.lines own) in
     record {
       lines = h.lines ++ own;
       listed = lists_all-append rs (record { address = a; bytes = bs } ∷ []) h.lines own h.listed (lists_run a bs [] lines.lines [] lines.listed lists_all);

@@ -77,16 +77,16 @@ rises_once n (p ∷ ps) [] h g same = absurd (never_some p.1 (same p.0 ∙ rises
 rises_once n (p ∷ ps) (q ∷ qs) h g same = elim (cases_lt p.0 q.0) [
   | inl lt ↦ absurd (never_some p.1 (sym (rises-below q.0 p.0 (q ∷ qs) (omega arith, g.1) lt) ∙ same p.0 ∙ rises-head n p ps h))
   | inr le ↦ elim (cases_lt q.0 p.0) [
-      | inl gt ↦ absurd (never_some q.1 (sym (rises-below p.0 q.0 (p ∷ ps) (omega arith, h.1) gt) ∙ sym (same q.0) ∙ rises-head n q qs g))
-      | inr ge ↦
-          let e : p.0 ≡ q.0 = omega arith in
-          let v : p.1 ≡ q.1 = some_value p.1 q.1 (sym (rises-head n p ps h) ∙ sym (same p.0) ∙ ap (last_put (q ∷ qs)) e ∙ rises-head n q qs g) in
-          let rest : SaySameBytes ps qs = λ a. elim (cases_lt p.0 a) [
-            | inl above ↦ sym (rises-rest n a q qs g (omega arith)) ∙ same a ∙ rises-rest n a p ps h above
-            | inr below ↦ rises-below (q.0 + 1) a qs g.1 (omega arith) ∙ sym (rises-below (p.0 + 1) a ps h.1 (omega arith))
-          ] in
-          same_cons p q ps qs e v (rises_once (p.0 + 1) ps qs h.1 (subst (λ k. Rises (k + 1) qs) (sym e) g.1) rest)
-    ]
+    | inl gt ↦ absurd (never_some q.1 (sym (rises-below p.0 q.0 (p ∷ ps) (omega arith, h.1) gt) ∙ sym (same q.0) ∙ rises-head n q qs g))
+    | inr ge ↦
+        let e : p.0 ≡ q.0 = omega arith in
+        let v : p.1 ≡ q.1 = some_value p.1 q.1 (sym (rises-head n p ps h) ∙ sym (same p.0) ∙ ap (last_put (q ∷ qs)) e ∙ rises-head n q qs g) in
+        let rest : SaySameBytes ps qs = λ a. elim (cases_lt p.0 a) [
+          | inl above ↦ sym (rises-rest n a q qs g (omega arith)) ∙ same a ∙ rises-rest n a p ps h above
+          | inr below ↦ rises-below (q.0 + 1) a qs g.1 (omega arith) ∙ sym (rises-below (p.0 + 1) a ps h.1 (omega arith))
+        ] in
+        same_cons p q ps qs e v (rises_once (p.0 + 1) ps qs h.1 (subst (λ k. Rises (k + 1) qs) (sym e) g.1) rest)
+  ]
 ]
   where
     same_cons : (x y : ℕ × ℕ) (xs ys : List (ℕ × ℕ)) → x.0 ≡ y.0 → x.1 ≡ y.1 → xs ≡ ys → x ∷ xs ≡ y ∷ ys
@@ -206,13 +206,14 @@ earlier_rises n p [] le h = (le, tt)
 earlier_rises n p (q ∷ qs) le h = elim (cases_Bool (ltb p.0 q.0)) [
   | inl first ↦ rw first (le, (below p.0 q.0 first, h.1))
   | inr later ↦ elim (cases_Bool (eqb p.0 q.0)) [
-      | inl same ↦ rw (later, same) h
-      | inr other ↦ rw (later, other) (h.0, earlier_rises (q.0 + 1) p qs (above p.0 q.0 later other) h.1)
-    ]
+    | inl same ↦ rw (later, same) h
+    | inr other ↦ rw (later, other) (h.0, earlier_rises (q.0 + 1) p qs (above p.0 q.0 later other) h.1)
+  ]
 ]
   where
     below : (x y : ℕ) → ltb x y ≡ true → x + 1 ≤ y
     below x y lt = grind arith
+
     above : (x y : ℕ) → ltb x y ≡ false → eqb x y ≡ false → y + 1 ≤ x
     above x y ge apart = grind arith
 
@@ -221,9 +222,9 @@ earlier_placed p [] new h = (new, tt)
 earlier_placed p (q ∷ qs) new h = elim (cases_Bool (ltb p.0 q.0)) [
   | inl first ↦ rw first (new, h)
   | inr later ↦ elim (cases_Bool (eqb p.0 q.0)) [
-      | inl same ↦ rw (later, same) h
-      | inr other ↦ rw (later, other) (h.0, earlier_placed p qs new h.1)
-    ]
+    | inl same ↦ rw (later, same) h
+    | inr other ↦ rw (later, other) (h.0, earlier_placed p qs new h.1)
+  ]
 ]
 
 -- pairs at two addresses speak past each other
@@ -245,9 +246,9 @@ earlier_says p [] a = refl
 earlier_says p (q ∷ qs) a = elim (cases_Bool (ltb p.0 q.0)) [
   | inl first ↦ rw first refl
   | inr later ↦ elim (cases_Bool (eqb p.0 q.0)) [
-      | inl same ↦ rw (later, same) (sym (hidden a p (q ∷ qs) (eqb-flip p.0 q.0 same)))
-      | inr other ↦ rw (later, other) (ap (λ o. or_earlier o (said_by q a)) (earlier_says p qs a) ∙ say_apart (last_put qs a) p q a other)
-    ]
+    | inl same ↦ rw (later, same) (sym (hidden a p (q ∷ qs) (eqb-flip p.0 q.0 same)))
+    | inr other ↦ rw (later, other) (ap (λ o. or_earlier o (said_by q a)) (earlier_says p qs a) ∙ say_apart (last_put qs a) p q a other)
+  ]
 ]
 
 pub in_order_rises : (ps : List (ℕ × ℕ)) → Rises 0 (in_order ps)

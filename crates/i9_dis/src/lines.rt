@@ -73,7 +73,12 @@ fn add_byte(alloc: Global, text: &mut Vec<u8>, byte: u8) -> Result<(), AllocErro
 }
 
 /// Appends what the first line of a run says, and answers how many bytes that is.
-fn add_said(alloc: Global, text: &mut Vec<u8>, address: u32, bytes: &[u8]) -> Result<usize, AllocError>
+fn add_said(
+    alloc: Global,
+    text: &mut Vec<u8>,
+    address: u32,
+    bytes: &[u8],
+) -> Result<usize, AllocError>
     ensures text { OnOk result (text.new.items ≡ text.old.items ++ said_text address bytes.now) }
     ensures size { IfOk result (λ n. n ≡ line_size address bytes.now) }
 {
@@ -110,7 +115,12 @@ fn add_noted(alloc: Global, text: &mut Vec<u8>, size: usize, bytes: &[u8]) -> Re
 
 /// Appends the first line of a run, and answers how many bytes it says.
 #[tactic(auto, unfolding(i9_text::specs::Written::word_text))]
-fn add_line(alloc: Global, text: &mut Vec<u8>, address: u32, bytes: &[u8]) -> Result<usize, AllocError>
+fn add_line(
+    alloc: Global,
+    text: &mut Vec<u8>,
+    address: u32,
+    bytes: &[u8],
+) -> Result<usize, AllocError>
     ensures text { OnOk result (text.new.items ≡ text.old.items ++ with_line_feed (first_line address bytes.now)) }
     ensures size { IfOk result (λ n. n ≡ line_size address bytes.now) }
 {

@@ -229,7 +229,10 @@ fn lists_images(rt: HostRuntime) -> Result<(), Fail> {
     for row in LISTINGS.split("\n\n") {
         let (segments, lines) = row.split_once("\n").unwrap_or((row, ""));
         let wanted = format!(in rt.alloc(); "{lines}\n")?;
-        assert!(rt; is_listed(rt.alloc(), &image(rt.alloc(), segments)?, &wanted)?, "{row}");
+        assert!(rt;
+            is_listed(rt.alloc(), &image(rt.alloc(), segments)?, &wanted)?,
+            "{row}"
+        );
     }
     assert!(rt; is_listed(rt.alloc(), &Segments::new(rt.alloc()), "")?);
     one_listing();
