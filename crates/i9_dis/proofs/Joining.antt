@@ -1,11 +1,11 @@
 -- Pairs that rise, joined into runs.
 use Rattle.std.specs.Prelude.{⊤}
-use Rattle.std.proofs.Common.{◌≡◌, ℕ, zero, suc, ◌+◌, ◌%◌, ◌^◌, ◌<◌, ◌≤◌, Bool, true, false, cond, eqb, List, [], ◌∷◌, ◌++◌, length, get_or, take, map, refl, sym, ap, subst, ◌∙◌, arith, inl, inr, append_assoc, length-append, add-zero}
-use Rattle.std.specs.List.{flat_map, All, AllByRecursion}
+use Rattle.std.proofs.Common.{◌≡◌, ℕ, ◌+◌, ◌%◌, ◌^◌, ◌<◌, ◌≤◌, true, false, cond, eqb, List, [], ◌∷◌, ◌++◌, length, get_or, take, map, refl, sym, ap, subst, ◌∙◌, arith, inl, inr, append_assoc, length-append}
+use Rattle.std.specs.List.{All, AllByRecursion}
 use Rattle.std.proofs.lemmas.Bool.{cases_Bool, eqb-true}
 use Rattle.std.proofs.lemmas.List.{append-nil, take_more, map_push}
 use Rattle.std.proofs.lemmas.Grind.{flat_map-append}
-use Rattle.i9_model.specs.Image.{Part, address_count, wrapped, upwards, pairs_of_part, pairs_of}
+use Rattle.i9_model.specs.Image.{Part, address_count, upwards, pairs_of_part, pairs_of}
 use Rattle.i9_hex.specs.Shown.{part_of}
 use Rattle.i9_hex.specs.declared.segments.Segment.{Segment}
 use Rattle.i9_hex.specs.Put.{next_address, ends_before, with_byte, with_pair}

@@ -1,18 +1,17 @@
 -- Each image has one listing, which assembles to its bytes.
-use Rattle.std.proofs.Common.{◌≡◌, ℕ, zero, suc, ◌+◌, ◌*◌, ◌%◌, ◌^◌, ◌<◌, ◌≤◌, Bool, true, false, cond, eqb, ltb, List, [], ◌∷◌, ◌++◌, length, drop, Result, Ok, Err, refl, sym, ap, subst, ◌∙◌, arith, inl, inr, length-drop}
+use Rattle.std.proofs.Common.{◌≡◌, ℕ, zero, suc, ◌+◌, ◌*◌, ◌<◌, ◌≤◌, ltb, List, [], ◌∷◌, ◌++◌, length, drop, Result, Ok, Err, refl, sym, ap, subst, ◌∙◌, arith, inl, inr, length-drop}
 use Rattle.std.specs.List.{flat_map, AllByRecursion}
 use Rattle.std.proofs.lemmas.Bool.{cases_Bool}
 use Rattle.i9_isa.specs.declared.inst.Inst.{Inst}
 use Rattle.i9_isa.specs.declared.inst.BadWord.{BadWord}
 use Rattle.i9_isa.specs.Words.{words_of, decoded}
 use Rattle.i9_statement.proofs.StatementWords.{one_or_two}
-use Rattle.i9_model.specs.Image.{Part, address_count, wrapped, upwards, pairs_of_part, pairs_of, AreParts}
+use Rattle.i9_model.specs.Image.{Part, upwards, pairs_of, AreParts}
 use Rattle.i9_hex.specs.Writing.{with_line_feed}
 use Rattle.i9_asm.specs.Source.{most_bytes}
-use Rattle.i9_asm.specs.Laws.{IsLow, IsRun, bytes_in, SaySameBytes, Reassembles}
+use Rattle.i9_asm.specs.Laws.{IsLow, bytes_in, Reassembles}
 use Rattle.i9_asm.specs.Listing.{word_at, whole_size, is_single, line_size, first_line, Lists, lists_none, lists_line, org_line, ListsAll, lists_all, lists_run, AreRunsOf, AreRuns, IsListing}
 use Rattle.i9_asm.proofs.ReadListing.{line_size-le, text_is_assembly}
-use Rattle.i9_dis.specs.Pairs.{IsPlaced}
 use Rattle.i9_dis.specs.Printed.{AddsRuns}
 use Rattle.i9_dis.proofs.Rising.{ArePlaced, in_order, in_order_rises, in_order_placed, in_order_says}
 use Rattle.i9_dis.proofs.Joining.{joined, joined_runs, runs_once}

@@ -1,13 +1,13 @@
 -- Pairs in the order of their addresses, and what they say.
 use Rattle.std.specs.Prelude.{⊤}
-use Rattle.std.proofs.Common.{◌≡◌, ℕ, zero, suc, ◌+◌, ◌%◌, ◌<◌, ◌≤◌, Bool, true, false, not, ◌&&◌, eqb, ltb, cond, List, [], ◌∷◌, ◌++◌, length, get_or, Option, Some, None, refl, sym, ap, subst, ◌∙◌, arith, inl, inr}
+use Rattle.std.proofs.Common.{◌≡◌, ℕ, suc, ◌+◌, ◌<◌, ◌≤◌, Bool, true, false, eqb, ltb, cond, List, [], ◌∷◌, length, get_or, Option, Some, None, refl, sym, ap, subst, ◌∙◌, arith, inl, inr}
 use Rattle.std.specs.List.{filter, All, AllByRecursion}
 use Rattle.std.specs.List.Sorted.{IsNonDecreasingBy, IsStableByKey, ties}
 use Rattle.std.specs.Ordering.{nat_cmp, is_lt}
 use Rattle.std.proofs.lemmas.Bool.{cases_Bool, cases_lt, eqb-true}
-use Rattle.i9_model.specs.Writes.{address_count, wrapped, upwards, or_earlier, last_put}
+use Rattle.i9_model.specs.Writes.{or_earlier, last_put}
 use Rattle.i9_asm.specs.Laws.{SaySameBytes}
-use Rattle.i9_dis.specs.Pairs.{IsPlaced, AreInOrder, begins_at}
+use Rattle.i9_dis.specs.Pairs.{IsPlaced, begins_at}
 
 -- ---- what is said of one address
 

@@ -7,90 +7,90 @@ use std::alloc::Global;
 use std::collections::BTreeMap;
 use std::test::Fail;
 
-/// Images and their listings. The first line of each has the segments, as an address and bytes.
-const LISTINGS: &str = "1000 803E0066
+/// Images and their listings. The first line of each has the segments.
+const LISTINGS: &str = "1000:803E0066
 .org 0x00001000
 flushreg {3800} # 00001000 66003E80
 
-1008 0198A059 1000 0030A88C000000E0
+1008:0198A059 1000:0030A88C000000E0
 .org 0x00001000
 lda 0xE0000000, g5 # 00001000 8CA83000 E0000000
 addo 1, 2, g4 # 00001008 59A09801
 
-FFC 10000008
+FFC:10000008
 .org 0x00000FFC
 b 0x0000100C # 00000FFC 08000010
 
-FFFFFFFC 803E0066
+FFFFFFFC:803E0066
 .org 0xFFFFFFFC
 flushreg {3800} # FFFFFFFC 66003E80
 
-1000 AB
+1000:AB
 .org 0x00001000
 .byte 0xAB # 00001000 AB
 
-1001 AB
+1001:AB
 .org 0x00001001
 .byte 0xAB # 00001001 AB
 
-1002 AB
+1002:AB
 .org 0x00001002
 .byte 0xAB # 00001002 AB
 
-1003 AB
+1003:AB
 .org 0x00001003
 .byte 0xAB # 00001003 AB
 
-1000 0102
+1000:0102
 .org 0x00001000
 .byte 0x01 # 00001000 01
 .byte 0x02 # 00001001 02
 
-1001 0102
+1001:0102
 .org 0x00001001
 .byte 0x01 # 00001001 01
 .byte 0x02 # 00001002 02
 
-1002 0102
+1002:0102
 .org 0x00001002
 .byte 0x01 # 00001002 01
 .byte 0x02 # 00001003 02
 
-1003 0102
+1003:0102
 .org 0x00001003
 .byte 0x01 # 00001003 01
 .byte 0x02 # 00001004 02
 
-1000 010203
+1000:010203
 .org 0x00001000
 .byte 0x01 # 00001000 01
 .byte 0x02 # 00001001 02
 .byte 0x03 # 00001002 03
 
-1001 010203
+1001:010203
 .org 0x00001001
 .byte 0x01 # 00001001 01
 .byte 0x02 # 00001002 02
 .byte 0x03 # 00001003 03
 
-1002 010203
+1002:010203
 .org 0x00001002
 .byte 0x01 # 00001002 01
 .byte 0x02 # 00001003 02
 .byte 0x03 # 00001004 03
 
-1003 010203
+1003:010203
 .org 0x00001003
 .byte 0x01 # 00001003 01
 .byte 0x02 # 00001004 02
 .byte 0x03 # 00001005 03
 
-1000 0102030005
+1000:0102030005
 .org 0x00001000
 .word 0x00030201 # 00001000 00030201
 .byte 0x05 # 00001004 05
 
-1001 0102030405
+1001:0102030405
 .org 0x00001001
 .byte 0x01 # 00001001 01
 .byte 0x02 # 00001002 02
@@ -98,7 +98,7 @@ flushreg {3800} # FFFFFFFC 66003E80
 .byte 0x04 # 00001004 04
 .byte 0x05 # 00001005 05
 
-1002 0102030405
+1002:0102030405
 .org 0x00001002
 .byte 0x01 # 00001002 01
 .byte 0x02 # 00001003 02
@@ -106,36 +106,36 @@ flushreg {3800} # FFFFFFFC 66003E80
 .byte 0x04 # 00001005 04
 .byte 0x05 # 00001006 05
 
-1003 0102030400
+1003:0102030400
 .org 0x00001003
 .byte 0x01 # 00001003 01
 .word 0x00040302 # 00001004 00040302
 
-1000 01 1002 02
+1000:01 1002:02
 .org 0x00001000
 .byte 0x01 # 00001000 01
 .org 0x00001002
 .byte 0x02 # 00001002 02
 
-1000 01020304 1001 0A0B
+1000:01020304 1001:0A0B
 .org 0x00001000
 .word 0x040B0A01 # 00001000 040B0A01
 
-1001 0A0B 1000 01020304
+1001:0A0B 1000:01020304
 .org 0x00001000
 .word 0x04030201 # 00001000 04030201
 
-1000 01 1000 02 1000 03
+1000:01 1000:02 1000:03
 .org 0x00001000
 .byte 0x03 # 00001000 03
 
-1002 0304 2000 AB 1000 0102
+1002:0304 2000:AB 1000:0102
 .org 0x00001000
 .word 0x04030201 # 00001000 04030201
 .org 0x00002000
 .byte 0xAB # 00002000 AB
 
-FFFFFFFE 01020304
+FFFFFFFE:01020304
 .org 0x00000000
 .byte 0x03 # 00000000 03
 .byte 0x04 # 00000001 04
@@ -143,38 +143,36 @@ FFFFFFFE 01020304
 .byte 0x01 # FFFFFFFE 01
 .byte 0x02 # FFFFFFFF 02
 
-1000 0030A88C
+1000:0030A88C
 .org 0x00001000
 .word 0x8CA83000 # 00001000 8CA83000
 
-1000 0030A88C0000E0
+1000:0030A88C0000E0
 .org 0x00001000
 .word 0x8CA83000 # 00001000 8CA83000
 .byte 0x00 # 00001004 00
 .byte 0x00 # 00001005 00
 .byte 0xE0 # 00001006 E0
 
-1000 0030A88C 1005 E0
+1000:0030A88C 1005:E0
 .org 0x00001000
 .word 0x8CA83000 # 00001000 8CA83000
 .org 0x00001005
 .byte 0xE0 # 00001005 E0
 
-FFFFFFFC 0030A88C000000E0
+FFFFFFFC:0030A88C000000E0
 .org 0x00000000
 .word 0xE0000000 # 00000000 E0000000
 .org 0xFFFFFFFC
 .word 0x8CA83000 # FFFFFFFC 8CA83000";
 
-/// An image of addresses and bytes, in words that follow each other.
+/// An image of segments, each of them `ADDRESS:BYTES`.
 fn image(alloc: Global, text: &str) -> Result<Segments, Fail> {
     let mut segments = Segments::new(alloc);
-    let mut rest = text;
-    while let Some((address, more)) = rest.split_once(" ") {
-        let (bytes, left) = more.split_once(" ").unwrap_or((more, ""));
+    for segment in text.split(" ") {
+        let (address, bytes) = segment.split_once(":").unwrap_or((segment, ""));
         let address = u32::from_str_radix(address, 16)?;
         segments.push(address, hex::decode(alloc, bytes.as_bytes())?)?;
-        rest = left;
     }
     Ok(segments)
 }

@@ -51,7 +51,8 @@ fn sorted_bytes(alloc: Global, image: &Segments) -> Result<Vec<Placed>, AllocErr
 
 /// Appends a byte to the runs, unless the next one has its address too.
 fn put_last(runs: &mut Segments, byte: Placed, after: &[Placed]) -> Result<(), NoMemory>
-    ensures { OnOk result (runs.new ≡ (if begins_at after.now byte.0 then runs.old else with_pair runs.old byte.0 byte.1)) }
+    ensures { OnOk result (runs.new
+        ≡ (if begins_at after.now byte.0 then runs.old else with_pair runs.old byte.0 byte.1)) }
 {
     match after {
         [next, ..] if next.0 == byte.0 => Ok(()),

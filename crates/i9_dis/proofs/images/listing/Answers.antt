@@ -1,4 +1,4 @@
-use Rattle.std.proofs.Common.{List, ℕ, [], subst}
+use Rattle.std.proofs.Common.{List, [], subst}
 use Rattle.i9_model.specs.Image.{Part}
 use Rattle.i9_dis.specs.Printed.{AddsRuns}
 use Rattle.i9_asm.specs.Listing.{IsListing}

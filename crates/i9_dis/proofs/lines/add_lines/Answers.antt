@@ -1,6 +1,5 @@
-use Rattle.std.proofs.Common.{◌≡◌, ◌+◌, ◌<◌, ◌≤◌, ℕ, length, arith, refl, sym, ap, subst}
+use Rattle.std.proofs.Common.{◌+◌, ◌<◌, ◌≤◌, length, arith, refl, sym, ap, subst}
 use Rattle.std.proofs.lemmas.Grind.{common_steps}
-use Rattle.i9_asm.specs.Listing.{line_size}
 use Rattle.i9_dis.proofs.Printing.{Goes, goes_start, goes_turn, goes_end}
 use Rattle.i9_dis.proofs.Listed.{line_some, line_fits}
 use Rattle.i9_dis.proofs.lines.add_lines.Goals as goal

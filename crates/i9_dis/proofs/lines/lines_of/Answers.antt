@@ -1,6 +1,4 @@
-use Rattle.std.proofs.Common.{◌≡◌, ◌+◌, ◌≤◌, ◌^◌, ℕ, List, [], length, ap, ◌∙◌, refl, sym, subst, arith}
-use Rattle.std.proofs.lemmas.List.{take_all}
-use Rattle.i9_hex.specs.Shown.{part_of}
+use Rattle.std.proofs.Common.{◌+◌, ◌≤◌, ◌^◌, [], length, sym, subst}
 use Rattle.i9_asm.specs.Listing.{lists_all}
 use Rattle.i9_dis.specs.Printed.{AddsLines}
 use Rattle.i9_dis.proofs.Printing.{runs_turn, run_at}

@@ -1,4 +1,4 @@
-use Rattle.std.proofs.Common.{arith, refl, sym, rules}
+use Rattle.std.proofs.Common.{arith, refl}
 use Rattle.i9_model.specs.Image.{wrapped}
 use Rattle.i9_hex.proofs.PartLemmas.{pairs_at-more}
 use Rattle.i9_dis.proofs.runs.add_bytes.Goals as goal

@@ -1,6 +1,5 @@
-use Rattle.std.proofs.Common.{◌≡◌, ◌++◌, ap, ◌∙◌}
+use Rattle.std.proofs.Common.{◌++◌, ap, ◌∙◌}
 use Rattle.i9_model.specs.Image.{upwards, pairs_of}
-use Rattle.std.proofs.lemmas.List.{take_all}
 use Rattle.i9_dis.proofs.Joining.{pairs_more}
 use Rattle.i9_dis.proofs.runs.bytes_of.Goals as goal
 
