@@ -1,5 +1,5 @@
 -- The lines of a listing assemble to the bytes that they were made of.
-use Rattle.std.proofs.Common.{◌≡◌, ℕ, zero, suc, ◌+◌, ◌*◌, ◌%◌, ◌^◌, ◌<◌, ◌≤◌, Bool, true, false, cond, eqb, ltb, ◌&&◌, List, [], ◌∷◌, ◌++◌, length, take, drop, get_or, Some, None, Result, Ok, Err, refl, sym, ap, subst, ◌∙◌, arith, lit≤, append_assoc, add-zero, inl, inr}
+use Rattle.std.proofs.Common.{◌≡◌, ℕ, zero, suc, ◌+◌, ◌*◌, ◌%◌, ◌^◌, ◌<◌, ◌≤◌, Bool, true, false, cond, eqb, ltb, ◌&&◌, List, [], ◌∷◌, ◌++◌, length, take, drop, get_or, Some, None, Result, Ok, Err, refl, sym, ap, subst, ◌∙◌, arith, append_assoc, add-zero, inl, inr}
 use Rattle.std.specs.Prelude.{codes, is_some, slice_index}
 use Rattle.std.specs.List.{list_all, flat_map, AllByRecursion}
 use Rattle.std.specs.Int.{w32, to_le_bytes, from_le_bytes}
@@ -384,8 +384,7 @@ run_plain _ _ _ (lists_line a b bs lines rest) low room =
     let xs = b ∷ bs in
     let n = line_size a xs in
     let few = line_size-le a b bs in
-    let here : Place = record { location = a; known = no_names } in
-    (
+    let here : Place = record { location = a; known = no_names } in (
       record { test = (line_says no_names here b bs (comment_of a xs) low room (comment_plain a xs)).clean },
       run_plain (a + n) (drop n xs) lines rest (low_drop n xs low) (omega (arith, length-drop n xs)),
     )
