@@ -121,7 +121,7 @@ unit_free m f d c given u is =
     let write = write_hazard f channel.target (unit_length channel) in
     let free = first_none write port (second_none (source_hazard f channel given) (or_else write port) moved.1) in
     let here : writes_hazard f (unit m d c given).writes ≡ None =
-        writes_hazard-upwards f channel.target (unit_bytes m channel given) ∙ ap (write_hazard f channel.target) long ∙ free in
+    writes_hazard-upwards f channel.target (unit_bytes m channel given) ∙ ap (write_hazard f channel.target) long ∙ free in
     subst (λ (v : Unit). writes_hazard f v.writes ≡ None) moved.2 here
 
 no_writes : (f : Frames) → writes_hazard f [] ≡ None

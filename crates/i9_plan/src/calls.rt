@@ -16,8 +16,8 @@ use i9_calls::{CallsStop, Push};
 use i9_entry::aligned;
 use i9_faults::{Entry, Fault, FaultStop};
 use i9_isa::Inst;
-use i9_model::layout::{RECORD_SIZE, RIP};
 use i9_model::Chosen;
+use i9_model::layout::{RECORD_SIZE, RIP};
 use i9_processor::{Control, DmaChange, Effect, Move, Posting, Processor};
 
 /// The locals are saved with a return address, and control goes on in a new frame.

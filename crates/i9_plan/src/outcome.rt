@@ -13,10 +13,10 @@ ghost use Rattle.i9_processor.specs.State.{state_of};
 ghost use Rattle.i9_plan.specs.Names.{is_branch};
 ghost use Rattle.i9_plan.specs.Planned.{standing_in, HasEffect, IsPlanFor, Plans, Passes, Moves};
 
-use crate::names::{is_branch, is_fault_name};
 use crate::calls::{plan_call, plan_calls, plan_return};
 use crate::dma::plan_sdma;
 use crate::effects::{answering, dma_change, jumping, linking, passing, posting};
+use crate::names::{is_branch, is_fault_name};
 use crate::raised::{arithmetic_fault, mismatches, raised_in};
 use crate::sources::{address, answer, target, value};
 use crate::system::{plan_message, plan_modac, plan_modpc, plan_modtc};

@@ -588,7 +588,10 @@ fn plans_set_ups(rt: HostRuntime) -> Result<(), Fail> {
         match plan_next(&p, &mut effect) {
             Planned::Runs { .. } => {
                 assert_eq!(rt; (effect.dma, effect.next), (dma, 0x1004));
-                assert_eq!(rt; (effect.posting, rest_of(&effect)), (Posting::Keeps, Nothing));
+                assert_eq!(rt;
+                    (effect.posting, rest_of(&effect)),
+                    (Posting::Keeps, Nothing)
+                );
             }
             _ => assert!(rt; false, "{word}"),
         }
@@ -620,8 +623,14 @@ fn plans_units(rt: HostRuntime) -> Result<(), Fail> {
     match plan_event(&p, &Event::Dma(0)) {
         Ok(effect) => {
             assert_eq!(rt; effect.address, 0x5000);
-            assert_eq!(rt; effect.bytes.as_slice(), [0x21, 0x87, 0x43, 0x65].as_slice());
-            assert_eq!(rt; (effect.dma, effect.posting), (DmaChange::Passes(0), Posting::Dma(0)));
+            assert_eq!(rt;
+                effect.bytes.as_slice(),
+                [0x21, 0x87, 0x43, 0x65].as_slice()
+            );
+            assert_eq!(rt;
+                (effect.dma, effect.posting),
+                (DmaChange::Passes(0), Posting::Dma(0))
+            );
             assert_eq!(rt; controls_of(&effect), (1, PC, 0, 0x1000));
         }
         Err(_) => assert!(rt; false, "a hazard"),
