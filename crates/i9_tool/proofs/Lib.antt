@@ -1,3 +1,4 @@
+pub mod Drawing
 pub mod Prints
 pub mod Lined
 pub mod LineCounts

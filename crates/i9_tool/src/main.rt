@@ -15,6 +15,8 @@ mod fault_tests;
 mod flow_tests;
 #[cfg(test)]
 mod frame_tests;
+mod generator;
+mod job;
 pub mod laws;
 mod print;
 #[cfg(test)]
@@ -33,6 +35,7 @@ mod text;
 mod top;
 mod words;
 
+pub use crate::generator::generate;
 pub use crate::status::Status;
 pub use crate::top::i960;
 use i9_outside::{RealFiles, RealSink};

@@ -18,28 +18,17 @@ ghost use Rattle.i9_tool.specs.Outcome.{Answers, GivesWhole, GivesFront, Outcome
 ghost use Rattle.i9_tool.specs.Outcome.{FetchesOnce, FetchesPlan, FetchesAfter, FetchesFiles, names_of, AnyRose};
 ghost use Rattle.i9_tool.specs.Outcome.{AllSure};
 
-use crate::print::{Printed, print_piece, print_refusal, print_text};
+use crate::job::do_job;
+use crate::print::{print_piece, print_refusal, print_text};
 use crate::run::{Ran, run};
-use crate::status::Status;
+use crate::status::{Status, code_of_end, status_for};
 use crate::words::{Asked, RunWords, read_words};
 use i9_asm::{AsmError, assemble};
 use i9_hex::{HexError, Segments};
 use i9_isa::NoMemory;
-use i9_machine::End;
 use i9_outside::{Fetch, Files, Sink};
 use i9_schedule::{LineError, Schedule};
 use std::alloc::Global;
-
-/// The status for a text that was printed so.
-fn status_for(printed: Printed, code: u8) -> Status
-    ensures { result.code ≡ code_for printed code }
-{
-    match printed {
-        Printed::Done => Status { code },
-        Printed::Write => Status { code: 6 },
-        Printed::Memory => Status { code: 7 },
-    }
-}
 
 /// The status for a run that went so.
 fn status_of_run(ran: Ran) -> Status
@@ -47,9 +36,9 @@ fn status_of_run(ran: Ran) -> Status
     ensures read { result.code ≢ 5 }
 {
     match ran {
-        Ran::Done(End::Exit(_)) => Status { code: 0 },
-        Ran::Done(End::Limit) => Status { code: 0 },
-        Ran::Done(End::Hazard(_) | End::Dead(_, _) | End::Unbuilt(_)) => Status { code: 4 },
+        Ran::Done(end) => Status {
+            code: code_of_end(end),
+        },
         Ran::Write => Status { code: 6 },
         Ran::Memory => Status { code: 7 },
     }
@@ -292,6 +281,7 @@ fn answer<F: Files, K: Sink>(alloc: Global, asked: &Asked<'_>, files: &mut F, ou
     match asked {
         Asked::Run(words) => fetch_image(alloc, words, files, out),
         Asked::Asm(source) => fetch_source(alloc, source, files, out),
+        Asked::Gen(words) => do_job(alloc, *words, out),
     }
 }
 
