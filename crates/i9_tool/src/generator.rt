@@ -112,7 +112,8 @@ fn add_pin(alloc: Global, text: &mut Vec<u8>, count: u64, pin: u32) -> Result<()
     add_count(alloc, text, count)?;
     text.extend_from_slice(b" pin ")?;
     add_count(alloc, text, u64::from(pin))?;
-    text.push(b'\n')
+    text.push(b'\n')?;
+    Ok(())
 }
 
 /// The schedule of the job.

@@ -15,6 +15,8 @@ mod fault_tests;
 mod flow_tests;
 #[cfg(test)]
 mod frame_tests;
+#[cfg(test)]
+mod gen_tests;
 mod generator;
 mod job;
 pub mod laws;

@@ -1,4 +1,4 @@
-use Rattle.std.proofs.Common.{◌≡◌, ◌+◌, ◌×◌}
+use Rattle.std.proofs.Common.{◌≡◌, ◌+◌}
 use Rattle.std.specs.List.{flat_map, range_with_len}
 use Rattle.i9_tool.specs.Generator.{drawn, event_line}
 use Rattle.i9_tool.proofs.generator.schedule_of.Given as goal
