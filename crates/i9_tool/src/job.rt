@@ -11,7 +11,7 @@ use crate::generator::generate;
 use crate::print::{print_counted, print_refusal};
 use crate::run::count_run;
 use crate::status::{Status, code_of_end, status_for};
-use crate::words::GenWords;
+use crate::words::JobWords;
 use i9_asm::{AsmError, assemble};
 use i9_hex::Segments;
 use i9_isa::NoMemory;
@@ -23,7 +23,7 @@ use std::alloc::Global;
 /// Runs the image of a job with its events, and prints the line of what the run comes to.
 fn run_job<K: Sink>(
     alloc: Global,
-    words: GenWords,
+    words: JobWords,
     image: &Segments,
     plan: &mut Schedule,
     out: &mut K,
@@ -49,7 +49,7 @@ fn run_job<K: Sink>(
 #[tactic(auto, using(crate::proofs::LineCounts::line_rules))]
 fn schedule_job<K: Sink>(
     alloc: Global,
-    words: GenWords,
+    words: JobWords,
     image: &Segments,
     schedule: &[u8],
     out: &mut K,
@@ -74,7 +74,7 @@ fn schedule_job<K: Sink>(
 #[tactic(auto, using(crate::proofs::LineCounts::line_rules))]
 fn assemble_job<K: Sink>(
     alloc: Global,
-    words: GenWords,
+    words: JobWords,
     source: &[u8],
     schedule: &[u8],
     out: &mut K,
@@ -95,7 +95,7 @@ fn assemble_job<K: Sink>(
 }
 
 /// Makes the job of a number, runs it, and prints the line of what its run comes to.
-pub(crate) fn do_job<K: Sink>(alloc: Global, words: GenWords, out: &mut K) -> Status
+pub(crate) fn do_job<K: Sink>(alloc: Global, words: JobWords, out: &mut K) -> Status
     requires few { AreFew words.sets }
     ensures answers { Answers (GenGives words.number words.sets)
         result.code (account K.told K.faults K.writes K.sure) out.old out.new }

@@ -4,7 +4,7 @@ ghost use Rattle.std.specs.Option.{option_map, option_copied};
 ghost use Rattle.std.specs.String.{string_bytes};
 ghost use Rattle.i9_model.specs.declared.layout.TheConstants.{MAX_LENGTH};
 ghost use Rattle.i9_tool.specs.CommandLine.{sets_for, schedule_for, number_in, most_number, command_of};
-ghost use Rattle.i9_tool.specs.Words.{run_by, gen_by, asked_by, AreFew, CanRun, Fits};
+ghost use Rattle.i9_tool.specs.Words.{run_by, job_by, asked_by, AreFew, CanRun, Fits};
 
 use i9_model::layout::{MAX_LENGTH, MOST_SETS};
 use i9_text::number;
@@ -22,7 +22,7 @@ pub(crate) struct RunWords<'a> {
 /// What `gen` asks for: to run the job that is made from this number, with so many register sets or with those of the
 /// PRCB.
 #[derive(Clone, Copy)]
-pub(crate) struct GenWords {
+pub(crate) struct JobWords {
     pub(crate) number: u32,
     pub(crate) sets: Option<u8>,
 }
@@ -32,7 +32,7 @@ pub(crate) struct GenWords {
 pub(crate) enum Asked<'a> {
     Run(RunWords<'a>),
     Asm(&'a str),
-    Gen(GenWords),
+    Gen(JobWords),
 }
 
 /// The number of sets that a word asks for, of which `-` asks for none.
@@ -119,16 +119,16 @@ fn number_asked(word: &str) -> Option<u32>
 
 /// What `gen` asks for with these words behind it, where they are in its form.
 #[tactic(auto, unfolding(crate::specs::CommandLine::command_of))]
-fn gen_asked(name: &str, number: &str, sets: &str) -> Option<GenWords>
-    ensures asked { option_map gen_by result ≡ command_of (name.now ∷ number.now ∷ sets.now ∷ []) }
-    ensures few { IfSome result (λ gen. AreFew gen.sets) }
+fn gen_asked(name: &str, number: &str, sets: &str) -> Option<JobWords>
+    ensures asked { option_map job_by result ≡ command_of (name.now ∷ number.now ∷ sets.now ∷ []) }
+    ensures few { IfSome result (λ job. AreFew job.sets) }
 {
     if name != "gen" {
         return None;
     }
     let number = number_asked(number)?;
     let sets = sets_asked(sets)?;
-    Some(GenWords { number, sets })
+    Some(JobWords { number, sets })
 }
 
 /// What the words ask for, where they are in a form of the command.
@@ -140,8 +140,8 @@ pub(crate) fn read_words(words: &[String]) -> Option<Asked<'_>>
     match words {
         [name, source] => asm_asked(name, source),
         [name, number, sets] => {
-            let gen = gen_asked(name, number, sets)?;
-            Some(Asked::Gen(gen))
+            let job = gen_asked(name, number, sets)?;
+            Some(Asked::Gen(job))
         }
         [name, image, schedule, sets, limit] => {
             let run = run_asked(name, image, schedule, sets, limit)?;
