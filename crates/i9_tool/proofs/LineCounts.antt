@@ -1,5 +1,5 @@
 -- Each printed line has one line feed.
-use Rattle.std.proofs.Common.{◌≡◌, ℕ, true, false, List, [], ◌∷◌, ◌++◌, Option, Some, None, eqb, codes, refl, ◌∙◌, arith}
+use Rattle.std.proofs.Common.{◌≡◌, ℕ, ◌≤◌, length, true, false, List, [], ◌∷◌, ◌++◌, Option, Some, None, eqb, codes, refl, ◌∙◌, arith}
 use Rattle.std.specs.List.{flat_map}
 use Rattle.std.specs.Fmt.{decimal}
 use Rattle.std.proofs.lemmas.Bool.{and_parts}
@@ -85,9 +85,17 @@ line-end (Hazard a) = line-words (codes "#end hazard") (a ∷ []) refl
 line-end (Dead code a) = line-words (codes "#end dead " ++ decimal code) (a ∷ []) (plain-append (codes "#end dead ") (decimal code) refl (plain-decimal code))
 line-end (Unbuilt a) = line-words (codes "#end unbuilt") (a ∷ []) refl
 
+pub end_labelled : (f : End) → length (codes "#end ") ≤ length (end_text f)
+unfolding end_text words_text
+end_labelled (Exit w) = omega arith
+end_labelled Limit = omega arith
+end_labelled (Hazard a) = omega arith
+end_labelled (Dead code a) = omega arith
+end_labelled (Unbuilt a) = omega arith
+
 -- the end of the run that was made from a number
 line-ending : (f : End) → IsLine (ending f)
-unfolding ending end_text
+unfolding ending end_text words_text
 line-ending (Exit w) = line-words (codes "exit") (w ∷ []) refl
 line-ending Limit = refl
 line-ending (Hazard a) = line-words (codes "hazard") (a ∷ []) refl

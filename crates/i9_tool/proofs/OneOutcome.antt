@@ -88,10 +88,10 @@ job_line number sets image events rs e =
     generated_line number (state_after (given (pairs_of image) events MAX_LENGTH sets) rs).count (length (reached_after rs)) e
 
 -- one run comes to one line
-same_job : (number : ℕ) (sets : Option ℕ) (image other : List Part) (events timed : List Timed) (rs qs : List Record) (e f : End) → image ≡ other → events ≡ timed
-    → IsRun (given (pairs_of image) events MAX_LENGTH sets) rs e → IsRun (given (pairs_of other) timed MAX_LENGTH sets) qs f
-    → Same (end_code e) (end_code f) (job_line number sets image events rs e) (job_line number sets other timed qs f)
-same_job number sets image .image events .events rs qs e f refl refl a b =
+same_line : (number : ℕ) (sets : Option ℕ) (image : List Part) (events : List Timed) (rs qs : List Record) (e f : End)
+    → IsRun (given (pairs_of image) events MAX_LENGTH sets) rs e → IsRun (given (pairs_of image) events MAX_LENGTH sets) qs f
+    → Same (end_code e) (end_code f) (job_line number sets image events rs e) (job_line number sets image events qs f)
+same_line number sets image events rs qs e f a b =
     let g = given (pairs_of image) events MAX_LENGTH sets in
     let end = same_end g rs qs e f a b in
     let records = same_records g rs qs e f a b in
@@ -99,6 +99,15 @@ same_job number sets image .image events .events rs qs e f refl refl a b =
       status = ap end_code end;
       text = ap (λ (x : List Record). job_line number sets image events x e) records ∙ ap (job_line number sets image events qs) end;
     }
+
+-- so do those of one image and one schedule
+same_job : (number : ℕ) (sets : Option ℕ) (image other : List Part) (events timed : List Timed) (rs qs : List Record) (e f : End) → image ≡ other → events ≡ timed
+    → IsRun (given (pairs_of image) events MAX_LENGTH sets) rs e → IsRun (given (pairs_of other) timed MAX_LENGTH sets) qs f
+    → Same (end_code e) (end_code f) (job_line number sets image events rs e) (job_line number sets other timed qs f)
+same_job number sets image other events timed rs qs e f one same a b =
+    subst (λ (us : List Timed). IsRun (given (pairs_of other) us MAX_LENGTH sets) qs f → Same (end_code e) (end_code f) (job_line number sets image events rs e) (job_line number sets other us qs f)) same
+    (subst (λ (x : List Part). IsRun (given (pairs_of x) events MAX_LENGTH sets) qs f → Same (end_code e) (end_code f) (job_line number sets image events rs e) (job_line number sets x events qs f)) one
+    (same_line number sets image events rs qs e f a)) b
 
 once_job : (number : ℕ) (sets : Option ℕ) (source schedule : List ℕ) → Once (JobGives number sets source schedule)
 once_job number sets source schedule c d s t p q (job_source_refused f bad) (job_source_refused g bad') =

@@ -198,7 +198,7 @@ module _ {K : Type 0} (k : Account K) where
       → Prints p k a b (generated_line number counted.count counted.events counted.end) → code ≡ code_for p (end_code counted.end)
       → Answers (JobGives number sets source schedule) code k a b
   job_counted number sets source schedule image events counted p code a b made says c printed e =
-      let same = ap (λ (n : ℕ). generated_line number n counted.events counted.end) c.count ∙ ap (λ (n : ℕ). generated_line number _ n counted.end) c.events in
+      let same = ap (λ (n : ℕ). generated_line number n counted.events counted.end) c.count ∙ ap (λ (n : ℕ). generated_line number (state_after (given (pairs_of image) events MAX_LENGTH sets) c.records).count n counted.end) c.events in
       answers_line (JobGives number sets source schedule) p (end_code counted.end) code _ _ a b (known_finish counted.end) (job_runs image events c.records counted.end made says c.run) same printed e
 
   -- a schedule was fetched whose events a run has

@@ -34,9 +34,10 @@ pub fn one_outcome()
         (schedule : Option (List ℕ)) (sets others : Option ℕ) (limit code : ℕ) (text : List ℕ)
         → Gives told (λ n. risen n ≡ true) (Some (Run image schedule sets limit)) code text
         → Gives told (λ n. risen n ≡ true) (Some (Run image schedule others limit)) code text }
-    ensures job_sets { (told : List ℕ → Option (List ℕ)) (rose : List ℕ → Type 0) (number : ℕ)
+    ensures job_sets { (told : List ℕ → Option (List ℕ)) (risen : List ℕ → Bool) (number : ℕ)
         (sets others : Option ℕ) (code : ℕ) (text : List ℕ)
-        → Gives told rose (Some (Gen number sets)) code text → Gives told rose (Some (Gen number others)) code text }
+        → Gives told (λ n. risen n ≡ true) (Some (Gen number sets)) code text
+        → Gives told (λ n. risen n ≡ true) (Some (Gen number others)) code text }
 {}
 
 /// The command over files and a sink in memory: a status below 6 has its whole text. Where no call is set to fail, each

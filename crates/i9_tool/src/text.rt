@@ -1,5 +1,5 @@
 //! The text of lines.
-ghost use Rattle.std.specs.Prelude.{◌≡◌, ◌++◌, ◌∷◌, [], ◌<◌, ◌^◌, IfOk, OnOk, codes};
+ghost use Rattle.std.specs.Prelude.{◌≡◌, ◌++◌, ◌∷◌, [], ◌≤◌, ◌<◌, ◌^◌, length, drop, IfOk, OnOk, codes};
 ghost use Rattle.std.specs.Fmt.{decimal};
 ghost use Rattle.std.specs.List.{flat_map};
 ghost use Rattle.i9_tool.specs.CommandLine.{refused_line};
@@ -148,6 +148,14 @@ fn end_line(alloc: Global, end: End) -> Result<Vec<u8>, AllocError>
     }
 }
 
+/// What the line of an end has behind its label.
+fn behind_label(line: &[u8]) -> &[u8]
+    requires { length (codes "#end ") ≤ length line.now }
+    ensures { result.now ≡ drop (length (codes "#end ")) line.now }
+{
+    &line[END_LABEL.len()..]
+}
+
 /// The line of the run that was made from a number: its instructions, its events, and what the line of its end has
 /// behind `#end `.
 #[tactic(auto, unfolding(crate::specs::Generator::generated_line))]
@@ -168,7 +176,7 @@ pub(crate) fn generated_line(
     add_count(alloc, &mut text, events)?;
     text.push(b' ')?;
     let end = end_line(alloc, end)?;
-    text.extend_from_slice(&end[END_LABEL.len()..])?;
+    text.extend_from_slice(behind_label(&end))?;
     Ok(text)
 }
 

@@ -16,4 +16,4 @@ pub returns-clause-sets : goal.returns-clause-sets
 returns-clause-sets c = λ told risen. same_in_sets told (λ n. risen n ≡ true)
 
 pub returns-clause-job_sets : goal.returns-clause-job_sets
-returns-clause-job_sets c = job_same_in_sets
+returns-clause-job_sets c = λ told risen. job_same_in_sets told (λ n. risen n ≡ true)

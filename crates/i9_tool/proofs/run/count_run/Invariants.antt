@@ -6,10 +6,10 @@ use Rattle.i9_machine.specs.StandsFor.{StandsFor, Follows}
 use Rattle.i9_machine.specs.Step.{steps_left}
 use Rattle.i9_tool.proofs.run.count_run.Given as goal
 
-abbrev pub invariant-loop-lines : goal.invariant-loop-lines
-invariant-loop-lines l =
-    (rs : List Record) × StandsFor (given (pairs_of l.image) l.fn.plan.events l.limit l.sets) rs None l.machine
-    × Follows (given (pairs_of l.image) l.fn.plan.events l.limit l.sets) rs l.plan
+abbrev pub invariant-loop-end : goal.invariant-loop-end
+invariant-loop-end l =
+    (rs : List Record) × StandsFor (given (pairs_of l.image) l.fn.plan.events l.limit l.fn.sets) rs None l.machine
+    × Follows (given (pairs_of l.image) l.fn.plan.events l.limit l.fn.sets) rs l.plan
 
-abbrev pub decreases-loop-lines : goal.decreases-loop-lines
-decreases-loop-lines l = steps_left l.machine l.plan
+abbrev pub decreases-loop-end : goal.decreases-loop-end
+decreases-loop-end l = steps_left l.machine l.plan
