@@ -15,7 +15,7 @@ use Rattle.i9_model.proofs.Cuts.{past_by, state_by, next_from}
 use Rattle.i9_model.proofs.Unique.{same_records, same_end}
 use Rattle.i9_hex.proofs.OneAnswer.{image_apart, one_image, one_fault}
 use Rattle.i9_schedule.proofs.OneAnswer.{answers_apart, one_schedule, one_fault as one_schedule_fault}
-use Rattle.i9_tool.specs.Outcome.{Reads, unread, fetched, RunGives, runs, ScheduleGives, schedule_too_long, schedule_refused, scheduled, ImageGives, too_long, refused, accepted, SourceGives, source_too_long, source_refused, assembled, JobGives, job_source_refused, job_schedule_refused, job_runs, GenGives, PlanGives, CommandGives, Gives, in_no_form, in_form, AllTold, names_of}
+use Rattle.i9_tool.specs.Outcome.{Reads, unread, fetched, RunGives, runs, ScheduleGives, schedule_too_long, schedule_refused, scheduled, ImageGives, too_long, refused, accepted, SourceGives, source_too_long, source_refused, assembled, JobGives, job_source_refused, job_schedule_refused, job_runs, PlanGives, CommandGives, Gives, in_no_form, in_form, AllTold, names_of}
 use Rattle.i9_model.specs.Image.{Part, pairs_of}
 use Rattle.i9_model.specs.declared.layout.TheConstants.{MAX_LENGTH}
 use Rattle.i9_tool.specs.Generator.{generated_source, generated_schedule, generated_line}

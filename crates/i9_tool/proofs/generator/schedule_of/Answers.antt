@@ -9,7 +9,7 @@ loop-place-preserved c =
     let place = c.loop-place.place in
     let next : 3 + place + 1 ≡ 3 + (place + 1) = omega arith in
     let last : c.draw-last-in-loop-place.result ≡ drawn number (3 + (place + 1)) =
-        c.draw-last-in-loop-place.ensures ∙ ap (λ (n : ℕ). drawn n 1) c.loop-place.invariant.0 ∙ drawn-next number (3 + place) ∙ ap (drawn number) next in
+    c.draw-last-in-loop-place.ensures ∙ ap (λ (n : ℕ). drawn n 1) c.loop-place.invariant.0 ∙ drawn-next number (3 + place) ∙ ap (drawn number) next in
     (last, schedule_grows number place _ _ _ c.loop-place.invariant.1 last c.in_ok-add_pin.ensures)
 
 pub returns : goal.returns

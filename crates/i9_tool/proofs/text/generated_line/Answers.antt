@@ -10,5 +10,17 @@ behind_label-requires c =
 pub returns : goal.returns
 unfolding generated_line ending
 returns c =
-    rw (c.in_ok-extend_from_slice.ensures.items, c.behind_label.ensures, c.deref.ensures.value, c.in_ok-end.ensures, c.in_ok-push-3.ensures.items, c.in_ok-add_count-3.ensures,
-      c.in_ok-push-2.ensures.items, c.in_ok-add_count-2.ensures, c.in_ok-push.ensures.items, c.in_ok-add_count.ensures, c.in_ok-text.ensures.items, c.from.ensures) refl
+    rw (
+      c.in_ok-extend_from_slice.ensures.items,
+      c.behind_label.ensures,
+      c.deref.ensures.value,
+      c.in_ok-end.ensures,
+      c.in_ok-push-3.ensures.items,
+      c.in_ok-add_count-3.ensures,
+      c.in_ok-push-2.ensures.items,
+      c.in_ok-add_count-2.ensures,
+      c.in_ok-push.ensures.items,
+      c.in_ok-add_count.ensures,
+      c.in_ok-text.ensures.items,
+      c.from.ensures,
+    ) refl
