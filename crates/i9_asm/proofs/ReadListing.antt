@@ -1,5 +1,5 @@
 -- The lines of a listing assemble to the bytes that they were made of.
-use Rattle.std.proofs.Common.{◌≡◌, ℕ, zero, suc, ◌+◌, ◌*◌, ◌%◌, ◌^◌, ◌<◌, ◌≤◌, Bool, true, false, cond, eqb, ltb, ◌&&◌, List, [], ◌∷◌, ◌++◌, length, take, drop, get_or, Some, None, Result, Ok, Err, refl, sym, ap, subst, ◌∙◌, arith, lit≤, append_assoc, add-zero, inl, inr}
+use Rattle.std.proofs.Common.{◌≡◌, ℕ, zero, suc, ◌+◌, ◌*◌, ◌%◌, ◌^◌, ◌<◌, ◌≤◌, Bool, true, false, cond, eqb, ltb, ◌&&◌, List, [], ◌∷◌, ◌++◌, length, take, drop, get_or, Some, None, Result, Ok, Err, refl, sym, ap, subst, ◌∙◌, arith, append_assoc, add-zero, inl, inr}
 use Rattle.std.specs.Prelude.{codes, is_some, slice_index}
 use Rattle.std.specs.List.{list_all, flat_map, AllByRecursion}
 use Rattle.std.specs.Int.{w32, to_le_bytes, from_le_bytes}
@@ -16,25 +16,25 @@ use Rattle.i9_isa.specs.Words.{words_of, decoded}
 use Rattle.i9_isa.proofs.Decoding.{decoded_encodes}
 use Rattle.i9_decode.specs.Ignored.{ignored_bits}
 use Rattle.i9_decode.proofs.ValidWords.{encodes_valid}
-use Rattle.i9_text.specs.Text.{space}
+use Rattle.i9_text.specs.Text.{space, lines_of}
 use Rattle.i9_text.specs.Written.{word_text, byte_text}
 use Rattle.i9_value.specs.Noted.{least}
-use Rattle.i9_value.specs.Values.{Names, is_name_byte, settled}
+use Rattle.i9_value.specs.Values.{Names, settled}
 use Rattle.i9_value.specs.NumberText.{hex_text, hex_byte_text}
 use Rattle.i9_model.specs.Image.{Part}
 use Rattle.i9_hex.specs.Put.{with_part}
 use Rattle.i9_statement.specs.Statements.{statement_of, statement_text}
-use Rattle.i9_asm.specs.Lines.{Item, Org, Data, Instruction, Says}
+use Rattle.i9_asm.specs.Lines.{Item, Empty, Org, Data, Instruction, Says, item_of, labelled, code_len}
 use Rattle.i9_statement.specs.Codes.{Stands, taken}
 use Rattle.i9_asm.specs.Places.{is_ascii, all_names, no_names, if_fine, Place, address_at, location_count, statement_size, size_of, moved_to, assigned}
-use Rattle.i9_asm.specs.Source.{start_source, segments_of, Gives, gives_instruction, gives_data, gives_move, item_fault, Source, most_bytes, line_fault, Assembles, data_value, fits_width, low_bytes, past_bytes, HasRoom, AddsBytes}
+use Rattle.i9_asm.specs.Source.{start_source, segments_of, Gives, gives_nothing, gives_instruction, gives_data, gives_move, item_fault, Source, most_bytes, line_fault, Assembles, data_value, fits_width, low_bytes, past_bytes, HasRoom, AddsBytes}
 use Rattle.i9_asm.specs.Listing.{text_by, text_of, printed_words, printed_bytes, word_at, whole_size, is_single, line_size, whole_text, said_text, noted_words, first_line, Lists, lists_none, lists_line, org_line, ListsAll, lists_all, lists_run}
 use Rattle.i9_asm.specs.Laws.{IsLow, IsRun, bytes_in, IsAssembly}
-use Rattle.i9_value.proofs.Cutting.{all_by, all_append}
-use Rattle.i9_text.proofs.WrittenDigits.{word_digits, byte_digits}
-use Rattle.i9_value.proofs.NameBytes.{name_bytes, low_name}
+use Rattle.i9_value.proofs.Cutting.{all_by}
+use Rattle.i9_text.proofs.WrittenLines.{is_plain_byte, is_plain, ascii-plain, plain-append, plain-word_text, plain-byte_text, IsPlain as IsPlainLine, lines_of-written}
+use Rattle.i9_hex.specs.Writing.{with_line_feed}
 use Rattle.i9_value.proofs.ReadValues.{value_of-hex, value_of-hex_byte}
-use Rattle.i9_statement.proofs.Classes.{hex_field, hex_byte_field}
+use Rattle.i9_statement.proofs.Classes.{apart_by, hex_field, hex_byte_field}
 use Rattle.i9_statement.proofs.ReadFields.{pad}
 use Rattle.i9_statement.proofs.ReadStatements.{statement_of-text}
 use Rattle.i9_statement.proofs.StatementBytes.{is_statement_byte, low_statement, statement_bytes, operand_statement}
@@ -43,8 +43,13 @@ use Rattle.i9_asm.proofs.ReadLines.{Tail, NoTail, Comment, tail_text, leaves, or
 
 -- ---- one line
 
-statement_ascii : (w : List ℕ) → list_all is_statement_byte w ≡ true → list_all is_ascii w ≡ true
-statement_ascii w h = all_by is_statement_byte is_ascii (λ b in_q. lt-ltb b 128 (low_statement b in_q)) w h
+-- the bytes of a printed statement are plain
+plain_by : (b : ℕ) → ltb b 128 ≡ true → eqb b 10 ≡ false → eqb b 13 ≡ false → is_plain_byte b ≡ true
+plain_by b ascii feed return = rw (ascii, feed, return) refl
+
+statement_plain : (w : List ℕ) → list_all is_statement_byte w ≡ true → is_plain w ≡ true
+statement_plain w h =
+    all_by is_statement_byte is_plain_byte (λ b in_q. plain_by b (lt-ltb b 128 (low_statement b in_q)) (apart_by is_statement_byte 10 b refl in_q) (apart_by is_statement_byte 13 b refl in_q)) w h
 
 -- an item that gives bytes and no more
 record IsPlain (names : Names) (p : Place) (item : Item) (bs : List ℕ) : Type 0 where
@@ -54,9 +59,10 @@ record IsPlain (names : Names) (p : Place) (item : Item) (bs : List ℕ) : Type 
   stays : moved_to p item ≡ None
   known : assigned p item ≡ p.known
 
-plain_assembles : (names : Names) (s : Source) (line bs : List ℕ) (item : Item) → Says line item → list_all is_ascii line ≡ true → IsPlain names s.place item bs → HasRoom s (length bs) → Assembles names s line (past_bytes s bs)
+plain_assembles : (names : Names) (s : Source) (line bs : List ℕ) (item : Item) → Says line item → is_plain line ≡ true → IsPlain names s.place item bs → HasRoom s (length bs) → Assembles names s line (past_bytes s bs)
 unfolding line_fault
-plain_assembles names s line bs item says ascii plain room =
+plain_assembles names s line bs item says clean plain room =
+    let ascii : list_all is_ascii line ≡ true = ascii-plain line clean in
     let inside : ltb (2 ^ 32) (s.place.location + length bs) ≡ false = le-ltb _ _ room.inside in
     let few : ltb most_bytes (s.total + length bs) ≡ false = le-ltb _ _ room.few in
     let next : (s.place.location + length bs) % location_count ≡ s.place.location + length bs = omega (arith, room.inside) in
@@ -68,13 +74,6 @@ plain_assembles names s line bs item says ascii plain room =
     }
 
 -- ---- the lines of a run
-
--- a number in hexadecimal digits as a value
-name_ascii : (w : List ℕ) → list_all is_name_byte w ≡ true → list_all is_ascii w ≡ true
-name_ascii w h = all_by is_name_byte is_ascii (λ n x. lt-ltb n 128 (low_name n x)) w h
-
-digits_ascii : (n : ℕ) → list_all is_ascii (word_text n) ≡ true
-digits_ascii n = name_ascii (word_text n) (name_bytes (word_text n) 16 (lit≤ tt) (word_digits n))
 
 -- `.word` with a number
 plain_word : (names : Names) (p : Place) (w : ℕ) → w < 2 ^ 32 → IsPlain names p (Data 4 (hex_text w ∷ [])) (to_le_bytes w32 w)
@@ -155,15 +154,12 @@ word_at-small k bs low = word_small (take 4 (drop k bs)) (low_at (take 4 (drop k
 record LineSays (names : Names) (p : Place) (line bs : List ℕ) : Type 0 where
   item : Item
   says : Says line item
-  ascii : list_all is_ascii line ≡ true
+  clean : is_plain line ≡ true
   plain : IsPlain names p item bs
 
-tail_ascii : (said : List ℕ) (t : Tail) → list_all is_ascii said ≡ true → list_all is_ascii (tail_text t) ≡ true → list_all is_ascii (said ++ tail_text t) ≡ true
-tail_ascii said t h g = all_append is_ascii said (tail_text t) h g
-
 -- a byte
-byte_line : (names : Names) (p : Place) (b : ℕ) (t : Tail) → b < 256 → list_all is_ascii (tail_text t) ≡ true → LineSays names p ((codes ".byte " ++ hex_byte_text b) ++ tail_text t) (b ∷ [])
-byte_line names p b t h ascii =
+byte_line : (names : Names) (p : Place) (b : ℕ) (t : Tail) → b < 256 → is_plain (tail_text t) ≡ true → LineSays names p ((codes ".byte " ++ hex_byte_text b) ++ tail_text t) (b ∷ [])
+byte_line names p b t h clean =
     let f = hex_byte_text b in
     let v = value_of-hex_byte names b h in
     let fits : fits_width 1 b ≡ true = rw (lt-ltb b 256 h) refl in
@@ -171,7 +167,7 @@ byte_line names p b t h ascii =
     record {
       item = Data 1 (f ∷ []);
       says = says_byte f t (hex_byte_field b h);
-      ascii = tail_ascii (codes ".byte " ++ f) t (statement_ascii (codes ".byte " ++ f) (operand_statement f (hex_byte_field b h).bytes)) ascii;
+      clean = plain-append (codes ".byte " ++ f) (tail_text t) (statement_plain (codes ".byte " ++ f) (operand_statement f (hex_byte_field b h).bytes)) clean;
       plain = record {
         gives = subst (λ bs. Gives names p (Data 1 (f ∷ [])) bs) (ap (λ o. flat_map (λ n. low_bytes 1 n) ((data_value 1 o).value ∷ [])) v ∙ rw (fits, low) refl) (gives_data 1 (f ∷ []));
         sound = ap (λ o. least (data_value 1 o).fault None) v ∙ rw fits refl;
@@ -182,27 +178,27 @@ byte_line names p b t h ascii =
     }
 
 -- a word
-word_line : (names : Names) (p : Place) (w : ℕ) (t : Tail) → w < 2 ^ 32 → list_all is_ascii (tail_text t) ≡ true → LineSays names p ((codes ".word " ++ hex_text w) ++ tail_text t) (to_le_bytes w32 w)
-word_line names p w t h ascii =
+word_line : (names : Names) (p : Place) (w : ℕ) (t : Tail) → w < 2 ^ 32 → is_plain (tail_text t) ≡ true → LineSays names p ((codes ".word " ++ hex_text w) ++ tail_text t) (to_le_bytes w32 w)
+word_line names p w t h clean =
     let f = hex_text w in
     record {
       item = Data 4 (f ∷ []);
       says = says_word f t (hex_field w);
-      ascii = tail_ascii (codes ".word " ++ f) t (statement_ascii (codes ".word " ++ f) (operand_statement f (hex_field w).bytes)) ascii;
+      clean = plain-append (codes ".word " ++ f) (tail_text t) (statement_plain (codes ".word " ++ f) (operand_statement f (hex_field w).bytes)) clean;
       plain = plain_word names p w h;
     }
 
 -- an instruction
-instruction_line : (names : Names) (p : Place) (i : Inst) (w0 w1 : ℕ) (t : Tail) → p.location < 2 ^ 32 → w0 < 2 ^ 32 → w1 < 2 ^ 32 → decoded w0 w1 ≡ Ok i → list_all is_ascii (tail_text t) ≡ true
+instruction_line : (names : Names) (p : Place) (i : Inst) (w0 w1 : ℕ) (t : Tail) → p.location < 2 ^ 32 → w0 < 2 ^ 32 → w1 < 2 ^ 32 → decoded w0 w1 ≡ Ok i → is_plain (tail_text t) ≡ true
     → LineSays names p (text_by p.location w0 (Ok i) ++ tail_text t) (flat_map (to_le_bytes w32) (taken w0 w1 i))
-instruction_line names p i w0 w1 t low h0 h1 is ascii =
+instruction_line names p i w0 w1 t low h0 h1 is clean =
     let bits = bit_and w0 (ignored_bits i) in
     let v = encodes_valid w0 w1 i h1 (decoded_encodes w0 w1 i is) in
     let small : bits < 2 ^ 32 = omega (arith, and_le_l w0 (ignored_bits i)) in
     record {
       item = Instruction (statement_text p.location i bits ++ pad (leaves t));
       says = says_statement p.location i bits t small v;
-      ascii = tail_ascii (statement_text p.location i bits) t (statement_ascii (statement_text p.location i bits) (statement_bytes p.location i bits small v)) ascii;
+      clean = plain-append (statement_text p.location i bits) (tail_text t) (statement_plain (statement_text p.location i bits) (statement_bytes p.location i bits small v)) clean;
       plain = plain_instruction names p i w0 w1 (leaves t) low h0 h1 is;
     }
 
@@ -226,35 +222,34 @@ whole_bytes i bs low four whole =
 abbrev comment_of : ℕ → List ℕ → Tail
 comment_of a bs = Comment (space ∷ (word_text a ++ noted_words (line_size a bs) bs))
 
-chosen_ascii : (q : Bool) (v w : List ℕ) → list_all is_ascii v ≡ true → list_all is_ascii w ≡ true → list_all is_ascii (cond q v w) ≡ true
-chosen_ascii true v w hv hw = hv
-chosen_ascii false v w hv hw = hw
+chosen_plain : (q : Bool) (v w : List ℕ) → is_plain v ≡ true → is_plain w ≡ true → is_plain (cond q v w) ≡ true
+chosen_plain true v w hv hw = hv
+chosen_plain false v w hv hw = hw
 
-noted_ascii : (n : ℕ) (bs : List ℕ) → IsLow bs → list_all is_ascii (noted_words n bs) ≡ true
-noted_ascii n bs low =
-    let byte = name_ascii (byte_text (get_or bs 0 0)) (name_bytes (byte_text (get_or bs 0 0)) 16 (lit≤ tt) (byte_digits (get_or bs 0 0) (low_at bs low 0))) in
-    let one = digits_ascii (word_at 0 bs) in
-    chosen_ascii (eqb n 1) (space ∷ byte_text (get_or bs 0 0)) _ byte
-    (chosen_ascii (eqb n 4) (space ∷ word_text (word_at 0 bs)) _ one (all_append is_ascii (space ∷ word_text (word_at 0 bs)) (space ∷ word_text (word_at 4 bs)) one (digits_ascii (word_at 4 bs))))
+noted_plain : (n : ℕ) (bs : List ℕ) → is_plain (noted_words n bs) ≡ true
+noted_plain n bs =
+    let one = plain-word_text (word_at 0 bs) in
+    chosen_plain (eqb n 1) (space ∷ byte_text (get_or bs 0 0)) _ (plain-byte_text (get_or bs 0 0))
+    (chosen_plain (eqb n 4) (space ∷ word_text (word_at 0 bs)) _ one (plain-append (space ∷ word_text (word_at 0 bs)) (space ∷ word_text (word_at 4 bs)) one (plain-word_text (word_at 4 bs))))
 
-comment_ascii : (a : ℕ) (bs : List ℕ) → IsLow bs → list_all is_ascii (tail_text (comment_of a bs)) ≡ true
-comment_ascii a bs low = all_append is_ascii (word_text a) (noted_words (line_size a bs) bs) (digits_ascii a) (noted_ascii (line_size a bs) bs low)
+comment_plain : (a : ℕ) (bs : List ℕ) → is_plain (tail_text (comment_of a bs)) ≡ true
+comment_plain a bs = plain-append (word_text a) (noted_words (line_size a bs) bs) (plain-word_text a) (noted_plain (line_size a bs) bs)
 
 single_small : (a : ℕ) (xs : List ℕ) → is_single a xs ≡ false → 4 ≤ length xs
 single_small a xs h = ltb-false _ _ (or_false (ltb (length xs) 4) (ltb 0 (a % 4)) h).0
 
 -- the first line of a run says its first bytes
-line_says : (names : Names) (p : Place) (b : ℕ) (bs : List ℕ) (t : Tail) → IsLow (b ∷ bs) → p.location + length (b ∷ bs) ≤ 2 ^ 32 → list_all is_ascii (tail_text t) ≡ true
+line_says : (names : Names) (p : Place) (b : ℕ) (bs : List ℕ) (t : Tail) → IsLow (b ∷ bs) → p.location + length (b ∷ bs) ≤ 2 ^ 32 → is_plain (tail_text t) ≡ true
     → LineSays names p (said_text p.location (b ∷ bs) ++ tail_text t) (take (line_size p.location (b ∷ bs)) (b ∷ bs))
-line_says names p b bs t low room ascii = elim (cases_Bool (is_single p.location (b ∷ bs))) [
-  | inl single ↦ rw single (byte_line names p b t low.0 ascii)
+line_says names p b bs t low room clean = elim (cases_Bool (is_single p.location (b ∷ bs))) [
+  | inl single ↦ rw single (byte_line names p b t low.0 clean)
   | inr many ↦ rw many (by_decoded (single_small p.location (b ∷ bs) many) (decoded (word_at 0 (b ∷ bs)) (word_at 4 (b ∷ bs))) refl)
 ]
   where
     number : 4 ≤ length (b ∷ bs) → LineSays names p ((codes ".word " ++ hex_text (word_at 0 (b ∷ bs))) ++ tail_text t) (take 4 (b ∷ bs))
     number four =
         subst (λ ys. LineSays names p ((codes ".word " ++ hex_text (word_at 0 (b ∷ bs))) ++ tail_text t) ys) (word_at-bytes 0 (b ∷ bs) (omega arith) low)
-        (word_line names p (word_at 0 (b ∷ bs)) t (word_at-small 0 (b ∷ bs) low) ascii)
+        (word_line names p (word_at 0 (b ∷ bs)) t (word_at-small 0 (b ∷ bs) low) clean)
 
     by_decoded : 4 ≤ length (b ∷ bs) → (r : Result Inst BadWord) → decoded (word_at 0 (b ∷ bs)) (word_at 4 (b ∷ bs)) ≡ r
         → LineSays names p (whole_text p.location (b ∷ bs) r ++ tail_text t) (take (whole_size r (length (b ∷ bs))) (b ∷ bs))
@@ -263,7 +258,7 @@ line_says names p b bs t low room ascii = elim (cases_Bool (is_single p.location
       | inl cut ↦ rw cut (number four)
       | inr whole ↦ rw whole
           (subst (λ ys. LineSays names p (text_by p.location (word_at 0 (b ∷ bs)) (Ok i) ++ tail_text t) ys) (whole_bytes i (b ∷ bs) low four whole)
-          (instruction_line names p i (word_at 0 (b ∷ bs)) (word_at 4 (b ∷ bs)) t (omega arith) (word_at-small 0 (b ∷ bs) low) (word_at-small 4 (b ∷ bs) low) is ascii))
+          (instruction_line names p i (word_at 0 (b ∷ bs)) (word_at 4 (b ∷ bs)) t (omega arith) (word_at-small 0 (b ∷ bs) low) (word_at-small 4 (b ∷ bs) low) is clean))
     ]
 
 -- ---- runs
@@ -274,11 +269,11 @@ line_assembles names s b bs low room few =
     let a = s.place.location in
     let xs = b ∷ bs in
     let n = line_size a xs in
-    let said = line_says names s.place b bs (comment_of a xs) low room.inside (comment_ascii a xs low) in
+    let said = line_says names s.place b bs (comment_of a xs) low room.inside (comment_plain a xs) in
     let len : length (take n xs) ≡ n = length-take-le n xs few in
-    plain_assembles names s (first_line a xs) (take n xs) said.item said.says said.ascii said.plain (record { inside = omega (arith, room.inside); few = omega (arith, room.few) })
+    plain_assembles names s (first_line a xs) (take n xs) said.item said.says said.clean said.plain (record { inside = omega (arith, room.inside); few = omega (arith, room.few) })
 
-line_size-le : (a : ℕ) (b : ℕ) (bs : List ℕ) → line_size a (b ∷ bs) ≤ length (b ∷ bs)
+pub line_size-le : (a : ℕ) (b : ℕ) (bs : List ℕ) → line_size a (b ∷ bs) ≤ length (b ∷ bs)
 line_size-le a b bs = elim (cases_Bool (is_single a (b ∷ bs))) [
   | inl single ↦ rw single (omega arith)
   | inr many ↦ rw many (whole_size-le (decoded (word_at 0 (b ∷ bs)) (word_at 4 (b ∷ bs))) (length (b ∷ bs)) (single_small a (b ∷ bs) many))
@@ -322,6 +317,10 @@ record Relists (names : Names) (s : Source) (lines : List (List ℕ)) (runs : Li
   end : Source
   assembled : SaysAll (Assembles names) s lines end
   segments : segments_of end ≡ segments_of s ++ runs
+  room : HasRoom end 0
+
+org_plain : (a : ℕ) → is_plain (org_line a) ≡ true
+org_plain a = statement_plain (org_line a) (operand_statement (hex_text a) (hex_field a).bytes)
 
 -- a new segment
 abbrev begun_at : Source → ℕ → Source
@@ -334,7 +333,7 @@ org_assembles names s a low here few =
     let line = org_line a in
     let says : Says line (Org f) = subst (λ l. Says l (Org f)) (append-nil line) (says_org f NoTail (hex_field a)) in
     let v = value_of-hex s.place.known a low in
-    let ascii : list_all is_ascii line ≡ true = statement_ascii line (operand_statement f (hex_field a).bytes) in
+    let ascii : list_all is_ascii line ≡ true = ascii-plain line (org_plain a) in
     let moves : moved_to s.place (Org f) ≡ Some a = ap (λ o. if_fine (settled o) (Some (settled o).value)) v in
     let sound : item_fault names s.place (Org f) ≡ None = ap (λ o. (settled o).fault) v in
     let inside : ltb (2 ^ 32) (s.place.location + 0) ≡ false = le-ltb _ _ (omega arith) in
@@ -355,7 +354,7 @@ kept_segment ps a (b ∷ bs) h = refl
 
 listing_assembles : (names : Names) (runs : List Part) (lines : List (List ℕ)) → ListsAll runs lines → (s : Source) → AllByRecursion IsRun runs → s.place.location ≤ 2 ^ 32 → s.total + bytes_in runs ≤ most_bytes
     → Relists names s lines runs
-listing_assembles names _ _ lists_all s runs here few = record { end = s; assembled = refl; segments = sym (append-nil (segments_of s)) }
+listing_assembles names _ _ lists_all s runs here few = record { end = s; assembled = refl; segments = sym (append-nil (segments_of s)); room = record { inside = omega arith; few = omega arith } }
 listing_assembles names _ _ (lists_run a bs runs lines more run rest) s h here few =
     let inside = h.0.inside in
     let some = h.0.some in
@@ -368,6 +367,7 @@ listing_assembles names _ _ (lists_run a bs runs lines more run rest) s h here f
       end = after.end;
       assembled = (b, first, SaysAll-append (Assembles names) b t after.end lines more body after.assembled);
       segments = after.segments ∙ ap (λ ps. ps ++ runs) (kept_segment (segments_of s) a bs some) ∙ append_assoc (segments_of s) (record { address = a; bytes = bs } ∷ []) runs;
+      room = after.room;
     }
 
 -- a listing is a source without fault, and its segments are the runs
@@ -375,6 +375,44 @@ pub listing_is_assembly : (runs : List Part) (lines : List (List ℕ)) → Lists
 listing_is_assembly runs lines listed h few =
     let r = listing_assembles (all_names lines) runs lines listed start_source h (omega arith) (omega arith) in
     record { end = r.end; assembled = r.assembled; kept = r.segments }
+
+-- ---- the text of a listing
+
+run_plain : (a : ℕ) (bs : List ℕ) (lines : List (List ℕ)) → Lists a bs lines → IsLow bs → a + length bs ≤ 2 ^ 32 → AllByRecursion IsPlainLine lines
+run_plain _ _ _ (lists_none a) low room = tt
+run_plain _ _ _ (lists_line a b bs lines rest) low room =
+    let xs = b ∷ bs in
+    let n = line_size a xs in
+    let few = line_size-le a b bs in
+    let here : Place = record { location = a; known = no_names } in (
+      record { test = (line_says no_names here b bs (comment_of a xs) low room (comment_plain a xs)).clean },
+      run_plain (a + n) (drop n xs) lines rest (low_drop n xs low) (omega (arith, length-drop n xs)),
+    )
+
+all_lines : (xs ys : List (List ℕ)) → AllByRecursion IsPlainLine xs → AllByRecursion IsPlainLine ys → AllByRecursion IsPlainLine (xs ++ ys)
+all_lines [] ys h g = g
+all_lines (x ∷ xs) ys h g = (h.0, all_lines xs ys h.1 g)
+
+listing_plain : (runs : List Part) (lines : List (List ℕ)) → ListsAll runs lines → AllByRecursion IsRun runs → AllByRecursion IsPlainLine lines
+listing_plain _ _ lists_all h = tt
+listing_plain _ _ (lists_run a bs runs lines more run rest) h =
+    (record { test = org_plain a }, all_lines lines more (run_plain a bs lines run h.0.low h.0.inside) (listing_plain runs more rest h.1))
+
+-- the empty line behind the last line feed
+blank_assembles : (names : Names) (s : Source) → HasRoom s 0 → Assembles names s [] s
+unfolding item_of labelled code_len
+blank_assembles names s room =
+    subst (λ t. Assembles names s [] t) (past_nothing s)
+    (plain_assembles names s [] [] Empty (record { item = refl; label = refl }) refl (record { gives = gives_nothing; sound = refl; size = refl; stays = refl; known = refl }) room)
+
+-- a listing with a line feed behind each line is a source without fault, and its segments are the runs
+pub text_is_assembly : (runs : List Part) (lines : List (List ℕ)) → ListsAll runs lines → AllByRecursion IsRun runs → bytes_in runs ≤ most_bytes → IsAssembly (lines_of (flat_map with_line_feed lines)) runs
+text_is_assembly runs lines listed h few =
+    let all = lines ++ [] ∷ [] in
+    let names = all_names all in
+    let r = listing_assembles names runs lines listed start_source h (omega arith) (omega arith) in
+    let blank = SaysAll-append (Assembles names) start_source r.end r.end lines ([] ∷ []) r.assembled (r.end, blank_assembles names r.end r.room, refl) in
+    subst (λ ls. IsAssembly ls runs) (sym (lines_of-written lines (listing_plain runs lines listed h))) (record { end = r.end; assembled = blank; kept = r.segments })
 
 -- ---- the statement of two words
 
@@ -389,4 +427,4 @@ text_of-adds names ip w0 w1 low h0 h1 s at room =
     let r = decoded w0 w1 in
     let said : LineSays names s.place (text_by s.place.location w0 r ++ tail_text NoTail) (printed_bytes w0 w1) = adds_by names w0 w1 r s (omega (arith, at)) h0 h1 refl in
     subst (λ line. Assembles names s line (past_bytes s (printed_bytes w0 w1))) (append-nil (text_by s.place.location w0 r) ∙ ap (λ a. text_by a w0 r) at)
-    (plain_assembles names s _ (printed_bytes w0 w1) said.item said.says said.ascii said.plain room)
+    (plain_assembles names s _ (printed_bytes w0 w1) said.item said.says said.clean said.plain room)

@@ -2,7 +2,9 @@
 use Rattle.std.specs.Prelude.{◌≡◌, ℕ, ◌+◌, ◌^◌, ◌<◌, ◌≤◌, List, [], ◌∷◌, length, None}
 use Rattle.std.specs.List.{AllByRecursion}
 use Rattle.i9_text.specs.FirstFault.{SaysAll, IsRefused}
-use Rattle.i9_model.specs.Image.{Part}
+use Rattle.i9_text.specs.Text.{lines_of}
+use Rattle.i9_model.specs.Writes.{last_put}
+use Rattle.i9_model.specs.Image.{Part, pairs_of}
 use Rattle.i9_asm.specs.Lines.{label_of}
 use Rattle.i9_asm.specs.Places.{Place, past_label, all_names}
 use Rattle.i9_asm.specs.Source.{Source, start_source, fault_of, Assembles, segments_of}
@@ -31,6 +33,16 @@ pub record IsAssembly (lines : List (List ℕ)) (segments : List Part) : Type 0 
   pub end : Source
   pub assembled : SaysAll (Assembles (all_names lines)) start_source lines end
   pub kept : segments_of end ≡ segments
+
+-- pairs that say the same byte of each address, or none
+abbrev pub SaySameBytes : List (ℕ × ℕ) → List (ℕ × ℕ) → Type 0
+SaySameBytes pairs others = (a : ℕ) → last_put others a ≡ last_put pairs a
+
+-- a text whose lines assemble without fault, to the bytes of an image
+pub record Reassembles (image : List Part) (text : List ℕ) : Type 0 where
+  pub segments : List Part
+  pub assembled : IsAssembly (lines_of text) segments
+  pub same : SaySameBytes (pairs_of image) (pairs_of segments)
 
 -- the first line at fault, counted from 1, and its least kind
 abbrev pub IsRefusedSource : List (List ℕ) → ℕ × ℕ → Type 0

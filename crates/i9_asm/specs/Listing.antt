@@ -1,19 +1,21 @@
 -- The text of words, and listings.
-use Rattle.std.specs.Prelude.{ℕ, ◌+◌, ◌*◌, ◌%◌, ◌==◌, ◌||◌, nat_lt, Bool, List, [], ◌∷◌, ◌++◌, length, take, drop, codes, Result, Ok, Err, get_or, if◌then◌else◌}
-use Rattle.std.specs.List.{flat_map}
+use Rattle.std.specs.Prelude.{◌≡◌, ⊤, ℕ, ◌+◌, ◌*◌, ◌%◌, ◌<◌, ◌==◌, ◌||◌, nat_lt, Bool, List, [], ◌∷◌, ◌++◌, length, take, drop, codes, Result, Ok, Err, get_or, if◌then◌else◌}
+use Rattle.std.specs.List.{flat_map, AllByRecursion}
 use Rattle.std.specs.Int.{w32, to_le_bytes, from_le_bytes}
 use Rattle.std.specs.Int.Bits.{bit_and}
 use Rattle.i9_isa.specs.declared.inst.Inst.{Inst}
 use Rattle.i9_isa.specs.declared.inst.BadWord.{BadWord}
 use Rattle.i9_isa.specs.Words.{words_of, decoded}
 use Rattle.i9_decode.specs.Ignored.{ignored_bits}
-use Rattle.i9_model.specs.Image.{Part}
+use Rattle.i9_model.specs.Image.{Part, pairs_of}
+use Rattle.i9_hex.specs.Writing.{with_line_feed}
 use Rattle.i9_text.specs.Text.{space}
 use Rattle.i9_text.specs.Written.{word_text, byte_text}
 use Rattle.i9_value.specs.NumberText.{hex_text, hex_byte_text}
 use Rattle.i9_statement.specs.Statements.{statement_text}
 use Rattle.i9_statement.specs.Codes.{taken}
 use Rattle.i9_asm.specs.Lines.{hash}
+use Rattle.i9_asm.specs.Laws.{SaySameBytes, IsRun}
 
 -- ---- the statement of two words
 
@@ -95,3 +97,29 @@ pub data ListsAll : List Part → List (List ℕ) → Type 0 where
   lists_run : (a : ℕ) (bs : List ℕ) (runs : List Part) (lines more : List (List ℕ))
       → Lists a bs lines → ListsAll runs more
       → ListsAll (record { address = a; bytes = bs } ∷ runs) (org_line a ∷ (lines ++ more))
+
+-- ---- the listing of an image
+
+-- between each run and those behind it there is at least one address
+abbrev pub AreApart : List Part → Type 0
+AreApart [] = ⊤
+AreApart (run ∷ runs) = AllByRecursion (λ later. run.address + length run.bytes < later.address) runs × AreApart runs
+
+-- The maximal runs of the bytes that pairs say, in ascending order. The addresses between two of them have no byte, so
+-- none can be longer; what goes on from FFFFFFFF to 0 is two runs.
+pub record AreRunsOf (pairs : List (ℕ × ℕ)) (runs : List Part) : Type 0 where
+  pub each : AllByRecursion IsRun runs
+  pub apart : AreApart runs
+  pub same : SaySameBytes pairs (pairs_of runs)
+
+-- those of an image
+abbrev pub AreRuns : List Part → List Part → Type 0
+AreRuns image runs = AreRunsOf (pairs_of image) runs
+
+-- the listing of an image: the lines of its runs, each with a line feed behind it
+pub record IsListing (image : List Part) (text : List ℕ) : Type 0 where
+  pub runs : List Part
+  pub lines : List (List ℕ)
+  pub are : AreRuns image runs
+  pub listed : ListsAll runs lines
+  pub whole : flat_map with_line_feed lines ≡ text

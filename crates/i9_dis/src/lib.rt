@@ -1,9 +1,18 @@
-//! The disassembler: statements that assemble to the same words.
+//! The disassembler: statements that assemble to the same words, and listings that assemble to the
+//! same bytes.
 #![tactic(auto)]
 
+mod images;
+mod laws;
+mod lines;
+mod runs;
 mod words;
 
+pub use images::listing;
+pub use laws::one_listing;
 pub use words::text;
 
+#[cfg(test)]
+mod listing_tests;
 #[cfg(test)]
 mod tests;

@@ -7,7 +7,7 @@ use std::collections::BTreeMap;
 use std::test::Fail;
 
 /// Statements as they are printed. A row has an address, one word or two, and the statement.
-const PRINTED: &str = "0 5CA00E07: mov 7, g4
+pub(crate) const PRINTED: &str = "0 5CA00E07: mov 7, g4
 0 5C200E05: mov 5, r4
 0 5C102E01: mov 1, sf2
 0 5C000621: mov sf1, pfp
@@ -60,11 +60,13 @@ const PRINTED: &str = "0 5CA00E07: mov 7, g4
 800000 08800000: b 0x00000000
 1000 097FFFFC: call 0x00800FFC
 FFFFFFFC 0B000004: bal 0x00000000
-0 10FFFFFC: bno 0xFFFFFFFC
-FFFFFFFC 8CA03000 00000FFF: lda !0x00000FFF, g4";
+0 10FFFFFC: bno 0xFFFFFFFC";
+
+/// The same, with a second word behind the last address.
+const ACROSS: &str = "FFFFFFFC 8CA03000 00000FFF: lda !0x00000FFF, g4";
 
 /// Refused words: no opcode, no extension, the reserved mode, an odd register of two, a scale of 32.
-const REFUSED_WORDS: &str = "0 00000000: .word 0x00000000
+pub(crate) const REFUSED_WORDS: &str = "0 00000000: .word 0x00000000
 0 FFFFFFFF: .word 0xFFFFFFFF
 0 59000280: .word 0x59000280
 0 90A55800: .word 0x90A55800
@@ -227,7 +229,7 @@ fn is_refused(alloc: Global, names: &Names, row: &str) -> Result<bool, Fail> {
 
 #[test]
 fn prints_statements(rt: HostRuntime) -> Result<(), Fail> {
-    for table in [PRINTED, REFUSED_WORDS] {
+    for table in [PRINTED, REFUSED_WORDS, ACROSS] {
         for row in table.lines() {
             assert!(rt; is_printed(rt.alloc(), row)?, "{row}");
         }
@@ -238,7 +240,7 @@ fn prints_statements(rt: HostRuntime) -> Result<(), Fail> {
 #[test]
 fn reads_statements(rt: HostRuntime) -> Result<(), Fail> {
     let names = names(rt.alloc())?;
-    for table in [PRINTED, OTHER_FORMS] {
+    for table in [PRINTED, OTHER_FORMS, ACROSS] {
         for row in table.lines() {
             assert!(rt; is_read(rt.alloc(), &names, row)?, "{row}");
         }

@@ -1,14 +1,39 @@
 //! The statement of two words at an address.
-ghost use Rattle.std.specs.Prelude.{◌≡◌, ◌++◌, ℕ, List, OnOk, IfOk};
+ghost use Rattle.std.specs.Prelude.{◌≡◌, ◌++◌, ℕ, List, Ok, codes, OnOk, IfOk};
+ghost use Rattle.i9_isa.specs.Valid.{IsValid};
+ghost use Rattle.i9_value.specs.NumberText.{hex_text};
 ghost use Rattle.i9_value.specs.Values.{Names};
 ghost use Rattle.i9_asm.specs.Source.{AddsBytes};
 ghost use Rattle.i9_asm.specs.Listing.{text_by, text_of, printed_bytes};
 
 use i9_decode::{decode, spare_bits};
-use i9_isa::NoMemory;
+use i9_isa::{Inst, NoMemory};
 use i9_statement::{Statement, add_statement};
 use i9_value::add_hex;
 use std::alloc::{AllocError, Global};
+
+/// Appends the statement of an instruction with this first word.
+pub(crate) fn add_instruction(
+    alloc: Global,
+    text: &mut Vec<u8>,
+    ip: u32,
+    word: u32,
+    inst: Inst,
+) -> Result<(), AllocError>
+    requires { IsValid inst }
+    ensures { OnOk result (text.new.items ≡ text.old.items ++ text_by ip word (Ok inst)) }
+{
+    let spare = word & spare_bits(&inst);
+    add_statement(alloc, text, ip, &Statement { inst, spare })
+}
+
+/// Appends a word as a number.
+pub(crate) fn add_number(alloc: Global, text: &mut Vec<u8>, word: u32) -> Result<(), AllocError>
+    ensures { OnOk result (text.new.items ≡ text.old.items ++ (codes ".word " ++ hex_text word)) }
+{
+    text.extend_from_slice(b".word ")?;
+    add_hex(alloc, text, word)
+}
 
 /// Appends the statement of two words at an address.
 #[tactic(auto, unfolding(i9_asm::specs::Listing::text_of))]
@@ -16,14 +41,8 @@ fn add_text(alloc: Global, text: &mut Vec<u8>, ip: u32, w0: u32, w1: u32) -> Res
     ensures { OnOk result (text.new.items ≡ text.old.items ++ text_of ip w0 w1) }
 {
     match decode(w0, w1) {
-        Ok(inst) => {
-            let spare = w0 & spare_bits(&inst);
-            add_statement(alloc, text, ip, &Statement { inst, spare })
-        }
-        Err(_) => {
-            text.extend_from_slice(b".word ")?;
-            add_hex(alloc, text, w0)
-        }
+        Ok(inst) => add_instruction(alloc, text, ip, w0, inst),
+        Err(_) => add_number(alloc, text, w0),
     }
 }
 

@@ -1,0 +1,4 @@
+pub mod Rising
+pub mod Joining
+pub mod Listed
+pub mod Printing
