@@ -5,5 +5,6 @@ pub mod LineCounts
 pub mod Running
 pub mod Fetching
 pub mod Answering
+pub mod Listable
 pub mod Outcomes
 pub mod OneOutcome

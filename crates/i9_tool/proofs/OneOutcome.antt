@@ -10,15 +10,16 @@ use Rattle.i9_model.specs.PrintedText.{text_of, lines_of, end_lines, run_text, e
 use Rattle.i9_hex.specs.Writing.{hex_text}
 use Rattle.i9_asm.proofs.Once.{assembly_once, refusal_once, never_both_answers}
 use Rattle.i9_text.specs.Text.{lines_of as text_lines}
-use Rattle.i9_tool.specs.CommandLine.{Command, Run, Asm, Gen, files_of, with_name, image_word, schedule_word, source_word, refused_line}
+use Rattle.i9_tool.specs.CommandLine.{Command, Run, Asm, Dis, Gen, files_of, with_name, image_word, schedule_word, source_word, refused_line}
 use Rattle.i9_model.proofs.Cuts.{past_by, state_by, next_from}
 use Rattle.i9_model.proofs.Unique.{same_records, same_end}
 use Rattle.i9_hex.proofs.OneAnswer.{image_apart, one_image, one_fault}
 use Rattle.i9_schedule.proofs.OneAnswer.{answers_apart, one_schedule, one_fault as one_schedule_fault}
-use Rattle.i9_tool.specs.Outcome.{Reads, unread, fetched, RunGives, runs, ScheduleGives, schedule_too_long, schedule_refused, scheduled, ImageGives, too_long, refused, accepted, SourceGives, source_too_long, source_refused, assembled, JobGives, job_source_refused, job_schedule_refused, job_runs, PlanGives, CommandGives, Gives, in_no_form, in_form, AllTold, names_of}
+use Rattle.i9_tool.specs.Outcome.{Reads, unread, fetched, RunGives, runs, ScheduleGives, schedule_too_long, schedule_refused, scheduled, ImageGives, too_long, refused, accepted, SourceGives, source_too_long, source_refused, assembled, JobGives, job_source_refused, job_schedule_refused, job_runs, DisGives, listed, PlanGives, CommandGives, Gives, in_no_form, in_form, AllTold, names_of}
 use Rattle.i9_model.specs.Image.{Part, pairs_of}
 use Rattle.i9_model.specs.declared.layout.TheConstants.{MAX_LENGTH}
 use Rattle.i9_tool.specs.Generator.{generated_source, generated_schedule, generated_line}
+use Rattle.i9_dis.proofs.Listed.{one_text, by_pairs}
 use Rattle.i9_tool.proofs.Outcomes.{reads_wider, image_wider, plan_wider}
 
 -- a status and a text at once
@@ -82,6 +83,9 @@ once_source file c d s t p q (assembled image short h) (source_refused g short' 
 once_source file c d s t p q (assembled image short h) (assembled other short' h') =
     record { status = refl; text = ap hex_text (assembly_once (text_lines file) image other h h') }
 
+once_dis : (pairs : List (ℕ × ℕ)) → Once (DisGives pairs)
+once_dis pairs c d s t p q (listed image _ says h) (listed other _ says' g) = record { status = refl; text = one_text image s t h (by_pairs other image t (says' ∙ sym says) g) }
+
 -- the line of what a run comes to
 abbrev job_line : ℕ → Option ℕ → List Part → List Timed → List Record → End → List ℕ
 job_line number sets image events rs e =
@@ -139,6 +143,7 @@ module _ (told : List ℕ → Option (List ℕ)) (rose : List ℕ → Type 0) wh
   once_command (Run image schedule sets limit) known =
       once_read (told image) (rose image) _ known.0 (once_image _ (λ pairs. once_plan schedule (RunGives sets limit pairs) known.1 (once_run sets limit pairs)))
   once_command (Asm source) known = once_read (told source) (rose source) SourceGives known.0 once_source
+  once_command (Dis image) known = once_read (told image) (rose image) (ImageGives DisGives) known.0 (once_image DisGives once_dis)
   once_command (Gen number sets) known = once_job number sets (generated_source number) (generated_schedule number)
 
   pub one_outcome : (asked : Option Command) → AllTold told (names_of asked) → Once (Gives told rose asked)

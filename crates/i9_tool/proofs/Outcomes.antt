@@ -20,13 +20,14 @@ use Rattle.i9_outside.specs.declared.traits.TheConstants.{FILE_LIMIT}
 use Rattle.i9_outside.specs.Traits.{IsFile}
 use Rattle.i9_tool.specs.declared.print.Printed.{Printed}
 use Rattle.i9_tool.specs.declared.run.Ran.{Ran}
-use Rattle.i9_tool.specs.CommandLine.{Command, Run, Asm, Gen, words_line, read_line, image_word, schedule_word, source_word, long_line, refused_line}
+use Rattle.i9_tool.specs.CommandLine.{Command, Run, Asm, Dis, Gen, words_line, read_line, image_word, schedule_word, source_word, long_line, refused_line}
 use Rattle.i9_tool.specs.Print.{Account, Prints}
 use Rattle.i9_tool.specs.Generator.{generated_source, generated_schedule, generated_line}
 use Rattle.i9_tool.specs.declared.run.Counted.{Counted}
 use Rattle.i9_tool.specs.Run.{Runs, Counts, printed_of}
-use Rattle.i9_tool.specs.Outcome.{Reads, unread, fetched, RunGives, runs, ScheduleGives, schedule_too_long, schedule_refused, scheduled, IsAccepted, ImageGives, too_long, refused, accepted, SourceGives, source_too_long, source_refused, assembled, JobGives, job_source_refused, job_schedule_refused, job_runs, PlanGives, CommandGives, Gives, in_no_form, in_form, Answers, code_for}
+use Rattle.i9_tool.specs.Outcome.{Reads, unread, fetched, RunGives, runs, ScheduleGives, schedule_too_long, schedule_refused, scheduled, IsAccepted, ImageGives, too_long, refused, accepted, SourceGives, source_too_long, source_refused, assembled, JobGives, job_source_refused, job_schedule_refused, job_runs, DisGives, PlanGives, CommandGives, Gives, in_no_form, in_form, Answers, code_for}
 use Rattle.i9_tool.proofs.Prints.{prints_same}
+use Rattle.i9_tool.proofs.Listable.{some_listed}
 use Rattle.i9_tool.proofs.Answering.{answers_printed, answers_nothing, answers_wider}
 
 -- the status of an end
@@ -77,21 +78,28 @@ some_plan run some file =
       | inr long ↦ (3, long_line schedule_word, schedule_too_long long)
     ]
 
-short_image : (after : List (ℕ × ℕ) → ℕ → List ℕ → Type 0) (file : List ℕ) → ((pairs : List (ℕ × ℕ)) → SomeFor (after pairs)) → length file ≤ FILE_LIMIT → SomeFor (ImageGives after file)
+short_image : (after : List (ℕ × ℕ) → ℕ → List ℕ → Type 0) (file : List ℕ) → ((pairs : List (ℕ × ℕ)) → IsAccepted file pairs → SomeFor (after pairs)) → length file ≤ FILE_LIMIT → SomeFor (ImageGives after file)
 short_image after file some short =
     elim (some_answer file) [
       | inl image ↦
-          let s = some image.0 in
-          (s.0, s.1, accepted image.0 s.0 s.1 (record { short = short; image = image.1 }) s.2)
+          let is_image : IsAccepted file image.0 = record { short = short; image = image.1 } in
+          let s = some image.0 is_image in
+          (s.0, s.1, accepted image.0 s.0 s.1 is_image s.2)
       | inr bad ↦ (2, refused_line image_word bad.0, refused bad.0 short bad.1)
     ]
 
-pub some_image : (after : List (ℕ × ℕ) → ℕ → List ℕ → Type 0) → ((pairs : List (ℕ × ℕ)) → SomeFor (after pairs)) → (file : List ℕ) → SomeFor (ImageGives after file)
-some_image after some file =
+pub some_image : (after : List (ℕ × ℕ) → ℕ → List ℕ → Type 0) (file : List ℕ) → ((pairs : List (ℕ × ℕ)) → IsAccepted file pairs → SomeFor (after pairs)) → SomeFor (ImageGives after file)
+some_image after file some =
     elim (sized (length file)) [
       | inl short ↦ short_image after file some short
       | inr long ↦ (2, long_line image_word, too_long long)
     ]
+
+pub some_dis : (file : List ℕ) (pairs : List (ℕ × ℕ)) → IsAccepted file pairs → SomeFor (DisGives pairs)
+some_dis file pairs accepted = let s = some_listed file pairs accepted in (0, s.0, s.1)
+
+pub some_list : (file : List ℕ) → SomeFor (ImageGives DisGives file)
+some_list file = some_image DisGives file (some_dis file)
 
 short_source : (file : List ℕ) → length file ≤ FILE_LIMIT → SomeFor (SourceGives file)
 short_source file short =
@@ -133,8 +141,9 @@ module _ (told : List ℕ → Option (List ℕ)) (rose : List ℕ → Type 0) wh
 
   pub some_command : (c : Command) → SomeFor (CommandGives told rose c)
   some_command (Run image schedule sets limit) =
-      some_read (told image) (rose image) _ (some_image _ (λ pairs. some_planned schedule (RunGives sets limit pairs) (some_run sets limit pairs)))
+      some_read (told image) (rose image) _ (λ file. some_image _ file (λ pairs accepted. some_planned schedule (RunGives sets limit pairs) (some_run sets limit pairs)))
   some_command (Asm source) = some_read (told source) (rose source) SourceGives some_source
+  some_command (Dis image) = some_read (told image) (rose image) (ImageGives DisGives) some_list
   some_command (Gen number sets) = some_job number sets (generated_source number) (generated_schedule number)
 
   pub some_outcome : (asked : Option Command) → SomeFor (Gives told rose asked)

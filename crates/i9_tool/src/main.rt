@@ -8,6 +8,8 @@ ghost use Rattle.std.specs.Vec.Iter.{into_iter_items};
 #[cfg(test)]
 mod asm_tests;
 #[cfg(test)]
+mod dis_tests;
+#[cfg(test)]
 mod event_tests;
 #[cfg(test)]
 mod fault_tests;
@@ -20,6 +22,7 @@ mod gen_tests;
 mod generator;
 mod job;
 pub mod laws;
+mod listing;
 mod print;
 #[cfg(test)]
 mod result_tests;

@@ -19,6 +19,7 @@ ghost use Rattle.i9_tool.specs.Outcome.{FetchesOnce, FetchesPlan, FetchesAfter, 
 ghost use Rattle.i9_tool.specs.Outcome.{AllSure};
 
 use crate::job::do_job;
+use crate::listing::fetch_listed;
 use crate::print::{print_piece, print_refusal, print_text};
 use crate::run::{Ran, run};
 use crate::status::{Status, code_of_end, status_for};
@@ -281,6 +282,7 @@ fn answer<F: Files, K: Sink>(alloc: Global, asked: &Asked<'_>, files: &mut F, ou
     match asked {
         Asked::Run(words) => fetch_image(alloc, words, files, out),
         Asked::Asm(source) => fetch_source(alloc, source, files, out),
+        Asked::Dis(image) => fetch_listed(alloc, image, files, out),
         Asked::Gen(words) => do_job(alloc, *words, out),
     }
 }
@@ -303,7 +305,7 @@ fn work<F: Files, K: Sink>(alloc: Global, words: &Vec<String>, files: &mut F, ou
 }
 
 /// Does what the words ask for, and answers a status: 0 where a run exited or reached its length, and
-/// where a source was assembled; 1 where the words are in no form; 2 where the image was refused, or
+/// where a source was assembled or an image listed; 1 where the words are in no form; 2 where the image was refused, or
 /// is too long; 3 where the schedule or the source was; 4 where the run ended early; 5 where a file was
 /// not read; 6 where a write failed; 7 where memory was refused. `Outcomes` says which status goes with which text.
 pub fn i960<F: Files, K: Sink>(

@@ -27,11 +27,13 @@ pub(crate) struct JobWords {
     pub(crate) sets: Option<u8>,
 }
 
-/// What the words ask for: to run an image, to assemble the source of this name, or to run the job of a number.
+/// What the words ask for: to run an image, to assemble the source of this name, to list the image of this name, or to
+/// run the job of a number.
 #[derive(Clone, Copy)]
 pub(crate) enum Asked<'a> {
     Run(RunWords<'a>),
     Asm(&'a str),
+    Dis(&'a str),
     Gen(JobWords),
 }
 
@@ -95,15 +97,20 @@ fn run_asked<'a>(
     })
 }
 
-/// The source that `asm` asks for, where the words are in its form.
+/// What `asm` or `dis` asks for with the name of a file behind it, where the words are in a form of these.
 #[tactic(auto, unfolding(crate::specs::CommandLine::command_of))]
-fn asm_asked<'a>(name: &str, source: &'a str) -> Option<Asked<'a>>
-    ensures { option_map asked_by result ≡ command_of (name.now ∷ source.now ∷ []) }
+fn file_asked<'a>(name: &str, file: &'a str) -> Option<Asked<'a>>
+    ensures asked { option_map asked_by result ≡ command_of (name.now ∷ file.now ∷ []) }
+    ensures fits { IfSome result Fits }
 {
-    if name != "asm" || source.is_empty() {
+    if file.is_empty() {
         return None;
     }
-    Some(Asked::Asm(source))
+    match name {
+        "asm" => Some(Asked::Asm(file)),
+        "dis" => Some(Asked::Dis(file)),
+        _ => None,
+    }
 }
 
 /// The number of 32 bits that a word says.
@@ -138,7 +145,7 @@ pub(crate) fn read_words(words: &[String]) -> Option<Asked<'_>>
     ensures fits { IfSome result Fits }
 {
     match words {
-        [name, source] => asm_asked(name, source),
+        [name, file] => file_asked(name, file),
         [name, number, sets] => {
             let job = gen_asked(name, number, sets)?;
             Some(Asked::Gen(job))
