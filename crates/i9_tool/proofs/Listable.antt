@@ -52,15 +52,15 @@ record IsSound (s : HexState) : Type 0 where
 
 sound_line : (s : HexState) (line : List ℕ) (t : HexState) → Says s line t → IsSound s → IsSound t
 sound_line s line t (says_nothing _) h = h
-sound_line s line t (says_bytes _ _ a bs open r few) h =
+sound_line s line t (says_bytes _ _ a bs unended r few) h =
     record { placed = placed_append s.pairs (pairs_at (address_in s.origin) a bs) h.placed (placed_at s.origin a bs h.fine (content_low line _ a bs r)); fine = h.fine }
-sound_line s line t (says_end _ _ a open r) h = record { placed = h.placed; fine = h.fine }
-sound_line s line t (says_base _ _ a high low open r) h =
+sound_line s line t (says_end _ _ a unended r) h = record { placed = h.placed; fine = h.fine }
+sound_line s line t (says_base _ _ a high low unended r) h =
     let bytes = content_low line _ a (high ∷ low ∷ []) r in
     record { placed = h.placed; fine = omega (arith, bytes.0, bytes.1.0) }
-sound_line s line t (says_start_segment _ _ a c open few r) h = h
-sound_line s line t (says_upper _ _ a high low open r) h = record { placed = h.placed; fine = tt }
-sound_line s line t (says_start_address _ _ a c open few r) h = h
+sound_line s line t (says_start_segment _ _ a c unended few r) h = h
+sound_line s line t (says_upper _ _ a high low unended r) h = record { placed = h.placed; fine = tt }
+sound_line s line t (says_start_address _ _ a c unended few r) h = h
 
 sound_lines : (s : HexState) (lines : List (List ℕ)) (t : HexState) → SaysAll Says s lines t → IsSound s → IsSound t
 sound_lines s [] t same h = subst IsSound same h

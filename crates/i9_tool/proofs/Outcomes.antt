@@ -96,7 +96,7 @@ some_image after file some =
     ]
 
 pub some_dis : (file : List ℕ) (pairs : List (ℕ × ℕ)) → IsAccepted file pairs → SomeFor (DisGives pairs)
-some_dis file pairs accepted = let s = some_listed file pairs accepted in (0, s.0, s.1)
+some_dis file pairs is_image = let s = some_listed file pairs is_image in (0, s.0, s.1)
 
 pub some_list : (file : List ℕ) → SomeFor (ImageGives DisGives file)
 some_list file = some_image DisGives file (some_dis file)
@@ -141,7 +141,7 @@ module _ (told : List ℕ → Option (List ℕ)) (rose : List ℕ → Type 0) wh
 
   pub some_command : (c : Command) → SomeFor (CommandGives told rose c)
   some_command (Run image schedule sets limit) =
-      some_read (told image) (rose image) _ (λ file. some_image _ file (λ pairs accepted. some_planned schedule (RunGives sets limit pairs) (some_run sets limit pairs)))
+      some_read (told image) (rose image) _ (λ file. some_image _ file (λ pairs is_image. some_planned schedule (RunGives sets limit pairs) (some_run sets limit pairs)))
   some_command (Asm source) = some_read (told source) (rose source) SourceGives some_source
   some_command (Dis image) = some_read (told image) (rose image) (ImageGives DisGives) some_list
   some_command (Gen number sets) = some_job number sets (generated_source number) (generated_schedule number)

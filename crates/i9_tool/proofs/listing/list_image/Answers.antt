@@ -11,8 +11,7 @@ returns-in-Ok-clause-answers g c =
 pub returns-in-Err-Bad-clause-answers : goal.returns-in-Err-Bad-clause-answers
 returns-in-Err-Bad-clause-answers g c =
     let bad = rw c.in-Err-Bad.field-0-is at c.in-Err-Bad.ensures.refused in
-    let printed = rw c.in-Err-Bad.field-0-is at c.print_refusal-printed.ensures in
-    answers_with _ _ _ 2 _ _ _ _ (omega arith) (refused _ c.requires.sized bad) printed c.status_for.ensures
+    answers_with _ _ _ 2 _ _ _ _ (omega arith) (refused _ c.requires.sized bad) c.print_refusal-printed.ensures c.status_for.ensures
 
 pub returns-in-Err-Memory-clause-answers : goal.returns-in-Err-Memory-clause-answers
 returns-in-Err-Memory-clause-answers g c = answers_unprinted _ _ _ (some_list c.args.file.now)
