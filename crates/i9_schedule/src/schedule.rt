@@ -44,6 +44,13 @@ impl Schedule {
         self.events.get(self.place)
     }
 
+    /// How many of its events lie behind.
+    pub fn place(&self) -> u64
+        ensures { result ≡ self.now.place }
+    {
+        self.place as u64
+    }
+
     /// Goes on to the event behind the next one.
     pub fn step(&mut self)
         requires { self.old.place < length self.old.events }

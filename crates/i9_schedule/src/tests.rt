@@ -125,6 +125,7 @@ fn prints_what_it_reads(rt: HostRuntime) -> Result<(), Fail> {
         text.extend_from_slice(line)?;
     }
     let mut schedule = read(rt.alloc(), &text)?;
+    assert_eq!(rt; schedule.place(), 0);
     for (_, count, line) in rows {
         let Some(timed) = schedule.next() else {
             assert!(rt; false);
@@ -138,6 +139,7 @@ fn prints_what_it_reads(rt: HostRuntime) -> Result<(), Fail> {
         schedule.step();
     }
     assert!(rt; schedule.next().is_none());
+    assert_eq!(rt; schedule.place(), 8);
     Ok(())
 }
 

@@ -1,8 +1,10 @@
+pub mod Drawing
 pub mod Prints
 pub mod Lined
 pub mod LineCounts
 pub mod Running
 pub mod Fetching
 pub mod Answering
+pub mod Listable
 pub mod Outcomes
 pub mod OneOutcome

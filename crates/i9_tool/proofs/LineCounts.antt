@@ -1,5 +1,5 @@
 -- Each printed line has one line feed.
-use Rattle.std.proofs.Common.{◌≡◌, ℕ, true, false, List, [], ◌∷◌, ◌++◌, Option, Some, None, eqb, codes, refl, ◌∙◌, arith}
+use Rattle.std.proofs.Common.{◌≡◌, ℕ, ◌≤◌, length, true, false, List, [], ◌∷◌, ◌++◌, Option, Some, None, eqb, codes, refl, ◌∙◌, arith}
 use Rattle.std.specs.List.{flat_map}
 use Rattle.std.specs.Fmt.{decimal}
 use Rattle.std.proofs.lemmas.Bool.{and_parts}
@@ -15,6 +15,7 @@ use Rattle.i9_model.specs.declared.event.Event.{Event}
 use Rattle.i9_model.specs.Events.{journal_text}
 use Rattle.i9_model.proofs.ReadBack.{journal_plain}
 use Rattle.i9_tool.specs.CommandLine.{image_word, schedule_word, source_word, refused_line}
+use Rattle.i9_tool.specs.Generator.{ending, generated_line}
 use Rattle.i9_tool.specs.Print.{line_count, IsLine}
 use Rattle.i9_tool.proofs.Prints.{line_count-append}
 
@@ -84,6 +85,35 @@ line-end (Hazard a) = line-words (codes "#end hazard") (a ∷ []) refl
 line-end (Dead code a) = line-words (codes "#end dead " ++ decimal code) (a ∷ []) (plain-append (codes "#end dead ") (decimal code) refl (plain-decimal code))
 line-end (Unbuilt a) = line-words (codes "#end unbuilt") (a ∷ []) refl
 
+pub end_labelled : (f : End) → length (codes "#end ") ≤ length (end_text f)
+unfolding end_text words_text
+end_labelled (Exit w) = omega arith
+end_labelled Limit = omega arith
+end_labelled (Hazard a) = omega arith
+end_labelled (Dead code a) = omega arith
+end_labelled (Unbuilt a) = omega arith
+
+-- the end of the run that was made from a number
+line-ending : (f : End) → IsLine (ending f)
+unfolding ending end_text words_text
+line-ending (Exit w) = line-words (codes "exit") (w ∷ []) refl
+line-ending Limit = refl
+line-ending (Hazard a) = line-words (codes "hazard") (a ∷ []) refl
+line-ending (Dead code a) = line-words (codes "dead " ++ decimal code) (a ∷ []) (plain-append (codes "dead ") (decimal code) refl (plain-decimal code))
+line-ending (Unbuilt a) = line-words (codes "unbuilt") (a ∷ []) refl
+
+-- a number, and a space behind it
+plain_number : (xs : List ℕ) (n : ℕ) → is_plain xs ≡ true → is_plain (xs ++ decimal n ++ codes " ") ≡ true
+plain_number xs n plain = plain-append (xs ++ decimal n) (codes " ") (plain-append xs (decimal n) plain (plain-decimal n)) refl
+
+pub line-generated : (number count events : ℕ) (f : End) → IsLine (generated_line number count events f)
+unfolding generated_line
+line-generated number count events f =
+    let begun = plain_number (codes "#gen ") number refl in
+    let counted = plain_number (codes "#gen " ++ decimal number ++ codes " ") count begun in
+    let taken = plain_number (codes "#gen " ++ decimal number ++ codes " " ++ decimal count ++ codes " ") events counted in
+    after_plain (codes "#gen " ++ decimal number ++ codes " " ++ decimal count ++ codes " " ++ decimal events ++ codes " ") (ending f) taken ∙ line-ending f
+
 pub line-globals : (ws : List ℕ) → IsLine (words_text (codes "#g") ws)
 line-globals ws = line-words (codes "#g") ws refl
 
@@ -108,4 +138,4 @@ line-schedule fault = line-refused schedule_word fault refl
 pub line-source : (fault : ℕ × ℕ) → IsLine (refused_line source_word fault)
 line-source fault = line-refused source_word fault refl
 
-pub ruleset line_rules = (line-out, line-point, line-event, line-bytes, line-end, line-globals, line-locals, line-image, line-schedule, line-source)
+pub ruleset line_rules = (line-out, line-point, line-event, line-bytes, line-end, line-generated, line-globals, line-locals, line-image, line-schedule, line-source)

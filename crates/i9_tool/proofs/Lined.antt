@@ -31,7 +31,7 @@ lined_append [] (c ∷ cs) h = h
 lined_append (b ∷ []) text h = lined_append [] text h
 lined_append (b ∷ c ∷ cs) text h = lined_append (c ∷ cs) text h
 
-lined_lines : (ls : List (List ℕ)) → is_lined (flat_map with_line_feed ls) ≡ true
+pub lined_lines : (ls : List (List ℕ)) → is_lined (flat_map with_line_feed ls) ≡ true
 unfolding is_lined
 lined_lines [] = refl
 lined_lines (l ∷ ls) =

@@ -1,21 +1,25 @@
 -- Each file and length have one status and one text.
-use Rattle.std.proofs.Common.{◌≡◌, ◌≢◌, ℕ, List, [], ◌++◌, Option, Some, None, refl, sym, ap, ◌∙◌, subst, arith}
+use Rattle.std.proofs.Common.{◌≡◌, ◌≢◌, ℕ, List, [], ◌++◌, length, Option, Some, None, refl, sym, ap, ◌∙◌, subst, arith}
 use Rattle.std.specs.Prelude.{IsSome}
 use Rattle.i9_model.specs.State.{State}
 use Rattle.i9_model.specs.Given.{Given, given}
 use Rattle.i9_model.specs.declared.event.Timed.{Timed}
 use Rattle.i9_model.specs.declared.run.End.{End}
-use Rattle.i9_model.specs.Run.{Record, next, IsRun}
+use Rattle.i9_model.specs.Run.{Record, next, IsRun, state_after, reached_after}
 use Rattle.i9_model.specs.PrintedText.{text_of, lines_of, end_lines, run_text, end_code}
 use Rattle.i9_hex.specs.Writing.{hex_text}
 use Rattle.i9_asm.proofs.Once.{assembly_once, refusal_once, never_both_answers}
 use Rattle.i9_text.specs.Text.{lines_of as text_lines}
-use Rattle.i9_tool.specs.CommandLine.{Command, Run, Asm, files_of, with_name, image_word, schedule_word, source_word, refused_line}
+use Rattle.i9_tool.specs.CommandLine.{Command, Run, Asm, Dis, Gen, files_of, with_name, image_word, schedule_word, source_word, refused_line}
 use Rattle.i9_model.proofs.Cuts.{past_by, state_by, next_from}
 use Rattle.i9_model.proofs.Unique.{same_records, same_end}
 use Rattle.i9_hex.proofs.OneAnswer.{image_apart, one_image, one_fault}
 use Rattle.i9_schedule.proofs.OneAnswer.{answers_apart, one_schedule, one_fault as one_schedule_fault}
-use Rattle.i9_tool.specs.Outcome.{Reads, unread, fetched, RunGives, runs, ScheduleGives, schedule_too_long, schedule_refused, scheduled, ImageGives, too_long, refused, accepted, SourceGives, source_too_long, source_refused, assembled, PlanGives, CommandGives, Gives, in_no_form, in_form, AllTold, names_of}
+use Rattle.i9_tool.specs.Outcome.{Reads, unread, fetched, RunGives, runs, ScheduleGives, schedule_too_long, schedule_refused, scheduled, ImageGives, too_long, refused, accepted, SourceGives, source_too_long, source_refused, assembled, JobGives, job_source_refused, job_schedule_refused, job_runs, DisGives, listed, PlanGives, CommandGives, Gives, in_no_form, in_form, AllTold, names_of}
+use Rattle.i9_model.specs.Image.{Part, pairs_of}
+use Rattle.i9_model.specs.declared.layout.TheConstants.{MAX_LENGTH}
+use Rattle.i9_tool.specs.Generator.{generated_source, generated_schedule, generated_line}
+use Rattle.i9_dis.proofs.Listed.{one_text, by_pairs}
 use Rattle.i9_tool.proofs.Outcomes.{reads_wider, image_wider, plan_wider}
 
 -- a status and a text at once
@@ -79,6 +83,50 @@ once_source file c d s t p q (assembled image short h) (source_refused g short' 
 once_source file c d s t p q (assembled image short h) (assembled other short' h') =
     record { status = refl; text = ap hex_text (assembly_once (text_lines file) image other h h') }
 
+once_dis : (pairs : List (ℕ × ℕ)) → Once (DisGives pairs)
+once_dis pairs c d s t p q (listed image _ says h) (listed other _ says' g) = record { status = refl; text = one_text image s t h (by_pairs other image t (says' ∙ sym says) g) }
+
+-- the line of what a run comes to
+abbrev job_line : ℕ → Option ℕ → List Part → List Timed → List Record → End → List ℕ
+job_line number sets image events rs e =
+    generated_line number (state_after (given (pairs_of image) events MAX_LENGTH sets) rs).count (length (reached_after rs)) e
+
+-- one run comes to one line
+same_line : (number : ℕ) (sets : Option ℕ) (image : List Part) (events : List Timed) (rs qs : List Record) (e f : End)
+    → IsRun (given (pairs_of image) events MAX_LENGTH sets) rs e → IsRun (given (pairs_of image) events MAX_LENGTH sets) qs f
+    → Same (end_code e) (end_code f) (job_line number sets image events rs e) (job_line number sets image events qs f)
+same_line number sets image events rs qs e f a b =
+    let g = given (pairs_of image) events MAX_LENGTH sets in
+    let end = same_end g rs qs e f a b in
+    let records = same_records g rs qs e f a b in
+    record {
+      status = ap end_code end;
+      text = ap (λ (x : List Record). job_line number sets image events x e) records ∙ ap (job_line number sets image events qs) end;
+    }
+
+-- so do those of one image and one schedule
+same_job : (number : ℕ) (sets : Option ℕ) (image other : List Part) (events timed : List Timed) (rs qs : List Record) (e f : End) → image ≡ other → events ≡ timed
+    → IsRun (given (pairs_of image) events MAX_LENGTH sets) rs e → IsRun (given (pairs_of other) timed MAX_LENGTH sets) qs f
+    → Same (end_code e) (end_code f) (job_line number sets image events rs e) (job_line number sets other timed qs f)
+same_job number sets image other events timed rs qs e f one same a b =
+    subst (λ (us : List Timed). IsRun (given (pairs_of other) us MAX_LENGTH sets) qs f → Same (end_code e) (end_code f) (job_line number sets image events rs e) (job_line number sets other us qs f)) same
+    (subst (λ (x : List Part). IsRun (given (pairs_of x) events MAX_LENGTH sets) qs f → Same (end_code e) (end_code f) (job_line number sets image events rs e) (job_line number sets x events qs f)) one
+    (same_line number sets image events rs qs e f a)) b
+
+once_job : (number : ℕ) (sets : Option ℕ) (source schedule : List ℕ) → Once (JobGives number sets source schedule)
+once_job number sets source schedule c d s t p q (job_source_refused f bad) (job_source_refused g bad') =
+    record { status = refl; text = ap (refused_line source_word) (refusal_once (text_lines source) f g bad bad') }
+once_job number sets source schedule c d s t p q (job_source_refused f bad) (job_schedule_refused i g made bad') = absurd (never_both_answers (text_lines source) i f made bad)
+once_job number sets source schedule c d s t p q (job_source_refused f bad) (job_runs i us qs e made says run) = absurd (never_both_answers (text_lines source) i f made bad)
+once_job number sets source schedule c d s t p q (job_schedule_refused i f made bad) (job_source_refused g bad') = absurd (never_both_answers (text_lines source) i g made bad')
+once_job number sets source schedule c d s t p q (job_schedule_refused i f made bad) (job_schedule_refused j g made' bad') =
+    record { status = refl; text = ap (refused_line schedule_word) (one_schedule_fault schedule f g bad bad') }
+once_job number sets source schedule c d s t p q (job_schedule_refused i f made bad) (job_runs j us qs e made' says run) = absurd (answers_apart schedule us f says bad)
+once_job number sets source schedule c d s t p q (job_runs i ts rs e made says run) (job_source_refused g bad) = absurd (never_both_answers (text_lines source) i g made bad)
+once_job number sets source schedule c d s t p q (job_runs i ts rs e made says run) (job_schedule_refused j g made' bad) = absurd (answers_apart schedule ts g says bad)
+once_job number sets source schedule c d s t p q (job_runs i ts rs e made says run) (job_runs j us qs f made' says' other) =
+    same_job number sets i j ts us rs qs e f (assembly_once (text_lines source) i j made made') (one_schedule schedule ts us says says') run other
+
 -- a file that is told, where it was read
 once_read : (told : Option (List ℕ)) (rose : Type 0) (gives : List ℕ → ℕ → List ℕ → Type 0) → IsSome told → ((file : List ℕ) → Once (gives file)) → Once (Reads told rose gives)
 once_read None rose gives some once c d s t p q g h = absurd cc
@@ -95,6 +143,8 @@ module _ (told : List ℕ → Option (List ℕ)) (rose : List ℕ → Type 0) wh
   once_command (Run image schedule sets limit) known =
       once_read (told image) (rose image) _ known.0 (once_image _ (λ pairs. once_plan schedule (RunGives sets limit pairs) known.1 (once_run sets limit pairs)))
   once_command (Asm source) known = once_read (told source) (rose source) SourceGives known.0 once_source
+  once_command (Dis image) known = once_read (told image) (rose image) (ImageGives DisGives) known.0 (once_image DisGives once_dis)
+  once_command (Gen number sets) known = once_job number sets (generated_source number) (generated_schedule number)
 
   pub one_outcome : (asked : Option Command) → AllTold told (names_of asked) → Once (Gives told rose asked)
   one_outcome None known c d s t p q in_no_form in_no_form = record { status = refl; text = refl }
@@ -126,3 +176,17 @@ same_in_sets told rose image schedule sets others limit code text (in_form c n t
     let plan = λ (pairs : List (ℕ × ℕ)). plan_wider told told rose rose (λ n f is_file. is_file) (λ n r. r) schedule (RunGives sets limit pairs) (RunGives others limit pairs) (other_sets sets others limit pairs) in
     in_form (Run image schedule others limit) code text
     (reads_wider (told image) (told image) (rose image) (rose image) _ _ (λ f is_file. is_file) (λ r. r) (image_wider _ _ plan) code text g)
+
+other_job : (number : ℕ) (sets others : Option ℕ) (source schedule : List ℕ) (code : ℕ) (text : List ℕ) → JobGives number sets source schedule code text → JobGives number others source schedule code text
+other_job number sets others source schedule code text (job_source_refused f bad) = job_source_refused f bad
+other_job number sets others source schedule code text (job_schedule_refused i f made bad) = job_schedule_refused i f made bad
+other_job number sets others source schedule code text (job_runs i ts rs e made says run) =
+    let ps = pairs_of i in
+    let line = λ (s : State). generated_line number s.count (length (reached_after rs)) e in
+    let same = state_by (given ps ts MAX_LENGTH sets) (given ps ts MAX_LENGTH others) rs refl in
+    subst (JobGives number others source schedule (end_code e)) (ap line same) (job_runs i ts rs e made says (other_run ps ts MAX_LENGTH sets others rs e run))
+
+pub job_same_in_sets : (told : List ℕ → Option (List ℕ)) (rose : List ℕ → Type 0) (number : ℕ) (sets others : Option ℕ) (code : ℕ) (text : List ℕ)
+    → Gives told rose (Some (Gen number sets)) code text → Gives told rose (Some (Gen number others)) code text
+job_same_in_sets told rose number sets others code text (in_form c n t g) =
+    in_form (Gen number others) code text (other_job number sets others (generated_source number) (generated_schedule number) code text g)

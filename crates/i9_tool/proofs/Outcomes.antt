@@ -1,9 +1,13 @@
 -- What the command answers for its files, and for the words.
-use Rattle.std.proofs.Common.{◌≡◌, ℕ, ◌<◌, ◌≤◌, ◌⊎◌, inl, inr, List, [], ◌++◌, length, Option, Some, None, refl, sym, subst, arith}
+use Rattle.std.proofs.Common.{◌≡◌, ℕ, ◌<◌, ◌≤◌, ◌⊎◌, inl, inr, List, [], ◌++◌, length, Option, Some, None, refl, sym, ap, ◌∙◌, subst, arith}
 use Rattle.i9_text.specs.Text.{lines_of}
 use Rattle.i9_model.specs.ScheduleText.{IsSchedule}
 use Rattle.i9_model.specs.declared.event.Timed.{Timed}
 use Rattle.i9_model.specs.Given.{given}
+use Rattle.i9_model.specs.Image.{Part, pairs_of}
+use Rattle.i9_model.specs.declared.layout.TheConstants.{MAX_LENGTH}
+use Rattle.i9_model.specs.Run.{state_after, reached_after}
+use Rattle.i9_asm.specs.Laws.{IsAssembly}
 use Rattle.i9_model.specs.declared.run.End.{End}
 use Rattle.i9_model.specs.declared.run.End.TheVariants.{Exit, Limit, Hazard, Dead, Unbuilt}
 use Rattle.i9_model.specs.PrintedText.{run_text, end_code}
@@ -16,11 +20,14 @@ use Rattle.i9_outside.specs.declared.traits.TheConstants.{FILE_LIMIT}
 use Rattle.i9_outside.specs.Traits.{IsFile}
 use Rattle.i9_tool.specs.declared.print.Printed.{Printed}
 use Rattle.i9_tool.specs.declared.run.Ran.{Ran}
-use Rattle.i9_tool.specs.CommandLine.{Command, Run, Asm, words_line, read_line, image_word, schedule_word, source_word, long_line, refused_line}
+use Rattle.i9_tool.specs.CommandLine.{Command, Run, Asm, Dis, Gen, words_line, read_line, image_word, schedule_word, source_word, long_line, refused_line}
 use Rattle.i9_tool.specs.Print.{Account, Prints}
-use Rattle.i9_tool.specs.Run.{Runs, printed_of}
-use Rattle.i9_tool.specs.Outcome.{Reads, unread, fetched, RunGives, runs, ScheduleGives, schedule_too_long, schedule_refused, scheduled, IsAccepted, ImageGives, too_long, refused, accepted, SourceGives, source_too_long, source_refused, assembled, PlanGives, CommandGives, Gives, in_no_form, in_form, Answers, code_for}
+use Rattle.i9_tool.specs.Generator.{generated_source, generated_schedule, generated_line}
+use Rattle.i9_tool.specs.declared.run.Counted.{Counted}
+use Rattle.i9_tool.specs.Run.{Runs, Counts, printed_of}
+use Rattle.i9_tool.specs.Outcome.{Reads, unread, fetched, RunGives, runs, ScheduleGives, schedule_too_long, schedule_refused, scheduled, IsAccepted, ImageGives, too_long, refused, accepted, SourceGives, source_too_long, source_refused, assembled, JobGives, job_source_refused, job_schedule_refused, job_runs, DisGives, PlanGives, CommandGives, Gives, in_no_form, in_form, Answers, code_for}
 use Rattle.i9_tool.proofs.Prints.{prints_same}
+use Rattle.i9_tool.proofs.Listable.{some_listed}
 use Rattle.i9_tool.proofs.Answering.{answers_printed, answers_nothing, answers_wider}
 
 -- the status of an end
@@ -71,21 +78,28 @@ some_plan run some file =
       | inr long ↦ (3, long_line schedule_word, schedule_too_long long)
     ]
 
-short_image : (after : List (ℕ × ℕ) → ℕ → List ℕ → Type 0) (file : List ℕ) → ((pairs : List (ℕ × ℕ)) → SomeFor (after pairs)) → length file ≤ FILE_LIMIT → SomeFor (ImageGives after file)
+short_image : (after : List (ℕ × ℕ) → ℕ → List ℕ → Type 0) (file : List ℕ) → ((pairs : List (ℕ × ℕ)) → IsAccepted file pairs → SomeFor (after pairs)) → length file ≤ FILE_LIMIT → SomeFor (ImageGives after file)
 short_image after file some short =
     elim (some_answer file) [
       | inl image ↦
-          let s = some image.0 in
-          (s.0, s.1, accepted image.0 s.0 s.1 (record { short = short; image = image.1 }) s.2)
+          let is_image : IsAccepted file image.0 = record { short = short; image = image.1 } in
+          let s = some image.0 is_image in
+          (s.0, s.1, accepted image.0 s.0 s.1 is_image s.2)
       | inr bad ↦ (2, refused_line image_word bad.0, refused bad.0 short bad.1)
     ]
 
-pub some_image : (after : List (ℕ × ℕ) → ℕ → List ℕ → Type 0) → ((pairs : List (ℕ × ℕ)) → SomeFor (after pairs)) → (file : List ℕ) → SomeFor (ImageGives after file)
-some_image after some file =
+pub some_image : (after : List (ℕ × ℕ) → ℕ → List ℕ → Type 0) (file : List ℕ) → ((pairs : List (ℕ × ℕ)) → IsAccepted file pairs → SomeFor (after pairs)) → SomeFor (ImageGives after file)
+some_image after file some =
     elim (sized (length file)) [
       | inl short ↦ short_image after file some short
       | inr long ↦ (2, long_line image_word, too_long long)
     ]
+
+pub some_dis : (file : List ℕ) (pairs : List (ℕ × ℕ)) → IsAccepted file pairs → SomeFor (DisGives pairs)
+some_dis file pairs is_image = let s = some_listed file pairs is_image in (0, s.0, s.1)
+
+pub some_list : (file : List ℕ) → SomeFor (ImageGives DisGives file)
+some_list file = some_image DisGives file (some_dis file)
 
 short_source : (file : List ℕ) → length file ≤ FILE_LIMIT → SomeFor (SourceGives file)
 short_source file short =
@@ -101,6 +115,25 @@ some_source file =
       | inr long ↦ (3, long_line source_word, source_too_long long)
     ]
 
+-- the schedule of a job whose source is assembled
+pub some_job_run : (number : ℕ) (sets : Option ℕ) (source schedule : List ℕ) (image : List Part) → IsAssembly (lines_of source) image → SomeFor (JobGives number sets source schedule)
+some_job_run number sets source schedule image made =
+    elim (some_schedule schedule) [
+      | inl says ↦
+          let g = given (pairs_of image) says.0 MAX_LENGTH sets in
+          let later = run_goes_on g [] tt in
+          let records = later.0 ++ [] in
+          (end_code later.1, generated_line number (state_after g records).count (length (reached_after records)) later.1, job_runs image says.0 records later.1 made says.1 later.2)
+      | inr bad ↦ (3, refused_line schedule_word bad.0, job_schedule_refused image bad.0 made bad.1)
+    ]
+
+pub some_job : (number : ℕ) (sets : Option ℕ) (source schedule : List ℕ) → SomeFor (JobGives number sets source schedule)
+some_job number sets source schedule =
+    elim (some_assembly (lines_of source)) [
+      | inl made ↦ some_job_run number sets source schedule made.0 made.1
+      | inr bad ↦ (3, refused_line source_word bad.0, job_source_refused bad.0 bad.1)
+    ]
+
 module _ (told : List ℕ → Option (List ℕ)) (rose : List ℕ → Type 0) where
   pub some_planned : (schedule : Option (List ℕ)) (run : List Timed → ℕ → List ℕ → Type 0) → ((events : List Timed) → SomeFor (run events)) → SomeFor (PlanGives told rose schedule run)
   some_planned None run some = some []
@@ -108,8 +141,10 @@ module _ (told : List ℕ → Option (List ℕ)) (rose : List ℕ → Type 0) wh
 
   pub some_command : (c : Command) → SomeFor (CommandGives told rose c)
   some_command (Run image schedule sets limit) =
-      some_read (told image) (rose image) _ (some_image _ (λ pairs. some_planned schedule (RunGives sets limit pairs) (some_run sets limit pairs)))
+      some_read (told image) (rose image) _ (λ file. some_image _ file (λ pairs is_image. some_planned schedule (RunGives sets limit pairs) (some_run sets limit pairs)))
   some_command (Asm source) = some_read (told source) (rose source) SourceGives some_source
+  some_command (Dis image) = some_read (told image) (rose image) (ImageGives DisGives) some_list
+  some_command (Gen number sets) = some_job number sets (generated_source number) (generated_schedule number)
 
   pub some_outcome : (asked : Option Command) → SomeFor (Gives told rose asked)
   some_outcome None = (1, words_line, in_no_form)
@@ -165,6 +200,15 @@ module _ {K : Type 0} (k : Account K) where
       → (r : Runs ran (given pairs events limit sets) k a b) → code ≡ code_for (printed_of ran) (end_code r.end) → Answers (RunGives sets limit pairs events) code k a b
   image_runs sets limit pairs events ran code a b r e =
       answers_with (RunGives sets limit pairs events) (printed_of ran) (end_code r.end) code _ a b (known_finish r.end) (runs r.records r.end r.run) r.prints e
+
+  -- the image of a job ran
+  pub job_counted : (number : ℕ) (sets : Option ℕ) (source schedule : List ℕ) (image : List Part) (events : List Timed) (counted : Counted) (p : Printed) (code : ℕ) (a b : K)
+      → IsAssembly (lines_of source) image → IsSchedule (lines_of schedule) events → Counts counted (given (pairs_of image) events MAX_LENGTH sets)
+      → Prints p k a b (generated_line number counted.count counted.events counted.end) → code ≡ code_for p (end_code counted.end)
+      → Answers (JobGives number sets source schedule) code k a b
+  job_counted number sets source schedule image events counted p code a b made says c printed e =
+      let same = ap (λ (n : ℕ). generated_line number n counted.events counted.end) c.count ∙ ap (λ (n : ℕ). generated_line number (state_after (given (pairs_of image) events MAX_LENGTH sets) c.records).count n counted.end) c.events in
+      answers_line (JobGives number sets source schedule) p (end_code counted.end) code _ _ a b (known_finish counted.end) (job_runs image events c.records counted.end made says c.run) same printed e
 
   -- a schedule was fetched whose events a run has
   pub schedule_runs : (run : List Timed → ℕ → List ℕ → Type 0) (file : List ℕ) (events : List Timed) (code : ℕ) (a b : K) → length file ≤ FILE_LIMIT → IsSchedule (lines_of file) events

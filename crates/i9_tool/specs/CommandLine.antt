@@ -7,11 +7,13 @@ use Rattle.i9_text.specs.Text.{number_of}
 use Rattle.i9_model.specs.declared.layout.TheConstants.{MAX_LENGTH, MOST_SETS}
 
 -- What the words ask for: to run the image of this name, with the events of the schedule of this name or with none, with
--- so many sets or, where none are asked for, with those of the PRCB, for at most so many instructions; or to assemble the
--- source of this name.
+-- so many sets or, where none are asked for, with those of the PRCB, for at most so many instructions; to assemble the
+-- source of this name; to list the image of this name; or to run, in so many sets, the job that is made from a number.
 pub data Command : Type 0 where
   Run : (image : List ℕ) → (schedule : Option (List ℕ)) → (sets : Option ℕ) → (limit : ℕ) → Command
   Asm : (source : List ℕ) → Command
+  Dis : (image : List ℕ) → Command
+  Gen : (number : ℕ) → (sets : Option ℕ) → Command
 
 -- a name that there may be
 abbrev pub with_name : Option (List ℕ) → List (List ℕ)
@@ -22,6 +24,8 @@ with_name (Some name) = name ∷ []
 abbrev pub files_of : Command → List (List ℕ)
 files_of (Run image schedule sets limit) = image ∷ with_name schedule
 files_of (Asm source) = source ∷ []
+files_of (Dis image) = image ∷ []
+files_of (Gen number sets) = []
 
 abbrev pub is_dash : List ℕ → Bool
 is_dash word = bytes_eq word (codes "-")
@@ -49,9 +53,28 @@ run_for image None sets limit = None
 run_for image (Some schedule) None limit = None
 run_for image (Some schedule) (Some sets) None = None
 
--- `asm SOURCE`, or `run IMAGE SCHEDULE SETS LENGTH`, with names of files that aren't empty
+-- the greatest number that a job is made from
+abbrev pub most_number : ℕ
+most_number = 4294967295
+
+abbrev pub gen_for : Option ℕ → Option (Option ℕ) → Option Command
+gen_for (Some number) (Some sets) = Some (Gen number sets)
+gen_for None sets = None
+gen_for (Some number) None = None
+
+-- a command on the one file of this name
+abbrev pub file_for : List ℕ → List ℕ → Option Command
+file_for name file =
+    if length file == 0 then None
+    else if bytes_eq name (codes "asm") then Some (Asm file)
+    else if bytes_eq name (codes "dis") then Some (Dis file)
+    else None
+
+-- `asm SOURCE`, `dis IMAGE`, `gen NUMBER SETS`, or `run IMAGE SCHEDULE SETS LENGTH`, with names of files that aren't empty
 unfoldable pub command_of : List (List ℕ) → Option Command
-command_of (name ∷ source ∷ []) = if bytes_eq name (codes "asm") && not (length source == 0) then Some (Asm source) else None
+command_of (name ∷ file ∷ []) = file_for name file
+command_of (name ∷ number ∷ sets ∷ []) =
+    if bytes_eq name (codes "gen") then gen_for (number_in 0 most_number number) (sets_for sets) else None
 command_of (name ∷ image ∷ schedule ∷ sets ∷ limit ∷ []) =
     if bytes_eq name (codes "run") && not (length image == 0)
     then run_for image (schedule_for schedule) (sets_for sets) (number_in 0 MAX_LENGTH limit)

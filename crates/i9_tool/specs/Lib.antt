@@ -1,5 +1,6 @@
 pub mod Print
 pub mod CommandLine
+pub mod Generator
 pub mod Words
 pub mod Run
 pub mod Outcome

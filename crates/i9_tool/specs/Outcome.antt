@@ -9,12 +9,15 @@ use Rattle.i9_model.specs.ScheduleText.{IsSchedule, IsRefused as IsRefusedSchedu
 use Rattle.i9_model.specs.declared.event.Timed.{Timed}
 use Rattle.i9_model.specs.Given.{given}
 use Rattle.i9_model.specs.declared.run.End.{End}
-use Rattle.i9_model.specs.Run.{Record, IsRun}
+use Rattle.i9_model.specs.Run.{Record, IsRun, state_after, reached_after}
 use Rattle.i9_model.specs.PrintedText.{run_text, end_code}
-use Rattle.i9_model.specs.Image.{Part}
+use Rattle.i9_model.specs.Image.{Part, pairs_of}
+use Rattle.i9_model.specs.declared.layout.TheConstants.{MAX_LENGTH}
 use Rattle.i9_hex.specs.Writing.{hex_text}
 use Rattle.i9_asm.specs.Laws.{IsAssembly, IsRefusedSource}
-use Rattle.i9_tool.specs.CommandLine.{Command, Run, Asm, files_of, command_of, words_line, read_line, image_word, schedule_word, source_word, long_line, refused_line}
+use Rattle.i9_asm.specs.Listing.{IsListing}
+use Rattle.i9_tool.specs.CommandLine.{Command, Run, Asm, Dis, Gen, files_of, command_of, words_line, read_line, image_word, schedule_word, source_word, long_line, refused_line}
+use Rattle.i9_tool.specs.Generator.{generated_source, generated_schedule, generated_line}
 use Rattle.i9_outside.specs.declared.traits.TheConstants.{FILE_LIMIT}
 use Rattle.i9_tool.specs.declared.print.Printed.{Printed}
 use Rattle.i9_tool.specs.declared.print.Printed.TheVariants as printed
@@ -63,6 +66,26 @@ pub data SourceGives (file : List ℕ) : ℕ → List ℕ → Type 0 where
       → SourceGives file 3 (refused_line source_word fault)
   assembled : (image : List Part) → length file ≤ FILE_LIMIT → IsAssembly (lines_of file) image → SourceGives file 0 (hex_text image)
 
+-- For an image that was accepted: its listing is printed.
+pub data DisGives (pairs : List (ℕ × ℕ)) : ℕ → List ℕ → Type 0 where
+  listed : (image : List Part) (text : List ℕ) → pairs_of image ≡ pairs → IsListing image text → DisGives pairs 0 text
+
+-- For the source and the schedule of the job of a number: one of them is refused for its first line at fault, or the run
+-- of both is made to its end, and a line says what it comes to.
+pub data JobGives (number : ℕ) (sets : Option ℕ) (source schedule : List ℕ) : ℕ → List ℕ → Type 0 where
+  job_source_refused : (fault : ℕ × ℕ) → IsRefusedSource (lines_of source) fault
+      → JobGives number sets source schedule 3 (refused_line source_word fault)
+  job_schedule_refused : (image : List Part) (fault : ℕ × ℕ) → IsAssembly (lines_of source) image
+      → IsRefusedSchedule (lines_of schedule) fault → JobGives number sets source schedule 3 (refused_line schedule_word fault)
+  job_runs : (image : List Part) (events : List Timed) (records : List Record) (end : End) → IsAssembly (lines_of source) image
+      → IsSchedule (lines_of schedule) events → IsRun (given (pairs_of image) events MAX_LENGTH sets) records end
+      → JobGives number sets source schedule (end_code end)
+      (generated_line number (state_after (given (pairs_of image) events MAX_LENGTH sets) records).count (length (reached_after records)) end)
+
+-- for a number and so many sets
+abbrev pub GenGives : ℕ → Option ℕ → ℕ → List ℕ → Type 0
+GenGives number sets = JobGives number sets (generated_source number) (generated_schedule number)
+
 -- `told` says the files that are told, and `rose` of which names the count of faults rose.
 module _ (told : List ℕ → Option (List ℕ)) (rose : List ℕ → Type 0) where
   -- a schedule is read where one is named, and else a run has no events
@@ -75,6 +98,8 @@ module _ (told : List ℕ → Option (List ℕ)) (rose : List ℕ → Type 0) wh
   CommandGives (Run image schedule sets limit) =
       Reads (told image) (rose image) (ImageGives (λ pairs. PlanGives schedule (RunGives sets limit pairs)))
   CommandGives (Asm source) = Reads (told source) (rose source) SourceGives
+  CommandGives (Dis image) = Reads (told image) (rose image) (ImageGives DisGives)
+  CommandGives (Gen number sets) = GenGives number sets
 
 -- The status and the text for what the words ask for.
 pub data Gives (told : List ℕ → Option (List ℕ)) (rose : List ℕ → Type 0) : Option Command → ℕ → List ℕ → Type 0 where
@@ -164,12 +189,15 @@ pub data FetchesAfter {F : Type 0} (faults : F → List ℕ → ℕ) (fetches : 
   not_accepted : ((pairs : List (ℕ × ℕ)) → IsAccepted file pairs → ⊥) → new ≡ old → FetchesAfter faults fetches file schedule code old new
   without_memory : code ≡ 7 → new ≡ old → FetchesAfter faults fetches file schedule code old new
 
--- The files that the words name were fetched in order, each at most once: a source; an image, and nothing after it where it
--- was not read.
+-- The files that the words name were fetched in order, each at most once: none for a job; a source; an image that is listed; an
+-- image that is run, and nothing after it where it was not read.
 pub data FetchesFiles {F : Type 0} (told : F → List ℕ → Option (List ℕ)) (faults : F → List ℕ → ℕ) (fetches : F → ℕ) (code : ℕ) (old : F) : Option Command → F → Type 0 where
   no_files : FetchesFiles told faults fetches code old None old
+  no_job_files : (number : ℕ) (sets : Option ℕ) → FetchesFiles told faults fetches code old (Some (Gen number sets)) old
   source_file : (source : List ℕ) (new : F) → FetchesOnce faults fetches source code old new
       → FetchesFiles told faults fetches code old (Some (Asm source)) new
+  listed_file : (image : List ℕ) (new : F) → FetchesOnce faults fetches image code old new
+      → FetchesFiles told faults fetches code old (Some (Dis image)) new
   image_unread : (image : List ℕ) (schedule : Option (List ℕ)) (sets : Option ℕ) (limit : ℕ) (new : F)
       → FetchesOnce faults fetches image code old new → Rose (faults old image) (faults new image) ⊎ (code ≡ 7)
       → FetchesFiles told faults fetches code old (Some (Run image schedule sets limit)) new

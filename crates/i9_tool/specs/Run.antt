@@ -1,10 +1,11 @@
--- What running an image does to a sink.
-use Rattle.std.specs.Prelude.{◌≡◌, List}
+-- What running an image does to a sink, and what a run comes to.
+use Rattle.std.specs.Prelude.{◌≡◌, List, length}
 use Rattle.i9_model.specs.declared.run.End.{End}
-use Rattle.i9_model.specs.Run.{Given, Record, IsRun}
+use Rattle.i9_model.specs.Run.{Given, Record, IsRun, state_after, reached_after}
 use Rattle.i9_model.specs.PrintedText.{run_text}
 use Rattle.i9_tool.specs.declared.print.Printed.{Printed}
 use Rattle.i9_tool.specs.declared.print.Printed.TheVariants as printed
+use Rattle.i9_tool.specs.declared.run.Counted.{Counted}
 use Rattle.i9_tool.specs.declared.run.Ran.{Ran}
 use Rattle.i9_tool.specs.declared.run.Ran.TheVariants as ran
 use Rattle.i9_tool.specs.Print.{Account, Prints}
@@ -28,3 +29,10 @@ pub record Runs {K : Type 0} (answer : Ran) (g : Given) (k : Account K) (old new
   pub run : IsRun g records end
   pub prints : Prints (printed_of answer) k old new (run_text g records end)
   pub tells : TellsEnd answer end
+
+-- The run of what is given comes to so many instructions and so many events, and to this end.
+pub record Counts (counted : Counted) (g : Given) : Type 0 where
+  pub records : List Record
+  pub run : IsRun g records counted.end
+  pub count : counted.count ≡ (state_after g records).count
+  pub events : counted.events ≡ length (reached_after records)

@@ -3,7 +3,7 @@
 
 ghost use Rattle.std.specs.Prelude.{◌≡◌, ◌≢◌, ◌≤◌, ◌<◌, ℕ, Bool, true, List, Option, Some, IsSome, length};
 ghost use Rattle.std.specs.List.{AllByRecursion};
-ghost use Rattle.i9_tool.specs.CommandLine.{Command, Run};
+ghost use Rattle.i9_tool.specs.CommandLine.{Command, Run, Gen};
 ghost use Rattle.i9_outside.specs.Calls.{NoneToFail};
 ghost use Rattle.i9_outside.specs.MemFiles as mem_files;
 ghost use Rattle.i9_outside.specs.MemSink as mem_sink;
@@ -17,8 +17,8 @@ use std::alloc::Global;
 
 /// What words give for files that are told and were read is one status and one text: an image is accepted or refused,
 /// not both, for one fault, and so is a schedule, and the run of both is the only one; a source has one list of segments
-/// or one first fault. So each status is answered exactly where it is given. There is a status and a text for all words
-/// and files, and none depends on the number of sets that is asked for.
+/// or one first fault, and so has the job of a number. So each status is answered exactly where it is given. There is a
+/// status and a text for all words and files, and none depends on the number of sets that is asked for.
 pub fn one_outcome()
     ensures some { (told : List ℕ → Option (List ℕ)) (asked : Option Command)
         → (code : ℕ) × (text : List ℕ) × Gives told (λ n. ⊥) asked code text }
@@ -34,6 +34,10 @@ pub fn one_outcome()
         (schedule : Option (List ℕ)) (sets others : Option ℕ) (limit code : ℕ) (text : List ℕ)
         → Gives told (λ n. risen n ≡ true) (Some (Run image schedule sets limit)) code text
         → Gives told (λ n. risen n ≡ true) (Some (Run image schedule others limit)) code text }
+    ensures job_sets { (told : List ℕ → Option (List ℕ)) (risen : List ℕ → Bool) (number : ℕ)
+        (sets others : Option ℕ) (code : ℕ) (text : List ℕ)
+        → Gives told (λ n. risen n ≡ true) (Some (Gen number sets)) code text
+        → Gives told (λ n. risen n ≡ true) (Some (Gen number others)) code text }
 {}
 
 /// The command over files and a sink in memory: a status below 6 has its whole text. Where no call is set to fail, each

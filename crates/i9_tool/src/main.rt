@@ -8,6 +8,8 @@ ghost use Rattle.std.specs.Vec.Iter.{into_iter_items};
 #[cfg(test)]
 mod asm_tests;
 #[cfg(test)]
+mod dis_tests;
+#[cfg(test)]
 mod dma_tests;
 #[cfg(test)]
 mod event_tests;
@@ -17,7 +19,12 @@ mod fault_tests;
 mod flow_tests;
 #[cfg(test)]
 mod frame_tests;
+#[cfg(test)]
+mod gen_tests;
+mod generator;
+mod job;
 pub mod laws;
+mod listing;
 mod print;
 #[cfg(test)]
 mod result_tests;
@@ -35,6 +42,7 @@ mod text;
 mod top;
 mod words;
 
+pub use crate::generator::generate;
 pub use crate::status::Status;
 pub use crate::top::i960;
 use i9_outside::{RealFiles, RealSink};

@@ -3,9 +3,11 @@ ghost use Rattle.std.specs.Prelude.{◌≡◌, ◌≢◌, flat_map, true};
 ghost use Rattle.std.specs.List.{position};
 ghost use Rattle.i9_text.specs.Text.{is_line_feed};
 ghost use Rattle.i9_tool.specs.CommandLine.{refused_line};
+ghost use Rattle.i9_tool.specs.Generator.{generated_line};
 ghost use Rattle.i9_tool.specs.Print.{Prints, IsLine, AreLines, account, is_lined, line_text};
 
-use crate::text::{lines_of, refused_line};
+use crate::run::Counted;
+use crate::text::{generated_line, lines_of, refused_line};
 use i9_machine::Line;
 use i9_outside::{Sink, Wrote};
 use std::alloc::Global;
@@ -92,6 +94,23 @@ pub(crate) fn print_refusal<K: Sink>(
         (refused_line what.now (line, kind)) }
 {
     match refused_line(alloc, what, line, kind) {
+        Ok(text) => print_piece(&text, out),
+        Err(_) => Printed::Memory,
+    }
+}
+
+/// Writes the line of what the run of the job of a number came to.
+#[tactic(auto, using(crate::proofs::LineCounts::line_rules))]
+pub(crate) fn print_counted<K: Sink>(
+    alloc: Global,
+    number: u32,
+    counted: &Counted,
+    out: &mut K,
+) -> Printed
+    ensures { Prints result (account K.told K.faults K.writes K.sure) out.old out.new
+        (generated_line number counted.now.count counted.now.events counted.now.end) }
+{
+    match generated_line(alloc, number, counted.count, counted.events, counted.end) {
         Ok(text) => print_piece(&text, out),
         Err(_) => Printed::Memory,
     }

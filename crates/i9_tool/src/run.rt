@@ -1,14 +1,15 @@
-//! Running an image to its end, and printing its lines.
-ghost use Rattle.std.specs.Prelude.{◌≡◌, ◌≤◌};
+//! Running an image to its end, and printing its lines or counting what was done.
+ghost use Rattle.std.specs.Prelude.{◌≡◌, ◌≤◌, IfOk};
 ghost use Rattle.i9_model.specs.Given.{given};
 ghost use Rattle.i9_model.specs.declared.layout.TheConstants.{MAX_LENGTH};
 ghost use Rattle.i9_model.specs.Image.{pairs_of};
 ghost use Rattle.i9_tool.specs.Print.{account};
-ghost use Rattle.i9_tool.specs.Run.{Runs};
+ghost use Rattle.i9_tool.specs.Run.{Runs, Counts};
 ghost use Rattle.i9_tool.specs.Words.{AreFew};
 
 use crate::print::{Printed, print_lines};
 use i9_hex::Segments;
+use i9_isa::NoMemory;
 use i9_machine::{End, Machine, Turn};
 use i9_outside::Sink;
 use i9_schedule::Schedule;
@@ -59,6 +60,45 @@ pub(crate) fn run<K: Sink>(
             Turn::Issued(_) => {}
             Turn::End(end) => return Ran::Done(end),
             Turn::Memory => return Ran::Memory,
+        }
+    }
+}
+
+/// What a run came to: the instructions that were done, the events that were taken, and its end.
+#[derive(Clone, Copy)]
+pub(crate) struct Counted {
+    pub(crate) count: u64,
+    pub(crate) events: u64,
+    pub(crate) end: End,
+}
+
+/// Runs an image with the events of a schedule and its frames in so many sets, for at most so many
+/// instructions, and prints nothing.
+pub(crate) fn count_run(
+    alloc: Global,
+    image: &Segments,
+    plan: &mut Schedule,
+    sets: Option<u8>,
+    limit: u64,
+) -> Result<Counted, NoMemory>
+    requires begins { plan.old.place ≡ 0 }
+    requires few { AreFew sets }
+    requires short { limit ≤ MAX_LENGTH }
+    ensures { IfOk result (λ counted. Counts counted (given (pairs_of image.now) plan.old.events limit sets)) }
+{
+    let mut machine = Machine::new(alloc, image, sets, limit)?;
+    let mut lines = Vec::new(alloc);
+    loop {
+        lines.clear();
+        match machine.advance(plan, &mut lines) {
+            Turn::On => {}
+            Turn::Issued(_) => {}
+            Turn::End(end) => {
+                let count = machine.view().count;
+                let events = plan.place();
+                return Ok(Counted { count, events, end });
+            }
+            Turn::Memory => return Err(NoMemory),
         }
     }
 }

@@ -1,5 +1,5 @@
 //! The text of lines.
-ghost use Rattle.std.specs.Prelude.{◌≡◌, ◌++◌, ◌∷◌, [], ◌<◌, ◌^◌, IfOk, OnOk, codes};
+ghost use Rattle.std.specs.Prelude.{◌≡◌, ◌++◌, ◌∷◌, [], ◌≤◌, ◌<◌, ◌^◌, length, drop, IfOk, OnOk, codes};
 ghost use Rattle.std.specs.Fmt.{decimal};
 ghost use Rattle.std.specs.List.{flat_map};
 ghost use Rattle.i9_tool.specs.CommandLine.{refused_line};
@@ -8,10 +8,14 @@ ghost use Rattle.i9_model.specs.PrintedText.{out_text, event_text, drained_text,
 ghost use Rattle.i9_model.specs.PrintedText.{end_text, shown_text, words_text, spaced, spaced_byte, line_feed};
 ghost use Rattle.i9_machine.specs.Line.{shown_of};
 ghost use Rattle.i9_tool.specs.Print.{IsLine, AreLines};
+ghost use Rattle.i9_tool.specs.Generator.{generated_line};
 
 use i9_machine::{End, Line, Point};
 use i9_model::{Event, View};
 use std::alloc::{AllocError, Global};
+
+/// What the line of the end of a run begins with.
+const END_LABEL: &[u8] = b"#end ";
 
 /// Appends a word in eight upper-case hexadecimal digits.
 #[tactic(auto, unfolding(i9_text::specs::Written::word_text))]
@@ -23,7 +27,7 @@ fn add_word(alloc: Global, text: &mut Vec<u8>, word: u32) -> Result<(), AllocErr
 }
 
 /// Appends a count in decimal digits.
-fn add_count(alloc: Global, text: &mut Vec<u8>, count: u64) -> Result<(), AllocError>
+pub(crate) fn add_count(alloc: Global, text: &mut Vec<u8>, count: u64) -> Result<(), AllocError>
     ensures { OnOk result (text.new.items ≡ text.old.items ++ decimal count) }
 {
     let digits = count.to_string(alloc)?;
@@ -142,6 +146,38 @@ fn end_line(alloc: Global, end: End) -> Result<Vec<u8>, AllocError>
         End::Dead(code, address) => dead_line(alloc, code, address),
         End::Unbuilt(address) => words_line(alloc, b"#end unbuilt", &[address]),
     }
+}
+
+/// What the line of an end has behind its label.
+fn behind_label(line: &[u8]) -> &[u8]
+    requires { length (codes "#end ") ≤ length line.now }
+    ensures { result.now ≡ drop (length (codes "#end ")) line.now }
+{
+    &line[END_LABEL.len()..]
+}
+
+/// The line of the run that was made from a number: its instructions, its events, and what the line of its end has
+/// behind `#end `.
+#[tactic(auto, unfolding(crate::specs::Generator::generated_line))]
+pub(crate) fn generated_line(
+    alloc: Global,
+    number: u32,
+    count: u64,
+    events: u64,
+    end: End,
+) -> Result<Vec<u8>, AllocError>
+    ensures { IfOk result (λ t. t.items ≡ generated_line number count events end) }
+{
+    let mut text = Vec::from_slice(alloc, b"#gen ")?;
+    add_count(alloc, &mut text, u64::from(number))?;
+    text.push(b' ')?;
+    add_count(alloc, &mut text, count)?;
+    text.push(b' ')?;
+    add_count(alloc, &mut text, events)?;
+    text.push(b' ')?;
+    let end = end_line(alloc, end)?;
+    text.extend_from_slice(behind_label(&end))?;
+    Ok(text)
 }
 
 /// The three lines of a drained point.

@@ -18,28 +18,18 @@ ghost use Rattle.i9_tool.specs.Outcome.{Answers, GivesWhole, GivesFront, Outcome
 ghost use Rattle.i9_tool.specs.Outcome.{FetchesOnce, FetchesPlan, FetchesAfter, FetchesFiles, names_of, AnyRose};
 ghost use Rattle.i9_tool.specs.Outcome.{AllSure};
 
-use crate::print::{Printed, print_piece, print_refusal, print_text};
+use crate::job::do_job;
+use crate::listing::fetch_listed;
+use crate::print::{print_piece, print_refusal, print_text};
 use crate::run::{Ran, run};
-use crate::status::Status;
+use crate::status::{Status, code_of_end, status_for};
 use crate::words::{Asked, RunWords, read_words};
 use i9_asm::{AsmError, assemble};
 use i9_hex::{HexError, Segments};
 use i9_isa::NoMemory;
-use i9_machine::End;
 use i9_outside::{Fetch, Files, Sink};
 use i9_schedule::{LineError, Schedule};
 use std::alloc::Global;
-
-/// The status for a text that was printed so.
-fn status_for(printed: Printed, code: u8) -> Status
-    ensures { result.code ≡ code_for printed code }
-{
-    match printed {
-        Printed::Done => Status { code },
-        Printed::Write => Status { code: 6 },
-        Printed::Memory => Status { code: 7 },
-    }
-}
 
 /// The status for a run that went so.
 fn status_of_run(ran: Ran) -> Status
@@ -47,9 +37,9 @@ fn status_of_run(ran: Ran) -> Status
     ensures read { result.code ≢ 5 }
 {
     match ran {
-        Ran::Done(End::Exit(_)) => Status { code: 0 },
-        Ran::Done(End::Limit) => Status { code: 0 },
-        Ran::Done(End::Hazard(_) | End::Dead(_, _) | End::Unbuilt(_)) => Status { code: 4 },
+        Ran::Done(end) => Status {
+            code: code_of_end(end),
+        },
         Ran::Write => Status { code: 6 },
         Ran::Memory => Status { code: 7 },
     }
@@ -292,6 +282,8 @@ fn answer<F: Files, K: Sink>(alloc: Global, asked: &Asked<'_>, files: &mut F, ou
     match asked {
         Asked::Run(words) => fetch_image(alloc, words, files, out),
         Asked::Asm(source) => fetch_source(alloc, source, files, out),
+        Asked::Dis(image) => fetch_listed(alloc, image, files, out),
+        Asked::Gen(words) => do_job(alloc, *words, out),
     }
 }
 
@@ -313,7 +305,7 @@ fn work<F: Files, K: Sink>(alloc: Global, words: &Vec<String>, files: &mut F, ou
 }
 
 /// Does what the words ask for, and answers a status: 0 where a run exited or reached its length, and
-/// where a source was assembled; 1 where the words are in no form; 2 where the image was refused, or
+/// where a source was assembled or an image listed; 1 where the words are in no form; 2 where the image was refused, or
 /// is too long; 3 where the schedule or the source was; 4 where the run ended early; 5 where a file was
 /// not read; 6 where a write failed; 7 where memory was refused. `Outcomes` says which status goes with which text.
 pub fn i960<F: Files, K: Sink>(

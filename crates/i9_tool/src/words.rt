@@ -3,8 +3,8 @@ ghost use Rattle.std.specs.Prelude.{◌≡◌, ◌≤◌, ◌<◌, ◌∷◌, []
 ghost use Rattle.std.specs.Option.{option_map, option_copied};
 ghost use Rattle.std.specs.String.{string_bytes};
 ghost use Rattle.i9_model.specs.declared.layout.TheConstants.{MAX_LENGTH};
-ghost use Rattle.i9_tool.specs.CommandLine.{sets_for, schedule_for, command_of};
-ghost use Rattle.i9_tool.specs.Words.{run_by, asked_by, AreFew, CanRun, Fits};
+ghost use Rattle.i9_tool.specs.CommandLine.{sets_for, schedule_for, number_in, most_number, command_of};
+ghost use Rattle.i9_tool.specs.Words.{run_by, job_by, asked_by, AreFew, CanRun, Fits};
 
 use i9_model::layout::{MAX_LENGTH, MOST_SETS};
 use i9_text::number;
@@ -19,11 +19,22 @@ pub(crate) struct RunWords<'a> {
     pub(crate) limit: u64,
 }
 
-/// What the words ask for: to run an image, or to assemble the source of this name.
+/// What `gen` asks for: to run the job that is made from this number, with so many register sets or with those of the
+/// PRCB.
+#[derive(Clone, Copy)]
+pub(crate) struct JobWords {
+    pub(crate) number: u32,
+    pub(crate) sets: Option<u8>,
+}
+
+/// What the words ask for: to run an image, to assemble the source of this name, to list the image of this name, or to
+/// run the job of a number.
 #[derive(Clone, Copy)]
 pub(crate) enum Asked<'a> {
     Run(RunWords<'a>),
     Asm(&'a str),
+    Dis(&'a str),
+    Gen(JobWords),
 }
 
 /// The number of sets that a word asks for, of which `-` asks for none.
@@ -86,15 +97,45 @@ fn run_asked<'a>(
     })
 }
 
-/// The source that `asm` asks for, where the words are in its form.
+/// What `asm` or `dis` asks for with the name of a file behind it, where the words are in a form of these.
 #[tactic(auto, unfolding(crate::specs::CommandLine::command_of))]
-fn asm_asked<'a>(name: &str, source: &'a str) -> Option<Asked<'a>>
-    ensures { option_map asked_by result ≡ command_of (name.now ∷ source.now ∷ []) }
+fn file_asked<'a>(name: &str, file: &'a str) -> Option<Asked<'a>>
+    ensures asked { option_map asked_by result ≡ command_of (name.now ∷ file.now ∷ []) }
+    ensures fits { IfSome result Fits }
 {
-    if name != "asm" || source.is_empty() {
+    if file.is_empty() {
         return None;
     }
-    Some(Asked::Asm(source))
+    match name {
+        "asm" => Some(Asked::Asm(file)),
+        "dis" => Some(Asked::Dis(file)),
+        _ => None,
+    }
+}
+
+/// The number of 32 bits that a word says.
+fn number_asked(word: &str) -> Option<u32>
+    ensures { result ≡ number_in 0 most_number word.now }
+{
+    let n = number(word.as_bytes(), 10, 10)?;
+    if n > u64::from(u32::MAX) {
+        return None;
+    }
+    Some(n as u32)
+}
+
+/// What `gen` asks for with these words behind it, where they are in its form.
+#[tactic(auto, unfolding(crate::specs::CommandLine::command_of))]
+fn gen_asked(name: &str, number: &str, sets: &str) -> Option<JobWords>
+    ensures asked { option_map job_by result ≡ command_of (name.now ∷ number.now ∷ sets.now ∷ []) }
+    ensures few { IfSome result (λ job. AreFew job.sets) }
+{
+    if name != "gen" {
+        return None;
+    }
+    let number = number_asked(number)?;
+    let sets = sets_asked(sets)?;
+    Some(JobWords { number, sets })
 }
 
 /// What the words ask for, where they are in a form of the command.
@@ -104,7 +145,11 @@ pub(crate) fn read_words(words: &[String]) -> Option<Asked<'_>>
     ensures fits { IfSome result Fits }
 {
     match words {
-        [name, source] => asm_asked(name, source),
+        [name, file] => file_asked(name, file),
+        [name, number, sets] => {
+            let job = gen_asked(name, number, sets)?;
+            Some(Asked::Gen(job))
+        }
         [name, image, schedule, sets, limit] => {
             let run = run_asked(name, image, schedule, sets, limit)?;
             Some(Asked::Run(run))

@@ -1,6 +1,6 @@
 use Rattle.std.proofs.Common.{◌≡◌, true}
 use Rattle.i9_tool.proofs.Outcomes.{some_outcome}
-use Rattle.i9_tool.proofs.OneOutcome.{one_outcome, same_in_sets}
+use Rattle.i9_tool.proofs.OneOutcome.{one_outcome, same_in_sets, job_same_in_sets}
 use Rattle.i9_tool.proofs.laws.one_outcome.Goals as goal
 
 pub returns-clause-some : goal.returns-clause-some
@@ -14,3 +14,6 @@ returns-clause-text c = λ told risen asked c d s t known p q g h. (one_outcome 
 
 pub returns-clause-sets : goal.returns-clause-sets
 returns-clause-sets c = λ told risen. same_in_sets told (λ n. risen n ≡ true)
+
+pub returns-clause-job_sets : goal.returns-clause-job_sets
+returns-clause-job_sets c = λ told risen. job_same_in_sets told (λ n. risen n ≡ true)

@@ -47,7 +47,7 @@ returns-in-TooLong-clause-fetched g c =
     (not_accepted (long_refused f.file f.leaves.0) refl)
 
 pub returns-clause-answers : goal.returns-clause-answers
-returns-clause-answers g c = answers_unprinted _ _ _ (some_read _ _ _ (some_image _ (λ pairs. some_planned _ _ _ _ (some_run _ _ pairs))))
+returns-clause-answers g c = answers_unprinted _ _ _ (some_read _ _ _ (λ file. some_image _ file (λ pairs is_image. some_planned _ _ _ _ (some_run _ _ pairs))))
 
 pub returns-clause-fetched : goal.returns-clause-fetched
 returns-clause-fetched g c = image_unread _ _ _ _ _ (fetched_quietly _ _ _ _ _ _ c.fetch.ensures.once c.in-Memory.ensures.cause) (inr refl)

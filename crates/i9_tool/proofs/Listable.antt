@@ -1,0 +1,96 @@
+-- An accepted image has a listing.
+use Rattle.std.proofs.Common.{◌≡◌, ℕ, zero, suc, ◌+◌, ◌*◌, ◌%◌, ◌<◌, List, [], ◌∷◌, ◌++◌, map, refl, ap, ◌∙◌, subst, sym, arith}
+use Rattle.std.specs.List.{AllByRecursion}
+use Rattle.std.specs.Prelude.{slice_index}
+use Rattle.hex.specs.Hex.{IsBytes}
+use Rattle.hex.proofs.HexLemmas.{decode_of-ok}
+use Rattle.i9_text.specs.Text.{lines_of}
+use Rattle.i9_text.specs.FirstFault.{SaysAll}
+use Rattle.i9_model.specs.HexText.{Origin, Upper, Base, address_in, HexState, start, record_bytes, IsRecord, Says, says_nothing, says_bytes, says_end, says_base, says_start_segment, says_upper, says_start_address, IsImage}
+use Rattle.i9_model.specs.Image.{Part, pairs_of, address_count, pairs_at}
+use Rattle.i9_dis.specs.Pairs.{IsPlaced}
+use Rattle.i9_dis.proofs.Rising.{ArePlaced}
+use Rattle.i9_dis.proofs.Listed.{some_listing}
+use Rattle.i9_tool.specs.Outcome.{IsAccepted, DisGives, listed}
+
+-- ---- the pairs of an accepted image stand in the address space
+
+abbrev AreLow : List ℕ → Type 0
+AreLow bs = AllByRecursion (λ b. b < 256) bs
+
+low_front : (bs more : List ℕ) → IsBytes (bs ++ more) → AreLow bs
+low_front [] more h = tt
+low_front (b ∷ bs) more h = (h 0, low_front bs more (λ i. h (suc i)))
+
+-- the content of a record
+content_low : (line : List ℕ) (kind a : ℕ) (content : List ℕ) → IsRecord line kind a content → AreLow content
+content_low line kind a content r =
+    let bytes = (decode_of-ok r.digits (record_bytes kind a content r.check) r.bytes).3 in
+    low_front content (r.check ∷ []) (λ i. bytes (suc (suc (suc (suc i)))))
+
+-- a base of 16 bits
+abbrev IsFine : Origin → Type 0
+IsFine (Upper half) = Unit {0}
+IsFine (Base base) = base < 65536
+
+fine_address : (o : Origin) (n : ℕ) → IsFine o → address_in o n < address_count
+fine_address (Upper half) n fine = omega arith
+fine_address (Base base) n fine = omega arith
+
+placed_at : (o : Origin) (n : ℕ) (bs : List ℕ) → IsFine o → AreLow bs → ArePlaced (pairs_at (address_in o) n bs)
+placed_at o n [] fine low = tt
+placed_at o n (b ∷ bs) fine low = (record { address = fine_address o n fine; byte = low.0 }, placed_at o (n + 1) bs fine low.1)
+
+placed_append : (ps qs : List (ℕ × ℕ)) → ArePlaced ps → ArePlaced qs → ArePlaced (ps ++ qs)
+placed_append [] qs h g = g
+placed_append (p ∷ ps) qs h g = (h.0, placed_append ps qs h.1 g)
+
+-- what the lines so far say
+record IsSound (s : HexState) : Type 0 where
+  placed : ArePlaced s.pairs
+  fine : IsFine s.origin
+
+sound_line : (s : HexState) (line : List ℕ) (t : HexState) → Says s line t → IsSound s → IsSound t
+sound_line s line t (says_nothing _) h = h
+sound_line s line t (says_bytes _ _ a bs unended r few) h =
+    record { placed = placed_append s.pairs (pairs_at (address_in s.origin) a bs) h.placed (placed_at s.origin a bs h.fine (content_low line _ a bs r)); fine = h.fine }
+sound_line s line t (says_end _ _ a unended r) h = record { placed = h.placed; fine = h.fine }
+sound_line s line t (says_base _ _ a high low unended r) h =
+    let bytes = content_low line _ a (high ∷ low ∷ []) r in
+    record { placed = h.placed; fine = omega (arith, bytes.0, bytes.1.0) }
+sound_line s line t (says_start_segment _ _ a c unended few r) h = h
+sound_line s line t (says_upper _ _ a high low unended r) h = record { placed = h.placed; fine = tt }
+sound_line s line t (says_start_address _ _ a c unended few r) h = h
+
+sound_lines : (s : HexState) (lines : List (List ℕ)) (t : HexState) → SaysAll Says s lines t → IsSound s → IsSound t
+sound_lines s [] t same h = subst IsSound same h
+sound_lines s (line ∷ lines) t says h = sound_lines says.0 lines t says.2 (sound_line s line says.0 says.1 h)
+
+accepted_placed : (file : List ℕ) (pairs : List (ℕ × ℕ)) → IsAccepted file pairs → ArePlaced pairs
+accepted_placed file pairs accepted =
+    let image = accepted.image in
+    subst ArePlaced image.same (sound_lines start (lines_of file) image.last image.says (record { placed = tt; fine = tt })).placed
+
+-- ---- a listing of such pairs
+
+-- an image with a segment for each pair
+abbrev image_of : List (ℕ × ℕ) → List Part
+image_of ps = map (λ (p : ℕ × ℕ). record { address = p.0; bytes = p.1 ∷ [] }) ps
+
+image_pairs : (ps : List (ℕ × ℕ)) → ArePlaced ps → pairs_of (image_of ps) ≡ ps
+unfolding pairs_of
+image_pairs [] placed = refl
+image_pairs (p ∷ ps) placed =
+    let address : p.0 % address_count ≡ p.0 = omega (arith, placed.0.address) in
+    ap (λ (a : ℕ). (a, p.1) ∷ pairs_of (image_of ps)) address ∙ ap (λ (qs : List (ℕ × ℕ)). p ∷ qs) (image_pairs ps placed.1)
+
+low_pairs : (ps : List (ℕ × ℕ)) → ArePlaced ps → AllByRecursion (λ (p : ℕ × ℕ). p.1 < 256) ps
+low_pairs [] placed = tt
+low_pairs (p ∷ ps) placed = (placed.0.byte, low_pairs ps placed.1)
+
+pub some_listed : (file : List ℕ) (pairs : List (ℕ × ℕ)) → IsAccepted file pairs → (text : List ℕ) × DisGives pairs 0 text
+some_listed file pairs accepted =
+    let placed = accepted_placed file pairs accepted in
+    let same = image_pairs pairs placed in
+    let text = some_listing (image_of pairs) (subst (λ (ps : List (ℕ × ℕ)). AllByRecursion (λ (p : ℕ × ℕ). p.1 < 256) ps) (sym same) (low_pairs pairs placed)) in
+    (text.0, listed (image_of pairs) text.0 same text.1)

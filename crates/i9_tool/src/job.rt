@@ -1,0 +1,108 @@
+//! The command `gen`: the run of the job that is made from a number.
+ghost use Rattle.std.specs.Prelude.{◌≡◌, ◌≢◌, List, ℕ};
+ghost use Rattle.i9_text.specs.Text.{lines_of};
+ghost use Rattle.i9_model.specs.ScheduleText.{IsSchedule};
+ghost use Rattle.i9_asm.specs.Laws.{IsAssembly};
+ghost use Rattle.i9_tool.specs.Words.{AreFew};
+ghost use Rattle.i9_tool.specs.Print.{account};
+ghost use Rattle.i9_tool.specs.Outcome.{Answers, JobGives, GenGives};
+
+use crate::generator::generate;
+use crate::print::{print_counted, print_refusal};
+use crate::run::count_run;
+use crate::status::{Status, code_of_end, status_for};
+use crate::words::JobWords;
+use i9_asm::{AsmError, assemble};
+use i9_hex::Segments;
+use i9_isa::NoMemory;
+use i9_model::layout::MAX_LENGTH;
+use i9_outside::Sink;
+use i9_schedule::{LineError, Schedule};
+use std::alloc::Global;
+
+/// Runs the image of a job with its events, and prints the line of what the run comes to.
+fn run_job<K: Sink>(
+    alloc: Global,
+    words: JobWords,
+    image: &Segments,
+    plan: &mut Schedule,
+    out: &mut K,
+) -> Status
+    requires few { AreFew words.sets }
+    requires begins { plan.old.place ≡ 0 }
+    ensures answers { (source schedule : List ℕ)
+        → IsAssembly (lines_of source) image.now → IsSchedule (lines_of schedule) plan.old.events
+        → Answers (JobGives words.number words.sets source schedule)
+        result.code (account K.told K.faults K.writes K.sure) out.old out.new }
+    ensures read { result.code ≢ 5 }
+{
+    match count_run(alloc, image, plan, words.sets, MAX_LENGTH) {
+        Ok(counted) => {
+            let printed = print_counted(alloc, words.number, &counted, out);
+            status_for(printed, code_of_end(counted.end))
+        }
+        Err(NoMemory) => Status { code: 7 },
+    }
+}
+
+/// Runs the image of a job with the events of its schedule, or says why the schedule is refused.
+#[tactic(auto, using(crate::proofs::LineCounts::line_rules))]
+fn schedule_job<K: Sink>(
+    alloc: Global,
+    words: JobWords,
+    image: &Segments,
+    schedule: &[u8],
+    out: &mut K,
+) -> Status
+    requires few { AreFew words.sets }
+    ensures answers { (source : List ℕ) → IsAssembly (lines_of source) image.now
+        → Answers (JobGives words.number words.sets source schedule.now)
+        result.code (account K.told K.faults K.writes K.sure) out.old out.new }
+    ensures read { result.code ≢ 5 }
+{
+    match i9_schedule::read(alloc, schedule) {
+        Ok(mut plan) => run_job(alloc, words, image, &mut plan, out),
+        Err(LineError::Bad(fault)) => {
+            let printed = print_refusal(alloc, b"schedule", fault.line, fault.kind, out);
+            status_for(printed, 3)
+        }
+        Err(LineError::Memory) => Status { code: 7 },
+    }
+}
+
+/// Assembles the source of a job and runs it with its schedule, or says why the source is refused.
+#[tactic(auto, using(crate::proofs::LineCounts::line_rules))]
+fn assemble_job<K: Sink>(
+    alloc: Global,
+    words: JobWords,
+    source: &[u8],
+    schedule: &[u8],
+    out: &mut K,
+) -> Status
+    requires few { AreFew words.sets }
+    ensures answers { Answers (JobGives words.number words.sets source.now schedule.now)
+        result.code (account K.told K.faults K.writes K.sure) out.old out.new }
+    ensures read { result.code ≢ 5 }
+{
+    match assemble(alloc, source) {
+        Ok(image) => schedule_job(alloc, words, &image, schedule, out),
+        Err(AsmError::Bad(fault)) => {
+            let printed = print_refusal(alloc, b"source", fault.line, fault.kind, out);
+            status_for(printed, 3)
+        }
+        Err(AsmError::Memory) => Status { code: 7 },
+    }
+}
+
+/// Makes the job of a number, runs it, and prints the line of what its run comes to.
+pub(crate) fn do_job<K: Sink>(alloc: Global, words: JobWords, out: &mut K) -> Status
+    requires few { AreFew words.sets }
+    ensures answers { Answers (GenGives words.number words.sets)
+        result.code (account K.told K.faults K.writes K.sure) out.old out.new }
+    ensures read { result.code ≢ 5 }
+{
+    match generate(alloc, words.number) {
+        Ok((source, schedule)) => assemble_job(alloc, words, &source, &schedule, out),
+        Err(NoMemory) => Status { code: 7 },
+    }
+}
