@@ -53,7 +53,7 @@ tables_text =
     ++ codes ".org 0x220C\n"
     ++ codes ".word tick\n"
 
--- sets up the stack, clears the mask of the pins, and lowers the priority
+-- sets up the stack, unmasks the pins, and lowers the priority
 unfoldable pub set_up_text : List ℕ
 set_up_text =
     codes ".org 0x1000\n"

@@ -33,7 +33,7 @@ const TABLES: &str = ".org 0xFFFFFF10
 .word tick
 ";
 
-/// Sets up the stack, clears the mask of the pins, and lowers the priority.
+/// Sets up the stack, unmasks the pins, and lowers the priority.
 const SET_UP: &str = ".org 0x1000
 lda 0x100000, fp
 lda 64(fp), sp
