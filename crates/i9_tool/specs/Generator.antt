@@ -27,7 +27,7 @@ start_of number = drawn number 3
 
 -- ---- the source
 
--- the boot record, the PRCB, the control table and the vectors of the eight pins
+-- the boot record, the PRCB, the control table and the handlers of the eight pins
 unfoldable pub tables_text : List ℕ
 tables_text =
     codes ".org 0xFFFFFF10\n"
@@ -53,7 +53,7 @@ tables_text =
     ++ codes ".org 0x220C\n"
     ++ codes ".word tick\n"
 
--- sets up the stack, clears the mask of the pins, and lowers the priority
+-- sets up the stack, lets the pins through and lowers the priority
 unfoldable pub set_up_text : List ℕ
 set_up_text =
     codes ".org 0x1000\n"
