@@ -1,14 +1,12 @@
 -- An accepted image has a listing.
-use Rattle.std.proofs.Common.{◌≡◌, ℕ, zero, suc, ◌+◌, ◌*◌, ◌%◌, ◌<◌, List, [], ◌∷◌, ◌++◌, map, refl, ap, ◌∙◌, subst, sym, arith}
+use Rattle.std.proofs.Common.{◌≡◌, ℕ, suc, ◌+◌, ◌%◌, ◌<◌, List, [], ◌∷◌, ◌++◌, map, refl, ap, ◌∙◌, subst, sym, arith}
 use Rattle.std.specs.List.{AllByRecursion}
-use Rattle.std.specs.Prelude.{slice_index}
 use Rattle.hex.specs.Hex.{IsBytes}
 use Rattle.hex.proofs.HexLemmas.{decode_of-ok}
 use Rattle.i9_text.specs.Text.{lines_of}
 use Rattle.i9_text.specs.FirstFault.{SaysAll}
-use Rattle.i9_model.specs.HexText.{Origin, Upper, Base, address_in, HexState, start, record_bytes, IsRecord, Says, says_nothing, says_bytes, says_end, says_base, says_start_segment, says_upper, says_start_address, IsImage}
+use Rattle.i9_model.specs.HexText.{Origin, Upper, Base, address_in, HexState, start, record_bytes, IsRecord, Says, says_nothing, says_bytes, says_end, says_base, says_start_segment, says_upper, says_start_address}
 use Rattle.i9_model.specs.Image.{Part, pairs_of, address_count, pairs_at}
-use Rattle.i9_dis.specs.Pairs.{IsPlaced}
 use Rattle.i9_dis.proofs.Rising.{ArePlaced}
 use Rattle.i9_dis.proofs.Listed.{some_listing}
 use Rattle.i9_tool.specs.Outcome.{IsAccepted, DisGives, listed}

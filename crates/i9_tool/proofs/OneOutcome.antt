@@ -5,7 +5,7 @@ use Rattle.i9_model.specs.State.{State}
 use Rattle.i9_model.specs.Given.{Given, given}
 use Rattle.i9_model.specs.declared.event.Timed.{Timed}
 use Rattle.i9_model.specs.declared.run.End.{End}
-use Rattle.i9_model.specs.Run.{Record, next, IsRun, state_after, reached_after}
+use Rattle.i9_model.specs.Run.{Record, next, IsRun, reached_after}
 use Rattle.i9_model.specs.PrintedText.{text_of, lines_of, end_lines, run_text, end_code}
 use Rattle.i9_hex.specs.Writing.{hex_text}
 use Rattle.i9_asm.proofs.Once.{assembly_once, refusal_once, never_both_answers}
@@ -15,7 +15,7 @@ use Rattle.i9_model.proofs.Cuts.{past_by, state_by, next_from}
 use Rattle.i9_model.proofs.Unique.{same_records, same_end}
 use Rattle.i9_hex.proofs.OneAnswer.{image_apart, one_image, one_fault}
 use Rattle.i9_schedule.proofs.OneAnswer.{answers_apart, one_schedule, one_fault as one_schedule_fault}
-use Rattle.i9_tool.specs.Outcome.{Reads, unread, fetched, RunGives, runs, ScheduleGives, schedule_too_long, schedule_refused, scheduled, ImageGives, too_long, refused, accepted, SourceGives, source_too_long, source_refused, assembled, JobGives, job_source_refused, job_schedule_refused, job_runs, DisGives, listed, PlanGives, CommandGives, Gives, in_no_form, in_form, AllTold, names_of}
+use Rattle.i9_tool.specs.Outcome.{Reads, unread, fetched, RunGives, runs, ScheduleGives, schedule_too_long, schedule_refused, scheduled, ImageGives, too_long, refused, accepted, SourceGives, source_too_long, source_refused, assembled, JobGives, job_source_refused, job_schedule_refused, job_runs, job_line, DisGives, listed, PlanGives, CommandGives, Gives, in_no_form, in_form, AllTold, names_of}
 use Rattle.i9_model.specs.Image.{Part, pairs_of}
 use Rattle.i9_model.specs.declared.layout.TheConstants.{MAX_LENGTH}
 use Rattle.i9_tool.specs.Generator.{generated_source, generated_schedule, generated_line}
@@ -86,32 +86,17 @@ once_source file c d s t p q (assembled image short h) (assembled other short' h
 once_dis : (pairs : List (ℕ × ℕ)) → Once (DisGives pairs)
 once_dis pairs c d s t p q (listed image _ says h) (listed other _ says' g) = record { status = refl; text = one_text image s t h (by_pairs other image t (says' ∙ sym says) g) }
 
--- the line of what a run comes to
-abbrev job_line : ℕ → Option ℕ → List Part → List Timed → List Record → End → List ℕ
-job_line number sets image events rs e =
-    generated_line number (state_after (given (pairs_of image) events MAX_LENGTH sets) rs).count (length (reached_after rs)) e
-
 -- one run comes to one line
-same_line : (number : ℕ) (sets : Option ℕ) (image : List Part) (events : List Timed) (rs qs : List Record) (e f : End)
-    → IsRun (given (pairs_of image) events MAX_LENGTH sets) rs e → IsRun (given (pairs_of image) events MAX_LENGTH sets) qs f
-    → Same (end_code e) (end_code f) (job_line number sets image events rs e) (job_line number sets image events qs f)
-same_line number sets image events rs qs e f a b =
-    let g = given (pairs_of image) events MAX_LENGTH sets in
+same_line : (number : ℕ) (g : Given) (rs qs : List Record) (e f : End) → IsRun g rs e → IsRun g qs f → Same (end_code e) (end_code f) (job_line number g rs e) (job_line number g qs f)
+same_line number g rs qs e f a b =
     let end = same_end g rs qs e f a b in
     let records = same_records g rs qs e f a b in
-    record {
-      status = ap end_code end;
-      text = ap (λ (x : List Record). job_line number sets image events x e) records ∙ ap (job_line number sets image events qs) end;
-    }
+    record { status = ap end_code end; text = ap (λ (x : List Record). job_line number g x e) records ∙ ap (job_line number g qs) end }
 
--- so do those of one image and one schedule
-same_job : (number : ℕ) (sets : Option ℕ) (image other : List Part) (events timed : List Timed) (rs qs : List Record) (e f : End) → image ≡ other → events ≡ timed
-    → IsRun (given (pairs_of image) events MAX_LENGTH sets) rs e → IsRun (given (pairs_of other) timed MAX_LENGTH sets) qs f
-    → Same (end_code e) (end_code f) (job_line number sets image events rs e) (job_line number sets other timed qs f)
-same_job number sets image other events timed rs qs e f one same a b =
-    subst (λ (us : List Timed). IsRun (given (pairs_of other) us MAX_LENGTH sets) qs f → Same (end_code e) (end_code f) (job_line number sets image events rs e) (job_line number sets other us qs f)) same
-    (subst (λ (x : List Part). IsRun (given (pairs_of x) events MAX_LENGTH sets) qs f → Same (end_code e) (end_code f) (job_line number sets image events rs e) (job_line number sets x events qs f)) one
-    (same_line number sets image events rs qs e f a)) b
+-- so do two of what is the same
+same_job : (number : ℕ) (g h : Given) (rs qs : List Record) (e f : End) → g ≡ h → IsRun g rs e → IsRun h qs f → Same (end_code e) (end_code f) (job_line number g rs e) (job_line number h qs f)
+same_job number g h rs qs e f same a b =
+    subst (λ (k : Given). IsRun k qs f → Same (end_code e) (end_code f) (job_line number g rs e) (job_line number k qs f)) same (same_line number g rs qs e f a) b
 
 once_job : (number : ℕ) (sets : Option ℕ) (source schedule : List ℕ) → Once (JobGives number sets source schedule)
 once_job number sets source schedule c d s t p q (job_source_refused f bad) (job_source_refused g bad') =
@@ -125,7 +110,10 @@ once_job number sets source schedule c d s t p q (job_schedule_refused i f made 
 once_job number sets source schedule c d s t p q (job_runs i ts rs e made says run) (job_source_refused g bad) = absurd (never_both_answers (text_lines source) i g made bad)
 once_job number sets source schedule c d s t p q (job_runs i ts rs e made says run) (job_schedule_refused j g made' bad) = absurd (answers_apart schedule ts g says bad)
 once_job number sets source schedule c d s t p q (job_runs i ts rs e made says run) (job_runs j us qs f made' says' other) =
-    same_job number sets i j ts us rs qs e f (assembly_once (text_lines source) i j made made') (one_schedule schedule ts us says says') run other
+    let image = assembly_once (text_lines source) i j made made' in
+    let events = one_schedule schedule ts us says says' in
+    let same = ap (λ (x : List Part). given (pairs_of x) ts MAX_LENGTH sets) image ∙ ap (λ (x : List Timed). given (pairs_of j) x MAX_LENGTH sets) events in
+    same_job number _ _ rs qs e f same run other
 
 -- a file that is told, where it was read
 once_read : (told : Option (List ℕ)) (rose : Type 0) (gives : List ℕ → ℕ → List ℕ → Type 0) → IsSome told → ((file : List ℕ) → Once (gives file)) → Once (Reads told rose gives)

@@ -6,7 +6,7 @@ use Rattle.i9_model.specs.declared.event.Timed.{Timed}
 use Rattle.i9_model.specs.Given.{given}
 use Rattle.i9_model.specs.Image.{Part, pairs_of}
 use Rattle.i9_model.specs.declared.layout.TheConstants.{MAX_LENGTH}
-use Rattle.i9_model.specs.Run.{state_after, reached_after}
+use Rattle.i9_model.specs.Run.{state_after}
 use Rattle.i9_asm.specs.Laws.{IsAssembly}
 use Rattle.i9_model.specs.declared.run.End.{End}
 use Rattle.i9_model.specs.declared.run.End.TheVariants.{Exit, Limit, Hazard, Dead, Unbuilt}
@@ -25,7 +25,7 @@ use Rattle.i9_tool.specs.Print.{Account, Prints}
 use Rattle.i9_tool.specs.Generator.{generated_source, generated_schedule, generated_line}
 use Rattle.i9_tool.specs.declared.run.Counted.{Counted}
 use Rattle.i9_tool.specs.Run.{Runs, Counts, printed_of}
-use Rattle.i9_tool.specs.Outcome.{Reads, unread, fetched, RunGives, runs, ScheduleGives, schedule_too_long, schedule_refused, scheduled, IsAccepted, ImageGives, too_long, refused, accepted, SourceGives, source_too_long, source_refused, assembled, JobGives, job_source_refused, job_schedule_refused, job_runs, DisGives, PlanGives, CommandGives, Gives, in_no_form, in_form, Answers, code_for}
+use Rattle.i9_tool.specs.Outcome.{Reads, unread, fetched, RunGives, runs, ScheduleGives, schedule_too_long, schedule_refused, scheduled, IsAccepted, ImageGives, too_long, refused, accepted, SourceGives, source_too_long, source_refused, assembled, JobGives, job_source_refused, job_schedule_refused, job_runs, job_line, DisGives, PlanGives, CommandGives, Gives, in_no_form, in_form, Answers, code_for}
 use Rattle.i9_tool.proofs.Prints.{prints_same}
 use Rattle.i9_tool.proofs.Listable.{some_listed}
 use Rattle.i9_tool.proofs.Answering.{answers_printed, answers_nothing, answers_wider}
@@ -123,7 +123,7 @@ some_job_run number sets source schedule image made =
           let g = given (pairs_of image) says.0 MAX_LENGTH sets in
           let later = run_goes_on g [] tt in
           let records = later.0 ++ [] in
-          (end_code later.1, generated_line number (state_after g records).count (length (reached_after records)) later.1, job_runs image says.0 records later.1 made says.1 later.2)
+          (end_code later.1, job_line number g records later.1, job_runs image says.0 records later.1 made says.1 later.2)
       | inr bad ↦ (3, refused_line schedule_word bad.0, job_schedule_refused image bad.0 made bad.1)
     ]
 

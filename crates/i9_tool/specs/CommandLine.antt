@@ -70,7 +70,8 @@ file_for name file =
     else if bytes_eq name (codes "dis") then Some (Dis file)
     else None
 
--- `asm SOURCE`, `dis IMAGE`, `gen NUMBER SETS`, or `run IMAGE SCHEDULE SETS LENGTH`, with names of files that aren't empty
+-- `asm SOURCE`, `dis IMAGE`, `gen NUMBER SETS`, or `run IMAGE SCHEDULE SETS LENGTH`, with names of files that aren't
+-- empty
 unfoldable pub command_of : List (List ℕ) → Option Command
 command_of (name ∷ file ∷ []) = file_for name file
 command_of (name ∷ number ∷ sets ∷ []) =

@@ -27,7 +27,7 @@ start_of number = drawn number 3
 
 -- ---- the source
 
--- the boot record, the PRCB, the control table and the vectors of the eight pins
+-- the boot record, the PRCB, the control table and the handlers of the eight pins
 unfoldable pub tables_text : List ℕ
 tables_text =
     codes ".org 0xFFFFFF10\n"

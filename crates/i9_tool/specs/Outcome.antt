@@ -7,7 +7,7 @@ use Rattle.i9_text.specs.Text.{lines_of}
 use Rattle.i9_model.specs.HexText.{IsImage, IsRefused}
 use Rattle.i9_model.specs.ScheduleText.{IsSchedule, IsRefused as IsRefusedSchedule}
 use Rattle.i9_model.specs.declared.event.Timed.{Timed}
-use Rattle.i9_model.specs.Given.{given}
+use Rattle.i9_model.specs.Given.{Given, given}
 use Rattle.i9_model.specs.declared.run.End.{End}
 use Rattle.i9_model.specs.Run.{Record, IsRun, state_after, reached_after}
 use Rattle.i9_model.specs.PrintedText.{run_text, end_code}
@@ -70,17 +70,22 @@ pub data SourceGives (file : List ℕ) : ℕ → List ℕ → Type 0 where
 pub data DisGives (pairs : List (ℕ × ℕ)) : ℕ → List ℕ → Type 0 where
   listed : (image : List Part) (text : List ℕ) → pairs_of image ≡ pairs → IsListing image text → DisGives pairs 0 text
 
+-- the line of what the run of the job of a number comes to
+abbrev pub job_line : ℕ → Given → List Record → End → List ℕ
+job_line number g records end = generated_line number (state_after g records).count (length (reached_after records)) end
+
 -- For the source and the schedule of the job of a number: one of them is refused for its first line at fault, or the run
 -- of both is made to its end, and a line says what it comes to.
 pub data JobGives (number : ℕ) (sets : Option ℕ) (source schedule : List ℕ) : ℕ → List ℕ → Type 0 where
   job_source_refused : (fault : ℕ × ℕ) → IsRefusedSource (lines_of source) fault
       → JobGives number sets source schedule 3 (refused_line source_word fault)
-  job_schedule_refused : (image : List Part) (fault : ℕ × ℕ) → IsAssembly (lines_of source) image
-      → IsRefusedSchedule (lines_of schedule) fault → JobGives number sets source schedule 3 (refused_line schedule_word fault)
-  job_runs : (image : List Part) (events : List Timed) (records : List Record) (end : End) → IsAssembly (lines_of source) image
-      → IsSchedule (lines_of schedule) events → IsRun (given (pairs_of image) events MAX_LENGTH sets) records end
-      → JobGives number sets source schedule (end_code end)
-      (generated_line number (state_after (given (pairs_of image) events MAX_LENGTH sets) records).count (length (reached_after records)) end)
+  job_schedule_refused : (image : List Part) (fault : ℕ × ℕ)
+      → IsAssembly (lines_of source) image → IsRefusedSchedule (lines_of schedule) fault
+      → JobGives number sets source schedule 3 (refused_line schedule_word fault)
+  job_runs : (image : List Part) (events : List Timed) (records : List Record) (end : End)
+      → IsAssembly (lines_of source) image → IsSchedule (lines_of schedule) events
+      → IsRun (given (pairs_of image) events MAX_LENGTH sets) records end
+      → JobGives number sets source schedule (end_code end) (job_line number (given (pairs_of image) events MAX_LENGTH sets) records end)
 
 -- for a number and so many sets
 abbrev pub GenGives : ℕ → Option ℕ → ℕ → List ℕ → Type 0
@@ -189,8 +194,8 @@ pub data FetchesAfter {F : Type 0} (faults : F → List ℕ → ℕ) (fetches : 
   not_accepted : ((pairs : List (ℕ × ℕ)) → IsAccepted file pairs → ⊥) → new ≡ old → FetchesAfter faults fetches file schedule code old new
   without_memory : code ≡ 7 → new ≡ old → FetchesAfter faults fetches file schedule code old new
 
--- The files that the words name were fetched in order, each at most once: none for a job; a source; an image that is listed; an
--- image that is run, and nothing after it where it was not read.
+-- The files that the words name were fetched in order, each at most once: none for a job; a source; an image that is
+-- listed; an image that is run, and nothing after it where it was not read.
 pub data FetchesFiles {F : Type 0} (told : F → List ℕ → Option (List ℕ)) (faults : F → List ℕ → ℕ) (fetches : F → ℕ) (code : ℕ) (old : F) : Option Command → F → Type 0 where
   no_files : FetchesFiles told faults fetches code old None old
   no_job_files : (number : ℕ) (sets : Option ℕ) → FetchesFiles told faults fetches code old (Some (Gen number sets)) old

@@ -43,7 +43,10 @@ fn the_board_runs(rt: HostRuntime) -> Result<(), Fail> {
     assert!(rt; prints(alloc, "asm a", &source, b"", &image)?);
     for sets in ["-", "1", "5", "15"] {
         let line = format!(in alloc; "run a b {sets} 1000")?;
-        assert!(rt; prints(alloc, &line, &image, &schedule, &printed)?, "{sets}");
+        assert!(rt;
+            prints(alloc, &line, &image, &schedule, &printed)?,
+            "{sets}"
+        );
     }
     // What is printed is a schedule of the same events.
     assert!(rt; prints(alloc, "run a b - 1000", &image, &printed, &printed)?);

@@ -8,7 +8,7 @@ use crate::text::add_count;
 use i9_isa::NoMemory;
 use std::alloc::{AllocError, Global};
 
-/// The boot record, the PRCB, the control table and the vectors of the eight pins.
+/// The boot record, the PRCB, the control table and the handlers of the eight pins.
 const TABLES: &str = ".org 0xFFFFFF10
 .word 0x1000, 0x800
 .org 0x800
