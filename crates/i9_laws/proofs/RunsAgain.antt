@@ -149,13 +149,16 @@ bytes_none (Dma c) s = refl
 bytes_none (Feed c bytes) s = refl
 bytes_none (Show a n) s = refl
 
+journal_reached : (e : Event) (s : State) → events_of (Journal s.count e ∷ bytes_lines e s) ≡ timed_at s.count e ∷ []
+journal_reached e s = ap (λ (ts : List Timed). events_of (Journal s.count e ∷ []) ++ ts) (bytes_none e s)
+
 event_reached : (k : Kind) (s : State) → events_of (event_lines k s) ≡ reached_by k s
 event_reached (Instruction i) s = refl
 event_reached (Faulted inst fault) s = refl
 event_reached (Entered e) s = refl
 event_reached (Interrupted c e) s = refl
-event_reached (Reached e u) s = ap (λ (ts : List Timed). events_of (Journal s.count e ∷ []) ++ ts) (bytes_none e s)
-event_reached (Blocked e a) s = refl
+event_reached (Reached e u) s = journal_reached e s
+event_reached (Blocked e a) s = journal_reached e s
 
 -- those of a record are what it reached
 record_reached : (r : Record) → events_of (record_lines r) ≡ reached_by r.kind r.before
