@@ -177,7 +177,7 @@ fn ends_as_it_should(rt: HostRuntime) -> Result<(), Fail> {
         (&[0], &[(16, 3)], 100, End::Dead(1, 16), 1),
         (&[0], &[(16, 2), (20, 0x27E)], 100, End::Dead(2, 20), 1),
         (&[0], &[(16, 0x412), (20, 0x27F)], 100, End::Dead(3, 16), 1),
-        (&[0x5C10_2E01], &[], 100, End::Unbuilt(0x1000), 0),
+        (&[0x70A1_1D80], &[], 100, End::Unbuilt(0x1000), 0),
     ];
     for (program, words, length, end, count) in cases {
         let ended = end_of(rt.alloc(), program, words, length)?;
