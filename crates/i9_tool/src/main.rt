@@ -8,6 +8,8 @@ ghost use Rattle.std.specs.Vec.Iter.{into_iter_items};
 #[cfg(test)]
 mod asm_tests;
 #[cfg(test)]
+mod demo_tests;
+#[cfg(test)]
 mod dis_tests;
 #[cfg(test)]
 mod dma_tests;

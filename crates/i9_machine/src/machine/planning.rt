@@ -155,8 +155,6 @@ impl Machine {
     }
 
     /// The next instruction, or the end that stands in its place.
-    // This and what comes seldom are kept apart, so that LLVM moves no step and no effect piece by piece.
-    #[inline(never)]
     fn next_instruction(&self, plan: &Schedule, effect: &mut Effect) -> Result<Step, End>
         requires below { (state_of self.now.processor).count < self.now.length }
         requires free { self.now.due ≡ Due.Nothing }
@@ -178,7 +176,6 @@ impl Machine {
     }
 
     /// The entry of a fault, or the hazard or the dead entry of the fault table that ends the run.
-    #[inline(never)]
     fn entry(&self, fault: &Fault, plan: &Schedule, effect: &mut Effect) -> Result<Step, End>
         requires { self.now.due ≡ Due.Entry fault.now }
         ensures { IsNext self.now plan.now result effect.new }
@@ -194,7 +191,6 @@ impl Machine {
     }
 
     /// The entry of an interrupt that is chosen, or the hazard that ends the run.
-    #[inline(never)]
     fn interrupt(&self, choice: &Chosen, plan: &Schedule, effect: &mut Effect) -> Result<Step, End>
         requires below { (state_of self.now.processor).count < self.now.length }
         requires free { self.now.due ≡ Due.Nothing }
@@ -211,7 +207,6 @@ impl Machine {
     }
 
     /// An event is reached: it does something, or it meets a hazard, which ends the run.
-    #[inline(never)]
     fn reaches(&self, event: &Event, plan: &Schedule, effect: &mut Effect) -> Step
         requires below { (state_of self.now.processor).count < self.now.length }
         requires free { self.now.due ≡ Due.Nothing }
