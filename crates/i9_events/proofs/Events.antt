@@ -1,6 +1,6 @@
 -- The events of an instruction and the breakpoints that match, as bits of one word.
-use Rattle.std.proofs.Common.{◌≡◌, ℕ, ◌+◌, ◌*◌, ◌%◌, ◌^◌, ◌<◌, Bool, true, false, cond, ◌&&◌, ◌||◌, List, [], ◌∷◌, ◌++◌, Option, Some, None, refl, sym, ap, ◌∙◌, subst, arith, lit<, inl, inr, bit_and, bit_or}
-use Rattle.std.specs.Prelude.{not, ◌==◌, ◌⊎◌, map, filter, fold}
+use Rattle.std.proofs.Common.{◌≡◌, ℕ, ◌+◌, ◌*◌, ◌%◌, ◌^◌, ◌<◌, Bool, true, false, cond, ◌&&◌, ◌||◌, List, [], ◌∷◌, ◌++◌, Option, Some, None, refl, sym, ap, ◌∙◌, subst, arith, lit<, inl, inr, bit_and, bit_or, eqb-true}
+use Rattle.std.specs.Prelude.{not, ◌==◌, ◌⊎◌, ◌↔◌, IfSome, map, filter, fold}
 use Rattle.std.specs.List.{list_any}
 use Rattle.std.specs.Int.Bits.{or_zero_l}
 use Rattle.std.proofs.lemmas.Bool.Decides.{nat_tests}
@@ -14,7 +14,7 @@ use Rattle.i9_model.specs.declared.setup.Breaks.{Breaks}
 use Rattle.i9_model.specs.Requests.{with_bit}
 use Rattle.i9_events.specs.declared.raised.Seen.{Seen}
 use Rattle.i9_events.specs.declared.raised.Trace.{Trace}
-use Rattle.i9_events.specs.Tracing.{with_bits, Breakpoint, Ipb0, Ipb1, Dab0, Dab1, breakpoints, break_flag_of, matches, breaks, break_flags, branches, is_call, is_return, is_mark, is_fmark, TraceEvent, Instruction, Branch, Call, Return, Prereturn, Supervisor, Mark, trace_events, mode_of, flag_of, has_mode, comes_with, always_counts, counts, came, always_counted, counted, event_flags, is_raised, trace_made, trace_of, IsUntraced, GainsFlags}
+use Rattle.i9_events.specs.Tracing.{with_bits, Breakpoint, Ipb0, Ipb1, Dab0, Dab1, breakpoints, break_flag_of, matches, breaks, break_flags, branches, is_call, is_return, is_mark, is_fmark, TraceEvent, Instruction, Branch, Call, Return, Prereturn, Supervisor, Mark, trace_events, mode_of, flag_of, has_mode, comes_with, always_counts, counts, came, always_counted, counted, event_flags, is_raised, trace_made, trace_of, IsUntraced, is_flag, GainsFlags}
 use Rattle.i9_events.proofs.Masks.{bit_if, mask, next, mask_and, mask_or, mask_below, mask_none, mask_up, with_after}
 use Rattle.i9_events.proofs.Flags.{gains, gains_both}
 
@@ -107,3 +107,125 @@ module _ (tc : ℕ) (op : Op) (s : Seen) (matched : Bool) where
       let small = mask_below mode_of shows 8 below_eight trace_events in
       let whole : shown * 65536 % 4294967296 ≡ shown * 65536 = omega (arith, small) in
       whole ∙ mask_up mode_of 16 shows trace_events
+
+-- ---- the fault
+
+module _ (tc pc : ℕ) (i : Inst) (s : Seen) (b : Breaks) where
+  -- a breakpoint matches where a flag is set
+  pub breaks_is : (x : ℕ) → x ≡ with_bits 0 (break_flags s b) → not (x == 0) ≡ breaks s b
+  unfolding breaks break_flags
+  breaks_is x is = ap (λ (w : ℕ). not (w == 0)) is ∙ ap not (mask_none break_flag_of (matches s b) breakpoints) ∙ twice (breaks s b)
+    where
+      twice : (v : Bool) → not (not v) ≡ v
+      twice true = refl
+      twice false = refl
+
+  -- the modes of the events that count, from the three words that the code makes
+  pub modes_are : (x y z : ℕ) → x ≡ with_bits 0 (break_flags s b) → y ≡ with_bits 0 (came i.op s (not (x == 0))) → z ≡ with_bits 0 (always_counted i.op (not (x == 0)))
+      → bit_or (bit_and y tc) z ≡ with_bits 0 (counted tc i.op s (breaks s b))
+  modes_are x y z flags events always =
+      let matched = breaks_is x flags in
+      let first = events ∙ ap (λ (v : Bool). with_bits 0 (came i.op s v)) matched in
+      let second = always ∙ ap (λ (v : Bool). with_bits 0 (always_counted i.op v)) matched in
+      counted_is tc i.op s (breaks s b) (bit_and y tc) z (shown_is tc i.op s (breaks s b) y first) second
+
+  -- the flags of the events whose mode is set
+  pub flags_of_modes : (x y : ℕ) → x ≡ with_bits 0 (break_flags s b) → y ≡ with_bits 0 (came i.op s (not (x == 0)))
+      → bit_and y tc * 65536 % 4294967296 ≡ with_bits 0 (event_flags tc i.op s (breaks s b))
+  flags_of_modes x y flags events =
+      let first = events ∙ ap (λ (v : Bool). with_bits 0 (came i.op s v)) (breaks_is x flags) in
+      ap (λ (w : ℕ). w * 65536 % 4294967296) (shown_is tc i.op s (breaks s b) y first) ∙ flags_are tc i.op s (breaks s b)
+
+  pub raised_is : (n : ℕ) → n ≡ with_bits 0 (counted tc i.op s (breaks s b)) → (n == 0) ≡ not (is_raised tc i s b)
+  raised_is n is = ap (λ (w : ℕ). w == 0) is ∙ counted_none tc i.op s (breaks s b)
+
+  -- where trace enable is clear, or no event counts
+  pub not_enabled : bit pc TRACE_ENABLE_PLACE ≡ false → None ≡ trace_of tc pc i s b
+  unfolding trace_of
+  not_enabled off = ap (λ (v : Bool). cond (v && is_raised tc i s b) (Some (trace_made tc i s b)) None) (sym off)
+
+  no_event : is_raised tc i s b ≡ false → None ≡ trace_of tc pc i s b
+  unfolding trace_of
+  no_event none = by (bit pc TRACE_ENABLE_PLACE) (is_raised tc i s b) none
+    where
+      by : (on any : Bool) → any ≡ false → None ≡ cond (on && any) (Some (trace_made tc i s b)) None
+      by true any h = ap (λ (v : Bool). cond v (Some (trace_made tc i s b)) None) (sym h)
+      by false any h = refl
+
+  pub not_raised : (n : ℕ) → n ≡ with_bits 0 (counted tc i.op s (breaks s b)) → n ≡ 0 → None ≡ trace_of tc pc i s b
+  not_raised n is zero = no_event (by (is_raised tc i s b) (ap (λ (m : ℕ). m == 0) (sym zero) ∙ raised_is n is))
+    where
+      by : (v : Bool) → true ≡ not v → v ≡ false
+      by true h = cc
+      by false h = refl
+
+  -- the controls are made from the flags one after the other
+  pub made_is : (flags others subtype : ℕ) → flags ≡ with_bits 0 (event_flags tc i.op s (breaks s b)) → others ≡ with_bits 0 (break_flags s b) → subtype ≡ with_bits 0 (counted tc i.op s (breaks s b))
+      → (let made : Trace = record { tc = bit_or (bit_or tc flags) others; subtype = subtype } in made) ≡ trace_made tc i s b
+  unfolding trace_made
+  made_is flags others subtype events breakpoints modes =
+      let first = event_flags tc i.op s (breaks s b) in
+      let second = break_flags s b in
+      let all : bit_or (bit_or tc flags) others ≡ with_bits tc (first ++ second) =
+      ap (λ (w : ℕ). bit_or w others) (ap (bit_or tc) events ∙ sym (with_after tc first))
+      ∙ ap (bit_or (with_bits tc first)) breakpoints ∙ sym (with_after (with_bits tc first) second)
+      ∙ sym (fold-append with_bit tc first second) in
+      λ k. record { tc = all k; subtype = modes k }
+
+  pub raised_made : (t : Trace) (n : ℕ) → bit pc TRACE_ENABLE_PLACE ≡ true → n ≡ with_bits 0 (counted tc i.op s (breaks s b)) → (n ≡ 0 → ⊥) → t ≡ trace_made tc i s b
+      → Some t ≡ trace_of tc pc i s b
+  unfolding trace_of
+  raised_made t n on count some is =
+      let any = by (is_raised tc i s b) n (raised_is n count) some in
+      ap (λ (u : Trace). Some u) is
+      ∙ ap (λ (v : Bool). cond v (Some (trace_made tc i s b)) None) (sym (ap (λ (v : Bool). v && is_raised tc i s b) on ∙ any))
+    where
+      by : (v : Bool) (m : ℕ) → (m == 0) ≡ not v → (m ≡ 0 → ⊥) → v ≡ true
+      by true m h some = refl
+      by false m h some = absurd (some (eqb-true m 0 h))
+
+  -- ---- what follows
+
+  flags_of_events : (e : TraceEvent) → is_flag (flag_of e) ≡ true
+  flags_of_events Instruction = refl
+  flags_of_events _ = refl
+
+  flags_of_breakpoints : (k : Breakpoint) → is_flag (break_flag_of k) ≡ true
+  flags_of_breakpoints Ipb0 = refl
+  flags_of_breakpoints _ = refl
+
+  made_gains : GainsFlags tc (trace_made tc i s b).tc
+  unfolding trace_made event_flags break_flags
+  made_gains =
+      let first = event_flags tc i.op s (breaks s b) in
+      let second = break_flags s b in
+      let old = with_bits tc first in
+      let both = gains_both tc old (with_bits old second) (gains flag_of flags_of_events (shows tc i.op s (breaks s b)) tc trace_events) (gains break_flag_of flags_of_breakpoints (matches s b) old breakpoints) in
+      subst (GainsFlags tc) (sym (fold-append with_bit tc first second)) both
+
+  pub trace_gains : (t : Option Trace) → t ≡ trace_of tc pc i s b → IfSome t (λ u. GainsFlags tc u.tc)
+  unfolding trace_of
+  trace_gains t is = subst (λ (u : Option Trace). IfSome u (λ v. GainsFlags tc v.tc)) (sym is) (by (bit pc TRACE_ENABLE_PLACE && is_raised tc i s b))
+    where
+      by : (v : Bool) → IfSome (cond v (Some (trace_made tc i s b)) None) (λ u. GainsFlags tc u.tc)
+      by true = made_gains
+      by false = tt
+
+  each_none : (p : TraceEvent → Bool) → list_any p trace_events ≡ false → (e : TraceEvent) → p e ≡ false
+  each_none p h Instruction = grind (arith, h)
+  each_none p h _ = grind (arith, h)
+
+  all_none : (p : TraceEvent → Bool) → ((e : TraceEvent) → p e ≡ false) → list_any p trace_events ≡ false
+  all_none p none = rw (none Instruction, none Branch, none Call, none Return, none Prereturn, none Supervisor, none Mark) refl
+
+  pub trace_none : (t : Option Trace) → t ≡ trace_of tc pc i s b → (t ≡ None) ↔ IsUntraced tc pc i s b
+  unfolding trace_of
+  trace_none t is = by (bit pc TRACE_ENABLE_PLACE) (is_raised tc i s b) refl refl is
+    where
+      by : (on any : Bool) → bit pc TRACE_ENABLE_PLACE ≡ on → is_raised tc i s b ≡ any → t ≡ cond (on && any) (Some (trace_made tc i s b)) None → (t ≡ None) ↔ IsUntraced tc pc i s b
+      by false any off raised is = (λ _. inl off, λ _. is)
+      by true false on raised is = (λ _. inr (each_none (counts tc i.op s (breaks s b)) raised), λ _. is)
+      by true true on raised is = (λ none. absurd cc, λ untraced. elim untraced [
+        | inl off ↦ absurd cc
+        | inr none ↦ absurd (let p = all_none (counts tc i.op s (breaks s b)) none in cc)
+      ])

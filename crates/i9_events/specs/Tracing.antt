@@ -55,7 +55,7 @@ matches s b Dab0 = bit b.bpcon DAB0_ENABLE_PLACE && is_at_access (slice_index b.
 matches s b Dab1 = bit b.bpcon DAB1_ENABLE_PLACE && is_at_access (slice_index b.dab 1) s.access
 
 -- one of them matches
-abbrev pub breaks : Seen → Breaks → Bool
+unfoldable pub breaks : Seen → Breaks → Bool
 breaks s b = list_any (matches s b) breakpoints
 
 -- the flags of those that match
@@ -173,7 +173,7 @@ trace_made tc i s b = record {
 }
 
 -- there is a trace fault where trace enable is set and an event counts
-abbrev pub trace_of : ℕ → ℕ → Inst → Seen → Breaks → Option Trace
+unfoldable pub trace_of : ℕ → ℕ → Inst → Seen → Breaks → Option Trace
 trace_of tc pc i s b = if bit pc TRACE_ENABLE_PLACE && is_raised tc i s b then Some (trace_made tc i s b) else None
 
 -- ---- what follows
