@@ -1,9 +1,8 @@
 -- The events of an instruction and the breakpoints that match, as bits of one word.
-use Rattle.std.proofs.Common.{◌≡◌, ℕ, ◌+◌, ◌*◌, ◌%◌, ◌^◌, ◌<◌, Bool, true, false, cond, ◌&&◌, ◌||◌, List, [], ◌∷◌, ◌++◌, Option, Some, None, refl, sym, ap, ◌∙◌, subst, arith, lit<, inl, inr, bit_and, bit_or, eqb-true}
-use Rattle.std.specs.Prelude.{not, ◌==◌, ◌⊎◌, ◌↔◌, IfSome, map, filter, fold}
+use Rattle.std.proofs.Common.{◌≡◌, ℕ, ◌*◌, ◌%◌, ◌<◌, Bool, true, false, cond, ◌&&◌, ◌||◌, List, [], ◌∷◌, ◌++◌, Option, Some, None, refl, sym, ap, ◌∙◌, subst, arith, lit<, inl, inr, bit_and, bit_or, eqb-true}
+use Rattle.std.specs.Prelude.{not, ◌==◌, ◌↔◌, IfSome, map, filter}
 use Rattle.std.specs.List.{list_any}
 use Rattle.std.specs.Int.Bits.{or_zero_l}
-use Rattle.std.proofs.lemmas.Bool.Decides.{nat_tests}
 use Rattle.std.proofs.lemmas.Grind.{fold-append}
 use Rattle.std.proofs.lemmas.List.Elements.{filter_agree}
 use Rattle.i9_isa.specs.declared.op.Op.{Op}
@@ -14,7 +13,8 @@ use Rattle.i9_model.specs.declared.setup.Breaks.{Breaks}
 use Rattle.i9_model.specs.Requests.{with_bit}
 use Rattle.i9_events.specs.declared.raised.Seen.{Seen}
 use Rattle.i9_events.specs.declared.raised.Trace.{Trace}
-use Rattle.i9_events.specs.Tracing.{with_bits, Breakpoint, Ipb0, Ipb1, Dab0, Dab1, breakpoints, break_flag_of, matches, breaks, break_flags, branches, is_call, is_return, is_mark, is_fmark, TraceEvent, Instruction, Branch, Call, Return, Prereturn, Supervisor, Mark, trace_events, mode_of, flag_of, has_mode, comes_with, always_counts, counts, came, always_counted, counted, event_flags, is_raised, trace_made, trace_of, IsUntraced, is_flag, GainsFlags}
+use Rattle.i9_events.specs.Tracing.{with_bits, Breakpoint, Ipb0, Ipb1, Dab0, Dab1, breakpoints, break_flag_of, matches, breaks, break_flags, is_mark, is_fmark, TraceEvent, Instruction, Branch, Call, Return, Prereturn, Supervisor, Mark, trace_events, mode_of, flag_of, has_mode, comes_with, always_counts, counts, counted, event_flags, is_raised, trace_made, trace_of, IsUntraced, is_flag, GainsFlags}
+use Rattle.i9_events.specs.Parts.{came, always_counted}
 use Rattle.i9_events.proofs.Masks.{bit_if, mask, next, mask_and, mask_or, mask_below, mask_none, mask_up, with_after}
 use Rattle.i9_events.proofs.Flags.{gains, gains_both}
 
@@ -225,7 +225,10 @@ module _ (tc pc : ℕ) (i : Inst) (s : Seen) (b : Breaks) where
       by : (on any : Bool) → bit pc TRACE_ENABLE_PLACE ≡ on → is_raised tc i s b ≡ any → t ≡ cond (on && any) (Some (trace_made tc i s b)) None → (t ≡ None) ↔ IsUntraced tc pc i s b
       by false any off raised is = (λ _. inl off, λ _. is)
       by true false on raised is = (λ _. inr (each_none (counts tc i.op s (breaks s b)) raised), λ _. is)
-      by true true on raised is = (λ none. absurd cc, λ untraced. elim untraced [
-        | inl off ↦ absurd cc
-        | inr none ↦ absurd (let p = all_none (counts tc i.op s (breaks s b)) none in cc)
-      ])
+      by true true on raised is = (
+        λ none. absurd cc,
+        λ untraced. elim untraced [
+          | inl off ↦ absurd cc
+          | inr none ↦ absurd (let p = all_none (counts tc i.op s (breaks s b)) none in cc)
+        ],
+      )

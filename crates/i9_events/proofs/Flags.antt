@@ -1,5 +1,5 @@
 -- Flags that are set change no other bit.
-use Rattle.std.proofs.Common.{◌≡◌, ℕ, ◌^◌, ◌≤◌, Bool, true, false, cond, List, [], ◌∷◌, ◌++◌, max, refl, sym, ap, ◌∙◌, subst, arith, inl, inr, bit_or}
+use Rattle.std.proofs.Common.{◌≡◌, ℕ, ◌^◌, Bool, true, false, cond, List, [], ◌∷◌, max, refl, ap, ◌∙◌, arith, bit_or}
 use Rattle.std.specs.Prelude.{◌==◌, ◌≢◌, map, filter}
 use Rattle.std.specs.Int.{bit_at}
 use Rattle.std.proofs.lemmas.Bool.Decides.{nat_tests}

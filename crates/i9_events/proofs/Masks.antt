@@ -1,6 +1,6 @@
 -- Words with the bits of the members of a list that pass a test.
-use Rattle.std.proofs.Common.{◌≡◌, ℕ, zero, suc, ◌+◌, ◌*◌, ◌^◌, ◌<◌, ◌≤◌, Bool, true, false, cond, ◌&&◌, ◌||◌, List, [], ◌∷◌, ◌++◌, min, max, refl, sym, ap, ◌∙◌, subst, arith, bit_and, bit_or, add-zero, zero-mul, one-mul}
-use Rattle.std.specs.Prelude.{not, ◌==◌, map, filter, fold}
+use Rattle.std.proofs.Common.{◌≡◌, ℕ, zero, suc, ◌+◌, ◌*◌, ◌^◌, ◌<◌, Bool, true, false, cond, ◌&&◌, ◌||◌, List, [], ◌∷◌, refl, sym, ap, ◌∙◌, subst, arith, bit_and, bit_or, add-zero, zero-mul, one-mul}
+use Rattle.std.specs.Prelude.{not, ◌==◌, map, filter}
 use Rattle.std.specs.List.{list_any}
 use Rattle.std.specs.Int.{bit_at}
 use Rattle.std.specs.Int.Bits.{or_zero_l, or_zero_r}

@@ -9,7 +9,7 @@ use Rattle.i9_model.specs.declared.layout.TheConstants.{TRACE_ENABLE_PLACE}
 use Rattle.i9_model.specs.declared.setup.Breaks.{Breaks}
 use Rattle.i9_model.specs.Requests.{with_bit}
 use Rattle.i9_model.specs.Writes.{aligned}
-use Rattle.i9_events.specs.declared.places.TheConstants.{INSTRUCTION_TRACE_PLACE, BRANCH_TRACE_PLACE, CALL_TRACE_PLACE, RETURN_TRACE_PLACE, PRERETURN_TRACE_PLACE, SUPERVISOR_TRACE_PLACE, MARK_TRACE_PLACE, FLAG_DISTANCE, FIRST_FLAG_PLACE, IPB0_FLAG_PLACE, IPB1_FLAG_PLACE, DAB0_FLAG_PLACE, DAB1_FLAG_PLACE, IPB_ENABLE_PLACE, DAB0_ENABLE_PLACE, DAB1_ENABLE_PLACE}
+use Rattle.i9_events.specs.declared.places.TheConstants.{INSTRUCTION_TRACE_PLACE, BRANCH_TRACE_PLACE, CALL_TRACE_PLACE, RETURN_TRACE_PLACE, PRERETURN_TRACE_PLACE, SUPERVISOR_TRACE_PLACE, MARK_TRACE_PLACE, FLAG_DISTANCE, IPB0_FLAG_PLACE, IPB1_FLAG_PLACE, DAB0_FLAG_PLACE, DAB1_FLAG_PLACE, IPB_ENABLE_PLACE, DAB0_ENABLE_PLACE, DAB1_ENABLE_PLACE}
 use Rattle.i9_events.specs.declared.raised.Seen.{Seen}
 use Rattle.i9_events.specs.declared.raised.Trace.{Trace}
 
@@ -143,15 +143,7 @@ always_counts op matched _ = false
 abbrev pub counts : ℕ → Op → Seen → Bool → TraceEvent → Bool
 counts tc op s matched e = comes_with op s matched e && (has_mode tc e || always_counts op matched e)
 
--- the modes of the events that come with an instruction
-unfoldable pub came : Op → Seen → Bool → List ℕ
-came op s matched = map mode_of (filter (comes_with op s matched) trace_events)
-
--- the modes of those that count always
-unfoldable pub always_counted : Op → Bool → List ℕ
-always_counted op matched = map mode_of (filter (always_counts op matched) trace_events)
-
--- the modes of those that count
+-- the modes of the events that count
 unfoldable pub counted : ℕ → Op → Seen → Bool → List ℕ
 counted tc op s matched = map mode_of (filter (counts tc op s matched) trace_events)
 
@@ -182,9 +174,9 @@ trace_of tc pc i s b = if bit pc TRACE_ENABLE_PLACE && is_raised tc i s b then S
 abbrev pub IsUntraced : ℕ → ℕ → Inst → Seen → Breaks → Type 0
 IsUntraced tc pc i s b = (bit pc TRACE_ENABLE_PLACE ≡ false) ⊎ ((e : TraceEvent) → counts tc i.op s (breaks s b) e ≡ false)
 
--- bit k of the trace controls is a flag
+-- bit k of the trace controls is a flag: they go from that of the instruction event to that of the last breakpoint
 abbrev pub is_flag : ℕ → Bool
-is_flag k = nat_le FIRST_FLAG_PLACE k && nat_le k DAB1_FLAG_PLACE
+is_flag k = nat_le (flag_of Instruction) k && nat_le k (break_flag_of Dab1)
 
 -- the bits that were set stay, and those that are new are flags
 pub record GainsFlags (old new : ℕ) : Type 0 where

@@ -25,9 +25,6 @@ pub(crate) const MARK_TRACE_PLACE: u32 = 7;
 /// How far above the mode of an event its flag stands.
 pub(crate) const FLAG_DISTANCE: u32 = 16;
 
-/// The place of the first flag in the trace controls, that of the instruction event.
-pub(crate) const FIRST_FLAG_PLACE: u32 = 17;
-
 /// The place of the flag of the instruction breakpoint IPB0.
 pub(crate) const IPB0_FLAG_PLACE: u32 = 24;
 
@@ -37,7 +34,7 @@ pub(crate) const IPB1_FLAG_PLACE: u32 = 25;
 /// The place of the flag of the data breakpoint DAB0.
 pub(crate) const DAB0_FLAG_PLACE: u32 = 26;
 
-/// The place of the flag of the data breakpoint DAB1, the last flag.
+/// The place of the flag of the data breakpoint DAB1.
 pub(crate) const DAB1_FLAG_PLACE: u32 = 27;
 
 /// The place in the word of an instruction breakpoint of the bit that enables it.

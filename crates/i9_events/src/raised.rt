@@ -1,6 +1,7 @@
 //! The trace fault of an instruction, and the flags that its events set.
 ghost use Rattle.std.specs.Prelude.{◌≡◌, ◌↔◌, IfSome, None};
-ghost use Rattle.i9_events.specs.Tracing.{with_bits, came, always_counted, trace_of, IsUntraced, GainsFlags};
+ghost use Rattle.i9_events.specs.Tracing.{with_bits, trace_of, IsUntraced, GainsFlags};
+ghost use Rattle.i9_events.specs.Parts.{came, always_counted};
 
 use crate::bits::{bit_where, has_bit};
 use crate::breakpoints::break_flags;
@@ -65,15 +66,15 @@ pub fn event(tc: u32, pc: u32, i: &Inst, s: &Seen, b: &Breaks) -> Option<Trace>
     if !has_bit(pc, TRACE_ENABLE_PLACE) {
         return None;
     }
-    let breaks = break_flags(s, b);
-    let matched = breaks != 0;
-    let set = came(i.op, s, matched) & tc;
-    let counted = set | always_counted(i.op, matched);
+    let breakpoints = break_flags(s, b);
+    let matched = breakpoints != 0;
+    let events = came(i.op, s, matched) & tc;
+    let counted = events | always_counted(i.op, matched);
     if counted == 0 {
         return None;
     }
     Some(Trace {
-        tc: tc | set << FLAG_DISTANCE | breaks,
+        tc: tc | events << FLAG_DISTANCE | breakpoints,
         subtype: counted as u16,
     })
 }

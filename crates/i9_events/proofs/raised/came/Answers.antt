@@ -1,5 +1,6 @@
 use Rattle.std.proofs.Common.{◌≡◌, Bool, ap, ◌∙◌, refl, bit_or}
-use Rattle.i9_events.specs.Tracing.{came, comes_with, Branch, Call, Return, Prereturn, Supervisor, Mark}
+use Rattle.i9_events.specs.Tracing.{comes_with, Branch, Call, Return, Prereturn, Supervisor, Mark}
+use Rattle.i9_events.specs.Parts.{came}
 use Rattle.i9_events.proofs.Masks.{bit_if}
 use Rattle.i9_events.proofs.Events.{seven}
 use Rattle.i9_events.proofs.raised.came.Goals as goal

@@ -12,7 +12,7 @@ returns-then-counted-eq0-clause-trace c =
     let i = c.args.i.now in
     let s = c.args.s.now in
     let b = c.args.b.now in
-    not_raised c.args.tc c.args.pc i s b _ (modes_are c.args.tc c.args.pc i s b _ _ _ c.break_flags-breaks.ensures c.came.ensures c.always_counted.ensures) c.if-counted-eq0.true
+    not_raised c.args.tc c.args.pc i s b _ (modes_are c.args.tc c.args.pc i s b _ _ _ c.break_flags-breakpoints.ensures c.came.ensures c.always_counted.ensures) c.if-counted-eq0.true
 
 pub returns-then-counted-eq0-clause-none : goal.returns-then-counted-eq0-clause-none
 returns-then-counted-eq0-clause-none c =
@@ -23,7 +23,7 @@ overflow_cast-result c =
     let i = c.args.i.now in
     let s = c.args.s.now in
     let b = c.args.b.now in
-    let modes = modes_are c.args.tc c.args.pc i s b c.break_flags-breaks.result c.came.result c.always_counted.result c.break_flags-breaks.ensures c.came.ensures c.always_counted.ensures in
+    let modes = modes_are c.args.tc c.args.pc i s b c.break_flags-breakpoints.result c.came.result c.always_counted.result c.break_flags-breakpoints.ensures c.came.ensures c.always_counted.ensures in
     let small = counted_small c.args.tc i.op s (breaks s b) in
     omega (arith, modes, small)
 
@@ -32,9 +32,9 @@ returns-clause-trace c =
     let i = c.args.i.now in
     let s = c.args.s.now in
     let b = c.args.b.now in
-    let modes = modes_are c.args.tc c.args.pc i s b c.break_flags-breaks.result c.came.result c.always_counted.result c.break_flags-breaks.ensures c.came.ensures c.always_counted.ensures in
-    let flags = flags_of_modes c.args.tc c.args.pc i s b c.break_flags-breaks.result c.came.result c.break_flags-breaks.ensures c.came.ensures in
-    raised_made c.args.tc c.args.pc i s b _ _ (sym c.if-not-has_bit.ensures) modes c.if-counted-eq0.false (made_is c.args.tc c.args.pc i s b _ _ _ flags c.break_flags-breaks.ensures modes)
+    let modes = modes_are c.args.tc c.args.pc i s b c.break_flags-breakpoints.result c.came.result c.always_counted.result c.break_flags-breakpoints.ensures c.came.ensures c.always_counted.ensures in
+    let flags = flags_of_modes c.args.tc c.args.pc i s b c.break_flags-breakpoints.result c.came.result c.break_flags-breakpoints.ensures c.came.ensures in
+    raised_made c.args.tc c.args.pc i s b _ _ (sym c.if-not-has_bit.ensures) modes c.if-counted-eq0.false (made_is c.args.tc c.args.pc i s b _ _ _ flags c.break_flags-breakpoints.ensures modes)
 
 pub returns-clause-none : goal.returns-clause-none
 returns-clause-none c = trace_none c.args.tc c.args.pc c.args.i.now c.args.s.now c.args.b.now _ (returns-clause-trace c)
