@@ -13,8 +13,8 @@ use Rattle.i9_model.specs.declared.setup.Breaks.{Breaks}
 use Rattle.i9_model.specs.Requests.{with_bit}
 use Rattle.i9_events.specs.declared.raised.Seen.{Seen}
 use Rattle.i9_events.specs.declared.raised.Trace.{Trace}
-use Rattle.i9_events.specs.Tracing.{with_bits, Breakpoint, Ipb0, Ipb1, Dab0, Dab1, breakpoints, break_flag_of, matches, breaks, break_flags, is_mark, is_fmark, TraceEvent, Instruction, Branch, Call, Return, Prereturn, Supervisor, Mark, trace_events, mode_of, flag_of, has_mode, comes_with, always_counts, counts, counted, event_flags, is_raised, trace_made, trace_of, IsUntraced, is_flag, GainsFlags}
-use Rattle.i9_events.specs.Parts.{came, always_counted}
+use Rattle.i9_events.specs.Tracing.{with_bits, Breakpoint, Ipb0, Ipb1, Dab0, Dab1, breakpoints, break_flag_of, matches, has_match, break_flags, is_mark, is_fmark, TraceEvent, Instruction, Branch, Call, Return, Prereturn, Supervisor, Mark, trace_events, mode_of, flag_of, has_mode, comes_with, is_forced, counts, counting_modes, event_flags, is_raised, trace_made, trace_of, IsUntraced, is_flag, GainsFlags}
+use Rattle.i9_events.specs.Parts.{coming_modes, forced_modes}
 use Rattle.i9_events.proofs.Masks.{bit_if, mask, next, mask_and, mask_or, mask_below, mask_none, mask_up, with_after}
 use Rattle.i9_events.proofs.Flags.{gains, gains_both}
 
@@ -51,8 +51,8 @@ seven p always =
     ∙ ap (λ (b : Bool). with_bits (bit_or 0 (bit_if b 1)) (map mode_of (filter p (Branch ∷ Call ∷ Return ∷ Prereturn ∷ Supervisor ∷ Mark ∷ [])))) (sym always)
     ∙ next mode_of p 0 Instruction (Branch ∷ Call ∷ Return ∷ Prereturn ∷ Supervisor ∷ Mark ∷ [])
 
-pub mark_alone : (op : Op) (matched : Bool) → bit_if (is_fmark op || matched) 7 ≡ with_bits 0 (always_counted op matched)
-unfolding always_counted
+pub mark_alone : (op : Op) (matched : Bool) → bit_if (is_fmark op || matched) 7 ≡ with_bits 0 (forced_modes op matched)
+unfolding forced_modes
 mark_alone op matched = by (is_fmark op || matched)
   where
     by : (b : Bool) → bit_if b 7 ≡ with_bits 0 (map mode_of (cond b (Mark ∷ []) []))
@@ -67,8 +67,8 @@ module _ (tc : ℕ) (op : Op) (s : Seen) (matched : Bool) where
   abbrev pub shown : ℕ
   shown = mask mode_of shows trace_events
 
-  pub shown_is : (x : ℕ) → x ≡ with_bits 0 (came op s matched) → bit_and x tc ≡ shown
-  unfolding came
+  pub shown_is : (x : ℕ) → x ≡ with_bits 0 (coming_modes op s matched) → bit_and x tc ≡ shown
+  unfolding coming_modes
   shown_is x is = ap (λ (w : ℕ). bit_and w tc) is ∙ mask_and mode_of (comes_with op s matched) tc trace_events
 
   either : (m f b t : Bool) → (((m || f || b) && t) || (f || b)) ≡ ((m || f || b) && (t || (f || b)))
@@ -77,27 +77,27 @@ module _ (tc : ℕ) (op : Op) (s : Seen) (matched : Bool) where
   plain : (c t : Bool) → ((c && t) || false) ≡ (c && (t || false))
   plain c t = grind arith
 
-  same_counts : (e : TraceEvent) → (shows e || always_counts op matched e) ≡ counts tc op s matched e
+  same_counts : (e : TraceEvent) → (shows e || is_forced op matched e) ≡ counts tc op s matched e
   same_counts Mark = either (is_mark op) (is_fmark op) matched (has_mode tc Mark)
   same_counts e = plain (comes_with op s matched e) (has_mode tc e)
 
-  pub counted_is : (x y : ℕ) → x ≡ shown → y ≡ with_bits 0 (always_counted op matched) → bit_or x y ≡ with_bits 0 (counted tc op s matched)
-  unfolding always_counted counted
+  pub counted_is : (x y : ℕ) → x ≡ shown → y ≡ with_bits 0 (forced_modes op matched) → bit_or x y ≡ with_bits 0 (counting_modes tc op s matched)
+  unfolding forced_modes counting_modes
   counted_is x y first second =
       ap (λ (w : ℕ). bit_or w y) first ∙ ap (bit_or shown) second
-      ∙ mask_or mode_of shows (always_counts op matched) trace_events
-      ∙ ap (λ (es : List TraceEvent). with_bits 0 (map mode_of es)) (filter_agree (λ e. shows e || always_counts op matched e) (counts tc op s matched) same_counts trace_events)
+      ∙ mask_or mode_of shows (is_forced op matched) trace_events
+      ∙ ap (λ (es : List TraceEvent). with_bits 0 (map mode_of es)) (filter_agree (λ e. shows e || is_forced op matched e) (counts tc op s matched) same_counts trace_events)
 
   below_eight : (e : TraceEvent) → mode_of e < 8
   below_eight Instruction = lit< tt
   below_eight _ = lit< tt
 
-  pub counted_small : with_bits 0 (counted tc op s matched) < 256
-  unfolding counted
+  pub counted_small : with_bits 0 (counting_modes tc op s matched) < 256
+  unfolding counting_modes
   counted_small = mask_below mode_of (counts tc op s matched) 8 below_eight trace_events
 
-  pub counted_none : (with_bits 0 (counted tc op s matched) == 0) ≡ not (list_any (counts tc op s matched) trace_events)
-  unfolding counted
+  pub counted_none : (with_bits 0 (counting_modes tc op s matched) == 0) ≡ not (list_any (counts tc op s matched) trace_events)
+  unfolding counting_modes
   counted_none = mask_none mode_of (counts tc op s matched) trace_events
 
   -- flags stand above modes
@@ -112,32 +112,32 @@ module _ (tc : ℕ) (op : Op) (s : Seen) (matched : Bool) where
 
 module _ (tc pc : ℕ) (i : Inst) (s : Seen) (b : Breaks) where
   -- a breakpoint matches where a flag is set
-  pub breaks_is : (x : ℕ) → x ≡ with_bits 0 (break_flags s b) → not (x == 0) ≡ breaks s b
-  unfolding breaks break_flags
-  breaks_is x is = ap (λ (w : ℕ). not (w == 0)) is ∙ ap not (mask_none break_flag_of (matches s b) breakpoints) ∙ twice (breaks s b)
+  pub breaks_is : (x : ℕ) → x ≡ with_bits 0 (break_flags s b) → not (x == 0) ≡ has_match s b
+  unfolding has_match break_flags
+  breaks_is x is = ap (λ (w : ℕ). not (w == 0)) is ∙ ap not (mask_none break_flag_of (matches s b) breakpoints) ∙ twice (has_match s b)
     where
       twice : (v : Bool) → not (not v) ≡ v
       twice true = refl
       twice false = refl
 
   -- the modes of the events that count, from the three words that the code makes
-  pub modes_are : (x y z : ℕ) → x ≡ with_bits 0 (break_flags s b) → y ≡ with_bits 0 (came i.op s (not (x == 0))) → z ≡ with_bits 0 (always_counted i.op (not (x == 0)))
-      → bit_or (bit_and y tc) z ≡ with_bits 0 (counted tc i.op s (breaks s b))
+  pub modes_are : (x y z : ℕ) → x ≡ with_bits 0 (break_flags s b) → y ≡ with_bits 0 (coming_modes i.op s (not (x == 0))) → z ≡ with_bits 0 (forced_modes i.op (not (x == 0)))
+      → bit_or (bit_and y tc) z ≡ with_bits 0 (counting_modes tc i.op s (has_match s b))
   modes_are x y z flags events always =
       let matched = breaks_is x flags in
-      let first = events ∙ ap (λ (v : Bool). with_bits 0 (came i.op s v)) matched in
-      let second = always ∙ ap (λ (v : Bool). with_bits 0 (always_counted i.op v)) matched in
-      counted_is tc i.op s (breaks s b) (bit_and y tc) z (shown_is tc i.op s (breaks s b) y first) second
+      let first = events ∙ ap (λ (v : Bool). with_bits 0 (coming_modes i.op s v)) matched in
+      let second = always ∙ ap (λ (v : Bool). with_bits 0 (forced_modes i.op v)) matched in
+      counted_is tc i.op s (has_match s b) (bit_and y tc) z (shown_is tc i.op s (has_match s b) y first) second
 
   -- the flags of the events whose mode is set
-  pub flags_of_modes : (x y : ℕ) → x ≡ with_bits 0 (break_flags s b) → y ≡ with_bits 0 (came i.op s (not (x == 0)))
-      → bit_and y tc * 65536 % 4294967296 ≡ with_bits 0 (event_flags tc i.op s (breaks s b))
+  pub flags_of_modes : (x y : ℕ) → x ≡ with_bits 0 (break_flags s b) → y ≡ with_bits 0 (coming_modes i.op s (not (x == 0)))
+      → bit_and y tc * 65536 % 4294967296 ≡ with_bits 0 (event_flags tc i.op s (has_match s b))
   flags_of_modes x y flags events =
-      let first = events ∙ ap (λ (v : Bool). with_bits 0 (came i.op s v)) (breaks_is x flags) in
-      ap (λ (w : ℕ). w * 65536 % 4294967296) (shown_is tc i.op s (breaks s b) y first) ∙ flags_are tc i.op s (breaks s b)
+      let first = events ∙ ap (λ (v : Bool). with_bits 0 (coming_modes i.op s v)) (breaks_is x flags) in
+      ap (λ (w : ℕ). w * 65536 % 4294967296) (shown_is tc i.op s (has_match s b) y first) ∙ flags_are tc i.op s (has_match s b)
 
-  pub raised_is : (n : ℕ) → n ≡ with_bits 0 (counted tc i.op s (breaks s b)) → (n == 0) ≡ not (is_raised tc i s b)
-  raised_is n is = ap (λ (w : ℕ). w == 0) is ∙ counted_none tc i.op s (breaks s b)
+  pub raised_is : (n : ℕ) → n ≡ with_bits 0 (counting_modes tc i.op s (has_match s b)) → (n == 0) ≡ not (is_raised tc i s b)
+  raised_is n is = ap (λ (w : ℕ). w == 0) is ∙ counted_none tc i.op s (has_match s b)
 
   -- where trace enable is clear, or no event counts
   pub not_enabled : bit pc TRACE_ENABLE_PLACE ≡ false → None ≡ trace_of tc pc i s b
@@ -152,7 +152,7 @@ module _ (tc pc : ℕ) (i : Inst) (s : Seen) (b : Breaks) where
       by true any h = ap (λ (v : Bool). cond v (Some (trace_made tc i s b)) None) (sym h)
       by false any h = refl
 
-  pub not_raised : (n : ℕ) → n ≡ with_bits 0 (counted tc i.op s (breaks s b)) → n ≡ 0 → None ≡ trace_of tc pc i s b
+  pub not_raised : (n : ℕ) → n ≡ with_bits 0 (counting_modes tc i.op s (has_match s b)) → n ≡ 0 → None ≡ trace_of tc pc i s b
   not_raised n is zero = no_event (by (is_raised tc i s b) (ap (λ (m : ℕ). m == 0) (sym zero) ∙ raised_is n is))
     where
       by : (v : Bool) → true ≡ not v → v ≡ false
@@ -160,11 +160,11 @@ module _ (tc pc : ℕ) (i : Inst) (s : Seen) (b : Breaks) where
       by false h = refl
 
   -- the controls are made from the flags one after the other
-  pub made_is : (flags others subtype : ℕ) → flags ≡ with_bits 0 (event_flags tc i.op s (breaks s b)) → others ≡ with_bits 0 (break_flags s b) → subtype ≡ with_bits 0 (counted tc i.op s (breaks s b))
+  pub made_is : (flags others subtype : ℕ) → flags ≡ with_bits 0 (event_flags tc i.op s (has_match s b)) → others ≡ with_bits 0 (break_flags s b) → subtype ≡ with_bits 0 (counting_modes tc i.op s (has_match s b))
       → (let made : Trace = record { tc = bit_or (bit_or tc flags) others; subtype = subtype } in made) ≡ trace_made tc i s b
   unfolding trace_made
   made_is flags others subtype events breakpoints modes =
-      let first = event_flags tc i.op s (breaks s b) in
+      let first = event_flags tc i.op s (has_match s b) in
       let second = break_flags s b in
       let all : bit_or (bit_or tc flags) others ≡ with_bits tc (first ++ second) =
       ap (λ (w : ℕ). bit_or w others) (ap (bit_or tc) events ∙ sym (with_after tc first))
@@ -172,7 +172,7 @@ module _ (tc pc : ℕ) (i : Inst) (s : Seen) (b : Breaks) where
       ∙ sym (fold-append with_bit tc first second) in
       λ k. record { tc = all k; subtype = modes k }
 
-  pub raised_made : (t : Trace) (n : ℕ) → bit pc TRACE_ENABLE_PLACE ≡ true → n ≡ with_bits 0 (counted tc i.op s (breaks s b)) → (n ≡ 0 → ⊥) → t ≡ trace_made tc i s b
+  pub raised_made : (t : Trace) (n : ℕ) → bit pc TRACE_ENABLE_PLACE ≡ true → n ≡ with_bits 0 (counting_modes tc i.op s (has_match s b)) → (n ≡ 0 → ⊥) → t ≡ trace_made tc i s b
       → Some t ≡ trace_of tc pc i s b
   unfolding trace_of
   raised_made t n on count some is =
@@ -197,10 +197,10 @@ module _ (tc pc : ℕ) (i : Inst) (s : Seen) (b : Breaks) where
   made_gains : GainsFlags tc (trace_made tc i s b).tc
   unfolding trace_made event_flags break_flags
   made_gains =
-      let first = event_flags tc i.op s (breaks s b) in
+      let first = event_flags tc i.op s (has_match s b) in
       let second = break_flags s b in
       let old = with_bits tc first in
-      let both = gains_both tc old (with_bits old second) (gains flag_of flags_of_events (shows tc i.op s (breaks s b)) tc trace_events) (gains break_flag_of flags_of_breakpoints (matches s b) old breakpoints) in
+      let both = gains_both tc old (with_bits old second) (gains flag_of flags_of_events (shows tc i.op s (has_match s b)) tc trace_events) (gains break_flag_of flags_of_breakpoints (matches s b) old breakpoints) in
       subst (GainsFlags tc) (sym (fold-append with_bit tc first second)) both
 
   pub trace_gains : (t : Option Trace) → t ≡ trace_of tc pc i s b → IfSome t (λ u. GainsFlags tc u.tc)
@@ -224,11 +224,11 @@ module _ (tc pc : ℕ) (i : Inst) (s : Seen) (b : Breaks) where
     where
       by : (on any : Bool) → bit pc TRACE_ENABLE_PLACE ≡ on → is_raised tc i s b ≡ any → t ≡ cond (on && any) (Some (trace_made tc i s b)) None → (t ≡ None) ↔ IsUntraced tc pc i s b
       by false any off raised is = (λ _. inl off, λ _. is)
-      by true false on raised is = (λ _. inr (each_none (counts tc i.op s (breaks s b)) raised), λ _. is)
+      by true false on raised is = (λ _. inr (each_none (counts tc i.op s (has_match s b)) raised), λ _. is)
       by true true on raised is = (
         λ none. absurd cc,
         λ untraced. elim untraced [
           | inl off ↦ absurd cc
-          | inr none ↦ absurd (let p = all_none (counts tc i.op s (breaks s b)) none in cc)
+          | inr none ↦ absurd (let p = all_none (counts tc i.op s (has_match s b)) none in cc)
         ],
       )

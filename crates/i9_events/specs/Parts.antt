@@ -2,12 +2,12 @@
 use Rattle.std.specs.Prelude.{ℕ, Bool, List, map, filter}
 use Rattle.i9_isa.specs.declared.op.Op.{Op}
 use Rattle.i9_events.specs.declared.raised.Seen.{Seen}
-use Rattle.i9_events.specs.Tracing.{trace_events, mode_of, comes_with, always_counts}
+use Rattle.i9_events.specs.Tracing.{trace_events, mode_of, comes_with, is_forced}
 
 -- the modes of the events that come with an instruction
-unfoldable pub came : Op → Seen → Bool → List ℕ
-came op s matched = map mode_of (filter (comes_with op s matched) trace_events)
+unfoldable pub coming_modes : Op → Seen → Bool → List ℕ
+coming_modes op s matched = map mode_of (filter (comes_with op s matched) trace_events)
 
 -- the modes of those that count always
-unfoldable pub always_counted : Op → Bool → List ℕ
-always_counted op matched = map mode_of (filter (always_counts op matched) trace_events)
+unfoldable pub forced_modes : Op → Bool → List ℕ
+forced_modes op matched = map mode_of (filter (is_forced op matched) trace_events)

@@ -28,6 +28,7 @@ pub data Breakpoint : Type 0 where
   Dab0 : Breakpoint
   Dab1 : Breakpoint
 
+-- all four
 abbrev pub breakpoints : List Breakpoint
 breakpoints = Ipb0 ∷ Ipb1 ∷ Dab0 ∷ Dab1 ∷ []
 
@@ -55,8 +56,8 @@ matches s b Dab0 = bit b.bpcon DAB0_ENABLE_PLACE && is_at_access (slice_index b.
 matches s b Dab1 = bit b.bpcon DAB1_ENABLE_PLACE && is_at_access (slice_index b.dab 1) s.access
 
 -- one of them matches
-unfoldable pub breaks : Seen → Breaks → Bool
-breaks s b = list_any (matches s b) breakpoints
+unfoldable pub has_match : Seen → Breaks → Bool
+has_match s b = list_any (matches s b) breakpoints
 
 -- the flags of those that match
 unfoldable pub break_flags : Seen → Breaks → List ℕ
@@ -64,12 +65,13 @@ break_flags s b = map break_flag_of (filter (matches s b) breakpoints)
 
 -- ---- names
 
--- b and bx branch always; a conditional or a compare branch, which is what has a prediction, does where it is taken
+-- b and bx branch always; a conditional or a compare branch, which is a name with a prediction, does where it is taken
 abbrev pub branches : Op → Bool → Bool
 branches Op.B taken = true
 branches Op.Bx taken = true
 branches op taken = (row_of op).hint && taken
 
+-- calls, and the branches that link
 abbrev pub is_call : Op → Bool
 is_call Op.Bal = true
 is_call Op.Balx = true
@@ -78,20 +80,24 @@ is_call Op.Callx = true
 is_call Op.Calls = true
 is_call _ = false
 
+-- returns
 abbrev pub is_return : Op → Bool
 is_return Op.Ret = true
 is_return _ = false
 
+-- the mark of which the mode is asked
 abbrev pub is_mark : Op → Bool
 is_mark Op.Mark = true
 is_mark _ = false
 
+-- the mark of which it is not
 abbrev pub is_fmark : Op → Bool
 is_fmark Op.Fmark = true
 is_fmark _ = false
 
 -- ---- events
 
+-- what an instruction may be traced for
 pub data TraceEvent : Type 0 where
   Instruction : TraceEvent
   Branch : TraceEvent
@@ -123,8 +129,8 @@ flag_of e = mode_of e + FLAG_DISTANCE
 abbrev pub has_mode : ℕ → TraceEvent → Bool
 has_mode tc e = bit tc (mode_of e)
 
--- The event comes with an instruction of this name: the instruction event with each one, and the mark event also where
--- a breakpoint matches, as the third argument says.
+-- The event comes with an instruction: the instruction event with each one, and the mark event also where a breakpoint
+-- matches, as the third argument says.
 abbrev pub comes_with : Op → Seen → Bool → TraceEvent → Bool
 comes_with op s matched Instruction = true
 comes_with op s matched Branch = branches op s.taken
@@ -135,17 +141,17 @@ comes_with op s matched Supervisor = s.switched
 comes_with op s matched Mark = is_mark op || is_fmark op || matched
 
 -- the mark event of fmark and of a breakpoint counts whatever the modes are
-abbrev pub always_counts : Op → Bool → TraceEvent → Bool
-always_counts op matched Mark = is_fmark op || matched
-always_counts op matched _ = false
+abbrev pub is_forced : Op → Bool → TraceEvent → Bool
+is_forced op matched Mark = is_fmark op || matched
+is_forced op matched _ = false
 
 -- an event that comes counts where its mode is set
 abbrev pub counts : ℕ → Op → Seen → Bool → TraceEvent → Bool
-counts tc op s matched e = comes_with op s matched e && (has_mode tc e || always_counts op matched e)
+counts tc op s matched e = comes_with op s matched e && (has_mode tc e || is_forced op matched e)
 
 -- the modes of the events that count
-unfoldable pub counted : ℕ → Op → Seen → Bool → List ℕ
-counted tc op s matched = map mode_of (filter (counts tc op s matched) trace_events)
+unfoldable pub counting_modes : ℕ → Op → Seen → Bool → List ℕ
+counting_modes tc op s matched = map mode_of (filter (counts tc op s matched) trace_events)
 
 -- the flags of those that come and whose mode is set
 unfoldable pub event_flags : ℕ → Op → Seen → Bool → List ℕ
@@ -155,13 +161,13 @@ event_flags tc op s matched = map flag_of (filter (λ e. comes_with op s matched
 
 -- some event counts
 abbrev pub is_raised : ℕ → Inst → Seen → Breaks → Bool
-is_raised tc i s b = list_any (counts tc i.op s (breaks s b)) trace_events
+is_raised tc i s b = list_any (counts tc i.op s (has_match s b)) trace_events
 
 -- the trace controls afterwards, and the subtype
 unfoldable pub trace_made : ℕ → Inst → Seen → Breaks → Trace
 trace_made tc i s b = record {
-  tc = with_bits tc (event_flags tc i.op s (breaks s b) ++ break_flags s b);
-  subtype = with_bits 0 (counted tc i.op s (breaks s b));
+  tc = with_bits tc (event_flags tc i.op s (has_match s b) ++ break_flags s b);
+  subtype = with_bits 0 (counting_modes tc i.op s (has_match s b));
 }
 
 -- there is a trace fault where trace enable is set and an event counts
@@ -172,7 +178,7 @@ trace_of tc pc i s b = if bit pc TRACE_ENABLE_PLACE && is_raised tc i s b then S
 
 -- there is none where trace enable is clear, or where no event counts
 abbrev pub IsUntraced : ℕ → ℕ → Inst → Seen → Breaks → Type 0
-IsUntraced tc pc i s b = (bit pc TRACE_ENABLE_PLACE ≡ false) ⊎ ((e : TraceEvent) → counts tc i.op s (breaks s b) e ≡ false)
+IsUntraced tc pc i s b = (bit pc TRACE_ENABLE_PLACE ≡ false) ⊎ ((e : TraceEvent) → counts tc i.op s (has_match s b) e ≡ false)
 
 -- bit k of the trace controls is a flag: they go from that of the instruction event to that of the last breakpoint
 abbrev pub is_flag : ℕ → Bool

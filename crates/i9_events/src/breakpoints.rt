@@ -10,11 +10,14 @@ use crate::places::{
 use crate::raised::Seen;
 use i9_model::Breaks;
 
+/// The bytes of a word, of which every instruction address is a multiple.
+const WORD_SIZE: u32 = 4;
+
 /// Whether an instruction breakpoint is enabled and at the address of the instruction.
 fn is_at_address(ipb: u32, address: u32) -> bool
     ensures { result ≡ is_at_address ipb address }
 {
-    has_bit(ipb, IPB_ENABLE_PLACE) && ipb >> 2 == address >> 2
+    has_bit(ipb, IPB_ENABLE_PLACE) && ipb / WORD_SIZE == address / WORD_SIZE
 }
 
 /// Whether a data breakpoint is enabled and at the effective address.

@@ -1,7 +1,7 @@
 //! The trace fault of an instruction, and the flags that its events set.
 ghost use Rattle.std.specs.Prelude.{◌≡◌, ◌↔◌, IfSome, None};
 ghost use Rattle.i9_events.specs.Tracing.{with_bits, trace_of, IsUntraced, GainsFlags};
-ghost use Rattle.i9_events.specs.Parts.{came, always_counted};
+ghost use Rattle.i9_events.specs.Parts.{coming_modes, forced_modes};
 
 use crate::bits::{bit_where, has_bit};
 use crate::breakpoints::break_flags;
@@ -34,8 +34,8 @@ pub struct Seen {
 }
 
 /// The modes of the events that come with an instruction, `matched` where a breakpoint matches.
-fn came(op: Op, s: &Seen, matched: bool) -> u32
-    ensures { result ≡ with_bits 0 (came op s.now matched) }
+fn coming_modes(op: Op, s: &Seen, matched: bool) -> u32
+    ensures { result ≡ with_bits 0 (coming_modes op s.now matched) }
 {
     let returns = is_return(op);
     1 << INSTRUCTION_TRACE_PLACE
@@ -48,8 +48,8 @@ fn came(op: Op, s: &Seen, matched: bool) -> u32
 }
 
 /// The modes of the events that count whatever the modes are, as that of `fmark`.
-fn always_counted(op: Op, matched: bool) -> u32
-    ensures { result ≡ with_bits 0 (always_counted op matched) }
+fn forced_modes(op: Op, matched: bool) -> u32
+    ensures { result ≡ with_bits 0 (forced_modes op matched) }
 {
     bit_where(always_marks(op, matched), MARK_TRACE_PLACE)
 }
@@ -68,13 +68,13 @@ pub fn event(tc: u32, pc: u32, i: &Inst, s: &Seen, b: &Breaks) -> Option<Trace>
     }
     let breakpoints = break_flags(s, b);
     let matched = breakpoints != 0;
-    let events = came(i.op, s, matched) & tc;
-    let counted = events | always_counted(i.op, matched);
-    if counted == 0 {
+    let events = coming_modes(i.op, s, matched) & tc;
+    let counting = events | forced_modes(i.op, matched);
+    if counting == 0 {
         return None;
     }
     Some(Trace {
         tc: tc | events << FLAG_DISTANCE | breakpoints,
-        subtype: counted as u16,
+        subtype: counting as u16,
     })
 }

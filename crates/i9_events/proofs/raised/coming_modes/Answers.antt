@@ -1,12 +1,12 @@
 use Rattle.std.proofs.Common.{◌≡◌, Bool, ap, ◌∙◌, refl, bit_or}
 use Rattle.i9_events.specs.Tracing.{comes_with, Branch, Call, Return, Prereturn, Supervisor, Mark}
-use Rattle.i9_events.specs.Parts.{came}
+use Rattle.i9_events.specs.Parts.{coming_modes}
 use Rattle.i9_events.proofs.Masks.{bit_if}
 use Rattle.i9_events.proofs.Events.{seven}
-use Rattle.i9_events.proofs.raised.came.Goals as goal
+use Rattle.i9_events.proofs.raised.coming_modes.Goals as goal
 
 pub returns : goal.returns
-unfolding came
+unfolding coming_modes
 returns c =
     let p = comes_with c.args.op c.args.s.now c.args.matched in
     let branch : c.bit_where.result ≡ bit_if (p Branch) 2 = c.bit_where.ensures ∙ ap (λ (v : Bool). bit_if v 2) c.branches.ensures in
