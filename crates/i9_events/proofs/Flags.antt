@@ -1,0 +1,47 @@
+-- Flags that are set change no other bit.
+use Rattle.std.proofs.Common.{◌≡◌, ℕ, ◌^◌, Bool, true, false, cond, List, [], ◌∷◌, max, refl, ap, ◌∙◌, arith, bit_or}
+use Rattle.std.specs.Prelude.{◌==◌, ◌≢◌, map, filter}
+use Rattle.std.specs.Int.{bit_at}
+use Rattle.std.proofs.lemmas.Bool.Decides.{nat_tests}
+use Rattle.std.proofs.lemmas.Nat.Bits.{bit_at_or, bit_at-lt, bit_at-pow_other}
+use Rattle.i9_isa.specs.Words.{bit}
+use Rattle.i9_events.specs.Tracing.{with_bits, is_flag, GainsFlags}
+
+kept_in : (w v k : ℕ) → bit w k ≡ true → bit (bit_or w v) k ≡ true
+kept_in w v k set =
+    let p = bit_at_or w v k in let q = bit_at-lt v k in grind (arith, nat_tests, set, p, q)
+
+-- no flag is another bit
+apart : (j k : ℕ) → is_flag j ≡ true → is_flag k ≡ false → k ≢ j
+apart j k flag other same = let p = ap is_flag same in cc
+
+other_in : (w j k : ℕ) → k ≢ j → bit (bit_or w (2 ^ j)) k ≡ bit w k
+other_in w j k apart =
+    let same : bit_at (bit_or w (2 ^ j)) k ≡ bit_at w k = bit_at_or w (2 ^ j) k ∙ ap (max (bit_at w k)) (bit_at-pow_other j k apart) ∙ omega arith in
+    ap (λ (n : ℕ). n == 1) same
+
+gains_none : (w : ℕ) → GainsFlags w w
+gains_none w = record { kept = λ k set. set; others = λ k other. refl }
+
+gains_one : (w j : ℕ) → is_flag j ≡ true → GainsFlags w (bit_or w (2 ^ j))
+gains_one w j flag = record {
+  kept = λ k set. kept_in w (2 ^ j) k set;
+  others = λ k other. other_in w j k (apart j k flag other);
+}
+
+pub gains_both : (w v u : ℕ) → GainsFlags w v → GainsFlags v u → GainsFlags w u
+gains_both w v u one two = record {
+  kept = λ k set. two.kept k (one.kept k set);
+  others = λ k other. two.others k other ∙ one.others k other;
+}
+
+module _ {X : Type 0} (place : X → ℕ) (flags : (x : X) → is_flag (place x) ≡ true) where
+  -- the flags of the members that pass
+  pub gains : (p : X → Bool) (w : ℕ) (xs : List X) → GainsFlags w (with_bits w (map place (filter p xs)))
+  gains p w [] = gains_none w
+  gains p w (x ∷ xs) = elim (p x) as (λ b. GainsFlags w (with_bits w (map place (cond b (x ∷ filter p xs) (filter p xs))))) [
+    | true ↦
+        let one = bit_or w (2 ^ place x) in
+        gains_both w one (with_bits one (map place (filter p xs))) (gains_one w (place x) (flags x)) (gains p one xs)
+    | false ↦ gains p w xs
+  ]

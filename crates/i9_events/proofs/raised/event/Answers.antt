@@ -1,0 +1,43 @@
+use Rattle.std.proofs.Common.{None, sym, arith}
+use Rattle.i9_events.specs.Tracing.{has_match}
+use Rattle.i9_events.proofs.Events.{not_enabled, modes_are, flags_of_modes, counted_small, not_raised, made_is, raised_made, trace_gains, trace_none}
+use Rattle.i9_events.proofs.raised.event.Goals as goal
+
+pub returns-then-not-has_bit-clause-trace : goal.returns-then-not-has_bit-clause-trace
+returns-then-not-has_bit-clause-trace c =
+    not_enabled c.args.tc c.args.pc c.args.i.now c.args.s.now c.args.b.now (sym c.if-not-has_bit.ensures)
+
+pub returns-then-counting-eq0-clause-trace : goal.returns-then-counting-eq0-clause-trace
+returns-then-counting-eq0-clause-trace c =
+    let i = c.args.i.now in
+    let s = c.args.s.now in
+    let b = c.args.b.now in
+    not_raised c.args.tc c.args.pc i s b _ (modes_are c.args.tc c.args.pc i s b _ _ _ c.break_flags-breakpoints.ensures c.coming_modes.ensures c.forced_modes.ensures) c.if-counting-eq0.true
+
+pub returns-then-counting-eq0-clause-none : goal.returns-then-counting-eq0-clause-none
+returns-then-counting-eq0-clause-none c =
+    trace_none c.args.tc c.args.pc c.args.i.now c.args.s.now c.args.b.now None (returns-then-counting-eq0-clause-trace c)
+
+pub overflow_cast-result : goal.overflow_cast-result
+overflow_cast-result c =
+    let i = c.args.i.now in
+    let s = c.args.s.now in
+    let b = c.args.b.now in
+    let modes = modes_are c.args.tc c.args.pc i s b c.break_flags-breakpoints.result c.coming_modes.result c.forced_modes.result c.break_flags-breakpoints.ensures c.coming_modes.ensures c.forced_modes.ensures in
+    let small = counted_small c.args.tc i.op s (has_match s b) in
+    omega (arith, modes, small)
+
+pub returns-clause-trace : goal.returns-clause-trace
+returns-clause-trace c =
+    let i = c.args.i.now in
+    let s = c.args.s.now in
+    let b = c.args.b.now in
+    let modes = modes_are c.args.tc c.args.pc i s b c.break_flags-breakpoints.result c.coming_modes.result c.forced_modes.result c.break_flags-breakpoints.ensures c.coming_modes.ensures c.forced_modes.ensures in
+    let flags = flags_of_modes c.args.tc c.args.pc i s b c.break_flags-breakpoints.result c.coming_modes.result c.break_flags-breakpoints.ensures c.coming_modes.ensures in
+    raised_made c.args.tc c.args.pc i s b _ _ (sym c.if-not-has_bit.ensures) modes c.if-counting-eq0.false (made_is c.args.tc c.args.pc i s b _ _ _ flags c.break_flags-breakpoints.ensures modes)
+
+pub returns-clause-none : goal.returns-clause-none
+returns-clause-none c = trace_none c.args.tc c.args.pc c.args.i.now c.args.s.now c.args.b.now _ (returns-clause-trace c)
+
+pub returns-clause-flags : goal.returns-clause-flags
+returns-clause-flags c = trace_gains c.args.tc c.args.pc c.args.i.now c.args.s.now c.args.b.now _ (returns-clause-trace c)

@@ -1,0 +1,15 @@
+//! Trace events: those that come with an instruction, and the flags and the trace fault that they make (i960 CA/CF
+//! User's Manual, tracing and debugging).
+#![tactic(auto)]
+
+mod bits;
+mod breakpoints;
+mod names;
+mod places;
+mod raised;
+
+pub use i9_model::Breaks;
+pub use raised::{Seen, Trace, event};
+
+#[cfg(test)]
+mod tests;
