@@ -1,6 +1,6 @@
 -- Groups of words: the bytes of the first ones.
 use Rattle.std.proofs.Common.{◌≡◌, ℕ, zero, suc, ◌+◌, ◌*◌, ◌^◌, ◌<◌, ◌≤◌, List, [], ◌∷◌, ◌++◌, length, get_or, take, refl, sym, ap, ◌∙◌, add-one, append_assoc, append-nil, arith}
-use Rattle.std.proofs.lemmas.List.{take_all, length-take}
+use Rattle.std.proofs.lemmas.List.{length-take}
 use Rattle.std.proofs.Math.Seq.{take-suc}
 use Rattle.i9_isa.specs.declared.inst.Operand.{Operand}
 use Rattle.i9_isa.specs.declared.size.Size.TheVariants.{Words}

@@ -1,9 +1,8 @@
 -- Values: the bytes that a store writes of them, and the four words that a load sees.
-use Rattle.std.specs.Prelude.{◌≡◌, ℕ, ◌%◌, ◌^◌, ◌≤◌, false, List, [], ◌∷◌, take, get_or}
+use Rattle.std.specs.Prelude.{◌≡◌, ℕ, ◌%◌, ◌^◌, false, List, [], ◌∷◌, take, get_or}
 use Rattle.i9_isa.specs.declared.inst.Operand.{Operand}
 use Rattle.i9_isa.specs.declared.size.Size.{Size}
 use Rattle.i9_isa.specs.declared.size.Size.TheVariants.{Byte, Half, Words}
-use Rattle.i9_isa.specs.Transfers.{register_count}
 use Rattle.i9_model.specs.Memory.{Memory, half_bytes}
 use Rattle.i9_model.specs.Operands.{source_words}
 use Rattle.i9_model.specs.State.{State}

@@ -123,49 +123,35 @@ fn lands_stores(rt: HostRuntime) -> Result<(), Fail> {
 /// The values that are stored.
 const VALUES: [u32; 4] = [0xA1B2_C3D4, 0x0102_0304, 0x1122_3344, 0x5566_7788];
 
-// Each size in a little-endian region and in a big-endian one. What stands in the port page is
-// stored nowhere, but has its bytes.
+/// The bytes of all four in a little-endian region.
+const LITTLE: &[u8] = b"\xD4\xC3\xB2\xA1\x04\x03\x02\x01\x44\x33\x22\x11\x88\x77\x66\x55";
+
+/// Those in a big-endian region.
+const BIG: &[u8] = b"\xA1\xB2\xC3\xD4\x01\x02\x03\x04\x11\x22\x33\x44\x55\x66\x77\x88";
+
+// Each size in a little-endian region, in the port page, which is little-endian too, and in a
+// big-endian region.
 #[test]
 fn stores_values(rt: HostRuntime) {
     let memory = memory(rt.alloc());
-    let rows: [(u32, Size, &[u8]); 13] = [
-        (0x1000, Size::Byte, b"\xD4"),
-        (0x1000_0000, Size::Byte, b"\xD4"),
-        (0x1000, Size::Half, b"\xD4\xC3"),
-        (0x1000_0000, Size::Half, b"\xC3\xD4"),
-        (0x1000, Size::Words(1), b"\xD4\xC3\xB2\xA1"),
-        (0x1000_0000, Size::Words(1), b"\xA1\xB2\xC3\xD4"),
-        (0x1001, Size::Words(2), b"\xD4\xC3\xB2\xA1\x04\x03\x02\x01"),
-        (
-            0x1000_0001,
-            Size::Words(2),
-            b"\xA1\xB2\xC3\xD4\x01\x02\x03\x04",
-        ),
-        (
-            0x1000,
-            Size::Words(3),
-            b"\xD4\xC3\xB2\xA1\x04\x03\x02\x01\x44\x33\x22\x11",
-        ),
-        (
-            0x1000_0000,
-            Size::Words(3),
-            b"\xA1\xB2\xC3\xD4\x01\x02\x03\x04\x11\x22\x33\x44",
-        ),
-        (
-            0x1000,
-            Size::Words(4),
-            b"\xD4\xC3\xB2\xA1\x04\x03\x02\x01\x44\x33\x22\x11\x88\x77\x66\x55",
-        ),
-        (
-            0x1000_0000,
-            Size::Words(4),
-            b"\xA1\xB2\xC3\xD4\x01\x02\x03\x04\x11\x22\x33\x44\x55\x66\x77\x88",
-        ),
-        (0xE000_0000, Size::Words(1), b"\xD4\xC3\xB2\xA1"),
+    let rows: [(Size, &[u8], &[u8]); 6] = [
+        (Size::Byte, b"\xD4", b"\xD4"),
+        (Size::Half, b"\xD4\xC3", b"\xC3\xD4"),
+        (Size::Words(1), &LITTLE[..4], &BIG[..4]),
+        (Size::Words(2), &LITTLE[..8], &BIG[..8]),
+        (Size::Words(3), &LITTLE[..12], &BIG[..12]),
+        (Size::Words(4), LITTLE, BIG),
     ];
-    for (address, size, bytes) in &rows {
-        let stored = store_bytes(&memory, *address, *size, &VALUES);
-        assert_eq!(rt; stored.as_slice(), *bytes);
+    for (size, little, big) in &rows {
+        let places = [
+            (0x1001, *little),
+            (0xE000_0002, *little),
+            (0x1000_0001, *big),
+        ];
+        for (address, bytes) in &places {
+            let stored = store_bytes(&memory, *address, *size, &VALUES);
+            assert_eq!(rt; stored.as_slice(), *bytes);
+        }
     }
 }
 
@@ -174,9 +160,10 @@ fn stores_values(rt: HostRuntime) {
 #[test]
 fn stores_values_over_an_end(rt: HostRuntime) {
     let memory = memory(rt.alloc());
-    let rows: [(u32, Size, &[u8]); 9] = [
+    let rows: [(u32, Size, &[u8]); 8] = [
         (0x0FFF_FFFF, Size::Half, b"\xD4\xC3"),
         (0x1FFF_FFFF, Size::Half, b"\xC3\xD4"),
+        (0xFFFF_FFFF, Size::Half, b"\xC3\xD4"),
         (
             0x0FFF_FFFC,
             Size::Words(2),
@@ -188,16 +175,10 @@ fn stores_values_over_an_end(rt: HostRuntime) {
             b"\xD4\xC3\xB2\xA1\x01\x02\x03\x04",
         ),
         (
-            0x1FFF_FFFE,
+            0x1FFF_FFF8,
             Size::Words(3),
-            b"\xA1\xB2\xC3\xD4\x04\x03\x02\x01\x44\x33\x22\x11",
+            b"\xA1\xB2\xC3\xD4\x01\x02\x03\x04\x44\x33\x22\x11",
         ),
-        (
-            0x0FFF_FFF8,
-            Size::Words(4),
-            b"\xD4\xC3\xB2\xA1\x04\x03\x02\x01\x11\x22\x33\x44\x55\x66\x77\x88",
-        ),
-        (0xFFFF_FFFF, Size::Half, b"\xC3\xD4"),
         (
             0xFFFF_FFFC,
             Size::Words(2),
@@ -227,34 +208,59 @@ fn filled_memory(alloc: Global) -> Result<Memory, Fail> {
     Ok(memory)
 }
 
-// Nothing waits.
+/// A load at an address, and the values that it has.
+type Load = (u32, Size, [u32; 4]);
+
+/// The address of the first load that sees other values.
+fn first_wrong(queue: &Queue, memory: &Memory, loads: &[Load]) -> Option<u32> {
+    for (address, size, values) in loads {
+        if queue.see(memory, *address, *size) != *values {
+            return Some(*address);
+        }
+    }
+    None
+}
+
+// Nothing waits. A byte and a half have zeros above, and words that are not read are 0.
 #[test]
 fn sees_memory(rt: HostRuntime) -> Result<(), Fail> {
     let memory = filled_memory(rt.alloc())?;
-    let queue = Queue::new();
-    let rows = [
-        // A byte and a half have zeros above.
+    let loads = [
         (0x2000, Size::Byte, [0xF1, 0, 0, 0]),
-        (0x2001, Size::Byte, [0xF2, 0, 0, 0]),
         (0x2000, Size::Half, [0xF2F1, 0, 0, 0]),
-        // Each size in both byte orders.
         (0x0FFF_FFF9, Size::Half, [0x0302, 0, 0, 0]),
         (0x1000_0001, Size::Byte, [0x0A, 0, 0, 0]),
         (0x1000_0001, Size::Half, [0x0A0B, 0, 0, 0]),
         (0x0FFF_FFF8, Size::Words(1), [0x0403_0201, 0, 0, 0]),
-        (0x1000_0000, Size::Words(1), [0x090A_0B0C, 0, 0, 0]),
         (
             0x0FFF_FFF8,
             Size::Words(2),
             [0x0403_0201, 0x0807_0605, 0, 0],
         ),
+        (0x1000_0000, Size::Words(1), [0x090A_0B0C, 0, 0, 0]),
         (
             0x1000_0000,
             Size::Words(2),
             [0x090A_0B0C, 0x0D0E_0F10, 0, 0],
         ),
-        // Over the end of a region the order changes.
+        (0xE000_0000, Size::Byte, [0, 0, 0, 0]),
+        (0xE000_0000, Size::Words(2), [0, 0, 0, 0]),
+    ];
+    assert_eq!(rt; first_wrong(&Queue::new(), &memory, &loads), None);
+    Ok(())
+}
+
+// Nothing waits. Loads go over the end of a region, on from FFFFFFFF to 0, and into the port page.
+#[test]
+fn sees_memory_over_an_end(rt: HostRuntime) -> Result<(), Fail> {
+    let memory = filled_memory(rt.alloc())?;
+    let loads = [
         (0x0FFF_FFFF, Size::Half, [0x0908, 0, 0, 0]),
+        (
+            0x0FFF_FFFE,
+            Size::Words(2),
+            [0x0A09_0807, 0x0B0C_0D0E, 0, 0],
+        ),
         (
             0x0FFF_FFFC,
             Size::Words(3),
@@ -265,12 +271,6 @@ fn sees_memory(rt: HostRuntime) -> Result<(), Fail> {
             Size::Words(4),
             [0x0403_0201, 0x0807_0605, 0x090A_0B0C, 0x0D0E_0F10],
         ),
-        (
-            0x0FFF_FFFE,
-            Size::Words(2),
-            [0x0A09_0807, 0x0B0C_0D0E, 0, 0],
-        ),
-        // On from FFFFFFFF to 0.
         (0xFFFF_FFFF, Size::Half, [0x2425, 0, 0, 0]),
         (0xFFFF_FFFE, Size::Words(1), [0x2324_2526, 0, 0, 0]),
         (
@@ -278,25 +278,19 @@ fn sees_memory(rt: HostRuntime) -> Result<(), Fail> {
             Size::Words(2),
             [0x2122_2324, 0x2827_2625, 0, 0],
         ),
-        // In the port page and into it.
-        (0xE000_0000, Size::Byte, [0, 0, 0, 0]),
-        (0xE000_0000, Size::Words(2), [0, 0, 0, 0]),
         (0xDFFF_FFFE, Size::Words(1), [0x3231, 0, 0, 0]),
     ];
-    for (address, size, values) in &rows {
-        assert_eq!(rt; queue.see(&memory, *address, *size), *values);
-    }
+    assert_eq!(rt; first_wrong(&Queue::new(), &memory, &loads), None);
     Ok(())
 }
 
-// A store of A1 A2 A3 at 0FFFFFFA, which covers some bytes of a load; then a load too, and a store of
-// B1 to B6 at 0FFFFFFB, which wins where they overlap.
+// A store of A1 A2 A3 at 0FFFFFFA covers only some bytes of a load, and a load among the requests
+// changes nothing.
 #[test]
-fn sees_waiting_stores(rt: HostRuntime) -> Result<(), Fail> {
+fn sees_a_waiting_store(rt: HostRuntime) -> Result<(), Fail> {
     let memory = filled_memory(rt.alloc())?;
     let mut queue = Queue::new();
-    queue.put(request(0x0FFF_FFFA, b"\xA1\xA2\xA3", 5));
-    let rows = [
+    let loads = [
         (0x0FFF_FFFA, Size::Byte, [0xA1, 0, 0, 0]),
         (0x0FFF_FFF9, Size::Byte, [0x02, 0, 0, 0]),
         (0x0FFF_FFF9, Size::Half, [0xA102, 0, 0, 0]),
@@ -307,15 +301,23 @@ fn sees_waiting_stores(rt: HostRuntime) -> Result<(), Fail> {
         ),
         (0x1000_0000, Size::Words(1), [0x090A_0B0C, 0, 0, 0]),
     ];
-    for (address, size, values) in &rows {
-        assert_eq!(rt; queue.see(&memory, *address, *size), *values);
-    }
+    queue.put(request(0x0FFF_FFFA, b"\xA1\xA2\xA3", 5));
+    assert_eq!(rt; first_wrong(&queue, &memory, &loads), None);
     queue.put(request(0x0FFF_FFF8, b"", 6));
-    for (address, size, values) in &rows {
-        assert_eq!(rt; queue.see(&memory, *address, *size), *values);
-    }
+    assert_eq!(rt; first_wrong(&queue, &memory, &loads), None);
+    Ok(())
+}
+
+// A store of A1 A2 A3 at 0FFFFFFA, a load, and a store of B1 to B6 at 0FFFFFFB, which wins where the
+// two overlap.
+#[test]
+fn sees_the_younger_store(rt: HostRuntime) -> Result<(), Fail> {
+    let memory = filled_memory(rt.alloc())?;
+    let mut queue = Queue::new();
+    queue.put(request(0x0FFF_FFFA, b"\xA1\xA2\xA3", 5));
+    queue.put(request(0x0FFF_FFF8, b"", 6));
     queue.put(request(0x0FFF_FFFB, b"\xB1\xB2\xB3\xB4\xB5\xB6", 7));
-    let rows = [
+    let loads = [
         (0x0FFF_FFFA, Size::Byte, [0xA1, 0, 0, 0]),
         (0x0FFF_FFFB, Size::Byte, [0xB1, 0, 0, 0]),
         (0x0FFF_FFFA, Size::Half, [0xB1A1, 0, 0, 0]),
@@ -327,20 +329,18 @@ fn sees_waiting_stores(rt: HostRuntime) -> Result<(), Fail> {
             [0xB1A1_0201, 0xB5B4_B3B2, 0xB60A_0B0C, 0x0D0E_0F10],
         ),
     ];
-    for (address, size, values) in &rows {
-        assert_eq!(rt; queue.see(&memory, *address, *size), *values);
-    }
+    assert_eq!(rt; first_wrong(&queue, &memory, &loads), None);
     Ok(())
 }
 
-// A store of C1 C2 C3 at FFFFFFFE goes on at 0; of D1 D2 D3 at DFFFFFFF only the first falls somewhere.
+// A store of C1 C2 C3 at FFFFFFFE goes on at 0; of D1 D2 D3 at DFFFFFFF the last two fall nowhere.
 #[test]
 fn sees_stores_over_an_end(rt: HostRuntime) -> Result<(), Fail> {
     let memory = filled_memory(rt.alloc())?;
     let mut queue = Queue::new();
     queue.put(request(0xFFFF_FFFE, b"\xC1\xC2\xC3", 5));
     queue.put(request(0xDFFF_FFFF, b"\xD1\xD2\xD3", 6));
-    let rows = [
+    let loads = [
         (0xFFFF_FFFF, Size::Half, [0xC2C3, 0, 0, 0]),
         (0xFFFF_FFFE, Size::Words(1), [0xC1C2_C326, 0, 0, 0]),
         (
@@ -351,8 +351,6 @@ fn sees_stores_over_an_end(rt: HostRuntime) -> Result<(), Fail> {
         (0xE000_0000, Size::Half, [0, 0, 0, 0]),
         (0xDFFF_FFFE, Size::Words(2), [0xD131, 0, 0, 0]),
     ];
-    for (address, size, values) in &rows {
-        assert_eq!(rt; queue.see(&memory, *address, *size), *values);
-    }
+    assert_eq!(rt; first_wrong(&queue, &memory, &loads), None);
     Ok(())
 }

@@ -1,5 +1,5 @@
 //! The bytes that stores write of values, and the values that loads see.
-ghost use Rattle.std.specs.Prelude.{◌≡◌, ◌+◌, ◌*◌, ◌≤◌, ◌++◌, get_or, length, take};
+ghost use Rattle.std.specs.Prelude.{◌≡◌, ◌+◌, ◌≤◌, ◌++◌, get_or, length, take};
 ghost use Rattle.i9_isa.specs.Transfers.{register_count};
 ghost use Rattle.i9_memory.specs.Memory.{memory_of};
 ghost use Rattle.i9_model.specs.Memory.{half_in, word_in, words_in};
@@ -59,7 +59,8 @@ fn group_bytes(m: &Memory, a: u32, words: &[u32; MOST_WORDS], n: usize) -> Bytes
 /// The bytes of a store of these values at `a`, from the lowest address up (the i960 CA/CF User's
 /// Manual, byte order, and store instructions). Those of a byte and of a half are the low ones of the
 /// first value; a half and each word of a group have the order of the region of their own first
-/// byte, and a group goes upwards, from FFFFFFFF on to 0. A group has four words at most.
+/// byte, and a group goes upwards, from FFFFFFFF on to 0. A group has four words at most. Bytes that
+/// fall in the port page are among them.
 pub fn store_bytes(m: &Memory, a: u32, s: Size, v: &[u32; MOST_WORDS]) -> ArrayVec<u8, MOST_BYTES>
     ensures bytes { result.items ≡ bytes_of s (memory_of m.now) a v.now }
     ensures machine { register_count s ≤ MOST_WORDS → AreStored s (memory_of m.now) a v.now result.items }

@@ -1,6 +1,5 @@
 use Rattle.std.proofs.Common.{◌≡◌, ℕ, ◌+◌, ◌*◌, ◌%◌, ◌^◌, List, ◌++◌, length, get_or, take, sym, ap, ◌∙◌, arith}
 use Rattle.std.proofs.lemmas.List.{length-append}
-use Rattle.i9_model.specs.Memory.{word_bytes}
 use Rattle.i9_model.specs.Step.{bytes_of_words}
 use Rattle.i9_model.proofs.SoundRuns.{four_bytes}
 use Rattle.i9_memory.specs.Memory.{memory_of}
