@@ -1,3 +1,4 @@
 pub mod Queue
 pub mod Waits
 pub mod Behind
+pub mod Values

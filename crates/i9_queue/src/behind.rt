@@ -11,7 +11,6 @@ ghost use Rattle.i9_queue.specs.Waits.{HasRoomFor, HasRoomFor-prop, AreDueInOrde
 use crate::queue::{Queue, Request};
 use i9_isa::NoMemory;
 use i9_memory::Memory;
-use i9_model::in_port_page;
 
 /// The memory behind the held frames, and the requests that wait to be stored in it. There is room
 /// for all of them, and they are due in order.
@@ -80,17 +79,10 @@ impl Behind {
     }
 
     /// A byte, after all that waits.
-    #[tactic(auto, using(crate::proofs::Settled::land_rules))]
     pub fn byte(&self, a: u32) -> u8
         ensures { result ≡ (settled self.now).bytes a }
     {
-        if in_port_page(a) {
-            return self.memory.byte(a);
-        }
-        match self.queue.forward(a) {
-            Some(b) => b,
-            None => self.memory.byte(a),
-        }
+        self.queue.byte(&self.memory, a)
     }
 
     /// Whether a region, 0 to 15, is big-endian.
