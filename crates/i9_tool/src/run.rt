@@ -1,11 +1,11 @@
 //! Running an image to its end, and printing its lines or counting what was done.
-ghost use Rattle.std.specs.Prelude.{◌≡◌, ◌≤◌, ◌&&◌, nat_le, false, ℕ, Bool, IfOk};
+ghost use Rattle.std.specs.Prelude.{◌≡◌, ◌≤◌, ◌&&◌, nat_le, false, IfOk};
 ghost use Rattle.i9_model.specs.Given.{given};
 ghost use Rattle.i9_model.specs.declared.layout.TheConstants.{MAX_LENGTH};
 ghost use Rattle.i9_model.specs.Image.{pairs_of};
 ghost use Rattle.i9_tracer.specs.Closures.{TakesEachAddress};
-ghost use Rattle.i9_tool.specs.Print.{Prints, account};
-ghost use Rattle.i9_tool.specs.Run.{AnswersAs, Counts, Runs, Traces, step_text, turn_text};
+ghost use Rattle.i9_tool.specs.Print.{account};
+ghost use Rattle.i9_tool.specs.Run.{Counts, PrintsBy, Runs, TracesBy, step_text, turn_text};
 ghost use Rattle.i9_tool.specs.Words.{AreFew};
 
 use crate::print::{Printed, print_lines, print_text};
@@ -36,8 +36,8 @@ fn print_turn<K: Sink, F: Fn(u32) -> bool + AddressTest>(
     turn: &Turn,
     out: &mut K,
 ) -> Printed
-    ensures { (passes : ℕ → Bool) → AnswersAs (F.AddressTest.allows f.now) passes
-        → Prints result (account K.told K.faults K.writes K.sure) out.old out.new (turn_text passes turn.now) }
+    ensures { PrintsBy result (F.AddressTest.allows f.now) turn.now (λ passes. turn_text passes turn.now)
+        (account K.told K.faults K.writes K.sure) out.old out.new }
 {
     let Turn::Issued(issued) = turn else {
         return Printed::Done;
@@ -57,9 +57,8 @@ fn print_step<K: Sink, F: Fn(u32) -> bool + AddressTest>(
     lines: &[Line],
     out: &mut K,
 ) -> Printed
-    ensures { (passes : ℕ → Bool) → AnswersAs (F.AddressTest.allows f.now) passes
-        → Prints result (account K.told K.faults K.writes K.sure) out.old out.new
-        (step_text passes turn.now lines.now) }
+    ensures { PrintsBy result (F.AddressTest.allows f.now) turn.now (λ passes. step_text passes turn.now lines.now)
+        (account K.told K.faults K.writes K.sure) out.old out.new }
 {
     match print_turn(alloc, f, turn, out) {
         Printed::Done => print_lines(alloc, lines, out),
@@ -77,25 +76,23 @@ fn run_filtered<K: Sink, F: Fn(u32) -> bool + AddressTest>(
     plan: &mut Schedule,
     sets: Option<u8>,
     limit: u64,
-    filter: &Filter<F>,
+    f: &Filter<F>,
     out: &mut K,
 ) -> Ran
     requires begins { plan.old.place ≡ 0 }
     requires few { AreFew sets }
     requires short { limit ≤ MAX_LENGTH }
-    ensures { (passes : ℕ → Bool) → AnswersAs (F.AddressTest.allows filter.now) passes
-        → Traces result passes (given (pairs_of image.now) plan.old.events limit sets)
+    ensures { TracesBy result (F.AddressTest.allows f.now) (given (pairs_of image.now) plan.old.events limit sets)
         (account K.told K.faults K.writes K.sure) out.old out.new }
 {
-    let mut machine = match Machine::new(alloc, image, sets, limit) {
-        Ok(machine) => machine,
-        Err(_) => return Ran::Memory,
+    let Ok(mut machine) = Machine::new(alloc, image, sets, limit) else {
+        return Ran::Memory;
     };
     let mut lines = Vec::new(alloc);
     loop {
         lines.clear();
         let turn = machine.advance(plan, &mut lines);
-        match print_step(alloc, filter, &turn, &lines, out) {
+        match print_step(alloc, f, &turn, &lines, out) {
             Printed::Done => {}
             Printed::Write => return Ran::Write,
             Printed::Memory => return Ran::Memory,
@@ -109,7 +106,7 @@ fn run_filtered<K: Sink, F: Fn(u32) -> bool + AddressTest>(
     }
 }
 
-/// The same under the filter of a closure.
+/// Runs an image as `run_filtered` does, under the filter of a closure.
 fn run_with<K: Sink, F: Fn(u32) -> bool + AddressTest>(
     alloc: Global,
     image: &Segments,
@@ -123,8 +120,7 @@ fn run_with<K: Sink, F: Fn(u32) -> bool + AddressTest>(
     requires few { AreFew sets }
     requires short { limit ≤ MAX_LENGTH }
     requires takes { TakesEachAddress (F.AddressTest.can_test f) }
-    ensures { (passes : ℕ → Bool) → AnswersAs (F.AddressTest.allows f) passes
-        → Traces result passes (given (pairs_of image.now) plan.old.events limit sets)
+    ensures { TracesBy result (F.AddressTest.allows f) (given (pairs_of image.now) plan.old.events limit sets)
         (account K.told K.faults K.writes K.sure) out.old out.new }
 {
     run_filtered(alloc, image, plan, sets, limit, &Filter::new(f), out)
@@ -150,15 +146,15 @@ pub(crate) fn run<K: Sink>(
 {
     match traced {
         None => {
-            let passes = |_a: u32|
+            let passes = |_address: u32|
                 ensures { result ≡ false }
             { false };
             run_with(alloc, image, plan, sets, limit, passes, out)
         }
         Some(Range { low, high }) => {
-            let passes = |a: u32|
-                ensures { result ≡ (nat_le low a && nat_le a high) }
-            { low <= a && a <= high };
+            let passes = |address: u32|
+                ensures { result ≡ (nat_le low address && nat_le address high) }
+            { low <= address && address <= high };
             run_with(alloc, image, plan, sets, limit, passes, out)
         }
     }
