@@ -2,7 +2,12 @@
 use Rattle.std.proofs.Common.{◌≡◌, ℕ, zero, suc, ◌+◌, ◌<◌, Bool, true, false, List, [], ◌∷◌, ◌++◌, length, take, drop, Some, None, refl, sym, ap, ◌∙◌, subst, arith, append_assoc}
 use Rattle.std.specs.List.{position, position_or_len}
 use Rattle.std.proofs.lemmas.List.{append-nil, take-append-drop}
+use Rattle.std.specs.Prelude.{codes}
+use Rattle.std.specs.Fmt.{decimal}
 use Rattle.i9_text.specs.Text.{is_line_feed}
+use Rattle.i9_model.specs.PrintedText.{spaced}
+use Rattle.i9_asm.specs.Listing.{text_of as statement_text}
+use Rattle.i9_tracer.specs.Trace.{trace_text}
 use Rattle.std.specs.List.{flat_map}
 use Rattle.i9_model.specs.Image.{Part}
 use Rattle.i9_hex.specs.Writing.{with_line_feed, hex_lines, hex_text}
@@ -40,6 +45,11 @@ lined_lines (l ∷ ls) =
 -- a HEX text
 pub lined_hex : (image : List Part) → is_lined (hex_text image) ≡ true
 lined_hex image = lined_lines (hex_lines image)
+
+-- the line of an instruction
+pub lined_trace : (count address first second : ℕ) → is_lined (trace_text count address first second) ≡ true
+unfolding trace_text is_lined
+lined_trace count address first second = lined_append (codes "#t " ++ decimal count ++ spaced address ++ codes " " ++ statement_text address first second) [] refl
 
 -- some text has a line feed
 feed_inside : (b : ℕ) (bs : List ℕ) → is_lined (b ∷ bs) ≡ true → position_or_len is_line_feed (b ∷ bs) < length (b ∷ bs)

@@ -6,10 +6,12 @@ use Rattle.i9_model.specs.Given.{Given, given}
 use Rattle.i9_model.specs.declared.event.Timed.{Timed}
 use Rattle.i9_model.specs.declared.run.End.{End}
 use Rattle.i9_model.specs.Run.{Record, next, IsRun, reached_after}
-use Rattle.i9_model.specs.PrintedText.{text_of, lines_of, end_lines, run_text, end_code}
+use Rattle.i9_model.specs.PrintedText.{text_of, lines_of, end_lines, end_code}
 use Rattle.i9_hex.specs.Writing.{hex_text}
 use Rattle.i9_asm.proofs.Once.{assembly_once, refusal_once, never_both_answers}
 use Rattle.i9_text.specs.Text.{lines_of as text_lines}
+use Rattle.i9_tool.specs.declared.words.Range.{Range}
+use Rattle.i9_tool.specs.Traced.{is_within, traced_lines, printed_text}
 use Rattle.i9_tool.specs.CommandLine.{Command, Run, Asm, Dis, Gen, files_of, with_name, image_word, schedule_word, source_word, refused_line}
 use Rattle.i9_model.proofs.Cuts.{past_by, state_by, next_from}
 use Rattle.i9_model.proofs.Unique.{same_records, same_end}
@@ -28,11 +30,12 @@ pub record Same (c d : ℕ) (s t : List ℕ) : Type 0 where
   pub text : s ≡ t
 
 -- the same image runs the same
-same_run : (g : Given) (rs qs : List Record) (e f : End) → IsRun g rs e → IsRun g qs f → Same (end_code e) (end_code f) (run_text g rs e) (run_text g qs f)
-same_run g rs qs e f a b =
+same_run : (traced : Option Range) (g : Given) (rs qs : List Record) (e f : End) → IsRun g rs e → IsRun g qs f
+    → Same (end_code e) (end_code f) (printed_text traced g rs e) (printed_text traced g qs f)
+same_run traced g rs qs e f a b =
     let end = same_end g rs qs e f a b in
     let records = same_records g rs qs e f a b in
-    record { status = ap end_code end; text = ap (λ (x : List Record). run_text g x e) records ∙ ap (run_text g qs) end }
+    record { status = ap end_code end; text = ap (λ (x : List Record). printed_text traced g x e) records ∙ ap (printed_text traced g qs) end }
 
 -- one status and one text, but for those of a file that was not read
 abbrev Once : (ℕ → List ℕ → Type 0) → Type 0
@@ -42,8 +45,8 @@ Once gives = (c d : ℕ) (s t : List ℕ) → c ≢ 5 → d ≢ 5 → gives c s 
 once_both : {X : Type 0} (gives : X → ℕ → List ℕ → Type 0) → ((x : X) → Once (gives x)) → (x y : X) → x ≡ y → (c d : ℕ) (s t : List ℕ) → c ≢ 5 → d ≢ 5 → gives x c s → gives y d t → Same c d s t
 once_both gives once x y same c d s t p q g h = once x c d s t p q g (subst (λ (z : _). gives z d t) (sym same) h)
 
-once_run : (sets : Option ℕ) (limit : ℕ) (pairs : List (ℕ × ℕ)) (events : List Timed) → Once (RunGives sets limit pairs events)
-once_run sets limit pairs events c d s t p q (runs rs e run) (runs us f other) = same_run (given pairs events limit sets) rs us e f run other
+once_run : (sets : Option ℕ) (limit : ℕ) (traced : Option Range) (pairs : List (ℕ × ℕ)) (events : List Timed) → Once (RunGives sets limit traced pairs events)
+once_run sets limit traced pairs events c d s t p q (runs rs e run) (runs us f other) = same_run traced (given pairs events limit sets) rs us e f run other
 
 once_schedule : (run : List Timed → ℕ → List ℕ → Type 0) → ((events : List Timed) → Once (run events)) → (file : List ℕ) → Once (ScheduleGives run file)
 once_schedule run once file c d s t p q (schedule_too_long long) (schedule_too_long longer) = record { status = refl; text = refl }
@@ -128,8 +131,9 @@ module _ (told : List ℕ → Option (List ℕ)) (rose : List ℕ → Type 0) wh
   once_plan (Some name) run known once = once_read (told name) (rose name) (ScheduleGives run) known.0 (once_schedule run once)
 
   once_command : (command : Command) → AllTold told (files_of command) → Once (CommandGives told rose command)
-  once_command (Run image schedule sets limit) known =
-      once_read (told image) (rose image) _ known.0 (once_image _ (λ pairs. once_plan schedule (RunGives sets limit pairs) known.1 (once_run sets limit pairs)))
+  once_command (Run image schedule sets limit traced) known =
+      once_read (told image) (rose image) _ known.0
+      (once_image _ (λ pairs. once_plan schedule (RunGives sets limit traced pairs) known.1 (once_run sets limit traced pairs)))
   once_command (Asm source) known = once_read (told source) (rose source) SourceGives known.0 once_source
   once_command (Dis image) known = once_read (told image) (rose image) (ImageGives DisGives) known.0 (once_image DisGives once_dis)
   once_command (Gen number sets) known = once_job number sets (generated_source number) (generated_schedule number)
@@ -150,19 +154,24 @@ other_run ps ts limit sets others rs e run = record {
   ends = other_next ps ts limit sets others rs ∙ run.ends;
 }
 
-other_text : (ps : List (ℕ × ℕ)) (ts : List Timed) (limit : ℕ) (sets others : Option ℕ) (rs : List Record) (e : End) → run_text (given ps ts limit others) rs e ≡ run_text (given ps ts limit sets) rs e
-other_text ps ts limit sets others rs e =
+other_text : (traced : Option Range) (ps : List (ℕ × ℕ)) (ts : List Timed) (limit : ℕ) (sets others : Option ℕ) (rs : List Record) (e : End)
+    → printed_text traced (given ps ts limit others) rs e ≡ printed_text traced (given ps ts limit sets) rs e
+other_text None ps ts limit sets others rs e =
     ap (λ (s : State). text_of (lines_of rs ++ end_lines s e)) (state_by (given ps ts limit sets) (given ps ts limit others) rs refl)
+other_text (Some range) ps ts limit sets others rs e =
+    ap (λ (s : State). traced_lines (is_within range) rs ++ text_of (end_lines s e)) (state_by (given ps ts limit sets) (given ps ts limit others) rs refl)
 
-other_sets : (sets others : Option ℕ) (limit : ℕ) (ps : List (ℕ × ℕ)) (ts : List Timed) (code : ℕ) (text : List ℕ) → RunGives sets limit ps ts code text → RunGives others limit ps ts code text
-other_sets sets others limit ps ts code text (runs rs e run) =
-    subst (RunGives others limit ps ts (end_code e)) (other_text ps ts limit sets others rs e) (runs rs e (other_run ps ts limit sets others rs e run))
+other_sets : (sets others : Option ℕ) (limit : ℕ) (traced : Option Range) (ps : List (ℕ × ℕ)) (ts : List Timed) (code : ℕ) (text : List ℕ)
+    → RunGives sets limit traced ps ts code text → RunGives others limit traced ps ts code text
+other_sets sets others limit traced ps ts code text (runs rs e run) =
+    subst (RunGives others limit traced ps ts (end_code e)) (other_text traced ps ts limit sets others rs e)
+    (runs rs e (other_run ps ts limit sets others rs e run))
 
-pub same_in_sets : (told : List ℕ → Option (List ℕ)) (rose : List ℕ → Type 0) (image : List ℕ) (schedule : Option (List ℕ)) (sets others : Option ℕ) (limit code : ℕ) (text : List ℕ)
-    → Gives told rose (Some (Run image schedule sets limit)) code text → Gives told rose (Some (Run image schedule others limit)) code text
-same_in_sets told rose image schedule sets others limit code text (in_form c n t g) =
-    let plan = λ (pairs : List (ℕ × ℕ)). plan_wider told told rose rose (λ n f is_file. is_file) (λ n r. r) schedule (RunGives sets limit pairs) (RunGives others limit pairs) (other_sets sets others limit pairs) in
-    in_form (Run image schedule others limit) code text
+pub same_in_sets : (told : List ℕ → Option (List ℕ)) (rose : List ℕ → Type 0) (image : List ℕ) (schedule : Option (List ℕ)) (sets others : Option ℕ) (limit code : ℕ) (traced : Option Range) (text : List ℕ)
+    → Gives told rose (Some (Run image schedule sets limit traced)) code text → Gives told rose (Some (Run image schedule others limit traced)) code text
+same_in_sets told rose image schedule sets others limit code traced text (in_form c n t g) =
+    let plan = λ (pairs : List (ℕ × ℕ)). plan_wider told told rose rose (λ n f is_file. is_file) (λ n r. r) schedule (RunGives sets limit traced pairs) (RunGives others limit traced pairs) (other_sets sets others limit traced pairs) in
+    in_form (Run image schedule others limit traced) code text
     (reads_wider (told image) (told image) (rose image) (rose image) _ _ (λ f is_file. is_file) (λ r. r) (image_wider _ _ plan) code text g)
 
 other_job : (number : ℕ) (sets others : Option ℕ) (source schedule : List ℕ) (code : ℕ) (text : List ℕ) → JobGives number sets source schedule code text → JobGives number others source schedule code text

@@ -10,7 +10,7 @@ use Rattle.i9_model.specs.Run.{state_after}
 use Rattle.i9_asm.specs.Laws.{IsAssembly}
 use Rattle.i9_model.specs.declared.run.End.{End}
 use Rattle.i9_model.specs.declared.run.End.TheVariants.{Exit, Limit, Hazard, Dead, Unbuilt}
-use Rattle.i9_model.specs.PrintedText.{run_text, end_code}
+use Rattle.i9_model.specs.PrintedText.{end_code}
 use Rattle.i9_model.proofs.Ends.{run_goes_on}
 use Rattle.i9_hex.specs.Writing.{hex_text}
 use Rattle.i9_hex.proofs.OneAnswer.{some_answer}
@@ -22,6 +22,8 @@ use Rattle.i9_tool.specs.declared.print.Printed.{Printed}
 use Rattle.i9_tool.specs.declared.run.Ran.{Ran}
 use Rattle.i9_tool.specs.CommandLine.{Command, Run, Asm, Dis, Gen, words_line, read_line, image_word, schedule_word, source_word, long_line, refused_line}
 use Rattle.i9_tool.specs.Print.{Account, Prints}
+use Rattle.i9_tool.specs.declared.words.Range.{Range}
+use Rattle.i9_tool.specs.Traced.{printed_text}
 use Rattle.i9_tool.specs.Generator.{generated_source, generated_schedule, generated_line}
 use Rattle.i9_tool.specs.declared.run.Counted.{Counted}
 use Rattle.i9_tool.specs.Run.{Runs, Counts, printed_of}
@@ -46,12 +48,12 @@ sized n = grind arith
 abbrev pub SomeFor : (ℕ → List ℕ → Type 0) → Type 0
 SomeFor gives = (code : ℕ) × (text : List ℕ) × gives code text
 
-pub some_run : (sets : Option ℕ) (limit : ℕ) (pairs : List (ℕ × ℕ)) (events : List Timed) → SomeFor (RunGives sets limit pairs events)
-some_run sets limit pairs events =
+pub some_run : (sets : Option ℕ) (limit : ℕ) (traced : Option Range) (pairs : List (ℕ × ℕ)) (events : List Timed) → SomeFor (RunGives sets limit traced pairs events)
+some_run sets limit traced pairs events =
     let g = given pairs events limit sets in
     let later = run_goes_on g [] tt in
     let records = later.0 ++ [] in
-    (end_code later.1, run_text g records later.1, runs records later.1 later.2)
+    (end_code later.1, printed_text traced g records later.1, runs records later.1 later.2)
 
 -- a file that may be the one that is told
 some_file : (told : Option (List ℕ)) → (file : List ℕ) × IsFile told file
@@ -140,8 +142,9 @@ module _ (told : List ℕ → Option (List ℕ)) (rose : List ℕ → Type 0) wh
   some_planned (Some name) run some = some_read (told name) (rose name) (ScheduleGives run) (some_plan run some)
 
   pub some_command : (c : Command) → SomeFor (CommandGives told rose c)
-  some_command (Run image schedule sets limit) =
-      some_read (told image) (rose image) _ (λ file. some_image _ file (λ pairs is_image. some_planned schedule (RunGives sets limit pairs) (some_run sets limit pairs)))
+  some_command (Run image schedule sets limit traced) =
+      some_read (told image) (rose image) _
+      (λ file. some_image _ file (λ pairs is_image. some_planned schedule (RunGives sets limit traced pairs) (some_run sets limit traced pairs)))
   some_command (Asm source) = some_read (told source) (rose source) SourceGives some_source
   some_command (Dis image) = some_read (told image) (rose image) (ImageGives DisGives) some_list
   some_command (Gen number sets) = some_job number sets (generated_source number) (generated_schedule number)
@@ -196,10 +199,11 @@ module _ {K : Type 0} (k : Account K) where
   answers_unprinted gives a some = answers_nothing k gives some.0 some.1 a some.2
 
   -- an image ran
-  pub image_runs : (sets : Option ℕ) (limit : ℕ) (pairs : List (ℕ × ℕ)) (events : List Timed) (ran : Ran) (code : ℕ) (a b : K)
-      → (r : Runs ran (given pairs events limit sets) k a b) → code ≡ code_for (printed_of ran) (end_code r.end) → Answers (RunGives sets limit pairs events) code k a b
-  image_runs sets limit pairs events ran code a b r e =
-      answers_with (RunGives sets limit pairs events) (printed_of ran) (end_code r.end) code _ a b (known_finish r.end) (runs r.records r.end r.run) r.prints e
+  pub image_runs : (sets : Option ℕ) (limit : ℕ) (traced : Option Range) (pairs : List (ℕ × ℕ)) (events : List Timed) (ran : Ran) (code : ℕ) (a b : K)
+      → (r : Runs ran traced (given pairs events limit sets) k a b) → code ≡ code_for (printed_of ran) (end_code r.end)
+      → Answers (RunGives sets limit traced pairs events) code k a b
+  image_runs sets limit traced pairs events ran code a b r e =
+      answers_with (RunGives sets limit traced pairs events) (printed_of ran) (end_code r.end) code _ a b (known_finish r.end) (runs r.records r.end r.run) r.prints e
 
   -- the image of a job ran
   pub job_counted : (number : ℕ) (sets : Option ℕ) (source schedule : List ℕ) (image : List Part) (events : List Timed) (counted : Counted) (p : Printed) (code : ℕ) (a b : K)
@@ -234,13 +238,13 @@ module _ {K : Type 0} (k : Account K) where
 
   -- what is answered for a schedule in a later state of the files
   pub later_plan : (told other : List ℕ → Option (List ℕ)) (rose risen : List ℕ → Type 0) → ((n : List ℕ) → other n ≡ told n) → ((n : List ℕ) → rose n → risen n)
-      → (schedule : Option (List ℕ)) (sets : Option ℕ) (limit : ℕ) (file : List ℕ) (code : ℕ) (a b : K)
-      → Answers (ImageGives (λ pairs. PlanGives other rose schedule (RunGives sets limit pairs)) file) code k a b
-      → Answers (ImageGives (λ pairs. PlanGives told risen schedule (RunGives sets limit pairs)) file) code k a b
-  later_plan told other rose risen same rises schedule sets limit file code a b h =
+      → (schedule : Option (List ℕ)) (sets : Option ℕ) (limit : ℕ) (traced : Option Range) (file : List ℕ) (code : ℕ) (a b : K)
+      → Answers (ImageGives (λ pairs. PlanGives other rose schedule (RunGives sets limit traced pairs)) file) code k a b
+      → Answers (ImageGives (λ pairs. PlanGives told risen schedule (RunGives sets limit traced pairs)) file) code k a b
+  later_plan told other rose risen same rises schedule sets limit traced file code a b h =
       let found : (n f : List ℕ) → IsFile (other n) f → IsFile (told n) f = λ n f is_file. subst (λ (o : Option (List ℕ)). IsFile o f) (same n) is_file in
       answers_wider k _ _ code a b
-      (image_wider _ _ (λ pairs. plan_wider other told rose risen found rises schedule (RunGives sets limit pairs) (RunGives sets limit pairs) (λ events c t g. g)) file) h
+      (image_wider _ _ (λ pairs. plan_wider other told rose risen found rises schedule (RunGives sets limit traced pairs) (RunGives sets limit traced pairs) (λ events c t g. g)) file) h
 
   module _ (told : List ℕ → Option (List ℕ)) (rose : List ℕ → Type 0) where
     -- what a command is answered, where the words ask for it

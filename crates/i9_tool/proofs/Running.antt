@@ -1,126 +1,273 @@
 -- What is printed while an image runs is the text of its run, or a front of it.
-use Rattle.std.proofs.Common.{◌≡◌, ℕ, List, [], ◌∷◌, ◌++◌, map, flat_map, refl, sym, ap, ◌∙◌}
+use Rattle.std.proofs.Common.{◌≡◌, ◌≢◌, ℕ, Bool, false, List, [], ◌∷◌, ◌++◌, map, flat_map, Option, Some, None, refl, sym, ap, ◌∙◌, subst, append_assoc, arith}
 use Rattle.std.proofs.lemmas.List.{append-nil}
+use Rattle.i9_model.specs.State.{State}
+use Rattle.i9_model.specs.Step.{first_word}
 use Rattle.i9_model.specs.declared.run.End.{End}
-use Rattle.i9_model.specs.Run.{Given, Record, IsPast, IsRun}
-use Rattle.i9_model.specs.PrintedText.{Shown, text_of, lines_of, run_text}
-use Rattle.i9_model.proofs.Lines.{text_of-append, text_goes_on}
+use Rattle.i9_model.specs.Run.{Given, Kind, Instruction, Faulted, Entered, Interrupted, Reached, Blocked, Record, IsPast, counts_of, state_after}
+use Rattle.i9_model.specs.PrintedText.{text_of, lines_of, record_lines, end_lines, run_text}
+use Rattle.i9_model.proofs.Lines.{text_of-append}
+use Rattle.i9_model.proofs.Ends.{run_goes_on}
 use Rattle.i9_machine.specs.declared.line.Line.{Line}
+use Rattle.i9_machine.specs.declared.line.Issued.{Issued}
 use Rattle.i9_machine.specs.declared.line.Turn.{Turn}
 use Rattle.i9_machine.specs.declared.line.Turn.TheVariants as turns
 use Rattle.i9_machine.specs.declared.machine.Machine.{Machine}
 use Rattle.i9_schedule.specs.Plan.{Plan}
 use Rattle.i9_machine.specs.Line.{shown_of}
+use Rattle.i9_machine.specs.Issue.{TellsIssue}
+use Rattle.i9_machine.specs.Step.{TellsRecord}
 use Rattle.i9_machine.specs.StandsFor.{DoesNext, Advances}
 use Rattle.i9_tool.specs.declared.print.Printed.{Printed}
-use Rattle.i9_tool.specs.declared.print.Printed.TheVariants.{Done, Write, Memory}
+use Rattle.i9_tool.specs.declared.print.Printed.TheVariants.{Done}
+use Rattle.i9_tool.specs.declared.run.Ran.{Ran}
 use Rattle.i9_tool.specs.declared.run.Ran.TheVariants as ran
 use Rattle.i9_tool.specs.Print.{Account, Prints, line_text}
-use Rattle.i9_tool.specs.Run.{Runs}
-use Rattle.i9_tool.proofs.Prints.{prints_then, prints_stop, prints_cut, prints_same, prints_refused}
+use Rattle.i9_tool.specs.declared.words.Range.{Range}
+use Rattle.i9_tool.specs.Traced.{is_within, line_where, issued_words, issued_line, traced_line, traced_lines, traced_text}
+use Rattle.i9_tool.specs.Run.{RunsAs, Runs, TracedBy, traced_none, traced_next, IsCut, StopsWith, at_end, before_end, TracesBy, AllowsTurn, TellsEnd, turn_text, step_text, printed_of}
+use Rattle.i9_tool.proofs.Prints.{prints_stop, prints_cut, prints_same, prints_refused}
 
 -- the text of lines is that of what they show
 lines-text : (ls : List Line) → flat_map line_text ls ≡ text_of (map shown_of ls)
 lines-text [] = refl
 lines-text (l ∷ ls) = ap (λ (t : List ℕ). line_text l ++ t) (lines-text ls)
 
-module _ (g : Given) where
-  -- the run goes on after these records with these lines
-  pub record Ahead (rs : List Record) (shown : List Shown) : Type 0 where
-    pub records : List Record
-    pub end : End
-    pub run : IsRun g records end
-    pub rest : List ℕ
-    pub text : (text_of (lines_of rs) ++ text_of shown) ++ rest ≡ run_text g records end
+-- no lines are no text
+nothing_more : (text : List ℕ) (ls : List Line) → ls ≡ [] → text ++ flat_map line_text ls ≡ text
+nothing_more text ls none = ap (λ (x : List Line). text ++ flat_map line_text x) none ∙ append-nil text
 
-  ahead_of : (rs qs : List Record) (shown : List Shown) → IsPast g qs → lines_of qs ≡ lines_of rs ++ shown → Ahead rs shown
-  ahead_of rs qs shown past e =
-      let later = text_goes_on g qs past in
-      record {
-        records = later.0 ++ qs;
-        end = later.1;
-        run = later.3;
-        rest = later.2;
-        text = ap (λ (t : List ℕ). t ++ later.2) (sym (text_of-append (lines_of rs) shown) ∙ ap text_of (sym e)) ∙ later.4;
+-- ---- where printing stopped before its end
+
+tells_cut : (answer : Ran) (e : End) → IsCut answer → TellsEnd answer e
+tells_cut (ran.Done end) e cut = absurd cut
+tells_cut ran.Write e cut = tt
+tells_cut ran.Memory e cut = tt
+
+not_done : (answer : Ran) → IsCut answer → printed_of answer ≢ Done
+not_done (ran.Done e) cut = absurd cut
+not_done ran.Write cut = λ e. cc
+not_done ran.Memory cut = λ e. cc
+
+-- ---- the line of a step's instruction, by an answer
+
+-- an instruction is told as its record has it
+told_issue : (answer : Bool) (words : ℕ) (s : State) (t : Issued) → TellsIssue words s t → turn_text answer (turns.Issued t) ≡ issued_line (λ a. answer) s (Some words)
+told_issue answer words s t h =
+    ap (λ (n : ℕ). line_where answer n t.address t.first t.second) h.number ∙ ap (λ (n : ℕ). line_where answer s.count n t.first t.second) h.place
+    ∙ ap (λ (n : ℕ). line_where answer s.count s.ip n t.second) h.one ∙ ap (line_where answer s.count s.ip (first_word s)) h.two
+
+told_issued : (answer : Bool) (kind : Kind) (s : State) (t : Issued) → TellsRecord kind s (turns.Issued t) → turn_text answer (turns.Issued t) ≡ issued_line (λ a. answer) s (issued_words kind)
+told_issued answer (Instruction i) s t h = told_issue answer _ s t h
+told_issued answer (Faulted inst fault) s t h = told_issue answer _ s t h
+told_issued answer (Entered e) s t h = absurd h
+told_issued answer (Interrupted c e) s t h = absurd h
+told_issued answer (Reached e u) s t h = absurd h
+told_issued answer (Blocked e a) s t h = absurd h
+
+-- what is no instruction has no line
+told_on : (answer : Bool) (kind : Kind) (s : State) → TellsRecord kind s turns.On → turn_text answer turns.On ≡ issued_line (λ a. answer) s (issued_words kind)
+told_on answer (Instruction i) s h = absurd h
+told_on answer (Faulted inst fault) s h = absurd h
+told_on answer (Entered e) s h = refl
+told_on answer (Interrupted c e) s h = refl
+told_on answer (Reached e u) s h = refl
+told_on answer (Blocked e a) s h = refl
+
+-- ---- an answer that is allowed at the instruction of a step is allowed at its record
+
+module _ (allows : ℕ → Bool → Type 0) where
+  allowed_issued : (answer : Bool) (kind : Kind) (s : State) (t : Issued) → TellsRecord kind s (turns.Issued t) → allows t.address answer → allows s.ip answer
+  allowed_issued answer (Instruction i) s t h allowed = subst (λ (a : ℕ). allows a answer) h.place allowed
+  allowed_issued answer (Faulted inst fault) s t h allowed = subst (λ (a : ℕ). allows a answer) h.place allowed
+  allowed_issued answer (Entered e) s t h allowed = absurd h
+  allowed_issued answer (Interrupted c e) s t h allowed = absurd h
+  allowed_issued answer (Reached e u) s t h allowed = absurd h
+  allowed_issued answer (Blocked e a) s t h allowed = absurd h
+
+  allowed_on : (answer : Bool) (kind : Kind) (s : State) → TellsRecord kind s turns.On → counts_of kind ≡ 1 → allows s.ip answer
+  allowed_on answer (Instruction i) s h one = absurd h
+  allowed_on answer (Faulted inst fault) s h one = absurd h
+  allowed_on answer (Entered e) s h one = absurd (omega (arith, one))
+  allowed_on answer (Interrupted c e) s h one = absurd (omega (arith, one))
+  allowed_on answer (Reached e u) s h one = absurd (omega (arith, one))
+  allowed_on answer (Blocked e a) s h one = absurd (omega (arith, one))
+
+  module _ (g : Given) where
+    -- the text of a step is that of its record
+    step_done : (answer : Bool) (rs : List Record) (turn : Turn) (m : Machine) (plan : Plan) (ls : List Line) → (d : DoesNext g rs turn m plan [] ls)
+        → turn_text answer turn ≡ traced_line (λ a. answer) d.done → traced_line (λ a. answer) d.done ++ text_of (record_lines d.done) ≡ step_text answer turn ls
+    step_done answer rs turn m plan ls d told =
+        let lines : text_of (record_lines d.done) ≡ flat_map line_text ls = ap text_of (sym d.lines) ∙ sym (lines-text ls) in
+        ap (λ (t : List ℕ). t ++ text_of (record_lines d.done)) (sym told) ∙ ap (λ (t : List ℕ). turn_text answer turn ++ t) lines
+
+    pub issued_traced : (text : List ℕ) (answer : Bool) (rs : List Record) (t : Issued) (m : Machine) (plan : Plan) (ls : List Line) → (d : DoesNext g rs (turns.Issued t) m plan [] ls)
+        → TracedBy allows rs text → allows t.address answer → TracedBy allows (d.done ∷ rs) (text ++ step_text answer (turns.Issued t) ls)
+    issued_traced text answer rs t m plan ls d before allowed =
+        let same = step_done answer rs (turns.Issued t) m plan ls d (told_issued answer d.done.kind d.done.before t d.tells) in
+        subst (λ (x : List ℕ). TracedBy allows (d.done ∷ rs) (text ++ x)) same
+        (traced_next rs text d.done answer before (λ one. allowed_issued answer d.done.kind d.done.before t d.tells allowed))
+
+    pub on_traced : (text : List ℕ) (answer : Bool) (rs : List Record) (m : Machine) (plan : Plan) (ls : List Line) → (d : DoesNext g rs turns.On m plan [] ls)
+        → TracedBy allows rs text → TracedBy allows (d.done ∷ rs) (text ++ step_text answer turns.On ls)
+    on_traced text answer rs m plan ls d before =
+        let same = step_done answer rs turns.On m plan ls d (told_on answer d.done.kind d.done.before d.tells) in
+        subst (λ (x : List ℕ). TracedBy allows (d.done ∷ rs) (text ++ x)) same
+        (traced_next rs text d.done answer before (allowed_on answer d.done.kind d.done.before d.tells))
+
+    -- the text of the end's step
+    end_text : (answer : Bool) (rs : List Record) (e : End) (m : Machine) (plan : Plan) (ls : List Line) → Advances g rs (turns.End e) m plan [] ls
+        → step_text answer (turns.End e) ls ≡ text_of (end_lines (state_after g rs) e)
+    end_text answer rs e m plan ls a = lines-text ls ∙ ap text_of a.lines
+
+    module _ {K : Type 0} (k : Account K) where
+      abbrev Printing : Printed → K → K → List ℕ → Type 0
+      Printing answer a b text = Prints answer k a b text
+
+      -- printing stopped behind a record
+      behind_record : (answer : Ran) (rs : List Record) (text : List ℕ) (a b : K) → IsCut answer → IsPast g rs → TracedBy allows rs text → Printing (printed_of answer) a b text
+          → TracesBy answer allows g k a b
+      behind_record answer rs text a b cut past traced p = record {
+        records = rs;
+        past = past;
+        text = text;
+        traced = traced;
+        rest = [];
+        stops = before_end answer cut;
+        prints = prints_same k (printed_of answer) a b _ _ (sym (append-nil text)) p;
       }
 
-  ahead_done : (rs : List Record) (turn : Turn) (m : Machine) (plan : Plan) (ls : List Line) → DoesNext g rs turn m plan [] ls → Ahead rs (map shown_of ls)
-  ahead_done rs turn m plan ls a = ahead_of rs (a.done ∷ rs) (map shown_of ls) a.stands.past (ap (λ (x : List Shown). lines_of rs ++ x) (sym a.lines))
+      -- printing stopped in the text of a step
+      pub in_step : (answer : Ran) (rs : List Record) (text : List ℕ) (passes : Bool) (turn : Turn) (m : Machine) (plan : Plan) (ls : List Line) (a b : K) → IsCut answer
+          → IsPast g rs → Advances g rs turn m plan [] ls → TracedBy allows rs text → AllowsTurn allows turn passes
+          → Printing (printed_of answer) a b (text ++ step_text passes turn ls) → TracesBy answer allows g k a b
+      in_step answer rs text passes turns.On m plan ls a b cut past d traced allowed p =
+          behind_record answer (d.done ∷ rs) _ a b cut d.stands.past (on_traced text passes rs m plan ls d traced) p
+      in_step answer rs text passes (turns.Issued t) m plan ls a b cut past d traced allowed p =
+          behind_record answer (d.done ∷ rs) _ a b cut d.stands.past (issued_traced text passes rs t m plan ls d traced allowed) p
+      in_step answer rs text passes (turns.End e) m plan ls a b cut past d traced allowed p = record {
+        records = rs;
+        past = past;
+        text = text;
+        traced = traced;
+        rest = text_of (end_lines (state_after g rs) e);
+        stops = at_end answer e d.is_end (tells_cut answer e cut);
+        prints = prints_same k (printed_of answer) a b _ _ (ap (λ (t : List ℕ). text ++ t) (end_text passes rs e m plan ls d)) p;
+      }
+      in_step answer rs text passes turns.Memory m plan ls a b cut past d traced allowed p =
+          behind_record answer rs text a b cut past traced (prints_same k (printed_of answer) a b _ _ (nothing_more text ls d.lines) p)
 
-  pub ahead : (rs : List Record) (turn : Turn) (m : Machine) (plan : Plan) (ls : List Line) → IsPast g rs → Advances g rs turn m plan [] ls → Ahead rs (map shown_of ls)
-  ahead rs turns.On m plan ls past a = ahead_done rs turns.On m plan ls a
-  ahead rs (turns.Issued t) m plan ls past a = ahead_done rs (turns.Issued t) m plan ls a
-  ahead rs (turns.End e) m plan ls past a = record {
-    records = rs;
-    end = e;
-    run = record { past = past; ends = a.is_end };
-    rest = [];
-    text = append-nil (text_of (lines_of rs) ++ text_of (map shown_of ls)) ∙ sym (text_of-append (lines_of rs) (map shown_of ls)) ∙ ap (λ (x : List Shown). text_of (lines_of rs ++ x)) a.lines;
-  }
-  ahead rs turns.Memory m plan ls past a = ahead_of rs rs (map shown_of ls) past (sym (append-nil (lines_of rs)) ∙ ap (λ (x : List Shown). lines_of rs ++ x) (sym (ap (map shown_of) a.lines)))
+      -- memory was refused for a step
+      pub ran_refused : (rs : List Record) (text : List ℕ) (passes : Bool) (m : Machine) (plan : Plan) (ls : List Line) (a b : K) → IsPast g rs → Advances g rs turns.Memory m plan [] ls
+          → TracedBy allows rs text → Printing Done a b (text ++ step_text passes turns.Memory ls) → TracesBy ran.Memory allows g k a b
+      ran_refused rs text passes m plan ls a b past d traced p = record {
+        records = rs;
+        past = past;
+        text = text;
+        traced = traced;
+        rest = [];
+        stops = before_end ran.Memory tt;
+        prints = prints_cut k a b text [] (prints_same k Done a b _ _ (nothing_more text ls d.lines) p);
+      }
 
-  module _ {K : Type 0} (k : Account K) where
-    abbrev Printing : Printed → K → K → List ℕ → Type 0
-    Printing answer a b text = Prints answer k a b text
+      -- the end was reached
+      pub ran_done : (rs : List Record) (text : List ℕ) (passes : Bool) (e : End) (m : Machine) (plan : Plan) (ls : List Line) (a b : K) → IsPast g rs
+          → Advances g rs (turns.End e) m plan [] ls → TracedBy allows rs text → Printing Done a b (text ++ step_text passes (turns.End e) ls) → TracesBy (ran.Done e) allows g k a b
+      ran_done rs text passes e m plan ls a b past d traced p = record {
+        records = rs;
+        past = past;
+        text = text;
+        traced = traced;
+        rest = text_of (end_lines (state_after g rs) e);
+        stops = at_end (ran.Done e) e d.is_end refl;
+        prints = prints_same k Done a b _ _ (ap (λ (t : List ℕ). text ++ t) (end_text passes rs e m plan ls d)) p;
+      }
 
-    both : (answer : Printed) (a b c : K) (rs : List Record) (ls : List Line) → Printing Done a b (text_of (lines_of rs)) → Printing answer b c (flat_map line_text ls)
-        → Printing answer a c (text_of (lines_of rs) ++ text_of (map shown_of ls))
-    both answer a b c rs ls p q = prints_then k answer a b c _ _ p (prints_same k answer b c _ _ (lines-text ls) q)
+      -- memory was refused before the first step
+      pub nothing_yet : (a : K) → TracesBy ran.Memory allows g k a a
+      nothing_yet a = record { records = []; past = tt; text = []; traced = traced_none; rest = []; stops = before_end ran.Memory tt; prints = prints_refused k a _ }
 
-    -- a write of the lines of a step failed
-    pub ran_write : (a b c : K) (rs : List Record) (ls : List Line) → Ahead rs (map shown_of ls) → Printing Done a b (text_of (lines_of rs)) → Printing Write b c (flat_map line_text ls)
-        → Runs ran.Write g k a c
-    ran_write a b c rs ls h p q = record {
-      records = h.records;
-      end = h.end;
-      run = h.run;
-      prints = prints_same k Write a c _ _ h.text (prints_stop k Write a c _ h.rest (λ e. cc) (both Write a b c rs ls p q));
-      tells = tt;
-    }
+-- ---- a relation that allows one answer at each address
 
-    -- memory was refused for the lines of a step
-    pub ran_memory : (a b c : K) (rs : List Record) (ls : List Line) → Ahead rs (map shown_of ls) → Printing Done a b (text_of (lines_of rs)) → Printing Memory b c (flat_map line_text ls)
-        → Runs ran.Memory g k a c
-    ran_memory a b c rs ls h p q = record {
-      records = h.records;
-      end = h.end;
-      run = h.run;
-      prints = prints_same k Memory a c _ _ h.text (prints_stop k Memory a c _ h.rest (λ e. cc) (both Memory a b c rs ls p q));
-      tells = tt;
-    }
+-- it allows no answer but this one
+abbrev pub AnswersAs : (ℕ → Bool → Type 0) → (ℕ → Bool) → Type 0
+AnswersAs allows passes = (a : ℕ) (answer : Bool) → allows a answer → answer ≡ passes a
 
-    -- memory was refused for a step
-    pub ran_refused : (a b c : K) (rs : List Record) (ls : List Line) → Ahead rs (map shown_of ls) → Printing Done a b (text_of (lines_of rs)) → Printing Done b c (flat_map line_text ls)
-        → Runs ran.Memory g k a c
-    ran_refused a b c rs ls h p q = record {
-      records = h.records;
-      end = h.end;
-      run = h.run;
-      prints = prints_same k Memory a c _ _ h.text (prints_cut k a c _ h.rest (both Done a b c rs ls p q));
-      tells = tt;
-    }
+module _ (allows : ℕ → Bool → Type 0) (passes : ℕ → Bool) (agree : AnswersAs allows passes) where
+  same_line : (answer : Bool) (kind : Kind) (s : State) → (counts_of kind ≡ 1 → allows s.ip answer) → issued_line (λ a. answer) s (issued_words kind) ≡ issued_line passes s (issued_words kind)
+  same_line answer (Instruction i) s allowed = ap (λ (b : Bool). issued_line (λ a. b) s (issued_words (Instruction i))) (agree s.ip answer (allowed refl))
+  same_line answer (Faulted inst fault) s allowed = ap (λ (b : Bool). issued_line (λ a. b) s (issued_words (Faulted inst fault))) (agree s.ip answer (allowed refl))
+  same_line answer (Entered e) s allowed = refl
+  same_line answer (Interrupted c e) s allowed = refl
+  same_line answer (Reached e u) s allowed = refl
+  same_line answer (Blocked e a) s allowed = refl
 
-    -- the end was reached
-    pub ran_done : (a b c : K) (rs : List Record) (ls : List Line) (e : End) (m : Machine) (plan : Plan) → IsPast g rs → Advances g rs (turns.End e) m plan [] ls
-        → Printing Done a b (text_of (lines_of rs)) → Printing Done b c (flat_map line_text ls) → Runs (ran.Done e) g k a c
-    ran_done a b c rs ls e m plan past d p q = record {
+  same_lines : (rs : List Record) (text : List ℕ) → TracedBy allows rs text → text ≡ traced_lines passes rs
+  same_lines [] text traced_none = refl
+  same_lines (r ∷ rs) text (traced_next _ before _ answer traced allowed) =
+      ap (λ (t : List ℕ). t ++ (traced_line (λ a. answer) r ++ text_of (record_lines r))) (same_lines rs before traced)
+      ∙ ap (λ (t : List ℕ). traced_lines passes rs ++ (t ++ text_of (record_lines r))) (same_line answer r.kind r.before allowed)
+
+  later_lines : (later rs : List Record) → (more : List ℕ) × (traced_lines passes (later ++ rs) ≡ traced_lines passes rs ++ more)
+  later_lines [] rs = ([], sym (append-nil (traced_lines passes rs)))
+  later_lines (r ∷ later) rs =
+      let l = later_lines later rs in
+      let mine = traced_line passes r ++ text_of (record_lines r) in
+      (l.0 ++ mine, ap (λ (t : List ℕ). t ++ mine) l.1 ∙ append_assoc (traced_lines passes rs) l.0 mine)
+
+  module _ {K : Type 0} (k : Account K) (g : Given) where
+    -- the text that was printed goes on to that of a whole run
+    whole_run : (answer : Ran) (rs : List Record) (text rest : List ℕ) (a b : K) → IsPast g rs → text ≡ traced_lines passes rs → StopsWith g rs answer rest
+        → Prints (printed_of answer) k a b (text ++ rest) → RunsAs (traced_text passes) answer g k a b
+    whole_run answer rs text rest a b past same (at_end _ e ends tells) p = record {
       records = rs;
       end = e;
-      run = record { past = past; ends = d.is_end };
-      prints = prints_same k Done a c _ _
-          (sym (text_of-append (lines_of rs) (map shown_of ls)) ∙ ap (λ (x : List Shown). text_of (lines_of rs ++ x)) d.lines) (both Done a b c rs ls p q);
-      tells = refl;
+      run = record { past = past; ends = ends };
+      prints = prints_same k (printed_of answer) a b _ _ (ap (λ (t : List ℕ). t ++ text_of (end_lines (state_after g rs) e)) same) p;
+      tells = tells;
     }
+    whole_run answer rs text rest a b past same (before_end _ cut) p =
+        let on = run_goes_on g rs past in
+        let l = later_lines on.0 rs in
+        let last = text_of (end_lines (state_after g (on.0 ++ rs)) on.1) in
+        let goes_on : (text ++ []) ++ (l.0 ++ last) ≡ traced_lines passes (on.0 ++ rs) ++ last =
+        ap (λ (t : List ℕ). t ++ (l.0 ++ last)) (append-nil text ∙ same) ∙ sym (append_assoc (traced_lines passes rs) l.0 last) ∙ ap (λ (t : List ℕ). t ++ last) (sym l.1) in
+        record {
+          records = on.0 ++ rs;
+          end = on.1;
+          run = on.2;
+          prints = prints_same k (printed_of answer) a b _ _ goes_on (prints_stop k (printed_of answer) a b _ (l.0 ++ last) (not_done answer cut) p);
+          tells = tells_cut answer on.1 cut;
+        }
 
-    -- one more record was printed
-    pub one_more : (a b c : K) (rs : List Record) (ls : List Line) (turn : Turn) (m : Machine) (plan : Plan) → (d : DoesNext g rs turn m plan [] ls)
-        → Printing Done a b (text_of (lines_of rs)) → Printing Done b c (flat_map line_text ls) → Printing Done a c (text_of (lines_of (d.done ∷ rs)))
-    one_more a b c rs ls turn m plan d p q =
-        prints_same k Done a c _ _
-        (sym (text_of-append (lines_of rs) (map shown_of ls)) ∙ ap (λ (x : List Shown). text_of (lines_of rs ++ x)) d.lines) (both Done a b c rs ls p q)
+    whole : (answer : Ran) (a b : K) → TracesBy answer allows g k a b → RunsAs (traced_text passes) answer g k a b
+    whole answer a b h = whole_run answer h.records h.text h.rest a b h.past (same_lines h.records h.text h.traced) h.stops h.prints
 
-    -- memory was refused before the first step
-    pub nothing_yet : (a : K) → Runs ran.Memory g k a a
-    nothing_yet a =
-        let later = text_goes_on g [] tt in
-        record { records = later.0 ++ []; end = later.1; run = later.3; prints = prints_refused k a _; tells = tt }
+-- the addresses of a range pass
+pub runs_ranged : (allows : ℕ → Bool → Type 0) {K : Type 0} (k : Account K) (g : Given) (answer : Ran) (traced : Option Range) (range : Range) (a b : K) → traced ≡ Some range
+    → TracesBy answer allows g k a b → AnswersAs allows (is_within range) → Runs answer traced g k a b
+runs_ranged allows k g answer traced range a b e traces agree = subst (λ (o : Option Range). Runs answer o g k a b) (sym e) (whole allows (is_within range) agree k g answer a b traces)
+
+-- ---- nothing is traced
+
+-- the text without the line of any instruction
+none_traced : (rs : List Record) → traced_lines (λ a. false) rs ≡ text_of (lines_of rs)
+none_traced [] = refl
+none_traced (r ∷ rs) =
+    ap (λ (t : List ℕ). traced_lines (λ a. false) rs ++ (t ++ text_of (record_lines r))) (no_line r.before (issued_words r.kind))
+    ∙ ap (λ (t : List ℕ). t ++ text_of (record_lines r)) (none_traced rs) ∙ sym (text_of-append (lines_of rs) (record_lines r))
+  where
+    no_line : (s : State) (words : _) → issued_line (λ a. false) s words ≡ []
+    no_line s None = refl
+    no_line s (Some n) = refl
+
+untraced_text : (g : Given) (rs : List Record) (f : End) → traced_text (λ a. false) g rs f ≡ run_text g rs f
+untraced_text g rs f =
+    ap (λ (t : List ℕ). t ++ text_of (end_lines (state_after g rs) f)) (none_traced rs) ∙ sym (text_of-append (lines_of rs) (end_lines (state_after g rs) f))
+
+pub runs_unranged : (allows : ℕ → Bool → Type 0) {K : Type 0} (k : Account K) (g : Given) (answer : Ran) (traced : Option Range) (a b : K) → traced ≡ None
+    → TracesBy answer allows g k a b → AnswersAs allows (λ a. false) → Runs answer traced g k a b
+runs_unranged allows k g answer traced a b e traces agree =
+    let h = whole allows (λ a. false) agree k g answer a b traces in
+    subst (λ (o : Option Range). Runs answer o g k a b) (sym e)
+    (record { records = h.records; end = h.end; run = h.run; prints = prints_same k (printed_of answer) a b _ _ (untraced_text g h.records h.end) h.prints; tells = h.tells })

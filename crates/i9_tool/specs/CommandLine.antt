@@ -5,12 +5,14 @@ use Rattle.std.specs.Fmt.{decimal}
 use Rattle.std.specs.Str.{bytes_eq}
 use Rattle.i9_text.specs.Text.{number_of}
 use Rattle.i9_model.specs.declared.layout.TheConstants.{MAX_LENGTH, MOST_SETS}
+use Rattle.i9_tool.specs.declared.words.Range.{Range}
 
 -- What the words ask for: to run the image of this name, with the events of the schedule of this name or with none, with
--- so many sets or, where none are asked for, with those of the PRCB, for at most so many instructions; to assemble the
--- source of this name; to list the image of this name; or to run, in so many sets, the job that is made from a number.
+-- so many sets or, where none are asked for, with those of the PRCB, for at most so many instructions, and to trace the
+-- instructions of a range of addresses or none; to assemble the source of this name; to list the image of this name; or
+-- to run, in so many sets, the job that is made from a number.
 pub data Command : Type 0 where
-  Run : (image : List ℕ) → (schedule : Option (List ℕ)) → (sets : Option ℕ) → (limit : ℕ) → Command
+  Run : (image : List ℕ) → (schedule : Option (List ℕ)) → (sets : Option ℕ) → (limit : ℕ) → (traced : Option Range) → Command
   Asm : (source : List ℕ) → Command
   Dis : (image : List ℕ) → Command
   Gen : (number : ℕ) → (sets : Option ℕ) → Command
@@ -22,7 +24,7 @@ with_name (Some name) = name ∷ []
 
 -- the files that a command names, in the order in which they are read
 abbrev pub files_of : Command → List (List ℕ)
-files_of (Run image schedule sets limit) = image ∷ with_name schedule
+files_of (Run image schedule sets limit traced) = image ∷ with_name schedule
 files_of (Asm source) = source ∷ []
 files_of (Dis image) = image ∷ []
 files_of (Gen number sets) = []
@@ -47,11 +49,27 @@ sets_for word = if is_dash word then Some None else option_map (λ n. Some n) (n
 unfoldable pub schedule_for : List ℕ → Option (Option (List ℕ))
 schedule_for word = if is_dash word then Some None else if length word == 0 then None else Some (Some word)
 
-abbrev pub run_for : List ℕ → Option (Option (List ℕ)) → Option (Option ℕ) → Option ℕ → Option Command
-run_for image (Some schedule) (Some sets) (Some limit) = Some (Run image schedule sets limit)
-run_for image None sets limit = None
-run_for image (Some schedule) None limit = None
-run_for image (Some schedule) (Some sets) None = None
+-- an address, of one to eight hexadecimal digits of either case
+abbrev pub address_of : List ℕ → Option ℕ
+address_of word = number_of 16 8 word
+
+-- the range from an address to another one
+abbrev pub range_for : Option ℕ → Option ℕ → Option Range
+range_for (Some low) (Some high) = Some (record { low = low; high = high })
+range_for None high = None
+range_for (Some low) None = None
+
+-- a run whose parts the words say, with what is traced of it
+abbrev pub run_for : List ℕ → Option (Option (List ℕ)) → Option (Option ℕ) → Option ℕ → Option Range → Option Command
+run_for image (Some schedule) (Some sets) (Some limit) traced = Some (Run image schedule sets limit traced)
+run_for image None sets limit traced = None
+run_for image (Some schedule) None limit traced = None
+run_for image (Some schedule) (Some sets) None traced = None
+
+-- a run of which the instructions of a range are traced
+abbrev pub trace_for : List ℕ → Option (Option (List ℕ)) → Option (Option ℕ) → Option ℕ → Option Range → Option Command
+trace_for image schedule sets limit (Some range) = run_for image schedule sets limit (Some range)
+trace_for image schedule sets limit None = None
 
 -- the greatest number that a job is made from
 abbrev pub most_number : ℕ
@@ -70,15 +88,19 @@ file_for name file =
     else if bytes_eq name (codes "dis") then Some (Dis file)
     else None
 
--- `asm SOURCE`, `dis IMAGE`, `gen NUMBER SETS`, or `run IMAGE SCHEDULE SETS LENGTH`, with names of files that aren't
--- empty
+-- `asm SOURCE`, `dis IMAGE`, `gen NUMBER SETS`, `run IMAGE SCHEDULE SETS LENGTH`, or
+-- `trace IMAGE SCHEDULE SETS LENGTH LOW HIGH`, with names of files that aren't empty
 unfoldable pub command_of : List (List ℕ) → Option Command
 command_of (name ∷ file ∷ []) = file_for name file
 command_of (name ∷ number ∷ sets ∷ []) =
     if bytes_eq name (codes "gen") then gen_for (number_in 0 most_number number) (sets_for sets) else None
 command_of (name ∷ image ∷ schedule ∷ sets ∷ limit ∷ []) =
     if bytes_eq name (codes "run") && not (length image == 0)
-    then run_for image (schedule_for schedule) (sets_for sets) (number_in 0 MAX_LENGTH limit)
+    then run_for image (schedule_for schedule) (sets_for sets) (number_in 0 MAX_LENGTH limit) None
+    else None
+command_of (name ∷ image ∷ schedule ∷ sets ∷ limit ∷ low ∷ high ∷ []) =
+    if bytes_eq name (codes "trace") && not (length image == 0)
+    then trace_for image (schedule_for schedule) (sets_for sets) (number_in 0 MAX_LENGTH limit) (range_for (address_of low) (address_of high))
     else None
 command_of _ = None
 

@@ -10,13 +10,15 @@ use Rattle.i9_model.specs.declared.event.Timed.{Timed}
 use Rattle.i9_model.specs.Given.{Given, given}
 use Rattle.i9_model.specs.declared.run.End.{End}
 use Rattle.i9_model.specs.Run.{Record, IsRun, state_after, reached_after}
-use Rattle.i9_model.specs.PrintedText.{run_text, end_code}
+use Rattle.i9_model.specs.PrintedText.{end_code}
 use Rattle.i9_model.specs.Image.{Part, pairs_of}
 use Rattle.i9_model.specs.declared.layout.TheConstants.{MAX_LENGTH}
 use Rattle.i9_hex.specs.Writing.{hex_text}
 use Rattle.i9_asm.specs.Laws.{IsAssembly, IsRefusedSource}
 use Rattle.i9_asm.specs.Listing.{IsListing}
 use Rattle.i9_tool.specs.CommandLine.{Command, Run, Asm, Dis, Gen, files_of, command_of, words_line, read_line, image_word, schedule_word, source_word, long_line, refused_line}
+use Rattle.i9_tool.specs.declared.words.Range.{Range}
+use Rattle.i9_tool.specs.Traced.{printed_text}
 use Rattle.i9_tool.specs.Generator.{generated_source, generated_schedule, generated_line}
 use Rattle.i9_outside.specs.declared.traits.TheConstants.{FILE_LIMIT}
 use Rattle.i9_tool.specs.declared.print.Printed.{Printed}
@@ -32,10 +34,10 @@ pub data Reads (told : Option (List ℕ)) (rose : Type 0) (gives : List ℕ → 
   unread : rose → Reads told rose gives 5 read_line
   fetched : (file : List ℕ) (code : ℕ) (text : List ℕ) → IsFile told file → gives file code text → Reads told rose gives code text
 
--- For an image that was accepted, with these events: its run is printed to its end.
-pub data RunGives (sets : Option ℕ) (limit : ℕ) (pairs : List (ℕ × ℕ)) (events : List Timed) : ℕ → List ℕ → Type 0 where
+-- For an image that was accepted, with these events: its run is printed to its end, and what is traced of it.
+pub data RunGives (sets : Option ℕ) (limit : ℕ) (traced : Option Range) (pairs : List (ℕ × ℕ)) (events : List Timed) : ℕ → List ℕ → Type 0 where
   runs : (records : List Record) (end : End) → IsRun (given pairs events limit sets) records end
-      → RunGives sets limit pairs events (end_code end) (run_text (given pairs events limit sets) records end)
+      → RunGives sets limit traced pairs events (end_code end) (printed_text traced (given pairs events limit sets) records end)
 
 -- For a schedule that was fetched: it is too long, it is refused for its first line at fault, or a run has its events.
 pub data ScheduleGives (run : List Timed → ℕ → List ℕ → Type 0) (file : List ℕ) : ℕ → List ℕ → Type 0 where
@@ -100,8 +102,8 @@ module _ (told : List ℕ → Option (List ℕ)) (rose : List ℕ → Type 0) wh
 
   -- the image comes first, and the schedule only where it is accepted
   abbrev pub CommandGives : Command → ℕ → List ℕ → Type 0
-  CommandGives (Run image schedule sets limit) =
-      Reads (told image) (rose image) (ImageGives (λ pairs. PlanGives schedule (RunGives sets limit pairs)))
+  CommandGives (Run image schedule sets limit traced) =
+      Reads (told image) (rose image) (ImageGives (λ pairs. PlanGives schedule (RunGives sets limit traced pairs)))
   CommandGives (Asm source) = Reads (told source) (rose source) SourceGives
   CommandGives (Dis image) = Reads (told image) (rose image) (ImageGives DisGives)
   CommandGives (Gen number sets) = GenGives number sets
@@ -203,10 +205,10 @@ pub data FetchesFiles {F : Type 0} (told : F → List ℕ → Option (List ℕ))
       → FetchesFiles told faults fetches code old (Some (Asm source)) new
   listed_file : (image : List ℕ) (new : F) → FetchesOnce faults fetches image code old new
       → FetchesFiles told faults fetches code old (Some (Dis image)) new
-  image_unread : (image : List ℕ) (schedule : Option (List ℕ)) (sets : Option ℕ) (limit : ℕ) (new : F)
+  image_unread : (image : List ℕ) (schedule : Option (List ℕ)) (sets : Option ℕ) (limit : ℕ) (traced : Option Range) (new : F)
       → FetchesOnce faults fetches image code old new → Rose (faults old image) (faults new image) ⊎ (code ≡ 7)
-      → FetchesFiles told faults fetches code old (Some (Run image schedule sets limit)) new
-  image_read : (image : List ℕ) (schedule : Option (List ℕ)) (sets : Option ℕ) (limit : ℕ) (file : List ℕ) (mid new : F)
+      → FetchesFiles told faults fetches code old (Some (Run image schedule sets limit traced)) new
+  image_read : (image : List ℕ) (schedule : Option (List ℕ)) (sets : Option ℕ) (limit : ℕ) (traced : Option Range) (file : List ℕ) (mid new : F)
       → FetchesOnce faults fetches image code old mid → IsFile (told old image) file
       → FetchesAfter faults fetches file schedule code mid new
-      → FetchesFiles told faults fetches code old (Some (Run image schedule sets limit)) new
+      → FetchesFiles told faults fetches code old (Some (Run image schedule sets limit traced)) new

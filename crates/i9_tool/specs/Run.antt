@@ -1,14 +1,19 @@
 -- What running an image does to a sink, and what a run comes to.
-use Rattle.std.specs.Prelude.{◌≡◌, List, length}
+use Rattle.std.specs.Prelude.{◌≡◌, ℕ, Bool, List, [], ◌∷◌, ◌++◌, length, flat_map, Option}
 use Rattle.i9_model.specs.declared.run.End.{End}
-use Rattle.i9_model.specs.Run.{Given, Record, IsRun, state_after, reached_after}
-use Rattle.i9_model.specs.PrintedText.{run_text}
+use Rattle.i9_model.specs.Run.{Given, Record, Ends, IsPast, IsRun, counts_of, next, state_after, reached_after}
+use Rattle.i9_model.specs.PrintedText.{text_of, record_lines, end_lines}
+use Rattle.i9_machine.specs.declared.line.Line.{Line}
+use Rattle.i9_machine.specs.declared.line.Turn.{Turn}
+use Rattle.i9_machine.specs.declared.line.Turn.TheVariants as turns
+use Rattle.i9_tool.specs.declared.words.Range.{Range}
+use Rattle.i9_tool.specs.Traced.{line_where, traced_line, printed_text}
 use Rattle.i9_tool.specs.declared.print.Printed.{Printed}
 use Rattle.i9_tool.specs.declared.print.Printed.TheVariants as printed
 use Rattle.i9_tool.specs.declared.run.Counted.{Counted}
 use Rattle.i9_tool.specs.declared.run.Ran.{Ran}
 use Rattle.i9_tool.specs.declared.run.Ran.TheVariants as ran
-use Rattle.i9_tool.specs.Print.{Account, Prints}
+use Rattle.i9_tool.specs.Print.{Account, Prints, line_text}
 
 -- how the printing of the run's text ended
 abbrev pub printed_of : Ran → Printed
@@ -22,13 +27,73 @@ TellsEnd (ran.Done end) f = end ≡ f
 TellsEnd ran.Write f = Unit {0}
 TellsEnd ran.Memory f = Unit {0}
 
--- The text of the run of what is given was printed on a sink of this type, or a front of it.
-pub record Runs {K : Type 0} (answer : Ran) (g : Given) (k : Account K) (old new : K) : Type 0 where
+-- A text of the run of what is given was printed on a sink of this type, or a front of it.
+pub record RunsAs {K : Type 0} (text : Given → List Record → End → List ℕ) (answer : Ran) (g : Given) (k : Account K) (old new : K) : Type 0 where
   pub records : List Record
   pub end : End
   pub run : IsRun g records end
-  pub prints : Prints (printed_of answer) k old new (run_text g records end)
+  pub prints : Prints (printed_of answer) k old new (text g records end)
   pub tells : TellsEnd answer end
+
+-- the text of a run of which a range is traced, or nothing
+abbrev pub Runs : {K : Type 0} → Ran → Option Range → Given → Account K → K → K → Type 0
+Runs answer traced g k old new = RunsAs (printed_text traced) answer g k old new
+
+-- ---- the same under a relation of answers, those that it allows at an address
+
+-- A text of records, newest first, where the line of an instruction goes by an answer that is allowed at its address.
+pub data TracedBy (allows : ℕ → Bool → Type 0) : List Record → List ℕ → Type 0 where
+  traced_none : TracedBy allows [] []
+  traced_next : (rs : List Record) (text : List ℕ) (r : Record) (answer : Bool) → TracedBy allows rs text
+      → (counts_of r.kind ≡ 1 → allows r.before.ip answer)
+      → TracedBy allows (r ∷ rs) (text ++ (traced_line (λ a. answer) r ++ text_of (record_lines r)))
+
+-- printing stopped before all was printed
+abbrev pub IsCut : Ran → Type 0
+IsCut (ran.Done end) = ⊥
+IsCut ran.Write = Unit {0}
+IsCut ran.Memory = Unit {0}
+
+-- what came behind the text of records: that of the end, where it was reached, and nothing where printing stopped
+pub data StopsWith (g : Given) (rs : List Record) : Ran → List ℕ → Type 0 where
+  at_end : (answer : Ran) (end : End) → next g rs ≡ Ends end → TellsEnd answer end
+      → StopsWith g rs answer (text_of (end_lines (state_after g rs) end))
+  before_end : (answer : Ran) → IsCut answer → StopsWith g rs answer []
+
+-- The text of the first records of the run of what is given was printed on a sink of this type, or a front of it; where
+-- all was printed, they are all, and the end is behind them.
+pub record TracesBy {K : Type 0} (answer : Ran) (allows : ℕ → Bool → Type 0) (g : Given) (k : Account K) (old new : K) : Type 0 where
+  pub records : List Record
+  pub past : IsPast g records
+  pub text : List ℕ
+  pub traced : TracedBy allows records text
+  pub rest : List ℕ
+  pub stops : StopsWith g records answer rest
+  pub prints : Prints (printed_of answer) k old new (text ++ rest)
+
+-- an answer is allowed at the address of a step's instruction
+abbrev pub AllowsTurn : (ℕ → Bool → Type 0) → Turn → Bool → Type 0
+AllowsTurn allows turns.On answer = Unit {0}
+AllowsTurn allows (turns.Issued t) answer = allows t.address answer
+AllowsTurn allows (turns.End e) answer = Unit {0}
+AllowsTurn allows turns.Memory answer = Unit {0}
+
+-- the line of a step's instruction, where the answer is true
+abbrev pub turn_text : Bool → Turn → List ℕ
+turn_text answer turns.On = []
+turn_text answer (turns.Issued t) = line_where answer t.count t.address t.first t.second
+turn_text answer (turns.End e) = []
+turn_text answer turns.Memory = []
+
+-- what is printed of a step: the line of its instruction, and then its lines
+abbrev pub step_text : Bool → Turn → List Line → List ℕ
+step_text answer turn lines = turn_text answer turn ++ flat_map line_text lines
+
+-- The text of a step was printed, where an answer that is allowed says whether it has the line of an instruction.
+pub record PrintsBy {K : Type 0} (answer : Printed) (allows : ℕ → Bool → Type 0) (turn : Turn) (text : Bool → List ℕ) (k : Account K) (old new : K) : Type 0 where
+  pub passes : Bool
+  pub allowed : AllowsTurn allows turn passes
+  pub prints : Prints answer k old new (text passes)
 
 -- The run of what is given comes to so many instructions and so many events, and to this end.
 pub record Counts (counted : Counted) (g : Given) : Type 0 where

@@ -9,7 +9,7 @@ use Rattle.i9_tool.specs.declared.words.JobWords.{JobWords}
 use Rattle.i9_tool.specs.declared.words.RunWords.{RunWords}
 
 abbrev pub run_by : RunWords → Command
-run_by run = Run run.image.now (option_copied run.schedule) run.sets run.limit
+run_by run = Run run.image.now (option_copied run.schedule) run.sets run.limit run.traced
 
 abbrev pub job_by : JobWords → Command
 job_by job = Gen job.number job.sets

@@ -4,6 +4,7 @@
 ghost use Rattle.std.specs.Prelude.{◌≡◌, ◌≢◌, ◌≤◌, ◌<◌, ℕ, Bool, true, List, Option, Some, IsSome, length};
 ghost use Rattle.std.specs.List.{AllByRecursion};
 ghost use Rattle.i9_tool.specs.CommandLine.{Command, Run, Gen};
+ghost use Rattle.i9_tool.specs.declared.words.Range.{Range};
 ghost use Rattle.i9_outside.specs.Calls.{NoneToFail};
 ghost use Rattle.i9_outside.specs.MemFiles as mem_files;
 ghost use Rattle.i9_outside.specs.MemSink as mem_sink;
@@ -31,9 +32,9 @@ pub fn one_outcome()
         → AllTold told (names_of asked) → c ≢ 5 → d ≢ 5
         → Gives told (λ n. risen n ≡ true) asked c s → Gives told (λ n. risen n ≡ true) asked d t → s ≡ t }
     ensures sets { (told : List ℕ → Option (List ℕ)) (risen : List ℕ → Bool) (image : List ℕ)
-        (schedule : Option (List ℕ)) (sets others : Option ℕ) (limit code : ℕ) (text : List ℕ)
-        → Gives told (λ n. risen n ≡ true) (Some (Run image schedule sets limit)) code text
-        → Gives told (λ n. risen n ≡ true) (Some (Run image schedule others limit)) code text }
+        (schedule : Option (List ℕ)) (sets others : Option ℕ) (limit code : ℕ) (traced : Option Range) (text : List ℕ)
+        → Gives told (λ n. risen n ≡ true) (Some (Run image schedule sets limit traced)) code text
+        → Gives told (λ n. risen n ≡ true) (Some (Run image schedule others limit traced)) code text }
     ensures job_sets { (told : List ℕ → Option (List ℕ)) (risen : List ℕ → Bool) (number : ℕ)
         (sets others : Option ℕ) (code : ℕ) (text : List ℕ)
         → Gives told (λ n. risen n ≡ true) (Some (Gen number sets)) code text

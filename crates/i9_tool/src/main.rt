@@ -42,6 +42,8 @@ mod status;
 mod tests;
 mod text;
 mod top;
+#[cfg(test)]
+mod trace_tests;
 mod words;
 
 pub use crate::generator::generate;

@@ -62,12 +62,13 @@ pub(crate) const TO_USER_MODE: &str = "
 /// Numbers of sets as words of the command: that of the PRCB, and one, five and fifteen.
 const SETS: [&str; 4] = ["-", "1", "5", "15"];
 
-/// A case: a source, the lines of a schedule, the length of the run of the image as a word of the command, and what is
-/// to be printed.
+/// A case: a source, the lines of a schedule, the first word of the command, its words from the length of the run on,
+/// and what is to be printed.
 #[derive(Drop)]
 struct Case {
     source: String,
     schedule: String,
+    command: String,
     length: String,
     printed: String,
 }
@@ -124,7 +125,7 @@ fn holds_with(
     let mut sink = MemSink::new(alloc);
     sink.room(4096)?;
     let plan = if schedule.is_empty() { "-" } else { "b" };
-    let line = format!(in alloc; "run a {plan} {sets} {}", case.length)?;
+    let line = format!(in alloc; "{} a {plan} {sets} {}", case.command, case.length)?;
     let words = words_of(alloc, &line)?;
     let status = i960_in_memory(alloc, &words, &mut files, &mut sink);
     Ok(status.code == code && sink.bytes() == case.printed.as_bytes())
@@ -150,6 +151,7 @@ fn holds(alloc: Global, fronts: &[&str], case: &Case, code: u8) -> Result<bool, 
 /// Begins a case behind its source.
 fn begin_case(case: &mut Case) {
     case.schedule.clear();
+    case.command.clear();
     case.length.clear();
     case.printed.clear();
 }
@@ -164,7 +166,10 @@ fn take_line(alloc: Global, case: &mut Case, line: &str) -> Result<(), Fail> {
         ("--", _) => begin_case(case),
         ("at", _) if case.length.is_empty() => add_line(&mut case.schedule, line)?,
         ("at", _) => add_line(&mut case.printed, line)?,
-        ("run", length) => case.length.push_str(length)?,
+        (command @ ("run" | "trace"), length) => {
+            case.command.push_str(command)?;
+            case.length.push_str(length)?;
+        }
         ("#g", given) => add_registers(alloc, &mut case.printed, "#g", given)?,
         ("#l", given) => add_registers(alloc, &mut case.printed, "#l", given)?,
         _ if line.starts_with('#') => add_line(&mut case.printed, line)?,
@@ -174,12 +179,14 @@ fn take_line(alloc: Global, case: &mut Case, line: &str) -> Result<(), Fail> {
 }
 
 /// How many cases of a table hold. Behind the title, which begins with `==`, come the lines of the source, those of the
-/// schedule, which begin with `at`, the length of the run, what is to be printed, where those registers are given that
-/// are not 0, and the status. Where a title begins with `--`, the source goes on from the case before.
+/// schedule, which begin with `at`, `run` and the length of the run, or `trace`, the length and a range, what is to be
+/// printed, where those registers are given that are not 0, and the status. Where a title begins with `--`, the source
+/// goes on from the case before.
 pub(crate) fn held(alloc: Global, fronts: &[&str], table: &str) -> Result<u32, Fail> {
     let mut case = Case {
         source: String::new(alloc),
         schedule: String::new(alloc),
+        command: String::new(alloc),
         length: String::new(alloc),
         printed: String::new(alloc),
     };

@@ -1,18 +1,21 @@
 //! Running an image to its end, and printing its lines or counting what was done.
-ghost use Rattle.std.specs.Prelude.{◌≡◌, ◌≤◌, IfOk};
+ghost use Rattle.std.specs.Prelude.{◌≡◌, ◌≤◌, ◌&&◌, nat_le, false, IfOk};
 ghost use Rattle.i9_model.specs.Given.{given};
 ghost use Rattle.i9_model.specs.declared.layout.TheConstants.{MAX_LENGTH};
 ghost use Rattle.i9_model.specs.Image.{pairs_of};
+ghost use Rattle.i9_tracer.specs.Closures.{TakesEachAddress};
 ghost use Rattle.i9_tool.specs.Print.{account};
-ghost use Rattle.i9_tool.specs.Run.{Runs, Counts};
+ghost use Rattle.i9_tool.specs.Run.{Counts, PrintsBy, Runs, TracesBy, step_text, turn_text};
 ghost use Rattle.i9_tool.specs.Words.{AreFew};
 
-use crate::print::{Printed, print_lines};
+use crate::print::{Printed, print_lines, print_text};
+use crate::words::Range;
 use i9_hex::Segments;
 use i9_isa::NoMemory;
-use i9_machine::{End, Machine, Turn};
+use i9_machine::{End, Line, Machine, Turn};
 use i9_outside::Sink;
 use i9_schedule::Schedule;
+use i9_tracer::{AddressTest, Filter, trace_line};
 use std::alloc::Global;
 
 /// How running went.
@@ -26,31 +29,70 @@ pub(crate) enum Ran {
     Memory,
 }
 
-/// Runs an image with the events of a schedule and its frames in so many sets, for at most so many
-/// instructions, and prints the lines of the run as they come.
-pub(crate) fn run<K: Sink>(
+/// Prints the line of the instruction of a step where its address passes a filter, and nothing otherwise.
+fn print_turn<K: Sink, F: Fn(u32) -> bool + AddressTest>(
+    alloc: Global,
+    f: &Filter<F>,
+    turn: &Turn,
+    out: &mut K,
+) -> Printed
+    ensures { PrintsBy result (F.AddressTest.allows f.now) turn.now (λ passes. turn_text passes turn.now)
+        (account K.told K.faults K.writes K.sure) out.old out.new }
+{
+    let Turn::Issued(issued) = turn else {
+        return Printed::Done;
+    };
+    match trace_line(alloc, f, issued) {
+        Ok(Some(line)) => print_text(&line, out),
+        Ok(None) => Printed::Done,
+        Err(NoMemory) => Printed::Memory,
+    }
+}
+
+/// Prints the lines of a step, and before them that of its instruction where its address passes a filter.
+fn print_step<K: Sink, F: Fn(u32) -> bool + AddressTest>(
+    alloc: Global,
+    f: &Filter<F>,
+    turn: &Turn,
+    lines: &[Line],
+    out: &mut K,
+) -> Printed
+    ensures { PrintsBy result (F.AddressTest.allows f.now) turn.now (λ passes. step_text passes turn.now lines.now)
+        (account K.told K.faults K.writes K.sure) out.old out.new }
+{
+    match print_turn(alloc, f, turn, out) {
+        Printed::Done => print_lines(alloc, lines, out),
+        Printed::Write => Printed::Write,
+        Printed::Memory => Printed::Memory,
+    }
+}
+
+/// Runs an image with the events of a schedule and its frames in so many sets, for at most so many instructions, and
+/// prints the lines of the run as they come, and before those of an instruction its own, where its address passes a
+/// filter.
+fn run_filtered<K: Sink, F: Fn(u32) -> bool + AddressTest>(
     alloc: Global,
     image: &Segments,
     plan: &mut Schedule,
     sets: Option<u8>,
     limit: u64,
+    f: &Filter<F>,
     out: &mut K,
 ) -> Ran
     requires begins { plan.old.place ≡ 0 }
     requires few { AreFew sets }
     requires short { limit ≤ MAX_LENGTH }
-    ensures { Runs result (given (pairs_of image.now) plan.old.events limit sets)
+    ensures { TracesBy result (F.AddressTest.allows f.now) (given (pairs_of image.now) plan.old.events limit sets)
         (account K.told K.faults K.writes K.sure) out.old out.new }
 {
-    let mut machine = match Machine::new(alloc, image, sets, limit) {
-        Ok(machine) => machine,
-        Err(_) => return Ran::Memory,
+    let Ok(mut machine) = Machine::new(alloc, image, sets, limit) else {
+        return Ran::Memory;
     };
     let mut lines = Vec::new(alloc);
     loop {
         lines.clear();
         let turn = machine.advance(plan, &mut lines);
-        match print_lines(alloc, &lines, out) {
+        match print_step(alloc, f, &turn, &lines, out) {
             Printed::Done => {}
             Printed::Write => return Ran::Write,
             Printed::Memory => return Ran::Memory,
@@ -60,6 +102,60 @@ pub(crate) fn run<K: Sink>(
             Turn::Issued(_) => {}
             Turn::End(end) => return Ran::Done(end),
             Turn::Memory => return Ran::Memory,
+        }
+    }
+}
+
+/// Runs an image as `run_filtered` does, under the filter of a closure.
+fn run_with<K: Sink, F: Fn(u32) -> bool + AddressTest>(
+    alloc: Global,
+    image: &Segments,
+    plan: &mut Schedule,
+    sets: Option<u8>,
+    limit: u64,
+    f: F,
+    out: &mut K,
+) -> Ran
+    requires begins { plan.old.place ≡ 0 }
+    requires few { AreFew sets }
+    requires short { limit ≤ MAX_LENGTH }
+    requires takes { TakesEachAddress (F.AddressTest.can_test f) }
+    ensures { TracesBy result (F.AddressTest.allows f) (given (pairs_of image.now) plan.old.events limit sets)
+        (account K.told K.faults K.writes K.sure) out.old out.new }
+{
+    run_filtered(alloc, image, plan, sets, limit, &Filter::new(f), out)
+}
+
+/// Runs an image with the events of a schedule and its frames in so many sets, for at most so many instructions, and
+/// prints the lines of the run as they come. Where a range is traced, the line of each instruction of it comes before
+/// the lines of its step.
+pub(crate) fn run<K: Sink>(
+    alloc: Global,
+    image: &Segments,
+    plan: &mut Schedule,
+    sets: Option<u8>,
+    limit: u64,
+    traced: Option<Range>,
+    out: &mut K,
+) -> Ran
+    requires begins { plan.old.place ≡ 0 }
+    requires few { AreFew sets }
+    requires short { limit ≤ MAX_LENGTH }
+    ensures { Runs result traced (given (pairs_of image.now) plan.old.events limit sets)
+        (account K.told K.faults K.writes K.sure) out.old out.new }
+{
+    match traced {
+        None => {
+            let passes = |_address: u32|
+                ensures { result ≡ false }
+            { false };
+            run_with(alloc, image, plan, sets, limit, passes, out)
+        }
+        Some(Range { low, high }) => {
+            let passes = |address: u32|
+                ensures { result ≡ (nat_le low address && nat_le address high) }
+            { low <= address && address <= high };
+            run_with(alloc, image, plan, sets, limit, passes, out)
         }
     }
 }

@@ -25,14 +25,16 @@ pub(crate) const SMALLEST: &str = ":02000004FFFFFC
 :00000001FF
 ";
 
-const PRINTED: &str = "#out 41
+/// What its run prints.
+pub(crate) const PRINTED: &str = "#out 41
 #point 5 end 00001018 00000000 001F2002
 #g 00000000 00000000 00000000 00000000 00000007 E0000000 00000000 00000000 00000000 00000000 00000000 00000000 00000000 00000000 00000000 00000000
 #l 00000000 00000040 00000000 00000000 00000000 00000000 00000000 00000000 00000000 00000000 00000000 00000000 00000000 00000000 00000000 00000000
 #end exit 00000007
 ";
 
-const AT_ONCE: &str = "#point 0 end 00001000 00000000 001F2002
+/// What its run of no instruction prints.
+pub(crate) const AT_ONCE: &str = "#point 0 end 00001000 00000000 001F2002
 #g 00000000 00000000 00000000 00000000 00000000 00000000 00000000 00000000 00000000 00000000 00000000 00000000 00000000 00000000 00000000 00000000
 #l 00000000 00000040 00000000 00000000 00000000 00000000 00000000 00000000 00000000 00000000 00000000 00000000 00000000 00000000 00000000 00000000
 #end limit
@@ -172,16 +174,21 @@ fn first_lines(alloc: Global, text: &str, count: usize) -> Result<String, Fail> 
     Ok(front)
 }
 
-/// Whether a row's room and failing write leave its lines of the smallest run.
-fn leaves_lines(alloc: Global, row: &str) -> Result<bool, Fail> {
+/// Whether a row's room and failing write leave its lines of a text, which the smallest image prints by these words.
+pub(crate) fn leaves_lines(
+    alloc: Global,
+    words: &str,
+    text: &str,
+    row: &str,
+) -> Result<bool, Fail> {
     let mut numbers = row.split(' ');
     let room = numbers.next().unwrap_or("").parse::<u64>()?;
     let failing = numbers.next().unwrap_or("").parse::<u64>()?;
     let lines = numbers.next().unwrap_or("").parse::<usize>()?;
-    let printed = first_lines(alloc, PRINTED, lines)?;
+    let printed = first_lines(alloc, text, lines)?;
     let case = Case {
         file: SMALLEST.as_bytes(),
-        words: "run a - - 100",
+        words,
         printed: &printed,
     };
     Ok(run_with(alloc, &case, room, failing)? == (6, true))
@@ -190,7 +197,10 @@ fn leaves_lines(alloc: Global, row: &str) -> Result<bool, Fail> {
 #[test]
 fn writes_that_fail_leave_the_lines_before(rt: HostRuntime) -> Result<(), Fail> {
     for row in FAILING_WRITES.lines() {
-        assert!(rt; leaves_lines(rt.alloc(), row)?, "at {row}");
+        assert!(rt;
+            leaves_lines(rt.alloc(), "run a - - 100", PRINTED, row)?,
+            "at {row}"
+        );
     }
     Ok(())
 }

@@ -55,11 +55,19 @@ fn run_image<K: Sink>(
 ) -> Status
     requires can { CanRun words.now }
     requires begins { plan.old.place ≡ 0 }
-    ensures answers { Answers (RunGives words.now.sets words.now.limit (pairs_of image.now) plan.old.events)
+    ensures answers { Answers (RunGives words.now.sets words.now.limit words.now.traced (pairs_of image.now) plan.old.events)
         result.code (account K.told K.faults K.writes K.sure) out.old out.new }
     ensures read { result.code ≢ 5 }
 {
-    status_of_run(run(alloc, image, plan, words.sets, words.limit, out))
+    status_of_run(run(
+        alloc,
+        image,
+        plan,
+        words.sets,
+        words.limit,
+        words.traced,
+        out,
+    ))
 }
 
 /// A schedule without events.
@@ -76,7 +84,7 @@ fn no_events(alloc: Global) -> Result<Schedule, NoMemory>
 /// Runs an image that was accepted, without events.
 fn run_alone<K: Sink>(alloc: Global, image: &Segments, words: &RunWords<'_>, out: &mut K) -> Status
     requires can { CanRun words.now }
-    ensures answers { Answers (RunGives words.now.sets words.now.limit (pairs_of image.now) [])
+    ensures answers { Answers (RunGives words.now.sets words.now.limit words.now.traced (pairs_of image.now) [])
         result.code (account K.told K.faults K.writes K.sure) out.old out.new }
     ensures read { result.code ≢ 5 }
 {
@@ -97,7 +105,7 @@ fn use_schedule<K: Sink>(
 ) -> Status
     requires can { CanRun words.now }
     requires sized { length file.now ≤ FILE_LIMIT }
-    ensures answers { Answers (ScheduleGives (RunGives words.now.sets words.now.limit (pairs_of image.now)) file.now)
+    ensures answers { Answers (ScheduleGives (RunGives words.now.sets words.now.limit words.now.traced (pairs_of image.now)) file.now)
         result.code (account K.told K.faults K.writes K.sure) out.old out.new }
     ensures read { result.code ≢ 5 }
 {
@@ -122,7 +130,7 @@ fn fetch_schedule<F: Files, K: Sink>(
 ) -> Status
     requires can { CanRun words.now }
     ensures answers { Answers (Reads (F.told files.old name.now) (rose_in F.faults files.old files.new name.now)
-        (ScheduleGives (RunGives words.now.sets words.now.limit (pairs_of image.now))))
+        (ScheduleGives (RunGives words.now.sets words.now.limit words.now.traced (pairs_of image.now))))
         result.code (account K.told K.faults K.writes K.sure) out.old out.new }
     ensures fetched { FetchesOnce F.faults F.fetches name.now result.code files.old files.new }
     ensures read { result.code ≡ 5 → rose_in F.faults files.old files.new name.now }
@@ -148,7 +156,7 @@ fn run_planned<F: Files, K: Sink>(
 ) -> Status
     requires can { CanRun words.now }
     ensures answers { Answers (PlanGives (F.told files.old) (rose_in F.faults files.old files.new)
-        (option_copied words.now.schedule) (RunGives words.now.sets words.now.limit (pairs_of image.now)))
+        (option_copied words.now.schedule) (RunGives words.now.sets words.now.limit words.now.traced (pairs_of image.now)))
         result.code (account K.told K.faults K.writes K.sure) out.old out.new }
     ensures fetched { FetchesPlan F.faults F.fetches (option_copied words.now.schedule)
         result.code files.old files.new }
@@ -175,7 +183,7 @@ fn use_image<F: Files, K: Sink>(
     requires can { CanRun words.now }
     requires sized { length file.now ≤ FILE_LIMIT }
     ensures answers { Answers (ImageGives (λ pairs. PlanGives (F.told files.old) (rose_in F.faults files.old files.new)
-        (option_copied words.now.schedule) (RunGives words.now.sets words.now.limit pairs)) file.now)
+        (option_copied words.now.schedule) (RunGives words.now.sets words.now.limit words.now.traced pairs)) file.now)
         result.code (account K.told K.faults K.writes K.sure) out.old out.new }
     ensures fetched { FetchesAfter F.faults F.fetches file.now (option_copied words.now.schedule)
         result.code files.old files.new }

@@ -3,20 +3,30 @@ ghost use Rattle.std.specs.Prelude.{◌≡◌, ◌≤◌, ◌<◌, ◌∷◌, []
 ghost use Rattle.std.specs.Option.{option_map, option_copied};
 ghost use Rattle.std.specs.String.{string_bytes};
 ghost use Rattle.i9_model.specs.declared.layout.TheConstants.{MAX_LENGTH};
-ghost use Rattle.i9_tool.specs.CommandLine.{sets_for, schedule_for, number_in, most_number, command_of};
+ghost use Rattle.i9_tool.specs.CommandLine.{sets_for, schedule_for, address_of, range_for, number_in, most_number};
+ghost use Rattle.i9_tool.specs.CommandLine.{run_for, command_of};
 ghost use Rattle.i9_tool.specs.Words.{run_by, job_by, asked_by, AreFew, CanRun, Fits};
 
 use i9_model::layout::{MAX_LENGTH, MOST_SETS};
 use i9_text::number;
 
-/// What `run` asks for: to run the image of this name, with the events of the schedule of this name or with none, with
-/// so many register sets or with those of the PRCB, for at most so many instructions.
+/// The addresses from `low` to `high`, both inclusive; none where `low` is above `high`.
+#[derive(Clone, Copy)]
+pub(crate) struct Range {
+    pub(crate) low: u32,
+    pub(crate) high: u32,
+}
+
+/// What `run` and `trace` ask for: to run the image of this name, with the events of the schedule of this name or with
+/// none, with so many register sets or with those of the PRCB, for at most so many instructions, and to trace the
+/// instructions of a range of addresses or none.
 #[derive(Clone, Copy)]
 pub(crate) struct RunWords<'a> {
     pub(crate) image: &'a str,
     pub(crate) schedule: Option<&'a str>,
     pub(crate) sets: Option<u8>,
     pub(crate) limit: u64,
+    pub(crate) traced: Option<Range>,
 }
 
 /// What `gen` asks for: to run the job that is made from this number, with so many register sets or with those of the
@@ -67,6 +77,33 @@ fn schedule_asked(word: &str) -> Option<Option<&str>>
     Some(Some(word))
 }
 
+/// The run that these words ask for, of which this is traced, where each says its part.
+fn run_of<'a>(
+    image: &'a str,
+    schedule: &'a str,
+    sets: &str,
+    limit: &str,
+    traced: Option<Range>,
+) -> Option<RunWords<'a>>
+    ensures asked { option_map run_by result ≡ run_for image.now (schedule_for schedule.now) (sets_for sets.now)
+        (number_in 0 MAX_LENGTH limit.now) traced }
+    ensures can { IfSome result CanRun }
+{
+    let schedule = schedule_asked(schedule)?;
+    let sets = sets_asked(sets)?;
+    let limit = number(limit.as_bytes(), 10, 10)?;
+    if limit > MAX_LENGTH {
+        return None;
+    }
+    Some(RunWords {
+        image,
+        schedule,
+        sets,
+        limit,
+        traced,
+    })
+}
+
 /// What `run` asks for with these words behind it, where they are in its form.
 #[tactic(auto, unfolding(crate::specs::CommandLine::command_of))]
 fn run_asked<'a>(
@@ -83,18 +120,67 @@ fn run_asked<'a>(
     if name != "run" || image.is_empty() {
         return None;
     }
-    let schedule = schedule_asked(schedule)?;
-    let sets = sets_asked(sets)?;
-    let limit = number(limit.as_bytes(), 10, 10)?;
-    if limit > MAX_LENGTH {
+    run_of(image, schedule, sets, limit, None)
+}
+
+/// The address that a word says.
+fn address_asked(word: &str) -> Option<u32>
+    ensures { result ≡ address_of word.now }
+{
+    let n = number(word.as_bytes(), 16, 8)?;
+    Some(n as u32)
+}
+
+/// The range from one address to another one.
+fn range_asked(low: &str, high: &str) -> Option<Range>
+    ensures { result ≡ range_for (address_of low.now) (address_of high.now) }
+{
+    let low = address_asked(low)?;
+    let high = address_asked(high)?;
+    Some(Range { low, high })
+}
+
+/// What `trace` asks for with these words behind it, the last two of which are the range, where they are in its form.
+#[tactic(auto, unfolding(crate::specs::CommandLine::command_of))]
+fn trace_asked<'a>(
+    name: &str,
+    image: &'a str,
+    schedule: &'a str,
+    sets: &str,
+    limit: &str,
+    low: &str,
+    high: &str,
+) -> Option<RunWords<'a>>
+    ensures asked { option_map run_by result ≡ command_of
+        (name.now ∷ image.now ∷ schedule.now ∷ sets.now ∷ limit.now ∷ low.now ∷ high.now ∷ []) }
+    ensures can { IfSome result CanRun }
+{
+    if name != "trace" || image.is_empty() {
         return None;
     }
-    Some(RunWords {
-        image,
-        schedule,
-        sets,
-        limit,
-    })
+    let range = range_asked(low, high)?;
+    run_of(image, schedule, sets, limit, Some(range))
+}
+
+/// What `run` asks for, where no words are left for a range, or `trace`, where two are, if they are in its form.
+#[tactic(auto, unfolding(crate::specs::CommandLine::command_of))]
+fn run_in_form<'a>(
+    name: &str,
+    image: &'a str,
+    schedule: &'a str,
+    sets: &str,
+    limit: &str,
+    range: &[String],
+) -> Option<RunWords<'a>>
+    ensures asked { option_map run_by result ≡ command_of
+        (name.now ∷ image.now ∷ schedule.now ∷ sets.now ∷ limit.now ∷ map string_bytes range.now) }
+    ensures can { IfSome result CanRun }
+{
+    match range {
+        [] => run_asked(name, image, schedule, sets, limit),
+        [low, high] => trace_asked(name, image, schedule, sets, limit, low, high),
+        _ => None,
+    }
 }
 
 /// What `asm` or `dis` asks for with the name of a file behind it, where the words are in a form of these.
@@ -150,8 +236,8 @@ pub(crate) fn read_words(words: &[String]) -> Option<Asked<'_>>
             let job = gen_asked(name, number, sets)?;
             Some(Asked::Gen(job))
         }
-        [name, image, schedule, sets, limit] => {
-            let run = run_asked(name, image, schedule, sets, limit)?;
+        [name, image, schedule, sets, limit, range @ ..] => {
+            let run = run_in_form(name, image, schedule, sets, limit, range)?;
             Some(Asked::Run(run))
         }
         _ => None,

@@ -10,13 +10,13 @@ pub returns-in-Ok-clause-answers : goal.returns-in-Ok-clause-answers
 returns-in-Ok-clause-answers g c =
     let f = rw c.new-file.ensures.items at c.in-Ok.ensures.bytes in
     file_fetched _ _ _ _ f.file _ _ _ _ f.is_file (c.deref.ensures.value ∙ f.leaves.1)
-    (later_plan _ _ _ _ _ c.fetch.ensures.same (λ n. rose_before _ _ _ (c.fetch.ensures.later n)) _ _ _ _ _ _ _ c.use_image.ensures.answers)
+    (later_plan _ _ _ _ _ c.fetch.ensures.same (λ n. rose_before _ _ _ (c.fetch.ensures.later n)) _ _ _ _ _ _ _ _ c.use_image.ensures.answers)
 
 pub returns-in-Ok-clause-fetched : goal.returns-in-Ok-clause-fetched
 returns-in-Ok-clause-fetched g c =
     let f = rw c.new-file.ensures.items at c.in-Ok.ensures.bytes in
     let found = subst (IsFile (g.F.Files.told c.args.files.now c.args.words.now.image.now)) (sym (c.deref.ensures.value ∙ f.leaves.1)) f.is_file in
-    image_read _ _ _ _ _ _ _ (fetched_quietly _ _ _ _ _ _ c.fetch.ensures.once c.in-Ok.ensures.cause) found c.use_image.ensures.fetched
+    image_read _ _ _ _ _ _ _ _ (fetched_quietly _ _ _ _ _ _ c.fetch.ensures.once c.in-Ok.ensures.cause) found c.use_image.ensures.fetched
 
 pub returns-in-Ok-clause-read : goal.returns-in-Ok-clause-read
 returns-in-Ok-clause-read g c = λ five. inr (any_rose _ _ _ (λ n. rose_before _ _ _ (c.fetch.ensures.later n)) (c.use_image.ensures.read five))
@@ -32,7 +32,7 @@ returns-in-Failed-clause-answers g c = file_unread _ _ _ _ _ _ _ _ c.in-Failed.e
 
 pub returns-in-Failed-clause-fetched : goal.returns-in-Failed-clause-fetched
 returns-in-Failed-clause-fetched g c =
-    image_unread _ _ _ _ _ (fetched_badly _ _ _ _ _ _ _ c.fetch.ensures.once c.print_piece.ensures.takes_no_memory c.status_for.ensures) (inl c.in-Failed.ensures.cause)
+    image_unread _ _ _ _ _ _ (fetched_badly _ _ _ _ _ _ _ c.fetch.ensures.once c.print_piece.ensures.takes_no_memory c.status_for.ensures) (inl c.in-Failed.ensures.cause)
 
 pub returns-in-TooLong-clause-answers : goal.returns-in-TooLong-clause-answers
 returns-in-TooLong-clause-answers g c =
@@ -43,11 +43,11 @@ returns-in-TooLong-clause-answers g c =
 pub returns-in-TooLong-clause-fetched : goal.returns-in-TooLong-clause-fetched
 returns-in-TooLong-clause-fetched g c =
     let f = c.in-TooLong.ensures.bytes in
-    image_read _ _ _ _ f.file _ _ (fetched_quietly _ _ _ _ _ _ c.fetch.ensures.once c.in-TooLong.ensures.cause) f.is_file
+    image_read _ _ _ _ _ f.file _ _ (fetched_quietly _ _ _ _ _ _ c.fetch.ensures.once c.in-TooLong.ensures.cause) f.is_file
     (not_accepted (long_refused f.file f.leaves.0) refl)
 
 pub returns-clause-answers : goal.returns-clause-answers
-returns-clause-answers g c = answers_unprinted _ _ _ (some_read _ _ _ (λ file. some_image _ file (λ pairs is_image. some_planned _ _ _ _ (some_run _ _ pairs))))
+returns-clause-answers g c = answers_unprinted _ _ _ (some_read _ _ _ (λ file. some_image _ file (λ pairs is_image. some_planned _ _ _ _ (some_run _ _ _ pairs))))
 
 pub returns-clause-fetched : goal.returns-clause-fetched
-returns-clause-fetched g c = image_unread _ _ _ _ _ (fetched_quietly _ _ _ _ _ _ c.fetch.ensures.once c.in-Memory.ensures.cause) (inr refl)
+returns-clause-fetched g c = image_unread _ _ _ _ _ _ (fetched_quietly _ _ _ _ _ _ c.fetch.ensures.once c.in-Memory.ensures.cause) (inr refl)

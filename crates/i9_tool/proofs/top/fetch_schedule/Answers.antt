@@ -20,7 +20,7 @@ returns-in-TooLong-clause-answers g c =
     (answers_with _ _ _ 3 _ (long_line schedule_word) _ _ (omega arith) (schedule_too_long f.leaves.0) c.print_piece-in-TooLong.ensures.prints c.status_for-in-TooLong.ensures)
 
 pub returns-clause-answers : goal.returns-clause-answers
-returns-clause-answers g c = answers_unprinted _ _ _ (some_read _ _ _ (some_plan _ (some_run _ _ _)))
+returns-clause-answers g c = answers_unprinted _ _ _ (some_read _ _ _ (some_plan _ (some_run _ _ _ _)))
 
 pub returns-in-Ok-clause-fetched : goal.returns-in-Ok-clause-fetched
 returns-in-Ok-clause-fetched g c = fetched_quietly _ _ _ _ _ _ c.fetch.ensures.once c.in-Ok.ensures.cause

@@ -2,4 +2,4 @@ use Rattle.i9_tool.proofs.Outcomes.{answers_unprinted, some_run}
 use Rattle.i9_tool.proofs.top.run_alone.Goals as goal
 
 pub returns-in-Err-clause-answers : goal.returns-in-Err-clause-answers
-returns-in-Err-clause-answers g c = answers_unprinted _ _ _ (some_run _ _ _ _)
+returns-in-Err-clause-answers g c = answers_unprinted _ _ _ (some_run _ _ _ _ _)

@@ -23,7 +23,7 @@ returns-in-Err-Bad-clause-fetched g c =
     not_accepted (fault_refused _ _ bad) refl
 
 pub returns-in-Err-Memory-clause-answers : goal.returns-in-Err-Memory-clause-answers
-returns-in-Err-Memory-clause-answers g c = answers_unprinted _ _ _ (some_image _ _ (λ pairs is_image. some_planned _ _ _ _ (some_run _ _ pairs)))
+returns-in-Err-Memory-clause-answers g c = answers_unprinted _ _ _ (some_image _ _ (λ pairs is_image. some_planned _ _ _ _ (some_run _ _ _ pairs)))
 
 pub returns-in-Err-Memory-clause-fetched : goal.returns-in-Err-Memory-clause-fetched
 returns-in-Err-Memory-clause-fetched g c = without_memory refl refl

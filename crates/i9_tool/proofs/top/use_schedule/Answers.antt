@@ -12,4 +12,4 @@ returns-in-Err-Bad-clause-answers g c =
     answers_with _ _ _ 3 _ _ _ _ (omega arith) (schedule_refused _ c.requires.sized bad) c.print_refusal-printed.ensures c.status_for.ensures
 
 pub returns-in-Err-Memory-clause-answers : goal.returns-in-Err-Memory-clause-answers
-returns-in-Err-Memory-clause-answers g c = answers_unprinted _ _ _ (some_plan _ (some_run _ _ _) _)
+returns-in-Err-Memory-clause-answers g c = answers_unprinted _ _ _ (some_plan _ (some_run _ _ _ _) _)

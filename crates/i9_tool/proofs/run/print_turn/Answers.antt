@@ -1,0 +1,9 @@
+use Rattle.std.proofs.Common.{rules}
+use Rattle.i9_tool.proofs.Lined.{lined_trace}
+use Rattle.i9_tool.proofs.run.print_turn.Goals as goal
+
+pub print_text-requires : goal.print_text-requires
+print_text-requires g c =
+    let i = c.in-Issued.issued in
+    let lined = lined_trace i.count i.address i.first i.second in
+    search rules
