@@ -5,7 +5,8 @@ use Rattle.std.specs.Int.{bit_at}
 use Rattle.std.proofs.lemmas.Bool.Decides.{nat_tests}
 use Rattle.std.proofs.lemmas.Nat.Bits.{bit_at_or, bit_at-lt, bit_at-pow_other}
 use Rattle.i9_isa.specs.Words.{bit}
-use Rattle.i9_events.specs.Tracing.{with_bits, is_flag, GainsFlags}
+use Rattle.i9_model.specs.Tracing.{with_bits}
+use Rattle.i9_events.specs.Tracing.{is_flag, GainsFlags}
 
 kept_in : (w v k : ℕ) → bit w k ≡ true → bit (bit_or w v) k ≡ true
 kept_in w v k set =

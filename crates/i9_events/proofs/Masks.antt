@@ -8,7 +8,7 @@ use Rattle.std.proofs.lemmas.Bool.Decides.{nat_tests}
 use Rattle.std.proofs.lemmas.Nat.{and_comm, and_le_r, le_or_l, or_lt, or_block, pow-add, pow_below, pow_pos}
 use Rattle.std.proofs.lemmas.Nat.Bits.{bit_at_and, bit_at_or, bit_at-lt, and_pow, same_from_bits}
 use Rattle.i9_isa.specs.Words.{bit}
-use Rattle.i9_events.specs.Tracing.{with_bits}
+use Rattle.i9_model.specs.Tracing.{with_bits}
 
 -- ---- `|` and `&`
 

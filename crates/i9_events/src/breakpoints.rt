@@ -1,14 +1,13 @@
 //! Which breakpoints match.
 ghost use Rattle.std.specs.Prelude.{◌≡◌, ◌&&◌};
-ghost use Rattle.i9_events.specs.Tracing.{is_at_address, is_at_access, break_flags, with_bits};
+ghost use Rattle.i9_model.specs.Tracing.{is_at_address, is_at_access, break_flags, with_bits};
 
 use crate::bits::{bit_where, has_bit};
-use crate::places::{
+use i9_model::trace::{
     DAB0_ENABLE_PLACE, DAB0_FLAG_PLACE, DAB1_ENABLE_PLACE, DAB1_FLAG_PLACE, IPB_ENABLE_PLACE,
     IPB0_FLAG_PLACE, IPB1_FLAG_PLACE,
 };
-use crate::raised::Seen;
-use i9_model::Breaks;
+use i9_model::{Breaks, Seen};
 
 /// The bytes of a word, of which every instruction address is a multiple.
 const WORD_SIZE: u32 = 4;

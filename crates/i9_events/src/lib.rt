@@ -5,11 +5,10 @@
 mod bits;
 mod breakpoints;
 mod names;
-mod places;
 mod raised;
 
-pub use i9_model::Breaks;
-pub use raised::{Seen, Trace, event};
+pub use i9_model::{Breaks, Seen, Trace};
+pub use raised::event;
 
 #[cfg(test)]
 mod tests;

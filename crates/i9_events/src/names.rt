@@ -1,6 +1,6 @@
 //! Names that trace events come with.
 ghost use Rattle.std.specs.Prelude.{◌≡◌, ◌||◌};
-ghost use Rattle.i9_events.specs.Tracing.{branches, is_call, is_return, is_mark, is_fmark};
+ghost use Rattle.i9_model.specs.Tracing.{branches, is_call, is_return, is_mark, is_fmark};
 
 use i9_isa::Op;
 

@@ -1,37 +1,19 @@
 //! The trace fault of an instruction, and the flags that its events set.
 ghost use Rattle.std.specs.Prelude.{◌≡◌, ◌↔◌, IfSome, None};
-ghost use Rattle.i9_events.specs.Tracing.{with_bits, trace_of, IsUntraced, GainsFlags};
-ghost use Rattle.i9_events.specs.Parts.{coming_modes, forced_modes};
+ghost use Rattle.i9_model.specs.Tracing.{with_bits, trace_of};
+ghost use Rattle.i9_events.specs.Tracing.{IsUntraced, GainsFlags};
+ghost use Rattle.i9_events.specs.Tracing.{coming_modes, forced_modes};
 
 use crate::bits::{bit_where, has_bit};
 use crate::breakpoints::break_flags;
 use crate::names::{always_marks, branches, is_call, is_return, marks};
-use crate::places::{
+use i9_isa::{Inst, Op};
+use i9_model::layout::TRACE_ENABLE_PLACE;
+use i9_model::trace::{
     BRANCH_TRACE_PLACE, CALL_TRACE_PLACE, FLAG_DISTANCE, INSTRUCTION_TRACE_PLACE, MARK_TRACE_PLACE,
     PRERETURN_TRACE_PLACE, RETURN_TRACE_PLACE, SUPERVISOR_TRACE_PLACE,
 };
-use i9_isa::{Inst, Op};
-use i9_model::Breaks;
-use i9_model::layout::TRACE_ENABLE_PLACE;
-
-/// What a trace fault makes: the trace controls with the flags of its events and breakpoints, and its
-/// subtype, with bit m for the event whose mode is bit m of the trace controls.
-#[derive(Clone, Copy, Debug, PartialEq, Eq)]
-pub struct Trace {
-    pub tc: u32,
-    pub subtype: u16,
-}
-
-/// What an instruction showed: its address; the effective address of a load, a store or an atomic, and
-/// None for every other name; that a conditional or compare branch was taken; and that a `calls`
-/// switched to supervisor mode, or a `ret` of type 010 or 011 was done in it.
-#[derive(Clone, Copy, Debug, PartialEq, Eq)]
-pub struct Seen {
-    pub address: u32,
-    pub access: Option<u32>,
-    pub taken: bool,
-    pub switched: bool,
-}
+use i9_model::{Breaks, Seen, Trace};
 
 /// The modes of the events that come with an instruction, `matched` where a breakpoint matches.
 fn coming_modes(op: Op, s: &Seen, matched: bool) -> u32

@@ -35,7 +35,7 @@ use Rattle.i9_model.specs.Step.{Move, Stays, Saves, Returns, Flushes, Action, st
 use Rattle.i9_model.specs.Dma.{unit_length, unit_bytes}
 use Rattle.i9_model.specs.Before.{Received}
 use Rattle.i9_model.specs.Run.{Given, Record, Kind, Instruction, Faulted, Entered, Interrupted, Reached, Blocked, action_by_kind, due_after, event_after, state_after, IsPast}
-use Rattle.i9_model.proofs.ControlLaws.{by_group}
+use Rattle.i9_model.proofs.ControlLaws.{by_group, flagged-others}
 use Rattle.i9_model.proofs.Comes.{MayCome, next_comes}
 use Rattle.i9_laws.specs.Kept.{HasBytes}
 use Rattle.i9_laws.proofs.EventCases.{event_range, IsByUnit, IsByEvent, received_as}
@@ -213,7 +213,9 @@ controlled_bytes s (LoadsGroup group) h =
 
 acted_bytes : (s : State) (a : Action) → AreBytes s.memory → ArePut 256 a.writes → AreBytes (acted s a).memory
 unfolding acted
-acted_bytes s a h stores = controlled_bytes (moved s a) a.control (moved_bytes s a h stores)
+acted_bytes s a h stores =
+    subst (λ (x : State). AreBytes x.memory) (sym (flagged-others a.trace (controlled (moved s a) a.control)))
+    (controlled_bytes (moved s a) a.control (moved_bytes s a h stores))
 
 -- ---- a run
 

@@ -20,7 +20,7 @@ use Rattle.i9_model.specs.Before.{Received, choice_in, interrupt_in, received_in
 use Rattle.i9_model.specs.State.{State}
 use Rattle.i9_model.specs.Step.{first_word, next_word}
 use Rattle.i9_model.specs.Access.{hazard_of, fetch_hazard}
-use Rattle.i9_model.specs.Unbuilt.{is_imprecise, is_traced}
+use Rattle.i9_model.specs.Unbuilt.{is_imprecise}
 use Rattle.i9_model.specs.Standing.{Standing, Meets, NotBuilt, Refused, Faults, Runs, raised_in, later_fault, by_access, by_later, by_raised, by_word, by_fetch, stands_at}
 use Rattle.i9_model.specs.declared.run.Due.{Due}
 use Rattle.i9_model.specs.declared.run.Due.TheVariants as dues
@@ -59,11 +59,7 @@ word_stands s (Ok i) d = raised_stands s i (raised_in i s) d
 
 fetch_stands : (s : State) (h : Option ℕ) → Stands s (by_fetch s h)
 fetch_stands s (Some a) = tt
-fetch_stands s None = by_trace (is_traced s)
-  where
-    by_trace : (b : Bool) → Stands s (cond b NotBuilt (by_word s (decoded (first_word s) (next_word s))))
-    by_trace true = tt
-    by_trace false = word_stands s (decoded (first_word s) (next_word s)) refl
+fetch_stands s None = word_stands s (decoded (first_word s) (next_word s)) refl
 
 abbrev pub IsRead : State → Kind → Type 0
 IsRead s (Instruction i) = IsDecoded s i

@@ -1,6 +1,7 @@
 -- Along every run controls keep to their masks, and the instruction address is a multiple of 4.
 use Rattle.std.proofs.Common.{◌≡◌, ℕ, ◌+◌, ◌*◌, ◌/◌, ◌%◌, ◌^◌, Bool, true, false, cond, eqb, List, [], ◌∷◌, Option, Some, None, Ok, refl, sym, ap, ◌∙◌, subst, arith, bit_and, bit_or, ℤ}
-use Rattle.std.specs.Prelude.{not, slice_index, ◌==◌, ◌+ℤ◌, ◌-ℤ◌, ◌*ℤ◌, pos}
+use Rattle.std.specs.List.{AllByRecursion}
+use Rattle.std.specs.Prelude.{map, filter, IfSome, ◌++◌, ◌&&◌, not, slice_index, ◌==◌, ◌+ℤ◌, ◌-ℤ◌, ◌*ℤ◌, pos}
 use Rattle.std.specs.Int.{bit_at}
 use Rattle.std.specs.Int.RustNames.{int_div}
 use Rattle.std.proofs.lemmas.Nat.{and_assoc, and_comm, and_mod, and_mask, and_shr}
@@ -32,11 +33,19 @@ use Rattle.i9_model.specs.Boot.{setup_of, boot_setup}
 use Rattle.i9_model.specs.Calls.{in_supervisor_mode, takes_record, leaves_supervisor, with_supervisor, without_supervisor, saved_pc, saved_ac, return_type, popped}
 use Rattle.i9_model.specs.Tables.{group_words}
 use Rattle.i9_model.specs.Controls.{Control, KeepsControls, Restarts, LoadsGroup, controlled}
-use Rattle.i9_model.specs.Step.{Action, going, following, branching, resulting, controls_of, answer_in, moving, action_by_name, action_by, action_of, Message, AsksNothing, AsksInterrupt, AsksRestart, AsksGroup, message_kind, message_of, message_action, system_call, calls_action, entering, moved, acted}
+use Rattle.i9_model.specs.Step.{Action, going, following, branching, resulting, controls_of, answer_in, moving, action_by_name, action_by, action_of, Message, AsksNothing, AsksInterrupt, AsksRestart, AsksGroup, message_kind, message_of, message_action, system_call, calls_action, entering, moved, flagged, acted}
 use Rattle.i9_model.specs.declared.run.Due.{Due}
 use Rattle.i9_model.specs.declared.interrupts.Chosen.{Chosen}
 use Rattle.i9_model.specs.declared.event.Event.{Event}
 use Rattle.i9_model.specs.Before.{choice_in, interrupt_in, interrupting}
+use Rattle.i9_model.specs.declared.setup.Breaks.{Breaks}
+use Rattle.i9_model.specs.declared.trace.Seen.{Seen}
+use Rattle.i9_model.specs.declared.trace.Trace.{Trace}
+use Rattle.i9_model.specs.Requests.{with_bit}
+use Rattle.i9_model.specs.Tracing.{with_bits, breakpoints, break_flag_of, matches, has_match, break_flags, has_mode, comes_with, trace_events, flag_of, event_flags, is_raised, trace_made, trace_of}
+use Rattle.i9_model.specs.Traced.{seen_of}
+use Rattle.i9_model.specs.Unbuilt.{is_traced}
+use Rattle.i9_model.proofs.Untraced.{action_untraced}
 use Rattle.i9_model.specs.Run.{Given, Record, Kind, Instruction, Faulted, Entered, Interrupted, Reached, Blocked, action_by_kind, due_after, event_after, state_after, IsPast, entry_in, faulted_words}
 use Rattle.i9_model.proofs.ControlLaws.{by_group}
 use Rattle.i9_model.proofs.Comes.{MayCome, next_comes}
@@ -258,7 +267,7 @@ interrupting_kept s c e h chosen ok =
 
 kind_kept : (limit : ℕ) (due : Due) (stands : Option Event) (k : Kind) (s : State) → MayCome limit due stands s k → IsKept s
     → Keeps (action_by_kind k s)
-kind_kept limit due stands (Instruction i) s may h = instruction_kept i s h
+kind_kept limit due stands (Instruction i) s may h = let k = instruction_kept i s h in record { ac = k.ac; pc = k.pc; tc = k.tc; ip = k.ip }
 kind_kept limit due stands (Faulted inst fault) s may h =
     let words = faulted_words inst in
     going_kept s (wrapped (s.ip + 4 * words)) h (following_even s words h)
@@ -282,9 +291,71 @@ controlled_kept s (Restarts first prcb) h = record { ac = masked AC_MASK _; pc =
 controlled_kept s (LoadsGroup group) h =
     group_kept (eqb group 0) (eqb group 1) (eqb group 6) s group (group_words s.memory s.tables.control_table group) h
 
-acted_kept : (s : State) (a : Action) → Keeps a → IsKept (acted s a)
+-- the trace controls with flags, where some are set
+abbrev FlagsKept : Option Trace → Type 0
+FlagsKept o = IfSome o (λ t. IsWithin TC_MASK t.tc)
+
+flagged_kept : (o : Option Trace) (s : State) → FlagsKept o → IsKept s → IsKept (flagged o s)
+flagged_kept None s flags h = h
+flagged_kept (Some t) s flags h = record { ac = h.ac; pc = h.pc; tc = flags; ip = h.ip }
+
+acted_kept : (s : State) (a : Action) → FlagsKept a.trace → Keeps a → IsKept (acted s a)
 unfolding acted moved
-acted_kept s a h = controlled_kept (moved s a) a.control (record { ac = h.ac; pc = h.pc; tc = h.tc; ip = h.ip })
+acted_kept s a flags h =
+    flagged_kept a.trace (controlled (moved s a) a.control) flags
+    (controlled_kept (moved s a) a.control (record { ac = h.ac; pc = h.pc; tc = h.tc; ip = h.ip }))
+
+-- ---- the flags of trace events
+
+flags_kept : (w : ℕ) (ks : List ℕ) → IsWithin TC_MASK w → AllByRecursion (λ k. IsWithin TC_MASK (2 ^ k)) ks → IsWithin TC_MASK (with_bits w ks)
+flags_kept w [] h all = h
+flags_kept w (k ∷ ks) h all = flags_kept (with_bit w k) ks (masked_or TC_MASK w (2 ^ k) h all.0) all.1
+
+append_kept : (js ks : List ℕ) → AllByRecursion (λ k. IsWithin TC_MASK (2 ^ k)) js → AllByRecursion (λ k. IsWithin TC_MASK (2 ^ k)) ks
+    → AllByRecursion (λ k. IsWithin TC_MASK (2 ^ k)) (js ++ ks)
+append_kept [] ks h all = all
+append_kept (j ∷ js) ks h all = (h.0, append_kept js ks h.1 all)
+
+-- the places of those that pass a test
+picked_kept : {A : Type 0} (place : A → ℕ) (p : A → Bool) (xs : List A) → AllByRecursion (λ x. IsWithin TC_MASK (2 ^ place x)) xs
+    → AllByRecursion (λ k. IsWithin TC_MASK (2 ^ k)) (map place (filter p xs))
+picked_kept place p [] all = tt
+picked_kept place p (x ∷ xs) all = by_test (p x) (picked_kept place p xs all.1)
+  where
+    by_test : (b : Bool) → AllByRecursion (λ k. IsWithin TC_MASK (2 ^ k)) (map place (filter p xs))
+        → AllByRecursion (λ k. IsWithin TC_MASK (2 ^ k)) (map place (cond b (x ∷ filter p xs) (filter p xs)))
+    by_test true rest = (all.0, rest)
+    by_test false rest = rest
+
+made_kept : (tc : ℕ) (i : Inst) (seen : Seen) (b : Breaks) → IsWithin TC_MASK tc → IsWithin TC_MASK (trace_made tc i seen b).tc
+unfolding trace_made event_flags break_flags
+made_kept tc i seen b h =
+    let events = event_flags tc i.op seen (has_match seen b) in
+    let breaks = break_flags seen b in
+    flags_kept tc (events ++ breaks) h
+    (append_kept events breaks
+    (picked_kept flag_of (λ e. comes_with i.op seen (has_match seen b) e && has_mode tc e) trace_events (refl, (refl, (refl, (refl, (refl, (refl, (refl, tt))))))))
+    (picked_kept break_flag_of (matches seen b) breakpoints (refl, (refl, (refl, (refl, tt))))))
+
+trace_kept : (b : Bool) (t : Trace) → IsWithin TC_MASK t.tc → FlagsKept (cond b (Some t) None)
+trace_kept true t h = h
+trace_kept false t h = tt
+
+kind_flags : (k : Kind) (s : State) → Keeps (action_by_kind k s) → FlagsKept (action_by_kind k s).trace
+unfolding trace_of
+kind_flags (Instruction i) s h =
+    let a = action_of i s in
+    let plain : Keeps a = record { ac = h.ac; pc = h.pc; tc = h.tc; ip = h.ip } in
+    let left = (acted s a).trace in
+    let after = acted_kept s a (subst FlagsKept (sym (action_untraced i s)) tt) plain in
+    let seen = seen_of i s a in
+    trace_kept (is_traced s && is_raised left.tc i seen left.breaks) (trace_made left.tc i seen left.breaks)
+    (made_kept left.tc i seen left.breaks after.tc)
+kind_flags (Faulted inst fault) s h = tt
+kind_flags (Entered e) s h = tt
+kind_flags (Interrupted c e) s h = tt
+kind_flags (Reached e u) s h = tt
+kind_flags (Blocked e a) s h = tt
 
 -- ---- a run
 
@@ -298,4 +369,4 @@ kept_after g (r ∷ rs) past =
     let s = state_after g rs in
     let comes = next_comes g.length (due_after rs) (event_after g rs) s r past.1 in
     let keeps = kind_kept g.length (due_after rs) (event_after g rs) r.kind s comes.1 (kept_after g rs past.0) in
-    subst (λ (q : Record). IsKept q.after) (sym comes.0) (acted_kept s (action_by_kind r.kind s) keeps)
+    subst (λ (q : Record). IsKept q.after) (sym comes.0) (acted_kept s (action_by_kind r.kind s) (kind_flags r.kind s keeps) keeps)

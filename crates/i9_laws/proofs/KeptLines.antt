@@ -36,7 +36,7 @@ use Rattle.i9_model.specs.Controls.{Control, KeepsControls, Restarts, LoadsGroup
 use Rattle.i9_model.specs.Step.{Action, loaded, atomic_address, following, values_of, destination, answer_in, branching, resulting, moving, channel_in, Message, AsksNothing, AsksInterrupt, AsksRestart, AsksGroup, message_kind, message_of, message_action, action_by_name, action_by, action_of, moved, acted}
 use Rattle.i9_model.specs.Before.{Received}
 use Rattle.i9_model.specs.Run.{Given, Record, Kind, Instruction, Faulted, Entered, Interrupted, Reached, Blocked, action_by_kind, due_after, event_after, state_after, IsPast}
-use Rattle.i9_model.proofs.ControlLaws.{by_group}
+use Rattle.i9_model.proofs.ControlLaws.{by_group, flagged-others}
 use Rattle.i9_model.proofs.Comes.{MayCome, next_comes}
 use Rattle.i9_model.proofs.KeptBits.{masked}
 use Rattle.i9_laws.specs.Kept.{IsWithin}
@@ -212,7 +212,9 @@ controlled_lines s (LoadsGroup group) h =
 
 acted_lines : (s : State) (a : Action) → LeavesLines a → HasLines (acted s a)
 unfolding acted moved
-acted_lines s a h = controlled_lines (moved s a) a.control h
+acted_lines s a h =
+    let after = controlled_lines (moved s a) a.control h in
+    subst HasLines (sym (flagged-others a.trace (controlled (moved s a) a.control))) after
 
 -- ---- a run
 

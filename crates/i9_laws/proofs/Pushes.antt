@@ -21,6 +21,7 @@ use Rattle.i9_model.specs.declared.interrupts.Chosen.{Chosen}
 use Rattle.i9_model.specs.declared.event.Event.{Event}
 use Rattle.i9_model.specs.Before.{interrupt_in, interrupting}
 use Rattle.i9_model.specs.Run.{Kind, Instruction, Faulted, Entered, Interrupted, Reached, Blocked, action_by_kind, entry_in}
+use Rattle.i9_model.proofs.ControlLaws.{flagged-others}
 use Rattle.i9_model.proofs.Comes.{MayCome}
 use Rattle.i9_laws.specs.Undone.{is_call_name, is_call, return_address}
 use Rattle.i9_laws.proofs.Entered.{call_by, entry_by, entry_for, interrupt_made}
@@ -107,7 +108,8 @@ interrupting_pushes s c e ok =
 
 pub kind_pushes : (limit : ℕ) (due : Due) (stands : Option Event) (k : Kind) (s : State) → MayCome limit due stands s k
     → IsTrue (is_call k) → Pushes s (action_by_kind k s) (return_address k s) (type_of k s)
-kind_pushes limit due stands (Instruction i) s may h = instruction_pushes i s h
+kind_pushes limit due stands (Instruction i) s may h =
+    let p = instruction_pushes i s h in record { sets = p.sets; move = p.move; control = p.control; small = p.small }
 kind_pushes limit due stands (Faulted inst fault) s may h = absurd cc
 kind_pushes limit due stands (Entered e) s may h = entering_pushes s may.0 e may.2
 kind_pushes limit due stands (Interrupted c e) s may h = interrupting_pushes s c e may.3
@@ -121,7 +123,8 @@ pfp_written f p = frame_local f (p.pfp ∷ p.sp ∷ replicate 14 0) p.frame PFP 
 pub pushed_pfp : (s : State) (a : Action) (back kind : ℕ) → Pushes s a back kind → (acted s a).regs PFP ≡ rounded_down (s.regs FP) + kind
 unfolding acted moved
 pushed_pfp s a back kind p =
-    ap (λ (c : Control). (controlled (moved s a) c).regs PFP) p.control
+    ap (λ (x : State). x.regs PFP) (flagged-others a.trace (controlled (moved s a) a.control))
+    ∙ ap (λ (c : Control). (controlled (moved s a) c).regs PFP) p.control
     ∙ ap (λ (ps : List (ℕ × ℕ)). written s.regs ps PFP) p.sets.1
     ∙ pfp_written s.regs p.sets.0
     ∙ p.sets.2

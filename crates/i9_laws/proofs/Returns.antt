@@ -17,12 +17,15 @@ use Rattle.i9_model.specs.Frames.{rounded_down}
 use Rattle.i9_model.specs.Hazards.{port_hazard, frame_hazard, return_hazard}
 use Rattle.i9_model.specs.Access.{access_by_name, access_by, hazard_in, hazard_of}
 use Rattle.i9_model.specs.Calls.{in_supervisor_mode, trace_enable, without_supervisor, call_type, return_type, takes_record, leaves_supervisor, saved_pc, saved_ac, controls_hazard, returned_pc, returned_ac, ret_hazard, popped}
-use Rattle.i9_model.specs.Step.{Move, Action, saved_local, saved_locals, system_call, ret_action, action_by_name, action_by, action_of, moved, acted, counted}
+use Rattle.i9_model.specs.Step.{Move, Action, saved_local, saved_locals, system_call, ret_action, action_by_name, action_by, action_of, moved, flagged, acted, counted}
+use Rattle.i9_model.specs.declared.trace.Trace.{Trace}
+use Rattle.i9_model.specs.Traced.{traced_action}
 use Rattle.i9_model.specs.ScheduleText.{IsPlan}
 use Rattle.i9_model.specs.HeldFrames.{frame_at}
 use Rattle.i9_model.specs.declared.run.Due.{Due}
 use Rattle.i9_model.specs.Run.{Given, Record, Kind, Instruction, Faulted, Entered, Interrupted, Reached, Blocked, action_by_kind, action_done, after_kind, record_of, due_after, event_after, state_after, IsPast}
 use Rattle.i9_model.proofs.CallLaws.{first_none, second_none}
+use Rattle.i9_model.proofs.ControlLaws.{flagged-others}
 use Rattle.i9_model.proofs.Comes.{MayCome, next_comes}
 use Rattle.i9_laws.specs.Kept.{HasBytes}
 use Rattle.i9_laws.specs.LiveFrames.{live_moved, live_after, addresses_of, AreSaved}
@@ -41,6 +44,11 @@ record GivesLocals (s u t : State) (back : ℕ) : Type 0 where
   fp : t.regs FP ≡ rounded_down (s.regs FP)
   globals : (r : ℕ) → LOCALS ≤ r → r ≢ FP → t.regs r ≡ u.regs r
   ip : t.ip ≡ aligned back
+
+-- the flags of trace events are in no register
+locals_flagged : (o : Option Trace) (s u t : State) (back : ℕ) → GivesLocals s u t back → GivesLocals s u (flagged o t) back
+locals_flagged None s u t back l = l
+locals_flagged (Some x) s u t back l = record { locals = l.locals; fp = l.fp; globals = l.globals; ip = l.ip }
 
 gives_locals : (s u : State) (back : ℕ) → rounded_down (u.regs PFP) ≡ rounded_down (s.regs FP)
     → words_in u.memory (rounded_down (s.regs FP)) LOCALS ≡ saved_locals s back
@@ -150,12 +158,12 @@ controls_back k s u h pfp small =
 
 -- its record, in a state
 abbrev return_record : Kind → State → Record
-return_record k u = record { kind = k; before = u; after = counted 1 (acted u (ret_action u)) }
+return_record k u = record { kind = k; before = u; after = counted 1 (flagged (action_by_kind k u).trace (acted u (ret_action u))) }
 
--- it does what ret does
-return_after : (k : Kind) (u : State) → IsTrue (is_return k) → after_kind k u ≡ counted 1 (acted u (ret_action u))
-unfolding action_of
-return_after (Instruction i) u h = ap (λ (a : Action). counted 1 (acted u a)) (by_name i.op refl h)
+-- it does what ret does, with its trace events
+return_after : (k : Kind) (u : State) → IsTrue (is_return k) → after_kind k u ≡ (return_record k u).after
+unfolding action_of acted moved
+return_after (Instruction i) u h = ap (λ (a : Action). counted 1 (acted u (record a { trace = (traced_action i u).trace }))) (by_name i.op refl h)
   where
     by_name : (op : Op) → i.op ≡ op → IsTrue (is_return_name op) → action_by (transfer_of i.op) i u ≡ ret_action u
     by_name Ret e t = ap (λ (o : Op). action_by (transfer_of o) i u) e ∙ ap (λ (o : Op). action_by_name o i u) e
@@ -244,7 +252,7 @@ registers_back g rs between call back image plan past is_called is_returned live
     let saved = subst (AreSaved u.memory) frames (live_saved g all image plan past.0) in
     let addresses : u.frames.live ≡ save ∷ addresses_of (live_after rs) = live_addresses g all past.0 ∙ ap addresses_of frames in
     let first = first_live u.frames (u.regs PFP) (u.regs FP) save (addresses_of (live_after rs)) addresses i.free in
-    let l = gives_locals s u address first saved.0 in
+    let l = locals_flagged (action_by_kind back.kind u).trace s u (acted u (ret_action u)) address (gives_locals s u address first saved.0) in
     let even = address_even call.kind s i.kept in
     let here : GivesRegisters (record_of call.kind s) (return_record back.kind u) = record {
       locals = λ r h other. l.locals r h ∙ ap (λ (c : Bool). cond c address (s.regs r)) (ne_eqb r RIP other);
@@ -267,7 +275,9 @@ control_back g rs between call back past is_called is_returned pfp =
     ∙ ap (λ (q : Record). q.after.regs PFP) i.call_is
     ∙ pushed_pfp s _ _ _ i.pushes in
     let both = controls_back call.kind s u is_called named i.pushes.small in
-    let here : GivesControls (record_of call.kind s) (return_record back.kind u) = record { pc = both.0; ac = both.1 } in
+    let flags = flagged-others (action_by_kind back.kind u).trace (acted u (ret_action u)) in
+    let here : GivesControls (record_of call.kind s) (return_record back.kind u) =
+    record { pc = ap (λ (x : State). x.pc) flags ∙ both.0; ac = ap (λ (x : State). x.ac) flags ∙ both.1 } in
     subst (λ (q : Record). GivesControls q back) (sym i.call_is) (subst (GivesControls (record_of call.kind s)) (sym i.back_is) here)
 
 -- a return right after a call finds what the call left

@@ -41,7 +41,7 @@ use Rattle.i9_model.specs.ScheduleText.{IsPlan}
 use Rattle.i9_model.specs.Interrupts.{vector_place, base_for}
 use Rattle.i9_model.specs.Before.{interrupt_in, interrupting}
 use Rattle.i9_model.specs.Run.{Given, Record, Kind, Instruction, Faulted, Entered, Interrupted, Reached, Blocked, action_by_kind, action_done, due_after, event_after, state_after, IsPast, entry_in}
-use Rattle.i9_model.proofs.ControlLaws.{by_group}
+use Rattle.i9_model.proofs.ControlLaws.{by_group, flagged-others}
 use Rattle.i9_model.proofs.Comes.{MayCome, next_comes}
 use Rattle.i9_laws.specs.Kept.{IsWithin, IsWord, HasBytes}
 use Rattle.i9_laws.proofs.Entered.{call_by, entry_by, entry_for, interrupt_made}
@@ -319,11 +319,13 @@ controlled_words s (LoadsGroup group) first h =
 
 acted_words : (s : State) (a : Action) → DoesWords a → ArePut 256 a.writes → HasWords s → HasWords (acted s a)
 unfolding acted moved
-acted_words s a k stores h = controlled_words (moved s a) a.control k.starts (record {
-  regs = written_below (2 ^ 32) s.regs a.sets h.regs k.registers;
-  ip = k.next;
-  bytes = moved_bytes s a h.bytes stores;
-})
+acted_words s a k stores h =
+    let after = controlled_words (moved s a) a.control k.starts (record {
+      regs = written_below (2 ^ 32) s.regs a.sets h.regs k.registers;
+      ip = k.next;
+      bytes = moved_bytes s a h.bytes stores;
+    }) in
+    subst HasWords (sym (flagged-others a.trace (controlled (moved s a) a.control))) (record { regs = after.regs; ip = after.ip; bytes = after.bytes })
 
 -- ---- a run
 

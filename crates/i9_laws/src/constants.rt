@@ -13,10 +13,14 @@ ghost use Rattle.i9_model.specs.declared.faults.TheConstants.{INVALID_OPCODE, UN
 ghost use Rattle.i9_model.specs.declared.interrupts.TheConstants.{LINES, FIRST_DMA_LINE, LINE_MASK, NMI_VECTOR, HIGHEST_PRIORITY};
 ghost use Rattle.i9_model.specs.declared.interrupts.TheConstants.{PRIORITY_PLACE, INTERRUPTED_PLACE, PENDING_SIZE, PENDING_VECTORS, VECTOR_WORDS};
 ghost use Rattle.i9_model.specs.declared.dma.TheConstants.{CHANNELS, COMMAND_MASK, FIRST_ENDED_PLACE, SOURCE_HELD_PLACE, TARGET_HELD_PLACE, FED_PLACE, POSTS_PLACE};
+ghost use Rattle.i9_model.specs.declared.trace.TheConstants.{INSTRUCTION_TRACE_PLACE, BRANCH_TRACE_PLACE, CALL_TRACE_PLACE, RETURN_TRACE_PLACE};
+ghost use Rattle.i9_model.specs.declared.trace.TheConstants.{PRERETURN_TRACE_PLACE, SUPERVISOR_TRACE_PLACE, MARK_TRACE_PLACE, FLAG_DISTANCE};
+ghost use Rattle.i9_model.specs.declared.trace.TheConstants.{IPB0_FLAG_PLACE, IPB1_FLAG_PLACE, DAB0_FLAG_PLACE, DAB1_FLAG_PLACE};
+ghost use Rattle.i9_model.specs.declared.trace.TheConstants.{IPB_ENABLE_PLACE, DAB0_ENABLE_PLACE, DAB1_ENABLE_PLACE};
 ghost use Rattle.i9_model.specs.declared.faults.TheConstants.{FAULT_ENTRY_SIZE, SYSTEM_ENTRY, TRACE_MASK, NO_HANDLER, NO_SYSTEM_ENTRY, NO_PROCEDURE};
 
 /// The constants that the definitions share with the code have these values, so that a wrong one cannot be wrong on both
-/// sides. After the i960 CA/CF User's Manual: initialisation, registers, controls, calls, faults. The port page with its
+/// sides. After the i960 CA/CF User's Manual: initialisation, registers, controls, calls, faults, tracing. The port page with its
 /// two addresses, the most instructions of a run, the codes of a dead entry and the words of DMA are this project's own.
 pub fn shared_constants()
     ensures port_page { (PORT_PAGE ≡ 0xE0000000) × (PORT_PAGE_SIZE ≡ 0x1000) × (CONSOLE ≡ 0xE0000000) × (EXIT_WORD ≡ 0xE0000004) }
@@ -38,6 +42,10 @@ pub fn shared_constants()
     ensures lines { (LINES ≡ 12) × (FIRST_DMA_LINE ≡ 8) × (LINE_MASK ≡ 0xFFF) }
     ensures priorities { (NMI_VECTOR ≡ 248) × (HIGHEST_PRIORITY ≡ 31) × (PRIORITY_PLACE ≡ 16) × (INTERRUPTED_PLACE ≡ 13) }
     ensures interrupt_table { (PENDING_SIZE ≡ 36) × (PENDING_VECTORS ≡ 4) × (VECTOR_WORDS ≡ 4) }
+    ensures trace_modes { (INSTRUCTION_TRACE_PLACE ≡ 1) × (BRANCH_TRACE_PLACE ≡ 2) × (CALL_TRACE_PLACE ≡ 3) × (RETURN_TRACE_PLACE ≡ 4)
+        × (PRERETURN_TRACE_PLACE ≡ 5) × (SUPERVISOR_TRACE_PLACE ≡ 6) × (MARK_TRACE_PLACE ≡ 7) }
+    ensures trace_flags { (FLAG_DISTANCE ≡ 16) × (IPB0_FLAG_PLACE ≡ 24) × (IPB1_FLAG_PLACE ≡ 25) × (DAB0_FLAG_PLACE ≡ 26) × (DAB1_FLAG_PLACE ≡ 27) }
+    ensures breakpoints { (IPB_ENABLE_PLACE ≡ 0) × (DAB0_ENABLE_PLACE ≡ 0) × (DAB1_ENABLE_PLACE ≡ 1) }
     ensures dma { (CHANNELS ≡ 4) × (COMMAND_MASK ≡ 0xFF) × (FIRST_ENDED_PLACE ≡ 4) }
     ensures control_word { (SOURCE_HELD_PLACE ≡ 2) × (TARGET_HELD_PLACE ≡ 3) × (FED_PLACE ≡ 4) × (POSTS_PLACE ≡ 6) }
 {}

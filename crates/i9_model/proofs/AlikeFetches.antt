@@ -31,7 +31,7 @@ use Rattle.i9_model.specs.Calls.{system_hazard, system_entered, planned_system, 
 use Rattle.i9_model.specs.Faults.{raised, ◌>>=◌, or_stop, table_entry, checked_word, planned_handler, planned_frame, planned_fault}
 use Rattle.i9_model.specs.Step.{Message, AsksNothing, AsksInterrupt, AsksRestart, AsksGroup, first_word, next_word, message_of, message_kind}
 use Rattle.i9_model.specs.Access.{Access, NoAccess, Reads, Writes, Changes, SavesAt, CallsSystem, ReturnsBy, Requests, ReadsTables, ReadsGroup, message_access, access_by_name, access_by, access_of, data_of, hazard_in, hazard_of, second_hazard, fetch_hazard}
-use Rattle.i9_model.specs.Unbuilt.{is_traced, is_imprecise}
+use Rattle.i9_model.specs.Unbuilt.{is_imprecise}
 use Rattle.i9_model.specs.Standing.{Standing, NotBuilt, raised_in, later_fault, by_access, by_later, by_raised, by_word, by_fetch, stands_at}
 use Rattle.i9_model.specs.Run.{entry_in}
 use Rattle.i9_model.specs.Alike.{is_beyond, is_hard, is_compared, AgreeWhere, with_other, with_memory, told_words}
@@ -85,7 +85,7 @@ name_access_same : (op : Op) (i : Inst) (s : State) (bytes : ℕ → ℕ) → ac
 name_access_same Sysctl i s bytes = message_access_same (message_kind (message_of i s)) i s bytes
 name_access_same _ i s bytes = refl
 
-access_same : (i : Inst) (s : State) (bytes : ℕ → ℕ) → access_of i (with_memory s bytes) ≡ access_of i s
+pub access_same : (i : Inst) (s : State) (bytes : ℕ → ℕ) → access_of i (with_memory s bytes) ≡ access_of i s
 access_same i s bytes = by_transfer (transfer_of i.op)
   where
     by_transfer : (o : Option Transfer) → access_by o i (with_memory s bytes) ≡ access_by o i s
@@ -172,8 +172,7 @@ by_fetch_same s bytes None same is =
     let first = first_word_same s bytes hard (first_none (read_hazard s.frames s.ip 4) (second_hazard s r) is) in
     let second = second_none (read_hazard s.frames s.ip 4) (second_hazard s r) is in
     let word = decoded_same s bytes r (decoded w (next_word t)) hard (decoded_alike w (next_word s) (next_word t)) second (λ e. ap (decoded w) e) in
-    ap (λ (x : Standing). cond (is_traced s) NotBuilt x)
-    (ap (by_word t) (ap (λ (v : ℕ). decoded v (next_word t)) first ∙ word) ∙ by_word_same s bytes r same)
+    ap (by_word t) (ap (λ (v : ℕ). decoded v (next_word t)) first ∙ word) ∙ by_word_same s bytes r same
 
 -- the same stands at the instruction address
 pub stands_same : (s : State) (bytes : ℕ → ℕ) → AgreeWhere (is_compared s.frames) s.memory bytes → stands_at (with_memory s bytes) ≡ stands_at s

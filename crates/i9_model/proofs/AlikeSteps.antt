@@ -1,9 +1,10 @@
 -- What comes next in states that are alike is the same record or the same end, and states stay alike.
 use Rattle.std.proofs.Common.{◌≡◌, ℕ, ◌+◌, ◌*◌, ◌≤◌, Bool, true, false, cond, eqb, ◌&&◌, ◌||◌, nat_le, List, [], ◌∷◌, ◌++◌, Option, Some, None, Result, Ok, Err, refl, sym, ap, ◌∙◌, subst, arith}
+use Rattle.std.specs.Option.{option_map}
 use Rattle.std.specs.Prelude.{not, bit_and, max, map, ◌%◌}
 use Rattle.std.specs.List.{range_with_len}
 use Rattle.i9_isa.specs.declared.op.Op.{Op}
-use Rattle.i9_isa.specs.declared.op.Op.TheVariants.{Sysctl}
+use Rattle.i9_isa.specs.declared.op.Op.TheVariants.{Calls, Ret, Sysctl}
 use Rattle.i9_isa.specs.declared.size.Size.{Size}
 use Rattle.i9_isa.specs.declared.size.Direction.{Direction}
 use Rattle.i9_isa.specs.declared.size.Direction.TheVariants.{Load, Store}
@@ -24,7 +25,7 @@ use Rattle.i9_model.specs.declared.faults.FaultStop.{FaultStop}
 use Rattle.i9_model.specs.declared.faults.FaultStop.TheVariants as stops
 use Rattle.i9_model.specs.Writes.{address_count, wrapped, written, upwards}
 use Rattle.i9_model.specs.Memory.{Memory, console_byte, in_port_page, words_in, exit_word}
-use Rattle.i9_model.specs.State.{State, Frames, started}
+use Rattle.i9_model.specs.State.{State, Frames, TraceControls, started}
 use Rattle.i9_model.specs.Frames.{in_frames, flushed, is_put, wrote}
 use Rattle.i9_model.specs.Hazards.{read_hazard}
 use Rattle.i9_model.specs.Operands.{value}
@@ -32,10 +33,14 @@ use Rattle.i9_model.specs.Boot.{table_word, setup_of, configured}
 use Rattle.i9_model.specs.Tables.{tables_hazard, group_address, group_hazard, group_words}
 use Rattle.i9_model.specs.Calls.{record_address}
 use Rattle.i9_model.specs.Controls.{Control, KeepsControls, Restarts, LoadsGroup, with_group, controlled}
-use Rattle.i9_model.specs.Step.{Action, Flushes, Message, AsksNothing, AsksInterrupt, AsksRestart, AsksGroup, passing, moving, entering, message_of, argument_of, message_kind, message_action, action_by_name, action_by, action_of, moved, acted, counted}
-use Rattle.i9_model.specs.Access.{message_access, access_by_name, access_by, hazard_in, hazard_of}
+use Rattle.i9_model.specs.Step.{Action, Flushes, Message, AsksNothing, AsksInterrupt, AsksRestart, AsksGroup, passing, moving, entering, message_of, argument_of, message_kind, message_action, action_by_name, action_by, action_of, moved, flagged, acted, counted}
+use Rattle.i9_model.specs.declared.trace.Seen.{Seen}
+use Rattle.i9_model.specs.declared.trace.Trace.{Trace}
+use Rattle.i9_model.specs.Tracing.{trace_of}
+use Rattle.i9_model.specs.Traced.{switches, seen_of, trace_left, traced, traced_action}
+use Rattle.i9_model.specs.Access.{Access, data_of, message_access, access_by_name, access_by, hazard_in, hazard_of}
 use Rattle.i9_model.specs.Standing.{Standing, Meets, NotBuilt, Refused, Faults, Runs, stands_at}
-use Rattle.i9_model.specs.Run.{End, Limit, Kind, Instruction, Faulted, Entered, Interrupted, Reached, Blocked, Record, reached_kind, action_by_kind, action_done, counts_of, Point, point_of, after_kind, record_of, exit_in, due_by, end_due, Due, Next, Does, Ends, next_by_standing, next_by_event, next_by_interrupt, next_by_choice, next_by_entry, entry_in, fault_at, next_in, reached_by}
+use Rattle.i9_model.specs.Run.{End, Limit, Kind, Instruction, Faulted, Entered, Interrupted, Reached, Blocked, Record, reached_kind, action_by_kind, action_done, counts_of, Point, point_of, after_kind, record_of, exit_in, due_in, due_by, action_due, Due, Next, Does, Ends, next_by_standing, next_by_event, next_by_interrupt, next_by_choice, next_by_entry, entry_in, fault_at, next_in, reached_by}
 use Rattle.i9_model.specs.Overlay.{overlay}
 use Rattle.i9_model.specs.PrintedText.{Shown, Drained, Journal, Bytes, view_of, out_lines, point_lines, overlays, bytes_lines, event_lines, record_lines}
 use Rattle.i9_model.specs.declared.view.View.{View}
@@ -46,7 +51,7 @@ use Rattle.i9_model.proofs.Readings.{read_same, inner_word_same, words_same}
 use Rattle.i9_model.proofs.AlikeActions.{hard_bytes, action_same, stored_words_same}
 use Rattle.i9_model.proofs.Stands.{Known, known}
 use Rattle.i9_model.proofs.SoundRuns.{action_clear}
-use Rattle.i9_model.proofs.AlikeFetches.{stands_same, told_same, entry_same}
+use Rattle.i9_model.proofs.AlikeFetches.{access_same, stands_same, told_same, entry_same}
 use Rattle.i9_model.specs.Free.{IsWhole}
 use Rattle.i9_model.proofs.AlikeMoves.{moved_alike}
 use Rattle.i9_model.proofs.InterruptsFree.{interrupts_free}
@@ -141,9 +146,15 @@ controlled_alike c s t readable alike =
     alike.bytes x (ap (λ (f : Frames). is_compared f x) (sym (controlled-frames s c)) ∙ h) ∙ sym (ap (λ (m : ℕ → ℕ). m x) (controlled_bytes c s)) in
     alike_by (controlled s c) (controlled t c) bytes (ap (λ (u : State). controlled u c) alike.rest ∙ controlled_same c s bytes (hard_bytes s.frames s.memory bytes alike.bytes) readable) where_same
 
+pub flagged_alike : (o : Option Trace) (s t : State) → AreAlike s t → AreAlike (flagged o s) (flagged o t)
+flagged_alike None s t alike = alike
+flagged_alike (Some x) s t alike = record { rest = ap (flagged (Some x)) alike.rest; bytes = alike.bytes }
+
 pub acted_alike : (s : State) (a : Action) (bytes : ℕ → ℕ) → IsWhole a.move → IsReadable (moved s a) a.control → AgreeWhere (is_compared s.frames) s.memory bytes → AreAlike (acted s a) (acted (with_memory s bytes) a)
 unfolding acted
-acted_alike s a bytes whole readable same = controlled_alike a.control (moved s a) (moved (with_memory s bytes) a) readable (moved_alike s a bytes whole same)
+acted_alike s a bytes whole readable same =
+    flagged_alike a.trace (controlled (moved s a) a.control) (controlled (moved (with_memory s bytes) a) a.control)
+    (controlled_alike a.control (moved s a) (moved (with_memory s bytes) a) readable (moved_alike s a bytes whole same))
 
 -- ---- tables are read after a flush that stores nothing
 
@@ -197,8 +208,16 @@ exit_same : (s : State) (bytes : ℕ → ℕ) (a : Action) → exit_in (with_mem
 unfolding exit_word
 exit_same s bytes a = refl
 
+due_same_in : (s : State) (bytes : ℕ → ℕ) (t : Option Trace) (f : Option End) → due_in (with_memory s bytes) t f ≡ due_in s t f
+due_same_in s bytes t (Some f) = refl
+due_same_in s bytes None None = refl
+due_same_in s bytes (Some t) None = refl
+
+due_alike_by : (s : State) (bytes : ℕ → ℕ) (a : Action) → action_due (with_memory s bytes) a ≡ action_due s a
+due_alike_by s bytes a = ap (due_in (with_memory s bytes) a.trace) (exit_same s bytes a) ∙ due_same_in s bytes a.trace (exit_in s a)
+
 due_same : (k : Kind) (s : State) (bytes : ℕ → ℕ) → action_by_kind k (with_memory s bytes) ≡ action_by_kind k s → due_by k (with_memory s bytes) ≡ due_by k s
-due_same (Instruction i) s bytes e = ap (λ (a : Action). end_due (exit_in (with_memory s bytes) a)) e ∙ ap end_due (exit_same s bytes (action_of i s))
+due_same (Instruction i) s bytes e = ap (action_due (with_memory s bytes)) e ∙ due_alike_by s bytes (traced_action i s)
 due_same (Faulted inst fault) s bytes e = refl
 due_same (Entered x) s bytes e = refl
 due_same (Interrupted c x) s bytes e = refl
@@ -223,10 +242,34 @@ record_alike k s bytes words e whole readable same =
       after = subst (λ (x : Action). AreAlike (after_kind k s) (counted (counts_of k) (acted t x))) (sym e) after;
     }
 
+-- its trace events are the same: they go by registers, and by trace controls and breakpoints behind it
+switches_same : (op : Op) (s : State) (bytes : ℕ → ℕ) (a : Action) → switches op (with_memory s bytes) a ≡ switches op s a
+switches_same Calls s bytes a = refl
+switches_same Ret s bytes a = refl
+switches_same _ s bytes a = refl
+
+seen_same : (i : Inst) (s : State) (bytes : ℕ → ℕ) (a : Action) → seen_of i (with_memory s bytes) a ≡ seen_of i s a
+seen_same i s bytes a =
+    ap (λ (x : Access). record (seen_of i (with_memory s bytes) a) { access = option_map (λ d. d.0) (data_of x) }) (access_same i s bytes)
+    ∙ ap (λ (b : Bool). record (seen_of i s a) { switched = b }) (switches_same i.op s bytes a)
+
+traced_same : (i : Inst) (s : State) (bytes : ℕ → ℕ) → AgreeWhere (is_compared s.frames) s.memory bytes → hazard_of i s ≡ None → traced_action i (with_memory s bytes) ≡ traced_action i s
+traced_same i s bytes same none =
+    let t = with_memory s bytes in
+    let a = action_of i s in
+    let alike = acted_alike s a bytes (action_clear i s none).free.whole (action_readable i s none) same in
+    ap (traced i t) (action_same i s bytes same none)
+    ∙ ap (λ (x : TraceControls). record a { trace = trace_left i t a x }) (ap (λ (x : State). x.trace) alike.rest)
+    ∙ ap (λ (x : Seen). record a { trace = trace_of (acted s a).trace.tc s.pc i x (acted s a).trace.breaks }) (seen_same i s bytes a)
+
+traced_readable : (i : Inst) (s : State) → hazard_of i s ≡ None → IsReadable (moved s (traced_action i s)) (traced_action i s).control
+unfolding moved
+traced_readable i s none = action_readable i s none
+
 instruction_alike : (i : Inst) (s : State) (bytes : ℕ → ℕ) → told (Instruction i) (with_memory s bytes) ≡ told (Instruction i) s → AgreeWhere (is_compared s.frames) s.memory bytes → hazard_of i s ≡ None
     → AreRecordsAlike (record_of (Instruction i) s) (record_of (Instruction i) (with_memory s bytes))
 instruction_alike i s bytes words same none =
-    record_alike (Instruction i) s bytes words (action_same i s bytes same none) (action_clear i s none).free.whole (action_readable i s none) same
+    record_alike (Instruction i) s bytes words (traced_same i s bytes same none) (action_clear i s none).free.whole (traced_readable i s none) same
 
 entering_same : (e : Entry) (s : State) (bytes : ℕ → ℕ) → entering e (with_memory s bytes) ≡ entering e s
 entering_same e s bytes = ap (λ (bs : List ℕ). record (entering e s) { writes = upwards (record_address e.push.frame) bs }) (stored_words_same s.memory bytes (record_address e.push.frame) e.words)

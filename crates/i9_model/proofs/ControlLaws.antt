@@ -1,11 +1,13 @@
 -- What start-up and the load of a control group leave as it was.
 use Rattle.std.proofs.Common.{◌≡◌, ℕ, Bool, true, false, cond, eqb, List, refl}
+use Rattle.std.proofs.Common.{Option, Some, None, ap, ◌∙◌}
 use Rattle.std.specs.Prelude.{◌-◌, ◌*◌}
 use Rattle.i9_model.specs.Boot.{with_regions}
 use Rattle.i9_model.specs.State.{State, started}
 use Rattle.i9_model.specs.Controls.{Control, KeepsControls, Restarts, LoadsGroup, with_breakpoints, with_maps, with_trace_controls, controlled}
 use Rattle.i9_model.specs.Tables.{group_words}
-use Rattle.i9_model.specs.Step.{Action, moved, acted}
+use Rattle.i9_model.specs.declared.trace.Trace.{Trace}
+use Rattle.i9_model.specs.Step.{Action, moved, flagged, acted}
 
 -- the words of a group by which it is: 0, 1, 6 or another
 abbrev pub by_group : Bool → Bool → Bool → State → ℕ → List ℕ → State
@@ -36,10 +38,15 @@ controlled-frames s KeepsControls = refl
 controlled-frames s (Restarts first prcb) = refl
 controlled-frames s (LoadsGroup group) = group_frames (eqb group 0) (eqb group 1) (eqb group 6) s group (group_words s.memory s.tables.control_table group)
 
+-- the flags of trace events are in the trace controls alone
+pub flagged-others : (t : Option Trace) (s : State) → flagged t s ≡ record s { trace = (flagged t s).trace }
+flagged-others None s = refl
+flagged-others (Some t) s = refl
+
 pub acted-count : (s : State) (a : Action) → (acted s a).count ≡ s.count
 unfolding acted moved
-acted-count s a = controlled-count (moved s a) a.control
+acted-count s a = ap (λ (x : State). x.count) (flagged-others a.trace (controlled (moved s a) a.control)) ∙ controlled-count (moved s a) a.control
 
 pub acted-frames : (s : State) (a : Action) → (acted s a).frames ≡ (moved s a).frames
 unfolding acted
-acted-frames s a = controlled-frames (moved s a) a.control
+acted-frames s a = ap (λ (x : State). x.frames) (flagged-others a.trace (controlled (moved s a) a.control)) ∙ controlled-frames (moved s a) a.control

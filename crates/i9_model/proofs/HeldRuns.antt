@@ -16,7 +16,7 @@ use Rattle.i9_model.specs.Run.{Given, action_by_kind, action_done, counts_of, Re
 use Rattle.i9_model.specs.Alike.{is_compared, with_other, with_memory, AreAlike}
 use Rattle.i9_model.specs.HeldFrames.{Cache, cache, spilled, over, overlaid, cache_moved, cache_acted, cache_configured, sets_in, renewed, cache_after, AreYoungest, IsCached}
 use Rattle.i9_model.specs.Free.{ComesAfterFlush, IsFree}
-use Rattle.i9_model.proofs.ControlLaws.{by_group, acted-frames}
+use Rattle.i9_model.proofs.ControlLaws.{by_group, flagged-others, acted-frames}
 use Rattle.i9_model.proofs.Comes.{next_comes}
 use Rattle.i9_model.proofs.SoundRuns.{kind_clear, sound-after}
 use Rattle.i9_model.proofs.AlikeMoves.{move_mcon, moved_alike}
@@ -54,7 +54,10 @@ cache_regions n Flushes c = over_mcon c.held c.behind
 pub regions_after : (n : ℕ) (s : State) (a : Action) (c : Cache) → ComesAfterFlush a.control a.move a.writes → c.behind.mcon ≡ s.memory.mcon
     → ((cache_moved n a.move c).held ≡ []) ⊎ ((acted s a).memory.mcon ≡ (cache_moved n a.move c).behind.mcon)
 unfolding acted moved
-regions_after n s a c after regions = by_control a.control after
+regions_after n s a c after regions =
+    let flags = flagged-others a.trace (controlled (moved s a) a.control) in
+    subst (λ (m : Memory). ((cache_moved n a.move c).held ≡ []) ⊎ (m.mcon ≡ (cache_moved n a.move c).behind.mcon)) (sym (ap (λ (x : State). x.memory) flags))
+    (by_control a.control after)
   where
     by_control : (k : Control) → ComesAfterFlush k a.move a.writes → ((cache_moved n a.move c).held ≡ []) ⊎ ((controlled (moved s a) k).memory.mcon ≡ (cache_moved n a.move c).behind.mcon)
     by_control KeepsControls e = inr (move_mcon a.move s.memory ∙ sym regions ∙ sym (cache_regions n a.move c))
@@ -75,7 +78,7 @@ configured_by m k c e = ap (λ (x : ℕ → ℕ). record c { behind = record c.b
 
 acted_bytes : (s : State) (a : Action) → (acted s a).memory.bytes ≡ (moved s a).memory.bytes
 unfolding acted
-acted_bytes s a = controlled_bytes a.control (moved s a)
+acted_bytes s a = ap (λ (x : State). x.memory.bytes) (flagged-others a.trace (controlled (moved s a) a.control)) ∙ controlled_bytes a.control (moved s a)
 
 -- memory is what is held over what is behind, where that has a state's configuration words
 pub overlaid_memory : (s : State) (c : Cache) → c.behind.mcon ≡ s.memory.mcon → with_other s.memory (overlaid c).bytes ≡ overlaid c
@@ -130,7 +133,7 @@ no_write m = refl
 -- the number changes where the processor starts anew, and there alone
 pub sets_after : (asked : Option ℕ) (s : State) (a : Action) → ComesAfterFlush a.control a.move a.writes → sets_in asked (acted s a) ≡ renewed asked s.memory a.control (sets_in asked s)
 unfolding acted moved started
-sets_after asked s a after = by_control a.control after
+sets_after asked s a after = ap (sets_in asked) (flagged-others a.trace (controlled (moved s a) a.control)) ∙ by_control a.control after
   where
     by_control : (k : Control) → ComesAfterFlush k a.move a.writes → sets_in asked (controlled (moved s a) k) ≡ renewed asked s.memory k (sets_in asked s)
     by_control KeepsControls e = refl

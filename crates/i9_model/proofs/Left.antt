@@ -42,7 +42,8 @@ use Rattle.i9_model.specs.Before.{Received, choice_in, interrupting, moving_unit
 use Rattle.i9_model.specs.Left.{flag, asked, event_work, plan_work, pending, left_in}
 use Rattle.i9_model.specs.Run.{Kind, Instruction, Faulted, Entered, Interrupted, Reached, Blocked, Record, record_of, counts_of, after_kind, action_by_kind, due_by, reached_by, Does, next_in}
 use Rattle.i9_model.proofs.CallLaws.{unless_ok}
-use Rattle.i9_model.proofs.ControlLaws.{by_group, acted-count}
+use Rattle.i9_model.specs.Traced.{traced_action}
+use Rattle.i9_model.proofs.ControlLaws.{by_group, flagged-others, acted-count}
 use Rattle.i9_model.proofs.Comes.{MayCome, next_comes}
 
 -- the instructions that a record counts
@@ -191,7 +192,10 @@ controlled_asked s (LoadsGroup group) = let same = group_asked (eqb group 0) (eq
 
 acted_asked : (s : State) (a : Action) → asked (acted s a) ≤ asked_of a
 unfolding acted moved
-acted_asked s a = controlled_asked (moved s a) a.control
+acted_asked s a =
+    let flags = ap asked (flagged-others a.trace (controlled (moved s a) a.control)) in
+    let controls = controlled_asked (moved s a) a.control in
+    omega (arith, flags, controls)
 
 -- ---- one instruction
 
@@ -370,7 +374,7 @@ quiet_leaves limit plan place due k s none within less =
 instruction_leaves : (limit : ℕ) (plan : List Timed) (place : ℕ) (due : Due) (i : Inst) (s : State) → s.count ≢ limit → Leaves limit plan place due s (record_of (Instruction i) s)
 instruction_leaves limit plan place due i s other =
     let small = pending_small (due_by (Instruction i) s) in
-    let acts = acted_asked s (action_of i s) in
+    let acts = acted_asked s (traced_action i s) in
     let posts = action_posts i s in
     quiet_leaves limit plan place due (Instruction i) s refl (λ h. omega (arith, other)) (omega (arith, small, acts, posts))
 

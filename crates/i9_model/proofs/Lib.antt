@@ -22,6 +22,7 @@ pub mod AlikeMoves
 pub mod AlikeChoices
 pub mod AlikeInterrupts
 pub mod Units
+pub mod Untraced
 pub mod AlikeSteps
 pub mod Overlays
 pub mod FrameBytes

@@ -24,6 +24,8 @@ use Rattle.i9_model.specs.State.{State, started, start_sets, first_frame}
 use Rattle.i9_model.specs.Boot.{setup_of, with_regions}
 use Rattle.i9_model.specs.Tables.{group_words}
 use Rattle.i9_model.specs.Controls.{Control, KeepsControls, Restarts, LoadsGroup, controlled, with_group, with_breakpoints, with_maps, with_trace_controls}
+use Rattle.i9_model.specs.Traced.{traced_action}
+use Rattle.i9_model.proofs.ControlLaws.{flagged-others}
 use Rattle.i9_model.specs.Step.{Action, moving, action_by_name, action_by, action_of, entering, faulting, moved, acted}
 use Rattle.i9_model.specs.Late.{resource, resources}
 use Rattle.i9_model.specs.Needs.{set_of, inst_need, entry_need}
@@ -104,7 +106,9 @@ moved_keeps s a r none code = by_resource (moved s a) s r code (λ register. wri
 acted_keeps : (s : State) (a : Action) (r : ℕ) → last_put a.sets r ≡ None → ((r == CONDITION_CODE) ≡ true → a.ac % 8 ≡ s.ac % 8)
     → (IsRestart a.control → ((r == CONDITION_CODE) ≡ false) × (is_in_frame r ≡ false)) → resource (acted s a) r ≡ resource s r
 unfolding acted
-acted_keeps s a r none code restart = controls_keep (moved s a) a.control r restart ∙ moved_keeps s a r none code
+acted_keeps s a r none code restart =
+    ap (λ (x : State). resource x r) (flagged-others a.trace (controlled (moved s a) a.control))
+    ∙ controls_keep (moved s a) a.control r restart ∙ moved_keeps s a r none code
 
 -- ---- an instruction
 
@@ -133,10 +137,10 @@ set_with : (b c : Bool) → c ≡ true → (b && c) ≡ false → b ≡ false
 set_with false c e h = refl
 set_with true c e h = absurd (both_ways c h e)
 
-pub instruction_keeps : (f : Facts) (i : Inst) (s : State) (r : ℕ) → r < resources → bit_at (inst_need i f).writes r ≡ 0 → resource (acted s (action_of i s)) r ≡ resource s r
+pub instruction_keeps : (f : Facts) (i : Inst) (s : State) (r : ℕ) → r < resources → bit_at (inst_need i f).writes r ≡ 0 → resource (acted s (traced_action i s)) r ≡ resource s r
 instruction_keeps f i s r lt h =
     let k = is_kept i r (not_in (is_written i) r lt h) in
-    acted_keeps s (action_of i s) r (sets_beside i s r k.outside)
+    acted_keeps s (traced_action i s) r (sets_beside i s r k.outside)
     (λ code. code_beside i s (set_with (writes_code i.op) (r == CONDITION_CODE) code k.code))
     (λ restart. let w = restarts i s restart in (unset (writes_code i.op) (r == CONDITION_CODE) w.1 k.code, unset (changes_frame i.op) (is_in_frame r) w.0 k.outside.frame))
 

@@ -231,7 +231,7 @@ interrupting_clear s c e free = record { save = free.enters.save; free = record 
 -- what comes next
 pub kind_clear : (limit : ℕ) (due : Due) (stands : Option Event) (k : Kind) (s : State) → MayCome limit due stands s k → IsClear s (action_by_kind k s)
 unfolding entry_in
-kind_clear limit due stands (Instruction i) s may = action_clear i s may.2
+kind_clear limit due stands (Instruction i) s may = let clear = action_clear i s may.2 in record { save = clear.save; free = record { whole = clear.free.whole; free = clear.free.free; controls = clear.free.controls } }
 kind_clear limit due stands (Faulted inst fault) s may = record { save = tt; free = record { whole = tt; free = no_writes s.frames; controls = tt } }
 kind_clear limit due stands (Entered e) s may =
     entering_clear s e (enters_free s.memory s.frames s.tables.fault_table s.tables.system_table may.0 s.pc s.ac (s.regs FP) (s.regs SP) e may.2)

@@ -9,7 +9,7 @@ use Rattle.i9_model.specs.State.{State}
 use Rattle.i9_model.specs.Hazards.{read_hazard}
 use Rattle.i9_model.specs.Step.{first_word, next_word}
 use Rattle.i9_model.specs.Access.{hazard_of, second_hazard, fetch_hazard}
-use Rattle.i9_model.specs.Unbuilt.{is_imprecise, is_traced}
+use Rattle.i9_model.specs.Unbuilt.{is_imprecise}
 use Rattle.i9_model.specs.Standing.{Standing, Meets, NotBuilt, Refused, Faults, Runs, raised_in, later_fault, by_access, by_later, by_raised, by_word, by_fetch, stands_at}
 use Rattle.i9_model.proofs.CallLaws.{first_none, second_none}
 
@@ -54,15 +54,9 @@ word_known s (Ok i) first second = raised_known s i (raised_in i s) read
 fetch_known : (s : State) (h : Option ℕ) → fetch_hazard s ≡ h → Known s (by_fetch s h)
 unfolding fetch_hazard
 fetch_known s (Some a) is = tt
-fetch_known s None is = by_trace (is_traced s)
-  where
-    word : Result Inst BadWord
-    word = decoded (first_word s) (next_word s)
-
-    by_trace : (b : Bool) → Known s (cond b NotBuilt (by_word s word))
-    by_trace true = tt
-    by_trace false =
-        word_known s word (first_none (read_hazard s.frames s.ip 4) (second_hazard s word) is) (second_none (read_hazard s.frames s.ip 4) (second_hazard s word) is)
+fetch_known s None is =
+    let word = decoded (first_word s) (next_word s) in
+    word_known s word (first_none (read_hazard s.frames s.ip 4) (second_hazard s word) is) (second_none (read_hazard s.frames s.ip 4) (second_hazard s word) is)
 
 pub known : (s : State) → Known s (stands_at s)
 unfolding stands_at

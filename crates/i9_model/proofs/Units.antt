@@ -1,7 +1,6 @@
 -- A unit that meets no hazard sees hard bytes alone, and writes beside live frames.
-use Rattle.std.proofs.Common.{◌≡◌, ℕ, zero, suc, ◌+◌, ◌<◌, ◌≤◌, Bool, true, false, cond, List, [], ◌∷◌, length, map, take, Option, Some, None, Result, Ok, Err, refl, sym, ap, ◌∙◌, subst, arith}
+use Rattle.std.proofs.Common.{◌≡◌, ℕ, zero, suc, ◌+◌, ◌<◌, ◌≤◌, Bool, true, false, cond, List, [], ◌∷◌, length, map, Option, Some, None, Result, Ok, Err, refl, sym, ap, ◌∙◌, subst, arith}
 use Rattle.std.specs.Prelude.{not, ◌&&◌, ◌||◌, ◌==◌, nat_lt}
-use Rattle.std.specs.List.{range_with_len}
 use Rattle.std.proofs.lemmas.Bool.Decides.{nat_tests}
 use Rattle.std.proofs.lemmas.List.{length-map, length-take-le}
 use Rattle.std.proofs.lemmas.List.FromFn.{length-map-range_with_len}
@@ -15,7 +14,7 @@ use Rattle.i9_model.specs.State.{State, Frames, Dma, Channel}
 use Rattle.i9_model.specs.Frames.{places}
 use Rattle.i9_model.specs.Hazards.{or_else, unless, read_hazard, write_hazard, port_hazard, writes_hazard}
 use Rattle.i9_model.specs.Dma.{Unit, unit_size, unit_length, is_fit, is_idle, source_hazard, unit_hazard, unit_bytes, unit, next_unit}
-use Rattle.i9_model.specs.Before.{Received, moving_unit, received_by, unit_in, received_in}
+use Rattle.i9_model.specs.Before.{Received, moving_unit, received_by, received_in}
 use Rattle.i9_model.specs.Alike.{is_hard, AgreeWhere, with_other, with_memory}
 use Rattle.i9_model.proofs.CallLaws.{first_none, second_none, unless_ok}
 use Rattle.i9_model.proofs.Runs.{writes_hazard-upwards}

@@ -1,5 +1,5 @@
 -- DMA: what a channel is set up with, and the unit that it moves next.
-use Rattle.std.specs.Prelude.{ℕ, ◌+◌, ◌-◌, ◌^◌, Bool, not, ◌==◌, ◌||◌, ◌&&◌, nat_lt, if◌then◌else◌, List, [], length, map, take, Option, Some, None, Result, Ok}
+use Rattle.std.specs.Prelude.{ℕ, ◌+◌, ◌-◌, Bool, not, ◌==◌, ◌||◌, ◌&&◌, nat_lt, if◌then◌else◌, List, length, map, take, Option, Some, None, Result, Ok}
 use Rattle.i9_isa.specs.Words.{bit, field}
 use Rattle.i9_model.specs.declared.dma.TheConstants.{FIRST_ENDED_PLACE, SOURCE_HELD_PLACE, TARGET_HELD_PLACE, FED_PLACE, POSTS_PLACE}
 use Rattle.i9_model.specs.Writes.{wrapped, upwards}

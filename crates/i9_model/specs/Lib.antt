@@ -18,8 +18,10 @@ pub mod Results
 pub mod Branches
 pub mod Requests
 pub mod Dma
+pub mod Tracing
 pub mod Step
 pub mod Access
+pub mod Traced
 pub mod Unbuilt
 pub mod Faults
 pub mod Interrupts

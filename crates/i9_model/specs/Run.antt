@@ -6,16 +6,19 @@ use Rattle.i9_isa.specs.declared.op.Op.TheVariants.{Flushreg, Syncf}
 use Rattle.i9_isa.specs.declared.inst.Inst.{Inst}
 use Rattle.i9_isa.specs.Words.{words_of}
 use Rattle.i9_model.specs.declared.layout.TheConstants.{FP, SP}
+use Rattle.i9_model.specs.declared.faults.TheConstants.{TRACE}
 use Rattle.i9_model.specs.declared.faults.Fault.{Fault}
 use Rattle.i9_model.specs.declared.faults.Entry.{Entry}
 use Rattle.i9_model.specs.declared.faults.FaultStop.{FaultStop}
 use Rattle.i9_model.specs.declared.faults.FaultStop.TheVariants as stops
+use Rattle.i9_model.specs.declared.trace.Trace.{Trace}
 use Rattle.i9_model.specs.declared.interrupts.Chosen.{Chosen}
 use Rattle.i9_model.specs.declared.event.Event.{Event}
 use Rattle.i9_model.specs.declared.event.Timed.{Timed}
 use Rattle.i9_model.specs.Memory.{exit_word}
 use Rattle.i9_model.specs.State.{State, boot}
-use Rattle.i9_model.specs.Step.{Action, going, faulting, entering, action_of, acted, counted}
+use Rattle.i9_model.specs.Step.{Action, going, faulting, entering, acted, counted}
+use Rattle.i9_model.specs.Traced.{traced_action}
 use Rattle.i9_model.specs.Before.{Received, choice_in, interrupt_in, interrupting, received_in, receiving}
 use Rattle.i9_model.specs.ScheduleText.{timed_at, standing}
 use Rattle.i9_model.specs.Standing.{Standing, Meets, NotBuilt, Refused, Faults, Runs, stands_at}
@@ -28,9 +31,9 @@ pub use Rattle.i9_model.specs.declared.run.Due.{Due}
 use Rattle.i9_model.specs.declared.run.Point.TheVariants as points
 use Rattle.i9_model.specs.declared.run.Due.TheVariants as dues
 
--- what was done: an instruction; one that faulted, where its word is not refused, with its fault; the entry of the
--- fault; the entry of an interrupt that was chosen; an event that was reached, with what it does; or an event that
--- was reached and met a hazard, which does nothing
+-- what was done: an instruction, traced or not; one that faulted, where its word is not refused, with its fault; the
+-- entry of the fault; the entry of an interrupt that was chosen; an event that was reached, with what it does; or an
+-- event that was reached and met a hazard, which does nothing
 pub data Kind : Type 0 where
   Instruction : (inst : Inst) → Kind
   Faulted : (inst : Option Inst) → (fault : Fault) → Kind
@@ -58,7 +61,7 @@ faulted_words (Some i) = words_of i
 
 -- what it does, from the state before it
 abbrev pub action_by_kind : Kind → State → Action
-action_by_kind (Instruction i) s = action_of i s
+action_by_kind (Instruction i) s = traced_action i s
 action_by_kind (Faulted inst fault) s = faulting (faulted_words inst) s
 action_by_kind (Entered e) s = entering e s
 action_by_kind (Interrupted c e) s = interrupting c e s
@@ -106,14 +109,23 @@ action_done r = action_by_kind r.kind r.before
 abbrev pub exit_in : State → Action → Option End
 exit_in s a = option_map Exit (exit_word s.memory a.writes)
 
--- an exit ends the run
-abbrev pub end_due : Option End → Due
-end_due None = dues.Nothing
-end_due (Some f) = dues.End f
+-- the fault of the instruction at the instruction address, by type and subtype
+abbrev pub fault_at : State → ℕ × ℕ → Fault
+fault_at s number = record { kind = number.0; subtype = number.1; address = s.ip }
+
+-- an exit ends the run, and comes before the fault of trace events
+abbrev pub due_in : State → Option Trace → Option End → Due
+due_in s trace (Some f) = dues.End f
+due_in s None None = dues.Nothing
+due_in s (Some t) None = dues.Entry (fault_at s (TRACE, t.subtype))
+
+-- what an action brings of itself
+abbrev pub action_due : State → Action → Due
+action_due s a = due_in s a.trace (exit_in s a)
 
 -- what comes after a record whatever the length: nothing, an end, or the entry of its fault
 abbrev pub due_by : Kind → State → Due
-due_by (Instruction i) s = end_due (exit_in s (action_of i s))
+due_by (Instruction i) s = action_due s (traced_action i s)
 due_by (Faulted inst fault) s = dues.Entry fault
 due_by (Entered e) s = dues.Nothing
 due_by (Interrupted c e) s = dues.Nothing
@@ -125,10 +137,6 @@ due_after [] = dues.Nothing
 due_after (r ∷ rs) = due_by r.kind r.before
 
 -- ---- what comes next
-
--- the fault of the instruction at the instruction address
-abbrev pub fault_at : State → ℕ × ℕ → Fault
-fault_at s number = record { kind = number.0; subtype = number.1; address = s.ip }
 
 -- an instruction is done or faults, unless a hazard is met
 abbrev pub next_by_standing : State → Standing → Next

@@ -17,7 +17,7 @@ use Rattle.i9_model.specs.Results.{Answer}
 use Rattle.i9_model.specs.Branches.{is_taken}
 use Rattle.i9_model.specs.Step.{first_word, next_word, answer_in}
 use Rattle.i9_model.specs.Access.{access_of, data_of, hazard_of, fetch_hazard}
-use Rattle.i9_model.specs.Unbuilt.{is_imprecise, is_traced}
+use Rattle.i9_model.specs.Unbuilt.{is_imprecise}
 use Rattle.i9_model.specs.Faults.{raised}
 
 -- ---- the fault of an instruction, as type and subtype
@@ -93,7 +93,7 @@ by_word s (Ok i) = by_raised i s (raised_in i s)
 
 abbrev pub by_fetch : State → Option ℕ → Standing
 by_fetch s (Some a) = Meets a
-by_fetch s None = if is_traced s then NotBuilt else by_word s (decoded (first_word s) (next_word s))
+by_fetch s None = by_word s (decoded (first_word s) (next_word s))
 
 unfoldable pub stands_at : State → Standing
 stands_at s = by_fetch s (fetch_hazard s)

@@ -34,7 +34,7 @@ pub record Dma : Type 0 where
   pub dmac : ℕ
 
 -- trace controls, and the breakpoints
-pub record Trace : Type 0 where
+pub record TraceControls : Type 0 where
   pub tc : ℕ
   pub breaks : Breaks
 
@@ -51,7 +51,7 @@ pub record State : Type 0 where
   pub frames : Frames
   pub interrupts : Interrupts
   pub dma : Dma
-  pub trace : Trace
+  pub trace : TraceControls
   pub tables : Tables
 
 -- the memory of an image before boot; later pairs win
@@ -85,7 +85,7 @@ abbrev pub no_dma : Dma
 no_dma = record { channels = λ _. record { control = 0; count = 0; source = 0; target = 0 }; dmac = 0 }
 
 -- words 0 to 3, 25 and 26 of the control table are the breakpoints, their controls and the trace controls
-abbrev pub start_trace : Setup → Trace
+abbrev pub start_trace : Setup → TraceControls
 start_trace u = record {
   tc = bit_and (slice_index u.control 26) TC_MASK;
   breaks = record {

@@ -20,6 +20,7 @@ use Rattle.i9_model.specs.declared.push.Push.{Push}
 use Rattle.i9_model.specs.declared.calls.Sys.{Sys}
 use Rattle.i9_model.specs.declared.calls.Pop.{Pop}
 use Rattle.i9_model.specs.declared.faults.Entry.{Entry}
+use Rattle.i9_model.specs.declared.trace.Trace.{Trace}
 use Rattle.i9_model.specs.Writes.{wrapped, written, upwards}
 use Rattle.i9_model.specs.Memory.{Memory, half_in, half_bytes, word_in, word_bytes, words_in, with_writes, with_words}
 use Rattle.i9_model.specs.State.{State, Frames, Interrupts, Dma, Channel, aligned}
@@ -44,7 +45,8 @@ pub data Move : Type 0 where
   Flushes : Move
 
 -- the registers that are set; the bytes that are written; the frames; the arithmetic, process and trace controls,
--- the check flag, interrupts and DMA afterwards; the other controls; and the next address
+-- the check flag, interrupts and DMA afterwards; the other controls; the next address; and, where trace events count,
+-- the trace controls with their flags and the subtype of their fault
 pub record Action : Type 0 where
   pub sets : List (ℕ × ℕ)
   pub writes : List (ℕ × ℕ)
@@ -57,6 +59,7 @@ pub record Action : Type 0 where
   pub dma : Dma
   pub control : Control
   pub next : ℕ
+  pub trace : Option Trace
 
 -- Nothing is done, but control goes to an address. The choice of an interrupt that came before has looked at what
 -- software asks for, where the check flag was set, so the flag is clear.
@@ -73,6 +76,7 @@ going s next = record {
   dma = s.dma;
   control = KeepsControls;
   next = next;
+  trace = None;
 }
 
 -- the address behind an instruction
@@ -321,8 +325,8 @@ other_action op i s = if asks (question_of op) then branching i s else resulting
 -- Each name that is built and moves nothing between registers and memory: lda sets its destination to the effective
 -- address; atadd and atmod answer the old word and store its sum with src2, or the bits of src/dst where src2 has
 -- them; bx, balx and bal jump, and the last two link; flushreg flushes; sdma sets up the channel of src1; sysctl goes by
--- its message; syncf does nothing but drain, and mark, fmark and udma do nothing while trace enable is clear; the others branch or go by the
--- table of results.
+-- its message; syncf does nothing but drain, mark and fmark nothing but what tracing makes of them, and udma nothing; the
+-- others branch or go by the table of results.
 abbrev pub action_by_name : Op → Inst → State → Action
 action_by_name Lda i s = answering i s (address s i.ea)
 action_by_name Atadd i s = atomic i s (λ old. wrapped (old + value s i.b))
@@ -378,8 +382,13 @@ moved s a = record s {
   ip = a.next;
 }
 
+-- the flags of trace events come last, where some count
+abbrev pub flagged : Option Trace → State → State
+flagged None s = s
+flagged (Some t) s = record s { trace = record s.trace { tc = t.tc } }
+
 unfoldable pub acted : State → Action → State
-acted s a = controlled (moved s a) a.control
+acted s a = flagged a.trace (controlled (moved s a) a.control)
 
 -- a state with so many instructions more
 abbrev pub counted : ℕ → State → State

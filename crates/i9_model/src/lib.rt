@@ -18,6 +18,7 @@ mod push;
 mod run;
 mod schedule_laws;
 mod setup;
+pub mod trace;
 mod turn_laws;
 mod view;
 
@@ -46,6 +47,7 @@ pub use schedule_laws::{
     words_say_events,
 };
 pub use setup::{Breaks, CONTROL_WORDS, Setup, Tables};
+pub use trace::{Seen, Trace};
 pub use turn_laws::{
     barriers_decide_no_overtaking, barriers_forget, barriers_issue_alike, marks_wait,
     open_records_decide, three_issue_in_a_turn, turns_are_least, turns_exist,

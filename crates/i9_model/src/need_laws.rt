@@ -7,6 +7,7 @@ ghost use Rattle.i9_model.specs.declared.faults.Entry.{Entry};
 ghost use Rattle.i9_model.specs.declared.need.Facts.{Facts};
 ghost use Rattle.i9_model.specs.State.{State};
 ghost use Rattle.i9_model.specs.Step.{Stays, action_of, faulting, entering, acted};
+ghost use Rattle.i9_model.specs.Traced.{traced_action};
 ghost use Rattle.i9_model.specs.Turns.{HasCost};
 ghost use Rattle.i9_model.specs.Late.{resource, resources};
 ghost use Rattle.i9_model.specs.Needs.{inst_need, refused_need, event_need, entry_need, is_request_name, is_barrier_name};
@@ -29,7 +30,7 @@ pub fn others_write_no_memory()
 /// instruction, of one that faults, and of an entry.
 pub fn actions_keep_to_their_needs()
     ensures instruction { (f : Facts) (i : Inst) (s : State) (r : ℕ) → r < resources
-        → bit_at (inst_need i f).writes r ≡ 0 → resource (acted s (action_of i s)) r ≡ resource s r }
+        → bit_at (inst_need i f).writes r ≡ 0 → resource (acted s (traced_action i s)) r ≡ resource s r }
     ensures fault { (words : ℕ) (s : State) (r : ℕ) → resource (acted s (faulting words s)) r ≡ resource s r }
     ensures entry { (frames : ℕ) (e : Entry) (s : State) (r : ℕ) → r < resources
         → bit_at (entry_need frames).writes r ≡ 0 → resource (acted s (entering e s)) r ≡ resource s r }

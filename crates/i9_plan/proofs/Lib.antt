@@ -3,6 +3,7 @@ pub mod Answering
 pub mod WordBytes
 pub mod CallPlans
 pub mod Faulting
+pub mod TraceEffects
 pub mod UnitPlans
 pub mod Outcomes
 pub mod Fetching

@@ -22,7 +22,7 @@ use Rattle.i9_model.specs.Step.{Action, passing, destination, answer_in, resulti
 use Rattle.i9_model.specs.Access.{NoAccess, access_by_name, access_by, access_of, data_of, hazard_in, hazard_of}
 use Rattle.i9_model.specs.Calls.{in_supervisor_mode}
 use Rattle.i9_model.specs.Faults.{is_supervisor_only, uses_special, mismatches, is_invalid, is_past_table, is_unaligned, raised}
-use Rattle.i9_model.specs.Unbuilt.{is_faulty}
+use Rattle.i9_model.specs.Unbuilt.{is_traced, is_faulty}
 use Rattle.i9_model.specs.Standing.{Standing, NotBuilt, Faults, Runs, arithmetic_fault, answer_fault, is_fault_name, range_fault, raised_in, first_fault, by_access, by_later, by_raised}
 use Rattle.i9_exec.specs.declared.done.Done.{Done}
 use Rattle.i9_exec.specs.Shown.{answer_of}
@@ -287,13 +287,13 @@ no_range : (b c : Bool) → b ≡ false → ◌≡◌ {A = Option (ℕ × ℕ)} 
 no_range false c e = refl
 no_range true c e = absurd cc
 
-pub result_stands : (i : Inst) (s : State) (d : Done) → has_result i.op ≡ true → Some (answer_of d) ≡ answer_in i s → by_raised i s None ≡ by_result i d.fault (bit s.ac PRECISE_FAULTS_PLACE)
+pub result_stands : (i : Inst) (s : State) (d : Done) → has_result i.op ≡ true → Some (answer_of d) ≡ answer_in i s → by_raised i s None ≡ by_result i d.fault (bit s.ac PRECISE_FAULTS_PLACE || is_traced s)
 result_stands i s d t e =
     let moves = none_of (transfer_of i.op) (other (has_result i.op) (is_some (transfer_of i.op)) (result_moves i.op) t) in
     let clear = no_hazard i s moves (result_access i.op i s t) in
     let calm = no_range (is_fault_name i.op) (is_taken i (value s i.a) (value s i.b) s.ac) (other (has_result i.op) (is_fault_name i.op) (result_faults i.op) t) in
-    ap (λ (o : Option Answer). cond (is_faulty o && not (bit s.ac PRECISE_FAULTS_PLACE)) NotBuilt (by_later i s (first_fault (answer_fault o) (range_fault i s)))) (sym e)
-    ∙ result_by i s d.fault (bit s.ac PRECISE_FAULTS_PLACE) (range_fault i s) calm clear
+    ap (λ (o : Option Answer). cond (is_faulty o && not (bit s.ac PRECISE_FAULTS_PLACE || is_traced s)) NotBuilt (by_later i s (first_fault (answer_fault o) (range_fault i s)))) (sym e)
+    ∙ result_by i s d.fault (bit s.ac PRECISE_FAULTS_PLACE || is_traced s) (range_fault i s) calm clear
 
 pub result_does : (i : Inst) (s : State) (d : Done) → has_result i.op ≡ true → Some (answer_of d) ≡ answer_in i s → resulting i s (Some (answer_of d)) ≡ action_of i s
 result_does i s d t e =
@@ -305,7 +305,7 @@ result_does i s d t e =
 -- where nothing has a result, only the condition may fault
 calm_answer : (i : Inst) (s : State) → answer_in i s ≡ None → by_raised i s None ≡ by_later i s (range_fault i s)
 calm_answer i s none =
-    ap (λ (o : Option Answer). cond (is_faulty o && not (bit s.ac PRECISE_FAULTS_PLACE)) NotBuilt (by_later i s (first_fault (answer_fault o) (range_fault i s)))) none
+    ap (λ (o : Option Answer). cond (is_faulty o && not (bit s.ac PRECISE_FAULTS_PLACE || is_traced s)) NotBuilt (by_later i s (first_fault (answer_fault o) (range_fault i s)))) none
 
 ranged : (i : Inst) (s : State) (b : Bool) → hazard_of i s ≡ None → by_later i s (cond b (Some (CONSTRAINT, RANGE)) None) ≡ cond b (Faults i (CONSTRAINT, RANGE)) (Runs i)
 ranged i s true clear = refl

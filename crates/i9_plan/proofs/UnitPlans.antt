@@ -1,10 +1,9 @@
 -- What is planned of a unit's bytes is planned of the unit.
-use Rattle.std.proofs.Common.{◌≡◌, ℕ, Bool, true, false, cond, List, Option, Some, None, Result, Ok, Err, refl, sym, ap, ◌∙◌}
+use Rattle.std.proofs.Common.{◌≡◌, ℕ, Bool, true, false, cond, List, Option, Some, None, Ok, Err, refl, ap}
 use Rattle.i9_model.specs.Memory.{Memory}
-use Rattle.i9_model.specs.State.{State, Frames, Dma}
+use Rattle.i9_model.specs.State.{Frames, Dma}
 use Rattle.i9_model.specs.Hazards.{unless}
 use Rattle.i9_model.specs.Dma.{Unit, is_idle, unit_hazard, unit_bytes, unit, next_unit}
-use Rattle.i9_model.specs.Before.{Received, posting, moving_unit, received_by, unit_in}
 use Rattle.i9_dma.specs.Units.{planned_bytes}
 
 -- its bytes, and what it is

@@ -15,6 +15,7 @@ use Rattle.i9_model.specs.State.{State}
 use Rattle.i9_model.specs.declared.event.Event.{Event}
 use Rattle.i9_model.specs.declared.interrupts.Chosen.{Chosen}
 use Rattle.i9_model.specs.Step.{Action, Message, passing, pushing, message_action, entering, action_of, first_word, next_word}
+use Rattle.i9_model.specs.Traced.{traced_action}
 use Rattle.i9_model.specs.Interrupts.{record_writes}
 use Rattle.i9_model.specs.Before.{Received, interrupt_in, interrupting, received_in, receiving}
 use Rattle.i9_model.specs.Access.{Access, message_access, hazard_in, fetch_hazard}
@@ -62,13 +63,13 @@ IsFetched s (Ok f) = IsRead s f
 IsFetched s (Err (unreads.Meets a)) = fetch_hazard s ≡ Some a
 IsFetched s (Err (unreads.Refused first why)) = (fetch_hazard s ≡ None) × (decoded (first_word s) (next_word s) ≡ Err why) × (first ≡ first_word s)
 
--- its words are told, and its effect is its action
+-- its words are told, and its effect is its action, with its trace events
 abbrev pub IsPlanned : State → Planned → Effect → Type 0
 IsPlanned s (plans.Meets a) e = Unit {0}
 IsPlanned s plans.NotBuilt e = Unit {0}
 IsPlanned s (plans.Refused words number) e = TellsWords 1 s words
 IsPlanned s (plans.Faults words i number) e = TellsWords (words_of i) s words
-IsPlanned s (plans.Runs words i) e = TellsWords (words_of i) s words × IsEffect s (action_of i s) e
+IsPlanned s (plans.Runs words i) e = TellsWords (words_of i) s words × IsEffect s (traced_action i s) e
 
 -- an effect by which nothing is done, but control goes on behind an instruction
 pub record Passes (s : State) (i : Inst) (e : Effect) : Type 0 where

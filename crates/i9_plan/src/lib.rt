@@ -13,6 +13,7 @@ mod planned;
 mod raised;
 mod sources;
 mod system;
+mod tracing;
 mod transfers;
 mod words;
 

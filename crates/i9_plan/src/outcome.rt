@@ -1,5 +1,8 @@
 //! What an instruction comes to that is read.
-ghost use Rattle.std.specs.Prelude.{◌≡◌, ◌&&◌, None, Some, true, false, length};
+ghost use Rattle.std.specs.Prelude.{◌≡◌, ◌&&◌, ◌||◌, None, Some, true, false, length};
+ghost use Rattle.i9_isa.specs.Words.{bit};
+ghost use Rattle.i9_model.specs.declared.layout.TheConstants.{PRECISE_FAULTS_PLACE};
+ghost use Rattle.i9_model.specs.Unbuilt.{is_traced};
 ghost use Rattle.i9_isa.specs.Valid.{IsValid};
 ghost use Rattle.i9_exec.specs.Shown.{answer_of};
 ghost use Rattle.i9_model.specs.Operands.{value};
@@ -20,6 +23,7 @@ use crate::names::{is_branch, is_fault_name};
 use crate::raised::{arithmetic_fault, mismatches, raised_in};
 use crate::sources::{address, answer, target, value};
 use crate::system::{plan_message, plan_modac, plan_modpc, plan_modtc};
+use crate::tracing::is_traced;
 use crate::transfers::{Moving, plan_atadd, plan_atmod, plan_transfer, transfer_at};
 use crate::words::bit;
 use i9_entry::aligned;
@@ -72,6 +76,13 @@ fn resulting(p: &Processor, i: &Inst, done: Done, effect: &mut Effect)
     }
 }
 
+/// Whether arithmetic faults are precise: where the arithmetic controls say so, and while trace enable is set.
+fn is_precise(p: &Processor) -> bool
+    ensures { result ≡ (bit (state_of p.now).ac PRECISE_FAULTS_PLACE || is_traced (state_of p.now)) }
+{
+    bit(p.ac(), PRECISE_FAULTS_PLACE) || is_traced(p)
+}
+
 /// What an instruction with a result comes to: an arithmetic fault that may be imprecise is not built.
 fn result_outcome(p: &Processor, i: &Inst, effect: &mut Effect) -> Outcome
     requires valid { IsValid i.now }
@@ -86,13 +97,13 @@ fn result_outcome(p: &Processor, i: &Inst, effect: &mut Effect) -> Outcome
             resulting(p, i, done, effect);
             Outcome::Runs
         }
-        Some(f) if bit(p.ac(), PRECISE_FAULTS_PLACE) => Outcome::Faults(arithmetic_fault(f)),
+        Some(f) if is_precise(p) => Outcome::Faults(arithmetic_fault(f)),
         Some(_) => Outcome::NotBuilt,
     }
 }
 
 /// What the condition of a branch gives.
-fn jump_of(p: &Processor, i: &Inst) -> Jump
+pub(crate) fn jump_of(p: &Processor, i: &Inst) -> Jump
     ensures ac { result.ac ≡ branch_controls i.now (value (state_of p.now) i.now.a) (value (state_of p.now) i.now.b) (state_of p.now).ac }
     ensures taken { result.taken ≡ is_taken i.now (value (state_of p.now) i.now.a) (value (state_of p.now) i.now.b) (state_of p.now).ac }
 {

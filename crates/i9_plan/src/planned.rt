@@ -8,9 +8,8 @@ use crate::effects::pass;
 use crate::fetched::{Fetched, Unread, Words, fetch};
 use crate::outcome::{Outcome, outcome_of};
 use crate::raised::word_fault;
-use crate::words::bit;
+use crate::tracing::{is_traced, trace};
 use i9_isa::Inst;
-use i9_model::layout::TRACE_ENABLE_PLACE;
 use i9_processor::{Effect, Processor};
 
 /// What stands at the instruction address.
@@ -48,7 +47,6 @@ fn unread(p: &Processor, why: Unread) -> Planned
 {
     match why {
         Unread::Meets(a) => Planned::Meets(a),
-        Unread::Refused { .. } if bit(p.pc(), TRACE_ENABLE_PLACE) => Planned::NotBuilt,
         Unread::Refused { first, why } => Planned::Refused {
             words: Words { first, second: 0 },
             number: word_fault(why),
@@ -58,8 +56,8 @@ fn unread(p: &Processor, why: Unread) -> Planned
 
 /// What stands at the instruction address: the hazard of its fetch, which comes first; an instruction
 /// that is refused, or that faults, or that is not built; the hazard of its access; or what it does.
-/// Each result is worked out once, and the effect of what is done is made in `effect` (the i960 CA/CF
-/// User's Manual, instruction set and faults).
+/// Each result is worked out once, and the effect of what is done, with its trace events, is made in
+/// `effect` (the i960 CA/CF User's Manual, instruction set, faults and tracing).
 // It is no part of the code that calls it: LLVM would take the effect apart there, and move it piece by piece.
 #[inline(never)]
 #[tactic(auto, unfolding(i9_model::specs::Standing::stands_at))]
@@ -71,9 +69,6 @@ pub fn plan_next(p: &Processor, effect: &mut Effect) -> Planned
         Ok(fetched) => fetched,
         Err(why) => return unread(p, why),
     };
-    if bit(p.pc(), TRACE_ENABLE_PLACE) {
-        return Planned::NotBuilt;
-    }
     pass(p, &inst, effect);
     match outcome_of(p, &inst, effect) {
         Outcome::Meets(a) => Planned::Meets(a),
@@ -83,6 +78,11 @@ pub fn plan_next(p: &Processor, effect: &mut Effect) -> Planned
             inst,
             number,
         },
-        Outcome::Runs => Planned::Runs { words, inst },
+        Outcome::Runs => {
+            if is_traced(p) {
+                trace(p, &inst, effect);
+            }
+            Planned::Runs { words, inst }
+        }
     }
 }

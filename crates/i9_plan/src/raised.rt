@@ -10,8 +10,8 @@ ghost use Rattle.i9_plan.specs.Planned.{Moves};
 
 use crate::names::uses_special;
 use crate::sources::{atomic_address, value};
+use crate::tracing::in_supervisor_mode;
 use crate::transfers::Moving;
-use crate::words::bit;
 use i9_decode::BadWord;
 use i9_faults::raises;
 use i9_isa::{Inst, Op};
@@ -19,7 +19,6 @@ use i9_model::Arith;
 use i9_model::faults::{
     ARITHMETIC, INVALID_OPCODE, INVALID_OPERAND, OPERATION, OVERFLOW, ZERO_DIVIDE,
 };
-use i9_model::layout::SUPERVISOR_PLACE;
 use i9_processor::Processor;
 
 /// The fault of a word that is refused.
@@ -43,7 +42,7 @@ pub(crate) fn arithmetic_fault(f: Arith) -> (u8, u16)
 }
 
 /// The address and the number of bytes of an instruction's data access, where it has one.
-fn data_access(p: &Processor, i: &Inst, moving: Option<Moving>) -> Option<(u32, u32)>
+pub(crate) fn data_access(p: &Processor, i: &Inst, moving: Option<Moving>) -> Option<(u32, u32)>
     requires { Moves (state_of p.now) i.now moving }
     ensures { result ≡ data_of (access_of i.now (state_of p.now)) }
 {
@@ -71,5 +70,5 @@ pub(crate) fn raised_in(p: &Processor, i: &Inst, moving: Option<Moving>) -> Opti
 pub(crate) fn mismatches(p: &Processor, i: &Inst) -> bool
     ensures { result ≡ (not (in_supervisor_mode (state_of p.now).pc) && uses_special i.now) }
 {
-    !bit(p.pc(), SUPERVISOR_PLACE) && uses_special(i)
+    !in_supervisor_mode(p.pc()) && uses_special(i)
 }

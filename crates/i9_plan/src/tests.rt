@@ -13,7 +13,7 @@ use i9_dma::Channel;
 use i9_faults::{Fault, FaultStop};
 use i9_hex::Segments;
 use i9_isa::Op;
-use i9_model::{Cause, Chosen, Event, Push};
+use i9_model::{Cause, Chosen, Event, Push, Trace};
 use i9_processor::{Control, DmaChange, Effect, Move, Posting, Processor, Requests};
 use std::alloc::Global;
 use std::test::Fail;
@@ -237,9 +237,9 @@ const STOPS: [(u32, u32, u32, Seen); 18] = [
     (0, USER, 0x5CA0_0620, Faults(Op::Mov, 10, 1)),
     (0, USER, 0x63C5_0801, Faults(Op::Sdma, 10, 1)),
     (0, PC, 0x63C5_0804, Faults(Op::Sdma, 2, 4)),
-    // Whatever stands there while trace enable is set: addo, and a word that is refused.
-    (0, TRACED, 0x59A1_1803, NotBuilt),
-    (0, TRACED, 0x0000_0000, NotBuilt),
+    // While trace enable is set faults are precise; a word that is refused then.
+    (0, TRACED, 0x59A4_8092, Faults(Op::Addi, 3, 1)),
+    (0, TRACED, 0x0000_0000, Refused(2, 1)),
 ];
 
 #[test]
@@ -321,6 +321,42 @@ const RESULTS: [(u32, u32, Op, Option<(u8, u32)>, (u32, u32, u32, u32)); 14] = [
         (0, TRACED, 0, 0x1004),
     ),
 ];
+
+/// Process controls, a word, and the trace events of what it does.
+const TRACES: [(u32, u32, Option<Trace>); 4] = [
+    // addo where no mode is set.
+    (TRACED, 0x59A1_1803, None),
+    // modtc that sets the modes of instructions and of branches.
+    (
+        TRACED,
+        0x65A7_DA06,
+        Some(Trace {
+            tc: 0x0002_0006,
+            subtype: 2,
+        }),
+    ),
+    // fmark, and the same while trace enable is clear.
+    (
+        TRACED,
+        0x6600_0600,
+        Some(Trace {
+            tc: 0,
+            subtype: 0x80,
+        }),
+    ),
+    (PC, 0x6600_0600, None),
+];
+
+#[test]
+fn plans_traces(rt: HostRuntime) -> Result<(), Fail> {
+    for (pc, word, trace) in TRACES {
+        let p = ready(rt.alloc(), 0x1000, (word, 0), 0, pc)?;
+        let mut effect = Effect::blank();
+        assert!(rt; matches!(plan_next(&p, &mut effect), Planned::Runs { .. }));
+        assert_eq!(rt; effect.trace, trace, "{word}");
+    }
+    Ok(())
+}
 
 #[test]
 fn plans_results(rt: HostRuntime) -> Result<(), Fail> {

@@ -12,7 +12,7 @@ use Rattle.i9_model.specs.State.{State, Frames}
 use Rattle.i9_model.specs.Tables.{tables_hazard, group_hazard}
 use Rattle.i9_model.specs.Controls as plain
 use Rattle.i9_model.specs.Writes.{written, upwards}
-use Rattle.i9_model.specs.Step.{Move, Action, saved_locals, moved, acted, counted}
+use Rattle.i9_model.specs.Step.{Move, Action, saved_locals, moved, flagged, acted, counted}
 use Rattle.i9_model.specs.Alike.{AreAlike}
 use Rattle.i9_model.specs.Free.{IsFree}
 use Rattle.i9_model.specs.Sound.{IsSound}
@@ -22,7 +22,7 @@ use Rattle.i9_model.proofs.HeldRuns.{moved_cached}
 use Rattle.i9_storage.proofs.Known.{frames_sound, held_youngest}
 use Rattle.i9_model.proofs.AlikeActions.{hard_bytes}
 use Rattle.i9_model.proofs.AlikeFetches.{tables_hazard_same}
-use Rattle.i9_model.proofs.AlikeSteps.{IsReadable, controlled_alike}
+use Rattle.i9_model.proofs.AlikeSteps.{IsReadable, controlled_alike, flagged_alike}
 use Rattle.i9_processor.specs.declared.effect.Control.{Control}
 use Rattle.i9_processor.specs.declared.effect.Control.TheVariants as controls
 use Rattle.i9_processor.specs.declared.processor.Processor.{Processor}
@@ -43,12 +43,13 @@ readable controls.Keeps s can = tt
 readable (controls.Restarts first prcb) s can = can
 readable (controls.LoadsGroup group) s can = can.1
 
-pub applied_alike : (c : Control) (s t u : State) (a : Action) → control_in c ≡ a.control → CanControl (moved s a) c → AreAlike (moved s a) t → u ≡ plain.controlled t (control_in c) → AreAlike (acted s a) u
+pub applied_alike : (c : Control) (s t u : State) (a : Action) → control_in c ≡ a.control → CanControl (moved s a) c → AreAlike (moved s a) t → u ≡ flagged a.trace (plain.controlled t (control_in c)) → AreAlike (acted s a) u
 unfolding acted
 applied_alike c s t u a is can alike e =
     let here : AreAlike (plain.controlled (moved s a) (control_in c)) (plain.controlled t (control_in c)) = controlled_alike (control_in c) (moved s a) t (readable c (moved s a) can) alike in
-    subst (λ (x : State). AreAlike (plain.controlled (moved s a) a.control) x) (sym e)
-    (subst (λ (k : plain.Control). AreAlike (plain.controlled (moved s a) k) (plain.controlled t (control_in c))) is here)
+    subst (λ (x : State). AreAlike (flagged a.trace (plain.controlled (moved s a) a.control)) x) (sym e)
+    (flagged_alike a.trace (plain.controlled (moved s a) a.control) (plain.controlled t (control_in c))
+    (subst (λ (k : plain.Control). AreAlike (plain.controlled (moved s a) k) (plain.controlled t (control_in c))) is here))
 
 -- the PRCB gives at least five sets, and at most fifteen
 pub sets_few : (m : Memory) (u : Setup) → u ≡ boot_setup m → (0 < u.sets) × (u.sets < 16)

@@ -6,3 +6,4 @@ pub mod Applying
 pub mod NewSets
 pub mod Overlaid
 pub mod Rooms
+pub mod Tracing

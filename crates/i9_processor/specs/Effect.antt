@@ -107,6 +107,7 @@ action_in s e = record {
   dma = change_in e.dma s.dma;
   control = control_in e.control;
   next = e.next;
+  trace = e.trace;
 }
 
 -- its group is one of the 32 registers

@@ -6,7 +6,7 @@ ghost use Rattle.i9_model.specs.Memory.{words_in, with_writes};
 ghost use Rattle.i9_model.specs.Frames.{wrote};
 ghost use Rattle.i9_model.specs.Hazards.{writes_hazard};
 ghost use Rattle.i9_model.specs.Writes.{written};
-ghost use Rattle.i9_model.specs.Step.{saved_locals, frames_after, moved, acted, counted};
+ghost use Rattle.i9_model.specs.Step.{saved_locals, frames_after, moved, flagged, acted, counted};
 ghost use Rattle.i9_model.specs.Free.{IsFree};
 ghost use Rattle.i9_model.specs.Alike.{AreAlike};
 ghost use Rattle.i9_model.specs.HeldFrames.{overlaid, cache_moved, cache_acted, cache_configured, cache_stored};
@@ -26,7 +26,7 @@ use i9_entry::aligned;
 use i9_frames::{Frame, Sets};
 use i9_isa::NoMemory;
 use i9_model::layout::{BOOT_PC, LOCALS, TC_MASK};
-use i9_model::{Push, Setup};
+use i9_model::{Push, Setup, Trace};
 use i9_storage::Storage;
 
 /// Makes room for what is done to frames.
@@ -386,6 +386,19 @@ impl Processor {
         self.ip = e.next;
     }
 
+    /// Sets the flags of trace events, where some count.
+    #[tactic(auto, unfolding(crate::specs::State::state_of, crate::specs::State::cache_of, crate::specs::State::size_of))]
+    fn flag(&mut self, trace: Option<Trace>)
+        ensures state { state_of self.new ≡ flagged trace (state_of self.old) }
+        ensures cache { cache_of self.new ≡ cache_of self.old }
+        ensures size { size_of self.new ≡ size_of self.old }
+        ensures count { (state_of self.new).count ≡ (state_of self.old).count }
+    {
+        if let Some(trace) = trace {
+            self.tc = trace.tc;
+        }
+    }
+
     /// New sets take the place of the others, where there are any.
     #[tactic(auto, unfolding(crate::specs::State::state_of, crate::specs::State::cache_of, crate::specs::State::size_of))]
     fn renew(&mut self, sets: Option<Sets>)
@@ -431,6 +444,7 @@ impl Processor {
     {
         self.do_moves(e);
         self.control(e.control);
+        self.flag(e.trace);
         self.renew(sets);
         self.add_count(counts);
     }

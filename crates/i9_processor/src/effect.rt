@@ -9,7 +9,7 @@ use crate::processor::Processor;
 use arrayvec::ArrayVec;
 use i9_dma::Channel;
 use i9_model::layout::{CONSOLE, EXIT_WORD};
-use i9_model::{Cause, Push};
+use i9_model::{Cause, Push, Trace};
 
 /// The most registers that an effect sets beside those of a frame: a group of four.
 pub const MOST_VALUES: usize = 4;
@@ -85,7 +85,8 @@ pub enum DmaChange {
 /// The values that go to registers from one up, where nothing is done to frames; the bytes that are
 /// stored from an address on, and then those with bits of requests, each at an address of its own;
 /// what is done to frames; the arithmetic, process and trace controls and the check flag afterwards;
-/// what is done to the other controls, to interrupts and to DMA; and the next instruction address.
+/// what is done to the other controls, to interrupts and to DMA; the next instruction address; and, where
+/// trace events count, the trace controls with their flags and the subtype of their fault.
 #[derive(Debug, Drop)]
 pub struct Effect {
     pub register: u8,
@@ -102,6 +103,7 @@ pub struct Effect {
     pub dma: DmaChange,
     pub control: Control,
     pub next: u32,
+    pub trace: Option<Trace>,
 }
 
 /// The byte at a place, of bytes that stand from an address on.
@@ -192,6 +194,7 @@ impl Effect {
             dma: DmaChange::Keeps,
             control: Control::Keeps,
             next,
+            trace: None,
         }
     }
 
@@ -234,6 +237,7 @@ impl Effect {
             dma: DmaChange::Keeps,
             control: Control::Keeps,
             next: 0,
+            trace: None,
         }
     }
 
@@ -262,6 +266,7 @@ impl Effect {
         self.dma = DmaChange::Keeps;
         self.control = Control::Keeps;
         self.next = next;
+        self.trace = None;
     }
 
     /// The byte that is stored at an address.

@@ -10,7 +10,7 @@ mod registers;
 mod start;
 
 pub use effect::{Control, DmaChange, Effect, MOST_BYTES, MOST_VALUES, Move, Posting, Requests};
-pub use processor::Processor;
+pub use processor::{Processor, TraceControls};
 
 #[cfg(test)]
 mod tests;

@@ -7,6 +7,7 @@ ghost use Rattle.i9_model.specs.State.{boot};
 
 mod plans;
 mod reading;
+mod tracing;
 
 use crate::load::load;
 use crate::start::{
@@ -23,6 +24,7 @@ use i9_model::layout::BOOT_PC;
 use i9_model::{Breaks, Setup, Tables};
 use i9_storage::Storage;
 use std::alloc::Global;
+pub use tracing::TraceControls;
 
 /// All that an instruction may read or change: the registers and the controls, whether the next choice
 /// of an interrupt looks at what software asks for, the interrupts that are posted, the DMA channels, the

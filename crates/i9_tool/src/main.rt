@@ -43,6 +43,8 @@ mod tests;
 mod text;
 mod top;
 #[cfg(test)]
+mod trace_event_tests;
+#[cfg(test)]
 mod trace_tests;
 mod words;
 

@@ -175,16 +175,16 @@ run 6
 #l 1=3040
 #end limit
 status 0
-== Sets the trace enable bit: what comes behind is not built.
+== Sets the trace enable bit; no mode is set.
         mov   1, g1
         modpc 0, g1, g1
         mov   2, g2
-run 9
-#point 2 end 00001008 00000000 001F2003
-#g 1=1F2002 15=3000
+run 3
+#point 3 end 0000100C 00000000 001F2003
+#g 1=1F2002 2=2 15=3000
 #l 1=3040
-#end unbuilt 00001008
-status 4
+#end limit
+status 0
 ";
 
 /// Behind code that leaves supervisor mode.

@@ -6,8 +6,8 @@ ghost use Rattle.i9_model.specs.ScheduleText.{standing};
 ghost use Rattle.i9_model.specs.Before.{choice_in};
 ghost use Rattle.i9_isa.specs.declared.inst.Inst.{Inst};
 ghost use Rattle.i9_isa.specs.Words.{words_of};
-ghost use Rattle.i9_model.specs.Step.{action_of};
-ghost use Rattle.i9_model.specs.Run.{Does, Instruction, Faulted, faulted_words, fault_at, record_of, point_by_name, end_due, exit_in};
+ghost use Rattle.i9_model.specs.Traced.{traced_action};
+ghost use Rattle.i9_model.specs.Run.{Does, Instruction, Faulted, faulted_words, fault_at, record_of, point_by_name, action_due};
 ghost use Rattle.i9_plan.specs.Planned.{TellsWords};
 ghost use Rattle.i9_processor.specs.Effect.{action_in, IsEffect};
 ghost use Rattle.i9_processor.specs.State.{state_of};
@@ -18,6 +18,7 @@ use crate::line::{Issued, Turn};
 use crate::step::Step;
 use i9_faults::{Fault, FaultStop};
 use i9_isa::{Inst, Op, word_count};
+use i9_model::faults::TRACE;
 use i9_model::{Chosen, Due, End, Event, Point, When};
 use i9_plan::{Planned, Words, plan_entry, plan_event, plan_faulting, plan_interrupt, plan_next};
 use i9_processor::Effect;
@@ -97,12 +98,20 @@ impl Machine {
         }
     }
 
-    /// What an effect makes due: an exit, where it brings one.
+    /// What an effect makes due: an exit, where it brings one, or else the entry of the fault of its trace
+    /// events, where some count.
     fn due_by(&self, e: &Effect) -> Due
-        ensures { result ≡ end_due (exit_in (state_of self.now.processor) (action_in (state_of self.now.processor) e.now)) }
+        ensures { result ≡ action_due (state_of self.now.processor) (action_in (state_of self.now.processor) e.now) }
     {
-        match e.exit_word(&self.processor) {
-            Some(w) => Due::End(End::Exit(w)),
+        if let Some(w) = e.exit_word(&self.processor) {
+            return Due::End(End::Exit(w));
+        }
+        match e.trace {
+            Some(trace) => Due::Entry(Fault {
+                kind: TRACE,
+                subtype: trace.subtype,
+                address: self.processor.ip(),
+            }),
             None => Due::Nothing,
         }
     }
@@ -112,7 +121,7 @@ impl Machine {
         requires below { (state_of self.now.processor).count < self.now.length }
         requires is_next { next_for self.now plan.now ≡ Does (record_of (Instruction inst.now) (state_of self.now.processor)) }
         requires words { TellsWords (words_of inst.now) (state_of self.now.processor) words }
-        requires effect { IsEffect (state_of self.now.processor) (action_of inst.now (state_of self.now.processor)) effect.now }
+        requires effect { IsEffect (state_of self.now.processor) (traced_action inst.now (state_of self.now.processor)) effect.now }
         ensures { IsStep self.now plan.now result effect.now }
     {
         Step {

@@ -1,6 +1,6 @@
 use Rattle.std.proofs.Common.{◌≡◌, Bool, ap, ◌∙◌, bit_or, get_or}
 use Rattle.std.specs.Prelude.{◌&&◌}
-use Rattle.i9_events.specs.Tracing.{is_at_access, break_flags, matches, Ipb0, Ipb1, Dab0, Dab1}
+use Rattle.i9_model.specs.Tracing.{is_at_access, break_flags, matches, Ipb0, Ipb1, Dab0, Dab1}
 use Rattle.i9_events.proofs.Masks.{bit_if}
 use Rattle.i9_events.proofs.Events.{four}
 use Rattle.i9_events.proofs.breakpoints.break_flags.Goals as goal

@@ -1,6 +1,6 @@
 use Rattle.std.proofs.Common.{◌≡◌, Bool, ap, ◌∙◌, refl, bit_or}
-use Rattle.i9_events.specs.Tracing.{comes_with, Branch, Call, Return, Prereturn, Supervisor, Mark}
-use Rattle.i9_events.specs.Parts.{coming_modes}
+use Rattle.i9_model.specs.Tracing.{comes_with, Branch, Call, Return, Prereturn, Supervisor, Mark}
+use Rattle.i9_events.specs.Tracing.{coming_modes}
 use Rattle.i9_events.proofs.Masks.{bit_if}
 use Rattle.i9_events.proofs.Events.{seven}
 use Rattle.i9_events.proofs.raised.coming_modes.Goals as goal

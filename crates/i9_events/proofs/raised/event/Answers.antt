@@ -1,5 +1,5 @@
 use Rattle.std.proofs.Common.{None, sym, arith}
-use Rattle.i9_events.specs.Tracing.{has_match}
+use Rattle.i9_model.specs.Tracing.{has_match}
 use Rattle.i9_events.proofs.Events.{not_enabled, modes_are, flags_of_modes, counted_small, not_raised, made_is, raised_made, trace_gains, trace_none}
 use Rattle.i9_events.proofs.raised.event.Goals as goal
 

@@ -1,6 +1,5 @@
 use Rattle.std.specs.Prelude.{◌-◌, vec_capacity, vec_len}
-use Rattle.std.proofs.Common.{◌≡◌, ℕ, ◌+◌, ◌≤◌, Option, sym, ap, ◌∙◌, subst}
-use Rattle.i9_model.specs.declared.event.Event.{Event}
+use Rattle.std.proofs.Common.{◌≡◌, ℕ, ◌+◌, ◌≤◌, sym, ◌∙◌, subst}
 use Rattle.i9_model.specs.State.{State}
 use Rattle.i9_model.specs.Step.{Action, moved}
 use Rattle.i9_model.specs.Run.{record_of}

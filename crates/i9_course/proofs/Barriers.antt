@@ -1,0 +1,143 @@
+-- What passes nothing issues at the turn at which all records are done.
+use Rattle.std.proofs.Common.{◌≡◌, ℕ, ◌<◌, ◌≤◌, Bool, true, false, ◌||◌, List, [], ◌∷◌, Some, None, refl, ◌⊎◌, inl, arith}
+use Rattle.std.specs.Prelude.{IsTrue}
+use Rattle.std.specs.List.{AllByRecursion}
+use Rattle.i9_model.specs.declared.need.Need.{Need}
+use Rattle.i9_model.specs.declared.need.TimedNeed.{TimedNeed}
+use Rattle.i9_model.specs.declared.run.End.{End}
+use Rattle.i9_model.specs.State.{State}
+use Rattle.i9_model.specs.HeldFrames.{Cache, sets_in, cache_after}
+use Rattle.i9_model.specs.Run.{Given, Kind, Instruction, Faulted, Entered, Interrupted, Reached, Blocked, Next, Does, Ends, Record}
+use Rattle.i9_model.specs.Turns.{Permits, CanIssue, IsTimed, TakesTurns, AreAllDone, last_issue, open_requests, issue_turn, end_turn, waiting_until}
+use Rattle.i9_model.specs.Needs.{is_barrier_name, writes_sfr}
+use Rattle.i9_model.specs.Late.{Late, turns}
+use Rattle.i9_model.proofs.TurnDropped.{permits-done}
+use Rattle.i9_model.proofs.TurnOpen.{timed-take_time}
+use Rattle.i9_model.proofs.TurnComputed.{open_requests-cons, one-done}
+use Rattle.i9_model.proofs.TurnWhole.{timed-issues}
+use Rattle.i9_model.proofs.TurnMarks.{all-end, end-least}
+use Rattle.i9_course.specs.NeedOf.{is_early, facts_of, need_of, is_barrier_kind}
+use Rattle.i9_course.specs.Course.{Item, Step, Mark, records_of, course, issue_after, late_after, need_after, issue_of_next, last_done}
+use Rattle.i9_course.proofs.Timed.{course_timed, course_costs}
+
+-- ---- of a list of needs with their turns
+
+none_open : (t : ℕ) (rs : List TimedNeed) → AllByRecursion (λ r. r.done ≤ t) rs → open_requests t rs ≡ 0
+none_open t [] h = refl
+none_open t (r ∷ rs) h = omega (arith, open_requests-cons t r rs, one-done t r h.0, none_open t rs h.1)
+
+all_permit : (n : Need) (t : ℕ) (rs : List TimedNeed) → AllByRecursion (λ r. r.issue < r.done) rs
+    → AllByRecursion (λ r. r.done ≤ t) rs → AllByRecursion (Permits n t) rs
+all_permit n t [] k h = tt
+all_permit n t (r ∷ rs) k h = (permits-done n t r k.0 h.0, all_permit n t rs k.1 h.1)
+
+-- what passes nothing waits for all
+pub waits_for_all : (n : Need) (t : ℕ) (rs : List TimedNeed) → IsTrue n.barrier ⊎ IsTrue n.alone
+    → AllByRecursion (Permits n t) rs → AllByRecursion (λ r. r.done ≤ t) rs
+waits_for_all n t [] b h = tt
+waits_for_all n t (r ∷ rs) b h = (h.0.alone b, waits_for_all n t rs b h.1)
+
+-- and for no more
+pub barrier_turn : (n : Need) (rs : List TimedNeed) → IsTimed rs → TakesTurns rs → IsTrue n.barrier
+    → n.not_before ≤ end_turn rs → issue_turn (last_issue rs) rs n ≡ end_turn rs
+barrier_turn n rs h c b early =
+    let done : AreAllDone rs (end_turn rs) = all-end rs in
+    let i = timed-issues rs n h in
+    let none = none_open (end_turn rs) rs done.done in
+    let can : CanIssue (last_issue rs) rs n (end_turn rs) =
+    record {
+      in_order = done.in_order;
+      waited = early;
+      each = all_permit n (end_turn rs) rs (timed-take_time rs h c) done.done;
+      room = λ q. omega (arith, none);
+    } in
+    let le : issue_turn (last_issue rs) rs n ≤ end_turn rs = i.least (end_turn rs) can in
+    let ge : end_turn rs ≤ issue_turn (last_issue rs) rs n =
+    end-least rs _ (record { in_order = i.can.in_order; done = waits_for_all n _ rs (inl b) i.can.each }) in
+    omega (arith, le, ge)
+
+-- ---- marks
+
+end_later : (r : TimedNeed) (rs : List TimedNeed) → last_issue rs ≤ r.issue → end_turn rs ≤ end_turn (r ∷ rs)
+end_later r rs le =
+    let all : AreAllDone (r ∷ rs) (end_turn (r ∷ rs)) = all-end (r ∷ rs) in
+    let order : r.issue ≤ end_turn (r ∷ rs) = all.in_order in
+    end-least rs (end_turn (r ∷ rs)) (record { in_order = omega (arith, le, order); done = all.done.1 })
+
+-- the last mark asks for no turn above that at which all is done
+pub mark_reached : (g : Given) (h : List Item) → (course g h).mark ≤ end_turn (turns (course g h).late)
+mark_reached g [] = omega arith
+mark_reached g (Mark ∷ h) = omega arith
+mark_reached g (Step r ∷ h) =
+    let x = late_after g h r in
+    let rest : (course g h).mark ≤ end_turn (turns (course g h).late) = mark_reached g h in
+    let more : end_turn (turns (course g h).late) ≤ end_turn (x.timed ∷ turns (course g h).late) =
+    end_later x.timed (turns (course g h).late) (course_timed g (Step r ∷ h)).0.issue.can.in_order in
+    omega (arith, rest, more)
+
+-- the last record is done by then
+pub last_reached : (xs : List Late) → last_done xs ≤ end_turn (turns xs)
+last_reached [] = omega arith
+last_reached (x ∷ xs) = (all-end (turns (x ∷ xs))).done.0
+
+-- ---- what comes next
+
+pub barrier_after : (g : Given) (h : List Item) (n : Need) → IsTrue n.barrier → n.not_before ≡ 0
+    → issue_after (course g h) n ≡ end_turn (turns (course g h).late)
+barrier_after g h n b none =
+    let reached = mark_reached g h in
+    barrier_turn (waiting_until (course g h).mark n) (turns (course g h).late) (course_timed g h) (course_costs g h) b
+    (omega (arith, none, reached))
+
+need_unbound : (n : ℕ) (c : Cache) (s : State) (k : Kind) → (need_of n c s k).not_before ≡ 0
+unfolding need_of
+need_unbound n c s (Instruction i) = refl
+need_unbound n c s (Faulted None fault) = refl
+need_unbound n c s (Faulted (Some i) fault) = refl
+need_unbound n c s (Entered e) = refl
+need_unbound n c s (Interrupted x e) = refl
+need_unbound n c s (Reached e u) = refl
+need_unbound n c s (Blocked e a) = refl
+
+next_unbound : (g : Given) (h : List Item) (o : Next) → (need_after g h o).not_before ≡ 0
+next_unbound g h (Does r) = need_unbound (sets_in g.sets r.before) (cache_after g (records_of h)) r.before r.kind
+next_unbound g h (Ends f) = refl
+
+pub next_barrier : (g : Given) (h : List Item) (o : Next) → IsTrue (need_after g h o).barrier
+    → issue_of_next g h o ≡ end_turn (turns (course g h).late)
+next_barrier g h o b = barrier_after g h (need_after g h o) b (next_unbound g h o)
+
+-- ---- which do
+
+by_name : (a b c d e f : Bool) → a ≡ true → (a || b || c || d || e || f) ≡ true
+by_name true b c d e f h = refl
+by_name false b c d e f h = absurd (cc h)
+
+by_fault : (a b c d e f : Bool) → (d || a) ≡ true → (a || b || c || d || e || f) ≡ true
+by_fault true b c d e f h = refl
+by_fault false true c d e f h = refl
+by_fault false false true d e f h = refl
+by_fault false false false true e f h = refl
+by_fault false false false false e f h = absurd (cc h)
+
+pub kind_barrier : (n : ℕ) (c : Cache) (s : State) (k : Kind) → IsTrue (is_barrier_kind k)
+    → IsTrue (need_of n c s k).barrier
+unfolding need_of
+kind_barrier n c s (Instruction i) b = by_name _ _ _ _ _ _ b
+kind_barrier n c s (Faulted None fault) b = refl
+kind_barrier n c s (Faulted (Some i) fault) b =
+    let f = facts_of i s 0 (is_early fault) false in
+    by_fault (is_barrier_name i.op) (writes_sfr i) f.port (is_early fault) false false b
+kind_barrier n c s (Entered e) b = refl
+kind_barrier n c s (Interrupted x e) b = refl
+kind_barrier n c s (Reached e u) b = refl
+kind_barrier n c s (Blocked e a) b = refl
+
+pub record_barrier : (g : Given) (h : List Item) (r : Record) → IsTrue (is_barrier_kind r.kind)
+    → issue_of_next g h (Does r) ≡ end_turn (turns (course g h).late)
+record_barrier g h r b = next_barrier g h (Does r)
+    (kind_barrier (sets_in g.sets r.before) (cache_after g (records_of h)) r.before r.kind b)
+
+pub end_barrier : (g : Given) (h : List Item) (f : End)
+    → issue_of_next g h (Ends f) ≡ end_turn (turns (course g h).late)
+end_barrier g h f = next_barrier g h (Ends f) refl

@@ -1,0 +1,9 @@
+pub mod Settled
+pub mod Timed
+pub mod Kept
+pub mod Orderly
+pub mod Barriers
+pub mod Ahead
+pub mod Steps
+pub mod NeedAlike
+pub mod Counted

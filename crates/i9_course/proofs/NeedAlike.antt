@@ -1,0 +1,199 @@
+-- States that are alike give the same need.
+use Rattle.std.proofs.Common.{◌≡◌, ℕ, Bool, true, false, ◌||◌, Option, Some, None, refl, sym, ap, ◌∙◌, inl, inr}
+use Rattle.std.specs.Option.{is_some, option_map}
+use Rattle.std.proofs.lemmas.Bool.{cases_Bool}
+use Rattle.i9_isa.specs.declared.op.Op.{Op}
+use Rattle.i9_isa.specs.declared.op.Op.TheVariants.{Calls, Ret, Modtc, Sysctl}
+use Rattle.i9_isa.specs.declared.inst.Inst.{Inst}
+use Rattle.i9_isa.specs.declared.size.Size.{Size}
+use Rattle.i9_isa.specs.declared.size.Direction.{Direction}
+use Rattle.i9_isa.specs.declared.size.Direction.TheVariants.{Load, Store}
+use Rattle.i9_isa.specs.declared.size.Transfer.{Transfer}
+use Rattle.i9_isa.specs.Transfers.{transfer_of}
+use Rattle.i9_model.specs.declared.need.Facts.{Facts}
+use Rattle.i9_model.specs.declared.trace.Seen.{Seen}
+use Rattle.i9_model.specs.declared.trace.Trace.{Trace}
+use Rattle.i9_model.specs.State.{State, TraceControls}
+use Rattle.i9_model.specs.Controls.{Control, KeepsControls, controlled}
+use Rattle.i9_model.specs.Branches.{is_taken}
+use Rattle.i9_model.specs.Operands.{value}
+use Rattle.i9_model.specs.Tracing.{trace_of}
+use Rattle.i9_model.specs.Step.{Action, Message, AsksNothing, AsksInterrupt, AsksRestart, AsksGroup, moving, message_kind, message_of, message_action, action_by_name, action_by, action_of, flagged, moved, acted}
+use Rattle.i9_model.specs.Access.{Access, access_of, data_of}
+use Rattle.i9_model.specs.Traced.{switches, seen_of, trace_left, traced_action}
+use Rattle.i9_model.specs.Alike.{with_other, with_memory, AreAlike, AreNextAlike}
+use Rattle.i9_model.specs.HeldFrames.{Cache, sets_in}
+use Rattle.i9_model.specs.Run.{Next, Does, Ends, Kind, Instruction, Faulted, Entered, Interrupted, Reached, Blocked}
+use Rattle.i9_model.specs.Needs.{is_barrier_name, inst_need, writes_sfr}
+use Rattle.i9_model.proofs.AlikeFetches.{access_same}
+use Rattle.i9_model.proofs.Untraced.{action_untraced}
+use Rattle.i9_course.specs.NeedOf.{moved_frames, touches_port, access_waits, facts_of, is_early, need_of, need_ahead}
+
+-- ---- the frames that are moved do not depend on bytes of memory
+
+message_frames : (n : ℕ) (c : Cache) (m : Message) (i : Inst) (s : State) (bytes : ℕ → ℕ)
+    → moved_frames n c (message_action m i (with_memory s bytes)).move ≡ moved_frames n c (message_action m i s).move
+message_frames n c AsksNothing i s bytes = refl
+message_frames n c AsksInterrupt i s bytes = refl
+message_frames n c AsksRestart i s bytes = refl
+message_frames n c AsksGroup i s bytes = refl
+
+name_frames : (n : ℕ) (c : Cache) (op : Op) (i : Inst) (s : State) (bytes : ℕ → ℕ)
+    → moved_frames n c (action_by_name op i (with_memory s bytes)).move
+    ≡ moved_frames n c (action_by_name op i s).move
+name_frames n c Sysctl i s bytes = message_frames n c (message_kind (message_of i s)) i s bytes
+name_frames n c _ i s bytes = refl
+
+moving_frames : (n : ℕ) (c : Cache) (d : Direction) (size : Size) (signed : Bool) (i : Inst) (s t : State)
+    → moved_frames n c (moving d size signed i t).move ≡ moved_frames n c (moving d size signed i s).move
+moving_frames n c Load size signed i s t = refl
+moving_frames n c Store size signed i s t = refl
+
+action_frames : (n : ℕ) (c : Cache) (i : Inst) (s : State) (bytes : ℕ → ℕ)
+    → moved_frames n c (action_of i (with_memory s bytes)).move ≡ moved_frames n c (action_of i s).move
+unfolding action_of
+action_frames n c i s bytes = by_transfer (transfer_of i.op)
+  where
+    by_transfer : (o : Option Transfer)
+        → moved_frames n c (action_by o i (with_memory s bytes)).move ≡ moved_frames n c (action_by o i s).move
+    by_transfer (Some t) = moving_frames n c t.direction t.size t.signed i s (with_memory s bytes)
+    by_transfer None = name_frames n c i.op i s bytes
+
+-- ---- nor do the trace events of what is no barrier by its name
+
+-- it keeps the trace controls and the breakpoints
+record KeepsTrace (s : State) (a : Action) : Type 0 where
+  tc : a.tc ≡ s.trace.tc
+  control : a.control ≡ KeepsControls
+
+name_keeps : (op : Op) (i : Inst) (s : State) → is_barrier_name op ≡ false → KeepsTrace s (action_by_name op i s)
+name_keeps Sysctl i s h = absurd (cc h)
+name_keeps Modtc i s h = absurd (cc h)
+name_keeps _ i s h = record { tc = refl; control = refl }
+
+moving_keeps : (d : Direction) (size : Size) (signed : Bool) (i : Inst) (s : State)
+    → KeepsTrace s (moving d size signed i s)
+moving_keeps Load size signed i s = record { tc = refl; control = refl }
+moving_keeps Store size signed i s = record { tc = refl; control = refl }
+
+action_keeps : (i : Inst) (s : State) → is_barrier_name i.op ≡ false → KeepsTrace s (action_of i s)
+unfolding action_of
+action_keeps i s h = by_transfer (transfer_of i.op)
+  where
+    by_transfer : (o : Option Transfer) → KeepsTrace s (action_by o i s)
+    by_transfer (Some t) = moving_keeps t.direction t.size t.signed i s
+    by_transfer None = name_keeps i.op i s h
+
+trace_kept : (s : State) (a : Action) → a.trace ≡ None → KeepsTrace s a → (acted s a).trace ≡ s.trace
+unfolding acted moved
+trace_kept s a none k =
+    ap (λ (o : Option Trace). (flagged o (controlled (moved s a) a.control)).trace) none
+    ∙ ap (λ (x : Control). (controlled (moved s a) x).trace) k.control
+    ∙ ap (λ (x : ℕ). record s.trace { tc = x }) k.tc
+
+no_switch : (op : Op) (s : State) (a : Action) → is_barrier_name op ≡ false → switches op s a ≡ false
+no_switch Calls s a h = absurd (cc h)
+no_switch Ret s a h = absurd (cc h)
+no_switch _ s a h = refl
+
+-- what is seen of it
+abbrev plain_seen : Inst → State → Access → Seen
+plain_seen i s x = record {
+  address = s.ip;
+  access = option_map (λ d. d.0) (data_of x);
+  taken = is_taken i (value s i.a) (value s i.b) s.ac;
+  switched = false;
+}
+
+plain_trace : (i : Inst) (s : State) → is_barrier_name i.op ≡ false
+    → (traced_action i s).trace ≡ trace_of s.trace.tc s.pc i (plain_seen i s (access_of i s)) s.trace.breaks
+plain_trace i s h =
+    let a = action_of i s in
+    ap (λ (x : TraceControls). trace_left i s a x) (trace_kept s a (action_untraced i s) (action_keeps i s h))
+    ∙ ap (λ (b : Bool). trace_of s.trace.tc s.pc i (record (seen_of i s a) { switched = b }) s.trace.breaks)
+    (no_switch i.op s a h)
+
+trace_same : (i : Inst) (s : State) (bytes : ℕ → ℕ) → is_barrier_name i.op ≡ false
+    → (traced_action i (with_memory s bytes)).trace ≡ (traced_action i s).trace
+trace_same i s bytes h =
+    plain_trace i (with_memory s bytes) h
+    ∙ ap (λ (x : Access). trace_of s.trace.tc s.pc i (plain_seen i s x) s.trace.breaks) (access_same i s bytes)
+    ∙ sym (plain_trace i s h)
+
+-- ---- the facts of an instruction
+
+waits_same : (s : State) (bytes : ℕ → ℕ) (x : Access)
+    → access_waits (with_other s.memory bytes) x ≡ access_waits s.memory x
+waits_same s bytes (Access.Reads a n) = refl
+waits_same s bytes (Access.Writes a n) = refl
+waits_same s bytes (Access.Changes a n) = refl
+waits_same s bytes _ = refl
+
+-- by an access and its waits
+abbrev facts_by : Inst → State → Access → ℕ → ℕ → Bool → Bool → Facts
+facts_by i s x waits frames fault trace =
+    record (facts_of i s frames fault trace) { access = data_of x; port = touches_port (data_of x); waits = waits }
+
+facts_same : (i : Inst) (s : State) (bytes : ℕ → ℕ) (frames : ℕ) (fault trace : Bool)
+    → facts_of i (with_memory s bytes) frames fault trace ≡ facts_of i s frames fault trace
+facts_same i s bytes frames fault trace =
+    let t = with_memory s bytes in
+    ap (λ (x : Access). facts_by i s x (access_waits t.memory x) frames fault trace) (access_same i s bytes)
+    ∙ ap (λ (w : ℕ). facts_by i s (access_of i s) w frames fault trace) (waits_same s bytes (access_of i s))
+
+-- whether it raises a trace fault decides only whether it is a barrier
+trace_needed : (i : Inst) (s : State) (frames : ℕ) (p q : Bool) → (is_barrier_name i.op ≡ false → p ≡ q)
+    → inst_need i (facts_of i s frames false p) ≡ inst_need i (facts_of i s frames false q)
+trace_needed i s frames p q same = elim (cases_Bool (is_barrier_name i.op)) [
+  | inl barrier ↦ by_barrier p barrier ∙ sym (by_barrier q barrier)
+  | inr other ↦ ap (λ (b : Bool). inst_need i (facts_of i s frames false b)) (same other)
+]
+  where
+    by_barrier : (b : Bool) → is_barrier_name i.op ≡ true
+        → inst_need i (facts_of i s frames false b) ≡ record
+        (inst_need i (facts_of i s frames false b)) { barrier = true }
+    by_barrier b h =
+        let n = inst_need i (facts_of i s frames false b) in
+        let port = touches_port (data_of (access_of i s)) in
+        ap (λ (x : Bool). record n { barrier = x || writes_sfr i || port || false || b || false }) h
+
+-- ---- needs
+
+instruction_same : (n : ℕ) (c : Cache) (i : Inst) (s : State) (bytes : ℕ → ℕ)
+    → need_of n c (with_memory s bytes) (Instruction i) ≡ need_of n c s (Instruction i)
+unfolding need_of
+instruction_same n c i s bytes =
+    let t = with_memory s bytes in
+    let frames = moved_frames n c (action_of i s).move in
+    let trace = is_some (traced_action i t).trace in
+    ap (λ (f : ℕ). inst_need i (facts_of i t f false trace)) (action_frames n c i s bytes)
+    ∙ ap (inst_need i) (facts_same i s bytes frames false trace)
+    ∙ trace_needed i s frames trace (is_some (traced_action i s).trace)
+    (λ h. ap (λ (o : Option Trace). is_some o) (trace_same i s bytes h))
+
+need_same : (n : ℕ) (c : Cache) (k : Kind) (s : State) (bytes : ℕ → ℕ)
+    → need_of n c (with_memory s bytes) k ≡ need_of n c s k
+unfolding need_of
+need_same n c (Instruction i) s bytes = instruction_same n c i s bytes
+need_same n c (Faulted None fault) s bytes = refl
+need_same n c (Faulted (Some i) fault) s bytes = ap (inst_need i) (facts_same i s bytes 0 (is_early fault) false)
+need_same n c (Entered e) s bytes = refl
+need_same n c (Interrupted x e) s bytes = refl
+need_same n c (Reached e u) s bytes = refl
+need_same n c (Blocked e a) s bytes = refl
+
+pub need_alike : (n : ℕ) (c : Cache) (s t : State) (k : Kind) → AreAlike s t → need_of n c t k ≡ need_of n c s k
+need_alike n c s t k alike = ap (λ (u : State). need_of n c u k) alike.rest ∙ need_same n c k s t.memory.bytes
+
+-- with the same number of sets, too
+pub next_need_alike : (asked : Option ℕ) (c : Cache) (o p : Next) → AreNextAlike o p
+    → need_ahead asked c p ≡ need_ahead asked c o
+next_need_alike asked c (Does r) (Does q) alike =
+    let sets : sets_in asked q.before ≡ sets_in asked r.before =
+    ap (λ (s : State). sets_in asked s) alike.before.rest in
+    ap (λ (n : ℕ). need_of n c q.before q.kind) sets
+    ∙ ap (need_of (sets_in asked r.before) c q.before) alike.kind
+    ∙ need_alike (sets_in asked r.before) c r.before q.before r.kind alike.before
+next_need_alike asked c (Ends f) (Ends g) alike = refl
+next_need_alike asked c (Does r) (Ends g) alike = absurd alike
+next_need_alike asked c (Ends f) (Does q) alike = absurd alike

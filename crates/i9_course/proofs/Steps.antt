@@ -1,0 +1,216 @@
+-- What lands late stands for a course as the turn moves, as a record issues, and as a mark is set.
+use Rattle.std.proofs.Common.{◌≡◌, ℕ, ◌<◌, ◌≤◌, max, Bool, true, false, List, [], ◌∷◌, Option, Some, None, refl, sym, ap, ◌∙◌, subst, arith}
+use Rattle.std.specs.List.{AllByRecursion}
+use Rattle.i9_model.specs.declared.need.Need.{Need}
+use Rattle.i9_model.specs.declared.need.Cell.{Cell}
+use Rattle.i9_model.specs.declared.need.TimedNeed.{TimedNeed}
+use Rattle.i9_model.specs.Memory.{stored}
+use Rattle.i9_model.specs.State.{boot}
+use Rattle.i9_model.specs.HeldFrames.{cache_after}
+use Rattle.i9_model.specs.Run.{Given, Record, Does, state_after, next}
+use Rattle.i9_model.specs.Turns.{Permits, Pending, StandsFor, IsTimed, CanIssue, last_issue, issue_turn, end_turn, waiting_until, pending_of}
+use Rattle.i9_model.specs.Late.{Wait, turns, cell, resource, resources, latest, waiting, all_puts, AreDueInOrder, Shows, IsClear}
+use Rattle.i9_model.proofs.TurnOpen.{done-after}
+use Rattle.i9_model.proofs.TurnStands.{stands-none}
+use Rattle.i9_model.proofs.TurnWhole.{timed-issues}
+use Rattle.i9_model.proofs.LateQueues.{waiting-in-order}
+use Rattle.i9_model.proofs.LateOrder.{issued-by, shows_moves, shows_request, shows_other, shows_clear}
+use Rattle.i9_course.specs.Course.{Item, Step, Mark, records_of, course, late_after, need_after, issue_of_next, last_done, imprecise_at, ahead, IsCourse}
+use Rattle.i9_course.specs.Kernel.{Kernel, Lands, MovesTo, Issues}
+use Rattle.i9_course.proofs.Timed.{course_timed, course_costs}
+use Rattle.i9_course.proofs.Orderly.{course_orderly, registers_settle, memory_settles}
+use Rattle.i9_course.proofs.Barriers.{mark_reached, last_reached}
+use Rattle.i9_course.proofs.Ahead.{ahead_later, ahead_marked, ahead_precise, ahead_can, imprecise_overtaken, marked_precise}
+
+-- ---- the turn moves
+
+moved_shows : (g : Given) (h : List Item) (t : ℕ) (k j : Kernel) → Lands g h k → k.turn ≤ t → MovesTo t k j
+    → Shows (boot g.image) j.turn (course g h).late j.cells j.bytes j.queue
+moved_shows g h t k j lands le m =
+    let xs = (course g h).late in
+    subst (λ (u : ℕ). Shows (boot g.image) u xs j.cells j.bytes j.queue) (sym m.turn)
+    (shows_moves (boot g.image) k.turn t xs k.cells j.cells k.bytes j.bytes k.queue j.queue lands.shows le
+    (issued-by k.turn xs (course_timed g h) lands.begun) (course_orderly g h) m.cells m.bytes m.queue)
+
+moved_board : (g : Given) (h : List Item) (t : ℕ) (k j : Kernel) → Lands g h k → MovesTo t k j
+    → StandsFor j.board (turns (course g h).late)
+moved_board g h t k j lands m = subst (λ (p : Pending). StandsFor p (turns (course g h).late)) (sym m.board) lands.board
+
+pub moves_lands : (g : Given) (h : List Item) (t : ℕ) (k j : Kernel) → Lands g h k → k.turn ≤ t
+    → t ≤ (ahead g h).turn → MovesTo t k j → j.floor ≡ k.floor → Lands g h j
+moves_lands g h t k j lands le early m floor =
+    let begun : last_issue (turns (course g h).late) ≤ k.turn = lands.begun in
+    let turn : j.turn ≡ t = m.turn in
+    record {
+      board = moved_board g h t k j lands m;
+      mark = floor ∙ lands.mark;
+      last = m.done ∙ lands.last;
+      begun = omega (arith, begun, le, turn);
+      in_time = omega (arith, early, turn);
+      shows = moved_shows g h t k j lands le m;
+    }
+
+-- ---- a record issues
+
+issued_shows : (g : Given) (h : List Item) (r : Record) (k j : Kernel) → Lands g h k → Issues (late_after g h r) k j
+    → k.turn < (late_after g h r).timed.done
+    → Shows (boot g.image) k.turn (course g (Step r ∷ h)).late j.cells j.bytes j.queue
+issued_shows g h r k j lands i later = by_request (late_after g h r).timed.need.request refl
+  where
+    by_request : (b : Bool) → (late_after g h r).timed.need.request ≡ b
+        → Shows (boot g.image) k.turn (course g (Step r ∷ h)).late j.cells j.bytes j.queue
+    by_request true e =
+        let q = i.waits e in
+        shows_request (boot g.image) k.turn (late_after g h r)
+        (course g h).late k.cells j.cells k.bytes j.bytes k.queue j.queue lands.shows later e i.cells q.0 q.1
+    by_request false e =
+        let q = i.acts e in
+        shows_other (boot g.image) k.turn (late_after g h r)
+        (course g h).late k.cells j.cells k.bytes j.bytes k.queue j.queue lands.shows later e i.cells q.0 q.1
+
+pub issues_lands : (g : Given) (h : List Item) (r : Record) (k j : Kernel) → Lands g h k
+    → (ahead g h).imprecise ≡ None → (ahead g h).next ≡ Does r → (ahead g h).turn ≤ k.turn
+    → Issues (late_after g h r) k j → Lands g (Step r ∷ h) j
+issues_lands g h r k j lands precise is_next due i =
+    let x = late_after g h r in
+    let issue : (ahead g h).turn ≡ x.timed.issue = ahead_precise g h precise ∙ ap (issue_of_next g h) is_next in
+    let in_time : k.turn ≤ (ahead g h).turn = lands.in_time in
+    let now : x.timed.issue ≡ k.turn = omega (arith, issue, due, in_time) in
+    let takes : x.timed.issue < x.timed.done =
+    done-after (turns (course g h).late) x.timed.need x.timed.issue (course_costs g (Step r ∷ h)).0 in
+    let next_turn : x.timed.issue ≤ (ahead g (Step r ∷ h)).turn = ahead_later g (Step r ∷ h) in
+    let turn : j.turn ≡ k.turn = i.turn in
+    record {
+      board = i.board (turns (course g h).late) lands.board;
+      mark = i.floor ∙ lands.mark;
+      last = i.done;
+      begun = omega (arith, now, turn);
+      in_time = omega (arith, now, turn, next_turn);
+      shows = subst (λ (t : ℕ). Shows (boot g.image) t (course g (Step r ∷ h)).late j.cells j.bytes j.queue)
+          (sym turn) (issued_shows g h r k j lands i (omega (arith, now, takes)));
+    }
+
+-- before it does, nothing is planned for what it writes, and there is room for what it does
+pub lands_clear : (g : Given) (h : List Item) (k : Kernel) → Lands g h k → (ahead g h).imprecise ≡ None
+    → (ahead g h).turn ≤ k.turn → IsClear k.cells k.queue (need_after g h (ahead g h).next)
+lands_clear g h k lands precise due =
+    let xs = (course g h).late in
+    let n = waiting_until (course g h).mark (need_after g h (ahead g h).next) in
+    let in_time : k.turn ≤ (ahead g h).turn = lands.in_time in
+    let issue : (ahead g h).turn ≡ issue_of_next g h (ahead g h).next = ahead_precise g h precise in
+    let now : issue_of_next g h (ahead g h).next ≡ k.turn = omega (arith, due, in_time, issue) in
+    let can : CanIssue (last_issue (turns xs)) (turns xs) n k.turn =
+    subst (λ (t : ℕ). CanIssue (last_issue (turns xs)) (turns xs) n t) now (ahead_can g h precise) in
+    let clear = shows_clear (boot g.image) k.turn xs k.cells k.bytes k.queue n lands.shows can in
+    record { plans = clear.plans; few = clear.few; drained = clear.drained }
+
+-- ---- a mark is set
+
+-- a need that waits longer issues no earlier
+longer : (n : Need) (rs : List TimedNeed) (p q : ℕ) → IsTimed rs → p ≤ q
+    → issue_turn (last_issue rs) rs (waiting_until p n) ≤ issue_turn (last_issue rs) rs (waiting_until q n)
+longer n rs p q h le =
+    let t = issue_turn (last_issue rs) rs (waiting_until q n) in
+    let late = (timed-issues rs (waiting_until q n) h).can in
+    let waited : max q n.not_before ≤ t = late.waited in
+    let can : CanIssue (last_issue rs) rs (waiting_until p n) t =
+    record {
+      in_order = late.in_order;
+      waited = omega (arith, le, waited);
+      each = each_same rs t late.each;
+      room = late.room;
+    } in
+    (timed-issues rs (waiting_until p n) h).least t can
+  where
+    each_same : (qs : List TimedNeed) (t : ℕ) → AllByRecursion (Permits (waiting_until q n) t) qs
+        → AllByRecursion (Permits (waiting_until p n) t) qs
+    each_same [] t e = tt
+    each_same (r ∷ qs) t e =
+        let w = e.0 in
+        let one : Permits (waiting_until p n) t r =
+        record {
+          side = w.side;
+          values = w.values;
+          slow = w.slow;
+          words = w.words;
+          barrier = w.barrier;
+          alone = w.alone;
+        } in
+        (one, each_same qs t e.1)
+
+-- what lies ahead is no earlier behind a mark
+mark_later : (g : Given) (h : List Item) → (course g h).mark ≤ end_turn (turns (course g h).late)
+    → (ahead g h).turn ≤ (ahead g (Mark ∷ h)).turn
+mark_later g h le = by_fault (imprecise_at g h) refl
+  where
+    by_fault : (o : Option ℕ) → (ahead g h).imprecise ≡ o → (ahead g h).turn ≤ (ahead g (Mark ∷ h)).turn
+    by_fault None e =
+        let o = next g (records_of h) in
+        let here : (ahead g h).turn ≡ issue_of_next g h o = ahead_precise g h e in
+        let there : (ahead g (Mark ∷ h)).turn ≡ issue_of_next g (Mark ∷ h) o =
+        ahead_precise g (Mark ∷ h) (marked_precise g h) in
+        let rises : issue_of_next g h o ≤ issue_of_next g (Mark ∷ h) o =
+        longer (need_after g h o) (turns (course g h).late) (course g h).mark (end_turn (turns (course g h).late))
+        (course_timed g h) le in
+        omega (arith, here, there, rises)
+    by_fault (Some a) e =
+        let early : (ahead g h).turn < last_done (course g h).late = (imprecise_overtaken g h a e).0 in
+        let reached : last_done (course g h).late ≤ end_turn (turns (course g h).late) =
+        last_reached (course g h).late in
+        let mark : end_turn (turns (course g h).late) ≤ (ahead g (Mark ∷ h)).turn = ahead_marked g (Mark ∷ h) in
+        omega (arith, early, reached, mark)
+
+pub marks_lands : (g : Given) (h : List Item) (k j : Kernel) → Lands g h k
+    → MovesTo (max k.turn (end_turn (turns (course g h).late))) k j → j.floor ≡ end_turn (turns (course g h).late)
+    → Lands g (Mark ∷ h) j
+marks_lands g h k j lands m floor =
+    let done = end_turn (turns (course g h).late) in
+    let begun : last_issue (turns (course g h).late) ≤ k.turn = lands.begun in
+    let turn : j.turn ≡ max k.turn done = m.turn in
+    let early : k.turn ≤ (ahead g h).turn = lands.in_time in
+    let later : (ahead g h).turn ≤ (ahead g (Mark ∷ h)).turn = mark_later g h (mark_reached g h) in
+    let mark : done ≤ (ahead g (Mark ∷ h)).turn = ahead_marked g (Mark ∷ h) in
+    let le : k.turn ≤ max k.turn done = omega arith in
+    record {
+      board = moved_board g h (max k.turn done) k j lands m;
+      mark = floor;
+      last = m.done ∙ lands.last;
+      begun = omega (arith, begun, turn);
+      in_time = omega (arith, turn, early, later, mark);
+      shows = moved_shows g h (max k.turn done) k j lands le m;
+    }
+
+-- ---- with all that is planned and waits
+
+pub lands_registers : (g : Given) (h : List Item) (k : Kernel) (r : ℕ) → IsCourse g h → Lands g h k → r < resources
+    → latest (k.cells r) ≡ resource (state_after g (records_of h)) r
+lands_registers g h k r c lands lt =
+    ap (λ (x : Cell). latest x) (lands.shows.registers r lt) ∙ registers_settle g h k.turn r c lands.begun lt
+
+pub lands_memory : (g : Given) (h : List Item) (k : Kernel) → Lands g h k
+    → stored k.bytes (all_puts k.queue) ≡ (cache_after g (records_of h)).behind.bytes
+lands_memory g h k lands =
+    ap (λ (ws : List Wait). stored k.bytes (all_puts ws)) lands.shows.requests
+    ∙ ap (λ (m : ℕ → ℕ). stored m (all_puts (waiting k.turn (course g h).late))) lands.shows.memory
+    ∙ memory_settles g h k.turn lands.begun
+
+pub lands_order : (g : Given) (h : List Item) (k : Kernel) → Lands g h k → AreDueInOrder k.queue
+lands_order g h k lands =
+    subst AreDueInOrder (sym lands.shows.requests) (waiting-in-order k.turn (course g h).late (course_orderly g h))
+
+-- ---- a course begins
+
+-- what lands late, before anything is done
+pub none_lands : (g : Given) (k : Kernel) → k.board ≡ pending_of [] → k.turn ≡ 1 → k.floor ≡ 0 → k.done ≡ 1
+    → ((r : ℕ) → k.cells r ≡ cell (resource (boot g.image) r) None) → k.bytes ≡ (boot g.image).memory.bytes
+    → k.queue ≡ [] → Lands g [] k
+none_lands g k board turn floor done cells bytes queue =
+    let later : 1 ≤ (ahead g []).turn = ahead_later g [] in
+    record {
+      board = subst (λ (p : Pending). StandsFor p []) (sym board) stands-none;
+      mark = floor;
+      last = done;
+      begun = omega (arith, turn);
+      in_time = omega (arith, turn, later);
+      shows = record { registers = λ r lt. cells r; memory = bytes; requests = queue };
+    }

@@ -1,0 +1,85 @@
+-- The records of every course have their turns and take their time, and what is neither a request nor a barrier writes
+-- no memory.
+use Rattle.std.proofs.Common.{◌≡◌, ℕ, Bool, true, false, ◌&&◌, ◌||◌, List, [], ◌∷◌, ◌++◌, Some, None, refl, ap, ◌∙◌, ◌⊎◌, inl, inr}
+use Rattle.std.specs.Prelude.{IsTrue}
+use Rattle.std.proofs.lemmas.Bool.{cases_Bool}
+use Rattle.i9_model.specs.State.{State}
+use Rattle.i9_model.specs.Step.{Move, Stays, Action}
+use Rattle.i9_model.specs.HeldFrames.{Cache, sets_in, cache_after}
+use Rattle.i9_model.specs.Run.{Given, Kind, Instruction, Faulted, Entered, Interrupted, Reached, Blocked, action_by_kind}
+use Rattle.i9_model.specs.Turns.{HasCost, IsTimed, TakesTurns, waiting_until}
+use Rattle.i9_model.specs.Needs.{is_request_name, is_barrier_name}
+use Rattle.i9_model.specs.Late.{turns, AreQuiet}
+use Rattle.i9_model.specs.Marks.{marked, with_item}
+use Rattle.i9_model.specs.Marks as marks
+use Rattle.i9_model.proofs.NeedLaws.{inst_cost, refused_cost, event_cost, entry_cost, quiet}
+use Rattle.i9_model.proofs.TurnWhole.{IsTimed-with_need}
+use Rattle.i9_course.specs.NeedOf.{is_of_dma, need_of, record_need}
+use Rattle.i9_course.specs.Course.{Item, Step, Mark, records_of, move_writes, puts_of, course, needs_of, turns_of}
+
+-- ---- costs
+
+pub need_cost : (n : ℕ) (c : Cache) (s : State) (k : Kind) → HasCost (need_of n c s k)
+unfolding need_of
+need_cost n c s (Instruction i) = inst_cost i _
+need_cost n c s (Faulted None fault) = refused_cost s.ip
+need_cost n c s (Faulted (Some i) fault) = inst_cost i _
+need_cost n c s (Entered e) = entry_cost _
+need_cost n c s (Interrupted x e) = entry_cost _
+need_cost n c s (Reached e u) = event_cost (is_of_dma e) 0
+need_cost n c s (Blocked e a) = event_cost (is_of_dma e) 0
+
+pub course_timed : (g : Given) (h : List Item) → IsTimed (turns (course g h).late)
+course_timed g [] = tt
+course_timed g (Mark ∷ h) = course_timed g h
+course_timed g (Step r ∷ h) =
+    IsTimed-with_need (turns (course g h).late)
+    (waiting_until (course g h).mark (record_need g.sets (cache_after g (records_of h)) r)) (course_timed g h)
+
+pub course_costs : (g : Given) (h : List Item) → TakesTurns (turns (course g h).late)
+course_costs g [] = tt
+course_costs g (Mark ∷ h) = course_costs g h
+course_costs g (Step r ∷ h) =
+    ((need_cost (sets_in g.sets r.before) (cache_after g (records_of h)) r.before r.kind).some, course_costs g h)
+
+-- the turns are those of the needs with their marks
+pub course_marked : (g : Given) (h : List Item) → marked (needs_of g h) ≡ turns_of (course g h)
+course_marked g [] = refl
+course_marked g (Mark ∷ h) = ap (with_item marks.Mark) (course_marked g h)
+course_marked g (Step r ∷ h) =
+    let need = record_need g.sets (cache_after g (records_of h)) r in
+    ap (with_item (marks.Placed need)) (course_marked g h)
+
+-- ---- writes
+
+no_puts : (n : ℕ) (c : Cache) (a : Action) → a.writes ≡ [] → a.move ≡ Stays → puts_of n c a ≡ []
+no_puts n c a none stays = ap (λ (v : Move). move_writes n c v ++ a.writes) stays ∙ none
+
+first_of : (a b c d e f : Bool) → a ≡ true → (a || b || c || d || e || f) ≡ true
+first_of true b c d e f h = refl
+first_of false b c d e f h = absurd (cc h)
+
+no_request : (b : Bool) → (b && true) ≡ false → b ≡ false
+no_request false h = refl
+no_request true h = absurd (cc h)
+
+pub need_quiet : (n : ℕ) (c : Cache) (s : State) (k : Kind) → (need_of n c s k).request ≡ false
+    → (puts_of n c (action_by_kind k s) ≡ []) ⊎ IsTrue (need_of n c s k).barrier
+unfolding need_of
+need_quiet n c s (Instruction i) q = elim (cases_Bool (is_barrier_name i.op)) [
+  | inl barrier ↦ inr (first_of (is_barrier_name i.op) _ _ _ _ _ barrier)
+  | inr other ↦ let none = quiet i s (no_request (is_request_name i.op) q) other in
+      inl (no_puts n c (action_by_kind (Instruction i) s) none.0 none.1)
+]
+need_quiet n c s (Faulted None fault) q = inr refl
+need_quiet n c s (Faulted (Some i) fault) q = inl refl
+need_quiet n c s (Entered e) q = inr refl
+need_quiet n c s (Interrupted x e) q = inr refl
+need_quiet n c s (Reached e u) q = inr refl
+need_quiet n c s (Blocked e a) q = inr refl
+
+pub course_quiet : (g : Given) (h : List Item) → AreQuiet (course g h).late
+course_quiet g [] = tt
+course_quiet g (Mark ∷ h) = course_quiet g h
+course_quiet g (Step r ∷ h) =
+    (need_quiet (sets_in g.sets r.before) (cache_after g (records_of h)) r.before r.kind, course_quiet g h)

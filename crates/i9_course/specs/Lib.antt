@@ -1,0 +1,3 @@
+pub mod NeedOf
+pub mod Course
+pub mod Kernel

@@ -1,0 +1,10 @@
+//! Runs whose results land late: what each record needs, at which turn it issues, and when it lands.
+#![tactic(auto)]
+
+mod laws;
+
+pub use laws::{
+    a_course_begins, a_course_settles, a_mark_is_set, a_record_issues, a_turn_moves,
+    alike_states_need_alike, barriers_wait_for_all, courses_are_orderly, nothing_issues_earlier,
+    overtaken_faults_are_imprecise, what_waits_settles, written_frames_are_counted,
+};

@@ -1,0 +1,73 @@
+-- The effect of an instruction with its trace events.
+use Rattle.std.proofs.Common.{◌≡◌, ℕ, Bool, true, false, cond, Option, Some, None, refl, sym, ap, ◌∙◌, subst}
+use Rattle.i9_isa.specs.declared.inst.Inst.{Inst}
+use Rattle.i9_model.specs.declared.trace.Trace.{Trace}
+use Rattle.i9_model.specs.State.{State, TraceControls}
+use Rattle.i9_model.specs.Access.{hazard_of}
+use Rattle.i9_model.specs.Controls.{controlled}
+use Rattle.i9_model.specs.Free.{ComesAfterFlush}
+use Rattle.i9_model.specs.Step.{Action, action_of, moved, flagged, acted}
+use Rattle.i9_model.specs.Tracing.{trace_of}
+use Rattle.i9_model.specs.Traced.{seen_of, trace_left, traced_action}
+use Rattle.i9_model.specs.Unbuilt.{is_traced, is_imprecise}
+use Rattle.i9_model.specs.Standing.{NotBuilt, Runs, later_fault, by_access, by_later, by_raised}
+use Rattle.i9_model.proofs.SoundRuns.{action_clear}
+use Rattle.i9_model.proofs.Untraced.{action_untraced, traced_clear}
+use Rattle.i9_processor.specs.declared.processor.tracing.TraceControls.{TraceControls as Controls}
+use Rattle.i9_processor.specs.declared.effect.Effect.{Effect}
+use Rattle.i9_processor.specs.Effect.{IsEffect, action_in, control_in, move_in, writes_in}
+use Rattle.i9_processor.specs.Tracing.{controls_of}
+use Rattle.i9_processor.specs.Tracing as left
+
+-- ---- an instruction that runs meets no hazard
+
+access_clear : (i : Inst) (h : Option ℕ) → Runs i ≡ by_access i h → h ≡ None
+access_clear i None runs = refl
+access_clear i (Some a) runs = absurd cc
+
+pub runs_clear : (i : Inst) (s : State) (o : Option (ℕ × ℕ)) → Runs i ≡ by_raised i s o → hazard_of i s ≡ None
+runs_clear i s (Some number) runs = absurd cc
+runs_clear i s None runs = by (is_imprecise i s) (later_fault i s) runs
+  where
+    by : (b : Bool) (f : Option (ℕ × ℕ)) → Runs i ≡ cond b NotBuilt (by_later i s f) → hazard_of i s ≡ None
+    by true f runs = absurd cc
+    by false (Some number) runs = absurd cc
+    by false None runs = access_clear i (hazard_of i s) runs
+
+-- ---- its effect, with its trace events
+
+-- what is done to the controls comes after a mere flush
+pub comes_after_flush : (s : State) (i : Inst) (e : Effect) → hazard_of i s ≡ None → IsEffect s (action_of i s) e
+    → ComesAfterFlush (control_in e.control) (move_in s e.frames) (writes_in e)
+comes_after_flush s i e clear effect =
+    subst (λ (a : Action). ComesAfterFlush a.control a.move a.writes) (sym effect.same) (action_clear i s clear).free.controls
+
+-- trace controls and breakpoints behind the effect are those behind the instruction
+left_behind : (s : State) (i : Inst) (e : Effect) → IsEffect s (action_of i s) e → left.trace_left s e ≡ (acted s (action_of i s)).trace
+unfolding left.trace_left acted
+left_behind s i e effect =
+    ap (λ (a : Action). (controlled (moved s a) a.control).trace) effect.same
+    ∙ sym (ap (λ (o : Option Trace). (flagged o (controlled (moved s (action_of i s)) (action_of i s).control)).trace) (action_untraced i s))
+
+pub traced_effect : (s : State) (i : Inst) (e : Effect) (c : Controls) (o : Option Trace) → IsEffect s (action_of i s) e
+    → controls_of c ≡ left.trace_left s e → o ≡ trace_of c.tc s.pc i (seen_of i s (action_in s e)) c.breaks
+    → IsEffect s (traced_action i s) (record e { trace = o })
+unfolding moved
+traced_effect s i e c o effect behind is =
+    let a = action_of i s in
+    let same =
+    ap (λ (x : Option Trace). record (action_in s e) { trace = x }) is
+    ∙ ap (λ (x : Action). record x { trace = trace_of c.tc s.pc i (seen_of i s x) c.breaks }) effect.same
+    ∙ ap (λ (x : TraceControls). record a { trace = trace_left i s a x }) (behind ∙ left_behind s i e effect) in
+    record {
+      same = same;
+      registers = effect.registers;
+      posts = effect.posts;
+      changes = effect.changes;
+      moves = effect.moves;
+      controls = effect.controls;
+    }
+
+-- while trace enable is clear the effect is already the one with its trace events
+pub untraced_effect : (s : State) (i : Inst) (e : Effect) → is_traced s ≡ false → IsEffect s (action_of i s) e → IsEffect s (traced_action i s) e
+untraced_effect s i e clear effect = subst (λ (a : Action). IsEffect s a e) (sym (traced_clear i s clear)) effect

@@ -1,0 +1,20 @@
+use Rattle.std.proofs.Common.{ℕ, ap, ◌∙◌}
+use Rattle.i9_model.specs.declared.trace.Seen.{Seen}
+use Rattle.i9_model.specs.Tracing.{trace_of}
+use Rattle.i9_processor.specs.State.{state_of}
+use Rattle.i9_plan.proofs.TraceEffects.{comes_after_flush, traced_effect}
+use Rattle.i9_plan.proofs.tracing.trace.Goals as goal
+
+pub trace_left-left-requires : goal.trace_left-left-requires
+trace_left-left-requires c = comes_after_flush (state_of c.args.p.now) c.args.i.now c.args.effect.now c.requires.clear c.requires.effect
+
+pub returns : goal.returns
+returns c =
+    let i = c.args.i.now in
+    let s = state_of c.args.p.now in
+    let left = c.trace_left-left.result in
+    let event =
+    c.event-effect.ensures.trace
+    ∙ ap (λ (pc : ℕ). trace_of left.tc pc i c.seen-seen.result left.breaks) c.pc.ensures
+    ∙ ap (λ (seen : Seen). trace_of left.tc s.pc i seen left.breaks) c.seen-seen.ensures in
+    traced_effect s i c.args.effect.now left c.event-effect.result c.requires.effect c.trace_left-left.ensures event
