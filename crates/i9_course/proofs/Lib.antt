@@ -7,3 +7,8 @@ pub mod Ahead
 pub mod Steps
 pub mod NeedAlike
 pub mod Counted
+pub mod LateRuns
+pub mod LateAlike
+pub mod Named
+pub mod LateCuts
+pub mod LateSame

@@ -1,3 +1,4 @@
 pub mod NeedOf
 pub mod Course
 pub mod Kernel
+pub mod LateRun

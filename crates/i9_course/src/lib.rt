@@ -1,8 +1,13 @@
 //! Runs whose results land late: what each record needs, at which turn it issues, and when it lands.
 #![tactic(auto)]
 
+mod late_laws;
 mod laws;
 
+pub use late_laws::{
+    a_length_cuts_the_late_run, every_late_run_ends, late_runs_are_runs,
+    lateness_does_not_depend_on_sets, lateness_does_not_depend_on_the_plan, one_late_run,
+};
 pub use laws::{
     a_course_begins, a_course_settles, a_mark_is_set, a_record_issues, a_turn_moves,
     alike_states_need_alike, barriers_wait_for_all, courses_are_orderly, nothing_issues_earlier,

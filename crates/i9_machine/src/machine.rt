@@ -22,15 +22,17 @@ use i9_hex::Segments;
 use i9_isa::NoMemory;
 use i9_model::layout::MAX_LENGTH;
 use i9_model::{Due, End, View};
+use i9_plan::Memo;
 use i9_processor::{Effect, Processor};
 use i9_schedule::Schedule;
 use std::alloc::Global;
 
 /// A machine that runs an image: what an instruction may read or change, the length of the run, what
-/// comes next whatever the length, and the end that was answered.
+/// comes next whatever the length, and the end that was answered; and instructions that were decoded.
 #[derive(Drop)]
 pub struct Machine {
     processor: Processor,
+    memo: Memo,
     alloc: Global,
     sets: Option<u8>,
     length: u64,
@@ -58,8 +60,10 @@ impl Machine {
         ensures { (plan : List Timed) → IfOk result (λ m. StandsFor (given (pairs_of image.now) plan length sets) [] None m) }
     {
         let processor = Processor::boot(alloc, image, sets)?;
+        let memo = Memo::new(alloc)?;
         Ok(Machine {
             processor,
+            memo,
             alloc,
             sets,
             length,
@@ -102,7 +106,10 @@ impl Machine {
         ensures fewer { LeavesFewer result (steps_left self.old plan.old) (steps_left self.new plan.new) }
     {
         let mut effect = Effect::blank();
-        match self.next_step(plan, &mut effect) {
+        let mut memo = std::mem::replace(&mut self.memo, Memo::none(self.alloc));
+        let next = self.next_step(plan, &mut memo, &mut effect);
+        self.memo = memo;
+        match next {
             Ok(step) => self.perform(&step, &effect, plan, out),
             Err(end) => self.finish(end, plan, out),
         }

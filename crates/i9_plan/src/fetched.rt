@@ -7,7 +7,8 @@ ghost use Rattle.i9_model.specs.Step.{first_word};
 ghost use Rattle.i9_processor.specs.State.{state_of};
 ghost use Rattle.i9_plan.specs.Planned.{IsFetched};
 
-use i9_decode::{BadWord, decode};
+use crate::memo::Memo;
+use i9_decode::BadWord;
 use i9_isa::{Inst, word_count};
 use i9_processor::Processor;
 
@@ -68,14 +69,14 @@ fn fetch_long(p: &Processor, first: u32, inst: Inst) -> Result<Fetched, Unread>
 /// The instruction at the instruction address, or why there is none. The second word is read where
 /// there is one.
 #[tactic(auto, using(crate::proofs::Fetching::fetch_rules))]
-pub(crate) fn fetch(p: &Processor) -> Result<Fetched, Unread>
+pub(crate) fn fetch(p: &Processor, memo: &mut Memo) -> Result<Fetched, Unread>
     ensures { IsFetched (state_of p.now) result }
 {
     if let Some(a) = p.check_read(p.ip(), 4) {
         return Err(Unread::Meets(a));
     }
     let first = p.hard_word(p.ip());
-    match decode(first, 0) {
+    match memo.read(p.ip(), first) {
         Err(why) => Err(Unread::Refused { first, why }),
         Ok(inst) if word_count(&inst) == 1 => Ok(Fetched {
             words: Words { first, second: 0 },

@@ -7,6 +7,7 @@ mod dma;
 mod effects;
 mod events;
 mod fetched;
+mod memo;
 mod names;
 mod outcome;
 mod planned;
@@ -21,6 +22,7 @@ pub use calls::{plan_entry, plan_interrupt};
 pub use effects::plan_faulting;
 pub use events::plan_event;
 pub use fetched::Words;
+pub use memo::Memo;
 pub use planned::{Planned, plan_next};
 
 #[cfg(test)]

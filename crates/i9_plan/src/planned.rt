@@ -6,6 +6,7 @@ ghost use Rattle.i9_plan.specs.Planned.{standing_of, IsFetched, IsPlanned};
 
 use crate::effects::pass;
 use crate::fetched::{Fetched, Unread, Words, fetch};
+use crate::memo::Memo;
 use crate::outcome::{Outcome, outcome_of};
 use crate::raised::word_fault;
 use crate::tracing::{is_traced, trace};
@@ -61,11 +62,11 @@ fn unread(p: &Processor, why: Unread) -> Planned
 // It is no part of the code that calls it: LLVM would take the effect apart there, and move it piece by piece.
 #[inline(never)]
 #[tactic(auto, unfolding(i9_model::specs::Standing::stands_at))]
-pub fn plan_next(p: &Processor, effect: &mut Effect) -> Planned
+pub fn plan_next(p: &Processor, memo: &mut Memo, effect: &mut Effect) -> Planned
     ensures standing { standing_of result ≡ stands_at (state_of p.now) }
     ensures planned { IsPlanned (state_of p.now) result effect.new }
 {
-    let Fetched { words, inst } = match fetch(p) {
+    let Fetched { words, inst } = match fetch(p, memo) {
         Ok(fetched) => fetched,
         Err(why) => return unread(p, why),
     };

@@ -5,7 +5,9 @@ ghost use Rattle.i9_model.specs.Step.{moved};
 ghost use Rattle.i9_processor.specs.Effect.{action_in, AreRegisters, CanPost, CanChange, CanControl, CanMove};
 ghost use Rattle.i9_processor.specs.State.{state_of};
 
-use crate::{Planned, Words, plan_entry, plan_event, plan_faulting, plan_interrupt, plan_next};
+use crate::{
+    Memo, Planned, Words, plan_entry, plan_event, plan_faulting, plan_interrupt, plan_next,
+};
 use Rest::{Flushes, Group, Nothing, Restart, Returns, Saves, Stores};
 use Seen::{Faults, Meets, NotBuilt, Refused, Runs};
 use arrayvec::ArrayVec;
@@ -247,7 +249,7 @@ fn plans_stops(rt: HostRuntime) -> Result<(), Fail> {
     for (ac, pc, word, wanted) in STOPS {
         let p = ready(rt.alloc(), 0x1000, (word, 0), ac, pc)?;
         assert_eq!(rt;
-            seen_of(&plan_next(&p, &mut Effect::blank())),
+            seen_of(&plan_next(&p, &mut Memo::none(rt.alloc()), &mut Effect::blank())),
             wanted,
             "{word}"
         );
@@ -256,7 +258,7 @@ fn plans_stops(rt: HostRuntime) -> Result<(), Fail> {
     for (at, hazard) in [(0x3002, 0x3002), (0x2FFC, 0x3000)] {
         let p = ready(rt.alloc(), at, (0x8CA8_3000, 0), 0, PC)?;
         assert_eq!(rt;
-            seen_of(&plan_next(&p, &mut Effect::blank())),
+            seen_of(&plan_next(&p, &mut Memo::none(rt.alloc()), &mut Effect::blank())),
             Meets(hazard)
         );
     }
@@ -347,12 +349,45 @@ const TRACES: [(u32, u32, Option<Trace>); 4] = [
     (PC, 0x6600_0600, None),
 ];
 
+/// An address, a word there, and the name that it is, or none where it is refused.
+const KEPT: [(u32, u32, Option<Op>); 7] = [
+    (0x1000, 0x5CA0_1E05, Some(Op::Mov)),
+    (0x1000, 0x5CA0_1E05, Some(Op::Mov)),
+    // Another word at that address.
+    (0x1000, 0x59A0_9801, Some(Op::Addo)),
+    // The same place of the memo, 512 words on.
+    (0x1800, 0x6600_0680, Some(Op::Flushreg)),
+    (0x1000, 0x59A0_9801, Some(Op::Addo)),
+    (0x1000, 0x0000_0000, None),
+    (0x1800, 0x6600_0680, Some(Op::Flushreg)),
+];
+
+/// What is kept of words that were decoded changes no answer.
+#[test]
+fn keeps_instructions(rt: HostRuntime) -> Result<(), Fail> {
+    let mut memo = Memo::new(rt.alloc())?;
+    for (at, word, name) in KEPT {
+        let p = ready(rt.alloc(), at, (word, 0), 0, PC)?;
+        let found = match plan_next(&p, &mut memo, &mut Effect::blank()) {
+            Planned::Runs { inst, .. } => Some(inst.op),
+            _ => None,
+        };
+        assert_eq!(rt; found, name, "{at} {word}");
+    }
+    Ok(())
+}
+
 #[test]
 fn plans_traces(rt: HostRuntime) -> Result<(), Fail> {
     for (pc, word, trace) in TRACES {
         let p = ready(rt.alloc(), 0x1000, (word, 0), 0, pc)?;
         let mut effect = Effect::blank();
-        assert!(rt; matches!(plan_next(&p, &mut effect), Planned::Runs { .. }));
+        assert!(rt;
+            matches!(
+                plan_next(&p, &mut Memo::none(rt.alloc()), &mut effect),
+                Planned::Runs { .. }
+            )
+        );
         assert_eq!(rt; effect.trace, trace, "{word}");
     }
     Ok(())
@@ -363,7 +398,7 @@ fn plans_results(rt: HostRuntime) -> Result<(), Fail> {
     for (ac, word, op, set, controls) in RESULTS {
         let p = ready(rt.alloc(), 0x1000, (word, 0x1234), ac, PC)?;
         let mut effect = Effect::blank();
-        match plan_next(&p, &mut effect) {
+        match plan_next(&p, &mut Memo::none(rt.alloc()), &mut effect) {
             Planned::Runs { words, inst } => {
                 let second = if op == Op::Lda { 0x1234 } else { 0 };
                 assert_eq!(rt;
@@ -411,7 +446,7 @@ fn plans_moves(rt: HostRuntime) -> Result<(), Fail> {
     for (word, rest, set, next) in rows {
         let p = ready(rt.alloc(), 0x1000, (word, 0), 0, PC)?;
         let mut effect = Effect::blank();
-        match plan_next(&p, &mut effect) {
+        match plan_next(&p, &mut Memo::none(rt.alloc()), &mut effect) {
             Planned::Runs { .. } => {
                 assert_eq!(rt; rest_of(&effect), rest);
                 assert_eq!(rt; set_of(&effect), set);
@@ -529,7 +564,7 @@ fn plans_posts(rt: HostRuntime) -> Result<(), Fail> {
     for (pc, word, requests, posting, (after, check)) in rows {
         let p = ready(rt.alloc(), 0x1000, (word, 0), 0, pc)?;
         let mut effect = Effect::blank();
-        match plan_next(&p, &mut effect) {
+        match plan_next(&p, &mut Memo::none(rt.alloc()), &mut effect) {
             Planned::Runs { .. } => {
                 assert_eq!(rt; effect.requests, requests);
                 assert_eq!(rt; effect.posting, posting);
@@ -621,7 +656,7 @@ fn plans_set_ups(rt: HostRuntime) -> Result<(), Fail> {
     for (word, dma) in rows {
         let p = ready(rt.alloc(), 0x1000, (word, 0), 0, PC)?;
         let mut effect = Effect::blank();
-        match plan_next(&p, &mut effect) {
+        match plan_next(&p, &mut Memo::none(rt.alloc()), &mut effect) {
             Planned::Runs { .. } => {
                 assert_eq!(rt; (effect.dma, effect.next), (dma, 0x1004));
                 assert_eq!(rt;

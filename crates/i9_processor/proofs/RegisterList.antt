@@ -1,29 +1,111 @@
--- The kept registers as a function.
-use Rattle.std.proofs.Common.{◌≡◌, ℕ, zero, suc, ◌+◌, ◌<◌, ◌≤◌, Bool, true, false, cond, eqb, List, [], ◌∷◌, ◌++◌, length, get_or, take, map, replicate, slice_set, add-one, add-zero, zero-add, refl, sym, ap, ◌∙◌, arith}
-use Rattle.std.proofs.lemmas.List.{take_all, get_or-set_same, get_or-set_other, get_or_past}
+-- The latest values of the register file as a function.
+use Rattle.std.proofs.Common.{◌≡◌, ℕ, zero, suc, ◌+◌, ◌<◌, ◌≤◌, Bool, true, false, cond, eqb, List, [], ◌∷◌, ◌++◌, ◌*◌, ◌/◌, ◌%◌, ◌-◌, nat_lt, None, slice_index, length, get_or, take, map, replicate, slice_set, add-one, add-zero, zero-add, refl, sym, ap, ◌∙◌, arith}
+use Rattle.std.proofs.lemmas.List.{take_all, length-set, get_or-set_same, get_or-set_other}
+use Rattle.std.proofs.lemmas.Bool.{cond-true, cond-false}
 use Rattle.std.proofs.lemmas.Bool.Decides.{nat_tests}
+use Rattle.i9_isa.specs.declared.resources.TheConstants.{CONDITION_CODE}
 use Rattle.i9_model.specs.declared.layout.TheConstants.{FP}
+use Rattle.i9_model.specs.declared.need.Cell.{Cell}
+use Rattle.i9_model.specs.Late.{cell, latest}
 use Rattle.i9_model.specs.Writes.{put, pairs_at, written}
 use Rattle.i9_model.specs.State.{frame_sets}
 use Rattle.i9_model.proofs.Stored.{written-append}
 use Rattle.std.specs.List.{range_with_len}
 use Rattle.i9_model.specs.PrintedText.{register_list}
-use Rattle.i9_processor.specs.State.{registers_of}
+use Rattle.i9_regs.specs.File.{cell_in}
+use Rattle.i9_processor.specs.State.{registers_of, arithmetic_of}
 
-set_at : (regs : List ℕ) (r v x : ℕ) (b : Bool) → r < length regs → eqb x r ≡ b → registers_of (slice_set regs r v) x ≡ cond b v (registers_of regs x)
-set_at regs r v x true h t = let same : x ≡ r = grind (arith, nat_tests, t) in ap (λ (y : ℕ). get_or (slice_set regs r v) y 0) same ∙ get_or-set_same regs r v 0 h
-set_at regs r v x false h t = get_or-set_other regs r x v 0 (λ same. grind (arith, nat_tests, t, same))
+-- ---- cells that are read and set
 
-pub registers_of-set : (regs : List ℕ) (r v : ℕ) → r < length regs → registers_of (slice_set regs r v) ≡ put (registers_of regs) r v
-registers_of-set regs r v h = λ i x. set_at regs r v x (eqb x r) h refl i
+pub registers_at : (cs : List Cell) (r : ℕ) → r < 32 → registers_of cs r ≡ latest (cell_in cs r)
+unfolding registers_of
+registers_at cs r low = cond-true (nat_lt r 32) (latest (cell_in cs r)) 0 (grind (arith, nat_tests, low))
 
-zero_at : (n x : ℕ) → ◌≡◌ {A = ℕ} (get_or (replicate n 0) x 0) 0
+-- there are no others
+pub registers_past : (cs : List Cell) (r : ℕ) → 32 ≤ r → registers_of cs r ≡ 0
+unfolding registers_of
+registers_past cs r high = cond-false (nat_lt r 32) (latest (cell_in cs r)) 0 (grind (arith, nat_tests, high))
+
+-- a cell is set, and no other
+abbrev IsSet : List Cell → List Cell → ℕ → ℕ → Type 0
+IsSet olds news r v = news ≡ slice_set olds r (cell v None)
+
+cell_other : (olds news : List Cell) (r x v : ℕ) → (x ≡ r → ⊥) → IsSet olds news r v
+    → cell_in news x ≡ cell_in olds x
+cell_other olds news r x v apart is =
+    ap (λ (cs : List Cell). cell_in cs x) is ∙ get_or-set_other olds r x (cell v None) (cell 0 None) apart
+
+cell_same : (olds news : List Cell) (r v : ℕ) → r < 33 → IsSet olds news r v → length news ≡ 33
+    → cell_in news r ≡ cell v None
+cell_same olds news r v few is len =
+    let size : length olds ≡ length news =
+    sym (length-set olds r (cell v None)) ∙ ap (λ (cs : List Cell). length cs) (sym is) in
+    ap (λ (cs : List Cell). cell_in cs r) is
+    ∙ get_or-set_same olds r (cell v None) (cell 0 None) (omega (arith, few, size, len))
+
+set_at : (olds news : List Cell) (r v x : ℕ) (b : Bool) → r < 32 → IsSet olds news r v → length news ≡ 33
+    → eqb x r ≡ b → registers_of news x ≡ cond b v (registers_of olds x)
+unfolding registers_of
+set_at olds news r v x true h is len t =
+    let same : x ≡ r = grind (arith, nat_tests, t) in
+    ap (registers_of news) same
+    ∙ registers_at news r h
+    ∙ ap latest (cell_same olds news r v (omega (arith, h)) is len)
+set_at olds news r v x false h is len t =
+    let apart : x ≡ r → ⊥ = λ same. grind (arith, nat_tests, t, same) in
+    ap (λ (c : Cell). cond (nat_lt x 32) (latest c) 0) (cell_other olds news r x v apart is)
+
+pub registers_of-set : (olds news : List Cell) (r v : ℕ) → r < 32 → news ≡ slice_set olds r (cell v None)
+    → length news ≡ 33 → registers_of news ≡ put (registers_of olds) r v
+registers_of-set olds news r v h is len = λ i x. set_at olds news r v x (eqb x r) h is len refl i
+
+pub code_of-set : (olds news : List Cell) (r v : ℕ) → r < 32 → news ≡ slice_set olds r (cell v None)
+    → cell_in news CONDITION_CODE ≡ cell_in olds CONDITION_CODE
+code_of-set olds news r v h is = cell_other olds news r CONDITION_CODE v (λ same. omega (arith, h, same)) is
+
+-- the condition code is no register
+beside_at : (olds news : List Cell) (v x : ℕ) (b : Bool) → IsSet olds news CONDITION_CODE v → nat_lt x 32 ≡ b
+    → cond b (latest (cell_in news x)) 0 ≡ cond b (latest (cell_in olds x)) 0
+beside_at olds news v x true is low =
+    let apart : x ≡ CONDITION_CODE → ⊥ = λ same. grind (arith, nat_tests, low, same) in
+    ap latest (cell_other olds news CONDITION_CODE x v apart is)
+beside_at olds news v x false is low = refl
+
+pub registers_beside : (olds news : List Cell) (v : ℕ) → news ≡ slice_set olds CONDITION_CODE (cell v None)
+    → registers_of news ≡ registers_of olds
+unfolding registers_of
+registers_beside olds news v is = λ i x. beside_at olds news v x (nat_lt x 32) is refl i
+
+whole : (a : ℕ) → (a - a % 8) / 8 * 8 + a % 8 % 8 ≡ a
+whole a = omega arith
+
+pub arithmetic_of-set : (olds news : List Cell) (a : ℕ)
+    → news ≡ slice_set olds CONDITION_CODE (cell (a % 8) None) → length news ≡ 33
+    → arithmetic_of (a - a % 8) news ≡ a
+unfolding arithmetic_of
+arithmetic_of-set olds news a is len =
+    let code = cell_same olds news CONDITION_CODE (a % 8) (omega arith) is len in
+    ap (λ (c : Cell). (a - a % 8) / 8 * 8 + latest c % 8) code ∙ whole a
+
+pub arithmetic_kept : (flags : ℕ) (olds news : List Cell)
+    → cell_in news CONDITION_CODE ≡ cell_in olds CONDITION_CODE
+    → arithmetic_of flags news ≡ arithmetic_of flags olds
+unfolding arithmetic_of
+arithmetic_kept flags olds news same = ap (λ (c : Cell). flags / 8 * 8 + latest c % 8) same
+
+zero_at : (n x : ℕ) → cell_in (replicate n (cell 0 None)) x ≡ cell 0 None
 zero_at zero x = refl
 zero_at (suc n) zero = refl
 zero_at (suc n) (suc x) = zero_at n x
 
-pub registers_of-zeros : (n : ℕ) → ◌≡◌ {A = ℕ → ℕ} (registers_of (replicate n 0)) (λ x. 0)
-registers_of-zeros n = λ i x. zero_at n x i
+no_value : (b : Bool) → ◌≡◌ {A = ℕ} (cond b 0 0) 0
+no_value true = refl
+no_value false = refl
+
+pub registers_of-zeros : (n : ℕ) → ◌≡◌ {A = ℕ → ℕ} (registers_of (replicate n (cell 0 None))) (λ x. 0)
+unfolding registers_of
+registers_of-zeros n = λ i x.
+    (ap (λ (c : Cell). cond (nat_lt x 32) (latest c) 0) (zero_at n x) ∙ no_value (nat_lt x 32)) i
 
 -- one more register, and all
 pairs_next : (n : ℕ) (xs : List ℕ) (k : ℕ) → k < length xs → pairs_at (λ r. r) n (take (suc k) xs) ≡ pairs_at (λ r. r) n (take k xs) ++ (n + k, get_or xs k 0) ∷ []
@@ -49,7 +131,7 @@ pub frame_written : (f : ℕ → ℕ) (ws : List ℕ) (fp : ℕ) → written f (
 unfolding written
 frame_written f ws fp = written-append f (pairs_at (λ r. r) 0 ws) ((FP, fp) ∷ [])
 
-pub ruleset group_rules = (registers_of-set, written_more, written_all)
+pub ruleset group_rules = (written_more, written_all)
 
 listed : (f : ℕ → ℕ) (a n : ℕ) (xs : List ℕ) → length xs ≡ n → ((k : ℕ) → k < n → f (a + k) ≡ get_or xs k 0) → map f (range_with_len a n) ≡ xs
 listed f a zero [] len same = refl
@@ -61,13 +143,12 @@ listed f a (suc n) (x ∷ xs) len same =
     let one : a + 1 + k ≡ a + suc k = omega arith in ap f one ∙ same (suc k) (omega arith)) in
     ap (λ (y : ℕ). y ∷ map f (range_with_len (a + 1) n)) first ∙ ap (λ (ys : List ℕ). x ∷ ys) rest
 
--- there are no others
-pub registers_past : (regs : List ℕ) (r : ℕ) → length regs ≤ r → registers_of regs r ≡ 0
-registers_past regs r h = get_or_past regs r 0 h
-
--- 32 registers in order are the kept ones
-pub register_list-of : (regs : List ℕ) → length regs ≡ 32 → register_list (registers_of regs) ≡ regs
+-- 32 registers in order
+pub register_list-of : (cs : List Cell) (regs : List ℕ) → length regs ≡ 32
+    → ((r : ℕ) → r < 32 → slice_index regs r ≡ latest (cell_in cs r)) → register_list (registers_of cs) ≡ regs
 unfolding register_list
-register_list-of regs len = listed (registers_of regs) 0 32 regs len (λ k h. ap (registers_of regs) (zero-add k))
+register_list-of cs regs len are =
+    listed (registers_of cs) 0 32 regs len
+    (λ k h. ap (registers_of cs) (zero-add k) ∙ registers_at cs k h ∙ sym (are k h))
 
-pub ruleset register_rules = (registers_past, registers_of-set, registers_of-zeros, register_list-of)
+pub ruleset register_rules = (registers_at, registers_past)

@@ -14,10 +14,10 @@ use Rattle.i9_processor.proofs.Appending.{first_spacious, later_spacious}
 use Rattle.i9_processor.specs.Effect.{action_in, run_in, requests_in, move_in, HasMoveSpace, HasSpaceFor, HasRoomToMove, HasRoomFor}
 
 -- bytes one by one are bytes in a row
-row_space : (s : Storage) (a : ℕ) (bs : List ℕ) → AllByRecursion (λ w. HasSpace s w.0 1) (upwards a bs) → (k : ℕ) → k < length bs → IsReserved s.memory (wrapped (a + k))
+row_space : (s : Storage) (a : ℕ) (bs : List ℕ) → AllByRecursion (λ w. HasSpace s w.0 1) (upwards a bs) → (k : ℕ) → k < length bs → IsReserved s.behind.memory (wrapped (a + k))
 row_space s a [] all k h = absurd (omega (arith, h))
-row_space s a (b ∷ bs) all zero h = let here : wrapped (wrapped a + 0) ≡ wrapped (a + 0) = omega arith in subst (IsReserved s.memory) here (all.0 0 (omega arith))
-row_space s a (b ∷ bs) all (suc k) h = let next : wrapped (a + 1 + k) ≡ wrapped (a + suc k) = omega arith in subst (IsReserved s.memory) next (row_space s (a + 1) bs all.1 k (omega (arith, h)))
+row_space s a (b ∷ bs) all zero h = let here : wrapped (wrapped a + 0) ≡ wrapped (a + 0) = omega arith in subst (IsReserved s.behind.memory) here (all.0 0 (omega arith))
+row_space s a (b ∷ bs) all (suc k) h = let next : wrapped (a + 1 + k) ≡ wrapped (a + suc k) = omega arith in subst (IsReserved s.behind.memory) next (row_space s (a + 1) bs all.1 k (omega (arith, h)))
 
 -- a frame that could be saved still can be
 pub move_kept : (s t : Storage) (m : Move) → KeepsFrameSpace s t → HasMoveSpace s m → HasMoveSpace t m

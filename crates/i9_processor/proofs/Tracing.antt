@@ -1,5 +1,5 @@
 -- What trace events go by behind an effect, where something is done to the controls after a mere flush.
-use Rattle.std.proofs.Common.{◌≡◌, ℕ, Bool, true, false, cond, eqb, List, [], refl, ap, ◌∙◌, subst}
+use Rattle.std.proofs.Common.{◌≡◌, ℕ, Bool, true, false, eqb, List, [], refl, ap, ◌∙◌, subst}
 use Rattle.i9_model.specs.Writes.{written}
 use Rattle.i9_model.specs.Memory.{Memory, with_writes}
 use Rattle.i9_model.specs.Boot.{setup_of}

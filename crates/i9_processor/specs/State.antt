@@ -1,21 +1,29 @@
 -- The state that a processor stands for.
-use Rattle.std.specs.Prelude.{ℕ, List, slice_index}
+use Rattle.std.specs.Prelude.{ℕ, ◌+◌, ◌*◌, ◌/◌, ◌%◌, nat_lt, if◌then◌else◌, List}
+use Rattle.i9_isa.specs.declared.resources.TheConstants.{CONDITION_CODE}
 use Rattle.i9_ints.specs.Ints.{interrupts_of}
 use Rattle.i9_dma.specs.Channels.{dma_of}
 use Rattle.i9_storage.specs.Storage as storage
+use Rattle.i9_model.specs.declared.need.Cell.{Cell}
+use Rattle.i9_model.specs.Late.{latest}
 use Rattle.i9_model.specs.State.{State}
 use Rattle.i9_model.specs.HeldFrames.{Cache}
+use Rattle.i9_regs.specs.File.{cell_in}
 use Rattle.i9_processor.specs.declared.processor.Processor.{Processor}
 
--- the register of each number, of those that are kept
-abbrev pub registers_of : List ℕ → ℕ → ℕ
-registers_of regs r = slice_index regs r
+-- the register of each number: the latest value of its cell
+unfoldable pub registers_of : List Cell → ℕ → ℕ
+registers_of cells r = if nat_lt r 32 then latest (cell_in cells r) else 0
+
+-- the arithmetic controls: the latest value of a cell is the condition code, their low three bits
+unfoldable pub arithmetic_of : ℕ → List Cell → ℕ
+arithmetic_of flags cells = flags / 8 * 8 + latest (cell_in cells CONDITION_CODE) % 8
 
 unfoldable pub state_of : Processor → State
 state_of p = record {
-  regs = registers_of p.regs;
+  regs = registers_of p.file;
   ip = p.ip;
-  ac = p.ac;
+  ac = arithmetic_of p.flags p.file;
   pc = p.pc;
   count = p.count;
   check = p.check;

@@ -17,7 +17,7 @@ ghost use Rattle.i9_processor.specs.Effect.{AreRegisters, AreSpacious, CanPost, 
 
 use crate::effect::{Control, DmaChange, Effect, Move, Posting, Requests};
 use crate::processor::Processor;
-use crate::registers::{set_frame, set_group};
+use crate::registers::{set_arithmetic, set_frame, set_group};
 use crate::start::{
     start_breaks, start_interrupts, start_registers, start_trace_controls, tables_of,
 };
@@ -36,6 +36,7 @@ fn reserve_move(storage: &mut Storage, m: &Move) -> Result<(), NoMemory>
     ensures cache { stores.cache_of storage.new ≡ stores.cache_of storage.old }
     ensures frames { stores.frames_in storage.new ≡ stores.frames_in storage.old }
     ensures size { stores.size_of storage.new ≡ stores.size_of storage.old }
+    ensures waiting { stores.waiting_in storage.new ≡ stores.waiting_in storage.old }
     ensures keeps { KeepsSpace storage.old storage.new }
     ensures space { OnOk result (HasMoveSpace storage.new m.now) }
     ensures needed { (s : State) → OnErr result (is_costly (move_in s m.now) ≡ true) }
@@ -52,6 +53,7 @@ fn reserve_run(storage: &mut Storage, e: &Effect) -> Result<(), NoMemory>
     ensures cache { stores.cache_of storage.new ≡ stores.cache_of storage.old }
     ensures frames { stores.frames_in storage.new ≡ stores.frames_in storage.old }
     ensures size { stores.size_of storage.new ≡ stores.size_of storage.old }
+    ensures waiting { stores.waiting_in storage.new ≡ stores.waiting_in storage.old }
     ensures keeps { KeepsSpace storage.old storage.new }
     ensures frame_space { KeepsFrameSpace storage.old storage.new }
     ensures space { OnOk result (HasSpace storage.new e.now.address (length e.now.bytes.items)) }
@@ -69,6 +71,7 @@ fn reserve_one(storage: &mut Storage, byte: Option<(u32, u8)>) -> Result<(), NoM
     ensures cache { stores.cache_of storage.new ≡ stores.cache_of storage.old }
     ensures frames { stores.frames_in storage.new ≡ stores.frames_in storage.old }
     ensures size { stores.size_of storage.new ≡ stores.size_of storage.old }
+    ensures waiting { stores.waiting_in storage.new ≡ stores.waiting_in storage.old }
     ensures keeps { KeepsSpace storage.old storage.new }
     ensures frame_space { KeepsFrameSpace storage.old storage.new }
     ensures space { OnOk result (AreSpacious storage.new (one_in byte)) }
@@ -87,6 +90,7 @@ fn reserve_requests(storage: &mut Storage, requests: &Requests) -> Result<(), No
     ensures cache { stores.cache_of storage.new ≡ stores.cache_of storage.old }
     ensures frames { stores.frames_in storage.new ≡ stores.frames_in storage.old }
     ensures size { stores.size_of storage.new ≡ stores.size_of storage.old }
+    ensures waiting { stores.waiting_in storage.new ≡ stores.waiting_in storage.old }
     ensures keeps { KeepsSpace storage.old storage.new }
     ensures frame_space { KeepsFrameSpace storage.old storage.new }
     ensures space { OnOk result (AreSpacious storage.new (requests_in requests.now)) }
@@ -99,12 +103,14 @@ fn reserve_requests(storage: &mut Storage, requests: &Requests) -> Result<(), No
 
 /// Stores the bytes in a row of an effect. Most effects have none, and then nothing is looked up.
 fn store_run(storage: &mut Storage, e: &Effect)
+    requires drained { stores.IsDrained storage.old }
     requires space { HasSpace storage.old e.now.address (length e.now.bytes.items) }
     requires free { writes_hazard (stores.frames_in storage.old) (run_in e.now) ≡ None }
     ensures cache { stores.cache_of storage.new ≡ cache_stored (run_in e.now) (stores.cache_of storage.old) }
     ensures memory { stores.memory_in storage.new ≡ with_writes (stores.memory_in storage.old) (run_in e.now) }
     ensures frames { stores.frames_in storage.new ≡ wrote (stores.frames_in storage.old) (run_in e.now) }
     ensures size { stores.size_of storage.new ≡ stores.size_of storage.old }
+    ensures waiting { stores.waiting_in storage.new ≡ stores.waiting_in storage.old }
     ensures keeps { KeepsSpace storage.old storage.new }
 {
     if !e.bytes.is_empty() {
@@ -113,14 +119,18 @@ fn store_run(storage: &mut Storage, e: &Effect)
 }
 
 /// Stores a byte at an address, where there is one.
+// Most effects have none, and then nothing is called.
+#[inline(always)]
 #[tactic(auto, using(crate::proofs::Appending::none_rules))]
 fn store_one(storage: &mut Storage, byte: Option<(u32, u8)>)
+    requires drained { stores.IsDrained storage.old }
     requires space { AreSpacious storage.old (one_in byte) }
     requires free { writes_hazard (stores.frames_in storage.old) (one_in byte) ≡ None }
     ensures cache { stores.cache_of storage.new ≡ cache_stored (one_in byte) (stores.cache_of storage.old) }
     ensures memory { stores.memory_in storage.new ≡ with_writes (stores.memory_in storage.old) (one_in byte) }
     ensures frames { stores.frames_in storage.new ≡ wrote (stores.frames_in storage.old) (one_in byte) }
     ensures size { stores.size_of storage.new ≡ stores.size_of storage.old }
+    ensures waiting { stores.waiting_in storage.new ≡ stores.waiting_in storage.old }
     ensures keeps { KeepsSpace storage.old storage.new }
 {
     match byte {
@@ -131,12 +141,14 @@ fn store_one(storage: &mut Storage, byte: Option<(u32, u8)>)
 
 /// Stores bytes with bits of requests.
 fn store_requests(storage: &mut Storage, requests: &Requests)
+    requires drained { stores.IsDrained storage.old }
     requires space { AreSpacious storage.old (requests_in requests.now) }
     requires free { writes_hazard (stores.frames_in storage.old) (requests_in requests.now) ≡ None }
     ensures cache { stores.cache_of storage.new ≡ cache_stored (requests_in requests.now) (stores.cache_of storage.old) }
     ensures memory { stores.memory_in storage.new ≡ with_writes (stores.memory_in storage.old) (requests_in requests.now) }
     ensures frames { stores.frames_in storage.new ≡ wrote (stores.frames_in storage.old) (requests_in requests.now) }
     ensures size { stores.size_of storage.new ≡ stores.size_of storage.old }
+    ensures waiting { stores.waiting_in storage.new ≡ stores.waiting_in storage.old }
 {
     store_one(storage, requests.first);
     store_one(storage, requests.second);
@@ -144,6 +156,7 @@ fn store_requests(storage: &mut Storage, requests: &Requests)
 
 /// Stores the bytes of an effect.
 fn store_bytes(storage: &mut Storage, e: &Effect)
+    requires drained { stores.IsDrained storage.old }
     requires space { HasSpace storage.old e.now.address (length e.now.bytes.items) }
     requires requests { AreSpacious storage.old (requests_in e.now.requests) }
     requires free { writes_hazard (stores.frames_in storage.old) (writes_in e.now) ≡ None }
@@ -151,6 +164,7 @@ fn store_bytes(storage: &mut Storage, e: &Effect)
     ensures memory { stores.memory_in storage.new ≡ with_writes (stores.memory_in storage.old) (writes_in e.now) }
     ensures frames { stores.frames_in storage.new ≡ wrote (stores.frames_in storage.old) (writes_in e.now) }
     ensures size { stores.size_of storage.new ≡ stores.size_of storage.old }
+    ensures waiting { stores.waiting_in storage.new ≡ stores.waiting_in storage.old }
 {
     store_run(storage, e);
     store_requests(storage, &e.requests);
@@ -190,9 +204,9 @@ impl Processor {
         ensures size { size_of self.new ≡ size_of self.old }
         ensures count { (state_of self.new).count ≡ (state_of self.old).count }
     {
-        self.regs = start_registers(&self.regs, setup);
+        start_registers(&mut self.file, setup);
+        set_arithmetic(&mut self.file, &mut self.flags, setup.ac);
         self.ip = aligned(setup.first);
-        self.ac = setup.ac;
         self.pc = BOOT_PC;
         self.tc = start_trace_controls(setup);
         self.check = false;
@@ -279,7 +293,7 @@ impl Processor {
     }
 
     /// Does what is done to frames, and sets registers.
-    #[tactic(auto, unfolding(crate::specs::State::state_of, crate::specs::State::cache_of, crate::specs::State::size_of))]
+    #[tactic(auto, unfolding(crate::specs::State::state_of, crate::specs::State::cache_of, crate::specs::State::size_of), using(crate::proofs::RegisterList::arithmetic_kept))]
     fn move_frames(&mut self, e: &Effect)
         requires registers { AreRegisters e.now }
         requires can { CanMove (state_of self.old).frames e.now.frames }
@@ -295,17 +309,17 @@ impl Processor {
         ensures keeps { KeepsSpace self.old.storage self.new.storage }
     {
         match e.frames {
-            Move::Stays => set_group(&mut self.regs, e.register, e.values.as_slice()),
+            Move::Stays => set_group(&mut self.file, e.register, e.values.as_slice()),
             Move::Saves { push, back } => {
                 let address = push.save;
                 let words = self.saved_locals(back);
                 self.storage.save_frame(Frame { address, words });
-                set_frame(&mut self.regs, &new_locals(&push), push.frame);
+                set_frame(&mut self.file, &new_locals(&push), push.frame);
             }
             Move::Returns(frame) => {
                 let locals = self.storage.frame_words(frame);
                 self.storage.restore_frame();
-                set_frame(&mut self.regs, &locals, frame);
+                set_frame(&mut self.file, &locals, frame);
             }
             Move::Flushes => self.storage.flush(),
         }
@@ -379,7 +393,7 @@ impl Processor {
         store_bytes(&mut self.storage, e);
         self.post(e.posting);
         self.change_dma(e.dma);
-        self.ac = e.ac;
+        set_arithmetic(&mut self.file, &mut self.flags, e.ac);
         self.pc = e.pc;
         self.tc = e.tc;
         self.check = e.check;

@@ -4,12 +4,14 @@ ghost use Rattle.i9_model.specs.Image.{pairs_of};
 ghost use Rattle.i9_model.specs.HeldFrames.{cache, sets_in};
 ghost use Rattle.i9_model.specs.Boot.{setup_of};
 ghost use Rattle.i9_model.specs.State.{boot};
+ghost use Rattle.i9_storage.specs.Storage.{IsDrained};
 
 mod plans;
 mod reading;
 mod tracing;
 
 use crate::load::load;
+use crate::registers::set_arithmetic;
 use crate::start::{
     start_breaks, start_interrupts, start_registers, start_trace_controls, tables_of,
 };
@@ -22,18 +24,20 @@ use i9_isa::NoMemory;
 use i9_memory::Memory;
 use i9_model::layout::BOOT_PC;
 use i9_model::{Breaks, Setup, Tables};
+use i9_regs::File;
 use i9_storage::Storage;
 use std::alloc::Global;
 pub use tracing::TraceControls;
 
 /// All that an instruction may read or change: the registers and the controls, whether the next choice
 /// of an interrupt looks at what software asks for, the interrupts that are posted, the DMA channels, the
-/// tables that the processor goes by, the count of instructions, and the storage with its frames.
+/// tables that the processor goes by, the count of instructions, and the storage with its frames. Of the
+/// arithmetic controls the low three bits, the condition code, are in the file, and `flags` is the others.
 #[derive(Drop)]
 pub struct Processor {
-    pub(crate) regs: [u32; 32],
+    pub(crate) file: File,
     pub(crate) ip: u32,
-    pub(crate) ac: u32,
+    pub(crate) flags: u32,
     pub(crate) pc: u32,
     pub(crate) tc: u32,
     pub(crate) check: bool,
@@ -43,6 +47,7 @@ pub struct Processor {
     pub(crate) tables: Tables,
     pub(crate) count: u64,
     pub(crate) storage: Storage,
+    ghost drained: { IsDrained storage },
 }
 
 /// The number of sets: the one that is asked for, or the one of the PRCB.
@@ -76,10 +81,14 @@ impl Processor {
         load(&mut memory, image)?;
         let setup = boot(&mut memory);
         let storage = Storage::new(alloc, memory, set_count(sets, &setup))?;
+        let mut file = File::new();
+        let mut flags = 0;
+        start_registers(&mut file, &setup);
+        set_arithmetic(&mut file, &mut flags, setup.ac);
         Ok(Processor {
-            regs: start_registers(&[0; 32], &setup),
+            file,
             ip: aligned(setup.first),
-            ac: setup.ac,
+            flags,
             pc: BOOT_PC,
             tc: start_trace_controls(&setup),
             check: false,

@@ -1,36 +1,50 @@
-//! The 32 registers, and what they are set to.
+//! The registers and the condition code, and what they are set to.
 ghost use Rattle.std.specs.Prelude.{◌≡◌, ◌+◌, ◌<◌, ◌≤◌, length};
 ghost use Rattle.i9_model.specs.Writes.{put, written, pairs_at};
 ghost use Rattle.i9_model.specs.State.{frame_sets};
-ghost use Rattle.i9_processor.specs.State.{registers_of};
+ghost use Rattle.i9_regs.specs.File.{cell_in};
+ghost use Rattle.i9_processor.specs.State.{registers_of, arithmetic_of};
 
+use i9_isa::CONDITION_CODE;
 use i9_model::layout::{FP, LOCALS};
+use i9_regs::File;
 
 /// Sets a register.
-#[tactic(auto, using(crate::proofs::RegisterList::register_rules))]
-fn set(regs: &mut [u32; 32], r: u8, v: u32)
+fn set(file: &mut File, r: u8, v: u32)
     requires { r < 32 }
-    ensures { registers_of regs.new ≡ put (registers_of regs.old) r v }
+    ensures registers { registers_of file.new ≡ put (registers_of file.old) r v }
+    ensures code { cell_in file.new CONDITION_CODE ≡ cell_in file.old CONDITION_CODE }
 {
-    regs[r as usize] = v;
+    file.set(r, v);
 }
 
 /// Sets registers from one up.
 #[tactic(auto, using(crate::proofs::RegisterList::group_rules))]
-pub(crate) fn set_group(regs: &mut [u32; 32], r: u8, words: &[u32])
+pub(crate) fn set_group(file: &mut File, r: u8, words: &[u32])
     requires { r + length words.now ≤ 32 }
-    ensures { registers_of regs.new ≡ written (registers_of regs.old) (pairs_at (λ k. k) r words.now) }
+    ensures registers { registers_of file.new ≡ written (registers_of file.old) (pairs_at (λ k. k) r words.now) }
+    ensures code { cell_in file.new CONDITION_CODE ≡ cell_in file.old CONDITION_CODE }
 {
     for k in 0..words.len() {
-        set(regs, r + k as u8, words[k]);
+        set(file, r + k as u8, words[k]);
     }
 }
 
 /// Sets the locals and fp of a frame.
 #[tactic(auto, using(crate::proofs::RegisterList::frame_written))]
-pub(crate) fn set_frame(regs: &mut [u32; 32], locals: &[u32; LOCALS], frame: u32)
-    ensures { registers_of regs.new ≡ written (registers_of regs.old) (frame_sets locals.now frame) }
+pub(crate) fn set_frame(file: &mut File, locals: &[u32; LOCALS], frame: u32)
+    ensures registers { registers_of file.new ≡ written (registers_of file.old) (frame_sets locals.now frame) }
+    ensures code { cell_in file.new CONDITION_CODE ≡ cell_in file.old CONDITION_CODE }
 {
-    set_group(regs, 0, locals);
-    set(regs, FP, frame);
+    set_group(file, 0, locals);
+    set(file, FP, frame);
+}
+
+/// Sets the arithmetic controls.
+pub(crate) fn set_arithmetic(file: &mut File, flags: &mut u32, ac: u32)
+    ensures registers { registers_of file.new ≡ registers_of file.old }
+    ensures ac { arithmetic_of flags.new file.new ≡ ac }
+{
+    *flags = ac - ac % 8;
+    file.set(CONDITION_CODE, ac % 8);
 }

@@ -4,12 +4,15 @@ ghost use Rattle.i9_model.specs.Boot.{tables_of};
 ghost use Rattle.i9_model.specs.State.{first_frame, start_sets, start_interrupts, start_trace};
 ghost use Rattle.i9_model.specs.Writes.{wrapped, written};
 ghost use Rattle.i9_ints.specs.Ints.{interrupts_of};
+ghost use Rattle.i9_regs.specs.File.{cell_in};
 ghost use Rattle.i9_processor.specs.State.{registers_of};
 
 use crate::registers::set_frame;
 use i9_ints::Ints;
+use i9_isa::CONDITION_CODE;
 use i9_model::layout::{FRAME_SIZE, TC_MASK};
 use i9_model::{Breaks, Setup, Tables};
+use i9_regs::File;
 
 /// The first frame, at the interrupt stack rounded up.
 fn first_frame(setup: &Setup) -> u32
@@ -18,16 +21,15 @@ fn first_frame(setup: &Setup) -> u32
     setup.interrupt_stack.wrapping_add(15) / 16 * 16
 }
 
-/// Registers with the first frame entered: sp is a frame above fp, and the other locals are 0.
-pub(crate) fn start_registers(regs: &[u32; 32], setup: &Setup) -> [u32; 32]
-    ensures { registers_of result ≡ written (registers_of regs.now) (start_sets setup.now) }
+/// Enters the first frame: sp is a frame above fp, and the other locals are 0.
+pub(crate) fn start_registers(file: &mut File, setup: &Setup)
+    ensures registers { registers_of file.new ≡ written (registers_of file.old) (start_sets setup.now) }
+    ensures code { cell_in file.new CONDITION_CODE ≡ cell_in file.old CONDITION_CODE }
 {
     let frame = first_frame(setup);
     let mut locals = [0; 16];
     locals[1] = frame.wrapping_add(FRAME_SIZE);
-    let mut started = *regs;
-    set_frame(&mut started, &locals, frame);
-    started
+    set_frame(file, &locals, frame);
 }
 
 /// Nothing is posted, and every line is masked; words of the control table are the interrupt maps.

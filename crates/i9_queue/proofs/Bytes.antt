@@ -30,6 +30,14 @@ pub length-waits : (rs : List Request) → length (waits_in rs) ≡ length rs
 length-waits [] = refl
 length-waits (r ∷ rs) = omega (arith, length-waits rs)
 
+pub no-requests : (rs : List Request) → length rs ≡ 0 → rs ≡ []
+no-requests [] none = refl
+no-requests (r ∷ rs) none = absurd (omega arith)
+
+pub none-waits : (rs : List Request) → waits_in rs ≡ [] → rs ≡ []
+none-waits [] none = refl
+none-waits (r ∷ rs) none = absurd cc
+
 pub waits-put : (rs : List Request) (r : Request) → waits_in (rs ++ r ∷ []) ≡ waits_in rs ++ wait_in r ∷ []
 waits-put [] r = refl
 waits-put (q ∷ rs) r = ap (λ ws. wait_in q ∷ ws) (waits-put rs r)

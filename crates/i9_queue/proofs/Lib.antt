@@ -3,3 +3,5 @@ pub mod Copies
 pub mod Settled
 pub mod Enqueued
 pub mod Groups
+pub mod Drained
+pub mod Beside

@@ -15,7 +15,7 @@ abbrev pub waiting_of : Behind → List Wait
 waiting_of b = b.queue
 
 -- memory after all that waits
-abbrev pub settled : Behind → model.Memory
+unfoldable pub settled : Behind → model.Memory
 settled b = settled_over (acted b) (waiting_of b)
 
 -- so many bytes from an address up can be written

@@ -1,7 +1,8 @@
 -- Waiting stores and the room for them.
-use Rattle.std.specs.Prelude.{ℕ, List, [], ◌∷◌}
+use Rattle.std.specs.Prelude.{◌≡◌, ℕ, ◌+◌, ◌<◌, List, [], ◌∷◌, None}
 use Rattle.std.specs.List.{AllByRecursion, AllByRecursion-prop}
 use Rattle.std.proofs.Props.{props}
+use Rattle.i9_model.specs.Writes.{wrapped, last_put}
 use Rattle.i9_model.specs.Memory as model
 use Rattle.i9_model.specs.Memory.{stored}
 use Rattle.i9_model.specs.Late.{Wait, all_puts, AreDueInOrder}
@@ -22,6 +23,10 @@ HasRoomFor-prop m ps = hlevel (props, IsReserved-prop, AllByRecursion-prop)
 pub AreDueInOrder-prop : (ws : List Wait) → IsProp (AreDueInOrder ws)
 AreDueInOrder-prop [] = hlevel props
 AreDueInOrder-prop (w ∷ ws) = hlevel (props, AllByRecursion-prop, AreDueInOrder-prop ws)
+
+-- none of these writes is at one of n places from an address on
+abbrev pub AreBeside : List (ℕ × ℕ) → ℕ → ℕ → Type 0
+AreBeside ps a n = (k : ℕ) → k < n → last_put ps (wrapped (a + k)) ≡ None
 
 abbrev pub with_puts : model.Memory → List (ℕ × ℕ) → model.Memory
 with_puts m ps = record m { bytes = stored m.bytes ps }

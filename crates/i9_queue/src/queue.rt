@@ -1,9 +1,10 @@
 //! The requests that wait.
 
-ghost use Rattle.std.specs.Prelude.{◌≡◌, ◌<◌, ◌≤◌, ◌^◌, ◌∷◌, ◌++◌, [], length, MatchOption};
+ghost use Rattle.std.specs.Prelude.{◌≡◌, ◌<◌, ◌≤◌, ◌↔◌, ◌^◌, ◌∷◌, ◌++◌, [], IsTrue, length, MatchOption};
 ghost use Rattle.i9_model.specs.Late.{all_puts};
 ghost use Rattle.i9_model.specs.Writes.{upwards, last_put, or_earlier};
 ghost use Rattle.i9_queue.specs.Queue.{waits_in};
+ghost use Rattle.i9_queue.specs.Waits.{AreBeside};
 
 use arrayvec::ArrayVec;
 use std::marker::Model;
@@ -74,6 +75,26 @@ fn byte_among(requests: &[Request], a: u32) -> Option<u8>
     found
 }
 
+/// Whether a request writes none of `n` bytes from an address up; a load may say no.
+fn is_beside(r: &Request, a: u32, n: u32) -> bool
+    ensures { IsTrue result → AreBeside (upwards r.now.address r.now.bytes.items) a n }
+{
+    let above = a.wrapping_sub(r.address);
+    r.bytes.len() <= above as usize && n <= r.address.wrapping_sub(a)
+}
+
+/// Whether no request writes one of `n` bytes from an address up; a load may say no.
+fn are_beside(requests: &[Request], a: u32, n: u32) -> bool
+    ensures { IsTrue result → AreBeside (all_puts (waits_in requests.now)) a n }
+{
+    for r in requests {
+        if !is_beside(r, a, n) {
+            return false;
+        }
+    }
+    true
+}
+
 impl Queue {
     ghost use Rattle.i9_queue.specs.Queue.{NoneDue, wait_in};
 
@@ -91,6 +112,14 @@ impl Queue {
         ensures { result ≡ length self.now }
     {
         self.items.len() as u8
+    }
+
+    /// Whether no request waits.
+    #[inline(always)]
+    pub fn is_empty(&self) -> bool
+        ensures { IsTrue result ↔ (self.now ≡ []) }
+    {
+        self.items.is_empty()
     }
 
     /// Puts a request behind the others.
@@ -114,6 +143,13 @@ impl Queue {
             return None;
         }
         Some(self.items.remove(0))
+    }
+
+    /// Whether no waiting store is to one of `n` bytes from an address up. It may be false beside a load.
+    pub(crate) fn is_beside(&self, a: u32, n: u32) -> bool
+        ensures { IsTrue result → AreBeside (all_puts self.now) a n }
+    {
+        are_beside(self.items.as_slice(), a, n)
     }
 
     /// The byte that the youngest waiting store to an address writes there.

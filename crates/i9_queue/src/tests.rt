@@ -120,6 +120,72 @@ fn lands_stores(rt: HostRuntime) -> Result<(), Fail> {
     Ok(())
 }
 
+/// What is read at an address where the region is little-endian, and what memory holds there.
+type Reading = (u32, u16, u32, [u32; 2], u8);
+
+/// The address of the first reading that is wrong.
+fn first_misread(behind: &Behind, readings: &[Reading]) -> Option<u32> {
+    for (address, half, word, words, held) in readings {
+        let is_right = behind.half(*address) == *half
+            && behind.word(*address) == *word
+            && behind.words(*address) == *words
+            && behind.acted_byte(*address) == *held;
+        if !is_right {
+            return Some(*address);
+        }
+    }
+    None
+}
+
+// Memory holds 01 to 08 from 0FFFFFFA up, so the last two in the big-endian region 1. A store of A1 at
+// 0FFFFFFC waits until turn 3, one of B1 there and one of C1 at 10000001 until turn 5.
+#[test]
+fn reads_words_over_what_waits(rt: HostRuntime) -> Result<(), Fail> {
+    let mut memory = memory(rt.alloc());
+    memory.load(0x0FFF_FFFA, b"\x01\x02\x03\x04\x05\x06\x07\x08")?;
+    let mut behind = Behind::new(memory);
+    assert_eq!(rt; (behind.is_drained(), behind.waits(1, false)), (true, 0));
+    let wanted = |held: u8, above: u8| {
+        [
+            (
+                0x0FFF_FFFA,
+                0x0201,
+                0x04B1_0201,
+                [0x04B1_0201, 0xC107_0605],
+                1,
+            ),
+            (
+                0x0FFF_FFFC,
+                0x04B1,
+                0x0605_04B1,
+                [0x0605_04B1, 0x07C1_0000],
+                held,
+            ),
+            (0x0FFF_FFFF, 0x0706, 0x00C1_0706, [0x00C1_0706, 0], 6),
+            (0x1000_0001, 0xC100, 0xC100_0000, [0xC100_0000, 0], above),
+        ]
+    };
+    behind.reserve(0x0FFF_FFFC, 1)?;
+    behind.enqueue(store(0x0FFF_FFFC, 0xA1, 3));
+    behind.reserve(0x0FFF_FFFC, 1)?;
+    behind.enqueue(store(0x0FFF_FFFC, 0xB1, 5));
+    behind.reserve(0x1000_0001, 1)?;
+    behind.enqueue(store(0x1000_0001, 0xC1, 5));
+    // The turn, whether nothing waits any more, and what memory holds at 0FFFFFFC and 10000001.
+    let rows = [
+        (2, false, 0x03, 0x08),
+        (3, false, 0xA1, 0x08),
+        (4, false, 0xA1, 0x08),
+        (5, true, 0xB1, 0xC1),
+    ];
+    for (turn, is_drained, held, above) in &rows {
+        behind.land(*turn);
+        assert_eq!(rt; behind.is_drained(), *is_drained);
+        assert_eq!(rt; first_misread(&behind, &wanted(*held, *above)), None);
+    }
+    Ok(())
+}
+
 /// The values that are stored.
 const VALUES: [u32; 4] = [0xA1B2_C3D4, 0x0102_0304, 0x1122_3344, 0x5566_7788];
 

@@ -89,7 +89,7 @@ impl Queue {
 
     /// The two bytes from `a` up, in the order of the region of `a`.
     #[tactic(auto, unfolding(i9_model::specs::Memory::half_in))]
-    fn half(&self, m: &Memory, a: u32) -> u16
+    pub(crate) fn half(&self, m: &Memory, a: u32) -> u16
         ensures { result ≡ half_in (settled_over (memory_of m.now) self.now) a }
     {
         let bytes = [self.byte(m, a), self.byte(m, a.wrapping_add(1))];
@@ -100,9 +100,9 @@ impl Queue {
         }
     }
 
-    /// The four bytes from `a` up, in the order of the region of `a`.
+    /// The four bytes from `a` up, one by one, in the order of the region of `a`.
     #[tactic(auto, unfolding(i9_model::specs::Memory::word_in))]
-    fn word(&self, m: &Memory, a: u32) -> u32
+    fn mixed_word(&self, m: &Memory, a: u32) -> u32
         ensures { result ≡ word_in (settled_over (memory_of m.now) self.now) a }
     {
         let bytes = [
@@ -116,6 +116,18 @@ impl Queue {
         } else {
             u32::from_le_bytes(bytes)
         }
+    }
+
+    /// The four bytes from `a` up, in the order of the region of `a`. Where no waiting store is to one of
+    /// them memory has them.
+    #[inline(never)]
+    pub(crate) fn word(&self, m: &Memory, a: u32) -> u32
+        ensures { result ≡ word_in (settled_over (memory_of m.now) self.now) a }
+    {
+        if self.is_beside(a, 4) {
+            return m.word(a);
+        }
+        self.mixed_word(m, a)
     }
 
     /// Word `k` of a group of `n` from `a` up, or 0 where the group has no such word.

@@ -1,54 +1,156 @@
 //! The register file: values, and values that are planned.
 
-ghost use Rattle.std.specs.Prelude.{◌≡◌, ◌<◌, ℕ, None, Some, slice_set, replicate};
-ghost use Rattle.i9_model.specs.Late.{resources, cell, landed, latest, is_plan_open};
-ghost use Rattle.i9_regs.specs.File.{cell_in};
+ghost use Rattle.std.specs.Prelude.{◌≡◌, ℕ, ◌+◌, ◌<◌, ◌≤◌, None, Some};
+ghost use Rattle.std.specs.Prelude.{length, slice_index, slice_set, replicate};
+ghost use Rattle.std.specs.Int.{IsBitSet, bit_at};
+ghost use Rattle.i9_model.specs.Late.{resources, cell, landed, latest, is_plan_open, issued_cell};
+ghost use Rattle.i9_regs.specs.File.{cell_in, ArePlannedFrom, planned_cell, rest_bit};
+ghost use Rattle.i9_regs.specs.File.{issued_value, framed_value};
 
-use i9_model::Cell;
+use crate::slot::Slot;
+use i9_isa::{CONDITION_CODE, FRAME_POINTER};
+use i9_model::layout::LOCALS;
 use std::marker::Model;
+
+/// How many resources there are.
+const RESOURCES: usize = 33;
+
+/// The number of the condition code.
+const CODE: usize = CONDITION_CODE as usize;
+
+/// The first 32 bits of a set are those of the registers.
+const REGISTER_BITS: u64 = 1 << 32;
 
 /// For each of 33 resources, the 32 registers and the condition code, a value and perhaps a planned
 /// value with the turn at which it takes its place.
 #[derive(Drop)]
 pub struct File {
-    cells: [Cell; 33],
+    slots: [Slot; RESOURCES],
+    // no value is planned for an earlier turn
+    first: u64,
 }
 
 impl Model for File {
     ghost use Rattle.std.specs.Prelude.{List, ◌≡◌, length};
     ghost use Rattle.i9_model.specs.declared.need.Cell.{Cell};
     ghost use Rattle.i9_model.specs.Late.{resources};
+    ghost use Rattle.i9_regs.specs.File.{ArePlannedFrom};
 
     ghost Value = { List Cell };
 
-    ghost view = { λ f. f.cells };
+    ghost view = { λ f. f.slots };
 
-    ghost invariant = { λ f. length f.cells ≡ resources };
+    ghost invariant = { λ f. (length f.slots ≡ resources) × ArePlannedFrom f.first f.slots };
 }
 
-/// The cell once the turn has come to `turn`.
-fn land_cell(c: Cell, turn: u64) -> Cell
-    ensures { result ≡ landed turn c }
+/// Lands what is due by `turn`, and gives a turn below which no other value is planned.
+fn land_all(slots: &mut [Slot], turn: u64) -> u64
+    ensures cells { (r : ℕ) → cell_in slots.new r ≡ landed turn (cell_in slots.old r) }
+    ensures first { ArePlannedFrom result slots.new }
 {
-    match c.plan {
-        Some((value, due)) => {
-            if due <= turn {
-                Cell { value, plan: None }
-            } else {
-                c
-            }
+    let mut first = u64::MAX;
+    for s in slots.iter_mut() {
+        *s = s.landed(turn);
+        first = s.next().min(first);
+    }
+    first
+}
+
+/// Plans values from a register up, and gives the resources of a set that are left.
+fn plan_group(
+    slots: &mut [Slot; RESOURCES],
+    writes: u64,
+    done: u64,
+    register: u8,
+    values: &[u32],
+) -> u64
+    requires { register + length values.now ≤ 32 }
+    ensures cells { (r : ℕ) → cell_in slots.new r
+        ≡ planned_cell register (length values.now) values.now done r (cell_in slots.old r) }
+    ensures left { (r : ℕ) → r < 64 → bit_at result r ≡ rest_bit register (length values.now) writes r }
+{
+    let mut left = writes;
+    for k in 0..values.len() {
+        let r = register as usize + k;
+        slots[r] = slots[r].planned(values[k], done);
+        left &= !(1 << r);
+    }
+    left
+}
+
+/// Plans for each register of a set the latest value that it has.
+fn plan_each(slots: &mut [Slot; RESOURCES], left: u64, done: u64)
+    ensures registers { (r : ℕ) → r < 32 → cell_in slots.new r
+        ≡ issued_cell left done r (latest (cell_in slots.old r)) (cell_in slots.old r) }
+    ensures code { cell_in slots.new CODE ≡ cell_in slots.old CODE }
+{
+    for r in 0..32 {
+        if left >> r & 1 == 1 {
+            slots[r] = slots[r].planned(slots[r].latest(), done);
         }
-        None => c,
     }
 }
 
-/// Lands what is due by `turn`.
-fn land_all(cells: &mut [Cell], turn: u64)
-    ensures { (r : ℕ) → cell_in cells.new r ≡ landed turn (cell_in cells.old r) }
+/// As `plan_each`. Most records leave no register, and then none is looked at.
+#[tactic(auto, using(crate::proofs::Issued::low_rules))]
+fn plan_left(slots: &mut [Slot; RESOURCES], left: u64, done: u64)
+    ensures registers { (r : ℕ) → r < 32 → cell_in slots.new r
+        ≡ issued_cell left done r (latest (cell_in slots.old r)) (cell_in slots.old r) }
+    ensures code { cell_in slots.new CODE ≡ cell_in slots.old CODE }
 {
-    for c in cells.iter_mut() {
-        *c = land_cell(*c, turn);
+    if left % REGISTER_BITS != 0 {
+        plan_each(slots, left, done);
     }
+}
+
+/// Plans the condition code where it is in a set.
+fn plan_code(slots: &mut [Slot; RESOURCES], writes: u64, done: u64, code: u32)
+    ensures size { length slots.new ≡ resources }
+    ensures code { cell_in slots.new CODE ≡ issued_cell writes done CODE code (cell_in slots.old CODE) }
+    ensures registers { (r : ℕ) → r < 32 → cell_in slots.new r ≡ cell_in slots.old r }
+{
+    if writes >> CODE & 1 == 1 {
+        slots[CODE] = slots[CODE].planned(code, done);
+    }
+}
+
+/// Plans what a record leaves in the resources of a set.
+fn plan_all(
+    slots: &mut [Slot; RESOURCES],
+    writes: u64,
+    done: u64,
+    register: u8,
+    values: &[u32],
+    code: u32,
+)
+    requires range { register + length values.now ≤ 32 }
+    requires set { (k : ℕ) → k < length values.now → IsBitSet writes (register + k) }
+    ensures size { length slots.new ≡ resources }
+    ensures cells { (r : ℕ) → r < resources → cell_in slots.new r
+        ≡ issued_cell writes done r (issued_value slots.old register values.now code r) (cell_in slots.old r) }
+{
+    let left = plan_group(slots, writes, done, register, values);
+    plan_left(slots, left, done);
+    plan_code(slots, writes, done, code);
+}
+
+/// Plans what a record leaves in the resources of a set, where it enters a frame.
+fn plan_frame(
+    slots: &mut [Slot; RESOURCES],
+    writes: u64,
+    done: u64,
+    locals: &[u32; LOCALS],
+    frame: u32,
+    code: u32,
+)
+    requires locals { (k : ℕ) → k < LOCALS → IsBitSet writes k }
+    requires frame { IsBitSet writes FRAME_POINTER }
+    ensures size { length slots.new ≡ resources }
+    ensures cells { (r : ℕ) → r < resources → cell_in slots.new r
+        ≡ issued_cell writes done r (framed_value slots.old locals.now frame code r) (cell_in slots.old r) }
+{
+    let left = plan_group(slots, writes, done, FRAME_POINTER, &[frame]);
+    plan_all(slots, left, done, 0, locals, code);
 }
 
 impl File {
@@ -57,10 +159,8 @@ impl File {
         ensures { result ≡ replicate resources (cell 0 None) }
     {
         File {
-            cells: [Cell {
-                value: 0,
-                plan: None,
-            }; 33],
+            slots: [Slot::still(0); RESOURCES],
+            first: u64::MAX,
         }
     }
 
@@ -69,7 +169,7 @@ impl File {
         requires { r < resources }
         ensures { result ≡ (cell_in self.now r).value }
     {
-        self.cells[r as usize].value
+        self.slots[r as usize].value()
     }
 
     /// The planned value where there is one, else the value.
@@ -77,11 +177,18 @@ impl File {
         requires { r < resources }
         ensures { result ≡ latest (cell_in self.now r) }
     {
-        let c = self.cells[r as usize];
-        match c.plan {
-            Some((value, _)) => value,
-            None => c.value,
+        self.slots[r as usize].latest()
+    }
+
+    /// The latest values of the registers.
+    pub fn registers(&self) -> [u32; 32]
+        ensures { (r : ℕ) → r < 32 → slice_index result r ≡ latest (cell_in self.now r) }
+    {
+        let mut registers = [0; 32];
+        for r in 0..32 {
+            registers[r] = self.slots[r].latest();
         }
+        registers
     }
 
     /// Whether a value is planned for a later turn than `turn`.
@@ -89,10 +196,7 @@ impl File {
         requires { r < resources }
         ensures { result ≡ is_plan_open turn (cell_in self.now r).plan }
     {
-        match self.cells[r as usize].plan {
-            Some((_, due)) => turn < due,
-            None => false,
-        }
+        self.slots[r as usize].busy(turn)
     }
 
     /// Plans a value, which takes its place at `turn`.
@@ -101,25 +205,59 @@ impl File {
         requires free { (cell_in self.old r).plan ≡ None }
         ensures { self.new ≡ slice_set self.old r (cell (cell_in self.old r).value (Some (value, turn))) }
     {
-        self.cells[r as usize] = Cell {
-            value: self.cells[r as usize].value,
-            plan: Some((value, turn)),
-        };
+        self.slots[r as usize] = self.slots[r as usize].planned(value, turn);
+        self.first = self.first.min(turn);
     }
 
-    /// Sets the value at once.
+    /// Sets the value at once, and what was planned is dropped.
     pub fn set(&mut self, r: u8, value: u32)
-        requires range { r < resources }
-        requires free { (cell_in self.old r).plan ≡ None }
-        ensures { self.new ≡ slice_set self.old r (cell value None) }
+        requires { r < resources }
+        ensures cells { self.new ≡ slice_set self.old r (cell value None) }
+        ensures size { length self.new ≡ resources }
     {
-        self.cells[r as usize] = Cell { value, plan: None };
+        self.slots[r as usize] = Slot::still(value);
+    }
+
+    /// Plans a value for each resource of a set, which takes its place at `done`: `values` for the
+    /// registers from `register` up, `code` for the condition code, and for each other one the latest
+    /// value that it has.
+    pub fn issue(&mut self, writes: u64, done: u64, register: u8, values: &[u32], code: u32)
+        requires range { register + length values.now ≤ 32 }
+        requires set { (k : ℕ) → k < length values.now → IsBitSet writes (register + k) }
+        requires free { (r : ℕ) → r < resources → IsBitSet writes r → (cell_in self.old r).plan ≡ None }
+        ensures { (r : ℕ) → r < resources → cell_in self.new r
+            ≡ issued_cell writes done r (issued_value self.old register values.now code r) (cell_in self.old r) }
+    {
+        plan_all(&mut self.slots, writes, done, register, values, code);
+        self.first = self.first.min(done);
+    }
+
+    /// As `issue`, of a record that enters a frame: `locals` for the locals, and `frame` for the frame
+    /// pointer.
+    pub fn issue_frame(
+        &mut self,
+        writes: u64,
+        done: u64,
+        locals: &[u32; LOCALS],
+        frame: u32,
+        code: u32,
+    )
+        requires locals { (k : ℕ) → k < LOCALS → IsBitSet writes k }
+        requires frame { IsBitSet writes FRAME_POINTER }
+        requires free { (r : ℕ) → r < resources → IsBitSet writes r → (cell_in self.old r).plan ≡ None }
+        ensures { (r : ℕ) → r < resources → cell_in self.new r
+            ≡ issued_cell writes done r (framed_value self.old locals.now frame code r) (cell_in self.old r) }
+    {
+        plan_frame(&mut self.slots, writes, done, locals, frame, code);
+        self.first = self.first.min(done);
     }
 
     /// Each value that is planned for `turn` or an earlier one takes its place.
     pub fn land(&mut self, turn: u64)
         ensures { (r : ℕ) → cell_in self.new r ≡ landed turn (cell_in self.old r) }
     {
-        land_all(&mut self.cells, turn);
+        if turn >= self.first {
+            self.first = land_all(&mut self.slots, turn);
+        }
     }
 }

@@ -2,6 +2,7 @@
 #![tactic(auto)]
 
 mod file;
+mod slot;
 
 pub use file::File;
 

@@ -1,8 +1,8 @@
 -- Frames that are pushed and that come out of sets, and the room that memory has for them.
 use Rattle.std.proofs.Common.{◌≡◌, ◌+◌, ◌<◌, List, [], ◌∷◌, ◌++◌, length, sym, ap, ◌∙◌, subst, arith}
 use Rattle.i9_model.specs.declared.frame.Frame.{Frame}
-use Rattle.i9_memory.specs.declared.memory.Memory.{Memory}
-use Rattle.i9_memory.specs.Memory.{HasRoom, KeepsRoom}
+use Rattle.i9_queue.specs.declared.behind.Behind.{Behind}
+use Rattle.i9_queue.specs.Behind.{HasRoomIn, KeepsRoomIn}
 use Rattle.i9_model.specs.Memory as model
 use Rattle.i9_model.specs.Memory.{with_words}
 use Rattle.i9_model.specs.Writes.{wrapped}
@@ -19,21 +19,21 @@ oldest_held : (hs : List Frame) (f o : Frame) (rest : List Frame) → 0 < length
 oldest_held [] f o rest some e = absurd (omega arith)
 oldest_held (h ∷ hs) f o rest some e = let both = head_of h o (hs ++ f ∷ []) rest e in (hs, ap (λ (g : Frame). g ∷ hs) both.0, sym both.1)
 
-pub oldest_room : (m : Memory) (hs : List Frame) (f o : Frame) (rest : List Frame) → 0 < length hs → hs ++ f ∷ [] ≡ o ∷ rest → HaveRoom m hs → HasRoom m o.address FRAME_SIZE
+pub oldest_room : (m : Behind) (hs : List Frame) (f o : Frame) (rest : List Frame) → 0 < length hs → hs ++ f ∷ [] ≡ o ∷ rest → HaveRoom m hs → HasRoomIn m o.address FRAME_SIZE
 oldest_room m hs f o rest some e room =
     let split = oldest_held hs f o rest some e in
     let all : HaveRoom m (o ∷ split.0) = subst (HaveRoom m) split.1 room in
     all.0
 
 -- what there is room for stays so
-pub kept_room : (m k : Memory) (fs : List Frame) → KeepsRoom m k → HaveRoom m fs → HaveRoom k fs
+pub kept_room : (m k : Behind) (fs : List Frame) → KeepsRoomIn m k → HaveRoom m fs → HaveRoom k fs
 kept_room m k [] keeps room = tt
 kept_room m k (f ∷ fs) keeps room = ((λ j h. keeps (wrapped (f.address + j)) (room.0 j h)), kept_room m k fs keeps room.1)
 
-pub rest_room : (m k : Memory) (f : Frame) (fs hs : List Frame) → hs ≡ f ∷ fs → KeepsRoom m k → HaveRoom m hs → HaveRoom k fs
+pub rest_room : (m k : Behind) (f : Frame) (fs hs : List Frame) → hs ≡ f ∷ fs → KeepsRoomIn m k → HaveRoom m hs → HaveRoom k fs
 rest_room m k f fs hs e keeps room = let all : HaveRoom m (f ∷ fs) = subst (HaveRoom m) e room in kept_room m k fs keeps all.1
 
-pub first_room : (m : Memory) (f : Frame) (fs hs : List Frame) → hs ≡ f ∷ fs → HaveRoom m hs → HasRoom m f.address FRAME_SIZE
+pub first_room : (m : Behind) (f : Frame) (fs hs : List Frame) → hs ≡ f ∷ fs → HaveRoom m hs → HasRoomIn m f.address FRAME_SIZE
 first_room m f fs hs e room = let all : HaveRoom m (f ∷ fs) = subst (HaveRoom m) e room in all.0
 
 pub spill_is : (hs fs : List Frame) (f : Frame) (m : model.Memory) → hs ≡ f ∷ fs → spilled hs m ≡ cache fs (with_words m f.address f.words)

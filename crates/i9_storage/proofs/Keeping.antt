@@ -16,8 +16,8 @@ use Rattle.i9_model.proofs.FrameLaws.{sound-none, sound-saved, sound-returned, s
 use Rattle.i9_model.proofs.Runs.{writes_hazard-upwards, wrote-upwards}
 use Rattle.i9_model.proofs.Overlays.{overlaid_holding, over_stored}
 use Rattle.i9_model.proofs.HeldFrames.{write_beside, return_keeps, move_keeps, taken_alike}
-use Rattle.i9_memory.specs.declared.memory.Memory.{Memory}
-use Rattle.i9_memory.specs.Memory.{memory_of, HasRoom, KeepsRoom}
+use Rattle.i9_queue.specs.declared.behind.Behind.{Behind}
+use Rattle.i9_queue.specs.Behind.{settled, HasRoomIn, KeepsRoomIn}
 use Rattle.i9_watch.specs.declared.watch.Watch.{Watch}
 use Rattle.i9_watch.specs.Watch.{frames_of}
 use Rattle.i9_frames.specs.Sets.{Held, held}
@@ -25,7 +25,7 @@ use Rattle.i9_storage.specs.Kept.{cache_in, HaveRoom, IsKept}
 use Rattle.i9_storage.proofs.HeldRooms.{kept_room}
 
 -- frames after a step are kept, from what holds of them
-kept_by : (m k : Memory) (w v : Watch) (h g : Held) (f : Frames) → frames_of v ≡ f → IsSound f → AreYoungest g.frames f.live → HaveRoom k g.frames → IsKept k v g
+kept_by : (m k : Behind) (w v : Watch) (h g : Held) (f : Frames) → frames_of v ≡ f → IsSound f → AreYoungest g.frames f.live → HaveRoom k g.frames → IsKept k v g
 kept_by m k w v h g f is sound youngest room = record {
   sound = subst IsSound (sym is) sound;
   youngest = subst (λ (x : Frames). AreYoungest g.frames x.live) (sym is) youngest;
@@ -34,20 +34,20 @@ kept_by m k w v h g f is sound youngest room = record {
 
 -- ---- at first
 
-pub kept_new : (m : Memory) (w : Watch) (h : Held) → frames_of w ≡ no_frames → h.frames ≡ [] → IsKept m w h
+pub kept_new : (m : Behind) (w : Watch) (h : Held) → frames_of w ≡ no_frames → h.frames ≡ [] → IsKept m w h
 kept_new m w h is none =
     let young : AreYoungest [] [] = record { first = refl; whole = tt } in
     kept_by m m w w h h no_frames is sound-none (subst (λ (fs : List Frame). AreYoungest fs []) (sym none) young) (subst (HaveRoom m) (sym none) tt)
 
 -- ---- stores
 
-pub kept_store : (m k : Memory) (w v : Watch) (h : Held) (ps : List (ℕ × ℕ)) → IsKept m w h → KeepsRoom m k → frames_of v ≡ wrote (frames_of w) ps → writes_hazard (frames_of w) ps ≡ None → IsKept k v h
+pub kept_store : (m k : Behind) (w v : Watch) (h : Held) (ps : List (ℕ × ℕ)) → IsKept m w h → KeepsRoomIn m k → frames_of v ≡ wrote (frames_of w) ps → writes_hazard (frames_of w) ps ≡ None → IsKept k v h
 kept_store m k w v h ps kept keeps is free =
     kept_by m k w v h h (wrote (frames_of w) ps) is (sound-wrote (frames_of w) ps kept.sound free) kept.youngest (kept_room m k h.frames keeps kept.room)
 
-pub store_laid : (m k : Memory) (w : Watch) (h : Held) (ps : List (ℕ × ℕ)) → IsKept m w h → writes_hazard (frames_of w) ps ≡ None → memory_of k ≡ with_writes (memory_of m) ps → overlaid (cache_in k h) ≡ with_writes (overlaid (cache_in m h)) ps
+pub store_laid : (m k : Behind) (w : Watch) (h : Held) (ps : List (ℕ × ℕ)) → IsKept m w h → writes_hazard (frames_of w) ps ≡ None → settled k ≡ with_writes (settled m) ps → overlaid (cache_in k h) ≡ with_writes (overlaid (cache_in m h)) ps
 store_laid m k w h ps kept free is =
-    ap (over h.frames) is ∙ over_stored h.frames (memory_of m) ps kept.youngest.whole (write_beside (frames_of w) ps h.frames kept.youngest free)
+    ap (over h.frames) is ∙ over_stored h.frames (settled m) ps kept.youngest.whole (write_beside (frames_of w) ps h.frames kept.youngest free)
 
 -- a run of bytes that meets no live frame is writes that meet none
 pub run_free : (f : Frames) (a : ℕ) (bs : List ℕ) → write_hazard f a (length bs) ≡ None → writes_hazard f (upwards a bs) ≡ None
@@ -61,20 +61,20 @@ run_wrote f g a bs is = is ∙ sym (wrote-upwards f a bs)
 
 -- ---- saves
 
-room_push : (m : Memory) (hs : List Frame) (f : Frame) → HaveRoom m hs → HasRoom m f.address FRAME_SIZE → HaveRoom m (hs ++ f ∷ [])
+room_push : (m : Behind) (hs : List Frame) (f : Frame) → HaveRoom m hs → HasRoomIn m f.address FRAME_SIZE → HaveRoom m (hs ++ f ∷ [])
 room_push m [] f all room = (room, tt)
 room_push m (h ∷ hs) f all room = (all.0, room_push m hs f all.1 room)
 
-room_spilled : (m : Memory) (hs : List Frame) (b : model.Memory) → HaveRoom m hs → HaveRoom m (spilled hs b).held
+room_spilled : (m : Behind) (hs : List Frame) (b : model.Memory) → HaveRoom m hs → HaveRoom m (spilled hs b).held
 room_spilled m [] b all = tt
 room_spilled m (h ∷ hs) b all = all.1
 
-room_by : (m : Memory) (t : Bool) (c : Cache) → HaveRoom m c.held → HaveRoom m (cond t c (spilled c.held c.behind)).held
+room_by : (m : Behind) (t : Bool) (c : Cache) → HaveRoom m c.held → HaveRoom m (cond t c (spilled c.held c.behind)).held
 room_by m true c all = all
 room_by m false c all = room_spilled m c.held c.behind all
 
-pub kept_save : (m k : Memory) (w v : Watch) (h g : Held) (f : Frame) → IsKept m w h → KeepsRoom m k → frames_of v ≡ saved (frames_of w) f.address → save_hazard (frames_of w) f.address ≡ None
-    → cache_in k g ≡ holding h.size f (cache_in m h) → length f.words ≡ LOCALS → HasRoom m f.address FRAME_SIZE → IsKept k v g
+pub kept_save : (m k : Behind) (w v : Watch) (h g : Held) (f : Frame) → IsKept m w h → KeepsRoomIn m k → frames_of v ≡ saved (frames_of w) f.address → save_hazard (frames_of w) f.address ≡ None
+    → cache_in k g ≡ holding h.size f (cache_in m h) → length f.words ≡ LOCALS → HasRoomIn m f.address FRAME_SIZE → IsKept k v g
 kept_save m k w v h g f kept keeps is free held whole room =
     let c = cache_in m h in
     let frames : g.frames ≡ (holding h.size f c).held = ap (λ (d : Cache). d.held) held in
@@ -88,12 +88,12 @@ save_laid n f c d e = ap overlaid e ∙ overlaid_holding n f c
 
 -- ---- returns
 
-room_take : (m : Memory) (n : ℕ) (hs : List Frame) → HaveRoom m hs → HaveRoom m (take n hs)
+room_take : (m : Behind) (n : ℕ) (hs : List Frame) → HaveRoom m hs → HaveRoom m (take n hs)
 room_take m zero hs all = tt
 room_take m (suc n) [] all = tt
 room_take m (suc n) (h ∷ hs) all = (all.0, room_take m n hs all.1)
 
-pub kept_return : (m : Memory) (w v : Watch) (h g : Held) → IsKept m w h → frames_of v ≡ returned (frames_of w) → g ≡ held h.size (take (length h.frames - 1) h.frames) → IsKept m v g
+pub kept_return : (m : Behind) (w v : Watch) (h g : Held) → IsKept m w h → frames_of v ≡ returned (frames_of w) → g ≡ held h.size (take (length h.frames - 1) h.frames) → IsKept m v g
 kept_return m w v h g kept is taken =
     let left = take (length h.frames - 1) h.frames in
     let here : IsKept m v (held h.size left) =
@@ -101,13 +101,13 @@ kept_return m w v h g kept is taken =
     (room_take m (length h.frames - 1) h.frames kept.room) in
     subst (IsKept m v) (sym taken) here
 
-pub return_laid : (m : Memory) (w : Watch) (h g : Held) → IsKept m w h → g ≡ held h.size (take (length h.frames - 1) h.frames) → AgreeWhere (is_compared (returned (frames_of w))) (overlaid (cache_in m h)) (overlaid (cache_in m g)).bytes
+pub return_laid : (m : Behind) (w : Watch) (h g : Held) → IsKept m w h → g ≡ held h.size (take (length h.frames - 1) h.frames) → AgreeWhere (is_compared (returned (frames_of w))) (overlaid (cache_in m h)) (overlaid (cache_in m g)).bytes
 return_laid m w h g kept is =
-    subst (λ (x : Held). AgreeWhere (is_compared (returned (frames_of w))) (overlaid (cache_in m h)) (overlaid (cache_in m x)).bytes) (sym is) (taken_alike h.frames (memory_of m) (frames_of w) kept.sound kept.youngest)
+    subst (λ (x : Held). AgreeWhere (is_compared (returned (frames_of w))) (overlaid (cache_in m h)) (overlaid (cache_in m x)).bytes) (sym is) (taken_alike h.frames (settled m) (frames_of w) kept.sound kept.youngest)
 
 -- ---- flushes
 
-pub kept_flush : (m k : Memory) (w v : Watch) (h g : Held) → IsKept m w h → frames_of v ≡ flushed (frames_of w) → cache_in k g ≡ written_back (cache_in m h) → IsKept k v g
+pub kept_flush : (m k : Behind) (w v : Watch) (h g : Held) → IsKept m w h → frames_of v ≡ flushed (frames_of w) → cache_in k g ≡ written_back (cache_in m h) → IsKept k v g
 kept_flush m k w v h g kept is written =
     let none : g.frames ≡ [] = ap (λ (d : Cache). d.held) written in
     let young : AreYoungest [] [] = record { first = refl; whole = tt } in
@@ -119,5 +119,5 @@ flush_laid c d e = ap overlaid e
 
 -- ---- room
 
-pub kept_reserve : (m k : Memory) (w v : Watch) (h : Held) → IsKept m w h → KeepsRoom m k → frames_of v ≡ frames_of w → IsKept k v h
+pub kept_reserve : (m k : Behind) (w v : Watch) (h : Held) → IsKept m w h → KeepsRoomIn m k → frames_of v ≡ frames_of w → IsKept k v h
 kept_reserve m k w v h kept keeps is = kept_by m k w v h h (frames_of w) is kept.sound kept.youngest (kept_room m k h.frames keeps kept.room)

@@ -1,4 +1,4 @@
--- What is planned by reads that meet no hazard is planned by the memory behind the held frames.
+-- What is planned by reads that meet no hazard is planned by the memory behind the held frames, as it is lent.
 use Rattle.std.proofs.Common.{◌≡◌, ℕ, false, cond, List, Option, None, Some, Result, Ok, Err, sym, ap, ◌∙◌, subst, arith}
 use Rattle.std.specs.Prelude.{not, IfOk}
 use Rattle.std.proofs.lemmas.Bool.{or_right}
@@ -25,8 +25,8 @@ use Rattle.i9_model.proofs.AlikeFetches.{unless_same, planned_calls_same, planne
 use Rattle.i9_model.proofs.AlikeActions.{request_same}
 use Rattle.i9_model.proofs.Units.{bytes_same}
 use Rattle.i9_model.proofs.AlikeInterrupts.{chosen_soft_same, planned_same, cleared_same}
-use Rattle.i9_memory.specs.declared.memory.Memory.{Memory}
-use Rattle.i9_memory.specs.Memory.{memory_of}
+use Rattle.i9_queue.specs.declared.behind.Behind.{Behind}
+use Rattle.i9_queue.specs.Behind.{settled}
 use Rattle.i9_watch.specs.declared.watch.Watch.{Watch}
 use Rattle.i9_watch.specs.Watch.{frames_of}
 use Rattle.i9_frames.specs.Sets.{Held}
@@ -35,63 +35,68 @@ use Rattle.i9_storage.specs.Kept.{cache_in, IsKept}
 use Rattle.i9_storage.proofs.HeldBytes.{laid_other}
 
 -- a byte that is not soft is in no held frame
-pub hard_byte : (m : Memory) (w : Watch) (h : Held) (a : ℕ) → IsKept m w h → (frames_of w).soft a ≡ false → (memory_of m).bytes a ≡ (overlaid (cache_in m h)).bytes a
+pub hard_byte : (m : Behind) (w : Watch) (h : Held) (a : ℕ) → IsKept m w h → (frames_of w).soft a ≡ false → (settled m).bytes a ≡ (overlaid (cache_in m h)).bytes a
 hard_byte m w h a kept hard =
     let c = cache_in m h in
     let f = frames_of w in
     sym (hard_behind c f kept.sound kept.youngest a (or_right (is_beyond a) (not (f.soft a)) (ap not hard)))
 
-pub hard_half : (m : Memory) (w : Watch) (h : Held) (a : ℕ) → IsKept m w h → read_hazard (frames_of w) a 2 ≡ None → half_in (memory_of m) a ≡ half_in (overlaid (cache_in m h)) a
+pub hard_half : (m : Behind) (w : Watch) (h : Held) (a : ℕ) → IsKept m w h → read_hazard (frames_of w) a 2 ≡ None → half_in (settled m) a ≡ half_in (overlaid (cache_in m h)) a
 hard_half m w h a kept none =
     let c = cache_in m h in
-    sym (half_same (frames_of w) (memory_of m) (overlaid c).bytes a (hard_behind c (frames_of w) kept.sound kept.youngest) none)
+    sym (half_same (frames_of w) (settled m) (overlaid c).bytes a (hard_behind c (frames_of w) kept.sound kept.youngest) none)
     ∙ ap (λ (x : model.Memory). half_in x a) (laid_other c)
 
-pub hard_word : (m : Memory) (w : Watch) (h : Held) (a : ℕ) → IsKept m w h → read_hazard (frames_of w) a 4 ≡ None → word_in (memory_of m) a ≡ word_in (overlaid (cache_in m h)) a
+pub hard_word : (m : Behind) (w : Watch) (h : Held) (a : ℕ) → IsKept m w h → read_hazard (frames_of w) a 4 ≡ None → word_in (settled m) a ≡ word_in (overlaid (cache_in m h)) a
 hard_word m w h a kept none =
     let c = cache_in m h in
-    sym (word_same (frames_of w) (memory_of m) (overlaid c).bytes a 4 (hard_behind c (frames_of w) kept.sound kept.youngest) none (omega arith))
+    sym (word_same (frames_of w) (settled m) (overlaid c).bytes a 4 (hard_behind c (frames_of w) kept.sound kept.youngest) none (omega arith))
     ∙ ap (λ (x : model.Memory). word_in x a) (laid_other c)
 
 pub ruleset hard_rules = (hard_byte, hard_half, hard_word)
 
-pub calls_laid : (m : Memory) (w : Watch) (h : Held) (table n pc fp sp : ℕ) → IsKept m w h → planned_calls (memory_of m) (frames_of w) table n pc fp sp ≡ planned_calls (overlaid (cache_in m h)) (frames_of w) table n pc fp sp
-calls_laid m w h table n pc fp sp kept =
+pub calls_laid : (lent : model.Memory) (m : Behind) (w : Watch) (h : Held) (table n pc fp sp : ℕ) → lent ≡ settled m → IsKept m w h → planned_calls lent (frames_of w) table n pc fp sp ≡ planned_calls (overlaid (cache_in m h)) (frames_of w) table n pc fp sp
+calls_laid lent m w h table n pc fp sp is kept =
     let c = cache_in m h in
     let f = frames_of w in
-    sym (planned_calls_same f (memory_of m) (overlaid c).bytes table n pc fp sp (hard_behind c f kept.sound kept.youngest))
+    ap (λ (x : model.Memory). planned_calls x f table n pc fp sp) is
+    ∙ sym (planned_calls_same f (settled m) (overlaid c).bytes table n pc fp sp (hard_behind c f kept.sound kept.youngest))
     ∙ ap (λ (x : model.Memory). planned_calls x f table n pc fp sp) (laid_other c)
 
-pub ret_laid : (m : Memory) (w : Watch) (h : Held) (pfp fp pc ac : ℕ) → IsKept m w h → planned_ret (memory_of m) (frames_of w) pfp fp pc ac ≡ planned_ret (overlaid (cache_in m h)) (frames_of w) pfp fp pc ac
-ret_laid m w h pfp fp pc ac kept =
+pub ret_laid : (lent : model.Memory) (m : Behind) (w : Watch) (h : Held) (pfp fp pc ac : ℕ) → lent ≡ settled m → IsKept m w h → planned_ret lent (frames_of w) pfp fp pc ac ≡ planned_ret (overlaid (cache_in m h)) (frames_of w) pfp fp pc ac
+ret_laid lent m w h pfp fp pc ac is kept =
     let c = cache_in m h in
     let f = frames_of w in
-    sym (planned_ret_same f (memory_of m) (overlaid c).bytes pfp fp pc ac (hard_behind c f kept.sound kept.youngest))
+    ap (λ (x : model.Memory). planned_ret x f pfp fp pc ac) is
+    ∙ sym (planned_ret_same f (settled m) (overlaid c).bytes pfp fp pc ac (hard_behind c f kept.sound kept.youngest))
     ∙ ap (λ (x : model.Memory). planned_ret x f pfp fp pc ac) (laid_other c)
 
-pub fault_laid : (m : Memory) (w : Watch) (h : Held) (table system : ℕ) (fault : Fault) (pc ac fp sp : ℕ) → IsKept m w h
-    → planned_fault (memory_of m) (frames_of w) table system fault pc ac fp sp ≡ planned_fault (overlaid (cache_in m h)) (frames_of w) table system fault pc ac fp sp
-fault_laid m w h table system fault pc ac fp sp kept =
+pub fault_laid : (lent : model.Memory) (m : Behind) (w : Watch) (h : Held) (table system : ℕ) (fault : Fault) (pc ac fp sp : ℕ) → lent ≡ settled m → IsKept m w h
+    → planned_fault lent (frames_of w) table system fault pc ac fp sp ≡ planned_fault (overlaid (cache_in m h)) (frames_of w) table system fault pc ac fp sp
+fault_laid lent m w h table system fault pc ac fp sp is kept =
     let c = cache_in m h in
     let f = frames_of w in
-    sym (planned_fault_same f (memory_of m) (overlaid c).bytes table system fault pc ac fp sp (hard_behind c f kept.sound kept.youngest))
+    ap (λ (x : model.Memory). planned_fault x f table system fault pc ac fp sp) is
+    ∙ sym (planned_fault_same f (settled m) (overlaid c).bytes table system fault pc ac fp sp (hard_behind c f kept.sound kept.youngest))
     ∙ ap (λ (x : model.Memory). planned_fault x f table system fault pc ac fp sp) (laid_other c)
 
 -- ---- interrupts
 
-pub chosen_laid : (m : Memory) (w : Watch) (h : Held) (i : Interrupts) (table pc : ℕ) → IsKept m w h → chosen_soft i (memory_of m) (frames_of w) table pc ≡ chosen_soft i (overlaid (cache_in m h)) (frames_of w) table pc
-chosen_laid m w h i table pc kept =
+pub chosen_laid : (lent : model.Memory) (m : Behind) (w : Watch) (h : Held) (i : Interrupts) (table pc : ℕ) → lent ≡ settled m → IsKept m w h → chosen_soft i lent (frames_of w) table pc ≡ chosen_soft i (overlaid (cache_in m h)) (frames_of w) table pc
+chosen_laid lent m w h i table pc is kept =
     let c = cache_in m h in
     let f = frames_of w in
-    sym (chosen_soft_same i f (memory_of m) (overlaid c).bytes table pc (hard_behind c f kept.sound kept.youngest))
+    ap (λ (x : model.Memory). chosen_soft i x f table pc) is
+    ∙ sym (chosen_soft_same i f (settled m) (overlaid c).bytes table pc (hard_behind c f kept.sound kept.youngest))
     ∙ ap (λ (x : model.Memory). chosen_soft i x f table pc) (laid_other c)
 
-pub interrupt_laid : (m : Memory) (w : Watch) (h : Held) (table stack : ℕ) (chosen : Chosen) (pc ac fp sp : ℕ) → IsKept m w h
-    → planned_interrupt (memory_of m) (frames_of w) table stack chosen pc ac fp sp ≡ planned_interrupt (overlaid (cache_in m h)) (frames_of w) table stack chosen pc ac fp sp
-interrupt_laid m w h table stack chosen pc ac fp sp kept =
+pub interrupt_laid : (lent : model.Memory) (m : Behind) (w : Watch) (h : Held) (table stack : ℕ) (chosen : Chosen) (pc ac fp sp : ℕ) → lent ≡ settled m → IsKept m w h
+    → planned_interrupt lent (frames_of w) table stack chosen pc ac fp sp ≡ planned_interrupt (overlaid (cache_in m h)) (frames_of w) table stack chosen pc ac fp sp
+interrupt_laid lent m w h table stack chosen pc ac fp sp is kept =
     let c = cache_in m h in
     let f = frames_of w in
-    sym (planned_same f (memory_of m) (overlaid c).bytes table stack chosen pc ac fp sp (hard_behind c f kept.sound kept.youngest))
+    ap (λ (x : model.Memory). planned_interrupt x f table stack chosen pc ac fp sp) is
+    ∙ sym (planned_same f (settled m) (overlaid c).bytes table stack chosen pc ac fp sp (hard_behind c f kept.sound kept.youngest))
     ∙ ap (λ (x : model.Memory). planned_interrupt x f table stack chosen pc ac fp sp) (laid_other c)
 
 -- what chose an interrupt whose entry is planned can be cleared
@@ -116,37 +121,40 @@ plan_clears m f table stack c pc ac fp sp (Err a) is = tt
 behind_other : (c : Cache) → with_other (overlaid c) c.behind.bytes ≡ c.behind
 behind_other c = ap (λ (k : ℕ → ℕ). record { bytes = c.behind.bytes; mcon = k }) (over_mcon c.held c.behind)
 
-pub clearing_laid : (m : Memory) (w : Watch) (h : Held) (table : ℕ) (chosen : Chosen) (push : Push) (words : List ℕ) → IsKept m w h → cleared_hazard (overlaid (cache_in m h)) (frames_of w) table chosen push words ≡ None
-    → clearing_writes chosen.cause (with_writes (memory_of m) (record_writes (memory_of m) push words)) table chosen.vector
+pub clearing_laid : (lent : model.Memory) (m : Behind) (w : Watch) (h : Held) (table : ℕ) (chosen : Chosen) (push : Push) (words : List ℕ) → lent ≡ settled m → IsKept m w h → cleared_hazard (overlaid (cache_in m h)) (frames_of w) table chosen push words ≡ None
+    → clearing_writes chosen.cause (with_writes lent (record_writes lent push words)) table chosen.vector
     ≡ clearing_writes chosen.cause (with_writes (overlaid (cache_in m h)) (record_writes (overlaid (cache_in m h)) push words)) table chosen.vector
-clearing_laid m w h table chosen push words kept none =
+clearing_laid lent m w h table chosen push words is kept none =
     let c = cache_in m h in
     let f = frames_of w in
     let same : AgreeWhere (is_hard f) (overlaid c) c.behind.bytes = λ x hard. sym (hard_behind c f kept.sound kept.youngest x hard) in
-    sym (ap (λ (x : model.Memory). clearing_writes chosen.cause (with_writes x (record_writes x push words)) table chosen.vector) (behind_other c))
+    ap (λ (x : model.Memory). clearing_writes chosen.cause (with_writes x (record_writes x push words)) table chosen.vector) (is ∙ sym (behind_other c))
     ∙ cleared_same f (overlaid c) c.behind.bytes table chosen push words same none
 
-pub request_laid : (m : Memory) (w : Watch) (h : Held) (table v : ℕ) → IsKept m w h
-    → unless (request_hazard (frames_of w) table v) (request_writes (memory_of m) table v) ≡ unless (request_hazard (frames_of w) table v) (request_writes (overlaid (cache_in m h)) table v)
-request_laid m w h table v kept =
+pub request_laid : (lent : model.Memory) (m : Behind) (w : Watch) (h : Held) (table v : ℕ) → lent ≡ settled m → IsKept m w h
+    → unless (request_hazard (frames_of w) table v) (request_writes lent table v) ≡ unless (request_hazard (frames_of w) table v) (request_writes (overlaid (cache_in m h)) table v)
+request_laid lent m w h table v is kept =
     let c = cache_in m h in
     let f = frames_of w in
     let hazard = request_hazard f table v in
-    sym (unless_same hazard (request_writes (memory_of m) table v) (request_writes (with_other (memory_of m) (overlaid c).bytes) table v)
-    (λ none. request_same f (memory_of m) (overlaid c).bytes table v (hard_behind c f kept.sound kept.youngest) none))
+    ap (λ (x : model.Memory). unless hazard (request_writes x table v)) is
+    ∙ sym (unless_same hazard (request_writes (settled m) table v) (request_writes (with_other (settled m) (overlaid c).bytes) table v)
+    (λ none. request_same f (settled m) (overlaid c).bytes table v (hard_behind c f kept.sound kept.youngest) none))
     ∙ ap (λ (x : model.Memory). unless hazard (request_writes x table v)) (laid_other c)
 
 -- ---- DMA
 
-pub unit_laid : (m : Memory) (w : Watch) (h : Held) (d : Dma) (k : ℕ) (given : Option (List ℕ)) → IsKept m w h
-    → planned_bytes (memory_of m) (frames_of w) d k given ≡ planned_bytes (overlaid (cache_in m h)) (frames_of w) d k given
+pub unit_laid : (lent : model.Memory) (m : Behind) (w : Watch) (h : Held) (d : Dma) (k : ℕ) (given : Option (List ℕ)) → lent ≡ settled m → IsKept m w h
+    → planned_bytes lent (frames_of w) d k given ≡ planned_bytes (overlaid (cache_in m h)) (frames_of w) d k given
 unfolding planned_bytes
-unit_laid m w h d k given kept =
+unit_laid lent m w h d k given is kept =
     let c = cache_in m h in
     let f = frames_of w in
     let channel = d.channels k in
     let hazard = unit_hazard f channel given in
-    let other = with_other (memory_of m) (overlaid c).bytes in
-    sym (ap (cond (is_idle d k given) (Ok None)) (unless_same hazard (Some (unit_bytes (memory_of m) channel given)) (Some (unit_bytes other channel given))
-    (λ none. ap (λ (bs : List ℕ). Some bs) (bytes_same f (memory_of m) (overlaid c).bytes channel given (hard_behind c f kept.sound kept.youngest) none))))
-    ∙ ap (λ (x : model.Memory). cond (is_idle d k given) (Ok None) (unless hazard (Some (unit_bytes x channel given)))) (laid_other c)
+    let other = with_other (settled m) (overlaid c).bytes in
+    let of : model.Memory → Result (Option (List ℕ)) ℕ = λ x. cond (is_idle d k given) (Ok None) (unless hazard (Some (unit_bytes x channel given))) in
+    ap of is
+    ∙ sym (ap (cond (is_idle d k given) (Ok None)) (unless_same hazard (Some (unit_bytes (settled m) channel given)) (Some (unit_bytes other channel given))
+    (λ none. ap (λ (bs : List ℕ). Some bs) (bytes_same f (settled m) (overlaid c).bytes channel given (hard_behind c f kept.sound kept.youngest) none))))
+    ∙ ap of (laid_other c)

@@ -16,8 +16,8 @@ use Rattle.i9_model.proofs.FrameBytes.{frame_byte}
 use Rattle.i9_model.proofs.Overlays.{words_mcon, over_push}
 use Rattle.i9_model.proofs.HeldFrames.{first_is}
 use Rattle.i9_model.proofs.HeldWords.{four_list, by_order, same_four}
-use Rattle.i9_memory.specs.declared.memory.Memory.{Memory as Kept}
-use Rattle.i9_memory.specs.Memory.{memory_of}
+use Rattle.i9_queue.specs.declared.behind.Behind.{Behind}
+use Rattle.i9_queue.specs.Behind.{settled}
 use Rattle.i9_watch.specs.declared.watch.Watch.{Watch}
 use Rattle.i9_watch.specs.Watch.{frames_of}
 use Rattle.i9_frames.specs.Sets.{Held}
@@ -85,14 +85,14 @@ last_is fs f is =
     let below : n < length fs = omega arith in
     sym (take_all (n + 1) fs (omega arith)) ∙ take_more fs n f below ∙ ap (λ (g : Frame). take n fs ++ g ∷ []) (place_of fs 0 f some is)
 
-pub youngest_is : (m : Kept) (w : Watch) (h : Held) (f : Frame) → IsKept m w h → Some f ≡ slice_get (reverse h.frames) 0 → f.address < 2 ^ 32 → length f.words ≡ LOCALS → ((k : ℕ) → get_or f.words k 0 < 2 ^ 32)
+pub youngest_is : (m : Behind) (w : Watch) (h : Held) (f : Frame) → IsKept m w h → Some f ≡ slice_get (reverse h.frames) 0 → f.address < 2 ^ 32 → length f.words ≡ LOCALS → ((k : ℕ) → get_or f.words k 0 < 2 ^ 32)
     → f.words ≡ words_in (overlaid (cache_in m h)) f.address LOCALS
 youngest_is m w h f kept is low whole small =
     let front = take (length h.frames - 1) h.frames in
     let last = last_is h.frames f is in
     let live = (frames_of w).live in
     let first = first_is front f live (subst (λ (fs : List Frame). AreYoungest fs live) last kept.youngest) in
-    words_back (over front (memory_of m)) f low whole small (λ j l.
+    words_back (over front (settled m)) f low whole small (λ j l.
     let x = wrapped (f.address + j) in
     kept.sound.outside x (ap (λ (l : List ℕ). in_frames l x) first.1 ∙ or_left (in_bytes f.address FRAME_SIZE x) (in_frames first.0 x) (in_bytes-has f.address FRAME_SIZE j l)))
-    ∙ sym (ap (λ (n : Memory). words_in n f.address LOCALS) (ap (λ (fs : List Frame). over fs (memory_of m)) last ∙ over_push front f (memory_of m)))
+    ∙ sym (ap (λ (n : Memory). words_in n f.address LOCALS) (ap (λ (fs : List Frame). over fs (settled m)) last ∙ over_push front f (settled m)))

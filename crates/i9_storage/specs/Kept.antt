@@ -10,32 +10,34 @@ use Rattle.i9_model.specs.Memory.{word_bytes}
 use Rattle.i9_model.specs.Sound.{AreApart, IsSound}
 use Rattle.i9_model.specs.HeldFrames.{Cache, cache, over, AreYoungest}
 use Rattle.i9_memory.specs.declared.memory.Memory.{Memory}
-use Rattle.i9_memory.specs.Memory.{memory_of, IsReserved, HasRoom}
+use Rattle.i9_memory.specs.Memory.{IsReserved}
+use Rattle.i9_queue.specs.declared.behind.Behind.{Behind}
+use Rattle.i9_queue.specs.Behind.{settled, HasRoomIn}
 use Rattle.i9_watch.specs.declared.watch.Watch.{Watch}
 use Rattle.i9_watch.specs.Watch.{frames_of}
 use Rattle.i9_frames.specs.Sets.{Held}
 
--- what is held, and the memory behind it
-abbrev pub cache_in : Memory → Held → Cache
-cache_in m h = cache h.frames (memory_of m)
+-- what is held, and the memory behind it after all that waits
+abbrev pub cache_in : Behind → Held → Cache
+cache_in b h = cache h.frames (settled b)
 
 -- memory with the held frames laid over it, but for so many of the youngest
-abbrev pub laid_without : ℕ → Memory → Held → model.Memory
-laid_without k m h = over (take (length h.frames - k) h.frames) (memory_of m)
+abbrev pub laid_without : ℕ → Behind → Held → model.Memory
+laid_without k b h = over (take (length h.frames - k) h.frames) (settled b)
 
 -- the byte so far above the address of a frame, in the order that its word has there
-abbrev pub byte_in_frame : Memory → Frame → ℕ → ℕ
-byte_in_frame m f above = slice_index (word_bytes (memory_of m) (wrapped (f.address + 4 * (above / 4))) (slice_index f.words (above / 4))) (above % 4)
+abbrev pub byte_in_frame : Behind → Frame → ℕ → ℕ
+byte_in_frame b f above = slice_index (word_bytes (settled b) (wrapped (f.address + 4 * (above / 4))) (slice_index f.words (above / 4))) (above % 4)
 
 -- each of these frames can be written to memory
-abbrev pub HaveRoom : Memory → List Frame → Type 0
-HaveRoom m fs = AllByRecursion (λ f. HasRoom m f.address FRAME_SIZE) fs
+abbrev pub HaveRoom : Behind → List Frame → Type 0
+HaveRoom b fs = AllByRecursion (λ f. HasRoomIn b f.address FRAME_SIZE) fs
 
 -- frames are sound, the youngest live ones are held, and memory has room for these
-pub record IsKept (m : Memory) (w : Watch) (h : Held) : Type 0 where
+pub record IsKept (b : Behind) (w : Watch) (h : Held) : Type 0 where
   pub sound : IsSound (frames_of w)
   pub youngest : AreYoungest h.frames (frames_of w).live
-  pub room : HaveRoom m h.frames
+  pub room : HaveRoom b h.frames
 
 -- ---- there is at most one proof of it
 
@@ -47,5 +49,5 @@ AreApart-prop : (live : List ℕ) → IsProp (AreApart live)
 AreApart-prop [] = hlevel props
 AreApart-prop (f ∷ live) = hlevel (props, AreApart-prop live)
 
-pub IsKept-prop : (m : Memory) (w : Watch) (h : Held) → IsProp (IsKept m w h)
-IsKept-prop m w h = hlevel (props, IsReserved-prop, AreApart-prop, AllByRecursion-prop)
+pub IsKept-prop : (b : Behind) (w : Watch) (h : Held) → IsProp (IsKept b w h)
+IsKept-prop b w h = hlevel (props, IsReserved-prop, AreApart-prop, AllByRecursion-prop)

@@ -1,17 +1,18 @@
 -- What storage stands for: memory with the held frames laid over it, and the frames that may be returned to.
-use Rattle.std.specs.Prelude.{ℕ, ◌<◌}
+use Rattle.std.specs.Prelude.{◌≡◌, ℕ, ◌<◌, List, []}
 use Rattle.i9_model.specs.declared.layout.TheConstants.{FRAME_SIZE}
 use Rattle.i9_model.specs.Memory.{Memory}
 use Rattle.i9_model.specs.State.{Frames}
 use Rattle.i9_model.specs.HeldFrames.{Cache, overlaid}
-use Rattle.i9_memory.specs.Memory.{HasRoom, KeepsRoom}
+use Rattle.i9_model.specs.Late.{Wait}
+use Rattle.i9_queue.specs.Behind.{acted, waiting_of, HasRoomIn, KeepsRoomIn}
 use Rattle.i9_watch.specs.Watch.{frames_of, spare_of, HasFrameMarks}
 use Rattle.i9_storage.specs.declared.storage.Storage.{Storage}
 use Rattle.i9_storage.specs.Kept.{cache_in}
 
--- what is held, and the memory behind it
+-- what is held, and the memory behind it after all that waits
 abbrev pub cache_of : Storage → Cache
-cache_of s = cache_in s.memory s.sets
+cache_of s = cache_in s.behind s.sets
 
 -- memory with the held frames laid over it
 abbrev pub memory_in : Storage → Memory
@@ -25,13 +26,25 @@ frames_in s = frames_of s.watch
 abbrev pub size_of : Storage → ℕ
 size_of s = s.sets.size
 
+-- the requests that wait to be stored in memory, the oldest first
+abbrev pub waiting_in : Storage → List Wait
+waiting_in s = waiting_of s.behind
+
+-- memory behind the held frames, without those
+abbrev pub acted_in : Storage → Memory
+acted_in s = acted s.behind
+
+-- none waits
+abbrev pub IsDrained : Storage → Type 0
+IsDrained s = waiting_in s ≡ []
+
 -- so many bytes from an address up can be stored
 abbrev pub HasSpace : Storage → ℕ → ℕ → Type 0
-HasSpace s a n = HasRoom s.memory a n
+HasSpace s a n = HasRoomIn s.behind a n
 
 -- a frame can be saved at an address
 pub record HasFrameSpace (s : Storage) (a : ℕ) : Type 0 where
-  pub bytes : HasRoom s.memory a FRAME_SIZE
+  pub bytes : HasRoomIn s.behind a FRAME_SIZE
   pub spare : 0 < spare_of s.watch
   pub marks : HasFrameMarks s.watch a
 
@@ -41,4 +54,4 @@ KeepsFrameSpace old new = (a : ℕ) → HasFrameSpace old a → HasFrameSpace ne
 
 -- what could be stored still can be
 abbrev pub KeepsSpace : Storage → Storage → Type 0
-KeepsSpace old new = KeepsRoom old.memory new.memory
+KeepsSpace old new = KeepsRoomIn old.behind new.behind

@@ -1,13 +1,17 @@
-//! Memory, and the frames that are held in place of it.
-ghost use Rattle.std.specs.Prelude.{◌≡◌, ◌+◌, ◌-◌, ◌%◌, ◌^◌, ◌<◌, ◌≤◌, None, Some, OnOk, OnErr, IfOk, [], length, take};
-ghost use Rattle.i9_model.specs.Memory.{with_bytes, with_words};
+//! Memory, the requests that wait to be stored in it, and the frames that are held in place of it.
+ghost use Rattle.std.specs.Prelude.{◌≡◌, ◌+◌, ◌-◌, ◌%◌, ◌^◌, ◌<◌, ◌≤◌, ◌↔◌, ◌∷◌, ◌++◌, [], length, take};
+ghost use Rattle.std.specs.Prelude.{IsTrue, None, Some, OnOk, OnErr, IfOk};
+ghost use Rattle.std.specs.List.{AllByRecursion};
+ghost use Rattle.i9_model.specs.Memory.{with_bytes, with_words, stored};
 ghost use Rattle.i9_model.specs.Frames.{no_frames, saved, returned, flushed, wrote};
 ghost use Rattle.i9_model.specs.Writes.{upwards};
 ghost use Rattle.i9_model.specs.Hazards.{writes_hazard, save_hazard};
 ghost use Rattle.i9_model.specs.Sound.{IsSound};
 ghost use Rattle.i9_model.specs.Alike.{is_compared, AgreeWhere};
 ghost use Rattle.i9_model.specs.HeldFrames.{cache, AreYoungest, holding, taken, written_back, cache_stored};
-ghost use Rattle.i9_memory.specs.Memory.{memory_of, HasRoom, KeepsRoom};
+ghost use Rattle.i9_model.specs.Late.{due_puts, left_waiting};
+ghost use Rattle.i9_memory.specs.Memory.{memory_of};
+ghost use Rattle.i9_queue.specs.Queue.{wait_in};
 ghost use Rattle.i9_watch.specs.Watch.{frames_of};
 ghost use Rattle.i9_frames.specs.Sets.{held};
 ghost use Rattle.i9_storage.specs.Kept.{IsKept, IsKept-prop};
@@ -20,25 +24,28 @@ use i9_frames::{Frame, Sets};
 use i9_isa::NoMemory;
 use i9_memory::Memory;
 use i9_model::layout::FRAME_SIZE;
+use i9_queue::{Behind, Request};
 use i9_watch::Watch;
 use spilling::{hold, write_back};
 use std::alloc::Global;
 
 /// Memory as the accesses of a run see it. A frame that is saved is held in a set of the local
 /// register cache, and its words go to memory where another frame needs that set, or at a flush
-/// (the i960 CA/CF User's Manual, local register cache). What is read is memory with the held
-/// frames laid over it, the oldest first.
+/// (the i960 CA/CF User's Manual, local register cache). A store may wait before it is in memory, and
+/// lies under the held frames too. What is read is memory after all that waits, with the held frames
+/// laid over it, the oldest first.
 ///
 /// It keeps true that
 /// - live frames are apart and outside the port page, and all their bytes are soft;
 /// - the frames that are held are the youngest live ones, with sixteen words each;
-/// - memory has room for each held frame, so that no spill and no flush asks for memory.
+/// - memory has room for each held frame and for what waits, so that no spill, no flush and no store
+///   that lands asks for memory.
 #[derive(Drop)]
 pub struct Storage {
-    memory: Memory,
+    behind: Behind,
     watch: Watch,
     sets: Sets,
-    ghost kept: { IsKept memory watch sets } by { IsKept-prop memory watch sets },
+    ghost kept: { IsKept behind watch sets } by { IsKept-prop behind watch sets },
 }
 
 /// Drops the youngest live frame, where one is live.
@@ -52,24 +59,34 @@ fn drop_frame(watch: &mut Watch)
 }
 
 impl Storage {
-    ghost use Rattle.i9_storage.specs.Storage.{cache_of, memory_in, frames_in, size_of, HasSpace, HasFrameSpace, KeepsSpace, KeepsFrameSpace};
+    ghost use Rattle.i9_storage.specs.Storage.{cache_of, memory_in, frames_in, size_of, acted_in, waiting_in};
+    ghost use Rattle.i9_storage.specs.Storage.{IsDrained, HasSpace, HasFrameSpace, KeepsSpace, KeepsFrameSpace};
 
-    /// Memory as it is, with `sets` sets and no frame saved.
+    /// Memory as it is, with `sets` sets. No frame is saved, and nothing waits.
     pub fn new(alloc: Global, memory: Memory, sets: u8) -> Result<Storage, NoMemory>
         requires { (0 < sets) × (sets < 16) }
         ensures cache { IfOk result (λ s. cache_of s ≡ cache [] (memory_of memory)) }
         ensures frames { IfOk result (λ s. frames_in s ≡ no_frames) }
         ensures size { IfOk result (λ s. size_of s ≡ sets) }
+        ensures waiting { IfOk result (λ s. waiting_in s ≡ []) }
     {
         Ok(Storage {
-            memory,
+            behind: Behind::new(memory),
             watch: Watch::new(alloc),
             sets: Sets::new(alloc, sets)?,
         })
     }
 
-    /// Stores bytes for which there is space, beside the live frames.
+    /// Whether nothing waits to be stored in memory.
+    pub fn is_drained(&self) -> bool
+        ensures { IsTrue result ↔ IsDrained self.now }
+    {
+        self.behind.is_drained()
+    }
+
+    /// Stores bytes for which there is space, beside the live frames, where nothing waits.
     pub fn store(&mut self, a: u32, bytes: &[u8])
+        requires drained { IsDrained self.old }
         requires space { HasSpace self.old a (length bytes.now) }
         requires free { writes_hazard (frames_in self.old) (upwards a bytes.now) ≡ None }
         requires few { length bytes.now < 2 ^ 32 }
@@ -77,15 +94,53 @@ impl Storage {
         ensures memory { memory_in self.new ≡ with_bytes (memory_in self.old) a bytes.now }
         ensures frames { frames_in self.new ≡ wrote (frames_in self.old) (upwards a bytes.now) }
         ensures size { size_of self.new ≡ size_of self.old }
+        ensures waiting { waiting_in self.new ≡ waiting_in self.old }
         ensures keeps { KeepsSpace self.old self.new }
     {
-        self.memory.store(a, bytes);
+        self.behind.store(a, bytes);
         self.watch.wrote(a, bytes.len() as u32);
     }
 
+    /// A request waits, behind the others and due no earlier. There is space for its bytes, beside the
+    /// live frames, and they are read from now on, though they go to memory later.
+    pub fn enqueue(&mut self, request: Request)
+        requires few { length (waiting_in self.old) < 3 }
+        requires order { AllByRecursion (λ w. w.due ≤ request.due) (waiting_in self.old) }
+        requires space { HasSpace self.old request.address (length request.bytes.items) }
+        requires free { writes_hazard (frames_in self.old) (upwards request.address request.bytes.items) ≡ None }
+        ensures cache { cache_of self.new
+            ≡ cache_stored (upwards request.address request.bytes.items) (cache_of self.old) }
+        ensures memory { memory_in self.new ≡ with_bytes (memory_in self.old) request.address request.bytes.items }
+        ensures frames { frames_in self.new ≡ wrote (frames_in self.old) (upwards request.address request.bytes.items) }
+        ensures size { size_of self.new ≡ size_of self.old }
+        ensures waiting { waiting_in self.new ≡ waiting_in self.old ++ wait_in request ∷ [] }
+        ensures acted { acted_in self.new ≡ acted_in self.old }
+        ensures keeps { KeepsSpace self.old self.new }
+    {
+        let a = request.address;
+        let n = request.bytes.len() as u32;
+        self.behind.enqueue(request);
+        self.watch.wrote(a, n);
+    }
+
+    /// What is due by `turn` goes to memory. Nothing else changes.
+    pub fn land(&mut self, turn: u64)
+        ensures cache { cache_of self.new ≡ cache_of self.old }
+        ensures memory { memory_in self.new ≡ memory_in self.old }
+        ensures frames { frames_in self.new ≡ frames_in self.old }
+        ensures size { size_of self.new ≡ size_of self.old }
+        ensures waiting { waiting_in self.new ≡ left_waiting turn (waiting_in self.old) }
+        ensures acted { (acted_in self.new).bytes
+            ≡ stored (acted_in self.old).bytes (due_puts turn (waiting_in self.old)) }
+        ensures keeps { KeepsSpace self.old self.new }
+    {
+        self.behind.land(turn);
+    }
+
     /// Saves a frame for which there is space. It is held, and goes to memory later; where all sets
-    /// are taken, the oldest held frame goes there now.
+    /// are taken, the oldest held frame goes there now. Nothing waits.
     pub fn save_frame(&mut self, f: Frame)
+        requires drained { IsDrained self.old }
         requires space { HasFrameSpace self.old f.address }
         requires free { save_hazard (frames_in self.old) f.address ≡ None }
         requires place { f.address % 16 ≡ 0 }
@@ -93,9 +148,10 @@ impl Storage {
         ensures memory { memory_in self.new ≡ with_words (memory_in self.old) f.address f.words }
         ensures frames { frames_in self.new ≡ saved (frames_in self.old) f.address }
         ensures size { size_of self.new ≡ size_of self.old }
+        ensures waiting { waiting_in self.new ≡ waiting_in self.old }
         ensures keeps { KeepsSpace self.old self.new }
     {
-        hold(&mut self.memory, &mut self.sets, f);
+        hold(&mut self.behind, &mut self.sets, f);
         self.watch.called(f.address);
     }
 
@@ -106,21 +162,25 @@ impl Storage {
         ensures memory { AgreeWhere (is_compared (returned (frames_in self.old))) (memory_in self.old) (memory_in self.new).bytes }
         ensures frames { frames_in self.new ≡ returned (frames_in self.old) }
         ensures size { size_of self.new ≡ size_of self.old }
+        ensures waiting { waiting_in self.new ≡ waiting_in self.old }
+        ensures acted { acted_in self.new ≡ acted_in self.old }
         ensures keeps { KeepsSpace self.old self.new }
     {
         let _ = self.sets.pop();
         drop_frame(&mut self.watch);
     }
 
-    /// All held frames go to memory, the oldest first, and no frame is live any more.
+    /// All held frames go to memory, the oldest first, and no frame is live any more. Nothing waits.
     pub fn flush(&mut self)
+        requires drained { IsDrained self.old }
         ensures cache { cache_of self.new ≡ written_back (cache_of self.old) }
         ensures memory { memory_in self.new ≡ memory_in self.old }
         ensures frames { frames_in self.new ≡ flushed (frames_in self.old) }
         ensures size { size_of self.new ≡ size_of self.old }
+        ensures waiting { waiting_in self.new ≡ waiting_in self.old }
         ensures keeps { KeepsSpace self.old self.new }
     {
-        write_back(&mut self.memory, &mut self.sets);
+        write_back(&mut self.behind, &mut self.sets);
         self.watch.flushed();
     }
 
@@ -133,9 +193,11 @@ impl Storage {
         ensures needed { OnErr result (0 < n) }
         ensures lacking { OnErr result (HasSpace self.old a n → ⊥) }
         ensures size { size_of self.new ≡ size_of self.old }
+        ensures waiting { waiting_in self.new ≡ waiting_in self.old }
+        ensures acted { acted_in self.new ≡ acted_in self.old }
         ensures keeps { KeepsSpace self.old self.new }
     {
-        self.memory.reserve(a, n)
+        self.behind.reserve(a, n)
     }
 
     /// Makes space for a frame at `a`: for its words in memory, so that it can go there whenever it
@@ -146,9 +208,11 @@ impl Storage {
         ensures space { OnOk result (HasFrameSpace self.new a) }
         ensures lacking { OnErr result (HasFrameSpace self.old a → ⊥) }
         ensures size { size_of self.new ≡ size_of self.old }
+        ensures waiting { waiting_in self.new ≡ waiting_in self.old }
+        ensures acted { acted_in self.new ≡ acted_in self.old }
         ensures keeps { KeepsSpace self.old self.new }
     {
-        self.memory.reserve(a, FRAME_SIZE)?;
+        self.behind.reserve(a, FRAME_SIZE)?;
         self.watch.reserve(a)
     }
 
@@ -159,6 +223,8 @@ impl Storage {
         ensures cache { cache_of self.new ≡ cache_of self.old }
         ensures frames { frames_in self.new ≡ frames_in self.old }
         ensures size { size_of self.new ≡ sets.size }
+        ensures waiting { waiting_in self.new ≡ waiting_in self.old }
+        ensures acted { acted_in self.new ≡ acted_in self.old }
         ensures keeps { KeepsSpace self.old self.new }
     {
         self.sets = sets;

@@ -1,4 +1,9 @@
 //! Storage, worked out by hand.
+ghost use Rattle.std.specs.Prelude.{◌≡◌, ◌<◌, ◌≤◌, ◌∷◌, ◌++◌, [], IfOk, length};
+ghost use Rattle.std.specs.List.{AllByRecursion};
+ghost use Rattle.i9_model.specs.Writes.{upwards};
+ghost use Rattle.i9_storage.specs.Storage.{waiting_in, IsDrained};
+
 use crate::Storage;
 use arrayvec::ArrayVec;
 use i9_calls::{CallsStop, Pop, Sys};
@@ -7,6 +12,7 @@ use i9_frames::{Frame, Sets};
 use i9_ints::{Chosen, IntEntry, Ints};
 use i9_memory::Memory;
 use i9_model::{CONTROL_WORDS, Cause, Push, Setup};
+use i9_queue::Request;
 use std::alloc::Global;
 use std::test::Fail;
 
@@ -41,8 +47,22 @@ fn counting(first: u32, ninth: u32) -> [u32; 16] {
     words
 }
 
-/// Saves the frame at a frame pointer. Its words count up from a first one.
-fn save(storage: &mut Storage, fp: u32, first: u32) -> Result<(), Fail> {
+/// Goes on where nothing waits.
+fn drained(storage: &Storage) -> Result<(), Fail>
+    ensures { IfOk result (λ _. IsDrained storage.now) }
+{
+    if storage.is_drained() {
+        Ok(())
+    } else {
+        Err("a request waits".into())
+    }
+}
+
+/// Saves the frame at a frame pointer, where nothing waits. Its words count up from a first one.
+fn save(storage: &mut Storage, fp: u32, first: u32) -> Result<(), Fail>
+    ensures { IfOk result (λ _. IsDrained storage.new) }
+{
+    drained(storage)?;
     let words = counting(first, first.wrapping_add(8));
     match storage.watch().plan_push(fp, 0, 0, 0) {
         Ok(push) => {
@@ -55,9 +75,12 @@ fn save(storage: &mut Storage, fp: u32, first: u32) -> Result<(), Fail> {
     }
 }
 
-/// Stores bytes beside the live frames, at most four.
+/// Stores bytes beside the live frames, at most four, where nothing waits.
 #[tactic(auto, using(crate::proofs::Keeping::run_rules))]
-fn store(storage: &mut Storage, a: u32, bytes: &[u8]) -> Result<(), Fail> {
+fn store(storage: &mut Storage, a: u32, bytes: &[u8]) -> Result<(), Fail>
+    ensures { IfOk result (λ _. IsDrained storage.new) }
+{
+    drained(storage)?;
     let n = bytes.len();
     if n > 4 || storage.watch().check_write(a, n as u32).is_some() {
         return Err("a hazard".into());
@@ -67,12 +90,22 @@ fn store(storage: &mut Storage, a: u32, bytes: &[u8]) -> Result<(), Fail> {
     Ok(())
 }
 
+/// Flushes, where nothing waits.
+fn flush(storage: &mut Storage) -> Result<(), Fail>
+    ensures { IfOk result (λ _. IsDrained storage.new) }
+{
+    drained(storage)?;
+    storage.flush();
+    Ok(())
+}
+
 /// Flushes, and goes on with so many new sets.
 fn restart(alloc: Global, storage: &mut Storage, sets: u8) -> Result<(), Fail> {
     if sets == 0 || sets > 15 {
         return Err("no such sets".into());
     }
     let sets = Sets::new(alloc, sets)?;
+    drained(storage)?;
     storage.flush();
     storage.renew(sets);
     Ok(())
@@ -110,12 +143,27 @@ fn hard(storage: &Storage, a: u32, wanted: u32) -> bool {
     }
 }
 
+/// Whether storage answers so; what is done asks nothing.
+fn answers(storage: &Storage, step: Step) -> bool {
+    match step {
+        Byte(a, wanted) => storage.byte(a) == wanted,
+        Half(a, wanted) => storage.half(a) == wanted,
+        Word(a, wanted) => storage.word(a) == wanted && hard(storage, a, wanted),
+        FrameWords(a, first, ninth) => storage.frame_words(a) == counting(first, ninth),
+        FrameWord(a, k, wanted) => k < 16 && storage.frame_word(a, k) == wanted,
+        IsSoft(a, wanted) => storage.watch().soft(a) == wanted,
+        Holds(frames, sets) => storage.sets().len() == frames && storage.sets().size() == sets,
+        Held(k, wanted) => storage.sets().at(k).map(|f| f.address) == wanted,
+        _ => true,
+    }
+}
+
 /// Does a step; false where the answer is another one.
 fn does(alloc: Global, storage: &mut Storage, step: Step) -> Result<bool, Fail> {
     match step {
         Save(fp, first) => save(storage, fp, first)?,
         Return => storage.restore_frame(),
-        Flush => storage.flush(),
+        Flush => flush(storage)?,
         Restart(sets) => restart(alloc, storage, sets)?,
         StoreHalf(a, v) => {
             let bytes = storage.half_bytes(a, v);
@@ -125,20 +173,7 @@ fn does(alloc: Global, storage: &mut Storage, step: Step) -> Result<bool, Fail> 
             let bytes = storage.word_bytes(a, v);
             store(storage, a, &bytes)?;
         }
-        Byte(a, wanted) => return Ok(storage.byte(a) == wanted),
-        Half(a, wanted) => return Ok(storage.half(a) == wanted),
-        Word(a, wanted) => return Ok(storage.word(a) == wanted && hard(storage, a, wanted)),
-        FrameWords(a, first, ninth) => {
-            return Ok(storage.frame_words(a) == counting(first, ninth));
-        }
-        FrameWord(a, k, wanted) => {
-            return Ok(k < 16 && storage.frame_word(a, k) == wanted);
-        }
-        IsSoft(a, wanted) => return Ok(storage.watch().soft(a) == wanted),
-        Holds(frames, sets) => {
-            return Ok(storage.sets().len() == frames && storage.sets().size() == sets);
-        }
-        Held(k, wanted) => return Ok(storage.sets().at(k).map(|f| f.address) == wanted),
+        _ => return Ok(answers(storage, step)),
     }
     Ok(true)
 }
@@ -268,6 +303,101 @@ fn holds_frames(rt: HostRuntime) -> Result<(), Fail> {
     Ok(())
 }
 
+/// A store waits until a turn, beside the live frames; at most four bytes.
+#[tactic(auto, using(crate::proofs::Keeping::run_rules))]
+fn wait(storage: &mut Storage, a: u32, bytes: &[u8], due: u64) -> Result<(), Fail>
+    requires few { length (waiting_in storage.old) < 3 }
+    requires order { AllByRecursion (λ w. w.due ≤ due) (waiting_in storage.old) }
+    ensures { IfOk result (λ _. waiting_in storage.new
+        ≡ waiting_in storage.old ++ record { puts = upwards a bytes.now; due = due } ∷ []) }
+{
+    let mut list = ArrayVec::new();
+    if bytes.len() > 4 || list.try_extend_from_slice(bytes).is_err() {
+        return Err("too many bytes".into());
+    }
+    let request = Request {
+        address: a,
+        bytes: list,
+        due,
+    };
+    let n = request.bytes.len() as u32;
+    if storage.watch().check_write(a, n).is_some() {
+        return Err("a hazard".into());
+    }
+    storage.reserve(a, n)?;
+    storage.enqueue(request);
+    Ok(())
+}
+
+/// The index of the first step of these that is answered otherwise.
+fn first_wrong(storage: &Storage, steps: &[Step]) -> Option<usize> {
+    for (index, step) in steps.iter().enumerate() {
+        if !answers(storage, *step) {
+            return Some(index);
+        }
+    }
+    None
+}
+
+/// What is read below at once, and at each turn.
+const SEEN: [Step; 17] = [
+    Byte(0x103C, 0x11),
+    Byte(0x103D, 0x12),
+    Byte(0x103E, 0x33),
+    Byte(0x103F, 0x14),
+    Half(0x103C, 0x1211),
+    Half(0x103D, 0x3312),
+    Word(0x103C, 0x1433_1211),
+    // The last two bytes that wait, and the first two of the frame.
+    Half(0x103F, 0x0014),
+    Word(0x103E, 0x0200_1433),
+    FrameWords(0x1040, 0x200, 0x208),
+    FrameWord(0x103C, 0, 0x1433_1211),
+    Byte(0x1000_0001, 0x22),
+    Half(0x1000_0000, 0x2122),
+    Word(0x1000_0000, 0x2122_0000),
+    IsSoft(0x103F, false),
+    IsSoft(0x1040, true),
+    Holds(1, 2),
+];
+
+// The frame at 1040 is held, and memory has 01 to 04 from 103C up. Until turn 5 a store of 11 to 14
+// waits there, until turn 7 one of 21 and 22 in region 1, which is big-endian, and until turn 9 one of
+// 33 at 103E.
+#[test]
+fn reads_over_what_waits(rt: HostRuntime) -> Result<(), Fail> {
+    let mut storage = Storage::new(rt.alloc(), memory(rt.alloc()), 2)?;
+    save(&mut storage, 0x1040, 0x200)?;
+    store(&mut storage, 0x103C, b"\x01\x02\x03\x04")?;
+    wait(&mut storage, 0x103C, b"\x11\x12\x13\x14", 5)?;
+    wait(&mut storage, 0x1000_0000, b"\x21\x22", 7)?;
+    wait(&mut storage, 0x103E, b"\x33", 9)?;
+    assert_eq!(rt; first_wrong(&storage, &SEEN), None);
+    // The turn, what memory has then at 103C, 103E and 10000001, and whether nothing waits.
+    let rows = [
+        (4, [0x01, 0x03, 0x00], false),
+        (5, [0x11, 0x13, 0x00], false),
+        (6, [0x11, 0x13, 0x00], false),
+        (7, [0x11, 0x13, 0x22], false),
+        (8, [0x11, 0x13, 0x22], false),
+        (9, [0x11, 0x33, 0x22], true),
+    ];
+    for (turn, bytes, is_drained) in &rows {
+        storage.land(*turn);
+        let places = [0x103C, 0x103E, 0x1000_0001];
+        assert_eq!(rt; places.map(|a| storage.acted_byte(a)), *bytes);
+        assert_eq!(rt; storage.is_drained(), *is_drained);
+        assert_eq!(rt; first_wrong(&storage, &SEEN), None);
+    }
+    // Now the frame can go to memory.
+    flush(&mut storage)?;
+    assert_eq!(rt;
+        (storage.word(0x103E), storage.acted_byte(0x1041)),
+        (0x0200_1433, 0x02)
+    );
+    Ok(())
+}
+
 /// Memory with a system procedure table at B00, whose procedure 5 is at 1104 on the supervisor stack
 /// at 5010; with a fault table at 900, whose faults of type 3 have their handler at 1100; and with
 /// PC and AC in the record below the frame at 5050.
@@ -290,14 +420,18 @@ fn push(frame: u32, pfp: u32, sp: u32) -> Push {
     }
 }
 
+/// What a call of procedure 5 of a system procedure table makes.
+fn call(storage: &Storage, table: u32) -> Result<Sys, CallsStop>
+    requires { IsDrained storage.now }
+{
+    storage.plan_calls(table, 5, 0x1F_2000, 0x3004, 0x3051)
+}
+
 #[test]
 fn plans_beside_held_frames(rt: HostRuntime) -> Result<(), Fail> {
     let mut storage = Storage::new(rt.alloc(), with_entries(rt.alloc())?, 1)?;
     save(&mut storage, 0x4000, 0x100)?;
     save(&mut storage, 0x4040, 0x200)?;
-    let call = |storage: &Storage, table: u32| {
-        storage.plan_calls(table, 5, 0x1F_2000, 0x3004, 0x3051)
-    };
     let sys = Sys {
         push: push(0x5010, 0x3002, 0x5050),
         target: 0x1104,
@@ -347,7 +481,9 @@ fn plans_beside_held_frames(rt: HostRuntime) -> Result<(), Fail> {
 /// Storage with an interrupt table at 6000, in which software asks for vectors 18 and 23, both of
 /// priority 2, and for one of priority 1. The handler of vector 23 is at 1100. The frame at 4040 is
 /// held, and the one at 4000 was spilled.
-fn with_requests(alloc: Global) -> Result<Storage, Fail> {
+fn with_requests(alloc: Global) -> Result<Storage, Fail>
+    ensures { IfOk result (λ s. IsDrained s) }
+{
     let mut memory = memory(alloc);
     put_words(&mut memory, 0x6000, &[0x06, 0x0084_0000])?;
     put_words(&mut memory, 0x6060, &[0x1103])?;
@@ -393,37 +529,42 @@ fn chooses_and_asks_beside_held_frames(rt: HostRuntime) -> Result<(), Fail> {
     Ok(())
 }
 
+/// What the entry of an interrupt makes by an interrupt table.
+fn entered(storage: &Storage, table: u32, chosen: &Chosen) -> Result<IntEntry, u32>
+    requires { IsDrained storage.now }
+{
+    storage.plan_interrupt(
+        &Ints::new(),
+        table,
+        0x8008,
+        chosen,
+        0x0001_2403,
+        0x8084,
+        0x3004,
+        0x3041,
+    )
+}
+
 #[test]
 fn enters_interrupts_beside_held_frames(rt: HostRuntime) -> Result<(), Fail> {
     let storage = with_requests(rt.alloc())?;
-    let ints = Ints::new();
-    let plan = |storage: &Storage, table: u32, chosen: &Chosen| {
-        storage.plan_interrupt(
-            &ints,
-            table,
-            0x8008,
-            chosen,
-            0x0001_2403,
-            0x8084,
-            0x3004,
-            0x3041,
-        )
-    };
     let wanted = IntEntry {
         push: push(0x3060, 0x3007, 0x30A0),
         target: 0x1100,
         pc: 0x0002_2002,
         words: [0x0001_2403, 0x8084, 23, 0],
     };
-    assert_eq!(rt; plan(&storage, 0x6000, &soft(23)), Ok(wanted));
+    assert_eq!(rt; entered(&storage, 0x6000, &soft(23)), Ok(wanted));
     // The word of the vector is in the frame that is held, or in the one that was spilled.
-    assert_eq!(rt; plan(&storage, 0x3FE0, &soft(23)), Err(0x4040));
-    assert_eq!(rt; plan(&storage, 0x3FA0, &soft(23)), Err(0x4000));
+    assert_eq!(rt; entered(&storage, 0x3FE0, &soft(23)), Err(0x4040));
+    assert_eq!(rt; entered(&storage, 0x3FA0, &soft(23)), Err(0x4000));
     Ok(())
 }
 
 /// The bytes that clear what chose an interrupt, once it is entered by the interrupt table at 6000.
-fn cleared(storage: &Storage, chosen: &Chosen) -> Result<ArrayVec<(u32, u8), 2>, Fail> {
+fn cleared(storage: &Storage, chosen: &Chosen) -> Result<ArrayVec<(u32, u8), 2>, Fail>
+    requires { IsDrained storage.now }
+{
     match storage.plan_interrupt(&Ints::new(), 0x6000, 0x8008, chosen, 0, 0, 0x3000, 0x3040) {
         Ok(entry) => Ok(storage.clearing_bytes(0x6000, chosen, &entry)),
         Err(_) => Err("a hazard".into()),
@@ -467,7 +608,9 @@ const CONTROL: [u32; CONTROL_WORDS] = [
 
 /// Storage with nothing held, the PRCB at 2000 and the control table. Frames were returned to at
 /// the given frame pointers, so their bytes are soft.
-fn with_tables(alloc: Global, left: &[u32]) -> Result<Storage, Fail> {
+fn with_tables(alloc: Global, left: &[u32]) -> Result<Storage, Fail>
+    ensures { IfOk result (λ s. IsDrained s) }
+{
     let mut memory = memory(alloc);
     put_words(&mut memory, 0x2000, &PRCB)?;
     put_words(&mut memory, 0x3000, &CONTROL)?;
@@ -476,6 +619,7 @@ fn with_tables(alloc: Global, left: &[u32]) -> Result<Storage, Fail> {
         save(&mut storage, *fp, 0x100)?;
         storage.restore_frame();
     }
+    drained(&storage)?;
     Ok(storage)
 }
 

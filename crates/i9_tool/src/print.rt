@@ -128,8 +128,9 @@ pub(crate) fn print_line<K: Sink>(alloc: Global, l: &Line, out: &mut K) -> Print
 }
 
 /// Writes lines in order.
+#[inline(never)]
 #[tactic(auto, using(crate::proofs::Prints::prints_rules))]
-pub(crate) fn print_lines<K: Sink>(alloc: Global, lines: &[Line], out: &mut K) -> Printed
+fn print_each<K: Sink>(alloc: Global, lines: &[Line], out: &mut K) -> Printed
     ensures { Prints result (account K.told K.faults K.writes K.sure) out.old out.new (flat_map line_text lines.now) }
 {
     for line in lines {
@@ -140,4 +141,17 @@ pub(crate) fn print_lines<K: Sink>(alloc: Global, lines: &[Line], out: &mut K) -
         }
     }
     Printed::Done
+}
+
+/// Writes lines in order. Most steps have none, and then nothing is called.
+#[inline(always)]
+#[tactic(auto, using(crate::proofs::Prints::prints_rules))]
+pub(crate) fn print_lines<K: Sink>(alloc: Global, lines: &[Line], out: &mut K) -> Printed
+    ensures { Prints result (account K.told K.faults K.writes K.sure) out.old out.new (flat_map line_text lines.now) }
+{
+    if lines.is_empty() {
+        Printed::Done
+    } else {
+        print_each(alloc, lines, out)
+    }
 }

@@ -1,5 +1,5 @@
 //! A step done, or an end answered, once there is room for what it needs.
-ghost use Rattle.std.specs.Prelude.{◌≡◌, ◌+◌, ◌-◌, ◌<◌, ◌≤◌, ◌^◌, ◌++◌, None, IfSome, IfOk, OnOk, OnErr, vec_len, vec_capacity, length, nat_lt, true};
+ghost use Rattle.std.specs.Prelude.{◌≡◌, ◌+◌, ◌-◌, ◌<◌, ◌≤◌, ◌^◌, ◌++◌, None, Some, IfSome, IfOk, OnOk, OnErr, vec_len, vec_capacity, length, nat_lt, true};
 ghost use Rattle.std.specs.Option.{option_copied, option_map};
 ghost use Rattle.i9_model.specs.State.{State};
 ghost use Rattle.i9_model.specs.Memory.{console_byte};
@@ -93,17 +93,16 @@ fn shown(p: &Processor, a: u32, n: u8) -> ArrayVec<Option<u8>, MOST_SHOWN>
     list
 }
 
-/// Adds the lines of an event that is reached, where one is.
-fn put_event(event: Option<&Event>, p: &Processor, out: &mut Vec<Line>)
-    requires room { vec_len out.old + reached_count (option_copied event) ≤ vec_capacity out.old }
-    requires ranges { IfSome event (λ e. IsInRange e.now) }
-    ensures lines { AddsLines out.old.items out.new.items (reached_lines (option_copied event.entry) (state_of p.now)) }
-    ensures len { vec_len out.new ≡ vec_len out.old + reached_count (option_copied event.entry) }
+/// Adds the lines of an event that is reached.
+// Most steps reach none, and this is no part of their code.
+#[inline(never)]
+fn put_reached(event: &Event, p: &Processor, out: &mut Vec<Line>)
+    requires room { vec_len out.old + reached_count (Some event.now) ≤ vec_capacity out.old }
+    requires ranges { IsInRange event.now }
+    ensures lines { AddsLines out.old.items out.new.items (reached_lines (Some event.now) (state_of p.now)) }
+    ensures len { vec_len out.new ≡ vec_len out.old + reached_count (Some event.now) }
     ensures capacity { vec_capacity out.old ≤ vec_capacity out.new }
 {
-    let Some(event) = event else {
-        return;
-    };
     let line = Line::Event {
         count: p.count(),
         event: copied(event),
@@ -113,6 +112,19 @@ fn put_event(event: Option<&Event>, p: &Processor, out: &mut Vec<Line>)
         let list = shown(p, *address, *n);
         let address = *address;
         put_line(out, Line::Bytes { address, list });
+    }
+}
+
+/// Adds the lines of an event that is reached, where one is.
+fn put_event(event: Option<&Event>, p: &Processor, out: &mut Vec<Line>)
+    requires room { vec_len out.old + reached_count (option_copied event) ≤ vec_capacity out.old }
+    requires ranges { IfSome event (λ e. IsInRange e.now) }
+    ensures lines { AddsLines out.old.items out.new.items (reached_lines (option_copied event.entry) (state_of p.now)) }
+    ensures len { vec_len out.new ≡ vec_len out.old + reached_count (option_copied event.entry) }
+    ensures capacity { vec_capacity out.old ≤ vec_capacity out.new }
+{
+    if let Some(event) = event {
+        put_reached(event, p, out);
     }
 }
 

@@ -20,7 +20,9 @@ use i9_faults::{Fault, FaultStop};
 use i9_isa::{Inst, Op, word_count};
 use i9_model::faults::TRACE;
 use i9_model::{Chosen, Due, End, Event, Point, When};
-use i9_plan::{Planned, Words, plan_entry, plan_event, plan_faulting, plan_interrupt, plan_next};
+use i9_plan::{
+    Memo, Planned, Words, plan_entry, plan_event, plan_faulting, plan_interrupt, plan_next,
+};
 use i9_processor::Effect;
 use i9_schedule::Schedule;
 
@@ -164,14 +166,19 @@ impl Machine {
     }
 
     /// The next instruction, or the end that stands in its place.
-    fn next_instruction(&self, plan: &Schedule, effect: &mut Effect) -> Result<Step, End>
+    fn next_instruction(
+        &self,
+        plan: &Schedule,
+        memo: &mut Memo,
+        effect: &mut Effect,
+    ) -> Result<Step, End>
         requires below { (state_of self.now.processor).count < self.now.length }
         requires free { self.now.due ≡ Due.Nothing }
         requires chosen { choice_in (state_of self.now.processor) ≡ Ok None }
         requires stands { event_for self.now plan.now ≡ None }
         ensures { IsNext self.now plan.now result effect.new }
     {
-        match plan_next(&self.processor, effect) {
+        match plan_next(&self.processor, memo, effect) {
             Planned::Meets(a) => Err(End::Hazard(a)),
             Planned::NotBuilt => Err(End::Unbuilt(self.processor.ip())),
             Planned::Refused { words, number } => Ok(self.faults(words, 1, number, plan, effect)),
@@ -185,6 +192,7 @@ impl Machine {
     }
 
     /// The entry of a fault, or the hazard or the dead entry of the fault table that ends the run.
+    #[inline(never)]
     fn entry(&self, fault: &Fault, plan: &Schedule, effect: &mut Effect) -> Result<Step, End>
         requires { self.now.due ≡ Due.Entry fault.now }
         ensures { IsNext self.now plan.now result effect.new }
@@ -200,6 +208,7 @@ impl Machine {
     }
 
     /// The entry of an interrupt that is chosen, or the hazard that ends the run.
+    #[inline(never)]
     fn interrupt(&self, choice: &Chosen, plan: &Schedule, effect: &mut Effect) -> Result<Step, End>
         requires below { (state_of self.now.processor).count < self.now.length }
         requires free { self.now.due ≡ Due.Nothing }
@@ -216,6 +225,7 @@ impl Machine {
     }
 
     /// An event is reached: it does something, or it meets a hazard, which ends the run.
+    #[inline(never)]
     fn reaches(&self, event: &Event, plan: &Schedule, effect: &mut Effect) -> Step
         requires below { (state_of self.now.processor).count < self.now.length }
         requires free { self.now.due ≡ Due.Nothing }
@@ -237,7 +247,12 @@ impl Machine {
     }
 
     /// The event that stands there, where no interrupt is chosen, or else the next instruction.
-    fn event_or_instruction(&self, plan: &Schedule, effect: &mut Effect) -> Result<Step, End>
+    fn event_or_instruction(
+        &self,
+        plan: &Schedule,
+        memo: &mut Memo,
+        effect: &mut Effect,
+    ) -> Result<Step, End>
         requires below { (state_of self.now.processor).count < self.now.length }
         requires free { self.now.due ≡ Due.Nothing }
         requires chosen { choice_in (state_of self.now.processor) ≡ Ok None }
@@ -245,19 +260,24 @@ impl Machine {
     {
         match standing(plan, self.processor.count()) {
             Some(event) => Ok(self.reaches(event, plan, effect)),
-            None => self.next_instruction(plan, effect),
+            None => self.next_instruction(plan, memo, effect),
         }
     }
 
     /// What comes next where nothing is due and the length is not reached: the entry of an interrupt that is
     /// chosen, an event, or one instruction.
-    fn next_freely(&self, plan: &Schedule, effect: &mut Effect) -> Result<Step, End>
+    fn next_freely(
+        &self,
+        plan: &Schedule,
+        memo: &mut Memo,
+        effect: &mut Effect,
+    ) -> Result<Step, End>
         requires below { (state_of self.now.processor).count < self.now.length }
         requires free { self.now.due ≡ Due.Nothing }
         ensures { IsNext self.now plan.now result effect.new }
     {
         match self.processor.choose() {
-            Ok(None) => self.event_or_instruction(plan, effect),
+            Ok(None) => self.event_or_instruction(plan, memo, effect),
             Ok(Some(choice)) => self.interrupt(&choice, plan, effect),
             Err(a) => Err(End::Hazard(a)),
         }
@@ -265,14 +285,19 @@ impl Machine {
 
     /// What comes next: what is due, the end of the length, or what comes before or is the next instruction.
     /// Its effect is made in `effect`.
-    pub(super) fn next_step(&self, plan: &Schedule, effect: &mut Effect) -> Result<Step, End>
+    pub(super) fn next_step(
+        &self,
+        plan: &Schedule,
+        memo: &mut Memo,
+        effect: &mut Effect,
+    ) -> Result<Step, End>
         ensures { IsNext self.now plan.now result effect.new }
     {
         match &self.due {
             Due::End(e) => Err(*e),
             Due::Entry(fault) => self.entry(fault, plan, effect),
             Due::Nothing if self.processor.count() == self.length => Err(End::Limit),
-            Due::Nothing => self.next_freely(plan, effect),
+            Due::Nothing => self.next_freely(plan, memo, effect),
         }
     }
 }

@@ -31,11 +31,7 @@ impl Processor {
         ensures free { IfOk result (λ p. save_hazard (state_of self.now).frames p.save ≡ None) }
         ensures aligned { IfOk result (λ p. p.save % 16 ≡ 0) }
     {
-        plan_call(
-            self.storage.watch(),
-            self.regs[FP as usize],
-            self.regs[SP as usize],
-        )
+        plan_call(self.storage.watch(), self.register(FP), self.register(SP))
     }
 
     /// What a call of system procedure `n` makes; `Err` where there is no such number, or at a hazard.
@@ -50,8 +46,8 @@ impl Processor {
             self.tables.system_table,
             n,
             self.pc,
-            self.regs[FP as usize],
-            self.regs[SP as usize],
+            self.register(FP),
+            self.register(SP),
         )
     }
 
@@ -61,12 +57,8 @@ impl Processor {
         ensures { result ≡ planned_ret (state_of self.now).memory (state_of self.now).frames ((state_of self.now).regs PFP)
             ((state_of self.now).regs FP) (state_of self.now).pc (state_of self.now).ac }
     {
-        self.storage.plan_ret(
-            self.regs[PFP as usize],
-            self.regs[FP as usize],
-            self.pc,
-            self.ac,
-        )
+        self.storage
+            .plan_ret(self.register(PFP), self.register(FP), self.pc, self.ac())
     }
 
     /// What the entry of a fault makes, or the hazard or the dead entry that comes first.
@@ -81,9 +73,9 @@ impl Processor {
             self.tables.system_table,
             fault,
             self.pc,
-            self.ac,
-            self.regs[FP as usize],
-            self.regs[SP as usize],
+            self.ac(),
+            self.register(FP),
+            self.register(SP),
         )
     }
 
@@ -117,9 +109,9 @@ impl Processor {
             self.tables.interrupt_stack,
             c,
             self.pc,
-            self.ac,
-            self.regs[FP as usize],
-            self.regs[SP as usize],
+            self.ac(),
+            self.register(FP),
+            self.register(SP),
         )
     }
 

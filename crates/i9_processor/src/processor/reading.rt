@@ -12,6 +12,7 @@ ghost use Rattle.i9_frames.specs.Sets.{held};
 
 use super::Processor;
 use i9_frames::Sets;
+use i9_isa::CONDITION_CODE;
 use i9_model::{Tables, View};
 use i9_watch::Watch;
 
@@ -23,7 +24,7 @@ impl Processor {
     pub fn register(&self, r: u8) -> u32
         ensures { result ≡ (state_of self.now).regs r }
     {
-        if r < 32 { self.regs[r as usize] } else { 0 }
+        if r < 32 { self.file.latest(r) } else { 0 }
     }
 
     /// The register that is `k` above another.
@@ -33,7 +34,7 @@ impl Processor {
     {
         let register = usize::from(r) + usize::from(k);
         if register < 32 {
-            self.regs[register]
+            self.file.latest(register as u8)
         } else {
             0
         }
@@ -48,11 +49,11 @@ impl Processor {
     }
 
     /// The arithmetic controls.
-    #[tactic(auto, unfolding(crate::specs::State::state_of))]
+    #[tactic(auto, unfolding(crate::specs::State::state_of, crate::specs::State::arithmetic_of))]
     pub fn ac(&self) -> u32
         ensures { result ≡ (state_of self.now).ac }
     {
-        self.ac
+        self.flags / 8 * 8 + self.file.latest(CONDITION_CODE) % 8
     }
 
     /// The process controls.
@@ -207,10 +208,10 @@ impl Processor {
         View {
             count: self.count,
             ip: self.ip,
-            ac: self.ac,
+            ac: self.ac(),
             pc: self.pc,
             tc: self.tc,
-            regs: self.regs,
+            regs: self.file.registers(),
         }
     }
 

@@ -1,5 +1,6 @@
 //! What system calls, returns, faults, interrupts and DMA make, and what tables say. Each of their reads
-//! ends them at a byte that is soft, as all bytes of held frames are, so memory alone answers them.
+//! ends them at a byte that is soft, as all bytes of held frames are, so memory alone answers them, where
+//! nothing waits to be stored there.
 ghost use Rattle.std.specs.Prelude.{◌≡◌, ◌+◌, ◌%◌, ◌<◌, ◌≤◌, ◌↔◌, IsTrue, None, IfOk, OnErr, [], length};
 ghost use Rattle.i9_model.specs.declared.layout.TheConstants.{PC_MASK, AC_MASK};
 ghost use Rattle.i9_model.specs.Hazards.{save_hazard};
@@ -13,7 +14,7 @@ ghost use Rattle.i9_model.specs.Requests.{request_hazard, request_writes};
 ghost use Rattle.i9_model.specs.Interrupts.{chosen_soft, record_writes, cleared_hazard, clearing_writes, planned_interrupt};
 ghost use Rattle.i9_model.specs.HeldFrames.{cache_configured};
 ghost use Rattle.i9_model.specs.Numbers.{IsWithin};
-ghost use Rattle.i9_memory.specs.Memory.{memory_of, KeepsRoom};
+ghost use Rattle.i9_queue.specs.Behind.{settled, waiting_of, KeepsRoomIn};
 ghost use Rattle.i9_ints.specs.Ints.{interrupts_of};
 ghost use Rattle.i9_dma.specs.Channels.{dma_of};
 ghost use Rattle.i9_dma.specs.Units.{given_in, bytes_in, planned_bytes};
@@ -25,23 +26,26 @@ use i9_calls::{CallsStop, Pop, Sys, plan_calls, plan_ret};
 use i9_dma::Channels;
 use i9_faults::{Entry, Fault, FaultStop, plan_fault};
 use i9_ints::{Chosen, IntEntry, Ints, clearing_bytes, plan_request};
-use i9_memory::Memory;
 use i9_model::Setup;
+use i9_queue::Behind;
 
 /// Configures regions by words, from one region up.
 #[tactic(auto, using(crate::proofs::Regions::region_rules))]
-fn configure_regions(memory: &mut Memory, region: u8, words: &[u32])
-    requires { region + length words.now ≤ 16 }
-    ensures memory { memory_of memory.new ≡ with_regions (memory_of memory.old) region words.now }
-    ensures keeps { KeepsRoom memory.old memory.new }
+fn configure_regions(behind: &mut Behind, region: u8, words: &[u32])
+    requires drained { waiting_of behind.old ≡ [] }
+    requires few { region + length words.now ≤ 16 }
+    ensures memory { settled behind.new ≡ with_regions (settled behind.old) region words.now }
+    ensures waiting { waiting_of behind.new ≡ waiting_of behind.old }
+    ensures keeps { KeepsRoomIn behind.old behind.new }
 {
     for k in 0..words.len() {
-        memory.configure(region + k as u8, words[k]);
+        behind.configure(region + k as u8, words[k]);
     }
 }
 
 impl Storage {
-    ghost use Rattle.i9_storage.specs.Storage.{cache_of, memory_in, frames_in, size_of, KeepsSpace};
+    ghost use Rattle.i9_storage.specs.Storage.{cache_of, memory_in, frames_in, size_of, waiting_in};
+    ghost use Rattle.i9_storage.specs.Storage.{IsDrained, KeepsSpace};
 
     /// What a call of system procedure `n` makes, by the system procedure table at `table`, from the
     /// process controls and the frame and stack pointers. `Err` says that there is no procedure of
@@ -55,6 +59,7 @@ impl Storage {
         fp: u32,
         sp: u32,
     ) -> Result<Sys, CallsStop>
+        requires drained { IsDrained self.now }
         ensures sys { result ≡ planned_calls (memory_in self.now) (frames_in self.now) table n pc fp sp }
 
         // So the frame can be saved there.
@@ -64,13 +69,14 @@ impl Storage {
         // No bit of PC is set that is not kept.
         ensures kept { IsWithin PC_MASK pc → IfOk result (λ s. IsWithin PC_MASK s.pc) }
     {
-        plan_calls(&self.memory, &self.watch, table, n, pc, fp, sp)
+        plan_calls(self.behind.memory(), &self.watch, table, n, pc, fp, sp)
     }
 
     /// What a return makes, from the previous frame pointer with its return type, the frame pointer,
     /// and the process and arithmetic controls; or the hazard of the first access that meets one
     /// (the i960 CA/CF User's Manual, returns).
     pub fn plan_ret(&self, pfp: u32, fp: u32, pc: u32, ac: u32) -> Result<Pop, u32>
+        requires drained { IsDrained self.now }
         ensures pop { result ≡ planned_ret (memory_in self.now) (frames_in self.now) pfp fp pc ac }
 
         // So the youngest frame can be dropped.
@@ -80,7 +86,7 @@ impl Storage {
         ensures kept_pc { IsWithin PC_MASK pc → IfOk result (λ p. IsWithin PC_MASK p.pc) }
         ensures kept_ac { IsWithin AC_MASK ac → IfOk result (λ p. IsWithin AC_MASK p.ac) }
     {
-        plan_ret(&self.memory, &self.watch, pfp, fp, pc, ac)
+        plan_ret(self.behind.memory(), &self.watch, pfp, fp, pc, ac)
     }
 
     /// What the entry of a fault makes, by the fault table at `table` and the system procedure table
@@ -96,6 +102,7 @@ impl Storage {
         fp: u32,
         sp: u32,
     ) -> Result<Entry, FaultStop>
+        requires drained { IsDrained self.now }
         ensures entry { result ≡ planned_fault (memory_in self.now) (frames_in self.now) table system fault.now pc ac fp sp }
 
         // So the frame can be saved there.
@@ -106,7 +113,7 @@ impl Storage {
         ensures record { IfOk result (λ e. record_write_hazard (frames_in self.now) e.push ≡ None) }
     {
         plan_fault(
-            &self.memory,
+            self.behind.memory(),
             &self.watch,
             table,
             system,
@@ -122,9 +129,10 @@ impl Storage {
     /// table at `table` and the process controls. `Err` is the hazard of the bytes with the requests,
     /// which are read in any case (the i960 CA/CF User's Manual, interrupts).
     pub fn choose_soft(&self, ints: &Ints, table: u32, pc: u32) -> Result<Option<Chosen>, u32>
+        requires drained { IsDrained self.now }
         ensures { result ≡ chosen_soft (interrupts_of ints.now) (memory_in self.now) (frames_in self.now) table pc }
     {
-        ints.choose_soft(&self.memory, &self.watch, table, pc)
+        ints.choose_soft(self.behind.memory(), &self.watch, table, pc)
     }
 
     /// What the entry of an interrupt makes, by the interrupt table at `table`, the interrupt stack
@@ -142,6 +150,7 @@ impl Storage {
         fp: u32,
         sp: u32,
     ) -> Result<IntEntry, u32>
+        requires drained { IsDrained self.now }
         ensures entry { result ≡ planned_interrupt (memory_in self.now) (frames_in self.now) table stack c.now pc ac fp sp }
 
         // So the frame can be saved there.
@@ -154,7 +163,17 @@ impl Storage {
         // And then what chose the interrupt can be cleared.
         ensures clear { IfOk result (λ e. cleared_hazard (memory_in self.now) (frames_in self.now) table c.now e.push e.words ≡ None) }
     {
-        ints.plan_int(&self.memory, &self.watch, table, stack, c, pc, ac, fp, sp)
+        ints.plan_int(
+            self.behind.memory(),
+            &self.watch,
+            table,
+            stack,
+            c,
+            pc,
+            ac,
+            fp,
+            sp,
+        )
     }
 
     /// The bytes that clear what chose an interrupt, each with its address, once its frame is saved
@@ -162,12 +181,13 @@ impl Storage {
     /// and with the last of its vectors before it the byte without the bit of its priority (the i960
     /// CA/CF User's Manual, interrupts).
     pub fn clearing_bytes(&self, table: u32, c: &Chosen, e: &IntEntry) -> ArrayVec<(u32, u8), 2>
+        requires drained { IsDrained self.now }
         requires record { record_write_hazard (frames_in self.now) e.now.push ≡ None }
         requires clear { cleared_hazard (memory_in self.now) (frames_in self.now) table c.now e.now.push e.now.words ≡ None }
         ensures { result.items ≡ clearing_writes c.now.cause
             (with_writes (memory_in self.now) (record_writes (memory_in self.now) e.now.push e.now.words)) table c.now.vector }
     {
-        clearing_bytes(&self.memory, table, c, e)
+        clearing_bytes(self.behind.memory(), table, c, e)
     }
 
     /// What a request of software for vector `v` stores, in the interrupt table at `table`: the byte
@@ -175,9 +195,10 @@ impl Storage {
     /// bit set. `Err` is the hazard of the first access that meets one: both bytes are read, and then
     /// both are written (after the i960 CA/CF User's Manual, interrupts).
     pub fn plan_request(&self, table: u32, v: u8) -> Result<[(u32, u8); 2], u32>
+        requires drained { IsDrained self.now }
         ensures { result ≡ unless (request_hazard (frames_in self.now) table v) (request_writes (memory_in self.now) table v) }
     {
-        plan_request(&self.memory, &self.watch, table, v)
+        plan_request(self.behind.memory(), &self.watch, table, v)
     }
 
     /// The bytes of the next unit of DMA channel `c`, 0 to 3, from memory or as a device gives them; None
@@ -188,51 +209,57 @@ impl Storage {
         c: u8,
         given: Option<&[u8]>,
     ) -> Result<Option<ArrayVec<u8, 16>>, u32>
-        requires { c < 4 }
+        requires drained { IsDrained self.now }
+        requires channel { c < 4 }
         ensures { bytes_in result ≡ planned_bytes (memory_in self.now) (frames_in self.now) (dma_of channels.now) c (given_in given.entry) }
     {
-        channels.plan_unit(&self.memory, &self.watch, c, given)
+        channels.plan_unit(self.behind.memory(), &self.watch, c, given)
     }
 
     /// Starts anew at the instruction address `first`, where nothing is held: reads the PRCB at
     /// `prcb` and its control table, and configures all regions by that table (the i960 CA/CF User's
     /// Manual, sysctl). `Err` is the hazard of these reads, and then nothing changes.
-    #[tactic(auto, using(crate::proofs::Configured::empty_rules))]
+    #[tactic(auto, using(crate::proofs::Configured::empty_rules, i9_queue::proofs::Drained::lent_rules))]
     pub fn reinit(&mut self, first: u32, prcb: u32) -> Result<Setup, u32>
-        requires { (cache_of self.old).held ≡ [] }
+        requires drained { IsDrained self.old }
+        requires empty { (cache_of self.old).held ≡ [] }
         ensures setup { result ≡ planned_setup (memory_in self.old) (frames_in self.old) first prcb }
         ensures memory { IfOk result (λ s. memory_in self.new ≡ configured (memory_in self.old) s.control) }
         ensures cache { cache_of self.new ≡ cache_configured (memory_in self.new) (cache_of self.old) }
         ensures frames { frames_in self.new ≡ frames_in self.old }
         ensures refused { OnErr result (cache_of self.new ≡ cache_of self.old) }
         ensures size { size_of self.new ≡ size_of self.old }
+        ensures waiting { waiting_in self.new ≡ waiting_in self.old }
         ensures keeps { KeepsSpace self.old self.new }
     {
-        reinit(&mut self.memory, &self.watch, first, prcb)
+        reinit(self.behind.memory_mut(), &self.watch, first, prcb)
     }
 
     /// The four words of a group of the control table at `table`, where nothing is held. `Err` is the
     /// hazard of this read.
     #[tactic(auto, using(crate::proofs::Configured::empty_rules))]
     pub fn control_group(&self, table: u32, group: u8) -> Result<[u32; 4], u32>
+        requires drained { IsDrained self.now }
         requires empty { (cache_of self.now).held ≡ [] }
         requires group { group < 7 }
         ensures { result ≡ planned_group (memory_in self.now) (frames_in self.now) table group }
     {
-        control_group(&self.memory, &self.watch, table, group)
+        control_group(self.behind.memory(), &self.watch, table, group)
     }
 
     /// Gives regions from `region` up other configuration words, where nothing is held.
     #[tactic(auto, using(crate::proofs::Configured::empty_rules))]
     pub fn configure(&mut self, region: u8, words: &[u32])
+        requires drained { IsDrained self.old }
         requires empty { (cache_of self.old).held ≡ [] }
         requires few { region + length words.now ≤ 16 }
         ensures memory { memory_in self.new ≡ with_regions (memory_in self.old) region words.now }
         ensures cache { cache_of self.new ≡ cache_configured (memory_in self.new) (cache_of self.old) }
         ensures frames { frames_in self.new ≡ frames_in self.old }
         ensures size { size_of self.new ≡ size_of self.old }
+        ensures waiting { waiting_in self.new ≡ waiting_in self.old }
         ensures keeps { KeepsSpace self.old self.new }
     {
-        configure_regions(&mut self.memory, region, words);
+        configure_regions(&mut self.behind, region, words);
     }
 }

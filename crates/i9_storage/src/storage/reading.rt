@@ -5,25 +5,24 @@ ghost use Rattle.i9_model.specs.Hazards.{read_hazard};
 ghost use Rattle.i9_model.specs.Memory.{in_port_page, is_big, half_in, word_in, words_in, half_bytes, word_bytes};
 ghost use Rattle.i9_model.specs.Writes.{wrapped};
 ghost use Rattle.i9_model.specs.HeldFrames.{over, overlaid, AreWhole};
-ghost use Rattle.i9_memory.specs.Memory.{memory_of};
 ghost use Rattle.i9_storage.specs.Kept.{cache_in, laid_without, byte_in_frame};
 
 use super::Storage;
 use i9_frames::{Frame, Sets};
-use i9_memory::Memory;
 use i9_model::in_port_page;
 use i9_model::layout::{FRAME_SIZE, LOCALS};
+use i9_queue::Behind;
 
 /// How many addresses a region has.
 const REGION_SIZE: u32 = 0x1000_0000;
 
 /// The byte so far above the address of a frame.
-fn frame_byte(memory: &Memory, f: &Frame, above: u32) -> u8
+fn frame_byte(behind: &Behind, f: &Frame, above: u32) -> u8
     requires { above < FRAME_SIZE }
-    ensures { result ≡ byte_in_frame memory.now f.now above }
+    ensures { result ≡ byte_in_frame behind.now f.now above }
 {
     let k = above / 4;
-    let word = memory.word_bytes(f.address.wrapping_add(4 * k), f.words[k as usize]);
+    let word = behind.word_bytes(f.address.wrapping_add(4 * k), f.words[k as usize]);
     word[(above % 4) as usize]
 }
 
@@ -36,17 +35,17 @@ fn words_fit(words: &[u32])
 
 /// A byte of the frame with `k` younger ones, unless it lies beside that frame.
 #[tactic(auto, using(crate::proofs::HeldBytes::byte_rules))]
-fn byte_of(memory: &Memory, sets: &Sets, k: u8, a: u32) -> Option<u8>
+fn byte_of(behind: &Behind, sets: &Sets, k: u8, a: u32) -> Option<u8>
     requires whole { AreWhole sets.now.frames }
     requires there { k < length sets.now.frames }
     requires outside { in_port_page a ≡ false }
-    ensures past { IfNone result ((laid_without (k + 1) memory.now sets.now).bytes a ≡ (laid_without k memory.now sets.now).bytes a) }
-    ensures here { IfSome result (λ b. b ≡ (laid_without k memory.now sets.now).bytes a) }
+    ensures past { IfNone result ((laid_without (k + 1) behind.now sets.now).bytes a ≡ (laid_without k behind.now sets.now).bytes a) }
+    ensures here { IfSome result (λ b. b ≡ (laid_without k behind.now sets.now).bytes a) }
 {
     let f = sets.at(k).copied()?;
     let above = a.wrapping_sub(f.address);
     if above < FRAME_SIZE {
-        Some(frame_byte(memory, &f, above))
+        Some(frame_byte(behind, &f, above))
     } else {
         None
     }
@@ -55,23 +54,23 @@ fn byte_of(memory: &Memory, sets: &Sets, k: u8, a: u32) -> Option<u8>
 /// A byte of memory with the held frames laid over it: that of the youngest frame that has it, or
 /// else the one in memory.
 #[tactic(auto, using(crate::proofs::HeldBytes::laid_rules))]
-fn overlaid_byte(memory: &Memory, sets: &Sets, a: u32) -> u8
+fn overlaid_byte(behind: &Behind, sets: &Sets, a: u32) -> u8
     requires { AreWhole sets.now.frames }
-    ensures { result ≡ (overlaid (cache_in memory.now sets.now)).bytes a }
+    ensures { result ≡ (overlaid (cache_in behind.now sets.now)).bytes a }
 {
     if in_port_page(a) {
-        return memory.byte(a);
+        return behind.byte(a);
     }
     for k in 0..sets.len() {
-        if let Some(b) = byte_of(memory, sets, k, a) {
+        if let Some(b) = byte_of(behind, sets, k, a) {
             return b;
         }
     }
-    memory.byte(a)
+    behind.byte(a)
 }
 
 impl Storage {
-    ghost use Rattle.i9_storage.specs.Storage.{memory_in, frames_in};
+    ghost use Rattle.i9_storage.specs.Storage.{memory_in, acted_in, frames_in};
 
     /// The byte at `a`; 0 in the port page. All bytes of held frames are soft, so the sets are looked
     /// at for a soft byte alone.
@@ -80,9 +79,16 @@ impl Storage {
         ensures { result ≡ (memory_in self.now).bytes a }
     {
         if self.watch.soft(a) {
-            return overlaid_byte(&self.memory, &self.sets, a);
+            return overlaid_byte(&self.behind, &self.sets, a);
         }
-        self.memory.byte(a)
+        self.behind.byte(a)
+    }
+
+    /// The byte at `a` of the memory behind the held frames, whatever waits; 0 in the port page.
+    pub fn acted_byte(&self, a: u32) -> u8
+        ensures { result ≡ (acted_in self.now).bytes a }
+    {
+        self.behind.acted_byte(a)
     }
 
     /// Whether a region is big-endian.
@@ -91,7 +97,7 @@ impl Storage {
         requires { region < 16 }
         ensures { result ≡ is_big (memory_in self.now) region }
     {
-        self.memory.big(region)
+        self.behind.big(region)
     }
 
     /// The two bytes from `a` up, each from the youngest frame that has it.
@@ -114,7 +120,7 @@ impl Storage {
         ensures { result ≡ half_in (memory_in self.now) a }
     {
         match self.watch.check_read(a, 2) {
-            None => self.memory.half(a),
+            None => self.behind.half(a),
             Some(_) => self.laid_half(a),
         }
     }
@@ -144,7 +150,7 @@ impl Storage {
         requires { read_hazard (frames_in self.now) a 4 ≡ None }
         ensures { result ≡ word_in (memory_in self.now) a }
     {
-        self.memory.word(a)
+        self.behind.word(a)
     }
 
     /// The four bytes from `a` up, in the order of the region of `a`. Where none is soft memory has
@@ -179,7 +185,7 @@ impl Storage {
         ensures { result ≡ words_in (memory_in self.now) a LOCALS }
     {
         let Some(f) = self.sets.at(0).copied() else {
-            return self.memory.words(a);
+            return self.behind.words(a);
         };
         words_fit(&f.words);
         if f.address == a {
@@ -197,7 +203,7 @@ impl Storage {
     {
         let at = a.wrapping_add(4 * u32::from(k));
         let Some(f) = self.sets.at(0) else {
-            return self.memory.word(at);
+            return self.behind.word(at);
         };
         words_fit(&f.words);
         if f.address == a {
@@ -213,7 +219,7 @@ impl Storage {
     pub fn half_bytes(&self, a: u32, v: u16) -> [u8; 2]
         ensures { result ≡ half_bytes (memory_in self.now) a v }
     {
-        self.memory.half_bytes(a, v)
+        self.behind.half_bytes(a, v)
     }
 
     /// The bytes of a word that is stored at `a`, from the lowest address up: in the order of the
@@ -222,6 +228,6 @@ impl Storage {
     pub fn word_bytes(&self, a: u32, v: u32) -> [u8; 4]
         ensures { result ≡ word_bytes (memory_in self.now) a v }
     {
-        self.memory.word_bytes(a, v)
+        self.behind.word_bytes(a, v)
     }
 }

@@ -1,4 +1,4 @@
-use Rattle.std.proofs.Common.{◌≡◌, false, replicate, ap, ◌∙◌}
+use Rattle.std.proofs.Common.{◌≡◌, false, ap, ◌∙◌}
 use Rattle.i9_memory.specs.Memory.{memory_of}
 use Rattle.i9_model.specs.Image.{pairs_of}
 use Rattle.i9_model.specs.Memory.{Memory, with_writes}
@@ -24,11 +24,12 @@ returns-clause-state c =
     let setup = c.boot-setup.ensures.setup ∙ ap boot_setup loaded in
     let storage = c.in_ok-storage.storage in
     let memory : memory_in storage ≡ boot_memory (image_memory pairs) = ap overlaid c.in_ok-storage.ensures.cache ∙ c.boot-setup.ensures.memory ∙ ap boot_memory loaded in
-    let kept : state_of record { regs = c.start_registers.result; ip = c.aligned.result; ac = c.boot-setup.result.ac; pc = BOOT_PC; tc = c.start_trace_controls.result; check = false; ints = c.start_interrupts.result; channels = c.new-2.result; breaks = c.start_breaks.result; tables = c.tables_of.result; count = 0; storage = storage } ≡ started c.boot-setup.result (registers_of (replicate 32 0)) 0 (memory_in storage) (frames_in storage) =
+    let file = c.set_arithmetic.new.file in
+    let kept : state_of record { file = file; ip = c.aligned.result; flags = c.set_arithmetic.new.flags; pc = BOOT_PC; tc = c.start_trace_controls.result; check = false; ints = c.start_interrupts.result; channels = c.new-2.result; breaks = c.start_breaks.result; tables = c.tables_of.result; count = 0; storage = storage; drained = c.in_ok-storage.ensures.waiting } ≡ started c.boot-setup.result (registers_of c.new-file.result) 0 (memory_in storage) (frames_in storage) =
     λ i. record {
-      regs = c.start_registers.ensures i;
+      regs = (c.set_arithmetic.ensures.registers ∙ c.start_registers.ensures.registers) i;
       ip = c.aligned.ensures i;
-      ac = c.boot-setup.result.ac;
+      ac = c.set_arithmetic.ensures.ac i;
       pc = BOOT_PC;
       count = 0;
       check = false;
@@ -39,4 +40,5 @@ returns-clause-state c =
       trace = record { tc = c.start_trace_controls.ensures i; breaks = c.start_breaks.ensures i };
       tables = c.tables_of.ensures i;
     } in
-    kept ∙ (λ i. started (setup i) (registers_of-zeros 32 i) 0 (memory i) (c.in_ok-storage.ensures.frames i))
+    let none = ap registers_of c.new-file.ensures ∙ registers_of-zeros 33 in
+    kept ∙ (λ i. started (setup i) (none i) 0 (memory i) (c.in_ok-storage.ensures.frames i))

@@ -7,6 +7,7 @@ use Rattle.i9_storage.specs.Storage as stores
 use Rattle.i9_processor.specs.declared.effect.Move.{Move}
 use Rattle.i9_processor.specs.Effect.{move_in, sets_by, group_in}
 use Rattle.i9_processor.specs.State.{registers_of, state_of, cache_of, size_of}
+use Rattle.i9_processor.proofs.RegisterList.{arithmetic_kept}
 use Rattle.i9_processor.proofs.processor.Processor.move_frames.Goals as goal
 
 pub returns-in-Saves-clause-cache : goal.returns-in-Saves-clause-cache
@@ -25,14 +26,15 @@ returns-in-Returns-clause-state c =
     let p = c.args.self.now in
     let s = state_of p in
     let e = c.args.e.now in
-    let old = registers_of p.regs in
-    let regs : registers_of c.set_frame-in-Returns.new.regs ≡ written old (sets_by s e.frames (group_in e)) =
-    c.set_frame-in-Returns.ensures
+    let old = registers_of p.file in
+    let regs : registers_of c.set_frame-in-Returns.new.file ≡ written old (sets_by s e.frames (group_in e)) =
+    c.set_frame-in-Returns.ensures.registers
     ∙ ap (λ (ws : List ℕ). written old (frame_sets ws c.in-Returns.frame)) c.frame_words-locals.ensures
     ∙ ap (λ (m : Move). written old (sets_by s m (group_in e))) (sym c.in-Returns.is) in
     let frames : stores.frames_in c.restore_frame.new.self ≡ frames_after s.frames (move_in s e.frames) =
     c.restore_frame.ensures.frames ∙ ap (λ (m : Move). frames_after s.frames (move_in s m)) (sym c.in-Returns.is) in
-    λ i. record s { regs = regs i; memory = stores.memory_in c.restore_frame.new.self; frames = frames i }
+    let ac = arithmetic_kept p.flags p.file c.set_frame-in-Returns.new.file c.set_frame-in-Returns.ensures.code in
+    λ i. record s { regs = regs i; ac = ac i; memory = stores.memory_in c.restore_frame.new.self; frames = frames i }
 
 pub returns-in-Flushes-clause-state : goal.returns-in-Flushes-clause-state
 unfolding state_of written
@@ -40,7 +42,7 @@ returns-in-Flushes-clause-state c =
     let p = c.args.self.now in
     let s = state_of p in
     let e = c.args.e.now in
-    let old = registers_of p.regs in
+    let old = registers_of p.file in
     let regs : old ≡ written old (sets_by s e.frames (group_in e)) = ap (λ (m : Move). written old (sets_by s m (group_in e))) (sym c.in-Flushes.is) in
     let frames : stores.frames_in c.flush.new.self ≡ frames_after s.frames (move_in s e.frames) =
     c.flush.ensures.frames ∙ ap (λ (m : Move). frames_after s.frames (move_in s m)) (sym c.in-Flushes.is) in

@@ -13,4 +13,4 @@ returns-then-f-a c =
     let is : Some f ≡ slice_get (reverse s.sets.frames) 0 = search rules in
     let whole : length f.words ≡ LOCALS = search rules in
     let low : f.address < 2 ^ 32 = search rules in
-    youngest_is s.memory s.watch s.sets f s.kept is low whole c.words_fit.ensures ∙ ap (λ (x : ℕ). words_in (memory_in s) x LOCALS) c.if-f-a.true
+    youngest_is s.behind s.watch s.sets f s.kept is low whole c.words_fit.ensures ∙ ap (λ (x : ℕ). words_in (memory_in s) x LOCALS) c.if-f-a.true

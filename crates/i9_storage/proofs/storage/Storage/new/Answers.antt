@@ -4,4 +4,4 @@ use Rattle.i9_storage.proofs.Keeping.{kept_new}
 use Rattle.i9_storage.proofs.storage.Storage.new.Goals as goal
 
 pub invariant_of-result : goal.invariant_of-result
-invariant_of-result c = record { kept = kept_new c.args.memory c.new.result c.in_ok-new.field-0 c.new.ensures.frames (ap (λ (h : Held). h.frames) c.in_ok-new.ensures.empty) }
+invariant_of-result c = record { kept = kept_new c.new.result c.new-2.result c.in_ok-new.field-0 c.new-2.ensures.frames (ap (λ (h : Held). h.frames) c.in_ok-new.ensures.empty) }

@@ -9,11 +9,11 @@ invariant_of-self c =
     let old = c.args.self.now in
     let whole : length c.args.f.words ≡ LOCALS = search rules in
     record {
-      kept = kept_save old.memory c.hold.new.memory old.watch c.called.new.self old.sets c.hold.new.sets c.args.f old.kept c.hold.ensures.keeps c.called.ensures.frames c.requires.free
+      kept = kept_save old.behind c.hold.new.behind old.watch c.called.new.self old.sets c.hold.new.sets c.args.f old.kept c.hold.ensures.keeps c.called.ensures.frames c.requires.free
           c.hold.ensures.cache whole c.requires.space.bytes;
     }
 
 pub returns-clause-memory : goal.returns-clause-memory
 returns-clause-memory c =
     let old = c.args.self.now in
-    save_laid old.sets.size c.args.f (cache_in old.memory old.sets) (cache_in c.hold.new.memory c.hold.new.sets) c.hold.ensures.cache
+    save_laid old.sets.size c.args.f (cache_in old.behind old.sets) (cache_in c.hold.new.behind c.hold.new.sets) c.hold.ensures.cache

@@ -9,7 +9,7 @@ invariant_of-self c =
     let a = c.args.a in
     let bytes = c.args.bytes.now in
     let wrote = run_wrote (frames_of old.watch) (frames_of c.wrote.new.self) a bytes c.wrote.ensures.frames in
-    record { kept = kept_store old.memory c.store.new.self old.watch c.wrote.new.self old.sets (upwards a bytes) old.kept c.store.ensures.keeps wrote c.requires.free }
+    record { kept = kept_store old.behind c.store.new.self old.watch c.wrote.new.self old.sets (upwards a bytes) old.kept c.store.ensures.keeps wrote c.requires.free }
 
 pub returns-clause-frames : goal.returns-clause-frames
 returns-clause-frames c =
@@ -18,4 +18,4 @@ returns-clause-frames c =
 pub returns-clause-memory : goal.returns-clause-memory
 returns-clause-memory c =
     let old = c.args.self.now in
-    store_laid old.memory c.store.new.self old.watch old.sets (upwards c.args.a c.args.bytes.now) old.kept c.requires.free c.store.ensures.bytes
+    store_laid old.behind c.store.new.self old.watch old.sets (upwards c.args.a c.args.bytes.now) old.kept c.requires.free c.store.ensures.settled

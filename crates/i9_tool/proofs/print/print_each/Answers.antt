@@ -2,7 +2,7 @@ use Rattle.std.proofs.Common.{ap}
 use Rattle.i9_tool.specs.declared.print.Printed.TheVariants.{Done, Write, Memory}
 use Rattle.i9_tool.specs.Print.{line_text}
 use Rattle.i9_tool.proofs.Prints.{prints_same, prints_stop_at, prints_next}
-use Rattle.i9_tool.proofs.print.print_lines.Goals as goal
+use Rattle.i9_tool.proofs.print.print_each.Goals as goal
 
 pub returns-in-Write : goal.returns-in-Write
 returns-in-Write g c =

@@ -1,0 +1,200 @@
+-- A length cuts a late run, but for arithmetic faults at the length itself, which are precise there.
+use Rattle.std.proofs.Common.{◌≡◌, ◌≢◌, ℕ, ◌+◌, ◌<◌, ◌≤◌, Bool, true, cond, eqb, List, [], ◌∷◌, Option, Some, None, refl, sym, ap, ◌∙◌, subst, ◌⊎◌, inl, inr, ◌↔◌, arith}
+use Rattle.std.specs.Prelude.{nat_lt}
+use Rattle.std.proofs.lemmas.Bool.{lt-ltb}
+use Rattle.std.proofs.lemmas.Bool.Decides.{nat_tests}
+use Rattle.i9_model.specs.declared.event.Event.{Event}
+use Rattle.i9_model.specs.declared.run.Due.{Due}
+use Rattle.i9_model.specs.declared.run.Due.TheVariants as dues
+use Rattle.i9_model.specs.declared.run.End.{End}
+use Rattle.i9_model.specs.declared.run.End.TheVariants.{Limit}
+use Rattle.i9_model.specs.State.{State}
+use Rattle.i9_model.specs.Before.{choice_in}
+use Rattle.i9_model.specs.Run.{Given, Kind, Instruction, Faulted, Entered, Interrupted, Reached, Blocked, Record, Ends, counts_of, action_by_kind, due_by, due_after, event_after, next_by_choice, next_in, state_after, next, IsPast}
+use Rattle.i9_model.proofs.ControlLaws.{acted-count}
+use Rattle.i9_model.proofs.Comes.{MayCome, next_comes}
+use Rattle.i9_model.proofs.Ends.{count_within}
+use Rattle.i9_model.proofs.Cuts.{state_by, past_more, run_more}
+use Rattle.i9_course.specs.Course.{last_fault, is_overtaken, imprecise_at}
+use Rattle.i9_course.specs.LateRun.{steps, IsLatePast, Ended, Imprecise, IsLateRun}
+use Rattle.i9_course.proofs.Ahead.{imprecise_overtaken}
+use Rattle.i9_course.proofs.LateRuns.{records_of-steps, late_past, late_next, with_step, run_imprecise, imprecise_run, run_precise, precise_run, late_run, either_none}
+use Rattle.i9_course.proofs.LateAlike.{imprecise_where}
+
+abbrev at_length : Given → ℕ → Given
+at_length g more = record g { length = more }
+
+-- ---- below the length
+
+-- a record comes below the length, or it is the entry of a fault, after which nothing is due
+abbrev ComesBelow : ℕ → State → Kind → State → Type 0
+ComesBelow limit s k u = (s.count < limit) ⊎ ((due_by k u ≡ dues.Nothing) × (counts_of k ≡ 0))
+
+below : (a b : ℕ) → a ≤ b → a ≢ b → a < b
+below a b le other = grind (arith, le, other)
+
+kind_below : (limit : ℕ) (due : Due) (stands : Option Event) (s u : State) (k : Kind) → s.count ≤ limit
+    → MayCome limit due stands s k → ComesBelow limit s k u
+kind_below limit due stands s u (Instruction i) le may = inl (below s.count limit le may.1)
+kind_below limit due stands s u (Faulted inst f) le may = inl (below s.count limit le may.1)
+kind_below limit due stands s u (Entered e) le may = inr (refl, refl)
+kind_below limit due stands s u (Interrupted c e) le may = inl (below s.count limit le may.1)
+kind_below limit due stands s u (Reached e x) le may = inl (below s.count limit le may.1)
+kind_below limit due stands s u (Blocked e a) le may = inl (below s.count limit le may.1)
+
+at_most : (a b : ℕ) → a ≤ b → (a < b) ⊎ (a ≡ b)
+at_most a b le = grind arith
+
+-- before the last record the count is below the length, or nothing is due behind it, at the length
+abbrev IsBelow : Given → List Record → Record → Type 0
+IsBelow g rs r =
+    ((state_after g rs).count < g.length) ⊎ ((due_after (r ∷ rs) ≡ dues.Nothing) × (r.after.count ≡ g.length))
+
+last_below : (g : Given) (rs : List Record) (r : Record) → IsPast g (r ∷ rs) → IsBelow g rs r
+last_below g rs r past =
+    let s = state_after g rs in
+    let within : s.count ≤ g.length = count_within g rs past.0 in
+    let comes = next_comes g.length (due_after rs) (event_after g rs) s r past.1 in
+    let count : r.after.count ≡ s.count + counts_of r.kind =
+    ap (λ (q : Record). q.after.count) comes.0
+    ∙ ap (λ (n : ℕ). n + counts_of r.kind) (acted-count s (action_by_kind r.kind s)) in
+    elim (kind_below g.length (due_after rs) (event_after g rs) s r.before r.kind within comes.1) [
+      | inl lt ↦ inl lt
+      | inr entry ↦ elim (at_most s.count g.length within) [
+        | inl lt ↦ inl lt
+        | inr same ↦ inr (entry.0, omega (arith, count, same, entry.1))
+      ]
+    ]
+
+-- where the run does not end there by its length, it is below it
+ends_there : (g : Given) (rs : List Record) (r : Record) → due_after (r ∷ rs) ≡ dues.Nothing
+    → r.after.count ≡ g.length → next g (r ∷ rs) ≡ Ends Limit
+ends_there g rs r none at =
+    let stands = event_after g (r ∷ rs) in
+    let test : eqb r.after.count g.length ≡ true = grind (arith, nat_tests, at) in
+    ap (λ (due : Due). next_in g.length due stands r.after) none
+    ∙ ap (λ (b : Bool). cond b (Ends Limit) (next_by_choice stands r.after (choice_in r.after))) test
+
+goes_below : (g : Given) (rs : List Record) (r : Record) → IsPast g (r ∷ rs) → next g (r ∷ rs) ≢ Ends Limit
+    → (state_after g rs).count < g.length
+goes_below g rs r past other = elim (last_below g rs r past) [
+  | inl lt ↦ lt
+  | inr there ↦ absurd (other (ends_there g rs r there.0 there.1))
+]
+
+-- nor where the count behind it is
+counts_below : (g : Given) (rs : List Record) (r : Record) → IsPast g (r ∷ rs) → r.after.count < g.length
+    → (state_after g rs).count < g.length
+counts_below g rs r past lt = elim (last_below g rs r past) [
+  | inl here ↦ here
+  | inr there ↦ absurd (let at = there.1 in omega (arith, at, lt))
+]
+
+-- ---- at a greater length
+
+-- below the length a greater one makes no other fault imprecise
+pub imprecise_more : (g : Given) (more : ℕ) (rs : List Record) → g.length ≤ more → (state_after g rs).count < g.length
+    → imprecise_at (at_length g more) (steps rs) ≡ imprecise_at g (steps rs)
+imprecise_more g more rs longer lt =
+    let k = at_length g more in
+    let n = (state_after g rs).count in
+    imprecise_where g k rs
+    (ap (λ (s : State). nat_lt s.count more) (state_by g k rs refl)
+    ∙ lt-ltb n more (omega (arith, longer, lt)) ∙ sym (lt-ltb n g.length lt))
+
+-- all records but the last are done late at it
+before_more : (g : Given) (more : ℕ) (rs : List Record) (r : Record) → g.length ≤ more → IsLatePast g (r ∷ rs)
+    → IsLatePast (at_length g more) rs
+before_more g more [] r longer late = tt
+before_more g more (q ∷ rs) r longer late =
+    let k = at_length g more in
+    let past = late_past g (q ∷ rs) late.0 in
+    let e = late_next g (q ∷ rs) r late in
+    let lt = goes_below g rs q past (λ no. cc (sym e ∙ no)) in
+    with_step k rs q (before_more g more rs q longer late.0) (imprecise_more g more rs longer lt ∙ late.0.1)
+    (past_more g more (q ∷ rs) longer past).1
+
+-- and the last one, where the fault before it is precise
+pub last_more : (g : Given) (more : ℕ) (rs : List Record) (r : Record) → g.length ≤ more → IsLatePast g (r ∷ rs)
+    → imprecise_at (at_length g more) (steps rs) ≡ None → IsLatePast (at_length g more) (r ∷ rs)
+last_more g more rs r longer late none =
+    with_step (at_length g more) rs r (before_more g more rs r longer late) none
+    (past_more g more (r ∷ rs) longer (late_past g (r ∷ rs) late)).1
+
+pub late_more : (g : Given) (more : ℕ) (rs : List Record) (r : Record) → g.length ≤ more → IsLatePast g (r ∷ rs)
+    → (IsLatePast (at_length g more) (r ∷ rs) ↔ imprecise_at (at_length g more) (steps rs) ≡ None)
+late_more g more rs r longer late = (λ there. there.1, λ none. last_more g more rs r longer late none)
+
+-- below the length each is
+pub below_more : (g : Given) (more : ℕ) (rs : List Record) → g.length ≤ more → (state_after g rs).count < g.length
+    → IsLatePast g rs → IsLatePast (at_length g more) rs
+below_more g more [] longer lt late = tt
+below_more g more (r ∷ rs) longer lt late =
+    let here = counts_below g rs r (late_past g (r ∷ rs) late) lt in
+    last_more g more rs r longer late (imprecise_more g more rs longer here ∙ late.1)
+
+-- no fault is imprecise where none was raised, whatever the length
+pub none_raised : (g : Given) (rs : List Record) → last_fault rs ≡ None → imprecise_at g (steps rs) ≡ None
+none_raised g [] none = either_none (is_overtaken g []) None refl
+none_raised g (r ∷ rs) none = either_none (is_overtaken g (steps (r ∷ rs))) (last_fault (r ∷ rs)) none
+
+pub precise_more : (g : Given) (more : ℕ) (rs : List Record) → g.length ≤ more → IsLatePast g rs
+    → imprecise_at g (steps rs) ≡ None → (last_fault rs ≡ None) ⊎ ((state_after g rs).count < g.length)
+    → imprecise_at (at_length g more) (steps rs) ≡ None
+precise_more g more rs longer late none (inl calm) = none_raised (at_length g more) rs calm
+precise_more g more rs longer late none (inr lt) = imprecise_more g more rs longer lt ∙ none
+
+pub late_longer : (g : Given) (more : ℕ) (rs : List Record) (r : Record) → g.length ≤ more → IsLatePast g (r ∷ rs)
+    → (last_fault rs ≡ None) ⊎ ((state_after g rs).count < g.length) → IsLatePast (at_length g more) (r ∷ rs)
+late_longer g more rs r longer late h =
+    last_more g more rs r longer late (precise_more g more rs longer late.0 late.1 h)
+
+-- ---- runs
+
+limit_no : (e : End) → e ≢ Limit → Ends e ≢ Ends Limit
+limit_no e other h = other (let same : e ≡ Limit = cc in same)
+
+-- all records are done late at the greater length
+past_ended : (g : Given) (more : ℕ) (rs : List Record) (e : End) → g.length ≤ more → e ≢ Limit
+    → IsLateRun g rs (Ended e) → IsLatePast (at_length g more) rs
+past_ended g more [] e longer other run = tt
+past_ended g more (r ∷ rs) e longer other run =
+    let is = late_run g (r ∷ rs) e run in
+    let lt = goes_below g rs r is.past (λ no. limit_no e other (sym is.ends ∙ no)) in
+    last_more g more rs r longer run.past (imprecise_more g more rs longer lt ∙ run.past.1)
+
+pub ended_more : (g : Given) (more : ℕ) (rs : List Record) (e : End) → g.length ≤ more → e ≢ Limit
+    → IsLateRun g rs (Ended e)
+    → (IsLateRun (at_length g more) rs (Ended e) ↔ imprecise_at (at_length g more) (steps rs) ≡ None)
+ended_more g more rs e longer other run =
+    let k = at_length g more in (
+      λ there. run_precise k rs e there,
+      λ none. precise_run k rs e (past_ended g more rs e longer other run) none
+          (run_more g more rs e longer other (late_run g rs e run)).ends,
+    )
+
+pub ended_longer : (g : Given) (more : ℕ) (rs : List Record) (e : End) → g.length ≤ more → e ≢ Limit
+    → IsLateRun g rs (Ended e) → (last_fault rs ≡ None) ⊎ ((state_after g rs).count < g.length)
+    → IsLateRun (at_length g more) rs (Ended e)
+ended_longer g more rs e longer other run h =
+    (ended_more g more rs e longer other run).1 (precise_more g more rs longer run.past (run_precise g rs e run) h)
+
+pub faulted_more : (g : Given) (more : ℕ) (rs : List Record) (e : End) (a : ℕ) → g.length ≤ more → e ≢ Limit
+    → IsLateRun g rs (Ended e) → imprecise_at (at_length g more) (steps rs) ≡ Some a
+    → IsLateRun (at_length g more) rs (Imprecise a)
+faulted_more g more rs e a longer other run is =
+    imprecise_run (at_length g more) rs a (past_ended g more rs e longer other run) is
+
+-- an imprecise fault is below the length
+pub imprecise_below : (g : Given) (rs : List Record) (a : ℕ) → IsLateRun g rs (Imprecise a)
+    → (state_after g rs).count < g.length
+imprecise_below g rs a run =
+    subst (λ (qs : List Record). (state_after g qs).count < g.length) (records_of-steps rs)
+    (imprecise_overtaken g (steps rs) a (run_imprecise g rs a run)).1
+
+pub imprecise_run_more : (g : Given) (more : ℕ) (rs : List Record) (a : ℕ) → g.length ≤ more
+    → IsLateRun g rs (Imprecise a) → IsLateRun (at_length g more) rs (Imprecise a)
+imprecise_run_more g more rs a longer run =
+    let lt = imprecise_below g rs a run in
+    imprecise_run (at_length g more) rs a (below_more g more rs longer lt run.past)
+    (imprecise_more g more rs longer lt ∙ run_imprecise g rs a run)

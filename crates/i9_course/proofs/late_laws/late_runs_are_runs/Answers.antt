@@ -1,0 +1,24 @@
+use Rattle.i9_course.proofs.LateRuns.{records_of-steps, late_past, late_first, late_run, none_late, none_run}
+use Rattle.i9_course.proofs.Named.{imprecise_named}
+use Rattle.i9_course.proofs.late_laws.late_runs_are_runs.Goals as goal
+
+pub returns-clause-records : goal.returns-clause-records
+returns-clause-records c = records_of-steps
+
+pub returns-clause-past : goal.returns-clause-past
+returns-clause-past c = late_past
+
+pub returns-clause-first : goal.returns-clause-first
+returns-clause-first c = late_first
+
+pub returns-clause-run : goal.returns-clause-run
+returns-clause-run c = late_run
+
+pub returns-clause-imprecise : goal.returns-clause-imprecise
+returns-clause-imprecise c = imprecise_named
+
+pub returns-clause-same_past : goal.returns-clause-same_past
+returns-clause-same_past c = none_late
+
+pub returns-clause-same_run : goal.returns-clause-same_run
+returns-clause-same_run c = none_run

@@ -1,0 +1,14 @@
+use Rattle.i9_course.proofs.LateRuns.{late_records, late_end, fault_ends, none_behind}
+use Rattle.i9_course.proofs.late_laws.one_late_run.Goals as goal
+
+pub returns-clause-records : goal.returns-clause-records
+returns-clause-records c = late_records
+
+pub returns-clause-finish : goal.returns-clause-finish
+returns-clause-finish c = late_end
+
+pub returns-clause-fault : goal.returns-clause-fault
+returns-clause-fault c = fault_ends
+
+pub returns-clause-behind : goal.returns-clause-behind
+returns-clause-behind c = none_behind

@@ -1,0 +1,44 @@
+-- A run whose results land late: what is done, as far as no fault is imprecise, and how it ends.
+use Rattle.std.specs.Prelude.{◌≡◌, ℕ, Option, Some, None, List, [], ◌∷◌}
+use Rattle.std.specs.List.{AllByRecursion}
+use Rattle.i9_model.specs.declared.run.End.{End}
+use Rattle.i9_model.specs.Run.{Given, Record, Next, Does, Ends, next}
+use Rattle.i9_course.specs.Course.{Item, Step, late_fault, imprecise_at, IsCourse}
+
+-- the records as items, with no mark between them
+abbrev pub steps : List Record → List Item
+steps [] = []
+steps (r ∷ rs) = Step r ∷ steps rs
+
+-- these are the first records of such a run: no fault before the last record is imprecise
+abbrev pub IsLatePast : Given → List Record → Type 0
+IsLatePast g rs = IsCourse g (steps rs)
+
+-- How such a run ends: as the run of the precise machine may, or at the address of an instruction whose fault is
+-- imprecise. (Such an end stands beside `End` until the machine has it.)
+pub data Finish : Type 0 where
+  Ended : (end : End) → Finish
+  Imprecise : (address : ℕ) → Finish
+
+-- the end that comes next, where one does
+abbrev pub ended_by : Next → Option Finish
+ended_by (Does r) = None
+ended_by (Ends e) = Some (Ended e)
+
+-- an imprecise fault comes before what comes next
+abbrev pub finish_by : Option ℕ → Next → Option Finish
+finish_by (Some a) o = Some (Imprecise a)
+finish_by None o = ended_by o
+
+-- the end after these records, where one comes
+abbrev pub finish_after : Given → List Record → Option Finish
+finish_after g rs = finish_by (imprecise_at g (steps rs)) (next g rs)
+
+-- these are the records of such a run, and this is its end
+pub record IsLateRun (g : Given) (rs : List Record) (f : Finish) : Type 0 where
+  pub past : IsLatePast g rs
+  pub ends : finish_after g rs ≡ Some f
+
+-- no instruction among these raised an arithmetic fault
+abbrev pub HaveNoLateFault : List Record → Type 0
+HaveNoLateFault rs = AllByRecursion (λ r. late_fault r.kind ≡ None) rs

@@ -1,0 +1,107 @@
+//! Laws of runs whose results land late, as the contracts of calls that do nothing. Lists have the newest
+//! record first.
+
+ghost use Rattle.std.specs.Prelude.{◌≡◌, ◌≢◌, ◌<◌, ◌≤◌, ◌∷◌, ◌++◌, ◌⊎◌, ◌↔◌, ℕ, List, Option, Some, None};
+ghost use Rattle.i9_isa.specs.declared.inst.Inst.{Inst};
+ghost use Rattle.i9_model.specs.declared.faults.TheConstants.{ARITHMETIC};
+ghost use Rattle.i9_model.specs.declared.faults.Fault.{Fault};
+ghost use Rattle.i9_model.specs.declared.event.Timed.{Timed};
+ghost use Rattle.i9_model.specs.declared.run.End.{End};
+ghost use Rattle.i9_model.specs.declared.run.End.TheVariants.{Limit};
+ghost use Rattle.i9_model.specs.State.{State};
+ghost use Rattle.i9_model.specs.HeldFrames.{Cache};
+ghost use Rattle.i9_model.specs.Run.{Given, Record, Kind, Faulted, IsPast, IsRun, state_after, reached_after};
+ghost use Rattle.i9_model.specs.Turns.{IsAlike};
+ghost use Rattle.i9_course.specs.NeedOf.{need_of};
+ghost use Rattle.i9_course.specs.Course.{records_of, last_fault, imprecise_at};
+ghost use Rattle.i9_course.specs.LateRun.{steps, IsLatePast, Finish, Ended, Imprecise, finish_after, IsLateRun, HaveNoLateFault};
+
+/// Every late run ends, whatever was done so far, and none counts more instructions than its length.
+pub fn every_late_run_ends()
+    ensures ends { (g : Given) (rs : List Record) → IsLatePast g rs
+        → (more : List Record) × (f : Finish) × IsLateRun g (more ++ rs) f }
+    ensures within { (g : Given) (rs : List Record) → IsLatePast g rs → (state_after g rs).count ≤ g.length }
+{}
+
+/// A late run is the only one of what it is given: an imprecise fault ends it, whatever comes next, and
+/// nothing is done behind its end.
+pub fn one_late_run()
+    ensures records { (g : Given) (rs qs : List Record) (e f : Finish) → IsLateRun g rs e → IsLateRun g qs f → rs ≡ qs }
+    ensures finish { (g : Given) (rs qs : List Record) (e f : Finish) → IsLateRun g rs e → IsLateRun g qs f → e ≡ f }
+    ensures fault { (g : Given) (rs : List Record) (a : ℕ) → imprecise_at g (steps rs) ≡ Some a
+        → finish_after g rs ≡ Some (Imprecise a) }
+    ensures behind { (g : Given) (rs : List Record) (r : Record) (f : Finish) → IsLateRun g rs f
+        → ¬ IsLatePast g (r ∷ rs) }
+{}
+
+/// What is done late is done by the precise machine, and a late run has the first records of its run. One
+/// that ends otherwise than at an imprecise fault is its run; one that ends at such a fault stops behind
+/// the instruction at its address, which raised an arithmetic fault. Where no instruction raises one, all
+/// that the precise machine does is done late, and its run is the late run.
+pub fn late_runs_are_runs()
+    ensures records { (rs : List Record) → records_of (steps rs) ≡ rs }
+    ensures past { (g : Given) (rs : List Record) → IsLatePast g rs → IsPast g rs }
+    ensures first { (g : Given) (rs qs : List Record) (e : End) (f : Finish) → IsRun g rs e → IsLateRun g qs f
+        → (more : List Record) × (more ++ qs ≡ rs) }
+    ensures run { (g : Given) (rs : List Record) (e : End) → IsLateRun g rs (Ended e) → IsRun g rs e }
+    ensures imprecise { (g : Given) (rs : List Record) (a : ℕ) → IsLateRun g rs (Imprecise a)
+        → (r : Record) × (qs : List Record) × (i : Inst) × (f : Fault) × (rs ≡ r ∷ qs)
+        × (r.kind ≡ Faulted (Some i) f) × (f.kind ≡ ARITHMETIC) × (r.before.ip ≡ a) }
+    ensures same_past { (g : Given) (rs : List Record) → HaveNoLateFault rs → IsPast g rs → IsLatePast g rs }
+    ensures same_run { (g : Given) (rs : List Record) (e : End) → HaveNoLateFault rs → IsRun g rs e
+        → IsLateRun g rs (Ended e) }
+{}
+
+/// Sets decide no overtaking. What is done needs the same with any number of sets and any frames that
+/// are held, but that a barrier may take other turns; so the same faults are imprecise, and late runs
+/// are the same.
+pub fn lateness_does_not_depend_on_sets()
+    ensures needs { (n m : ℕ) (c d : Cache) (s : State) (k : Kind) → IsAlike (need_of n c s k) (need_of m d s k) }
+    ensures imprecise { (g : Given) (asked : Option ℕ) (rs : List Record)
+        → imprecise_at (record g { sets = asked }) (steps rs) ≡ imprecise_at g (steps rs) }
+    ensures past { (g : Given) (asked : Option ℕ) (rs : List Record)
+        → (IsLatePast (record g { sets = asked }) rs ↔ IsLatePast g rs) }
+    ensures run { (g : Given) (asked : Option ℕ) (rs : List Record) (f : Finish)
+        → (IsLateRun (record g { sets = asked }) rs f ↔ IsLateRun g rs f) }
+{}
+
+/// Nor does the plan of events: which fault is imprecise depends on the records, and a late run is also
+/// that of the events alone that it reached.
+pub fn lateness_does_not_depend_on_the_plan()
+    ensures imprecise { (g : Given) (p : List Timed) (rs : List Record)
+        → imprecise_at (record g { plan = p }) (steps rs) ≡ imprecise_at g (steps rs) }
+    ensures past { (g : Given) (rs : List Record) → IsLatePast g rs
+        → IsLatePast (record g { plan = reached_after rs }) rs }
+    ensures run { (g : Given) (rs : List Record) (f : Finish) → IsLateRun g rs f
+        → IsLateRun (record g { plan = reached_after rs }) rs f }
+{}
+
+/// The length of a late run cuts it, and changes nothing below the length. At the length itself an
+/// arithmetic fault is precise, which at a greater one may be imprecise. So what is done late at a
+/// length, but for the entry of such a fault, is done late at every greater one; and a late run that
+/// ends otherwise than by its length has the same records at every greater one, and the same end, but
+/// where such a fault, whose entry cannot be made, is imprecise there.
+pub fn a_length_cuts_the_late_run()
+    ensures imprecise { (g : Given) (more : ℕ) (rs : List Record) → g.length ≤ more
+        → (state_after g rs).count < g.length
+        → imprecise_at (record g { length = more }) (steps rs) ≡ imprecise_at g (steps rs) }
+    ensures below { (g : Given) (more : ℕ) (rs : List Record) → g.length ≤ more
+        → (state_after g rs).count < g.length → IsLatePast g rs → IsLatePast (record g { length = more }) rs }
+    ensures past { (g : Given) (more : ℕ) (rs : List Record) (r : Record) → g.length ≤ more → IsLatePast g (r ∷ rs)
+        → (last_fault rs ≡ None) ⊎ ((state_after g rs).count < g.length)
+        → IsLatePast (record g { length = more }) (r ∷ rs) }
+    ensures past_where { (g : Given) (more : ℕ) (rs : List Record) (r : Record) → g.length ≤ more
+        → IsLatePast g (r ∷ rs) → (IsLatePast (record g { length = more }) (r ∷ rs)
+        ↔ imprecise_at (record g { length = more }) (steps rs) ≡ None) }
+    ensures fault { (g : Given) (more : ℕ) (rs : List Record) (a : ℕ) → g.length ≤ more
+        → IsLateRun g rs (Imprecise a) → IsLateRun (record g { length = more }) rs (Imprecise a) }
+    ensures run { (g : Given) (more : ℕ) (rs : List Record) (e : End) → g.length ≤ more → e ≢ Limit
+        → IsLateRun g rs (Ended e) → (last_fault rs ≡ None) ⊎ ((state_after g rs).count < g.length)
+        → IsLateRun (record g { length = more }) rs (Ended e) }
+    ensures run_where { (g : Given) (more : ℕ) (rs : List Record) (e : End) → g.length ≤ more → e ≢ Limit
+        → IsLateRun g rs (Ended e) → (IsLateRun (record g { length = more }) rs (Ended e)
+        ↔ imprecise_at (record g { length = more }) (steps rs) ≡ None) }
+    ensures run_otherwise { (g : Given) (more : ℕ) (rs : List Record) (e : End) (a : ℕ) → g.length ≤ more
+        → e ≢ Limit → IsLateRun g rs (Ended e) → imprecise_at (record g { length = more }) (steps rs) ≡ Some a
+        → IsLateRun (record g { length = more }) rs (Imprecise a) }
+{}

@@ -1,0 +1,17 @@
+use Rattle.std.proofs.Common.{rules, sym}
+use Rattle.i9_processor.specs.State.{state_of}
+use Rattle.i9_processor.proofs.RegisterList.{register_list-of}
+use Rattle.i9_processor.proofs.processor.Processor.view.Goals as goal
+
+pub returns : goal.returns
+unfolding state_of
+returns c =
+    let p = c.args.self.now in
+    λ i. record {
+      count = p.count;
+      ip = p.ip;
+      ac = c.ac.ensures i;
+      pc = p.pc;
+      tc = p.tc;
+      regs = sym (register_list-of p.file c.registers.result (search rules) c.registers.ensures) i;
+    }

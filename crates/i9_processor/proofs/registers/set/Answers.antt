@@ -1,0 +1,8 @@
+use Rattle.i9_processor.proofs.RegisterList.{registers_of-set, code_of-set}
+use Rattle.i9_processor.proofs.registers.set.Goals as goal
+
+pub returns-clause-registers : goal.returns-clause-registers
+returns-clause-registers c = registers_of-set c.args.file.now c.set.new.self c.args.r c.args.v c.requires c.set.ensures.cells c.set.ensures.size
+
+pub returns-clause-code : goal.returns-clause-code
+returns-clause-code c = code_of-set c.args.file.now c.set.new.self c.args.r c.args.v c.requires c.set.ensures.cells

@@ -1,0 +1,56 @@
+-- Reads beside what waits.
+use Rattle.std.proofs.Common.{◌≡◌, ℕ, ◌+◌, ◌-◌, ◌%◌, ◌^◌, ◌<◌, ◌≤◌, List, length, get_or, drop, Option, Some, None, refl, sym, ap, ◌∙◌, inl, inr, arith}
+use Rattle.std.proofs.lemmas.Bool.{cases_Bool}
+use Rattle.std.proofs.lemmas.Option.{slice_get_past}
+use Rattle.i9_model.specs.Writes.{wrapped, upwards, last_put, or_earlier}
+use Rattle.i9_model.specs.Memory.{Memory, in_port_page, stored, word_in}
+use Rattle.i9_model.specs.Late.{all_puts}
+use Rattle.i9_model.proofs.Upwards.{last_put-from}
+use Rattle.i9_model.proofs.Readings.{SameBytes, inner_word_same}
+use Rattle.i9_queue.specs.declared.queue.Request.{Request}
+use Rattle.i9_queue.specs.Queue.{waits_in}
+use Rattle.i9_queue.specs.Waits.{AreBeside, with_puts}
+use Rattle.i9_queue.proofs.Bytes.{request_more}
+use Rattle.i9_queue.proofs.Settled.{at_port, at_none}
+
+-- bytes in a row
+pub run_beside : (r a n : ℕ) (bs : List ℕ) → r < 2 ^ 32 → a < 2 ^ 32 → length bs ≤ 2 ^ 32
+    → length bs ≤ (a + (2 ^ 32 - r)) % 2 ^ 32 → n ≤ (r + (2 ^ 32 - a)) % 2 ^ 32 → AreBeside (upwards r bs) a n
+run_beside r a n bs h g few above below k lt =
+    let x = wrapped (a + k) in
+    let past : length bs ≤ (x + (2 ^ 32 - r)) % 2 ^ 32 = omega (arith, above, below, lt) in
+    last_put-from r bs x h (omega arith) few ∙ slice_get_past bs ((x + (2 ^ 32 - r)) % 2 ^ 32) past
+
+none_earlier : (o : Option ℕ) → or_earlier o None ≡ o
+none_earlier None = refl
+none_earlier (Some v) = refl
+
+-- one request
+pub request_beside : (rs : List Request) (i : ℕ) (r : Request) (x : ℕ) → i < length rs
+    → last_put (upwards (get_or rs i r).address (get_or rs i r).bytes.items) x ≡ None
+    → last_put (all_puts (waits_in (drop (i + 1) rs))) x ≡ last_put (all_puts (waits_in (drop i rs))) x
+request_beside rs i r x h none =
+    let later = last_put (all_puts (waits_in (drop (i + 1) rs))) x in
+    sym (sym (none_earlier (last_put (all_puts (waits_in (drop i rs))) x))
+    ∙ request_more None x rs i r h
+    ∙ ap (λ (o : Option ℕ). or_earlier later (or_earlier o None)) none
+    ∙ none_earlier later)
+
+-- a byte
+byte_beside : (m : ℕ → ℕ) (ps : List (ℕ × ℕ)) (x : ℕ) → last_put ps x ≡ None → stored m ps x ≡ m x
+byte_beside m ps x none = elim (cases_Bool (in_port_page x)) [
+  | inl port ↦ sym (at_port m ps x port)
+  | inr other ↦ sym (at_none m ps x other (sym none))
+]
+
+bytes_beside : (m : Memory) (ps : List (ℕ × ℕ)) (a n : ℕ) → AreBeside ps a n → SameBytes m (stored m.bytes ps) a n
+bytes_beside m ps a n beside k lt = byte_beside m.bytes ps (wrapped (a + k)) (beside k lt)
+
+-- a word
+pub word_beside : (m : Memory) (ps : List (ℕ × ℕ)) (a : ℕ) → a < 2 ^ 32 → AreBeside ps a 4
+    → word_in m a ≡ word_in (with_puts m ps) a
+word_beside m ps a h beside =
+    let here : wrapped (a + 0) ≡ a = omega arith in
+    sym (ap (word_in (with_puts m ps)) (sym here)
+    ∙ inner_word_same m (stored m.bytes ps) a 4 0 (bytes_beside m ps a 4 beside) (omega arith)
+    ∙ ap (word_in m) here)

@@ -1,0 +1,141 @@
+-- All that a record plans in the resources of a set.
+use Rattle.std.proofs.Common.{◌≡◌, ℕ, zero, suc, ◌+◌, ◌-◌, ◌*◌, ◌/◌, ◌%◌, ◌^◌, ◌<◌, ◌≤◌, Bool, true, false, cond, eqb, List, [], ◌∷◌, length, refl, sym, ap, ◌∙◌, inl, inr, arith}
+use Rattle.std.specs.Prelude.{slice_index}
+use Rattle.std.specs.Int.{bit_at, IsBitSet}
+use Rattle.std.proofs.lemmas.Bool.{cases_Bool}
+use Rattle.std.proofs.lemmas.Bool.Decides.{nat_tests}
+use Rattle.std.proofs.lemmas.Nat.Bits.{bit_at-zero, bit_at_cat_low}
+use Rattle.i9_model.specs.declared.need.Cell.{Cell}
+use Rattle.i9_model.specs.Late.{resources, latest, issued_cell}
+use Rattle.i9_model.specs.Writes.{put, written, pairs_at}
+use Rattle.i9_model.proofs.TurnTests.{set-one}
+use Rattle.i9_regs.specs.File.{cell_in, in_group, with_plan, planned_cell, rest_bit, latest_of, issued_value}
+use Rattle.i9_regs.proofs.Groups.{planned_in, planned_out, rest_in, rest_out}
+
+-- ---- by the bit of a resource
+
+pub issued_one : (writes done r v : ℕ) (c : Cell) → bit_at writes r ≡ 1
+    → issued_cell writes done r v c ≡ with_plan v done c
+issued_one writes done r v c = ap (λ (n : ℕ). cond (eqb n 1) (with_plan v done c) c)
+
+pub issued_none : (writes done r v : ℕ) (c : Cell) → bit_at writes r ≡ 0 → issued_cell writes done r v c ≡ c
+issued_none writes done r v c = ap (λ (n : ℕ). cond (eqb n 1) (with_plan v done c) c)
+
+pub issued_same : (left writes done r v : ℕ) (c : Cell) → bit_at left r ≡ bit_at writes r
+    → issued_cell left done r v c ≡ issued_cell writes done r v c
+issued_same left writes done r v c = ap (λ (n : ℕ). cond (eqb n 1) (with_plan v done c) c)
+
+-- no register is left
+low_clear : (n r : ℕ) → n % 2 ^ 32 ≡ 0 → r < 32 → bit_at n r ≡ 0
+low_clear n r none low =
+    let split : n ≡ n / 2 ^ 32 * 2 ^ 32 + 0 = omega (arith, none) in
+    ap (λ (m : ℕ). bit_at m r) split ∙ bit_at_cat_low (n / 2 ^ 32) 32 0 r low ∙ bit_at-zero r
+
+pub none_issued : (left done r v : ℕ) (c : Cell) → left % 2 ^ 32 ≡ 0 → r < 32 → c ≡ issued_cell left done r v c
+none_issued left done r v c none low = sym (issued_none left done r v c (low_clear left r none low))
+
+pub ruleset low_rules = (none_issued)
+
+-- ---- the values of a group
+
+abbrev group_of : ℕ → List ℕ → List (ℕ × ℕ)
+group_of register values = pairs_at (λ k. k) register values
+
+pub written_out : (f : ℕ → ℕ) (n : ℕ) (xs : List ℕ) (r : ℕ) → in_group n (length xs) r ≡ false
+    → written f (group_of n xs) r ≡ f r
+unfolding written
+written_out f n [] r out = refl
+written_out f n (x ∷ xs) r out =
+    let other : eqb r n ≡ false = grind (arith, nat_tests, out) in
+    let later : in_group (n + 1) (length xs) r ≡ false = grind (arith, nat_tests, out) in
+    written_out (put f n x) (n + 1) xs r later ∙ ap (λ (b : Bool). cond b x (f r)) other
+
+pub written_in : (f : ℕ → ℕ) (n : ℕ) (xs : List ℕ) (k : ℕ) → k < length xs
+    → written f (group_of n xs) (n + k) ≡ slice_index xs k
+unfolding written
+written_in f n [] k h = absurd (omega (arith, h))
+written_in f n (x ∷ xs) zero h =
+    let here : n + 0 ≡ n = omega arith in
+    let same : eqb n n ≡ true = grind (arith, nat_tests) in
+    let later : in_group (n + 1) (length xs) n ≡ false = grind (arith, nat_tests) in
+    ap (written (put f n x) (group_of (n + 1) xs)) here
+    ∙ written_out (put f n x) (n + 1) xs n later
+    ∙ ap (λ (b : Bool). cond b x (f n)) same
+written_in f n (x ∷ xs) (suc k) h =
+    let place : n + suc k ≡ n + 1 + k = omega arith in
+    ap (written (put f n x) (group_of (n + 1) xs)) place
+    ∙ written_in (put f n x) (n + 1) xs k (omega (arith, h))
+
+-- ---- the group, what is left, and the condition code
+
+module _ (olds ones twos news : List Cell) (writes left done register : ℕ) (values : List ℕ) (code : ℕ)
+    (range : register + length values ≤ 32)
+    (set : (k : ℕ) → k < length values → IsBitSet writes (register + k))
+    (group : (r : ℕ) → cell_in ones r ≡ planned_cell register (length values) values done r (cell_in olds r))
+    (bits : (r : ℕ) → r < 64 → bit_at left r ≡ rest_bit register (length values) writes r)
+    (rest : (r : ℕ) → r < 32
+    → cell_in twos r ≡ issued_cell left done r (latest (cell_in ones r)) (cell_in ones r))
+    (rest_code : cell_in twos 32 ≡ cell_in ones 32)
+    (last_code : cell_in news 32 ≡ issued_cell writes done 32 code (cell_in twos 32))
+    (last : (r : ℕ) → r < 32 → cell_in news r ≡ cell_in twos r) where
+  abbrev new_value : ℕ → ℕ
+  new_value = written (latest_of olds) (group_of register values)
+
+  -- the condition code is in no group
+  code_issued : cell_in news 32 ≡ issued_cell writes done 32 code (cell_in olds 32)
+  code_issued =
+      let out : in_group register (length values) 32 ≡ false = grind (arith, nat_tests, range) in
+      let kept = rest_code ∙ group 32 ∙ planned_out register (length values) values done 32 (cell_in olds 32) out in
+      last_code ∙ ap (issued_cell writes done 32 code) kept
+
+  in_issued : (r : ℕ) → r < 32 → in_group register (length values) r ≡ true
+      → cell_in news r ≡ issued_cell writes done r (new_value r) (cell_in olds r)
+  in_issued r low here =
+      let k = r - register in
+      let old = cell_in olds r in
+      let place : r ≡ register + k = grind (arith, nat_tests, here) in
+      let within : k < length values = grind (arith, nat_tests, here) in
+      let one = ap (bit_at writes) place ∙ set-one writes (register + k) (set k within) in
+      let none = bits r (omega (arith, low)) ∙ rest_in register (length values) writes r here in
+      let value = ap (written (latest_of olds) (group_of register values)) place
+      ∙ written_in (latest_of olds) register values k within in
+      last r low
+      ∙ rest r low
+      ∙ issued_none left done r (latest (cell_in ones r)) (cell_in ones r) none
+      ∙ group r
+      ∙ planned_in register (length values) values done r old here
+      ∙ ap (λ (v : ℕ). with_plan v done old) (sym value)
+      ∙ sym (issued_one writes done r (written (latest_of olds) (group_of register values) r) old one)
+
+  out_issued : (r : ℕ) → r < 32 → in_group register (length values) r ≡ false
+      → cell_in news r ≡ issued_cell writes done r (new_value r) (cell_in olds r)
+  out_issued r low out =
+      let old = cell_in olds r in
+      let bit = bits r (omega (arith, low)) ∙ rest_out register (length values) writes r out in
+      let kept = group r ∙ planned_out register (length values) values done r old out in
+      let value = written_out (latest_of olds) register values r out in
+      last r low
+      ∙ rest r low
+      ∙ ap (λ (c : Cell). issued_cell left done r (latest c) c) kept
+      ∙ issued_same left writes done r (latest old) old bit
+      ∙ ap (λ (v : ℕ). issued_cell writes done r v old) (sym value)
+
+  register_issued : (r : ℕ) → r < 32
+      → cell_in news r ≡ issued_cell writes done r (new_value r) (cell_in olds r)
+  register_issued r low = elim (cases_Bool (in_group register (length values) r)) [
+    | inl here ↦ in_issued r low here
+    | inr out ↦ out_issued r low out
+  ]
+
+  by_code : (r : ℕ) (b : Bool) → r < 33 → eqb r 32 ≡ b
+      → cell_in news r ≡ issued_cell writes done r (cond b code (new_value r)) (cell_in olds r)
+  by_code r true few is =
+      let same : r ≡ 32 = grind (arith, nat_tests, is) in
+      ap (cell_in news) same
+      ∙ code_issued
+      ∙ ap (λ (k : ℕ). issued_cell writes done k code (cell_in olds k)) (sym same)
+  by_code r false few is = register_issued r (grind (arith, nat_tests, is, few))
+
+  pub all_issued : (r : ℕ) → r < resources
+      → cell_in news r ≡ issued_cell writes done r (issued_value olds register values code r) (cell_in olds r)
+  all_issued r few = by_code r (eqb r 32) few refl

@@ -1,0 +1,6 @@
+pub mod Free
+pub mod Lists
+pub mod Groups
+pub mod Issued
+pub mod Framed
+pub mod Bounds
