@@ -17,7 +17,7 @@ use Rattle.i9_model.proofs.TurnWhole.{timed-issues}
 use Rattle.i9_course.specs.NeedOf.{stands_alone, need_of, need_ahead}
 use Rattle.i9_course.specs.Course.{Item, Mark, records_of, course, need_after, issue_of_next, instruction_ahead, late_fault, last_fault, last_done, is_overtaken, imprecise_at, to_issue, ahead}
 use Rattle.i9_course.proofs.Timed.{course_timed}
-use Rattle.i9_course.proofs.Barriers.{waits_for_all, last_reached}
+use Rattle.i9_course.proofs.Barriers.{waits_for_all, last_reached, next_by_end}
 
 -- ---- turns
 
@@ -45,6 +45,10 @@ pub ahead_precise : (g : Given) (h : List Item) → (ahead g h).imprecise ≡ No
     → (ahead g h).turn ≡ issue_of_next g h (ahead g h).next
 ahead_precise g h e = ap (λ (o : Option ℕ). issue_of_next g h (to_issue g h o)) e
 
+-- and in any case it is no later than that at which all records are done
+pub ahead_by_end : (g : Given) (h : List Item) → (ahead g h).turn ≤ end_turn (turns (course g h).late)
+ahead_by_end g h = next_by_end g h (to_issue g h (imprecise_at g h))
+
 pub ahead_can : (g : Given) (h : List Item) → (ahead g h).imprecise ≡ None
     → MayIssue g h (ahead g h).next (issue_of_next g h (ahead g h).next)
 ahead_can g h e = next_can g h (ahead g h).next
@@ -71,7 +75,7 @@ imprecise_overtaken g h a e =
     ap (λ (o : Option ℕ). issue_of_next g h (to_issue g h o)) e in
     (grind (arith, nat_tests, turn, q.1), grind (arith, nat_tests, q.0))
 
-late_only : (k : Kind) (a : ℕ) → late_fault k ≡ Some a → (inst : Option Inst) × (f : Fault) × (k ≡ Faulted inst f)
+pub late_only : (k : Kind) (a : ℕ) → late_fault k ≡ Some a → (inst : Option Inst) × (f : Fault) × (k ≡ Faulted inst f)
     × (f.kind ≡ ARITHMETIC) × (f.address ≡ a)
 late_only (Instruction i) a e = absurd (cc e)
 late_only (Entered x) a e = absurd (cc e)

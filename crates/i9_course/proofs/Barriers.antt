@@ -37,12 +37,11 @@ pub waits_for_all : (n : Need) (t : ℕ) (rs : List TimedNeed) → IsTrue n.barr
 waits_for_all n t [] b h = tt
 waits_for_all n t (r ∷ rs) b h = (h.0.alone b, waits_for_all n t rs b h.1)
 
--- and for no more
-pub barrier_turn : (n : Need) (rs : List TimedNeed) → IsTimed rs → TakesTurns rs → IsTrue n.barrier
-    → n.not_before ≤ end_turn rs → issue_turn (last_issue rs) rs n ≡ end_turn rs
-barrier_turn n rs h c b early =
+-- each need may issue once all is done
+pub issues_by_end : (n : Need) (rs : List TimedNeed) → IsTimed rs → TakesTurns rs → n.not_before ≤ end_turn rs
+    → issue_turn (last_issue rs) rs n ≤ end_turn rs
+issues_by_end n rs h c early =
     let done : AreAllDone rs (end_turn rs) = all-end rs in
-    let i = timed-issues rs n h in
     let none = none_open (end_turn rs) rs done.done in
     let can : CanIssue (last_issue rs) rs n (end_turn rs) =
     record {
@@ -51,9 +50,16 @@ barrier_turn n rs h c b early =
       each = all_permit n (end_turn rs) rs (timed-take_time rs h c) done.done;
       room = λ q. omega (arith, none);
     } in
-    let le : issue_turn (last_issue rs) rs n ≤ end_turn rs = i.least (end_turn rs) can in
+    (timed-issues rs n h).least (end_turn rs) can
+
+-- so what passes nothing waits for no more
+pub barrier_turn : (n : Need) (rs : List TimedNeed) → IsTimed rs → TakesTurns rs → IsTrue n.barrier
+    → n.not_before ≤ end_turn rs → issue_turn (last_issue rs) rs n ≡ end_turn rs
+barrier_turn n rs h c b early =
+    let can = (timed-issues rs n h).can in
+    let le : issue_turn (last_issue rs) rs n ≤ end_turn rs = issues_by_end n rs h c early in
     let ge : end_turn rs ≤ issue_turn (last_issue rs) rs n =
-    end-least rs _ (record { in_order = i.can.in_order; done = waits_for_all n _ rs (inl b) i.can.each }) in
+    end-least rs _ (record { in_order = can.in_order; done = waits_for_all n _ rs (inl b) can.each }) in
     omega (arith, le, ge)
 
 -- ---- marks
@@ -102,6 +108,15 @@ need_unbound n c s (Blocked e a) = refl
 next_unbound : (g : Given) (h : List Item) (o : Next) → (need_after g h o).not_before ≡ 0
 next_unbound g h (Does r) = need_unbound (sets_in g.sets r.before) (cache_after g (records_of h)) r.before r.kind
 next_unbound g h (Ends f) = refl
+
+-- whatever comes next issues no later than that
+pub next_by_end : (g : Given) (h : List Item) (o : Next)
+    → issue_of_next g h o ≤ end_turn (turns (course g h).late)
+next_by_end g h o =
+    let reached = mark_reached g h in
+    let none = next_unbound g h o in
+    issues_by_end (waiting_until (course g h).mark (need_after g h o)) (turns (course g h).late) (course_timed g h)
+    (course_costs g h) (omega (arith, none, reached))
 
 pub next_barrier : (g : Given) (h : List Item) (o : Next) → IsTrue (need_after g h o).barrier
     → issue_of_next g h o ≡ end_turn (turns (course g h).late)

@@ -12,3 +12,9 @@ pub mod LateAlike
 pub mod Named
 pub mod LateCuts
 pub mod LateSame
+pub mod NeedCovers
+pub mod NeedActs
+pub mod Checks
+pub mod Landed
+pub mod Placing
+pub mod Precise

@@ -3,6 +3,7 @@
 
 mod late_laws;
 mod laws;
+mod machine_laws;
 
 pub use late_laws::{
     a_length_cuts_the_late_run, every_late_run_ends, late_runs_are_runs,
@@ -12,4 +13,9 @@ pub use laws::{
     a_course_begins, a_course_settles, a_mark_is_set, a_record_issues, a_turn_moves,
     alike_states_need_alike, barriers_wait_for_all, courses_are_orderly, nothing_issues_earlier,
     overtaken_faults_are_imprecise, what_waits_settles, written_frames_are_counted,
+};
+pub use machine_laws::{
+    a_check_waits_for_all, memory_acts_at_once, needs_cover_actions, needs_take_turns,
+    needs_tell_what_acts, nothing_issues_later, requests_land_in_order,
+    turns_are_those_of_the_board, what_is_built_is_precise, what_is_done_has_landed,
 };

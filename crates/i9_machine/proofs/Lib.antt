@@ -1,3 +1,9 @@
+pub mod Starting
+pub mod Beside
+pub mod Issuing
+pub mod Turning
+pub mod Opening
 pub mod Lifting
+pub mod Performing
 pub mod Stepping
 pub mod Showing

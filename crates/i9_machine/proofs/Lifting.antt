@@ -1,47 +1,39 @@
 -- A step of a machine is the next record, or the end, of what the machine stands for.
-use Rattle.std.proofs.Common.{◌≡◌, ℕ, ◌+◌, ◌≤◌, ◌||◌, nat_lt, List, ◌∷◌, ◌++◌, Option, None, length, length-append, map, true, sym, ap, ◌∙◌, subst}
-use Rattle.i9_model.specs.declared.event.Event.{Event}
+use Rattle.std.proofs.Common.{◌≡◌, ℕ, ◌+◌, ◌≤◌, ◌||◌, nat_lt, List, ◌∷◌, ◌++◌, Option, None, length, length-append, map, true, sym, ap, ◌∙◌, subst, inl, inr, arith}
 use Rattle.i9_model.specs.declared.event.Timed.{Timed}
-use Rattle.i9_model.specs.ScheduleText.{standing}
 use Rattle.i9_schedule.specs.Plan.{Plan}
 use Rattle.i9_model.specs.State.{State}
 use Rattle.i9_model.specs.Step.{Action}
-use Rattle.i9_model.specs.declared.run.Due.{Due}
-use Rattle.i9_model.specs.Run.{Given, Kind, Instruction, Faulted, Entered, Interrupted, Reached, Blocked, Record, Next, Does, Ends, action_by_kind, action_done, reached_by, reached_after, due_after, event_after, next_in, state_after, next}
+use Rattle.i9_model.specs.Run.{Given, Kind, Instruction, Faulted, Entered, Interrupted, Reached, Blocked, Record, Next, Does, Ends, record_of, action_by_kind, action_done, reached_by, reached_after, due_after, event_after, state_after, next}
 use Rattle.i9_model.specs.PrintedText.{Shown, record_lines, last_lines}
 use Rattle.i9_model.specs.Alike.{AreAlike, AreRecordsAlike, AreNextAlike, told}
 use Rattle.i9_model.specs.HeldFrames.{Cache, renewed, sets_in, cache_acted, cache_configured, cache_after}
 use Rattle.i9_model.specs.declared.view.View.{View}
-use Rattle.i9_model.proofs.AlikeSteps.{next_alike, does_alike, ends_alike, done_alike, due_alike, reached_alike, view_alike, lines_alike, alike_trans}
+use Rattle.i9_model.proofs.AlikeSteps.{does_alike, ends_alike, done_alike, due_alike, reached_alike, view_alike, lines_alike, alike_trans}
 use Rattle.i9_model.proofs.HeldRuns.{IsFreeRecord, next_free, configured_by, sets_after}
 use Rattle.i9_processor.specs.Effect.{HasRoomFor, has_writes, is_restart}
-use Rattle.i9_processor.specs.State.{state_of, cache_of, size_of}
+use Rattle.i9_processor.specs.State.{state_of, cache_of, size_of, bytes_of, queue_of}
 use Rattle.i9_model.specs.declared.run.End.{End}
 use Rattle.i9_machine.specs.declared.line.Line.{Line}
 use Rattle.i9_machine.specs.declared.line.Turn.{Turn}
 use Rattle.i9_machine.specs.declared.line.Turn.TheVariants as turns
 use Rattle.i9_machine.specs.declared.machine.Machine.{Machine}
 use Rattle.i9_machine.specs.Line.{shown_of}
-use Rattle.i9_machine.specs.Step.{TellsRecord, NeedsRoom, HasRoom, event_for, next_for, plan_behind, Did, Ended, Refused, Steps}
-use Rattle.i9_machine.specs.StandsFor.{StandsFor, Follows, DoesNext, EndsRun, IsRefused, Advances}
-
--- the event that stands there for the machine stands there in the run
-same_event : (g : Given) (rs : List Record) (m : Machine) (plan : Plan) → StandsFor g rs None m → Follows g rs plan → event_for m plan ≡ event_after g rs
-same_event g rs m plan stands follows =
-    let k = (state_of m.processor).count in
-    ap (λ (ts : List Timed). standing ts plan.place k) follows.events
-    ∙ ap (λ (n : ℕ). standing g.plan n k) follows.place
-    ∙ ap (λ (u : State). standing g.plan (length (reached_after rs)) u.count) stands.state.rest
-
--- what comes next for the machine, beside what comes next in the run
-beside : (g : Given) (rs : List Record) (m : Machine) (plan : Plan) → StandsFor g rs None m → Follows g rs plan → AreNextAlike (next g rs) (next_for m plan)
-beside g rs m plan stands follows =
-    let s = state_after g rs in
-    subst (λ (n : Next). AreNextAlike n (next_for m plan))
-    (ap (λ (l : ℕ). next_in l m.due (event_for m plan) s) stands.length
-    ∙ ap (λ (d : Due). next_in g.length d (event_for m plan) s) stands.due
-    ∙ ap (λ (o : Option Event). next_in g.length (due_after rs) o s) (same_event g rs m plan stands follows))
-    (next_alike m.length m.due (event_for m plan) s (state_of m.processor) stands.state)
+use Rattle.i9_machine.specs.Step.{TellsRecord, NeedsRoom, HasRoom, event_for, next_for, plan_behind, Did, Ended, Refused, Steps, IssuesNext, Issues}
+use Rattle.i9_course.specs.NeedOf.{need_of}
+use Rattle.i9_course.specs.Course.{Item, Step, records_of, ahead}
+use Rattle.i9_course.specs.Kernel.{Lands}
+use Rattle.i9_course.proofs.Orderly.{course_past}
+use Rattle.i9_course.proofs.Precise.{built_precise}
+use Rattle.i9_machine.proofs.Beside.{beside}
+use Rattle.i9_machine.proofs.Turning.{moved}
+use Rattle.i9_model.specs.declared.need.Cell.{Cell}
+use Rattle.i9_model.specs.declared.need.Need.{Need}
+use Rattle.i9_model.specs.Late.{Wait}
+use Rattle.i9_model.specs.Turns.{Pending, IsAllDone}
+use Rattle.i9_machine.specs.Issuing.{kernel_of, IsPaced, IsIssued, IsUnmoved}
+use Rattle.i9_machine.specs.StandsFor.{StandsFor, Follows, MovesOn, DoesNext, EndsRun, IsRefused, Advances, Waits, OpenSteps, left_after}
+use Rattle.i9_machine.proofs.Issuing.{same_need, waits_for_none, issued_lands, left_less, issued_paced}
 
 -- ---- a record
 
@@ -82,14 +74,14 @@ tells_alike (Reached x u) s t turns.Memory alike words tells = absurd tells
 tells_alike (Blocked x a) s t turns.Memory alike words tells = absurd tells
 
 -- the number of sets after a record of the machine
-size_next : (g : Given) (rs : List Record) (before m : Machine) (r q : Record) → StandsFor g rs None before → AreRecordsAlike r q → IsFreeRecord (state_of before.processor) q
+size_next : (g : Given) (h : List Item) (before m : Machine) (r q : Record) → StandsFor g h None before → AreRecordsAlike r q → IsFreeRecord (state_of before.processor) q
     → size_of m.processor ≡ renewed before.sets (state_of before.processor).memory (action_done q).control (size_of before.processor)
     → size_of m.processor ≡ sets_in g.sets r.after
-size_next g rs before m r q stands same free size =
+size_next g h before m r q stands same free size =
     let t = state_of before.processor in
     let asked = before.sets in
     let before_size : size_of before.processor ≡ sets_in asked t =
-    stands.size ∙ sym (ap (λ (o : Option ℕ). sets_in o (state_after g rs)) stands.sets) ∙ sym (ap (sets_in asked) stands.state.rest) in
+    stands.size ∙ sym (ap (λ (o : Option ℕ). sets_in o (state_after g (records_of h))) stands.sets) ∙ sym (ap (sets_in asked) stands.state.rest) in
     size
     ∙ ap (renewed asked t.memory (action_done q).control) before_size
     ∙ ap (λ (x : Record). renewed asked t.memory (action_by_kind q.kind x.before).control (sets_in asked t)) free.0
@@ -99,52 +91,81 @@ size_next g rs before m r q stands same free size =
     ∙ ap (λ (o : Option ℕ). sets_in o r.after) stands.sets
 
 -- what is held after it, and what is behind
-cache_next : (g : Given) (rs : List Record) (before m : Machine) (r q : Record) → StandsFor g rs None before → AreRecordsAlike r q → IsFreeRecord (state_after g rs) r → (state_of m.processor).memory.mcon ≡ r.after.memory.mcon
+cache_next : (g : Given) (h : List Item) (before m : Machine) (r q : Record) → StandsFor g h None before → AreRecordsAlike r q → IsFreeRecord (state_after g (records_of h)) r → (state_of m.processor).memory.mcon ≡ r.after.memory.mcon
     → cache_of m.processor ≡ cache_configured (state_of m.processor).memory (cache_acted (size_of before.processor) (action_done q) (cache_of before.processor))
-    → cache_of m.processor ≡ cache_after g (r ∷ rs)
-cache_next g rs before m r q stands same free regions cache =
+    → cache_of m.processor ≡ cache_after g (r ∷ records_of h)
+cache_next g h before m r q stands same free regions cache =
     let memory = (state_of m.processor).memory in
     let n = sets_in g.sets r.before in
     let sets : size_of before.processor ≡ n = stands.size ∙ sym (ap (λ (x : Record). sets_in g.sets x.before) free.0) in
     cache
     ∙ ap (λ (k : ℕ). cache_configured memory (cache_acted k (action_done q) (cache_of before.processor))) sets
     ∙ ap (λ (c : Cache). cache_configured memory (cache_acted n (action_done q) c)) stands.cache
-    ∙ ap (λ (a : Action). cache_configured memory (cache_acted n a (cache_after g rs))) (done_alike r q same)
-    ∙ configured_by memory r.after.memory (cache_acted n (action_done r) (cache_after g rs)) regions
+    ∙ ap (λ (a : Action). cache_configured memory (cache_acted n a (cache_after g (records_of h)))) (done_alike r q same)
+    ∙ configured_by memory r.after.memory (cache_acted n (action_done r) (cache_after g (records_of h))) regions
 
 -- the schedule behind a record
-follows_next : (g : Given) (rs : List Record) (was plan : Plan) (r q : Record) → Follows g rs was → AreRecordsAlike r q → plan ≡ plan_behind was q → Follows g (r ∷ rs) plan
-follows_next g rs was plan r q follows same behind = record {
+follows_next : (g : Given) (h : List Item) (was plan : Plan) (r q : Record) → Follows g h was → AreRecordsAlike r q → plan ≡ plan_behind was q → Follows g (Step r ∷ h) plan
+follows_next g h was plan r q follows same behind = record {
   events = ap (λ (p : Plan). p.events) behind ∙ follows.events;
   place =
       ap (λ (p : Plan). p.place) behind
       ∙ ap (λ (n : ℕ). n + length (reached_by q.kind q.before)) follows.place
-      ∙ ap (λ (ts : List Timed). length (reached_after rs) + length ts) (reached_alike r q same)
-      ∙ sym (length-append (reached_after rs) (reached_by r.kind r.before));
+      ∙ ap (λ (ts : List Timed). length (reached_after (records_of h)) + length ts) (reached_alike r q same)
+      ∙ sym (length-append (reached_after (records_of h)) (reached_by r.kind r.before));
 }
 
-did : (g : Given) (rs : List Record) (before : Machine) (answer : Turn) (m : Machine) (was plan : Plan) (old new : List Line) → StandsFor g rs None before → Follows g rs was → Did before answer m was plan old new → DoesNext g rs answer m plan old new
-did g rs before answer m was plan old new stands follows d =
+one_record : (r q : Record) → Does r ≡ Does q → r ≡ q
+one_record r q e = cc
+
+did : (g : Given) (h : List Item) (before : Machine) (answer : Turn) (m : Machine) (was plan : Plan) (old new : List Line) → StandsFor g h None before → Follows g h was → (ahead g h).turn ≤ before.turn → Did before answer m was plan old new → IssuesNext before m was → DoesNext g h answer before m plan old new
+did g h before answer m was plan old new stands follows now d i =
     let q = d.done in
-    let found = does_alike (next g rs) (next_for before was) q (beside g rs before was stands follows) d.is_next in
+    let need_now = i.need in
+    let one = one_record (record_of i.kind (state_of before.processor)) q (sym i.is_next ∙ d.is_next) in
+    let is_need_now : need_now ≡ need_of (size_of before.processor) (cache_of before.processor) (state_of before.processor) q.kind =
+    i.is_need ∙ ap (λ (x : Record). need_of (size_of before.processor) (cache_of before.processor) (state_of before.processor) x.kind) one in
+    let issued_now : IsIssued before need_now (action_done q) m = subst (λ (x : Record). IsIssued before need_now (action_done x) m) one i.issued in
+    let rs = records_of h in
+    let found = does_alike (next g rs) (next_for before was) q (beside g h before was stands follows) d.is_next in
     let r = found.0 in
     let same = found.2 in
     let after = alike_trans r.after q.after (state_of m.processor) same.after d.state in
+    let free = next_free before.length before.due (event_for before was) (state_of before.processor) q d.is_next in
+    let run = next_free g.length (due_after rs) (event_after g rs) (state_after g rs) r found.1 in
+    let precise = built_precise g h (course_past g h stands.past) in
+    let cache = cache_next g h before m r q stands same run (ap (λ (u : State). u.memory.mcon) after.rest) d.cache in
+    let need = same_need g h before r q need_now stands same (ap (λ (x : Record). x.before) run.0) (ap (λ (x : Record). x.before) free.0) is_need_now in
+    let lands = issued_lands g h before m r q need_now stands found.1 same precise now need issued_now after cache in
+    let count : (state_of before.processor).count ≡ (state_after g rs).count = ap (λ (u : State). u.count) stands.state.rest in
+    let below : (state_of before.processor).count ≤ before.length = before.below in
+    let length : before.length ≡ g.length = stands.length in
+    let less = left_less g rs r (omega (arith, count, below, length)) found.1 in
+    let none = ap (λ (n : Need). n.not_before) is_need_now ∙ waits_for_none (size_of before.processor) (cache_of before.processor) (state_of before.processor) q.kind in
+    let wait : m.wait ≡ before.wait = issued_now.wait in
+    let early : before.wait ≤ (ahead g h).turn = stands.early in
+    let turn : m.turn ≡ before.turn = issued_now.turn in
+    let in_time : m.turn ≤ (ahead g (Step r ∷ h)).turn = lands.in_time in
+    let in_time_was : before.turn ≤ (ahead g h).turn = stands.lands.in_time in
     record {
       done = r;
       is_next = found.1;
+      now = omega (arith, now, in_time_was);
       stands = record {
-        past = (stands.past, found.1);
+        past = (stands.past, precise, found.1);
         state = after;
-        size = size_next g rs before m r q stands same (next_free before.length before.due (event_for before was) (state_of before.processor) q d.is_next) d.size;
-        cache = cache_next g rs before m r q stands same (next_free g.length _ _ (state_after g rs) r found.1) (ap (λ (u : State). u.memory.mcon) after.rest) d.cache;
+        size = size_next g h before m r q stands same free d.size;
+        cache = cache;
+        lands = lands;
+        early = omega (arith, wait, early, turn, now, in_time);
+        paced = issued_paced before m need_now (action_done q) (left_after g rs) (left_after g (r ∷ rs)) issued_now none less stands.paced;
         due = d.due ∙ due_alike r q same;
         length = d.length ∙ stands.length;
         sets = d.sets ∙ stands.sets;
         ended = d.ended;
         over = tt;
       };
-      follows = follows_next g rs was plan r q follows same d.behind;
+      follows = follows_next g h was plan r q follows same d.behind;
       lines = d.lines ∙ ap (λ (ls : List Shown). map shown_of old ++ ls) (lines_alike r q same);
       tells = tells_alike r.kind r.before q.before answer same.before same.words (subst (λ (k : Kind). TellsRecord k q.before answer) same.kind d.tells);
     }
@@ -154,24 +175,60 @@ did g rs before answer m was plan old new stands follows d =
 same_state : (s : State) (before m : Machine) → AreAlike s (state_of before.processor) → state_of m.processor ≡ state_of before.processor → AreAlike s (state_of m.processor)
 same_state s before m alike e = subst (AreAlike s) (sym e) alike
 
-ended_run : (g : Given) (rs : List Record) (before : Machine) (e : End) (m : Machine) (was plan : Plan) (old new : List Line) → StandsFor g rs None before → Follows g rs was → Ended before e m was plan old new → EndsRun g rs e m plan old new
-ended_run g rs before e m was plan old new stands follows d =
-    let s = state_after g rs in
-    let is_end = ends_alike (next g rs) (next_for before was) e (beside g rs before was stands follows) d.is_end in
+-- what lands late is as before
+unmoved_kernel : (before m : Machine) → IsUnmoved before m → kernel_of m ≡ kernel_of before
+unmoved_kernel before m u =
+    ap (λ (p : Pending). record (kernel_of m) { board = p }) u.board
+    ∙ ap (λ (t : ℕ). record (kernel_of m) { board = before.board; turn = t }) u.turn
+    ∙ ap (λ (t : ℕ). record (kernel_of m) { board = before.board; turn = before.turn; floor = t }) u.floor
+    ∙ ap (λ (t : ℕ). record (kernel_of m) { board = before.board; turn = before.turn; floor = before.floor; done = t }) u.done
+    ∙ ap (λ (c : ℕ → Cell). record (kernel_of before) { cells = c; bytes = bytes_of m.processor; queue = queue_of m.processor }) u.cells
+    ∙ ap (λ (b : ℕ → ℕ). record (kernel_of before) { bytes = b; queue = queue_of m.processor }) u.bytes
+    ∙ ap (λ (q : List Wait). record (kernel_of before) { queue = q }) u.queue
+
+unmoved_lands : (g : Given) (h : List Item) (before m : Machine) → IsUnmoved before m → Lands g h (kernel_of before) → Lands g h (kernel_of m)
+unmoved_lands g h before m u lands = subst (Lands g h) (sym (unmoved_kernel before m u)) lands
+
+unmoved_paced : (before m : Machine) (left : ℕ) → IsUnmoved before m → IsPaced before left → IsPaced m left
+unmoved_paced before m left u p =
+    let turn : m.turn ≡ before.turn = u.turn in
+    let floor : m.floor ≡ before.floor = u.floor in
+    let turn_was : before.turn ≤ p.bound = p.turn in
+    let floor_was : before.floor ≤ p.bound = p.floor in
+    record {
+      bound = p.bound;
+      far = p.far;
+      done = subst (λ (b : Pending). IsAllDone b p.bound) (sym u.board) p.done;
+      turn = omega (arith, turn, turn_was);
+      floor = omega (arith, floor, floor_was);
+    }
+
+unmoved_early : (t : ℕ) (before m : Machine) → IsUnmoved before m → before.wait ≤ t → m.wait ≤ t
+unmoved_early t before m u early = subst (λ (w : ℕ). w ≤ t) (sym u.wait) early
+
+ended_run : (g : Given) (h : List Item) (before : Machine) (e : End) (m : Machine) (was plan : Plan) (old new : List Line) → StandsFor g h None before → Follows g h was → (ahead g h).turn ≤ before.turn → Ended before e m was plan old new → EndsRun g h e before m plan old new
+ended_run g h before e m was plan old new stands follows now d =
+    let in_time : before.turn ≤ (ahead g h).turn = stands.lands.in_time in
+    let s = state_after g (records_of h) in
+    let is_end = ends_alike (next g (records_of h)) (next_for before was) e (beside g h before was stands follows) d.is_end in
     record {
       is_end = is_end;
+      now = omega (arith, now, in_time);
       stands = record {
         past = stands.past;
         state = same_state s before m stands.state d.same.state;
         size = d.same.size ∙ stands.size;
         cache = d.same.cache ∙ stands.cache;
+        lands = unmoved_lands g h before m d.same.unmoved stands.lands;
+        early = unmoved_early (ahead g h).turn before m d.same.unmoved stands.early;
+        paced = unmoved_paced before m (left_after g (records_of h)) d.same.unmoved stands.paced;
         due = d.same.due ∙ stands.due;
         length = d.same.length ∙ stands.length;
         sets = d.same.sets ∙ stands.sets;
         ended = d.ended;
         over = is_end;
       };
-      follows = subst (Follows g rs) (sym d.kept) follows;
+      follows = subst (Follows g h) (sym d.kept) follows;
       lines = d.lines ∙ ap (λ (v : View). map shown_of old ++ last_lines v e) (view_alike s (state_of before.processor) stands.state);
     }
 
@@ -185,22 +242,25 @@ needs_alike (Does r) (Ends g) alike needs = absurd alike
 needs_alike (Does r) (Does q) alike needs =
     subst (needs_by (record_lines r)) (done_alike r q alike) (subst (λ (ls : List Shown). needs_by ls (action_done q)) (lines_alike r q alike) needs)
 
-refused : (g : Given) (rs : List Record) (before : Machine) (m : Machine) (was plan : Plan) (old new : List Line) → StandsFor g rs None before → Follows g rs was → Refused before m was plan old new → IsRefused g rs m plan old new
-refused g rs before m was plan old new stands follows d = record {
+refused : (g : Given) (h : List Item) (before : Machine) (m : Machine) (was plan : Plan) (old new : List Line) → StandsFor g h None before → Follows g h was → Refused before m was plan old new → IsRefused g h m plan old new
+refused g h before m was plan old new stands follows d = record {
   stands = record {
     past = stands.past;
-    state = same_state (state_after g rs) before m stands.state d.same.state;
+    state = same_state (state_after g (records_of h)) before m stands.state d.same.state;
     size = d.same.size ∙ stands.size;
     cache = d.same.cache ∙ stands.cache;
+    lands = unmoved_lands g h before m d.same.unmoved stands.lands;
+    early = unmoved_early (ahead g h).turn before m d.same.unmoved stands.early;
+    paced = unmoved_paced before m (left_after g (records_of h)) d.same.unmoved stands.paced;
     due = d.same.due ∙ stands.due;
     length = d.same.length ∙ stands.length;
     sets = d.same.sets ∙ stands.sets;
     ended = d.ended;
     over = tt;
   };
-  follows = subst (Follows g rs) (sym d.kept) follows;
+  follows = subst (Follows g h) (sym d.kept) follows;
   lines = d.lines;
-  needed = needs_alike (next g rs) (next_for before was) (beside g rs before was stands follows) d.needed;
+  needed = needs_alike (next g (records_of h)) (next_for before was) (beside g h before was stands follows) d.needed;
 }
 
 -- room for what comes next in the run is room for what comes next for the machine
@@ -214,11 +274,28 @@ room_alike m spare (Does r) (Does q) alike room = record {
   no_sets = ap (λ (a : Action). is_restart a.control) (done_alike r q alike) ∙ room.no_sets;
 }
 
-pub next_room : (g : Given) (rs : List Record) (m : Machine) (plan : Plan) (spare : ℕ) → StandsFor g rs None m → Follows g rs plan → HasRoom m spare (next g rs) → HasRoom m spare (next_for m plan)
-next_room g rs m plan spare stands follows room = room_alike m spare (next g rs) (next_for m plan) (beside g rs m plan stands follows) room
+pub next_room : (g : Given) (h : List Item) (m : Machine) (plan : Plan) (spare : ℕ) → StandsFor g h None m → Follows g h plan → HasRoom m spare (next g (records_of h)) → HasRoom m spare (next_for m plan)
+next_room g h m plan spare stands follows room = room_alike m spare (next g (records_of h)) (next_for m plan) (beside g h m plan stands follows) room
 
-pub steps_advance : (g : Given) (rs : List Record) (before : Machine) (answer : Turn) (m : Machine) (was plan : Plan) (old new : List Line) → StandsFor g rs None before → Follows g rs was → Steps before answer m was plan old new → Advances g rs answer m plan old new
-steps_advance g rs before turns.On m was plan old new stands follows d = did g rs before turns.On m was plan old new stands follows d
-steps_advance g rs before (turns.Issued t) m was plan old new stands follows d = did g rs before (turns.Issued t) m was plan old new stands follows d
-steps_advance g rs before (turns.End e) m was plan old new stands follows d = ended_run g rs before e m was plan old new stands follows d
-steps_advance g rs before turns.Memory m was plan old new stands follows d = refused g rs before m was plan old new stands follows d
+-- ---- the turn moves
+
+waited : (g : Given) (h : List Item) (before m : Machine) (was plan : Plan) (old new : List Line) → StandsFor g h None before → Follows g h was → Waits before m was plan old new → MovesOn g h before m plan old new
+waited g h before m was plan old new stands follows w =
+    subst (λ (p : Plan). MovesOn g h before m p old new) (sym w.kept)
+    (subst (λ (ls : List Line). MovesOn g h before m was old ls) (sym w.lines)
+    (moved g h before m was old w.wait stands follows w.later (w.bound g h stands follows) w.moved))
+
+-- ---- a step
+
+did_advance : (g : Given) (h : List Item) (before : Machine) (answer : Turn) (m : Machine) (was plan : Plan) (old new : List Line) → StandsFor g h None before → Follows g h was → (ahead g h).turn ≤ before.turn → Steps before answer m was plan old new → Issues before answer m was → Advances g h answer before m plan old new
+did_advance g h before turns.On m was plan old new stands follows now d i = inr (did g h before turns.On m was plan old new stands follows now d i)
+did_advance g h before (turns.Issued t) m was plan old new stands follows now d i = did g h before (turns.Issued t) m was plan old new stands follows now d i
+did_advance g h before (turns.End e) m was plan old new stands follows now d i = ended_run g h before e m was plan old new stands follows now d
+did_advance g h before turns.Memory m was plan old new stands follows now d i = refused g h before m was plan old new stands follows d
+
+pub steps_advance : (g : Given) (h : List Item) (before : Machine) (answer : Turn) (m : Machine) (was plan : Plan) (old new : List Line) → StandsFor g h None before → Follows g h was → OpenSteps before answer m was plan old new → Advances g h answer before m plan old new
+steps_advance g h before turns.On m was plan old new stands follows (inl w) = inl (waited g h before m was plan old new stands follows w)
+steps_advance g h before turns.On m was plan old new stands follows (inr d) = did_advance g h before turns.On m was plan old new stands follows (d.now g h stands follows) d.steps d.issues
+steps_advance g h before (turns.Issued t) m was plan old new stands follows d = did_advance g h before (turns.Issued t) m was plan old new stands follows (d.now g h stands follows) d.steps d.issues
+steps_advance g h before (turns.End e) m was plan old new stands follows d = did_advance g h before (turns.End e) m was plan old new stands follows (d.now g h stands follows) d.steps d.issues
+steps_advance g h before turns.Memory m was plan old new stands follows d = refused g h before m was plan old new stands follows d.steps

@@ -1,5 +1,5 @@
 -- A record that was done is what the step answers.
-use Rattle.std.proofs.Common.{◌≡◌, ℕ, ◌+◌, ◌<◌, ◌≤◌, Bool, true, false, cond, eqb, List, length, drop, ◌++◌, Option, Some, None, Ok, refl, sym, ap, ◌∙◌, subst, length-append, arith}
+use Rattle.std.proofs.Common.{◌≡◌, ℕ, ◌+◌, ◌^◌, ◌<◌, ◌≤◌, Bool, true, false, cond, eqb, List, length, drop, ◌++◌, ◌||◌, nat_lt, Option, Some, None, Ok, refl, sym, ap, ◌∙◌, subst, length-append, arith}
 use Rattle.std.proofs.lemmas.Bool.Decides.{nat_tests}
 use Rattle.std.specs.Prelude.{is_some}
 use Rattle.std.specs.Option.{option_map}
@@ -21,21 +21,21 @@ use Rattle.i9_model.specs.declared.run.End.TheVariants.{Limit}
 use Rattle.i9_model.specs.Memory.{console_byte}
 use Rattle.i9_model.specs.Step.{Action, acted, counted}
 use Rattle.i9_model.specs.Run.{Kind, Instruction, Faulted, Entered, Interrupted, Reached, Blocked, Record, Next, Does, Ends, action_by_kind, action_done, record_of, counts_of, due_by, point_of, reached_by, next_by_standing, next_by_event, next_by_choice, next_in}
-use Rattle.i9_model.specs.PrintedText.{out_lines, point_lines, bytes_lines, event_lines, record_lines}
+use Rattle.i9_model.specs.PrintedText.{Shown, out_lines, point_lines, bytes_lines, event_lines, record_lines}
 use Rattle.i9_processor.specs.State.{state_of}
 use Rattle.i9_model.specs.declared.run.Due.{Due}
 use Rattle.i9_model.specs.declared.run.Due.TheVariants as dues
 use Rattle.i9_processor.specs.declared.effect.Effect.{Effect}
-use Rattle.i9_processor.specs.Effect.{writes_in, HasRoomFor, is_restart}
+use Rattle.i9_processor.specs.Effect.{action_in, writes_in, HasRoomFor, has_writes, is_restart}
 use Rattle.i9_processor.proofs.Rooms.{room_space}
-use Rattle.i9_machine.specs.Doing.{state_behind, plan_after_step, point_count, bytes_count, reached_lines, reached_count, event_in, line_count, HasRoomForStep}
+use Rattle.i9_machine.specs.Doing.{state_behind, state_behind_of, lines_of, asks_room, plan_after_step, point_count, bytes_count, reached_lines, reached_count, event_in, line_count, HasRoomForStep}
 use Rattle.i9_machine.specs.declared.step.Step.{Step}
 use Rattle.i9_model.specs.declared.run.End.{End}
 use Rattle.i9_machine.specs.declared.line.Line.{Line}
 use Rattle.i9_machine.specs.declared.line.Turn.{Turn}
 use Rattle.i9_machine.specs.declared.line.Turn.TheVariants as turns
 use Rattle.i9_machine.specs.declared.machine.Machine.{Machine}
-use Rattle.i9_machine.specs.Step.{TellsRecord, IsStep, HasRoomToDo, HasRoom, event_for, next_for, event_of, plan_behind, steps_left, Did, Steps}
+use Rattle.i9_machine.specs.Step.{TellsRecord, NeedsRoom, IsStep, HasRoomToDo, HasRoom, event_for, next_for, event_of, plan_behind, records_left, steps_left, Did, Steps}
 use Rattle.i9_machine.specs.StandsFor.{LeavesFewer}
 
 no_end : (k : Kind) (s : State) (e : End) → TellsRecord k s (turns.End e) → ⊥
@@ -75,18 +75,29 @@ left_alike l ts d s t alike = ap (left_in l ts d) alike.rest
 
 -- a step leaves less
 pub did_fewer : (before m : Machine) (was plan : Plan) (r : Record) → (state_of before.processor).count ≤ before.length → next_for before was ≡ Does r → AreAlike r.after (state_of m.processor) → m.due ≡ due_by r.kind r.before → m.length ≡ before.length
-    → plan ≡ plan_behind was r → steps_left m plan < steps_left before was
-unfolding steps_left
+    → plan ≡ plan_behind was r → records_left m plan < records_left before was
 did_fewer before m was plan r within is alike due bound behind =
     let leaves = next_leaves before.length was.events was.place before.due (state_of before.processor) r is in
     let less = leaves.less within in
     let events = plan_after was.events was.place r in
-    let same : steps_left m plan ≡ left_in before.length events (due_by r.kind r.before) r.after =
+    let same : records_left m plan ≡ left_in before.length events (due_by r.kind r.before) r.after =
     ap (λ (p : Plan). left_in m.length (drop p.place p.events) m.due (state_of m.processor)) behind
     ∙ ap (λ (l : ℕ). left_in l events m.due (state_of m.processor)) bound
     ∙ ap (λ (d : Due). left_in before.length events d (state_of m.processor)) due
     ∙ left_alike before.length events (due_by r.kind r.before) r.after (state_of m.processor) alike in
-    subst (λ (n : ℕ). n < steps_left before was) (sym same) less
+    subst (λ (n : ℕ). n < records_left before was) (sym same) less
+
+-- so it does with the turns
+pub record_fewer : (before m : Machine) (was plan : Plan) → records_left m plan < records_left before was → m.turn ≡ before.turn
+    → steps_left m plan < steps_left before was
+unfolding steps_left
+record_fewer before m was plan less turn = omega (arith, less, turn)
+
+-- a move of the turn leaves less
+pub move_fewer : (before m : Machine) (plan : Plan) → records_left m plan ≡ records_left before plan → m.turn ≡ before.turn + 1
+    → before.turn < 2 ^ 62 → steps_left m plan < steps_left before plan
+unfolding steps_left
+move_fewer before m plan same turn early = omega (arith, same, turn, early)
 
 -- a step stays within the length
 pub did_within : (m : Machine) (was : Plan) (k : Kind) → (state_of m.processor).count ≤ m.length → next_for m was ≡ Does (record_of k (state_of m.processor)) → (state_of m.processor).count + counts_of k ≤ m.length
@@ -207,14 +218,36 @@ pub step_within : (m : Machine) (plan : Plan) (k : Kind) → next_for m plan ≡
 step_within m plan k is some =
     reaches_within m plan k (next_comes m.length m.due (event_for m plan) (state_of m.processor) (record_of k (state_of m.processor)) is).1 some
 
--- ---- room
+-- ---- the lines of a step
 
--- room for what comes next is room for the step that does it
-pub step_room : (m : Machine) (plan : Plan) (spare : ℕ) (step : Step) (e : Effect) → IsStep m plan step e → HasRoom m spare (next_for m plan) → HasRoomForStep m spare e step (event_in plan step)
-step_room m plan spare step e is room =
+-- the state behind a step is that behind its record
+step_after : (m : Machine) (plan : Plan) (step : Step) (e : Effect) → (is : IsStep m plan step e)
+    → state_behind_of (state_of m.processor) e step ≡ (record_of is.kind (state_of m.processor)).after
+step_after m plan step e is =
+    let s = state_of m.processor in
+    ap (λ (n : ℕ). counted n (acted s (action_in s e))) is.counts
+    ∙ ap (λ (a : Action). counted (counts_of is.kind) (acted s a)) is.effect.same
+
+pub step_lines : (m : Machine) (plan : Plan) (step : Step) (e : Effect) → (is : IsStep m plan step e)
+    → lines_of e step (event_in plan step) (state_of m.processor) (state_behind_of (state_of m.processor) e step)
+    ≡ record_lines (record_of is.kind (state_of m.processor))
+step_lines m plan step e is =
     let s = state_of m.processor in
     let r = record_of is.kind s in
-    let here : HasRoomToDo m spare r = subst (HasRoom m spare) is.is_next room in
+    ap (λ (o : Option Event). lines_of e step o s (state_behind_of s e step)) is.event
+    ∙ ap (λ (t : State). lines_of e step (event_of is.kind) s t) (step_after m plan step e is)
+    ∙ ap (λ (p : Option Point). reached_lines (event_of is.kind) s ++ (out_lines (console_byte (writes_in e)) ++ point_lines p r.after)) is.point
+    ∙ ap (λ (a : Action). reached_lines (event_of is.kind) s ++ (out_lines (console_byte a.writes) ++ point_lines (point_of is.kind) r.after)) is.effect.same
+    ∙ ap (λ (ls : List Shown). ls ++ (out_lines (console_byte (action_done r).writes) ++ point_lines (point_of is.kind) r.after)) (sym (event_lines_of is.kind s))
+
+-- ---- room
+
+-- how many lines a record has
+record_long : (m : Machine) (plan : Plan) (step : Step) (e : Effect) → (is : IsStep m plan step e)
+    → length (record_lines (record_of is.kind (state_of m.processor))) ≡ line_count e step (event_in plan step)
+record_long m plan step e is =
+    let s = state_of m.processor in
+    let r = record_of is.kind s in
     let bytes = console_byte (writes_in e) in
     let rest : length (out_lines (console_byte (action_done r).writes) ++ point_lines (point_of is.kind) r.after) ≡ length (out_lines bytes) + point_count (step.point) =
     lines_long (console_byte (action_done r).writes) (point_of is.kind) r.after
@@ -222,8 +255,27 @@ step_room m plan spare step e is room =
     ∙ ap (λ (p : Option Point). length (out_lines bytes) + point_count p) (sym is.point) in
     let event : length (event_lines is.kind s) ≡ reached_count (event_in plan step) =
     ap length (event_lines_of is.kind s) ∙ reached_long (event_of is.kind) s ∙ ap reached_count (sym is.event) in
-    let lines : length (record_lines r) ≡ line_count e step (event_in plan step) =
-    length-append (event_lines is.kind s) (out_lines (console_byte (action_done r).writes) ++ point_lines (point_of is.kind) r.after) ∙ omega (arith, rest, event) in
+    length-append (event_lines is.kind s) (out_lines (console_byte (action_done r).writes) ++ point_lines (point_of is.kind) r.after) ∙ omega (arith, rest, event)
+
+-- what a step asks room for is what its record needs it for
+pub step_needs : (m : Machine) (plan : Plan) (step : Step) (e : Effect) → IsStep m plan step e
+    → asks_room (state_of m.processor) e step (event_in plan step) ≡ true → NeedsRoom (next_for m plan)
+step_needs m plan step e is asks =
+    let s = state_of m.processor in
+    let r = record_of is.kind s in
+    let a = action_in s e in
+    subst NeedsRoom (sym is.is_next)
+    (ap (λ (b : Action). nat_lt 0 (length (record_lines r)) || (has_writes b || is_restart b.control)) (sym is.effect.same)
+    ∙ ap (λ (n : ℕ). nat_lt 0 n || (has_writes a || is_restart a.control)) (record_long m plan step e is)
+    ∙ asks)
+
+-- room for what comes next is room for the step that does it
+pub step_room : (m : Machine) (plan : Plan) (spare : ℕ) (step : Step) (e : Effect) → IsStep m plan step e → HasRoom m spare (next_for m plan) → HasRoomForStep m spare e step (event_in plan step)
+step_room m plan spare step e is room =
+    let s = state_of m.processor in
+    let r = record_of is.kind s in
+    let here : HasRoomToDo m spare r = subst (HasRoom m spare) is.is_next room in
+    let lines = record_long m plan step e is in
     record {
       lines = subst (λ (n : ℕ). n ≤ spare) lines here.lines;
       effect = room_space m.processor s e (subst (HasRoomFor m.processor) (sym is.effect.same) here.effect);

@@ -1,5 +1,5 @@
 -- One step of a machine from its own fields, with no word on the records before.
-use Rattle.std.specs.Prelude.{◌≡◌, ℕ, ◌+◌, ◌≤◌, Bool, true, false, ◌||◌, nat_lt, List, length, drop, Option, Some, None, is_some, Result, Ok, Err}
+use Rattle.std.specs.Prelude.{◌≡◌, ℕ, ◌+◌, ◌-◌, ◌*◌, ◌^◌, ◌≤◌, Bool, true, false, ◌||◌, nat_lt, List, length, drop, Option, Some, None, is_some, Result, Ok, Err}
 use Rattle.i9_isa.specs.Words.{words_of}
 use Rattle.i9_model.specs.State.{State}
 use Rattle.i9_model.specs.declared.event.Event.{Event}
@@ -20,6 +20,10 @@ use Rattle.i9_machine.specs.declared.machine.Machine.{Machine}
 use Rattle.i9_machine.specs.declared.step.Step.{Step}
 use Rattle.i9_machine.specs.Issue.{TellsIssue}
 use Rattle.i9_machine.specs.Doing.{event_in}
+use Rattle.i9_model.specs.declared.need.Need.{Need}
+use Rattle.i9_course.specs.NeedOf.{need_of}
+use Rattle.i9_plan.specs.Planned.{IsInRow}
+use Rattle.i9_machine.specs.Issuing.{most_turns, IsIssued, IsUnmoved}
 use Rattle.i9_machine.specs.Line.{AddsLines}
 
 -- the event of a schedule that stands there for the machine
@@ -31,8 +35,12 @@ abbrev pub next_for : Machine → Plan → Next
 next_for m plan = next_in m.length m.due (event_for m plan) (state_of m.processor)
 
 -- how much is left of a run
+abbrev pub records_left : Machine → Plan → ℕ
+records_left m plan = left_in m.length (drop plan.place plan.events) m.due (state_of m.processor)
+
+-- the same with the turns, of which there are fewer than 2^62
 unfoldable pub steps_left : Machine → Plan → ℕ
-steps_left m plan = left_in m.length (drop plan.place plan.events) m.due (state_of m.processor)
+steps_left m plan = 2 ^ 62 * records_left m plan + (2 ^ 62 - m.turn)
 
 -- the event that a record reached, where it reached one
 abbrev pub event_of : Kind → Option Event
@@ -77,7 +85,7 @@ HasRoom m spare (Does r) = HasRoomToDo m spare r
 -- ---- what a step is to do
 
 -- What comes next is a record of this effect, drained point and count, which reaches the next event or none, makes this
--- due and is answered so.
+-- due, is answered so, and needs this. The bytes of a request stand in a row.
 pub record IsStep (m : Machine) (plan : Plan) (step : Step) (e : Effect) : Type 0 where
   pub kind : Kind
   pub is_next : next_for m plan ≡ Does (record_of kind (state_of m.processor))
@@ -88,6 +96,9 @@ pub record IsStep (m : Machine) (plan : Plan) (step : Step) (e : Effect) : Type 
   pub reaches : step.reaches ≡ is_some (event_of kind)
   pub event : event_in plan step ≡ event_of kind
   pub tells : TellsRecord kind (state_of m.processor) step.answer
+  pub need : step.need ≡ need_of (size_of m.processor) (cache_of m.processor) (state_of m.processor) kind
+  pub cost : step.need.cost ≤ most_turns
+  pub row : step.need.request ≡ true → IsInRow e
 
 -- what comes next is such a record, or this end
 abbrev pub IsNext : Machine → Plan → Result Step End → Effect → Type 0
@@ -122,6 +133,7 @@ pub record IsSame (before m : Machine) : Type 0 where
   pub due : m.due ≡ before.due
   pub length : m.length ≡ before.length
   pub sets : m.sets ≡ before.sets
+  pub unmoved : IsUnmoved before m
 
 pub record Ended (before : Machine) (e : End) (m : Machine) (was plan : Plan) (old new : List Line) : Type 0 where
   pub is_end : next_for before was ≡ Ends e
@@ -142,3 +154,20 @@ Steps before turns.On m was plan old new = Did before turns.On m was plan old ne
 Steps before (turns.Issued t) m was plan old new = Did before (turns.Issued t) m was plan old new
 Steps before (turns.End e) m was plan old new = Ended before e m was plan old new
 Steps before turns.Memory m was plan old new = Refused before m was plan old new
+
+-- ---- how it issued
+
+-- what came next issued, with what it needs
+pub record IssuesNext (before m : Machine) (was : Plan) : Type 0 where
+  pub kind : Kind
+  pub is_next : next_for before was ≡ Does (record_of kind (state_of before.processor))
+  pub need : Need
+  pub is_need : need ≡ need_of (size_of before.processor) (cache_of before.processor) (state_of before.processor) kind
+  pub issued : IsIssued before need (action_by_kind kind (state_of before.processor)) m
+
+-- where a record was done
+abbrev pub Issues : Machine → Turn → Machine → Plan → Type 0
+Issues before turns.On m was = IssuesNext before m was
+Issues before (turns.Issued t) m was = IssuesNext before m was
+Issues before (turns.End e) m was = Unit {0}
+Issues before turns.Memory m was = Unit {0}

@@ -20,7 +20,7 @@ pub struct Issued {
 /// What a step was.
 #[derive(Clone, Copy, Debug, PartialEq, Eq)]
 pub enum Turn {
-    /// The entry of a fault or of an interrupt, or an event.
+    /// The entry of a fault or of an interrupt, an event, or a move of the turn.
     On,
     /// An instruction.
     Issued(Issued),

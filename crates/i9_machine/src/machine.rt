@@ -1,5 +1,5 @@
 //! The machine, one step at a time.
-ghost use Rattle.std.specs.Prelude.{◌≡◌, ◌-◌, ◌<◌, ◌≤◌, [], ℕ, List, Option, None, Some, IfOk, IfSome, vec_len, vec_capacity};
+ghost use Rattle.std.specs.Prelude.{◌≡◌, ◌-◌, ◌^◌, ◌<◌, ◌≤◌, [], ℕ, List, Option, None, Some, IfOk, IfSome, vec_len, vec_capacity};
 ghost use Rattle.std.proofs.Props.{props};
 ghost use Rattle.i9_model.specs.declared.layout.TheConstants.{MAX_LENGTH};
 ghost use Rattle.i9_model.specs.declared.event.Timed.{Timed};
@@ -8,18 +8,22 @@ ghost use Rattle.i9_model.specs.Overlay.{overlay};
 ghost use Rattle.i9_model.specs.HeldFrames.{cache_after, sets_in};
 ghost use Rattle.i9_model.specs.Given.{Given, given};
 ghost use Rattle.i9_model.specs.declared.run.End.{End};
-ghost use Rattle.i9_model.specs.Run.{Record, state_after, next};
+ghost use Rattle.i9_model.specs.ScheduleText.{IsPlan};
+ghost use Rattle.i9_model.specs.Run.{state_after, next};
+ghost use Rattle.i9_course.specs.Course.{Item, records_of};
 ghost use Rattle.i9_model.specs.PrintedText.{view_of};
 ghost use Rattle.i9_frames.specs.Sets.{held};
-ghost use Rattle.i9_processor.specs.State.{state_of};
+ghost use Rattle.i9_processor.specs.State.{state_of, IsDrained};
 
 mod doing;
+mod opening;
 mod planning;
 
 use crate::line::{Line, Turn};
 use i9_frames::Sets;
 use i9_hex::Segments;
 use i9_isa::NoMemory;
+use i9_issue::Board;
 use i9_model::layout::MAX_LENGTH;
 use i9_model::{Due, End, View};
 use i9_plan::Memo;
@@ -28,7 +32,9 @@ use i9_schedule::Schedule;
 use std::alloc::Global;
 
 /// A machine that runs an image: what an instruction may read or change, the length of the run, what
-/// comes next whatever the length, and the end that was answered; and instructions that were decoded.
+/// comes next whatever the length, and the end that was answered; instructions that were decoded; and the
+/// scoreboard with the turn, that of the last mark, that at which the last record is done, and one below
+/// which nothing comes next.
 #[derive(Drop)]
 pub struct Machine {
     processor: Processor,
@@ -38,14 +44,20 @@ pub struct Machine {
     length: u64,
     due: Due,
     ended: Option<End>,
+    board: Board,
+    turn: u64,
+    floor: u64,
+    done: u64,
+    wait: u64,
     ghost short: { length ≤ MAX_LENGTH },
     ghost below: { (state_of processor).count ≤ length },
     ghost few: { IfSome sets (λ n. 0 < n × n < 16) } by { Prim.hlevel props },
 }
 
 impl Machine {
-    ghost use Rattle.i9_machine.specs.StandsFor.{StandsFor, Follows, Advances, AnswersAgain, LeavesFewer};
-    ghost use Rattle.i9_machine.specs.Step.{Steps, HasRoom, next_for, steps_left};
+    ghost use Rattle.i9_machine.specs.StandsFor.{StandsFor, Follows, Advances, AnswersAgain, LeavesFewer, IsUnderWay, IsNow, Done, OpenSteps};
+    ghost use Rattle.i9_machine.specs.Issuing.{IsMoved, IsEndTurn};
+    ghost use Rattle.i9_machine.specs.Step.{HasRoom, next_for, steps_left};
 
     /// A machine before its first step: its run has the image's bytes, so many register sets or as many
     /// as the PRCB asks for, and at most so many instructions.
@@ -57,7 +69,8 @@ impl Machine {
     ) -> Result<Machine, NoMemory>
         requires sets { IfSome sets (λ n. 0 < n × n < 16) }
         requires length { length ≤ MAX_LENGTH }
-        ensures { (plan : List Timed) → IfOk result (λ m. StandsFor (given (pairs_of image.now) plan length sets) [] None m) }
+        ensures { (plan : List Timed) → IsPlan plan
+            → IfOk result (λ m. StandsFor (given (pairs_of image.now) plan length sets) [] None m) }
     {
         let processor = Processor::boot(alloc, image, sets)?;
         let memo = Memo::new(alloc)?;
@@ -69,13 +82,18 @@ impl Machine {
             length,
             due: Due::Nothing,
             ended: None,
+            board: Board::new(),
+            turn: 1,
+            floor: 0,
+            done: 1,
+            wait: 0,
         })
     }
 
     /// What a drained point shows: the state after the records so far.
     pub fn view(&self) -> View
-        ensures { (g : Given) (rs : List Record) (end : Option End) → StandsFor g rs end self.now
-            → result ≡ view_of (state_after g rs) }
+        ensures { (g : Given) (h : List Item) (end : Option End) → StandsFor g h end self.now
+            → result ≡ view_of (state_after g (records_of h)) }
     {
         self.processor.view()
     }
@@ -83,24 +101,47 @@ impl Machine {
     /// A byte of overlaid memory: `None` exactly where it is not compared, which is where only the save
     /// of a frame wrote it and that frame is not live any more.
     pub fn byte(&self, a: u32) -> Option<u8>
-        ensures { (g : Given) (rs : List Record) (end : Option End) → StandsFor g rs end self.now
-            → result ≡ overlay (state_after g rs) a }
+        ensures { (g : Given) (h : List Item) (end : Option End) → StandsFor g h end self.now
+            → result ≡ overlay (state_after g (records_of h)) a }
     {
         self.processor.overlay(a)
     }
 
     /// The frames that are held, each in a set.
     pub fn held(&self) -> &Sets
-        ensures { (g : Given) (rs : List Record) (end : Option End) → StandsFor g rs end self.now
-            → result.now ≡ held (sets_in g.sets (state_after g rs)) (cache_after g rs).held }
+        ensures { (g : Given) (h : List Item) (end : Option End) → StandsFor g h end self.now
+            → result.now ≡ held (sets_in g.sets (state_after g (records_of h))) (cache_after g (records_of h)).held }
     {
         self.processor.sets()
     }
 
-    /// One step of a machine that has answered no end.
-    fn step(&mut self, plan: &mut Schedule, out: &mut Vec<Line>) -> Turn
-        requires { self.old.ended ≡ None }
-        ensures steps { Steps self.old result self.new plan.old plan.new out.old.items out.new.items }
+    /// The turn moves by one, to which something waits, and what is due lands.
+    fn move_on(&mut self)
+        requires { self.old.turn < self.old.wait }
+        ensures { IsMoved self.old self.new }
+    {
+        self.turn += 1;
+        self.processor.land(self.turn);
+    }
+
+    /// The turn moves by one, and nothing comes below another one.
+    fn wait_until(&mut self, turn: u64) -> Turn
+        requires { self.old.turn < turn }
+        ensures answer { result ≡ Turn.On }
+        ensures moved { IsMoved (record self.old { wait = turn }) self.new }
+    {
+        self.wait = turn;
+        self.move_on();
+        Turn::On
+    }
+
+    /// One step of a machine for which nothing is open.
+    fn step_drained(&mut self, plan: &mut Schedule, out: &mut Vec<Line>) -> Turn
+        requires running { self.old.ended ≡ None }
+        requires stands { IsUnderWay self.old plan.old }
+        requires drained { IsDrained self.old.processor }
+        requires now { IsNow self.old plan.old }
+        ensures done { Done self.old result self.new plan.old plan.new out.old.items out.new.items }
         ensures lacking { result ≡ Turn.Memory
             → HasRoom self.old (vec_capacity out.old - vec_len out.old) (next_for self.old plan.old) → ⊥ }
         ensures fewer { LeavesFewer result (steps_left self.old plan.old) (steps_left self.new plan.new) }
@@ -115,23 +156,74 @@ impl Machine {
         }
     }
 
-    /// One step of the run: the next instruction is done or faults, or its fault is entered, or before it an
+    /// One step of a machine for which something is open until a turn: an instruction that is no barrier
+    /// issues where its turn has come, and else the turn moves.
+    fn step_open(&mut self, until: u64, plan: &mut Schedule, out: &mut Vec<Line>) -> Turn
+        requires running { self.old.ended ≡ None }
+        requires stands { IsUnderWay self.old plan.old }
+        requires until { IsEndTurn self.old until }
+        requires open { self.old.turn < until }
+        ensures steps { OpenSteps self.old result self.new plan.old plan.new out.old.items out.new.items }
+        ensures lacking { result ≡ Turn.Memory
+            → HasRoom self.old (vec_capacity out.old - vec_len out.old) (next_for self.old plan.old) → ⊥ }
+        ensures fewer { LeavesFewer result (steps_left self.old plan.old) (steps_left self.new plan.new) }
+    {
+        let mut effect = Effect::blank();
+        let mut memo = std::mem::replace(&mut self.memo, Memo::none(self.alloc));
+        let next = self.open_step(plan, &mut memo, &mut effect);
+        self.memo = memo;
+        let Some(step) = next else {
+            return self.wait_until(until);
+        };
+        let turn = self.board.next_turn(&self.marked(&step.need));
+        if self.turn < turn {
+            self.wait_until(turn)
+        } else {
+            self.perform(&step, &effect, plan, out)
+        }
+    }
+
+    /// One step of a machine that has answered no end, below whose turn nothing waits.
+    fn step(&mut self, plan: &mut Schedule, out: &mut Vec<Line>) -> Turn
+        requires running { self.old.ended ≡ None }
+        requires stands { IsUnderWay self.old plan.old }
+        ensures steps { OpenSteps self.old result self.new plan.old plan.new out.old.items out.new.items }
+        ensures lacking { result ≡ Turn.Memory
+            → HasRoom self.old (vec_capacity out.old - vec_len out.old) (next_for self.old plan.old) → ⊥ }
+        ensures fewer { LeavesFewer result (steps_left self.old plan.old) (steps_left self.new plan.new) }
+    {
+        let until = self.board.all_done();
+        if self.turn < until {
+            self.step_open(until, plan, out)
+        } else {
+            self.step_drained(plan, out)
+        }
+    }
+
+    /// One step of the run: an issue, an event, an entry, or a move of the turn. Where the turn of what
+    /// comes next has come, the next instruction is done or faults, or its fault is entered, or before it an
     /// interrupt that is chosen is entered or the event of the schedule that stands there is reached, or the
-    /// end is answered; and the lines of it are appended to `out`. The schedule is the one of the run, behind
-    /// the events that were reached so far, and goes on where an event is reached. Memory is refused only
-    /// where room is lacking in the machine or in `out`, or where new sets are to be made; then all three are
-    /// as before. Once an end was answered, each call answers it again and changes nothing.
+    /// end is answered; and the lines of it are appended to `out`. Else the turn moves by one, and what is
+    /// due by then lands. The schedule is the one of the run, behind the events that were reached so far,
+    /// and goes on where an event is reached. Memory is refused only where room is lacking in the machine or
+    /// in `out`, or where new sets are to be made, and never where the turn moves; then all three are as
+    /// before. Once an end was answered, each call answers it again and changes nothing.
     pub fn advance(&mut self, plan: &mut Schedule, out: &mut Vec<Line>) -> Turn
-        ensures next { (g : Given) (rs : List Record) → StandsFor g rs None self.old → Follows g rs plan.old
-            → Advances g rs result self.new plan.new out.old.items out.new.items }
-        ensures again { (g : Given) (rs : List Record) (f : End) → StandsFor g rs (Some f) self.old
-            → AnswersAgain g rs f result self.new out.old.items out.new.items × (plan.new ≡ plan.old) }
-        ensures lacking { (g : Given) (rs : List Record) → StandsFor g rs None self.old → Follows g rs plan.old
-            → result ≡ Turn.Memory → HasRoom self.old (vec_capacity out.old - vec_len out.old) (next g rs) → ⊥ }
+        requires stands { self.old.ended ≡ None → IsUnderWay self.old plan.old }
+        ensures next { (g : Given) (h : List Item) → StandsFor g h None self.old → Follows g h plan.old
+            → Advances g h result self.old self.new plan.new out.old.items out.new.items }
+        ensures again { (g : Given) (h : List Item) (f : End) → StandsFor g h (Some f) self.old
+            → AnswersAgain g h f result self.new out.old.items out.new.items × (plan.new ≡ plan.old) }
+        ensures lacking { (g : Given) (h : List Item) → StandsFor g h None self.old → Follows g h plan.old
+            → result ≡ Turn.Memory → HasRoom self.old (vec_capacity out.old - vec_len out.old) (next g (records_of h)) → ⊥ }
         ensures fewer { LeavesFewer result (steps_left self.old plan.old) (steps_left self.new plan.new) }
     {
         match self.ended {
             Some(e) => Turn::End(e),
+            None if self.turn < self.wait => {
+                self.move_on();
+                Turn::On
+            }
             None => self.step(plan, out),
         }
     }

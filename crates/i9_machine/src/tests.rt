@@ -1,11 +1,15 @@
 //! The machine at images of a few instructions, worked out by hand.
-ghost use Rattle.std.specs.Prelude.{◌<◌, IfSome};
+ghost use Rattle.std.specs.Prelude.{◌≡◌, ◌<◌, ◌≤◌, IfSome, IfOk};
+ghost use Rattle.i9_model.specs.declared.layout.TheConstants.{MAX_LENGTH};
+ghost use Rattle.i9_model.specs.ScheduleText.{IsPlan};
+ghost use Rattle.i9_machine.specs.InRun.{IsInRun};
 
 use crate::{End, Event, Issued, Line, Machine, Point, Turn};
 use arrayvec::ArrayVec;
 use i9_frames::Frame;
 use i9_hex::Segments;
 use i9_model::View;
+use i9_model::layout::MAX_LENGTH;
 use i9_schedule::{Schedule, read};
 use std::alloc::Global;
 use std::test::*;
@@ -74,19 +78,91 @@ fn put_word(image: &mut Segments, address: u32, word: u32) -> Result<(), Fail> {
 }
 
 /// The schedule that a text says.
-fn events(alloc: Global, text: &[u8]) -> Result<Schedule, Fail> {
+fn events(alloc: Global, text: &[u8]) -> Result<Schedule, Fail>
+    ensures plan { IfOk result (λ p. IsPlan p.events) }
+    ensures place { IfOk result (λ p. p.place ≡ 0) }
+{
     match read(alloc, text) {
         Ok(plan) => Ok(plan),
         Err(_) => Err("no schedule".into()),
     }
 }
 
+/// A machine with its schedule and the lines so far.
+#[derive(Drop)]
+struct Run {
+    machine: Machine,
+    plan: Schedule,
+    lines: Vec<Line>,
+}
+
+/// A machine before its first step, with the schedule that a text says.
+fn run_of(
+    alloc: Global,
+    image: &Segments,
+    sets: Option<u8>,
+    length: u64,
+    text: &[u8],
+) -> Result<Run, Fail>
+    requires sets { IfSome sets (λ n. 0 < n × n < 16) }
+    requires length { length ≤ MAX_LENGTH }
+    ensures { IfOk result (λ r. IsInRun r.machine r.plan) }
+{
+    let plan = events(alloc, text)?;
+    let machine = Machine::new(alloc, image, sets, length)?;
+    Ok(Run {
+        machine,
+        plan,
+        lines: Vec::new(alloc),
+    })
+}
+
+/// One step, which may be a move of the turn.
+fn advance(run: &mut Run) -> Turn
+    requires { IsInRun run.old.machine run.old.plan }
+    ensures { IsInRun run.new.machine run.new.plan }
+{
+    run.machine.advance(&mut run.plan, &mut run.lines)
+}
+
+/// How often the turn moves before the next step that is no move, at most 1000 times, and that step. A move
+/// has no line, and each other step that is answered so has one.
+fn moves_and_step(run: &mut Run) -> (u64, Turn)
+    requires { IsInRun run.old.machine run.old.plan }
+    ensures { IsInRun run.new.machine run.new.plan }
+{
+    let before = run.lines.len();
+    for moves in 0..1000u64 {
+        let turn = advance(run);
+        if turn != Turn::On || run.lines.len() != before {
+            return (moves, turn);
+        }
+    }
+    (1000, Turn::On)
+}
+
+/// The next step that is no move of the turn.
+fn step(run: &mut Run) -> Turn
+    requires { IsInRun run.old.machine run.old.plan }
+    ensures { IsInRun run.new.machine run.new.plan }
+{
+    moves_and_step(run).1
+}
+
+/// So many steps that are no moves of the turn.
+fn take_steps(run: &mut Run, count: usize)
+    requires { IsInRun run.old.machine run.old.plan }
+    ensures { IsInRun run.new.machine run.new.plan }
+{
+    for _ in 0..count {
+        let _ = step(run);
+    }
+}
+
 #[test]
 fn steps_through_a_run(rt: HostRuntime) -> Result<(), Fail> {
     let image = image_of(rt.alloc(), &PROGRAM)?;
-    let mut machine = Machine::new(rt.alloc(), &image, None, 100)?;
-    let mut plan = events(rt.alloc(), b"")?;
-    let mut lines = Vec::new(rt.alloc());
+    let mut run = run_of(rt.alloc(), &image, None, 100, b"")?;
     let steps = [
         (0x1000, 0x8CA0_0041, 0),
         (0x1004, 0x8CA8_3000, 0xE000_0000),
@@ -96,8 +172,8 @@ fn steps_through_a_run(rt: HostRuntime) -> Result<(), Fail> {
     ];
     let mut count = 0u64;
     for (address, first, second) in steps {
-        assert_eq!(rt; machine.view().count, count);
-        match machine.advance(&mut plan, &mut lines) {
+        assert_eq!(rt; run.machine.view().count, count);
+        match step(&mut run) {
             Turn::Issued(t) => {
                 assert_eq!(rt; (t.count, t.address), (count, address));
                 assert_eq!(rt; (t.first, t.second), (first, second));
@@ -106,15 +182,9 @@ fn steps_through_a_run(rt: HostRuntime) -> Result<(), Fail> {
         }
         count = count.saturating_add(1);
     }
-    assert_eq!(rt;
-        machine.advance(&mut plan, &mut lines),
-        Turn::End(End::Exit(7))
-    );
-    assert_eq!(rt;
-        machine.advance(&mut plan, &mut lines),
-        Turn::End(End::Exit(7))
-    );
-    let view = machine.view();
+    assert_eq!(rt; step(&mut run), Turn::End(End::Exit(7)));
+    assert_eq!(rt; step(&mut run), Turn::End(End::Exit(7)));
+    let view = run.machine.view();
     assert_eq!(rt; (view.count, view.ip), (5, 0x1018));
     assert_eq!(rt; (view.ac, view.pc, view.tc), (0, 0x1F_2002, 0));
     assert_eq!(rt;
@@ -123,7 +193,7 @@ fn steps_through_a_run(rt: HostRuntime) -> Result<(), Fail> {
     );
     let kind = Point::End;
     assert_eq!(rt;
-        lines.as_slice(),
+        run.lines.as_slice(),
         [
             Line::Out(0x41),
             Line::Point { kind, view },
@@ -145,15 +215,13 @@ fn end_of(
     for (address, word) in words {
         put_word(&mut image, *address, *word)?;
     }
-    let mut machine = Machine::new(alloc, &image, None, u64::from(length.min(100)))?;
-    let mut plan = events(alloc, b"")?;
-    let mut lines = Vec::new(alloc);
+    let mut run = run_of(alloc, &image, None, u64::from(length.min(100)), b"")?;
     for _ in 0..201usize {
-        if let Turn::End(end) = machine.advance(&mut plan, &mut lines) {
-            return Ok((Some(end), machine.view().count));
+        if let Turn::End(end) = step(&mut run) {
+            return Ok((Some(end), run.machine.view().count));
         }
     }
-    Ok((None, machine.view().count))
+    Ok((None, run.machine.view().count))
 }
 
 #[test]
@@ -190,48 +258,44 @@ fn ends_as_it_should(rt: HostRuntime) -> Result<(), Fail> {
 fn tells_a_fault_and_its_entry(rt: HostRuntime) -> Result<(), Fail> {
     // The word 0 is no instruction. The fault table is at 0, and so is its handler.
     let image = image_of(rt.alloc(), &[0])?;
-    let mut machine = Machine::new(rt.alloc(), &image, None, 1)?;
-    let mut plan = events(rt.alloc(), b"")?;
-    let mut lines = Vec::new(rt.alloc());
+    let mut run = run_of(rt.alloc(), &image, None, 1, b"")?;
     let issued = Issued {
         count: 0,
         address: 0x1000,
         first: 0,
         second: 0,
     };
+    assert_eq!(rt; step(&mut run), Turn::Issued(issued));
     assert_eq!(rt;
-        machine.advance(&mut plan, &mut lines),
-        Turn::Issued(issued)
+        (run.machine.view().count, run.machine.view().ip),
+        (1, 0x1004)
     );
-    assert_eq!(rt; (machine.view().count, machine.view().ip), (1, 0x1004));
-    assert!(rt; lines.is_empty());
-    assert_eq!(rt; machine.advance(&mut plan, &mut lines), Turn::On);
-    let view = machine.view();
+    assert!(rt; run.lines.is_empty());
+    assert_eq!(rt; step(&mut run), Turn::On);
+    let view = run.machine.view();
     assert_eq!(rt; (view.count, view.ip, view.pc), (1, 0, 0x1F_2002));
     assert_eq!(rt;
         (view.regs[31], view.regs[0], view.regs[1]),
         (0x50, 1, 0x90)
     );
     let kind = Point::Fault;
-    assert_eq!(rt; lines.as_slice(), [Line::Point { kind, view }].as_slice());
+    assert_eq!(rt;
+        run.lines.as_slice(),
+        [Line::Point { kind, view }].as_slice()
+    );
     // The type, 2, and the subtype, 1, of the record at 40.
     assert_eq!(rt;
-        (machine.byte(0x48), machine.byte(0x4A)),
+        (run.machine.byte(0x48), run.machine.byte(0x4A)),
         (Some(1), Some(2))
     );
-    assert_eq!(rt;
-        machine.advance(&mut plan, &mut lines),
-        Turn::End(End::Limit)
-    );
+    assert_eq!(rt; step(&mut run), Turn::End(End::Limit));
     Ok(())
 }
 
 #[test]
 fn compares_bytes_of_live_frames_alone(rt: HostRuntime) -> Result<(), Fail> {
     let image = image_of(rt.alloc(), &CALL_AND_RETURN)?;
-    let mut machine = Machine::new(rt.alloc(), &image, None, 2)?;
-    let mut plan = events(rt.alloc(), b"")?;
-    let mut lines = Vec::new(rt.alloc());
+    let mut run = run_of(rt.alloc(), &image, None, 2, b"")?;
     let steps = [
         (Some(0), Some(0), Some(0)),
         (Some(0x40), Some(0x04), Some(0x10)),
@@ -239,20 +303,21 @@ fn compares_bytes_of_live_frames_alone(rt: HostRuntime) -> Result<(), Fail> {
     ];
     for (sp, back, back_above) in steps {
         assert_eq!(rt;
-            (machine.byte(4), machine.byte(8), machine.byte(9)),
+            (
+                run.machine.byte(4),
+                run.machine.byte(8),
+                run.machine.byte(9)
+            ),
             (sp, back, back_above)
         );
         assert_eq!(rt;
-            (machine.byte(0x40), machine.byte(0x1000)),
+            (run.machine.byte(0x40), run.machine.byte(0x1000)),
             (Some(0), Some(0x04))
         );
-        assert_eq!(rt; machine.byte(0xE000_0000), Some(0));
-        let _ = machine.advance(&mut plan, &mut lines);
+        assert_eq!(rt; run.machine.byte(0xE000_0000), Some(0));
+        let _ = step(&mut run);
     }
-    assert_eq!(rt;
-        machine.advance(&mut plan, &mut lines),
-        Turn::End(End::Limit)
-    );
+    assert_eq!(rt; step(&mut run), Turn::End(End::Limit));
     Ok(())
 }
 
@@ -260,14 +325,10 @@ fn compares_bytes_of_live_frames_alone(rt: HostRuntime) -> Result<(), Fail> {
 fn far_apart(alloc: Global, count: usize) -> Result<Vec<Machine>, Fail> {
     let image = image_of(alloc, &STORES_FAR_APART)?;
     let mut machines = Vec::new(alloc);
-    let mut plan = events(alloc, b"")?;
-    let mut lines = Vec::new(alloc);
     for _ in 0..count {
-        let mut machine = Machine::new(alloc, &image, None, 7)?;
-        for _ in 0..7usize {
-            let _ = machine.advance(&mut plan, &mut lines);
-        }
-        machines.push(machine)?;
+        let mut run = run_of(alloc, &image, None, 7, b"")?;
+        take_steps(&mut run, 7);
+        machines.push(run.machine)?;
     }
     Ok(machines)
 }
@@ -338,16 +399,14 @@ fn asked(sets: u8) -> Option<u8>
 /// is given.
 fn nested(alloc: Global, sets: u8, word: u32) -> Result<(u8, Turn, View), Fail> {
     let image = image_with_sets(alloc, &NESTED_CALLS, word, 0)?;
-    let mut machine = Machine::new(alloc, &image, asked(sets), 100)?;
-    let mut plan = events(alloc, b"")?;
-    let mut lines = Vec::new(alloc);
+    let mut run = run_of(alloc, &image, asked(sets), 100, b"")?;
     let mut most = 0u8;
     let mut last = Turn::Memory;
     for _ in 0..83usize {
-        last = machine.advance(&mut plan, &mut lines);
-        most = most.max(machine.held().len());
+        last = step(&mut run);
+        most = most.max(run.machine.held().len());
     }
-    Ok((most, last, machine.view()))
+    Ok((most, last, run.machine.view()))
 }
 
 #[test]
@@ -378,15 +437,11 @@ fn holds_as_many_frames_as_there_are_sets(rt: HostRuntime) -> Result<(), Fail> {
 /// How many sets there are behind a call and behind the start anew, where nothing may be held.
 fn sets_anew(alloc: Global, sets: u8, word: u32, other: u32) -> Result<(u8, u8, u8), Fail> {
     let image = image_with_sets(alloc, &CALL_AND_START_ANEW, word, other)?;
-    let mut machine = Machine::new(alloc, &image, asked(sets), 100)?;
-    let mut plan = events(alloc, b"")?;
-    let mut lines = Vec::new(alloc);
-    let _ = machine.advance(&mut plan, &mut lines);
-    let before = machine.held().size();
-    for _ in 0..4usize {
-        let _ = machine.advance(&mut plan, &mut lines);
-    }
-    Ok((before, machine.held().size(), machine.held().len()))
+    let mut run = run_of(alloc, &image, asked(sets), 100, b"")?;
+    let _ = step(&mut run);
+    let before = run.machine.held().size();
+    take_steps(&mut run, 4);
+    Ok((before, run.machine.held().size(), run.machine.held().len()))
 }
 
 #[test]
@@ -409,33 +464,36 @@ fn a_new_prcb_makes_fewer_sets_and_more(rt: HostRuntime) -> Result<(), Fail> {
 #[test]
 fn reads_a_prcb_in_a_held_frame(rt: HostRuntime) -> Result<(), Fail> {
     let image = image_with_sets(rt.alloc(), &START_BY_A_FRAME, 15, 0)?;
-    let mut machine = Machine::new(rt.alloc(), &image, None, 100)?;
-    let mut plan = events(rt.alloc(), b"")?;
-    let mut lines = Vec::new(rt.alloc());
-    for _ in 0..5usize {
-        let _ = machine.advance(&mut plan, &mut lines);
-    }
-    assert_eq!(rt; (machine.held().size(), machine.held().len()), (15, 1));
-    let _ = machine.advance(&mut plan, &mut lines);
-    assert_eq!(rt; (machine.held().size(), machine.held().len()), (7, 0));
-    assert_eq!(rt; (machine.view().count, machine.view().ip), (6, 0x1200));
-    assert_eq!(rt; machine.byte(36), Some(7));
+    let mut run = run_of(rt.alloc(), &image, None, 100, b"")?;
+    take_steps(&mut run, 5);
+    assert_eq!(rt;
+        (run.machine.held().size(), run.machine.held().len()),
+        (15, 1)
+    );
+    let _ = step(&mut run);
+    assert_eq!(rt;
+        (run.machine.held().size(), run.machine.held().len()),
+        (7, 0)
+    );
+    assert_eq!(rt;
+        (run.machine.view().count, run.machine.view().ip),
+        (6, 0x1200)
+    );
+    assert_eq!(rt; run.machine.byte(36), Some(7));
     Ok(())
 }
 
 #[test]
 fn holds_the_frame_of_a_call(rt: HostRuntime) -> Result<(), Fail> {
     let image = image_of(rt.alloc(), &CALL_AND_RETURN)?;
-    let mut machine = Machine::new(rt.alloc(), &image, Some(2), 2)?;
-    let mut plan = events(rt.alloc(), b"")?;
-    let mut lines = Vec::new(rt.alloc());
-    assert_eq!(rt; machine.held().at(0).copied(), None);
-    let _ = machine.advance(&mut plan, &mut lines);
+    let mut run = run_of(rt.alloc(), &image, Some(2), 2, b"")?;
+    assert_eq!(rt; run.machine.held().at(0).copied(), None);
+    let _ = step(&mut run);
     let words = [0, 0x40, 0x1004, 0, 0, 0, 0, 0, 0, 0, 0, 0, 0, 0, 0, 0];
     let frame = Frame { address: 0, words };
-    assert_eq!(rt; machine.held().at(0).copied(), Some(frame));
-    let _ = machine.advance(&mut plan, &mut lines);
-    assert_eq!(rt; machine.held().len(), 0);
+    assert_eq!(rt; run.machine.held().at(0).copied(), Some(frame));
+    let _ = step(&mut run);
+    assert_eq!(rt; run.machine.held().len(), 0);
     Ok(())
 }
 
@@ -447,33 +505,30 @@ fn image_with_handler(alloc: Global) -> Result<Segments, Fail> {
     Ok(image)
 }
 
-/// What a turn did: whether an instruction was issued, how many have been, and the address of the next; with the view
-/// after the turn.
-fn turned(
-    machine: &mut Machine,
-    plan: &mut Schedule,
-    lines: &mut Vec<Line>,
-) -> ((bool, u64, u32), View) {
-    let turn = machine.advance(plan, lines);
-    let view = machine.view();
+/// What the next step did that is no move: whether an instruction was issued, how many have been, and the address of
+/// the next; with the view after it.
+fn turned(run: &mut Run) -> ((bool, u64, u32), View)
+    requires { IsInRun run.old.machine run.old.plan }
+    ensures { IsInRun run.new.machine run.new.plan }
+{
+    let turn = step(run);
+    let view = run.machine.view();
     ((matches!(turn, Turn::Issued(_)), view.count, view.ip), view)
 }
 
 #[test]
 fn meets_events(rt: HostRuntime) -> Result<(), Fail> {
     let image = image_with_handler(rt.alloc())?;
-    let mut machine = Machine::new(rt.alloc(), &image, None, 2)?;
     let text = b"at 0 show 1000 4\nat 1 pin 3\nat 1 nmi\nat 2 dma 0\n";
-    let mut plan = events(rt.alloc(), text)?;
-    let mut lines = Vec::new(rt.alloc());
+    let mut run = run_of(rt.alloc(), &image, None, 2, text)?;
     // The event at the start comes before the first instruction, and the others before the second one: the pin,
     // which is masked, and then the interrupt that is never masked, whose handler is entered at once.
-    let (first, shown) = turned(&mut machine, &mut plan, &mut lines);
-    let (second, _) = turned(&mut machine, &mut plan, &mut lines);
-    let (third, posted) = turned(&mut machine, &mut plan, &mut lines);
-    let (fourth, asked) = turned(&mut machine, &mut plan, &mut lines);
-    let (fifth, entered) = turned(&mut machine, &mut plan, &mut lines);
-    let (sixth, last) = turned(&mut machine, &mut plan, &mut lines);
+    let (first, shown) = turned(&mut run);
+    let (second, _) = turned(&mut run);
+    let (third, posted) = turned(&mut run);
+    let (fourth, asked) = turned(&mut run);
+    let (fifth, entered) = turned(&mut run);
+    let (sixth, last) = turned(&mut run);
     assert_eq!(rt;
         [first, second, third, fourth, fifth, sixth],
         [
@@ -486,11 +541,8 @@ fn meets_events(rt: HostRuntime) -> Result<(), Fail> {
         ]
     );
     // No event at the length is reached.
-    assert_eq!(rt;
-        machine.advance(&mut plan, &mut lines),
-        Turn::End(End::Limit)
-    );
-    assert_eq!(rt; plan.next().is_some(), true);
+    assert_eq!(rt; step(&mut run), Turn::End(End::Limit));
+    assert_eq!(rt; run.plan.next().is_some(), true);
     // The frame of the handler stands above sp, since an interrupt is handled, and above its record.
     assert_eq!(rt;
         (
@@ -502,7 +554,7 @@ fn meets_events(rt: HostRuntime) -> Result<(), Fail> {
         (0x50, 7, 0x90, 0x1F_2002)
     );
     assert_eq!(rt;
-        (machine.byte(0x48), machine.byte(0x42)),
+        (run.machine.byte(0x48), run.machine.byte(0x42)),
         (Some(248), Some(0x1F))
     );
     let mut list = ArrayVec::new();
@@ -525,6 +577,67 @@ fn meets_events(rt: HostRuntime) -> Result<(), Fail> {
         point(Point::End, last),
         Line::End(End::Limit),
     ];
-    assert_eq!(rt; lines.as_slice(), wanted.as_slice());
+    assert_eq!(rt; run.lines.as_slice(), wanted.as_slice());
+    Ok(())
+}
+
+/// `mulo g5, g6, g4`, of five turns.
+const MULTIPLY: u32 = 0x70A5_8095;
+
+/// `addo 1, g4, g8`, which reads the product.
+const ADD: u32 = 0x59C5_0801;
+
+/// `lda 16, g7`, on another side.
+const LOAD_ADDRESS: u32 = 0x8CB8_0010;
+
+/// `mov g8, g9`, which reads the sum.
+const MOVE: u32 = 0x5CC8_0618;
+
+/// `mov 7, g9`, which reads nothing.
+const MOVE_LITERAL: u32 = 0x5CC8_0E07;
+
+/// `call` of the next word, a barrier of four turns.
+const CALL: u32 = 0x0900_0004;
+
+/// How often the turn moves before each instruction of a program, and last before the end that follows it.
+fn moves_of(alloc: Global, program: &[u32]) -> Result<Vec<u64>, Fail> {
+    let image = image_of(alloc, program)?;
+    let length = program.len().min(100) as u64;
+    let mut run = run_of(alloc, &image, None, length, b"")?;
+    let mut all = Vec::new(alloc);
+    for _ in 0..101usize {
+        let (moves, turn) = moves_and_step(&mut run);
+        all.push(moves)?;
+        if matches!(turn, Turn::End(_)) {
+            break;
+        }
+    }
+    Ok(all)
+}
+
+#[test]
+fn moves_the_turn(rt: HostRuntime) -> Result<(), Fail> {
+    let cases = [
+        // The product is there at 6 and the sum at 7, and the end is answered when all is done.
+        ([MULTIPLY, ADD, MOVE].as_slice(), [0u64, 5, 1, 1].as_slice()),
+        // At 1 one of another side issues too, and at 2 one of the same side, that needs no product.
+        (
+            &[MULTIPLY, LOAD_ADDRESS, MOVE_LITERAL, ADD],
+            &[0, 0, 1, 4, 1],
+        ),
+        (&[LOAD_ADDRESS, MULTIPLY], &[0, 0, 5]),
+        (&[MOVE_LITERAL, MULTIPLY, LOAD_ADDRESS], &[0, 1, 0, 5]),
+        // One multiplication at a time.
+        (&[MULTIPLY, MULTIPLY], &[0, 5, 5]),
+        // A barrier waits for all before it, and all behind it wait for it.
+        (&[MULTIPLY, CALL, LOAD_ADDRESS], &[0, 5, 4, 1]),
+    ];
+    for (program, moves) in cases {
+        assert_eq!(rt;
+            moves_of(rt.alloc(), program)?.as_slice(),
+            moves,
+            "of {program:?}"
+        );
+    }
     Ok(())
 }

@@ -7,3 +7,6 @@ pub mod TraceEffects
 pub mod UnitPlans
 pub mod Outcomes
 pub mod Fetching
+pub mod Opened
+pub mod KnownFacts
+pub mod MovedFrames

@@ -17,6 +17,7 @@ use Rattle.i9_isa.specs.declared.inst.Operand.{Operand}
 use Rattle.i9_isa.specs.declared.inst.Operand.TheVariants.{Reg, Lit, Sfr}
 use Rattle.i9_model.specs.Operands.{value, assigned, interrupts_assigned, dma_assigned}
 use Rattle.i9_model.specs.Branches.{asks, question_of, is_taken}
+use Rattle.i9_model.specs.Needs.{is_barrier_name}
 use Rattle.i9_model.specs.Results.{Answer, has_result}
 use Rattle.i9_model.specs.Step.{Action, passing, destination, answer_in, resulting, branching, other_action, action_by_name, action_by, action_of}
 use Rattle.i9_model.specs.Access.{NoAccess, access_by_name, access_by, access_of, data_of, hazard_in, hazard_of}
@@ -173,7 +174,7 @@ branch_access : (op : Op) (i : Inst) (s : State) → is_branch op ≡ true → a
 branch_access op i s t = plain_access op i s (other (is_branch op) (is_own op) (branch_own op) t)
 
 -- a name that moves nothing between registers and memory goes by itself
-by_itself : (i : Inst) (s : State) → transfer_of i.op ≡ None → action_of i s ≡ action_by_name i.op i s
+pub by_itself : (i : Inst) (s : State) → transfer_of i.op ≡ None → action_of i s ≡ action_by_name i.op i s
 unfolding action_of
 by_itself i s none = ap (λ (t : Option Transfer). action_by t i s) none
 
@@ -338,14 +339,41 @@ plain_stands i s r b e =
 pub by_name : (n : Op) (i : Inst) (s : State) (r : Result Effect ℕ) → i.op ≡ n → IsPlanFor s (access_by_name n i s) (action_by_name n i s) r → IsPlanFor s (access_by_name i.op i s) (action_by_name i.op i s) r
 by_name n i s r is planned = subst (λ (op : Op). IsPlanFor s (access_by_name op i s) (action_by_name op i s) r) (sym is) planned
 
--- none of the names that do something of their own
+-- names that go to an address, or answer with one, and are no barriers
+abbrev is_linking : Op → Bool
+is_linking Lda = true
+is_linking Bx = true
+is_linking Balx = true
+is_linking Bal = true
+is_linking _ = false
+
+unlinked : (op : Op) → (op ≡ Lda → ⊥) → (op ≡ Bx → ⊥) → (op ≡ Balx → ⊥) → (op ≡ Bal → ⊥) → is_linking op ≡ false
+unlinked Lda l x y z = absurd (l refl)
+unlinked Bx l x y z = absurd (x refl)
+unlinked Balx l x y z = absurd (y refl)
+unlinked Bal l x y z = absurd (z refl)
+unlinked _ l x y z = refl
+
+own_names : (op : Op) → (is_own op && not (is_linking op || is_barrier_name op)) ≡ false
+own_names Lda = refl
+own_names _ = refl
+
+neither : (a b : Bool) → a ≡ false → b ≡ false → (a || b) ≡ false
+neither true b e f = absurd cc
+neither false b e f = f
+
+-- a name that is no barrier does nothing of its own, but for those four
+pub plain_own : (op : Op) → is_barrier_name op ≡ false → (op ≡ Lda → ⊥) → (op ≡ Bx → ⊥) → (op ≡ Balx → ⊥)
+    → (op ≡ Bal → ⊥) → is_own op ≡ false
+plain_own op b l x y z =
+    let none = neither (is_linking op) (is_barrier_name op) (unlinked op l x y z) b in
+    not_first (is_own op) (is_linking op || is_barrier_name op) (own_names op) none
+
+-- none of the barriers that do something of their own
 pub record IsOther (op : Op) : Type 0 where
-  pub not_lda : op ≡ Lda → ⊥
+  pub barrier : is_barrier_name op ≡ true
   pub not_atadd : op ≡ Atadd → ⊥
   pub not_atmod : op ≡ Atmod → ⊥
-  pub not_bx : op ≡ Bx → ⊥
-  pub not_balx : op ≡ Balx → ⊥
-  pub not_bal : op ≡ Bal → ⊥
   pub not_call : op ≡ Call → ⊥
   pub not_callx : op ≡ Callx → ⊥
   pub not_calls : op ≡ Calls → ⊥
@@ -380,13 +408,13 @@ nothing_given i s =
     ∙ ap (λ (x : Interrupts). record (passing i s) { interrupts = x; dma = dma_assigned o [] s.dma }) (nothing_posted o s.interrupts)
     ∙ ap (λ (d : Dma). record (passing i s) { dma = d }) (nothing_changed o s.dma)
 
-not_own : (op : Op) → IsOther op → is_own op ≡ false
-not_own Lda other = absurd (other.not_lda refl)
+pub not_own : (op : Op) → IsOther op → is_own op ≡ false
+not_own Lda other = let b = other.barrier in absurd cc
 not_own Atadd other = absurd (other.not_atadd refl)
 not_own Atmod other = absurd (other.not_atmod refl)
-not_own Bx other = absurd (other.not_bx refl)
-not_own Balx other = absurd (other.not_balx refl)
-not_own Bal other = absurd (other.not_bal refl)
+not_own Bx other = let b = other.barrier in absurd cc
+not_own Balx other = let b = other.barrier in absurd cc
+not_own Bal other = let b = other.barrier in absurd cc
 not_own Call other = absurd (other.not_call refl)
 not_own Callx other = absurd (other.not_callx refl)
 not_own Calls other = absurd (other.not_calls refl)
@@ -415,7 +443,47 @@ other_action_is op i s own b none =
     ∙ unpicked (asks (question_of op)) (branching i s) (resulting i s (answer_in i s)) (no_branch (asks (question_of op)) (is_branch op) (is_own op) (unbranched op) b own)
     ∙ ap (resulting i s) none ∙ nothing_given i s
 
-pub other_plan : (i : Inst) (s : State) (e : Effect) → IsOther i.op → has_result i.op ≡ false → is_branch i.op ≡ false → is_some (answer_in i s) ≡ has_result i.op → IsEffect s (passing i s) e
+pub other_plan : (i : Inst) (s : State) (e : Effect) → is_own i.op ≡ false → has_result i.op ≡ false
+    → is_branch i.op ≡ false → is_some (answer_in i s) ≡ has_result i.op → IsEffect s (passing i s) e
     → (hazard_in s (access_by_name i.op i s) ≡ None) × IsEffect s (action_by_name i.op i s) e
-other_plan i s e other r b answers is =
-    (ap (hazard_in s) (plain_access i.op i s (not_own i.op other)), subst (λ (a : Action). IsEffect s a e) (sym (other_action_is i.op i s (not_own i.op other) b (none_of (answer_in i s) (answers ∙ r)))) is)
+other_plan i s e own r b answers is =
+    let does = other_action_is i.op i s own b (none_of (answer_in i s) (answers ∙ r)) in
+    (ap (hazard_in s) (plain_access i.op i s own), subst (λ (a : Action). IsEffect s a e) (sym does) is)
+
+-- ---- barriers
+
+-- they neither move data, nor branch, nor have a result
+barrier_transfers : (op : Op) → (is_barrier_name op && is_some (transfer_of op)) ≡ false
+barrier_transfers Lda = refl
+barrier_transfers _ = refl
+
+barrier_result : (op : Op) → (is_barrier_name op && has_result op) ≡ false
+barrier_result Lda = refl
+barrier_result _ = refl
+
+barrier_branch : (op : Op) → (is_barrier_name op && is_branch op) ≡ false
+barrier_branch Lda = refl
+barrier_branch _ = refl
+
+pub barrier_moves : (op : Op) → is_barrier_name op ≡ true → transfer_of op ≡ None
+barrier_moves op b = none_of (transfer_of op) (other (is_barrier_name op) (is_some (transfer_of op)) (barrier_transfers op) b)
+
+pub barrier_has_no_result : (op : Op) → is_barrier_name op ≡ true → has_result op ≡ false
+barrier_has_no_result op b = other (is_barrier_name op) (has_result op) (barrier_result op) b
+
+pub barrier_goes_on : (op : Op) → is_barrier_name op ≡ true → is_branch op ≡ false
+barrier_goes_on op b = other (is_barrier_name op) (is_branch op) (barrier_branch op) b
+
+-- one that raises nothing is done, or meets the hazard of its access
+pub barrier_stands : (i : Inst) (s : State) (h : Option ℕ) → is_barrier_name i.op ≡ true
+    → is_some (answer_in i s) ≡ has_result i.op → hazard_in s (access_by_name i.op i s) ≡ h → by_raised i s None ≡ by_access i h
+unfolding hazard_of
+barrier_stands i s h b answers is =
+    plain_stands i s (barrier_has_no_result i.op b) (barrier_goes_on i.op b) answers
+    ∙ ap (λ (t : Option Transfer). by_access i (hazard_in s (access_by t i s))) (barrier_moves i.op b)
+    ∙ ap (by_access i) is
+
+pub barrier_does : (i : Inst) (s : State) (e : Effect) → is_barrier_name i.op ≡ true
+    → IsEffect s (action_by_name i.op i s) e → IsEffect s (action_of i s) e
+barrier_does i s e b is =
+    subst (λ (a : Action). IsEffect s a e) (sym (by_itself i s (barrier_moves i.op b))) is

@@ -1,2 +1,3 @@
 pub mod Names
 pub mod Planned
+pub mod Open

@@ -1,5 +1,5 @@
 -- What is planned, in the plain forms of the definitions.
-use Rattle.std.specs.Prelude.{◌≡◌, ℕ, ◌≤◌, ◌==◌, if◌then◌else◌, Option, Some, None, Result, Ok, Err}
+use Rattle.std.specs.Prelude.{◌≡◌, ℕ, ◌≤◌, ◌==◌, true, if◌then◌else◌, Option, Some, None, Result, Ok, Err}
 use Rattle.i9_isa.specs.declared.inst.Inst.{Inst}
 use Rattle.i9_isa.specs.Valid.{IsValid}
 use Rattle.i9_isa.specs.Words.{words_of, decoded}
@@ -15,6 +15,7 @@ use Rattle.i9_model.specs.State.{State}
 use Rattle.i9_model.specs.declared.event.Event.{Event}
 use Rattle.i9_model.specs.declared.interrupts.Chosen.{Chosen}
 use Rattle.i9_model.specs.Step.{Action, Message, passing, pushing, message_action, entering, action_of, first_word, next_word}
+use Rattle.i9_model.specs.Needs.{is_request_name}
 use Rattle.i9_model.specs.Traced.{traced_action}
 use Rattle.i9_model.specs.Interrupts.{record_writes}
 use Rattle.i9_model.specs.Before.{Received, interrupt_in, interrupting, received_in, receiving}
@@ -63,13 +64,24 @@ IsFetched s (Ok f) = IsRead s f
 IsFetched s (Err (unreads.Meets a)) = fetch_hazard s ≡ Some a
 IsFetched s (Err (unreads.Refused first why)) = (fetch_hazard s ≡ None) × (decoded (first_word s) (next_word s) ≡ Err why) × (first ≡ first_word s)
 
+-- bytes are stored in a row alone, and frames and controls stay
+pub record IsInRow (e : Effect) : Type 0 where
+  pub requests : e.requests ≡ no_requests
+  pub frames : e.frames ≡ Move.Stays
+  pub control : e.control ≡ Control.Keeps
+
+-- the effect of a load or a store
+abbrev pub AreRequestsInRow : Inst → Effect → Type 0
+AreRequestsInRow i e = is_request_name i.op ≡ true → IsInRow e
+
 -- its words are told, and its effect is its action, with its trace events
 abbrev pub IsPlanned : State → Planned → Effect → Type 0
 IsPlanned s (plans.Meets a) e = Unit {0}
 IsPlanned s plans.NotBuilt e = Unit {0}
 IsPlanned s (plans.Refused words number) e = TellsWords 1 s words
-IsPlanned s (plans.Faults words i number) e = TellsWords (words_of i) s words
-IsPlanned s (plans.Runs words i) e = TellsWords (words_of i) s words × IsEffect s (traced_action i s) e
+IsPlanned s (plans.Faults words i number) e = TellsWords (words_of i) s words × IsValid i
+IsPlanned s (plans.Runs words i) e =
+    TellsWords (words_of i) s words × IsEffect s (traced_action i s) e × AreRequestsInRow i e × IsValid i
 
 -- an effect by which nothing is done, but control goes on behind an instruction
 pub record Passes (s : State) (i : Inst) (e : Effect) : Type 0 where
@@ -93,6 +105,13 @@ HasEffect s i (outcomes.Meets a) e = Unit {0}
 HasEffect s i outcomes.NotBuilt e = Unit {0}
 HasEffect s i (outcomes.Faults number) e = Unit {0}
 HasEffect s i outcomes.Runs e = IsEffect s (action_of i s) e
+
+-- where it runs, and is a load or a store
+abbrev pub RunsInRow : Inst → Outcome → Effect → Type 0
+RunsInRow i (outcomes.Meets a) e = Unit {0}
+RunsInRow i outcomes.NotBuilt e = Unit {0}
+RunsInRow i (outcomes.Faults number) e = Unit {0}
+RunsInRow i outcomes.Runs e = AreRequestsInRow i e
 
 -- an action whose access meets no hazard, or the hazard
 abbrev pub IsPlanFor : State → Access → Action → Result Effect ℕ → Type 0

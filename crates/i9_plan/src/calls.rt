@@ -7,7 +7,7 @@ ghost use Rattle.i9_model.specs.Operands.{value};
 ghost use Rattle.i9_model.specs.Step.{pushing, call_action, calls_action, ret_action, entering};
 ghost use Rattle.i9_model.specs.Access.{SavesAt, CallsSystem, ReturnsBy};
 ghost use Rattle.i9_processor.specs.Effect.{IsEffect, no_requests};
-ghost use Rattle.i9_processor.specs.State.{state_of};
+ghost use Rattle.i9_processor.specs.State.{state_of, IsDrained};
 ghost use Rattle.i9_plan.specs.Planned.{IsPlanFor, PlansEntry, PlansInterrupt, recording};
 
 use crate::sources::{following, value};
@@ -48,7 +48,8 @@ pub(crate) fn plan_call(p: &Processor, i: &Inst, to: u32) -> Result<Effect, u32>
 /// A call of a system procedure.
 #[tactic(auto, using(crate::proofs::CallPlans::call_rules))]
 pub(crate) fn plan_calls(p: &Processor, i: &Inst) -> Result<Effect, u32>
-    requires { value (state_of p.now) i.now.a ≤ MOST_SYSTEM_CALL }
+    requires drained { IsDrained p.now }
+    requires number { value (state_of p.now) i.now.a ≤ MOST_SYSTEM_CALL }
     ensures { IsPlanFor (state_of p.now) (CallsSystem (value (state_of p.now) i.now.a)) (calls_action i.now (state_of p.now)) result }
 {
     let sys = match p.plan_calls(value(p, i.a)) {
@@ -65,6 +66,7 @@ pub(crate) fn plan_calls(p: &Processor, i: &Inst) -> Result<Effect, u32>
 /// The locals of the frame that pfp names are read, and that frame is entered again.
 #[tactic(auto, using(crate::proofs::CallPlans::call_rules))]
 pub(crate) fn plan_return(p: &Processor) -> Result<Effect, u32>
+    requires drained { IsDrained p.now }
     ensures { IsPlanFor (state_of p.now) (ReturnsBy ((state_of p.now).regs PFP)) (ret_action (state_of p.now)) result }
 {
     let pop = p.plan_ret()?;
@@ -109,6 +111,7 @@ fn entering(p: &Processor, e: &Entry) -> Effect
 /// How a fault is entered, or what stops that: a hazard or a dead entry of the fault table (the i960
 /// CA/CF User's Manual, faults).
 pub fn plan_entry(p: &Processor, fault: &Fault) -> Result<Effect, FaultStop>
+    requires drained { IsDrained p.now }
     ensures { PlansEntry (state_of p.now) fault.now result }
 {
     match p.plan_fault(fault) {
@@ -120,6 +123,7 @@ pub fn plan_entry(p: &Processor, fault: &Fault) -> Result<Effect, FaultStop>
 /// How an interrupt is entered that was chosen, or the hazard of the first access that meets one (the
 /// i960 CA/CF User's Manual, interrupts).
 pub fn plan_interrupt(p: &Processor, c: &Chosen) -> Result<Effect, u32>
+    requires drained { IsDrained p.now }
     ensures { PlansInterrupt (state_of p.now) c.now result }
 {
     let entry = p.plan_interrupt(c)?;

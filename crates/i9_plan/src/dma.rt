@@ -9,7 +9,7 @@ ghost use Rattle.i9_model.specs.Before.{moving_unit, unit_in, receiving};
 ghost use Rattle.i9_model.specs.Step.{sdma_action};
 ghost use Rattle.i9_dma.specs.Units.{given_in};
 ghost use Rattle.i9_processor.specs.Effect.{IsEffect, CanPost, posting_in};
-ghost use Rattle.i9_processor.specs.State.{state_of};
+ghost use Rattle.i9_processor.specs.State.{state_of, IsDrained};
 ghost use Rattle.i9_plan.specs.Planned.{PlansReceived};
 
 use crate::effects::passing;
@@ -68,7 +68,8 @@ fn moving(p: &Processor, c: u8, bytes: ArrayVec<u8, MOST_BYTES>) -> Effect
 /// The next unit of channel `c`, from memory or with the bytes of a device: it is moved, or nothing is;
 /// or its hazard.
 pub(crate) fn plan_unit(p: &Processor, c: u8, given: Option<&[u8]>) -> Result<Effect, u32>
-    requires { c < 4 }
+    requires drained { IsDrained p.now }
+    requires channel { c < 4 }
     ensures { PlansReceived (state_of p.now) (unit_in (state_of p.now) c (given_in given.entry)) result }
 {
     match p.plan_unit(c, given) {

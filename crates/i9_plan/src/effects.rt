@@ -9,7 +9,7 @@ ghost use Rattle.i9_model.specs.Operands.{interrupts_assigned, dma_assigned};
 ghost use Rattle.i9_processor.specs.Effect.{IsEffect, CanPost, CanChange, no_requests, posting_in, change_in};
 ghost use Rattle.i9_processor.specs.State.{state_of};
 ghost use Rattle.i9_plan.specs.Names.{HasGroup};
-ghost use Rattle.i9_plan.specs.Planned.{Passes};
+ghost use Rattle.i9_plan.specs.Planned.{Passes, IsInRow};
 
 use crate::sources::following;
 use arrayvec::ArrayVec;
@@ -33,7 +33,8 @@ pub(crate) fn pass(p: &Processor, i: &Inst, effect: &mut Effect)
 
 /// What an instruction of so many words does that faults: control goes behind it.
 pub fn plan_faulting(p: &Processor, words: u32, effect: &mut Effect)
-    ensures { IsEffect (state_of p.now) (faulting words (state_of p.now)) effect.new }
+    ensures effect { IsEffect (state_of p.now) (faulting words (state_of p.now)) effect.new }
+    ensures row { IsInRow effect.new }
 {
     effect.go(p, p.ip().wrapping_add(words.wrapping_mul(4)));
 }
@@ -95,7 +96,8 @@ pub(crate) fn assign(
 )
     requires group { HasGroup o (length values.items) }
     requires passes { Passes (state_of p.now) i.now effect.old }
-    ensures { IsEffect (state_of p.now) (assigning o values.items (passing i.now (state_of p.now))) effect.new }
+    ensures effect { IsEffect (state_of p.now) (assigning o values.items (passing i.now (state_of p.now))) effect.new }
+    ensures row { IsInRow effect.new }
 {
     match o {
         Operand::Reg(r) => {

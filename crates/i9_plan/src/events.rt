@@ -1,7 +1,7 @@
 //! What events from outside will do.
 ghost use Rattle.i9_model.specs.Events.{IsInRange};
 ghost use Rattle.i9_processor.specs.Effect.{CanPost, IsEffect, posting_in};
-ghost use Rattle.i9_processor.specs.State.{state_of};
+ghost use Rattle.i9_processor.specs.State.{state_of, IsDrained};
 ghost use Rattle.i9_model.specs.Before.{posting, receiving};
 ghost use Rattle.i9_plan.specs.Planned.{PlansEvent};
 
@@ -23,7 +23,8 @@ fn posting(p: &Processor, what: Posting) -> Effect
 /// nothing; or the hazard that it meets, which is one of such a unit. The events are this project's own.
 #[tactic(auto, unfolding(i9_model::specs::Before::received_in))]
 pub fn plan_event(p: &Processor, event: &Event) -> Result<Effect, u32>
-    requires { IsInRange event.now }
+    requires drained { IsDrained p.now }
+    requires range { IsInRange event.now }
     ensures { PlansEvent (state_of p.now) event.now result }
 {
     match event {

@@ -2,13 +2,17 @@
 //! a processor stands for, and changes nothing.
 #![tactic(auto)]
 
+mod barriers;
 mod calls;
 mod dma;
 mod effects;
 mod events;
 mod fetched;
+mod known;
 mod memo;
 mod names;
+mod needs;
+mod open;
 mod outcome;
 mod planned;
 mod raised;
@@ -22,8 +26,15 @@ pub use calls::{plan_entry, plan_interrupt};
 pub use effects::plan_faulting;
 pub use events::plan_event;
 pub use fetched::Words;
+pub use known::facts;
 pub use memo::Memo;
+pub use needs::{need_done, need_entered, need_faulted, need_reached, need_refused};
+pub use open::{Open, plan_open};
 pub use planned::{Planned, plan_next};
 
+#[cfg(test)]
+mod needs_tests;
+#[cfg(test)]
+mod open_tests;
 #[cfg(test)]
 mod tests;

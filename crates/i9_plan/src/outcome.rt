@@ -1,5 +1,5 @@
 //! What an instruction comes to that is read.
-ghost use Rattle.std.specs.Prelude.{◌≡◌, ◌&&◌, ◌||◌, None, Some, true, false, length};
+ghost use Rattle.std.specs.Prelude.{◌≡◌, ◌&&◌, ◌||◌, None, Some, Ok, true, false, length};
 ghost use Rattle.i9_isa.specs.Words.{bit};
 ghost use Rattle.i9_model.specs.declared.layout.TheConstants.{PRECISE_FAULTS_PLACE};
 ghost use Rattle.i9_model.specs.Unbuilt.{is_traced};
@@ -8,30 +8,29 @@ ghost use Rattle.i9_exec.specs.Shown.{answer_of};
 ghost use Rattle.i9_model.specs.Operands.{value};
 ghost use Rattle.i9_model.specs.Access.{access_by_name, access_of};
 ghost use Rattle.i9_model.specs.Branches.{branch_controls, is_taken};
+ghost use Rattle.i9_model.specs.Needs.{is_barrier_name};
 ghost use Rattle.i9_model.specs.Results.{has_result, destination_words};
-ghost use Rattle.i9_model.specs.Step.{Flushes, passing, destination, resulting, branching, action_by_name, action_of};
+ghost use Rattle.i9_model.specs.Step.{destination, resulting, branching, action_by_name, action_of};
 ghost use Rattle.i9_model.specs.Standing.{is_fault_name, raised_in, by_raised};
 ghost use Rattle.i9_processor.specs.Effect.{IsEffect};
-ghost use Rattle.i9_processor.specs.State.{state_of};
+ghost use Rattle.i9_processor.specs.State.{state_of, IsDrained};
 ghost use Rattle.i9_plan.specs.Names.{is_branch};
-ghost use Rattle.i9_plan.specs.Planned.{standing_in, HasEffect, IsPlanFor, Plans, Passes, Moves};
+ghost use Rattle.i9_plan.specs.Planned.{standing_in, AreRequestsInRow, HasEffect, RunsInRow, IsPlanFor, Plans, Passes, Moves};
 
-use crate::calls::{plan_call, plan_calls, plan_return};
-use crate::dma::plan_sdma;
+use crate::barriers::barrier_outcome;
 use crate::effects::{answering, dma_change, jumping, linking, passing, posting};
-use crate::names::{is_branch, is_fault_name};
+use crate::names::{is_barrier, is_branch, is_fault_name};
 use crate::raised::{arithmetic_fault, mismatches, raised_in};
 use crate::sources::{address, answer, target, value};
-use crate::system::{plan_message, plan_modac, plan_modpc, plan_modtc};
 use crate::tracing::is_traced;
-use crate::transfers::{Moving, plan_atadd, plan_atmod, plan_transfer, transfer_at};
+use crate::transfers::{Moving, plan_transfer, transfer_at};
 use crate::words::bit;
 use i9_entry::aligned;
 use i9_exec::{Done, Jump, branch, has_result, results_by_name};
 use i9_isa::{Inst, Op, Operand};
 use i9_model::faults::{CONSTRAINT, MISMATCH, RANGE, TYPE};
 use i9_model::layout::{LINK, PRECISE_FAULTS_PLACE};
-use i9_processor::{Effect, Move, Processor};
+use i9_processor::{Effect, Processor};
 
 /// A hazard of its access, something that is not built, or a fault of this type and subtype; or it is
 /// done.
@@ -77,7 +76,7 @@ fn resulting(p: &Processor, i: &Inst, done: Done, effect: &mut Effect)
 }
 
 /// Whether arithmetic faults are precise: where the arithmetic controls say so, and while trace enable is set.
-fn is_precise(p: &Processor) -> bool
+pub(crate) fn is_precise(p: &Processor) -> bool
     ensures { result ≡ (bit (state_of p.now).ac PRECISE_FAULTS_PLACE || is_traced (state_of p.now)) }
 {
     bit(p.ac(), PRECISE_FAULTS_PLACE) || is_traced(p)
@@ -147,90 +146,58 @@ fn branch_outcome(p: &Processor, i: &Inst, effect: &mut Effect) -> Outcome
     }
 }
 
-/// Frames are flushed.
-fn flushing(p: &Processor, i: &Inst) -> Effect
-    ensures { IsEffect (state_of p.now) (record (passing i.now (state_of p.now)) { move = Flushes }) result }
-{
-    let mut effect = passing(p, i);
-    effect.frames = Move::Flushes;
-    effect
-}
-
-/// What an instruction does that neither branches nor has a result, or the hazard of its access.
-fn plan_by_name(p: &Processor, i: &Inst) -> Result<Effect, u32>
+/// What an instruction does that is no barrier, and that neither branches nor has a result, nor moves data.
+fn plan_plain(p: &Processor, i: &Inst) -> Effect
     requires valid { IsValid i.now }
-    requires calm { raised_in i.now (state_of p.now) ≡ None }
     requires result { has_result i.now.op ≡ false }
     requires branch { is_branch i.now.op ≡ false }
+    requires barrier { is_barrier_name i.now.op ≡ false }
     ensures { IsPlanFor (state_of p.now) (access_by_name i.now.op i.now (state_of p.now))
-        (action_by_name i.now.op i.now (state_of p.now)) result }
+        (action_by_name i.now.op i.now (state_of p.now)) (Ok result) }
 {
     results_by_name();
     match i.op {
-        Op::Lda => Ok(answering(p, i, address(p, &i.ea))),
-        Op::Atadd => plan_atadd(p, i),
-        Op::Atmod => plan_atmod(p, i),
-        Op::Bx => Ok(jumping(p, i, address(p, &i.ea))),
-        Op::Balx => Ok(linking(p, i.c, i, address(p, &i.ea))),
-        Op::Bal => Ok(linking(p, Operand::Reg(LINK), i, target(p, i))),
-        Op::Call => plan_call(p, i, target(p, i)),
-        Op::Callx => plan_call(p, i, address(p, &i.ea)),
-        Op::Calls => plan_calls(p, i),
-        Op::Ret => plan_return(p),
-        Op::Flushreg => Ok(flushing(p, i)),
-        Op::Modac => Ok(plan_modac(p, i)),
-        Op::Modtc => Ok(plan_modtc(p, i)),
-        Op::Modpc => Ok(plan_modpc(p, i)),
-        Op::Sdma => Ok(plan_sdma(p, i)),
-        Op::Sysctl => plan_message(p, i),
-        _ => Ok(passing(p, i)),
+        Op::Lda => answering(p, i, address(p, &i.ea)),
+        Op::Bx => jumping(p, i, address(p, &i.ea)),
+        Op::Balx => linking(p, i.c, i, address(p, &i.ea)),
+        Op::Bal => linking(p, Operand::Reg(LINK), i, target(p, i)),
+        _ => passing(p, i),
     }
 }
 
-/// What an instruction does that neither branches nor has a result, nor moves data, or the hazard of its access.
-fn plan_named(p: &Processor, i: &Inst, effect: &mut Effect) -> Option<u32>
-    requires valid { IsValid i.now }
-    requires calm { raised_in i.now (state_of p.now) ≡ None }
-    requires result { has_result i.now.op ≡ false }
-    requires branch { is_branch i.now.op ≡ false }
-    ensures { Plans (state_of p.now) (access_by_name i.now.op i.now (state_of p.now))
-        (action_by_name i.now.op i.now (state_of p.now)) result effect.new }
-{
-    match plan_by_name(p, i) {
-        Ok(planned) => {
-            *effect = planned;
-            None
-        }
-        Err(a) => Some(a),
-    }
-}
-
-/// What an instruction does that neither branches nor has a result, or the hazard of its access.
+/// What an instruction does that is no barrier, and that neither branches nor has a result, or the hazard
+/// of its access.
 #[tactic(auto, unfolding(i9_model::specs::Step::action_of), using(crate::proofs::ValidGroups::group_rules))]
 fn plan(p: &Processor, i: &Inst, moving: Option<Moving>, effect: &mut Effect) -> Option<u32>
     requires valid { IsValid i.now }
-    requires calm { raised_in i.now (state_of p.now) ≡ None }
     requires result { has_result i.now.op ≡ false }
     requires branch { is_branch i.now.op ≡ false }
+    requires barrier { is_barrier_name i.now.op ≡ false }
     requires moves { Moves (state_of p.now) i.now moving }
     requires passes { Passes (state_of p.now) i.now effect.old }
-    ensures { Plans (state_of p.now) (access_of i.now (state_of p.now)) (action_of i.now (state_of p.now)) result effect.new }
+    ensures plans { Plans (state_of p.now) (access_of i.now (state_of p.now)) (action_of i.now (state_of p.now)) result effect.new }
+    ensures row { AreRequestsInRow i.now effect.new }
 {
     match moving {
         Some(m) => plan_transfer(p, i, m, effect),
-        None => plan_named(p, i, effect),
+        None => {
+            *effect = plan_plain(p, i);
+            None
+        }
     }
 }
 
-/// What an instruction comes to that neither branches nor has a result.
+/// What an instruction comes to that is no barrier, and that neither branches nor has a result.
 #[inline(never)]
 fn plain_outcome(p: &Processor, i: &Inst, effect: &mut Effect) -> Outcome
     requires valid { IsValid i.now }
     requires result { has_result i.now.op ≡ false }
     requires branch { is_branch i.now.op ≡ false }
+    requires barrier { is_barrier_name i.now.op ≡ false }
     requires passes { Passes (state_of p.now) i.now effect.old }
     ensures standing { standing_in i.now result ≡ by_raised i.now (state_of p.now) (raised_in i.now (state_of p.now)) }
     ensures effect { HasEffect (state_of p.now) i.now result effect.new }
+    ensures row { RunsInRow i.now result effect.new }
 {
     let moving = transfer_at(p, i);
     if let Some(number) = raised_in(p, i, moving) {
@@ -243,16 +210,19 @@ fn plain_outcome(p: &Processor, i: &Inst, effect: &mut Effect) -> Outcome
     }
 }
 
-/// What an instruction comes to that is read, with its effect in the place of one that passes. An
-/// instruction with a result or a condition raises nothing before, but for a special function register
-/// that it uses outside supervisor mode.
+/// What an instruction comes to that is read and that is no barrier by its name, with its effect in the
+/// place of one that passes: nothing is asked of memory but what it reads itself. An instruction with a
+/// result or a condition raises nothing before, but for a special function register that it uses outside
+/// supervisor mode.
 // Others call it, so that the effect stays where it is and is not moved piece by piece.
 #[inline(never)]
-pub(crate) fn outcome_of(p: &Processor, i: &Inst, effect: &mut Effect) -> Outcome
+pub(crate) fn outcome_open(p: &Processor, i: &Inst, effect: &mut Effect) -> Outcome
     requires valid { IsValid i.now }
+    requires barrier { is_barrier_name i.now.op ≡ false }
     requires passes { Passes (state_of p.now) i.now effect.old }
     ensures standing { standing_in i.now result ≡ by_raised i.now (state_of p.now) (raised_in i.now (state_of p.now)) }
     ensures effect { HasEffect (state_of p.now) i.now result effect.new }
+    ensures row { RunsInRow i.now result effect.new }
 {
     if mismatches(p, i) {
         Outcome::Faults((TYPE, MISMATCH))
@@ -262,5 +232,21 @@ pub(crate) fn outcome_of(p: &Processor, i: &Inst, effect: &mut Effect) -> Outcom
         branch_outcome(p, i, effect)
     } else {
         plain_outcome(p, i, effect)
+    }
+}
+
+/// What an instruction comes to that is read, with its effect in the place of one that passes.
+pub(crate) fn outcome_of(p: &Processor, i: &Inst, effect: &mut Effect) -> Outcome
+    requires valid { IsValid i.now }
+    requires drained { IsDrained p.now }
+    requires passes { Passes (state_of p.now) i.now effect.old }
+    ensures standing { standing_in i.now result ≡ by_raised i.now (state_of p.now) (raised_in i.now (state_of p.now)) }
+    ensures effect { HasEffect (state_of p.now) i.now result effect.new }
+    ensures row { RunsInRow i.now result effect.new }
+{
+    if is_barrier(i.op) {
+        barrier_outcome(p, i, effect)
+    } else {
+        outcome_open(p, i, effect)
     }
 }

@@ -1,7 +1,7 @@
 //! What stands at the instruction address, and what it will do.
 ghost use Rattle.std.specs.Prelude.{◌≡◌, Err};
 ghost use Rattle.i9_model.specs.Standing.{stands_at};
-ghost use Rattle.i9_processor.specs.State.{state_of};
+ghost use Rattle.i9_processor.specs.State.{state_of, IsDrained};
 ghost use Rattle.i9_plan.specs.Planned.{standing_of, IsFetched, IsPlanned};
 
 use crate::effects::pass;
@@ -9,7 +9,7 @@ use crate::fetched::{Fetched, Unread, Words, fetch};
 use crate::memo::Memo;
 use crate::outcome::{Outcome, outcome_of};
 use crate::raised::word_fault;
-use crate::tracing::{is_traced, trace};
+use crate::tracing::follow;
 use i9_isa::Inst;
 use i9_processor::{Effect, Processor};
 
@@ -63,6 +63,7 @@ fn unread(p: &Processor, why: Unread) -> Planned
 #[inline(never)]
 #[tactic(auto, unfolding(i9_model::specs::Standing::stands_at))]
 pub fn plan_next(p: &Processor, memo: &mut Memo, effect: &mut Effect) -> Planned
+    requires drained { IsDrained p.now }
     ensures standing { standing_of result ≡ stands_at (state_of p.now) }
     ensures planned { IsPlanned (state_of p.now) result effect.new }
 {
@@ -80,9 +81,7 @@ pub fn plan_next(p: &Processor, memo: &mut Memo, effect: &mut Effect) -> Planned
             number,
         },
         Outcome::Runs => {
-            if is_traced(p) {
-                trace(p, &inst, effect);
-            }
+            follow(p, &inst, effect);
             Planned::Runs { words, inst }
         }
     }

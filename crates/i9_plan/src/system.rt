@@ -10,7 +10,7 @@ ghost use Rattle.i9_model.specs.Faults.{is_invalid};
 ghost use Rattle.i9_model.specs.Step.{Flushes, AsksInterrupt, AsksRestart, AsksGroup, passing, moved, message_of, argument_of, message_kind};
 ghost use Rattle.i9_model.specs.Step.{modac_action, modtc_action, modpc_action};
 ghost use Rattle.i9_processor.specs.Effect.{CanControl, IsEffect, control_in};
-ghost use Rattle.i9_processor.specs.State.{state_of};
+ghost use Rattle.i9_processor.specs.State.{state_of, IsDrained};
 ghost use Rattle.i9_plan.specs.Planned.{PlansMessage};
 
 use crate::effects::{answering, passing};
@@ -113,6 +113,7 @@ fn plan_group(p: &Processor, i: &Inst) -> Result<Effect, u32>
 
 /// Software asks for an interrupt, which the next choice looks at.
 fn plan_request(p: &Processor, i: &Inst) -> Result<Effect, u32>
+    requires drained { IsDrained p.now }
     ensures { PlansMessage AsksInterrupt i.now (state_of p.now) result }
 {
     let requests = p.plan_request(argument(p, i))?;
@@ -125,6 +126,7 @@ fn plan_request(p: &Processor, i: &Inst) -> Result<Effect, u32>
 /// What a message of sysctl will do, or the hazard of its tables.
 pub(crate) fn plan_message(p: &Processor, i: &Inst) -> Result<Effect, u32>
     requires valid { IsValid i.now }
+    requires drained { IsDrained p.now }
     requires message { is_invalid Sysctl (value (state_of p.now) i.now.a) ≡ false }
     ensures { PlansMessage (message_kind (message_of i.now (state_of p.now))) i.now (state_of p.now) result }
 {

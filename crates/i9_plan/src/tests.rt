@@ -1,9 +1,9 @@
 //! Plans in a state that is worked out by hand: one frame is saved at 3000, and its words are all 9.
-ghost use Rattle.std.specs.Prelude.{◌≡◌, []};
+ghost use Rattle.std.specs.Prelude.{◌≡◌, IfOk, OnOk, []};
 ghost use Rattle.i9_model.specs.Free.{IsFree};
 ghost use Rattle.i9_model.specs.Step.{moved};
 ghost use Rattle.i9_processor.specs.Effect.{action_in, AreRegisters, CanPost, CanChange, CanControl, CanMove};
-ghost use Rattle.i9_processor.specs.State.{state_of};
+ghost use Rattle.i9_processor.specs.State.{state_of, IsDrained};
 
 use crate::{
     Memo, Planned, Words, plan_entry, plan_event, plan_faulting, plan_interrupt, plan_next,
@@ -16,19 +16,19 @@ use i9_faults::{Fault, FaultStop};
 use i9_hex::Segments;
 use i9_isa::Op;
 use i9_model::{Cause, Chosen, Event, Push, Trace};
-use i9_processor::{Control, DmaChange, Effect, Move, Posting, Processor, Requests};
+use i9_processor::{Control, DmaChange, Effect, Landing, Move, Posting, Processor, Requests};
 use std::alloc::Global;
 use std::test::Fail;
 
 /// Process controls in supervisor mode, in user mode, and with trace enable.
-const PC: u32 = 0x001F_2002;
+pub(crate) const PC: u32 = 0x001F_2002;
 
-const USER: u32 = 0x001F_2000;
+pub(crate) const USER: u32 = 0x001F_2000;
 
-const TRACED: u32 = 0x001F_2003;
+pub(crate) const TRACED: u32 = 0x001F_2003;
 
 /// Arithmetic controls by which no fault is imprecise.
-const PRECISE: u32 = 0x8000;
+pub(crate) const PRECISE: u32 = 0x8000;
 
 /// g0 to g14.
 const GLOBALS: [u32; 15] = [
@@ -72,7 +72,7 @@ fn seen_of(planned: &Planned) -> Seen {
 /// What an effect does but for registers: the address, the number and the last of the bytes that it
 /// stores, and what is done to frames, or to the controls behind a flush.
 #[derive(Clone, Copy, Debug, PartialEq, Eq)]
-enum Rest {
+pub(crate) enum Rest {
     Nothing,
     Stores(u32, usize, u8),
     Saves(Push, u32),
@@ -83,7 +83,7 @@ enum Rest {
     Other,
 }
 
-fn rest_of(effect: &Effect) -> Rest {
+pub(crate) fn rest_of(effect: &Effect) -> Rest {
     let is_flush = matches!(effect.frames, Move::Flushes);
     match effect.control {
         Control::Restarts { first, prcb } if is_flush => Restart(first, prcb),
@@ -106,12 +106,12 @@ fn moved_by(effect: &Effect) -> Rest {
 }
 
 /// The first register that an effect sets beside those of a frame, and its value.
-fn set_of(effect: &Effect) -> Option<(u8, u32)> {
+pub(crate) fn set_of(effect: &Effect) -> Option<(u8, u32)> {
     effect.values.first().map(|v| (effect.register, *v))
 }
 
 /// The arithmetic, process and trace controls after an effect, and the next address.
-fn controls_of(effect: &Effect) -> (u32, u32, u32, u32) {
+pub(crate) fn controls_of(effect: &Effect) -> (u32, u32, u32, u32) {
     (effect.ac, effect.pc, effect.tc, effect.next)
 }
 
@@ -126,7 +126,9 @@ fn put_word(image: &mut Segments, address: u32, word: u32) -> Result<(), Fail> {
 
 /// The processor after boot of an image: two words of a program, a PRCB at 2000, a fault table, a
 /// system procedure table, and a word to load.
-fn booted(alloc: Global, at: u32, program: (u32, u32)) -> Result<Processor, Fail> {
+fn booted(alloc: Global, at: u32, program: (u32, u32)) -> Result<Processor, Fail>
+    ensures { IfOk result (λ p. IsDrained p) }
+{
     let words = [
         (at, program.0),
         (at.wrapping_add(4), program.1),
@@ -140,6 +142,8 @@ fn booted(alloc: Global, at: u32, program: (u32, u32)) -> Result<Processor, Fail
         (0x1118, 0x0001),
         (0x5544, 0x1204),
         (0x4000, 0x6543_8721),
+        // Region 0 waits 3 turns at a read, and 5 at a write.
+        (0x6020, 0x0000_5018),
         // Software asks for vector 18; the handlers of 18 and 248.
         (0x1400, 0x0000_0004),
         (0x1404, 0x0004_0000),
@@ -153,26 +157,38 @@ fn booted(alloc: Global, at: u32, program: (u32, u32)) -> Result<Processor, Fail
     Ok(Processor::boot(alloc, &image, None)?)
 }
 
+/// What is done lands at once, whatever it writes.
+const AT_ONCE: Landing = Landing {
+    writes: u64::MAX,
+    done: 0,
+    request: false,
+};
+
 /// Makes room for an effect that keeps the controls, and applies it.
-fn applies(p: &mut Processor, effect: &Effect) -> Result<(), Fail>
+pub(crate) fn applies(p: &mut Processor, effect: &Effect) -> Result<(), Fail>
+    requires drained { IsDrained p.old }
     requires registers { AreRegisters effect.now }
     requires posts { CanPost effect.now.posting }
     requires changes { CanChange effect.now.dma }
     requires can { CanMove (state_of p.old).frames effect.now.frames }
     requires free { IsFree (state_of p.old) (action_in (state_of p.old) effect.now) }
     requires controls { CanControl (moved (state_of p.old) (action_in (state_of p.old) effect.now)) effect.now.control }
+    ensures { OnOk result (IsDrained p.new) }
 {
     if p.count() > 100 {
         return Err("too many".into());
     }
     p.reserve(effect)?;
-    p.apply(effect, 0, None);
+    p.apply(effect, &AT_ONCE, 0, None);
     Ok(())
 }
 
 /// Saves the frame at 3000, and goes on in a new one.
 #[tactic(auto, unfolding(i9_model::specs::Hazards::writes_hazard), using(i9_processor::proofs::Applying::locals_whole))]
-fn saves(p: &mut Processor) -> Result<(), Fail> {
+pub(crate) fn saves(p: &mut Processor) -> Result<(), Fail>
+    requires { IsDrained p.old }
+    ensures { OnOk result (IsDrained p.new) }
+{
     let push = match p.plan_call() {
         Ok(push) => push,
         Err(_) => return Err("a hazard".into()),
@@ -184,7 +200,10 @@ fn saves(p: &mut Processor) -> Result<(), Fail> {
 
 /// Sets a register of g0 to g14.
 #[tactic(auto, unfolding(i9_model::specs::Hazards::writes_hazard))]
-fn sets(p: &mut Processor, k: u8, value: u32) -> Result<(), Fail> {
+fn sets(p: &mut Processor, k: u8, value: u32) -> Result<(), Fail>
+    requires { IsDrained p.old }
+    ensures { OnOk result (IsDrained p.new) }
+{
     if k > 14 {
         return Err("no such register".into());
     }
@@ -196,7 +215,10 @@ fn sets(p: &mut Processor, k: u8, value: u32) -> Result<(), Fail> {
 
 /// Sets the controls and the instruction address.
 #[tactic(auto, unfolding(i9_model::specs::Hazards::writes_hazard))]
-fn goes(p: &mut Processor, ac: u32, pc: u32, next: u32) -> Result<(), Fail> {
+pub(crate) fn goes(p: &mut Processor, ac: u32, pc: u32, next: u32) -> Result<(), Fail>
+    requires { IsDrained p.old }
+    ensures { OnOk result (IsDrained p.new) }
+{
     let mut effect = Effect::going(p, next);
     effect.ac = ac;
     effect.pc = pc;
@@ -205,7 +227,15 @@ fn goes(p: &mut Processor, ac: u32, pc: u32, next: u32) -> Result<(), Fail> {
 }
 
 /// A processor that is about to do these words: its frame is at 3040, and the one at 3000 is live.
-fn ready(alloc: Global, at: u32, program: (u32, u32), ac: u32, pc: u32) -> Result<Processor, Fail> {
+pub(crate) fn ready(
+    alloc: Global,
+    at: u32,
+    program: (u32, u32),
+    ac: u32,
+    pc: u32,
+) -> Result<Processor, Fail>
+    ensures { IfOk result (λ p. IsDrained p) }
+{
     let mut p = booted(alloc, at, program)?;
     saves(&mut p)?;
     for k in 0..15 {
@@ -673,7 +703,9 @@ fn plans_set_ups(rt: HostRuntime) -> Result<(), Fail> {
 /// Does something to DMA.
 #[tactic(auto, unfolding(i9_model::specs::Hazards::writes_hazard))]
 fn changes(p: &mut Processor, change: DmaChange) -> Result<(), Fail>
-    requires { CanChange change }
+    requires drained { IsDrained p.old }
+    requires change { CanChange change }
+    ensures { OnOk result (IsDrained p.new) }
 {
     let mut effect = Effect::going(p, 0x1000);
     effect.dma = change;

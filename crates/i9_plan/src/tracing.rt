@@ -6,8 +6,10 @@ ghost use Rattle.i9_model.specs.Calls.{in_supervisor_mode, leaves_supervisor, re
 ghost use Rattle.i9_model.specs.Step.{action_of};
 ghost use Rattle.i9_model.specs.Traced.{seen_of, switches, traced_action};
 ghost use Rattle.i9_model.specs.Unbuilt.{is_traced};
+ghost use Rattle.i9_model.specs.Standing.{Runs, raised_in, by_raised};
 ghost use Rattle.i9_processor.specs.Effect.{IsEffect, action_in};
 ghost use Rattle.i9_processor.specs.State.{state_of};
+ghost use Rattle.i9_plan.specs.Planned.{IsInRow};
 
 use crate::outcome::jump_of;
 use crate::raised::data_access;
@@ -77,12 +79,25 @@ fn seen(p: &Processor, i: &Inst, effect: &Effect) -> Seen
 /// Adds to the effect of an instruction its trace events, where some count.
 // Trace enable is seldom set, and this is no part of the code that calls it.
 #[inline(never)]
-pub(crate) fn trace(p: &Processor, i: &Inst, effect: &mut Effect)
+fn trace(p: &Processor, i: &Inst, effect: &mut Effect)
     requires clear { hazard_of i.now (state_of p.now) ≡ None }
     requires effect { IsEffect (state_of p.now) (action_of i.now (state_of p.now)) effect.old }
-    ensures { IsEffect (state_of p.now) (traced_action i.now (state_of p.now)) effect.new }
+    ensures effect { IsEffect (state_of p.now) (traced_action i.now (state_of p.now)) effect.new }
+    ensures row { IsInRow effect.old → IsInRow effect.new }
 {
     let left = p.trace_left(effect);
     let seen = seen(p, i, effect);
     effect.trace = event(left.tc, p.pc(), i, &seen, &left.breaks);
+}
+
+/// Adds to the effect of an instruction that runs its trace events, while trace enable is set.
+pub(crate) fn follow(p: &Processor, i: &Inst, effect: &mut Effect)
+    requires runs { Runs i.now ≡ by_raised i.now (state_of p.now) (raised_in i.now (state_of p.now)) }
+    requires effect { IsEffect (state_of p.now) (action_of i.now (state_of p.now)) effect.old }
+    ensures effect { IsEffect (state_of p.now) (traced_action i.now (state_of p.now)) effect.new }
+    ensures row { IsInRow effect.old → IsInRow effect.new }
+{
+    if is_traced(p) {
+        trace(p, i, effect);
+    }
 }

@@ -11,7 +11,7 @@ ghost use Rattle.i9_model.specs.Step.{extended, filled, loaded, stored_of, loadi
 ghost use Rattle.i9_model.specs.Step.{atomic_address, atomic, merged, answering};
 ghost use Rattle.i9_processor.specs.State.{state_of};
 ghost use Rattle.i9_plan.specs.Names.{HasGroup};
-ghost use Rattle.i9_plan.specs.Planned.{IsPlanFor, Plans, Passes, Moves};
+ghost use Rattle.i9_plan.specs.Planned.{IsPlanFor, IsInRow, Plans, Passes, Moves};
 
 use crate::effects::{answering, append, assign, listed, one_word};
 use crate::sources::{address, atomic_address, source_words, value};
@@ -130,8 +130,9 @@ fn plan_load(p: &Processor, i: &Inst, m: Moving, effect: &mut Effect) -> Option<
     requires place { m.address ≡ address (state_of p.now) i.now.ea }
     requires group { HasGroup i.now.c (register_count m.transfer.size) }
     requires passes { Passes (state_of p.now) i.now effect.old }
-    ensures { Plans (state_of p.now) (Reads (address (state_of p.now) i.now.ea) (byte_count m.transfer.size))
+    ensures plans { Plans (state_of p.now) (Reads (address (state_of p.now) i.now.ea) (byte_count m.transfer.size))
         (loading m.transfer.size m.transfer.signed i.now (state_of p.now)) result effect.new }
+    ensures row { IsInRow effect.new }
 {
     let t = m.transfer;
     let hazard = p.check_read(m.address, t.size.bytes());
@@ -146,8 +147,9 @@ fn plan_store(p: &Processor, i: &Inst, m: Moving, effect: &mut Effect) -> Option
     requires few { byte_count m.transfer.size ≤ 16 }
     requires place { m.address ≡ address (state_of p.now) i.now.ea }
     requires passes { Passes (state_of p.now) i.now effect.old }
-    ensures { Plans (state_of p.now) (Writes (address (state_of p.now) i.now.ea) (byte_count m.transfer.size))
+    ensures plans { Plans (state_of p.now) (Writes (address (state_of p.now) i.now.ea) (byte_count m.transfer.size))
         (storing m.transfer.size i.now (state_of p.now)) result effect.new }
+    ensures row { IsInRow effect.new }
 {
     let size = m.transfer.size;
     let hazard = p.check_write(m.address, size.bytes());
@@ -164,9 +166,10 @@ pub(crate) fn plan_transfer(p: &Processor, i: &Inst, m: Moving, effect: &mut Eff
     requires place { m.address ≡ address (state_of p.now) i.now.ea }
     requires group { m.transfer.direction ≡ Direction.Load → HasGroup i.now.c (register_count m.transfer.size) }
     requires passes { Passes (state_of p.now) i.now effect.old }
-    ensures { Plans (state_of p.now)
+    ensures plans { Plans (state_of p.now)
         (moved_access m.transfer.direction (address (state_of p.now) i.now.ea) (byte_count m.transfer.size))
         (transferring m.transfer i.now (state_of p.now)) result effect.new }
+    ensures row { IsInRow effect.new }
 {
     match m.transfer.direction {
         Direction::Load => plan_load(p, i, m, effect),

@@ -106,6 +106,14 @@ longer_first ps qs h = let sum = length-append ps qs in omega (arith, sum, h)
 pub longer_later : (ps qs : List (ℕ × ℕ)) → 0 < length qs → 0 < length (ps ++ qs)
 longer_later ps qs h = let sum = length-append ps qs in omega (arith, sum, h)
 
+-- and none of both
+
+pub none_first : (ps qs : List (ℕ × ℕ)) → length (ps ++ qs) ≡ 0 → length ps ≡ 0
+none_first ps qs h = let sum = length-append ps qs in omega (arith, sum, h)
+
+pub none_later : (ps qs : List (ℕ × ℕ)) → length (ps ++ qs) ≡ 0 → length qs ≡ 0
+none_later ps qs h = let sum = length-append ps qs in omega (arith, sum, h)
+
 pub ruleset room_rules = (spacious_kept, both_spacious, longer_first, longer_later)
 
 -- ---- at most two bytes

@@ -106,9 +106,13 @@ some_writes : (n : ℕ) (c : Bool) → 0 < n → (nat_lt 0 n || c) ≡ true
 some_writes n c h = or_left (nat_lt 0 n) c (grind (arith, nat_tests, h))
 
 -- where bytes are stored, something is written
-run_long : (a : ℕ) (bs : List ℕ) → 0 < length bs → 0 < length (upwards a bs)
+pub run_long : (a : ℕ) (bs : List ℕ) → 0 < length bs → 0 < length (upwards a bs)
 run_long a [] h = absurd (omega arith)
 run_long a (b ∷ bs) h = omega arith
+
+pub run_none : (a : ℕ) (bs : List ℕ) → length (upwards a bs) ≡ 0 → length bs ≡ 0
+run_none a [] h = refl
+run_none a (b ∷ bs) h = absurd (omega (arith, h))
 
 pub stored_writes : (a : ℕ) (bs : List ℕ) (qs : List (ℕ × ℕ)) (c : Bool) → 0 < length bs → (nat_lt 0 (length (upwards a bs ++ qs)) || c) ≡ true
 stored_writes a bs qs c h = some_writes (length (upwards a bs ++ qs)) c (longer_first (upwards a bs) qs (run_long a bs h))

@@ -7,3 +7,5 @@ pub mod NewSets
 pub mod Overlaid
 pub mod Rooms
 pub mod Tracing
+pub mod Issued
+pub mod Drained

@@ -87,13 +87,7 @@ arithmetic_of-set olds news a is len =
     let code = cell_same olds news CONDITION_CODE (a % 8) (omega arith) is len in
     ap (λ (c : Cell). (a - a % 8) / 8 * 8 + latest c % 8) code ∙ whole a
 
-pub arithmetic_kept : (flags : ℕ) (olds news : List Cell)
-    → cell_in news CONDITION_CODE ≡ cell_in olds CONDITION_CODE
-    → arithmetic_of flags news ≡ arithmetic_of flags olds
-unfolding arithmetic_of
-arithmetic_kept flags olds news same = ap (λ (c : Cell). flags / 8 * 8 + latest c % 8) same
-
-zero_at : (n x : ℕ) → cell_in (replicate n (cell 0 None)) x ≡ cell 0 None
+pub zero_at : (n x : ℕ) → cell_in (replicate n (cell 0 None)) x ≡ cell 0 None
 zero_at zero x = refl
 zero_at (suc n) zero = refl
 zero_at (suc n) (suc x) = zero_at n x

@@ -1,5 +1,5 @@
 -- An effect as the action of the definitions, and where it can be applied.
-use Rattle.std.specs.Prelude.{◌≡◌, ℕ, ◌+◌, ◌<◌, ◌≤◌, ◌%◌, Bool, true, false, ◌||◌, nat_lt, List, [], ◌∷◌, ◌++◌, length, Option, None, Some, unwrap_or}
+use Rattle.std.specs.Prelude.{◌≡◌, ℕ, ◌+◌, ◌<◌, ◌≤◌, ◌%◌, ◌⊎◌, Bool, true, false, ◌||◌, nat_lt, List, [], ◌∷◌, ◌++◌, length, Option, None, Some, unwrap_or}
 use Rattle.std.specs.List.{AllByRecursion}
 use Rattle.i9_model.specs.declared.layout.TheConstants.{LOCALS}
 use Rattle.i9_model.specs.Writes.{pairs_at, upwards}
@@ -30,7 +30,8 @@ use Rattle.i9_processor.specs.declared.effect.Control.{Control}
 use Rattle.i9_processor.specs.declared.effect.Control.TheVariants as controls
 use Rattle.i9_processor.specs.declared.effect.Effect.{Effect}
 use Rattle.i9_processor.specs.declared.processor.Processor.{Processor}
-use Rattle.i9_processor.specs.State.{state_of, cache_of, size_of}
+use Rattle.i9_processor.specs.State.{state_of, cache_of, size_of, queue_of, IsDrained}
+use Rattle.i9_processor.specs.declared.landing.Landing.{Landing}
 
 -- what is done to frames in a state, whose locals are saved
 abbrev pub move_in : State → Move → plain.Move
@@ -217,6 +218,27 @@ abbrev pub AreMade : Option ℕ → Memory → Control → Option Held → Type 
 AreMade asked m controls.Keeps made = made ≡ None
 AreMade asked m (controls.Restarts first prcb) made = made ≡ Some (held (unwrap_or asked (setup_of m first prcb).sets) [])
 AreMade asked m (controls.LoadsGroup group) made = made ≡ None
+
+-- nothing is stored, and frames and the controls that start-up reads stay
+pub record IsStill (a : plain.Action) : Type 0 where
+  pub writes : a.writes ≡ []
+  pub move : a.move ≡ plain.Stays
+  pub control : a.control ≡ plain_controls.KeepsControls
+
+-- What is done can wait as a request that is done at a turn: its bytes stand in a row, frames and controls stay, fewer
+-- than three requests wait, and they are due no later.
+pub record CanWait (p : Processor) (done : ℕ) (e : Effect) : Type 0 where
+  pub row : e.requests ≡ no_requests
+  pub move : e.frames ≡ Move.Stays
+  pub control : e.control ≡ Control.Keeps
+  pub few : length (queue_of p) < 3
+  pub order : AllByRecursion (λ w. w.due ≤ done) (queue_of p)
+
+-- What is done either waits as a request, or acts at once where nothing waits, or stores nothing.
+abbrev pub CanAct : Processor → Landing → Effect → Type 0
+CanAct p l e =
+    (l.request ≡ true → CanWait p l.done e)
+    × (l.request ≡ false → IsDrained p ⊎ IsStill (action_in (state_of p) e))
 
 -- new sets take the place of the others behind a flush, and hold nothing
 abbrev pub CanTake : plain.Move → Option Held → Type 0

@@ -1,3 +1,5 @@
 pub mod State
 pub mod Effect
 pub mod Tracing
+pub mod Issued
+pub mod Acts

@@ -1,11 +1,11 @@
 -- The state that a processor stands for.
-use Rattle.std.specs.Prelude.{ℕ, ◌+◌, ◌*◌, ◌/◌, ◌%◌, nat_lt, if◌then◌else◌, List}
+use Rattle.std.specs.Prelude.{◌≡◌, ℕ, ◌+◌, ◌*◌, ◌/◌, ◌%◌, nat_lt, if◌then◌else◌, List, []}
 use Rattle.i9_isa.specs.declared.resources.TheConstants.{CONDITION_CODE}
 use Rattle.i9_ints.specs.Ints.{interrupts_of}
 use Rattle.i9_dma.specs.Channels.{dma_of}
 use Rattle.i9_storage.specs.Storage as storage
 use Rattle.i9_model.specs.declared.need.Cell.{Cell}
-use Rattle.i9_model.specs.Late.{latest}
+use Rattle.i9_model.specs.Late.{Wait, latest}
 use Rattle.i9_model.specs.State.{State}
 use Rattle.i9_model.specs.HeldFrames.{Cache}
 use Rattle.i9_regs.specs.File.{cell_in}
@@ -42,3 +42,21 @@ cache_of p = storage.cache_of p.storage
 -- how many frames can be held
 unfoldable pub size_of : Processor → ℕ
 size_of p = storage.size_of p.storage
+
+-- ---- what lands late
+
+-- registers and the condition code, with the values that are planned for them
+unfoldable pub cells_of : Processor → ℕ → Cell
+cells_of p = cell_in p.file
+
+-- the requests that wait to be stored in memory, the oldest first
+unfoldable pub queue_of : Processor → List Wait
+queue_of p = storage.waiting_in p.storage
+
+-- the bytes of memory behind the held frames, without those
+unfoldable pub bytes_of : Processor → ℕ → ℕ
+bytes_of p = (storage.acted_in p.storage).bytes
+
+-- no request waits
+abbrev pub IsDrained : Processor → Type 0
+IsDrained p = queue_of p ≡ []

@@ -1,32 +1,39 @@
 //! An effect applied.
-ghost use Rattle.std.specs.Prelude.{◌≡◌, ◌+◌, ◌*◌, ◌^◌, ◌<◌, OnOk, OnErr, IfSome, IsSome, None, [], ◌∷◌, length, replicate, true};
-ghost use Rattle.i9_model.specs.Controls.{with_group, controlled};
+ghost use Rattle.std.specs.Prelude.{◌≡◌, ℕ, List, ◌+◌, ◌*◌, ◌^◌, ◌<◌, ◌≤◌, OnOk, OnErr, IfSome, IsSome, None, [], ◌∷◌, ◌++◌, length, replicate, true, false};
+ghost use Rattle.std.specs.List.{AllByRecursion};
+ghost use Rattle.i9_model.specs.declared.need.Cell.{Cell};
+ghost use Rattle.i9_model.specs.Late.{resource, resources, issued_cell, landed, due_puts, left_waiting};
+ghost use Rattle.i9_model.specs.Controls.{KeepsControls, with_group, controlled};
 ghost use Rattle.i9_model.specs.State.{State, started};
-ghost use Rattle.i9_model.specs.Memory.{words_in, with_writes};
+ghost use Rattle.i9_model.specs.Memory.{stored, words_in, with_writes};
 ghost use Rattle.i9_model.specs.Frames.{wrote};
 ghost use Rattle.i9_model.specs.Hazards.{writes_hazard};
 ghost use Rattle.i9_model.specs.Writes.{written};
-ghost use Rattle.i9_model.specs.Step.{saved_locals, frames_after, moved, flagged, acted, counted};
+ghost use Rattle.i9_model.specs.Step.{Stays, saved_locals, frames_after, moved, flagged, acted, counted};
 ghost use Rattle.i9_model.specs.Free.{IsFree};
 ghost use Rattle.i9_model.specs.Alike.{AreAlike};
 ghost use Rattle.i9_model.specs.HeldFrames.{overlaid, cache_moved, cache_acted, cache_configured, cache_stored};
+ghost use Rattle.i9_regs.specs.Covered.{IsCovered, StartsAnew};
 ghost use Rattle.i9_storage.specs.Storage as stores;
 ghost use Rattle.i9_storage.specs.Storage.{HasSpace, KeepsSpace, KeepsFrameSpace};
+ghost use Rattle.i9_processor.specs.Issued.{AreCovered, IsCodeCovered, IsStartCovered, IsIssued};
+ghost use Rattle.i9_processor.specs.Acts.{CanPut, IsDrainedToMove, IsDrainedToControl};
 ghost use Rattle.i9_processor.specs.Effect.{action_in, one_in, requests_in, run_in, writes_in, posting_in, change_in, move_in, sets_in, control_in, cache_through, size_with, is_costly, has_writes};
 ghost use Rattle.i9_processor.specs.Effect.{AreRegisters, AreSpacious, CanPost, CanChange, CanControl, CanMove, HasMoveSpace, HasSpaceFor, IsEmptied, CanTake};
 
 use crate::effect::{Control, DmaChange, Effect, Move, Posting, Requests};
+use crate::landing::Landing;
 use crate::processor::Processor;
-use crate::registers::{set_arithmetic, set_frame, set_group};
-use crate::start::{
-    start_breaks, start_interrupts, start_registers, start_trace_controls, tables_of,
-};
+use crate::registers::{issue_frame, issue_group};
+use crate::start::{issue_start, start_breaks, start_interrupts, start_trace_controls, tables_of};
+use arrayvec::ArrayVec;
 use i9_dma::{Channel, Channels};
 use i9_entry::aligned;
 use i9_frames::{Frame, Sets};
 use i9_isa::NoMemory;
 use i9_model::layout::{BOOT_PC, LOCALS, TC_MASK};
 use i9_model::{Push, Setup, Trace};
+use i9_queue::Request;
 use i9_storage::Storage;
 
 /// Makes room for what is done to frames.
@@ -37,6 +44,7 @@ fn reserve_move(storage: &mut Storage, m: &Move) -> Result<(), NoMemory>
     ensures frames { stores.frames_in storage.new ≡ stores.frames_in storage.old }
     ensures size { stores.size_of storage.new ≡ stores.size_of storage.old }
     ensures waiting { stores.waiting_in storage.new ≡ stores.waiting_in storage.old }
+    ensures acted { stores.acted_in storage.new ≡ stores.acted_in storage.old }
     ensures keeps { KeepsSpace storage.old storage.new }
     ensures space { OnOk result (HasMoveSpace storage.new m.now) }
     ensures needed { (s : State) → OnErr result (is_costly (move_in s m.now) ≡ true) }
@@ -54,6 +62,7 @@ fn reserve_run(storage: &mut Storage, e: &Effect) -> Result<(), NoMemory>
     ensures frames { stores.frames_in storage.new ≡ stores.frames_in storage.old }
     ensures size { stores.size_of storage.new ≡ stores.size_of storage.old }
     ensures waiting { stores.waiting_in storage.new ≡ stores.waiting_in storage.old }
+    ensures acted { stores.acted_in storage.new ≡ stores.acted_in storage.old }
     ensures keeps { KeepsSpace storage.old storage.new }
     ensures frame_space { KeepsFrameSpace storage.old storage.new }
     ensures space { OnOk result (HasSpace storage.new e.now.address (length e.now.bytes.items)) }
@@ -72,6 +81,7 @@ fn reserve_one(storage: &mut Storage, byte: Option<(u32, u8)>) -> Result<(), NoM
     ensures frames { stores.frames_in storage.new ≡ stores.frames_in storage.old }
     ensures size { stores.size_of storage.new ≡ stores.size_of storage.old }
     ensures waiting { stores.waiting_in storage.new ≡ stores.waiting_in storage.old }
+    ensures acted { stores.acted_in storage.new ≡ stores.acted_in storage.old }
     ensures keeps { KeepsSpace storage.old storage.new }
     ensures frame_space { KeepsFrameSpace storage.old storage.new }
     ensures space { OnOk result (AreSpacious storage.new (one_in byte)) }
@@ -91,6 +101,7 @@ fn reserve_requests(storage: &mut Storage, requests: &Requests) -> Result<(), No
     ensures frames { stores.frames_in storage.new ≡ stores.frames_in storage.old }
     ensures size { stores.size_of storage.new ≡ stores.size_of storage.old }
     ensures waiting { stores.waiting_in storage.new ≡ stores.waiting_in storage.old }
+    ensures acted { stores.acted_in storage.new ≡ stores.acted_in storage.old }
     ensures keeps { KeepsSpace storage.old storage.new }
     ensures frame_space { KeepsFrameSpace storage.old storage.new }
     ensures space { OnOk result (AreSpacious storage.new (requests_in requests.now)) }
@@ -103,7 +114,7 @@ fn reserve_requests(storage: &mut Storage, requests: &Requests) -> Result<(), No
 
 /// Stores the bytes in a row of an effect. Most effects have none, and then nothing is looked up.
 fn store_run(storage: &mut Storage, e: &Effect)
-    requires drained { stores.IsDrained storage.old }
+    requires drained { 0 < length e.now.bytes.items → stores.IsDrained storage.old }
     requires space { HasSpace storage.old e.now.address (length e.now.bytes.items) }
     requires free { writes_hazard (stores.frames_in storage.old) (run_in e.now) ≡ None }
     ensures cache { stores.cache_of storage.new ≡ cache_stored (run_in e.now) (stores.cache_of storage.old) }
@@ -111,6 +122,7 @@ fn store_run(storage: &mut Storage, e: &Effect)
     ensures frames { stores.frames_in storage.new ≡ wrote (stores.frames_in storage.old) (run_in e.now) }
     ensures size { stores.size_of storage.new ≡ stores.size_of storage.old }
     ensures waiting { stores.waiting_in storage.new ≡ stores.waiting_in storage.old }
+    ensures acted { length e.now.bytes.items ≡ 0 → stores.acted_in storage.new ≡ stores.acted_in storage.old }
     ensures keeps { KeepsSpace storage.old storage.new }
 {
     if !e.bytes.is_empty() {
@@ -123,7 +135,7 @@ fn store_run(storage: &mut Storage, e: &Effect)
 #[inline(always)]
 #[tactic(auto, using(crate::proofs::Appending::none_rules))]
 fn store_one(storage: &mut Storage, byte: Option<(u32, u8)>)
-    requires drained { stores.IsDrained storage.old }
+    requires drained { 0 < length (one_in byte) → stores.IsDrained storage.old }
     requires space { AreSpacious storage.old (one_in byte) }
     requires free { writes_hazard (stores.frames_in storage.old) (one_in byte) ≡ None }
     ensures cache { stores.cache_of storage.new ≡ cache_stored (one_in byte) (stores.cache_of storage.old) }
@@ -131,6 +143,7 @@ fn store_one(storage: &mut Storage, byte: Option<(u32, u8)>)
     ensures frames { stores.frames_in storage.new ≡ wrote (stores.frames_in storage.old) (one_in byte) }
     ensures size { stores.size_of storage.new ≡ stores.size_of storage.old }
     ensures waiting { stores.waiting_in storage.new ≡ stores.waiting_in storage.old }
+    ensures acted { length (one_in byte) ≡ 0 → stores.acted_in storage.new ≡ stores.acted_in storage.old }
     ensures keeps { KeepsSpace storage.old storage.new }
 {
     match byte {
@@ -141,7 +154,7 @@ fn store_one(storage: &mut Storage, byte: Option<(u32, u8)>)
 
 /// Stores bytes with bits of requests.
 fn store_requests(storage: &mut Storage, requests: &Requests)
-    requires drained { stores.IsDrained storage.old }
+    requires drained { 0 < length (requests_in requests.now) → stores.IsDrained storage.old }
     requires space { AreSpacious storage.old (requests_in requests.now) }
     requires free { writes_hazard (stores.frames_in storage.old) (requests_in requests.now) ≡ None }
     ensures cache { stores.cache_of storage.new ≡ cache_stored (requests_in requests.now) (stores.cache_of storage.old) }
@@ -149,6 +162,8 @@ fn store_requests(storage: &mut Storage, requests: &Requests)
     ensures frames { stores.frames_in storage.new ≡ wrote (stores.frames_in storage.old) (requests_in requests.now) }
     ensures size { stores.size_of storage.new ≡ stores.size_of storage.old }
     ensures waiting { stores.waiting_in storage.new ≡ stores.waiting_in storage.old }
+    ensures acted { length (requests_in requests.now) ≡ 0 → stores.acted_in storage.new ≡ stores.acted_in storage.old }
+    ensures keeps { KeepsSpace storage.old storage.new }
 {
     store_one(storage, requests.first);
     store_one(storage, requests.second);
@@ -156,7 +171,7 @@ fn store_requests(storage: &mut Storage, requests: &Requests)
 
 /// Stores the bytes of an effect.
 fn store_bytes(storage: &mut Storage, e: &Effect)
-    requires drained { stores.IsDrained storage.old }
+    requires drained { 0 < length (writes_in e.now) → stores.IsDrained storage.old }
     requires space { HasSpace storage.old e.now.address (length e.now.bytes.items) }
     requires requests { AreSpacious storage.old (requests_in e.now.requests) }
     requires free { writes_hazard (stores.frames_in storage.old) (writes_in e.now) ≡ None }
@@ -165,9 +180,57 @@ fn store_bytes(storage: &mut Storage, e: &Effect)
     ensures frames { stores.frames_in storage.new ≡ wrote (stores.frames_in storage.old) (writes_in e.now) }
     ensures size { stores.size_of storage.new ≡ stores.size_of storage.old }
     ensures waiting { stores.waiting_in storage.new ≡ stores.waiting_in storage.old }
+    ensures acted { length (writes_in e.now) ≡ 0 → stores.acted_in storage.new ≡ stores.acted_in storage.old }
 {
     store_run(storage, e);
     store_requests(storage, &e.requests);
+}
+
+/// The bytes in a row of an effect wait until a turn, behind the others that wait.
+fn queue_run(storage: &mut Storage, e: &Effect, done: u64)
+    requires few { length (stores.waiting_in storage.old) < 3 }
+    requires order { AllByRecursion (λ w. w.due ≤ done) (stores.waiting_in storage.old) }
+    requires space { HasSpace storage.old e.now.address (length e.now.bytes.items) }
+    requires free { writes_hazard (stores.frames_in storage.old) (run_in e.now) ≡ None }
+    ensures cache { stores.cache_of storage.new ≡ cache_stored (run_in e.now) (stores.cache_of storage.old) }
+    ensures memory { stores.memory_in storage.new ≡ with_writes (stores.memory_in storage.old) (run_in e.now) }
+    ensures frames { stores.frames_in storage.new ≡ wrote (stores.frames_in storage.old) (run_in e.now) }
+    ensures size { stores.size_of storage.new ≡ stores.size_of storage.old }
+    ensures waiting { stores.waiting_in storage.new
+        ≡ stores.waiting_in storage.old ++ record { puts = run_in e.now; due = done } ∷ [] }
+    ensures acted { stores.acted_in storage.new ≡ stores.acted_in storage.old }
+{
+    let mut bytes = ArrayVec::new();
+    let _ = bytes.try_extend_from_slice(e.bytes.as_slice());
+    storage.enqueue(Request {
+        address: e.address,
+        bytes,
+        due: done,
+    });
+}
+
+/// The bytes of an effect wait where it is a request, and else they are stored.
+fn put_bytes(storage: &mut Storage, e: &Effect, landing: &Landing)
+    requires acts { CanPut (stores.waiting_in storage.old) landing.now e.now }
+    requires space { HasSpace storage.old e.now.address (length e.now.bytes.items) }
+    requires requests { AreSpacious storage.old (requests_in e.now.requests) }
+    requires free { writes_hazard (stores.frames_in storage.old) (writes_in e.now) ≡ None }
+    ensures cache { stores.cache_of storage.new ≡ cache_stored (writes_in e.now) (stores.cache_of storage.old) }
+    ensures memory { stores.memory_in storage.new ≡ with_writes (stores.memory_in storage.old) (writes_in e.now) }
+    ensures frames { stores.frames_in storage.new ≡ wrote (stores.frames_in storage.old) (writes_in e.now) }
+    ensures size { stores.size_of storage.new ≡ stores.size_of storage.old }
+    ensures waits { landing.now.request ≡ true → (stores.acted_in storage.new ≡ stores.acted_in storage.old)
+        × (stores.waiting_in storage.new
+        ≡ stores.waiting_in storage.old ++ record { puts = writes_in e.now; due = landing.now.done } ∷ []) }
+    ensures acts { landing.now.request ≡ false → stores.waiting_in storage.new ≡ stores.waiting_in storage.old }
+    ensures still { landing.now.request ≡ false → length (writes_in e.now) ≡ 0
+        → stores.acted_in storage.new ≡ stores.acted_in storage.old }
+{
+    if landing.request {
+        queue_run(storage, e, landing.done);
+    } else {
+        store_bytes(storage, e);
+    }
 }
 
 /// The locals of a new frame: pfp, sp, and zeros.
@@ -178,14 +241,18 @@ fn new_locals(push: &Push) -> [u32; LOCALS]
 }
 
 impl Processor {
-    ghost use Rattle.i9_processor.specs.State.{registers_of, state_of, cache_of, size_of};
+    ghost use Rattle.i9_processor.specs.State.{registers_of, state_of, cache_of, size_of, cells_of, bytes_of, queue_of};
+    ghost use Rattle.i9_processor.specs.Effect.{CanAct, IsStill};
 
     /// Makes room for what an effect stores and saves. Memory is refused only where room is lacking.
-    #[tactic(auto, unfolding(crate::specs::State::state_of, crate::specs::State::cache_of, crate::specs::State::size_of), using(crate::proofs::Applying::room_rules))]
+    #[tactic(auto, unfolding(crate::specs::State::state_of, crate::specs::State::cache_of, crate::specs::State::size_of, crate::specs::State::cells_of, crate::specs::State::bytes_of, crate::specs::State::queue_of), using(crate::proofs::Applying::room_rules))]
     pub fn reserve(&mut self, e: &Effect) -> Result<(), NoMemory>
         ensures state { state_of self.new ≡ state_of self.old }
         ensures cache { cache_of self.new ≡ cache_of self.old }
         ensures size { size_of self.new ≡ size_of self.old }
+        ensures cells { cells_of self.new ≡ cells_of self.old }
+        ensures bytes { bytes_of self.new ≡ bytes_of self.old }
+        ensures queue { queue_of self.new ≡ queue_of self.old }
         ensures space { OnOk result (HasSpaceFor self.new e.now) }
         ensures needed { OnErr result (has_writes (action_in (state_of self.old) e.now) ≡ true) }
         ensures lacking { OnErr result (HasSpaceFor self.old e.now → ⊥) }
@@ -196,16 +263,18 @@ impl Processor {
     }
 
     /// Starts anew by what was read of the tables.
-    #[tactic(auto, unfolding(crate::specs::State::state_of, crate::specs::State::cache_of, crate::specs::State::size_of, i9_model::specs::State::started))]
-    fn start(&mut self, setup: &Setup)
+    #[tactic(auto, unfolding(crate::specs::State::state_of, crate::specs::State::cache_of, crate::specs::State::size_of, crate::specs::State::bytes_of, crate::specs::State::queue_of, i9_model::specs::State::started))]
+    fn start(&mut self, landing: &Landing, setup: &Setup)
+        requires { IsStartCovered landing.now.writes }
         ensures state { state_of self.new ≡ started setup.now (state_of self.old).regs (state_of self.old).count
             (state_of self.old).memory (state_of self.old).frames }
         ensures cache { cache_of self.new ≡ cache_of self.old }
         ensures size { size_of self.new ≡ size_of self.old }
         ensures count { (state_of self.new).count ≡ (state_of self.old).count }
+        ensures issued { IsIssued landing.now.writes landing.now.done self.new.flags self.old.file self.new.file }
+        ensures storage { self.new.storage ≡ self.old.storage }
     {
-        start_registers(&mut self.file, setup);
-        set_arithmetic(&mut self.file, &mut self.flags, setup.ac);
+        issue_start(&mut self.file, &mut self.flags, landing, setup);
         self.ip = aligned(setup.first);
         self.pc = BOOT_PC;
         self.tc = start_trace_controls(setup);
@@ -217,14 +286,18 @@ impl Processor {
     }
 
     /// Loads a group of the control table.
-    #[tactic(auto, unfolding(crate::specs::State::state_of, crate::specs::State::cache_of, crate::specs::State::size_of))]
+    #[tactic(auto, unfolding(crate::specs::State::state_of, crate::specs::State::cache_of, crate::specs::State::size_of, crate::specs::State::bytes_of, crate::specs::State::queue_of))]
     fn load_group(&mut self, group: u8, words: [u32; 4])
         requires group { group < 7 }
         requires empty { (cache_of self.old).held ≡ [] }
+        requires drained { queue_of self.old ≡ [] }
         ensures state { state_of self.new ≡ with_group (state_of self.old) group words }
         ensures cache { cache_of self.new ≡ cache_configured (state_of self.new).memory (cache_of self.old) }
         ensures size { size_of self.new ≡ size_of self.old }
         ensures count { (state_of self.new).count ≡ (state_of self.old).count }
+        ensures file { self.new.file ≡ self.old.file }
+        ensures flags { self.new.flags ≡ self.old.flags }
+        ensures queue { queue_of self.new ≡ queue_of self.old }
     {
         match group {
             0 => {
@@ -241,20 +314,27 @@ impl Processor {
     }
 
     /// Does what is done to the controls.
-    #[tactic(auto, unfolding(crate::specs::State::state_of, crate::specs::State::cache_of, crate::specs::State::size_of))]
-    fn control(&mut self, c: Control)
+    #[tactic(auto, unfolding(crate::specs::State::state_of, crate::specs::State::cache_of, crate::specs::State::size_of, crate::specs::State::bytes_of, crate::specs::State::queue_of))]
+    fn control(&mut self, landing: &Landing, c: Control)
         requires can { CanControl (state_of self.old) c }
         requires empty { IsEmptied (cache_of self.old) c }
+        requires drained { IsDrainedToControl (queue_of self.old) c }
+        requires covered { StartsAnew (control_in c) → IsStartCovered landing.now.writes }
         ensures state { state_of self.new ≡ controlled (state_of self.old) (control_in c) }
         ensures cache { cache_of self.new ≡ cache_configured (state_of self.new).memory (cache_of self.old) }
         ensures size { size_of self.new ≡ size_of self.old }
         ensures count { (state_of self.new).count ≡ (state_of self.old).count }
+        ensures issued { (cells : List Cell)
+            → IsIssued landing.now.writes landing.now.done self.old.flags cells self.old.file
+            → IsIssued landing.now.writes landing.now.done self.new.flags cells self.new.file }
+        ensures queue { queue_of self.new ≡ queue_of self.old }
+        ensures bytes { control_in c ≡ KeepsControls → bytes_of self.new ≡ bytes_of self.old }
     {
         match c {
             Control::Keeps => {}
             Control::Restarts { first, prcb } => {
                 if let Ok(setup) = self.storage.reinit(first, prcb) {
-                    self.start(&setup);
+                    self.start(landing, &setup);
                 }
             }
             Control::LoadsGroup(group) => {
@@ -292,14 +372,18 @@ impl Processor {
         ]
     }
 
-    /// Does what is done to frames, and sets registers.
-    #[tactic(auto, unfolding(crate::specs::State::state_of, crate::specs::State::cache_of, crate::specs::State::size_of), using(crate::proofs::RegisterList::arithmetic_kept))]
-    fn move_frames(&mut self, e: &Effect)
+    /// Does what is done to frames, and plans registers and the condition code.
+    #[tactic(auto, unfolding(crate::specs::State::state_of, crate::specs::State::cache_of, crate::specs::State::size_of, crate::specs::State::bytes_of, crate::specs::State::queue_of))]
+    fn move_frames(&mut self, e: &Effect, landing: &Landing)
         requires registers { AreRegisters e.now }
         requires can { CanMove (state_of self.old).frames e.now.frames }
         requires space { HasMoveSpace self.old.storage e.now.frames }
+        requires drained { IsDrainedToMove (queue_of self.old) e.now.frames }
+        requires sets { AreCovered landing.now.writes (sets_in (state_of self.old) e.now) }
+        requires code { IsCodeCovered landing.now.writes (state_of self.old).ac e.now.ac }
         ensures state { state_of self.new ≡ record (state_of self.old) {
           regs = written (state_of self.old).regs (sets_in (state_of self.old) e.now);
+          ac = e.now.ac;
           memory = (state_of self.new).memory;
           frames = frames_after (state_of self.old).frames (move_in (state_of self.old) e.now.frames);
         } }
@@ -307,31 +391,46 @@ impl Processor {
         ensures cache { cache_of self.new ≡ cache_moved (size_of self.old) (move_in (state_of self.old) e.now.frames) (cache_of self.old) }
         ensures size { size_of self.new ≡ size_of self.old }
         ensures keeps { KeepsSpace self.old.storage self.new.storage }
+        ensures issued { IsIssued landing.now.writes landing.now.done self.new.flags self.old.file self.new.file }
+        ensures queue { queue_of self.new ≡ queue_of self.old }
+        ensures bytes { move_in (state_of self.old) e.now.frames ≡ Stays → bytes_of self.new ≡ bytes_of self.old }
     {
         match e.frames {
-            Move::Stays => set_group(&mut self.file, e.register, e.values.as_slice()),
+            Move::Stays => {
+                let (file, flags) = (&mut self.file, &mut self.flags);
+                let values = e.values.as_slice();
+                issue_group(file, flags, landing, e.register, values, e.ac);
+            }
             Move::Saves { push, back } => {
                 let address = push.save;
                 let words = self.saved_locals(back);
                 self.storage.save_frame(Frame { address, words });
-                set_frame(&mut self.file, &new_locals(&push), push.frame);
+                let (file, flags) = (&mut self.file, &mut self.flags);
+                issue_frame(file, flags, landing, &new_locals(&push), push.frame, e.ac);
             }
             Move::Returns(frame) => {
                 let locals = self.storage.frame_words(frame);
                 self.storage.restore_frame();
-                set_frame(&mut self.file, &locals, frame);
+                let (file, flags) = (&mut self.file, &mut self.flags);
+                issue_frame(file, flags, landing, &locals, frame, e.ac);
             }
-            Move::Flushes => self.storage.flush(),
+            Move::Flushes => {
+                self.storage.flush();
+                let (file, flags) = (&mut self.file, &mut self.flags);
+                issue_group(file, flags, landing, 0, &[], e.ac);
+            }
         }
     }
 
     /// Does what is done to interrupts.
-    #[tactic(auto, unfolding(crate::specs::State::state_of, crate::specs::State::cache_of, crate::specs::State::size_of))]
+    #[tactic(auto, unfolding(crate::specs::State::state_of, crate::specs::State::cache_of, crate::specs::State::size_of, crate::specs::State::bytes_of, crate::specs::State::queue_of))]
     fn post(&mut self, p: Posting)
         requires { CanPost p }
         ensures state { state_of self.new ≡ record (state_of self.old) { interrupts = posting_in p (state_of self.old).interrupts } }
         ensures cache { cache_of self.new ≡ cache_of self.old }
         ensures size { size_of self.new ≡ size_of self.old }
+        ensures file { self.new.file ≡ self.old.file }
+        ensures flags { self.new.flags ≡ self.old.flags }
         ensures storage { self.new.storage ≡ self.old.storage }
     {
         match p {
@@ -346,12 +445,14 @@ impl Processor {
     }
 
     /// Does what is done to DMA.
-    #[tactic(auto, unfolding(crate::specs::State::state_of, crate::specs::State::cache_of, crate::specs::State::size_of))]
+    #[tactic(auto, unfolding(crate::specs::State::state_of, crate::specs::State::cache_of, crate::specs::State::size_of, crate::specs::State::bytes_of, crate::specs::State::queue_of))]
     fn change_dma(&mut self, change: DmaChange)
         requires { CanChange change }
         ensures state { state_of self.new ≡ record (state_of self.old) { dma = change_in change (state_of self.old).dma } }
         ensures cache { cache_of self.new ≡ cache_of self.old }
         ensures size { size_of self.new ≡ size_of self.old }
+        ensures file { self.new.file ≡ self.old.file }
+        ensures flags { self.new.flags ≡ self.old.flags }
         ensures storage { self.new.storage ≡ self.old.storage }
     {
         match change {
@@ -373,14 +474,16 @@ impl Processor {
     }
 
     /// Does what an effect says, but for what is done to the controls that start-up reads.
-    #[tactic(auto, unfolding(crate::specs::State::state_of, crate::specs::State::cache_of, crate::specs::State::size_of, i9_model::specs::Step::moved))]
-    fn do_moves(&mut self, e: &Effect)
+    #[tactic(auto, unfolding(crate::specs::State::state_of, crate::specs::State::cache_of, crate::specs::State::size_of, crate::specs::State::bytes_of, crate::specs::State::queue_of, i9_model::specs::Step::moved))]
+    fn do_moves(&mut self, e: &Effect, landing: &Landing)
         requires registers { AreRegisters e.now }
         requires posts { CanPost e.now.posting }
         requires changes { CanChange e.now.dma }
         requires can { CanMove (state_of self.old).frames e.now.frames }
         requires space { HasSpaceFor self.old e.now }
         requires free { IsFree (state_of self.old) (action_in (state_of self.old) e.now) }
+        requires covered { IsCovered landing.now.writes (state_of self.old) (action_in (state_of self.old) e.now) }
+        requires acts { CanAct self.old landing.now e.now }
         ensures state { state_of self.new ≡ record (moved (state_of self.old) (action_in (state_of self.old) e.now)) {
           memory = (state_of self.new).memory;
         } }
@@ -388,12 +491,17 @@ impl Processor {
         ensures cache { cache_of self.new ≡ cache_acted (size_of self.old) (action_in (state_of self.old) e.now) (cache_of self.old) }
         ensures size { size_of self.new ≡ size_of self.old }
         ensures count { (state_of self.new).count ≡ (state_of self.old).count }
+        ensures issued { IsIssued landing.now.writes landing.now.done self.new.flags self.old.file self.new.file }
+        ensures waits { landing.now.request ≡ true → (bytes_of self.new ≡ bytes_of self.old)
+            × (queue_of self.new ≡ queue_of self.old ++ record { puts = writes_in e.now; due = landing.now.done } ∷ []) }
+        ensures acts { landing.now.request ≡ false → queue_of self.new ≡ queue_of self.old }
+        ensures still { landing.now.request ≡ false → IsStill (action_in (state_of self.old) e.now)
+            → bytes_of self.new ≡ bytes_of self.old }
     {
-        self.move_frames(e);
-        store_bytes(&mut self.storage, e);
+        self.move_frames(e, landing);
+        put_bytes(&mut self.storage, e, landing);
         self.post(e.posting);
         self.change_dma(e.dma);
-        set_arithmetic(&mut self.file, &mut self.flags, e.ac);
         self.pc = e.pc;
         self.tc = e.tc;
         self.check = e.check;
@@ -401,12 +509,15 @@ impl Processor {
     }
 
     /// Sets the flags of trace events, where some count.
-    #[tactic(auto, unfolding(crate::specs::State::state_of, crate::specs::State::cache_of, crate::specs::State::size_of))]
+    #[tactic(auto, unfolding(crate::specs::State::state_of, crate::specs::State::cache_of, crate::specs::State::size_of, crate::specs::State::bytes_of, crate::specs::State::queue_of))]
     fn flag(&mut self, trace: Option<Trace>)
         ensures state { state_of self.new ≡ flagged trace (state_of self.old) }
         ensures cache { cache_of self.new ≡ cache_of self.old }
         ensures size { size_of self.new ≡ size_of self.old }
         ensures count { (state_of self.new).count ≡ (state_of self.old).count }
+        ensures file { self.new.file ≡ self.old.file }
+        ensures flags { self.new.flags ≡ self.old.flags }
+        ensures storage { self.new.storage ≡ self.old.storage }
     {
         if let Some(trace) = trace {
             self.tc = trace.tc;
@@ -414,7 +525,7 @@ impl Processor {
     }
 
     /// New sets take the place of the others, where there are any.
-    #[tactic(auto, unfolding(crate::specs::State::state_of, crate::specs::State::cache_of, crate::specs::State::size_of))]
+    #[tactic(auto, unfolding(crate::specs::State::state_of, crate::specs::State::cache_of, crate::specs::State::size_of, crate::specs::State::bytes_of, crate::specs::State::queue_of))]
     fn renew(&mut self, sets: Option<Sets>)
         requires empty { IsSome sets → (cache_of self.old).held ≡ [] }
         requires new { IfSome sets (λ h. h.frames ≡ []) }
@@ -422,6 +533,10 @@ impl Processor {
         ensures cache { cache_of self.new ≡ cache_of self.old }
         ensures size { size_of self.new ≡ size_with sets (size_of self.old) }
         ensures count { (state_of self.new).count ≡ (state_of self.old).count }
+        ensures file { self.new.file ≡ self.old.file }
+        ensures flags { self.new.flags ≡ self.old.flags }
+        ensures queue { queue_of self.new ≡ queue_of self.old }
+        ensures bytes { bytes_of self.new ≡ bytes_of self.old }
     {
         if let Some(sets) = sets {
             self.storage.renew(sets);
@@ -429,19 +544,24 @@ impl Processor {
     }
 
     /// Counts so many instructions.
-    #[tactic(auto, unfolding(crate::specs::State::state_of, crate::specs::State::cache_of, crate::specs::State::size_of))]
+    #[tactic(auto, unfolding(crate::specs::State::state_of, crate::specs::State::cache_of, crate::specs::State::size_of, crate::specs::State::bytes_of, crate::specs::State::queue_of))]
     fn add_count(&mut self, n: u64)
         requires { (state_of self.old).count + n < 2 ^ 63 }
         ensures state { state_of self.new ≡ counted n (state_of self.old) }
         ensures cache { cache_of self.new ≡ cache_of self.old }
         ensures size { size_of self.new ≡ size_of self.old }
+        ensures file { self.new.file ≡ self.old.file }
+        ensures flags { self.new.flags ≡ self.old.flags }
+        ensures storage { self.new.storage ≡ self.old.storage }
     {
         self.count += n;
     }
 
     /// Does what an effect says, with the new sets that were made for it, and counts so many
-    /// instructions. It needs no memory.
-    pub fn apply(&mut self, e: &Effect, counts: u64, sets: Option<Sets>)
+    /// instructions. What it leaves in the resources that it writes is planned, and lands when it is done;
+    /// where it is a request its bytes wait until then, and else they are stored at once. It needs no
+    /// memory.
+    pub fn apply(&mut self, e: &Effect, landing: &Landing, counts: u64, sets: Option<Sets>)
         requires registers { AreRegisters e.now }
         requires posts { CanPost e.now.posting }
         requires changes { CanChange e.now.dma }
@@ -451,15 +571,40 @@ impl Processor {
         requires controls { CanControl (moved (state_of self.old) (action_in (state_of self.old) e.now)) e.now.control }
         requires sets { CanTake (move_in (state_of self.old) e.now.frames) sets }
         requires count { (state_of self.old).count + counts < 2 ^ 63 }
+        requires covered { IsCovered landing.now.writes (state_of self.old) (action_in (state_of self.old) e.now) }
+        requires acts { CanAct self.old landing.now e.now }
         ensures state { AreAlike (counted counts (acted (state_of self.old) (action_in (state_of self.old) e.now))) (state_of self.new) }
         ensures cache { cache_of self.new ≡ cache_through self.old (action_in (state_of self.old) e.now) self.new }
         ensures size { size_of self.new ≡ size_with sets (size_of self.old) }
         ensures count { (state_of self.new).count ≡ (state_of self.old).count + counts }
+        ensures cells { (r : ℕ) → r < resources → cells_of self.new r
+            ≡ issued_cell landing.now.writes landing.now.done r (resource (state_of self.new) r) (cells_of self.old r) }
+        ensures waits { landing.now.request ≡ true → (bytes_of self.new ≡ bytes_of self.old)
+            × (queue_of self.new ≡ queue_of self.old
+            ++ record { puts = (action_in (state_of self.old) e.now).writes; due = landing.now.done } ∷ []) }
+        ensures acts { landing.now.request ≡ false → queue_of self.new ≡ queue_of self.old }
+        ensures still { landing.now.request ≡ false → IsStill (action_in (state_of self.old) e.now)
+            → bytes_of self.new ≡ bytes_of self.old }
     {
-        self.do_moves(e);
-        self.control(e.control);
+        self.do_moves(e, landing);
+        self.control(landing, e.control);
         self.flag(e.trace);
         self.renew(sets);
         self.add_count(counts);
+    }
+
+    /// What is due by `turn` lands: planned values take their place, and bytes that wait are stored.
+    /// Nothing else changes.
+    #[tactic(auto, unfolding(crate::specs::State::state_of, crate::specs::State::cache_of, crate::specs::State::size_of, crate::specs::State::cells_of, crate::specs::State::bytes_of, crate::specs::State::queue_of))]
+    pub fn land(&mut self, turn: u64)
+        ensures state { state_of self.new ≡ state_of self.old }
+        ensures cache { cache_of self.new ≡ cache_of self.old }
+        ensures size { size_of self.new ≡ size_of self.old }
+        ensures cells { (r : ℕ) → cells_of self.new r ≡ landed turn (cells_of self.old r) }
+        ensures bytes { bytes_of self.new ≡ stored (bytes_of self.old) (due_puts turn (queue_of self.old)) }
+        ensures queue { queue_of self.new ≡ left_waiting turn (queue_of self.old) }
+    {
+        self.file.land(turn);
+        self.storage.land(turn);
     }
 }

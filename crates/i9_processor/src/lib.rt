@@ -4,12 +4,14 @@
 
 mod apply;
 mod effect;
+mod landing;
 mod load;
 mod processor;
 mod registers;
 mod start;
 
 pub use effect::{Control, DmaChange, Effect, MOST_BYTES, MOST_VALUES, Move, Posting, Requests};
+pub use landing::Landing;
 pub use processor::{Processor, TraceControls};
 
 #[cfg(test)]

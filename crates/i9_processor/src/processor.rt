@@ -1,10 +1,10 @@
 //! The registers, controls, memory and frames of the machine.
-ghost use Rattle.std.specs.Prelude.{◌≡◌, ◌<◌, ℕ, IfOk, IfSome, unwrap_or, []};
+ghost use Rattle.std.specs.Prelude.{◌≡◌, ◌<◌, ℕ, IfOk, IfSome, None, unwrap_or, []};
 ghost use Rattle.i9_model.specs.Image.{pairs_of};
 ghost use Rattle.i9_model.specs.HeldFrames.{cache, sets_in};
 ghost use Rattle.i9_model.specs.Boot.{setup_of};
 ghost use Rattle.i9_model.specs.State.{boot};
-ghost use Rattle.i9_storage.specs.Storage.{IsDrained};
+ghost use Rattle.i9_model.specs.Late.{cell, resource, resources};
 
 mod plans;
 mod reading;
@@ -47,7 +47,6 @@ pub struct Processor {
     pub(crate) tables: Tables,
     pub(crate) count: u64,
     pub(crate) storage: Storage,
-    ghost drained: { IsDrained storage },
 }
 
 /// The number of sets: the one that is asked for, or the one of the PRCB.
@@ -65,17 +64,20 @@ fn set_count(sets: Option<u8>, setup: &Setup) -> u8
 }
 
 impl Processor {
-    ghost use Rattle.i9_processor.specs.State.{state_of, cache_of, size_of};
+    ghost use Rattle.i9_processor.specs.State.{state_of, cache_of, size_of, cells_of, bytes_of, queue_of};
 
     /// The state after boot, by the image's boot record, with so many sets or as many as its PRCB
-    /// asks for (the i960 CA/CF User's Manual, initialization).
-    #[tactic(auto, unfolding(crate::specs::State::state_of, crate::specs::State::cache_of, crate::specs::State::size_of, i9_model::specs::State::boot, i9_model::specs::State::started))]
+    /// asks for (the i960 CA/CF User's Manual, initialization). Nothing is planned, and nothing waits.
+    #[tactic(auto, unfolding(crate::specs::State::state_of, crate::specs::State::cache_of, crate::specs::State::size_of, crate::specs::State::cells_of, crate::specs::State::bytes_of, crate::specs::State::queue_of, i9_model::specs::State::boot, i9_model::specs::State::started))]
     pub fn boot(alloc: Global, image: &Segments, sets: Option<u8>) -> Result<Processor, NoMemory>
         requires { IfSome sets (λ n. 0 < n × n < 16) }
         ensures state { IfOk result (λ p. state_of p ≡ boot (pairs_of image.now)) }
         ensures cache { IfOk result (λ p. cache_of p ≡ cache [] (boot (pairs_of image.now)).memory) }
         ensures size { IfOk result (λ p. size_of p ≡ sets_in sets (boot (pairs_of image.now))) }
         ensures count { IfOk result (λ p. (state_of p).count ≡ 0) }
+        ensures cells { IfOk result (λ p. (r : ℕ) → r < resources → cells_of p r ≡ cell (resource (boot (pairs_of image.now)) r) None) }
+        ensures bytes { IfOk result (λ p. bytes_of p ≡ (boot (pairs_of image.now)).memory.bytes) }
+        ensures queue { IfOk result (λ p. queue_of p ≡ []) }
     {
         let mut memory = Memory::new(alloc);
         load(&mut memory, image)?;

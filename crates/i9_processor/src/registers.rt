@@ -1,10 +1,13 @@
 //! The registers and the condition code, and what they are set to.
-ghost use Rattle.std.specs.Prelude.{◌≡◌, ◌+◌, ◌<◌, ◌≤◌, length};
+ghost use Rattle.std.specs.Prelude.{◌≡◌, ◌+◌, ◌%◌, ◌<◌, ◌≤◌, length, None};
+ghost use Rattle.i9_model.specs.Late.{cell};
 ghost use Rattle.i9_model.specs.Writes.{put, written, pairs_at};
 ghost use Rattle.i9_model.specs.State.{frame_sets};
 ghost use Rattle.i9_regs.specs.File.{cell_in};
 ghost use Rattle.i9_processor.specs.State.{registers_of, arithmetic_of};
+ghost use Rattle.i9_processor.specs.Issued.{AreCovered, IsCodeCovered, IsIssued, AreStill};
 
+use crate::landing::Landing;
 use i9_isa::CONDITION_CODE;
 use i9_model::layout::{FP, LOCALS};
 use i9_regs::File;
@@ -14,6 +17,7 @@ fn set(file: &mut File, r: u8, v: u32)
     requires { r < 32 }
     ensures registers { registers_of file.new ≡ put (registers_of file.old) r v }
     ensures code { cell_in file.new CONDITION_CODE ≡ cell_in file.old CONDITION_CODE }
+    ensures still { AreStill file.old → AreStill file.new }
 {
     file.set(r, v);
 }
@@ -24,6 +28,7 @@ pub(crate) fn set_group(file: &mut File, r: u8, words: &[u32])
     requires { r + length words.now ≤ 32 }
     ensures registers { registers_of file.new ≡ written (registers_of file.old) (pairs_at (λ k. k) r words.now) }
     ensures code { cell_in file.new CONDITION_CODE ≡ cell_in file.old CONDITION_CODE }
+    ensures still { AreStill file.old → AreStill file.new }
 {
     for k in 0..words.len() {
         set(file, r + k as u8, words[k]);
@@ -35,6 +40,7 @@ pub(crate) fn set_group(file: &mut File, r: u8, words: &[u32])
 pub(crate) fn set_frame(file: &mut File, locals: &[u32; LOCALS], frame: u32)
     ensures registers { registers_of file.new ≡ written (registers_of file.old) (frame_sets locals.now frame) }
     ensures code { cell_in file.new CONDITION_CODE ≡ cell_in file.old CONDITION_CODE }
+    ensures still { AreStill file.old → AreStill file.new }
 {
     set_group(file, 0, locals);
     set(file, FP, frame);
@@ -44,7 +50,48 @@ pub(crate) fn set_frame(file: &mut File, locals: &[u32; LOCALS], frame: u32)
 pub(crate) fn set_arithmetic(file: &mut File, flags: &mut u32, ac: u32)
     ensures registers { registers_of file.new ≡ registers_of file.old }
     ensures ac { arithmetic_of flags.new file.new ≡ ac }
+    ensures code { cell_in file.new CONDITION_CODE ≡ cell (ac % 8) None }
+    ensures still { AreStill file.old → AreStill file.new }
 {
     *flags = ac - ac % 8;
     file.set(CONDITION_CODE, ac % 8);
+}
+
+/// Plans registers from one up and the condition code, and sets the other arithmetic controls.
+pub(crate) fn issue_group(
+    file: &mut File,
+    flags: &mut u32,
+    landing: &Landing,
+    r: u8,
+    words: &[u32],
+    ac: u32,
+)
+    requires range { r + length words.now ≤ 32 }
+    requires sets { AreCovered landing.now.writes (pairs_at (λ k. k) r words.now) }
+    requires code { IsCodeCovered landing.now.writes (arithmetic_of flags.old file.old) ac }
+    ensures registers { registers_of file.new ≡ written (registers_of file.old) (pairs_at (λ k. k) r words.now) }
+    ensures ac { arithmetic_of flags.new file.new ≡ ac }
+    ensures issued { IsIssued landing.now.writes landing.now.done flags.new file.old file.new }
+{
+    *flags = ac - ac % 8;
+    file.issue(landing.writes, landing.done, r, words, ac % 8);
+}
+
+/// Plans the locals and fp of a frame and the condition code, and sets the other arithmetic controls.
+pub(crate) fn issue_frame(
+    file: &mut File,
+    flags: &mut u32,
+    landing: &Landing,
+    locals: &[u32; LOCALS],
+    frame: u32,
+    ac: u32,
+)
+    requires sets { AreCovered landing.now.writes (frame_sets locals.now frame) }
+    requires code { IsCodeCovered landing.now.writes (arithmetic_of flags.old file.old) ac }
+    ensures registers { registers_of file.new ≡ written (registers_of file.old) (frame_sets locals.now frame) }
+    ensures ac { arithmetic_of flags.new file.new ≡ ac }
+    ensures issued { IsIssued landing.now.writes landing.now.done flags.new file.old file.new }
+{
+    *flags = ac - ac % 8;
+    file.issue_frame(landing.writes, landing.done, locals, frame, ac % 8);
 }

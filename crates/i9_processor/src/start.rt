@@ -1,16 +1,18 @@
 //! What start-up sets, of the words that it read.
-ghost use Rattle.std.specs.Prelude.{◌≡◌, ℕ, ◌+◌, ◌<◌, bit_and, slice_index};
+ghost use Rattle.std.specs.Prelude.{◌≡◌, ◌+◌, ◌∷◌, replicate, bit_and, slice_index};
 ghost use Rattle.i9_model.specs.Boot.{tables_of};
 ghost use Rattle.i9_model.specs.State.{first_frame, start_sets, start_interrupts, start_trace};
 ghost use Rattle.i9_model.specs.Writes.{wrapped, written};
 ghost use Rattle.i9_ints.specs.Ints.{interrupts_of};
 ghost use Rattle.i9_regs.specs.File.{cell_in};
-ghost use Rattle.i9_processor.specs.State.{registers_of};
+ghost use Rattle.i9_processor.specs.State.{registers_of, arithmetic_of};
+ghost use Rattle.i9_processor.specs.Issued.{IsStartCovered, IsIssued, AreStill};
 
-use crate::registers::set_frame;
+use crate::landing::Landing;
+use crate::registers::{issue_frame, set_frame};
 use i9_ints::Ints;
 use i9_isa::CONDITION_CODE;
-use i9_model::layout::{FRAME_SIZE, TC_MASK};
+use i9_model::layout::{FRAME_SIZE, LOCALS, TC_MASK};
 use i9_model::{Breaks, Setup, Tables};
 use i9_regs::File;
 
@@ -21,15 +23,34 @@ fn first_frame(setup: &Setup) -> u32
     setup.interrupt_stack.wrapping_add(15) / 16 * 16
 }
 
-/// Enters the first frame: sp is a frame above fp, and the other locals are 0.
+/// The locals of the first frame: sp is a frame above fp, and the others are 0.
+fn first_locals(frame: u32) -> [u32; LOCALS]
+    ensures { result ≡ 0 ∷ wrapped (frame + FRAME_SIZE) ∷ replicate 14 0 }
+{
+    let mut locals = [0; LOCALS];
+    locals[1] = frame.wrapping_add(FRAME_SIZE);
+    locals
+}
+
+/// Enters the first frame.
 pub(crate) fn start_registers(file: &mut File, setup: &Setup)
     ensures registers { registers_of file.new ≡ written (registers_of file.old) (start_sets setup.now) }
     ensures code { cell_in file.new CONDITION_CODE ≡ cell_in file.old CONDITION_CODE }
+    ensures still { AreStill file.old → AreStill file.new }
 {
     let frame = first_frame(setup);
-    let mut locals = [0; 16];
-    locals[1] = frame.wrapping_add(FRAME_SIZE);
-    set_frame(file, &locals, frame);
+    set_frame(file, &first_locals(frame), frame);
+}
+
+/// Plans the first frame and the condition code, and sets the other arithmetic controls.
+pub(crate) fn issue_start(file: &mut File, flags: &mut u32, landing: &Landing, setup: &Setup)
+    requires { IsStartCovered landing.now.writes }
+    ensures registers { registers_of file.new ≡ written (registers_of file.old) (start_sets setup.now) }
+    ensures ac { arithmetic_of flags.new file.new ≡ setup.now.ac }
+    ensures issued { IsIssued landing.now.writes landing.now.done flags.new file.old file.new }
+{
+    let frame = first_frame(setup);
+    issue_frame(file, flags, landing, &first_locals(frame), frame, setup.ac);
 }
 
 /// Nothing is posted, and every line is masked; words of the control table are the interrupt maps.

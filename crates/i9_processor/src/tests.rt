@@ -1,12 +1,12 @@
 //! The processor at an image of a few words, worked out by hand.
-ghost use Rattle.std.specs.Prelude.{◌≡◌, ◌<◌, [], None, OnOk, IfSome};
+ghost use Rattle.std.specs.Prelude.{◌≡◌, ◌<◌, [], None, IfOk, IfSome, IsTrue};
 ghost use Rattle.i9_model.specs.Frames.{flushed};
 ghost use Rattle.i9_model.specs.Free.{IsFree};
 ghost use Rattle.i9_model.specs.Step.{moved};
 ghost use Rattle.i9_processor.specs.Effect.{action_in, CanPost, CanChange, move_in, AreRegisters, CanControl, CanMove, CanTake};
-ghost use Rattle.i9_processor.specs.State.{state_of};
+ghost use Rattle.i9_processor.specs.State.{state_of, IsDrained};
 
-use crate::{Control, DmaChange, Effect, Move, Posting, Processor};
+use crate::{Control, DmaChange, Effect, Landing, Move, Posting, Processor};
 use arrayvec::ArrayVec;
 use i9_calls::{CallsStop, Pop, Push, Sys};
 use i9_dma::Channel;
@@ -80,7 +80,9 @@ fn put_word(image: &mut Segments, address: u32, word: u32) -> Result<(), Fail> {
 }
 
 /// The processor after boot of the image, with this configuration word of region 14.
-fn booted(alloc: Global, region: u32) -> Result<Processor, Fail> {
+fn booted(alloc: Global, region: u32) -> Result<Processor, Fail>
+    ensures { IfOk result (λ p. IsDrained p) }
+{
     let mut image = Segments::new(alloc);
     for (address, word) in IMAGE {
         put_word(&mut image, address, word)?;
@@ -239,7 +241,22 @@ fn finds_bytes_of_the_port_page(rt: HostRuntime) -> Result<(), Fail> {
     Ok(())
 }
 
-/// Makes room for an effect, applies it, and counts an instruction.
+/// Whether no request waits.
+#[tactic(auto, unfolding(crate::specs::State::queue_of))]
+fn is_drained(p: &Processor) -> bool
+    ensures { IsTrue result → IsDrained p.now }
+{
+    p.storage.is_drained()
+}
+
+/// All resources, at once.
+const AT_ONCE: Landing = Landing {
+    writes: u64::MAX,
+    done: 1,
+    request: false,
+};
+
+/// Makes room for an effect, applies it, and counts an instruction. All of it lands.
 fn applies(p: &mut Processor, effect: &Effect, sets: Option<Sets>) -> Result<(), Fail>
     requires registers { AreRegisters effect.now }
     requires posts { CanPost effect.now.posting }
@@ -252,8 +269,12 @@ fn applies(p: &mut Processor, effect: &Effect, sets: Option<Sets>) -> Result<(),
     if p.count() > 100 {
         return Err("too many".into());
     }
+    if !is_drained(p) {
+        return Err("a request waits".into());
+    }
     p.reserve(effect)?;
-    p.apply(effect, 1, sets);
+    p.apply(effect, &AT_ONCE, 1, sets);
+    p.land(1);
     Ok(())
 }
 
@@ -434,6 +455,9 @@ fn posts(p: &mut Processor, posting: Posting) -> Result<(), Fail>
 
 /// The vector that comes next, where one does.
 fn chosen(p: &Processor) -> Option<u8> {
+    if !is_drained(p) {
+        return None;
+    }
     match p.choose() {
         Ok(Some(choice)) => Some(choice.vector),
         _ => None,
@@ -611,6 +635,9 @@ fn changes(p: &mut Processor, change: DmaChange) -> Result<(), Fail>
 
 /// The bytes of the next unit of channel 2, and where it goes; None where nothing moves, or at a hazard.
 fn unit(p: &Processor, given: Option<&[u8]>) -> Option<(ArrayVec<u8, 16>, u32)> {
+    if !is_drained(p) {
+        return None;
+    }
     match p.plan_unit(2, given) {
         Ok(Some(bytes)) => Some((bytes, p.unit_target(2))),
         _ => None,
@@ -652,9 +679,67 @@ fn moves_units(rt: HostRuntime) -> Result<(), Fail> {
     };
     changes(&mut p, DmaChange::SetsUp(2, channel))?;
     changes(&mut p, DmaChange::Command(4))?;
+    assert!(rt; is_drained(&p));
     assert_eq!(rt; p.plan_unit(2, None).err(), Some(0x77BF));
     // The interrupt of channel 0 is line 8.
     posts(&mut p, Posting::Dma(0))?;
     assert_eq!(rt; p.special(0), 0x100);
+    Ok(())
+}
+
+/// Sets r4, which lands at turn 5.
+#[tactic(auto, unfolding(i9_model::specs::Hazards::writes_hazard))]
+fn sets_late(p: &mut Processor, value: u32) -> Result<(), Fail> {
+    if p.count() > 100 {
+        return Err("too many".into());
+    }
+    let mut values = ArrayVec::new();
+    values.push(value);
+    let effect = Effect::setting(p, 0x1314, 4, values);
+    let landing = Landing {
+        writes: 1 << 4,
+        done: 5,
+        request: false,
+    };
+    p.reserve(&effect)?;
+    p.apply(&effect, &landing, 1, None);
+    Ok(())
+}
+
+/// Stores a byte at an address, by a request that is done at turn 6.
+#[tactic(auto, unfolding(i9_model::specs::Hazards::writes_hazard, i9_model::specs::Hazards::write_hazard))]
+fn stores_late(p: &mut Processor, a: u32, byte: u8) -> Result<(), Fail> {
+    if p.count() > 100 || p.check_write(a, 1).is_some() {
+        return Err("too many, or a hazard".into());
+    }
+    if !is_drained(p) {
+        return Err("a request waits".into());
+    }
+    let mut effect = Effect::going(p, 0x1318);
+    effect.address = a;
+    effect.bytes.push(byte);
+    let landing = Landing {
+        writes: 0,
+        done: 6,
+        request: true,
+    };
+    p.reserve(&effect)?;
+    p.apply(&effect, &landing, 1, None);
+    Ok(())
+}
+
+#[test]
+fn lands_late(rt: HostRuntime) -> Result<(), Fail> {
+    let mut p = booted(rt.alloc(), 0)?;
+    sets_late(&mut p, 7)?;
+    stores_late(&mut p, 0x4001, 8)?;
+    // A turn, and then the value that r4 has itself, and whether no request waits.
+    for (turn, value, drained) in [(0, 0, false), (4, 0, false), (5, 7, false), (6, 7, true)] {
+        p.land(turn);
+        // What is read is the same before and after.
+        assert_eq!(rt; (p.register(4), p.byte(0x4001)), (7, 8), "{turn}");
+        let held = (p.file.value(4), is_drained(&p));
+        assert_eq!(rt; held, (value, drained), "{turn}");
+    }
     Ok(())
 }

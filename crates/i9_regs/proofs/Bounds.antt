@@ -7,7 +7,7 @@ use Rattle.i9_model.specs.declared.need.Cell.{Cell}
 use Rattle.i9_model.specs.Late.{resources, cell, issued_cell}
 use Rattle.i9_regs.specs.Plans.{IsPlannedFrom}
 use Rattle.i9_regs.specs.File.{cell_in, ArePlannedFrom, with_plan}
-use Rattle.i9_regs.proofs.Free.{blank_at}
+use Rattle.i9_regs.proofs.Blank.{blank_at}
 
 pub new_planned : (t n : ℕ) → ArePlannedFrom t (replicate n (cell 0 None))
 new_planned t n r = subst (λ (c : Cell). IsPlannedFrom t c.plan) (sym (blank_at n r)) tt

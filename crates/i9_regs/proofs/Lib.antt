@@ -1,4 +1,4 @@
-pub mod Free
+pub mod Blank
 pub mod Lists
 pub mod Groups
 pub mod Issued

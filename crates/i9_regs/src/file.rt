@@ -224,7 +224,6 @@ impl File {
     pub fn issue(&mut self, writes: u64, done: u64, register: u8, values: &[u32], code: u32)
         requires range { register + length values.now ≤ 32 }
         requires set { (k : ℕ) → k < length values.now → IsBitSet writes (register + k) }
-        requires free { (r : ℕ) → r < resources → IsBitSet writes r → (cell_in self.old r).plan ≡ None }
         ensures { (r : ℕ) → r < resources → cell_in self.new r
             ≡ issued_cell writes done r (issued_value self.old register values.now code r) (cell_in self.old r) }
     {
@@ -244,7 +243,6 @@ impl File {
     )
         requires locals { (k : ℕ) → k < LOCALS → IsBitSet writes k }
         requires frame { IsBitSet writes FRAME_POINTER }
-        requires free { (r : ℕ) → r < resources → IsBitSet writes r → (cell_in self.old r).plan ≡ None }
         ensures { (r : ℕ) → r < resources → cell_in self.new r
             ≡ issued_cell writes done r (framed_value self.old locals.now frame code r) (cell_in self.old r) }
     {

@@ -1,5 +1,5 @@
 -- A byte of memory with the held frames laid over it, from the youngest frame on.
-use Rattle.std.proofs.Common.{◌≡◌, ℕ, zero, suc, ◌+◌, ◌-◌, ◌*◌, ◌/◌, ◌%◌, ◌^◌, ◌<◌, ◌≤◌, true, false, List, [], ◌∷◌, ◌++◌, length, get_or, take, Some, sym, ap, ◌∙◌, inl, inr, arith}
+use Rattle.std.proofs.Common.{◌≡◌, ℕ, zero, suc, ◌+◌, ◌-◌, ◌*◌, ◌/◌, ◌%◌, ◌^◌, ◌<◌, ◌≤◌, Bool, true, false, List, [], ◌∷◌, ◌++◌, length, get_or, take, Some, sym, ap, ◌∙◌, inl, inr, arith}
 use Rattle.std.specs.Prelude.{reverse, slice_get}
 use Rattle.std.proofs.lemmas.Bool.Decides.{nat_tests}
 use Rattle.std.proofs.lemmas.Option.{get_or_from_slice_get}
@@ -7,7 +7,7 @@ use Rattle.std.proofs.lemmas.List.{take_more, take_all, get_or-reverse}
 use Rattle.i9_model.specs.declared.layout.TheConstants.{LOCALS, FRAME_SIZE}
 use Rattle.i9_model.specs.declared.frame.Frame.{Frame}
 use Rattle.i9_model.specs.Writes.{wrapped}
-use Rattle.i9_model.specs.Memory.{Memory, in_port_page, half_bytes, word_bytes, is_big, with_words}
+use Rattle.i9_model.specs.Memory.{Memory, in_port_page, half_bytes, word_bytes, is_big, waits_of, with_words}
 use Rattle.i9_model.specs.Frames.{in_bytes}
 use Rattle.i9_model.specs.Alike.{with_other}
 use Rattle.i9_model.specs.HeldFrames.{Cache, over, overlaid, AreWhole}
@@ -31,6 +31,9 @@ laid_half_bytes c a v = ap (λ (m : Memory). half_bytes m a v) (laid_other c)
 
 pub laid_big : (c : Cache) (region : ℕ) → is_big c.behind region ≡ is_big (overlaid c) region
 laid_big c region = ap (λ (m : Memory). is_big m region) (laid_other c)
+
+pub laid_waits : (c : Cache) (region : ℕ) (write : Bool) → waits_of c.behind region write ≡ waits_of (overlaid c) region write
+laid_waits c region write = ap (λ (m : Memory). waits_of m region write) (laid_other c)
 
 -- ---- one frame after the other
 

@@ -1,5 +1,5 @@
 -- What is printed while an image runs is the text of its run, or a front of it.
-use Rattle.std.proofs.Common.{◌≡◌, ◌≢◌, ℕ, Bool, false, List, [], ◌∷◌, ◌++◌, map, flat_map, Option, Some, None, refl, sym, ap, ◌∙◌, subst, append_assoc, arith}
+use Rattle.std.proofs.Common.{◌≡◌, ◌≢◌, ℕ, Bool, false, List, [], ◌∷◌, ◌++◌, inl, inr, map, flat_map, Option, Some, None, refl, sym, ap, ◌∙◌, subst, append_assoc, arith}
 use Rattle.std.proofs.lemmas.List.{append-nil}
 use Rattle.i9_model.specs.State.{State}
 use Rattle.i9_model.specs.Step.{first_word}
@@ -8,6 +8,8 @@ use Rattle.i9_model.specs.Run.{Given, Kind, Instruction, Faulted, Entered, Inter
 use Rattle.i9_model.specs.PrintedText.{text_of, lines_of, record_lines, end_lines, run_text}
 use Rattle.i9_model.proofs.Lines.{text_of-append}
 use Rattle.i9_model.proofs.Ends.{run_goes_on}
+use Rattle.i9_course.specs.Course.{Item, Step, records_of, IsCourse}
+use Rattle.i9_course.proofs.Orderly.{course_past}
 use Rattle.i9_machine.specs.declared.line.Line.{Line}
 use Rattle.i9_machine.specs.declared.line.Issued.{Issued}
 use Rattle.i9_machine.specs.declared.line.Turn.{Turn}
@@ -17,7 +19,7 @@ use Rattle.i9_schedule.specs.Plan.{Plan}
 use Rattle.i9_machine.specs.Line.{shown_of}
 use Rattle.i9_machine.specs.Issue.{TellsIssue}
 use Rattle.i9_machine.specs.Step.{TellsRecord}
-use Rattle.i9_machine.specs.StandsFor.{DoesNext, Advances}
+use Rattle.i9_machine.specs.StandsFor.{StandsFor, Follows, DoesNext, Advances}
 use Rattle.i9_tool.specs.declared.print.Printed.{Printed}
 use Rattle.i9_tool.specs.declared.print.Printed.TheVariants.{Done}
 use Rattle.i9_tool.specs.declared.run.Ran.{Ran}
@@ -93,76 +95,118 @@ module _ (allows : ℕ → Bool → Type 0) where
   allowed_on answer (Reached e u) s h one = absurd (omega (arith, one))
   allowed_on answer (Blocked e a) s h one = absurd (omega (arith, one))
 
-  module _ (g : Given) where
+  module _ (g : Given) (h : List Item) (before : Machine) where
     -- the text of a step is that of its record
-    step_done : (answer : Bool) (rs : List Record) (turn : Turn) (m : Machine) (plan : Plan) (ls : List Line) → (d : DoesNext g rs turn m plan [] ls)
-        → turn_text answer turn ≡ traced_line (λ a. answer) d.done → traced_line (λ a. answer) d.done ++ text_of (record_lines d.done) ≡ step_text answer turn ls
-    step_done answer rs turn m plan ls d told =
+    step_done : (answer : Bool) (turn : Turn) (m : Machine) (plan : Plan) (ls : List Line)
+        → (d : DoesNext g h turn before m plan [] ls)
+        → turn_text answer turn ≡ traced_line (λ a. answer) d.done
+        → traced_line (λ a. answer) d.done ++ text_of (record_lines d.done) ≡ step_text answer turn ls
+    step_done answer turn m plan ls d told =
         let lines : text_of (record_lines d.done) ≡ flat_map line_text ls = ap text_of (sym d.lines) ∙ sym (lines-text ls) in
         ap (λ (t : List ℕ). t ++ text_of (record_lines d.done)) (sym told) ∙ ap (λ (t : List ℕ). turn_text answer turn ++ t) lines
 
-    pub issued_traced : (text : List ℕ) (answer : Bool) (rs : List Record) (t : Issued) (m : Machine) (plan : Plan) (ls : List Line) → (d : DoesNext g rs (turns.Issued t) m plan [] ls)
-        → TracedBy allows rs text → allows t.address answer → TracedBy allows (d.done ∷ rs) (text ++ step_text answer (turns.Issued t) ls)
-    issued_traced text answer rs t m plan ls d before allowed =
-        let same = step_done answer rs (turns.Issued t) m plan ls d (told_issued answer d.done.kind d.done.before t d.tells) in
-        subst (λ (x : List ℕ). TracedBy allows (d.done ∷ rs) (text ++ x)) same
-        (traced_next rs text d.done answer before (λ one. allowed_issued answer d.done.kind d.done.before t d.tells allowed))
+    pub issued_traced : (text : List ℕ) (answer : Bool) (t : Issued) (m : Machine) (plan : Plan) (ls : List Line)
+        → (d : DoesNext g h (turns.Issued t) before m plan [] ls)
+        → TracedBy allows (records_of h) text → allows t.address answer
+        → TracedBy allows (d.done ∷ records_of h) (text ++ step_text answer (turns.Issued t) ls)
+    issued_traced text answer t m plan ls d traced allowed =
+        let same = step_done answer (turns.Issued t) m plan ls d (told_issued answer d.done.kind d.done.before t d.tells) in
+        subst (λ (x : List ℕ). TracedBy allows (d.done ∷ records_of h) (text ++ x)) same
+        (traced_next (records_of h) text d.done answer traced (λ one. allowed_issued answer d.done.kind d.done.before t d.tells allowed))
 
-    pub on_traced : (text : List ℕ) (answer : Bool) (rs : List Record) (m : Machine) (plan : Plan) (ls : List Line) → (d : DoesNext g rs turns.On m plan [] ls)
-        → TracedBy allows rs text → TracedBy allows (d.done ∷ rs) (text ++ step_text answer turns.On ls)
-    on_traced text answer rs m plan ls d before =
-        let same = step_done answer rs turns.On m plan ls d (told_on answer d.done.kind d.done.before d.tells) in
-        subst (λ (x : List ℕ). TracedBy allows (d.done ∷ rs) (text ++ x)) same
-        (traced_next rs text d.done answer before (allowed_on answer d.done.kind d.done.before d.tells))
+    on_traced : (text : List ℕ) (answer : Bool) (m : Machine) (plan : Plan) (ls : List Line)
+        → (d : DoesNext g h turns.On before m plan [] ls)
+        → TracedBy allows (records_of h) text
+        → TracedBy allows (d.done ∷ records_of h) (text ++ step_text answer turns.On ls)
+    on_traced text answer m plan ls d traced =
+        let same = step_done answer turns.On m plan ls d (told_on answer d.done.kind d.done.before d.tells) in
+        subst (λ (x : List ℕ). TracedBy allows (d.done ∷ records_of h) (text ++ x)) same
+        (traced_next (records_of h) text d.done answer traced (allowed_on answer d.done.kind d.done.before d.tells))
+
+    -- the run goes on where no instruction is told: the items are the same where the turn moved, and else one more
+    pub record GoesOn (answer : Bool) (text : List ℕ) (m : Machine) (plan : Plan) (ls : List Line) : Type 0 where
+      pub items : List Item
+      pub stands : StandsFor g items None m
+      pub follows : Follows g items plan
+      pub traced : TracedBy allows (records_of items) (text ++ step_text answer turns.On ls)
+
+    pub goes_on : (text : List ℕ) (answer : Bool) (m : Machine) (plan : Plan) (ls : List Line)
+        → Advances g h turns.On before m plan [] ls
+        → TracedBy allows (records_of h) text → GoesOn answer text m plan ls
+    goes_on text answer m plan ls (inl moves) traced = record {
+      items = h;
+      stands = moves.stands;
+      follows = moves.follows;
+      traced = subst (TracedBy allows (records_of h)) (sym (nothing_more text ls moves.lines)) traced;
+    }
+    goes_on text answer m plan ls (inr d) traced = record {
+      items = Step d.done ∷ h;
+      stands = d.stands;
+      follows = d.follows;
+      traced = on_traced text answer m plan ls d traced;
+    }
 
     -- the text of the end's step
-    end_text : (answer : Bool) (rs : List Record) (e : End) (m : Machine) (plan : Plan) (ls : List Line) → Advances g rs (turns.End e) m plan [] ls
-        → step_text answer (turns.End e) ls ≡ text_of (end_lines (state_after g rs) e)
-    end_text answer rs e m plan ls a = lines-text ls ∙ ap text_of a.lines
+    end_text : (answer : Bool) (e : End) (m : Machine) (plan : Plan) (ls : List Line)
+        → Advances g h (turns.End e) before m plan [] ls
+        → step_text answer (turns.End e) ls ≡ text_of (end_lines (state_after g (records_of h)) e)
+    end_text answer e m plan ls a = lines-text ls ∙ ap text_of a.lines
 
-    module _ {K : Type 0} (k : Account K) where
-      abbrev Printing : Printed → K → K → List ℕ → Type 0
-      Printing answer a b text = Prints answer k a b text
+  module _ (g : Given) {K : Type 0} (k : Account K) where
+    abbrev Printing : Printed → K → K → List ℕ → Type 0
+    Printing answer a b text = Prints answer k a b text
 
-      -- printing stopped behind a record
-      behind_record : (answer : Ran) (rs : List Record) (text : List ℕ) (a b : K) → IsCut answer → IsPast g rs → TracedBy allows rs text → Printing (printed_of answer) a b text
-          → TracesBy answer allows g k a b
-      behind_record answer rs text a b cut past traced p = record {
-        records = rs;
-        past = past;
-        text = text;
-        traced = traced;
-        rest = [];
-        stops = before_end answer cut;
-        prints = prints_same k (printed_of answer) a b _ _ (sym (append-nil text)) p;
-      }
+    -- printing stopped behind a record
+    behind_record : (answer : Ran) (rs : List Record) (text : List ℕ) (a b : K) → IsCut answer → IsPast g rs
+        → TracedBy allows rs text → Printing (printed_of answer) a b text
+        → TracesBy answer allows g k a b
+    behind_record answer rs text a b cut past traced p = record {
+      records = rs;
+      past = past;
+      text = text;
+      traced = traced;
+      rest = [];
+      stops = before_end answer cut;
+      prints = prints_same k (printed_of answer) a b _ _ (sym (append-nil text)) p;
+    }
 
+    -- memory was refused before the first step
+    pub nothing_yet : (a : K) → TracesBy ran.Memory allows g k a a
+    nothing_yet a = record { records = []; past = tt; text = []; traced = traced_none; rest = []; stops = before_end ran.Memory tt; prints = prints_refused k a _ }
+
+    module _ (h : List Item) (before : Machine) where
       -- printing stopped in the text of a step
-      pub in_step : (answer : Ran) (rs : List Record) (text : List ℕ) (passes : Bool) (turn : Turn) (m : Machine) (plan : Plan) (ls : List Line) (a b : K) → IsCut answer
-          → IsPast g rs → Advances g rs turn m plan [] ls → TracedBy allows rs text → AllowsTurn allows turn passes
+      pub in_step : (answer : Ran) (text : List ℕ) (passes : Bool) (turn : Turn) (m : Machine) (plan : Plan)
+          (ls : List Line) (a b : K) → IsCut answer → IsCourse g h → Advances g h turn before m plan [] ls
+          → TracedBy allows (records_of h) text → AllowsTurn allows turn passes
           → Printing (printed_of answer) a b (text ++ step_text passes turn ls) → TracesBy answer allows g k a b
-      in_step answer rs text passes turns.On m plan ls a b cut past d traced allowed p =
-          behind_record answer (d.done ∷ rs) _ a b cut d.stands.past (on_traced text passes rs m plan ls d traced) p
-      in_step answer rs text passes (turns.Issued t) m plan ls a b cut past d traced allowed p =
-          behind_record answer (d.done ∷ rs) _ a b cut d.stands.past (issued_traced text passes rs t m plan ls d traced allowed) p
-      in_step answer rs text passes (turns.End e) m plan ls a b cut past d traced allowed p = record {
-        records = rs;
-        past = past;
+      in_step answer text passes turns.On m plan ls a b cut past d traced allowed p =
+          let on = goes_on g h before text passes m plan ls d traced in
+          behind_record answer (records_of on.items) _ a b cut (course_past g on.items on.stands.past) on.traced p
+      in_step answer text passes (turns.Issued t) m plan ls a b cut past d traced allowed p =
+          behind_record answer (d.done ∷ records_of h) _ a b cut (course_past g (Step d.done ∷ h) d.stands.past)
+          (issued_traced g h before text passes t m plan ls d traced allowed) p
+      in_step answer text passes (turns.End e) m plan ls a b cut past d traced allowed p = record {
+        records = records_of h;
+        past = course_past g h past;
         text = text;
         traced = traced;
-        rest = text_of (end_lines (state_after g rs) e);
+        rest = text_of (end_lines (state_after g (records_of h)) e);
         stops = at_end answer e d.is_end (tells_cut answer e cut);
-        prints = prints_same k (printed_of answer) a b _ _ (ap (λ (t : List ℕ). text ++ t) (end_text passes rs e m plan ls d)) p;
+        prints = prints_same k (printed_of answer) a b _ _ (ap (λ (t : List ℕ). text ++ t) (end_text g h before passes e m plan ls d)) p;
       }
-      in_step answer rs text passes turns.Memory m plan ls a b cut past d traced allowed p =
-          behind_record answer rs text a b cut past traced (prints_same k (printed_of answer) a b _ _ (nothing_more text ls d.lines) p)
+      in_step answer text passes turns.Memory m plan ls a b cut past d traced allowed p =
+          behind_record answer (records_of h) text a b cut (course_past g h past) traced
+          (prints_same k (printed_of answer) a b _ _ (nothing_more text ls d.lines) p)
 
       -- memory was refused for a step
-      pub ran_refused : (rs : List Record) (text : List ℕ) (passes : Bool) (m : Machine) (plan : Plan) (ls : List Line) (a b : K) → IsPast g rs → Advances g rs turns.Memory m plan [] ls
-          → TracedBy allows rs text → Printing Done a b (text ++ step_text passes turns.Memory ls) → TracesBy ran.Memory allows g k a b
-      ran_refused rs text passes m plan ls a b past d traced p = record {
-        records = rs;
-        past = past;
+      pub ran_refused : (text : List ℕ) (passes : Bool) (m : Machine) (plan : Plan) (ls : List Line) (a b : K)
+          → IsCourse g h → Advances g h turns.Memory before m plan [] ls
+          → TracedBy allows (records_of h) text → Printing Done a b (text ++ step_text passes turns.Memory ls)
+          → TracesBy ran.Memory allows g k a b
+      ran_refused text passes m plan ls a b past d traced p = record {
+        records = records_of h;
+        past = course_past g h past;
         text = text;
         traced = traced;
         rest = [];
@@ -171,21 +215,27 @@ module _ (allows : ℕ → Bool → Type 0) where
       }
 
       -- the end was reached
-      pub ran_done : (rs : List Record) (text : List ℕ) (passes : Bool) (e : End) (m : Machine) (plan : Plan) (ls : List Line) (a b : K) → IsPast g rs
-          → Advances g rs (turns.End e) m plan [] ls → TracedBy allows rs text → Printing Done a b (text ++ step_text passes (turns.End e) ls) → TracesBy (ran.Done e) allows g k a b
-      ran_done rs text passes e m plan ls a b past d traced p = record {
-        records = rs;
-        past = past;
+      pub ran_done : (text : List ℕ) (passes : Bool) (e : End) (m : Machine) (plan : Plan) (ls : List Line) (a b : K)
+          → IsCourse g h → Advances g h (turns.End e) before m plan [] ls
+          → TracedBy allows (records_of h) text → Printing Done a b (text ++ step_text passes (turns.End e) ls)
+          → TracesBy (ran.Done e) allows g k a b
+      ran_done text passes e m plan ls a b past d traced p = record {
+        records = records_of h;
+        past = course_past g h past;
         text = text;
         traced = traced;
-        rest = text_of (end_lines (state_after g rs) e);
+        rest = text_of (end_lines (state_after g (records_of h)) e);
         stops = at_end (ran.Done e) e d.is_end refl;
-        prints = prints_same k Done a b _ _ (ap (λ (t : List ℕ). text ++ t) (end_text passes rs e m plan ls d)) p;
+        prints = prints_same k Done a b _ _ (ap (λ (t : List ℕ). text ++ t) (end_text g h before passes e m plan ls d)) p;
       }
 
-      -- memory was refused before the first step
-      pub nothing_yet : (a : K) → TracesBy ran.Memory allows g k a a
-      nothing_yet a = record { records = []; past = tt; text = []; traced = traced_none; rest = []; stops = before_end ran.Memory tt; prints = prints_refused k a _ }
+-- ---- where no instruction was told, there are items that the machine stands for
+
+pub items_on : (g : Given) (h : List Item) (before m : Machine) (plan : Plan) (old new : List Line)
+    → Advances g h turns.On before m plan old new
+    → (on : List Item) × StandsFor g on None m × Follows g on plan
+items_on g h before m plan old new (inl moves) = (h, moves.stands, moves.follows)
+items_on g h before m plan old new (inr d) = (Step d.done ∷ h, d.stands, d.follows)
 
 -- ---- a relation that allows one answer at each address
 

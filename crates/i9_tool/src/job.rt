@@ -1,7 +1,7 @@
 //! The command `gen`: the run of the job that is made from a number.
 ghost use Rattle.std.specs.Prelude.{◌≡◌, ◌≢◌, List, ℕ};
 ghost use Rattle.i9_text.specs.Text.{lines_of};
-ghost use Rattle.i9_model.specs.ScheduleText.{IsSchedule};
+ghost use Rattle.i9_model.specs.ScheduleText.{IsSchedule, IsPlan};
 ghost use Rattle.i9_asm.specs.Laws.{IsAssembly};
 ghost use Rattle.i9_tool.specs.Words.{AreFew};
 ghost use Rattle.i9_tool.specs.Print.{account};
@@ -30,6 +30,7 @@ fn run_job<K: Sink>(
 ) -> Status
     requires few { AreFew words.sets }
     requires begins { plan.old.place ≡ 0 }
+    requires plan { IsPlan plan.old.events }
     ensures answers { (source schedule : List ℕ)
         → IsAssembly (lines_of source) image.now → IsSchedule (lines_of schedule) plan.old.events
         → Answers (JobGives words.number words.sets source schedule)

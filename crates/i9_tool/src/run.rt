@@ -3,6 +3,7 @@ ghost use Rattle.std.specs.Prelude.{◌≡◌, ◌≤◌, ◌&&◌, nat_le, fals
 ghost use Rattle.i9_model.specs.Given.{given};
 ghost use Rattle.i9_model.specs.declared.layout.TheConstants.{MAX_LENGTH};
 ghost use Rattle.i9_model.specs.Image.{pairs_of};
+ghost use Rattle.i9_model.specs.ScheduleText.{IsPlan};
 ghost use Rattle.i9_tracer.specs.Closures.{TakesEachAddress};
 ghost use Rattle.i9_tool.specs.Print.{account};
 ghost use Rattle.i9_tool.specs.Run.{Counts, PrintsBy, Runs, TracesBy, step_text, turn_text};
@@ -80,6 +81,7 @@ fn run_filtered<K: Sink, F: Fn(u32) -> bool + AddressTest>(
     out: &mut K,
 ) -> Ran
     requires begins { plan.old.place ≡ 0 }
+    requires plan { IsPlan plan.old.events }
     requires few { AreFew sets }
     requires short { limit ≤ MAX_LENGTH }
     ensures { TracesBy result (F.AddressTest.allows f.now) (given (pairs_of image.now) plan.old.events limit sets)
@@ -117,6 +119,7 @@ fn run_with<K: Sink, F: Fn(u32) -> bool + AddressTest>(
     out: &mut K,
 ) -> Ran
     requires begins { plan.old.place ≡ 0 }
+    requires plan { IsPlan plan.old.events }
     requires few { AreFew sets }
     requires short { limit ≤ MAX_LENGTH }
     requires takes { TakesEachAddress (F.AddressTest.can_test f) }
@@ -139,6 +142,7 @@ pub(crate) fn run<K: Sink>(
     out: &mut K,
 ) -> Ran
     requires begins { plan.old.place ≡ 0 }
+    requires plan { IsPlan plan.old.events }
     requires few { AreFew sets }
     requires short { limit ≤ MAX_LENGTH }
     ensures { Runs result traced (given (pairs_of image.now) plan.old.events limit sets)
@@ -178,6 +182,7 @@ pub(crate) fn count_run(
     limit: u64,
 ) -> Result<Counted, NoMemory>
     requires begins { plan.old.place ≡ 0 }
+    requires plan { IsPlan plan.old.events }
     requires few { AreFew sets }
     requires short { limit ≤ MAX_LENGTH }
     ensures { IfOk result (λ counted. Counts counted (given (pairs_of image.now) plan.old.events limit sets)) }

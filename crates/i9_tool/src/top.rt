@@ -6,6 +6,7 @@ ghost use Rattle.i9_tool.specs.Words.{run_by, asked_by, CanRun, Fits};
 ghost use Rattle.i9_model.specs.declared.run.End.{End};
 ghost use Rattle.i9_text.specs.Text.{lines_of};
 ghost use Rattle.i9_model.specs.Image.{pairs_of};
+ghost use Rattle.i9_model.specs.ScheduleText.{IsPlan};
 ghost use Rattle.i9_model.specs.PrintedText.{end_code};
 ghost use Rattle.i9_asm.specs.Laws.{IsAssembly};
 ghost use Rattle.i9_outside.specs.declared.traits.TheConstants.{FILE_LIMIT};
@@ -55,6 +56,7 @@ fn run_image<K: Sink>(
 ) -> Status
     requires can { CanRun words.now }
     requires begins { plan.old.place ≡ 0 }
+    requires plan { IsPlan plan.old.events }
     ensures answers { Answers (RunGives words.now.sets words.now.limit words.now.traced (pairs_of image.now) plan.old.events)
         result.code (account K.told K.faults K.writes K.sure) out.old out.new }
     ensures read { result.code ≢ 5 }

@@ -11,6 +11,9 @@ ghost use Rattle.i9_model.specs.PrintedText.{view_of, out_lines, point_lines, la
 ghost use Rattle.i9_processor.specs.Effect.{action_in, move_in, control_in, AreRegisters, AreMade, CanControl, CanMove, CanTake, HasSpaceFor, cache_through, size_with, has_writes, is_restart};
 ghost use Rattle.i9_processor.specs.State.{state_of, cache_of, size_of};
 ghost use Rattle.i9_model.specs.Events.{IsInRange};
+ghost use Rattle.i9_model.specs.Turns.{HasCost, waiting_until};
+ghost use Rattle.i9_issue.specs.Room.{IsEarly};
+ghost use Rattle.i9_regs.specs.Covered.{IsCovered};
 ghost use Rattle.i9_machine.specs.Doing.{point_count, reached_lines, reached_count, plan_after_step};
 ghost use Rattle.i9_machine.specs.Line.{AddsLines};
 
@@ -20,8 +23,8 @@ use crate::step::Step;
 use arrayvec::ArrayVec;
 use i9_frames::Sets;
 use i9_isa::NoMemory;
-use i9_model::{End, Event, Point, View};
-use i9_processor::{Control, Effect, Processor};
+use i9_model::{End, Event, Need, Point, View};
+use i9_processor::{Control, Effect, Landing, Processor};
 use i9_schedule::{Schedule, copied};
 
 /// Adds the end point and the line of the end.
@@ -164,8 +167,10 @@ fn go_on(step: &Step, plan: &mut Schedule)
 
 impl Machine {
     ghost use Rattle.i9_machine.specs.StandsFor.{LeavesFewer};
-    ghost use Rattle.i9_machine.specs.Step.{IsStep, IsSame, Steps, HasRoom, next_for, steps_left};
+    ghost use Rattle.i9_machine.specs.Step.{IsStep, IsSame, Steps, Issues, HasRoom, next_for, steps_left};
     ghost use Rattle.i9_machine.specs.Doing.{lines_of, line_count, asks_room, HasRoomForStep, IsReady, action_for, state_behind};
+    ghost use Rattle.i9_machine.specs.Issuing.{most_turns, IsIssued, CanActPlaced};
+    ghost use Rattle.i9_machine.specs.StandsFor.{IsNow, IsUnderWay};
 
     /// Answers an end, once its lines are written.
     pub(super) fn finish(&mut self, e: End, plan: &Schedule, out: &mut Vec<Line>) -> Turn
@@ -225,7 +230,18 @@ impl Machine {
         Ok(sets)
     }
 
-    /// Does what is planned, prints its lines, and keeps what is due afterwards.
+    /// The need of a record behind the last mark.
+    pub(super) fn marked(&self, need: &Need) -> Need
+        ensures { result ≡ waiting_until self.now.floor need.now }
+    {
+        Need {
+            not_before: self.floor.max(need.not_before),
+            ..*need
+        }
+    }
+
+    /// Places what a step needs, and does what is planned, whose results land when it is done; prints its
+    /// lines, and keeps what is due afterwards.
     fn act(
         &mut self,
         step: &Step,
@@ -234,9 +250,14 @@ impl Machine {
         sets: Option<Sets>,
         out: &mut Vec<Line>,
     ) -> Turn
+        requires cost { HasCost step.now.need }
+        requires turns { step.now.need.cost ≤ most_turns }
+        requires early { IsEarly self.old.board (waiting_until self.old.floor step.now.need) }
         requires ready { IsReady (state_of self.old.processor) self.old.length effect.now step.now }
         requires space { HasSpaceFor self.old.processor effect.now }
         requires made { CanTake (move_in (state_of self.old.processor) effect.now.frames) sets }
+        requires covered { IsCovered step.now.need.writes (state_of self.old.processor) (action_for self.old effect.now) }
+        requires acts { CanActPlaced self.old step.now.need effect.now }
         requires lines { vec_len out.old + line_count effect.now step.now (option_copied event) ≤ vec_capacity out.old }
         requires ranges { IfSome event (λ e. IsInRange e.now) }
         ensures state { AreAlike (state_behind self.old effect.now step.now) (state_of self.new.processor) }
@@ -249,12 +270,21 @@ impl Machine {
         ensures ended { self.new.ended ≡ self.old.ended }
         ensures answer { result ≡ step.now.answer }
         ensures count { (state_of self.new.processor).count ≡ (state_of self.old.processor).count + step.now.counts }
+        ensures issued { IsIssued self.old step.now.need (action_for self.old effect.now) self.new }
         ensures lines { AddsLines out.old.items out.new.items
             (lines_of effect.now step.now (option_copied event.entry) (state_of self.old.processor)
             (state_behind self.old effect.now step.now)) }
     {
+        let need = self.marked(&step.need);
+        let placed = self.board.place(&need);
+        self.done = placed.done;
+        let landing = Landing {
+            writes: need.writes,
+            done: placed.done,
+            request: need.request,
+        };
         put_event(event, &self.processor, out);
-        self.processor.apply(effect, step.counts, sets);
+        self.processor.apply(effect, &landing, step.counts, sets);
         self.due = step.due;
         put_out(effect.console_byte(), out);
         put_point(step.point, self.processor.view(), out);
@@ -271,7 +301,10 @@ impl Machine {
     ) -> Turn
         requires running { self.old.ended ≡ None }
         requires step { IsStep self.old plan.old step.now effect.now }
+        requires stands { IsUnderWay self.old plan.old }
+        requires now { IsNow self.old plan.old }
         ensures steps { Steps self.old result self.new plan.old plan.new out.old.items out.new.items }
+        ensures issues { Issues self.old result self.new plan.old }
         ensures lacking { result ≡ Turn.Memory
             → HasRoom self.old (vec_capacity out.old - vec_len out.old) (next_for self.old plan.old) → ⊥ }
         ensures fewer { LeavesFewer result (steps_left self.old plan.old) (steps_left self.new plan.new) }

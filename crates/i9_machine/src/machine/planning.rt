@@ -1,17 +1,22 @@
 //! What comes next for the machine: a step, or the end.
-ghost use Rattle.std.specs.Prelude.{◌≡◌, ◌<◌, ℕ, Option, Some, None, Ok, IfSome, true, false};
+ghost use Rattle.std.specs.Prelude.{◌≡◌, ◌<◌, ◌≤◌, ℕ, Option, Some, None, Ok, IfSome, true, false};
 ghost use Rattle.std.specs.Option.{option_map, option_copied};
 ghost use Rattle.i9_model.specs.Events.{IsInRange};
 ghost use Rattle.i9_model.specs.ScheduleText.{standing};
 ghost use Rattle.i9_model.specs.Before.{choice_in};
 ghost use Rattle.i9_isa.specs.declared.inst.Inst.{Inst};
+ghost use Rattle.i9_isa.specs.Valid.{IsValid};
 ghost use Rattle.i9_isa.specs.Words.{words_of};
+ghost use Rattle.i9_model.specs.HeldFrames.{Cache};
+ghost use Rattle.i9_model.specs.Needs.{is_request_name};
+ghost use Rattle.i9_course.specs.NeedOf.{need_of};
 ghost use Rattle.i9_model.specs.Traced.{traced_action};
 ghost use Rattle.i9_model.specs.Run.{Does, Instruction, Faulted, faulted_words, fault_at, record_of, point_by_name, action_due};
-ghost use Rattle.i9_plan.specs.Planned.{TellsWords};
+ghost use Rattle.i9_plan.specs.Planned.{TellsWords, IsInRow};
 ghost use Rattle.i9_processor.specs.Effect.{action_in, IsEffect};
-ghost use Rattle.i9_processor.specs.State.{state_of};
+ghost use Rattle.i9_processor.specs.State.{state_of, IsDrained};
 ghost use Rattle.i9_machine.specs.Issue.{TellsIssue};
+ghost use Rattle.i9_machine.specs.Issuing.{most_turns};
 
 use super::Machine;
 use crate::line::{Issued, Turn};
@@ -19,9 +24,10 @@ use crate::step::Step;
 use i9_faults::{Fault, FaultStop};
 use i9_isa::{Inst, Op, word_count};
 use i9_model::faults::TRACE;
-use i9_model::{Chosen, Due, End, Event, Point, When};
+use i9_model::{Chosen, Due, End, Event, Need, Point, When};
 use i9_plan::{
-    Memo, Planned, Words, plan_entry, plan_event, plan_faulting, plan_interrupt, plan_next,
+    Memo, Planned, Words, need_done, need_entered, need_faulted, need_reached, need_refused,
+    plan_entry, plan_event, plan_faulting, plan_interrupt, plan_next,
 };
 use i9_processor::Effect;
 use i9_schedule::Schedule;
@@ -37,13 +43,14 @@ fn point_by_name(op: Op) -> Option<Point>
     }
 }
 
-/// The entry of a fault or of an interrupt, behind which there is this drained point.
-fn entered(point: Point) -> Step
+/// The entry of a fault or of an interrupt, which needs this, and behind which there is this drained point.
+fn entered(point: Point, need: Need) -> Step
     ensures reaches { result.reaches ≡ false }
     ensures point { result.point ≡ Some point }
     ensures counts { result.counts ≡ 0 }
     ensures due { result.due ≡ Due.Nothing }
     ensures answer { result.answer ≡ Turn.On }
+    ensures need { result.need ≡ need }
 {
     Step {
         reaches: false,
@@ -51,16 +58,19 @@ fn entered(point: Point) -> Step
         counts: 0,
         due: Due::Nothing,
         answer: Turn::On,
+        need,
     }
 }
 
-/// An event that is reached, behind which there is a drained point or none, and this is due.
-fn reached(point: Option<Point>, due: Due) -> Step
+/// An event that is reached, which needs this, behind which there is a drained point or none, and this
+/// is due.
+fn reached(point: Option<Point>, due: Due, need: Need) -> Step
     ensures reaches { result.reaches ≡ true }
     ensures point { result.point ≡ point }
     ensures counts { result.counts ≡ 0 }
     ensures due { result.due ≡ due }
     ensures answer { result.answer ≡ Turn.On }
+    ensures need { result.need ≡ need }
 {
     Step {
         reaches: true,
@@ -68,11 +78,12 @@ fn reached(point: Option<Point>, due: Due) -> Step
         counts: 0,
         due,
         answer: Turn::On,
+        need,
     }
 }
 
 /// The next event of a schedule, where its count has come.
-fn standing(plan: &Schedule, count: u64) -> Option<&Event>
+pub(super) fn standing(plan: &Schedule, count: u64) -> Option<&Event>
     ensures event { option_copied result ≡ standing plan.now.events plan.now.place count }
     ensures ranges { IfSome result (λ e. IsInRange e.now) }
 {
@@ -119,11 +130,13 @@ impl Machine {
     }
 
     /// An instruction is done.
-    fn does(&self, words: Words, inst: &Inst, plan: &Schedule, effect: &Effect) -> Step
+    pub(super) fn does(&self, words: Words, inst: &Inst, plan: &Schedule, effect: &Effect) -> Step
         requires below { (state_of self.now.processor).count < self.now.length }
         requires is_next { next_for self.now plan.now ≡ Does (record_of (Instruction inst.now) (state_of self.now.processor)) }
         requires words { TellsWords (words_of inst.now) (state_of self.now.processor) words }
+        requires valid { IsValid inst.now }
         requires effect { IsEffect (state_of self.now.processor) (traced_action inst.now (state_of self.now.processor)) effect.now }
+        requires row { is_request_name inst.now.op ≡ true → IsInRow effect.now }
         ensures { IsStep self.now plan.now result effect.now }
     {
         Step {
@@ -132,21 +145,25 @@ impl Machine {
             counts: 1,
             due: self.due_by(effect),
             answer: Turn::Issued(self.issued(words)),
+            need: need_done(&self.processor, inst, effect),
         }
     }
 
-    /// An instruction of so many words faults, and the entry of its fault is due.
-    fn faults(
+    /// An instruction of so many words, which needs this, faults, and the entry of its fault is due.
+    pub(super) fn faults(
         &self,
         words: Words,
         count: u32,
         number: (u8, u16),
+        need: Need,
         plan: &Schedule,
         effect: &mut Effect,
     ) -> Step
         requires below { (state_of self.now.processor).count < self.now.length }
         requires is_next { (inst : Option Inst) × (count ≡ faulted_words inst)
-            × (next_for self.now plan.now ≡ Does (record_of (Faulted inst (fault_at (state_of self.now.processor) number)) (state_of self.now.processor))) }
+            × (next_for self.now plan.now ≡ Does (record_of (Faulted inst (fault_at (state_of self.now.processor) number)) (state_of self.now.processor)))
+            × ((n : ℕ) (c : Cache) → need ≡ need_of n c (state_of self.now.processor) (Faulted inst (fault_at (state_of self.now.processor) number))) }
+        requires cost { need.cost ≤ most_turns }
         requires words { TellsWords count (state_of self.now.processor) words }
         ensures { IsStep self.now plan.now result effect.new }
     {
@@ -162,6 +179,7 @@ impl Machine {
             counts: 1,
             due: Due::Entry(fault),
             answer: Turn::Issued(self.issued(words)),
+            need,
         }
     }
 
@@ -176,31 +194,40 @@ impl Machine {
         requires free { self.now.due ≡ Due.Nothing }
         requires chosen { choice_in (state_of self.now.processor) ≡ Ok None }
         requires stands { event_for self.now plan.now ≡ None }
+        requires drained { IsDrained self.now.processor }
         ensures { IsNext self.now plan.now result effect.new }
     {
-        match plan_next(&self.processor, memo, effect) {
+        let p = &self.processor;
+        match plan_next(p, memo, effect) {
             Planned::Meets(a) => Err(End::Hazard(a)),
-            Planned::NotBuilt => Err(End::Unbuilt(self.processor.ip())),
-            Planned::Refused { words, number } => Ok(self.faults(words, 1, number, plan, effect)),
+            Planned::NotBuilt => Err(End::Unbuilt(p.ip())),
+            Planned::Refused { words, number } => {
+                let need = need_refused(p, number);
+                Ok(self.faults(words, 1, number, need, plan, effect))
+            }
             Planned::Faults {
                 words,
                 inst,
                 number,
-            } => Ok(self.faults(words, word_count(&inst), number, plan, effect)),
+            } => {
+                let need = need_faulted(p, &inst, number);
+                Ok(self.faults(words, word_count(&inst), number, need, plan, effect))
+            }
             Planned::Runs { words, inst } => Ok(self.does(words, &inst, plan, effect)),
         }
     }
 
     /// The entry of a fault, or the hazard or the dead entry of the fault table that ends the run.
-    #[inline(never)]
     fn entry(&self, fault: &Fault, plan: &Schedule, effect: &mut Effect) -> Result<Step, End>
-        requires { self.now.due ≡ Due.Entry fault.now }
+        requires due { self.now.due ≡ Due.Entry fault.now }
+        requires drained { IsDrained self.now.processor }
         ensures { IsNext self.now plan.now result effect.new }
     {
         match plan_entry(&self.processor, fault) {
             Ok(entry) => {
                 *effect = entry;
-                Ok(entered(Point::Fault))
+                let need = need_entered(&self.processor, effect);
+                Ok(entered(Point::Fault, need))
             }
             Err(FaultStop::Hazard(a)) => Err(End::Hazard(a)),
             Err(FaultStop::Dead { code, address }) => Err(End::Dead(code, address)),
@@ -208,40 +235,42 @@ impl Machine {
     }
 
     /// The entry of an interrupt that is chosen, or the hazard that ends the run.
-    #[inline(never)]
     fn interrupt(&self, choice: &Chosen, plan: &Schedule, effect: &mut Effect) -> Result<Step, End>
         requires below { (state_of self.now.processor).count < self.now.length }
         requires free { self.now.due ≡ Due.Nothing }
         requires chosen { choice_in (state_of self.now.processor) ≡ Ok (Some choice.now) }
+        requires drained { IsDrained self.now.processor }
         ensures { IsNext self.now plan.now result effect.new }
     {
         match plan_interrupt(&self.processor, choice) {
             Ok(entry) => {
                 *effect = entry;
-                Ok(entered(Point::Int))
+                let need = need_entered(&self.processor, effect);
+                Ok(entered(Point::Int, need))
             }
             Err(a) => Err(End::Hazard(a)),
         }
     }
 
     /// An event is reached: it does something, or it meets a hazard, which ends the run.
-    #[inline(never)]
     fn reaches(&self, event: &Event, plan: &Schedule, effect: &mut Effect) -> Step
         requires below { (state_of self.now.processor).count < self.now.length }
         requires free { self.now.due ≡ Due.Nothing }
         requires chosen { choice_in (state_of self.now.processor) ≡ Ok None }
         requires stands { event_for self.now plan.now ≡ Some event.now }
         requires ranges { IsInRange event.now }
+        requires drained { IsDrained self.now.processor }
         ensures { IsStep self.now plan.now result effect.new }
     {
+        let need = need_reached(event);
         match plan_event(&self.processor, event) {
             Ok(planned) => {
                 *effect = planned;
-                reached(Some(Point::Event), Due::Nothing)
+                reached(Some(Point::Event), Due::Nothing, need)
             }
             Err(a) => {
                 effect.go(&self.processor, self.processor.ip());
-                reached(None, Due::End(End::Hazard(a)))
+                reached(None, Due::End(End::Hazard(a)), need)
             }
         }
     }
@@ -256,6 +285,7 @@ impl Machine {
         requires below { (state_of self.now.processor).count < self.now.length }
         requires free { self.now.due ≡ Due.Nothing }
         requires chosen { choice_in (state_of self.now.processor) ≡ Ok None }
+        requires drained { IsDrained self.now.processor }
         ensures { IsNext self.now plan.now result effect.new }
     {
         match standing(plan, self.processor.count()) {
@@ -274,6 +304,7 @@ impl Machine {
     ) -> Result<Step, End>
         requires below { (state_of self.now.processor).count < self.now.length }
         requires free { self.now.due ≡ Due.Nothing }
+        requires drained { IsDrained self.now.processor }
         ensures { IsNext self.now plan.now result effect.new }
     {
         match self.processor.choose() {
@@ -283,14 +314,15 @@ impl Machine {
         }
     }
 
-    /// What comes next: what is due, the end of the length, or what comes before or is the next instruction.
-    /// Its effect is made in `effect`.
+    /// What comes next where nothing is open: what is due, the end of the length, or what comes before or is
+    /// the next instruction. Its effect is made in `effect`.
     pub(super) fn next_step(
         &self,
         plan: &Schedule,
         memo: &mut Memo,
         effect: &mut Effect,
     ) -> Result<Step, End>
+        requires drained { IsDrained self.now.processor }
         ensures { IsNext self.now plan.now result effect.new }
     {
         match &self.due {

@@ -1,6 +1,6 @@
 //! What calls, returns, requests of software, the entries of faults and interrupts, and DMA make in the
 //! state that a processor stands for.
-ghost use Rattle.std.specs.Prelude.{◌≡◌, ◌%◌, ◌<◌, ◌&&◌, None, Some, IfOk, IfErr};
+ghost use Rattle.std.specs.Prelude.{◌≡◌, ◌%◌, ◌<◌, ◌&&◌, true, None, Some, IfOk, IfErr};
 ghost use Rattle.i9_model.specs.declared.layout.TheConstants.{FP, SP, PFP};
 ghost use Rattle.i9_model.specs.Memory.{with_writes};
 ghost use Rattle.i9_model.specs.Hazards.{unless, save_hazard, record_write_hazard};
@@ -22,7 +22,7 @@ use i9_model::Chosen;
 use i9_model::layout::{FP, PFP, SP};
 
 impl Processor {
-    ghost use Rattle.i9_processor.specs.State.{state_of};
+    ghost use Rattle.i9_processor.specs.State.{state_of, IsDrained};
 
     /// What a call to an address makes of the frames, or the hazard of its save area.
     #[tactic(auto, unfolding(crate::specs::State::state_of))]
@@ -35,8 +35,9 @@ impl Processor {
     }
 
     /// What a call of system procedure `n` makes; `Err` where there is no such number, or at a hazard.
-    #[tactic(auto, unfolding(crate::specs::State::state_of))]
+    #[tactic(auto, unfolding(crate::specs::State::state_of, crate::specs::State::queue_of))]
     pub fn plan_calls(&self, n: u32) -> Result<Sys, CallsStop>
+        requires drained { IsDrained self.now }
         ensures sys { result ≡ planned_calls (state_of self.now).memory (state_of self.now).frames (state_of self.now).tables.system_table n
             (state_of self.now).pc ((state_of self.now).regs FP) ((state_of self.now).regs SP) }
         ensures free { IfOk result (λ s. save_hazard (state_of self.now).frames s.push.save ≡ None) }
@@ -52,8 +53,9 @@ impl Processor {
     }
 
     /// What a return makes of the controls and of frames, or its hazard.
-    #[tactic(auto, unfolding(crate::specs::State::state_of))]
+    #[tactic(auto, unfolding(crate::specs::State::state_of, crate::specs::State::queue_of))]
     pub fn plan_ret(&self) -> Result<Pop, u32>
+        requires drained { IsDrained self.now }
         ensures { result ≡ planned_ret (state_of self.now).memory (state_of self.now).frames ((state_of self.now).regs PFP)
             ((state_of self.now).regs FP) (state_of self.now).pc (state_of self.now).ac }
     {
@@ -62,8 +64,9 @@ impl Processor {
     }
 
     /// What the entry of a fault makes, or the hazard or the dead entry that comes first.
-    #[tactic(auto, unfolding(crate::specs::State::state_of, i9_model::specs::Run::entry_in))]
+    #[tactic(auto, unfolding(crate::specs::State::state_of, crate::specs::State::queue_of, i9_model::specs::Run::entry_in))]
     pub fn plan_fault(&self, fault: &Fault) -> Result<Entry, FaultStop>
+        requires drained { IsDrained self.now }
         ensures entry { result ≡ entry_in (state_of self.now) fault.now }
         ensures free { IfOk result (λ e. save_hazard (state_of self.now).frames e.push.save ≡ None) }
         ensures aligned { IfOk result (λ e. e.push.save % 16 ≡ 0) }
@@ -80,8 +83,9 @@ impl Processor {
     }
 
     /// The interrupt that comes next, if there is one, or the hazard of a look at what software asks for.
-    #[tactic(auto, unfolding(crate::specs::State::state_of, i9_model::specs::Before::choice_in))]
+    #[tactic(auto, unfolding(crate::specs::State::state_of, crate::specs::State::queue_of, i9_model::specs::Before::choice_in))]
     pub fn choose(&self) -> Result<Option<Chosen>, u32>
+        requires drained { (state_of self.now).check ≡ true → IsDrained self.now }
         ensures { result ≡ choice_in (state_of self.now) }
     {
         if self.check {
@@ -93,8 +97,9 @@ impl Processor {
     }
 
     /// What the entry of an interrupt makes, or the hazard of the first access that meets one.
-    #[tactic(auto, unfolding(crate::specs::State::state_of, i9_model::specs::Before::interrupt_in))]
+    #[tactic(auto, unfolding(crate::specs::State::state_of, crate::specs::State::queue_of, i9_model::specs::Before::interrupt_in))]
     pub fn plan_interrupt(&self, c: &Chosen) -> Result<Entry, u32>
+        requires drained { IsDrained self.now }
         ensures entry { result ≡ interrupt_in (state_of self.now) c.now }
         ensures free { IfOk result (λ e. save_hazard (state_of self.now).frames e.push.save ≡ None) }
         ensures aligned { IfOk result (λ e. e.push.save % 16 ≡ 0) }
@@ -116,8 +121,9 @@ impl Processor {
     }
 
     /// The bytes that clear what chose an interrupt, behind its frame and its record.
-    #[tactic(auto, unfolding(crate::specs::State::state_of))]
+    #[tactic(auto, unfolding(crate::specs::State::state_of, crate::specs::State::queue_of))]
     pub fn clearing_bytes(&self, c: &Chosen, e: &Entry) -> Requests
+        requires drained { IsDrained self.now }
         requires record { record_write_hazard (state_of self.now).frames e.now.push ≡ None }
         requires clear { cleared_hazard (state_of self.now).memory (state_of self.now).frames
             (state_of self.now).tables.interrupt_table c.now e.now.push e.now.words ≡ None }
@@ -133,8 +139,9 @@ impl Processor {
 
     /// The bytes that a request of software for a vector stores, or the hazard of the first access that
     /// meets one.
-    #[tactic(auto, unfolding(crate::specs::State::state_of))]
+    #[tactic(auto, unfolding(crate::specs::State::state_of, crate::specs::State::queue_of))]
     pub fn plan_request(&self, vector: u8) -> Result<Requests, u32>
+        requires drained { IsDrained self.now }
         ensures ok { IfOk result (λ r. (request_hazard (state_of self.now).frames (state_of self.now).tables.interrupt_table vector ≡ None)
             × (requests_in r ≡ request_writes (state_of self.now).memory (state_of self.now).tables.interrupt_table vector)) }
         ensures err { IfErr result (λ a. request_hazard (state_of self.now).frames (state_of self.now).tables.interrupt_table vector ≡ Some a) }
@@ -147,13 +154,14 @@ impl Processor {
 
     /// The bytes of the next unit of DMA channel `c`, from memory or as a device gives them; None where
     /// nothing moves, and `Err` with the hazard that the unit meets.
-    #[tactic(auto, unfolding(crate::specs::State::state_of))]
+    #[tactic(auto, unfolding(crate::specs::State::state_of, crate::specs::State::queue_of))]
     pub fn plan_unit(
         &self,
         c: u8,
         given: Option<&[u8]>,
     ) -> Result<Option<ArrayVec<u8, MOST_BYTES>>, u32>
-        requires { c < 4 }
+        requires drained { IsDrained self.now }
+        requires channel { c < 4 }
         ensures { bytes_in result ≡ planned_bytes (state_of self.now).memory (state_of self.now).frames (state_of self.now).dma c (given_in given.entry) }
     {
         self.storage.plan_unit(&self.channels, c, given)

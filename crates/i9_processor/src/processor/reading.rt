@@ -2,7 +2,7 @@
 ghost use Rattle.std.specs.Prelude.{◌≡◌, ◌+◌, ◌*◌, ◌<◌, None};
 ghost use Rattle.i9_model.specs.declared.layout.TheConstants.{LOCALS};
 ghost use Rattle.i9_model.specs.Writes.{wrapped};
-ghost use Rattle.i9_model.specs.Memory.{half_in, word_in, half_bytes, word_bytes, is_big};
+ghost use Rattle.i9_model.specs.Memory.{half_in, word_in, half_bytes, word_bytes, is_big, waits_of};
 ghost use Rattle.i9_model.specs.Hazards.{read_hazard, write_hazard};
 ghost use Rattle.i9_model.specs.Frames.{flushed};
 ghost use Rattle.i9_model.specs.Overlay.{overlay};
@@ -174,6 +174,15 @@ impl Processor {
         ensures { result ≡ is_big (state_of self.now).memory region }
     {
         self.storage.big(region)
+    }
+
+    /// How many turns a region waits at a read, or at a write.
+    #[tactic(auto, unfolding(crate::specs::State::state_of))]
+    pub fn waits(&self, region: u8, write: bool) -> u64
+        requires { region < 16 }
+        ensures { result ≡ waits_of (state_of self.now).memory region write }
+    {
+        self.storage.waits(region, write)
     }
 
     /// The first byte of a read of `n` bytes from `a` up that is soft: only the save of a frame wrote it.

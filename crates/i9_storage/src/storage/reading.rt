@@ -2,7 +2,7 @@
 ghost use Rattle.std.specs.Prelude.{◌≡◌, ℕ, ◌+◌, ◌-◌, ◌*◌, ◌/◌, ◌%◌, ◌^◌, ◌<◌, false, None, IfNone, IfSome, length, slice_index, take};
 ghost use Rattle.i9_model.specs.declared.layout.TheConstants.{LOCALS, FRAME_SIZE};
 ghost use Rattle.i9_model.specs.Hazards.{read_hazard};
-ghost use Rattle.i9_model.specs.Memory.{in_port_page, is_big, half_in, word_in, words_in, half_bytes, word_bytes};
+ghost use Rattle.i9_model.specs.Memory.{in_port_page, is_big, waits_of, half_in, word_in, words_in, half_bytes, word_bytes};
 ghost use Rattle.i9_model.specs.Writes.{wrapped};
 ghost use Rattle.i9_model.specs.HeldFrames.{over, overlaid, AreWhole};
 ghost use Rattle.i9_storage.specs.Kept.{cache_in, laid_without, byte_in_frame};
@@ -98,6 +98,14 @@ impl Storage {
         ensures { result ≡ is_big (memory_in self.now) region }
     {
         self.behind.big(region)
+    }
+
+    /// How many turns a region waits at a read, or at a write.
+    pub fn waits(&self, region: u8, write: bool) -> u64
+        requires { region < 16 }
+        ensures { result ≡ waits_of (memory_in self.now) region write }
+    {
+        self.behind.waits(region, write)
     }
 
     /// The two bytes from `a` up, each from the youngest frame that has it.

@@ -12,7 +12,7 @@ returns-in-None-clause-standing c =
     let s = state_of c.args.p.now in
     let none : c.raised_in.result ≡ None = search rules in
     let plain = plain_stands i s c.requires.result c.requires.branch (c.results_by_name.ensures i _ _ _ _) in
-    sym (ap (by_raised i s) (sym c.raised_in.ensures ∙ none) ∙ plain ∙ ap (by_access i) c.in-None.ensures.0)
+    sym (ap (by_raised i s) (sym c.raised_in.ensures ∙ none) ∙ plain ∙ ap (by_access i) c.in-None.ensures.plans.0)
 
 pub returns-in-Some-plan-clause-standing : goal.returns-in-Some-plan-clause-standing
 unfolding hazard_of
@@ -21,4 +21,4 @@ returns-in-Some-plan-clause-standing c =
     let s = state_of c.args.p.now in
     let none : c.raised_in.result ≡ None = search rules in
     let plain = plain_stands i s c.requires.result c.requires.branch (c.results_by_name.ensures i _ _ _ _) in
-    sym (ap (by_raised i s) (sym c.raised_in.ensures ∙ none) ∙ plain ∙ ap (by_access i) c.in-Some-plan.ensures)
+    sym (ap (by_raised i s) (sym c.raised_in.ensures ∙ none) ∙ plain ∙ ap (by_access i) c.in-Some-plan.ensures.plans)

@@ -8,8 +8,8 @@ use Rattle.i9_plan.proofs.tracing.trace.Goals as goal
 pub trace_left-left-requires : goal.trace_left-left-requires
 trace_left-left-requires c = comes_after_flush (state_of c.args.p.now) c.args.i.now c.args.effect.now c.requires.clear c.requires.effect
 
-pub returns : goal.returns
-returns c =
+pub returns-clause-effect : goal.returns-clause-effect
+returns-clause-effect c =
     let i = c.args.i.now in
     let s = state_of c.args.p.now in
     let left = c.trace_left-left.result in

@@ -6,8 +6,14 @@ use Rattle.i9_model.specs.Hazards.{writes_hazard}
 use Rattle.i9_model.specs.HeldFrames.{cache_stored}
 use Rattle.i9_storage.specs.Storage.{cache_of, memory_in, frames_in}
 use Rattle.i9_processor.specs.Effect.{requests_in, run_in}
-use Rattle.i9_processor.proofs.Appending.{cache_append, memory_append, frames_append, first_free, later_free, spacious_kept}
+use Rattle.i9_processor.proofs.Appending.{cache_append, memory_append, frames_append, first_free, later_free, spacious_kept, longer_first, none_first, none_later}
+use Rattle.i9_processor.proofs.Applying.{run_long, run_none}
 use Rattle.i9_processor.proofs.apply.store_bytes.Goals as goal
+
+pub store_run-requires-clause-drained : goal.store_run-requires-clause-drained
+store_run-requires-clause-drained c some =
+    let e = c.args.e.now in
+    c.requires.drained (longer_first (run_in e) (requests_in e.requests) (run_long e.address e.bytes.items some))
 
 pub store_run-requires-clause-free : goal.store_run-requires-clause-free
 store_run-requires-clause-free c =
@@ -37,3 +43,9 @@ pub returns-clause-frames : goal.returns-clause-frames
 returns-clause-frames c =
     let e = c.args.e.now in
     c.store_requests.ensures.frames ∙ ap (λ (f : Frames). wrote f (requests_in e.requests)) c.store_run.ensures.frames ∙ frames_append (frames_in c.args.storage.now) (run_in e) (requests_in e.requests)
+
+pub returns-clause-acted : goal.returns-clause-acted
+returns-clause-acted c none =
+    let e = c.args.e.now in
+    c.store_requests.ensures.acted (none_later (run_in e) (requests_in e.requests) none)
+    ∙ c.store_run.ensures.acted (run_none e.address e.bytes.items (none_first (run_in e) (requests_in e.requests) none))

@@ -1,7 +1,11 @@
 use Rattle.std.proofs.Common.{arith}
+use Rattle.i9_model.proofs.Plans.{schedule_is_plan}
 use Rattle.i9_tool.specs.Outcome.{job_schedule_refused}
 use Rattle.i9_tool.proofs.Outcomes.{answers_unprinted, answers_with, some_job}
 use Rattle.i9_tool.proofs.job.schedule_job.Goals as goal
+
+pub run_job-requires-clause-plan : goal.run_job-requires-clause-plan
+run_job-requires-clause-plan g c = schedule_is_plan _ _ c.in-Ok.ensures.found
 
 pub returns-in-Err-Bad-clause-answers : goal.returns-in-Err-Bad-clause-answers
 returns-in-Err-Bad-clause-answers g c = λ source made.

@@ -1,7 +1,11 @@
 use Rattle.std.proofs.Common.{arith}
+use Rattle.i9_model.proofs.Plans.{schedule_is_plan}
 use Rattle.i9_tool.specs.Outcome.{schedule_refused}
 use Rattle.i9_tool.proofs.Outcomes.{answers_unprinted, answers_with, schedule_runs, some_plan, some_run}
 use Rattle.i9_tool.proofs.top.use_schedule.Goals as goal
+
+pub run_image-requires-clause-plan : goal.run_image-requires-clause-plan
+run_image-requires-clause-plan g c = schedule_is_plan _ _ c.in-Ok.ensures.found
 
 pub returns-in-Ok-clause-answers : goal.returns-in-Ok-clause-answers
 returns-in-Ok-clause-answers g c = schedule_runs _ _ _ _ _ _ _ c.requires.sized c.in-Ok.ensures.found c.run_image.ensures.answers

@@ -1,9 +1,12 @@
-use Rattle.std.proofs.Common.{ℕ, Option, List, ◌++◌, map, ap, ◌∙◌, append_assoc}
+use Rattle.std.proofs.Common.{ℕ, ◌+◌, ◌≤◌, sym, Option, List, ◌∷◌, ◌++◌, map, refl, ap, ◌∙◌, subst, append_assoc}
+use Rattle.i9_model.specs.declared.need.Need.{Need}
+use Rattle.i9_model.specs.Turns.{StandsFor, IsAllDone, with_need, placed_record}
 use Rattle.std.specs.Option.{option_copied}
 use Rattle.i9_model.specs.PrintedText.{Shown, out_lines, point_lines}
 use Rattle.i9_model.proofs.AlikeSteps.{view_alike}
 use Rattle.i9_processor.specs.State.{state_of}
-use Rattle.i9_machine.specs.Doing.{reached_lines, state_behind}
+use Rattle.i9_machine.specs.Doing.{reached_lines, state_behind, action_for}
+use Rattle.i9_machine.specs.Issuing.{Acts}
 use Rattle.i9_machine.specs.Line.{shown_of}
 use Rattle.i9_machine.proofs.machine.Machine.act.Goals as goal
 
@@ -21,3 +24,25 @@ returns-clause-lines c =
     ∙ append_assoc (old ++ event) bytes points
     ∙ append_assoc old event (bytes ++ points)
     ∙ ap (λ (b : Option ℕ). old ++ (event ++ (out_lines b ++ points))) c.console_byte.ensures
+
+pub returns-clause-issued : goal.returns-clause-issued
+returns-clause-issued c =
+    let m = c.args.self.now in
+    let marked = c.marked-need.ensures in
+    let place = c.place-placed in
+    let acts = c.apply.ensures in
+    record {
+      placed = place.result;
+      board = λ rs stands. subst (λ (n : Need). StandsFor place.new.self (placed_record n place.result ∷ rs)) marked (place.ensures.of_all rs stands);
+      timed = λ rs stands. subst (λ (n : Need). StandsFor place.new.self (with_need rs n)) marked (place.ensures.computed rs stands).0;
+      bound = λ b done waited.
+          subst (λ (n : ℕ). IsAllDone place.new.self (b + n)) (ap (λ (n : Need). n.cost) marked)
+          (place.ensures.bound b done (subst (λ (n : Need). n.not_before ≤ b) (sym marked) waited));
+      cost = c.requires.turns;
+      turn = refl;
+      floor = refl;
+      wait = refl;
+      done = refl;
+      acts = subst (λ (n : Need). Acts m.processor (record { writes = n.writes; done = place.result.done; request = n.request }) (action_for m c.args.effect.now) c.apply.new.self) marked
+          (record { cells = acts.cells; waits = acts.waits; acts = acts.acts; still = acts.still });
+    }

@@ -1,7 +1,10 @@
-use Rattle.std.proofs.Common.{ap, ◌∙◌}
+use Rattle.std.proofs.Common.{◌≤◌, sym, ap, ◌∙◌, subst}
+use Rattle.i9_model.specs.declared.need.Need.{Need}
 use Rattle.i9_model.specs.Run.{Interrupted, next_by_choice, next_by_interrupt}
 use Rattle.i9_processor.specs.State.{state_of}
 use Rattle.i9_machine.specs.Step.{event_for}
+use Rattle.i9_machine.specs.Issuing.{most_turns}
+use Rattle.i9_machine.proofs.Opening.{no_request_in}
 use Rattle.i9_machine.proofs.Stepping.{goes_on, no_event, tells_on}
 use Rattle.i9_machine.proofs.machine.Machine.interrupt.Goals as goal
 
@@ -25,6 +28,9 @@ returns-in-Ok c =
       reaches = step.reaches;
       event = no_event c.args.plan.now c.entered.result step.reaches;
       tells = tells_on (Interrupted choice plan.0) s c.entered.result.answer step.answer tt;
+      need = step.need ∙ c.need_entered-need.ensures.interrupt choice plan.0 plan.2;
+      cost = subst (λ (n : Need). n.cost ≤ most_turns) (sym step.need) c.need_entered-need.ensures.cost;
+      row = no_request_in (Interrupted choice plan.0) m c.entered.result.need (step.need ∙ c.need_entered-need.ensures.interrupt choice plan.0 plan.2) tt;
     }
 
 pub returns-in-Err : goal.returns-in-Err

@@ -9,10 +9,10 @@ pub faults-requires-clause-is_next : goal.faults-requires-clause-is_next
 faults-requires-clause-is_next c =
     let m = c.args.self.now in
     let r = c.requires in
-    (None, refl, goes_by_itself m c.args.plan.now r.free r.below r.chosen r.stands ∙ ap (next_by_standing (state_of m.processor)) (sym c.plan_next.ensures.standing ∙ ap standing_of c.in-Refused.is))
+    (None, refl, goes_by_itself m c.args.plan.now r.free r.below r.chosen r.stands ∙ ap (next_by_standing (state_of m.processor)) (sym c.plan_next.ensures.standing ∙ ap standing_of c.in-Refused.is), c.need_refused-need.ensures.need)
 
 pub faults-requires-in-Faults-clause-is_next : goal.faults-requires-in-Faults-clause-is_next
 faults-requires-in-Faults-clause-is_next c =
     let m = c.args.self.now in
     let r = c.requires in
-    (Some c.in-Faults.inst, c.word_count.ensures, goes_by_itself m c.args.plan.now r.free r.below r.chosen r.stands ∙ ap (next_by_standing (state_of m.processor)) (sym c.plan_next.ensures.standing ∙ ap standing_of c.in-Faults.is))
+    (Some c.in-Faults.inst, c.word_count.ensures, goes_by_itself m c.args.plan.now r.free r.below r.chosen r.stands ∙ ap (next_by_standing (state_of m.processor)) (sym c.plan_next.ensures.standing ∙ ap standing_of c.in-Faults.is), c.need_faulted-need.ensures.need)

@@ -1,19 +1,34 @@
 use Rattle.std.specs.Prelude.{◌-◌, vec_capacity, vec_len}
-use Rattle.std.proofs.Common.{◌≡◌, ℕ, ◌+◌, ◌≤◌, sym, ◌∙◌, subst}
+use Rattle.std.proofs.Common.{◌≡◌, ℕ, ◌+◌, ◌≤◌, List, ◌++◌, map, Option, refl, sym, ap, ◌∙◌, subst}
+use Rattle.std.specs.Option.{option_copied}
+use Rattle.i9_model.specs.declared.event.Event.{Event}
+use Rattle.i9_model.specs.HeldFrames.{Cache, renewed, cache_acted, cache_configured}
+use Rattle.i9_model.specs.PrintedText.{Shown}
+use Rattle.i9_machine.specs.declared.line.Line.{Line}
+use Rattle.i9_machine.specs.Line.{shown_of}
 use Rattle.i9_model.specs.State.{State}
 use Rattle.i9_model.specs.Step.{Action, moved}
-use Rattle.i9_model.specs.Run.{record_of}
+use Rattle.i9_model.specs.declared.need.Need.{Need}
+use Rattle.i9_model.specs.Run.{record_of, action_by_kind}
+use Rattle.i9_model.specs.Turns.{Pending, HasCost, waiting_until}
+use Rattle.i9_issue.specs.Room.{IsEarly}
+use Rattle.i9_course.specs.Course.{records_of}
+use Rattle.i9_course.proofs.Timed.{need_cost}
 use Rattle.i9_model.specs.Alike.{AreAlike}
 use Rattle.i9_model.specs.Free.{IsFree}
 use Rattle.i9_model.proofs.HeldRuns.{next_free}
-use Rattle.i9_processor.specs.Effect.{action_in, move_in, CanControl, CanTake}
-use Rattle.i9_processor.specs.State.{state_of}
-use Rattle.i9_processor.proofs.NewSets.{made_takes}
+use Rattle.i9_processor.specs.Effect.{action_in, move_in, size_with, CanControl, CanTake}
+use Rattle.i9_processor.specs.State.{state_of, cache_of, size_of}
+use Rattle.i9_processor.proofs.NewSets.{made_size, made_takes}
 use Rattle.i9_machine.specs.declared.line.Turn.{Turn}
-use Rattle.i9_machine.specs.StandsFor.{LeavesFewer}
-use Rattle.i9_machine.specs.Doing.{event_in, HasRoomForStep, IsReady, state_behind_of}
-use Rattle.i9_machine.specs.Step.{TellsRecord, event_for, steps_left}
-use Rattle.i9_machine.proofs.Stepping.{no_memory, fewer_by, did_fewer, did_within, behind_alike, step_within, step_room, plan_is_behind}
+use Rattle.i9_machine.specs.StandsFor.{LeavesFewer, left_after}
+use Rattle.i9_machine.specs.Issuing.{IsIssued}
+use Rattle.i9_machine.proofs.Issuing.{waits_for_none}
+use Rattle.i9_machine.proofs.Turning.{paced_early}
+use Rattle.i9_machine.proofs.Performing.{step_covers, step_acts, step_issues, unmoved_issued}
+use Rattle.i9_machine.specs.Doing.{event_in, lines_of, asks_room, HasRoomForStep, IsReady, state_behind_of}
+use Rattle.i9_machine.specs.Step.{TellsRecord, Did, Steps, Issues, event_for, steps_left}
+use Rattle.i9_machine.proofs.Stepping.{no_memory, did_steps, step_lines, step_needs, fewer_by, did_fewer, record_fewer, did_within, behind_alike, step_within, step_room, plan_is_behind}
 use Rattle.i9_machine.proofs.machine.Machine.perform.Goals as goal
 
 pub go_on-requires : goal.go_on-requires
@@ -62,9 +77,10 @@ returns-in-Ok-clause-fewer c =
     let bound : new.length ≡ old.length = c.act-answer.ensures.length ∙ c.make_room.ensures.same.length in
     let alike = subst (λ (t : State). AreAlike (state_behind_of t c.args.effect.now c.args.step.now) (state_of new.processor)) c.make_room.ensures.same.state c.act-answer.ensures.state in
     let after = behind_alike old was c.args.step.now c.args.effect.now (state_of new.processor) step alike in
-    let fewer = did_fewer old new was plan (record_of step.kind s) old.below step.is_next after (c.act-answer.ensures.due ∙ step.due) bound (c.go_on.ensures ∙ plan_is_behind old was c.args.step.now c.args.effect.now step) in
+    let left = did_fewer old new was plan (record_of step.kind s) old.below step.is_next after (c.act-answer.ensures.due ∙ step.due) bound (c.go_on.ensures ∙ plan_is_behind old was c.args.step.now c.args.effect.now step) in
     subst (λ (t : Turn). LeavesFewer t (steps_left old was) (steps_left new plan)) (sym c.act-answer.ensures.answer)
-    (fewer_by c.args.step.now.answer s step.kind (steps_left old was) (steps_left new plan) step.tells fewer)
+    (fewer_by c.args.step.now.answer s step.kind (steps_left old was) (steps_left new plan) step.tells
+    (record_fewer old new was plan left (c.act-answer.ensures.issued.turn ∙ c.make_room.ensures.same.unmoved.turn)))
 
 pub returns-in-Ok-clause-lacking : goal.returns-in-Ok-clause-lacking
 returns-in-Ok-clause-lacking c = λ is room.
@@ -79,3 +95,107 @@ returns-in-Err-clause-lacking c = λ is room.
     let spare = vec_capacity out - vec_len out in
     c.in-Err.ensures.lacking (subst (HasRoomForStep c.args.self.now spare c.args.effect.now c.args.step.now) (sym c.event-event.ensures.event)
     (step_room c.args.self.now c.args.plan.now spare c.args.step.now c.args.effect.now c.requires.step room))
+
+pub act-answer-requires-clause-cost : goal.act-answer-requires-clause-cost
+act-answer-requires-clause-cost c =
+    let m = c.args.self.now in
+    subst HasCost (sym c.requires.step.need) (need_cost (size_of m.processor) (cache_of m.processor) (state_of m.processor) c.requires.step.kind)
+
+pub act-answer-requires-clause-early : goal.act-answer-requires-clause-early
+act-answer-requires-clause-early c =
+    let m = c.args.self.now in
+    let u = c.requires.stands in
+    let step = c.requires.step in
+    let same = c.make_room.ensures.same.unmoved in
+    let none = ap (λ (n : Need). n.not_before) step.need ∙ waits_for_none (size_of m.processor) (cache_of m.processor) (state_of m.processor) step.kind in
+    let early = paced_early m (left_after u.given (records_of u.items)) c.args.step.now.need u.stands.paced none step.cost in
+    subst (λ (b : Pending). IsEarly b (waiting_until c.make_room.new.self.floor c.args.step.now.need)) (sym same.board)
+    (subst (λ (f : ℕ). IsEarly m.board (waiting_until f c.args.step.now.need)) (sym same.floor) early)
+
+pub act-answer-requires-clause-covered : goal.act-answer-requires-clause-covered
+act-answer-requires-clause-covered c =
+    step_covers c.args.self.now c.make_room.new.self c.args.plan.now c.args.step.now c.args.effect.now c.requires.step c.make_room.ensures.same.state
+
+pub act-answer-requires-clause-acts : goal.act-answer-requires-clause-acts
+act-answer-requires-clause-acts c =
+    let same = c.make_room.ensures.same in
+    step_acts c.args.self.now c.make_room.new.self c.args.plan.now c.args.step.now c.args.effect.now c.requires.stands c.requires.now c.requires.step
+    same.state same.unmoved.queue same.unmoved.board same.unmoved.floor
+
+pub returns-in-Ok-clause-issues : goal.returns-in-Ok-clause-issues
+returns-in-Ok-clause-issues c =
+    let old = c.args.self.now in
+    let mid = c.make_room.new.self in
+    let new = c.act-answer.new.self in
+    let step = c.requires.step in
+    let s = state_of old.processor in
+    let same = c.make_room.ensures.same in
+    let action : action_in (state_of mid.processor) c.args.effect.now ≡ action_by_kind step.kind s =
+    ap (λ (t : State). action_in t c.args.effect.now) same.state ∙ step.effect.same in
+    let issued = subst (λ (a : Action). IsIssued mid c.args.step.now.need a new) action c.act-answer.ensures.issued in
+    subst (λ (t : Turn). Issues old t new c.args.plan.now) (sym c.act-answer.ensures.answer)
+    (step_issues c.args.step.now.answer step.kind s old new c.args.plan.now step.tells (record {
+      kind = step.kind;
+      is_next = step.is_next;
+      need = c.args.step.now.need;
+      is_need = step.need;
+      issued = unmoved_issued old mid new c.args.step.now.need (action_by_kind step.kind s) same.unmoved issued;
+    }))
+
+pub returns-in-Ok-clause-steps : goal.returns-in-Ok-clause-steps
+returns-in-Ok-clause-steps c =
+    let old = c.args.self.now in
+    let mid = c.make_room.new.self in
+    let new = c.act-answer.new.self in
+    let was = c.args.plan.now in
+    let step = c.requires.step in
+    let s = state_of old.processor in
+    let e = c.args.effect.now in
+    let same = c.make_room.ensures.same in
+    let act = c.act-answer.ensures in
+    let regions = (state_of new.processor).memory in
+    let alike = subst (λ (t : State). AreAlike (state_behind_of t e c.args.step.now) (state_of new.processor)) same.state act.state in
+    let action : action_in (state_of mid.processor) e ≡ action_by_kind step.kind s = ap (λ (t : State). action_in t e) same.state ∙ step.effect.same in
+    let done : Did old c.args.step.now.answer new was c.go_on.new.plan c.args.out.now.items c.act-answer.new.out.items = record {
+      done = record_of step.kind s;
+      is_next = step.is_next;
+      state = behind_alike old was c.args.step.now e (state_of new.processor) step alike;
+      cache =
+          act.cache
+          ∙ ap (λ (n : ℕ). cache_configured regions (cache_acted n (action_in (state_of mid.processor) e) (cache_of mid.processor))) same.size
+          ∙ ap (λ (a : Action). cache_configured regions (cache_acted (size_of old.processor) a (cache_of mid.processor))) action
+          ∙ ap (λ (d : Cache). cache_configured regions (cache_acted (size_of old.processor) (action_by_kind step.kind s) d)) same.cache;
+      size =
+          act.size
+          ∙ ap (size_with c.in-Ok.sets) same.size
+          ∙ made_size old.sets s.memory e.control c.in-Ok.sets (size_of old.processor) c.in-Ok.ensures.made
+          ∙ ap (λ (a : Action). renewed old.sets s.memory a.control (size_of old.processor)) step.effect.same;
+      due = act.due ∙ step.due;
+      length = act.length ∙ same.length;
+      sets = act.sets ∙ same.sets;
+      ended = act.ended ∙ c.make_room.ensures.ended ∙ c.requires.running;
+      behind = c.go_on.ensures ∙ plan_is_behind old was c.args.step.now e step;
+      lines =
+          act.lines
+          ∙ ap (λ (ls : List Line). map shown_of ls ++ lines_of e c.args.step.now (option_copied c.event-event.result) (state_of mid.processor)
+          (state_behind_of (state_of mid.processor) e c.args.step.now)) c.make_room.ensures.items
+          ∙ ap (λ (t : State). map shown_of c.args.out.now.items ++ lines_of e c.args.step.now (option_copied c.event-event.result) t (state_behind_of t e c.args.step.now))
+          same.state
+          ∙ ap (λ (o : Option Event). map shown_of c.args.out.now.items ++ lines_of e c.args.step.now o s (state_behind_of s e c.args.step.now)) c.event-event.ensures.event
+          ∙ ap (λ (ls : List Shown). map shown_of c.args.out.now.items ++ ls) (step_lines old was c.args.step.now e step);
+      tells = step.tells;
+    } in
+    subst (λ (t : Turn). Steps old t new was c.go_on.new.plan c.args.out.now.items c.act-answer.new.out.items) (sym act.answer)
+    (did_steps old c.args.step.now.answer new was c.go_on.new.plan c.args.out.now.items c.act-answer.new.out.items s step.kind step.tells done)
+
+pub returns-in-Err-clause-steps : goal.returns-in-Err-clause-steps
+returns-in-Err-clause-steps c =
+    let old = c.args.self.now in
+    record {
+      same = c.make_room.ensures.same;
+      ended = c.make_room.ensures.ended ∙ c.requires.running;
+      kept = refl;
+      lines = c.make_room.ensures.items;
+      needed = step_needs old c.args.plan.now c.args.step.now c.args.effect.now c.requires.step
+          (ap (asks_room (state_of old.processor) c.args.effect.now c.args.step.now) (sym c.event-event.ensures.event) ∙ c.in-Err.ensures.needed);
+    }

@@ -1,10 +1,13 @@
-use Rattle.std.proofs.Common.{Option, Result, ℕ, ap, ◌∙◌, subst}
+use Rattle.std.proofs.Common.{Option, Result, ℕ, ◌≤◌, sym, ap, ◌∙◌, subst}
+use Rattle.i9_model.specs.declared.need.Need.{Need}
 use Rattle.i9_model.specs.declared.event.Event.{Event}
 use Rattle.i9_model.specs.Before.{Received}
 use Rattle.i9_model.specs.Step.{going}
 use Rattle.i9_model.specs.Run.{Reached, Blocked, Does, record_of, reached_kind, next_by_event}
 use Rattle.i9_processor.specs.Effect.{IsEffect}
-use Rattle.i9_processor.specs.State.{state_of}
+use Rattle.i9_processor.specs.State.{state_of, cache_of, size_of}
+use Rattle.i9_machine.specs.Issuing.{most_turns}
+use Rattle.i9_machine.proofs.Opening.{no_request_in}
 use Rattle.i9_machine.proofs.Stepping.{goes_by_event, one_event, tells_on}
 use Rattle.i9_machine.proofs.machine.Machine.reaches.Goals as goal
 
@@ -28,6 +31,10 @@ returns-in-Ok c =
       reaches = step.reaches;
       event = one_event m c.args.plan.now c.reached.result event step.reaches c.requires.stands;
       tells = tells_on (Reached event plan.0) s c.reached.result.answer step.answer tt;
+      need = step.need ∙ c.need_reached-need.ensures.reached (size_of m.processor) (cache_of m.processor) s plan.0;
+      cost = subst (λ (n : Need). n.cost ≤ most_turns) (sym step.need) c.need_reached-need.ensures.cost;
+      row = no_request_in (Reached event plan.0) m c.reached.result.need
+          (step.need ∙ c.need_reached-need.ensures.reached (size_of m.processor) (cache_of m.processor) s plan.0) tt;
     }
 
 pub returns-in-Err : goal.returns-in-Err
@@ -49,4 +56,8 @@ returns-in-Err c =
       reaches = step.reaches;
       event = one_event m c.args.plan.now c.reached-in-Err.result event step.reaches c.requires.stands;
       tells = tells_on (Blocked event c.in-Err.a) s c.reached-in-Err.result.answer step.answer tt;
+      need = step.need ∙ c.need_reached-need.ensures.blocked (size_of m.processor) (cache_of m.processor) s c.in-Err.a;
+      cost = subst (λ (n : Need). n.cost ≤ most_turns) (sym step.need) c.need_reached-need.ensures.cost;
+      row = no_request_in (Blocked event c.in-Err.a) m c.reached-in-Err.result.need
+          (step.need ∙ c.need_reached-need.ensures.blocked (size_of m.processor) (cache_of m.processor) s c.in-Err.a) tt;
     }

@@ -1,8 +1,12 @@
-use Rattle.std.proofs.Common.{refl, sym, ap, ◌∙◌, subst}
+use Rattle.std.proofs.Common.{ℕ, List, refl, sym, ap, ◌∙◌, subst}
+use Rattle.i9_model.specs.declared.need.Cell.{Cell}
 use Rattle.i9_model.specs.Step.{moved, flagged, acted, counted}
 use Rattle.i9_model.specs.Alike.{AreAlike}
-use Rattle.i9_processor.specs.Effect.{action_in}
-use Rattle.i9_processor.specs.State.{state_of}
+use Rattle.i9_storage.specs.declared.storage.Storage.{Storage}
+use Rattle.i9_storage.specs.Storage.{waiting_in, acted_in}
+use Rattle.i9_processor.specs.Effect.{action_in, control_in}
+use Rattle.i9_processor.specs.Issued.{IsIssued}
+use Rattle.i9_processor.specs.State.{state_of, cells_of, bytes_of, queue_of}
 use Rattle.i9_processor.proofs.Applying.{moved_alike_by, can_alike, applied_alike, counted_alike}
 use Rattle.i9_processor.proofs.processor.Processor.apply.Goals as goal
 
@@ -22,3 +26,53 @@ returns-clause-state c =
     let alike = moved_alike_by p a c.do_moves.new.self c.requires.free c.do_moves.ensures.state c.do_moves.ensures.memory c.do_moves.ensures.cache in
     let controlled = applied_alike c.args.e.now.control s (state_of c.do_moves.new.self) (state_of c.renew.new.self) a refl c.requires.controls alike (c.renew.ensures.state ∙ c.flag.ensures.state ∙ ap (flagged c.args.e.now.trace) c.control.ensures.state) in
     subst (AreAlike (counted c.args.counts (acted s a))) (sym c.add_count.ensures.state) (counted_alike c.args.counts (acted s a) (state_of c.renew.new.self) controlled)
+
+pub returns-clause-cells : goal.returns-clause-cells
+unfolding state_of cells_of
+returns-clause-cells c =
+    let l = c.args.landing.now in
+    let olds = c.args.self.now.file in
+    let done = c.control.ensures.issued olds c.do_moves.ensures.issued in
+    let files = c.add_count.ensures.file ∙ c.renew.ensures.file ∙ c.flag.ensures.file in
+    let flags = c.add_count.ensures.flags ∙ c.renew.ensures.flags ∙ c.flag.ensures.flags in
+    let last : IsIssued l.writes l.done c.add_count.new.self.flags olds c.add_count.new.self.file =
+    subst (λ (n : ℕ). IsIssued l.writes l.done n olds c.add_count.new.self.file) (sym flags)
+    (subst (λ (cs : List Cell). IsIssued l.writes l.done c.control.new.self.flags olds cs) (sym files) done) in
+    last.each
+
+-- flags of trace events, new sets and the count leave what waits
+pub returns-clause-waits : goal.returns-clause-waits
+unfolding bytes_of queue_of
+returns-clause-waits c asks =
+    let keeps = ap control_in (c.requires.acts.0 asks).control in
+    let counted = c.add_count.ensures.storage in
+    let flagged = c.flag.ensures.storage in (
+      ap (λ (s : Storage). (acted_in s).bytes) counted
+          ∙ c.renew.ensures.bytes
+          ∙ ap (λ (s : Storage). (acted_in s).bytes) flagged
+          ∙ c.control.ensures.bytes keeps
+          ∙ (c.do_moves.ensures.waits asks).0,
+      ap (λ (s : Storage). waiting_in s) counted
+          ∙ c.renew.ensures.queue
+          ∙ ap (λ (s : Storage). waiting_in s) flagged
+          ∙ c.control.ensures.queue
+          ∙ (c.do_moves.ensures.waits asks).1,
+    )
+
+pub returns-clause-acts : goal.returns-clause-acts
+unfolding queue_of
+returns-clause-acts c rests =
+    ap (λ (s : Storage). waiting_in s) c.add_count.ensures.storage
+    ∙ c.renew.ensures.queue
+    ∙ ap (λ (s : Storage). waiting_in s) c.flag.ensures.storage
+    ∙ c.control.ensures.queue
+    ∙ c.do_moves.ensures.acts rests
+
+pub returns-clause-still : goal.returns-clause-still
+unfolding bytes_of
+returns-clause-still c rests still =
+    ap (λ (s : Storage). (acted_in s).bytes) c.add_count.ensures.storage
+    ∙ c.renew.ensures.bytes
+    ∙ ap (λ (s : Storage). (acted_in s).bytes) c.flag.ensures.storage
+    ∙ c.control.ensures.bytes still.control
+    ∙ c.do_moves.ensures.still rests still

@@ -1,15 +1,18 @@
-use Rattle.std.proofs.Common.{◌≡◌, false, ap, ◌∙◌}
+use Rattle.std.proofs.Common.{◌≡◌, false, None, ap, ◌∙◌}
 use Rattle.i9_memory.specs.Memory.{memory_of}
 use Rattle.i9_model.specs.Image.{pairs_of}
 use Rattle.i9_model.specs.Memory.{Memory, with_writes}
 use Rattle.i9_model.specs.Boot.{boot_setup, boot_memory}
-use Rattle.i9_model.specs.State.{image_memory, started, boot}
-use Rattle.i9_model.specs.HeldFrames.{over, overlaid}
+use Rattle.i9_model.specs.Late.{cell, resource}
+use Rattle.i9_model.specs.State.{State, image_memory, started, boot}
+use Rattle.i9_model.specs.HeldFrames.{Cache, over, overlaid}
 use Rattle.i9_model.specs.declared.layout.TheConstants.{BOOT_PC}
-use Rattle.i9_processor.specs.State.{registers_of, state_of}
+use Rattle.i9_processor.specs.State.{registers_of, state_of, cells_of, bytes_of}
 use Rattle.i9_storage.specs.Storage.{memory_in, frames_in}
 use Rattle.i9_processor.proofs.RegisterList.{registers_of-zeros}
 use Rattle.i9_processor.proofs.Applying.{sets_few}
+use Rattle.i9_processor.proofs.Drained.{drained_acted}
+use Rattle.i9_processor.proofs.Issued.{new_still, cell_resource}
 use Rattle.i9_processor.proofs.processor.Processor.boot.Goals as goal
 
 pub set_count-requires-clause-read : goal.set_count-requires-clause-read
@@ -25,7 +28,7 @@ returns-clause-state c =
     let storage = c.in_ok-storage.storage in
     let memory : memory_in storage ≡ boot_memory (image_memory pairs) = ap overlaid c.in_ok-storage.ensures.cache ∙ c.boot-setup.ensures.memory ∙ ap boot_memory loaded in
     let file = c.set_arithmetic.new.file in
-    let kept : state_of record { file = file; ip = c.aligned.result; flags = c.set_arithmetic.new.flags; pc = BOOT_PC; tc = c.start_trace_controls.result; check = false; ints = c.start_interrupts.result; channels = c.new-2.result; breaks = c.start_breaks.result; tables = c.tables_of.result; count = 0; storage = storage; drained = c.in_ok-storage.ensures.waiting } ≡ started c.boot-setup.result (registers_of c.new-file.result) 0 (memory_in storage) (frames_in storage) =
+    let kept : state_of record { file = file; ip = c.aligned.result; flags = c.set_arithmetic.new.flags; pc = BOOT_PC; tc = c.start_trace_controls.result; check = false; ints = c.start_interrupts.result; channels = c.new-2.result; breaks = c.start_breaks.result; tables = c.tables_of.result; count = 0; storage = storage } ≡ started c.boot-setup.result (registers_of c.new-file.result) 0 (memory_in storage) (frames_in storage) =
     λ i. record {
       regs = (c.set_arithmetic.ensures.registers ∙ c.start_registers.ensures.registers) i;
       ip = c.aligned.ensures i;
@@ -42,3 +45,21 @@ returns-clause-state c =
     } in
     let none = ap registers_of c.new-file.ensures ∙ registers_of-zeros 33 in
     kept ∙ (λ i. started (setup i) (none i) 0 (memory i) (c.in_ok-storage.ensures.frames i))
+
+pub returns-clause-cells : goal.returns-clause-cells
+unfolding state_of cells_of
+returns-clause-cells c r few =
+    let file = c.set_arithmetic.new.file in
+    let flags = c.set_arithmetic.new.flags in
+    let still = c.set_arithmetic.ensures.still (c.start_registers.ensures.still (new_still c.new-file.result c.new-file.ensures)) in
+    cell_resource flags c.boot-setup.result.ac file still c.set_arithmetic.ensures.code c.set_arithmetic.ensures.ac r few
+    ∙ ap (λ (s : State). cell (resource s r) None) (returns-clause-state c)
+
+pub returns-clause-bytes : goal.returns-clause-bytes
+unfolding bytes_of boot started
+returns-clause-bytes c =
+    let pairs = pairs_of c.args.image.now in
+    let loaded : memory_of c.load.new.memory ≡ image_memory pairs = c.in_ok-load.ensures ∙ ap (λ (m : Memory). with_writes m pairs) c.new-memory.ensures in
+    drained_acted c.in_ok-storage.storage c.in_ok-storage.ensures.waiting
+    ∙ ap (λ (k : Cache). k.behind.bytes) c.in_ok-storage.ensures.cache
+    ∙ ap (λ (m : Memory). m.bytes) (c.boot-setup.ensures.memory ∙ ap boot_memory loaded)

@@ -1,0 +1,124 @@
+-- What comes next while something is open: it waits for all, or is an instruction.
+use Rattle.std.proofs.Common.{◌≡◌, ◌≢◌, ℕ, Bool, true, false, cond, ◌&&◌, eqb, Option, Some, None, Result, Ok, Err, refl, sym, ap, ◌∙◌, subst, inr}
+use Rattle.std.specs.Prelude.{IsTrue}
+use Rattle.i9_isa.specs.declared.inst.Inst.{Inst}
+use Rattle.i9_model.specs.declared.event.Event.{Event}
+use Rattle.i9_model.specs.declared.faults.Entry.{Entry}
+use Rattle.i9_model.specs.declared.faults.FaultStop.{FaultStop}
+use Rattle.i9_model.specs.declared.faults.FaultStop.TheVariants as stops
+use Rattle.i9_model.specs.declared.interrupts.Chosen.{Chosen}
+use Rattle.i9_model.specs.declared.need.Need.{Need}
+use Rattle.i9_model.specs.declared.run.Due.{Due}
+use Rattle.i9_model.specs.declared.run.Due.TheVariants as dues
+use Rattle.i9_model.specs.declared.run.End.TheVariants.{Limit}
+use Rattle.i9_model.specs.Before.{Received, choice_in, interrupt_in, received_in}
+use Rattle.i9_model.specs.HeldFrames.{Cache, sets_in}
+use Rattle.i9_model.specs.Needs.{is_request_name}
+use Rattle.i9_model.specs.State.{State}
+use Rattle.i9_model.specs.Run.{Kind, Instruction, Faulted, Entered, Interrupted, Reached, Blocked, Next, Does, Ends, record_of, reached_kind, entry_in, next_by_entry, next_by_event, next_by_interrupt, next_by_choice, next_in}
+use Rattle.i9_schedule.specs.Plan.{Plan}
+use Rattle.i9_course.specs.NeedOf.{need_of, need_ahead}
+use Rattle.i9_course.proofs.LateAlike.{sets_alike}
+use Rattle.i9_processor.specs.declared.effect.Effect.{Effect}
+use Rattle.i9_processor.specs.State.{state_of, cache_of, size_of}
+use Rattle.i9_plan.specs.Planned.{IsInRow}
+use Rattle.i9_machine.specs.declared.machine.Machine.{Machine}
+use Rattle.i9_machine.specs.Opening.{NextWaits}
+use Rattle.i9_machine.specs.Step.{event_for, next_for}
+
+-- ---- what waits for all
+
+-- whatever number of sets is asked for, and whatever is held
+abbrev IsHeldBack : Next → Type 0
+IsHeldBack o = (asked : Option ℕ) (c : Cache) → IsTrue (need_ahead asked c o).barrier
+
+entry_held : (s : State) (p : Result Entry FaultStop) → IsHeldBack (next_by_entry s p)
+unfolding need_of
+entry_held s (Ok x) asked c = refl
+entry_held s (Err (stops.Hazard a)) asked c = refl
+entry_held s (Err (stops.Dead code a)) asked c = refl
+
+reached_held : (s : State) (e : Event) (p : Result Received ℕ) → IsHeldBack (Does (record_of (reached_kind e p) s))
+unfolding need_of
+reached_held s e (Ok u) asked c = refl
+reached_held s e (Err a) asked c = refl
+
+interrupt_held : (s : State) (x : Chosen) (p : Result Entry ℕ) → IsHeldBack (next_by_interrupt s x p)
+unfolding need_of
+interrupt_held s x (Ok e) asked c = refl
+interrupt_held s x (Err a) asked c = refl
+
+choice_held : (s : State) (o : Option Event) (p : Result (Option Chosen) ℕ) → p ≢ Ok None → IsHeldBack (next_by_choice o s p)
+choice_held s o (Ok (Some x)) other = interrupt_held s x (interrupt_in s x)
+choice_held s o (Ok None) other = absurd (other refl)
+choice_held s o (Err a) other = λ asked c. refl
+
+-- by what is due, the length, the choice of an interrupt, and the event that stands there
+due_held : (limit : ℕ) (due : Due) (o : Option Event) (s : State) → due ≢ dues.Nothing → IsHeldBack (next_in limit due o s)
+due_held limit (dues.End f) o s other = λ asked c. refl
+due_held limit (dues.Entry fault) o s other = entry_held s (entry_in s fault)
+due_held limit dues.Nothing o s other = absurd (other refl)
+
+limit_held : (limit : ℕ) (o : Option Event) (s : State) → (eqb s.count limit) ≡ true → IsHeldBack (next_in limit dues.Nothing o s)
+limit_held limit o s at = subst IsHeldBack (ap (λ (b : Bool). cond b (Ends Limit) (next_by_choice o s (choice_in s))) (sym at)) (λ asked c. refl)
+
+pub due_waits : (m : Machine) (plan : Plan) → m.due ≢ dues.Nothing → NextWaits m plan
+due_waits m plan other = inr (due_held m.length m.due (event_for m plan) (state_of m.processor) other)
+
+held_by : (m : Machine) (plan : Plan) (o : Next) → next_for m plan ≡ o → IsHeldBack o → NextWaits m plan
+held_by m plan o is held = inr (subst IsHeldBack (sym is) held)
+
+pub limit_waits : (m : Machine) (plan : Plan) → m.due ≡ dues.Nothing → eqb (state_of m.processor).count m.length ≡ true → NextWaits m plan
+limit_waits m plan none at = held_by m plan (next_in m.length dues.Nothing (event_for m plan) (state_of m.processor))
+    (ap (λ (d : Due). next_in m.length d (event_for m plan) (state_of m.processor)) none)
+    (limit_held m.length (event_for m plan) (state_of m.processor) at)
+
+pub choice_waits : (m : Machine) (plan : Plan) → next_for m plan ≡ next_by_choice (event_for m plan) (state_of m.processor) (choice_in (state_of m.processor))
+    → choice_in (state_of m.processor) ≢ Ok None → NextWaits m plan
+choice_waits m plan is other = held_by m plan _ is (choice_held (state_of m.processor) (event_for m plan) (choice_in (state_of m.processor)) other)
+
+pub event_waits : (m : Machine) (plan : Plan) (e : Event) → next_for m plan ≡ next_by_event (event_for m plan) (state_of m.processor)
+    → event_for m plan ≡ Some e → NextWaits m plan
+event_waits m plan e is stands =
+    let s = state_of m.processor in
+    held_by m plan (next_by_event (Some e) s) (is ∙ ap (λ (o : Option Event). next_by_event o s) stands) (reached_held s e (received_in s e))
+
+-- a need that waits for all does so whatever number of sets is asked for, and whatever is held
+pub barrier_waits : (m : Machine) (plan : Plan) (k : Kind) (need : Need) → next_for m plan ≡ Does (record_of k (state_of m.processor))
+    → need ≡ need_of (size_of m.processor) (cache_of m.processor) (state_of m.processor) k → need.barrier ≡ true → NextWaits m plan
+barrier_waits m plan k need is is_need barrier =
+    let s = state_of m.processor in
+    held_by m plan (Does (record_of k s)) is
+    (λ asked c. (sets_alike (sets_in asked s) (size_of m.processor) c (cache_of m.processor) s k).barrier
+    ∙ ap (λ (n : Need). n.barrier) (sym is_need) ∙ barrier)
+
+-- ---- what is no request
+
+-- a kind of record that is none
+abbrev IsNone : Kind → Type 0
+IsNone (Instruction i) = ⊥
+IsNone (Faulted inst fault) = ⊥
+IsNone _ = Unit {0}
+
+none_requests : (k : Kind) (n : ℕ) (c : Cache) (s : State) → IsNone k → (need_of n c s k).request ≡ false
+unfolding need_of
+none_requests (Instruction i) n c s h = absurd h
+none_requests (Faulted inst fault) n c s h = absurd h
+none_requests (Entered e) n c s h = refl
+none_requests (Interrupted x e) n c s h = refl
+none_requests (Reached e u) n c s h = refl
+none_requests (Blocked e a) n c s h = refl
+
+pub no_request_in : (k : Kind) (m : Machine) (need : Need) {e : Effect} → need ≡ need_of (size_of m.processor) (cache_of m.processor) (state_of m.processor) k
+    → IsNone k → need.request ≡ true → IsInRow e
+no_request_in k m need is none request =
+    absurd (cc (sym (none_requests k (size_of m.processor) (cache_of m.processor) (state_of m.processor) none) ∙ ap (λ (n : Need). n.request) (sym is) ∙ request))
+
+-- an instruction is one by its name alone
+pub request_named : (i : Inst) (n : ℕ) (c : Cache) (s : State) → (need_of n c s (Instruction i)).request ≡ true → is_request_name i.op ≡ true
+unfolding need_of
+request_named i n c s h = by_name (is_request_name i.op) h
+  where
+    by_name : (b : Bool) → (b && true) ≡ true → b ≡ true
+    by_name true h = refl
+    by_name false h = absurd (cc h)

@@ -1,0 +1,73 @@
+-- A run begins far below the largest turn.
+use Rattle.std.proofs.Common.{◌≡◌, ℕ, ◌+◌, ◌*◌, ◌^◌, ◌<◌, ◌≤◌, List, [], ◌∷◌, length, None, refl, sym, subst, arith}
+use Rattle.std.specs.List.{AllByRecursion}
+use Rattle.std.proofs.Math.Pow.{pow_mono}
+use Rattle.i9_model.specs.declared.event.Event.{Event}
+use Rattle.i9_model.specs.declared.event.Event.TheVariants.{Pin, Nmi, Dma, Feed, Show}
+use Rattle.i9_model.specs.declared.event.Timed.{Timed}
+use Rattle.i9_model.specs.declared.interrupts.TheConstants.{FIRST_DMA_LINE}
+use Rattle.i9_model.specs.declared.layout.TheConstants.{MAX_LENGTH}
+use Rattle.i9_model.specs.Events.{IsInRange}
+use Rattle.i9_model.specs.Left.{event_work, plan_work, asked, left_in}
+use Rattle.i9_model.specs.Run.{Given}
+use Rattle.i9_model.specs.ScheduleText.{IsPlan, IsTimedInRange, most_events}
+use Rattle.i9_model.specs.State.{boot, started}
+use Rattle.i9_model.specs.Late.{cell, resource, resources}
+use Rattle.i9_model.specs.Turns.{Pending, StandsFor, IsAllDone, pending_of}
+use Rattle.i9_model.proofs.TurnStands.{stands-none}
+use Rattle.i9_course.specs.Course.{ahead}
+use Rattle.i9_course.specs.Kernel.{Kernel, Lands}
+use Rattle.i9_course.proofs.Ahead.{ahead_later}
+use Rattle.i9_machine.specs.StandsFor.{left_after}
+
+-- an event is little work
+event_few : (e : Event) → IsInRange e → event_work e ≤ 2049
+event_few (Pin x) h = let le : 2 ^ x ≤ 2 ^ 7 = pow_mono {i = x} {j = 7} (omega (arith, h)) in omega (arith, le)
+event_few Nmi h = omega arith
+event_few (Dma c) h = let le : 2 ^ (FIRST_DMA_LINE + c) ≤ 2 ^ 11 = pow_mono {i = FIRST_DMA_LINE + c} {j = 11} (omega (arith, h)) in omega (arith, le)
+event_few (Feed c bytes) h = let le : 2 ^ (FIRST_DMA_LINE + c) ≤ 2 ^ 11 = pow_mono {i = FIRST_DMA_LINE + c} {j = 11} (omega (arith, h.0)) in omega (arith, le)
+event_few (Show a n) h = omega arith
+
+plan_few : (ts : List Timed) → AllByRecursion IsTimedInRange ts → plan_work ts ≤ 2049 * length ts
+plan_few [] h = omega arith
+plan_few (t ∷ ts) h =
+    let one : event_work t.event ≤ 2049 = event_few t.event h.0.event in
+    let others : plan_work ts ≤ 2049 * length ts = plan_few ts h.1 in
+    omega (arith, one, others)
+
+-- nothing is asked for at the start
+none_asked : (image : List (ℕ × ℕ)) → asked (boot image) ≡ 0
+unfolding boot started
+none_asked image = refl
+
+none_counted : (image : List (ℕ × ℕ)) → (boot image).count ≡ 0
+unfolding boot started
+none_counted image = refl
+
+pub first_far : (g : Given) → IsPlan g.plan → g.length ≤ MAX_LENGTH → 1 + 2 ^ 8 * left_after g [] < 2 ^ 62
+unfolding left_in
+first_far g plan short =
+    let work : plan_work g.plan ≤ 2049 * length g.plan = plan_few g.plan plan.each in
+    let few : length g.plan ≤ most_events = plan.few in
+    let none : asked (boot g.image) ≡ 0 = none_asked g.image in
+    let count : (boot g.image).count ≡ 0 = none_counted g.image in
+    omega (arith, work, few, none, count, short)
+
+-- nothing is open at the start
+pub none_done : IsAllDone (pending_of []) 1
+none_done = record { in_order = omega arith; done = tt }
+
+-- what lands late, before anything is done
+pub first_lands : (g : Given) (k : Kernel) → k.board ≡ pending_of [] → k.turn ≡ 1 → k.floor ≡ 0 → k.done ≡ 1
+    → ((r : ℕ) → r < resources → k.cells r ≡ cell (resource (boot g.image) r) None) → k.bytes ≡ (boot g.image).memory.bytes
+    → k.queue ≡ [] → Lands g [] k
+first_lands g k board turn floor done cells bytes queue =
+    let later : 1 ≤ (ahead g []).turn = ahead_later g [] in
+    record {
+      board = subst (λ (p : Pending). StandsFor p []) (sym board) stands-none;
+      mark = floor;
+      last = done;
+      begun = omega (arith, turn);
+      in_time = omega (arith, turn, later);
+      shows = record { registers = cells; memory = bytes; requests = queue };
+    }

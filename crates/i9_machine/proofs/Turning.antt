@@ -1,0 +1,190 @@
+-- The turn moves, and turns stay small enough for the scoreboard.
+use Rattle.std.proofs.Common.{◌≡◌, ℕ, ◌+◌, ◌*◌, ◌^◌, ◌<◌, ◌≤◌, max, List, [], ◌∷◌, drop, None, true, inl, inr, refl, sym, ap, ◌∙◌, subst, arith}
+use Rattle.std.specs.List.{AllByRecursion}
+use Rattle.std.specs.Prelude.{IsTrue}
+use Rattle.i9_model.specs.declared.need.Need.{Need}
+use Rattle.i9_model.specs.declared.need.TimedNeed.{TimedNeed}
+use Rattle.i9_model.specs.declared.run.Due.{Due}
+use Rattle.i9_model.specs.Left.{left_in}
+use Rattle.i9_model.specs.Run.{Given, Record, record_of, due_after, event_after, state_after, next}
+use Rattle.i9_model.specs.State.{State}
+use Rattle.i9_model.specs.HeldFrames.{cache_after}
+use Rattle.i9_model.specs.Alike.{AreAlike}
+use Rattle.i9_model.specs.Turns.{HasCost, Pending, IsAllDone, AreAllDone, last_issue, issue_turn, end_turn, done_from, waiting_until}
+use Rattle.i9_model.specs.Turns as board
+use Rattle.i9_model.proofs.TurnOpen.{open-all_done}
+use Rattle.i9_model.specs.Late.{turns}
+use Rattle.i9_issue.specs.Room.{IsEarly}
+use Rattle.i9_schedule.specs.Plan.{Plan}
+use Rattle.i9_course.specs.NeedOf.{need_ahead}
+use Rattle.i9_course.specs.Course.{Item, records_of, course, need_after, issue_of_next, ahead}
+use Rattle.i9_course.proofs.Ahead.{ahead_by_end, ahead_precise}
+use Rattle.i9_course.proofs.NeedAlike.{next_need_alike}
+use Rattle.i9_course.proofs.Orderly.{course_past}
+use Rattle.i9_course.proofs.Placing.{next_turn}
+use Rattle.i9_course.proofs.Precise.{built_precise}
+use Rattle.i9_course.proofs.Steps.{moves_lands}
+use Rattle.i9_processor.specs.State.{state_of, IsDrained}
+use Rattle.i9_machine.specs.declared.line.Line.{Line}
+use Rattle.i9_machine.specs.declared.machine.Machine.{Machine}
+use Rattle.i9_machine.specs.Issuing.{kernel_of, most_turns, IsPaced, IsMoved, IsEndTurn}
+use Rattle.i9_machine.specs.Step.{IsStep, next_for, records_left}
+use Rattle.i9_machine.specs.StandsFor.{StandsFor, Follows, IsUnderWay, IsNow, MovesOn, left_after}
+use Rattle.i9_machine.specs.Opening.{NextWaits}
+use Rattle.i9_machine.specs.declared.step.Step.{Step}
+use Rattle.i9_processor.specs.declared.effect.Effect.{Effect}
+use Rattle.i9_course.proofs.Checks.{checked_waits}
+use Rattle.i9_course.proofs.Landed.{done_landed}
+use Rattle.i9_course.proofs.Barriers.{next_barrier}
+use Rattle.i9_model.proofs.AlikeSteps.{does_alike}
+use Rattle.i9_model.proofs.HeldRuns.{next_free}
+use Rattle.i9_machine.proofs.Beside.{beside}
+use Rattle.i9_machine.proofs.Issuing.{same_need}
+
+-- ---- the turn moves
+
+done_least : (t : ℕ) (rs : List TimedNeed) (b : ℕ) → t ≤ b → AllByRecursion (λ r. r.done ≤ b) rs → done_from t rs ≤ b
+done_least t [] b le done = le
+done_least t (r ∷ rs) b le done = let one : r.done ≤ b = done.0 in done_least (max t r.done) rs b (omega (arith, le, one)) done.1
+
+-- all records are done by the bound
+ended_by : (p : Pending) (rs : List TimedNeed) (b : ℕ) → board.StandsFor p rs → IsAllDone p b → end_turn rs ≤ b
+ended_by p rs b stands done =
+    let is : AreAllDone rs b = open-all_done rs b (subst (λ (q : Pending). IsAllDone q b) stands.pending done) in
+    done_least (last_issue rs) rs b is.in_order is.done
+
+-- so what is paced stays so as the turn moves
+moved_paced : (g : Given) (h : List Item) (before m : Machine) (wait : ℕ) → StandsFor g h None before → before.turn < wait → wait ≤ (ahead g h).turn
+    → IsMoved (record before { wait = wait }) m → IsPaced m (left_after g (records_of h))
+moved_paced g h before m wait stands later bound i =
+    let p = stands.paced in
+    let by_end : (ahead g h).turn ≤ end_turn (turns (course g h).late) = ahead_by_end g h in
+    let ended : end_turn (turns (course g h).late) ≤ p.bound = ended_by before.board (turns (course g h).late) p.bound stands.lands.board p.done in
+    let turn : m.turn ≡ before.turn + 1 = i.turn in
+    let floor : m.floor ≡ before.floor = i.floor in
+    let floor_was : before.floor ≤ p.bound = p.floor in
+    record {
+      bound = p.bound;
+      far = p.far;
+      done = subst (λ (b : Pending). IsAllDone b p.bound) (sym i.board) p.done;
+      turn = omega (arith, turn, later, bound, by_end, ended);
+      floor = omega (arith, floor, floor_was);
+    }
+
+-- towards a turn below which nothing comes next
+pub moved : (g : Given) (h : List Item) (before m : Machine) (plan : Plan) (lines : List Line) (wait : ℕ) → StandsFor g h None before → Follows g h plan
+    → before.turn < wait → wait ≤ (ahead g h).turn → IsMoved (record before { wait = wait }) m → MovesOn g h before m plan lines lines
+moved g h before m plan lines wait stands follows later bound i =
+    let turn : m.turn ≡ before.turn + 1 = i.turn in
+    let wait_now : m.wait ≡ wait = i.wait in
+    record {
+      early = omega (arith, later, bound);
+      turn = turn;
+      stands = record {
+        past = stands.past;
+        state = subst (AreAlike (state_after g (records_of h))) (sym i.state) stands.state;
+        size = i.size ∙ stands.size;
+        cache = i.cache ∙ stands.cache;
+        lands = moves_lands g h m.turn (kernel_of before) (kernel_of m) stands.lands (omega (arith, turn)) (omega (arith, turn, later, bound))
+            (record { board = i.board; turn = refl; done = i.done; cells = λ r lt. i.cells r; bytes = i.bytes; queue = i.queue }) i.floor;
+        early = omega (arith, wait_now, bound);
+        paced = moved_paced g h before m wait stands later bound i;
+        due = i.due ∙ stands.due;
+        length = i.length ∙ stands.length;
+        sets = i.sets ∙ stands.sets;
+        ended = i.ended ∙ stands.ended;
+        over = tt;
+      };
+      follows = follows;
+      lines = refl;
+    }
+
+-- no record is done
+pub same_left : (before m : Machine) (plan : Plan) (wait : ℕ) → IsMoved (record before { wait = wait }) m → records_left m plan ≡ records_left before plan
+same_left before m plan wait i =
+    let events = drop plan.place plan.events in
+    ap (λ (l : ℕ). left_in l events m.due (state_of m.processor)) i.length
+    ∙ ap (λ (d : Due). left_in before.length events d (state_of m.processor)) i.due
+    ∙ ap (λ (s : State). left_in before.length events before.due s) i.state
+
+-- the turn is small
+pub under_way_early : (m : Machine) (plan : Plan) → IsUnderWay m plan → m.turn < 2 ^ 62
+under_way_early m plan u =
+    let p = u.stands.paced in
+    let far : p.bound + 2 ^ 8 * left_after u.given (records_of u.items) < 2 ^ 62 = p.far in
+    let turn : m.turn ≤ p.bound = p.turn in
+    omega (arith, far, turn)
+
+-- ---- turns stay small
+
+-- a need behind the last mark is early enough for the scoreboard
+pub paced_early : (m : Machine) (left : ℕ) (need : Need) → IsPaced m left → need.not_before ≡ 0 → need.cost ≤ most_turns
+    → IsEarly m.board (waiting_until m.floor need)
+paced_early m left need p none cost =
+    let far : p.bound + 2 ^ 8 * left < 2 ^ 62 = p.far in
+    let in_order : m.board.last ≤ p.bound = p.done.in_order in
+    let floor : m.floor ≤ p.bound = p.floor in
+    record {
+      last = omega (arith, far, in_order);
+      done = below m.board.records p.done.done;
+      waited = omega (arith, far, floor, none);
+      cost = omega (arith, cost);
+    }
+  where
+    below : (rs : List TimedNeed) → AllByRecursion (λ r. r.done ≤ p.bound) rs → AllByRecursion (λ r. r.done < 2 ^ 62) rs
+    below [] h = tt
+    below (r ∷ rs) h =
+        let one : r.done ≤ p.bound = h.0 in
+        let far : p.bound + 2 ^ 8 * left < 2 ^ 62 = p.far in
+        (omega (arith, one, far), below rs h.1)
+
+-- it has a cost
+pub waiting_cost : (t : ℕ) (need : Need) → HasCost need → HasCost (waiting_until t need)
+waiting_cost t need h = record { some = h.some; plain = h.plain }
+
+-- ---- the turn of what comes next
+
+-- what waits for all comes when all is done
+pub waits_until : (m : Machine) (plan : Plan) (until : ℕ) → IsEndTurn m until → NextWaits m plan → (g : Given) (h : List Item) → StandsFor g h None m → Follows g h plan
+    → until ≤ (ahead g h).turn
+waits_until m plan until end (inl check) g h stands follows =
+    let rs = turns (course g h).late in
+    let is : until ≡ end_turn rs = end rs stands.lands.board in
+    let set : (state_after g (records_of h)).check ≡ true = sym (ap (λ (s : State). s.check) stands.state.rest) ∙ check in
+    let turn : (ahead g h).turn ≡ end_turn rs = checked_waits g h stands.past (built_precise g h (course_past g h stands.past)) set in
+    omega (arith, is, turn)
+waits_until m plan until end (inr held) g h stands follows =
+    let rs = turns (course g h).late in
+    let is : until ≡ end_turn rs = end rs stands.lands.board in
+    let o = next g (records_of h) in
+    let need = next_need_alike g.sets (cache_after g (records_of h)) o (next_for m plan) (beside g h m plan stands follows) in
+    let barrier : IsTrue (need_after g h o).barrier = sym (ap (λ (n : Need). n.barrier) need) ∙ held g.sets (cache_after g (records_of h)) in
+    let turn : issue_of_next g h o ≡ end_turn rs = next_barrier g h o barrier in
+    let ahead_turn : (ahead g h).turn ≡ issue_of_next g h o = ahead_precise g h (built_precise g h (course_past g h stands.past)) in
+    omega (arith, is, turn, ahead_turn)
+
+-- an instruction comes at the turn that the scoreboard gives its need
+pub comes_at : (m : Machine) (plan : Plan) (step : Step) (e : Effect) (t : ℕ) → IsStep m plan step e
+    → ((rs : List TimedNeed) → board.StandsFor m.board rs → t ≡ issue_turn (last_issue rs) rs (waiting_until m.floor step.need))
+    → (g : Given) (h : List Item) → StandsFor g h None m → Follows g h plan → t ≡ (ahead g h).turn
+comes_at m plan step e t is turn g h stands follows =
+    let rs = turns (course g h).late in
+    let q = record_of is.kind (state_of m.processor) in
+    let found = does_alike (next g (records_of h)) (next_for m plan) q (beside g h m plan stands follows) is.is_next in
+    let run = next_free g.length (due_after (records_of h)) (event_after g (records_of h)) (state_after g (records_of h)) found.0 found.1 in
+    let need = same_need g h m found.0 q step.need stands found.2 (ap (λ (x : Record). x.before) run.0) refl is.need in
+    turn rs stands.lands.board
+    ∙ ap (λ (f : ℕ). issue_turn (last_issue rs) rs (waiting_until f step.need)) stands.lands.mark
+    ∙ sym (next_turn g h step.need (built_precise g h (course_past g h stands.past)) (ap (need_ahead g.sets (cache_after g (records_of h))) found.1 ∙ need))
+
+-- where nothing is open, what comes next may issue, and nothing waits
+pub all_now : (m : Machine) (plan : Plan) (until : ℕ) → IsEndTurn m until → until ≤ m.turn → IsNow m plan
+all_now m plan until end le g h stands follows =
+    let is : until ≡ end_turn (turns (course g h).late) = end (turns (course g h).late) stands.lands.board in
+    let by_end : (ahead g h).turn ≤ end_turn (turns (course g h).late) = ahead_by_end g h in
+    omega (arith, is, le, by_end)
+
+pub all_landed : (m : Machine) (plan : Plan) (until : ℕ) → IsUnderWay m plan → IsEndTurn m until → until ≤ m.turn → IsDrained m.processor
+all_landed m plan until u end le =
+    let is : until ≡ end_turn (turns (course u.given u.items).late) = end (turns (course u.given u.items).late) u.stands.lands.board in
+    done_landed u.given u.items (kernel_of m) u.stands.lands (omega (arith, is, le))

@@ -1,0 +1,27 @@
+use Rattle.std.proofs.Common.{refl, sym, ap, ◌∙◌}
+use Rattle.i9_model.specs.declared.need.Need.{Need}
+use Rattle.i9_model.specs.Run.{Instruction, action_due}
+use Rattle.i9_processor.specs.State.{state_of, cache_of, size_of}
+use Rattle.i9_machine.proofs.Opening.{request_named}
+use Rattle.i9_machine.proofs.machine.Machine.does.Goals as goal
+
+pub returns : goal.returns
+returns c =
+    let m = c.args.self.now in
+    let r = c.requires in
+    let inst = c.args.inst.now in
+    let need = c.need_done.ensures.need in
+    record {
+      kind = Instruction inst;
+      is_next = r.is_next;
+      effect = r.effect;
+      point = c.point_by_name.ensures;
+      counts = refl;
+      due = c.due_by.ensures ∙ ap (action_due (state_of m.processor)) r.effect.same;
+      reaches = refl;
+      event = refl;
+      tells = c.issued.ensures _ r.words;
+      need = need;
+      cost = c.need_done.ensures.cost;
+      row = λ request. r.row (request_named inst (size_of m.processor) (cache_of m.processor) (state_of m.processor) (sym (ap (λ (n : Need). n.request) need) ∙ request));
+    }

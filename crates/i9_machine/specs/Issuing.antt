@@ -1,0 +1,109 @@
+-- What of a machine lands late, and how a record issues.
+use Rattle.std.specs.Prelude.{◌≡◌, ℕ, ◌+◌, ◌*◌, ◌^◌, ◌<◌, ◌≤◌, true, false, List, [], ◌∷◌, ◌++◌}
+use Rattle.i9_model.specs.declared.need.Need.{Need}
+use Rattle.i9_model.specs.declared.need.Placed.{Placed}
+use Rattle.i9_model.specs.declared.need.TimedNeed.{TimedNeed}
+use Rattle.i9_model.specs.Late.{resource, resources, landed, due_puts, left_waiting, issued_cell}
+use Rattle.i9_model.specs.Memory.{stored}
+use Rattle.i9_model.specs.Step.{Action}
+use Rattle.i9_model.specs.Turns.{Pending, StandsFor, IsAllDone, with_need, waiting_until, placed_record, end_turn}
+use Rattle.i9_course.specs.Kernel.{Kernel}
+use Rattle.i9_processor.specs.declared.effect.Effect.{Effect}
+use Rattle.i9_processor.specs.declared.landing.Landing.{Landing}
+use Rattle.i9_processor.specs.declared.processor.Processor.{Processor}
+use Rattle.i9_processor.specs.Effect.{CanAct, IsStill}
+use Rattle.i9_processor.specs.State.{state_of, cache_of, size_of, cells_of, bytes_of, queue_of}
+use Rattle.i9_machine.specs.declared.machine.Machine.{Machine}
+
+-- the open needs, the turns, the registers with what is planned, and memory with what waits
+abbrev pub kernel_of : Machine → Kernel
+kernel_of m = record {
+  board = m.board;
+  turn = m.turn;
+  floor = m.floor;
+  done = m.done;
+  cells = cells_of m.processor;
+  bytes = bytes_of m.processor;
+  queue = queue_of m.processor;
+}
+
+-- no record takes more turns
+abbrev pub most_turns : ℕ
+most_turns = 248
+
+-- Turns stay below 2^62: all records so far are done by a bound, and what is left of a run, of which each record takes
+-- fewer than 2^8 turns, does not come further.
+pub record IsPaced (m : Machine) (left : ℕ) : Type 0 where
+  pub bound : ℕ
+  pub far : bound + 2 ^ 8 * left < 2 ^ 62
+  pub done : IsAllDone m.board bound
+  pub turn : m.turn ≤ bound
+  pub floor : m.floor ≤ bound
+
+-- a need is placed on a scoreboard with these turns
+abbrev pub IsPlaced : Pending → Need → Placed → Pending → Type 0
+IsPlaced old need placed new = (rs : List TimedNeed) → StandsFor old rs → StandsFor new (placed_record need placed ∷ rs)
+
+-- What an action leaves lands late: what is written is planned, and bytes wait where it is a request.
+pub record Acts (before : Processor) (l : Landing) (a : Action) (p : Processor) : Type 0 where
+  pub cells : (r : ℕ) → r < resources
+      → cells_of p r ≡ issued_cell l.writes l.done r (resource (state_of p) r) (cells_of before r)
+  pub waits : l.request ≡ true → (bytes_of p ≡ bytes_of before)
+      × (queue_of p ≡ queue_of before ++ record { puts = a.writes; due = l.done } ∷ [])
+  pub acts : l.request ≡ false → queue_of p ≡ queue_of before
+  pub still : l.request ≡ false → IsStill a → bytes_of p ≡ bytes_of before
+
+-- A record of this need and action issued: it was placed, and what it leaves lands when it is done.
+pub record IsIssued (before : Machine) (need : Need) (a : Action) (m : Machine) : Type 0 where
+  pub placed : Placed
+  pub board : IsPlaced before.board (waiting_until before.floor need) placed m.board
+  pub timed : (rs : List TimedNeed) → StandsFor before.board rs
+      → StandsFor m.board (with_need rs (waiting_until before.floor need))
+  pub bound : (b : ℕ) → IsAllDone before.board b → (waiting_until before.floor need).not_before ≤ b
+      → IsAllDone m.board (b + need.cost)
+  pub cost : need.cost ≤ most_turns
+  pub turn : m.turn ≡ before.turn
+  pub floor : m.floor ≡ before.floor
+  pub wait : m.wait ≡ before.wait
+  pub done : m.done ≡ placed.done
+  pub acts : Acts before.processor (record { writes = need.writes; done = placed.done; request = need.request }) a
+      m.processor
+
+-- nothing issued, and nothing landed
+pub record IsUnmoved (before m : Machine) : Type 0 where
+  pub board : m.board ≡ before.board
+  pub turn : m.turn ≡ before.turn
+  pub floor : m.floor ≡ before.floor
+  pub wait : m.wait ≡ before.wait
+  pub done : m.done ≡ before.done
+  pub cells : cells_of m.processor ≡ cells_of before.processor
+  pub bytes : bytes_of m.processor ≡ bytes_of before.processor
+  pub queue : queue_of m.processor ≡ queue_of before.processor
+
+-- The turn moved by one, and what is due by then landed; nothing else changed.
+pub record IsMoved (before m : Machine) : Type 0 where
+  pub state : state_of m.processor ≡ state_of before.processor
+  pub cache : cache_of m.processor ≡ cache_of before.processor
+  pub size : size_of m.processor ≡ size_of before.processor
+  pub cells : (r : ℕ) → cells_of m.processor r ≡ landed m.turn (cells_of before.processor r)
+  pub bytes : bytes_of m.processor ≡ stored (bytes_of before.processor) (due_puts m.turn (queue_of before.processor))
+  pub queue : queue_of m.processor ≡ left_waiting m.turn (queue_of before.processor)
+  pub turn : m.turn ≡ before.turn + 1
+  pub board : m.board ≡ before.board
+  pub floor : m.floor ≡ before.floor
+  pub done : m.done ≡ before.done
+  pub wait : m.wait ≡ before.wait
+  pub due : m.due ≡ before.due
+  pub length : m.length ≡ before.length
+  pub sets : m.sets ≡ before.sets
+  pub ended : m.ended ≡ before.ended
+
+-- a turn is the least at which all records are done, whatever they are
+abbrev pub IsEndTurn : Machine → ℕ → Type 0
+IsEndTurn m t = (rs : List TimedNeed) → StandsFor m.board rs → t ≡ end_turn rs
+
+-- what is done can act with the turns that any scoreboard gives its need
+abbrev pub CanActPlaced : Machine → Need → Effect → Type 0
+CanActPlaced m need e =
+    (p : Placed) (b : Pending) → IsPlaced m.board (waiting_until m.floor need) p b
+    → CanAct m.processor (record { writes = need.writes; done = p.done; request = need.request }) e

@@ -1,0 +1,23 @@
+-- What comes next while something is open.
+use Rattle.std.specs.Prelude.{◌≡◌, ◌⊎◌, ℕ, ◌<◌, true, Option, None, Ok, IsTrue}
+use Rattle.i9_model.specs.declared.run.Due.{Due}
+use Rattle.i9_model.specs.Before.{choice_in}
+use Rattle.i9_model.specs.HeldFrames.{Cache}
+use Rattle.i9_schedule.specs.Plan.{Plan}
+use Rattle.i9_course.specs.NeedOf.{need_ahead}
+use Rattle.i9_processor.specs.State.{state_of}
+use Rattle.i9_machine.specs.declared.machine.Machine.{Machine}
+use Rattle.i9_machine.specs.Step.{event_for, next_for}
+
+-- nothing comes before the instruction at the instruction address
+pub record IsFreeToIssue (m : Machine) (plan : Plan) : Type 0 where
+  pub due : m.due ≡ Due.Nothing
+  pub below : (state_of m.processor).count < m.length
+  pub chosen : choice_in (state_of m.processor) ≡ Ok None
+  pub stands : event_for m plan ≡ None
+
+-- what comes next is a barrier, whatever number of sets is asked for and whatever is held, or stands behind one that is
+-- open, since software's requests are to be looked at
+abbrev pub NextWaits : Machine → Plan → Type 0
+NextWaits m plan =
+    ((state_of m.processor).check ≡ true) ⊎ ((asked : Option ℕ) (c : Cache) → IsTrue (need_ahead asked c (next_for m plan)).barrier)

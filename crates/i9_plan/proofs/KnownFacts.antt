@@ -1,0 +1,82 @@
+-- What is known of an instruction can be known of it: whether it has a data access, and how long that waits at most.
+use Rattle.std.proofs.Common.{◌≡◌, ℕ, ◌≤◌, Bool, true, false, cond, List, [], ◌∷◌, Option, Some, None, refl, ◌∙◌, arith}
+use Rattle.std.specs.Prelude.{is_some, ◌||◌, find}
+use Rattle.std.specs.List.{list_any}
+use Rattle.i9_isa.specs.declared.op.Op.{Op}
+use Rattle.i9_isa.specs.declared.op.Op.TheVariants.{Lda, Atadd, Atmod, Sysctl}
+use Rattle.i9_isa.specs.declared.inst.Inst.{Inst}
+use Rattle.i9_isa.specs.declared.size.Direction.{Direction}
+use Rattle.i9_isa.specs.declared.size.Transfer.{Transfer}
+use Rattle.i9_isa.specs.Transfers.{transfer_of}
+use Rattle.i9_model.specs.Memory.{Memory, region_of, waits_of}
+use Rattle.i9_model.specs.State.{State}
+use Rattle.i9_model.specs.Step.{Message, AsksNothing, AsksInterrupt, AsksRestart, AsksGroup, message_of, message_kind}
+use Rattle.i9_model.specs.Access.{Access, Reads, Writes, Changes, message_access, access_by_name, moved_access, access_by, access_of, data_of}
+use Rattle.i9_model.specs.Needs.{has_access}
+use Rattle.i9_course.specs.NeedOf.{access_waits}
+
+-- one passes a test where a first one does
+pub any_found : {A : Type 0} (p : A → Bool) (xs : List A) → is_some (find p xs) ≡ list_any p xs
+any_found p [] = refl
+any_found p (x ∷ xs) = by (p x) (any_found p xs)
+  where
+    by : (b : Bool) → is_some (find p xs) ≡ list_any p xs → is_some (cond b (Some x) (find p xs)) ≡ (b || list_any p xs)
+    by true rest = refl
+    by false rest = rest
+
+-- ---- a data access
+
+abbrev is_atomic : Op → Bool
+is_atomic Atadd = true
+is_atomic Atmod = true
+is_atomic _ = false
+
+accesses : (op : Op) → (is_atomic op || is_some (transfer_of op)) ≡ has_access op
+accesses Lda = refl
+accesses _ = refl
+
+message_data : (m : Message) (i : Inst) (s : State) → is_some (data_of (message_access m i s)) ≡ false
+message_data AsksNothing i s = refl
+message_data AsksInterrupt i s = refl
+message_data AsksRestart i s = refl
+message_data AsksGroup i s = refl
+
+named_data : (op : Op) (i : Inst) (s : State) → is_some (data_of (access_by_name op i s)) ≡ is_atomic op
+named_data Sysctl i s = message_data (message_kind (message_of i s)) i s
+named_data Lda i s = refl
+named_data _ i s = refl
+
+moved_data : (d : Direction) (a n : ℕ) → is_some (data_of (moved_access d a n)) ≡ true
+moved_data Direction.Load a n = refl
+moved_data Direction.Store a n = refl
+
+or_none : (b : Bool) → b ≡ (b || false)
+or_none true = refl
+or_none false = refl
+
+or_some : (b : Bool) → true ≡ (b || true)
+or_some true = refl
+or_some false = refl
+
+data_by : (t : Option Transfer) (i : Inst) (s : State)
+    → is_some (data_of (access_by t i s)) ≡ (is_atomic i.op || is_some t)
+data_by None i s = named_data i.op i s ∙ or_none (is_atomic i.op)
+data_by (Some t) i s = moved_data t.direction _ _ ∙ or_some (is_atomic i.op)
+
+pub known_access : (i : Inst) (s : State) → is_some (data_of (access_of i s)) ≡ has_access i.op
+known_access i s = data_by (transfer_of i.op) i s ∙ accesses i.op
+
+-- ---- its waits
+
+waits_few : (m : Memory) (region : ℕ) (write : Bool) → waits_of m region write ≤ 31
+waits_few m region true = omega arith
+waits_few m region false = omega arith
+
+pub known_waits : (m : Memory) (x : Access) → access_waits m x ≤ 62
+known_waits m (Reads a n) = let few = waits_few m (region_of a) false in omega (arith, few)
+known_waits m (Writes a n) = let few = waits_few m (region_of a) true in omega (arith, few)
+known_waits m (Changes a n) =
+    let read = waits_few m (region_of a) false in
+    let write = waits_few m (region_of a) true in
+    omega (arith, read, write)
+known_waits m _ = omega arith

@@ -1,0 +1,192 @@
+-- What waits for all before it: a barrier, whatever it comes to, a word that is refused, a hazard, what is not built,
+-- and a fault that is raised before anything is done; and what others need.
+use Rattle.std.proofs.Common.{◌≡◌, ℕ, ◌+◌, ◌*◌, ◌&&◌, Bool, true, false, Option, Some, None, Err, refl, sym, ap, ◌∙◌, subst, ◌⊎◌, inl, inr}
+use Rattle.std.specs.Prelude.{not, ◌||◌, ◌==◌, if◌then◌else◌, IsTrue}
+use Rattle.std.specs.Option.{is_some}
+use Rattle.i9_isa.specs.declared.op.Op.{Op}
+use Rattle.i9_isa.specs.declared.op.Op.TheVariants.{Lda}
+use Rattle.i9_isa.specs.Costs.{latency_of}
+use Rattle.i9_isa.specs.declared.inst.Inst.{Inst}
+use Rattle.i9_model.specs.declared.faults.TheConstants.{ARITHMETIC}
+use Rattle.i9_model.specs.State.{State}
+use Rattle.i9_model.specs.Access.{hazard_of}
+use Rattle.i9_model.specs.Needs.{has_access, moves_frames, is_barrier_name, writes_sfr, inst_need}
+use Rattle.i9_model.specs.Unbuilt.{is_imprecise}
+use Rattle.i9_model.specs.Standing.{Standing, Meets, NotBuilt, Refused, Faults, Runs, word_fault, raised_in, later_fault, by_access, by_later, by_raised, by_word, by_fetch, stands_at}
+use Rattle.i9_model.specs.HeldFrames.{Cache, sets_in}
+use Rattle.i9_model.specs.Traced.{traced_action}
+use Rattle.i9_model.specs.Run.{Instruction, next_by_standing}
+use Rattle.i9_course.specs.NeedOf.{facts_of, frames_of, need_of, need_ahead}
+use Rattle.i9_plan.specs.declared.fetched.Fetched.{Fetched}
+use Rattle.i9_plan.specs.declared.fetched.Unread.{Unread}
+use Rattle.i9_plan.specs.declared.fetched.Unread.TheVariants as unreads
+use Rattle.i9_plan.specs.declared.outcome.Outcome.{Outcome}
+use Rattle.i9_plan.specs.declared.outcome.Outcome.TheVariants as outcomes
+use Rattle.i9_plan.specs.Planned.{IsRead, IsFetched, standing_in}
+use Rattle.i9_plan.specs.Open.{WaitsForAll, IsNoBarrier, NeedsAhead}
+
+-- ---- which wait
+
+by_either : (a b c d e f : Bool) → (a || b) ≡ true → IsTrue (a || b || c || d || e || f)
+by_either true b c d e f h = refl
+by_either false true c d e f h = refl
+by_either false false c d e f h = absurd cc
+
+by_fault : (a b c d : Bool) → d ≡ true → IsTrue (a || b || c || d || false || false)
+by_fault true b c d h = refl
+by_fault false true c d h = refl
+by_fault false false true d h = refl
+by_fault false false false true h = refl
+by_fault false false false false h = absurd cc
+
+-- a barrier by its name, or by a special function register that it writes
+abbrev pub IsBarrier : Inst → Type 0
+IsBarrier i = (is_barrier_name i.op || writes_sfr i) ≡ true
+
+runs_waits : (i : Inst) (s : State) → IsBarrier i → WaitsForAll s (Runs i)
+unfolding need_of
+runs_waits i s b asked c = by_either (is_barrier_name i.op) (writes_sfr i) _ _ _ _ b
+
+faults_waits : (i : Inst) (s : State) (number : ℕ × ℕ) → IsBarrier i → WaitsForAll s (Faults i number)
+unfolding need_of
+faults_waits i s number b asked c = by_either (is_barrier_name i.op) (writes_sfr i) _ _ _ _ b
+
+meets_waits : (s : State) (a : ℕ) → WaitsForAll s (Meets a)
+meets_waits s a asked c = refl
+
+unbuilt_waits : (s : State) → WaitsForAll s NotBuilt
+unbuilt_waits s asked c = refl
+
+refused_waits : (s : State) (number : ℕ × ℕ) → WaitsForAll s (Refused number)
+unfolding need_of
+refused_waits s number asked c = refl
+
+early_waits : (i : Inst) (s : State) (number : ℕ × ℕ) → (number.0 == ARITHMETIC) ≡ false
+    → WaitsForAll s (Faults i number)
+unfolding need_of
+early_waits i s number early asked c =
+    by_fault (is_barrier_name i.op) (writes_sfr i) _ (not (number.0 == ARITHMETIC)) (ap not early)
+
+access_waits : (i : Inst) (s : State) (h : Option ℕ) → IsBarrier i → WaitsForAll s (by_access i h)
+access_waits i s None b = runs_waits i s b
+access_waits i s (Some a) b = meets_waits s a
+
+later_waits : (i : Inst) (s : State) (f : Option (ℕ × ℕ)) → IsBarrier i → WaitsForAll s (by_later i s f)
+later_waits i s None b = access_waits i s (hazard_of i s) b
+later_waits i s (Some number) b = faults_waits i s number b
+
+imprecise_waits : (i : Inst) (s : State) (imprecise : Bool) → IsBarrier i
+    → WaitsForAll s (if imprecise then NotBuilt else by_later i s (later_fault i s))
+imprecise_waits i s true b = unbuilt_waits s
+imprecise_waits i s false b = later_waits i s (later_fault i s) b
+
+raised_waits : (i : Inst) (s : State) (f : Option (ℕ × ℕ)) → IsBarrier i → WaitsForAll s (by_raised i s f)
+raised_waits i s None b = imprecise_waits i s (is_imprecise i s) b
+raised_waits i s (Some number) b = faults_waits i s number b
+
+-- ---- what stands there
+
+-- by an instruction that is read
+pub read_stands : (s : State) (f : Fetched) → IsRead s f → stands_at s ≡ by_raised f.inst s (raised_in f.inst s)
+unfolding stands_at
+read_stands s f read = ap (by_fetch s) read.clear ∙ ap (by_word s) read.read
+
+pub barrier_waits : (s : State) (f : Fetched) → IsRead s f → IsBarrier f.inst → WaitsForAll s (stands_at s)
+barrier_waits s f read b =
+    subst (WaitsForAll s) (sym (read_stands s f read)) (raised_waits f.inst s (raised_in f.inst s) b)
+
+-- where none is read
+pub unread_waits : (s : State) (e : Unread) → IsFetched s (Err e) → WaitsForAll s (stands_at s)
+unfolding stands_at
+unread_waits s (unreads.Meets a) meets = subst (WaitsForAll s) (sym (ap (by_fetch s) meets)) (meets_waits s a)
+unread_waits s (unreads.Refused first why) is =
+    subst (WaitsForAll s) (sym (ap (by_fetch s) is.0 ∙ ap (by_word s) is.1)) (refused_waits s (word_fault why))
+
+-- by what it comes to: a hazard, what is not built, or a fault that is raised before anything is done
+abbrev pub Stops : Outcome → Type 0
+Stops (outcomes.Meets a) = Unit {0}
+Stops outcomes.NotBuilt = Unit {0}
+Stops (outcomes.Faults number) = (number.0 == ARITHMETIC) ≡ false
+Stops outcomes.Runs = ⊥
+
+stop_waits : (s : State) (i : Inst) (o : Outcome) → Stops o → WaitsForAll s (standing_in i o)
+stop_waits s i (outcomes.Meets a) stops = meets_waits s a
+stop_waits s i outcomes.NotBuilt stops = unbuilt_waits s
+stop_waits s i (outcomes.Faults number) stops = early_waits i s number stops
+stop_waits s i outcomes.Runs stops = absurd stops
+
+-- a hazard, or what is not built
+pub neither_stops : (o : Outcome) → ((a : ℕ) × (o ≡ outcomes.Meets a)) ⊎ (o ≡ outcomes.NotBuilt) → Stops o
+neither_stops (outcomes.Meets a) is = tt
+neither_stops outcomes.NotBuilt is = tt
+neither_stops (outcomes.Faults number) (inl met) = let e = met.1 in absurd cc
+neither_stops (outcomes.Faults number) (inr e) = absurd cc
+neither_stops outcomes.Runs (inl met) = let e = met.1 in absurd cc
+neither_stops outcomes.Runs (inr e) = absurd cc
+
+-- what an instruction comes to is what stands there
+pub outcome_stands : (s : State) (f : Fetched) (o : Outcome) → IsRead s f
+    → standing_in f.inst o ≡ by_raised f.inst s (raised_in f.inst s) → stands_at s ≡ standing_in f.inst o
+outcome_stands s f o read stands = read_stands s f read ∙ sym stands
+
+pub outcome_waits : (s : State) (f : Fetched) (o : Outcome) → IsRead s f
+    → standing_in f.inst o ≡ by_raised f.inst s (raised_in f.inst s) → Stops o → WaitsForAll s (stands_at s)
+outcome_waits s f o read stands stops =
+    subst (WaitsForAll s) (sym (outcome_stands s f o read stands)) (stop_waits s f.inst o stops)
+
+-- ---- which do not
+
+neither : (a b : Bool) → (a || b) ≡ false → (a ≡ false) × (b ≡ false)
+neither false b h = (refl, h)
+neither true b h = absurd cc
+
+pub no_barrier : (i : Inst) → (is_barrier_name i.op || writes_sfr i) ≡ false → IsNoBarrier i
+no_barrier i h =
+    let both = neither (is_barrier_name i.op) (writes_sfr i) h in
+    record { named = both.0; written = both.1 }
+
+-- ---- what is needed
+
+frames_move : (op : Op) → (moves_frames op && not (is_barrier_name op)) ≡ false
+frames_move Lda = refl
+frames_move _ = refl
+
+first_not : (a b : Bool) → (a && not b) ≡ false → b ≡ false → a ≡ false
+first_not true false e f = absurd cc
+first_not true true e f = absurd cc
+first_not false b e f = refl
+
+not_counted : (b : Bool) (n : ℕ) → b ≡ false → (if b then n else 0) ≡ (if b then 0 else 0)
+not_counted false n e = refl
+not_counted true n e = absurd cc
+
+-- frames count for nothing where no barrier moves them
+frames_free : (i : Inst) (s : State) (n : ℕ) (trace : Bool) → is_barrier_name i.op ≡ false
+    → inst_need i (facts_of i s n false trace) ≡ inst_need i (facts_of i s 0 false trace)
+frames_free i s n trace named =
+    let need = inst_need i (facts_of i s 0 false trace) in
+    let turns = latency_of i.op + (if has_access i.op then (facts_of i s 0 false trace).waits else 0) in
+    let none = first_not (moves_frames i.op) (is_barrier_name i.op) (frames_move i.op) named in
+    ap (λ (k : ℕ). record need { cost = turns + 16 * k }) (not_counted (moves_frames i.op) n none)
+
+runs_need : (i : Inst) (s : State) → is_barrier_name i.op ≡ false → (asked : Option ℕ) (c : Cache)
+    → need_ahead asked c (next_by_standing s (Runs i))
+    ≡ inst_need i (facts_of i s 0 false (is_some (traced_action i s).trace))
+unfolding need_of
+runs_need i s named asked c = frames_free i s (frames_of (sets_in asked s) c s (Instruction i)) _ named
+
+faults_need : (i : Inst) (s : State) (number : ℕ × ℕ) → number.0 ≡ ARITHMETIC → (asked : Option ℕ) (c : Cache)
+    → need_ahead asked c (next_by_standing s (Faults i number)) ≡ inst_need i (facts_of i s 0 false false)
+unfolding need_of
+faults_need i s number late asked c =
+    ap (λ (kind : ℕ). inst_need i (facts_of i s 0 (not (kind == ARITHMETIC)) false)) late
+
+pub runs_needs : (i : Inst) (s : State) → stands_at s ≡ Runs i → IsNoBarrier i
+    → NeedsAhead s (inst_need i (facts_of i s 0 false (is_some (traced_action i s).trace)))
+runs_needs i s stands apart asked c =
+    ap (λ (x : Standing). need_ahead asked c (next_by_standing s x)) stands ∙ runs_need i s apart.named asked c
+
+pub faults_needs : (i : Inst) (s : State) (number : ℕ × ℕ) → stands_at s ≡ Faults i number → number.0 ≡ ARITHMETIC
+    → NeedsAhead s (inst_need i (facts_of i s 0 false false))
+faults_needs i s number stands late asked c =
+    ap (λ (x : Standing). need_ahead asked c (next_by_standing s x)) stands ∙ faults_need i s number late asked c

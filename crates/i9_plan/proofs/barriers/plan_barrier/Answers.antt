@@ -1,0 +1,115 @@
+use Rattle.std.proofs.Common.{ℕ, Ok, refl, subst}
+use Rattle.i9_isa.specs.declared.op.Op.TheVariants.{Atadd, Atmod, Call, Callx, Calls, Ret, Flushreg, Modac, Modtc, Modpc, Sdma, Sysctl}
+use Rattle.i9_model.specs.Step.{call_action}
+use Rattle.i9_model.specs.Access.{SavesAt}
+use Rattle.i9_model.specs.declared.layout.TheConstants.{FP}
+use Rattle.i9_model.specs.Frames.{rounded_down}
+use Rattle.i9_processor.specs.State.{state_of}
+use Rattle.i9_plan.specs.Planned.{IsPlanFor}
+use Rattle.i9_plan.proofs.Faulting.{calls_number, sdma_channel, sysctl_message}
+use Rattle.i9_plan.proofs.Outcomes.{IsOther, not_own, other_plan, by_name, barrier_has_no_result, barrier_goes_on}
+use Rattle.i9_plan.proofs.barriers.plan_barrier.Goals as goal
+
+pub plan_calls-requires-clause-number : goal.plan_calls-requires-clause-number
+plan_calls-requires-clause-number c = calls_number c.args.i.now _ _ _ _ _ c.in-Calls.is c.requires.calm
+
+pub plan_sdma-requires : goal.plan_sdma-requires
+plan_sdma-requires c = sdma_channel c.args.i.now _ _ _ _ _ c.in-Sdma.is c.requires.calm
+
+pub plan_message-requires-clause-message : goal.plan_message-requires-clause-message
+plan_message-requires-clause-message c = sysctl_message c.args.i.now _ _ _ _ _ c.in-Sysctl.is c.requires.calm
+
+pub returns-in-Atadd : goal.returns-in-Atadd
+returns-in-Atadd c =
+    let i = c.args.i.now in
+    let s = state_of c.args.p.now in
+    by_name Atadd i s _ c.in-Atadd.is c.plan_atadd.ensures
+
+pub returns-in-Atmod : goal.returns-in-Atmod
+returns-in-Atmod c =
+    let i = c.args.i.now in
+    let s = state_of c.args.p.now in
+    by_name Atmod i s _ c.in-Atmod.is c.plan_atmod.ensures
+
+pub returns-in-Calls : goal.returns-in-Calls
+returns-in-Calls c =
+    let i = c.args.i.now in
+    let s = state_of c.args.p.now in
+    by_name Calls i s _ c.in-Calls.is c.plan_calls.ensures
+
+pub returns-in-Ret : goal.returns-in-Ret
+returns-in-Ret c =
+    let i = c.args.i.now in
+    let s = state_of c.args.p.now in
+    by_name Ret i s _ c.in-Ret.is c.plan_return.ensures
+
+pub returns-in-Sysctl : goal.returns-in-Sysctl
+returns-in-Sysctl c =
+    let i = c.args.i.now in
+    let s = state_of c.args.p.now in
+    by_name Sysctl i s _ c.in-Sysctl.is c.plan_message.ensures
+
+pub returns-in-Sdma : goal.returns-in-Sdma
+returns-in-Sdma c =
+    let i = c.args.i.now in
+    let s = state_of c.args.p.now in
+    by_name Sdma i s (Ok c.plan_sdma.result) c.in-Sdma.is (refl, c.plan_sdma.ensures)
+
+pub returns-in-Modac : goal.returns-in-Modac
+returns-in-Modac c =
+    let i = c.args.i.now in
+    let s = state_of c.args.p.now in
+    by_name Modac i s (Ok c.plan_modac.result) c.in-Modac.is (refl, c.plan_modac.ensures)
+
+pub returns-in-Modtc : goal.returns-in-Modtc
+returns-in-Modtc c =
+    let i = c.args.i.now in
+    let s = state_of c.args.p.now in
+    by_name Modtc i s (Ok c.plan_modtc.result) c.in-Modtc.is (refl, c.plan_modtc.ensures)
+
+pub returns-in-Modpc : goal.returns-in-Modpc
+returns-in-Modpc c =
+    let i = c.args.i.now in
+    let s = state_of c.args.p.now in
+    by_name Modpc i s (Ok c.plan_modpc.result) c.in-Modpc.is (refl, c.plan_modpc.ensures)
+
+pub returns-in-Flushreg : goal.returns-in-Flushreg
+returns-in-Flushreg c =
+    let i = c.args.i.now in
+    let s = state_of c.args.p.now in
+    by_name Flushreg i s (Ok c.flushing.result) c.in-Flushreg.is (refl, c.flushing.ensures)
+
+pub returns-in-Call : goal.returns-in-Call
+returns-in-Call c =
+    let i = c.args.i.now in
+    let s = state_of c.args.p.now in
+    by_name Call i s _ c.in-Call.is (subst (λ (a : ℕ). IsPlanFor s (SavesAt (rounded_down (s.regs FP))) (call_action i s a) c.plan_call.result) c.target.ensures c.plan_call.ensures)
+
+pub returns-in-Callx : goal.returns-in-Callx
+returns-in-Callx c =
+    let i = c.args.i.now in
+    let s = state_of c.args.p.now in
+    by_name Callx i s _ c.in-Callx.is (subst (λ (a : ℕ). IsPlanFor s (SavesAt (rounded_down (s.regs FP))) (call_action i s a) c.plan_call-in-Callx.result) c.address.ensures c.plan_call-in-Callx.ensures)
+
+pub returns-in_default : goal.returns-in_default
+returns-in_default c =
+    let i = c.args.i.now in
+    let s = state_of c.args.p.now in
+    let b = c.requires.barrier in
+    let other : IsOther i.op = record {
+      barrier = b;
+      not_atadd = c.in_default.not-Atadd;
+      not_atmod = c.in_default.not-Atmod;
+      not_call = c.in_default.not-Call;
+      not_callx = c.in_default.not-Callx;
+      not_calls = c.in_default.not-Calls;
+      not_ret = c.in_default.not-Ret;
+      not_flushreg = c.in_default.not-Flushreg;
+      not_modac = c.in_default.not-Modac;
+      not_modtc = c.in_default.not-Modtc;
+      not_modpc = c.in_default.not-Modpc;
+      not_sdma = c.in_default.not-Sdma;
+      not_sysctl = c.in_default.not-Sysctl;
+    } in
+    other_plan i s c.passing.result (not_own i.op other) (barrier_has_no_result i.op b) (barrier_goes_on i.op b)
+    (c.results_by_name.ensures i _ _ _ _) c.passing.ensures.effect

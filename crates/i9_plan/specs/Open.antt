@@ -1,0 +1,52 @@
+-- What stands at the instruction address while something is open.
+use Rattle.std.specs.Prelude.{◌≡◌, ℕ, false, Option, IsTrue}
+use Rattle.std.specs.Option.{is_some}
+use Rattle.i9_isa.specs.declared.inst.Inst.{Inst}
+use Rattle.i9_isa.specs.Valid.{IsValid}
+use Rattle.i9_isa.specs.Words.{words_of}
+use Rattle.i9_model.specs.declared.faults.TheConstants.{ARITHMETIC}
+use Rattle.i9_model.specs.State.{State}
+use Rattle.i9_model.specs.declared.need.Need.{Need}
+use Rattle.i9_model.specs.Needs.{is_barrier_name, writes_sfr, inst_need}
+use Rattle.i9_model.specs.Traced.{traced_action}
+use Rattle.i9_model.specs.HeldFrames.{Cache}
+use Rattle.i9_model.specs.Standing.{Standing, Faults, Runs, stands_at}
+use Rattle.i9_model.specs.Run.{next_by_standing}
+use Rattle.i9_course.specs.NeedOf.{facts_of, need_ahead}
+use Rattle.i9_processor.specs.declared.effect.Effect.{Effect}
+use Rattle.i9_processor.specs.Effect.{IsEffect}
+use Rattle.i9_plan.specs.declared.open.Open.{Open}
+use Rattle.i9_plan.specs.declared.open.Open.TheVariants as opens
+use Rattle.i9_plan.specs.Planned.{TellsWords, AreRequestsInRow}
+
+-- what stands there waits for all before it, whatever number of sets is asked for, and whatever is held
+abbrev pub WaitsForAll : State → Standing → Type 0
+WaitsForAll s x = (asked : Option ℕ) (c : Cache) → IsTrue (need_ahead asked c (next_by_standing s x)).barrier
+
+-- an instruction that is no barrier by its name, and that writes no special function register
+pub record IsNoBarrier (i : Inst) : Type 0 where
+  pub named : is_barrier_name i.op ≡ false
+  pub written : writes_sfr i ≡ false
+
+-- what is told to wait does wait; an instruction that is told runs, or faults by its result, and is no barrier
+abbrev pub OpenStands : State → Open → Type 0
+OpenStands s opens.Waits = WaitsForAll s (stands_at s)
+OpenStands s (opens.Runs words i) = (stands_at s ≡ Runs i) × IsNoBarrier i
+OpenStands s (opens.Faults words i number) = (stands_at s ≡ Faults i number) × (number.0 ≡ ARITHMETIC) × IsNoBarrier i
+
+-- its words are told, and its effect is its action, with its trace events
+abbrev pub OpenPlanned : State → Open → Effect → Type 0
+OpenPlanned s opens.Waits e = Unit {0}
+OpenPlanned s (opens.Runs words i) e =
+    TellsWords (words_of i) s words × IsEffect s (traced_action i s) e × AreRequestsInRow i e × IsValid i
+OpenPlanned s (opens.Faults words i number) e = TellsWords (words_of i) s words × IsValid i
+
+-- what stands there needs this, whatever number of sets is asked for, and whatever is held
+abbrev pub NeedsAhead : State → Need → Type 0
+NeedsAhead s need = (asked : Option ℕ) (c : Cache) → need_ahead asked c (next_by_standing s (stands_at s)) ≡ need
+
+-- an instruction that is told moves no frame, and its need is by its facts
+abbrev pub OpenNeeds : State → Open → Type 0
+OpenNeeds s opens.Waits = Unit {0}
+OpenNeeds s (opens.Runs words i) = NeedsAhead s (inst_need i (facts_of i s 0 false (is_some (traced_action i s).trace)))
+OpenNeeds s (opens.Faults words i number) = NeedsAhead s (inst_need i (facts_of i s 0 false false))

@@ -1,0 +1,74 @@
+//! What is known of an instruction beside its fields.
+ghost use Rattle.std.specs.Prelude.{◌≡◌, ◌<◌, ◌≤◌, true};
+ghost use Rattle.i9_model.specs.Memory.{region_of};
+ghost use Rattle.i9_model.specs.Access.{access_of};
+ghost use Rattle.i9_course.specs.NeedOf.{touches_port, access_waits, facts_of};
+ghost use Rattle.i9_need.specs.Known.{AreFacts, moves_a_frame};
+ghost use Rattle.i9_processor.specs.State.{state_of};
+ghost use Rattle.i9_plan.specs.Planned.{Moves};
+
+use crate::outcome::is_precise;
+use crate::raised::data_access;
+use crate::sources::atomic_address;
+use crate::transfers::{Moving, transfer_at};
+use i9_isa::{Direction, Inst, Op};
+use i9_model::Facts;
+use i9_processor::Processor;
+use i9_watch::Watch;
+
+/// Whether a data access has a byte in the port page.
+fn touches_port(access: Option<(u32, u32)>) -> bool
+    ensures { result ≡ touches_port access }
+{
+    match access {
+        None => false,
+        Some((address, n)) => Watch::touches_port(address, n).is_some(),
+    }
+}
+
+/// The region of an address.
+fn region_of(a: u32) -> u8
+    ensures value { result ≡ region_of a }
+    ensures few { result < 16 }
+{
+    (a >> 28) as u8
+}
+
+/// The wait states of an instruction's data access, to read and to write together for an atomic one.
+fn access_waits(p: &Processor, i: &Inst, moving: Option<Moving>) -> u64
+    requires { Moves (state_of p.now) i.now moving }
+    ensures { result ≡ access_waits (state_of p.now).memory (access_of i.now (state_of p.now)) }
+{
+    if let Some(m) = moving {
+        let writes = m.transfer.direction == Direction::Store;
+        return p.waits(region_of(m.address), writes);
+    }
+    match i.op {
+        Op::Atadd | Op::Atmod => {
+            let region = region_of(atomic_address(p, i));
+            p.waits(region, false) + p.waits(region, true)
+        }
+        _ => 0,
+    }
+}
+
+/// What is known of an instruction that meets no hazard, with the number of frames that it moves, whether
+/// it raises another fault than an arithmetic or a trace fault, and whether it raises a trace fault.
+pub fn facts(p: &Processor, i: &Inst, frames: u8, fault: bool, trace: bool) -> Facts
+    ensures facts { result ≡ facts_of i.now (state_of p.now) frames fault trace }
+    ensures known { frames ≤ 15 → (moves_a_frame i.now.op ≡ true → frames ≤ 1) → AreFacts i.now result }
+{
+    let moving = transfer_at(p, i);
+    let access = data_access(p, i, moving);
+    Facts {
+        ip: p.ip(),
+        access,
+        port: touches_port(access),
+        waits: access_waits(p, i, moving),
+        frames,
+        fault,
+        trace,
+        hazard: false,
+        alone: is_precise(p),
+    }
+}

@@ -1,0 +1,133 @@
+//! What is needed by what is planned: by an instruction that is done or that faults, by a word that is
+//! refused, by the entry of a fault or of an interrupt, and by an event.
+ghost use Rattle.std.specs.Prelude.{◌≡◌, ◌≤◌, ℕ, List, Some, None, length};
+ghost use Rattle.i9_isa.specs.Valid.{IsValid};
+ghost use Rattle.i9_model.specs.declared.faults.Entry.{Entry};
+ghost use Rattle.i9_model.specs.declared.interrupts.Chosen.{Chosen};
+ghost use Rattle.i9_model.specs.State.{State};
+ghost use Rattle.i9_model.specs.HeldFrames.{Cache};
+ghost use Rattle.i9_model.specs.Before.{Received, interrupting};
+ghost use Rattle.i9_model.specs.Step.{Saves, entering};
+ghost use Rattle.i9_model.specs.Traced.{traced_action};
+ghost use Rattle.i9_model.specs.Run.{Instruction, Faulted, Entered, Interrupted, Reached, Blocked, fault_at};
+ghost use Rattle.i9_course.specs.NeedOf.{is_of_dma, moved_frames, need_of};
+ghost use Rattle.i9_processor.specs.Effect.{IsEffect, move_in};
+ghost use Rattle.i9_processor.specs.State.{state_of, cache_of, size_of};
+
+use crate::known::facts;
+use i9_isa::Inst;
+use i9_model::faults::ARITHMETIC;
+use i9_model::{Event, Need};
+use i9_need::{entry_need, event_need, inst_need, refused_need};
+use i9_processor::{Effect, Move, Processor};
+
+/// How many frames are held: at most 15, since there are no more sets.
+fn held_frames(p: &Processor) -> u8
+    ensures value { result ≡ length (cache_of p.now).held }
+    ensures few { result ≤ 15 }
+{
+    let sets = p.sets();
+    sets.len().min(sets.size())
+}
+
+/// How many frames a save spills: one where all sets are taken.
+fn spilled_frames(p: &Processor) -> u8
+    ensures value { (save : ℕ) (words : List ℕ)
+        → result ≡ moved_frames (size_of p.now) (cache_of p.now) (Saves save words) }
+    ensures few { result ≤ 1 }
+{
+    u8::from(held_frames(p) >= p.sets().size())
+}
+
+/// How many frames a move spills, refills or flushes.
+fn moved_frames(p: &Processor, m: &Move) -> u8
+    ensures value { result ≡ moved_frames (size_of p.now) (cache_of p.now) (move_in (state_of p.now) m.now) }
+    ensures few { result ≤ 15 }
+{
+    match m {
+        Move::Stays => 0,
+        Move::Saves { .. } => spilled_frames(p),
+        Move::Returns(_) => u8::from(held_frames(p) == 0),
+        Move::Flushes => held_frames(p),
+    }
+}
+
+/// What an instruction needs that is done by this effect.
+#[tactic(auto, unfolding(i9_course::specs::NeedOf::need_of))]
+pub fn need_done(p: &Processor, inst: &Inst, effect: &Effect) -> Need
+    requires valid { IsValid inst.now }
+    requires effect { IsEffect (state_of p.now) (traced_action inst.now (state_of p.now)) effect.now }
+    ensures need { result ≡ need_of (size_of p.now) (cache_of p.now) (state_of p.now) (Instruction inst.now) }
+    ensures cost { result.cost ≤ 248 }
+{
+    let frames = moved_frames(p, &effect.frames);
+    let known = facts(p, inst, frames, false, effect.trace.is_some());
+    inst_need(inst, &known)
+}
+
+/// What an instruction needs that raises a fault of this type and subtype.
+#[tactic(auto, unfolding(i9_course::specs::NeedOf::need_of))]
+pub fn need_faulted(p: &Processor, inst: &Inst, number: (u8, u16)) -> Need
+    requires valid { IsValid inst.now }
+    ensures need { (n : ℕ) (c : Cache)
+        → result ≡ need_of n c (state_of p.now) (Faulted (Some inst.now) (fault_at (state_of p.now) number)) }
+    ensures cost { result.cost ≤ 248 }
+{
+    let known = facts(p, inst, 0, number.0 != ARITHMETIC, false);
+    inst_need(inst, &known)
+}
+
+/// What a word needs that is refused by a fault of this type and subtype.
+#[tactic(auto, unfolding(i9_course::specs::NeedOf::need_of))]
+pub fn need_refused(p: &Processor, number: (u8, u16)) -> Need
+    ensures need { (n : ℕ) (c : Cache)
+        → result ≡ need_of n c (state_of p.now) (Faulted None (fault_at (state_of p.now) number)) }
+    ensures cost { result.cost ≤ 248 }
+{
+    // It is the same for each fault.
+    let _ = number;
+    refused_need(p.ip())
+}
+
+/// How many frames an entry spills that does this to frames.
+fn entry_frames(p: &Processor, m: &Move) -> u8
+    ensures value { (save : ℕ) (words : List ℕ) → move_in (state_of p.now) m.now ≡ Saves save words
+        → result ≡ moved_frames (size_of p.now) (cache_of p.now) (Saves save words) }
+    ensures few { result ≤ 1 }
+{
+    match m {
+        Move::Saves { .. } => spilled_frames(p),
+        _ => 0,
+    }
+}
+
+/// What the entry of a fault or of an interrupt needs that is done by this effect.
+#[tactic(auto, unfolding(i9_course::specs::NeedOf::need_of))]
+pub fn need_entered(p: &Processor, effect: &Effect) -> Need
+    ensures fault { (x : Entry) → IsEffect (state_of p.now) (entering x (state_of p.now)) effect.now
+        → result ≡ need_of (size_of p.now) (cache_of p.now) (state_of p.now) (Entered x) }
+    ensures interrupt { (c : Chosen) (x : Entry)
+        → IsEffect (state_of p.now) (interrupting c x (state_of p.now)) effect.now
+        → result ≡ need_of (size_of p.now) (cache_of p.now) (state_of p.now) (Interrupted c x) }
+    ensures cost { result.cost ≤ 248 }
+{
+    entry_need(entry_frames(p, &effect.frames))
+}
+
+/// Whether an event is one of DMA.
+fn is_of_dma(event: &Event) -> bool
+    ensures { result ≡ is_of_dma event.now }
+{
+    matches!(event, Event::Dma(_) | Event::Feed(_, _))
+}
+
+/// What an event needs that is reached, whether it meets a hazard or not.
+#[tactic(auto, unfolding(i9_course::specs::NeedOf::need_of))]
+pub fn need_reached(event: &Event) -> Need
+    ensures reached { (n : ℕ) (c : Cache) (s : State) (u : Received)
+        → result ≡ need_of n c s (Reached event.now u) }
+    ensures blocked { (n : ℕ) (c : Cache) (s : State) (a : ℕ) → result ≡ need_of n c s (Blocked event.now a) }
+    ensures cost { result.cost ≤ 248 }
+{
+    event_need(is_of_dma(event), 0)
+}

@@ -1,0 +1,79 @@
+//! What stands at the instruction address while something is open.
+ghost use Rattle.std.specs.Prelude.{◌≡◌, ◌||◌};
+ghost use Rattle.i9_model.specs.Needs.{is_barrier_name, writes_sfr};
+ghost use Rattle.i9_processor.specs.State.{state_of};
+ghost use Rattle.i9_plan.specs.Open.{OpenStands, OpenPlanned, OpenNeeds};
+
+use crate::effects::pass;
+use crate::fetched::{Fetched, Words, fetch};
+use crate::memo::Memo;
+use crate::names::{is_barrier, writes_special};
+use crate::outcome::{Outcome, outcome_open};
+use crate::tracing::follow;
+use i9_isa::Inst;
+use i9_model::faults::ARITHMETIC;
+use i9_processor::{Effect, Processor};
+
+/// What stands at the instruction address while something is open.
+#[derive(Debug, Drop)]
+pub enum Open {
+    /// A barrier, a word that is refused, a fault that is raised before anything is done, a hazard, or
+    /// what is not built: it waits until all is done.
+    Waits,
+    /// An instruction that is done.
+    Runs {
+        words: Words,
+        inst: Inst,
+    },
+    /// An instruction whose result is an arithmetic fault of this type and subtype.
+    Faults {
+        words: Words,
+        inst: Inst,
+        number: (u8, u16),
+    },
+}
+
+/// Whether an instruction passes nothing, and nothing passes it, by its name, or since it writes a special
+/// function register.
+fn stands_apart(i: &Inst) -> bool
+    ensures { result ≡ (is_barrier_name i.now.op || writes_sfr i.now) }
+{
+    is_barrier(i.op) || writes_special(i)
+}
+
+/// What stands at the instruction address while records are open: what they leave in the end is what is
+/// read, so an instruction that is no barrier is planned at once, and its effect, with its trace events, is
+/// made in `effect`. Whether it is a barrier by what it accesses, or by its trace events, its need says.
+// It is no part of the code that calls it, as `plan_next` is none.
+#[inline(never)]
+pub fn plan_open(p: &Processor, memo: &mut Memo, effect: &mut Effect) -> Open
+    ensures stands { OpenStands (state_of p.now) result }
+    ensures planned { OpenPlanned (state_of p.now) result effect.new }
+    ensures needs { OpenNeeds (state_of p.now) result }
+{
+    let Fetched { words, inst } = match fetch(p, memo) {
+        Ok(fetched) => fetched,
+        Err(_) => return Open::Waits,
+    };
+    if stands_apart(&inst) {
+        return Open::Waits;
+    }
+    pass(p, &inst, effect);
+    match outcome_open(p, &inst, effect) {
+        Outcome::Runs => {
+            follow(p, &inst, effect);
+            Open::Runs { words, inst }
+        }
+        Outcome::Faults(number) => {
+            if number.0 != ARITHMETIC {
+                return Open::Waits;
+            }
+            Open::Faults {
+                words,
+                inst,
+                number,
+            }
+        }
+        Outcome::Meets(_) | Outcome::NotBuilt => Open::Waits,
+    }
+}

@@ -1,0 +1,231 @@
+-- Registers and the condition code behind an issue, and cells in which nothing is planned.
+use Rattle.std.proofs.Common.{◌≡◌, ℕ, zero, suc, ◌+◌, ◌-◌, ◌*◌, ◌/◌, ◌%◌, ◌<◌, ◌≤◌, Bool, true, false, cond, eqb, nat_lt}
+use Rattle.std.proofs.Common.{List, ◌∷◌, [], length, replicate, Option, None, ◌⊎◌}
+use Rattle.std.proofs.Common.{refl, sym, ap, ◌∙◌, inl, inr, arith}
+use Rattle.std.specs.Prelude.{unwrap_or, slice_index, slice_set}
+use Rattle.std.specs.Int.{bit_at, IsBitSet}
+use Rattle.std.proofs.lemmas.Bool.{cases_Bool, cases_lt}
+use Rattle.std.proofs.lemmas.Bool.Decides.{nat_tests}
+use Rattle.std.proofs.lemmas.Nat.Bits.{bit_at-lt}
+use Rattle.i9_isa.specs.declared.resources.TheConstants.{CONDITION_CODE}
+use Rattle.i9_isa.specs.Resources.{is_in_frame}
+use Rattle.i9_model.specs.declared.need.Cell.{Cell}
+use Rattle.i9_model.specs.Late.{resources, cell, landed, latest, latest_value, issued_cell}
+use Rattle.i9_model.specs.Writes.{written, pairs_at, last_put}
+use Rattle.i9_model.specs.State.{frame_sets}
+use Rattle.i9_model.proofs.LateOrder.{landed_latest}
+use Rattle.i9_model.proofs.MaskLaws.{frame_beside}
+use Rattle.i9_model.proofs.Stored.{written-last}
+use Rattle.i9_model.proofs.TurnTests.{set-one, one-set}
+use Rattle.i9_regs.specs.File.{cell_in, latest_of}
+use Rattle.i9_regs.proofs.Issued.{issued_one, issued_none, written_in}
+use Rattle.i9_processor.specs.State.{registers_of, arithmetic_of}
+use Rattle.i9_processor.specs.Issued.{AreCovered, IsCodeCovered, IsStartCovered, resource_of, IsIssued, AreStill}
+use Rattle.i9_processor.proofs.RegisterList.{registers_at, registers_past, frame_written, zero_at}
+
+-- ---- what is set is in the set of resources
+
+-- a bit that is not set is 0
+cases_bit : (n k : ℕ) → (bit_at n k ≡ 1) ⊎ (bit_at n k ≡ 0)
+cases_bit n k = elim (cases_lt 0 (bit_at n k)) [
+  | inl some ↦ inl (omega (arith, bit_at-lt n k))
+  | inr none ↦ inr (omega arith)
+]
+
+-- a resource that is set whatever it was before
+put_set : (writes r v : ℕ) (sets : List (ℕ × ℕ)) → AreCovered writes sets → r < resources
+    → ((f : ℕ → ℕ) → written f sets r ≡ v) → IsBitSet writes r
+put_set writes r v sets covered few is = elim (cases_bit writes r) [
+  | inl one ↦ one-set writes r one
+  | inr clear ↦
+      let f : ℕ → ℕ = λ x. v + 1 in
+      let before = ap (λ o. unwrap_or o (v + 1)) (covered r few clear) in
+      let kept : written f sets r ≡ v + 1 = written-last f sets r ∙ before in
+      absurd (omega (arith, kept, is f))
+]
+
+pub group_set : (writes register : ℕ) (values : List ℕ) → register + length values ≤ 32
+    → AreCovered writes (pairs_at (λ k. k) register values) → (k : ℕ) → k < length values
+    → IsBitSet writes (register + k)
+group_set writes register values range covered k within =
+    put_set writes (register + k) (slice_index values k) (pairs_at (λ k. k) register values) covered
+    (omega (arith, range, within)) (λ f. written_in f register values k within)
+
+pub locals_set : (writes frame : ℕ) (locals : List ℕ) → length locals ≡ 16
+    → AreCovered writes (frame_sets locals frame) → (k : ℕ) → k < 16 → IsBitSet writes k
+locals_set writes frame locals whole covered k within =
+    let low : k < length locals = omega (arith, whole, within) in
+    let here : 0 + k ≡ k = omega arith in
+    let other : eqb k 31 ≡ false = grind (arith, nat_tests, within) in
+    let is : (f : ℕ → ℕ) → written f (frame_sets locals frame) k ≡ slice_index locals k = λ f.
+    (λ i. frame_written f locals frame i k)
+    ∙ ap (λ (b : Bool). cond b frame (written f (pairs_at (λ k. k) 0 locals) k)) other
+    ∙ ap (written f (pairs_at (λ k. k) 0 locals)) (sym here)
+    ∙ written_in f 0 locals k low in
+    put_set writes k (slice_index locals k) (frame_sets locals frame) covered (omega (arith, within)) is
+
+pub pointer_set : (writes frame : ℕ) (locals : List ℕ) → AreCovered writes (frame_sets locals frame)
+    → IsBitSet writes 31
+pointer_set writes frame locals covered =
+    put_set writes 31 frame (frame_sets locals frame) covered (omega arith)
+    (λ f i. frame_written f locals frame i 31)
+
+-- ---- sets are of registers
+
+pub group_past : (register r : ℕ) (values : List ℕ) → register + length values ≤ r
+    → last_put (pairs_at (λ k. k) register values) r ≡ None
+unfolding last_put
+group_past register r [] past = refl
+group_past register r (v ∷ vs) past =
+    let other : eqb r register ≡ false = grind (arith, nat_tests, past) in
+    let later = group_past (register + 1) r vs (omega (arith, past)) in
+    cc
+
+pub frame_past : (locals : List ℕ) (frame r : ℕ) → length locals ≡ 16 → 32 ≤ r
+    → last_put (frame_sets locals frame) r ≡ None
+frame_past locals frame r whole past = frame_beside locals frame r whole (grind (arith, nat_tests, past))
+
+-- ---- registers, condition code and cells behind an issue
+
+module _ (olds news : List Cell) (writes done flags ac : ℕ) (sets : List (ℕ × ℕ))
+    (past : (r : ℕ) → 32 ≤ r → last_put sets r ≡ None)
+    (covered : AreCovered writes sets)
+    (kept : IsCodeCovered writes (arithmetic_of flags olds) ac)
+    (all : (r : ℕ) → r < resources
+    → cell_in news r ≡ issued_cell writes done r
+    (cond (eqb r CONDITION_CODE) (ac % 8) (written (latest_of olds) sets r)) (cell_in olds r)) where
+  abbrev value_of : ℕ → ℕ
+  value_of r = cond (eqb r CONDITION_CODE) (ac % 8) (written (latest_of olds) sets r)
+
+  register_latest : (r : ℕ) → r < 32 → latest (cell_in news r) ≡ written (latest_of olds) sets r
+  register_latest r low =
+      let few : r < resources = omega (arith, low) in
+      let register : eqb r 32 ≡ false = grind (arith, nat_tests, low) in
+      let value : value_of r ≡ written (latest_of olds) sets r =
+      ap (λ (b : Bool). cond b (ac % 8) (written (latest_of olds) sets r)) register in
+      elim (cases_bit writes r) [
+        | inl one ↦ ap latest (all r few ∙ issued_one writes done r (value_of r) (cell_in olds r) one) ∙ value
+        | inr clear ↦
+            ap latest (all r few ∙ issued_none writes done r (value_of r) (cell_in olds r) clear)
+            ∙ ap (λ o. unwrap_or o (latest_of olds r)) (sym (covered r few clear))
+            ∙ sym (written-last (latest_of olds) sets r)
+      ]
+
+  code_latest : latest (cell_in news 32) % 8 ≡ ac % 8
+  unfolding arithmetic_of
+  code_latest =
+      let few : 32 < resources = omega arith in
+      elim (cases_bit writes 32) [
+        | inl one ↦
+            let is = ap latest (all 32 few ∙ issued_one writes done 32 (ac % 8) (cell_in olds 32) one) in
+            omega (arith, is)
+        | inr clear ↦
+            let is = ap latest (all 32 few ∙ issued_none writes done 32 (ac % 8) (cell_in olds 32) clear) in
+            omega (arith, is, kept clear)
+      ]
+
+  register_issued : (r : ℕ) → registers_of news r ≡ written (registers_of olds) sets r
+  register_issued r = elim (cases_lt r 32) [
+    | inl low ↦
+        registers_at news r low
+        ∙ register_latest r low
+        ∙ written-last (latest_of olds) sets r
+        ∙ ap (unwrap_or (last_put sets r)) (sym (registers_at olds r low))
+        ∙ sym (written-last (registers_of olds) sets r)
+    | inr high ↦
+        registers_past news r high
+        ∙ sym (registers_past olds r high)
+        ∙ ap (λ o. unwrap_or o (registers_of olds r)) (sym (past r high))
+        ∙ sym (written-last (registers_of olds) sets r)
+  ]
+
+  pub registers_issued : registers_of news ≡ written (registers_of olds) sets
+  registers_issued = λ i r. register_issued r i
+
+  pub arithmetic_issued : arithmetic_of (ac - ac % 8) news ≡ ac
+  unfolding arithmetic_of
+  arithmetic_issued = let code = code_latest in omega (arith, code)
+
+  value_is : (r : ℕ) (b : Bool) → r < resources → eqb r CONDITION_CODE ≡ b
+      → cond b (ac % 8) (written (latest_of olds) sets r)
+      ≡ cond b (arithmetic_of (ac - ac % 8) news % 8) (registers_of news r)
+  value_is r true few is = ap (λ (n : ℕ). n % 8) (sym arithmetic_issued)
+  value_is r false few is =
+      let low : r < 32 = grind (arith, nat_tests, few, is) in
+      sym (registers_at news r low ∙ register_latest r low)
+
+  pub cells_issued : IsIssued writes done (ac - ac % 8) olds news
+  cells_issued = record {
+    each = λ r few.
+        all r few
+        ∙ ap (λ (v : ℕ). issued_cell writes done r v (cell_in olds r)) (value_is r (eqb r CONDITION_CODE) few refl);
+  }
+
+-- ---- the first frame
+
+pub start_covered : (writes frame : ℕ) (locals : List ℕ) → length locals ≡ 16 → IsStartCovered writes
+    → AreCovered writes (frame_sets locals frame)
+start_covered writes frame locals whole covered r few clear = elim (cases_Bool (is_in_frame r)) [
+  | inl here ↦
+      let one = set-one writes r (covered r few (grind (arith, nat_tests, here))) in
+      absurd (omega (arith, one, clear))
+  | inr beside ↦ frame_beside locals frame r whole beside
+]
+
+pub code_covered : (writes old new : ℕ) → IsStartCovered writes → IsCodeCovered writes old new
+code_covered writes old new covered clear =
+    let one = set-one writes 32 (covered 32 (omega arith) refl) in
+    absurd (omega (arith, one, clear))
+
+-- ---- nothing is planned
+
+still_by : (olds : List Cell) (r v x : ℕ) → ((cell_in olds x).plan ≡ None)
+    → (cell_in (slice_set olds r (cell v None)) x).plan ≡ None
+still_by [] r v x still = still
+still_by (c ∷ cs) zero v zero still = refl
+still_by (c ∷ cs) (suc r) v zero still = still
+still_by (c ∷ cs) zero v (suc x) still = still
+still_by (c ∷ cs) (suc r) v (suc x) still = still_by cs r v x still
+
+pub still_set : (olds news : List Cell) (r v : ℕ) → news ≡ slice_set olds r (cell v None) → AreStill olds
+    → AreStill news
+still_set olds news r v is still x few =
+    ap (λ (cs : List Cell). (cell_in cs x).plan) is ∙ still_by olds r v x (still x few)
+
+pub new_still : (cells : List Cell) → cells ≡ replicate resources (cell 0 None) → AreStill cells
+new_still cells is r few =
+    ap (λ (cs : List Cell). (cell_in cs r).plan) is ∙ ap (λ (c : Cell). c.plan) (zero_at resources r)
+
+-- each cell then has its resource, where the condition code has three bits
+still_cell : (c : Cell) → c.plan ≡ None → c ≡ cell (latest c) None
+still_cell c none =
+    ap (λ (p : Option (ℕ × ℕ)). cell c.value p) none
+    ∙ ap (λ (p : Option (ℕ × ℕ)). cell (latest_value p c.value) None) (sym none)
+
+pub cell_resource : (flags ac : ℕ) (cells : List Cell) → AreStill cells
+    → cell_in cells CONDITION_CODE ≡ cell (ac % 8) None → arithmetic_of flags cells ≡ ac
+    → (r : ℕ) → r < resources → cell_in cells r ≡ cell (resource_of flags cells r) None
+cell_resource flags ac cells still code is r few = by_code (eqb r CONDITION_CODE) refl
+  where
+    by_code : (b : Bool) → eqb r CONDITION_CODE ≡ b
+        → cell_in cells r ≡ cell (cond b (arithmetic_of flags cells % 8) (registers_of cells r)) None
+    by_code true here =
+        let same : r ≡ 32 = grind (arith, nat_tests, here) in
+        ap (cell_in cells) same ∙ code ∙ ap (λ (n : ℕ). cell (n % 8) None) (sym is)
+    by_code false other =
+        let low : r < 32 = grind (arith, nat_tests, other, few) in
+        still_cell (cell_in cells r) (still r few) ∙ ap (λ (v : ℕ). cell v None) (sym (registers_at cells r low))
+
+-- ---- values that take their place
+
+pub registers_landed : (turn : ℕ) (olds news : List Cell)
+    → ((r : ℕ) → cell_in news r ≡ landed turn (cell_in olds r)) → registers_of news ≡ registers_of olds
+unfolding registers_of
+registers_landed turn olds news all = λ i r.
+    ap (λ (v : ℕ). cond (nat_lt r 32) v 0) (ap latest (all r) ∙ landed_latest turn (cell_in olds r)) i
+
+pub arithmetic_landed : (flags turn : ℕ) (olds news : List Cell)
+    → ((r : ℕ) → cell_in news r ≡ landed turn (cell_in olds r)) → arithmetic_of flags news ≡ arithmetic_of flags olds
+unfolding arithmetic_of
+arithmetic_landed flags turn olds news all =
+    ap (λ (v : ℕ). flags / 8 * 8 + v % 8) (ap latest (all 32) ∙ landed_latest turn (cell_in olds 32))
