@@ -9,7 +9,7 @@ use Rattle.i9_model.specs.declared.faults.Fault.{Fault}
 use Rattle.i9_model.specs.declared.need.Need.{Need}
 use Rattle.i9_model.specs.State.{State}
 use Rattle.i9_model.specs.HeldFrames.{Cache, cache_after}
-use Rattle.i9_model.specs.Standing.{Standing, Meets, NotBuilt, Refused, Faults, Runs, stands_at}
+use Rattle.i9_model.specs.Standing.{Standing, Meets, Refused, Faults, Runs, stands_at}
 use Rattle.i9_model.specs.Run.{Given, Kind, Instruction, Faulted, Entered, Interrupted, Reached, Blocked, Record, Next, next_by_standing, state_after}
 use Rattle.i9_model.specs.Turns.{CanIssue, last_issue, end_turn, waiting_until}
 use Rattle.i9_model.specs.Late.{Late, turns}
@@ -129,7 +129,6 @@ alone_need : (asked : Option ℕ) (c : Cache) (s : State) (x : Standing) → IsT
     ⊎ IsTrue (need_ahead asked c (next_by_standing s x)).alone
 unfolding need_of
 alone_need asked c s (Meets a) alone = inl refl
-alone_need asked c s NotBuilt alone = inl refl
 alone_need asked c s (Refused number) alone = inl refl
 alone_need asked c s (Faults i number) alone = inr alone
 alone_need asked c s (Runs i) alone = inr alone

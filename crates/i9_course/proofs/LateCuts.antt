@@ -1,5 +1,5 @@
 -- A length cuts a late run, but for arithmetic faults at the length itself, which are precise there.
-use Rattle.std.proofs.Common.{◌≡◌, ◌≢◌, ℕ, ◌+◌, ◌<◌, ◌≤◌, Bool, true, cond, eqb, List, [], ◌∷◌, Option, Some, None, refl, sym, ap, ◌∙◌, subst, ◌⊎◌, inl, inr, ◌↔◌, arith}
+use Rattle.std.proofs.Common.{◌≡◌, ◌≢◌, ℕ, ◌+◌, ◌<◌, ◌≤◌, Bool, true, false, cond, eqb, List, [], ◌∷◌, Option, Some, None, refl, sym, ap, ◌∙◌, subst, ◌⊎◌, inl, inr, ◌↔◌, arith}
 use Rattle.std.specs.Prelude.{nat_lt}
 use Rattle.std.proofs.lemmas.Bool.{lt-ltb}
 use Rattle.std.proofs.lemmas.Bool.Decides.{nat_tests}
@@ -7,7 +7,7 @@ use Rattle.i9_model.specs.declared.event.Event.{Event}
 use Rattle.i9_model.specs.declared.run.Due.{Due}
 use Rattle.i9_model.specs.declared.run.Due.TheVariants as dues
 use Rattle.i9_model.specs.declared.run.End.{End}
-use Rattle.i9_model.specs.declared.run.End.TheVariants.{Limit}
+use Rattle.i9_model.specs.declared.run.End.TheVariants.{Limit, Imprecise}
 use Rattle.i9_model.specs.State.{State}
 use Rattle.i9_model.specs.Before.{choice_in}
 use Rattle.i9_model.specs.Run.{Given, Kind, Instruction, Faulted, Entered, Interrupted, Reached, Blocked, Record, Ends, counts_of, action_by_kind, due_by, due_after, event_after, next_by_choice, next_in, state_after, next, IsPast}
@@ -16,7 +16,7 @@ use Rattle.i9_model.proofs.Comes.{MayCome, next_comes}
 use Rattle.i9_model.proofs.Ends.{count_within}
 use Rattle.i9_model.proofs.Cuts.{state_by, past_more, run_more}
 use Rattle.i9_course.specs.Course.{last_fault, is_overtaken, imprecise_at}
-use Rattle.i9_course.specs.LateRun.{steps, IsLatePast, Ended, Imprecise, IsLateRun}
+use Rattle.i9_course.specs.LateRun.{steps, IsLatePast, IsLateRun, is_imprecise}
 use Rattle.i9_course.proofs.Ahead.{imprecise_overtaken}
 use Rattle.i9_course.proofs.LateRuns.{records_of-steps, late_past, late_next, with_step, run_imprecise, imprecise_run, run_precise, precise_run, late_run, either_none}
 use Rattle.i9_course.proofs.LateAlike.{imprecise_where}
@@ -156,34 +156,35 @@ limit_no e other h = other (let same : e ≡ Limit = cc in same)
 
 -- all records are done late at the greater length
 past_ended : (g : Given) (more : ℕ) (rs : List Record) (e : End) → g.length ≤ more → e ≢ Limit
-    → IsLateRun g rs (Ended e) → IsLatePast (at_length g more) rs
-past_ended g more [] e longer other run = tt
-past_ended g more (r ∷ rs) e longer other run =
-    let is = late_run g (r ∷ rs) e run in
+    → is_imprecise e ≡ false → IsLateRun g rs e → IsLatePast (at_length g more) rs
+past_ended g more [] e longer other plain run = tt
+past_ended g more (r ∷ rs) e longer other plain run =
+    let is = late_run g (r ∷ rs) e plain run in
     let lt = goes_below g rs r is.past (λ no. limit_no e other (sym is.ends ∙ no)) in
     last_more g more rs r longer run.past (imprecise_more g more rs longer lt ∙ run.past.1)
 
 pub ended_more : (g : Given) (more : ℕ) (rs : List Record) (e : End) → g.length ≤ more → e ≢ Limit
-    → IsLateRun g rs (Ended e)
-    → (IsLateRun (at_length g more) rs (Ended e) ↔ imprecise_at (at_length g more) (steps rs) ≡ None)
-ended_more g more rs e longer other run =
+    → is_imprecise e ≡ false → IsLateRun g rs e
+    → (IsLateRun (at_length g more) rs e ↔ imprecise_at (at_length g more) (steps rs) ≡ None)
+ended_more g more rs e longer other plain run =
     let k = at_length g more in (
-      λ there. run_precise k rs e there,
-      λ none. precise_run k rs e (past_ended g more rs e longer other run) none
-          (run_more g more rs e longer other (late_run g rs e run)).ends,
+      λ there. run_precise k rs e plain there,
+      λ none. precise_run k rs e (past_ended g more rs e longer other plain run) none
+          (run_more g more rs e longer other (late_run g rs e plain run)).ends,
     )
 
 pub ended_longer : (g : Given) (more : ℕ) (rs : List Record) (e : End) → g.length ≤ more → e ≢ Limit
-    → IsLateRun g rs (Ended e) → (last_fault rs ≡ None) ⊎ ((state_after g rs).count < g.length)
-    → IsLateRun (at_length g more) rs (Ended e)
-ended_longer g more rs e longer other run h =
-    (ended_more g more rs e longer other run).1 (precise_more g more rs longer run.past (run_precise g rs e run) h)
+    → is_imprecise e ≡ false → IsLateRun g rs e → (last_fault rs ≡ None) ⊎ ((state_after g rs).count < g.length)
+    → IsLateRun (at_length g more) rs e
+ended_longer g more rs e longer other plain run h =
+    (ended_more g more rs e longer other plain run).1
+    (precise_more g more rs longer run.past (run_precise g rs e plain run) h)
 
 pub faulted_more : (g : Given) (more : ℕ) (rs : List Record) (e : End) (a : ℕ) → g.length ≤ more → e ≢ Limit
-    → IsLateRun g rs (Ended e) → imprecise_at (at_length g more) (steps rs) ≡ Some a
+    → is_imprecise e ≡ false → IsLateRun g rs e → imprecise_at (at_length g more) (steps rs) ≡ Some a
     → IsLateRun (at_length g more) rs (Imprecise a)
-faulted_more g more rs e a longer other run is =
-    imprecise_run (at_length g more) rs a (past_ended g more rs e longer other run) is
+faulted_more g more rs e a longer other plain run is =
+    imprecise_run (at_length g more) rs a (past_ended g more rs e longer other plain run) is
 
 -- an imprecise fault is below the length
 pub imprecise_below : (g : Given) (rs : List Record) (a : ℕ) → IsLateRun g rs (Imprecise a)

@@ -1,11 +1,13 @@
 -- A run whose results land late is a run as far as it goes; it goes on to its end, and it is the only one.
-use Rattle.std.proofs.Common.{◌≡◌, ℕ, ◌<◌, ◌≤◌, Bool, true, false, cond, List, [], ◌∷◌, ◌++◌, length, Option, Some, None, refl, sym, ap, ◌∙◌, subst, ◌⊎◌, inl, inr, arith}
+use Rattle.std.proofs.Common.{◌≡◌, ◌≢◌, ℕ, ◌<◌, ◌≤◌, Bool, true, false, cond, List, [], ◌∷◌, ◌++◌, length, Option, Some, None, refl, sym, ap, ◌∙◌, subst, ◌⊎◌, inl, inr, arith}
 use Rattle.i9_model.specs.declared.run.End.{End}
+use Rattle.i9_model.specs.declared.run.End.TheVariants.{Imprecise}
 use Rattle.i9_model.specs.Run.{Given, Record, Next, Does, Ends, state_after, next, IsPast, IsRun}
 use Rattle.i9_model.proofs.Ends.{run_goes_on, count_within}
 use Rattle.i9_model.proofs.Unique.{same_records}
+use Rattle.i9_course.proofs.PlainEnds.{next_plain}
 use Rattle.i9_course.specs.Course.{Step, records_of, late_fault, is_overtaken, imprecise_at}
-use Rattle.i9_course.specs.LateRun.{steps, IsLatePast, Finish, Ended, Imprecise, ended_by, finish_by, finish_after, IsLateRun, HaveNoLateFault}
+use Rattle.i9_course.specs.LateRun.{steps, IsLatePast, ended_by, finish_by, end_ahead, finish_after, IsLateRun, is_imprecise, HaveNoLateFault}
 
 -- ---- the records of a late run
 
@@ -39,20 +41,33 @@ late_by g k (r ∷ rs) same past late =
 
 -- ---- its end
 
-ended_only : (o : Option ℕ) (x : Next) (e : End) → finish_by o x ≡ Some (Ended e) → (o ≡ None) × (x ≡ Ends e)
-ended_only (Some a) x e h = absurd (cc h)
-ended_only None (Does r) e h = absurd (cc h)
-ended_only None (Ends f) e h = let same : f ≡ e = cc in (refl, ap Ends same)
+not_both : (a : ℕ) (e : End) → ◌≡◌ {A = Option End} (Some (Imprecise a)) (Some e) → is_imprecise e ≢ false
+not_both a e h plain =
+    let same : Imprecise a ≡ e = cc in
+    let is : true ≡ false = ap is_imprecise same ∙ plain in
+    cc is
 
-imprecise_by : (o : Option ℕ) (x : Next) (a : ℕ) → finish_by o x ≡ Some (Imprecise a) → o ≡ Some a
-imprecise_by (Some b) x a h = let same : b ≡ a = cc in ap Some same
-imprecise_by None (Does r) a h = absurd (cc h)
-imprecise_by None (Ends f) a h = absurd (cc h)
+ended_only : (o : Option ℕ) (x : Next) (e : End) → is_imprecise e ≡ false → finish_by o x ≡ Some e
+    → (o ≡ None) × (x ≡ Ends e)
+ended_only (Some a) x e plain h = absurd (not_both a e h plain)
+ended_only None (Does r) e plain h = absurd (cc h)
+ended_only None (Ends f) e plain h = let same : f ≡ e = cc in (refl, ap Ends same)
+
+imprecise_by : (o : Option ℕ) (x : Next) (a : ℕ) → ((f : End) → x ≡ Ends f → is_imprecise f ≡ false)
+    → finish_by o x ≡ Some (Imprecise a) → o ≡ Some a
+imprecise_by (Some b) x a plain h = let same : b ≡ a = cc in ap Some same
+imprecise_by None (Does r) a plain h = absurd (cc h)
+imprecise_by None (Ends f) a plain h = absurd (not_both a f (sym h) (plain f refl))
+
+-- it is the one that lies ahead
+pub end_is_ahead : (g : Given) (rs : List Record) → finish_after g rs ≡ end_ahead g (steps rs)
+end_is_ahead g rs =
+    ap (λ (qs : List Record). finish_by (imprecise_at g (steps rs)) (next g qs)) (sym (records_of-steps rs))
 
 -- where that is imprecise, a fault is
 pub run_imprecise : (g : Given) (rs : List Record) (a : ℕ) → IsLateRun g rs (Imprecise a)
     → imprecise_at g (steps rs) ≡ Some a
-run_imprecise g rs a run = imprecise_by (imprecise_at g (steps rs)) (next g rs) a run.ends
+run_imprecise g rs a run = imprecise_by (imprecise_at g (steps rs)) (next g rs) a (next_plain g rs) run.ends
 
 pub fault_ends : (g : Given) (rs : List Record) (a : ℕ) → imprecise_at g (steps rs) ≡ Some a
     → finish_after g rs ≡ Some (Imprecise a)
@@ -63,25 +78,25 @@ pub imprecise_run : (g : Given) (rs : List Record) (a : ℕ) → IsLatePast g rs
 imprecise_run g rs a late is = record { past = late; ends = fault_ends g rs a is }
 
 -- where it is not, it is that of the run
-pub run_precise : (g : Given) (rs : List Record) (e : End) → IsLateRun g rs (Ended e)
+pub run_precise : (g : Given) (rs : List Record) (e : End) → is_imprecise e ≡ false → IsLateRun g rs e
     → imprecise_at g (steps rs) ≡ None
-run_precise g rs e run = (ended_only (imprecise_at g (steps rs)) (next g rs) e run.ends).0
+run_precise g rs e plain run = (ended_only (imprecise_at g (steps rs)) (next g rs) e plain run.ends).0
 
-pub late_run : (g : Given) (rs : List Record) (e : End) → IsLateRun g rs (Ended e) → IsRun g rs e
-late_run g rs e run = record {
+pub late_run : (g : Given) (rs : List Record) (e : End) → is_imprecise e ≡ false → IsLateRun g rs e → IsRun g rs e
+late_run g rs e plain run = record {
   past = late_past g rs run.past;
-  ends = (ended_only (imprecise_at g (steps rs)) (next g rs) e run.ends).1;
+  ends = (ended_only (imprecise_at g (steps rs)) (next g rs) e plain run.ends).1;
 }
 
 pub precise_run : (g : Given) (rs : List Record) (e : End) → IsLatePast g rs → imprecise_at g (steps rs) ≡ None
-    → next g rs ≡ Ends e → IsLateRun g rs (Ended e)
+    → next g rs ≡ Ends e → IsLateRun g rs e
 precise_run g rs e late none is = record {
   past = late;
   ends = ap (λ (o : Option ℕ). finish_by o (next g rs)) none ∙ ap ended_by is;
 }
 
 -- its records are the first of the run
-pub late_first : (g : Given) (rs qs : List Record) (e : End) (f : Finish) → IsRun g rs e → IsLateRun g qs f
+pub late_first : (g : Given) (rs qs : List Record) (e : End) (f : End) → IsRun g rs e → IsLateRun g qs f
     → (more : List Record) × (more ++ qs ≡ rs)
 late_first g rs qs e f run late =
     let on = run_goes_on g qs (late_past g qs late.past) in
@@ -102,7 +117,7 @@ none_late g [] none past = tt
 none_late g (r ∷ rs) none past =
     with_step g rs r (none_late g rs none.1 past.0) (none_precise g rs none.1) past.1
 
-pub none_run : (g : Given) (rs : List Record) (e : End) → HaveNoLateFault rs → IsRun g rs e → IsLateRun g rs (Ended e)
+pub none_run : (g : Given) (rs : List Record) (e : End) → HaveNoLateFault rs → IsRun g rs e → IsLateRun g rs e
 none_run g rs e none run =
     precise_run g rs e (none_late g rs none run.past) (none_precise g rs none) run.ends
 
@@ -128,12 +143,12 @@ so_far g rs (r ∷ more) late past = elim (so_far g rs more late past.0) [
 ]
 
 finishes : (g : Given) (rs : List Record) (e : End) (o : Option ℕ) → imprecise_at g (steps rs) ≡ o → IsLatePast g rs
-    → next g rs ≡ Ends e → (f : Finish) × IsLateRun g rs f
+    → next g rs ≡ Ends e → (f : End) × IsLateRun g rs f
 finishes g rs e (Some a) is late ends = (Imprecise a, imprecise_run g rs a late is)
-finishes g rs e None is late ends = (Ended e, precise_run g rs e late is ends)
+finishes g rs e None is late ends = (e, precise_run g rs e late is ends)
 
 pub late_goes_on : (g : Given) (rs : List Record) → IsLatePast g rs
-    → (more : List Record) × (f : Finish) × IsLateRun g (more ++ rs) f
+    → (more : List Record) × (f : End) × IsLateRun g (more ++ rs) f
 late_goes_on g rs late =
     let on = run_goes_on g rs (late_past g rs late) in
     let qs = on.0 ++ rs in
@@ -160,7 +175,7 @@ same_length g (x ∷ rs) (y ∷ qs) e p q =
     ap (λ (z : Record). z ∷ rs) heads ∙ ap (λ (zs : List Record). y ∷ zs) tails
 
 -- nothing is done behind the end
-pub none_behind : (g : Given) (rs : List Record) (q : Record) (f : Finish) → IsLateRun g rs f
+pub none_behind : (g : Given) (rs : List Record) (q : Record) (f : End) → IsLateRun g rs f
     → ¬ IsLatePast g (q ∷ rs)
 none_behind g rs q f run late =
     let none : finish_after g rs ≡ None =
@@ -168,7 +183,7 @@ none_behind g rs q f run late =
     cc (sym run.ends ∙ none)
 
 -- no late past is longer than a late run
-no_longer : (g : Given) (rs qs : List Record) (f : Finish) → IsLateRun g rs f → IsLatePast g qs
+no_longer : (g : Given) (rs qs : List Record) (f : End) → IsLateRun g rs f → IsLatePast g qs
     → length qs ≤ length rs
 no_longer g rs [] f run late = omega arith
 no_longer g rs (q ∷ qs) f run late =
@@ -184,15 +199,15 @@ no_longer g rs (q ∷ qs) f run late =
     split : (m n : ℕ) → m ≤ n → (m < n) ⊎ (m ≡ n)
     split m n h = grind arith
 
-pub late_records : (g : Given) (rs qs : List Record) (e f : Finish) → IsLateRun g rs e → IsLateRun g qs f → rs ≡ qs
+pub late_records : (g : Given) (rs qs : List Record) (e f : End) → IsLateRun g rs e → IsLateRun g qs f → rs ≡ qs
 late_records g rs qs e f a b =
     let one = no_longer g rs qs e a b.past in
     let two = no_longer g qs rs f b a.past in
     same_length g rs qs (omega arith) (late_past g rs a.past) (late_past g qs b.past)
 
-some_is : (e f : Finish) → Some e ≡ Some f → e ≡ f
+some_is : (e f : End) → Some e ≡ Some f → e ≡ f
 some_is e f h = cc
 
-pub late_end : (g : Given) (rs qs : List Record) (e f : Finish) → IsLateRun g rs e → IsLateRun g qs f → e ≡ f
+pub late_end : (g : Given) (rs qs : List Record) (e f : End) → IsLateRun g rs e → IsLateRun g qs f → e ≡ f
 late_end g rs qs e f a b =
     some_is e f (sym a.ends ∙ ap (finish_after g) (late_records g rs qs e f a b) ∙ b.ends)

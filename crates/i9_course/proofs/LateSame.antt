@@ -6,7 +6,8 @@ use Rattle.i9_model.specs.declared.event.Timed.{Timed}
 use Rattle.i9_model.specs.declared.interrupts.Chosen.{Chosen}
 use Rattle.i9_model.specs.declared.run.Due.{Due}
 use Rattle.i9_model.specs.declared.run.Due.TheVariants as dues
-use Rattle.i9_model.specs.declared.run.End.TheVariants.{Limit}
+use Rattle.i9_model.specs.declared.run.End.{End}
+use Rattle.i9_model.specs.declared.run.End.TheVariants.{Exit, Limit, Hazard, Dead, Imprecise}
 use Rattle.i9_model.specs.State.{State}
 use Rattle.i9_model.specs.ScheduleText.{timed_at}
 use Rattle.i9_model.specs.Before.{Received, choice_in, received_in}
@@ -16,7 +17,7 @@ use Rattle.i9_model.proofs.Comes.{MayCome, next_comes}
 use Rattle.i9_model.proofs.Cuts.{past_by, state_by, next_by_state}
 use Rattle.i9_model.proofs.PlannedRuns.{reached_front, past_of_front, run_of_reached}
 use Rattle.i9_course.specs.Course.{imprecise_at}
-use Rattle.i9_course.specs.LateRun.{steps, IsLatePast, Finish, Ended, Imprecise, finish_by, IsLateRun}
+use Rattle.i9_course.specs.LateRun.{steps, IsLatePast, finish_by, IsLateRun, is_imprecise}
 use Rattle.i9_course.proofs.LateRuns.{late_past, late_by, late_run, run_imprecise, imprecise_run, run_precise, precise_run}
 use Rattle.i9_course.proofs.LateAlike.{imprecise_same}
 
@@ -31,7 +32,7 @@ late_same g k rs same length late =
     late_by g k rs (λ qs none. imprecise_same g k qs length ∙ none)
     (past_by g k (λ qs r before is. same qs ∙ is) rs (late_past g rs late)) late
 
-run_same : (g k : Given) (rs : List Record) (f : Finish) → NextSame g k → k.length ≡ g.length → IsLateRun g rs f
+run_same : (g k : Given) (rs : List Record) (f : End) → NextSame g k → k.length ≡ g.length → IsLateRun g rs f
     → IsLateRun k rs f
 run_same g k rs f same length run = record {
   past = late_same g k rs same length run.past;
@@ -59,7 +60,7 @@ late_sets g asked rs =
     let k = with_sets g asked in
     (late_same k g rs (λ qs. sym (next_sets g asked qs)) refl, late_same g k rs (next_sets g asked) refl)
 
-pub run_sets : (g : Given) (asked : Option ℕ) (rs : List Record) (f : Finish)
+pub run_sets : (g : Given) (asked : Option ℕ) (rs : List Record) (f : End)
     → (IsLateRun (with_sets g asked) rs f ↔ IsLateRun g rs f)
 run_sets g asked rs f =
     let k = with_sets g asked in
@@ -172,16 +173,23 @@ late_again g rs late =
     late_by g (with_plan g plan) rs (λ qs none. imprecise_plan g plan qs ∙ none)
     (past_again g rs (late_past g rs late)) late
 
-pub run_again : (g : Given) (rs : List Record) (f : Finish) → IsLateRun g rs f
+plain_again : (g : Given) (rs : List Record) (e : End) → is_imprecise e ≡ false → IsLateRun g rs e
+    → IsLateRun (with_plan g (reached_after rs)) rs e
+plain_again g rs e plain run =
+    let plan = reached_after rs in
+    let ends = (late_run g rs e plain run).ends in
+    let both =
+    run_of_reached (step g) (tally g) (heedful g) g.plan rs e (planned_past g rs (late_past g rs run.past)) ends in
+    precise_run (with_plan g plan) rs e (late_again g rs run.past)
+    (imprecise_plan g plan rs ∙ run_precise g rs e plain run) (next_planned g plan rs (Ends e) both.1)
+
+pub run_again : (g : Given) (rs : List Record) (f : End) → IsLateRun g rs f
     → IsLateRun (with_plan g (reached_after rs)) rs f
+run_again g rs (Exit w) run = plain_again g rs (Exit w) refl run
+run_again g rs Limit run = plain_again g rs Limit refl run
+run_again g rs (Hazard a) run = plain_again g rs (Hazard a) refl run
+run_again g rs (Dead code a) run = plain_again g rs (Dead code a) refl run
 run_again g rs (Imprecise a) run =
     let plan = reached_after rs in
     imprecise_run (with_plan g plan) rs a (late_again g rs run.past)
     (imprecise_plan g plan rs ∙ run_imprecise g rs a run)
-run_again g rs (Ended e) run =
-    let plan = reached_after rs in
-    let ends = (late_run g rs e run).ends in
-    let both =
-    run_of_reached (step g) (tally g) (heedful g) g.plan rs e (planned_past g rs (late_past g rs run.past)) ends in
-    precise_run (with_plan g plan) rs e (late_again g rs run.past) (imprecise_plan g plan rs ∙ run_precise g rs e run)
-    (next_planned g plan rs (Ends e) both.1)

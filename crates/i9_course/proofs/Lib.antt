@@ -17,4 +17,4 @@ pub mod NeedActs
 pub mod Checks
 pub mod Landed
 pub mod Placing
-pub mod Precise
+pub mod PlainEnds

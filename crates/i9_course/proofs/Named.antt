@@ -13,15 +13,14 @@ use Rattle.i9_model.specs.declared.interrupts.Chosen.{Chosen}
 use Rattle.i9_model.specs.declared.event.Event.{Event}
 use Rattle.i9_model.specs.declared.run.Due.{Due}
 use Rattle.i9_model.specs.declared.run.Due.TheVariants as dues
-use Rattle.i9_model.specs.declared.run.End.TheVariants.{Limit}
+use Rattle.i9_model.specs.declared.run.End.TheVariants.{Limit, Imprecise}
 use Rattle.i9_model.specs.State.{State}
 use Rattle.i9_model.specs.Step.{first_word, next_word}
 use Rattle.i9_model.specs.Access.{hazard_of, fetch_hazard}
-use Rattle.i9_model.specs.Unbuilt.{is_imprecise}
 use Rattle.i9_model.specs.Before.{Received, choice_in, interrupt_in, received_in}
-use Rattle.i9_model.specs.Standing.{Standing, Meets, NotBuilt, Refused, Faults, Runs, raised_in, later_fault, by_access, by_later, by_raised, by_word, by_fetch, stands_at}
+use Rattle.i9_model.specs.Standing.{Standing, Meets, Refused, Faults, Runs, raised_in, later_fault, by_access, by_later, by_raised, by_word, by_fetch, stands_at}
 use Rattle.i9_model.specs.Run.{Given, Kind, Instruction, Faulted, Entered, Interrupted, Reached, Blocked, Record, record_of, reached_kind, Does, Ends, fault_at, next_by_standing, next_by_entry, entry_in, next_by_event, next_by_interrupt, next_by_choice, next_in, due_after, event_after, state_after, next, IsPast}
-use Rattle.i9_course.specs.LateRun.{steps, Imprecise, IsLateRun}
+use Rattle.i9_course.specs.LateRun.{steps, IsLateRun}
 use Rattle.i9_course.proofs.Ahead.{imprecise_only}
 use Rattle.i9_course.proofs.Orderly.{comes_after}
 use Rattle.i9_course.proofs.LateRuns.{records_of-steps, late_past, run_imprecise}
@@ -30,7 +29,6 @@ use Rattle.i9_course.proofs.LateRuns.{records_of-steps, late_past, run_imprecise
 
 abbrev IsOther : Standing → Type 0
 IsOther (Meets a) = Unit {0}
-IsOther NotBuilt = Unit {0}
 IsOther (Refused number) = number.0 ≢ ARITHMETIC
 IsOther (Faults i number) = Unit {0}
 IsOther (Runs i) = Unit {0}
@@ -45,11 +43,7 @@ later_other i s None = access_other i (hazard_of i s)
 
 raised_other : (i : Inst) (s : State) (o : Option (ℕ × ℕ)) → IsOther (by_raised i s o)
 raised_other i s (Some number) = tt
-raised_other i s None = by_precision (is_imprecise i s)
-  where
-    by_precision : (b : Bool) → IsOther (cond b NotBuilt (by_later i s (later_fault i s)))
-    by_precision true = tt
-    by_precision false = later_other i s (later_fault i s)
+raised_other i s None = later_other i s (later_fault i s)
 
 word_other : (s : State) (r : Result Inst BadWord) → IsOther (by_word s r)
 word_other s (Err Opcode) = λ h. absurd (omega (arith, h))
@@ -82,7 +76,6 @@ named_by s k r named e =
 standing_named : (s : State) (x : Standing) (r : Record) → IsOther x → next_by_standing s x ≡ Does r
     → IsNamed s r.kind
 standing_named s (Meets a) r other e = absurd (cc e)
-standing_named s NotBuilt r other e = absurd (cc e)
 standing_named s (Refused number) r other e =
     named_by s (Faulted None (fault_at s number)) r (λ is. absurd (other is)) e
 standing_named s (Faults i number) r other e =

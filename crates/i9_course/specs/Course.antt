@@ -138,8 +138,7 @@ abbrev pub last_done : List Late → ℕ
 last_done [] = 1
 last_done (x ∷ xs) = x.timed.done
 
--- The instruction ahead is within the length, and would issue before the last record is done.
--- (While `Standing` answers NotBuilt for an arithmetic fault that may be imprecise, no arithmetic fault is overtaken.)
+-- the instruction ahead is within the length, and would issue before the last record is done
 abbrev pub is_overtaken : Given → List Item → Bool
 is_overtaken g h =
     let s = state_after g (records_of h) in

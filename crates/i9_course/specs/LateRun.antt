@@ -1,9 +1,10 @@
 -- A run whose results land late: what is done, as far as no fault is imprecise, and how it ends.
-use Rattle.std.specs.Prelude.{◌≡◌, ℕ, Option, Some, None, List, [], ◌∷◌}
+use Rattle.std.specs.Prelude.{◌≡◌, ℕ, Bool, true, false, Option, Some, None, List, [], ◌∷◌}
 use Rattle.std.specs.List.{AllByRecursion}
 use Rattle.i9_model.specs.declared.run.End.{End}
+use Rattle.i9_model.specs.declared.run.End.TheVariants.{Imprecise}
 use Rattle.i9_model.specs.Run.{Given, Record, Next, Does, Ends, next}
-use Rattle.i9_course.specs.Course.{Item, Step, late_fault, imprecise_at, IsCourse}
+use Rattle.i9_course.specs.Course.{Item, Step, late_fault, imprecise_at, ahead, IsCourse}
 
 -- the records as items, with no mark between them
 abbrev pub steps : List Record → List Item
@@ -14,30 +15,33 @@ steps (r ∷ rs) = Step r ∷ steps rs
 abbrev pub IsLatePast : Given → List Record → Type 0
 IsLatePast g rs = IsCourse g (steps rs)
 
--- How such a run ends: as the run of the precise machine may, or at the address of an instruction whose fault is
--- imprecise. (Such an end stands beside `End` until the machine has it.)
-pub data Finish : Type 0 where
-  Ended : (end : End) → Finish
-  Imprecise : (address : ℕ) → Finish
-
 -- the end that comes next, where one does
-abbrev pub ended_by : Next → Option Finish
+abbrev pub ended_by : Next → Option End
 ended_by (Does r) = None
-ended_by (Ends e) = Some (Ended e)
+ended_by (Ends e) = Some e
 
 -- an imprecise fault comes before what comes next
-abbrev pub finish_by : Option ℕ → Next → Option Finish
+abbrev pub finish_by : Option ℕ → Next → Option End
 finish_by (Some a) o = Some (Imprecise a)
 finish_by None o = ended_by o
 
+-- the end that lies ahead after these items, where one does
+abbrev pub end_ahead : Given → List Item → Option End
+end_ahead g h = finish_by (ahead g h).imprecise (ahead g h).next
+
 -- the end after these records, where one comes
-abbrev pub finish_after : Given → List Record → Option Finish
+abbrev pub finish_after : Given → List Record → Option End
 finish_after g rs = finish_by (imprecise_at g (steps rs)) (next g rs)
 
 -- these are the records of such a run, and this is its end
-pub record IsLateRun (g : Given) (rs : List Record) (f : Finish) : Type 0 where
+pub record IsLateRun (g : Given) (rs : List Record) (f : End) : Type 0 where
   pub past : IsLatePast g rs
   pub ends : finish_after g rs ≡ Some f
+
+-- an imprecise fault ends the run
+abbrev pub is_imprecise : End → Bool
+is_imprecise (Imprecise a) = true
+is_imprecise _ = false
 
 -- no instruction among these raised an arithmetic fault
 abbrev pub HaveNoLateFault : List Record → Type 0

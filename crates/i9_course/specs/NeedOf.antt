@@ -16,8 +16,7 @@ use Rattle.i9_model.specs.State.{State}
 use Rattle.i9_model.specs.Frames.{places}
 use Rattle.i9_model.specs.Step.{Move, Stays, Saves, Returns, Flushes}
 use Rattle.i9_model.specs.Access.{Access, Reads, Writes, Changes, access_of, data_of}
-use Rattle.i9_model.specs.Traced.{traced_action}
-use Rattle.i9_model.specs.Unbuilt.{is_traced}
+use Rattle.i9_model.specs.Traced.{is_traced, traced_action}
 use Rattle.i9_model.specs.HeldFrames.{Cache, sets_in}
 use Rattle.i9_model.specs.Run.{Kind, Instruction, Faulted, Entered, Interrupted, Reached, Blocked, Record, Next, Does, Ends, action_by_kind}
 use Rattle.i9_model.specs.Needs.{is_barrier_name, blank_need, inst_need, refused_need, event_need, entry_need}

@@ -17,5 +17,5 @@ pub use laws::{
 pub use machine_laws::{
     a_check_waits_for_all, memory_acts_at_once, needs_cover_actions, needs_take_turns,
     needs_tell_what_acts, nothing_issues_later, requests_land_in_order,
-    turns_are_those_of_the_board, what_is_built_is_precise, what_is_done_has_landed,
+    turns_are_those_of_the_board, what_is_done_has_landed,
 };

@@ -44,11 +44,9 @@ pub fn needs_take_turns()
     ensures { (n : ℕ) (c : Cache) (s : State) (k : Kind) → HasCost (need_of n c s k) }
 {}
 
-/// Where no fault is imprecise, what lies ahead issues no later than at the turn at which all records
-/// are done.
+/// What lies ahead issues no later than at the turn at which all records are done.
 pub fn nothing_issues_later()
-    ensures { (g : Given) (h : List Item) → (ahead g h).imprecise ≡ None
-        → (ahead g h).turn ≤ end_turn (turns (course g h).late) }
+    ensures { (g : Given) (h : List Item) → (ahead g h).turn ≤ end_turn (turns (course g h).late) }
 {}
 
 /// Where the check flag is set, what comes next waits for all records.
@@ -65,14 +63,9 @@ pub fn what_is_done_has_landed()
 
 /// A request that issues is done no earlier than those that wait.
 pub fn requests_land_in_order()
-    ensures { (g : Given) (h : List Item) (r : Record) (k : Kernel) → Lands g h k → (ahead g h).imprecise ≡ None
-        → (ahead g h).next ≡ Does r → (ahead g h).turn ≤ k.turn → (late_after g h r).timed.need.request ≡ true
+    ensures { (g : Given) (h : List Item) (r : Record) (k : Kernel) → Lands g h k
+        → (late_after g h r).timed.need.request ≡ true
         → AllByRecursion (λ w. w.due ≤ (late_after g h r).timed.done) k.queue }
-{}
-
-/// No fault of the run is imprecise, while a run ends before an arithmetic fault that may be.
-pub fn what_is_built_is_precise()
-    ensures { (g : Given) (h : List Item) → IsPast g (records_of h) → (ahead g h).imprecise ≡ None }
 {}
 
 /// The turn of what comes next is the one that a board gives to its need, and a record has the turns
@@ -88,9 +81,10 @@ pub fn turns_are_those_of_the_board()
         × ((late_after g h r).timed.done ≡ p.done) }
 {}
 
-/// Where nothing waits before a record and behind it, memory gets the bytes of the record and no others.
+/// Where nothing waits before a record, memory behind the held frames gets the bytes of the record and
+/// no others.
 pub fn memory_acts_at_once()
-    ensures { (g : Given) (h : List Item) (r : Record) (k j : Kernel) → Lands g h k → (ahead g h).next ≡ Does r
-        → k.queue ≡ [] → j.queue ≡ [] → j.bytes ≡ (cache_after g (r ∷ records_of h)).behind.bytes
+    ensures { (g : Given) (h : List Item) (r : Record) (k j : Kernel) → Lands g h k → k.queue ≡ []
+        → j.bytes ≡ (cache_after g (r ∷ records_of h)).behind.bytes
         → j.bytes ≡ stored k.bytes (late_after g h r).puts }
 {}

@@ -20,8 +20,7 @@ use Rattle.i9_model.specs.Before.{Received, choice_in, interrupt_in, received_in
 use Rattle.i9_model.specs.State.{State}
 use Rattle.i9_model.specs.Step.{first_word, next_word}
 use Rattle.i9_model.specs.Access.{hazard_of, fetch_hazard}
-use Rattle.i9_model.specs.Unbuilt.{is_imprecise}
-use Rattle.i9_model.specs.Standing.{Standing, Meets, NotBuilt, Refused, Faults, Runs, raised_in, later_fault, by_access, by_later, by_raised, by_word, by_fetch, stands_at}
+use Rattle.i9_model.specs.Standing.{Standing, Meets, Refused, Faults, Runs, raised_in, later_fault, by_access, by_later, by_raised, by_word, by_fetch, stands_at}
 use Rattle.i9_model.specs.declared.run.Due.{Due}
 use Rattle.i9_model.specs.declared.run.Due.TheVariants as dues
 use Rattle.i9_model.specs.declared.run.End.TheVariants.{Limit}
@@ -47,11 +46,7 @@ later_stands s i None d = access_stands s i (hazard_of i s) d
 
 raised_stands : (s : State) (i : Inst) (o : Option (ℕ × ℕ)) → IsDecoded s i → Stands s (by_raised i s o)
 raised_stands s i (Some number) d = tt
-raised_stands s i None d = by_precision (is_imprecise i s)
-  where
-    by_precision : (b : Bool) → Stands s (cond b NotBuilt (by_later i s (later_fault i s)))
-    by_precision true = tt
-    by_precision false = later_stands s i (later_fault i s) d
+raised_stands s i None d = later_stands s i (later_fault i s) d
 
 word_stands : (s : State) (r : Result Inst BadWord) → decoded (first_word s) (next_word s) ≡ r → Stands s (by_word s r)
 word_stands s (Err e) d = tt
@@ -74,7 +69,6 @@ read_by s k r d e = let same : record_of k s ≡ r = cc in subst (λ (q : Record
 
 standing_read : (s : State) (x : Standing) (r : Record) → Stands s x → next_by_standing s x ≡ Does r → IsRead s r.kind
 standing_read s (Meets a) r d e = absurd cc
-standing_read s NotBuilt r d e = absurd cc
 standing_read s (Refused number) r d e = read_by s (Faulted None (fault_at s number)) r tt e
 standing_read s (Faults i number) r d e = read_by s (Faulted (Some i) (fault_at s number)) r tt e
 standing_read s (Runs i) r d e = read_by s (Instruction i) r d e

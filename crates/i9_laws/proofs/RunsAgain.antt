@@ -9,7 +9,7 @@ use Rattle.i9_model.specs.declared.interrupts.Chosen.{Chosen}
 use Rattle.i9_model.specs.declared.run.Due.{Due}
 use Rattle.i9_model.specs.declared.run.Due.TheVariants as dues
 use Rattle.i9_model.specs.declared.run.End.{End}
-use Rattle.i9_model.specs.declared.run.End.TheVariants.{Limit}
+use Rattle.i9_model.specs.declared.run.End.TheVariants.{Exit, Limit, Hazard, Dead, Imprecise}
 use Rattle.i9_model.specs.declared.run.Point.{Point}
 use Rattle.i9_model.specs.State.{State}
 use Rattle.i9_model.specs.ScheduleText.{timed_at, IsPlan, IsSchedule}
@@ -111,7 +111,7 @@ past_with : (g : Given) (plan : List Timed) (rs : List Record) → IsPastBy (ste
 past_with g plan [] past = tt
 past_with g plan (r ∷ rs) past = (past_with g plan rs past.0, next_with g plan rs (Does r) past.1)
 
-text_with : (g : Given) (plan : List Timed) (rs : List Record) (end : End) → run_text (with_plan g plan) rs end ≡ run_text g rs end
+pub text_with : (g : Given) (plan : List Timed) (rs : List Record) (end : End) → run_text (with_plan g plan) rs end ≡ run_text g rs end
 text_with g plan [] end = refl
 text_with g plan (r ∷ rs) end = refl
 
@@ -181,13 +181,21 @@ records_reached (r ∷ rs) =
     ∙ ap (λ (ts : List Timed). ts ++ events_of (record_lines r)) (records_reached rs)
     ∙ ap (λ (ts : List Timed). reached_after rs ++ ts) (record_reached r)
 
-pub text_is_schedule : (g : Given) (rs : List Record) (end : End) → IsPlan g.plan → IsRun g rs end
+end_none : (s : State) (f : End) → events_of (end_lines s f) ≡ []
+end_none s (Exit w) = refl
+end_none s Limit = refl
+end_none s (Hazard a) = refl
+end_none s (Dead code a) = refl
+end_none s (Imprecise a) = refl
+
+pub text_is_schedule : (g : Given) (rs : List Record) (end : End) → IsPlan g.plan → IsPast g rs
     → IsSchedule (texts.lines_of (run_text g rs end)) (reached_after rs)
-text_is_schedule g rs end plan run =
+text_is_schedule g rs end plan past =
     let last = end_lines (state_after g rs) end in
     let lines = lines_of rs ++ last in
     let events : events_of lines ≡ reached_after rs =
-    events_append (lines_of rs) last ∙ append-nil (events_of (lines_of rs)) ∙ records_reached rs in
-    let front = reaches_front g rs run.past in
+    events_append (lines_of rs) last ∙ ap (λ (ts : List Timed). events_of (lines_of rs) ++ ts) (end_none (state_after g rs) end)
+    ∙ append-nil (events_of (lines_of rs)) ∙ records_reached rs in
+    let front = reaches_front g rs past in
     let whole = front_is_plan (reached_after rs) front.0 (subst IsPlan (sym front.1) plan) in
     subst (IsSchedule (texts.lines_of (text_of lines))) events (replay lines (subst IsPlan (sym events) whole))

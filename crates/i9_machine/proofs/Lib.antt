@@ -1,9 +1,12 @@
 pub mod Starting
 pub mod Beside
 pub mod Issuing
+pub mod Overtaking
 pub mod Turning
+pub mod Unmoved
 pub mod Opening
 pub mod Lifting
 pub mod Performing
+pub mod Ending
 pub mod Stepping
 pub mod Showing

@@ -1,38 +1,34 @@
 -- A step of a machine is the next record, or the end, of what the machine stands for.
-use Rattle.std.proofs.Common.{◌≡◌, ℕ, ◌+◌, ◌≤◌, ◌||◌, nat_lt, List, ◌∷◌, ◌++◌, Option, None, length, length-append, map, true, sym, ap, ◌∙◌, subst, inl, inr, arith}
+use Rattle.std.proofs.Common.{◌≡◌, ℕ, ◌+◌, ◌≤◌, ◌||◌, nat_lt, List, ◌∷◌, ◌++◌, Option, Some, None, length, length-append, map, true, sym, ap, ◌∙◌, subst, inl, inr, arith}
 use Rattle.i9_model.specs.declared.event.Timed.{Timed}
 use Rattle.i9_schedule.specs.Plan.{Plan}
 use Rattle.i9_model.specs.State.{State}
 use Rattle.i9_model.specs.Step.{Action}
 use Rattle.i9_model.specs.Run.{Given, Kind, Instruction, Faulted, Entered, Interrupted, Reached, Blocked, Record, Next, Does, Ends, record_of, action_by_kind, action_done, reached_by, reached_after, due_after, event_after, state_after, next}
-use Rattle.i9_model.specs.PrintedText.{Shown, record_lines, last_lines}
+use Rattle.i9_model.specs.PrintedText.{Shown, record_lines, last_lines, end_lines}
 use Rattle.i9_model.specs.Alike.{AreAlike, AreRecordsAlike, AreNextAlike, told}
 use Rattle.i9_model.specs.HeldFrames.{Cache, renewed, sets_in, cache_acted, cache_configured, cache_after}
 use Rattle.i9_model.specs.declared.view.View.{View}
 use Rattle.i9_model.proofs.AlikeSteps.{does_alike, ends_alike, done_alike, due_alike, reached_alike, view_alike, lines_alike, alike_trans}
 use Rattle.i9_model.proofs.HeldRuns.{IsFreeRecord, next_free, configured_by, sets_after}
 use Rattle.i9_processor.specs.Effect.{HasRoomFor, has_writes, is_restart}
-use Rattle.i9_processor.specs.State.{state_of, cache_of, size_of, bytes_of, queue_of}
+use Rattle.i9_processor.specs.State.{state_of, cache_of, size_of}
 use Rattle.i9_model.specs.declared.run.End.{End}
 use Rattle.i9_machine.specs.declared.line.Line.{Line}
 use Rattle.i9_machine.specs.declared.line.Turn.{Turn}
 use Rattle.i9_machine.specs.declared.line.Turn.TheVariants as turns
 use Rattle.i9_machine.specs.declared.machine.Machine.{Machine}
-use Rattle.i9_machine.specs.Line.{shown_of}
-use Rattle.i9_machine.specs.Step.{TellsRecord, NeedsRoom, HasRoom, event_for, next_for, plan_behind, Did, Ended, Refused, Steps, IssuesNext, Issues}
+use Rattle.i9_machine.specs.Line.{shown_of, AddsLines}
+use Rattle.i9_machine.specs.Step.{TellsRecord, NeedsRoom, HasRoom, event_for, next_for, plan_behind, Did, IsSame, Ended, Refused, Steps, IssuesNext, Issues}
 use Rattle.i9_course.specs.NeedOf.{need_of}
 use Rattle.i9_course.specs.Course.{Item, Step, records_of, ahead}
-use Rattle.i9_course.specs.Kernel.{Lands}
-use Rattle.i9_course.proofs.Orderly.{course_past}
-use Rattle.i9_course.proofs.Precise.{built_precise}
+use Rattle.i9_course.specs.LateRun.{end_ahead, ended_by, finish_by}
 use Rattle.i9_machine.proofs.Beside.{beside}
-use Rattle.i9_machine.proofs.Turning.{moved}
-use Rattle.i9_model.specs.declared.need.Cell.{Cell}
+use Rattle.i9_machine.proofs.Turning.{keeps_none, moved}
+use Rattle.i9_machine.proofs.Unmoved.{same_stands}
 use Rattle.i9_model.specs.declared.need.Need.{Need}
-use Rattle.i9_model.specs.Late.{Wait}
-use Rattle.i9_model.specs.Turns.{Pending, IsAllDone}
-use Rattle.i9_machine.specs.Issuing.{kernel_of, IsPaced, IsIssued, IsUnmoved}
-use Rattle.i9_machine.specs.StandsFor.{StandsFor, Follows, MovesOn, DoesNext, EndsRun, IsRefused, Advances, Waits, OpenSteps, left_after}
+use Rattle.i9_machine.specs.Issuing.{IsIssued}
+use Rattle.i9_machine.specs.StandsFor.{StandsFor, Follows, MovesOn, DoesNext, EndsRun, IsRefused, Advances, Waits, Done, Overtaken, OpenSteps, left_after}
 use Rattle.i9_machine.proofs.Issuing.{same_need, waits_for_none, issued_lands, left_less, issued_paced}
 
 -- ---- a record
@@ -118,8 +114,8 @@ follows_next g h was plan r q follows same behind = record {
 one_record : (r q : Record) → Does r ≡ Does q → r ≡ q
 one_record r q e = cc
 
-did : (g : Given) (h : List Item) (before : Machine) (answer : Turn) (m : Machine) (was plan : Plan) (old new : List Line) → StandsFor g h None before → Follows g h was → (ahead g h).turn ≤ before.turn → Did before answer m was plan old new → IssuesNext before m was → DoesNext g h answer before m plan old new
-did g h before answer m was plan old new stands follows now d i =
+did : (g : Given) (h : List Item) (before : Machine) (answer : Turn) (m : Machine) (was plan : Plan) (old new : List Line) → StandsFor g h None before → Follows g h was → (ahead g h).imprecise ≡ None → (ahead g h).turn ≤ before.turn → Did before answer m was plan old new → IssuesNext before m was → DoesNext g h answer before m plan old new
+did g h before answer m was plan old new stands follows precise now d i =
     let q = d.done in
     let need_now = i.need in
     let one = one_record (record_of i.kind (state_of before.processor)) q (sym i.is_next ∙ d.is_next) in
@@ -133,7 +129,6 @@ did g h before answer m was plan old new stands follows now d i =
     let after = alike_trans r.after q.after (state_of m.processor) same.after d.state in
     let free = next_free before.length before.due (event_for before was) (state_of before.processor) q d.is_next in
     let run = next_free g.length (due_after rs) (event_after g rs) (state_after g rs) r found.1 in
-    let precise = built_precise g h (course_past g h stands.past) in
     let cache = cache_next g h before m r q stands same run (ap (λ (u : State). u.memory.mcon) after.rest) d.cache in
     let need = same_need g h before r q need_now stands same (ap (λ (x : Record). x.before) run.0) (ap (λ (x : Record). x.before) free.0) is_need_now in
     let lands = issued_lands g h before m r q need_now stands found.1 same precise now need issued_now after cache in
@@ -151,6 +146,7 @@ did g h before answer m was plan old new stands follows now d i =
       done = r;
       is_next = found.1;
       now = omega (arith, now, in_time_was);
+      turn = turn;
       stands = record {
         past = (stands.past, precise, found.1);
         state = after;
@@ -164,6 +160,7 @@ did g h before answer m was plan old new stands follows now d i =
         sets = d.sets ∙ stands.sets;
         ended = d.ended;
         over = tt;
+        kept = keeps_none g (Step r ∷ h) m d.none;
       };
       follows = follows_next g h was plan r q follows same d.behind;
       lines = d.lines ∙ ap (λ (ls : List Shown). map shown_of old ++ ls) (lines_alike r q same);
@@ -172,65 +169,38 @@ did g h before answer m was plan old new stands follows now d i =
 
 -- ---- an end, and want of memory
 
-same_state : (s : State) (before m : Machine) → AreAlike s (state_of before.processor) → state_of m.processor ≡ state_of before.processor → AreAlike s (state_of m.processor)
-same_state s before m alike e = subst (AreAlike s) (sym e) alike
-
--- what lands late is as before
-unmoved_kernel : (before m : Machine) → IsUnmoved before m → kernel_of m ≡ kernel_of before
-unmoved_kernel before m u =
-    ap (λ (p : Pending). record (kernel_of m) { board = p }) u.board
-    ∙ ap (λ (t : ℕ). record (kernel_of m) { board = before.board; turn = t }) u.turn
-    ∙ ap (λ (t : ℕ). record (kernel_of m) { board = before.board; turn = before.turn; floor = t }) u.floor
-    ∙ ap (λ (t : ℕ). record (kernel_of m) { board = before.board; turn = before.turn; floor = before.floor; done = t }) u.done
-    ∙ ap (λ (c : ℕ → Cell). record (kernel_of before) { cells = c; bytes = bytes_of m.processor; queue = queue_of m.processor }) u.cells
-    ∙ ap (λ (b : ℕ → ℕ). record (kernel_of before) { bytes = b; queue = queue_of m.processor }) u.bytes
-    ∙ ap (λ (q : List Wait). record (kernel_of before) { queue = q }) u.queue
-
-unmoved_lands : (g : Given) (h : List Item) (before m : Machine) → IsUnmoved before m → Lands g h (kernel_of before) → Lands g h (kernel_of m)
-unmoved_lands g h before m u lands = subst (Lands g h) (sym (unmoved_kernel before m u)) lands
-
-unmoved_paced : (before m : Machine) (left : ℕ) → IsUnmoved before m → IsPaced before left → IsPaced m left
-unmoved_paced before m left u p =
-    let turn : m.turn ≡ before.turn = u.turn in
-    let floor : m.floor ≡ before.floor = u.floor in
-    let turn_was : before.turn ≤ p.bound = p.turn in
-    let floor_was : before.floor ≤ p.bound = p.floor in
-    record {
-      bound = p.bound;
-      far = p.far;
-      done = subst (λ (b : Pending). IsAllDone b p.bound) (sym u.board) p.done;
-      turn = omega (arith, turn, turn_was);
-      floor = omega (arith, floor, floor_was);
-    }
-
-unmoved_early : (t : ℕ) (before m : Machine) → IsUnmoved before m → before.wait ≤ t → m.wait ≤ t
-unmoved_early t before m u early = subst (λ (w : ℕ). w ≤ t) (sym u.wait) early
-
-ended_run : (g : Given) (h : List Item) (before : Machine) (e : End) (m : Machine) (was plan : Plan) (old new : List Line) → StandsFor g h None before → Follows g h was → (ahead g h).turn ≤ before.turn → Ended before e m was plan old new → EndsRun g h e before m plan old new
-ended_run g h before e m was plan old new stands follows now d =
-    let in_time : before.turn ≤ (ahead g h).turn = stands.lands.in_time in
+-- what has ended the run stands for it
+over_run : (g : Given) (h : List Item) (before : Machine) (e : End) (m : Machine) (was plan : Plan) (old new : List Line) → StandsFor g h None before → Follows g h was
+    → end_ahead g h ≡ Some e → (ahead g h).turn ≡ before.turn → IsSame before m → m.ended ≡ Some e → m.kept ≡ None → plan ≡ was
+    → AddsLines old new (end_lines (state_of before.processor) e) → EndsRun g h e before m plan old new
+over_run g h before e m was plan old new stands follows is_end now same ended none kept lines =
     let s = state_after g (records_of h) in
-    let is_end = ends_alike (next g (records_of h)) (next_for before was) e (beside g h before was stands follows) d.is_end in
     record {
       is_end = is_end;
-      now = omega (arith, now, in_time);
-      stands = record {
-        past = stands.past;
-        state = same_state s before m stands.state d.same.state;
-        size = d.same.size ∙ stands.size;
-        cache = d.same.cache ∙ stands.cache;
-        lands = unmoved_lands g h before m d.same.unmoved stands.lands;
-        early = unmoved_early (ahead g h).turn before m d.same.unmoved stands.early;
-        paced = unmoved_paced before m (left_after g (records_of h)) d.same.unmoved stands.paced;
-        due = d.same.due ∙ stands.due;
-        length = d.same.length ∙ stands.length;
-        sets = d.same.sets ∙ stands.sets;
-        ended = d.ended;
-        over = is_end;
-      };
-      follows = subst (Follows g h) (sym d.kept) follows;
-      lines = d.lines ∙ ap (λ (v : View). map shown_of old ++ last_lines v e) (view_alike s (state_of before.processor) stands.state);
+      now = now;
+      turn = same.unmoved.turn;
+      stands = same_stands g h before m (Some e) same ended none is_end stands;
+      follows = subst (Follows g h) (sym kept) follows;
+      lines = lines ∙ ap (λ (v : View). map shown_of old ++ last_lines v e) (view_alike s (state_of before.processor) stands.state);
     }
+
+-- an imprecise fault has ended it
+overtaken_run : (g : Given) (h : List Item) (before : Machine) (e : End) (m : Machine) (was plan : Plan) (old new : List Line) → StandsFor g h None before → Follows g h was → Overtaken before e m was plan old new → EndsRun g h e before m plan old new
+overtaken_run g h before e m was plan old new stands follows d =
+    let late = d.late g h stands in
+    let now : (ahead g h).turn ≤ before.turn = late.1 in
+    let in_time : before.turn ≤ (ahead g h).turn = stands.lands.in_time in
+    let is_end : end_ahead g h ≡ Some e =
+    ap (λ (o : Option ℕ). finish_by o (next g (records_of h))) late.0 ∙ ap (λ (x : End). Some x) (sym d.is_end) in
+    over_run g h before e m was plan old new stands follows is_end (omega (arith, now, in_time)) d.same d.ended d.none d.kept d.lines
+
+ended_run : (g : Given) (h : List Item) (before : Machine) (e : End) (m : Machine) (was plan : Plan) (old new : List Line) → StandsFor g h None before → Follows g h was → (ahead g h).imprecise ≡ None → (ahead g h).turn ≤ before.turn → Ended before e m was plan old new → EndsRun g h e before m plan old new
+ended_run g h before e m was plan old new stands follows precise now d =
+    let in_time : before.turn ≤ (ahead g h).turn = stands.lands.in_time in
+    let next_end = ends_alike (next g (records_of h)) (next_for before was) e (beside g h before was stands follows) d.is_end in
+    let is_end : end_ahead g h ≡ Some e =
+    ap (λ (o : Option ℕ). finish_by o (next g (records_of h))) precise ∙ ap ended_by next_end in
+    over_run g h before e m was plan old new stands follows is_end (omega (arith, now, in_time)) d.same d.ended d.none d.kept d.lines
 
 abbrev needs_by : List Shown → Action → Type 0
 needs_by ls a = (nat_lt 0 (length ls) || (has_writes a || is_restart a.control)) ≡ true
@@ -242,22 +212,10 @@ needs_alike (Does r) (Ends g) alike needs = absurd alike
 needs_alike (Does r) (Does q) alike needs =
     subst (needs_by (record_lines r)) (done_alike r q alike) (subst (λ (ls : List Shown). needs_by ls (action_done q)) (lines_alike r q alike) needs)
 
-refused : (g : Given) (h : List Item) (before : Machine) (m : Machine) (was plan : Plan) (old new : List Line) → StandsFor g h None before → Follows g h was → Refused before m was plan old new → IsRefused g h m plan old new
+refused : (g : Given) (h : List Item) (before : Machine) (m : Machine) (was plan : Plan) (old new : List Line) → StandsFor g h None before → Follows g h was → Refused before m was plan old new → IsRefused g h before m plan old new
 refused g h before m was plan old new stands follows d = record {
-  stands = record {
-    past = stands.past;
-    state = same_state (state_after g (records_of h)) before m stands.state d.same.state;
-    size = d.same.size ∙ stands.size;
-    cache = d.same.cache ∙ stands.cache;
-    lands = unmoved_lands g h before m d.same.unmoved stands.lands;
-    early = unmoved_early (ahead g h).turn before m d.same.unmoved stands.early;
-    paced = unmoved_paced before m (left_after g (records_of h)) d.same.unmoved stands.paced;
-    due = d.same.due ∙ stands.due;
-    length = d.same.length ∙ stands.length;
-    sets = d.same.sets ∙ stands.sets;
-    ended = d.ended;
-    over = tt;
-  };
+  turn = d.same.unmoved.turn;
+  stands = same_stands g h before m None d.same d.ended d.none tt stands;
   follows = subst (Follows g h) (sym d.kept) follows;
   lines = d.lines;
   needed = needs_alike (next g (records_of h)) (next_for before was) (beside g h before was stands follows) d.needed;
@@ -283,19 +241,25 @@ waited : (g : Given) (h : List Item) (before m : Machine) (was plan : Plan) (old
 waited g h before m was plan old new stands follows w =
     subst (λ (p : Plan). MovesOn g h before m p old new) (sym w.kept)
     (subst (λ (ls : List Line). MovesOn g h before m was old ls) (sym w.lines)
-    (moved g h before m was old w.wait stands follows w.later (w.bound g h stands follows) w.moved))
+    (moved g h before m was old w.wait w.step w.effect stands follows w.later (w.bound g h stands follows) (w.keeps g h stands follows) w.moved))
 
 -- ---- a step
 
-did_advance : (g : Given) (h : List Item) (before : Machine) (answer : Turn) (m : Machine) (was plan : Plan) (old new : List Line) → StandsFor g h None before → Follows g h was → (ahead g h).turn ≤ before.turn → Steps before answer m was plan old new → Issues before answer m was → Advances g h answer before m plan old new
-did_advance g h before turns.On m was plan old new stands follows now d i = inr (did g h before turns.On m was plan old new stands follows now d i)
-did_advance g h before (turns.Issued t) m was plan old new stands follows now d i = did g h before (turns.Issued t) m was plan old new stands follows now d i
-did_advance g h before (turns.End e) m was plan old new stands follows now d i = ended_run g h before e m was plan old new stands follows now d
-did_advance g h before turns.Memory m was plan old new stands follows now d i = refused g h before m was plan old new stands follows d
+did_advance : (g : Given) (h : List Item) (before : Machine) (answer : Turn) (m : Machine) (was plan : Plan) (old new : List Line) → StandsFor g h None before → Follows g h was → (ahead g h).imprecise ≡ None → (ahead g h).turn ≤ before.turn → Steps before answer m was plan old new → Issues before answer m was → Advances g h answer before m plan old new
+did_advance g h before turns.On m was plan old new stands follows precise now d i = inr (did g h before turns.On m was plan old new stands follows precise now d i)
+did_advance g h before (turns.Issued t) m was plan old new stands follows precise now d i = did g h before (turns.Issued t) m was plan old new stands follows precise now d i
+did_advance g h before (turns.End e) m was plan old new stands follows precise now d i = ended_run g h before e m was plan old new stands follows precise now d
+did_advance g h before turns.Memory m was plan old new stands follows precise now d i = refused g h before m was plan old new stands follows d
+
+done_advance : (g : Given) (h : List Item) (before : Machine) (answer : Turn) (m : Machine) (was plan : Plan) (old new : List Line) → StandsFor g h None before → Follows g h was → Done before answer m was plan old new → Advances g h answer before m plan old new
+done_advance g h before answer m was plan old new stands follows d =
+    let come = d.now g h stands follows in
+    did_advance g h before answer m was plan old new stands follows come.0 come.1 d.steps d.issues
 
 pub steps_advance : (g : Given) (h : List Item) (before : Machine) (answer : Turn) (m : Machine) (was plan : Plan) (old new : List Line) → StandsFor g h None before → Follows g h was → OpenSteps before answer m was plan old new → Advances g h answer before m plan old new
 steps_advance g h before turns.On m was plan old new stands follows (inl w) = inl (waited g h before m was plan old new stands follows w)
-steps_advance g h before turns.On m was plan old new stands follows (inr d) = did_advance g h before turns.On m was plan old new stands follows (d.now g h stands follows) d.steps d.issues
-steps_advance g h before (turns.Issued t) m was plan old new stands follows d = did_advance g h before (turns.Issued t) m was plan old new stands follows (d.now g h stands follows) d.steps d.issues
-steps_advance g h before (turns.End e) m was plan old new stands follows d = did_advance g h before (turns.End e) m was plan old new stands follows (d.now g h stands follows) d.steps d.issues
-steps_advance g h before turns.Memory m was plan old new stands follows d = refused g h before m was plan old new stands follows d.steps
+steps_advance g h before turns.On m was plan old new stands follows (inr d) = done_advance g h before turns.On m was plan old new stands follows d
+steps_advance g h before (turns.Issued t) m was plan old new stands follows d = done_advance g h before (turns.Issued t) m was plan old new stands follows d
+steps_advance g h before (turns.End e) m was plan old new stands follows (inl d) = done_advance g h before (turns.End e) m was plan old new stands follows d
+steps_advance g h before (turns.End e) m was plan old new stands follows (inr o) = overtaken_run g h before e m was plan old new stands follows o
+steps_advance g h before turns.Memory m was plan old new stands follows d = refused g h before m was plan old new stands follows d

@@ -1,17 +1,19 @@
 -- A step that is performed issues, and can act.
-use Rattle.std.proofs.Common.{◌≡◌, ℕ, ◌+◌, ◌<◌, ◌≤◌, Bool, true, false, List, [], ◌∷◌, ◌++◌, length, map, Option, None, refl, sym, ap, ◌∙◌, subst, ◌⊎◌, inl, inr}
+use Rattle.std.proofs.Common.{◌≡◌, ℕ, ◌+◌, ◌<◌, ◌≤◌, Bool, true, false, List, [], ◌∷◌, ◌++◌, length, drop, map, Option, None, refl, sym, ap, ◌∙◌, subst, ◌⊎◌, inl, inr, arith}
 use Rattle.std.specs.List.{AllByRecursion}
 use Rattle.i9_model.specs.declared.need.Need.{Need}
+use Rattle.i9_model.specs.declared.need.TimedNeed.{TimedNeed}
 use Rattle.i9_model.specs.declared.need.Cell.{Cell}
 use Rattle.i9_model.specs.Late.{Wait, resource, landed, due_puts, left_waiting, issued_cell}
 use Rattle.i9_model.specs.declared.run.Due.{Due}
 use Rattle.i9_model.specs.Memory.{stored}
+use Rattle.i9_model.specs.Left.{left_in}
 use Rattle.i9_model.specs.PrintedText.{end_lines}
 use Rattle.i9_model.specs.ScheduleText.{standing}
 use Rattle.i9_model.specs.State.{State}
 use Rattle.i9_model.specs.Step.{Action}
-use Rattle.i9_model.specs.Run.{Given, Kind, Record, Does, record_of, action_by_kind, action_done, due_after, event_after, next_in, state_after, next}
-use Rattle.i9_model.specs.Turns.{Pending, IsAllDone, with_need, waiting_until, placed_record}
+use Rattle.i9_model.specs.Run.{Given, Kind, Record, Next, Does, Ends, record_of, action_by_kind, action_done, due_after, event_after, next_in, state_after, next}
+use Rattle.i9_model.specs.Turns.{Pending, IsAllDone, with_need, last_issue, issue_turn, waiting_until, placed_record}
 use Rattle.i9_model.specs.Turns as board
 use Rattle.i9_model.proofs.AlikeSteps.{does_alike}
 use Rattle.i9_model.proofs.HeldRuns.{next_free}
@@ -22,25 +24,25 @@ use Rattle.i9_course.specs.Course.{Item, records_of, ahead}
 use Rattle.i9_course.proofs.Landed.{request_last}
 use Rattle.i9_course.proofs.NeedActs.{need_still}
 use Rattle.i9_course.proofs.NeedCovers.{need_covers}
-use Rattle.i9_course.proofs.Orderly.{course_past}
-use Rattle.i9_course.proofs.Precise.{built_precise}
 use Rattle.i9_processor.specs.declared.effect.Effect.{Effect}
-use Rattle.i9_processor.specs.Effect.{action_in, CanWait, IsStill, cache_through, size_through}
+use Rattle.i9_processor.specs.Effect.{action_in, CanWait, HasRoomFor, IsStill, cache_through, size_through}
 use Rattle.i9_processor.specs.State.{state_of, cache_of, size_of, cells_of, bytes_of, queue_of, IsDrained}
 use Rattle.i9_processor.specs.declared.processor.Processor.{Processor}
 use Rattle.i9_machine.specs.declared.line.Line.{Line}
 use Rattle.i9_machine.specs.declared.line.Turn.{Turn}
 use Rattle.i9_machine.specs.declared.line.Turn.TheVariants as turns
+use Rattle.std.specs.Prelude.{IfSome}
 use Rattle.i9_machine.specs.declared.machine.Machine.{Machine}
 use Rattle.i9_machine.specs.declared.step.Step.{Step}
-use Rattle.i9_machine.specs.Issuing.{kernel_of, IsPlaced, IsIssued, IsUnmoved, IsMoved, CanActPlaced}
-use Rattle.i9_machine.specs.Step.{TellsRecord, NeedsRoom, IsStep, IsSame, Did, Steps, IssuesNext, Issues, event_for, next_for, steps_left}
-use Rattle.i9_machine.specs.StandsFor.{StandsFor, Follows, IsUnderWay, IsNow, Done, OpenSteps, LeavesFewer}
+use Rattle.i9_machine.specs.Issuing.{kernel_of, IsPaced, IsPlaced, IsIssued, IsUnmoved, IsLike, IsMoved, CanActPlaced}
+use Rattle.i9_machine.specs.Step.{TellsRecord, NeedsRoom, HasRoom, IsStepIn, IsStep, IsSame, Did, Steps, IssuesNext, Issues, event_for, next_for, records_left, steps_left}
+use Rattle.i9_machine.specs.StandsFor.{StandsFor, Follows, KeepsStep, IsUnderWay, HasCome, IsNow, Done, OpenSteps, LeavesFewer, waiting}
 use Rattle.i9_machine.specs.Line.{shown_of}
 use Rattle.i9_machine.proofs.Stepping.{move_fewer}
 use Rattle.i9_machine.proofs.Turning.{same_left, under_way_early}
 use Rattle.i9_machine.proofs.Issuing.{same_need, clear_need, placed_done}
 use Rattle.i9_machine.proofs.Beside.{beside}
+use Rattle.i9_machine.proofs.Unmoved.{unmoved_paced, same_stands}
 
 -- a step's need covers what it changes
 pub step_covers : (m k : Machine) (plan : Plan) (step : Step) (e : Effect) → IsStep m plan step e → state_of k.processor ≡ state_of m.processor
@@ -63,10 +65,10 @@ still_step m k plan step e is state request barrier =
     subst (λ (t : State). IsStill (action_in t e)) (sym state) (subst IsStill (sym is.effect.same) quiet)
 
 -- a step can act with the turns that its need is placed with, also where room was made
-pub step_acts : (m k : Machine) (plan : Plan) (step : Step) (e : Effect) → IsUnderWay m plan → IsNow m plan → IsStep m plan step e
+pub step_acts : (m k : Machine) (plan : Plan) (step : Step) (e : Effect) → HasCome m plan → IsStep m plan step e
     → state_of k.processor ≡ state_of m.processor → queue_of k.processor ≡ queue_of m.processor → k.board ≡ m.board → k.floor ≡ m.floor
     → CanActPlaced k step.need e
-step_acts m k plan step e u now is state queue board floor p b placed_in =
+step_acts m k plan step e u is state queue board floor p b placed_in =
     let g = u.given in
     let h = u.items in
     let q = record_of is.kind (state_of m.processor) in
@@ -74,8 +76,7 @@ step_acts m k plan step e u now is state queue board floor p b placed_in =
     let r = found.0 in
     let run = next_free g.length (due_after (records_of h)) (event_after g (records_of h)) (state_after g (records_of h)) r found.1 in
     let need = same_need g h m r q step.need u.stands found.2 (ap (λ (x : Record). x.before) run.0) refl is.need in
-    let precise = built_precise g h (course_past g h u.stands.past) in
-    let clear = clear_need g h m r step.need u.stands found.1 precise (now g h u.stands u.follows) need in
+    let clear = clear_need g h m r step.need u.stands found.1 u.precise u.now need in
     let placed : IsPlaced m.board (waiting_until m.floor step.need) p b =
     subst (λ (f : ℕ). IsPlaced m.board (waiting_until f step.need) p b) floor
     (subst (λ (c : Pending). IsPlaced c (waiting_until k.floor step.need) p b) board placed_in) in
@@ -136,19 +137,7 @@ unmoved_issued before mid m need a u i = record {
   };
 }
 
--- ---- from a machine that is the same but for the instructions that it keeps
-
-pub record IsLike (before mid : Machine) : Type 0 where
-  pub processor : mid.processor ≡ before.processor
-  pub due : mid.due ≡ before.due
-  pub length : mid.length ≡ before.length
-  pub sets : mid.sets ≡ before.sets
-  pub board : mid.board ≡ before.board
-  pub turn : mid.turn ≡ before.turn
-  pub floor : mid.floor ≡ before.floor
-  pub wait : mid.wait ≡ before.wait
-  pub done : mid.done ≡ before.done
-  pub ended : mid.ended ≡ before.ended
+-- ---- from a machine that is the same but for the instructions and the step that it keeps
 
 like_unmoved : (before mid : Machine) → IsLike before mid → IsUnmoved before mid
 like_unmoved before mid l = record {
@@ -162,7 +151,7 @@ like_unmoved before mid l = record {
   queue = ap queue_of l.processor;
 }
 
-like_next : (before mid : Machine) (plan : Plan) → IsLike before mid → next_for mid plan ≡ next_for before plan
+pub like_next : (before mid : Machine) (plan : Plan) → IsLike before mid → next_for mid plan ≡ next_for before plan
 like_next before mid plan l =
     ap (λ (p : Processor). next_in mid.length mid.due (standing plan.events plan.place (state_of p).count) (state_of p)) l.processor
     ∙ ap (λ (d : Due). next_in mid.length d (event_for before plan) (state_of before.processor)) l.due
@@ -200,12 +189,13 @@ like_did before mid m answer was plan old new l d = record {
   length = d.length ∙ l.length;
   sets = d.sets ∙ l.sets;
   ended = d.ended;
+  none = d.none;
   behind = d.behind;
   lines = d.lines;
   tells = d.tells;
 }
 
-like_same : (before mid m : Machine) → IsLike before mid → IsSame mid m → IsSame before m
+pub like_same : (before mid m : Machine) → IsLike before mid → IsSame mid m → IsSame before m
 like_same before mid m l s = record {
   state = s.state ∙ ap state_of l.processor;
   cache = s.cache ∙ ap cache_of l.processor;
@@ -234,19 +224,95 @@ like_steps before mid m (turns.End e) was plan old new l d = record {
   is_end = sym (like_next before mid was l) ∙ d.is_end;
   same = like_same before mid m l d.same;
   ended = d.ended;
+  none = d.none;
   kept = d.kept;
   lines = d.lines ∙ ap (λ (p : Processor). map shown_of old ++ end_lines (state_of p) e) l.processor;
 }
 like_steps before mid m turns.Memory was plan old new l d = record {
   same = like_same before mid m l d.same;
   ended = d.ended;
+  none = d.none;
   kept = d.kept;
   lines = d.lines;
   needed = subst NeedsRoom (like_next before mid was l) d.needed;
 }
 
+-- what comes next
+pub like_step : (before mid : Machine) (plan : Plan) (step : Step) (e : Effect) → IsLike before mid → IsStep before plan step e → IsStep mid plan step e
+like_step before mid plan step e l is =
+    subst (λ (n : ℕ). IsStepIn n mid.due (state_of mid.processor) (size_of mid.processor) (cache_of mid.processor) plan step e) (sym l.length)
+    (subst (λ (d : Due). IsStepIn before.length d (state_of mid.processor) (size_of mid.processor) (cache_of mid.processor) plan step e) (sym l.due)
+    (subst (λ (p : Processor). IsStepIn before.length before.due (state_of p) (size_of p) (cache_of p) plan step e) (sym l.processor) is))
+
+-- the turns of the scoreboard
+pub like_turn : (before mid : Machine) (need : Need) (t : ℕ) → IsLike before mid
+    → ((rs : List TimedNeed) → board.StandsFor mid.board rs → t ≡ issue_turn (last_issue rs) rs (waiting_until mid.floor need))
+    → (rs : List TimedNeed) → board.StandsFor before.board rs → t ≡ issue_turn (last_issue rs) rs (waiting_until before.floor need)
+like_turn before mid need t l turn rs stands =
+    turn rs (subst (λ (p : Pending). board.StandsFor p rs) (sym l.board) stands)
+    ∙ ap (λ (f : ℕ). issue_turn (last_issue rs) rs (waiting_until f need)) l.floor
+
+pub like_paced : (before mid : Machine) (left : ℕ) → IsLike before mid → IsPaced before left → IsPaced mid left
+like_paced before mid left l p = unmoved_paced before mid left (like_unmoved before mid l) p
+
+-- how much is left
+pub like_left : (before mid : Machine) (plan : Plan) → IsLike before mid → steps_left mid plan ≡ steps_left before plan
+unfolding steps_left
+like_left before mid plan l =
+    let turn : mid.turn ≡ before.turn = l.turn in
+    let same : records_left mid plan ≡ records_left before plan =
+    ap (λ (p : Processor). left_in mid.length (drop plan.place plan.events) mid.due (state_of p)) l.processor
+    ∙ ap (λ (d : Due). left_in mid.length (drop plan.place plan.events) d (state_of before.processor)) l.due
+    ∙ ap (λ (n : ℕ). left_in n (drop plan.place plan.events) before.due (state_of before.processor)) l.length in
+    omega (arith, turn, same)
+
+pub like_fewer : (before mid : Machine) (answer : Turn) (plan : Plan) (now : ℕ) → IsLike before mid → LeavesFewer answer (steps_left mid plan) now
+    → LeavesFewer answer (steps_left before plan) now
+like_fewer before mid answer plan now l fewer = subst (λ (n : ℕ). LeavesFewer answer n now) (like_left before mid plan l) fewer
+
+-- room
+room_like : (before mid : Machine) (spare : ℕ) (o : Next) → IsLike before mid → HasRoom before spare o → HasRoom mid spare o
+room_like before mid spare (Ends f) l room = room
+room_like before mid spare (Does r) l room = record {
+  lines = room.lines;
+  effect = subst (λ (p : Processor). HasRoomFor p (action_done r)) (sym l.processor) room.effect;
+  no_sets = room.no_sets;
+}
+
+pub like_room : (before mid : Machine) (plan : Plan) (spare : ℕ) → IsLike before mid → HasRoom before spare (next_for before plan) → HasRoom mid spare (next_for mid plan)
+like_room before mid plan spare l room =
+    room_like before mid spare (next_for mid plan) l (subst (HasRoom before spare) (sym (like_next before mid plan l)) room)
+
+-- what it stands for, where it keeps no step
+pub like_stands : (g : Given) (h : List Item) (before mid : Machine) → IsLike before mid → mid.kept ≡ None → StandsFor g h None before → StandsFor g h None mid
+like_stands g h before mid l none stands =
+    let same : IsSame before mid = record {
+      state = ap state_of l.processor;
+      cache = ap cache_of l.processor;
+      size = ap size_of l.processor;
+      due = l.due;
+      length = l.length;
+      sets = l.sets;
+      unmoved = like_unmoved before mid l;
+    } in
+    same_stands g h before mid None same (l.ended ∙ stands.ended) none tt stands
+
+-- so what has come has come for it
+pub like_come : (before mid : Machine) (plan : Plan) → IsLike before mid → mid.kept ≡ None → IsUnderWay before plan → IsNow before plan → HasCome mid plan
+like_come before mid plan l none u now =
+    let come = now u.given u.items u.stands u.follows in
+    record {
+      given = u.given;
+      items = u.items;
+      stands = like_stands u.given u.items before mid l none u.stands;
+      follows = u.follows;
+      precise = come.0;
+      now = subst (λ (t : ℕ). (ahead u.given u.items).turn ≤ t) (sym l.turn) come.1;
+    }
+
 -- and the turn moves
-pub like_moved : (before mid m : Machine) (wait : ℕ) → IsLike before mid → IsMoved (record mid { wait = wait }) m → IsMoved (record before { wait = wait }) m
+pub like_moved : (before mid m : Machine) (wait : ℕ) → IsLike before mid → IsMoved (record mid { wait = wait }) m
+    → IsMoved (waiting before wait mid.kept mid.effect) m
 like_moved before mid m wait l i = record {
   state = i.state ∙ ap state_of l.processor;
   cache = i.cache ∙ ap cache_of l.processor;
@@ -263,6 +329,8 @@ like_moved before mid m wait l i = record {
   length = i.length ∙ l.length;
   sets = i.sets ∙ l.sets;
   ended = i.ended ∙ l.ended;
+  kept = i.kept;
+  effect = i.effect;
 }
 
 -- ---- a step where something is open
@@ -272,20 +340,39 @@ pub done_opens : (before m : Machine) (answer : Turn) (was plan : Plan) (old new
     → OpenSteps before answer m was plan old new
 done_opens before m turns.On was plan old new d = inr d
 done_opens before m (turns.Issued t) was plan old new d = d
-done_opens before m (turns.End e) was plan old new d = d
-done_opens before m turns.Memory was plan old new d = d
+done_opens before m (turns.End e) was plan old new d = inl d
+done_opens before m turns.Memory was plan old new d = d.steps
 
--- the turn moved towards one
+-- the turn moved towards one, with what comes at that turn, or without
+pub wait_keeps : (before mid m : Machine) (answer : Turn) (plan : Plan) (lines : List Line) (wait : ℕ) → answer ≡ turns.On → IsLike before mid → before.turn < wait
+    → ((g : Given) (h : List Item) → StandsFor g h None before → Follows g h plan → wait ≤ (ahead g h).turn)
+    → ((g : Given) (h : List Item) → StandsFor g h None before → Follows g h plan → IfSome mid.kept (KeepsStep g h (waiting before wait mid.kept mid.effect)))
+    → IsMoved (record mid { wait = wait }) m → OpenSteps before answer m plan plan lines lines
+wait_keeps before mid m answer plan lines wait on l later bound keeps moved =
+    subst (λ (t : Turn). OpenSteps before t m plan plan lines lines) (sym on)
+    (inl (record {
+      wait = wait;
+      later = later;
+      bound = bound;
+      step = mid.kept;
+      effect = mid.effect;
+      keeps = keeps;
+      moved = like_moved before mid m wait l moved;
+      kept = refl;
+      lines = refl;
+    }))
+
 pub wait_opens : (before mid m : Machine) (answer : Turn) (plan : Plan) (lines : List Line) (wait : ℕ) → answer ≡ turns.On → IsLike before mid → before.turn < wait
     → ((g : Given) (h : List Item) → StandsFor g h None before → Follows g h plan → wait ≤ (ahead g h).turn)
-    → IsMoved (record mid { wait = wait }) m → OpenSteps before answer m plan plan lines lines
-wait_opens before mid m answer plan lines wait on l later bound moved =
-    subst (λ (t : Turn). OpenSteps before t m plan plan lines lines) (sym on)
-    (inl (record { wait = wait; later = later; bound = bound; moved = like_moved before mid m wait l moved; kept = refl; lines = refl }))
+    → mid.kept ≡ None → IsMoved (record mid { wait = wait }) m → OpenSteps before answer m plan plan lines lines
+wait_opens before mid m answer plan lines wait on l later bound none moved =
+    wait_keeps before mid m answer plan lines wait on l later bound
+    (λ g h stands follows. subst (λ (o : Option Step). IfSome o (KeepsStep g h (waiting before wait mid.kept mid.effect))) (sym none) tt) moved
 
 -- and leaves less
-pub wait_fewer : (before m : Machine) (answer : Turn) (plan : Plan) (wait : ℕ) → answer ≡ turns.On → IsUnderWay before plan → IsMoved (record before { wait = wait }) m
-    → LeavesFewer answer (steps_left before plan) (steps_left m plan)
-wait_fewer before m answer plan wait on u i =
+pub wait_fewer : (before mid m : Machine) (answer : Turn) (plan : Plan) (wait : ℕ) → answer ≡ turns.On → IsLike before mid → IsUnderWay before plan
+    → IsMoved (record mid { wait = wait }) m → LeavesFewer answer (steps_left before plan) (steps_left m plan)
+wait_fewer before mid m answer plan wait on l u i =
+    let moved = like_moved before mid m wait l i in
     subst (λ (t : Turn). LeavesFewer t (steps_left before plan) (steps_left m plan)) (sym on)
-    (move_fewer before m plan (same_left before m plan wait i) i.turn (under_way_early before plan u))
+    (move_fewer before m plan (same_left before m plan wait mid.kept mid.effect moved) moved.turn (under_way_early before plan u))

@@ -1,14 +1,14 @@
 -- The turn moves, and turns stay small enough for the scoreboard.
-use Rattle.std.proofs.Common.{◌≡◌, ℕ, ◌+◌, ◌*◌, ◌^◌, ◌<◌, ◌≤◌, max, List, [], ◌∷◌, drop, None, true, inl, inr, refl, sym, ap, ◌∙◌, subst, arith}
+use Rattle.std.proofs.Common.{◌≡◌, ℕ, ◌+◌, ◌*◌, ◌^◌, ◌<◌, ◌≤◌, max, List, [], ◌∷◌, drop, Option, None, Some, true, inl, inr, refl, sym, ap, ◌∙◌, subst, arith}
 use Rattle.std.specs.List.{AllByRecursion}
-use Rattle.std.specs.Prelude.{IsTrue}
+use Rattle.std.specs.Prelude.{IfSome, IsTrue}
 use Rattle.i9_model.specs.declared.need.Need.{Need}
 use Rattle.i9_model.specs.declared.need.TimedNeed.{TimedNeed}
 use Rattle.i9_model.specs.declared.run.Due.{Due}
 use Rattle.i9_model.specs.Left.{left_in}
 use Rattle.i9_model.specs.Run.{Given, Record, record_of, due_after, event_after, state_after, next}
 use Rattle.i9_model.specs.State.{State}
-use Rattle.i9_model.specs.HeldFrames.{cache_after}
+use Rattle.i9_model.specs.HeldFrames.{Cache, cache_after}
 use Rattle.i9_model.specs.Alike.{AreAlike}
 use Rattle.i9_model.specs.Turns.{HasCost, Pending, IsAllDone, AreAllDone, last_issue, issue_turn, end_turn, done_from, waiting_until}
 use Rattle.i9_model.specs.Turns as board
@@ -20,16 +20,15 @@ use Rattle.i9_course.specs.NeedOf.{need_ahead}
 use Rattle.i9_course.specs.Course.{Item, records_of, course, need_after, issue_of_next, ahead}
 use Rattle.i9_course.proofs.Ahead.{ahead_by_end, ahead_precise}
 use Rattle.i9_course.proofs.NeedAlike.{next_need_alike}
-use Rattle.i9_course.proofs.Orderly.{course_past}
 use Rattle.i9_course.proofs.Placing.{next_turn}
-use Rattle.i9_course.proofs.Precise.{built_precise}
 use Rattle.i9_course.proofs.Steps.{moves_lands}
-use Rattle.i9_processor.specs.State.{state_of, IsDrained}
+use Rattle.i9_processor.specs.State.{state_of, cache_of, size_of, IsDrained}
 use Rattle.i9_machine.specs.declared.line.Line.{Line}
 use Rattle.i9_machine.specs.declared.machine.Machine.{Machine}
 use Rattle.i9_machine.specs.Issuing.{kernel_of, most_turns, IsPaced, IsMoved, IsEndTurn}
-use Rattle.i9_machine.specs.Step.{IsStep, next_for, records_left}
-use Rattle.i9_machine.specs.StandsFor.{StandsFor, Follows, IsUnderWay, IsNow, MovesOn, left_after}
+use Rattle.i9_machine.specs.Step.{IsStepIn, IsStep, next_for, records_left}
+use Rattle.i9_model.specs.declared.event.Timed.{Timed}
+use Rattle.i9_machine.specs.StandsFor.{StandsFor, Follows, KeepsStep, IsUnderWay, IsNow, MovesOn, waiting, left_after}
 use Rattle.i9_machine.specs.Opening.{NextWaits}
 use Rattle.i9_machine.specs.declared.step.Step.{Step}
 use Rattle.i9_processor.specs.declared.effect.Effect.{Effect}
@@ -40,6 +39,56 @@ use Rattle.i9_model.proofs.AlikeSteps.{does_alike}
 use Rattle.i9_model.proofs.HeldRuns.{next_free}
 use Rattle.i9_machine.proofs.Beside.{beside}
 use Rattle.i9_machine.proofs.Issuing.{same_need}
+use Rattle.i9_machine.proofs.Overtaking.{drained_precise}
+
+-- ---- the step that is kept
+
+-- no step
+pub keeps_none : (g : Given) (h : List Item) (m : Machine) → m.kept ≡ None → IfSome m.kept (KeepsStep g h m)
+keeps_none g h m none = subst (λ (o : Option Step). IfSome o (KeepsStep g h m)) (sym none) tt
+
+-- a step is what comes next as the turn moves
+moved_step : (before m : Machine) (plan : Plan) (step : Step) → IsMoved before m → IsStep before plan step before.effect → IsStep m plan step m.effect
+moved_step before m plan step i is =
+    let s = state_of m.processor in
+    let n = size_of m.processor in
+    let c = cache_of m.processor in
+    subst (λ (l : ℕ). IsStepIn l m.due s n c plan step m.effect) (sym i.length)
+    (subst (λ (d : Due). IsStepIn before.length d s n c plan step m.effect) (sym i.due)
+    (subst (λ (t : State). IsStepIn before.length before.due t n c plan step m.effect) (sym i.state)
+    (subst (λ (k : ℕ). IsStepIn before.length before.due (state_of before.processor) k c plan step m.effect) (sym i.size)
+    (subst (λ (d : Cache). IsStepIn before.length before.due (state_of before.processor) (size_of before.processor) d plan step m.effect) (sym i.cache)
+    (subst (IsStepIn before.length before.due (state_of before.processor) (size_of before.processor) (cache_of before.processor) plan step) (sym i.effect) is)))))
+
+-- so it stays kept
+moved_keeps : (g : Given) (h : List Item) (before m : Machine) → IsMoved before m → IfSome before.kept (KeepsStep g h before) → IfSome m.kept (KeepsStep g h m)
+moved_keeps g h before m i keeps = subst (λ (o : Option Step). IfSome o (KeepsStep g h m)) (sym i.kept) (each before.kept keeps)
+  where
+    each : (o : Option Step) → IfSome o (KeepsStep g h before) → IfSome o (KeepsStep g h m)
+    each None k = tt
+    each (Some step) k = record {
+      step = λ plan follows. moved_step before m plan step i (k.step plan follows);
+      turn = k.turn ∙ sym i.wait;
+      precise = k.precise;
+    }
+
+-- two schedules that follow the same items are the same
+follows_same : (g : Given) (h : List Item) (p q : Plan) → Follows g h p → Follows g h q → p ≡ q
+follows_same g h p q one two =
+    ap (λ (ts : List Timed). record { events = ts; place = p.place }) (one.events ∙ sym two.events)
+    ∙ ap (λ (n : ℕ). record { events = q.events; place = n }) (one.place ∙ sym two.place)
+
+-- a step that comes at a turn to which the machine waits may be kept
+pub keeps_step : (m : Machine) (plan : Plan) (step : Step) (e : Effect) (t : ℕ) → IsStep m plan step e
+    → ((g : Given) (h : List Item) → StandsFor g h None m → Follows g h plan → ((ahead g h).imprecise ≡ None) × (t ≡ (ahead g h).turn))
+    → (g : Given) (h : List Item) → StandsFor g h None m → Follows g h plan → KeepsStep g h (waiting m t (Some step) e) step
+keeps_step m plan step e t is come g h stands follows =
+    let at = come g h stands follows in
+    record {
+      step = λ other behind. subst (λ (p : Plan). IsStep m p step e) (follows_same g h plan other follows behind) is;
+      turn = sym at.1;
+      precise = at.0;
+    }
 
 -- ---- the turn moves
 
@@ -54,9 +103,9 @@ ended_by p rs b stands done =
     done_least (last_issue rs) rs b is.in_order is.done
 
 -- so what is paced stays so as the turn moves
-moved_paced : (g : Given) (h : List Item) (before m : Machine) (wait : ℕ) → StandsFor g h None before → before.turn < wait → wait ≤ (ahead g h).turn
-    → IsMoved (record before { wait = wait }) m → IsPaced m (left_after g (records_of h))
-moved_paced g h before m wait stands later bound i =
+moved_paced : (g : Given) (h : List Item) (before m : Machine) (wait : ℕ) (step : Option Step) (e : Effect) → StandsFor g h None before → before.turn < wait
+    → wait ≤ (ahead g h).turn → IsMoved (waiting before wait step e) m → IsPaced m (left_after g (records_of h))
+moved_paced g h before m wait step e stands later bound i =
     let p = stands.paced in
     let by_end : (ahead g h).turn ≤ end_turn (turns (course g h).late) = ahead_by_end g h in
     let ended : end_turn (turns (course g h).late) ≤ p.bound = ended_by before.board (turns (course g h).late) p.bound stands.lands.board p.done in
@@ -72,9 +121,10 @@ moved_paced g h before m wait stands later bound i =
     }
 
 -- towards a turn below which nothing comes next
-pub moved : (g : Given) (h : List Item) (before m : Machine) (plan : Plan) (lines : List Line) (wait : ℕ) → StandsFor g h None before → Follows g h plan
-    → before.turn < wait → wait ≤ (ahead g h).turn → IsMoved (record before { wait = wait }) m → MovesOn g h before m plan lines lines
-moved g h before m plan lines wait stands follows later bound i =
+pub moved : (g : Given) (h : List Item) (before m : Machine) (plan : Plan) (lines : List Line) (wait : ℕ) (step : Option Step) (e : Effect)
+    → StandsFor g h None before → Follows g h plan → before.turn < wait → wait ≤ (ahead g h).turn → IfSome step (KeepsStep g h (waiting before wait step e))
+    → IsMoved (waiting before wait step e) m → MovesOn g h before m plan lines lines
+moved g h before m plan lines wait step e stands follows later bound keeps i =
     let turn : m.turn ≡ before.turn + 1 = i.turn in
     let wait_now : m.wait ≡ wait = i.wait in
     record {
@@ -88,20 +138,22 @@ moved g h before m plan lines wait stands follows later bound i =
         lands = moves_lands g h m.turn (kernel_of before) (kernel_of m) stands.lands (omega (arith, turn)) (omega (arith, turn, later, bound))
             (record { board = i.board; turn = refl; done = i.done; cells = λ r lt. i.cells r; bytes = i.bytes; queue = i.queue }) i.floor;
         early = omega (arith, wait_now, bound);
-        paced = moved_paced g h before m wait stands later bound i;
+        paced = moved_paced g h before m wait step e stands later bound i;
         due = i.due ∙ stands.due;
         length = i.length ∙ stands.length;
         sets = i.sets ∙ stands.sets;
         ended = i.ended ∙ stands.ended;
         over = tt;
+        kept = moved_keeps g h (waiting before wait step e) m i keeps;
       };
       follows = follows;
       lines = refl;
     }
 
 -- no record is done
-pub same_left : (before m : Machine) (plan : Plan) (wait : ℕ) → IsMoved (record before { wait = wait }) m → records_left m plan ≡ records_left before plan
-same_left before m plan wait i =
+pub same_left : (before m : Machine) (plan : Plan) (wait : ℕ) (step : Option Step) (e : Effect) → IsMoved (waiting before wait step e) m
+    → records_left m plan ≡ records_left before plan
+same_left before m plan wait step e i =
     let events = drop plan.place plan.events in
     ap (λ (l : ℕ). left_in l events m.due (state_of m.processor)) i.length
     ∙ ap (λ (d : Due). left_in before.length events d (state_of m.processor)) i.due
@@ -146,28 +198,29 @@ waiting_cost t need h = record { some = h.some; plain = h.plain }
 
 -- what waits for all comes when all is done
 pub waits_until : (m : Machine) (plan : Plan) (until : ℕ) → IsEndTurn m until → NextWaits m plan → (g : Given) (h : List Item) → StandsFor g h None m → Follows g h plan
-    → until ≤ (ahead g h).turn
-waits_until m plan until end (inl check) g h stands follows =
+    → (ahead g h).imprecise ≡ None → until ≤ (ahead g h).turn
+waits_until m plan until end (inl check) g h stands follows precise =
     let rs = turns (course g h).late in
     let is : until ≡ end_turn rs = end rs stands.lands.board in
     let set : (state_after g (records_of h)).check ≡ true = sym (ap (λ (s : State). s.check) stands.state.rest) ∙ check in
-    let turn : (ahead g h).turn ≡ end_turn rs = checked_waits g h stands.past (built_precise g h (course_past g h stands.past)) set in
+    let turn : (ahead g h).turn ≡ end_turn rs = checked_waits g h stands.past precise set in
     omega (arith, is, turn)
-waits_until m plan until end (inr held) g h stands follows =
+waits_until m plan until end (inr held) g h stands follows precise =
     let rs = turns (course g h).late in
     let is : until ≡ end_turn rs = end rs stands.lands.board in
     let o = next g (records_of h) in
     let need = next_need_alike g.sets (cache_after g (records_of h)) o (next_for m plan) (beside g h m plan stands follows) in
     let barrier : IsTrue (need_after g h o).barrier = sym (ap (λ (n : Need). n.barrier) need) ∙ held g.sets (cache_after g (records_of h)) in
     let turn : issue_of_next g h o ≡ end_turn rs = next_barrier g h o barrier in
-    let ahead_turn : (ahead g h).turn ≡ issue_of_next g h o = ahead_precise g h (built_precise g h (course_past g h stands.past)) in
+    let ahead_turn : (ahead g h).turn ≡ issue_of_next g h o = ahead_precise g h precise in
     omega (arith, is, turn, ahead_turn)
 
 -- an instruction comes at the turn that the scoreboard gives its need
 pub comes_at : (m : Machine) (plan : Plan) (step : Step) (e : Effect) (t : ℕ) → IsStep m plan step e
     → ((rs : List TimedNeed) → board.StandsFor m.board rs → t ≡ issue_turn (last_issue rs) rs (waiting_until m.floor step.need))
-    → (g : Given) (h : List Item) → StandsFor g h None m → Follows g h plan → t ≡ (ahead g h).turn
-comes_at m plan step e t is turn g h stands follows =
+    → (g : Given) (h : List Item) → StandsFor g h None m → Follows g h plan → (ahead g h).imprecise ≡ None
+    → t ≡ (ahead g h).turn
+comes_at m plan step e t is turn g h stands follows precise =
     let rs = turns (course g h).late in
     let q = record_of is.kind (state_of m.processor) in
     let found = does_alike (next g (records_of h)) (next_for m plan) q (beside g h m plan stands follows) is.is_next in
@@ -175,14 +228,30 @@ comes_at m plan step e t is turn g h stands follows =
     let need = same_need g h m found.0 q step.need stands found.2 (ap (λ (x : Record). x.before) run.0) refl is.need in
     turn rs stands.lands.board
     ∙ ap (λ (f : ℕ). issue_turn (last_issue rs) rs (waiting_until f step.need)) stands.lands.mark
-    ∙ sym (next_turn g h step.need (built_precise g h (course_past g h stands.past)) (ap (need_ahead g.sets (cache_after g (records_of h))) found.1 ∙ need))
+    ∙ sym (next_turn g h step.need precise (ap (need_ahead g.sets (cache_after g (records_of h))) found.1 ∙ need))
+
+-- it comes now where it was kept, and the machine has waited to its turn
+kept_now : (g : Given) (h : List Item) (m : Machine) (step : Step) → StandsFor g h None m → m.kept ≡ Some step → m.wait ≤ m.turn
+    → ((ahead g h).imprecise ≡ None) × ((ahead g h).turn ≤ m.turn)
+kept_now g h m step stands is le =
+    let keeps : KeepsStep g h m step = subst (λ (o : Option Step). IfSome o (KeepsStep g h m)) is stands.kept in
+    let turn : (ahead g h).turn ≡ m.wait = keeps.turn in
+    (keeps.precise, omega (arith, turn, le))
+
+pub kept_is_now : (m : Machine) (plan : Plan) (step : Step) → m.kept ≡ Some step → m.wait ≤ m.turn → IsNow m plan
+kept_is_now m plan step is le g h stands follows = kept_now g h m step stands is le
+
+pub kept_step : (m : Machine) (plan : Plan) (step : Step) → IsUnderWay m plan → m.kept ≡ Some step → IsStep m plan step m.effect
+kept_step m plan step u is =
+    let keeps : KeepsStep u.given u.items m step = subst (λ (o : Option Step). IfSome o (KeepsStep u.given u.items m)) is u.stands.kept in
+    keeps.step plan u.follows
 
 -- where nothing is open, what comes next may issue, and nothing waits
 pub all_now : (m : Machine) (plan : Plan) (until : ℕ) → IsEndTurn m until → until ≤ m.turn → IsNow m plan
 all_now m plan until end le g h stands follows =
     let is : until ≡ end_turn (turns (course g h).late) = end (turns (course g h).late) stands.lands.board in
     let by_end : (ahead g h).turn ≤ end_turn (turns (course g h).late) = ahead_by_end g h in
-    omega (arith, is, le, by_end)
+    (drained_precise g h m stands (omega (arith, is, le)), omega (arith, is, le, by_end))
 
 pub all_landed : (m : Machine) (plan : Plan) (until : ℕ) → IsUnderWay m plan → IsEndTurn m until → until ≤ m.turn → IsDrained m.processor
 all_landed m plan until u end le =

@@ -80,7 +80,20 @@ pub record IsUnmoved (before m : Machine) : Type 0 where
   pub bytes : bytes_of m.processor ≡ bytes_of before.processor
   pub queue : queue_of m.processor ≡ queue_of before.processor
 
--- The turn moved by one, and what is due by then landed; nothing else changed.
+-- the same machine, but for the instructions and the step that it keeps
+pub record IsLike (before mid : Machine) : Type 0 where
+  pub processor : mid.processor ≡ before.processor
+  pub due : mid.due ≡ before.due
+  pub length : mid.length ≡ before.length
+  pub sets : mid.sets ≡ before.sets
+  pub board : mid.board ≡ before.board
+  pub turn : mid.turn ≡ before.turn
+  pub floor : mid.floor ≡ before.floor
+  pub wait : mid.wait ≡ before.wait
+  pub done : mid.done ≡ before.done
+  pub ended : mid.ended ≡ before.ended
+
+-- The turn moved by one, and what is due by then landed; nothing else changed, and a step that is kept stays so.
 pub record IsMoved (before m : Machine) : Type 0 where
   pub state : state_of m.processor ≡ state_of before.processor
   pub cache : cache_of m.processor ≡ cache_of before.processor
@@ -97,6 +110,8 @@ pub record IsMoved (before m : Machine) : Type 0 where
   pub length : m.length ≡ before.length
   pub sets : m.sets ≡ before.sets
   pub ended : m.ended ≡ before.ended
+  pub kept : m.kept ≡ before.kept
+  pub effect : m.effect ≡ before.effect
 
 -- a turn is the least at which all records are done, whatever they are
 abbrev pub IsEndTurn : Machine → ℕ → Type 0

@@ -6,3 +6,4 @@ pub mod Opening
 pub mod Doing
 pub mod StandsFor
 pub mod InRun
+pub mod Overtaking

@@ -1,10 +1,12 @@
 -- One step of a machine from its own fields, with no word on the records before.
-use Rattle.std.specs.Prelude.{◌≡◌, ℕ, ◌+◌, ◌-◌, ◌*◌, ◌^◌, ◌≤◌, Bool, true, false, ◌||◌, nat_lt, List, length, drop, Option, Some, None, is_some, Result, Ok, Err}
+use Rattle.std.specs.Prelude.{◌≡◌, ℕ, ◌+◌, ◌-◌, ◌*◌, ◌^◌, ◌<◌, ◌≤◌, Bool, true, false, ◌||◌, nat_lt, List, length, drop, Option, Some, None, is_some, Result, Ok, Err}
 use Rattle.i9_isa.specs.Words.{words_of}
 use Rattle.i9_model.specs.State.{State}
 use Rattle.i9_model.specs.declared.event.Event.{Event}
 use Rattle.i9_model.specs.ScheduleText.{standing}
 use Rattle.i9_model.specs.Left.{left_in}
+use Rattle.i9_model.specs.HeldFrames.{Cache}
+use Rattle.i9_model.specs.declared.run.Due.{Due}
 use Rattle.i9_model.specs.Run.{Kind, Instruction, Faulted, Entered, Interrupted, Reached, Blocked, Record, Next, Does, Ends, next_in, due_by, faulted_words, action_by_kind, counts_of, point_of, record_of, reached_by, action_done}
 use Rattle.i9_schedule.specs.Plan.{Plan}
 use Rattle.i9_model.specs.Alike.{AreAlike}
@@ -85,20 +87,26 @@ HasRoom m spare (Does r) = HasRoomToDo m spare r
 -- ---- what a step is to do
 
 -- What comes next is a record of this effect, drained point and count, which reaches the next event or none, makes this
--- due, is answered so, and needs this. The bytes of a request stand in a row.
-pub record IsStep (m : Machine) (plan : Plan) (step : Step) (e : Effect) : Type 0 where
+-- due, is answered so, and needs this. The bytes of a request stand in a row. It is said of the length, what is due, the
+-- state, the number of sets, and the frames in them and the memory behind.
+pub record IsStepIn (limit : ℕ) (due_now : Due) (s : State) (size : ℕ) (cache : Cache) (plan : Plan) (step : Step) (e : Effect) : Type 0 where
   pub kind : Kind
-  pub is_next : next_for m plan ≡ Does (record_of kind (state_of m.processor))
-  pub effect : IsEffect (state_of m.processor) (action_by_kind kind (state_of m.processor)) e
+  pub is_next : next_in limit due_now (standing plan.events plan.place s.count) s ≡ Does (record_of kind s)
+  pub effect : IsEffect s (action_by_kind kind s) e
   pub point : step.point ≡ point_of kind
   pub counts : step.counts ≡ counts_of kind
-  pub due : step.due ≡ due_by kind (state_of m.processor)
+  pub due : step.due ≡ due_by kind s
   pub reaches : step.reaches ≡ is_some (event_of kind)
   pub event : event_in plan step ≡ event_of kind
-  pub tells : TellsRecord kind (state_of m.processor) step.answer
-  pub need : step.need ≡ need_of (size_of m.processor) (cache_of m.processor) (state_of m.processor) kind
+  pub tells : TellsRecord kind s step.answer
+  pub need : step.need ≡ need_of size cache s kind
   pub cost : step.need.cost ≤ most_turns
   pub row : step.need.request ≡ true → IsInRow e
+
+-- the same of a machine
+abbrev pub IsStep : Machine → Plan → Step → Effect → Type 0
+IsStep m plan step e =
+    IsStepIn m.length m.due (state_of m.processor) (size_of m.processor) (cache_of m.processor) plan step e
 
 -- what comes next is such a record, or this end
 abbrev pub IsNext : Machine → Plan → Result Step End → Effect → Type 0
@@ -121,6 +129,7 @@ pub record Did (before : Machine) (answer : Turn) (m : Machine) (was plan : Plan
   pub length : m.length ≡ before.length
   pub sets : m.sets ≡ before.sets
   pub ended : m.ended ≡ None
+  pub none : m.kept ≡ None
   pub behind : plan ≡ plan_behind was done
   pub lines : AddsLines old new (record_lines done)
   pub tells : TellsRecord done.kind done.before answer
@@ -139,12 +148,35 @@ pub record Ended (before : Machine) (e : End) (m : Machine) (was plan : Plan) (o
   pub is_end : next_for before was ≡ Ends e
   pub same : IsSame before m
   pub ended : m.ended ≡ Some e
+  pub none : m.kept ≡ None
   pub kept : plan ≡ was
   pub lines : AddsLines old new (end_lines (state_of before.processor) e)
+
+-- an end was answered, or there was no room for its lines
+pub record Finished (before : Machine) (e : End) (m : Machine) (old new : List Line) : Type 0 where
+  pub same : IsSame before m
+  pub ended : m.ended ≡ Some e
+  pub none : m.kept ≡ None
+  pub lines : AddsLines old new (end_lines (state_of before.processor) e)
+
+pub record Unfinished (before : Machine) (e : End) (spare : ℕ) (m : Machine) (old new : List Line) : Type 0 where
+  pub same : IsSame before m
+  pub ended : m.ended ≡ None
+  pub none : m.kept ≡ None
+  pub lines : new ≡ old
+  pub lacking : spare < length (end_lines (state_of before.processor) e)
+
+-- with this many lines to spare
+abbrev pub Finishes : Machine → End → ℕ → Turn → Machine → List Line → List Line → Type 0
+Finishes before e spare (turns.End f) m old new = (f ≡ e) × Finished before e m old new
+Finishes before e spare turns.Memory m old new = Unfinished before e spare m old new
+Finishes before e spare turns.On m old new = ⊥
+Finishes before e spare (turns.Issued t) m old new = ⊥
 
 pub record Refused (before : Machine) (m : Machine) (was plan : Plan) (old new : List Line) : Type 0 where
   pub same : IsSame before m
   pub ended : m.ended ≡ None
+  pub none : m.kept ≡ None
   pub kept : plan ≡ was
   pub lines : new ≡ old
   pub needed : NeedsRoom (next_for before was)

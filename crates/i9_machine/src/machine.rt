@@ -1,5 +1,5 @@
 //! The machine, one step at a time.
-ghost use Rattle.std.specs.Prelude.{◌≡◌, ◌-◌, ◌^◌, ◌<◌, ◌≤◌, [], ℕ, List, Option, None, Some, IfOk, IfSome, vec_len, vec_capacity};
+ghost use Rattle.std.specs.Prelude.{◌≡◌, ◌-◌, ◌^◌, ◌<◌, ◌≤◌, [], ℕ, List, Option, None, Some, IfOk, IfSome, IsNone, vec_len, vec_capacity};
 ghost use Rattle.std.proofs.Props.{props};
 ghost use Rattle.i9_model.specs.declared.layout.TheConstants.{MAX_LENGTH};
 ghost use Rattle.i9_model.specs.declared.event.Timed.{Timed};
@@ -13,6 +13,8 @@ ghost use Rattle.i9_model.specs.Run.{state_after, next};
 ghost use Rattle.i9_course.specs.Course.{Item, records_of};
 ghost use Rattle.i9_model.specs.PrintedText.{view_of};
 ghost use Rattle.i9_frames.specs.Sets.{held};
+ghost use Rattle.i9_model.specs.Standing.{stands_at};
+ghost use Rattle.i9_plan.specs.Open.{WaitsForAll};
 ghost use Rattle.i9_processor.specs.State.{state_of, IsDrained};
 
 mod doing;
@@ -20,10 +22,12 @@ mod opening;
 mod planning;
 
 use crate::line::{Line, Turn};
+use crate::step::Step;
 use i9_frames::Sets;
 use i9_hex::Segments;
 use i9_isa::NoMemory;
 use i9_issue::Board;
+use i9_model::faults::ARITHMETIC;
 use i9_model::layout::MAX_LENGTH;
 use i9_model::{Due, End, View};
 use i9_plan::Memo;
@@ -32,9 +36,10 @@ use i9_schedule::Schedule;
 use std::alloc::Global;
 
 /// A machine that runs an image: what an instruction may read or change, the length of the run, what
-/// comes next whatever the length, and the end that was answered; instructions that were decoded; and the
+/// comes next whatever the length, and the end that was answered; instructions that were decoded; the
 /// scoreboard with the turn, that of the last mark, that at which the last record is done, and one below
-/// which nothing comes next.
+/// which nothing comes next; and the step that comes at that turn, where it was planned before, with its
+/// effect.
 #[derive(Drop)]
 pub struct Machine {
     processor: Processor,
@@ -49,6 +54,8 @@ pub struct Machine {
     floor: u64,
     done: u64,
     wait: u64,
+    kept: Option<Step>,
+    effect: Effect,
     ghost short: { length ≤ MAX_LENGTH },
     ghost below: { (state_of processor).count ≤ length },
     ghost few: { IfSome sets (λ n. 0 < n × n < 16) } by { Prim.hlevel props },
@@ -56,7 +63,8 @@ pub struct Machine {
 
 impl Machine {
     ghost use Rattle.i9_machine.specs.StandsFor.{StandsFor, Follows, Advances, AnswersAgain, LeavesFewer, IsUnderWay, IsNow, Done, OpenSteps};
-    ghost use Rattle.i9_machine.specs.Issuing.{IsMoved, IsEndTurn};
+    ghost use Rattle.i9_machine.specs.Issuing.{IsLike, IsMoved, IsEndTurn};
+    ghost use Rattle.i9_machine.specs.Overtaking.{late_due, HasPace, IssuesAhead};
     ghost use Rattle.i9_machine.specs.Step.{HasRoom, next_for, steps_left};
 
     /// A machine before its first step: its run has the image's bytes, so many register sets or as many
@@ -87,6 +95,8 @@ impl Machine {
             floor: 0,
             done: 1,
             wait: 0,
+            kept: None,
+            effect: Effect::blank(),
         })
     }
 
@@ -141,18 +151,15 @@ impl Machine {
         requires stands { IsUnderWay self.old plan.old }
         requires drained { IsDrained self.old.processor }
         requires now { IsNow self.old plan.old }
+        requires none { self.old.kept ≡ None }
         ensures done { Done self.old result self.new plan.old plan.new out.old.items out.new.items }
         ensures lacking { result ≡ Turn.Memory
             → HasRoom self.old (vec_capacity out.old - vec_len out.old) (next_for self.old plan.old) → ⊥ }
         ensures fewer { LeavesFewer result (steps_left self.old plan.old) (steps_left self.new plan.new) }
     {
-        let mut effect = Effect::blank();
-        let mut memo = std::mem::replace(&mut self.memo, Memo::none(self.alloc));
-        let next = self.next_step(plan, &mut memo, &mut effect);
-        self.memo = memo;
-        match next {
-            Ok(step) => self.perform(&step, &effect, plan, out),
-            Err(end) => self.finish(end, plan, out),
+        match self.next_step(plan) {
+            Ok(step) => self.perform(&step, plan, out),
+            Err(end) => self.answer_end(end, out),
         }
     }
 
@@ -163,51 +170,152 @@ impl Machine {
         requires stands { IsUnderWay self.old plan.old }
         requires until { IsEndTurn self.old until }
         requires open { self.old.turn < until }
+        requires precise { late_due self.old ≡ None }
+        requires none { self.old.kept ≡ None }
         ensures steps { OpenSteps self.old result self.new plan.old plan.new out.old.items out.new.items }
         ensures lacking { result ≡ Turn.Memory
             → HasRoom self.old (vec_capacity out.old - vec_len out.old) (next_for self.old plan.old) → ⊥ }
         ensures fewer { LeavesFewer result (steps_left self.old plan.old) (steps_left self.new plan.new) }
     {
-        let mut effect = Effect::blank();
-        let mut memo = std::mem::replace(&mut self.memo, Memo::none(self.alloc));
-        let next = self.open_step(plan, &mut memo, &mut effect);
-        self.memo = memo;
-        let Some(step) = next else {
+        let Some(step) = self.open_step(plan) else {
             return self.wait_until(until);
         };
         let turn = self.board.next_turn(&self.marked(&step.need));
         if self.turn < turn {
+            self.kept = Some(step);
             self.wait_until(turn)
         } else {
-            self.perform(&step, &effect, plan, out)
+            self.perform(&step, plan, out)
         }
     }
 
-    /// One step of a machine that has answered no end, below whose turn nothing waits.
-    fn step(&mut self, plan: &mut Schedule, out: &mut Vec<Line>) -> Turn
+    /// The turn at which the instruction at the instruction address would issue, as if no entry and no event
+    /// stood before it; nothing where it waits for all that is open.
+    fn issue_ahead(&mut self) -> Option<u64>
+        requires pace { HasPace self.old }
+        ensures like { IsLike self.old self.new }
+        ensures kept { self.new.kept ≡ self.old.kept }
+        ensures turn { IfSome result (λ t. IssuesAhead self.old t) }
+        ensures waits { IsNone result → WaitsForAll (state_of self.old.processor) (stands_at (state_of self.old.processor)) }
+    {
+        match self.need_ahead() {
+            Some(need) => Some(self.board.next_turn(&self.marked(&need))),
+            None => None,
+        }
+    }
+
+    /// One step of a machine for which the entry of an arithmetic fault of the instruction at this address is
+    /// due while something is open: an instruction that would issue before the fault is known overtakes it,
+    /// which ends the run at that turn; else the turn moves.
+    fn step_faulted(
+        &mut self,
+        address: u32,
+        until: u64,
+        plan: &mut Schedule,
+        out: &mut Vec<Line>,
+    ) -> Turn
         requires running { self.old.ended ≡ None }
         requires stands { IsUnderWay self.old plan.old }
+        requires until { IsEndTurn self.old until }
+        requires open { self.old.turn < until }
+        requires late { late_due self.old ≡ Some address }
+        requires none { self.old.kept ≡ None }
+        ensures steps { OpenSteps self.old result self.new plan.old plan.new out.old.items out.new.items }
+        ensures lacking { result ≡ Turn.Memory
+            → HasRoom self.old (vec_capacity out.old - vec_len out.old) (next_for self.old plan.old) → ⊥ }
+        ensures fewer { LeavesFewer result (steps_left self.old plan.old) (steps_left self.new plan.new) }
+    {
+        // The schedule is looked at by the clauses alone: events that wait do not come before the fault.
+        let _ = plan;
+        match self.issue_ahead() {
+            Some(issue) if issue < self.done => {
+                if self.turn < issue {
+                    self.wait_until(issue)
+                } else {
+                    self.answer_end(End::Imprecise(address), out)
+                }
+            }
+            _ => self.wait_until(until),
+        }
+    }
+
+    /// The address of the instruction whose arithmetic fault is to be entered, where it may be imprecise.
+    fn late_fault(&self) -> Option<u32>
+        ensures { result ≡ late_due self.now }
+    {
+        if self.processor.count() >= self.length {
+            return None;
+        }
+        match &self.due {
+            Due::Entry(fault) if fault.kind == ARITHMETIC => Some(fault.address),
+            _ => None,
+        }
+    }
+
+    /// The step that was kept, whose turn has come.
+    fn step_kept(&mut self, step: &Step, plan: &mut Schedule, out: &mut Vec<Line>) -> Turn
+        requires running { self.old.ended ≡ None }
+        requires stands { IsUnderWay self.old plan.old }
+        requires come { self.old.wait ≤ self.old.turn }
+        requires kept { self.old.kept ≡ Some step.now }
+        ensures done { Done self.old result self.new plan.old plan.new out.old.items out.new.items }
+        ensures lacking { result ≡ Turn.Memory
+            → HasRoom self.old (vec_capacity out.old - vec_len out.old) (next_for self.old plan.old) → ⊥ }
+        ensures fewer { LeavesFewer result (steps_left self.old plan.old) (steps_left self.new plan.new) }
+    {
+        self.kept = None;
+        self.perform(step, plan, out)
+    }
+
+    /// One step of a machine that keeps no step, below whose turn nothing waits.
+    fn step_anew(&mut self, plan: &mut Schedule, out: &mut Vec<Line>) -> Turn
+        requires running { self.old.ended ≡ None }
+        requires stands { IsUnderWay self.old plan.old }
+        requires none { self.old.kept ≡ None }
         ensures steps { OpenSteps self.old result self.new plan.old plan.new out.old.items out.new.items }
         ensures lacking { result ≡ Turn.Memory
             → HasRoom self.old (vec_capacity out.old - vec_len out.old) (next_for self.old plan.old) → ⊥ }
         ensures fewer { LeavesFewer result (steps_left self.old plan.old) (steps_left self.new plan.new) }
     {
         let until = self.board.all_done();
-        if self.turn < until {
-            self.step_open(until, plan, out)
-        } else {
-            self.step_drained(plan, out)
+        if until <= self.turn {
+            return self.step_drained(plan, out);
+        }
+        match self.late_fault() {
+            Some(address) => self.step_faulted(address, until, plan, out),
+            None => self.step_open(until, plan, out),
+        }
+    }
+
+    /// One step of a machine that has answered no end, below whose turn nothing waits: the step that was kept,
+    /// or else what is planned now.
+    // Most calls of a slow loop move the turn alone, and this is no part of their code.
+    #[inline(never)]
+    fn step(&mut self, plan: &mut Schedule, out: &mut Vec<Line>) -> Turn
+        requires running { self.old.ended ≡ None }
+        requires stands { IsUnderWay self.old plan.old }
+        requires come { self.old.wait ≤ self.old.turn }
+        ensures steps { OpenSteps self.old result self.new plan.old plan.new out.old.items out.new.items }
+        ensures lacking { result ≡ Turn.Memory
+            → HasRoom self.old (vec_capacity out.old - vec_len out.old) (next_for self.old plan.old) → ⊥ }
+        ensures fewer { LeavesFewer result (steps_left self.old plan.old) (steps_left self.new plan.new) }
+    {
+        match self.kept {
+            Some(step) => self.step_kept(&step, plan, out),
+            None => self.step_anew(plan, out),
         }
     }
 
     /// One step of the run: an issue, an event, an entry, or a move of the turn. Where the turn of what
     /// comes next has come, the next instruction is done or faults, or its fault is entered, or before it an
     /// interrupt that is chosen is entered or the event of the schedule that stands there is reached, or the
-    /// end is answered; and the lines of it are appended to `out`. Else the turn moves by one, and what is
-    /// due by then lands. The schedule is the one of the run, behind the events that were reached so far,
-    /// and goes on where an event is reached. Memory is refused only where room is lacking in the machine or
-    /// in `out`, or where new sets are to be made, and never where the turn moves; then all three are as
-    /// before. Once an end was answered, each call answers it again and changes nothing.
+    /// end is answered; and the lines of it are appended to `out`. Where the instruction behind an arithmetic
+    /// fault would issue before that is known, the fault is imprecise, and ends the run at this turn. Else
+    /// the turn moves by one, and what is due by then lands. The schedule is the one of the run, behind the
+    /// events that were reached so far, and goes on where an event is reached. Memory is refused only where
+    /// room is lacking in the machine or in `out`, or where new sets are to be made, and never where the turn
+    /// moves; then all three are as before. Once an end was answered, each call answers it again and changes
+    /// nothing.
     pub fn advance(&mut self, plan: &mut Schedule, out: &mut Vec<Line>) -> Turn
         requires stands { self.old.ended ≡ None → IsUnderWay self.old plan.old }
         ensures next { (g : Given) (h : List Item) → StandsFor g h None self.old → Follows g h plan.old

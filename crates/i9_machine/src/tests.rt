@@ -226,9 +226,13 @@ fn end_of(
 
 #[test]
 fn ends_as_it_should(rt: HostRuntime) -> Result<(), Fail> {
-    // `call f`, `f: ld 16(pfp), g4` reads a saved frame; a word 0 is no instruction, whose fault's entry is at 16;
-    // `mov 1, sf2` is not built.
+    // `call f`, `f: ld 16(pfp), g4` reads a saved frame; a word 0 is no instruction, whose fault's entry is at 16.
     let reads_a_frame = [0x0900_0004u32, 0x90A0_2010];
+    // Behind a division by 0, whose fault's entry is at 24: `addo 1, 2, g5`, `ld 0x100, g6` and `b 4` overtake
+    // it; `addo 1, g4, g5` waits for its quotient; `syncf`, a word that is refused, and one that reads a saved
+    // frame wait for all. That frame stands at 0, over the fault table.
+    let dead = [(24, 1)];
+    let frame_behind = [0x0900_0004u32, 0x70A1_1D80, 0x90A0_2010];
     let cases = [
         (
             PROGRAM.as_slice(),
@@ -245,7 +249,45 @@ fn ends_as_it_should(rt: HostRuntime) -> Result<(), Fail> {
         (&[0], &[(16, 3)], 100, End::Dead(1, 16), 1),
         (&[0], &[(16, 2), (20, 0x27E)], 100, End::Dead(2, 20), 1),
         (&[0], &[(16, 0x412), (20, 0x27F)], 100, End::Dead(3, 16), 1),
-        (&[0x70A1_1D80], &[], 100, End::Unbuilt(0x1000), 0),
+        (
+            &[0x70A1_1D80, 0x59A8_9801],
+            &dead,
+            100,
+            End::Imprecise(0x1000),
+            1,
+        ),
+        (
+            &[0x70A1_1D80, 0x59A8_9801],
+            &dead,
+            2,
+            End::Imprecise(0x1000),
+            1,
+        ),
+        (&[0x70A1_1D80, 0x59A8_9801], &dead, 1, End::Dead(1, 24), 1),
+        (
+            &[0x70A1_1D80, 0x90B0_0100],
+            &dead,
+            100,
+            End::Imprecise(0x1000),
+            1,
+        ),
+        (
+            &[0x70A1_1D80, 0x0800_0004],
+            &dead,
+            100,
+            End::Imprecise(0x1000),
+            1,
+        ),
+        (&[0x70A1_1D80, 0x59A8_5014], &dead, 100, End::Dead(1, 24), 1),
+        (
+            &[0x70A1_1D80, 0x6600_0780, 0x59A8_9801],
+            &dead,
+            100,
+            End::Dead(1, 24),
+            1,
+        ),
+        (&[0x70A1_1D80], &dead, 100, End::Dead(1, 24), 1),
+        (&frame_behind, &[], 100, End::Hazard(24), 2),
     ];
     for (program, words, length, end, count) in cases {
         let ended = end_of(rt.alloc(), program, words, length)?;

@@ -31,8 +31,7 @@ use Rattle.i9_model.specs.Calls.{system_hazard, system_entered, planned_system, 
 use Rattle.i9_model.specs.Faults.{raised, ◌>>=◌, or_stop, table_entry, checked_word, planned_handler, planned_frame, planned_fault}
 use Rattle.i9_model.specs.Step.{Message, AsksNothing, AsksInterrupt, AsksRestart, AsksGroup, first_word, next_word, message_of, message_kind}
 use Rattle.i9_model.specs.Access.{Access, NoAccess, Reads, Writes, Changes, SavesAt, CallsSystem, ReturnsBy, Requests, ReadsTables, ReadsGroup, message_access, access_by_name, access_by, access_of, data_of, hazard_in, hazard_of, second_hazard, fetch_hazard}
-use Rattle.i9_model.specs.Unbuilt.{is_imprecise}
-use Rattle.i9_model.specs.Standing.{Standing, NotBuilt, raised_in, later_fault, by_access, by_later, by_raised, by_word, by_fetch, stands_at}
+use Rattle.i9_model.specs.Standing.{raised_in, later_fault, by_access, by_later, by_raised, by_word, by_fetch, stands_at}
 use Rattle.i9_model.specs.Run.{entry_in}
 use Rattle.i9_model.specs.Alike.{is_beyond, is_hard, is_compared, AgreeWhere, with_other, with_memory, told_words}
 use Rattle.i9_model.proofs.CallLaws.{first_none, second_none}
@@ -125,7 +124,7 @@ later_same i s bytes None same = ap (by_access i) (hazard_same i s bytes same)
 
 by_raised_same : (i : Inst) (s : State) (bytes : ℕ → ℕ) (o : Option (ℕ × ℕ)) → AgreeWhere (is_compared s.frames) s.memory bytes → by_raised i (with_memory s bytes) o ≡ by_raised i s o
 by_raised_same i s bytes (Some number) same = refl
-by_raised_same i s bytes None same = ap (λ (x : Standing). cond (is_imprecise i s) NotBuilt x) (later_same i s bytes (later_fault i s) same)
+by_raised_same i s bytes None same = later_same i s bytes (later_fault i s) same
 
 by_word_same : (s : State) (bytes : ℕ → ℕ) (r : Result Inst BadWord) → AgreeWhere (is_compared s.frames) s.memory bytes → by_word (with_memory s bytes) r ≡ by_word s r
 by_word_same s bytes (Err e) same = refl

@@ -39,7 +39,7 @@ use Rattle.i9_model.specs.declared.trace.Trace.{Trace}
 use Rattle.i9_model.specs.Tracing.{trace_of}
 use Rattle.i9_model.specs.Traced.{switches, seen_of, trace_left, traced, traced_action}
 use Rattle.i9_model.specs.Access.{Access, data_of, message_access, access_by_name, access_by, hazard_in, hazard_of}
-use Rattle.i9_model.specs.Standing.{Standing, Meets, NotBuilt, Refused, Faults, Runs, stands_at}
+use Rattle.i9_model.specs.Standing.{Standing, Meets, Refused, Faults, Runs, stands_at}
 use Rattle.i9_model.specs.Run.{End, Limit, Kind, Instruction, Faulted, Entered, Interrupted, Reached, Blocked, Record, reached_kind, action_by_kind, action_done, counts_of, Point, point_of, after_kind, record_of, exit_in, due_in, due_by, action_due, Due, Next, Does, Ends, next_by_standing, next_by_event, next_by_interrupt, next_by_choice, next_by_entry, entry_in, fault_at, next_in, reached_by}
 use Rattle.i9_model.specs.Overlay.{overlay}
 use Rattle.i9_model.specs.PrintedText.{Shown, Drained, Journal, Bytes, view_of, out_lines, point_lines, overlays, bytes_lines, event_lines, record_lines}
@@ -278,7 +278,6 @@ entering_same e s bytes = ap (λ (bs : List ℕ). record (entering e s) { writes
 
 standing_alike : (s : State) (bytes : ℕ → ℕ) (x : Standing) → Known s x → AgreeWhere (is_compared s.frames) s.memory bytes → AreNextAlike (next_by_standing s x) (next_by_standing (with_memory s bytes) x)
 standing_alike s bytes (Meets a) k same = refl
-standing_alike s bytes NotBuilt k same = refl
 standing_alike s bytes (Refused number) k same = record_alike (Faulted None (fault_at s number)) s bytes (told_same s bytes 1 (hard_bytes s.frames s.memory bytes same) k) refl tt tt same
 standing_alike s bytes (Faults i number) k same = record_alike (Faulted (Some i) (fault_at s number)) s bytes (told_same s bytes (words_of i) (hard_bytes s.frames s.memory bytes same) k) refl tt tt same
 standing_alike s bytes (Runs i) k same = instruction_alike i s bytes (told_same s bytes (words_of i) (hard_bytes s.frames s.memory bytes same) k.0) same k.1

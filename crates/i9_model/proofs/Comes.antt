@@ -10,7 +10,7 @@ use Rattle.i9_model.specs.declared.event.Event.{Event}
 use Rattle.i9_model.specs.State.{State}
 use Rattle.i9_model.specs.Access.{hazard_of}
 use Rattle.i9_model.specs.Before.{Received, choice_in, interrupt_in, received_in}
-use Rattle.i9_model.specs.Standing.{Standing, Meets, NotBuilt, Refused, Faults, Runs, stands_at}
+use Rattle.i9_model.specs.Standing.{Standing, Meets, Refused, Faults, Runs, stands_at}
 use Rattle.i9_model.specs.Run.{Limit, Kind, Instruction, Faulted, Entered, Interrupted, Reached, Blocked, Record, record_of, reached_kind, Due, Does, Ends, fault_at, next_by_standing, next_by_entry, entry_in, next_by_event, next_by_interrupt, next_by_choice, next_in}
 use Rattle.i9_model.proofs.Stands.{Known, known}
 use Rattle.i9_model.specs.declared.run.Due.TheVariants as dues
@@ -37,7 +37,6 @@ comes_by limit due stands s k r may e =
 
 standing_comes : (limit : ℕ) (o : Option Event) (s : State) (x : Standing) (r : Record) → s.count ≢ limit → Known s x → next_by_standing s x ≡ Does r → Comes limit dues.Nothing o s r
 standing_comes limit o s (Meets a) r other k e = absurd cc
-standing_comes limit o s NotBuilt r other k e = absurd cc
 standing_comes limit o s (Refused number) r other k e = comes_by limit dues.Nothing o s (Faulted None (fault_at s number)) r (refl, other) e
 standing_comes limit o s (Faults i number) r other k e = comes_by limit dues.Nothing o s (Faulted (Some i) (fault_at s number)) r (refl, other) e
 standing_comes limit o s (Runs i) r other k e = comes_by limit dues.Nothing o s (Instruction i) r (refl, other, k.1) e

@@ -10,7 +10,7 @@ use Rattle.i9_text.proofs.WrittenLines.{is_plain, plain-append, plain-decimal, p
 use Rattle.i9_model.specs.declared.view.View.{View}
 use Rattle.i9_model.specs.declared.event.Event.{Event}
 use Rattle.i9_model.specs.declared.event.Timed.{Timed}
-use Rattle.i9_model.specs.Run.{Point, End, Exit, Limit, Hazard, Dead, Unbuilt}
+use Rattle.i9_model.specs.Run.{Point, End, Exit, Limit, Hazard, Dead, Imprecise}
 use Rattle.i9_model.specs.Events.{journal_text}
 use Rattle.i9_model.specs.ScheduleText.{most_events, timed_at, Says, says_nothing, says_event, IsSchedule, IsTimedInRange, InOrder, IsPlan, is_skipped, fault_after}
 use Rattle.i9_model.specs.PrintedText.{Shown, Out, Drained, Journal, Bytes, Last, out_text, spaced, words_text, drained_text, point_text, point_shown, end_text, event_text, spaced_byte, bytes_text, text_of, events_of}
@@ -89,7 +89,7 @@ passes_finish (Exit w) = passes_words (codes "#end exit") (w ∷ []) refl refl
 passes_finish Limit = passes_line (codes "#end limit") refl refl
 passes_finish (Hazard a) = passes_words (codes "#end hazard") (a ∷ []) refl refl
 passes_finish (Dead code a) = passes_words (codes "#end dead " ++ decimal code) (a ∷ []) (plain-append (codes "#end dead ") (decimal code) refl (plain-decimal code)) refl
-passes_finish (Unbuilt a) = passes_words (codes "#end unbuilt") (a ∷ []) refl refl
+passes_finish (Imprecise a) = passes_words (codes "#end imprecise") (a ∷ []) refl refl
 
 passes_bytes : (a : ℕ) (bs : List (Option ℕ)) → Passes (bytes_text a bs)
 unfolding bytes_text

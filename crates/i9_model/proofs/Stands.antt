@@ -1,6 +1,6 @@
 -- What is known of what stands at the instruction address: which words were read without a hazard, and that the
 -- access of an instruction that is done meets none.
-use Rattle.std.proofs.Common.{◌≡◌, ℕ, ◌+◌, Bool, true, false, cond, eqb, Option, Some, None, Result, Ok, Err, refl, sym, ap, ◌∙◌, arith}
+use Rattle.std.proofs.Common.{◌≡◌, ℕ, ◌+◌, cond, eqb, Option, Some, None, Result, Ok, Err, refl, sym, ap, ◌∙◌, arith}
 use Rattle.i9_isa.specs.declared.inst.Inst.{Inst}
 use Rattle.i9_isa.specs.declared.inst.BadWord.{BadWord}
 use Rattle.i9_isa.specs.Words.{words_of, decoded}
@@ -9,8 +9,7 @@ use Rattle.i9_model.specs.State.{State}
 use Rattle.i9_model.specs.Hazards.{read_hazard}
 use Rattle.i9_model.specs.Step.{first_word, next_word}
 use Rattle.i9_model.specs.Access.{hazard_of, second_hazard, fetch_hazard}
-use Rattle.i9_model.specs.Unbuilt.{is_imprecise}
-use Rattle.i9_model.specs.Standing.{Standing, Meets, NotBuilt, Refused, Faults, Runs, raised_in, later_fault, by_access, by_later, by_raised, by_word, by_fetch, stands_at}
+use Rattle.i9_model.specs.Standing.{Standing, Meets, Refused, Faults, Runs, raised_in, later_fault, by_access, by_later, by_raised, by_word, by_fetch, stands_at}
 use Rattle.i9_model.proofs.CallLaws.{first_none, second_none}
 
 -- so many words, one or two, were read without a hazard
@@ -20,7 +19,6 @@ pub record IsRead (s : State) (words : ℕ) : Type 0 where
 
 abbrev pub Known : State → Standing → Type 0
 Known s (Meets a) = Unit {0}
-Known s NotBuilt = Unit {0}
 Known s (Refused number) = IsRead s 1
 Known s (Faults i number) = IsRead s (words_of i)
 Known s (Runs i) = IsRead s (words_of i) × (hazard_of i s ≡ None)
@@ -35,11 +33,7 @@ later_known s i None read = access_known s i (hazard_of i s) read refl
 
 raised_known : (s : State) (i : Inst) (o : Option (ℕ × ℕ)) → IsRead s (words_of i) → Known s (by_raised i s o)
 raised_known s i (Some number) read = read
-raised_known s i None read = by_precision (is_imprecise i s)
-  where
-    by_precision : (b : Bool) → Known s (cond b NotBuilt (by_later i s (later_fault i s)))
-    by_precision true = tt
-    by_precision false = later_known s i (later_fault i s) read
+raised_known s i None read = later_known s i (later_fault i s) read
 
 word_known : (s : State) (r : Result Inst BadWord) → read_hazard s.frames s.ip 4 ≡ None → second_hazard s r ≡ None → Known s (by_word s r)
 word_known s (Err e) first second = record { first = first; second = λ two. absurd (omega (arith, two)) }

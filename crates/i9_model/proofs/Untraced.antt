@@ -12,9 +12,8 @@ use Rattle.i9_isa.specs.Transfers.{transfer_of}
 use Rattle.i9_model.specs.declared.trace.Trace.{Trace}
 use Rattle.i9_model.specs.State.{State}
 use Rattle.i9_model.specs.Branches.{asks, question_of}
-use Rattle.i9_model.specs.Unbuilt.{is_traced}
 use Rattle.i9_model.specs.Step.{Message, AsksNothing, AsksInterrupt, AsksRestart, AsksGroup, moving, branching, resulting, answer_in, message_of, message_kind, message_action, action_by_name, action_by, action_of, acted}
-use Rattle.i9_model.specs.Traced.{seen_of, traced_action}
+use Rattle.i9_model.specs.Traced.{is_traced, seen_of, traced_action}
 use Rattle.i9_model.specs.Tracing.{is_raised, trace_made, trace_of}
 
 message_untraced : (m : Message) (i : Inst) (s : State) → (message_action m i s).trace ≡ None

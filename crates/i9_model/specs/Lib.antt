@@ -22,7 +22,6 @@ pub mod Tracing
 pub mod Step
 pub mod Access
 pub mod Traced
-pub mod Unbuilt
 pub mod Faults
 pub mod Interrupts
 pub mod Standing

@@ -13,7 +13,7 @@ use Rattle.i9_model.specs.Overlay.{overlay}
 use Rattle.i9_model.specs.Events.{journal_text}
 use Rattle.i9_model.specs.ScheduleText.{timed_at}
 use Rattle.i9_model.specs.State.{State}
-use Rattle.i9_model.specs.Run.{Given, Point, End, Exit, Limit, Hazard, Dead, Unbuilt, Kind, Instruction, Faulted, Entered, Interrupted, Reached, Blocked, Record, point_of, action_done, state_after}
+use Rattle.i9_model.specs.Run.{Given, Point, End, Exit, Limit, Hazard, Dead, Imprecise, Kind, Instruction, Faulted, Entered, Interrupted, Reached, Blocked, Record, point_of, action_done, state_after}
 use Rattle.i9_model.specs.declared.run.Point.TheVariants as points
 
 -- a printed line; a drained point has three
@@ -68,8 +68,9 @@ abbrev pub record_lines : Record → List Shown
 record_lines r =
     event_lines r.kind r.before ++ (out_lines (console_byte (action_done r).writes) ++ point_lines (point_of r.kind) r.after)
 
--- the end of a run: its drained point, and how it ended
+-- the end of a run: its drained point, and how it ended; before an imprecise fault there is no point
 abbrev pub last_lines : View → End → List Shown
+last_lines v (Imprecise a) = Last (Imprecise a) ∷ []
 last_lines v f = Drained points.End v ∷ Last f ∷ []
 
 abbrev pub end_lines : State → End → List Shown
@@ -113,7 +114,7 @@ end_text (Exit w) = words_text (codes "#end exit") (w ∷ [])
 end_text Limit = codes "#end limit" ++ line_feed
 end_text (Hazard a) = words_text (codes "#end hazard") (a ∷ [])
 end_text (Dead code a) = words_text (codes "#end dead " ++ decimal code) (a ∷ [])
-end_text (Unbuilt a) = words_text (codes "#end unbuilt") (a ∷ [])
+end_text (Imprecise a) = words_text (codes "#end imprecise") (a ∷ [])
 
 -- a drained point, with its global and its local registers
 abbrev pub point_shown : Point → View → List ℕ
@@ -161,4 +162,4 @@ end_code (Exit w) = 0
 end_code Limit = 0
 end_code (Hazard a) = 4
 end_code (Dead code a) = 4
-end_code (Unbuilt a) = 4
+end_code (Imprecise a) = 4

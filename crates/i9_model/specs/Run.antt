@@ -21,11 +21,11 @@ use Rattle.i9_model.specs.Step.{Action, going, faulting, entering, acted, counte
 use Rattle.i9_model.specs.Traced.{traced_action}
 use Rattle.i9_model.specs.Before.{Received, choice_in, interrupt_in, interrupting, received_in, receiving}
 use Rattle.i9_model.specs.ScheduleText.{timed_at, standing}
-use Rattle.i9_model.specs.Standing.{Standing, Meets, NotBuilt, Refused, Faults, Runs, stands_at}
+use Rattle.i9_model.specs.Standing.{Standing, Meets, Refused, Faults, Runs, stands_at}
 use Rattle.i9_model.specs.Faults.{planned_fault}
 pub use Rattle.i9_model.specs.Given.{Given}
 pub use Rattle.i9_model.specs.declared.run.End.{End}
-pub use Rattle.i9_model.specs.declared.run.End.TheVariants.{Exit, Limit, Hazard, Dead, Unbuilt}
+pub use Rattle.i9_model.specs.declared.run.End.TheVariants.{Exit, Limit, Hazard, Dead, Imprecise}
 pub use Rattle.i9_model.specs.declared.run.Point.{Point}
 pub use Rattle.i9_model.specs.declared.run.Due.{Due}
 use Rattle.i9_model.specs.declared.run.Point.TheVariants as points
@@ -141,7 +141,6 @@ due_after (r ∷ rs) = due_by r.kind r.before
 -- an instruction is done or faults, unless a hazard is met
 abbrev pub next_by_standing : State → Standing → Next
 next_by_standing s (Meets a) = Ends (Hazard a)
-next_by_standing s NotBuilt = Ends (Unbuilt s.ip)
 next_by_standing s (Refused number) = Does (record_of (Faulted None (fault_at s number)) s)
 next_by_standing s (Faults i number) = Does (record_of (Faulted (Some i) (fault_at s number)) s)
 next_by_standing s (Runs i) = Does (record_of (Instruction i) s)

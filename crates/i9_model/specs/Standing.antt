@@ -1,5 +1,5 @@
 -- What stands at the instruction address: a hazard of its fetch or of its access, a word that is refused, an
--- instruction that faults, one that is done, or one that is not built.
+-- instruction that faults, or one that is done.
 use Rattle.std.specs.Prelude.{ℕ, Bool, true, false, ◌&&◌, if◌then◌else◌, Option, Some, None, Result, Ok, Err}
 use Rattle.std.specs.Option.{option_map}
 use Rattle.i9_isa.specs.declared.op.Op.{Op}
@@ -17,7 +17,6 @@ use Rattle.i9_model.specs.Results.{Answer}
 use Rattle.i9_model.specs.Branches.{is_taken}
 use Rattle.i9_model.specs.Step.{first_word, next_word, answer_in}
 use Rattle.i9_model.specs.Access.{access_of, data_of, hazard_of, fetch_hazard}
-use Rattle.i9_model.specs.Unbuilt.{is_imprecise}
 use Rattle.i9_model.specs.Faults.{raised}
 
 -- ---- the fault of an instruction, as type and subtype
@@ -67,7 +66,6 @@ later_fault i s = first_fault (answer_fault (answer_in i s)) (range_fault i s)
 
 pub data Standing : Type 0 where
   Meets : (hazard : ℕ) → Standing
-  NotBuilt : Standing
   Refused : (number : ℕ × ℕ) → Standing
   Faults : (inst : Inst) → (number : ℕ × ℕ) → Standing
   Runs : (inst : Inst) → Standing
@@ -81,10 +79,10 @@ abbrev pub by_later : Inst → State → Option (ℕ × ℕ) → Standing
 by_later i s (Some number) = Faults i number
 by_later i s None = by_access i (hazard_of i s)
 
--- an arithmetic fault that may be imprecise is not built; what is raised before it does anything comes first
+-- what is raised before it does anything comes first
 abbrev pub by_raised : Inst → State → Option (ℕ × ℕ) → Standing
 by_raised i s (Some number) = Faults i number
-by_raised i s None = if is_imprecise i s then NotBuilt else by_later i s (later_fault i s)
+by_raised i s None = by_later i s (later_fault i s)
 
 -- by the first word that is there
 abbrev pub by_word : State → Result Inst BadWord → Standing

@@ -4,7 +4,8 @@ use Rattle.std.specs.Option.{option_map}
 use Rattle.i9_isa.specs.declared.op.Op.{Op}
 use Rattle.i9_isa.specs.declared.op.Op.TheVariants.{Calls, Ret}
 use Rattle.i9_isa.specs.declared.inst.Inst.{Inst}
-use Rattle.i9_model.specs.declared.layout.TheConstants.{PFP}
+use Rattle.i9_isa.specs.Words.{bit}
+use Rattle.i9_model.specs.declared.layout.TheConstants.{PFP, TRACE_ENABLE_PLACE}
 use Rattle.i9_model.specs.declared.trace.Seen.{Seen}
 use Rattle.i9_model.specs.declared.trace.Trace.{Trace}
 use Rattle.i9_model.specs.State.{State, TraceControls}
@@ -14,6 +15,10 @@ use Rattle.i9_model.specs.Branches.{is_taken}
 use Rattle.i9_model.specs.Tracing.{trace_of}
 use Rattle.i9_model.specs.Step.{Action, action_of, acted}
 use Rattle.i9_model.specs.Access.{access_of, data_of}
+
+-- trace enable is set
+abbrev pub is_traced : State → Bool
+is_traced s = bit s.pc TRACE_ENABLE_PLACE
 
 -- a calls that switches to supervisor mode, and in that mode the return of one
 abbrev pub switches : Op → State → Action → Bool

@@ -16,8 +16,9 @@ pub enum End {
     /// 2 where its second word names no system procedure, 3 where that procedure's number is too
     /// great), and the address of that word.
     Dead(u8, u32),
-    /// What stands at this address is not built yet.
-    Unbuilt(u32),
+    /// The instruction at this address raised an arithmetic fault, and the one behind it was issued before
+    /// the fault was known. A machine that does one instruction after the other never ends so.
+    Imprecise(u32),
 }
 
 /// The kinds of drained point.

@@ -1,6 +1,6 @@
--- What waits for all before it: a barrier, whatever it comes to, a word that is refused, a hazard, what is not built,
--- and a fault that is raised before anything is done; and what others need.
-use Rattle.std.proofs.Common.{◌≡◌, ℕ, ◌+◌, ◌*◌, ◌&&◌, Bool, true, false, Option, Some, None, Err, refl, sym, ap, ◌∙◌, subst, ◌⊎◌, inl, inr}
+-- What waits for all before it: a barrier, whatever it comes to, a word that is refused, a hazard, and a fault that is
+-- raised before anything is done; and what others need.
+use Rattle.std.proofs.Common.{◌≡◌, ℕ, ◌+◌, ◌*◌, ◌&&◌, Bool, true, false, Option, Some, None, Err, refl, sym, ap, ◌∙◌, subst}
 use Rattle.std.specs.Prelude.{not, ◌||◌, ◌==◌, if◌then◌else◌, IsTrue}
 use Rattle.std.specs.Option.{is_some}
 use Rattle.i9_isa.specs.declared.op.Op.{Op}
@@ -11,8 +11,7 @@ use Rattle.i9_model.specs.declared.faults.TheConstants.{ARITHMETIC}
 use Rattle.i9_model.specs.State.{State}
 use Rattle.i9_model.specs.Access.{hazard_of}
 use Rattle.i9_model.specs.Needs.{has_access, moves_frames, is_barrier_name, writes_sfr, inst_need}
-use Rattle.i9_model.specs.Unbuilt.{is_imprecise}
-use Rattle.i9_model.specs.Standing.{Standing, Meets, NotBuilt, Refused, Faults, Runs, word_fault, raised_in, later_fault, by_access, by_later, by_raised, by_word, by_fetch, stands_at}
+use Rattle.i9_model.specs.Standing.{Standing, Meets, Refused, Faults, Runs, word_fault, raised_in, later_fault, by_access, by_later, by_raised, by_word, by_fetch, stands_at}
 use Rattle.i9_model.specs.HeldFrames.{Cache, sets_in}
 use Rattle.i9_model.specs.Traced.{traced_action}
 use Rattle.i9_model.specs.Run.{Instruction, next_by_standing}
@@ -54,9 +53,6 @@ faults_waits i s number b asked c = by_either (is_barrier_name i.op) (writes_sfr
 meets_waits : (s : State) (a : ℕ) → WaitsForAll s (Meets a)
 meets_waits s a asked c = refl
 
-unbuilt_waits : (s : State) → WaitsForAll s NotBuilt
-unbuilt_waits s asked c = refl
-
 refused_waits : (s : State) (number : ℕ × ℕ) → WaitsForAll s (Refused number)
 unfolding need_of
 refused_waits s number asked c = refl
@@ -75,13 +71,8 @@ later_waits : (i : Inst) (s : State) (f : Option (ℕ × ℕ)) → IsBarrier i �
 later_waits i s None b = access_waits i s (hazard_of i s) b
 later_waits i s (Some number) b = faults_waits i s number b
 
-imprecise_waits : (i : Inst) (s : State) (imprecise : Bool) → IsBarrier i
-    → WaitsForAll s (if imprecise then NotBuilt else by_later i s (later_fault i s))
-imprecise_waits i s true b = unbuilt_waits s
-imprecise_waits i s false b = later_waits i s (later_fault i s) b
-
 raised_waits : (i : Inst) (s : State) (f : Option (ℕ × ℕ)) → IsBarrier i → WaitsForAll s (by_raised i s f)
-raised_waits i s None b = imprecise_waits i s (is_imprecise i s) b
+raised_waits i s None b = later_waits i s (later_fault i s) b
 raised_waits i s (Some number) b = faults_waits i s number b
 
 -- ---- what stands there
@@ -102,27 +93,16 @@ unread_waits s (unreads.Meets a) meets = subst (WaitsForAll s) (sym (ap (by_fetc
 unread_waits s (unreads.Refused first why) is =
     subst (WaitsForAll s) (sym (ap (by_fetch s) is.0 ∙ ap (by_word s) is.1)) (refused_waits s (word_fault why))
 
--- by what it comes to: a hazard, what is not built, or a fault that is raised before anything is done
+-- by what it comes to: a hazard, or a fault that is raised before anything is done
 abbrev pub Stops : Outcome → Type 0
 Stops (outcomes.Meets a) = Unit {0}
-Stops outcomes.NotBuilt = Unit {0}
 Stops (outcomes.Faults number) = (number.0 == ARITHMETIC) ≡ false
 Stops outcomes.Runs = ⊥
 
 stop_waits : (s : State) (i : Inst) (o : Outcome) → Stops o → WaitsForAll s (standing_in i o)
 stop_waits s i (outcomes.Meets a) stops = meets_waits s a
-stop_waits s i outcomes.NotBuilt stops = unbuilt_waits s
 stop_waits s i (outcomes.Faults number) stops = early_waits i s number stops
 stop_waits s i outcomes.Runs stops = absurd stops
-
--- a hazard, or what is not built
-pub neither_stops : (o : Outcome) → ((a : ℕ) × (o ≡ outcomes.Meets a)) ⊎ (o ≡ outcomes.NotBuilt) → Stops o
-neither_stops (outcomes.Meets a) is = tt
-neither_stops outcomes.NotBuilt is = tt
-neither_stops (outcomes.Faults number) (inl met) = let e = met.1 in absurd cc
-neither_stops (outcomes.Faults number) (inr e) = absurd cc
-neither_stops outcomes.Runs (inl met) = let e = met.1 in absurd cc
-neither_stops outcomes.Runs (inr e) = absurd cc
 
 -- what an instruction comes to is what stands there
 pub outcome_stands : (s : State) (f : Fetched) (o : Outcome) → IsRead s f

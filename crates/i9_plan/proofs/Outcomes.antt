@@ -7,10 +7,8 @@ use Rattle.i9_isa.specs.declared.op.Op.{Op}
 use Rattle.i9_isa.specs.declared.op.Op.TheVariants.{Lda, Atadd, Atmod, Bx, Balx, Bal, Call, Callx, Calls, Ret, Flushreg, Modac, Modtc, Modpc, Sysctl, Sdma}
 use Rattle.i9_isa.specs.declared.inst.Inst.{Inst}
 use Rattle.i9_isa.specs.declared.size.Transfer.{Transfer}
-use Rattle.i9_isa.specs.Words.{bit}
 use Rattle.i9_isa.specs.Transfers.{transfer_of}
 use Rattle.i9_model.specs.declared.arith.Arith.{Arith}
-use Rattle.i9_model.specs.declared.layout.TheConstants.{PRECISE_FAULTS_PLACE}
 use Rattle.i9_model.specs.declared.faults.TheConstants.{CONSTRAINT, RANGE, TYPE, MISMATCH}
 use Rattle.i9_model.specs.State.{State, Interrupts, Dma}
 use Rattle.i9_isa.specs.declared.inst.Operand.{Operand}
@@ -23,8 +21,7 @@ use Rattle.i9_model.specs.Step.{Action, passing, destination, answer_in, resulti
 use Rattle.i9_model.specs.Access.{NoAccess, access_by_name, access_by, access_of, data_of, hazard_in, hazard_of}
 use Rattle.i9_model.specs.Calls.{in_supervisor_mode}
 use Rattle.i9_model.specs.Faults.{is_supervisor_only, uses_special, mismatches, is_invalid, is_past_table, is_unaligned, raised}
-use Rattle.i9_model.specs.Unbuilt.{is_traced, is_faulty}
-use Rattle.i9_model.specs.Standing.{Standing, NotBuilt, Faults, Runs, arithmetic_fault, answer_fault, is_fault_name, range_fault, raised_in, first_fault, by_access, by_later, by_raised}
+use Rattle.i9_model.specs.Standing.{Standing, Faults, Runs, arithmetic_fault, answer_fault, is_fault_name, range_fault, raised_in, first_fault, by_access, by_later, by_raised}
 use Rattle.i9_exec.specs.declared.done.Done.{Done}
 use Rattle.i9_exec.specs.Shown.{answer_of}
 use Rattle.i9_processor.specs.declared.effect.Effect.{Effect}
@@ -272,29 +269,27 @@ mismatch_raised i s used = used_there (not (in_supervisor_mode s.pc)) (is_superv
 
 -- ---- by its result
 
--- what an instruction comes to whose result is this fault, or none: an imprecise one is not built
-abbrev pub by_result : Inst → Option Arith → Bool → Standing
-by_result i None precise = Runs i
-by_result i (Some f) true = Faults i (arithmetic_fault f)
-by_result i (Some f) false = NotBuilt
+-- what an instruction comes to whose result is this fault, or none
+abbrev pub by_result : Inst → Option Arith → Standing
+by_result i None = Runs i
+by_result i (Some f) = Faults i (arithmetic_fault f)
 
-result_by : (i : Inst) (s : State) (f : Option Arith) (p : Bool) (r : Option (ℕ × ℕ)) → r ≡ None → hazard_of i s ≡ None
-    → cond (is_some f && not p) NotBuilt (by_later i s (first_fault (option_map arithmetic_fault f) r)) ≡ by_result i f p
-result_by i s None p r none clear = ap (by_later i s) none ∙ ap (by_access i) clear
-result_by i s (Some f) true r none clear = refl
-result_by i s (Some f) false r none clear = refl
+result_by : (i : Inst) (s : State) (f : Option Arith) (r : Option (ℕ × ℕ)) → r ≡ None → hazard_of i s ≡ None
+    → by_later i s (first_fault (option_map arithmetic_fault f) r) ≡ by_result i f
+result_by i s None r none clear = ap (by_later i s) none ∙ ap (by_access i) clear
+result_by i s (Some f) r none clear = refl
 
 no_range : (b c : Bool) → b ≡ false → ◌≡◌ {A = Option (ℕ × ℕ)} (cond (b && c) (Some (CONSTRAINT, RANGE)) None) None
 no_range false c e = refl
 no_range true c e = absurd cc
 
-pub result_stands : (i : Inst) (s : State) (d : Done) → has_result i.op ≡ true → Some (answer_of d) ≡ answer_in i s → by_raised i s None ≡ by_result i d.fault (bit s.ac PRECISE_FAULTS_PLACE || is_traced s)
+pub result_stands : (i : Inst) (s : State) (d : Done) → has_result i.op ≡ true → Some (answer_of d) ≡ answer_in i s → by_raised i s None ≡ by_result i d.fault
 result_stands i s d t e =
     let moves = none_of (transfer_of i.op) (other (has_result i.op) (is_some (transfer_of i.op)) (result_moves i.op) t) in
     let clear = no_hazard i s moves (result_access i.op i s t) in
     let calm = no_range (is_fault_name i.op) (is_taken i (value s i.a) (value s i.b) s.ac) (other (has_result i.op) (is_fault_name i.op) (result_faults i.op) t) in
-    ap (λ (o : Option Answer). cond (is_faulty o && not (bit s.ac PRECISE_FAULTS_PLACE || is_traced s)) NotBuilt (by_later i s (first_fault (answer_fault o) (range_fault i s)))) (sym e)
-    ∙ result_by i s d.fault (bit s.ac PRECISE_FAULTS_PLACE || is_traced s) (range_fault i s) calm clear
+    ap (λ (o : Option Answer). by_later i s (first_fault (answer_fault o) (range_fault i s))) (sym e)
+    ∙ result_by i s d.fault (range_fault i s) calm clear
 
 pub result_does : (i : Inst) (s : State) (d : Done) → has_result i.op ≡ true → Some (answer_of d) ≡ answer_in i s → resulting i s (Some (answer_of d)) ≡ action_of i s
 result_does i s d t e =
@@ -306,7 +301,7 @@ result_does i s d t e =
 -- where nothing has a result, only the condition may fault
 calm_answer : (i : Inst) (s : State) → answer_in i s ≡ None → by_raised i s None ≡ by_later i s (range_fault i s)
 calm_answer i s none =
-    ap (λ (o : Option Answer). cond (is_faulty o && not (bit s.ac PRECISE_FAULTS_PLACE || is_traced s)) NotBuilt (by_later i s (first_fault (answer_fault o) (range_fault i s)))) none
+    ap (λ (o : Option Answer). by_later i s (first_fault (answer_fault o) (range_fault i s))) none
 
 ranged : (i : Inst) (s : State) (b : Bool) → hazard_of i s ≡ None → by_later i s (cond b (Some (CONSTRAINT, RANGE)) None) ≡ cond b (Faults i (CONSTRAINT, RANGE)) (Runs i)
 ranged i s true clear = refl

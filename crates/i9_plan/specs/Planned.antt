@@ -41,7 +41,6 @@ use Rattle.i9_plan.specs.declared.outcome.Outcome.TheVariants as outcomes
 -- what stands at the instruction address
 abbrev pub standing_of : Planned → plain.Standing
 standing_of (plans.Meets a) = plain.Meets a
-standing_of plans.NotBuilt = plain.NotBuilt
 standing_of (plans.Refused words number) = plain.Refused number
 standing_of (plans.Faults words i number) = plain.Faults i number
 standing_of (plans.Runs words i) = plain.Runs i
@@ -77,7 +76,6 @@ AreRequestsInRow i e = is_request_name i.op ≡ true → IsInRow e
 -- its words are told, and its effect is its action, with its trace events
 abbrev pub IsPlanned : State → Planned → Effect → Type 0
 IsPlanned s (plans.Meets a) e = Unit {0}
-IsPlanned s plans.NotBuilt e = Unit {0}
 IsPlanned s (plans.Refused words number) e = TellsWords 1 s words
 IsPlanned s (plans.Faults words i number) e = TellsWords (words_of i) s words × IsValid i
 IsPlanned s (plans.Runs words i) e =
@@ -95,21 +93,18 @@ pub record Passes (s : State) (i : Inst) (e : Effect) : Type 0 where
 -- what an instruction comes to that is read
 abbrev pub standing_in : Inst → Outcome → plain.Standing
 standing_in i (outcomes.Meets a) = plain.Meets a
-standing_in i outcomes.NotBuilt = plain.NotBuilt
 standing_in i (outcomes.Faults number) = plain.Faults i number
 standing_in i outcomes.Runs = plain.Runs i
 
 -- where it runs, an effect is its action
 abbrev pub HasEffect : State → Inst → Outcome → Effect → Type 0
 HasEffect s i (outcomes.Meets a) e = Unit {0}
-HasEffect s i outcomes.NotBuilt e = Unit {0}
 HasEffect s i (outcomes.Faults number) e = Unit {0}
 HasEffect s i outcomes.Runs e = IsEffect s (action_of i s) e
 
 -- where it runs, and is a load or a store
 abbrev pub RunsInRow : Inst → Outcome → Effect → Type 0
 RunsInRow i (outcomes.Meets a) e = Unit {0}
-RunsInRow i outcomes.NotBuilt e = Unit {0}
 RunsInRow i (outcomes.Faults number) e = Unit {0}
 RunsInRow i outcomes.Runs e = AreRequestsInRow i e
 

@@ -2,17 +2,19 @@
 ghost use Rattle.std.specs.Prelude.{◌≡◌, ◌<◌, ◌≤◌, true};
 ghost use Rattle.i9_model.specs.Memory.{region_of};
 ghost use Rattle.i9_model.specs.Access.{access_of};
-ghost use Rattle.i9_course.specs.NeedOf.{touches_port, access_waits, facts_of};
+ghost use Rattle.i9_course.specs.NeedOf.{touches_port, access_waits, stands_alone, facts_of};
 ghost use Rattle.i9_need.specs.Known.{AreFacts, moves_a_frame};
 ghost use Rattle.i9_processor.specs.State.{state_of};
 ghost use Rattle.i9_plan.specs.Planned.{Moves};
 
-use crate::outcome::is_precise;
 use crate::raised::data_access;
 use crate::sources::atomic_address;
+use crate::tracing::is_traced;
 use crate::transfers::{Moving, transfer_at};
+use crate::words::bit;
 use i9_isa::{Direction, Inst, Op};
 use i9_model::Facts;
+use i9_model::layout::PRECISE_FAULTS_PLACE;
 use i9_processor::Processor;
 use i9_watch::Watch;
 
@@ -52,6 +54,13 @@ fn access_waits(p: &Processor, i: &Inst, moving: Option<Moving>) -> u64
     }
 }
 
+/// Whether bit 15 of AC or trace enable is set, so that an instruction passes nothing.
+fn stands_alone(p: &Processor) -> bool
+    ensures { result ≡ stands_alone (state_of p.now) }
+{
+    bit(p.ac(), PRECISE_FAULTS_PLACE) || is_traced(p)
+}
+
 /// What is known of an instruction that meets no hazard, with the number of frames that it moves, whether
 /// it raises another fault than an arithmetic or a trace fault, and whether it raises a trace fault.
 pub fn facts(p: &Processor, i: &Inst, frames: u8, fault: bool, trace: bool) -> Facts
@@ -69,6 +78,6 @@ pub fn facts(p: &Processor, i: &Inst, frames: u8, fault: bool, trace: bool) -> F
         fault,
         trace,
         hazard: false,
-        alone: is_precise(p),
+        alone: stands_alone(p),
     }
 }

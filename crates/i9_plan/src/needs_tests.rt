@@ -66,7 +66,7 @@ fn need_of(alloc: Global, p: &Processor) -> Option<Need>
         Planned::Runs { inst, .. } => Some(need_done(p, &inst, &effect)),
         Planned::Faults { inst, number, .. } => Some(need_faulted(p, &inst, number)),
         Planned::Refused { number, .. } => Some(need_refused(p, number)),
-        Planned::Meets(_) | Planned::NotBuilt => None,
+        Planned::Meets(_) => None,
     }
 }
 

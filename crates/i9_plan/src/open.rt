@@ -17,8 +17,8 @@ use i9_processor::{Effect, Processor};
 /// What stands at the instruction address while something is open.
 #[derive(Debug, Drop)]
 pub enum Open {
-    /// A barrier, a word that is refused, a fault that is raised before anything is done, a hazard, or
-    /// what is not built: it waits until all is done.
+    /// A barrier, a word that is refused, a fault that is raised before anything is done, or a hazard: it
+    /// waits until all is done.
     Waits,
     /// An instruction that is done.
     Runs {
@@ -74,6 +74,6 @@ pub fn plan_open(p: &Processor, memo: &mut Memo, effect: &mut Effect) -> Open
                 number,
             }
         }
-        Outcome::Meets(_) | Outcome::NotBuilt => Open::Waits,
+        Outcome::Meets(_) => Open::Waits,
     }
 }

@@ -11,7 +11,7 @@ use std::alloc::Global;
 use std::test::Fail;
 
 /// What waits until all is done: the arithmetic and process controls, and a word.
-const WAITS: [(u32, u32, u32); 15] = [
+const WAITS: [(u32, u32, u32); 13] = [
     // call, ret, flushreg, syncf, modac, atadd; mov 5, sf1.
     (0, PC, 0x0900_0008),
     (0, PC, 0x0A00_0000),
@@ -28,9 +28,6 @@ const WAITS: [(u32, u32, u32); 15] = [
     // ld and st of the live frame.
     (0, PC, 0x90A4_2000),
     (0, PC, 0x92A4_2000),
-    // muli that overflows and divi by 0, by faults that may be imprecise.
-    (0, PC, 0x74A4_8092),
-    (0, PC, 0x74A1_1D80),
 ];
 
 /// Whether what stands there waits.
@@ -192,7 +189,10 @@ fn plans_while_something_is_open(rt: HostRuntime) -> Result<(), Fail> {
 #[test]
 fn plans_late_faults(rt: HostRuntime) -> Result<(), Fail> {
     let rows = [
-        // muli that overflows and divi by 0, where faults are precise; addi while trace enable is set.
+        // muli that overflows and divi by 0, where faults may be imprecise, and where they are precise; addi
+        // while trace enable is set.
+        (0, PC, 0x74A4_8092, Op::Muli, 1),
+        (0, PC, 0x74A1_1D80, Op::Divi, 2),
         (PRECISE, PC, 0x74A4_8092, Op::Muli, 1),
         (PRECISE, PC, 0x74A1_1D80, Op::Divi, 2),
         (0, TRACED, 0x59A4_8092, Op::Addi, 1),

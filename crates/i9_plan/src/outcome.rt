@@ -1,8 +1,5 @@
 //! What an instruction comes to that is read.
-ghost use Rattle.std.specs.Prelude.{◌≡◌, ◌&&◌, ◌||◌, None, Some, Ok, true, false, length};
-ghost use Rattle.i9_isa.specs.Words.{bit};
-ghost use Rattle.i9_model.specs.declared.layout.TheConstants.{PRECISE_FAULTS_PLACE};
-ghost use Rattle.i9_model.specs.Unbuilt.{is_traced};
+ghost use Rattle.std.specs.Prelude.{◌≡◌, ◌&&◌, None, Some, Ok, true, false, length};
 ghost use Rattle.i9_isa.specs.Valid.{IsValid};
 ghost use Rattle.i9_exec.specs.Shown.{answer_of};
 ghost use Rattle.i9_model.specs.Operands.{value};
@@ -22,22 +19,18 @@ use crate::effects::{answering, dma_change, jumping, linking, passing, posting};
 use crate::names::{is_barrier, is_branch, is_fault_name};
 use crate::raised::{arithmetic_fault, mismatches, raised_in};
 use crate::sources::{address, answer, target, value};
-use crate::tracing::is_traced;
 use crate::transfers::{Moving, plan_transfer, transfer_at};
-use crate::words::bit;
 use i9_entry::aligned;
 use i9_exec::{Done, Jump, branch, has_result, results_by_name};
 use i9_isa::{Inst, Op, Operand};
 use i9_model::faults::{CONSTRAINT, MISMATCH, RANGE, TYPE};
-use i9_model::layout::{LINK, PRECISE_FAULTS_PLACE};
+use i9_model::layout::LINK;
 use i9_processor::{Effect, Processor};
 
-/// A hazard of its access, something that is not built, or a fault of this type and subtype; or it is
-/// done.
+/// A hazard of its access, or a fault of this type and subtype; or it is done.
 #[derive(Clone, Copy, Debug)]
 pub(crate) enum Outcome {
     Meets(u32),
-    NotBuilt,
     Faults((u8, u16)),
     Runs,
 }
@@ -75,14 +68,7 @@ fn resulting(p: &Processor, i: &Inst, done: Done, effect: &mut Effect)
     }
 }
 
-/// Whether arithmetic faults are precise: where the arithmetic controls say so, and while trace enable is set.
-pub(crate) fn is_precise(p: &Processor) -> bool
-    ensures { result ≡ (bit (state_of p.now).ac PRECISE_FAULTS_PLACE || is_traced (state_of p.now)) }
-{
-    bit(p.ac(), PRECISE_FAULTS_PLACE) || is_traced(p)
-}
-
-/// What an instruction with a result comes to: an arithmetic fault that may be imprecise is not built.
+/// What an instruction with a result comes to: an arithmetic fault, or its result is its effect.
 fn result_outcome(p: &Processor, i: &Inst, effect: &mut Effect) -> Outcome
     requires valid { IsValid i.now }
     requires result { has_result i.now.op ≡ true }
@@ -96,8 +82,7 @@ fn result_outcome(p: &Processor, i: &Inst, effect: &mut Effect) -> Outcome
             resulting(p, i, done, effect);
             Outcome::Runs
         }
-        Some(f) if is_precise(p) => Outcome::Faults(arithmetic_fault(f)),
-        Some(_) => Outcome::NotBuilt,
+        Some(f) => Outcome::Faults(arithmetic_fault(f)),
     }
 }
 

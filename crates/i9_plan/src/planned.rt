@@ -18,8 +18,6 @@ use i9_processor::{Effect, Processor};
 pub enum Planned {
     /// Its fetch or its access meets a hazard at this byte.
     Meets(u32),
-    /// It is not built.
-    NotBuilt,
     /// A word that is refused, with the type and the subtype of its fault.
     Refused {
         words: Words,
@@ -56,7 +54,7 @@ fn unread(p: &Processor, why: Unread) -> Planned
 }
 
 /// What stands at the instruction address: the hazard of its fetch, which comes first; an instruction
-/// that is refused, or that faults, or that is not built; the hazard of its access; or what it does.
+/// that is refused, or that faults; the hazard of its access; or what it does.
 /// Each result is worked out once, and the effect of what is done, with its trace events, is made in
 /// `effect` (the i960 CA/CF User's Manual, instruction set, faults and tracing).
 // It is no part of the code that calls it: LLVM would take the effect apart there, and move it piece by piece.
@@ -74,7 +72,6 @@ pub fn plan_next(p: &Processor, memo: &mut Memo, effect: &mut Effect) -> Planned
     pass(p, &inst, effect);
     match outcome_of(p, &inst, effect) {
         Outcome::Meets(a) => Planned::Meets(a),
-        Outcome::NotBuilt => Planned::NotBuilt,
         Outcome::Faults(number) => Planned::Faults {
             words,
             inst,

@@ -9,7 +9,7 @@ use crate::{
     Memo, Planned, Words, plan_entry, plan_event, plan_faulting, plan_interrupt, plan_next,
 };
 use Rest::{Flushes, Group, Nothing, Restart, Returns, Saves, Stores};
-use Seen::{Faults, Meets, NotBuilt, Refused, Runs};
+use Seen::{Faults, Meets, Refused, Runs};
 use arrayvec::ArrayVec;
 use i9_dma::Channel;
 use i9_faults::{Fault, FaultStop};
@@ -53,7 +53,6 @@ const GLOBALS: [u32; 15] = [
 #[derive(Clone, Copy, Debug, PartialEq, Eq)]
 enum Seen {
     Meets(u32),
-    NotBuilt,
     Refused(u8, u16),
     Faults(Op, u8, u16),
     Runs(Op),
@@ -62,7 +61,6 @@ enum Seen {
 fn seen_of(planned: &Planned) -> Seen {
     match planned {
         Planned::Meets(a) => Meets(*a),
-        Planned::NotBuilt => NotBuilt,
         Planned::Refused { number, .. } => Refused(number.0, number.1),
         Planned::Faults { inst, number, .. } => Faults(inst.op, number.0, number.1),
         Planned::Runs { inst, .. } => Runs(inst.op),
@@ -259,8 +257,8 @@ const STOPS: [(u32, u32, u32, Seen); 18] = [
     (0, PC, 0x90A4_2000, Meets(0x3010)),
     (0, PC, 0x92A4_2000, Meets(0x3010)),
     (0, PC, 0x61A0_5110, Meets(0x3010)),
-    // addi that overflows, by an imprecise fault and by a precise one; divo by 0.
-    (0, PC, 0x59A4_8092, NotBuilt),
+    // addi that overflows, where its fault may be imprecise and where it is precise; divo by 0.
+    (0, PC, 0x59A4_8092, Faults(Op::Addi, 3, 1)),
     (PRECISE, PC, 0x59A4_8092, Faults(Op::Addi, 3, 1)),
     (PRECISE, PC, 0x70A1_1D80, Faults(Op::Divo, 3, 2)),
     // faulte where it is equal.

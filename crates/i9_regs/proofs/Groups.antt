@@ -91,7 +91,7 @@ module _ (cs olds : List Cell) (register k : ℕ) (values : List ℕ) (done : �
   one_planned r = planned_at r (eqb r (register + k)) refl
 
 -- the set without a resource
-abbrev cleared : ℕ → ℕ → ℕ
+abbrev pub cleared : ℕ → ℕ → ℕ
 cleared n r = bit_and n (bit_not w64 (1 * 2 ^ r % 2 ^ 64))
 
 module _ (left writes register k : ℕ) (fits : register + k < 64)

@@ -3,4 +3,5 @@ pub mod Lists
 pub mod Groups
 pub mod Issued
 pub mod Framed
-pub mod Bounds
+pub mod Among
+pub mod Landing

@@ -1,21 +1,20 @@
 -- The cells of a register file.
-use Rattle.std.specs.Prelude.{ℕ, ◌+◌, ◌-◌, Bool, ◌&&◌, ◌==◌, nat_le, nat_lt, if◌then◌else◌, List, None, Some}
+use Rattle.std.specs.Prelude.{◌≡◌, ℕ, ◌+◌, ◌-◌, ◌<◌, Bool, ◌&&◌, ◌==◌, nat_le, nat_lt, if◌then◌else◌, List, None, Some}
 use Rattle.std.specs.Prelude.{slice_index, slice_index_or}
 use Rattle.std.specs.Int.{bit_at}
 use Rattle.i9_isa.specs.declared.resources.TheConstants.{CONDITION_CODE}
 use Rattle.i9_model.specs.declared.need.Cell.{Cell}
 use Rattle.i9_model.specs.Writes.{written, pairs_at}
 use Rattle.i9_model.specs.State.{frame_sets}
-use Rattle.i9_model.specs.Late.{cell, latest}
-use Rattle.i9_regs.specs.Plans.{IsPlannedFrom}
+use Rattle.i9_model.specs.Late.{resources, cell, latest}
 
 -- the cell of a resource
 abbrev pub cell_in : List Cell → ℕ → Cell
 cell_in cs r = slice_index_or cs r (cell 0 None)
 
--- no value is planned for an earlier turn
-abbrev pub ArePlannedFrom : ℕ → List Cell → Type 0
-ArePlannedFrom t cs = (r : ℕ) → IsPlannedFrom t (cell_in cs r).plan
+-- a value is planned for no resource but those of a set
+abbrev pub ArePlannedAmong : ℕ → List Cell → Type 0
+ArePlannedAmong planned cs = (r : ℕ) → r < resources → bit_at planned r ≡ 0 → (cell_in cs r).plan ≡ None
 
 -- ---- a record that is issued
 

@@ -1,15 +1,10 @@
 -- A planned value kept as its parts.
-use Rattle.std.specs.Prelude.{◌≡◌, ℕ, ◌≤◌, Bool, true, false, if◌then◌else◌, Option, None, Some}
+use Rattle.std.specs.Prelude.{◌≡◌, ℕ, Bool, true, false, if◌then◌else◌, Option, None, Some}
 use Rattle.std.proofs.Common.{refl, sym}
 
 -- a value that is planned for a turn, where one is
 abbrev pub plan_of : Bool → ℕ → ℕ → Option (ℕ × ℕ)
 plan_of planned latest due = if planned then Some (latest, due) else None
-
--- no value is planned for an earlier turn
-abbrev pub IsPlannedFrom : ℕ → Option (ℕ × ℕ) → Type 0
-IsPlannedFrom t None = Unit {0}
-IsPlannedFrom t (Some p) = t ≤ p.1
 
 -- where none is planned the latest value is the value, and the turn is 0
 abbrev pub IsStill : Bool → ℕ → ℕ → ℕ → Type 0

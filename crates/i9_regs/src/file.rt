@@ -1,10 +1,10 @@
 //! The register file: values, and values that are planned.
 
-ghost use Rattle.std.specs.Prelude.{◌≡◌, ℕ, ◌+◌, ◌<◌, ◌≤◌, None, Some};
+ghost use Rattle.std.specs.Prelude.{◌≡◌, ℕ, ◌+◌, ◌<◌, ◌≤◌, ◌≢◌, None, Some};
 ghost use Rattle.std.specs.Prelude.{length, slice_index, slice_set, replicate};
 ghost use Rattle.std.specs.Int.{IsBitSet, bit_at};
 ghost use Rattle.i9_model.specs.Late.{resources, cell, landed, latest, is_plan_open, issued_cell};
-ghost use Rattle.i9_regs.specs.File.{cell_in, ArePlannedFrom, planned_cell, rest_bit};
+ghost use Rattle.i9_regs.specs.File.{cell_in, ArePlannedAmong, planned_cell, rest_bit};
 ghost use Rattle.i9_regs.specs.File.{issued_value, framed_value};
 
 use crate::slot::Slot;
@@ -21,39 +21,64 @@ const CODE: usize = CONDITION_CODE as usize;
 /// The first 32 bits of a set are those of the registers.
 const REGISTER_BITS: u64 = 1 << 32;
 
+/// The first 33 bits of a set are those of the resources.
+const RESOURCE_BITS: u64 = 1 << 33;
+
 /// For each of 33 resources, the 32 registers and the condition code, a value and perhaps a planned
 /// value with the turn at which it takes its place.
 #[derive(Drop)]
 pub struct File {
     slots: [Slot; RESOURCES],
-    // no value is planned for an earlier turn
-    first: u64,
+    // a value is planned for no resource but these
+    planned: u64,
 }
 
 impl Model for File {
     ghost use Rattle.std.specs.Prelude.{List, ◌≡◌, length};
     ghost use Rattle.i9_model.specs.declared.need.Cell.{Cell};
     ghost use Rattle.i9_model.specs.Late.{resources};
-    ghost use Rattle.i9_regs.specs.File.{ArePlannedFrom};
+    ghost use Rattle.i9_regs.specs.File.{ArePlannedAmong};
 
     ghost Value = { List Cell };
 
     ghost view = { λ f. f.slots };
 
-    ghost invariant = { λ f. (length f.slots ≡ resources) × ArePlannedFrom f.first f.slots };
+    ghost invariant = { λ f. (length f.slots ≡ resources) × ArePlannedAmong f.planned f.slots };
 }
 
-/// Lands what is due by `turn`, and gives a turn below which no other value is planned.
-fn land_all(slots: &mut [Slot], turn: u64) -> u64
-    ensures cells { (r : ℕ) → cell_in slots.new r ≡ landed turn (cell_in slots.old r) }
-    ensures first { ArePlannedFrom result slots.new }
+/// The value that is planned for a resource takes its place where it is due, and the resource is then
+/// taken out of the set.
+fn land_one(slots: &mut [Slot; RESOURCES], planned: u64, r: usize, turn: u64) -> u64
+    requires range { r < resources }
+    requires planned { ArePlannedAmong planned slots.old }
+    ensures size { length slots.new ≡ resources }
+    ensures cell { cell_in slots.new r ≡ landed turn (cell_in slots.old r) }
+    ensures others { (k : ℕ) → k ≢ r → cell_in slots.new k ≡ cell_in slots.old k }
+    ensures planned { ArePlannedAmong result slots.new }
 {
-    let mut first = u64::MAX;
-    for s in slots.iter_mut() {
-        *s = s.landed(turn);
-        first = s.next().min(first);
+    if slots[r].busy(turn) {
+        return planned;
     }
-    first
+    slots[r] = slots[r].landed(turn);
+    planned & !(1 << r)
+}
+
+/// Each value that is planned for `turn` or an earlier one takes its place. It gives the set of the
+/// resources for which a value is left.
+fn land_all(slots: &mut [Slot; RESOURCES], planned: u64, turn: u64) -> u64
+    requires { ArePlannedAmong planned slots.old }
+    ensures size { length slots.new ≡ resources }
+    ensures cells { (r : ℕ) → cell_in slots.new r ≡ landed turn (cell_in slots.old r) }
+    ensures planned { ArePlannedAmong result slots.new }
+{
+    let mut kept = planned;
+    let mut left = planned % RESOURCE_BITS;
+    'due: while left != 0 {
+        let r = left.trailing_zeros() as usize;
+        left &= !(1 << r);
+        kept = land_one(slots, kept, r, turn);
+    }
+    kept
 }
 
 /// Plans values from a register up, and gives the resources of a set that are left.
@@ -160,7 +185,7 @@ impl File {
     {
         File {
             slots: [Slot::still(0); RESOURCES],
-            first: u64::MAX,
+            planned: 0,
         }
     }
 
@@ -206,7 +231,7 @@ impl File {
         ensures { self.new ≡ slice_set self.old r (cell (cell_in self.old r).value (Some (value, turn))) }
     {
         self.slots[r as usize] = self.slots[r as usize].planned(value, turn);
-        self.first = self.first.min(turn);
+        self.planned |= 1 << r;
     }
 
     /// Sets the value at once, and what was planned is dropped.
@@ -228,7 +253,7 @@ impl File {
             ≡ issued_cell writes done r (issued_value self.old register values.now code r) (cell_in self.old r) }
     {
         plan_all(&mut self.slots, writes, done, register, values, code);
-        self.first = self.first.min(done);
+        self.planned |= writes;
     }
 
     /// As `issue`, of a record that enters a frame: `locals` for the locals, and `frame` for the frame
@@ -247,15 +272,13 @@ impl File {
             ≡ issued_cell writes done r (framed_value self.old locals.now frame code r) (cell_in self.old r) }
     {
         plan_frame(&mut self.slots, writes, done, locals, frame, code);
-        self.first = self.first.min(done);
+        self.planned |= writes;
     }
 
     /// Each value that is planned for `turn` or an earlier one takes its place.
     pub fn land(&mut self, turn: u64)
         ensures { (r : ℕ) → cell_in self.new r ≡ landed turn (cell_in self.old r) }
     {
-        if turn >= self.first {
-            self.first = land_all(&mut self.slots, turn);
-        }
+        self.planned = land_all(&mut self.slots, self.planned, turn);
     }
 }

@@ -2,7 +2,6 @@
 
 ghost use Rattle.std.specs.Prelude.{◌≡◌, None, Some};
 ghost use Rattle.i9_model.specs.Late.{cell, landed, latest, is_plan_open};
-ghost use Rattle.i9_regs.specs.Plans.{IsPlannedFrom};
 
 use std::marker::Model;
 
@@ -75,13 +74,6 @@ impl Slot {
         ensures { result ≡ is_plan_open turn self.now.plan }
     {
         turn < self.due
-    }
-
-    /// A turn below which no value is planned.
-    pub fn next(&self) -> u64
-        ensures { IsPlannedFrom result self.now.plan }
-    {
-        if self.planned { self.due } else { u64::MAX }
     }
 
     /// The same value, with a planned one.

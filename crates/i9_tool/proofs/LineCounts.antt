@@ -9,7 +9,7 @@ use Rattle.i9_model.specs.declared.view.View.{View}
 use Rattle.i9_model.specs.declared.run.Point.{Point}
 use Rattle.i9_model.specs.declared.run.Point.TheVariants as points
 use Rattle.i9_model.specs.declared.run.End.{End}
-use Rattle.i9_model.specs.declared.run.End.TheVariants.{Exit, Limit, Hazard, Dead, Unbuilt}
+use Rattle.i9_model.specs.declared.run.End.TheVariants.{Exit, Limit, Hazard, Dead, Imprecise}
 use Rattle.i9_model.specs.PrintedText.{out_text, spaced, spaced_byte, words_text, drained_text, point_text, event_text, bytes_text, end_text}
 use Rattle.i9_model.specs.declared.event.Event.{Event}
 use Rattle.i9_model.specs.Events.{journal_text}
@@ -83,7 +83,7 @@ line-end (Exit w) = line-words (codes "#end exit") (w ∷ []) refl
 line-end Limit = refl
 line-end (Hazard a) = line-words (codes "#end hazard") (a ∷ []) refl
 line-end (Dead code a) = line-words (codes "#end dead " ++ decimal code) (a ∷ []) (plain-append (codes "#end dead ") (decimal code) refl (plain-decimal code))
-line-end (Unbuilt a) = line-words (codes "#end unbuilt") (a ∷ []) refl
+line-end (Imprecise a) = line-words (codes "#end imprecise") (a ∷ []) refl
 
 pub end_labelled : (f : End) → length (codes "#end ") ≤ length (end_text f)
 unfolding end_text words_text
@@ -91,7 +91,7 @@ end_labelled (Exit w) = omega arith
 end_labelled Limit = omega arith
 end_labelled (Hazard a) = omega arith
 end_labelled (Dead code a) = omega arith
-end_labelled (Unbuilt a) = omega arith
+end_labelled (Imprecise a) = omega arith
 
 -- the end of the run that was made from a number
 line-ending : (f : End) → IsLine (ending f)
@@ -100,7 +100,7 @@ line-ending (Exit w) = line-words (codes "exit") (w ∷ []) refl
 line-ending Limit = refl
 line-ending (Hazard a) = line-words (codes "hazard") (a ∷ []) refl
 line-ending (Dead code a) = line-words (codes "dead " ++ decimal code) (a ∷ []) (plain-append (codes "dead ") (decimal code) refl (plain-decimal code))
-line-ending (Unbuilt a) = line-words (codes "unbuilt") (a ∷ []) refl
+line-ending (Imprecise a) = line-words (codes "imprecise") (a ∷ []) refl
 
 -- a number, and a space behind it
 plain_number : (xs : List ℕ) (n : ℕ) → is_plain xs ≡ true → is_plain (xs ++ decimal n ++ codes " ") ≡ true

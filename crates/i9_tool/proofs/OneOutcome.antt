@@ -5,7 +5,7 @@ use Rattle.i9_model.specs.State.{State}
 use Rattle.i9_model.specs.Given.{Given, given}
 use Rattle.i9_model.specs.declared.event.Timed.{Timed}
 use Rattle.i9_model.specs.declared.run.End.{End}
-use Rattle.i9_model.specs.Run.{Record, next, IsRun, reached_after}
+use Rattle.i9_model.specs.Run.{Record, reached_after}
 use Rattle.i9_model.specs.PrintedText.{text_of, lines_of, end_lines, end_code}
 use Rattle.i9_hex.specs.Writing.{hex_text}
 use Rattle.i9_asm.proofs.Once.{assembly_once, refusal_once, never_both_answers}
@@ -13,8 +13,10 @@ use Rattle.i9_text.specs.Text.{lines_of as text_lines}
 use Rattle.i9_tool.specs.declared.words.Range.{Range}
 use Rattle.i9_tool.specs.Traced.{is_within, traced_lines, printed_text}
 use Rattle.i9_tool.specs.CommandLine.{Command, Run, Asm, Dis, Gen, files_of, with_name, image_word, schedule_word, source_word, refused_line}
-use Rattle.i9_model.proofs.Cuts.{past_by, state_by, next_from}
-use Rattle.i9_model.proofs.Unique.{same_records, same_end}
+use Rattle.i9_model.proofs.Cuts.{state_by}
+use Rattle.i9_course.specs.LateRun.{IsLateRun}
+use Rattle.i9_course.proofs.LateRuns.{late_records, late_end}
+use Rattle.i9_course.proofs.LateSame.{run_sets}
 use Rattle.i9_hex.proofs.OneAnswer.{image_apart, one_image, one_fault}
 use Rattle.i9_schedule.proofs.OneAnswer.{answers_apart, one_schedule, one_fault as one_schedule_fault}
 use Rattle.i9_tool.specs.Outcome.{Reads, unread, fetched, RunGives, runs, ScheduleGives, schedule_too_long, schedule_refused, scheduled, ImageGives, too_long, refused, accepted, SourceGives, source_too_long, source_refused, assembled, JobGives, job_source_refused, job_schedule_refused, job_runs, job_line, DisGives, listed, PlanGives, CommandGives, Gives, in_no_form, in_form, AllTold, names_of}
@@ -30,11 +32,11 @@ pub record Same (c d : ℕ) (s t : List ℕ) : Type 0 where
   pub text : s ≡ t
 
 -- the same image runs the same
-same_run : (traced : Option Range) (g : Given) (rs qs : List Record) (e f : End) → IsRun g rs e → IsRun g qs f
+same_run : (traced : Option Range) (g : Given) (rs qs : List Record) (e f : End) → IsLateRun g rs e → IsLateRun g qs f
     → Same (end_code e) (end_code f) (printed_text traced g rs e) (printed_text traced g qs f)
 same_run traced g rs qs e f a b =
-    let end = same_end g rs qs e f a b in
-    let records = same_records g rs qs e f a b in
+    let end = late_end g rs qs e f a b in
+    let records = late_records g rs qs e f a b in
     record { status = ap end_code end; text = ap (λ (x : List Record). printed_text traced g x e) records ∙ ap (printed_text traced g qs) end }
 
 -- one status and one text, but for those of a file that was not read
@@ -90,16 +92,16 @@ once_dis : (pairs : List (ℕ × ℕ)) → Once (DisGives pairs)
 once_dis pairs c d s t p q (listed image _ says h) (listed other _ says' g) = record { status = refl; text = one_text image s t h (by_pairs other image t (says' ∙ sym says) g) }
 
 -- one run comes to one line
-same_line : (number : ℕ) (g : Given) (rs qs : List Record) (e f : End) → IsRun g rs e → IsRun g qs f → Same (end_code e) (end_code f) (job_line number g rs e) (job_line number g qs f)
+same_line : (number : ℕ) (g : Given) (rs qs : List Record) (e f : End) → IsLateRun g rs e → IsLateRun g qs f → Same (end_code e) (end_code f) (job_line number g rs e) (job_line number g qs f)
 same_line number g rs qs e f a b =
-    let end = same_end g rs qs e f a b in
-    let records = same_records g rs qs e f a b in
+    let end = late_end g rs qs e f a b in
+    let records = late_records g rs qs e f a b in
     record { status = ap end_code end; text = ap (λ (x : List Record). job_line number g x e) records ∙ ap (job_line number g qs) end }
 
 -- so do two of what is the same
-same_job : (number : ℕ) (g h : Given) (rs qs : List Record) (e f : End) → g ≡ h → IsRun g rs e → IsRun h qs f → Same (end_code e) (end_code f) (job_line number g rs e) (job_line number h qs f)
+same_job : (number : ℕ) (g h : Given) (rs qs : List Record) (e f : End) → g ≡ h → IsLateRun g rs e → IsLateRun h qs f → Same (end_code e) (end_code f) (job_line number g rs e) (job_line number h qs f)
 same_job number g h rs qs e f same a b =
-    subst (λ (k : Given). IsRun k qs f → Same (end_code e) (end_code f) (job_line number g rs e) (job_line number k qs f)) same (same_line number g rs qs e f a) b
+    subst (λ (k : Given). IsLateRun k qs f → Same (end_code e) (end_code f) (job_line number g rs e) (job_line number k qs f)) same (same_line number g rs qs e f a) b
 
 once_job : (number : ℕ) (sets : Option ℕ) (source schedule : List ℕ) → Once (JobGives number sets source schedule)
 once_job number sets source schedule c d s t p q (job_source_refused f bad) (job_source_refused g bad') =
@@ -144,15 +146,8 @@ module _ (told : List ℕ → Option (List ℕ)) (rose : List ℕ → Type 0) wh
 
 -- ---- no answer depends on the number of sets
 
--- what comes next goes by the image, the events and the length alone
-other_next : (ps : List (ℕ × ℕ)) (ts : List Timed) (limit : ℕ) (sets others : Option ℕ) (rs : List Record) → next (given ps ts limit others) rs ≡ next (given ps ts limit sets) rs
-other_next ps ts limit sets others rs = ap (next_from (given ps ts limit sets) rs) (state_by (given ps ts limit sets) (given ps ts limit others) rs refl)
-
-other_run : (ps : List (ℕ × ℕ)) (ts : List Timed) (limit : ℕ) (sets others : Option ℕ) (rs : List Record) (e : End) → IsRun (given ps ts limit sets) rs e → IsRun (given ps ts limit others) rs e
-other_run ps ts limit sets others rs e run = record {
-  past = past_by (given ps ts limit sets) (given ps ts limit others) (λ qs r past h. other_next ps ts limit sets others qs ∙ h) rs run.past;
-  ends = other_next ps ts limit sets others rs ∙ run.ends;
-}
+other_run : (ps : List (ℕ × ℕ)) (ts : List Timed) (limit : ℕ) (sets others : Option ℕ) (rs : List Record) (e : End) → IsLateRun (given ps ts limit sets) rs e → IsLateRun (given ps ts limit others) rs e
+other_run ps ts limit sets others rs e run = (run_sets (given ps ts limit sets) others rs e).1 run
 
 other_text : (traced : Option Range) (ps : List (ℕ × ℕ)) (ts : List Timed) (limit : ℕ) (sets others : Option ℕ) (rs : List Record) (e : End)
     → printed_text traced (given ps ts limit others) rs e ≡ printed_text traced (given ps ts limit sets) rs e

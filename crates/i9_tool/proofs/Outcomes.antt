@@ -9,9 +9,9 @@ use Rattle.i9_model.specs.declared.layout.TheConstants.{MAX_LENGTH}
 use Rattle.i9_model.specs.Run.{state_after}
 use Rattle.i9_asm.specs.Laws.{IsAssembly}
 use Rattle.i9_model.specs.declared.run.End.{End}
-use Rattle.i9_model.specs.declared.run.End.TheVariants.{Exit, Limit, Hazard, Dead, Unbuilt}
+use Rattle.i9_model.specs.declared.run.End.TheVariants.{Exit, Limit, Hazard, Dead, Imprecise}
 use Rattle.i9_model.specs.PrintedText.{end_code}
-use Rattle.i9_model.proofs.Ends.{run_goes_on}
+use Rattle.i9_course.proofs.LateRuns.{late_goes_on}
 use Rattle.i9_hex.specs.Writing.{hex_text}
 use Rattle.i9_hex.proofs.OneAnswer.{some_answer}
 use Rattle.i9_schedule.proofs.OneAnswer.{some_answer as some_schedule}
@@ -38,7 +38,7 @@ known_finish (Exit w) = omega arith
 known_finish Limit = omega arith
 known_finish (Hazard a) = omega arith
 known_finish (Dead code a) = omega arith
-known_finish (Unbuilt a) = omega arith
+known_finish (Imprecise a) = omega arith
 
 -- ---- some status and text for each file
 
@@ -51,7 +51,7 @@ SomeFor gives = (code : ℕ) × (text : List ℕ) × gives code text
 pub some_run : (sets : Option ℕ) (limit : ℕ) (traced : Option Range) (pairs : List (ℕ × ℕ)) (events : List Timed) → SomeFor (RunGives sets limit traced pairs events)
 some_run sets limit traced pairs events =
     let g = given pairs events limit sets in
-    let later = run_goes_on g [] tt in
+    let later = late_goes_on g [] tt in
     let records = later.0 ++ [] in
     (end_code later.1, printed_text traced g records later.1, runs records later.1 later.2)
 
@@ -123,7 +123,7 @@ some_job_run number sets source schedule image made =
     elim (some_schedule schedule) [
       | inl says ↦
           let g = given (pairs_of image) says.0 MAX_LENGTH sets in
-          let later = run_goes_on g [] tt in
+          let later = late_goes_on g [] tt in
           let records = later.0 ++ [] in
           (end_code later.1, job_line number g records later.1, job_runs image says.0 records later.1 made says.1 later.2)
       | inr bad ↦ (3, refused_line schedule_word bad.0, job_schedule_refused image bad.0 made bad.1)

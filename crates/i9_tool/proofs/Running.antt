@@ -4,12 +4,11 @@ use Rattle.std.proofs.lemmas.List.{append-nil}
 use Rattle.i9_model.specs.State.{State}
 use Rattle.i9_model.specs.Step.{first_word}
 use Rattle.i9_model.specs.declared.run.End.{End}
-use Rattle.i9_model.specs.Run.{Given, Kind, Instruction, Faulted, Entered, Interrupted, Reached, Blocked, Record, IsPast, counts_of, state_after}
+use Rattle.i9_model.specs.Run.{Given, Kind, Instruction, Faulted, Entered, Interrupted, Reached, Blocked, Record, counts_of, state_after}
 use Rattle.i9_model.specs.PrintedText.{text_of, lines_of, record_lines, end_lines, run_text}
 use Rattle.i9_model.proofs.Lines.{text_of-append}
-use Rattle.i9_model.proofs.Ends.{run_goes_on}
-use Rattle.i9_course.specs.Course.{Item, Step, records_of, IsCourse}
-use Rattle.i9_course.proofs.Orderly.{course_past}
+use Rattle.i9_course.specs.LateRun.{steps, IsLatePast, finish_after}
+use Rattle.i9_course.proofs.LateRuns.{late_goes_on, records_of-steps, end_is_ahead}
 use Rattle.i9_machine.specs.declared.line.Line.{Line}
 use Rattle.i9_machine.specs.declared.line.Issued.{Issued}
 use Rattle.i9_machine.specs.declared.line.Turn.{Turn}
@@ -95,10 +94,10 @@ module _ (allows : ℕ → Bool → Type 0) where
   allowed_on answer (Reached e u) s h one = absurd (omega (arith, one))
   allowed_on answer (Blocked e a) s h one = absurd (omega (arith, one))
 
-  module _ (g : Given) (h : List Item) (before : Machine) where
+  module _ (g : Given) (rs : List Record) (before : Machine) where
     -- the text of a step is that of its record
     step_done : (answer : Bool) (turn : Turn) (m : Machine) (plan : Plan) (ls : List Line)
-        → (d : DoesNext g h turn before m plan [] ls)
+        → (d : DoesNext g (steps rs) turn before m plan [] ls)
         → turn_text answer turn ≡ traced_line (λ a. answer) d.done
         → traced_line (λ a. answer) d.done ++ text_of (record_lines d.done) ≡ step_text answer turn ls
     step_done answer turn m plan ls d told =
@@ -106,41 +105,41 @@ module _ (allows : ℕ → Bool → Type 0) where
         ap (λ (t : List ℕ). t ++ text_of (record_lines d.done)) (sym told) ∙ ap (λ (t : List ℕ). turn_text answer turn ++ t) lines
 
     pub issued_traced : (text : List ℕ) (answer : Bool) (t : Issued) (m : Machine) (plan : Plan) (ls : List Line)
-        → (d : DoesNext g h (turns.Issued t) before m plan [] ls)
-        → TracedBy allows (records_of h) text → allows t.address answer
-        → TracedBy allows (d.done ∷ records_of h) (text ++ step_text answer (turns.Issued t) ls)
+        → (d : DoesNext g (steps rs) (turns.Issued t) before m plan [] ls)
+        → TracedBy allows rs text → allows t.address answer
+        → TracedBy allows (d.done ∷ rs) (text ++ step_text answer (turns.Issued t) ls)
     issued_traced text answer t m plan ls d traced allowed =
         let same = step_done answer (turns.Issued t) m plan ls d (told_issued answer d.done.kind d.done.before t d.tells) in
-        subst (λ (x : List ℕ). TracedBy allows (d.done ∷ records_of h) (text ++ x)) same
-        (traced_next (records_of h) text d.done answer traced (λ one. allowed_issued answer d.done.kind d.done.before t d.tells allowed))
+        subst (λ (x : List ℕ). TracedBy allows (d.done ∷ rs) (text ++ x)) same
+        (traced_next rs text d.done answer traced (λ one. allowed_issued answer d.done.kind d.done.before t d.tells allowed))
 
     on_traced : (text : List ℕ) (answer : Bool) (m : Machine) (plan : Plan) (ls : List Line)
-        → (d : DoesNext g h turns.On before m plan [] ls)
-        → TracedBy allows (records_of h) text
-        → TracedBy allows (d.done ∷ records_of h) (text ++ step_text answer turns.On ls)
+        → (d : DoesNext g (steps rs) turns.On before m plan [] ls)
+        → TracedBy allows rs text
+        → TracedBy allows (d.done ∷ rs) (text ++ step_text answer turns.On ls)
     on_traced text answer m plan ls d traced =
         let same = step_done answer turns.On m plan ls d (told_on answer d.done.kind d.done.before d.tells) in
-        subst (λ (x : List ℕ). TracedBy allows (d.done ∷ records_of h) (text ++ x)) same
-        (traced_next (records_of h) text d.done answer traced (allowed_on answer d.done.kind d.done.before d.tells))
+        subst (λ (x : List ℕ). TracedBy allows (d.done ∷ rs) (text ++ x)) same
+        (traced_next rs text d.done answer traced (allowed_on answer d.done.kind d.done.before d.tells))
 
-    -- the run goes on where no instruction is told: the items are the same where the turn moved, and else one more
+    -- the run goes on where no instruction is told: the records are the same where the turn moved, and else one more
     pub record GoesOn (answer : Bool) (text : List ℕ) (m : Machine) (plan : Plan) (ls : List Line) : Type 0 where
-      pub items : List Item
-      pub stands : StandsFor g items None m
-      pub follows : Follows g items plan
-      pub traced : TracedBy allows (records_of items) (text ++ step_text answer turns.On ls)
+      pub records : List Record
+      pub stands : StandsFor g (steps records) None m
+      pub follows : Follows g (steps records) plan
+      pub traced : TracedBy allows records (text ++ step_text answer turns.On ls)
 
     pub goes_on : (text : List ℕ) (answer : Bool) (m : Machine) (plan : Plan) (ls : List Line)
-        → Advances g h turns.On before m plan [] ls
-        → TracedBy allows (records_of h) text → GoesOn answer text m plan ls
+        → Advances g (steps rs) turns.On before m plan [] ls
+        → TracedBy allows rs text → GoesOn answer text m plan ls
     goes_on text answer m plan ls (inl moves) traced = record {
-      items = h;
+      records = rs;
       stands = moves.stands;
       follows = moves.follows;
-      traced = subst (TracedBy allows (records_of h)) (sym (nothing_more text ls moves.lines)) traced;
+      traced = subst (TracedBy allows rs) (sym (nothing_more text ls moves.lines)) traced;
     }
     goes_on text answer m plan ls (inr d) traced = record {
-      items = Step d.done ∷ h;
+      records = d.done ∷ rs;
       stands = d.stands;
       follows = d.follows;
       traced = on_traced text answer m plan ls d traced;
@@ -148,16 +147,22 @@ module _ (allows : ℕ → Bool → Type 0) where
 
     -- the text of the end's step
     end_text : (answer : Bool) (e : End) (m : Machine) (plan : Plan) (ls : List Line)
-        → Advances g h (turns.End e) before m plan [] ls
-        → step_text answer (turns.End e) ls ≡ text_of (end_lines (state_after g (records_of h)) e)
-    end_text answer e m plan ls a = lines-text ls ∙ ap text_of a.lines
+        → Advances g (steps rs) (turns.End e) before m plan [] ls
+        → step_text answer (turns.End e) ls ≡ text_of (end_lines (state_after g rs) e)
+    end_text answer e m plan ls a =
+        lines-text ls ∙ ap text_of a.lines ∙ ap (λ (qs : List Record). text_of (end_lines (state_after g qs) e)) (records_of-steps rs)
+
+    -- the end lies ahead
+    ends : (e : End) (m : Machine) (plan : Plan) (ls : List Line) → Advances g (steps rs) (turns.End e) before m plan [] ls
+        → finish_after g rs ≡ Some e
+    ends e m plan ls a = end_is_ahead g rs ∙ a.is_end
 
   module _ (g : Given) {K : Type 0} (k : Account K) where
     abbrev Printing : Printed → K → K → List ℕ → Type 0
     Printing answer a b text = Prints answer k a b text
 
     -- printing stopped behind a record
-    behind_record : (answer : Ran) (rs : List Record) (text : List ℕ) (a b : K) → IsCut answer → IsPast g rs
+    behind_record : (answer : Ran) (rs : List Record) (text : List ℕ) (a b : K) → IsCut answer → IsLatePast g rs
         → TracedBy allows rs text → Printing (printed_of answer) a b text
         → TracesBy answer allows g k a b
     behind_record answer rs text a b cut past traced p = record {
@@ -174,39 +179,39 @@ module _ (allows : ℕ → Bool → Type 0) where
     pub nothing_yet : (a : K) → TracesBy ran.Memory allows g k a a
     nothing_yet a = record { records = []; past = tt; text = []; traced = traced_none; rest = []; stops = before_end ran.Memory tt; prints = prints_refused k a _ }
 
-    module _ (h : List Item) (before : Machine) where
+    module _ (rs : List Record) (before : Machine) where
       -- printing stopped in the text of a step
       pub in_step : (answer : Ran) (text : List ℕ) (passes : Bool) (turn : Turn) (m : Machine) (plan : Plan)
-          (ls : List Line) (a b : K) → IsCut answer → IsCourse g h → Advances g h turn before m plan [] ls
-          → TracedBy allows (records_of h) text → AllowsTurn allows turn passes
+          (ls : List Line) (a b : K) → IsCut answer → IsLatePast g rs → Advances g (steps rs) turn before m plan [] ls
+          → TracedBy allows rs text → AllowsTurn allows turn passes
           → Printing (printed_of answer) a b (text ++ step_text passes turn ls) → TracesBy answer allows g k a b
       in_step answer text passes turns.On m plan ls a b cut past d traced allowed p =
-          let on = goes_on g h before text passes m plan ls d traced in
-          behind_record answer (records_of on.items) _ a b cut (course_past g on.items on.stands.past) on.traced p
+          let on = goes_on g rs before text passes m plan ls d traced in
+          behind_record answer on.records _ a b cut on.stands.past on.traced p
       in_step answer text passes (turns.Issued t) m plan ls a b cut past d traced allowed p =
-          behind_record answer (d.done ∷ records_of h) _ a b cut (course_past g (Step d.done ∷ h) d.stands.past)
-          (issued_traced g h before text passes t m plan ls d traced allowed) p
+          behind_record answer (d.done ∷ rs) _ a b cut d.stands.past
+          (issued_traced g rs before text passes t m plan ls d traced allowed) p
       in_step answer text passes (turns.End e) m plan ls a b cut past d traced allowed p = record {
-        records = records_of h;
-        past = course_past g h past;
+        records = rs;
+        past = past;
         text = text;
         traced = traced;
-        rest = text_of (end_lines (state_after g (records_of h)) e);
-        stops = at_end answer e d.is_end (tells_cut answer e cut);
-        prints = prints_same k (printed_of answer) a b _ _ (ap (λ (t : List ℕ). text ++ t) (end_text g h before passes e m plan ls d)) p;
+        rest = text_of (end_lines (state_after g rs) e);
+        stops = at_end answer e (ends g rs before e m plan ls d) (tells_cut answer e cut);
+        prints = prints_same k (printed_of answer) a b _ _ (ap (λ (t : List ℕ). text ++ t) (end_text g rs before passes e m plan ls d)) p;
       }
       in_step answer text passes turns.Memory m plan ls a b cut past d traced allowed p =
-          behind_record answer (records_of h) text a b cut (course_past g h past) traced
+          behind_record answer rs text a b cut past traced
           (prints_same k (printed_of answer) a b _ _ (nothing_more text ls d.lines) p)
 
       -- memory was refused for a step
       pub ran_refused : (text : List ℕ) (passes : Bool) (m : Machine) (plan : Plan) (ls : List Line) (a b : K)
-          → IsCourse g h → Advances g h turns.Memory before m plan [] ls
-          → TracedBy allows (records_of h) text → Printing Done a b (text ++ step_text passes turns.Memory ls)
+          → IsLatePast g rs → Advances g (steps rs) turns.Memory before m plan [] ls
+          → TracedBy allows rs text → Printing Done a b (text ++ step_text passes turns.Memory ls)
           → TracesBy ran.Memory allows g k a b
       ran_refused text passes m plan ls a b past d traced p = record {
-        records = records_of h;
-        past = course_past g h past;
+        records = rs;
+        past = past;
         text = text;
         traced = traced;
         rest = [];
@@ -216,26 +221,26 @@ module _ (allows : ℕ → Bool → Type 0) where
 
       -- the end was reached
       pub ran_done : (text : List ℕ) (passes : Bool) (e : End) (m : Machine) (plan : Plan) (ls : List Line) (a b : K)
-          → IsCourse g h → Advances g h (turns.End e) before m plan [] ls
-          → TracedBy allows (records_of h) text → Printing Done a b (text ++ step_text passes (turns.End e) ls)
+          → IsLatePast g rs → Advances g (steps rs) (turns.End e) before m plan [] ls
+          → TracedBy allows rs text → Printing Done a b (text ++ step_text passes (turns.End e) ls)
           → TracesBy (ran.Done e) allows g k a b
       ran_done text passes e m plan ls a b past d traced p = record {
-        records = records_of h;
-        past = course_past g h past;
+        records = rs;
+        past = past;
         text = text;
         traced = traced;
-        rest = text_of (end_lines (state_after g (records_of h)) e);
-        stops = at_end (ran.Done e) e d.is_end refl;
-        prints = prints_same k Done a b _ _ (ap (λ (t : List ℕ). text ++ t) (end_text g h before passes e m plan ls d)) p;
+        rest = text_of (end_lines (state_after g rs) e);
+        stops = at_end (ran.Done e) e (ends g rs before e m plan ls d) refl;
+        prints = prints_same k Done a b _ _ (ap (λ (t : List ℕ). text ++ t) (end_text g rs before passes e m plan ls d)) p;
       }
 
--- ---- where no instruction was told, there are items that the machine stands for
+-- ---- where no instruction was told, there are records that the machine stands for
 
-pub items_on : (g : Given) (h : List Item) (before m : Machine) (plan : Plan) (old new : List Line)
-    → Advances g h turns.On before m plan old new
-    → (on : List Item) × StandsFor g on None m × Follows g on plan
-items_on g h before m plan old new (inl moves) = (h, moves.stands, moves.follows)
-items_on g h before m plan old new (inr d) = (Step d.done ∷ h, d.stands, d.follows)
+pub records_on : (g : Given) (rs : List Record) (before m : Machine) (plan : Plan) (old new : List Line)
+    → Advances g (steps rs) turns.On before m plan old new
+    → (on : List Record) × StandsFor g (steps on) None m × Follows g (steps on) plan
+records_on g rs before m plan old new (inl moves) = (rs, moves.stands, moves.follows)
+records_on g rs before m plan old new (inr d) = (d.done ∷ rs, d.stands, d.follows)
 
 -- ---- a relation that allows one answer at each address
 
@@ -267,7 +272,7 @@ module _ (allows : ℕ → Bool → Type 0) (passes : ℕ → Bool) (agree : Ans
 
   module _ {K : Type 0} (k : Account K) (g : Given) where
     -- the text that was printed goes on to that of a whole run
-    whole_run : (answer : Ran) (rs : List Record) (text rest : List ℕ) (a b : K) → IsPast g rs → text ≡ traced_lines passes rs → StopsWith g rs answer rest
+    whole_run : (answer : Ran) (rs : List Record) (text rest : List ℕ) (a b : K) → IsLatePast g rs → text ≡ traced_lines passes rs → StopsWith g rs answer rest
         → Prints (printed_of answer) k a b (text ++ rest) → RunsAs (traced_text passes) answer g k a b
     whole_run answer rs text rest a b past same (at_end _ e ends tells) p = record {
       records = rs;
@@ -277,7 +282,7 @@ module _ (allows : ℕ → Bool → Type 0) (passes : ℕ → Bool) (agree : Ans
       tells = tells;
     }
     whole_run answer rs text rest a b past same (before_end _ cut) p =
-        let on = run_goes_on g rs past in
+        let on = late_goes_on g rs past in
         let l = later_lines on.0 rs in
         let last = text_of (end_lines (state_after g (on.0 ++ rs)) on.1) in
         let goes_on : (text ++ []) ++ (l.0 ++ last) ≡ traced_lines passes (on.0 ++ rs) ++ last =

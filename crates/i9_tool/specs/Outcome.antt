@@ -9,10 +9,11 @@ use Rattle.i9_model.specs.ScheduleText.{IsSchedule, IsRefused as IsRefusedSchedu
 use Rattle.i9_model.specs.declared.event.Timed.{Timed}
 use Rattle.i9_model.specs.Given.{Given, given}
 use Rattle.i9_model.specs.declared.run.End.{End}
-use Rattle.i9_model.specs.Run.{Record, IsRun, state_after, reached_after}
+use Rattle.i9_model.specs.Run.{Record, state_after, reached_after}
 use Rattle.i9_model.specs.PrintedText.{end_code}
 use Rattle.i9_model.specs.Image.{Part, pairs_of}
 use Rattle.i9_model.specs.declared.layout.TheConstants.{MAX_LENGTH}
+use Rattle.i9_course.specs.LateRun.{IsLateRun}
 use Rattle.i9_hex.specs.Writing.{hex_text}
 use Rattle.i9_asm.specs.Laws.{IsAssembly, IsRefusedSource}
 use Rattle.i9_asm.specs.Listing.{IsListing}
@@ -34,9 +35,11 @@ pub data Reads (told : Option (List ℕ)) (rose : Type 0) (gives : List ℕ → 
   unread : rose → Reads told rose gives 5 read_line
   fetched : (file : List ℕ) (code : ℕ) (text : List ℕ) → IsFile told file → gives file code text → Reads told rose gives code text
 
--- For an image that was accepted, with these events: its run is printed to its end, and what is traced of it.
+-- For an image that was accepted, with these events: its run is printed to its end, and what is traced of it. The results
+-- of this run land late: it is the run of the machine that does one instruction after the other, but that an arithmetic
+-- fault which the next instruction overtakes ends it, named as imprecise.
 pub data RunGives (sets : Option ℕ) (limit : ℕ) (traced : Option Range) (pairs : List (ℕ × ℕ)) (events : List Timed) : ℕ → List ℕ → Type 0 where
-  runs : (records : List Record) (end : End) → IsRun (given pairs events limit sets) records end
+  runs : (records : List Record) (end : End) → IsLateRun (given pairs events limit sets) records end
       → RunGives sets limit traced pairs events (end_code end) (printed_text traced (given pairs events limit sets) records end)
 
 -- For a schedule that was fetched: it is too long, it is refused for its first line at fault, or a run has its events.
@@ -77,7 +80,7 @@ abbrev pub job_line : ℕ → Given → List Record → End → List ℕ
 job_line number g records end = generated_line number (state_after g records).count (length (reached_after records)) end
 
 -- For the source and the schedule of the job of a number: one of them is refused for its first line at fault, or the run
--- of both is made to its end, and a line says what it comes to.
+-- of both, whose results land late, is made to its end, and a line says what it comes to.
 pub data JobGives (number : ℕ) (sets : Option ℕ) (source schedule : List ℕ) : ℕ → List ℕ → Type 0 where
   job_source_refused : (fault : ℕ × ℕ) → IsRefusedSource (lines_of source) fault
       → JobGives number sets source schedule 3 (refused_line source_word fault)
@@ -86,7 +89,7 @@ pub data JobGives (number : ℕ) (sets : Option ℕ) (source schedule : List ℕ
       → JobGives number sets source schedule 3 (refused_line schedule_word fault)
   job_runs : (image : List Part) (events : List Timed) (records : List Record) (end : End)
       → IsAssembly (lines_of source) image → IsSchedule (lines_of schedule) events
-      → IsRun (given (pairs_of image) events MAX_LENGTH sets) records end
+      → IsLateRun (given (pairs_of image) events MAX_LENGTH sets) records end
       → JobGives number sets source schedule (end_code end) (job_line number (given (pairs_of image) events MAX_LENGTH sets) records end)
 
 -- for a number and so many sets

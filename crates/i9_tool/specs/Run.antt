@@ -1,8 +1,9 @@
 -- What running an image does to a sink, and what a run comes to.
-use Rattle.std.specs.Prelude.{◌≡◌, ℕ, Bool, List, [], ◌∷◌, ◌++◌, length, flat_map, Option}
+use Rattle.std.specs.Prelude.{◌≡◌, ℕ, Bool, List, [], ◌∷◌, ◌++◌, length, flat_map, Option, Some}
 use Rattle.i9_model.specs.declared.run.End.{End}
-use Rattle.i9_model.specs.Run.{Given, Record, Ends, IsPast, IsRun, counts_of, next, state_after, reached_after}
+use Rattle.i9_model.specs.Run.{Given, Record, counts_of, state_after, reached_after}
 use Rattle.i9_model.specs.PrintedText.{text_of, record_lines, end_lines}
+use Rattle.i9_course.specs.LateRun.{IsLatePast, IsLateRun, finish_after}
 use Rattle.i9_machine.specs.declared.line.Line.{Line}
 use Rattle.i9_machine.specs.declared.line.Turn.{Turn}
 use Rattle.i9_machine.specs.declared.line.Turn.TheVariants as turns
@@ -27,11 +28,11 @@ TellsEnd (ran.Done end) f = end ≡ f
 TellsEnd ran.Write f = Unit {0}
 TellsEnd ran.Memory f = Unit {0}
 
--- A text of the run of what is given was printed on a sink of this type, or a front of it.
+-- A text of the run of what is given, whose results land late, was printed on a sink of this type, or a front of it.
 pub record RunsAs {K : Type 0} (text : Given → List Record → End → List ℕ) (answer : Ran) (g : Given) (k : Account K) (old new : K) : Type 0 where
   pub records : List Record
   pub end : End
-  pub run : IsRun g records end
+  pub run : IsLateRun g records end
   pub prints : Prints (printed_of answer) k old new (text g records end)
   pub tells : TellsEnd answer end
 
@@ -56,7 +57,7 @@ IsCut ran.Memory = Unit {0}
 
 -- what came behind the text of records: that of the end, where it was reached, and nothing where printing stopped
 pub data StopsWith (g : Given) (rs : List Record) : Ran → List ℕ → Type 0 where
-  at_end : (answer : Ran) (end : End) → next g rs ≡ Ends end → TellsEnd answer end
+  at_end : (answer : Ran) (end : End) → finish_after g rs ≡ Some end → TellsEnd answer end
       → StopsWith g rs answer (text_of (end_lines (state_after g rs) end))
   before_end : (answer : Ran) → IsCut answer → StopsWith g rs answer []
 
@@ -64,7 +65,7 @@ pub data StopsWith (g : Given) (rs : List Record) : Ran → List ℕ → Type 0 
 -- all was printed, they are all, and the end is behind them.
 pub record TracesBy {K : Type 0} (answer : Ran) (allows : ℕ → Bool → Type 0) (g : Given) (k : Account K) (old new : K) : Type 0 where
   pub records : List Record
-  pub past : IsPast g records
+  pub past : IsLatePast g records
   pub text : List ℕ
   pub traced : TracedBy allows records text
   pub rest : List ℕ
@@ -95,9 +96,9 @@ pub record PrintsBy {K : Type 0} (answer : Printed) (allows : ℕ → Bool → T
   pub allowed : AllowsTurn allows turn passes
   pub prints : Prints answer k old new (text passes)
 
--- The run of what is given comes to so many instructions and so many events, and to this end.
+-- The run of what is given, whose results land late, comes to so many instructions and so many events, and to this end.
 pub record Counts (counted : Counted) (g : Given) : Type 0 where
   pub records : List Record
-  pub run : IsRun g records counted.end
+  pub run : IsLateRun g records counted.end
   pub count : counted.count ≡ (state_after g records).count
   pub events : counted.events ≡ length (reached_after records)

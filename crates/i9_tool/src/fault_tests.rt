@@ -151,13 +151,11 @@ run 2
 #l 0=3001 1=3090
 #end limit
 status 0
-== The fault may be imprecise.
+== The next instruction is issued before the fault is known.
         divi  0, 7, g4
+        addo  1, 2, g5
 run 5
-#point 0 end 00001000 00000000 001F2002
-#g 15=3000
-#l 1=3040
-#end unbuilt 00001000
+#end imprecise 00001000
 status 4
 -- Faults by an entry whose first word asks for a system procedure, where the second is not 27F.
         .org  ac_image

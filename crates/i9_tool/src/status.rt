@@ -29,6 +29,6 @@ pub(crate) fn code_of_end(end: End) -> u8
 {
     match end {
         End::Exit(_) | End::Limit => 0,
-        End::Hazard(_) | End::Dead(_, _) | End::Unbuilt(_) => 4,
+        End::Hazard(_) | End::Dead(_, _) | End::Imprecise(_) => 4,
     }
 }

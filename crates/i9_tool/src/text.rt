@@ -144,7 +144,7 @@ fn end_line(alloc: Global, end: End) -> Result<Vec<u8>, AllocError>
         End::Limit => Vec::from_slice(alloc, b"#end limit\n"),
         End::Hazard(address) => words_line(alloc, b"#end hazard", &[address]),
         End::Dead(code, address) => dead_line(alloc, code, address),
-        End::Unbuilt(address) => words_line(alloc, b"#end unbuilt", &[address]),
+        End::Imprecise(address) => words_line(alloc, b"#end imprecise", &[address]),
     }
 }
 

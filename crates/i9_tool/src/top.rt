@@ -316,8 +316,9 @@ fn work<F: Files, K: Sink>(alloc: Global, words: &Vec<String>, files: &mut F, ou
 
 /// Does what the words ask for, and answers a status: 0 where a run exited or reached its length, and
 /// where a source was assembled or an image listed; 1 where the words are in no form; 2 where the image was refused, or
-/// is too long; 3 where the schedule or the source was; 4 where the run ended early; 5 where a file was
-/// not read; 6 where a write failed; 7 where memory was refused. `Outcomes` says which status goes with which text.
+/// is too long; 3 where the schedule or the source was; 4 where the run ended early, as it does at an arithmetic fault
+/// that the next instruction overtakes; 5 where a file was not read; 6 where a write failed; 7 where memory was refused.
+/// `Outcomes` says which status goes with which text.
 pub fn i960<F: Files, K: Sink>(
     alloc: Global,
     words: &Vec<String>,

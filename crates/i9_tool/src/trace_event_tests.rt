@@ -309,6 +309,7 @@ status 0
         mov   1, r5
         modpc 0, r4, r5
         divo  0, r4, g0
+        addo  1, 2, g1
 run 9
 #point 6 fault 00001100 00000000 001F2002
 #g 15=3050

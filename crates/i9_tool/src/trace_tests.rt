@@ -165,15 +165,14 @@ trace 2 1000 1004
 #l 0=3001 1=3090
 #end limit
 status 0
-== A zero divisor, where the fault may be imprecise: the instruction is not issued.
+== An instruction whose fault is imprecise has its line, and the one that overtakes it has none.
         divi  0, 7, g4
+        addo  1, 2, g5
 trace 5 0 ffffffff
-#point 0 end 00001000 00000000 001F2002
-#g 15=3000
-#l 1=3040
-#end unbuilt 00001000
+#t 0 00001000 divi 0, 7, g4
+#end imprecise 00001000
 status 4
--- It faults, by an entry that is dead.
+-- The fault is precise, by an entry that is dead.
         .org  ac_image
         .word 0x8000            # no imprecise faults
         .org  arithmetic_faults

@@ -1,5 +1,5 @@
 //! A step done, or an end answered, once there is room for what it needs.
-ghost use Rattle.std.specs.Prelude.{◌≡◌, ◌+◌, ◌-◌, ◌<◌, ◌≤◌, ◌^◌, ◌++◌, None, Some, IfSome, IfOk, OnOk, OnErr, vec_len, vec_capacity, length, nat_lt, true};
+ghost use Rattle.std.specs.Prelude.{◌≡◌, [], ◌∷◌, ◌+◌, ◌-◌, ◌<◌, ◌≤◌, ◌^◌, ◌++◌, None, Some, IfSome, IfOk, OnOk, OnErr, vec_len, vec_capacity, length, nat_lt, true};
 ghost use Rattle.std.specs.Option.{option_copied, option_map};
 ghost use Rattle.i9_model.specs.State.{State};
 ghost use Rattle.i9_model.specs.Memory.{console_byte};
@@ -7,7 +7,8 @@ ghost use Rattle.i9_model.specs.Free.{IsFree};
 ghost use Rattle.i9_model.specs.Alike.{AreAlike};
 ghost use Rattle.i9_model.specs.Step.{moved, acted, counted};
 ghost use Rattle.i9_model.specs.Run.{Ends};
-ghost use Rattle.i9_model.specs.PrintedText.{view_of, out_lines, point_lines, last_lines, overlays};
+ghost use Rattle.i9_model.specs.PrintedText.{Drained, Last, view_of, out_lines, point_lines, last_lines, overlays};
+ghost use Rattle.i9_course.specs.LateRun.{is_imprecise};
 ghost use Rattle.i9_processor.specs.Effect.{action_in, move_in, control_in, AreRegisters, AreMade, CanControl, CanMove, CanTake, HasSpaceFor, cache_through, size_with, has_writes, is_restart};
 ghost use Rattle.i9_processor.specs.State.{state_of, cache_of, size_of};
 ghost use Rattle.i9_model.specs.Events.{IsInRange};
@@ -27,23 +28,6 @@ use i9_model::{End, Event, Need, Point, View};
 use i9_processor::{Control, Effect, Landing, Processor};
 use i9_schedule::{Schedule, copied};
 
-/// Adds the end point and the line of the end.
-fn put_end(e: End, view: View, out: &mut Vec<Line>) -> Result<(), NoMemory>
-    ensures ok { OnOk result (AddsLines out.old.items out.new.items (last_lines view e)) }
-    ensures err { OnErr result (out.new.items ≡ out.old.items) }
-    ensures lacking { OnErr result (vec_capacity out.old < vec_len out.old + 2) }
-{
-    match out.reserve(2) {
-        Ok(()) => {
-            let kind = Point::End;
-            put_line(out, Line::Point { kind, view });
-            put_line(out, Line::End(e));
-            Ok(())
-        }
-        Err(_) => Err(NoMemory),
-    }
-}
-
 /// Makes room for so many lines.
 fn reserve_lines(lines: usize, out: &mut Vec<Line>) -> Result<(), NoMemory>
     ensures items { out.new.items ≡ out.old.items }
@@ -57,6 +41,53 @@ fn reserve_lines(lines: usize, out: &mut Vec<Line>) -> Result<(), NoMemory>
     match out.reserve(lines) {
         Ok(()) => Ok(()),
         Err(_) => Err(NoMemory),
+    }
+}
+
+/// Whether an end is that of an imprecise fault.
+fn is_imprecise(e: End) -> bool
+    ensures { result ≡ is_imprecise e }
+{
+    match e {
+        End::Imprecise(_) => true,
+        End::Exit(_) | End::Limit | End::Hazard(_) | End::Dead(_, _) => false,
+    }
+}
+
+/// Adds the line of an end alone.
+fn put_bare(e: End, out: &mut Vec<Line>) -> Result<(), NoMemory>
+    ensures ok { OnOk result (AddsLines out.old.items out.new.items (Last e ∷ [])) }
+    ensures err { OnErr result (out.new.items ≡ out.old.items) }
+    ensures lacking { OnErr result (vec_capacity out.old < vec_len out.old + 1) }
+{
+    reserve_lines(1, out)?;
+    put_line(out, Line::End(e));
+    Ok(())
+}
+
+/// Adds the end point and the line of the end.
+fn put_drained(e: End, view: View, out: &mut Vec<Line>) -> Result<(), NoMemory>
+    ensures ok { OnOk result (AddsLines out.old.items out.new.items (Drained Point.End view ∷ Last e ∷ [])) }
+    ensures err { OnErr result (out.new.items ≡ out.old.items) }
+    ensures lacking { OnErr result (vec_capacity out.old < vec_len out.old + 2) }
+{
+    reserve_lines(2, out)?;
+    let kind = Point::End;
+    put_line(out, Line::Point { kind, view });
+    put_line(out, Line::End(e));
+    Ok(())
+}
+
+/// Adds the lines of an end: before an imprecise fault there is no end point.
+fn put_end(e: End, view: View, out: &mut Vec<Line>) -> Result<(), NoMemory>
+    ensures ok { OnOk result (AddsLines out.old.items out.new.items (last_lines view e)) }
+    ensures err { OnErr result (out.new.items ≡ out.old.items) }
+    ensures lacking { OnErr result (vec_capacity out.old < vec_len out.old + length (last_lines view e)) }
+{
+    if is_imprecise(e) {
+        put_bare(e, out)
+    } else {
+        put_drained(e, view, out)
     }
 }
 
@@ -167,19 +198,16 @@ fn go_on(step: &Step, plan: &mut Schedule)
 
 impl Machine {
     ghost use Rattle.i9_machine.specs.StandsFor.{LeavesFewer};
-    ghost use Rattle.i9_machine.specs.Step.{IsStep, IsSame, Steps, Issues, HasRoom, next_for, steps_left};
+    ghost use Rattle.i9_machine.specs.Step.{IsStep, IsSame, Steps, Finishes, Issues, HasRoom, next_for, steps_left};
     ghost use Rattle.i9_machine.specs.Doing.{lines_of, line_count, asks_room, HasRoomForStep, IsReady, action_for, state_behind};
     ghost use Rattle.i9_machine.specs.Issuing.{most_turns, IsIssued, CanActPlaced};
-    ghost use Rattle.i9_machine.specs.StandsFor.{IsNow, IsUnderWay};
+    ghost use Rattle.i9_machine.specs.StandsFor.{HasCome};
 
     /// Answers an end, once its lines are written.
-    pub(super) fn finish(&mut self, e: End, plan: &Schedule, out: &mut Vec<Line>) -> Turn
+    pub(super) fn answer_end(&mut self, e: End, out: &mut Vec<Line>) -> Turn
         requires running { self.old.ended ≡ None }
-        requires is_end { next_for self.old plan.now ≡ Ends e }
-        ensures steps { Steps self.old result self.new plan.now plan.now out.old.items out.new.items }
-        ensures lacking { result ≡ Turn.Memory
-            → HasRoom self.old (vec_capacity out.old - vec_len out.old) (next_for self.old plan.now) → ⊥ }
-        ensures fewer { LeavesFewer result (steps_left self.old plan.now) (steps_left self.new plan.now) }
+        requires none { self.old.kept ≡ None }
+        ensures { Finishes self.old e (vec_capacity out.old - vec_len out.old) result self.new out.old.items out.new.items }
     {
         match put_end(e, self.processor.view(), out) {
             Ok(()) => {
@@ -211,22 +239,23 @@ impl Machine {
     fn make_room(
         &mut self,
         step: &Step,
-        effect: &Effect,
         event: Option<&Event>,
         out: &mut Vec<Line>,
     ) -> Result<Option<Sets>, NoMemory>
         ensures same { IsSame self.old self.new }
         ensures ended { self.new.ended ≡ self.old.ended }
+        ensures kept { self.new.kept ≡ self.old.kept }
+        ensures effect { self.new.effect ≡ self.old.effect }
         ensures items { out.new.items ≡ out.old.items }
-        ensures space { OnOk result (HasSpaceFor self.new.processor effect.now) }
-        ensures lines { OnOk result (vec_len out.new + line_count effect.now step.now (option_copied event.entry) ≤ vec_capacity out.new) }
-        ensures made { IfOk result (AreMade self.old.sets (state_of self.old.processor).memory effect.now.control) }
-        ensures needed { OnErr result (asks_room (state_of self.old.processor) effect.now step.now (option_copied event.entry) ≡ true) }
-        ensures lacking { OnErr result (HasRoomForStep self.old (vec_capacity out.old - vec_len out.old) effect.now step.now (option_copied event.entry) → ⊥) }
+        ensures space { OnOk result (HasSpaceFor self.new.processor self.new.effect) }
+        ensures lines { OnOk result (vec_len out.new + line_count self.new.effect step.now (option_copied event.entry) ≤ vec_capacity out.new) }
+        ensures made { IfOk result (AreMade self.old.sets (state_of self.old.processor).memory self.new.effect.control) }
+        ensures needed { OnErr result (asks_room (state_of self.old.processor) self.old.effect step.now (option_copied event.entry) ≡ true) }
+        ensures lacking { OnErr result (HasRoomForStep self.old (vec_capacity out.old - vec_len out.old) self.old.effect step.now (option_copied event.entry) → ⊥) }
     {
-        let sets = self.make_sets(effect.control)?;
-        self.processor.reserve(effect)?;
-        reserve_lines(step.line_count(effect, event), out)?;
+        let sets = self.make_sets(self.effect.control)?;
+        self.processor.reserve(&self.effect)?;
+        reserve_lines(step.line_count(&self.effect, event), out)?;
         Ok(sets)
     }
 
@@ -245,7 +274,6 @@ impl Machine {
     fn act(
         &mut self,
         step: &Step,
-        effect: &Effect,
         event: Option<&Event>,
         sets: Option<Sets>,
         out: &mut Vec<Line>,
@@ -253,27 +281,28 @@ impl Machine {
         requires cost { HasCost step.now.need }
         requires turns { step.now.need.cost ≤ most_turns }
         requires early { IsEarly self.old.board (waiting_until self.old.floor step.now.need) }
-        requires ready { IsReady (state_of self.old.processor) self.old.length effect.now step.now }
-        requires space { HasSpaceFor self.old.processor effect.now }
-        requires made { CanTake (move_in (state_of self.old.processor) effect.now.frames) sets }
-        requires covered { IsCovered step.now.need.writes (state_of self.old.processor) (action_for self.old effect.now) }
-        requires acts { CanActPlaced self.old step.now.need effect.now }
-        requires lines { vec_len out.old + line_count effect.now step.now (option_copied event) ≤ vec_capacity out.old }
+        requires ready { IsReady (state_of self.old.processor) self.old.length self.old.effect step.now }
+        requires space { HasSpaceFor self.old.processor self.old.effect }
+        requires made { CanTake (move_in (state_of self.old.processor) self.old.effect.frames) sets }
+        requires covered { IsCovered step.now.need.writes (state_of self.old.processor) (action_for self.old self.old.effect) }
+        requires acts { CanActPlaced self.old step.now.need self.old.effect }
+        requires lines { vec_len out.old + line_count self.old.effect step.now (option_copied event) ≤ vec_capacity out.old }
         requires ranges { IfSome event (λ e. IsInRange e.now) }
-        ensures state { AreAlike (state_behind self.old effect.now step.now) (state_of self.new.processor) }
+        ensures state { AreAlike (state_behind self.old self.old.effect step.now) (state_of self.new.processor) }
         ensures cache { cache_of self.new.processor
-            ≡ cache_through self.old.processor (action_for self.old effect.now) self.new.processor }
+            ≡ cache_through self.old.processor (action_for self.old self.old.effect) self.new.processor }
         ensures size { size_of self.new.processor ≡ size_with sets (size_of self.old.processor) }
         ensures due { self.new.due ≡ step.now.due }
         ensures length { self.new.length ≡ self.old.length }
         ensures sets { self.new.sets ≡ self.old.sets }
         ensures ended { self.new.ended ≡ self.old.ended }
+        ensures kept { self.new.kept ≡ self.old.kept }
         ensures answer { result ≡ step.now.answer }
         ensures count { (state_of self.new.processor).count ≡ (state_of self.old.processor).count + step.now.counts }
-        ensures issued { IsIssued self.old step.now.need (action_for self.old effect.now) self.new }
+        ensures issued { IsIssued self.old step.now.need (action_for self.old self.old.effect) self.new }
         ensures lines { AddsLines out.old.items out.new.items
-            (lines_of effect.now step.now (option_copied event.entry) (state_of self.old.processor)
-            (state_behind self.old effect.now step.now)) }
+            (lines_of self.old.effect step.now (option_copied event.entry) (state_of self.old.processor)
+            (state_behind self.old self.old.effect step.now)) }
     {
         let need = self.marked(&step.need);
         let placed = self.board.place(&need);
@@ -284,25 +313,20 @@ impl Machine {
             request: need.request,
         };
         put_event(event, &self.processor, out);
-        self.processor.apply(effect, &landing, step.counts, sets);
+        self.processor
+            .apply(&self.effect, &landing, step.counts, sets);
         self.due = step.due;
-        put_out(effect.console_byte(), out);
+        put_out(self.effect.console_byte(), out);
         put_point(step.point, self.processor.view(), out);
         step.answer
     }
 
     /// Makes room for a step and does it. Where it reaches an event, the schedule goes on behind that.
-    pub(super) fn perform(
-        &mut self,
-        step: &Step,
-        effect: &Effect,
-        plan: &mut Schedule,
-        out: &mut Vec<Line>,
-    ) -> Turn
+    pub(super) fn perform(&mut self, step: &Step, plan: &mut Schedule, out: &mut Vec<Line>) -> Turn
         requires running { self.old.ended ≡ None }
-        requires step { IsStep self.old plan.old step.now effect.now }
-        requires stands { IsUnderWay self.old plan.old }
-        requires now { IsNow self.old plan.old }
+        requires step { IsStep self.old plan.old step.now self.old.effect }
+        requires come { HasCome self.old plan.old }
+        requires none { self.old.kept ≡ None }
         ensures steps { Steps self.old result self.new plan.old plan.new out.old.items out.new.items }
         ensures issues { Issues self.old result self.new plan.old }
         ensures lacking { result ≡ Turn.Memory
@@ -310,9 +334,9 @@ impl Machine {
         ensures fewer { LeavesFewer result (steps_left self.old plan.old) (steps_left self.new plan.new) }
     {
         let event = step.event(plan);
-        match self.make_room(step, effect, event, out) {
+        match self.make_room(step, event, out) {
             Ok(sets) => {
-                let answer = self.act(step, effect, event, sets, out);
+                let answer = self.act(step, event, sets, out);
                 go_on(step, plan);
                 answer
             }

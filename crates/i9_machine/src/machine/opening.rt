@@ -1,6 +1,8 @@
 //! What comes next for the machine while something is open.
 ghost use Rattle.std.specs.Prelude.{◌≡◌, ◌<◌, None, Ok, true, false, IfSome, IsNone};
 ghost use Rattle.i9_model.specs.Before.{choice_in};
+ghost use Rattle.i9_model.specs.Standing.{stands_at};
+ghost use Rattle.i9_plan.specs.Open.{WaitsForAll};
 ghost use Rattle.i9_processor.specs.State.{state_of};
 ghost use Rattle.i9_machine.specs.Opening.{IsFreeToIssue, NextWaits};
 
@@ -8,13 +10,14 @@ use super::Machine;
 use super::planning::standing;
 use crate::step::Step;
 use i9_isa::word_count;
-use i9_model::Due;
-use i9_plan::{Memo, Open, need_faulted, plan_open};
-use i9_processor::Effect;
+use i9_model::{Due, Need};
+use i9_plan::{Open, need_done, need_faulted, plan_open};
 use i9_schedule::Schedule;
 
 impl Machine {
+    ghost use Rattle.i9_machine.specs.Issuing.{IsLike};
     ghost use Rattle.i9_machine.specs.Step.{IsStep, event_for, next_for};
+    ghost use Rattle.i9_machine.specs.Overtaking.{IsNeedAhead};
 
     /// Whether nothing is due, and the length is not reached.
     fn goes_on(&self, plan: &Schedule) -> bool
@@ -50,30 +53,44 @@ impl Machine {
     }
 
     /// The instruction that comes next, where it is no barrier; nothing where what comes next waits for all
-    /// that is open. Its effect is made in `effect`.
-    pub(super) fn open_step(
-        &self,
-        plan: &Schedule,
-        memo: &mut Memo,
-        effect: &mut Effect,
-    ) -> Option<Step>
-        ensures step { IfSome result (λ step. IsStep self.now plan.now step effect.new) }
-        ensures waits { IsNone result → NextWaits self.now plan.now }
+    /// that is open. Its effect is made in the machine.
+    pub(super) fn open_step(&mut self, plan: &Schedule) -> Option<Step>
+        ensures step { IfSome result (λ step. IsStep self.old plan.now step self.new.effect) }
+        ensures waits { IsNone result → NextWaits self.old plan.now }
+        ensures like { IsLike self.old self.new }
+        ensures kept { self.new.kept ≡ self.old.kept }
     {
         if !self.is_free(plan) {
             return None;
         }
-        match plan_open(&self.processor, memo, effect) {
+        match plan_open(&self.processor, &mut self.memo, &mut self.effect) {
             Open::Waits => None,
-            Open::Runs { words, inst } => self.does(words, &inst, plan, effect).unless_barrier(),
+            Open::Runs { words, inst } => self.does(words, &inst, plan).unless_barrier(),
             Open::Faults {
                 words,
                 inst,
                 number,
             } => {
                 let need = need_faulted(&self.processor, &inst, number);
-                self.faults(words, word_count(&inst), number, need, plan, effect)
+                self.faults(words, word_count(&inst), number, need, plan)
                     .unless_barrier()
+            }
+        }
+    }
+
+    /// What the instruction at the instruction address needs, as if no entry and no event stood before it;
+    /// nothing where it waits for all that is open. An effect is made in the machine.
+    pub(super) fn need_ahead(&mut self) -> Option<Need>
+        ensures need { IfSome result (λ need. IsNeedAhead self.old need) }
+        ensures waits { IsNone result → WaitsForAll (state_of self.old.processor) (stands_at (state_of self.old.processor)) }
+        ensures like { IsLike self.old self.new }
+        ensures kept { self.new.kept ≡ self.old.kept }
+    {
+        match plan_open(&self.processor, &mut self.memo, &mut self.effect) {
+            Open::Waits => None,
+            Open::Runs { inst, .. } => Some(need_done(&self.processor, &inst, &self.effect)),
+            Open::Faults { inst, number, .. } => {
+                Some(need_faulted(&self.processor, &inst, number))
             }
         }
     }

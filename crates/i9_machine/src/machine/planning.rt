@@ -26,8 +26,8 @@ use i9_isa::{Inst, Op, word_count};
 use i9_model::faults::TRACE;
 use i9_model::{Chosen, Due, End, Event, Need, Point, When};
 use i9_plan::{
-    Memo, Planned, Words, need_done, need_entered, need_faulted, need_reached, need_refused,
-    plan_entry, plan_event, plan_faulting, plan_interrupt, plan_next,
+    Planned, Words, need_done, need_entered, need_faulted, need_reached, need_refused, plan_entry,
+    plan_event, plan_faulting, plan_interrupt, plan_next,
 };
 use i9_processor::Effect;
 use i9_schedule::Schedule;
@@ -97,6 +97,7 @@ pub(super) fn standing(plan: &Schedule, count: u64) -> Option<&Event>
 }
 
 impl Machine {
+    ghost use Rattle.i9_machine.specs.Issuing.{IsLike};
     ghost use Rattle.i9_machine.specs.Step.{IsStep, IsNext, event_for, next_for};
 
     /// What is told of an instruction of these words.
@@ -129,50 +130,51 @@ impl Machine {
         }
     }
 
-    /// An instruction is done.
-    pub(super) fn does(&self, words: Words, inst: &Inst, plan: &Schedule, effect: &Effect) -> Step
+    /// An instruction is done, by the effect that was planned.
+    pub(super) fn does(&self, words: Words, inst: &Inst, plan: &Schedule) -> Step
         requires below { (state_of self.now.processor).count < self.now.length }
         requires is_next { next_for self.now plan.now ≡ Does (record_of (Instruction inst.now) (state_of self.now.processor)) }
         requires words { TellsWords (words_of inst.now) (state_of self.now.processor) words }
         requires valid { IsValid inst.now }
-        requires effect { IsEffect (state_of self.now.processor) (traced_action inst.now (state_of self.now.processor)) effect.now }
-        requires row { is_request_name inst.now.op ≡ true → IsInRow effect.now }
-        ensures { IsStep self.now plan.now result effect.now }
+        requires effect { IsEffect (state_of self.now.processor) (traced_action inst.now (state_of self.now.processor)) self.now.effect }
+        requires row { is_request_name inst.now.op ≡ true → IsInRow self.now.effect }
+        ensures { IsStep self.now plan.now result self.now.effect }
     {
         Step {
             reaches: false,
             point: point_by_name(inst.op),
             counts: 1,
-            due: self.due_by(effect),
+            due: self.due_by(&self.effect),
             answer: Turn::Issued(self.issued(words)),
-            need: need_done(&self.processor, inst, effect),
+            need: need_done(&self.processor, inst, &self.effect),
         }
     }
 
     /// An instruction of so many words, which needs this, faults, and the entry of its fault is due.
     pub(super) fn faults(
-        &self,
+        &mut self,
         words: Words,
         count: u32,
         number: (u8, u16),
         need: Need,
         plan: &Schedule,
-        effect: &mut Effect,
     ) -> Step
-        requires below { (state_of self.now.processor).count < self.now.length }
+        requires below { (state_of self.old.processor).count < self.old.length }
         requires is_next { (inst : Option Inst) × (count ≡ faulted_words inst)
-            × (next_for self.now plan.now ≡ Does (record_of (Faulted inst (fault_at (state_of self.now.processor) number)) (state_of self.now.processor)))
-            × ((n : ℕ) (c : Cache) → need ≡ need_of n c (state_of self.now.processor) (Faulted inst (fault_at (state_of self.now.processor) number))) }
+            × (next_for self.old plan.now ≡ Does (record_of (Faulted inst (fault_at (state_of self.old.processor) number)) (state_of self.old.processor)))
+            × ((n : ℕ) (c : Cache) → need ≡ need_of n c (state_of self.old.processor) (Faulted inst (fault_at (state_of self.old.processor) number))) }
         requires cost { need.cost ≤ most_turns }
-        requires words { TellsWords count (state_of self.now.processor) words }
-        ensures { IsStep self.now plan.now result effect.new }
+        requires words { TellsWords count (state_of self.old.processor) words }
+        ensures step { IsStep self.old plan.now result self.new.effect }
+        ensures like { IsLike self.old self.new }
+        ensures kept { self.new.kept ≡ self.old.kept }
     {
         let fault = Fault {
             kind: number.0,
             subtype: number.1,
             address: self.processor.ip(),
         };
-        plan_faulting(&self.processor, count, effect);
+        plan_faulting(&self.processor, count, &mut self.effect);
         Step {
             reaches: false,
             point: None,
@@ -184,49 +186,46 @@ impl Machine {
     }
 
     /// The next instruction, or the end that stands in its place.
-    fn next_instruction(
-        &self,
-        plan: &Schedule,
-        memo: &mut Memo,
-        effect: &mut Effect,
-    ) -> Result<Step, End>
-        requires below { (state_of self.now.processor).count < self.now.length }
-        requires free { self.now.due ≡ Due.Nothing }
-        requires chosen { choice_in (state_of self.now.processor) ≡ Ok None }
-        requires stands { event_for self.now plan.now ≡ None }
-        requires drained { IsDrained self.now.processor }
-        ensures { IsNext self.now plan.now result effect.new }
+    fn next_instruction(&mut self, plan: &Schedule) -> Result<Step, End>
+        requires below { (state_of self.old.processor).count < self.old.length }
+        requires free { self.old.due ≡ Due.Nothing }
+        requires chosen { choice_in (state_of self.old.processor) ≡ Ok None }
+        requires stands { event_for self.old plan.now ≡ None }
+        requires drained { IsDrained self.old.processor }
+        ensures next { IsNext self.old plan.now result self.new.effect }
+        ensures like { IsLike self.old self.new }
+        ensures kept { self.new.kept ≡ self.old.kept }
     {
-        let p = &self.processor;
-        match plan_next(p, memo, effect) {
+        match plan_next(&self.processor, &mut self.memo, &mut self.effect) {
             Planned::Meets(a) => Err(End::Hazard(a)),
-            Planned::NotBuilt => Err(End::Unbuilt(p.ip())),
             Planned::Refused { words, number } => {
-                let need = need_refused(p, number);
-                Ok(self.faults(words, 1, number, need, plan, effect))
+                let need = need_refused(&self.processor, number);
+                Ok(self.faults(words, 1, number, need, plan))
             }
             Planned::Faults {
                 words,
                 inst,
                 number,
             } => {
-                let need = need_faulted(p, &inst, number);
-                Ok(self.faults(words, word_count(&inst), number, need, plan, effect))
+                let need = need_faulted(&self.processor, &inst, number);
+                Ok(self.faults(words, word_count(&inst), number, need, plan))
             }
-            Planned::Runs { words, inst } => Ok(self.does(words, &inst, plan, effect)),
+            Planned::Runs { words, inst } => Ok(self.does(words, &inst, plan)),
         }
     }
 
     /// The entry of a fault, or the hazard or the dead entry of the fault table that ends the run.
-    fn entry(&self, fault: &Fault, plan: &Schedule, effect: &mut Effect) -> Result<Step, End>
-        requires due { self.now.due ≡ Due.Entry fault.now }
-        requires drained { IsDrained self.now.processor }
-        ensures { IsNext self.now plan.now result effect.new }
+    fn entry(&mut self, fault: &Fault, plan: &Schedule) -> Result<Step, End>
+        requires due { self.old.due ≡ Due.Entry fault.now }
+        requires drained { IsDrained self.old.processor }
+        ensures next { IsNext self.old plan.now result self.new.effect }
+        ensures like { IsLike self.old self.new }
+        ensures kept { self.new.kept ≡ self.old.kept }
     {
         match plan_entry(&self.processor, fault) {
             Ok(entry) => {
-                *effect = entry;
-                let need = need_entered(&self.processor, effect);
+                self.effect = entry;
+                let need = need_entered(&self.processor, &self.effect);
                 Ok(entered(Point::Fault, need))
             }
             Err(FaultStop::Hazard(a)) => Err(End::Hazard(a)),
@@ -235,17 +234,19 @@ impl Machine {
     }
 
     /// The entry of an interrupt that is chosen, or the hazard that ends the run.
-    fn interrupt(&self, choice: &Chosen, plan: &Schedule, effect: &mut Effect) -> Result<Step, End>
-        requires below { (state_of self.now.processor).count < self.now.length }
-        requires free { self.now.due ≡ Due.Nothing }
-        requires chosen { choice_in (state_of self.now.processor) ≡ Ok (Some choice.now) }
-        requires drained { IsDrained self.now.processor }
-        ensures { IsNext self.now plan.now result effect.new }
+    fn interrupt(&mut self, choice: &Chosen, plan: &Schedule) -> Result<Step, End>
+        requires below { (state_of self.old.processor).count < self.old.length }
+        requires free { self.old.due ≡ Due.Nothing }
+        requires chosen { choice_in (state_of self.old.processor) ≡ Ok (Some choice.now) }
+        requires drained { IsDrained self.old.processor }
+        ensures next { IsNext self.old plan.now result self.new.effect }
+        ensures like { IsLike self.old self.new }
+        ensures kept { self.new.kept ≡ self.old.kept }
     {
         match plan_interrupt(&self.processor, choice) {
             Ok(entry) => {
-                *effect = entry;
-                let need = need_entered(&self.processor, effect);
+                self.effect = entry;
+                let need = need_entered(&self.processor, &self.effect);
                 Ok(entered(Point::Int, need))
             }
             Err(a) => Err(End::Hazard(a)),
@@ -253,83 +254,76 @@ impl Machine {
     }
 
     /// An event is reached: it does something, or it meets a hazard, which ends the run.
-    fn reaches(&self, event: &Event, plan: &Schedule, effect: &mut Effect) -> Step
-        requires below { (state_of self.now.processor).count < self.now.length }
-        requires free { self.now.due ≡ Due.Nothing }
-        requires chosen { choice_in (state_of self.now.processor) ≡ Ok None }
-        requires stands { event_for self.now plan.now ≡ Some event.now }
+    fn reaches(&mut self, event: &Event, plan: &Schedule) -> Step
+        requires below { (state_of self.old.processor).count < self.old.length }
+        requires free { self.old.due ≡ Due.Nothing }
+        requires chosen { choice_in (state_of self.old.processor) ≡ Ok None }
+        requires stands { event_for self.old plan.now ≡ Some event.now }
         requires ranges { IsInRange event.now }
-        requires drained { IsDrained self.now.processor }
-        ensures { IsStep self.now plan.now result effect.new }
+        requires drained { IsDrained self.old.processor }
+        ensures step { IsStep self.old plan.now result self.new.effect }
+        ensures like { IsLike self.old self.new }
+        ensures kept { self.new.kept ≡ self.old.kept }
     {
         let need = need_reached(event);
         match plan_event(&self.processor, event) {
             Ok(planned) => {
-                *effect = planned;
+                self.effect = planned;
                 reached(Some(Point::Event), Due::Nothing, need)
             }
             Err(a) => {
-                effect.go(&self.processor, self.processor.ip());
+                self.effect.go(&self.processor, self.processor.ip());
                 reached(None, Due::End(End::Hazard(a)), need)
             }
         }
     }
 
     /// The event that stands there, where no interrupt is chosen, or else the next instruction.
-    fn event_or_instruction(
-        &self,
-        plan: &Schedule,
-        memo: &mut Memo,
-        effect: &mut Effect,
-    ) -> Result<Step, End>
-        requires below { (state_of self.now.processor).count < self.now.length }
-        requires free { self.now.due ≡ Due.Nothing }
-        requires chosen { choice_in (state_of self.now.processor) ≡ Ok None }
-        requires drained { IsDrained self.now.processor }
-        ensures { IsNext self.now plan.now result effect.new }
+    fn event_or_instruction(&mut self, plan: &Schedule) -> Result<Step, End>
+        requires below { (state_of self.old.processor).count < self.old.length }
+        requires free { self.old.due ≡ Due.Nothing }
+        requires chosen { choice_in (state_of self.old.processor) ≡ Ok None }
+        requires drained { IsDrained self.old.processor }
+        ensures next { IsNext self.old plan.now result self.new.effect }
+        ensures like { IsLike self.old self.new }
+        ensures kept { self.new.kept ≡ self.old.kept }
     {
         match standing(plan, self.processor.count()) {
-            Some(event) => Ok(self.reaches(event, plan, effect)),
-            None => self.next_instruction(plan, memo, effect),
+            Some(event) => Ok(self.reaches(event, plan)),
+            None => self.next_instruction(plan),
         }
     }
 
     /// What comes next where nothing is due and the length is not reached: the entry of an interrupt that is
     /// chosen, an event, or one instruction.
-    fn next_freely(
-        &self,
-        plan: &Schedule,
-        memo: &mut Memo,
-        effect: &mut Effect,
-    ) -> Result<Step, End>
-        requires below { (state_of self.now.processor).count < self.now.length }
-        requires free { self.now.due ≡ Due.Nothing }
-        requires drained { IsDrained self.now.processor }
-        ensures { IsNext self.now plan.now result effect.new }
+    fn next_freely(&mut self, plan: &Schedule) -> Result<Step, End>
+        requires below { (state_of self.old.processor).count < self.old.length }
+        requires free { self.old.due ≡ Due.Nothing }
+        requires drained { IsDrained self.old.processor }
+        ensures next { IsNext self.old plan.now result self.new.effect }
+        ensures like { IsLike self.old self.new }
+        ensures kept { self.new.kept ≡ self.old.kept }
     {
         match self.processor.choose() {
-            Ok(None) => self.event_or_instruction(plan, memo, effect),
-            Ok(Some(choice)) => self.interrupt(&choice, plan, effect),
+            Ok(None) => self.event_or_instruction(plan),
+            Ok(Some(choice)) => self.interrupt(&choice, plan),
             Err(a) => Err(End::Hazard(a)),
         }
     }
 
     /// What comes next where nothing is open: what is due, the end of the length, or what comes before or is
-    /// the next instruction. Its effect is made in `effect`.
-    pub(super) fn next_step(
-        &self,
-        plan: &Schedule,
-        memo: &mut Memo,
-        effect: &mut Effect,
-    ) -> Result<Step, End>
-        requires drained { IsDrained self.now.processor }
-        ensures { IsNext self.now plan.now result effect.new }
+    /// the next instruction. Its effect is made in the machine.
+    pub(super) fn next_step(&mut self, plan: &Schedule) -> Result<Step, End>
+        requires drained { IsDrained self.old.processor }
+        ensures next { IsNext self.old plan.now result self.new.effect }
+        ensures like { IsLike self.old self.new }
+        ensures kept { self.new.kept ≡ self.old.kept }
     {
-        match &self.due {
-            Due::End(e) => Err(*e),
-            Due::Entry(fault) => self.entry(fault, plan, effect),
+        match self.due {
+            Due::End(e) => Err(e),
+            Due::Entry(fault) => self.entry(&fault, plan),
             Due::Nothing if self.processor.count() == self.length => Err(End::Limit),
-            Due::Nothing => self.next_freely(plan, memo, effect),
+            Due::Nothing => self.next_freely(plan),
         }
     }
 }

@@ -1,5 +1,6 @@
-use Rattle.i9_course.proofs.LateRuns.{records_of-steps, late_past, late_first, late_run, none_late, none_run}
+use Rattle.i9_course.proofs.LateRuns.{records_of-steps, late_past, end_is_ahead, late_first, late_run, none_late, none_run}
 use Rattle.i9_course.proofs.Named.{imprecise_named}
+use Rattle.i9_course.proofs.PlainEnds.{run_plain}
 use Rattle.i9_course.proofs.late_laws.late_runs_are_runs.Goals as goal
 
 pub returns-clause-records : goal.returns-clause-records
@@ -8,11 +9,17 @@ returns-clause-records c = records_of-steps
 pub returns-clause-past : goal.returns-clause-past
 returns-clause-past c = late_past
 
+pub returns-clause-end : goal.returns-clause-end
+returns-clause-end c = end_is_ahead
+
 pub returns-clause-first : goal.returns-clause-first
 returns-clause-first c = late_first
 
 pub returns-clause-run : goal.returns-clause-run
 returns-clause-run c = late_run
+
+pub returns-clause-plain : goal.returns-clause-plain
+returns-clause-plain c = run_plain
 
 pub returns-clause-imprecise : goal.returns-clause-imprecise
 returns-clause-imprecise c = imprecise_named

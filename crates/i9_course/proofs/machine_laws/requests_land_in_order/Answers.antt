@@ -2,4 +2,4 @@ use Rattle.i9_course.proofs.Landed.{request_last}
 use Rattle.i9_course.proofs.machine_laws.requests_land_in_order.Goals as goal
 
 pub returns : goal.returns
-returns c g h r k lands precise is_next due request = request_last g h r k lands request
+returns c = request_last

@@ -3,7 +3,7 @@ use Rattle.std.specs.Prelude.{◌==◌}
 use Rattle.i9_model.specs.declared.faults.TheConstants.{ARITHMETIC}
 use Rattle.i9_processor.specs.State.{state_of}
 use Rattle.i9_plan.specs.declared.outcome.Outcome.TheVariants as outcomes
-use Rattle.i9_plan.proofs.Opened.{unread_waits, barrier_waits, outcome_stands, outcome_waits, neither_stops, no_barrier, runs_needs, faults_needs}
+use Rattle.i9_plan.proofs.Opened.{unread_waits, barrier_waits, outcome_stands, outcome_waits, no_barrier, runs_needs, faults_needs}
 use Rattle.i9_plan.proofs.open.plan_open.Goals as goal
 
 pub returns-in-Err-clause-stands : goal.returns-in-Err-clause-stands
@@ -38,9 +38,8 @@ returns-else-number-ne-ARITHMETIC-clause-stands c =
 
 pub returns-in-Meets-clause-stands : goal.returns-in-Meets-clause-stands
 returns-in-Meets-clause-stands c =
-    let o = c.outcome_open.result in
-    let stops = neither_stops o c.in-Meets.is in
-    outcome_waits (state_of c.args.p.now) c.in-Ok.fetched o c.in-Ok.ensures c.outcome_open.ensures.standing stops
+    let o = outcomes.Meets c.in-Meets.field-0 in
+    outcome_waits (state_of c.args.p.now) c.in-Ok.fetched o c.in-Ok.ensures c.in-Meets.ensures.standing tt
 
 pub returns-in-Runs-clause-needs : goal.returns-in-Runs-clause-needs
 returns-in-Runs-clause-needs c =

@@ -1,9 +1,4 @@
-use Rattle.std.proofs.Common.{Option, sym, ap, ◌∙◌, subst}
-use Rattle.std.specs.Prelude.{◌||◌}
-use Rattle.i9_isa.specs.Words.{bit}
-use Rattle.i9_model.specs.declared.arith.Arith.{Arith}
-use Rattle.i9_model.specs.declared.layout.TheConstants.{PRECISE_FAULTS_PLACE}
-use Rattle.i9_model.specs.Unbuilt.{is_traced}
+use Rattle.std.proofs.Common.{sym, ap, ◌∙◌, subst}
 use Rattle.i9_model.specs.Step.{Action}
 use Rattle.i9_processor.specs.Effect.{IsEffect}
 use Rattle.i9_processor.specs.State.{state_of}
@@ -15,7 +10,7 @@ returns-in-None-clause-standing c =
     let i = c.args.i.now in
     let s = state_of c.args.p.now in
     let d = c.answer-done.result in
-    sym (result_stands i s d c.requires.result c.answer-done.ensures.answer ∙ ap (λ (f : Option Arith). by_result i f (bit s.ac PRECISE_FAULTS_PLACE || is_traced s)) c.in-None.is)
+    sym (result_stands i s d c.requires.result c.answer-done.ensures.answer ∙ ap (by_result i) c.in-None.is)
 
 pub returns-in-None-clause-effect : goal.returns-in-None-clause-effect
 returns-in-None-clause-effect c =

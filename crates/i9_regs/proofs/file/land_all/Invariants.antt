@@ -1,12 +1,17 @@
-use Rattle.std.proofs.Common.{◌≡◌, ◌<◌, ◌≤◌, ℕ}
-use Rattle.i9_model.specs.Late.{landed}
-use Rattle.i9_regs.specs.File.{cell_in}
-use Rattle.i9_regs.specs.Plans.{IsPlannedFrom}
+use Rattle.std.proofs.Common.{◌≡◌, ℕ, ◌^◌, ◌<◌, length}
+use Rattle.std.specs.Int.{bit_at}
+use Rattle.i9_model.specs.Late.{resources, landed}
+use Rattle.i9_regs.specs.File.{cell_in, ArePlannedAmong}
 use Rattle.i9_regs.proofs.file.land_all.Given as goal
 
-abbrev pub invariant-loop-s : goal.invariant-loop-s
-invariant-loop-s l = record {
-  below : (k : ℕ) → k < l.s-index → cell_in l.slots k ≡ landed l.turn (cell_in l.fn.slots k);
-  above : (k : ℕ) → l.s-index ≤ k → cell_in l.slots k ≡ cell_in l.fn.slots k;
-  first : (k : ℕ) → k < l.s-index → IsPlannedFrom l.first (cell_in l.slots k).plan;
+abbrev pub invariant-due : goal.invariant-due
+invariant-due l = record {
+  size : length l.slots ≡ resources;
+  few : l.left < 2 ^ 33;
+  planned : ArePlannedAmong l.kept l.slots;
+  todo : (k : ℕ) → k < resources → bit_at l.left k ≡ 1 → cell_in l.slots k ≡ cell_in l.fn.slots k;
+  done : (k : ℕ) → k < resources → bit_at l.left k ≡ 0 → cell_in l.slots k ≡ landed l.turn (cell_in l.fn.slots k);
 }
+
+abbrev pub decreases-due : goal.decreases-due
+decreases-due l = l.left

@@ -1,10 +1,11 @@
-use Rattle.std.proofs.Common.{[], ◌∷◌, Some, refl, ap, ◌∙◌}
+use Rattle.std.proofs.Common.{List, [], ◌∷◌, length, Some, refl, ap, ◌∙◌}
 use Rattle.i9_model.specs.declared.view.View.{View}
 use Rattle.i9_model.specs.Given.{given}
+use Rattle.i9_model.specs.Run.{Record, state_after, reached_after}
 use Rattle.i9_model.specs.Image.{pairs_of}
-use Rattle.i9_course.specs.Course.{Step, records_of}
-use Rattle.i9_course.proofs.Orderly.{course_past}
-use Rattle.i9_tool.proofs.Running.{items_on}
+use Rattle.i9_course.specs.LateRun.{steps}
+use Rattle.i9_course.proofs.LateRuns.{records_of-steps, end_is_ahead}
+use Rattle.i9_tool.proofs.Running.{records_on}
 use Rattle.i9_tool.proofs.run.count_run.Goals as goal
 
 pub loop-end-init : goal.loop-end-init
@@ -14,23 +15,27 @@ pub loop-end-preserved : goal.loop-end-preserved
 loop-end-preserved c =
     let inv = c.loop-end.invariant in
     let what = given (pairs_of c.args.image.now) c.args.plan.now.events c.args.limit c.args.sets in
-    let step = rw c.clear.ensures.items at (c.in-Issued.ensures.next what inv.0 inv.1 inv.2) in
-    (Step step.done ∷ inv.0, step.stands, step.follows)
+    let step = rw c.clear.ensures.items at (c.in-Issued.ensures.next what (steps inv.0) inv.1 inv.2) in
+    (step.done ∷ inv.0, step.stands, step.follows)
 
 pub loop-end-preserved-in-On : goal.loop-end-preserved-in-On
 loop-end-preserved-in-On c =
     let inv = c.loop-end.invariant in
     let what = given (pairs_of c.args.image.now) c.args.plan.now.events c.args.limit c.args.sets in
-    items_on what inv.0 _ _ _ _ _ (c.in-On.ensures.next what inv.0 inv.1 inv.2)
+    records_on what inv.0 _ _ _ _ _ (c.in-On.ensures.next what (steps inv.0) inv.1 inv.2)
 
 pub returns-in-End : goal.returns-in-End
 returns-in-End c =
     let inv = c.loop-end.invariant in
     let what = given (pairs_of c.args.image.now) c.args.plan.now.events c.args.limit c.args.sets in
-    let step = rw c.clear.ensures.items at (c.in-End.ensures.next what inv.0 inv.1 inv.2) in
+    let step = rw c.clear.ensures.items at (c.in-End.ensures.next what (steps inv.0) inv.1 inv.2) in
     record {
-      records = records_of inv.0;
-      run = record { past = course_past what inv.0 inv.1.past; ends = step.is_end };
-      count = ap (λ (v : View). v.count) (c.view-count.ensures what inv.0 (Some c.in-End.end) step.stands);
-      events = c.place-events.ensures ∙ step.follows.place;
+      records = inv.0;
+      run = record { past = inv.1.past; ends = end_is_ahead what inv.0 ∙ step.is_end };
+      count =
+          ap (λ (v : View). v.count) (c.view-count.ensures what (steps inv.0) (Some c.in-End.end) step.stands)
+          ∙ ap (λ (rs : List Record). (state_after what rs).count) (records_of-steps inv.0);
+      events =
+          c.place-events.ensures ∙ step.follows.place
+          ∙ ap (λ (rs : List Record). length (reached_after rs)) (records_of-steps inv.0);
     }

@@ -1,7 +1,7 @@
 use Rattle.std.proofs.Common.{[], ◌∷◌, ◌++◌, refl}
 use Rattle.i9_model.specs.Given.{given}
 use Rattle.i9_model.specs.Image.{pairs_of}
-use Rattle.i9_course.specs.Course.{Step}
+use Rattle.i9_course.specs.LateRun.{steps}
 use Rattle.i9_machine.specs.declared.line.Turn.TheVariants as turns
 use Rattle.i9_tool.specs.declared.run.Ran.TheVariants as ran
 use Rattle.i9_tool.specs.Run.{traced_none, step_text}
@@ -20,7 +20,7 @@ returns-in-Write g c =
     let inv = c.loop-lines.invariant in
     let what = given (pairs_of c.args.image.now) c.args.plan.now.events c.args.limit c.args.sets in
     let lines = c.advance-turn.new.out.items in
-    let step = rw c.clear.ensures.items at (c.advance-turn.ensures.next what inv.0 inv.1 inv.2) in
+    let step = rw c.clear.ensures.items at (c.advance-turn.ensures.next what (steps inv.0) inv.1 inv.2) in
     let said = rw c.deref.ensures.value at c.in-Write.ensures in
     in_step _ what _ inv.0 c.loop-lines.machine ran.Write inv.3 said.passes c.advance-turn.result
     c.advance-turn.new.self c.advance-turn.new.plan lines _ _ tt inv.1.past step inv.4 said.allowed
@@ -31,7 +31,7 @@ returns-in-Memory g c =
     let inv = c.loop-lines.invariant in
     let what = given (pairs_of c.args.image.now) c.args.plan.now.events c.args.limit c.args.sets in
     let lines = c.advance-turn.new.out.items in
-    let step = rw c.clear.ensures.items at (c.advance-turn.ensures.next what inv.0 inv.1 inv.2) in
+    let step = rw c.clear.ensures.items at (c.advance-turn.ensures.next what (steps inv.0) inv.1 inv.2) in
     let said = rw c.deref.ensures.value at c.in-Memory.ensures in
     in_step _ what _ inv.0 c.loop-lines.machine ran.Memory inv.3 said.passes c.advance-turn.result
     c.advance-turn.new.self c.advance-turn.new.plan lines _ _ tt inv.1.past step inv.4 said.allowed
@@ -42,7 +42,7 @@ returns-in-Memory-turn g c =
     let inv = c.loop-lines.invariant in
     let what = given (pairs_of c.args.image.now) c.args.plan.now.events c.args.limit c.args.sets in
     let lines = c.advance-turn.new.out.items in
-    let step = rw c.in-Memory-turn.is at (rw c.clear.ensures.items at (c.advance-turn.ensures.next what inv.0 inv.1 inv.2)) in
+    let step = rw c.in-Memory-turn.is at (rw c.clear.ensures.items at (c.advance-turn.ensures.next what (steps inv.0) inv.1 inv.2)) in
     let said = rw c.in-Memory-turn.is at (rw c.deref.ensures.value at c.in-Done.ensures) in
     ran_refused _ what _ inv.0 c.loop-lines.machine inv.3 said.passes
     c.advance-turn.new.self c.advance-turn.new.plan lines _ _ inv.1.past step inv.4
@@ -53,7 +53,7 @@ returns-in-End g c =
     let inv = c.loop-lines.invariant in
     let what = given (pairs_of c.args.image.now) c.args.plan.now.events c.args.limit c.args.sets in
     let lines = c.advance-turn.new.out.items in
-    let step = rw c.in-End.is at (rw c.clear.ensures.items at (c.advance-turn.ensures.next what inv.0 inv.1 inv.2)) in
+    let step = rw c.in-End.is at (rw c.clear.ensures.items at (c.advance-turn.ensures.next what (steps inv.0) inv.1 inv.2)) in
     let said = rw c.in-End.is at (rw c.deref.ensures.value at c.in-Done.ensures) in
     ran_done _ what _ inv.0 c.loop-lines.machine inv.3 said.passes c.in-End.end
     c.advance-turn.new.self c.advance-turn.new.plan lines _ _ inv.1.past step inv.4
@@ -64,9 +64,9 @@ loop-lines-preserved g c =
     let inv = c.loop-lines.invariant in
     let what = given (pairs_of c.args.image.now) c.args.plan.now.events c.args.limit c.args.sets in
     let lines = c.advance-turn.new.out.items in
-    let step = rw c.in-Issued.is at (rw c.clear.ensures.items at (c.advance-turn.ensures.next what inv.0 inv.1 inv.2)) in
+    let step = rw c.in-Issued.is at (rw c.clear.ensures.items at (c.advance-turn.ensures.next what (steps inv.0) inv.1 inv.2)) in
     let said = rw c.in-Issued.is at (rw c.deref.ensures.value at c.in-Done.ensures) in (
-      Step step.done ∷ inv.0,
+      step.done ∷ inv.0,
       step.stands,
       step.follows,
       inv.3 ++ step_text said.passes (turns.Issued c.in-Issued.field-0) lines,
@@ -80,11 +80,11 @@ loop-lines-preserved-in-On g c =
     let inv = c.loop-lines.invariant in
     let what = given (pairs_of c.args.image.now) c.args.plan.now.events c.args.limit c.args.sets in
     let lines = c.advance-turn.new.out.items in
-    let step = rw c.in-On.is at (rw c.clear.ensures.items at (c.advance-turn.ensures.next what inv.0 inv.1 inv.2)) in
+    let step = rw c.in-On.is at (rw c.clear.ensures.items at (c.advance-turn.ensures.next what (steps inv.0) inv.1 inv.2)) in
     let said = rw c.in-On.is at (rw c.deref.ensures.value at c.in-Done.ensures) in
     let on = goes_on _ what inv.0 c.loop-lines.machine inv.3 said.passes
     c.advance-turn.new.self c.advance-turn.new.plan lines step inv.4 in (
-      on.items,
+      on.records,
       on.stands,
       on.follows,
       inv.3 ++ step_text said.passes turns.On lines,

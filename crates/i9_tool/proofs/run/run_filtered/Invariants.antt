@@ -1,7 +1,8 @@
 use Rattle.std.proofs.Common.{ℕ, List, None}
 use Rattle.i9_model.specs.Image.{pairs_of}
 use Rattle.i9_model.specs.Given.{given}
-use Rattle.i9_course.specs.Course.{Item, records_of}
+use Rattle.i9_model.specs.Run.{Record}
+use Rattle.i9_course.specs.LateRun.{steps}
 use Rattle.i9_machine.specs.StandsFor.{StandsFor, Follows}
 use Rattle.i9_machine.specs.Step.{steps_left}
 use Rattle.i9_tool.specs.declared.print.Printed.TheVariants.{Done}
@@ -11,9 +12,9 @@ use Rattle.i9_tool.proofs.run.run_filtered.Given as goal
 
 abbrev pub invariant-loop-lines : goal.invariant-loop-lines
 invariant-loop-lines g l =
-    (h : List Item) × StandsFor (given (pairs_of l.image) l.fn.plan.events l.limit l.fn.sets) h None l.machine
-    × Follows (given (pairs_of l.image) l.fn.plan.events l.limit l.fn.sets) h l.plan
-    × (text : List ℕ) × TracedBy (g.F.AddressTest.allows l.f) (records_of h) text
+    (rs : List Record) × StandsFor (given (pairs_of l.image) l.fn.plan.events l.limit l.fn.sets) (steps rs) None l.machine
+    × Follows (given (pairs_of l.image) l.fn.plan.events l.limit l.fn.sets) (steps rs) l.plan
+    × (text : List ℕ) × TracedBy (g.F.AddressTest.allows l.f) rs text
     × Prints Done (account g.K.Sink.told g.K.Sink.faults g.K.Sink.writes g.K.Sink.sure) l.fn.out l.out text
 
 abbrev pub decreases-loop-lines : goal.decreases-loop-lines

@@ -13,7 +13,7 @@ use Rattle.i9_machine.proofs.machine.Machine.act.Goals as goal
 pub returns-clause-lines : goal.returns-clause-lines
 returns-clause-lines c =
     let s = state_of c.args.self.now.processor in
-    let after = state_behind c.args.self.now c.args.effect.now c.args.step.now in
+    let after = state_behind c.args.self.now c.args.self.now.effect c.args.step.now in
     let event = reached_lines (option_copied c.args.event) s in
     let points = point_lines (c.args.step.now.point) after in
     let bytes = out_lines c.console_byte.result in
@@ -43,6 +43,6 @@ returns-clause-issued c =
       floor = refl;
       wait = refl;
       done = refl;
-      acts = subst (λ (n : Need). Acts m.processor (record { writes = n.writes; done = place.result.done; request = n.request }) (action_for m c.args.effect.now) c.apply.new.self) marked
+      acts = subst (λ (n : Need). Acts m.processor (record { writes = n.writes; done = place.result.done; request = n.request }) (action_for m c.args.self.now.effect) c.apply.new.self) marked
           (record { cells = acts.cells; waits = acts.waits; acts = acts.acts; still = acts.still });
     }

@@ -8,12 +8,12 @@ use Rattle.i9_machine.proofs.machine.Machine.advance.Goals as goal
 pub returns-in-None-clause-next : goal.returns-in-None-clause-next
 returns-in-None-clause-next c = λ g h stands follows.
     let m = c.args.self.now in
-    inl (moved g h m c.move_on.new.self c.args.plan.now c.args.out.now.items m.wait stands follows c.if-self.true stands.early c.move_on.ensures)
+    inl (moved g h m c.move_on.new.self c.args.plan.now c.args.out.now.items m.wait m.kept m.effect stands follows c.if-self.true stands.early stands.kept c.move_on.ensures)
 
 pub returns-in-None-clause-fewer : goal.returns-in-None-clause-fewer
 returns-in-None-clause-fewer c =
     let m = c.args.self.now in
-    move_fewer m c.move_on.new.self c.args.plan.now (same_left m c.move_on.new.self c.args.plan.now m.wait c.move_on.ensures) c.move_on.ensures.turn
+    move_fewer m c.move_on.new.self c.args.plan.now (same_left m c.move_on.new.self c.args.plan.now m.wait m.kept m.effect c.move_on.ensures) c.move_on.ensures.turn
     (under_way_early m c.args.plan.now (c.requires.stands c.in-None.is))
 
 pub returns-in-None-2-clause-next : goal.returns-in-None-2-clause-next

@@ -9,8 +9,8 @@ use Rattle.i9_machine.proofs.Opening.{no_request_in}
 use Rattle.i9_machine.proofs.Stepping.{no_event, tells_on}
 use Rattle.i9_machine.proofs.machine.Machine.entry.Goals as goal
 
-pub returns-in-Ok : goal.returns-in-Ok
-returns-in-Ok c =
+pub returns-in-Ok-clause-next : goal.returns-in-Ok-clause-next
+returns-in-Ok-clause-next c =
     let m = c.args.self.now in
     let s = state_of m.processor in
     let plan = c.in-Ok.ensures in

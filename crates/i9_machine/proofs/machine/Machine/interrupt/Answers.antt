@@ -8,8 +8,8 @@ use Rattle.i9_machine.proofs.Opening.{no_request_in}
 use Rattle.i9_machine.proofs.Stepping.{goes_on, no_event, tells_on}
 use Rattle.i9_machine.proofs.machine.Machine.interrupt.Goals as goal
 
-pub returns-in-Ok : goal.returns-in-Ok
-returns-in-Ok c =
+pub returns-in-Ok-clause-next : goal.returns-in-Ok-clause-next
+returns-in-Ok-clause-next c =
     let m = c.args.self.now in
     let s = state_of m.processor in
     let choice = c.args.choice.now in
@@ -33,8 +33,8 @@ returns-in-Ok c =
       row = no_request_in (Interrupted choice plan.0) m c.entered.result.need (step.need ∙ c.need_entered-need.ensures.interrupt choice plan.0 plan.2) tt;
     }
 
-pub returns-in-Err : goal.returns-in-Err
-returns-in-Err c =
+pub returns-in-Err-clause-next : goal.returns-in-Err-clause-next
+returns-in-Err-clause-next c =
     let m = c.args.self.now in
     let s = state_of m.processor in
     goes_on m c.args.plan.now c.requires.free c.requires.below

@@ -32,4 +32,5 @@ returns c = λ plan is_plan.
       sets = refl;
       ended = refl;
       over = tt;
+      kept = tt;
     }

@@ -22,5 +22,5 @@ returns-in-Runs-clause-waits c = λ none.
 
 pub returns-in-Faults-clause-waits : goal.returns-in-Faults-clause-waits
 returns-in-Faults-clause-waits c = λ none.
-    let step = c.faults.ensures in
+    let step = c.faults.ensures.step in
     barrier_waits c.args.self.now c.args.plan.now step.kind c.faults.result.need step.is_next step.need (c.unless_barrier-in-Faults.ensures.none none)

@@ -27,7 +27,7 @@ use Rattle.i9_machine.proofs.Issuing.{waits_for_none}
 use Rattle.i9_machine.proofs.Turning.{paced_early}
 use Rattle.i9_machine.proofs.Performing.{step_covers, step_acts, step_issues, unmoved_issued}
 use Rattle.i9_machine.specs.Doing.{event_in, lines_of, asks_room, HasRoomForStep, IsReady, state_behind_of}
-use Rattle.i9_machine.specs.Step.{TellsRecord, Did, Steps, Issues, event_for, steps_left}
+use Rattle.i9_machine.specs.Step.{TellsRecord, IsStep, Did, Steps, Issues, event_for, steps_left}
 use Rattle.i9_machine.proofs.Stepping.{no_memory, did_steps, step_lines, step_needs, fewer_by, did_fewer, record_fewer, did_within, behind_alike, step_within, step_room, plan_is_behind}
 use Rattle.i9_machine.proofs.machine.Machine.perform.Goals as goal
 
@@ -41,33 +41,33 @@ act-answer-requires-clause-ready c =
     let old = c.args.self.now in
     let plan = c.args.plan.now in
     let s = state_of old.processor in
-    let step = c.requires.step in
+    let step = subst (IsStep c.args.self.now c.args.plan.now c.args.step.now) (sym c.make_room.ensures.effect) c.requires.step in
     let free = next_free old.length old.due (event_for old plan) s (record_of step.kind s) step.is_next in
-    let ready : IsReady s old.length c.args.effect.now c.args.step.now = record {
+    let ready : IsReady s old.length c.make_room.new.self.effect c.args.step.now = record {
       registers = step.effect.registers;
       posts = step.effect.posts;
       changes = step.effect.changes;
       moves = step.effect.moves;
       free = subst (IsFree s) (sym step.effect.same) free.1;
-      controls = subst (λ (a : Action). CanControl (moved s a) c.args.effect.now.control) (sym step.effect.same) step.effect.controls;
+      controls = subst (λ (a : Action). CanControl (moved s a) c.make_room.new.self.effect.control) (sym step.effect.same) step.effect.controls;
       below = subst (λ (n : ℕ). s.count + n ≤ old.length) (sym step.counts) (did_within old plan step.kind old.below step.is_next);
     } in
-    subst (λ (n : ℕ). IsReady (state_of c.make_room.new.self.processor) n c.args.effect.now c.args.step.now) (sym c.make_room.ensures.same.length)
-    (subst (λ (t : State). IsReady t old.length c.args.effect.now c.args.step.now) (sym c.make_room.ensures.same.state) ready)
+    subst (λ (n : ℕ). IsReady (state_of c.make_room.new.self.processor) n c.make_room.new.self.effect c.args.step.now) (sym c.make_room.ensures.same.length)
+    (subst (λ (t : State). IsReady t old.length c.make_room.new.self.effect c.args.step.now) (sym c.make_room.ensures.same.state) ready)
 
 pub act-answer-requires-clause-made : goal.act-answer-requires-clause-made
 act-answer-requires-clause-made c =
     let old = c.args.self.now in
     let s = state_of old.processor in
-    let step = c.requires.step in
+    let step = subst (IsStep c.args.self.now c.args.plan.now c.args.step.now) (sym c.make_room.ensures.effect) c.requires.step in
     let free = next_free old.length old.due (event_for old c.args.plan.now) s (record_of step.kind s) step.is_next in
-    let planned : IsFree s (action_in s c.args.effect.now) = subst (IsFree s) (sym step.effect.same) free.1 in
-    subst (λ (t : State). CanTake (move_in t c.args.effect.now.frames) c.in-Ok.sets) (sym c.make_room.ensures.same.state)
-    (made_takes old.sets s.memory c.args.effect.now.control c.in-Ok.sets (action_in s c.args.effect.now).move (action_in s c.args.effect.now).writes c.in-Ok.ensures.made planned.controls)
+    let planned : IsFree s (action_in s c.make_room.new.self.effect) = subst (IsFree s) (sym step.effect.same) free.1 in
+    subst (λ (t : State). CanTake (move_in t c.make_room.new.self.effect.frames) c.in-Ok.sets) (sym c.make_room.ensures.same.state)
+    (made_takes old.sets s.memory c.make_room.new.self.effect.control c.in-Ok.sets (action_in s c.make_room.new.self.effect).move (action_in s c.make_room.new.self.effect).writes c.in-Ok.ensures.made planned.controls)
 
 pub returns-in-Ok-clause-fewer : goal.returns-in-Ok-clause-fewer
 returns-in-Ok-clause-fewer c =
-    let step = c.requires.step in
+    let step = subst (IsStep c.args.self.now c.args.plan.now c.args.step.now) (sym c.make_room.ensures.effect) c.requires.step in
     let old = c.args.self.now in
     let mid = c.make_room.new.self in
     let new = c.act-answer.new.self in
@@ -75,16 +75,16 @@ returns-in-Ok-clause-fewer c =
     let plan = c.go_on.new.plan in
     let s = state_of old.processor in
     let bound : new.length ≡ old.length = c.act-answer.ensures.length ∙ c.make_room.ensures.same.length in
-    let alike = subst (λ (t : State). AreAlike (state_behind_of t c.args.effect.now c.args.step.now) (state_of new.processor)) c.make_room.ensures.same.state c.act-answer.ensures.state in
-    let after = behind_alike old was c.args.step.now c.args.effect.now (state_of new.processor) step alike in
-    let left = did_fewer old new was plan (record_of step.kind s) old.below step.is_next after (c.act-answer.ensures.due ∙ step.due) bound (c.go_on.ensures ∙ plan_is_behind old was c.args.step.now c.args.effect.now step) in
+    let alike = subst (λ (t : State). AreAlike (state_behind_of t c.make_room.new.self.effect c.args.step.now) (state_of new.processor)) c.make_room.ensures.same.state c.act-answer.ensures.state in
+    let after = behind_alike old was c.args.step.now c.make_room.new.self.effect (state_of new.processor) step alike in
+    let left = did_fewer old new was plan (record_of step.kind s) old.below step.is_next after (c.act-answer.ensures.due ∙ step.due) bound (c.go_on.ensures ∙ plan_is_behind old was c.args.step.now c.make_room.new.self.effect step) in
     subst (λ (t : Turn). LeavesFewer t (steps_left old was) (steps_left new plan)) (sym c.act-answer.ensures.answer)
     (fewer_by c.args.step.now.answer s step.kind (steps_left old was) (steps_left new plan) step.tells
     (record_fewer old new was plan left (c.act-answer.ensures.issued.turn ∙ c.make_room.ensures.same.unmoved.turn)))
 
 pub returns-in-Ok-clause-lacking : goal.returns-in-Ok-clause-lacking
 returns-in-Ok-clause-lacking c = λ is room.
-    let step = c.requires.step in
+    let step = subst (IsStep c.args.self.now c.args.plan.now c.args.step.now) (sym c.make_room.ensures.effect) c.requires.step in
     let s = state_of c.args.self.now.processor in
     absurd (no_memory step.kind s (subst (TellsRecord step.kind s) (sym c.act-answer.ensures.answer ∙ is) step.tells))
 
@@ -93,19 +93,20 @@ returns-in-Err-clause-lacking c = λ is room.
     let out = c.args.out.now in
     let event = event_in c.args.plan.now c.args.step.now in
     let spare = vec_capacity out - vec_len out in
-    c.in-Err.ensures.lacking (subst (HasRoomForStep c.args.self.now spare c.args.effect.now c.args.step.now) (sym c.event-event.ensures.event)
-    (step_room c.args.self.now c.args.plan.now spare c.args.step.now c.args.effect.now c.requires.step room))
+    c.in-Err.ensures.lacking (subst (HasRoomForStep c.args.self.now spare c.args.self.now.effect c.args.step.now) (sym c.event-event.ensures.event)
+    (step_room c.args.self.now c.args.plan.now spare c.args.step.now c.args.self.now.effect c.requires.step room))
 
 pub act-answer-requires-clause-cost : goal.act-answer-requires-clause-cost
 act-answer-requires-clause-cost c =
+    let step = subst (IsStep c.args.self.now c.args.plan.now c.args.step.now) (sym c.make_room.ensures.effect) c.requires.step in
     let m = c.args.self.now in
-    subst HasCost (sym c.requires.step.need) (need_cost (size_of m.processor) (cache_of m.processor) (state_of m.processor) c.requires.step.kind)
+    subst HasCost (sym step.need) (need_cost (size_of m.processor) (cache_of m.processor) (state_of m.processor) step.kind)
 
 pub act-answer-requires-clause-early : goal.act-answer-requires-clause-early
 act-answer-requires-clause-early c =
     let m = c.args.self.now in
-    let u = c.requires.stands in
-    let step = c.requires.step in
+    let u = c.requires.come in
+    let step = subst (IsStep c.args.self.now c.args.plan.now c.args.step.now) (sym c.make_room.ensures.effect) c.requires.step in
     let same = c.make_room.ensures.same.unmoved in
     let none = ap (λ (n : Need). n.not_before) step.need ∙ waits_for_none (size_of m.processor) (cache_of m.processor) (state_of m.processor) step.kind in
     let early = paced_early m (left_after u.given (records_of u.items)) c.args.step.now.need u.stands.paced none step.cost in
@@ -114,12 +115,14 @@ act-answer-requires-clause-early c =
 
 pub act-answer-requires-clause-covered : goal.act-answer-requires-clause-covered
 act-answer-requires-clause-covered c =
-    step_covers c.args.self.now c.make_room.new.self c.args.plan.now c.args.step.now c.args.effect.now c.requires.step c.make_room.ensures.same.state
+    let step = subst (IsStep c.args.self.now c.args.plan.now c.args.step.now) (sym c.make_room.ensures.effect) c.requires.step in
+    step_covers c.args.self.now c.make_room.new.self c.args.plan.now c.args.step.now c.make_room.new.self.effect step c.make_room.ensures.same.state
 
 pub act-answer-requires-clause-acts : goal.act-answer-requires-clause-acts
 act-answer-requires-clause-acts c =
+    let step = subst (IsStep c.args.self.now c.args.plan.now c.args.step.now) (sym c.make_room.ensures.effect) c.requires.step in
     let same = c.make_room.ensures.same in
-    step_acts c.args.self.now c.make_room.new.self c.args.plan.now c.args.step.now c.args.effect.now c.requires.stands c.requires.now c.requires.step
+    step_acts c.args.self.now c.make_room.new.self c.args.plan.now c.args.step.now c.make_room.new.self.effect c.requires.come step
     same.state same.unmoved.queue same.unmoved.board same.unmoved.floor
 
 pub returns-in-Ok-clause-issues : goal.returns-in-Ok-clause-issues
@@ -127,11 +130,11 @@ returns-in-Ok-clause-issues c =
     let old = c.args.self.now in
     let mid = c.make_room.new.self in
     let new = c.act-answer.new.self in
-    let step = c.requires.step in
+    let step = subst (IsStep c.args.self.now c.args.plan.now c.args.step.now) (sym c.make_room.ensures.effect) c.requires.step in
     let s = state_of old.processor in
     let same = c.make_room.ensures.same in
-    let action : action_in (state_of mid.processor) c.args.effect.now ≡ action_by_kind step.kind s =
-    ap (λ (t : State). action_in t c.args.effect.now) same.state ∙ step.effect.same in
+    let action : action_in (state_of mid.processor) c.make_room.new.self.effect ≡ action_by_kind step.kind s =
+    ap (λ (t : State). action_in t c.make_room.new.self.effect) same.state ∙ step.effect.same in
     let issued = subst (λ (a : Action). IsIssued mid c.args.step.now.need a new) action c.act-answer.ensures.issued in
     subst (λ (t : Turn). Issues old t new c.args.plan.now) (sym c.act-answer.ensures.answer)
     (step_issues c.args.step.now.answer step.kind s old new c.args.plan.now step.tells (record {
@@ -148,9 +151,9 @@ returns-in-Ok-clause-steps c =
     let mid = c.make_room.new.self in
     let new = c.act-answer.new.self in
     let was = c.args.plan.now in
-    let step = c.requires.step in
+    let step = subst (IsStep c.args.self.now c.args.plan.now c.args.step.now) (sym c.make_room.ensures.effect) c.requires.step in
     let s = state_of old.processor in
-    let e = c.args.effect.now in
+    let e = c.make_room.new.self.effect in
     let same = c.make_room.ensures.same in
     let act = c.act-answer.ensures in
     let regions = (state_of new.processor).memory in
@@ -174,6 +177,7 @@ returns-in-Ok-clause-steps c =
       length = act.length ∙ same.length;
       sets = act.sets ∙ same.sets;
       ended = act.ended ∙ c.make_room.ensures.ended ∙ c.requires.running;
+      none = act.kept ∙ c.make_room.ensures.kept ∙ c.requires.none;
       behind = c.go_on.ensures ∙ plan_is_behind old was c.args.step.now e step;
       lines =
           act.lines
@@ -194,8 +198,9 @@ returns-in-Err-clause-steps c =
     record {
       same = c.make_room.ensures.same;
       ended = c.make_room.ensures.ended ∙ c.requires.running;
+      none = c.make_room.ensures.kept ∙ c.requires.none;
       kept = refl;
       lines = c.make_room.ensures.items;
-      needed = step_needs old c.args.plan.now c.args.step.now c.args.effect.now c.requires.step
-          (ap (asks_room (state_of old.processor) c.args.effect.now c.args.step.now) (sym c.event-event.ensures.event) ∙ c.in-Err.ensures.needed);
+      needed = step_needs old c.args.plan.now c.args.step.now c.args.self.now.effect c.requires.step
+          (ap (asks_room (state_of old.processor) c.args.self.now.effect c.args.step.now) (sym c.event-event.ensures.event) ∙ c.in-Err.ensures.needed);
     }

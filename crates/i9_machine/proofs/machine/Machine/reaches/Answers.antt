@@ -11,8 +11,8 @@ use Rattle.i9_machine.proofs.Opening.{no_request_in}
 use Rattle.i9_machine.proofs.Stepping.{goes_by_event, one_event, tells_on}
 use Rattle.i9_machine.proofs.machine.Machine.reaches.Goals as goal
 
-pub returns-in-Ok : goal.returns-in-Ok
-returns-in-Ok c =
+pub returns-in-Ok-clause-step : goal.returns-in-Ok-clause-step
+returns-in-Ok-clause-step c =
     let m = c.args.self.now in
     let s = state_of m.processor in
     let event = c.args.event.now in
@@ -37,8 +37,8 @@ returns-in-Ok c =
           (step.need ∙ c.need_reached-need.ensures.reached (size_of m.processor) (cache_of m.processor) s plan.0) tt;
     }
 
-pub returns-in-Err : goal.returns-in-Err
-returns-in-Err c =
+pub returns-in-Err-clause-step : goal.returns-in-Err-clause-step
+returns-in-Err-clause-step c =
     let m = c.args.self.now in
     let s = state_of m.processor in
     let event = c.args.event.now in

@@ -1,17 +1,5 @@
-use Rattle.std.proofs.Common.{arith}
 use Rattle.i9_machine.proofs.Performing.{done_opens}
-use Rattle.i9_machine.proofs.Turning.{all_now, all_landed}
 use Rattle.i9_machine.proofs.machine.Machine.step.Goals as goal
 
-pub step_drained-requires-clause-drained : goal.step_drained-requires-clause-drained
-step_drained-requires-clause-drained c =
-    let m = c.args.self.now in
-    all_landed m c.args.plan.now c.all_done-until.result c.requires.stands c.all_done-until.ensures.computed (omega (arith, c.if-self-until.false))
-
-pub step_drained-requires-clause-now : goal.step_drained-requires-clause-now
-step_drained-requires-clause-now c =
-    let m = c.args.self.now in
-    all_now m c.args.plan.now c.all_done-until.result c.all_done-until.ensures.computed (omega (arith, c.if-self-until.false))
-
-pub returns-else-self-until-clause-steps : goal.returns-else-self-until-clause-steps
-returns-else-self-until-clause-steps c = done_opens c.args.self.now c.step_drained.new.self c.step_drained.result _ _ _ _ c.step_drained.ensures.done
+pub returns-in-Some-clause-steps : goal.returns-in-Some-clause-steps
+returns-in-Some-clause-steps c = done_opens c.args.self.now c.step_kept.new.self c.step_kept.result _ _ _ _ c.step_kept.ensures.done

@@ -1,0 +1,189 @@
+-- An end that is answered, of the run or at an imprecise fault.
+use Rattle.std.proofs.Common.{◌≡◌, ◌≢◌, ℕ, ◌<◌, ◌≤◌, Bool, true, false, cond, ◌||◌, nat_lt, List, ◌++◌, map, Option, Some, None, Result, Ok, Err, length, refl, sym, ap, ◌∙◌, subst, inr, arith}
+use Rattle.i9_model.specs.declared.faults.Entry.{Entry}
+use Rattle.i9_model.specs.declared.faults.Fault.{Fault}
+use Rattle.i9_model.specs.declared.faults.FaultStop.{FaultStop}
+use Rattle.i9_model.specs.declared.faults.FaultStop.TheVariants as stops
+use Rattle.i9_model.specs.declared.run.Due.{Due}
+use Rattle.i9_model.specs.declared.run.Due.TheVariants as dues
+use Rattle.i9_model.specs.declared.run.End.{End}
+use Rattle.i9_model.specs.declared.run.End.TheVariants.{Exit, Limit, Hazard, Dead, Imprecise}
+use Rattle.i9_model.specs.declared.run.Point.TheVariants as points
+use Rattle.i9_model.specs.Memory.{console_byte}
+use Rattle.i9_model.specs.State.{State}
+use Rattle.i9_model.specs.PrintedText.{out_lines, point_lines, record_lines, end_lines}
+use Rattle.i9_model.specs.Run.{Given, Entered, Ends, record_of, action_done, entry_in, next_by_entry, next_in}
+use Rattle.i9_schedule.specs.Plan.{Plan}
+use Rattle.i9_course.specs.Course.{Item, ahead}
+use Rattle.i9_processor.specs.Effect.{has_writes, is_restart}
+use Rattle.i9_processor.specs.State.{state_of}
+use Rattle.i9_processor.specs.declared.processor.Processor.{Processor}
+use Rattle.i9_machine.specs.declared.line.Line.{Line}
+use Rattle.i9_machine.specs.declared.line.Turn.{Turn}
+use Rattle.i9_machine.specs.declared.line.Turn.TheVariants as turns
+use Rattle.i9_machine.specs.declared.machine.Machine.{Machine}
+use Rattle.i9_machine.specs.Issuing.{IsLike}
+use Rattle.i9_machine.specs.Line.{shown_of}
+use Rattle.i9_machine.specs.Overtaking.{late_entry, late_due}
+use Rattle.i9_machine.specs.Step.{NeedsRoom, HasRoom, event_for, next_for, Finishes, Steps, Issues}
+use Rattle.i9_machine.specs.StandsFor.{StandsFor, LeavesFewer, OpenSteps}
+use Rattle.i9_machine.proofs.Performing.{like_same}
+
+-- ---- an end of the run
+
+end_long : (s : State) (e : End) → length (end_lines s e) ≤ 2
+end_long s (Exit w) = omega arith
+end_long s Limit = omega arith
+end_long s (Hazard a) = omega arith
+end_long s (Dead code a) = omega arith
+end_long s (Imprecise a) = omega arith
+
+pub finish_steps : (before : Machine) (e : End) (spare : ℕ) (answer : Turn) (m : Machine) (plan : Plan) (old new : List Line) → next_for before plan ≡ Ends e
+    → Finishes before e spare answer m old new → Steps before answer m plan plan old new
+finish_steps before e spare (turns.End f) m plan old new is d = subst (λ (x : End). Steps before (turns.End x) m plan plan old new) (sym d.0) (record {
+  is_end = is;
+  same = d.1.same;
+  ended = d.1.ended;
+  none = d.1.none;
+  kept = refl;
+  lines = d.1.lines;
+})
+finish_steps before e spare turns.Memory m plan old new is d = record {
+  same = d.same;
+  ended = d.ended;
+  none = d.none;
+  kept = refl;
+  lines = d.lines;
+  needed = subst NeedsRoom (sym is) tt;
+}
+finish_steps before e spare turns.On m plan old new is d = absurd d
+finish_steps before e spare (turns.Issued t) m plan old new is d = absurd d
+
+pub finish_lacks : (before : Machine) (e : End) (spare : ℕ) (answer : Turn) (m : Machine) (plan : Plan) (old new : List Line) → next_for before plan ≡ Ends e
+    → Finishes before e spare answer m old new → answer ≡ turns.Memory → HasRoom before spare (next_for before plan) → ⊥
+finish_lacks before e spare turns.Memory m plan old new is d refused room =
+    let two : 2 ≤ spare = subst (HasRoom before spare) is room in
+    let long : length (end_lines (state_of before.processor) e) ≤ 2 = end_long (state_of before.processor) e in
+    let lacks : spare < length (end_lines (state_of before.processor) e) = d.lacking in
+    omega (arith, two, long, lacks)
+finish_lacks before e spare turns.On m plan old new is d refused room = d
+finish_lacks before e spare (turns.Issued t) m plan old new is d refused room = d
+finish_lacks before e spare (turns.End f) m plan old new is d refused room = absurd (cc refused)
+
+pub finish_fewer : (before : Machine) (e : End) (spare : ℕ) (answer : Turn) (m : Machine) (old new : List Line) (was now : ℕ)
+    → Finishes before e spare answer m old new → LeavesFewer answer was now
+finish_fewer before e spare (turns.End f) m old new was now d = tt
+finish_fewer before e spare turns.Memory m old new was now d = tt
+finish_fewer before e spare turns.On m old new was now d = absurd d
+finish_fewer before e spare (turns.Issued t) m old new was now d = absurd d
+
+pub finish_issues : (before : Machine) (e : End) (spare : ℕ) (answer : Turn) (m : Machine) (plan : Plan) (old new : List Line)
+    → Finishes before e spare answer m old new → Issues before answer m plan
+finish_issues before e spare (turns.End f) m plan old new d = tt
+finish_issues before e spare turns.Memory m plan old new d = tt
+finish_issues before e spare turns.On m plan old new d = absurd d
+finish_issues before e spare (turns.Issued t) m plan old new d = absurd d
+
+-- an end that is answered from a machine that is the same
+pub like_finishes : (before mid : Machine) (e : End) (spare : ℕ) (answer : Turn) (m : Machine) (old new : List Line) → IsLike before mid
+    → Finishes mid e spare answer m old new → Finishes before e spare answer m old new
+like_finishes before mid e spare (turns.End f) m old new l d = (
+  d.0,
+  record {
+    same = like_same before mid m l d.1.same;
+    ended = d.1.ended;
+    none = d.1.none;
+    lines = d.1.lines ∙ ap (λ (p : Processor). map shown_of old ++ end_lines (state_of p) e) l.processor;
+  },
+)
+like_finishes before mid e spare turns.Memory m old new l d = record {
+  same = like_same before mid m l d.same;
+  ended = d.ended;
+  none = d.none;
+  lines = d.lines;
+  lacking = subst (λ (p : Processor). spare < length (end_lines (state_of p) e)) l.processor d.lacking;
+}
+like_finishes before mid e spare turns.On m old new l d = absurd d
+like_finishes before mid e spare (turns.Issued t) m old new l d = absurd d
+
+-- ---- an imprecise fault
+
+-- what is due is the entry of a fault
+late_is_due : (m : Machine) (a : ℕ) → late_due m ≡ Some a → (f : Fault) × (m.due ≡ dues.Entry f)
+late_is_due m a late = by_length (nat_lt (state_of m.processor).count m.length) m.due late
+  where
+    by_length : (b : Bool) (d : Due) → cond b (late_entry d) None ≡ Some a → (f : Fault) × (d ≡ dues.Entry f)
+    by_length b (dues.Entry f) h = (f, refl)
+    by_length true (dues.End e) h = absurd (cc h)
+    by_length false (dues.End e) h = absurd (cc h)
+    by_length true dues.Nothing h = absurd (cc h)
+    by_length false dues.Nothing h = absurd (cc h)
+
+pub late_not_nothing : (m : Machine) (a : ℕ) → late_due m ≡ Some a → m.due ≢ dues.Nothing
+late_not_nothing m a late none = let is = late_is_due m a late in cc (sym is.1 ∙ none)
+
+-- an entry has a line at least
+entry_long : (s : State) (x : Entry) → 1 ≤ length (record_lines (record_of (Entered x) s))
+entry_long s x = by_byte (console_byte (action_done (record_of (Entered x) s)).writes)
+  where
+    by_byte : (o : Option ℕ) → 1 ≤ length (out_lines o ++ point_lines (Some points.Fault) (record_of (Entered x) s).after)
+    by_byte None = omega arith
+    by_byte (Some b) = omega arith
+
+entry_needs : (s : State) (p : Result Entry FaultStop) → NeedsRoom (next_by_entry s p)
+entry_needs s (Ok x) =
+    by_byte (console_byte (action_done (record_of (Entered x) s)).writes)
+    (has_writes (action_done (record_of (Entered x) s)) || is_restart (action_done (record_of (Entered x) s)).control)
+  where
+    by_byte : (o : Option ℕ) (b : Bool) → (nat_lt 0 (length (out_lines o ++ point_lines (Some points.Fault) (record_of (Entered x) s).after)) || b) ≡ true
+    by_byte None b = refl
+    by_byte (Some c) b = refl
+entry_needs s (Err (stops.Hazard a)) = tt
+entry_needs s (Err (stops.Dead code a)) = tt
+
+entry_room : (m : Machine) (spare : ℕ) (s : State) (p : Result Entry FaultStop) → HasRoom m spare (next_by_entry s p) → 1 ≤ spare
+entry_room m spare s (Ok x) room = let long = entry_long s x in let fits = room.lines in omega (arith, long, fits)
+entry_room m spare s (Err (stops.Hazard a)) room = let two : 2 ≤ spare = room in omega (arith, two)
+entry_room m spare s (Err (stops.Dead code a)) room = let two : 2 ≤ spare = room in omega (arith, two)
+
+-- what comes next is the entry of the fault
+late_next : (m : Machine) (plan : Plan) (f : Fault) → m.due ≡ dues.Entry f
+    → next_for m plan ≡ next_by_entry (state_of m.processor) (entry_in (state_of m.processor) f)
+late_next m plan f is = ap (λ (d : Due). next_in m.length d (event_for m plan) (state_of m.processor)) is
+
+pub overtaken_opens : (before mid : Machine) (a spare : ℕ) (answer : Turn) (m : Machine) (plan : Plan) (old new : List Line) → IsLike before mid → late_due before ≡ Some a
+    → ((g : Given) (h : List Item) → StandsFor g h None before → ((ahead g h).imprecise ≡ Some a) × ((ahead g h).turn ≤ before.turn))
+    → Finishes mid (Imprecise a) spare answer m old new → OpenSteps before answer m plan plan old new
+overtaken_opens before mid a spare (turns.End f) m plan old new like due late d = inr (record {
+  address = a;
+  is_end = d.0;
+  late = late;
+  same = like_same before mid m like d.1.same;
+  ended = d.1.ended ∙ ap (λ (x : End). Some x) (sym d.0);
+  none = d.1.none;
+  kept = refl;
+  lines = d.1.lines ∙ ap (λ (x : End). map shown_of old ++ end_lines (state_of before.processor) x) (sym d.0);
+})
+overtaken_opens before mid a spare turns.Memory m plan old new like due late d =
+    let is = late_is_due before a due in
+    record {
+      same = like_same before mid m like d.same;
+      ended = d.ended;
+      none = d.none;
+      kept = refl;
+      lines = d.lines;
+      needed = subst NeedsRoom (sym (late_next before plan is.0 is.1)) (entry_needs (state_of before.processor) (entry_in (state_of before.processor) is.0));
+    }
+overtaken_opens before mid a spare turns.On m plan old new like due late d = absurd d
+overtaken_opens before mid a spare (turns.Issued t) m plan old new like due late d = absurd d
+
+pub overtaken_lacks : (before mid : Machine) (a spare : ℕ) (answer : Turn) (m : Machine) (plan : Plan) (old new : List Line) → late_due before ≡ Some a
+    → Finishes mid (Imprecise a) spare answer m old new → answer ≡ turns.Memory → HasRoom before spare (next_for before plan) → ⊥
+overtaken_lacks before mid a spare turns.Memory m plan old new due d refused room =
+    let is = late_is_due before a due in
+    let lacks : spare < 1 = d.lacking in
+    let one = entry_room before spare (state_of before.processor) (entry_in (state_of before.processor) is.0) (subst (HasRoom before spare) (late_next before plan is.0 is.1) room) in
+    omega (arith, one, lacks)
+overtaken_lacks before mid a spare turns.On m plan old new due d refused room = d
+overtaken_lacks before mid a spare (turns.Issued t) m plan old new due d refused room = d
+overtaken_lacks before mid a spare (turns.End f) m plan old new due d refused room = absurd (cc refused)

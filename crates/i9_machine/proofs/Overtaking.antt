@@ -1,0 +1,194 @@
+-- An arithmetic fault whose entry is due while something is open: whether the instruction behind it overtakes it.
+use Rattle.std.proofs.Common.{◌≡◌, ℕ, ◌<◌, ◌≤◌, Bool, true, false, cond, ◌==◌, List, [], ◌∷◌, Option, Some, None, refl, sym, ap, ◌∙◌, arith}
+use Rattle.std.specs.Prelude.{nat_lt, ◌&&◌, not}
+use Rattle.std.proofs.lemmas.Bool.{lt-ltb}
+use Rattle.i9_isa.specs.declared.inst.Inst.{Inst}
+use Rattle.i9_model.specs.declared.faults.TheConstants.{ARITHMETIC}
+use Rattle.i9_model.specs.declared.need.Need.{Need}
+use Rattle.i9_model.specs.declared.need.TimedNeed.{TimedNeed}
+use Rattle.i9_model.specs.declared.run.End.{End}
+use Rattle.i9_model.specs.declared.trace.Trace.{Trace}
+use Rattle.i9_model.specs.State.{State}
+use Rattle.i9_model.specs.Alike.{AreAlike}
+use Rattle.i9_model.specs.HeldFrames.{Cache, sets_in, cache_after}
+use Rattle.i9_model.specs.Standing.{Standing, Meets, Refused, Faults, Runs, stands_at}
+use Rattle.i9_model.specs.Traced.{traced_action}
+use Rattle.i9_model.specs.Turns.{last_issue, issue_turn, end_turn, waiting_until}
+use Rattle.i9_model.specs.Turns as board
+use Rattle.i9_model.specs.Late.{turns}
+use Rattle.i9_model.specs.Run.{Given, Kind, Instruction, Faulted, Entered, Interrupted, Reached, Blocked, Record, fault_at, due_in, due_by, due_after, next_by_standing, state_after}
+use Rattle.i9_model.proofs.AlikeFetches.{stands_same}
+use Rattle.i9_course.specs.NeedOf.{need_of, need_ahead}
+use Rattle.i9_course.specs.Course.{Item, records_of, course, instruction_ahead, issue_of_next, late_fault, last_fault, last_done, to_issue, ahead}
+use Rattle.i9_course.proofs.Ahead.{imprecise_overtaken, precise_by}
+use Rattle.i9_course.proofs.Barriers.{next_barrier, last_reached}
+use Rattle.i9_course.proofs.NeedAlike.{need_alike}
+use Rattle.i9_plan.specs.Open.{WaitsForAll, NeedsAhead}
+use Rattle.i9_processor.specs.State.{state_of, cache_of, size_of}
+use Rattle.i9_machine.specs.declared.machine.Machine.{Machine}
+use Rattle.i9_machine.specs.StandsFor.{StandsFor}
+use Rattle.i9_machine.specs.Overtaking.{late_entry, late_due, IsNeedAhead, IssuesAhead}
+
+-- ---- the last fault, by what is due
+
+due_fault : (s : State) (t : Option Trace) (o : Option End) → late_entry (due_in s t o) ≡ None
+due_fault s t (Some f) = refl
+due_fault s None None = refl
+due_fault s (Some t) None = refl
+
+kind_fault : (k : Kind) (s : State) → late_entry (due_by k s) ≡ late_fault k
+kind_fault (Instruction i) s = let a = traced_action i s in due_fault s a.trace _
+kind_fault (Faulted inst fault) s = by_kind (fault.kind == ARITHMETIC)
+  where
+    by_kind : (b : Bool) → cond b (Some fault.address) None ≡ cond (not b) None (Some fault.address)
+    by_kind true = refl
+    by_kind false = refl
+kind_fault (Entered e) s = refl
+kind_fault (Interrupted c e) s = refl
+kind_fault (Reached e u) s = refl
+kind_fault (Blocked e a) s = refl
+
+-- the entry of an arithmetic fault is due where the last record is one
+entry_fault : (rs : List Record) → late_entry (due_after rs) ≡ last_fault rs
+entry_fault [] = refl
+entry_fault (r ∷ rs) = kind_fault r.kind r.before
+
+-- the same for a machine, within the length
+late_is : (g : Given) (h : List Item) (m : Machine) → StandsFor g h None m
+    → late_due m ≡ cond (nat_lt (state_after g (records_of h)).count g.length) (last_fault (records_of h)) None
+late_is g h m stands =
+    let rs = records_of h in
+    ap (λ (s : State). cond (nat_lt s.count m.length) (late_entry m.due) None) stands.state.rest
+    ∙ ap (λ (n : ℕ). cond (nat_lt (state_after g rs).count n) (late_entry m.due) None) stands.length
+    ∙ ap (λ (o : Option ℕ). cond (nat_lt (state_after g rs).count g.length) o None)
+    (ap late_entry stands.due ∙ entry_fault rs)
+
+none_by : (b c : Bool) (o : Option ℕ) → cond b o None ≡ None → cond (b && c) o None ≡ None
+none_by true true o h = h
+none_by true false o h = refl
+none_by false c o h = refl
+
+-- where none is due, none is imprecise
+pub calm_precise : (g : Given) (h : List Item) (m : Machine) → StandsFor g h None m → late_due m ≡ None
+    → (ahead g h).imprecise ≡ None
+calm_precise g h m stands none =
+    none_by (nat_lt (state_after g (records_of h)).count g.length) _ (last_fault (records_of h))
+    (sym (late_is g h m stands) ∙ none)
+
+both_some : (b : Bool) (o : Option ℕ) (a : ℕ) → cond b o None ≡ Some a → (b ≡ true) × (o ≡ Some a)
+both_some true o a h = (refl, h)
+both_some false o a h = absurd (cc h)
+
+-- where one is due, it is imprecise if it is overtaken
+late_imprecise : (g : Given) (h : List Item) (m : Machine) (a : ℕ) → StandsFor g h None m → late_due m ≡ Some a
+    → issue_of_next g h (instruction_ahead (state_after g (records_of h))) < last_done (course g h).late
+    → (ahead g h).imprecise ≡ Some a
+late_imprecise g h m a stands late before =
+    let both = both_some (nat_lt (state_after g (records_of h)).count g.length) (last_fault (records_of h)) a
+    (sym (late_is g h m stands) ∙ late) in
+    let issue = issue_of_next g h (instruction_ahead (state_after g (records_of h))) in
+    ap (λ (b : Bool). cond (b && nat_lt issue (last_done (course g h).late)) (last_fault (records_of h)) None) both.0
+    ∙ ap (λ (b : Bool). cond b (last_fault (records_of h)) None) (lt-ltb issue (last_done (course g h).late) before)
+    ∙ both.1
+
+-- ---- the instruction behind it
+
+kind_need : (asked : Option ℕ) (c : Cache) (s t : State) → AreAlike s t → (k : State → Kind) → k t ≡ k s
+    → need_of (sets_in asked t) c t (k t) ≡ need_of (sets_in asked s) c s (k s)
+kind_need asked c s t alike k same =
+    ap (λ (n : ℕ). need_of n c t (k t)) (ap (sets_in asked) alike.rest)
+    ∙ ap (need_of (sets_in asked s) c t) same
+    ∙ need_alike (sets_in asked s) c s t (k s) alike
+
+-- what stands there needs the same in states that are alike
+standing_need : (asked : Option ℕ) (c : Cache) (s t : State) → AreAlike s t → (x : Standing)
+    → need_ahead asked c (next_by_standing t x) ≡ need_ahead asked c (next_by_standing s x)
+standing_need asked c s t alike (Meets a) = refl
+standing_need asked c s t alike (Refused number) = kind_need asked c s t alike (λ u. Faulted None (fault_at u number))
+    (ap (λ (u : State). Faulted None (fault_at u number)) alike.rest)
+standing_need asked c s t alike (Faults i number) =
+    kind_need asked c s t alike (λ u. Faulted (Some i) (fault_at u number))
+    (ap (λ (u : State). Faulted (Some i) (fault_at u number)) alike.rest)
+standing_need asked c s t alike (Runs i) = kind_need asked c s t alike (λ u. Instruction i) refl
+
+ahead_need : (asked : Option ℕ) (c : Cache) (s t : State) → AreAlike s t
+    → need_ahead asked c (instruction_ahead t) ≡ need_ahead asked c (instruction_ahead s)
+ahead_need asked c s t alike =
+    ap (λ (x : Standing). need_ahead asked c (next_by_standing t x))
+    (ap stands_at alike.rest ∙ stands_same s t.memory.bytes alike.bytes)
+    ∙ standing_need asked c s t alike (stands_at s)
+
+-- it issues at the turn that the scoreboard gives its need
+pub ahead_issues : (m : Machine) (need : Need) (t : ℕ) → IsNeedAhead m need
+    → ((rs : List TimedNeed) → board.StandsFor m.board rs → t ≡ issue_turn (last_issue rs) rs (waiting_until m.floor need))
+    → IssuesAhead m t
+ahead_issues m need t is turn g h stands =
+    let rs = turns (course g h).late in
+    let s = state_after g (records_of h) in
+    let c = cache_after g (records_of h) in
+    turn rs stands.lands.board
+    ∙ ap (λ (f : ℕ). issue_turn (last_issue rs) rs (waiting_until f need)) stands.lands.mark
+    ∙ ap (λ (n : Need). issue_turn (last_issue rs) rs (waiting_until (course g h).mark n))
+    (sym (is.ahead g.sets c) ∙ ahead_need g.sets c s (state_of m.processor) stands.state)
+
+-- where it waits for all, it overtakes nothing
+pub waits_precise : (g : Given) (h : List Item) (m : Machine) → StandsFor g h None m
+    → WaitsForAll (state_of m.processor) (stands_at (state_of m.processor)) → (ahead g h).imprecise ≡ None
+waits_precise g h m stands waits =
+    let s = state_after g (records_of h) in
+    let c = cache_after g (records_of h) in
+    let barrier = sym (ap (λ (n : Need). n.barrier) (ahead_need g.sets c s (state_of m.processor) stands.state)) ∙ waits g.sets c in
+    let turn : issue_of_next g h (instruction_ahead s) ≡ end_turn (turns (course g h).late) = next_barrier g h (instruction_ahead s) barrier in
+    let reached : last_done (course g h).late ≤ end_turn (turns (course g h).late) = last_reached (course g h).late in
+    precise_by g h (omega (arith, turn, reached))
+
+-- where it would not issue before the last record is done, neither
+pub later_precise : (g : Given) (h : List Item) (m : Machine) (t : ℕ) → StandsFor g h None m → IssuesAhead m t
+    → m.done ≤ t → (ahead g h).imprecise ≡ None
+later_precise g h m t stands issues le =
+    let is : t ≡ issue_of_next g h (instruction_ahead (state_after g (records_of h))) = issues g h stands in
+    let last : m.done ≡ last_done (course g h).late = stands.lands.last in
+    precise_by g h (omega (arith, is, last, le))
+
+-- nor where all records are done
+pub drained_precise : (g : Given) (h : List Item) (m : Machine) → StandsFor g h None m
+    → end_turn (turns (course g h).late) ≤ m.turn → (ahead g h).imprecise ≡ None
+drained_precise g h m stands le = by_fault (ahead g h).imprecise refl
+  where
+    by_fault : (o : Option ℕ) → (ahead g h).imprecise ≡ o → (ahead g h).imprecise ≡ None
+    by_fault None is = is
+    by_fault (Some a) is =
+        let before : (ahead g h).turn < last_done (course g h).late = (imprecise_overtaken g h a is).0 in
+        let in_time : m.turn ≤ (ahead g h).turn = stands.lands.in_time in
+        let reached : last_done (course g h).late ≤ end_turn (turns (course g h).late) = last_reached (course g h).late in
+        absurd (omega (arith, before, in_time, reached, le))
+
+-- where it would, the fault is imprecise, and the run ends at that turn
+pub sooner_imprecise : (g : Given) (h : List Item) (m : Machine) (a t : ℕ) → StandsFor g h None m → IssuesAhead m t
+    → late_due m ≡ Some a → t < m.done → ((ahead g h).imprecise ≡ Some a) × ((ahead g h).turn ≡ t)
+sooner_imprecise g h m a t stands issues late before =
+    let issue = issue_of_next g h (instruction_ahead (state_after g (records_of h))) in
+    let is : t ≡ issue = issues g h stands in
+    let last : m.done ≡ last_done (course g h).late = stands.lands.last in
+    let fault = late_imprecise g h m a stands late (omega (arith, is, last, before)) in
+    (fault, ap (λ (o : Option ℕ). issue_of_next g h (to_issue g h o)) fault ∙ sym is)
+
+-- ---- what it needs
+
+-- an instruction that runs
+pub runs_ahead : (m : Machine) (need : Need) (i : Inst) (known : Need) → stands_at (state_of m.processor) ≡ Runs i → NeedsAhead (state_of m.processor) known
+    → need ≡ need_of (size_of m.processor) (cache_of m.processor) (state_of m.processor) (Instruction i) → NeedsAhead (state_of m.processor) need
+runs_ahead m need i known stands ahead is asked c =
+    let s = state_of m.processor in
+    let n = size_of m.processor in
+    ahead asked c ∙ sym (ahead (Some n) (cache_of m.processor))
+    ∙ ap (λ (x : Standing). need_ahead (Some n) (cache_of m.processor) (next_by_standing s x)) stands
+    ∙ sym is
+
+-- one that faults
+pub faults_ahead : (m : Machine) (need : Need) (i : Inst) (number : ℕ × ℕ) → stands_at (state_of m.processor) ≡ Faults i number
+    → ((n : ℕ) (c : Cache) → need ≡ need_of n c (state_of m.processor) (Faulted (Some i) (fault_at (state_of m.processor) number)))
+    → NeedsAhead (state_of m.processor) need
+faults_ahead m need i number stands is asked c =
+    let s = state_of m.processor in
+    ap (λ (x : Standing). need_ahead asked c (next_by_standing s x)) stands ∙ sym (is (sets_in asked s) c)

@@ -1,0 +1,70 @@
+-- What a machine stands for that is the same but for the room that it has.
+use Rattle.std.proofs.Common.{◌≡◌, ℕ, ◌≤◌, List, Option, None, sym, ap, ◌∙◌, subst, arith}
+use Rattle.i9_model.specs.declared.need.Cell.{Cell}
+use Rattle.i9_model.specs.declared.run.End.{End}
+use Rattle.i9_model.specs.Alike.{AreAlike}
+use Rattle.i9_model.specs.Late.{Wait}
+use Rattle.i9_model.specs.Run.{Given, state_after}
+use Rattle.i9_model.specs.State.{State}
+use Rattle.i9_model.specs.Turns.{Pending, IsAllDone}
+use Rattle.i9_course.specs.Course.{Item, records_of, ahead}
+use Rattle.i9_course.specs.Kernel.{Lands}
+use Rattle.i9_processor.specs.State.{state_of, bytes_of, queue_of}
+use Rattle.i9_machine.specs.declared.machine.Machine.{Machine}
+use Rattle.i9_machine.specs.Issuing.{kernel_of, IsPaced, IsUnmoved}
+use Rattle.i9_machine.specs.Step.{IsSame}
+use Rattle.i9_machine.specs.StandsFor.{StandsFor, IsOver, left_after}
+use Rattle.i9_machine.proofs.Turning.{keeps_none}
+
+same_state : (s : State) (before m : Machine) → AreAlike s (state_of before.processor) → state_of m.processor ≡ state_of before.processor → AreAlike s (state_of m.processor)
+same_state s before m alike e = subst (AreAlike s) (sym e) alike
+
+-- what lands late is as before
+unmoved_kernel : (before m : Machine) → IsUnmoved before m → kernel_of m ≡ kernel_of before
+unmoved_kernel before m u =
+    ap (λ (p : Pending). record (kernel_of m) { board = p }) u.board
+    ∙ ap (λ (t : ℕ). record (kernel_of m) { board = before.board; turn = t }) u.turn
+    ∙ ap (λ (t : ℕ). record (kernel_of m) { board = before.board; turn = before.turn; floor = t }) u.floor
+    ∙ ap (λ (t : ℕ). record (kernel_of m) { board = before.board; turn = before.turn; floor = before.floor; done = t }) u.done
+    ∙ ap (λ (c : ℕ → Cell). record (kernel_of before) { cells = c; bytes = bytes_of m.processor; queue = queue_of m.processor }) u.cells
+    ∙ ap (λ (b : ℕ → ℕ). record (kernel_of before) { bytes = b; queue = queue_of m.processor }) u.bytes
+    ∙ ap (λ (q : List Wait). record (kernel_of before) { queue = q }) u.queue
+
+unmoved_lands : (g : Given) (h : List Item) (before m : Machine) → IsUnmoved before m → Lands g h (kernel_of before) → Lands g h (kernel_of m)
+unmoved_lands g h before m u lands = subst (Lands g h) (sym (unmoved_kernel before m u)) lands
+
+pub unmoved_paced : (before m : Machine) (left : ℕ) → IsUnmoved before m → IsPaced before left → IsPaced m left
+unmoved_paced before m left u p =
+    let turn : m.turn ≡ before.turn = u.turn in
+    let floor : m.floor ≡ before.floor = u.floor in
+    let turn_was : before.turn ≤ p.bound = p.turn in
+    let floor_was : before.floor ≤ p.bound = p.floor in
+    record {
+      bound = p.bound;
+      far = p.far;
+      done = subst (λ (b : Pending). IsAllDone b p.bound) (sym u.board) p.done;
+      turn = omega (arith, turn, turn_was);
+      floor = omega (arith, floor, floor_was);
+    }
+
+unmoved_early : (t : ℕ) (before m : Machine) → IsUnmoved before m → before.wait ≤ t → m.wait ≤ t
+unmoved_early t before m u early = subst (λ (w : ℕ). w ≤ t) (sym u.wait) early
+
+-- It keeps no step, and has answered this end, if any.
+pub same_stands : (g : Given) (h : List Item) (before m : Machine) (end : Option End) → IsSame before m → m.ended ≡ end → m.kept ≡ None → IsOver g h end
+    → StandsFor g h None before → StandsFor g h end m
+same_stands g h before m end same ended none over stands = record {
+  past = stands.past;
+  state = same_state (state_after g (records_of h)) before m stands.state same.state;
+  size = same.size ∙ stands.size;
+  cache = same.cache ∙ stands.cache;
+  lands = unmoved_lands g h before m same.unmoved stands.lands;
+  early = unmoved_early (ahead g h).turn before m same.unmoved stands.early;
+  paced = unmoved_paced before m (left_after g (records_of h)) same.unmoved stands.paced;
+  due = same.due ∙ stands.due;
+  length = same.length ∙ stands.length;
+  sets = same.sets ∙ stands.sets;
+  ended = ended;
+  over = over;
+  kept = keeps_none g h m none;
+}
