@@ -1,35 +1,42 @@
 //! The open records, and when the next one may issue.
 
-ghost use Rattle.std.specs.Prelude.{◌≡◌, ◌<◌, ◌^◌, ◌≤◌, ◌+◌, ◌++◌, ℕ, List, [], ◌∷◌, length, max, if◌then◌else◌};
-ghost use Rattle.arrayvec.specs.ArrayVec.{array_vec_len};
+ghost use Rattle.std.specs.Prelude.{◌≡◌, ◌<◌, ◌^◌, ◌≤◌, ◌+◌, ℕ, List, [], ◌∷◌, length, max, reverse, take, if◌then◌else◌};
 ghost use Rattle.i9_model.specs.declared.need.TimedNeed.{TimedNeed};
-ghost use Rattle.i9_model.specs.Turns.{issue_turn, with_need, end_turn, StandsFor, AreAllDone, last_issue, IssuesAt, FollowsOpen, pending_after, placed_record, open_at, IsAllDone, HasCost};
+ghost use Rattle.std.specs.List.{AllByRecursion};
+ghost use Rattle.i9_model.specs.Turns.{issue_turn, turn_from, with_need, end_turn, StandsFor, AreAllDone, last_issue, IssuesAt, FollowsOpen, pending_after, placed_record, open_at, IsAllDone, HasCost};
 ghost use Rattle.i9_model.specs.Turns as spec;
 ghost use Rattle.i9_issue.specs.Room.{IsEarly};
 
-use arrayvec::ArrayVec;
 use i9_isa::Side;
 use i9_model::{Need, Placed, TimedNeed};
 use std::marker::Model;
 
-/// The scoreboard: the last issue turn, at first 1, and the records that are open at it, the newest
-/// first. At most seven are. Which turns records get is this project's own, after the i960 CA/CF
+/// How many records are open at most.
+const MOST_OPEN: usize = 7;
+
+/// The scoreboard: the last issue turn, at first 1; the turn at which all records are done; the turn at
+/// which the last request is done, or 0; and how many records are open at the last issue turn, with those,
+/// the oldest first. At most seven are. Which turns records get is this project's own, after the i960 CA/CF
 /// User's Manual, instruction execution in parallel.
 #[derive(Debug, Drop)]
 pub struct Board {
     last: u64,
-    records: ArrayVec<TimedNeed, 7>,
+    until: u64,
+    asked: u64,
+    count: usize,
+    records: [TimedNeed; MOST_OPEN],
 }
 
 impl Model for Board {
+    ghost use Rattle.std.specs.Prelude.{reverse, take};
     ghost use Rattle.i9_model.specs.Turns.{Pending};
-    ghost use Rattle.i9_issue.specs.Room.{Fits};
+    ghost use Rattle.i9_issue.specs.Room.{Holds};
 
     ghost Value = { Pending };
 
-    ghost view = { λ b. record { last = b.last; records = b.records.items } };
+    ghost view = { λ b. record { last = b.last; records = reverse (take b.count b.records) } };
 
-    ghost invariant = { λ b. Fits b.last b.records.items };
+    ghost invariant = { λ b. Holds b.last b.until b.asked b.count b.records };
 }
 
 impl Board {
@@ -39,7 +46,10 @@ impl Board {
     {
         Board {
             last: 1,
-            records: ArrayVec::new(),
+            until: 1,
+            asked: 0,
+            count: 0,
+            records: [TimedNeed::default(); MOST_OPEN],
         }
     }
 
@@ -55,14 +65,8 @@ impl Board {
             → result ≡ issue_turn (last_issue rs) rs n.now }
         ensures early { result < 2 ^ 62 }
     {
-        let mut turn = self.last.max(n.not_before);
-        let mut requests: u64 = 0;
-        let records = self.records.as_slice();
-        for r in records {
-            turn = turn.max(least_turn(n, requests, r));
-            requests += u64::from(r.need.request);
-        }
-        turn
+        let from = self.last.max(n.not_before);
+        permitted_from(&self.records, self.count, from, n)
     }
 
     /// Places a record of this need, and forgets what is done at its issue turn.
@@ -82,18 +86,38 @@ impl Board {
         ensures bound { (m : ℕ) → IsAllDone self.old m → n.now.not_before ≤ m → IsAllDone self.new (m + n.now.cost) }
     {
         let issue = self.next_turn(n);
-        let records = self.records.as_slice();
-        let before = last_request(records);
-        let done = done_turn(n, issue, before);
-        let mut kept: ArrayVec<TimedNeed, 7> = ArrayVec::new();
-        kept.push(TimedNeed {
+        self.place_at(n, issue)
+    }
+
+    /// The same where the turn is known at which the record issues.
+    pub fn place_at(&mut self, n: &Need, issue: u64) -> Placed
+        requires cost { HasCost n.now }
+        requires early { IsEarly self.old n.now }
+        requires issue { IssuesAt self.old.last self.old.records n.now issue }
+        ensures turns { FollowsOpen self.old (placed_record n.now result) }
+        ensures issue { result.issue ≡ issue }
+        ensures after { self.new ≡ pending_after self.old (placed_record n.now result) }
+
+        // The same of all records that were placed.
+        ensures of_all { (rs : List TimedNeed) → StandsFor self.old rs
+            → StandsFor self.new (placed_record n.now result ∷ rs) }
+        ensures computed { (rs : List TimedNeed) → StandsFor self.old rs
+            → StandsFor self.new (with_need rs n.now) × (result.issue ≡ issue_turn (last_issue rs) rs n.now) }
+
+        // Turns grow by no more than the cost.
+        ensures bound { (m : ℕ) → IsAllDone self.old m → n.now.not_before ≤ m → IsAllDone self.new (m + n.now.cost) }
+    {
+        let done = done_turn(n, issue, self.asked);
+        let kept = keep_open(&mut self.records, self.count, issue);
+        self.records[kept] = TimedNeed {
             need: *n,
             issue,
             done,
-        });
-        keep_open(&mut kept, records, issue);
+        };
+        self.count = kept + 1;
         self.last = issue;
-        self.records = kept;
+        self.until = self.until.max(done);
+        self.asked = asked_until(n, done, self.asked);
         Placed { issue, done }
     }
 
@@ -107,12 +131,7 @@ impl Board {
             → AreAllDone rs result × ((t : ℕ) → AreAllDone rs t → result ≤ t) }
         ensures computed { (rs : List TimedNeed) → StandsFor self.now rs → result ≡ end_turn rs }
     {
-        let mut turn = self.last;
-        let records = self.records.as_slice();
-        for r in records {
-            turn = turn.max(r.done);
-        }
-        turn
+        self.until
     }
 }
 
@@ -191,28 +210,44 @@ fn least_turn(n: &Need, requests: u64, r: &TimedNeed) -> u64
     free.max(there)
 }
 
-/// The done turn of the last request, or 0.
-fn last_request(records: &[TimedNeed]) -> u64
-    ensures { result ≡ spec.last_request records.now }
+/// The least turn from `from` on that so many records permit, the oldest of which is the first.
+fn permitted_from(records: &[TimedNeed; MOST_OPEN], count: usize, from: u64, n: &Need) -> u64
+    requires few { count ≤ 7 }
+    requires early { AllByRecursion (λ r. r.issue < 2 ^ 62) (reverse (take count records.now)) }
+    ensures { result ≡ turn_from n.now from 0 (reverse (take count records.now)) }
 {
-    for r in records {
-        if r.need.request {
-            return r.done;
-        }
+    let mut turn = from;
+    let mut requests: u64 = 0;
+    for k in 0..count {
+        let r = &records[count - 1 - k];
+        turn = turn.max(least_turn(n, requests, r));
+        requests += u64::from(r.need.request);
     }
-    0
+    turn
 }
 
-/// Appends the records that are open at `turn`.
-fn keep_open(kept: &mut ArrayVec<TimedNeed, 7>, records: &[TimedNeed], turn: u64)
-    requires { array_vec_len kept.old + length (open_at turn records.now) ≤ 7 }
-    ensures { kept.new.items ≡ kept.old.items ++ open_at turn records.now }
+/// Moves the records that are open at `turn` to the front, of so many, and tells how many they are.
+fn keep_open(records: &mut [TimedNeed; MOST_OPEN], count: usize, turn: u64) -> usize
+    requires { count ≤ 7 }
+    ensures kept { take result records.new ≡ open_at turn (take count records.old) }
+    ensures few { result ≤ count }
+    ensures whole { length records.new ≡ 7 }
 {
-    for r in records {
-        if turn < r.done {
-            kept.push(*r);
+    let mut kept: usize = 0;
+    for k in 0..count {
+        if turn < records[k].done {
+            records[kept] = records[k];
+            kept += 1;
         }
     }
+    kept
+}
+
+/// The turn at which the last request is done, once this need is placed, which is done at `done`.
+fn asked_until(n: &Need, done: u64, before: u64) -> u64
+    ensures { result ≡ (if n.now.request then done else before) }
+{
+    if n.request { done } else { before }
 }
 
 /// The done turn of a need that issues at `turn`, where the last request is done at `before`.

@@ -85,8 +85,9 @@ fn code(address: u32, size: u32) -> Need {
     }
 }
 
-/// Places a need whose cost and turns are in range: the turn that `next_turn` tells, and its turns.
-fn place(board: &mut Board, n: &Need) -> Option<(u64, u64, u64)> {
+/// Places a need whose cost and turns are in range: the turn that `next_turn` tells, and its turns. Where it
+/// is asked for, the record is placed at the turn that was told.
+fn place(board: &mut Board, n: &Need, told: bool) -> Option<(u64, u64, u64)> {
     let plain = !(n.request || n.slow || n.barrier);
     if n.cost == 0 || (plain && n.cost != 1) || n.cost >= 1 << 32 {
         return None;
@@ -95,7 +96,11 @@ fn place(board: &mut Board, n: &Need) -> Option<(u64, u64, u64)> {
         return None;
     }
     let next = board.next_turn(n);
-    let placed = board.place(n);
+    let placed = if told {
+        board.place_at(n, next)
+    } else {
+        board.place(n)
+    };
     Some((next, placed.issue, placed.done))
 }
 
@@ -176,7 +181,7 @@ fn places_records(rt: HostRuntime) {
             board = Board::new();
             assert_eq!(rt; board.all_done(), 1);
         }
-        assert_eq!(rt; place(&mut board, &need), Some((issue, issue, done)));
+        assert_eq!(rt; place(&mut board, &need, false), Some((issue, issue, done)));
     }
 }
 
@@ -190,7 +195,7 @@ fn tells_when_all_is_done(rt: HostRuntime) {
         (barrier(1, 20), 21),
     ];
     for (need, done) in rows {
-        assert!(rt; place(&mut board, &need).is_some());
+        assert!(rt; place(&mut board, &need, true).is_some());
         assert_eq!(rt; board.all_done(), done);
     }
 }

@@ -1,14 +1,15 @@
 -- What lands late of a machine, as a record issues and as the turn moves, is what the course of its items has.
-use Rattle.std.proofs.Common.{◌≡◌, ℕ, ◌+◌, ◌*◌, ◌^◌, ◌<◌, ◌≤◌, max, Bool, true, false, List, [], ◌∷◌, ◌++◌, length, length-append, drop, None, Some, refl, sym, ap, ◌∙◌, subst, arith}
+use Rattle.std.proofs.Common.{◌≡◌, ℕ, ◌+◌, ◌*◌, ◌^◌, ◌<◌, ◌≤◌, max, Bool, true, false, List, [], ◌∷◌, ◌++◌, length, length-append, drop, None, Some, refl, sym, ap, ◌∙◌, subst, inl, inr, arith}
+use Rattle.std.proofs.lemmas.Bool.{cases_Bool, and_parts}
 use Rattle.i9_model.specs.declared.need.Need.{Need}
 use Rattle.i9_model.specs.declared.need.Placed.{Placed}
 use Rattle.i9_model.specs.Alike.{AreAlike, AreRecordsAlike}
 use Rattle.i9_model.specs.HeldFrames.{Cache, sets_in, cache_after}
-use Rattle.i9_model.specs.Late.{turns, resource, resources, issued_cell, wait_of, IsClear}
+use Rattle.i9_model.specs.Late.{turns, resource, resources, issued_cell, wait_of, settled_memory, IsClear}
 use Rattle.i9_model.specs.Left.{left_in}
 use Rattle.i9_model.specs.Memory.{stored}
 use Rattle.i9_model.specs.Run.{Given, Kind, Instruction, Faulted, Entered, Interrupted, Reached, Blocked, Record, Does, action_done, due_by, reached_by, due_after, reached_after, event_after, state_after, next}
-use Rattle.i9_model.specs.State.{State}
+use Rattle.i9_model.specs.State.{State, boot}
 use Rattle.i9_model.specs.Step.{Action, Move, Stays}
 use Rattle.i9_model.specs.Turns.{Pending, IsAllDone, with_need, waiting_until, placed_record}
 use Rattle.i9_model.specs.Turns as board
@@ -20,6 +21,7 @@ use Rattle.i9_course.specs.NeedOf.{need_of, record_need, need_ahead}
 use Rattle.i9_course.specs.Course.{Item, Step, records_of, course, late_after, move_writes, puts_of, ahead}
 use Rattle.i9_course.specs.Kernel.{Lands}
 use Rattle.i9_course.proofs.Landed.{acts_at_once}
+use Rattle.i9_course.proofs.Settled.{course_settles}
 use Rattle.i9_course.proofs.NeedActs.{need_still, need_requests}
 use Rattle.i9_course.proofs.NeedAlike.{need_alike}
 use Rattle.i9_course.proofs.Placing.{placed_turns}
@@ -27,6 +29,8 @@ use Rattle.i9_course.proofs.Steps.{issues_lands, lands_clear}
 use Rattle.i9_processor.specs.Effect.{IsStill}
 use Rattle.i9_processor.specs.State.{state_of, cache_of, size_of, cells_of, bytes_of, queue_of}
 use Rattle.i9_processor.proofs.Drained.{drained_bytes}
+use Rattle.i9_raw.specs.Raw.{Hides, shades, shades_need, IsShaded}
+use Rattle.i9_raw.proofs.Landed.{record_hides, record_leaves}
 use Rattle.i9_machine.specs.declared.machine.Machine.{Machine}
 use Rattle.i9_machine.specs.Issuing.{kernel_of, most_turns, IsPaced, IsPlaced, IsIssued}
 use Rattle.i9_machine.specs.StandsFor.{StandsFor, left_after}
@@ -174,6 +178,41 @@ module _ (g : Given) (h : List Item) (before m : Machine) (r q : Record) (need :
     waits = waiting;
     acts = acting;
   })
+
+  -- ---- what stands under its writes
+
+  shades_same : shades (late_after g h r) ≡ shades_need need
+  shades_same = ap shades_need needs
+
+  size_is : size_of before.processor ≡ sets
+  size_is =
+      let was = (next_comes g.length (due_after (records_of h)) (event_after g (records_of h)) (state_after g (records_of h)) r is_next).0 in
+      stands.size ∙ ap (sets_in g.sets) (sym (ap (λ (x : Record). x.before) was))
+
+  same_puts : puts_of (size_of before.processor) (cache_of before.processor) (action_done q) ≡ (late_after g h r).puts
+  same_puts =
+      ap (λ (n : ℕ). puts_of n (cache_of before.processor) (action_done q)) size_is
+      ∙ ap (λ (c : Cache). puts_of sets c (action_done q)) stands.cache
+      ∙ ap (puts_of sets held) acted
+
+  -- nothing waits before a barrier
+  all_acted : shades_need need ≡ true → bytes_of before.processor ≡ settled_memory (boot g.image).memory.bytes (course g h).late
+  all_acted is =
+      drained_bytes before.processor (clear.drained (and_parts _ _ is).0)
+      ∙ ap (λ (c : Cache). c.behind.bytes) stands.cache
+      ∙ sym (course_settles g h)
+
+  pub issued_shaded : IsShaded (boot g.image).memory.bytes (late_after g h r ∷ (course g h).late) m.shade
+  issued_shaded = elim (cases_Bool (shades_need need)) [
+    | inl is ↦
+        record_hides (boot g.image).memory.bytes (late_after g h r) (course g h).late m.shade
+        (subst (λ (f : ℕ → ℕ). Hides f (late_after g h r).puts m.shade.pieces) (all_acted is)
+        (subst (λ (ps : List (ℕ × ℕ)). Hides (bytes_of before.processor) ps m.shade.pieces) same_puts (issued.hides.bytes is)))
+        (issued.hides.due is ∙ sym done) (shades_same ∙ is)
+    | inr beside ↦
+        record_leaves (boot g.image).memory.bytes (late_after g h r) (course g h).late m.shade (shades_same ∙ beside)
+        (subst (IsShaded (boot g.image).memory.bytes (course g h).late) (sym (issued.hides.keeps beside)) stands.shaded)
+  ]
 
 -- ---- turns stay small
 

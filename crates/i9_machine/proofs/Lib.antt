@@ -10,3 +10,5 @@ pub mod Performing
 pub mod Ending
 pub mod Stepping
 pub mod Showing
+pub mod Settling
+pub mod Turned

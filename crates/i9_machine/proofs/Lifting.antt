@@ -29,7 +29,7 @@ use Rattle.i9_machine.proofs.Unmoved.{same_stands}
 use Rattle.i9_model.specs.declared.need.Need.{Need}
 use Rattle.i9_machine.specs.Issuing.{IsIssued}
 use Rattle.i9_machine.specs.StandsFor.{StandsFor, Follows, MovesOn, DoesNext, EndsRun, IsRefused, Advances, Waits, Done, Overtaken, OpenSteps, left_after}
-use Rattle.i9_machine.proofs.Issuing.{same_need, waits_for_none, issued_lands, left_less, issued_paced}
+use Rattle.i9_machine.proofs.Issuing.{same_need, waits_for_none, issued_lands, issued_shaded, left_less, issued_paced}
 
 -- ---- a record
 
@@ -153,6 +153,7 @@ did g h before answer m was plan old new stands follows precise now d i =
         size = size_next g h before m r q stands same free d.size;
         cache = cache;
         lands = lands;
+        shaded = issued_shaded g h before m r q need_now stands found.1 same precise now need issued_now after cache;
         early = omega (arith, wait, early, turn, now, in_time);
         paced = issued_paced before m need_now (action_done q) (left_after g rs) (left_after g (r ∷ rs)) issued_now none less stands.paced;
         due = d.due ∙ due_alike r q same;

@@ -24,6 +24,9 @@ use Rattle.i9_course.specs.Course.{Item, records_of, ahead}
 use Rattle.i9_course.proofs.Landed.{request_last}
 use Rattle.i9_course.proofs.NeedActs.{need_still}
 use Rattle.i9_course.proofs.NeedCovers.{need_covers}
+use Rattle.i9_course.specs.Course.{puts_of}
+use Rattle.i9_model.specs.HeldFrames.{Cache}
+use Rattle.i9_raw.specs.Raw.{Hides}
 use Rattle.i9_processor.specs.declared.effect.Effect.{Effect}
 use Rattle.i9_processor.specs.Effect.{action_in, CanWait, HasRoomFor, IsStill, cache_through, size_through}
 use Rattle.i9_processor.specs.State.{state_of, cache_of, size_of, cells_of, bytes_of, queue_of, IsDrained}
@@ -34,12 +37,13 @@ use Rattle.i9_machine.specs.declared.line.Turn.TheVariants as turns
 use Rattle.std.specs.Prelude.{IfSome}
 use Rattle.i9_machine.specs.declared.machine.Machine.{Machine}
 use Rattle.i9_machine.specs.declared.step.Step.{Step}
+use Rattle.i9_machine.specs.Overtaking.{HasPace}
 use Rattle.i9_machine.specs.Issuing.{kernel_of, IsPaced, IsPlaced, IsIssued, IsUnmoved, IsLike, IsMoved, CanActPlaced}
 use Rattle.i9_machine.specs.Step.{TellsRecord, NeedsRoom, HasRoom, IsStepIn, IsStep, IsSame, Did, Steps, IssuesNext, Issues, event_for, next_for, records_left, steps_left}
 use Rattle.i9_machine.specs.StandsFor.{StandsFor, Follows, KeepsStep, IsUnderWay, HasCome, IsNow, Done, OpenSteps, LeavesFewer, waiting}
 use Rattle.i9_machine.specs.Line.{shown_of}
 use Rattle.i9_machine.proofs.Stepping.{move_fewer}
-use Rattle.i9_machine.proofs.Turning.{same_left, under_way_early}
+use Rattle.i9_machine.proofs.Turning.{same_left, paced_turn}
 use Rattle.i9_machine.proofs.Issuing.{same_need, clear_need, placed_done}
 use Rattle.i9_machine.proofs.Beside.{beside}
 use Rattle.i9_machine.proofs.Unmoved.{unmoved_paced, same_stands}
@@ -110,8 +114,9 @@ step_issues turns.Memory k s before m plan tells i = tt
 -- ---- where room was made first
 
 -- a record that issues behind that issues before
-pub unmoved_issued : (before mid m : Machine) (need : Need) (a : Action) → IsUnmoved before mid → IsIssued mid need a m → IsIssued before need a m
-unmoved_issued before mid m need a u i = record {
+pub unmoved_issued : (before mid m : Machine) (need : Need) (a : Action) → IsUnmoved before mid → size_of mid.processor ≡ size_of before.processor
+    → cache_of mid.processor ≡ cache_of before.processor → IsIssued mid need a m → IsIssued before need a m
+unmoved_issued before mid m need a u size cache i = record {
   placed = i.placed;
   board = λ rs stands.
       subst (λ (t : ℕ). board.StandsFor m.board (placed_record (waiting_until t need) i.placed ∷ rs)) u.floor
@@ -135,6 +140,14 @@ unmoved_issued before mid m need a u i = record {
     acts = λ request. i.acts.acts request ∙ u.queue;
     still = λ request still. i.acts.still request still ∙ u.bytes;
   };
+  hides = record {
+    bytes = λ is.
+        subst (λ (f : ℕ → ℕ). Hides f (puts_of (size_of before.processor) (cache_of before.processor) a) m.shade.pieces) u.bytes
+        (subst (λ (c : Cache). Hides (bytes_of mid.processor) (puts_of (size_of before.processor) c a) m.shade.pieces) cache
+        (subst (λ (n : ℕ). Hides (bytes_of mid.processor) (puts_of n (cache_of mid.processor) a) m.shade.pieces) size (i.hides.bytes is)));
+    due = i.hides.due;
+    keeps = λ beside. i.hides.keeps beside ∙ u.shade;
+  };
 }
 
 -- ---- from a machine that is the same but for the instructions and the step that it keeps
@@ -149,6 +162,7 @@ like_unmoved before mid l = record {
   cells = ap cells_of l.processor;
   bytes = ap bytes_of l.processor;
   queue = ap queue_of l.processor;
+  shade = l.shade;
 }
 
 pub like_next : (before mid : Machine) (plan : Plan) → IsLike before mid → next_for mid plan ≡ next_for before plan
@@ -164,6 +178,7 @@ like_issues_next before mid m plan l i = record {
   need = i.need;
   is_need = i.is_need ∙ ap (λ (p : Processor). need_of (size_of p) (cache_of p) (state_of p) i.kind) l.processor;
   issued = unmoved_issued before mid m i.need (action_by_kind i.kind (state_of before.processor)) (like_unmoved before mid l)
+      (ap size_of l.processor) (ap cache_of l.processor)
       (subst (λ (p : Processor). IsIssued mid i.need (action_by_kind i.kind (state_of p)) m) l.processor i.issued);
 }
 
@@ -212,6 +227,7 @@ like_same before mid m l s = record {
     cells = s.unmoved.cells ∙ ap cells_of l.processor;
     bytes = s.unmoved.bytes ∙ ap bytes_of l.processor;
     queue = s.unmoved.queue ∙ ap queue_of l.processor;
+    shade = s.unmoved.shade ∙ l.shade;
   };
 }
 
@@ -324,6 +340,7 @@ like_moved before mid m wait l i = record {
   board = i.board ∙ l.board;
   floor = i.floor ∙ l.floor;
   done = i.done ∙ l.done;
+  shade = i.shade ∙ l.shade;
   wait = i.wait;
   due = i.due ∙ l.due;
   length = i.length ∙ l.length;
@@ -370,9 +387,9 @@ wait_opens before mid m answer plan lines wait on l later bound none moved =
     (λ g h stands follows. subst (λ (o : Option Step). IfSome o (KeepsStep g h (waiting before wait mid.kept mid.effect))) (sym none) tt) moved
 
 -- and leaves less
-pub wait_fewer : (before mid m : Machine) (answer : Turn) (plan : Plan) (wait : ℕ) → answer ≡ turns.On → IsLike before mid → IsUnderWay before plan
+pub wait_fewer : (before mid m : Machine) (answer : Turn) (plan : Plan) (wait : ℕ) → answer ≡ turns.On → IsLike before mid → HasPace before
     → IsMoved (record mid { wait = wait }) m → LeavesFewer answer (steps_left before plan) (steps_left m plan)
-wait_fewer before mid m answer plan wait on l u i =
+wait_fewer before mid m answer plan wait on l pace i =
     let moved = like_moved before mid m wait l i in
     subst (λ (t : Turn). LeavesFewer t (steps_left before plan) (steps_left m plan)) (sym on)
-    (move_fewer before m plan (same_left before m plan wait mid.kept mid.effect moved) moved.turn (under_way_early before plan u))
+    (move_fewer before m plan (same_left (before.turn + 1) before m plan wait mid.kept mid.effect moved) moved.turn (paced_turn before pace))

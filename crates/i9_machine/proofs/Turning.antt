@@ -7,7 +7,7 @@ use Rattle.i9_model.specs.declared.need.TimedNeed.{TimedNeed}
 use Rattle.i9_model.specs.declared.run.Due.{Due}
 use Rattle.i9_model.specs.Left.{left_in}
 use Rattle.i9_model.specs.Run.{Given, Record, record_of, due_after, event_after, state_after, next}
-use Rattle.i9_model.specs.State.{State}
+use Rattle.i9_model.specs.State.{State, boot}
 use Rattle.i9_model.specs.HeldFrames.{Cache, cache_after}
 use Rattle.i9_model.specs.Alike.{AreAlike}
 use Rattle.i9_model.specs.Turns.{HasCost, Pending, IsAllDone, AreAllDone, last_issue, issue_turn, end_turn, done_from, waiting_until}
@@ -23,13 +23,15 @@ use Rattle.i9_course.proofs.NeedAlike.{next_need_alike}
 use Rattle.i9_course.proofs.Placing.{next_turn}
 use Rattle.i9_course.proofs.Steps.{moves_lands}
 use Rattle.i9_processor.specs.State.{state_of, cache_of, size_of, IsDrained}
+use Rattle.i9_raw.specs.Raw.{IsShaded}
 use Rattle.i9_machine.specs.declared.line.Line.{Line}
 use Rattle.i9_machine.specs.declared.machine.Machine.{Machine}
-use Rattle.i9_machine.specs.Issuing.{kernel_of, most_turns, IsPaced, IsMoved, IsEndTurn}
+use Rattle.i9_machine.specs.Issuing.{kernel_of, most_turns, IsPaced, IsMovedTo, IsMoved, IsEndTurn}
 use Rattle.i9_machine.specs.Step.{IsStepIn, IsStep, next_for, records_left}
 use Rattle.i9_model.specs.declared.event.Timed.{Timed}
 use Rattle.i9_machine.specs.StandsFor.{StandsFor, Follows, KeepsStep, IsUnderWay, IsNow, MovesOn, waiting, left_after}
 use Rattle.i9_machine.specs.Opening.{NextWaits}
+use Rattle.i9_machine.specs.Overtaking.{HasPace}
 use Rattle.i9_machine.specs.declared.step.Step.{Step}
 use Rattle.i9_processor.specs.declared.effect.Effect.{Effect}
 use Rattle.i9_course.proofs.Checks.{checked_waits}
@@ -48,26 +50,26 @@ pub keeps_none : (g : Given) (h : List Item) (m : Machine) → m.kept ≡ None �
 keeps_none g h m none = subst (λ (o : Option Step). IfSome o (KeepsStep g h m)) (sym none) tt
 
 -- a step is what comes next as the turn moves
-moved_step : (before m : Machine) (plan : Plan) (step : Step) → IsMoved before m → IsStep before plan step before.effect → IsStep m plan step m.effect
-moved_step before m plan step i is =
+moved_step : (t : ℕ) (before m : Machine) (plan : Plan) (step : Step) → IsMovedTo t before m → IsStep before plan step before.effect → IsStep m plan step m.effect
+moved_step t before m plan step i is =
     let s = state_of m.processor in
     let n = size_of m.processor in
     let c = cache_of m.processor in
     subst (λ (l : ℕ). IsStepIn l m.due s n c plan step m.effect) (sym i.length)
     (subst (λ (d : Due). IsStepIn before.length d s n c plan step m.effect) (sym i.due)
-    (subst (λ (t : State). IsStepIn before.length before.due t n c plan step m.effect) (sym i.state)
+    (subst (λ (x : State). IsStepIn before.length before.due x n c plan step m.effect) (sym i.state)
     (subst (λ (k : ℕ). IsStepIn before.length before.due (state_of before.processor) k c plan step m.effect) (sym i.size)
     (subst (λ (d : Cache). IsStepIn before.length before.due (state_of before.processor) (size_of before.processor) d plan step m.effect) (sym i.cache)
     (subst (IsStepIn before.length before.due (state_of before.processor) (size_of before.processor) (cache_of before.processor) plan step) (sym i.effect) is)))))
 
 -- so it stays kept
-moved_keeps : (g : Given) (h : List Item) (before m : Machine) → IsMoved before m → IfSome before.kept (KeepsStep g h before) → IfSome m.kept (KeepsStep g h m)
-moved_keeps g h before m i keeps = subst (λ (o : Option Step). IfSome o (KeepsStep g h m)) (sym i.kept) (each before.kept keeps)
+moved_keeps : (g : Given) (h : List Item) (t : ℕ) (before m : Machine) → IsMovedTo t before m → IfSome before.kept (KeepsStep g h before) → IfSome m.kept (KeepsStep g h m)
+moved_keeps g h t before m i keeps = subst (λ (o : Option Step). IfSome o (KeepsStep g h m)) (sym i.kept) (each before.kept keeps)
   where
     each : (o : Option Step) → IfSome o (KeepsStep g h before) → IfSome o (KeepsStep g h m)
     each None k = tt
     each (Some step) k = record {
-      step = λ plan follows. moved_step before m plan step i (k.step plan follows);
+      step = λ plan follows. moved_step t before m plan step i (k.step plan follows);
       turn = k.turn ∙ sym i.wait;
       precise = k.precise;
     }
@@ -97,73 +99,83 @@ done_least t [] b le done = le
 done_least t (r ∷ rs) b le done = let one : r.done ≤ b = done.0 in done_least (max t r.done) rs b (omega (arith, le, one)) done.1
 
 -- all records are done by the bound
-ended_by : (p : Pending) (rs : List TimedNeed) (b : ℕ) → board.StandsFor p rs → IsAllDone p b → end_turn rs ≤ b
+pub ended_by : (p : Pending) (rs : List TimedNeed) (b : ℕ) → board.StandsFor p rs → IsAllDone p b → end_turn rs ≤ b
 ended_by p rs b stands done =
     let is : AreAllDone rs b = open-all_done rs b (subst (λ (q : Pending). IsAllDone q b) stands.pending done) in
     done_least (last_issue rs) rs b is.in_order is.done
 
 -- so what is paced stays so as the turn moves
-moved_paced : (g : Given) (h : List Item) (before m : Machine) (wait : ℕ) (step : Option Step) (e : Effect) → StandsFor g h None before → before.turn < wait
-    → wait ≤ (ahead g h).turn → IsMoved (waiting before wait step e) m → IsPaced m (left_after g (records_of h))
-moved_paced g h before m wait step e stands later bound i =
+moved_paced : (g : Given) (h : List Item) (t : ℕ) (before m : Machine) (wait : ℕ) (step : Option Step) (e : Effect) → StandsFor g h None before
+    → t ≤ (ahead g h).turn → IsMovedTo t (waiting before wait step e) m → IsPaced m (left_after g (records_of h))
+moved_paced g h t before m wait step e stands bound i =
     let p = stands.paced in
     let by_end : (ahead g h).turn ≤ end_turn (turns (course g h).late) = ahead_by_end g h in
     let ended : end_turn (turns (course g h).late) ≤ p.bound = ended_by before.board (turns (course g h).late) p.bound stands.lands.board p.done in
-    let turn : m.turn ≡ before.turn + 1 = i.turn in
+    let turn : m.turn ≡ t = i.turn in
     let floor : m.floor ≡ before.floor = i.floor in
     let floor_was : before.floor ≤ p.bound = p.floor in
     record {
       bound = p.bound;
       far = p.far;
       done = subst (λ (b : Pending). IsAllDone b p.bound) (sym i.board) p.done;
-      turn = omega (arith, turn, later, bound, by_end, ended);
+      turn = omega (arith, turn, bound, by_end, ended);
       floor = omega (arith, floor, floor_was);
     }
 
--- towards a turn below which nothing comes next
+-- to a turn below which nothing comes next
+pub moved_stands : (g : Given) (h : List Item) (t : ℕ) (before m : Machine) (wait : ℕ) (step : Option Step) (e : Effect)
+    → StandsFor g h None before → before.turn ≤ t → t ≤ wait → wait ≤ (ahead g h).turn → IfSome step (KeepsStep g h (waiting before wait step e))
+    → IsMovedTo t (waiting before wait step e) m → StandsFor g h None m
+moved_stands g h t before m wait step e stands later within bound keeps i =
+    let turn : m.turn ≡ t = i.turn in
+    let wait_now : m.wait ≡ wait = i.wait in
+    record {
+      past = stands.past;
+      state = subst (AreAlike (state_after g (records_of h))) (sym i.state) stands.state;
+      size = i.size ∙ stands.size;
+      cache = i.cache ∙ stands.cache;
+      lands = moves_lands g h m.turn (kernel_of before) (kernel_of m) stands.lands (omega (arith, turn, later)) (omega (arith, turn, within, bound))
+          (record { board = i.board; turn = refl; done = i.done; cells = λ r lt. i.cells r; bytes = i.bytes; queue = i.queue }) i.floor;
+      shaded = subst (IsShaded (boot g.image).memory.bytes (course g h).late) (sym i.shade) stands.shaded;
+      early = omega (arith, wait_now, bound);
+      paced = moved_paced g h t before m wait step e stands (omega (arith, within, bound)) i;
+      due = i.due ∙ stands.due;
+      length = i.length ∙ stands.length;
+      sets = i.sets ∙ stands.sets;
+      ended = i.ended ∙ stands.ended;
+      over = tt;
+      kept = moved_keeps g h t (waiting before wait step e) m i keeps;
+    }
+
+-- by one
 pub moved : (g : Given) (h : List Item) (before m : Machine) (plan : Plan) (lines : List Line) (wait : ℕ) (step : Option Step) (e : Effect)
     → StandsFor g h None before → Follows g h plan → before.turn < wait → wait ≤ (ahead g h).turn → IfSome step (KeepsStep g h (waiting before wait step e))
     → IsMoved (waiting before wait step e) m → MovesOn g h before m plan lines lines
-moved g h before m plan lines wait step e stands follows later bound keeps i =
-    let turn : m.turn ≡ before.turn + 1 = i.turn in
-    let wait_now : m.wait ≡ wait = i.wait in
-    record {
-      early = omega (arith, later, bound);
-      turn = turn;
-      stands = record {
-        past = stands.past;
-        state = subst (AreAlike (state_after g (records_of h))) (sym i.state) stands.state;
-        size = i.size ∙ stands.size;
-        cache = i.cache ∙ stands.cache;
-        lands = moves_lands g h m.turn (kernel_of before) (kernel_of m) stands.lands (omega (arith, turn)) (omega (arith, turn, later, bound))
-            (record { board = i.board; turn = refl; done = i.done; cells = λ r lt. i.cells r; bytes = i.bytes; queue = i.queue }) i.floor;
-        early = omega (arith, wait_now, bound);
-        paced = moved_paced g h before m wait step e stands later bound i;
-        due = i.due ∙ stands.due;
-        length = i.length ∙ stands.length;
-        sets = i.sets ∙ stands.sets;
-        ended = i.ended ∙ stands.ended;
-        over = tt;
-        kept = moved_keeps g h (waiting before wait step e) m i keeps;
-      };
-      follows = follows;
-      lines = refl;
-    }
+moved g h before m plan lines wait step e stands follows later bound keeps i = record {
+  early = omega (arith, later, bound);
+  turn = i.turn;
+  stands = moved_stands g h (before.turn + 1) before m wait step e stands (omega arith) (omega (arith, later)) bound keeps i;
+  follows = follows;
+  lines = refl;
+}
 
 -- no record is done
-pub same_left : (before m : Machine) (plan : Plan) (wait : ℕ) (step : Option Step) (e : Effect) → IsMoved (waiting before wait step e) m
+pub same_left : (t : ℕ) (before m : Machine) (plan : Plan) (wait : ℕ) (step : Option Step) (e : Effect) → IsMovedTo t (waiting before wait step e) m
     → records_left m plan ≡ records_left before plan
-same_left before m plan wait step e i =
+same_left t before m plan wait step e i =
     let events = drop plan.place plan.events in
     ap (λ (l : ℕ). left_in l events m.due (state_of m.processor)) i.length
     ∙ ap (λ (d : Due). left_in before.length events d (state_of m.processor)) i.due
     ∙ ap (λ (s : State). left_in before.length events before.due s) i.state
 
 -- the turn is small
-pub under_way_early : (m : Machine) (plan : Plan) → IsUnderWay m plan → m.turn < 2 ^ 62
-under_way_early m plan u =
-    let p = u.stands.paced in
-    let far : p.bound + 2 ^ 8 * left_after u.given (records_of u.items) < 2 ^ 62 = p.far in
+pub has_pace : (m : Machine) (plan : Plan) → IsUnderWay m plan → HasPace m
+has_pace m plan u = (left_after u.given (records_of u.items), u.stands.paced)
+
+pub paced_turn : (m : Machine) → HasPace m → m.turn < 2 ^ 62
+paced_turn m pace =
+    let p = pace.1 in
+    let far : p.bound + 2 ^ 8 * pace.0 < 2 ^ 62 = p.far in
     let turn : m.turn ≤ p.bound = p.turn in
     omega (arith, far, turn)
 

@@ -1,19 +1,20 @@
 -- What a machine stands for that is the same but for the room that it has.
-use Rattle.std.proofs.Common.{◌≡◌, ℕ, ◌≤◌, List, Option, None, sym, ap, ◌∙◌, subst, arith}
+use Rattle.std.proofs.Common.{◌≡◌, ℕ, ◌≤◌, List, Option, Some, None, sym, ap, ◌∙◌, subst, arith}
 use Rattle.i9_model.specs.declared.need.Cell.{Cell}
 use Rattle.i9_model.specs.declared.run.End.{End}
 use Rattle.i9_model.specs.Alike.{AreAlike}
 use Rattle.i9_model.specs.Late.{Wait}
 use Rattle.i9_model.specs.Run.{Given, state_after}
-use Rattle.i9_model.specs.State.{State}
+use Rattle.i9_model.specs.State.{State, boot}
 use Rattle.i9_model.specs.Turns.{Pending, IsAllDone}
-use Rattle.i9_course.specs.Course.{Item, records_of, ahead}
+use Rattle.i9_course.specs.Course.{Item, records_of, course, ahead}
+use Rattle.i9_raw.specs.Raw.{IsShaded}
 use Rattle.i9_course.specs.Kernel.{Lands}
 use Rattle.i9_processor.specs.State.{state_of, bytes_of, queue_of}
 use Rattle.i9_machine.specs.declared.machine.Machine.{Machine}
 use Rattle.i9_machine.specs.Issuing.{kernel_of, IsPaced, IsUnmoved}
 use Rattle.i9_machine.specs.Step.{IsSame}
-use Rattle.i9_machine.specs.StandsFor.{StandsFor, IsOver, left_after}
+use Rattle.i9_machine.specs.StandsFor.{StandsFor, IsOver, IsLanding, IsInTime, left_after}
 use Rattle.i9_machine.proofs.Turning.{keeps_none}
 
 same_state : (s : State) (before m : Machine) → AreAlike s (state_of before.processor) → state_of m.processor ≡ state_of before.processor → AreAlike s (state_of m.processor)
@@ -50,6 +51,21 @@ unmoved_paced before m left u p =
 unmoved_early : (t : ℕ) (before m : Machine) → IsUnmoved before m → before.wait ≤ t → m.wait ≤ t
 unmoved_early t before m u early = subst (λ (w : ℕ). w ≤ t) (sym u.wait) early
 
+-- once an end is answered, the turn may pass that of what lay ahead
+landing_of : (g : Given) (h : List Item) (end : Option End) (m : Machine) → Lands g h (kernel_of m) → IsLanding g h end (kernel_of m)
+landing_of g h None m lands = lands
+landing_of g h (Some f) m lands = record {
+  board = lands.board;
+  mark = lands.mark;
+  last = lands.last;
+  begun = lands.begun;
+  shows = lands.shows;
+}
+
+in_time_of : (g : Given) (h : List Item) (end : Option End) (m : Machine) → m.wait ≤ (ahead g h).turn → IsInTime g h end m
+in_time_of g h None m early = early
+in_time_of g h (Some f) m early = tt
+
 -- It keeps no step, and has answered this end, if any.
 pub same_stands : (g : Given) (h : List Item) (before m : Machine) (end : Option End) → IsSame before m → m.ended ≡ end → m.kept ≡ None → IsOver g h end
     → StandsFor g h None before → StandsFor g h end m
@@ -58,8 +74,9 @@ same_stands g h before m end same ended none over stands = record {
   state = same_state (state_after g (records_of h)) before m stands.state same.state;
   size = same.size ∙ stands.size;
   cache = same.cache ∙ stands.cache;
-  lands = unmoved_lands g h before m same.unmoved stands.lands;
-  early = unmoved_early (ahead g h).turn before m same.unmoved stands.early;
+  lands = landing_of g h end m (unmoved_lands g h before m same.unmoved stands.lands);
+  shaded = subst (IsShaded (boot g.image).memory.bytes (course g h).late) (sym same.unmoved.shade) stands.shaded;
+  early = in_time_of g h end m (unmoved_early (ahead g h).turn before m same.unmoved stands.early);
   paced = unmoved_paced before m (left_after g (records_of h)) same.unmoved stands.paced;
   due = same.due ∙ stands.due;
   length = same.length ∙ stands.length;

@@ -1,5 +1,5 @@
 -- What of a machine lands late, and how a record issues.
-use Rattle.std.specs.Prelude.{◌≡◌, ℕ, ◌+◌, ◌*◌, ◌^◌, ◌<◌, ◌≤◌, true, false, List, [], ◌∷◌, ◌++◌}
+use Rattle.std.specs.Prelude.{◌≡◌, ℕ, max, None, ◌+◌, ◌*◌, ◌^◌, ◌<◌, ◌≤◌, true, false, List, [], ◌∷◌, ◌++◌}
 use Rattle.i9_model.specs.declared.need.Need.{Need}
 use Rattle.i9_model.specs.declared.need.Placed.{Placed}
 use Rattle.i9_model.specs.declared.need.TimedNeed.{TimedNeed}
@@ -7,7 +7,10 @@ use Rattle.i9_model.specs.Late.{resource, resources, landed, due_puts, left_wait
 use Rattle.i9_model.specs.Memory.{stored}
 use Rattle.i9_model.specs.Step.{Action}
 use Rattle.i9_model.specs.Turns.{Pending, StandsFor, IsAllDone, with_need, waiting_until, placed_record, end_turn}
+use Rattle.i9_course.specs.Course.{puts_of}
 use Rattle.i9_course.specs.Kernel.{Kernel}
+use Rattle.i9_raw.specs.Raw.{Hides, shades_need}
+use Rattle.i9_shade.specs.Shade.{Kept}
 use Rattle.i9_processor.specs.declared.effect.Effect.{Effect}
 use Rattle.i9_processor.specs.declared.landing.Landing.{Landing}
 use Rattle.i9_processor.specs.declared.processor.Processor.{Processor}
@@ -53,6 +56,13 @@ pub record Acts (before : Processor) (l : Landing) (a : Action) (p : Processor) 
   pub acts : l.request ≡ false → queue_of p ≡ queue_of before
   pub still : l.request ≡ false → IsStill a → bytes_of p ≡ bytes_of before
 
+-- what is kept of the bytes under what is done by a turn: those under a barrier that is no request, and else as before
+pub record Hidden (before : Machine) (need : Need) (a : Action) (done : ℕ) (k : Kept) : Type 0 where
+  pub bytes : shades_need need ≡ true
+      → Hides (bytes_of before.processor) (puts_of (size_of before.processor) (cache_of before.processor) a) k.pieces
+  pub due : shades_need need ≡ true → k.due ≡ done
+  pub keeps : shades_need need ≡ false → k ≡ before.shade
+
 -- A record of this need and action issued: it was placed, and what it leaves lands when it is done.
 pub record IsIssued (before : Machine) (need : Need) (a : Action) (m : Machine) : Type 0 where
   pub placed : Placed
@@ -68,6 +78,7 @@ pub record IsIssued (before : Machine) (need : Need) (a : Action) (m : Machine) 
   pub done : m.done ≡ placed.done
   pub acts : Acts before.processor (record { writes = need.writes; done = placed.done; request = need.request }) a
       m.processor
+  pub hides : Hidden before need a placed.done m.shade
 
 -- nothing issued, and nothing landed
 pub record IsUnmoved (before m : Machine) : Type 0 where
@@ -79,6 +90,7 @@ pub record IsUnmoved (before m : Machine) : Type 0 where
   pub cells : cells_of m.processor ≡ cells_of before.processor
   pub bytes : bytes_of m.processor ≡ bytes_of before.processor
   pub queue : queue_of m.processor ≡ queue_of before.processor
+  pub shade : m.shade ≡ before.shade
 
 -- the same machine, but for the instructions and the step that it keeps
 pub record IsLike (before mid : Machine) : Type 0 where
@@ -91,20 +103,22 @@ pub record IsLike (before mid : Machine) : Type 0 where
   pub floor : mid.floor ≡ before.floor
   pub wait : mid.wait ≡ before.wait
   pub done : mid.done ≡ before.done
+  pub shade : mid.shade ≡ before.shade
   pub ended : mid.ended ≡ before.ended
 
--- The turn moved by one, and what is due by then landed; nothing else changed, and a step that is kept stays so.
-pub record IsMoved (before m : Machine) : Type 0 where
+-- The turn moved to this one, and what is due by then landed; nothing else changed, and a step that is kept stays so.
+pub record IsMovedTo (t : ℕ) (before m : Machine) : Type 0 where
   pub state : state_of m.processor ≡ state_of before.processor
   pub cache : cache_of m.processor ≡ cache_of before.processor
   pub size : size_of m.processor ≡ size_of before.processor
   pub cells : (r : ℕ) → cells_of m.processor r ≡ landed m.turn (cells_of before.processor r)
   pub bytes : bytes_of m.processor ≡ stored (bytes_of before.processor) (due_puts m.turn (queue_of before.processor))
   pub queue : queue_of m.processor ≡ left_waiting m.turn (queue_of before.processor)
-  pub turn : m.turn ≡ before.turn + 1
+  pub turn : m.turn ≡ t
   pub board : m.board ≡ before.board
   pub floor : m.floor ≡ before.floor
   pub done : m.done ≡ before.done
+  pub shade : m.shade ≡ before.shade
   pub wait : m.wait ≡ before.wait
   pub due : m.due ≡ before.due
   pub length : m.length ≡ before.length
@@ -112,6 +126,10 @@ pub record IsMoved (before m : Machine) : Type 0 where
   pub ended : m.ended ≡ before.ended
   pub kept : m.kept ≡ before.kept
   pub effect : m.effect ≡ before.effect
+
+-- it moved by one
+abbrev pub IsMoved : Machine → Machine → Type 0
+IsMoved before m = IsMovedTo (before.turn + 1) before m
 
 -- a turn is the least at which all records are done, whatever they are
 abbrev pub IsEndTurn : Machine → ℕ → Type 0
@@ -122,3 +140,27 @@ abbrev pub CanActPlaced : Machine → Need → Effect → Type 0
 CanActPlaced m need e =
     (p : Placed) (b : Pending) → IsPlaced m.board (waiting_until m.floor need) p b
     → CanAct m.processor (record { writes = need.writes; done = p.done; request = need.request }) e
+
+-- All that is open landed: the turn became one at which all records are done, and nothing is waited for or kept.
+pub record IsSettled (before m : Machine) (until : ℕ) : Type 0 where
+  pub state : state_of m.processor ≡ state_of before.processor
+  pub cache : cache_of m.processor ≡ cache_of before.processor
+  pub size : size_of m.processor ≡ size_of before.processor
+  pub cells : (r : ℕ) → cells_of m.processor r ≡ landed m.turn (cells_of before.processor r)
+  pub bytes : bytes_of m.processor ≡ stored (bytes_of before.processor) (due_puts m.turn (queue_of before.processor))
+  pub queue : queue_of m.processor ≡ left_waiting m.turn (queue_of before.processor)
+  pub turn : m.turn ≡ max before.turn until
+  pub board : m.board ≡ before.board
+  pub done : m.done ≡ before.done
+  pub shade : m.shade ≡ before.shade
+  pub wait : m.wait ≡ 0
+  pub kept : m.kept ≡ None
+  pub due : m.due ≡ before.due
+  pub length : m.length ≡ before.length
+  pub sets : m.sets ≡ before.sets
+  pub ended : m.ended ≡ before.ended
+
+-- nothing is planned for a register or the condition code, and no request waits
+pub record IsQuiet (m : Machine) : Type 0 where
+  pub planned : (r : ℕ) → r < resources → (cells_of m.processor r).plan ≡ None
+  pub waiting : queue_of m.processor ≡ []

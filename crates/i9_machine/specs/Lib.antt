@@ -6,4 +6,6 @@ pub mod Opening
 pub mod Doing
 pub mod StandsFor
 pub mod InRun
+pub mod Raw
+pub mod Turned
 pub mod Overtaking

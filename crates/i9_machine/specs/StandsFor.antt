@@ -8,9 +8,14 @@ use Rattle.i9_schedule.specs.Plan.{Plan}
 use Rattle.i9_model.specs.Alike.{AreAlike}
 use Rattle.i9_model.specs.HeldFrames.{sets_in, cache_after}
 use Rattle.i9_model.specs.PrintedText.{record_lines, end_lines}
-use Rattle.i9_course.specs.Course.{Item, Step, records_of, ahead, IsCourse}
-use Rattle.i9_course.specs.Kernel.{Lands}
+use Rattle.i9_model.specs.State.{boot}
+use Rattle.i9_model.specs.Turns.{last_issue}
+use Rattle.i9_model.specs.Turns as board
+use Rattle.i9_model.specs.Late.{Shows, turns as late_turns}
+use Rattle.i9_course.specs.Course.{Item, Step, records_of, course, last_done, ahead, IsCourse}
+use Rattle.i9_course.specs.Kernel.{Kernel, Lands}
 use Rattle.i9_course.specs.LateRun.{end_ahead}
+use Rattle.i9_raw.specs.Raw.{IsShaded}
 use Rattle.i9_processor.specs.State.{state_of, cache_of, size_of}
 use Rattle.i9_machine.specs.declared.line.Line.{Line}
 use Rattle.i9_machine.specs.declared.line.Turn.{Turn}
@@ -43,18 +48,37 @@ pub record KeepsStep (g : Given) (h : List Item) (m : Machine) (planned : Planne
   pub turn : (ahead g h).turn ≡ m.wait
   pub precise : (ahead g h).imprecise ≡ None
 
+-- what lands late is as the course of the items has it at the machine's turn, which is not below the last issue
+pub record HasLanded (g : Given) (h : List Item) (k : Kernel) : Type 0 where
+  pub board : board.StandsFor k.board (late_turns (course g h).late)
+  pub mark : k.floor ≡ (course g h).mark
+  pub last : k.done ≡ last_done (course g h).late
+  pub begun : last_issue (late_turns (course g h).late) ≤ k.turn
+  pub shows : Shows (boot g.image) k.turn (course g h).late k.cells k.bytes k.queue
+
+-- the same, where the turn is at most that of what lies ahead as long as no end was answered
+abbrev pub IsLanding : Given → List Item → Option End → Kernel → Type 0
+IsLanding g h None k = Lands g h k
+IsLanding g h (Some f) k = HasLanded g h k
+
+-- as long as no end was answered, the machine waits to no turn above that of what lies ahead
+abbrev pub IsInTime : Given → List Item → Option End → Machine → Type 0
+IsInTime g h None m = m.wait ≤ (ahead g h).turn
+IsInTime g h (Some f) m = Unit {0}
+
 -- The machine stands for the first items of the run of what is given, its records and the marks between them, and has
 -- answered this end of it, if any: its state is the one after them but for bytes that are not compared; it has as many
 -- sets as are asked for, or as the PRCB asks for, and the frames in them and the memory behind, with all that waits,
 -- are those of the run; what lands late is as the course of the items has it at the machine's turn, which is at most
--- that of what lies ahead; and a step that is kept is what comes next.
+-- that of what lies ahead as long as no end was answered; what stood under an open barrier's writes is kept; and a step that is kept is what comes next.
 pub record StandsFor (g : Given) (h : List Item) (end : Option End) (m : Machine) : Type 0 where
   pub past : IsCourse g h
   pub state : AreAlike (state_after g (records_of h)) (state_of m.processor)
   pub size : size_of m.processor ≡ sets_in g.sets (state_after g (records_of h))
   pub cache : cache_of m.processor ≡ cache_after g (records_of h)
-  pub lands : Lands g h (kernel_of m)
-  pub early : m.wait ≤ (ahead g h).turn
+  pub lands : IsLanding g h end (kernel_of m)
+  pub shaded : IsShaded (boot g.image).memory.bytes (course g h).late m.shade
+  pub early : IsInTime g h end m
   pub paced : IsPaced m (left_after g (records_of h))
   pub due : m.due ≡ due_after (records_of h)
   pub length : m.length ≡ g.length

@@ -7,8 +7,10 @@ mod machine;
 mod step;
 
 pub use i9_model::{End, Event, Point};
-pub use line::{Issued, Line, Turn};
+pub use line::{Issued, Line, Raw, Turn};
 pub use machine::Machine;
 
 #[cfg(test)]
 mod tests;
+#[cfg(test)]
+mod turn_tests;

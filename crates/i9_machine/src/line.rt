@@ -30,6 +30,15 @@ pub enum Turn {
     Memory,
 }
 
+/// The raw state at a turn: the 32 registers with what has landed, whatever is open, and the set of those that
+/// an open record writes, of which bit r is that of register r.
+#[derive(Clone, Copy, Debug, PartialEq, Eq)]
+pub struct Raw {
+    pub turn: u64,
+    pub regs: [u32; 32],
+    pub busy: u32,
+}
+
 /// What is printed.
 #[derive(Clone, Debug, Drop, PartialEq, Eq)]
 pub enum Line {

@@ -1,5 +1,5 @@
 //! The machine, one step at a time.
-ghost use Rattle.std.specs.Prelude.{◌≡◌, ◌-◌, ◌^◌, ◌<◌, ◌≤◌, [], ℕ, List, Option, None, Some, IfOk, IfSome, IsNone, vec_len, vec_capacity};
+ghost use Rattle.std.specs.Prelude.{◌≡◌, ◌-◌, ◌^◌, ◌<◌, ◌≤◌, [], ◌∷◌, max, ℕ, List, Option, None, Some, IfOk, IfSome, IsNone, vec_len, vec_capacity};
 ghost use Rattle.std.proofs.Props.{props};
 ghost use Rattle.i9_model.specs.declared.layout.TheConstants.{MAX_LENGTH};
 ghost use Rattle.i9_model.specs.declared.event.Timed.{Timed};
@@ -10,8 +10,12 @@ ghost use Rattle.i9_model.specs.Given.{Given, given};
 ghost use Rattle.i9_model.specs.declared.run.End.{End};
 ghost use Rattle.i9_model.specs.ScheduleText.{IsPlan};
 ghost use Rattle.i9_model.specs.Run.{state_after, next};
-ghost use Rattle.i9_course.specs.Course.{Item, records_of};
+ghost use Rattle.i9_model.specs.declared.need.TimedNeed.{TimedNeed};
+ghost use Rattle.i9_model.specs.Turns.{end_turn};
+ghost use Rattle.i9_model.specs.Turns as board;
+ghost use Rattle.i9_course.specs.Course.{Item, Mark, records_of};
 ghost use Rattle.i9_model.specs.PrintedText.{view_of};
+ghost use Rattle.i9_schedule.specs.Plan.{Plan};
 ghost use Rattle.i9_frames.specs.Sets.{held};
 ghost use Rattle.i9_model.specs.Standing.{stands_at};
 ghost use Rattle.i9_plan.specs.Open.{WaitsForAll};
@@ -20,6 +24,7 @@ ghost use Rattle.i9_processor.specs.State.{state_of, IsDrained};
 mod doing;
 mod opening;
 mod planning;
+mod turning;
 
 use crate::line::{Line, Turn};
 use crate::step::Step;
@@ -33,12 +38,13 @@ use i9_model::{Due, End, View};
 use i9_plan::Memo;
 use i9_processor::{Effect, Processor};
 use i9_schedule::Schedule;
+use i9_shade::Shade;
 use std::alloc::Global;
 
 /// A machine that runs an image: what an instruction may read or change, the length of the run, what
 /// comes next whatever the length, and the end that was answered; instructions that were decoded; the
 /// scoreboard with the turn, that of the last mark, that at which the last record is done, and one below
-/// which nothing comes next; and the step that comes at that turn, where it was planned before, with its
+/// which nothing comes next; what stood in memory under an open barrier's writes; and the step that comes at that turn, where it was planned before, with its
 /// effect.
 #[derive(Drop)]
 pub struct Machine {
@@ -54,6 +60,7 @@ pub struct Machine {
     floor: u64,
     done: u64,
     wait: u64,
+    shade: Shade,
     kept: Option<Step>,
     effect: Effect,
     ghost short: { length ≤ MAX_LENGTH },
@@ -63,7 +70,7 @@ pub struct Machine {
 
 impl Machine {
     ghost use Rattle.i9_machine.specs.StandsFor.{StandsFor, Follows, Advances, AnswersAgain, LeavesFewer, IsUnderWay, IsNow, Done, OpenSteps};
-    ghost use Rattle.i9_machine.specs.Issuing.{IsLike, IsMoved, IsEndTurn};
+    ghost use Rattle.i9_machine.specs.Issuing.{IsLike, IsMovedTo, IsMoved, IsSettled, IsQuiet, IsEndTurn};
     ghost use Rattle.i9_machine.specs.Overtaking.{late_due, HasPace, IssuesAhead};
     ghost use Rattle.i9_machine.specs.Step.{HasRoom, next_for, steps_left};
 
@@ -95,6 +102,7 @@ impl Machine {
             floor: 0,
             done: 1,
             wait: 0,
+            shade: Shade::new(),
             kept: None,
             effect: Effect::blank(),
         })
@@ -125,13 +133,67 @@ impl Machine {
         self.processor.sets()
     }
 
+    /// Lands all that is open: the turn becomes one at which all records are done. Where no end was answered a
+    /// mark is set, so that nothing issues below the turn at which they are; after an end none is. It succeeds
+    /// at every moment, and takes no memory.
+    pub fn settle(&mut self)
+        ensures marked { (g : Given) (h : List Item) → StandsFor g h None self.old → StandsFor g (Mark ∷ h) None self.new }
+        ensures ended { (g : Given) (h : List Item) (f : End) → StandsFor g h (Some f) self.old → StandsFor g h (Some f) self.new }
+        ensures turn { (rs : List TimedNeed) → board.StandsFor self.old.board rs → self.new.turn ≡ max self.old.turn (end_turn rs) }
+        ensures quiet { (g : Given) (h : List Item) (end : Option End) → StandsFor g h end self.old → IsQuiet self.new }
+    {
+        let until = self.board.all_done();
+        let floor = self.mark_at(until);
+        self.land_all(until, floor);
+    }
+
+    /// The turn becomes this one, unless it is above it, what is due lands, and nothing is waited for or kept.
+    fn land_all(&mut self, until: u64, floor: u64)
+        ensures settled { IsSettled self.old self.new until }
+        ensures floor { self.new.floor ≡ floor }
+    {
+        self.move_to(self.turn.max(until));
+        self.floor = floor;
+        self.wait = 0;
+        self.kept = None;
+    }
+
+    /// The turn of the last mark, once one is set at this turn where no end was answered.
+    fn mark_at(&self, turn: u64) -> u64
+        ensures none { self.now.ended ≡ None → result ≡ turn }
+        ensures end { (f : End) → self.now.ended ≡ Some f → result ≡ self.now.floor }
+    {
+        match self.ended {
+            None => turn,
+            Some(_) => self.floor,
+        }
+    }
+
+    /// Passes the turns at which nothing comes: the turn becomes the one to which the machine waits, where it is
+    /// below that, and what is due by then lands. `advance` moves them one by one. It takes no memory.
+    pub fn pass_turns(&mut self)
+        ensures stands { (g : Given) (h : List Item) (end : Option End) → StandsFor g h end self.old → StandsFor g h end self.new }
+        ensures fewer { (plan : Plan) → steps_left self.new plan ≤ steps_left self.old plan }
+    {
+        if self.ended.is_none() && self.turn < self.wait {
+            self.move_to(self.wait);
+        }
+    }
+
+    /// The turn becomes this one, and what is due lands.
+    fn move_to(&mut self, turn: u64)
+        ensures { IsMovedTo turn self.old self.new }
+    {
+        self.turn = turn;
+        self.processor.land(turn);
+    }
+
     /// The turn moves by one, to which something waits, and what is due lands.
     fn move_on(&mut self)
         requires { self.old.turn < self.old.wait }
         ensures { IsMoved self.old self.new }
     {
-        self.turn += 1;
-        self.processor.land(self.turn);
+        self.move_to(self.turn + 1);
     }
 
     /// The turn moves by one, and nothing comes below another one.
@@ -206,27 +268,20 @@ impl Machine {
 
     /// One step of a machine for which the entry of an arithmetic fault of the instruction at this address is
     /// due while something is open: an instruction that would issue before the fault is known overtakes it,
-    /// which ends the run at that turn; else the turn moves.
-    fn step_faulted(
-        &mut self,
-        address: u32,
-        until: u64,
-        plan: &mut Schedule,
-        out: &mut Vec<Line>,
-    ) -> Turn
+    /// which ends the run at that turn; else the turn moves. Events that wait do not come before it, so it does
+    /// not look at the schedule.
+    fn step_faulted(&mut self, address: u32, until: u64, out: &mut Vec<Line>) -> Turn
         requires running { self.old.ended ≡ None }
-        requires stands { IsUnderWay self.old plan.old }
+        requires pace { HasPace self.old }
         requires until { IsEndTurn self.old until }
         requires open { self.old.turn < until }
         requires late { late_due self.old ≡ Some address }
         requires none { self.old.kept ≡ None }
-        ensures steps { OpenSteps self.old result self.new plan.old plan.new out.old.items out.new.items }
-        ensures lacking { result ≡ Turn.Memory
-            → HasRoom self.old (vec_capacity out.old - vec_len out.old) (next_for self.old plan.old) → ⊥ }
-        ensures fewer { LeavesFewer result (steps_left self.old plan.old) (steps_left self.new plan.new) }
+        ensures steps { (plan : Plan) → OpenSteps self.old result self.new plan plan out.old.items out.new.items }
+        ensures lacking { (plan : Plan) → result ≡ Turn.Memory
+            → HasRoom self.old (vec_capacity out.old - vec_len out.old) (next_for self.old plan) → ⊥ }
+        ensures fewer { (plan : Plan) → LeavesFewer result (steps_left self.old plan) (steps_left self.new plan) }
     {
-        // The schedule is looked at by the clauses alone: events that wait do not come before the fault.
-        let _ = plan;
         match self.issue_ahead() {
             Some(issue) if issue < self.done => {
                 if self.turn < issue {
@@ -282,7 +337,7 @@ impl Machine {
             return self.step_drained(plan, out);
         }
         match self.late_fault() {
-            Some(address) => self.step_faulted(address, until, plan, out),
+            Some(address) => self.step_faulted(address, until, out),
             None => self.step_open(until, plan, out),
         }
     }

@@ -57,7 +57,7 @@ const STORES_FAR_APART: [u32; 10] = [
 ];
 
 /// A program at 1000, which the boot record names.
-fn image_of(alloc: Global, program: &[u32]) -> Result<Segments, Fail> {
+pub(crate) fn image_of(alloc: Global, program: &[u32]) -> Result<Segments, Fail> {
     let mut image = Segments::new(alloc);
     put_word(&mut image, 0xFFFF_FF10, 0x1000)?;
     let mut address = 0x1000u32;
@@ -68,7 +68,7 @@ fn image_of(alloc: Global, program: &[u32]) -> Result<Segments, Fail> {
     Ok(image)
 }
 
-fn put_word(image: &mut Segments, address: u32, word: u32) -> Result<(), Fail> {
+pub(crate) fn put_word(image: &mut Segments, address: u32, word: u32) -> Result<(), Fail> {
     let mut at = address;
     for byte in word.to_le_bytes() {
         image.put(at, byte)?;
@@ -90,14 +90,14 @@ fn events(alloc: Global, text: &[u8]) -> Result<Schedule, Fail>
 
 /// A machine with its schedule and the lines so far.
 #[derive(Drop)]
-struct Run {
-    machine: Machine,
-    plan: Schedule,
-    lines: Vec<Line>,
+pub(crate) struct Run {
+    pub(crate) machine: Machine,
+    pub(crate) plan: Schedule,
+    pub(crate) lines: Vec<Line>,
 }
 
 /// A machine before its first step, with the schedule that a text says.
-fn run_of(
+pub(crate) fn run_of(
     alloc: Global,
     image: &Segments,
     sets: Option<u8>,
@@ -118,7 +118,7 @@ fn run_of(
 }
 
 /// One step, which may be a move of the turn.
-fn advance(run: &mut Run) -> Turn
+pub(crate) fn advance(run: &mut Run) -> Turn
     requires { IsInRun run.old.machine run.old.plan }
     ensures { IsInRun run.new.machine run.new.plan }
 {
@@ -127,7 +127,7 @@ fn advance(run: &mut Run) -> Turn
 
 /// How often the turn moves before the next step that is no move, at most 1000 times, and that step. A move
 /// has no line, and each other step that is answered so has one.
-fn moves_and_step(run: &mut Run) -> (u64, Turn)
+pub(crate) fn moves_and_step(run: &mut Run) -> (u64, Turn)
     requires { IsInRun run.old.machine run.old.plan }
     ensures { IsInRun run.new.machine run.new.plan }
 {
@@ -142,7 +142,7 @@ fn moves_and_step(run: &mut Run) -> (u64, Turn)
 }
 
 /// The next step that is no move of the turn.
-fn step(run: &mut Run) -> Turn
+pub(crate) fn step(run: &mut Run) -> Turn
     requires { IsInRun run.old.machine run.old.plan }
     ensures { IsInRun run.new.machine run.new.plan }
 {
@@ -150,7 +150,7 @@ fn step(run: &mut Run) -> Turn
 }
 
 /// So many steps that are no moves of the turn.
-fn take_steps(run: &mut Run, count: usize)
+pub(crate) fn take_steps(run: &mut Run, count: usize)
     requires { IsInRun run.old.machine run.old.plan }
     ensures { IsInRun run.new.machine run.new.plan }
 {
@@ -428,7 +428,7 @@ fn image_with_sets(
 }
 
 /// What a machine is asked for: that many sets, at most 15, or at 0 those of the PRCB.
-fn asked(sets: u8) -> Option<u8>
+pub(crate) fn asked(sets: u8) -> Option<u8>
     ensures { IfSome result (λ n. 0 < n × n < 16) }
 {
     match sets {
@@ -673,6 +673,8 @@ fn moves_the_turn(rt: HostRuntime) -> Result<(), Fail> {
         (&[MULTIPLY, MULTIPLY], &[0, 5, 5]),
         // A barrier waits for all before it, and all behind it wait for it.
         (&[MULTIPLY, CALL, LOAD_ADDRESS], &[0, 5, 4, 1]),
+        // So does `mov 1, sf1`, since it writes a special function register.
+        (&[MULTIPLY, 0x5C08_2E01, LOAD_ADDRESS], &[0, 5, 1, 1]),
     ];
     for (program, moves) in cases {
         assert_eq!(rt;
@@ -681,5 +683,70 @@ fn moves_the_turn(rt: HostRuntime) -> Result<(), Fail> {
             "of {program:?}"
         );
     }
+    Ok(())
+}
+
+/// `mov 3, g5`, `mov 7, g6`, their product, and its sum with 1.
+const SUM_OF_PRODUCT: [u32; 4] = [0x5CA8_0E03, 0x5CB0_0E07, MULTIPLY, ADD];
+
+/// `divo 0, g6, g4`, whose arithmetic fault `addo 1, 2, g5` overtakes.
+const OVERTAKEN: [u32; 2] = [0x70A1_1D80, 0x59A8_9801];
+
+/// All that is open lands, and the view stays as it is.
+fn settle(run: &mut Run) -> bool
+    requires { IsInRun run.old.machine run.old.plan }
+    ensures { IsInRun run.new.machine run.new.plan }
+{
+    let before = run.machine.view();
+    run.machine.settle();
+    run.machine.view() == before
+}
+
+#[test]
+fn settles_what_is_open(rt: HostRuntime) -> Result<(), Fail> {
+    let image = image_of(rt.alloc(), &SUM_OF_PRODUCT)?;
+    let mut run = run_of(rt.alloc(), &image, None, 4, b"")?;
+    // Where nothing is open it does nothing.
+    assert_eq!(rt; settle(&mut run), true);
+    let (first, _) = moves_and_step(&mut run);
+    let (second, _) = moves_and_step(&mut run);
+    let (third, _) = moves_and_step(&mut run);
+    assert_eq!(rt; (first, second, third), (0, 1, 1));
+    // The multiplication issued at 3. Now the turn is 8, at which the product is there.
+    assert_eq!(rt; settle(&mut run), true);
+    assert_eq!(rt; settle(&mut run), true);
+    let (fourth, turn) = moves_and_step(&mut run);
+    assert!(rt; matches!(turn, Turn::Issued(_)));
+    let view = run.machine.view();
+    assert_eq!(rt;
+        (fourth, view.count, view.regs[20], view.regs[24]),
+        (0, 4, 21, 22)
+    );
+    // The sum is there at 9, and then the end is answered; with the turn at 9 before, it is answered at once.
+    assert_eq!(rt; settle(&mut run), true);
+    assert_eq!(rt; moves_and_step(&mut run), (0, Turn::End(End::Limit)));
+    assert_eq!(rt; settle(&mut run), true);
+    assert_eq!(rt; moves_and_step(&mut run), (0, Turn::End(End::Limit)));
+    Ok(())
+}
+
+#[test]
+fn settles_behind_a_fault(rt: HostRuntime) -> Result<(), Fail> {
+    let image = image_of(rt.alloc(), &OVERTAKEN)?;
+    // Behind the imprecise fault the division is open, and the end stays.
+    let mut run = run_of(rt.alloc(), &image, None, 2, b"")?;
+    take_steps(&mut run, 1);
+    assert_eq!(rt; step(&mut run), Turn::End(End::Imprecise(0x1000)));
+    assert_eq!(rt; settle(&mut run), true);
+    assert_eq!(rt; step(&mut run), Turn::End(End::Imprecise(0x1000)));
+    // Before that is known, all lands, and so the fault is precise: no instruction overtakes it, and it is entered.
+    let mut other = run_of(rt.alloc(), &image, None, 2, b"")?;
+    take_steps(&mut other, 1);
+    assert_eq!(rt; settle(&mut other), true);
+    assert_eq!(rt; moves_and_step(&mut other), (0, Turn::On));
+    assert_eq!(rt;
+        (other.machine.view().count, other.machine.view().ip),
+        (1, 0)
+    );
     Ok(())
 }

@@ -1,10 +1,12 @@
 //! What each kind of record needs of the processor.
 #![tactic(auto)]
 
+mod fixed;
 mod names;
 mod need;
 
-pub use need::{entry_need, event_need, inst_need, refused_need};
+pub use fixed::{FixedNeed, fixed_need};
+pub use need::{entry_need, event_need, inst_need, need_by, refused_need};
 
 #[cfg(test)]
 mod tests;

@@ -2,52 +2,20 @@
 //! barriers, and the turns that records take, are this project's own, after the i960 CA/CF User's
 //! Manual, instruction execution in parallel.
 
-ghost use Rattle.std.specs.Prelude.{◌≡◌, ◌+◌, ◌==◌, ◌≤◌, ◌&&◌, ◌||◌, not, if◌then◌else◌, None};
-ghost use Rattle.i9_isa.specs.Resources.{is_read, is_written};
-ghost use Rattle.i9_isa.specs.Operands.{words_written};
+ghost use Rattle.std.specs.Prelude.{◌≡◌, ◌≤◌, ◌&&◌, ◌||◌, if◌then◌else◌, None};
 ghost use Rattle.std.specs.Option.{is_some};
+ghost use Rattle.i9_isa.specs.declared.inst.Inst.{Inst};
 ghost use Rattle.i9_isa.specs.Valid.{IsValid};
-ghost use Rattle.i9_model.specs.Needs.{set_of, blank_need, is_store_name, has_access, is_barrier_name, is_calm, cost_by, is_written_sfr, writes_sfr, inst_need, refused_need, event_need, entry_need};
+ghost use Rattle.i9_model.specs.Needs.{blank_need, is_store_name, is_calm, inst_need, refused_need, event_need, entry_need};
 ghost use Rattle.i9_need.specs.Known.{AreFacts};
+ghost use Rattle.i9_need.specs.Fixed.{fixed_need, AreFactsBy, calm_turns};
 
-use crate::names::{has_access, is_barrier, is_request, is_slow, is_store, moves_frames};
-use i9_isa::{
-    FRAME_POINTER, Inst, LOCALS, Op, Operand, Side, Use, latency, reads, row, side_of, word_count,
-    writes,
-};
+use crate::fixed::{FixedNeed, fixed_need};
+use i9_isa::{FRAME_POINTER, Inst, LOCALS, Side};
 use i9_model::{Facts, Need};
 
 /// The local registers and the frame pointer, as a set of resources.
 const FRAME: u64 = ((1 << LOCALS) - 1) | (1 << FRAME_POINTER);
-
-/// Whether a use writes words.
-fn writes_words(use_of: Use) -> bool
-    ensures { result ≡ not (words_written use_of == 0) }
-{
-    match use_of {
-        Use::Destination(n) | Use::Load(n) => n != 0,
-        Use::Change => true,
-        _ => false,
-    }
-}
-
-/// Whether the operand is a special function register that is written.
-fn is_written_sfr(operand: Operand, use_of: Use) -> bool
-    ensures { result ≡ is_written_sfr operand (words_written use_of) }
-{
-    match operand {
-        Operand::Sfr(_) => writes_words(use_of),
-        Operand::Reg(_) | Operand::Lit(_) => false,
-    }
-}
-
-/// Whether the instruction writes a special function register.
-fn writes_sfr(i: &Inst) -> bool
-    ensures { result ≡ writes_sfr i.now }
-{
-    let row = row(i.op);
-    is_written_sfr(i.a, row.a) || is_written_sfr(i.c, row.c)
-}
 
 /// Whether it neither faults, but by its result or by a trace, nor meets a hazard.
 fn is_calm(f: &Facts) -> bool
@@ -56,30 +24,14 @@ fn is_calm(f: &Facts) -> bool
     !(f.fault || f.hazard)
 }
 
-/// The resources that the instruction reads.
-fn resources_read(i: &Inst) -> u64
-    requires { IsValid i.now }
-    ensures { result ≡ set_of (is_read i.now) }
-{
-    reads(i)
-}
-
-/// The resources that the instruction writes.
-fn resources_written(i: &Inst) -> u64
-    requires { IsValid i.now }
-    ensures { result ≡ set_of (is_written i.now) }
-{
-    writes(i)
-}
-
 /// The address and number of bytes of a store.
-#[tactic(auto, using(crate::proofs::Sets::stores_access))]
-fn stored(op: Op, f: &Facts) -> Option<(u32, u32)>
-    requires { is_some f.now.access ≡ has_access op }
-    ensures value { result ≡ (if is_store_name op && is_calm f.now then f.now.access else None) }
-    ensures known { is_some result ≡ (is_store_name op && is_calm f.now) }
+#[tactic(auto, using(crate::proofs::Unchanging::store_known))]
+fn stored(fixed: &FixedNeed, f: &Facts) -> Option<(u32, u32)>
+    requires { AreFactsBy fixed.now f.now }
+    ensures value { result ≡ (if fixed.now.store && is_calm f.now then f.now.access else None) }
+    ensures known { is_some result ≡ (fixed.now.store && is_calm f.now) }
 {
-    if is_store(op) && is_calm(f) {
+    if fixed.store && is_calm(f) {
         f.access
     } else {
         None
@@ -87,36 +39,60 @@ fn stored(op: Op, f: &Facts) -> Option<(u32, u32)>
 }
 
 /// Whether the instruction passes nothing, and nothing passes it.
-fn stands_apart(i: &Inst, f: &Facts) -> bool
-    ensures { result ≡ (is_barrier_name i.now.op || writes_sfr i.now
-        || f.now.port || f.now.fault || f.now.trace || f.now.hazard) }
+fn stands_apart(fixed: &FixedNeed, f: &Facts) -> bool
+    ensures { result ≡ (fixed.now.barrier || f.now.port || f.now.fault || f.now.trace || f.now.hazard) }
 {
-    is_barrier(i.op) || writes_sfr(i) || f.port || f.fault || f.trace || f.hazard
+    fixed.barrier || f.port || f.fault || f.trace || f.hazard
 }
 
 /// The turns of a calm instruction: those of its name, its waits, and 16 for each frame that it moves.
-#[tactic(auto, using(crate::proofs::Costs::few_turns))]
-fn calm_cost(i: &Inst, f: &Facts) -> u64
-    requires { AreFacts i.now f.now }
-    ensures cost { result ≡ cost_by i.now.op f.now.waits f.now.frames }
+#[tactic(auto, using(crate::proofs::Costs::few_turns_by))]
+fn calm_cost(fixed: &FixedNeed, f: &Facts) -> u64
+    requires { AreFactsBy fixed.now f.now }
+    ensures cost { result ≡ calm_turns fixed.now f.now }
     ensures bound { result ≤ 248 }
 {
-    let waits = if has_access(i.op) { f.waits } else { 0 };
-    let frames = if moves_frames(i.op) { f.frames } else { 0 };
-    latency(i) + waits + 16 * u64::from(frames)
+    let waits = if fixed.access { f.waits } else { 0 };
+    let frames = if fixed.frames { f.frames } else { 0 };
+    fixed.latency + waits + 16 * u64::from(frames)
 }
 
 /// The turns of an instruction: of one that is not calm, one.
-fn cost(i: &Inst, f: &Facts) -> u64
-    requires { AreFacts i.now f.now }
-    ensures cost { result ≡ (if is_calm f.now then cost_by i.now.op f.now.waits f.now.frames else 1) }
+fn cost(fixed: &FixedNeed, f: &Facts) -> u64
+    requires { AreFactsBy fixed.now f.now }
+    ensures cost { result ≡ (if is_calm f.now then calm_turns fixed.now f.now else 1) }
     ensures bound { result ≤ 248 }
 {
-    if is_calm(f) { calm_cost(i, f) } else { 1 }
+    if is_calm(f) { calm_cost(fixed, f) } else { 1 }
 }
 
-/// The need of an instruction of which these facts are known. One that faults, but by its result or by
-/// a trace, or that meets a hazard is no request and takes one turn; it keeps its resources.
+/// The need of an instruction that has this fixed need, and of which these facts are known. One that
+/// faults, but by its result or by a trace, or that meets a hazard is no request and takes one turn; it
+/// keeps its resources.
+// Each step asks for it, of facts that its caller has just made.
+#[inline(always)]
+pub fn need_by(fixed: &FixedNeed, f: &Facts) -> Need
+    requires { AreFactsBy fixed.now f.now }
+    ensures need { (i : Inst) → fixed.now ≡ fixed_need i → result ≡ inst_need i f.now }
+    ensures store { is_some result.store ≡ (fixed.now.store && is_calm f.now) }
+    ensures cost { result.cost ≤ 248 }
+{
+    Need {
+        side: fixed.side,
+        reads: fixed.reads,
+        writes: fixed.writes,
+        request: fixed.request && is_calm(f),
+        store: stored(fixed, f),
+        slow: fixed.slow,
+        barrier: stands_apart(fixed, f),
+        alone: f.alone,
+        cost: cost(fixed, f),
+        code: (f.ip, fixed.length),
+        not_before: 0,
+    }
+}
+
+/// The need of an instruction of which these facts are known.
 pub fn inst_need(i: &Inst, f: &Facts) -> Need
     requires valid { IsValid i.now }
     requires facts { AreFacts i.now f.now }
@@ -124,19 +100,7 @@ pub fn inst_need(i: &Inst, f: &Facts) -> Need
     ensures store { is_some result.store ≡ (is_store_name i.now.op && is_calm f.now) }
     ensures cost { result.cost ≤ 248 }
 {
-    Need {
-        side: side_of(i),
-        reads: resources_read(i),
-        writes: resources_written(i),
-        request: is_request(i.op) && is_calm(f),
-        store: stored(i.op, f),
-        slow: is_slow(i.op),
-        barrier: stands_apart(i, f),
-        alone: f.alone,
-        cost: cost(i, f),
-        code: (f.ip, 4 * word_count(i)),
-        not_before: 0,
-    }
+    need_by(&fixed_need(i), f)
 }
 
 /// The need of what does nothing but wait for all before it.

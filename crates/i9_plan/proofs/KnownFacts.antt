@@ -66,7 +66,26 @@ data_by (Some t) i s = moved_data t.direction _ _ ∙ or_some (is_atomic i.op)
 pub known_access : (i : Inst) (s : State) → is_some (data_of (access_of i s)) ≡ has_access i.op
 known_access i s = data_by (transfer_of i.op) i s ∙ accesses i.op
 
+no_data : (o : Option (ℕ × ℕ)) → is_some o ≡ false → o ≡ None
+no_data None h = refl
+no_data (Some d) h = absurd cc
+
+-- an instruction without a data access
+pub no_access : (i : Inst) (s : State) → has_access i.op ≡ false → data_of (access_of i s) ≡ None
+no_access i s h = no_data (data_of (access_of i s)) (known_access i s ∙ h)
+
 -- ---- its waits
+
+no_data_waits : (m : Memory) (x : Access) → data_of x ≡ None → access_waits m x ≡ 0
+no_data_waits m (Reads a n) h = absurd cc
+no_data_waits m (Writes a n) h = absurd cc
+no_data_waits m (Changes a n) h = absurd cc
+no_data_waits m _ h = refl
+
+pub no_waits : (i : Inst) (s : State) → has_access i.op ≡ false → access_waits s.memory (access_of i s) ≡ 0
+no_waits i s h = no_data_waits s.memory (access_of i s) (no_access i s h)
+
+pub ruleset no_access_rules = (no_access, no_waits)
 
 waits_few : (m : Memory) (region : ℕ) (write : Bool) → waits_of m region write ≤ 31
 waits_few m region true = omega arith

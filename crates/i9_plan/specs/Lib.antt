@@ -1,3 +1,4 @@
 pub mod Names
 pub mod Planned
 pub mod Open
+pub mod Kept

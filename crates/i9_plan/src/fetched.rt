@@ -1,10 +1,12 @@
 //! The instruction at the instruction address, with its words.
-ghost use Rattle.std.specs.Prelude.{◌≡◌, ℕ, None, Ok};
+ghost use Rattle.std.specs.Prelude.{◌≡◌, ℕ, None, Ok, IfOk};
 ghost use Rattle.i9_isa.specs.Valid.{IsValid};
 ghost use Rattle.i9_isa.specs.Words.{decoded, words_of};
 ghost use Rattle.i9_model.specs.Hazards.{read_hazard};
 ghost use Rattle.i9_model.specs.Step.{first_word};
 ghost use Rattle.i9_processor.specs.State.{state_of};
+ghost use Rattle.i9_need.specs.Fixed.{fixed_need};
+ghost use Rattle.i9_plan.specs.Kept.{need_in};
 ghost use Rattle.i9_plan.specs.Planned.{IsFetched};
 
 use crate::memo::Memo;
@@ -39,6 +41,7 @@ fn with_second(mut inst: Inst, second: u32) -> Inst
     ensures read { (w : ℕ) → decoded w 0 ≡ Ok inst → decoded w second ≡ Ok result }
     ensures valid { (w : ℕ) → decoded w 0 ≡ Ok inst → IsValid result }
     ensures long { words_of result ≡ 2 }
+    ensures need { fixed_need result ≡ fixed_need inst }
 {
     inst.ea.disp = second;
     inst
@@ -52,7 +55,8 @@ fn fetch_long(p: &Processor, first: u32, inst: Inst) -> Result<Fetched, Unread>
     requires first { first ≡ first_word (state_of p.now) }
     requires read { decoded first 0 ≡ Ok inst }
     requires long { words_of inst ≡ 2 }
-    ensures { IsFetched (state_of p.now) result }
+    ensures fetched { IsFetched (state_of p.now) result }
+    ensures need { IfOk result (λ f. fixed_need f.inst ≡ fixed_need inst) }
 {
     let at = p.ip().wrapping_add(4);
     let second = p.word(at);
@@ -67,10 +71,11 @@ fn fetch_long(p: &Processor, first: u32, inst: Inst) -> Result<Fetched, Unread>
 }
 
 /// The instruction at the instruction address, or why there is none. The second word is read where
-/// there is one.
+/// there is one. The memo has what it needs by its name and its operands alone.
 #[tactic(auto, using(crate::proofs::Fetching::fetch_rules))]
 pub(crate) fn fetch(p: &Processor, memo: &mut Memo) -> Result<Fetched, Unread>
-    ensures { IsFetched (state_of p.now) result }
+    ensures fetched { IsFetched (state_of p.now) result }
+    ensures need { IfOk result (λ f. need_in memo.new ≡ fixed_need f.inst) }
 {
     if let Some(a) = p.check_read(p.ip(), 4) {
         return Err(Unread::Meets(a));

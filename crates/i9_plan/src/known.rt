@@ -1,8 +1,9 @@
 //! What is known of an instruction beside its fields.
 ghost use Rattle.std.specs.Prelude.{◌≡◌, ◌<◌, ◌≤◌, true};
 ghost use Rattle.i9_model.specs.Memory.{region_of};
-ghost use Rattle.i9_model.specs.Access.{access_of};
+ghost use Rattle.i9_model.specs.Access.{access_of, data_of};
 ghost use Rattle.i9_course.specs.NeedOf.{touches_port, access_waits, stands_alone, facts_of};
+ghost use Rattle.i9_need.specs.Fixed.{fixed_need};
 ghost use Rattle.i9_need.specs.Known.{AreFacts, moves_a_frame};
 ghost use Rattle.i9_processor.specs.State.{state_of};
 ghost use Rattle.i9_plan.specs.Planned.{Moves};
@@ -15,6 +16,7 @@ use crate::words::bit;
 use i9_isa::{Direction, Inst, Op};
 use i9_model::Facts;
 use i9_model::layout::PRECISE_FAULTS_PLACE;
+use i9_need::FixedNeed;
 use i9_processor::Processor;
 use i9_watch::Watch;
 
@@ -61,19 +63,55 @@ fn stands_alone(p: &Processor) -> bool
     bit(p.ac(), PRECISE_FAULTS_PLACE) || is_traced(p)
 }
 
-/// What is known of an instruction that meets no hazard, with the number of frames that it moves, whether
-/// it raises another fault than an arithmetic or a trace fault, and whether it raises a trace fault.
-pub fn facts(p: &Processor, i: &Inst, frames: u8, fault: bool, trace: bool) -> Facts
+/// The data access of an instruction, and the wait states of it.
+// Most instructions have none, and this is no part of the code that calls it.
+#[inline(never)]
+fn access_and_waits(p: &Processor, i: &Inst) -> (Option<(u32, u32)>, u64)
+    ensures access { result.0 ≡ data_of (access_of i.now (state_of p.now)) }
+    ensures waits { result.1 ≡ access_waits (state_of p.now).memory (access_of i.now (state_of p.now)) }
+{
+    let moving = transfer_at(p, i);
+    (data_access(p, i, moving), access_waits(p, i, moving))
+}
+
+/// The data access of an instruction that needs this by its name and its operands alone, and the wait states
+/// of it. Most have none.
+#[inline(always)]
+#[tactic(auto, using(crate::proofs::KnownFacts::no_access_rules))]
+fn accessed(p: &Processor, fixed: &FixedNeed, i: &Inst) -> (Option<(u32, u32)>, u64)
+    requires { fixed.now ≡ fixed_need i.now }
+    ensures access { result.0 ≡ data_of (access_of i.now (state_of p.now)) }
+    ensures waits { result.1 ≡ access_waits (state_of p.now).memory (access_of i.now (state_of p.now)) }
+{
+    if !fixed.access {
+        return (None, 0);
+    }
+    access_and_waits(p, i)
+}
+
+/// What is known of an instruction that meets no hazard and that needs this by its name and its operands
+/// alone, with the number of frames that it moves, whether it raises another fault than an arithmetic or a
+/// trace fault, and whether it raises a trace fault.
+// Each step asks for it, for its need alone.
+#[inline(always)]
+pub fn facts(
+    p: &Processor,
+    fixed: &FixedNeed,
+    i: &Inst,
+    frames: u8,
+    fault: bool,
+    trace: bool,
+) -> Facts
+    requires { fixed.now ≡ fixed_need i.now }
     ensures facts { result ≡ facts_of i.now (state_of p.now) frames fault trace }
     ensures known { frames ≤ 15 → (moves_a_frame i.now.op ≡ true → frames ≤ 1) → AreFacts i.now result }
 {
-    let moving = transfer_at(p, i);
-    let access = data_access(p, i, moving);
+    let (access, waits) = accessed(p, fixed, i);
     Facts {
         ip: p.ip(),
         access,
         port: touches_port(access),
-        waits: access_waits(p, i, moving),
+        waits,
         frames,
         fault,
         trace,

@@ -1,12 +1,11 @@
 //! Which operands are special function registers, and which names do what.
-ghost use Rattle.std.specs.Prelude.{◌≡◌, ◌==◌, not};
-ghost use Rattle.i9_isa.specs.Operands.{words_written};
-ghost use Rattle.i9_model.specs.Needs.{is_barrier_name, is_written_sfr, writes_sfr};
+ghost use Rattle.std.specs.Prelude.{◌≡◌};
+ghost use Rattle.i9_model.specs.Needs.{is_barrier_name};
 ghost use Rattle.i9_model.specs.Standing.{is_fault_name};
 ghost use Rattle.i9_model.specs.Faults.{is_special, uses_special};
 ghost use Rattle.i9_plan.specs.Names.{is_branch};
 
-use i9_isa::{Inst, Op, Operand, Use, row};
+use i9_isa::{Inst, Op, Operand};
 
 /// Whether a name is that of a fault instruction.
 pub(crate) fn is_fault_name(op: Op) -> bool
@@ -56,29 +55,4 @@ pub(crate) fn is_barrier(op: Op) -> bool
         Op::Sysctl | Op::Sdma => true,
         _ => false,
     }
-}
-
-/// Whether a use writes words.
-fn writes_words(use_of: Use) -> bool
-    ensures { result ≡ not (words_written use_of == 0) }
-{
-    match use_of {
-        Use::Destination(n) | Use::Load(n) => n != 0,
-        Use::Change => true,
-        _ => false,
-    }
-}
-
-/// Whether an operand is a special function register that is written.
-fn is_written_special(o: Operand, use_of: Use) -> bool
-    ensures { result ≡ is_written_sfr o (words_written use_of) }
-{
-    is_special(o) && writes_words(use_of)
-}
-
-/// Whether an instruction writes a special function register.
-pub(crate) fn writes_special(i: &Inst) -> bool
-    ensures { result ≡ writes_sfr i.now }
-{
-    is_written_special(i.a, row(i.op).a) || is_written_special(i.c, row(i.op).c)
 }

@@ -1,7 +1,6 @@
 //! What is needed by what is planned: by an instruction that is done or that faults, by a word that is
 //! refused, by the entry of a fault or of an interrupt, and by an event.
 ghost use Rattle.std.specs.Prelude.{◌≡◌, ◌≤◌, ℕ, List, Some, None, length};
-ghost use Rattle.i9_isa.specs.Valid.{IsValid};
 ghost use Rattle.i9_model.specs.declared.faults.Entry.{Entry};
 ghost use Rattle.i9_model.specs.declared.interrupts.Chosen.{Chosen};
 ghost use Rattle.i9_model.specs.State.{State};
@@ -11,6 +10,7 @@ ghost use Rattle.i9_model.specs.Step.{Saves, entering};
 ghost use Rattle.i9_model.specs.Traced.{traced_action};
 ghost use Rattle.i9_model.specs.Run.{Instruction, Faulted, Entered, Interrupted, Reached, Blocked, fault_at};
 ghost use Rattle.i9_course.specs.NeedOf.{is_of_dma, moved_frames, need_of};
+ghost use Rattle.i9_need.specs.Fixed.{fixed_need};
 ghost use Rattle.i9_processor.specs.Effect.{IsEffect, move_in};
 ghost use Rattle.i9_processor.specs.State.{state_of, cache_of, size_of};
 
@@ -18,7 +18,7 @@ use crate::known::facts;
 use i9_isa::Inst;
 use i9_model::faults::ARITHMETIC;
 use i9_model::{Event, Need};
-use i9_need::{entry_need, event_need, inst_need, refused_need};
+use i9_need::{FixedNeed, entry_need, event_need, need_by, refused_need};
 use i9_processor::{Effect, Move, Processor};
 
 /// How many frames are held: at most 15, since there are no more sets.
@@ -52,29 +52,33 @@ fn moved_frames(p: &Processor, m: &Move) -> u8
     }
 }
 
-/// What an instruction needs that is done by this effect.
+/// What an instruction needs that is done by this effect, and that needs this by its name and its operands
+/// alone.
+// Each step asks for it, and it is made where the step is.
+#[inline(always)]
 #[tactic(auto, unfolding(i9_course::specs::NeedOf::need_of))]
-pub fn need_done(p: &Processor, inst: &Inst, effect: &Effect) -> Need
-    requires valid { IsValid inst.now }
+pub fn need_done(p: &Processor, fixed: &FixedNeed, inst: &Inst, effect: &Effect) -> Need
+    requires fixed { fixed.now ≡ fixed_need inst.now }
     requires effect { IsEffect (state_of p.now) (traced_action inst.now (state_of p.now)) effect.now }
     ensures need { result ≡ need_of (size_of p.now) (cache_of p.now) (state_of p.now) (Instruction inst.now) }
     ensures cost { result.cost ≤ 248 }
 {
     let frames = moved_frames(p, &effect.frames);
-    let known = facts(p, inst, frames, false, effect.trace.is_some());
-    inst_need(inst, &known)
+    let known = facts(p, fixed, inst, frames, false, effect.trace.is_some());
+    need_by(fixed, &known)
 }
 
-/// What an instruction needs that raises a fault of this type and subtype.
+/// What an instruction needs that raises a fault of this type and subtype, and that needs this by its name
+/// and its operands alone.
 #[tactic(auto, unfolding(i9_course::specs::NeedOf::need_of))]
-pub fn need_faulted(p: &Processor, inst: &Inst, number: (u8, u16)) -> Need
-    requires valid { IsValid inst.now }
+pub fn need_faulted(p: &Processor, fixed: &FixedNeed, inst: &Inst, number: (u8, u16)) -> Need
+    requires fixed { fixed.now ≡ fixed_need inst.now }
     ensures need { (n : ℕ) (c : Cache)
         → result ≡ need_of n c (state_of p.now) (Faulted (Some inst.now) (fault_at (state_of p.now) number)) }
     ensures cost { result.cost ≤ 248 }
 {
-    let known = facts(p, inst, 0, number.0 != ARITHMETIC, false);
-    inst_need(inst, &known)
+    let known = facts(p, fixed, inst, 0, number.0 != ARITHMETIC, false);
+    need_by(fixed, &known)
 }
 
 /// What a word needs that is refused by a fault of this type and subtype.

@@ -62,9 +62,10 @@ fn need_of(alloc: Global, p: &Processor) -> Option<Need>
     requires { IsDrained p.now }
 {
     let mut effect = Effect::blank();
-    match plan_next(p, &mut Memo::none(alloc), &mut effect) {
-        Planned::Runs { inst, .. } => Some(need_done(p, &inst, &effect)),
-        Planned::Faults { inst, number, .. } => Some(need_faulted(p, &inst, number)),
+    let mut memo = Memo::none(alloc);
+    match plan_next(p, &mut memo, &mut effect) {
+        Planned::Runs { inst, .. } => Some(need_done(p, memo.need(), &inst, &effect)),
+        Planned::Faults { inst, number, .. } => Some(need_faulted(p, memo.need(), &inst, number)),
         Planned::Refused { number, .. } => Some(need_refused(p, number)),
         Planned::Meets(_) => None,
     }

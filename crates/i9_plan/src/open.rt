@@ -1,17 +1,20 @@
 //! What stands at the instruction address while something is open.
 ghost use Rattle.std.specs.Prelude.{◌≡◌, ◌||◌};
+ghost use Rattle.i9_isa.specs.declared.inst.Inst.{Inst};
 ghost use Rattle.i9_model.specs.Needs.{is_barrier_name, writes_sfr};
 ghost use Rattle.i9_processor.specs.State.{state_of};
+ghost use Rattle.i9_need.specs.Fixed.{fixed_need};
+ghost use Rattle.i9_plan.specs.Kept.{HasOpenNeed};
 ghost use Rattle.i9_plan.specs.Open.{OpenStands, OpenPlanned, OpenNeeds};
 
 use crate::effects::pass;
 use crate::fetched::{Fetched, Words, fetch};
 use crate::memo::Memo;
-use crate::names::{is_barrier, writes_special};
 use crate::outcome::{Outcome, outcome_open};
 use crate::tracing::follow;
 use i9_isa::Inst;
 use i9_model::faults::ARITHMETIC;
+use i9_need::FixedNeed;
 use i9_processor::{Effect, Processor};
 
 /// What stands at the instruction address while something is open.
@@ -33,29 +36,31 @@ pub enum Open {
     },
 }
 
-/// Whether an instruction passes nothing, and nothing passes it, by its name, or since it writes a special
-/// function register.
-fn stands_apart(i: &Inst) -> bool
-    ensures { result ≡ (is_barrier_name i.now.op || writes_sfr i.now) }
+/// Whether an instruction that needs this passes nothing, and nothing passes it, by its name, or since it
+/// writes a special function register.
+fn stands_apart(need: &FixedNeed) -> bool
+    ensures { (i : Inst) → need.now ≡ fixed_need i → result ≡ (is_barrier_name i.op || writes_sfr i) }
 {
-    is_barrier(i.op) || writes_special(i)
+    need.barrier
 }
 
 /// What stands at the instruction address while records are open: what they leave in the end is what is
 /// read, so an instruction that is no barrier is planned at once, and its effect, with its trace events, is
-/// made in `effect`. Whether it is a barrier by what it accesses, or by its trace events, its need says.
+/// made in `effect`; what it needs by its name and its operands alone is in the memo. Whether it is a barrier
+/// by what it accesses, or by its trace events, its need says.
 // It is no part of the code that calls it, as `plan_next` is none.
 #[inline(never)]
 pub fn plan_open(p: &Processor, memo: &mut Memo, effect: &mut Effect) -> Open
     ensures stands { OpenStands (state_of p.now) result }
     ensures planned { OpenPlanned (state_of p.now) result effect.new }
     ensures needs { OpenNeeds (state_of p.now) result }
+    ensures need { HasOpenNeed memo.new result }
 {
     let Fetched { words, inst } = match fetch(p, memo) {
         Ok(fetched) => fetched,
         Err(_) => return Open::Waits,
     };
-    if stands_apart(&inst) {
+    if stands_apart(memo.need()) {
         return Open::Waits;
     }
     pass(p, &inst, effect);

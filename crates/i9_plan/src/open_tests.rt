@@ -1,11 +1,15 @@
 //! What is planned while something is open, and what is known of instructions, in the state of the other
 //! tests: one frame is saved at 3000.
 
+ghost use Rattle.std.specs.Prelude.{IfOk};
+ghost use Rattle.i9_isa.specs.Valid.{IsValid};
+
 use crate::tests::Rest::{Nothing, Stores};
 use crate::tests::{PC, PRECISE, Rest, TRACED, USER, controls_of, ready, rest_of, set_of};
 use crate::{Memo, Open, Words, facts, plan_open};
 use i9_decode::decode;
 use i9_isa::{Inst, Op};
+use i9_need::fixed_need;
 use i9_processor::{Effect, Processor};
 use std::alloc::Global;
 use std::test::Fail;
@@ -299,7 +303,9 @@ const KNOWN: [Known; 10] = [
 ];
 
 /// The instruction of these words.
-fn read(words: (u32, u32)) -> Result<Inst, Fail> {
+fn read(words: (u32, u32)) -> Result<Inst, Fail>
+    ensures { IfOk result (λ i. IsValid i) }
+{
     match decode(words.0, words.1) {
         Ok(inst) => Ok(inst),
         Err(_) => Err("it is refused".into()),
@@ -310,7 +316,8 @@ fn read(words: (u32, u32)) -> Result<Inst, Fail> {
 fn knows_facts(rt: HostRuntime) -> Result<(), Fail> {
     for ((ac, pc), words, (waits, frames, fault, trace), access, (port, alone)) in KNOWN {
         let p = ready(rt.alloc(), 0x1000, words, ac, pc)?;
-        let known = facts(&p, &read(words)?, frames, fault, trace);
+        let inst = read(words)?;
+        let known = facts(&p, &fixed_need(&inst), &inst, frames, fault, trace);
         assert_eq!(rt;
             (known.ip, known.access, known.port),
             (0x1000, access, port)

@@ -2,6 +2,7 @@
 ghost use Rattle.std.specs.Prelude.{◌≡◌, Err};
 ghost use Rattle.i9_model.specs.Standing.{stands_at};
 ghost use Rattle.i9_processor.specs.State.{state_of, IsDrained};
+ghost use Rattle.i9_plan.specs.Kept.{HasNeed};
 ghost use Rattle.i9_plan.specs.Planned.{standing_of, IsFetched, IsPlanned};
 
 use crate::effects::pass;
@@ -56,7 +57,7 @@ fn unread(p: &Processor, why: Unread) -> Planned
 /// What stands at the instruction address: the hazard of its fetch, which comes first; an instruction
 /// that is refused, or that faults; the hazard of its access; or what it does.
 /// Each result is worked out once, and the effect of what is done, with its trace events, is made in
-/// `effect` (the i960 CA/CF User's Manual, instruction set, faults and tracing).
+/// `effect`; what it needs by its name and its operands alone is in the memo (the i960 CA/CF User's Manual, instruction set, faults and tracing).
 // It is no part of the code that calls it: LLVM would take the effect apart there, and move it piece by piece.
 #[inline(never)]
 #[tactic(auto, unfolding(i9_model::specs::Standing::stands_at))]
@@ -64,6 +65,7 @@ pub fn plan_next(p: &Processor, memo: &mut Memo, effect: &mut Effect) -> Planned
     requires drained { IsDrained p.now }
     ensures standing { standing_of result ≡ stands_at (state_of p.now) }
     ensures planned { IsPlanned (state_of p.now) result effect.new }
+    ensures need { HasNeed memo.new result }
 {
     let Fetched { words, inst } = match fetch(p, memo) {
         Ok(fetched) => fetched,

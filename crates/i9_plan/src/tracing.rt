@@ -90,6 +90,7 @@ fn trace(p: &Processor, i: &Inst, effect: &mut Effect)
 }
 
 /// Adds to the effect of an instruction that runs its trace events, while trace enable is set.
+#[inline(always)]
 pub(crate) fn follow(p: &Processor, i: &Inst, effect: &mut Effect)
     requires runs { Runs i.now ≡ by_raised i.now (state_of p.now) (raised_in i.now (state_of p.now)) }
     requires effect { IsEffect (state_of p.now) (action_of i.now (state_of p.now)) effect.old }

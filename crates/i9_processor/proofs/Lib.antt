@@ -9,3 +9,4 @@ pub mod Rooms
 pub mod Tracing
 pub mod Issued
 pub mod Drained
+pub mod BusySet

@@ -137,12 +137,16 @@ listed f a (suc n) (x ∷ xs) len same =
     let one : a + 1 + k ≡ a + suc k = omega arith in ap f one ∙ same (suc k) (omega arith)) in
     ap (λ (y : ℕ). y ∷ map f (range_with_len (a + 1) n)) first ∙ ap (λ (ys : List ℕ). x ∷ ys) rest
 
--- 32 registers in order
+-- 32 registers in order, by any function
+pub registers_in_order : (f : ℕ → ℕ) (regs : List ℕ) → length regs ≡ 32 → ((r : ℕ) → r < 32 → slice_index regs r ≡ f r)
+    → register_list f ≡ regs
+unfolding register_list
+registers_in_order f regs len are = listed f 0 32 regs len (λ k h. ap f (zero-add k) ∙ sym (are k h))
+
+-- and by the latest values
 pub register_list-of : (cs : List Cell) (regs : List ℕ) → length regs ≡ 32
     → ((r : ℕ) → r < 32 → slice_index regs r ≡ latest (cell_in cs r)) → register_list (registers_of cs) ≡ regs
-unfolding register_list
 register_list-of cs regs len are =
-    listed (registers_of cs) 0 32 regs len
-    (λ k h. ap (registers_of cs) (zero-add k) ∙ registers_at cs k h ∙ sym (are k h))
+    registers_in_order (registers_of cs) regs len (λ r h. are r h ∙ sym (registers_at cs r h))
 
 pub ruleset register_rules = (registers_at, registers_past)

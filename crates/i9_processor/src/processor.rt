@@ -7,6 +7,7 @@ ghost use Rattle.i9_model.specs.State.{boot};
 ghost use Rattle.i9_model.specs.Late.{cell, resource, resources};
 
 mod plans;
+mod raw;
 mod reading;
 mod tracing;
 

@@ -5,8 +5,8 @@ use Rattle.i9_model.specs.HexText.{IsRefused}
 use Rattle.i9_hex.proofs.OneAnswer.{image_apart}
 use Rattle.i9_outside.specs.declared.traits.TheConstants.{FILE_LIMIT}
 use Rattle.i9_outside.specs.Counts.{one_more, Rose}
-use Rattle.i9_tool.specs.declared.print.Printed.{Printed}
-use Rattle.i9_tool.specs.declared.print.Printed.TheVariants.{Done, Write, Memory}
+use Rattle.i9_debug.specs.declared.print.Printed.{Printed}
+use Rattle.i9_debug.specs.declared.print.Printed.TheVariants.{Done, Write, Memory}
 use Rattle.i9_tool.specs.CommandLine.{Command}
 use Rattle.i9_tool.specs.Outcome.{code_for, IsAccepted, AnyRose, AllSure, FetchesOnce, FetchesFiles, no_files}
 

@@ -1,7 +1,5 @@
-pub mod Drawing
-pub mod Prints
-pub mod Lined
-pub mod LineCounts
+pub mod LinedTexts
+pub mod Refusals
 pub mod Running
 pub mod Fetching
 pub mod Answering

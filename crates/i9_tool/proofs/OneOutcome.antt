@@ -12,7 +12,8 @@ use Rattle.i9_asm.proofs.Once.{assembly_once, refusal_once, never_both_answers}
 use Rattle.i9_text.specs.Text.{lines_of as text_lines}
 use Rattle.i9_tool.specs.declared.words.Range.{Range}
 use Rattle.i9_tool.specs.Traced.{is_within, traced_lines, printed_text}
-use Rattle.i9_tool.specs.CommandLine.{Command, Run, Asm, Dis, Gen, files_of, with_name, image_word, schedule_word, source_word, refused_line}
+use Rattle.i9_tool.specs.CommandLine.{Command, Run, Asm, Dis, Gen, files_of, with_name, image_word, schedule_word, source_word}
+use Rattle.i9_debug.specs.Lines.{refused_line}
 use Rattle.i9_model.proofs.Cuts.{state_by}
 use Rattle.i9_course.specs.LateRun.{IsLateRun}
 use Rattle.i9_course.proofs.LateRuns.{late_records, late_end}
@@ -22,7 +23,8 @@ use Rattle.i9_schedule.proofs.OneAnswer.{answers_apart, one_schedule, one_fault 
 use Rattle.i9_tool.specs.Outcome.{Reads, unread, fetched, RunGives, runs, ScheduleGives, schedule_too_long, schedule_refused, scheduled, ImageGives, too_long, refused, accepted, SourceGives, source_too_long, source_refused, assembled, JobGives, job_source_refused, job_schedule_refused, job_runs, job_line, DisGives, listed, PlanGives, CommandGives, Gives, in_no_form, in_form, AllTold, names_of}
 use Rattle.i9_model.specs.Image.{Part, pairs_of}
 use Rattle.i9_model.specs.declared.layout.TheConstants.{MAX_LENGTH}
-use Rattle.i9_tool.specs.Generator.{generated_source, generated_schedule, generated_line}
+use Rattle.i9_generator.specs.Generator.{generated_source, generated_schedule}
+use Rattle.i9_debug.specs.Lines.{generated_line}
 use Rattle.i9_dis.proofs.Listed.{one_text, by_pairs}
 use Rattle.i9_tool.proofs.Outcomes.{reads_wider, image_wider, plan_wider}
 

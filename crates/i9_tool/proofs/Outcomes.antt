@@ -18,17 +18,19 @@ use Rattle.i9_schedule.proofs.OneAnswer.{some_answer as some_schedule}
 use Rattle.i9_asm.proofs.SomeAnswer.{some_answer as some_assembly}
 use Rattle.i9_outside.specs.declared.traits.TheConstants.{FILE_LIMIT}
 use Rattle.i9_outside.specs.Traits.{IsFile}
-use Rattle.i9_tool.specs.declared.print.Printed.{Printed}
+use Rattle.i9_debug.specs.declared.print.Printed.{Printed}
 use Rattle.i9_tool.specs.declared.run.Ran.{Ran}
-use Rattle.i9_tool.specs.CommandLine.{Command, Run, Asm, Dis, Gen, words_line, read_line, image_word, schedule_word, source_word, long_line, refused_line}
-use Rattle.i9_tool.specs.Print.{Account, Prints}
+use Rattle.i9_tool.specs.CommandLine.{Command, Run, Asm, Dis, Gen, words_line, read_line, image_word, schedule_word, source_word, long_line}
+use Rattle.i9_debug.specs.Lines.{refused_line}
+use Rattle.i9_debug.specs.Print.{Account, Prints}
 use Rattle.i9_tool.specs.declared.words.Range.{Range}
 use Rattle.i9_tool.specs.Traced.{printed_text}
-use Rattle.i9_tool.specs.Generator.{generated_source, generated_schedule, generated_line}
+use Rattle.i9_generator.specs.Generator.{generated_source, generated_schedule}
+use Rattle.i9_debug.specs.Lines.{generated_line}
 use Rattle.i9_tool.specs.declared.run.Counted.{Counted}
 use Rattle.i9_tool.specs.Run.{Runs, Counts, printed_of}
 use Rattle.i9_tool.specs.Outcome.{Reads, unread, fetched, RunGives, runs, ScheduleGives, schedule_too_long, schedule_refused, scheduled, IsAccepted, ImageGives, too_long, refused, accepted, SourceGives, source_too_long, source_refused, assembled, JobGives, job_source_refused, job_schedule_refused, job_runs, job_line, DisGives, PlanGives, CommandGives, Gives, in_no_form, in_form, Answers, code_for}
-use Rattle.i9_tool.proofs.Prints.{prints_same}
+use Rattle.i9_debug.proofs.Prints.{prints_same}
 use Rattle.i9_tool.proofs.Listable.{some_listed}
 use Rattle.i9_tool.proofs.Answering.{answers_printed, answers_nothing, answers_wider}
 

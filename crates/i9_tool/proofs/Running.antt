@@ -18,16 +18,20 @@ use Rattle.i9_schedule.specs.Plan.{Plan}
 use Rattle.i9_machine.specs.Line.{shown_of}
 use Rattle.i9_machine.specs.Issue.{TellsIssue}
 use Rattle.i9_machine.specs.Step.{TellsRecord}
-use Rattle.i9_machine.specs.StandsFor.{StandsFor, Follows, DoesNext, Advances}
-use Rattle.i9_tool.specs.declared.print.Printed.{Printed}
-use Rattle.i9_tool.specs.declared.print.Printed.TheVariants.{Done}
+use Rattle.i9_machine.specs.StandsFor.{StandsFor, Follows, IsUnderWay, DoesNext, Advances}
+use Rattle.i9_debug.specs.declared.print.Printed.{Printed}
+use Rattle.i9_debug.specs.declared.print.Printed.TheVariants.{Done}
 use Rattle.i9_tool.specs.declared.run.Ran.{Ran}
 use Rattle.i9_tool.specs.declared.run.Ran.TheVariants as ran
-use Rattle.i9_tool.specs.Print.{Account, Prints, line_text}
+use Rattle.i9_debug.specs.Print.{Account, Prints, line_text}
 use Rattle.i9_tool.specs.declared.words.Range.{Range}
 use Rattle.i9_tool.specs.Traced.{is_within, line_where, issued_words, issued_line, traced_line, traced_lines, traced_text}
 use Rattle.i9_tool.specs.Run.{RunsAs, Runs, TracedBy, traced_none, traced_next, IsCut, StopsWith, at_end, before_end, TracesBy, AllowsTurn, TellsEnd, turn_text, step_text, printed_of}
-use Rattle.i9_tool.proofs.Prints.{prints_stop, prints_cut, prints_same, prints_refused}
+use Rattle.i9_debug.proofs.Prints.{prints_stop, prints_cut, prints_same, prints_refused}
+
+-- the machine of a run stands for its records
+pub under_way : (g : Given) (rs : List Record) (m : Machine) (plan : Plan) → StandsFor g (steps rs) None m → Follows g (steps rs) plan → IsUnderWay m plan
+under_way g rs m plan stands follows = record { given = g; items = steps rs; stands = stands; follows = follows }
 
 -- the text of lines is that of what they show
 lines-text : (ls : List Line) → flat_map line_text ls ≡ text_of (map shown_of ls)

@@ -1,7 +1,6 @@
 -- The words of the command, and the lines that answer what was refused.
 use Rattle.std.specs.Prelude.{ℕ, Bool, ◌&&◌, not, ◌==◌, nat_le, if◌then◌else◌, List, [], ◌∷◌, ◌++◌, length, Option, Some, None, codes}
 use Rattle.std.specs.Option.{option_map}
-use Rattle.std.specs.Fmt.{decimal}
 use Rattle.std.specs.Str.{bytes_eq}
 use Rattle.i9_text.specs.Text.{number_of}
 use Rattle.i9_model.specs.declared.layout.TheConstants.{MAX_LENGTH, MOST_SETS}
@@ -124,7 +123,3 @@ source_word = codes "source"
 
 abbrev pub long_line : List ℕ → List ℕ
 long_line what = codes "#" ++ what ++ codes " too long\n"
-
--- the first line at fault and its kind
-unfoldable pub refused_line : List ℕ → ℕ × ℕ → List ℕ
-refused_line what fault = codes "#" ++ what ++ codes " line " ++ decimal fault.0 ++ codes " kind " ++ decimal fault.1 ++ 10 ∷ []

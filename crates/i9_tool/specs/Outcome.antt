@@ -17,14 +17,16 @@ use Rattle.i9_course.specs.LateRun.{IsLateRun}
 use Rattle.i9_hex.specs.Writing.{hex_text}
 use Rattle.i9_asm.specs.Laws.{IsAssembly, IsRefusedSource}
 use Rattle.i9_asm.specs.Listing.{IsListing}
-use Rattle.i9_tool.specs.CommandLine.{Command, Run, Asm, Dis, Gen, files_of, command_of, words_line, read_line, image_word, schedule_word, source_word, long_line, refused_line}
+use Rattle.i9_tool.specs.CommandLine.{Command, Run, Asm, Dis, Gen, files_of, command_of, words_line, read_line, image_word, schedule_word, source_word, long_line}
+use Rattle.i9_debug.specs.Lines.{refused_line}
 use Rattle.i9_tool.specs.declared.words.Range.{Range}
 use Rattle.i9_tool.specs.Traced.{printed_text}
-use Rattle.i9_tool.specs.Generator.{generated_source, generated_schedule, generated_line}
+use Rattle.i9_generator.specs.Generator.{generated_source, generated_schedule}
+use Rattle.i9_debug.specs.Lines.{generated_line}
 use Rattle.i9_outside.specs.declared.traits.TheConstants.{FILE_LIMIT}
-use Rattle.i9_tool.specs.declared.print.Printed.{Printed}
-use Rattle.i9_tool.specs.declared.print.Printed.TheVariants as printed
-use Rattle.i9_tool.specs.Print.{Account, CountsUpTo, line_count, counted_on}
+use Rattle.i9_debug.specs.declared.print.Printed.{Printed}
+use Rattle.i9_debug.specs.declared.print.Printed.TheVariants as printed
+use Rattle.i9_debug.specs.Print.{Account, CountsUpTo, line_count, counted_on}
 use Rattle.i9_outside.specs.Counts.{one_more, Rose}
 use Rattle.i9_outside.specs.Traits.{IsFile, AppendsFront}
 

@@ -9,12 +9,12 @@ use Rattle.i9_machine.specs.declared.line.Turn.{Turn}
 use Rattle.i9_machine.specs.declared.line.Turn.TheVariants as turns
 use Rattle.i9_tool.specs.declared.words.Range.{Range}
 use Rattle.i9_tool.specs.Traced.{line_where, traced_line, printed_text}
-use Rattle.i9_tool.specs.declared.print.Printed.{Printed}
-use Rattle.i9_tool.specs.declared.print.Printed.TheVariants as printed
+use Rattle.i9_debug.specs.declared.print.Printed.{Printed}
+use Rattle.i9_debug.specs.declared.print.Printed.TheVariants as printed
 use Rattle.i9_tool.specs.declared.run.Counted.{Counted}
 use Rattle.i9_tool.specs.declared.run.Ran.{Ran}
 use Rattle.i9_tool.specs.declared.run.Ran.TheVariants as ran
-use Rattle.i9_tool.specs.Print.{Account, Prints, line_text}
+use Rattle.i9_debug.specs.Print.{Account, Prints, line_text}
 
 -- how the printing of the run's text ended
 abbrev pub printed_of : Ran → Printed

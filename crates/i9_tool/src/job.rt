@@ -4,15 +4,15 @@ ghost use Rattle.i9_text.specs.Text.{lines_of};
 ghost use Rattle.i9_model.specs.ScheduleText.{IsSchedule, IsPlan};
 ghost use Rattle.i9_asm.specs.Laws.{IsAssembly};
 ghost use Rattle.i9_tool.specs.Words.{AreFew};
-ghost use Rattle.i9_tool.specs.Print.{account};
+ghost use Rattle.i9_debug.specs.Print.{account};
 ghost use Rattle.i9_tool.specs.Outcome.{Answers, JobGives, GenGives};
 
-use crate::generator::generate;
-use crate::print::{print_counted, print_refusal};
 use crate::run::count_run;
 use crate::status::{Status, code_of_end, status_for};
 use crate::words::JobWords;
 use i9_asm::{AsmError, assemble};
+use i9_debug::{print_generated, print_refusal};
+use i9_generator::generate;
 use i9_hex::Segments;
 use i9_isa::NoMemory;
 use i9_model::layout::MAX_LENGTH;
@@ -39,7 +39,14 @@ fn run_job<K: Sink>(
 {
     match count_run(alloc, image, plan, words.sets, MAX_LENGTH) {
         Ok(counted) => {
-            let printed = print_counted(alloc, words.number, &counted, out);
+            let printed = print_generated(
+                alloc,
+                words.number,
+                counted.count,
+                counted.events,
+                counted.end,
+                out,
+            );
             status_for(printed, code_of_end(counted.end))
         }
         Err(NoMemory) => Status { code: 7 },
@@ -47,7 +54,7 @@ fn run_job<K: Sink>(
 }
 
 /// Runs the image of a job with the events of its schedule, or says why the schedule is refused.
-#[tactic(auto, using(crate::proofs::LineCounts::line_rules))]
+#[tactic(auto, using(crate::proofs::Refusals::refusal_rules))]
 fn schedule_job<K: Sink>(
     alloc: Global,
     words: JobWords,
@@ -72,7 +79,7 @@ fn schedule_job<K: Sink>(
 }
 
 /// Assembles the source of a job and runs it with its schedule, or says why the source is refused.
-#[tactic(auto, using(crate::proofs::LineCounts::line_rules))]
+#[tactic(auto, using(crate::proofs::Refusals::refusal_rules))]
 fn assemble_job<K: Sink>(
     alloc: Global,
     words: JobWords,

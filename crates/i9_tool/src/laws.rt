@@ -9,7 +9,7 @@ ghost use Rattle.i9_outside.specs.Calls.{NoneToFail};
 ghost use Rattle.i9_outside.specs.MemFiles as mem_files;
 ghost use Rattle.i9_outside.specs.MemSink as mem_sink;
 ghost use Rattle.i9_tool.specs.Outcome.{Gives, GivesWhole, Outcomes, asked_for, names_of, AllTold};
-ghost use Rattle.i9_tool.specs.Print.{account};
+ghost use Rattle.i9_debug.specs.Print.{account};
 
 use crate::status::Status;
 use crate::top::i960;

@@ -3,12 +3,12 @@ ghost use Rattle.std.specs.Prelude.{◌≡◌, ◌≢◌, ◌≤◌, List, ℕ, 
 ghost use Rattle.i9_model.specs.Image.{pairs_of};
 ghost use Rattle.i9_outside.specs.declared.traits.TheConstants.{FILE_LIMIT};
 ghost use Rattle.i9_tool.specs.CommandLine.{Dis, files_of};
-ghost use Rattle.i9_tool.specs.Print.{account};
+ghost use Rattle.i9_debug.specs.Print.{account};
 ghost use Rattle.i9_tool.specs.Outcome.{Answers, AnyRose, AllSure, CommandGives, DisGives, FetchesFiles, ImageGives};
 ghost use Rattle.i9_tool.specs.Outcome.{IsAccepted, rose_in};
 
-use crate::print::{print_piece, print_refusal, print_text};
 use crate::status::{Status, status_for};
+use i9_debug::{print_piece, print_refusal, print_text};
 use i9_dis::listing;
 use i9_hex::{HexError, Segments};
 use i9_isa::NoMemory;
@@ -29,7 +29,7 @@ fn print_listing<K: Sink>(alloc: Global, image: &Segments, out: &mut K) -> Statu
 }
 
 /// Prints the listing of the image of a file that was fetched, or says why it is refused.
-#[tactic(auto, using(crate::proofs::LineCounts::line_rules))]
+#[tactic(auto, using(crate::proofs::Refusals::refusal_rules))]
 fn list_image<K: Sink>(alloc: Global, file: &[u8], out: &mut K) -> Status
     requires sized { length file.now ≤ FILE_LIMIT }
     ensures answers { Answers (ImageGives DisGives file.now) result.code

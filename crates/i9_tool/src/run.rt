@@ -5,12 +5,12 @@ ghost use Rattle.i9_model.specs.declared.layout.TheConstants.{MAX_LENGTH};
 ghost use Rattle.i9_model.specs.Image.{pairs_of};
 ghost use Rattle.i9_model.specs.ScheduleText.{IsPlan};
 ghost use Rattle.i9_tracer.specs.Closures.{TakesEachAddress};
-ghost use Rattle.i9_tool.specs.Print.{account};
+ghost use Rattle.i9_debug.specs.Print.{account};
 ghost use Rattle.i9_tool.specs.Run.{Counts, PrintsBy, Runs, TracesBy, step_text, turn_text};
 ghost use Rattle.i9_tool.specs.Words.{AreFew};
 
-use crate::print::{Printed, print_lines, print_text};
 use crate::words::Range;
+use i9_debug::{Printed, print_lines, print_text};
 use i9_hex::Segments;
 use i9_isa::NoMemory;
 use i9_machine::{End, Line, Machine, Turn};
@@ -93,6 +93,7 @@ fn run_filtered<K: Sink, F: Fn(u32) -> bool + AddressTest>(
     let mut lines = Vec::new(alloc);
     loop {
         lines.clear();
+        machine.pass_turns();
         let turn = machine.advance(plan, &mut lines);
         match print_step(alloc, f, &turn, &lines, out) {
             Printed::Done => {}
@@ -191,6 +192,7 @@ pub(crate) fn count_run(
     let mut lines = Vec::new(alloc);
     loop {
         lines.clear();
+        machine.pass_turns();
         match machine.advance(plan, &mut lines) {
             Turn::On => {}
             Turn::Issued(_) => {}

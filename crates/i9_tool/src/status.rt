@@ -3,7 +3,7 @@ ghost use Rattle.std.specs.Prelude.{◌≡◌};
 ghost use Rattle.i9_model.specs.PrintedText.{end_code};
 ghost use Rattle.i9_tool.specs.Outcome.{code_for};
 
-use crate::print::Printed;
+use i9_debug::Printed;
 use i9_machine::End;
 
 /// How the command ended: a code from 0 to 7.

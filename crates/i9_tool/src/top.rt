@@ -12,7 +12,7 @@ ghost use Rattle.i9_asm.specs.Laws.{IsAssembly};
 ghost use Rattle.i9_outside.specs.declared.traits.TheConstants.{FILE_LIMIT};
 ghost use Rattle.i9_outside.specs.Counts.{Rose};
 ghost use Rattle.i9_tool.specs.Run.{TellsEnd, printed_of};
-ghost use Rattle.i9_tool.specs.Print.{account};
+ghost use Rattle.i9_debug.specs.Print.{account};
 ghost use Rattle.i9_tool.specs.Outcome.{Reads, RunGives, ScheduleGives, PlanGives, ImageGives, SourceGives};
 ghost use Rattle.i9_tool.specs.Outcome.{CommandGives};
 ghost use Rattle.i9_tool.specs.Outcome.{Answers, GivesWhole, GivesFront, Outcomes, asked_for, rose_in, code_for};
@@ -21,11 +21,11 @@ ghost use Rattle.i9_tool.specs.Outcome.{AllSure};
 
 use crate::job::do_job;
 use crate::listing::fetch_listed;
-use crate::print::{print_piece, print_refusal, print_text};
 use crate::run::{Ran, run};
 use crate::status::{Status, code_of_end, status_for};
 use crate::words::{Asked, RunWords, read_words};
 use i9_asm::{AsmError, assemble};
+use i9_debug::{print_piece, print_refusal, print_text};
 use i9_hex::{HexError, Segments};
 use i9_isa::NoMemory;
 use i9_outside::{Fetch, Files, Sink};
@@ -97,7 +97,7 @@ fn run_alone<K: Sink>(alloc: Global, image: &Segments, words: &RunWords<'_>, out
 }
 
 /// Runs an image with the events of a schedule that was fetched, or says why the schedule is refused.
-#[tactic(auto, using(crate::proofs::LineCounts::line_rules))]
+#[tactic(auto, using(crate::proofs::Refusals::refusal_rules))]
 fn use_schedule<K: Sink>(
     alloc: Global,
     image: &Segments,
@@ -174,7 +174,7 @@ fn run_planned<F: Files, K: Sink>(
 }
 
 /// Runs the image of a file that was fetched, or says why it is refused.
-#[tactic(auto, using(crate::proofs::LineCounts::line_rules))]
+#[tactic(auto, using(crate::proofs::Refusals::refusal_rules))]
 fn use_image<F: Files, K: Sink>(
     alloc: Global,
     file: &[u8],
@@ -242,7 +242,7 @@ fn print_image<K: Sink>(alloc: Global, image: &Segments, out: &mut K) -> Status
 }
 
 /// Assembles the source of a file that was fetched, or says why it is refused.
-#[tactic(auto, using(crate::proofs::LineCounts::line_rules))]
+#[tactic(auto, using(crate::proofs::Refusals::refusal_rules))]
 fn use_source<K: Sink>(alloc: Global, file: &[u8], out: &mut K) -> Status
     requires sized { length file.now ≤ FILE_LIMIT }
     ensures answers { Answers (SourceGives file.now) result.code

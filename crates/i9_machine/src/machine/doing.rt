@@ -5,6 +5,7 @@ ghost use Rattle.i9_model.specs.State.{State};
 ghost use Rattle.i9_model.specs.Memory.{console_byte};
 ghost use Rattle.i9_model.specs.Free.{IsFree};
 ghost use Rattle.i9_model.specs.Alike.{AreAlike};
+ghost use Rattle.i9_model.specs.HeldFrames.{AreWhole};
 ghost use Rattle.i9_model.specs.Step.{moved, acted, counted};
 ghost use Rattle.i9_model.specs.Run.{Ends};
 ghost use Rattle.i9_model.specs.PrintedText.{Drained, Last, view_of, out_lines, point_lines, last_lines, overlays};
@@ -26,6 +27,7 @@ use i9_frames::Sets;
 use i9_isa::NoMemory;
 use i9_model::{End, Event, Need, Point, View};
 use i9_processor::{Control, Effect, Landing, Processor};
+use i9_raw::hide;
 use i9_schedule::{Schedule, copied};
 
 /// Makes room for so many lines.
@@ -288,6 +290,7 @@ impl Machine {
         requires acts { CanActPlaced self.old step.now.need self.old.effect }
         requires lines { vec_len out.old + line_count self.old.effect step.now (option_copied event) ≤ vec_capacity out.old }
         requires ranges { IfSome event (λ e. IsInRange e.now) }
+        requires whole { AreWhole (cache_of self.old.processor).held }
         ensures state { AreAlike (state_behind self.old self.old.effect step.now) (state_of self.new.processor) }
         ensures cache { cache_of self.new.processor
             ≡ cache_through self.old.processor (action_for self.old self.old.effect) self.new.processor }
@@ -313,6 +316,13 @@ impl Machine {
             request: need.request,
         };
         put_event(event, &self.processor, out);
+        hide(
+            &self.processor,
+            &self.effect,
+            &need,
+            placed.done,
+            &mut self.shade,
+        );
         self.processor
             .apply(&self.effect, &landing, step.counts, sets);
         self.due = step.due;

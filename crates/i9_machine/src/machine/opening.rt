@@ -4,6 +4,7 @@ ghost use Rattle.i9_model.specs.Before.{choice_in};
 ghost use Rattle.i9_model.specs.Standing.{stands_at};
 ghost use Rattle.i9_plan.specs.Open.{WaitsForAll};
 ghost use Rattle.i9_processor.specs.State.{state_of};
+ghost use Rattle.i9_schedule.specs.Plan.{Plan};
 ghost use Rattle.i9_machine.specs.Opening.{IsFreeToIssue, NextWaits};
 
 use super::Machine;
@@ -20,12 +21,10 @@ impl Machine {
     ghost use Rattle.i9_machine.specs.Overtaking.{IsNeedAhead};
 
     /// Whether nothing is due, and the length is not reached.
-    fn goes_on(&self, plan: &Schedule) -> bool
+    fn goes_on(&self) -> bool
         ensures free { result ≡ true → (self.now.due ≡ Due.Nothing) × ((state_of self.now.processor).count < self.now.length) }
-        ensures waits { result ≡ false → NextWaits self.now plan.now }
+        ensures waits { (plan : Plan) → result ≡ false → NextWaits self.now plan }
     {
-        // The schedule is looked at by the clauses alone.
-        let _ = plan;
         match &self.due {
             Due::Nothing => self.processor.count() != self.length,
             Due::End(_) => false,
@@ -39,7 +38,7 @@ impl Machine {
         ensures free { result ≡ true → IsFreeToIssue self.now plan.now }
         ensures waits { result ≡ false → NextWaits self.now plan.now }
     {
-        if !self.goes_on(plan) || self.processor.check() {
+        if !self.goes_on() || self.processor.check() {
             return false;
         }
         match self.processor.choose() {
@@ -71,7 +70,7 @@ impl Machine {
                 inst,
                 number,
             } => {
-                let need = need_faulted(&self.processor, &inst, number);
+                let need = need_faulted(&self.processor, self.memo.need(), &inst, number);
                 self.faults(words, word_count(&inst), number, need, plan)
                     .unless_barrier()
             }
@@ -88,9 +87,12 @@ impl Machine {
     {
         match plan_open(&self.processor, &mut self.memo, &mut self.effect) {
             Open::Waits => None,
-            Open::Runs { inst, .. } => Some(need_done(&self.processor, &inst, &self.effect)),
+            Open::Runs { inst, .. } => {
+                let fixed = self.memo.need();
+                Some(need_done(&self.processor, fixed, &inst, &self.effect))
+            }
             Open::Faults { inst, number, .. } => {
-                Some(need_faulted(&self.processor, &inst, number))
+                Some(need_faulted(&self.processor, self.memo.need(), &inst, number))
             }
         }
     }

@@ -12,6 +12,7 @@ ghost use Rattle.i9_model.specs.Needs.{is_request_name};
 ghost use Rattle.i9_course.specs.NeedOf.{need_of};
 ghost use Rattle.i9_model.specs.Traced.{traced_action};
 ghost use Rattle.i9_model.specs.Run.{Does, Instruction, Faulted, faulted_words, fault_at, record_of, point_by_name, action_due};
+ghost use Rattle.i9_plan.specs.Kept.{KeepsNeed};
 ghost use Rattle.i9_plan.specs.Planned.{TellsWords, IsInRow};
 ghost use Rattle.i9_processor.specs.Effect.{action_in, IsEffect};
 ghost use Rattle.i9_processor.specs.State.{state_of, IsDrained};
@@ -136,6 +137,7 @@ impl Machine {
         requires is_next { next_for self.now plan.now ≡ Does (record_of (Instruction inst.now) (state_of self.now.processor)) }
         requires words { TellsWords (words_of inst.now) (state_of self.now.processor) words }
         requires valid { IsValid inst.now }
+        requires need { KeepsNeed self.now.memo inst.now }
         requires effect { IsEffect (state_of self.now.processor) (traced_action inst.now (state_of self.now.processor)) self.now.effect }
         requires row { is_request_name inst.now.op ≡ true → IsInRow self.now.effect }
         ensures { IsStep self.now plan.now result self.now.effect }
@@ -146,7 +148,7 @@ impl Machine {
             counts: 1,
             due: self.due_by(&self.effect),
             answer: Turn::Issued(self.issued(words)),
-            need: need_done(&self.processor, inst, &self.effect),
+            need: need_done(&self.processor, self.memo.need(), inst, &self.effect),
         }
     }
 
@@ -207,7 +209,7 @@ impl Machine {
                 inst,
                 number,
             } => {
-                let need = need_faulted(&self.processor, &inst, number);
+                let need = need_faulted(&self.processor, self.memo.need(), &inst, number);
                 Ok(self.faults(words, word_count(&inst), number, need, plan))
             }
             Planned::Runs { words, inst } => Ok(self.does(words, &inst, plan)),

@@ -15,4 +15,4 @@ returns-in-Err c =
     let clear = ap (λ (a : ℕ). read_hazard s.frames a 4) (sym c.ip.ensures) ∙ sym c.check_read.ensures ∙ none in
     let here = c.hard_word-first.ensures ∙ ap (word_in s.memory) c.ip-2.ensures in
     let read = sym c.read.ensures.value ∙ c.in-Err.is in
-    (refused_fetch_by s c.hard_word-first.result c.in-Err.why clear here read, sym (ap (λ (w : ℕ). decoded w (next_word s)) here) ∙ refusal_free c.hard_word-first.result 0 (next_word s) c.in-Err.why read, here)
+    record { fetched = (refused_fetch_by s c.hard_word-first.result c.in-Err.why clear here read, sym (ap (λ (w : ℕ). decoded w (next_word s)) here) ∙ refusal_free c.hard_word-first.result 0 (next_word s) c.in-Err.why read, here); need = tt }

@@ -12,6 +12,6 @@ returns-clause-known c frames one =
     record {
       frames = frames;
       one = one;
-      waits = subst (λ (n : ℕ). n ≤ 62) (sym c.access_waits.ensures) (known_waits s.memory (access_of i s));
-      access = ap (λ (o : Option (ℕ × ℕ)). is_some o) c.data_access-access.ensures ∙ known_access i s;
+      waits = subst (λ (n : ℕ). n ≤ 62) (sym c.accessed-access.ensures.waits) (known_waits s.memory (access_of i s));
+      access = ap (λ (o : Option (ℕ × ℕ)). is_some o) c.accessed-access.ensures.access ∙ known_access i s;
     }

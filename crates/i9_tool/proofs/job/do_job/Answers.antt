@@ -1,4 +1,4 @@
-use Rattle.i9_tool.specs.Generator.{generated_source, generated_schedule}
+use Rattle.i9_generator.specs.Generator.{generated_source, generated_schedule}
 use Rattle.i9_tool.proofs.Outcomes.{answers_unprinted, some_job}
 use Rattle.i9_tool.proofs.job.do_job.Goals as goal
 

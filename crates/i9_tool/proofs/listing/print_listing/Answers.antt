@@ -1,6 +1,6 @@
 use Rattle.std.proofs.Common.{◌∙◌, refl, sym, arith}
 use Rattle.i9_tool.specs.Outcome.{listed}
-use Rattle.i9_tool.proofs.Lined.{lined_lines}
+use Rattle.i9_tool.proofs.LinedTexts.{lined_lines}
 use Rattle.i9_tool.proofs.Outcomes.{answers_unprinted, answers_line, some_dis}
 use Rattle.i9_tool.proofs.listing.print_listing.Goals as goal
 

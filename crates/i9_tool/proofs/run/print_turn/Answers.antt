@@ -1,5 +1,5 @@
 use Rattle.std.proofs.Common.{rules}
-use Rattle.i9_tool.proofs.Lined.{lined_trace}
+use Rattle.i9_tool.proofs.LinedTexts.{lined_trace}
 use Rattle.i9_tool.proofs.run.print_turn.Goals as goal
 
 pub print_text-requires : goal.print_text-requires

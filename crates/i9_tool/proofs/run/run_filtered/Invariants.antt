@@ -5,8 +5,8 @@ use Rattle.i9_model.specs.Run.{Record}
 use Rattle.i9_course.specs.LateRun.{steps}
 use Rattle.i9_machine.specs.StandsFor.{StandsFor, Follows}
 use Rattle.i9_machine.specs.Step.{steps_left}
-use Rattle.i9_tool.specs.declared.print.Printed.TheVariants.{Done}
-use Rattle.i9_tool.specs.Print.{Prints, account}
+use Rattle.i9_debug.specs.declared.print.Printed.TheVariants.{Done}
+use Rattle.i9_debug.specs.Print.{Prints, account}
 use Rattle.i9_tool.specs.Run.{TracedBy}
 use Rattle.i9_tool.proofs.run.run_filtered.Given as goal
 

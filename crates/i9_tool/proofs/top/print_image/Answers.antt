@@ -1,6 +1,6 @@
 use Rattle.std.proofs.Common.{◌∙◌, arith}
 use Rattle.i9_tool.specs.Outcome.{assembled}
-use Rattle.i9_tool.proofs.Lined.{lined_hex}
+use Rattle.i9_tool.proofs.LinedTexts.{lined_hex}
 use Rattle.i9_tool.proofs.Outcomes.{answers_unprinted, answers_line, some_source}
 use Rattle.i9_tool.proofs.top.print_image.Goals as goal
 

@@ -7,6 +7,7 @@ use Rattle.i9_model.proofs.AlikeSteps.{view_alike}
 use Rattle.i9_processor.specs.State.{state_of}
 use Rattle.i9_machine.specs.Doing.{reached_lines, state_behind, action_for}
 use Rattle.i9_machine.specs.Issuing.{Acts}
+use Rattle.i9_raw.specs.Raw.{shades_need}
 use Rattle.i9_machine.specs.Line.{shown_of}
 use Rattle.i9_machine.proofs.machine.Machine.act.Goals as goal
 
@@ -43,6 +44,11 @@ returns-clause-issued c =
       floor = refl;
       wait = refl;
       done = refl;
+      hides = record {
+        bytes = λ is. c.hide.ensures.bytes (ap shades_need marked ∙ is);
+        due = λ is. c.hide.ensures.due (ap shades_need marked ∙ is);
+        keeps = λ beside. c.hide.ensures.keeps (ap shades_need marked ∙ beside);
+      };
       acts = subst (λ (n : Need). Acts m.processor (record { writes = n.writes; done = place.result.done; request = n.request }) (action_for m c.args.self.now.effect) c.apply.new.self) marked
           (record { cells = acts.cells; waits = acts.waits; acts = acts.acts; still = acts.still });
     }

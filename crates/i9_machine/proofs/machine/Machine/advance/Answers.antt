@@ -1,8 +1,8 @@
-use Rattle.std.specs.Prelude.{◌-◌, vec_capacity, vec_len}
+use Rattle.std.specs.Prelude.{◌+◌, ◌-◌, vec_capacity, vec_len}
 use Rattle.std.proofs.Common.{inl}
 use Rattle.i9_machine.proofs.Lifting.{steps_advance, next_room}
 use Rattle.i9_machine.proofs.Stepping.{move_fewer}
-use Rattle.i9_machine.proofs.Turning.{moved, same_left, under_way_early}
+use Rattle.i9_machine.proofs.Turning.{moved, same_left, has_pace, paced_turn}
 use Rattle.i9_machine.proofs.machine.Machine.advance.Goals as goal
 
 pub returns-in-None-clause-next : goal.returns-in-None-clause-next
@@ -13,8 +13,8 @@ returns-in-None-clause-next c = λ g h stands follows.
 pub returns-in-None-clause-fewer : goal.returns-in-None-clause-fewer
 returns-in-None-clause-fewer c =
     let m = c.args.self.now in
-    move_fewer m c.move_on.new.self c.args.plan.now (same_left m c.move_on.new.self c.args.plan.now m.wait m.kept m.effect c.move_on.ensures) c.move_on.ensures.turn
-    (under_way_early m c.args.plan.now (c.requires.stands c.in-None.is))
+    move_fewer m c.move_on.new.self c.args.plan.now (same_left (m.turn + 1) m c.move_on.new.self c.args.plan.now m.wait m.kept m.effect c.move_on.ensures) c.move_on.ensures.turn
+    (paced_turn m (has_pace m c.args.plan.now (c.requires.stands c.in-None.is)))
 
 pub returns-in-None-2-clause-next : goal.returns-in-None-2-clause-next
 returns-in-None-2-clause-next c = λ g h stands follows.

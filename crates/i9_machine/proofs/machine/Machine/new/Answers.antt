@@ -5,6 +5,7 @@ use Rattle.i9_model.specs.Image.{pairs_of}
 use Rattle.i9_model.specs.State.{boot}
 use Rattle.i9_model.specs.Turns.{Pending, IsAllDone}
 use Rattle.i9_model.proofs.AlikeSteps.{alike_same}
+use Rattle.i9_raw.proofs.Landed.{none_hidden}
 use Rattle.i9_machine.proofs.Starting.{first_far, first_lands, none_done}
 use Rattle.i9_machine.proofs.machine.Machine.new.Goals as goal
 
@@ -19,6 +20,7 @@ returns c = λ plan is_plan.
       size = booted.size;
       cache = booted.cache;
       lands = first_lands g _ board refl refl refl booted.cells booted.bytes booted.queue;
+      shaded = none_hidden (boot (pairs_of c.args.image.now)).memory.bytes _ c.new-3.ensures.due;
       early = omega arith;
       paced = record {
         bound = 1;

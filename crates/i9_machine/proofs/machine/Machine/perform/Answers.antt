@@ -2,7 +2,7 @@ use Rattle.std.specs.Prelude.{◌-◌, vec_capacity, vec_len}
 use Rattle.std.proofs.Common.{◌≡◌, ℕ, ◌+◌, ◌≤◌, List, ◌++◌, map, Option, refl, sym, ap, ◌∙◌, subst}
 use Rattle.std.specs.Option.{option_copied}
 use Rattle.i9_model.specs.declared.event.Event.{Event}
-use Rattle.i9_model.specs.HeldFrames.{Cache, renewed, cache_acted, cache_configured}
+use Rattle.i9_model.specs.HeldFrames.{Cache, AreWhole, renewed, cache_acted, cache_configured}
 use Rattle.i9_model.specs.PrintedText.{Shown}
 use Rattle.i9_machine.specs.declared.line.Line.{Line}
 use Rattle.i9_machine.specs.Line.{shown_of}
@@ -16,7 +16,8 @@ use Rattle.i9_course.specs.Course.{records_of}
 use Rattle.i9_course.proofs.Timed.{need_cost}
 use Rattle.i9_model.specs.Alike.{AreAlike}
 use Rattle.i9_model.specs.Free.{IsFree}
-use Rattle.i9_model.proofs.HeldRuns.{next_free}
+use Rattle.i9_model.proofs.HeldRuns.{next_free, cached-after}
+use Rattle.i9_course.proofs.Orderly.{course_past}
 use Rattle.i9_processor.specs.Effect.{action_in, move_in, size_with, CanControl, CanTake}
 use Rattle.i9_processor.specs.State.{state_of, cache_of, size_of}
 use Rattle.i9_processor.proofs.NewSets.{made_size, made_takes}
@@ -113,6 +114,12 @@ act-answer-requires-clause-early c =
     subst (λ (b : Pending). IsEarly b (waiting_until c.make_room.new.self.floor c.args.step.now.need)) (sym same.board)
     (subst (λ (f : ℕ). IsEarly m.board (waiting_until f c.args.step.now.need)) (sym same.floor) early)
 
+pub act-answer-requires-clause-whole : goal.act-answer-requires-clause-whole
+act-answer-requires-clause-whole c =
+    let come = c.requires.come in
+    let cached = cached-after come.given (records_of come.items) (course_past come.given come.items come.stands.past) in
+    subst (λ (d : Cache). AreWhole d.held) (sym (c.make_room.ensures.same.cache ∙ come.stands.cache)) cached.youngest.whole
+
 pub act-answer-requires-clause-covered : goal.act-answer-requires-clause-covered
 act-answer-requires-clause-covered c =
     let step = subst (IsStep c.args.self.now c.args.plan.now c.args.step.now) (sym c.make_room.ensures.effect) c.requires.step in
@@ -142,7 +149,7 @@ returns-in-Ok-clause-issues c =
       is_next = step.is_next;
       need = c.args.step.now.need;
       is_need = step.need;
-      issued = unmoved_issued old mid new c.args.step.now.need (action_by_kind step.kind s) same.unmoved issued;
+      issued = unmoved_issued old mid new c.args.step.now.need (action_by_kind step.kind s) same.unmoved same.size same.cache issued;
     }))
 
 pub returns-in-Ok-clause-steps : goal.returns-in-Ok-clause-steps

@@ -21,6 +21,7 @@ perform-requires-clause-come c =
       floor = refl;
       wait = refl;
       done = refl;
+      shade = refl;
       ended = refl;
     } in
     like_come c.args.self.now _ c.args.plan.now like refl c.requires.stands
@@ -38,6 +39,7 @@ returns-clause-done c =
       floor = refl;
       wait = refl;
       done = refl;
+      shade = refl;
       ended = refl;
     } in
     record {

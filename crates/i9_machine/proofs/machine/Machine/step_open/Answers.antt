@@ -12,7 +12,7 @@ use Rattle.i9_machine.specs.Issuing.{IsLike}
 use Rattle.i9_machine.proofs.Issuing.{waits_for_none}
 use Rattle.i9_machine.proofs.Overtaking.{calm_precise}
 use Rattle.i9_machine.proofs.Performing.{like_turn, like_paced, like_step, like_come, like_room, like_fewer, like_steps, like_issues, done_opens, wait_keeps, wait_opens, wait_fewer}
-use Rattle.i9_machine.proofs.Turning.{keeps_step, waits_until, comes_at, waiting_cost, paced_early}
+use Rattle.i9_machine.proofs.Turning.{has_pace, keeps_step, waits_until, comes_at, waiting_cost, paced_early}
 use Rattle.i9_machine.proofs.machine.Machine.step_open.Goals as goal
 
 pub wait_until-requires : goal.wait_until-requires
@@ -32,7 +32,7 @@ returns-in_default-clause-steps c =
 pub returns-in_default-clause-fewer : goal.returns-in_default-clause-fewer
 returns-in_default-clause-fewer c =
     let w = c.wait_until in
-    wait_fewer c.args.self.now c.open_step.new.self w.new.self w.result c.args.plan.now c.args.until w.ensures.answer c.open_step.ensures.like c.requires.stands
+    wait_fewer c.args.self.now c.open_step.new.self w.new.self w.result c.args.plan.now c.args.until w.ensures.answer c.open_step.ensures.like (has_pace c.args.self.now c.args.plan.now c.requires.stands)
     w.ensures.moved
 
 pub next_turn-turn-requires-clause-cost : goal.next_turn-turn-requires-clause-cost
@@ -100,6 +100,7 @@ returns-then-self-turn-clause-steps c =
       floor = like.floor;
       wait = like.wait;
       done = like.done;
+      shade = like.shade;
       ended = like.ended;
     } in
     let w = c.wait_until-then-self-turn in
@@ -123,10 +124,11 @@ returns-then-self-turn-clause-fewer c =
       floor = like.floor;
       wait = like.wait;
       done = like.done;
+      shade = like.shade;
       ended = like.ended;
     } in
     let w = c.wait_until-then-self-turn in
-    wait_fewer c.args.self.now _ w.new.self w.result c.args.plan.now c.next_turn-turn.result w.ensures.answer kept_like c.requires.stands w.ensures.moved
+    wait_fewer c.args.self.now _ w.new.self w.result c.args.plan.now c.next_turn-turn.result w.ensures.answer kept_like (has_pace c.args.self.now c.args.plan.now c.requires.stands) w.ensures.moved
 
 pub returns-else-self-turn-clause-steps : goal.returns-else-self-turn-clause-steps
 returns-else-self-turn-clause-steps c =

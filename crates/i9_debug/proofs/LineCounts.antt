@@ -1,0 +1,132 @@
+-- Each printed line has one line feed.
+use Rattle.std.proofs.Common.{◌≡◌, ℕ, ◌≤◌, length, true, false, List, [], ◌∷◌, ◌++◌, Option, Some, None, eqb, codes, refl, ◌∙◌, arith}
+use Rattle.std.specs.List.{flat_map}
+use Rattle.std.specs.Fmt.{decimal}
+use Rattle.std.proofs.lemmas.Bool.{and_parts}
+use Rattle.i9_text.specs.Written.{byte_text}
+use Rattle.i9_text.proofs.WrittenLines.{is_plain_byte, is_plain, plain-append, plain-decimal, plain-word_text, plain-byte_text}
+use Rattle.i9_model.specs.declared.view.View.{View}
+use Rattle.i9_model.specs.declared.run.Point.{Point}
+use Rattle.i9_model.specs.declared.run.Point.TheVariants as points
+use Rattle.i9_model.specs.declared.run.End.{End}
+use Rattle.i9_model.specs.declared.run.End.TheVariants.{Exit, Limit, Hazard, Dead, Imprecise}
+use Rattle.i9_model.specs.PrintedText.{out_text, spaced, spaced_byte, words_text, drained_text, point_text, event_text, bytes_text, end_text}
+use Rattle.i9_model.specs.declared.event.Event.{Event}
+use Rattle.i9_model.specs.Events.{journal_text}
+use Rattle.i9_model.proofs.ReadBack.{journal_plain}
+use Rattle.i9_debug.specs.Lines.{refused_line, ending, generated_line}
+use Rattle.i9_debug.specs.Print.{line_count, IsLine}
+use Rattle.i9_debug.proofs.Prints.{line_count-append}
+
+not_feed : (b : ℕ) → is_plain_byte b ≡ true → eqb b 10 ≡ false
+not_feed b h = grind (arith)
+
+no_feeds : (xs : List ℕ) → is_plain xs ≡ true → line_count xs ≡ 0
+no_feeds [] h = refl
+no_feeds (b ∷ xs) h =
+    let p = and_parts (is_plain_byte b) (is_plain xs) h in
+    rw (not_feed b p.0) (no_feeds xs p.1)
+
+-- a plain text in front adds no line
+after_plain : (xs ys : List ℕ) → is_plain xs ≡ true → line_count (xs ++ ys) ≡ line_count ys
+after_plain xs ys h = omega (arith, line_count-append xs ys, no_feeds xs h)
+
+plain_words : (ws : List ℕ) → is_plain (flat_map spaced ws) ≡ true
+plain_words [] = refl
+plain_words (w ∷ ws) = plain-append (spaced w) (flat_map spaced ws) (plain-word_text w) (plain_words ws)
+
+pub line-words : (label ws : List ℕ) → is_plain label ≡ true → IsLine (words_text label ws)
+unfolding words_text
+line-words label ws h = after_plain (label ++ flat_map spaced ws) (10 ∷ []) (plain-append label (flat_map spaced ws) h (plain_words ws))
+
+pub line-out : (b : ℕ) → IsLine (out_text b)
+unfolding out_text
+line-out b = after_plain (codes "#out ") (byte_text b ++ 10 ∷ []) refl ∙ after_plain (byte_text b) (10 ∷ []) (plain-byte_text b)
+
+plain_drained : (k : Point) → is_plain (drained_text k) ≡ true
+plain_drained points.Flush = refl
+plain_drained points.Sync = refl
+plain_drained points.Event = refl
+plain_drained points.Int = refl
+plain_drained points.Fault = refl
+plain_drained points.End = refl
+
+pub line-point : (k : Point) (v : View) → IsLine (point_text k v)
+unfolding point_text
+line-point k v =
+    let counted = plain-append (codes "#point ") (decimal v.count) refl (plain-decimal v.count) in
+    let label = plain-append (codes "#point " ++ decimal v.count ++ codes " ") (drained_text k) (plain-append (codes "#point " ++ decimal v.count) (codes " ") counted refl) (plain_drained k) in
+    line-words (codes "#point " ++ decimal v.count ++ codes " " ++ drained_text k) (v.ip ∷ v.ac ∷ v.pc ∷ []) label
+
+pub line-event : (k : ℕ) (e : Event) → IsLine (event_text k e)
+unfolding event_text
+line-event k e = after_plain (journal_text k e) (10 ∷ []) (journal_plain k e)
+
+plain_byte : (b : Option ℕ) → is_plain (spaced_byte b) ≡ true
+plain_byte None = refl
+plain_byte (Some b) = plain-append (codes " ") (byte_text b) refl (plain-byte_text b)
+
+plain_bytes : (bs : List (Option ℕ)) → is_plain (flat_map spaced_byte bs) ≡ true
+plain_bytes [] = refl
+plain_bytes (b ∷ bs) = plain-append (spaced_byte b) (flat_map spaced_byte bs) (plain_byte b) (plain_bytes bs)
+
+pub line-bytes : (a : ℕ) (bs : List (Option ℕ)) → IsLine (bytes_text a bs)
+unfolding bytes_text
+line-bytes a bs =
+    let begun = plain-append (codes "#mem") (spaced a) refl (plain-word_text a) in
+    after_plain (codes "#mem" ++ spaced a ++ flat_map spaced_byte bs) (10 ∷ []) (plain-append (codes "#mem" ++ spaced a) (flat_map spaced_byte bs) begun (plain_bytes bs))
+
+pub line-end : (f : End) → IsLine (end_text f)
+unfolding end_text
+line-end (Exit w) = line-words (codes "#end exit") (w ∷ []) refl
+line-end Limit = refl
+line-end (Hazard a) = line-words (codes "#end hazard") (a ∷ []) refl
+line-end (Dead code a) = line-words (codes "#end dead " ++ decimal code) (a ∷ []) (plain-append (codes "#end dead ") (decimal code) refl (plain-decimal code))
+line-end (Imprecise a) = line-words (codes "#end imprecise") (a ∷ []) refl
+
+pub end_labelled : (f : End) → length (codes "#end ") ≤ length (end_text f)
+unfolding end_text words_text
+end_labelled (Exit w) = omega arith
+end_labelled Limit = omega arith
+end_labelled (Hazard a) = omega arith
+end_labelled (Dead code a) = omega arith
+end_labelled (Imprecise a) = omega arith
+
+-- the end of the run that was made from a number
+line-ending : (f : End) → IsLine (ending f)
+unfolding ending end_text words_text
+line-ending (Exit w) = line-words (codes "exit") (w ∷ []) refl
+line-ending Limit = refl
+line-ending (Hazard a) = line-words (codes "hazard") (a ∷ []) refl
+line-ending (Dead code a) = line-words (codes "dead " ++ decimal code) (a ∷ []) (plain-append (codes "dead ") (decimal code) refl (plain-decimal code))
+line-ending (Imprecise a) = line-words (codes "imprecise") (a ∷ []) refl
+
+-- a number, and a space behind it
+plain_number : (xs : List ℕ) (n : ℕ) → is_plain xs ≡ true → is_plain (xs ++ decimal n ++ codes " ") ≡ true
+plain_number xs n plain = plain-append (xs ++ decimal n) (codes " ") (plain-append xs (decimal n) plain (plain-decimal n)) refl
+
+pub line-generated : (number count events : ℕ) (f : End) → IsLine (generated_line number count events f)
+unfolding generated_line
+line-generated number count events f =
+    let begun = plain_number (codes "#gen ") number refl in
+    let counted = plain_number (codes "#gen " ++ decimal number ++ codes " ") count begun in
+    let taken = plain_number (codes "#gen " ++ decimal number ++ codes " " ++ decimal count ++ codes " ") events counted in
+    after_plain (codes "#gen " ++ decimal number ++ codes " " ++ decimal count ++ codes " " ++ decimal events ++ codes " ") (ending f) taken ∙ line-ending f
+
+pub line-globals : (ws : List ℕ) → IsLine (words_text (codes "#g") ws)
+line-globals ws = line-words (codes "#g") ws refl
+
+pub line-locals : (ws : List ℕ) → IsLine (words_text (codes "#l") ws)
+line-locals ws = line-words (codes "#l") ws refl
+
+-- what was refused, by a plain name
+pub line-refused : (what : List ℕ) (fault : ℕ × ℕ) → is_plain what ≡ true → IsLine (refused_line what fault)
+unfolding refused_line
+line-refused what fault plain =
+    let begun = plain-append (codes "#" ++ what) (codes " line ") (plain-append (codes "#") what refl plain) refl in
+    let line = plain-append (codes "#" ++ what ++ codes " line ") (decimal fault.0) begun (plain-decimal fault.0) in
+    let kind = plain-append (codes "#" ++ what ++ codes " line " ++ decimal fault.0) (codes " kind ") line refl in
+    after_plain (codes "#" ++ what ++ codes " line " ++ decimal fault.0 ++ codes " kind " ++ decimal fault.1) (10 ∷ [])
+    (plain-append (codes "#" ++ what ++ codes " line " ++ decimal fault.0 ++ codes " kind ") (decimal fault.1) kind (plain-decimal fault.1))
+
+pub ruleset line_rules = (line-out, line-point, line-event, line-bytes, line-end, line-generated, line-globals, line-locals)

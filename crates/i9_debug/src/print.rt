@@ -1,0 +1,157 @@
+//! Printing of lines.
+ghost use Rattle.std.specs.Prelude.{◌≡◌, ◌≢◌, flat_map, true};
+ghost use Rattle.std.specs.List.{position};
+ghost use Rattle.i9_text.specs.Text.{is_line_feed};
+ghost use Rattle.i9_debug.specs.Lines.{generated_line, refused_line};
+ghost use Rattle.i9_debug.specs.Print.{Prints, IsLine, AreLines, account, is_lined, line_text};
+
+use crate::text::{generated_line, lines_of, refused_line};
+use i9_machine::{End, Line};
+use i9_outside::{Sink, Wrote};
+use std::alloc::Global;
+
+/// How printing ended.
+#[derive(Clone, Copy)]
+pub enum Printed {
+    /// The whole text was written.
+    Done,
+    /// A write failed; a front of the text was written, perhaps nothing.
+    Write,
+    /// Memory was refused; a front of the text was written, perhaps nothing.
+    Memory,
+}
+
+/// Writes a line by one call of the sink.
+pub fn print_piece<K: Sink>(piece: &[u8], out: &mut K) -> Printed
+    requires line { IsLine piece.now }
+    ensures prints { Prints result (account K.told K.faults K.writes K.sure) out.old out.new piece.now }
+    ensures takes_no_memory { result ≢ Printed.Memory }
+{
+    match out.write(piece) {
+        Wrote::Ok => Printed::Done,
+        Wrote::Failed => Printed::Write,
+    }
+}
+
+/// Writes lines in order, each by one call of the sink.
+#[tactic(auto, using(crate::proofs::Prints::prints_rules))]
+pub(crate) fn print_pieces<K: Sink>(pieces: &[Vec<u8>], out: &mut K) -> Printed
+    requires lines { AreLines pieces.now }
+    ensures prints { Prints result (account K.told K.faults K.writes K.sure) out.old out.new
+        (flat_map (λ p. p.items) pieces.now) }
+    ensures takes_no_memory { result ≢ Printed.Memory }
+{
+    for piece in pieces {
+        match print_piece(piece, out) {
+            Printed::Done => {}
+            Printed::Write => return Printed::Write,
+            Printed::Memory => return Printed::Memory,
+        }
+    }
+    Printed::Done
+}
+
+/// The place of the first line feed of a text.
+fn feed_place(text: &[u8]) -> Option<usize>
+    ensures { result ≡ position is_line_feed text.now }
+{
+    text.iter().position(|byte| *byte == b'\n')
+}
+
+/// Writes the lines of a text, each by one call of the sink.
+#[tactic(auto, using(crate::proofs::Prints::prints_rules))]
+pub fn print_text<K: Sink>(text: &[u8], out: &mut K) -> Printed
+    requires lined { is_lined text.now ≡ true }
+    ensures prints { Prints result (account K.told K.faults K.writes K.sure) out.old out.new text.now }
+    ensures takes_no_memory { result ≢ Printed.Memory }
+{
+    let mut rest = text;
+    while let Some(place) = feed_place(rest) {
+        let (line, after) = rest.split_at(place + 1);
+        match print_piece(line, out) {
+            Printed::Done => {}
+            Printed::Write => return Printed::Write,
+            Printed::Memory => return Printed::Memory,
+        }
+        rest = after;
+    }
+    Printed::Done
+}
+
+/// Writes the line of a refused image, schedule or source, with its first line at fault and its kind.
+#[tactic(auto, using(crate::proofs::Prints::prints_rules))]
+pub fn print_refusal<K: Sink>(
+    alloc: Global,
+    what: &[u8],
+    line: u64,
+    kind: u8,
+    out: &mut K,
+) -> Printed
+    requires line { IsLine (refused_line what.now (line, kind)) }
+    ensures { Prints result (account K.told K.faults K.writes K.sure) out.old out.new
+        (refused_line what.now (line, kind)) }
+{
+    match refused_line(alloc, what, line, kind) {
+        Ok(text) => print_piece(&text, out),
+        Err(_) => Printed::Memory,
+    }
+}
+
+/// Writes the line of the run of the job of a number: its instructions, its events, and its end.
+#[tactic(auto, using(crate::proofs::LineCounts::line_rules))]
+pub fn print_generated<K: Sink>(
+    alloc: Global,
+    number: u32,
+    count: u64,
+    events: u64,
+    end: End,
+    out: &mut K,
+) -> Printed
+    ensures { Prints result (account K.told K.faults K.writes K.sure) out.old out.new
+        (generated_line number count events end) }
+{
+    match generated_line(alloc, number, count, events, end) {
+        Ok(text) => print_piece(&text, out),
+        Err(_) => Printed::Memory,
+    }
+}
+
+/// Writes the lines of l, each by one call of the sink.
+#[tactic(auto, using(crate::proofs::Prints::prints_rules))]
+pub fn print_line<K: Sink>(alloc: Global, l: &Line, out: &mut K) -> Printed
+    ensures { Prints result (account K.told K.faults K.writes K.sure) out.old out.new (line_text l.now) }
+{
+    match lines_of(alloc, l) {
+        Ok(lines) => print_pieces(&lines, out),
+        Err(_) => Printed::Memory,
+    }
+}
+
+/// Writes lines in order.
+#[inline(never)]
+#[tactic(auto, using(crate::proofs::Prints::prints_rules))]
+fn print_each<K: Sink>(alloc: Global, lines: &[Line], out: &mut K) -> Printed
+    ensures { Prints result (account K.told K.faults K.writes K.sure) out.old out.new (flat_map line_text lines.now) }
+{
+    for line in lines {
+        match print_line(alloc, line, out) {
+            Printed::Done => {}
+            Printed::Write => return Printed::Write,
+            Printed::Memory => return Printed::Memory,
+        }
+    }
+    Printed::Done
+}
+
+/// Writes lines in order. Most steps have none, and then nothing is called.
+#[inline(always)]
+#[tactic(auto, using(crate::proofs::Prints::prints_rules))]
+pub fn print_lines<K: Sink>(alloc: Global, lines: &[Line], out: &mut K) -> Printed
+    ensures { Prints result (account K.told K.faults K.writes K.sure) out.old out.new (flat_map line_text lines.now) }
+{
+    if lines.is_empty() {
+        Printed::Done
+    } else {
+        print_each(alloc, lines, out)
+    }
+}

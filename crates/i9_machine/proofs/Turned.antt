@@ -1,0 +1,193 @@
+-- The steps of one turn, and the raw state at it.
+use Rattle.std.proofs.Common.{◌≡◌, ℕ, zero, suc, ◌+◌, ◌^◌, ◌<◌, ◌≤◌, Bool, cond, List, [], ◌∷◌, ◌++◌, map, unwrap_or, Option, None, Some, refl, sym, ap, ◌∙◌, subst, append_assoc, inl, inr, arith}
+use Rattle.std.specs.List.{range_with_len}
+use Rattle.std.proofs.lemmas.List.{append-nil}
+use Rattle.std.proofs.lemmas.Option.{none-some}
+use Rattle.i9_model.specs.declared.need.Cell.{Cell}
+use Rattle.i9_model.specs.declared.run.End.{End}
+use Rattle.i9_model.specs.Late.{Shows, resources, raw_value, is_busy, is_plan_open, turns as late_turns}
+use Rattle.i9_model.specs.Needs.{set_below}
+use Rattle.i9_model.specs.PrintedText.{Shown, register_list, lines_of, record_lines, end_lines}
+use Rattle.i9_model.specs.Run.{Given, Record, state_after}
+use Rattle.i9_model.specs.State.{boot}
+use Rattle.i9_model.specs.Turns.{last_issue}
+use Rattle.i9_model.proofs.LateRegisters.{cell-busy}
+use Rattle.i9_schedule.specs.Plan.{Plan}
+use Rattle.i9_course.specs.Course.{Item, Step, records_of, course}
+use Rattle.i9_processor.specs.State.{cells_of, bytes_of}
+use Rattle.i9_raw.specs.Raw.{raw_memory}
+use Rattle.i9_raw.proofs.Landed.{course_shows}
+use Rattle.i9_shade.specs.Shade.{shown}
+use Rattle.i9_machine.specs.declared.line.Line.{Line}
+use Rattle.i9_machine.specs.declared.line.Raw.{Raw}
+use Rattle.i9_machine.specs.declared.line.Turn.{Turn}
+use Rattle.i9_machine.specs.declared.line.Turn.TheVariants as answers
+use Rattle.i9_machine.specs.declared.machine.Machine.{Machine}
+use Rattle.i9_machine.specs.Issuing.{kernel_of, IsMovedTo}
+use Rattle.i9_machine.specs.Line.{AddsLines, shown_of}
+use Rattle.i9_machine.specs.Raw.{raw_at}
+use Rattle.i9_machine.specs.StandsFor.{StandsFor, Follows, IsLanding, IsUnderWay, MovesOn, DoesNext, EndsRun, IsRefused, Advances}
+use Rattle.i9_machine.specs.Step.{records_left, steps_left}
+use Rattle.i9_machine.specs.Turned.{steps_on, Since, TurnsOn, EndsTurn, StopsTurn}
+use Rattle.i9_machine.proofs.Turning.{moved_stands, same_left}
+
+-- ---- lines
+
+more_lines : (old mid new : List Line) (xs ys : List Shown) → AddsLines old mid xs → AddsLines mid new ys → AddsLines old new (xs ++ ys)
+more_lines old mid new xs ys first then =
+    then ∙ ap (λ (ls : List Shown). ls ++ ys) first ∙ append_assoc (map shown_of old) xs ys
+
+same_lines : (old mid new : List Line) (xs : List Shown) → AddsLines old mid xs → new ≡ mid → AddsLines old new xs
+same_lines old mid new xs first same = ap (map shown_of) same ∙ first
+
+-- ---- steps
+
+pub none_since : (g : Given) (h : List Item) (m : Machine) (plan : Plan) (lines : List Line) → StandsFor g h None m → Follows g h plan
+    → Since g h m m plan lines lines
+none_since g h m plan lines stands follows = record {
+  done = [];
+  turn = refl;
+  stands = stands;
+  follows = follows;
+  lines = sym (append-nil (map shown_of lines));
+}
+
+module _ (g : Given) (h : List Item) (before m : Machine) (was : Plan) (old mid : List Line)
+    (since : Since g h before m was old mid) (next : Machine) (plan : Plan) (new : List Line) where
+  -- one more
+  pub does_since : (answer : Turn) → DoesNext g (steps_on since.done h) answer m next plan mid new → Since g h before next plan old new
+  does_since answer d = record {
+    done = d.done ∷ since.done;
+    turn = d.turn ∙ since.turn;
+    stands = d.stands;
+    follows = d.follows;
+    lines = more_lines old mid new (lines_of since.done) (record_lines d.done) since.lines d.lines;
+  }
+
+  -- the turn moves
+  pub turns_since : MovesOn g (steps_on since.done h) m next plan mid new → TurnsOn g h before next plan old new
+  turns_since d =
+      let turn : next.turn ≡ m.turn + 1 = d.turn in
+      let begun = since.stands.lands.begun in
+      record {
+        done = since.done;
+        turn = turn ∙ ap (λ (t : ℕ). t + 1) since.turn;
+        issued = omega (arith, turn, begun);
+        later = d.stands.lands.in_time;
+        stands = d.stands;
+        follows = d.follows;
+        lines = same_lines old mid new (lines_of since.done) since.lines d.lines;
+      }
+
+  -- the run ends
+  pub ends_since : (f : End) → EndsRun g (steps_on since.done h) f m next plan mid new → EndsTurn g h f before next plan old new
+  ends_since f d = record {
+    done = since.done;
+    turn = d.turn ∙ since.turn;
+    is_end = d.is_end;
+    stands = d.stands;
+    follows = d.follows;
+    lines = more_lines old mid new (lines_of since.done) (end_lines (state_after g (records_of (steps_on since.done h))) f) since.lines d.lines;
+  }
+
+  -- memory is refused
+  pub stops_since : IsRefused g (steps_on since.done h) m next plan mid new → StopsTurn g h before next plan old new
+  stops_since d = record {
+    since = record {
+      done = since.done;
+      turn = d.turn ∙ since.turn;
+      stands = d.stands;
+      follows = d.follows;
+      lines = same_lines old mid new (lines_of since.done) since.lines d.lines;
+    };
+    needed = d.needed;
+  }
+
+  -- where the turn has risen it moved, and else an event or an entry was done
+  pub risen_since : Advances g (steps_on since.done h) answers.On m next plan mid new → (next.turn ≡ before.turn → ⊥) → TurnsOn g h before next plan old new
+  risen_since (inl moves) risen = turns_since moves
+  risen_since (inr does) risen = absurd (risen (does.turn ∙ since.turn))
+
+  pub still_since : Advances g (steps_on since.done h) answers.On m next plan mid new → next.turn ≡ before.turn → Since g h before next plan old new
+  still_since (inl moves) still =
+      let turn : next.turn ≡ m.turn + 1 = moves.turn in
+      let was_turn : m.turn ≡ before.turn = since.turn in
+      absurd (omega (arith, turn, was_turn, still))
+  still_since (inr does) still = does_since answers.On does
+
+-- a machine is still under way
+pub does_under_way : (g : Given) (h : List Item) (answer : Turn) (m next : Machine) (plan : Plan) (old new : List Line)
+    → DoesNext g h answer m next plan old new → IsUnderWay next plan
+does_under_way g h answer m next plan old new d = record { given = g; items = Step d.done ∷ h; stands = d.stands; follows = d.follows }
+
+pub still_under_way : (g : Given) (h : List Item) (m next : Machine) (plan : Plan) (old new : List Line)
+    → Advances g h answers.On m next plan old new → IsUnderWay next plan
+still_under_way g h m next plan old new (inl moves) = record { given = g; items = h; stands = moves.stands; follows = moves.follows }
+still_under_way g h m next plan old new (inr does) = does_under_way g h answers.On m next plan old new does
+
+-- ---- turns at which nothing comes are passed
+
+pub passed : (g : Given) (h : List Item) (end : Option End) (before m : Machine) → before.ended ≡ None → before.turn < before.wait
+    → IsMovedTo before.wait before m → StandsFor g h end before → StandsFor g h end m
+passed g h None before m none later i stands =
+    moved_stands g h before.wait before m before.wait before.kept before.effect stands (omega (arith, later)) (omega arith) stands.early stands.kept i
+passed g h (Some f) before m none later i stands = absurd (none-some f (sym none ∙ stands.ended))
+
+pub passed_left : (before m : Machine) (plan : Plan) → before.turn < before.wait → IsMovedTo before.wait before m
+    → steps_left m plan ≤ steps_left before plan
+unfolding steps_left
+passed_left before m plan later i =
+    let same = same_left before.wait before m plan before.wait before.kept before.effect i in
+    let turn : m.turn ≡ before.wait = i.turn in
+    omega (arith, same, turn, later)
+
+-- ---- the raw state
+
+same_map : (f k : ℕ → ℕ) (a n : ℕ) → ((r : ℕ) → r < a + n → f r ≡ k r) → map f (range_with_len a n) ≡ map k (range_with_len a n)
+same_map f k a zero same = refl
+same_map f k a (suc n) same =
+    ap (λ (x : ℕ). x ∷ map f (range_with_len (a + 1) n)) (same a (omega arith))
+    ∙ ap (λ (xs : List ℕ). k a ∷ xs) (same_map f k (a + 1) n (λ r lt. same r (omega (arith, lt))))
+
+same_list : (f k : ℕ → ℕ) → ((r : ℕ) → r < 32 → f r ≡ k r) → register_list f ≡ register_list k
+unfolding register_list
+same_list f k same = same_map f k 0 32 same
+
+same_set : (n : ℕ) (p q : ℕ → Bool) → ((r : ℕ) → r < n → p r ≡ q r) → set_below n p ≡ set_below n q
+unfolding set_below
+same_set zero p q same = refl
+same_set (suc n) p q same =
+    ap (λ (b : Bool). set_below n p + cond b (2 ^ n) 0) (same n (omega arith))
+    ∙ ap (λ (x : ℕ). x + cond (q n) (2 ^ n) 0) (same_set n p q (λ r lt. same r (omega (arith, lt))))
+
+shows_of : (g : Given) (h : List Item) (end : Option End) (m : Machine) → StandsFor g h end m
+    → Shows (boot g.image) m.turn (course g h).late (kernel_of m).cells (kernel_of m).bytes (kernel_of m).queue
+shows_of g h None m stands = stands.lands.shows
+shows_of g h (Some f) m stands = stands.lands.shows
+
+begun_of : (g : Given) (h : List Item) (end : Option End) (m : Machine) → StandsFor g h end m → last_issue (late_turns (course g h).late) ≤ m.turn
+begun_of g h None m stands = stands.lands.begun
+begun_of g h (Some f) m stands = stands.lands.begun
+
+pub raw_is : (g : Given) (h : List Item) (end : Option End) (m : Machine) (raw : Raw) → StandsFor g h end m
+    → raw.turn ≡ m.turn → raw.regs ≡ register_list (λ r. (cells_of m.processor r).value)
+    → raw.busy ≡ set_below 32 (λ r. is_plan_open m.turn (cells_of m.processor r).plan) → raw ≡ raw_at g h m.turn
+raw_is g h end m raw stands turn regs busy =
+    let shows = shows_of g h end m stands in
+    let late = (course g h).late in
+    let first = boot g.image in
+    let values = regs ∙ same_list (λ r. (cells_of m.processor r).value) (raw_value first m.turn late)
+    (λ r lt. ap (λ (c : Cell). c.value) (shows.registers r (omega (arith, lt)))) in
+    let marks = busy ∙ same_set 32 (λ r. is_plan_open m.turn (cells_of m.processor r).plan) (is_busy m.turn late)
+    (λ r lt. ap (λ (c : Cell). is_plan_open m.turn c.plan) (shows.registers r (omega (arith, lt))) ∙ cell-busy m.turn r late) in
+    ap (λ (t : ℕ). record { turn = t; regs = raw.regs; busy = raw.busy }) turn
+    ∙ ap (λ (rs : List ℕ). record { turn = m.turn; regs = rs; busy = raw.busy }) values
+    ∙ ap (λ (b : ℕ). record { turn = m.turn; regs = register_list (raw_value first m.turn late); busy = b }) marks
+
+-- a byte of raw memory
+pub raw_byte_is : (g : Given) (h : List Item) (end : Option End) (m : Machine) (a : ℕ) → StandsFor g h end m
+    → unwrap_or (shown m.shade a m.turn) (bytes_of m.processor a) ≡ raw_memory (boot g.image).memory.bytes m.turn (course g h).late a
+raw_byte_is g h end m a stands =
+    let shows = shows_of g h end m stands in
+    ap (λ (f : ℕ → ℕ). unwrap_or (shown m.shade a m.turn) (f a)) shows.memory
+    ∙ course_shows g h m.turn m.shade a (begun_of g h end m stands) stands.shaded

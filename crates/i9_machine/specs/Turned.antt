@@ -1,0 +1,61 @@
+-- What a whole turn of a machine does.
+use Rattle.std.specs.Prelude.{◌≡◌, ℕ, ◌+◌, ◌<◌, ◌≤◌, List, [], ◌∷◌, ◌++◌, None, Some}
+use Rattle.i9_model.specs.declared.run.End.{End}
+use Rattle.i9_model.specs.Late.{turns}
+use Rattle.i9_model.specs.PrintedText.{lines_of, end_lines}
+use Rattle.i9_model.specs.Run.{Given, Record, state_after, next}
+use Rattle.i9_model.specs.Turns.{last_issue}
+use Rattle.i9_schedule.specs.Plan.{Plan}
+use Rattle.i9_course.specs.Course.{Item, Step, records_of, course, ahead}
+use Rattle.i9_course.specs.LateRun.{end_ahead}
+use Rattle.i9_machine.specs.declared.line.Line.{Line}
+use Rattle.i9_machine.specs.declared.line.Turn.{Turn}
+use Rattle.i9_machine.specs.declared.line.Turn.TheVariants as answers
+use Rattle.i9_machine.specs.declared.machine.Machine.{Machine}
+use Rattle.i9_machine.specs.Line.{AddsLines}
+use Rattle.i9_machine.specs.Step.{NeedsRoom}
+use Rattle.i9_machine.specs.StandsFor.{StandsFor, Follows}
+
+-- items with records behind them, the newest first
+abbrev pub steps_on : List Record → List Item → List Item
+steps_on [] h = h
+steps_on (r ∷ rs) h = Step r ∷ steps_on rs h
+
+-- records were done at the machine's turn, and their lines were appended
+pub record Since (g : Given) (h : List Item) (before m : Machine) (plan : Plan) (old new : List Line) : Type 0 where
+  pub done : List Record
+  pub turn : m.turn ≡ before.turn
+  pub stands : StandsFor g (steps_on done h) None m
+  pub follows : Follows g (steps_on done h) plan
+  pub lines : AddsLines old new (lines_of done)
+
+-- All records of the run that issue below the new turn have issued, and no others.
+pub record TurnsOn (g : Given) (h : List Item) (before m : Machine) (plan : Plan) (old new : List Line) : Type 0 where
+  pub done : List Record
+  pub turn : m.turn ≡ before.turn + 1
+  pub issued : last_issue (turns (course g (steps_on done h)).late) < m.turn
+  pub later : m.turn ≤ (ahead g (steps_on done h)).turn
+  pub stands : StandsFor g (steps_on done h) None m
+  pub follows : Follows g (steps_on done h) plan
+  pub lines : AddsLines old new (lines_of done)
+
+-- the end was answered, at the machine's turn
+pub record EndsTurn (g : Given) (h : List Item) (f : End) (before m : Machine) (plan : Plan) (old new : List Line) : Type 0 where
+  pub done : List Record
+  pub turn : m.turn ≡ before.turn
+  pub is_end : end_ahead g (steps_on done h) ≡ Some f
+  pub stands : StandsFor g (steps_on done h) (Some f) m
+  pub follows : Follows g (steps_on done h) plan
+  pub lines : AddsLines old new (lines_of done ++ end_lines (state_after g (records_of (steps_on done h))) f)
+
+-- memory was refused behind whole steps
+pub record StopsTurn (g : Given) (h : List Item) (before m : Machine) (plan : Plan) (old new : List Line) : Type 0 where
+  pub since : Since g h before m plan old new
+  pub needed : NeedsRoom (next g (records_of (steps_on since.done h)))
+
+-- what a turn does, by its answer, which is no instruction
+abbrev pub Turns : Given → List Item → Turn → Machine → Machine → Plan → List Line → List Line → Type 0
+Turns g h answers.On before m plan old new = TurnsOn g h before m plan old new
+Turns g h (answers.Issued t) before m plan old new = ⊥
+Turns g h (answers.End e) before m plan old new = EndsTurn g h e before m plan old new
+Turns g h answers.Memory before m plan old new = StopsTurn g h before m plan old new

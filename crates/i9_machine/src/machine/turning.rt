@@ -1,0 +1,80 @@
+//! A whole turn of the machine, and what it leaves.
+ghost use Rattle.std.specs.Prelude.{◌≡◌, List, Option, None, Some};
+ghost use Rattle.i9_model.specs.Given.{Given};
+ghost use Rattle.i9_model.specs.declared.run.End.{End};
+ghost use Rattle.i9_model.specs.State.{boot};
+ghost use Rattle.i9_course.specs.Course.{Item, course};
+ghost use Rattle.i9_raw.specs.Raw.{raw_memory};
+ghost use Rattle.i9_machine.specs.Raw.{raw_at};
+
+use super::Machine;
+use crate::line::{Line, Raw, Turn};
+use i9_schedule::Schedule;
+
+impl Machine {
+    ghost use Rattle.i9_machine.specs.StandsFor.{StandsFor, Follows, AnswersAgain, IsUnderWay};
+    ghost use Rattle.i9_machine.specs.Turned.{Turns};
+
+    /// One turn: steps until the turn has risen by one, which is then answered as `On`, or until the end or want
+    /// of memory; an instruction is never answered. All that issues at the turn is done, and its lines are
+    /// appended to `out`. Where memory is refused the steps before are done, and the machine stands between two
+    /// of them. The schedule is the one of the run, as `advance` has it. Once an end was answered, each call
+    /// answers it again and changes nothing.
+    pub fn turn(&mut self, plan: &mut Schedule, out: &mut Vec<Line>) -> Turn
+        requires stands { self.old.ended ≡ None → IsUnderWay self.old plan.old }
+        ensures next { (g : Given) (h : List Item) → StandsFor g h None self.old → Follows g h plan.old
+            → Turns g h result self.old self.new plan.new out.old.items out.new.items }
+        ensures again { (g : Given) (h : List Item) (f : End) → StandsFor g h (Some f) self.old
+            → AnswersAgain g h f result self.new out.old.items out.new.items × (plan.new ≡ plan.old) }
+    {
+        match self.ended {
+            Some(e) => Turn::End(e),
+            None => self.turn_on(plan, out),
+        }
+    }
+
+    /// One turn of a machine that has answered no end.
+    fn turn_on(&mut self, plan: &mut Schedule, out: &mut Vec<Line>) -> Turn
+        requires stands { IsUnderWay self.old plan.old }
+        ensures next { (g : Given) (h : List Item) → StandsFor g h None self.old → Follows g h plan.old
+            → Turns g h result self.old self.new plan.new out.old.items out.new.items }
+    {
+        let begun = self.turn;
+        'steps: loop {
+            match self.advance(plan, out) {
+                Turn::On => {
+                    if self.turn != begun {
+                        return Turn::On;
+                    }
+                }
+                Turn::Issued(_) => {}
+                Turn::End(e) => return Turn::End(e),
+                Turn::Memory => return Turn::Memory,
+            }
+        }
+    }
+
+    /// The registers as they stand at the machine's turn, and which of them are busy.
+    pub fn raw(&self) -> Raw
+        ensures { (g : Given) (h : List Item) (end : Option End) → StandsFor g h end self.now
+            → result ≡ raw_at g h self.now.turn }
+    {
+        Raw {
+            turn: self.turn,
+            regs: self.processor.raw_registers(),
+            busy: self.processor.busy_registers(self.turn),
+        }
+    }
+
+    /// The byte at `a` of raw memory: the image's, with what the records brought there that are done by the
+    /// machine's turn, in order. A frame that is saved brings nothing there until it is spilled or flushed.
+    pub fn raw_byte(&self, a: u32) -> u8
+        ensures { (g : Given) (h : List Item) (end : Option End) → StandsFor g h end self.now
+            → result ≡ raw_memory (boot g.image).memory.bytes self.now.turn (course g h).late a }
+    {
+        match self.shade.look(a, self.turn) {
+            Some(byte) => byte,
+            None => self.processor.acted_byte(a),
+        }
+    }
+}

@@ -1,0 +1,43 @@
+-- A set of registers that is filled from the lowest one up.
+use Rattle.std.proofs.Common.{◌≡◌, ℕ, zero, suc, ◌+◌, ◌*◌, ◌%◌, ◌^◌, ◌<◌, ◌≤◌, Bool, true, false, cond, arith, lit<, ap, sym, ◌∙◌, add-one}
+use Rattle.std.proofs.Math.Nat.{mod-eq_of_lt}
+use Rattle.std.proofs.Math.Pow.{pow-lt, pow_mono}
+use Rattle.i9_model.specs.Needs.{set_below}
+
+pow_cases : (b : Bool) (x n : ℕ) → x < 2 ^ n → x + cond b (2 ^ n) 0 < 2 ^ suc n
+pow_cases true x n h = omega (arith, h)
+pow_cases false x n h = omega (arith, h)
+
+-- a set of those below n is below 2^n
+pub set_small : (n : ℕ) (p : ℕ → Bool) → set_below n p < 2 ^ n
+unfolding set_below
+set_small zero p = lit< tt
+set_small (suc n) p = pow_cases (p n) (set_below n p) n (set_small n p)
+
+one_more : (n : ℕ) (p : ℕ → Bool) → set_below (n + 1) p ≡ set_below n p + cond (p n) (2 ^ n) 0
+unfolding set_below
+one_more n p = ap (λ (k : ℕ). set_below k p) (add-one n)
+
+-- the next one is in it, or is not
+pub set_with : (n : ℕ) (p : ℕ → Bool) → p n ≡ true → set_below (n + 1) p ≡ set_below n p + 2 ^ n
+set_with n p is = one_more n p ∙ ap (λ (b : Bool). set_below n p + cond b (2 ^ n) 0) is
+
+pub set_without : (n : ℕ) (p : ℕ → Bool) → p n ≡ false → set_below (n + 1) p ≡ set_below n p
+set_without n p is = one_more n p ∙ ap (λ (b : Bool). set_below n p + cond b (2 ^ n) 0) is ∙ none
+  where
+    none : set_below n p + 0 ≡ set_below n p
+    none = omega arith
+
+-- a further bit, which fits
+pub bit_is : (n : ℕ) → n < 32 → 1 * 2 ^ n % 4294967296 ≡ 2 ^ n
+bit_is n low =
+    let same : 1 * 2 ^ n ≡ 2 ^ n = omega arith in
+    let small : 2 ^ n < 2 ^ 32 = pow-lt low in
+    ap (λ (x : ℕ). x % 4294967296) same ∙ mod-eq_of_lt small
+
+pub bit_fits : (n : ℕ) (p : ℕ → Bool) → n < 32 → set_below n p + 2 ^ n < 2 ^ 32
+bit_fits n p low =
+    let small : set_below n p < 2 ^ n = set_small n p in
+    let next : suc n ≤ 32 = omega (arith, low) in
+    let top : 2 ^ suc n ≤ 2 ^ 32 = pow_mono next in
+    omega (arith, small, top)

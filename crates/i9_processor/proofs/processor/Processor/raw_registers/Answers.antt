@@ -1,0 +1,13 @@
+use Rattle.std.proofs.Common.{◌<◌, sym, ap, arith}
+use Rattle.i9_regs.specs.File.{cell_in}
+use Rattle.i9_processor.specs.State.{cells_of}
+use Rattle.i9_processor.proofs.RegisterList.{registers_in_order}
+use Rattle.i9_processor.proofs.processor.Processor.raw_registers.Goals as goal
+
+pub returns : goal.returns
+unfolding cells_of
+returns c =
+    let here = c.loop-r-test.false in
+    let end = c.loop-r.auto.r-end in
+    sym (registers_in_order (λ r. (cells_of c.args.self.now r).value) c.loop-r.registers c.loop-r.invariant.size
+    (λ r low. c.loop-r.invariant.filled r (omega (arith, low, here, end))))

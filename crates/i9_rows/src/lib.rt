@@ -1,0 +1,35 @@
+//! The tests of the command `i960`: its words, its files, and what its runs print.
+#![tactic(auto)]
+
+#[cfg(test)]
+mod asm_tests;
+#[cfg(test)]
+mod demo_tests;
+#[cfg(test)]
+mod dis_tests;
+#[cfg(test)]
+mod dma_tests;
+#[cfg(test)]
+mod event_tests;
+#[cfg(test)]
+mod fault_tests;
+#[cfg(test)]
+mod flow_tests;
+#[cfg(test)]
+mod frame_tests;
+#[cfg(test)]
+mod gen_tests;
+#[cfg(test)]
+mod result_tests;
+#[cfg(test)]
+mod rows;
+#[cfg(test)]
+mod sets_tests;
+#[cfg(test)]
+mod start_tests;
+#[cfg(test)]
+mod tests;
+#[cfg(test)]
+mod trace_event_tests;
+#[cfg(test)]
+mod trace_tests;

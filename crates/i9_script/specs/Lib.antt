@@ -1,0 +1,3 @@
+pub mod ScriptText
+pub mod Lines
+pub mod Reading

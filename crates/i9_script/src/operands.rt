@@ -1,0 +1,134 @@
+//! The command that words say.
+ghost use Rattle.std.specs.Prelude.{◌≡◌, ◌≤◌, IfSome};
+ghost use Rattle.std.specs.Option.{option_map, option_copied};
+ghost use Rattle.i9_text.specs.Text.{words_of};
+ghost use Rattle.i9_model.specs.Events.{number_in, decimal_in, address_of, one_of, two_of};
+ghost use Rattle.i9_script.specs.Lines.{bare_of, turn_of, until_of, piece_of, command_of};
+
+use crate::command::Command;
+use crate::kinds::{BAD_OPERAND, UNKNOWN_COMMAND};
+use i9_text::{number, split_word};
+
+const MOST_TURNS: u64 = 1_000_000;
+
+const LAST_ADDRESS: u64 = 0xFFFF_FFFF;
+
+/// How many bytes `mem` and `rawmem` tell at most.
+const MOST_BYTES: u64 = 64;
+
+/// The only word.
+fn one_word(words: &[u8]) -> Option<&[u8]>
+    ensures { option_copied result ≡ one_of (words_of words.now) }
+{
+    let (word, rest) = split_word(words)?;
+    match split_word(rest) {
+        Some(_) => None,
+        None => Some(word),
+    }
+}
+
+/// The only two words.
+fn two_words(words: &[u8]) -> Option<(&[u8], &[u8])>
+    ensures { option_map (λ p. (p.0.now, p.1.now)) result ≡ two_of (words_of words.now) }
+{
+    let (first, rest) = split_word(words)?;
+    let (second, rest) = split_word(rest)?;
+    match split_word(rest) {
+        Some(_) => None,
+        None => Some((first, second)),
+    }
+}
+
+/// The number of a word of one to `most` digits, in a range.
+#[tactic(auto, unfolding(i9_model::specs::Events::number_in))]
+fn number_in(word: &[u8], radix: u8, most: usize, low: u64, high: u64) -> Option<u64>
+    requires radix { (2 ≤ radix) × (radix ≤ 16) }
+    requires most { most ≤ 15 }
+    ensures value { result ≡ number_in radix most low high word.now }
+    ensures inside { IfSome result (λ n. n ≤ high) }
+{
+    let n = number(word, radix, most)?;
+    if n < low || n > high { None } else { Some(n) }
+}
+
+/// The decimal number of a word of one to ten digits, from 1 on.
+fn decimal(word: &[u8], high: u64) -> Option<u64>
+    ensures value { result ≡ decimal_in 1 high word.now }
+    ensures inside { IfSome result (λ n. n ≤ high) }
+{
+    number_in(word, 10, 10, 1, high)
+}
+
+/// The address of a word of one to eight hexadecimal digits.
+fn address(word: &[u8]) -> Option<u32>
+    ensures { result ≡ address_of word.now }
+{
+    let address = number_in(word, 16, 8, 0, LAST_ADDRESS)?;
+    Some(address as u32)
+}
+
+/// A command that has no operands.
+fn bare(words: &[u8], command: Command) -> Option<Command>
+    ensures { result ≡ bare_of command (words_of words.now) }
+{
+    match split_word(words) {
+        Some(_) => None,
+        None => Some(command),
+    }
+}
+
+/// The command `turn` of these operands.
+#[tactic(auto, unfolding(crate::specs::Lines::turn_of))]
+fn turn(words: &[u8]) -> Option<Command>
+    ensures { result ≡ turn_of (words_of words.now) }
+{
+    let turns = decimal(one_word(words)?, MOST_TURNS)?;
+    Some(Command::Turn(turns))
+}
+
+/// The command `until` of these operands.
+#[tactic(auto, unfolding(crate::specs::Lines::until_of))]
+fn until(words: &[u8]) -> Option<Command>
+    ensures { result ≡ until_of (words_of words.now) }
+{
+    let address = address(one_word(words)?)?;
+    Some(Command::Until(address))
+}
+
+/// The operands of `mem` and `rawmem`: an address, and how many bytes.
+#[tactic(auto, unfolding(crate::specs::Lines::piece_of))]
+fn piece(words: &[u8]) -> Option<(u32, u8)>
+    ensures { result ≡ piece_of (words_of words.now) }
+{
+    let (start, length) = two_words(words)?;
+    let start = address(start)?;
+    let length = decimal(length, MOST_BYTES)?;
+    Some((start, length as u8))
+}
+
+/// The command that words say, or the kind of their fault.
+#[tactic(auto, unfolding(crate::specs::Lines::command_of))]
+pub(crate) fn command(words: &[u8]) -> Result<Command, u8>
+    ensures { result ≡ command_of (words_of words.now) }
+{
+    let (name, operands) = split_word(words).ok_or(UNKNOWN_COMMAND)?;
+    if name == b"turn".as_slice() {
+        turn(operands).ok_or(BAD_OPERAND)
+    } else if name == b"until".as_slice() {
+        until(operands).ok_or(BAD_OPERAND)
+    } else if name == b"regs".as_slice() {
+        bare(operands, Command::Regs).ok_or(BAD_OPERAND)
+    } else if name == b"raw".as_slice() {
+        bare(operands, Command::Raw).ok_or(BAD_OPERAND)
+    } else if name == b"held".as_slice() {
+        bare(operands, Command::Held).ok_or(BAD_OPERAND)
+    } else if name == b"mem".as_slice() {
+        let (start, length) = piece(operands).ok_or(BAD_OPERAND)?;
+        Ok(Command::Mem(start, length))
+    } else if name == b"rawmem".as_slice() {
+        let (start, length) = piece(operands).ok_or(BAD_OPERAND)?;
+        Ok(Command::RawMem(start, length))
+    } else {
+        Err(UNKNOWN_COMMAND)
+    }
+}

@@ -1,0 +1,40 @@
+//! What a line says by itself.
+ghost use Rattle.std.specs.Prelude.{◌≡◌};
+ghost use Rattle.i9_model.specs.ScheduleText.{is_ascii, is_skipped};
+ghost use Rattle.i9_script.specs.Lines.{line_of};
+
+use crate::command::Command;
+use crate::kinds::UNKNOWN_COMMAND;
+use crate::operands::command;
+use i9_text::split_word;
+
+/// Whether every byte is ASCII.
+fn is_ascii(line: &[u8]) -> bool
+    ensures { result ≡ is_ascii line.now }
+{
+    line.iter().all(|b| *b < 128)
+}
+
+/// Whether the line is a comment, or has no words.
+fn is_skipped(line: &[u8]) -> bool
+    ensures { result ≡ is_skipped line.now }
+{
+    if let [b'#', ..] = line {
+        return true;
+    }
+    split_word(line).is_none()
+}
+
+/// What a line says, nothing or a command, or the kind of its fault.
+#[tactic(auto, unfolding(crate::specs::Lines::line_of))]
+pub(crate) fn said(line: &[u8]) -> Result<Option<Command>, u8>
+    ensures { result ≡ line_of line.now }
+{
+    if !is_ascii(line) {
+        return Err(UNKNOWN_COMMAND);
+    }
+    if is_skipped(line) {
+        return Ok(None);
+    }
+    Ok(Some(command(line)?))
+}

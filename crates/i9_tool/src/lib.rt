@@ -1,0 +1,14 @@
+//! The command `i960`: a simulator of the core of the i960CA, over files and a sink.
+#![tactic(auto)]
+
+mod job;
+pub mod laws;
+mod listing;
+mod run;
+mod status;
+mod top;
+mod words;
+
+pub use crate::status::Status;
+pub use crate::top::i960;
+pub use i9_generator::generate;
