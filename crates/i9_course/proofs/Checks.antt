@@ -18,7 +18,7 @@ use Rattle.i9_model.specs.Needs.{is_barrier_name}
 use Rattle.i9_model.specs.Late.{turns}
 use Rattle.i9_model.proofs.TurnMarks.{end-least}
 use Rattle.i9_course.specs.NeedOf.{need_of}
-use Rattle.i9_course.specs.Course.{Item, Step, Mark, records_of, course, issue_of_next, ahead, IsCourse}
+use Rattle.i9_course.specs.Course.{Item, Step, Mark, records_of, course, issue_of_next, event_ahead, ahead, IsCourse}
 use Rattle.i9_course.proofs.Timed.{course_timed}
 use Rattle.i9_course.proofs.Barriers.{waits_for_all, kind_barrier}
 use Rattle.i9_course.proofs.Ahead.{ahead_precise, ahead_can, ahead_by_end}
@@ -76,7 +76,7 @@ step_barrier : (g : Given) (h : List Item) (r : Record) → IsCourse g (Step r �
     → IsLastBarrier (turns (course g (Step r ∷ h)).late)
 step_barrier g h r c set =
     let s = state_after g (records_of h) in
-    let is = comes_after g (records_of h) r c.2 in
+    let is = comes_after g (event_ahead g h) (records_of h) r c.2 in
     let before : s ≡ r.before = sym (ap (λ (q : Record). q.before) is) in
     let after : r.after ≡ after_kind r.kind r.before =
     ap (λ (q : Record). q.after) is ∙ ap (after_kind r.kind) before in

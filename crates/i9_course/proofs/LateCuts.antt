@@ -10,15 +10,17 @@ use Rattle.i9_model.specs.declared.run.End.{End}
 use Rattle.i9_model.specs.declared.run.End.TheVariants.{Limit, Imprecise}
 use Rattle.i9_model.specs.State.{State}
 use Rattle.i9_model.specs.Before.{choice_in}
-use Rattle.i9_model.specs.Run.{Given, Kind, Instruction, Faulted, Entered, Interrupted, Reached, Blocked, Record, Ends, counts_of, action_by_kind, due_by, due_after, event_after, next_by_choice, next_in, state_after, next, IsPast}
+use Rattle.i9_model.specs.Run.{Given, Kind, Instruction, Faulted, Entered, Interrupted, Reached, Blocked, Record, Ends, counts_of, action_by_kind, Next, Does, due_by, due_after, next_by_choice, next_in, next_with, state_after, IsPastOfSome}
 use Rattle.i9_model.proofs.ControlLaws.{acted-count}
 use Rattle.i9_model.proofs.Comes.{MayCome, next_comes}
-use Rattle.i9_model.proofs.Ends.{count_within}
-use Rattle.i9_model.proofs.Cuts.{state_by, past_more, run_more}
-use Rattle.i9_course.specs.Course.{last_fault, is_overtaken, imprecise_at}
+use Rattle.i9_model.proofs.Ends.{some_within}
+use Rattle.i9_model.proofs.Cuts.{state_by, next_longer}
+use Rattle.i9_course.specs.Course.{records_of, event_ahead, comes_next, last_fault, is_overtaken, imprecise_at}
 use Rattle.i9_course.specs.LateRun.{steps, IsLatePast, IsLateRun, is_imprecise}
 use Rattle.i9_course.proofs.Ahead.{imprecise_overtaken}
-use Rattle.i9_course.proofs.LateRuns.{records_of-steps, late_past, late_next, with_step, run_imprecise, imprecise_run, run_precise, precise_run, late_run, either_none}
+use Rattle.i9_course.proofs.Orderly.{course_events}
+use Rattle.i9_course.proofs.Same.{same_event}
+use Rattle.i9_course.proofs.LateRuns.{records_of-steps, next_of_steps, late_events, with_step, run_imprecise, imprecise_run, run_ends, precise_run, either_none}
 use Rattle.i9_course.proofs.LateAlike.{imprecise_where}
 
 abbrev at_length : Given → ℕ → Given
@@ -50,15 +52,16 @@ abbrev IsBelow : Given → List Record → Record → Type 0
 IsBelow g rs r =
     ((state_after g rs).count < g.length) ⊎ ((due_after (r ∷ rs) ≡ dues.Nothing) × (r.after.count ≡ g.length))
 
-last_below : (g : Given) (rs : List Record) (r : Record) → IsPast g (r ∷ rs) → IsBelow g rs r
+last_below : (g : Given) (rs : List Record) (r : Record) → IsPastOfSome (next_with g) (r ∷ rs) → IsBelow g rs r
 last_below g rs r past =
     let s = state_after g rs in
-    let within : s.count ≤ g.length = count_within g rs past.0 in
-    let comes = next_comes g.length (due_after rs) (event_after g rs) s r past.1 in
+    let within : s.count ≤ g.length = some_within g rs past.0 in
+    let o = past.1.0 in
+    let comes = next_comes g.length (due_after rs) o s r past.1.1 in
     let count : r.after.count ≡ s.count + counts_of r.kind =
     ap (λ (q : Record). q.after.count) comes.0
     ∙ ap (λ (n : ℕ). n + counts_of r.kind) (acted-count s (action_by_kind r.kind s)) in
-    elim (kind_below g.length (due_after rs) (event_after g rs) s r.before r.kind within comes.1) [
+    elim (kind_below g.length (due_after rs) o s r.before r.kind within comes.1) [
       | inl lt ↦ inl lt
       | inr entry ↦ elim (at_most s.count g.length within) [
         | inl lt ↦ inl lt
@@ -67,25 +70,24 @@ last_below g rs r past =
     ]
 
 -- where the run does not end there by its length, it is below it
-ends_there : (g : Given) (rs : List Record) (r : Record) → due_after (r ∷ rs) ≡ dues.Nothing
-    → r.after.count ≡ g.length → next g (r ∷ rs) ≡ Ends Limit
-ends_there g rs r none at =
-    let stands = event_after g (r ∷ rs) in
+ends_there : (g : Given) (stands : Option Event) (rs : List Record) (r : Record) → due_after (r ∷ rs) ≡ dues.Nothing
+    → r.after.count ≡ g.length → next_with g stands (r ∷ rs) ≡ Ends Limit
+ends_there g stands rs r none at =
     let test : eqb r.after.count g.length ≡ true = grind (arith, nat_tests, at) in
     ap (λ (due : Due). next_in g.length due stands r.after) none
     ∙ ap (λ (b : Bool). cond b (Ends Limit) (next_by_choice stands r.after (choice_in r.after))) test
 
-goes_below : (g : Given) (rs : List Record) (r : Record) → IsPast g (r ∷ rs) → next g (r ∷ rs) ≢ Ends Limit
+goes_below : (g : Given) (rs : List Record) (r : Record) → IsLatePast g (r ∷ rs) → comes_next g (steps (r ∷ rs)) ≢ Ends Limit
     → (state_after g rs).count < g.length
-goes_below g rs r past other = elim (last_below g rs r past) [
+goes_below g rs r late other = elim (last_below g rs r (late_events g (r ∷ rs) late)) [
   | inl lt ↦ lt
-  | inr there ↦ absurd (other (ends_there g rs r there.0 there.1))
+  | inr there ↦ absurd (other (next_of_steps g (r ∷ rs) ∙ ends_there g (event_ahead g (steps (r ∷ rs))) rs r there.0 there.1))
 ]
 
 -- nor where the count behind it is
-counts_below : (g : Given) (rs : List Record) (r : Record) → IsPast g (r ∷ rs) → r.after.count < g.length
+counts_below : (g : Given) (rs : List Record) (r : Record) → IsLatePast g (r ∷ rs) → r.after.count < g.length
     → (state_after g rs).count < g.length
-counts_below g rs r past lt = elim (last_below g rs r past) [
+counts_below g rs r late lt = elim (last_below g rs r (late_events g (r ∷ rs) late)) [
   | inl here ↦ here
   | inr there ↦ absurd (let at = there.1 in omega (arith, at, lt))
 ]
@@ -102,24 +104,35 @@ imprecise_more g more rs longer lt =
     (ap (λ (s : State). nat_lt s.count more) (state_by g k rs refl)
     ∙ lt-ltb n more (omega (arith, longer, lt)) ∙ sym (lt-ltb n g.length lt))
 
+-- what comes next but for the end of the length comes next at a greater one
+comes_more : (g : Given) (more : ℕ) (rs : List Record) (x : Next) → g.length ≤ more → IsLatePast g rs → x ≢ Ends Limit
+    → comes_next g (steps rs) ≡ x → comes_next (at_length g more) (steps rs) ≡ x
+comes_more g more rs x longer late other e =
+    let k = at_length g more in
+    let h = steps rs in
+    let qs = records_of h in
+    ap (λ (o : Option Event). next_with k o qs) (same_event g k refl refl h refl)
+    ∙ ap (λ (s : State). next_in more (due_after qs) (event_ahead g h) s) (state_by g k qs refl)
+    ∙ next_longer g.length more (due_after qs) (event_ahead g h) (state_after g qs) x (some_within g qs (course_events g h late)) longer other e
+
+no_limit : (r : Record) → Does r ≢ Ends Limit
+no_limit r same = cc same
+
 -- all records but the last are done late at it
 before_more : (g : Given) (more : ℕ) (rs : List Record) (r : Record) → g.length ≤ more → IsLatePast g (r ∷ rs)
     → IsLatePast (at_length g more) rs
 before_more g more [] r longer late = tt
 before_more g more (q ∷ rs) r longer late =
-    let k = at_length g more in
-    let past = late_past g (q ∷ rs) late.0 in
-    let e = late_next g (q ∷ rs) r late in
-    let lt = goes_below g rs q past (λ no. cc (sym e ∙ no)) in
-    with_step k rs q (before_more g more rs q longer late.0) (imprecise_more g more rs longer lt ∙ late.0.1)
-    (past_more g more (q ∷ rs) longer past).1
+    let lt = goes_below g rs q late.0 (λ no. no_limit r (sym late.2 ∙ no)) in
+    with_step (at_length g more) rs q (before_more g more rs q longer late.0) (imprecise_more g more rs longer lt ∙ late.0.1)
+    (comes_more g more rs (Does q) longer late.0.0 (no_limit q) late.0.2)
 
 -- and the last one, where the fault before it is precise
 pub last_more : (g : Given) (more : ℕ) (rs : List Record) (r : Record) → g.length ≤ more → IsLatePast g (r ∷ rs)
     → imprecise_at (at_length g more) (steps rs) ≡ None → IsLatePast (at_length g more) (r ∷ rs)
 last_more g more rs r longer late none =
     with_step (at_length g more) rs r (before_more g more rs r longer late) none
-    (past_more g more (r ∷ rs) longer (late_past g (r ∷ rs) late)).1
+    (comes_more g more rs (Does r) longer late.0 (no_limit r) late.2)
 
 pub late_more : (g : Given) (more : ℕ) (rs : List Record) (r : Record) → g.length ≤ more → IsLatePast g (r ∷ rs)
     → (IsLatePast (at_length g more) (r ∷ rs) ↔ imprecise_at (at_length g more) (steps rs) ≡ None)
@@ -130,7 +143,7 @@ pub below_more : (g : Given) (more : ℕ) (rs : List Record) → g.length ≤ mo
     → IsLatePast g rs → IsLatePast (at_length g more) rs
 below_more g more [] longer lt late = tt
 below_more g more (r ∷ rs) longer lt late =
-    let here = counts_below g rs r (late_past g (r ∷ rs) late) lt in
+    let here = counts_below g rs r late lt in
     last_more g more rs r longer late (imprecise_more g more rs longer here ∙ late.1)
 
 -- no fault is imprecise where none was raised, whatever the length
@@ -159,8 +172,8 @@ past_ended : (g : Given) (more : ℕ) (rs : List Record) (e : End) → g.length 
     → is_imprecise e ≡ false → IsLateRun g rs e → IsLatePast (at_length g more) rs
 past_ended g more [] e longer other plain run = tt
 past_ended g more (r ∷ rs) e longer other plain run =
-    let is = late_run g (r ∷ rs) e plain run in
-    let lt = goes_below g rs r is.past (λ no. limit_no e other (sym is.ends ∙ no)) in
+    let ends = (run_ends g (r ∷ rs) e plain run).1 in
+    let lt = goes_below g rs r run.past (λ no. limit_no e other (sym ends ∙ no)) in
     last_more g more rs r longer run.past (imprecise_more g more rs longer lt ∙ run.past.1)
 
 pub ended_more : (g : Given) (more : ℕ) (rs : List Record) (e : End) → g.length ≤ more → e ≢ Limit
@@ -168,9 +181,9 @@ pub ended_more : (g : Given) (more : ℕ) (rs : List Record) (e : End) → g.len
     → (IsLateRun (at_length g more) rs e ↔ imprecise_at (at_length g more) (steps rs) ≡ None)
 ended_more g more rs e longer other plain run =
     let k = at_length g more in (
-      λ there. run_precise k rs e plain there,
+      λ there. (run_ends k rs e plain there).0,
       λ none. precise_run k rs e (past_ended g more rs e longer other plain run) none
-          (run_more g more rs e longer other (late_run g rs e plain run)).ends,
+          (comes_more g more rs (Ends e) longer run.past (limit_no e other) (run_ends g rs e plain run).1),
     )
 
 pub ended_longer : (g : Given) (more : ℕ) (rs : List Record) (e : End) → g.length ≤ more → e ≢ Limit
@@ -178,7 +191,7 @@ pub ended_longer : (g : Given) (more : ℕ) (rs : List Record) (e : End) → g.l
     → IsLateRun (at_length g more) rs e
 ended_longer g more rs e longer other plain run h =
     (ended_more g more rs e longer other plain run).1
-    (precise_more g more rs longer run.past (run_precise g rs e plain run) h)
+    (precise_more g more rs longer run.past (run_ends g rs e plain run).0 h)
 
 pub faulted_more : (g : Given) (more : ℕ) (rs : List Record) (e : End) (a : ℕ) → g.length ≤ more → e ≢ Limit
     → is_imprecise e ≡ false → IsLateRun g rs e → imprecise_at (at_length g more) (steps rs) ≡ Some a

@@ -12,9 +12,11 @@ pub mod LateAlike
 pub mod Named
 pub mod LateCuts
 pub mod LateSame
+pub mod Same
 pub mod NeedCovers
 pub mod NeedActs
 pub mod Checks
 pub mod Landed
 pub mod Placing
 pub mod PlainEnds
+pub mod Waiting

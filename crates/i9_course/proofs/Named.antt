@@ -19,11 +19,11 @@ use Rattle.i9_model.specs.Step.{first_word, next_word}
 use Rattle.i9_model.specs.Access.{hazard_of, fetch_hazard}
 use Rattle.i9_model.specs.Before.{Received, choice_in, interrupt_in, received_in}
 use Rattle.i9_model.specs.Standing.{Standing, Meets, Refused, Faults, Runs, raised_in, later_fault, by_access, by_later, by_raised, by_word, by_fetch, stands_at}
-use Rattle.i9_model.specs.Run.{Given, Kind, Instruction, Faulted, Entered, Interrupted, Reached, Blocked, Record, record_of, reached_kind, Does, Ends, fault_at, next_by_standing, next_by_entry, entry_in, next_by_event, next_by_interrupt, next_by_choice, next_in, due_after, event_after, state_after, next, IsPast}
+use Rattle.i9_model.specs.Run.{Given, Kind, Instruction, Faulted, Entered, Interrupted, Reached, Blocked, Record, record_of, reached_kind, Does, Ends, fault_at, next_by_standing, next_by_entry, entry_in, next_by_event, next_by_interrupt, next_by_choice, next_in, due_after, state_after, next_with, IsPastOfSome}
 use Rattle.i9_course.specs.LateRun.{steps, IsLateRun}
 use Rattle.i9_course.proofs.Ahead.{imprecise_only}
 use Rattle.i9_course.proofs.Orderly.{comes_after}
-use Rattle.i9_course.proofs.LateRuns.{records_of-steps, late_past, run_imprecise}
+use Rattle.i9_course.proofs.LateRuns.{records_of-steps, late_events, run_imprecise}
 
 -- ---- a word that is refused raises none
 
@@ -117,11 +117,10 @@ next_named limit dues.Nothing o s r e = by_length (eqb s.count limit) e
     by_length true h = absurd (cc h)
     by_length false h = choice_named s o (choice_in s) r h
 
-past_named : (g : Given) (rs : List Record) (r : Record) → next g rs ≡ Does r → IsNamed r.before r.kind
-past_named g rs r e =
-    let same : r.before ≡ state_after g rs = ap (λ (q : Record). q.before) (comes_after g rs r e) in
-    subst (λ (s : State). IsNamed s r.kind) (sym same)
-    (next_named g.length (due_after rs) (event_after g rs) (state_after g rs) r e)
+past_named : (g : Given) (o : Option Event) (rs : List Record) (r : Record) → next_with g o rs ≡ Does r → IsNamed r.before r.kind
+past_named g o rs r e =
+    let same : r.before ≡ state_after g rs = ap (λ (q : Record). q.before) (comes_after g o rs r e) in
+    subst (λ (s : State). IsNamed s r.kind) (sym same) (next_named g.length (due_after rs) o (state_after g rs) r e)
 
 -- ---- the end of a late run
 
@@ -134,7 +133,7 @@ imprecise_named g rs a run =
     let qs = p.1 in
     let f = p.3 in
     let is : rs ≡ r ∷ qs = sym (records_of-steps rs) ∙ p.4 in
-    let past : IsPast g (r ∷ qs) = subst (IsPast g) is (late_past g rs run.past) in
-    let named : IsNamed r.before (Faulted p.2 f) = subst (IsNamed r.before) p.5 (past_named g qs r past.1) in
+    let past : IsPastOfSome (next_with g) (r ∷ qs) = subst (IsPastOfSome (next_with g)) is (late_events g rs run.past) in
+    let named : IsNamed r.before (Faulted p.2 f) = subst (IsNamed r.before) p.5 (past_named g past.1.0 qs r past.1.1) in
     let there = named p.6 in
     (r, qs, there.0, f, is, p.5 ∙ ap (λ (inst : Option Inst). Faulted inst f) there.1, p.6, sym there.2 ∙ p.7)

@@ -1,5 +1,5 @@
 -- The records of a course issue and land in order, and each leaves what it does not write.
-use Rattle.std.proofs.Common.{◌≡◌, ℕ, ◌<◌, ◌≤◌, false, List, [], ◌∷◌, refl, sym, ap, ◌∙◌, arith}
+use Rattle.std.proofs.Common.{◌≡◌, ℕ, zero, suc, ◌<◌, ◌≤◌, true, false, cond, List, [], ◌∷◌, length, Option, Some, None, refl, sym, ap, ◌∙◌, arith}
 use Rattle.std.specs.Prelude.{◌==◌}
 use Rattle.std.specs.Int.{bit_at}
 use Rattle.std.proofs.lemmas.Bool.Decides.{nat_tests}
@@ -7,15 +7,21 @@ use Rattle.std.proofs.lemmas.Nat.Bits.{bit_at-lt}
 use Rattle.i9_model.specs.Memory.{stored}
 use Rattle.i9_model.specs.State.{State, boot}
 use Rattle.i9_model.specs.HeldFrames.{sets_in, cache_after}
-use Rattle.i9_model.specs.Run.{Given, Record, IsPast, Does, record_of, after_kind, state_after, next, due_after, event_after}
+use Rattle.i9_model.specs.declared.event.Event.{Event}
+use Rattle.i9_model.specs.declared.event.Timed.{Timed}
+use Rattle.i9_model.specs.declared.event.When.{When}
+use Rattle.i9_model.specs.declared.event.When.TheVariants.{At, Turn}
+use Rattle.i9_model.specs.ScheduleText.{is_counted, IsByCounts, has_come_at, has_come_by, standing, standing_by}
+use Rattle.i9_model.specs.Run.{Given, Record, IsPast, IsPastOfSome, Does, record_of, after_kind, state_after, reached_after, next_with, next, due_after}
 use Rattle.i9_model.specs.Turns.{last_issue}
 use Rattle.i9_model.specs.Late.{turns, last_state, resource, resources, Leaves, IsOrderly, cell_at, latest, waiting, acted_memory, all_puts}
 use Rattle.i9_model.proofs.Comes.{next_comes}
+use Rattle.i9_model.proofs.Heedful.{with_plan, past_of_events}
 use Rattle.i9_model.proofs.LateRegisters.{cell-latest}
 use Rattle.i9_model.proofs.LateMemories.{memory-settles}
 use Rattle.i9_model.proofs.LateOrder.{issued-by, orderly}
 use Rattle.i9_course.specs.NeedOf.{need_of}
-use Rattle.i9_course.specs.Course.{Item, Step, Mark, records_of, course, IsCourse}
+use Rattle.i9_course.specs.Course.{Item, Step, Mark, records_of, course, instruction_turn, event_ahead, comes_next, IsCourse}
 use Rattle.i9_course.proofs.Settled.{course_settles}
 use Rattle.i9_course.proofs.Timed.{course_timed, course_costs, course_quiet}
 use Rattle.i9_course.proofs.Kept.{kind_keeps}
@@ -25,10 +31,36 @@ course_orderly g h = orderly (course g h).late (course_timed g h) (course_costs 
 
 -- ---- the records are those of the run
 
-pub course_past : (g : Given) (h : List Item) → IsCourse g h → IsPast g (records_of h)
-course_past g [] c = tt
-course_past g (Mark ∷ h) c = course_past g h c
-course_past g (Step r ∷ h) c = (course_past g h c.0, c.2)
+-- with the events that stood there
+pub course_events : (g : Given) (h : List Item) → IsCourse g h → IsPastOfSome (next_with g) (records_of h)
+course_events g [] c = tt
+course_events g (Mark ∷ h) c = course_events g h c
+course_events g (Step r ∷ h) c = (course_events g h c.0, (event_ahead g h, c.2))
+
+-- which are its plan
+pub course_past : (g : Given) (h : List Item) → IsCourse g h → IsPast (with_plan g (reached_after (records_of h))) (records_of h)
+course_past g h c = past_of_events g (records_of h) (course_events g h c)
+
+-- where the plan is by counts, it knows no turns
+counted_standing : (ts : List Timed) (place k t : ℕ) → IsByCounts ts → standing_by ts place k t ≡ standing ts place k
+counted_standing [] place k t counted = refl
+counted_standing (x ∷ ts) zero k t counted = by_form x.when counted.0
+  where
+    by_form : (w : When) → is_counted w ≡ true → cond (has_come_by k t w) (Some x.event) None ≡ cond (has_come_at k w) (Some x.event) None
+    by_form (At n) is = refl
+    by_form (Turn n) is = absurd (cc is)
+counted_standing (x ∷ ts) (suc place) k t counted = counted_standing ts place k t counted.1
+
+pub counted_next : (g : Given) (h : List Item) → IsByCounts g.plan → comes_next g h ≡ next g (records_of h)
+counted_next g h counted =
+    let rs = records_of h in
+    ap (λ (o : Option Event). next_with g o rs)
+    (counted_standing g.plan (length (reached_after rs)) (state_after g rs).count (instruction_turn g h) counted)
+
+pub counted_past : (g : Given) (h : List Item) → IsByCounts g.plan → IsCourse g h → IsPast g (records_of h)
+counted_past g [] counted c = tt
+counted_past g (Mark ∷ h) counted c = counted_past g h counted c
+counted_past g (Step r ∷ h) counted c = (counted_past g h counted c.0, sym (counted_next g h counted) ∙ c.2)
 
 -- the state after the last of them is that of the run
 pub last_after : (g : Given) (h : List Item)
@@ -38,9 +70,9 @@ last_after g (Mark ∷ h) = last_after g h
 last_after g (Step r ∷ h) = refl
 
 -- what comes next is the record of what it does in the state after the run
-pub comes_after : (g : Given) (rs : List Record) (r : Record) → next g rs ≡ Does r
+pub comes_after : (g : Given) (o : Option Event) (rs : List Record) (r : Record) → next_with g o rs ≡ Does r
     → r ≡ record_of r.kind (state_after g rs)
-comes_after g rs r e = (next_comes g.length (due_after rs) (event_after g rs) (state_after g rs) r e).0
+comes_after g o rs r e = (next_comes g.length (due_after rs) o (state_after g rs) r e).0
 
 -- ---- what it leaves
 
@@ -64,7 +96,7 @@ pub course_leaves : (g : Given) (h : List Item) → IsCourse g h → Leaves (boo
 course_leaves g [] c = tt
 course_leaves g (Mark ∷ h) c = course_leaves g h c
 course_leaves g (Step r ∷ h) c =
-    let is = comes_after g (records_of h) r c.2 in
+    let is = comes_after g (event_ahead g h) (records_of h) r c.2 in
     ((λ k lt none. step_leaves g h r k is lt (no_mark _ k none)), course_leaves g h c.0)
 
 -- ---- with what is planned and waits

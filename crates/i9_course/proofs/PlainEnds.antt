@@ -16,7 +16,7 @@ use Rattle.i9_model.specs.State.{State}
 use Rattle.i9_model.specs.Traced.{traced_action}
 use Rattle.i9_model.specs.Before.{choice_in, interrupt_in}
 use Rattle.i9_model.specs.Standing.{Standing, Meets, Refused, Faults, Runs, stands_at}
-use Rattle.i9_model.specs.Run.{Given, Kind, Instruction, Faulted, Entered, Interrupted, Reached, Blocked, Record, Next, Does, Ends, due_in, due_by, due_after, next_by_standing, next_by_entry, entry_in, next_by_event, next_by_interrupt, next_by_choice, next_in, event_after, state_after, next, IsRun}
+use Rattle.i9_model.specs.Run.{Given, Kind, Instruction, Faulted, Entered, Interrupted, Reached, Blocked, Record, Next, Does, Ends, due_in, due_by, due_after, next_by_standing, next_by_entry, entry_in, next_by_event, next_by_interrupt, next_by_choice, next_in, event_after, state_after, next_with, IsRun}
 use Rattle.i9_course.specs.LateRun.{is_imprecise}
 
 -- an end that comes here is not imprecise
@@ -84,9 +84,8 @@ in_plain limit dues.Nothing o s plain = by_length (eqb s.count limit)
     by_length true = refl
     by_length false = choice_plain o s (choice_in s)
 
-pub next_plain : (g : Given) (rs : List Record) (e : End) → next g rs ≡ Ends e → is_imprecise e ≡ false
-next_plain g rs e ends =
-    subst IsPlain ends (in_plain g.length (due_after rs) (event_after g rs) (state_after g rs) (due_plain rs))
+pub next_plain : (g : Given) (o : Option Event) (rs : List Record) (e : End) → next_with g o rs ≡ Ends e → is_imprecise e ≡ false
+next_plain g o rs e ends = subst IsPlain ends (in_plain g.length (due_after rs) o (state_after g rs) (due_plain rs))
 
 pub run_plain : (g : Given) (rs : List Record) (e : End) → IsRun g rs e → is_imprecise e ≡ false
-run_plain g rs e run = next_plain g rs e run.ends
+run_plain g rs e run = next_plain g (event_after g rs) rs e run.ends

@@ -1,26 +1,21 @@
 -- What lands late stands for a course as the turn moves, as a record issues, and as a mark is set.
-use Rattle.std.proofs.Common.{◌≡◌, ℕ, ◌<◌, ◌≤◌, max, Bool, true, false, List, [], ◌∷◌, Option, Some, None, refl, sym, ap, ◌∙◌, subst, arith}
-use Rattle.std.specs.List.{AllByRecursion}
-use Rattle.i9_model.specs.declared.need.Need.{Need}
+use Rattle.std.proofs.Common.{◌≡◌, ℕ, ◌<◌, ◌≤◌, max, Bool, true, false, List, [], ◌∷◌, None, refl, sym, ap, ◌∙◌, subst, arith}
 use Rattle.i9_model.specs.declared.need.Cell.{Cell}
-use Rattle.i9_model.specs.declared.need.TimedNeed.{TimedNeed}
 use Rattle.i9_model.specs.Memory.{stored}
 use Rattle.i9_model.specs.State.{boot}
 use Rattle.i9_model.specs.HeldFrames.{cache_after}
-use Rattle.i9_model.specs.Run.{Given, Record, Does, state_after, next}
-use Rattle.i9_model.specs.Turns.{Permits, Pending, StandsFor, IsTimed, CanIssue, last_issue, issue_turn, end_turn, waiting_until, pending_of}
+use Rattle.i9_model.specs.Run.{Given, Record, Does, state_after}
+use Rattle.i9_model.specs.Turns.{Pending, StandsFor, CanIssue, last_issue, end_turn, waiting_until, pending_of}
 use Rattle.i9_model.specs.Late.{Wait, turns, cell, resource, resources, latest, waiting, all_puts, AreDueInOrder, Shows, IsClear}
 use Rattle.i9_model.proofs.TurnOpen.{done-after}
 use Rattle.i9_model.proofs.TurnStands.{stands-none}
-use Rattle.i9_model.proofs.TurnWhole.{timed-issues}
 use Rattle.i9_model.proofs.LateQueues.{waiting-in-order}
 use Rattle.i9_model.proofs.LateOrder.{issued-by, shows_moves, shows_request, shows_other, shows_clear}
-use Rattle.i9_course.specs.Course.{Item, Step, Mark, records_of, course, late_after, need_after, issue_of_next, last_done, imprecise_at, ahead, IsCourse}
+use Rattle.i9_course.specs.Course.{Item, Step, Mark, records_of, course, late_after, need_after, issue_of_next, ahead, IsCourse}
 use Rattle.i9_course.specs.Kernel.{Kernel, Lands, MovesTo, Issues}
 use Rattle.i9_course.proofs.Timed.{course_timed, course_costs}
 use Rattle.i9_course.proofs.Orderly.{course_orderly, registers_settle, memory_settles}
-use Rattle.i9_course.proofs.Barriers.{mark_reached, last_reached}
-use Rattle.i9_course.proofs.Ahead.{ahead_later, ahead_marked, ahead_precise, ahead_can, imprecise_overtaken, marked_precise}
+use Rattle.i9_course.proofs.Ahead.{ahead_later, ahead_marked, ahead_by_end, ahead_precise, ahead_can}
 
 -- ---- the turn moves
 
@@ -106,59 +101,12 @@ lands_clear g h k lands precise due =
 
 -- ---- a mark is set
 
--- a need that waits longer issues no earlier
-longer : (n : Need) (rs : List TimedNeed) (p q : ℕ) → IsTimed rs → p ≤ q
-    → issue_turn (last_issue rs) rs (waiting_until p n) ≤ issue_turn (last_issue rs) rs (waiting_until q n)
-longer n rs p q h le =
-    let t = issue_turn (last_issue rs) rs (waiting_until q n) in
-    let late = (timed-issues rs (waiting_until q n) h).can in
-    let waited : max q n.not_before ≤ t = late.waited in
-    let can : CanIssue (last_issue rs) rs (waiting_until p n) t =
-    record {
-      in_order = late.in_order;
-      waited = omega (arith, le, waited);
-      each = each_same rs t late.each;
-      room = late.room;
-    } in
-    (timed-issues rs (waiting_until p n) h).least t can
-  where
-    each_same : (qs : List TimedNeed) (t : ℕ) → AllByRecursion (Permits (waiting_until q n) t) qs
-        → AllByRecursion (Permits (waiting_until p n) t) qs
-    each_same [] t e = tt
-    each_same (r ∷ qs) t e =
-        let w = e.0 in
-        let one : Permits (waiting_until p n) t r =
-        record {
-          side = w.side;
-          values = w.values;
-          slow = w.slow;
-          words = w.words;
-          barrier = w.barrier;
-          alone = w.alone;
-        } in
-        (one, each_same qs t e.1)
-
--- what lies ahead is no earlier behind a mark
-mark_later : (g : Given) (h : List Item) → (course g h).mark ≤ end_turn (turns (course g h).late)
-    → (ahead g h).turn ≤ (ahead g (Mark ∷ h)).turn
-mark_later g h le = by_fault (imprecise_at g h) refl
-  where
-    by_fault : (o : Option ℕ) → (ahead g h).imprecise ≡ o → (ahead g h).turn ≤ (ahead g (Mark ∷ h)).turn
-    by_fault None e =
-        let o = next g (records_of h) in
-        let here : (ahead g h).turn ≡ issue_of_next g h o = ahead_precise g h e in
-        let there : (ahead g (Mark ∷ h)).turn ≡ issue_of_next g (Mark ∷ h) o =
-        ahead_precise g (Mark ∷ h) (marked_precise g h) in
-        let rises : issue_of_next g h o ≤ issue_of_next g (Mark ∷ h) o =
-        longer (need_after g h o) (turns (course g h).late) (course g h).mark (end_turn (turns (course g h).late))
-        (course_timed g h) le in
-        omega (arith, here, there, rises)
-    by_fault (Some a) e =
-        let early : (ahead g h).turn < last_done (course g h).late = (imprecise_overtaken g h a e).0 in
-        let reached : last_done (course g h).late ≤ end_turn (turns (course g h).late) =
-        last_reached (course g h).late in
-        let mark : end_turn (turns (course g h).late) ≤ (ahead g (Mark ∷ h)).turn = ahead_marked g (Mark ∷ h) in
-        omega (arith, early, reached, mark)
+-- what lies ahead is no earlier behind a mark, at whose turn all is done
+mark_later : (g : Given) (h : List Item) → (ahead g h).turn ≤ (ahead g (Mark ∷ h)).turn
+mark_later g h =
+    let by_end : (ahead g h).turn ≤ end_turn (turns (course g h).late) = ahead_by_end g h in
+    let mark : end_turn (turns (course g h).late) ≤ (ahead g (Mark ∷ h)).turn = ahead_marked g (Mark ∷ h) in
+    omega (arith, by_end, mark)
 
 pub marks_lands : (g : Given) (h : List Item) (k j : Kernel) → Lands g h k
     → MovesTo (max k.turn (end_turn (turns (course g h).late))) k j → j.floor ≡ end_turn (turns (course g h).late)
@@ -168,7 +116,7 @@ marks_lands g h k j lands m floor =
     let begun : last_issue (turns (course g h).late) ≤ k.turn = lands.begun in
     let turn : j.turn ≡ max k.turn done = m.turn in
     let early : k.turn ≤ (ahead g h).turn = lands.in_time in
-    let later : (ahead g h).turn ≤ (ahead g (Mark ∷ h)).turn = mark_later g h (mark_reached g h) in
+    let later : (ahead g h).turn ≤ (ahead g (Mark ∷ h)).turn = mark_later g h in
     let mark : done ≤ (ahead g (Mark ∷ h)).turn = ahead_marked g (Mark ∷ h) in
     let le : k.turn ≤ max k.turn done = omega arith in
     record {

@@ -9,7 +9,9 @@ use Rattle.i9_model.specs.State.{State}
 use Rattle.i9_model.specs.Step.{Move, Stays, Saves, Returns, Flushes, Action, bytes_of_words}
 use Rattle.i9_model.specs.Standing.{stands_at}
 use Rattle.i9_model.specs.HeldFrames.{Cache, sets_in, cache_after}
-use Rattle.i9_model.specs.Run.{Given, Kind, Faulted, Record, Next, Does, action_done, next_by_standing, state_after, next}
+use Rattle.i9_model.specs.declared.event.Event.{Event}
+use Rattle.i9_model.specs.ScheduleText.{standing_by}
+use Rattle.i9_model.specs.Run.{Given, Kind, Faulted, Record, Next, Does, action_done, next_by_standing, state_after, reached_after, next_with}
 use Rattle.i9_model.specs.Turns.{last_issue, issue_turn, done_turn, end_turn, waiting_until}
 use Rattle.i9_model.specs.Late.{Late, turns}
 use Rattle.i9_model.specs.Marks.{Marked}
@@ -123,6 +125,21 @@ issue_of_next g h o = issue_after (course g h) (need_after g h o)
 abbrev pub instruction_ahead : State → Next
 instruction_ahead s = next_by_standing s (stands_at s)
 
+-- the turn at which it would issue so
+abbrev pub instruction_turn : Given → List Item → ℕ
+instruction_turn g h = issue_of_next g h (instruction_ahead (state_after g (records_of h)))
+
+-- The event that stands there: the first one of the plan that was not reached, once its count has come, or where the
+-- instruction ahead would issue at its turn or later.
+abbrev pub event_ahead : Given → List Item → Option Event
+event_ahead g h =
+    let rs = records_of h in
+    standing_by g.plan (length (reached_after rs)) (state_after g rs).count (instruction_turn g h)
+
+-- what comes next, where that event stands
+abbrev pub comes_next : Given → List Item → Next
+comes_next g h = next_with g (event_ahead g h) (records_of h)
+
 -- the address of an instruction that raised an arithmetic fault
 abbrev pub late_fault : Kind → Option ℕ
 late_fault (Faulted inst fault) = if is_early fault then None else Some fault.address
@@ -142,7 +159,7 @@ last_done (x ∷ xs) = x.timed.done
 abbrev pub is_overtaken : Given → List Item → Bool
 is_overtaken g h =
     let s = state_after g (records_of h) in
-    nat_lt s.count g.length && nat_lt (issue_of_next g h (instruction_ahead s)) (last_done (course g h).late)
+    nat_lt s.count g.length && nat_lt (instruction_turn g h) (last_done (course g h).late)
 
 -- the address of an arithmetic fault that is imprecise: its instruction is overtaken
 abbrev pub imprecise_at : Given → List Item → Option ℕ
@@ -151,7 +168,7 @@ imprecise_at g h = if is_overtaken g h then last_fault (records_of h) else None
 -- what would issue next: behind an imprecise fault the instruction ahead, and else what comes next
 abbrev pub to_issue : Given → List Item → Option ℕ → Next
 to_issue g h (Some a) = instruction_ahead (state_after g (records_of h))
-to_issue g h None = next g (records_of h)
+to_issue g h None = comes_next g h
 
 -- The address of an imprecise fault, which ends the run; what comes next where there is none; and the turn of either.
 pub record Ahead : Type 0 where
@@ -163,7 +180,7 @@ pub record Ahead : Type 0 where
 abbrev pub ahead_by : Given → List Item → Option ℕ → Ahead
 ahead_by g h fault = record {
   imprecise = fault;
-  next = next g (records_of h);
+  next = comes_next g h;
   turn = issue_of_next g h (to_issue g h fault);
 }
 

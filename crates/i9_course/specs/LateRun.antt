@@ -3,8 +3,8 @@ use Rattle.std.specs.Prelude.{◌≡◌, ℕ, Bool, true, false, Option, Some, N
 use Rattle.std.specs.List.{AllByRecursion}
 use Rattle.i9_model.specs.declared.run.End.{End}
 use Rattle.i9_model.specs.declared.run.End.TheVariants.{Imprecise}
-use Rattle.i9_model.specs.Run.{Given, Record, Next, Does, Ends, next}
-use Rattle.i9_course.specs.Course.{Item, Step, late_fault, imprecise_at, ahead, IsCourse}
+use Rattle.i9_model.specs.Run.{Given, Record, Next, Does, Ends}
+use Rattle.i9_course.specs.Course.{Item, Step, late_fault, ahead, IsCourse}
 
 -- the records as items, with no mark between them
 abbrev pub steps : List Record → List Item
@@ -31,7 +31,7 @@ end_ahead g h = finish_by (ahead g h).imprecise (ahead g h).next
 
 -- the end after these records, where one comes
 abbrev pub finish_after : Given → List Record → Option End
-finish_after g rs = finish_by (imprecise_at g (steps rs)) (next g rs)
+finish_after g rs = end_ahead g (steps rs)
 
 -- these are the records of such a run, and this is its end
 pub record IsLateRun (g : Given) (rs : List Record) (f : End) : Type 0 where

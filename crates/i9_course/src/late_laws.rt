@@ -8,6 +8,7 @@ ghost use Rattle.i9_model.specs.declared.faults.Fault.{Fault};
 ghost use Rattle.i9_model.specs.declared.event.Timed.{Timed};
 ghost use Rattle.i9_model.specs.declared.run.End.{End};
 ghost use Rattle.i9_model.specs.declared.run.End.TheVariants.{Limit, Imprecise};
+ghost use Rattle.i9_model.specs.ScheduleText.{IsByCounts};
 ghost use Rattle.i9_model.specs.State.{State};
 ghost use Rattle.i9_model.specs.HeldFrames.{Cache};
 ghost use Rattle.i9_model.specs.Run.{Given, Record, Kind, Faulted, IsPast, IsRun, state_after, reached_after};
@@ -34,41 +35,48 @@ pub fn one_late_run()
         → ¬ IsLatePast g (r ∷ rs) }
 {}
 
-/// What is done late is done by the precise machine, and a late run has the first records of its run. One
-/// that ends otherwise than at an imprecise fault is its run; one that ends at such a fault stops behind
-/// the instruction at its address, which raised an arithmetic fault. Where no instruction raises one, all
-/// that the precise machine does is done late, and its run is the late run.
+/// What is done late is done by the precise machine that meets the same events after the same instructions, and a late
+/// run has the first records of the run of that machine. One that ends otherwise than at an imprecise fault is its run;
+/// one that ends at such a fault stops behind the instruction at its address, which raised an arithmetic fault. Where
+/// the plan is by counts, that machine has the same plan; and where no instruction raises an arithmetic fault then, all
+/// that it does is done late, and its run is the late run.
 pub fn late_runs_are_runs()
     ensures records { (rs : List Record) → records_of (steps rs) ≡ rs }
-    ensures past { (g : Given) (rs : List Record) → IsLatePast g rs → IsPast g rs }
-    ensures end { (g : Given) (rs : List Record) → finish_after g rs ≡ end_ahead g (steps rs) }
-    ensures first { (g : Given) (rs qs : List Record) (e : End) (f : End) → IsRun g rs e → IsLateRun g qs f
-        → (more : List Record) × (more ++ qs ≡ rs) }
-    ensures run { (g : Given) (rs : List Record) (e : End) → is_imprecise e ≡ false → IsLateRun g rs e → IsRun g rs e }
+    ensures past { (g : Given) (rs : List Record) → IsLatePast g rs → IsPast (record g { plan = reached_after rs }) rs }
+    ensures first { (g : Given) (rs qs : List Record) (e : End) (f : End) → IsRun (record g { plan = reached_after qs }) rs e
+        → IsLateRun g qs f → (more : List Record) × (more ++ qs ≡ rs) }
+    ensures run { (g : Given) (rs : List Record) (e : End) → is_imprecise e ≡ false → IsLateRun g rs e
+        → IsRun (record g { plan = reached_after rs }) rs e }
+    ensures counted_past { (g : Given) (rs : List Record) → IsByCounts g.plan → IsLatePast g rs → IsPast g rs }
+    ensures counted_first { (g : Given) (rs qs : List Record) (e : End) (f : End) → IsByCounts g.plan → IsRun g rs e
+        → IsLateRun g qs f → (more : List Record) × (more ++ qs ≡ rs) }
+    ensures counted_run { (g : Given) (rs : List Record) (e : End) → IsByCounts g.plan → is_imprecise e ≡ false
+        → IsLateRun g rs e → IsRun g rs e }
     ensures plain { (g : Given) (rs : List Record) (e : End) → IsRun g rs e → is_imprecise e ≡ false }
     ensures imprecise { (g : Given) (rs : List Record) (a : ℕ) → IsLateRun g rs (Imprecise a)
         → (r : Record) × (qs : List Record) × (i : Inst) × (f : Fault) × (rs ≡ r ∷ qs)
         × (r.kind ≡ Faulted (Some i) f) × (f.kind ≡ ARITHMETIC) × (r.before.ip ≡ a) }
-    ensures same_past { (g : Given) (rs : List Record) → HaveNoLateFault rs → IsPast g rs → IsLatePast g rs }
-    ensures same_run { (g : Given) (rs : List Record) (e : End) → HaveNoLateFault rs → IsRun g rs e
+    ensures same_past { (g : Given) (rs : List Record) → IsByCounts g.plan → HaveNoLateFault rs → IsPast g rs
+        → IsLatePast g rs }
+    ensures same_run { (g : Given) (rs : List Record) (e : End) → IsByCounts g.plan → HaveNoLateFault rs → IsRun g rs e
         → IsLateRun g rs e }
 {}
 
 /// Sets decide no overtaking. What is done needs the same with any number of sets and any frames that
-/// are held, but that a barrier may take other turns; so the same faults are imprecise, and late runs
-/// are the same.
+/// are held, but that a barrier may take other turns; so the same faults are imprecise, and where the plan is by
+/// counts, late runs are the same. An event that waits for a turn may come after another instruction.
 pub fn lateness_does_not_depend_on_sets()
     ensures needs { (n m : ℕ) (c d : Cache) (s : State) (k : Kind) → IsAlike (need_of n c s k) (need_of m d s k) }
     ensures imprecise { (g : Given) (asked : Option ℕ) (rs : List Record)
         → imprecise_at (record g { sets = asked }) (steps rs) ≡ imprecise_at g (steps rs) }
-    ensures past { (g : Given) (asked : Option ℕ) (rs : List Record)
+    ensures past { (g : Given) (asked : Option ℕ) (rs : List Record) → IsByCounts g.plan
         → (IsLatePast (record g { sets = asked }) rs ↔ IsLatePast g rs) }
-    ensures run { (g : Given) (asked : Option ℕ) (rs : List Record) (f : End)
+    ensures run { (g : Given) (asked : Option ℕ) (rs : List Record) (f : End) → IsByCounts g.plan
         → (IsLateRun (record g { sets = asked }) rs f ↔ IsLateRun g rs f) }
 {}
 
 /// Nor does the plan of events: which fault is imprecise depends on the records, and a late run is also
-/// that of the events alone that it reached.
+/// that of the events alone that it reached, each at its count, also where its own plan is by turns.
 pub fn lateness_does_not_depend_on_the_plan()
     ensures imprecise { (g : Given) (p : List Timed) (rs : List Record)
         → imprecise_at (record g { plan = p }) (steps rs) ≡ imprecise_at g (steps rs) }

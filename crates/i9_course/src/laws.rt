@@ -1,6 +1,8 @@
 //! Laws of courses, as the contracts of calls that do nothing. Lists have the newest item first.
 
-ghost use Rattle.std.specs.Prelude.{◌≡◌, ◌≢◌, ◌<◌, ◌≤◌, ◌*◌, ◌∷◌, [], length, max, ℕ, List, Option, Some, None, IsTrue};
+ghost use Rattle.std.specs.List.{slice_get};
+ghost use Rattle.i9_model.specs.declared.event.Event.{Event};
+ghost use Rattle.std.specs.Prelude.{◌≡◌, ◌≢◌, ◌<◌, ◌≤◌, ◌↔◌, ◌*◌, ◌∷◌, [], length, max, ℕ, List, Option, Some, None, IsTrue};
 ghost use Rattle.i9_isa.specs.declared.inst.Inst.{Inst};
 ghost use Rattle.i9_model.specs.declared.faults.TheConstants.{ARITHMETIC};
 ghost use Rattle.i9_model.specs.declared.layout.TheConstants.{FRAME_SIZE};
@@ -12,11 +14,12 @@ ghost use Rattle.i9_model.specs.Alike.{AreAlike, AreNextAlike};
 ghost use Rattle.i9_model.specs.HeldFrames.{Cache, AreWhole, cache_after};
 ghost use Rattle.i9_model.specs.Marks.{marked};
 ghost use Rattle.i9_model.specs.Step.{Move, Returns};
-ghost use Rattle.i9_model.specs.Run.{Given, Record, Kind, Faulted, Next, Does, Ends, IsPast, state_after};
+ghost use Rattle.i9_model.specs.Run.{Given, Record, Kind, Faulted, Next, Does, Ends, IsPast, state_after, reached_by, reached_after};
+ghost use Rattle.i9_model.specs.ScheduleText.{IsByCounts, timed_by_turn};
 ghost use Rattle.i9_model.specs.Turns.{IsTimed, TakesTurns, last_issue, end_turn, pending_of};
 ghost use Rattle.i9_model.specs.Late.{turns, cell, resource, resources, latest, all_puts, settled_memory, AreDueInOrder, AreQuiet, Leaves, IsOrderly, IsClear};
 ghost use Rattle.i9_course.specs.NeedOf.{need_of, need_ahead, is_barrier_kind, moved_frames, stands_alone};
-ghost use Rattle.i9_course.specs.Course.{Item, Step, Mark, records_of, course, needs_of, turns_of, move_writes, late_after, need_after, issue_of_next, last_done, ahead, IsCourse};
+ghost use Rattle.i9_course.specs.Course.{Item, Step, Mark, records_of, course, needs_of, turns_of, move_writes, late_after, need_after, issue_of_next, instruction_turn, event_ahead, last_done, ahead, IsCourse};
 ghost use Rattle.i9_course.specs.Kernel.{Kernel, Lands, MovesTo, Issues};
 
 /// With everything landed, memory is that behind the held frames.
@@ -35,10 +38,13 @@ pub fn what_waits_settles()
     ensures order { (g : Given) (h : List Item) (k : Kernel) → Lands g h k → AreDueInOrder k.queue }
 {}
 
-/// The records of a course are those of the run; they have the turns of their needs with the marks
-/// between them, issue and land in order, and each leaves what its need does not write.
+/// The records of a course are those of the run that meets the same events after the same instructions; they have the
+/// turns of their needs with the marks between them, issue and land in order, and each leaves what its need does not
+/// write. Where the plan is by counts, that run has the same plan.
 pub fn courses_are_orderly()
-    ensures past { (g : Given) (h : List Item) → IsCourse g h → IsPast g (records_of h) }
+    ensures past { (g : Given) (h : List Item) → IsCourse g h
+        → IsPast (record g { plan = reached_after (records_of h) }) (records_of h) }
+    ensures counted { (g : Given) (h : List Item) → IsByCounts g.plan → IsCourse g h → IsPast g (records_of h) }
     ensures marked { (g : Given) (h : List Item) → marked (needs_of g h) ≡ turns_of (course g h) }
     ensures timed { (g : Given) (h : List Item) → IsTimed (turns (course g h).late) }
     ensures costs { (g : Given) (h : List Item) → TakesTurns (turns (course g h).late) }
@@ -122,4 +128,16 @@ pub fn alike_states_need_alike()
 pub fn written_frames_are_counted()
     ensures { (n : ℕ) (c : Cache) (v : Move) → 1 ≤ n → AreWhole c.held → v ≢ Returns
         → length (move_writes n c v) ≡ FRAME_SIZE * moved_frames n c v }
+{}
+
+/// An event that waits for a turn stands exactly where the instruction at the instruction address would issue at that
+/// turn or later, if no event came before it; and it issues at no earlier turn itself.
+pub fn events_wait_for_their_turn()
+    ensures stands { (g : Given) (h : List Item) (n : ℕ) (e : Event)
+        → slice_get g.plan (length (reached_after (records_of h))) ≡ Some (timed_by_turn n e)
+        → (event_ahead g h ≡ Some e ↔ n ≤ instruction_turn g h) }
+    ensures turn { (g : Given) (h : List Item) (n : ℕ) (e : Event) (r : Record)
+        → slice_get g.plan (length (reached_after (records_of h))) ≡ Some (timed_by_turn n e)
+        → (ahead g h).imprecise ≡ None → (ahead g h).next ≡ Does r → reached_by r.kind r.before ≢ []
+        → n ≤ (ahead g h).turn }
 {}

@@ -15,6 +15,8 @@ use Rattle.i9_model.specs.declared.event.Event.{Event}
 use Rattle.i9_model.specs.Events.{journal_text}
 use Rattle.i9_model.proofs.ReadBack.{journal_plain}
 use Rattle.i9_debug.specs.Lines.{refused_line, ending, generated_line}
+use Rattle.i9_model.specs.declared.frame.Frame.{Frame}
+use Rattle.i9_debug.specs.Session.{turn_text, held_text, raw_bytes_text}
 use Rattle.i9_debug.specs.Print.{line_count, IsLine}
 use Rattle.i9_debug.proofs.Prints.{line_count-append}
 
@@ -130,3 +132,38 @@ line-refused what fault plain =
     (plain-append (codes "#" ++ what ++ codes " line " ++ decimal fault.0 ++ codes " kind ") (decimal fault.1) kind (plain-decimal fault.1))
 
 pub ruleset line_rules = (line-out, line-point, line-event, line-bytes, line-end, line-generated, line-globals, line-locals)
+
+-- ---- the lines of a session
+
+pub line-turn : (t k : ℕ) → IsLine (turn_text t k)
+unfolding turn_text
+line-turn t k =
+    after_plain (codes "#turn " ++ decimal t ++ codes " " ++ decimal k) (10 ∷ [])
+    (plain-append (codes "#turn " ++ decimal t ++ codes " ") (decimal k) (plain_number (codes "#turn ") t refl) (plain-decimal k))
+
+pub line-counted : (label ws : List ℕ) (n : ℕ) → is_plain label ≡ true → IsLine (words_text (label ++ decimal n) ws)
+line-counted label ws n plain = line-words (label ++ decimal n) ws (plain-append label (decimal n) plain (plain-decimal n))
+
+pub line-view : (n : ℕ) (ws : List ℕ) → IsLine (words_text (codes "#view " ++ decimal n) ws)
+line-view n ws = line-counted (codes "#view ") ws n refl
+
+pub line-raw : (n : ℕ) (ws : List ℕ) → IsLine (words_text (codes "#raw " ++ decimal n) ws)
+line-raw n ws = line-counted (codes "#raw ") ws n refl
+
+pub line-raw_globals : (ws : List ℕ) → IsLine (words_text (codes "#rg") ws)
+line-raw_globals ws = line-words (codes "#rg") ws refl
+
+pub line-raw_locals : (ws : List ℕ) → IsLine (words_text (codes "#rl") ws)
+line-raw_locals ws = line-words (codes "#rl") ws refl
+
+pub line-held : (n : ℕ) (fs : List Frame) → IsLine (held_text n fs)
+unfolding held_text
+line-held n fs = line-counted (codes "#held " ++ decimal n ++ codes " ") _ (length fs) (plain_number (codes "#held ") n refl)
+
+pub line-raw_bytes : (a : ℕ) (bs : List (Option ℕ)) → IsLine (raw_bytes_text a bs)
+unfolding raw_bytes_text
+line-raw_bytes a bs =
+    let begun = plain-append (codes "#rawmem") (spaced a) refl (plain-word_text a) in
+    after_plain (codes "#rawmem" ++ spaced a ++ flat_map spaced_byte bs) (10 ∷ []) (plain-append (codes "#rawmem" ++ spaced a) (flat_map spaced_byte bs) begun (plain_bytes bs))
+
+pub ruleset place_rules = (line-turn, line-view, line-raw, line-raw_globals, line-raw_locals, line-held, line-bytes, line-raw_bytes, line-globals, line-locals)

@@ -1,2 +1,4 @@
 pub mod Lines
 pub mod Print
+pub mod Session
+pub mod Driven

@@ -1,12 +1,18 @@
-//! The lines that are printed: those of a run, of what was refused, and of the run of a made job.
+//! The lines that are printed: those of a run, of what was refused, and of the run of a made job; and the text of a
+//! session of the debugger.
 #![tactic(auto)]
 
+mod place;
 mod print;
+mod sessions;
 mod text;
 
 pub use print::{
     Printed, print_generated, print_line, print_lines, print_piece, print_refusal, print_text,
 };
+pub use sessions::{SessionEnd, session};
 
+#[cfg(test)]
+mod session_tests;
 #[cfg(test)]
 mod tests;

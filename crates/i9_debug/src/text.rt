@@ -18,7 +18,7 @@ const END_LABEL: &[u8] = b"#end ";
 
 /// Appends a word in eight upper-case hexadecimal digits.
 #[tactic(auto, unfolding(i9_text::specs::Written::word_text))]
-fn add_word(alloc: Global, text: &mut Vec<u8>, word: u32) -> Result<(), AllocError>
+pub(crate) fn add_word(alloc: Global, text: &mut Vec<u8>, word: u32) -> Result<(), AllocError>
     ensures { OnOk result (text.new.items ≡ text.old.items ++ word_text word) }
 {
     let digits = hex::encode_upper(alloc, word.to_be_bytes())?;
@@ -26,7 +26,7 @@ fn add_word(alloc: Global, text: &mut Vec<u8>, word: u32) -> Result<(), AllocErr
 }
 
 /// Appends a count in decimal digits.
-fn add_count(alloc: Global, text: &mut Vec<u8>, count: u64) -> Result<(), AllocError>
+pub(crate) fn add_count(alloc: Global, text: &mut Vec<u8>, count: u64) -> Result<(), AllocError>
     ensures { OnOk result (text.new.items ≡ text.old.items ++ decimal count) }
 {
     let digits = count.to_string(alloc)?;
@@ -84,23 +84,39 @@ fn add_byte(alloc: Global, text: &mut Vec<u8>, byte: Option<u8>) -> Result<(), A
     }
 }
 
+/// Appends bytes, each after a space.
+pub(crate) fn add_bytes(
+    alloc: Global,
+    text: &mut Vec<u8>,
+    list: &[Option<u8>],
+) -> Result<(), AllocError>
+    ensures { OnOk result (text.new.items ≡ text.old.items ++ flat_map spaced_byte list.now) }
+{
+    for byte in list {
+        add_byte(alloc, text, *byte)?;
+    }
+    Ok(())
+}
+
 /// The line of the bytes from an address on.
 #[tactic(auto, unfolding(i9_model::specs::PrintedText::bytes_text))]
-fn bytes_line(alloc: Global, address: u32, list: &[Option<u8>]) -> Result<Vec<u8>, AllocError>
+pub(crate) fn bytes_line(
+    alloc: Global,
+    address: u32,
+    list: &[Option<u8>],
+) -> Result<Vec<u8>, AllocError>
     ensures { IfOk result (λ t. t.items ≡ bytes_text address list.now) }
 {
     let mut text = Vec::from_slice(alloc, b"#mem ")?;
     add_word(alloc, &mut text, address)?;
-    for byte in list {
-        add_byte(alloc, &mut text, *byte)?;
-    }
+    add_bytes(alloc, &mut text, list)?;
     text.push(b'\n')?;
     Ok(text)
 }
 
 /// A label and words, each after a space.
 #[tactic(auto, unfolding(i9_model::specs::PrintedText::words_text))]
-fn words_line(alloc: Global, label: &[u8], words: &[u32]) -> Result<Vec<u8>, AllocError>
+pub(crate) fn words_line(alloc: Global, label: &[u8], words: &[u32]) -> Result<Vec<u8>, AllocError>
     ensures { IfOk result (λ t. t.items ≡ words_text label.now words.now) }
 {
     let mut text = Vec::from_slice(alloc, label)?;
@@ -209,7 +225,7 @@ pub(crate) fn lines_of(alloc: Global, line: &Line) -> Result<Vec<Vec<u8>>, Alloc
 }
 
 /// One text alone.
-fn one(alloc: Global, text: Vec<u8>) -> Result<Vec<Vec<u8>>, AllocError>
+pub(crate) fn one(alloc: Global, text: Vec<u8>) -> Result<Vec<Vec<u8>>, AllocError>
     requires line { IsLine text.items }
     ensures lines { IfOk result (λ ts. AreLines ts.items) }
     ensures text { IfOk result (λ ts. flat_map (λ t. t.items) ts.items ≡ text.items) }

@@ -1,12 +1,11 @@
 -- An event of a plan is in its range, and what an event does is one of a few things.
 use Rattle.std.proofs.Common.{◌≡◌, ℕ, zero, suc, Bool, true, false, cond, List, [], ◌∷◌, length, Option, Some, None, Result, Ok, Err, refl, subst}
-use Rattle.std.specs.Prelude.{◌==◌}
 use Rattle.std.specs.List.{slice_get, AllByRecursion}
 use Rattle.i9_model.specs.declared.event.Event.{Event}
 use Rattle.i9_model.specs.declared.event.Event.TheVariants.{Pin, Nmi, Dma, Feed, Show}
 use Rattle.i9_model.specs.declared.event.Timed.{Timed}
 use Rattle.i9_model.specs.Events.{IsInRange}
-use Rattle.i9_model.specs.ScheduleText.{IsTimedInRange, IsPlan, time_of, event_at}
+use Rattle.i9_model.specs.ScheduleText.{IsTimedInRange, IsPlan, has_come_at, event_at}
 use Rattle.i9_model.specs.State.{State}
 use Rattle.i9_model.specs.Interrupts.{posted, posted_nmi}
 use Rattle.i9_model.specs.Dma.{Unit, unit, next_unit}
@@ -36,7 +35,7 @@ event_range g rs e plan is = by_place (slice_get g.plan place) refl is
 
     by_place : (o : Option Timed) → slice_get g.plan place ≡ o → event_at (state_after g rs).count o ≡ Some e → IsInRange e
     by_place None at h = absurd cc
-    by_place (Some t) at h = by_time t (time_of t == (state_after g rs).count) (plan_range g.plan place t plan.each at) h
+    by_place (Some t) at h = by_time t (has_come_at (state_after g rs).count t.when) (plan_range g.plan place t plan.each at) h
 
 -- ---- cases
 

@@ -15,3 +15,4 @@ pub mod RecordWords
 pub mod Returns
 pub mod RunsAgain
 pub mod Passed
+pub mod LateReplay

@@ -16,6 +16,7 @@ use Rattle.i9_model.specs.HeldFrames.{Cache, frame_at, spilled, cache_moved, cac
 use Rattle.i9_model.proofs.ControlLaws.{acted-frames}
 use Rattle.i9_model.proofs.Comes.{next_comes}
 use Rattle.i9_model.proofs.Cuts.{past_by}
+use Rattle.i9_model.proofs.Heedful.{past_of_some}
 use Rattle.i9_model.proofs.HeldWords.{held-in-memory}
 use Rattle.i9_laws.specs.Kept.{IsWord, HasBytes}
 use Rattle.i9_laws.specs.LiveFrames.{live_moved, live_after, addresses_of, AreSaved}
@@ -117,7 +118,7 @@ pub live_in_memory : (g : Given) (rs : List Record) → IsPast g rs → AreInMem
 live_in_memory g rs past =
     let n = length rs + 1 in
     let k = in_sets g n in
-    let held = held-in-memory k rs (past_in_sets g n rs past) in
+    let held = held-in-memory k rs (past_of_some k rs (past_in_sets g n rs past)) in
     youngest_in_memory (state_after g rs).memory (live_after rs)
     (subst (λ (s : State). AreInMemory s.memory (oldest_first (live_after rs))) (same_state rs)
     (subst (AreInMemory (state_after k rs).memory) (held_live g n rs (omega arith)) held))

@@ -7,12 +7,14 @@ use Rattle.i9_model.specs.declared.faults.FaultStop.TheVariants as stops
 use Rattle.i9_model.specs.declared.faults.Entry.{Entry}
 use Rattle.i9_model.specs.declared.event.Event.{Event}
 use Rattle.i9_model.specs.declared.event.Timed.{Timed}
+use Rattle.i9_model.specs.declared.event.When.{When}
+use Rattle.i9_model.specs.declared.event.When.TheVariants.{At, Turn}
 use Rattle.i9_model.specs.declared.interrupts.Chosen.{Chosen}
 use Rattle.i9_model.specs.declared.run.Due.{Due}
 use Rattle.i9_model.specs.declared.run.Due.TheVariants as dues
 use Rattle.i9_model.specs.declared.run.End.TheVariants.{Limit}
 use Rattle.i9_model.specs.State.{State, started, boot}
-use Rattle.i9_model.specs.ScheduleText.{time_of, InOrder, IsPlan, standing}
+use Rattle.i9_model.specs.ScheduleText.{at_time, time_of, is_counted, has_come_at, InOrder, IsPlan, IsByCounts, standing}
 use Rattle.i9_model.specs.Before.{Received, choice_in, interrupt_in, received_in}
 use Rattle.i9_model.specs.Run.{Given, Kind, Instruction, Faulted, Entered, Interrupted, Reached, Blocked, Record, record_of, reached_kind, counts_of, action_by_kind, Does, Ends, next_by_entry, entry_in, next_by_event, next_by_interrupt, next_by_choice, next_in, due_after, reached_by, reached_after, event_after, state_after, IsPast}
 use Rattle.i9_model.proofs.ControlLaws.{acted-count}
@@ -40,19 +42,23 @@ further time (suc place) n (t ∷ ts) order =
     let same : suc (place + n) ≡ suc place + n = omega arith in
     subst (λ (k : ℕ). InOrder time (drop k (t ∷ ts))) same (further time place n ts order)
 
--- where none stands, the first that is left is later
-later : (k place : ℕ) (ts : List Timed) → standing ts place k ≡ None → InOrder k (drop place ts) → InOrder (k + 1) (drop place ts)
-later k zero [] none order = tt
-later k (suc place) [] none order = tt
-later k (suc place) (t ∷ ts) none order = later k place ts none order
-later k zero (t ∷ ts) none order = (by_time (time_of t == k) refl none, order.1)
+-- a time that has not come yet after so many instructions is later
+not_come : (k : ℕ) (w : When) (x : Event) → is_counted w ≡ true → cond (has_come_at k w) (Some x) None ≡ None → k ≤ at_time w
+    → k + 1 ≤ at_time w
+not_come k (Turn n) x counted none least = absurd (cc counted)
+not_come k (At n) x counted none least = by_test (n == k) refl none
   where
-    by_time : (b : Bool) → (time_of t == k) ≡ b → cond b (Some t.event) None ≡ None → k + 1 ≤ time_of t
-    by_time true test h = absurd cc
-    by_time false test h =
-        let other = eqb-false (time_of t) k test in
-        let first = order.0 in
-        omega (arith, other, first)
+    by_test : (b : Bool) → (n == k) ≡ b → cond b (Some x) None ≡ None → k + 1 ≤ n
+    by_test true test h = absurd (cc h)
+    by_test false test h = let other = eqb-false n k test in omega (arith, other, least)
+
+-- where none stands, the first that is left is later
+later : (k place : ℕ) (ts : List Timed) → IsByCounts ts → standing ts place k ≡ None → InOrder k (drop place ts)
+    → InOrder (k + 1) (drop place ts)
+later k zero [] counted none order = tt
+later k (suc place) [] counted none order = tt
+later k (suc place) (t ∷ ts) counted none order = later k place ts counted.1 none order
+later k zero (t ∷ ts) counted none order = (not_come k t.when t.event counted.0 none order.0, order.1)
 
 -- ---- what counts
 
@@ -114,13 +120,13 @@ boot_count : (image : List (ℕ × ℕ)) → (boot image).count ≡ 0
 unfolding boot started
 boot_count image = refl
 
-pub none_passed : (g : Given) (rs : List Record) → IsPlan g.plan → IsPast g rs
+pub none_passed : (g : Given) (rs : List Record) → IsPlan g.plan → IsByCounts g.plan → IsPast g rs
     → InOrder (state_after g rs).count (drop (length (reached_after rs)) g.plan)
-none_passed g [] plan past = subst (λ (n : ℕ). InOrder n g.plan) (sym (boot_count g.image)) plan.order
-none_passed g (r ∷ rs) plan past =
+none_passed g [] plan counted past = subst (λ (n : ℕ). InOrder n g.plan) (sym (boot_count g.image)) plan.order
+none_passed g (r ∷ rs) plan counted past =
     let s = state_after g rs in
     let place = length (reached_after rs) in
-    let order = none_passed g rs plan past.0 in
+    let order = none_passed g rs plan counted past.0 in
     let counts = next_counts g.length (due_after rs) (event_after g rs) s r past.1 in
     let comes = next_comes g.length (due_after rs) (event_after g rs) s r past.1 in
     let count : r.after.count ≡ s.count + counts_of r.kind =
@@ -128,7 +134,7 @@ none_passed g (r ∷ rs) plan past =
     let now : InOrder r.after.count (drop place g.plan) = elim counts [
       | inl none ↦ sooner r.after.count s.count (drop place g.plan) (omega (arith, count, none)) order
       | inr one ↦
-          sooner r.after.count (s.count + 1) (drop place g.plan) (omega (arith, count, one.0)) (later s.count place g.plan one.1 order)
+          sooner r.after.count (s.count + 1) (drop place g.plan) (omega (arith, count, one.0)) (later s.count place g.plan counted one.1 order)
     ] in
     subst (λ (n : ℕ). InOrder r.after.count (drop n g.plan)) (sym (length-append (reached_after rs) (reached_by r.kind r.before)))
     (further r.after.count place (length (reached_by r.kind r.before)) g.plan now)

@@ -8,7 +8,7 @@ use Rattle.i9_model.specs.HeldFrames.{Cache, sets_in, cache_after}
 use Rattle.i9_model.specs.Late.{turns, resource, resources, issued_cell, wait_of, settled_memory, IsClear}
 use Rattle.i9_model.specs.Left.{left_in}
 use Rattle.i9_model.specs.Memory.{stored}
-use Rattle.i9_model.specs.Run.{Given, Kind, Instruction, Faulted, Entered, Interrupted, Reached, Blocked, Record, Does, action_done, due_by, reached_by, due_after, reached_after, event_after, state_after, next}
+use Rattle.i9_model.specs.Run.{Given, Kind, Instruction, Faulted, Entered, Interrupted, Reached, Blocked, Record, Does, action_done, due_by, reached_by, due_after, reached_after, state_after}
 use Rattle.i9_model.specs.State.{State, boot}
 use Rattle.i9_model.specs.Step.{Action, Move, Stays}
 use Rattle.i9_model.specs.Turns.{Pending, IsAllDone, with_need, waiting_until, placed_record}
@@ -16,9 +16,9 @@ use Rattle.i9_model.specs.Turns as board
 use Rattle.i9_model.proofs.AlikeSteps.{done_alike}
 use Rattle.i9_model.proofs.Comes.{next_comes}
 use Rattle.i9_model.proofs.LateMemories.{stored-none}
-use Rattle.i9_model.proofs.Left.{next_leaves}
+use Rattle.i9_model.proofs.Left.{standing_by_place, next_leaves}
 use Rattle.i9_course.specs.NeedOf.{need_of, record_need, need_ahead}
-use Rattle.i9_course.specs.Course.{Item, Step, records_of, course, late_after, move_writes, puts_of, ahead}
+use Rattle.i9_course.specs.Course.{Item, Step, records_of, course, late_after, move_writes, puts_of, instruction_turn, event_ahead, comes_next, ahead}
 use Rattle.i9_course.specs.Kernel.{Lands}
 use Rattle.i9_course.proofs.Landed.{acts_at_once}
 use Rattle.i9_course.proofs.Settled.{course_settles}
@@ -72,7 +72,7 @@ still_puts n c a stays = ap (λ (v : Move). move_writes n c v ++ a.writes) stays
 
 -- before it does, there is room for it
 pub clear_need : (g : Given) (h : List Item) (before : Machine) (r : Record) (need : Need) → StandsFor g h None before
-    → next g (records_of h) ≡ Does r → (ahead g h).imprecise ≡ None → (ahead g h).turn ≤ before.turn
+    → comes_next g h ≡ Does r → (ahead g h).imprecise ≡ None → (ahead g h).turn ≤ before.turn
     → record_need g.sets (cache_after g (records_of h)) r ≡ need
     → IsClear (cells_of before.processor) (queue_of before.processor) need
 clear_need g h before r need stands is_next precise now is_need =
@@ -91,7 +91,7 @@ placed_done g h before r need p b stands is_need placed =
     (placed rs stands.lands.board))).1
 
 module _ (g : Given) (h : List Item) (before m : Machine) (r q : Record) (need : Need)
-    (stands : StandsFor g h None before) (is_next : next g (records_of h) ≡ Does r) (same : AreRecordsAlike r q)
+    (stands : StandsFor g h None before) (is_next : comes_next g h ≡ Does r) (same : AreRecordsAlike r q)
     (precise : (ahead g h).imprecise ≡ None) (now : (ahead g h).turn ≤ before.turn)
     (is_need : record_need g.sets (cache_after g (records_of h)) r ≡ need) (issued : IsIssued before need (action_done q) m)
     (after : AreAlike r.after (state_of m.processor))
@@ -186,7 +186,7 @@ module _ (g : Given) (h : List Item) (before m : Machine) (r q : Record) (need :
 
   size_is : size_of before.processor ≡ sets
   size_is =
-      let was = (next_comes g.length (due_after (records_of h)) (event_after g (records_of h)) (state_after g (records_of h)) r is_next).0 in
+      let was = (next_comes g.length (due_after (records_of h)) (event_ahead g h) (state_after g (records_of h)) r is_next).0 in
       stands.size ∙ ap (sets_in g.sets) (sym (ap (λ (x : Record). x.before) was))
 
   same_puts : puts_of (size_of before.processor) (cache_of before.processor) (action_done q) ≡ (late_after g h r).puts
@@ -217,13 +217,14 @@ module _ (g : Given) (h : List Item) (before m : Machine) (r q : Record) (need :
 -- ---- turns stay small
 
 -- a record leaves less
-pub left_less : (g : Given) (rs : List Record) (r : Record) → (state_after g rs).count ≤ g.length → next g rs ≡ Does r
-    → left_after g (r ∷ rs) < left_after g rs
-left_less g rs r within is =
+pub left_less : (g : Given) (h : List Item) (r : Record) → (state_after g (records_of h)).count ≤ g.length → comes_next g h ≡ Does r
+    → left_after g (r ∷ records_of h) < left_after g (records_of h)
+left_less g h r within is =
+    let rs = records_of h in
     let s = state_after g rs in
     let place = length (reached_after rs) in
-    let leaves = next_leaves g.length g.plan place (due_after rs) s r is in
-    let comes = next_comes g.length (due_after rs) (event_after g rs) s r is in
+    let leaves = next_leaves g.length g.plan place (due_after rs) (event_ahead g h) s r (standing_by_place g.plan place s.count (instruction_turn g h)) is in
+    let comes = next_comes g.length (due_after rs) (event_ahead g h) s r is in
     let before : r.before ≡ s = ap (λ (x : Record). x.before) comes.0 in
     subst (λ (n : ℕ). left_in g.length (drop n g.plan) (due_by r.kind r.before) r.after < left_after g rs)
     (sym (length-append (reached_after rs) (reached_by r.kind r.before))) (leaves.less within)

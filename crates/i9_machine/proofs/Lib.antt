@@ -12,3 +12,5 @@ pub mod Stepping
 pub mod Showing
 pub mod Settling
 pub mod Turned
+pub mod Levels
+pub mod Timely

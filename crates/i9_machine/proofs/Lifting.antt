@@ -4,7 +4,7 @@ use Rattle.i9_model.specs.declared.event.Timed.{Timed}
 use Rattle.i9_schedule.specs.Plan.{Plan}
 use Rattle.i9_model.specs.State.{State}
 use Rattle.i9_model.specs.Step.{Action}
-use Rattle.i9_model.specs.Run.{Given, Kind, Instruction, Faulted, Entered, Interrupted, Reached, Blocked, Record, Next, Does, Ends, record_of, action_by_kind, action_done, reached_by, reached_after, due_after, event_after, state_after, next}
+use Rattle.i9_model.specs.Run.{Given, Kind, Instruction, Faulted, Entered, Interrupted, Reached, Blocked, Record, Next, Does, Ends, record_of, action_by_kind, action_done, reached_by, reached_after, due_after, state_after}
 use Rattle.i9_model.specs.PrintedText.{Shown, record_lines, last_lines, end_lines}
 use Rattle.i9_model.specs.Alike.{AreAlike, AreRecordsAlike, AreNextAlike, told}
 use Rattle.i9_model.specs.HeldFrames.{Cache, renewed, sets_in, cache_acted, cache_configured, cache_after}
@@ -21,7 +21,7 @@ use Rattle.i9_machine.specs.declared.machine.Machine.{Machine}
 use Rattle.i9_machine.specs.Line.{shown_of, AddsLines}
 use Rattle.i9_machine.specs.Step.{TellsRecord, NeedsRoom, HasRoom, event_for, next_for, plan_behind, Did, IsSame, Ended, Refused, Steps, IssuesNext, Issues}
 use Rattle.i9_course.specs.NeedOf.{need_of}
-use Rattle.i9_course.specs.Course.{Item, Step, records_of, ahead}
+use Rattle.i9_course.specs.Course.{Item, Step, records_of, event_ahead, comes_next, ahead}
 use Rattle.i9_course.specs.LateRun.{end_ahead, ended_by, finish_by}
 use Rattle.i9_machine.proofs.Beside.{beside}
 use Rattle.i9_machine.proofs.Turning.{keeps_none, moved}
@@ -123,19 +123,19 @@ did g h before answer m was plan old new stands follows precise now d i =
     i.is_need ∙ ap (λ (x : Record). need_of (size_of before.processor) (cache_of before.processor) (state_of before.processor) x.kind) one in
     let issued_now : IsIssued before need_now (action_done q) m = subst (λ (x : Record). IsIssued before need_now (action_done x) m) one i.issued in
     let rs = records_of h in
-    let found = does_alike (next g rs) (next_for before was) q (beside g h before was stands follows) d.is_next in
+    let found = does_alike (comes_next g h) (next_for before was) q (beside g h before was stands follows) d.is_next in
     let r = found.0 in
     let same = found.2 in
     let after = alike_trans r.after q.after (state_of m.processor) same.after d.state in
     let free = next_free before.length before.due (event_for before was) (state_of before.processor) q d.is_next in
-    let run = next_free g.length (due_after rs) (event_after g rs) (state_after g rs) r found.1 in
+    let run = next_free g.length (due_after rs) (event_ahead g h) (state_after g rs) r found.1 in
     let cache = cache_next g h before m r q stands same run (ap (λ (u : State). u.memory.mcon) after.rest) d.cache in
     let need = same_need g h before r q need_now stands same (ap (λ (x : Record). x.before) run.0) (ap (λ (x : Record). x.before) free.0) is_need_now in
     let lands = issued_lands g h before m r q need_now stands found.1 same precise now need issued_now after cache in
     let count : (state_of before.processor).count ≡ (state_after g rs).count = ap (λ (u : State). u.count) stands.state.rest in
     let below : (state_of before.processor).count ≤ before.length = before.below in
     let length : before.length ≡ g.length = stands.length in
-    let less = left_less g rs r (omega (arith, count, below, length)) found.1 in
+    let less = left_less g h r (omega (arith, count, below, length)) found.1 in
     let none = ap (λ (n : Need). n.not_before) is_need_now ∙ waits_for_none (size_of before.processor) (cache_of before.processor) (state_of before.processor) q.kind in
     let wait : m.wait ≡ before.wait = issued_now.wait in
     let early : before.wait ≤ (ahead g h).turn = stands.early in
@@ -192,15 +192,15 @@ overtaken_run g h before e m was plan old new stands follows d =
     let now : (ahead g h).turn ≤ before.turn = late.1 in
     let in_time : before.turn ≤ (ahead g h).turn = stands.lands.in_time in
     let is_end : end_ahead g h ≡ Some e =
-    ap (λ (o : Option ℕ). finish_by o (next g (records_of h))) late.0 ∙ ap (λ (x : End). Some x) (sym d.is_end) in
+    ap (λ (o : Option ℕ). finish_by o (comes_next g h)) late.0 ∙ ap (λ (x : End). Some x) (sym d.is_end) in
     over_run g h before e m was plan old new stands follows is_end (omega (arith, now, in_time)) d.same d.ended d.none d.kept d.lines
 
 ended_run : (g : Given) (h : List Item) (before : Machine) (e : End) (m : Machine) (was plan : Plan) (old new : List Line) → StandsFor g h None before → Follows g h was → (ahead g h).imprecise ≡ None → (ahead g h).turn ≤ before.turn → Ended before e m was plan old new → EndsRun g h e before m plan old new
 ended_run g h before e m was plan old new stands follows precise now d =
     let in_time : before.turn ≤ (ahead g h).turn = stands.lands.in_time in
-    let next_end = ends_alike (next g (records_of h)) (next_for before was) e (beside g h before was stands follows) d.is_end in
+    let next_end = ends_alike (comes_next g h) (next_for before was) e (beside g h before was stands follows) d.is_end in
     let is_end : end_ahead g h ≡ Some e =
-    ap (λ (o : Option ℕ). finish_by o (next g (records_of h))) precise ∙ ap ended_by next_end in
+    ap (λ (o : Option ℕ). finish_by o (comes_next g h)) precise ∙ ap ended_by next_end in
     over_run g h before e m was plan old new stands follows is_end (omega (arith, now, in_time)) d.same d.ended d.none d.kept d.lines
 
 abbrev needs_by : List Shown → Action → Type 0
@@ -219,7 +219,7 @@ refused g h before m was plan old new stands follows d = record {
   stands = same_stands g h before m None d.same d.ended d.none tt stands;
   follows = subst (Follows g h) (sym d.kept) follows;
   lines = d.lines;
-  needed = needs_alike (next g (records_of h)) (next_for before was) (beside g h before was stands follows) d.needed;
+  needed = needs_alike (comes_next g h) (next_for before was) (beside g h before was stands follows) d.needed;
 }
 
 -- room for what comes next in the run is room for what comes next for the machine
@@ -233,8 +233,8 @@ room_alike m spare (Does r) (Does q) alike room = record {
   no_sets = ap (λ (a : Action). is_restart a.control) (done_alike r q alike) ∙ room.no_sets;
 }
 
-pub next_room : (g : Given) (h : List Item) (m : Machine) (plan : Plan) (spare : ℕ) → StandsFor g h None m → Follows g h plan → HasRoom m spare (next g (records_of h)) → HasRoom m spare (next_for m plan)
-next_room g h m plan spare stands follows room = room_alike m spare (next g (records_of h)) (next_for m plan) (beside g h m plan stands follows) room
+pub next_room : (g : Given) (h : List Item) (m : Machine) (plan : Plan) (spare : ℕ) → StandsFor g h None m → Follows g h plan → HasRoom m spare (comes_next g h) → HasRoom m spare (next_for m plan)
+next_room g h m plan spare stands follows room = room_alike m spare (comes_next g h) (next_for m plan) (beside g h m plan stands follows) room
 
 -- ---- the turn moves
 

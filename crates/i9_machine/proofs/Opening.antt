@@ -23,8 +23,10 @@ use Rattle.i9_processor.specs.declared.effect.Effect.{Effect}
 use Rattle.i9_processor.specs.State.{state_of, cache_of, size_of}
 use Rattle.i9_plan.specs.Planned.{IsInRow}
 use Rattle.i9_machine.specs.declared.machine.Machine.{Machine}
-use Rattle.i9_machine.specs.Opening.{NextWaits}
-use Rattle.i9_machine.specs.Step.{event_for, next_for}
+use Rattle.i9_course.specs.Course.{instruction_ahead}
+use Rattle.i9_machine.specs.Opening.{IsFreeToIssue, NextWaits}
+use Rattle.i9_machine.specs.Step.{event_for, next_where, next_for}
+use Rattle.i9_machine.proofs.Stepping.{goes_by_event, goes_by_itself}
 
 -- ---- what waits for all
 
@@ -83,14 +85,22 @@ event_waits m plan e is stands =
     let s = state_of m.processor in
     held_by m plan (next_by_event (Some e) s) (is ∙ ap (λ (o : Option Event). next_by_event o s) stands) (reached_held s e (received_in s e))
 
+-- where the instruction waits for all, what comes next does, whether an event stands there or not
+pub instruction_waits : (m : Machine) (plan : Plan) → IsFreeToIssue m → IsHeldBack (instruction_ahead (state_of m.processor)) → NextWaits m plan
+instruction_waits m plan free held = by_event (event_for m plan) refl
+  where
+    by_event : (o : Option Event) → event_for m plan ≡ o → NextWaits m plan
+    by_event (Some e) is = event_waits m plan e (goes_by_event m (event_for m plan) free) is
+    by_event None is = held_by m plan (instruction_ahead (state_of m.processor)) (ap (next_where m) is ∙ goes_by_itself m free) held
+
 -- a need that waits for all does so whatever number of sets is asked for, and whatever is held
-pub barrier_waits : (m : Machine) (plan : Plan) (k : Kind) (need : Need) → next_for m plan ≡ Does (record_of k (state_of m.processor))
+pub barrier_waits : (m : Machine) (plan : Plan) (k : Kind) (need : Need) → IsFreeToIssue m → next_where m None ≡ Does (record_of k (state_of m.processor))
     → need ≡ need_of (size_of m.processor) (cache_of m.processor) (state_of m.processor) k → need.barrier ≡ true → NextWaits m plan
-barrier_waits m plan k need is is_need barrier =
+barrier_waits m plan k need free is is_need barrier =
     let s = state_of m.processor in
-    held_by m plan (Does (record_of k s)) is
+    instruction_waits m plan free (subst IsHeldBack (sym is ∙ goes_by_itself m free)
     (λ asked c. (sets_alike (sets_in asked s) (size_of m.processor) c (cache_of m.processor) s k).barrier
-    ∙ ap (λ (n : Need). n.barrier) (sym is_need) ∙ barrier)
+    ∙ ap (λ (n : Need). n.barrier) (sym is_need) ∙ barrier))
 
 -- ---- what is no request
 

@@ -111,7 +111,7 @@ standing_need asked c s t alike (Faults i number) =
     (ap (λ (u : State). Faulted (Some i) (fault_at u number)) alike.rest)
 standing_need asked c s t alike (Runs i) = kind_need asked c s t alike (λ u. Instruction i) refl
 
-ahead_need : (asked : Option ℕ) (c : Cache) (s t : State) → AreAlike s t
+pub ahead_need : (asked : Option ℕ) (c : Cache) (s t : State) → AreAlike s t
     → need_ahead asked c (instruction_ahead t) ≡ need_ahead asked c (instruction_ahead s)
 ahead_need asked c s t alike =
     ap (λ (x : Standing). need_ahead asked c (next_by_standing t x))

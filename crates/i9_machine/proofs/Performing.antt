@@ -1,5 +1,5 @@
 -- A step that is performed issues, and can act.
-use Rattle.std.proofs.Common.{◌≡◌, ℕ, ◌+◌, ◌<◌, ◌≤◌, Bool, true, false, List, [], ◌∷◌, ◌++◌, length, drop, map, Option, None, refl, sym, ap, ◌∙◌, subst, ◌⊎◌, inl, inr, arith}
+use Rattle.std.proofs.Common.{◌≡◌, ℕ, ◌+◌, ◌<◌, ◌≤◌, Bool, true, false, List, [], ◌∷◌, ◌++◌, length, drop, map, Option, Some, None, refl, sym, ap, ◌∙◌, subst, ◌⊎◌, inl, inr, arith}
 use Rattle.std.specs.List.{AllByRecursion}
 use Rattle.i9_model.specs.declared.need.Need.{Need}
 use Rattle.i9_model.specs.declared.need.TimedNeed.{TimedNeed}
@@ -9,18 +9,19 @@ use Rattle.i9_model.specs.declared.run.Due.{Due}
 use Rattle.i9_model.specs.Memory.{stored}
 use Rattle.i9_model.specs.Left.{left_in}
 use Rattle.i9_model.specs.PrintedText.{end_lines}
-use Rattle.i9_model.specs.ScheduleText.{standing}
+use Rattle.i9_model.specs.declared.event.Event.{Event}
+use Rattle.i9_model.specs.ScheduleText.{standing_by}
 use Rattle.i9_model.specs.State.{State}
 use Rattle.i9_model.specs.Step.{Action}
-use Rattle.i9_model.specs.Run.{Given, Kind, Record, Next, Does, Ends, record_of, action_by_kind, action_done, due_after, event_after, next_in, state_after, next}
+use Rattle.i9_model.specs.Run.{Given, Kind, Record, Next, Does, Ends, record_of, action_by_kind, action_done, due_after, next_in, state_after}
 use Rattle.i9_model.specs.Turns.{Pending, IsAllDone, with_need, last_issue, issue_turn, waiting_until, placed_record}
 use Rattle.i9_model.specs.Turns as board
 use Rattle.i9_model.proofs.AlikeSteps.{does_alike}
 use Rattle.i9_model.proofs.HeldRuns.{next_free}
 use Rattle.i9_schedule.specs.Plan.{Plan}
 use Rattle.i9_regs.specs.Covered.{IsCovered}
-use Rattle.i9_course.specs.NeedOf.{need_of}
-use Rattle.i9_course.specs.Course.{Item, records_of, ahead}
+use Rattle.i9_course.specs.NeedOf.{need_of, need_ahead}
+use Rattle.i9_course.specs.Course.{Item, records_of, instruction_ahead, event_ahead, comes_next, ahead}
 use Rattle.i9_course.proofs.Landed.{request_last}
 use Rattle.i9_course.proofs.NeedActs.{need_still}
 use Rattle.i9_course.proofs.NeedCovers.{need_covers}
@@ -39,7 +40,7 @@ use Rattle.i9_machine.specs.declared.machine.Machine.{Machine}
 use Rattle.i9_machine.specs.declared.step.Step.{Step}
 use Rattle.i9_machine.specs.Overtaking.{HasPace}
 use Rattle.i9_machine.specs.Issuing.{kernel_of, IsPaced, IsPlaced, IsIssued, IsUnmoved, IsLike, IsMoved, CanActPlaced}
-use Rattle.i9_machine.specs.Step.{TellsRecord, NeedsRoom, HasRoom, IsStepIn, IsStep, IsSame, Did, Steps, IssuesNext, Issues, event_for, next_for, records_left, steps_left}
+use Rattle.i9_machine.specs.Step.{TellsRecord, NeedsRoom, HasRoom, IsStepIn, IsStep, IsSame, Did, Steps, IssuesNext, Issues, need_at, turn_at, event_for, next_for, records_left, steps_left}
 use Rattle.i9_machine.specs.StandsFor.{StandsFor, Follows, KeepsStep, IsUnderWay, HasCome, IsNow, Done, OpenSteps, LeavesFewer, waiting}
 use Rattle.i9_machine.specs.Line.{shown_of}
 use Rattle.i9_machine.proofs.Stepping.{move_fewer}
@@ -76,9 +77,9 @@ step_acts m k plan step e u is state queue board floor p b placed_in =
     let g = u.given in
     let h = u.items in
     let q = record_of is.kind (state_of m.processor) in
-    let found = does_alike (next g (records_of h)) (next_for m plan) q (beside g h m plan u.stands u.follows) is.is_next in
+    let found = does_alike (comes_next g h) (next_for m plan) q (beside g h m plan u.stands u.follows) is.is_next in
     let r = found.0 in
-    let run = next_free g.length (due_after (records_of h)) (event_after g (records_of h)) (state_after g (records_of h)) r found.1 in
+    let run = next_free g.length (due_after (records_of h)) (event_ahead g h) (state_after g (records_of h)) r found.1 in
     let need = same_need g h m r q step.need u.stands found.2 (ap (λ (x : Record). x.before) run.0) refl is.need in
     let clear = clear_need g h m r step.need u.stands found.1 u.precise u.now need in
     let placed : IsPlaced m.board (waiting_until m.floor step.need) p b =
@@ -165,9 +166,23 @@ like_unmoved before mid l = record {
   shade = l.shade;
 }
 
+-- the instruction ahead would issue at the same turn, so the same event stands there
+like_turn_at : (before mid : Machine) → IsLike before mid → turn_at mid ≡ turn_at before
+like_turn_at before mid l =
+    let need = ap (λ (p : Processor). need_ahead (Some (size_of p)) (cache_of p) (instruction_ahead (state_of p))) l.processor in
+    ap (λ (p : Pending). issue_turn p.last p.records (waiting_until mid.floor (need_at mid))) l.board
+    ∙ ap (λ (f : ℕ). issue_turn before.board.last before.board.records (waiting_until f (need_at mid))) l.floor
+    ∙ ap (λ (n : Need). issue_turn before.board.last before.board.records (waiting_until before.floor n)) need
+
+pub like_event : (before mid : Machine) (plan : Plan) → IsLike before mid → event_for mid plan ≡ event_for before plan
+like_event before mid plan l =
+    ap (λ (p : Processor). standing_by plan.events plan.place (state_of p).count (turn_at mid)) l.processor
+    ∙ ap (standing_by plan.events plan.place (state_of before.processor).count) (like_turn_at before mid l)
+
 pub like_next : (before mid : Machine) (plan : Plan) → IsLike before mid → next_for mid plan ≡ next_for before plan
 like_next before mid plan l =
-    ap (λ (p : Processor). next_in mid.length mid.due (standing plan.events plan.place (state_of p).count) (state_of p)) l.processor
+    ap (λ (o : Option Event). next_in mid.length mid.due o (state_of mid.processor)) (like_event before mid plan l)
+    ∙ ap (λ (p : Processor). next_in mid.length mid.due (event_for before plan) (state_of p)) l.processor
     ∙ ap (λ (d : Due). next_in mid.length d (event_for before plan) (state_of before.processor)) l.due
     ∙ ap (λ (n : ℕ). next_in n before.due (event_for before plan) (state_of before.processor)) l.length
 
@@ -256,9 +271,11 @@ like_steps before mid m turns.Memory was plan old new l d = record {
 -- what comes next
 pub like_step : (before mid : Machine) (plan : Plan) (step : Step) (e : Effect) → IsLike before mid → IsStep before plan step e → IsStep mid plan step e
 like_step before mid plan step e l is =
-    subst (λ (n : ℕ). IsStepIn n mid.due (state_of mid.processor) (size_of mid.processor) (cache_of mid.processor) plan step e) (sym l.length)
-    (subst (λ (d : Due). IsStepIn before.length d (state_of mid.processor) (size_of mid.processor) (cache_of mid.processor) plan step e) (sym l.due)
-    (subst (λ (p : Processor). IsStepIn before.length before.due (state_of p) (size_of p) (cache_of p) plan step e) (sym l.processor) is))
+    let o = event_for before plan in
+    subst (λ (x : Option Event). IsStepIn mid.length mid.due (state_of mid.processor) (size_of mid.processor) (cache_of mid.processor) x plan step e) (sym (like_event before mid plan l))
+    (subst (λ (n : ℕ). IsStepIn n mid.due (state_of mid.processor) (size_of mid.processor) (cache_of mid.processor) o plan step e) (sym l.length)
+    (subst (λ (d : Due). IsStepIn before.length d (state_of mid.processor) (size_of mid.processor) (cache_of mid.processor) o plan step e) (sym l.due)
+    (subst (λ (p : Processor). IsStepIn before.length before.due (state_of p) (size_of p) (cache_of p) o plan step e) (sym l.processor) is)))
 
 -- the turns of the scoreboard
 pub like_turn : (before mid : Machine) (need : Need) (t : ℕ) → IsLike before mid

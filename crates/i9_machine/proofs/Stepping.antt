@@ -1,8 +1,8 @@
 -- A record that was done is what the step answers.
-use Rattle.std.proofs.Common.{◌≡◌, ℕ, ◌+◌, ◌^◌, ◌<◌, ◌≤◌, Bool, true, false, cond, eqb, List, length, drop, ◌++◌, ◌||◌, nat_lt, Option, Some, None, Ok, refl, sym, ap, ◌∙◌, subst, length-append, arith}
+use Rattle.std.proofs.Common.{Bor, ◌≡◌, ℕ, ◌+◌, ◌^◌, ◌<◌, ◌≤◌, Bool, true, false, cond, eqb, List, length, drop, ◌++◌, ◌||◌, nat_lt, Option, Some, None, Ok, refl, sym, ap, ◌∙◌, subst, length-append, arith}
 use Rattle.std.proofs.lemmas.Bool.Decides.{nat_tests}
-use Rattle.std.specs.Prelude.{is_some}
-use Rattle.std.specs.Option.{option_map}
+use Rattle.std.specs.Prelude.{is_some, IfSome}
+use Rattle.std.specs.Option.{option_map, option_copied}
 use Rattle.std.specs.List.{slice_get}
 use Rattle.std.proofs.lemmas.Option.{slice_get_within}
 use Rattle.i9_model.specs.declared.event.Event.{Event}
@@ -12,15 +12,14 @@ use Rattle.i9_model.specs.Alike.{AreAlike}
 use Rattle.i9_model.specs.Before.{choice_in}
 use Rattle.i9_model.specs.Left.{left_in}
 use Rattle.i9_model.proofs.Comes.{MayCome, next_comes}
-use Rattle.i9_model.proofs.Left.{counts_after, stands_there, plan_after, next_leaves}
+use Rattle.i9_model.proofs.Left.{counts_after, standing_by_place, plan_after, next_leaves}
 use Rattle.i9_schedule.specs.Plan.{Plan}
 use Rattle.i9_model.specs.State.{State}
-use Rattle.i9_model.specs.Standing.{stands_at}
 use Rattle.i9_model.specs.declared.run.Point.{Point}
 use Rattle.i9_model.specs.declared.run.End.TheVariants.{Limit}
 use Rattle.i9_model.specs.Memory.{console_byte}
 use Rattle.i9_model.specs.Step.{Action, acted, counted}
-use Rattle.i9_model.specs.Run.{Kind, Instruction, Faulted, Entered, Interrupted, Reached, Blocked, Record, Next, Does, Ends, action_by_kind, action_done, record_of, counts_of, due_by, point_of, reached_by, next_by_standing, next_by_event, next_by_choice, next_in}
+use Rattle.i9_model.specs.Run.{Kind, Instruction, Faulted, Entered, Interrupted, Reached, Blocked, Record, Next, Does, Ends, action_by_kind, action_done, record_of, counts_of, due_by, point_of, reached_by, next_by_event, next_by_choice, next_in}
 use Rattle.i9_model.specs.PrintedText.{Shown, out_lines, point_lines, bytes_lines, event_lines, record_lines}
 use Rattle.i9_processor.specs.State.{state_of}
 use Rattle.i9_model.specs.declared.run.Due.{Due}
@@ -35,8 +34,10 @@ use Rattle.i9_machine.specs.declared.line.Line.{Line}
 use Rattle.i9_machine.specs.declared.line.Turn.{Turn}
 use Rattle.i9_machine.specs.declared.line.Turn.TheVariants as turns
 use Rattle.i9_machine.specs.declared.machine.Machine.{Machine}
-use Rattle.i9_machine.specs.Step.{TellsRecord, NeedsRoom, IsStep, HasRoomToDo, HasRoom, event_for, next_for, event_of, plan_behind, records_left, steps_left, Did, Steps}
+use Rattle.i9_machine.specs.Step.{TellsRecord, NeedsRoom, IsStep, IsStepWhere, HasRoomToDo, HasRoom, turn_at, event_for, next_where, next_for, event_of, plan_behind, records_left, steps_left, Did, Steps}
 use Rattle.i9_machine.specs.StandsFor.{LeavesFewer}
+use Rattle.i9_machine.specs.Opening.{IsFreeToIssue}
+use Rattle.i9_course.specs.Course.{instruction_ahead}
 
 no_end : (k : Kind) (s : State) (e : End) → TellsRecord k s (turns.End e) → ⊥
 no_end (Instruction i) s e t = t
@@ -77,7 +78,8 @@ left_alike l ts d s t alike = ap (left_in l ts d) alike.rest
 pub did_fewer : (before m : Machine) (was plan : Plan) (r : Record) → (state_of before.processor).count ≤ before.length → next_for before was ≡ Does r → AreAlike r.after (state_of m.processor) → m.due ≡ due_by r.kind r.before → m.length ≡ before.length
     → plan ≡ plan_behind was r → records_left m plan < records_left before was
 did_fewer before m was plan r within is alike due bound behind =
-    let leaves = next_leaves before.length was.events was.place before.due (state_of before.processor) r is in
+    let s = state_of before.processor in
+    let leaves = next_leaves before.length was.events was.place before.due (event_for before was) s r (standing_by_place was.events was.place s.count (turn_at before)) is in
     let less = leaves.less within in
     let events = plan_after was.events was.place r in
     let same : records_left m plan ≡ left_in before.length events (due_by r.kind r.before) r.after =
@@ -103,7 +105,7 @@ move_fewer before m plan same turn early = omega (arith, same, turn, early)
 pub did_within : (m : Machine) (was : Plan) (k : Kind) → (state_of m.processor).count ≤ m.length → next_for m was ≡ Does (record_of k (state_of m.processor)) → (state_of m.processor).count + counts_of k ≤ m.length
 did_within m was k within is =
     let s = state_of m.processor in
-    let leaves = next_leaves m.length was.events was.place m.due s (record_of k s) is in
+    let leaves = next_leaves m.length was.events was.place m.due (event_for m was) s (record_of k s) (standing_by_place was.events was.place s.count (turn_at m)) is in
     let fits = leaves.within within in
     let count = counts_after k s in
     omega (arith, fits, count)
@@ -122,20 +124,38 @@ before_length false x y e = refl
 before_length true x y e = absurd cc
 
 -- below the length what comes goes by the choice of an interrupt
-pub goes_on : (m : Machine) (plan : Plan) → m.due ≡ dues.Nothing → (state_of m.processor).count < m.length → next_for m plan ≡ next_by_choice (event_for m plan) (state_of m.processor) (choice_in (state_of m.processor))
-goes_on m plan none below =
+pub goes_on : (m : Machine) (stands : Option Event) → m.due ≡ dues.Nothing → (state_of m.processor).count < m.length → next_where m stands ≡ next_by_choice stands (state_of m.processor) (choice_in (state_of m.processor))
+goes_on m stands none below =
     let s = state_of m.processor in
     let other : eqb s.count m.length ≡ false = grind (arith, nat_tests, below) in
-    ap (λ (d : Due). next_in m.length d (event_for m plan) s) none
-    ∙ before_length (eqb s.count m.length) (Ends Limit) (next_by_choice (event_for m plan) s (choice_in s)) other
+    ap (λ (d : Due). next_in m.length d stands s) none
+    ∙ before_length (eqb s.count m.length) (Ends Limit) (next_by_choice stands s (choice_in s)) other
 
 -- where none is chosen it goes by the event that stands there
-pub goes_by_event : (m : Machine) (plan : Plan) → m.due ≡ dues.Nothing → (state_of m.processor).count < m.length → choice_in (state_of m.processor) ≡ Ok None → next_for m plan ≡ next_by_event (event_for m plan) (state_of m.processor)
-goes_by_event m plan none below chosen = goes_on m plan none below ∙ ap (next_by_choice (event_for m plan) (state_of m.processor)) chosen
+pub goes_by_event : (m : Machine) (stands : Option Event) → IsFreeToIssue m → next_where m stands ≡ next_by_event stands (state_of m.processor)
+goes_by_event m stands free = goes_on m stands free.due free.below ∙ ap (next_by_choice stands (state_of m.processor)) free.chosen
 
 -- and where none stands there it is the instruction's turn
-pub goes_by_itself : (m : Machine) (plan : Plan) → m.due ≡ dues.Nothing → (state_of m.processor).count < m.length → choice_in (state_of m.processor) ≡ Ok None → event_for m plan ≡ None → next_for m plan ≡ next_by_standing (state_of m.processor) (stands_at (state_of m.processor))
-goes_by_itself m plan none below chosen stands = goes_by_event m plan none below chosen ∙ ap (λ (o : Option Event). next_by_event o (state_of m.processor)) stands
+pub goes_by_itself : (m : Machine) → IsFreeToIssue m → next_where m None ≡ instruction_ahead (state_of m.processor)
+goes_by_itself m free = goes_by_event m None free
+
+-- so a step that comes where no event stands comes
+pub step_where : (m : Machine) (plan : Plan) (step : Step) (e : Effect) → event_for m plan ≡ None → IsStepWhere m None plan step e → IsStep m plan step e
+step_where m plan step e none is = subst (λ (o : Option Event). IsStepWhere m o plan step e) (sym none) is
+
+-- what is told of a step holds of it
+pub told_step : (o : Option Step) (x : Step) (P : Step → Type 0) → IfSome o (λ step. step ≡ x) → P x → IfSome o P
+told_step None x P is h = tt
+told_step (Some step) x P is h = subst P (sym is) h
+
+-- what is borrowed, or nothing
+pub copied_some : (o : Option (Bor Event)) → is_some o ≡ true → (e : Event) × (option_copied o ≡ Some e)
+copied_some (Some x) is = (x.now, refl)
+copied_some None is = absurd (cc is)
+
+pub copied_none : (o : Option (Bor Event)) → is_some o ≡ false → option_copied o ≡ None
+copied_none (Some x) is = absurd (cc is)
+copied_none None is = refl
 
 -- ---- lines
 
@@ -175,7 +195,7 @@ no_event plan step none = ap (λ (b : Bool). cond b (option_map (λ (t : Timed).
 -- a step that reaches the event that stands there
 pub one_event : (m : Machine) (plan : Plan) (step : Step) (e : Event) → step.reaches ≡ true → event_for m plan ≡ Some e → event_in plan step ≡ Some e
 one_event m plan step e reaches stands =
-    let found = stands_there (state_of m.processor).count (slice_get plan.events plan.place) e stands in
+    let found = standing_by_place plan.events plan.place (state_of m.processor).count (turn_at m) e stands in
     ap (λ (b : Bool). cond b (option_map (λ (t : Timed). t.event) (slice_get plan.events plan.place)) None) reaches
     ∙ ap (option_map (λ (t : Timed). t.event)) found.1
     ∙ ap (λ (x : Event). Some x) found.2
@@ -202,7 +222,7 @@ plan_is_behind m plan step e is =
 
 stands_within : (m : Machine) (plan : Plan) (e : Event) → event_for m plan ≡ Some e → plan.place < length plan.events
 stands_within m plan e is =
-    let found = stands_there (state_of m.processor).count (slice_get plan.events plan.place) e is in
+    let found = standing_by_place plan.events plan.place (state_of m.processor).count (turn_at m) e is in
     slice_get_within plan.events plan.place found.0 found.1
 
 reaches_within : (m : Machine) (plan : Plan) (k : Kind) → MayCome m.length m.due (event_for m plan) (state_of m.processor) k → is_some (event_of k) ≡ true → plan.place < length plan.events

@@ -1,31 +1,36 @@
 -- The steps of one turn, and the raw state at it.
-use Rattle.std.proofs.Common.{◌≡◌, ℕ, zero, suc, ◌+◌, ◌^◌, ◌<◌, ◌≤◌, Bool, cond, List, [], ◌∷◌, ◌++◌, map, unwrap_or, Option, None, Some, refl, sym, ap, ◌∙◌, subst, append_assoc, inl, inr, arith}
+use Rattle.std.proofs.Common.{◌≡◌, ℕ, zero, suc, ◌+◌, ◌%◌, ◌^◌, ◌<◌, ◌≤◌, Bool, false, cond, List, [], ◌∷◌, ◌++◌, map, unwrap_or, Option, None, Some, refl, sym, ap, ◌∙◌, subst, append_assoc, inl, inr, arith}
 use Rattle.std.specs.List.{range_with_len}
+use Rattle.std.specs.Prelude.{◌==◌}
+use Rattle.std.proofs.lemmas.Bool.{cond-false}
+use Rattle.std.proofs.lemmas.Bool.Decides.{nat_tests}
 use Rattle.std.proofs.lemmas.List.{append-nil}
 use Rattle.std.proofs.lemmas.Option.{none-some}
 use Rattle.i9_model.specs.declared.need.Cell.{Cell}
 use Rattle.i9_model.specs.declared.run.End.{End}
-use Rattle.i9_model.specs.Late.{Shows, resources, raw_value, is_busy, is_plan_open, turns as late_turns}
+use Rattle.i9_isa.specs.declared.resources.TheConstants.{CONDITION_CODE}
+use Rattle.i9_model.specs.Late.{Shows, resource, resources, raw_value, latest_value, is_busy, is_plan_open, turns as late_turns}
 use Rattle.i9_model.specs.Needs.{set_below}
 use Rattle.i9_model.specs.PrintedText.{Shown, register_list, lines_of, record_lines, end_lines}
 use Rattle.i9_model.specs.Run.{Given, Record, state_after}
-use Rattle.i9_model.specs.State.{boot}
+use Rattle.i9_model.specs.State.{State, boot}
 use Rattle.i9_model.specs.Turns.{last_issue}
 use Rattle.i9_model.proofs.LateRegisters.{cell-busy}
 use Rattle.i9_schedule.specs.Plan.{Plan}
 use Rattle.i9_course.specs.Course.{Item, Step, records_of, course}
 use Rattle.i9_processor.specs.State.{cells_of, bytes_of}
 use Rattle.i9_raw.specs.Raw.{raw_memory}
-use Rattle.i9_raw.proofs.Landed.{course_shows}
+use Rattle.i9_course.proofs.Orderly.{registers_settle}
+use Rattle.i9_raw.proofs.Landed.{course_shows, flushed_raw}
 use Rattle.i9_shade.specs.Shade.{shown}
 use Rattle.i9_machine.specs.declared.line.Line.{Line}
 use Rattle.i9_machine.specs.declared.line.Raw.{Raw}
 use Rattle.i9_machine.specs.declared.line.Turn.{Turn}
 use Rattle.i9_machine.specs.declared.line.Turn.TheVariants as answers
 use Rattle.i9_machine.specs.declared.machine.Machine.{Machine}
-use Rattle.i9_machine.specs.Issuing.{kernel_of, IsMovedTo}
+use Rattle.i9_machine.specs.Issuing.{kernel_of, IsMovedTo, IsQuiet}
 use Rattle.i9_machine.specs.Line.{AddsLines, shown_of}
-use Rattle.i9_machine.specs.Raw.{raw_at}
+use Rattle.i9_machine.specs.Raw.{raw_at, IsFlushed, IsLevel}
 use Rattle.i9_machine.specs.StandsFor.{StandsFor, Follows, IsLanding, IsUnderWay, MovesOn, DoesNext, EndsRun, IsRefused, Advances}
 use Rattle.i9_machine.specs.Step.{records_left, steps_left}
 use Rattle.i9_machine.specs.Turned.{steps_on, Since, TurnsOn, EndsTurn, StopsTurn}
@@ -85,6 +90,7 @@ module _ (g : Given) (h : List Item) (before m : Machine) (was : Plan) (old mid 
     done = since.done;
     turn = d.turn ∙ since.turn;
     is_end = d.is_end;
+    now = d.now ∙ since.turn;
     stands = d.stands;
     follows = d.follows;
     lines = more_lines old mid new (lines_of since.done) (end_lines (state_after g (records_of (steps_on since.done h))) f) since.lines d.lines;
@@ -191,3 +197,39 @@ raw_byte_is g h end m a stands =
     let shows = shows_of g h end m stands in
     ap (λ (f : ℕ → ℕ). unwrap_or (shown m.shade a m.turn) (f a)) shows.memory
     ∙ course_shows g h m.turn m.shade a (begun_of g h end m stands) stands.shaded
+
+-- where nothing is open and no frame is live
+pub raw_byte_flushed : (g : Given) (h : List Item) (end : Option End) (m : Machine) (a : ℕ) → StandsFor g h end m → IsFlushed g h m.turn a
+    → unwrap_or (shown m.shade a m.turn) (bytes_of m.processor a) ≡ (state_after g (records_of h)).memory.bytes a
+raw_byte_flushed g h end m a stands flushed =
+    raw_byte_is g h end m a stands ∙ flushed_raw g h m.turn a stands.past flushed.done flushed.live flushed.hard
+
+-- ---- where nothing is planned
+
+none_in : (n : ℕ) (p : ℕ → Bool) → ((r : ℕ) → r < n → p r ≡ false) → set_below n p ≡ 0
+unfolding set_below
+none_in zero p none = refl
+none_in (suc n) p none =
+    ap (λ (b : Bool). set_below n p + cond b (2 ^ n) 0) (none n (omega arith))
+    ∙ ap (λ (x : ℕ). x + 0) (none_in n p (λ r lt. none r (omega (arith, lt))))
+
+-- a register is not the condition code
+is_register : (s : State) (r : ℕ) → r < 32 → resource s r ≡ s.regs r
+is_register s r lt = cond-false (r == CONDITION_CODE) (s.ac % 8) (s.regs r) (grind (arith, nat_tests, lt))
+
+pub level_is : (g : Given) (h : List Item) (end : Option End) (m : Machine) → StandsFor g h end m → IsQuiet m → IsLevel g h m.turn
+level_is g h end m stands quiet =
+    let shows = shows_of g h end m stands in
+    let late = (course g h).late in
+    let first = boot g.image in
+    let s = state_after g (records_of h) in
+    let none = λ (r : ℕ) (lt : r < 32).
+    ap (λ (c : Cell). c.plan) (sym (shows.registers r (omega (arith, lt)))) ∙ quiet.planned r (omega (arith, lt)) in
+    record {
+      registers = same_list (raw_value first m.turn late) s.regs (λ r lt.
+          sym (ap (λ (p : Option (ℕ × ℕ)). latest_value p (raw_value first m.turn late r)) (none r lt))
+          ∙ registers_settle g h m.turn r stands.past (begun_of g h end m stands) (omega (arith, lt))
+          ∙ is_register s r lt);
+      free = none_in 32 (is_busy m.turn late) (λ r lt.
+          sym (cell-busy m.turn r late) ∙ ap (is_plan_open m.turn) (none r lt));
+    }

@@ -6,7 +6,9 @@ use Rattle.i9_model.specs.declared.need.Need.{Need}
 use Rattle.i9_model.specs.declared.need.TimedNeed.{TimedNeed}
 use Rattle.i9_model.specs.declared.run.Due.{Due}
 use Rattle.i9_model.specs.Left.{left_in}
-use Rattle.i9_model.specs.Run.{Given, Record, record_of, due_after, event_after, state_after, next}
+use Rattle.i9_model.specs.declared.event.Event.{Event}
+use Rattle.i9_model.specs.ScheduleText.{standing_by}
+use Rattle.i9_model.specs.Run.{Given, Record, Does, record_of, due_after, state_after}
 use Rattle.i9_model.specs.State.{State, boot}
 use Rattle.i9_model.specs.HeldFrames.{Cache, cache_after}
 use Rattle.i9_model.specs.Alike.{AreAlike}
@@ -17,7 +19,7 @@ use Rattle.i9_model.specs.Late.{turns}
 use Rattle.i9_issue.specs.Room.{IsEarly}
 use Rattle.i9_schedule.specs.Plan.{Plan}
 use Rattle.i9_course.specs.NeedOf.{need_ahead}
-use Rattle.i9_course.specs.Course.{Item, records_of, course, need_after, issue_of_next, ahead}
+use Rattle.i9_course.specs.Course.{Item, records_of, course, need_after, issue_of_next, instruction_ahead, event_ahead, comes_next, ahead}
 use Rattle.i9_course.proofs.Ahead.{ahead_by_end, ahead_precise}
 use Rattle.i9_course.proofs.NeedAlike.{next_need_alike}
 use Rattle.i9_course.proofs.Placing.{next_turn}
@@ -27,13 +29,16 @@ use Rattle.i9_raw.specs.Raw.{IsShaded}
 use Rattle.i9_machine.specs.declared.line.Line.{Line}
 use Rattle.i9_machine.specs.declared.machine.Machine.{Machine}
 use Rattle.i9_machine.specs.Issuing.{kernel_of, most_turns, IsPaced, IsMovedTo, IsMoved, IsEndTurn}
-use Rattle.i9_machine.specs.Step.{IsStepIn, IsStep, next_for, records_left}
+use Rattle.i9_machine.specs.Step.{need_at, turn_at, event_for, IsStepIn, IsStepWhere, IsStep, next_for, records_left}
 use Rattle.i9_model.specs.declared.event.Timed.{Timed}
 use Rattle.i9_machine.specs.StandsFor.{StandsFor, Follows, KeepsStep, IsUnderWay, IsNow, MovesOn, waiting, left_after}
-use Rattle.i9_machine.specs.Opening.{NextWaits}
+use Rattle.i9_machine.specs.Opening.{IsFreeToIssue, NextWaits}
+use Rattle.i9_machine.proofs.Stepping.{goes_by_itself}
+use Rattle.i9_model.proofs.TurnPending.{stands-pending_turn}
 use Rattle.i9_machine.specs.Overtaking.{HasPace}
 use Rattle.i9_machine.specs.declared.step.Step.{Step}
 use Rattle.i9_processor.specs.declared.effect.Effect.{Effect}
+use Rattle.i9_processor.specs.declared.processor.Processor.{Processor}
 use Rattle.i9_course.proofs.Checks.{checked_waits}
 use Rattle.i9_course.proofs.Landed.{done_landed}
 use Rattle.i9_course.proofs.Barriers.{next_barrier}
@@ -49,18 +54,39 @@ use Rattle.i9_machine.proofs.Overtaking.{drained_precise}
 pub keeps_none : (g : Given) (h : List Item) (m : Machine) → m.kept ≡ None → IfSome m.kept (KeepsStep g h m)
 keeps_none g h m none = subst (λ (o : Option Step). IfSome o (KeepsStep g h m)) (sym none) tt
 
+-- the instruction ahead needs the same as the turn moves, and would issue at the same turn
+moved_need_at : (t : ℕ) (before m : Machine) → IsMovedTo t before m → need_at m ≡ need_at before
+moved_need_at t before m i =
+    ap (λ (n : ℕ). need_ahead (Some n) (cache_of m.processor) (instruction_ahead (state_of m.processor))) i.size
+    ∙ ap (λ (c : Cache). need_ahead (Some (size_of before.processor)) c (instruction_ahead (state_of m.processor))) i.cache
+    ∙ ap (λ (s : State). need_ahead (Some (size_of before.processor)) (cache_of before.processor) (instruction_ahead s)) i.state
+
+moved_turn_at : (t : ℕ) (before m : Machine) → IsMovedTo t before m → turn_at m ≡ turn_at before
+moved_turn_at t before m i =
+    ap (λ (p : Pending). issue_turn p.last p.records (waiting_until m.floor (need_at m))) i.board
+    ∙ ap (λ (f : ℕ). issue_turn before.board.last before.board.records (waiting_until f (need_at m))) i.floor
+    ∙ ap (λ (n : Need). issue_turn before.board.last before.board.records (waiting_until before.floor n)) (moved_need_at t before m i)
+
+-- so the same event stands there
+moved_event : (t : ℕ) (before m : Machine) (plan : Plan) → IsMovedTo t before m → event_for m plan ≡ event_for before plan
+moved_event t before m plan i =
+    ap (λ (s : State). standing_by plan.events plan.place s.count (turn_at m)) i.state
+    ∙ ap (standing_by plan.events plan.place (state_of before.processor).count) (moved_turn_at t before m i)
+
 -- a step is what comes next as the turn moves
 moved_step : (t : ℕ) (before m : Machine) (plan : Plan) (step : Step) → IsMovedTo t before m → IsStep before plan step before.effect → IsStep m plan step m.effect
 moved_step t before m plan step i is =
     let s = state_of m.processor in
     let n = size_of m.processor in
     let c = cache_of m.processor in
-    subst (λ (l : ℕ). IsStepIn l m.due s n c plan step m.effect) (sym i.length)
-    (subst (λ (d : Due). IsStepIn before.length d s n c plan step m.effect) (sym i.due)
-    (subst (λ (x : State). IsStepIn before.length before.due x n c plan step m.effect) (sym i.state)
-    (subst (λ (k : ℕ). IsStepIn before.length before.due (state_of before.processor) k c plan step m.effect) (sym i.size)
-    (subst (λ (d : Cache). IsStepIn before.length before.due (state_of before.processor) (size_of before.processor) d plan step m.effect) (sym i.cache)
-    (subst (IsStepIn before.length before.due (state_of before.processor) (size_of before.processor) (cache_of before.processor) plan step) (sym i.effect) is)))))
+    let o = event_for before plan in
+    subst (λ (x : Option Event). IsStepIn m.length m.due s n c x plan step m.effect) (sym (moved_event t before m plan i))
+    (subst (λ (l : ℕ). IsStepIn l m.due s n c o plan step m.effect) (sym i.length)
+    (subst (λ (d : Due). IsStepIn before.length d s n c o plan step m.effect) (sym i.due)
+    (subst (λ (x : State). IsStepIn before.length before.due x n c o plan step m.effect) (sym i.state)
+    (subst (λ (k : ℕ). IsStepIn before.length before.due (state_of before.processor) k c o plan step m.effect) (sym i.size)
+    (subst (λ (d : Cache). IsStepIn before.length before.due (state_of before.processor) (size_of before.processor) d o plan step m.effect) (sym i.cache)
+    (subst (IsStepIn before.length before.due (state_of before.processor) (size_of before.processor) (cache_of before.processor) o plan step) (sym i.effect) is))))))
 
 -- so it stays kept
 moved_keeps : (g : Given) (h : List Item) (t : ℕ) (before m : Machine) → IsMovedTo t before m → IfSome before.kept (KeepsStep g h before) → IfSome m.kept (KeepsStep g h m)
@@ -220,7 +246,7 @@ waits_until m plan until end (inl check) g h stands follows precise =
 waits_until m plan until end (inr held) g h stands follows precise =
     let rs = turns (course g h).late in
     let is : until ≡ end_turn rs = end rs stands.lands.board in
-    let o = next g (records_of h) in
+    let o = comes_next g h in
     let need = next_need_alike g.sets (cache_after g (records_of h)) o (next_for m plan) (beside g h m plan stands follows) in
     let barrier : IsTrue (need_after g h o).barrier = sym (ap (λ (n : Need). n.barrier) need) ∙ held g.sets (cache_after g (records_of h)) in
     let turn : issue_of_next g h o ≡ end_turn rs = next_barrier g h o barrier in
@@ -235,12 +261,34 @@ pub comes_at : (m : Machine) (plan : Plan) (step : Step) (e : Effect) (t : ℕ) 
 comes_at m plan step e t is turn g h stands follows precise =
     let rs = turns (course g h).late in
     let q = record_of is.kind (state_of m.processor) in
-    let found = does_alike (next g (records_of h)) (next_for m plan) q (beside g h m plan stands follows) is.is_next in
-    let run = next_free g.length (due_after (records_of h)) (event_after g (records_of h)) (state_after g (records_of h)) found.0 found.1 in
+    let found = does_alike (comes_next g h) (next_for m plan) q (beside g h m plan stands follows) is.is_next in
+    let run = next_free g.length (due_after (records_of h)) (event_ahead g h) (state_after g (records_of h)) found.0 found.1 in
     let need = same_need g h m found.0 q step.need stands found.2 (ap (λ (x : Record). x.before) run.0) refl is.need in
     turn rs stands.lands.board
     ∙ ap (λ (f : ℕ). issue_turn (last_issue rs) rs (waiting_until f step.need)) stands.lands.mark
     ∙ sym (next_turn g h step.need precise (ap (need_ahead g.sets (cache_after g (records_of h))) found.1 ∙ need))
+
+-- an instruction that comes where no event stands would issue at the turn of the instruction ahead
+pub open_turn : (m : Machine) (plan : Plan) (step : Step) (e : Effect) (t : ℕ) → IsUnderWay m plan → IsFreeToIssue m → IsStepWhere m None plan step e
+    → ((rs : List TimedNeed) → board.StandsFor m.board rs → t ≡ issue_turn (last_issue rs) rs (waiting_until m.floor step.need))
+    → t ≡ turn_at m
+open_turn m plan step e t u free is turn =
+    let rs = turns (course u.given u.items).late in
+    let s = state_of m.processor in
+    let itself : instruction_ahead s ≡ Does (record_of is.kind s) = sym (goes_by_itself m free) ∙ is.is_next in
+    let need : step.need ≡ need_at m = is.need ∙ sym (ap (need_ahead (Some (size_of m.processor)) (cache_of m.processor)) itself) in
+    turn rs u.stands.lands.board
+    ∙ sym (stands-pending_turn m.board rs (waiting_until m.floor step.need) u.stands.lands.board)
+    ∙ ap (λ (n : Need). issue_turn m.board.last m.board.records (waiting_until m.floor n)) need
+
+-- so this event stands there, if any, which a schedule has at its turn
+pub open_event : (m mid : Machine) (plan : Plan) (step : Step) (e : Effect) (t k : ℕ) (o : Option Event) → IsUnderWay m plan → IsFreeToIssue m → IsStepWhere m None plan step e
+    → ((rs : List TimedNeed) → board.StandsFor m.board rs → t ≡ issue_turn (last_issue rs) rs (waiting_until m.floor step.need))
+    → mid.processor ≡ m.processor → k ≡ (state_of mid.processor).count → o ≡ standing_by plan.events plan.place k t → event_for m plan ≡ o
+open_event m mid plan step e t k o u free is turn same count found =
+    sym (ap (standing_by plan.events plan.place (state_of m.processor).count) (open_turn m plan step e t u free is turn))
+    ∙ sym (ap (λ (n : ℕ). standing_by plan.events plan.place n t) (count ∙ ap (λ (p : Processor). (state_of p).count) same))
+    ∙ sym found
 
 -- it comes now where it was kept, and the machine has waited to its turn
 kept_now : (g : Given) (h : List Item) (m : Machine) (step : Step) → StandsFor g h None m → m.kept ≡ Some step → m.wait ≤ m.turn

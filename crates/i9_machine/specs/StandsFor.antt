@@ -3,7 +3,7 @@ use Rattle.std.specs.Prelude.{◌≡◌, ◌⊎◌, ℕ, ◌+◌, ◌<◌, ◌�
 use Rattle.i9_model.specs.declared.run.End.{End}
 use Rattle.i9_model.specs.Left.{left_in}
 use Rattle.i9_model.specs.declared.run.End.TheVariants.{Imprecise}
-use Rattle.i9_model.specs.Run.{Given, Record, Does, due_after, reached_after, state_after, next}
+use Rattle.i9_model.specs.Run.{Given, Record, Does, due_after, reached_after, state_after}
 use Rattle.i9_schedule.specs.Plan.{Plan}
 use Rattle.i9_model.specs.Alike.{AreAlike}
 use Rattle.i9_model.specs.HeldFrames.{sets_in, cache_after}
@@ -12,7 +12,7 @@ use Rattle.i9_model.specs.State.{boot}
 use Rattle.i9_model.specs.Turns.{last_issue}
 use Rattle.i9_model.specs.Turns as board
 use Rattle.i9_model.specs.Late.{Shows, turns as late_turns}
-use Rattle.i9_course.specs.Course.{Item, Step, records_of, course, last_done, ahead, IsCourse}
+use Rattle.i9_course.specs.Course.{Item, Step, records_of, course, last_done, comes_next, ahead, IsCourse}
 use Rattle.i9_course.specs.Kernel.{Kernel, Lands}
 use Rattle.i9_course.specs.LateRun.{end_ahead}
 use Rattle.i9_raw.specs.Raw.{IsShaded}
@@ -119,7 +119,7 @@ pub record MovesOn (g : Given) (h : List Item) (before m : Machine) (plan : Plan
 -- the next record was done, whose turn has come, and its lines were appended
 pub record DoesNext (g : Given) (h : List Item) (answer : Turn) (before m : Machine) (plan : Plan) (old new : List Line) : Type 0 where
   pub done : Record
-  pub is_next : next g (records_of h) ≡ Does done
+  pub is_next : comes_next g h ≡ Does done
   pub now : (ahead g h).turn ≡ before.turn
   pub turn : m.turn ≡ before.turn
   pub stands : StandsFor g (Step done ∷ h) None m
@@ -142,7 +142,7 @@ pub record IsRefused (g : Given) (h : List Item) (before m : Machine) (plan : Pl
   pub stands : StandsFor g h None m
   pub follows : Follows g h plan
   pub lines : new ≡ old
-  pub needed : NeedsRoom (next g (records_of h))
+  pub needed : NeedsRoom (comes_next g h)
 
 -- what a step does, by its answer
 abbrev pub Advances : Given → List Item → Turn → Machine → Machine → Plan → List Line → List Line → Type 0

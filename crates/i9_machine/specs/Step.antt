@@ -3,7 +3,7 @@ use Rattle.std.specs.Prelude.{◌≡◌, ℕ, ◌+◌, ◌-◌, ◌*◌, ◌^◌
 use Rattle.i9_isa.specs.Words.{words_of}
 use Rattle.i9_model.specs.State.{State}
 use Rattle.i9_model.specs.declared.event.Event.{Event}
-use Rattle.i9_model.specs.ScheduleText.{standing}
+use Rattle.i9_model.specs.ScheduleText.{standing_by}
 use Rattle.i9_model.specs.Left.{left_in}
 use Rattle.i9_model.specs.HeldFrames.{Cache}
 use Rattle.i9_model.specs.declared.run.Due.{Due}
@@ -23,18 +23,32 @@ use Rattle.i9_machine.specs.declared.step.Step.{Step}
 use Rattle.i9_machine.specs.Issue.{TellsIssue}
 use Rattle.i9_machine.specs.Doing.{event_in}
 use Rattle.i9_model.specs.declared.need.Need.{Need}
-use Rattle.i9_course.specs.NeedOf.{need_of}
+use Rattle.i9_model.specs.Turns.{issue_turn, waiting_until}
+use Rattle.i9_course.specs.NeedOf.{need_of, need_ahead}
+use Rattle.i9_course.specs.Course.{instruction_ahead}
 use Rattle.i9_plan.specs.Planned.{IsInRow}
 use Rattle.i9_machine.specs.Issuing.{most_turns, IsIssued, IsUnmoved}
 use Rattle.i9_machine.specs.Line.{AddsLines}
 
+-- what the instruction at the instruction address would need, and the turn at which it would issue by the scoreboard, if
+-- nothing came before it
+abbrev pub need_at : Machine → Need
+need_at m = need_ahead (Some (size_of m.processor)) (cache_of m.processor) (instruction_ahead (state_of m.processor))
+
+abbrev pub turn_at : Machine → ℕ
+turn_at m = issue_turn m.board.last m.board.records (waiting_until m.floor (need_at m))
+
 -- the event of a schedule that stands there for the machine
 abbrev pub event_for : Machine → Plan → Option Event
-event_for m plan = standing plan.events plan.place (state_of m.processor).count
+event_for m plan = standing_by plan.events plan.place (state_of m.processor).count (turn_at m)
+
+-- what comes next for the machine where this event stands, or none
+abbrev pub next_where : Machine → Option Event → Next
+next_where m stands = next_in m.length m.due stands (state_of m.processor)
 
 -- what comes next for the machine, by a schedule
 abbrev pub next_for : Machine → Plan → Next
-next_for m plan = next_in m.length m.due (event_for m plan) (state_of m.processor)
+next_for m plan = next_where m (event_for m plan)
 
 -- how much is left of a run
 abbrev pub records_left : Machine → Plan → ℕ
@@ -86,12 +100,12 @@ HasRoom m spare (Does r) = HasRoomToDo m spare r
 
 -- ---- what a step is to do
 
--- What comes next is a record of this effect, drained point and count, which reaches the next event or none, makes this
--- due, is answered so, and needs this. The bytes of a request stand in a row. It is said of the length, what is due, the
--- state, the number of sets, and the frames in them and the memory behind.
-pub record IsStepIn (limit : ℕ) (due_now : Due) (s : State) (size : ℕ) (cache : Cache) (plan : Plan) (step : Step) (e : Effect) : Type 0 where
+-- What comes next, where this event stands or none, is a record of this effect, drained point and count, which reaches
+-- the next event of a schedule or none, makes this due, is answered so, and needs this. The bytes of a request stand in a
+-- row. It is said of the length, what is due, the state, the number of sets, and the frames in them and the memory behind.
+pub record IsStepIn (limit : ℕ) (due_now : Due) (s : State) (size : ℕ) (cache : Cache) (stands : Option Event) (plan : Plan) (step : Step) (e : Effect) : Type 0 where
   pub kind : Kind
-  pub is_next : next_in limit due_now (standing plan.events plan.place s.count) s ≡ Does (record_of kind s)
+  pub is_next : next_in limit due_now stands s ≡ Does (record_of kind s)
   pub effect : IsEffect s (action_by_kind kind s) e
   pub point : step.point ≡ point_of kind
   pub counts : step.counts ≡ counts_of kind
@@ -104,9 +118,13 @@ pub record IsStepIn (limit : ℕ) (due_now : Due) (s : State) (size : ℕ) (cach
   pub row : step.need.request ≡ true → IsInRow e
 
 -- the same of a machine
+abbrev pub IsStepWhere : Machine → Option Event → Plan → Step → Effect → Type 0
+IsStepWhere m stands plan step e =
+    IsStepIn m.length m.due (state_of m.processor) (size_of m.processor) (cache_of m.processor) stands plan step e
+
+-- where the event of the schedule stands, whose time has come
 abbrev pub IsStep : Machine → Plan → Step → Effect → Type 0
-IsStep m plan step e =
-    IsStepIn m.length m.due (state_of m.processor) (size_of m.processor) (cache_of m.processor) plan step e
+IsStep m plan step e = IsStepWhere m (event_for m plan) plan step e
 
 -- what comes next is such a record, or this end
 abbrev pub IsNext : Machine → Plan → Result Step End → Effect → Type 0

@@ -3,10 +3,10 @@ use Rattle.std.specs.Prelude.{◌≡◌, ℕ, ◌+◌, ◌<◌, ◌≤◌, List,
 use Rattle.i9_model.specs.declared.run.End.{End}
 use Rattle.i9_model.specs.Late.{turns}
 use Rattle.i9_model.specs.PrintedText.{lines_of, end_lines}
-use Rattle.i9_model.specs.Run.{Given, Record, state_after, next}
+use Rattle.i9_model.specs.Run.{Given, Record, state_after}
 use Rattle.i9_model.specs.Turns.{last_issue}
 use Rattle.i9_schedule.specs.Plan.{Plan}
-use Rattle.i9_course.specs.Course.{Item, Step, records_of, course, ahead}
+use Rattle.i9_course.specs.Course.{Item, Step, records_of, course, comes_next, ahead}
 use Rattle.i9_course.specs.LateRun.{end_ahead}
 use Rattle.i9_machine.specs.declared.line.Line.{Line}
 use Rattle.i9_machine.specs.declared.line.Turn.{Turn}
@@ -44,6 +44,7 @@ pub record EndsTurn (g : Given) (h : List Item) (f : End) (before m : Machine) (
   pub done : List Record
   pub turn : m.turn ≡ before.turn
   pub is_end : end_ahead g (steps_on done h) ≡ Some f
+  pub now : (ahead g (steps_on done h)).turn ≡ before.turn
   pub stands : StandsFor g (steps_on done h) (Some f) m
   pub follows : Follows g (steps_on done h) plan
   pub lines : AddsLines old new (lines_of done ++ end_lines (state_after g (records_of (steps_on done h))) f)
@@ -51,7 +52,7 @@ pub record EndsTurn (g : Given) (h : List Item) (f : End) (before m : Machine) (
 -- memory was refused behind whole steps
 pub record StopsTurn (g : Given) (h : List Item) (before m : Machine) (plan : Plan) (old new : List Line) : Type 0 where
   pub since : Since g h before m plan old new
-  pub needed : NeedsRoom (next g (records_of (steps_on since.done h)))
+  pub needed : NeedsRoom (comes_next g (steps_on since.done h))
 
 -- what a turn does, by its answer, which is no instruction
 abbrev pub Turns : Given → List Item → Turn → Machine → Machine → Plan → List Line → List Line → Type 0

@@ -9,11 +9,11 @@ ghost use Rattle.i9_model.specs.HeldFrames.{cache_after, sets_in};
 ghost use Rattle.i9_model.specs.Given.{Given, given};
 ghost use Rattle.i9_model.specs.declared.run.End.{End};
 ghost use Rattle.i9_model.specs.ScheduleText.{IsPlan};
-ghost use Rattle.i9_model.specs.Run.{state_after, next};
+ghost use Rattle.i9_model.specs.Run.{state_after};
 ghost use Rattle.i9_model.specs.declared.need.TimedNeed.{TimedNeed};
 ghost use Rattle.i9_model.specs.Turns.{end_turn};
 ghost use Rattle.i9_model.specs.Turns as board;
-ghost use Rattle.i9_course.specs.Course.{Item, Mark, records_of};
+ghost use Rattle.i9_course.specs.Course.{Item, Mark, records_of, comes_next};
 ghost use Rattle.i9_model.specs.PrintedText.{view_of};
 ghost use Rattle.i9_schedule.specs.Plan.{Plan};
 ghost use Rattle.i9_frames.specs.Sets.{held};
@@ -26,6 +26,7 @@ mod opening;
 mod planning;
 mod turning;
 
+use self::planning::standing;
 use crate::line::{Line, Turn};
 use crate::step::Step;
 use i9_frames::Sets;
@@ -71,7 +72,9 @@ pub struct Machine {
 impl Machine {
     ghost use Rattle.i9_machine.specs.StandsFor.{StandsFor, Follows, Advances, AnswersAgain, LeavesFewer, IsUnderWay, IsNow, Done, OpenSteps};
     ghost use Rattle.i9_machine.specs.Issuing.{IsLike, IsMovedTo, IsMoved, IsSettled, IsQuiet, IsEndTurn};
+    ghost use Rattle.i9_machine.specs.Opening.{IsTimely};
     ghost use Rattle.i9_machine.specs.Overtaking.{late_due, HasPace, IssuesAhead};
+    ghost use Rattle.i9_machine.specs.Raw.{IsLevel};
     ghost use Rattle.i9_machine.specs.Step.{HasRoom, next_for, steps_left};
 
     /// A machine before its first step: its run has the image's bytes, so many register sets or as many
@@ -84,8 +87,9 @@ impl Machine {
     ) -> Result<Machine, NoMemory>
         requires sets { IfSome sets (λ n. 0 < n × n < 16) }
         requires length { length ≤ MAX_LENGTH }
-        ensures { (plan : List Timed) → IsPlan plan
+        ensures stands { (plan : List Timed) → IsPlan plan
             → IfOk result (λ m. StandsFor (given (pairs_of image.now) plan length sets) [] None m) }
+        ensures turn { IfOk result (λ m. m.turn ≡ 1) }
     {
         let processor = Processor::boot(alloc, image, sets)?;
         let memo = Memo::new(alloc)?;
@@ -125,6 +129,13 @@ impl Machine {
         self.processor.overlay(a)
     }
 
+    /// The end of the run that was answered; `None` where none was.
+    pub fn ended(&self) -> Option<End>
+        ensures { (g : Given) (h : List Item) (end : Option End) → StandsFor g h end self.now → result ≡ end }
+    {
+        self.ended
+    }
+
     /// The frames that are held, each in a set.
     pub fn held(&self) -> &Sets
         ensures { (g : Given) (h : List Item) (end : Option End) → StandsFor g h end self.now
@@ -141,6 +152,7 @@ impl Machine {
         ensures ended { (g : Given) (h : List Item) (f : End) → StandsFor g h (Some f) self.old → StandsFor g h (Some f) self.new }
         ensures turn { (rs : List TimedNeed) → board.StandsFor self.old.board rs → self.new.turn ≡ max self.old.turn (end_turn rs) }
         ensures quiet { (g : Given) (h : List Item) (end : Option End) → StandsFor g h end self.old → IsQuiet self.new }
+        ensures level { (g : Given) (h : List Item) (end : Option End) → StandsFor g h end self.old → IsLevel g h self.new.turn }
     {
         let until = self.board.all_done();
         let floor = self.mark_at(until);
@@ -213,6 +225,7 @@ impl Machine {
         requires stands { IsUnderWay self.old plan.old }
         requires drained { IsDrained self.old.processor }
         requires now { IsNow self.old plan.old }
+        requires timely { IsTimely self.old plan.old }
         requires none { self.old.kept ≡ None }
         ensures done { Done self.old result self.new plan.old plan.new out.old.items out.new.items }
         ensures lacking { result ≡ Turn.Memory
@@ -225,8 +238,8 @@ impl Machine {
         }
     }
 
-    /// One step of a machine for which something is open until a turn: an instruction that is no barrier
-    /// issues where its turn has come, and else the turn moves.
+    /// One step of a machine for which something is open until a turn: an instruction that is no barrier, and before
+    /// which no event stands, issues where its turn has come, and else the turn moves.
     fn step_open(&mut self, until: u64, plan: &mut Schedule, out: &mut Vec<Line>) -> Turn
         requires running { self.old.ended ≡ None }
         requires stands { IsUnderWay self.old plan.old }
@@ -239,10 +252,13 @@ impl Machine {
             → HasRoom self.old (vec_capacity out.old - vec_len out.old) (next_for self.old plan.old) → ⊥ }
         ensures fewer { LeavesFewer result (steps_left self.old plan.old) (steps_left self.new plan.new) }
     {
-        let Some(step) = self.open_step(plan) else {
+        let Some(step) = self.open_step() else {
             return self.wait_until(until);
         };
         let turn = self.board.next_turn(&self.marked(&step.need));
+        if standing(plan, self.processor.count(), turn).is_some() {
+            return self.wait_until(until);
+        }
         if self.turn < turn {
             self.kept = Some(step);
             self.wait_until(turn)
@@ -378,7 +394,7 @@ impl Machine {
         ensures again { (g : Given) (h : List Item) (f : End) → StandsFor g h (Some f) self.old
             → AnswersAgain g h f result self.new out.old.items out.new.items × (plan.new ≡ plan.old) }
         ensures lacking { (g : Given) (h : List Item) → StandsFor g h None self.old → Follows g h plan.old
-            → result ≡ Turn.Memory → HasRoom self.old (vec_capacity out.old - vec_len out.old) (next g (records_of h)) → ⊥ }
+            → result ≡ Turn.Memory → HasRoom self.old (vec_capacity out.old - vec_len out.old) (comes_next g h) → ⊥ }
         ensures fewer { LeavesFewer result (steps_left self.old plan.old) (steps_left self.new plan.new) }
     {
         match self.ended {

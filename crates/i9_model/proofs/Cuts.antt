@@ -35,7 +35,7 @@ by_length true c x o same other e = absurd (other (sym e))
 by_length false c x o same other e = ap (λ (d : Bool). cond d (Ends Limit) x) (same refl) ∙ e
 
 -- what comes next but for the end of the length
-next_longer : (limit more : ℕ) (due : Due) (stands : Option Event) (s : State) (o : Next) → s.count ≤ limit → limit ≤ more → o ≢ Ends Limit → next_in limit due stands s ≡ o → next_in more due stands s ≡ o
+pub next_longer : (limit more : ℕ) (due : Due) (stands : Option Event) (s : State) (o : Next) → s.count ≤ limit → limit ≤ more → o ≢ Ends Limit → next_in limit due stands s ≡ o → next_in more due stands s ≡ o
 next_longer limit more (dues.End f) stands s o within longer other e = e
 next_longer limit more (dues.Entry fault) stands s o within longer other e = e
 next_longer limit more dues.Nothing stands s o within longer other e =

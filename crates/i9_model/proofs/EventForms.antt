@@ -1,14 +1,16 @@
 -- The functions that read the words of a line answer the forms, both ways.
 use Rattle.std.proofs.Common.{◌≡◌, ℕ, cond, List, [], ◌∷◌, Option, Some, None, Result, Ok, Err, refl, sym, ap, subst, inl, inr, codes}
-use Rattle.std.specs.Option.{option_and_then, ok_or}
+use Rattle.std.specs.Option.{option_and_then, option_map, ok_or}
 use Rattle.std.specs.Str.{bytes_eq}
 use Rattle.std.proofs.lemmas.Bool.{cases_Bool}
 use Rattle.std.proofs.lemmas.Option.{option_and_then_some}
 use Rattle.std.proofs.lemmas.Slice.Eq.{bytes_eq-Decides}
 use Rattle.i9_model.specs.Events.{Words, decimal_in, address_of, bytes_in, pin_of, nmi_of, dma_of, feed_of, show_of, event_of, bad_operand, unknown_event, last_pin, last_channel, most_shown, IsEvent, is_pin, is_nmi, is_dma, is_feed, is_show}
-use Rattle.i9_model.specs.ScheduleText.{and_then, count_of, timed_at, at_of, timed_of, IsTimed, is_at}
+use Rattle.i9_model.specs.ScheduleText.{unknown_line, and_then, count_of, turn_of, count_time, turn_time, timed_by, timed_of, IsTimed, is_at, is_turn}
 use Rattle.i9_model.specs.declared.event.Event.{Event}
 use Rattle.i9_model.specs.declared.event.Event.TheVariants.{Pin, Nmi, Dma, Feed, Show}
+use Rattle.i9_model.specs.declared.event.When.{When}
+use Rattle.i9_model.specs.declared.event.When.TheVariants.{At, Turn}
 use Rattle.i9_model.specs.declared.event.Timed.{Timed}
 
 and_then_ok : {A B P : Type 0} (r : Result A ℕ) (f : A → Result B ℕ) (y : B) → and_then r f ≡ Ok y → ((x : A) → r ≡ Ok x → f x ≡ Ok y → P) → P
@@ -86,14 +88,38 @@ event_case name ws e h =
 
 -- ---- and so is a whole line
 
-at_case : (rest : Words) (t : Timed) → at_of rest ≡ Ok t → IsTimed (codes "at" ∷ rest) t
-unfolding at_of
-at_case [] t h = absurd cc
-at_case (k ∷ []) t h = absurd cc
-at_case (k ∷ name ∷ operands) t h =
-    and_then_ok (event_of name operands) (λ e. and_then (ok_or (count_of k) bad_operand) (λ n. Ok (timed_at n e))) t h (λ e event more.
-    and_then_ok (ok_or (count_of k) bad_operand) (λ n. Ok (timed_at n e)) t more (λ n count is.
-    subst (λ (x : Timed). IsTimed (codes "at" ∷ k ∷ name ∷ operands) x) (same_ok (timed_at n e) t is) (is_at k name operands n e (ok_or_ok (count_of k) bad_operand n count) (event_case name operands e event))))
+-- an event at a time
+abbrev timed_when : When → Event → Timed
+timed_when w e = record { when = w; event = e }
+
+-- what is read behind a first word, by what that word says with each time and event
+behind_case : (first : List ℕ) (time : List ℕ → Option When)
+    → ((k name : List ℕ) (operands : Words) (w : When) (e : Event) → time k ≡ Some w → IsEvent name operands e → IsTimed (first ∷ k ∷ name ∷ operands) (timed_when w e))
+    → (rest : Words) (t : Timed) → timed_by time rest ≡ Ok t → IsTimed (first ∷ rest) t
+unfolding timed_by
+behind_case first time says [] t h = absurd cc
+behind_case first time says (k ∷ []) t h = absurd cc
+behind_case first time says (k ∷ name ∷ operands) t h =
+    and_then_ok (event_of name operands) (λ e. and_then (ok_or (time k) bad_operand) (λ w. Ok (timed_when w e))) t h (λ e event more.
+    and_then_ok (ok_or (time k) bad_operand) (λ w. Ok (timed_when w e)) t more (λ w is_time is.
+    subst (λ (x : Timed). IsTimed (first ∷ k ∷ name ∷ operands) x) (same_ok (timed_when w e) t is) (says k name operands w e (ok_or_ok (time k) bad_operand w is_time) (event_case name operands e event))))
+
+-- a number was read for a time
+number_read : (form : ℕ → When) (o : Option ℕ) (w : When) → option_map form o ≡ Some w → (n : ℕ) × (o ≡ Some n) × (form n ≡ w)
+number_read form (Some n) w h = (n, refl, same_some (form n) w h)
+number_read form None w h = absurd cc
+
+at_says : (k name : List ℕ) (operands : Words) (w : When) (e : Event) → count_time k ≡ Some w → IsEvent name operands e
+    → IsTimed (codes "at" ∷ k ∷ name ∷ operands) (timed_when w e)
+at_says k name operands w e h is =
+    let n = number_read At (count_of k) w h in
+    subst (λ (v : When). IsTimed (codes "at" ∷ k ∷ name ∷ operands) (timed_when v e)) n.2 (is_at k name operands n.0 e n.1 is)
+
+turn_says : (k name : List ℕ) (operands : Words) (w : When) (e : Event) → turn_time k ≡ Some w → IsEvent name operands e
+    → IsTimed (codes "turn" ∷ k ∷ name ∷ operands) (timed_when w e)
+turn_says k name operands w e h is =
+    let n = number_read Turn (turn_of k) w h in
+    subst (λ (v : When). IsTimed (codes "turn" ∷ k ∷ name ∷ operands) (timed_when v e)) n.2 (is_turn k name operands n.0 e n.1 is)
 
 -- what is read is what the words say
 pub timed_case : (ws : Words) (t : Timed) → timed_of ws ≡ Ok t → IsTimed ws t
@@ -101,9 +127,16 @@ unfolding timed_of
 timed_case [] t h = absurd cc
 timed_case (first ∷ rest) t h =
     elim (cases_Bool (bytes_eq first (codes "at"))) [
-      | inl same ↦ subst (λ (x : List ℕ). IsTimed (x ∷ rest) t) (sym ((bytes_eq-Decides first (codes "at")).0 same)) (at_case rest t (rw same at h))
-      | inr apart ↦ absurd (cc (rw apart at h))
+      | inl same ↦ subst (λ (x : List ℕ). IsTimed (x ∷ rest) t) (sym ((bytes_eq-Decides first (codes "at")).0 same)) (behind_case (codes "at") count_time at_says rest t (rw same at h))
+      | inr apart ↦ turn_case (rw apart at h)
     ]
+  where
+    turn_case : cond (bytes_eq first (codes "turn")) (timed_by turn_time rest) (Err unknown_line) ≡ Ok t → IsTimed (first ∷ rest) t
+    turn_case g =
+        elim (cases_Bool (bytes_eq first (codes "turn"))) [
+          | inl same ↦ subst (λ (x : List ℕ). IsTimed (x ∷ rest) t) (sym ((bytes_eq-Decides first (codes "turn")).0 same)) (behind_case (codes "turn") turn_time turn_says rest t (rw same at g))
+          | inr apart ↦ absurd (cc (rw apart at g))
+        ]
 
 -- ---- the way back
 
@@ -117,5 +150,6 @@ event_is name ws e (is_show a l m n h g) = rw (h, g) refl
 
 -- what the words say is read
 pub timed_is : (ws : Words) (t : Timed) → IsTimed ws t → timed_of ws ≡ Ok t
-unfolding timed_of at_of
+unfolding timed_of timed_by
 timed_is ws t (is_at k name operands n e h is) = rw (event_is name operands e is, h) refl
+timed_is ws t (is_turn k name operands n e h is) = rw (event_is name operands e is, h) refl

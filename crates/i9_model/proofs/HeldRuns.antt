@@ -12,7 +12,7 @@ use Rattle.i9_model.specs.State.{State, Frames, started, boot}
 use Rattle.i9_model.specs.Controls.{Control, KeepsControls, Restarts, LoadsGroup, controlled}
 use Rattle.i9_model.specs.Step.{Move, Stays, Saves, Returns, Flushes, Action, memory_after, moved, acted, counted}
 use Rattle.i9_model.specs.Sound.{IsSound}
-use Rattle.i9_model.specs.Run.{Given, action_by_kind, action_done, counts_of, Record, record_of, Does, Due, state_after, due_after, event_after, next_in, IsPast}
+use Rattle.i9_model.specs.Run.{Given, action_by_kind, action_done, counts_of, Record, record_of, Does, Due, state_after, due_after, next_in, next_with, IsPastOfSome}
 use Rattle.i9_model.specs.Alike.{is_compared, with_other, with_memory, AreAlike}
 use Rattle.i9_model.specs.HeldFrames.{Cache, cache, spilled, over, overlaid, cache_moved, cache_acted, cache_configured, sets_in, renewed, cache_after, AreYoungest, IsCached}
 use Rattle.i9_model.specs.Free.{ComesAfterFlush, IsFree}
@@ -153,14 +153,14 @@ cached-boot image = record { bytes = λ x h. refl; regions = refl; youngest = re
 cached-counted : (n : ℕ) (s : State) (c : Cache) → IsCached s c → IsCached (counted n s) c
 cached-counted n s c cached = record { bytes = cached.bytes; regions = cached.regions; youngest = cached.youngest }
 
-pub cached-after : (g : Given) (rs : List Record) → IsPast g rs → IsCached (state_after g rs) (cache_after g rs)
+pub cached-after : (g : Given) (rs : List Record) → IsPastOfSome (next_with g) rs → IsCached (state_after g rs) (cache_after g rs)
 cached-after g [] past = cached-boot g.image
 cached-after g (r ∷ rs) past =
     let s = state_after g rs in
     let a = action_by_kind r.kind s in
     let n = sets_in g.sets s in
     let c = cache_after g rs in
-    let free = next_free g.length (due_after rs) (event_after g rs) s r past.1 in
+    let free = next_free g.length (due_after rs) past.1.0 s r past.1.1 in
     let here : IsCached (acted s a) (cache_configured (acted s a).memory (cache_acted n a c)) = cached-acted n s a c (sound-after g rs past.0) free.1 (cached-after g rs past.0) in
     subst (λ (q : Record). IsCached q.after (cache_configured q.after.memory (cache_acted (sets_in g.sets q.before) (action_done q) c))) (sym free.0)
     (cached-counted (counts_of r.kind) (acted s a) (cache_configured (acted s a).memory (cache_acted n a c)) here)

@@ -11,7 +11,7 @@ use Rattle.i9_model.specs.Writes.{address_count, wrapped}
 use Rattle.i9_model.specs.Memory.{Memory, in_port_page, region_of, is_big, ordered_word, word_in, word_bytes, with_words}
 use Rattle.i9_model.specs.Frames.{in_bytes, in_frames}
 use Rattle.i9_model.specs.Sound.{AreApart}
-use Rattle.i9_model.specs.Run.{Given, Record, IsPast, state_after}
+use Rattle.i9_model.specs.Run.{Given, Record, IsPastOfSome, next_with, state_after}
 use Rattle.i9_model.specs.Alike.{with_other, is_hard}
 use Rattle.i9_model.specs.HeldFrames.{over, overlaid, cache_after, youngest_first, AreWhole, AreInMemory}
 use Rattle.i9_model.proofs.SoundRuns.{four_bytes, sound-after}
@@ -125,7 +125,7 @@ same_live m g h (f ∷ fs) older same has =
     )
 
 -- along a run
-pub held-in-memory : (g : Given) (rs : List Record) → IsPast g rs → AreInMemory (state_after g rs).memory (cache_after g rs).held
+pub held-in-memory : (g : Given) (rs : List Record) → IsPastOfSome (next_with g) rs → AreInMemory (state_after g rs).memory (cache_after g rs).held
 held-in-memory g rs past =
     let s = state_after g rs in
     let c = cache_after g rs in

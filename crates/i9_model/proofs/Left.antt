@@ -25,6 +25,7 @@ use Rattle.i9_model.specs.declared.interrupts.TheConstants.{NMI_VECTOR, PENDING_
 use Rattle.i9_model.specs.declared.event.Event.{Event}
 use Rattle.i9_model.specs.declared.event.Event.TheVariants as events
 use Rattle.i9_model.specs.declared.event.Timed.{Timed}
+use Rattle.i9_model.specs.declared.event.When.{When}
 use Rattle.i9_model.specs.declared.run.Due.{Due}
 use Rattle.i9_model.specs.declared.run.Due.TheVariants as dues
 use Rattle.i9_model.specs.State.{State, Interrupts, started}
@@ -32,7 +33,7 @@ use Rattle.i9_model.specs.Controls.{Control, KeepsControls, Restarts, LoadsGroup
 use Rattle.i9_model.specs.Tables.{group_words}
 use Rattle.i9_model.specs.Hazards.{read_hazard}
 use Rattle.i9_model.specs.Interrupts.{with_bit, without_bit, is_asked, is_requested, passes, vector_priority, choice, choices, chosen_of, chosen, chosen_soft, cleared, posted}
-use Rattle.i9_model.specs.ScheduleText.{time_of, event_at, standing}
+use Rattle.i9_model.specs.ScheduleText.{event_where, has_come_at, has_come_by, standing, standing_by}
 use Rattle.i9_model.specs.Memory.{word_in}
 use Rattle.i9_model.specs.Branches.{asks, question_of}
 use Rattle.i9_model.specs.Operands.{with_pending, with_mask, interrupts_assigned, address}
@@ -324,17 +325,27 @@ drop_work (x ∷ plan) zero t is = let same : x ≡ t = cc in ap (λ (y : Timed)
 drop_work (x ∷ plan) (suc place) t is = drop_work plan place t is
 
 -- an event that stands is the one at its place
-pub stands_there : (k : ℕ) (o : Option Timed) (e : Event) → event_at k o ≡ Some e → (t : Timed) × (o ≡ Some t) × (t.event ≡ e)
-stands_there k None e is = absurd cc
-stands_there k (Some t) e is = by_time (time_of t == k) is
+pub stands_there : (has_come : When → Bool) (o : Option Timed) (e : Event) → event_where has_come o ≡ Some e → (t : Timed) × (o ≡ Some t) × (t.event ≡ e)
+stands_there has_come None e is = absurd cc
+stands_there has_come (Some t) e is = by_time (has_come t.when) is
   where
     by_time : (b : Bool) → cond b (Some t.event) None ≡ Some e → (u : Timed) × (Some t ≡ Some u) × (u.event ≡ e)
     by_time true h = (t, refl, cc)
     by_time false h = absurd cc
 
-event_less : (plan : List Timed) (place k : ℕ) (e : Event) → standing plan place k ≡ Some e → plan_work (drop place plan) ≡ event_work e + plan_work (drop (place + 1) plan)
-event_less plan place k e is =
-    let found = stands_there k (slice_get plan place) e is in
+-- what may stand is the event at a place of a plan, or none
+abbrev pub IsAtPlace : List Timed → ℕ → Option Event → Type 0
+IsAtPlace plan place o = (e : Event) → o ≡ Some e → (t : Timed) × (slice_get plan place ≡ Some t) × (t.event ≡ e)
+
+pub standing_at_place : (plan : List Timed) (place k : ℕ) → IsAtPlace plan place (standing plan place k)
+standing_at_place plan place k e is = stands_there (has_come_at k) (slice_get plan place) e is
+
+pub standing_by_place : (plan : List Timed) (place k t : ℕ) → IsAtPlace plan place (standing_by plan place k t)
+standing_by_place plan place k t e is = stands_there (has_come_by k t) (slice_get plan place) e is
+
+event_less : (plan : List Timed) (place : ℕ) (o : Option Event) (e : Event) → IsAtPlace plan place o → o ≡ Some e → plan_work (drop place plan) ≡ event_work e + plan_work (drop (place + 1) plan)
+event_less plan place o e there is =
+    let found = there e is in
     let more : suc place ≡ place + 1 = omega arith in
     drop_work plan place found.0 found.1
     ∙ ap (λ (x : Event). event_work x + plan_work (drop (suc place) plan)) found.2
@@ -378,42 +389,43 @@ instruction_leaves limit plan place due i s other =
     let posts = action_posts i s in
     quiet_leaves limit plan place due (Instruction i) s refl (λ h. omega (arith, other)) (omega (arith, small, acts, posts))
 
-reached_leaves : (limit : ℕ) (plan : List Timed) (place : ℕ) (due : Due) (e : Event) (u : Received) (s : State) → standing plan place s.count ≡ Some e → received_in s e ≡ Ok u → Leaves limit plan place due s (record_of (Reached e u) s)
+reached_leaves : (limit : ℕ) (plan : List Timed) (place : ℕ) (due : Due) (o : Option Event) (e : Event) (u : Received) (s : State) → IsAtPlace plan place o → o ≡ Some e → received_in s e ≡ Ok u → Leaves limit plan place due s (record_of (Reached e u) s)
 unfolding left_in
-reached_leaves limit plan place due e u s stands does =
+reached_leaves limit plan place due o e u s there stands does =
     let count = counts_after (Reached e u) s in
     let acts = acted_asked s (receiving u s) in
     let posts = received_most s e u does in
-    let work = event_less plan place s.count e stands in
+    let work = event_less plan place o e there stands in
     record { within = λ h. omega (arith, count); less = λ h. omega (arith, count, acts, posts, work) }
 
-blocked_leaves : (limit : ℕ) (plan : List Timed) (place : ℕ) (due : Due) (e : Event) (a : ℕ) (s : State) → standing plan place s.count ≡ Some e → Leaves limit plan place due s (record_of (Blocked e a) s)
+blocked_leaves : (limit : ℕ) (plan : List Timed) (place : ℕ) (due : Due) (o : Option Event) (e : Event) (a : ℕ) (s : State) → IsAtPlace plan place o → o ≡ Some e → Leaves limit plan place due s (record_of (Blocked e a) s)
 unfolding left_in
-blocked_leaves limit plan place due e a s stands =
+blocked_leaves limit plan place due o e a s there stands =
     let count = counts_after (Blocked e a) s in
     let acts = acted_asked s (going s s.ip) in
     let some = some_work e in
-    let work = event_less plan place s.count e stands in
+    let work = event_less plan place o e there stands in
     record { within = λ h. omega (arith, count); less = λ h. omega (arith, count, acts, some, work) }
 
-kind_leaves : (limit : ℕ) (plan : List Timed) (place : ℕ) (due : Due) (k : Kind) (s : State) → MayCome limit due (standing plan place s.count) s k → Leaves limit plan place due s (record_of k s)
-kind_leaves limit plan place due (Instruction i) s may = instruction_leaves limit plan place due i s may.1
-kind_leaves limit plan place due (Faulted inst fault) s may =
+kind_leaves : (limit : ℕ) (plan : List Timed) (place : ℕ) (due : Due) (o : Option Event) (k : Kind) (s : State) → IsAtPlace plan place o → MayCome limit due o s k → Leaves limit plan place due s (record_of k s)
+kind_leaves limit plan place due o (Instruction i) s there may = instruction_leaves limit plan place due i s may.1
+kind_leaves limit plan place due o (Faulted inst fault) s there may =
     let other = may.1 in
     let acts = acted_asked s (action_by_kind (Faulted inst fault) s) in
     quiet_leaves limit plan place due (Faulted inst fault) s refl (λ h. omega (arith, other)) (omega (arith, acts))
-kind_leaves limit plan place due (Entered e) s may =
+kind_leaves limit plan place due o (Entered e) s there may =
     let is : pending due ≡ 1 = ap pending may.1 in
     let acts = acted_asked s (entering e s) in
     quiet_leaves limit plan place due (Entered e) s refl (λ h. omega arith) (omega (arith, is, acts))
-kind_leaves limit plan place due (Interrupted c e) s may =
+kind_leaves limit plan place due o (Interrupted c e) s there may =
     let acts = acted_asked s (interrupting c e s) in
     let less = entry_less s c may.2 in
     quiet_leaves limit plan place due (Interrupted c e) s refl (λ h. omega arith) (omega (arith, acts, less))
-kind_leaves limit plan place due (Reached e u) s may = reached_leaves limit plan place due e u s may.2 may.3
-kind_leaves limit plan place due (Blocked e a) s may = blocked_leaves limit plan place due e a s may.2
+kind_leaves limit plan place due o (Reached e u) s there may = reached_leaves limit plan place due o e u s there may.2 may.3
+kind_leaves limit plan place due o (Blocked e a) s there may = blocked_leaves limit plan place due o e a s there may.2
 
-pub next_leaves : (limit : ℕ) (plan : List Timed) (place : ℕ) (due : Due) (s : State) (r : Record) → next_in limit due (standing plan place s.count) s ≡ Does r → Leaves limit plan place due s r
-next_leaves limit plan place due s r e =
-    let comes = next_comes limit due (standing plan place s.count) s r e in
-    subst (Leaves limit plan place due s) (sym comes.0) (kind_leaves limit plan place due r.kind s comes.1)
+-- where the event at the place of a plan stands, or none
+pub next_leaves : (limit : ℕ) (plan : List Timed) (place : ℕ) (due : Due) (o : Option Event) (s : State) (r : Record) → IsAtPlace plan place o → next_in limit due o s ≡ Does r → Leaves limit plan place due s r
+next_leaves limit plan place due o s r there e =
+    let comes = next_comes limit due o s r e in
+    subst (Leaves limit plan place due s) (sym comes.0) (kind_leaves limit plan place due o r.kind s there comes.1)

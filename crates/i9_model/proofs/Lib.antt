@@ -60,3 +60,5 @@ pub mod Plans
 pub mod Replay
 pub mod PlannedRuns
 pub mod KeptBits
+pub mod Heedful
+pub mod TurnPending

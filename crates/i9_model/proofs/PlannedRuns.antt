@@ -1,34 +1,40 @@
--- A run reaches the first events of its plan in order, and is also the run of these events alone.
-use Rattle.std.proofs.Common.{◌≡◌, ℕ, Bool, true, false, cond, eqb, List, [], ◌∷◌, ◌++◌, length, Option, Some, None, refl, sym, ap, subst, ◌∙◌, arith, inl, inr, ◌⊎◌, append_assoc, length-append}
+-- A run reaches the first events of its plan in order, and is also the run of these events alone; and records that come
+-- next with some events are those of a run whose plan is these events.
+use Rattle.std.proofs.Common.{◌≡◌, ℕ, ◌+◌, ◌≤◌, Bool, true, false, cond, eqb, List, [], ◌∷◌, ◌++◌, length, Option, Some, None, refl, sym, ap, subst, ◌∙◌, arith, inl, inr, ◌⊎◌, append_assoc, length-append}
 use Rattle.std.specs.List.{slice_get}
 use Rattle.std.proofs.lemmas.Bool.{eqb-true}
 use Rattle.std.proofs.lemmas.List.{append-nil}
 use Rattle.std.proofs.lemmas.Option.{slice_get_past}
 use Rattle.i9_model.specs.declared.event.Event.{Event}
 use Rattle.i9_model.specs.declared.event.When.{When}
-use Rattle.i9_model.specs.declared.event.When.TheVariants.{At}
+use Rattle.i9_model.specs.declared.event.When.TheVariants.{At, Turn}
 use Rattle.i9_model.specs.declared.event.Timed.{Timed}
-use Rattle.i9_model.specs.ScheduleText.{timed_at, at_time, time_of, event_at, standing}
-use Rattle.i9_model.specs.Run.{Record, End, Does, Ends}
-use Rattle.i9_model.specs.PlannedRuns.{Stepping, Tally, IsHeedful, next_by, IsPastBy}
+use Rattle.i9_model.specs.ScheduleText.{timed_at, has_come_at, event_at, standing}
+use Rattle.i9_model.specs.Run.{Record, End, Does, Ends, IsPastOfSome}
+use Rattle.i9_model.specs.PlannedRuns.{Stepping, Tally, IsHeedful, IsCounted, next_by, IsPastBy}
 
 at_seam : (xs ys : List Timed) → slice_get (xs ++ ys) (length xs) ≡ slice_get ys 0
 at_seam [] ys = refl
 at_seam (x ∷ xs) ys = at_seam xs ys
 
-at_own_time : (w : When) (e : Event) (k : ℕ) → at_time w ≡ k → timed_at k e ≡ record { when = w; event = e }
-at_own_time (At m) e k h = ap (λ (n : ℕ). timed_at n e) (sym h)
-
-stands : (k : ℕ) (t : Timed) (e : Event) (b : Bool) → eqb (time_of t) k ≡ b → cond b (Some t.event) None ≡ Some e → t ≡ timed_at k e
-stands k t e true test h =
-    let same : t.event ≡ e = cc in
-    sym (at_own_time t.when t.event k (eqb-true _ _ test)) ∙ ap (timed_at k) same
-stands k t e false test h = absurd cc
+-- an event whose time has come after so many instructions is timed at them
+stands : (k : ℕ) (w : When) (x e : Event) → cond (has_come_at k w) (Some x) None ≡ Some e → record { when = w; event = x } ≡ timed_at k e
+stands k (At n) x e h = by_test (eqb n k) refl h
+  where
+    by_test : (b : Bool) → eqb n k ≡ b → cond b (Some x) None ≡ Some e → timed_at n x ≡ timed_at k e
+    by_test true is found =
+        let same : x ≡ e = cc in
+        ap (λ (m : ℕ). timed_at m x) (eqb-true _ _ is) ∙ ap (timed_at k) same
+    by_test false is found = absurd (cc found)
+stands k (Turn n) x e h = absurd (cc h)
 
 -- the event that stands there is the first of those that are left
 first_left : (k : ℕ) (rest : List Timed) (e : Event) → event_at k (slice_get rest 0) ≡ Some e → (more : List Timed) × (rest ≡ timed_at k e ∷ more)
 first_left k [] e h = absurd cc
-first_left k (t ∷ ts) e h = (ts, ap (λ (x : Timed). x ∷ ts) (stands k t e (eqb (time_of t) k) refl h))
+first_left k (t ∷ ts) e h = (ts, ap (λ (x : Timed). x ∷ ts) (stands k t.when t.event e h))
+
+same_count : (n : ℕ) → eqb n n ≡ true
+same_count n = grind (arith)
 
 same_record : (r q : Record) → Does r ≡ Does q → r ≡ q
 same_record r q e = cc
@@ -110,3 +116,94 @@ module _ (next : Stepping) (tally : Tally) (heeds : IsHeedful next tally) where
         past_of_front rs plan (tally.reached rs) front.0 [] front.1 (append-nil (tally.reached rs)) past,
         ap (λ (t : Option Timed). next (event_at (tally.count rs) t) rs) none_left ∙ end_unheard rs f (standing plan (length (tally.reached rs)) (tally.count rs)) ends,
       )
+
+  -- ---- the plan of the events that were reached
+
+  -- an event behind the plan, at a count that is not reached before the record is done, changes nothing
+  still_last : (rs : List Record) (r : Record) (plan : List Timed) (k : ℕ) (e : Event) → IsCounted next tally
+      → tally.reached rs ≡ plan → next_by next tally plan rs ≡ Does r → tally.count (r ∷ rs) ≤ k
+      → next_by next tally (plan ++ timed_at k e ∷ []) rs ≡ Does r
+  still_last rs r plan k e counted same h le =
+      ap (λ (o : Option Timed). next (event_at (tally.count rs) o) rs) there ∙ by_count (eqb k (tally.count rs)) refl
+    where
+      there : slice_get (plan ++ timed_at k e ∷ []) (length (tally.reached rs)) ≡ Some (timed_at k e)
+      there =
+          ap (λ (p : List Timed). slice_get (p ++ timed_at k e ∷ []) (length (tally.reached rs))) (sym same)
+          ∙ at_seam (tally.reached rs) (timed_at k e ∷ [])
+
+      -- under the plan no event stands there
+      without : next None rs ≡ Does r
+      without =
+          let none : slice_get plan (length (tally.reached rs)) ≡ None =
+          ap (λ (p : List Timed). slice_get p (length (tally.reached rs))) (sym same)
+          ∙ slice_get_past (tally.reached rs) (length (tally.reached rs)) (omega arith) in
+          ap (λ (t : Option Timed). next (event_at (tally.count rs) t) rs) (sym none) ∙ h
+
+      by_count : (b : Bool) → eqb k (tally.count rs) ≡ b → next (cond (eqb k (tally.count rs)) (Some e) None) rs ≡ Does r
+      by_count false is = ap (λ (c : Bool). next (cond c (Some e) None) rs) is ∙ without
+      by_count true is =
+          let at : k ≡ tally.count rs = eqb-true _ _ is in
+          ap (λ (c : Bool). next (cond c (Some e) None) rs) is ∙ elim (heeds.heard rs e) [
+            | inl quiet ↦ quiet ∙ without
+            | inr found ↦
+                let one : tally.count (r ∷ rs) ≡ tally.count rs + 1 = counted.counts rs e found.0 r found.1 found.2 without in
+                absurd (omega (arith, one, at, le))
+          ]
+
+  -- the first records by a plan are those by the plan with one event more, at a count that has come last
+  with_more : (rs : List Record) (plan more : List Timed) (k : ℕ) (e : Event) → IsCounted next tally
+      → IsPastBy next tally plan rs → tally.reached rs ++ more ≡ plan → tally.count rs ≤ k
+      → IsPastBy next tally (plan ++ timed_at k e ∷ []) rs
+  with_more [] plan more k e counted past now le = tt
+  with_more (r ∷ rs) plan more k e counted past now le =
+      let o = standing plan (length (tally.reached rs)) (tally.count rs) in
+      let g = grown_by rs r o past.1 in
+      let before : tally.reached rs ++ (g.0 ++ more) ≡ plan =
+      sym (append_assoc (tally.reached rs) g.0 more) ∙ ap (λ (x : List Timed). x ++ more) (sym g.1) ∙ now in
+      let grows : tally.count rs ≤ tally.count (r ∷ rs) = counted.grows o rs r past.1 in
+      (with_more rs plan (g.0 ++ more) k e counted past.0 before (omega (arith, le, grows)), still (g.0 ++ more) before)
+    where
+      still : (left : List Timed) → tally.reached rs ++ left ≡ plan → next_by next tally (plan ++ timed_at k e ∷ []) rs ≡ Does r
+      still [] at = still_last rs r plan k e counted (sym (append-nil (tally.reached rs)) ∙ at) past.1 le
+      still (t ∷ left) at =
+          let n = length (tally.reached rs) in
+          let here : slice_get plan n ≡ Some t =
+          ap (λ (p : List Timed). slice_get p n) (sym at) ∙ at_seam (tally.reached rs) (t ∷ left) in
+          let long : tally.reached rs ++ (t ∷ left ++ timed_at k e ∷ []) ≡ plan ++ timed_at k e ∷ [] =
+          sym (append_assoc (tally.reached rs) (t ∷ left) (timed_at k e ∷ [])) ∙ ap (λ (x : List Timed). x ++ timed_at k e ∷ []) at in
+          let there : slice_get (plan ++ timed_at k e ∷ []) n ≡ Some t =
+          ap (λ (p : List Timed). slice_get p n) (sym long) ∙ at_seam (tally.reached rs) (t ∷ left ++ timed_at k e ∷ []) in
+          ap (λ (o : Option Timed). next (event_at (tally.count rs) o) rs) (there ∙ sym here) ∙ past.1
+
+  -- where so many events were reached, none of them stands any more
+  none_left : (rs : List Record) → standing (tally.reached rs) (length (tally.reached rs)) (tally.count rs) ≡ None
+  none_left rs =
+      ap (event_at (tally.count rs)) (slice_get_past (tally.reached rs) (length (tally.reached rs)) (omega arith))
+
+  -- an event that is timed at the count stands behind those that were reached
+  one_left : (rs : List Record) (e : Event)
+      → standing (tally.reached rs ++ timed_at (tally.count rs) e ∷ []) (length (tally.reached rs)) (tally.count rs) ≡ Some e
+  one_left rs e =
+      ap (event_at (tally.count rs)) (at_seam (tally.reached rs) (timed_at (tally.count rs) e ∷ []))
+      ∙ ap (λ (b : Bool). cond b (Some e) None) (same_count (tally.count rs))
+
+  -- records that come next with any events are those of the plan of the events that they reached
+  pub past_of_reached : (rs : List Record) → IsCounted next tally → IsPastOfSome next rs → IsPastBy next tally (tally.reached rs) rs
+  past_of_reached [] counted past = tt
+  past_of_reached (r ∷ rs) counted past =
+      let before = past_of_reached rs counted past.0 in
+      elim (grown rs r past.1.0 past.1.1) [
+        | inl quiet ↦
+            subst (λ (plan : List Timed). IsPastBy next tally plan rs × (next_by next tally plan rs ≡ Does r)) (sym quiet.0)
+            (before, ap (λ (o : Option Event). next o rs) (none_left rs) ∙ quiet.1)
+        | inr found ↦
+            let is : next (Some found.0) rs ≡ Does r = ap (λ (o : Option Event). next o rs) (sym found.1) ∙ past.1.1 in
+            subst (λ (plan : List Timed). IsPastBy next tally plan rs × (next_by next tally plan rs ≡ Does r)) (sym found.2) (
+              with_more rs (tally.reached rs) [] (tally.count rs) found.0 counted before (append-nil (tally.reached rs)) (omega arith),
+              ap (λ (o : Option Event). next o rs) (one_left rs found.0) ∙ is,
+            )
+      ]
+
+  -- and so is an end that comes next with any event
+  pub end_of_reached : (rs : List Record) (f : End) (o : Option Event) → next o rs ≡ Ends f → next_by next tally (tally.reached rs) rs ≡ Ends f
+  end_of_reached rs f o h = ap (λ (x : Option Event). next x rs) (none_left rs) ∙ end_unheard rs f o h

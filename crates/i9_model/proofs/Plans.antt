@@ -1,5 +1,5 @@
 -- The events of a schedule are in range, in order, and not too many.
-use Rattle.std.proofs.Common.{◌≡◌, ℕ, ◌-◌, ◌*◌, ◌<◌, ◌≤◌, Bool, true, false, cond, ltb, List, [], ◌∷◌, ◌++◌, length, Option, Some, None, Result, Ok, Err, refl, ap, subst, ◌∙◌, arith, inl, inr, ◌⊎◌, length-append, ◌||◌, ◌==◌}
+use Rattle.std.proofs.Common.{◌≡◌, ℕ, ◌-◌, ◌*◌, ◌<◌, ◌≤◌, Bool, true, false, cond, ltb, List, [], ◌∷◌, ◌++◌, length, Option, Some, None, Result, Ok, Err, refl, sym, ap, subst, ◌∙◌, arith, inl, inr, ◌⊎◌, length-append, ◌||◌, ◌==◌}
 use Rattle.std.specs.Option.{option_and_then}
 use Rattle.std.specs.Result.{result_ok}
 use Rattle.std.specs.List.{slice_get, AllByRecursion}
@@ -9,10 +9,10 @@ use Rattle.hex.proofs.HexLemmas.{decode_of-ok}
 use Rattle.i9_text.specs.Text.{number_of}
 use Rattle.i9_text.specs.FirstFault.{SaysAll}
 use Rattle.i9_model.specs.Events.{Words, within, number_in, bytes_in, IsInRange, IsUnit, IsEvent, is_pin, is_nmi, is_dma, is_feed, is_show, last_pin, last_channel, last_address, most_shown}
-use Rattle.i9_model.specs.ScheduleText.{last_count, most_events, order_fault, fault_after, fault_of_count, first_fault, Says, says_nothing, says_event, IsTimed, is_at, IsSchedule, time_of, at_time, IsTimedInRange, InOrder, IsPlan}
+use Rattle.i9_model.specs.ScheduleText.{last_count, last_turn, most_events, earlier_fault, order_fault, fault_after, fault_of_count, first_fault, Says, says_nothing, says_event, IsTimed, is_at, is_turn, IsSchedule, time_of, at_time, is_counted, AreCounted, IsTimedInRange, InOrder, IsPlan}
 use Rattle.i9_model.specs.declared.event.Event.{Event}
 use Rattle.i9_model.specs.declared.event.When.{When}
-use Rattle.i9_model.specs.declared.event.When.TheVariants.{At}
+use Rattle.i9_model.specs.declared.event.When.TheVariants.{At, Turn}
 use Rattle.i9_model.specs.declared.event.Timed.{Timed}
 
 -- ---- what is read is in range
@@ -28,7 +28,7 @@ number_within : (low high n : ℕ) (o : Option ℕ) → option_and_then (within 
 number_within low high n None h = absurd cc
 number_within low high n (Some m) h = within_some low high m n _ _ refl refl h
 
-in_range : (radix most low high n : ℕ) (word : List ℕ) → number_in radix most low high word ≡ Some n → (low ≤ n) × (n ≤ high)
+pub in_range : (radix most low high n : ℕ) (word : List ℕ) → number_in radix most low high word ≡ Some n → (low ≤ n) × (n ≤ high)
 unfolding number_in
 in_range radix most low high n word h = number_within low high n (number_of radix most word) h
 
@@ -63,7 +63,8 @@ event_in_range name ws e (is_feed c x n bs h g) = let b = bytes_in-range x bs g 
 event_in_range name ws e (is_show a l m n h g) = let b = in_range 10 10 1 most_shown n l g in ((in_range 16 8 0 last_address m a h).1, b.0, b.1)
 
 timed_in_range : (ws : Words) (t : Timed) → IsTimed ws t → IsTimedInRange t
-timed_in_range ws t (is_at k name operands n e h is) = record { count = (in_range 10 13 0 last_count n k h).1; event = event_in_range name operands e is }
+timed_in_range ws t (is_at k name operands n e h is) = record { time = (in_range 10 13 0 last_count n k h).1; event = event_in_range name operands e is }
+timed_in_range ws t (is_turn k name operands n e h is) = record { time = (in_range 10 13 0 last_turn n k h).1; event = event_in_range name operands e is }
 
 -- ---- the last time
 
@@ -82,14 +83,23 @@ last_found time x (z ∷ zs) = last_found (time_of x) z zs
 last_at : (x : Timed) (ts : List Timed) (y : Timed) → slice_get (x ∷ ts) (length ts) ≡ Some y → slice_get (x ∷ ts) (length (x ∷ ts) - 1) ≡ Some y
 last_at x ts y h = let e : length (x ∷ ts) - 1 ≡ length ts = omega arith in ap (slice_get (x ∷ ts)) e ∙ h
 
-order_times : (w v : When) → at_time w ≤ at_time v → order_fault w v ≡ None
-order_times (At m) (At n) h = rw (le-ltb _ _ h) refl
+order_times : (w v : When) → is_counted w ≡ is_counted v → at_time w ≤ at_time v → order_fault w v ≡ None
+order_times (At m) (At n) same h = rw (le-ltb _ _ h) refl
+order_times (Turn m) (Turn n) same h = rw (le-ltb _ _ h) refl
+order_times (At m) (Turn n) same h = absurd (cc same)
+order_times (Turn m) (At n) same h = absurd (cc same)
 
-times_order : (w v : When) → order_fault w v ≡ None → at_time w ≤ at_time v
-times_order (At m) (At n) h = elim (cases_lt n m) [
+number_order : (m n : ℕ) → earlier_fault m n ≡ None → m ≤ n
+number_order m n h = elim (cases_lt n m) [
   | inl lt ↦ absurd (grind (arith))
   | inr ge ↦ ge
 ]
+
+times_order : (w v : When) → order_fault w v ≡ None → (at_time w ≤ at_time v) × (is_counted v ≡ is_counted w)
+times_order (At m) (At n) h = (number_order m n h, refl)
+times_order (Turn m) (Turn n) h = (number_order m n h, refl)
+times_order (At m) (Turn n) h = absurd (cc h)
+times_order (Turn m) (At n) h = absurd (cc h)
 
 first_none : (a b : Option ℕ) → first_fault a b ≡ None → (a ≡ None) × (b ≡ None)
 first_none None b h = (refl, h)
@@ -104,13 +114,19 @@ few_none n h = elim (cases_lt n most_events) [
 few_fine : (n : ℕ) → n < most_events → fault_of_count n ≡ None
 few_fine n h = grind (arith)
 
--- an event follows those before it exactly where its time is not below the last, and they are fewer than the limit
-pub follows_fine : (ts : List Timed) (t : Timed) → last_time 0 ts ≤ time_of t → length ts < most_events → fault_after ts t ≡ None
+-- the last of events that are alike is like them
+last_counted : (b : Bool) (x : Timed) (ts : List Timed) (y : Timed) → AreCounted b (x ∷ ts) → slice_get (x ∷ ts) (length ts) ≡ Some y → is_counted y.when ≡ b
+last_counted b x [] y h is = let same : x ≡ y = cc in ap (λ (z : Timed). is_counted z.when) (sym same) ∙ h.0
+last_counted b x (z ∷ zs) y h is = last_counted b z zs y h.1 is
+
+-- an event follows those before it exactly where it is like them, its time is not below the last, and they are fewer than
+-- the limit
+pub follows_fine : (ts : List Timed) (t : Timed) → AreCounted (is_counted t.when) ts → last_time 0 ts ≤ time_of t → length ts < most_events → fault_after ts t ≡ None
 unfolding fault_after
-follows_fine [] t h few = few_fine 0 few
-follows_fine (x ∷ ts) t h few =
+follows_fine [] t alike h few = few_fine 0 few
+follows_fine (x ∷ ts) t alike h few =
     let l = last_found 0 x ts in
-    let order = order_times l.0.when t.when (omega (arith, h, l.2)) in
+    let order = order_times l.0.when t.when (last_counted (is_counted t.when) x ts l.0 alike l.1) (omega (arith, h, l.2)) in
     rw (last_at x ts l.0 l.1, order) (few_fine (length (x ∷ ts)) few)
 
 pub fine_follows : (ts : List Timed) (t : Timed) → fault_after ts t ≡ None → (last_time 0 ts ≤ time_of t) × (length ts < most_events)
@@ -119,13 +135,26 @@ fine_follows [] t h = (omega arith, few_none 0 h)
 fine_follows (x ∷ ts) t h =
     let l = last_found 0 x ts in
     let p = first_none (order_fault l.0.when t.when) (fault_of_count (length (x ∷ ts))) (rw (last_at x ts l.0 l.1) at h) in
-    (omega (arith, times_order l.0.when t.when p.0, l.2), few_none (length (x ∷ ts)) p.1)
+    (omega (arith, (times_order l.0.when t.when p.0).0, l.2), few_none (length (x ∷ ts)) p.1)
+
+-- and it is like them
+fine_alike : (ts : List Timed) (t : Timed) (b : Bool) → fault_after ts t ≡ None → AreCounted b ts → (c : Bool) × AreCounted c ts × (is_counted t.when ≡ c)
+unfolding fault_after
+fine_alike [] t b h alike = (is_counted t.when, tt, refl)
+fine_alike (x ∷ ts) t b h alike =
+    let l = last_found 0 x ts in
+    let p = first_none (order_fault l.0.when t.when) (fault_of_count (length (x ∷ ts))) (rw (last_at x ts l.0 l.1) at h) in
+    (b, alike, (times_order l.0.when t.when p.0).1 ∙ last_counted b x ts l.0 alike l.1)
 
 -- ---- one event more
 
 AllTimedInRange-push : (ts : List Timed) (t : Timed) → AllByRecursion IsTimedInRange ts → IsTimedInRange t → AllByRecursion IsTimedInRange (ts ++ t ∷ [])
 AllTimedInRange-push [] t h new = (new, tt)
 AllTimedInRange-push (x ∷ ts) t h new = (h.0, AllTimedInRange-push ts t h.1 new)
+
+pub AreCounted-push : (b : Bool) (ts : List Timed) (t : Timed) → AreCounted b ts → is_counted t.when ≡ b → AreCounted b (ts ++ t ∷ [])
+AreCounted-push b [] t h new = (new, tt)
+AreCounted-push b (x ∷ ts) t h new = (h.0, AreCounted-push b ts t h.1 new)
 
 InOrder-push : (time : ℕ) (ts : List Timed) (t : Timed) → InOrder time ts → last_time time ts ≤ time_of t → InOrder time (ts ++ t ∷ [])
 InOrder-push time [] t h new = (new, tt)
@@ -135,10 +164,12 @@ line_plan : (ts us : List Timed) (line : List ℕ) → Says ts line us → IsPla
 line_plan ts us line (says_nothing xs l ascii skipped) plan = plan
 line_plan ts us line (says_event xs l t ascii some is fine) plan =
     let f = fine_follows xs t fine in
+    let c = fine_alike xs t plan.alike.0 fine plan.alike.1 in
     record {
       each = AllTimedInRange-push xs t plan.each (timed_in_range _ t is);
       order = InOrder-push 0 xs t plan.order f.0;
       few = omega (arith, length-append xs (t ∷ []), f.1);
+      alike = (c.0, AreCounted-push c.0 xs t c.1 c.2);
     }
 
 lines_plan : (ts us : List Timed) (lines : List (List ℕ)) → SaysAll Says ts lines us → IsPlan ts → IsPlan us
@@ -147,7 +178,7 @@ lines_plan ts us (line ∷ lines) h plan = lines_plan h.0 us lines h.2 (line_pla
 
 -- what a schedule's lines say
 pub schedule_is_plan : (lines : List (List ℕ)) (ts : List Timed) → IsSchedule lines ts → IsPlan ts
-schedule_is_plan lines ts h = lines_plan [] ts lines h (record { each = tt; order = tt; few = omega arith })
+schedule_is_plan lines ts h = lines_plan [] ts lines h (record { each = tt; order = tt; few = omega arith; alike = (true, tt) })
 
 -- ---- the front of a plan is one
 
@@ -159,5 +190,14 @@ front_order : (time : ℕ) (ts us : List Timed) → InOrder time (ts ++ us) → 
 front_order time [] us h = tt
 front_order time (t ∷ ts) us h = (h.0, front_order (time_of t) ts us h.1)
 
+front_alike : (b : Bool) (ts us : List Timed) → AreCounted b (ts ++ us) → AreCounted b ts
+front_alike b [] us h = tt
+front_alike b (t ∷ ts) us h = (h.0, front_alike b ts us h.1)
+
 pub front_is_plan : (ts us : List Timed) → IsPlan (ts ++ us) → IsPlan ts
-front_is_plan ts us h = record { each = front_each ts us h.each; order = front_order 0 ts us h.order; few = omega (arith, h.few, length-append ts us) }
+front_is_plan ts us h = record {
+  each = front_each ts us h.each;
+  order = front_order 0 ts us h.order;
+  few = omega (arith, h.few, length-append ts us);
+  alike = (h.alike.0, front_alike h.alike.0 ts us h.alike.1);
+}

@@ -12,10 +12,10 @@ use Rattle.i9_model.specs.declared.event.Event.{Event}
 use Rattle.i9_model.specs.declared.event.Timed.{Timed}
 use Rattle.i9_model.specs.Run.{Point, End, Exit, Limit, Hazard, Dead, Imprecise}
 use Rattle.i9_model.specs.Events.{journal_text}
-use Rattle.i9_model.specs.ScheduleText.{most_events, timed_at, Says, says_nothing, says_event, IsSchedule, IsTimedInRange, InOrder, IsPlan, is_skipped, fault_after}
+use Rattle.i9_model.specs.ScheduleText.{most_events, timed_at, Says, says_nothing, says_event, IsSchedule, IsTimedInRange, InOrder, IsPlan, IsByCounts, is_skipped, fault_after}
 use Rattle.i9_model.specs.PrintedText.{Shown, Out, Drained, Journal, Bytes, Last, out_text, spaced, words_text, drained_text, point_text, point_shown, end_text, event_text, spaced_byte, bytes_text, text_of, events_of}
 use Rattle.i9_model.proofs.ReadBack.{journal_plain, journal_ascii, journal_not_skipped, journal_says}
-use Rattle.i9_model.proofs.Plans.{last_time, last_time-push, follows_fine}
+use Rattle.i9_model.proofs.Plans.{last_time, last_time-push, AreCounted-push, follows_fine}
 use Rattle.i9_model.specs.declared.run.Point.TheVariants as points
 
 -- a text that says nothing, whatever stands behind it
@@ -105,25 +105,25 @@ unfolding event_text
 event_passes k e ts us rest range fine h =
     let line = journal_text k e in
     let lines : texts.lines_of ((line ++ 10 ∷ []) ++ rest) ≡ line ∷ texts.lines_of rest = ap texts.lines_of (append_assoc line (10 ∷ []) rest) ∙ lines_of-then line rest (journal_plain k e) in
-    let says = says_event ts line (timed_at k e) (journal_ascii k e) (journal_not_skipped k e range.count range.event) (journal_says k e range.count range.event) fine in
+    let says = says_event ts line (timed_at k e) (journal_ascii k e) (journal_not_skipped k e range.time range.event) (journal_says k e range.time range.event) fine in
     subst (λ (x : List (List ℕ)). SaysAll Says ts x us) (sym lines) (ts ++ timed_at k e ∷ [], says, h)
 
 -- ---- all lines
 
-replay_from : (ls : List Shown) (ts : List Timed) → AllByRecursion IsTimedInRange (events_of ls) → InOrder (last_time 0 ts) (events_of ls) → length ts + length (events_of ls) ≤ most_events
+replay_from : (ls : List Shown) (ts : List Timed) → IsByCounts ts → AllByRecursion IsTimedInRange (events_of ls) → InOrder (last_time 0 ts) (events_of ls) → length ts + length (events_of ls) ≤ most_events
     → SaysAll Says ts (texts.lines_of (text_of ls)) (ts ++ events_of ls)
-replay_from [] ts each order few = (ts, says_nothing ts [] refl refl, sym (append-nil ts))
-replay_from (Out b ∷ ls) ts each order few = passes_out b ts _ (text_of ls) (replay_from ls ts each order few)
-replay_from (Drained k v ∷ ls) ts each order few = passes_shown_point k v ts _ (text_of ls) (replay_from ls ts each order few)
-replay_from (Bytes a bs ∷ ls) ts each order few = passes_bytes a bs ts _ (text_of ls) (replay_from ls ts each order few)
-replay_from (Last f ∷ ls) ts each order few = passes_finish f ts _ (text_of ls) (replay_from ls ts each order few)
-replay_from (Journal k e ∷ ls) ts each order few =
+replay_from [] ts counted each order few = (ts, says_nothing ts [] refl refl, sym (append-nil ts))
+replay_from (Out b ∷ ls) ts counted each order few = passes_out b ts _ (text_of ls) (replay_from ls ts counted each order few)
+replay_from (Drained k v ∷ ls) ts counted each order few = passes_shown_point k v ts _ (text_of ls) (replay_from ls ts counted each order few)
+replay_from (Bytes a bs ∷ ls) ts counted each order few = passes_bytes a bs ts _ (text_of ls) (replay_from ls ts counted each order few)
+replay_from (Last f ∷ ls) ts counted each order few = passes_finish f ts _ (text_of ls) (replay_from ls ts counted each order few)
+replay_from (Journal k e ∷ ls) ts counted each order few =
     let t = timed_at k e in
     let last : last_time 0 (ts ++ t ∷ []) ≡ k = last_time-push 0 ts t in
     let later = subst (λ (x : ℕ). InOrder x (events_of ls)) (sym last) order.1 in
-    let rest = replay_from ls (ts ++ t ∷ []) each.1 later (omega (arith, few, length-append ts (t ∷ []))) in
+    let rest = replay_from ls (ts ++ t ∷ []) (AreCounted-push true ts t counted refl) each.1 later (omega (arith, few, length-append ts (t ∷ []))) in
     let whole = subst (λ (x : List Timed). SaysAll Says (ts ++ t ∷ []) (texts.lines_of (text_of ls)) x) (append_assoc ts (t ∷ []) (events_of ls)) rest in
-    event_passes k e ts _ (text_of ls) each.0 (follows_fine ts t order.0 (omega (arith, few))) whole
+    event_passes k e ts _ (text_of ls) each.0 (follows_fine ts t counted order.0 (omega (arith, few))) whole
 
 pub replay : (ls : List Shown) → IsPlan (events_of ls) → IsSchedule (texts.lines_of (text_of ls)) (events_of ls)
-replay ls plan = replay_from ls [] plan.each plan.order (omega (arith, plan.few))
+replay ls plan = replay_from ls [] tt plan.each plan.order (omega (arith, plan.few))

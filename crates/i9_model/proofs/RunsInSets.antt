@@ -18,6 +18,7 @@ use Rattle.i9_model.proofs.Unique.{same_records, same_end}
 use Rattle.i9_model.proofs.Overlays.{over_mcon}
 use Rattle.i9_model.proofs.AlikeSteps.{alike_same, done_alike, due_alike, reached_alike, next_alike, does_alike, does_beside, ends_alike, ends_beside, lines_alike, view_alike}
 use Rattle.i9_model.proofs.HeldRuns.{configured_by, overlaid_memory, cached-after}
+use Rattle.i9_model.proofs.Heedful.{past_of_some}
 
 -- records of a machine with sets beside records of the one-at-a-time machine
 record AreBeside (g : Given) (rs qs : List Record) : Type 0 where
@@ -57,7 +58,7 @@ cache_in_sets g qs p =
 laid_alike : (g : Given) (rs : List Record) (r p : Record) → IsPast g (r ∷ rs) → AreAlike r.after p.after → AreAlike r.after (record p.after { memory = overlaid (cache_after g (r ∷ rs)) })
 laid_alike g rs r p past same =
     let c = cache_after g (r ∷ rs) in
-    let cached = cached-after g (r ∷ rs) past in
+    let cached = cached-after g (r ∷ rs) (past_of_some g (r ∷ rs) past) in
     record {
       rest =
           ap (λ (u : State). record u { memory = overlaid c }) same.rest

@@ -9,7 +9,7 @@ pow_cases : (b : Bool) (x n : ℕ) → x < 2 ^ n → x + cond b (2 ^ n) 0 < 2 ^ 
 pow_cases true x n h = omega (arith, h)
 pow_cases false x n h = omega (arith, h)
 
-below_pow : (n : ℕ) (p : ℕ → Bool) → set_below n p < 2 ^ n
+pub below_pow : (n : ℕ) (p : ℕ → Bool) → set_below n p < 2 ^ n
 unfolding set_below
 below_pow zero p = lit< tt
 below_pow (suc n) p = pow_cases (p n) (set_below n p) n (below_pow n p)

@@ -23,7 +23,7 @@ use Rattle.i9_model.specs.Step.{Move, Stays, Saves, Returns, Flushes, Action, by
 use Rattle.i9_model.specs.Access.{Changes, message_access, moved_access, access_by_name, access_by, hazard_in, hazard_of}
 use Rattle.i9_model.specs.Sound.{IsSound}
 use Rattle.i9_model.specs.Free.{IsFree}
-use Rattle.i9_model.specs.Run.{Given, Instruction, Faulted, Entered, Interrupted, Reached, Blocked, Kind, action_by_kind, Record, Does, Due, entry_in, state_after, due_after, event_after, next_in, IsPast}
+use Rattle.i9_model.specs.Run.{Given, Instruction, Faulted, Entered, Interrupted, Reached, Blocked, Kind, action_by_kind, Record, Does, Due, entry_in, state_after, due_after, next_in, next_with, IsPastOfSome}
 use Rattle.i9_model.specs.declared.layout.TheConstants.{FP, SP}
 use Rattle.i9_model.specs.declared.faults.Entry.{Entry}
 use Rattle.i9_model.specs.declared.interrupts.Chosen.{Chosen}
@@ -260,7 +260,7 @@ sound-boot : (image : List (ℕ × ℕ)) → IsSound (boot image).frames
 unfolding boot started
 sound-boot image = sound-none
 
--- frames are sound after each record of a run
-pub sound-after : (g : Given) (rs : List Record) → IsPast g rs → IsSound (state_after g rs).frames
+-- frames are sound after each record of a run, whatever events it meets
+pub sound-after : (g : Given) (rs : List Record) → IsPastOfSome (next_with g) rs → IsSound (state_after g rs).frames
 sound-after g [] past = sound-boot g.image
-sound-after g (r ∷ rs) past = next_sound g.length (due_after rs) (event_after g rs) (state_after g rs) r (sound-after g rs past.0) past.1
+sound-after g (r ∷ rs) past = next_sound g.length (due_after rs) past.1.0 (state_after g rs) r (sound-after g rs past.0) past.1.1

@@ -204,18 +204,32 @@ abbrev pub reached_after : List Record → List Timed
 reached_after [] = []
 reached_after (r ∷ rs) = reached_after rs ++ reached_by r.kind r.before
 
--- the event that stands there: the first one of the plan that was not reached, once its count has come
+-- The event that stands there: the first one of the plan that was not reached, once its count has come. One machine that
+-- does one thing after the other knows no turns, so no event that waits for a turn stands anywhere for it.
 abbrev pub event_after : Given → List Record → Option Event
 event_after g rs = standing g.plan (length (reached_after rs)) (state_after g rs).count
 
+-- what comes after the records where this event stands, or none
+abbrev pub next_with : Given → Option Event → List Record → Next
+next_with g stands rs = next_in g.length (due_after rs) stands (state_after g rs)
+
 -- what comes after the records
 abbrev pub next : Given → List Record → Next
-next g rs = next_in g.length (due_after rs) (event_after g rs) (state_after g rs)
+next g rs = next_with g (event_after g rs) rs
+
+-- each of these records is what comes after those before it
+abbrev pub IsPastOf : (List Record → Next) → List Record → Type 0
+IsPastOf comes [] = Unit {0}
+IsPastOf comes (r ∷ rs) = IsPastOf comes rs × (comes rs ≡ Does r)
 
 -- these are the first records of the run
 abbrev pub IsPast : Given → List Record → Type 0
-IsPast g [] = Unit {0}
-IsPast g (r ∷ rs) = IsPast g rs × (next g rs ≡ Does r)
+IsPast g rs = IsPastOf (next g) rs
+
+-- each of these records comes with some event or with none, whatever let that stand there
+abbrev pub IsPastOfSome : (Option Event → List Record → Next) → List Record → Type 0
+IsPastOfSome comes [] = Unit {0}
+IsPastOfSome comes (r ∷ rs) = IsPastOfSome comes rs × ((o : Option Event) × (comes o rs ≡ Does r))
 
 -- these are the records of the run, and this is its end
 pub record IsRun (g : Given) (rs : List Record) (end : End) : Type 0 where

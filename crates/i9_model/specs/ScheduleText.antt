@@ -1,6 +1,6 @@
 -- Schedules: what their lines say, and which fault a line has.
 use Rattle.std.specs.Prelude.{◌≡◌, ℕ, ◌-◌, ◌≤◌, List, [], ◌∷◌, ◌++◌, length, Bool, true, false, not, ◌==◌, ◌||◌, nat_lt, nat_le, if◌then◌else◌, codes, slice_index, Option, Some, None, Result, Ok, Err}
-use Rattle.std.specs.Option.{ok_or}
+use Rattle.std.specs.Option.{ok_or, option_map}
 use Rattle.std.specs.List.{slice_get, list_all, AllByRecursion}
 use Rattle.std.specs.Str.{bytes_eq}
 use Rattle.i9_text.specs.Text.{words_of}
@@ -8,13 +8,16 @@ use Rattle.i9_text.specs.FirstFault as texts
 use Rattle.i9_model.specs.Events.{Words, number_in, IsEvent, event_of, unknown_event, bad_operand, IsInRange}
 use Rattle.i9_model.specs.declared.event.Event.{Event}
 use Rattle.i9_model.specs.declared.event.When.{When}
-use Rattle.i9_model.specs.declared.event.When.TheVariants.{At}
+use Rattle.i9_model.specs.declared.event.When.TheVariants.{At, Turn}
 use Rattle.i9_model.specs.declared.event.Timed.{Timed}
 
 -- ---- limits
 
 abbrev pub last_count : ℕ
 last_count = 10000000
+
+abbrev pub last_turn : ℕ
+last_turn = 1000000000000
 
 abbrev pub most_events : ℕ
 most_events = 1000000
@@ -24,6 +27,9 @@ most_events = 1000000
 abbrev pub unknown_line : ℕ
 unknown_line = 1
 
+abbrev pub mixed_times : ℕ
+mixed_times = 4
+
 abbrev pub earlier_time : ℕ
 earlier_time = 5
 
@@ -32,18 +38,27 @@ too_many_events = 6
 
 -- ---- one line
 
--- a count of one to thirteen digits
+-- a count, and a turn, of one to thirteen digits
 abbrev pub count_of : List ℕ → Option ℕ
 count_of word = number_in 10 13 0 last_count word
+
+abbrev pub turn_of : List ℕ → Option ℕ
+turn_of word = number_in 10 13 0 last_turn word
 
 -- an event that happens after so many instructions
 abbrev pub timed_at : ℕ → Event → Timed
 timed_at k e = record { when = At k; event = e }
 
+-- one that happens before the first instruction that would issue at a turn or later
+abbrev pub timed_by_turn : ℕ → Event → Timed
+timed_by_turn t e = record { when = Turn t; event = e }
+
 -- which words say an event and when it happens
 pub data IsTimed : Words → Timed → Type 0 where
   is_at : (k name : List ℕ) (operands : Words) (n : ℕ) (e : Event) → count_of k ≡ Some n → IsEvent name operands e
       → IsTimed (codes "at" ∷ k ∷ name ∷ operands) (timed_at n e)
+  is_turn : (t name : List ℕ) (operands : Words) (n : ℕ) (e : Event) → turn_of t ≡ Some n → IsEvent name operands e
+      → IsTimed (codes "turn" ∷ t ∷ name ∷ operands) (timed_by_turn n e)
 
 abbrev pub and_then : {A B : Type 0} → Result A ℕ → (A → Result B ℕ) → Result B ℕ
 and_then (Ok x) f = f x
@@ -53,19 +68,30 @@ infixl 10 ◌>>=◌
 abbrev pub ◌>>=◌ : {A B : Type 0} → Result A ℕ → (A → Result B ℕ) → Result B ℕ
 r >>= f = and_then r f
 
--- what the words behind `at` say, or the kind of their fault; an unknown event comes before a bad count
-unfoldable pub at_of : Words → Result Timed ℕ
-at_of [] = Err unknown_event
-at_of (k ∷ []) = Err unknown_event
-at_of (k ∷ name ∷ operands) = do
+-- the time behind each of the first words
+abbrev pub count_time : List ℕ → Option When
+count_time word = option_map At (count_of word)
+
+abbrev pub turn_time : List ℕ → Option When
+turn_time word = option_map Turn (turn_of word)
+
+-- what the words behind the first one say, where the next one is read as this time, or the kind of their fault; an unknown
+-- event comes before a bad time
+unfoldable pub timed_by : (List ℕ → Option When) → Words → Result Timed ℕ
+timed_by time [] = Err unknown_event
+timed_by time (k ∷ []) = Err unknown_event
+timed_by time (k ∷ name ∷ operands) = do
   e ← event_of name operands
-  n ← ok_or (count_of k) bad_operand
-  Ok (timed_at n e)
+  w ← ok_or (time k) bad_operand
+  Ok (record { when = w; event = e })
 
 -- what words say, or the kind of their fault
 unfoldable pub timed_of : Words → Result Timed ℕ
 timed_of [] = Err unknown_line
-timed_of (first ∷ rest) = if bytes_eq first (codes "at") then at_of rest else Err unknown_line
+timed_of (first ∷ rest) =
+    if bytes_eq first (codes "at") then timed_by count_time rest
+    else if bytes_eq first (codes "turn") then timed_by turn_time rest
+    else Err unknown_line
 
 -- no byte is past ASCII
 abbrev pub is_ascii_byte : ℕ → Bool
@@ -91,9 +117,16 @@ line_of line =
 
 -- ---- after the lines before
 
--- the fault of a time after an earlier one
+-- the fault of a number after an earlier one
+abbrev pub earlier_fault : ℕ → ℕ → Option ℕ
+earlier_fault m n = if nat_lt n m then Some earlier_time else None
+
+-- the fault of a time after an earlier one: counts and turns do not stand in one text
 abbrev pub order_fault : When → When → Option ℕ
-order_fault (At m) (At n) = if nat_lt n m then Some earlier_time else None
+order_fault (At m) (At n) = earlier_fault m n
+order_fault (Turn m) (Turn n) = earlier_fault m n
+order_fault (At m) (Turn n) = Some mixed_times
+order_fault (Turn m) (At n) = Some mixed_times
 
 -- the fault of an event after the last one
 abbrev pub fault_after_last : Option Timed → Timed → Option ℕ
@@ -126,9 +159,10 @@ fault_of_said ts (Err kind) = Some kind
 fault_of_said ts (Ok None) = None
 fault_of_said ts (Ok (Some t)) = fault_after ts t
 
--- The fault of a line, the least of its kinds: 1, it is not ASCII, or its first word is not `at`; 2, there is no event
--- word, or an unknown one; 3, a number or operand is out of its form or range, or missing, or there is one too many; 5,
--- the count is below that of the event before; 6, there are too many events.
+-- The fault of a line, the least of its kinds: 1, it is not ASCII, or its first word is neither `at` nor `turn`; 2, there is
+-- no event word, or an unknown one; 3, a number or operand is out of its form or range, or missing, or there is one too
+-- many; 4, its first word is not that of the event before; 5, its time is below that of the event before; 6, there are too
+-- many events.
 abbrev pub fault_of : List Timed → List ℕ → Option ℕ
 fault_of ts line = fault_of_said ts (line_of line)
 
@@ -148,16 +182,22 @@ IsRefused lines fault = texts.IsRefused Says fault_of nothing_missing [] lines f
 
 -- ---- which events a schedule may have
 
--- the count
+-- the count or the turn
 abbrev pub at_time : When → ℕ
 at_time (At k) = k
+at_time (Turn t) = t
 
 abbrev pub time_of : Timed → ℕ
 time_of t = at_time t.when
 
--- the count and the operands are in their ranges
+-- the greatest that it may be
+abbrev pub greatest_time : When → ℕ
+greatest_time (At k) = last_count
+greatest_time (Turn t) = last_turn
+
+-- the time and the operands are in their ranges
 pub record IsTimedInRange (t : Timed) : Type 0 where
-  pub count : time_of t ≤ last_count
+  pub time : time_of t ≤ greatest_time t.when
   pub event : IsInRange t.event
 
 -- none is before a time, or before the one before it
@@ -165,19 +205,49 @@ abbrev pub InOrder : ℕ → List Timed → Type 0
 InOrder time [] = Unit {0}
 InOrder time (t ∷ ts) = (time ≤ time_of t) × InOrder (time_of t) ts
 
+-- an event happens after so many instructions
+abbrev pub is_counted : When → Bool
+is_counted (At k) = true
+is_counted (Turn t) = false
+
+-- each event does so, or none of them does
+abbrev pub AreCounted : Bool → List Timed → Type 0
+AreCounted b ts = AllByRecursion (λ t. is_counted t.when ≡ b) ts
+
+-- the events of a schedule by counts: each happens after so many instructions
+abbrev pub IsByCounts : List Timed → Type 0
+IsByCounts ts = AreCounted true ts
+
 -- what the events of a schedule are
 pub record IsPlan (ts : List Timed) : Type 0 where
   pub each : AllByRecursion IsTimedInRange ts
   pub order : InOrder 0 ts
   pub few : length ts ≤ most_events
+  pub alike : (b : Bool) × AreCounted b ts
 
 -- ---- which event stands at a place of a run
 
--- the event, where its count has come
+-- the event, where its time has come
+abbrev pub event_where : (When → Bool) → Option Timed → Option Event
+event_where has_come None = None
+event_where has_come (Some t) = if has_come t.when then Some t.event else None
+
+-- a count has come; a turn has not, for a machine that does one thing after the other and knows no turns
+abbrev pub has_come_at : ℕ → When → Bool
+has_come_at k (At n) = n == k
+has_come_at k (Turn n) = false
+
 abbrev pub event_at : ℕ → Option Timed → Option Event
-event_at k None = None
-event_at k (Some t) = if time_of t == k then Some t.event else None
+event_at k o = event_where (has_come_at k) o
 
 -- the next event of a plan that stands after so many instructions, where so many events were reached
 abbrev pub standing : List Timed → ℕ → ℕ → Option Event
 standing ts place k = event_at k (slice_get ts place)
+
+-- the same where the instruction at the instruction address would issue at a turn, if no event came before it
+abbrev pub has_come_by : ℕ → ℕ → When → Bool
+has_come_by k t (At n) = n == k
+has_come_by k t (Turn n) = nat_le n t
+
+abbrev pub standing_by : List Timed → ℕ → ℕ → ℕ → Option Event
+standing_by ts place k t = event_where (has_come_by k t) (slice_get ts place)

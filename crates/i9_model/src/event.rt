@@ -22,6 +22,8 @@ pub enum Event {
 pub enum When {
     /// After so many instructions.
     At(u64),
+    /// Before the first instruction that would issue at this turn or a later one.
+    Turn(u64),
 }
 
 /// An event, and when it happens.

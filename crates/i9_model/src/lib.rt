@@ -43,8 +43,8 @@ pub use port::in_port_page;
 pub use push::Push;
 pub use run::{Due, End, Point};
 pub use schedule_laws::{
-    journal_is_read_back, printed_text_is_a_schedule, runs_reach_the_front_of_their_plan,
-    words_say_events,
+    events_that_are_reached_are_a_plan, journal_is_read_back, printed_text_is_a_schedule,
+    runs_reach_the_front_of_their_plan, words_say_events,
 };
 pub use setup::{Breaks, CONTROL_WORDS, Setup, Tables};
 pub use trace::{Seen, Trace};

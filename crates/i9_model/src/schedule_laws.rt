@@ -6,8 +6,8 @@ ghost use Rattle.i9_model.specs.declared.event.Event as events;
 ghost use Rattle.i9_model.specs.declared.event.Timed as timed;
 ghost use Rattle.i9_model.specs.Events.{Words, IsInRange, journal_text};
 ghost use Rattle.i9_model.specs.ScheduleText.{IsTimed, IsPlan, IsSchedule, timed_of, line_of, timed_at, last_count};
-ghost use Rattle.i9_model.specs.Run.{Record, End, Ends};
-ghost use Rattle.i9_model.specs.PlannedRuns.{Stepping, Tally, IsHeedful, next_by, IsPastBy};
+ghost use Rattle.i9_model.specs.Run.{Record, End, Ends, IsPastOfSome};
+ghost use Rattle.i9_model.specs.PlannedRuns.{Stepping, Tally, IsHeedful, IsCounted, next_by, IsPastBy};
 ghost use Rattle.i9_model.specs.PrintedText.{Shown, text_of, events_of};
 
 /// What the words of a line say, by cases, is what the function on words gives.
@@ -42,4 +42,14 @@ pub fn runs_reach_the_front_of_their_plan()
         → (plan : List timed.Timed) (rs : List Record) (end : End) → IsPastBy next t plan rs
         → next_by next t plan rs ≡ Ends end
         → IsPastBy next t (t.reached rs) rs × (next_by next t (t.reached rs) rs ≡ Ends end) }
+{}
+
+/// Records each of which comes next with some event or with none, whatever let it stand there, are those of the
+/// plan of the events that they reached, each at its count; and so is an end that comes next.
+pub fn events_that_are_reached_are_a_plan()
+    ensures past { (next : Stepping) (t : Tally) → IsHeedful next t → (rs : List Record) → IsCounted next t
+        → IsPastOfSome next rs → IsPastBy next t (t.reached rs) rs }
+    ensures end { (next : Stepping) (t : Tally) → IsHeedful next t
+        → (rs : List Record) (end : End) (o : Option events.Event) → next o rs ≡ Ends end
+        → next_by next t (t.reached rs) rs ≡ Ends end }
 {}

@@ -1,21 +1,28 @@
 -- What shows of memory along a run.
-use Rattle.std.proofs.Common.{◌≡◌, ◌≢◌, ℕ, zero, suc, ◌+◌, ◌<◌, ◌≤◌, Bool, true, false, not, ◌&&◌, cond, List, [], ◌∷◌, length, map, Option, Some, None, unwrap_or, ◌⊎◌, inl, inr, refl, sym, ap, ◌∙◌, subst, arith}
+use Rattle.std.proofs.Common.{◌++◌, length-append, take, ◌≡◌, ◌≢◌, ℕ, zero, suc, ◌+◌, ◌<◌, ◌≤◌, Bool, true, false, not, ◌&&◌, cond, List, [], ◌∷◌, length, map, Option, Some, None, unwrap_or, ◌⊎◌, inl, inr, refl, sym, ap, ◌∙◌, subst, arith}
 use Rattle.std.specs.Prelude.{◌==◌, IsTrue}
 use Rattle.std.specs.Option.{option_or}
 use Rattle.std.specs.List.{AllByRecursion, range_with_len}
-use Rattle.std.proofs.lemmas.Bool.{cases_Bool, cases_lt, cond-true, cond-false, and_from, and_left, and_parts, le-leb, lt-leb, lt-ltb, le-ltb, eqb-true, both_ways}
+use Rattle.std.proofs.lemmas.Bool.{cases_Bool, cases_lt, cond-true, cond-false, and_from, and_left, and_parts, le-leb, lt-leb, lt-ltb, le-ltb, eqb-true, or_left, both_ways}
 use Rattle.std.proofs.lemmas.Option.{none-some}
-use Rattle.i9_model.specs.Frames.{places, is_put}
-use Rattle.i9_model.specs.Memory.{stored}
-use Rattle.i9_model.specs.Run.{Given}
+use Rattle.i9_model.specs.declared.frame.Frame.{Frame}
+use Rattle.i9_model.specs.Alike.{is_hard, is_compared}
+use Rattle.i9_model.specs.Frames.{places, is_put, in_frames}
+use Rattle.i9_model.specs.HeldFrames.{over, cache_after, youngest_first, AreYoungest}
+use Rattle.i9_model.specs.Memory.{Memory, stored}
+use Rattle.i9_model.specs.Run.{Given, state_after}
 use Rattle.i9_model.specs.State.{boot}
-use Rattle.i9_model.specs.Turns.{Permits, IsTimed, last_issue}
+use Rattle.i9_model.specs.Turns.{Permits, IsTimed, last_issue, end_turn}
 use Rattle.i9_model.specs.Late.{Late, turns, acted_memory, settled_memory, is_waiting, AllDone, IsQuiet, AreQuiet, IssuedBy}
 use Rattle.i9_model.specs.Writes.{wrapped, upwards, last_put, or_earlier}
 use Rattle.i9_model.proofs.LateMemories.{stored-none, acted-yes, acted-no, waits-not}
 use Rattle.i9_model.proofs.LateOrder.{issued-by, permitted-barrier}
+use Rattle.i9_model.proofs.HeldRuns.{cached-after}
 use Rattle.i9_model.proofs.Storing.{stored_kept}
-use Rattle.i9_course.specs.Course.{Item, course}
+use Rattle.i9_model.proofs.TurnMarks.{all-end}
+use Rattle.i9_course.specs.Course.{Item, records_of, course, IsCourse}
+use Rattle.i9_course.proofs.Orderly.{course_events}
+use Rattle.i9_course.proofs.Settled.{course_settles}
 use Rattle.i9_course.proofs.Timed.{course_timed, course_quiet}
 use Rattle.i9_shade.specs.Shade.{Piece, Kept, byte_of, first_byte, shown, Lacks}
 use Rattle.i9_shade.proofs.First.{shows-none}
@@ -174,3 +181,39 @@ record_leaves first x xs k beside h = record {
   over = λ t done. h.over t done.1;
   last = λ is. absurd (both_ways (shades x) beside is);
 }
+
+-- ---- where nothing is open and no frame is live
+
+not_empty : (xs : List ℕ) (x : ℕ) → xs ++ x ∷ [] ≡ [] → ⊥
+not_empty xs x none =
+    let long : length (xs ++ x ∷ []) ≡ length xs + 1 = length-append xs (x ∷ []) in
+    let short = ap (λ (ys : List ℕ). length ys) none in
+    omega (arith, long, short)
+
+no_frame_held : (held : List Frame) (live : List ℕ) → AreYoungest held live → live ≡ [] → held ≡ []
+no_frame_held [] live youngest none = refl
+no_frame_held (f ∷ fs) live youngest none =
+    absurd (not_empty (youngest_first fs) f.address (youngest.first ∙ ap (take (suc (length fs))) none))
+
+nothing_over : (held : List Frame) (m : Memory) → held ≡ [] → over held m ≡ m
+unfolding over
+nothing_over held m none = ap (λ (fs : List Frame). over fs m) none
+
+done_by : (t : ℕ) (xs : List Late) → AllByRecursion (λ r. r.done ≤ t) (turns xs) → AllDone t xs
+done_by t [] h = tt
+done_by t (x ∷ xs) h = (h.0, done_by t xs h.1)
+
+pub flushed_raw : (g : Given) (h : List Item) (t a : ℕ) → IsCourse g h → end_turn (turns (course g h).late) ≤ t
+    → (state_after g (records_of h)).frames.live ≡ [] → is_hard (state_after g (records_of h)).frames a ≡ true
+    → raw_memory (boot g.image).memory.bytes t (course g h).late a ≡ (state_after g (records_of h)).memory.bytes a
+flushed_raw g h t a past le none hard =
+    let xs = (course g h).late in
+    let first = (boot g.image).memory.bytes in
+    let s = state_after g (records_of h) in
+    let c = cache_after g (records_of h) in
+    let cached = cached-after g (records_of h) (course_events g h past) in
+    let done = all_later (end_turn (turns xs)) t xs le (done_by (end_turn (turns xs)) xs (all-end (turns xs)).done) in
+    let behind = nothing_over c.held c.behind (no_frame_held c.held s.frames.live cached.youngest none) in
+    ap (λ (f : ℕ → ℕ). f a) (raw_done first t xs done ∙ course_settles g h)
+    ∙ sym (ap (λ (m : Memory). m.bytes a) behind)
+    ∙ cached.bytes a (or_left (is_hard s.frames a) (in_frames s.frames.live a) hard)

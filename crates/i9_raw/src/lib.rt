@@ -4,7 +4,7 @@
 mod laws;
 mod shading;
 
-pub use laws::{a_record_hides, memory_shows, nothing_is_hidden};
+pub use laws::{a_record_hides, flushed_memory_is_raw, memory_shows, nothing_is_hidden};
 pub use shading::hide;
 
 #[cfg(test)]

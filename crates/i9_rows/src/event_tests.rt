@@ -1,5 +1,5 @@
 //! Events and interrupts through the command, at texts worked out by hand.
-use crate::rows::{PRCB, held};
+use crate::rows::{BOOT, PRCB, held};
 use crate::tests::{SMALLEST, words_of};
 use i9_outside::{MemFiles, MemSink};
 use i9_tool::i960;
@@ -299,12 +299,108 @@ fn answers_planned(alloc: Global, schedule: &[u8], printed: &str) -> Result<(u8,
     Ok((status.code, sink.bytes() == printed.as_bytes()))
 }
 
+/// Events that wait for turns. The multiplication issues at turn 1 and is done at 6; the sum, the load and the branch
+/// issue at 2, and the last instruction at 3, where no event comes before them.
+const TURNS: &str = "
+== Before the first instruction that would issue at turn 3.
+        muli  3, 4, g2
+        addo  1, 2, g5
+        ld    0x100, g6
+        b     next
+next:   mov   0, g7
+turn 3 show 100 4
+run 5
+at 4 show 00000100 4
+#mem 00000100 00 00 00 00
+#point 4 event 00001010 00000000 001F2002
+#g 2=C 5=3
+#l 1=40
+#point 5 end 00001014 00000000 001F2002
+#g 2=C 5=3
+#l 1=40
+#end limit
+status 0
+-- An event is a barrier, so behind the first one the sum would issue at 7, and the second one comes at the same count.
+turn 2 show 100 1
+turn 2 show 101 1
+run 2
+at 1 show 00000100 1
+#mem 00000100 00
+#point 1 event 00001004 00000000 001F2002
+#g 2=C
+#l 1=40
+at 1 show 00000101 1
+#mem 00000101 00
+#point 1 event 00001004 00000000 001F2002
+#g 2=C
+#l 1=40
+#point 2 end 00001008 00000000 001F2002
+#g 2=C 5=3
+#l 1=40
+#end limit
+status 0
+-- Turn 0 has come before the first instruction; no instruction within the length would issue at turn 4.
+turn 0 show 100 1
+run 0
+#point 0 end 00001000 00000000 001F2002
+#g
+#l 1=40
+#end limit
+status 0
+-- The first of them at a greater length.
+turn 0 show 100 1
+run 1
+at 0 show 00000100 1
+#mem 00000100 00
+#point 0 event 00001000 00000000 001F2002
+#g
+#l 1=40
+#point 1 end 00001004 00000000 001F2002
+#g 2=C
+#l 1=40
+#end limit
+status 0
+-- The second.
+turn 4 show 100 1
+run 5
+#point 5 end 00001014 00000000 001F2002
+#g 2=C 5=3
+#l 1=40
+#end limit
+status 0
+-- Behind the last instruction a word is refused, which waits for all: it would issue at turn 6.
+turn 6 show 100 1
+run 6
+at 5 show 00000100 1
+#mem 00000100 00
+#point 5 event 00001014 00000000 001F2002
+#g 2=C 5=3
+#l 1=40
+#point 6 fault 00000000 00000000 001F2002
+#g 2=C 5=3 15=50
+#l 0=1 1=90
+#point 6 end 00000000 00000000 001F2002
+#g 2=C 5=3 15=50
+#l 0=1 1=90
+#end limit
+status 0
+";
+
+#[test]
+fn events_wait_for_turns(rt: HostRuntime) -> Result<(), Fail> {
+    assert_eq!(rt; held(rt.alloc(), &[BOOT], TURNS)?, 6);
+    Ok(())
+}
+
 #[test]
 fn schedules_are_refused(rt: HostRuntime) -> Result<(), Fail> {
     let rows = [
         ("at 5 pin 8", "#schedule line 1 kind 3\n"),
         ("at 5 nmi\nat 4 nmi\n", "#schedule line 2 kind 5\n"),
-        ("turn 1 nmi", "#schedule line 1 kind 1\n"),
+        ("until 1 nmi", "#schedule line 1 kind 1\n"),
+        ("at 1 nmi\nturn 2 nmi", "#schedule line 2 kind 4\n"),
+        ("turn 2 nmi\nturn 1 nmi", "#schedule line 2 kind 5\n"),
+        ("turn 1000000000001 nmi", "#schedule line 1 kind 3\n"),
         (
             "# an odd digit\nat 1 feed 0 012",
             "#schedule line 2 kind 3\n",

@@ -62,12 +62,13 @@ pub(crate) const TO_USER_MODE: &str = "
 /// Numbers of sets as words of the command: that of the PRCB, and one, five and fifteen.
 const SETS: [&str; 4] = ["-", "1", "5", "15"];
 
-/// A case: a source, the lines of a schedule, the first word of the command, its words from the length of the run on,
-/// and what is to be printed.
+/// A case: a source, the lines of a schedule, those of a script, the first word of the command, its words from the
+/// length of the run or the name of the script on, and what is to be printed.
 #[derive(Drop)]
 struct Case {
     source: String,
     schedule: String,
+    script: String,
     command: String,
     length: String,
     printed: String,
@@ -122,6 +123,7 @@ fn holds_with(
     let mut files = MemFiles::new(alloc);
     files.add("a", image)?;
     files.add("b", schedule.as_bytes())?;
+    files.add("script", case.script.as_bytes())?;
     let mut sink = MemSink::new(alloc);
     sink.room(4096)?;
     let plan = if schedule.is_empty() { "-" } else { "b" };
@@ -132,7 +134,8 @@ fn holds_with(
 }
 
 /// Whether a case's run has its status and prints its text, at each of these numbers of sets, behind the fronts of its
-/// source; and also where the text that it prints is its schedule.
+/// source; and also where the text that it prints is its schedule. A session of the debugger shows the sets, so it has
+/// those of the PRCB alone.
 fn holds(alloc: Global, fronts: &[&str], case: &Case, code: u8) -> Result<bool, Fail> {
     let mut source = String::new(alloc);
     for front in fronts {
@@ -140,6 +143,9 @@ fn holds(alloc: Global, fronts: &[&str], case: &Case, code: u8) -> Result<bool, 
     }
     source.push_str(&case.source)?;
     let image = hex_of(alloc, &source)?;
+    if !case.script.is_empty() {
+        return holds_with(alloc, case, &image, &case.schedule, "-", code);
+    }
     for sets in SETS {
         if !holds_with(alloc, case, &image, &case.schedule, sets, code)? {
             return Ok(false);
@@ -151,6 +157,7 @@ fn holds(alloc: Global, fronts: &[&str], case: &Case, code: u8) -> Result<bool, 
 /// Begins a case behind its source.
 fn begin_case(case: &mut Case) {
     case.schedule.clear();
+    case.script.clear();
     case.command.clear();
     case.length.clear();
     case.printed.clear();
@@ -164,14 +171,17 @@ fn take_line(alloc: Global, case: &mut Case, line: &str) -> Result<(), Fail> {
             begin_case(case);
         }
         ("--", _) => begin_case(case),
-        ("at", _) if case.length.is_empty() => add_line(&mut case.schedule, line)?,
+        ("at" | "turn", _) if case.length.is_empty() => add_line(&mut case.schedule, line)?,
         ("at", _) => add_line(&mut case.printed, line)?,
-        (command @ ("run" | "trace"), length) => {
+        (">", command) => add_line(&mut case.script, command)?,
+        (command @ ("run" | "trace" | "debug"), length) => {
             case.command.push_str(command)?;
             case.length.push_str(length)?;
         }
         ("#g", given) => add_registers(alloc, &mut case.printed, "#g", given)?,
         ("#l", given) => add_registers(alloc, &mut case.printed, "#l", given)?,
+        ("#rg", given) => add_registers(alloc, &mut case.printed, "#rg", given)?,
+        ("#rl", given) => add_registers(alloc, &mut case.printed, "#rl", given)?,
         _ if line.starts_with('#') => add_line(&mut case.printed, line)?,
         _ => add_line(&mut case.source, line)?,
     }
@@ -179,13 +189,14 @@ fn take_line(alloc: Global, case: &mut Case, line: &str) -> Result<(), Fail> {
 }
 
 /// How many cases of a table hold. Behind the title, which begins with `==`, come the lines of the source, those of the
-/// schedule, which begin with `at`, `run` and the length of the run, or `trace`, the length and a range, what is to be
+/// schedule, which begin with `at` or `turn`, `run` and the length of the run, or `trace`, the length and a range, what is to be
 /// printed, where those registers are given that are not 0, and the status. Where a title begins with `--`, the source
-/// goes on from the case before.
+/// goes on from the case before. A line of a script stands behind `> `, and `debug script` is the command then.
 pub(crate) fn held(alloc: Global, fronts: &[&str], table: &str) -> Result<u32, Fail> {
     let mut case = Case {
         source: String::new(alloc),
         schedule: String::new(alloc),
+        script: String::new(alloc),
         command: String::new(alloc),
         length: String::new(alloc),
         printed: String::new(alloc),

@@ -1,30 +1,33 @@
-//! Why a text is no schedule.
+//! Why a text is no schedule, or no script of the debugger.
 
 use thiserror::Error;
 
-// The kinds of faults, as `LineFault` says them.
+// The kinds of faults of a schedule, as `LineFault` says them.
 pub(crate) const UNKNOWN_LINE: u8 = 1;
 
 pub(crate) const UNKNOWN_EVENT: u8 = 2;
 
 pub(crate) const BAD_OPERAND: u8 = 3;
 
+pub(crate) const MIXED_TIMES: u8 = 4;
+
 pub(crate) const EARLIER_TIME: u8 = 5;
 
 pub(crate) const TOO_MANY_EVENTS: u8 = 6;
 
 /// The first fault of a text: its line, counted from 1, and the least kind that applies to it. The
-/// kinds are this project's own.
+/// kinds are this project's own. Those of a schedule are
 ///
 /// | kind | the line |
 /// |---|---|
-/// | 1 | has a byte past ASCII, or its first word is not `at` |
+/// | 1 | has a byte past ASCII, or its first word is neither `at` nor `turn` |
 /// | 2 | has an unknown event word, or none |
 /// | 3 | has a number or operand out of its form or range, or lacks one, or has one too many |
-/// | 5 | has a count below that of the event before |
+/// | 4 | has `turn` where the event before has `at`, or the other way round |
+/// | 5 | has a count or turn below that of the event before |
 /// | 6 | comes to more than 1,000,000 events |
 ///
-/// Kind 4 is not used yet.
+/// and those of a script of the debugger are listed by `read_script` of `i9_script`.
 #[derive(Clone, Copy, Debug, PartialEq, Eq)]
 pub struct LineFault {
     pub line: u64,
@@ -34,7 +37,7 @@ pub struct LineFault {
 /// Why a text is not read.
 #[derive(Debug, Drop, Error)]
 pub enum LineError {
-    /// The text is no schedule.
+    /// The text is no schedule, or no script.
     #[error("refused")]
     Bad(LineFault),
     /// Memory was refused.

@@ -9,6 +9,7 @@ mod operands;
 mod parsing;
 mod reading;
 mod schedule;
+mod words;
 
 pub use copying::copied;
 pub use error::{LineError, LineFault};
@@ -17,6 +18,7 @@ pub use journal::{event_text, journal_line};
 pub use laws::one_answer;
 pub use reading::read;
 pub use schedule::Schedule;
+pub use words::{is_ascii, is_skipped, number_in, one_word, two_words};
 
 #[cfg(test)]
 mod tests;

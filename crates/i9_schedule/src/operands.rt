@@ -1,16 +1,17 @@
 //! The event that words say.
 ghost use Rattle.std.specs.Prelude.{◌≡◌, ◌*◌, ◌≤◌, length, IfSome};
-ghost use Rattle.std.specs.Option.{option_map, option_copied};
+ghost use Rattle.std.specs.Option.{option_map};
 ghost use Rattle.std.specs.Result.{result_ok};
 ghost use Rattle.hex.specs.Hex.{decode_of};
 ghost use Rattle.i9_text.specs.Text.{words_of};
-ghost use Rattle.i9_model.specs.Events.{number_in, decimal_in, bytes_in, one_of, two_of, pin_of, nmi_of, dma_of, feed_of, show_of, event_of};
+ghost use Rattle.i9_model.specs.Events.{decimal_in, bytes_in, pin_of, nmi_of, dma_of, feed_of, show_of, event_of};
 
 use crate::error::{BAD_OPERAND, UNKNOWN_EVENT};
+use crate::words::{number_in, one_word, two_words};
 use arrayvec::ArrayVec;
 use hex::FromHex;
 use i9_model::Event;
-use i9_text::{number, split_word};
+use i9_text::split_word;
 
 const LAST_PIN: u64 = 7;
 
@@ -20,41 +21,6 @@ const LAST_ADDRESS: u64 = 0xFFFF_FFFF;
 
 /// How many bytes a `show` event has at most.
 const MOST_SHOWN: u64 = 64;
-
-/// The only word.
-fn one_word(words: &[u8]) -> Option<&[u8]>
-    ensures { option_copied result ≡ one_of (words_of words.now) }
-{
-    let (word, rest) = split_word(words)?;
-    match split_word(rest) {
-        Some(_) => None,
-        None => Some(word),
-    }
-}
-
-/// The only two words.
-fn two_words(words: &[u8]) -> Option<(&[u8], &[u8])>
-    ensures { option_map (λ p. (p.0.now, p.1.now)) result ≡ two_of (words_of words.now) }
-{
-    let (first, rest) = split_word(words)?;
-    let (second, rest) = split_word(rest)?;
-    match split_word(rest) {
-        Some(_) => None,
-        None => Some((first, second)),
-    }
-}
-
-/// The number of a word of one to `most` digits, in a range.
-#[tactic(auto, unfolding(i9_model::specs::Events::number_in))]
-pub(crate) fn number_in(word: &[u8], radix: u8, most: usize, low: u64, high: u64) -> Option<u64>
-    requires radix { (2 ≤ radix) × (radix ≤ 16) }
-    requires most { most ≤ 15 }
-    ensures value { result ≡ number_in radix most low high word.now }
-    ensures inside { IfSome result (λ n. n ≤ high) }
-{
-    let n = number(word, radix, most)?;
-    if n < low || n > high { None } else { Some(n) }
-}
 
 /// The decimal number of a word of one to ten digits, in a range.
 fn decimal_in(word: &[u8], low: u64, high: u64) -> Option<u64>

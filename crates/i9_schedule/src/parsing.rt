@@ -1,33 +1,54 @@
 //! What a line says, and whether it may follow the lines before it.
 ghost use Rattle.std.specs.Prelude.{◌≡◌};
 ghost use Rattle.i9_text.specs.Text.{words_of};
-ghost use Rattle.i9_model.specs.ScheduleText.{at_of, timed_of, is_ascii, is_skipped, line_of, order_fault, fault_after};
+ghost use Rattle.i9_model.specs.ScheduleText.{timed_by, timed_of, line_of, order_fault, fault_after};
+ghost use Rattle.i9_schedule.specs.Lines.{time_by};
 
-use crate::error::{BAD_OPERAND, EARLIER_TIME, TOO_MANY_EVENTS, UNKNOWN_EVENT, UNKNOWN_LINE};
-use crate::operands::{event, number_in};
+use crate::error::{
+    BAD_OPERAND, EARLIER_TIME, MIXED_TIMES, TOO_MANY_EVENTS, UNKNOWN_EVENT, UNKNOWN_LINE,
+};
+use crate::operands::event;
+use crate::words::{is_ascii, is_skipped, number_in};
 use i9_model::{Timed, When};
 use i9_text::split_word;
 
 /// The last count that an event may have.
 const LAST_COUNT: u64 = 10_000_000;
 
-const MOST_COUNT_DIGITS: usize = 13;
+/// The last turn that an event may have.
+const LAST_TURN: u64 = 1_000_000_000_000;
+
+const MOST_TIME_DIGITS: usize = 13;
 
 const MOST_EVENTS: usize = 1_000_000;
 
-/// What the words behind `at` say, or the kind of their fault.
-#[tactic(auto, unfolding(i9_model::specs::ScheduleText::at_of))]
-fn at(words: &[u8]) -> Result<Timed, u8>
-    ensures { result ≡ at_of (words_of words.now) }
+/// What the time of an event is counted in.
+#[derive(Clone, Copy)]
+enum Clock {
+    Instructions,
+    Turns,
+}
+
+/// The time that a word says.
+fn time(clock: Clock, word: &[u8]) -> Option<When>
+    ensures { result ≡ time_by clock word.now }
 {
-    let (count, rest) = split_word(words).ok_or(UNKNOWN_EVENT)?;
+    match clock {
+        Clock::Instructions => number_in(word, 10, MOST_TIME_DIGITS, 0, LAST_COUNT).map(When::At),
+        Clock::Turns => number_in(word, 10, MOST_TIME_DIGITS, 0, LAST_TURN).map(When::Turn),
+    }
+}
+
+/// What the words behind `at` or `turn` say, or the kind of their fault.
+#[tactic(auto, unfolding(i9_model::specs::ScheduleText::timed_by))]
+fn timed_by(clock: Clock, words: &[u8]) -> Result<Timed, u8>
+    ensures { result ≡ timed_by (time_by clock) (words_of words.now) }
+{
+    let (time_word, rest) = split_word(words).ok_or(UNKNOWN_EVENT)?;
     let (name, operands) = split_word(rest).ok_or(UNKNOWN_EVENT)?;
     let event = event(name, operands)?;
-    let count = number_in(count, 10, MOST_COUNT_DIGITS, 0, LAST_COUNT).ok_or(BAD_OPERAND)?;
-    Ok(Timed {
-        when: When::At(count),
-        event,
-    })
+    let when = time(clock, time_word).ok_or(BAD_OPERAND)?;
+    Ok(Timed { when, event })
 }
 
 /// What the words of a line say, or the kind of their fault.
@@ -37,27 +58,12 @@ fn timed(words: &[u8]) -> Result<Timed, u8>
 {
     let (first, rest) = split_word(words).ok_or(UNKNOWN_LINE)?;
     if first == b"at".as_slice() {
-        at(rest)
+        timed_by(Clock::Instructions, rest)
+    } else if first == b"turn".as_slice() {
+        timed_by(Clock::Turns, rest)
     } else {
         Err(UNKNOWN_LINE)
     }
-}
-
-/// Whether every byte is ASCII.
-fn is_ascii(line: &[u8]) -> bool
-    ensures { result ≡ is_ascii line.now }
-{
-    line.iter().all(|b| *b < 128)
-}
-
-/// Whether the line is a comment, or has no words.
-fn is_skipped(line: &[u8]) -> bool
-    ensures { result ≡ is_skipped line.now }
-{
-    if let [b'#', ..] = line {
-        return true;
-    }
-    split_word(line).is_none()
 }
 
 /// What a line says by itself, nothing or an event, or the kind of its fault.
@@ -78,8 +84,10 @@ pub(crate) fn said(line: &[u8]) -> Result<Option<Timed>, u8>
 fn order_fault(last: When, next: When) -> Option<u8>
     ensures { result ≡ order_fault last next }
 {
-    let When::At(last) = last;
-    let When::At(next) = next;
+    let (last, next) = match (last, next) {
+        (When::At(last), When::At(next)) | (When::Turn(last), When::Turn(next)) => (last, next),
+        _ => return Some(MIXED_TIMES),
+    };
     if next < last {
         Some(EARLIER_TIME)
     } else {

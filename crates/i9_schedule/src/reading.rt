@@ -57,8 +57,14 @@ fn read_events(alloc: Global, text: &[u8]) -> Result<Vec<Timed>, LineError>
 ///
 /// Lines end with a line feed, which the last one may lack; one carriage return at a line's end is
 /// dropped. Lines without words are skipped, and so are lines whose first character is `#`. Every
-/// other line is `at K EVENT`, in words that are divided by spaces or tabs: the event happens after
-/// K instructions, K being at most 10,000,000 and one to thirteen digits. `EVENT` is one of
+/// other line is `at K EVENT` or `turn T EVENT`, in words that are divided by spaces or tabs, and a
+/// text has lines of one of these forms alone.
+///
+/// - `at K`: the event happens after K instructions; K is at most 10,000,000.
+/// - `turn T`: the event happens before the first instruction that would issue at turn T or later,
+///   after the events before it; T is at most 1,000,000,000,000.
+///
+/// K and T have one to thirteen decimal digits. `EVENT` is one of
 ///
 /// | event | operands |
 /// |---|---|
@@ -68,7 +74,7 @@ fn read_events(alloc: Global, text: &[u8]) -> Result<Vec<Timed>, LineError>
 /// | `feed C H` | C is 0 to 3; H is 1, 2, 4 or 16 bytes in two hexadecimal digits each |
 /// | `show A L` | A is one to eight hexadecimal digits; L is 1 to 64 |
 ///
-/// with decimal numbers of one to ten digits. Counts do not fall from event to event, and there are
+/// with decimal numbers of one to ten digits. K and T do not fall from event to event, and there are
 /// at most 1,000,000 events.
 ///
 /// A text that is no schedule is refused with its first line at fault; see `LineFault`.

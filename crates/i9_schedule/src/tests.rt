@@ -1,4 +1,7 @@
-use crate::{LineError, LineFault, When, copied, event_text, journal_line, read};
+use crate::{
+    Event, LineError, LineFault, When, copied, event_text, is_ascii, is_skipped, journal_line,
+    number_in, one_word, read, two_words,
+};
 use std::alloc::{AllocError, Global};
 use std::test::Fail;
 
@@ -13,17 +16,19 @@ fn refusal(alloc: Global, text: &[u8]) -> Option<(u64, u8)> {
 // Each text is worked by hand: the first line at fault, with the least kind that applies to it.
 #[test]
 fn refuses_the_first_line_at_fault(rt: HostRuntime) -> Result<(), Fail> {
-    let rows: [(&[u8], Option<(u64, u8)>); 46] = [
+    let rows: [(&[u8], Option<(u64, u8)>); 70] = [
         // Lines without words and comments say nothing; one carriage return is dropped.
         (b"", None),
         (b"#\n# at x\r\n \t\n\n\r\nat 5 nmi\r\n\tat\t5  nmi ", None),
-        // Kind 1: a byte past ASCII, in a comment too, or another first word than `at`.
+        // Kind 1: a byte past ASCII, in a comment too, or another first word than `at` and `turn`.
         (b"#\xff", Some((1, 1))),
         (b"at 5 nmi\x80", Some((1, 1))),
         (b"\n\n# a\nbogus", Some((4, 1))),
         (b" # a", Some((1, 1))),
         (b"AT 5 nmi", Some((1, 1))),
-        (b"turn 3 nmi", Some((1, 1))),
+        (b"TURN 5 nmi", Some((1, 1))),
+        (b"turns 5 nmi", Some((1, 1))),
+        (b"turn5 nmi", Some((1, 1))),
         (b"\r\r", Some((1, 1))),
         (b"bogus x pin 8", Some((1, 1))),
         // Kind 2: another event word, or none, whatever the count is.
@@ -32,12 +37,24 @@ fn refuses_the_first_line_at_fault(rt: HostRuntime) -> Result<(), Fail> {
         (b"at x bogus 1", Some((1, 2))),
         (b"at 5 NMI", Some((1, 2))),
         (b"at 5 nmi\r\r", Some((1, 2))),
+        (b"turn", Some((1, 2))),
+        (b"turn 5", Some((1, 2))),
+        (b"turn nmi", Some((1, 2))),
+        (b"turn x bogus", Some((1, 2))),
         // Kind 3: the count, in one to thirteen digits up to 10,000,000.
         (b"at 0 nmi\nat 0000010000000 nmi", None),
         (b"at 10000001 nmi", Some((1, 3))),
         (b"at 00000000000005 nmi", Some((1, 3))),
         (b"at -1 nmi", Some((1, 3))),
         (b"at 5f nmi", Some((1, 3))),
+        // The turn, in as many digits up to 1,000,000,000,000.
+        (b"turn 0 nmi\nturn 1000000000000 nmi", None),
+        (b"turn 0000000000007 nmi", None),
+        (b"turn 1000000000001 nmi", Some((1, 3))),
+        (b"turn 00000000000007 nmi", Some((1, 3))),
+        (b"turn 10000000000000 nmi", Some((1, 3))),
+        (b"turn -1 nmi", Some((1, 3))),
+        (b"turn 5f nmi", Some((1, 3))),
         // Operands out of range or form, missing, or one too many.
         (b"at 5 pin 0000000007", None),
         (b"at 5 pin 00000000007", Some((1, 3))),
@@ -61,11 +78,23 @@ fn refuses_the_first_line_at_fault(rt: HostRuntime) -> Result<(), Fail> {
         (b"at 5 show 0 65", Some((1, 3))),
         (b"at 5 show 0", Some((1, 3))),
         (b"at 5 show 0 1 1", Some((1, 3))),
-        // Kind 5: an earlier count, behind kinds 1 to 3 of the same line.
+        (b"turn 5 pin", Some((1, 3))),
+        (b"turn 5 nmi 1", Some((1, 3))),
+        (b"turn 5 show 0 65", Some((1, 3))),
+        // Kind 4: `at` and `turn` in one text, before kind 5 and behind kinds 1 to 3.
+        (b"at 5 nmi\nturn 5 nmi", Some((2, 4))),
+        (b"turn 5 nmi\nat 5 nmi", Some((2, 4))),
+        (b"at 5 nmi\nturn 4 nmi", Some((2, 4))),
+        (b"turn 5 nmi\nat 4 nmi", Some((2, 4))),
+        (b"turn 5 nmi\n# a\n\nturn 6 nmi\nat 6 nmi", Some((5, 4))),
+        (b"at 5 nmi\nturn 4 pin 8", Some((2, 3))),
+        (b"at 5 nmi\nturn 4 bogus", Some((2, 2))),
+        // Kind 5: an earlier count or turn, behind kinds 1 to 3 of the same line.
         (b"at 5 nmi\nat 4 nmi\nbogus", Some((2, 5))),
         (b"at 5 nmi\nat 4 pin 8", Some((2, 3))),
         (b"at 5 nmi\nat 4 bogus", Some((2, 2))),
         (b"at 5 nmi\n# a\nat 6 nmi\nat 5 nmi", Some((4, 5))),
+        (b"turn 5 nmi\n# a\nturn 5 nmi\nturn 4 nmi", Some((4, 5))),
     ];
     for (text, fault) in rows {
         assert_eq!(rt; refusal(rt.alloc(), text), fault);
@@ -140,6 +169,54 @@ fn prints_what_it_reads(rt: HostRuntime) -> Result<(), Fail> {
     }
     assert!(rt; schedule.next().is_none());
     assert_eq!(rt; schedule.place(), 8);
+    Ok(())
+}
+
+// The events of all these lines come in order, each at its turn.
+#[test]
+fn reads_turns(rt: HostRuntime) -> Result<(), Fail> {
+    let rows: [(&[u8], u64, Event); 4] = [
+        (b"turn 0 pin 07\n", 0, Event::Pin(7)),
+        (b"# a\n turn\t0000000000003  nmi\r\n", 3, Event::Nmi),
+        (b"\nturn 3 dma 1\n", 3, Event::Dma(1)),
+        (
+            b"turn 1000000000000 show fF0 0064",
+            1_000_000_000_000,
+            Event::Show(0xFF0, 64),
+        ),
+    ];
+    let mut text = Vec::new(rt.alloc());
+    for (line, _, _) in &rows {
+        text.extend_from_slice(line)?;
+    }
+    let mut schedule = read(rt.alloc(), &text)?;
+    for (_, turn, event) in rows {
+        let Some(timed) = schedule.next() else {
+            assert!(rt; false);
+            return Ok(());
+        };
+        assert_eq!(rt; timed.when, When::Turn(turn));
+        assert!(rt; timed.event == event);
+        schedule.step();
+    }
+    assert!(rt; schedule.next().is_none());
+    Ok(())
+}
+
+// Words of a line stand between spaces and tabs, and numbers have no sign or prefix.
+#[test]
+fn tells_words(rt: HostRuntime) -> Result<(), Fail> {
+    assert_eq!(rt; one_word(b" \ta\t"), Some(b"a".as_slice()));
+    assert!(rt; one_word(b"a b").is_none());
+    assert_eq!(rt;
+        two_words(b"\ta  b"),
+        Some((b"a".as_slice(), b"b".as_slice()))
+    );
+    assert!(rt; two_words(b"a b c").is_none());
+    assert_eq!(rt; number_in(b"0fF", 16, 3, 1, 255), Some(255));
+    assert_eq!(rt; number_in(b"256", 10, 3, 1, 255), None);
+    assert!(rt; is_ascii(b"\x7f") && !is_ascii(b"\x80"));
+    assert!(rt; is_skipped(b"#a") && !is_skipped(b" #"));
     Ok(())
 }
 

@@ -1,28 +1,11 @@
 -- The commands of a script are in range, and not too many.
-use Rattle.std.proofs.Common.{◌≡◌, ℕ, ◌≤◌, Bool, true, false, ltb, List, [], ◌∷◌, Option, Some, None, refl, subst, arith, length-append}
-use Rattle.std.specs.Option.{option_and_then}
-use Rattle.std.proofs.lemmas.Bool.{ltb-false}
+use Rattle.std.proofs.Common.{ℕ, List, [], ◌∷◌, subst, arith, length-append}
 use Rattle.std.proofs.lemmas.List.Elements.{All-append, All-cons, All-nil}
-use Rattle.i9_text.specs.Text.{number_of}
 use Rattle.i9_text.specs.FirstFault.{SaysAll}
-use Rattle.i9_model.specs.Events.{Words, within, number_in, last_address, most_shown}
+use Rattle.i9_model.specs.Events.{Words, last_address, most_shown}
+use Rattle.i9_model.proofs.Plans.{in_range}
 use Rattle.i9_script.specs.ScriptText.{IsCommand, is_turn, is_until, is_regs, is_raw, is_held, is_mem, is_rawmem, Says, says_nothing, says_command, most_turns, IsScript, IsCommandInRange, IsInLimits}
 use Rattle.i9_script.specs.declared.command.Command.{Command}
-
-within_some : (low high m n : ℕ) (a b : Bool) → ltb m low ≡ a → ltb high m ≡ b → within low high m ≡ Some n → (low ≤ n) × (n ≤ high)
-within_some low high m n true b e f h = absurd (cc (rw e at h))
-within_some low high m n false true e f h = absurd (cc (rw (e, f) at h))
-within_some low high m n false false e f h =
-    let same : m ≡ n = cc (rw (e, f) at h) in
-    (omega (arith, same, ltb-false _ _ e), omega (arith, same, ltb-false _ _ f))
-
-number_within : (low high n : ℕ) (o : Option ℕ) → option_and_then (within low high) o ≡ Some n → (low ≤ n) × (n ≤ high)
-number_within low high n None h = absurd cc
-number_within low high n (Some m) h = within_some low high m n _ _ refl refl h
-
-in_range : (radix most low high n : ℕ) (word : List ℕ) → number_in radix most low high word ≡ Some n → (low ≤ n) × (n ≤ high)
-unfolding number_in
-in_range radix most low high n word h = number_within low high n (number_of radix most word) h
 
 command_in_range : (ws : Words) (c : Command) → IsCommand ws c → IsCommandInRange c
 command_in_range ws c (is_turn w n h) = in_range 10 10 1 most_turns n w h

@@ -1,13 +1,13 @@
 //! The command that words say.
 ghost use Rattle.std.specs.Prelude.{◌≡◌, ◌≤◌, IfSome};
-ghost use Rattle.std.specs.Option.{option_map, option_copied};
 ghost use Rattle.i9_text.specs.Text.{words_of};
-ghost use Rattle.i9_model.specs.Events.{number_in, decimal_in, address_of, one_of, two_of};
+ghost use Rattle.i9_model.specs.Events.{decimal_in, address_of};
 ghost use Rattle.i9_script.specs.Lines.{bare_of, turn_of, until_of, piece_of, command_of};
 
 use crate::command::Command;
 use crate::kinds::{BAD_OPERAND, UNKNOWN_COMMAND};
-use i9_text::{number, split_word};
+use i9_schedule::{number_in, one_word, two_words};
+use i9_text::split_word;
 
 const MOST_TURNS: u64 = 1_000_000;
 
@@ -15,41 +15,6 @@ const LAST_ADDRESS: u64 = 0xFFFF_FFFF;
 
 /// How many bytes `mem` and `rawmem` tell at most.
 const MOST_BYTES: u64 = 64;
-
-/// The only word.
-fn one_word(words: &[u8]) -> Option<&[u8]>
-    ensures { option_copied result ≡ one_of (words_of words.now) }
-{
-    let (word, rest) = split_word(words)?;
-    match split_word(rest) {
-        Some(_) => None,
-        None => Some(word),
-    }
-}
-
-/// The only two words.
-fn two_words(words: &[u8]) -> Option<(&[u8], &[u8])>
-    ensures { option_map (λ p. (p.0.now, p.1.now)) result ≡ two_of (words_of words.now) }
-{
-    let (first, rest) = split_word(words)?;
-    let (second, rest) = split_word(rest)?;
-    match split_word(rest) {
-        Some(_) => None,
-        None => Some((first, second)),
-    }
-}
-
-/// The number of a word of one to `most` digits, in a range.
-#[tactic(auto, unfolding(i9_model::specs::Events::number_in))]
-fn number_in(word: &[u8], radix: u8, most: usize, low: u64, high: u64) -> Option<u64>
-    requires radix { (2 ≤ radix) × (radix ≤ 16) }
-    requires most { most ≤ 15 }
-    ensures value { result ≡ number_in radix most low high word.now }
-    ensures inside { IfSome result (λ n. n ≤ high) }
-{
-    let n = number(word, radix, most)?;
-    if n < low || n > high { None } else { Some(n) }
-}
 
 /// The decimal number of a word of one to ten digits, from 1 on.
 fn decimal(word: &[u8], high: u64) -> Option<u64>

@@ -1,29 +1,11 @@
 //! What a line says by itself.
 ghost use Rattle.std.specs.Prelude.{◌≡◌};
-ghost use Rattle.i9_model.specs.ScheduleText.{is_ascii, is_skipped};
 ghost use Rattle.i9_script.specs.Lines.{line_of};
 
 use crate::command::Command;
 use crate::kinds::UNKNOWN_COMMAND;
 use crate::operands::command;
-use i9_text::split_word;
-
-/// Whether every byte is ASCII.
-fn is_ascii(line: &[u8]) -> bool
-    ensures { result ≡ is_ascii line.now }
-{
-    line.iter().all(|b| *b < 128)
-}
-
-/// Whether the line is a comment, or has no words.
-fn is_skipped(line: &[u8]) -> bool
-    ensures { result ≡ is_skipped line.now }
-{
-    if let [b'#', ..] = line {
-        return true;
-    }
-    split_word(line).is_none()
-}
+use i9_schedule::{is_ascii, is_skipped};
 
 /// What a line says, nothing or a command, or the kind of its fault.
 #[tactic(auto, unfolding(crate::specs::Lines::line_of))]

@@ -1,8 +1,11 @@
 pub mod LinedTexts
 pub mod Refusals
 pub mod Running
+pub mod FileAnswers
 pub mod Fetching
 pub mod Answering
 pub mod Listable
 pub mod Outcomes
+pub mod OneText
+pub mod JobPlans
 pub mod OneOutcome

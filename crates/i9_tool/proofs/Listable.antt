@@ -9,7 +9,9 @@ use Rattle.i9_model.specs.HexText.{Origin, Upper, Base, address_in, HexState, st
 use Rattle.i9_model.specs.Image.{Part, pairs_of, address_count, pairs_at}
 use Rattle.i9_dis.proofs.Rising.{ArePlaced}
 use Rattle.i9_dis.proofs.Listed.{some_listing}
-use Rattle.i9_tool.specs.Outcome.{IsAccepted, DisGives, listed}
+use Rattle.i9_tool.specs.declared.files.FileKind.TheVariants.{Image}
+use Rattle.i9_tool.specs.FileKinds.{IsAccepted}
+use Rattle.i9_tool.specs.Outcome.{DisGives, listed}
 
 -- ---- the pairs of an accepted image stand in the address space
 
@@ -64,9 +66,9 @@ sound_lines : (s : HexState) (lines : List (List ℕ)) (t : HexState) → SaysAl
 sound_lines s [] t same h = subst IsSound same h
 sound_lines s (line ∷ lines) t says h = sound_lines says.0 lines t says.2 (sound_line s line says.0 says.1 h)
 
-accepted_placed : (file : List ℕ) (pairs : List (ℕ × ℕ)) → IsAccepted file pairs → ArePlaced pairs
+accepted_placed : (file : List ℕ) (pairs : List (ℕ × ℕ)) → IsAccepted Image file pairs → ArePlaced pairs
 accepted_placed file pairs accepted =
-    let image = accepted.image in
+    let image = accepted.says in
     subst ArePlaced image.same (sound_lines start (lines_of file) image.last image.says (record { placed = tt; fine = tt })).placed
 
 -- ---- a listing of such pairs
@@ -86,7 +88,7 @@ low_pairs : (ps : List (ℕ × ℕ)) → ArePlaced ps → AllByRecursion (λ (p 
 low_pairs [] placed = tt
 low_pairs (p ∷ ps) placed = (placed.0.byte, low_pairs ps placed.1)
 
-pub some_listed : (file : List ℕ) (pairs : List (ℕ × ℕ)) → IsAccepted file pairs → (text : List ℕ) × DisGives pairs 0 text
+pub some_listed : (file : List ℕ) (pairs : List (ℕ × ℕ)) → IsAccepted Image file pairs → (text : List ℕ) × DisGives pairs 0 text
 some_listed file pairs accepted =
     let placed = accepted_placed file pairs accepted in
     let same = image_pairs pairs placed in

@@ -1,32 +1,37 @@
--- Each file and length have one status and one text.
+-- Words and files have one status and one text.
 use Rattle.std.proofs.Common.{◌≡◌, ◌≢◌, ℕ, List, [], ◌++◌, length, Option, Some, None, refl, sym, ap, ◌∙◌, subst, arith}
 use Rattle.std.specs.Prelude.{IsSome}
 use Rattle.i9_model.specs.State.{State}
 use Rattle.i9_model.specs.Given.{Given, given}
 use Rattle.i9_model.specs.declared.event.Timed.{Timed}
 use Rattle.i9_model.specs.declared.run.End.{End}
+use Rattle.i9_text.specs.Text.{lines_of as text_lines}
+use Rattle.i9_model.specs.ScheduleText.{IsSchedule, IsByCounts}
 use Rattle.i9_model.specs.Run.{Record, reached_after}
 use Rattle.i9_model.specs.PrintedText.{text_of, lines_of, end_lines, end_code}
-use Rattle.i9_hex.specs.Writing.{hex_text}
-use Rattle.i9_asm.proofs.Once.{assembly_once, refusal_once, never_both_answers}
-use Rattle.i9_text.specs.Text.{lines_of as text_lines}
-use Rattle.i9_tool.specs.declared.words.Range.{Range}
-use Rattle.i9_tool.specs.Traced.{is_within, traced_lines, printed_text}
-use Rattle.i9_tool.specs.CommandLine.{Command, Run, Asm, Dis, Gen, files_of, with_name, image_word, schedule_word, source_word}
-use Rattle.i9_debug.specs.Lines.{refused_line}
+use Rattle.i9_model.specs.Image.{Part, pairs_of}
+use Rattle.i9_model.specs.declared.layout.TheConstants.{MAX_LENGTH}
 use Rattle.i9_model.proofs.Cuts.{state_by}
 use Rattle.i9_course.specs.LateRun.{IsLateRun}
 use Rattle.i9_course.proofs.LateRuns.{late_records, late_end}
 use Rattle.i9_course.proofs.LateSame.{run_sets}
-use Rattle.i9_hex.proofs.OneAnswer.{image_apart, one_image, one_fault}
-use Rattle.i9_schedule.proofs.OneAnswer.{answers_apart, one_schedule, one_fault as one_schedule_fault}
-use Rattle.i9_tool.specs.Outcome.{Reads, unread, fetched, RunGives, runs, ScheduleGives, schedule_too_long, schedule_refused, scheduled, ImageGives, too_long, refused, accepted, SourceGives, source_too_long, source_refused, assembled, JobGives, job_source_refused, job_schedule_refused, job_runs, job_line, DisGives, listed, PlanGives, CommandGives, Gives, in_no_form, in_form, AllTold, names_of}
-use Rattle.i9_model.specs.Image.{Part, pairs_of}
-use Rattle.i9_model.specs.declared.layout.TheConstants.{MAX_LENGTH}
+use Rattle.i9_dis.proofs.Listed.{one_text as one_listing, by_pairs}
+use Rattle.i9_script.specs.declared.command.Command.{Command as ScriptCommand}
+use Rattle.i9_debug.specs.Lines.{refused_line, generated_line}
+use Rattle.i9_debug.specs.Session.{Place, at}
 use Rattle.i9_generator.specs.Generator.{generated_source, generated_schedule}
-use Rattle.i9_debug.specs.Lines.{generated_line}
-use Rattle.i9_dis.proofs.Listed.{one_text, by_pairs}
-use Rattle.i9_tool.proofs.Outcomes.{reads_wider, image_wider, plan_wider}
+use Rattle.i9_tool.specs.declared.files.FileKind.{FileKind}
+use Rattle.i9_tool.specs.declared.files.FileKind.TheVariants.{Image, Schedule, Source, Script}
+use Rattle.i9_tool.specs.declared.words.Range.{Range}
+use Rattle.i9_tool.proofs.JobPlans.{job_counted}
+use Rattle.i9_tool.specs.FileKinds.{Value, word_of, names}
+use Rattle.i9_tool.specs.Fetches.{AllTold}
+use Rattle.i9_tool.specs.Traced.{is_within, traced_lines, printed_text}
+use Rattle.i9_tool.specs.CommandLine.{Command, Run, Asm, Dis, Gen, Driver, ByLength, ByScript, driver_files, planned_files, files_of}
+use Rattle.i9_tool.specs.Outcome.{Reads, unread, fetched, FileGives, too_long, refused, accepted, RunGives, runs, driven_code, ScriptGives, drives, AsmGives, assembled, JobGives, job_source_refused, job_schedule_refused, job_runs, job_line, DisGives, listed, DriverGives, PlanGives, IsCountedSchedule, CommandGives, Gives, in_no_form, in_form, names_of}
+use Rattle.i9_tool.proofs.FileAnswers.{apart, one_value, one_fault}
+use Rattle.i9_tool.proofs.OneText.{one_text}
+use Rattle.i9_tool.proofs.Outcomes.{reads_wider, kind_wider}
 
 -- a status and a text at once
 pub record Same (c d : ℕ) (s t : List ℕ) : Type 0 where
@@ -52,46 +57,30 @@ once_both gives once x y same c d s t p q g h = once x c d s t p q g (subst (λ 
 once_run : (sets : Option ℕ) (limit : ℕ) (traced : Option Range) (pairs : List (ℕ × ℕ)) (events : List Timed) → Once (RunGives sets limit traced pairs events)
 once_run sets limit traced pairs events c d s t p q (runs rs e run) (runs us f other) = same_run traced (given pairs events limit sets) rs us e f run other
 
-once_schedule : (run : List Timed → ℕ → List ℕ → Type 0) → ((events : List Timed) → Once (run events)) → (file : List ℕ) → Once (ScheduleGives run file)
-once_schedule run once file c d s t p q (schedule_too_long long) (schedule_too_long longer) = record { status = refl; text = refl }
-once_schedule run once file c d s t p q (schedule_too_long long) (schedule_refused g short h) = absurd (omega arith)
-once_schedule run once file c d s t p q (schedule_too_long long) (scheduled us d' t' short says gives) = absurd (omega arith)
-once_schedule run once file c d s t p q (schedule_refused g short h) (schedule_too_long long) = absurd (omega arith)
-once_schedule run once file c d s t p q (schedule_refused g short h) (schedule_refused g' short' h') =
-    record { status = refl; text = ap (refused_line schedule_word) (one_schedule_fault file g g' h h') }
-once_schedule run once file c d s t p q (schedule_refused g short h) (scheduled us d' t' short' says gives) = absurd (answers_apart file us g says h)
-once_schedule run once file c d s t p q (scheduled ts c' s' short says gives) (schedule_too_long long) = absurd (omega arith)
-once_schedule run once file c d s t p q (scheduled ts c' s' short says gives) (schedule_refused g short' h) = absurd (answers_apart file ts g says h)
-once_schedule run once file c d s t p q (scheduled ts c' s' short says gives) (scheduled us d' t' short' says' gives') =
-    once_both run once ts us (one_schedule file ts us says says') c d s t p q gives gives'
+-- one text of a script, and one place behind it
+once_script : (sets : Option ℕ) (pairs : List (ℕ × ℕ)) (events : List Timed) (commands : List ScriptCommand) → Once (ScriptGives sets pairs events commands)
+once_script sets pairs events commands c d s t p q (drives x last is) (drives y other is') =
+    let same = one_text (given pairs events MAX_LENGTH sets) commands (at [] 1) last other x y is is' in
+    record { status = ap (λ (z : Place). driven_code z.end) same.1; text = same.0 }
 
-once_image : (after : List (ℕ × ℕ) → ℕ → List ℕ → Type 0) → ((pairs : List (ℕ × ℕ)) → Once (after pairs)) → (file : List ℕ) → Once (ImageGives after file)
-once_image after once file c d s t p q (too_long long) (too_long longer) = record { status = refl; text = refl }
-once_image after once file c d s t p q (too_long long) (refused g short h) = absurd (omega arith)
-once_image after once file c d s t p q (too_long long) (accepted us d' t' image gives) = absurd (omega (arith, image.short))
-once_image after once file c d s t p q (refused g short h) (too_long long) = absurd (omega arith)
-once_image after once file c d s t p q (refused g short h) (refused g' short' h') = record { status = refl; text = ap (refused_line image_word) (one_fault file g g' h h') }
-once_image after once file c d s t p q (refused g short h) (accepted us d' t' image gives) = absurd (image_apart file us g image.image h)
-once_image after once file c d s t p q (accepted ps c' s' image gives) (too_long long) = absurd (omega (arith, image.short))
-once_image after once file c d s t p q (accepted ps c' s' image gives) (refused g short h) = absurd (image_apart file ps g image.image h)
-once_image after once file c d s t p q (accepted ps c' s' image gives) (accepted us d' t' image' gives') =
-    once_both after once ps us (one_image file ps us image.image image'.image) c d s t p q gives gives'
+once_asm : (image : List Part) → Once (AsmGives image)
+once_asm image c d s t p q assembled assembled = record { status = refl; text = refl }
 
-once_source : (file : List ℕ) → Once (SourceGives file)
-once_source file c d s t p q (source_too_long long) (source_too_long longer) = record { status = refl; text = refl }
-once_source file c d s t p q (source_too_long long) (source_refused g short h) = absurd (omega arith)
-once_source file c d s t p q (source_too_long long) (assembled image short h) = absurd (omega arith)
-once_source file c d s t p q (source_refused f short h) (source_too_long long) = absurd (omega arith)
-once_source file c d s t p q (source_refused f short h) (source_refused g short' h') =
-    record { status = refl; text = ap (refused_line source_word) (refusal_once (text_lines file) f g h h') }
-once_source file c d s t p q (source_refused f short h) (assembled image short' h') = absurd (never_both_answers (text_lines file) image f h' h)
-once_source file c d s t p q (assembled image short h) (source_too_long long) = absurd (omega arith)
-once_source file c d s t p q (assembled image short h) (source_refused g short' h') = absurd (never_both_answers (text_lines file) image g h h')
-once_source file c d s t p q (assembled image short h) (assembled other short' h') =
-    record { status = refl; text = ap hex_text (assembly_once (text_lines file) image other h h') }
+once_kind : (kind : FileKind) (after : Value kind → ℕ → List ℕ → Type 0) → ((value : Value kind) → Once (after value)) → (file : List ℕ) → Once (FileGives kind after file)
+once_kind kind after once file c d s t p q (too_long long) (too_long longer) = record { status = refl; text = refl }
+once_kind kind after once file c d s t p q (too_long long) (refused g short h) = absurd (omega arith)
+once_kind kind after once file c d s t p q (too_long long) (accepted us d' t' good gives) = absurd (omega (arith, good.short))
+once_kind kind after once file c d s t p q (refused g short h) (too_long long) = absurd (omega arith)
+once_kind kind after once file c d s t p q (refused g short h) (refused g' short' h') =
+    record { status = refl; text = ap (refused_line (word_of kind)) (one_fault kind file g g' h h') }
+once_kind kind after once file c d s t p q (refused g short h) (accepted us d' t' good gives) = absurd (apart kind file us g good.says h)
+once_kind kind after once file c d s t p q (accepted ts c' s' good gives) (too_long long) = absurd (omega (arith, good.short))
+once_kind kind after once file c d s t p q (accepted ts c' s' good gives) (refused g short h) = absurd (apart kind file ts g good.says h)
+once_kind kind after once file c d s t p q (accepted ts c' s' good gives) (accepted us d' t' good' gives') =
+    once_both after once ts us (one_value kind file ts us good.says good'.says) c d s t p q gives gives'
 
 once_dis : (pairs : List (ℕ × ℕ)) → Once (DisGives pairs)
-once_dis pairs c d s t p q (listed image _ says h) (listed other _ says' g) = record { status = refl; text = one_text image s t h (by_pairs other image t (says' ∙ sym says) g) }
+once_dis pairs c d s t p q (listed image _ says h) (listed other _ says' g) = record { status = refl; text = one_listing image s t h (by_pairs other image t (says' ∙ sym says) g) }
 
 -- one run comes to one line
 same_line : (number : ℕ) (g : Given) (rs qs : List Record) (e f : End) → IsLateRun g rs e → IsLateRun g qs f → Same (end_code e) (end_code f) (job_line number g rs e) (job_line number g qs f)
@@ -107,18 +96,18 @@ same_job number g h rs qs e f same a b =
 
 once_job : (number : ℕ) (sets : Option ℕ) (source schedule : List ℕ) → Once (JobGives number sets source schedule)
 once_job number sets source schedule c d s t p q (job_source_refused f bad) (job_source_refused g bad') =
-    record { status = refl; text = ap (refused_line source_word) (refusal_once (text_lines source) f g bad bad') }
-once_job number sets source schedule c d s t p q (job_source_refused f bad) (job_schedule_refused i g made bad') = absurd (never_both_answers (text_lines source) i f made bad)
-once_job number sets source schedule c d s t p q (job_source_refused f bad) (job_runs i us qs e made says run) = absurd (never_both_answers (text_lines source) i f made bad)
-once_job number sets source schedule c d s t p q (job_schedule_refused i f made bad) (job_source_refused g bad') = absurd (never_both_answers (text_lines source) i g made bad')
+    record { status = refl; text = ap (refused_line (word_of Source)) (one_fault Source source f g bad bad') }
+once_job number sets source schedule c d s t p q (job_source_refused f bad) (job_schedule_refused i g made bad') = absurd (apart Source source i f made bad)
+once_job number sets source schedule c d s t p q (job_source_refused f bad) (job_runs i us qs e made says run) = absurd (apart Source source i f made bad)
+once_job number sets source schedule c d s t p q (job_schedule_refused i f made bad) (job_source_refused g bad') = absurd (apart Source source i g made bad')
 once_job number sets source schedule c d s t p q (job_schedule_refused i f made bad) (job_schedule_refused j g made' bad') =
-    record { status = refl; text = ap (refused_line schedule_word) (one_schedule_fault schedule f g bad bad') }
-once_job number sets source schedule c d s t p q (job_schedule_refused i f made bad) (job_runs j us qs e made' says run) = absurd (answers_apart schedule us f says bad)
-once_job number sets source schedule c d s t p q (job_runs i ts rs e made says run) (job_source_refused g bad) = absurd (never_both_answers (text_lines source) i g made bad)
-once_job number sets source schedule c d s t p q (job_runs i ts rs e made says run) (job_schedule_refused j g made' bad) = absurd (answers_apart schedule ts g says bad)
+    record { status = refl; text = ap (refused_line (word_of Schedule)) (one_fault Schedule schedule f g bad bad') }
+once_job number sets source schedule c d s t p q (job_schedule_refused i f made bad) (job_runs j us qs e made' says run) = absurd (apart Schedule schedule us f says bad)
+once_job number sets source schedule c d s t p q (job_runs i ts rs e made says run) (job_source_refused g bad) = absurd (apart Source source i g made bad)
+once_job number sets source schedule c d s t p q (job_runs i ts rs e made says run) (job_schedule_refused j g made' bad) = absurd (apart Schedule schedule ts g says bad)
 once_job number sets source schedule c d s t p q (job_runs i ts rs e made says run) (job_runs j us qs f made' says' other) =
-    let image = assembly_once (text_lines source) i j made made' in
-    let events = one_schedule schedule ts us says says' in
+    let image = one_value Source source i j made made' in
+    let events = one_value Schedule schedule ts us says says' in
     let same = ap (λ (x : List Part). given (pairs_of x) ts MAX_LENGTH sets) image ∙ ap (λ (x : List Timed). given (pairs_of j) x MAX_LENGTH sets) events in
     same_job number _ _ rs qs e f same run other
 
@@ -130,26 +119,33 @@ once_read (Some f) rose gives some once c d s t p q (fetched x c' s' is_x g) (un
 once_read (Some f) rose gives some once c d s t p q (fetched x c' s' is_x g) (fetched y d' t' is_y h) = once_both gives once x y (is_x ∙ sym is_y) c d s t p q g h
 
 module _ (told : List ℕ → Option (List ℕ)) (rose : List ℕ → Type 0) where
-  once_plan : (schedule : Option (List ℕ)) (run : List Timed → ℕ → List ℕ → Type 0) → AllTold told (with_name schedule) → ((events : List Timed) → Once (run events)) → Once (PlanGives told rose schedule run)
-  once_plan None run known once = once []
-  once_plan (Some name) run known once = once_read (told name) (rose name) (ScheduleGives run) known.0 (once_schedule run once)
+  once_driven : (driver : Driver) (sets : Option ℕ) (pairs : List (ℕ × ℕ)) (events : List Timed) → AllTold told (names (driver_files driver)) → Once (DriverGives told rose driver sets pairs events)
+  once_driven (ByLength limit traced) sets pairs events known = once_run sets limit traced pairs events
+  once_driven (ByScript script) sets pairs events known =
+      once_read (told script) (rose script) _ known.0 (once_kind Script (ScriptGives sets pairs events) (once_script sets pairs events))
 
-  once_command : (command : Command) → AllTold told (files_of command) → Once (CommandGives told rose command)
-  once_command (Run image schedule sets limit traced) known =
-      once_read (told image) (rose image) _ known.0
-      (once_image _ (λ pairs. once_plan schedule (RunGives sets limit traced pairs) known.1 (once_run sets limit traced pairs)))
-  once_command (Asm source) known = once_read (told source) (rose source) SourceGives known.0 once_source
-  once_command (Dis image) known = once_read (told image) (rose image) (ImageGives DisGives) known.0 (once_image DisGives once_dis)
+  once_plan : (schedule : Option (List ℕ)) (driver : Driver) (sets : Option ℕ) (pairs : List (ℕ × ℕ)) → AllTold told (names (planned_files schedule (driver_files driver)))
+      → Once (PlanGives told rose schedule (DriverGives told rose driver sets pairs))
+  once_plan None driver sets pairs known = once_driven driver sets pairs [] known
+  once_plan (Some name) driver sets pairs known =
+      once_read (told name) (rose name) _ known.0
+      (once_kind Schedule (DriverGives told rose driver sets pairs) (λ events. once_driven driver sets pairs events known.1))
+
+  once_command : (command : Command) → AllTold told (names (files_of command)) → Once (CommandGives told rose command)
+  once_command (Run image schedule sets driver) known =
+      once_read (told image) (rose image) _ known.0 (once_kind Image _ (λ pairs. once_plan schedule driver sets pairs known.1))
+  once_command (Asm source) known = once_read (told source) (rose source) _ known.0 (once_kind Source AsmGives once_asm)
+  once_command (Dis image) known = once_read (told image) (rose image) _ known.0 (once_kind Image DisGives once_dis)
   once_command (Gen number sets) known = once_job number sets (generated_source number) (generated_schedule number)
 
   pub one_outcome : (asked : Option Command) → AllTold told (names_of asked) → Once (Gives told rose asked)
   one_outcome None known c d s t p q in_no_form in_no_form = record { status = refl; text = refl }
   one_outcome (Some command) known c d s t p q (in_form x c' s' g) (in_form y d' t' h) = once_command command known c d s t p q g h
 
--- ---- no answer depends on the number of sets
+-- ---- what is printed of a run does not depend on the number of sets
 
-other_run : (ps : List (ℕ × ℕ)) (ts : List Timed) (limit : ℕ) (sets others : Option ℕ) (rs : List Record) (e : End) → IsLateRun (given ps ts limit sets) rs e → IsLateRun (given ps ts limit others) rs e
-other_run ps ts limit sets others rs e run = (run_sets (given ps ts limit sets) others rs e).1 run
+other_run : (ps : List (ℕ × ℕ)) (ts : List Timed) (limit : ℕ) (sets others : Option ℕ) (rs : List Record) (e : End) → IsByCounts ts → IsLateRun (given ps ts limit sets) rs e → IsLateRun (given ps ts limit others) rs e
+other_run ps ts limit sets others rs e counted run = (run_sets (given ps ts limit sets) others rs e counted).1 run
 
 other_text : (traced : Option Range) (ps : List (ℕ × ℕ)) (ts : List Timed) (limit : ℕ) (sets others : Option ℕ) (rs : List Record) (e : End)
     → printed_text traced (given ps ts limit others) rs e ≡ printed_text traced (given ps ts limit sets) rs e
@@ -159,28 +155,40 @@ other_text (Some range) ps ts limit sets others rs e =
     ap (λ (s : State). traced_lines (is_within range) rs ++ text_of (end_lines s e)) (state_by (given ps ts limit sets) (given ps ts limit others) rs refl)
 
 other_sets : (sets others : Option ℕ) (limit : ℕ) (traced : Option Range) (ps : List (ℕ × ℕ)) (ts : List Timed) (code : ℕ) (text : List ℕ)
-    → RunGives sets limit traced ps ts code text → RunGives others limit traced ps ts code text
-other_sets sets others limit traced ps ts code text (runs rs e run) =
+    → IsByCounts ts → RunGives sets limit traced ps ts code text → RunGives others limit traced ps ts code text
+other_sets sets others limit traced ps ts code text counted (runs rs e run) =
     subst (RunGives others limit traced ps ts (end_code e)) (other_text traced ps ts limit sets others rs e)
-    (runs rs e (other_run ps ts limit sets others rs e run))
+    (runs rs e (other_run ps ts limit sets others rs e counted run))
 
-pub same_in_sets : (told : List ℕ → Option (List ℕ)) (rose : List ℕ → Type 0) (image : List ℕ) (schedule : Option (List ℕ)) (sets others : Option ℕ) (limit code : ℕ) (traced : Option Range) (text : List ℕ)
-    → Gives told rose (Some (Run image schedule sets limit traced)) code text → Gives told rose (Some (Run image schedule others limit traced)) code text
-same_in_sets told rose image schedule sets others limit code traced text (in_form c n t g) =
-    let plan = λ (pairs : List (ℕ × ℕ)). plan_wider told told rose rose (λ n f is_file. is_file) (λ n r. r) schedule (RunGives sets limit traced pairs) (RunGives others limit traced pairs) (other_sets sets others limit traced pairs) in
-    in_form (Run image schedule others limit traced) code text
-    (reads_wider (told image) (told image) (rose image) (rose image) _ _ (λ f is_file. is_file) (λ r. r) (image_wider _ _ plan) code text g)
+-- by a schedule by counts
+counted_plan : (told : List ℕ → Option (List ℕ)) (rose : List ℕ → Type 0) (schedule : Option (List ℕ)) (run wider : List Timed → ℕ → List ℕ → Type 0) → IsCountedSchedule told schedule
+    → ((events : List Timed) → IsByCounts events → (c : ℕ) (t : List ℕ) → run events c t → wider events c t)
+    → (c : ℕ) (t : List ℕ) → PlanGives told rose schedule run c t → PlanGives told rose schedule wider c t
+counted_plan told rose None run wider counted more c t g = more [] tt c t g
+counted_plan told rose (Some name) run wider counted more c t (unread r) = unread r
+counted_plan told rose (Some name) run wider counted more c t (fetched f d s is_file (too_long long)) = fetched f c t is_file (too_long long)
+counted_plan told rose (Some name) run wider counted more c t (fetched f d s is_file (refused fault short bad)) = fetched f c t is_file (refused fault short bad)
+counted_plan told rose (Some name) run wider counted more c t (fetched f d s is_file (accepted events e u good g)) =
+    fetched f c t is_file (accepted events c t good (more events (counted f events is_file good.says) c t g))
 
-other_job : (number : ℕ) (sets others : Option ℕ) (source schedule : List ℕ) (code : ℕ) (text : List ℕ) → JobGives number sets source schedule code text → JobGives number others source schedule code text
-other_job number sets others source schedule code text (job_source_refused f bad) = job_source_refused f bad
-other_job number sets others source schedule code text (job_schedule_refused i f made bad) = job_schedule_refused i f made bad
-other_job number sets others source schedule code text (job_runs i ts rs e made says run) =
+pub same_in_sets : (told : List ℕ → Option (List ℕ)) (rose : List ℕ → Type 0) (image : List ℕ) (schedule : Option (List ℕ)) (sets others : Option ℕ) (limit code : ℕ) (traced : Option Range) (text : List ℕ) → IsCountedSchedule told schedule
+    → Gives told rose (Some (Run image schedule sets (ByLength limit traced))) code text → Gives told rose (Some (Run image schedule others (ByLength limit traced))) code text
+same_in_sets told rose image schedule sets others limit code traced text counted (in_form c n t g) =
+    let plan = λ (pairs : List (ℕ × ℕ)). counted_plan told rose schedule (RunGives sets limit traced pairs) (RunGives others limit traced pairs) counted
+    (λ events by_counts c t g. other_sets sets others limit traced pairs events c t by_counts g) in
+    in_form (Run image schedule others (ByLength limit traced)) code text
+    (reads_wider (told image) (told image) (rose image) (rose image) _ _ (λ f is_file. is_file) (λ r. r) (kind_wider Image _ _ plan) code text g)
+
+other_job : (number : ℕ) (sets others : Option ℕ) (source schedule : List ℕ) (code : ℕ) (text : List ℕ) → ((ts : List Timed) → IsSchedule (text_lines schedule) ts → IsByCounts ts) → JobGives number sets source schedule code text → JobGives number others source schedule code text
+other_job number sets others source schedule code text counted (job_source_refused f bad) = job_source_refused f bad
+other_job number sets others source schedule code text counted (job_schedule_refused i f made bad) = job_schedule_refused i f made bad
+other_job number sets others source schedule code text counted (job_runs i ts rs e made says run) =
     let ps = pairs_of i in
     let line = λ (s : State). generated_line number s.count (length (reached_after rs)) e in
     let same = state_by (given ps ts MAX_LENGTH sets) (given ps ts MAX_LENGTH others) rs refl in
-    subst (JobGives number others source schedule (end_code e)) (ap line same) (job_runs i ts rs e made says (other_run ps ts MAX_LENGTH sets others rs e run))
+    subst (JobGives number others source schedule (end_code e)) (ap line same) (job_runs i ts rs e made says (other_run ps ts MAX_LENGTH sets others rs e (counted ts says) run))
 
 pub job_same_in_sets : (told : List ℕ → Option (List ℕ)) (rose : List ℕ → Type 0) (number : ℕ) (sets others : Option ℕ) (code : ℕ) (text : List ℕ)
     → Gives told rose (Some (Gen number sets)) code text → Gives told rose (Some (Gen number others)) code text
 job_same_in_sets told rose number sets others code text (in_form c n t g) =
-    in_form (Gen number others) code text (other_job number sets others (generated_source number) (generated_schedule number) code text g)
+    in_form (Gen number others) code text (other_job number sets others (generated_source number) (generated_schedule number) code text (job_counted number) g)

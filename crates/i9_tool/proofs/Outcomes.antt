@@ -1,5 +1,6 @@
 -- What the command answers for its files, and for the words.
 use Rattle.std.proofs.Common.{◌≡◌, ℕ, ◌<◌, ◌≤◌, ◌⊎◌, inl, inr, List, [], ◌++◌, length, Option, Some, None, refl, sym, ap, ◌∙◌, subst, arith}
+use Rattle.std.proofs.lemmas.List.Elements.{recursion_from_All}
 use Rattle.i9_text.specs.Text.{lines_of}
 use Rattle.i9_model.specs.ScheduleText.{IsSchedule}
 use Rattle.i9_model.specs.declared.event.Timed.{Timed}
@@ -13,26 +14,37 @@ use Rattle.i9_model.specs.declared.run.End.TheVariants.{Exit, Limit, Hazard, Dea
 use Rattle.i9_model.specs.PrintedText.{end_code}
 use Rattle.i9_course.proofs.LateRuns.{late_goes_on}
 use Rattle.i9_hex.specs.Writing.{hex_text}
-use Rattle.i9_hex.proofs.OneAnswer.{some_answer}
-use Rattle.i9_schedule.proofs.OneAnswer.{some_answer as some_schedule}
-use Rattle.i9_asm.proofs.SomeAnswer.{some_answer as some_assembly}
+use Rattle.i9_script.specs.declared.command.Command.{Command as ScriptCommand}
+use Rattle.i9_script.specs.ScriptText.{IsCommandInRange, IsInLimits}
+use Rattle.i9_script.proofs.Limits.{script_in_limits}
 use Rattle.i9_outside.specs.declared.traits.TheConstants.{FILE_LIMIT}
 use Rattle.i9_outside.specs.Traits.{IsFile}
 use Rattle.i9_debug.specs.declared.print.Printed.{Printed}
-use Rattle.i9_tool.specs.declared.run.Ran.{Ran}
-use Rattle.i9_tool.specs.CommandLine.{Command, Run, Asm, Dis, Gen, words_line, read_line, image_word, schedule_word, source_word, long_line}
-use Rattle.i9_debug.specs.Lines.{refused_line}
+use Rattle.i9_debug.specs.declared.sessions.SessionEnd.{SessionEnd}
+use Rattle.i9_debug.specs.Lines.{refused_line, generated_line}
 use Rattle.i9_debug.specs.Print.{Account, Prints}
-use Rattle.i9_tool.specs.declared.words.Range.{Range}
-use Rattle.i9_tool.specs.Traced.{printed_text}
-use Rattle.i9_generator.specs.Generator.{generated_source, generated_schedule}
-use Rattle.i9_debug.specs.Lines.{generated_line}
-use Rattle.i9_tool.specs.declared.run.Counted.{Counted}
-use Rattle.i9_tool.specs.Run.{Runs, Counts, printed_of}
-use Rattle.i9_tool.specs.Outcome.{Reads, unread, fetched, RunGives, runs, ScheduleGives, schedule_too_long, schedule_refused, scheduled, IsAccepted, ImageGives, too_long, refused, accepted, SourceGives, source_too_long, source_refused, assembled, JobGives, job_source_refused, job_schedule_refused, job_runs, job_line, DisGives, PlanGives, CommandGives, Gives, in_no_form, in_form, Answers, code_for}
+use Rattle.i9_debug.specs.Session.{at}
+use Rattle.i9_debug.specs.Driven.{RunsScript, printed_of as session_printed}
 use Rattle.i9_debug.proofs.Prints.{prints_same}
-use Rattle.i9_tool.proofs.Listable.{some_listed}
+use Rattle.i9_debug.proofs.Commands.{script_leads}
+use Rattle.i9_machine.specs.declared.machine.Machine.{Machine}
+use Rattle.i9_schedule.specs.Plan.{Plan}
+use Rattle.i9_generator.specs.Generator.{generated_source, generated_schedule}
+use Rattle.i9_tool.specs.declared.files.FileKind.{FileKind}
+use Rattle.i9_tool.specs.declared.files.FileKind.TheVariants.{Image, Schedule, Source, Script}
+use Rattle.i9_tool.specs.declared.run.Counted.{Counted}
+use Rattle.i9_tool.specs.declared.run.Ran.{Ran}
+use Rattle.i9_tool.specs.declared.words.Range.{Range}
+use Rattle.i9_tool.specs.CommandLine.{Command, Run, Asm, Dis, Gen, Driver, ByLength, ByScript, words_line, read_line, long_line}
+use Rattle.i9_tool.specs.FileKinds.{Value, IsFaulty, IsAccepted, word_of, refusal_of}
+use Rattle.i9_tool.specs.Traced.{printed_text}
+use Rattle.i9_tool.specs.Run.{Runs, Counts, printed_of}
+use Rattle.i9_tool.specs.Outcome.{Reads, unread, fetched, FileGives, too_long, refused, accepted, RunGives, runs, driven_code, ScriptGives, drives, AsmGives, assembled, DisGives, JobGives, job_source_refused, job_schedule_refused, job_runs, job_line, DriverGives, PlanGives, CommandGives, Gives, in_no_form, in_form, Answers, code_for, Only, MissGives, missed_unread, missed_long, AnswersMiss}
 use Rattle.i9_tool.proofs.Answering.{answers_printed, answers_nothing, answers_wider}
+use Rattle.i9_tool.proofs.FileAnswers.{some_answer}
+use Rattle.i9_tool.proofs.Listable.{some_listed}
+
+-- ---- statuses
 
 -- the status of an end
 known_finish : (f : End) → end_code f < 6
@@ -41,6 +53,16 @@ known_finish Limit = omega arith
 known_finish (Hazard a) = omega arith
 known_finish (Dead code a) = omega arith
 known_finish (Imprecise a) = omega arith
+
+known_driven : (end : Option End) → driven_code end < 6
+known_driven None = omega arith
+known_driven (Some f) = known_finish f
+
+known_refusal : (kind : FileKind) → refusal_of kind < 6
+known_refusal Image = omega arith
+known_refusal Schedule = omega arith
+known_refusal Source = omega arith
+known_refusal Script = omega arith
 
 -- ---- some status and text for each file
 
@@ -57,6 +79,18 @@ some_run sets limit traced pairs events =
     let records = later.0 ++ [] in
     (end_code later.1, printed_text traced g records later.1, runs records later.1 later.2)
 
+-- the text of a script from the first turn of a run on
+pub some_commands : (sets : Option ℕ) (pairs : List (ℕ × ℕ)) (events : List Timed) (commands : List ScriptCommand) → IsInLimits commands → SomeFor (ScriptGives sets pairs events commands)
+some_commands sets pairs events commands limits =
+    let g = given pairs events MAX_LENGTH sets in
+    let ranges = recursion_from_All IsCommandInRange commands limits.each in
+    let leads = script_leads g commands (at [] 1) ranges (tt, omega arith) in
+    (driven_code leads.1.end, leads.0, drives leads.0 leads.1 leads.2)
+
+pub some_script : (sets : Option ℕ) (pairs : List (ℕ × ℕ)) (events : List Timed) (file : List ℕ) (commands : List ScriptCommand) → IsAccepted Script file commands
+    → SomeFor (ScriptGives sets pairs events commands)
+some_script sets pairs events file commands good = some_commands sets pairs events commands (script_in_limits (lines_of file) commands good.says)
+
 -- a file that may be the one that is told
 some_file : (told : Option (List ℕ)) → (file : List ℕ) × IsFile told file
 some_file None = ([], tt)
@@ -68,87 +102,73 @@ some_read told rose gives some =
     let s = some f.0 in
     (s.0, s.1, fetched f.0 s.0 s.1 f.1 s.2)
 
-short_plan : (run : List Timed → ℕ → List ℕ → Type 0) (file : List ℕ) → ((events : List Timed) → SomeFor (run events)) → length file ≤ FILE_LIMIT → SomeFor (ScheduleGives run file)
-short_plan run file some short =
-    elim (some_schedule file) [
-      | inl says ↦ let s = some says.0 in (s.0, s.1, scheduled says.0 s.0 s.1 short says.1 s.2)
-      | inr bad ↦ (3, refused_line schedule_word bad.0, schedule_refused bad.0 short bad.1)
+short_kind : (kind : FileKind) (after : Value kind → ℕ → List ℕ → Type 0) (file : List ℕ) → ((value : Value kind) → IsAccepted kind file value → SomeFor (after value)) → length file ≤ FILE_LIMIT → SomeFor (FileGives kind after file)
+short_kind kind after file some short =
+    elim (some_answer kind file) [
+      | inl says ↦
+          let good : IsAccepted kind file says.0 = record { short = short; says = says.1 } in
+          let s = some says.0 good in
+          (s.0, s.1, accepted says.0 s.0 s.1 good s.2)
+      | inr bad ↦ (refusal_of kind, refused_line (word_of kind) bad.0, refused bad.0 short bad.1)
     ]
 
-pub some_plan : (run : List Timed → ℕ → List ℕ → Type 0) → ((events : List Timed) → SomeFor (run events)) → (file : List ℕ) → SomeFor (ScheduleGives run file)
-some_plan run some file =
+pub some_kind : (kind : FileKind) (after : Value kind → ℕ → List ℕ → Type 0) (file : List ℕ) → ((value : Value kind) → IsAccepted kind file value → SomeFor (after value)) → SomeFor (FileGives kind after file)
+some_kind kind after file some =
     elim (sized (length file)) [
-      | inl short ↦ short_plan run file some short
-      | inr long ↦ (3, long_line schedule_word, schedule_too_long long)
+      | inl short ↦ short_kind kind after file some short
+      | inr long ↦ (refusal_of kind, long_line (word_of kind), too_long long)
     ]
 
-short_image : (after : List (ℕ × ℕ) → ℕ → List ℕ → Type 0) (file : List ℕ) → ((pairs : List (ℕ × ℕ)) → IsAccepted file pairs → SomeFor (after pairs)) → length file ≤ FILE_LIMIT → SomeFor (ImageGives after file)
-short_image after file some short =
-    elim (some_answer file) [
-      | inl image ↦
-          let is_image : IsAccepted file image.0 = record { short = short; image = image.1 } in
-          let s = some image.0 is_image in
-          (s.0, s.1, accepted image.0 s.0 s.1 is_image s.2)
-      | inr bad ↦ (2, refused_line image_word bad.0, refused bad.0 short bad.1)
-    ]
+pub some_dis : (file : List ℕ) (pairs : List (ℕ × ℕ)) → IsAccepted Image file pairs → SomeFor (DisGives pairs)
+some_dis file pairs good = let s = some_listed file pairs good in (0, s.0, s.1)
 
-pub some_image : (after : List (ℕ × ℕ) → ℕ → List ℕ → Type 0) (file : List ℕ) → ((pairs : List (ℕ × ℕ)) → IsAccepted file pairs → SomeFor (after pairs)) → SomeFor (ImageGives after file)
-some_image after file some =
-    elim (sized (length file)) [
-      | inl short ↦ short_image after file some short
-      | inr long ↦ (2, long_line image_word, too_long long)
-    ]
+pub some_list : (file : List ℕ) → SomeFor (FileGives Image DisGives file)
+some_list file = some_kind Image DisGives file (some_dis file)
 
-pub some_dis : (file : List ℕ) (pairs : List (ℕ × ℕ)) → IsAccepted file pairs → SomeFor (DisGives pairs)
-some_dis file pairs is_image = let s = some_listed file pairs is_image in (0, s.0, s.1)
+pub some_asm : (image : List Part) → SomeFor (AsmGives image)
+some_asm image = (0, hex_text image, assembled)
 
-pub some_list : (file : List ℕ) → SomeFor (ImageGives DisGives file)
-some_list file = some_image DisGives file (some_dis file)
-
-short_source : (file : List ℕ) → length file ≤ FILE_LIMIT → SomeFor (SourceGives file)
-short_source file short =
-    elim (some_assembly (lines_of file)) [
-      | inl made ↦ (0, hex_text made.0, assembled made.0 short made.1)
-      | inr bad ↦ (3, refused_line source_word bad.0, source_refused bad.0 short bad.1)
-    ]
-
-pub some_source : (file : List ℕ) → SomeFor (SourceGives file)
-some_source file =
-    elim (sized (length file)) [
-      | inl short ↦ short_source file short
-      | inr long ↦ (3, long_line source_word, source_too_long long)
-    ]
+pub some_source : (file : List ℕ) → SomeFor (FileGives Source AsmGives file)
+some_source file = some_kind Source AsmGives file (λ image good. some_asm image)
 
 -- the schedule of a job whose source is assembled
 pub some_job_run : (number : ℕ) (sets : Option ℕ) (source schedule : List ℕ) (image : List Part) → IsAssembly (lines_of source) image → SomeFor (JobGives number sets source schedule)
 some_job_run number sets source schedule image made =
-    elim (some_schedule schedule) [
+    elim (some_answer Schedule schedule) [
       | inl says ↦
           let g = given (pairs_of image) says.0 MAX_LENGTH sets in
           let later = late_goes_on g [] tt in
           let records = later.0 ++ [] in
           (end_code later.1, job_line number g records later.1, job_runs image says.0 records later.1 made says.1 later.2)
-      | inr bad ↦ (3, refused_line schedule_word bad.0, job_schedule_refused image bad.0 made bad.1)
+      | inr bad ↦ (3, refused_line (word_of Schedule) bad.0, job_schedule_refused image bad.0 made bad.1)
     ]
 
 pub some_job : (number : ℕ) (sets : Option ℕ) (source schedule : List ℕ) → SomeFor (JobGives number sets source schedule)
 some_job number sets source schedule =
-    elim (some_assembly (lines_of source)) [
+    elim (some_answer Source source) [
       | inl made ↦ some_job_run number sets source schedule made.0 made.1
-      | inr bad ↦ (3, refused_line source_word bad.0, job_source_refused bad.0 bad.1)
+      | inr bad ↦ (3, refused_line (word_of Source) bad.0, job_source_refused bad.0 bad.1)
     ]
 
 module _ (told : List ℕ → Option (List ℕ)) (rose : List ℕ → Type 0) where
+  pub some_driven : (driver : Driver) (sets : Option ℕ) (pairs : List (ℕ × ℕ)) (events : List Timed) → SomeFor (DriverGives told rose driver sets pairs events)
+  some_driven (ByLength limit traced) sets pairs events = some_run sets limit traced pairs events
+  some_driven (ByScript script) sets pairs events =
+      some_read (told script) (rose script) _ (λ file. some_kind Script (ScriptGives sets pairs events) file (some_script sets pairs events file))
+
   pub some_planned : (schedule : Option (List ℕ)) (run : List Timed → ℕ → List ℕ → Type 0) → ((events : List Timed) → SomeFor (run events)) → SomeFor (PlanGives told rose schedule run)
   some_planned None run some = some []
-  some_planned (Some name) run some = some_read (told name) (rose name) (ScheduleGives run) (some_plan run some)
+  some_planned (Some name) run some = some_read (told name) (rose name) _ (λ file. some_kind Schedule run file (λ events good. some events))
+
+  pub some_imaged : (schedule : Option (List ℕ)) (driver : Driver) (sets : Option ℕ) (file : List ℕ)
+      → SomeFor (FileGives Image (λ pairs. PlanGives told rose schedule (DriverGives told rose driver sets pairs)) file)
+  some_imaged schedule driver sets file =
+      some_kind Image _ file (λ pairs good. some_planned schedule (DriverGives told rose driver sets pairs) (some_driven driver sets pairs))
 
   pub some_command : (c : Command) → SomeFor (CommandGives told rose c)
-  some_command (Run image schedule sets limit traced) =
-      some_read (told image) (rose image) _
-      (λ file. some_image _ file (λ pairs is_image. some_planned schedule (RunGives sets limit traced pairs) (some_run sets limit traced pairs)))
-  some_command (Asm source) = some_read (told source) (rose source) SourceGives some_source
-  some_command (Dis image) = some_read (told image) (rose image) (ImageGives DisGives) some_list
+  some_command (Run image schedule sets driver) = some_read (told image) (rose image) _ (some_imaged schedule driver sets)
+  some_command (Asm source) = some_read (told source) (rose source) _ some_source
+  some_command (Dis image) = some_read (told image) (rose image) _ some_list
   some_command (Gen number sets) = some_job number sets (generated_source number) (generated_schedule number)
 
   pub some_outcome : (asked : Option Command) → SomeFor (Gives told rose asked)
@@ -162,24 +182,24 @@ pub reads_wider : (told other : Option (List ℕ)) (rose risen : Type 0) (gives 
 reads_wider told other rose risen gives wider found rises more c t (unread r) = unread (rises r)
 reads_wider told other rose risen gives wider found rises more c t (fetched f d s is_file g) = fetched f c t (found f is_file) (more f c t g)
 
-pub schedule_wider : (run other : List Timed → ℕ → List ℕ → Type 0) → ((events : List Timed) (c : ℕ) (t : List ℕ) → run events c t → other events c t)
-    → (f : List ℕ) (c : ℕ) (t : List ℕ) → ScheduleGives run f c t → ScheduleGives other f c t
-schedule_wider run other more f c t (schedule_too_long long) = schedule_too_long long
-schedule_wider run other more f c t (schedule_refused fault short bad) = schedule_refused fault short bad
-schedule_wider run other more f c t (scheduled events d s short says g) = scheduled events c t short says (more events c t g)
+pub kind_wider : (kind : FileKind) (after other : Value kind → ℕ → List ℕ → Type 0) → ((value : Value kind) (c : ℕ) (t : List ℕ) → after value c t → other value c t)
+    → (f : List ℕ) (c : ℕ) (t : List ℕ) → FileGives kind after f c t → FileGives kind other f c t
+kind_wider kind after other more f c t (too_long long) = too_long long
+kind_wider kind after other more f c t (refused fault short bad) = refused fault short bad
+kind_wider kind after other more f c t (accepted value d s good g) = accepted value c t good (more value c t g)
 
-pub image_wider : (after other : List (ℕ × ℕ) → ℕ → List ℕ → Type 0) → ((pairs : List (ℕ × ℕ)) (c : ℕ) (t : List ℕ) → after pairs c t → other pairs c t)
-    → (f : List ℕ) (c : ℕ) (t : List ℕ) → ImageGives after f c t → ImageGives other f c t
-image_wider after other more f c t (too_long long) = too_long long
-image_wider after other more f c t (refused fault short bad) = refused fault short bad
-image_wider after other more f c t (accepted pairs d s image g) = accepted pairs c t image (more pairs c t g)
+module _ (told other : List ℕ → Option (List ℕ)) (rose risen : List ℕ → Type 0) (found : (n f : List ℕ) → IsFile (told n) f → IsFile (other n) f) (rises : (n : List ℕ) → rose n → risen n) where
+  pub driver_wider : (driver : Driver) (sets : Option ℕ) (pairs : List (ℕ × ℕ)) (events : List Timed) (c : ℕ) (t : List ℕ)
+      → DriverGives told rose driver sets pairs events c t → DriverGives other risen driver sets pairs events c t
+  driver_wider (ByLength limit traced) sets pairs events c t g = g
+  driver_wider (ByScript script) sets pairs events c t g =
+      reads_wider (told script) (other script) (rose script) (risen script) _ _ (found script) (rises script) (λ f d s h. h) c t g
 
-pub plan_wider : (told other : List ℕ → Option (List ℕ)) (rose risen : List ℕ → Type 0) → ((n f : List ℕ) → IsFile (told n) f → IsFile (other n) f) → ((n : List ℕ) → rose n → risen n)
-    → (schedule : Option (List ℕ)) (run wider : List Timed → ℕ → List ℕ → Type 0) → ((events : List Timed) (c : ℕ) (t : List ℕ) → run events c t → wider events c t)
-    → (c : ℕ) (t : List ℕ) → PlanGives told rose schedule run c t → PlanGives other risen schedule wider c t
-plan_wider told other rose risen found rises None run wider more c t g = more [] c t g
-plan_wider told other rose risen found rises (Some name) run wider more c t g =
-    reads_wider (told name) (other name) (rose name) (risen name) (ScheduleGives run) (ScheduleGives wider) (found name) (rises name) (schedule_wider run wider more) c t g
+  pub plan_wider : (schedule : Option (List ℕ)) (run wider : List Timed → ℕ → List ℕ → Type 0) → ((events : List Timed) (c : ℕ) (t : List ℕ) → run events c t → wider events c t)
+      → (c : ℕ) (t : List ℕ) → PlanGives told rose schedule run c t → PlanGives other risen schedule wider c t
+  plan_wider None run wider more c t g = more [] c t g
+  plan_wider (Some name) run wider more c t g =
+      reads_wider (told name) (other name) (rose name) (risen name) (FileGives Schedule run) (FileGives Schedule wider) (found name) (rises name) (kind_wider Schedule run wider more) c t g
 
 -- ---- what is answered
 
@@ -207,6 +227,14 @@ module _ {K : Type 0} (k : Account K) where
   image_runs sets limit traced pairs events ran code a b r e =
       answers_with (RunGives sets limit traced pairs events) (printed_of ran) (end_code r.end) code _ a b (known_finish r.end) (runs r.records r.end r.run) r.prints e
 
+  -- a script drove one
+  pub script_runs : (sets : Option ℕ) (pairs : List (ℕ × ℕ)) (events : List Timed) (commands : List ScriptCommand) (answer : SessionEnd) (code : ℕ) (a b : K) (m : Machine) (plan : Plan)
+      → (r : RunsScript answer (given pairs events MAX_LENGTH sets) (at [] 1) commands k a b m plan) → code ≡ code_for (session_printed answer) (driven_code r.drives.last.end)
+      → Answers (ScriptGives sets pairs events commands) code k a b
+  script_runs sets pairs events commands answer code a b m plan r e =
+      answers_with (ScriptGives sets pairs events commands) (session_printed answer) (driven_code r.drives.last.end) code r.drives.text a b (known_driven r.drives.last.end)
+      (drives r.drives.text r.drives.last r.drives.is_text) r.drives.prints e
+
   -- the image of a job ran
   pub job_counted : (number : ℕ) (sets : Option ℕ) (source schedule : List ℕ) (image : List Part) (events : List Timed) (counted : Counted) (p : Printed) (code : ℕ) (a b : K)
       → IsAssembly (lines_of source) image → IsSchedule (lines_of schedule) events → Counts counted (given (pairs_of image) events MAX_LENGTH sets)
@@ -216,37 +244,69 @@ module _ {K : Type 0} (k : Account K) where
       let same = ap (λ (n : ℕ). generated_line number n counted.events counted.end) c.count ∙ ap (λ (n : ℕ). generated_line number (state_after (given (pairs_of image) events MAX_LENGTH sets) c.records).count n counted.end) c.events in
       answers_line (JobGives number sets source schedule) p (end_code counted.end) code _ _ a b (known_finish counted.end) (job_runs image events c.records counted.end made says c.run) same printed e
 
-  -- a schedule was fetched whose events a run has
-  pub schedule_runs : (run : List Timed → ℕ → List ℕ → Type 0) (file : List ℕ) (events : List Timed) (code : ℕ) (a b : K) → length file ≤ FILE_LIMIT → IsSchedule (lines_of file) events
-      → Answers (run events) code k a b → Answers (ScheduleGives run file) code k a b
-  schedule_runs run file events code a b short says h = answers_wider k (run events) (ScheduleGives run file) code a b (λ c t g. scheduled events c t short says g) h
+  -- the line of a refusal was printed
+  pub answers_refusal : (kind : FileKind) (fault : ℕ × ℕ) (p : Printed) (status code : ℕ) (word : List ℕ) (a b : K) → word ≡ word_of kind → code ≡ refusal_of kind
+      → Prints p k a b (refused_line word fault) → status ≡ code_for p code → Answers (Only (refusal_of kind) (refused_line (word_of kind) fault)) status k a b
+  answers_refusal kind fault p status code word a b same is printed e =
+      answers_line (Only (refusal_of kind) (refused_line (word_of kind) fault)) p (refusal_of kind) status (refused_line word fault) (refused_line (word_of kind) fault) a b (known_refusal kind) (refl, refl)
+      (ap (λ (w : List ℕ). refused_line w fault) same) printed (e ∙ ap (code_for p) is)
 
-  -- an image was fetched and accepted
-  pub image_accepted : (after : List (ℕ × ℕ) → ℕ → List ℕ → Type 0) (file : List ℕ) (pairs : List (ℕ × ℕ)) (code : ℕ) (a b : K) → IsAccepted file pairs
-      → Answers (after pairs) code k a b → Answers (ImageGives after file) code k a b
-  image_accepted after file pairs code a b image h = answers_wider k (after pairs) (ImageGives after file) code a b (λ c t g. accepted pairs c t image g) h
+  -- the one status and text are also given in another way
+  pub answers_only : (gives : ℕ → List ℕ → Type 0) (code status : ℕ) (text : List ℕ) (a b : K) → gives code text → Answers (Only code text) status k a b → Answers gives status k a b
+  answers_only gives code status text a b is_given h =
+      answers_wider k (Only code text) gives status a b (λ c t e. subst (λ (n : ℕ). gives n t) (sym e.0) (subst (λ (x : List ℕ). gives code x) (sym e.1) is_given)) h
+
+  module _ (kind : FileKind) (after : Value kind → ℕ → List ℕ → Type 0) (file : List ℕ) where
+    -- a file is accepted
+    pub file_accepted : (value : Value kind) (code : ℕ) (a b : K) → IsAccepted kind file value → Answers (after value) code k a b → Answers (FileGives kind after file) code k a b
+    file_accepted value code a b good h = answers_wider k (after value) (FileGives kind after file) code a b (λ c t g. accepted value c t good g) h
+
+    -- a file is refused
+    pub file_refused : (fault : ℕ × ℕ) (code : ℕ) (a b : K) → length file ≤ FILE_LIMIT → IsFaulty kind (lines_of file) fault
+        → Answers (Only (refusal_of kind) (refused_line (word_of kind) fault)) code k a b → Answers (FileGives kind after file) code k a b
+    file_refused fault code a b short bad h = answers_only (FileGives kind after file) (refusal_of kind) code (refused_line (word_of kind) fault) a b (refused fault short bad) h
 
   -- what is answered for a file that was fetched
-  pub file_fetched : (told : Option (List ℕ)) (rose : Type 0) (gives : List ℕ → ℕ → List ℕ → Type 0) (file bytes : List ℕ) (code : ℕ) (a b : K) → IsFile told file → bytes ≡ file
-      → Answers (gives bytes) code k a b → Answers (Reads told rose gives) code k a b
-  file_fetched told rose gives file bytes code a b is_file same h =
+  pub file_fetched : (told : Option (List ℕ)) (rose : Type 0) (gives : List ℕ → ℕ → List ℕ → Type 0) (file bytes : List ℕ) (code : ℕ) (a mid b : K) → IsFile told file → bytes ≡ file
+      → mid ≡ a → Answers (gives bytes) code k mid b → Answers (Reads told rose gives) code k a b
+  file_fetched told rose gives file bytes code a mid b is_file same there h =
       let found : IsFile told bytes = subst (IsFile told) (sym same) is_file in
-      answers_wider k (gives bytes) (Reads told rose gives) code a b (λ c t g. fetched bytes c t found g) h
+      subst (λ (x : K). Answers (Reads told rose gives) code k x b) there (answers_wider k (gives bytes) (Reads told rose gives) code mid b (λ c t g. fetched bytes c t found g) h)
 
-  -- it was said that a file was not read
-  pub file_unread : (told : Option (List ℕ)) (rose : Type 0) (gives : List ℕ → ℕ → List ℕ → Type 0) (p : Printed) (code : ℕ) (a b : K) → rose → Prints p k a b read_line → code ≡ code_for p 5
-      → Answers (Reads told rose gives) code k a b
-  file_unread told rose gives p code a b rises printed e = answers_with (Reads told rose gives) p 5 code read_line a b (omega arith) (unread rises) printed e
+  miss_given : (kind : FileKind) (told : Option (List ℕ)) (rose : Type 0) (after : Value kind → ℕ → List ℕ → Type 0) (c : ℕ) (t : List ℕ)
+      → MissGives kind told rose c t → Reads told rose (FileGives kind after) c t
+  miss_given kind told rose after c t (missed_unread r) = unread r
+  miss_given kind told rose after c t (missed_long file is_file long) = fetched file c t is_file (too_long long)
 
-  -- what is answered for a schedule in a later state of the files
-  pub later_plan : (told other : List ℕ → Option (List ℕ)) (rose risen : List ℕ → Type 0) → ((n : List ℕ) → other n ≡ told n) → ((n : List ℕ) → rose n → risen n)
-      → (schedule : Option (List ℕ)) (sets : Option ℕ) (limit : ℕ) (traced : Option Range) (file : List ℕ) (code : ℕ) (a b : K)
-      → Answers (ImageGives (λ pairs. PlanGives other rose schedule (RunGives sets limit traced pairs)) file) code k a b
-      → Answers (ImageGives (λ pairs. PlanGives told risen schedule (RunGives sets limit traced pairs)) file) code k a b
-  later_plan told other rose risen same rises schedule sets limit traced file code a b h =
-      let found : (n f : List ℕ) → IsFile (other n) f → IsFile (told n) f = λ n f is_file. subst (λ (o : Option (List ℕ)). IsFile o f) (same n) is_file in
-      answers_wider k _ _ code a b
-      (image_wider _ _ (λ pairs. plan_wider other told rose risen found rises schedule (RunGives sets limit traced pairs) (RunGives sets limit traced pairs) (λ events c t g. g)) file) h
+  -- and for one that wasn't
+  pub file_missed : (kind : FileKind) (told : Option (List ℕ)) (rose : Type 0) (after : Value kind → ℕ → List ℕ → Type 0) (code : ℕ) (a b : K)
+      → SomeFor (Reads told rose (FileGives kind after)) → AnswersMiss kind told rose code k a b → Answers (Reads told rose (FileGives kind after)) code k a b
+  file_missed kind told rose after code a b some (inl h) =
+      answers_wider k (MissGives kind told rose) (Reads told rose (FileGives kind after)) code a b (miss_given kind told rose after) h
+  file_missed kind told rose after code a b some (inr none) =
+      let gives = Reads told rose (FileGives kind after) in
+      subst (λ (n : ℕ). Answers gives n k a b) (sym none.0) (subst (λ (x : K). Answers gives 7 k a x) (sym none.1) (answers_unprinted gives a some))
+
+  -- the same by the files that are told, and the counts that rise, in a longer call
+  module _ (told other : List ℕ → Option (List ℕ)) (rose risen : List ℕ → Type 0) (same : (n : List ℕ) → other n ≡ told n) (rises : (n : List ℕ) → rose n → risen n)
+      (driver : Driver) (sets : Option ℕ) (file : List ℕ) (code : ℕ) (a b : K) where
+    found : (n f : List ℕ) → IsFile (other n) f → IsFile (told n) f
+    found n f is_file = subst (λ (o : Option (List ℕ)). IsFile o f) (same n) is_file
+
+    pub later_schedule : (pairs : List (ℕ × ℕ))
+        → Answers (FileGives Schedule (DriverGives other rose driver sets pairs) file) code k a b
+        → Answers (FileGives Schedule (DriverGives told risen driver sets pairs) file) code k a b
+    later_schedule pairs h =
+        answers_wider k _ _ code a b
+        (kind_wider Schedule (DriverGives other rose driver sets pairs) (DriverGives told risen driver sets pairs) (driver_wider other told rose risen found rises driver sets pairs) file) h
+
+    pub later_image : (schedule : Option (List ℕ))
+        → Answers (FileGives Image (λ pairs. PlanGives other rose schedule (DriverGives other rose driver sets pairs)) file) code k a b
+        → Answers (FileGives Image (λ pairs. PlanGives told risen schedule (DriverGives told risen driver sets pairs)) file) code k a b
+    later_image schedule h =
+        answers_wider k _ _ code a b
+        (kind_wider Image _ _ (λ pairs. plan_wider other told rose risen found rises schedule (DriverGives other rose driver sets pairs) (DriverGives told risen driver sets pairs)
+        (driver_wider other told rose risen found rises driver sets pairs)) file) h
 
   module _ (told : List ℕ → Option (List ℕ)) (rose : List ℕ → Type 0) where
     -- what a command is answered, where the words ask for it
@@ -258,3 +318,13 @@ module _ {K : Type 0} (k : Account K) where
     pub words_refused : (asked : Option Command) (p : Printed) (code : ℕ) (a b : K) → None ≡ asked → Prints p k a b words_line → code ≡ code_for p 1 → Answers (Gives told rose asked) code k a b
     words_refused asked p code a b none printed e =
         subst (λ (o : Option Command). Answers (Gives told rose o) code k a b) none (answers_with (Gives told rose None) p 1 code words_line a b (omega arith) in_no_form printed e)
+
+-- the line of a file that was not read, or is too long, was printed
+module _ {K : Type 0} (k : Account K) (kind : FileKind) (told : Option (List ℕ)) (rose : Type 0) where
+  pub unread_answers : (p : Printed) (status : ℕ) (a b : K) → rose → Prints p k a b read_line → status ≡ code_for p 5 → AnswersMiss kind told rose status k a b
+  unread_answers p status a b r printed e = inl (answers_with k (MissGives kind told rose) p 5 status read_line a b (omega arith) (missed_unread r) printed e)
+
+  pub long_answers : (p : Printed) (status code : ℕ) (file line : List ℕ) (a b : K) → IsFile told file → FILE_LIMIT < length file → line ≡ long_line (word_of kind) → code ≡ refusal_of kind
+      → Prints p k a b line → status ≡ code_for p code → AnswersMiss kind told rose status k a b
+  long_answers p status code file line a b is_file long same is printed e =
+      inl (answers_line k (MissGives kind told rose) p (refusal_of kind) status line (long_line (word_of kind)) a b (known_refusal kind) (missed_long file is_file long) same printed (e ∙ ap (code_for p) is))

@@ -1,17 +1,16 @@
--- The text of what was refused is one line.
+-- The text of what is refused is one line.
 use Rattle.std.proofs.Common.{ℕ, refl}
 use Rattle.i9_debug.specs.Lines.{refused_line}
 use Rattle.i9_debug.specs.Print.{IsLine}
 use Rattle.i9_debug.proofs.LineCounts.{line-refused}
-use Rattle.i9_tool.specs.CommandLine.{image_word, schedule_word, source_word}
+use Rattle.i9_tool.specs.declared.files.FileKind.{FileKind}
+use Rattle.i9_tool.specs.declared.files.FileKind.TheVariants.{Image, Schedule, Source, Script}
+use Rattle.i9_tool.specs.FileKinds.{word_of}
 
-pub line-image : (fault : ℕ × ℕ) → IsLine (refused_line image_word fault)
-line-image fault = line-refused image_word fault refl
+pub line-file : (kind : FileKind) (fault : ℕ × ℕ) → IsLine (refused_line (word_of kind) fault)
+line-file Image fault = line-refused (word_of Image) fault refl
+line-file Schedule fault = line-refused (word_of Schedule) fault refl
+line-file Source fault = line-refused (word_of Source) fault refl
+line-file Script fault = line-refused (word_of Script) fault refl
 
-pub line-schedule : (fault : ℕ × ℕ) → IsLine (refused_line schedule_word fault)
-line-schedule fault = line-refused schedule_word fault refl
-
-pub line-source : (fault : ℕ × ℕ) → IsLine (refused_line source_word fault)
-line-source fault = line-refused source_word fault refl
-
-pub ruleset refusal_rules = (line-image, line-schedule, line-source)
+pub ruleset refusal_rules = (line-file)

@@ -8,7 +8,7 @@ use Rattle.i9_model.specs.Run.{Given, Kind, Instruction, Faulted, Entered, Inter
 use Rattle.i9_model.specs.PrintedText.{text_of, lines_of, record_lines, end_lines, run_text}
 use Rattle.i9_model.proofs.Lines.{text_of-append}
 use Rattle.i9_course.specs.LateRun.{steps, IsLatePast, finish_after}
-use Rattle.i9_course.proofs.LateRuns.{late_goes_on, records_of-steps, end_is_ahead}
+use Rattle.i9_course.proofs.LateRuns.{late_goes_on, records_of-steps}
 use Rattle.i9_machine.specs.declared.line.Line.{Line}
 use Rattle.i9_machine.specs.declared.line.Issued.{Issued}
 use Rattle.i9_machine.specs.declared.line.Turn.{Turn}
@@ -159,7 +159,7 @@ module _ (allows : ℕ → Bool → Type 0) where
     -- the end lies ahead
     ends : (e : End) (m : Machine) (plan : Plan) (ls : List Line) → Advances g (steps rs) (turns.End e) before m plan [] ls
         → finish_after g rs ≡ Some e
-    ends e m plan ls a = end_is_ahead g rs ∙ a.is_end
+    ends e m plan ls a = a.is_end
 
   module _ (g : Given) {K : Type 0} (k : Account K) where
     abbrev Printing : Printed → K → K → List ℕ → Type 0

@@ -1,31 +1,43 @@
 -- The words of the command, and the lines that answer what was refused.
-use Rattle.std.specs.Prelude.{ℕ, Bool, ◌&&◌, not, ◌==◌, nat_le, if◌then◌else◌, List, [], ◌∷◌, ◌++◌, length, Option, Some, None, codes}
+use Rattle.std.specs.Prelude.{ℕ, Bool, ◌&&◌, ◌==◌, nat_le, if◌then◌else◌, List, [], ◌∷◌, ◌++◌, length, Option, Some, None, codes}
 use Rattle.std.specs.Option.{option_map}
 use Rattle.std.specs.Str.{bytes_eq}
 use Rattle.i9_text.specs.Text.{number_of}
 use Rattle.i9_model.specs.declared.layout.TheConstants.{MAX_LENGTH, MOST_SETS}
 use Rattle.i9_tool.specs.declared.words.Range.{Range}
+use Rattle.i9_tool.specs.declared.files.FileKind.TheVariants.{Image, Schedule, Source, Script}
+use Rattle.i9_tool.specs.FileKinds.{File, file_of}
+
+-- What drives a run: its length, of at most so many instructions, and then it is printed, and the instructions of a range
+-- of addresses or none are traced; or the script of this name.
+pub data Driver : Type 0 where
+  ByLength : (limit : ℕ) → (traced : Option Range) → Driver
+  ByScript : (script : List ℕ) → Driver
 
 -- What the words ask for: to run the image of this name, with the events of the schedule of this name or with none, with
--- so many sets or, where none are asked for, with those of the PRCB, for at most so many instructions, and to trace the
--- instructions of a range of addresses or none; to assemble the source of this name; to list the image of this name; or
--- to run, in so many sets, the job that is made from a number.
+-- so many sets or, where none are asked for, with those of the PRCB, as far as it is driven; to assemble the source of
+-- this name; to list the image of this name; or to run, in so many sets, the job that is made from a number.
 pub data Command : Type 0 where
-  Run : (image : List ℕ) → (schedule : Option (List ℕ)) → (sets : Option ℕ) → (limit : ℕ) → (traced : Option Range) → Command
+  Run : (image : List ℕ) → (schedule : Option (List ℕ)) → (sets : Option ℕ) → (driver : Driver) → Command
   Asm : (source : List ℕ) → Command
   Dis : (image : List ℕ) → Command
   Gen : (number : ℕ) → (sets : Option ℕ) → Command
 
--- a name that there may be
-abbrev pub with_name : Option (List ℕ) → List (List ℕ)
-with_name None = []
-with_name (Some name) = name ∷ []
+-- the file of a script, where one drives a run
+abbrev pub driver_files : Driver → List File
+driver_files (ByLength limit traced) = []
+driver_files (ByScript script) = file_of Script script ∷ []
+
+-- a schedule that may be named, before other files
+abbrev pub planned_files : Option (List ℕ) → List File → List File
+planned_files None files = files
+planned_files (Some name) files = file_of Schedule name ∷ files
 
 -- the files that a command names, in the order in which they are read
-abbrev pub files_of : Command → List (List ℕ)
-files_of (Run image schedule sets limit traced) = image ∷ with_name schedule
-files_of (Asm source) = source ∷ []
-files_of (Dis image) = image ∷ []
+abbrev pub files_of : Command → List File
+files_of (Run image schedule sets driver) = file_of Image image ∷ planned_files schedule (driver_files driver)
+files_of (Asm source) = file_of Source source ∷ []
+files_of (Dis image) = file_of Image image ∷ []
 files_of (Gen number sets) = []
 
 abbrev pub is_dash : List ℕ → Bool
@@ -58,17 +70,36 @@ range_for (Some low) (Some high) = Some (record { low = low; high = high })
 range_for None high = None
 range_for (Some low) None = None
 
--- a run whose parts the words say, with what is traced of it
-abbrev pub run_for : List ℕ → Option (Option (List ℕ)) → Option (Option ℕ) → Option ℕ → Option Range → Option Command
-run_for image (Some schedule) (Some sets) (Some limit) traced = Some (Run image schedule sets limit traced)
-run_for image None sets limit traced = None
-run_for image (Some schedule) None limit traced = None
-run_for image (Some schedule) (Some sets) None traced = None
+-- a length that drives a run, with what is traced
+abbrev pub length_for : Option ℕ → Option Range → Option Driver
+length_for (Some limit) traced = Some (ByLength limit traced)
+length_for None traced = None
 
--- a run of which the instructions of a range are traced
-abbrev pub trace_for : List ℕ → Option (Option (List ℕ)) → Option (Option ℕ) → Option ℕ → Option Range → Option Command
-trace_for image schedule sets limit (Some range) = run_for image schedule sets limit (Some range)
-trace_for image schedule sets limit None = None
+-- a length, with a range that is traced
+abbrev pub tracer_for : Option ℕ → Option Range → Option Driver
+tracer_for limit (Some range) = length_for limit (Some range)
+tracer_for limit None = None
+
+-- a script, whose name isn't empty
+abbrev pub script_for : List ℕ → Option Driver
+script_for name = if length name == 0 then None else Some (ByScript name)
+
+-- what drives a run, by the name of its form and its last words: `run LENGTH`, `debug SCRIPT`, or `trace LENGTH LOW HIGH`
+abbrev pub driver_for : List ℕ → List (List ℕ) → Option Driver
+driver_for name (word ∷ []) =
+    if bytes_eq name (codes "run") then length_for (number_in 0 MAX_LENGTH word) None
+    else if bytes_eq name (codes "debug") then script_for word
+    else None
+driver_for name (limit ∷ low ∷ high ∷ []) =
+    if bytes_eq name (codes "trace") then tracer_for (number_in 0 MAX_LENGTH limit) (range_for (address_of low) (address_of high)) else None
+driver_for name _ = None
+
+-- a run whose parts the words say, and whose image has a name that isn't empty
+abbrev pub run_for : List ℕ → Option (Option (List ℕ)) → Option (Option ℕ) → Option Driver → Option Command
+run_for image (Some schedule) (Some sets) (Some driver) = if length image == 0 then None else Some (Run image schedule sets driver)
+run_for image None sets driver = None
+run_for image (Some schedule) None driver = None
+run_for image (Some schedule) (Some sets) None = None
 
 -- the greatest number that a job is made from
 abbrev pub most_number : ℕ
@@ -87,20 +118,13 @@ file_for name file =
     else if bytes_eq name (codes "dis") then Some (Dis file)
     else None
 
--- `asm SOURCE`, `dis IMAGE`, `gen NUMBER SETS`, `run IMAGE SCHEDULE SETS LENGTH`, or
+-- `asm SOURCE`, `dis IMAGE`, `gen NUMBER SETS`, `run IMAGE SCHEDULE SETS LENGTH`, `debug IMAGE SCHEDULE SETS SCRIPT`, or
 -- `trace IMAGE SCHEDULE SETS LENGTH LOW HIGH`, with names of files that aren't empty
 unfoldable pub command_of : List (List ℕ) → Option Command
 command_of (name ∷ file ∷ []) = file_for name file
 command_of (name ∷ number ∷ sets ∷ []) =
     if bytes_eq name (codes "gen") then gen_for (number_in 0 most_number number) (sets_for sets) else None
-command_of (name ∷ image ∷ schedule ∷ sets ∷ limit ∷ []) =
-    if bytes_eq name (codes "run") && not (length image == 0)
-    then run_for image (schedule_for schedule) (sets_for sets) (number_in 0 MAX_LENGTH limit) None
-    else None
-command_of (name ∷ image ∷ schedule ∷ sets ∷ limit ∷ low ∷ high ∷ []) =
-    if bytes_eq name (codes "trace") && not (length image == 0)
-    then trace_for image (schedule_for schedule) (sets_for sets) (number_in 0 MAX_LENGTH limit) (range_for (address_of low) (address_of high))
-    else None
+command_of (name ∷ image ∷ schedule ∷ sets ∷ last) = run_for image (schedule_for schedule) (sets_for sets) (driver_for name last)
 command_of _ = None
 
 -- ---- lines that end with a line feed
@@ -111,15 +135,6 @@ words_line = codes "#words\n"
 abbrev pub read_line : List ℕ
 read_line = codes "#read\n"
 
--- what a file is that is too long or refused
-abbrev pub image_word : List ℕ
-image_word = codes "image"
-
-abbrev pub schedule_word : List ℕ
-schedule_word = codes "schedule"
-
-abbrev pub source_word : List ℕ
-source_word = codes "source"
-
+-- a file that is too long, by what it is to be
 abbrev pub long_line : List ℕ → List ℕ
 long_line what = codes "#" ++ what ++ codes " too long\n"

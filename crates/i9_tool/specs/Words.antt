@@ -2,14 +2,20 @@
 use Rattle.std.specs.Prelude.{ℕ, ◌<◌, ◌≤◌, Option, IfSome}
 use Rattle.std.specs.Option.{option_copied}
 use Rattle.i9_model.specs.declared.layout.TheConstants.{MAX_LENGTH}
-use Rattle.i9_tool.specs.CommandLine.{Command, Run, Asm, Dis, Gen}
+use Rattle.i9_tool.specs.CommandLine.{Command, Run, Asm, Dis, Gen, Driver, ByLength, ByScript}
 use Rattle.i9_tool.specs.declared.words.Asked.{Asked}
 use Rattle.i9_tool.specs.declared.words.Asked.TheVariants as asked
 use Rattle.i9_tool.specs.declared.words.JobWords.{JobWords}
 use Rattle.i9_tool.specs.declared.words.RunWords.{RunWords}
+use Rattle.i9_tool.specs.declared.words.Driver as code
+use Rattle.i9_tool.specs.declared.words.Driver.TheVariants as drivers
+
+abbrev pub driver_by : code.Driver → Driver
+driver_by (drivers.Length limit traced) = ByLength limit traced
+driver_by (drivers.Script name) = ByScript name.now
 
 abbrev pub run_by : RunWords → Command
-run_by run = Run run.image.now (option_copied run.schedule) run.sets run.limit run.traced
+run_by run = Run run.image.now (option_copied run.schedule) run.sets (driver_by run.driver)
 
 abbrev pub job_by : JobWords → Command
 job_by job = Gen job.number job.sets
@@ -24,10 +30,15 @@ asked_by (asked.Gen job) = job_by job
 abbrev pub AreFew : Option ℕ → Type 0
 AreFew sets = IfSome sets (λ n. 0 < n × n < 16)
 
--- a run of so many sets and of such a length can be asked for
+-- a length that is asked for is at most the greatest
+abbrev pub IsShort : code.Driver → Type 0
+IsShort (drivers.Length limit traced) = limit ≤ MAX_LENGTH
+IsShort (drivers.Script name) = Unit {0}
+
+-- a run of so many sets that is driven so can be asked for
 pub record CanRun (run : RunWords) : Type 0 where
   pub few : AreFew run.sets
-  pub short : run.limit ≤ MAX_LENGTH
+  pub short : IsShort run.driver
 
 -- and nothing else is asked of what the words ask for
 abbrev pub Fits : Asked → Type 0

@@ -7,11 +7,12 @@ ghost use Rattle.i9_tool.specs.Words.{AreFew};
 ghost use Rattle.i9_debug.specs.Print.{account};
 ghost use Rattle.i9_tool.specs.Outcome.{Answers, JobGives, GenGives};
 
+use crate::files::{FileKind, refuse};
 use crate::run::count_run;
 use crate::status::{Status, code_of_end, status_for};
 use crate::words::JobWords;
 use i9_asm::{AsmError, assemble};
-use i9_debug::{print_generated, print_refusal};
+use i9_debug::print_generated;
 use i9_generator::generate;
 use i9_hex::Segments;
 use i9_isa::NoMemory;
@@ -54,7 +55,6 @@ fn run_job<K: Sink>(
 }
 
 /// Runs the image of a job with the events of its schedule, or says why the schedule is refused.
-#[tactic(auto, using(crate::proofs::Refusals::refusal_rules))]
 fn schedule_job<K: Sink>(
     alloc: Global,
     words: JobWords,
@@ -71,15 +71,13 @@ fn schedule_job<K: Sink>(
     match i9_schedule::read(alloc, schedule) {
         Ok(mut plan) => run_job(alloc, words, image, &mut plan, out),
         Err(LineError::Bad(fault)) => {
-            let printed = print_refusal(alloc, b"schedule", fault.line, fault.kind, out);
-            status_for(printed, 3)
+            refuse(alloc, FileKind::Schedule, fault.line, fault.kind, out)
         }
         Err(LineError::Memory) => Status { code: 7 },
     }
 }
 
 /// Assembles the source of a job and runs it with its schedule, or says why the source is refused.
-#[tactic(auto, using(crate::proofs::Refusals::refusal_rules))]
 fn assemble_job<K: Sink>(
     alloc: Global,
     words: JobWords,
@@ -94,10 +92,7 @@ fn assemble_job<K: Sink>(
 {
     match assemble(alloc, source) {
         Ok(image) => schedule_job(alloc, words, &image, schedule, out),
-        Err(AsmError::Bad(fault)) => {
-            let printed = print_refusal(alloc, b"source", fault.line, fault.kind, out);
-            status_for(printed, 3)
-        }
+        Err(AsmError::Bad(fault)) => refuse(alloc, FileKind::Source, fault.line, fault.kind, out),
         Err(AsmError::Memory) => Status { code: 7 },
     }
 }

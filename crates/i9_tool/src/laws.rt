@@ -3,12 +3,13 @@
 
 ghost use Rattle.std.specs.Prelude.{◌≡◌, ◌≢◌, ◌≤◌, ◌<◌, ℕ, Bool, true, List, Option, Some, IsSome, length};
 ghost use Rattle.std.specs.List.{AllByRecursion};
-ghost use Rattle.i9_tool.specs.CommandLine.{Command, Run, Gen};
+ghost use Rattle.i9_tool.specs.CommandLine.{Command, Run, Gen, ByLength};
 ghost use Rattle.i9_tool.specs.declared.words.Range.{Range};
 ghost use Rattle.i9_outside.specs.Calls.{NoneToFail};
 ghost use Rattle.i9_outside.specs.MemFiles as mem_files;
 ghost use Rattle.i9_outside.specs.MemSink as mem_sink;
-ghost use Rattle.i9_tool.specs.Outcome.{Gives, GivesWhole, Outcomes, asked_for, names_of, AllTold};
+ghost use Rattle.i9_tool.specs.Fetches.{AllTold};
+ghost use Rattle.i9_tool.specs.Outcome.{Gives, GivesWhole, IsCountedSchedule, Outcomes, asked_for, names_of};
 ghost use Rattle.i9_debug.specs.Print.{account};
 
 use crate::status::Status;
@@ -17,9 +18,11 @@ use i9_outside::{MemFiles, MemSink};
 use std::alloc::Global;
 
 /// What words give for files that are told and were read is one status and one text: an image is accepted or refused,
-/// not both, for one fault, and so is a schedule, and the run of both is the only one; a source has one list of segments
-/// or one first fault, and so has the job of a number. So each status is answered exactly where it is given. There is a
-/// status and a text for all words and files, and none depends on the number of sets that is asked for.
+/// not both, for one fault, and so are a schedule and a script; the run of image and schedule is the only one, and so is
+/// the text of a script; a source has one list of segments or one first fault, and so has the job of a number. So each
+/// status is answered exactly where it is given. There is a status and a text for all words and files, and those of a run
+/// that is printed do not depend on the number of sets that is asked for where its schedule is by counts, nor do those of a
+/// job.
 pub fn one_outcome()
     ensures some { (told : List ℕ → Option (List ℕ)) (asked : Option Command)
         → (code : ℕ) × (text : List ℕ) × Gives told (λ n. ⊥) asked code text }
@@ -33,8 +36,8 @@ pub fn one_outcome()
         → Gives told (λ n. risen n ≡ true) asked c s → Gives told (λ n. risen n ≡ true) asked d t → s ≡ t }
     ensures sets { (told : List ℕ → Option (List ℕ)) (risen : List ℕ → Bool) (image : List ℕ)
         (schedule : Option (List ℕ)) (sets others : Option ℕ) (limit code : ℕ) (traced : Option Range) (text : List ℕ)
-        → Gives told (λ n. risen n ≡ true) (Some (Run image schedule sets limit traced)) code text
-        → Gives told (λ n. risen n ≡ true) (Some (Run image schedule others limit traced)) code text }
+        → IsCountedSchedule told schedule → Gives told (λ n. risen n ≡ true) (Some (Run image schedule sets (ByLength limit traced))) code text
+        → Gives told (λ n. risen n ≡ true) (Some (Run image schedule others (ByLength limit traced))) code text }
     ensures job_sets { (told : List ℕ → Option (List ℕ)) (risen : List ℕ → Bool) (number : ℕ)
         (sets others : Option ℕ) (code : ℕ) (text : List ℕ)
         → Gives told (λ n. risen n ≡ true) (Some (Gen number sets)) code text

@@ -1,10 +1,14 @@
 //! The command `i960`: a simulator of the core of the i960CA, over files and a sink.
 #![tactic(auto)]
 
+mod files;
+mod image;
 mod job;
 pub mod laws;
 mod listing;
 mod run;
+mod script;
+mod source;
 mod status;
 mod top;
 mod words;

@@ -4,8 +4,8 @@ ghost use Rattle.std.specs.Option.{option_map, option_copied};
 ghost use Rattle.std.specs.String.{string_bytes};
 ghost use Rattle.i9_model.specs.declared.layout.TheConstants.{MAX_LENGTH};
 ghost use Rattle.i9_tool.specs.CommandLine.{sets_for, schedule_for, address_of, range_for, number_in, most_number};
-ghost use Rattle.i9_tool.specs.CommandLine.{run_for, command_of};
-ghost use Rattle.i9_tool.specs.Words.{run_by, job_by, asked_by, AreFew, CanRun, Fits};
+ghost use Rattle.i9_tool.specs.CommandLine.{length_for, script_for, driver_for, run_for, command_of};
+ghost use Rattle.i9_tool.specs.Words.{driver_by, run_by, job_by, asked_by, AreFew, IsShort, CanRun, Fits};
 
 use i9_model::layout::{MAX_LENGTH, MOST_SETS};
 use i9_text::number;
@@ -17,16 +17,22 @@ pub(crate) struct Range {
     pub(crate) high: u32,
 }
 
-/// What `run` and `trace` ask for: to run the image of this name, with the events of the schedule of this name or with
-/// none, with so many register sets or with those of the PRCB, for at most so many instructions, and to trace the
-/// instructions of a range of addresses or none.
+/// What drives a run: a length of at most so many instructions, and then it is printed, and the instructions of a range of
+/// addresses or none are traced; or the script of this name.
+#[derive(Clone, Copy)]
+pub(crate) enum Driver<'a> {
+    Length(u64, Option<Range>),
+    Script(&'a str),
+}
+
+/// What `run`, `trace` and `debug` ask for: to run the image of this name, with the events of the schedule of this name
+/// or with none, with so many register sets or with those of the PRCB, as far as it is driven.
 #[derive(Clone, Copy)]
 pub(crate) struct RunWords<'a> {
     pub(crate) image: &'a str,
     pub(crate) schedule: Option<&'a str>,
     pub(crate) sets: Option<u8>,
-    pub(crate) limit: u64,
-    pub(crate) traced: Option<Range>,
+    pub(crate) driver: Driver<'a>,
 }
 
 /// What `gen` asks for: to run the job that is made from this number, with so many register sets or with those of the
@@ -77,50 +83,27 @@ fn schedule_asked(word: &str) -> Option<Option<&str>>
     Some(Some(word))
 }
 
-/// The run that these words ask for, of which this is traced, where each says its part.
-fn run_of<'a>(
-    image: &'a str,
-    schedule: &'a str,
-    sets: &str,
-    limit: &str,
-    traced: Option<Range>,
-) -> Option<RunWords<'a>>
-    ensures asked { option_map run_by result ≡ run_for image.now (schedule_for schedule.now) (sets_for sets.now)
-        (number_in 0 MAX_LENGTH limit.now) traced }
-    ensures can { IfSome result CanRun }
+/// The length that a word says, with what is traced.
+fn length_asked<'a>(word: &str, traced: Option<Range>) -> Option<Driver<'a>>
+    ensures asked { option_map driver_by result ≡ length_for (number_in 0 MAX_LENGTH word.now) traced }
+    ensures short { IfSome result IsShort }
 {
-    let schedule = schedule_asked(schedule)?;
-    let sets = sets_asked(sets)?;
-    let limit = number(limit.as_bytes(), 10, 10)?;
+    let limit = number(word.as_bytes(), 10, 10)?;
     if limit > MAX_LENGTH {
         return None;
     }
-    Some(RunWords {
-        image,
-        schedule,
-        sets,
-        limit,
-        traced,
-    })
+    Some(Driver::Length(limit, traced))
 }
 
-/// What `run` asks for with these words behind it, where they are in its form.
-#[tactic(auto, unfolding(crate::specs::CommandLine::command_of))]
-fn run_asked<'a>(
-    name: &str,
-    image: &'a str,
-    schedule: &'a str,
-    sets: &str,
-    limit: &str,
-) -> Option<RunWords<'a>>
-    ensures asked { option_map run_by result ≡ command_of
-        (name.now ∷ image.now ∷ schedule.now ∷ sets.now ∷ limit.now ∷ []) }
-    ensures can { IfSome result CanRun }
+/// The script whose name is a word.
+fn script_asked(word: &str) -> Option<Driver<'_>>
+    ensures asked { option_map driver_by result ≡ script_for word.now }
+    ensures short { IfSome result IsShort }
 {
-    if name != "run" || image.is_empty() {
+    if word.is_empty() {
         return None;
     }
-    run_of(image, schedule, sets, limit, None)
+    Some(Driver::Script(word))
 }
 
 /// The address that a word says.
@@ -140,47 +123,66 @@ fn range_asked(low: &str, high: &str) -> Option<Range>
     Some(Range { low, high })
 }
 
-/// What `trace` asks for with these words behind it, the last two of which are the range, where they are in its form.
-#[tactic(auto, unfolding(crate::specs::CommandLine::command_of))]
-fn trace_asked<'a>(
-    name: &str,
-    image: &'a str,
-    schedule: &'a str,
-    sets: &str,
-    limit: &str,
-    low: &str,
-    high: &str,
-) -> Option<RunWords<'a>>
-    ensures asked { option_map run_by result ≡ command_of
-        (name.now ∷ image.now ∷ schedule.now ∷ sets.now ∷ limit.now ∷ low.now ∷ high.now ∷ []) }
-    ensures can { IfSome result CanRun }
+/// What drives a run by the one word that comes last in its form, which is `run` or `debug`.
+fn driver_named<'a>(name: &str, word: &'a str) -> Option<Driver<'a>>
+    ensures asked { option_map driver_by result ≡ driver_for name.now (word.now ∷ []) }
+    ensures short { IfSome result IsShort }
 {
-    if name != "trace" || image.is_empty() {
+    match name {
+        "run" => length_asked(word, None),
+        "debug" => script_asked(word),
+        _ => None,
+    }
+}
+
+/// What drives a run by a length and a range, which come last where its form is `trace`.
+fn tracer_named<'a>(name: &str, limit: &str, low: &str, high: &str) -> Option<Driver<'a>>
+    ensures asked { option_map driver_by result ≡ driver_for name.now (limit.now ∷ low.now ∷ high.now ∷ []) }
+    ensures short { IfSome result IsShort }
+{
+    if name != "trace" {
         return None;
     }
     let range = range_asked(low, high)?;
-    run_of(image, schedule, sets, limit, Some(range))
+    length_asked(limit, Some(range))
 }
 
-/// What `run` asks for, where no words are left for a range, or `trace`, where two are, if they are in its form.
+/// What drives a run, by the name of its form and the words that come last in it.
+fn driver_asked<'a>(name: &str, last: &'a [String]) -> Option<Driver<'a>>
+    ensures asked { option_map driver_by result ≡ driver_for name.now (map string_bytes last.now) }
+    ensures short { IfSome result IsShort }
+{
+    match last {
+        [word] => driver_named(name, word),
+        [limit, low, high] => tracer_named(name, limit, low, high),
+        _ => None,
+    }
+}
+
+/// The run that these words ask for, the last of which say what drives it.
 #[tactic(auto, unfolding(crate::specs::CommandLine::command_of))]
-fn run_in_form<'a>(
+fn run_asked<'a>(
     name: &str,
     image: &'a str,
     schedule: &'a str,
     sets: &str,
-    limit: &str,
-    range: &[String],
+    last: &'a [String],
 ) -> Option<RunWords<'a>>
-    ensures asked { option_map run_by result ≡ command_of
-        (name.now ∷ image.now ∷ schedule.now ∷ sets.now ∷ limit.now ∷ map string_bytes range.now) }
+    ensures asked { option_map run_by result ≡ run_for image.now (schedule_for schedule.now) (sets_for sets.now) (driver_for name.now (map string_bytes last.now)) }
     ensures can { IfSome result CanRun }
 {
-    match range {
-        [] => run_asked(name, image, schedule, sets, limit),
-        [low, high] => trace_asked(name, image, schedule, sets, limit, low, high),
-        _ => None,
+    let schedule = schedule_asked(schedule)?;
+    let sets = sets_asked(sets)?;
+    let driver = driver_asked(name, last)?;
+    if image.is_empty() {
+        return None;
     }
+    Some(RunWords {
+        image,
+        schedule,
+        sets,
+        driver,
+    })
 }
 
 /// What `asm` or `dis` asks for with the name of a file behind it, where the words are in a form of these.
@@ -236,8 +238,8 @@ pub(crate) fn read_words(words: &[String]) -> Option<Asked<'_>>
             let job = gen_asked(name, number, sets)?;
             Some(Asked::Gen(job))
         }
-        [name, image, schedule, sets, limit, range @ ..] => {
-            let run = run_in_form(name, image, schedule, sets, limit, range)?;
+        [name, image, schedule, sets, last @ ..] => {
+            let run = run_asked(name, image, schedule, sets, last)?;
             Some(Asked::Run(run))
         }
         _ => None,

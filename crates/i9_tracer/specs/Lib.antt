@@ -1,2 +1,3 @@
 pub mod Closures
 pub mod Trace
+pub mod Until

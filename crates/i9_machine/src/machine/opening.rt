@@ -8,16 +8,14 @@ ghost use Rattle.i9_schedule.specs.Plan.{Plan};
 ghost use Rattle.i9_machine.specs.Opening.{IsFreeToIssue, NextWaits};
 
 use super::Machine;
-use super::planning::standing;
 use crate::step::Step;
 use i9_isa::word_count;
 use i9_model::{Due, Need};
 use i9_plan::{Open, need_done, need_faulted, plan_open};
-use i9_schedule::Schedule;
 
 impl Machine {
     ghost use Rattle.i9_machine.specs.Issuing.{IsLike};
-    ghost use Rattle.i9_machine.specs.Step.{IsStep, event_for, next_for};
+    ghost use Rattle.i9_machine.specs.Step.{IsStepWhere};
     ghost use Rattle.i9_machine.specs.Overtaking.{IsNeedAhead};
 
     /// Whether nothing is due, and the length is not reached.
@@ -32,46 +30,44 @@ impl Machine {
         }
     }
 
-    /// Whether nothing is due, the length is not reached, no interrupt is chosen, and no event stands there,
-    /// so that the instruction comes next. While software's requests are to be looked at, a barrier is open.
-    fn is_free(&self, plan: &Schedule) -> bool
-        ensures free { result ≡ true → IsFreeToIssue self.now plan.now }
-        ensures waits { result ≡ false → NextWaits self.now plan.now }
+    /// Whether nothing is due, the length is not reached, and no interrupt is chosen, so that the instruction
+    /// comes next where no event stands there. While software's requests are to be looked at, a barrier is open.
+    fn is_free(&self) -> bool
+        ensures free { result ≡ true → IsFreeToIssue self.now }
+        ensures waits { (plan : Plan) → result ≡ false → NextWaits self.now plan }
     {
         if !self.goes_on() || self.processor.check() {
             return false;
         }
         match self.processor.choose() {
-            Ok(None) => match standing(plan, self.processor.count()) {
-                None => true,
-                Some(_) => false,
-            },
+            Ok(None) => true,
             Ok(Some(_)) => false,
             Err(_) => false,
         }
     }
 
-    /// The instruction that comes next, where it is no barrier; nothing where what comes next waits for all
-    /// that is open. Its effect is made in the machine.
-    pub(super) fn open_step(&mut self, plan: &Schedule) -> Option<Step>
-        ensures step { IfSome result (λ step. IsStep self.old plan.now step self.new.effect) }
-        ensures waits { IsNone result → NextWaits self.old plan.now }
+    /// The instruction that comes next where no event stands there, and is no barrier; nothing where what comes next
+    /// waits for all that is open, whether one stands there or not. Its effect is made in the machine.
+    pub(super) fn open_step(&mut self) -> Option<Step>
+        ensures free { IfSome result (λ step. IsFreeToIssue self.old) }
+        ensures step { (plan : Plan) → IfSome result (λ step. IsStepWhere self.old None plan step self.new.effect) }
+        ensures waits { (plan : Plan) → IsNone result → NextWaits self.old plan }
         ensures like { IsLike self.old self.new }
         ensures kept { self.new.kept ≡ self.old.kept }
     {
-        if !self.is_free(plan) {
+        if !self.is_free() {
             return None;
         }
         match plan_open(&self.processor, &mut self.memo, &mut self.effect) {
             Open::Waits => None,
-            Open::Runs { words, inst } => self.does(words, &inst, plan).unless_barrier(),
+            Open::Runs { words, inst } => self.does(words, &inst).unless_barrier(),
             Open::Faults {
                 words,
                 inst,
                 number,
             } => {
                 let need = need_faulted(&self.processor, self.memo.need(), &inst, number);
-                self.faults(words, word_count(&inst), number, need, plan)
+                self.faults(words, word_count(&inst), number, need)
                     .unless_barrier()
             }
         }

@@ -2,8 +2,11 @@
 ghost use Rattle.std.specs.Prelude.{◌≡◌, ◌<◌, ◌≤◌, ℕ, Option, Some, None, Ok, IfSome, true, false};
 ghost use Rattle.std.specs.Option.{option_map, option_copied};
 ghost use Rattle.i9_model.specs.Events.{IsInRange};
-ghost use Rattle.i9_model.specs.ScheduleText.{standing};
+ghost use Rattle.i9_model.specs.ScheduleText.{has_come_by, standing_by};
 ghost use Rattle.i9_model.specs.Before.{choice_in};
+ghost use Rattle.i9_model.specs.declared.event.Event as event;
+ghost use Rattle.i9_schedule.specs.Plan.{Plan};
+ghost use Rattle.i9_machine.specs.Opening.{IsTimely};
 ghost use Rattle.i9_isa.specs.declared.inst.Inst.{Inst};
 ghost use Rattle.i9_isa.specs.Valid.{IsValid};
 ghost use Rattle.i9_isa.specs.Words.{words_of};
@@ -83,14 +86,24 @@ fn reached(point: Option<Point>, due: Due, need: Need) -> Step
     }
 }
 
-/// The next event of a schedule, where its count has come.
-pub(super) fn standing(plan: &Schedule, count: u64) -> Option<&Event>
-    ensures event { option_copied result ≡ standing plan.now.events plan.now.place count }
+/// Whether a time has come after so many instructions, where the next one would issue at a turn.
+fn has_come(when: When, count: u64, turn: u64) -> bool
+    ensures { result ≡ has_come_by count turn when }
+{
+    match when {
+        When::At(time) => time == count,
+        When::Turn(time) => time <= turn,
+    }
+}
+
+/// The next event of a schedule, where its time has come after so many instructions, where the next one would
+/// issue at a turn.
+pub(super) fn standing(plan: &Schedule, count: u64, turn: u64) -> Option<&Event>
+    ensures event { option_copied result ≡ standing_by plan.now.events plan.now.place count turn }
     ensures ranges { IfSome result (λ e. IsInRange e.now) }
 {
     let next = plan.next()?;
-    let When::At(time) = next.when;
-    if time == count {
+    if has_come(next.when, count, turn) {
         Some(&next.event)
     } else {
         None
@@ -99,7 +112,7 @@ pub(super) fn standing(plan: &Schedule, count: u64) -> Option<&Event>
 
 impl Machine {
     ghost use Rattle.i9_machine.specs.Issuing.{IsLike};
-    ghost use Rattle.i9_machine.specs.Step.{IsStep, IsNext, event_for, next_for};
+    ghost use Rattle.i9_machine.specs.Step.{IsStep, IsStepWhere, IsNext, event_for, next_where};
 
     /// What is told of an instruction of these words.
     fn issued(&self, words: Words) -> Issued
@@ -131,16 +144,17 @@ impl Machine {
         }
     }
 
-    /// An instruction is done, by the effect that was planned.
-    pub(super) fn does(&self, words: Words, inst: &Inst, plan: &Schedule) -> Step
+    /// An instruction is done, by the effect that was planned, where it comes next.
+    pub(super) fn does(&self, words: Words, inst: &Inst) -> Step
         requires below { (state_of self.now.processor).count < self.now.length }
-        requires is_next { next_for self.now plan.now ≡ Does (record_of (Instruction inst.now) (state_of self.now.processor)) }
         requires words { TellsWords (words_of inst.now) (state_of self.now.processor) words }
         requires valid { IsValid inst.now }
         requires need { KeepsNeed self.now.memo inst.now }
         requires effect { IsEffect (state_of self.now.processor) (traced_action inst.now (state_of self.now.processor)) self.now.effect }
         requires row { is_request_name inst.now.op ≡ true → IsInRow self.now.effect }
-        ensures { IsStep self.now plan.now result self.now.effect }
+        ensures { (stands : Option event.Event) (plan : Plan)
+            → next_where self.now stands ≡ Does (record_of (Instruction inst.now) (state_of self.now.processor))
+            → IsStepWhere self.now stands plan result self.now.effect }
     {
         Step {
             reaches: false,
@@ -152,22 +166,16 @@ impl Machine {
         }
     }
 
-    /// An instruction of so many words, which needs this, faults, and the entry of its fault is due.
-    pub(super) fn faults(
-        &mut self,
-        words: Words,
-        count: u32,
-        number: (u8, u16),
-        need: Need,
-        plan: &Schedule,
-    ) -> Step
+    /// An instruction of so many words, which needs this, faults where it comes next, and the entry of its fault is
+    /// due.
+    pub(super) fn faults(&mut self, words: Words, count: u32, number: (u8, u16), need: Need) -> Step
         requires below { (state_of self.old.processor).count < self.old.length }
-        requires is_next { (inst : Option Inst) × (count ≡ faulted_words inst)
-            × (next_for self.old plan.now ≡ Does (record_of (Faulted inst (fault_at (state_of self.old.processor) number)) (state_of self.old.processor)))
-            × ((n : ℕ) (c : Cache) → need ≡ need_of n c (state_of self.old.processor) (Faulted inst (fault_at (state_of self.old.processor) number))) }
         requires cost { need.cost ≤ most_turns }
         requires words { TellsWords count (state_of self.old.processor) words }
-        ensures step { IsStep self.old plan.now result self.new.effect }
+        ensures step { (inst : Option Inst) (stands : Option event.Event) (plan : Plan) → count ≡ faulted_words inst
+            → next_where self.old stands ≡ Does (record_of (Faulted inst (fault_at (state_of self.old.processor) number)) (state_of self.old.processor))
+            → ((n : ℕ) (c : Cache) → need ≡ need_of n c (state_of self.old.processor) (Faulted inst (fault_at (state_of self.old.processor) number)))
+            → IsStepWhere self.old stands plan result self.new.effect }
         ensures like { IsLike self.old self.new }
         ensures kept { self.new.kept ≡ self.old.kept }
     {
@@ -202,7 +210,7 @@ impl Machine {
             Planned::Meets(a) => Err(End::Hazard(a)),
             Planned::Refused { words, number } => {
                 let need = need_refused(&self.processor, number);
-                Ok(self.faults(words, 1, number, need, plan))
+                Ok(self.faults(words, 1, number, need))
             }
             Planned::Faults {
                 words,
@@ -210,9 +218,9 @@ impl Machine {
                 number,
             } => {
                 let need = need_faulted(&self.processor, self.memo.need(), &inst, number);
-                Ok(self.faults(words, word_count(&inst), number, need, plan))
+                Ok(self.faults(words, word_count(&inst), number, need))
             }
-            Planned::Runs { words, inst } => Ok(self.does(words, &inst, plan)),
+            Planned::Runs { words, inst } => Ok(self.does(words, &inst)),
         }
     }
 
@@ -286,11 +294,12 @@ impl Machine {
         requires free { self.old.due ≡ Due.Nothing }
         requires chosen { choice_in (state_of self.old.processor) ≡ Ok None }
         requires drained { IsDrained self.old.processor }
+        requires timely { IsTimely self.old plan.now }
         ensures next { IsNext self.old plan.now result self.new.effect }
         ensures like { IsLike self.old self.new }
         ensures kept { self.new.kept ≡ self.old.kept }
     {
-        match standing(plan, self.processor.count()) {
+        match standing(plan, self.processor.count(), self.turn) {
             Some(event) => Ok(self.reaches(event, plan)),
             None => self.next_instruction(plan),
         }
@@ -302,6 +311,7 @@ impl Machine {
         requires below { (state_of self.old.processor).count < self.old.length }
         requires free { self.old.due ≡ Due.Nothing }
         requires drained { IsDrained self.old.processor }
+        requires timely { IsTimely self.old plan.now }
         ensures next { IsNext self.old plan.now result self.new.effect }
         ensures like { IsLike self.old self.new }
         ensures kept { self.new.kept ≡ self.old.kept }
@@ -317,6 +327,7 @@ impl Machine {
     /// the next instruction. Its effect is made in the machine.
     pub(super) fn next_step(&mut self, plan: &Schedule) -> Result<Step, End>
         requires drained { IsDrained self.old.processor }
+        requires timely { IsTimely self.old plan.now }
         ensures next { IsNext self.old plan.now result self.new.effect }
         ensures like { IsLike self.old self.new }
         ensures kept { self.new.kept ≡ self.old.kept }

@@ -3,9 +3,10 @@ ghost use Rattle.std.specs.Prelude.{◌≡◌, List, Option, None, Some};
 ghost use Rattle.i9_model.specs.Given.{Given};
 ghost use Rattle.i9_model.specs.declared.run.End.{End};
 ghost use Rattle.i9_model.specs.State.{boot};
-ghost use Rattle.i9_course.specs.Course.{Item, course};
+ghost use Rattle.i9_model.specs.Run.{state_after};
+ghost use Rattle.i9_course.specs.Course.{Item, records_of, course};
 ghost use Rattle.i9_raw.specs.Raw.{raw_memory};
-ghost use Rattle.i9_machine.specs.Raw.{raw_at};
+ghost use Rattle.i9_machine.specs.Raw.{raw_at, IsFlushed};
 
 use super::Machine;
 use crate::line::{Line, Raw, Turn};
@@ -67,10 +68,13 @@ impl Machine {
     }
 
     /// The byte at `a` of raw memory: the image's, with what the records brought there that are done by the
-    /// machine's turn, in order. A frame that is saved brings nothing there until it is spilled or flushed.
+    /// machine's turn, in order. A frame that is saved brings nothing there until it is spilled or flushed; where
+    /// nothing is open and no frame is live, it is the state's memory, but for soft bytes.
     pub fn raw_byte(&self, a: u32) -> u8
-        ensures { (g : Given) (h : List Item) (end : Option End) → StandsFor g h end self.now
+        ensures raw { (g : Given) (h : List Item) (end : Option End) → StandsFor g h end self.now
             → result ≡ raw_memory (boot g.image).memory.bytes self.now.turn (course g h).late a }
+        ensures flushed { (g : Given) (h : List Item) (end : Option End) → StandsFor g h end self.now → IsFlushed g h self.now.turn a
+            → result ≡ (state_after g (records_of h)).memory.bytes a }
     {
         match self.shade.look(a, self.turn) {
             Some(byte) => byte,

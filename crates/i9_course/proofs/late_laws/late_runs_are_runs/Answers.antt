@@ -1,4 +1,4 @@
-use Rattle.i9_course.proofs.LateRuns.{records_of-steps, late_past, end_is_ahead, late_first, late_run, none_late, none_run}
+use Rattle.i9_course.proofs.LateRuns.{records_of-steps, late_past, late_first, late_run, late_counted, counted_first, counted_run, none_late, none_run}
 use Rattle.i9_course.proofs.Named.{imprecise_named}
 use Rattle.i9_course.proofs.PlainEnds.{run_plain}
 use Rattle.i9_course.proofs.late_laws.late_runs_are_runs.Goals as goal
@@ -9,14 +9,20 @@ returns-clause-records c = records_of-steps
 pub returns-clause-past : goal.returns-clause-past
 returns-clause-past c = late_past
 
-pub returns-clause-end : goal.returns-clause-end
-returns-clause-end c = end_is_ahead
-
 pub returns-clause-first : goal.returns-clause-first
 returns-clause-first c = late_first
 
 pub returns-clause-run : goal.returns-clause-run
 returns-clause-run c = late_run
+
+pub returns-clause-counted_past : goal.returns-clause-counted_past
+returns-clause-counted_past c = late_counted
+
+pub returns-clause-counted_first : goal.returns-clause-counted_first
+returns-clause-counted_first c = counted_first
+
+pub returns-clause-counted_run : goal.returns-clause-counted_run
+returns-clause-counted_run c = counted_run
 
 pub returns-clause-plain : goal.returns-clause-plain
 returns-clause-plain c = run_plain

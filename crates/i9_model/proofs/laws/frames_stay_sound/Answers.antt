@@ -1,5 +1,6 @@
 use Rattle.i9_model.proofs.FrameLaws.{sound-none, sound-saved, sound-returned, sound-flushed, sound-wrote}
 use Rattle.i9_model.proofs.SoundRuns.{sound-after}
+use Rattle.i9_model.proofs.Heedful.{past_of_some}
 use Rattle.i9_model.proofs.laws.frames_stay_sound.Goals as goal
 
 pub returns-clause-none : goal.returns-clause-none
@@ -18,4 +19,4 @@ pub returns-clause-wrote : goal.returns-clause-wrote
 returns-clause-wrote c = sound-wrote
 
 pub returns-clause-run : goal.returns-clause-run
-returns-clause-run c = sound-after
+returns-clause-run c = λ g rs past. sound-after g rs (past_of_some g rs past)

@@ -4,12 +4,12 @@ use Rattle.i9_model.specs.Given.{given}
 use Rattle.i9_model.specs.Run.{Record, state_after, reached_after}
 use Rattle.i9_model.specs.Image.{pairs_of}
 use Rattle.i9_course.specs.LateRun.{steps}
-use Rattle.i9_course.proofs.LateRuns.{records_of-steps, end_is_ahead}
+use Rattle.i9_course.proofs.LateRuns.{records_of-steps}
 use Rattle.i9_tool.proofs.Running.{records_on, under_way}
 use Rattle.i9_tool.proofs.run.count_run.Goals as goal
 
 pub loop-end-init : goal.loop-end-init
-loop-end-init c = ([], c.in_ok-machine.ensures c.args.plan.now.events c.requires.plan, record { events = refl; place = c.requires.begins })
+loop-end-init c = ([], c.in_ok-machine.ensures.stands c.args.plan.now.events c.requires.plan, record { events = refl; place = c.requires.begins })
 
 pub advance-requires : goal.advance-requires
 advance-requires c = record {
@@ -39,7 +39,7 @@ returns-in-End c =
     let step = rw c.clear.ensures.items at (c.in-End.ensures.next what (steps inv.0) (c.pass_turns.ensures.stands what (steps inv.0) None inv.1) inv.2) in
     record {
       records = inv.0;
-      run = record { past = inv.1.past; ends = end_is_ahead what inv.0 ∙ step.is_end };
+      run = record { past = inv.1.past; ends = step.is_end };
       count =
           ap (λ (v : View). v.count) (c.view-count.ensures what (steps inv.0) (Some c.in-End.end) step.stands)
           ∙ ap (λ (rs : List Record). (state_after what rs).count) (records_of-steps inv.0);

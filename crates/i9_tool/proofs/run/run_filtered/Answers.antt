@@ -13,7 +13,7 @@ pub returns-in_default : goal.returns-in_default
 returns-in_default g c = nothing_yet _ (given (pairs_of c.args.image.now) c.args.plan.now.events c.args.limit c.args.sets) _ _
 
 pub loop-lines-init : goal.loop-lines-init
-loop-lines-init g c = ([], c.in-Ok.ensures c.args.plan.now.events c.requires.plan, record { events = refl; place = c.requires.begins }, [], traced_none, prints_none _ _)
+loop-lines-init g c = ([], c.in-Ok.ensures.stands c.args.plan.now.events c.requires.plan, record { events = refl; place = c.requires.begins }, [], traced_none, prints_none _ _)
 
 pub advance-turn-requires : goal.advance-turn-requires
 advance-turn-requires g c = record {

@@ -1,5 +1,5 @@
-use Rattle.i9_tool.specs.Outcome.{no_job_files}
+use Rattle.i9_tool.proofs.Fetching.{fetches_none}
 use Rattle.i9_tool.proofs.top.answer.Goals as goal
 
-pub returns-in-Gen-clause-fetched : goal.returns-in-Gen-clause-fetched
-returns-in-Gen-clause-fetched g c = rw c.in-Gen.is (no_job_files _ _)
+pub returns-in-Gen-clause-fetches : goal.returns-in-Gen-clause-fetches
+returns-in-Gen-clause-fetches g c = rw c.in-Gen.is (fetches_none _ _ _ c.do_job.ensures.read)

@@ -6,14 +6,14 @@ use Rattle.i9_machine.proofs.Opening.{request_named}
 use Rattle.i9_machine.proofs.machine.Machine.does.Goals as goal
 
 pub returns : goal.returns
-returns c =
+returns c = λ stands plan is_next.
     let m = c.args.self.now in
     let r = c.requires in
     let inst = c.args.inst.now in
     let need = c.need_done.ensures.need in
     record {
       kind = Instruction inst;
-      is_next = r.is_next;
+      is_next = is_next;
       effect = r.effect;
       point = c.point_by_name.ensures;
       counts = refl;

@@ -18,7 +18,7 @@ returns-in-Ok-clause-next c =
     record {
       kind = Interrupted choice plan.0;
       is_next =
-          goes_on m c.args.plan.now c.requires.free c.requires.below
+          goes_on m (event_for m c.args.plan.now) c.requires.free c.requires.below
           ∙ ap (next_by_choice (event_for m c.args.plan.now) s) c.requires.chosen
           ∙ ap (next_by_interrupt s choice) plan.1;
       effect = plan.2;
@@ -37,6 +37,6 @@ pub returns-in-Err-clause-next : goal.returns-in-Err-clause-next
 returns-in-Err-clause-next c =
     let m = c.args.self.now in
     let s = state_of m.processor in
-    goes_on m c.args.plan.now c.requires.free c.requires.below
+    goes_on m (event_for m c.args.plan.now) c.requires.free c.requires.below
     ∙ ap (next_by_choice (event_for m c.args.plan.now) s) c.requires.chosen
     ∙ ap (next_by_interrupt s c.args.choice.now) c.in-Err.ensures

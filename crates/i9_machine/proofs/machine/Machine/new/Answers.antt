@@ -9,8 +9,8 @@ use Rattle.i9_raw.proofs.Landed.{none_hidden}
 use Rattle.i9_machine.proofs.Starting.{first_far, first_lands, none_done}
 use Rattle.i9_machine.proofs.machine.Machine.new.Goals as goal
 
-pub returns : goal.returns
-returns c = λ plan is_plan.
+pub returns-clause-stands : goal.returns-clause-stands
+returns-clause-stands c = λ plan is_plan.
     let g = given (pairs_of c.args.image.now) plan c.args.length c.args.sets in
     let booted = c.in_ok-processor.ensures in
     let board = c.new-2.ensures.pending in

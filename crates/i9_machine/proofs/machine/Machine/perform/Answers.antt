@@ -17,7 +17,7 @@ use Rattle.i9_course.proofs.Timed.{need_cost}
 use Rattle.i9_model.specs.Alike.{AreAlike}
 use Rattle.i9_model.specs.Free.{IsFree}
 use Rattle.i9_model.proofs.HeldRuns.{next_free, cached-after}
-use Rattle.i9_course.proofs.Orderly.{course_past}
+use Rattle.i9_course.proofs.Orderly.{course_events}
 use Rattle.i9_processor.specs.Effect.{action_in, move_in, size_with, CanControl, CanTake}
 use Rattle.i9_processor.specs.State.{state_of, cache_of, size_of}
 use Rattle.i9_processor.proofs.NewSets.{made_size, made_takes}
@@ -117,7 +117,7 @@ act-answer-requires-clause-early c =
 pub act-answer-requires-clause-whole : goal.act-answer-requires-clause-whole
 act-answer-requires-clause-whole c =
     let come = c.requires.come in
-    let cached = cached-after come.given (records_of come.items) (course_past come.given come.items come.stands.past) in
+    let cached = cached-after come.given (records_of come.items) (course_events come.given come.items come.stands.past) in
     subst (λ (d : Cache). AreWhole d.held) (sym (c.make_room.ensures.same.cache ∙ come.stands.cache)) cached.youngest.whole
 
 pub act-answer-requires-clause-covered : goal.act-answer-requires-clause-covered

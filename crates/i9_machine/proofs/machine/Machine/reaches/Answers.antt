@@ -7,6 +7,7 @@ use Rattle.i9_model.specs.Run.{Reached, Blocked, Does, record_of, reached_kind, 
 use Rattle.i9_processor.specs.Effect.{IsEffect}
 use Rattle.i9_processor.specs.State.{state_of, cache_of, size_of}
 use Rattle.i9_machine.specs.Issuing.{most_turns}
+use Rattle.i9_machine.specs.Step.{event_for}
 use Rattle.i9_machine.proofs.Opening.{no_request_in}
 use Rattle.i9_machine.proofs.Stepping.{goes_by_event, one_event, tells_on}
 use Rattle.i9_machine.proofs.machine.Machine.reaches.Goals as goal
@@ -21,7 +22,7 @@ returns-in-Ok-clause-step c =
     record {
       kind = Reached event plan.0;
       is_next =
-          goes_by_event m c.args.plan.now c.requires.free c.requires.below c.requires.chosen
+          goes_by_event m (event_for m c.args.plan.now) (record { due = c.requires.free; below = c.requires.below; chosen = c.requires.chosen })
           ∙ ap (λ (o : Option Event). next_by_event o s) c.requires.stands
           ∙ ap (λ (p : Result Received ℕ). Does (record_of (reached_kind event p) s)) plan.1;
       effect = plan.2;
@@ -46,7 +47,7 @@ returns-in-Err-clause-step c =
     record {
       kind = Blocked event c.in-Err.a;
       is_next =
-          goes_by_event m c.args.plan.now c.requires.free c.requires.below c.requires.chosen
+          goes_by_event m (event_for m c.args.plan.now) (record { due = c.requires.free; below = c.requires.below; chosen = c.requires.chosen })
           ∙ ap (λ (o : Option Event). next_by_event o s) c.requires.stands
           ∙ ap (λ (p : Result Received ℕ). Does (record_of (reached_kind event p) s)) c.in-Err.ensures;
       effect = subst (λ (n : ℕ). IsEffect s (going s n) c.go.new.self) c.ip.ensures c.go.ensures.effect;

@@ -1,5 +1,6 @@
 use Rattle.std.proofs.Common.{◌∙◌}
 use Rattle.i9_machine.proofs.Settling.{settled_marked, settled_ended, settled_quiet}
+use Rattle.i9_machine.proofs.Levels.{settled_level}
 use Rattle.i9_machine.proofs.machine.Machine.settle.Goals as goal
 
 pub returns-clause-marked : goal.returns-clause-marked
@@ -16,4 +17,10 @@ pub returns-clause-quiet : goal.returns-clause-quiet
 returns-clause-quiet c = λ g h end stands.
     let all = c.land_all.ensures in
     settled_quiet g h end c.args.self.now _ c.all_done-until.result c.all_done-until.ensures.computed all.settled
+    (λ running. all.floor ∙ c.mark_at-floor.ensures.none running) (λ f over. all.floor ∙ c.mark_at-floor.ensures.end f over) stands
+
+pub returns-clause-level : goal.returns-clause-level
+returns-clause-level c = λ g h end stands.
+    let all = c.land_all.ensures in
+    settled_level g h end c.args.self.now _ c.all_done-until.result c.all_done-until.ensures.computed all.settled
     (λ running. all.floor ∙ c.mark_at-floor.ensures.none running) (λ f over. all.floor ∙ c.mark_at-floor.ensures.end f over) stands

@@ -1,0 +1,326 @@
+-- Commands and scripts that are run and printed.
+use Rattle.std.proofs.Common.{◌≡◌, ◌≢◌, ℕ, zero, suc, ◌+◌, ◌<◌, ◌≤◌, List, [], ◌∷◌, ◌++◌, length, take, drop, get_or, Option, Some, None, refl, sym, ap, ◌∙◌, subst, append_assoc, arith}
+use Rattle.std.specs.List.{AllByRecursion}
+use Rattle.std.proofs.lemmas.List.{append-nil, take-append-drop, take_more, take_all}
+use Rattle.std.specs.List.{All}
+use Rattle.std.proofs.lemmas.List.Elements.{recursion_from_All}
+use Rattle.std.proofs.lemmas.Option.{none-some}
+use Rattle.i9_model.specs.declared.run.End.{End}
+use Rattle.i9_model.specs.Late.{turns as late_turns}
+use Rattle.i9_model.specs.Run.{Given}
+use Rattle.i9_model.specs.Turns.{last_issue}
+use Rattle.i9_schedule.specs.Plan.{Plan}
+use Rattle.i9_course.specs.Course.{Item, course, IsCourse}
+use Rattle.i9_machine.specs.declared.machine.Machine.{Machine}
+use Rattle.i9_machine.specs.StandsFor.{StandsFor, Follows, IsUnderWay}
+use Rattle.i9_machine.specs.InRun.{IsInRun}
+use Rattle.i9_machine.specs.Turned.{steps_on}
+use Rattle.i9_script.specs.declared.command.Command.{Command}
+use Rattle.i9_script.specs.declared.command.Command.TheVariants as commands
+use Rattle.i9_script.specs.ScriptText.{IsCommandInRange}
+use Rattle.i9_debug.specs.declared.print.Printed.{Printed}
+use Rattle.i9_debug.specs.declared.print.Printed.TheVariants.{Done, Write, Memory}
+use Rattle.i9_debug.specs.declared.sessions.SessionEnd.{SessionEnd}
+use Rattle.i9_debug.specs.declared.sessions.SessionEnd.TheVariants as ends
+use Rattle.i9_debug.specs.Print.{Account, Prints, OnDone}
+use Rattle.i9_debug.specs.Session.{Place, at, ended, turn_ahead, TurnsTo, turns_pass, turns_end, ComesTo, comes, none_comes, Stays, UnlessOver, Runs, told, Answers, IsText, no_command, next_command}
+use Rattle.i9_debug.specs.Driven.{StandsAt, Drives, IsCut, printed_of, TellsEnd, RunsScript}
+use Rattle.i9_debug.proofs.Prints.{prints_none, prints_then, prints_stop, prints_same}
+use Rattle.i9_debug.proofs.Places.{Leads, record_issues, turns_lead, address_leads}
+use Rattle.i9_debug.proofs.Turns.{not_done, cut_whole}
+
+-- ---- places
+
+abbrev pub place_of : List Item → ℕ → Option End → Place
+place_of h t e = record { items = h; turn = t; end = e }
+
+-- a place without an end, by the turn of the machine that stands there
+pub as_at : (p : Place) (t : ℕ) → p.end ≡ None → t ≡ p.turn → at p.items t ≡ p
+as_at p t none turn = ap (λ (n : ℕ). place_of p.items n None) turn ∙ ap (place_of p.items p.turn) (sym none)
+
+-- a machine in a run stands at a place of it
+run_place : (m : Machine) (plan : Plan) → IsInRun m plan → (g : Given) × (p : Place) × StandsAt g p m plan
+run_place m plan r = (r.given, place_of r.items m.turn r.end, record { stands = r.stands; turn = refl; follows = r.follows })
+
+place_in_run : (g : Given) (p : Place) (m : Machine) (plan : Plan) → StandsAt g p m plan → IsInRun m plan
+place_in_run g p m plan s = record { given = g; items = p.items; end = p.end; stands = s.stands; follows = s.follows }
+
+-- where it has answered no end, it is under way
+pub on_its_way : (m : Machine) (plan : Plan) → (r : IsInRun m plan) → r.end ≡ None → IsUnderWay m plan
+on_its_way m plan r none = record {
+  given = r.given;
+  items = r.items;
+  stands = subst (λ (e : Option End). StandsFor r.given r.items e m) none r.stands;
+  follows = r.follows;
+}
+
+module _ (g : Given) where
+  -- after an end nothing is
+  pub over_stays : (c : Command) (p : Place) (f : End) → p.end ≡ Some f → Runs g c p [] p
+  over_stays (commands.Turn n) p f is = subst (λ (e : Option End). UnlessOver e (TurnsTo g p.items (p.turn + n) [] p) (Stays p [] p)) (sym is) (refl, refl)
+  over_stays (commands.Until n) p f is = subst (λ (e : Option End). UnlessOver e (ComesTo g p.items n [] p) (Stays p [] p)) (sym is) (refl, refl)
+  over_stays commands.Regs p f is = (refl, refl)
+  over_stays commands.Raw p f is = (refl, refl)
+  over_stays commands.Held p f is = (refl, refl)
+  over_stays (commands.Mem n l) p f is = (refl, refl)
+  over_stays (commands.RawMem n l) p f is = (refl, refl)
+
+-- ---- one command
+
+module _ {K : Type 0} (k : Account K) (g : Given) where
+  -- the same under another relation that holds where the first does
+  pub drives_as : (one other : List ℕ → Place → Type 0) (answer : Printed) (a b : K) (m : Machine) (plan : Plan)
+      → ((x : List ℕ) (q : Place) → one x q → other x q) → Drives one answer g k a b m plan → Drives other answer g k a b m plan
+  drives_as one other answer a b m plan goes d = record {
+    text = d.text;
+    last = d.last;
+    is_text = goes d.text d.last d.is_text;
+    prints = d.prints;
+    place = d.place;
+    stands = d.stands;
+    whole = d.whole;
+  }
+
+  -- what is run from a place without an end is run from there, whatever its turn is called
+  pub runs_from : (c : Command) (p : Place) (t : ℕ) (answer : Printed) (a b : K) (m : Machine) (plan : Plan) → p.end ≡ None → t ≡ p.turn
+      → Drives (Runs g c (at p.items t)) answer g k a b m plan → Drives (Runs g c p) answer g k a b m plan
+  runs_from c p t answer a b m plan none turn d =
+      subst (λ (x : Place). Drives (Runs g c x) answer g k a b m plan) (as_at p t none turn) d
+
+  -- nothing is run
+  pub stays_there : (c : Command) (p : Place) (a : K) (m : Machine) (plan : Plan) → Runs g c p [] p → StandsAt g p m plan → Drives (Runs g c p) Done g k a a m plan
+  stays_there c p a m plan runs s = record { text = []; last = p; is_text = runs; prints = prints_none k a; place = p; stands = s; whole = refl }
+
+  -- the place is told behind what was run
+  pub then_tells : (c : Command) (p : Place) (answer : Printed) (a b d : K) (m : Machine) (plan : Plan)
+      → Drives (Runs g c p) Done g k a b m plan
+      → ((h : List Item) (e : Option End) → StandsFor g h e m → Prints answer k b d (told g h m.turn c))
+      → Drives (Answers g c p) answer g k a d m plan
+  then_tells c p answer a b d m plan r tells =
+      let place : Place = r.place in
+      let said : Prints answer k b d (told g place.items place.turn c) =
+      subst (λ (t : ℕ). Prints answer k b d (told g place.items t c)) r.stands.turn (tells place.items place.end r.stands.stands) in
+      let same : told g place.items place.turn c ≡ told g r.last.items r.last.turn c = ap (λ (q : Place). told g q.items q.turn c) r.whole in
+      record {
+        text = r.text ++ told g r.last.items r.last.turn c;
+        last = r.last;
+        is_text = record { shown = r.text; runs = r.is_text; whole = refl };
+        prints = prints_then k answer a b d r.text _ r.prints (prints_same k answer b d _ _ same said);
+        place = place;
+        stands = r.stands;
+        whole = whole_by answer r.whole;
+      }
+    where
+      whole_by : (x : Printed) → r.place ≡ r.last → OnDone x (r.place ≡ r.last)
+      whole_by Done same = same
+      whole_by Write same = tt
+      whole_by Memory same = tt
+
+  -- or it is not, where printing stopped before
+  pub cut_before : (c : Command) (p : Place) (answer : Printed) (a b : K) (m : Machine) (plan : Plan) → IsCut answer
+      → Drives (Runs g c p) answer g k a b m plan → Drives (Answers g c p) answer g k a b m plan
+  cut_before c p answer a b m plan cut r = record {
+    text = r.text ++ told g r.last.items r.last.turn c;
+    last = r.last;
+    is_text = record { shown = r.text; runs = r.is_text; whole = refl };
+    prints = prints_stop k answer a b r.text _ (not_done answer cut) r.prints;
+    place = r.place;
+    stands = r.stands;
+    whole = r.whole;
+  }
+
+-- ---- each command has a text
+
+-- where no end was answered, the items are those of a run, and nothing has issued above the turn
+abbrev pub IsPlace : Given → Place → Type 0
+IsPlace g p = UnlessOver p.end (IsCourse g p.items × (last_issue (late_turns (course g p.items).late) ≤ p.turn)) (Unit {0})
+
+pub is_place : (g : Given) (p : Place) (m : Machine) (plan : Plan) → StandsAt g p m plan → IsPlace g p
+is_place g p m plan s = by_end p.end s.stands
+  where
+    by_end : (e : Option End) → StandsFor g p.items e m → UnlessOver e (IsCourse g p.items × (last_issue (late_turns (course g p.items).late) ≤ p.turn)) (Unit {0})
+    by_end None stands =
+        let begun : last_issue (late_turns (course g p.items).late) ≤ m.turn = stands.lands.begun in
+        let turn : m.turn ≡ p.turn = s.turn in
+        (stands.past, omega (arith, begun, turn))
+    by_end (Some f) stands = tt
+
+module _ (g : Given) where
+  turns_place : (h : List Item) (u : ℕ) (x : List ℕ) (q : Place) → TurnsTo g h u x q → IsPlace g q
+  turns_place h u x q (turns_pass rs b) = let issued = b.issued in (b.past, omega (arith, issued))
+  turns_place h u x q (turns_end rs f e low) = tt
+
+  comes_place : (h : List Item) (a : ℕ) (x : List ℕ) (q : Place) → ComesTo g h a x q → IsPlace g q
+  comes_place h a x q (comes rs r past none there) = let issued = record_issues g (steps_on rs h) r past in (past, omega (arith, issued))
+  comes_place h a x q (none_comes rs f e none) = tt
+
+  stays_place : (p q : Place) (x : List ℕ) → IsPlace g p → Stays p x q → IsPlace g q
+  stays_place p q x is s = subst (IsPlace g) (sym s.1) is
+
+  unless_place : (e : Option End) (p q : Place) (x : List ℕ) (goes : Type 0) → IsPlace g p → (goes → IsPlace g q) → UnlessOver e goes (Stays p x q) → IsPlace g q
+  unless_place None p q x goes is place r = place r
+  unless_place (Some f) p q x goes is place r = stays_place p q x is r
+
+  runs_place : (c : Command) (p q : Place) (x : List ℕ) → IsPlace g p → Runs g c p x q → IsPlace g q
+  runs_place (commands.Turn n) p q x is r = unless_place p.end p q x _ is (turns_place p.items (p.turn + n) x q) r
+  runs_place (commands.Until a) p q x is r = unless_place p.end p q x _ is (comes_place p.items a x q) r
+  runs_place commands.Regs p q x is r = stays_place p q x is r
+  runs_place commands.Raw p q x is r = stays_place p q x is r
+  runs_place commands.Held p q x is r = stays_place p q x is r
+  runs_place (commands.Mem a n) p q x is r = stays_place p q x is r
+  runs_place (commands.RawMem a n) p q x is r = stays_place p q x is r
+
+  unless_leads : (e : Option End) (p : Place) (goes : List ℕ → Place → Type 0) (P : Type 0) → UnlessOver e P (Unit {0}) → (P → Leads goes)
+      → Leads (λ x q. UnlessOver e (goes x q) (Stays p x q))
+  unless_leads None p goes P is leads = leads is
+  unless_leads (Some f) p goes P is leads = ([], p, (refl, refl))
+
+  runs_lead : (c : Command) (p : Place) → IsCommandInRange c → IsPlace g p → Leads (Runs g c p)
+  runs_lead (commands.Turn n) p range is =
+      let some = range.0 in
+      unless_leads p.end p (TurnsTo g p.items (p.turn + n)) _ is (λ h. let low = h.1 in turns_lead g p.items (p.turn + n) (omega (arith, low, some)) h.0)
+  runs_lead (commands.Until a) p range is = unless_leads p.end p (ComesTo g p.items a) _ is (λ h. address_leads g p.items a h.0)
+  runs_lead commands.Regs p range is = ([], p, (refl, refl))
+  runs_lead commands.Raw p range is = ([], p, (refl, refl))
+  runs_lead commands.Held p range is = ([], p, (refl, refl))
+  runs_lead (commands.Mem a n) p range is = ([], p, (refl, refl))
+  runs_lead (commands.RawMem a n) p range is = ([], p, (refl, refl))
+
+  pub script_leads : (cs : List Command) (p : Place) → AllByRecursion IsCommandInRange cs → IsPlace g p → Leads (IsText g cs p)
+  script_leads [] p ranges is = ([], p, no_command p)
+  script_leads (c ∷ cs) p ranges is =
+      let r = runs_lead c p ranges.0 is in
+      let q = r.1 in
+      let next : Leads (IsText g cs q) = script_leads cs q ranges.1 (runs_place c p q r.0 is r.2) in
+      let one : Answers g c p (r.0 ++ told g q.items q.turn c) q = record { shown = r.0; runs = r.2; whole = refl } in
+      (_, next.1, next_command c cs p q next.1 (r.0 ++ told g q.items q.turn c) next.0 one next.2)
+
+  answers_place : (c : Command) (p q : Place) (x : List ℕ) → IsPlace g p → Answers g c p x q → IsPlace g q
+  answers_place c p q x is a = runs_place c p q a.shown is a.runs
+
+-- ---- scripts
+
+module _ (g : Given) where
+  text_then : (cs ds : List Command) (p q r : Place) (x y : List ℕ) → IsText g cs p x q → IsText g ds q y r → IsText g (cs ++ ds) p (x ++ y) r
+  text_then [] ds p q r x y (no_command _) t = t
+  text_then (c ∷ cs) ds p q r x y (next_command _ _ _ mid _ v w one rest) t =
+      subst (λ (z : List ℕ). IsText g (c ∷ cs ++ ds) p z r) (sym (append_assoc v w y))
+      (next_command c (cs ++ ds) p mid r v (w ++ y) one (text_then cs ds mid q r w y rest t))
+
+  text_more : (cs : List Command) (c : Command) (p q r : Place) (x y : List ℕ) → IsText g cs p x q → Answers g c q y r → IsText g (cs ++ c ∷ []) p (x ++ y) r
+  text_more cs c p q r x y t a =
+      subst (λ (z : List ℕ). IsText g (cs ++ c ∷ []) p (x ++ z) r) (append-nil y)
+      (text_then cs (c ∷ []) p q r x (y ++ []) t (next_command c [] q r r y [] a (no_command r)))
+
+module _ {K : Type 0} (k : Account K) (g : Given) (p : Place) where
+  -- no command yet
+  pub no_script : (a : K) (m : Machine) (plan : Plan) → StandsAt g p m plan → Drives (IsText g [] p) Done g k a a m plan
+  no_script a m plan s = record { text = []; last = p; is_text = no_command p; prints = prints_none k a; place = p; stands = s; whole = refl }
+
+  -- the machine stands where the text leads
+  stands_last : (leads : List ℕ → Place → Type 0) (a b : K) (m : Machine) (plan : Plan) → (d : Drives leads Done g k a b m plan) → StandsAt g d.last m plan
+  stands_last leads a b m plan d = subst (λ (q : Place). StandsAt g q m plan) d.whole d.stands
+
+  module _ (cs : List Command) (c : Command) (a b e : K) (m : Machine) (plan : Plan) (d : Drives (IsText g cs p) Done g k a b m plan)
+      (next : Machine) (later : Plan) where
+    -- one command more
+    script_on : ((q : Place) → StandsAt g q m plan → Drives (Answers g c q) Done g k b e next later)
+        → Drives (IsText g (cs ++ c ∷ []) p) Done g k a e next later
+    script_on does =
+        let one = does d.last (stands_last (IsText g cs p) a b m plan d) in
+        record {
+          text = d.text ++ one.text;
+          last = one.last;
+          is_text = text_more g cs c p d.last one.last d.text one.text d.is_text one.is_text;
+          prints = prints_then k Done a b e d.text one.text d.prints one.prints;
+          place = one.place;
+          stands = one.stands;
+          whole = one.whole;
+        }
+
+    -- printing stopped in a command, and others were left
+    script_cut : (answer : Printed) (ds : List Command) → IsCut answer → AllByRecursion IsCommandInRange ds
+        → ((q : Place) → StandsAt g q m plan → Drives (Answers g c q) answer g k b e next later)
+        → Drives (IsText g ((cs ++ c ∷ []) ++ ds) p) answer g k a e next later
+    script_cut answer ds cut ranges does =
+        let here = stands_last (IsText g cs p) a b m plan d in
+        let one = does d.last here in
+        let is = answers_place g c d.last one.last one.text (is_place g d.last m plan here) one.is_text in
+        let rest : Leads (IsText g ds one.last) = script_leads g ds one.last ranges is in
+        record {
+          text = (d.text ++ one.text) ++ rest.0;
+          last = rest.1;
+          is_text = text_then g (cs ++ c ∷ []) ds p one.last rest.1 (d.text ++ one.text) rest.0
+              (text_more g cs c p d.last one.last d.text one.text d.is_text one.is_text) rest.2;
+          prints = prints_stop k answer a e (d.text ++ one.text) rest.0 (not_done answer cut)
+              (prints_then k answer a b e d.text one.text d.prints one.prints);
+          place = one.place;
+          stands = one.stands;
+          whole = cut_whole answer (one.place ≡ rest.1) cut;
+        }
+
+-- each of some commands is in its range
+ranges_drop : (n : ℕ) (cs : List Command) → AllByRecursion IsCommandInRange cs → AllByRecursion IsCommandInRange (drop n cs)
+ranges_drop zero cs h = h
+ranges_drop (suc n) [] h = tt
+ranges_drop (suc n) (c ∷ cs) h = ranges_drop n cs h.1
+
+-- the commands of a script up to one were done, and then that one
+module _ {K : Type 0} (k : Account K) (g : Given) (p : Place) (cs : List Command) (i : ℕ) (none : Command) (a b e : K) (m : Machine) (plan : Plan)
+    (d : Drives (IsText g (take i cs) p) Done g k a b m plan) (next : Machine) (later : Plan) where
+  pub does_next : i < length cs → ((q : Place) → StandsAt g q m plan → Drives (Answers g (get_or cs i none) q) Done g k b e next later)
+      → Drives (IsText g (take (i + 1) cs) p) Done g k a e next later
+  does_next inside does =
+      subst (λ (xs : List Command). Drives (IsText g xs p) Done g k a e next later) (sym (take_more cs i none inside))
+      (script_on k g p (take i cs) (get_or cs i none) a b e m plan d next later does)
+
+  -- or printing stopped in it
+  cut_in_next : (answer : Printed) → IsCut answer → i < length cs → All IsCommandInRange cs
+      → ((q : Place) → StandsAt g q m plan → Drives (Answers g (get_or cs i none) q) answer g k b e next later)
+      → Drives (IsText g cs p) answer g k a e next later
+  cut_in_next answer cut inside ranges does =
+      let all : (take i cs ++ get_or cs i none ∷ []) ++ drop (i + 1) cs ≡ cs =
+      ap (λ (xs : List Command). xs ++ drop (i + 1) cs) (sym (take_more cs i none inside)) ∙ take-append-drop (i + 1) cs in
+      subst (λ (xs : List Command). Drives (IsText g xs p) answer g k a e next later) all
+      (script_cut k g p (take i cs) (get_or cs i none) a b e m plan d next later answer (drop (i + 1) cs) cut
+      (ranges_drop (i + 1) cs (recursion_from_All IsCommandInRange cs ranges)) does)
+
+  pub script_stops : (answer : SessionEnd) (all : List Command) → IsCut (printed_of answer) → cs ≡ all → i < length cs → All IsCommandInRange cs
+      → ((q : Place) → StandsAt g q m plan → Drives (Answers g (get_or cs i none) q) (printed_of answer) g k b e next later)
+      → RunsScript answer g p all k a e next later
+  script_stops answer all cut same inside ranges does =
+      let drives = cut_in_next (printed_of answer) cut inside ranges does in
+      subst (λ (xs : List Command). RunsScript answer g p xs k a e next later) same (record { drives = drives; tells = cut_tells answer drives.last.end cut })
+    where
+      cut_tells : (answer : SessionEnd) (end : Option End) → IsCut (printed_of answer) → TellsEnd answer end
+      cut_tells ends.Done end cut = absurd cut
+      cut_tells (ends.Stopped f) end cut = absurd cut
+      cut_tells ends.Write end cut = tt
+      cut_tells ends.Memory end cut = tt
+
+-- behind the last command the machine says whether the run is over
+module _ {K : Type 0} (k : Account K) (g : Given) (p : Place) (cs all : List Command) (i : ℕ) (a b : K) (m : Machine) (plan : Plan)
+    (said : Option End) (says : (h : List Item) (e : Option End) → StandsFor g h e m → said ≡ e) where
+  whole_script : (answer : SessionEnd) → length cs ≤ i → cs ≡ all → RunsScript answer g p (take i cs) k a b m plan → RunsScript answer g p all k a b m plan
+  whole_script answer over same r = subst (λ (xs : List Command). RunsScript answer g p xs k a b m plan) (take_all i cs over ∙ same) r
+
+  last_end : (d : Drives (IsText g (take i cs) p) Done g k a b m plan) → d.last.end ≡ said
+  last_end d =
+      let here = stands_last k g p (IsText g (take i cs) p) a b m plan d in
+      sym (says d.last.items d.last.end here.stands)
+
+  pub script_done : said ≡ None → length cs ≤ i → cs ≡ all → Drives (IsText g (take i cs) p) Done g k a b m plan → RunsScript ends.Done g p all k a b m plan
+  script_done none over same d = whole_script ends.Done over same (record { drives = d; tells = last_end d ∙ none })
+
+  pub script_stopped : (f : End) → said ≡ Some f → length cs ≤ i → cs ≡ all → Drives (IsText g (take i cs) p) Done g k a b m plan
+      → RunsScript (ends.Stopped f) g p all k a b m plan
+  script_stopped f is over same d = whole_script (ends.Stopped f) over same (record { drives = d; tells = last_end d ∙ is })
+
+-- a machine that was brought to some place of a run stands in that run
+pub driven_in_run : {K : Type 0} (k : Given → Account K) (leads : Given → Place → List ℕ → Place → Type 0) (answer : Printed) (a b : K)
+    (before m : Machine) (was plan : Plan) → IsInRun before was
+    → ((g : Given) (p : Place) → StandsAt g p before was → Drives (leads g p) answer g (k g) a b m plan) → IsInRun m plan
+driven_in_run k leads answer a b before m was plan r does =
+    let here = run_place before was r in
+    let one = does here.0 here.1 here.2 in
+    place_in_run here.0 one.place m plan one.stands

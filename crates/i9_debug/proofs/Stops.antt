@@ -1,0 +1,286 @@
+-- Steps that are run and printed until a stop holds, or until an instruction address.
+use Rattle.std.proofs.Common.{◌≡◌, ◌≢◌, ℕ, Bool, true, false, ◌&&◌, nat_eq, List, [], ◌∷◌, ◌++◌, flat_map, drop, Option, Some, None, refl, sym, ap, ◌∙◌, subst, inl, inr, arith}
+use Rattle.std.specs.List.{AllByRecursion}
+use Rattle.std.proofs.lemmas.List.{append-nil}
+use Rattle.i9_model.specs.State.{State}
+use Rattle.i9_model.specs.declared.run.End.{End}
+use Rattle.i9_model.specs.declared.view.View.{View}
+use Rattle.i9_model.specs.PrintedText.{view_of, text_of, lines_of, record_lines}
+use Rattle.i9_model.specs.Run.{Given, Kind, Instruction, Faulted, Entered, Interrupted, Reached, Blocked, Record, counts_of}
+use Rattle.i9_model.proofs.Lines.{text_of-append}
+use Rattle.i9_schedule.specs.Plan.{Plan}
+use Rattle.i9_course.specs.Course.{Item, Step, IsCourse}
+use Rattle.i9_machine.specs.declared.line.Line.{Line}
+use Rattle.i9_machine.specs.declared.line.Issued.{Issued}
+use Rattle.i9_machine.specs.declared.line.Turn.{Turn}
+use Rattle.i9_machine.specs.declared.line.Turn.TheVariants as answers
+use Rattle.i9_machine.specs.declared.machine.Machine.{Machine}
+use Rattle.i9_machine.specs.Line.{AddsLines}
+use Rattle.i9_machine.specs.Step.{TellsRecord}
+use Rattle.i9_machine.specs.StandsFor.{StandsFor, Follows, IsUnderWay, DoesNext, EndsRun, Advances}
+use Rattle.i9_machine.specs.Turned.{steps_on}
+use Rattle.i9_tracer.specs.Until.{view_behind, IsPassed}
+use Rattle.i9_tracer.proofs.Untils.{Shows}
+use Rattle.i9_debug.specs.declared.print.Printed.{Printed}
+use Rattle.i9_debug.specs.declared.print.Printed.TheVariants.{Done, Write, Memory}
+use Rattle.i9_debug.specs.Print.{Account, Prints, OnDone, line_text}
+use Rattle.i9_debug.specs.Session.{Place, at, ended, turn_ahead, ending_lines, comes_to, NoneComesTo, EndsBehind, ComesTo, comes, none_comes}
+use Rattle.i9_debug.specs.Driven.{StandsAt, Drives, IsCut, StopsBy, stops, never_stops, goes_on}
+use Rattle.i9_debug.proofs.Prints.{prints_none, prints_then, prints_stop, prints_same, prints_cut}
+use Rattle.i9_debug.proofs.Places.{either, comes_after, address_leads}
+use Rattle.i9_debug.proofs.Turns.{added-text, not_done, cut_whole}
+
+-- ---- what a step is
+
+issued_counts : (kind : Kind) (s : State) (t : Issued) → TellsRecord kind s (answers.Issued t) → counts_of kind ≡ 1
+issued_counts (Instruction i) s t h = refl
+issued_counts (Faulted inst fault) s t h = refl
+issued_counts (Entered e) s t h = absurd h
+issued_counts (Interrupted c e) s t h = absurd h
+issued_counts (Reached e u) s t h = absurd h
+issued_counts (Blocked e a) s t h = absurd h
+
+on_counts : (kind : Kind) (s : State) → TellsRecord kind s answers.On → counts_of kind ≡ 1 → ⊥
+on_counts (Instruction i) s h one = h
+on_counts (Faulted inst fault) s h one = h
+on_counts (Entered e) s h one = omega (arith, one)
+on_counts (Interrupted c e) s h one = omega (arith, one)
+on_counts (Reached e u) s h one = omega (arith, one)
+on_counts (Blocked e a) s h one = omega (arith, one)
+
+same_whole : (answer : Printed) (P : Type 0) → P → OnDone answer P
+same_whole Done P p = p
+same_whole Write P p = tt
+same_whole Memory P p = tt
+
+module _ {K : Type 0} (k : Account K) (g : Given) (h : List Item) (allows : View → Bool → Type 0) where
+  -- Records were done at none of which the stop held, and their text was printed.
+  pub record Sought (a b : K) (m : Machine) (plan : Plan) : Type 0 where
+    pub done : List Record
+    pub stands : StandsFor g (steps_on done h) None m
+    pub follows : Follows g (steps_on done h) plan
+    pub passed : AllByRecursion (IsPassed allows) done
+    pub prints : Prints Done k a b (text_of (lines_of done))
+
+  pub none_sought : (a : K) (m : Machine) (plan : Plan) → StandsFor g h None m → Follows g h plan → Sought a a m plan
+  none_sought a m plan stands follows = record { done = []; stands = stands; follows = follows; passed = tt; prints = prints_none k a }
+
+  -- those before the newest are passed
+  older_passed : (rs : List Record) → AllByRecursion (IsPassed allows) rs → AllByRecursion (IsPassed allows) (drop 1 rs)
+  older_passed [] h = tt
+  older_passed (r ∷ rs) h = h.1
+
+  module _ (a b c : K) (old mid next : Machine) (was plan : Plan) (ls : List Line) (inv : Sought a b old was) where
+    abbrev front : List ℕ
+    front = text_of (lines_of inv.done)
+
+    one-more : (r : Record) → AddsLines [] ls (record_lines r) → front ++ flat_map line_text ls ≡ text_of (lines_of (r ∷ inv.done))
+    one-more r e = ap (λ (x : List ℕ). front ++ x) (added-text ls (record_lines r) e) ∙ sym (text_of-append (lines_of inv.done) (record_lines r))
+
+    no-more : ls ≡ [] → front ++ flat_map line_text ls ≡ front
+    no-more none = ap (λ (x : List Line). front ++ flat_map line_text x) none ∙ append-nil front
+
+    behind : (answer : Printed) → Prints answer k b c (flat_map line_text ls) → Prints answer k a c (front ++ flat_map line_text ls)
+    behind answer p = prints_then k answer a b c front (flat_map line_text ls) inv.prints p
+
+    -- the run goes on
+    does_seek : (turn : Turn) → (d : DoesNext g (steps_on inv.done h) turn mid next plan [] ls) → IsPassed allows d.done
+        → Prints Done k b c (flat_map line_text ls) → Sought a c next plan
+    does_seek turn d passed p = record {
+      done = d.done ∷ inv.done;
+      stands = d.stands;
+      follows = d.follows;
+      passed = (passed, inv.passed);
+      prints = prints_same k Done a c _ _ (one-more d.done d.lines) (behind Done p);
+    }
+
+    pub on_seeks : Advances g (steps_on inv.done h) answers.On mid next plan [] ls → Prints Done k b c (flat_map line_text ls) → Sought a c next plan
+    on_seeks (inl moves) p = record {
+      done = inv.done;
+      stands = moves.stands;
+      follows = moves.follows;
+      passed = inv.passed;
+      prints = prints_same k Done a c _ _ (no-more moves.lines) (behind Done p);
+    }
+    on_seeks (inr d) p = does_seek answers.On d (λ one. absurd (on_counts d.done.kind d.done.before d.tells one)) p
+
+    pub issued_seeks : (t : Issued) (view : View) → Advances g (steps_on inv.done h) (answers.Issued t) mid next plan [] ls
+        → Prints Done k b c (flat_map line_text ls) → Shows g next view → allows view false → Sought a c next plan
+    issued_seeks t view d p shows refused =
+        let shown = shows (Step d.done ∷ steps_on inv.done h) None d.stands in
+        does_seek (answers.Issued t) d (λ one. subst (λ (v : View). allows v false) shown refused) p
+
+    -- the stop holds
+    pub issued_holds : (t : Issued) (view : View) → Advances g (steps_on inv.done h) (answers.Issued t) mid next plan [] ls
+        → Prints Done k b c (flat_map line_text ls) → Shows g next view → allows view true
+        → Drives (StopsBy Done allows g h) Done g k a c next plan
+    issued_holds t view d p shows held =
+        let shown = shows (Step d.done ∷ steps_on inv.done h) None d.stands in
+        let place = at (Step d.done ∷ steps_on inv.done h) (turn_ahead g (steps_on inv.done h)) in
+        record {
+          text = text_of (lines_of (d.done ∷ inv.done));
+          last = place;
+          is_text = stops inv.done d.done d.stands.past inv.passed (issued_counts d.done.kind d.done.before t d.tells)
+              (subst (λ (v : View). allows v true) shown held);
+          prints = prints_same k Done a c _ _ (one-more d.done d.lines) (behind Done p);
+          place = place;
+          stands = record { stands = d.stands; turn = d.turn ∙ sym d.now; follows = d.follows };
+          whole = refl;
+        }
+
+    -- printing stopped behind records
+    cut_by : (answer : Printed) (rs : List Record) → IsCut answer → AllByRecursion (IsPassed allows) (drop 1 rs)
+        → StandsFor g (steps_on rs h) None next → Follows g (steps_on rs h) plan → Prints answer k a c (text_of (lines_of rs))
+        → Drives (StopsBy answer allows g h) answer g k a c next plan
+    cut_by answer rs cut passed stands follows p = record {
+      text = text_of (lines_of rs);
+      last = at (steps_on rs h) next.turn;
+      is_text = goes_on rs (at (steps_on rs h) next.turn) cut stands.past passed;
+      prints = p;
+      place = at (steps_on rs h) next.turn;
+      stands = record { stands = stands; turn = refl; follows = follows };
+      whole = same_whole answer _ refl;
+    }
+
+    -- the end was reached
+    pub end_seeks : (answer : Printed) (f : End) → Advances g (steps_on inv.done h) (answers.End f) mid next plan [] ls
+        → Prints answer k b c (flat_map line_text ls) → Drives (StopsBy answer allows g h) answer g k a c next plan
+    end_seeks answer f d p =
+        let place = ended (steps_on inv.done h) (turn_ahead g (steps_on inv.done h)) f in
+        let same : front ++ flat_map line_text ls ≡ text_of (ending_lines g h inv.done f) =
+        ap (λ (x : List ℕ). front ++ x) (added-text ls _ d.lines) ∙ sym (text_of-append (lines_of inv.done) _) in
+        record {
+          text = text_of (ending_lines g h inv.done f);
+          last = place;
+          is_text = never_stops inv.done f (record { past = d.stands.past; is_end = d.is_end }) inv.passed;
+          prints = prints_same k answer a c _ _ same (behind answer p);
+          place = place;
+          stands = record { stands = d.stands; turn = d.turn ∙ sym d.now; follows = d.follows };
+          whole = same_whole answer _ refl;
+        }
+
+    -- printing stopped in the lines of a step
+    pub step_cut : (answer : Printed) (turn : Turn) → IsCut answer → Advances g (steps_on inv.done h) turn mid next plan [] ls
+        → Prints answer k b c (flat_map line_text ls) → Drives (StopsBy answer allows g h) answer g k a c next plan
+    step_cut answer answers.On cut (inl moves) p =
+        cut_by answer inv.done cut (older_passed inv.done inv.passed) moves.stands moves.follows
+        (prints_same k answer a c _ _ (no-more moves.lines) (behind answer p))
+    step_cut answer answers.On cut (inr d) p =
+        cut_by answer (d.done ∷ inv.done) cut inv.passed d.stands d.follows (prints_same k answer a c _ _ (one-more d.done d.lines) (behind answer p))
+    step_cut answer (answers.Issued t) cut d p =
+        cut_by answer (d.done ∷ inv.done) cut inv.passed d.stands d.follows (prints_same k answer a c _ _ (one-more d.done d.lines) (behind answer p))
+    step_cut answer (answers.End f) cut d p = end_seeks answer f d p
+    step_cut answer answers.Memory cut d p =
+        cut_by answer inv.done cut (older_passed inv.done inv.passed) d.stands d.follows
+        (prints_same k answer a c _ _ (no-more d.lines) (behind answer p))
+
+    -- memory was refused for a step
+    pub step_refused : Advances g (steps_on inv.done h) answers.Memory mid next plan [] ls
+        → Prints Done k b c (flat_map line_text ls) → Drives (StopsBy Memory allows g h) Memory g k a c next plan
+    step_refused d p =
+        cut_by Memory inv.done tt (older_passed inv.done inv.passed) d.stands d.follows
+        (prints_same k Memory a c _ _ (append-nil front) (prints_cut k a c front [] (prints_same k Done a c _ _ (no-more d.lines) (behind Done p))))
+
+-- ---- the machine stays under way
+
+pub moved_under_way : (before m : Machine) (plan : Plan) → IsUnderWay before plan
+    → ((g : Given) (h : List Item) (end : Option End) → StandsFor g h end before → StandsFor g h end m) → IsUnderWay m plan
+moved_under_way before m plan u stands = record { given = u.given; items = u.items; stands = stands u.given u.items None u.stands; follows = u.follows }
+
+pub on_under_way : (g : Given) (h : List Item) (before m : Machine) (plan : Plan) (old new : List Line)
+    → Advances g h answers.On before m plan old new → IsUnderWay m plan
+on_under_way g h before m plan old new (inl moves) = record { given = g; items = h; stands = moves.stands; follows = moves.follows }
+on_under_way g h before m plan old new (inr d) = record { given = g; items = Step d.done ∷ h; stands = d.stands; follows = d.follows }
+
+pub issued_under_way : (g : Given) (h : List Item) (t : Issued) (before m : Machine) (plan : Plan) (old new : List Line)
+    → Advances g h (answers.Issued t) before m plan old new → IsUnderWay m plan
+issued_under_way g h t before m plan old new d = record { given = g; items = Step d.done ∷ h; stands = d.stands; follows = d.follows }
+
+-- ---- a stop at an instruction address
+
+module _ (allows : View → Bool → Type 0) (address : ℕ) (agree : (v : View) (b : Bool) → allows v b → b ≡ nat_eq v.ip address) where
+  passed_kind : (kind : Kind) (s : State) → (counts_of kind ≡ 1 → allows (view_of s) false) → (nat_eq (counts_of kind) 1 && nat_eq s.ip address) ≡ false
+  passed_kind (Instruction i) s refused = sym (agree (view_of s) false (refused refl))
+  passed_kind (Faulted inst fault) s refused = sym (agree (view_of s) false (refused refl))
+  passed_kind (Entered e) s refused = refl
+  passed_kind (Interrupted c e) s refused = refl
+  passed_kind (Reached e u) s refused = refl
+  passed_kind (Blocked e a) s refused = refl
+
+  held_kind : (kind : Kind) (s : State) → counts_of kind ≡ 1 → allows (view_of s) true → (nat_eq (counts_of kind) 1 && nat_eq s.ip address) ≡ true
+  held_kind (Instruction i) s one held = sym (agree (view_of s) true held)
+  held_kind (Faulted inst fault) s one held = sym (agree (view_of s) true held)
+  held_kind (Entered e) s one held = absurd (omega (arith, one))
+  held_kind (Interrupted c e) s one held = absurd (omega (arith, one))
+  held_kind (Reached e u) s one held = absurd (omega (arith, one))
+  held_kind (Blocked e a) s one held = absurd (omega (arith, one))
+
+  none_come : (rs : List Record) → AllByRecursion (IsPassed allows) rs → NoneComesTo address rs
+  none_come [] h = tt
+  none_come (r ∷ rs) h = (passed_kind r.kind r.after h.0, none_come rs h.1)
+
+  module _ {K : Type 0} (k : Account K) (g : Given) (h : List Item) (answer : Printed) (a c : K) (m : Machine) (plan : Plan) where
+    abbrev Arrives : Type 0
+    Arrives = Drives (ComesTo g h address) answer g k a c m plan
+
+    -- where printing stopped, the text goes on to a whole one
+    cut_goes_on : (rs : List Record) (place : Place) → IsCut answer → NoneComesTo address rs → (x : List ℕ) (q : Place) → ComesTo g (steps_on rs h) address x q
+        → Prints answer k a c (text_of (lines_of rs)) → StandsAt g place m plan → Arrives
+    cut_goes_on rs place cut none x q leads p stands = record {
+      text = text_of (lines_of rs) ++ x;
+      last = q;
+      is_text = comes_after g h rs address x q none leads;
+      prints = prints_stop k answer a c (text_of (lines_of rs)) x (not_done answer cut) p;
+      place = place;
+      stands = stands;
+      whole = cut_whole answer (place ≡ q) cut;
+    }
+
+    there_arrives : (rs : List Record) (r : Record) (place : Place) → IsCut answer → IsCourse g (Step r ∷ steps_on rs h) → AllByRecursion (IsPassed allows) rs
+        → comes_to address r ≡ true → Prints answer k a c (text_of (lines_of (r ∷ rs))) → StandsAt g place m plan → Arrives
+    there_arrives rs r place cut past passed there p stands = record {
+      text = text_of (lines_of (r ∷ rs));
+      last = at (Step r ∷ steps_on rs h) (turn_ahead g (steps_on rs h));
+      is_text = comes rs r past (none_come rs passed) there;
+      prints = p;
+      place = place;
+      stands = stands;
+      whole = cut_whole answer _ cut;
+    }
+
+    cut_arrives : (rs : List Record) (place : Place) → IsCut answer → IsCourse g (steps_on rs h) → AllByRecursion (IsPassed allows) (drop 1 rs)
+        → Prints answer k a c (text_of (lines_of rs)) → StandsAt g place m plan → Arrives
+    cut_arrives [] place cut past passed p stands =
+        let on = address_leads g h address past in
+        cut_goes_on [] place cut tt on.0 on.1 on.2 p stands
+    cut_arrives (r ∷ rs) place cut past passed p stands = elim (either (comes_to address r)) [
+      | inl there ↦ there_arrives rs r place cut past passed there p stands
+      | inr other ↦
+          let on = address_leads g (steps_on (r ∷ rs) h) address past in
+          cut_goes_on (r ∷ rs) place cut (other, none_come rs passed) on.0 on.1 on.2 p stands
+    ]
+
+    by_stop : (text : List ℕ) (last place : Place) → StopsBy answer allows g h text last → Prints answer k a c text
+        → StandsAt g place m plan → OnDone answer (place ≡ last) → Arrives
+    by_stop _ _ place (stops rs r past passed counts held) p stands whole = record {
+      text = text_of (lines_of (r ∷ rs));
+      last = at (Step r ∷ steps_on rs h) (turn_ahead g (steps_on rs h));
+      is_text = comes rs r past (none_come rs passed) (held_kind r.kind r.after counts held);
+      prints = p;
+      place = place;
+      stands = stands;
+      whole = whole;
+    }
+    by_stop _ _ place (never_stops rs f e passed) p stands whole = record {
+      text = text_of (ending_lines g h rs f);
+      last = ended (steps_on rs h) (turn_ahead g (steps_on rs h)) f;
+      is_text = none_comes rs f e (none_come rs passed);
+      prints = p;
+      place = place;
+      stands = stands;
+      whole = whole;
+    }
+    by_stop _ _ place (goes_on rs q cut past passed) p stands whole = cut_arrives rs place cut past passed p stands
+
+    pub arrives : Drives (StopsBy answer allows g h) answer g k a c m plan → Arrives
+    arrives d = by_stop d.text d.last d.place d.is_text d.prints d.stands d.whole

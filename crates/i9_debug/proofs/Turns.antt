@@ -1,0 +1,247 @@
+-- Turns that are run and printed.
+use Rattle.std.proofs.Common.{◌≡◌, ◌≢◌, ℕ, zero, suc, ◌+◌, ◌<◌, ◌≤◌, List, [], ◌∷◌, ◌++◌, map, flat_map, Option, Some, None, refl, sym, ap, ◌∙◌, subst, arith}
+use Rattle.std.proofs.lemmas.List.{append-nil}
+use Rattle.i9_model.specs.declared.run.End.{End}
+use Rattle.i9_model.specs.Late.{turns as late_turns}
+use Rattle.i9_model.specs.PrintedText.{Shown, text_of, lines_of}
+use Rattle.i9_model.specs.Run.{Given, Record}
+use Rattle.i9_model.specs.Turns.{last_issue}
+use Rattle.i9_schedule.specs.Plan.{Plan}
+use Rattle.i9_course.specs.Course.{Item, course}
+use Rattle.i9_machine.specs.declared.line.Line.{Line}
+use Rattle.i9_machine.specs.declared.line.Turn.{Turn}
+use Rattle.i9_machine.specs.declared.line.Turn.TheVariants as answers
+use Rattle.i9_machine.specs.declared.machine.Machine.{Machine}
+use Rattle.i9_machine.specs.Line.{AddsLines, shown_of}
+use Rattle.i9_machine.specs.StandsFor.{StandsFor, Follows, IsUnderWay}
+use Rattle.i9_machine.specs.Turned.{steps_on, Turns}
+use Rattle.i9_debug.specs.declared.print.Printed.{Printed}
+use Rattle.i9_debug.specs.declared.print.Printed.TheVariants.{Done, Write, Memory}
+use Rattle.i9_debug.specs.Print.{Account, Prints, OnDone, line_text}
+use Rattle.i9_debug.specs.Session.{Place, at, ended, turn_ahead, ending_lines, TurnsTo, turns_pass, turns_end}
+use Rattle.i9_debug.specs.Driven.{StandsAt, Drives, IsCut}
+use Rattle.i9_debug.proofs.Prints.{prints_none, prints_then, prints_stop, prints_same, prints_cut}
+use Rattle.i9_debug.proofs.Places.{steps_on-append, text-append, turns_after, turns_lead}
+
+-- ---- lines
+
+lines-text : (ls : List Line) → flat_map line_text ls ≡ text_of (map shown_of ls)
+lines-text [] = refl
+lines-text (l ∷ ls) = ap (λ (t : List ℕ). line_text l ++ t) (lines-text ls)
+
+-- the text of the lines of a step is that of what they show
+pub added-text : (ls : List Line) (xs : List Shown) → AddsLines [] ls xs → flat_map line_text ls ≡ text_of xs
+added-text ls xs e = lines-text ls ∙ ap text_of e
+
+-- ---- where printing stopped
+
+pub not_done : (answer : Printed) → IsCut answer → answer ≢ Done
+not_done Done cut = absurd cut
+not_done Write cut = λ e. cc
+not_done Memory cut = λ e. cc
+
+pub cut_whole : (answer : Printed) (P : Type 0) → IsCut answer → OnDone answer P
+cut_whole Done P cut = absurd cut
+cut_whole Write P cut = tt
+cut_whole Memory P cut = tt
+
+module _ {K : Type 0} (k : Account K) (g : Given) (h : List Item) where
+  -- So many turns were run from a turn on, and the text of their records was printed.
+  pub record Turned (t i : ℕ) (a b : K) (m : Machine) (plan : Plan) : Type 0 where
+    pub done : List Record
+    pub stands : StandsFor g (steps_on done h) None m
+    pub turn : m.turn ≡ t + i
+    pub issued : 0 < i → last_issue (late_turns (course g (steps_on done h)).late) < t + i
+    pub follows : Follows g (steps_on done h) plan
+    pub prints : Prints Done k a b (text_of (lines_of done))
+
+  pub none_turned : (a : K) (m : Machine) (plan : Plan) → StandsFor g h None m → Follows g h plan → Turned m.turn 0 a a m plan
+  none_turned a m plan stands follows = record {
+    done = [];
+    stands = stands;
+    turn = omega arith;
+    issued = λ lt. absurd (omega (arith, lt));
+    follows = follows;
+    prints = prints_none k a;
+  }
+
+  -- a text goes on to one that leads to a turn, and the machine stands at some place
+  pub record Left (u : ℕ) (front : List ℕ) (m : Machine) (plan : Plan) : Type 0 where
+    pub more : List ℕ
+    pub last : Place
+    pub leads : TurnsTo g h u (front ++ more) last
+    pub place : Place
+    pub stands : StandsAt g place m plan
+
+  left_behind : (u : ℕ) (rs : List Record) (m : Machine) (plan : Plan) → StandsFor g (steps_on rs h) None m → Follows g (steps_on rs h) plan
+      → last_issue (late_turns (course g (steps_on rs h)).late) < u → Left u (text_of (lines_of rs)) m plan
+  left_behind u rs m plan stands follows low =
+      let on = turns_lead g (steps_on rs h) u low stands.past in
+      record {
+        more = on.0;
+        last = on.1;
+        leads = turns_after g h rs u on.0 on.1 on.2;
+        place = at (steps_on rs h) m.turn;
+        stands = record { stands = stands; turn = refl; follows = follows };
+      }
+
+  pub left_cut : (answer : Printed) (u : ℕ) (front : List ℕ) (a c : K) (m : Machine) (plan : Plan) → IsCut answer
+      → Prints answer k a c front → Left u front m plan → Drives (TurnsTo g h u) answer g k a c m plan
+  left_cut answer u front a c m plan cut p l = record {
+    text = front ++ l.more;
+    last = l.last;
+    is_text = l.leads;
+    prints = prints_stop k answer a c front l.more (not_done answer cut) p;
+    place = l.place;
+    stands = l.stands;
+    whole = cut_whole answer (l.place ≡ l.last) cut;
+  }
+
+  pub left_refused : (u : ℕ) (front : List ℕ) (a c : K) (m : Machine) (plan : Plan)
+      → Prints Done k a c front → Left u front m plan → Drives (TurnsTo g h u) Memory g k a c m plan
+  left_refused u front a c m plan p l = record {
+    text = front ++ l.more;
+    last = l.last;
+    is_text = l.leads;
+    prints = prints_cut k a c front l.more p;
+    place = l.place;
+    stands = l.stands;
+    whole = tt;
+  }
+
+  -- behind as many turns as were asked for
+  pub turned_whole : (t n : ℕ) (a b : K) (m : Machine) (plan : Plan) → 0 < n → Turned t n a b m plan → Drives (TurnsTo g h (t + n)) Done g k a b m plan
+  turned_whole t n a b m plan some d =
+      let turn : m.turn ≡ t + n = d.turn in
+      let in_time : m.turn ≤ turn_ahead g (steps_on d.done h) = d.stands.lands.in_time in
+      record {
+        text = text_of (lines_of d.done);
+        last = at (steps_on d.done h) (t + n);
+        is_text = turns_pass d.done (record { past = d.stands.past; issued = d.issued some; later = omega (arith, turn, in_time) });
+        prints = d.prints;
+        place = at (steps_on d.done h) (t + n);
+        stands = record { stands = d.stands; turn = turn; follows = d.follows };
+        whole = refl;
+      }
+
+  module _ (t i : ℕ) (a b : K) (before : Machine) (was : Plan) (inv : Turned t i a b before was)
+      (m : Machine) (plan : Plan) (ls : List Line) where
+    abbrev front : List ℕ
+    front = text_of (lines_of inv.done)
+
+    -- the text of records behind those so far
+    with-text : (xs : List Record) → AddsLines [] ls (lines_of xs) → front ++ flat_map line_text ls ≡ text_of (lines_of (xs ++ inv.done))
+    with-text xs e = ap (λ (x : List ℕ). front ++ x) (added-text ls (lines_of xs) e) ∙ text-append xs inv.done
+
+    -- one turn more
+    pub turned_on : (c : K) → Turns g (steps_on inv.done h) answers.On before m plan [] ls → Prints Done k b c (flat_map line_text ls)
+        → Turned t (i + 1) a c m plan
+    turned_on c d p =
+        let same = sym (steps_on-append d.done inv.done h) in
+        let before_turn : before.turn ≡ t + i = inv.turn in
+        let turn : m.turn ≡ before.turn + 1 = d.turn in
+        let issued : last_issue (late_turns (course g (steps_on (d.done ++ inv.done) h)).late) < m.turn =
+        subst (λ (x : List Item). last_issue (late_turns (course g x).late) < m.turn) same d.issued in
+        record {
+          done = d.done ++ inv.done;
+          stands = subst (λ (x : List Item). StandsFor g x None m) same d.stands;
+          turn = omega (arith, before_turn, turn);
+          issued = λ some. omega (arith, before_turn, turn, issued);
+          follows = subst (λ (x : List Item). Follows g x plan) same d.follows;
+          prints = prints_same k Done a c _ _ (with-text d.done d.lines) (prints_then k Done a b c front (flat_map line_text ls) inv.prints p);
+        }
+
+    left_on : (u : ℕ) → t + i < u → Turns g (steps_on inv.done h) answers.On before m plan [] ls → Left u (front ++ flat_map line_text ls) m plan
+    left_on u lt d =
+        let same = sym (steps_on-append d.done inv.done h) in
+        let before_turn : before.turn ≡ t + i = inv.turn in
+        let turn : m.turn ≡ before.turn + 1 = d.turn in
+        let issued : last_issue (late_turns (course g (steps_on (d.done ++ inv.done) h)).late) < m.turn =
+        subst (λ (x : List Item). last_issue (late_turns (course g x).late) < m.turn) same d.issued in
+        subst (λ (x : List ℕ). Left u x m plan) (sym (with-text d.done d.lines))
+        (left_behind u (d.done ++ inv.done) m plan (subst (λ (x : List Item). StandsFor g x None m) same d.stands)
+        (subst (λ (x : List Item). Follows g x plan) same d.follows) (omega (arith, before_turn, turn, issued, lt)))
+
+    left_memory : (u : ℕ) → t + i < u → Turns g (steps_on inv.done h) answers.Memory before m plan [] ls → Left u (front ++ flat_map line_text ls) m plan
+    left_memory u lt d =
+        let same = sym (steps_on-append d.since.done inv.done h) in
+        let before_turn : before.turn ≡ t + i = inv.turn in
+        let turn : m.turn ≡ before.turn = d.since.turn in
+        let stands = subst (λ (x : List Item). StandsFor g x None m) same d.since.stands in
+        let begun : last_issue (late_turns (course g (steps_on (d.since.done ++ inv.done) h)).late) ≤ m.turn = stands.lands.begun in
+        subst (λ (x : List ℕ). Left u x m plan) (sym (with-text d.since.done d.since.lines))
+        (left_behind u (d.since.done ++ inv.done) m plan stands
+        (subst (λ (x : List Item). Follows g x plan) same d.since.follows) (omega (arith, before_turn, turn, begun, lt)))
+
+    -- the text of what is left up to the end
+    ending-text : (f : End) → (d : Turns g (steps_on inv.done h) (answers.End f) before m plan [] ls)
+        → front ++ flat_map line_text ls ≡ front ++ text_of (ending_lines g (steps_on inv.done h) d.done f)
+    ending-text f d = ap (λ (x : List ℕ). front ++ x) (added-text ls (ending_lines g (steps_on inv.done h) d.done f) d.lines)
+
+    end_leads : (u : ℕ) (f : End) → t + i < u → (d : Turns g (steps_on inv.done h) (answers.End f) before m plan [] ls)
+        → TurnsTo g h u (front ++ text_of (ending_lines g (steps_on inv.done h) d.done f))
+        (ended (steps_on d.done (steps_on inv.done h)) (turn_ahead g (steps_on d.done (steps_on inv.done h))) f)
+    end_leads u f lt d =
+        let before_turn : before.turn ≡ t + i = inv.turn in
+        let now : turn_ahead g (steps_on d.done (steps_on inv.done h)) ≡ before.turn = d.now in
+        turns_after g h inv.done u _ _ (turns_end d.done f (record { past = d.stands.past; is_end = d.is_end }) (omega (arith, before_turn, now, lt)))
+
+    end_stands : (f : End) → (d : Turns g (steps_on inv.done h) (answers.End f) before m plan [] ls)
+        → StandsAt g (ended (steps_on d.done (steps_on inv.done h)) (turn_ahead g (steps_on d.done (steps_on inv.done h))) f) m plan
+    end_stands f d = record { stands = d.stands; turn = d.turn ∙ sym d.now; follows = d.follows }
+
+    left_end : (u : ℕ) (f : End) → t + i < u → Turns g (steps_on inv.done h) (answers.End f) before m plan [] ls
+        → Left u (front ++ flat_map line_text ls) m plan
+    left_end u f lt d =
+        let place = ended (steps_on d.done (steps_on inv.done h)) (turn_ahead g (steps_on d.done (steps_on inv.done h))) f in
+        subst (λ (x : List ℕ). Left u x m plan) (sym (ending-text f d))
+        (record {
+          more = [];
+          last = place;
+          leads = subst (λ (x : List ℕ). TurnsTo g h u x place) (sym (append-nil _)) (end_leads u f lt d);
+          place = place;
+          stands = end_stands f d;
+        })
+
+    turn_left : (u : ℕ) (result : Turn) → t + i < u → Turns g (steps_on inv.done h) result before m plan [] ls
+        → Left u (front ++ flat_map line_text ls) m plan
+    turn_left u answers.On lt d = left_on u lt d
+    turn_left u (answers.Issued x) lt d = absurd d
+    turn_left u (answers.End f) lt d = left_end u f lt d
+    turn_left u answers.Memory lt d = left_memory u lt d
+
+    -- printing stopped in the lines of a turn
+    pub turn_cut : (c : K) (answer : Printed) (u : ℕ) (result : Turn) → IsCut answer → t + i < u
+        → Turns g (steps_on inv.done h) result before m plan [] ls → Prints answer k b c (flat_map line_text ls)
+        → Drives (TurnsTo g h u) answer g k a c m plan
+    turn_cut c answer u result cut lt d p =
+        left_cut answer u (front ++ flat_map line_text ls) a c m plan cut
+        (prints_then k answer a b c front (flat_map line_text ls) inv.prints p) (turn_left u result lt d)
+
+    -- memory was refused in a turn
+    pub turn_refused : (c : K) (u : ℕ) → t + i < u
+        → Turns g (steps_on inv.done h) answers.Memory before m plan [] ls → Prints Done k b c (flat_map line_text ls)
+        → Drives (TurnsTo g h u) Memory g k a c m plan
+    turn_refused c u lt d p =
+        left_refused u (front ++ flat_map line_text ls) a c m plan
+        (prints_then k Done a b c front (flat_map line_text ls) inv.prints p) (left_memory u lt d)
+
+    -- the end was reached
+    pub turn_ends : (c : K) (u : ℕ) (f : End) → t + i < u
+        → Turns g (steps_on inv.done h) (answers.End f) before m plan [] ls → Prints Done k b c (flat_map line_text ls)
+        → Drives (TurnsTo g h u) Done g k a c m plan
+    turn_ends c u f lt d p = record {
+      text = front ++ text_of (ending_lines g (steps_on inv.done h) d.done f);
+      last = ended (steps_on d.done (steps_on inv.done h)) (turn_ahead g (steps_on d.done (steps_on inv.done h))) f;
+      is_text = end_leads u f lt d;
+      prints = prints_same k Done a c _ _ (ending-text f d) (prints_then k Done a b c front (flat_map line_text ls) inv.prints p);
+      place = ended (steps_on d.done (steps_on inv.done h)) (turn_ahead g (steps_on d.done (steps_on inv.done h))) f;
+      stands = end_stands f d;
+      whole = refl;
+    }
+
+-- ---- the machine stays under way
+
+pub turn_under_way : (g : Given) (h : List Item) (before m : Machine) (plan : Plan) (old new : List Line)
+    → Turns g h answers.On before m plan old new → IsUnderWay m plan
+turn_under_way g h before m plan old new d = record { given = g; items = steps_on d.done h; stands = d.stands; follows = d.follows }

@@ -1,0 +1,14 @@
+use Rattle.std.proofs.Common.{List, None}
+use Rattle.i9_model.specs.Given.{Given}
+use Rattle.i9_course.specs.Course.{Item}
+use Rattle.i9_machine.specs.StandsFor.{StandsFor, Follows, IsUnderWay}
+use Rattle.i9_debug.specs.Print.{account}
+use Rattle.i9_debug.proofs.Turns.{Turned}
+use Rattle.i9_debug.proofs.sessions.run_turns.Given as goal
+
+abbrev pub invariant-loop-passed : goal.invariant-loop-passed
+invariant-loop-passed g l = record {
+  under_way : IsUnderWay l.m l.plan;
+  turned : (what : Given) (h : List Item) → StandsFor what h None l.fn.m → Follows what h l.fn.plan
+      → Turned (account g.K.Sink.told g.K.Sink.faults g.K.Sink.writes g.K.Sink.sure) what h l.fn.m.turn l._passed l.fn.out l.out l.m l.plan;
+}

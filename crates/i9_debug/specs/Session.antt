@@ -1,0 +1,161 @@
+-- The text of a script of the debugger, from a place of a run on.
+use Rattle.std.specs.Prelude.{◌≡◌, ℕ, ◌+◌, ◌<◌, ◌≤◌, Bool, true, false, nat_eq, ◌&&◌, List, [], ◌∷◌, ◌++◌, codes, take, drop, map, length, reverse, Option, Some, None}
+use Rattle.std.specs.Fmt.{decimal}
+use Rattle.std.specs.List.{AllByRecursion, flat_map, range_with_len}
+use Rattle.i9_model.specs.declared.frame.Frame.{Frame}
+use Rattle.i9_model.specs.declared.run.End.{End}
+use Rattle.i9_model.specs.declared.view.View.{View}
+use Rattle.i9_model.specs.HeldFrames.{sets_in, cache_after}
+use Rattle.i9_model.specs.Late.{turns as late_turns}
+use Rattle.i9_model.specs.PrintedText.{Shown, view_of, lines_of, end_lines, text_of, overlays, words_text, bytes_text, spaced, spaced_byte, line_feed}
+use Rattle.i9_model.specs.Run.{Given, Record, counts_of, state_after}
+use Rattle.i9_model.specs.State.{State, boot}
+use Rattle.i9_model.specs.Turns.{last_issue}
+use Rattle.i9_model.specs.Writes.{wrapped}
+use Rattle.i9_course.specs.Course.{Item, Step, records_of, course, ahead, IsCourse}
+use Rattle.i9_course.specs.LateRun.{end_ahead}
+use Rattle.i9_raw.specs.Raw.{raw_memory}
+use Rattle.i9_machine.specs.declared.line.Raw.{Raw}
+use Rattle.i9_machine.specs.Raw.{raw_at}
+use Rattle.i9_machine.specs.Turned.{steps_on}
+use Rattle.i9_script.specs.declared.command.Command.{Command}
+use Rattle.i9_script.specs.declared.command.Command.TheVariants as commands
+
+-- ---- places
+
+-- what was done, the turn, and the end that was answered, if any
+pub record Place : Type 0 where
+  pub items : List Item
+  pub turn : ℕ
+  pub end : Option End
+
+-- no end was answered
+abbrev pub at : List Item → ℕ → Place
+at h t = record { items = h; turn = t; end = None }
+
+-- one was, at its turn
+abbrev pub ended : List Item → ℕ → End → Place
+ended h t f = record { items = h; turn = t; end = Some f }
+
+-- ---- what runs
+
+-- the state after the records of items
+abbrev pub state_at : Given → List Item → State
+state_at g h = state_after g (records_of h)
+
+-- a record is an instruction that leaves the instruction address at this one
+abbrev pub comes_to : ℕ → Record → Bool
+comes_to a r = nat_eq (counts_of r.kind) 1 && nat_eq r.after.ip a
+
+-- none of these does
+abbrev pub NoneComesTo : ℕ → List Record → Type 0
+NoneComesTo a rs = AllByRecursion (λ r. comes_to a r ≡ false) rs
+
+-- the turn of what lies ahead
+abbrev pub turn_ahead : Given → List Item → ℕ
+turn_ahead g h = (ahead g h).turn
+
+-- These records, the newest first, are those of the run behind items that issue below a turn, and no end comes below it.
+pub record IssueBelow (g : Given) (h : List Item) (u : ℕ) (rs : List Record) : Type 0 where
+  pub past : IsCourse g (steps_on rs h)
+  pub issued : last_issue (late_turns (course g (steps_on rs h)).late) < u
+  pub later : u ≤ turn_ahead g (steps_on rs h)
+
+-- They are all that is left of the run, and this end is behind them.
+pub record EndsBehind (g : Given) (h : List Item) (rs : List Record) (f : End) : Type 0 where
+  pub past : IsCourse g (steps_on rs h)
+  pub is_end : end_ahead g (steps_on rs h) ≡ Some f
+
+-- what is shown of records behind items, and of the end behind those
+abbrev pub ending_lines : Given → List Item → List Record → End → List Shown
+ending_lines g h rs f = lines_of rs ++ end_lines (state_at g (steps_on rs h)) f
+
+-- What is shown from items on until a turn has come, and the place then: so much issues below it, or the end comes below it.
+pub data TurnsTo (g : Given) (h : List Item) (u : ℕ) : List ℕ → Place → Type 0 where
+  turns_pass : (rs : List Record) → IssueBelow g h u rs → TurnsTo g h u (text_of (lines_of rs)) (at (steps_on rs h) u)
+  turns_end : (rs : List Record) (f : End) → EndsBehind g h rs f → turn_ahead g (steps_on rs h) < u
+      → TurnsTo g h u (text_of (ending_lines g h rs f)) (ended (steps_on rs h) (turn_ahead g (steps_on rs h)) f)
+
+-- What is shown from items on until the first instruction leaves the instruction address at this one, and the place then,
+-- whose turn is that at which it issues; or up to the end, where none does.
+pub data ComesTo (g : Given) (h : List Item) (a : ℕ) : List ℕ → Place → Type 0 where
+  comes : (rs : List Record) (r : Record) → IsCourse g (Step r ∷ steps_on rs h) → NoneComesTo a rs → comes_to a r ≡ true
+      → ComesTo g h a (text_of (lines_of (r ∷ rs))) (at (Step r ∷ steps_on rs h) (turn_ahead g (steps_on rs h)))
+  none_comes : (rs : List Record) (f : End) → EndsBehind g h rs f → NoneComesTo a rs
+      → ComesTo g h a (text_of (ending_lines g h rs f)) (ended (steps_on rs h) (turn_ahead g (steps_on rs h)) f)
+
+-- nothing is shown, and the place is as before
+abbrev pub Stays : Place → List ℕ → Place → Type 0
+Stays p shown q = (shown ≡ []) × (q ≡ p)
+
+-- after an end nothing is run
+abbrev pub UnlessOver : Option End → Type 0 → Type 0 → Type 0
+UnlessOver None goes stays = goes
+UnlessOver (Some f) goes stays = stays
+
+-- A command brings a place to another, and this is shown on the way.
+abbrev pub Runs : Given → Command → Place → List ℕ → Place → Type 0
+Runs g (commands.Turn n) p shown q = UnlessOver p.end (TurnsTo g p.items (p.turn + n) shown q) (Stays p shown q)
+Runs g (commands.Until a) p shown q = UnlessOver p.end (ComesTo g p.items a shown q) (Stays p shown q)
+Runs g commands.Regs p shown q = Stays p shown q
+Runs g commands.Raw p shown q = Stays p shown q
+Runs g commands.Held p shown q = Stays p shown q
+Runs g (commands.Mem a n) p shown q = Stays p shown q
+Runs g (commands.RawMem a n) p shown q = Stays p shown q
+
+-- ---- what is told at a place
+
+-- a label in front of the global and of the local registers
+abbrev pub registers_text : List ℕ → List ℕ → List ℕ → List ℕ
+registers_text globals locals regs = words_text globals (drop 16 regs) ++ words_text locals (take 16 regs)
+
+-- the turn, and how many instructions have issued
+unfoldable pub turn_text : ℕ → ℕ → List ℕ
+turn_text t k = codes "#turn " ++ decimal t ++ codes " " ++ decimal k ++ line_feed
+
+-- the count, the address, AC and PC of a view, and its registers
+unfoldable pub view_text : View → List ℕ
+view_text v = words_text (codes "#view " ++ decimal v.count) (v.ip ∷ v.ac ∷ v.pc ∷ []) ++ registers_text (codes "#g") (codes "#l") v.regs
+
+-- the turn, which registers are busy, and the registers as they stand
+unfoldable pub raw_text : Raw → List ℕ
+raw_text raw = words_text (codes "#raw " ++ decimal raw.turn) (raw.busy ∷ []) ++ registers_text (codes "#rg") (codes "#rl") raw.regs
+
+-- how many sets there are, how many of them hold a frame, and the addresses to which these frames are saved; frames are
+-- given the oldest first, and told the youngest first
+unfoldable pub held_text : ℕ → List Frame → List ℕ
+held_text n fs =
+    words_text (codes "#held " ++ decimal n ++ codes " " ++ decimal (length fs)) (map (λ f. f.address) (reverse fs))
+
+-- the bytes from an address on as they stand
+unfoldable pub raw_bytes_text : ℕ → List (Option ℕ) → List ℕ
+raw_bytes_text a bs = codes "#rawmem" ++ spaced a ++ flat_map spaced_byte bs ++ line_feed
+
+-- the bytes of raw memory from an address up, at a turn behind items
+abbrev pub raw_bytes : Given → List Item → ℕ → ℕ → ℕ → List (Option ℕ)
+raw_bytes g h t a n = map (λ k. Some (raw_memory (boot g.image).memory.bytes t (course g h).late (wrapped (a + k)))) (range_with_len 0 n)
+
+-- What a command tells at a turn behind items, after what was shown on the way there. One that runs tells the turn and how
+-- many instructions have issued.
+abbrev pub told : Given → List Item → ℕ → Command → List ℕ
+told g h t (commands.Turn n) = turn_text t (state_at g h).count
+told g h t (commands.Until a) = turn_text t (state_at g h).count
+told g h t commands.Regs = view_text (view_of (state_at g h))
+told g h t commands.Raw = raw_text (raw_at g h t)
+told g h t commands.Held = held_text (sets_in g.sets (state_at g h)) (cache_after g (records_of h)).held
+told g h t (commands.Mem a n) = bytes_text a (overlays (state_at g h) a n)
+told g h t (commands.RawMem a n) = raw_bytes_text a (raw_bytes g h t a n)
+
+-- ---- scripts
+
+-- what a command prints at a place, and the place behind it
+pub record Answers (g : Given) (c : Command) (p : Place) (text : List ℕ) (q : Place) : Type 0 where
+  pub shown : List ℕ
+  pub runs : Runs g c p shown q
+  pub whole : text ≡ shown ++ told g q.items q.turn c
+
+-- the text of commands from a place on, and the place behind them
+pub data IsText (g : Given) : List Command → Place → List ℕ → Place → Type 0 where
+  no_command : (p : Place) → IsText g [] p [] p
+  next_command : (c : Command) (cs : List Command) (p q last : Place) (x y : List ℕ) → Answers g c p x q → IsText g cs q y last
+      → IsText g (c ∷ cs) p (x ++ y) last

@@ -1,0 +1,22 @@
+use Rattle.std.proofs.Common.{ℕ, sym, ap, ◌∙◌}
+use Rattle.i9_model.specs.ScheduleText.{standing_by}
+use Rattle.i9_machine.proofs.Timely.{timely_event}
+use Rattle.i9_machine.proofs.machine.Machine.event_or_instruction.Goals as goal
+
+pub reaches-requires-clause-stands : goal.reaches-requires-clause-stands
+reaches-requires-clause-stands c =
+    let m = c.args.self.now in
+    let r = c.requires in
+    let plan = c.args.plan.now in
+    sym (timely_event m plan r.timely (record { due = r.free; below = r.below; chosen = r.chosen }))
+    ∙ sym (ap (λ (k : ℕ). standing_by plan.events plan.place k m.turn) c.count.ensures)
+    ∙ sym c.in-Some.ensures.event
+
+pub next_instruction-requires-clause-stands : goal.next_instruction-requires-clause-stands
+next_instruction-requires-clause-stands c =
+    let m = c.args.self.now in
+    let r = c.requires in
+    let plan = c.args.plan.now in
+    sym (timely_event m plan r.timely (record { due = r.free; below = r.below; chosen = r.chosen }))
+    ∙ sym (ap (λ (k : ℕ). standing_by plan.events plan.place k m.turn) c.count.ensures)
+    ∙ sym c.in-None.ensures.event

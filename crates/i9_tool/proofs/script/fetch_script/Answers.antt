@@ -1,0 +1,18 @@
+use Rattle.i9_tool.specs.declared.files.FileKind.TheVariants.{Script}
+use Rattle.i9_tool.proofs.Fetching.{fetches_last, fetches_missed}
+use Rattle.i9_tool.proofs.Outcomes.{file_fetched, file_missed, some_read, some_kind, some_script}
+use Rattle.i9_tool.proofs.script.fetch_script.Goals as goal
+
+pub returns-in-Ok-clause-answers : goal.returns-in-Ok-clause-answers
+returns-in-Ok-clause-answers g c =
+    file_fetched _ _ _ _ _ _ _ _ _ _ c.in-Ok.ensures.fetches.file.is_file c.deref.ensures.value c.in-Ok.ensures.unwritten c.use_script.ensures.answers
+
+pub returns-in-Ok-clause-fetches : goal.returns-in-Ok-clause-fetches
+returns-in-Ok-clause-fetches g c = fetches_last _ _ _ _ Script _ _ c.use_script.ensures.read c.in-Ok.ensures.fetches
+
+pub returns-in-Err-clause-answers : goal.returns-in-Err-clause-answers
+returns-in-Err-clause-answers g c =
+    file_missed _ Script _ _ _ _ _ _ (some_read _ _ _ (λ file. some_kind Script _ file (some_script _ _ _ file))) c.in-Err.ensures.answers
+
+pub returns-in-Err-clause-fetches : goal.returns-in-Err-clause-fetches
+returns-in-Err-clause-fetches g c = fetches_missed _ _ _ _ Script _ _ c.in-Err.ensures.fetches

@@ -1,0 +1,200 @@
+-- One step more towards a stop.
+use Rattle.std.proofs.Common.{◌≡◌, ℕ, ◌+◌, Bool, true, false, List, [], ◌∷◌, ◌++◌, map, Option, Some, None, refl, sym, ap, subst, ◌∙◌, append_assoc, inl, inr, arith}
+use Rattle.std.proofs.lemmas.List.{append-nil}
+use Rattle.std.proofs.lemmas.Option.{none-some}
+use Rattle.i9_model.specs.State.{State}
+use Rattle.i9_model.specs.declared.run.End.{End}
+use Rattle.i9_model.specs.declared.view.View.{View}
+use Rattle.i9_model.specs.PrintedText.{Shown, view_of, lines_of, record_lines, end_lines}
+use Rattle.i9_model.specs.Run.{Given, Kind, Instruction, Faulted, Entered, Interrupted, Reached, Blocked, Record, counts_of, state_after}
+use Rattle.i9_schedule.specs.Plan.{Plan}
+use Rattle.i9_course.specs.Course.{Item, Step, records_of}
+use Rattle.i9_machine.specs.declared.line.Line.{Line}
+use Rattle.i9_machine.specs.declared.line.Issued.{Issued}
+use Rattle.i9_machine.specs.declared.line.Turn.{Turn}
+use Rattle.i9_machine.specs.declared.line.Turn.TheVariants as answers
+use Rattle.i9_machine.specs.declared.machine.Machine.{Machine}
+use Rattle.i9_machine.specs.Line.{AddsLines, shown_of}
+use Rattle.i9_machine.specs.InRun.{IsInRun}
+use Rattle.i9_machine.specs.Step.{TellsRecord}
+use Rattle.i9_machine.specs.StandsFor.{StandsFor, Follows, IsUnderWay, DoesNext, EndsRun, IsRefused, Advances, AnswersAgain}
+use Rattle.i9_machine.specs.Turned.{steps_on}
+use Rattle.i9_tracer.specs.Until.{view_behind, IsPassed, Passes, StopsAt, EndsFirst, StopsShort}
+
+-- ---- what a step is
+
+-- a step that is told as an instruction counts
+issued_counts : (kind : Kind) (s : State) (t : Issued) → TellsRecord kind s (answers.Issued t) → counts_of kind ≡ 1
+issued_counts (Instruction i) s t h = refl
+issued_counts (Faulted inst fault) s t h = refl
+issued_counts (Entered e) s t h = absurd h
+issued_counts (Interrupted c e) s t h = absurd h
+issued_counts (Reached e u) s t h = absurd h
+issued_counts (Blocked e a) s t h = absurd h
+
+-- and no other one does
+on_counts : (kind : Kind) (s : State) → TellsRecord kind s answers.On → counts_of kind ≡ 1 → ⊥
+on_counts (Instruction i) s h one = h
+on_counts (Faulted inst fault) s h one = h
+on_counts (Entered e) s h one = omega (arith, one)
+on_counts (Interrupted c e) s h one = omega (arith, one)
+on_counts (Reached e u) s h one = omega (arith, one)
+on_counts (Blocked e a) s h one = omega (arith, one)
+
+-- ---- lines
+
+more_lines : (old mid new : List Line) (xs ys : List Shown) → AddsLines old mid xs → AddsLines mid new ys → AddsLines old new (xs ++ ys)
+more_lines old mid new xs ys first then =
+    then ∙ ap (λ (ls : List Shown). ls ++ ys) first ∙ append_assoc (map shown_of old) xs ys
+
+same_lines : (old mid new : List Line) (xs : List Shown) → AddsLines old mid xs → new ≡ mid → AddsLines old new xs
+same_lines old mid new xs first same = ap (map shown_of) same ∙ first
+
+-- ---- steps
+
+-- what a view shows, whatever the machine stands for
+abbrev pub Shows : Given → Machine → View → Type 0
+Shows g m view = (items : List Item) (end : Option End) → StandsFor g items end m → view ≡ view_of (state_after g (records_of items))
+
+module _ (allows : View → Bool → Type 0) where
+  pub none_passed : (g : Given) (h : List Item) (m : Machine) (plan : Plan) (lines : List Line) → StandsFor g h None m → Follows g h plan
+      → Passes allows g h m plan lines lines
+  none_passed g h m plan lines stands follows = record {
+    done = [];
+    passed = tt;
+    stands = stands;
+    follows = follows;
+    lines = sym (append-nil (map shown_of lines));
+  }
+
+  module _ (g : Given) (h : List Item) (m : Machine) (was : Plan) (old mid : List Line) (since : Passes allows g h m was old mid)
+      (before next : Machine) (plan : Plan) (new : List Line) where
+    -- one more record is passed
+    does_pass : (answer : Turn) → (d : DoesNext g (steps_on since.done h) answer before next plan mid new) → IsPassed allows d.done
+        → Passes allows g h next plan old new
+    does_pass answer d passed = record {
+      done = d.done ∷ since.done;
+      passed = (passed, since.passed);
+      stands = d.stands;
+      follows = d.follows;
+      lines = more_lines old mid new (lines_of since.done) (record_lines d.done) since.lines d.lines;
+    }
+
+    -- an instruction at which the stop does not hold
+    pub issued_pass : (t : Issued) (view : View) → Advances g (steps_on since.done h) (answers.Issued t) before next plan mid new
+        → Shows g next view → allows view false → Passes allows g h next plan old new
+    issued_pass t view d shows refused =
+        let shown = shows (Step d.done ∷ steps_on since.done h) None d.stands in
+        does_pass (answers.Issued t) d (λ one. subst (λ (v : View). allows v false) shown refused)
+
+    -- one at which it does
+    pub issued_stops : (t : Issued) (view : View) → Advances g (steps_on since.done h) (answers.Issued t) before next plan mid new
+        → Shows g next view → allows view true → StopsAt allows g h t next plan old new
+    issued_stops t view d shows holds =
+        let shown = shows (Step d.done ∷ steps_on since.done h) None d.stands in
+        record {
+          done = since.done;
+          last = d.done;
+          passed = since.passed;
+          counts = issued_counts d.done.kind d.done.before t d.tells;
+          held = subst (λ (v : View). allows v true) shown holds;
+          tells = d.tells;
+          turn = d.turn ∙ sym d.now;
+          stands = d.stands;
+          follows = d.follows;
+          lines = more_lines old mid new (lines_of since.done) (record_lines d.done) since.lines d.lines;
+        }
+
+    -- a move of the turn, an event or an entry
+    pub on_pass : Advances g (steps_on since.done h) answers.On before next plan mid new → Passes allows g h next plan old new
+    on_pass (inl moves) = record {
+      done = since.done;
+      passed = since.passed;
+      stands = moves.stands;
+      follows = moves.follows;
+      lines = same_lines old mid new (lines_of since.done) since.lines moves.lines;
+    }
+    on_pass (inr d) = does_pass answers.On d (λ one. absurd (on_counts d.done.kind d.done.before d.tells one))
+
+    -- the end
+    pub ends_first : (f : End) → Advances g (steps_on since.done h) (answers.End f) before next plan mid new → EndsFirst allows g h f next plan old new
+    ends_first f d = record {
+      done = since.done;
+      passed = since.passed;
+      is_end = d.is_end;
+      turn = d.turn ∙ sym d.now;
+      stands = d.stands;
+      follows = d.follows;
+      lines = more_lines old mid new (lines_of since.done) (end_lines (state_after g (records_of (steps_on since.done h))) f) since.lines d.lines;
+    }
+
+    -- want of memory
+    pub stops_short : Advances g (steps_on since.done h) answers.Memory before next plan mid new → StopsShort allows g h next plan old new
+    stops_short d = record {
+      since = record {
+        done = since.done;
+        passed = since.passed;
+        stands = d.stands;
+        follows = d.follows;
+        lines = same_lines old mid new (lines_of since.done) since.lines d.lines;
+      };
+      needed = d.needed;
+    }
+
+-- ---- the machine stays in its run
+
+pub under_way : (m : Machine) (plan : Plan) → IsInRun m plan → m.ended ≡ None → IsUnderWay m plan
+under_way m plan r none = by_end r.end r.stands
+  where
+    by_end : (end : Option End) → StandsFor r.given r.items end m → IsUnderWay m plan
+    by_end None stands = record { given = r.given; items = r.items; stands = stands; follows = r.follows }
+    by_end (Some f) stands = absurd (none-some f (sym none ∙ stands.ended))
+
+-- so it does where turns are passed
+pub passed_in_run : (before m : Machine) (plan : Plan) → IsInRun before plan
+    → ((g : Given) (h : List Item) (end : Option End) → StandsFor g h end before → StandsFor g h end m) → IsInRun m plan
+passed_in_run before m plan r stands = record { given = r.given; items = r.items; end = r.end; stands = stands r.given r.items r.end r.stands; follows = r.follows }
+
+-- where an end was answered, a step answers it again
+pub not_again : (g : Given) (h : List Item) (f : End) (answer : Turn) (m : Machine) (old new : List Line)
+    → ((e : End) → answer ≡ answers.End e → ⊥) → AnswersAgain g h f answer m old new → ⊥
+not_again g h f answer m old new other again = other again.end again.answers
+
+module _ (before m : Machine) (was plan : Plan) (old new : List Line) (answer : Turn) (r : IsInRun before was) where
+  abbrev Steps : Type 0
+  Steps = (g : Given) (h : List Item) → StandsFor g h None before → Follows g h was → Advances g h answer before m plan old new
+
+  abbrev Again : Type 0
+  Again = (g : Given) (h : List Item) (f : End) → StandsFor g h (Some f) before → AnswersAgain g h f answer m old new × (plan ≡ was)
+
+  -- so it does where it answers no end
+  still_in_run : Steps → Again → ((e : End) → answer ≡ answers.End e → ⊥) → ((g : Given) (h : List Item) → Advances g h answer before m plan old new → IsInRun m plan) → IsInRun m plan
+  still_in_run steps again other goes = by_end r.end r.stands
+    where
+      by_end : (end : Option End) → StandsFor r.given r.items end before → IsInRun m plan
+      by_end None stands = goes r.given r.items (steps r.given r.items stands r.follows)
+      by_end (Some f) stands = absurd (not_again r.given r.items f answer m old new other (again r.given r.items f stands).0)
+
+does_in_run : (g : Given) (h : List Item) (answer : Turn) (before m : Machine) (plan : Plan) (old new : List Line)
+    → DoesNext g h answer before m plan old new → IsInRun m plan
+does_in_run g h answer before m plan old new d = record { given = g; items = Step d.done ∷ h; end = None; stands = d.stands; follows = d.follows }
+
+on_in_run : (g : Given) (h : List Item) (before m : Machine) (plan : Plan) (old new : List Line)
+    → Advances g h answers.On before m plan old new → IsInRun m plan
+on_in_run g h before m plan old new (inl moves) = record { given = g; items = h; end = None; stands = moves.stands; follows = moves.follows }
+on_in_run g h before m plan old new (inr d) = does_in_run g h answers.On before m plan old new d
+
+module _ (before m : Machine) (was plan : Plan) (old new : List Line) (r : IsInRun before was) where
+  pub in_run_on : Steps before m was plan old new answers.On r → Again before m was plan old new answers.On r → IsInRun m plan
+  in_run_on steps again = still_in_run before m was plan old new answers.On r steps again (λ e h. cc h)
+      (λ g h a. on_in_run g h before m plan old new a)
+
+  pub in_run_issued : (t : Issued) → Steps before m was plan old new (answers.Issued t) r → Again before m was plan old new (answers.Issued t) r → IsInRun m plan
+  in_run_issued t steps again = still_in_run before m was plan old new (answers.Issued t) r steps again (λ e h. cc h)
+      (λ g h a. does_in_run g h (answers.Issued t) before m plan old new a)
+
+-- an end that was answered is answered again, and nothing changes
+pub again_same : (g : Given) (h : List Item) (f : End) (answer : Turn) (m : Machine) (old mid new : List Line) (was mid_plan plan : Plan)
+    → mid ≡ old → mid_plan ≡ was → AnswersAgain g h f answer m mid new × (plan ≡ mid_plan) → AnswersAgain g h f answer m old new × (plan ≡ was)
+again_same g h f answer m old mid new was mid_plan plan lines plans again =
+    (record { end = again.0.end; same = again.0.same; answers = again.0.answers; stands = again.0.stands; lines = again.0.lines ∙ lines }, again.1 ∙ plans)

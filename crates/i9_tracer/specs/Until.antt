@@ -1,0 +1,71 @@
+-- What running a machine until a stop holds does.
+use Rattle.std.specs.Prelude.{◌≡◌, ℕ, Bool, true, false, List, ◌∷◌, ◌++◌, Some, None}
+use Rattle.std.specs.List.{AllByRecursion}
+use Rattle.i9_model.specs.declared.run.End.{End}
+use Rattle.i9_model.specs.declared.view.View.{View}
+use Rattle.i9_model.specs.PrintedText.{view_of, lines_of, end_lines}
+use Rattle.i9_model.specs.Run.{Given, Record, counts_of, state_after}
+use Rattle.i9_schedule.specs.Plan.{Plan}
+use Rattle.i9_course.specs.Course.{Item, Step, records_of, comes_next, ahead}
+use Rattle.i9_course.specs.LateRun.{end_ahead}
+use Rattle.i9_machine.specs.declared.line.Line.{Line}
+use Rattle.i9_machine.specs.declared.line.Turn.{Turn}
+use Rattle.i9_machine.specs.declared.line.Turn.TheVariants as answers
+use Rattle.i9_machine.specs.declared.line.Issued.{Issued}
+use Rattle.i9_machine.specs.declared.machine.Machine.{Machine}
+use Rattle.i9_machine.specs.Line.{AddsLines}
+use Rattle.i9_machine.specs.Step.{TellsRecord, NeedsRoom}
+use Rattle.i9_machine.specs.StandsFor.{StandsFor, Follows}
+use Rattle.i9_machine.specs.Turned.{steps_on}
+
+-- what the view shows behind a record
+abbrev pub view_behind : Record → View
+view_behind r = view_of r.after
+
+-- a stop may answer false behind a record, where that is an instruction: what is none asks for no answer
+abbrev pub IsPassed : (View → Bool → Type 0) → Record → Type 0
+IsPassed allows r = counts_of r.kind ≡ 1 → allows (view_behind r) false
+
+-- Records were done behind items, the newest first, at none of which the stop held; and their lines were appended.
+pub record Passes (allows : View → Bool → Type 0) (g : Given) (h : List Item) (m : Machine) (plan : Plan) (old new : List Line) : Type 0 where
+  pub done : List Record
+  pub passed : AllByRecursion (IsPassed allows) done
+  pub stands : StandsFor g (steps_on done h) None m
+  pub follows : Follows g (steps_on done h) plan
+  pub lines : AddsLines old new (lines_of done)
+
+-- The last record is an instruction, behind which the stop may answer true, and it was told; the turn is the one at which
+-- it issued.
+pub record StopsAt (allows : View → Bool → Type 0) (g : Given) (h : List Item) (t : Issued) (m : Machine) (plan : Plan) (old new : List Line) : Type 0 where
+  pub done : List Record
+  pub last : Record
+  pub passed : AllByRecursion (IsPassed allows) done
+  pub counts : counts_of last.kind ≡ 1
+  pub held : allows (view_behind last) true
+  pub tells : TellsRecord last.kind last.before (answers.Issued t)
+  pub turn : m.turn ≡ (ahead g (steps_on done h)).turn
+  pub stands : StandsFor g (Step last ∷ steps_on done h) None m
+  pub follows : Follows g (Step last ∷ steps_on done h) plan
+  pub lines : AddsLines old new (lines_of (last ∷ done))
+
+-- the end was answered, at its turn, and no instruction before it stopped
+pub record EndsFirst (allows : View → Bool → Type 0) (g : Given) (h : List Item) (f : End) (m : Machine) (plan : Plan) (old new : List Line) : Type 0 where
+  pub done : List Record
+  pub passed : AllByRecursion (IsPassed allows) done
+  pub is_end : end_ahead g (steps_on done h) ≡ Some f
+  pub turn : m.turn ≡ (ahead g (steps_on done h)).turn
+  pub stands : StandsFor g (steps_on done h) (Some f) m
+  pub follows : Follows g (steps_on done h) plan
+  pub lines : AddsLines old new (lines_of done ++ end_lines (state_after g (records_of (steps_on done h))) f)
+
+-- memory was refused behind whole steps
+pub record StopsShort (allows : View → Bool → Type 0) (g : Given) (h : List Item) (m : Machine) (plan : Plan) (old new : List Line) : Type 0 where
+  pub since : Passes allows g h m plan old new
+  pub needed : NeedsRoom (comes_next g (steps_on since.done h))
+
+-- what running until a stop holds does, by its answer: an instruction where it held, an end, or want of memory
+abbrev pub RunsUntil : (View → Bool → Type 0) → Given → List Item → Turn → Machine → Plan → List Line → List Line → Type 0
+RunsUntil allows g h answers.On m plan old new = ⊥
+RunsUntil allows g h (answers.Issued t) m plan old new = StopsAt allows g h t m plan old new
+RunsUntil allows g h (answers.End e) m plan old new = EndsFirst allows g h e m plan old new
+RunsUntil allows g h answers.Memory m plan old new = StopsShort allows g h m plan old new
