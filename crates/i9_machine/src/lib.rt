@@ -11,6 +11,8 @@ pub use line::{Issued, Line, Raw, Turn};
 pub use machine::Machine;
 
 #[cfg(test)]
+mod memory_tests;
+#[cfg(test)]
 mod tests;
 #[cfg(test)]
 mod turn_tests;

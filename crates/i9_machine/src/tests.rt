@@ -15,7 +15,7 @@ use std::alloc::Global;
 use std::test::*;
 
 /// `lda 0x41, g4`, `lda 0xE0000000, g5`, `stob g4, (g5)`, `mov 7, g4` and `st g4, 4(g5)`.
-const PROGRAM: [u32; 6] = [
+pub(crate) const PROGRAM: [u32; 6] = [
     0x8CA0_0041,
     0x8CA8_3000,
     0xE000_0000,
@@ -29,7 +29,7 @@ const CALL_AND_RETURN: [u32; 2] = [0x0900_0004, 0x0A00_0000];
 
 /// `lda 19, g0`, `call f`, `lda 0xE0000000, g5`, `st g0, 4(g5)`, `f: cmpobe 0, g0, back`,
 /// `subo 1, g0, g0`, `call f`, `back: ret`.
-const NESTED_CALLS: [u32; 9] = [
+pub(crate) const NESTED_CALLS: [u32; 9] = [
     0x8C80_0013,
     0x0900_0010,
     0x8CA8_3000,
@@ -39,21 +39,6 @@ const NESTED_CALLS: [u32; 9] = [
     0x5984_0901,
     0x09FF_FFF8,
     0x0A00_0000,
-];
-
-/// `lda 0x80003000, g0`, `mov 7, g4`, `stob g4, 0x3000`, `mov 9, g5`, `stob g5, (g0)`,
-/// `ldob 0x3000, g6`, `ldob (g0), g7`.
-const STORES_FAR_APART: [u32; 10] = [
-    0x8C80_3000,
-    0x8000_3000,
-    0x5CA0_0E07,
-    0x82A0_3000,
-    0x0000_3000,
-    0x5CA8_0E09,
-    0x82AC_2000,
-    0x80B0_3000,
-    0x0000_3000,
-    0x80BC_2000,
 ];
 
 /// A program at 1000, which the boot record names.
@@ -363,36 +348,8 @@ fn compares_bytes_of_live_frames_alone(rt: HostRuntime) -> Result<(), Fail> {
     Ok(())
 }
 
-/// So many machines at once, each of which has stored two bytes 2 GiB apart.
-fn far_apart(alloc: Global, count: usize) -> Result<Vec<Machine>, Fail> {
-    let image = image_of(alloc, &STORES_FAR_APART)?;
-    let mut machines = Vec::new(alloc);
-    for _ in 0..count {
-        let mut run = run_of(alloc, &image, None, 7, b"")?;
-        take_steps(&mut run, 7);
-        machines.push(run.machine)?;
-    }
-    Ok(machines)
-}
-
-#[test]
-fn memory_grows_with_the_pages_that_are_touched(rt: HostRuntime) -> Result<(), Fail> {
-    // With all bytes from the first to the second these machines would hold 2 TiB.
-    let machines = far_apart(rt.alloc(), 1000)?;
-    assert_eq!(rt; machines.len(), 1000);
-    for machine in &machines {
-        let view = machine.view();
-        assert_eq!(rt; (view.count, view.regs[22], view.regs[23]), (7, 7, 9));
-        assert_eq!(rt;
-            (machine.byte(0x3000), machine.byte(0x8000_3000)),
-            (Some(7), Some(9))
-        );
-    }
-    Ok(())
-}
-
 /// `call f`, `f: lda 0x300, g1`, `lda 0x1200, g2`, `lda 0xC00, g3`, `sysctl g1, g2, g3`.
-const CALL_AND_START_ANEW: [u32; 6] = [
+pub(crate) const CALL_AND_START_ANEW: [u32; 6] = [
     0x0900_0004,
     0x8C88_0300,
     0x8C90_3000,
@@ -693,7 +650,7 @@ const SUM_OF_PRODUCT: [u32; 4] = [0x5CA8_0E03, 0x5CB0_0E07, MULTIPLY, ADD];
 const OVERTAKEN: [u32; 2] = [0x70A1_1D80, 0x59A8_9801];
 
 /// All that is open lands, and the view stays as it is.
-fn settle(run: &mut Run) -> bool
+pub(crate) fn settle(run: &mut Run) -> bool
     requires { IsInRun run.old.machine run.old.plan }
     ensures { IsInRun run.new.machine run.new.plan }
 {

@@ -117,6 +117,35 @@ fn no_files_of_the_system(rt: HostRuntime) -> Result<(), Fail> {
     Ok(())
 }
 
+#[test]
+fn sink_over_a_file(rt: HostRuntime) -> Result<(), Fail> {
+    let name = "outside_test_output";
+    let mut sink = RealSink::new(fs::create(&rt, name)?);
+    for piece in ["one", "", " and two"] {
+        assert_eq!(rt; sink.write(piece.as_bytes()), Wrote::Ok, "at {piece}");
+    }
+    let mut into = Vec::new(rt.alloc());
+    let answer = RealFiles::new(&rt).fetch(rt.alloc(), name, &mut into);
+    fs::remove_file(&rt, name)?;
+    assert_eq!(rt; answer, Fetch::Ok);
+    assert_eq!(rt; into.as_slice(), b"one and two".as_slice());
+    Ok(())
+}
+
+#[test]
+fn devices_of_the_system(rt: HostRuntime) -> Result<(), Fail> {
+    // Where the system has them: one that is full, and one that never ends.
+    if let Ok(full) = fs::OpenOptions::new().write(true).open(&rt, "/dev/full") {
+        assert_eq!(rt; RealSink::new(full).write(b"a"), Wrote::Failed);
+    }
+    if fs::open(&rt, "/dev/zero").is_ok() {
+        let mut into = Vec::new(rt.alloc());
+        let answer = RealFiles::new(&rt).fetch(rt.alloc(), "/dev/zero", &mut into);
+        assert_eq!(rt; answer, Fetch::TooLong(16_777_217));
+    }
+    Ok(())
+}
+
 /// Takes at most two bytes a call, and refuses what comes after five.
 #[derive(Drop)]
 struct Narrow {
