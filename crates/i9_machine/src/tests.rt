@@ -319,32 +319,35 @@ fn tells_a_fault_and_its_entry(rt: HostRuntime) -> Result<(), Fail> {
     Ok(())
 }
 
+/// The bytes of memory at six places: three of the first frame, one behind it, one of code, and one of the port page.
+fn some_bytes(machine: &Machine) -> [Option<u8>; 6] {
+    [
+        machine.byte(4),
+        machine.byte(8),
+        machine.byte(9),
+        machine.byte(0x40),
+        machine.byte(0x1000),
+        machine.byte(0xE000_0000),
+    ]
+}
+
 #[test]
 fn compares_bytes_of_live_frames_alone(rt: HostRuntime) -> Result<(), Fail> {
     let image = image_of(rt.alloc(), &CALL_AND_RETURN)?;
     let mut run = run_of(rt.alloc(), &image, None, 2, b"")?;
-    let steps = [
-        (Some(0), Some(0), Some(0)),
-        (Some(0x40), Some(0x04), Some(0x10)),
-        (None, None, None),
-    ];
-    for (sp, back, back_above) in steps {
-        assert_eq!(rt;
-            (
-                run.machine.byte(4),
-                run.machine.byte(8),
-                run.machine.byte(9)
-            ),
-            (sp, back, back_above)
-        );
-        assert_eq!(rt;
-            (run.machine.byte(0x40), run.machine.byte(0x1000)),
-            (Some(0), Some(0x04))
-        );
-        assert_eq!(rt; run.machine.byte(0xE000_0000), Some(0));
-        let _ = step(&mut run);
-    }
+    let before = some_bytes(&run.machine);
+    let _ = step(&mut run);
+    let called = some_bytes(&run.machine);
+    let _ = step(&mut run);
+    let returned = some_bytes(&run.machine);
     assert_eq!(rt; step(&mut run), Turn::End(End::Limit));
+    let (zero, code) = (Some(0), Some(0x04));
+    assert_eq!(rt; before, [zero, zero, zero, zero, code, zero]);
+    assert_eq!(rt;
+        called,
+        [Some(0x40), Some(0x04), Some(0x10), zero, code, zero]
+    );
+    assert_eq!(rt; returned, [None, None, None, zero, code, zero]);
     Ok(())
 }
 
@@ -515,67 +518,87 @@ fn turned(run: &mut Run) -> ((bool, u64, u32), View)
     ((matches!(turn, Turn::Issued(_)), view.count, view.ip), view)
 }
 
+/// What a step did, with the view after it.
+type Turned = ((bool, u64, u32), View);
+
+/// The run of two instructions with events, behind its seven steps, and what each of these did: the event at the start
+/// comes before the first instruction, and the others before the second one.
+fn events_met(alloc: Global) -> Result<(Run, Vec<Turned>), Fail> {
+    let image = image_with_handler(alloc)?;
+    let text = b"at 0 show 1000 4\nat 1 pin 3\nat 1 nmi\nat 2 dma 0\n";
+    let mut run = run_of(alloc, &image, None, 2, text)?;
+    let mut steps = Vec::new(alloc);
+    for _ in 0..7usize {
+        steps.push(turned(&mut run))?;
+    }
+    Ok((run, steps))
+}
+
 #[test]
 fn meets_events(rt: HostRuntime) -> Result<(), Fail> {
-    let image = image_with_handler(rt.alloc())?;
-    let text = b"at 0 show 1000 4\nat 1 pin 3\nat 1 nmi\nat 2 dma 0\n";
-    let mut run = run_of(rt.alloc(), &image, None, 2, text)?;
-    // The event at the start comes before the first instruction, and the others before the second one: the pin,
-    // which is masked, and then the interrupt that is never masked, whose handler is entered at once.
-    let (first, shown) = turned(&mut run);
-    let (second, _) = turned(&mut run);
-    let (third, posted) = turned(&mut run);
-    let (fourth, asked) = turned(&mut run);
-    let (fifth, entered) = turned(&mut run);
-    let (sixth, last) = turned(&mut run);
-    assert_eq!(rt;
-        [first, second, third, fourth, fifth, sixth],
-        [
-            (false, 0, 0x1000),
-            (true, 1, 0x1004),
-            (false, 1, 0x1004),
-            (false, 1, 0x1004),
-            (false, 1, 0x1200),
-            (true, 2, 0x1204),
-        ]
-    );
-    // No event at the length is reached.
-    assert_eq!(rt; step(&mut run), Turn::End(End::Limit));
+    let (run, steps) = events_met(rt.alloc())?;
+    // The pin is masked, and then the interrupt that is never masked is entered at once. No event at the length is
+    // reached.
+    let wanted = [
+        (false, 0, 0x1000),
+        (true, 1, 0x1004),
+        (false, 1, 0x1004),
+        (false, 1, 0x1004),
+        (false, 1, 0x1200),
+        (true, 2, 0x1204),
+        (false, 2, 0x1204),
+    ];
+    assert_eq!(rt; steps.len(), wanted.len());
+    for (step, did) in steps.iter().zip(wanted) {
+        assert_eq!(rt; step.0, did);
+    }
     assert_eq!(rt; run.plan.next().is_some(), true);
+    Ok(())
+}
+
+#[test]
+fn enters_the_handler_of_an_event(rt: HostRuntime) -> Result<(), Fail> {
+    let (run, steps) = events_met(rt.alloc())?;
+    let Some((_, entered)) = steps.get(4) else {
+        return Err("no entry".into());
+    };
     // The frame of the handler stands above sp, since an interrupt is handled, and above its record.
-    assert_eq!(rt;
-        (
-            entered.regs[31],
-            entered.regs[0],
-            entered.regs[1],
-            entered.pc
-        ),
-        (0x50, 7, 0x90, 0x1F_2002)
-    );
-    assert_eq!(rt;
-        (run.machine.byte(0x48), run.machine.byte(0x42)),
-        (Some(248), Some(0x1F))
-    );
+    let locals = (entered.regs[31], entered.regs[0], entered.regs[1]);
+    assert_eq!(rt; locals, (0x50, 7, 0x90));
+    assert_eq!(rt; entered.pc, 0x1F_2002);
+    let record = (run.machine.byte(0x48), run.machine.byte(0x42));
+    assert_eq!(rt; record, (Some(248), Some(0x1F)));
+    Ok(())
+}
+
+/// The lines that are wanted of the run with events, by the views behind its steps.
+fn lines_of_events(alloc: Global, steps: &[Turned]) -> Result<Vec<Line>, Fail> {
+    let [shown, _, posted, asked, entered, _, last] = steps else {
+        return Err("no seven steps".into());
+    };
     let mut list = ArrayVec::new();
-    let shown_bytes = [Some(0x41), Some(0x00), Some(0xA0), Some(0x8C)];
-    assert_eq!(rt; list.try_extend_from_slice(&shown_bytes).is_ok(), true);
+    let _ = list.try_extend_from_slice(&[Some(0x41), Some(0x00), Some(0xA0), Some(0x8C)]);
     let event = |count: u64, event: Event| Line::Event { count, event };
     let point = |kind: Point, view: View| Line::Point { kind, view };
-    let wanted = [
-        event(0, Event::Show(0x1000, 4)),
-        Line::Bytes {
-            address: 0x1000,
-            list,
-        },
-        point(Point::Event, shown),
-        event(1, Event::Pin(3)),
-        point(Point::Event, posted),
-        event(1, Event::Nmi),
-        point(Point::Event, asked),
-        point(Point::Int, entered),
-        point(Point::End, last),
-        Line::End(End::Limit),
-    ];
+    let address = 0x1000;
+    let mut lines = Vec::new(alloc);
+    lines.push(event(0, Event::Show(address, 4)))?;
+    lines.push(Line::Bytes { address, list })?;
+    lines.push(point(Point::Event, shown.1))?;
+    lines.push(event(1, Event::Pin(3)))?;
+    lines.push(point(Point::Event, posted.1))?;
+    lines.push(event(1, Event::Nmi))?;
+    lines.push(point(Point::Event, asked.1))?;
+    lines.push(point(Point::Int, entered.1))?;
+    lines.push(point(Point::End, last.1))?;
+    lines.push(Line::End(End::Limit))?;
+    Ok(lines)
+}
+
+#[test]
+fn tells_events(rt: HostRuntime) -> Result<(), Fail> {
+    let (run, steps) = events_met(rt.alloc())?;
+    let wanted = lines_of_events(rt.alloc(), &steps)?;
     assert_eq!(rt; run.lines.as_slice(), wanted.as_slice());
     Ok(())
 }
@@ -688,22 +711,26 @@ fn settles_what_is_open(rt: HostRuntime) -> Result<(), Fail> {
 }
 
 #[test]
-fn settles_behind_a_fault(rt: HostRuntime) -> Result<(), Fail> {
+fn settles_behind_an_imprecise_fault(rt: HostRuntime) -> Result<(), Fail> {
+    // The division is open, and the end stays.
     let image = image_of(rt.alloc(), &OVERTAKEN)?;
-    // Behind the imprecise fault the division is open, and the end stays.
     let mut run = run_of(rt.alloc(), &image, None, 2, b"")?;
     take_steps(&mut run, 1);
     assert_eq!(rt; step(&mut run), Turn::End(End::Imprecise(0x1000)));
     assert_eq!(rt; settle(&mut run), true);
     assert_eq!(rt; step(&mut run), Turn::End(End::Imprecise(0x1000)));
-    // Before that is known, all lands, and so the fault is precise: no instruction overtakes it, and it is entered.
-    let mut other = run_of(rt.alloc(), &image, None, 2, b"")?;
-    take_steps(&mut other, 1);
-    assert_eq!(rt; settle(&mut other), true);
-    assert_eq!(rt; moves_and_step(&mut other), (0, Turn::On));
-    assert_eq!(rt;
-        (other.machine.view().count, other.machine.view().ip),
-        (1, 0)
-    );
+    Ok(())
+}
+
+#[test]
+fn a_fault_that_is_settled_is_precise(rt: HostRuntime) -> Result<(), Fail> {
+    // All lands before an instruction overtakes it, and then it is entered.
+    let image = image_of(rt.alloc(), &OVERTAKEN)?;
+    let mut run = run_of(rt.alloc(), &image, None, 2, b"")?;
+    take_steps(&mut run, 1);
+    assert_eq!(rt; settle(&mut run), true);
+    assert_eq!(rt; moves_and_step(&mut run), (0, Turn::On));
+    let view = run.machine.view();
+    assert_eq!(rt; (view.count, view.ip), (1, 0));
     Ok(())
 }
