@@ -12,6 +12,8 @@ mod dis_tests;
 #[cfg(test)]
 mod dma_tests;
 #[cfg(test)]
+mod edge_tests;
+#[cfg(test)]
 mod event_tests;
 #[cfg(test)]
 mod fault_tests;
@@ -22,6 +24,8 @@ mod frame_tests;
 #[cfg(test)]
 mod gen_tests;
 #[cfg(test)]
+mod hostile_tests;
+#[cfg(test)]
 mod result_tests;
 #[cfg(test)]
 mod rows;
@@ -29,6 +33,8 @@ mod rows;
 mod sets_tests;
 #[cfg(test)]
 mod start_tests;
+#[cfg(test)]
+mod storm_tests;
 #[cfg(test)]
 mod tests;
 #[cfg(test)]

@@ -75,7 +75,7 @@ struct Case {
 }
 
 /// The HEX text of the image that a source says.
-fn hex_of(alloc: Global, source: &str) -> Result<Vec<u8>, Fail> {
+pub(crate) fn hex_of(alloc: Global, source: &str) -> Result<Vec<u8>, Fail> {
     let image = assemble(alloc, source.as_bytes())?;
     Ok(i9_hex::write(alloc, &image)?)
 }
@@ -93,7 +93,12 @@ fn register(given: &str, number: u32) -> Result<u32, Fail> {
 }
 
 /// Appends the line of sixteen registers, of which those that are not 0 are given.
-fn add_registers(alloc: Global, text: &mut String, label: &str, given: &str) -> Result<(), Fail> {
+pub(crate) fn add_registers(
+    alloc: Global,
+    text: &mut String,
+    label: &str,
+    given: &str,
+) -> Result<(), Fail> {
     text.push_str(label)?;
     for number in 0..16u32 {
         let word = register(given, number)?;
