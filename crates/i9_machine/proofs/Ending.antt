@@ -1,5 +1,5 @@
 -- An end that is answered, of the run or at an imprecise fault.
-use Rattle.std.proofs.Common.{◌≡◌, ◌≢◌, ℕ, ◌<◌, ◌≤◌, Bool, true, false, cond, ◌||◌, nat_lt, List, ◌++◌, map, Option, Some, None, Result, Ok, Err, length, refl, sym, ap, ◌∙◌, subst, inr, arith}
+use Rattle.std.proofs.Common.{◌≡◌, ◌≢◌, ℕ, ◌<◌, ◌≤◌, Bool, true, false, cond, ◌||◌, nat_lt, List, ◌++◌, map, Option, Some, None, Result, Ok, Err, length, refl, sym, ap, ◌∙◌, subst, arith}
 use Rattle.i9_model.specs.declared.faults.Entry.{Entry}
 use Rattle.i9_model.specs.declared.faults.Fault.{Fault}
 use Rattle.i9_model.specs.declared.faults.FaultStop.{FaultStop}
@@ -12,9 +12,8 @@ use Rattle.i9_model.specs.declared.run.Point.TheVariants as points
 use Rattle.i9_model.specs.Memory.{console_byte}
 use Rattle.i9_model.specs.State.{State}
 use Rattle.i9_model.specs.PrintedText.{out_lines, point_lines, record_lines, end_lines}
-use Rattle.i9_model.specs.Run.{Given, Entered, Ends, record_of, action_done, entry_in, next_by_entry, next_in}
+use Rattle.i9_model.specs.Run.{Entered, Ends, record_of, action_done, entry_in, next_by_entry, next_in}
 use Rattle.i9_schedule.specs.Plan.{Plan}
-use Rattle.i9_course.specs.Course.{Item, ahead}
 use Rattle.i9_processor.specs.Effect.{has_writes, is_restart}
 use Rattle.i9_processor.specs.State.{state_of}
 use Rattle.i9_processor.specs.declared.processor.Processor.{Processor}
@@ -26,7 +25,8 @@ use Rattle.i9_machine.specs.Issuing.{IsLike}
 use Rattle.i9_machine.specs.Line.{shown_of}
 use Rattle.i9_machine.specs.Overtaking.{late_entry, late_due}
 use Rattle.i9_machine.specs.Step.{NeedsRoom, HasRoom, event_for, next_for, Finishes, Steps, Issues}
-use Rattle.i9_machine.specs.StandsFor.{StandsFor, LeavesFewer, OpenSteps}
+use Rattle.i9_machine.specs.Coming.{Overtakes}
+use Rattle.i9_machine.specs.StandsFor.{LeavesFewer}
 use Rattle.i9_machine.proofs.Performing.{like_same}
 
 -- ---- an end of the run
@@ -44,14 +44,12 @@ finish_steps before e spare (turns.End f) m plan old new is d = subst (λ (x : E
   is_end = is;
   same = d.1.same;
   ended = d.1.ended;
-  none = d.1.none;
   kept = refl;
   lines = d.1.lines;
 })
 finish_steps before e spare turns.Memory m plan old new is d = record {
   same = d.same;
   ended = d.ended;
-  none = d.none;
   kept = refl;
   lines = d.lines;
   needed = subst NeedsRoom (sym is) tt;
@@ -92,14 +90,12 @@ like_finishes before mid e spare (turns.End f) m old new l d = (
   record {
     same = like_same before mid m l d.1.same;
     ended = d.1.ended;
-    none = d.1.none;
-    lines = d.1.lines ∙ ap (λ (p : Processor). map shown_of old ++ end_lines (state_of p) e) l.processor;
+      lines = d.1.lines ∙ ap (λ (p : Processor). map shown_of old ++ end_lines (state_of p) e) l.processor;
   },
 )
 like_finishes before mid e spare turns.Memory m old new l d = record {
   same = like_same before mid m l d.same;
   ended = d.ended;
-  none = d.none;
   lines = d.lines;
   lacking = subst (λ (p : Processor). spare < length (end_lines (state_of p) e)) l.processor d.lacking;
 }
@@ -151,39 +147,34 @@ late_next : (m : Machine) (plan : Plan) (f : Fault) → m.due ≡ dues.Entry f
     → next_for m plan ≡ next_by_entry (state_of m.processor) (entry_in (state_of m.processor) f)
 late_next m plan f is = ap (λ (d : Due). next_in m.length d (event_for m plan) (state_of m.processor)) is
 
-pub overtaken_opens : (before mid : Machine) (a spare : ℕ) (answer : Turn) (m : Machine) (plan : Plan) (old new : List Line) → IsLike before mid → late_due before ≡ Some a
-    → ((g : Given) (h : List Item) → StandsFor g h None before → ((ahead g h).imprecise ≡ Some a) × ((ahead g h).turn ≤ before.turn))
-    → Finishes mid (Imprecise a) spare answer m old new → OpenSteps before answer m plan plan old new
-overtaken_opens before mid a spare (turns.End f) m plan old new like due late d = inr (record {
-  address = a;
+pub finish_overtakes : (before : Machine) (a spare : ℕ) (answer : Turn) (m : Machine) (plan : Plan) (old new : List Line) → late_due before ≡ Some a
+    → Finishes before (Imprecise a) spare answer m old new → Overtakes a before answer m plan plan old new
+finish_overtakes before a spare (turns.End f) m plan old new due d = record {
   is_end = d.0;
-  late = late;
-  same = like_same before mid m like d.1.same;
+  same = d.1.same;
   ended = d.1.ended ∙ ap (λ (x : End). Some x) (sym d.0);
-  none = d.1.none;
   kept = refl;
   lines = d.1.lines ∙ ap (λ (x : End). map shown_of old ++ end_lines (state_of before.processor) x) (sym d.0);
-})
-overtaken_opens before mid a spare turns.Memory m plan old new like due late d =
+}
+finish_overtakes before a spare turns.Memory m plan old new due d =
     let is = late_is_due before a due in
     record {
-      same = like_same before mid m like d.same;
+      same = d.same;
       ended = d.ended;
-      none = d.none;
       kept = refl;
       lines = d.lines;
       needed = subst NeedsRoom (sym (late_next before plan is.0 is.1)) (entry_needs (state_of before.processor) (entry_in (state_of before.processor) is.0));
     }
-overtaken_opens before mid a spare turns.On m plan old new like due late d = absurd d
-overtaken_opens before mid a spare (turns.Issued t) m plan old new like due late d = absurd d
+finish_overtakes before a spare turns.On m plan old new due d = absurd d
+finish_overtakes before a spare (turns.Issued t) m plan old new due d = absurd d
 
-pub overtaken_lacks : (before mid : Machine) (a spare : ℕ) (answer : Turn) (m : Machine) (plan : Plan) (old new : List Line) → late_due before ≡ Some a
-    → Finishes mid (Imprecise a) spare answer m old new → answer ≡ turns.Memory → HasRoom before spare (next_for before plan) → ⊥
-overtaken_lacks before mid a spare turns.Memory m plan old new due d refused room =
+pub finish_lacks_late : (before : Machine) (a spare : ℕ) (answer : Turn) (m : Machine) (plan : Plan) (old new : List Line) → late_due before ≡ Some a
+    → Finishes before (Imprecise a) spare answer m old new → answer ≡ turns.Memory → HasRoom before spare (next_for before plan) → ⊥
+finish_lacks_late before a spare turns.Memory m plan old new due d refused room =
     let is = late_is_due before a due in
     let lacks : spare < 1 = d.lacking in
     let one = entry_room before spare (state_of before.processor) (entry_in (state_of before.processor) is.0) (subst (HasRoom before spare) (late_next before plan is.0 is.1) room) in
     omega (arith, one, lacks)
-overtaken_lacks before mid a spare turns.On m plan old new due d refused room = d
-overtaken_lacks before mid a spare (turns.Issued t) m plan old new due d refused room = d
-overtaken_lacks before mid a spare (turns.End f) m plan old new due d refused room = absurd (cc refused)
+finish_lacks_late before a spare turns.On m plan old new due d refused room = d
+finish_lacks_late before a spare (turns.Issued t) m plan old new due d refused room = d
+finish_lacks_late before a spare (turns.End f) m plan old new due d refused room = absurd (cc refused)

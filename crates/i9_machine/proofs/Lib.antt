@@ -3,6 +3,7 @@ pub mod Beside
 pub mod Issuing
 pub mod Overtaking
 pub mod Turning
+pub mod Arriving
 pub mod Unmoved
 pub mod Opening
 pub mod Lifting

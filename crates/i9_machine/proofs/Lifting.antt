@@ -1,5 +1,5 @@
 -- A step of a machine is the next record, or the end, of what the machine stands for.
-use Rattle.std.proofs.Common.{◌≡◌, ℕ, ◌+◌, ◌≤◌, ◌||◌, nat_lt, List, ◌∷◌, ◌++◌, Option, Some, None, length, length-append, map, true, sym, ap, ◌∙◌, subst, inl, inr, arith}
+use Rattle.std.proofs.Common.{◌≡◌, ℕ, ◌+◌, ◌≤◌, ◌||◌, nat_lt, List, ◌∷◌, ◌++◌, Option, Some, None, length, length-append, map, true, max, sym, ap, ◌∙◌, subst, inr, arith}
 use Rattle.i9_model.specs.declared.event.Timed.{Timed}
 use Rattle.i9_schedule.specs.Plan.{Plan}
 use Rattle.i9_model.specs.State.{State}
@@ -24,11 +24,14 @@ use Rattle.i9_course.specs.NeedOf.{need_of}
 use Rattle.i9_course.specs.Course.{Item, Step, records_of, event_ahead, comes_next, ahead}
 use Rattle.i9_course.specs.LateRun.{end_ahead, ended_by, finish_by}
 use Rattle.i9_machine.proofs.Beside.{beside}
-use Rattle.i9_machine.proofs.Turning.{keeps_none, moved}
 use Rattle.i9_machine.proofs.Unmoved.{same_stands}
 use Rattle.i9_model.specs.declared.need.Need.{Need}
-use Rattle.i9_machine.specs.Issuing.{IsIssued}
-use Rattle.i9_machine.specs.StandsFor.{StandsFor, Follows, MovesOn, DoesNext, EndsRun, IsRefused, Advances, Waits, Done, Overtaken, OpenSteps, left_after}
+use Rattle.i9_machine.specs.Issuing.{IsIssued, IsLike}
+use Rattle.i9_machine.specs.declared.step.Coming.{Coming}
+use Rattle.i9_machine.specs.declared.step.Coming.TheVariants.{Waiting, Overtaking, Running, Faulting}
+use Rattle.i9_machine.specs.Coming.{Overtaken, Overtakes, Came, ArrivesAt, overtaken_by}
+use Rattle.i9_machine.specs.StandsFor.{StandsFor, Follows, DoesNext, EndsRun, IsRefused, Comes, Advances, left_after}
+use Rattle.i9_machine.proofs.Performing.{like_stands}
 use Rattle.i9_machine.proofs.Issuing.{same_need, waits_for_none, issued_lands, issued_shaded, left_less, issued_paced}
 
 -- ---- a record
@@ -161,7 +164,6 @@ did g h before answer m was plan old new stands follows precise now d i =
         sets = d.sets ∙ stands.sets;
         ended = d.ended;
         over = tt;
-        kept = keeps_none g (Step r ∷ h) m d.none;
       };
       follows = follows_next g h was plan r q follows same d.behind;
       lines = d.lines ∙ ap (λ (ls : List Shown). map shown_of old ++ ls) (lines_alike r q same);
@@ -172,28 +174,27 @@ did g h before answer m was plan old new stands follows precise now d i =
 
 -- what has ended the run stands for it
 over_run : (g : Given) (h : List Item) (before : Machine) (e : End) (m : Machine) (was plan : Plan) (old new : List Line) → StandsFor g h None before → Follows g h was
-    → end_ahead g h ≡ Some e → (ahead g h).turn ≡ before.turn → IsSame before m → m.ended ≡ Some e → m.kept ≡ None → plan ≡ was
+    → end_ahead g h ≡ Some e → (ahead g h).turn ≡ before.turn → IsSame before m → m.ended ≡ Some e → plan ≡ was
     → AddsLines old new (end_lines (state_of before.processor) e) → EndsRun g h e before m plan old new
-over_run g h before e m was plan old new stands follows is_end now same ended none kept lines =
+over_run g h before e m was plan old new stands follows is_end now same ended kept lines =
     let s = state_after g (records_of h) in
     record {
       is_end = is_end;
       now = now;
       turn = same.unmoved.turn;
-      stands = same_stands g h before m (Some e) same ended none is_end stands;
+      stands = same_stands g h before m (Some e) same ended is_end stands;
       follows = subst (Follows g h) (sym kept) follows;
       lines = lines ∙ ap (λ (v : View). map shown_of old ++ last_lines v e) (view_alike s (state_of before.processor) stands.state);
     }
 
 -- an imprecise fault has ended it
-overtaken_run : (g : Given) (h : List Item) (before : Machine) (e : End) (m : Machine) (was plan : Plan) (old new : List Line) → StandsFor g h None before → Follows g h was → Overtaken before e m was plan old new → EndsRun g h e before m plan old new
-overtaken_run g h before e m was plan old new stands follows d =
-    let late = d.late g h stands in
-    let now : (ahead g h).turn ≤ before.turn = late.1 in
+overtaken_run : (g : Given) (h : List Item) (a : ℕ) (before : Machine) (e : End) (m : Machine) (was plan : Plan) (old new : List Line) → StandsFor g h None before → Follows g h was
+    → (ahead g h).imprecise ≡ Some a → (ahead g h).turn ≤ before.turn → Overtaken a before e m was plan old new → EndsRun g h e before m plan old new
+overtaken_run g h a before e m was plan old new stands follows late now d =
     let in_time : before.turn ≤ (ahead g h).turn = stands.lands.in_time in
     let is_end : end_ahead g h ≡ Some e =
-    ap (λ (o : Option ℕ). finish_by o (comes_next g h)) late.0 ∙ ap (λ (x : End). Some x) (sym d.is_end) in
-    over_run g h before e m was plan old new stands follows is_end (omega (arith, now, in_time)) d.same d.ended d.none d.kept d.lines
+    ap (λ (o : Option ℕ). finish_by o (comes_next g h)) late ∙ ap (λ (x : End). Some x) (sym d.is_end) in
+    over_run g h before e m was plan old new stands follows is_end (omega (arith, now, in_time)) d.same d.ended d.kept d.lines
 
 ended_run : (g : Given) (h : List Item) (before : Machine) (e : End) (m : Machine) (was plan : Plan) (old new : List Line) → StandsFor g h None before → Follows g h was → (ahead g h).imprecise ≡ None → (ahead g h).turn ≤ before.turn → Ended before e m was plan old new → EndsRun g h e before m plan old new
 ended_run g h before e m was plan old new stands follows precise now d =
@@ -201,7 +202,7 @@ ended_run g h before e m was plan old new stands follows precise now d =
     let next_end = ends_alike (comes_next g h) (next_for before was) e (beside g h before was stands follows) d.is_end in
     let is_end : end_ahead g h ≡ Some e =
     ap (λ (o : Option ℕ). finish_by o (comes_next g h)) precise ∙ ap ended_by next_end in
-    over_run g h before e m was plan old new stands follows is_end (omega (arith, now, in_time)) d.same d.ended d.none d.kept d.lines
+    over_run g h before e m was plan old new stands follows is_end (omega (arith, now, in_time)) d.same d.ended d.kept d.lines
 
 abbrev needs_by : List Shown → Action → Type 0
 needs_by ls a = (nat_lt 0 (length ls) || (has_writes a || is_restart a.control)) ≡ true
@@ -216,7 +217,7 @@ needs_alike (Does r) (Does q) alike needs =
 refused : (g : Given) (h : List Item) (before : Machine) (m : Machine) (was plan : Plan) (old new : List Line) → StandsFor g h None before → Follows g h was → Refused before m was plan old new → IsRefused g h before m plan old new
 refused g h before m was plan old new stands follows d = record {
   turn = d.same.unmoved.turn;
-  stands = same_stands g h before m None d.same d.ended d.none tt stands;
+  stands = same_stands g h before m None d.same d.ended tt stands;
   follows = subst (Follows g h) (sym d.kept) follows;
   lines = d.lines;
   needed = needs_alike (comes_next g h) (next_for before was) (beside g h before was stands follows) d.needed;
@@ -236,31 +237,70 @@ room_alike m spare (Does r) (Does q) alike room = record {
 pub next_room : (g : Given) (h : List Item) (m : Machine) (plan : Plan) (spare : ℕ) → StandsFor g h None m → Follows g h plan → HasRoom m spare (comes_next g h) → HasRoom m spare (next_for m plan)
 next_room g h m plan spare stands follows room = room_alike m spare (comes_next g h) (next_for m plan) (beside g h m plan stands follows) room
 
--- ---- the turn moves
+-- ---- what came next
 
-waited : (g : Given) (h : List Item) (before m : Machine) (was plan : Plan) (old new : List Line) → StandsFor g h None before → Follows g h was → Waits before m was plan old new → MovesOn g h before m plan old new
-waited g h before m was plan old new stands follows w =
-    subst (λ (p : Plan). MovesOn g h before m p old new) (sym w.kept)
-    (subst (λ (ls : List Line). MovesOn g h before m was old ls) (sym w.lines)
-    (moved g h before m was old w.wait w.step w.effect stands follows w.later (w.bound g h stands follows) (w.keeps g h stands follows) w.moved))
+-- what a step did, whose turn has come
+did_comes : (g : Given) (h : List Item) (before : Machine) (answer : Turn) (m : Machine) (was plan : Plan) (old new : List Line) → StandsFor g h None before → Follows g h was → (ahead g h).imprecise ≡ None → (ahead g h).turn ≤ before.turn → Steps before answer m was plan old new × Issues before answer m was → Comes g h answer before m plan old new
+did_comes g h before turns.On m was plan old new stands follows precise now d = did g h before turns.On m was plan old new stands follows precise now d.0 d.1
+did_comes g h before (turns.Issued t) m was plan old new stands follows precise now d = did g h before (turns.Issued t) m was plan old new stands follows precise now d.0 d.1
+did_comes g h before (turns.End e) m was plan old new stands follows precise now d = ended_run g h before e m was plan old new stands follows precise now d.0
+did_comes g h before turns.Memory m was plan old new stands follows precise now d = refused g h before m was plan old new stands follows d.0
 
--- ---- a step
+overtakes_comes : (g : Given) (h : List Item) (a : ℕ) (before : Machine) (answer : Turn) (m : Machine) (was plan : Plan) (old new : List Line) → StandsFor g h None before → Follows g h was → (ahead g h).imprecise ≡ Some a → (ahead g h).turn ≤ before.turn → Overtakes a before answer m was plan old new → Comes g h answer before m plan old new
+overtakes_comes g h a before turns.On m was plan old new stands follows late now d = absurd d
+overtakes_comes g h a before (turns.Issued t) m was plan old new stands follows late now d = absurd d
+overtakes_comes g h a before (turns.End e) m was plan old new stands follows late now d = overtaken_run g h a before e m was plan old new stands follows late now d
+overtakes_comes g h a before turns.Memory m was plan old new stands follows late now d = refused g h before m was plan old new stands follows d
 
-did_advance : (g : Given) (h : List Item) (before : Machine) (answer : Turn) (m : Machine) (was plan : Plan) (old new : List Line) → StandsFor g h None before → Follows g h was → (ahead g h).imprecise ≡ None → (ahead g h).turn ≤ before.turn → Steps before answer m was plan old new → Issues before answer m was → Advances g h answer before m plan old new
-did_advance g h before turns.On m was plan old new stands follows precise now d i = inr (did g h before turns.On m was plan old new stands follows precise now d i)
-did_advance g h before (turns.Issued t) m was plan old new stands follows precise now d i = did g h before (turns.Issued t) m was plan old new stands follows precise now d i
-did_advance g h before (turns.End e) m was plan old new stands follows precise now d i = ended_run g h before e m was plan old new stands follows precise now d
-did_advance g h before turns.Memory m was plan old new stands follows precise now d i = refused g h before m was plan old new stands follows d
+pub came_comes : (g : Given) (h : List Item) (coming : Coming) (before : Machine) (answer : Turn) (m : Machine) (was plan : Plan) (old new : List Line) → StandsFor g h None before → Follows g h was → (ahead g h).imprecise ≡ overtaken_by coming → (ahead g h).turn ≤ before.turn → Came coming before answer m was plan old new → Comes g h answer before m plan old new
+came_comes g h Waiting before answer m was plan old new stands follows fault now d = did_comes g h before answer m was plan old new stands follows fault now d
+came_comes g h (Overtaking a) before answer m was plan old new stands follows fault now d = overtakes_comes g h a before answer m was plan old new stands follows fault now d
+came_comes g h (Running words inst) before answer m was plan old new stands follows fault now d = did_comes g h before answer m was plan old new stands follows fault now d
+came_comes g h (Faulting words inst number) before answer m was plan old new stands follows fault now d = did_comes g h before answer m was plan old new stands follows fault now d
 
-done_advance : (g : Given) (h : List Item) (before : Machine) (answer : Turn) (m : Machine) (was plan : Plan) (old new : List Line) → StandsFor g h None before → Follows g h was → Done before answer m was plan old new → Advances g h answer before m plan old new
-done_advance g h before answer m was plan old new stands follows d =
-    let come = d.now g h stands follows in
-    did_advance g h before answer m was plan old new stands follows come.0 come.1 d.steps d.issues
+-- it is said of its turn alone from which machine it came
+does_from : (g : Given) (h : List Item) (answer : Turn) (before mid m : Machine) (plan : Plan) (old new : List Line) → mid.turn ≡ before.turn → DoesNext g h answer mid m plan old new → DoesNext g h answer before m plan old new
+does_from g h answer before mid m plan old new same d = record {
+  done = d.done;
+  is_next = d.is_next;
+  now = d.now ∙ same;
+  turn = d.turn ∙ same;
+  stands = d.stands;
+  follows = d.follows;
+  lines = d.lines;
+  tells = d.tells;
+}
 
-pub steps_advance : (g : Given) (h : List Item) (before : Machine) (answer : Turn) (m : Machine) (was plan : Plan) (old new : List Line) → StandsFor g h None before → Follows g h was → OpenSteps before answer m was plan old new → Advances g h answer before m plan old new
-steps_advance g h before turns.On m was plan old new stands follows (inl w) = inl (waited g h before m was plan old new stands follows w)
-steps_advance g h before turns.On m was plan old new stands follows (inr d) = done_advance g h before turns.On m was plan old new stands follows d
-steps_advance g h before (turns.Issued t) m was plan old new stands follows d = done_advance g h before (turns.Issued t) m was plan old new stands follows d
-steps_advance g h before (turns.End e) m was plan old new stands follows (inl d) = done_advance g h before (turns.End e) m was plan old new stands follows d
-steps_advance g h before (turns.End e) m was plan old new stands follows (inr o) = overtaken_run g h before e m was plan old new stands follows o
-steps_advance g h before turns.Memory m was plan old new stands follows d = refused g h before m was plan old new stands follows d
+comes_from : (g : Given) (h : List Item) (answer : Turn) (before mid m : Machine) (plan : Plan) (old new : List Line) → mid.turn ≡ before.turn → Comes g h answer mid m plan old new → Comes g h answer before m plan old new
+comes_from g h turns.On before mid m plan old new same d = does_from g h turns.On before mid m plan old new same d
+comes_from g h (turns.Issued t) before mid m plan old new same d = does_from g h (turns.Issued t) before mid m plan old new same d
+comes_from g h (turns.End e) before mid m plan old new same d = record {
+  is_end = d.is_end;
+  now = d.now ∙ same;
+  turn = d.turn ∙ same;
+  stands = d.stands;
+  follows = d.follows;
+  lines = d.lines;
+}
+comes_from g h turns.Memory before mid m plan old new same d = record {
+  turn = d.turn ∙ same;
+  stands = d.stands;
+  follows = d.follows;
+  lines = d.lines;
+  needed = d.needed;
+}
+
+comes_advances : (g : Given) (h : List Item) (answer : Turn) (before m : Machine) (plan : Plan) (old new : List Line) → Comes g h answer before m plan old new → Advances g h answer before m plan old new
+comes_advances g h turns.On before m plan old new d = inr d
+comes_advances g h (turns.Issued t) before m plan old new d = d
+comes_advances g h (turns.End e) before m plan old new d = d
+comes_advances g h turns.Memory before m plan old new d = d
+
+-- what came next from a machine that is the same but for what is planned
+pub came_advances : (g : Given) (h : List Item) (t : ℕ) (coming : Coming) (before mid : Machine) (answer : Turn) (m : Machine) (was plan : Plan) (old new : List Line) → StandsFor g h None before → Follows g h was → IsLike before mid → t ≤ mid.turn → ArrivesAt g h before t coming → Came coming mid answer m was plan old new → Advances g h answer before m plan old new
+came_advances g h t coming before mid answer m was plan old new stands follows like come arrives d =
+    let turn : (ahead g h).turn ≡ max before.turn t = arrives.turn in
+    let same : mid.turn ≡ before.turn = like.turn in
+    comes_advances g h answer before m plan old new
+    (comes_from g h answer before mid m plan old new same
+    (came_comes g h coming mid answer m was plan old new (like_stands g h before mid like stands) follows arrives.imprecise (omega (arith, turn, same, come)) d))

@@ -93,15 +93,6 @@ instruction_waits m plan free held = by_event (event_for m plan) refl
     by_event (Some e) is = event_waits m plan e (goes_by_event m (event_for m plan) free) is
     by_event None is = held_by m plan (instruction_ahead (state_of m.processor)) (ap (next_where m) is ∙ goes_by_itself m free) held
 
--- a need that waits for all does so whatever number of sets is asked for, and whatever is held
-pub barrier_waits : (m : Machine) (plan : Plan) (k : Kind) (need : Need) → IsFreeToIssue m → next_where m None ≡ Does (record_of k (state_of m.processor))
-    → need ≡ need_of (size_of m.processor) (cache_of m.processor) (state_of m.processor) k → need.barrier ≡ true → NextWaits m plan
-barrier_waits m plan k need free is is_need barrier =
-    let s = state_of m.processor in
-    instruction_waits m plan free (subst IsHeldBack (sym is ∙ goes_by_itself m free)
-    (λ asked c. (sets_alike (sets_in asked s) (size_of m.processor) c (cache_of m.processor) s k).barrier
-    ∙ ap (λ (n : Need). n.barrier) (sym is_need) ∙ barrier))
-
 -- ---- what is no request
 
 -- a kind of record that is none

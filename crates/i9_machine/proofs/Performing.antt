@@ -2,13 +2,17 @@
 use Rattle.std.proofs.Common.{◌≡◌, ℕ, ◌+◌, ◌<◌, ◌≤◌, Bool, true, false, List, [], ◌∷◌, ◌++◌, length, drop, map, Option, Some, None, refl, sym, ap, ◌∙◌, subst, ◌⊎◌, inl, inr, arith}
 use Rattle.std.specs.List.{AllByRecursion}
 use Rattle.i9_model.specs.declared.need.Need.{Need}
+use Rattle.i9_model.specs.declared.need.Placed.{Placed}
 use Rattle.i9_model.specs.declared.need.TimedNeed.{TimedNeed}
 use Rattle.i9_model.specs.declared.need.Cell.{Cell}
 use Rattle.i9_model.specs.Late.{Wait, resource, landed, due_puts, left_waiting, issued_cell}
 use Rattle.i9_model.specs.declared.run.Due.{Due}
 use Rattle.i9_model.specs.Memory.{stored}
 use Rattle.i9_model.specs.Left.{left_in}
-use Rattle.i9_model.specs.PrintedText.{end_lines}
+use Rattle.i9_model.specs.PrintedText.{Drained, end_lines, point_lines}
+use Rattle.i9_model.specs.Alike.{AreAlike}
+use Rattle.i9_model.specs.declared.run.Point.{Point}
+use Rattle.i9_model.specs.declared.view.View.{View}
 use Rattle.i9_model.specs.declared.event.Event.{Event}
 use Rattle.i9_model.specs.ScheduleText.{standing_by}
 use Rattle.i9_model.specs.State.{State}
@@ -16,7 +20,7 @@ use Rattle.i9_model.specs.Step.{Action}
 use Rattle.i9_model.specs.Run.{Given, Kind, Record, Next, Does, Ends, record_of, action_by_kind, action_done, due_after, next_in, state_after}
 use Rattle.i9_model.specs.Turns.{Pending, IsAllDone, with_need, last_issue, issue_turn, waiting_until, placed_record}
 use Rattle.i9_model.specs.Turns as board
-use Rattle.i9_model.proofs.AlikeSteps.{does_alike}
+use Rattle.i9_model.proofs.AlikeSteps.{does_alike, view_alike}
 use Rattle.i9_model.proofs.HeldRuns.{next_free}
 use Rattle.i9_schedule.specs.Plan.{Plan}
 use Rattle.i9_regs.specs.Covered.{IsCovered}
@@ -29,80 +33,86 @@ use Rattle.i9_course.specs.Course.{puts_of}
 use Rattle.i9_model.specs.HeldFrames.{Cache}
 use Rattle.i9_raw.specs.Raw.{Hides}
 use Rattle.i9_processor.specs.declared.effect.Effect.{Effect}
-use Rattle.i9_processor.specs.Effect.{action_in, CanWait, HasRoomFor, IsStill, cache_through, size_through}
+use Rattle.i9_processor.specs.Effect.{action_in, CanAct, CanWait, HasRoomFor, IsStill, cache_through, size_through}
 use Rattle.i9_processor.specs.State.{state_of, cache_of, size_of, cells_of, bytes_of, queue_of, IsDrained}
 use Rattle.i9_processor.specs.declared.processor.Processor.{Processor}
 use Rattle.i9_machine.specs.declared.line.Line.{Line}
 use Rattle.i9_machine.specs.declared.line.Turn.{Turn}
 use Rattle.i9_machine.specs.declared.line.Turn.TheVariants as turns
-use Rattle.std.specs.Prelude.{IfSome}
 use Rattle.i9_machine.specs.declared.machine.Machine.{Machine}
 use Rattle.i9_machine.specs.declared.step.Step.{Step}
 use Rattle.i9_machine.specs.Overtaking.{HasPace}
 use Rattle.i9_machine.specs.Issuing.{kernel_of, IsPaced, IsPlaced, IsIssued, IsUnmoved, IsLike, IsMoved, CanActPlaced}
-use Rattle.i9_machine.specs.Step.{TellsRecord, NeedsRoom, HasRoom, IsStepIn, IsStep, IsSame, Did, Steps, IssuesNext, Issues, need_at, turn_at, event_for, next_for, records_left, steps_left}
-use Rattle.i9_machine.specs.StandsFor.{StandsFor, Follows, KeepsStep, IsUnderWay, HasCome, IsNow, Done, OpenSteps, LeavesFewer, waiting}
+use Rattle.i9_machine.specs.Step.{TellsRecord, NeedsRoom, HasRoom, IsStepIn, IsStepWhere, IsStep, IsPlannedIn, IsPlanned, IsSame, Did, Steps, IssuesNext, Issues, need_at, turn_at, event_for, next_for, records_left, steps_left}
+use Rattle.i9_machine.specs.StandsFor.{StandsFor, HasCome, LeavesFewer}
 use Rattle.i9_machine.specs.Line.{shown_of}
-use Rattle.i9_machine.proofs.Stepping.{move_fewer}
+use Rattle.i9_machine.proofs.Stepping.{move_fewer, step_where}
 use Rattle.i9_machine.proofs.Turning.{same_left, paced_turn}
 use Rattle.i9_machine.proofs.Issuing.{same_need, clear_need, placed_done}
 use Rattle.i9_machine.proofs.Beside.{beside}
 use Rattle.i9_machine.proofs.Unmoved.{unmoved_paced, same_stands}
 
 -- a step's need covers what it changes
-pub step_covers : (m k : Machine) (plan : Plan) (step : Step) (e : Effect) → IsStep m plan step e → state_of k.processor ≡ state_of m.processor
-    → IsCovered step.need.writes (state_of k.processor) (action_in (state_of k.processor) e)
-step_covers m k plan step e is state =
+pub step_covers : (m k : Machine) (plan : Plan) (step : Step) (need : Need) (e : Effect) → IsStep m plan step need e → state_of k.processor ≡ state_of m.processor
+    → IsCovered need.writes (state_of k.processor) (action_in (state_of k.processor) e)
+step_covers m k plan step need e is state =
     let s = state_of m.processor in
-    subst (λ (t : State). IsCovered step.need.writes t (action_in t e)) (sym state)
-    (subst (λ (n : Need). IsCovered n.writes s (action_in s e)) (sym is.need)
+    subst (λ (t : State). IsCovered need.writes t (action_in t e)) (sym state)
+    (subst (λ (n : Need). IsCovered n.writes s (action_in s e)) (sym is.is_need)
     (subst (IsCovered (need_of (size_of m.processor) (cache_of m.processor) s is.kind).writes s) (sym is.effect.same)
     (need_covers (size_of m.processor) (cache_of m.processor) s is.kind)))
 
 -- what is neither a request nor a barrier stores nothing
-still_step : (m k : Machine) (plan : Plan) (step : Step) (e : Effect) → IsStep m plan step e → state_of k.processor ≡ state_of m.processor
-    → step.need.request ≡ false → step.need.barrier ≡ false → IsStill (action_in (state_of k.processor) e)
-still_step m k plan step e is state request barrier =
+still_step : (m k : Machine) (plan : Plan) (step : Step) (need : Need) (e : Effect) → IsStep m plan step need e → state_of k.processor ≡ state_of m.processor
+    → need.request ≡ false → need.barrier ≡ false → IsStill (action_in (state_of k.processor) e)
+still_step m k plan step need e is state request barrier =
     let s = state_of m.processor in
-    let still = need_still (size_of m.processor) (cache_of m.processor) s is.kind (ap (λ (n : Need). n.request) (sym is.need) ∙ request)
-    (ap (λ (n : Need). n.barrier) (sym is.need) ∙ barrier) in
+    let still = need_still (size_of m.processor) (cache_of m.processor) s is.kind (ap (λ (n : Need). n.request) (sym is.is_need) ∙ request)
+    (ap (λ (n : Need). n.barrier) (sym is.is_need) ∙ barrier) in
     let quiet : IsStill (action_by_kind is.kind s) = record { writes = still.0; move = still.1; control = still.2 } in
     subst (λ (t : State). IsStill (action_in t e)) (sym state) (subst IsStill (sym is.effect.same) quiet)
 
+-- what can act with the turns of a need
+abbrev CanActBy : Machine → Effect → Need → Type 0
+CanActBy k e n = (p : Placed) (b : Pending) → IsPlaced k.board n p b → CanAct k.processor (record { writes = n.writes; done = p.done; request = n.request }) e
+
 -- a step can act with the turns that its need is placed with, also where room was made
-pub step_acts : (m k : Machine) (plan : Plan) (step : Step) (e : Effect) → HasCome m plan → IsStep m plan step e
+pub step_acts : (m k : Machine) (plan : Plan) (step : Step) (need : Need) (e : Effect) → k.need ≡ waiting_until k.floor need → HasCome m plan → IsStep m plan step need e
     → state_of k.processor ≡ state_of m.processor → queue_of k.processor ≡ queue_of m.processor → k.board ≡ m.board → k.floor ≡ m.floor
-    → CanActPlaced k step.need e
-step_acts m k plan step e u is state queue board floor p b placed_in =
-    let g = u.given in
-    let h = u.items in
-    let q = record_of is.kind (state_of m.processor) in
-    let found = does_alike (comes_next g h) (next_for m plan) q (beside g h m plan u.stands u.follows) is.is_next in
-    let r = found.0 in
-    let run = next_free g.length (due_after (records_of h)) (event_ahead g h) (state_after g (records_of h)) r found.1 in
-    let need = same_need g h m r q step.need u.stands found.2 (ap (λ (x : Record). x.before) run.0) refl is.need in
-    let clear = clear_need g h m r step.need u.stands found.1 u.precise u.now need in
-    let placed : IsPlaced m.board (waiting_until m.floor step.need) p b =
-    subst (λ (f : ℕ). IsPlaced m.board (waiting_until f step.need) p b) floor
-    (subst (λ (c : Pending). IsPlaced c (waiting_until k.floor step.need) p b) board placed_in) in
-    let done = placed_done g h m r step.need p b u.stands need placed in
-    let waits : step.need.request ≡ true → CanWait k.processor p.done e = λ request.
-    let row = is.row request in
-    let order = request_last g h r (kernel_of m) u.stands.lands (ap (λ (n : Need). n.request) need ∙ request) in
-    record {
-      row = row.requests;
-      move = row.frames;
-      control = row.control;
-      few = subst (λ (ws : List Wait). length ws < 3) (sym queue) (clear.few request);
-      order = subst (λ (ws : List Wait). AllByRecursion (λ w. w.due ≤ p.done) ws) (sym queue)
-          (subst (λ (t : ℕ). AllByRecursion (λ w. w.due ≤ t) (queue_of m.processor)) done order);
-    } in
-    (waits, by_barrier step.need.barrier refl (λ barrier. queue ∙ clear.drained barrier))
+    → CanActPlaced k e
+step_acts m k plan step need e marked u is state queue board floor = subst (CanActBy k e) (sym marked) by_need
   where
-    by_barrier : (c : Bool) → step.need.barrier ≡ c → (step.need.barrier ≡ true → IsDrained k.processor) → step.need.request ≡ false
+    by_barrier : (c : Bool) → need.barrier ≡ c → (need.barrier ≡ true → IsDrained k.processor) → need.request ≡ false
         → IsDrained k.processor ⊎ IsStill (action_in (state_of k.processor) e)
     by_barrier true barrier drained request = inl (drained barrier)
-    by_barrier false barrier drained request = inr (still_step m k plan step e is state request barrier)
+    by_barrier false barrier drained request = inr (still_step m k plan step need e is state request barrier)
+
+    by_need : CanActBy k e (waiting_until k.floor need)
+    by_need p b placed_in =
+        let g = u.given in
+        let h = u.items in
+        let q = record_of is.kind (state_of m.processor) in
+        let found = does_alike (comes_next g h) (next_for m plan) q (beside g h m plan u.stands u.follows) is.is_next in
+        let r = found.0 in
+        let run = next_free g.length (due_after (records_of h)) (event_ahead g h) (state_after g (records_of h)) r found.1 in
+        let same = same_need g h m r q need u.stands found.2 (ap (λ (x : Record). x.before) run.0) refl is.is_need in
+        let clear = clear_need g h m r need u.stands found.1 u.precise u.now same in
+        let placed : IsPlaced m.board (waiting_until m.floor need) p b =
+        subst (λ (f : ℕ). IsPlaced m.board (waiting_until f need) p b) floor
+        (subst (λ (c : Pending). IsPlaced c (waiting_until k.floor need) p b) board placed_in) in
+        let done = placed_done g h m r need p b u.stands same placed in
+        let waits : need.request ≡ true → CanWait k.processor p.done e = λ request.
+        let row = is.row request in
+        let order = request_last g h r (kernel_of m) u.stands.lands (ap (λ (n : Need). n.request) same ∙ request) in
+        record {
+          row = row.requests;
+          move = row.frames;
+          control = row.control;
+          few = subst (λ (ws : List Wait). length ws < 3) (sym queue) (clear.few request);
+          order = subst (λ (ws : List Wait). AllByRecursion (λ w. w.due ≤ p.done) ws) (sym queue)
+              (subst (λ (t : ℕ). AllByRecursion (λ w. w.due ≤ t) (queue_of m.processor)) done order);
+        } in
+        (waits, by_barrier need.barrier refl (λ barrier. queue ∙ clear.drained barrier))
 
 -- what a step answers that was done
 pub step_issues : (answer : Turn) (k : Kind) (s : State) (before m : Machine) (plan : Plan) → TellsRecord k s answer → IssuesNext before m plan
@@ -111,6 +121,11 @@ step_issues turns.On k s before m plan tells i = i
 step_issues (turns.Issued t) k s before m plan tells i = i
 step_issues (turns.End e) k s before m plan tells i = tt
 step_issues turns.Memory k s before m plan tells i = tt
+
+-- states that are alike show the same
+pub points_alike : (p : Option Point) (s t : State) → AreAlike s t → point_lines p t ≡ point_lines p s
+points_alike None s t alike = refl
+points_alike (Some kind) s t alike = ap (λ (v : View). Drained kind v ∷ []) (view_alike s t alike)
 
 -- ---- where room was made first
 
@@ -151,7 +166,7 @@ unmoved_issued before mid m need a u size cache i = record {
   };
 }
 
--- ---- from a machine that is the same but for the instructions and the step that it keeps
+-- ---- from a machine that is the same but for what is planned
 
 like_unmoved : (before mid : Machine) → IsLike before mid → IsUnmoved before mid
 like_unmoved before mid l = record {
@@ -219,7 +234,6 @@ like_did before mid m answer was plan old new l d = record {
   length = d.length ∙ l.length;
   sets = d.sets ∙ l.sets;
   ended = d.ended;
-  none = d.none;
   behind = d.behind;
   lines = d.lines;
   tells = d.tells;
@@ -255,27 +269,42 @@ like_steps before mid m (turns.End e) was plan old new l d = record {
   is_end = sym (like_next before mid was l) ∙ d.is_end;
   same = like_same before mid m l d.same;
   ended = d.ended;
-  none = d.none;
   kept = d.kept;
   lines = d.lines ∙ ap (λ (p : Processor). map shown_of old ++ end_lines (state_of p) e) l.processor;
 }
 like_steps before mid m turns.Memory was plan old new l d = record {
   same = like_same before mid m l d.same;
   ended = d.ended;
-  none = d.none;
   kept = d.kept;
   lines = d.lines;
   needed = subst NeedsRoom (like_next before mid was l) d.needed;
 }
 
 -- what comes next
-pub like_step : (before mid : Machine) (plan : Plan) (step : Step) (e : Effect) → IsLike before mid → IsStep before plan step e → IsStep mid plan step e
-like_step before mid plan step e l is =
+pub like_step : (before mid : Machine) (plan : Plan) (step : Step) (need : Need) (e : Effect) → IsLike before mid → IsStep before plan step need e → IsStep mid plan step need e
+like_step before mid plan step need e l is =
     let o = event_for before plan in
-    subst (λ (x : Option Event). IsStepIn mid.length mid.due (state_of mid.processor) (size_of mid.processor) (cache_of mid.processor) x plan step e) (sym (like_event before mid plan l))
-    (subst (λ (n : ℕ). IsStepIn n mid.due (state_of mid.processor) (size_of mid.processor) (cache_of mid.processor) o plan step e) (sym l.length)
-    (subst (λ (d : Due). IsStepIn before.length d (state_of mid.processor) (size_of mid.processor) (cache_of mid.processor) o plan step e) (sym l.due)
-    (subst (λ (p : Processor). IsStepIn before.length before.due (state_of p) (size_of p) (cache_of p) o plan step e) (sym l.processor) is)))
+    subst (λ (x : Option Event). IsStepIn mid.length mid.due (state_of mid.processor) (size_of mid.processor) (cache_of mid.processor) x plan step need e) (sym (like_event before mid plan l))
+    (subst (λ (n : ℕ). IsStepIn n mid.due (state_of mid.processor) (size_of mid.processor) (cache_of mid.processor) o plan step need e) (sym l.length)
+    (subst (λ (d : Due). IsStepIn before.length d (state_of mid.processor) (size_of mid.processor) (cache_of mid.processor) o plan step need e) (sym l.due)
+    (subst (λ (p : Processor). IsStepIn before.length before.due (state_of p) (size_of p) (cache_of p) o plan step need e) (sym l.processor) is)))
+
+-- a step that is planned comes next of the machine that has it
+pub like_planned : (before mid : Machine) (plan : Plan) (step : Step) → IsLike before mid → IsPlannedIn before plan step mid → IsPlanned mid plan step
+like_planned before mid plan step l p = record {
+  need = p.need;
+  marked = p.marked;
+  is = like_step before mid plan step p.need mid.effect l p.is;
+}
+
+-- it is planned, once its need is kept
+pub planned : (m mid : Machine) (plan : Plan) (step : Step) (need : Need) (e : Effect) {before : Machine} → mid.need ≡ waiting_until before.floor need
+    → IsLike before mid → mid.effect ≡ e → event_for m plan ≡ None → IsStepWhere m None plan step need e → IsPlannedIn m plan step mid
+planned m mid plan step need e {before} kept like effect none is = record {
+  need = need;
+  marked = kept ∙ ap (λ (f : ℕ). waiting_until f need) (sym like.floor);
+  is = subst (λ (x : Effect). IsStep m plan step need x) (sym effect) (step_where m plan step need e none is);
+}
 
 -- the turns of the scoreboard
 pub like_turn : (before mid : Machine) (need : Need) (t : ℕ) → IsLike before mid
@@ -316,9 +345,9 @@ pub like_room : (before mid : Machine) (plan : Plan) (spare : ℕ) → IsLike be
 like_room before mid plan spare l room =
     room_like before mid spare (next_for mid plan) l (subst (HasRoom before spare) (sym (like_next before mid plan l)) room)
 
--- what it stands for, where it keeps no step
-pub like_stands : (g : Given) (h : List Item) (before mid : Machine) → IsLike before mid → mid.kept ≡ None → StandsFor g h None before → StandsFor g h None mid
-like_stands g h before mid l none stands =
+-- what it stands for
+pub like_stands : (g : Given) (h : List Item) (before mid : Machine) → IsLike before mid → StandsFor g h None before → StandsFor g h None mid
+like_stands g h before mid l stands =
     let same : IsSame before mid = record {
       state = ap state_of l.processor;
       cache = ap cache_of l.processor;
@@ -328,24 +357,22 @@ like_stands g h before mid l none stands =
       sets = l.sets;
       unmoved = like_unmoved before mid l;
     } in
-    same_stands g h before mid None same (l.ended ∙ stands.ended) none tt stands
+    same_stands g h before mid None same (l.ended ∙ stands.ended) tt stands
 
 -- so what has come has come for it
-pub like_come : (before mid : Machine) (plan : Plan) → IsLike before mid → mid.kept ≡ None → IsUnderWay before plan → IsNow before plan → HasCome mid plan
-like_come before mid plan l none u now =
-    let come = now u.given u.items u.stands u.follows in
-    record {
-      given = u.given;
-      items = u.items;
-      stands = like_stands u.given u.items before mid l none u.stands;
-      follows = u.follows;
-      precise = come.0;
-      now = subst (λ (t : ℕ). (ahead u.given u.items).turn ≤ t) (sym l.turn) come.1;
-    }
+pub like_come : (before mid : Machine) (plan : Plan) → IsLike before mid → HasCome before plan → HasCome mid plan
+like_come before mid plan l u = record {
+  given = u.given;
+  items = u.items;
+  stands = like_stands u.given u.items before mid l u.stands;
+  follows = u.follows;
+  precise = u.precise;
+  now = subst (λ (t : ℕ). (ahead u.given u.items).turn ≤ t) (sym l.turn) u.now;
+}
 
 -- and the turn moves
 pub like_moved : (before mid m : Machine) (wait : ℕ) → IsLike before mid → IsMoved (record mid { wait = wait }) m
-    → IsMoved (waiting before wait mid.kept mid.effect) m
+    → IsMoved (record before { wait = wait }) m
 like_moved before mid m wait l i = record {
   state = i.state ∙ ap state_of l.processor;
   cache = i.cache ∙ ap cache_of l.processor;
@@ -363,45 +390,7 @@ like_moved before mid m wait l i = record {
   length = i.length ∙ l.length;
   sets = i.sets ∙ l.sets;
   ended = i.ended ∙ l.ended;
-  kept = i.kept;
-  effect = i.effect;
 }
-
--- ---- a step where something is open
-
--- what was done, whose turn has come
-pub done_opens : (before m : Machine) (answer : Turn) (was plan : Plan) (old new : List Line) → Done before answer m was plan old new
-    → OpenSteps before answer m was plan old new
-done_opens before m turns.On was plan old new d = inr d
-done_opens before m (turns.Issued t) was plan old new d = d
-done_opens before m (turns.End e) was plan old new d = inl d
-done_opens before m turns.Memory was plan old new d = d.steps
-
--- the turn moved towards one, with what comes at that turn, or without
-pub wait_keeps : (before mid m : Machine) (answer : Turn) (plan : Plan) (lines : List Line) (wait : ℕ) → answer ≡ turns.On → IsLike before mid → before.turn < wait
-    → ((g : Given) (h : List Item) → StandsFor g h None before → Follows g h plan → wait ≤ (ahead g h).turn)
-    → ((g : Given) (h : List Item) → StandsFor g h None before → Follows g h plan → IfSome mid.kept (KeepsStep g h (waiting before wait mid.kept mid.effect)))
-    → IsMoved (record mid { wait = wait }) m → OpenSteps before answer m plan plan lines lines
-wait_keeps before mid m answer plan lines wait on l later bound keeps moved =
-    subst (λ (t : Turn). OpenSteps before t m plan plan lines lines) (sym on)
-    (inl (record {
-      wait = wait;
-      later = later;
-      bound = bound;
-      step = mid.kept;
-      effect = mid.effect;
-      keeps = keeps;
-      moved = like_moved before mid m wait l moved;
-      kept = refl;
-      lines = refl;
-    }))
-
-pub wait_opens : (before mid m : Machine) (answer : Turn) (plan : Plan) (lines : List Line) (wait : ℕ) → answer ≡ turns.On → IsLike before mid → before.turn < wait
-    → ((g : Given) (h : List Item) → StandsFor g h None before → Follows g h plan → wait ≤ (ahead g h).turn)
-    → mid.kept ≡ None → IsMoved (record mid { wait = wait }) m → OpenSteps before answer m plan plan lines lines
-wait_opens before mid m answer plan lines wait on l later bound none moved =
-    wait_keeps before mid m answer plan lines wait on l later bound
-    (λ g h stands follows. subst (λ (o : Option Step). IfSome o (KeepsStep g h (waiting before wait mid.kept mid.effect))) (sym none) tt) moved
 
 -- and leaves less
 pub wait_fewer : (before mid m : Machine) (answer : Turn) (plan : Plan) (wait : ℕ) → answer ≡ turns.On → IsLike before mid → HasPace before
@@ -409,4 +398,4 @@ pub wait_fewer : (before mid m : Machine) (answer : Turn) (plan : Plan) (wait : 
 wait_fewer before mid m answer plan wait on l pace i =
     let moved = like_moved before mid m wait l i in
     subst (λ (t : Turn). LeavesFewer t (steps_left before plan) (steps_left m plan)) (sym on)
-    (move_fewer before m plan (same_left (before.turn + 1) before m plan wait mid.kept mid.effect moved) moved.turn (paced_turn before pace))
+    (move_fewer before m plan (same_left (before.turn + 1) before m plan wait moved) moved.turn (paced_turn before pace))

@@ -24,7 +24,7 @@ use Rattle.i9_raw.specs.Raw.{IsShaded}
 use Rattle.i9_machine.specs.declared.machine.Machine.{Machine}
 use Rattle.i9_machine.specs.Issuing.{kernel_of, IsPaced, IsEndTurn, IsSettled, IsQuiet}
 use Rattle.i9_machine.specs.StandsFor.{StandsFor, HasLanded, left_after}
-use Rattle.i9_machine.proofs.Turning.{ended_by, keeps_none}
+use Rattle.i9_machine.proofs.Turning.{ended_by}
 
 settled_moves : (before m : Machine) (until : ℕ) → IsSettled before m until → MovesTo (max before.turn until) (kernel_of before) (kernel_of m)
 settled_moves before m until i = record {
@@ -74,7 +74,6 @@ settled_marked g h before m until end i floor stands =
       sets = i.sets ∙ stands.sets;
       ended = i.ended ∙ stands.ended;
       over = tt;
-      kept = keeps_none g (Mark ∷ h) m i.kept;
     }
 
 -- none is set once an end was answered
@@ -109,7 +108,6 @@ settled_ended g h f before m until end i floor stands =
       sets = i.sets ∙ stands.sets;
       ended = i.ended ∙ stands.ended;
       over = stands.over;
-      kept = keeps_none g h m i.kept;
     }
 
 -- ---- nothing is open

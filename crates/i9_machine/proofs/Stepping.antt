@@ -1,13 +1,14 @@
 -- A record that was done is what the step answers.
 use Rattle.std.proofs.Common.{Bor, ◌≡◌, ℕ, ◌+◌, ◌^◌, ◌<◌, ◌≤◌, Bool, true, false, cond, eqb, List, length, drop, ◌++◌, ◌||◌, nat_lt, Option, Some, None, Ok, refl, sym, ap, ◌∙◌, subst, length-append, arith}
 use Rattle.std.proofs.lemmas.Bool.Decides.{nat_tests}
-use Rattle.std.specs.Prelude.{is_some, IfSome}
+use Rattle.std.specs.Prelude.{is_some}
 use Rattle.std.specs.Option.{option_map, option_copied}
 use Rattle.std.specs.List.{slice_get}
 use Rattle.std.proofs.lemmas.Option.{slice_get_within}
 use Rattle.i9_model.specs.declared.event.Event.{Event}
 use Rattle.i9_model.specs.declared.event.Event.TheVariants as events
 use Rattle.i9_model.specs.declared.event.Timed.{Timed}
+use Rattle.i9_model.specs.declared.need.Need.{Need}
 use Rattle.i9_model.specs.Alike.{AreAlike}
 use Rattle.i9_model.specs.Before.{choice_in}
 use Rattle.i9_model.specs.Left.{left_in}
@@ -111,8 +112,8 @@ did_within m was k within is =
     omega (arith, fits, count)
 
 -- the state behind a step is that behind its record
-pub behind_alike : (m : Machine) (plan : Plan) (step : Step) (e : Effect) (t : State) → (is : IsStep m plan step e) → AreAlike (state_behind m e step) t → AreAlike (record_of is.kind (state_of m.processor)).after t
-behind_alike m plan step e t is alike =
+pub behind_alike : (m : Machine) (plan : Plan) (step : Step) (need : Need) (e : Effect) (t : State) → (is : IsStep m plan step need e) → AreAlike (state_behind m e step) t → AreAlike (record_of is.kind (state_of m.processor)).after t
+behind_alike m plan step need e t is alike =
     let s = state_of m.processor in
     subst (λ (n : ℕ). AreAlike (counted n (acted s (action_by_kind is.kind s))) t) is.counts
     (subst (λ (a : Action). AreAlike (counted step.counts (acted s a)) t) is.effect.same alike)
@@ -140,13 +141,8 @@ pub goes_by_itself : (m : Machine) → IsFreeToIssue m → next_where m None ≡
 goes_by_itself m free = goes_by_event m None free
 
 -- so a step that comes where no event stands comes
-pub step_where : (m : Machine) (plan : Plan) (step : Step) (e : Effect) → event_for m plan ≡ None → IsStepWhere m None plan step e → IsStep m plan step e
-step_where m plan step e none is = subst (λ (o : Option Event). IsStepWhere m o plan step e) (sym none) is
-
--- what is told of a step holds of it
-pub told_step : (o : Option Step) (x : Step) (P : Step → Type 0) → IfSome o (λ step. step ≡ x) → P x → IfSome o P
-told_step None x P is h = tt
-told_step (Some step) x P is h = subst P (sym is) h
+pub step_where : (m : Machine) (plan : Plan) (step : Step) (need : Need) (e : Effect) → event_for m plan ≡ None → IsStepWhere m None plan step need e → IsStep m plan step need e
+step_where m plan step need e none is = subst (λ (o : Option Event). IsStepWhere m o plan step need e) (sym none) is
 
 -- what is borrowed, or nothing
 pub copied_some : (o : Option (Bor Event)) → is_some o ≡ true → (e : Event) × (option_copied o ≡ Some e)
@@ -214,8 +210,8 @@ reached_one (Reached e u) s = refl
 reached_one (Blocked e a) s = refl
 
 -- a schedule behind a step is behind its record
-pub plan_is_behind : (m : Machine) (plan : Plan) (step : Step) (e : Effect) → (is : IsStep m plan step e) → plan_after_step plan step ≡ plan_behind plan (record_of is.kind (state_of m.processor))
-plan_is_behind m plan step e is =
+pub plan_is_behind : (m : Machine) (plan : Plan) (step : Step) (need : Need) (e : Effect) → (is : IsStep m plan step need e) → plan_after_step plan step ≡ plan_behind plan (record_of is.kind (state_of m.processor))
+plan_is_behind m plan step need e is =
     let s = state_of m.processor in
     ap (λ (b : Bool). record plan { place = plan.place + cond b 1 0 }) is.reaches
     ∙ ap (λ (n : ℕ). record plan { place = plan.place + n }) (sym (reached_one is.kind s))
@@ -241,21 +237,21 @@ step_within m plan k is some =
 -- ---- the lines of a step
 
 -- the state behind a step is that behind its record
-step_after : (m : Machine) (plan : Plan) (step : Step) (e : Effect) → (is : IsStep m plan step e)
+step_after : (m : Machine) (plan : Plan) (step : Step) (need : Need) (e : Effect) → (is : IsStep m plan step need e)
     → state_behind_of (state_of m.processor) e step ≡ (record_of is.kind (state_of m.processor)).after
-step_after m plan step e is =
+step_after m plan step need e is =
     let s = state_of m.processor in
     ap (λ (n : ℕ). counted n (acted s (action_in s e))) is.counts
     ∙ ap (λ (a : Action). counted (counts_of is.kind) (acted s a)) is.effect.same
 
-pub step_lines : (m : Machine) (plan : Plan) (step : Step) (e : Effect) → (is : IsStep m plan step e)
+pub step_lines : (m : Machine) (plan : Plan) (step : Step) (need : Need) (e : Effect) → (is : IsStep m plan step need e)
     → lines_of e step (event_in plan step) (state_of m.processor) (state_behind_of (state_of m.processor) e step)
     ≡ record_lines (record_of is.kind (state_of m.processor))
-step_lines m plan step e is =
+step_lines m plan step need e is =
     let s = state_of m.processor in
     let r = record_of is.kind s in
     ap (λ (o : Option Event). lines_of e step o s (state_behind_of s e step)) is.event
-    ∙ ap (λ (t : State). lines_of e step (event_of is.kind) s t) (step_after m plan step e is)
+    ∙ ap (λ (t : State). lines_of e step (event_of is.kind) s t) (step_after m plan step need e is)
     ∙ ap (λ (p : Option Point). reached_lines (event_of is.kind) s ++ (out_lines (console_byte (writes_in e)) ++ point_lines p r.after)) is.point
     ∙ ap (λ (a : Action). reached_lines (event_of is.kind) s ++ (out_lines (console_byte a.writes) ++ point_lines (point_of is.kind) r.after)) is.effect.same
     ∙ ap (λ (ls : List Shown). ls ++ (out_lines (console_byte (action_done r).writes) ++ point_lines (point_of is.kind) r.after)) (sym (event_lines_of is.kind s))
@@ -263,9 +259,9 @@ step_lines m plan step e is =
 -- ---- room
 
 -- how many lines a record has
-record_long : (m : Machine) (plan : Plan) (step : Step) (e : Effect) → (is : IsStep m plan step e)
+record_long : (m : Machine) (plan : Plan) (step : Step) (need : Need) (e : Effect) → (is : IsStep m plan step need e)
     → length (record_lines (record_of is.kind (state_of m.processor))) ≡ line_count e step (event_in plan step)
-record_long m plan step e is =
+record_long m plan step need e is =
     let s = state_of m.processor in
     let r = record_of is.kind s in
     let bytes = console_byte (writes_in e) in
@@ -278,24 +274,24 @@ record_long m plan step e is =
     length-append (event_lines is.kind s) (out_lines (console_byte (action_done r).writes) ++ point_lines (point_of is.kind) r.after) ∙ omega (arith, rest, event)
 
 -- what a step asks room for is what its record needs it for
-pub step_needs : (m : Machine) (plan : Plan) (step : Step) (e : Effect) → IsStep m plan step e
+pub step_needs : (m : Machine) (plan : Plan) (step : Step) (need : Need) (e : Effect) → IsStep m plan step need e
     → asks_room (state_of m.processor) e step (event_in plan step) ≡ true → NeedsRoom (next_for m plan)
-step_needs m plan step e is asks =
+step_needs m plan step need e is asks =
     let s = state_of m.processor in
     let r = record_of is.kind s in
     let a = action_in s e in
     subst NeedsRoom (sym is.is_next)
     (ap (λ (b : Action). nat_lt 0 (length (record_lines r)) || (has_writes b || is_restart b.control)) (sym is.effect.same)
-    ∙ ap (λ (n : ℕ). nat_lt 0 n || (has_writes a || is_restart a.control)) (record_long m plan step e is)
+    ∙ ap (λ (n : ℕ). nat_lt 0 n || (has_writes a || is_restart a.control)) (record_long m plan step need e is)
     ∙ asks)
 
 -- room for what comes next is room for the step that does it
-pub step_room : (m : Machine) (plan : Plan) (spare : ℕ) (step : Step) (e : Effect) → IsStep m plan step e → HasRoom m spare (next_for m plan) → HasRoomForStep m spare e step (event_in plan step)
-step_room m plan spare step e is room =
+pub step_room : (m : Machine) (plan : Plan) (spare : ℕ) (step : Step) (need : Need) (e : Effect) → IsStep m plan step need e → HasRoom m spare (next_for m plan) → HasRoomForStep m spare e step (event_in plan step)
+step_room m plan spare step need e is room =
     let s = state_of m.processor in
     let r = record_of is.kind s in
     let here : HasRoomToDo m spare r = subst (HasRoom m spare) is.is_next room in
-    let lines = record_long m plan step e is in
+    let lines = record_long m plan step need e is in
     record {
       lines = subst (λ (n : ℕ). n ≤ spare) lines here.lines;
       effect = room_space m.processor s e (subst (HasRoomFor m.processor) (sym is.effect.same) here.effect);

@@ -5,7 +5,6 @@ use Rattle.std.specs.Prelude.{◌==◌}
 use Rattle.std.proofs.lemmas.Bool.{cond-false}
 use Rattle.std.proofs.lemmas.Bool.Decides.{nat_tests}
 use Rattle.std.proofs.lemmas.List.{append-nil}
-use Rattle.std.proofs.lemmas.Option.{none-some}
 use Rattle.i9_model.specs.declared.need.Cell.{Cell}
 use Rattle.i9_model.specs.declared.run.End.{End}
 use Rattle.i9_isa.specs.declared.resources.TheConstants.{CONDITION_CODE}
@@ -28,13 +27,11 @@ use Rattle.i9_machine.specs.declared.line.Raw.{Raw}
 use Rattle.i9_machine.specs.declared.line.Turn.{Turn}
 use Rattle.i9_machine.specs.declared.line.Turn.TheVariants as answers
 use Rattle.i9_machine.specs.declared.machine.Machine.{Machine}
-use Rattle.i9_machine.specs.Issuing.{kernel_of, IsMovedTo, IsQuiet}
+use Rattle.i9_machine.specs.Issuing.{kernel_of, IsQuiet}
 use Rattle.i9_machine.specs.Line.{AddsLines, shown_of}
 use Rattle.i9_machine.specs.Raw.{raw_at, IsFlushed, IsLevel}
 use Rattle.i9_machine.specs.StandsFor.{StandsFor, Follows, IsLanding, IsUnderWay, MovesOn, DoesNext, EndsRun, IsRefused, Advances}
-use Rattle.i9_machine.specs.Step.{records_left, steps_left}
 use Rattle.i9_machine.specs.Turned.{steps_on, Since, TurnsOn, EndsTurn, StopsTurn}
-use Rattle.i9_machine.proofs.Turning.{moved_stands, same_left}
 
 -- ---- lines
 
@@ -130,22 +127,6 @@ pub still_under_way : (g : Given) (h : List Item) (m next : Machine) (plan : Pla
     → Advances g h answers.On m next plan old new → IsUnderWay next plan
 still_under_way g h m next plan old new (inl moves) = record { given = g; items = h; stands = moves.stands; follows = moves.follows }
 still_under_way g h m next plan old new (inr does) = does_under_way g h answers.On m next plan old new does
-
--- ---- turns at which nothing comes are passed
-
-pub passed : (g : Given) (h : List Item) (end : Option End) (before m : Machine) → before.ended ≡ None → before.turn < before.wait
-    → IsMovedTo before.wait before m → StandsFor g h end before → StandsFor g h end m
-passed g h None before m none later i stands =
-    moved_stands g h before.wait before m before.wait before.kept before.effect stands (omega (arith, later)) (omega arith) stands.early stands.kept i
-passed g h (Some f) before m none later i stands = absurd (none-some f (sym none ∙ stands.ended))
-
-pub passed_left : (before m : Machine) (plan : Plan) → before.turn < before.wait → IsMovedTo before.wait before m
-    → steps_left m plan ≤ steps_left before plan
-unfolding steps_left
-passed_left before m plan later i =
-    let same = same_left before.wait before m plan before.wait before.kept before.effect i in
-    let turn : m.turn ≡ before.wait = i.turn in
-    omega (arith, same, turn, later)
 
 -- ---- the raw state
 

@@ -1,14 +1,14 @@
 -- The turn moves, and turns stay small enough for the scoreboard.
 use Rattle.std.proofs.Common.{◌≡◌, ℕ, ◌+◌, ◌*◌, ◌^◌, ◌<◌, ◌≤◌, max, List, [], ◌∷◌, drop, Option, None, Some, true, inl, inr, refl, sym, ap, ◌∙◌, subst, arith}
 use Rattle.std.specs.List.{AllByRecursion}
-use Rattle.std.specs.Prelude.{IfSome, IsTrue}
+use Rattle.std.specs.Prelude.{IsTrue}
 use Rattle.i9_model.specs.declared.need.Need.{Need}
 use Rattle.i9_model.specs.declared.need.TimedNeed.{TimedNeed}
 use Rattle.i9_model.specs.declared.run.Due.{Due}
 use Rattle.i9_model.specs.Left.{left_in}
 use Rattle.i9_model.specs.declared.event.Event.{Event}
 use Rattle.i9_model.specs.ScheduleText.{standing_by}
-use Rattle.i9_model.specs.Run.{Given, Record, Does, record_of, due_after, state_after}
+use Rattle.i9_model.specs.Run.{Given, Kind, Record, Does, record_of, due_after, state_after}
 use Rattle.i9_model.specs.State.{State, boot}
 use Rattle.i9_model.specs.HeldFrames.{Cache, cache_after}
 use Rattle.i9_model.specs.Alike.{AreAlike}
@@ -18,7 +18,7 @@ use Rattle.i9_model.proofs.TurnOpen.{open-all_done}
 use Rattle.i9_model.specs.Late.{turns}
 use Rattle.i9_issue.specs.Room.{IsEarly}
 use Rattle.i9_schedule.specs.Plan.{Plan}
-use Rattle.i9_course.specs.NeedOf.{need_ahead}
+use Rattle.i9_course.specs.NeedOf.{need_of, need_ahead}
 use Rattle.i9_course.specs.Course.{Item, records_of, course, need_after, issue_of_next, instruction_ahead, event_ahead, comes_next, ahead}
 use Rattle.i9_course.proofs.Ahead.{ahead_by_end, ahead_precise}
 use Rattle.i9_course.proofs.NeedAlike.{next_need_alike}
@@ -29,16 +29,12 @@ use Rattle.i9_raw.specs.Raw.{IsShaded}
 use Rattle.i9_machine.specs.declared.line.Line.{Line}
 use Rattle.i9_machine.specs.declared.machine.Machine.{Machine}
 use Rattle.i9_machine.specs.Issuing.{kernel_of, most_turns, IsPaced, IsMovedTo, IsMoved, IsEndTurn}
-use Rattle.i9_machine.specs.Step.{need_at, turn_at, event_for, IsStepIn, IsStepWhere, IsStep, next_for, records_left}
-use Rattle.i9_model.specs.declared.event.Timed.{Timed}
-use Rattle.i9_machine.specs.StandsFor.{StandsFor, Follows, KeepsStep, IsUnderWay, IsNow, MovesOn, waiting, left_after}
+use Rattle.i9_machine.specs.Step.{need_at, turn_at, event_for, next_where, next_for, records_left}
+use Rattle.i9_machine.specs.StandsFor.{StandsFor, Follows, IsUnderWay, MovesOn, left_after}
 use Rattle.i9_machine.specs.Opening.{IsFreeToIssue, NextWaits}
 use Rattle.i9_machine.proofs.Stepping.{goes_by_itself}
 use Rattle.i9_model.proofs.TurnPending.{stands-pending_turn}
 use Rattle.i9_machine.specs.Overtaking.{HasPace}
-use Rattle.i9_machine.specs.declared.step.Step.{Step}
-use Rattle.i9_processor.specs.declared.effect.Effect.{Effect}
-use Rattle.i9_processor.specs.declared.processor.Processor.{Processor}
 use Rattle.i9_course.proofs.Checks.{checked_waits}
 use Rattle.i9_course.proofs.Landed.{done_landed}
 use Rattle.i9_course.proofs.Barriers.{next_barrier}
@@ -48,11 +44,7 @@ use Rattle.i9_machine.proofs.Beside.{beside}
 use Rattle.i9_machine.proofs.Issuing.{same_need}
 use Rattle.i9_machine.proofs.Overtaking.{drained_precise}
 
--- ---- the step that is kept
-
--- no step
-pub keeps_none : (g : Given) (h : List Item) (m : Machine) → m.kept ≡ None → IfSome m.kept (KeepsStep g h m)
-keeps_none g h m none = subst (λ (o : Option Step). IfSome o (KeepsStep g h m)) (sym none) tt
+-- ---- what is planned, as the turn moves
 
 -- the instruction ahead needs the same as the turn moves, and would issue at the same turn
 moved_need_at : (t : ℕ) (before m : Machine) → IsMovedTo t before m → need_at m ≡ need_at before
@@ -61,7 +53,7 @@ moved_need_at t before m i =
     ∙ ap (λ (c : Cache). need_ahead (Some (size_of before.processor)) c (instruction_ahead (state_of m.processor))) i.cache
     ∙ ap (λ (s : State). need_ahead (Some (size_of before.processor)) (cache_of before.processor) (instruction_ahead s)) i.state
 
-moved_turn_at : (t : ℕ) (before m : Machine) → IsMovedTo t before m → turn_at m ≡ turn_at before
+pub moved_turn_at : (t : ℕ) (before m : Machine) → IsMovedTo t before m → turn_at m ≡ turn_at before
 moved_turn_at t before m i =
     ap (λ (p : Pending). issue_turn p.last p.records (waiting_until m.floor (need_at m))) i.board
     ∙ ap (λ (f : ℕ). issue_turn before.board.last before.board.records (waiting_until f (need_at m))) i.floor
@@ -72,51 +64,6 @@ moved_event : (t : ℕ) (before m : Machine) (plan : Plan) → IsMovedTo t befor
 moved_event t before m plan i =
     ap (λ (s : State). standing_by plan.events plan.place s.count (turn_at m)) i.state
     ∙ ap (standing_by plan.events plan.place (state_of before.processor).count) (moved_turn_at t before m i)
-
--- a step is what comes next as the turn moves
-moved_step : (t : ℕ) (before m : Machine) (plan : Plan) (step : Step) → IsMovedTo t before m → IsStep before plan step before.effect → IsStep m plan step m.effect
-moved_step t before m plan step i is =
-    let s = state_of m.processor in
-    let n = size_of m.processor in
-    let c = cache_of m.processor in
-    let o = event_for before plan in
-    subst (λ (x : Option Event). IsStepIn m.length m.due s n c x plan step m.effect) (sym (moved_event t before m plan i))
-    (subst (λ (l : ℕ). IsStepIn l m.due s n c o plan step m.effect) (sym i.length)
-    (subst (λ (d : Due). IsStepIn before.length d s n c o plan step m.effect) (sym i.due)
-    (subst (λ (x : State). IsStepIn before.length before.due x n c o plan step m.effect) (sym i.state)
-    (subst (λ (k : ℕ). IsStepIn before.length before.due (state_of before.processor) k c o plan step m.effect) (sym i.size)
-    (subst (λ (d : Cache). IsStepIn before.length before.due (state_of before.processor) (size_of before.processor) d o plan step m.effect) (sym i.cache)
-    (subst (IsStepIn before.length before.due (state_of before.processor) (size_of before.processor) (cache_of before.processor) o plan step) (sym i.effect) is))))))
-
--- so it stays kept
-moved_keeps : (g : Given) (h : List Item) (t : ℕ) (before m : Machine) → IsMovedTo t before m → IfSome before.kept (KeepsStep g h before) → IfSome m.kept (KeepsStep g h m)
-moved_keeps g h t before m i keeps = subst (λ (o : Option Step). IfSome o (KeepsStep g h m)) (sym i.kept) (each before.kept keeps)
-  where
-    each : (o : Option Step) → IfSome o (KeepsStep g h before) → IfSome o (KeepsStep g h m)
-    each None k = tt
-    each (Some step) k = record {
-      step = λ plan follows. moved_step t before m plan step i (k.step plan follows);
-      turn = k.turn ∙ sym i.wait;
-      precise = k.precise;
-    }
-
--- two schedules that follow the same items are the same
-follows_same : (g : Given) (h : List Item) (p q : Plan) → Follows g h p → Follows g h q → p ≡ q
-follows_same g h p q one two =
-    ap (λ (ts : List Timed). record { events = ts; place = p.place }) (one.events ∙ sym two.events)
-    ∙ ap (λ (n : ℕ). record { events = q.events; place = n }) (one.place ∙ sym two.place)
-
--- a step that comes at a turn to which the machine waits may be kept
-pub keeps_step : (m : Machine) (plan : Plan) (step : Step) (e : Effect) (t : ℕ) → IsStep m plan step e
-    → ((g : Given) (h : List Item) → StandsFor g h None m → Follows g h plan → ((ahead g h).imprecise ≡ None) × (t ≡ (ahead g h).turn))
-    → (g : Given) (h : List Item) → StandsFor g h None m → Follows g h plan → KeepsStep g h (waiting m t (Some step) e) step
-keeps_step m plan step e t is come g h stands follows =
-    let at = come g h stands follows in
-    record {
-      step = λ other behind. subst (λ (p : Plan). IsStep m p step e) (follows_same g h plan other follows behind) is;
-      turn = sym at.1;
-      precise = at.0;
-    }
 
 -- ---- the turn moves
 
@@ -131,9 +78,9 @@ ended_by p rs b stands done =
     done_least (last_issue rs) rs b is.in_order is.done
 
 -- so what is paced stays so as the turn moves
-moved_paced : (g : Given) (h : List Item) (t : ℕ) (before m : Machine) (wait : ℕ) (step : Option Step) (e : Effect) → StandsFor g h None before
-    → t ≤ (ahead g h).turn → IsMovedTo t (waiting before wait step e) m → IsPaced m (left_after g (records_of h))
-moved_paced g h t before m wait step e stands bound i =
+moved_paced : (g : Given) (h : List Item) (t : ℕ) (before m : Machine) (wait : ℕ) → StandsFor g h None before
+    → t ≤ (ahead g h).turn → IsMovedTo t (record before { wait = wait }) m → IsPaced m (left_after g (records_of h))
+moved_paced g h t before m wait stands bound i =
     let p = stands.paced in
     let by_end : (ahead g h).turn ≤ end_turn (turns (course g h).late) = ahead_by_end g h in
     let ended : end_turn (turns (course g h).late) ≤ p.bound = ended_by before.board (turns (course g h).late) p.bound stands.lands.board p.done in
@@ -149,10 +96,10 @@ moved_paced g h t before m wait step e stands bound i =
     }
 
 -- to a turn below which nothing comes next
-pub moved_stands : (g : Given) (h : List Item) (t : ℕ) (before m : Machine) (wait : ℕ) (step : Option Step) (e : Effect)
-    → StandsFor g h None before → before.turn ≤ t → t ≤ wait → wait ≤ (ahead g h).turn → IfSome step (KeepsStep g h (waiting before wait step e))
-    → IsMovedTo t (waiting before wait step e) m → StandsFor g h None m
-moved_stands g h t before m wait step e stands later within bound keeps i =
+pub moved_stands : (g : Given) (h : List Item) (t : ℕ) (before m : Machine) (wait : ℕ)
+    → StandsFor g h None before → before.turn ≤ t → t ≤ (ahead g h).turn → wait ≤ (ahead g h).turn
+    → IsMovedTo t (record before { wait = wait }) m → StandsFor g h None m
+moved_stands g h t before m wait stands later within bound i =
     let turn : m.turn ≡ t = i.turn in
     let wait_now : m.wait ≡ wait = i.wait in
     record {
@@ -160,35 +107,34 @@ moved_stands g h t before m wait step e stands later within bound keeps i =
       state = subst (AreAlike (state_after g (records_of h))) (sym i.state) stands.state;
       size = i.size ∙ stands.size;
       cache = i.cache ∙ stands.cache;
-      lands = moves_lands g h m.turn (kernel_of before) (kernel_of m) stands.lands (omega (arith, turn, later)) (omega (arith, turn, within, bound))
+      lands = moves_lands g h m.turn (kernel_of before) (kernel_of m) stands.lands (omega (arith, turn, later)) (omega (arith, turn, within))
           (record { board = i.board; turn = refl; done = i.done; cells = λ r lt. i.cells r; bytes = i.bytes; queue = i.queue }) i.floor;
       shaded = subst (IsShaded (boot g.image).memory.bytes (course g h).late) (sym i.shade) stands.shaded;
       early = omega (arith, wait_now, bound);
-      paced = moved_paced g h t before m wait step e stands (omega (arith, within, bound)) i;
+      paced = moved_paced g h t before m wait stands within i;
       due = i.due ∙ stands.due;
       length = i.length ∙ stands.length;
       sets = i.sets ∙ stands.sets;
       ended = i.ended ∙ stands.ended;
       over = tt;
-      kept = moved_keeps g h t (waiting before wait step e) m i keeps;
     }
 
 -- by one
-pub moved : (g : Given) (h : List Item) (before m : Machine) (plan : Plan) (lines : List Line) (wait : ℕ) (step : Option Step) (e : Effect)
-    → StandsFor g h None before → Follows g h plan → before.turn < wait → wait ≤ (ahead g h).turn → IfSome step (KeepsStep g h (waiting before wait step e))
-    → IsMoved (waiting before wait step e) m → MovesOn g h before m plan lines lines
-moved g h before m plan lines wait step e stands follows later bound keeps i = record {
+pub moved : (g : Given) (h : List Item) (before m : Machine) (plan : Plan) (lines : List Line) (wait : ℕ)
+    → StandsFor g h None before → Follows g h plan → before.turn < wait → wait ≤ (ahead g h).turn
+    → IsMoved (record before { wait = wait }) m → MovesOn g h before m plan lines lines
+moved g h before m plan lines wait stands follows later bound i = record {
   early = omega (arith, later, bound);
   turn = i.turn;
-  stands = moved_stands g h (before.turn + 1) before m wait step e stands (omega arith) (omega (arith, later)) bound keeps i;
+  stands = moved_stands g h (before.turn + 1) before m wait stands (omega arith) (omega (arith, later, bound)) bound i;
   follows = follows;
   lines = refl;
 }
 
 -- no record is done
-pub same_left : (t : ℕ) (before m : Machine) (plan : Plan) (wait : ℕ) (step : Option Step) (e : Effect) → IsMovedTo t (waiting before wait step e) m
+pub same_left : (t : ℕ) (before m : Machine) (plan : Plan) (wait : ℕ) → IsMovedTo t (record before { wait = wait }) m
     → records_left m plan ≡ records_left before plan
-same_left t before m plan wait step e i =
+same_left t before m plan wait i =
     let events = drop plan.place plan.events in
     ap (λ (l : ℕ). left_in l events m.due (state_of m.processor)) i.length
     ∙ ap (λ (d : Due). left_in before.length events d (state_of m.processor)) i.due
@@ -254,66 +200,43 @@ waits_until m plan until end (inr held) g h stands follows precise =
     omega (arith, is, turn, ahead_turn)
 
 -- an instruction comes at the turn that the scoreboard gives its need
-pub comes_at : (m : Machine) (plan : Plan) (step : Step) (e : Effect) (t : ℕ) → IsStep m plan step e
-    → ((rs : List TimedNeed) → board.StandsFor m.board rs → t ≡ issue_turn (last_issue rs) rs (waiting_until m.floor step.need))
+pub comes_at : (m : Machine) (plan : Plan) (k : Kind) (need : Need) (t : ℕ) → next_for m plan ≡ Does (record_of k (state_of m.processor))
+    → need ≡ need_of (size_of m.processor) (cache_of m.processor) (state_of m.processor) k
+    → ((rs : List TimedNeed) → board.StandsFor m.board rs → t ≡ issue_turn (last_issue rs) rs (waiting_until m.floor need))
     → (g : Given) (h : List Item) → StandsFor g h None m → Follows g h plan → (ahead g h).imprecise ≡ None
     → t ≡ (ahead g h).turn
-comes_at m plan step e t is turn g h stands follows precise =
+comes_at m plan k need t is_next is_need turn g h stands follows precise =
     let rs = turns (course g h).late in
-    let q = record_of is.kind (state_of m.processor) in
-    let found = does_alike (comes_next g h) (next_for m plan) q (beside g h m plan stands follows) is.is_next in
+    let q = record_of k (state_of m.processor) in
+    let found = does_alike (comes_next g h) (next_for m plan) q (beside g h m plan stands follows) is_next in
     let run = next_free g.length (due_after (records_of h)) (event_ahead g h) (state_after g (records_of h)) found.0 found.1 in
-    let need = same_need g h m found.0 q step.need stands found.2 (ap (λ (x : Record). x.before) run.0) refl is.need in
+    let same = same_need g h m found.0 q need stands found.2 (ap (λ (x : Record). x.before) run.0) refl is_need in
     turn rs stands.lands.board
-    ∙ ap (λ (f : ℕ). issue_turn (last_issue rs) rs (waiting_until f step.need)) stands.lands.mark
-    ∙ sym (next_turn g h step.need precise (ap (need_ahead g.sets (cache_after g (records_of h))) found.1 ∙ need))
+    ∙ ap (λ (f : ℕ). issue_turn (last_issue rs) rs (waiting_until f need)) stands.lands.mark
+    ∙ sym (next_turn g h need precise (ap (need_ahead g.sets (cache_after g (records_of h))) found.1 ∙ same))
 
 -- an instruction that comes where no event stands would issue at the turn of the instruction ahead
-pub open_turn : (m : Machine) (plan : Plan) (step : Step) (e : Effect) (t : ℕ) → IsUnderWay m plan → IsFreeToIssue m → IsStepWhere m None plan step e
-    → ((rs : List TimedNeed) → board.StandsFor m.board rs → t ≡ issue_turn (last_issue rs) rs (waiting_until m.floor step.need))
-    → t ≡ turn_at m
-open_turn m plan step e t u free is turn =
-    let rs = turns (course u.given u.items).late in
+pub open_turn : (m : Machine) (k : Kind) (need : Need) (t : ℕ) (rs : List TimedNeed) → board.StandsFor m.board rs → IsFreeToIssue m
+    → next_where m None ≡ Does (record_of k (state_of m.processor))
+    → need ≡ need_of (size_of m.processor) (cache_of m.processor) (state_of m.processor) k
+    → t ≡ issue_turn (last_issue rs) rs (waiting_until m.floor need) → t ≡ turn_at m
+open_turn m k need t rs stands free is_next is_need turn =
     let s = state_of m.processor in
-    let itself : instruction_ahead s ≡ Does (record_of is.kind s) = sym (goes_by_itself m free) ∙ is.is_next in
-    let need : step.need ≡ need_at m = is.need ∙ sym (ap (need_ahead (Some (size_of m.processor)) (cache_of m.processor)) itself) in
-    turn rs u.stands.lands.board
-    ∙ sym (stands-pending_turn m.board rs (waiting_until m.floor step.need) u.stands.lands.board)
-    ∙ ap (λ (n : Need). issue_turn m.board.last m.board.records (waiting_until m.floor n)) need
-
--- so this event stands there, if any, which a schedule has at its turn
-pub open_event : (m mid : Machine) (plan : Plan) (step : Step) (e : Effect) (t k : ℕ) (o : Option Event) → IsUnderWay m plan → IsFreeToIssue m → IsStepWhere m None plan step e
-    → ((rs : List TimedNeed) → board.StandsFor m.board rs → t ≡ issue_turn (last_issue rs) rs (waiting_until m.floor step.need))
-    → mid.processor ≡ m.processor → k ≡ (state_of mid.processor).count → o ≡ standing_by plan.events plan.place k t → event_for m plan ≡ o
-open_event m mid plan step e t k o u free is turn same count found =
-    sym (ap (standing_by plan.events plan.place (state_of m.processor).count) (open_turn m plan step e t u free is turn))
-    ∙ sym (ap (λ (n : ℕ). standing_by plan.events plan.place n t) (count ∙ ap (λ (p : Processor). (state_of p).count) same))
-    ∙ sym found
-
--- it comes now where it was kept, and the machine has waited to its turn
-kept_now : (g : Given) (h : List Item) (m : Machine) (step : Step) → StandsFor g h None m → m.kept ≡ Some step → m.wait ≤ m.turn
-    → ((ahead g h).imprecise ≡ None) × ((ahead g h).turn ≤ m.turn)
-kept_now g h m step stands is le =
-    let keeps : KeepsStep g h m step = subst (λ (o : Option Step). IfSome o (KeepsStep g h m)) is stands.kept in
-    let turn : (ahead g h).turn ≡ m.wait = keeps.turn in
-    (keeps.precise, omega (arith, turn, le))
-
-pub kept_is_now : (m : Machine) (plan : Plan) (step : Step) → m.kept ≡ Some step → m.wait ≤ m.turn → IsNow m plan
-kept_is_now m plan step is le g h stands follows = kept_now g h m step stands is le
-
-pub kept_step : (m : Machine) (plan : Plan) (step : Step) → IsUnderWay m plan → m.kept ≡ Some step → IsStep m plan step m.effect
-kept_step m plan step u is =
-    let keeps : KeepsStep u.given u.items m step = subst (λ (o : Option Step). IfSome o (KeepsStep u.given u.items m)) is u.stands.kept in
-    keeps.step plan u.follows
+    let itself : instruction_ahead s ≡ Does (record_of k s) = sym (goes_by_itself m free) ∙ is_next in
+    let same : need ≡ need_at m = is_need ∙ sym (ap (need_ahead (Some (size_of m.processor)) (cache_of m.processor)) itself) in
+    turn
+    ∙ sym (stands-pending_turn m.board rs (waiting_until m.floor need) stands)
+    ∙ ap (λ (n : Need). issue_turn m.board.last m.board.records (waiting_until m.floor n)) same
 
 -- where nothing is open, what comes next may issue, and nothing waits
-pub all_now : (m : Machine) (plan : Plan) (until : ℕ) → IsEndTurn m until → until ≤ m.turn → IsNow m plan
-all_now m plan until end le g h stands follows =
+pub all_now : (g : Given) (h : List Item) (m : Machine) (until : ℕ) → IsEndTurn m until → until ≤ m.turn → StandsFor g h None m
+    → ((ahead g h).imprecise ≡ None) × ((ahead g h).turn ≤ m.turn)
+all_now g h m until end le stands =
     let is : until ≡ end_turn (turns (course g h).late) = end (turns (course g h).late) stands.lands.board in
     let by_end : (ahead g h).turn ≤ end_turn (turns (course g h).late) = ahead_by_end g h in
     (drained_precise g h m stands (omega (arith, is, le)), omega (arith, is, le, by_end))
 
-pub all_landed : (m : Machine) (plan : Plan) (until : ℕ) → IsUnderWay m plan → IsEndTurn m until → until ≤ m.turn → IsDrained m.processor
-all_landed m plan until u end le =
-    let is : until ≡ end_turn (turns (course u.given u.items).late) = end (turns (course u.given u.items).late) u.stands.lands.board in
-    done_landed u.given u.items (kernel_of m) u.stands.lands (omega (arith, is, le))
+pub all_landed : (g : Given) (h : List Item) (m : Machine) (until : ℕ) → StandsFor g h None m → IsEndTurn m until → until ≤ m.turn → IsDrained m.processor
+all_landed g h m until stands end le =
+    let is : until ≡ end_turn (turns (course g h).late) = end (turns (course g h).late) stands.lands.board in
+    done_landed g h (kernel_of m) stands.lands (omega (arith, is, le))

@@ -15,7 +15,6 @@ use Rattle.i9_machine.specs.declared.machine.Machine.{Machine}
 use Rattle.i9_machine.specs.Issuing.{kernel_of, IsPaced, IsUnmoved}
 use Rattle.i9_machine.specs.Step.{IsSame}
 use Rattle.i9_machine.specs.StandsFor.{StandsFor, IsOver, IsLanding, IsInTime, left_after}
-use Rattle.i9_machine.proofs.Turning.{keeps_none}
 
 same_state : (s : State) (before m : Machine) → AreAlike s (state_of before.processor) → state_of m.processor ≡ state_of before.processor → AreAlike s (state_of m.processor)
 same_state s before m alike e = subst (AreAlike s) (sym e) alike
@@ -66,10 +65,10 @@ in_time_of : (g : Given) (h : List Item) (end : Option End) (m : Machine) → m.
 in_time_of g h None m early = early
 in_time_of g h (Some f) m early = tt
 
--- It keeps no step, and has answered this end, if any.
-pub same_stands : (g : Given) (h : List Item) (before m : Machine) (end : Option End) → IsSame before m → m.ended ≡ end → m.kept ≡ None → IsOver g h end
+-- It has answered this end, if any.
+pub same_stands : (g : Given) (h : List Item) (before m : Machine) (end : Option End) → IsSame before m → m.ended ≡ end → IsOver g h end
     → StandsFor g h None before → StandsFor g h end m
-same_stands g h before m end same ended none over stands = record {
+same_stands g h before m end same ended over stands = record {
   past = stands.past;
   state = same_state (state_after g (records_of h)) before m stands.state same.state;
   size = same.size ∙ stands.size;
@@ -83,5 +82,4 @@ same_stands g h before m end same ended none over stands = record {
   sets = same.sets ∙ stands.sets;
   ended = ended;
   over = over;
-  kept = keeps_none g h m none;
 }

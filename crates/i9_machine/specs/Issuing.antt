@@ -92,7 +92,7 @@ pub record IsUnmoved (before m : Machine) : Type 0 where
   pub queue : queue_of m.processor ≡ queue_of before.processor
   pub shade : m.shade ≡ before.shade
 
--- the same machine, but for the instructions and the step that it keeps
+-- the same machine, but for what it has of instructions and of what is planned
 pub record IsLike (before mid : Machine) : Type 0 where
   pub processor : mid.processor ≡ before.processor
   pub due : mid.due ≡ before.due
@@ -106,7 +106,7 @@ pub record IsLike (before mid : Machine) : Type 0 where
   pub shade : mid.shade ≡ before.shade
   pub ended : mid.ended ≡ before.ended
 
--- The turn moved to this one, and what is due by then landed; nothing else changed, and a step that is kept stays so.
+-- The turn moved to this one, and what is due by then landed; nothing else changed.
 pub record IsMovedTo (t : ℕ) (before m : Machine) : Type 0 where
   pub state : state_of m.processor ≡ state_of before.processor
   pub cache : cache_of m.processor ≡ cache_of before.processor
@@ -124,8 +124,17 @@ pub record IsMovedTo (t : ℕ) (before m : Machine) : Type 0 where
   pub length : m.length ≡ before.length
   pub sets : m.sets ≡ before.sets
   pub ended : m.ended ≡ before.ended
-  pub kept : m.kept ≡ before.kept
+
+-- it moved where the machine's was below it
+pub record IsPassedTo (t : ℕ) (before m : Machine) : Type 0 where
+  pub moved : before.turn < t → IsMovedTo t before m
+  pub stays : t ≤ before.turn → m ≡ before
+
+-- what is planned stays
+pub record KeepsPlanned (before m : Machine) : Type 0 where
+  pub memo : m.memo ≡ before.memo
   pub effect : m.effect ≡ before.effect
+  pub need : m.need ≡ before.need
 
 -- it moved by one
 abbrev pub IsMoved : Machine → Machine → Type 0
@@ -135,13 +144,13 @@ IsMoved before m = IsMovedTo (before.turn + 1) before m
 abbrev pub IsEndTurn : Machine → ℕ → Type 0
 IsEndTurn m t = (rs : List TimedNeed) → StandsFor m.board rs → t ≡ end_turn rs
 
--- what is done can act with the turns that any scoreboard gives its need
-abbrev pub CanActPlaced : Machine → Need → Effect → Type 0
-CanActPlaced m need e =
-    (p : Placed) (b : Pending) → IsPlaced m.board (waiting_until m.floor need) p b
-    → CanAct m.processor (record { writes = need.writes; done = p.done; request = need.request }) e
+-- what is done can act with the turns that any scoreboard gives the need that is kept
+abbrev pub CanActPlaced : Machine → Effect → Type 0
+CanActPlaced m e =
+    (p : Placed) (b : Pending) → IsPlaced m.board m.need p b
+    → CanAct m.processor (record { writes = m.need.writes; done = p.done; request = m.need.request }) e
 
--- All that is open landed: the turn became one at which all records are done, and nothing is waited for or kept.
+-- All that is open landed: the turn became one at which all records are done, and nothing is waited for.
 pub record IsSettled (before m : Machine) (until : ℕ) : Type 0 where
   pub state : state_of m.processor ≡ state_of before.processor
   pub cache : cache_of m.processor ≡ cache_of before.processor
@@ -154,7 +163,6 @@ pub record IsSettled (before m : Machine) (until : ℕ) : Type 0 where
   pub done : m.done ≡ before.done
   pub shade : m.shade ≡ before.shade
   pub wait : m.wait ≡ 0
-  pub kept : m.kept ≡ None
   pub due : m.due ≡ before.due
   pub length : m.length ≡ before.length
   pub sets : m.sets ≡ before.sets

@@ -5,6 +5,7 @@ pub mod Step
 pub mod Opening
 pub mod Doing
 pub mod StandsFor
+pub mod Coming
 pub mod InRun
 pub mod Raw
 pub mod Turned

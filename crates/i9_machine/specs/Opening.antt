@@ -1,12 +1,19 @@
 -- What comes next while something is open.
-use Rattle.std.specs.Prelude.{◌≡◌, ◌⊎◌, ℕ, ◌<◌, ◌≤◌, true, Option, None, Ok, IsTrue}
+use Rattle.std.specs.Prelude.{◌≡◌, ◌⊎◌, ℕ, ◌<◌, ◌≤◌, true, Option, Some, None, Ok, IsTrue}
+use Rattle.i9_model.specs.declared.need.Need.{Need}
 use Rattle.i9_model.specs.declared.run.Due.{Due}
 use Rattle.i9_model.specs.Before.{choice_in}
 use Rattle.i9_model.specs.HeldFrames.{Cache}
 use Rattle.i9_schedule.specs.Plan.{Plan}
-use Rattle.i9_course.specs.NeedOf.{need_ahead}
-use Rattle.i9_processor.specs.State.{state_of}
+use Rattle.i9_model.specs.Run.{Kind, Instruction, Faulted, fault_at}
+use Rattle.i9_model.specs.Turns.{HasCost, waiting_until}
+use Rattle.i9_course.specs.NeedOf.{need_of, need_ahead}
+use Rattle.i9_plan.specs.declared.open.Open.{Open}
+use Rattle.i9_plan.specs.declared.open.Open.TheVariants as opens
+use Rattle.i9_plan.specs.Open.{NeedsAhead}
+use Rattle.i9_processor.specs.State.{state_of, cache_of, size_of}
 use Rattle.i9_machine.specs.declared.machine.Machine.{Machine}
+use Rattle.i9_machine.specs.Issuing.{most_turns}
 use Rattle.i9_machine.specs.Step.{turn_at, event_for, next_for}
 
 -- nothing comes before the instruction at the instruction address but an event whose time has come
@@ -26,3 +33,27 @@ pub record IsTimely (m : Machine) (plan : Plan) : Type 0 where
 abbrev pub NextWaits : Machine → Plan → Type 0
 NextWaits m plan =
     ((state_of m.processor).check ≡ true) ⊎ ((asked : Option ℕ) (c : Cache) → IsTrue (need_ahead asked c (next_for m plan)).barrier)
+
+-- ---- the need that is kept
+
+-- a machine has a need of a cost, behind the last mark, that waits for no turn of its own
+pub record HasKept (m : Machine) : Type 0 where
+  pub need : Need
+  pub marked : m.need ≡ waiting_until m.floor need
+  pub some : HasCost need
+  pub cost : need.cost ≤ most_turns
+  pub none : need.not_before ≡ 0
+
+-- it has the need of the instruction at the instruction address of another machine, as a record of this kind
+pub record HasNeed (m : Machine) (kind : Kind) (mid : Machine) : Type 0 where
+  pub need : Need
+  pub marked : mid.need ≡ waiting_until mid.floor need
+  pub is_need : need ≡ need_of (size_of m.processor) (cache_of m.processor) (state_of m.processor) kind
+  pub cost : need.cost ≤ most_turns
+  pub ahead : NeedsAhead (state_of m.processor) need
+
+-- where what stands there does not wait
+abbrev pub HasOpenNeed : Machine → Open → Machine → Type 0
+HasOpenNeed m opens.Waits mid = Unit {0}
+HasOpenNeed m (opens.Runs words i) mid = HasNeed m (Instruction i) mid
+HasOpenNeed m (opens.Faults words i number) mid = HasNeed m (Faulted (Some i) (fault_at (state_of m.processor) number)) mid

@@ -103,7 +103,7 @@ HasRoom m spare (Does r) = HasRoomToDo m spare r
 -- What comes next, where this event stands or none, is a record of this effect, drained point and count, which reaches
 -- the next event of a schedule or none, makes this due, is answered so, and needs this. The bytes of a request stand in a
 -- row. It is said of the length, what is due, the state, the number of sets, and the frames in them and the memory behind.
-pub record IsStepIn (limit : ℕ) (due_now : Due) (s : State) (size : ℕ) (cache : Cache) (stands : Option Event) (plan : Plan) (step : Step) (e : Effect) : Type 0 where
+pub record IsStepIn (limit : ℕ) (due_now : Due) (s : State) (size : ℕ) (cache : Cache) (stands : Option Event) (plan : Plan) (step : Step) (need : Need) (e : Effect) : Type 0 where
   pub kind : Kind
   pub is_next : next_in limit due_now stands s ≡ Does (record_of kind s)
   pub effect : IsEffect s (action_by_kind kind s) e
@@ -113,23 +113,33 @@ pub record IsStepIn (limit : ℕ) (due_now : Due) (s : State) (size : ℕ) (cach
   pub reaches : step.reaches ≡ is_some (event_of kind)
   pub event : event_in plan step ≡ event_of kind
   pub tells : TellsRecord kind s step.answer
-  pub need : step.need ≡ need_of size cache s kind
-  pub cost : step.need.cost ≤ most_turns
-  pub row : step.need.request ≡ true → IsInRow e
+  pub is_need : need ≡ need_of size cache s kind
+  pub cost : need.cost ≤ most_turns
+  pub row : need.request ≡ true → IsInRow e
 
 -- the same of a machine
-abbrev pub IsStepWhere : Machine → Option Event → Plan → Step → Effect → Type 0
-IsStepWhere m stands plan step e =
-    IsStepIn m.length m.due (state_of m.processor) (size_of m.processor) (cache_of m.processor) stands plan step e
+abbrev pub IsStepWhere : Machine → Option Event → Plan → Step → Need → Effect → Type 0
+IsStepWhere m stands plan step need e =
+    IsStepIn m.length m.due (state_of m.processor) (size_of m.processor) (cache_of m.processor) stands plan step need e
 
 -- where the event of the schedule stands, whose time has come
-abbrev pub IsStep : Machine → Plan → Step → Effect → Type 0
-IsStep m plan step e = IsStepWhere m (event_for m plan) plan step e
+abbrev pub IsStep : Machine → Plan → Step → Need → Effect → Type 0
+IsStep m plan step need e = IsStepWhere m (event_for m plan) plan step need e
 
--- what comes next is such a record, or this end
-abbrev pub IsNext : Machine → Plan → Result Step End → Effect → Type 0
-IsNext m plan (Ok step) e = IsStep m plan step e
-IsNext m plan (Err f) e = next_for m plan ≡ Ends f
+-- what comes next of a machine is this step, whose effect another one has, with its need behind the last mark
+pub record IsPlannedIn (m : Machine) (plan : Plan) (step : Step) (mid : Machine) : Type 0 where
+  pub need : Need
+  pub marked : mid.need ≡ waiting_until mid.floor need
+  pub is : IsStep m plan step need mid.effect
+
+-- the machine itself has them
+abbrev pub IsPlanned : Machine → Plan → Step → Type 0
+IsPlanned m plan step = IsPlannedIn m plan step m
+
+-- what comes next is such a step, or this end
+abbrev pub IsNext : Machine → Plan → Result Step End → Machine → Type 0
+IsNext m plan (Ok step) mid = IsPlannedIn m plan step mid
+IsNext m plan (Err f) mid = next_for m plan ≡ Ends f
 
 -- ---- what it has done
 
@@ -147,7 +157,6 @@ pub record Did (before : Machine) (answer : Turn) (m : Machine) (was plan : Plan
   pub length : m.length ≡ before.length
   pub sets : m.sets ≡ before.sets
   pub ended : m.ended ≡ None
-  pub none : m.kept ≡ None
   pub behind : plan ≡ plan_behind was done
   pub lines : AddsLines old new (record_lines done)
   pub tells : TellsRecord done.kind done.before answer
@@ -166,7 +175,6 @@ pub record Ended (before : Machine) (e : End) (m : Machine) (was plan : Plan) (o
   pub is_end : next_for before was ≡ Ends e
   pub same : IsSame before m
   pub ended : m.ended ≡ Some e
-  pub none : m.kept ≡ None
   pub kept : plan ≡ was
   pub lines : AddsLines old new (end_lines (state_of before.processor) e)
 
@@ -174,13 +182,11 @@ pub record Ended (before : Machine) (e : End) (m : Machine) (was plan : Plan) (o
 pub record Finished (before : Machine) (e : End) (m : Machine) (old new : List Line) : Type 0 where
   pub same : IsSame before m
   pub ended : m.ended ≡ Some e
-  pub none : m.kept ≡ None
   pub lines : AddsLines old new (end_lines (state_of before.processor) e)
 
 pub record Unfinished (before : Machine) (e : End) (spare : ℕ) (m : Machine) (old new : List Line) : Type 0 where
   pub same : IsSame before m
   pub ended : m.ended ≡ None
-  pub none : m.kept ≡ None
   pub lines : new ≡ old
   pub lacking : spare < length (end_lines (state_of before.processor) e)
 
@@ -194,7 +200,6 @@ Finishes before e spare (turns.Issued t) m old new = ⊥
 pub record Refused (before : Machine) (m : Machine) (was plan : Plan) (old new : List Line) : Type 0 where
   pub same : IsSame before m
   pub ended : m.ended ≡ None
-  pub none : m.kept ≡ None
   pub kept : plan ≡ was
   pub lines : new ≡ old
   pub needed : NeedsRoom (next_for before was)

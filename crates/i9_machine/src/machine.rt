@@ -1,5 +1,5 @@
 //! The machine, one step at a time.
-ghost use Rattle.std.specs.Prelude.{◌≡◌, ◌-◌, ◌^◌, ◌<◌, ◌≤◌, [], ◌∷◌, max, ℕ, List, Option, None, Some, IfOk, IfSome, IsNone, vec_len, vec_capacity};
+ghost use Rattle.std.specs.Prelude.{◌≡◌, ◌-◌, ◌^◌, ◌<◌, ◌≤◌, [], ◌∷◌, max, ℕ, List, Option, None, Some, IfOk, IfSome, vec_len, vec_capacity};
 ghost use Rattle.std.proofs.Props.{props};
 ghost use Rattle.i9_model.specs.declared.layout.TheConstants.{MAX_LENGTH};
 ghost use Rattle.i9_model.specs.declared.event.Timed.{Timed};
@@ -9,7 +9,7 @@ ghost use Rattle.i9_model.specs.HeldFrames.{cache_after, sets_in};
 ghost use Rattle.i9_model.specs.Given.{Given, given};
 ghost use Rattle.i9_model.specs.declared.run.End.{End};
 ghost use Rattle.i9_model.specs.ScheduleText.{IsPlan};
-ghost use Rattle.i9_model.specs.Run.{state_after};
+ghost use Rattle.i9_model.specs.Run.{Faulted, fault_at, state_after};
 ghost use Rattle.i9_model.specs.declared.need.TimedNeed.{TimedNeed};
 ghost use Rattle.i9_model.specs.Turns.{end_turn};
 ghost use Rattle.i9_model.specs.Turns as board;
@@ -17,8 +17,6 @@ ghost use Rattle.i9_course.specs.Course.{Item, Mark, records_of, comes_next};
 ghost use Rattle.i9_model.specs.PrintedText.{view_of};
 ghost use Rattle.i9_schedule.specs.Plan.{Plan};
 ghost use Rattle.i9_frames.specs.Sets.{held};
-ghost use Rattle.i9_model.specs.Standing.{stands_at};
-ghost use Rattle.i9_plan.specs.Open.{WaitsForAll};
 ghost use Rattle.i9_processor.specs.State.{state_of, IsDrained};
 
 mod doing;
@@ -26,17 +24,15 @@ mod opening;
 mod planning;
 mod turning;
 
-use self::planning::standing;
 use crate::line::{Line, Turn};
-use crate::step::Step;
+use crate::step::Coming;
 use i9_frames::Sets;
 use i9_hex::Segments;
-use i9_isa::NoMemory;
+use i9_isa::{Inst, NoMemory, word_count};
 use i9_issue::Board;
-use i9_model::faults::ARITHMETIC;
 use i9_model::layout::MAX_LENGTH;
-use i9_model::{Due, End, View};
-use i9_plan::Memo;
+use i9_model::{Due, End, Need, View};
+use i9_plan::{Memo, Words};
 use i9_processor::{Effect, Processor};
 use i9_schedule::Schedule;
 use i9_shade::Shade;
@@ -45,8 +41,8 @@ use std::alloc::Global;
 /// A machine that runs an image: what an instruction may read or change, the length of the run, what
 /// comes next whatever the length, and the end that was answered; instructions that were decoded; the
 /// scoreboard with the turn, that of the last mark, that at which the last record is done, and one below
-/// which nothing comes next; what stood in memory under an open barrier's writes; and the step that comes at that turn, where it was planned before, with its
-/// effect.
+/// which nothing comes next; what stood in memory under an open barrier's writes; and the effect and the
+/// need of what is planned.
 #[derive(Drop)]
 pub struct Machine {
     processor: Processor,
@@ -62,20 +58,20 @@ pub struct Machine {
     done: u64,
     wait: u64,
     shade: Shade,
-    kept: Option<Step>,
     effect: Effect,
+    need: Need,
     ghost short: { length ≤ MAX_LENGTH },
     ghost below: { (state_of processor).count ≤ length },
     ghost few: { IfSome sets (λ n. 0 < n × n < 16) } by { Prim.hlevel props },
 }
 
 impl Machine {
-    ghost use Rattle.i9_machine.specs.StandsFor.{StandsFor, Follows, Advances, AnswersAgain, LeavesFewer, IsUnderWay, IsNow, Done, OpenSteps};
-    ghost use Rattle.i9_machine.specs.Issuing.{IsLike, IsMovedTo, IsMoved, IsSettled, IsQuiet, IsEndTurn};
+    ghost use Rattle.i9_machine.specs.Coming.{HasArrived, IsAhead, RunsAhead, IsReadyFor, Came};
+    ghost use Rattle.i9_machine.specs.StandsFor.{StandsFor, Follows, Advances, Proceeds, AnswersAgain, LeavesFewer, IsUnderWay, HasCome};
+    ghost use Rattle.i9_machine.specs.Issuing.{KeepsPlanned, IsMovedTo, IsPassedTo, IsMoved, IsSettled, IsQuiet};
     ghost use Rattle.i9_machine.specs.Opening.{IsTimely};
-    ghost use Rattle.i9_machine.specs.Overtaking.{late_due, HasPace, IssuesAhead};
     ghost use Rattle.i9_machine.specs.Raw.{IsLevel};
-    ghost use Rattle.i9_machine.specs.Step.{HasRoom, next_for, steps_left};
+    ghost use Rattle.i9_machine.specs.Step.{HasRoom, Steps, Issues, next_for, steps_left};
 
     /// A machine before its first step: its run has the image's bytes, so many register sets or as many
     /// as the PRCB asks for, and at most so many instructions.
@@ -107,8 +103,8 @@ impl Machine {
             done: 1,
             wait: 0,
             shade: Shade::new(),
-            kept: None,
             effect: Effect::blank(),
+            need: Need::default(),
         })
     }
 
@@ -159,7 +155,7 @@ impl Machine {
         self.land_all(until, floor);
     }
 
-    /// The turn becomes this one, unless it is above it, what is due lands, and nothing is waited for or kept.
+    /// The turn becomes this one, unless it is above it, what is due lands, and nothing is waited for.
     fn land_all(&mut self, until: u64, floor: u64)
         ensures settled { IsSettled self.old self.new until }
         ensures floor { self.new.floor ≡ floor }
@@ -167,7 +163,6 @@ impl Machine {
         self.move_to(self.turn.max(until));
         self.floor = floor;
         self.wait = 0;
-        self.kept = None;
     }
 
     /// The turn of the last mark, once one is set at this turn where no end was answered.
@@ -181,23 +176,23 @@ impl Machine {
         }
     }
 
-    /// Passes the turns at which nothing comes: the turn becomes the one to which the machine waits, where it is
-    /// below that, and what is due by then lands. `advance` moves them one by one. It takes no memory.
-    pub fn pass_turns(&mut self)
-        ensures stands { (g : Given) (h : List Item) (end : Option End) → StandsFor g h end self.old → StandsFor g h end self.new }
-        ensures fewer { (plan : Plan) → steps_left self.new plan ≤ steps_left self.old plan }
-    {
-        if self.ended.is_none() && self.turn < self.wait {
-            self.move_to(self.wait);
-        }
-    }
-
     /// The turn becomes this one, and what is due lands.
     fn move_to(&mut self, turn: u64)
-        ensures { IsMovedTo turn self.old self.new }
+        ensures moved { IsMovedTo turn self.old self.new }
+        ensures keeps { KeepsPlanned self.old self.new }
     {
         self.turn = turn;
         self.processor.land(turn);
+    }
+
+    /// The turn becomes this one, where it is below it, and what is due by then lands.
+    fn pass_to(&mut self, turn: u64)
+        ensures passed { IsPassedTo turn self.old self.new }
+        ensures keeps { KeepsPlanned self.old self.new }
+    {
+        if self.turn < turn {
+            self.move_to(turn);
+        }
     }
 
     /// The turn moves by one, to which something waits, and what is due lands.
@@ -220,160 +215,104 @@ impl Machine {
     }
 
     /// One step of a machine for which nothing is open.
+    // Loops seldom come here, and this is no part of their code.
+    #[inline(never)]
     fn step_drained(&mut self, plan: &mut Schedule, out: &mut Vec<Line>) -> Turn
         requires running { self.old.ended ≡ None }
-        requires stands { IsUnderWay self.old plan.old }
+        requires come { HasCome self.old plan.old }
         requires drained { IsDrained self.old.processor }
-        requires now { IsNow self.old plan.old }
         requires timely { IsTimely self.old plan.old }
-        requires none { self.old.kept ≡ None }
-        ensures done { Done self.old result self.new plan.old plan.new out.old.items out.new.items }
+        ensures steps { Steps self.old result self.new plan.old plan.new out.old.items out.new.items }
+        ensures issues { Issues self.old result self.new plan.old }
         ensures lacking { result ≡ Turn.Memory
             → HasRoom self.old (vec_capacity out.old - vec_len out.old) (next_for self.old plan.old) → ⊥ }
         ensures fewer { LeavesFewer result (steps_left self.old plan.old) (steps_left self.new plan.new) }
     {
         match self.next_step(plan) {
-            Ok(step) => self.perform(&step, plan, out),
+            Ok(step) => {
+                let issue = self.issue_turn();
+                self.perform(&step, issue, plan, out)
+            }
             Err(end) => self.answer_end(end, out),
         }
     }
 
-    /// One step of a machine for which something is open until a turn: an instruction that is no barrier, and before
-    /// which no event stands, issues where its turn has come, and else the turn moves.
-    fn step_open(&mut self, until: u64, plan: &mut Schedule, out: &mut Vec<Line>) -> Turn
-        requires running { self.old.ended ≡ None }
-        requires stands { IsUnderWay self.old plan.old }
-        requires until { IsEndTurn self.old until }
-        requires open { self.old.turn < until }
-        requires precise { late_due self.old ≡ None }
-        requires none { self.old.kept ≡ None }
-        ensures steps { OpenSteps self.old result self.new plan.old plan.new out.old.items out.new.items }
-        ensures lacking { result ≡ Turn.Memory
-            → HasRoom self.old (vec_capacity out.old - vec_len out.old) (next_for self.old plan.old) → ⊥ }
-        ensures fewer { LeavesFewer result (steps_left self.old plan.old) (steps_left self.new plan.new) }
-    {
-        let Some(step) = self.open_step() else {
-            return self.wait_until(until);
-        };
-        let turn = self.board.next_turn(&self.marked(&step.need));
-        if standing(plan, self.processor.count(), turn).is_some() {
-            return self.wait_until(until);
-        }
-        if self.turn < turn {
-            self.kept = Some(step);
-            self.wait_until(turn)
-        } else {
-            self.perform(&step, plan, out)
-        }
-    }
-
-    /// The turn at which the instruction at the instruction address would issue, as if no entry and no event
-    /// stood before it; nothing where it waits for all that is open.
-    fn issue_ahead(&mut self) -> Option<u64>
-        requires pace { HasPace self.old }
-        ensures like { IsLike self.old self.new }
-        ensures kept { self.new.kept ≡ self.old.kept }
-        ensures turn { IfSome result (λ t. IssuesAhead self.old t) }
-        ensures waits { IsNone result → WaitsForAll (state_of self.old.processor) (stands_at (state_of self.old.processor)) }
-    {
-        match self.need_ahead() {
-            Some(need) => Some(self.board.next_turn(&self.marked(&need))),
-            None => None,
-        }
-    }
-
-    /// One step of a machine for which the entry of an arithmetic fault of the instruction at this address is
-    /// due while something is open: an instruction that would issue before the fault is known overtakes it,
-    /// which ends the run at that turn; else the turn moves. Events that wait do not come before it, so it does
-    /// not look at the schedule.
-    fn step_faulted(&mut self, address: u32, until: u64, out: &mut Vec<Line>) -> Turn
-        requires running { self.old.ended ≡ None }
-        requires pace { HasPace self.old }
-        requires until { IsEndTurn self.old until }
-        requires open { self.old.turn < until }
-        requires late { late_due self.old ≡ Some address }
-        requires none { self.old.kept ≡ None }
-        ensures steps { (plan : Plan) → OpenSteps self.old result self.new plan plan out.old.items out.new.items }
-        ensures lacking { (plan : Plan) → result ≡ Turn.Memory
-            → HasRoom self.old (vec_capacity out.old - vec_len out.old) (next_for self.old plan) → ⊥ }
-        ensures fewer { (plan : Plan) → LeavesFewer result (steps_left self.old plan) (steps_left self.new plan) }
-    {
-        match self.issue_ahead() {
-            Some(issue) if issue < self.done => {
-                if self.turn < issue {
-                    self.wait_until(issue)
-                } else {
-                    self.answer_end(End::Imprecise(address), out)
-                }
-            }
-            _ => self.wait_until(until),
-        }
-    }
-
-    /// The address of the instruction whose arithmetic fault is to be entered, where it may be imprecise.
-    fn late_fault(&self) -> Option<u32>
-        ensures { result ≡ late_due self.now }
-    {
-        if self.processor.count() >= self.length {
-            return None;
-        }
-        match &self.due {
-            Due::Entry(fault) if fault.kind == ARITHMETIC => Some(fault.address),
-            _ => None,
-        }
-    }
-
-    /// The step that was kept, whose turn has come.
-    fn step_kept(&mut self, step: &Step, plan: &mut Schedule, out: &mut Vec<Line>) -> Turn
-        requires running { self.old.ended ≡ None }
-        requires stands { IsUnderWay self.old plan.old }
-        requires come { self.old.wait ≤ self.old.turn }
-        requires kept { self.old.kept ≡ Some step.now }
-        ensures done { Done self.old result self.new plan.old plan.new out.old.items out.new.items }
-        ensures lacking { result ≡ Turn.Memory
-            → HasRoom self.old (vec_capacity out.old - vec_len out.old) (next_for self.old plan.old) → ⊥ }
-        ensures fewer { LeavesFewer result (steps_left self.old plan.old) (steps_left self.new plan.new) }
-    {
-        self.kept = None;
-        self.perform(step, plan, out)
-    }
-
-    /// One step of a machine that keeps no step, below whose turn nothing waits.
-    fn step_anew(&mut self, plan: &mut Schedule, out: &mut Vec<Line>) -> Turn
-        requires running { self.old.ended ≡ None }
-        requires stands { IsUnderWay self.old plan.old }
-        requires none { self.old.kept ≡ None }
-        ensures steps { OpenSteps self.old result self.new plan.old plan.new out.old.items out.new.items }
-        ensures lacking { result ≡ Turn.Memory
-            → HasRoom self.old (vec_capacity out.old - vec_len out.old) (next_for self.old plan.old) → ⊥ }
-        ensures fewer { LeavesFewer result (steps_left self.old plan.old) (steps_left self.new plan.new) }
-    {
-        let until = self.board.all_done();
-        if until <= self.turn {
-            return self.step_drained(plan, out);
-        }
-        match self.late_fault() {
-            Some(address) => self.step_faulted(address, until, out),
-            None => self.step_open(until, plan, out),
-        }
-    }
-
-    /// One step of a machine that has answered no end, below whose turn nothing waits: the step that was kept,
-    /// or else what is planned now.
-    // Most calls of a slow loop move the turn alone, and this is no part of their code.
+    /// An instruction that is planned faults by its result.
+    // Few do, and this is no part of the code that calls it.
     #[inline(never)]
-    fn step(&mut self, plan: &mut Schedule, out: &mut Vec<Line>) -> Turn
+    fn step_faulting(
+        &mut self,
+        words: Words,
+        inst: &Inst,
+        number: (u8, u16),
+        issue: u64,
+        plan: &mut Schedule,
+        out: &mut Vec<Line>,
+    ) -> Turn
         requires running { self.old.ended ≡ None }
-        requires stands { IsUnderWay self.old plan.old }
-        requires come { self.old.wait ≤ self.old.turn }
-        ensures steps { OpenSteps self.old result self.new plan.old plan.new out.old.items out.new.items }
+        requires come { HasCome self.old plan.old }
+        requires ahead { IsAhead self.old plan.old issue words inst.now
+            (Faulted (Some inst.now) (fault_at (state_of self.old.processor) number)) }
+        ensures steps { Steps self.old result self.new plan.old plan.new out.old.items out.new.items }
+        ensures issues { Issues self.old result self.new plan.old }
         ensures lacking { result ≡ Turn.Memory
             → HasRoom self.old (vec_capacity out.old - vec_len out.old) (next_for self.old plan.old) → ⊥ }
         ensures fewer { LeavesFewer result (steps_left self.old plan.old) (steps_left self.new plan.new) }
     {
-        match self.kept {
-            Some(step) => self.step_kept(&step, plan, out),
-            None => self.step_anew(plan, out),
+        let step = self.faults(words, word_count(inst), number);
+        self.perform(&step, issue, plan, out)
+    }
+
+    /// An instruction that is planned runs.
+    #[inline(always)]
+    fn step_running(
+        &mut self,
+        words: Words,
+        inst: &Inst,
+        issue: u64,
+        plan: &mut Schedule,
+        out: &mut Vec<Line>,
+    ) -> Turn
+        requires running { self.old.ended ≡ None }
+        requires come { HasCome self.old plan.old }
+        requires runs { RunsAhead self.old plan.old issue words inst.now }
+        ensures steps { Steps self.old result self.new plan.old plan.new out.old.items out.new.items }
+        ensures issues { Issues self.old result self.new plan.old }
+        ensures lacking { result ≡ Turn.Memory
+            → HasRoom self.old (vec_capacity out.old - vec_len out.old) (next_for self.old plan.old) → ⊥ }
+        ensures fewer { LeavesFewer result (steps_left self.old plan.old) (steps_left self.new plan.new) }
+    {
+        let step = self.does(words, inst);
+        self.perform(&step, issue, plan, out)
+    }
+
+    /// What comes next is done, whose turn has come.
+    #[inline(always)]
+    fn come(
+        &mut self,
+        turn: u64,
+        coming: Coming,
+        plan: &mut Schedule,
+        out: &mut Vec<Line>,
+    ) -> Turn
+        requires running { self.old.ended ≡ None }
+        requires arrived { HasArrived self.old plan.old coming }
+        requires turn { turn ≤ self.old.turn }
+        requires ready { IsReadyFor self.old plan.old turn coming }
+        ensures came { Came coming self.old result self.new plan.old plan.new out.old.items out.new.items }
+        ensures lacking { result ≡ Turn.Memory
+            → HasRoom self.old (vec_capacity out.old - vec_len out.old) (next_for self.old plan.old) → ⊥ }
+        ensures fewer { LeavesFewer result (steps_left self.old plan.old) (steps_left self.new plan.new) }
+    {
+        match coming {
+            Coming::Waiting => self.step_drained(plan, out),
+            Coming::Overtaking(address) => self.answer_end(End::Imprecise(address), out),
+            Coming::Running { words, inst } => self.step_running(words, &inst, turn, plan, out),
+            Coming::Faulting {
+                words,
+                inst,
+                number,
+            } => self.step_faulting(words, &inst, number, turn, plan, out),
         }
     }
 
@@ -403,7 +342,35 @@ impl Machine {
                 self.move_on();
                 Turn::On
             }
-            None => self.step(plan, out),
+            None => {
+                let (turn, coming) = self.look(plan);
+                if self.turn < turn {
+                    self.wait_until(turn)
+                } else {
+                    self.come(turn, coming, plan, out)
+                }
+            }
+        }
+    }
+
+    /// As `advance`, behind the turns at which nothing comes, which it passes in one go: what comes next is done, or the
+    /// end is answered, and never does it answer that the turn moved alone. Memory is refused where `advance` may refuse
+    /// it once the turn has moved.
+    pub fn proceed(&mut self, plan: &mut Schedule, out: &mut Vec<Line>) -> Turn
+        requires stands { self.old.ended ≡ None → IsUnderWay self.old plan.old }
+        ensures next { (g : Given) (h : List Item) → StandsFor g h None self.old → Follows g h plan.old
+            → Proceeds g h result self.old self.new plan.new (vec_capacity out.old - vec_len out.old) out.old.items out.new.items }
+        ensures again { (g : Given) (h : List Item) (f : End) → StandsFor g h (Some f) self.old
+            → AnswersAgain g h f result self.new out.old.items out.new.items × (plan.new ≡ plan.old) }
+        ensures fewer { LeavesFewer result (steps_left self.old plan.old) (steps_left self.new plan.new) }
+    {
+        match self.ended {
+            Some(e) => Turn::End(e),
+            None => {
+                let (turn, coming) = self.look(plan);
+                self.pass_to(turn);
+                self.come(turn, coming, plan, out)
+            }
         }
     }
 }

@@ -1,15 +1,16 @@
 //! What one step is to do, as data.
-ghost use Rattle.std.specs.Prelude.{◌≡◌, true, IfSome, IsNone};
+ghost use Rattle.std.specs.Prelude.{◌≡◌, IfSome};
 ghost use Rattle.std.specs.Option.{option_copied};
 ghost use Rattle.i9_model.specs.Events.{IsInRange};
 
 use crate::line::Turn;
-use i9_model::{Due, Event, Need, Point};
+use i9_isa::Inst;
+use i9_model::{Due, Event, Point};
+use i9_plan::Words;
 use i9_schedule::Schedule;
 
 /// What a step does beside its effect: whether it reaches the next event of the schedule, the drained
-/// point behind it, how many instructions it counts, what is due after it, what it is answered as, and
-/// what it needs to issue.
+/// point behind it, how many instructions it counts, what is due after it, and what it is answered as.
 #[derive(Clone, Copy)]
 pub(crate) struct Step {
     pub(crate) reaches: bool,
@@ -17,7 +18,6 @@ pub(crate) struct Step {
     pub(crate) counts: u64,
     pub(crate) due: Due,
     pub(crate) answer: Turn,
-    pub(crate) need: Need,
 }
 
 impl Step {
@@ -34,12 +34,22 @@ impl Step {
             None
         }
     }
+}
 
-    /// The step, unless it passes nothing and nothing passes it.
-    pub(crate) fn unless_barrier(self) -> Option<Step>
-        ensures some { IfSome result (λ step. step ≡ self) }
-        ensures none { IsNone result → self.need.barrier ≡ true }
-    {
-        if self.need.barrier { None } else { Some(self) }
-    }
+/// What comes next.
+#[derive(Clone, Copy)]
+pub(crate) enum Coming {
+    /// What waits for all that is open.
+    Waiting,
+    /// The end at the arithmetic fault of the instruction at this address, which the next one overtakes.
+    Overtaking(u32),
+    /// The instruction that is planned in the machine, which runs.
+    Running { words: Words, inst: Inst },
+    /// The instruction that is planned in the machine, whose result is an arithmetic fault of this type and
+    /// subtype.
+    Faulting {
+        words: Words,
+        inst: Inst,
+        number: (u8, u16),
+    },
 }

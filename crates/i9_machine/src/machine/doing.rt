@@ -13,7 +13,7 @@ ghost use Rattle.i9_course.specs.LateRun.{is_imprecise};
 ghost use Rattle.i9_processor.specs.Effect.{action_in, move_in, control_in, AreRegisters, AreMade, CanControl, CanMove, CanTake, HasSpaceFor, cache_through, size_with, has_writes, is_restart};
 ghost use Rattle.i9_processor.specs.State.{state_of, cache_of, size_of};
 ghost use Rattle.i9_model.specs.Events.{IsInRange};
-ghost use Rattle.i9_model.specs.Turns.{HasCost, waiting_until};
+ghost use Rattle.i9_model.specs.Turns.{HasCost, IssuesAt, waiting_until};
 ghost use Rattle.i9_issue.specs.Room.{IsEarly};
 ghost use Rattle.i9_regs.specs.Covered.{IsCovered};
 ghost use Rattle.i9_machine.specs.Doing.{point_count, reached_lines, reached_count, plan_after_step};
@@ -106,11 +106,12 @@ fn put_out(byte: Option<u8>, out: &mut Vec<Line>)
 }
 
 /// Adds a drained point, where there is one.
-fn put_point(point: Option<Point>, view: View, out: &mut Vec<Line>)
+fn put_point(point: Option<Point>, p: &Processor, out: &mut Vec<Line>)
     requires { vec_len out.old + point_count (point) ≤ vec_capacity out.old }
-    ensures { (s : State) → view ≡ view_of s → AddsLines out.old.items out.new.items (point_lines (point) s) }
+    ensures { AddsLines out.old.items out.new.items (point_lines (point) (state_of p.now)) }
 {
     if let Some(kind) = point {
+        let view = p.view();
         put_line(out, Line::Point { kind, view });
     }
 }
@@ -200,7 +201,7 @@ fn go_on(step: &Step, plan: &mut Schedule)
 
 impl Machine {
     ghost use Rattle.i9_machine.specs.StandsFor.{LeavesFewer};
-    ghost use Rattle.i9_machine.specs.Step.{IsStep, IsSame, Steps, Finishes, Issues, HasRoom, next_for, steps_left};
+    ghost use Rattle.i9_machine.specs.Step.{IsPlanned, IsSame, Steps, Finishes, Issues, HasRoom, next_for, steps_left};
     ghost use Rattle.i9_machine.specs.Doing.{lines_of, line_count, asks_room, HasRoomForStep, IsReady, action_for, state_behind};
     ghost use Rattle.i9_machine.specs.Issuing.{most_turns, IsIssued, CanActPlaced};
     ghost use Rattle.i9_machine.specs.StandsFor.{HasCome};
@@ -208,7 +209,6 @@ impl Machine {
     /// Answers an end, once its lines are written.
     pub(super) fn answer_end(&mut self, e: End, out: &mut Vec<Line>) -> Turn
         requires running { self.old.ended ≡ None }
-        requires none { self.old.kept ≡ None }
         ensures { Finishes self.old e (vec_capacity out.old - vec_len out.old) result self.new out.old.items out.new.items }
     {
         match put_end(e, self.processor.view(), out) {
@@ -221,6 +221,7 @@ impl Machine {
     }
 
     /// New sets where the processor starts anew: as many as were asked for, or as the PRCB asks for.
+    #[inline(always)]
     fn make_sets(&self, c: Control) -> Result<Option<Sets>, NoMemory>
         ensures made { IfOk result (AreMade self.now.sets (state_of self.now.processor).memory c) }
         ensures needed { OnErr result (is_restart (control_in c) ≡ true) }
@@ -238,6 +239,7 @@ impl Machine {
     }
 
     /// Makes room for what a step stores, saves and prints, and the new sets that it asks for.
+    #[inline(always)]
     fn make_room(
         &mut self,
         step: &Step,
@@ -246,8 +248,8 @@ impl Machine {
     ) -> Result<Option<Sets>, NoMemory>
         ensures same { IsSame self.old self.new }
         ensures ended { self.new.ended ≡ self.old.ended }
-        ensures kept { self.new.kept ≡ self.old.kept }
         ensures effect { self.new.effect ≡ self.old.effect }
+        ensures need { self.new.need ≡ self.old.need }
         ensures items { out.new.items ≡ out.old.items }
         ensures space { OnOk result (HasSpaceFor self.new.processor self.new.effect) }
         ensures lines { OnOk result (vec_len out.new + line_count self.new.effect step.now (option_copied event.entry) ≤ vec_capacity out.new) }
@@ -261,33 +263,26 @@ impl Machine {
         Ok(sets)
     }
 
-    /// The need of a record behind the last mark.
-    pub(super) fn marked(&self, need: &Need) -> Need
-        ensures { result ≡ waiting_until self.now.floor need.now }
-    {
-        Need {
-            not_before: self.floor.max(need.not_before),
-            ..*need
-        }
-    }
-
     /// Places what a step needs, and does what is planned, whose results land when it is done; prints its
     /// lines, and keeps what is due afterwards.
+    #[inline(always)]
     fn act(
         &mut self,
         step: &Step,
+        issue: u64,
         event: Option<&Event>,
         sets: Option<Sets>,
         out: &mut Vec<Line>,
     ) -> Turn
-        requires cost { HasCost step.now.need }
-        requires turns { step.now.need.cost ≤ most_turns }
-        requires early { IsEarly self.old.board (waiting_until self.old.floor step.now.need) }
+        requires cost { HasCost self.old.need }
+        requires turns { self.old.need.cost ≤ most_turns }
+        requires early { IsEarly self.old.board self.old.need }
+        requires issue { IssuesAt self.old.board.last self.old.board.records self.old.need issue }
         requires ready { IsReady (state_of self.old.processor) self.old.length self.old.effect step.now }
         requires space { HasSpaceFor self.old.processor self.old.effect }
         requires made { CanTake (move_in (state_of self.old.processor) self.old.effect.frames) sets }
-        requires covered { IsCovered step.now.need.writes (state_of self.old.processor) (action_for self.old self.old.effect) }
-        requires acts { CanActPlaced self.old step.now.need self.old.effect }
+        requires covered { IsCovered self.old.need.writes (state_of self.old.processor) (action_for self.old self.old.effect) }
+        requires acts { CanActPlaced self.old self.old.effect }
         requires lines { vec_len out.old + line_count self.old.effect step.now (option_copied event) ≤ vec_capacity out.old }
         requires ranges { IfSome event (λ e. IsInRange e.now) }
         requires whole { AreWhole (cache_of self.old.processor).held }
@@ -299,27 +294,26 @@ impl Machine {
         ensures length { self.new.length ≡ self.old.length }
         ensures sets { self.new.sets ≡ self.old.sets }
         ensures ended { self.new.ended ≡ self.old.ended }
-        ensures kept { self.new.kept ≡ self.old.kept }
         ensures answer { result ≡ step.now.answer }
         ensures count { (state_of self.new.processor).count ≡ (state_of self.old.processor).count + step.now.counts }
-        ensures issued { IsIssued self.old step.now.need (action_for self.old self.old.effect) self.new }
+        ensures issued { (need : Need) → self.old.need ≡ waiting_until self.old.floor need
+            → IsIssued self.old need (action_for self.old self.old.effect) self.new }
         ensures lines { AddsLines out.old.items out.new.items
             (lines_of self.old.effect step.now (option_copied event.entry) (state_of self.old.processor)
             (state_behind self.old self.old.effect step.now)) }
     {
-        let need = self.marked(&step.need);
-        let placed = self.board.place(&need);
+        let placed = self.board.place_at(&self.need, issue);
         self.done = placed.done;
         let landing = Landing {
-            writes: need.writes,
+            writes: self.need.writes,
             done: placed.done,
-            request: need.request,
+            request: self.need.request,
         };
         put_event(event, &self.processor, out);
         hide(
             &self.processor,
             &self.effect,
-            &need,
+            &self.need,
             placed.done,
             &mut self.shade,
         );
@@ -327,16 +321,25 @@ impl Machine {
             .apply(&self.effect, &landing, step.counts, sets);
         self.due = step.due;
         put_out(self.effect.console_byte(), out);
-        put_point(step.point, self.processor.view(), out);
+        put_point(step.point, &self.processor, out);
         step.answer
     }
 
-    /// Makes room for a step and does it. Where it reaches an event, the schedule goes on behind that.
-    pub(super) fn perform(&mut self, step: &Step, plan: &mut Schedule, out: &mut Vec<Line>) -> Turn
+    /// Makes room for a step and does it, at the turn at which it issues. Where it reaches an event, the schedule
+    /// goes on behind that.
+    // Each caller knows more of its step, and has its own code for it.
+    #[inline(always)]
+    pub(super) fn perform(
+        &mut self,
+        step: &Step,
+        issue: u64,
+        plan: &mut Schedule,
+        out: &mut Vec<Line>,
+    ) -> Turn
         requires running { self.old.ended ≡ None }
-        requires step { IsStep self.old plan.old step.now self.old.effect }
+        requires step { IsPlanned self.old plan.old step.now }
+        requires issue { IssuesAt self.old.board.last self.old.board.records self.old.need issue }
         requires come { HasCome self.old plan.old }
-        requires none { self.old.kept ≡ None }
         ensures steps { Steps self.old result self.new plan.old plan.new out.old.items out.new.items }
         ensures issues { Issues self.old result self.new plan.old }
         ensures lacking { result ≡ Turn.Memory
@@ -346,7 +349,7 @@ impl Machine {
         let event = step.event(plan);
         match self.make_room(step, event, out) {
             Ok(sets) => {
-                let answer = self.act(step, event, sets, out);
+                let answer = self.act(step, issue, event, sets, out);
                 go_on(step, plan);
                 answer
             }

@@ -1,22 +1,28 @@
-//! What comes next for the machine while something is open.
-ghost use Rattle.std.specs.Prelude.{◌≡◌, ◌<◌, None, Ok, true, false, IfSome, IsNone};
+//! What comes next for the machine, and when.
+ghost use Rattle.std.specs.Prelude.{◌≡◌, ℕ, ◌<◌, List, None, Some, Ok, true, false, IfSome, IsNone};
 ghost use Rattle.i9_model.specs.Before.{choice_in};
 ghost use Rattle.i9_model.specs.Standing.{stands_at};
-ghost use Rattle.i9_plan.specs.Open.{WaitsForAll};
+ghost use Rattle.i9_model.specs.declared.need.TimedNeed.{TimedNeed};
+ghost use Rattle.i9_model.specs.Turns.{StandsFor, IssuesAt, last_issue, issue_turn};
+ghost use Rattle.i9_plan.specs.Open.{OpenStands, OpenPlanned, WaitsForAll};
 ghost use Rattle.i9_processor.specs.State.{state_of};
 ghost use Rattle.i9_schedule.specs.Plan.{Plan};
-ghost use Rattle.i9_machine.specs.Opening.{IsFreeToIssue, NextWaits};
+ghost use Rattle.i9_machine.specs.Opening.{IsFreeToIssue, NextWaits, HasOpenNeed, HasKept};
 
 use super::Machine;
-use crate::step::Step;
-use i9_isa::word_count;
-use i9_model::{Due, Need};
+use super::planning::standing;
+use crate::step::Coming;
+use i9_model::Due;
+use i9_model::faults::ARITHMETIC;
 use i9_plan::{Open, need_done, need_faulted, plan_open};
+use i9_schedule::Schedule;
 
 impl Machine {
-    ghost use Rattle.i9_machine.specs.Issuing.{IsLike};
-    ghost use Rattle.i9_machine.specs.Step.{IsStepWhere};
-    ghost use Rattle.i9_machine.specs.Overtaking.{IsNeedAhead};
+    ghost use Rattle.i9_machine.specs.Coming.{Arrives, IsReadyFor, IsNextInstruction};
+    ghost use Rattle.i9_machine.specs.Issuing.{IsLike, IsEndTurn};
+    ghost use Rattle.i9_machine.specs.Overtaking.{late_due, HasPace, IssuesAhead};
+    ghost use Rattle.i9_machine.specs.StandsFor.{IsUnderWay};
+    ghost use Rattle.i9_machine.specs.Step.{event_for};
 
     /// Whether nothing is due, and the length is not reached.
     fn goes_on(&self) -> bool
@@ -46,50 +52,158 @@ impl Machine {
         }
     }
 
-    /// The instruction that comes next where no event stands there, and is no barrier; nothing where what comes next
-    /// waits for all that is open, whether one stands there or not. Its effect is made in the machine.
-    pub(super) fn open_step(&mut self) -> Option<Step>
-        ensures free { IfSome result (λ step. IsFreeToIssue self.old) }
-        ensures step { (plan : Plan) → IfSome result (λ step. IsStepWhere self.old None plan step self.new.effect) }
-        ensures waits { (plan : Plan) → IsNone result → NextWaits self.old plan }
+    /// What the instruction at the instruction address would do, as if nothing came before it. Its need is kept, and
+    /// where it runs its effect is made in the machine.
+    fn plan_instruction(&mut self) -> Open
+        ensures stands { OpenStands (state_of self.old.processor) result }
+        ensures planned { OpenPlanned (state_of self.old.processor) result self.new.effect }
+        ensures need { HasOpenNeed self.old result self.new }
         ensures like { IsLike self.old self.new }
-        ensures kept { self.new.kept ≡ self.old.kept }
+    {
+        let open = plan_open(&self.processor, &mut self.memo, &mut self.effect);
+        match open {
+            Open::Waits => {}
+            Open::Runs { inst, .. } => {
+                let fixed = self.memo.need();
+                let need = need_done(&self.processor, fixed, &inst, &self.effect);
+                self.keep(need);
+            }
+            Open::Faults { inst, number, .. } => {
+                let need = need_faulted(&self.processor, self.memo.need(), &inst, number);
+                self.keep(need);
+            }
+        }
+        open
+    }
+
+    /// The turn at which a record issues whose need is kept.
+    pub(super) fn issue_turn(&self) -> u64
+        requires pace { HasPace self.now }
+        requires need { HasKept self.now }
+        ensures computed { (rs : List TimedNeed) → StandsFor self.now.board rs → result ≡ issue_turn (last_issue rs) rs self.now.need }
+        ensures least { IssuesAt self.now.board.last self.now.board.records self.now.need result }
+    {
+        self.board.next_turn(&self.need)
+    }
+
+    /// The turn at which the instruction at the instruction address would issue, as if no entry and no event
+    /// stood before it; nothing where it waits for all that is open.
+    fn issue_ahead(&mut self) -> Option<u64>
+        requires pace { HasPace self.old }
+        ensures like { IsLike self.old self.new }
+        ensures turn { IfSome result (λ t. IssuesAhead self.old t) }
+        ensures waits { IsNone result → WaitsForAll (state_of self.old.processor) (stands_at (state_of self.old.processor)) }
+    {
+        match self.plan_instruction() {
+            Open::Waits => None,
+            Open::Runs { .. } => Some(self.issue_turn()),
+            Open::Faults { .. } => Some(self.issue_turn()),
+        }
+    }
+
+    /// What comes next where the entry of an arithmetic fault of the instruction at this address is due while
+    /// something is open until a turn: an instruction that would issue before the fault is known overtakes it, which
+    /// ends the run at that turn. Events that wait do not come before it, so it does not look at the schedule.
+    // It is seldom so, and this is no part of the code that calls it.
+    #[inline(never)]
+    fn look_behind(&mut self, address: u32, until: u64) -> (u64, Coming)
+        requires pace { HasPace self.old }
+        requires until { IsEndTurn self.old until }
+        requires open { self.old.turn < until }
+        requires late { late_due self.old ≡ Some address }
+        ensures like { IsLike self.old self.new }
+        ensures arrives { (plan : Plan) → Arrives self.old plan result.0 result.1 }
+        ensures ready { (plan : Plan) → IsReadyFor self.new plan result.0 result.1 }
+    {
+        match self.issue_ahead() {
+            Some(issue) if issue < self.done => (issue, Coming::Overtaking(address)),
+            _ => (until, Coming::Waiting),
+        }
+    }
+
+    /// The instruction that is planned comes next at its turn, unless an event stands before it, which waits for all
+    /// that is open.
+    fn look_at(&self, until: u64, plan: &Schedule, coming: Coming) -> (u64, Coming)
+        requires stands { IsUnderWay self.now plan.now }
+        requires until { IsEndTurn self.now until }
+        requires open { self.now.turn < until }
+        requires precise { late_due self.now ≡ None }
+        requires next { IsNextInstruction self.now coming }
+        requires ready { (t : ℕ) → event_for self.now plan.now ≡ None
+            → IssuesAt self.now.board.last self.now.board.records self.now.need t → IsReadyFor self.now plan.now t coming }
+        ensures arrives { Arrives self.now plan.now result.0 result.1 }
+        ensures ready { IsReadyFor self.now plan.now result.0 result.1 }
+    {
+        let turn = self.issue_turn();
+        if standing(plan, self.processor.count(), turn).is_some() {
+            (until, Coming::Waiting)
+        } else {
+            (turn, coming)
+        }
+    }
+
+    /// What comes next while something is open until a turn, and no fault is imprecise: an instruction, or what waits
+    /// for all.
+    fn look_open(&mut self, until: u64, plan: &Schedule) -> (u64, Coming)
+        requires stands { IsUnderWay self.old plan.now }
+        requires until { IsEndTurn self.old until }
+        requires open { self.old.turn < until }
+        requires precise { late_due self.old ≡ None }
+        ensures like { IsLike self.old self.new }
+        ensures arrives { Arrives self.old plan.now result.0 result.1 }
+        ensures ready { IsReadyFor self.new plan.now result.0 result.1 }
     {
         if !self.is_free() {
-            return None;
+            return (until, Coming::Waiting);
         }
-        match plan_open(&self.processor, &mut self.memo, &mut self.effect) {
-            Open::Waits => None,
-            Open::Runs { words, inst } => self.does(words, &inst).unless_barrier(),
+        match self.plan_instruction() {
+            Open::Waits => (until, Coming::Waiting),
+            Open::Runs { words, inst } => {
+                self.look_at(until, plan, Coming::Running { words, inst })
+            }
             Open::Faults {
                 words,
                 inst,
                 number,
             } => {
-                let need = need_faulted(&self.processor, self.memo.need(), &inst, number);
-                self.faults(words, word_count(&inst), number, need)
-                    .unless_barrier()
+                let coming = Coming::Faulting {
+                    words,
+                    inst,
+                    number,
+                };
+                self.look_at(until, plan, coming)
             }
         }
     }
 
-    /// What the instruction at the instruction address needs, as if no entry and no event stood before it;
-    /// nothing where it waits for all that is open. An effect is made in the machine.
-    pub(super) fn need_ahead(&mut self) -> Option<Need>
-        ensures need { IfSome result (λ need. IsNeedAhead self.old need) }
-        ensures waits { IsNone result → WaitsForAll (state_of self.old.processor) (stands_at (state_of self.old.processor)) }
+    /// What comes next, and at which turn: an instruction, unless what comes next waits for all that is open, or the
+    /// end at an arithmetic fault that is overtaken. Nothing changes but what the machine has of what is planned.
+    pub(super) fn look(&mut self, plan: &Schedule) -> (u64, Coming)
+        requires stands { IsUnderWay self.old plan.now }
         ensures like { IsLike self.old self.new }
-        ensures kept { self.new.kept ≡ self.old.kept }
+        ensures arrives { Arrives self.old plan.now result.0 result.1 }
+        ensures ready { IsReadyFor self.new plan.now result.0 result.1 }
     {
-        match plan_open(&self.processor, &mut self.memo, &mut self.effect) {
-            Open::Waits => None,
-            Open::Runs { inst, .. } => {
-                let fixed = self.memo.need();
-                Some(need_done(&self.processor, fixed, &inst, &self.effect))
-            }
-            Open::Faults { inst, number, .. } => {
-                Some(need_faulted(&self.processor, self.memo.need(), &inst, number))
-            }
+        let until = self.board.all_done();
+        if until <= self.turn {
+            return (until, Coming::Waiting);
+        }
+        match self.late_fault() {
+            Some(address) => self.look_behind(address, until),
+            None => self.look_open(until, plan),
+        }
+    }
+
+    /// The address of the instruction whose arithmetic fault is to be entered, where it may be imprecise.
+    fn late_fault(&self) -> Option<u32>
+        ensures { result ≡ late_due self.now }
+    {
+        if self.processor.count() >= self.length {
+            return None;
+        }
+        match &self.due {
+            Due::Entry(fault) if fault.kind == ARITHMETIC => Some(fault.address),
+            _ => None,
         }
     }
 }

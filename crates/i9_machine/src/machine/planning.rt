@@ -8,17 +8,14 @@ ghost use Rattle.i9_model.specs.declared.event.Event as event;
 ghost use Rattle.i9_schedule.specs.Plan.{Plan};
 ghost use Rattle.i9_machine.specs.Opening.{IsTimely};
 ghost use Rattle.i9_isa.specs.declared.inst.Inst.{Inst};
-ghost use Rattle.i9_isa.specs.Valid.{IsValid};
 ghost use Rattle.i9_isa.specs.Words.{words_of};
-ghost use Rattle.i9_model.specs.HeldFrames.{Cache};
-ghost use Rattle.i9_model.specs.Needs.{is_request_name};
+ghost use Rattle.i9_model.specs.Turns.{waiting_until};
 ghost use Rattle.i9_course.specs.NeedOf.{need_of};
 ghost use Rattle.i9_model.specs.Traced.{traced_action};
 ghost use Rattle.i9_model.specs.Run.{Does, Instruction, Faulted, faulted_words, fault_at, record_of, point_by_name, action_due};
-ghost use Rattle.i9_plan.specs.Kept.{KeepsNeed};
-ghost use Rattle.i9_plan.specs.Planned.{TellsWords, IsInRow};
+ghost use Rattle.i9_plan.specs.Planned.{TellsWords, AreRequestsInRow};
 ghost use Rattle.i9_processor.specs.Effect.{action_in, IsEffect};
-ghost use Rattle.i9_processor.specs.State.{state_of, IsDrained};
+ghost use Rattle.i9_processor.specs.State.{state_of, cache_of, size_of, IsDrained};
 ghost use Rattle.i9_machine.specs.Issue.{TellsIssue};
 ghost use Rattle.i9_machine.specs.Issuing.{most_turns};
 
@@ -47,14 +44,13 @@ fn point_by_name(op: Op) -> Option<Point>
     }
 }
 
-/// The entry of a fault or of an interrupt, which needs this, and behind which there is this drained point.
-fn entered(point: Point, need: Need) -> Step
+/// The entry of a fault or of an interrupt, behind which there is this drained point.
+fn entered(point: Point) -> Step
     ensures reaches { result.reaches ≡ false }
     ensures point { result.point ≡ Some point }
     ensures counts { result.counts ≡ 0 }
     ensures due { result.due ≡ Due.Nothing }
     ensures answer { result.answer ≡ Turn.On }
-    ensures need { result.need ≡ need }
 {
     Step {
         reaches: false,
@@ -62,19 +58,16 @@ fn entered(point: Point, need: Need) -> Step
         counts: 0,
         due: Due::Nothing,
         answer: Turn::On,
-        need,
     }
 }
 
-/// An event that is reached, which needs this, behind which there is a drained point or none, and this
-/// is due.
-fn reached(point: Option<Point>, due: Due, need: Need) -> Step
+/// An event that is reached, behind which there is a drained point or none, and this is due.
+fn reached(point: Option<Point>, due: Due) -> Step
     ensures reaches { result.reaches ≡ true }
     ensures point { result.point ≡ point }
     ensures counts { result.counts ≡ 0 }
     ensures due { result.due ≡ due }
     ensures answer { result.answer ≡ Turn.On }
-    ensures need { result.need ≡ need }
 {
     Step {
         reaches: true,
@@ -82,7 +75,6 @@ fn reached(point: Option<Point>, due: Due, need: Need) -> Step
         counts: 0,
         due,
         answer: Turn::On,
-        need,
     }
 }
 
@@ -112,7 +104,7 @@ pub(super) fn standing(plan: &Schedule, count: u64, turn: u64) -> Option<&Event>
 
 impl Machine {
     ghost use Rattle.i9_machine.specs.Issuing.{IsLike};
-    ghost use Rattle.i9_machine.specs.Step.{IsStep, IsStepWhere, IsNext, event_for, next_where};
+    ghost use Rattle.i9_machine.specs.Step.{IsStepWhere, IsPlannedIn, IsNext, event_for, next_where};
 
     /// What is told of an instruction of these words.
     fn issued(&self, words: Words) -> Issued
@@ -144,17 +136,28 @@ impl Machine {
         }
     }
 
+    /// The need of a record is kept, behind the last mark.
+    pub(super) fn keep(&mut self, need: Need)
+        ensures need { self.new.need ≡ waiting_until self.old.floor need }
+        ensures like { IsLike self.old self.new }
+        ensures memo { self.new.memo ≡ self.old.memo }
+        ensures effect { self.new.effect ≡ self.old.effect }
+    {
+        self.need = Need {
+            not_before: self.floor.max(need.not_before),
+            ..need
+        };
+    }
+
     /// An instruction is done, by the effect that was planned, where it comes next.
     pub(super) fn does(&self, words: Words, inst: &Inst) -> Step
-        requires below { (state_of self.now.processor).count < self.now.length }
         requires words { TellsWords (words_of inst.now) (state_of self.now.processor) words }
-        requires valid { IsValid inst.now }
-        requires need { KeepsNeed self.now.memo inst.now }
         requires effect { IsEffect (state_of self.now.processor) (traced_action inst.now (state_of self.now.processor)) self.now.effect }
-        requires row { is_request_name inst.now.op ≡ true → IsInRow self.now.effect }
-        ensures { (stands : Option event.Event) (plan : Plan)
+        requires row { AreRequestsInRow inst.now self.now.effect }
+        ensures { (need : Need) (stands : Option event.Event) (plan : Plan)
             → next_where self.now stands ≡ Does (record_of (Instruction inst.now) (state_of self.now.processor))
-            → IsStepWhere self.now stands plan result self.now.effect }
+            → need ≡ need_of (size_of self.now.processor) (cache_of self.now.processor) (state_of self.now.processor) (Instruction inst.now)
+            → need.cost ≤ most_turns → IsStepWhere self.now stands plan result need self.now.effect }
     {
         Step {
             reaches: false,
@@ -162,22 +165,18 @@ impl Machine {
             counts: 1,
             due: self.due_by(&self.effect),
             answer: Turn::Issued(self.issued(words)),
-            need: need_done(&self.processor, self.memo.need(), inst, &self.effect),
         }
     }
 
-    /// An instruction of so many words, which needs this, faults where it comes next, and the entry of its fault is
-    /// due.
-    pub(super) fn faults(&mut self, words: Words, count: u32, number: (u8, u16), need: Need) -> Step
-        requires below { (state_of self.old.processor).count < self.old.length }
-        requires cost { need.cost ≤ most_turns }
+    /// An instruction of so many words faults where it comes next, and the entry of its fault is due.
+    pub(super) fn faults(&mut self, words: Words, count: u32, number: (u8, u16)) -> Step
         requires words { TellsWords count (state_of self.old.processor) words }
-        ensures step { (inst : Option Inst) (stands : Option event.Event) (plan : Plan) → count ≡ faulted_words inst
+        ensures step { (need : Need) (inst : Option Inst) (stands : Option event.Event) (plan : Plan) → count ≡ faulted_words inst
             → next_where self.old stands ≡ Does (record_of (Faulted inst (fault_at (state_of self.old.processor) number)) (state_of self.old.processor))
-            → ((n : ℕ) (c : Cache) → need ≡ need_of n c (state_of self.old.processor) (Faulted inst (fault_at (state_of self.old.processor) number)))
-            → IsStepWhere self.old stands plan result self.new.effect }
+            → need ≡ need_of (size_of self.old.processor) (cache_of self.old.processor) (state_of self.old.processor) (Faulted inst (fault_at (state_of self.old.processor) number))
+            → need.cost ≤ most_turns → IsStepWhere self.old stands plan result need self.new.effect }
         ensures like { IsLike self.old self.new }
-        ensures kept { self.new.kept ≡ self.old.kept }
+        ensures need { self.new.need ≡ self.old.need }
     {
         let fault = Fault {
             kind: number.0,
@@ -191,7 +190,6 @@ impl Machine {
             counts: 1,
             due: Due::Entry(fault),
             answer: Turn::Issued(self.issued(words)),
-            need,
         }
     }
 
@@ -202,15 +200,16 @@ impl Machine {
         requires chosen { choice_in (state_of self.old.processor) ≡ Ok None }
         requires stands { event_for self.old plan.now ≡ None }
         requires drained { IsDrained self.old.processor }
-        ensures next { IsNext self.old plan.now result self.new.effect }
+        ensures next { IsNext self.old plan.now result self.new }
         ensures like { IsLike self.old self.new }
-        ensures kept { self.new.kept ≡ self.old.kept }
     {
         match plan_next(&self.processor, &mut self.memo, &mut self.effect) {
             Planned::Meets(a) => Err(End::Hazard(a)),
             Planned::Refused { words, number } => {
                 let need = need_refused(&self.processor, number);
-                Ok(self.faults(words, 1, number, need))
+                let step = self.faults(words, 1, number);
+                self.keep(need);
+                Ok(step)
             }
             Planned::Faults {
                 words,
@@ -218,9 +217,17 @@ impl Machine {
                 number,
             } => {
                 let need = need_faulted(&self.processor, self.memo.need(), &inst, number);
-                Ok(self.faults(words, word_count(&inst), number, need))
+                let step = self.faults(words, word_count(&inst), number);
+                self.keep(need);
+                Ok(step)
             }
-            Planned::Runs { words, inst } => Ok(self.does(words, &inst)),
+            Planned::Runs { words, inst } => {
+                let fixed = self.memo.need();
+                let need = need_done(&self.processor, fixed, &inst, &self.effect);
+                let step = self.does(words, &inst);
+                self.keep(need);
+                Ok(step)
+            }
         }
     }
 
@@ -228,15 +235,15 @@ impl Machine {
     fn entry(&mut self, fault: &Fault, plan: &Schedule) -> Result<Step, End>
         requires due { self.old.due ≡ Due.Entry fault.now }
         requires drained { IsDrained self.old.processor }
-        ensures next { IsNext self.old plan.now result self.new.effect }
+        ensures next { IsNext self.old plan.now result self.new }
         ensures like { IsLike self.old self.new }
-        ensures kept { self.new.kept ≡ self.old.kept }
     {
         match plan_entry(&self.processor, fault) {
             Ok(entry) => {
                 self.effect = entry;
                 let need = need_entered(&self.processor, &self.effect);
-                Ok(entered(Point::Fault, need))
+                self.keep(need);
+                Ok(entered(Point::Fault))
             }
             Err(FaultStop::Hazard(a)) => Err(End::Hazard(a)),
             Err(FaultStop::Dead { code, address }) => Err(End::Dead(code, address)),
@@ -249,15 +256,15 @@ impl Machine {
         requires free { self.old.due ≡ Due.Nothing }
         requires chosen { choice_in (state_of self.old.processor) ≡ Ok (Some choice.now) }
         requires drained { IsDrained self.old.processor }
-        ensures next { IsNext self.old plan.now result self.new.effect }
+        ensures next { IsNext self.old plan.now result self.new }
         ensures like { IsLike self.old self.new }
-        ensures kept { self.new.kept ≡ self.old.kept }
     {
         match plan_interrupt(&self.processor, choice) {
             Ok(entry) => {
                 self.effect = entry;
                 let need = need_entered(&self.processor, &self.effect);
-                Ok(entered(Point::Int, need))
+                self.keep(need);
+                Ok(entered(Point::Int))
             }
             Err(a) => Err(End::Hazard(a)),
         }
@@ -271,19 +278,20 @@ impl Machine {
         requires stands { event_for self.old plan.now ≡ Some event.now }
         requires ranges { IsInRange event.now }
         requires drained { IsDrained self.old.processor }
-        ensures step { IsStep self.old plan.now result self.new.effect }
+        ensures step { IsPlannedIn self.old plan.now result self.new }
         ensures like { IsLike self.old self.new }
-        ensures kept { self.new.kept ≡ self.old.kept }
     {
         let need = need_reached(event);
         match plan_event(&self.processor, event) {
             Ok(planned) => {
                 self.effect = planned;
-                reached(Some(Point::Event), Due::Nothing, need)
+                self.keep(need);
+                reached(Some(Point::Event), Due::Nothing)
             }
             Err(a) => {
                 self.effect.go(&self.processor, self.processor.ip());
-                reached(None, Due::End(End::Hazard(a)), need)
+                self.keep(need);
+                reached(None, Due::End(End::Hazard(a)))
             }
         }
     }
@@ -295,9 +303,8 @@ impl Machine {
         requires chosen { choice_in (state_of self.old.processor) ≡ Ok None }
         requires drained { IsDrained self.old.processor }
         requires timely { IsTimely self.old plan.now }
-        ensures next { IsNext self.old plan.now result self.new.effect }
+        ensures next { IsNext self.old plan.now result self.new }
         ensures like { IsLike self.old self.new }
-        ensures kept { self.new.kept ≡ self.old.kept }
     {
         match standing(plan, self.processor.count(), self.turn) {
             Some(event) => Ok(self.reaches(event, plan)),
@@ -312,9 +319,8 @@ impl Machine {
         requires free { self.old.due ≡ Due.Nothing }
         requires drained { IsDrained self.old.processor }
         requires timely { IsTimely self.old plan.now }
-        ensures next { IsNext self.old plan.now result self.new.effect }
+        ensures next { IsNext self.old plan.now result self.new }
         ensures like { IsLike self.old self.new }
-        ensures kept { self.new.kept ≡ self.old.kept }
     {
         match self.processor.choose() {
             Ok(None) => self.event_or_instruction(plan),
@@ -328,9 +334,8 @@ impl Machine {
     pub(super) fn next_step(&mut self, plan: &Schedule) -> Result<Step, End>
         requires drained { IsDrained self.old.processor }
         requires timely { IsTimely self.old plan.now }
-        ensures next { IsNext self.old plan.now result self.new.effect }
+        ensures next { IsNext self.old plan.now result self.new }
         ensures like { IsLike self.old self.new }
-        ensures kept { self.new.kept ≡ self.old.kept }
     {
         match self.due {
             Due::End(e) => Err(e),

@@ -3,10 +3,10 @@ use Rattle.i9_model.specs.declared.need.Need.{Need}
 use Rattle.i9_model.specs.Turns.{StandsFor, IsAllDone, with_need, placed_record}
 use Rattle.std.specs.Option.{option_copied}
 use Rattle.i9_model.specs.PrintedText.{Shown, out_lines, point_lines}
-use Rattle.i9_model.proofs.AlikeSteps.{view_alike}
+use Rattle.i9_machine.proofs.Performing.{points_alike}
 use Rattle.i9_processor.specs.State.{state_of}
 use Rattle.i9_machine.specs.Doing.{reached_lines, state_behind, action_for}
-use Rattle.i9_machine.specs.Issuing.{Acts}
+use Rattle.i9_machine.specs.Issuing.{most_turns, Acts}
 use Rattle.i9_raw.specs.Raw.{shades_need}
 use Rattle.i9_machine.specs.Line.{shown_of}
 use Rattle.i9_machine.proofs.machine.Machine.act.Goals as goal
@@ -19,7 +19,8 @@ returns-clause-lines c =
     let points = point_lines (c.args.step.now.point) after in
     let bytes = out_lines c.console_byte.result in
     let old = map shown_of c.args.out.now.items in
-    c.put_point.ensures after (c.view.ensures ∙ view_alike after (state_of c.apply.new.self) c.apply.ensures.state)
+    c.put_point.ensures
+    ∙ ap (λ (ls : List Shown). map shown_of c.put_out.new.out.items ++ ls) (points_alike c.args.step.now.point after (state_of c.apply.new.self) c.apply.ensures.state)
     ∙ ap (λ (ls : List Shown). ls ++ points) c.put_out.ensures.lines
     ∙ ap (λ (ls : List Shown). (ls ++ bytes) ++ points) c.put_event.ensures.lines
     ∙ append_assoc (old ++ event) bytes points
@@ -27,10 +28,9 @@ returns-clause-lines c =
     ∙ ap (λ (b : Option ℕ). old ++ (event ++ (out_lines b ++ points))) c.console_byte.ensures
 
 pub returns-clause-issued : goal.returns-clause-issued
-returns-clause-issued c =
+returns-clause-issued c = λ need marked.
     let m = c.args.self.now in
-    let marked = c.marked-need.ensures in
-    let place = c.place-placed in
+    let place = c.place_at-placed in
     let acts = c.apply.ensures in
     record {
       placed = place.result;
@@ -39,7 +39,7 @@ returns-clause-issued c =
       bound = λ b done waited.
           subst (λ (n : ℕ). IsAllDone place.new.self (b + n)) (ap (λ (n : Need). n.cost) marked)
           (place.ensures.bound b done (subst (λ (n : Need). n.not_before ≤ b) (sym marked) waited));
-      cost = c.requires.turns;
+      cost = subst (λ (n : Need). n.cost ≤ most_turns) marked c.requires.turns;
       turn = refl;
       floor = refl;
       wait = refl;
@@ -52,3 +52,8 @@ returns-clause-issued c =
       acts = subst (λ (n : Need). Acts m.processor (record { writes = n.writes; done = place.result.done; request = n.request }) (action_for m c.args.self.now.effect) c.apply.new.self) marked
           (record { cells = acts.cells; waits = acts.waits; acts = acts.acts; still = acts.still });
     }
+
+pub apply-requires-clause-acts : goal.apply-requires-clause-acts
+apply-requires-clause-acts c =
+    let place = c.place_at-placed in
+    c.requires.acts place.result place.new.self place.ensures.of_all

@@ -6,11 +6,10 @@ use Rattle.i9_machine.proofs.Opening.{request_named}
 use Rattle.i9_machine.proofs.machine.Machine.does.Goals as goal
 
 pub returns : goal.returns
-returns c = λ stands plan is_next.
+returns c = λ need stands plan is_next is_need cost.
     let m = c.args.self.now in
     let r = c.requires in
     let inst = c.args.inst.now in
-    let need = c.need_done.ensures.need in
     record {
       kind = Instruction inst;
       is_next = is_next;
@@ -21,7 +20,7 @@ returns c = λ stands plan is_next.
       reaches = refl;
       event = refl;
       tells = c.issued.ensures _ r.words;
-      need = need;
-      cost = c.need_done.ensures.cost;
-      row = λ request. r.row (request_named inst (size_of m.processor) (cache_of m.processor) (state_of m.processor) (sym (ap (λ (n : Need). n.request) need) ∙ request));
+      is_need = is_need;
+      cost = cost;
+      row = λ request. r.row (request_named inst (size_of m.processor) (cache_of m.processor) (state_of m.processor) (sym (ap (λ (n : Need). n.request) is_need) ∙ request));
     }

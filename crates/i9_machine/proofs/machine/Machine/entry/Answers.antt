@@ -1,10 +1,11 @@
-use Rattle.std.proofs.Common.{◌≤◌, sym, ap, ◌∙◌, subst}
-use Rattle.i9_model.specs.declared.need.Need.{Need}
+use Rattle.std.proofs.Common.{ℕ, sym, ap, ◌∙◌, subst}
 use Rattle.i9_model.specs.declared.run.Due.{Due}
 use Rattle.i9_model.specs.Run.{Entered, next_in, next_by_entry}
+use Rattle.i9_model.specs.Step.{entering}
+use Rattle.i9_model.specs.Turns.{waiting_until}
+use Rattle.i9_processor.specs.Effect.{IsEffect}
 use Rattle.i9_processor.specs.State.{state_of}
 use Rattle.i9_machine.specs.Step.{event_for}
-use Rattle.i9_machine.specs.Issuing.{most_turns}
 use Rattle.i9_machine.proofs.Opening.{no_request_in}
 use Rattle.i9_machine.proofs.Stepping.{no_event, tells_on}
 use Rattle.i9_machine.proofs.machine.Machine.entry.Goals as goal
@@ -15,17 +16,22 @@ returns-in-Ok-clause-next c =
     let s = state_of m.processor in
     let plan = c.in-Ok.ensures in
     let step = c.entered.ensures in
+    let need = c.need_entered-need.ensures in
     record {
-      kind = Entered plan.0;
-      is_next = ap (λ (d : Due). next_in m.length d (event_for m c.args.plan.now) s) c.requires.due ∙ ap (next_by_entry s) plan.1;
-      effect = plan.2;
-      point = step.point;
-      counts = step.counts;
-      due = step.due;
-      reaches = step.reaches;
-      event = no_event c.args.plan.now c.entered.result step.reaches;
-      tells = tells_on (Entered plan.0) s c.entered.result.answer step.answer tt;
-      need = step.need ∙ c.need_entered-need.ensures.fault plan.0 plan.2;
-      cost = subst (λ (n : Need). n.cost ≤ most_turns) (sym step.need) c.need_entered-need.ensures.cost;
-      row = no_request_in (Entered plan.0) m c.entered.result.need (step.need ∙ c.need_entered-need.ensures.fault plan.0 plan.2) tt;
+      need = c.need_entered-need.result;
+      marked = c.keep.ensures.need ∙ ap (λ (f : ℕ). waiting_until f c.need_entered-need.result) (sym c.keep.ensures.like.floor);
+      is = record {
+        kind = Entered plan.0;
+        is_next = ap (λ (d : Due). next_in m.length d (event_for m c.args.plan.now) s) c.requires.due ∙ ap (next_by_entry s) plan.1;
+        effect = subst (IsEffect s (entering plan.0 s)) (sym c.keep.ensures.effect) plan.2;
+        point = step.point;
+        counts = step.counts;
+        due = step.due;
+        reaches = step.reaches;
+        event = no_event c.args.plan.now c.entered.result step.reaches;
+        tells = tells_on (Entered plan.0) s c.entered.result.answer step.answer tt;
+        is_need = need.fault plan.0 plan.2;
+        cost = need.cost;
+        row = no_request_in (Entered plan.0) m c.need_entered-need.result (need.fault plan.0 plan.2) tt;
+      };
     }

@@ -34,5 +34,4 @@ returns-clause-stands c = λ plan is_plan.
       sets = refl;
       ended = refl;
       over = tt;
-      kept = tt;
     }

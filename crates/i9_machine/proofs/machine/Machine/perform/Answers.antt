@@ -10,10 +10,10 @@ use Rattle.i9_model.specs.State.{State}
 use Rattle.i9_model.specs.Step.{Action, moved}
 use Rattle.i9_model.specs.declared.need.Need.{Need}
 use Rattle.i9_model.specs.Run.{record_of, action_by_kind}
-use Rattle.i9_model.specs.Turns.{Pending, HasCost, waiting_until}
+use Rattle.i9_model.specs.Turns.{Pending, HasCost, IssuesAt, waiting_until}
+use Rattle.i9_regs.specs.Covered.{IsCovered}
 use Rattle.i9_issue.specs.Room.{IsEarly}
 use Rattle.i9_course.specs.Course.{records_of}
-use Rattle.i9_course.proofs.Timed.{need_cost}
 use Rattle.i9_model.specs.Alike.{AreAlike}
 use Rattle.i9_model.specs.Free.{IsFree}
 use Rattle.i9_model.proofs.HeldRuns.{next_free, cached-after}
@@ -23,9 +23,9 @@ use Rattle.i9_processor.specs.State.{state_of, cache_of, size_of}
 use Rattle.i9_processor.proofs.NewSets.{made_size, made_takes}
 use Rattle.i9_machine.specs.declared.line.Turn.{Turn}
 use Rattle.i9_machine.specs.StandsFor.{LeavesFewer, left_after}
-use Rattle.i9_machine.specs.Issuing.{IsIssued}
-use Rattle.i9_machine.proofs.Issuing.{waits_for_none}
-use Rattle.i9_machine.proofs.Turning.{paced_early}
+use Rattle.i9_machine.specs.Issuing.{most_turns, IsIssued}
+use Rattle.i9_machine.proofs.Arriving.{kept_planned}
+use Rattle.i9_machine.proofs.Turning.{waiting_cost, paced_early}
 use Rattle.i9_machine.proofs.Performing.{step_covers, step_acts, step_issues, unmoved_issued}
 use Rattle.i9_machine.specs.Doing.{event_in, lines_of, asks_room, HasRoomForStep, IsReady, state_behind_of}
 use Rattle.i9_machine.specs.Step.{TellsRecord, IsStep, Did, Steps, Issues, event_for, steps_left}
@@ -34,7 +34,7 @@ use Rattle.i9_machine.proofs.machine.Machine.perform.Goals as goal
 
 pub go_on-requires : goal.go_on-requires
 go_on-requires c = λ reaches.
-    let step = c.requires.step in
+    let step = c.requires.step.is in
     step_within c.args.self.now c.args.plan.now step.kind step.is_next (sym step.reaches ∙ reaches)
 
 pub act-answer-requires-clause-ready : goal.act-answer-requires-clause-ready
@@ -42,7 +42,8 @@ act-answer-requires-clause-ready c =
     let old = c.args.self.now in
     let plan = c.args.plan.now in
     let s = state_of old.processor in
-    let step = subst (IsStep c.args.self.now c.args.plan.now c.args.step.now) (sym c.make_room.ensures.effect) c.requires.step in
+    let kept = c.requires.step in
+    let step = subst (IsStep c.args.self.now c.args.plan.now c.args.step.now kept.need) (sym c.make_room.ensures.effect) kept.is in
     let free = next_free old.length old.due (event_for old plan) s (record_of step.kind s) step.is_next in
     let ready : IsReady s old.length c.make_room.new.self.effect c.args.step.now = record {
       registers = step.effect.registers;
@@ -60,7 +61,8 @@ pub act-answer-requires-clause-made : goal.act-answer-requires-clause-made
 act-answer-requires-clause-made c =
     let old = c.args.self.now in
     let s = state_of old.processor in
-    let step = subst (IsStep c.args.self.now c.args.plan.now c.args.step.now) (sym c.make_room.ensures.effect) c.requires.step in
+    let kept = c.requires.step in
+    let step = subst (IsStep c.args.self.now c.args.plan.now c.args.step.now kept.need) (sym c.make_room.ensures.effect) kept.is in
     let free = next_free old.length old.due (event_for old c.args.plan.now) s (record_of step.kind s) step.is_next in
     let planned : IsFree s (action_in s c.make_room.new.self.effect) = subst (IsFree s) (sym step.effect.same) free.1 in
     subst (λ (t : State). CanTake (move_in t c.make_room.new.self.effect.frames) c.in-Ok.sets) (sym c.make_room.ensures.same.state)
@@ -68,7 +70,10 @@ act-answer-requires-clause-made c =
 
 pub returns-in-Ok-clause-fewer : goal.returns-in-Ok-clause-fewer
 returns-in-Ok-clause-fewer c =
-    let step = subst (IsStep c.args.self.now c.args.plan.now c.args.step.now) (sym c.make_room.ensures.effect) c.requires.step in
+    let kept = c.requires.step in
+    let step = subst (IsStep c.args.self.now c.args.plan.now c.args.step.now kept.need) (sym c.make_room.ensures.effect) kept.is in
+    let issued = c.act-answer.ensures.issued kept.need
+    (c.make_room.ensures.need ∙ kept.marked ∙ ap (λ (f : ℕ). waiting_until f kept.need) (sym c.make_room.ensures.same.unmoved.floor)) in
     let old = c.args.self.now in
     let mid = c.make_room.new.self in
     let new = c.act-answer.new.self in
@@ -77,15 +82,16 @@ returns-in-Ok-clause-fewer c =
     let s = state_of old.processor in
     let bound : new.length ≡ old.length = c.act-answer.ensures.length ∙ c.make_room.ensures.same.length in
     let alike = subst (λ (t : State). AreAlike (state_behind_of t c.make_room.new.self.effect c.args.step.now) (state_of new.processor)) c.make_room.ensures.same.state c.act-answer.ensures.state in
-    let after = behind_alike old was c.args.step.now c.make_room.new.self.effect (state_of new.processor) step alike in
-    let left = did_fewer old new was plan (record_of step.kind s) old.below step.is_next after (c.act-answer.ensures.due ∙ step.due) bound (c.go_on.ensures ∙ plan_is_behind old was c.args.step.now c.make_room.new.self.effect step) in
+    let after = behind_alike old was c.args.step.now kept.need c.make_room.new.self.effect (state_of new.processor) step alike in
+    let left = did_fewer old new was plan (record_of step.kind s) old.below step.is_next after (c.act-answer.ensures.due ∙ step.due) bound (c.go_on.ensures ∙ plan_is_behind old was c.args.step.now kept.need c.make_room.new.self.effect step) in
     subst (λ (t : Turn). LeavesFewer t (steps_left old was) (steps_left new plan)) (sym c.act-answer.ensures.answer)
     (fewer_by c.args.step.now.answer s step.kind (steps_left old was) (steps_left new plan) step.tells
-    (record_fewer old new was plan left (c.act-answer.ensures.issued.turn ∙ c.make_room.ensures.same.unmoved.turn)))
+    (record_fewer old new was plan left (issued.turn ∙ c.make_room.ensures.same.unmoved.turn)))
 
 pub returns-in-Ok-clause-lacking : goal.returns-in-Ok-clause-lacking
 returns-in-Ok-clause-lacking c = λ is room.
-    let step = subst (IsStep c.args.self.now c.args.plan.now c.args.step.now) (sym c.make_room.ensures.effect) c.requires.step in
+    let kept = c.requires.step in
+    let step = subst (IsStep c.args.self.now c.args.plan.now c.args.step.now kept.need) (sym c.make_room.ensures.effect) kept.is in
     let s = state_of c.args.self.now.processor in
     absurd (no_memory step.kind s (subst (TellsRecord step.kind s) (sym c.act-answer.ensures.answer ∙ is) step.tells))
 
@@ -95,24 +101,32 @@ returns-in-Err-clause-lacking c = λ is room.
     let event = event_in c.args.plan.now c.args.step.now in
     let spare = vec_capacity out - vec_len out in
     c.in-Err.ensures.lacking (subst (HasRoomForStep c.args.self.now spare c.args.self.now.effect c.args.step.now) (sym c.event-event.ensures.event)
-    (step_room c.args.self.now c.args.plan.now spare c.args.step.now c.args.self.now.effect c.requires.step room))
+    (step_room c.args.self.now c.args.plan.now spare c.args.step.now c.requires.step.need c.args.self.now.effect c.requires.step.is room))
 
 pub act-answer-requires-clause-cost : goal.act-answer-requires-clause-cost
 act-answer-requires-clause-cost c =
-    let step = subst (IsStep c.args.self.now c.args.plan.now c.args.step.now) (sym c.make_room.ensures.effect) c.requires.step in
     let m = c.args.self.now in
-    subst HasCost (sym step.need) (need_cost (size_of m.processor) (cache_of m.processor) (state_of m.processor) step.kind)
+    let kept = kept_planned m m c.args.plan.now c.args.step.now c.requires.step in
+    subst HasCost (sym (c.make_room.ensures.need ∙ kept.marked)) (waiting_cost m.floor kept.need kept.some)
+
+pub act-answer-requires-clause-turns : goal.act-answer-requires-clause-turns
+act-answer-requires-clause-turns c =
+    let kept = c.requires.step in
+    subst (λ (n : Need). n.cost ≤ most_turns) (sym (c.make_room.ensures.need ∙ kept.marked)) kept.is.cost
 
 pub act-answer-requires-clause-early : goal.act-answer-requires-clause-early
 act-answer-requires-clause-early c =
     let m = c.args.self.now in
     let u = c.requires.come in
-    let step = subst (IsStep c.args.self.now c.args.plan.now c.args.step.now) (sym c.make_room.ensures.effect) c.requires.step in
-    let same = c.make_room.ensures.same.unmoved in
-    let none = ap (λ (n : Need). n.not_before) step.need ∙ waits_for_none (size_of m.processor) (cache_of m.processor) (state_of m.processor) step.kind in
-    let early = paced_early m (left_after u.given (records_of u.items)) c.args.step.now.need u.stands.paced none step.cost in
-    subst (λ (b : Pending). IsEarly b (waiting_until c.make_room.new.self.floor c.args.step.now.need)) (sym same.board)
-    (subst (λ (f : ℕ). IsEarly m.board (waiting_until f c.args.step.now.need)) (sym same.floor) early)
+    let kept = kept_planned m m c.args.plan.now c.args.step.now c.requires.step in
+    subst (λ (b : Pending). IsEarly b c.make_room.new.self.need) (sym c.make_room.ensures.same.unmoved.board)
+    (subst (IsEarly m.board) (sym (c.make_room.ensures.need ∙ kept.marked))
+    (paced_early m (left_after u.given (records_of u.items)) kept.need u.stands.paced kept.none kept.cost))
+
+pub act-answer-requires-clause-issue : goal.act-answer-requires-clause-issue
+act-answer-requires-clause-issue c =
+    subst (λ (b : Pending). IssuesAt b.last b.records c.make_room.new.self.need c.args.issue) (sym c.make_room.ensures.same.unmoved.board)
+    (subst (λ (n : Need). IssuesAt c.args.self.now.board.last c.args.self.now.board.records n c.args.issue) (sym c.make_room.ensures.need) c.requires.issue)
 
 pub act-answer-requires-clause-whole : goal.act-answer-requires-clause-whole
 act-answer-requires-clause-whole c =
@@ -122,14 +136,19 @@ act-answer-requires-clause-whole c =
 
 pub act-answer-requires-clause-covered : goal.act-answer-requires-clause-covered
 act-answer-requires-clause-covered c =
-    let step = subst (IsStep c.args.self.now c.args.plan.now c.args.step.now) (sym c.make_room.ensures.effect) c.requires.step in
-    step_covers c.args.self.now c.make_room.new.self c.args.plan.now c.args.step.now c.make_room.new.self.effect step c.make_room.ensures.same.state
+    let kept = c.requires.step in
+    let step = subst (IsStep c.args.self.now c.args.plan.now c.args.step.now kept.need) (sym c.make_room.ensures.effect) kept.is in
+    subst (λ (n : Need). IsCovered n.writes (state_of c.make_room.new.self.processor) (action_in (state_of c.make_room.new.self.processor) c.make_room.new.self.effect))
+    (sym (c.make_room.ensures.need ∙ kept.marked))
+    (step_covers c.args.self.now c.make_room.new.self c.args.plan.now c.args.step.now kept.need c.make_room.new.self.effect step c.make_room.ensures.same.state)
 
 pub act-answer-requires-clause-acts : goal.act-answer-requires-clause-acts
 act-answer-requires-clause-acts c =
-    let step = subst (IsStep c.args.self.now c.args.plan.now c.args.step.now) (sym c.make_room.ensures.effect) c.requires.step in
+    let kept = c.requires.step in
+    let step = subst (IsStep c.args.self.now c.args.plan.now c.args.step.now kept.need) (sym c.make_room.ensures.effect) kept.is in
     let same = c.make_room.ensures.same in
-    step_acts c.args.self.now c.make_room.new.self c.args.plan.now c.args.step.now c.make_room.new.self.effect c.requires.come step
+    step_acts c.args.self.now c.make_room.new.self c.args.plan.now c.args.step.now kept.need c.make_room.new.self.effect
+    (c.make_room.ensures.need ∙ kept.marked ∙ ap (λ (f : ℕ). waiting_until f kept.need) (sym same.unmoved.floor)) c.requires.come step
     same.state same.unmoved.queue same.unmoved.board same.unmoved.floor
 
 pub returns-in-Ok-clause-issues : goal.returns-in-Ok-clause-issues
@@ -137,19 +156,21 @@ returns-in-Ok-clause-issues c =
     let old = c.args.self.now in
     let mid = c.make_room.new.self in
     let new = c.act-answer.new.self in
-    let step = subst (IsStep c.args.self.now c.args.plan.now c.args.step.now) (sym c.make_room.ensures.effect) c.requires.step in
+    let kept = c.requires.step in
+    let step = subst (IsStep c.args.self.now c.args.plan.now c.args.step.now kept.need) (sym c.make_room.ensures.effect) kept.is in
     let s = state_of old.processor in
     let same = c.make_room.ensures.same in
     let action : action_in (state_of mid.processor) c.make_room.new.self.effect ≡ action_by_kind step.kind s =
     ap (λ (t : State). action_in t c.make_room.new.self.effect) same.state ∙ step.effect.same in
-    let issued = subst (λ (a : Action). IsIssued mid c.args.step.now.need a new) action c.act-answer.ensures.issued in
+    let issued = subst (λ (a : Action). IsIssued mid kept.need a new) action
+    (c.act-answer.ensures.issued kept.need (c.make_room.ensures.need ∙ kept.marked ∙ ap (λ (f : ℕ). waiting_until f kept.need) (sym same.unmoved.floor))) in
     subst (λ (t : Turn). Issues old t new c.args.plan.now) (sym c.act-answer.ensures.answer)
     (step_issues c.args.step.now.answer step.kind s old new c.args.plan.now step.tells (record {
       kind = step.kind;
       is_next = step.is_next;
-      need = c.args.step.now.need;
-      is_need = step.need;
-      issued = unmoved_issued old mid new c.args.step.now.need (action_by_kind step.kind s) same.unmoved same.size same.cache issued;
+      need = kept.need;
+      is_need = step.is_need;
+      issued = unmoved_issued old mid new kept.need (action_by_kind step.kind s) same.unmoved same.size same.cache issued;
     }))
 
 pub returns-in-Ok-clause-steps : goal.returns-in-Ok-clause-steps
@@ -158,7 +179,8 @@ returns-in-Ok-clause-steps c =
     let mid = c.make_room.new.self in
     let new = c.act-answer.new.self in
     let was = c.args.plan.now in
-    let step = subst (IsStep c.args.self.now c.args.plan.now c.args.step.now) (sym c.make_room.ensures.effect) c.requires.step in
+    let kept = c.requires.step in
+    let step = subst (IsStep c.args.self.now c.args.plan.now c.args.step.now kept.need) (sym c.make_room.ensures.effect) kept.is in
     let s = state_of old.processor in
     let e = c.make_room.new.self.effect in
     let same = c.make_room.ensures.same in
@@ -169,7 +191,7 @@ returns-in-Ok-clause-steps c =
     let done : Did old c.args.step.now.answer new was c.go_on.new.plan c.args.out.now.items c.act-answer.new.out.items = record {
       done = record_of step.kind s;
       is_next = step.is_next;
-      state = behind_alike old was c.args.step.now e (state_of new.processor) step alike;
+      state = behind_alike old was c.args.step.now kept.need e (state_of new.processor) step alike;
       cache =
           act.cache
           ∙ ap (λ (n : ℕ). cache_configured regions (cache_acted n (action_in (state_of mid.processor) e) (cache_of mid.processor))) same.size
@@ -184,8 +206,7 @@ returns-in-Ok-clause-steps c =
       length = act.length ∙ same.length;
       sets = act.sets ∙ same.sets;
       ended = act.ended ∙ c.make_room.ensures.ended ∙ c.requires.running;
-      none = act.kept ∙ c.make_room.ensures.kept ∙ c.requires.none;
-      behind = c.go_on.ensures ∙ plan_is_behind old was c.args.step.now e step;
+      behind = c.go_on.ensures ∙ plan_is_behind old was c.args.step.now kept.need e step;
       lines =
           act.lines
           ∙ ap (λ (ls : List Line). map shown_of ls ++ lines_of e c.args.step.now (option_copied c.event-event.result) (state_of mid.processor)
@@ -193,7 +214,7 @@ returns-in-Ok-clause-steps c =
           ∙ ap (λ (t : State). map shown_of c.args.out.now.items ++ lines_of e c.args.step.now (option_copied c.event-event.result) t (state_behind_of t e c.args.step.now))
           same.state
           ∙ ap (λ (o : Option Event). map shown_of c.args.out.now.items ++ lines_of e c.args.step.now o s (state_behind_of s e c.args.step.now)) c.event-event.ensures.event
-          ∙ ap (λ (ls : List Shown). map shown_of c.args.out.now.items ++ ls) (step_lines old was c.args.step.now e step);
+          ∙ ap (λ (ls : List Shown). map shown_of c.args.out.now.items ++ ls) (step_lines old was c.args.step.now kept.need e step);
       tells = step.tells;
     } in
     subst (λ (t : Turn). Steps old t new was c.go_on.new.plan c.args.out.now.items c.act-answer.new.out.items) (sym act.answer)
@@ -205,9 +226,8 @@ returns-in-Err-clause-steps c =
     record {
       same = c.make_room.ensures.same;
       ended = c.make_room.ensures.ended ∙ c.requires.running;
-      none = c.make_room.ensures.kept ∙ c.requires.none;
       kept = refl;
       lines = c.make_room.ensures.items;
-      needed = step_needs old c.args.plan.now c.args.step.now c.args.self.now.effect c.requires.step
+      needed = step_needs old c.args.plan.now c.args.step.now c.requires.step.need c.args.self.now.effect c.requires.step.is
           (ap (asks_room (state_of old.processor) c.args.self.now.effect c.args.step.now) (sym c.event-event.ensures.event) ∙ c.in-Err.ensures.needed);
     }

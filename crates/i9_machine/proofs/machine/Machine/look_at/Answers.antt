@@ -1,0 +1,44 @@
+use Rattle.std.specs.Option.{option_copied}
+use Rattle.std.proofs.Common.{sym, ap, ◌∙◌}
+use Rattle.i9_model.specs.Turns.{last_issue, issue_turn}
+use Rattle.i9_processor.specs.State.{state_of}
+use Rattle.i9_machine.specs.Step.{event_for, next_where}
+use Rattle.i9_machine.proofs.Arriving.{kept_need, open_event, waits_arrive, instruction_arrives, instruction_calm}
+use Rattle.i9_machine.proofs.Opening.{event_waits}
+use Rattle.i9_machine.proofs.Stepping.{goes_by_event, copied_some, copied_none}
+use Rattle.i9_machine.proofs.machine.Machine.look_at.Goals as goal
+
+pub issue_turn-turn-requires-clause-need : goal.issue_turn-turn-requires-clause-need
+issue_turn-turn-requires-clause-need c = let next = c.requires.next in kept_need c.args.self.now c.args.self.now next.kind next.need
+
+pub returns-then-is_some-clause-arrives : goal.returns-then-is_some-clause-arrives
+returns-then-is_some-clause-arrives c =
+    let m = c.args.self.now in
+    let plan = c.args.plan.now in
+    let next = c.requires.next in
+    let one = copied_some c.standing.result (sym c.is_some.ensures ∙ c.if-is_some.true) in
+    let event = open_event m plan next.kind c.issue_turn-turn.result c.count.result (option_copied c.standing.result) c.requires.stands next.free next.is_next next.need
+    c.issue_turn-turn.ensures.computed c.count.ensures c.standing.ensures.event ∙ one.1 in
+    waits_arrive m plan c.args.until c.requires.until c.requires.open c.requires.precise (event_waits m plan one.0 (goes_by_event m (event_for m plan) next.free) event)
+
+pub returns-else-is_some-clause-arrives : goal.returns-else-is_some-clause-arrives
+returns-else-is_some-clause-arrives c =
+    let m = c.args.self.now in
+    let plan = c.args.plan.now in
+    let next = c.requires.next in
+    let none = open_event m plan next.kind c.issue_turn-turn.result c.count.result (option_copied c.standing.result) c.requires.stands next.free next.is_next next.need
+    c.issue_turn-turn.ensures.computed c.count.ensures c.standing.ensures.event
+    ∙ copied_none c.standing.result (sym c.is_some.ensures ∙ c.if-is_some.false) in
+    instruction_arrives m plan next.kind next.need.need c.issue_turn-turn.result c.args.coming c.requires.precise
+    (instruction_calm (state_of m.processor) next.kind c.args.coming next.same) (ap (next_where m) none ∙ next.is_next) next.need.is_need
+    (λ rs stands. c.issue_turn-turn.ensures.computed rs stands ∙ ap (issue_turn (last_issue rs) rs) next.need.marked)
+
+pub returns-else-is_some-clause-ready : goal.returns-else-is_some-clause-ready
+returns-else-is_some-clause-ready c =
+    let m = c.args.self.now in
+    let plan = c.args.plan.now in
+    let next = c.requires.next in
+    let none = open_event m plan next.kind c.issue_turn-turn.result c.count.result (option_copied c.standing.result) c.requires.stands next.free next.is_next next.need
+    c.issue_turn-turn.ensures.computed c.count.ensures c.standing.ensures.event
+    ∙ copied_none c.standing.result (sym c.is_some.ensures ∙ c.if-is_some.false) in
+    c.requires.ready c.issue_turn-turn.result none c.issue_turn-turn.ensures.least

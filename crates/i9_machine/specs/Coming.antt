@@ -1,0 +1,125 @@
+-- What comes next of a machine, and the turn at which it does.
+use Rattle.std.specs.Prelude.{◌≡◌, ℕ, ◌<◌, ◌≤◌, max, List, Option, Some, None}
+use Rattle.i9_isa.specs.declared.inst.Inst.{Inst}
+use Rattle.i9_isa.specs.Valid.{IsValid}
+use Rattle.i9_isa.specs.Words.{words_of}
+use Rattle.i9_model.specs.declared.need.Need.{Need}
+use Rattle.i9_model.specs.declared.run.End.{End}
+use Rattle.i9_model.specs.declared.run.End.TheVariants.{Imprecise}
+use Rattle.i9_model.specs.PrintedText.{end_lines}
+use Rattle.i9_model.specs.State.{State}
+use Rattle.i9_model.specs.Run.{Given, Kind, Instruction, Faulted, Does, fault_at, record_of}
+use Rattle.i9_model.specs.Traced.{traced_action}
+use Rattle.i9_model.specs.Turns.{IssuesAt, waiting_until}
+use Rattle.i9_schedule.specs.Plan.{Plan}
+use Rattle.i9_course.specs.NeedOf.{need_of}
+use Rattle.i9_course.specs.Course.{Item, ahead}
+use Rattle.i9_plan.specs.declared.fetched.Words.{Words}
+use Rattle.i9_plan.specs.Planned.{TellsWords, AreRequestsInRow}
+use Rattle.i9_processor.specs.Effect.{IsEffect}
+use Rattle.i9_processor.specs.State.{state_of, cache_of, size_of}
+use Rattle.i9_machine.specs.declared.line.Line.{Line}
+use Rattle.i9_machine.specs.declared.line.Turn.{Turn}
+use Rattle.i9_machine.specs.declared.line.Turn.TheVariants as turns
+use Rattle.i9_machine.specs.declared.machine.Machine.{Machine}
+use Rattle.i9_machine.specs.declared.step.Coming.{Coming}
+use Rattle.i9_machine.specs.declared.step.Coming.TheVariants.{Waiting, Overtaking, Running, Faulting}
+use Rattle.i9_machine.specs.Issuing.{most_turns, IsEndTurn}
+use Rattle.i9_machine.specs.Line.{AddsLines}
+use Rattle.i9_machine.specs.Opening.{IsFreeToIssue, HasNeed}
+use Rattle.i9_machine.specs.Overtaking.{late_due}
+use Rattle.i9_machine.specs.Step.{event_for, next_where, IsSame, Refused, Steps, Issues}
+use Rattle.i9_machine.specs.StandsFor.{StandsFor, Follows}
+
+-- ---- when it comes
+
+-- the fault that is imprecise where this comes next
+abbrev pub overtaken_by : Coming → Option ℕ
+overtaken_by Waiting = None
+overtaken_by (Overtaking a) = Some a
+overtaken_by (Running words inst) = None
+overtaken_by (Faulting words inst number) = None
+
+-- what comes next in a run comes at this turn, or at the machine's where that is above it
+pub record ArrivesAt (g : Given) (h : List Item) (m : Machine) (t : ℕ) (coming : Coming) : Type 0 where
+  pub turn : (ahead g h).turn ≡ max m.turn t
+  pub imprecise : (ahead g h).imprecise ≡ overtaken_by coming
+
+-- whatever the machine stands for
+abbrev pub Arrives : Machine → Plan → ℕ → Coming → Type 0
+Arrives m plan t coming = (g : Given) (h : List Item) → StandsFor g h None m → Follows g h plan → ArrivesAt g h m t coming
+
+-- a machine stands for the first items of some run, a schedule follows them, and the turn of what comes next has come
+pub record HasArrived (m : Machine) (plan : Plan) (coming : Coming) : Type 0 where
+  pub given : Given
+  pub items : List Item
+  pub stands : StandsFor given items None m
+  pub follows : Follows given items plan
+  pub imprecise : (ahead given items).imprecise ≡ overtaken_by coming
+  pub now : (ahead given items).turn ≤ m.turn
+
+-- ---- what a machine has of it
+
+-- An instruction is what comes next, as a record of this kind, and no event stands before it. The machine has its need,
+-- behind the last mark, by which it issues at this turn.
+pub record IsAhead (m : Machine) (plan : Plan) (t : ℕ) (words : Words) (inst : Inst) (kind : Kind) : Type 0 where
+  pub free : IsFreeToIssue m
+  pub none : event_for m plan ≡ None
+  pub is_next : next_where m None ≡ Does (record_of kind (state_of m.processor))
+  pub told : TellsWords (words_of inst) (state_of m.processor) words
+  pub valid : IsValid inst
+  pub need : Need
+  pub marked : m.need ≡ waiting_until m.floor need
+  pub is_need : need ≡ need_of (size_of m.processor) (cache_of m.processor) (state_of m.processor) kind
+  pub cost : need.cost ≤ most_turns
+  pub issues : IssuesAt m.board.last m.board.records m.need t
+
+-- an instruction runs, and the machine has its effect
+pub record RunsAhead (m : Machine) (plan : Plan) (t : ℕ) (words : Words) (inst : Inst) : Type 0 where
+  pub ahead : IsAhead m plan t words inst (Instruction inst)
+  pub effect : IsEffect (state_of m.processor) (traced_action inst (state_of m.processor)) m.effect
+  pub row : AreRequestsInRow inst m.effect
+
+-- what is known where this comes next at a turn
+abbrev pub IsReadyFor : Machine → Plan → ℕ → Coming → Type 0
+IsReadyFor m plan t Waiting = IsEndTurn m t
+IsReadyFor m plan t (Overtaking a) = late_due m ≡ Some a
+IsReadyFor m plan t (Running words inst) = RunsAhead m plan t words inst
+IsReadyFor m plan t (Faulting words inst number) =
+    IsAhead m plan t words inst (Faulted (Some inst) (fault_at (state_of m.processor) number))
+
+-- the kind of record that an instruction makes which comes next
+abbrev pub kind_of : State → Coming → Option Kind
+kind_of s Waiting = None
+kind_of s (Overtaking a) = None
+kind_of s (Running words inst) = Some (Instruction inst)
+kind_of s (Faulting words inst number) = Some (Faulted (Some inst) (fault_at s number))
+
+-- the instruction of what comes next comes where no event stands, and the machine has its need
+pub record IsNextInstruction (m : Machine) (coming : Coming) : Type 0 where
+  pub kind : Kind
+  pub same : kind_of (state_of m.processor) coming ≡ Some kind
+  pub free : IsFreeToIssue m
+  pub is_next : next_where m None ≡ Does (record_of kind (state_of m.processor))
+  pub need : HasNeed m kind m
+
+-- ---- what it has done
+
+-- the last record is an arithmetic fault at this address that an instruction overtook, which ended the run
+pub record Overtaken (a : ℕ) (before : Machine) (e : End) (m : Machine) (was plan : Plan) (old new : List Line) : Type 0 where
+  pub is_end : e ≡ Imprecise a
+  pub same : IsSame before m
+  pub ended : m.ended ≡ Some e
+  pub kept : plan ≡ was
+  pub lines : AddsLines old new (end_lines (state_of before.processor) e)
+
+-- or there was no room for its line
+abbrev pub Overtakes : ℕ → Machine → Turn → Machine → Plan → Plan → List Line → List Line → Type 0
+Overtakes a before (turns.End e) m was plan old new = Overtaken a before e m was plan old new
+Overtakes a before turns.Memory m was plan old new = Refused before m was plan old new
+Overtakes a before _ m was plan old new = ⊥
+
+-- what came next was done
+abbrev pub Came : Coming → Machine → Turn → Machine → Plan → Plan → List Line → List Line → Type 0
+Came (Overtaking a) before answer m was plan old new = Overtakes a before answer m was plan old new
+Came _ before answer m was plan old new = Steps before answer m was plan old new × Issues before answer m was
