@@ -15,3 +15,4 @@ pub mod Settling
 pub mod Turned
 pub mod Levels
 pub mod Timely
+pub mod InRuns

@@ -37,12 +37,12 @@ fn turns(run: &mut Run, count: usize) -> Turn
     last
 }
 
-/// The turns at which nothing comes are passed.
-fn pass_turns(run: &mut Run)
+/// One step, behind the turns at which nothing comes.
+fn proceed(run: &mut Run) -> Turn
     requires { IsInRun run.old.machine run.old.plan }
     ensures { IsInRun run.new.machine run.new.plan }
 {
-    run.machine.pass_turns();
+    run.machine.proceed(&mut run.plan, &mut run.lines)
 }
 
 /// `muli 3, 4, g2`, `addo 1, 2, g5`, `ld 0x100, g6`, `b next`, `next: mov 0, g7`.
@@ -270,21 +270,20 @@ fn an_interrupt_waits_for_all_that_is_open(rt: HostRuntime) -> Result<(), Fail> 
 const PRODUCT: [u32; 2] = [0x70A5_8095, 0x59C5_0801];
 
 #[test]
-fn passes_turns_at_which_nothing_comes(rt: HostRuntime) -> Result<(), Fail> {
+fn proceeds_behind_turns_at_which_nothing_comes(rt: HostRuntime) -> Result<(), Fail> {
     let image = image_of(rt.alloc(), &PRODUCT)?;
     let mut run = run_of(rt.alloc(), &image, None, 2, b"")?;
-    // Nothing is waited for at first.
-    pass_turns(&mut run);
-    assert_eq!(rt; run.machine.raw().turn, 1);
-    assert!(rt; matches!(advance(&mut run), Turn::Issued(_)));
+    assert!(rt; matches!(proceed(&mut run), Turn::Issued(_)));
+    assert_eq!(rt; (run.machine.raw().turn, run.machine.view().count), (1, 1));
+    // The turn may have moved before.
     assert_eq!(rt; advance(&mut run), Turn::On);
     assert_eq!(rt; run.machine.raw().turn, 2);
-    // The sum waits for the product until 6.
-    pass_turns(&mut run);
-    assert_eq!(rt; run.machine.raw().turn, 6);
-    assert!(rt; matches!(advance(&mut run), Turn::Issued(_)));
-    pass_turns(&mut run);
+    // The sum waits for the product until 6, and the end for the sum until 7.
+    assert!(rt; matches!(proceed(&mut run), Turn::Issued(_)));
     assert_eq!(rt; (run.machine.raw().turn, run.machine.view().count), (6, 2));
+    assert_eq!(rt; proceed(&mut run), Turn::End(End::Limit));
+    assert_eq!(rt; (run.machine.raw().turn, run.lines.len()), (7, 2));
+    assert_eq!(rt; proceed(&mut run), Turn::End(End::Limit));
     Ok(())
 }
 

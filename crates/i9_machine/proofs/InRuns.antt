@@ -1,0 +1,73 @@
+-- A machine stands for a run behind each step, and behind each turn.
+use Rattle.std.proofs.Common.{◌≡◌, List, ◌∷◌, Option, None, Some, sym, subst, inl, inr}
+use Rattle.i9_model.specs.declared.run.End.{End}
+use Rattle.i9_model.specs.Run.{Given}
+use Rattle.i9_schedule.specs.Plan.{Plan}
+use Rattle.i9_course.specs.Course.{Item, Step}
+use Rattle.i9_machine.specs.declared.line.Line.{Line}
+use Rattle.i9_machine.specs.declared.line.Turn.{Turn}
+use Rattle.i9_machine.specs.declared.line.Turn.TheVariants as turns
+use Rattle.i9_machine.specs.declared.machine.Machine.{Machine}
+use Rattle.i9_machine.specs.InRun.{IsInRun}
+use Rattle.i9_machine.specs.StandsFor.{StandsFor, Follows, DoesNext, Comes, Advances, AnswersAgain}
+use Rattle.i9_machine.specs.Turned.{steps_on, Turns}
+
+does_in_run : (g : Given) (h : List Item) (answer : Turn) (before m : Machine) (plan : Plan) (old new : List Line)
+    → DoesNext g h answer before m plan old new → IsInRun m plan
+does_in_run g h answer before m plan old new d = record {
+  given = g;
+  items = Step d.done ∷ h;
+  end = None;
+  stands = d.stands;
+  follows = d.follows;
+}
+
+-- what came next was done
+pub comes_in_run : (g : Given) (h : List Item) (answer : Turn) (before m : Machine) (plan : Plan) (old new : List Line)
+    → Comes g h answer before m plan old new → IsInRun m plan
+comes_in_run g h turns.On before m plan old new d = does_in_run g h turns.On before m plan old new d
+comes_in_run g h (turns.Issued t) before m plan old new d = does_in_run g h (turns.Issued t) before m plan old new d
+comes_in_run g h (turns.End e) before m plan old new d =
+    record { given = g; items = h; end = Some e; stands = d.stands; follows = d.follows }
+comes_in_run g h turns.Memory before m plan old new d =
+    record { given = g; items = h; end = None; stands = d.stands; follows = d.follows }
+
+-- or the turn moved
+pub advances_in_run : (g : Given) (h : List Item) (answer : Turn) (before m : Machine) (plan : Plan) (old new : List Line)
+    → Advances g h answer before m plan old new → IsInRun m plan
+advances_in_run g h turns.On before m plan old new (inl w) =
+    record { given = g; items = h; end = None; stands = w.stands; follows = w.follows }
+advances_in_run g h turns.On before m plan old new (inr d) = comes_in_run g h turns.On before m plan old new d
+advances_in_run g h (turns.Issued t) before m plan old new d = comes_in_run g h (turns.Issued t) before m plan old new d
+advances_in_run g h (turns.End e) before m plan old new d = comes_in_run g h (turns.End e) before m plan old new d
+advances_in_run g h turns.Memory before m plan old new d = comes_in_run g h turns.Memory before m plan old new d
+
+-- a whole turn
+pub turns_in_run : (g : Given) (h : List Item) (answer : Turn) (before m : Machine) (plan : Plan) (old new : List Line)
+    → Turns g h answer before m plan old new → IsInRun m plan
+turns_in_run g h turns.On before m plan old new d =
+    record { given = g; items = steps_on d.done h; end = None; stands = d.stands; follows = d.follows }
+turns_in_run g h (turns.Issued t) before m plan old new d = absurd d
+turns_in_run g h (turns.End e) before m plan old new d =
+    record { given = g; items = steps_on d.done h; end = Some e; stands = d.stands; follows = d.follows }
+turns_in_run g h turns.Memory before m plan old new d =
+    record { given = g; items = steps_on d.since.done h; end = None; stands = d.since.stands; follows = d.since.follows }
+
+-- whether an end was answered before or none
+pub behind_in_run : (before m : Machine) (answer : Turn) (was plan : Plan) (old new : List Line)
+    → ((g : Given) (h : List Item) → StandsFor g h None before → Follows g h was → IsInRun m plan)
+    → ((g : Given) (h : List Item) (f : End) → StandsFor g h (Some f) before → AnswersAgain g h f answer m old new × (plan ≡ was))
+    → IsInRun before was → IsInRun m plan
+behind_in_run before m answer was plan old new next again r = by_end r.end r.stands
+  where
+    by_end : (end : Option End) → StandsFor r.given r.items end before → IsInRun m plan
+    by_end None stands = next r.given r.items stands r.follows
+    by_end (Some f) stands =
+        let a = again r.given r.items f stands in
+        record {
+          given = r.given;
+          items = r.items;
+          end = Some f;
+          stands = a.0.stands;
+          follows = subst (Follows r.given r.items) (sym a.1) r.follows;
+        }
