@@ -87,13 +87,21 @@ impl Pages {
         }
     }
 
+    /// The two bytes from an address up, one by one.
+    #[inline(never)]
+    fn two_apart(&self, a: u32) -> [u8; 2]
+        ensures { result ≡ byte_of self.now a ∷ byte_of self.now (wrapped (a + 1)) ∷ [] }
+    {
+        [self.byte(a), self.byte(a.wrapping_add(1))]
+    }
+
     /// The two bytes from an address up.
     pub(crate) fn two(&self, a: u32) -> [u8; 2]
         ensures { result ≡ byte_of self.now a ∷ byte_of self.now (wrapped (a + 1)) ∷ [] }
     {
         let place = (a % PAGE_SIZE) as usize;
         if place > 254 {
-            return [self.byte(a), self.byte(a.wrapping_add(1))];
+            return self.two_apart(a);
         }
         match self.pages.get(&(a / PAGE_SIZE)) {
             None => [0; 2],
@@ -101,18 +109,27 @@ impl Pages {
         }
     }
 
+    /// The four bytes from an address up, one by one.
+    #[inline(never)]
+    fn four_apart(&self, a: u32) -> [u8; 4]
+        ensures { result ≡ byte_of self.now a ∷ byte_of self.now (wrapped (a + 1)) ∷ byte_of self.now (wrapped (a + 2)) ∷ byte_of self.now (wrapped (a + 3)) ∷ [] }
+    {
+        [
+            self.byte(a),
+            self.byte(a.wrapping_add(1)),
+            self.byte(a.wrapping_add(2)),
+            self.byte(a.wrapping_add(3)),
+        ]
+    }
+
     /// The four bytes from an address up.
+    #[inline(never)]
     pub(crate) fn four(&self, a: u32) -> [u8; 4]
         ensures { result ≡ byte_of self.now a ∷ byte_of self.now (wrapped (a + 1)) ∷ byte_of self.now (wrapped (a + 2)) ∷ byte_of self.now (wrapped (a + 3)) ∷ [] }
     {
         let place = (a % PAGE_SIZE) as usize;
         if place > 252 {
-            return [
-                self.byte(a),
-                self.byte(a.wrapping_add(1)),
-                self.byte(a.wrapping_add(2)),
-                self.byte(a.wrapping_add(3)),
-            ];
+            return self.four_apart(a);
         }
         match self.pages.get(&(a / PAGE_SIZE)) {
             None => [0; 4],
