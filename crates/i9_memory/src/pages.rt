@@ -41,9 +41,7 @@ impl Page {
         requires { place + length bytes.now ≤ 256 }
         ensures { byte_in (Some self.new) ≡ written (byte_in (Some self.old)) (pairs_at (λ k. k) place bytes.now) }
     {
-        for k in 0..bytes.len() {
-            self.bytes[place + k] = bytes[k];
-        }
+        self.bytes[place..place + bytes.len()].copy_from_slice(bytes);
     }
 }
 
