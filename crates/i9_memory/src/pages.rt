@@ -147,6 +147,24 @@ impl Pages {
         self.pages.get(&(a / PAGE_SIZE))
     }
 
+    /// Adds a page of zeros where there is none of its number.
+    #[inline(never)]
+    fn add_page(&mut self, number: u32) -> Result<(), NoMemory>
+        requires { HasPage self.old number → ⊥ }
+        ensures same { byte_of self.new ≡ byte_of self.old }
+        ensures ok { OnOk result (HasPage self.new number) }
+        ensures keeps { (p : ℕ) → HasPage self.old p → HasPage self.new p }
+    {
+        let bytes = match Box::new(self.alloc, [0; 256]) {
+            Ok(bytes) => bytes,
+            Err(_) => return Err(NoMemory),
+        };
+        match self.pages.insert(number, Page { bytes }) {
+            Ok(_) => Ok(()),
+            Err(_) => Err(NoMemory),
+        }
+    }
+
     /// Makes room for the page of a byte.
     pub(crate) fn reserve(&mut self, a: u32) -> Result<(), NoMemory>
         ensures same { byte_of self.new ≡ byte_of self.old }
@@ -158,14 +176,7 @@ impl Pages {
         if self.pages.contains_key(&number) {
             return Ok(());
         }
-        let bytes = match Box::new(self.alloc, [0; 256]) {
-            Ok(bytes) => bytes,
-            Err(_) => return Err(NoMemory),
-        };
-        match self.pages.insert(number, Page { bytes }) {
-            Ok(_) => Ok(()),
-            Err(_) => Err(NoMemory),
-        }
+        self.add_page(number)
     }
 
     /// Makes room for `n` bytes from an address up, a page at a time.
