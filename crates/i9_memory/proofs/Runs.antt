@@ -1,8 +1,8 @@
 -- Bytes of one page that are written at once, and the runs of a longer one.
-use Rattle.std.proofs.Common.{◌≡◌, ℕ, suc, ◌+◌, ◌*◌, ◌/◌, ◌%◌, ◌^◌, ◌<◌, ◌≤◌, true, false, List, [], ◌∷◌, ◌++◌, length, get_or, drop, refl, sym, ap, ◌∙◌, arith}
+use Rattle.std.proofs.Common.{◌≡◌, ℕ, suc, ◌+◌, ◌*◌, ◌/◌, ◌%◌, ◌^◌, ◌<◌, ◌≤◌, true, false, List, [], ◌∷◌, ◌++◌, length, get_or, take, drop, refl, sym, ap, ◌∙◌, append_assoc, arith}
 use Rattle.std.specs.Prelude.{◌==◌, if◌then◌else◌}
-use Rattle.std.proofs.Math.ListN.{set}
-use Rattle.std.proofs.lemmas.List.{at_drop_more, at_drop_all}
+use Rattle.std.proofs.Math.ListN.{set, length-set}
+use Rattle.std.proofs.Math.Seq.{sets, sets-eq}
 use Rattle.std.proofs.lemmas.Grind.{common_steps}
 use Rattle.std.proofs.lemmas.Bool.Decides.{nat_tests}
 use Rattle.i9_model.specs.Writes.{wrapped, put, written, pairs_at, upwards}
@@ -17,18 +17,22 @@ use Rattle.i9_memory.proofs.Paged.{same_bytes}
 pub set_is_put : (xs : List ℕ) (i v : ℕ) → i < length xs → (λ x. get_or (set xs i v) x 0) ≡ put (λ x. get_or xs x 0) i v
 set_is_put xs i v h = same_bytes _ _ (λ x. grind (arith, common_steps, nat_tests))
 
--- one more byte is written
-pub written_more : (f : ℕ → ℕ) (p : ℕ) (bs : List ℕ) (i : ℕ) → i < length bs → written f (pairs_at (λ k. k) (p + i) (drop i bs)) ≡ written (put f (p + i) (get_or bs i 0)) (pairs_at (λ k. k) (p + (i + 1)) (drop (i + 1) bs))
+-- bytes that are set one after the other
+sets_written : (xs : List ℕ) (p : ℕ) (bs : List ℕ) → p + length bs ≤ length xs → (λ x. get_or (sets xs p bs) x 0) ≡ written (λ x. get_or xs x 0) (pairs_at (λ k. k) p bs)
 unfolding written
-written_more f p bs i h =
-    let next : p + i + 1 ≡ p + (i + 1) = omega arith in
-    at_drop_more (λ (zs : List ℕ). written f (pairs_at (λ k. k) (p + i) zs)) bs i 0 h
-    ∙ ap (λ (q : ℕ). written (put f (p + i) (get_or bs i 0)) (pairs_at (λ k. k) q (drop (i + 1) bs))) next
+sets_written xs p [] h = refl
+sets_written xs p (b ∷ bs) h =
+    let next : suc p ≡ p + 1 = omega arith in
+    sets_written (set xs p b) (suc p) bs (omega (arith, length-set {A = ℕ}))
+    ∙ ap (λ (f : ℕ → ℕ). written f (pairs_at (λ k. k) (suc p) bs)) (set_is_put xs p b (omega arith))
+    ∙ ap (λ (q : ℕ). written (put (λ x. get_or xs x 0) p b) (pairs_at (λ k. k) q bs)) next
 
--- no byte is left
-pub written_done : (f : ℕ → ℕ) (p : ℕ) (bs : List ℕ) (i : ℕ) → length bs ≤ i → written f (pairs_at (λ k. k) (p + i) (drop i bs)) ≡ f
-unfolding written
-written_done f p bs i h = at_drop_all (λ (zs : List ℕ). written f (pairs_at (λ k. k) (p + i) zs)) bs i h
+-- and those that take the place of as many others
+pub run_written : (xs bs : List ℕ) (p : ℕ) → p + length bs ≤ length xs
+    → (λ x. get_or (take p xs ++ (bs ++ drop (p + length bs) xs)) x 0) ≡ written (λ x. get_or xs x 0) (pairs_at (λ k. k) p bs)
+run_written xs bs p h =
+    let read = λ (ys : List ℕ) (x : ℕ). get_or ys x 0 in
+    ap read (sym (append_assoc (take p xs) bs (drop (p + length bs) xs)) ∙ sym (sets-eq bs xs p h)) ∙ sets_written xs p bs h
 
 -- ---- a page among others
 

@@ -41,9 +41,7 @@ impl Page {
         requires { place + length bytes.now ≤ 256 }
         ensures { byte_in (Some self.new) ≡ written (byte_in (Some self.old)) (pairs_at (λ k. k) place bytes.now) }
     {
-        for k in 0..bytes.len() {
-            self.bytes[place + k] = bytes[k];
-        }
+        self.bytes[place..place + bytes.len()].copy_from_slice(bytes);
     }
 }
 
@@ -87,13 +85,21 @@ impl Pages {
         }
     }
 
+    /// The two bytes from an address up, one by one.
+    #[inline(never)]
+    fn two_apart(&self, a: u32) -> [u8; 2]
+        ensures { result ≡ byte_of self.now a ∷ byte_of self.now (wrapped (a + 1)) ∷ [] }
+    {
+        [self.byte(a), self.byte(a.wrapping_add(1))]
+    }
+
     /// The two bytes from an address up.
     pub(crate) fn two(&self, a: u32) -> [u8; 2]
         ensures { result ≡ byte_of self.now a ∷ byte_of self.now (wrapped (a + 1)) ∷ [] }
     {
         let place = (a % PAGE_SIZE) as usize;
         if place > 254 {
-            return [self.byte(a), self.byte(a.wrapping_add(1))];
+            return self.two_apart(a);
         }
         match self.pages.get(&(a / PAGE_SIZE)) {
             None => [0; 2],
@@ -101,18 +107,27 @@ impl Pages {
         }
     }
 
+    /// The four bytes from an address up, one by one.
+    #[inline(never)]
+    fn four_apart(&self, a: u32) -> [u8; 4]
+        ensures { result ≡ byte_of self.now a ∷ byte_of self.now (wrapped (a + 1)) ∷ byte_of self.now (wrapped (a + 2)) ∷ byte_of self.now (wrapped (a + 3)) ∷ [] }
+    {
+        [
+            self.byte(a),
+            self.byte(a.wrapping_add(1)),
+            self.byte(a.wrapping_add(2)),
+            self.byte(a.wrapping_add(3)),
+        ]
+    }
+
     /// The four bytes from an address up.
+    #[inline(never)]
     pub(crate) fn four(&self, a: u32) -> [u8; 4]
         ensures { result ≡ byte_of self.now a ∷ byte_of self.now (wrapped (a + 1)) ∷ byte_of self.now (wrapped (a + 2)) ∷ byte_of self.now (wrapped (a + 3)) ∷ [] }
     {
         let place = (a % PAGE_SIZE) as usize;
         if place > 252 {
-            return [
-                self.byte(a),
-                self.byte(a.wrapping_add(1)),
-                self.byte(a.wrapping_add(2)),
-                self.byte(a.wrapping_add(3)),
-            ];
+            return self.four_apart(a);
         }
         match self.pages.get(&(a / PAGE_SIZE)) {
             None => [0; 4],
@@ -132,6 +147,24 @@ impl Pages {
         self.pages.get(&(a / PAGE_SIZE))
     }
 
+    /// Adds a page of zeros where there is none of its number.
+    #[inline(never)]
+    fn add_page(&mut self, number: u32) -> Result<(), NoMemory>
+        requires { HasPage self.old number → ⊥ }
+        ensures same { byte_of self.new ≡ byte_of self.old }
+        ensures ok { OnOk result (HasPage self.new number) }
+        ensures keeps { (p : ℕ) → HasPage self.old p → HasPage self.new p }
+    {
+        let bytes = match Box::new(self.alloc, [0; 256]) {
+            Ok(bytes) => bytes,
+            Err(_) => return Err(NoMemory),
+        };
+        match self.pages.insert(number, Page { bytes }) {
+            Ok(_) => Ok(()),
+            Err(_) => Err(NoMemory),
+        }
+    }
+
     /// Makes room for the page of a byte.
     pub(crate) fn reserve(&mut self, a: u32) -> Result<(), NoMemory>
         ensures same { byte_of self.new ≡ byte_of self.old }
@@ -143,14 +176,7 @@ impl Pages {
         if self.pages.contains_key(&number) {
             return Ok(());
         }
-        let bytes = match Box::new(self.alloc, [0; 256]) {
-            Ok(bytes) => bytes,
-            Err(_) => return Err(NoMemory),
-        };
-        match self.pages.insert(number, Page { bytes }) {
-            Ok(_) => Ok(()),
-            Err(_) => Err(NoMemory),
-        }
+        self.add_page(number)
     }
 
     /// Makes room for `n` bytes from an address up, a page at a time.

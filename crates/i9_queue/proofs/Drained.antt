@@ -1,6 +1,6 @@
 -- Memory behind which nothing waits.
 use Rattle.std.proofs.Common.{◌≡◌, ℕ, List, [], refl, sym, ap, ◌∙◌}
-use Rattle.i9_model.specs.Memory.{Memory, with_bytes, with_words, half_in, word_in, words_in}
+use Rattle.i9_model.specs.Memory.{Memory, with_bytes, with_words, words_in}
 use Rattle.i9_model.specs.Late.{Wait}
 use Rattle.i9_model.proofs.LateMemories.{stored-none}
 use Rattle.i9_memory.specs.declared.memory.Memory.{Memory as Kept}
@@ -13,15 +13,6 @@ use Rattle.i9_queue.specs.Lending.{drained}
 -- it is the same after all that waits
 pub none_waits : (m : Memory) (ws : List Wait) → ws ≡ [] → settled_over m ws ≡ m
 none_waits m ws none = ap (settled_over m) none ∙ ap (λ (g : ℕ → ℕ). record m { bytes = g }) (stored-none m.bytes)
-
-pub none_byte : (m : Memory) (ws : List Wait) (a : ℕ) → ws ≡ [] → m.bytes a ≡ (settled_over m ws).bytes a
-none_byte m ws a none = sym (ap (λ (n : Memory). n.bytes a) (none_waits m ws none))
-
-pub none_half : (m : Memory) (ws : List Wait) (a : ℕ) → ws ≡ [] → half_in m a ≡ half_in (settled_over m ws) a
-none_half m ws a none = sym (ap (λ (n : Memory). half_in n a) (none_waits m ws none))
-
-pub none_word : (m : Memory) (ws : List Wait) (a : ℕ) → ws ≡ [] → word_in m a ≡ word_in (settled_over m ws) a
-none_word m ws a none = sym (ap (λ (n : Memory). word_in n a) (none_waits m ws none))
 
 pub none_words : (m : Memory) (ws : List Wait) (a n : ℕ) → ws ≡ [] → words_in m a n ≡ words_in (settled_over m ws) a n
 none_words m ws a n none = sym (ap (λ (k : Memory). words_in k a n) (none_waits m ws none))
@@ -48,4 +39,4 @@ drained_settles b none = sym (none_waits (memory_of b.memory) b.queue none)
 
 pub ruleset lent_rules = (lent_settles, drained_settles)
 
-pub ruleset drained_rules = (none_waits, none_byte, none_half, none_word, none_words, bytes_settle, words_settle)
+pub ruleset drained_rules = (none_waits, none_words, bytes_settle, words_settle)

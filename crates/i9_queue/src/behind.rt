@@ -160,9 +160,6 @@ impl Behind {
     pub fn byte(&self, a: u32) -> u8
         ensures { result ≡ (settled self.now).bytes a }
     {
-        if self.queue.is_empty() {
-            return self.memory.byte(a);
-        }
         self.queue.byte(&self.memory, a)
     }
 
@@ -170,9 +167,6 @@ impl Behind {
     pub fn half(&self, a: u32) -> u16
         ensures { result ≡ half_in (settled self.now) a }
     {
-        if self.queue.is_empty() {
-            return self.memory.half(a);
-        }
         self.queue.half(&self.memory, a)
     }
 
@@ -181,9 +175,6 @@ impl Behind {
     pub fn word(&self, a: u32) -> u32
         ensures { result ≡ word_in (settled self.now) a }
     {
-        if self.queue.is_empty() {
-            return self.memory.word(a);
-        }
         self.queue.word(&self.memory, a)
     }
 

@@ -75,16 +75,23 @@ fn byte_among(requests: &[Request], a: u32) -> Option<u8>
     found
 }
 
-/// Whether a request writes none of `n` bytes from an address up; a load may say no.
+/// Whether a request writes none of `n` bytes from an address up; a load may say no. None of them is
+/// written where their last one lies far enough above the first one that is.
+#[inline(always)]
 fn is_beside(r: &Request, a: u32, n: u32) -> bool
+    requires { 0 < n }
     ensures { IsTrue result → AreBeside (upwards r.now.address r.now.bytes.items) a n }
 {
-    let above = a.wrapping_sub(r.address);
-    r.bytes.len() <= above as usize && n <= r.address.wrapping_sub(a)
+    let first = r.address;
+    let more = n - 1;
+    let above = a.wrapping_add(more).wrapping_sub(first);
+    r.bytes.len() + more as usize <= above as usize
 }
 
 /// Whether no request writes one of `n` bytes from an address up; a load may say no.
+#[inline(always)]
 fn are_beside(requests: &[Request], a: u32, n: u32) -> bool
+    requires { 0 < n }
     ensures { IsTrue result → AreBeside (all_puts (waits_in requests.now)) a n }
 {
     for r in requests {
@@ -146,7 +153,9 @@ impl Queue {
     }
 
     /// Whether no waiting store is to one of `n` bytes from an address up. It may be false beside a load.
+    #[inline(always)]
     pub(crate) fn is_beside(&self, a: u32, n: u32) -> bool
+        requires { 0 < n }
         ensures { IsTrue result → AreBeside (all_puts self.now) a n }
     {
         are_beside(self.items.as_slice(), a, n)

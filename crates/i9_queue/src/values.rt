@@ -73,9 +73,10 @@ pub fn store_bytes(m: &Memory, a: u32, s: Size, v: &[u32; MOST_WORDS]) -> ArrayV
 }
 
 impl Queue {
-    /// A byte of memory after all waiting stores.
+    /// A byte of memory after all waiting stores, of which one may be to it.
+    #[inline(never)]
     #[tactic(auto, using(crate::proofs::Settled::land_rules))]
-    pub(crate) fn byte(&self, m: &Memory, a: u32) -> u8
+    fn mixed_byte(&self, m: &Memory, a: u32) -> u8
         ensures { result ≡ (settled_over (memory_of m.now) self.now).bytes a }
     {
         if in_port_page(a) {
@@ -87,12 +88,24 @@ impl Queue {
         }
     }
 
-    /// The two bytes from `a` up, in the order of the region of `a`.
+    /// A byte of memory after all waiting stores. Where none is to it memory has it.
+    #[inline(always)]
+    pub(crate) fn byte(&self, m: &Memory, a: u32) -> u8
+        ensures { result ≡ (settled_over (memory_of m.now) self.now).bytes a }
+    {
+        if self.is_beside(a, 1) {
+            return m.byte(a);
+        }
+        self.mixed_byte(m, a)
+    }
+
+    /// The two bytes from `a` up, one by one, in the order of the region of `a`.
+    #[inline(never)]
     #[tactic(auto, unfolding(i9_model::specs::Memory::half_in))]
-    pub(crate) fn half(&self, m: &Memory, a: u32) -> u16
+    fn mixed_half(&self, m: &Memory, a: u32) -> u16
         ensures { result ≡ half_in (settled_over (memory_of m.now) self.now) a }
     {
-        let bytes = [self.byte(m, a), self.byte(m, a.wrapping_add(1))];
+        let bytes = [self.mixed_byte(m, a), self.mixed_byte(m, a.wrapping_add(1))];
         if m.big((a / REGION_SIZE) as u8) {
             u16::from_be_bytes(bytes)
         } else {
@@ -100,16 +113,29 @@ impl Queue {
         }
     }
 
+    /// The two bytes from `a` up, in the order of the region of `a`. Where no waiting store is to one of
+    /// them memory has them.
+    #[inline(always)]
+    pub(crate) fn half(&self, m: &Memory, a: u32) -> u16
+        ensures { result ≡ half_in (settled_over (memory_of m.now) self.now) a }
+    {
+        if self.is_beside(a, 2) {
+            return m.half(a);
+        }
+        self.mixed_half(m, a)
+    }
+
     /// The four bytes from `a` up, one by one, in the order of the region of `a`.
+    #[inline(never)]
     #[tactic(auto, unfolding(i9_model::specs::Memory::word_in))]
     fn mixed_word(&self, m: &Memory, a: u32) -> u32
         ensures { result ≡ word_in (settled_over (memory_of m.now) self.now) a }
     {
         let bytes = [
-            self.byte(m, a),
-            self.byte(m, a.wrapping_add(1)),
-            self.byte(m, a.wrapping_add(2)),
-            self.byte(m, a.wrapping_add(3)),
+            self.mixed_byte(m, a),
+            self.mixed_byte(m, a.wrapping_add(1)),
+            self.mixed_byte(m, a.wrapping_add(2)),
+            self.mixed_byte(m, a.wrapping_add(3)),
         ];
         if m.big((a / REGION_SIZE) as u8) {
             u32::from_be_bytes(bytes)
@@ -120,7 +146,7 @@ impl Queue {
 
     /// The four bytes from `a` up, in the order of the region of `a`. Where no waiting store is to one of
     /// them memory has them.
-    #[inline(never)]
+    #[inline(always)]
     pub(crate) fn word(&self, m: &Memory, a: u32) -> u32
         ensures { result ≡ word_in (settled_over (memory_of m.now) self.now) a }
     {

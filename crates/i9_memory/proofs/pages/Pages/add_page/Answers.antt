@@ -1,7 +1,7 @@
 use Rattle.std.proofs.Common.{◌%◌, arith}
 use Rattle.std.proofs.lemmas.Grind.{common_steps}
 use Rattle.i9_memory.proofs.Paged.{same_bytes, zero_byte}
-use Rattle.i9_memory.proofs.pages.Pages.reserve.Goals as goal
+use Rattle.i9_memory.proofs.pages.Pages.add_page.Goals as goal
 
 pub returns-in-Ok-insert-clause-same : goal.returns-in-Ok-insert-clause-same
 returns-in-Ok-insert-clause-same c =
