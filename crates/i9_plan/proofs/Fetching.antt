@@ -1,5 +1,5 @@
 -- What the second word of an instruction counts for, and the hazards of a fetch.
-use Rattle.std.proofs.Common.{◌≡◌, ℕ, ◌+◌, ◌<◌, ◌^◌, ◌==◌, Bool, true, false, cond, nat_lt, Option, Some, None, option_and_then, Ok, Err, refl, sym, ap, ◌∙◌}
+use Rattle.std.proofs.Common.{◌≡◌, ℕ, ◌+◌, ◌<◌, ◌^◌, ◌==◌, Bool, true, false, cond, nat_lt, Option, Some, None, option_and_then, Ok, Err, refl, sym, ap, ◌∙◌, arith}
 use Rattle.std.specs.Option.{option_map}
 use Rattle.i9_isa.specs.declared.format.Format.{Format}
 use Rattle.i9_isa.specs.declared.inst.Mode.{Mode}
@@ -17,6 +17,9 @@ use Rattle.i9_model.specs.Writes.{wrapped}
 use Rattle.i9_model.specs.Hazards.{or_else, read_hazard}
 use Rattle.i9_model.specs.Step.{first_word, next_word}
 use Rattle.i9_model.specs.Access.{second_hazard, fetch_hazard}
+use Rattle.i9_plan.specs.declared.memo.Memo.{Memo}
+use Rattle.i9_plan.specs.Kept.{inst_in, words_in}
+use Rattle.i9_plan.specs.Planned.{IsRead}
 
 -- ---- the second word
 
@@ -61,17 +64,6 @@ second_given w w1 v i two h =
 pub decoded_valid : (w w1 : ℕ) (i : Inst) → w1 < 2 ^ 32 → decoded w w1 ≡ Ok i → IsValid i
 decoded_valid w w1 i few h = encodes_valid w w1 i few (decoded_encodes w w1 i h)
 
--- an instruction has one word or two
-mode_long : (m : Mode) → (words_of_mode m ≡ 1 → ⊥) → words_of_mode m ≡ 2
-mode_long Offset other = absurd (other refl)
-mode_long BaseOffset other = absurd (other refl)
-mode_long Base other = absurd (other refl)
-mode_long BaseIndex other = absurd (other refl)
-mode_long _ other = refl
-
-pub long_inst : (i : Inst) → (words_of i ≡ 1 → ⊥) → words_of i ≡ 2
-long_inst i other = mode_long i.ea.mode other
-
 -- ---- the fetch
 
 -- the first word is read first
@@ -102,4 +94,47 @@ long_fetch s i clear read two =
     ∙ ap (second_hazard s) read
     ∙ ap (λ (n : ℕ). cond (n == 2) (read_hazard s.frames (wrapped (s.ip + 4)) 4) None) two
 
-pub ruleset fetch_rules = (first_met, refused_fetch, short_fetch, long_fetch, long_inst, decoded_valid, second_free, refusal_free)
+-- ---- what a memo has read
+
+one_word : (m : Mode) → (words_of_mode m == 2) ≡ false → words_of_mode m ≡ 1
+one_word Offset short = refl
+one_word BaseOffset short = refl
+one_word Base short = refl
+one_word BaseIndex short = refl
+one_word _ short = absurd cc
+
+-- an instruction of one word
+pub short_read : (s : State) (m : Memo) → read_hazard s.frames s.ip 4 ≡ None → (words_in m).first ≡ first_word s
+    → (words_of (inst_in m) == 2) ≡ false → IsRead s m
+short_read s m clear first short =
+    let i = inst_in m in
+    let one = one_word i.ea.mode short in
+    let none = m.last.short ∙ ap (λ (b : Bool). cond b m.last.words.second 0) short in
+    let read = sym (ap (λ (w : ℕ). decoded w (next_word s)) first) ∙ second_free m.last.words.first m.last.words.second (next_word s) i one m.last.read in
+    record {
+      clear = short_fetch s i clear read one;
+      read = read;
+      valid = decoded_valid m.last.words.first 0 i (omega arith) (sym (ap (decoded m.last.words.first) none) ∙ m.last.read);
+      words = record { first = first; second = none ∙ sym (ap (λ (b : Bool). cond b (next_word s) 0) short) };
+    }
+
+-- where the second word of one that has two is still to be read, its hazard is that of the fetch
+pub long_met : (s : State) (m : Memo) → read_hazard s.frames s.ip 4 ≡ None → (words_in m).first ≡ first_word s
+    → words_of (inst_in m) ≡ 2 → fetch_hazard s ≡ read_hazard s.frames (wrapped (s.ip + 4)) 4
+long_met s m clear first long =
+    let given = second_given m.last.words.first m.last.words.second (next_word s) (inst_in m) long m.last.read in
+    long_fetch s _ clear (sym (ap (λ (w : ℕ). decoded w (next_word s)) first) ∙ given) long
+
+-- an instruction of two words
+pub long_read : (s : State) (m : Memo) → read_hazard s.frames s.ip 4 ≡ None
+    → read_hazard s.frames (wrapped (s.ip + 4)) 4 ≡ None → (words_in m).first ≡ first_word s
+    → (words_in m).second ≡ next_word s → words_of (inst_in m) ≡ 2 → IsValid (inst_in m) → IsRead s m
+long_read s m clear free first second long valid =
+    record {
+      clear = long_met s m clear first long ∙ free;
+      read = sym (ap (λ (w : ℕ). decoded w (next_word s)) first) ∙ sym (ap (decoded m.last.words.first) second) ∙ m.last.read;
+      valid = valid;
+      words = record { first = first; second = second ∙ sym (ap (λ (n : ℕ). cond (n == 2) (next_word s) 0) long) };
+    }
+
+pub ruleset fetch_rules = (first_met, refused_fetch, refusal_free)

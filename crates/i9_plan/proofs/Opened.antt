@@ -1,11 +1,13 @@
 -- What waits for all before it: a barrier, whatever it comes to, a word that is refused, a hazard, and a fault that is
 -- raised before anything is done; and what others need.
-use Rattle.std.proofs.Common.{◌≡◌, ℕ, ◌+◌, ◌*◌, ◌&&◌, Bool, true, false, Option, Some, None, Err, refl, sym, ap, ◌∙◌, subst}
+use Rattle.std.proofs.Common.{◌≡◌, ℕ, ◌+◌, ◌*◌, ◌&&◌, Bool, true, false, Option, Some, None, Ok, refl, sym, ap, ◌∙◌, subst}
 use Rattle.std.specs.Prelude.{not, ◌||◌, ◌==◌, if◌then◌else◌, IsTrue}
 use Rattle.std.specs.Option.{is_some}
 use Rattle.i9_isa.specs.declared.op.Op.{Op}
 use Rattle.i9_isa.specs.declared.op.Op.TheVariants.{Lda}
 use Rattle.i9_isa.specs.Costs.{latency_of}
+use Rattle.i9_isa.specs.Valid.{IsValid}
+use Rattle.i9_isa.specs.Words.{words_of}
 use Rattle.i9_isa.specs.declared.inst.Inst.{Inst}
 use Rattle.i9_model.specs.declared.faults.TheConstants.{ARITHMETIC}
 use Rattle.i9_model.specs.State.{State}
@@ -16,12 +18,14 @@ use Rattle.i9_model.specs.HeldFrames.{Cache, sets_in}
 use Rattle.i9_model.specs.Traced.{traced_action}
 use Rattle.i9_model.specs.Run.{Instruction, next_by_standing}
 use Rattle.i9_course.specs.NeedOf.{facts_of, frames_of, need_of, need_ahead}
-use Rattle.i9_plan.specs.declared.fetched.Fetched.{Fetched}
+use Rattle.i9_plan.specs.declared.memo.Memo.{Memo}
+use Rattle.i9_plan.specs.declared.kept.Kept.{Kept}
 use Rattle.i9_plan.specs.declared.fetched.Unread.{Unread}
 use Rattle.i9_plan.specs.declared.fetched.Unread.TheVariants as unreads
 use Rattle.i9_plan.specs.declared.outcome.Outcome.{Outcome}
 use Rattle.i9_plan.specs.declared.outcome.Outcome.TheVariants as outcomes
-use Rattle.i9_plan.specs.Planned.{IsRead, IsFetched, standing_in}
+use Rattle.i9_plan.specs.Kept.{inst_in}
+use Rattle.i9_plan.specs.Planned.{TellsWords, IsRead, IsUnread, standing_in}
 use Rattle.i9_plan.specs.Open.{WaitsForAll, IsNoBarrier, NeedsAhead}
 
 -- ---- which wait
@@ -77,17 +81,26 @@ raised_waits i s (Some number) b = faults_waits i s number b
 
 -- ---- what stands there
 
--- by an instruction that is read
-pub read_stands : (s : State) (f : Fetched) → IsRead s f → stands_at s ≡ by_raised f.inst s (raised_in f.inst s)
-unfolding stands_at
-read_stands s f read = ap (by_fetch s) read.clear ∙ ap (by_word s) read.read
+-- what was read stays so while the instruction does
+pub still_read : (s : State) (m n : Memo) → n.last ≡ m.last → IsRead s m → IsRead s n
+still_read s m n e read = record {
+  clear = read.clear;
+  read = read.read ∙ sym (ap (λ (k : Kept). Ok k.inst) e);
+  valid = subst (λ (k : Kept). IsValid k.inst) (sym e) read.valid;
+  words = subst (λ (k : Kept). TellsWords (words_of k.inst) s k.words) (sym e) read.words;
+}
 
-pub barrier_waits : (s : State) (f : Fetched) → IsRead s f → IsBarrier f.inst → WaitsForAll s (stands_at s)
-barrier_waits s f read b =
-    subst (WaitsForAll s) (sym (read_stands s f read)) (raised_waits f.inst s (raised_in f.inst s) b)
+-- by an instruction that is read
+pub read_stands : (s : State) (m : Memo) → IsRead s m → stands_at s ≡ by_raised (inst_in m) s (raised_in (inst_in m) s)
+unfolding stands_at
+read_stands s m read = ap (by_fetch s) read.clear ∙ ap (by_word s) read.read
+
+pub barrier_waits : (s : State) (m : Memo) → IsRead s m → IsBarrier (inst_in m) → WaitsForAll s (stands_at s)
+barrier_waits s m read b =
+    subst (WaitsForAll s) (sym (read_stands s m read)) (raised_waits (inst_in m) s (raised_in (inst_in m) s) b)
 
 -- where none is read
-pub unread_waits : (s : State) (e : Unread) → IsFetched s (Err e) → WaitsForAll s (stands_at s)
+pub unread_waits : (s : State) (e : Unread) → IsUnread s e → WaitsForAll s (stands_at s)
 unfolding stands_at
 unread_waits s (unreads.Meets a) meets = subst (WaitsForAll s) (sym (ap (by_fetch s) meets)) (meets_waits s a)
 unread_waits s (unreads.Refused first why) is =
@@ -104,15 +117,16 @@ stop_waits s i (outcomes.Meets a) stops = meets_waits s a
 stop_waits s i (outcomes.Faults number) stops = early_waits i s number stops
 stop_waits s i outcomes.Runs stops = absurd stops
 
--- what an instruction comes to is what stands there
-pub outcome_stands : (s : State) (f : Fetched) (o : Outcome) → IsRead s f
-    → standing_in f.inst o ≡ by_raised f.inst s (raised_in f.inst s) → stands_at s ≡ standing_in f.inst o
-outcome_stands s f o read stands = read_stands s f read ∙ sym stands
+-- what the instruction that was read comes to is what stands there
+pub outcome_stands : (s : State) (m : Memo) (i : Inst) (o : Outcome) → IsRead s m → i ≡ inst_in m
+    → standing_in i o ≡ by_raised i s (raised_in i s) → stands_at s ≡ standing_in (inst_in m) o
+outcome_stands s m i o read is stands =
+    read_stands s m read ∙ sym (subst (λ (x : Inst). standing_in x o ≡ by_raised x s (raised_in x s)) is stands)
 
-pub outcome_waits : (s : State) (f : Fetched) (o : Outcome) → IsRead s f
-    → standing_in f.inst o ≡ by_raised f.inst s (raised_in f.inst s) → Stops o → WaitsForAll s (stands_at s)
-outcome_waits s f o read stands stops =
-    subst (WaitsForAll s) (sym (outcome_stands s f o read stands)) (stop_waits s f.inst o stops)
+pub outcome_waits : (s : State) (m : Memo) (i : Inst) (o : Outcome) → IsRead s m → i ≡ inst_in m
+    → standing_in i o ≡ by_raised i s (raised_in i s) → Stops o → WaitsForAll s (stands_at s)
+outcome_waits s m i o read is stands stops =
+    subst (WaitsForAll s) (sym (outcome_stands s m i o read is stands)) (stop_waits s (inst_in m) o stops)
 
 -- ---- which do not
 

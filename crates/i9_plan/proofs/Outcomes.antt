@@ -7,18 +7,19 @@ use Rattle.i9_isa.specs.declared.op.Op.{Op}
 use Rattle.i9_isa.specs.declared.op.Op.TheVariants.{Lda, Atadd, Atmod, Bx, Balx, Bal, Call, Callx, Calls, Ret, Flushreg, Modac, Modtc, Modpc, Sysctl, Sdma}
 use Rattle.i9_isa.specs.declared.inst.Inst.{Inst}
 use Rattle.i9_isa.specs.declared.size.Transfer.{Transfer}
-use Rattle.i9_isa.specs.Transfers.{transfer_of}
+use Rattle.i9_isa.specs.Transfers.{transfer_of, byte_count}
+use Rattle.i9_isa.specs.declared.size.Direction.{Direction}
 use Rattle.i9_model.specs.declared.arith.Arith.{Arith}
-use Rattle.i9_model.specs.declared.faults.TheConstants.{CONSTRAINT, RANGE, TYPE, MISMATCH}
+use Rattle.i9_model.specs.declared.faults.TheConstants.{CONSTRAINT, RANGE, TYPE, MISMATCH, OPERATION, INVALID_OPERAND, PROTECTION, LENGTH, UNALIGNED}
 use Rattle.i9_model.specs.State.{State, Interrupts, Dma}
 use Rattle.i9_isa.specs.declared.inst.Operand.{Operand}
 use Rattle.i9_isa.specs.declared.inst.Operand.TheVariants.{Reg, Lit, Sfr}
-use Rattle.i9_model.specs.Operands.{value, assigned, interrupts_assigned, dma_assigned}
+use Rattle.i9_model.specs.Operands.{value, address, assigned, interrupts_assigned, dma_assigned}
 use Rattle.i9_model.specs.Branches.{asks, question_of, is_taken}
-use Rattle.i9_model.specs.Needs.{is_barrier_name}
+use Rattle.i9_model.specs.Needs.{is_barrier_name, has_access}
 use Rattle.i9_model.specs.Results.{Answer, has_result}
 use Rattle.i9_model.specs.Step.{Action, passing, destination, answer_in, resulting, branching, other_action, action_by_name, action_by, action_of}
-use Rattle.i9_model.specs.Access.{NoAccess, access_by_name, access_by, access_of, data_of, hazard_in, hazard_of}
+use Rattle.i9_model.specs.Access.{NoAccess, moved_access, access_by_name, access_by, access_of, data_of, hazard_in, hazard_of}
 use Rattle.i9_model.specs.Calls.{in_supervisor_mode}
 use Rattle.i9_model.specs.Faults.{is_supervisor_only, uses_special, mismatches, is_invalid, is_past_table, is_unaligned, raised}
 use Rattle.i9_model.specs.Standing.{Standing, Faults, Runs, arithmetic_fault, answer_fault, is_fault_name, range_fault, raised_in, first_fault, by_access, by_later, by_raised}
@@ -28,6 +29,7 @@ use Rattle.i9_processor.specs.declared.effect.Effect.{Effect}
 use Rattle.i9_processor.specs.Effect.{IsEffect}
 use Rattle.i9_plan.specs.Names.{is_branch}
 use Rattle.i9_plan.specs.Planned.{IsPlanFor}
+use Rattle.i9_plan.proofs.KnownFacts.{no_access}
 
 -- ---- no name is of two kinds
 
@@ -54,6 +56,11 @@ fault_branches _ = refl
 other : (a b : Bool) → (a && b) ≡ false → a ≡ true → b ≡ false
 other true b e t = e
 other false b e t = absurd cc
+
+second : (a b : Bool) → (a && b) ≡ false → b ≡ true → a ≡ false
+second true true e t = absurd cc
+second true false e t = absurd cc
+second false b e t = refl
 
 not_first : (a b : Bool) → (a && not b) ≡ false → b ≡ false → a ≡ false
 not_first true false e t = absurd cc
@@ -189,13 +196,17 @@ is_asking Sysctl = true
 is_asking Sdma = true
 is_asking _ = false
 
-result_asking : (op : Op) → (has_result op && is_asking op) ≡ false
-result_asking Lda = refl
-result_asking _ = refl
+still_asking : (op : Op) → (is_asking op && not (is_barrier_name op)) ≡ false
+still_asking Lda = refl
+still_asking _ = refl
 
-branch_asking : (op : Op) → (is_branch op && is_asking op) ≡ false
-branch_asking Lda = refl
-branch_asking _ = refl
+moved_asking : (op : Op) → (is_asking op && is_some (transfer_of op)) ≡ false
+moved_asking Lda = refl
+moved_asking _ = refl
+
+still_accesses : (op : Op) → (has_access op && not (is_barrier_name op) && not (is_some (transfer_of op))) ≡ false
+still_accesses Lda = refl
+still_accesses _ = refl
 
 plain_calls : (op : Op) (b : ℕ) → is_asking op ≡ false → is_supervisor_only op b ≡ false
 plain_calls Calls b e = absurd cc
@@ -232,29 +243,52 @@ calm_form false true r config w x y z access d f g h = absurd cc
 calm_form false false true config w x y z access d f g h = absurd cc
 calm_form false false false config w x y z (Some p) d f g h = absurd cc
 
-no_data : (i : Inst) (s : State) → transfer_of i.op ≡ None → access_by_name i.op i s ≡ NoAccess → data_of (access_of i s) ≡ None
-no_data i s none access = ap (λ (t : Option Transfer). data_of (access_by t i s)) none ∙ ap data_of access
-
 -- no special function register is used outside supervisor mode
 abbrev Matches : Inst → State → Type 0
 Matches i s = (not (in_supervisor_mode s.pc) && uses_special i) ≡ false
 
-calm : (i : Inst) (s : State) → Matches i s → is_asking i.op ≡ false → transfer_of i.op ≡ None → access_by_name i.op i s ≡ NoAccess → raised_in i s ≡ None
+-- an instruction that is no barrier, and no load or store, raises nothing before it does anything
+pub still_calm : (i : Inst) (s : State) → Matches i s → is_barrier_name i.op ≡ false → transfer_of i.op ≡ None → raised_in i s ≡ None
 unfolding raised
-calm i s fits quiet moves access =
+still_calm i s fits b still =
+    let quiet = not_first (is_asking i.op) (is_barrier_name i.op) (still_asking i.op) b in
+    let moves = not_first (has_access i.op && not (is_barrier_name i.op)) (is_some (transfer_of i.op)) (still_accesses i.op) (ap (λ (t : Option Transfer). is_some t) still) in
+    let access = not_first (has_access i.op) (is_barrier_name i.op) moves b in
     calm_form (mismatches i (value s i.b) s.pc) (is_invalid i.op (value s i.a)) (is_past_table i.op (value s i.a)) s.tables.fault_config _ _ _ _
     (data_of (access_of i s))
     (no_mismatch (not (in_supervisor_mode s.pc)) (is_supervisor_only i.op (value s i.b)) (uses_special i) fits (plain_calls i.op (value s i.b) quiet))
-    (plain_names i.op (value s i.a) quiet) (plain_table i.op (value s i.a) quiet) (no_data i s moves access)
+    (plain_names i.op (value s i.a) quiet) (plain_table i.op (value s i.a) quiet) (no_access i s access)
 
--- an instruction raises nothing before its result, or before its condition
-pub result_calm : (i : Inst) (s : State) → Matches i s → has_result i.op ≡ true → raised_in i s ≡ None
-result_calm i s fits t =
-    calm i s fits (other (has_result i.op) (is_asking i.op) (result_asking i.op) t) (none_of (transfer_of i.op) (other (has_result i.op) (is_some (transfer_of i.op)) (result_moves i.op) t)) (result_access i.op i s t)
+-- what is raised outside supervisor mode, or by what src1 names, or by an access
+abbrev fault_by : (m v u q r : Bool) → Option (ℕ × ℕ) → ℕ → Option (ℕ × ℕ)
+fault_by m v u q r access config =
+    cond (m && (v || u)) (Some (TYPE, MISMATCH))
+    (cond q (Some (OPERATION, INVALID_OPERAND))
+    (cond r (Some (PROTECTION, LENGTH))
+    (cond (is_unaligned access config) (Some (OPERATION, UNALIGNED)) None)))
 
-pub branch_calm : (i : Inst) (s : State) → Matches i s → is_branch i.op ≡ true → raised_in i s ≡ None
-branch_calm i s fits t =
-    calm i s fits (other (is_branch i.op) (is_asking i.op) (branch_asking i.op) t) (none_of (transfer_of i.op) (other (is_branch i.op) (is_some (transfer_of i.op)) (branch_moves i.op) t)) (branch_access i.op i s t)
+moved_data : (d : Direction) (a n : ℕ) → data_of (moved_access d a n) ≡ Some (a, n)
+moved_data Direction.Load a n = refl
+moved_data Direction.Store a n = refl
+
+-- a load or a store raises the same whatever the values of its sources are
+pub transfer_raised : (i : Inst) (s : State) (t : Transfer) → transfer_of i.op ≡ Some t
+    → raised i 0 0 (Some (address s i.ea, byte_count t.size)) s.pc s.tables.fault_config ≡ raised_in i s
+unfolding raised
+transfer_raised i s t e =
+    let quiet = second (is_asking i.op) (is_some (transfer_of i.op)) (moved_asking i.op) (ap (λ (o : Option Transfer). is_some o) e) in
+    let m = not (in_supervisor_mode s.pc) in
+    let u = uses_special i in
+    let config = s.tables.fault_config in
+    let here = Some (address s i.ea, byte_count t.size) in
+    let accessed = sym (ap (λ (o : Option Transfer). data_of (access_by o i s)) e ∙ moved_data t.direction (address s i.ea) (byte_count t.size)) in
+    let calls = plain_calls i.op 0 quiet ∙ sym (plain_calls i.op (value s i.b) quiet) in
+    let names = plain_names i.op 0 quiet ∙ sym (plain_names i.op (value s i.a) quiet) in
+    let table = plain_table i.op 0 quiet ∙ sym (plain_table i.op (value s i.a) quiet) in
+    ap (λ (v : Bool). fault_by m v u (is_invalid i.op 0) (is_past_table i.op 0) here config) calls
+    ∙ ap (λ (q : Bool). fault_by m (is_supervisor_only i.op (value s i.b)) u q (is_past_table i.op 0) here config) names
+    ∙ ap (λ (r : Bool). fault_by m (is_supervisor_only i.op (value s i.b)) u (is_invalid i.op (value s i.a)) r here config) table
+    ∙ ap (λ (o : Option (ℕ × ℕ)). fault_by m (is_supervisor_only i.op (value s i.b)) u (is_invalid i.op (value s i.a)) (is_past_table i.op (value s i.a)) o config) accessed
 
 -- where one is used there, that is what is raised
 used_there : (m v u : Bool) (o : Option (ℕ × ℕ)) → (m && u) ≡ true → cond (m && (v || u)) (Some (TYPE, MISMATCH)) o ≡ Some (TYPE, MISMATCH)
@@ -329,6 +363,32 @@ plain_stands i s r b e =
     let none = none_of (answer_in i s) (e ∙ r) in
     let calm = no_range (is_fault_name i.op) (is_taken i (value s i.a) (value s i.b) s.ac) (not_first (is_fault_name i.op) (is_branch i.op) (fault_branches i.op) b) in
     calm_answer i s none ∙ ap (by_later i s) calm
+
+-- where it goes by its name alone
+pub named_stands : (i : Inst) (s : State) (h : Option ℕ) → has_result i.op ≡ false → is_branch i.op ≡ false
+    → transfer_of i.op ≡ None → is_some (answer_in i s) ≡ has_result i.op → hazard_in s (access_by_name i.op i s) ≡ h → by_raised i s None ≡ by_access i h
+unfolding hazard_of
+named_stands i s h r b still answers is =
+    plain_stands i s r b answers
+    ∙ ap (λ (t : Option Transfer). by_access i (hazard_in s (access_by t i s))) still
+    ∙ ap (by_access i) is
+
+pub named_does : (i : Inst) (s : State) (e : Effect) → transfer_of i.op ≡ None
+    → IsEffect s (action_by_name i.op i s) e → IsEffect s (action_of i s) e
+named_does i s e still is = subst (λ (a : Action). IsEffect s a e) (sym (by_itself i s still)) is
+
+-- where it is a load or a store
+pub transfer_stands : (i : Inst) (s : State) (t : Transfer) (h : Option ℕ) → transfer_of i.op ≡ Some t
+    → is_some (answer_in i s) ≡ has_result i.op → hazard_in s (moved_access t.direction (address s i.ea) (byte_count t.size)) ≡ h
+    → by_raised i s None ≡ by_access i h
+unfolding hazard_of
+transfer_stands i s t h e answers is =
+    let moves = ap (λ (o : Option Transfer). is_some o) e in
+    let r = second (has_result i.op) (is_some (transfer_of i.op)) (result_moves i.op) moves in
+    let b = second (is_branch i.op) (is_some (transfer_of i.op)) (branch_moves i.op) moves in
+    plain_stands i s r b answers
+    ∙ ap (λ (o : Option Transfer). by_access i (hazard_in s (access_by o i s))) e
+    ∙ ap (by_access i) is
 
 -- what an instruction of a name comes to
 pub by_name : (n : Op) (i : Inst) (s : State) (r : Result Effect ℕ) → i.op ≡ n → IsPlanFor s (access_by_name n i s) (action_by_name n i s) r → IsPlanFor s (access_by_name i.op i s) (action_by_name i.op i s) r
@@ -472,13 +532,9 @@ barrier_goes_on op b = other (is_barrier_name op) (is_branch op) (barrier_branch
 -- one that raises nothing is done, or meets the hazard of its access
 pub barrier_stands : (i : Inst) (s : State) (h : Option ℕ) → is_barrier_name i.op ≡ true
     → is_some (answer_in i s) ≡ has_result i.op → hazard_in s (access_by_name i.op i s) ≡ h → by_raised i s None ≡ by_access i h
-unfolding hazard_of
 barrier_stands i s h b answers is =
-    plain_stands i s (barrier_has_no_result i.op b) (barrier_goes_on i.op b) answers
-    ∙ ap (λ (t : Option Transfer). by_access i (hazard_in s (access_by t i s))) (barrier_moves i.op b)
-    ∙ ap (by_access i) is
+    named_stands i s h (barrier_has_no_result i.op b) (barrier_goes_on i.op b) (barrier_moves i.op b) answers is
 
 pub barrier_does : (i : Inst) (s : State) (e : Effect) → is_barrier_name i.op ≡ true
     → IsEffect s (action_by_name i.op i s) e → IsEffect s (action_of i s) e
-barrier_does i s e b is =
-    subst (λ (a : Action). IsEffect s a e) (sym (by_itself i s (barrier_moves i.op b))) is
+barrier_does i s e b is = named_does i s e (barrier_moves i.op b) is

@@ -1,4 +1,5 @@
 pub mod Names
+pub mod Moved
 pub mod Planned
 pub mod Open
 pub mod Kept

@@ -15,8 +15,10 @@ use Rattle.i9_model.specs.Run.{next_by_standing}
 use Rattle.i9_course.specs.NeedOf.{facts_of, need_ahead}
 use Rattle.i9_processor.specs.declared.effect.Effect.{Effect}
 use Rattle.i9_processor.specs.Effect.{IsEffect}
+use Rattle.i9_plan.specs.declared.memo.Memo.{Memo}
 use Rattle.i9_plan.specs.declared.open.Open.{Open}
 use Rattle.i9_plan.specs.declared.open.Open.TheVariants as opens
+use Rattle.i9_plan.specs.Kept.{inst_in, words_in, Locates}
 use Rattle.i9_plan.specs.Planned.{TellsWords, AreRequestsInRow}
 
 -- what stands there waits for all before it, whatever number of sets is asked for, and whatever is held
@@ -29,24 +31,32 @@ pub record IsNoBarrier (i : Inst) : Type 0 where
   pub written : writes_sfr i ≡ false
 
 -- what is told to wait does wait; an instruction that is told runs, or faults by its result, and is no barrier
-abbrev pub OpenStands : State → Open → Type 0
-OpenStands s opens.Waits = WaitsForAll s (stands_at s)
-OpenStands s (opens.Runs words i) = (stands_at s ≡ Runs i) × IsNoBarrier i
-OpenStands s (opens.Faults words i number) = (stands_at s ≡ Faults i number) × (number.0 ≡ ARITHMETIC) × IsNoBarrier i
+abbrev pub OpenStands : State → Memo → Open → Type 0
+OpenStands s m opens.Waits = WaitsForAll s (stands_at s)
+OpenStands s m opens.Runs = (stands_at s ≡ Runs (inst_in m)) × IsNoBarrier (inst_in m)
+OpenStands s m (opens.Faults number) =
+    (stands_at s ≡ Faults (inst_in m) number) × (number.0 ≡ ARITHMETIC) × IsNoBarrier (inst_in m)
 
 -- its words are told, and its effect is its action, with its trace events
-abbrev pub OpenPlanned : State → Open → Effect → Type 0
-OpenPlanned s opens.Waits e = Unit {0}
-OpenPlanned s (opens.Runs words i) e =
-    TellsWords (words_of i) s words × IsEffect s (traced_action i s) e × AreRequestsInRow i e × IsValid i
-OpenPlanned s (opens.Faults words i number) e = TellsWords (words_of i) s words × IsValid i
+abbrev pub OpenPlanned : State → Memo → Open → Effect → Type 0
+OpenPlanned s m opens.Waits e = Unit {0}
+OpenPlanned s m opens.Runs e =
+    TellsWords (words_of (inst_in m)) s (words_in m) × IsEffect s (traced_action (inst_in m) s) e
+    × AreRequestsInRow (inst_in m) e × IsValid (inst_in m)
+OpenPlanned s m (opens.Faults number) e = TellsWords (words_of (inst_in m)) s (words_in m) × IsValid (inst_in m)
+
+-- where an instruction is told, its load or store was worked out
+abbrev pub OpenLocated : State → Memo → Open → Type 0
+OpenLocated s m opens.Waits = Unit {0}
+OpenLocated s m _ = Locates s m
 
 -- what stands there needs this, whatever number of sets is asked for, and whatever is held
 abbrev pub NeedsAhead : State → Need → Type 0
 NeedsAhead s need = (asked : Option ℕ) (c : Cache) → need_ahead asked c (next_by_standing s (stands_at s)) ≡ need
 
 -- an instruction that is told moves no frame, and its need is by its facts
-abbrev pub OpenNeeds : State → Open → Type 0
-OpenNeeds s opens.Waits = Unit {0}
-OpenNeeds s (opens.Runs words i) = NeedsAhead s (inst_need i (facts_of i s 0 false (is_some (traced_action i s).trace)))
-OpenNeeds s (opens.Faults words i number) = NeedsAhead s (inst_need i (facts_of i s 0 false false))
+abbrev pub OpenNeeds : State → Memo → Open → Type 0
+OpenNeeds s m opens.Waits = Unit {0}
+OpenNeeds s m opens.Runs = let i = inst_in m in
+    NeedsAhead s (inst_need i (facts_of i s 0 false (is_some (traced_action i s).trace)))
+OpenNeeds s m (opens.Faults number) = let i = inst_in m in NeedsAhead s (inst_need i (facts_of i s 0 false false))

@@ -1,13 +1,8 @@
 -- What is planned, in the plain forms of the definitions.
-use Rattle.std.specs.Prelude.{◌≡◌, ℕ, ◌≤◌, ◌==◌, true, if◌then◌else◌, Option, Some, None, Result, Ok, Err}
+use Rattle.std.specs.Prelude.{◌≡◌, ℕ, ◌==◌, true, if◌then◌else◌, Option, Some, None, Result, Ok, Err}
 use Rattle.i9_isa.specs.declared.inst.Inst.{Inst}
 use Rattle.i9_isa.specs.Valid.{IsValid}
 use Rattle.i9_isa.specs.Words.{words_of, decoded}
-use Rattle.i9_isa.specs.Table.{row_of}
-use Rattle.i9_isa.specs.Operands.{words_written}
-use Rattle.i9_isa.specs.declared.size.Direction.{Direction}
-use Rattle.i9_isa.specs.Transfers.{transfer_of, byte_count, register_count}
-use Rattle.i9_model.specs.Operands.{address}
 use Rattle.i9_model.specs.declared.faults.Fault.{Fault}
 use Rattle.i9_model.specs.declared.faults.Entry.{Entry}
 use Rattle.i9_model.specs.declared.faults.FaultStop.{FaultStop}
@@ -29,39 +24,43 @@ use Rattle.i9_processor.specs.declared.effect.Posting.{Posting}
 use Rattle.i9_processor.specs.declared.effect.DmaChange.{DmaChange}
 use Rattle.i9_processor.specs.Effect.{IsEffect, no_requests}
 use Rattle.i9_plan.specs.declared.fetched.Words.{Words}
-use Rattle.i9_plan.specs.declared.fetched.Fetched.{Fetched}
 use Rattle.i9_plan.specs.declared.fetched.Unread.{Unread}
 use Rattle.i9_plan.specs.declared.fetched.Unread.TheVariants as unreads
 use Rattle.i9_plan.specs.declared.planned.Planned.{Planned}
 use Rattle.i9_plan.specs.declared.planned.Planned.TheVariants as plans
-use Rattle.i9_plan.specs.declared.transfers.Moving.{Moving}
+use Rattle.i9_plan.specs.declared.memo.Memo.{Memo}
 use Rattle.i9_plan.specs.declared.outcome.Outcome.{Outcome}
 use Rattle.i9_plan.specs.declared.outcome.Outcome.TheVariants as outcomes
+use Rattle.i9_plan.specs.Kept.{inst_in, words_in, Locates}
 
 -- what stands at the instruction address
-abbrev pub standing_of : Planned → plain.Standing
-standing_of (plans.Meets a) = plain.Meets a
-standing_of (plans.Refused words number) = plain.Refused number
-standing_of (plans.Faults words i number) = plain.Faults i number
-standing_of (plans.Runs words i) = plain.Runs i
+abbrev pub standing_of : Memo → Planned → plain.Standing
+standing_of m (plans.Meets a) = plain.Meets a
+standing_of m (plans.Refused words number) = plain.Refused number
+standing_of m (plans.Faults number) = plain.Faults (inst_in m) number
+standing_of m plans.Runs = plain.Runs (inst_in m)
 
 -- the words of an instruction of so many, the second one as 0 where there is none
 pub record TellsWords (count : ℕ) (s : State) (words : Words) : Type 0 where
   pub first : words.first ≡ first_word s
   pub second : words.second ≡ (if count == 2 then next_word s else 0)
 
--- an instruction that is read, with its words
-pub record IsRead (s : State) (f : Fetched) : Type 0 where
+-- the instruction that stands at the instruction address was read, with its words
+pub record IsRead (s : State) (m : Memo) : Type 0 where
   pub clear : fetch_hazard s ≡ None
-  pub read : decoded (first_word s) (next_word s) ≡ Ok f.inst
-  pub valid : IsValid f.inst
-  pub words : TellsWords (words_of f.inst) s f.words
+  pub read : decoded (first_word s) (next_word s) ≡ Ok (inst_in m)
+  pub valid : IsValid (inst_in m)
+  pub words : TellsWords (words_of (inst_in m)) s (words_in m)
 
--- what a fetch gives: an instruction, the hazard that it meets, or a first word that is refused
-abbrev pub IsFetched : State → Result Fetched Unread → Type 0
-IsFetched s (Ok f) = IsRead s f
-IsFetched s (Err (unreads.Meets a)) = fetch_hazard s ≡ Some a
-IsFetched s (Err (unreads.Refused first why)) = (fetch_hazard s ≡ None) × (decoded (first_word s) (next_word s) ≡ Err why) × (first ≡ first_word s)
+-- why none was read: the hazard that its fetch meets, or a first word that is refused
+abbrev pub IsUnread : State → Unread → Type 0
+IsUnread s (unreads.Meets a) = fetch_hazard s ≡ Some a
+IsUnread s (unreads.Refused first why) = (fetch_hazard s ≡ None) × (decoded (first_word s) (next_word s) ≡ Err why) × (first ≡ first_word s)
+
+-- what a fetch gives
+abbrev pub IsFetched : State → Memo → Result (Unit {0}) Unread → Type 0
+IsFetched s m (Ok done) = IsRead s m
+IsFetched s m (Err why) = IsUnread s why
 
 -- bytes are stored in a row alone, and frames and controls stay
 pub record IsInRow (e : Effect) : Type 0 where
@@ -74,12 +73,19 @@ abbrev pub AreRequestsInRow : Inst → Effect → Type 0
 AreRequestsInRow i e = is_request_name i.op ≡ true → IsInRow e
 
 -- its words are told, and its effect is its action, with its trace events
-abbrev pub IsPlanned : State → Planned → Effect → Type 0
-IsPlanned s (plans.Meets a) e = Unit {0}
-IsPlanned s (plans.Refused words number) e = TellsWords 1 s words
-IsPlanned s (plans.Faults words i number) e = TellsWords (words_of i) s words × IsValid i
-IsPlanned s (plans.Runs words i) e =
-    TellsWords (words_of i) s words × IsEffect s (traced_action i s) e × AreRequestsInRow i e × IsValid i
+abbrev pub IsPlanned : State → Memo → Planned → Effect → Type 0
+IsPlanned s m (plans.Meets a) e = Unit {0}
+IsPlanned s m (plans.Refused words number) e = TellsWords 1 s words
+IsPlanned s m (plans.Faults number) e = TellsWords (words_of (inst_in m)) s (words_in m) × IsValid (inst_in m)
+IsPlanned s m plans.Runs e =
+    TellsWords (words_of (inst_in m)) s (words_in m) × IsEffect s (traced_action (inst_in m) s) e
+    × AreRequestsInRow (inst_in m) e × IsValid (inst_in m)
+
+-- where an instruction stands there, its load or store was worked out
+abbrev pub IsLocated : State → Memo → Planned → Type 0
+IsLocated s m (plans.Faults number) = Locates s m
+IsLocated s m plans.Runs = Locates s m
+IsLocated s m _ = Unit {0}
 
 -- an effect by which nothing is done, but control goes on behind an instruction
 pub record Passes (s : State) (i : Inst) (e : Effect) : Type 0 where
@@ -112,18 +118,6 @@ RunsInRow i outcomes.Runs e = AreRequestsInRow i e
 abbrev pub IsPlanFor : State → Access → Action → Result Effect ℕ → Type 0
 IsPlanFor s access action (Ok e) = (hazard_in s access ≡ None) × IsEffect s action e
 IsPlanFor s access action (Err a) = hazard_in s access ≡ Some a
-
--- it is the transfer of an instruction, where its effective address is; its registers are there
-pub record IsMove (s : State) (i : Inst) (m : Moving) : Type 0 where
-  pub same : transfer_of i.op ≡ Some m.transfer
-  pub place : m.address ≡ address s i.ea
-  pub few : byte_count m.transfer.size ≤ 16
-  pub loaded : m.transfer.direction ≡ Direction.Load → words_written (row_of i.op).c ≡ register_count m.transfer.size
-
--- the transfer that an instruction is, where it is one
-abbrev pub Moves : State → Inst → Option Moving → Type 0
-Moves s i None = transfer_of i.op ≡ None
-Moves s i (Some m) = IsMove s i m
 
 -- the hazard of an access, or none where an effect is the action
 abbrev pub Plans : State → Access → Action → Option ℕ → Effect → Type 0

@@ -68,7 +68,7 @@ pub(crate) fn barrier_outcome(p: &Processor, i: &Inst, effect: &mut Effect) -> O
     ensures standing { standing_in i.now result ≡ by_raised i.now (state_of p.now) (raised_in i.now (state_of p.now)) }
     ensures effect { HasEffect (state_of p.now) i.now result effect.new }
 {
-    if let Some(number) = raised_in(p, i, None) {
+    if let Some(number) = raised_in(p, i) {
         return Outcome::Faults(number);
     }
     results_by_name();

@@ -3,20 +3,20 @@ ghost use Rattle.std.specs.Prelude.{◌≡◌, ◌<◌, ◌≤◌, true};
 ghost use Rattle.i9_model.specs.Memory.{region_of};
 ghost use Rattle.i9_model.specs.Access.{access_of, data_of};
 ghost use Rattle.i9_course.specs.NeedOf.{touches_port, access_waits, stands_alone, facts_of};
-ghost use Rattle.i9_need.specs.Fixed.{fixed_need};
 ghost use Rattle.i9_need.specs.Known.{AreFacts, moves_a_frame};
 ghost use Rattle.i9_processor.specs.State.{state_of};
-ghost use Rattle.i9_plan.specs.Planned.{Moves};
+ghost use Rattle.i9_plan.specs.Kept.{inst_in, Locates};
+ghost use Rattle.i9_plan.specs.Moved.{Moves};
 
+use crate::memo::Memo;
 use crate::raised::data_access;
 use crate::sources::atomic_address;
 use crate::tracing::is_traced;
-use crate::transfers::{Moving, transfer_at};
+use crate::transfers::Moving;
 use crate::words::bit;
 use i9_isa::{Direction, Inst, Op};
 use i9_model::Facts;
 use i9_model::layout::PRECISE_FAULTS_PLACE;
-use i9_need::FixedNeed;
 use i9_processor::Processor;
 use i9_watch::Watch;
 
@@ -66,47 +66,39 @@ fn stands_alone(p: &Processor) -> bool
 /// The data access of an instruction, and the wait states of it.
 // Most instructions have none, and this is no part of the code that calls it.
 #[inline(never)]
-fn access_and_waits(p: &Processor, i: &Inst) -> (Option<(u32, u32)>, u64)
+fn access_and_waits(p: &Processor, i: &Inst, moving: Option<Moving>) -> (Option<(u32, u32)>, u64)
+    requires { Moves (state_of p.now) i.now moving }
     ensures access { result.0 ≡ data_of (access_of i.now (state_of p.now)) }
     ensures waits { result.1 ≡ access_waits (state_of p.now).memory (access_of i.now (state_of p.now)) }
 {
-    let moving = transfer_at(p, i);
     (data_access(p, i, moving), access_waits(p, i, moving))
 }
 
-/// The data access of an instruction that needs this by its name and its operands alone, and the wait states
-/// of it. Most have none.
+/// The data access of the instruction in the memo, and the wait states of it. Most have none.
 #[inline(always)]
 #[tactic(auto, using(crate::proofs::KnownFacts::no_access_rules))]
-fn accessed(p: &Processor, fixed: &FixedNeed, i: &Inst) -> (Option<(u32, u32)>, u64)
-    requires { fixed.now ≡ fixed_need i.now }
-    ensures access { result.0 ≡ data_of (access_of i.now (state_of p.now)) }
-    ensures waits { result.1 ≡ access_waits (state_of p.now).memory (access_of i.now (state_of p.now)) }
+fn accessed(p: &Processor, memo: &Memo) -> (Option<(u32, u32)>, u64)
+    requires { Locates (state_of p.now) memo.now }
+    ensures access { result.0 ≡ data_of (access_of (inst_in memo.now) (state_of p.now)) }
+    ensures waits { result.1 ≡ access_waits (state_of p.now).memory (access_of (inst_in memo.now) (state_of p.now)) }
 {
-    if !fixed.access {
+    if !memo.need().access {
         return (None, 0);
     }
-    access_and_waits(p, i)
+    access_and_waits(p, memo.inst(), memo.moving())
 }
 
-/// What is known of an instruction that meets no hazard and that needs this by its name and its operands
-/// alone, with the number of frames that it moves, whether it raises another fault than an arithmetic or a
-/// trace fault, and whether it raises a trace fault.
+/// What is known of the instruction in the memo, which meets no hazard, with the number of frames that it
+/// moves, whether it raises another fault than an arithmetic or a trace fault, and whether it raises a trace
+/// fault.
 // Each step asks for it, for its need alone.
 #[inline(always)]
-pub fn facts(
-    p: &Processor,
-    fixed: &FixedNeed,
-    i: &Inst,
-    frames: u8,
-    fault: bool,
-    trace: bool,
-) -> Facts
-    requires { fixed.now ≡ fixed_need i.now }
-    ensures facts { result ≡ facts_of i.now (state_of p.now) frames fault trace }
-    ensures known { frames ≤ 15 → (moves_a_frame i.now.op ≡ true → frames ≤ 1) → AreFacts i.now result }
+pub fn facts(p: &Processor, memo: &Memo, frames: u8, fault: bool, trace: bool) -> Facts
+    requires { Locates (state_of p.now) memo.now }
+    ensures facts { result ≡ facts_of (inst_in memo.now) (state_of p.now) frames fault trace }
+    ensures known { frames ≤ 15 → (moves_a_frame (inst_in memo.now).op ≡ true → frames ≤ 1) → AreFacts (inst_in memo.now) result }
 {
-    let (access, waits) = accessed(p, fixed, i);
+    let (access, waits) = accessed(p, memo);
     Facts {
         ip: p.ip(),
         access,

@@ -8,6 +8,7 @@ mod dma;
 mod effects;
 mod events;
 mod fetched;
+mod kept;
 mod known;
 mod memo;
 mod names;

@@ -1,49 +1,34 @@
-//! Instructions that were decoded, kept by the address of their word.
-ghost use Rattle.std.specs.Prelude.{◌≡◌, Ok, IfOk};
+//! Instructions that were decoded, kept by the address of their word, and the one that was read last.
+ghost use Rattle.std.specs.Prelude.{◌≡◌, ◌==◌, MatchResult};
 ghost use Rattle.i9_isa.specs.Valid.{IsValid};
-ghost use Rattle.i9_isa.specs.Words.{decoded};
+ghost use Rattle.i9_isa.specs.Words.{decoded, words_of};
 ghost use Rattle.i9_need.specs.Fixed.{fixed_need};
+ghost use Rattle.i9_processor.specs.State.{state_of};
+ghost use Rattle.i9_plan.specs.Kept.{inst_in, words_in, need_in, moving_in, Locates};
 
-use i9_decode::{BadWord, decode};
-use i9_isa::{Inst, NoMemory, Side};
-use i9_need::{FixedNeed, fixed_need};
+use crate::fetched::Words;
+use crate::kept::Kept;
+use crate::transfers::{Moving, moving_by};
+use i9_decode::BadWord;
+use i9_isa::{Inst, NoMemory};
+use i9_need::FixedNeed;
+use i9_processor::Processor;
 use std::alloc::Global;
 
 /// How many instructions are kept. Those of a loop of so many words have each a place of its own.
 const PLACES: usize = 256;
 
-/// A first word, the instruction that it is before its second word is read, and what that needs by its
-/// name and its operands alone.
-#[derive(Clone, Copy, Debug)]
-struct Known {
-    word: u32,
-    inst: Inst,
-    need: FixedNeed,
-    ghost read: { decoded word 0 ≡ Ok inst },
-    ghost needs: { need ≡ fixed_need inst },
-}
+/// The number of bytes of two words.
+const LONG: u32 = 8;
 
-/// What nothing needs.
-const NO_NEED: FixedNeed = FixedNeed {
-    side: Side::Ctl,
-    reads: 0,
-    writes: 0,
-    request: false,
-    store: false,
-    slow: false,
-    barrier: false,
-    access: false,
-    frames: false,
-    latency: 0,
-    length: 0,
-};
-
-/// Instructions that were decoded, so that a loop's words are decoded once, and what the one that was read
-/// last needs by its name and its operands alone. What it keeps changes no answer.
+/// Instructions that were decoded, so that a loop's words are decoded once, and the one that was read last,
+/// with the load or the store that it is, where its effective address was worked out. What it keeps changes
+/// no answer.
 #[derive(Debug, Drop)]
 pub struct Memo {
-    known: Vec<Option<Known>>,
-    need: FixedNeed,
+    known: Vec<Option<Kept>>,
+    last: Kept,
+    moving: Option<Moving>,
 }
 
 impl Memo {
@@ -51,50 +36,104 @@ impl Memo {
     pub fn none(alloc: Global) -> Memo {
         Memo {
             known: Vec::new(alloc),
-            need: NO_NEED,
+            last: Kept::first(),
+            moving: None,
         }
     }
 
     /// A memo with room for the instructions of a loop.
     pub fn new(alloc: Global) -> Result<Memo, NoMemory> {
-        let mut known = Vec::new(alloc);
-        match known.resize(PLACES, None) {
-            Ok(()) => Ok(Memo {
-                known,
-                need: NO_NEED,
-            }),
+        let mut memo = Memo::none(alloc);
+        match memo.known.resize(PLACES, None) {
+            Ok(()) => Ok(memo),
             Err(_) => Err(NoMemory),
         }
     }
 
-    /// What the instruction that was read last needs by its name and its operands alone.
-    pub fn need(&self) -> &FixedNeed
-        ensures { result.now ≡ self.now.need }
+    /// The instruction that was read last.
+    pub fn inst(&self) -> &Inst
+        ensures { result.now ≡ inst_in self.now }
     {
-        &self.need
+        &self.last.inst
     }
 
-    /// What the first word at an address stands for, before its second word is read.
-    pub(crate) fn read(&mut self, address: u32, word: u32) -> Result<Inst, BadWord>
-        ensures value { result ≡ decoded word 0 }
-        ensures valid { IfOk result (λ i. IsValid i) }
-        ensures need { IfOk result (λ i. self.new.need ≡ fixed_need i) }
+    /// Its words.
+    pub fn words(&self) -> Words
+        ensures { result ≡ words_in self.now }
+    {
+        self.last.words
+    }
+
+    /// What it needs by its name and its operands alone.
+    pub fn need(&self) -> &FixedNeed
+        ensures kept { result.now ≡ need_in self.now }
+        ensures need { result.now ≡ fixed_need (inst_in self.now) }
+    {
+        &self.last.need
+    }
+
+    /// Whether it has two words.
+    pub(crate) fn is_long(&self) -> bool
+        ensures { result ≡ (words_of (inst_in self.now) == 2) }
+    {
+        self.last.need.length == LONG
+    }
+
+    /// The load or the store that it is, as it was worked out last.
+    pub(crate) fn moving(&self) -> Option<Moving>
+        ensures { result ≡ moving_in self.now }
+    {
+        self.moving
+    }
+
+    /// Works out the load or the store that it is, where it is one, and keeps that.
+    #[inline(always)]
+    pub(crate) fn locate(&mut self, p: &Processor) -> Option<Moving>
+        ensures same { self.new.last ≡ self.old.last }
+        ensures moving { result ≡ moving_in self.new }
+        ensures located { Locates (state_of p.now) self.new }
+    {
+        let moving = moving_by(p, &self.last.inst, self.last.transfer);
+        self.moving = moving;
+        moving
+    }
+
+    /// Reads the first word at an address. A second word is still to be read.
+    // Most words are known, and this is part of the code that calls it.
+    #[inline(always)]
+    pub(crate) fn read(&mut self, address: u32, word: u32) -> Result<(), BadWord>
+        ensures { MatchResult result (λ done. (words_in self.new).first ≡ word) (λ why. decoded word 0 ≡ Err why) }
     {
         let place = (address / 4) as usize % PLACES;
         match self.known.get(place) {
-            Some(Some(known)) if known.word == word => {
-                let inst = known.inst;
-                self.need = known.need;
-                return Ok(inst);
+            Some(Some(kept)) if kept.words.first == word => {
+                self.last = *kept;
+                Ok(())
             }
-            _ => {}
+            _ => self.learn(place, word),
         }
-        let inst = decode(word, 0)?;
-        let need = fixed_need(&inst);
-        self.need = need;
-        if let Some(kept) = self.known.get_mut(place) {
-            *kept = Some(Known { word, inst, need });
+    }
+
+    /// Reads a first word that is not known, and keeps it at a place, where there is room.
+    #[inline(never)]
+    fn learn(&mut self, place: usize, word: u32) -> Result<(), BadWord>
+        ensures { MatchResult result (λ done. (words_in self.new).first ≡ word) (λ why. decoded word 0 ≡ Err why) }
+    {
+        let kept = Kept::of(word)?;
+        self.last = kept;
+        if let Some(old) = self.known.get_mut(place) {
+            *old = Some(kept);
         }
-        Ok(inst)
+        Ok(())
+    }
+
+    /// Reads the second word of an instruction that has two.
+    pub(crate) fn lengthen(&mut self, second: u32)
+        requires { words_of (inst_in self.old) ≡ 2 }
+        ensures words { words_in self.new ≡ record (words_in self.old) { second = second } }
+        ensures long { words_of (inst_in self.new) ≡ 2 }
+        ensures valid { IsValid (inst_in self.new) }
+    {
+        self.last.lengthen(second);
     }
 }

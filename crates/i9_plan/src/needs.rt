@@ -10,15 +10,15 @@ ghost use Rattle.i9_model.specs.Step.{Saves, entering};
 ghost use Rattle.i9_model.specs.Traced.{traced_action};
 ghost use Rattle.i9_model.specs.Run.{Instruction, Faulted, Entered, Interrupted, Reached, Blocked, fault_at};
 ghost use Rattle.i9_course.specs.NeedOf.{is_of_dma, moved_frames, need_of};
-ghost use Rattle.i9_need.specs.Fixed.{fixed_need};
 ghost use Rattle.i9_processor.specs.Effect.{IsEffect, move_in};
 ghost use Rattle.i9_processor.specs.State.{state_of, cache_of, size_of};
+ghost use Rattle.i9_plan.specs.Kept.{inst_in, Locates};
 
 use crate::known::facts;
-use i9_isa::Inst;
+use crate::memo::Memo;
 use i9_model::faults::ARITHMETIC;
 use i9_model::{Event, Need};
-use i9_need::{FixedNeed, entry_need, event_need, need_by, refused_need};
+use i9_need::{entry_need, event_need, need_by, refused_need};
 use i9_processor::{Effect, Move, Processor};
 
 /// How many frames are held: at most 15, since there are no more sets.
@@ -52,33 +52,31 @@ fn moved_frames(p: &Processor, m: &Move) -> u8
     }
 }
 
-/// What an instruction needs that is done by this effect, and that needs this by its name and its operands
-/// alone.
+/// What the instruction in the memo needs, which is done by this effect.
 // Each step asks for it, and it is made where the step is.
 #[inline(always)]
 #[tactic(auto, unfolding(i9_course::specs::NeedOf::need_of))]
-pub fn need_done(p: &Processor, fixed: &FixedNeed, inst: &Inst, effect: &Effect) -> Need
-    requires fixed { fixed.now ≡ fixed_need inst.now }
-    requires effect { IsEffect (state_of p.now) (traced_action inst.now (state_of p.now)) effect.now }
-    ensures need { result ≡ need_of (size_of p.now) (cache_of p.now) (state_of p.now) (Instruction inst.now) }
+pub fn need_done(p: &Processor, memo: &Memo, effect: &Effect) -> Need
+    requires located { Locates (state_of p.now) memo.now }
+    requires effect { IsEffect (state_of p.now) (traced_action (inst_in memo.now) (state_of p.now)) effect.now }
+    ensures need { result ≡ need_of (size_of p.now) (cache_of p.now) (state_of p.now) (Instruction (inst_in memo.now)) }
     ensures cost { result.cost ≤ 248 }
 {
     let frames = moved_frames(p, &effect.frames);
-    let known = facts(p, fixed, inst, frames, false, effect.trace.is_some());
-    need_by(fixed, &known)
+    let known = facts(p, memo, frames, false, effect.trace.is_some());
+    need_by(memo.need(), &known)
 }
 
-/// What an instruction needs that raises a fault of this type and subtype, and that needs this by its name
-/// and its operands alone.
+/// What the instruction in the memo needs, which raises a fault of this type and subtype.
 #[tactic(auto, unfolding(i9_course::specs::NeedOf::need_of))]
-pub fn need_faulted(p: &Processor, fixed: &FixedNeed, inst: &Inst, number: (u8, u16)) -> Need
-    requires fixed { fixed.now ≡ fixed_need inst.now }
+pub fn need_faulted(p: &Processor, memo: &Memo, number: (u8, u16)) -> Need
+    requires { Locates (state_of p.now) memo.now }
     ensures need { (n : ℕ) (c : Cache)
-        → result ≡ need_of n c (state_of p.now) (Faulted (Some inst.now) (fault_at (state_of p.now) number)) }
+        → result ≡ need_of n c (state_of p.now) (Faulted (Some (inst_in memo.now)) (fault_at (state_of p.now) number)) }
     ensures cost { result.cost ≤ 248 }
 {
-    let known = facts(p, fixed, inst, 0, number.0 != ARITHMETIC, false);
-    need_by(fixed, &known)
+    let known = facts(p, memo, 0, number.0 != ARITHMETIC, false);
+    need_by(memo.need(), &known)
 }
 
 /// What a word needs that is refused by a fault of this type and subtype.

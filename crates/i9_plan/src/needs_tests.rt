@@ -64,8 +64,8 @@ fn need_of(alloc: Global, p: &Processor) -> Option<Need>
     let mut effect = Effect::blank();
     let mut memo = Memo::none(alloc);
     match plan_next(p, &mut memo, &mut effect) {
-        Planned::Runs { inst, .. } => Some(need_done(p, memo.need(), &inst, &effect)),
-        Planned::Faults { inst, number, .. } => Some(need_faulted(p, memo.need(), &inst, number)),
+        Planned::Runs => Some(need_done(p, &memo, &effect)),
+        Planned::Faults(number) => Some(need_faulted(p, &memo, number)),
         Planned::Refused { number, .. } => Some(need_refused(p, number)),
         Planned::Meets(_) => None,
     }

@@ -4,15 +4,13 @@ ghost use Rattle.i9_isa.specs.declared.inst.Inst.{Inst};
 ghost use Rattle.i9_model.specs.Needs.{is_barrier_name, writes_sfr};
 ghost use Rattle.i9_processor.specs.State.{state_of};
 ghost use Rattle.i9_need.specs.Fixed.{fixed_need};
-ghost use Rattle.i9_plan.specs.Kept.{HasOpenNeed};
-ghost use Rattle.i9_plan.specs.Open.{OpenStands, OpenPlanned, OpenNeeds};
+ghost use Rattle.i9_plan.specs.Open.{OpenStands, OpenPlanned, OpenLocated, OpenNeeds};
 
 use crate::effects::pass;
-use crate::fetched::{Fetched, Words, fetch};
+use crate::fetched::fetch;
 use crate::memo::Memo;
 use crate::outcome::{Outcome, outcome_open};
 use crate::tracing::follow;
-use i9_isa::Inst;
 use i9_model::faults::ARITHMETIC;
 use i9_need::FixedNeed;
 use i9_processor::{Effect, Processor};
@@ -23,17 +21,10 @@ pub enum Open {
     /// A barrier, a word that is refused, a fault that is raised before anything is done, or a hazard: it
     /// waits until all is done.
     Waits,
-    /// An instruction that is done.
-    Runs {
-        words: Words,
-        inst: Inst,
-    },
-    /// An instruction whose result is an arithmetic fault of this type and subtype.
-    Faults {
-        words: Words,
-        inst: Inst,
-        number: (u8, u16),
-    },
+    /// The instruction in the memo, which is done.
+    Runs,
+    /// The instruction in the memo, whose result is an arithmetic fault of this type and subtype.
+    Faults((u8, u16)),
 }
 
 /// Whether an instruction that needs this passes nothing, and nothing passes it, by its name, or since it
@@ -46,38 +37,34 @@ fn stands_apart(need: &FixedNeed) -> bool
 
 /// What stands at the instruction address while records are open: what they leave in the end is what is
 /// read, so an instruction that is no barrier is planned at once, and its effect, with its trace events, is
-/// made in `effect`; what it needs by its name and its operands alone is in the memo. Whether it is a barrier
-/// by what it accesses, or by its trace events, its need says.
+/// made in `effect`; the instruction is in the memo. Whether it is a barrier by what it accesses, or by its trace events, its need says.
 // It is no part of the code that calls it, as `plan_next` is none.
 #[inline(never)]
 pub fn plan_open(p: &Processor, memo: &mut Memo, effect: &mut Effect) -> Open
-    ensures stands { OpenStands (state_of p.now) result }
-    ensures planned { OpenPlanned (state_of p.now) result effect.new }
-    ensures needs { OpenNeeds (state_of p.now) result }
-    ensures need { HasOpenNeed memo.new result }
+    ensures stands { OpenStands (state_of p.now) memo.new result }
+    ensures planned { OpenPlanned (state_of p.now) memo.new result effect.new }
+    ensures located { OpenLocated (state_of p.now) memo.new result }
+    ensures needs { OpenNeeds (state_of p.now) memo.new result }
 {
-    let Fetched { words, inst } = match fetch(p, memo) {
-        Ok(fetched) => fetched,
-        Err(_) => return Open::Waits,
-    };
+    if let Err(_) = fetch(p, memo) {
+        return Open::Waits;
+    }
     if stands_apart(memo.need()) {
         return Open::Waits;
     }
-    pass(p, &inst, effect);
-    match outcome_open(p, &inst, effect) {
+    let moving = memo.locate(p);
+    let inst = memo.inst();
+    pass(p, inst, effect);
+    match outcome_open(p, inst, moving, effect) {
         Outcome::Runs => {
-            follow(p, &inst, effect);
-            Open::Runs { words, inst }
+            follow(p, inst, moving, effect);
+            Open::Runs
         }
         Outcome::Faults(number) => {
             if number.0 != ARITHMETIC {
                 return Open::Waits;
             }
-            Open::Faults {
-                words,
-                inst,
-                number,
-            }
+            Open::Faults(number)
         }
         Outcome::Meets(_) => Open::Waits,
     }

@@ -1,15 +1,13 @@
 //! What is planned while something is open, and what is known of instructions, in the state of the other
 //! tests: one frame is saved at 3000.
 
-ghost use Rattle.std.specs.Prelude.{IfOk};
-ghost use Rattle.i9_isa.specs.Valid.{IsValid};
+ghost use Rattle.i9_processor.specs.State.{IsDrained};
 
 use crate::tests::Rest::{Nothing, Stores};
 use crate::tests::{PC, PRECISE, Rest, TRACED, USER, controls_of, ready, rest_of, set_of};
-use crate::{Memo, Open, Words, facts, plan_open};
-use i9_decode::decode;
-use i9_isa::{Inst, Op};
-use i9_need::fixed_need;
+use crate::{Memo, Open, Planned, Words, facts, plan_next, plan_open};
+use i9_isa::Op;
+use i9_model::Facts;
 use i9_processor::{Effect, Processor};
 use std::alloc::Global;
 use std::test::Fail;
@@ -176,10 +174,11 @@ fn plans_while_something_is_open(rt: HostRuntime) -> Result<(), Fail> {
     for ((ac, pc), (first, second), op, (set, rest), (after, next)) in RUNS {
         let p = ready(rt.alloc(), 0x1000, (first, second), ac, pc)?;
         let mut effect = Effect::blank();
-        match plan_open(&p, &mut Memo::none(rt.alloc()), &mut effect) {
-            Open::Runs { words, inst } => {
-                assert_eq!(rt; words, Words { first, second });
-                assert_eq!(rt; (inst.op, rest_of(&effect)), (op, rest));
+        let mut memo = Memo::none(rt.alloc());
+        match plan_open(&p, &mut memo, &mut effect) {
+            Open::Runs => {
+                assert_eq!(rt; memo.words(), Words { first, second });
+                assert_eq!(rt; (memo.inst().op, rest_of(&effect)), (op, rest));
                 assert_eq!(rt; set_of(&effect), set);
                 assert_eq!(rt; controls_of(&effect), (after, pc, 0, next));
                 assert_eq!(rt; effect.trace.is_some(), op == Op::Fmark);
@@ -203,15 +202,12 @@ fn plans_late_faults(rt: HostRuntime) -> Result<(), Fail> {
     ];
     for (ac, pc, word, op, subtype) in rows {
         let p = ready(rt.alloc(), 0x1000, (word, 0), ac, pc)?;
-        match plan_open(&p, &mut Memo::none(rt.alloc()), &mut Effect::blank()) {
-            Open::Faults {
-                words,
-                inst,
-                number,
-            } => {
-                assert_eq!(rt; (inst.op, number), (op, (3, subtype)));
+        let mut memo = Memo::none(rt.alloc());
+        match plan_open(&p, &mut memo, &mut Effect::blank()) {
+            Open::Faults(number) => {
+                assert_eq!(rt; (memo.inst().op, number), (op, (3, subtype)));
                 assert_eq!(rt;
-                    words,
+                    memo.words(),
                     Words {
                         first: word,
                         second: 0
@@ -302,13 +298,20 @@ const KNOWN: [Known; 10] = [
     ),
 ];
 
-/// The instruction of these words.
-fn read(words: (u32, u32)) -> Result<Inst, Fail>
-    ensures { IfOk result (λ i. IsValid i) }
+/// What is known of the instruction that stands there, where it meets no hazard.
+fn known_of(
+    alloc: Global,
+    p: &Processor,
+    frames: u8,
+    fault: bool,
+    trace: bool,
+) -> Result<Facts, Fail>
+    requires { IsDrained p.now }
 {
-    match decode(words.0, words.1) {
-        Ok(inst) => Ok(inst),
-        Err(_) => Err("it is refused".into()),
+    let mut memo = Memo::none(alloc);
+    match plan_next(p, &mut memo, &mut Effect::blank()) {
+        Planned::Runs | Planned::Faults(_) => Ok(facts(p, &memo, frames, fault, trace)),
+        _ => Err("no instruction is there".into()),
     }
 }
 
@@ -316,8 +319,7 @@ fn read(words: (u32, u32)) -> Result<Inst, Fail>
 fn knows_facts(rt: HostRuntime) -> Result<(), Fail> {
     for ((ac, pc), words, (waits, frames, fault, trace), access, (port, alone)) in KNOWN {
         let p = ready(rt.alloc(), 0x1000, words, ac, pc)?;
-        let inst = read(words)?;
-        let known = facts(&p, &fixed_need(&inst), &inst, frames, fault, trace);
+        let known = known_of(rt.alloc(), &p, frames, fault, trace)?;
         assert_eq!(rt;
             (known.ip, known.access, known.port),
             (0x1000, access, port)

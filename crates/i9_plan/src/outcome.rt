@@ -1,25 +1,27 @@
 //! What an instruction comes to that is read.
 ghost use Rattle.std.specs.Prelude.{◌≡◌, ◌&&◌, None, Some, Ok, true, false, length};
+ghost use Rattle.i9_isa.specs.Transfers.{transfer_of};
 ghost use Rattle.i9_isa.specs.Valid.{IsValid};
 ghost use Rattle.i9_exec.specs.Shown.{answer_of};
 ghost use Rattle.i9_model.specs.Operands.{value};
-ghost use Rattle.i9_model.specs.Access.{access_by_name, access_of};
+ghost use Rattle.i9_model.specs.Access.{access_by_name};
 ghost use Rattle.i9_model.specs.Branches.{branch_controls, is_taken};
 ghost use Rattle.i9_model.specs.Needs.{is_barrier_name};
 ghost use Rattle.i9_model.specs.Results.{has_result, destination_words};
-ghost use Rattle.i9_model.specs.Step.{destination, resulting, branching, action_by_name, action_of};
+ghost use Rattle.i9_model.specs.Step.{destination, resulting, branching, action_by_name};
 ghost use Rattle.i9_model.specs.Standing.{is_fault_name, raised_in, by_raised};
 ghost use Rattle.i9_processor.specs.Effect.{IsEffect};
 ghost use Rattle.i9_processor.specs.State.{state_of, IsDrained};
 ghost use Rattle.i9_plan.specs.Names.{is_branch};
-ghost use Rattle.i9_plan.specs.Planned.{standing_in, AreRequestsInRow, HasEffect, RunsInRow, IsPlanFor, Plans, Passes, Moves};
+ghost use Rattle.i9_plan.specs.Moved.{IsMove, Moves};
+ghost use Rattle.i9_plan.specs.Planned.{standing_in, HasEffect, RunsInRow, IsPlanFor, Passes};
 
 use crate::barriers::barrier_outcome;
 use crate::effects::{answering, dma_change, jumping, linking, passing, posting};
 use crate::names::{is_barrier, is_branch, is_fault_name};
-use crate::raised::{arithmetic_fault, mismatches, raised_in};
+use crate::raised::{arithmetic_fault, mismatches, raised_by_transfer};
 use crate::sources::{address, answer, target, value};
-use crate::transfers::{Moving, plan_transfer, transfer_at};
+use crate::transfers::{Moving, plan_transfer};
 use i9_entry::aligned;
 use i9_exec::{Done, Jump, branch, has_result, results_by_name};
 use i9_isa::{Inst, Op, Operand};
@@ -150,64 +152,55 @@ fn plan_plain(p: &Processor, i: &Inst) -> Effect
     }
 }
 
-/// What an instruction does that is no barrier, and that neither branches nor has a result, or the hazard
-/// of its access.
-#[tactic(auto, unfolding(i9_model::specs::Step::action_of), using(crate::proofs::ValidGroups::group_rules))]
-fn plan(p: &Processor, i: &Inst, moving: Option<Moving>, effect: &mut Effect) -> Option<u32>
-    requires valid { IsValid i.now }
-    requires result { has_result i.now.op ≡ false }
-    requires branch { is_branch i.now.op ≡ false }
-    requires barrier { is_barrier_name i.now.op ≡ false }
-    requires moves { Moves (state_of p.now) i.now moving }
-    requires passes { Passes (state_of p.now) i.now effect.old }
-    ensures plans { Plans (state_of p.now) (access_of i.now (state_of p.now)) (action_of i.now (state_of p.now)) result effect.new }
-    ensures row { AreRequestsInRow i.now effect.new }
-{
-    match moving {
-        Some(m) => plan_transfer(p, i, m, effect),
-        None => {
-            *effect = plan_plain(p, i);
-            None
-        }
-    }
-}
-
-/// What an instruction comes to that is no barrier, and that neither branches nor has a result.
+/// What an instruction comes to that is no barrier, and that neither branches nor has a result, nor moves
+/// data: it is done.
 #[inline(never)]
 fn plain_outcome(p: &Processor, i: &Inst, effect: &mut Effect) -> Outcome
     requires valid { IsValid i.now }
     requires result { has_result i.now.op ≡ false }
     requires branch { is_branch i.now.op ≡ false }
     requires barrier { is_barrier_name i.now.op ≡ false }
+    requires still { transfer_of i.now.op ≡ None }
+    ensures standing { standing_in i.now result ≡ by_raised i.now (state_of p.now) None }
+    ensures effect { HasEffect (state_of p.now) i.now result effect.new }
+{
+    results_by_name();
+    *effect = plan_plain(p, i);
+    Outcome::Runs
+}
+
+/// What a load or a store comes to, with its effect in the place of one that passes.
+#[inline(never)]
+#[tactic(auto, unfolding(i9_model::specs::Step::action_of), using(crate::proofs::ValidGroups::group_rules))]
+fn transfer_outcome(p: &Processor, i: &Inst, m: Moving, effect: &mut Effect) -> Outcome
+    requires valid { IsValid i.now }
+    requires moves { IsMove (state_of p.now) i.now m }
     requires passes { Passes (state_of p.now) i.now effect.old }
     ensures standing { standing_in i.now result ≡ by_raised i.now (state_of p.now) (raised_in i.now (state_of p.now)) }
     ensures effect { HasEffect (state_of p.now) i.now result effect.new }
     ensures row { RunsInRow i.now result effect.new }
 {
-    let moving = transfer_at(p, i);
-    if let Some(number) = raised_in(p, i, moving) {
+    if let Some(number) = raised_by_transfer(p, i, m) {
         return Outcome::Faults(number);
     }
     results_by_name();
-    match plan(p, i, moving, effect) {
+    match plan_transfer(p, i, m, effect) {
         None => Outcome::Runs,
         Some(a) => Outcome::Meets(a),
     }
 }
 
-/// What an instruction comes to that is read and that is no barrier by its name, with its effect in the
-/// place of one that passes: nothing is asked of memory but what it reads itself. An instruction with a
-/// result or a condition raises nothing before, but for a special function register that it uses outside
-/// supervisor mode.
-// Others call it, so that the effect stays where it is and is not moved piece by piece.
+/// What an instruction comes to that is read, no barrier by its name, and no load or store, with its effect
+/// in the place of one that passes. It raises nothing before it does anything, but for a special function
+/// register that it uses outside supervisor mode.
 #[inline(never)]
-pub(crate) fn outcome_open(p: &Processor, i: &Inst, effect: &mut Effect) -> Outcome
+fn still_outcome(p: &Processor, i: &Inst, effect: &mut Effect) -> Outcome
     requires valid { IsValid i.now }
     requires barrier { is_barrier_name i.now.op ≡ false }
+    requires still { transfer_of i.now.op ≡ None }
     requires passes { Passes (state_of p.now) i.now effect.old }
     ensures standing { standing_in i.now result ≡ by_raised i.now (state_of p.now) (raised_in i.now (state_of p.now)) }
     ensures effect { HasEffect (state_of p.now) i.now result effect.new }
-    ensures row { RunsInRow i.now result effect.new }
 {
     if mismatches(p, i) {
         Outcome::Faults((TYPE, MISMATCH))
@@ -220,10 +213,40 @@ pub(crate) fn outcome_open(p: &Processor, i: &Inst, effect: &mut Effect) -> Outc
     }
 }
 
+/// What an instruction comes to that is read and that is no barrier by its name, with its effect in the
+/// place of one that passes: nothing is asked of memory but what it reads itself.
+// The effect stays where it is, since what this calls is called by others, and is not moved piece by piece.
+#[inline(always)]
+pub(crate) fn outcome_open(
+    p: &Processor,
+    i: &Inst,
+    moving: Option<Moving>,
+    effect: &mut Effect,
+) -> Outcome
+    requires valid { IsValid i.now }
+    requires barrier { is_barrier_name i.now.op ≡ false }
+    requires moves { Moves (state_of p.now) i.now moving }
+    requires passes { Passes (state_of p.now) i.now effect.old }
+    ensures standing { standing_in i.now result ≡ by_raised i.now (state_of p.now) (raised_in i.now (state_of p.now)) }
+    ensures effect { HasEffect (state_of p.now) i.now result effect.new }
+    ensures row { RunsInRow i.now result effect.new }
+{
+    match moving {
+        Some(m) => transfer_outcome(p, i, m, effect),
+        None => still_outcome(p, i, effect),
+    }
+}
+
 /// What an instruction comes to that is read, with its effect in the place of one that passes.
-pub(crate) fn outcome_of(p: &Processor, i: &Inst, effect: &mut Effect) -> Outcome
+pub(crate) fn outcome_of(
+    p: &Processor,
+    i: &Inst,
+    moving: Option<Moving>,
+    effect: &mut Effect,
+) -> Outcome
     requires valid { IsValid i.now }
     requires drained { IsDrained p.now }
+    requires moves { Moves (state_of p.now) i.now moving }
     requires passes { Passes (state_of p.now) i.now effect.old }
     ensures standing { standing_in i.now result ≡ by_raised i.now (state_of p.now) (raised_in i.now (state_of p.now)) }
     ensures effect { HasEffect (state_of p.now) i.now result effect.new }
@@ -232,6 +255,6 @@ pub(crate) fn outcome_of(p: &Processor, i: &Inst, effect: &mut Effect) -> Outcom
     if is_barrier(i.op) {
         barrier_outcome(p, i, effect)
     } else {
-        outcome_open(p, i, effect)
+        outcome_open(p, i, moving, effect)
     }
 }

@@ -1,17 +1,15 @@
 //! What stands at the instruction address, and what it will do.
-ghost use Rattle.std.specs.Prelude.{◌≡◌, Err};
+ghost use Rattle.std.specs.Prelude.{◌≡◌};
 ghost use Rattle.i9_model.specs.Standing.{stands_at};
 ghost use Rattle.i9_processor.specs.State.{state_of, IsDrained};
-ghost use Rattle.i9_plan.specs.Kept.{HasNeed};
-ghost use Rattle.i9_plan.specs.Planned.{standing_of, IsFetched, IsPlanned};
+ghost use Rattle.i9_plan.specs.Planned.{standing_of, IsUnread, IsPlanned, IsLocated};
 
 use crate::effects::pass;
-use crate::fetched::{Fetched, Unread, Words, fetch};
+use crate::fetched::{Unread, Words, fetch};
 use crate::memo::Memo;
 use crate::outcome::{Outcome, outcome_of};
 use crate::raised::word_fault;
 use crate::tracing::follow;
-use i9_isa::Inst;
 use i9_processor::{Effect, Processor};
 
 /// What stands at the instruction address.
@@ -20,30 +18,21 @@ pub enum Planned {
     /// Its fetch or its access meets a hazard at this byte.
     Meets(u32),
     /// A word that is refused, with the type and the subtype of its fault.
-    Refused {
-        words: Words,
-        number: (u8, u16),
-    },
-    /// An instruction that raises a fault of this type and subtype.
-    Faults {
-        words: Words,
-        inst: Inst,
-        number: (u8, u16),
-    },
-    /// An instruction that is done.
-    Runs {
-        words: Words,
-        inst: Inst,
-    },
+    Refused { words: Words, number: (u8, u16) },
+    /// The instruction in the memo, which raises a fault of this type and subtype.
+    Faults((u8, u16)),
+    /// The instruction in the memo, which is done.
+    Runs,
 }
 
 /// What stands there where no instruction does.
 #[inline(never)]
 #[tactic(auto, unfolding(i9_model::specs::Standing::stands_at))]
 fn unread(p: &Processor, why: Unread) -> Planned
-    requires { IsFetched (state_of p.now) (Err why) }
-    ensures standing { standing_of result ≡ stands_at (state_of p.now) }
-    ensures planned { (e : Effect) → IsPlanned (state_of p.now) result e }
+    requires { IsUnread (state_of p.now) why }
+    ensures standing { (m : Memo) → standing_of m result ≡ stands_at (state_of p.now) }
+    ensures planned { (m : Memo) (e : Effect) → IsPlanned (state_of p.now) m result e }
+    ensures located { (m : Memo) → IsLocated (state_of p.now) m result }
 {
     match why {
         Unread::Meets(a) => Planned::Meets(a),
@@ -57,31 +46,28 @@ fn unread(p: &Processor, why: Unread) -> Planned
 /// What stands at the instruction address: the hazard of its fetch, which comes first; an instruction
 /// that is refused, or that faults; the hazard of its access; or what it does.
 /// Each result is worked out once, and the effect of what is done, with its trace events, is made in
-/// `effect`; what it needs by its name and its operands alone is in the memo (the i960 CA/CF User's Manual, instruction set, faults and tracing).
+/// `effect`; the instruction is in the memo (the i960 CA/CF User's Manual, instruction set, faults and tracing).
 // It is no part of the code that calls it: LLVM would take the effect apart there, and move it piece by piece.
 #[inline(never)]
 #[tactic(auto, unfolding(i9_model::specs::Standing::stands_at))]
 pub fn plan_next(p: &Processor, memo: &mut Memo, effect: &mut Effect) -> Planned
     requires drained { IsDrained p.now }
-    ensures standing { standing_of result ≡ stands_at (state_of p.now) }
-    ensures planned { IsPlanned (state_of p.now) result effect.new }
-    ensures need { HasNeed memo.new result }
+    ensures standing { standing_of memo.new result ≡ stands_at (state_of p.now) }
+    ensures planned { IsPlanned (state_of p.now) memo.new result effect.new }
+    ensures located { IsLocated (state_of p.now) memo.new result }
 {
-    let Fetched { words, inst } = match fetch(p, memo) {
-        Ok(fetched) => fetched,
-        Err(why) => return unread(p, why),
-    };
-    pass(p, &inst, effect);
-    match outcome_of(p, &inst, effect) {
+    if let Err(why) = fetch(p, memo) {
+        return unread(p, why);
+    }
+    let moving = memo.locate(p);
+    let inst = memo.inst();
+    pass(p, inst, effect);
+    match outcome_of(p, inst, moving, effect) {
         Outcome::Meets(a) => Planned::Meets(a),
-        Outcome::Faults(number) => Planned::Faults {
-            words,
-            inst,
-            number,
-        },
+        Outcome::Faults(number) => Planned::Faults(number),
         Outcome::Runs => {
-            follow(p, &inst, effect);
-            Planned::Runs { words, inst }
+            follow(p, inst, moving, effect);
+            Planned::Runs
         }
     }
 }

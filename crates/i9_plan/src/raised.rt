@@ -1,12 +1,13 @@
 //! The fault that an instruction raises before it does anything.
-ghost use Rattle.std.specs.Prelude.{◌≡◌, ◌&&◌, not};
+ghost use Rattle.std.specs.Prelude.{◌≡◌, ◌&&◌, None, not};
+ghost use Rattle.i9_isa.specs.Transfers.{transfer_of};
 ghost use Rattle.i9_isa.specs.Valid.{IsValid};
 ghost use Rattle.i9_model.specs.Access.{access_of, data_of};
 ghost use Rattle.i9_model.specs.Calls.{in_supervisor_mode};
 ghost use Rattle.i9_model.specs.Faults.{uses_special};
 ghost use Rattle.i9_model.specs.Standing.{word_fault, arithmetic_fault, raised_in};
 ghost use Rattle.i9_processor.specs.State.{state_of};
-ghost use Rattle.i9_plan.specs.Planned.{Moves};
+ghost use Rattle.i9_plan.specs.Moved.{IsMove, Moves};
 
 use crate::names::uses_special;
 use crate::sources::{atomic_address, value};
@@ -55,15 +56,25 @@ pub(crate) fn data_access(p: &Processor, i: &Inst, moving: Option<Moving>) -> Op
     }
 }
 
-/// The fault that an instruction raises before it does anything.
-pub(crate) fn raised_in(p: &Processor, i: &Inst, moving: Option<Moving>) -> Option<(u8, u16)>
+/// The fault that an instruction raises before it does anything that is no load and no store.
+pub(crate) fn raised_in(p: &Processor, i: &Inst) -> Option<(u8, u16)>
     requires valid { IsValid i.now }
-    requires moves { Moves (state_of p.now) i.now moving }
+    requires still { transfer_of i.now.op ≡ None }
     ensures { result ≡ raised_in i.now (state_of p.now) }
 {
-    let access = data_access(p, i, moving);
+    let access = data_access(p, i, None);
     let config = p.tables().fault_config;
     raises(i, value(p, i.a), value(p, i.b), access, p.pc(), config)
+}
+
+/// The fault that a load or a store raises before it does anything, whatever its sources are.
+pub(crate) fn raised_by_transfer(p: &Processor, i: &Inst, m: Moving) -> Option<(u8, u16)>
+    requires valid { IsValid i.now }
+    requires moves { IsMove (state_of p.now) i.now m }
+    ensures { result ≡ raised_in i.now (state_of p.now) }
+{
+    let access = Some((m.address, m.transfer.size.bytes()));
+    raises(i, 0, 0, access, p.pc(), p.tables().fault_config)
 }
 
 /// Whether an instruction uses special function registers outside supervisor mode.

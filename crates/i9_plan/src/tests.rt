@@ -58,12 +58,12 @@ enum Seen {
     Runs(Op),
 }
 
-fn seen_of(planned: &Planned) -> Seen {
+fn seen_of(memo: &Memo, planned: &Planned) -> Seen {
     match planned {
         Planned::Meets(a) => Meets(*a),
         Planned::Refused { number, .. } => Refused(number.0, number.1),
-        Planned::Faults { inst, number, .. } => Faults(inst.op, number.0, number.1),
-        Planned::Runs { inst, .. } => Runs(inst.op),
+        Planned::Faults(number) => Faults(memo.inst().op, number.0, number.1),
+        Planned::Runs => Runs(memo.inst().op),
     }
 }
 
@@ -276,19 +276,16 @@ const STOPS: [(u32, u32, u32, Seen); 18] = [
 fn plans_stops(rt: HostRuntime) -> Result<(), Fail> {
     for (ac, pc, word, wanted) in STOPS {
         let p = ready(rt.alloc(), 0x1000, (word, 0), ac, pc)?;
-        assert_eq!(rt;
-            seen_of(&plan_next(&p, &mut Memo::none(rt.alloc()), &mut Effect::blank())),
-            wanted,
-            "{word}"
-        );
+        let mut memo = Memo::none(rt.alloc());
+        let planned = plan_next(&p, &mut memo, &mut Effect::blank());
+        assert_eq!(rt; seen_of(&memo, &planned), wanted, "{word}");
     }
     // The words themselves stand in the live frame: the first one, or the second.
     for (at, hazard) in [(0x3002, 0x3002), (0x2FFC, 0x3000)] {
         let p = ready(rt.alloc(), at, (0x8CA8_3000, 0), 0, PC)?;
-        assert_eq!(rt;
-            seen_of(&plan_next(&p, &mut Memo::none(rt.alloc()), &mut Effect::blank())),
-            Meets(hazard)
-        );
+        let mut memo = Memo::none(rt.alloc());
+        let planned = plan_next(&p, &mut memo, &mut Effect::blank());
+        assert_eq!(rt; seen_of(&memo, &planned), Meets(hazard));
     }
     Ok(())
 }
@@ -397,7 +394,7 @@ fn keeps_instructions(rt: HostRuntime) -> Result<(), Fail> {
     for (at, word, name) in KEPT {
         let p = ready(rt.alloc(), at, (word, 0), 0, PC)?;
         let found = match plan_next(&p, &mut memo, &mut Effect::blank()) {
-            Planned::Runs { inst, .. } => Some(inst.op),
+            Planned::Runs => Some(memo.inst().op),
             _ => None,
         };
         assert_eq!(rt; found, name, "{at} {word}");
@@ -413,7 +410,7 @@ fn plans_traces(rt: HostRuntime) -> Result<(), Fail> {
         assert!(rt;
             matches!(
                 plan_next(&p, &mut Memo::none(rt.alloc()), &mut effect),
-                Planned::Runs { .. }
+                Planned::Runs
             )
         );
         assert_eq!(rt; effect.trace, trace, "{word}");
@@ -426,17 +423,18 @@ fn plans_results(rt: HostRuntime) -> Result<(), Fail> {
     for (ac, word, op, set, controls) in RESULTS {
         let p = ready(rt.alloc(), 0x1000, (word, 0x1234), ac, PC)?;
         let mut effect = Effect::blank();
-        match plan_next(&p, &mut Memo::none(rt.alloc()), &mut effect) {
-            Planned::Runs { words, inst } => {
+        let mut memo = Memo::none(rt.alloc());
+        match plan_next(&p, &mut memo, &mut effect) {
+            Planned::Runs => {
                 let second = if op == Op::Lda { 0x1234 } else { 0 };
                 assert_eq!(rt;
-                    words,
+                    memo.words(),
                     Words {
                         first: word,
                         second
                     }
                 );
-                assert_eq!(rt; (inst.op, rest_of(&effect)), (op, Nothing));
+                assert_eq!(rt; (memo.inst().op, rest_of(&effect)), (op, Nothing));
                 assert_eq!(rt; set_of(&effect), set);
                 assert_eq!(rt; controls_of(&effect), controls);
             }
@@ -475,7 +473,7 @@ fn plans_moves(rt: HostRuntime) -> Result<(), Fail> {
         let p = ready(rt.alloc(), 0x1000, (word, 0), 0, PC)?;
         let mut effect = Effect::blank();
         match plan_next(&p, &mut Memo::none(rt.alloc()), &mut effect) {
-            Planned::Runs { .. } => {
+            Planned::Runs => {
                 assert_eq!(rt; rest_of(&effect), rest);
                 assert_eq!(rt; set_of(&effect), set);
                 assert_eq!(rt; controls_of(&effect), (0, PC, 0, next));
@@ -593,7 +591,7 @@ fn plans_posts(rt: HostRuntime) -> Result<(), Fail> {
         let p = ready(rt.alloc(), 0x1000, (word, 0), 0, pc)?;
         let mut effect = Effect::blank();
         match plan_next(&p, &mut Memo::none(rt.alloc()), &mut effect) {
-            Planned::Runs { .. } => {
+            Planned::Runs => {
                 assert_eq!(rt; effect.requests, requests);
                 assert_eq!(rt; effect.posting, posting);
                 assert_eq!(rt; (effect.pc, effect.check), (after, check));
@@ -685,7 +683,7 @@ fn plans_set_ups(rt: HostRuntime) -> Result<(), Fail> {
         let p = ready(rt.alloc(), 0x1000, (word, 0), 0, PC)?;
         let mut effect = Effect::blank();
         match plan_next(&p, &mut Memo::none(rt.alloc()), &mut effect) {
-            Planned::Runs { .. } => {
+            Planned::Runs => {
                 assert_eq!(rt; (effect.dma, effect.next), (dma, 0x1004));
                 assert_eq!(rt;
                     (effect.posting, rest_of(&effect)),

@@ -8,11 +8,12 @@ ghost use Rattle.i9_model.specs.Traced.{is_traced, seen_of, switches, traced_act
 ghost use Rattle.i9_model.specs.Standing.{Runs, raised_in, by_raised};
 ghost use Rattle.i9_processor.specs.Effect.{IsEffect, action_in};
 ghost use Rattle.i9_processor.specs.State.{state_of};
+ghost use Rattle.i9_plan.specs.Moved.{Moves};
 ghost use Rattle.i9_plan.specs.Planned.{IsInRow};
 
 use crate::outcome::jump_of;
 use crate::raised::data_access;
-use crate::transfers::transfer_at;
+use crate::transfers::Moving;
 use crate::words::bit;
 use i9_events::{Seen, event};
 use i9_isa::{Inst, Op};
@@ -54,22 +55,24 @@ fn switches(p: &Processor, op: Op, effect: &Effect) -> bool
 }
 
 /// The effective address of a load, a store or an atomic instruction.
-fn access_address(p: &Processor, i: &Inst) -> Option<u32>
+fn access_address(p: &Processor, i: &Inst, moving: Option<Moving>) -> Option<u32>
+    requires { Moves (state_of p.now) i.now moving }
     ensures { result ≡ option_map (λ d. d.0) (data_of (access_of i.now (state_of p.now))) }
 {
-    match data_access(p, i, transfer_at(p, i)) {
+    match data_access(p, i, moving) {
         Some((address, _)) => Some(address),
         None => None,
     }
 }
 
 /// What trace events see of an instruction.
-fn seen(p: &Processor, i: &Inst, effect: &Effect) -> Seen
+fn seen(p: &Processor, i: &Inst, moving: Option<Moving>, effect: &Effect) -> Seen
+    requires { Moves (state_of p.now) i.now moving }
     ensures { result ≡ seen_of i.now (state_of p.now) (action_in (state_of p.now) effect.now) }
 {
     Seen {
         address: p.ip(),
-        access: access_address(p, i),
+        access: access_address(p, i, moving),
         taken: jump_of(p, i).taken,
         switched: switches(p, i.op, effect),
     }
@@ -78,26 +81,28 @@ fn seen(p: &Processor, i: &Inst, effect: &Effect) -> Seen
 /// Adds to the effect of an instruction its trace events, where some count.
 // Trace enable is seldom set, and this is no part of the code that calls it.
 #[inline(never)]
-fn trace(p: &Processor, i: &Inst, effect: &mut Effect)
+fn trace(p: &Processor, i: &Inst, moving: Option<Moving>, effect: &mut Effect)
+    requires moves { Moves (state_of p.now) i.now moving }
     requires clear { hazard_of i.now (state_of p.now) ≡ None }
     requires effect { IsEffect (state_of p.now) (action_of i.now (state_of p.now)) effect.old }
     ensures effect { IsEffect (state_of p.now) (traced_action i.now (state_of p.now)) effect.new }
     ensures row { IsInRow effect.old → IsInRow effect.new }
 {
     let left = p.trace_left(effect);
-    let seen = seen(p, i, effect);
+    let seen = seen(p, i, moving, effect);
     effect.trace = event(left.tc, p.pc(), i, &seen, &left.breaks);
 }
 
 /// Adds to the effect of an instruction that runs its trace events, while trace enable is set.
 #[inline(always)]
-pub(crate) fn follow(p: &Processor, i: &Inst, effect: &mut Effect)
+pub(crate) fn follow(p: &Processor, i: &Inst, moving: Option<Moving>, effect: &mut Effect)
+    requires moves { Moves (state_of p.now) i.now moving }
     requires runs { Runs i.now ≡ by_raised i.now (state_of p.now) (raised_in i.now (state_of p.now)) }
     requires effect { IsEffect (state_of p.now) (action_of i.now (state_of p.now)) effect.old }
     ensures effect { IsEffect (state_of p.now) (traced_action i.now (state_of p.now)) effect.new }
     ensures row { IsInRow effect.old → IsInRow effect.new }
 {
     if is_traced(p) {
-        trace(p, i, effect);
+        trace(p, i, moving, effect);
     }
 }

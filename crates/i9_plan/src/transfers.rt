@@ -1,7 +1,7 @@
 //! Loads, stores and atomic instructions.
 ghost use Rattle.std.specs.Prelude.{◌≡◌, ◌+◌, ◌≤◌, ◌∷◌, [], take, length};
 ghost use Rattle.i9_isa.specs.declared.size.Direction.{Direction};
-ghost use Rattle.i9_isa.specs.Transfers.{byte_count, register_count};
+ghost use Rattle.i9_isa.specs.Transfers.{byte_count, register_count, transfer_of};
 ghost use Rattle.i9_isa.specs.Valid.{IsValid};
 ghost use Rattle.i9_model.specs.Writes.{wrapped, upwards};
 ghost use Rattle.i9_model.specs.Memory.{words_in, word_bytes};
@@ -11,13 +11,14 @@ ghost use Rattle.i9_model.specs.Step.{extended, filled, loaded, stored_of, loadi
 ghost use Rattle.i9_model.specs.Step.{atomic_address, atomic, merged, answering};
 ghost use Rattle.i9_processor.specs.State.{state_of};
 ghost use Rattle.i9_plan.specs.Names.{HasGroup};
-ghost use Rattle.i9_plan.specs.Planned.{IsPlanFor, IsInRow, Plans, Passes, Moves};
+ghost use Rattle.i9_plan.specs.Moved.{Moves};
+ghost use Rattle.i9_plan.specs.Planned.{IsPlanFor, IsInRow, Plans, Passes};
 
 use crate::effects::{answering, append, assign, listed, one_word};
 use crate::sources::{address, atomic_address, source_words, value};
 use crate::words::{merged, word_address};
 use arrayvec::ArrayVec;
-use i9_isa::{Direction, Inst, Operand, Size, Transfer, transfer};
+use i9_isa::{Direction, Inst, Operand, Size, Transfer};
 use i9_processor::{Effect, MOST_BYTES, MOST_VALUES, Processor};
 
 /// A transfer between registers and memory, and the address where it begins.
@@ -27,11 +28,13 @@ pub(crate) struct Moving {
     pub address: u32,
 }
 
-/// The transfer that an instruction is, where it is one.
-pub(crate) fn transfer_at(p: &Processor, i: &Inst) -> Option<Moving>
+/// The load or the store that an instruction is, where this is what its name moves.
+#[tactic(auto, using(i9_isa::proofs::Moved::moves_few, i9_isa::proofs::Moved::loads_registers))]
+pub(crate) fn moving_by(p: &Processor, i: &Inst, transfer: Option<Transfer>) -> Option<Moving>
+    requires { transfer ≡ transfer_of i.now.op }
     ensures { Moves (state_of p.now) i.now result }
 {
-    match transfer(i.op) {
+    match transfer {
         None => None,
         Some(transfer) => Some(Moving {
             transfer,

@@ -4,8 +4,8 @@ use Rattle.i9_processor.specs.State.{state_of}
 use Rattle.i9_plan.proofs.Outcomes.{barrier_moves, barrier_stands, barrier_does}
 use Rattle.i9_plan.proofs.barriers.barrier_outcome.Goals as goal
 
-pub raised_in-requires-clause-moves : goal.raised_in-requires-clause-moves
-raised_in-requires-clause-moves c = barrier_moves c.args.i.now.op c.requires.barrier
+pub raised_in-requires-clause-still : goal.raised_in-requires-clause-still
+raised_in-requires-clause-still c = barrier_moves c.args.i.now.op c.requires.barrier
 
 pub returns-in-Ok-clause-standing : goal.returns-in-Ok-clause-standing
 returns-in-Ok-clause-standing c =

@@ -1,9 +1,12 @@
-use Rattle.std.proofs.Common.{◌≡◌, false, rules, sym, ◌∙◌}
+use Rattle.std.proofs.Common.{◌≡◌, false, rules, sym, ap, ◌∙◌}
 use Rattle.std.specs.Prelude.{◌==◌}
 use Rattle.i9_model.specs.declared.faults.TheConstants.{ARITHMETIC}
+use Rattle.i9_need.specs.Fixed.{fixed_need}
 use Rattle.i9_processor.specs.State.{state_of}
+use Rattle.i9_plan.specs.declared.kept.Kept.{Kept}
 use Rattle.i9_plan.specs.declared.outcome.Outcome.TheVariants as outcomes
-use Rattle.i9_plan.proofs.Opened.{unread_waits, barrier_waits, outcome_stands, outcome_waits, no_barrier, runs_needs, faults_needs}
+use Rattle.i9_plan.specs.Kept.{inst_in}
+use Rattle.i9_plan.proofs.Opened.{unread_waits, barrier_waits, still_read, outcome_stands, outcome_waits, no_barrier, runs_needs, faults_needs}
 use Rattle.i9_plan.proofs.open.plan_open.Goals as goal
 
 pub returns-in-Err-clause-stands : goal.returns-in-Err-clause-stands
@@ -11,48 +14,63 @@ returns-in-Err-clause-stands c = unread_waits (state_of c.args.p.now) c.in-Err.f
 
 pub returns-then-stands_apart-clause-stands : goal.returns-then-stands_apart-clause-stands
 returns-then-stands_apart-clause-stands c =
-    let apart = sym (c.stands_apart.ensures c.in-Ok.fetched.inst (c.need.ensures ∙ c.in-Ok.ensures.need)) ∙ c.if-stands_apart.true in
-    barrier_waits (state_of c.args.p.now) c.in-Ok.fetched c.in-Ok.ensures.fetched apart
+    let m = c.fetch.new.memo in
+    let apart = sym (c.stands_apart.ensures (inst_in m) c.need.ensures.need) ∙ c.if-stands_apart.true in
+    barrier_waits (state_of c.args.p.now) m c.in_default.ensures.fetched apart
 
 pub returns-in-Runs-clause-stands : goal.returns-in-Runs-clause-stands
 returns-in-Runs-clause-stands c =
-    let f = c.in-Ok.fetched in
-    let apart = sym (c.stands_apart.ensures c.in-Ok.fetched.inst (c.need.ensures ∙ c.in-Ok.ensures.need)) ∙ c.if-stands_apart.false in
-    let runs = outcome_stands (state_of c.args.p.now) f outcomes.Runs c.in-Ok.ensures.fetched c.in-Runs.ensures.standing in
-    (runs, no_barrier f.inst apart)
-
-pub returns-then-number-ne-ARITHMETIC-clause-stands : goal.returns-then-number-ne-ARITHMETIC-clause-stands
-returns-then-number-ne-ARITHMETIC-clause-stands c =
-    let early : (c.in-Faults.number.0 == ARITHMETIC) ≡ false = search rules in
-    let o = outcomes.Faults c.in-Faults.number in
-    outcome_waits (state_of c.args.p.now) c.in-Ok.fetched o c.in-Ok.ensures.fetched c.in-Faults.ensures.standing early
-
-pub returns-else-number-ne-ARITHMETIC-clause-stands : goal.returns-else-number-ne-ARITHMETIC-clause-stands
-returns-else-number-ne-ARITHMETIC-clause-stands c =
-    let f = c.in-Ok.fetched in
-    let arithmetic : c.in-Faults.number.0 ≡ ARITHMETIC = search rules in
-    let apart = sym (c.stands_apart.ensures c.in-Ok.fetched.inst (c.need.ensures ∙ c.in-Ok.ensures.need)) ∙ c.if-stands_apart.false in
-    let o = outcomes.Faults c.in-Faults.number in
-    let faults = outcome_stands (state_of c.args.p.now) f o c.in-Ok.ensures.fetched c.in-Faults.ensures.standing in
-    (faults, arithmetic, no_barrier f.inst apart)
-
-pub returns-in-Meets-clause-stands : goal.returns-in-Meets-clause-stands
-returns-in-Meets-clause-stands c =
-    let o = outcomes.Meets c.in-Meets.field-0 in
-    outcome_waits (state_of c.args.p.now) c.in-Ok.fetched o c.in-Ok.ensures.fetched c.in-Meets.ensures.standing tt
+    let s = state_of c.args.p.now in
+    let m = c.locate-moving.new.self in
+    let read = still_read s c.fetch.new.memo m c.locate-moving.ensures.same c.in_default.ensures.fetched in
+    let same = c.need.ensures.need ∙ sym (ap (λ (k : Kept). fixed_need k.inst) c.locate-moving.ensures.same) in
+    let apart = no_barrier (inst_in m) (sym (c.stands_apart.ensures (inst_in m) same) ∙ c.if-stands_apart.false) in
+    let runs = outcome_stands s m c.inst-inst.result.now outcomes.Runs read c.inst-inst.ensures c.in-Runs.ensures.standing in
+    (runs, apart)
 
 pub returns-in-Runs-clause-needs : goal.returns-in-Runs-clause-needs
 returns-in-Runs-clause-needs c =
-    let f = c.in-Ok.fetched in
     let s = state_of c.args.p.now in
-    let apart = no_barrier f.inst (sym (c.stands_apart.ensures c.in-Ok.fetched.inst (c.need.ensures ∙ c.in-Ok.ensures.need)) ∙ c.if-stands_apart.false) in
-    runs_needs f.inst s (outcome_stands s f outcomes.Runs c.in-Ok.ensures.fetched c.in-Runs.ensures.standing) apart
+    let m = c.locate-moving.new.self in
+    let read = still_read s c.fetch.new.memo m c.locate-moving.ensures.same c.in_default.ensures.fetched in
+    let same = c.need.ensures.need ∙ sym (ap (λ (k : Kept). fixed_need k.inst) c.locate-moving.ensures.same) in
+    let apart = no_barrier (inst_in m) (sym (c.stands_apart.ensures (inst_in m) same) ∙ c.if-stands_apart.false) in
+    let runs = outcome_stands s m c.inst-inst.result.now outcomes.Runs read c.inst-inst.ensures c.in-Runs.ensures.standing in
+    runs_needs (inst_in m) s runs apart
+
+pub returns-else-number-ne-ARITHMETIC-clause-stands : goal.returns-else-number-ne-ARITHMETIC-clause-stands
+returns-else-number-ne-ARITHMETIC-clause-stands c =
+    let s = state_of c.args.p.now in
+    let m = c.locate-moving.new.self in
+    let read = still_read s c.fetch.new.memo m c.locate-moving.ensures.same c.in_default.ensures.fetched in
+    let same = c.need.ensures.need ∙ sym (ap (λ (k : Kept). fixed_need k.inst) c.locate-moving.ensures.same) in
+    let apart = no_barrier (inst_in m) (sym (c.stands_apart.ensures (inst_in m) same) ∙ c.if-stands_apart.false) in
+    let o = outcomes.Faults c.in-Faults.number in
+    let arithmetic : c.in-Faults.number.0 ≡ ARITHMETIC = search rules in
+    let faults = outcome_stands s m c.inst-inst.result.now o read c.inst-inst.ensures c.in-Faults.ensures.standing in
+    (faults, arithmetic, apart)
 
 pub returns-else-number-ne-ARITHMETIC-clause-needs : goal.returns-else-number-ne-ARITHMETIC-clause-needs
 returns-else-number-ne-ARITHMETIC-clause-needs c =
-    let f = c.in-Ok.fetched in
     let s = state_of c.args.p.now in
+    let m = c.locate-moving.new.self in
+    let read = still_read s c.fetch.new.memo m c.locate-moving.ensures.same c.in_default.ensures.fetched in
     let o = outcomes.Faults c.in-Faults.number in
     let arithmetic : c.in-Faults.number.0 ≡ ARITHMETIC = search rules in
-    let stands = outcome_stands s f o c.in-Ok.ensures.fetched c.in-Faults.ensures.standing in
-    faults_needs f.inst s c.in-Faults.number stands arithmetic
+    let faults = outcome_stands s m c.inst-inst.result.now o read c.inst-inst.ensures c.in-Faults.ensures.standing in
+    faults_needs (inst_in m) s c.in-Faults.number faults arithmetic
+
+pub returns-then-number-ne-ARITHMETIC-clause-stands : goal.returns-then-number-ne-ARITHMETIC-clause-stands
+returns-then-number-ne-ARITHMETIC-clause-stands c =
+    let s = state_of c.args.p.now in
+    let m = c.locate-moving.new.self in
+    let read = still_read s c.fetch.new.memo m c.locate-moving.ensures.same c.in_default.ensures.fetched in
+    let early : (c.in-Faults.number.0 == ARITHMETIC) ≡ false = search rules in
+    outcome_waits s m c.inst-inst.result.now (outcomes.Faults c.in-Faults.number) read c.inst-inst.ensures c.in-Faults.ensures.standing early
+
+pub returns-in-Meets-clause-stands : goal.returns-in-Meets-clause-stands
+returns-in-Meets-clause-stands c =
+    let s = state_of c.args.p.now in
+    let m = c.locate-moving.new.self in
+    let read = still_read s c.fetch.new.memo m c.locate-moving.ensures.same c.in_default.ensures.fetched in
+    outcome_waits s m c.inst-inst.result.now (outcomes.Meets c.in-Meets.field-0) read c.inst-inst.ensures c.in-Meets.ensures.standing tt
