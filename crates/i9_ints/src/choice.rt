@@ -96,6 +96,8 @@ impl Ints {
 
     /// The line that comes first: of those that are ready the one with the greatest vector, and
     /// the lowest of these.
+    // Seldom is a line posted, and this is no part of the code that calls it.
+    #[inline(never)]
     fn best_line(&self, pc: u32) -> Option<u8>
         ensures { IsBestLine (interrupts_of self.now) pc LINES result }
     {
@@ -149,6 +151,8 @@ impl Ints {
     /// of it, is above that of the process controls or is 31; the greatest vector comes first, and
     /// of one vector the lowest line. After the i960 CA/CF User's Manual, interrupts; that the
     /// lowest line comes first is this project's own.
+    // Each step asks, and mostly nothing is posted that counts: that much is part of the code that calls it.
+    #[inline(always)]
     #[tactic(auto, using(crate::proofs::Choosing::choice_rules))]
     pub fn choose(&self, pc: u32) -> Option<Chosen>
         ensures { result ≡ chosen (interrupts_of self.now) pc }

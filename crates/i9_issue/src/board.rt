@@ -90,6 +90,8 @@ impl Board {
     }
 
     /// The same where the turn is known at which the record issues.
+    // Each step calls it, and its need is copied once where it is part of the code that calls it.
+    #[inline(always)]
     pub fn place_at(&mut self, n: &Need, issue: u64) -> Placed
         requires cost { HasCost n.now }
         requires early { IsEarly self.old n.now }

@@ -2,8 +2,8 @@
 use Rattle.std.proofs.Common.{◌≡◌, ℕ, ◌+◌, ◌<◌, ◌^◌, ◌||◌, ◌&&◌, ◌==◌, Bool, true, false, cond, List, [], ◌∷◌, ◌++◌, length, length-append, ◌≤◌, find, Some, None, refl, sym, ap, ◌∙◌, arith}
 use Rattle.std.specs.Prelude.{not}
 use Rattle.std.specs.List.{slice_get}
-use Rattle.i9_model.specs.Writes.{wrapped, places_of, upwards, written}
-use Rattle.i9_model.specs.Memory.{Memory, with_writes}
+use Rattle.i9_model.specs.Writes.{wrapped, places_of, upwards, last_put, written}
+use Rattle.i9_model.specs.Memory.{Memory, with_writes, console_byte, exit_word}
 use Rattle.i9_model.specs.State.{Frames}
 use Rattle.i9_model.specs.Frames.{in_frames, is_put, wrote}
 use Rattle.i9_model.specs.Hazards.{writes_hazard}
@@ -80,6 +80,23 @@ pub none_frames : (f : Frames) → f ≡ wrote f []
 none_frames f = sym (none_wrote f)
 
 pub ruleset none_rules = (none_cache, none_memory, none_frames, one_write)
+
+-- nothing is looked for where no byte is stored
+pub nothing_exit : (m : Memory) (ps : List (ℕ × ℕ)) → ps ≡ [] → exit_word m ps ≡ None
+unfolding exit_word last_put
+nothing_exit m [] none = refl
+nothing_exit m (p ∷ ps) none = absurd cc
+
+pub nothing_console : (ps : List (ℕ × ℕ)) → ps ≡ [] → console_byte ps ≡ None
+unfolding last_put
+nothing_console [] none = refl
+nothing_console (p ∷ ps) none = absurd cc
+
+pub some_stored : (a : ℕ) (bs : List ℕ) (qs : List (ℕ × ℕ)) → (length bs == 0) ≡ false → upwards a bs ++ qs ≡ [] → ⊥
+some_stored a [] qs some none = cc
+some_stored a (b ∷ bs) qs some none = cc
+
+pub ruleset nothing_rules = (nothing_exit, nothing_console)
 
 -- ---- room
 

@@ -57,6 +57,7 @@ fn reserve_move(storage: &mut Storage, m: &Move) -> Result<(), NoMemory>
 }
 
 /// Makes room for the bytes in a row of an effect. Most effects have none, and then nothing is looked up.
+#[inline(always)]
 fn reserve_run(storage: &mut Storage, e: &Effect) -> Result<(), NoMemory>
     ensures cache { stores.cache_of storage.new ≡ stores.cache_of storage.old }
     ensures frames { stores.frames_in storage.new ≡ stores.frames_in storage.old }
@@ -76,6 +77,7 @@ fn reserve_run(storage: &mut Storage, e: &Effect) -> Result<(), NoMemory>
 }
 
 /// Makes room for a byte at an address, where there is one.
+#[inline(always)]
 fn reserve_one(storage: &mut Storage, byte: Option<(u32, u8)>) -> Result<(), NoMemory>
     ensures cache { stores.cache_of storage.new ≡ stores.cache_of storage.old }
     ensures frames { stores.frames_in storage.new ≡ stores.frames_in storage.old }
@@ -95,6 +97,7 @@ fn reserve_one(storage: &mut Storage, byte: Option<(u32, u8)>) -> Result<(), NoM
 }
 
 /// Makes room for bytes with bits of requests.
+#[inline(always)]
 #[tactic(auto, using(crate::proofs::Appending::room_rules))]
 fn reserve_requests(storage: &mut Storage, requests: &Requests) -> Result<(), NoMemory>
     ensures cache { stores.cache_of storage.new ≡ stores.cache_of storage.old }
@@ -113,6 +116,7 @@ fn reserve_requests(storage: &mut Storage, requests: &Requests) -> Result<(), No
 }
 
 /// Stores the bytes in a row of an effect. Most effects have none, and then nothing is looked up.
+#[inline(always)]
 fn store_run(storage: &mut Storage, e: &Effect)
     requires drained { 0 < length e.now.bytes.items → stores.IsDrained storage.old }
     requires space { HasSpace storage.old e.now.address (length e.now.bytes.items) }
@@ -153,6 +157,7 @@ fn store_one(storage: &mut Storage, byte: Option<(u32, u8)>)
 }
 
 /// Stores bytes with bits of requests.
+#[inline(always)]
 fn store_requests(storage: &mut Storage, requests: &Requests)
     requires drained { 0 < length (requests_in requests.now) → stores.IsDrained storage.old }
     requires space { AreSpacious storage.old (requests_in requests.now) }
@@ -170,6 +175,7 @@ fn store_requests(storage: &mut Storage, requests: &Requests)
 }
 
 /// Stores the bytes of an effect.
+#[inline(always)]
 fn store_bytes(storage: &mut Storage, e: &Effect)
     requires drained { 0 < length (writes_in e.now) → stores.IsDrained storage.old }
     requires space { HasSpace storage.old e.now.address (length e.now.bytes.items) }
@@ -210,6 +216,7 @@ fn queue_run(storage: &mut Storage, e: &Effect, done: u64)
 }
 
 /// The bytes of an effect wait where it is a request, and else they are stored.
+#[inline(always)]
 fn put_bytes(storage: &mut Storage, e: &Effect, landing: &Landing)
     requires acts { CanPut (stores.waiting_in storage.old) landing.now e.now }
     requires space { HasSpace storage.old e.now.address (length e.now.bytes.items) }
@@ -245,6 +252,8 @@ impl Processor {
     ghost use Rattle.i9_processor.specs.Effect.{CanAct, IsStill};
 
     /// Makes room for what an effect stores and saves. Memory is refused only where room is lacking.
+    // Each step calls it, and most effects store and save nothing.
+    #[inline(always)]
     #[tactic(auto, unfolding(crate::specs::State::state_of, crate::specs::State::cache_of, crate::specs::State::size_of, crate::specs::State::cells_of, crate::specs::State::bytes_of, crate::specs::State::queue_of), using(crate::proofs::Applying::room_rules))]
     pub fn reserve(&mut self, e: &Effect) -> Result<(), NoMemory>
         ensures state { state_of self.new ≡ state_of self.old }
@@ -263,6 +272,8 @@ impl Processor {
     }
 
     /// Starts anew by what was read of the tables.
+    // Few effects do, and this is no part of the code that calls it.
+    #[inline(never)]
     #[tactic(auto, unfolding(crate::specs::State::state_of, crate::specs::State::cache_of, crate::specs::State::size_of, crate::specs::State::bytes_of, crate::specs::State::queue_of, i9_model::specs::State::started))]
     fn start(&mut self, landing: &Landing, setup: &Setup)
         requires { IsStartCovered landing.now.writes }
@@ -286,6 +297,8 @@ impl Processor {
     }
 
     /// Loads a group of the control table.
+    // Few effects do, and this is no part of the code that calls it.
+    #[inline(never)]
     #[tactic(auto, unfolding(crate::specs::State::state_of, crate::specs::State::cache_of, crate::specs::State::size_of, crate::specs::State::bytes_of, crate::specs::State::queue_of))]
     fn load_group(&mut self, group: u8, words: [u32; 4])
         requires group { group < 7 }
@@ -314,6 +327,7 @@ impl Processor {
     }
 
     /// Does what is done to the controls.
+    #[inline(always)]
     #[tactic(auto, unfolding(crate::specs::State::state_of, crate::specs::State::cache_of, crate::specs::State::size_of, crate::specs::State::bytes_of, crate::specs::State::queue_of))]
     fn control(&mut self, landing: &Landing, c: Control)
         requires can { CanControl (state_of self.old) c }
@@ -347,6 +361,8 @@ impl Processor {
     }
 
     /// The locals as a push saves them: rip is the return address.
+    // Calls alone save them, and this is no part of the code that calls it.
+    #[inline(never)]
     #[tactic(auto, unfolding(crate::specs::State::state_of), using(crate::proofs::RegisterList::register_rules))]
     fn saved_locals(&self, back: u32) -> [u32; LOCALS]
         ensures { result ≡ saved_locals (state_of self.now) back }
@@ -373,6 +389,7 @@ impl Processor {
     }
 
     /// Does what is done to frames, and plans registers and the condition code.
+    #[inline(always)]
     #[tactic(auto, unfolding(crate::specs::State::state_of, crate::specs::State::cache_of, crate::specs::State::size_of, crate::specs::State::bytes_of, crate::specs::State::queue_of))]
     fn move_frames(&mut self, e: &Effect, landing: &Landing)
         requires registers { AreRegisters e.now }
@@ -423,6 +440,7 @@ impl Processor {
     }
 
     /// Does what is done to interrupts.
+    #[inline(always)]
     #[tactic(auto, unfolding(crate::specs::State::state_of, crate::specs::State::cache_of, crate::specs::State::size_of, crate::specs::State::bytes_of, crate::specs::State::queue_of))]
     fn post(&mut self, p: Posting)
         requires { CanPost p }
@@ -445,6 +463,7 @@ impl Processor {
     }
 
     /// Does what is done to DMA.
+    #[inline(always)]
     #[tactic(auto, unfolding(crate::specs::State::state_of, crate::specs::State::cache_of, crate::specs::State::size_of, crate::specs::State::bytes_of, crate::specs::State::queue_of))]
     fn change_dma(&mut self, change: DmaChange)
         requires { CanChange change }
@@ -474,6 +493,7 @@ impl Processor {
     }
 
     /// Does what an effect says, but for what is done to the controls that start-up reads.
+    #[inline(always)]
     #[tactic(auto, unfolding(crate::specs::State::state_of, crate::specs::State::cache_of, crate::specs::State::size_of, crate::specs::State::bytes_of, crate::specs::State::queue_of, i9_model::specs::Step::moved))]
     fn do_moves(&mut self, e: &Effect, landing: &Landing)
         requires registers { AreRegisters e.now }
@@ -509,6 +529,7 @@ impl Processor {
     }
 
     /// Sets the flags of trace events, where some count.
+    #[inline(always)]
     #[tactic(auto, unfolding(crate::specs::State::state_of, crate::specs::State::cache_of, crate::specs::State::size_of, crate::specs::State::bytes_of, crate::specs::State::queue_of))]
     fn flag(&mut self, trace: Option<Trace>)
         ensures state { state_of self.new ≡ flagged trace (state_of self.old) }
@@ -525,6 +546,7 @@ impl Processor {
     }
 
     /// New sets take the place of the others, where there are any.
+    #[inline(always)]
     #[tactic(auto, unfolding(crate::specs::State::state_of, crate::specs::State::cache_of, crate::specs::State::size_of, crate::specs::State::bytes_of, crate::specs::State::queue_of))]
     fn renew(&mut self, sets: Option<Sets>)
         requires empty { IsSome sets → (cache_of self.old).held ≡ [] }
@@ -561,6 +583,9 @@ impl Processor {
     /// instructions. What it leaves in the resources that it writes is planned, and lands when it is done;
     /// where it is a request its bytes wait until then, and else they are stored at once. It needs no
     /// memory.
+    // Each step calls it, and most effects set registers alone: all that they ask for is part of the code
+    // that calls it, and what few effects do is kept apart.
+    #[inline(always)]
     pub fn apply(&mut self, e: &Effect, landing: &Landing, counts: u64, sets: Option<Sets>)
         requires registers { AreRegisters e.now }
         requires posts { CanPost e.now.posting }

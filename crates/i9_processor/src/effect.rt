@@ -1,5 +1,5 @@
 //! What is done to a processor, as data.
-ghost use Rattle.std.specs.Prelude.{◌≡◌, ◌+◌, ◌<◌, ◌≤◌, ◌^◌, [], length};
+ghost use Rattle.std.specs.Prelude.{◌≡◌, ◌+◌, ◌<◌, ◌≤◌, ◌^◌, ◌↔◌, IsTrue, [], length};
 ghost use Rattle.i9_model.specs.Writes.{last_put, pairs_at, upwards};
 ghost use Rattle.i9_model.specs.Step.{going};
 ghost use Rattle.i9_model.specs.Memory.{console_byte, exit_word};
@@ -146,6 +146,13 @@ impl Requests {
         }
     }
 
+    /// Whether there is none.
+    fn is_empty(&self) -> bool
+        ensures { IsTrue result ↔ requests_in self.now ≡ [] }
+    {
+        self.first.is_none() && self.second.is_none()
+    }
+
     /// The byte at a place: the second one where both stand there.
     fn byte_at(&self, place: u32) -> Option<u8>
         ensures { result ≡ last_put (requests_in self.now) place }
@@ -269,7 +276,16 @@ impl Effect {
         self.trace = None;
     }
 
+    /// Whether no byte is stored.
+    fn stores_nothing(&self) -> bool
+        ensures { IsTrue result ↔ writes_in self.now ≡ [] }
+    {
+        self.bytes.is_empty() && self.requests.is_empty()
+    }
+
     /// The byte that is stored at an address.
+    // Most effects store none, and this is no part of the code that calls it.
+    #[inline(never)]
     fn byte_at(&self, place: u32) -> Option<u8>
         ensures { result ≡ last_put (writes_in self.now) place }
     {
@@ -279,9 +295,11 @@ impl Effect {
         }
     }
 
-    /// The word that ends the run, in the order of its region: stores to all four of its bytes.
+    /// The word that ends the run, looked for in all bytes that are stored.
+    // Most effects store none, and this is no part of the code that calls it.
+    #[inline(never)]
     #[tactic(auto, unfolding(i9_model::specs::Memory::exit_word))]
-    pub fn exit_word(&self, processor: &Processor) -> Option<u32>
+    fn stored_exit_word(&self, processor: &Processor) -> Option<u32>
         ensures { result ≡ exit_word (state_of processor.now).memory (writes_in self.now) }
     {
         let bytes = [
@@ -297,10 +315,27 @@ impl Effect {
         })
     }
 
+    /// The word that ends the run, in the order of its region: stores to all four of its bytes.
+    #[inline(always)]
+    #[tactic(auto, using(crate::proofs::Appending::nothing_rules))]
+    pub fn exit_word(&self, processor: &Processor) -> Option<u32>
+        ensures { result ≡ exit_word (state_of processor.now).memory (writes_in self.now) }
+    {
+        if self.stores_nothing() {
+            return None;
+        }
+        self.stored_exit_word(processor)
+    }
+
     /// The byte that goes out at the console.
+    #[inline(always)]
+    #[tactic(auto, using(crate::proofs::Appending::nothing_rules))]
     pub fn console_byte(&self) -> Option<u8>
         ensures { result ≡ console_byte (writes_in self.now) }
     {
+        if self.stores_nothing() {
+            return None;
+        }
         self.byte_at(CONSOLE)
     }
 }

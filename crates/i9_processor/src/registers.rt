@@ -58,6 +58,7 @@ pub(crate) fn set_arithmetic(file: &mut File, flags: &mut u32, ac: u32)
 }
 
 /// Plans registers from one up and the condition code, and sets the other arithmetic controls.
+#[inline(always)]
 pub(crate) fn issue_group(
     file: &mut File,
     flags: &mut u32,
@@ -78,6 +79,8 @@ pub(crate) fn issue_group(
 }
 
 /// Plans the locals and fp of a frame and the condition code, and sets the other arithmetic controls.
+// Calls and returns alone enter frames, and this is no part of the code that calls it.
+#[inline(never)]
 pub(crate) fn issue_frame(
     file: &mut File,
     flags: &mut u32,

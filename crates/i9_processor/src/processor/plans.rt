@@ -83,6 +83,8 @@ impl Processor {
     }
 
     /// The interrupt that comes next, if there is one, or the hazard of a look at what software asks for.
+    // Each step asks, and mostly what software asks for is not looked at.
+    #[inline(always)]
     #[tactic(auto, unfolding(crate::specs::State::state_of, crate::specs::State::queue_of, i9_model::specs::Before::choice_in))]
     pub fn choose(&self) -> Result<Option<Chosen>, u32>
         requires drained { (state_of self.now).check ≡ true → IsDrained self.now }

@@ -1,9 +1,8 @@
-use Rattle.std.proofs.Common.{◌≡◌, ℕ, ◌<◌, ◌-◌, ◌^◌, arith}
+use Rattle.std.proofs.Common.{◌≡◌, ℕ, ◌<◌, arith}
 use Rattle.std.specs.Int.{bit_at}
 use Rattle.std.proofs.lemmas.Nat.Bits.{bit_at_ones}
 use Rattle.i9_model.specs.Late.{resources}
 use Rattle.i9_model.proofs.TurnTests.{one-set}
-use Rattle.i9_processor.specs.State.{state_of}
 use Rattle.i9_processor.proofs.tests.applies.Goals as goal
 
 -- all resources

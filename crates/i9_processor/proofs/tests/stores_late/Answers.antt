@@ -1,5 +1,4 @@
 use Rattle.std.proofs.Common.{◌≡◌, ℕ, ◌%◌, List, [], sym, ap, subst}
-use Rattle.i9_model.specs.Controls.{Control}
 use Rattle.i9_model.specs.State.{State}
 use Rattle.i9_model.specs.Step.{Action, going}
 use Rattle.i9_model.specs.Writes.{last_put}

@@ -1,9 +1,8 @@
-use Rattle.std.proofs.Common.{◌≡◌, ℕ, ◌+◌, ◌^◌, ◌<◌, Bool, true, refl, sym, ap, ◌∙◌, subst, arith}
+use Rattle.std.proofs.Common.{ℕ, ◌+◌, ◌^◌, ◌<◌, refl, sym, ap, ◌∙◌, subst, arith}
 use Rattle.std.proofs.Math.Facts.{Fits-of_lt}
 use Rattle.i9_model.specs.Late.{is_plan_open}
 use Rattle.i9_model.specs.Needs.{set_below}
 use Rattle.i9_regs.specs.File.{cell_in}
-use Rattle.i9_processor.specs.State.{cells_of}
 use Rattle.i9_processor.proofs.BusySet.{set_with, set_without, bit_is, bit_fits}
 use Rattle.i9_processor.proofs.processor.Processor.busy_registers.Goals as goal
 use Rattle.i9_processor.proofs.processor.Processor.busy_registers.Goals.{then-busy, else-busy}

@@ -1,5 +1,4 @@
-use Rattle.std.proofs.Common.{◌<◌, sym, ap, arith}
-use Rattle.i9_regs.specs.File.{cell_in}
+use Rattle.std.proofs.Common.{sym, arith}
 use Rattle.i9_processor.specs.State.{cells_of}
 use Rattle.i9_processor.proofs.RegisterList.{registers_in_order}
 use Rattle.i9_processor.proofs.processor.Processor.raw_registers.Goals as goal
