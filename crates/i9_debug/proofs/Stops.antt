@@ -17,7 +17,7 @@ use Rattle.i9_machine.specs.declared.line.Turn.TheVariants as answers
 use Rattle.i9_machine.specs.declared.machine.Machine.{Machine}
 use Rattle.i9_machine.specs.Line.{AddsLines}
 use Rattle.i9_machine.specs.Step.{TellsRecord}
-use Rattle.i9_machine.specs.StandsFor.{StandsFor, Follows, IsUnderWay, DoesNext, EndsRun, Advances}
+use Rattle.i9_machine.specs.StandsFor.{StandsFor, Follows, IsUnderWay, DoesNext, EndsRun, Comes}
 use Rattle.i9_machine.specs.Turned.{steps_on}
 use Rattle.i9_tracer.specs.Until.{view_behind, IsPassed}
 use Rattle.i9_tracer.proofs.Untils.{Shows}
@@ -94,24 +94,17 @@ module _ {K : Type 0} (k : Account K) (g : Given) (h : List Item) (allows : View
       prints = prints_same k Done a c _ _ (one-more d.done d.lines) (behind Done p);
     }
 
-    pub on_seeks : Advances g (steps_on inv.done h) answers.On mid next plan [] ls → Prints Done k b c (flat_map line_text ls) → Sought a c next plan
-    on_seeks (inl moves) p = record {
-      done = inv.done;
-      stands = moves.stands;
-      follows = moves.follows;
-      passed = inv.passed;
-      prints = prints_same k Done a c _ _ (no-more moves.lines) (behind Done p);
-    }
-    on_seeks (inr d) p = does_seek answers.On d (λ one. absurd (on_counts d.done.kind d.done.before d.tells one)) p
+    pub on_seeks : Comes g (steps_on inv.done h) answers.On mid next plan [] ls → Prints Done k b c (flat_map line_text ls) → Sought a c next plan
+    on_seeks d p = does_seek answers.On d (λ one. absurd (on_counts d.done.kind d.done.before d.tells one)) p
 
-    pub issued_seeks : (t : Issued) (view : View) → Advances g (steps_on inv.done h) (answers.Issued t) mid next plan [] ls
+    pub issued_seeks : (t : Issued) (view : View) → Comes g (steps_on inv.done h) (answers.Issued t) mid next plan [] ls
         → Prints Done k b c (flat_map line_text ls) → Shows g next view → allows view false → Sought a c next plan
     issued_seeks t view d p shows refused =
         let shown = shows (Step d.done ∷ steps_on inv.done h) None d.stands in
         does_seek (answers.Issued t) d (λ one. subst (λ (v : View). allows v false) shown refused) p
 
     -- the stop holds
-    pub issued_holds : (t : Issued) (view : View) → Advances g (steps_on inv.done h) (answers.Issued t) mid next plan [] ls
+    pub issued_holds : (t : Issued) (view : View) → Comes g (steps_on inv.done h) (answers.Issued t) mid next plan [] ls
         → Prints Done k b c (flat_map line_text ls) → Shows g next view → allows view true
         → Drives (StopsBy Done allows g h) Done g k a c next plan
     issued_holds t view d p shows held =
@@ -143,7 +136,7 @@ module _ {K : Type 0} (k : Account K) (g : Given) (h : List Item) (allows : View
     }
 
     -- the end was reached
-    pub end_seeks : (answer : Printed) (f : End) → Advances g (steps_on inv.done h) (answers.End f) mid next plan [] ls
+    pub end_seeks : (answer : Printed) (f : End) → Comes g (steps_on inv.done h) (answers.End f) mid next plan [] ls
         → Prints answer k b c (flat_map line_text ls) → Drives (StopsBy answer allows g h) answer g k a c next plan
     end_seeks answer f d p =
         let place = ended (steps_on inv.done h) (turn_ahead g (steps_on inv.done h)) f in
@@ -160,12 +153,9 @@ module _ {K : Type 0} (k : Account K) (g : Given) (h : List Item) (allows : View
         }
 
     -- printing stopped in the lines of a step
-    pub step_cut : (answer : Printed) (turn : Turn) → IsCut answer → Advances g (steps_on inv.done h) turn mid next plan [] ls
+    pub step_cut : (answer : Printed) (turn : Turn) → IsCut answer → Comes g (steps_on inv.done h) turn mid next plan [] ls
         → Prints answer k b c (flat_map line_text ls) → Drives (StopsBy answer allows g h) answer g k a c next plan
-    step_cut answer answers.On cut (inl moves) p =
-        cut_by answer inv.done cut (older_passed inv.done inv.passed) moves.stands moves.follows
-        (prints_same k answer a c _ _ (no-more moves.lines) (behind answer p))
-    step_cut answer answers.On cut (inr d) p =
+    step_cut answer answers.On cut d p =
         cut_by answer (d.done ∷ inv.done) cut inv.passed d.stands d.follows (prints_same k answer a c _ _ (one-more d.done d.lines) (behind answer p))
     step_cut answer (answers.Issued t) cut d p =
         cut_by answer (d.done ∷ inv.done) cut inv.passed d.stands d.follows (prints_same k answer a c _ _ (one-more d.done d.lines) (behind answer p))
@@ -175,7 +165,7 @@ module _ {K : Type 0} (k : Account K) (g : Given) (h : List Item) (allows : View
         (prints_same k answer a c _ _ (no-more d.lines) (behind answer p))
 
     -- memory was refused for a step
-    pub step_refused : Advances g (steps_on inv.done h) answers.Memory mid next plan [] ls
+    pub step_refused : Comes g (steps_on inv.done h) answers.Memory mid next plan [] ls
         → Prints Done k b c (flat_map line_text ls) → Drives (StopsBy Memory allows g h) Memory g k a c next plan
     step_refused d p =
         cut_by Memory inv.done tt (older_passed inv.done inv.passed) d.stands d.follows
@@ -183,18 +173,9 @@ module _ {K : Type 0} (k : Account K) (g : Given) (h : List Item) (allows : View
 
 -- ---- the machine stays under way
 
-pub moved_under_way : (before m : Machine) (plan : Plan) → IsUnderWay before plan
-    → ((g : Given) (h : List Item) (end : Option End) → StandsFor g h end before → StandsFor g h end m) → IsUnderWay m plan
-moved_under_way before m plan u stands = record { given = u.given; items = u.items; stands = stands u.given u.items None u.stands; follows = u.follows }
-
-pub on_under_way : (g : Given) (h : List Item) (before m : Machine) (plan : Plan) (old new : List Line)
-    → Advances g h answers.On before m plan old new → IsUnderWay m plan
-on_under_way g h before m plan old new (inl moves) = record { given = g; items = h; stands = moves.stands; follows = moves.follows }
-on_under_way g h before m plan old new (inr d) = record { given = g; items = Step d.done ∷ h; stands = d.stands; follows = d.follows }
-
-pub issued_under_way : (g : Given) (h : List Item) (t : Issued) (before m : Machine) (plan : Plan) (old new : List Line)
-    → Advances g h (answers.Issued t) before m plan old new → IsUnderWay m plan
-issued_under_way g h t before m plan old new d = record { given = g; items = Step d.done ∷ h; stands = d.stands; follows = d.follows }
+pub does_under_way : (g : Given) (h : List Item) (turn : Turn) (before m : Machine) (plan : Plan) (old new : List Line)
+    → DoesNext g h turn before m plan old new → IsUnderWay m plan
+does_under_way g h turn before m plan old new d = record { given = g; items = Step d.done ∷ h; stands = d.stands; follows = d.follows }
 
 -- ---- a stop at an instruction address
 

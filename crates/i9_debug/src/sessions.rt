@@ -83,8 +83,7 @@ fn run_to_stop<K: Sink, F: Fn(&View) -> bool + ViewTest>(
     let mut lines = Vec::new(alloc);
     loop {
         lines.clear();
-        m.pass_turns();
-        let turn = m.advance(plan, &mut lines);
+        let turn = m.proceed(plan, &mut lines);
         match print_lines(alloc, &lines, out) {
             Printed::Done => {}
             Printed::Write => return Printed::Write,

@@ -11,7 +11,7 @@ use Rattle.i9_model.specs.declared.run.Due.{Due}
 use Rattle.i9_model.specs.Before.{choice_in}
 use Rattle.i9_model.specs.HeldFrames.{Cache}
 use Rattle.i9_model.specs.Late.{turns}
-use Rattle.i9_model.specs.Run.{Given, Kind, Faulted, Does, fault_at, record_of, next_in}
+use Rattle.i9_model.specs.Run.{Given, Kind, Instruction, Faulted, Does, fault_at, record_of, next_in}
 use Rattle.i9_model.specs.ScheduleText.{standing_by}
 use Rattle.i9_model.specs.State.{State}
 use Rattle.i9_model.specs.Traced.{traced_action}
@@ -22,7 +22,8 @@ use Rattle.i9_course.specs.NeedOf.{need_of}
 use Rattle.i9_course.specs.Course.{Item, course, ahead}
 use Rattle.i9_course.proofs.Ahead.{ahead_by_end}
 use Rattle.i9_course.proofs.Timed.{need_cost}
-use Rattle.i9_plan.specs.declared.fetched.Words.{Words}
+use Rattle.i9_plan.specs.declared.memo.Memo.{Memo}
+use Rattle.i9_plan.specs.Kept.{inst_in, words_in}
 use Rattle.i9_plan.specs.Planned.{TellsWords, AreRequestsInRow}
 use Rattle.i9_processor.specs.declared.effect.Effect.{Effect}
 use Rattle.i9_processor.specs.Effect.{IsEffect}
@@ -124,11 +125,11 @@ instruction_arrives m plan k need t coming none calm is_next is_need turn g h st
     record { turn = omega (arith, is, in_time); imprecise = precise ∙ sym calm }
 
 -- an instruction is no fault that is overtaken
-pub instruction_calm : (s : State) (k : Kind) (coming : Coming) → kind_of s coming ≡ Some k → overtaken_by coming ≡ None
-instruction_calm s k Waiting is = absurd (cc is)
-instruction_calm s k (Overtaking a) is = absurd (cc is)
-instruction_calm s k (Running words inst) is = refl
-instruction_calm s k (Faulting words inst number) is = refl
+pub instruction_calm : (i : Inst) (s : State) (k : Kind) (coming : Coming) → kind_of i s coming ≡ Some k → overtaken_by coming ≡ None
+instruction_calm i s k Waiting is = absurd (cc is)
+instruction_calm i s k (Overtaking a) is = absurd (cc is)
+instruction_calm i s k Running is = refl
+instruction_calm i s k (Faulting number) is = refl
 
 -- from a machine that is the same but for what is planned
 pub like_arrives : (m mid : Machine) (plan : Plan) (t : ℕ) (coming : Coming) → IsLike m mid → Arrives mid plan t coming → Arrives m plan t coming
@@ -204,14 +205,14 @@ moved_need_of t before m k i =
     ∙ ap (λ (c : Cache). need_of (size_of m.processor) c (state_of before.processor) k) (sym i.cache)
     ∙ ap (λ (s : State). need_of (size_of m.processor) (cache_of m.processor) s k) (sym i.state)
 
-moved_ahead : (t x : ℕ) (before m : Machine) (plan : Plan) (words : Words) (inst : Inst) (k : Kind) → IsMovedTo t before m → KeepsPlanned before m
-    → IsAhead before plan x words inst k → IsAhead m plan x words inst k
-moved_ahead t x before m plan words inst k i keeps is = record {
+moved_ahead : (t x : ℕ) (before m : Machine) (plan : Plan) (k : Kind) → IsMovedTo t before m → KeepsPlanned before m
+    → IsAhead before plan x k → IsAhead m plan x k
+moved_ahead t x before m plan k i keeps is = record {
   free = moved_free t before m i is.free;
   none = moved_event t before m plan i ∙ is.none;
   is_next = moved_next t before m i ∙ is.is_next ∙ ap (λ (s : State). Does (record_of k s)) (sym i.state);
-  told = subst (λ (s : State). TellsWords (words_of inst) s words) (sym i.state) is.told;
-  valid = is.valid;
+  told = subst (λ (n : Memo). TellsWords (words_of (inst_in n)) (state_of m.processor) (words_in n)) (sym keeps.memo)
+      (subst (λ (s : State). TellsWords (words_of (inst_in before.memo)) s (words_in before.memo)) (sym i.state) is.told);
   need = is.need;
   marked = keeps.need ∙ is.marked ∙ ap (λ (f : ℕ). waiting_until f is.need) (sym i.floor);
   is_need = is.is_need ∙ moved_need_of t before m k i;
@@ -230,15 +231,18 @@ moved_ready : (t x : ℕ) (before m : Machine) (plan : Plan) (coming : Coming) �
     → IsReadyFor before plan x coming → IsReadyFor m plan x coming
 moved_ready t x before m plan Waiting i keeps end = λ rs stands. end rs (subst (λ (b : Pending). board.StandsFor b rs) i.board stands)
 moved_ready t x before m plan (Overtaking a) i keeps late = moved_late t before m i ∙ late
-moved_ready t x before m plan (Running words inst) i keeps runs = record {
-  ahead = moved_ahead t x before m plan words inst _ i keeps runs.ahead;
-  effect = subst (λ (s : State). IsEffect s (traced_action inst s) m.effect) (sym i.state)
-      (subst (IsEffect (state_of before.processor) (traced_action inst (state_of before.processor))) (sym keeps.effect) runs.effect);
-  row = subst (AreRequestsInRow inst) (sym keeps.effect) runs.row;
+moved_ready t x before m plan Running i keeps runs = record {
+  ahead = subst (λ (n : Memo). IsAhead m plan x (Instruction (inst_in n))) (sym keeps.memo) (moved_ahead t x before m plan _ i keeps runs.ahead);
+  effect = subst (λ (n : Memo). IsEffect (state_of m.processor) (traced_action (inst_in n) (state_of m.processor)) m.effect) (sym keeps.memo)
+      (subst (λ (s : State). IsEffect s (traced_action (inst_in before.memo) s) m.effect) (sym i.state)
+      (subst (IsEffect (state_of before.processor) (traced_action (inst_in before.memo) (state_of before.processor))) (sym keeps.effect) runs.effect));
+  row = subst (λ (n : Memo). AreRequestsInRow (inst_in n) m.effect) (sym keeps.memo)
+      (subst (AreRequestsInRow (inst_in before.memo)) (sym keeps.effect) runs.row);
 }
-moved_ready t x before m plan (Faulting words inst number) i keeps is =
-    subst (λ (s : State). IsAhead m plan x words inst (Faulted (Some inst) (fault_at s number))) (sym i.state)
-    (moved_ahead t x before m plan words inst _ i keeps is)
+moved_ready t x before m plan (Faulting number) i keeps is =
+    subst (λ (n : Memo). IsAhead m plan x (Faulted (Some (inst_in n)) (fault_at (state_of m.processor) number))) (sym keeps.memo)
+    (subst (λ (s : State). IsAhead m plan x (Faulted (Some (inst_in before.memo)) (fault_at s number))) (sym i.state)
+    (moved_ahead t x before m plan _ i keeps is))
 
 pub passed_ready : (t : ℕ) (before m : Machine) (plan : Plan) (coming : Coming) → IsPassedTo t before m → KeepsPlanned before m
     → IsReadyFor before plan t coming → IsReadyFor m plan t coming
@@ -250,9 +254,9 @@ passed_ready t before m plan coming p keeps ready = elim (cases_lt before.turn t
 -- ---- as a step
 
 -- an instruction that comes next is planned, once its effect is made
-pub ahead_planned : (m mid : Machine) (plan : Plan) (t : ℕ) (words : Words) (inst : Inst) (k : Kind) (step : Step) → (is : IsAhead m plan t words inst k)
+pub ahead_planned : (m mid : Machine) (plan : Plan) (t : ℕ) (k : Kind) (step : Step) → (is : IsAhead m plan t k)
     → mid.need ≡ m.need → mid.floor ≡ m.floor → IsStepWhere m None plan step is.need mid.effect → IsPlannedIn m plan step mid
-ahead_planned m mid plan t words inst k step is need floor where_none = record {
+ahead_planned m mid plan t k step is need floor where_none = record {
   need = is.need;
   marked = need ∙ is.marked ∙ ap (λ (f : ℕ). waiting_until f is.need) (sym floor);
   is = step_where m plan step is.need mid.effect is.none where_none;

@@ -255,8 +255,8 @@ overtakes_comes g h a before turns.Memory m was plan old new stands follows late
 pub came_comes : (g : Given) (h : List Item) (coming : Coming) (before : Machine) (answer : Turn) (m : Machine) (was plan : Plan) (old new : List Line) → StandsFor g h None before → Follows g h was → (ahead g h).imprecise ≡ overtaken_by coming → (ahead g h).turn ≤ before.turn → Came coming before answer m was plan old new → Comes g h answer before m plan old new
 came_comes g h Waiting before answer m was plan old new stands follows fault now d = did_comes g h before answer m was plan old new stands follows fault now d
 came_comes g h (Overtaking a) before answer m was plan old new stands follows fault now d = overtakes_comes g h a before answer m was plan old new stands follows fault now d
-came_comes g h (Running words inst) before answer m was plan old new stands follows fault now d = did_comes g h before answer m was plan old new stands follows fault now d
-came_comes g h (Faulting words inst number) before answer m was plan old new stands follows fault now d = did_comes g h before answer m was plan old new stands follows fault now d
+came_comes g h Running before answer m was plan old new stands follows fault now d = did_comes g h before answer m was plan old new stands follows fault now d
+came_comes g h (Faulting number) before answer m was plan old new stands follows fault now d = did_comes g h before answer m was plan old new stands follows fault now d
 
 -- it is said of its turn alone from which machine it came
 does_from : (g : Given) (h : List Item) (answer : Turn) (before mid m : Machine) (plan : Plan) (old new : List Line) → mid.turn ≡ before.turn → DoesNext g h answer mid m plan old new → DoesNext g h answer before m plan old new

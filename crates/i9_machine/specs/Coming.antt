@@ -1,7 +1,6 @@
 -- What comes next of a machine, and the turn at which it does.
 use Rattle.std.specs.Prelude.{◌≡◌, ℕ, ◌<◌, ◌≤◌, max, List, Option, Some, None}
 use Rattle.i9_isa.specs.declared.inst.Inst.{Inst}
-use Rattle.i9_isa.specs.Valid.{IsValid}
 use Rattle.i9_isa.specs.Words.{words_of}
 use Rattle.i9_model.specs.declared.need.Need.{Need}
 use Rattle.i9_model.specs.declared.run.End.{End}
@@ -14,7 +13,7 @@ use Rattle.i9_model.specs.Turns.{IssuesAt, waiting_until}
 use Rattle.i9_schedule.specs.Plan.{Plan}
 use Rattle.i9_course.specs.NeedOf.{need_of}
 use Rattle.i9_course.specs.Course.{Item, ahead}
-use Rattle.i9_plan.specs.declared.fetched.Words.{Words}
+use Rattle.i9_plan.specs.Kept.{inst_in, words_in}
 use Rattle.i9_plan.specs.Planned.{TellsWords, AreRequestsInRow}
 use Rattle.i9_processor.specs.Effect.{IsEffect}
 use Rattle.i9_processor.specs.State.{state_of, cache_of, size_of}
@@ -37,8 +36,8 @@ use Rattle.i9_machine.specs.StandsFor.{StandsFor, Follows}
 abbrev pub overtaken_by : Coming → Option ℕ
 overtaken_by Waiting = None
 overtaken_by (Overtaking a) = Some a
-overtaken_by (Running words inst) = None
-overtaken_by (Faulting words inst number) = None
+overtaken_by Running = None
+overtaken_by (Faulting number) = None
 
 -- what comes next in a run comes at this turn, or at the machine's where that is above it
 pub record ArrivesAt (g : Given) (h : List Item) (m : Machine) (t : ℕ) (coming : Coming) : Type 0 where
@@ -62,43 +61,42 @@ pub record HasArrived (m : Machine) (plan : Plan) (coming : Coming) : Type 0 whe
 
 -- An instruction is what comes next, as a record of this kind, and no event stands before it. The machine has its need,
 -- behind the last mark, by which it issues at this turn.
-pub record IsAhead (m : Machine) (plan : Plan) (t : ℕ) (words : Words) (inst : Inst) (kind : Kind) : Type 0 where
+pub record IsAhead (m : Machine) (plan : Plan) (t : ℕ) (kind : Kind) : Type 0 where
   pub free : IsFreeToIssue m
   pub none : event_for m plan ≡ None
   pub is_next : next_where m None ≡ Does (record_of kind (state_of m.processor))
-  pub told : TellsWords (words_of inst) (state_of m.processor) words
-  pub valid : IsValid inst
+  pub told : TellsWords (words_of (inst_in m.memo)) (state_of m.processor) (words_in m.memo)
   pub need : Need
   pub marked : m.need ≡ waiting_until m.floor need
   pub is_need : need ≡ need_of (size_of m.processor) (cache_of m.processor) (state_of m.processor) kind
   pub cost : need.cost ≤ most_turns
   pub issues : IssuesAt m.board.last m.board.records m.need t
 
--- an instruction runs, and the machine has its effect
-pub record RunsAhead (m : Machine) (plan : Plan) (t : ℕ) (words : Words) (inst : Inst) : Type 0 where
-  pub ahead : IsAhead m plan t words inst (Instruction inst)
-  pub effect : IsEffect (state_of m.processor) (traced_action inst (state_of m.processor)) m.effect
-  pub row : AreRequestsInRow inst m.effect
+-- it runs, and the machine has its effect
+pub record RunsAhead (m : Machine) (plan : Plan) (t : ℕ) : Type 0 where
+  pub ahead : IsAhead m plan t (Instruction (inst_in m.memo))
+  pub effect : IsEffect (state_of m.processor) (traced_action (inst_in m.memo) (state_of m.processor)) m.effect
+  pub row : AreRequestsInRow (inst_in m.memo) m.effect
 
 -- what is known where this comes next at a turn
 abbrev pub IsReadyFor : Machine → Plan → ℕ → Coming → Type 0
 IsReadyFor m plan t Waiting = IsEndTurn m t
 IsReadyFor m plan t (Overtaking a) = late_due m ≡ Some a
-IsReadyFor m plan t (Running words inst) = RunsAhead m plan t words inst
-IsReadyFor m plan t (Faulting words inst number) =
-    IsAhead m plan t words inst (Faulted (Some inst) (fault_at (state_of m.processor) number))
+IsReadyFor m plan t Running = RunsAhead m plan t
+IsReadyFor m plan t (Faulting number) =
+    IsAhead m plan t (Faulted (Some (inst_in m.memo)) (fault_at (state_of m.processor) number))
 
--- the kind of record that an instruction makes which comes next
-abbrev pub kind_of : State → Coming → Option Kind
-kind_of s Waiting = None
-kind_of s (Overtaking a) = None
-kind_of s (Running words inst) = Some (Instruction inst)
-kind_of s (Faulting words inst number) = Some (Faulted (Some inst) (fault_at s number))
+-- the kind of record that the instruction makes
+abbrev pub kind_of : Inst → State → Coming → Option Kind
+kind_of i s Waiting = None
+kind_of i s (Overtaking a) = None
+kind_of i s Running = Some (Instruction i)
+kind_of i s (Faulting number) = Some (Faulted (Some i) (fault_at s number))
 
--- the instruction of what comes next comes where no event stands, and the machine has its need
+-- the instruction comes next where no event stands, and the machine has its need
 pub record IsNextInstruction (m : Machine) (coming : Coming) : Type 0 where
   pub kind : Kind
-  pub same : kind_of (state_of m.processor) coming ≡ Some kind
+  pub same : kind_of (inst_in m.memo) (state_of m.processor) coming ≡ Some kind
   pub free : IsFreeToIssue m
   pub is_next : next_where m None ≡ Does (record_of kind (state_of m.processor))
   pub need : HasNeed m kind m

@@ -10,6 +10,7 @@ use Rattle.i9_model.specs.Turns.{HasCost, waiting_until}
 use Rattle.i9_course.specs.NeedOf.{need_of, need_ahead}
 use Rattle.i9_plan.specs.declared.open.Open.{Open}
 use Rattle.i9_plan.specs.declared.open.Open.TheVariants as opens
+use Rattle.i9_plan.specs.Kept.{inst_in}
 use Rattle.i9_plan.specs.Open.{NeedsAhead}
 use Rattle.i9_processor.specs.State.{state_of, cache_of, size_of}
 use Rattle.i9_machine.specs.declared.machine.Machine.{Machine}
@@ -55,5 +56,6 @@ pub record HasNeed (m : Machine) (kind : Kind) (mid : Machine) : Type 0 where
 -- where what stands there does not wait
 abbrev pub HasOpenNeed : Machine → Open → Machine → Type 0
 HasOpenNeed m opens.Waits mid = Unit {0}
-HasOpenNeed m (opens.Runs words i) mid = HasNeed m (Instruction i) mid
-HasOpenNeed m (opens.Faults words i number) mid = HasNeed m (Faulted (Some i) (fault_at (state_of m.processor) number)) mid
+HasOpenNeed m opens.Runs mid = HasNeed m (Instruction (inst_in mid.memo)) mid
+HasOpenNeed m (opens.Faults number) mid =
+    HasNeed m (Faulted (Some (inst_in mid.memo)) (fault_at (state_of m.processor) number)) mid

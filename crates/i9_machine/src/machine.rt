@@ -16,6 +16,7 @@ ghost use Rattle.i9_model.specs.Turns as board;
 ghost use Rattle.i9_course.specs.Course.{Item, Mark, records_of, comes_next};
 ghost use Rattle.i9_model.specs.PrintedText.{view_of};
 ghost use Rattle.i9_schedule.specs.Plan.{Plan};
+ghost use Rattle.i9_plan.specs.Kept.{inst_in};
 ghost use Rattle.i9_frames.specs.Sets.{held};
 ghost use Rattle.i9_processor.specs.State.{state_of, IsDrained};
 
@@ -28,11 +29,11 @@ use crate::line::{Line, Turn};
 use crate::step::Coming;
 use i9_frames::Sets;
 use i9_hex::Segments;
-use i9_isa::{Inst, NoMemory, word_count};
+use i9_isa::NoMemory;
 use i9_issue::Board;
 use i9_model::layout::MAX_LENGTH;
 use i9_model::{Due, End, Need, View};
-use i9_plan::{Memo, Words};
+use i9_plan::Memo;
 use i9_processor::{Effect, Processor};
 use i9_schedule::Schedule;
 use i9_shade::Shade;
@@ -242,8 +243,6 @@ impl Machine {
     #[inline(never)]
     fn step_faulting(
         &mut self,
-        words: Words,
-        inst: &Inst,
         number: (u8, u16),
         issue: u64,
         plan: &mut Schedule,
@@ -251,38 +250,31 @@ impl Machine {
     ) -> Turn
         requires running { self.old.ended ≡ None }
         requires come { HasCome self.old plan.old }
-        requires ahead { IsAhead self.old plan.old issue words inst.now
-            (Faulted (Some inst.now) (fault_at (state_of self.old.processor) number)) }
+        requires ahead { IsAhead self.old plan.old issue
+            (Faulted (Some (inst_in self.old.memo)) (fault_at (state_of self.old.processor) number)) }
         ensures steps { Steps self.old result self.new plan.old plan.new out.old.items out.new.items }
         ensures issues { Issues self.old result self.new plan.old }
         ensures lacking { result ≡ Turn.Memory
             → HasRoom self.old (vec_capacity out.old - vec_len out.old) (next_for self.old plan.old) → ⊥ }
         ensures fewer { LeavesFewer result (steps_left self.old plan.old) (steps_left self.new plan.new) }
     {
-        let step = self.faults(words, word_count(inst), number);
+        let step = self.faults_by(number);
         self.perform(&step, issue, plan, out)
     }
 
     /// An instruction that is planned runs.
     #[inline(always)]
-    fn step_running(
-        &mut self,
-        words: Words,
-        inst: &Inst,
-        issue: u64,
-        plan: &mut Schedule,
-        out: &mut Vec<Line>,
-    ) -> Turn
+    fn step_running(&mut self, issue: u64, plan: &mut Schedule, out: &mut Vec<Line>) -> Turn
         requires running { self.old.ended ≡ None }
         requires come { HasCome self.old plan.old }
-        requires runs { RunsAhead self.old plan.old issue words inst.now }
+        requires runs { RunsAhead self.old plan.old issue }
         ensures steps { Steps self.old result self.new plan.old plan.new out.old.items out.new.items }
         ensures issues { Issues self.old result self.new plan.old }
         ensures lacking { result ≡ Turn.Memory
             → HasRoom self.old (vec_capacity out.old - vec_len out.old) (next_for self.old plan.old) → ⊥ }
         ensures fewer { LeavesFewer result (steps_left self.old plan.old) (steps_left self.new plan.new) }
     {
-        let step = self.does(words, inst);
+        let step = self.does();
         self.perform(&step, issue, plan, out)
     }
 
@@ -307,12 +299,8 @@ impl Machine {
         match coming {
             Coming::Waiting => self.step_drained(plan, out),
             Coming::Overtaking(address) => self.answer_end(End::Imprecise(address), out),
-            Coming::Running { words, inst } => self.step_running(words, &inst, turn, plan, out),
-            Coming::Faulting {
-                words,
-                inst,
-                number,
-            } => self.step_faulting(words, &inst, number, turn, plan, out),
+            Coming::Running => self.step_running(turn, plan, out),
+            Coming::Faulting(number) => self.step_faulting(number, turn, plan, out),
         }
     }
 

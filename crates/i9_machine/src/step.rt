@@ -4,9 +4,7 @@ ghost use Rattle.std.specs.Option.{option_copied};
 ghost use Rattle.i9_model.specs.Events.{IsInRange};
 
 use crate::line::Turn;
-use i9_isa::Inst;
 use i9_model::{Due, Event, Point};
-use i9_plan::Words;
 use i9_schedule::Schedule;
 
 /// What a step does beside its effect: whether it reaches the next event of the schedule, the drained
@@ -44,12 +42,8 @@ pub(crate) enum Coming {
     /// The end at the arithmetic fault of the instruction at this address, which the next one overtakes.
     Overtaking(u32),
     /// The instruction that is planned in the machine, which runs.
-    Running { words: Words, inst: Inst },
+    Running,
     /// The instruction that is planned in the machine, whose result is an arithmetic fault of this type and
     /// subtype.
-    Faulting {
-        words: Words,
-        inst: Inst,
-        number: (u8, u16),
-    },
+    Faulting((u8, u16)),
 }

@@ -1,5 +1,5 @@
 -- What is printed while an image runs is the text of its run, or a front of it.
-use Rattle.std.proofs.Common.{◌≡◌, ◌≢◌, ℕ, Bool, false, List, [], ◌∷◌, ◌++◌, inl, inr, map, flat_map, Option, Some, None, refl, sym, ap, ◌∙◌, subst, append_assoc, arith}
+use Rattle.std.proofs.Common.{◌≡◌, ◌≢◌, ℕ, Bool, false, List, [], ◌∷◌, ◌++◌,  map, flat_map, Option, Some, None, refl, sym, ap, ◌∙◌, subst, append_assoc, arith}
 use Rattle.std.proofs.lemmas.List.{append-nil}
 use Rattle.i9_model.specs.State.{State}
 use Rattle.i9_model.specs.Step.{first_word}
@@ -18,7 +18,7 @@ use Rattle.i9_schedule.specs.Plan.{Plan}
 use Rattle.i9_machine.specs.Line.{shown_of}
 use Rattle.i9_machine.specs.Issue.{TellsIssue}
 use Rattle.i9_machine.specs.Step.{TellsRecord}
-use Rattle.i9_machine.specs.StandsFor.{StandsFor, Follows, IsUnderWay, DoesNext, Advances}
+use Rattle.i9_machine.specs.StandsFor.{StandsFor, Follows, IsUnderWay, DoesNext, Comes}
 use Rattle.i9_debug.specs.declared.print.Printed.{Printed}
 use Rattle.i9_debug.specs.declared.print.Printed.TheVariants.{Done}
 use Rattle.i9_tool.specs.declared.run.Ran.{Ran}
@@ -126,7 +126,7 @@ module _ (allows : ℕ → Bool → Type 0) where
         subst (λ (x : List ℕ). TracedBy allows (d.done ∷ rs) (text ++ x)) same
         (traced_next rs text d.done answer traced (allowed_on answer d.done.kind d.done.before d.tells))
 
-    -- the run goes on where no instruction is told: the records are the same where the turn moved, and else one more
+    -- the run goes on with one more record where no instruction is told
     pub record GoesOn (answer : Bool) (text : List ℕ) (m : Machine) (plan : Plan) (ls : List Line) : Type 0 where
       pub records : List Record
       pub stands : StandsFor g (steps records) None m
@@ -134,15 +134,9 @@ module _ (allows : ℕ → Bool → Type 0) where
       pub traced : TracedBy allows records (text ++ step_text answer turns.On ls)
 
     pub goes_on : (text : List ℕ) (answer : Bool) (m : Machine) (plan : Plan) (ls : List Line)
-        → Advances g (steps rs) turns.On before m plan [] ls
+        → Comes g (steps rs) turns.On before m plan [] ls
         → TracedBy allows rs text → GoesOn answer text m plan ls
-    goes_on text answer m plan ls (inl moves) traced = record {
-      records = rs;
-      stands = moves.stands;
-      follows = moves.follows;
-      traced = subst (TracedBy allows rs) (sym (nothing_more text ls moves.lines)) traced;
-    }
-    goes_on text answer m plan ls (inr d) traced = record {
+    goes_on text answer m plan ls d traced = record {
       records = d.done ∷ rs;
       stands = d.stands;
       follows = d.follows;
@@ -151,13 +145,13 @@ module _ (allows : ℕ → Bool → Type 0) where
 
     -- the text of the end's step
     end_text : (answer : Bool) (e : End) (m : Machine) (plan : Plan) (ls : List Line)
-        → Advances g (steps rs) (turns.End e) before m plan [] ls
+        → Comes g (steps rs) (turns.End e) before m plan [] ls
         → step_text answer (turns.End e) ls ≡ text_of (end_lines (state_after g rs) e)
     end_text answer e m plan ls a =
         lines-text ls ∙ ap text_of a.lines ∙ ap (λ (qs : List Record). text_of (end_lines (state_after g qs) e)) (records_of-steps rs)
 
     -- the end lies ahead
-    ends : (e : End) (m : Machine) (plan : Plan) (ls : List Line) → Advances g (steps rs) (turns.End e) before m plan [] ls
+    ends : (e : End) (m : Machine) (plan : Plan) (ls : List Line) → Comes g (steps rs) (turns.End e) before m plan [] ls
         → finish_after g rs ≡ Some e
     ends e m plan ls a = a.is_end
 
@@ -186,7 +180,7 @@ module _ (allows : ℕ → Bool → Type 0) where
     module _ (rs : List Record) (before : Machine) where
       -- printing stopped in the text of a step
       pub in_step : (answer : Ran) (text : List ℕ) (passes : Bool) (turn : Turn) (m : Machine) (plan : Plan)
-          (ls : List Line) (a b : K) → IsCut answer → IsLatePast g rs → Advances g (steps rs) turn before m plan [] ls
+          (ls : List Line) (a b : K) → IsCut answer → IsLatePast g rs → Comes g (steps rs) turn before m plan [] ls
           → TracedBy allows rs text → AllowsTurn allows turn passes
           → Printing (printed_of answer) a b (text ++ step_text passes turn ls) → TracesBy answer allows g k a b
       in_step answer text passes turns.On m plan ls a b cut past d traced allowed p =
@@ -210,7 +204,7 @@ module _ (allows : ℕ → Bool → Type 0) where
 
       -- memory was refused for a step
       pub ran_refused : (text : List ℕ) (passes : Bool) (m : Machine) (plan : Plan) (ls : List Line) (a b : K)
-          → IsLatePast g rs → Advances g (steps rs) turns.Memory before m plan [] ls
+          → IsLatePast g rs → Comes g (steps rs) turns.Memory before m plan [] ls
           → TracedBy allows rs text → Printing Done a b (text ++ step_text passes turns.Memory ls)
           → TracesBy ran.Memory allows g k a b
       ran_refused text passes m plan ls a b past d traced p = record {
@@ -225,7 +219,7 @@ module _ (allows : ℕ → Bool → Type 0) where
 
       -- the end was reached
       pub ran_done : (text : List ℕ) (passes : Bool) (e : End) (m : Machine) (plan : Plan) (ls : List Line) (a b : K)
-          → IsLatePast g rs → Advances g (steps rs) (turns.End e) before m plan [] ls
+          → IsLatePast g rs → Comes g (steps rs) (turns.End e) before m plan [] ls
           → TracedBy allows rs text → Printing Done a b (text ++ step_text passes (turns.End e) ls)
           → TracesBy (ran.Done e) allows g k a b
       ran_done text passes e m plan ls a b past d traced p = record {
@@ -237,14 +231,6 @@ module _ (allows : ℕ → Bool → Type 0) where
         stops = at_end (ran.Done e) e (ends g rs before e m plan ls d) refl;
         prints = prints_same k Done a b _ _ (ap (λ (t : List ℕ). text ++ t) (end_text g rs before passes e m plan ls d)) p;
       }
-
--- ---- where no instruction was told, there are records that the machine stands for
-
-pub records_on : (g : Given) (rs : List Record) (before m : Machine) (plan : Plan) (old new : List Line)
-    → Advances g (steps rs) turns.On before m plan old new
-    → (on : List Record) × StandsFor g (steps on) None m × Follows g (steps on) plan
-records_on g rs before m plan old new (inl moves) = (rs, moves.stands, moves.follows)
-records_on g rs before m plan old new (inr d) = (d.done ∷ rs, d.stands, d.follows)
 
 -- ---- a relation that allows one answer at each address
 

@@ -93,8 +93,7 @@ fn run_filtered<K: Sink, F: Fn(u32) -> bool + AddressTest>(
     let mut lines = Vec::new(alloc);
     loop {
         lines.clear();
-        machine.pass_turns();
-        let turn = machine.advance(plan, &mut lines);
+        let turn = machine.proceed(plan, &mut lines);
         match print_step(alloc, f, &turn, &lines, out) {
             Printed::Done => {}
             Printed::Write => return Ran::Write,
@@ -192,8 +191,7 @@ pub(crate) fn count_run(
     let mut lines = Vec::new(alloc);
     loop {
         lines.clear();
-        machine.pass_turns();
-        match machine.advance(plan, &mut lines) {
+        match machine.proceed(plan, &mut lines) {
             Turn::On => {}
             Turn::Issued(_) => {}
             Turn::End(end) => {

@@ -17,7 +17,8 @@ use Rattle.i9_machine.specs.declared.machine.Machine.{Machine}
 use Rattle.i9_machine.specs.Line.{AddsLines, shown_of}
 use Rattle.i9_machine.specs.InRun.{IsInRun}
 use Rattle.i9_machine.specs.Step.{TellsRecord}
-use Rattle.i9_machine.specs.StandsFor.{StandsFor, Follows, IsUnderWay, DoesNext, EndsRun, IsRefused, Advances, AnswersAgain}
+use Rattle.i9_machine.proofs.InRuns.{comes_in_run}
+use Rattle.i9_machine.specs.StandsFor.{StandsFor, Follows, IsUnderWay, DoesNext, EndsRun, IsRefused, Comes, Proceeds, AnswersAgain}
 use Rattle.i9_machine.specs.Turned.{steps_on}
 use Rattle.i9_tracer.specs.Until.{view_behind, IsPassed, Passes, StopsAt, EndsFirst, StopsShort}
 
@@ -81,14 +82,14 @@ module _ (allows : View → Bool → Type 0) where
     }
 
     -- an instruction at which the stop does not hold
-    pub issued_pass : (t : Issued) (view : View) → Advances g (steps_on since.done h) (answers.Issued t) before next plan mid new
+    pub issued_pass : (t : Issued) (view : View) → Comes g (steps_on since.done h) (answers.Issued t) before next plan mid new
         → Shows g next view → allows view false → Passes allows g h next plan old new
     issued_pass t view d shows refused =
         let shown = shows (Step d.done ∷ steps_on since.done h) None d.stands in
         does_pass (answers.Issued t) d (λ one. subst (λ (v : View). allows v false) shown refused)
 
     -- one at which it does
-    pub issued_stops : (t : Issued) (view : View) → Advances g (steps_on since.done h) (answers.Issued t) before next plan mid new
+    pub issued_stops : (t : Issued) (view : View) → Comes g (steps_on since.done h) (answers.Issued t) before next plan mid new
         → Shows g next view → allows view true → StopsAt allows g h t next plan old new
     issued_stops t view d shows holds =
         let shown = shows (Step d.done ∷ steps_on since.done h) None d.stands in
@@ -105,19 +106,12 @@ module _ (allows : View → Bool → Type 0) where
           lines = more_lines old mid new (lines_of since.done) (record_lines d.done) since.lines d.lines;
         }
 
-    -- a move of the turn, an event or an entry
-    pub on_pass : Advances g (steps_on since.done h) answers.On before next plan mid new → Passes allows g h next plan old new
-    on_pass (inl moves) = record {
-      done = since.done;
-      passed = since.passed;
-      stands = moves.stands;
-      follows = moves.follows;
-      lines = same_lines old mid new (lines_of since.done) since.lines moves.lines;
-    }
-    on_pass (inr d) = does_pass answers.On d (λ one. absurd (on_counts d.done.kind d.done.before d.tells one))
+    -- an event or an entry
+    pub on_pass : Comes g (steps_on since.done h) answers.On before next plan mid new → Passes allows g h next plan old new
+    on_pass d = does_pass answers.On d (λ one. absurd (on_counts d.done.kind d.done.before d.tells one))
 
     -- the end
-    pub ends_first : (f : End) → Advances g (steps_on since.done h) (answers.End f) before next plan mid new → EndsFirst allows g h f next plan old new
+    pub ends_first : (f : End) → Comes g (steps_on since.done h) (answers.End f) before next plan mid new → EndsFirst allows g h f next plan old new
     ends_first f d = record {
       done = since.done;
       passed = since.passed;
@@ -129,7 +123,7 @@ module _ (allows : View → Bool → Type 0) where
     }
 
     -- want of memory
-    pub stops_short : Advances g (steps_on since.done h) answers.Memory before next plan mid new → StopsShort allows g h next plan old new
+    pub stops_short : Comes g (steps_on since.done h) answers.Memory before next plan mid new → StopsShort allows g h next plan old new
     stops_short d = record {
       since = record {
         done = since.done;
@@ -150,48 +144,24 @@ under_way m plan r none = by_end r.end r.stands
     by_end None stands = record { given = r.given; items = r.items; stands = stands; follows = r.follows }
     by_end (Some f) stands = absurd (none-some f (sym none ∙ stands.ended))
 
--- so it does where turns are passed
-pub passed_in_run : (before m : Machine) (plan : Plan) → IsInRun before plan
-    → ((g : Given) (h : List Item) (end : Option End) → StandsFor g h end before → StandsFor g h end m) → IsInRun m plan
-passed_in_run before m plan r stands = record { given = r.given; items = r.items; end = r.end; stands = stands r.given r.items r.end r.stands; follows = r.follows }
-
 -- where an end was answered, a step answers it again
 pub not_again : (g : Given) (h : List Item) (f : End) (answer : Turn) (m : Machine) (old new : List Line)
     → ((e : End) → answer ≡ answers.End e → ⊥) → AnswersAgain g h f answer m old new → ⊥
 not_again g h f answer m old new other again = other again.end again.answers
 
-module _ (before m : Machine) (was plan : Plan) (old new : List Line) (answer : Turn) (r : IsInRun before was) where
-  abbrev Steps : Type 0
-  Steps = (g : Given) (h : List Item) → StandsFor g h None before → Follows g h was → Advances g h answer before m plan old new
-
-  abbrev Again : Type 0
-  Again = (g : Given) (h : List Item) (f : End) → StandsFor g h (Some f) before → AnswersAgain g h f answer m old new × (plan ≡ was)
-
-  -- so it does where it answers no end
-  still_in_run : Steps → Again → ((e : End) → answer ≡ answers.End e → ⊥) → ((g : Given) (h : List Item) → Advances g h answer before m plan old new → IsInRun m plan) → IsInRun m plan
-  still_in_run steps again other goes = by_end r.end r.stands
-    where
-      by_end : (end : Option End) → StandsFor r.given r.items end before → IsInRun m plan
-      by_end None stands = goes r.given r.items (steps r.given r.items stands r.follows)
-      by_end (Some f) stands = absurd (not_again r.given r.items f answer m old new other (again r.given r.items f stands).0)
-
-does_in_run : (g : Given) (h : List Item) (answer : Turn) (before m : Machine) (plan : Plan) (old new : List Line)
-    → DoesNext g h answer before m plan old new → IsInRun m plan
-does_in_run g h answer before m plan old new d = record { given = g; items = Step d.done ∷ h; end = None; stands = d.stands; follows = d.follows }
-
-on_in_run : (g : Given) (h : List Item) (before m : Machine) (plan : Plan) (old new : List Line)
-    → Advances g h answers.On before m plan old new → IsInRun m plan
-on_in_run g h before m plan old new (inl moves) = record { given = g; items = h; end = None; stands = moves.stands; follows = moves.follows }
-on_in_run g h before m plan old new (inr d) = does_in_run g h answers.On before m plan old new d
-
-module _ (before m : Machine) (was plan : Plan) (old new : List Line) (r : IsInRun before was) where
-  pub in_run_on : Steps before m was plan old new answers.On r → Again before m was plan old new answers.On r → IsInRun m plan
-  in_run_on steps again = still_in_run before m was plan old new answers.On r steps again (λ e h. cc h)
-      (λ g h a. on_in_run g h before m plan old new a)
-
-  pub in_run_issued : (t : Issued) → Steps before m was plan old new (answers.Issued t) r → Again before m was plan old new (answers.Issued t) r → IsInRun m plan
-  in_run_issued t steps again = still_in_run before m was plan old new (answers.Issued t) r steps again (λ e h. cc h)
-      (λ g h a. does_in_run g h (answers.Issued t) before m plan old new a)
+-- where it answers none, the machine stays in its run
+pub stays_in_run : (before m : Machine) (was plan : Plan) (spare : ℕ) (old new : List Line) (answer : Turn) → IsInRun before was
+    → ((e : End) → answer ≡ answers.End e → ⊥)
+    → ((g : Given) (h : List Item) → StandsFor g h None before → Follows g h was → Proceeds g h answer before m plan spare old new)
+    → ((g : Given) (h : List Item) (f : End) → StandsFor g h (Some f) before → AnswersAgain g h f answer m old new × (plan ≡ was))
+    → IsInRun m plan
+stays_in_run before m was plan spare old new answer r other next again = by_end r.end r.stands
+  where
+    by_end : (end : Option End) → StandsFor r.given r.items end before → IsInRun m plan
+    by_end None stands =
+        let p = next r.given r.items stands r.follows in
+        comes_in_run r.given r.items answer p.mid m plan old new p.comes
+    by_end (Some f) stands = absurd (not_again r.given r.items f answer m old new other (again r.given r.items f stands).0)
 
 -- an end that was answered is answered again, and nothing changes
 pub again_same : (g : Given) (h : List Item) (f : End) (answer : Turn) (m : Machine) (old mid new : List Line) (was mid_plan plan : Plan)

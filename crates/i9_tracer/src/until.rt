@@ -35,8 +35,7 @@ pub fn run_until<F: Fn(&View) -> bool + ViewTest>(
         → AnswersAgain g h f result m.new out.old.items out.new.items × (plan.new ≡ plan.old) }
 {
     'steps: loop {
-        m.pass_turns();
-        match m.advance(plan, out) {
+        match m.proceed(plan, out) {
             Turn::On => {}
             Turn::Issued(issued) => {
                 if s.holds(&m.view()) {

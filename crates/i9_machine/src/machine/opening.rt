@@ -55,21 +55,20 @@ impl Machine {
     /// What the instruction at the instruction address would do, as if nothing came before it. Its need is kept, and
     /// where it runs its effect is made in the machine.
     fn plan_instruction(&mut self) -> Open
-        ensures stands { OpenStands (state_of self.old.processor) result }
-        ensures planned { OpenPlanned (state_of self.old.processor) result self.new.effect }
+        ensures stands { OpenStands (state_of self.old.processor) self.new.memo result }
+        ensures planned { OpenPlanned (state_of self.old.processor) self.new.memo result self.new.effect }
         ensures need { HasOpenNeed self.old result self.new }
         ensures like { IsLike self.old self.new }
     {
         let open = plan_open(&self.processor, &mut self.memo, &mut self.effect);
         match open {
             Open::Waits => {}
-            Open::Runs { inst, .. } => {
-                let fixed = self.memo.need();
-                let need = need_done(&self.processor, fixed, &inst, &self.effect);
+            Open::Runs => {
+                let need = need_done(&self.processor, &self.memo, &self.effect);
                 self.keep(need);
             }
-            Open::Faults { inst, number, .. } => {
-                let need = need_faulted(&self.processor, self.memo.need(), &inst, number);
+            Open::Faults(number) => {
+                let need = need_faulted(&self.processor, &self.memo, number);
                 self.keep(need);
             }
         }
@@ -96,8 +95,8 @@ impl Machine {
     {
         match self.plan_instruction() {
             Open::Waits => None,
-            Open::Runs { .. } => Some(self.issue_turn()),
-            Open::Faults { .. } => Some(self.issue_turn()),
+            Open::Runs => Some(self.issue_turn()),
+            Open::Faults(_) => Some(self.issue_turn()),
         }
     }
 
@@ -158,21 +157,8 @@ impl Machine {
         }
         match self.plan_instruction() {
             Open::Waits => (until, Coming::Waiting),
-            Open::Runs { words, inst } => {
-                self.look_at(until, plan, Coming::Running { words, inst })
-            }
-            Open::Faults {
-                words,
-                inst,
-                number,
-            } => {
-                let coming = Coming::Faulting {
-                    words,
-                    inst,
-                    number,
-                };
-                self.look_at(until, plan, coming)
-            }
+            Open::Runs => self.look_at(until, plan, Coming::Running),
+            Open::Faults(number) => self.look_at(until, plan, Coming::Faulting(number)),
         }
     }
 

@@ -13,6 +13,7 @@ ghost use Rattle.i9_model.specs.Turns.{waiting_until};
 ghost use Rattle.i9_course.specs.NeedOf.{need_of};
 ghost use Rattle.i9_model.specs.Traced.{traced_action};
 ghost use Rattle.i9_model.specs.Run.{Does, Instruction, Faulted, faulted_words, fault_at, record_of, point_by_name, action_due};
+ghost use Rattle.i9_plan.specs.Kept.{inst_in, words_in};
 ghost use Rattle.i9_plan.specs.Planned.{TellsWords, AreRequestsInRow};
 ghost use Rattle.i9_processor.specs.Effect.{action_in, IsEffect};
 ghost use Rattle.i9_processor.specs.State.{state_of, cache_of, size_of, IsDrained};
@@ -23,7 +24,7 @@ use super::Machine;
 use crate::line::{Issued, Turn};
 use crate::step::Step;
 use i9_faults::{Fault, FaultStop};
-use i9_isa::{Inst, Op, word_count};
+use i9_isa::{Op, word_count};
 use i9_model::faults::TRACE;
 use i9_model::{Chosen, Due, End, Event, Need, Point, When};
 use i9_plan::{
@@ -150,21 +151,21 @@ impl Machine {
     }
 
     /// An instruction is done, by the effect that was planned, where it comes next.
-    pub(super) fn does(&self, words: Words, inst: &Inst) -> Step
-        requires words { TellsWords (words_of inst.now) (state_of self.now.processor) words }
-        requires effect { IsEffect (state_of self.now.processor) (traced_action inst.now (state_of self.now.processor)) self.now.effect }
-        requires row { AreRequestsInRow inst.now self.now.effect }
+    pub(super) fn does(&self) -> Step
+        requires words { TellsWords (words_of (inst_in self.now.memo)) (state_of self.now.processor) (words_in self.now.memo) }
+        requires effect { IsEffect (state_of self.now.processor) (traced_action (inst_in self.now.memo) (state_of self.now.processor)) self.now.effect }
+        requires row { AreRequestsInRow (inst_in self.now.memo) self.now.effect }
         ensures { (need : Need) (stands : Option event.Event) (plan : Plan)
-            → next_where self.now stands ≡ Does (record_of (Instruction inst.now) (state_of self.now.processor))
-            → need ≡ need_of (size_of self.now.processor) (cache_of self.now.processor) (state_of self.now.processor) (Instruction inst.now)
+            → next_where self.now stands ≡ Does (record_of (Instruction (inst_in self.now.memo)) (state_of self.now.processor))
+            → need ≡ need_of (size_of self.now.processor) (cache_of self.now.processor) (state_of self.now.processor) (Instruction (inst_in self.now.memo))
             → need.cost ≤ most_turns → IsStepWhere self.now stands plan result need self.now.effect }
     {
         Step {
             reaches: false,
-            point: point_by_name(inst.op),
+            point: point_by_name(self.memo.inst().op),
             counts: 1,
             due: self.due_by(&self.effect),
-            answer: Turn::Issued(self.issued(words)),
+            answer: Turn::Issued(self.issued(self.memo.words())),
         }
     }
 
@@ -193,6 +194,20 @@ impl Machine {
         }
     }
 
+    /// The instruction that was read last faults where it comes next.
+    pub(super) fn faults_by(&mut self, number: (u8, u16)) -> Step
+        requires words { TellsWords (words_of (inst_in self.old.memo)) (state_of self.old.processor) (words_in self.old.memo) }
+        ensures step { (need : Need) (stands : Option event.Event) (plan : Plan)
+            → next_where self.old stands ≡ Does (record_of (Faulted (Some (inst_in self.old.memo)) (fault_at (state_of self.old.processor) number)) (state_of self.old.processor))
+            → need ≡ need_of (size_of self.old.processor) (cache_of self.old.processor) (state_of self.old.processor) (Faulted (Some (inst_in self.old.memo)) (fault_at (state_of self.old.processor) number))
+            → need.cost ≤ most_turns → IsStepWhere self.old stands plan result need self.new.effect }
+        ensures like { IsLike self.old self.new }
+        ensures need { self.new.need ≡ self.old.need }
+    {
+        let count = word_count(self.memo.inst());
+        self.faults(self.memo.words(), count, number)
+    }
+
     /// The next instruction, or the end that stands in its place.
     fn next_instruction(&mut self, plan: &Schedule) -> Result<Step, End>
         requires below { (state_of self.old.processor).count < self.old.length }
@@ -211,20 +226,15 @@ impl Machine {
                 self.keep(need);
                 Ok(step)
             }
-            Planned::Faults {
-                words,
-                inst,
-                number,
-            } => {
-                let need = need_faulted(&self.processor, self.memo.need(), &inst, number);
-                let step = self.faults(words, word_count(&inst), number);
+            Planned::Faults(number) => {
+                let need = need_faulted(&self.processor, &self.memo, number);
+                let step = self.faults_by(number);
                 self.keep(need);
                 Ok(step)
             }
-            Planned::Runs { words, inst } => {
-                let fixed = self.memo.need();
-                let need = need_done(&self.processor, fixed, &inst, &self.effect);
-                let step = self.does(words, &inst);
+            Planned::Runs => {
+                let need = need_done(&self.processor, &self.memo, &self.effect);
+                let step = self.does();
                 self.keep(need);
                 Ok(step)
             }

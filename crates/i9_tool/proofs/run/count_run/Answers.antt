@@ -1,42 +1,43 @@
-use Rattle.std.proofs.Common.{List, [], ◌∷◌, length, Some, None, refl, ap, ◌∙◌}
+use Rattle.std.proofs.Common.{List, [], ◌∷◌, length, Some, refl, ap, ◌∙◌}
 use Rattle.i9_model.specs.declared.view.View.{View}
 use Rattle.i9_model.specs.Given.{given}
 use Rattle.i9_model.specs.Run.{Record, state_after, reached_after}
 use Rattle.i9_model.specs.Image.{pairs_of}
 use Rattle.i9_course.specs.LateRun.{steps}
 use Rattle.i9_course.proofs.LateRuns.{records_of-steps}
-use Rattle.i9_tool.proofs.Running.{records_on, under_way}
+use Rattle.i9_tool.proofs.Running.{under_way}
 use Rattle.i9_tool.proofs.run.count_run.Goals as goal
 
 pub loop-end-init : goal.loop-end-init
 loop-end-init c = ([], c.in_ok-machine.ensures.stands c.args.plan.now.events c.requires.plan, record { events = refl; place = c.requires.begins })
 
-pub advance-requires : goal.advance-requires
-advance-requires c = record {
+pub proceed-requires : goal.proceed-requires
+proceed-requires c = record {
   stands = λ running.
       let inv = c.loop-end.invariant in
       let what = given (pairs_of c.args.image.now) c.args.plan.now.events c.args.limit c.args.sets in
-      under_way what inv.0 c.pass_turns.new.self c.loop-end.plan (c.pass_turns.ensures.stands what (steps inv.0) None inv.1) inv.2;
+      under_way what inv.0 c.loop-end.machine c.loop-end.plan inv.1 inv.2;
 }
 
 pub loop-end-preserved : goal.loop-end-preserved
 loop-end-preserved c =
     let inv = c.loop-end.invariant in
     let what = given (pairs_of c.args.image.now) c.args.plan.now.events c.args.limit c.args.sets in
-    let step = rw c.clear.ensures.items at (c.in-Issued.ensures.next what (steps inv.0) (c.pass_turns.ensures.stands what (steps inv.0) None inv.1) inv.2) in
+    let step = rw c.clear.ensures.items at (c.in-Issued.ensures.next what (steps inv.0) inv.1 inv.2).comes in
     (step.done ∷ inv.0, step.stands, step.follows)
 
 pub loop-end-preserved-in-On : goal.loop-end-preserved-in-On
 loop-end-preserved-in-On c =
     let inv = c.loop-end.invariant in
     let what = given (pairs_of c.args.image.now) c.args.plan.now.events c.args.limit c.args.sets in
-    records_on what inv.0 _ _ _ _ _ (c.in-On.ensures.next what (steps inv.0) (c.pass_turns.ensures.stands what (steps inv.0) None inv.1) inv.2)
+    let step = (c.in-On.ensures.next what (steps inv.0) inv.1 inv.2).comes in
+    (step.done ∷ inv.0, step.stands, step.follows)
 
 pub returns-in-End : goal.returns-in-End
 returns-in-End c =
     let inv = c.loop-end.invariant in
     let what = given (pairs_of c.args.image.now) c.args.plan.now.events c.args.limit c.args.sets in
-    let step = rw c.clear.ensures.items at (c.in-End.ensures.next what (steps inv.0) (c.pass_turns.ensures.stands what (steps inv.0) None inv.1) inv.2) in
+    let step = rw c.clear.ensures.items at (c.in-End.ensures.next what (steps inv.0) inv.1 inv.2).comes in
     record {
       records = inv.0;
       run = record { past = inv.1.past; ends = step.is_end };

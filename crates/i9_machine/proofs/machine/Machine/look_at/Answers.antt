@@ -1,6 +1,7 @@
 use Rattle.std.specs.Option.{option_copied}
 use Rattle.std.proofs.Common.{sym, ap, ◌∙◌}
 use Rattle.i9_model.specs.Turns.{last_issue, issue_turn}
+use Rattle.i9_plan.specs.Kept.{inst_in}
 use Rattle.i9_processor.specs.State.{state_of}
 use Rattle.i9_machine.specs.Step.{event_for, next_where}
 use Rattle.i9_machine.proofs.Arriving.{kept_need, open_event, waits_arrive, instruction_arrives, instruction_calm}
@@ -30,7 +31,7 @@ returns-else-is_some-clause-arrives c =
     c.issue_turn-turn.ensures.computed c.count.ensures c.standing.ensures.event
     ∙ copied_none c.standing.result (sym c.is_some.ensures ∙ c.if-is_some.false) in
     instruction_arrives m plan next.kind next.need.need c.issue_turn-turn.result c.args.coming c.requires.precise
-    (instruction_calm (state_of m.processor) next.kind c.args.coming next.same) (ap (next_where m) none ∙ next.is_next) next.need.is_need
+    (instruction_calm (inst_in m.memo) (state_of m.processor) next.kind c.args.coming next.same) (ap (next_where m) none ∙ next.is_next) next.need.is_need
     (λ rs stands. c.issue_turn-turn.ensures.computed rs stands ∙ ap (issue_turn (last_issue rs) rs) next.need.marked)
 
 pub returns-else-is_some-clause-ready : goal.returns-else-is_some-clause-ready
