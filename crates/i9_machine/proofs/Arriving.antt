@@ -25,7 +25,7 @@ use Rattle.i9_course.proofs.Timed.{need_cost}
 use Rattle.i9_plan.specs.declared.memo.Memo.{Memo}
 use Rattle.i9_plan.specs.Kept.{inst_in, words_in}
 use Rattle.i9_plan.specs.Planned.{TellsWords, AreRequestsInRow}
-use Rattle.i9_processor.specs.declared.effect.Effect.{Effect}
+use Rattle.i9_processor.specs.declared.processor.Processor.{Processor}
 use Rattle.i9_processor.specs.Effect.{IsEffect}
 use Rattle.i9_processor.specs.State.{state_of, cache_of, size_of}
 use Rattle.i9_machine.specs.declared.line.Turn.{Turn}
@@ -136,6 +136,35 @@ pub like_arrives : (m mid : Machine) (plan : Plan) (t : ℕ) (coming : Coming) �
 like_arrives m mid plan t coming like arrives g h stands follows =
     let at = arrives g h (like_stands g h m mid like stands) follows in
     record { turn = at.turn ∙ ap (λ (x : ℕ). max x t) like.turn; imprecise = at.imprecise }
+
+-- it comes next of a machine that is the same but for what is planned, which has its need
+pub like_ahead : (m mid : Machine) (plan : Plan) (t : ℕ) (k : Kind) → IsLike m mid → IsFreeToIssue m → event_for mid plan ≡ None
+    → next_where m None ≡ Does (record_of k (state_of m.processor)) → TellsWords (words_of (inst_in mid.memo)) (state_of m.processor) (words_in mid.memo)
+    → HasNeed m k mid → IssuesAt mid.board.last mid.board.records mid.need t → IsAhead mid plan t k
+like_ahead m mid plan t k l free none is_next told need issues =
+    let count : (state_of mid.processor).count ≡ (state_of m.processor).count = ap (λ (p : Processor). (state_of p).count) l.processor in
+    let length : mid.length ≡ m.length = l.length in
+    let below : (state_of m.processor).count < m.length = free.below in
+    record {
+      free = record {
+        due = l.due ∙ free.due;
+        below = omega (arith, count, length, below);
+        chosen = ap (λ (p : Processor). choice_in (state_of p)) l.processor ∙ free.chosen;
+      };
+      none = none;
+      is_next =
+          ap (λ (n : ℕ). next_in n mid.due None (state_of mid.processor)) l.length
+          ∙ ap (λ (d : Due). next_in m.length d None (state_of mid.processor)) l.due
+          ∙ ap (λ (p : Processor). next_in m.length m.due None (state_of p)) l.processor
+          ∙ is_next
+          ∙ ap (λ (p : Processor). Does (record_of k (state_of p))) (sym l.processor);
+      told = subst (λ (p : Processor). TellsWords (words_of (inst_in mid.memo)) (state_of p) (words_in mid.memo)) (sym l.processor) told;
+      need = need.need;
+      marked = need.marked;
+      is_need = need.is_need ∙ ap (λ (p : Processor). need_of (size_of p) (cache_of p) (state_of p) k) (sym l.processor);
+      cost = need.cost;
+      issues = issues;
+    }
 
 -- ---- as the turn moves
 

@@ -205,7 +205,8 @@ impl Machine {
         ensures need { self.new.need ≡ self.old.need }
     {
         let count = word_count(self.memo.inst());
-        self.faults(self.memo.words(), count, number)
+        let words = self.memo.words();
+        self.faults(words, count, number)
     }
 
     /// The next instruction, or the end that stands in its place.
