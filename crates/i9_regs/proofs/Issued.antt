@@ -179,3 +179,24 @@ module _ (olds news : List Cell) (writes left done register : ℕ) (values : Lis
       refl
       (sym (issued_none writes done 32 code (cell_in news 32) no_code))
       (λ r low. refl)
+
+-- ---- no register
+
+module _ (olds news : List Cell) (writes done register : ℕ) (values : List ℕ) (code : ℕ)
+    (none : length values ≡ 0)
+    (low : register ≤ 32)
+    (clear : writes % 2 ^ 32 ≡ 0)
+    (last_code : cell_in news 32 ≡ issued_cell writes done 32 code (cell_in olds 32))
+    (last : (r : ℕ) → r < 32 → cell_in news r ≡ cell_in olds r) where
+  out : (r : ℕ) → in_group register (length values) r ≡ false
+  out r = grind (arith, nat_tests, none)
+
+  pub code_issued_alone : (r : ℕ) → r < resources
+      → cell_in news r ≡ issued_cell writes done r (issued_value olds register values code r) (cell_in olds r)
+  code_issued_alone =
+      all_issued olds olds olds news writes writes done register values code (omega (arith, none, low))
+      (λ k h. absurd (omega (arith, none, h)))
+      (λ r. sym (planned_out register (length values) values done r (cell_in olds r) (out r)))
+      (λ r h. sym (rest_out register (length values) writes r (out r)))
+      (λ r h. none_issued writes done r (latest (cell_in olds r)) (cell_in olds r) clear h)
+      refl last_code last

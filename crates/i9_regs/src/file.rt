@@ -142,7 +142,7 @@ fn plan_code(slots: &mut [Slot; RESOURCES], writes: u64, done: u64, code: u32)
 }
 
 /// Plans what a record leaves in the resources of a set.
-// Most records write one register, and this is no part of their code.
+// Most records write one register or none, and this is no part of their code.
 #[inline(never)]
 fn plan_many(
     slots: &mut [Slot; RESOURCES],
@@ -163,7 +163,7 @@ fn plan_many(
     plan_code(slots, writes, done, code);
 }
 
-/// As `plan_many`. Most records write one register, and then none of the others is looked at.
+/// As `plan_many`. Most records write one register or none, and then none of the others is looked at.
 #[inline(always)]
 fn plan_all(
     slots: &mut [Slot; RESOURCES],
@@ -181,6 +181,10 @@ fn plan_all(
 {
     if values.len() == 1 && writes == 1 << register {
         plan_group(slots, writes, done, register, values);
+        return;
+    }
+    if values.is_empty() && writes % REGISTER_BITS == 0 {
+        plan_code(slots, writes, done, code);
         return;
     }
     plan_many(slots, writes, done, register, values, code);
@@ -273,7 +277,7 @@ impl File {
     /// Plans a value for each resource of a set, which takes its place at `done`: `values` for the
     /// registers from `register` up, `code` for the condition code, and for each other one the latest
     /// value that it has.
-    // Each step calls it, and most records write one register.
+    // Each step calls it, and most records write one register or none.
     #[inline(always)]
     pub fn issue(&mut self, writes: u64, done: u64, register: u8, values: &[u32], code: u32)
         requires range { register + length values.now ≤ 32 }
