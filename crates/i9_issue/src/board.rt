@@ -1,6 +1,6 @@
 //! The open records, and when the next one may issue.
 
-ghost use Rattle.std.specs.Prelude.{◌≡◌, ◌<◌, ◌^◌, ◌≤◌, ◌+◌, ℕ, List, [], ◌∷◌, length, max, reverse, take, if◌then◌else◌};
+ghost use Rattle.std.specs.Prelude.{◌≡◌, ◌<◌, ◌^◌, ◌≤◌, ◌+◌, ℕ, List, [], ◌∷◌, length, max, reverse, take, slice_set, slice_index_or, if◌then◌else◌};
 ghost use Rattle.i9_model.specs.declared.need.TimedNeed.{TimedNeed};
 ghost use Rattle.std.specs.List.{AllByRecursion};
 ghost use Rattle.i9_model.specs.Turns.{issue_turn, turn_from, with_need, end_turn, StandsFor, AreAllDone, last_issue, IssuesAt, FollowsOpen, pending_after, placed_record, open_at, IsAllDone, HasCost};
@@ -228,6 +228,18 @@ fn permitted_from(records: &[TimedNeed; MOST_OPEN], count: usize, from: u64, n: 
     turn
 }
 
+/// Copies a record to a place.
+// Mostly it stands there already, since no record before it is done, and nothing is copied.
+fn copy_down(records: &mut [TimedNeed; MOST_OPEN], from: usize, to: usize)
+    requires from { from < 7 }
+    requires to { to < 7 }
+    ensures { (r : TimedNeed) → records.new ≡ slice_set records.old to (slice_index_or records.old from r) }
+{
+    if to != from {
+        records[to] = records[from];
+    }
+}
+
 /// Moves the records that are open at `turn` to the front, of so many, and tells how many they are.
 fn keep_open(records: &mut [TimedNeed; MOST_OPEN], count: usize, turn: u64) -> usize
     requires { count ≤ 7 }
@@ -238,7 +250,7 @@ fn keep_open(records: &mut [TimedNeed; MOST_OPEN], count: usize, turn: u64) -> u
     let mut kept: usize = 0;
     for k in 0..count {
         if turn < records[k].done {
-            records[kept] = records[k];
+            copy_down(records, k, kept);
             kept += 1;
         }
     }

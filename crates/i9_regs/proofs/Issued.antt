@@ -1,10 +1,10 @@
 -- All that a record plans in the resources of a set.
 use Rattle.std.proofs.Common.{◌≡◌, ℕ, zero, suc, ◌+◌, ◌-◌, ◌*◌, ◌/◌, ◌%◌, ◌^◌, ◌<◌, ◌≤◌, Bool, true, false, cond, eqb, List, [], ◌∷◌, length, refl, sym, ap, ◌∙◌, inl, inr, arith}
 use Rattle.std.specs.Prelude.{slice_index}
-use Rattle.std.specs.Int.{bit_at, IsBitSet}
+use Rattle.std.specs.Int.{bit_at, IsBitSet, w64}
 use Rattle.std.proofs.lemmas.Bool.{cases_Bool}
 use Rattle.std.proofs.lemmas.Bool.Decides.{nat_tests}
-use Rattle.std.proofs.lemmas.Nat.Bits.{bit_at-zero, bit_at_cat_low}
+use Rattle.std.proofs.lemmas.Nat.Bits.{bit_at-zero, bit_at_cat_low, bit_at_or, bit_at_set_other}
 use Rattle.i9_model.specs.declared.need.Cell.{Cell}
 use Rattle.i9_model.specs.Late.{resources, latest, issued_cell}
 use Rattle.i9_model.specs.Writes.{put, written, pairs_at}
@@ -139,3 +139,64 @@ module _ (olds ones twos news : List Cell) (writes left done register : ℕ) (va
   pub all_issued : (r : ℕ) → r < resources
       → cell_in news r ≡ issued_cell writes done r (issued_value olds register values code r) (cell_in olds r)
   all_issued r few = by_code r (eqb r 32) few refl
+
+-- ---- one register alone
+
+other_bit : (register r : ℕ) → register < 64 → r < 64 → (r ≡ register → ⊥) → bit_at (1 * 2 ^ register % 2 ^ 64) r ≡ 0
+other_bit register r low few apart =
+    let other = bit_at_set_other w64 0 register low r apart in
+    let either = bit_at_or 0 (1 * 2 ^ register % 2 ^ 64) r in
+    let none = bit_at-zero r in
+    omega (arith, other, either, none)
+
+module _ (olds news : List Cell) (writes left done register : ℕ) (values : List ℕ) (code : ℕ)
+    (range : register + length values ≤ 32)
+    (one : length values ≡ 1)
+    (lone : writes ≡ 1 * 2 ^ register % 2 ^ 64)
+    (set : (k : ℕ) → k < length values → IsBitSet writes (register + k))
+    (group : (r : ℕ) → cell_in news r ≡ planned_cell register (length values) values done r (cell_in olds r))
+    (bits : (r : ℕ) → r < 64 → bit_at left r ≡ rest_bit register (length values) writes r) where
+  beside : (r : ℕ) → r < 64 → (r ≡ register → ⊥) → bit_at writes r ≡ 0
+  beside r few apart =
+      ap (λ (n : ℕ). bit_at n r) lone ∙ other_bit register r (omega (arith, range)) few apart
+
+  none_left : (r : ℕ) → r < 32 → bit_at left r ≡ 0
+  none_left r low =
+      bits r (omega (arith, low))
+      ∙ elim (cases_Bool (in_group register (length values) r)) [
+        | inl here ↦ rest_in register (length values) writes r here
+        | inr out ↦
+            let apart : r ≡ register → ⊥ = λ same. grind (arith, nat_tests, out, one, same) in
+            rest_out register (length values) writes r out ∙ beside r (omega (arith, low)) apart
+      ]
+
+  pub lone_issued : (r : ℕ) → r < resources
+      → cell_in news r ≡ issued_cell writes done r (issued_value olds register values code r) (cell_in olds r)
+  lone_issued =
+      let no_code : bit_at writes 32 ≡ 0 = beside 32 (omega arith) (λ same. omega (arith, range, one, same)) in
+      all_issued olds news news news writes left done register values code range set group bits
+      (λ r low. sym (issued_none left done r (latest (cell_in news r)) (cell_in news r) (none_left r low)))
+      refl
+      (sym (issued_none writes done 32 code (cell_in news 32) no_code))
+      (λ r low. refl)
+
+-- ---- no register
+
+module _ (olds news : List Cell) (writes done register : ℕ) (values : List ℕ) (code : ℕ)
+    (none : length values ≡ 0)
+    (low : register ≤ 32)
+    (clear : writes % 2 ^ 32 ≡ 0)
+    (last_code : cell_in news 32 ≡ issued_cell writes done 32 code (cell_in olds 32))
+    (last : (r : ℕ) → r < 32 → cell_in news r ≡ cell_in olds r) where
+  out : (r : ℕ) → in_group register (length values) r ≡ false
+  out r = grind (arith, nat_tests, none)
+
+  pub code_issued_alone : (r : ℕ) → r < resources
+      → cell_in news r ≡ issued_cell writes done r (issued_value olds register values code r) (cell_in olds r)
+  code_issued_alone =
+      all_issued olds olds olds news writes writes done register values code (omega (arith, none, low))
+      (λ k h. absurd (omega (arith, none, h)))
+      (λ r. sym (planned_out register (length values) values done r (cell_in olds r) (out r)))
+      (λ r h. sym (rest_out register (length values) writes r (out r)))
+      (λ r h. none_issued writes done r (latest (cell_in olds r)) (cell_in olds r) clear h)
+      refl last_code last

@@ -82,6 +82,7 @@ fn land_all(slots: &mut [Slot; RESOURCES], planned: u64, turn: u64) -> u64
 }
 
 /// Plans values from a register up, and gives the resources of a set that are left.
+#[inline(always)]
 fn plan_group(
     slots: &mut [Slot; RESOURCES],
     writes: u64,
@@ -90,6 +91,7 @@ fn plan_group(
     values: &[u32],
 ) -> u64
     requires { register + length values.now ≤ 32 }
+    ensures size { length slots.new ≡ resources }
     ensures cells { (r : ℕ) → cell_in slots.new r
         ≡ planned_cell register (length values.now) values.now done r (cell_in slots.old r) }
     ensures left { (r : ℕ) → r < 64 → bit_at result r ≡ rest_bit register (length values.now) writes r }
@@ -140,7 +142,9 @@ fn plan_code(slots: &mut [Slot; RESOURCES], writes: u64, done: u64, code: u32)
 }
 
 /// Plans what a record leaves in the resources of a set.
-fn plan_all(
+// Most records write one register or none, and this is no part of their code.
+#[inline(never)]
+fn plan_many(
     slots: &mut [Slot; RESOURCES],
     writes: u64,
     done: u64,
@@ -157,6 +161,33 @@ fn plan_all(
     let left = plan_group(slots, writes, done, register, values);
     plan_left(slots, left, done);
     plan_code(slots, writes, done, code);
+}
+
+/// As `plan_many`. Most records write one register or none, and then none of the others is looked at.
+#[inline(always)]
+fn plan_all(
+    slots: &mut [Slot; RESOURCES],
+    writes: u64,
+    done: u64,
+    register: u8,
+    values: &[u32],
+    code: u32,
+)
+    requires range { register + length values.now ≤ 32 }
+    requires set { (k : ℕ) → k < length values.now → IsBitSet writes (register + k) }
+    ensures size { length slots.new ≡ resources }
+    ensures cells { (r : ℕ) → r < resources → cell_in slots.new r
+        ≡ issued_cell writes done r (issued_value slots.old register values.now code r) (cell_in slots.old r) }
+{
+    if values.len() == 1 && writes == 1 << register {
+        plan_group(slots, writes, done, register, values);
+        return;
+    }
+    if values.is_empty() && writes % REGISTER_BITS == 0 {
+        plan_code(slots, writes, done, code);
+        return;
+    }
+    plan_many(slots, writes, done, register, values, code);
 }
 
 /// Plans what a record leaves in the resources of a set, where it enters a frame.
@@ -246,6 +277,8 @@ impl File {
     /// Plans a value for each resource of a set, which takes its place at `done`: `values` for the
     /// registers from `register` up, `code` for the condition code, and for each other one the latest
     /// value that it has.
+    // Each step calls it, and most records write one register or none.
+    #[inline(always)]
     pub fn issue(&mut self, writes: u64, done: u64, register: u8, values: &[u32], code: u32)
         requires range { register + length values.now ≤ 32 }
         requires set { (k : ℕ) → k < length values.now → IsBitSet writes (register + k) }

@@ -21,7 +21,7 @@ loop-k-preserved c =
     let left = open_at u (take (n - (k + 1)) (drop (k + 1) before)) in
     elim c.if-turn-records.branch [
       | then-turn-records w ↦
-          let e : c.if-turn-records.records ≡ set now c.loop-k.kept r = w.records-is in
+          let e : c.if-turn-records.records ≡ set now c.loop-k.kept r = w.records-is ∙ w.copy_down.ensures blank in
           record {
             kept = ap (λ j. take j c.if-turn-records.records ++ left) w.kept-is ∙ ap (λ xs. take (c.loop-k.kept + 1) xs ++ left) e ∙ kept-open u n k c.loop-k.kept now before blank c.loop-k-test.true few c.loop-k.invariant.few c.loop-k.invariant.whole c.loop-k.invariant.rest w.if-turn-records.true ∙ c.loop-k.invariant.kept;
             rest = ap (drop (k + 1)) e ∙ rest-after-set k c.loop-k.kept now before r c.loop-k.invariant.few c.loop-k.invariant.rest;

@@ -1,12 +1,21 @@
-use Rattle.i9_regs.proofs.Issued.{all_issued}
+use Rattle.std.proofs.Common.{◌≡◌, length, sym, ◌∙◌, arith}
+use Rattle.std.proofs.lemmas.Bool.Decides.{nat_tests}
+use Rattle.i9_regs.proofs.Issued.{lone_issued, code_issued_alone}
 use Rattle.i9_regs.proofs.file.plan_all.Goals as goal
 
-pub returns-clause-cells : goal.returns-clause-cells
-returns-clause-cells c =
+pub returns-then-writes-register-clause-cells : goal.returns-then-writes-register-clause-cells
+returns-then-writes-register-clause-cells c =
     let a = c.args in
-    let group = c.plan_group-left in
-    let left = c.plan_left in
+    let group = c.plan_group in
+    lone_issued a.slots.now group.new.slots a.writes group.result a.done a.register a.values.now a.code
+    c.requires.range c.if-values-eq1.true c.if-writes-register.true c.requires.set group.ensures.cells
+    group.ensures.left
+
+pub returns-then-writes-eq0-clause-cells : goal.returns-then-writes-eq0-clause-cells
+returns-then-writes-eq0-clause-cells c =
+    let a = c.args in
     let code = c.plan_code in
-    all_issued a.slots.now group.new.slots left.new.slots code.new.slots a.writes group.result a.done a.register
-    a.values.now a.code c.requires.range c.requires.set group.ensures.cells group.ensures.left
-    left.ensures.registers left.ensures.code code.ensures.code code.ensures.registers
+    let empty = sym c.is_empty.ensures ∙ c.if-is_empty.true in
+    let none : length a.values.now ≡ 0 = grind (arith, nat_tests, empty) in
+    code_issued_alone a.slots.now code.new.slots a.writes a.done a.register a.values.now a.code none
+    (omega (arith, c.requires.range)) c.if-writes-eq0.true code.ensures.code code.ensures.registers

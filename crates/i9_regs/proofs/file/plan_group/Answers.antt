@@ -1,4 +1,4 @@
-use Rattle.std.proofs.Common.{rules, ◌+◌, None, ap, ◌∙◌}
+use Rattle.std.proofs.Common.{rules, ◌+◌, None, ap, ◌∙◌, length-set}
 use Rattle.std.specs.Prelude.{slice_index}
 use Rattle.std.proofs.lemmas.List.{get_or_default}
 use Rattle.i9_model.specs.Late.{cell}
@@ -8,6 +8,7 @@ use Rattle.i9_regs.proofs.file.plan_group.Goals as goal
 
 pub loop-k-init : goal.loop-k-init
 loop-k-init c = record {
+  size = c.told-slots;
   cells = λ r. none_planned c.args.register c.args.values.now c.args.done r _;
   left = λ r low. none_left c.args.register c.args.writes r;
 }
@@ -21,6 +22,7 @@ loop-k-preserved c =
     let is = c.planned.ensures ∙ ap (with_plan (slice_index a.values.now k) a.done) read in
     let are = c.loop-k.invariant.cells in
     record {
+      size = length-set slots (a.register + k) c.planned.result ∙ c.loop-k.invariant.size;
       cells = one_planned slots _ a.register k a.values.now a.done c.planned.result (search rules) are is;
       left = one_left c.loop-k.left a.writes a.register k (search rules) c.loop-k.invariant.left;
     }
