@@ -90,7 +90,7 @@ like_finishes before mid e spare (turns.End f) m old new l d = (
   record {
     same = like_same before mid m l d.1.same;
     ended = d.1.ended;
-      lines = d.1.lines ∙ ap (λ (p : Processor). map shown_of old ++ end_lines (state_of p) e) l.processor;
+    lines = d.1.lines ∙ ap (λ (p : Processor). map shown_of old ++ end_lines (state_of p) e) l.processor;
   },
 )
 like_finishes before mid e spare turns.Memory m old new l d = record {

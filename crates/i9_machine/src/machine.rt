@@ -280,13 +280,7 @@ impl Machine {
 
     /// What comes next is done, whose turn has come.
     #[inline(always)]
-    fn come(
-        &mut self,
-        turn: u64,
-        coming: Coming,
-        plan: &mut Schedule,
-        out: &mut Vec<Line>,
-    ) -> Turn
+    fn come(&mut self, turn: u64, coming: Coming, plan: &mut Schedule, out: &mut Vec<Line>) -> Turn
         requires running { self.old.ended ≡ None }
         requires arrived { HasArrived self.old plan.old coming }
         requires turn { turn ≤ self.old.turn }

@@ -47,4 +47,3 @@ returns-in-Runs-clause-next c =
     ∙ ap (next_by_standing s) (sym c.plan_next.ensures.standing ∙ ap (standing_of c.plan_next.new.memo) c.in-Runs.is) in
     let step = c.does-step.ensures c.need_done-need.result None c.args.plan.now itself need c.need_done-need.ensures.cost in
     planned m c.keep-in-Runs.new.self c.args.plan.now _ c.need_done-need.result _ c.keep-in-Runs.ensures.need c.keep-in-Runs.ensures.like c.keep-in-Runs.ensures.effect r.stands step
-
