@@ -33,11 +33,11 @@ use Rattle.i9_machine.specs.declared.line.Turn.TheVariants as turns
 use Rattle.i9_machine.specs.declared.machine.Machine.{Machine}
 use Rattle.i9_machine.specs.declared.step.Coming.{Coming}
 use Rattle.i9_machine.specs.declared.step.Coming.TheVariants.{Waiting, Overtaking, Running, Faulting}
-use Rattle.i9_machine.specs.Coming.{ArrivesAt, Arrives, HasArrived, IsAhead, RunsAhead, IsReadyFor, kind_of, overtaken_by}
+use Rattle.i9_machine.specs.Coming.{ArrivesAt, Arrives, HasArrived, IsAhead, IsReadyFor, kind_of, overtaken_by}
 use Rattle.i9_machine.specs.Issuing.{IsLike, IsMovedTo, IsPassedTo, KeepsPlanned, IsEndTurn}
 use Rattle.i9_machine.specs.Opening.{IsFreeToIssue, NextWaits, HasKept, HasNeed}
 use Rattle.i9_machine.specs.Overtaking.{late_entry, late_due, IssuesAhead}
-use Rattle.i9_machine.specs.StandsFor.{StandsFor, Follows, IsUnderWay, HasCome, LeavesFewer}
+use Rattle.i9_machine.specs.StandsFor.{StandsFor, IsUnderWay, HasCome, LeavesFewer}
 use Rattle.i9_machine.specs.Step.{turn_at, event_for, next_where, next_for, records_left, steps_left, IsStepWhere, IsPlannedIn}
 use Rattle.i9_machine.specs.declared.step.Step.{Step}
 use Rattle.i9_machine.proofs.Issuing.{waits_for_none}

@@ -4,7 +4,7 @@ use Rattle.i9_model.specs.declared.run.End.{End}
 use Rattle.i9_model.specs.Run.{Given}
 use Rattle.i9_course.specs.Course.{Item, Mark}
 use Rattle.i9_machine.specs.declared.machine.Machine.{Machine}
-use Rattle.i9_machine.specs.Issuing.{IsEndTurn, IsSettled, IsQuiet}
+use Rattle.i9_machine.specs.Issuing.{IsEndTurn, IsSettled}
 use Rattle.i9_machine.specs.Raw.{IsLevel}
 use Rattle.i9_machine.specs.StandsFor.{StandsFor}
 use Rattle.i9_machine.proofs.Settling.{settled_marked, settled_ended, settled_quiet}

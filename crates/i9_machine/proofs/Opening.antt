@@ -12,13 +12,12 @@ use Rattle.i9_model.specs.declared.run.Due.{Due}
 use Rattle.i9_model.specs.declared.run.Due.TheVariants as dues
 use Rattle.i9_model.specs.declared.run.End.TheVariants.{Limit}
 use Rattle.i9_model.specs.Before.{Received, choice_in, interrupt_in, received_in}
-use Rattle.i9_model.specs.HeldFrames.{Cache, sets_in}
+use Rattle.i9_model.specs.HeldFrames.{Cache}
 use Rattle.i9_model.specs.Needs.{is_request_name}
 use Rattle.i9_model.specs.State.{State}
 use Rattle.i9_model.specs.Run.{Kind, Instruction, Faulted, Entered, Interrupted, Reached, Blocked, Next, Does, Ends, record_of, reached_kind, entry_in, next_by_entry, next_by_event, next_by_interrupt, next_by_choice, next_in}
 use Rattle.i9_schedule.specs.Plan.{Plan}
 use Rattle.i9_course.specs.NeedOf.{need_of, need_ahead}
-use Rattle.i9_course.proofs.LateAlike.{sets_alike}
 use Rattle.i9_processor.specs.declared.effect.Effect.{Effect}
 use Rattle.i9_processor.specs.State.{state_of, cache_of, size_of}
 use Rattle.i9_plan.specs.Planned.{IsInRow}

@@ -1,5 +1,5 @@
 -- Where nothing is open, an event that waits for a turn stands there once that turn has come.
-use Rattle.std.proofs.Common.{◌≡◌, ℕ, ◌<◌, ◌≤◌, Bool, true, false, cond, List, Option, Some, None, refl, sym, ap, ◌∙◌, inl, inr, arith}
+use Rattle.std.proofs.Common.{◌≡◌, ◌≤◌, Bool, true, false, cond, List, Option, Some, None, refl, sym, ap, ◌∙◌, inl, inr, arith}
 use Rattle.std.specs.Prelude.{nat_le}
 use Rattle.std.specs.List.{slice_get}
 use Rattle.std.proofs.lemmas.Bool.{cases_lt, le-leb, lt-leb}
@@ -7,11 +7,10 @@ use Rattle.i9_model.specs.declared.event.Event.{Event}
 use Rattle.i9_model.specs.declared.event.Timed.{Timed}
 use Rattle.i9_model.specs.declared.event.When.{When}
 use Rattle.i9_model.specs.declared.event.When.TheVariants.{At, Turn}
-use Rattle.i9_model.specs.declared.need.Need.{Need}
 use Rattle.i9_model.specs.declared.need.TimedNeed.{TimedNeed}
 use Rattle.i9_model.specs.HeldFrames.{cache_after}
 use Rattle.i9_model.specs.ScheduleText.{event_where, has_come_by, standing_by}
-use Rattle.i9_model.specs.Run.{Given, Next, state_after}
+use Rattle.i9_model.specs.Run.{Given, state_after}
 use Rattle.i9_model.specs.Turns.{end_turn}
 use Rattle.i9_model.specs.Turns as board
 use Rattle.i9_model.specs.Late.{turns}

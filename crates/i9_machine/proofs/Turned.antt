@@ -1,5 +1,5 @@
 -- The steps of one turn, and the raw state at it.
-use Rattle.std.proofs.Common.{◌≡◌, ℕ, zero, suc, ◌+◌, ◌%◌, ◌^◌, ◌<◌, ◌≤◌, Bool, false, cond, List, [], ◌∷◌, ◌++◌, map, unwrap_or, Option, None, Some, refl, sym, ap, ◌∙◌, subst, append_assoc, inl, inr, arith}
+use Rattle.std.proofs.Common.{◌≡◌, ℕ, zero, suc, ◌+◌, ◌%◌, ◌^◌, ◌<◌, ◌≤◌, Bool, false, cond, List, [], ◌∷◌, ◌++◌, map, unwrap_or, Option, None, Some, refl, sym, ap, ◌∙◌, append_assoc, inl, inr, arith}
 use Rattle.std.specs.List.{range_with_len}
 use Rattle.std.specs.Prelude.{◌==◌}
 use Rattle.std.proofs.lemmas.Bool.{cond-false}
@@ -8,10 +8,10 @@ use Rattle.std.proofs.lemmas.List.{append-nil}
 use Rattle.i9_model.specs.declared.need.Cell.{Cell}
 use Rattle.i9_model.specs.declared.run.End.{End}
 use Rattle.i9_isa.specs.declared.resources.TheConstants.{CONDITION_CODE}
-use Rattle.i9_model.specs.Late.{Shows, resource, resources, raw_value, latest_value, is_busy, is_plan_open, turns as late_turns}
+use Rattle.i9_model.specs.Late.{Shows, resource, raw_value, latest_value, is_busy, is_plan_open, turns as late_turns}
 use Rattle.i9_model.specs.Needs.{set_below}
 use Rattle.i9_model.specs.PrintedText.{Shown, register_list, lines_of, record_lines, end_lines}
-use Rattle.i9_model.specs.Run.{Given, Record, state_after}
+use Rattle.i9_model.specs.Run.{Given, state_after}
 use Rattle.i9_model.specs.State.{State, boot}
 use Rattle.i9_model.specs.Turns.{last_issue}
 use Rattle.i9_model.proofs.LateRegisters.{cell-busy}
@@ -30,7 +30,7 @@ use Rattle.i9_machine.specs.declared.machine.Machine.{Machine}
 use Rattle.i9_machine.specs.Issuing.{kernel_of, IsQuiet}
 use Rattle.i9_machine.specs.Line.{AddsLines, shown_of}
 use Rattle.i9_machine.specs.Raw.{raw_at, IsFlushed, IsLevel}
-use Rattle.i9_machine.specs.StandsFor.{StandsFor, Follows, IsLanding, IsUnderWay, MovesOn, DoesNext, EndsRun, IsRefused, Advances}
+use Rattle.i9_machine.specs.StandsFor.{StandsFor, Follows, IsUnderWay, MovesOn, DoesNext, EndsRun, IsRefused, Advances}
 use Rattle.i9_machine.specs.Turned.{steps_on, Since, TurnsOn, EndsTurn, StopsTurn}
 
 -- ---- lines

@@ -25,6 +25,7 @@ mod opening;
 mod planning;
 mod turning;
 
+use self::doing::sets_registers_alone;
 use crate::line::{Line, Turn};
 use crate::step::Coming;
 use i9_frames::Sets;
@@ -263,6 +264,7 @@ impl Machine {
     }
 
     /// An instruction that is planned runs.
+    // Each caller knows more of its effect, and has its own code for it.
     #[inline(always)]
     fn step_running(&mut self, issue: u64, plan: &mut Schedule, out: &mut Vec<Line>) -> Turn
         requires running { self.old.ended ≡ None }
@@ -276,6 +278,41 @@ impl Machine {
     {
         let step = self.does();
         self.perform(&step, issue, plan, out)
+    }
+
+    /// An instruction that is planned runs, which does more than to set registers.
+    // It has code of its own, so that the code for most instructions asks for nothing of that.
+    #[inline(never)]
+    fn step_storing(&mut self, issue: u64, plan: &mut Schedule, out: &mut Vec<Line>) -> Turn
+        requires running { self.old.ended ≡ None }
+        requires come { HasCome self.old plan.old }
+        requires runs { RunsAhead self.old plan.old issue }
+        ensures steps { Steps self.old result self.new plan.old plan.new out.old.items out.new.items }
+        ensures issues { Issues self.old result self.new plan.old }
+        ensures lacking { result ≡ Turn.Memory
+            → HasRoom self.old (vec_capacity out.old - vec_len out.old) (next_for self.old plan.old) → ⊥ }
+        ensures fewer { LeavesFewer result (steps_left self.old plan.old) (steps_left self.new plan.new) }
+    {
+        self.step_running(issue, plan, out)
+    }
+
+    /// An instruction that is planned runs.
+    #[inline(always)]
+    fn step_planned(&mut self, issue: u64, plan: &mut Schedule, out: &mut Vec<Line>) -> Turn
+        requires running { self.old.ended ≡ None }
+        requires come { HasCome self.old plan.old }
+        requires runs { RunsAhead self.old plan.old issue }
+        ensures steps { Steps self.old result self.new plan.old plan.new out.old.items out.new.items }
+        ensures issues { Issues self.old result self.new plan.old }
+        ensures lacking { result ≡ Turn.Memory
+            → HasRoom self.old (vec_capacity out.old - vec_len out.old) (next_for self.old plan.old) → ⊥ }
+        ensures fewer { LeavesFewer result (steps_left self.old plan.old) (steps_left self.new plan.new) }
+    {
+        if sets_registers_alone(&self.effect) {
+            self.step_running(issue, plan, out)
+        } else {
+            self.step_storing(issue, plan, out)
+        }
     }
 
     /// What comes next is done, whose turn has come.
@@ -293,7 +330,7 @@ impl Machine {
         match coming {
             Coming::Waiting => self.step_drained(plan, out),
             Coming::Overtaking(address) => self.answer_end(End::Imprecise(address), out),
-            Coming::Running => self.step_running(turn, plan, out),
+            Coming::Running => self.step_planned(turn, plan, out),
             Coming::Faulting(number) => self.step_faulting(number, turn, plan, out),
         }
     }

@@ -1,12 +1,12 @@
 -- One step more towards a stop.
-use Rattle.std.proofs.Common.{◌≡◌, ℕ, ◌+◌, Bool, true, false, List, [], ◌∷◌, ◌++◌, map, Option, Some, None, refl, sym, ap, subst, ◌∙◌, append_assoc, inl, inr, arith}
+use Rattle.std.proofs.Common.{◌≡◌, ℕ, Bool, true, false, List, [], ◌∷◌, ◌++◌, map, Option, Some, None, refl, sym, ap, subst, ◌∙◌, append_assoc, arith}
 use Rattle.std.proofs.lemmas.List.{append-nil}
 use Rattle.std.proofs.lemmas.Option.{none-some}
 use Rattle.i9_model.specs.State.{State}
 use Rattle.i9_model.specs.declared.run.End.{End}
 use Rattle.i9_model.specs.declared.view.View.{View}
 use Rattle.i9_model.specs.PrintedText.{Shown, view_of, lines_of, record_lines, end_lines}
-use Rattle.i9_model.specs.Run.{Given, Kind, Instruction, Faulted, Entered, Interrupted, Reached, Blocked, Record, counts_of, state_after}
+use Rattle.i9_model.specs.Run.{Given, Kind, Instruction, Faulted, Entered, Interrupted, Reached, Blocked, counts_of, state_after}
 use Rattle.i9_schedule.specs.Plan.{Plan}
 use Rattle.i9_course.specs.Course.{Item, Step, records_of}
 use Rattle.i9_machine.specs.declared.line.Line.{Line}
@@ -18,9 +18,9 @@ use Rattle.i9_machine.specs.Line.{AddsLines, shown_of}
 use Rattle.i9_machine.specs.InRun.{IsInRun}
 use Rattle.i9_machine.specs.Step.{TellsRecord}
 use Rattle.i9_machine.proofs.InRuns.{comes_in_run}
-use Rattle.i9_machine.specs.StandsFor.{StandsFor, Follows, IsUnderWay, DoesNext, EndsRun, IsRefused, Comes, Proceeds, AnswersAgain}
+use Rattle.i9_machine.specs.StandsFor.{StandsFor, Follows, IsUnderWay, DoesNext, Comes, Proceeds, AnswersAgain}
 use Rattle.i9_machine.specs.Turned.{steps_on}
-use Rattle.i9_tracer.specs.Until.{view_behind, IsPassed, Passes, StopsAt, EndsFirst, StopsShort}
+use Rattle.i9_tracer.specs.Until.{IsPassed, Passes, StopsAt, EndsFirst, StopsShort}
 
 -- ---- what a step is
 

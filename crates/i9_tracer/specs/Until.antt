@@ -1,5 +1,5 @@
 -- What running a machine until a stop holds does.
-use Rattle.std.specs.Prelude.{◌≡◌, ℕ, Bool, true, false, List, ◌∷◌, ◌++◌, Some, None}
+use Rattle.std.specs.Prelude.{◌≡◌, Bool, true, false, List, ◌∷◌, ◌++◌, Some, None}
 use Rattle.std.specs.List.{AllByRecursion}
 use Rattle.i9_model.specs.declared.run.End.{End}
 use Rattle.i9_model.specs.declared.view.View.{View}

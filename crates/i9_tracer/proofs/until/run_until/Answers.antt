@@ -1,4 +1,4 @@
-use Rattle.std.proofs.Common.{Some, None, refl}
+use Rattle.std.proofs.Common.{refl}
 use Rattle.i9_machine.specs.declared.line.Turn.TheVariants as answers
 use Rattle.i9_machine.specs.Turned.{steps_on}
 use Rattle.i9_tracer.proofs.Untils.{none_passed, on_pass, issued_pass, issued_stops, ends_first, stops_short, stays_in_run, not_again, again_same}

@@ -1,4 +1,4 @@
-use Rattle.std.proofs.Common.{◌≡◌, ◌<◌, ◌≤◌, max, refl, arith}
+use Rattle.std.proofs.Common.{◌≡◌, ◌<◌, ◌≤◌, refl, arith}
 use Rattle.i9_course.specs.Course.{ahead}
 use Rattle.i9_machine.proofs.Arriving.{ends_arrive}
 use Rattle.i9_machine.proofs.Ending.{late_not_nothing}

@@ -1,4 +1,4 @@
-use Rattle.std.proofs.Common.{◌≡◌, ℕ, unwrap_or, Option, sym, ap, ◌∙◌}
+use Rattle.std.proofs.Common.{ℕ, unwrap_or, Option, sym, ap, ◌∙◌}
 use Rattle.i9_processor.specs.State.{bytes_of}
 use Rattle.i9_machine.proofs.Turned.{raw_byte_is, raw_byte_flushed}
 use Rattle.i9_machine.proofs.machine.Machine.raw_byte.Goals as goal

@@ -1,4 +1,4 @@
-use Rattle.std.proofs.Common.{◌≡◌, List, None}
+use Rattle.std.proofs.Common.{List, None}
 use Rattle.i9_model.specs.Run.{Given}
 use Rattle.i9_course.specs.Course.{Item}
 use Rattle.i9_machine.specs.StandsFor.{StandsFor, Follows, IsUnderWay}
