@@ -1,10 +1,9 @@
 -- Commands and scripts that are run and printed.
-use Rattle.std.proofs.Common.{◌≡◌, ◌≢◌, ℕ, zero, suc, ◌+◌, ◌<◌, ◌≤◌, List, [], ◌∷◌, ◌++◌, length, take, drop, get_or, Option, Some, None, refl, sym, ap, ◌∙◌, subst, append_assoc, arith}
+use Rattle.std.proofs.Common.{◌≡◌, ℕ, zero, suc, ◌+◌, ◌<◌, ◌≤◌, List, [], ◌∷◌, ◌++◌, length, take, drop, get_or, Option, Some, None, refl, sym, ap, ◌∙◌, subst, append_assoc, arith}
 use Rattle.std.specs.List.{AllByRecursion}
 use Rattle.std.proofs.lemmas.List.{append-nil, take-append-drop, take_more, take_all}
 use Rattle.std.specs.List.{All}
 use Rattle.std.proofs.lemmas.List.Elements.{recursion_from_All}
-use Rattle.std.proofs.lemmas.Option.{none-some}
 use Rattle.i9_model.specs.declared.run.End.{End}
 use Rattle.i9_model.specs.Late.{turns as late_turns}
 use Rattle.i9_model.specs.Run.{Given}
@@ -12,7 +11,7 @@ use Rattle.i9_model.specs.Turns.{last_issue}
 use Rattle.i9_schedule.specs.Plan.{Plan}
 use Rattle.i9_course.specs.Course.{Item, course, IsCourse}
 use Rattle.i9_machine.specs.declared.machine.Machine.{Machine}
-use Rattle.i9_machine.specs.StandsFor.{StandsFor, Follows, IsUnderWay}
+use Rattle.i9_machine.specs.StandsFor.{StandsFor, IsUnderWay}
 use Rattle.i9_machine.specs.InRun.{IsInRun}
 use Rattle.i9_machine.specs.Turned.{steps_on}
 use Rattle.i9_script.specs.declared.command.Command.{Command}
@@ -23,7 +22,7 @@ use Rattle.i9_debug.specs.declared.print.Printed.TheVariants.{Done, Write, Memor
 use Rattle.i9_debug.specs.declared.sessions.SessionEnd.{SessionEnd}
 use Rattle.i9_debug.specs.declared.sessions.SessionEnd.TheVariants as ends
 use Rattle.i9_debug.specs.Print.{Account, Prints, OnDone}
-use Rattle.i9_debug.specs.Session.{Place, at, ended, turn_ahead, TurnsTo, turns_pass, turns_end, ComesTo, comes, none_comes, Stays, UnlessOver, Runs, told, Answers, IsText, no_command, next_command}
+use Rattle.i9_debug.specs.Session.{Place, at, TurnsTo, turns_pass, turns_end, ComesTo, comes, none_comes, Stays, UnlessOver, Runs, told, Answers, IsText, no_command, next_command}
 use Rattle.i9_debug.specs.Driven.{StandsAt, Drives, IsCut, printed_of, TellsEnd, RunsScript}
 use Rattle.i9_debug.proofs.Prints.{prints_none, prints_then, prints_stop, prints_same}
 use Rattle.i9_debug.proofs.Places.{Leads, record_issues, turns_lead, address_leads}

@@ -1,15 +1,14 @@
 -- Texts of runs from one place to another.
-use Rattle.std.proofs.Common.{◌≡◌, ℕ, zero, suc, ◌+◌, ◌<◌, ◌≤◌, Bool, true, false, List, [], ◌∷◌, ◌++◌, Option, Some, None, refl, sym, ap, ◌∙◌, subst, append_assoc, ◌⊎◌, inl, inr, arith}
-use Rattle.std.specs.List.{AllByRecursion}
+use Rattle.std.proofs.Common.{◌≡◌, ℕ, zero, suc, ◌<◌, ◌≤◌, Bool, true, false, List, [], ◌∷◌, ◌++◌, Option, Some, None, refl, sym, ap, ◌∙◌, subst, append_assoc, ◌⊎◌, inl, inr, arith}
 use Rattle.std.proofs.lemmas.List.{append-nil}
 use Rattle.i9_model.specs.declared.run.End.{End}
 use Rattle.i9_model.specs.declared.run.End.TheVariants.{Imprecise}
 use Rattle.i9_model.specs.Late.{turns as late_turns}
 use Rattle.i9_model.specs.PrintedText.{Shown, text_of, lines_of, record_lines, end_lines}
 use Rattle.i9_model.proofs.Lines.{text_of-append}
-use Rattle.i9_model.specs.Run.{Given, Record, Next, Does, Ends, state_after}
+use Rattle.i9_model.specs.Run.{Given, Record, Next, Does, Ends}
 use Rattle.i9_model.specs.Turns.{last_issue}
-use Rattle.i9_course.specs.Course.{Item, Step, Mark, records_of, course, comes_next, ahead, imprecise_at, issue_of_next, IsCourse}
+use Rattle.i9_course.specs.Course.{Item, Step, records_of, course, comes_next, imprecise_at, issue_of_next, IsCourse}
 use Rattle.i9_course.proofs.Ahead.{ahead_precise}
 use Rattle.i9_course.specs.LateRun.{end_ahead, finish_by, ended_by}
 use Rattle.i9_course.proofs.Orderly.{course_events}

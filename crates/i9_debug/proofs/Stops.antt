@@ -1,5 +1,5 @@
 -- Steps that are run and printed until a stop holds, or until an instruction address.
-use Rattle.std.proofs.Common.{◌≡◌, ◌≢◌, ℕ, Bool, true, false, ◌&&◌, nat_eq, List, [], ◌∷◌, ◌++◌, flat_map, drop, Option, Some, None, refl, sym, ap, ◌∙◌, subst, inl, inr, arith}
+use Rattle.std.proofs.Common.{◌≡◌, ℕ, Bool, true, false, ◌&&◌, nat_eq, List, [], ◌∷◌, ◌++◌, flat_map, drop, None, refl, sym, ap, ◌∙◌, subst, inl, inr, arith}
 use Rattle.std.specs.List.{AllByRecursion}
 use Rattle.std.proofs.lemmas.List.{append-nil}
 use Rattle.i9_model.specs.State.{State}
@@ -17,14 +17,14 @@ use Rattle.i9_machine.specs.declared.line.Turn.TheVariants as answers
 use Rattle.i9_machine.specs.declared.machine.Machine.{Machine}
 use Rattle.i9_machine.specs.Line.{AddsLines}
 use Rattle.i9_machine.specs.Step.{TellsRecord}
-use Rattle.i9_machine.specs.StandsFor.{StandsFor, Follows, IsUnderWay, DoesNext, EndsRun, Comes}
+use Rattle.i9_machine.specs.StandsFor.{StandsFor, Follows, IsUnderWay, DoesNext, Comes}
 use Rattle.i9_machine.specs.Turned.{steps_on}
-use Rattle.i9_tracer.specs.Until.{view_behind, IsPassed}
+use Rattle.i9_tracer.specs.Until.{IsPassed}
 use Rattle.i9_tracer.proofs.Untils.{Shows}
 use Rattle.i9_debug.specs.declared.print.Printed.{Printed}
 use Rattle.i9_debug.specs.declared.print.Printed.TheVariants.{Done, Write, Memory}
 use Rattle.i9_debug.specs.Print.{Account, Prints, OnDone, line_text}
-use Rattle.i9_debug.specs.Session.{Place, at, ended, turn_ahead, ending_lines, comes_to, NoneComesTo, EndsBehind, ComesTo, comes, none_comes}
+use Rattle.i9_debug.specs.Session.{Place, at, ended, turn_ahead, ending_lines, comes_to, NoneComesTo, ComesTo, comes, none_comes}
 use Rattle.i9_debug.specs.Driven.{StandsAt, Drives, IsCut, StopsBy, stops, never_stops, goes_on}
 use Rattle.i9_debug.proofs.Prints.{prints_none, prints_then, prints_stop, prints_same, prints_cut}
 use Rattle.i9_debug.proofs.Places.{either, comes_after, address_leads}

@@ -1,5 +1,5 @@
 -- What a debugger does to a machine and to a sink.
-use Rattle.std.specs.Prelude.{◌≡◌, ℕ, Bool, true, List, drop, [], ◌∷◌, Option, Some, None}
+use Rattle.std.specs.Prelude.{◌≡◌, ℕ, Bool, true, List, drop, ◌∷◌, Option, Some, None}
 use Rattle.std.specs.List.{AllByRecursion}
 use Rattle.i9_model.specs.declared.view.View.{View}
 use Rattle.i9_model.specs.PrintedText.{text_of, lines_of}

@@ -2,7 +2,6 @@ use Rattle.std.proofs.Common.{◌≡◌, ℕ, ◌+◌, ◌≤◌, List, [], ◌�
 use Rattle.std.specs.List.{slice_get}
 use Rattle.std.proofs.lemmas.List.{map-append, take_more, length-reverse}
 use Rattle.std.proofs.lemmas.Option.{slice_get_within, slice_get_cases, get_or_from_slice_get, none-some}
-use Rattle.i9_model.specs.declared.frame.Frame.{Frame}
 use Rattle.i9_debug.proofs.place.save_addresses.Goals as goal
 use Rattle.i9_debug.proofs.place.save_addresses.Goals.{in-Some+in_ok-push, in_default}
 

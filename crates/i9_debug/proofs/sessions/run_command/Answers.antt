@@ -1,4 +1,4 @@
-use Rattle.std.proofs.Common.{◌≡◌, ◌∙◌, sym, Option, Some, None, subst}
+use Rattle.std.proofs.Common.{◌≡◌, ◌∙◌, sym, Option, None, subst}
 use Rattle.i9_model.specs.declared.run.End.{End}
 use Rattle.i9_machine.specs.StandsFor.{StandsFor}
 use Rattle.i9_debug.proofs.Commands.{runs_from, on_its_way, stays_there, over_stays}

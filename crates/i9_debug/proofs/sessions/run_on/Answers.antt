@@ -1,5 +1,4 @@
 use Rattle.std.proofs.Common.{refl}
-use Rattle.i9_debug.specs.declared.print.Printed.TheVariants.{Done}
 use Rattle.i9_debug.specs.Session.{at}
 use Rattle.i9_debug.proofs.Commands.{drives_as, stays_there}
 use Rattle.i9_debug.proofs.sessions.run_on.Goals as goal

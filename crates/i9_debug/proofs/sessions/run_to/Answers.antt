@@ -1,4 +1,4 @@
-use Rattle.std.proofs.Common.{◌≡◌, ◌∙◌, nat_eq, ap}
+use Rattle.std.proofs.Common.{◌∙◌, nat_eq, ap}
 use Rattle.i9_model.specs.declared.view.View.{View}
 use Rattle.i9_debug.proofs.Stops.{arrives}
 use Rattle.i9_debug.proofs.sessions.run_to.Goals as goal

@@ -1,4 +1,3 @@
-use Rattle.std.proofs.Common.{List, [], Some, None, arith}
 use Rattle.i9_machine.specs.declared.line.Turn.TheVariants as answers
 use Rattle.i9_machine.specs.Turned.{steps_on}
 use Rattle.i9_debug.specs.declared.print.Printed.TheVariants.{Done, Write, Memory}

@@ -1,9 +1,6 @@
-use Rattle.std.proofs.Common.{sym, ap}
-use Rattle.i9_script.specs.declared.command.Command.{Command}
 use Rattle.i9_debug.specs.declared.print.Printed.TheVariants.{Done, Write, Memory}
 use Rattle.i9_debug.specs.declared.sessions.SessionEnd.TheVariants as ends
 use Rattle.i9_debug.specs.Print.{account}
-use Rattle.i9_debug.specs.Session.{Answers}
 use Rattle.i9_debug.proofs.Commands.{no_script, does_next, script_stops, script_done, script_stopped, driven_in_run}
 use Rattle.i9_debug.proofs.sessions.session.Goals as goal
 
