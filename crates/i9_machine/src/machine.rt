@@ -179,6 +179,7 @@ impl Machine {
     }
 
     /// The turn becomes this one, and what is due lands.
+    #[inline(always)]
     fn move_to(&mut self, turn: u64)
         ensures moved { IsMovedTo turn self.old self.new }
         ensures keeps { KeepsPlanned self.old self.new }
@@ -188,6 +189,7 @@ impl Machine {
     }
 
     /// The turn becomes this one, where it is below it, and what is due by then lands.
+    #[inline(always)]
     fn pass_to(&mut self, turn: u64)
         ensures passed { IsPassedTo turn self.old self.new }
         ensures keeps { KeepsPlanned self.old self.new }

@@ -31,6 +31,7 @@ use i9_raw::hide;
 use i9_schedule::{Schedule, copied};
 
 /// Makes room for so many lines.
+#[inline(always)]
 fn reserve_lines(lines: usize, out: &mut Vec<Line>) -> Result<(), NoMemory>
     ensures items { out.new.items ≡ out.old.items }
     ensures room { OnOk result (vec_len out.new + lines ≤ vec_capacity out.new) }
@@ -94,6 +95,7 @@ fn put_end(e: End, view: View, out: &mut Vec<Line>) -> Result<(), NoMemory>
 }
 
 /// Adds the line of a byte that goes out at the console.
+#[inline(always)]
 fn put_out(byte: Option<u8>, out: &mut Vec<Line>)
     requires { vec_len out.old + length (out_lines byte) ≤ vec_capacity out.old }
     ensures lines { AddsLines out.old.items out.new.items (out_lines byte) }
@@ -105,14 +107,25 @@ fn put_out(byte: Option<u8>, out: &mut Vec<Line>)
     }
 }
 
+/// Adds a drained point.
+// Few steps have one, and this is no part of their code.
+#[inline(never)]
+fn put_view(kind: Point, p: &Processor, out: &mut Vec<Line>)
+    requires { vec_len out.old + 1 ≤ vec_capacity out.old }
+    ensures { AddsLines out.old.items out.new.items (Drained kind (view_of (state_of p.now)) ∷ []) }
+{
+    let view = p.view();
+    put_line(out, Line::Point { kind, view });
+}
+
 /// Adds a drained point, where there is one.
+#[inline(always)]
 fn put_point(point: Option<Point>, p: &Processor, out: &mut Vec<Line>)
     requires { vec_len out.old + point_count (point) ≤ vec_capacity out.old }
     ensures { AddsLines out.old.items out.new.items (point_lines (point) (state_of p.now)) }
 {
     if let Some(kind) = point {
-        let view = p.view();
-        put_line(out, Line::Point { kind, view });
+        put_view(kind, p, out);
     }
 }
 
@@ -153,6 +166,7 @@ fn put_reached(event: &Event, p: &Processor, out: &mut Vec<Line>)
 }
 
 /// Adds the lines of an event that is reached, where one is.
+#[inline(always)]
 fn put_event(event: Option<&Event>, p: &Processor, out: &mut Vec<Line>)
     requires room { vec_len out.old + reached_count (option_copied event) ≤ vec_capacity out.old }
     requires ranges { IfSome event (λ e. IsInRange e.now) }
@@ -166,6 +180,7 @@ fn put_event(event: Option<&Event>, p: &Processor, out: &mut Vec<Line>)
 }
 
 /// How many lines an event has that is reached, where one is.
+#[inline(always)]
 fn reached_count(event: Option<&Event>) -> usize
     ensures { result ≡ reached_count (option_copied event.entry) }
 {
@@ -177,6 +192,7 @@ fn reached_count(event: Option<&Event>) -> usize
 }
 
 /// Whether an effect sets registers alone, as most do. What it does is the same either way: this tells which code does it.
+#[inline(always)]
 pub(super) fn sets_registers_alone(e: &Effect) -> bool
     ensures { result ≡ true → IsOfRegisters e.now }
 {
@@ -195,6 +211,7 @@ impl Step {
 
     /// How many lines it prints: those of an event that it reaches, a byte of the console, and a drained
     /// point.
+    #[inline(always)]
     fn line_count(&self, effect: &Effect, event: Option<&Event>) -> usize
         ensures { result ≡ line_count effect.now self.now (option_copied event.entry) }
     {
@@ -204,6 +221,7 @@ impl Step {
 }
 
 /// A schedule goes on behind the event that a step reaches, where it reaches one.
+#[inline(always)]
 fn go_on(step: &Step, plan: &mut Schedule)
     requires { step.now.reaches ≡ true → plan.old.place < length plan.old.events }
     ensures { plan.new ≡ plan_after_step plan.old step.now }

@@ -25,6 +25,7 @@ impl Machine {
     ghost use Rattle.i9_machine.specs.Step.{event_for};
 
     /// Whether nothing is due, and the length is not reached.
+    #[inline(always)]
     fn goes_on(&self) -> bool
         ensures free { result ≡ true → (self.now.due ≡ Due.Nothing) × ((state_of self.now.processor).count < self.now.length) }
         ensures waits { (plan : Plan) → result ≡ false → NextWaits self.now plan }
@@ -38,6 +39,7 @@ impl Machine {
 
     /// Whether nothing is due, the length is not reached, and no interrupt is chosen, so that the instruction
     /// comes next where no event stands there. While software's requests are to be looked at, a barrier is open.
+    #[inline(always)]
     fn is_free(&self) -> bool
         ensures free { result ≡ true → IsFreeToIssue self.now }
         ensures waits { (plan : Plan) → result ≡ false → NextWaits self.now plan }
@@ -54,6 +56,7 @@ impl Machine {
 
     /// What the instruction at the instruction address would do, as if nothing came before it. Its need is kept, and
     /// where it runs its effect is made in the machine.
+    #[inline(always)]
     fn plan_instruction(&mut self) -> Open
         ensures stands { OpenStands (state_of self.old.processor) self.new.memo result }
         ensures planned { OpenPlanned (state_of self.old.processor) self.new.memo result self.new.effect }
@@ -122,6 +125,7 @@ impl Machine {
 
     /// The instruction that is planned comes next at its turn, unless an event stands before it, which waits for all
     /// that is open.
+    #[inline(always)]
     fn look_at(&self, until: u64, plan: &Schedule, coming: Coming) -> (u64, Coming)
         requires stands { IsUnderWay self.now plan.now }
         requires until { IsEndTurn self.now until }
@@ -143,6 +147,7 @@ impl Machine {
 
     /// What comes next while something is open until a turn, and no fault is imprecise: an instruction, or what waits
     /// for all.
+    #[inline(always)]
     fn look_open(&mut self, until: u64, plan: &Schedule) -> (u64, Coming)
         requires stands { IsUnderWay self.old plan.now }
         requires until { IsEndTurn self.old until }
@@ -164,6 +169,7 @@ impl Machine {
 
     /// What comes next, and at which turn: an instruction, unless what comes next waits for all that is open, or the
     /// end at an arithmetic fault that is overtaken. Nothing changes but what the machine has of what is planned.
+    #[inline(always)]
     pub(super) fn look(&mut self, plan: &Schedule) -> (u64, Coming)
         requires stands { IsUnderWay self.old plan.now }
         ensures like { IsLike self.old self.new }
@@ -181,6 +187,7 @@ impl Machine {
     }
 
     /// The address of the instruction whose arithmetic fault is to be entered, where it may be imprecise.
+    #[inline(always)]
     fn late_fault(&self) -> Option<u32>
         ensures { result ≡ late_due self.now }
     {

@@ -35,6 +35,7 @@ use i9_processor::Effect;
 use i9_schedule::Schedule;
 
 /// The drained point behind an instruction.
+#[inline(always)]
 fn point_by_name(op: Op) -> Option<Point>
     ensures { result ≡ point_by_name op }
 {
@@ -108,6 +109,7 @@ impl Machine {
     ghost use Rattle.i9_machine.specs.Step.{IsStepWhere, IsPlannedIn, IsNext, event_for, next_where};
 
     /// What is told of an instruction of these words.
+    #[inline(always)]
     fn issued(&self, words: Words) -> Issued
         ensures { (n : ℕ) → TellsWords n (state_of self.now.processor) words → TellsIssue n (state_of self.now.processor) result }
     {
@@ -121,6 +123,7 @@ impl Machine {
 
     /// What an effect makes due: an exit, where it brings one, or else the entry of the fault of its trace
     /// events, where some count.
+    #[inline(always)]
     fn due_by(&self, e: &Effect) -> Due
         ensures { result ≡ action_due (state_of self.now.processor) (action_in (state_of self.now.processor) e.now) }
     {
@@ -138,6 +141,7 @@ impl Machine {
     }
 
     /// The need of a record is kept, behind the last mark.
+    #[inline(always)]
     pub(super) fn keep(&mut self, need: Need)
         ensures need { self.new.need ≡ waiting_until self.old.floor need }
         ensures like { IsLike self.old self.new }
@@ -151,6 +155,7 @@ impl Machine {
     }
 
     /// An instruction is done, by the effect that was planned, where it comes next.
+    #[inline(always)]
     pub(super) fn does(&self) -> Step
         requires words { TellsWords (words_of (inst_in self.now.memo)) (state_of self.now.processor) (words_in self.now.memo) }
         requires effect { IsEffect (state_of self.now.processor) (traced_action (inst_in self.now.memo) (state_of self.now.processor)) self.now.effect }
