@@ -112,6 +112,6 @@ pub fn a_length_cuts_the_late_run()
         → is_imprecise e ≡ false → IsLateRun g rs e → (IsLateRun (record g { length = more }) rs e
         ↔ imprecise_at (record g { length = more }) (steps rs) ≡ None) }
     ensures run_otherwise { (g : Given) (more : ℕ) (rs : List Record) (e : End) (a : ℕ) → g.length ≤ more
-        → e ≢ Limit → is_imprecise e ≡ false → IsLateRun g rs e → imprecise_at (record g { length = more }) (steps rs) ≡ Some a
-        → IsLateRun (record g { length = more }) rs (Imprecise a) }
+        → e ≢ Limit → is_imprecise e ≡ false → IsLateRun g rs e
+        → imprecise_at (record g { length = more }) (steps rs) ≡ Some a → IsLateRun (record g { length = more }) rs (Imprecise a) }
 {}

@@ -27,7 +27,8 @@ pub record StandsAt (g : Given) (p : Place) (m : Machine) (plan : Plan) : Type 0
 
 -- A text that leads to a place was printed on a sink of this type, or a front of it; and the machine stands at some place
 -- behind whole steps, which is that one where all was printed.
-pub record Drives {K : Type 0} (leads : List ℕ → Place → Type 0) (answer : Printed) (g : Given) (k : Account K) (old new : K) (m : Machine) (plan : Plan) : Type 0 where
+pub record Drives {K : Type 0} (leads : List ℕ → Place → Type 0) (answer : Printed) (g : Given) (k : Account K) (old new : K)
+    (m : Machine) (plan : Plan) : Type 0 where
   pub text : List ℕ
   pub last : Place
   pub is_text : leads text last
@@ -72,6 +73,7 @@ TellsEnd ends.Write end = Unit {0}
 TellsEnd ends.Memory end = Unit {0}
 
 -- The text of a script from a place on was printed, or a front of it.
-pub record RunsScript {K : Type 0} (answer : SessionEnd) (g : Given) (p : Place) (cs : List Command) (k : Account K) (old new : K) (m : Machine) (plan : Plan) : Type 0 where
+pub record RunsScript {K : Type 0} (answer : SessionEnd) (g : Given) (p : Place) (cs : List Command) (k : Account K) (old new : K)
+    (m : Machine) (plan : Plan) : Type 0 where
   pub drives : Drives (IsText g cs p) (printed_of answer) g k old new m plan
   pub tells : TellsEnd answer drives.last.end

@@ -78,7 +78,8 @@ pub record Prints {K : Type 0} (answer : Printed) (k : Account K) (old new : K) 
   pub leaves : PrintLeaves answer (k.told old) (k.told new) text
   pub cause : PrintCause answer (k.faults old) (k.faults new)
   pub lines : PrintCount answer (line_count text) (k.writes old) (k.writes new)
-  pub calm : (n : ℕ) → k.sure old (length text + n) → (answer ≢ printed.Write) × (k.faults new ≡ k.faults old) × OnDone answer (k.sure new n)
+  pub calm : (n : ℕ) → k.sure old (length text + n)
+      → (answer ≢ printed.Write) × (k.faults new ≡ k.faults old) × OnDone answer (k.sure new n)
 
 -- each piece is one line
 abbrev pub AreLines : List (Vec ℕ) → Type 0

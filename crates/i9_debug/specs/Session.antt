@@ -115,7 +115,8 @@ turn_text t k = codes "#turn " ++ decimal t ++ codes " " ++ decimal k ++ line_fe
 
 -- the count, the address, AC and PC of a view, and its registers
 unfoldable pub view_text : View → List ℕ
-view_text v = words_text (codes "#view " ++ decimal v.count) (v.ip ∷ v.ac ∷ v.pc ∷ []) ++ registers_text (codes "#g") (codes "#l") v.regs
+view_text v =
+    words_text (codes "#view " ++ decimal v.count) (v.ip ∷ v.ac ∷ v.pc ∷ []) ++ registers_text (codes "#g") (codes "#l") v.regs
 
 -- the turn, which registers are busy, and the registers as they stand
 unfoldable pub raw_text : Raw → List ℕ

@@ -145,7 +145,7 @@ Advances g h answer before m plan old new = Comes g h answer before m plan old n
 -- refused only where room is lacking then, with this many lines to spare.
 pub record Proceeds (g : Given) (h : List Item) (answer : Turn) (before m : Machine) (plan : Plan) (spare : ℕ) (old new : List Line) : Type 0 where
   pub mid : Machine
-  pub later : before.turn ≤ mid.turn
+  pub now : (ahead g h).turn ≡ mid.turn
   pub stands : StandsFor g h None mid
   pub comes : Comes g h answer mid m plan old new
   pub lacking : answer ≡ turns.Memory → HasRoom mid spare (comes_next g h) → ⊥

@@ -38,7 +38,7 @@ returns-in-None-clause-next c = λ g h stands follows.
     let out = c.args.out.now in
     record {
       mid = c.pass_to.new.self;
-      later = omega (arith, same, now);
+      now = omega (arith, turn, same, now);
       stands = stands_now;
       comes = came_comes g h c.look-turn.result.1 c.pass_to.new.self c.come.result c.come.new.self c.args.plan.now c.come.new.plan out.items c.come.new.out.items
           stands_now follows at.imprecise (omega (arith, turn, same, now)) c.come.ensures.came;
