@@ -12,11 +12,7 @@ use Rattle.i9_schedule.specs.Plan.{Plan}
 use Rattle.i9_processor.specs.State.{state_of}
 use Rattle.i9_model.specs.declared.run.Point.{Point}
 use Rattle.i9_model.specs.PrintedText.{Shown, Journal, bytes_lines, out_lines, point_lines}
-use Rattle.i9_processor.specs.declared.effect.Control.{Control}
-use Rattle.i9_processor.specs.declared.effect.DmaChange.{DmaChange}
 use Rattle.i9_processor.specs.declared.effect.Effect.{Effect}
-use Rattle.i9_processor.specs.declared.effect.Move.{Move}
-use Rattle.i9_processor.specs.declared.effect.Posting.{Posting}
 use Rattle.i9_processor.specs.Effect.{writes_in, action_in, control_in, AreRegisters, CanPost, CanChange, CanControl, CanMove, HasSpaceFor, has_writes, is_restart}
 use Rattle.i9_machine.specs.declared.machine.Machine.{Machine}
 use Rattle.i9_machine.specs.declared.step.Step.{Step}
@@ -54,11 +50,6 @@ point_count (Some kind) = 1
 -- how many lines are printed
 abbrev pub line_count : Effect → Step → Option Event → ℕ
 line_count e step event = reached_count event + (length (out_lines (console_byte (writes_in e))) + point_count (step.point))
-
--- an effect sets registers alone: it stores nothing, and leaves frames, controls, interrupts and DMA as they are
-abbrev pub IsOfRegisters : Effect → Type 0
-IsOfRegisters e = (writes_in e ≡ []) × (e.frames ≡ Move.Stays) × (e.control ≡ Control.Keeps) × (e.posting ≡ Posting.Keeps)
-    × (e.dma ≡ DmaChange.Keeps) × (e.trace ≡ None)
 
 -- it prints lines, stores bytes, saves a frame, or makes new sets
 abbrev pub asks_room : State → Effect → Step → Option Event → Bool

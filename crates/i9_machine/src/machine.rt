@@ -25,7 +25,6 @@ mod opening;
 mod planning;
 mod turning;
 
-use self::doing::sets_registers_alone;
 use crate::line::{Line, Turn};
 use crate::step::Coming;
 use i9_frames::Sets;
@@ -310,7 +309,7 @@ impl Machine {
             → HasRoom self.old (vec_capacity out.old - vec_len out.old) (next_for self.old plan.old) → ⊥ }
         ensures fewer { LeavesFewer result (steps_left self.old plan.old) (steps_left self.new plan.new) }
     {
-        if sets_registers_alone(&self.effect) {
+        if self.effect.plain {
             self.step_running(issue, plan, out)
         } else {
             self.step_storing(issue, plan, out)
@@ -377,6 +376,8 @@ impl Machine {
     /// As `advance`, behind the turns at which nothing comes, which it passes in one go: what comes next is done, or the
     /// end is answered, and never does it answer that the turn moved alone. Memory is refused where `advance` may refuse
     /// it once the turn has moved.
+    // Each caller goes round a loop with it, and has its answer where it is made.
+    #[inline(always)]
     pub fn proceed(&mut self, plan: &mut Schedule, out: &mut Vec<Line>) -> Turn
         requires stands { self.old.ended ≡ None → IsUnderWay self.old plan.old }
         ensures next { (g : Given) (h : List Item) → StandsFor g h None self.old → Follows g h plan.old

@@ -121,7 +121,7 @@ impl Pages {
     }
 
     /// The four bytes from an address up.
-    #[inline(never)]
+    #[inline(always)]
     pub(crate) fn four(&self, a: u32) -> [u8; 4]
         ensures { result ≡ byte_of self.now a ∷ byte_of self.now (wrapped (a + 1)) ∷ byte_of self.now (wrapped (a + 2)) ∷ byte_of self.now (wrapped (a + 3)) ∷ [] }
     {

@@ -47,24 +47,15 @@ left_behind s i e effect =
     ap (λ (a : Action). (controlled (moved s a) a.control).trace) effect.same
     ∙ sym (ap (λ (o : Option Trace). (flagged o (controlled (moved s (action_of i s)) (action_of i s).control)).trace) (action_untraced i s))
 
-pub traced_effect : (s : State) (i : Inst) (e : Effect) (c : Controls) (o : Option Trace) → IsEffect s (action_of i s) e
+pub traced_same : (s : State) (i : Inst) (e : Effect) (c : Controls) (o : Option Trace) → IsEffect s (action_of i s) e
     → controls_of c ≡ left.trace_left s e → o ≡ trace_of c.tc s.pc i (seen_of i s (action_in s e)) c.breaks
-    → IsEffect s (traced_action i s) (record e { trace = o })
+    → record (action_in s e) { trace = o } ≡ traced_action i s
 unfolding moved
-traced_effect s i e c o effect behind is =
+traced_same s i e c o effect behind is =
     let a = action_of i s in
-    let same =
     ap (λ (x : Option Trace). record (action_in s e) { trace = x }) is
     ∙ ap (λ (x : Action). record x { trace = trace_of c.tc s.pc i (seen_of i s x) c.breaks }) effect.same
-    ∙ ap (λ (x : TraceControls). record a { trace = trace_left i s a x }) (behind ∙ left_behind s i e effect) in
-    record {
-      same = same;
-      registers = effect.registers;
-      posts = effect.posts;
-      changes = effect.changes;
-      moves = effect.moves;
-      controls = effect.controls;
-    }
+    ∙ ap (λ (x : TraceControls). record a { trace = trace_left i s a x }) (behind ∙ left_behind s i e effect)
 
 -- while trace enable is clear the effect is already the one with its trace events
 pub untraced_effect : (s : State) (i : Inst) (e : Effect) → is_traced s ≡ false → IsEffect s (action_of i s) e → IsEffect s (traced_action i s) e

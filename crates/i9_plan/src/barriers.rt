@@ -28,6 +28,7 @@ fn flushing(p: &Processor, i: &Inst) -> Effect
 {
     let mut effect = passing(p, i);
     effect.frames = Move::Flushes;
+    effect.plain = false;
     effect
 }
 

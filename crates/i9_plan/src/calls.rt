@@ -32,6 +32,7 @@ fn pushing(p: &Processor, push: &Push, back: u32, next: u32) -> Effect
 {
     let mut effect = Effect::going(p, next);
     effect.frames = Move::Saves { push: *push, back };
+    effect.plain = false;
     effect
 }
 
@@ -72,6 +73,7 @@ pub(crate) fn plan_return(p: &Processor) -> Result<Effect, u32>
     let pop = p.plan_ret()?;
     let mut effect = Effect::going(p, aligned(p.frame_word(pop.frame, RIP)));
     effect.frames = Move::Returns(pop.frame);
+    effect.plain = false;
     effect.pc = pop.pc;
     effect.ac = pop.ac;
     effect.check = pop.check;
@@ -93,6 +95,7 @@ fn recording(p: &Processor, e: &Entry) -> Effect
     let mut effect = pushing(p, &e.push, p.ip(), e.target);
     effect.address = record;
     effect.bytes = bytes_of_words(p, record, &e.words, 4);
+    effect.plain = false;
     effect.pc = e.pc;
     effect
 }
@@ -130,5 +133,6 @@ pub fn plan_interrupt(p: &Processor, c: &Chosen) -> Result<Effect, u32>
     let mut effect = recording(p, &entry);
     effect.requests = p.clearing_bytes(c, &entry);
     effect.posting = Posting::Clears(c.cause);
+    effect.plain = false;
     Ok(effect)
 }

@@ -34,6 +34,7 @@ pub(crate) fn plan_sdma(p: &Processor, i: &Inst) -> Effect
     };
     let mut effect = passing(p, i);
     effect.dma = DmaChange::SetsUp(value(p, i.a) as u8, channel);
+    effect.plain = false;
     effect
 }
 
@@ -62,6 +63,7 @@ fn moving(p: &Processor, c: u8, bytes: ArrayVec<u8, MOST_BYTES>) -> Effect
     effect.bytes = bytes;
     effect.dma = DmaChange::Passes(c);
     effect.posting = posting_of(p.posts_behind_unit(c), c);
+    effect.plain = false;
     effect
 }
 

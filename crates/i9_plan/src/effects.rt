@@ -81,6 +81,7 @@ pub(crate) fn assigning(
             let mut effect = Effect::going(p, next);
             effect.posting = posting(k, values.as_slice());
             effect.dma = dma_change(k, values.as_slice());
+            effect.plain = false;
             effect
         }
     }
@@ -108,6 +109,7 @@ pub(crate) fn assign(
         Operand::Sfr(k) => {
             effect.posting = posting(k, values.as_slice());
             effect.dma = dma_change(k, values.as_slice());
+            effect.plain = false;
         }
     }
 }

@@ -16,6 +16,7 @@ fn posting(p: &Processor, what: Posting) -> Effect
 {
     let mut effect = Effect::going(p, p.ip());
     effect.posting = what;
+    effect.plain = false;
     effect
 }
 

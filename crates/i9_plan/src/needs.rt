@@ -39,12 +39,16 @@ fn spilled_frames(p: &Processor) -> u8
     u8::from(held_frames(p) >= p.sets().size())
 }
 
-/// How many frames a move spills, refills or flushes.
-fn moved_frames(p: &Processor, m: &Move) -> u8
-    ensures value { result ≡ moved_frames (size_of p.now) (cache_of p.now) (move_in (state_of p.now) m.now) }
+/// How many frames an effect spills, refills or flushes.
+#[inline(always)]
+fn moved_frames(p: &Processor, effect: &Effect) -> u8
+    ensures value { result ≡ moved_frames (size_of p.now) (cache_of p.now) (move_in (state_of p.now) effect.now.frames) }
     ensures few { result ≤ 15 }
 {
-    match m {
+    if effect.plain {
+        return 0;
+    }
+    match &effect.frames {
         Move::Stays => 0,
         Move::Saves { .. } => spilled_frames(p),
         Move::Returns(_) => u8::from(held_frames(p) == 0),
@@ -62,7 +66,7 @@ pub fn need_done(p: &Processor, memo: &Memo, effect: &Effect) -> Need
     ensures need { result ≡ need_of (size_of p.now) (cache_of p.now) (state_of p.now) (Instruction (inst_in memo.now)) }
     ensures cost { result.cost ≤ 248 }
 {
-    let frames = moved_frames(p, &effect.frames);
+    let frames = moved_frames(p, effect);
     let known = facts(p, memo, frames, false, effect.trace.is_some());
     need_by(memo.need(), &known)
 }

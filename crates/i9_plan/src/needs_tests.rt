@@ -37,6 +37,7 @@ fn flushes(p: &mut Processor) -> Result<(), Fail>
 {
     let mut effect = Effect::going(p, 0);
     effect.frames = Move::Flushes;
+    effect.plain = false;
     applies(p, &effect)
 }
 

@@ -38,8 +38,8 @@ fn stands_apart(need: &FixedNeed) -> bool
 /// What stands at the instruction address while records are open: what they leave in the end is what is
 /// read, so an instruction that is no barrier is planned at once, and its effect, with its trace events, is
 /// made in `effect`; the instruction is in the memo. Whether it is a barrier by what it accesses, or by its trace events, its need says.
-// It is no part of the code that calls it, as `plan_next` is none.
-#[inline(never)]
+// Each step calls it, and it is part of the code that does.
+#[inline(always)]
 pub fn plan_open(p: &Processor, memo: &mut Memo, effect: &mut Effect) -> Open
     ensures stands { OpenStands (state_of p.now) memo.new result }
     ensures planned { OpenPlanned (state_of p.now) memo.new result effect.new }

@@ -66,6 +66,7 @@ fn resulting(p: &Processor, i: &Inst, done: Done, effect: &mut Effect)
         Operand::Sfr(k) => {
             effect.posting = posting(k, done.values.as_slice());
             effect.dma = dma_change(k, done.values.as_slice());
+            effect.plain = false;
         }
     }
 }

@@ -61,6 +61,7 @@ fn controlling(p: &Processor, i: &Inst, control: Control) -> Effect
     let mut effect = passing(p, i);
     effect.frames = Move::Flushes;
     effect.control = control;
+    effect.plain = false;
     effect
 }
 
@@ -119,6 +120,7 @@ fn plan_request(p: &Processor, i: &Inst) -> Result<Effect, u32>
     let requests = p.plan_request(argument(p, i))?;
     let mut effect = passing(p, i);
     effect.requests = requests;
+    effect.plain = false;
     effect.check = true;
     Ok(effect)
 }

@@ -193,6 +193,7 @@ pub(crate) fn saves(p: &mut Processor) -> Result<(), Fail>
     };
     let mut effect = Effect::going(p, 0);
     effect.frames = Move::Saves { push, back: 9 };
+    effect.plain = false;
     applies(p, &effect)
 }
 
@@ -705,6 +706,7 @@ fn changes(p: &mut Processor, change: DmaChange) -> Result<(), Fail>
 {
     let mut effect = Effect::going(p, 0x1000);
     effect.dma = change;
+    effect.plain = false;
     applies(p, &effect)
 }
 

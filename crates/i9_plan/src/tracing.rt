@@ -91,6 +91,7 @@ fn trace(p: &Processor, i: &Inst, moving: Option<Moving>, effect: &mut Effect)
     let left = p.trace_left(effect);
     let seen = seen(p, i, moving, effect);
     effect.trace = event(left.tc, p.pc(), i, &seen, &left.breaks);
+    effect.plain = false;
 }
 
 /// Adds to the effect of an instruction that runs its trace events, while trace enable is set.

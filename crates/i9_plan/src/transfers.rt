@@ -159,6 +159,7 @@ fn plan_store(p: &Processor, i: &Inst, m: Moving, effect: &mut Effect) -> Option
     if hazard.is_none() {
         effect.address = m.address;
         effect.bytes = stored(p, size, i.c, m.address);
+        effect.plain = false;
     }
     hazard
 }
@@ -193,6 +194,7 @@ fn plan_atomic(p: &Processor, i: &Inst, a: u32, old: u32, new: u32) -> Result<Ef
     let mut effect = answering(p, i, old);
     effect.address = a;
     effect.bytes = listed(&p.word_bytes(a, new));
+    effect.plain = false;
     Ok(effect)
 }
 

@@ -1,4 +1,5 @@
 pub mod State
+pub mod Rest
 pub mod Effect
 pub mod Tracing
 pub mod Issued

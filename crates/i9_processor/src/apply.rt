@@ -235,7 +235,7 @@ fn put_bytes(storage: &mut Storage, e: &Effect, landing: &Landing)
 {
     if landing.request {
         queue_run(storage, e, landing.done);
-    } else {
+    } else if !e.plain {
         store_bytes(storage, e);
     }
 }
@@ -266,6 +266,9 @@ impl Processor {
         ensures needed { OnErr result (has_writes (action_in (state_of self.old) e.now) ≡ true) }
         ensures lacking { OnErr result (HasSpaceFor self.old e.now → ⊥) }
     {
+        if e.plain {
+            return Ok(());
+        }
         reserve_run(&mut self.storage, e)?;
         reserve_requests(&mut self.storage, &e.requests)?;
         reserve_move(&mut self.storage, &e.frames)
@@ -518,10 +521,16 @@ impl Processor {
         ensures still { landing.now.request ≡ false → IsStill (action_in (state_of self.old) e.now)
             → bytes_of self.new ≡ bytes_of self.old }
     {
-        self.move_frames(e, landing);
-        put_bytes(&mut self.storage, e, landing);
-        self.post(e.posting);
-        self.change_dma(e.dma);
+        if e.plain {
+            let (file, flags) = (&mut self.file, &mut self.flags);
+            issue_group(file, flags, landing, e.register, e.values.as_slice(), e.ac);
+            put_bytes(&mut self.storage, e, landing);
+        } else {
+            self.move_frames(e, landing);
+            put_bytes(&mut self.storage, e, landing);
+            self.post(e.posting);
+            self.change_dma(e.dma);
+        }
         self.pc = e.pc;
         self.tc = e.tc;
         self.check = e.check;

@@ -3,7 +3,7 @@ ghost use Rattle.std.specs.Prelude.{◌≡◌, ◌+◌, ◌<◌, ◌≤◌, ◌^
 ghost use Rattle.i9_model.specs.Writes.{last_put, pairs_at, upwards};
 ghost use Rattle.i9_model.specs.Step.{going};
 ghost use Rattle.i9_model.specs.Memory.{console_byte, exit_word};
-ghost use Rattle.i9_processor.specs.Effect.{one_in};
+ghost use Rattle.i9_processor.specs.Rest.{LeavesRest};
 
 use crate::processor::Processor;
 use arrayvec::ArrayVec;
@@ -87,6 +87,9 @@ pub enum DmaChange {
 /// what is done to frames; the arithmetic, process and trace controls and the check flag afterwards;
 /// what is done to the other controls, to interrupts and to DMA; the next instruction address; and, where
 /// trace events count, the trace controls with their flags and the subtype of their fault.
+///
+/// Most effects are plain: nothing is stored, and frames, interrupts, DMA and the controls that start-up reads stay.
+/// Where `plain` is set nothing of that is asked for; where it is not, the effect may be plain nevertheless.
 #[derive(Debug, Drop)]
 pub struct Effect {
     pub register: u8,
@@ -104,6 +107,8 @@ pub struct Effect {
     pub control: Control,
     pub next: u32,
     pub trace: Option<Trace>,
+    pub plain: bool,
+    pub ghost rest: { IsTrue plain → LeavesRest bytes.items requests frames posting dma control trace },
 }
 
 /// The byte at a place, of bytes that stand from an address on.
@@ -114,19 +119,8 @@ fn byte_of_run(address: u32, bytes: &[u8], place: u32) -> Option<u8>
     bytes.get(place.wrapping_sub(address) as usize).copied()
 }
 
-/// The byte at a place, of one that stands at an address, where there is one.
-#[tactic(auto, unfolding(i9_model::specs::Writes::last_put))]
-fn byte_of_one(byte: Option<(u32, u8)>, place: u32) -> Option<u8>
-    ensures { result ≡ last_put (one_in byte) place }
-{
-    match byte {
-        Some((at, value)) if place == at => Some(value),
-        _ => None,
-    }
-}
-
 impl Requests {
-    ghost use Rattle.i9_processor.specs.Effect.{requests_in, no_requests};
+    ghost use Rattle.i9_processor.specs.Effect.{one_in, requests_in, no_requests};
 
     /// No byte.
     pub const NONE: Requests = Requests {
@@ -153,13 +147,24 @@ impl Requests {
         self.first.is_none() && self.second.is_none()
     }
 
+    /// The byte at a place, of one that stands at an address, where there is one.
+    #[tactic(auto, unfolding(i9_model::specs::Writes::last_put))]
+    fn byte_of_one(byte: Option<(u32, u8)>, place: u32) -> Option<u8>
+        ensures { result ≡ last_put (one_in byte) place }
+    {
+        match byte {
+            Some((at, value)) if place == at => Some(value),
+            _ => None,
+        }
+    }
+
     /// The byte at a place: the second one where both stand there.
     fn byte_at(&self, place: u32) -> Option<u8>
         ensures { result ≡ last_put (requests_in self.now) place }
     {
-        match byte_of_one(self.second, place) {
+        match Requests::byte_of_one(self.second, place) {
             Some(byte) => Some(byte),
-            None => byte_of_one(self.first, place),
+            None => Requests::byte_of_one(self.first, place),
         }
     }
 }
@@ -202,6 +207,7 @@ impl Effect {
             control: Control::Keeps,
             next,
             trace: None,
+            plain: true,
         }
     }
 
@@ -245,7 +251,25 @@ impl Effect {
             control: Control::Keeps,
             next: 0,
             trace: None,
+            plain: true,
         }
+    }
+
+    /// Becomes plain.
+    // Most effects are, and this is no part of the code that calls it.
+    #[inline(never)]
+    fn clear(&mut self)
+        ensures values { self.new.values.items ≡ self.old.values.items }
+        ensures plain { IsTrue self.new.plain }
+    {
+        self.bytes = ArrayVec::new();
+        self.requests = Requests::NONE;
+        self.frames = Move::Stays;
+        self.posting = Posting::Keeps;
+        self.dma = DmaChange::Keeps;
+        self.control = Control::Keeps;
+        self.trace = None;
+        self.plain = true;
     }
 
     /// Becomes the effect by which nothing is done, but control goes to an address.
@@ -259,28 +283,23 @@ impl Effect {
         ensures dma { self.new.dma ≡ DmaChange.Keeps }
         ensures control { self.new.control ≡ Control.Keeps }
     {
+        if !self.plain {
+            self.clear();
+        }
         self.register = 0;
-        self.values.clear();
-        self.address = 0;
-        self.bytes.clear();
-        self.requests = Requests::NONE;
-        self.frames = Move::Stays;
+        self.values = ArrayVec::new();
         self.ac = processor.ac();
         self.pc = processor.pc();
         self.tc = processor.tc();
         self.check = false;
-        self.posting = Posting::Keeps;
-        self.dma = DmaChange::Keeps;
-        self.control = Control::Keeps;
         self.next = next;
-        self.trace = None;
     }
 
     /// Whether no byte is stored.
     fn stores_nothing(&self) -> bool
         ensures { IsTrue result ↔ writes_in self.now ≡ [] }
     {
-        self.bytes.is_empty() && self.requests.is_empty()
+        self.plain || (self.bytes.is_empty() && self.requests.is_empty())
     }
 
     /// The byte that is stored at an address.

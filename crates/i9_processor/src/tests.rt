@@ -236,6 +236,7 @@ fn finds_bytes_of_the_port_page(rt: HostRuntime) -> Result<(), Fail> {
         let mut effect = Effect::going(&p, 0);
         effect.address = address;
         effect.bytes = ArrayVec::from([1, 2, 3, 4, 5, 6, 7, 8, 9, 10, 11, 12, 13, 14, 15, 16]);
+        effect.plain = false;
         assert_eq!(rt; (effect.console_byte(), effect.exit_word(&p)), wanted);
     }
     Ok(())
@@ -287,6 +288,7 @@ fn saves(p: &mut Processor, back: u32) -> Result<(), Fail> {
     };
     let mut effect = Effect::going(p, 0x1300);
     effect.frames = Move::Saves { push, back };
+    effect.plain = false;
     applies(p, &effect, None)
 }
 
@@ -301,6 +303,7 @@ fn stores(p: &mut Processor, a: u32, bytes: (u8, u8)) -> Result<(), Fail> {
     effect.address = a;
     effect.bytes.push(bytes.0);
     effect.bytes.push(bytes.1);
+    effect.plain = false;
     applies(p, &effect, None)
 }
 
@@ -312,6 +315,7 @@ fn leaves(p: &mut Processor, by: Move) -> Result<(), Fail> {
         Move::Saves { .. } => return Err("a save".into()),
         other => effect.frames = other,
     }
+    effect.plain = false;
     applies(p, &effect, None)
 }
 
@@ -412,6 +416,7 @@ fn controls(p: &mut Processor, control: Control, sets: Option<Sets>) -> Result<(
     let mut effect = Effect::going(p, 0x1310);
     effect.frames = Move::Flushes;
     effect.control = control;
+    effect.plain = false;
     applies(p, &effect, sets)
 }
 
@@ -450,6 +455,7 @@ fn posts(p: &mut Processor, posting: Posting) -> Result<(), Fail>
     let mut effect = Effect::going(p, 0x1310);
     effect.pc = 2;
     effect.posting = posting;
+    effect.plain = false;
     applies(p, &effect, None)
 }
 
@@ -630,6 +636,7 @@ fn changes(p: &mut Processor, change: DmaChange) -> Result<(), Fail>
 {
     let mut effect = Effect::going(p, 0x1310);
     effect.dma = change;
+    effect.plain = false;
     applies(p, &effect, None)
 }
 
@@ -718,6 +725,7 @@ fn stores_late(p: &mut Processor, a: u32, byte: u8) -> Result<(), Fail> {
     let mut effect = Effect::going(p, 0x1318);
     effect.address = a;
     effect.bytes.push(byte);
+    effect.plain = false;
     let landing = Landing {
         writes: 0,
         done: 6,

@@ -55,6 +55,7 @@ fn hides_what_a_barrier_stores(rt: HostRuntime) -> Result<(), Fail> {
     let p = processor(rt.alloc())?;
     // Four bytes at 300, and one of a request of software at 310.
     let mut effect = Effect::blank();
+    effect.plain = false;
     effect.address = 0x300;
     assert!(rt; effect.bytes.try_extend_from_slice(&[1, 2, 3, 4]).is_ok());
     effect.requests = Requests {

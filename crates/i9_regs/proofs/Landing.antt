@@ -29,6 +29,19 @@ due_lands t (Some p) h =
 pub still_stays : (t v : ℕ) (p : Option (ℕ × ℕ)) → p ≡ None → cell v p ≡ landed t (cell v p)
 still_stays t v p none = ap (cell v) none ∙ ap (λ (q : Option (ℕ × ℕ)). landed t (cell v q)) (sym none)
 
+-- what has landed stays
+twice_by : (t v : ℕ) (p : ℕ × ℕ) (b : Bool) → nat_le p.1 t ≡ b
+    → landed t (cell (cond b p.0 v) (cond b None (Some p))) ≡ cell (cond b p.0 v) (cond b None (Some p))
+twice_by t v p true h = refl
+twice_by t v p false h = ap (λ (b : Bool). cell (cond b p.0 v) (cond b None (Some p))) h
+
+lands_twice : (t v : ℕ) (p : Option (ℕ × ℕ)) → landed t (landed t (cell v p)) ≡ landed t (cell v p)
+lands_twice t v None = refl
+lands_twice t v (Some p) = twice_by t v p (nat_le p.1 t) refl
+
+pub landed_twice : (t : ℕ) (c : Cell) → landed t (landed t c) ≡ landed t c
+landed_twice t c = lands_twice t c.value c.plan
+
 -- ---- the set
 
 pub low_bit : (n r : ℕ) → r < 33 → bit_at (n % 2 ^ 33) r ≡ bit_at n r
@@ -91,6 +104,26 @@ module _ (olds ones news : List Cell) (left r turn : ℕ) (few : r < 33) (set : 
   pub done_more : (k : ℕ) → k < resources → bit_at (cleared left r) k ≡ 0
       → cell_in news k ≡ landed turn (cell_in olds k)
   done_more k within = done_at k (eqb k r) refl within
+
+-- one of the locals more, whatever has landed before
+module _ (olds ones news : List Cell) (r turn : ℕ)
+    (before : (k : ℕ) → landed turn (cell_in ones k) ≡ landed turn (cell_in olds k))
+    (here : cell_in news r ≡ landed turn (cell_in ones r))
+    (others : (k : ℕ) → (k ≡ r → ⊥) → cell_in news k ≡ cell_in ones k) where
+  lands_at : (k : ℕ) (b : Bool) → eqb k r ≡ b → landed turn (cell_in news k) ≡ landed turn (cell_in olds k)
+  lands_at k true t =
+      let same : k ≡ r = grind (arith, nat_tests, t) in
+      ap (λ (j : ℕ). landed turn (cell_in news j)) same
+      ∙ ap (landed turn) here
+      ∙ landed_twice turn (cell_in ones r)
+      ∙ before r
+      ∙ ap (λ (j : ℕ). landed turn (cell_in olds j)) (sym same)
+  lands_at k false t =
+      let apart : k ≡ r → ⊥ = λ same. grind (arith, nat_tests, t, same) in
+      ap (landed turn) (others k apart) ∙ before k
+
+  pub lands_more : (k : ℕ) → landed turn (cell_in news k) ≡ landed turn (cell_in olds k)
+  lands_more k = lands_at k (eqb k r) refl
 
 -- none is left
 pub all_landed : (olds news : List Cell) (left turn : ℕ) → length olds ≡ resources → length news ≡ resources → left ≡ 0

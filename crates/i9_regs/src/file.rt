@@ -18,6 +18,9 @@ const RESOURCES: usize = 33;
 /// The number of the condition code.
 const CODE: usize = CONDITION_CODE as usize;
 
+/// The first 16 bits of a set are those of the locals.
+const LOCAL_BITS: u64 = 1 << 16;
+
 /// The first 32 bits of a set are those of the registers.
 const REGISTER_BITS: u64 = 1 << 32;
 
@@ -63,9 +66,25 @@ fn land_one(slots: &mut [Slot; RESOURCES], planned: u64, r: usize, turn: u64) ->
     planned & !(1 << r)
 }
 
+/// Values that are planned for the locals take their place where they are due. It gives the resources of a set that
+/// are left.
+// Whether this is done first is speed alone: where each has its turn, the code needs no search for the next one.
+fn land_locals(slots: &mut [Slot; RESOURCES], planned: u64, turn: u64) -> u64
+    requires { ArePlannedAmong planned slots.old }
+    ensures size { length slots.new ≡ resources }
+    ensures cells { (r : ℕ) → landed turn (cell_in slots.new r) ≡ landed turn (cell_in slots.old r) }
+    ensures planned { ArePlannedAmong result slots.new }
+{
+    let mut kept = planned;
+    for r in 0..LOCALS {
+        kept = land_one(slots, kept, r, turn);
+    }
+    kept
+}
+
 /// Each value that is planned for `turn` or an earlier one takes its place. It gives the set of the
 /// resources for which a value is left.
-fn land_all(slots: &mut [Slot; RESOURCES], planned: u64, turn: u64) -> u64
+fn land_each(slots: &mut [Slot; RESOURCES], planned: u64, turn: u64) -> u64
     requires { ArePlannedAmong planned slots.old }
     ensures size { length slots.new ≡ resources }
     ensures cells { (r : ℕ) → cell_in slots.new r ≡ landed turn (cell_in slots.old r) }
@@ -79,6 +98,21 @@ fn land_all(slots: &mut [Slot; RESOURCES], planned: u64, turn: u64) -> u64
         kept = land_one(slots, kept, r, turn);
     }
     kept
+}
+
+/// As `land_each`. A call or a return plans all locals, which then land in a row.
+#[inline(always)]
+fn land_all(slots: &mut [Slot; RESOURCES], planned: u64, turn: u64) -> u64
+    requires { ArePlannedAmong planned slots.old }
+    ensures size { length slots.new ≡ resources }
+    ensures cells { (r : ℕ) → cell_in slots.new r ≡ landed turn (cell_in slots.old r) }
+    ensures planned { ArePlannedAmong result slots.new }
+{
+    if planned % LOCAL_BITS == LOCAL_BITS - 1 {
+        let left = land_locals(slots, planned, turn);
+        return land_each(slots, left, turn);
+    }
+    land_each(slots, planned, turn)
 }
 
 /// Plans values from a register up, and gives the resources of a set that are left.
@@ -206,7 +240,9 @@ fn plan_frame(
         ≡ issued_cell writes done r (framed_value slots.old locals.now frame code r) (cell_in slots.old r) }
 {
     let left = plan_group(slots, writes, done, FRAME_POINTER, &[frame]);
-    plan_all(slots, left, done, 0, locals, code);
+    let rest = plan_group(slots, left, done, 0, locals);
+    plan_left(slots, rest, done);
+    plan_code(slots, left, done, code);
 }
 
 impl File {

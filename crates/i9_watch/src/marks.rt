@@ -62,9 +62,10 @@ impl Marks {
         }
     }
 
-    /// Whether one of so many addresses from one on has a mark.
-    #[inline(always)]
-    pub(crate) fn has_any(&self, mark: Mark, a: u32, n: u32) -> bool
+    /// Whether one of so many addresses from one on has a mark, which may lie in several pages.
+    // Few runs do, and this is no part of the code that calls it.
+    #[inline(never)]
+    fn has_any_across(&self, mark: Mark, a: u32, n: u32) -> bool
         ensures { result ≡ false → (k : ℕ) → k < n → is_marked mark self.now (wrapped (a + k)) ≡ false }
     {
         let mut done = 0;
@@ -77,6 +78,18 @@ impl Marks {
             done += count;
         }
         false
+    }
+
+    /// Whether one of so many addresses from one on has a mark.
+    #[inline(always)]
+    pub(crate) fn has_any(&self, mark: Mark, a: u32, n: u32) -> bool
+        ensures { result ≡ false → (k : ℕ) → k < n → is_marked mark self.now (wrapped (a + k)) ≡ false }
+    {
+        if n <= PAGE_SIZE - a % PAGE_SIZE {
+            self.has_any_in_page(mark, a, n)
+        } else {
+            self.has_any_across(mark, a, n)
+        }
     }
 
     /// Makes room for the marks of a page.

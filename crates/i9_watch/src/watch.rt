@@ -34,6 +34,8 @@ pub struct Watch {
 }
 
 /// The first of so many addresses from one on that passes a test.
+// It is called where one of them has a mark, and is no part of the code that calls it.
+#[inline(never)]
 fn first_place<F: Fn(u32) -> bool>(a: u32, n: u32, test: F) -> Option<u32>
     requires { F.IsAlwaysCallable test }
     ensures { (p : ℕ → Bool) → ((x : ℕ) (r : Bool) → F.post test x r → r ≡ p x) → result ≡ least p a n }
@@ -133,6 +135,7 @@ impl Watch {
 
     /// The least byte of a live frame, counted upwards from `a`, of `n` bytes that are to be
     /// written.
+    #[inline(always)]
     pub fn check_write(&self, a: u32, n: u32) -> Option<u32>
         ensures { result ≡ write_hazard (frames_of self.now) a n }
     {

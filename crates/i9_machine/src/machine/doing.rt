@@ -16,7 +16,7 @@ ghost use Rattle.i9_model.specs.Events.{IsInRange};
 ghost use Rattle.i9_model.specs.Turns.{HasCost, IssuesAt, waiting_until};
 ghost use Rattle.i9_issue.specs.Room.{IsEarly};
 ghost use Rattle.i9_regs.specs.Covered.{IsCovered};
-ghost use Rattle.i9_machine.specs.Doing.{IsOfRegisters, point_count, reached_lines, reached_count, plan_after_step};
+ghost use Rattle.i9_machine.specs.Doing.{point_count, reached_lines, reached_count, plan_after_step};
 ghost use Rattle.i9_machine.specs.Line.{AddsLines};
 
 use super::Machine;
@@ -26,7 +26,7 @@ use arrayvec::ArrayVec;
 use i9_frames::Sets;
 use i9_isa::NoMemory;
 use i9_model::{End, Event, Need, Point, View};
-use i9_processor::{Control, DmaChange, Effect, Landing, Move, Posting, Processor};
+use i9_processor::{Control, Effect, Landing, Processor};
 use i9_raw::hide;
 use i9_schedule::{Schedule, copied};
 
@@ -189,21 +189,6 @@ fn reached_count(event: Option<&Event>) -> usize
         Some(Event::Show(_, _)) => 2,
         Some(_) => 1,
     }
-}
-
-/// Whether an effect sets registers alone, as most do. What it does is the same either way: this tells which code does it.
-#[inline(always)]
-pub(super) fn sets_registers_alone(e: &Effect) -> bool
-    ensures { result ≡ true → IsOfRegisters e.now }
-{
-    e.bytes.is_empty()
-        && e.requests.first.is_none()
-        && e.requests.second.is_none()
-        && matches!(e.frames, Move::Stays)
-        && matches!(e.control, Control::Keeps)
-        && matches!(e.posting, Posting::Keeps)
-        && matches!(e.dma, DmaChange::Keeps)
-        && e.trace.is_none()
 }
 
 impl Step {

@@ -186,6 +186,7 @@ impl Processor {
     }
 
     /// The first byte of a read of `n` bytes from `a` up that is soft: only the save of a frame wrote it.
+    #[inline(always)]
     #[tactic(auto, unfolding(crate::specs::State::state_of))]
     pub fn check_read(&self, a: u32, n: u32) -> Option<u32>
         ensures { result ≡ read_hazard (state_of self.now).frames a n }
@@ -194,6 +195,7 @@ impl Processor {
     }
 
     /// The first byte of a write of `n` bytes from `a` up that is in a live frame.
+    #[inline(always)]
     #[tactic(auto, unfolding(crate::specs::State::state_of))]
     pub fn check_write(&self, a: u32, n: u32) -> Option<u32>
         ensures { result ≡ write_hazard (state_of self.now).frames a n }

@@ -1,4 +1,5 @@
-use Rattle.std.proofs.Common.{◌≡◌, ℕ, List, [], ◌++◌, None, refl, sym, ap, ◌∙◌, subst}
+use Rattle.std.proofs.Common.{◌≡◌, ℕ, false, List, [], ◌++◌, None, refl, sym, ap, ◌∙◌, subst}
+use Rattle.std.proofs.lemmas.Bool.{false≢true}
 use Rattle.i9_model.specs.State.{State, Frames}
 use Rattle.i9_model.specs.Frames.{flushed, wrote}
 use Rattle.i9_model.specs.Writes.{upwards, written}
@@ -34,6 +35,11 @@ pub applies-requires-clause-controls : goal.applies-requires-clause-controls
 applies-requires-clause-controls c =
     let s = state_of c.args.p.now in
     let e = c.going-effect.result in
-    let effect : Effect = record e { frames = moves.Flushes; control = c.args.control } in
+    let effect : Effect = record e {
+      frames = moves.Flushes;
+      control = c.args.control;
+      plain = false;
+      rest = λ is. absurd (false≢true is);
+    } in
     let none = ap (λ (bs : List ℕ). upwards e.address bs ++ requests_in e.requests) c.going-effect.ensures.bytes ∙ ap requests_in c.going-effect.ensures.requests in
     behind c.args.control s (action_in s effect) refl none c.requires.can

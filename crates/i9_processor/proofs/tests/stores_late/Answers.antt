@@ -1,4 +1,5 @@
-use Rattle.std.proofs.Common.{◌≡◌, ℕ, ◌%◌, List, [], sym, ap, subst}
+use Rattle.std.proofs.Common.{◌≡◌, ℕ, ◌%◌, false, List, [], sym, ap, subst}
+use Rattle.std.proofs.lemmas.Bool.{false≢true}
 use Rattle.i9_model.specs.State.{State}
 use Rattle.i9_model.specs.Step.{Action, going}
 use Rattle.i9_model.specs.Writes.{last_put}
@@ -23,7 +24,12 @@ apply-requires-clause-covered c =
     let s = state_of c.args.p.now in
     let e = c.going-effect.result in
     let same = c.going-effect.ensures.effect.same in
-    let f : Effect = record e { address = c.args.a; bytes = c.push.new.self } in
+    let f : Effect = record e {
+      address = c.args.a;
+      bytes = c.push.new.self;
+      plain = false;
+      rest = λ is. absurd (false≢true is);
+    } in
     let here : IsCovered 0 s (action_in s f) = none_covered s 4888 (action_in s f) (ap (λ (a : Action). a.sets) same)
     (ap (λ (a : Action). a.ac) same) (ap (λ (a : Action). a.control) same) in
     subst (λ (t : State). IsCovered 0 t (action_in t f)) (sym c.reserve.ensures.state) here

@@ -1,7 +1,7 @@
 use Rattle.std.proofs.Common.{◌≡◌, ℕ, ◌+◌, ◌-◌, ◌<◌, ◌≤◌, false}
 use Rattle.i9_model.specs.Writes.{wrapped}
 use Rattle.i9_watch.specs.Marks.{is_marked}
-use Rattle.i9_watch.proofs.marks.Marks.has_any.Given as goal
+use Rattle.i9_watch.proofs.marks.Marks.has_any_across.Given as goal
 
 abbrev pub invariant-loop-done : goal.invariant-loop-done
 invariant-loop-done l = record {

@@ -2,7 +2,7 @@ use Rattle.std.proofs.Common.{◌≡◌, ℕ, ◌^◌, ◌<◌, length}
 use Rattle.std.specs.Int.{bit_at}
 use Rattle.i9_model.specs.Late.{resources, landed}
 use Rattle.i9_regs.specs.File.{cell_in, ArePlannedAmong}
-use Rattle.i9_regs.proofs.file.land_all.Given as goal
+use Rattle.i9_regs.proofs.file.land_each.Given as goal
 
 abbrev pub invariant-due : goal.invariant-due
 invariant-due l = record {

@@ -1,7 +1,7 @@
 use Rattle.std.proofs.Common.{arith}
 use Rattle.i9_watch.specs.Marks.{is_marked}
 use Rattle.i9_watch.proofs.Marking.{none_more}
-use Rattle.i9_watch.proofs.marks.Marks.has_any.Goals as goal
+use Rattle.i9_watch.proofs.marks.Marks.has_any_across.Goals as goal
 
 pub loop-done-preserved : goal.loop-done-preserved
 loop-done-preserved c = record {
