@@ -1,5 +1,5 @@
 -- When what comes next of a machine comes, and what is known of it as the turn moves.
-use Rattle.std.proofs.Common.{◌≡◌, ℕ, ◌<◌, ◌≤◌, nat_lt, max, List, Option, None, Some, refl, sym, ap, ◌∙◌, subst, inl, inr, arith}
+use Rattle.std.proofs.Common.{◌≡◌, ℕ, ◌<◌, ◌≤◌, nat_lt, max, Bool, false, List, Option, None, Some, refl, sym, ap, ◌∙◌, subst, inl, inr, arith}
 use Rattle.std.specs.Prelude.{if◌then◌else◌}
 use Rattle.std.proofs.lemmas.Bool.{cases_lt}
 use Rattle.i9_isa.specs.declared.inst.Inst.{Inst}
@@ -24,7 +24,7 @@ use Rattle.i9_course.proofs.Ahead.{ahead_by_end}
 use Rattle.i9_course.proofs.Timed.{need_cost}
 use Rattle.i9_plan.specs.declared.memo.Memo.{Memo}
 use Rattle.i9_plan.specs.Kept.{inst_in, words_in}
-use Rattle.i9_plan.specs.Planned.{TellsWords, AreRequestsInRow}
+use Rattle.i9_plan.specs.Planned.{TellsWords, IsRead, AreRequestsInRow}
 use Rattle.i9_processor.specs.declared.processor.Processor.{Processor}
 use Rattle.i9_processor.specs.Effect.{IsEffect}
 use Rattle.i9_processor.specs.State.{state_of, cache_of, size_of}
@@ -33,7 +33,7 @@ use Rattle.i9_machine.specs.declared.line.Turn.TheVariants as turns
 use Rattle.i9_machine.specs.declared.machine.Machine.{Machine}
 use Rattle.i9_machine.specs.declared.step.Coming.{Coming}
 use Rattle.i9_machine.specs.declared.step.Coming.TheVariants.{Waiting, Overtaking, Running, Faulting}
-use Rattle.i9_machine.specs.Coming.{ArrivesAt, Arrives, HasArrived, IsAhead, IsReadyFor, kind_of, overtaken_by}
+use Rattle.i9_machine.specs.Coming.{ArrivesAt, Arrives, HasArrived, HasRead, IsAhead, IsReadyFor, kind_of, overtaken_by}
 use Rattle.i9_machine.specs.Issuing.{IsLike, IsMovedTo, IsPassedTo, KeepsPlanned, IsEndTurn}
 use Rattle.i9_machine.specs.Opening.{IsFreeToIssue, NextWaits, HasKept, HasNeed}
 use Rattle.i9_machine.specs.Overtaking.{late_entry, late_due, IssuesAhead}
@@ -91,21 +91,21 @@ open_event m plan k t n o u free is_next kept turn count found =
 -- ---- when it comes
 
 -- what waits for all comes when all is done
-pub ends_arrive : (g : Given) (h : List Item) (m : Machine) (until : ℕ) → StandsFor g h None m → IsEndTurn m until → m.turn < until
-    → until ≤ (ahead g h).turn → (ahead g h).imprecise ≡ None → ArrivesAt g h m until Waiting
-ends_arrive g h m until stands end later bound precise =
+pub ends_arrive : (g : Given) (h : List Item) (m : Machine) (until : ℕ) (read : Bool) → StandsFor g h None m → IsEndTurn m until → m.turn < until
+    → until ≤ (ahead g h).turn → (ahead g h).imprecise ≡ None → ArrivesAt g h m until (Waiting read)
+ends_arrive g h m until read stands end later bound precise =
     let is : until ≡ end_turn (turns (course g h).late) = end (turns (course g h).late) stands.lands.board in
     let by_end : (ahead g h).turn ≤ end_turn (turns (course g h).late) = ahead_by_end g h in
     record { turn = omega (arith, is, by_end, later, bound); imprecise = precise }
 
-pub waits_arrive : (m : Machine) (plan : Plan) (until : ℕ) → IsEndTurn m until → m.turn < until → late_due m ≡ None → NextWaits m plan
-    → Arrives m plan until Waiting
-waits_arrive m plan until end later none waits g h stands follows =
+pub waits_arrive : (m : Machine) (plan : Plan) (until : ℕ) (read : Bool) → IsEndTurn m until → m.turn < until → late_due m ≡ None → NextWaits m plan
+    → Arrives m plan until (Waiting read)
+waits_arrive m plan until read end later none waits g h stands follows =
     let precise = calm_precise g h m stands none in
-    ends_arrive g h m until stands end later (waits_until m plan until end waits g h stands follows precise) precise
+    ends_arrive g h m until read stands end later (waits_until m plan until end waits g h stands follows precise) precise
 
 -- and what comes when all is done already comes now
-pub drained_arrive : (m : Machine) (plan : Plan) (until : ℕ) → IsEndTurn m until → until ≤ m.turn → Arrives m plan until Waiting
+pub drained_arrive : (m : Machine) (plan : Plan) (until : ℕ) → IsEndTurn m until → until ≤ m.turn → Arrives m plan until (Waiting false)
 drained_arrive m plan until end le g h stands follows =
     let now = all_now g h m until end le stands in
     let come : (ahead g h).turn ≤ m.turn = now.1 in
@@ -126,7 +126,7 @@ instruction_arrives m plan k need t coming none calm is_next is_need turn g h st
 
 -- an instruction is no fault that is overtaken
 pub instruction_calm : (i : Inst) (s : State) (k : Kind) (coming : Coming) → kind_of i s coming ≡ Some k → overtaken_by coming ≡ None
-instruction_calm i s k Waiting is = absurd (cc is)
+instruction_calm i s k (Waiting read) is = absurd (cc is)
 instruction_calm i s k (Overtaking a) is = absurd (cc is)
 instruction_calm i s k Running is = refl
 instruction_calm i s k (Faulting number) is = refl
@@ -256,9 +256,19 @@ moved_late t before m i =
     ∙ ap (λ (n : ℕ). if nat_lt (state_of before.processor).count n then late_entry m.due else None) i.length
     ∙ ap (λ (d : Due). if nat_lt (state_of before.processor).count before.length then late_entry d else None) i.due
 
+moved_read : (t : ℕ) (before m : Machine) → IsMovedTo t before m → KeepsPlanned before m → HasRead before → HasRead m
+moved_read t before m i keeps has = record {
+  free = moved_free t before m i has.free;
+  read = subst (IsRead (state_of m.processor)) (sym keeps.memo)
+      (subst (λ (s : State). IsRead s before.memo) (sym i.state) has.read);
+}
+
 moved_ready : (t x : ℕ) (before m : Machine) (plan : Plan) (coming : Coming) → IsMovedTo t before m → KeepsPlanned before m
     → IsReadyFor before plan x coming → IsReadyFor m plan x coming
-moved_ready t x before m plan Waiting i keeps end = λ rs stands. end rs (subst (λ (b : Pending). board.StandsFor b rs) i.board stands)
+moved_ready t x before m plan (Waiting read) i keeps ready = (
+  λ rs stands. ready.0 rs (subst (λ (b : Pending). board.StandsFor b rs) i.board stands),
+  λ is. moved_read t before m i keeps (ready.1 is),
+)
 moved_ready t x before m plan (Overtaking a) i keeps late = moved_late t before m i ∙ late
 moved_ready t x before m plan Running i keeps runs = record {
   ahead = subst (λ (n : Memo). IsAhead m plan x (Instruction (inst_in n))) (sym keeps.memo) (moved_ahead t x before m plan _ i keeps runs.ahead);

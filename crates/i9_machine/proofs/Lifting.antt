@@ -253,7 +253,7 @@ overtakes_comes g h a before (turns.End e) m was plan old new stands follows lat
 overtakes_comes g h a before turns.Memory m was plan old new stands follows late now d = refused g h before m was plan old new stands follows d
 
 pub came_comes : (g : Given) (h : List Item) (coming : Coming) (before : Machine) (answer : Turn) (m : Machine) (was plan : Plan) (old new : List Line) → StandsFor g h None before → Follows g h was → (ahead g h).imprecise ≡ overtaken_by coming → (ahead g h).turn ≤ before.turn → Came coming before answer m was plan old new → Comes g h answer before m plan old new
-came_comes g h Waiting before answer m was plan old new stands follows fault now d = did_comes g h before answer m was plan old new stands follows fault now d
+came_comes g h (Waiting read) before answer m was plan old new stands follows fault now d = did_comes g h before answer m was plan old new stands follows fault now d
 came_comes g h (Overtaking a) before answer m was plan old new stands follows fault now d = overtakes_comes g h a before answer m was plan old new stands follows fault now d
 came_comes g h Running before answer m was plan old new stands follows fault now d = did_comes g h before answer m was plan old new stands follows fault now d
 came_comes g h (Faulting number) before answer m was plan old new stands follows fault now d = did_comes g h before answer m was plan old new stands follows fault now d

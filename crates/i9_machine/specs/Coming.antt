@@ -1,5 +1,5 @@
 -- What comes next of a machine, and the turn at which it does.
-use Rattle.std.specs.Prelude.{◌≡◌, ℕ, ◌≤◌, max, List, Option, Some, None}
+use Rattle.std.specs.Prelude.{◌≡◌, ℕ, ◌≤◌, max, true, List, Option, Some, None}
 use Rattle.i9_isa.specs.declared.inst.Inst.{Inst}
 use Rattle.i9_isa.specs.Words.{words_of}
 use Rattle.i9_model.specs.declared.need.Need.{Need}
@@ -14,7 +14,7 @@ use Rattle.i9_schedule.specs.Plan.{Plan}
 use Rattle.i9_course.specs.NeedOf.{need_of}
 use Rattle.i9_course.specs.Course.{Item, ahead}
 use Rattle.i9_plan.specs.Kept.{inst_in, words_in}
-use Rattle.i9_plan.specs.Planned.{TellsWords, AreRequestsInRow}
+use Rattle.i9_plan.specs.Planned.{TellsWords, IsRead, AreRequestsInRow}
 use Rattle.i9_processor.specs.Effect.{IsEffect}
 use Rattle.i9_processor.specs.State.{state_of, cache_of, size_of}
 use Rattle.i9_machine.specs.declared.line.Line.{Line}
@@ -34,7 +34,7 @@ use Rattle.i9_machine.specs.StandsFor.{StandsFor, Follows}
 
 -- the fault that is imprecise where this comes next
 abbrev pub overtaken_by : Coming → Option ℕ
-overtaken_by Waiting = None
+overtaken_by (Waiting read) = None
 overtaken_by (Overtaking a) = Some a
 overtaken_by Running = None
 overtaken_by (Faulting number) = None
@@ -78,9 +78,14 @@ pub record RunsAhead (m : Machine) (plan : Plan) (t : ℕ) : Type 0 where
   pub effect : IsEffect (state_of m.processor) (traced_action (inst_in m.memo) (state_of m.processor)) m.effect
   pub row : AreRequestsInRow (inst_in m.memo) m.effect
 
+-- the instruction at the instruction address was read into the memo, and nothing comes before it but an event
+pub record HasRead (m : Machine) : Type 0 where
+  pub free : IsFreeToIssue m
+  pub read : IsRead (state_of m.processor) m.memo
+
 -- what is known where this comes next at a turn
 abbrev pub IsReadyFor : Machine → Plan → ℕ → Coming → Type 0
-IsReadyFor m plan t Waiting = IsEndTurn m t
+IsReadyFor m plan t (Waiting read) = IsEndTurn m t × (read ≡ true → HasRead m)
 IsReadyFor m plan t (Overtaking a) = late_due m ≡ Some a
 IsReadyFor m plan t Running = RunsAhead m plan t
 IsReadyFor m plan t (Faulting number) =
@@ -88,7 +93,7 @@ IsReadyFor m plan t (Faulting number) =
 
 -- the kind of record that the instruction makes
 abbrev pub kind_of : Inst → State → Coming → Option Kind
-kind_of i s Waiting = None
+kind_of i s (Waiting read) = None
 kind_of i s (Overtaking a) = None
 kind_of i s Running = Some (Instruction i)
 kind_of i s (Faulting number) = Some (Faulted (Some i) (fault_at s number))

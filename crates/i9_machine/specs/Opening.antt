@@ -55,7 +55,7 @@ pub record HasNeed (m : Machine) (kind : Kind) (mid : Machine) : Type 0 where
 
 -- where what stands there does not wait
 abbrev pub HasOpenNeed : Machine → Open → Machine → Type 0
-HasOpenNeed m opens.Waits mid = Unit {0}
+HasOpenNeed m (opens.Waits read) mid = Unit {0}
 HasOpenNeed m opens.Runs mid = HasNeed m (Instruction (inst_in mid.memo)) mid
 HasOpenNeed m (opens.Faults number) mid =
     HasNeed m (Faulted (Some (inst_in mid.memo)) (fault_at (state_of m.processor) number)) mid

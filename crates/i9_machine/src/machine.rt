@@ -1,5 +1,5 @@
 //! The machine, one step at a time.
-ghost use Rattle.std.specs.Prelude.{◌≡◌, ◌-◌, ◌^◌, ◌<◌, ◌≤◌, [], ◌∷◌, max, ℕ, List, Option, None, Some, IfOk, IfSome, vec_len, vec_capacity};
+ghost use Rattle.std.specs.Prelude.{◌≡◌, ◌-◌, ◌^◌, ◌<◌, ◌≤◌, [], ◌∷◌, max, ℕ, List, Option, None, Some, IfOk, IfSome, vec_len, vec_capacity, true};
 ghost use Rattle.std.proofs.Props.{props};
 ghost use Rattle.i9_model.specs.declared.layout.TheConstants.{MAX_LENGTH};
 ghost use Rattle.i9_model.specs.declared.event.Timed.{Timed};
@@ -67,7 +67,7 @@ pub struct Machine {
 }
 
 impl Machine {
-    ghost use Rattle.i9_machine.specs.Coming.{HasArrived, IsAhead, RunsAhead, IsReadyFor, Came};
+    ghost use Rattle.i9_machine.specs.Coming.{HasArrived, HasRead, IsAhead, RunsAhead, IsReadyFor, Came};
     ghost use Rattle.i9_machine.specs.StandsFor.{StandsFor, Follows, Advances, Proceeds, AnswersAgain, LeavesFewer, IsUnderWay, HasCome};
     ghost use Rattle.i9_machine.specs.Issuing.{KeepsPlanned, IsMovedTo, IsPassedTo, IsMoved, IsSettled, IsQuiet};
     ghost use Rattle.i9_machine.specs.Opening.{IsTimely};
@@ -217,21 +217,23 @@ impl Machine {
         Turn::On
     }
 
-    /// One step of a machine for which nothing is open.
+    /// One step of a machine for which nothing is open. Where `read` is set, nothing comes before the instruction in the
+    /// memo but an event.
     // Loops seldom come here, and this is no part of their code.
     #[inline(never)]
-    fn step_drained(&mut self, plan: &mut Schedule, out: &mut Vec<Line>) -> Turn
+    fn step_drained(&mut self, read: bool, plan: &mut Schedule, out: &mut Vec<Line>) -> Turn
         requires running { self.old.ended ≡ None }
         requires come { HasCome self.old plan.old }
         requires drained { IsDrained self.old.processor }
         requires timely { IsTimely self.old plan.old }
+        requires read { read ≡ true → HasRead self.old }
         ensures steps { Steps self.old result self.new plan.old plan.new out.old.items out.new.items }
         ensures issues { Issues self.old result self.new plan.old }
         ensures lacking { result ≡ Turn.Memory
             → HasRoom self.old (vec_capacity out.old - vec_len out.old) (next_for self.old plan.old) → ⊥ }
         ensures fewer { LeavesFewer result (steps_left self.old plan.old) (steps_left self.new plan.new) }
     {
-        match self.next_step(plan) {
+        match self.next_step(read, plan) {
             Ok(step) => {
                 let issue = self.issue_turn();
                 self.perform(&step, issue, plan, out)
@@ -329,7 +331,7 @@ impl Machine {
         ensures fewer { LeavesFewer result (steps_left self.old plan.old) (steps_left self.new plan.new) }
     {
         match coming {
-            Coming::Waiting => self.step_drained(plan, out),
+            Coming::Waiting { read } => self.step_drained(read, plan, out),
             Coming::Overtaking(address) => self.answer_end(End::Imprecise(address), out),
             Coming::Running => self.step_planned(turn, plan, out),
             Coming::Faulting(number) => self.step_faulting(number, turn, plan, out),

@@ -37,8 +37,9 @@ impl Step {
 /// What comes next.
 #[derive(Clone, Copy)]
 pub(crate) enum Coming {
-    /// What waits for all that is open.
-    Waiting,
+    /// What waits for all that is open. Where `read` is set, that is the instruction in the memo, unless an event stands
+    /// before it.
+    Waiting { read: bool },
     /// The end at the arithmetic fault of the instruction at this address, which the next one overtakes.
     Overtaking(u32),
     /// The instruction that is planned in the machine, which runs.

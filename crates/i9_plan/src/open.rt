@@ -19,8 +19,8 @@ use i9_processor::{Effect, Processor};
 #[derive(Debug, Drop)]
 pub enum Open {
     /// A barrier, a word that is refused, a fault that is raised before anything is done, or a hazard: it
-    /// waits until all is done.
-    Waits,
+    /// waits until all is done. Where `read` is set, it is the instruction in the memo.
+    Waits { read: bool },
     /// The instruction in the memo, which is done.
     Runs,
     /// The instruction in the memo, whose result is an arithmetic fault of this type and subtype.
@@ -47,10 +47,10 @@ pub fn plan_open(p: &Processor, memo: &mut Memo, effect: &mut Effect) -> Open
     ensures needs { OpenNeeds (state_of p.now) memo.new result }
 {
     if let Err(_) = fetch(p, memo) {
-        return Open::Waits;
+        return Open::Waits { read: false };
     }
     if stands_apart(memo.need()) {
-        return Open::Waits;
+        return Open::Waits { read: true };
     }
     let moving = memo.locate(p);
     let inst = memo.inst();
@@ -62,10 +62,10 @@ pub fn plan_open(p: &Processor, memo: &mut Memo, effect: &mut Effect) -> Open
         }
         Outcome::Faults(number) => {
             if number.0 != ARITHMETIC {
-                return Open::Waits;
+                return Open::Waits { read: false };
             }
             Open::Faults(number)
         }
-        Outcome::Meets(_) => Open::Waits,
+        Outcome::Meets(_) => Open::Waits { read: false },
     }
 }

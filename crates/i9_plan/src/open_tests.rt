@@ -3,9 +3,9 @@
 
 ghost use Rattle.i9_processor.specs.State.{IsDrained};
 
-use crate::tests::Rest::{Nothing, Stores};
+use crate::tests::Rest::{Flushes, Nothing, Returns, Stores};
 use crate::tests::{PC, PRECISE, Rest, TRACED, USER, controls_of, ready, rest_of, set_of};
-use crate::{Memo, Open, Planned, Words, facts, plan_next, plan_open};
+use crate::{Memo, Open, Planned, Words, facts, plan_here, plan_next, plan_open};
 use i9_isa::Op;
 use i9_model::Facts;
 use i9_processor::{Effect, Processor};
@@ -36,7 +36,7 @@ const WAITS: [(u32, u32, u32); 13] = [
 fn waits(alloc: Global, p: &Processor) -> bool {
     matches!(
         plan_open(p, &mut Memo::none(alloc), &mut Effect::blank()),
-        Open::Waits
+        Open::Waits { .. }
     )
 }
 
@@ -50,6 +50,43 @@ fn tells_what_waits(rt: HostRuntime) -> Result<(), Fail> {
     for at in [0x3002, 0x2FFC] {
         let p = ready(rt.alloc(), at, (0x8CA8_3000, 0), 0, PC)?;
         assert!(rt; waits(rt.alloc(), &p), "{at}");
+    }
+    Ok(())
+}
+
+/// What stands there that waits, once all is done: a word, whether it had been read, and what is done but for registers,
+/// where it runs.
+const READ: [(u32, bool, Option<Rest>); 6] = [
+    // flushreg, syncf, and ret to the live frame.
+    (0x6600_0680, true, Some(Flushes)),
+    (0x6600_0780, true, Some(Nothing)),
+    (0x0A00_0000, true, Some(Returns(0x3000))),
+    // A word that is refused, ld at 4001, and ld of the live frame.
+    (0x0000_0000, false, None),
+    (0x90A4_6000, false, None),
+    (0x90A4_2000, false, None),
+];
+
+/// What stands there that waits, once all is done, and whether it had been read.
+fn read_behind(alloc: Global, p: &Processor) -> Result<(bool, Option<Rest>), Fail>
+    requires { IsDrained p.now }
+{
+    let mut memo = Memo::none(alloc);
+    let mut effect = Effect::blank();
+    let Open::Waits { read } = plan_open(p, &mut memo, &mut effect) else {
+        return Err("it does not wait".into());
+    };
+    match plan_here(p, read, &mut memo, &mut effect) {
+        Planned::Runs => Ok((read, Some(rest_of(&effect)))),
+        _ => Ok((read, None)),
+    }
+}
+
+#[test]
+fn reads_a_barrier_once(rt: HostRuntime) -> Result<(), Fail> {
+    for (word, read, rest) in READ {
+        let p = ready(rt.alloc(), 0x1000, (word, 0), 0, PC)?;
+        assert_eq!(rt; read_behind(rt.alloc(), &p)?, (read, rest), "{word}");
     }
     Ok(())
 }

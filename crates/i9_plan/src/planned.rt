@@ -1,8 +1,8 @@
 //! What stands at the instruction address, and what it will do.
-ghost use Rattle.std.specs.Prelude.{◌≡◌};
+ghost use Rattle.std.specs.Prelude.{◌≡◌, true};
 ghost use Rattle.i9_model.specs.Standing.{stands_at};
 ghost use Rattle.i9_processor.specs.State.{state_of, IsDrained};
-ghost use Rattle.i9_plan.specs.Planned.{standing_of, IsUnread, IsPlanned, IsLocated};
+ghost use Rattle.i9_plan.specs.Planned.{standing_of, IsRead, IsUnread, IsPlanned, IsLocated};
 
 use crate::effects::pass;
 use crate::fetched::{Unread, Words, fetch};
@@ -43,22 +43,17 @@ fn unread(p: &Processor, why: Unread) -> Planned
     }
 }
 
-/// What stands at the instruction address: the hazard of its fetch, which comes first; an instruction
-/// that is refused, or that faults; the hazard of its access; or what it does.
-/// Each result is worked out once, and the effect of what is done, with its trace events, is made in
-/// `effect`; the instruction is in the memo (the i960 CA/CF User's Manual, instruction set, faults and tracing).
+/// What the instruction in the memo comes to, which stands at the instruction address.
 // It is no part of the code that calls it: LLVM would take the effect apart there, and move it piece by piece.
 #[inline(never)]
 #[tactic(auto, unfolding(i9_model::specs::Standing::stands_at))]
-pub fn plan_next(p: &Processor, memo: &mut Memo, effect: &mut Effect) -> Planned
+fn plan_read(p: &Processor, memo: &mut Memo, effect: &mut Effect) -> Planned
     requires drained { IsDrained p.now }
+    requires read { IsRead (state_of p.now) memo.old }
     ensures standing { standing_of memo.new result ≡ stands_at (state_of p.now) }
     ensures planned { IsPlanned (state_of p.now) memo.new result effect.new }
     ensures located { IsLocated (state_of p.now) memo.new result }
 {
-    if let Err(why) = fetch(p, memo) {
-        return unread(p, why);
-    }
     let moving = memo.locate(p);
     let inst = memo.inst();
     pass(p, inst, effect);
@@ -69,5 +64,36 @@ pub fn plan_next(p: &Processor, memo: &mut Memo, effect: &mut Effect) -> Planned
             follow(p, inst, moving, effect);
             Planned::Runs
         }
+    }
+}
+
+/// What stands at the instruction address: the hazard of its fetch, which comes first; an instruction
+/// that is refused, or that faults; the hazard of its access; or what it does.
+/// Each result is worked out once, and the effect of what is done, with its trace events, is made in
+/// `effect`; the instruction is in the memo (the i960 CA/CF User's Manual, instruction set, faults and tracing).
+pub fn plan_next(p: &Processor, memo: &mut Memo, effect: &mut Effect) -> Planned
+    requires drained { IsDrained p.now }
+    ensures standing { standing_of memo.new result ≡ stands_at (state_of p.now) }
+    ensures planned { IsPlanned (state_of p.now) memo.new result effect.new }
+    ensures located { IsLocated (state_of p.now) memo.new result }
+{
+    if let Err(why) = fetch(p, memo) {
+        return unread(p, why);
+    }
+    plan_read(p, memo, effect)
+}
+
+/// As `plan_next`. Where `read` is set, the memo has the instruction that stands there, which is not read again.
+pub fn plan_here(p: &Processor, read: bool, memo: &mut Memo, effect: &mut Effect) -> Planned
+    requires drained { IsDrained p.now }
+    requires read { read ≡ true → IsRead (state_of p.now) memo.old }
+    ensures standing { standing_of memo.new result ≡ stands_at (state_of p.now) }
+    ensures planned { IsPlanned (state_of p.now) memo.new result effect.new }
+    ensures located { IsLocated (state_of p.now) memo.new result }
+{
+    if read {
+        plan_read(p, memo, effect)
+    } else {
+        plan_next(p, memo, effect)
     }
 }

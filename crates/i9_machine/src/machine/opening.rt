@@ -65,7 +65,7 @@ impl Machine {
     {
         let open = plan_open(&self.processor, &mut self.memo, &mut self.effect);
         match open {
-            Open::Waits => {}
+            Open::Waits { .. } => {}
             Open::Runs => {
                 let need = need_done(&self.processor, &self.memo, &self.effect);
                 self.keep(need);
@@ -97,7 +97,7 @@ impl Machine {
         ensures waits { IsNone result → WaitsForAll (state_of self.old.processor) (stands_at (state_of self.old.processor)) }
     {
         match self.plan_instruction() {
-            Open::Waits => None,
+            Open::Waits { .. } => None,
             Open::Runs => Some(self.issue_turn()),
             Open::Faults(_) => Some(self.issue_turn()),
         }
@@ -119,7 +119,7 @@ impl Machine {
     {
         match self.issue_ahead() {
             Some(issue) if issue < self.done => (issue, Coming::Overtaking(address)),
-            _ => (until, Coming::Waiting),
+            _ => (until, Coming::Waiting { read: false }),
         }
     }
 
@@ -139,7 +139,7 @@ impl Machine {
     {
         let turn = self.issue_turn();
         if standing(plan, self.processor.count(), turn).is_some() {
-            (until, Coming::Waiting)
+            (until, Coming::Waiting { read: false })
         } else {
             (turn, coming)
         }
@@ -158,10 +158,10 @@ impl Machine {
         ensures ready { IsReadyFor self.new plan.now result.0 result.1 }
     {
         if !self.is_free() {
-            return (until, Coming::Waiting);
+            return (until, Coming::Waiting { read: false });
         }
         match self.plan_instruction() {
-            Open::Waits => (until, Coming::Waiting),
+            Open::Waits { read } => (until, Coming::Waiting { read }),
             Open::Runs => self.look_at(until, plan, Coming::Running),
             Open::Faults(number) => self.look_at(until, plan, Coming::Faulting(number)),
         }
@@ -178,7 +178,7 @@ impl Machine {
     {
         let until = self.board.all_done();
         if until <= self.turn {
-            return (until, Coming::Waiting);
+            return (until, Coming::Waiting { read: false });
         }
         match self.late_fault() {
             Some(address) => self.look_behind(address, until),

@@ -14,7 +14,7 @@ ghost use Rattle.i9_course.specs.NeedOf.{need_of};
 ghost use Rattle.i9_model.specs.Traced.{traced_action};
 ghost use Rattle.i9_model.specs.Run.{Does, Instruction, Faulted, faulted_words, fault_at, record_of, point_by_name, action_due};
 ghost use Rattle.i9_plan.specs.Kept.{inst_in, words_in};
-ghost use Rattle.i9_plan.specs.Planned.{TellsWords, AreRequestsInRow};
+ghost use Rattle.i9_plan.specs.Planned.{TellsWords, IsRead, AreRequestsInRow};
 ghost use Rattle.i9_processor.specs.Effect.{action_in, IsEffect};
 ghost use Rattle.i9_processor.specs.State.{state_of, cache_of, size_of, IsDrained};
 ghost use Rattle.i9_machine.specs.Issue.{TellsIssue};
@@ -29,7 +29,7 @@ use i9_model::faults::TRACE;
 use i9_model::{Chosen, Due, End, Event, Need, Point, When};
 use i9_plan::{
     Planned, Words, need_done, need_entered, need_faulted, need_reached, need_refused, plan_entry,
-    plan_event, plan_faulting, plan_interrupt, plan_next,
+    plan_event, plan_faulting, plan_here, plan_interrupt,
 };
 use i9_processor::Effect;
 use i9_schedule::Schedule;
@@ -105,6 +105,7 @@ pub(super) fn standing(plan: &Schedule, count: u64, turn: u64) -> Option<&Event>
 }
 
 impl Machine {
+    ghost use Rattle.i9_machine.specs.Coming.{HasRead};
     ghost use Rattle.i9_machine.specs.Issuing.{IsLike};
     ghost use Rattle.i9_machine.specs.Step.{IsStepWhere, IsPlannedIn, IsNext, event_for, next_where};
 
@@ -214,17 +215,18 @@ impl Machine {
         self.faults(words, count, number)
     }
 
-    /// The next instruction, or the end that stands in its place.
-    fn next_instruction(&mut self, plan: &Schedule) -> Result<Step, End>
+    /// The next instruction, or the end that stands in its place. Where `read` is set, it is in the memo.
+    fn next_instruction(&mut self, read: bool, plan: &Schedule) -> Result<Step, End>
         requires below { (state_of self.old.processor).count < self.old.length }
         requires free { self.old.due ≡ Due.Nothing }
         requires chosen { choice_in (state_of self.old.processor) ≡ Ok None }
         requires stands { event_for self.old plan.now ≡ None }
         requires drained { IsDrained self.old.processor }
+        requires read { read ≡ true → IsRead (state_of self.old.processor) self.old.memo }
         ensures next { IsNext self.old plan.now result self.new }
         ensures like { IsLike self.old self.new }
     {
-        match plan_next(&self.processor, &mut self.memo, &mut self.effect) {
+        match plan_here(&self.processor, read, &mut self.memo, &mut self.effect) {
             Planned::Meets(a) => Err(End::Hazard(a)),
             Planned::Refused { words, number } => {
                 let need = need_refused(&self.processor, number);
@@ -312,19 +314,21 @@ impl Machine {
         }
     }
 
-    /// The event that stands there, where no interrupt is chosen, or else the next instruction.
-    fn event_or_instruction(&mut self, plan: &Schedule) -> Result<Step, End>
+    /// The event that stands there, where no interrupt is chosen, or else the next instruction, which is in the memo
+    /// where `read` is set.
+    fn event_or_instruction(&mut self, read: bool, plan: &Schedule) -> Result<Step, End>
         requires below { (state_of self.old.processor).count < self.old.length }
         requires free { self.old.due ≡ Due.Nothing }
         requires chosen { choice_in (state_of self.old.processor) ≡ Ok None }
         requires drained { IsDrained self.old.processor }
         requires timely { IsTimely self.old plan.now }
+        requires read { read ≡ true → IsRead (state_of self.old.processor) self.old.memo }
         ensures next { IsNext self.old plan.now result self.new }
         ensures like { IsLike self.old self.new }
     {
         match standing(plan, self.processor.count(), self.turn) {
             Some(event) => Ok(self.reaches(event, plan)),
-            None => self.next_instruction(plan),
+            None => self.next_instruction(read, plan),
         }
     }
 
@@ -339,20 +343,25 @@ impl Machine {
         ensures like { IsLike self.old self.new }
     {
         match self.processor.choose() {
-            Ok(None) => self.event_or_instruction(plan),
+            Ok(None) => self.event_or_instruction(false, plan),
             Ok(Some(choice)) => self.interrupt(&choice, plan),
             Err(a) => Err(End::Hazard(a)),
         }
     }
 
     /// What comes next where nothing is open: what is due, the end of the length, or what comes before or is
-    /// the next instruction. Its effect is made in the machine.
-    pub(super) fn next_step(&mut self, plan: &Schedule) -> Result<Step, End>
+    /// the next instruction. Its effect is made in the machine. Where `read` is set, nothing comes before the instruction
+    /// in the memo but an event.
+    pub(super) fn next_step(&mut self, read: bool, plan: &Schedule) -> Result<Step, End>
         requires drained { IsDrained self.old.processor }
         requires timely { IsTimely self.old plan.now }
+        requires read { read ≡ true → HasRead self.old }
         ensures next { IsNext self.old plan.now result self.new }
         ensures like { IsLike self.old self.new }
     {
+        if read {
+            return self.event_or_instruction(true, plan);
+        }
         match self.due {
             Due::End(e) => Err(e),
             Due::Entry(fault) => self.entry(&fault, plan),

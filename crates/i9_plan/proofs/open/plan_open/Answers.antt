@@ -1,5 +1,6 @@
 use Rattle.std.proofs.Common.{◌≡◌, false, rules, sym, ap, ◌∙◌}
 use Rattle.std.specs.Prelude.{◌==◌}
+use Rattle.std.proofs.lemmas.Bool.{false≢true}
 use Rattle.i9_model.specs.declared.faults.TheConstants.{ARITHMETIC}
 use Rattle.i9_need.specs.Fixed.{fixed_need}
 use Rattle.i9_processor.specs.State.{state_of}
@@ -10,13 +11,14 @@ use Rattle.i9_plan.proofs.Opened.{unread_waits, barrier_waits, still_read, outco
 use Rattle.i9_plan.proofs.open.plan_open.Goals as goal
 
 pub returns-in-Err-clause-stands : goal.returns-in-Err-clause-stands
-returns-in-Err-clause-stands c = unread_waits (state_of c.args.p.now) c.in-Err.field-0 c.in-Err.ensures.fetched
+returns-in-Err-clause-stands c =
+    (unread_waits (state_of c.args.p.now) c.in-Err.field-0 c.in-Err.ensures.fetched, λ is. absurd (false≢true is))
 
 pub returns-then-stands_apart-clause-stands : goal.returns-then-stands_apart-clause-stands
 returns-then-stands_apart-clause-stands c =
     let m = c.fetch.new.memo in
     let apart = sym (c.stands_apart.ensures (inst_in m) c.need.ensures.need) ∙ c.if-stands_apart.true in
-    barrier_waits (state_of c.args.p.now) m c.in_default.ensures.fetched apart
+    (barrier_waits (state_of c.args.p.now) m c.in_default.ensures.fetched apart, λ is. c.in_default.ensures.fetched)
 
 pub returns-in-Runs-clause-stands : goal.returns-in-Runs-clause-stands
 returns-in-Runs-clause-stands c =
@@ -66,11 +68,13 @@ returns-then-number-ne-ARITHMETIC-clause-stands c =
     let m = c.locate-moving.new.self in
     let read = still_read s c.fetch.new.memo m c.locate-moving.ensures.same c.in_default.ensures.fetched in
     let early : (c.in-Faults.number.0 == ARITHMETIC) ≡ false = search rules in
-    outcome_waits s m c.inst-inst.result.now (outcomes.Faults c.in-Faults.number) read c.inst-inst.ensures c.in-Faults.ensures.standing early
+    let o = outcomes.Faults c.in-Faults.number in
+    (outcome_waits s m c.inst-inst.result.now o read c.inst-inst.ensures c.in-Faults.ensures.standing early, λ is. absurd (false≢true is))
 
 pub returns-in-Meets-clause-stands : goal.returns-in-Meets-clause-stands
 returns-in-Meets-clause-stands c =
     let s = state_of c.args.p.now in
     let m = c.locate-moving.new.self in
     let read = still_read s c.fetch.new.memo m c.locate-moving.ensures.same c.in_default.ensures.fetched in
-    outcome_waits s m c.inst-inst.result.now (outcomes.Meets c.in-Meets.field-0) read c.inst-inst.ensures c.in-Meets.ensures.standing tt
+    let o = outcomes.Meets c.in-Meets.field-0 in
+    (outcome_waits s m c.inst-inst.result.now o read c.inst-inst.ensures c.in-Meets.ensures.standing tt, λ is. absurd (false≢true is))

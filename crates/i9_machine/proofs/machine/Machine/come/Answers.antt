@@ -20,15 +20,20 @@ returns-in-Waiting-clause-came c =
 pub step_drained-requires-clause-drained : goal.step_drained-requires-clause-drained
 step_drained-requires-clause-drained c =
     let a = c.requires.arrived in
-    all_landed a.given a.items c.args.self.now c.args.turn a.stands (subst (IsReadyFor c.args.self.now c.args.plan.now c.args.turn) c.in-Waiting.is c.requires.ready) c.requires.turn
+    all_landed a.given a.items c.args.self.now c.args.turn a.stands
+    (subst (IsReadyFor c.args.self.now c.args.plan.now c.args.turn) c.in-Waiting.is c.requires.ready).0 c.requires.turn
 
 pub step_drained-requires-clause-timely : goal.step_drained-requires-clause-timely
 step_drained-requires-clause-timely c =
     let a = c.requires.arrived in
-    let end = subst (IsReadyFor c.args.self.now c.args.plan.now c.args.turn) c.in-Waiting.is c.requires.ready in
+    let end = (subst (IsReadyFor c.args.self.now c.args.plan.now c.args.turn) c.in-Waiting.is c.requires.ready).0 in
     is_timely c.args.self.now c.args.plan.now (record { given = a.given; items = a.items; stands = a.stands; follows = a.follows }) (λ rs stands.
     let is : c.args.turn ≡ end_turn rs = end rs stands in
     omega (arith, is, c.requires.turn))
+
+pub step_drained-requires-clause-read : goal.step_drained-requires-clause-read
+step_drained-requires-clause-read c =
+    (subst (IsReadyFor c.args.self.now c.args.plan.now c.args.turn) c.in-Waiting.is c.requires.ready).1
 
 pub returns-in-Overtaking-clause-came : goal.returns-in-Overtaking-clause-came
 returns-in-Overtaking-clause-came c =

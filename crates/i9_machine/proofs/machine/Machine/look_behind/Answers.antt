@@ -1,4 +1,4 @@
-use Rattle.std.proofs.Common.{◌≡◌, ◌<◌, ◌≤◌, refl, arith}
+use Rattle.std.proofs.Common.{◌≡◌, ◌<◌, ◌≤◌, false, refl, arith}
 use Rattle.i9_course.specs.Course.{ahead}
 use Rattle.i9_machine.proofs.Arriving.{ends_arrive}
 use Rattle.i9_machine.proofs.Ending.{late_not_nothing}
@@ -24,12 +24,12 @@ returns-in_default-clause-arrives c = λ plan g h stands follows.
     let same : c.issue_ahead.new.self.done ≡ m.done = c.issue_ahead.ensures.like.done in
     let later : c.issue_ahead.new.self.done ≤ c.in-Some.issue = c.if-issue-self.false in
     let precise = later_precise g h m c.in-Some.issue stands c.in-Some.ensures.turn (omega (arith, same, later)) in
-    ends_arrive g h m c.args.until stands c.requires.until c.requires.open
+    ends_arrive g h m c.args.until false stands c.requires.until c.requires.open
     (waits_until m plan c.args.until c.requires.until (due_waits m plan (late_not_nothing m c.args.address c.requires.late)) g h stands follows precise) precise
 
 pub returns-in_default-2-clause-arrives : goal.returns-in_default-2-clause-arrives
 returns-in_default-2-clause-arrives c = λ plan g h stands follows.
     let m = c.args.self.now in
     let precise = waits_precise g h m stands (c.in_default.ensures.waits refl) in
-    ends_arrive g h m c.args.until stands c.requires.until c.requires.open
+    ends_arrive g h m c.args.until false stands c.requires.until c.requires.open
     (waits_until m plan c.args.until c.requires.until (due_waits m plan (late_not_nothing m c.args.address c.requires.late)) g h stands follows precise) precise

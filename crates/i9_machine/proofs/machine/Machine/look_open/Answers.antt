@@ -1,4 +1,4 @@
-use Rattle.std.proofs.Common.{refl, sym, ap, ◌∙◌, subst}
+use Rattle.std.proofs.Common.{false, refl, sym, ap, ◌∙◌, subst}
 use Rattle.i9_model.specs.Run.{next_by_standing}
 use Rattle.i9_model.specs.Traced.{traced_action}
 use Rattle.i9_plan.specs.Kept.{inst_in}
@@ -12,13 +12,13 @@ use Rattle.i9_machine.proofs.machine.Machine.look_open.Goals as goal
 
 pub returns-then-not-is_free-clause-arrives : goal.returns-then-not-is_free-clause-arrives
 returns-then-not-is_free-clause-arrives c =
-    waits_arrive c.args.self.now c.args.plan.now c.args.until c.requires.until c.requires.open c.requires.precise (c.if-not-is_free.ensures.waits c.args.plan.now refl)
+    waits_arrive c.args.self.now c.args.plan.now c.args.until false c.requires.until c.requires.open c.requires.precise (c.if-not-is_free.ensures.waits c.args.plan.now refl)
 
 pub returns-in-Waits-clause-arrives : goal.returns-in-Waits-clause-arrives
 returns-in-Waits-clause-arrives c =
     let m = c.args.self.now in
-    waits_arrive m c.args.plan.now c.args.until c.requires.until c.requires.open c.requires.precise
-    (instruction_waits m c.args.plan.now (c.if-not-is_free.ensures.free refl) c.in-Waits.ensures.stands)
+    waits_arrive m c.args.plan.now c.args.until c.in-Waits.read c.requires.until c.requires.open c.requires.precise
+    (instruction_waits m c.args.plan.now (c.if-not-is_free.ensures.free refl) c.in-Waits.ensures.stands.0)
 
 pub returns-in-Runs-clause-arrives : goal.returns-in-Runs-clause-arrives
 returns-in-Runs-clause-arrives c =
