@@ -78,7 +78,8 @@ fn run_to_stop<K: Sink, F: Fn(&View) -> bool + ViewTest>(
 ) -> Printed
     requires stands { IsUnderWay m.old plan.old }
     ensures { (g : Given) (h : List Item) → StandsFor g h None m.old → Follows g h plan.old
-        → Drives (StopsBy result (F.ViewTest.allows s.now) g h) result g (account K.told K.faults K.writes K.sure) out.old out.new m.new plan.new }
+        → Drives (StopsBy result (F.ViewTest.allows s.now) g h) result g
+        (account K.told K.faults K.writes K.sure) out.old out.new m.new plan.new }
 {
     let mut lines = Vec::new(alloc);
     loop {
@@ -113,7 +114,8 @@ fn run_while_not<K: Sink, F: Fn(&View) -> bool + ViewTest>(
     requires stands { IsUnderWay m.old plan.old }
     requires takes { TakesEachView (F.ViewTest.can_test f) }
     ensures { (g : Given) (h : List Item) → StandsFor g h None m.old → Follows g h plan.old
-        → Drives (StopsBy result (F.ViewTest.allows f) g h) result g (account K.told K.faults K.writes K.sure) out.old out.new m.new plan.new }
+        → Drives (StopsBy result (F.ViewTest.allows f) g h) result g
+        (account K.told K.faults K.writes K.sure) out.old out.new m.new plan.new }
 {
     run_to_stop(alloc, m, plan, &Stop::new(f), out)
 }

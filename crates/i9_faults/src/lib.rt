@@ -8,7 +8,7 @@ mod raised;
 
 pub use entry::plan_fault;
 pub use i9_model::{Entry, Fault, FaultStop, Push};
-pub use raised::raises;
+pub use raised::{is_unaligned, raises};
 
 #[cfg(test)]
 mod tests;

@@ -89,8 +89,10 @@ fn alignment(n: u32) -> u32
     }
 }
 
-/// Whether an access, of an address and a number of bytes, is one that faults.
-fn is_unaligned(access: Option<(u32, u32)>, config: u32) -> bool
+/// Whether an access, of an address and a number of bytes, faults since it is unaligned, which bit 30 of the fault
+/// configuration masks.
+#[inline(always)]
+pub fn is_unaligned(access: Option<(u32, u32)>, config: u32) -> bool
     ensures { result ≡ is_unaligned access config }
 {
     match access {

@@ -1,5 +1,5 @@
 //! Faults, worked out by hand.
-use crate::{Entry, Fault, FaultStop, Push, plan_fault, raises};
+use crate::{Entry, Fault, FaultStop, Push, is_unaligned, plan_fault, raises};
 use Operand::{Lit, Reg, Sfr};
 use i9_isa::{Inst, NO_ADDRESS, Op, Operand, valid};
 use i9_memory::Memory;
@@ -168,9 +168,12 @@ fn refuses_unaligned_accesses(rt: HostRuntime) -> Result<(), Fail> {
         let i = inst(op, Reg(0), Reg(0), Reg(4));
         let raised = raised(i, (0, 0), Some((address, n)), USER, config)?;
         assert_eq!(rt; raised, wanted, "{op:?} {address:?}");
+        let unaligned = is_unaligned(Some((address, n)), config);
+        assert_eq!(rt; unaligned, wanted.is_some(), "{op:?} {address:?}");
     }
     let i = inst(Op::Ldq, Reg(0), Reg(0), Reg(4));
     assert_eq!(rt; raised(i, (0, 0), None, USER, 0)?, None);
+    assert!(rt; !is_unaligned(None, 0));
     Ok(())
 }
 

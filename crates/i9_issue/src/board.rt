@@ -54,6 +54,7 @@ impl Board {
     }
 
     /// The turn at which a record of this need would issue. Turns are below 2^62 and costs below 2^32.
+    #[inline(always)]
     pub fn next_turn(&self, n: &Need) -> u64
         requires cost { HasCost n.now }
         requires early { IsEarly self.now n.now }
@@ -213,6 +214,7 @@ fn least_turn(n: &Need, requests: u64, r: &TimedNeed) -> u64
 }
 
 /// The least turn from `from` on that so many records permit, the oldest of which is the first.
+#[inline(always)]
 fn permitted_from(records: &[TimedNeed; MOST_OPEN], count: usize, from: u64, n: &Need) -> u64
     requires few { count ≤ 7 }
     requires early { AllByRecursion (λ r. r.issue < 2 ^ 62) (reverse (take count records.now)) }

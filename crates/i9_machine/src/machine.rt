@@ -283,7 +283,7 @@ impl Machine {
         self.perform(&step, issue, plan, out)
     }
 
-    /// An instruction that is planned runs, which does more than to set registers.
+    /// An instruction that is planned runs, which does more than to set registers and to store bytes in a row.
     // It has code of its own, so that the code for most instructions asks for nothing of that.
     #[inline(never)]
     fn step_storing(&mut self, issue: u64, plan: &mut Schedule, out: &mut Vec<Line>) -> Turn
@@ -297,25 +297,6 @@ impl Machine {
         ensures fewer { LeavesFewer result (steps_left self.old plan.old) (steps_left self.new plan.new) }
     {
         self.step_running(issue, plan, out)
-    }
-
-    /// An instruction that is planned runs.
-    #[inline(always)]
-    fn step_planned(&mut self, issue: u64, plan: &mut Schedule, out: &mut Vec<Line>) -> Turn
-        requires running { self.old.ended ≡ None }
-        requires come { HasCome self.old plan.old }
-        requires runs { RunsAhead self.old plan.old issue }
-        ensures steps { Steps self.old result self.new plan.old plan.new out.old.items out.new.items }
-        ensures issues { Issues self.old result self.new plan.old }
-        ensures lacking { result ≡ Turn.Memory
-            → HasRoom self.old (vec_capacity out.old - vec_len out.old) (next_for self.old plan.old) → ⊥ }
-        ensures fewer { LeavesFewer result (steps_left self.old plan.old) (steps_left self.new plan.new) }
-    {
-        if self.effect.plain {
-            self.step_running(issue, plan, out)
-        } else {
-            self.step_storing(issue, plan, out)
-        }
     }
 
     /// What comes next is done, whose turn has come.
@@ -333,7 +314,8 @@ impl Machine {
         match coming {
             Coming::Waiting { read } => self.step_drained(read, plan, out),
             Coming::Overtaking(address) => self.answer_end(End::Imprecise(address), out),
-            Coming::Running => self.step_planned(turn, plan, out),
+            Coming::Running if self.effect.plain => self.step_running(turn, plan, out),
+            Coming::Running => self.step_storing(turn, plan, out),
             Coming::Faulting(number) => self.step_faulting(number, turn, plan, out),
         }
     }

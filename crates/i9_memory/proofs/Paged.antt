@@ -1,5 +1,11 @@
 -- Bytes in pages.
-use Rattle.std.proofs.Common.{◌≡◌, ℕ, zero, suc, ◌/◌, ◌%◌, List, get_or, replicate, refl, ap, ◌∙◌, arith}
+use Rattle.std.proofs.Common.{◌≡◌, ℕ, zero, suc, ◌/◌, ◌%◌, Bool, true, false, List, get_or, replicate, refl, ap, ◌∙◌, arith}
+use Rattle.std.specs.Prelude.{◌==◌, if◌then◌else◌, Option, Some}
+use Rattle.std.proofs.lemmas.Bool.Decides.{nat_tests}
+use Rattle.i9_pages.specs.Table.{SamePages, Updates}
+use Rattle.i9_memory.specs.declared.pages.Page.{Page}
+use Rattle.i9_memory.specs.declared.pages.Pages.{Pages}
+use Rattle.i9_memory.specs.Pages.{byte_in, byte_of, page_of, HasPage}
 
 -- functions that agree everywhere are one
 pub same_bytes : (f g : ℕ → ℕ) → ((x : ℕ) → f x ≡ g x) → f ≡ g
@@ -15,5 +21,29 @@ get_or_zeros (suc n) zero = refl
 get_or_zeros (suc n) (suc k) = get_or_zeros n k
 
 -- a new page holds zeros
-pub zero_byte : (bs : List ℕ) (k : ℕ) → bs ≡ replicate 256 0 → get_or bs k 0 ≡ 0
+zero_byte : (bs : List ℕ) (k : ℕ) → bs ≡ replicate 256 0 → get_or bs k 0 ≡ 0
 zero_byte bs k e = ap (λ (xs : List ℕ). get_or xs k 0) e ∙ get_or_zeros 256 k
+
+-- ---- one page that is changed
+
+-- the bytes of all addresses, of which one page has those of its number
+abbrev pub with_page : (ℕ → ℕ) → ℕ → (ℕ → ℕ) → ℕ → ℕ
+with_page others n page x = if x / 256 == n then page (x % 256) else others x
+
+byte_in-if : (b : Bool) (o p : Option Page) (k : ℕ) → byte_in (if b then o else p) k ≡ (if b then byte_in o k else byte_in p k)
+byte_in-if true o p k = refl
+byte_in-if false o p k = refl
+
+pub updated_bytes : (old new : Pages) (n : ℕ) (page : Page) → Updates old.pages n (Some page) new.pages → byte_of new ≡ with_page (byte_of old) n (byte_in (Some page))
+updated_bytes old new n page is = same_bytes _ _ (λ x. ap (λ (o : Option Page). byte_in o (x % 256)) (is (x / 256)) ∙ byte_in-if (x / 256 == n) (Some page) (page_of old (x / 256)) (x % 256))
+
+-- its own bytes change nothing
+pub own_bytes : (m : Pages) (n : ℕ) (page : Page) → page_of m n ≡ Some page → with_page (byte_of m) n (byte_in (Some page)) ≡ byte_of m
+own_bytes m n page is = same_bytes _ _ (λ x. grind (arith, nat_tests, is))
+
+-- zeros take the place of no page
+pub zero_page : (m : Pages) (n : ℕ) (page : Page) → (HasPage m n → ⊥) → page.bytes.value ≡ replicate 256 0 → with_page (byte_of m) n (byte_in (Some page)) ≡ byte_of m
+zero_page m n page lacks zeros = same_bytes _ _ (λ x. grind (arith, nat_tests, lacks, zero_byte page.bytes.value (x % 256) zeros))
+
+pub same_pages : (old new : Pages) → SamePages old.pages new.pages → byte_of new ≡ byte_of old
+same_pages old new is = same_bytes _ _ (λ x. ap (λ (o : Option Page). byte_in o (x % 256)) (is (x / 256)))

@@ -1,15 +1,15 @@
 -- Bytes of one page that are written at once, and the runs of a longer one.
 use Rattle.std.proofs.Common.{◌≡◌, ℕ, suc, ◌+◌, ◌*◌, ◌/◌, ◌%◌, ◌^◌, ◌<◌, ◌≤◌, true, false, List, [], ◌∷◌, ◌++◌, length, get_or, take, drop, refl, sym, ap, ◌∙◌, append_assoc, arith}
-use Rattle.std.specs.Prelude.{◌==◌, if◌then◌else◌}
 use Rattle.std.proofs.Math.ListN.{set, length-set}
 use Rattle.std.proofs.Math.Seq.{sets, sets-eq}
+use Rattle.std.proofs.lemmas.List.{take_all}
 use Rattle.std.proofs.lemmas.Grind.{common_steps}
 use Rattle.std.proofs.lemmas.Bool.Decides.{nat_tests}
 use Rattle.i9_model.specs.Writes.{wrapped, put, written, pairs_at, upwards}
 use Rattle.i9_model.specs.Memory.{in_port_page, stored}
 use Rattle.i9_model.proofs.Stored.{stored-cons}
 use Rattle.i9_model.proofs.Upwards.{upwards-wrapped}
-use Rattle.i9_memory.proofs.Paged.{same_bytes}
+use Rattle.i9_memory.proofs.Paged.{same_bytes, with_page}
 
 -- ---- within a page
 
@@ -35,10 +35,6 @@ run_written xs bs p h =
     ap read (sym (append_assoc (take p xs) bs (drop (p + length bs) xs)) ∙ sym (sets-eq bs xs p h)) ∙ sets_written xs p bs h
 
 -- ---- a page among others
-
--- the bytes of all addresses, of which one page has those of its number
-abbrev pub with_page : (ℕ → ℕ) → ℕ → (ℕ → ℕ) → ℕ → ℕ
-with_page others n page x = if x / 256 == n then page (x % 256) else others x
 
 page_put : (others page : ℕ → ℕ) (n k v : ℕ) → k < 256 → with_page others n (put page k v) ≡ put (with_page others n page) (256 * n + k) v
 page_put others page n k v h = same_bytes _ _ (λ x. grind (arith, nat_tests))
@@ -115,3 +111,10 @@ stored_none f a (b ∷ bs) none = absurd (omega arith)
 -- the addresses of a run have one page
 pub page_of_run : (a done at k run : ℕ) → at ≡ wrapped (a + done) → at % 256 + run ≤ 256 → done ≤ k → k < done + run → at / 256 ≡ wrapped (a + k) / 256
 page_of_run a done at k run e few low high = omega arith
+
+-- ---- all bytes of a run
+
+pub first_all : (bs : List ℕ) (n : ℕ) → length bs ≡ n → take n bs ≡ bs
+first_all bs n long = take_all n bs (omega (arith, long))
+
+pub ruleset first_rules = (first_all)

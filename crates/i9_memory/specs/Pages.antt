@@ -1,7 +1,6 @@
 -- Pages: the bytes that they hold, and those for which they have room.
 use Rattle.std.specs.Prelude.{ℕ, ◌/◌, ◌%◌, slice_index, Option, Some, None, IsSome}
-use Rattle.std.specs.Ordering.{nat_cmp}
-use Rattle.std.specs.BTreeMap.{get}
+use Rattle.i9_pages.specs.Table.{page_at}
 use Rattle.i9_memory.specs.declared.pages.Page.{Page}
 use Rattle.i9_memory.specs.declared.pages.Pages.{Pages}
 
@@ -12,7 +11,7 @@ byte_in (Some p) k = slice_index p.bytes.value k
 
 -- the page of a number
 abbrev pub page_of : Pages → ℕ → Option Page
-page_of m p = get nat_cmp m.pages p
+page_of m p = page_at m.pages p
 
 -- the byte at an address
 abbrev pub byte_of : Pages → ℕ → ℕ

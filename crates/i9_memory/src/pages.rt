@@ -1,14 +1,12 @@
 //! Bytes by address, in pages.
-ghost use Rattle.std.specs.Prelude.{◌≡◌, ℕ, ◌+◌, ◌/◌, ◌%◌, ◌<◌, ◌≤◌, ◌∷◌, [], OnOk, OnErr, IfSome, Some, length};
-ghost use Rattle.std.specs.Ordering.{nat_cmp};
-ghost use Rattle.std.specs.BTreeMap.{get};
+ghost use Rattle.std.specs.Prelude.{◌≡◌, ℕ, ◌+◌, ◌/◌, ◌%◌, ◌^◌, ◌<◌, ◌≤◌, ◌∷◌, [], OnOk, OnErr, IfSome, Some, length};
 ghost use Rattle.i9_model.specs.Writes.{wrapped, written, pairs_at, upwards};
 ghost use Rattle.i9_model.specs.Memory.{stored};
 
 use i9_isa::NoMemory;
 use i9_model::in_port_page;
+use i9_pages::PageTable;
 use std::alloc::Global;
-use std::collections::BTreeMap;
 
 /// How many bytes a page has.
 pub(crate) const PAGE_SIZE: u32 = 256;
@@ -37,11 +35,27 @@ impl Page {
 
     /// Writes bytes from a place up.
     #[inline(always)]
-    fn store(&mut self, place: usize, bytes: &[u8])
+    fn store_all(&mut self, place: usize, bytes: &[u8])
         requires { place + length bytes.now ≤ 256 }
         ensures { byte_in (Some self.new) ≡ written (byte_in (Some self.old)) (pairs_at (λ k. k) place bytes.now) }
     {
         self.bytes[place..place + bytes.len()].copy_from_slice(bytes);
+    }
+
+    /// The same. A byte, a word and four words have code of their own, since a copy is a move or two where its length
+    /// is known.
+    #[inline(always)]
+    #[tactic(auto, using(crate::proofs::Runs::first_rules))]
+    fn store(&mut self, place: usize, bytes: &[u8])
+        requires { place + length bytes.now ≤ 256 }
+        ensures { byte_in (Some self.new) ≡ written (byte_in (Some self.old)) (pairs_at (λ k. k) place bytes.now) }
+    {
+        match bytes.len() {
+            1 => self.store_all(place, &bytes[..1]),
+            4 => self.store_all(place, &bytes[..4]),
+            16 => self.store_all(place, &bytes[..16]),
+            _ => self.store_all(place, bytes),
+        }
     }
 }
 
@@ -59,7 +73,7 @@ fn run_length(a: u32, n: usize) -> usize
 #[derive(Drop)]
 pub(crate) struct Pages {
     alloc: Global,
-    pages: BTreeMap<u32, Page>,
+    pages: PageTable<Page>,
 }
 
 impl Pages {
@@ -71,7 +85,7 @@ impl Pages {
     {
         Pages {
             alloc,
-            pages: BTreeMap::new(alloc),
+            pages: PageTable::new(alloc),
         }
     }
 
@@ -79,7 +93,7 @@ impl Pages {
     pub(crate) fn byte(&self, a: u32) -> u8
         ensures { result ≡ byte_of self.now a }
     {
-        match self.pages.get(&(a / PAGE_SIZE)) {
+        match self.pages.get(a / PAGE_SIZE) {
             None => 0,
             Some(page) => page.bytes[(a % PAGE_SIZE) as usize],
         }
@@ -101,7 +115,7 @@ impl Pages {
         if place > 254 {
             return self.two_apart(a);
         }
-        match self.pages.get(&(a / PAGE_SIZE)) {
+        match self.pages.get(a / PAGE_SIZE) {
             None => [0; 2],
             Some(page) => [page.bytes[place], page.bytes[place + 1]],
         }
@@ -129,7 +143,7 @@ impl Pages {
         if place > 252 {
             return self.four_apart(a);
         }
-        match self.pages.get(&(a / PAGE_SIZE)) {
+        match self.pages.get(a / PAGE_SIZE) {
             None => [0; 4],
             Some(page) => page.four(place),
         }
@@ -144,13 +158,14 @@ impl Pages {
         if (a % PAGE_SIZE) as usize + n > PAGE_SIZE as usize {
             return None;
         }
-        self.pages.get(&(a / PAGE_SIZE))
+        self.pages.get(a / PAGE_SIZE)
     }
 
     /// Adds a page of zeros where there is none of its number.
     #[inline(never)]
     fn add_page(&mut self, number: u32) -> Result<(), NoMemory>
-        requires { HasPage self.old number → ⊥ }
+        requires small { number < 2 ^ 24 }
+        requires lacking { HasPage self.old number → ⊥ }
         ensures same { byte_of self.new ≡ byte_of self.old }
         ensures ok { OnOk result (HasPage self.new number) }
         ensures keeps { (p : ℕ) → HasPage self.old p → HasPage self.new p }
@@ -159,10 +174,8 @@ impl Pages {
             Ok(bytes) => bytes,
             Err(_) => return Err(NoMemory),
         };
-        match self.pages.insert(number, Page { bytes }) {
-            Ok(_) => Ok(()),
-            Err(_) => Err(NoMemory),
-        }
+        self.pages.insert(number, Page { bytes })?;
+        Ok(())
     }
 
     /// Makes room for the page of a byte.
@@ -173,15 +186,16 @@ impl Pages {
         ensures keeps { (p : ℕ) → HasPage self.old p → HasPage self.new p }
     {
         let number = a / PAGE_SIZE;
-        if self.pages.contains_key(&number) {
+        if self.pages.contains(number) {
             return Ok(());
         }
         self.add_page(number)
     }
 
     /// Makes room for `n` bytes from an address up, a page at a time.
-    #[inline(always)]
-    pub(crate) fn reserve_run(&mut self, a: u32, n: usize) -> Result<(), NoMemory>
+    // Few runs lie in several pages, or in one that is lacking.
+    #[inline(never)]
+    fn reserve_across(&mut self, a: u32, n: usize) -> Result<(), NoMemory>
         ensures same { byte_of self.new ≡ byte_of self.old }
         ensures ok { OnOk result ((k : ℕ) → k < n → HasByte self.new (wrapped (a + k))) }
         ensures needed { OnErr result (0 < n) }
@@ -199,8 +213,24 @@ impl Pages {
         Ok(())
     }
 
+    /// Makes room for `n` bytes from an address up. Where one page has them, and is there, that is all.
+    #[inline(always)]
+    pub(crate) fn reserve_run(&mut self, a: u32, n: usize) -> Result<(), NoMemory>
+        ensures same { byte_of self.new ≡ byte_of self.old }
+        ensures ok { OnOk result ((k : ℕ) → k < n → HasByte self.new (wrapped (a + k))) }
+        ensures needed { OnErr result (0 < n) }
+        ensures lacking { OnErr result (((k : ℕ) → k < n → HasByte self.old (wrapped (a + k))) → ⊥) }
+        ensures keeps { (p : ℕ) → HasPage self.old p → HasPage self.new p }
+    {
+        if n <= (PAGE_SIZE - a % PAGE_SIZE) as usize && self.pages.contains(a / PAGE_SIZE) {
+            return Ok(());
+        }
+        self.reserve_across(a, n)
+    }
+
     /// Writes bytes that one page has, for which there is room, from an address up. The port page is
     /// some of these pages, and keeps its bytes.
+    #[inline(always)]
     fn store_run(&mut self, a: u32, bytes: &[u8])
         requires room { HasByte self.old a }
         requires within { a % 256 + length bytes.now ≤ 256 }
@@ -210,13 +240,15 @@ impl Pages {
         if in_port_page(a) {
             return;
         }
-        if let Some(page) = self.pages.get_mut(&(a / PAGE_SIZE)) {
+        if let Some(page) = self.pages.get_mut(a / PAGE_SIZE) {
             page.store((a % PAGE_SIZE) as usize, bytes);
         }
     }
 
-    /// Writes bytes for which there is room from an address up, but for those in the port page.
-    pub(crate) fn store(&mut self, a: u32, bytes: &[u8])
+    /// Writes bytes for which there is room from an address up, but for those in the port page, a page at a time.
+    // Few runs lie in several pages.
+    #[inline(never)]
+    fn store_across(&mut self, a: u32, bytes: &[u8])
         requires { (k : ℕ) → k < length bytes.now → HasByte self.old (wrapped (a + k)) }
         ensures bytes { byte_of self.new ≡ stored (byte_of self.old) (upwards a bytes.now) }
         ensures keeps { (p : ℕ) → HasPage self.old p → HasPage self.new p }
@@ -228,6 +260,19 @@ impl Pages {
             self.store_run(at, run);
             at = at.wrapping_add(run.len() as u32);
             rest = later;
+        }
+    }
+
+    /// Writes bytes for which there is room from an address up, but for those in the port page.
+    pub(crate) fn store(&mut self, a: u32, bytes: &[u8])
+        requires { (k : ℕ) → k < length bytes.now → HasByte self.old (wrapped (a + k)) }
+        ensures bytes { byte_of self.new ≡ stored (byte_of self.old) (upwards a bytes.now) }
+        ensures keeps { (p : ℕ) → HasPage self.old p → HasPage self.new p }
+    {
+        if bytes.len() > (PAGE_SIZE - a % PAGE_SIZE) as usize {
+            self.store_across(a, bytes);
+        } else if !bytes.is_empty() {
+            self.store_run(a, bytes);
         }
     }
 }

@@ -260,7 +260,7 @@ still_calm i s fits b still =
     (plain_names i.op (value s i.a) quiet) (plain_table i.op (value s i.a) quiet) (no_access i s access)
 
 -- what is raised outside supervisor mode, or by what src1 names, or by an access
-abbrev fault_by : (m v u q r : Bool) → Option (ℕ × ℕ) → ℕ → Option (ℕ × ℕ)
+abbrev pub fault_by : (m v u q r : Bool) → Option (ℕ × ℕ) → ℕ → Option (ℕ × ℕ)
 fault_by m v u q r access config =
     cond (m && (v || u)) (Some (TYPE, MISMATCH))
     (cond q (Some (OPERATION, INVALID_OPERAND))
@@ -271,22 +271,23 @@ moved_data : (d : Direction) (a n : ℕ) → data_of (moved_access d a n) ≡ So
 moved_data Direction.Load a n = refl
 moved_data Direction.Store a n = refl
 
--- a load or a store raises the same whatever the values of its sources are
-pub transfer_raised : (i : Inst) (s : State) (t : Transfer) → transfer_of i.op ≡ Some t
-    → raised i 0 0 (Some (address s i.ea, byte_count t.size)) s.pc s.tables.fault_config ≡ raised_in i s
+-- a load or a store raises by a special function register that it uses, or by its access alone
+pub transfer_raises : (i : Inst) (s : State) (t : Transfer) → transfer_of i.op ≡ Some t
+    → fault_by (not (in_supervisor_mode s.pc)) false (uses_special i) false false (Some (address s i.ea, byte_count t.size)) s.tables.fault_config
+    ≡ raised_in i s
 unfolding raised
-transfer_raised i s t e =
+transfer_raises i s t e =
     let quiet = second (is_asking i.op) (is_some (transfer_of i.op)) (moved_asking i.op) (ap (λ (o : Option Transfer). is_some o) e) in
     let m = not (in_supervisor_mode s.pc) in
     let u = uses_special i in
     let config = s.tables.fault_config in
     let here = Some (address s i.ea, byte_count t.size) in
     let accessed = sym (ap (λ (o : Option Transfer). data_of (access_by o i s)) e ∙ moved_data t.direction (address s i.ea) (byte_count t.size)) in
-    let calls = plain_calls i.op 0 quiet ∙ sym (plain_calls i.op (value s i.b) quiet) in
-    let names = plain_names i.op 0 quiet ∙ sym (plain_names i.op (value s i.a) quiet) in
-    let table = plain_table i.op 0 quiet ∙ sym (plain_table i.op (value s i.a) quiet) in
-    ap (λ (v : Bool). fault_by m v u (is_invalid i.op 0) (is_past_table i.op 0) here config) calls
-    ∙ ap (λ (q : Bool). fault_by m (is_supervisor_only i.op (value s i.b)) u q (is_past_table i.op 0) here config) names
+    let calls = sym (plain_calls i.op (value s i.b) quiet) in
+    let names = sym (plain_names i.op (value s i.a) quiet) in
+    let table = sym (plain_table i.op (value s i.a) quiet) in
+    ap (λ (v : Bool). fault_by m v u false false here config) calls
+    ∙ ap (λ (q : Bool). fault_by m (is_supervisor_only i.op (value s i.b)) u q false here config) names
     ∙ ap (λ (r : Bool). fault_by m (is_supervisor_only i.op (value s i.b)) u (is_invalid i.op (value s i.a)) r here config) table
     ∙ ap (λ (o : Option (ℕ × ℕ)). fault_by m (is_supervisor_only i.op (value s i.b)) u (is_invalid i.op (value s i.a)) (is_past_table i.op (value s i.a)) o config) accessed
 

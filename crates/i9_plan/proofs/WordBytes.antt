@@ -1,13 +1,11 @@
 -- Words of loads and bytes of stores.
 use Rattle.std.proofs.Common.{◌≡◌, ℕ, zero, suc, ◌+◌, ◌*◌, ◌^◌, ◌<◌, ◌≤◌, List, [], ◌∷◌, ◌++◌, length, get_or, take, refl, sym, ap, ◌∙◌, add-one, append_assoc, append-nil, arith}
-use Rattle.std.specs.Prelude.{map}
-use Rattle.std.specs.List.{range_with_len}
 use Rattle.std.proofs.lemmas.List.{take_all, length-take}
-use Rattle.std.proofs.lemmas.List.FromFn.{map-range_with_len_more, length-map-range_with_len}
+use Rattle.std.proofs.lemmas.List.FromFn.{length-map-range_with_len}
 use Rattle.std.proofs.Math.Seq.{take-suc}
 use Rattle.i9_isa.specs.declared.inst.Operand.{Operand}
 use Rattle.i9_model.specs.Writes.{wrapped}
-use Rattle.i9_model.specs.Memory.{Memory, word_bytes}
+use Rattle.i9_model.specs.Memory.{Memory, word_in, words_in, word_bytes}
 use Rattle.i9_model.specs.State.{State}
 use Rattle.i9_model.specs.Operands.{word_of, source_words}
 use Rattle.i9_model.specs.Step.{bytes_of_words}
@@ -64,7 +62,12 @@ take_all_words ws n h = take_all n ws h
 
 pub ruleset source_rules = (source_take, take_all_words)
 
--- ---- the words of a load, one by one
+-- ---- the words of a load
 
-pub locals_more : (f : ℕ → ℕ) (k : ℕ) → map f (range_with_len 0 (k + 1)) ≡ map f (range_with_len 0 k) ++ f k ∷ []
-locals_more f k = map-range_with_len_more f 0 k k (omega arith)
+pub no_words : (m : Memory) (a : ℕ) → [] ≡ words_in m a 0
+no_words m a = refl
+
+pub single_word : (m : Memory) (a : ℕ) → a < 2 ^ 32 → word_in m a ∷ [] ≡ words_in m a 1
+single_word m a h = let here : a ≡ wrapped (a + 0) = omega arith in ap (λ (x : ℕ). word_in m x ∷ []) here
+
+pub ruleset few_words = (no_words, single_word)

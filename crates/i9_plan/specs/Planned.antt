@@ -22,7 +22,8 @@ use Rattle.i9_processor.specs.declared.effect.Move.{Move}
 use Rattle.i9_processor.specs.declared.effect.Control.{Control}
 use Rattle.i9_processor.specs.declared.effect.Posting.{Posting}
 use Rattle.i9_processor.specs.declared.effect.DmaChange.{DmaChange}
-use Rattle.i9_processor.specs.Effect.{IsEffect, no_requests}
+use Rattle.i9_processor.specs.Effect.{IsEffect}
+use Rattle.i9_processor.specs.Rest.{no_requests}
 use Rattle.i9_plan.specs.declared.fetched.Words.{Words}
 use Rattle.i9_plan.specs.declared.fetched.Unread.{Unread}
 use Rattle.i9_plan.specs.declared.fetched.Unread.TheVariants as unreads

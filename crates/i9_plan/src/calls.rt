@@ -6,7 +6,8 @@ ghost use Rattle.i9_model.specs.Frames.{rounded_down};
 ghost use Rattle.i9_model.specs.Operands.{value};
 ghost use Rattle.i9_model.specs.Step.{pushing, call_action, calls_action, ret_action, entering};
 ghost use Rattle.i9_model.specs.Access.{SavesAt, CallsSystem, ReturnsBy};
-ghost use Rattle.i9_processor.specs.Effect.{IsEffect, no_requests};
+ghost use Rattle.i9_processor.specs.Effect.{IsEffect};
+ghost use Rattle.i9_processor.specs.Rest.{no_requests};
 ghost use Rattle.i9_processor.specs.State.{state_of, IsDrained};
 ghost use Rattle.i9_plan.specs.Planned.{IsPlanFor, PlansEntry, PlansInterrupt, recording};
 

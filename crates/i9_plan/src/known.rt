@@ -39,6 +39,7 @@ fn region_of(a: u32) -> u8
 }
 
 /// The wait states of an instruction's data access, to read and to write together for an atomic one.
+#[inline(always)]
 fn access_waits(p: &Processor, i: &Inst, moving: Option<Moving>) -> u64
     requires { Moves (state_of p.now) i.now moving }
     ensures { result ≡ access_waits (state_of p.now).memory (access_of i.now (state_of p.now)) }
@@ -64,8 +65,7 @@ fn stands_alone(p: &Processor) -> bool
 }
 
 /// The data access of an instruction, and the wait states of it.
-// Most instructions have none, and this is no part of the code that calls it.
-#[inline(never)]
+#[inline(always)]
 fn access_and_waits(p: &Processor, i: &Inst, moving: Option<Moving>) -> (Option<(u32, u32)>, u64)
     requires { Moves (state_of p.now) i.now moving }
     ensures access { result.0 ≡ data_of (access_of i.now (state_of p.now)) }

@@ -14,11 +14,12 @@ use crate::sources::{atomic_address, value};
 use crate::tracing::in_supervisor_mode;
 use crate::transfers::Moving;
 use i9_decode::BadWord;
-use i9_faults::raises;
+use i9_faults::{is_unaligned, raises};
 use i9_isa::{Inst, Op};
 use i9_model::Arith;
 use i9_model::faults::{
-    ARITHMETIC, INVALID_OPCODE, INVALID_OPERAND, OPERATION, OVERFLOW, ZERO_DIVIDE,
+    ARITHMETIC, INVALID_OPCODE, INVALID_OPERAND, MISMATCH, OPERATION, OVERFLOW, TYPE, UNALIGNED,
+    ZERO_DIVIDE,
 };
 use i9_processor::Processor;
 
@@ -43,6 +44,7 @@ pub(crate) fn arithmetic_fault(f: Arith) -> (u8, u16)
 }
 
 /// The address and the number of bytes of an instruction's data access, where it has one.
+#[inline(always)]
 pub(crate) fn data_access(p: &Processor, i: &Inst, moving: Option<Moving>) -> Option<(u32, u32)>
     requires { Moves (state_of p.now) i.now moving }
     ensures { result ≡ data_of (access_of i.now (state_of p.now)) }
@@ -73,8 +75,14 @@ pub(crate) fn raised_by_transfer(p: &Processor, i: &Inst, m: Moving) -> Option<(
     requires moves { IsMove (state_of p.now) i.now m }
     ensures { result ≡ raised_in i.now (state_of p.now) }
 {
+    if mismatches(p, i) {
+        return Some((TYPE, MISMATCH));
+    }
     let access = Some((m.address, m.transfer.size.bytes()));
-    raises(i, 0, 0, access, p.pc(), p.tables().fault_config)
+    if is_unaligned(access, p.tables().fault_config) {
+        return Some((OPERATION, UNALIGNED));
+    }
+    None
 }
 
 /// Whether an instruction uses special function registers outside supervisor mode.

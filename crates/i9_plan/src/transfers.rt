@@ -1,9 +1,10 @@
 //! Loads, stores and atomic instructions.
-ghost use Rattle.std.specs.Prelude.{◌≡◌, ◌+◌, ◌≤◌, ◌∷◌, [], take, length};
+ghost use Rattle.std.specs.Prelude.{◌≡◌, ◌+◌, ◌*◌, ◌≤◌, ◌∷◌, [], None, take, length};
 ghost use Rattle.i9_isa.specs.declared.size.Direction.{Direction};
 ghost use Rattle.i9_isa.specs.Transfers.{byte_count, register_count, transfer_of};
 ghost use Rattle.i9_isa.specs.Valid.{IsValid};
 ghost use Rattle.i9_model.specs.Writes.{wrapped, upwards};
+ghost use Rattle.i9_model.specs.Hazards.{read_hazard};
 ghost use Rattle.i9_model.specs.Memory.{words_in, word_bytes};
 ghost use Rattle.i9_model.specs.Operands.{address, value};
 ghost use Rattle.i9_model.specs.Access.{Reads, Writes, Changes, moved_access};
@@ -67,30 +68,44 @@ fn filled_half(v: u16, signed: bool) -> u32
     }
 }
 
-/// So many words of memory, from an address up.
-#[tactic(auto, using(crate::proofs::WordBytes::locals_more))]
-fn words(p: &Processor, a: u32, n: usize) -> ArrayVec<u32, MOST_VALUES>
-    requires { n ≤ 4 }
+/// A group of words.
+fn group(words: &[u32]) -> ArrayVec<u32, MOST_VALUES>
+    requires { length words.now ≤ MOST_VALUES }
+    ensures { result.items ≡ words.now }
+{
+    let mut group = ArrayVec::new();
+    let _ = group.try_extend_from_slice(words);
+    group
+}
+
+/// So many words of memory, from an address up, of which no byte is soft.
+#[tactic(auto, using(crate::proofs::WordBytes::few_words))]
+fn words(p: &Processor, a: u32, n: u8) -> ArrayVec<u32, MOST_VALUES>
+    requires few { n ≤ 4 }
+    requires hard { read_hazard (state_of p.now).frames a (4 * n) ≡ None }
     ensures words { result.items ≡ words_in (state_of p.now).memory a n }
     ensures count { length result.items ≡ n }
 {
-    let mut words = ArrayVec::new();
-    for k in 0..n {
-        words.push(p.word(word_address(a, k)));
+    match n {
+        0 => ArrayVec::new(),
+        1 => one_word(p.hard_word(a)),
+        2 => group(&p.hard_words::<2>(a)),
+        3 => group(&p.hard_words::<3>(a)),
+        _ => group(&p.hard_words::<4>(a)),
     }
-    words
 }
 
-/// The words that a load of a size reads.
+/// The words that a load of a size reads, of which no byte is soft.
 fn loaded(p: &Processor, size: Size, signed: bool, a: u32) -> ArrayVec<u32, MOST_VALUES>
-    requires { byte_count size ≤ 16 }
+    requires few { byte_count size ≤ 16 }
+    requires hard { read_hazard (state_of p.now).frames a (byte_count size) ≡ None }
     ensures words { result.items ≡ loaded size signed (state_of p.now).memory a }
     ensures count { length result.items ≡ register_count size }
 {
     match size {
         Size::Byte => one_word(filled_byte(p.byte(a), signed)),
         Size::Half => one_word(filled_half(p.half(a), signed)),
-        Size::Words(n) => words(p, a, usize::from(n)),
+        Size::Words(n) => words(p, a, n),
     }
 }
 
@@ -159,7 +174,6 @@ fn plan_store(p: &Processor, i: &Inst, m: Moving, effect: &mut Effect) -> Option
     if hazard.is_none() {
         effect.address = m.address;
         effect.bytes = stored(p, size, i.c, m.address);
-        effect.plain = false;
     }
     hazard
 }
@@ -194,7 +208,6 @@ fn plan_atomic(p: &Processor, i: &Inst, a: u32, old: u32, new: u32) -> Result<Ef
     let mut effect = answering(p, i, old);
     effect.address = a;
     effect.bytes = listed(&p.word_bytes(a, new));
-    effect.plain = false;
     Ok(effect)
 }
 

@@ -1,7 +1,11 @@
 -- Bytes that are stored after others, one by one.
-use Rattle.std.proofs.Common.{◌≡◌, ℕ, ◌+◌, ◌<◌, ◌^◌, ◌||◌, ◌&&◌, ◌==◌, Bool, true, false, cond, List, [], ◌∷◌, ◌++◌, length, length-append, ◌≤◌, find, Some, None, refl, sym, ap, ◌∙◌, arith}
+use Rattle.std.proofs.Common.{◌≡◌, ℕ, ◌+◌, ◌-◌, ◌%◌, ◌<◌, ◌^◌, ◌||◌, ◌&&◌, ◌==◌, Bool, true, false, cond, List, [], ◌∷◌, ◌++◌, length, length-append, append-nil, take, ◌≤◌, find, Some, None, refl, sym, ap, ◌∙◌, arith}
 use Rattle.std.specs.Prelude.{not}
 use Rattle.std.specs.List.{slice_get}
+use Rattle.std.proofs.lemmas.List.{take_all}
+use Rattle.std.proofs.lemmas.Option.{slice_get_past}
+use Rattle.std.proofs.lemmas.Bool.Decides.{nat_tests}
+use Rattle.i9_model.specs.declared.layout.TheConstants.{PORT_PAGE, CONSOLE, EXIT_WORD}
 use Rattle.i9_model.specs.Writes.{wrapped, places_of, upwards, last_put, written}
 use Rattle.i9_model.specs.Memory.{Memory, with_writes, console_byte, exit_word}
 use Rattle.i9_model.specs.State.{Frames}
@@ -9,10 +13,11 @@ use Rattle.i9_model.specs.Frames.{in_frames, is_put, wrote}
 use Rattle.i9_model.specs.Hazards.{writes_hazard}
 use Rattle.i9_model.specs.HeldFrames.{Cache, cache_stored}
 use Rattle.i9_model.proofs.Stored.{stored-append}
+use Rattle.i9_model.proofs.Upwards.{last_put-from}
 use Rattle.i9_model.proofs.AlikeSteps.{none_wrote}
 use Rattle.i9_storage.specs.declared.storage.Storage.{Storage}
 use Rattle.i9_storage.specs.Storage.{KeepsSpace}
-use Rattle.i9_processor.specs.Effect.{one_in, AreSpacious}
+use Rattle.i9_processor.specs.Effect.{one_in, AreBelowPort, AreSpacious}
 
 -- ---- writes after others
 
@@ -81,22 +86,36 @@ none_frames f = sym (none_wrote f)
 
 pub ruleset none_rules = (none_cache, none_memory, none_frames, one_write)
 
--- nothing is looked for where no byte is stored
-pub nothing_exit : (m : Memory) (ps : List (ℕ × ℕ)) → ps ≡ [] → exit_word m ps ≡ None
-unfolding exit_word last_put
-nothing_exit m [] none = refl
-nothing_exit m (p ∷ ps) none = absurd cc
+-- ---- bytes below the port page
 
-pub nothing_console : (ps : List (ℕ × ℕ)) → ps ≡ [] → console_byte ps ≡ None
+-- bytes in a row, and none behind them
+pub run_below : (a : ℕ) (bs : List ℕ) (qs : List (ℕ × ℕ)) → a + length bs ≤ PORT_PAGE → qs ≡ [] → AreBelowPort (upwards a bs ++ qs)
+run_below a bs qs low none x above h =
+    let past : length bs ≤ (x + (2 ^ 32 - a)) % 2 ^ 32 = omega (arith, low, above, h) in
+    ap (λ (ps : List (ℕ × ℕ)). last_put ps x) (ap (λ (ps : List (ℕ × ℕ)). upwards a bs ++ ps) none ∙ append-nil (upwards a bs))
+    ∙ last_put-from a bs x (omega (arith, low)) h (omega (arith, low))
+    ∙ slice_get_past bs ((x + (2 ^ 32 - a)) % 2 ^ 32) past
+
+pub none_below : (ps : List (ℕ × ℕ)) → ps ≡ [] → AreBelowPort ps
 unfolding last_put
-nothing_console [] none = refl
-nothing_console (p ∷ ps) none = absurd cc
+none_below [] none x above h = refl
+none_below (p ∷ ps) none x above h = absurd cc
 
-pub some_stored : (a : ℕ) (bs : List ℕ) (qs : List (ℕ × ℕ)) → (length bs == 0) ≡ false → upwards a bs ++ qs ≡ [] → ⊥
-some_stored a [] qs some none = cc
-some_stored a (b ∷ bs) qs some none = cc
+pub empty_run : (a : ℕ) (bs : List ℕ) (qs : List (ℕ × ℕ)) → (length bs == 0) ≡ true → qs ≡ [] → upwards a bs ++ qs ≡ []
+empty_run a [] qs some none = none
+empty_run a (b ∷ bs) qs some none = absurd (grind (arith, nat_tests, some))
 
-pub ruleset nothing_rules = (nothing_exit, nothing_console)
+-- neither the exit word nor a byte for the console is among them
+pub below_exit : (m : Memory) (ps : List (ℕ × ℕ)) → AreBelowPort ps → exit_word m ps ≡ None
+unfolding exit_word
+below_exit m ps below =
+    let none : last_put ps EXIT_WORD ≡ None = below EXIT_WORD (omega arith) (omega arith) in
+    rw (none) refl
+
+pub below_console : (ps : List (ℕ × ℕ)) → AreBelowPort ps → console_byte ps ≡ None
+below_console ps below = below CONSOLE (omega arith) (omega arith)
+
+pub ruleset below_rules = (below_exit, below_console)
 
 -- ---- room
 
@@ -142,3 +161,10 @@ two_listed (x ∷ y ∷ []) few = refl
 two_listed (x ∷ y ∷ z ∷ xs) few = absurd (omega (arith, few))
 
 pub ruleset listed_rules = (two_listed)
+
+-- ---- all bytes of a run
+
+pub first_all : (bs : List ℕ) (n : ℕ) → length bs ≡ n → take n bs ≡ bs
+first_all bs n long = take_all n bs (omega (arith, long))
+
+pub ruleset first_rules = (first_all)

@@ -8,7 +8,8 @@ use Rattle.i9_processor.specs.declared.effect.Move.{Move}
 use Rattle.i9_processor.specs.declared.effect.Move.TheVariants as moves
 use Rattle.i9_processor.specs.declared.effect.Control.{Control}
 use Rattle.i9_processor.specs.declared.effect.Control.TheVariants as controls
-use Rattle.i9_processor.specs.Effect.{no_requests, writes_in}
+use Rattle.i9_processor.specs.Effect.{writes_in}
+use Rattle.i9_processor.specs.Rest.{no_requests}
 
 -- the bytes of an effect can wait behind these requests
 pub record CanQueue (waiting : List Wait) (done : ℕ) (e : Effect) : Type 0 where

@@ -1,8 +1,8 @@
 -- An effect as the action of the definitions, and where it can be applied.
-use Rattle.std.specs.Prelude.{◌≡◌, ℕ, ◌+◌, ◌<◌, ◌≤◌, ◌%◌, ◌⊎◌, Bool, true, false, ◌||◌, nat_lt, List, [], ◌∷◌, ◌++◌, length, Option, None, Some, unwrap_or}
+use Rattle.std.specs.Prelude.{◌≡◌, ℕ, ◌+◌, ◌<◌, ◌≤◌, ◌%◌, ◌^◌, ◌⊎◌, Bool, true, false, ◌||◌, nat_lt, List, [], ◌∷◌, ◌++◌, length, Option, None, Some, unwrap_or}
 use Rattle.std.specs.List.{AllByRecursion}
-use Rattle.i9_model.specs.declared.layout.TheConstants.{LOCALS}
-use Rattle.i9_model.specs.Writes.{pairs_at, upwards}
+use Rattle.i9_model.specs.declared.layout.TheConstants.{LOCALS, PORT_PAGE}
+use Rattle.i9_model.specs.Writes.{pairs_at, upwards, last_put}
 use Rattle.i9_model.specs.Memory.{Memory, words_in}
 use Rattle.i9_model.specs.Boot.{setup_of}
 use Rattle.i9_model.specs.declared.interrupts.TheConstants.{FIRST_DMA_LINE}
@@ -29,6 +29,7 @@ use Rattle.i9_processor.specs.declared.effect.DmaChange.TheVariants as changes
 use Rattle.i9_processor.specs.declared.effect.Control.{Control}
 use Rattle.i9_processor.specs.declared.effect.Control.TheVariants as controls
 use Rattle.i9_processor.specs.declared.effect.Effect.{Effect}
+use Rattle.i9_processor.specs.Rest.{no_requests}
 use Rattle.i9_processor.specs.declared.processor.Processor.{Processor}
 use Rattle.i9_processor.specs.State.{state_of, cache_of, size_of, queue_of, IsDrained}
 use Rattle.i9_processor.specs.declared.landing.Landing.{Landing}
@@ -84,15 +85,16 @@ one_in (Some p) = p ∷ []
 abbrev pub requests_in : Requests → List (ℕ × ℕ)
 requests_in r = one_in r.first ++ one_in r.second
 
-abbrev pub no_requests : Requests
-no_requests = record { first = None; second = None }
-
 -- the bytes in a row that an effect stores, and those with bits of requests behind them
 abbrev pub run_in : Effect → List (ℕ × ℕ)
 run_in e = upwards e.address e.bytes.items
 
 abbrev pub writes_in : Effect → List (ℕ × ℕ)
 writes_in e = run_in e ++ requests_in e.requests
+
+-- none of these writes is in the port page or above it
+abbrev pub AreBelowPort : List (ℕ × ℕ) → Type 0
+AreBelowPort ps = (x : ℕ) → PORT_PAGE ≤ x → x < 2 ^ 32 → last_put ps x ≡ None
 
 -- the action of an effect in a state
 abbrev pub action_in : State → Effect → plain.Action

@@ -1,5 +1,5 @@
 -- What most effects leave as it is.
-use Rattle.std.specs.Prelude.{◌≡◌, ℕ, List, [], Option, None}
+use Rattle.std.specs.Prelude.{◌≡◌, Option, None}
 use Rattle.i9_model.specs.declared.trace.Trace.{Trace}
 use Rattle.i9_processor.specs.declared.effect.Requests.{Requests}
 use Rattle.i9_processor.specs.declared.effect.Move.{Move}
@@ -11,11 +11,14 @@ use Rattle.i9_processor.specs.declared.effect.DmaChange.TheVariants as changes
 use Rattle.i9_processor.specs.declared.effect.Control.{Control}
 use Rattle.i9_processor.specs.declared.effect.Control.TheVariants as controls
 
--- nothing is stored; frames, interrupts, DMA and the controls that start-up reads stay; and no trace event counts
-pub record LeavesRest (stored : List ℕ) (asked : Requests) (move : Move) (post : Posting) (change : DmaChange)
+abbrev pub no_requests : Requests
+no_requests = record { first = None; second = None }
+
+-- no bits of requests are stored; frames, interrupts, DMA and the controls that start-up reads stay; and no trace event
+-- counts
+pub record LeavesRest (asked : Requests) (move : Move) (post : Posting) (change : DmaChange)
     (done : Control) (event : Option Trace) : Type 0 where
-  pub bytes : stored ≡ []
-  pub requests : asked ≡ record { first = None; second = None }
+  pub requests : asked ≡ no_requests
   pub frames : move ≡ moves.Stays
   pub posting : post ≡ postings.Keeps
   pub dma : change ≡ changes.Keeps

@@ -21,7 +21,7 @@ ghost use Rattle.i9_processor.specs.Acts.{CanPut, IsDrainedToMove, IsDrainedToCo
 ghost use Rattle.i9_processor.specs.Effect.{action_in, one_in, requests_in, run_in, writes_in, posting_in, change_in, move_in, sets_in, control_in, cache_through, size_with, is_costly, has_writes};
 ghost use Rattle.i9_processor.specs.Effect.{AreRegisters, AreSpacious, CanPost, CanChange, CanControl, CanMove, HasMoveSpace, HasSpaceFor, IsEmptied, CanTake};
 
-use crate::effect::{Control, DmaChange, Effect, Move, Posting, Requests};
+use crate::effect::{Control, DmaChange, Effect, MOST_BYTES, Move, Posting, Requests};
 use crate::landing::Landing;
 use crate::processor::Processor;
 use crate::registers::{issue_frame, issue_group};
@@ -97,7 +97,8 @@ fn reserve_one(storage: &mut Storage, byte: Option<(u32, u8)>) -> Result<(), NoM
 }
 
 /// Makes room for bytes with bits of requests.
-#[inline(always)]
+// Few effects have any, and this is no part of the code that calls it.
+#[inline(never)]
 #[tactic(auto, using(crate::proofs::Appending::room_rules))]
 fn reserve_requests(storage: &mut Storage, requests: &Requests) -> Result<(), NoMemory>
     ensures cache { stores.cache_of storage.new ≡ stores.cache_of storage.old }
@@ -175,7 +176,8 @@ fn store_requests(storage: &mut Storage, requests: &Requests)
 }
 
 /// Stores the bytes of an effect.
-#[inline(always)]
+// Entries do, whose effects are not plain, and this is no part of the code that calls it.
+#[inline(never)]
 fn store_bytes(storage: &mut Storage, e: &Effect)
     requires drained { 0 < length (writes_in e.now) → stores.IsDrained storage.old }
     requires space { HasSpace storage.old e.now.address (length e.now.bytes.items) }
@@ -192,7 +194,36 @@ fn store_bytes(storage: &mut Storage, e: &Effect)
     store_requests(storage, &e.requests);
 }
 
+/// Bytes as a list.
+#[inline(always)]
+fn listed_all(bytes: &[u8]) -> ArrayVec<u8, MOST_BYTES>
+    requires { length bytes.now ≤ MOST_BYTES }
+    ensures { result.items ≡ bytes.now }
+{
+    let mut list = ArrayVec::new();
+    let _ = list.try_extend_from_slice(bytes);
+    list
+}
+
+/// The same. None, a byte, a word and four words have code of their own, since a copy is a move or two where its length is
+/// known.
+#[inline(always)]
+#[tactic(auto, using(crate::proofs::Appending::first_rules))]
+fn listed(bytes: &[u8]) -> ArrayVec<u8, MOST_BYTES>
+    requires { length bytes.now ≤ MOST_BYTES }
+    ensures { result.items ≡ bytes.now }
+{
+    match bytes.len() {
+        0 => ArrayVec::new(),
+        1 => listed_all(&bytes[..1]),
+        4 => listed_all(&bytes[..4]),
+        16 => listed_all(&bytes[..16]),
+        _ => listed_all(bytes),
+    }
+}
+
 /// The bytes in a row of an effect wait until a turn, behind the others that wait.
+#[inline(always)]
 fn queue_run(storage: &mut Storage, e: &Effect, done: u64)
     requires few { length (stores.waiting_in storage.old) < 3 }
     requires order { AllByRecursion (λ w. w.due ≤ done) (stores.waiting_in storage.old) }
@@ -206,11 +237,9 @@ fn queue_run(storage: &mut Storage, e: &Effect, done: u64)
         ≡ stores.waiting_in storage.old ++ record { puts = run_in e.now; due = done } ∷ [] }
     ensures acted { stores.acted_in storage.new ≡ stores.acted_in storage.old }
 {
-    let mut bytes = ArrayVec::new();
-    let _ = bytes.try_extend_from_slice(e.bytes.as_slice());
     storage.enqueue(Request {
         address: e.address,
-        bytes,
+        bytes: listed(e.bytes.as_slice()),
         due: done,
     });
 }
@@ -235,7 +264,9 @@ fn put_bytes(storage: &mut Storage, e: &Effect, landing: &Landing)
 {
     if landing.request {
         queue_run(storage, e, landing.done);
-    } else if !e.plain {
+    } else if e.plain {
+        store_run(storage, e);
+    } else {
         store_bytes(storage, e);
     }
 }
@@ -266,10 +297,10 @@ impl Processor {
         ensures needed { OnErr result (has_writes (action_in (state_of self.old) e.now) ≡ true) }
         ensures lacking { OnErr result (HasSpaceFor self.old e.now → ⊥) }
     {
+        reserve_run(&mut self.storage, e)?;
         if e.plain {
             return Ok(());
         }
-        reserve_run(&mut self.storage, e)?;
         reserve_requests(&mut self.storage, &e.requests)?;
         reserve_move(&mut self.storage, &e.frames)
     }
@@ -392,7 +423,8 @@ impl Processor {
     }
 
     /// Does what is done to frames, and plans registers and the condition code.
-    #[inline(always)]
+    // Calls and returns do, and this is no part of the code that calls it.
+    #[inline(never)]
     #[tactic(auto, unfolding(crate::specs::State::state_of, crate::specs::State::cache_of, crate::specs::State::size_of, crate::specs::State::bytes_of, crate::specs::State::queue_of))]
     fn move_frames(&mut self, e: &Effect, landing: &Landing)
         requires registers { AreRegisters e.now }
@@ -443,7 +475,8 @@ impl Processor {
     }
 
     /// Does what is done to interrupts.
-    #[inline(always)]
+    // Few effects do anything, and this is no part of the code that calls it.
+    #[inline(never)]
     #[tactic(auto, unfolding(crate::specs::State::state_of, crate::specs::State::cache_of, crate::specs::State::size_of, crate::specs::State::bytes_of, crate::specs::State::queue_of))]
     fn post(&mut self, p: Posting)
         requires { CanPost p }
@@ -466,7 +499,8 @@ impl Processor {
     }
 
     /// Does what is done to DMA.
-    #[inline(always)]
+    // Few effects do anything, and this is no part of the code that calls it.
+    #[inline(never)]
     #[tactic(auto, unfolding(crate::specs::State::state_of, crate::specs::State::cache_of, crate::specs::State::size_of, crate::specs::State::bytes_of, crate::specs::State::queue_of))]
     fn change_dma(&mut self, change: DmaChange)
         requires { CanChange change }

@@ -3,12 +3,12 @@ ghost use Rattle.std.specs.Prelude.{◌≡◌, ◌+◌, ◌<◌, ◌≤◌, ◌^
 ghost use Rattle.i9_model.specs.Writes.{last_put, pairs_at, upwards};
 ghost use Rattle.i9_model.specs.Step.{going};
 ghost use Rattle.i9_model.specs.Memory.{console_byte, exit_word};
-ghost use Rattle.i9_processor.specs.Rest.{LeavesRest};
+ghost use Rattle.i9_processor.specs.Rest.{LeavesRest, no_requests};
 
 use crate::processor::Processor;
 use arrayvec::ArrayVec;
 use i9_dma::Channel;
-use i9_model::layout::{CONSOLE, EXIT_WORD};
+use i9_model::layout::{CONSOLE, EXIT_WORD, PORT_PAGE};
 use i9_model::{Cause, Push, Trace};
 
 /// The most registers that an effect sets beside those of a frame: a group of four.
@@ -88,8 +88,8 @@ pub enum DmaChange {
 /// what is done to the other controls, to interrupts and to DMA; the next instruction address; and, where
 /// trace events count, the trace controls with their flags and the subtype of their fault.
 ///
-/// Most effects are plain: nothing is stored, and frames, interrupts, DMA and the controls that start-up reads stay.
-/// Where `plain` is set nothing of that is asked for; where it is not, the effect may be plain nevertheless.
+/// Most effects are plain: they store bytes in a row at most, and frames, interrupts, DMA and the controls that start-up
+/// reads stay. Where `plain` is set nothing of that is asked for; where it is not, the effect may be plain nevertheless.
 #[derive(Debug, Drop)]
 pub struct Effect {
     pub register: u8,
@@ -108,7 +108,7 @@ pub struct Effect {
     pub next: u32,
     pub trace: Option<Trace>,
     pub plain: bool,
-    pub ghost rest: { IsTrue plain → LeavesRest bytes.items requests frames posting dma control trace },
+    pub ghost rest: { IsTrue plain → LeavesRest requests frames posting dma control trace },
 }
 
 /// The byte at a place, of bytes that stand from an address on.
@@ -120,7 +120,7 @@ fn byte_of_run(address: u32, bytes: &[u8], place: u32) -> Option<u8>
 }
 
 impl Requests {
-    ghost use Rattle.i9_processor.specs.Effect.{one_in, requests_in, no_requests};
+    ghost use Rattle.i9_processor.specs.Effect.{one_in, requests_in};
 
     /// No byte.
     pub const NONE: Requests = Requests {
@@ -170,7 +170,7 @@ impl Requests {
 }
 
 impl Effect {
-    ghost use Rattle.i9_processor.specs.Effect.{writes_in, no_requests, IsEffect};
+    ghost use Rattle.i9_processor.specs.Effect.{requests_in, writes_in, AreBelowPort, IsEffect};
     ghost use Rattle.i9_processor.specs.State.{state_of};
 
     /// Values go to registers from one up, and control goes to an address.
@@ -255,14 +255,14 @@ impl Effect {
         }
     }
 
-    /// Becomes plain.
+    /// Becomes plain, with the bytes that it stores.
     // Most effects are, and this is no part of the code that calls it.
     #[inline(never)]
     fn clear(&mut self)
         ensures values { self.new.values.items ≡ self.old.values.items }
+        ensures bytes { self.new.bytes.items ≡ self.old.bytes.items }
         ensures plain { IsTrue self.new.plain }
     {
-        self.bytes = ArrayVec::new();
         self.requests = Requests::NONE;
         self.frames = Move::Stays;
         self.posting = Posting::Keeps;
@@ -288,6 +288,7 @@ impl Effect {
         }
         self.register = 0;
         self.values = ArrayVec::new();
+        self.bytes = ArrayVec::new();
         self.ac = processor.ac();
         self.pc = processor.pc();
         self.tc = processor.tc();
@@ -295,11 +296,24 @@ impl Effect {
         self.next = next;
     }
 
-    /// Whether no byte is stored.
-    fn stores_nothing(&self) -> bool
-        ensures { IsTrue result ↔ writes_in self.now ≡ [] }
+    /// Whether no bits of requests are stored.
+    #[inline(always)]
+    fn asks_nothing(&self) -> bool
+        ensures { IsTrue result ↔ requests_in self.now.requests ≡ [] }
     {
-        self.plain || (self.bytes.is_empty() && self.requests.is_empty())
+        self.plain || self.requests.is_empty()
+    }
+
+    /// Whether all bytes that are stored lie below the port page; it may say no.
+    #[inline(always)]
+    fn stores_below_port(&self) -> bool
+        ensures { IsTrue result → AreBelowPort (writes_in self.now) }
+    {
+        if !self.asks_nothing() {
+            return false;
+        }
+        let end = self.address as usize + self.bytes.len();
+        self.bytes.is_empty() || end <= PORT_PAGE as usize
     }
 
     /// The byte that is stored at an address.
@@ -336,11 +350,11 @@ impl Effect {
 
     /// The word that ends the run, in the order of its region: stores to all four of its bytes.
     #[inline(always)]
-    #[tactic(auto, using(crate::proofs::Appending::nothing_rules))]
+    #[tactic(auto, using(crate::proofs::Appending::below_rules))]
     pub fn exit_word(&self, processor: &Processor) -> Option<u32>
         ensures { result ≡ exit_word (state_of processor.now).memory (writes_in self.now) }
     {
-        if self.stores_nothing() {
+        if self.stores_below_port() {
             return None;
         }
         self.stored_exit_word(processor)
@@ -348,11 +362,11 @@ impl Effect {
 
     /// The byte that goes out at the console.
     #[inline(always)]
-    #[tactic(auto, using(crate::proofs::Appending::nothing_rules))]
+    #[tactic(auto, using(crate::proofs::Appending::below_rules))]
     pub fn console_byte(&self) -> Option<u8>
         ensures { result ≡ console_byte (writes_in self.now) }
     {
-        if self.stores_nothing() {
+        if self.stores_below_port() {
             return None;
         }
         self.byte_at(CONSOLE)

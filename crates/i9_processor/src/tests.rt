@@ -153,6 +153,10 @@ fn reads_in_both_orders(rt: HostRuntime) -> Result<(), Fail> {
             Some(_) => assert!(rt; false, "{a}"),
         }
     }
+    match p.check_read(0x6000, 16) {
+        None => assert_eq!(rt; p.hard_words::<4>(0x6000), [0x11, 0x12, 0x13, 0x14]),
+        Some(_) => assert!(rt; false),
+    }
     assert_eq!(rt; (p.big(0), p.big(1), p.big(15)), (false, true, false));
     assert_eq!(rt; p.half_bytes(0x0FFF_FFFF, 0x1234), [0x34, 0x12]);
     assert_eq!(rt; p.half_bytes(0x1000_0000, 0x1234), [0x12, 0x34]);

@@ -1,13 +1,13 @@
 -- Reads beside what waits.
-use Rattle.std.proofs.Common.{◌≡◌, ℕ, ◌+◌, ◌-◌, ◌%◌, ◌^◌, ◌<◌, ◌≤◌, List, [], ◌∷◌, length, get_or, drop, cond, Option, Some, None, refl, sym, ap, ◌∙◌, inl, inr, arith}
+use Rattle.std.proofs.Common.{◌≡◌, ℕ, ◌+◌, ◌-◌, ◌*◌, ◌%◌, ◌^◌, ◌<◌, ◌≤◌, List, [], ◌∷◌, length, get_or, drop, cond, Option, Some, None, refl, sym, ap, ◌∙◌, inl, inr, arith}
 use Rattle.std.specs.Int.{w16, from_le_bytes, from_be_bytes}
 use Rattle.std.proofs.lemmas.Bool.{cases_Bool}
 use Rattle.std.proofs.lemmas.Option.{slice_get_past}
 use Rattle.i9_model.specs.Writes.{wrapped, upwards, last_put, or_earlier}
-use Rattle.i9_model.specs.Memory.{Memory, in_port_page, region_of, is_big, stored, half_in, word_in}
+use Rattle.i9_model.specs.Memory.{Memory, in_port_page, region_of, is_big, stored, half_in, word_in, words_in}
 use Rattle.i9_model.specs.Late.{all_puts}
 use Rattle.i9_model.proofs.Upwards.{last_put-from}
-use Rattle.i9_model.proofs.Readings.{SameBytes, inner_word_same}
+use Rattle.i9_model.proofs.Readings.{SameBytes, inner_word_same, words_same}
 use Rattle.i9_queue.specs.declared.queue.Request.{Request}
 use Rattle.i9_queue.specs.Queue.{waits_in}
 use Rattle.i9_queue.specs.Waits.{AreBeside, with_puts}
@@ -72,3 +72,7 @@ word_beside m ps a h beside =
     sym (ap (word_in (with_puts m ps)) (sym here)
     ∙ inner_word_same m (stored m.bytes ps) a 4 0 (other_bytes m ps a 4 beside) (omega arith)
     ∙ ap (word_in m) here)
+
+-- words in a row
+pub words_beside : (m : Memory) (ps : List (ℕ × ℕ)) (a n : ℕ) → AreBeside ps a (4 * n) → words_in m a n ≡ words_in (with_puts m ps) a n
+words_beside m ps a n beside = sym (words_same m (stored m.bytes ps) a (4 * n) n (other_bytes m ps a (4 * n) beside) (omega arith))

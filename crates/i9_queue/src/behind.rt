@@ -25,6 +25,7 @@ pub struct Behind {
 }
 
 /// Stores the requests that are due by `turn`.
+#[inline(always)]
 fn land_all(memory: &mut Memory, queue: &mut Queue, turn: u64)
     requires room { HasRoomFor memory.old (all_puts queue.old) }
     requires order { AreDueInOrder queue.old }
@@ -78,6 +79,7 @@ impl Behind {
     }
 
     /// A request waits, behind the others and due no earlier; there is room for its bytes.
+    #[inline(always)]
     #[tactic(auto, unfolding(crate::specs::Behind::settled), using(crate::proofs::Enqueued::wait_rules))]
     pub fn enqueue(&mut self, request: Request)
         requires few { length (waiting_of self.old) < 3 }
@@ -92,6 +94,7 @@ impl Behind {
     }
 
     /// Stores what is due by `turn`. After all that waits memory is as it was.
+    #[inline(always)]
     #[tactic(auto, unfolding(crate::specs::Behind::settled), using(crate::proofs::Settled::land_rules))]
     pub fn land(&mut self, turn: u64)
         ensures settled { settled self.new ≡ settled self.old }
@@ -179,6 +182,7 @@ impl Behind {
     }
 
     /// Words from `a` up, one by one.
+    #[inline(never)]
     fn words_apart<const N: usize>(&self, a: u32) -> [u32; N]
         requires { N ≤ 64 }
         ensures { result ≡ words_in (settled self.now) a N }
@@ -190,12 +194,14 @@ impl Behind {
         words
     }
 
-    /// Words from `a` up, each in the order of its own region, after all that waits; at most 64.
+    /// Words from `a` up, each in the order of its own region, after all that waits; at most 64. Where no
+    /// waiting store is to one of them memory has them.
+    #[inline(always)]
     pub fn words<const N: usize>(&self, a: u32) -> [u32; N]
         requires { N ≤ 64 }
         ensures { result ≡ words_in (settled self.now) a N }
     {
-        if self.queue.is_empty() {
+        if 0 < N && self.queue.is_beside(a, 4 * N as u32) {
             return self.memory.words(a);
         }
         self.words_apart(a)

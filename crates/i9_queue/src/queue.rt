@@ -130,6 +130,7 @@ impl Queue {
     }
 
     /// Puts a request behind the others.
+    #[inline(always)]
     pub fn put(&mut self, r: Request)
         requires { length self.old < 3 }
         ensures { self.new ≡ self.old ++ wait_in r ∷ [] }
@@ -137,7 +138,18 @@ impl Queue {
         self.items.push(r);
     }
 
+    /// Takes the first of several requests.
+    // Seldom more than one waits, and this is no part of the code that calls it.
+    #[inline(never)]
+    fn take_first(&mut self) -> Request
+        requires { 0 < length self.old }
+        ensures { self.old ≡ wait_in result ∷ self.new }
+    {
+        self.items.remove(0)
+    }
+
     /// Takes the first request, where it is due by `turn`.
+    #[inline(always)]
     pub fn take_due(&mut self, turn: u64) -> Option<Request>
         ensures { MatchOption result (NoneDue turn self.old × (self.new ≡ self.old))
             (λ r. (r.due ≤ turn) × (self.old ≡ wait_in r ∷ self.new)) }
@@ -149,7 +161,10 @@ impl Queue {
         if turn < due {
             return None;
         }
-        Some(self.items.remove(0))
+        if self.items.len() == 1 {
+            return self.items.pop();
+        }
+        Some(self.take_first())
     }
 
     /// Whether no waiting store is to one of `n` bytes from an address up. It may be false beside a load.

@@ -147,6 +147,7 @@ fn reads_words_over_what_waits(rt: HostRuntime) -> Result<(), Fail> {
     assert_eq!(rt; (behind.is_drained(), behind.waits(1, false)), (true, 0));
     let wanted = |held: u8, above: u8| {
         [
+            (0x0FFF_FFF4, 0, 0, [0, 0x0201_0000], 0),
             (
                 0x0FFF_FFFA,
                 0x0201,

@@ -68,7 +68,9 @@ fn land_one(slots: &mut [Slot; RESOURCES], planned: u64, r: usize, turn: u64) ->
 
 /// Values that are planned for the locals take their place where they are due. It gives the resources of a set that
 /// are left.
-// Whether this is done first is speed alone: where each has its turn, the code needs no search for the next one.
+// Whether this is done first is speed alone: where each has its turn, the code needs no search for the next one. It is
+// no part of the code that calls it, since calls and returns alone plan all locals.
+#[inline(never)]
 fn land_locals(slots: &mut [Slot; RESOURCES], planned: u64, turn: u64) -> u64
     requires { ArePlannedAmong planned slots.old }
     ensures size { length slots.new ≡ resources }
@@ -84,6 +86,7 @@ fn land_locals(slots: &mut [Slot; RESOURCES], planned: u64, turn: u64) -> u64
 
 /// Each value that is planned for `turn` or an earlier one takes its place. It gives the set of the
 /// resources for which a value is left.
+#[inline(always)]
 fn land_each(slots: &mut [Slot; RESOURCES], planned: u64, turn: u64) -> u64
     requires { ArePlannedAmong planned slots.old }
     ensures size { length slots.new ≡ resources }
@@ -345,6 +348,7 @@ impl File {
     }
 
     /// Each value that is planned for `turn` or an earlier one takes its place.
+    #[inline(always)]
     pub fn land(&mut self, turn: u64)
         ensures { (r : ℕ) → cell_in self.new r ≡ landed turn (cell_in self.old r) }
     {

@@ -1,5 +1,5 @@
 -- What is planned by reads that meet no hazard is planned by the memory behind the held frames, as it is lent.
-use Rattle.std.proofs.Common.{◌≡◌, ℕ, false, cond, List, Option, None, Some, Result, Ok, Err, sym, ap, ◌∙◌, subst, arith}
+use Rattle.std.proofs.Common.{◌≡◌, ℕ, ◌*◌, false, cond, List, Option, None, Some, Result, Ok, Err, sym, ap, ◌∙◌, subst, arith}
 use Rattle.std.specs.Prelude.{not, IfOk}
 use Rattle.std.proofs.lemmas.Bool.{or_right}
 use Rattle.i9_model.specs.declared.faults.Fault.{Fault}
@@ -7,7 +7,7 @@ use Rattle.i9_model.specs.declared.faults.Entry.{Entry}
 use Rattle.i9_model.specs.declared.push.Push.{Push}
 use Rattle.i9_model.specs.declared.interrupts.Chosen.{Chosen}
 use Rattle.i9_model.specs.Memory as model
-use Rattle.i9_model.specs.Memory.{half_in, word_in, with_writes}
+use Rattle.i9_model.specs.Memory.{half_in, word_in, words_in, with_writes}
 use Rattle.i9_model.specs.State.{Frames, Interrupts, Dma}
 use Rattle.i9_model.specs.Dma.{is_idle, unit_hazard, unit_bytes}
 use Rattle.i9_model.specs.Hazards.{or_else, unless, read_hazard, save_hazard, record_write_hazard}
@@ -20,7 +20,7 @@ use Rattle.i9_model.specs.HeldFrames.{Cache, overlaid}
 use Rattle.i9_model.proofs.CallLaws.{second_none, unless_ok}
 use Rattle.i9_model.proofs.Overlays.{over_mcon}
 use Rattle.i9_model.proofs.HeldFrames.{hard_behind}
-use Rattle.i9_model.proofs.Readings.{half_same, word_same}
+use Rattle.i9_model.proofs.Readings.{half_same, word_same, read_same, words_same}
 use Rattle.i9_model.proofs.AlikeFetches.{unless_same, planned_calls_same, planned_ret_same, planned_fault_same}
 use Rattle.i9_model.proofs.AlikeActions.{request_same}
 use Rattle.i9_model.proofs.Units.{bytes_same}
@@ -53,7 +53,14 @@ hard_word m w h a kept none =
     sym (word_same (frames_of w) (settled m) (overlaid c).bytes a 4 (hard_behind c (frames_of w) kept.sound kept.youngest) none (omega arith))
     ∙ ap (λ (x : model.Memory). word_in x a) (laid_other c)
 
-pub ruleset hard_rules = (hard_byte, hard_half, hard_word)
+pub hard_words : (m : Behind) (w : Watch) (h : Held) (a n : ℕ) → IsKept m w h → read_hazard (frames_of w) a (4 * n) ≡ None → words_in (settled m) a n ≡ words_in (overlaid (cache_in m h)) a n
+hard_words m w h a n kept none =
+    let c = cache_in m h in
+    let same = read_same (frames_of w) (settled m) (overlaid c).bytes a (4 * n) (hard_behind c (frames_of w) kept.sound kept.youngest) none in
+    sym (words_same (settled m) (overlaid c).bytes a (4 * n) n same (omega arith))
+    ∙ ap (λ (x : model.Memory). words_in x a n) (laid_other c)
+
+pub ruleset hard_rules = (hard_byte, hard_half, hard_word, hard_words)
 
 pub calls_laid : (lent : model.Memory) (m : Behind) (w : Watch) (h : Held) (table n pc fp sp : ℕ) → lent ≡ settled m → IsKept m w h → planned_calls lent (frames_of w) table n pc fp sp ≡ planned_calls (overlaid (cache_in m h)) (frames_of w) table n pc fp sp
 calls_laid lent m w h table n pc fp sp is kept =

@@ -103,6 +103,7 @@ impl Storage {
 
     /// A request waits, behind the others and due no earlier. There is space for its bytes, beside the
     /// live frames, and they are read from now on, though they go to memory later.
+    #[inline(always)]
     pub fn enqueue(&mut self, request: Request)
         requires few { length (waiting_in self.old) < 3 }
         requires order { AllByRecursion (λ w. w.due ≤ request.due) (waiting_in self.old) }
@@ -124,6 +125,7 @@ impl Storage {
     }
 
     /// What is due by `turn` goes to memory. Nothing else changes.
+    #[inline(always)]
     pub fn land(&mut self, turn: u64)
         ensures cache { cache_of self.new ≡ cache_of self.old }
         ensures memory { memory_in self.new ≡ memory_in self.old }

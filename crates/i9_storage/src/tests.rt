@@ -123,6 +123,7 @@ enum Step {
     Byte(u32, u8),
     Half(u32, u16),
     Word(u32, u32),
+    Words(u32, [u32; 4]),
     FrameWords(u32, u32, u32),
     FrameWord(u32, u8, u32),
     IsSoft(u32, bool),
@@ -132,7 +133,7 @@ enum Step {
 
 use Step::{
     Byte, Flush, FrameWord, FrameWords, Half, Held, Holds, IsSoft, Restart, Return, Save,
-    StoreHalf, StoreWord, Word,
+    StoreHalf, StoreWord, Word, Words,
 };
 
 /// Whether a word is read so where none of its bytes is soft.
@@ -143,12 +144,21 @@ fn hard(storage: &Storage, a: u32, wanted: u32) -> bool {
     }
 }
 
+/// Whether words are read so where none of their bytes is soft, as it has to be.
+fn hard_group(storage: &Storage, a: u32, wanted: [u32; 4]) -> bool {
+    match storage.watch().check_read(a, 16) {
+        None => storage.hard_words::<4>(a) == wanted,
+        Some(_) => false,
+    }
+}
+
 /// Whether storage answers so; what is done asks nothing.
 fn answers(storage: &Storage, step: Step) -> bool {
     match step {
         Byte(a, wanted) => storage.byte(a) == wanted,
         Half(a, wanted) => storage.half(a) == wanted,
         Word(a, wanted) => storage.word(a) == wanted && hard(storage, a, wanted),
+        Words(a, wanted) => hard_group(storage, a, wanted),
         FrameWords(a, first, ninth) => storage.frame_words(a) == counting(first, ninth),
         FrameWord(a, k, wanted) => k < 16 && storage.frame_word(a, k) == wanted,
         IsSoft(a, wanted) => storage.watch().soft(a) == wanted,
@@ -260,6 +270,8 @@ fn holds_frames(rt: HostRuntime) -> Result<(), Fail> {
         &[
             StoreWord(0x1000_0000, 0x1234_5678),
             StoreHalf(0x1000_0004, 0x9ABC),
+            Words(0x1000_0000, [0x1234_5678, 0x9ABC_0000, 0, 0]),
+            Words(0x0FFF_FFF8, [0, 0, 0x1234_5678, 0x9ABC_0000]),
             Byte(0x1000_0000, 0x12),
             Byte(0x1000_0005, 0xBC),
             Half(0x1000_0002, 0x5678),
@@ -340,7 +352,7 @@ fn first_wrong(storage: &Storage, steps: &[Step]) -> Option<usize> {
 }
 
 /// What is read below at once, and at each turn.
-const SEEN: [Step; 17] = [
+const SEEN: [Step; 19] = [
     Byte(0x103C, 0x11),
     Byte(0x103D, 0x12),
     Byte(0x103E, 0x33),
@@ -356,6 +368,8 @@ const SEEN: [Step; 17] = [
     Byte(0x1000_0001, 0x22),
     Half(0x1000_0000, 0x2122),
     Word(0x1000_0000, 0x2122_0000),
+    Words(0x1030, [0, 0, 0, 0x1433_1211]),
+    Words(0x0FFF_FFFC, [0, 0x2122_0000, 0, 0]),
     IsSoft(0x103F, false),
     IsSoft(0x1040, true),
     Holds(1, 2),

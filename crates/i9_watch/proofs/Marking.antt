@@ -2,8 +2,6 @@
 use Rattle.std.proofs.Common.{◌≡◌, ◌⊎◌, inl, inr, ℕ, zero, suc, ◌+◌, ◌-◌, ◌/◌, ◌%◌, ◌^◌, ◌<◌, ◌≤◌, Bool, true, false, cond, List, [], ◌∷◌, get_or, replicate, nat_lt, nat_le, Option, Some, None, refl, sym, subst, ap, ◌∙◌, add-one, arith}
 use mathlib.Core.Bool.{beq}
 use Rattle.std.specs.List.{list_any, between}
-use Rattle.std.specs.Ordering.{nat_cmp}
-use Rattle.std.specs.BTreeMap.{get}
 use Rattle.std.proofs.lemmas.List.Edits.{get_or-between}
 use Rattle.std.specs.Prelude.{IsSome, ◌==◌, ◌||◌, if◌then◌else◌}
 use Rattle.std.proofs.lemmas.Bool.{eqb-true, eq-eqb}
@@ -11,6 +9,7 @@ use Rattle.std.proofs.lemmas.Bool.Decides.{nat_tests}
 use Rattle.i9_model.specs.Writes.{wrapped}
 use Rattle.i9_model.specs.Frames.{in_bytes}
 use Rattle.i9_model.proofs.Places.{in_bytes-none, in_bytes-more}
+use Rattle.i9_pages.specs.Table.{page_at}
 use Rattle.i9_watch.specs.declared.page.Mark.{Mark}
 use Rattle.i9_watch.specs.declared.page.Mark.TheVariants.{Soft, Live}
 use Rattle.i9_watch.specs.declared.page.Change.{Change}
@@ -76,11 +75,11 @@ without_page m s f g p lacks e h = same_marks _ _ (λ x.
     ∙ removed_case (x / 256 == p) (is_marked m s x) (λ t. unmarked_page m s x (λ has. lacks (subst (HasPage s) (eqb-true _ _ t) has))))
 
 -- a mark of a page that is there
-pub marked_at : (m : Mark) (s : Marks) (x : ℕ) (p : Page) → get nat_cmp s.pages (x / 256) ≡ Some p → is_marked m s x ≡ has_mark m p (x % 256)
+pub marked_at : (m : Mark) (s : Marks) (x : ℕ) (p : Page) → page_at s.pages (x / 256) ≡ Some p → is_marked m s x ≡ has_mark m p (x % 256)
 marked_at m s x p e = ap (λ (o : Option Page). is_marked_in m o (x % 256)) e
 
 -- marks of pages that are the same
-pub same_page_marks : (m : Mark) (s t : Marks) (x : ℕ) → get nat_cmp s.pages (x / 256) ≡ get nat_cmp t.pages (x / 256) → is_marked m s x ≡ is_marked m t x
+pub same_page_marks : (m : Mark) (s t : Marks) (x : ℕ) → page_at s.pages (x / 256) ≡ page_at t.pages (x / 256) → is_marked m s x ≡ is_marked m t x
 same_page_marks m s t x e = ap (λ (o : Option Page). is_marked_in m o (x % 256)) e
 
 -- ---- addresses in a row

@@ -1,10 +1,9 @@
 -- Marks: which addresses are marked, and which have room for marks.
 use Rattle.std.specs.Prelude.{ℕ, ◌+◌, ◌/◌, ◌<◌, ◌%◌, Bool, false, if◌then◌else◌, Option, Some, None, IsSome}
-use Rattle.std.specs.Ordering.{nat_cmp}
-use Rattle.std.specs.BTreeMap.{get}
 use Rattle.i9_model.specs.declared.layout.TheConstants.{FRAME_SIZE}
 use Rattle.i9_model.specs.Writes.{wrapped}
 use Rattle.i9_model.specs.Frames.{in_bytes}
+use Rattle.i9_pages.specs.Table.{page_at}
 use Rattle.i9_watch.specs.declared.page.Mark.{Mark}
 use Rattle.i9_watch.specs.declared.page.Change.{Change}
 use Rattle.i9_watch.specs.declared.page.Page.{Page}
@@ -18,7 +17,7 @@ is_marked_in m (Some p) k = has_mark m p k
 
 -- an address has a mark
 abbrev pub is_marked : Mark → Marks → ℕ → Bool
-is_marked m s a = is_marked_in m (get nat_cmp s.pages (a / 256)) (a % 256)
+is_marked m s a = is_marked_in m (page_at s.pages (a / 256)) (a % 256)
 
 -- marks after a change of so many addresses from one on
 abbrev pub changed_run : Change → Mark → ℕ → ℕ → (ℕ → Bool) → ℕ → Bool
@@ -26,7 +25,7 @@ changed_run c m a n marks x = if in_bytes a n x then changed c m (marks x) else 
 
 -- a page is there
 abbrev pub HasPage : Marks → ℕ → Type 0
-HasPage s p = IsSome (get nat_cmp s.pages p)
+HasPage s p = IsSome (page_at s.pages p)
 
 -- an address can be marked
 abbrev pub HasRoom : Marks → ℕ → Type 0

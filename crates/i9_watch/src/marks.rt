@@ -1,19 +1,20 @@
 //! The marks of all addresses.
-ghost use Rattle.std.specs.Prelude.{◌≡◌, ◌≢◌, ℕ, ◌+◌, ◌/◌, ◌%◌, ◌<◌, ◌≤◌, ◌==◌, if◌then◌else◌, ◌&&◌, not, true, false, OnOk, OnErr};
+ghost use Rattle.std.specs.Prelude.{◌≡◌, ◌≢◌, ℕ, ◌+◌, ◌/◌, ◌%◌, ◌^◌, ◌<◌, ◌≤◌, ◌==◌, if◌then◌else◌, ◌&&◌, not, true, false, OnOk, OnErr};
 ghost use Rattle.i9_model.specs.Writes.{wrapped};
 ghost use Rattle.i9_model.specs.Frames.{in_bytes, in_frames};
 
 use crate::page::{Change, Mark, PAGE_SIZE, Page};
 use i9_isa::NoMemory;
 use i9_model::layout::FRAME_SIZE;
+use i9_pages::PageTable;
 use std::alloc::Global;
-use std::collections::{BTreeMap, VecDeque};
+use std::collections::VecDeque;
 
 /// Pages by number. No address of a page that is lacking is marked.
 #[derive(Drop)]
 pub(crate) struct Marks {
     alloc: Global,
-    pages: BTreeMap<u32, Page>,
+    pages: PageTable<Page>,
 }
 
 /// How many of so many addresses from one on lie in its page.
@@ -36,7 +37,7 @@ impl Marks {
     {
         Marks {
             alloc,
-            pages: BTreeMap::new(alloc),
+            pages: PageTable::new(alloc),
         }
     }
 
@@ -44,7 +45,7 @@ impl Marks {
     pub(crate) fn is_marked(&self, mark: Mark, a: u32) -> bool
         ensures { result ≡ is_marked mark self.now a }
     {
-        match self.pages.get(&(a / PAGE_SIZE)) {
+        match self.pages.get(a / PAGE_SIZE) {
             None => false,
             Some(page) => page.has(mark, a % PAGE_SIZE),
         }
@@ -56,7 +57,7 @@ impl Marks {
         requires { a % 256 + n ≤ 256 }
         ensures { result ≡ false → (k : ℕ) → k < n → is_marked mark self.now (wrapped (a + k)) ≡ false }
     {
-        match self.pages.get(&(a / PAGE_SIZE)) {
+        match self.pages.get(a / PAGE_SIZE) {
             None => false,
             Some(page) => page.has_any(mark, a % PAGE_SIZE, n),
         }
@@ -94,6 +95,7 @@ impl Marks {
 
     /// Makes room for the marks of a page.
     fn reserve_page(&mut self, page: u32) -> Result<(), NoMemory>
+        requires { page < 2 ^ 24 }
         ensures same { (m : Mark) → is_marked m self.new ≡ is_marked m self.old }
         ensures ok { OnOk result (HasPage self.new page) }
         ensures others { (p : ℕ) → p ≢ page → HasPage self.new p → HasPage self.old p }
@@ -101,14 +103,12 @@ impl Marks {
         ensures err { OnErr result (KeepsPages self.new self.old) }
         ensures needed { OnErr result (HasPage self.old page → ⊥) }
     {
-        if self.pages.contains_key(&page) {
+        if self.pages.contains(page) {
             return Ok(());
         }
         let marks = Page::new(self.alloc)?;
-        match self.pages.insert(page, marks) {
-            Ok(_) => Ok(()),
-            Err(_) => Err(NoMemory),
-        }
+        self.pages.insert(page, marks)?;
+        Ok(())
     }
 
     /// Takes away the room for the marks of a page, and with it the marks.
@@ -118,7 +118,7 @@ impl Marks {
         ensures fewer { KeepsPages self.new self.old }
         ensures removed { HasPage self.new page → ⊥ }
     {
-        self.pages.remove(&page);
+        self.pages.remove(page);
     }
 
     /// Makes room for the marks of a frame.
@@ -134,7 +134,7 @@ impl Marks {
         if first == last {
             return self.reserve_page(first);
         }
-        let is_there = self.pages.contains_key(&first);
+        let is_there = self.pages.contains(first);
         self.reserve_page(first)?;
         if let Err(error) = self.reserve_page(last) {
             if !is_there {
@@ -153,7 +153,7 @@ impl Marks {
         ensures marks { (m : Mark) → is_marked m self.new ≡ changed_run change m a n (is_marked m self.old) }
         ensures keeps { KeepsPages self.old self.new }
     {
-        if let Some(page) = self.pages.get_mut(&(a / PAGE_SIZE)) {
+        if let Some(page) = self.pages.get_mut(a / PAGE_SIZE) {
             page.change(change, a % PAGE_SIZE, n);
         }
     }
@@ -171,6 +171,19 @@ impl Marks {
             let count = count_in_page(first, n - done);
             self.change_in_page(change, first, count);
             done += count;
+        }
+    }
+
+    /// Changes the marks of so many addresses from one on that are stored to.
+    #[inline(always)]
+    pub(crate) fn store(&mut self, a: u32, n: u32)
+        ensures marks { (m : Mark) → is_marked m self.new ≡ changed_run Change.Store m a n (is_marked m self.old) }
+        ensures keeps { KeepsPages self.old self.new }
+    {
+        if n <= PAGE_SIZE - a % PAGE_SIZE {
+            self.change_in_page(Change::Store, a, n);
+        } else {
+            self.change(Change::Store, a, n);
         }
     }
 

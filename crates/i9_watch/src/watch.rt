@@ -245,7 +245,7 @@ impl Watch {
         ensures spare { spare_of self.new ≡ spare_of self.old }
         ensures marks { KeepsMarks self.old self.new }
     {
-        self.marks.change(Change::Store, a, n);
+        self.marks.store(a, n);
     }
 
     /// The save address of the youngest live frame.

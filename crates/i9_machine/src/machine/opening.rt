@@ -79,6 +79,7 @@ impl Machine {
     }
 
     /// The turn at which a record issues whose need is kept.
+    #[inline(always)]
     pub(super) fn issue_turn(&self) -> u64
         requires pace { HasPace self.now }
         requires need { HasKept self.now }

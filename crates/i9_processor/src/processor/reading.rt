@@ -1,8 +1,8 @@
 //! What is read of the state that a processor stands for.
-ghost use Rattle.std.specs.Prelude.{◌≡◌, ◌+◌, ◌*◌, ◌<◌, None};
+ghost use Rattle.std.specs.Prelude.{◌≡◌, ◌+◌, ◌*◌, ◌<◌, ◌≤◌, None};
 ghost use Rattle.i9_model.specs.declared.layout.TheConstants.{LOCALS};
 ghost use Rattle.i9_model.specs.Writes.{wrapped};
-ghost use Rattle.i9_model.specs.Memory.{half_in, word_in, half_bytes, word_bytes, is_big, waits_of};
+ghost use Rattle.i9_model.specs.Memory.{half_in, word_in, words_in, half_bytes, word_bytes, is_big, waits_of};
 ghost use Rattle.i9_model.specs.Hazards.{read_hazard, write_hazard};
 ghost use Rattle.i9_model.specs.Frames.{flushed};
 ghost use Rattle.i9_model.specs.Overlay.{overlay};
@@ -134,12 +134,24 @@ impl Processor {
     }
 
     /// The four bytes from `a` up, in the order of the region of `a`, where none of them is soft.
+    #[inline(always)]
     #[tactic(auto, unfolding(crate::specs::State::state_of))]
     pub fn hard_word(&self, a: u32) -> u32
         requires { read_hazard (state_of self.now).frames a 4 ≡ None }
         ensures { result ≡ word_in (state_of self.now).memory a }
     {
         self.storage.hard_word(a)
+    }
+
+    /// Words from `a` up, each in the order of its own region, where none of their bytes is soft. At most 64.
+    #[inline(always)]
+    #[tactic(auto, unfolding(crate::specs::State::state_of))]
+    pub fn hard_words<const N: usize>(&self, a: u32) -> [u32; N]
+        requires few { N ≤ 64 }
+        requires hard { read_hazard (state_of self.now).frames a (4 * N) ≡ None }
+        ensures { result ≡ words_in (state_of self.now).memory a N }
+    {
+        self.storage.hard_words(a)
     }
 
     /// Word `k` of the sixteen from `a` up, as of the frame that a return to `a` enters.

@@ -1,5 +1,5 @@
 //! Bytes, halves and words of memory with the held frames laid over it.
-ghost use Rattle.std.specs.Prelude.{◌≡◌, ℕ, ◌+◌, ◌-◌, ◌*◌, ◌/◌, ◌%◌, ◌^◌, ◌<◌, false, None, IfNone, IfSome, length, slice_index, take};
+ghost use Rattle.std.specs.Prelude.{◌≡◌, ℕ, ◌+◌, ◌-◌, ◌*◌, ◌/◌, ◌%◌, ◌^◌, ◌<◌, ◌≤◌, false, None, IfNone, IfSome, length, slice_index, take};
 ghost use Rattle.i9_model.specs.declared.layout.TheConstants.{LOCALS, FRAME_SIZE};
 ghost use Rattle.i9_model.specs.Hazards.{read_hazard};
 ghost use Rattle.i9_model.specs.Memory.{in_port_page, is_big, waits_of, half_in, word_in, words_in, half_bytes, word_bytes};
@@ -153,12 +153,25 @@ impl Storage {
 
     /// The four bytes from `a` up, in the order of the region of `a`, where none of them is soft: memory
     /// has them.
+    #[inline(always)]
     #[tactic(auto, using(crate::proofs::StoragePlans::hard_rules))]
     pub fn hard_word(&self, a: u32) -> u32
         requires { read_hazard (frames_in self.now) a 4 ≡ None }
         ensures { result ≡ word_in (memory_in self.now) a }
     {
         self.behind.word(a)
+    }
+
+    /// Words from `a` up, each in the order of its own region, where none of their bytes is soft: memory has
+    /// them. At most 64.
+    #[inline(always)]
+    #[tactic(auto, using(crate::proofs::StoragePlans::hard_rules))]
+    pub fn hard_words<const N: usize>(&self, a: u32) -> [u32; N]
+        requires few { N ≤ 64 }
+        requires hard { read_hazard (frames_in self.now) a (4 * N) ≡ None }
+        ensures { result ≡ words_in (memory_in self.now) a N }
+    {
+        self.behind.words(a)
     }
 
     /// The four bytes from `a` up, in the order of the region of `a`. Where none is soft memory has

@@ -52,17 +52,29 @@ pub returns-in-Overtaking-clause-fewer : goal.returns-in-Overtaking-clause-fewer
 returns-in-Overtaking-clause-fewer c =
     finish_fewer c.args.self.now _ _ c.answer_end.result c.answer_end.new.self _ _ _ _ c.answer_end.ensures
 
-pub step_planned-requires-clause-come : goal.step_planned-requires-clause-come
-step_planned-requires-clause-come c =
+pub step_running-requires-clause-come : goal.step_running-requires-clause-come
+step_running-requires-clause-come c =
     arrived_come c.args.self.now c.args.plan.now c.args.coming (ap overtaken_by c.in-Running.is) c.requires.arrived
 
 pub returns-in-Running-clause-came : goal.returns-in-Running-clause-came
 returns-in-Running-clause-came c =
-    subst (λ (x : Coming). Came x c.args.self.now c.step_planned.result c.step_planned.new.self c.args.plan.now c.step_planned.new.plan c.args.out.now.items c.step_planned.new.out.items)
-    (sym c.in-Running.is) (c.step_planned.ensures.steps, c.step_planned.ensures.issues)
+    subst (λ (x : Coming). Came x c.args.self.now c.step_running.result c.step_running.new.self c.args.plan.now c.step_running.new.plan c.args.out.now.items c.step_running.new.out.items)
+    (sym c.in-Running.is) (c.step_running.ensures.steps, c.step_running.ensures.issues)
 
-pub step_planned-requires-clause-runs : goal.step_planned-requires-clause-runs
-step_planned-requires-clause-runs c = subst (IsReadyFor c.args.self.now c.args.plan.now c.args.turn) c.in-Running.is c.requires.ready
+pub step_running-requires-clause-runs : goal.step_running-requires-clause-runs
+step_running-requires-clause-runs c = subst (IsReadyFor c.args.self.now c.args.plan.now c.args.turn) c.in-Running.is c.requires.ready
+
+pub step_storing-requires-clause-come : goal.step_storing-requires-clause-come
+step_storing-requires-clause-come c =
+    arrived_come c.args.self.now c.args.plan.now c.args.coming (ap overtaken_by c.in-Running-2.is) c.requires.arrived
+
+pub returns-in-Running-2-clause-came : goal.returns-in-Running-2-clause-came
+returns-in-Running-2-clause-came c =
+    subst (λ (x : Coming). Came x c.args.self.now c.step_storing.result c.step_storing.new.self c.args.plan.now c.step_storing.new.plan c.args.out.now.items c.step_storing.new.out.items)
+    (sym c.in-Running-2.is) (c.step_storing.ensures.steps, c.step_storing.ensures.issues)
+
+pub step_storing-requires-clause-runs : goal.step_storing-requires-clause-runs
+step_storing-requires-clause-runs c = subst (IsReadyFor c.args.self.now c.args.plan.now c.args.turn) c.in-Running-2.is c.requires.ready
 
 pub step_faulting-requires-clause-come : goal.step_faulting-requires-clause-come
 step_faulting-requires-clause-come c =

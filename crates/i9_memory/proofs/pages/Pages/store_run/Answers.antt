@@ -1,12 +1,13 @@
 use Rattle.std.proofs.Common.{◌≡◌, ℕ, ◌/◌, sym, ap, ◌∙◌, arith}
 use Rattle.std.specs.Prelude.{Some}
-use Rattle.std.proofs.lemmas.Grind.{common_steps}
-use Rattle.std.proofs.lemmas.Bool.Decides.{nat_tests}
+use Rattle.i9_pages.specs.Table.{Updates}
+use Rattle.i9_pages.proofs.Updated.{at_some, updated_keeps}
+use Rattle.i9_memory.specs.declared.pages.Pages.{Pages}
 use Rattle.i9_model.specs.Writes.{upwards}
 use Rattle.i9_model.specs.Memory.{stored}
-use Rattle.i9_memory.specs.Pages.{byte_in, byte_of}
-use Rattle.i9_memory.proofs.Paged.{same_bytes}
-use Rattle.i9_memory.proofs.Runs.{with_page, run_in_port, run_in_page}
+use Rattle.i9_memory.specs.Pages.{byte_in, byte_of, page_of}
+use Rattle.i9_memory.proofs.Paged.{with_page, updated_bytes, own_bytes}
+use Rattle.i9_memory.proofs.Runs.{run_in_port, run_in_page}
 use Rattle.i9_memory.proofs.pages.Pages.store_run.Goals as goal
 
 pub returns-then-in_port_page-clause-bytes : goal.returns-then-in_port_page-clause-bytes
@@ -15,11 +16,20 @@ returns-then-in_port_page-clause-bytes c =
 
 pub returns-in-Some-clause-bytes : goal.returns-in-Some-clause-bytes
 returns-in-Some-clause-bytes c =
-    let others = byte_of c.args.self.now in
+    let old = c.args.self.now in
     let n = c.args.a / 256 in
-    let before = byte_in (Some c.in-Some.page.now) in
-    let same : with_page others n before ≡ others = same_bytes _ _ (λ x. grind (arith, common_steps, nat_tests)) in
-    same_bytes _ (with_page others n (byte_in (Some c.store.new.self))) (λ x. grind (arith, common_steps, nat_tests))
-    ∙ ap (with_page others n) c.store.ensures
-    ∙ run_in_page others before c.args.a c.args.bytes.now (omega arith) c.requires.within (sym c.in_port_page.ensures ∙ c.if-in_port_page.false)
-    ∙ ap (λ (f : ℕ → ℕ). stored f (upwards c.args.a c.args.bytes.now)) same
+    let before = c.in-Some.page.now in
+    let after = c.store.new.self in
+    let new : Pages = record { alloc = old.alloc; pages = c.get_mut.follows.lender after } in
+    let updates : Updates old.pages n (Some after) new.pages = at_some c.get_mut.result c.in-Some.page c.in-Some.is (c.get_mut.follows.holds after) in
+    let was : page_of old n ≡ Some before = sym c.in-Some.ensures.value in
+    updated_bytes old new n after updates
+    ∙ ap (with_page (byte_of old) n) c.store.ensures
+    ∙ run_in_page (byte_of old) (byte_in (Some before)) c.args.a c.args.bytes.now (omega arith) c.requires.within (sym c.in_port_page.ensures ∙ c.if-in_port_page.false)
+    ∙ ap (λ (f : ℕ → ℕ). stored f (upwards c.args.a c.args.bytes.now)) (own_bytes old n before was)
+
+pub returns-in-Some-clause-keeps : goal.returns-in-Some-clause-keeps
+returns-in-Some-clause-keeps c =
+    let after = c.store.new.self in
+    updated_keeps c.args.self.now.pages (c.get_mut.follows.lender after) (c.args.a / 256) after
+    (at_some c.get_mut.result c.in-Some.page c.in-Some.is (c.get_mut.follows.holds after))

@@ -12,8 +12,8 @@ pub invariant_of-self-clause-apart : goal.invariant_of-self-clause-apart
 invariant_of-self-clause-apart c = c.args.self.now.apart
 
 pub invariant_of-self-clause-marked : goal.invariant_of-self-clause-marked
-invariant_of-self-clause-marked c = no_change c.args.a c.args.n (is_marked Live c.args.self.now.marks) (is_marked Live c.change.new.self) (c.change.ensures.marks Live) ∙ c.args.self.now.marked
+invariant_of-self-clause-marked c = no_change c.args.a c.args.n (is_marked Live c.args.self.now.marks) (is_marked Live c.store.new.self) (c.store.ensures.marks Live) ∙ c.args.self.now.marked
 
 pub returns-clause-frames : goal.returns-clause-frames
 unfolding frames_of
-returns-clause-frames c = same_frames (soft-wrote c.args.a c.args.n (is_marked Soft c.args.self.now.marks) (is_marked Soft c.change.new.self) (c.change.ensures.marks Soft)) refl
+returns-clause-frames c = same_frames (soft-wrote c.args.a c.args.n (is_marked Soft c.args.self.now.marks) (is_marked Soft c.store.new.self) (c.store.ensures.marks Soft)) refl

@@ -1,7 +1,7 @@
 use Rattle.std.proofs.Common.{◌≡◌, ℕ, ◌+◌, ◌-◌, ◌<◌, ◌≤◌}
 use Rattle.i9_model.specs.Writes.{wrapped}
 use Rattle.i9_memory.specs.Pages.{byte_of, HasPage, HasByte}
-use Rattle.i9_memory.proofs.pages.Pages.reserve_run.Given as goal
+use Rattle.i9_memory.proofs.pages.Pages.reserve_across.Given as goal
 
 abbrev pub invariant-loop-done : goal.invariant-loop-done
 invariant-loop-done l = record {

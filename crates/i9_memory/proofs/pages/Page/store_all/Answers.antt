@@ -1,7 +1,7 @@
 use Rattle.std.proofs.Common.{rules, ◌≡◌, ℕ, List, ◌+◌, ◌-◌, ◌++◌, take, get_or, length, ap, ◌∙◌, arith}
 use borrow.Rule.Slice.PartMut.{post_of, Post-is}
 use Rattle.i9_memory.proofs.Runs.{run_written}
-use Rattle.i9_memory.proofs.pages.Page.store.Goals as goal
+use Rattle.i9_memory.proofs.pages.Page.store_all.Goals as goal
 
 pub returns : goal.returns
 returns c =

@@ -2,7 +2,7 @@ use Rattle.std.proofs.Common.{◌≡◌, ℕ, ◌+◌, ◌<◌, length}
 use Rattle.i9_model.specs.Writes.{wrapped, upwards}
 use Rattle.i9_model.specs.Memory.{stored}
 use Rattle.i9_memory.specs.Pages.{byte_of, HasPage, HasByte}
-use Rattle.i9_memory.proofs.pages.Pages.store.Given as goal
+use Rattle.i9_memory.proofs.pages.Pages.store_across.Given as goal
 
 abbrev pub invariant-loop-rest : goal.invariant-loop-rest
 invariant-loop-rest l = record {
