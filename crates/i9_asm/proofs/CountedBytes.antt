@@ -24,7 +24,7 @@ use Rattle.i9_asm.proofs.LaterNames.{Later, later_same, later_named, later_value
 
 -- ---- the widths of data
 
-abbrev IsNarrow : Item → Type 0
+abbrev pub IsNarrow : Item → Type 0
 IsNarrow (Data width fs) = width ≤ 4
 IsNarrow _ = Unit {0}
 
@@ -120,7 +120,7 @@ data_counts : (width : ℕ) (names : Names) (p : Place) (fs : List (List ℕ)) �
 data_counts width names p fs h sound =
     length-values width (λ f. (data_value width (value_of names f)).value) fs h ∙ rw (values_form width names fs sound) refl
 
-item_counts : (names : Names) (p : Place) (item : Item) (bs : List ℕ) → IsNarrow item → Gives names p item bs → item_fault names p item ≡ None → length bs ≡ size_of p item
+pub item_counts : (names : Names) (p : Place) (item : Item) (bs : List ℕ) → IsNarrow item → Gives names p item bs → item_fault names p item ≡ None → length bs ≡ size_of p item
 item_counts names p _ _ narrow gives_nothing h = refl
 item_counts names p _ _ narrow (gives_instruction s ws x) h =
     stands_length names (address_at p) s ws x ∙ sym (statement_counts (address_at p) names s (stands_sound names (address_at p) s ws x))

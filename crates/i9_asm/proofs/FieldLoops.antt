@@ -1,5 +1,5 @@
 -- One turn of a loop over the values of a directive.
-use Rattle.std.proofs.Common.{◌≡◌, ℕ, ◌+◌, ◌*◌, Bool, true, false, cond, ltb, List, [], ◌∷◌, length, map, Option, Some, None, Bor, refl, ap, ◌∙◌, arith, inl, inr, ◌≤◌, lit≤, zero-add}
+use Rattle.std.proofs.Common.{◌≡◌, ℕ, ◌+◌, ◌*◌, Bool, true, false, cond, ltb, List, [], ◌∷◌, ◌++◌, length, map, Option, Some, None, Bor, refl, sym, ap, ◌∙◌, append_assoc, arith, inl, inr, ◌≤◌, lit≤, zero-add}
 use Rattle.std.specs.Prelude.{is_some}
 use Rattle.std.specs.List.{list_all, slice_split, flat_map}
 use Rattle.std.proofs.lemmas.Bool.{ltb-true, ltb-false, lt-ltb, le-ltb, cases_Bool}
@@ -85,3 +85,10 @@ data_fault-on width names fault f fs = least_assoc fault (data_value width (valu
 
 abbrev pub bytes_in : ℕ → Names → List (List ℕ) → List ℕ
 bytes_in width names fs = flat_map (λ f. low_bytes width (data_value width (value_of names f)).value) fs
+
+-- one value more
+pub bytes-on : (width : ℕ) (names : Names) (old new more total f : List ℕ) (fs left : List (List ℕ)) → left ≡ f ∷ fs → new ≡ old ++ more → more ≡ low_bytes width (data_value width (value_of names f)).value
+    → old ++ bytes_in width names left ≡ total → new ++ bytes_in width names fs ≡ total
+bytes-on width names old new more total f fs left split added is so_far =
+    ap (λ bs. bs ++ bytes_in width names fs) (added ∙ ap (λ bs. old ++ bs) is) ∙ append_assoc old (low_bytes width (data_value width (value_of names f)).value) (bytes_in width names fs)
+    ∙ ap (λ gs. old ++ bytes_in width names gs) (sym split) ∙ so_far

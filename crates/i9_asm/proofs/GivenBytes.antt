@@ -1,7 +1,6 @@
 -- Bytes of items, as the code appends them.
 use Rattle.std.proofs.Common.{◌≡◌, ℕ, zero, suc, ◌+◌, List, [], ◌∷◌, ◌++◌, Option, Some, None, Result, Ok, Err, OnOk, refl, sym, ap, subst, ◌∙◌, add-one, append_assoc, inl, inr}
 use Rattle.std.specs.Prelude.{is_some, IsSome, if◌then◌else◌}
-use Rattle.std.specs.Result.{is_ok}
 use Rattle.i9_isa.specs.declared.inst.Inst.{Inst}
 use Rattle.i9_statement.proofs.StatementWords.{one_or_two}
 use Rattle.std.specs.List.{flat_map}
@@ -16,13 +15,10 @@ use Rattle.i9_value.specs.Values.{Names, value_of}
 use Rattle.i9_statement.specs.Statements.{statement_of}
 use Rattle.i9_value.specs.Noted.{fine}
 use Rattle.i9_statement.specs.Codes.{IsCode, stands_one, stands_two}
-use Rattle.i9_asm.specs.declared.lines.Said as code
-use Rattle.i9_asm.specs.declared.lines.Said.TheVariants as said
-use Rattle.i9_asm.specs.Said.{item_as}
 use Rattle.i9_asm.specs.Lines.{Item, Data, Ascii, Space, Instruction}
 use Rattle.i9_asm.specs.Strings.{string_of}
 use Rattle.i9_asm.specs.Places.{Place, address_at, size_of}
-use Rattle.i9_asm.specs.Source.{zeros, low_bytes, data_value, item_fault, gives_nothing, gives_instruction, gives_data, gives_characters, gives_zeros, gives_move, gives_alignment, gives_assignment}
+use Rattle.i9_asm.specs.Source.{zeros, low_bytes, data_value, item_fault, Gives, gives_instruction, gives_data, gives_characters, gives_zeros}
 use Rattle.i9_asm.specs.Reading.{Adds, AddsWords}
 
 zeros-suc : (n : ℕ) → zeros n ++ 0 ∷ [] ≡ 0 ∷ zeros n
@@ -38,11 +34,6 @@ zeros-more n = rw add-one (zeros-suc n)
 pub on_ok : {X E P Q : Type 0} (r : Result X E) → OnOk r P → (P → Q) → OnOk r Q
 on_ok (Ok x) h f = f h
 on_ok (Err e) h f = tt
-
--- the same, of what a call wrote where it went well
-pub after_ok : {X E P : Type 0} (r : Result X E) (new here there : List ℕ) → new ≡ (if is_ok r then here else there) → (new ≡ here → P) → OnOk r P
-after_ok (Ok x) new here there e h = h e
-after_ok (Err x) new here there e h = tt
 
 -- ---- words
 
@@ -97,14 +88,5 @@ pub zeros_add : (names : Names) (p : Place) (f : List ℕ) (n : ℕ) (old new : 
 zeros_add names p f n old new item is size same = subst (λ i. Adds names p i old new) (sym is) (record { bytes = _; gives = gives_zeros f; same = same ∙ ap (λ k. old ++ zeros k) size })
 
 -- items without bytes
-pub nothing_adds : (names : Names) (p : Place) (x : code.Said) (old : List ℕ) → ((f : _) → x ≡ said.Space f → ⊥) → ((w f : _) → x ≡ said.Data w f → ⊥) → ((f : _) → x ≡ said.Ascii f → ⊥) → ((f : _) → x ≡ said.Instruction f → ⊥)
-    → item_fault names p (item_as x) ≡ None → Adds names p (item_as x) old old
-nothing_adds names p said.Empty old no_space no_data no_string no_code sound = record { bytes = []; gives = gives_nothing; same = sym (append-nil old) }
-nothing_adds names p (said.Bad f) old no_space no_data no_string no_code sound = absurd cc
-nothing_adds names p (said.Org f) old no_space no_data no_string no_code sound = record { bytes = []; gives = gives_move f.now; same = sym (append-nil old) }
-nothing_adds names p (said.Align f) old no_space no_data no_string no_code sound = record { bytes = []; gives = gives_alignment f.now; same = sym (append-nil old) }
-nothing_adds names p (said.Set n f) old no_space no_data no_string no_code sound = record { bytes = []; gives = gives_assignment n.now f.now; same = sym (append-nil old) }
-nothing_adds names p (said.Space f) old no_space no_data no_string no_code sound = absurd (no_space f refl)
-nothing_adds names p (said.Data w f) old no_space no_data no_string no_code sound = absurd (no_data w f refl)
-nothing_adds names p (said.Ascii f) old no_space no_data no_string no_code sound = absurd (no_string f refl)
-nothing_adds names p (said.Instruction f) old no_space no_data no_string no_code sound = absurd (no_code f refl)
+pub no_bytes : (names : Names) (p : Place) (item same : Item) (old : List ℕ) → item ≡ same → Gives names p same [] → Adds names p item old old
+no_bytes names p item same old is gives = subst (λ i. Adds names p i old old) (sym is) (record { bytes = []; gives = gives; same = sym (append-nil old) })

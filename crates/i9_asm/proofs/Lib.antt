@@ -11,3 +11,5 @@ pub mod TakenLines
 pub mod LaterNames
 pub mod CountedBytes
 pub mod SomeAnswer
+pub mod NumberedNames
+pub mod ReadNames

@@ -1,5 +1,5 @@
 -- What a line does, from what its parts do.
-use Rattle.std.proofs.Common.{◌≡◌, ℕ, ◌+◌, Bool, true, false, not, List, ◌++◌, Option, Some, None, Result, Ok, Err, refl, sym, ap, subst, ◌∙◌}
+use Rattle.std.proofs.Common.{◌≡◌, ℕ, ◌+◌, Bool, true, false, not, List, Option, Some, None, Result, Ok, Err, refl, sym, ap, subst, ◌∙◌}
 use Rattle.std.specs.Prelude.{is_some, if◌then◌else◌}
 use Rattle.std.specs.Option.{option_map}
 use Rattle.std.specs.List.{list_all}
@@ -8,38 +8,55 @@ use Rattle.i9_value.specs.declared.fault.Fault.TheVariants.{Form, NameTwice}
 use Rattle.i9_value.specs.Noted.{kind_of, least}
 use Rattle.i9_value.specs.Values.{Names, is_name}
 use Rattle.i9_asm.specs.declared.source.Source as code
+use Rattle.i9_asm.specs.declared.source.Grown as grown
 use Rattle.i9_asm.specs.declared.source.LineError.{LineError}
 use Rattle.i9_asm.specs.declared.source.LineError.TheVariants as lines
 use Rattle.i9_asm.specs.Lines.{Item, item_of, label_of}
-use Rattle.i9_asm.specs.Places.{Place, is_ascii, is_label, moved_to, size_of, past_item, effect_of}
-use Rattle.i9_asm.specs.Source.{Source, Gives, item_fault, fault_if, label_fault, front_fault, rest_fault, line_fault, labelled_source, begun, past_source}
-use Rattle.i9_asm.specs.Reading.{Adds, Grows, Continues, Takes, Faults, error_at, fault_place, IfBad}
+use Rattle.i9_asm.specs.Places.{Place, no_names, is_ascii, is_label, moved_to, size_of, past_item, effect_of}
+use Rattle.i9_asm.specs.Source.{Source, item_fault, fault_if, label_fault, front_fault, room_fault, rest_fault, line_fault, labelled_source, begun, past_source}
+use Rattle.i9_asm.specs.Reading.{source_at, GrowsBy, Grows, Continues, Takes, Faults, error_at, fault_place, IfBad}
 use Rattle.i9_asm.specs.Laws.{IsRefusedSource}
 
 -- ---- an item
+
+source_same : (t u : Source) → t.place ≡ u.place → t.segments ≡ u.segments → t.address ≡ u.address → t.bytes ≡ u.bytes → t.total ≡ u.total → t ≡ u
+source_same t u a b c d e = rw (a, b, c, d, e) refl
 
 begun_place : (moved : Option ℕ) (s : Source) → (begun moved s).place ≡ s.place
 begun_place None s = refl
 begun_place (Some a) s = refl
 
-source_same : (t u : Source) → t.place ≡ u.place → t.segments ≡ u.segments → t.address ≡ u.address → t.bytes ≡ u.bytes → t.total ≡ u.total → t ≡ u
-source_same t u a b c d e = rw (a, b, c, d, e) refl
-
 begun_total : (moved : Option ℕ) (s : Source) → (begun moved s).total ≡ s.total
 begun_total None s = refl
 begun_total (Some a) s = refl
 
--- where the segment was begun, bytes were added, and the place moved on
-pub grows : (names : Names) (s b t : Source) (item : Item) → b ≡ begun (moved_to s.place item) s → (item_fault names b.place item ≡ None → Adds names b.place item b.bytes t.bytes) → t.place ≡ past_item b.place item
-    → t.segments ≡ b.segments → t.address ≡ b.address → t.total ≡ b.total + size_of s.place item → item_fault names s.place item ≡ None → Grows names s item t
-grows names s b t item is adds place segments address total sound =
-    let here : b.place ≡ s.place = ap (λ u. u.place) is ∙ begun_place (moved_to s.place item) s in
-    let a = adds (subst (λ p. item_fault names p item ≡ None) (sym here) sound) in
+-- the fault for want of room, where the bytes of an item were added
+pub grown_room : (names : Names) (s : Source) (item : Item) (g : grown.Grown) → GrowsBy names s item g → room_fault (source_at no_names g.source) g.size ≡ room_fault s (size_of s.place item)
+grown_room names s item g by =
+    let moved = moved_to s.place item in
+    let location : g.source.location ≡ s.place.location = ap (λ (x : Source). x.place.location) by.same ∙ ap (λ (p : Place). p.location) (begun_place moved s) in
+    let total : g.source.total ≡ s.total = ap (λ (x : Source). x.total) by.same ∙ begun_total moved s in
+    rw (location, total, by.size) refl
+
+-- where the bytes of an item were added, and the location and the bytes are counted
+pub grows : (names : Names) (s : Source) (item : Item) (g : grown.Grown) (t : code.Source) (location : ℕ) → GrowsBy names s item g → g.fault ≡ None → location ≡ (past_item s.place item).location
+    → ((known : Names) → source_at known t ≡ record (source_at known g.source) { place = record { location = location; known = known }; total = g.source.total + g.size })
+    → Grows names s item (source_at (past_item s.place item).known t)
+grows names s item g t location by sound moved counted =
+    let known = (past_item s.place item).known in
+    let sound : item_fault names s.place item ≡ None = sym by.fault ∙ sound in
+    let a = by.adds sound in
+    let b = begun (moved_to s.place item) s in
+    let u = counted known in
     record {
       bytes = a.bytes;
-      gives = subst (λ p. Gives names p item a.bytes) here a.gives;
-      after = source_same t (past_source s (past_item s.place item) item a.bytes) (place ∙ ap (λ p. past_item p item) here) (segments ∙ ap (λ u. u.segments) is) (address ∙ ap (λ u. u.address) is)
-          (a.same ∙ ap (λ u. u.bytes ++ a.bytes) is) (total ∙ ap (λ u. u.total + size_of s.place item) is);
+      gives = a.gives;
+      after = source_same (source_at known t) (past_source s (past_item s.place item) item a.bytes)
+          (ap (λ (x : Source). x.place) u ∙ ap (λ (n : ℕ). record { location = n; known = known }) moved)
+          (ap (λ (x : Source). x.segments) u ∙ ap (λ (x : Source). x.segments) by.same)
+          (ap (λ (x : Source). x.address) u ∙ ap (λ (x : Source). x.address) by.same)
+          (ap (λ (x : Source). x.bytes) u ∙ a.same)
+          (ap (λ (x : Source). x.total) u ∙ ap (λ (x : Source). x.total + g.size) by.same ∙ ap (λ (n : ℕ). b.total + n) by.size);
     }
 
 -- ---- a line
@@ -93,7 +110,7 @@ takes_line names s u line front item r source said label h =
           bytes = h.1.bytes;
           sound = h.0;
           gives = h.1.gives;
-          after = h.1.after ∙ ap (λ i. past_source l (past_item l.place i) (item_of line) h.1.bytes) (sym (effect_is_item s.place line front));
+          after = ap (λ i. source_at (past_item l.place i).known t) (effect_is_item s.place line front) ∙ h.1.after ∙ ap (λ i. past_source l (past_item l.place i) (item_of line) h.1.bytes) (sym (effect_is_item s.place line front));
         }
 
 -- ---- a source

@@ -5,4 +5,5 @@ pub mod Source
 pub mod Listing
 pub mod Said
 pub mod Laws
+pub mod Numbered
 pub mod Reading

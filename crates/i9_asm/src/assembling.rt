@@ -3,36 +3,39 @@ ghost use Rattle.std.specs.Prelude.{◌≡◌, ℕ, List, IfOk, IfErr, Ok, Err};
 ghost use Rattle.std.specs.BTreeMap.{get_by_text};
 ghost use Rattle.i9_text.specs.Text.{lines_of};
 ghost use Rattle.i9_model.specs.Image.{Part};
-ghost use Rattle.i9_asm.specs.Places.{all_names};
+ghost use Rattle.i9_asm.specs.Places.{start_place};
+ghost use Rattle.i9_asm.specs.Numbered.{no_definitions, lines_entered};
 ghost use Rattle.i9_asm.specs.Laws.{IsAssembly, IsRefusedSource};
 ghost use Rattle.i9_asm.specs.Reading.{Answers, IfBad, fault_place};
 
 use crate::error::AsmError;
-use crate::places::Place;
+use crate::naming::Naming;
 use crate::source::Source;
 use i9_hex::Segments;
 use i9_isa::NoMemory;
 use i9_text::split_line;
-use i9_value::Names;
+use i9_value::Table;
 use std::alloc::{AllocError, Global};
 
-/// The values of the names of a source.
-fn names_of(alloc: Global, text: &[u8]) -> Result<Names, AllocError>
-    ensures { IfOk result (λ names. get_by_text names ≡ all_names (lines_of text.now)) }
+/// The names of a source with their definitions.
+fn table_of(alloc: Global, text: &[u8]) -> Result<Table, AllocError>
+    ensures { IfOk result (λ table. get_by_text table ≡ lines_entered start_place 0 (lines_of text.now) no_definitions) }
 {
-    let mut place = Place::new(alloc);
+    let mut naming = Naming::new(alloc);
+    let mut number = 0u64;
     let mut rest = Some(text);
     while let Some(lines) = rest {
         let (line, after) = split_line(lines);
-        place = place.with_line(alloc, line)?;
+        naming = naming.with_line(alloc, number, line)?;
+        number += 1;
         rest = after;
     }
-    Ok(place.known)
+    Ok(naming.table)
 }
 
-/// The segments of a source whose names have these values.
-fn segments_of(alloc: Global, names: &Names, text: &[u8]) -> Result<Segments, AsmError>
-    requires { get_by_text names.now ≡ all_names (lines_of text.now) }
+/// The segments of a source whose names have these definitions.
+fn segments_of(alloc: Global, table: &Table, text: &[u8]) -> Result<Segments, AsmError>
+    requires { get_by_text table.now ≡ lines_entered start_place 0 (lines_of text.now) no_definitions }
     ensures found { IfOk result (λ image. IsAssembly (lines_of text.now) image) }
     ensures refused { IfErr result (λ e. IfBad e (λ f. IsRefusedSource (lines_of text.now) (fault_place f))) }
 {
@@ -41,11 +44,11 @@ fn segments_of(alloc: Global, names: &Names, text: &[u8]) -> Result<Segments, As
     let mut rest = Some(text);
     while let Some(lines) = rest {
         let (line, after) = split_line(lines);
-        number += 1;
-        match source.with_line(alloc, names, line) {
+        match source.with_line(alloc, table, number, line) {
             Ok(next) => source = next,
-            Err(error) => return Err(error.at(number)),
+            Err(error) => return Err(error.at(number + 1)),
         }
+        number += 1;
         rest = after;
     }
     match source.finish() {
@@ -73,8 +76,8 @@ pub fn assemble(alloc: Global, text: &[u8]) -> Result<Segments, AsmError>
     // A source with a first fault is refused for it, unless memory runs out.
     ensures first { (fault : ℕ × ℕ) → IsRefusedSource (lines_of text.now) fault → Answers result (Err fault) }
 {
-    match names_of(alloc, text) {
-        Ok(names) => segments_of(alloc, &names, text),
+    match table_of(alloc, text) {
+        Ok(table) => segments_of(alloc, &table, text),
         Err(AllocError) => Err(AsmError::Memory),
     }
 }

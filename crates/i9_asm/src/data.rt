@@ -1,7 +1,7 @@
 //! The values of a directive.
-ghost use Rattle.std.specs.Prelude.{◌≡◌, ◌≤◌, ◌^◌, ◌*◌, ◌++◌, ℕ, length, is_some, OnOk, Some, if◌then◌else◌};
+ghost use Rattle.std.specs.Prelude.{◌≡◌, ◌≤◌, ◌^◌, ◌*◌, ◌++◌, ℕ, length, is_some, IfOk, OnOk, Some, if◌then◌else◌};
 ghost use Rattle.std.specs.List.{list_all, flat_map};
-ghost use Rattle.std.specs.BTreeMap.{get_by_text};
+ghost use Rattle.i9_value.specs.Known.{known_in};
 ghost use Rattle.i9_value.specs.Values.{value_of};
 ghost use Rattle.i9_statement.specs.Fields.{fields_left};
 ghost use Rattle.i9_asm.specs.Places.{no_names, if_holds};
@@ -10,8 +10,8 @@ ghost use Rattle.i9_asm.specs.Said.{bytes_of};
 
 use crate::lines::Width;
 use i9_statement::split_field;
-use i9_value::{Fault, Names, Noted, Value, least, settled, value_of};
-use std::alloc::{AllocError, Global};
+use i9_value::{Fault, Known, Noted, Value, least, settled, value_of};
+use std::alloc::AllocError;
 
 impl Width {
     /// How many bytes a value has.
@@ -60,17 +60,16 @@ fn data_value(width: Width, value: Option<Value>) -> Noted<u32>
 }
 
 /// How many bytes values count: none where one of them has no form of a value.
-pub(crate) fn data_size(alloc: Global, width: Width, text: &[u8]) -> u128
+pub(crate) fn data_size(width: Width, text: &[u8]) -> u128
     ensures small { result ≤ 2 ^ 65 }
     ensures size { result ≡ (if list_all (λ f. is_some (value_of no_names f)) (fields_left (Some text.entry))
         then bytes_of width * length (fields_left (Some text.entry)) else 0) }
 {
-    let names = Names::new(alloc);
     let mut size = 0u128;
     let mut rest = Some(text);
     while let Some(fields) = rest {
         let (field, after) = split_field(fields);
-        if value_of(&names, field).is_none() {
+        if value_of(Known::Nothing, field).is_none() {
             return 0;
         }
         size += width.bytes() as u128;
@@ -79,37 +78,26 @@ pub(crate) fn data_size(alloc: Global, width: Width, text: &[u8]) -> u128
     size
 }
 
-/// The least fault of values.
-pub(crate) fn data_fault(width: Width, names: &Names, text: &[u8]) -> Option<Fault>
-    ensures { result ≡ data_fault (bytes_of width) (get_by_text names.now) (fields_left (Some text.entry)) }
+/// Appends the bytes of values, and answers their least fault.
+pub(crate) fn add_data(
+    bytes: &mut Vec<u8>,
+    width: Width,
+    names: Known<'_>,
+    text: &[u8],
+) -> Result<Option<Fault>, AllocError>
+    ensures fault { IfOk result (λ f. f ≡ data_fault (bytes_of width) (known_in names.entry) (fields_left (Some text.entry))) }
+    ensures bytes { OnOk result (bytes.new.items ≡ bytes.old.items ++ flat_map
+        (λ f. low_bytes (bytes_of width) (data_value (bytes_of width) (value_of (known_in names.entry) f)).value)
+        (fields_left (Some text.entry))) }
 {
     let mut fault = None;
     let mut rest = Some(text);
     while let Some(fields) = rest {
         let (field, after) = split_field(fields);
-        fault = least(fault, data_value(width, value_of(names, field)).fault);
+        let read = data_value(width, value_of(names, field));
+        bytes.extend_from_slice(&read.value.to_le_bytes()[..width.bytes()])?;
+        fault = least(fault, read.fault);
         rest = after;
     }
-    fault
-}
-
-/// Appends the bytes of values.
-pub(crate) fn add_data(
-    bytes: &mut Vec<u8>,
-    width: Width,
-    names: &Names,
-    text: &[u8],
-) -> Result<(), AllocError>
-    ensures { OnOk result (bytes.new.items ≡ bytes.old.items ++ flat_map
-        (λ f. low_bytes (bytes_of width) (data_value (bytes_of width) (value_of (get_by_text names.now) f)).value)
-        (fields_left (Some text.entry))) }
-{
-    let mut rest = Some(text);
-    while let Some(fields) = rest {
-        let (field, after) = split_field(fields);
-        let value = data_value(width, value_of(names, field)).value;
-        bytes.extend_from_slice(&value.to_le_bytes()[..width.bytes()])?;
-        rest = after;
-    }
-    Ok(())
+    Ok(fault)
 }

@@ -1,31 +1,42 @@
 //! Items: their faults at a place, and their bytes.
-ghost use Rattle.std.specs.Prelude.{◌≡◌, ◌++◌, None, OnOk};
-ghost use Rattle.std.specs.BTreeMap.{get_by_text};
+ghost use Rattle.std.specs.Prelude.{◌≡◌, ◌++◌, None, IfOk, OnOk};
+ghost use Rattle.i9_value.specs.Known.{known_in};
 ghost use Rattle.i9_statement.specs.Statements.{statement_of};
 ghost use Rattle.i9_asm.specs.Said.{item_as, label_in};
+ghost use Rattle.i9_asm.specs.Lines.{Set, Ascii};
+ghost use Rattle.i9_asm.specs.Places.{no_names, start_place};
 ghost use Rattle.i9_asm.specs.Source.{zeros, label_fault, item_fault};
 ghost use Rattle.i9_asm.specs.Reading.{place_of, Adds, AddsWords};
 
-use crate::data::{add_data, data_fault};
+use crate::data::add_data;
 use crate::lines::Said;
 use crate::places::{Place, alignment_of, space_of};
 use crate::strings::{add_string, string_size};
 use i9_statement::{code_of, statement_of};
-use i9_value::{Fault, Names, is_name, least, lookup, settled, value_of};
+use i9_value::{Fault, Known, is_name, least, lookup, settled, value_of};
 use std::alloc::AllocError;
 
-/// Appends the words of a statement at an address, low bytes first.
-fn add_code(bytes: &mut Vec<u8>, ip: u32, names: &Names, text: &[u8]) -> Result<(), AllocError>
-    ensures { OnOk result ((statement_of ip (get_by_text names.now) text.now).fault ≡ None
-        → AddsWords (get_by_text names.now) ip text.now bytes.old.items bytes.new.items) }
+/// Appends the words of a statement at an address, low bytes first, where it has no fault, and answers the fault.
+fn add_code(
+    bytes: &mut Vec<u8>,
+    ip: u32,
+    names: Known<'_>,
+    text: &[u8],
+) -> Result<Option<Fault>, AllocError>
+    ensures fault { IfOk result (λ f. f ≡ (statement_of ip (known_in names.entry) text.now).fault) }
+    ensures words { OnOk result ((statement_of ip (known_in names.entry) text.now).fault ≡ None
+        → AddsWords (known_in names.entry) ip text.now bytes.old.items bytes.new.items) }
 {
     let read = statement_of(ip, names, text);
+    if read.fault.is_some() {
+        return Ok(read.fault);
+    }
     let code = code_of(&read.value);
     bytes.extend_from_slice(&code.first.to_le_bytes())?;
-    match code.second {
-        Some(second) => bytes.extend_from_slice(&second.to_le_bytes()),
-        None => Ok(()),
+    if let Some(second) = code.second {
+        bytes.extend_from_slice(&second.to_le_bytes())?;
     }
+    Ok(None)
 }
 
 /// Appends so many zeros.
@@ -38,7 +49,18 @@ fn add_zeros(bytes: &mut Vec<u8>, count: u32) -> Result<(), AllocError>
     Ok(())
 }
 
-impl Place {
+/// The fault of a text that is no string.
+fn string_fault(text: &[u8]) -> Option<Fault>
+    ensures { result ≡ item_fault no_names start_place (Ascii text.now) }
+{
+    if string_size(text).is_some() {
+        None
+    } else {
+        Some(Fault::Form)
+    }
+}
+
+impl Place<'_> {
     /// The fault of a name that is defined here, by a label or by `.set`.
     pub(crate) fn label_fault(&self, label: Option<&[u8]>) -> Option<Fault>
         ensures { result ≡ label_fault (label_in label.entry) (place_of self.now).known }
@@ -47,55 +69,49 @@ impl Place {
         if !is_name(name) {
             return Some(Fault::Form);
         }
-        if lookup(&self.known, name).is_some() {
+        if lookup(self.known, name).is_some() {
             Some(Fault::NameTwice)
         } else {
             None
         }
     }
 
-    /// The least fault of an item, where names have these values.
-    pub(crate) fn item_fault(&self, names: &Names, said: &Said<'_>) -> Option<Fault>
-        ensures { result ≡ item_fault (get_by_text names.now) (place_of self.now) (item_as said.now) }
+    /// The least fault of what `.set` says.
+    fn set_fault(&self, name: &[u8], field: &[u8]) -> Option<Fault>
+        ensures { result ≡ item_fault no_names (place_of self.now) (Set name.now field.now) }
     {
-        match *said {
-            Said::Empty => None,
-            Said::Bad(fault) => Some(fault),
-            Said::Org(field) => settled(value_of(&self.known, field)).fault,
-            Said::Space(field) => space_of(value_of(&self.known, field)).fault,
-            Said::Align(field) => alignment_of(value_of(&self.known, field)).fault,
-            Said::Set(name, field) => {
-                let value = settled(value_of(&self.known, field)).fault;
-                least(value, self.label_fault(Some(name)))
-            }
-            Said::Data(width, text) => data_fault(width, names, text),
-            Said::Ascii(text) => {
-                if string_size(text).is_some() {
-                    None
-                } else {
-                    Some(Fault::Form)
-                }
-            }
-            Said::Instruction(text) => statement_of(self.address(), names, text).fault,
-        }
+        let value = settled(value_of(self.known, field)).fault;
+        least(value, self.label_fault(Some(name)))
     }
 
-    /// Appends the bytes of an item, where names have these values.
+    /// Appends the bytes of an item, where names have these values, and answers its least fault.
     pub(crate) fn add_item(
         &self,
-        names: &Names,
+        names: Known<'_>,
         said: &Said<'_>,
         bytes: &mut Vec<u8>,
-    ) -> Result<(), AllocError>
-        ensures { OnOk result (item_fault (get_by_text names.now) (place_of self.now) (item_as said.now) ≡ None
-            → Adds (get_by_text names.now) (place_of self.now) (item_as said.now) bytes.old.items bytes.new.items) }
+    ) -> Result<Option<Fault>, AllocError>
+        ensures fault { IfOk result (λ f. f ≡ item_fault (known_in names.entry) (place_of self.now) (item_as said.now)) }
+        ensures bytes { OnOk result (item_fault (known_in names.entry) (place_of self.now) (item_as said.now) ≡ None
+            → Adds (known_in names.entry) (place_of self.now) (item_as said.now) bytes.old.items bytes.new.items) }
     {
         match *said {
-            Said::Instruction(text) => { add_code(bytes, self.address(), names, text) }
+            Said::Instruction(text) => add_code(bytes, self.address(), names, text),
             Said::Data(width, text) => add_data(bytes, width, names, text),
-            Said::Ascii(text) => add_string(bytes, text),
-            Said::Space(field) => add_zeros(bytes, space_of(value_of(&self.known, field)).value),
-            _ => Ok(()),
+            Said::Ascii(text) => {
+                add_string(bytes, text)?;
+                Ok(string_fault(text))
+            }
+            Said::Space(field) => {
+                let read = space_of(value_of(self.known, field));
+                add_zeros(bytes, read.value)?;
+                Ok(read.fault)
+            }
+            Said::Set(name, field) => Ok(self.set_fault(name, field)),
+            Said::Org(field) => Ok(settled(value_of(self.known, field)).fault),
+            Said::Align(field) => Ok(alignment_of(value_of(self.known, field)).fault),
+            Said::Bad(fault) => Ok(Some(fault)),
+            Said::Empty => Ok(None),
         }
     }
 }

@@ -14,6 +14,7 @@ mod error;
 mod items;
 mod laws;
 mod lines;
+mod naming;
 mod places;
 mod source;
 mod strings;
@@ -23,6 +24,8 @@ pub use error::{AsmError, AsmFault};
 pub use laws::{lines_give_what_they_count, listings_assemble, one_answer};
 pub use lines::{Line, Said, Width, read_line};
 
+#[cfg(test)]
+mod length_tests;
 #[cfg(test)]
 mod source_tests;
 #[cfg(test)]

@@ -1,7 +1,8 @@
 //! Sources: what each line adds, and the segments.
-ghost use Rattle.std.specs.Prelude.{◌≡◌, ◌≤◌, ◌^◌, ◌+◌, None, IfOk};
+ghost use Rattle.std.specs.Prelude.{◌≡◌, ◌<◌, ◌≤◌, ◌^◌, ◌+◌, ◌*◌, IfOk};
 ghost use Rattle.std.specs.BTreeMap.{get_by_text};
-ghost use Rattle.i9_asm.specs.Said.{item_as, label_in};
+ghost use Rattle.i9_value.specs.Values.{Names};
+ghost use Rattle.i9_asm.specs.Said.{item_as};
 ghost use Rattle.i9_asm.specs.Source.{most_bytes, fault_if};
 
 use crate::error::{AsmError, AsmFault};
@@ -9,7 +10,7 @@ use crate::lines::{Said, read_line};
 use crate::places::{Place, is_ascii};
 use i9_hex::Segments;
 use i9_isa::NoMemory;
-use i9_value::{Fault, Names, least};
+use i9_value::{Fault, Known, Table, least};
 use std::alloc::{AllocError, Global};
 
 /// How many addresses there are.
@@ -51,30 +52,41 @@ impl LineError {
     }
 }
 
-/// Where a source stands: the place, the segments that ended, the one that grows, and how many
+/// Where a source stands: the location, the segments that ended, the one that grows, and how many
 /// bytes were counted.
 #[derive(Drop)]
 pub(crate) struct Source {
-    place: Place,
+    location: u64,
     segments: Segments,
     address: u32,
     bytes: Vec<u8>,
     total: u32,
+    ghost low: { location < 2 ^ 33 },
     ghost few: { total ≤ most_bytes },
+}
+
+/// A source with the bytes of an item that aren't counted yet, the item's least fault, and how many bytes it counts.
+#[derive(Drop)]
+pub(crate) struct Grown {
+    source: Source,
+    fault: Option<Fault>,
+    size: u128,
 }
 
 impl Source {
     ghost use Rattle.i9_value.specs.Noted.{least};
-    ghost use Rattle.i9_asm.specs.Places.{size_of, past_label};
+    ghost use Rattle.i9_value.specs.Known.{known_in, values_of, values_before};
+    ghost use Rattle.i9_asm.specs.Lines.{label_of};
+    ghost use Rattle.i9_asm.specs.Places.{no_names, start_place, past_label, size_of, moved_to};
     ghost use Rattle.i9_asm.specs.Source.{start_source, item_fault, room_fault, rest_fault, begun, segments_of};
-    ghost use Rattle.i9_asm.specs.Reading.{place_of, source_of, Grows, Continues, Takes};
+    ghost use Rattle.i9_asm.specs.Reading.{place_of, source_at, GrowsBy, Continues, Takes};
 
     /// Before the first line.
     pub(crate) fn new(alloc: Global) -> Source
-        ensures { source_of result ≡ start_source }
+        ensures { source_at no_names result ≡ start_source }
     {
         Source {
-            place: Place::new(alloc),
+            location: 0,
             segments: Segments::new(alloc),
             address: 0,
             bytes: Vec::new(alloc),
@@ -82,59 +94,42 @@ impl Source {
         }
     }
 
-    /// The same behind a label.
-    fn with_label(self, alloc: Global, label: Option<&[u8]>) -> Result<Source, AllocError>
-        ensures { IfOk result (λ s. source_of s
-            ≡ record (source_of self) { place = past_label (label_in label.entry) (place_of self.place) }) }
+    /// The place there, where these names are known.
+    fn place<'a>(&self, known: Known<'a>) -> Place<'a>
+        ensures { place_of result ≡ (source_at (known_in known.entry) self.now).place }
     {
-        let Source {
-            place,
-            segments,
-            address,
-            bytes,
-            total,
-        } = self;
-        Ok(Source {
-            place: place.with_label(alloc, label)?,
-            segments,
-            address,
-            bytes,
-            total,
-        })
+        Place {
+            location: self.location,
+            known,
+        }
     }
 
     /// A new segment, where the location was moved.
     fn begun(self, alloc: Global, moved: Option<u64>) -> Result<Source, AllocError>
-        ensures { IfOk result (λ s. source_of s ≡ begun moved (source_of self)) }
+        ensures { IfOk result (λ s. (known : Names) → source_at known s ≡ begun moved (source_at known self)) }
     {
         let Some(location) = moved else {
             return Ok(self);
         };
-        let Source {
-            place,
-            mut segments,
-            address,
-            bytes,
-            total,
-        } = self;
-        if segments.push(address, bytes).is_err() {
+        let mut segments = self.segments;
+        if segments.push(self.address, self.bytes).is_err() {
             return Err(AllocError);
         }
         Ok(Source {
-            place,
+            location: self.location,
             segments,
             address: (location % 0x1_0000_0000) as u32,
             bytes: Vec::new(alloc),
-            total,
+            total: self.total,
         })
     }
 
     /// The fault of so many bytes more.
     fn room_fault(&self, size: u128) -> Option<Fault>
         requires { size ≤ 2 ^ 65 }
-        ensures { result ≡ room_fault (source_of self.now) size }
+        ensures { result ≡ room_fault (source_at no_names self.now) size }
     {
-        let range = self.place.location as u128 + size > ADDRESS_COUNT;
+        let range = self.location as u128 + size > ADDRESS_COUNT;
         let many = self.total as u128 + size > MOST_BYTES;
         least(
             fault_if(range, Fault::Range),
@@ -142,80 +137,113 @@ impl Source {
         )
     }
 
-    /// The source behind an item without fault, which counts so many bytes.
-    fn with_item(
+    /// The bytes of an item, in a new segment where it moves.
+    fn grown(
         self,
         alloc: Global,
-        names: &Names,
+        names: Known<'_>,
+        place: Place<'_>,
         said: &Said<'_>,
-        size: u128,
-    ) -> Result<Source, AllocError>
-        requires size { size ≡ size_of (place_of self.place) (item_as said.now) }
-        requires few { self.total + size ≤ most_bytes }
-        ensures { IfOk result (λ t. item_fault (get_by_text names.now) (place_of self.place) (item_as said.now) ≡ None
-            → Grows (get_by_text names.now) (source_of self) (item_as said.now) (source_of t)) }
+    ) -> Result<Grown, AllocError>
+        requires { (place_of place).location ≡ self.location }
+        ensures small { IfOk result (λ g. g.size ≤ 2 ^ 65) }
+        ensures grows { IfOk result (λ g. GrowsBy (known_in names.entry)
+            (source_at (place_of place.entry).known self) (item_as said.now) g) }
     {
-        let moved = self.place.moved_to(said);
+        let moved = place.moved_to(said);
         let Source {
-            place,
+            location,
             segments,
             address,
             mut bytes,
             total,
         } = self.begun(alloc, moved)?;
-        place.add_item(names, said, &mut bytes)?;
-        Ok(Source {
-            place: place.with_item(alloc, said)?,
+        let old = bytes.len();
+        let fault = place.add_item(names, said, &mut bytes)?;
+        let size = if fault.is_some() {
+            place.size_of(said)
+        } else {
+            (bytes.len() - old) as u128
+        };
+        let source = Source {
+            location,
             segments,
             address,
             bytes,
-            total: total + size as u32,
+            total,
+        };
+        Ok(Grown {
+            source,
+            fault,
+            size,
         })
+    }
+
+    /// The source at a location, with so many bytes counted.
+    fn counted(self, location: u64, size: u128) -> Source
+        requires low { location < 2 ^ 33 }
+        requires few { self.total + size ≤ most_bytes }
+        ensures { (known : Names) → source_at known result ≡ record (source_at known self)
+            { place = record { location = location; known = known }; total = self.total + size } }
+    {
+        Source {
+            location,
+            segments: self.segments,
+            address: self.address,
+            bytes: self.bytes,
+            total: self.total + size as u32,
+        }
     }
 
     /// Takes what a line says behind its label, where the line has this fault before.
     fn with_said(
         self,
         alloc: Global,
-        names: &Names,
+        names: Known<'_>,
+        behind: Known<'_>,
         front: Option<Fault>,
         said: &Said<'_>,
     ) -> Result<Source, LineError>
-        ensures { Continues (get_by_text names.now) (source_of self) (item_as said.now)
-            (least front (rest_fault (get_by_text names.now) (source_of self) (item_as said.now))) result }
+        ensures { Continues (known_in names.entry) (source_at (known_in behind.entry) self) (item_as said.now)
+            (least front (rest_fault (known_in names.entry) (source_at (known_in behind.entry) self) (item_as said.now))) result }
     {
-        let size = self.place.size_of(alloc, said);
-        let rest = least(self.place.item_fault(names, said), self.room_fault(size));
+        let place = self.place(behind);
+        let Ok(grown) = self.grown(alloc, names, place, said) else {
+            return Err(LineError::Memory);
+        };
+        let rest = least(grown.fault, grown.source.room_fault(grown.size));
         if let Some(fault) = least(front, rest) {
             return Err(LineError::Bad(fault));
         }
-        match self.with_item(alloc, names, said, size) {
-            Ok(next) => Ok(next),
-            Err(AllocError) => Err(LineError::Memory),
-        }
+        let location = place.next_location(place.moved_to(said), grown.size);
+        Ok(grown.source.counted(location, grown.size))
     }
 
-    /// Takes a line.
+    /// Takes a line with so many lines before it, where a table has the definitions of all names.
     pub(crate) fn with_line(
         self,
         alloc: Global,
-        names: &Names,
+        table: &Table,
+        number: u64,
         text: &[u8],
     ) -> Result<Source, LineError>
-        ensures { Takes (get_by_text names.now) (source_of self) text.now result }
+        requires { values_before (2 * number + 1) (get_by_text table.now) ≡ (past_label (label_of text.now)
+            (source_at (values_before (2 * number) (get_by_text table.now)) self).place).known }
+        ensures { Takes (values_of (get_by_text table.now)) (source_at (values_before (2 * number) (get_by_text table.now)) self)
+            text.now result }
     {
         let line = read_line(text);
+        let step = 2 * u128::from(number);
         let form = fault_if(!is_ascii(text), Fault::Form);
-        let front = least(form, self.place.label_fault(line.label));
-        match self.with_label(alloc, line.label) {
-            Ok(source) => source.with_said(alloc, names, front, &line.said),
-            Err(AllocError) => Err(LineError::Memory),
-        }
+        let here = self.place(Known::Before(table, step));
+        let front = least(form, here.label_fault(line.label));
+        let behind = Known::Before(table, step + 1);
+        self.with_said(alloc, Known::All(table), behind, front, &line.said)
     }
 
     /// The segments, at the end of the source.
     pub(crate) fn finish(self) -> Result<Segments, NoMemory>
-        ensures { IfOk result (λ image. image ≡ segments_of (source_of self)) }
+        ensures { IfOk result (λ image. (known : Names) → image ≡ segments_of (source_at known self)) }
     {
         let mut segments = self.segments;
         segments.push(self.address, self.bytes)?;

@@ -96,7 +96,7 @@ fn has_segments(alloc: Global, image: &Segments, wanted: &str) -> Result<bool, F
 }
 
 /// Whether the source of a row has its segments.
-fn is_assembled(alloc: Global, row: &str) -> Result<bool, Fail> {
+pub(crate) fn is_assembled(alloc: Global, row: &str) -> Result<bool, Fail> {
     let Some((wanted, lines)) = row.split_once(";") else {
         return Ok(false);
     };
@@ -467,7 +467,7 @@ const REFUSALS: &str = "2 1 mov 1, g4|frob|frob
 1 4 .byte x|.set x, 256|.set x, 1";
 
 /// Whether the source of a row is refused for its line and kind.
-fn is_refused_source(alloc: Global, row: &str) -> Result<bool, Fail> {
+pub(crate) fn is_refused_source(alloc: Global, row: &str) -> Result<bool, Fail> {
     let Some((line, rest)) = row.split_once(" ") else {
         return Ok(false);
     };

@@ -1,5 +1,8 @@
 //! Lines of a source, read by hand.
-use crate::{Said, Width, lines_give_what_they_count, listings_assemble, one_answer, read_line};
+use crate::{
+    AsmError, AsmFault, Said, Width, lines_give_what_they_count, listings_assemble, one_answer,
+    read_line,
+};
 use i9_value::Fault;
 use std::test::Fail;
 
@@ -56,5 +59,15 @@ fn reads_lines(rt: HostRuntime) -> Result<(), Fail> {
     lines_give_what_they_count();
     listings_assemble();
     one_answer();
+    Ok(())
+}
+
+#[test]
+fn tells_what_is_wrong(rt: HostRuntime) -> Result<(), Fail> {
+    let fault = AsmFault { line: 1, kind: 2 };
+    let bad = format!(in rt.alloc(); "{}", AsmError::Bad(fault))?;
+    assert_eq!(rt; bad.as_str(), "refused");
+    let memory = format!(in rt.alloc(); "{}", AsmError::Memory)?;
+    assert_eq!(rt; memory.as_str(), "no memory");
     Ok(())
 }

@@ -22,6 +22,7 @@ pub(crate) fn use_boot_bytes(m: &mut Memory)
     ensures memory { memory_of m.new ≡ with_boot_bytes (memory_of m.old) }
     ensures bytes { (memory_of m.new).bytes ≡ (memory_of m.old).bytes }
     ensures keeps { KeepsRoom m.old m.new }
+    ensures no_more { KeepsRoom m.new m.old }
 {
     let [a, b, c, d] = BOOT_BYTES;
     let bytes = [m.byte(a), m.byte(b), m.byte(c), m.byte(d)];
@@ -34,6 +35,7 @@ pub(crate) fn configure_all(m: &mut Memory, control: &[u32; CONTROL_WORDS])
     ensures memory { memory_of m.new ≡ configured (memory_of m.old) control.now }
     ensures bytes { (memory_of m.new).bytes ≡ (memory_of m.old).bytes }
     ensures keeps { KeepsRoom m.old m.new }
+    ensures no_more { KeepsRoom m.new m.old }
 {
     for region in 0..REGIONS {
         m.configure(region, control[FIRST_REGION_WORD + region as usize]);

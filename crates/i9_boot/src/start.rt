@@ -23,6 +23,7 @@ pub fn boot(m: &mut Memory) -> Setup
     ensures memory { memory_of m.new ≡ boot_memory (memory_of m.old) }
     ensures bytes { (memory_of m.new).bytes ≡ (memory_of m.old).bytes }
     ensures keeps { KeepsRoom m.old m.new }
+    ensures no_more { KeepsRoom m.new m.old }
 {
     use_boot_bytes(m);
     let setup = setup(m, m.word(FIRST_INSTRUCTION), m.word(PRCB_POINTER));
@@ -51,6 +52,7 @@ pub fn reinit(m: &mut Memory, w: &Watch, first: u32, prcb: u32) -> Result<Setup,
     ensures bytes { (memory_of m.new).bytes ≡ (memory_of m.old).bytes }
     ensures refused { OnErr result (memory_of m.new ≡ memory_of m.old) }
     ensures keeps { KeepsRoom m.old m.new }
+    ensures no_more { KeepsRoom m.new m.old }
 {
     if let Some(a) = tables_hazard(m, w, prcb) {
         return Err(a);

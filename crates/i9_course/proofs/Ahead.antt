@@ -10,7 +10,7 @@ use Rattle.i9_model.specs.declared.need.Need.{Need}
 use Rattle.i9_model.specs.State.{State}
 use Rattle.i9_model.specs.HeldFrames.{Cache, cache_after}
 use Rattle.i9_model.specs.Standing.{Standing, Meets, Refused, Faults, Runs, stands_at}
-use Rattle.i9_model.specs.Run.{Given, Kind, Instruction, Faulted, Entered, Interrupted, Reached, Blocked, Record, Next, next_by_standing, state_after}
+use Rattle.i9_model.specs.Run.{Given, Kind, Instruction, Faulted, Entered, Interrupted, Reached, Record, Next, next_by_standing, state_after}
 use Rattle.i9_model.specs.Turns.{CanIssue, last_issue, end_turn, waiting_until}
 use Rattle.i9_model.specs.Late.{Late, turns}
 use Rattle.i9_model.proofs.TurnWhole.{timed-issues}
@@ -81,7 +81,6 @@ late_only (Instruction i) a e = absurd (cc e)
 late_only (Entered x) a e = absurd (cc e)
 late_only (Interrupted c x) a e = absurd (cc e)
 late_only (Reached x u) a e = absurd (cc e)
-late_only (Blocked x b) a e = absurd (cc e)
 late_only (Faulted inst f) a e = by_kind (f.kind == ARITHMETIC) refl e
   where
     by_kind : (b : Bool) → (f.kind == ARITHMETIC) ≡ b → cond (not b) None (Some f.address) ≡ Some a

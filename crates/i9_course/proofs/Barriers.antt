@@ -4,10 +4,9 @@ use Rattle.std.specs.Prelude.{IsTrue}
 use Rattle.std.specs.List.{AllByRecursion}
 use Rattle.i9_model.specs.declared.need.Need.{Need}
 use Rattle.i9_model.specs.declared.need.TimedNeed.{TimedNeed}
-use Rattle.i9_model.specs.declared.run.End.{End}
 use Rattle.i9_model.specs.State.{State}
 use Rattle.i9_model.specs.HeldFrames.{Cache, sets_in, cache_after}
-use Rattle.i9_model.specs.Run.{Given, Kind, Instruction, Faulted, Entered, Interrupted, Reached, Blocked, Next, Does, Ends, Record}
+use Rattle.i9_model.specs.Run.{Given, Kind, Instruction, Faulted, Entered, Interrupted, Reached, Next, Does, Ends, Record, Finish}
 use Rattle.i9_model.specs.Turns.{Permits, CanIssue, IsTimed, TakesTurns, AreAllDone, last_issue, open_requests, issue_turn, end_turn, waiting_until}
 use Rattle.i9_model.specs.Needs.{is_barrier_name, writes_sfr}
 use Rattle.i9_model.specs.Late.{Late, turns}
@@ -103,7 +102,6 @@ need_unbound n c s (Faulted (Some i) fault) = refl
 need_unbound n c s (Entered e) = refl
 need_unbound n c s (Interrupted x e) = refl
 need_unbound n c s (Reached e u) = refl
-need_unbound n c s (Blocked e a) = refl
 
 next_unbound : (g : Given) (h : List Item) (o : Next) → (need_after g h o).not_before ≡ 0
 next_unbound g h (Does r) = need_unbound (sets_in g.sets r.before) (cache_after g (records_of h)) r.before r.kind
@@ -146,13 +144,12 @@ kind_barrier n c s (Faulted (Some i) fault) b =
 kind_barrier n c s (Entered e) b = refl
 kind_barrier n c s (Interrupted x e) b = refl
 kind_barrier n c s (Reached e u) b = refl
-kind_barrier n c s (Blocked e a) b = refl
 
 pub record_barrier : (g : Given) (h : List Item) (r : Record) → IsTrue (is_barrier_kind r.kind)
     → issue_of_next g h (Does r) ≡ end_turn (turns (course g h).late)
 record_barrier g h r b = next_barrier g h (Does r)
     (kind_barrier (sets_in g.sets r.before) (cache_after g (records_of h)) r.before r.kind b)
 
-pub end_barrier : (g : Given) (h : List Item) (f : End)
+pub end_barrier : (g : Given) (h : List Item) (f : Finish)
     → issue_of_next g h (Ends f) ≡ end_turn (turns (course g h).late)
 end_barrier g h f = next_barrier g h (Ends f) refl

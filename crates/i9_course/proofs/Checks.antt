@@ -12,7 +12,7 @@ use Rattle.i9_model.specs.Controls.{Control, KeepsControls, controlled}
 use Rattle.i9_model.specs.Step.{Action, faulting, moved, flagged, acted}
 use Rattle.i9_model.specs.Traced.{traced_action}
 use Rattle.i9_model.specs.HeldFrames.{Cache, sets_in, cache_after}
-use Rattle.i9_model.specs.Run.{Given, Kind, Instruction, Faulted, Entered, Interrupted, Reached, Blocked, Record, after_kind, faulted_words, state_after}
+use Rattle.i9_model.specs.Run.{Given, Kind, Instruction, Faulted, Entered, Interrupted, Reached, Record, after_kind, faulted_words, state_after}
 use Rattle.i9_model.specs.Turns.{CanIssue, IsTimed, last_issue, end_turn}
 use Rattle.i9_model.specs.Needs.{is_barrier_name}
 use Rattle.i9_model.specs.Late.{turns}
@@ -59,7 +59,6 @@ check_barrier n c s (Faulted inst fault) set =
 check_barrier n c s (Entered e) set = kind_barrier n c s (Entered e) refl
 check_barrier n c s (Interrupted x e) set = kind_barrier n c s (Interrupted x e) refl
 check_barrier n c s (Reached e u) set = kind_barrier n c s (Reached e u) refl
-check_barrier n c s (Blocked e a) set = kind_barrier n c s (Blocked e a) refl
 
 -- ---- behind a barrier
 

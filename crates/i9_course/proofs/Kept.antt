@@ -7,7 +7,7 @@ use Rattle.i9_model.specs.State.{State}
 use Rattle.i9_model.specs.Step.{moved, acted, entering, faulting, going}
 use Rattle.i9_model.specs.Before.{Received, interrupting, receiving}
 use Rattle.i9_model.specs.HeldFrames.{Cache}
-use Rattle.i9_model.specs.Run.{Kind, Instruction, Faulted, Entered, Interrupted, Reached, Blocked, faulted_words, after_kind}
+use Rattle.i9_model.specs.Run.{Kind, Instruction, Faulted, Entered, Interrupted, Reached, faulted_words, after_kind}
 use Rattle.i9_model.specs.Late.{resource, resources}
 use Rattle.i9_model.proofs.Outside.{instruction_keeps, fault_keeps, entry_keeps}
 use Rattle.i9_course.specs.NeedOf.{facts_of, need_of}
@@ -36,4 +36,3 @@ kind_keeps n c s (Faulted inst fault) r lt h = fault_keeps (faulted_words inst) 
 kind_keeps n c s (Entered e) r lt h = entry_keeps 0 e s r lt h
 kind_keeps n c s (Interrupted x e) r lt h = same_entry x e s r ∙ entry_keeps 0 e s r lt h
 kind_keeps n c s (Reached e u) r lt h = same_event u s r ∙ fault_keeps 0 s r
-kind_keeps n c s (Blocked e a) r lt h = same_blocked s r ∙ fault_keeps 0 s r

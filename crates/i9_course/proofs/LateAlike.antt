@@ -10,7 +10,7 @@ use Rattle.i9_model.specs.declared.need.Need.{Need}
 use Rattle.i9_model.specs.declared.need.TimedNeed.{TimedNeed}
 use Rattle.i9_model.specs.State.{State}
 use Rattle.i9_model.specs.HeldFrames.{Cache, sets_in, cache_after}
-use Rattle.i9_model.specs.Run.{Given, Kind, Instruction, Faulted, Entered, Interrupted, Reached, Blocked, Record, Next, Does, Ends, state_after}
+use Rattle.i9_model.specs.Run.{Given, Kind, Instruction, Faulted, Entered, Interrupted, Reached, Record, Next, Does, Ends, state_after}
 use Rattle.i9_model.specs.Turns.{HaveCosts, IsAlike, last_issue, issue_turn, waiting_until, with_need, timed}
 use Rattle.i9_model.specs.Needs.{has_access, moves_frames, is_barrier_name, writes_sfr, is_calm, cost_by, inst_need}
 use Rattle.i9_model.specs.Late.{Late, turns}
@@ -68,7 +68,6 @@ sets_alike n m c d s (Faulted (Some i) fault) = need_itself _ refl
 sets_alike n m c d s (Entered e) = record { barrier = refl; same = λ h. absurd (cc h); wait = λ h. refl }
 sets_alike n m c d s (Interrupted x e) = record { barrier = refl; same = λ h. absurd (cc h); wait = λ h. refl }
 sets_alike n m c d s (Reached e u) = need_itself _ refl
-sets_alike n m c d s (Blocked e a) = need_itself _ refl
 
 ahead_alike : (asked other : Option ℕ) (c d : Cache) (o : Next) → IsAlike (need_ahead asked c o) (need_ahead other d o)
 ahead_alike asked other c d (Does r) = sets_alike (sets_in asked r.before) (sets_in other r.before) c d r.before r.kind

@@ -6,11 +6,10 @@ use Rattle.std.proofs.lemmas.Bool.Decides.{nat_tests}
 use Rattle.i9_model.specs.declared.event.Event.{Event}
 use Rattle.i9_model.specs.declared.run.Due.{Due}
 use Rattle.i9_model.specs.declared.run.Due.TheVariants as dues
-use Rattle.i9_model.specs.declared.run.End.{End}
 use Rattle.i9_model.specs.declared.run.End.TheVariants.{Limit, Imprecise}
 use Rattle.i9_model.specs.State.{State}
 use Rattle.i9_model.specs.Before.{choice_in}
-use Rattle.i9_model.specs.Run.{Given, Kind, Instruction, Faulted, Entered, Interrupted, Reached, Blocked, Record, Ends, counts_of, action_by_kind, Next, Does, due_by, due_after, next_by_choice, next_in, next_with, state_after, IsPastOfSome}
+use Rattle.i9_model.specs.Run.{Given, Kind, Instruction, Faulted, Entered, Interrupted, Reached, Record, Ends, counts_of, action_by_kind, Next, Does, due_by, due_after, next_by_choice, next_in, next_with, state_after, IsPastOfSome, Finish, finish}
 use Rattle.i9_model.proofs.ControlLaws.{acted-count}
 use Rattle.i9_model.proofs.Comes.{MayCome, next_comes}
 use Rattle.i9_model.proofs.Ends.{some_within}
@@ -42,7 +41,6 @@ kind_below limit due stands s u (Faulted inst f) le may = inl (below s.count lim
 kind_below limit due stands s u (Entered e) le may = inr (refl, refl)
 kind_below limit due stands s u (Interrupted c e) le may = inl (below s.count limit le may.1)
 kind_below limit due stands s u (Reached e x) le may = inl (below s.count limit le may.1)
-kind_below limit due stands s u (Blocked e a) le may = inl (below s.count limit le may.1)
 
 at_most : (a b : ℕ) → a ≤ b → (a < b) ⊎ (a ≡ b)
 at_most a b le = grind arith
@@ -71,13 +69,13 @@ last_below g rs r past =
 
 -- where the run does not end there by its length, it is below it
 ends_there : (g : Given) (stands : Option Event) (rs : List Record) (r : Record) → due_after (r ∷ rs) ≡ dues.Nothing
-    → r.after.count ≡ g.length → next_with g stands (r ∷ rs) ≡ Ends Limit
+    → r.after.count ≡ g.length → next_with g stands (r ∷ rs) ≡ Ends (finish Limit)
 ends_there g stands rs r none at =
     let test : eqb r.after.count g.length ≡ true = grind (arith, nat_tests, at) in
     ap (λ (due : Due). next_in g.length due stands r.after) none
-    ∙ ap (λ (b : Bool). cond b (Ends Limit) (next_by_choice stands r.after (choice_in r.after))) test
+    ∙ ap (λ (b : Bool). cond b (Ends (finish Limit)) (next_by_choice stands r.after (choice_in r.after))) test
 
-goes_below : (g : Given) (rs : List Record) (r : Record) → IsLatePast g (r ∷ rs) → comes_next g (steps (r ∷ rs)) ≢ Ends Limit
+goes_below : (g : Given) (rs : List Record) (r : Record) → IsLatePast g (r ∷ rs) → comes_next g (steps (r ∷ rs)) ≢ Ends (finish Limit)
     → (state_after g rs).count < g.length
 goes_below g rs r late other = elim (last_below g rs r (late_events g (r ∷ rs) late)) [
   | inl lt ↦ lt
@@ -105,7 +103,7 @@ imprecise_more g more rs longer lt =
     ∙ lt-ltb n more (omega (arith, longer, lt)) ∙ sym (lt-ltb n g.length lt))
 
 -- what comes next but for the end of the length comes next at a greater one
-comes_more : (g : Given) (more : ℕ) (rs : List Record) (x : Next) → g.length ≤ more → IsLatePast g rs → x ≢ Ends Limit
+comes_more : (g : Given) (more : ℕ) (rs : List Record) (x : Next) → g.length ≤ more → IsLatePast g rs → x ≢ Ends (finish Limit)
     → comes_next g (steps rs) ≡ x → comes_next (at_length g more) (steps rs) ≡ x
 comes_more g more rs x longer late other e =
     let k = at_length g more in
@@ -115,7 +113,7 @@ comes_more g more rs x longer late other e =
     ∙ ap (λ (s : State). next_in more (due_after qs) (event_ahead g h) s) (state_by g k qs refl)
     ∙ next_longer g.length more (due_after qs) (event_ahead g h) (state_after g qs) x (some_within g qs (course_events g h late)) longer other e
 
-no_limit : (r : Record) → Does r ≢ Ends Limit
+no_limit : (r : Record) → Does r ≢ Ends (finish Limit)
 no_limit r same = cc same
 
 -- all records but the last are done late at it
@@ -164,20 +162,20 @@ late_longer g more rs r longer late h =
 
 -- ---- runs
 
-limit_no : (e : End) → e ≢ Limit → Ends e ≢ Ends Limit
-limit_no e other h = other (let same : e ≡ Limit = cc in same)
+limit_no : (e : Finish) → e.end ≢ Limit → Ends e ≢ Ends (finish Limit)
+limit_no e other h = other (let same : e ≡ finish Limit = cc in ap (λ (f : Finish). f.end) same)
 
 -- all records are done late at the greater length
-past_ended : (g : Given) (more : ℕ) (rs : List Record) (e : End) → g.length ≤ more → e ≢ Limit
-    → is_imprecise e ≡ false → IsLateRun g rs e → IsLatePast (at_length g more) rs
+past_ended : (g : Given) (more : ℕ) (rs : List Record) (e : Finish) → g.length ≤ more → e.end ≢ Limit
+    → is_imprecise e.end ≡ false → IsLateRun g rs e → IsLatePast (at_length g more) rs
 past_ended g more [] e longer other plain run = tt
 past_ended g more (r ∷ rs) e longer other plain run =
     let ends = (run_ends g (r ∷ rs) e plain run).1 in
     let lt = goes_below g rs r run.past (λ no. limit_no e other (sym ends ∙ no)) in
     last_more g more rs r longer run.past (imprecise_more g more rs longer lt ∙ run.past.1)
 
-pub ended_more : (g : Given) (more : ℕ) (rs : List Record) (e : End) → g.length ≤ more → e ≢ Limit
-    → is_imprecise e ≡ false → IsLateRun g rs e
+pub ended_more : (g : Given) (more : ℕ) (rs : List Record) (e : Finish) → g.length ≤ more → e.end ≢ Limit
+    → is_imprecise e.end ≡ false → IsLateRun g rs e
     → (IsLateRun (at_length g more) rs e ↔ imprecise_at (at_length g more) (steps rs) ≡ None)
 ended_more g more rs e longer other plain run =
     let k = at_length g more in (
@@ -186,28 +184,28 @@ ended_more g more rs e longer other plain run =
           (comes_more g more rs (Ends e) longer run.past (limit_no e other) (run_ends g rs e plain run).1),
     )
 
-pub ended_longer : (g : Given) (more : ℕ) (rs : List Record) (e : End) → g.length ≤ more → e ≢ Limit
-    → is_imprecise e ≡ false → IsLateRun g rs e → (last_fault rs ≡ None) ⊎ ((state_after g rs).count < g.length)
+pub ended_longer : (g : Given) (more : ℕ) (rs : List Record) (e : Finish) → g.length ≤ more → e.end ≢ Limit
+    → is_imprecise e.end ≡ false → IsLateRun g rs e → (last_fault rs ≡ None) ⊎ ((state_after g rs).count < g.length)
     → IsLateRun (at_length g more) rs e
 ended_longer g more rs e longer other plain run h =
     (ended_more g more rs e longer other plain run).1
     (precise_more g more rs longer run.past (run_ends g rs e plain run).0 h)
 
-pub faulted_more : (g : Given) (more : ℕ) (rs : List Record) (e : End) (a : ℕ) → g.length ≤ more → e ≢ Limit
-    → is_imprecise e ≡ false → IsLateRun g rs e → imprecise_at (at_length g more) (steps rs) ≡ Some a
-    → IsLateRun (at_length g more) rs (Imprecise a)
+pub faulted_more : (g : Given) (more : ℕ) (rs : List Record) (e : Finish) (a : ℕ) → g.length ≤ more → e.end ≢ Limit
+    → is_imprecise e.end ≡ false → IsLateRun g rs e → imprecise_at (at_length g more) (steps rs) ≡ Some a
+    → IsLateRun (at_length g more) rs (finish (Imprecise a))
 faulted_more g more rs e a longer other plain run is =
     imprecise_run (at_length g more) rs a (past_ended g more rs e longer other plain run) is
 
 -- an imprecise fault is below the length
-pub imprecise_below : (g : Given) (rs : List Record) (a : ℕ) → IsLateRun g rs (Imprecise a)
+pub imprecise_below : (g : Given) (rs : List Record) (a : ℕ) → IsLateRun g rs (finish (Imprecise a))
     → (state_after g rs).count < g.length
 imprecise_below g rs a run =
     subst (λ (qs : List Record). (state_after g qs).count < g.length) (records_of-steps rs)
     (imprecise_overtaken g (steps rs) a (run_imprecise g rs a run)).1
 
 pub imprecise_run_more : (g : Given) (more : ℕ) (rs : List Record) (a : ℕ) → g.length ≤ more
-    → IsLateRun g rs (Imprecise a) → IsLateRun (at_length g more) rs (Imprecise a)
+    → IsLateRun g rs (finish (Imprecise a)) → IsLateRun (at_length g more) rs (finish (Imprecise a))
 imprecise_run_more g more rs a longer run =
     let lt = imprecise_below g rs a run in
     imprecise_run (at_length g more) rs a (below_more g more rs longer lt run.past)

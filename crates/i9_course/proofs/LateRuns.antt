@@ -1,12 +1,11 @@
 -- A run whose results land late is a run of the events that it reached, as far as it goes; it goes on to its end, and it
 -- is the only one.
-use Rattle.std.proofs.Common.{◌≡◌, ◌≢◌, ℕ, ◌≤◌, Bool, true, false, cond, List, [], ◌∷◌, ◌++◌, length, Option, Some, None, refl, sym, ap, ◌∙◌, subst}
-use Rattle.i9_model.specs.declared.run.End.{End}
+use Rattle.std.proofs.Common.{◌≡◌, ◌≢◌, ℕ, ◌≤◌, Bool, true, false, cond, List, [], ◌∷◌, ◌++◌, length, Option, Some, None, refl, sym, ap, ◌∙◌, subst, ◌⊎◌, inl, inr}
 use Rattle.i9_model.specs.declared.run.End.TheVariants.{Imprecise}
 use Rattle.i9_model.specs.ScheduleText.{IsByCounts}
-use Rattle.i9_model.specs.Run.{Given, Record, Next, Does, Ends, state_after, reached_after, next_with, next, IsPast, IsPastOf, IsPastOfSome, IsRun}
+use Rattle.i9_model.specs.Run.{Given, Record, Next, Does, Ends, state_after, reached_after, next_with, next, IsPast, IsPastOf, IsPastOfSome, IsRun, Finish, finish, reached_in}
 use Rattle.i9_model.proofs.Ends.{IsByPlan, some_within, goes_on, run_goes_on}
-use Rattle.i9_model.proofs.Heedful.{with_plan, past_of_events, end_of_events}
+use Rattle.i9_model.proofs.Heedful.{with_plan, past_of_events, past_to_end, end_of_events}
 use Rattle.i9_model.proofs.Left.{IsAtPlace, standing_by_place}
 use Rattle.i9_model.proofs.Unique.{one_past, one_end, same_records}
 use Rattle.i9_course.proofs.Orderly.{course_events, counted_next, counted_past}
@@ -71,45 +70,64 @@ late_of_past g k (r ∷ rs) precise counted past late =
 
 -- ---- its end
 
-not_both : (a : ℕ) (e : End) → ◌≡◌ {A = Option End} (Some (Imprecise a)) (Some e) → is_imprecise e ≢ false
+not_both : (a : ℕ) (e : Finish) → ◌≡◌ {A = Option Finish} (Some (finish (Imprecise a))) (Some e) → is_imprecise e.end ≢ false
 not_both a e h plain =
-    let same : Imprecise a ≡ e = cc in
-    let is : true ≡ false = ap is_imprecise same ∙ plain in
+    let same : finish (Imprecise a) ≡ e = cc in
+    let is : true ≡ false = ap (λ (f : Finish). is_imprecise f.end) same ∙ plain in
     cc is
 
-ended_only : (o : Option ℕ) (x : Next) (e : End) → is_imprecise e ≡ false → finish_by o x ≡ Some e
+ended_only : (o : Option ℕ) (x : Next) (e : Finish) → is_imprecise e.end ≡ false → finish_by o x ≡ Some e
     → (o ≡ None) × (x ≡ Ends e)
 ended_only (Some a) x e plain h = absurd (not_both a e h plain)
 ended_only None (Does r) e plain h = absurd (cc h)
 ended_only None (Ends f) e plain h = let same : f ≡ e = cc in (refl, ap Ends same)
 
-imprecise_by : (o : Option ℕ) (x : Next) (a : ℕ) → ((f : End) → x ≡ Ends f → is_imprecise f ≡ false)
-    → finish_by o x ≡ Some (Imprecise a) → o ≡ Some a
-imprecise_by (Some b) x a plain h = let same : b ≡ a = cc in ap Some same
+imprecise_by : (o : Option ℕ) (x : Next) (a : ℕ) → ((f : Finish) → x ≡ Ends f → is_imprecise f.end ≡ false)
+    → finish_by o x ≡ Some (finish (Imprecise a)) → o ≡ Some a
+imprecise_by (Some b) x a plain h =
+    let same : finish (Imprecise b) ≡ finish (Imprecise a) = cc in
+    let one : Imprecise b ≡ Imprecise a = ap (λ (f : Finish). f.end) same in
+    let at : b ≡ a = cc in
+    ap Some at
 imprecise_by None (Does r) a plain h = absurd (cc h)
 imprecise_by None (Ends f) a plain h = absurd (not_both a f (sym h) (plain f refl))
 
+-- an end is no imprecise fault, or it is one by itself
+finish_cases : (o : Option ℕ) (x : Next) (f : Finish) → ((k : Finish) → x ≡ Ends k → is_imprecise k.end ≡ false)
+    → finish_by o x ≡ Some f → (is_imprecise f.end ≡ false) ⊎ ((a : ℕ) × (f ≡ finish (Imprecise a)) × (o ≡ Some a))
+finish_cases (Some a) x f plain h = let same : finish (Imprecise a) ≡ f = cc in inr (a, sym same, refl)
+finish_cases None (Does r) f plain h = absurd (cc h)
+finish_cases None (Ends k) f plain h =
+    let same : k ≡ f = cc in
+    inl (ap (λ (x : Finish). is_imprecise x.end) (sym same) ∙ plain k refl)
+
+pub run_cases : (g : Given) (rs : List Record) (f : Finish) → IsLateRun g rs f
+    → (is_imprecise f.end ≡ false) ⊎ ((a : ℕ) × (f ≡ finish (Imprecise a)) × (imprecise_at g (steps rs) ≡ Some a))
+run_cases g rs f run =
+    finish_cases (imprecise_at g (steps rs)) (comes_next g (steps rs)) f
+    (λ k is. next_plain g (event_ahead g (steps rs)) rs k (sym (next_of_steps g rs) ∙ is)) run.ends
+
 -- where that is imprecise, a fault is
-pub run_imprecise : (g : Given) (rs : List Record) (a : ℕ) → IsLateRun g rs (Imprecise a)
+pub run_imprecise : (g : Given) (rs : List Record) (a : ℕ) → IsLateRun g rs (finish (Imprecise a))
     → imprecise_at g (steps rs) ≡ Some a
 run_imprecise g rs a run =
     imprecise_by (imprecise_at g (steps rs)) (comes_next g (steps rs)) a
     (λ f is. next_plain g (event_ahead g (steps rs)) rs f (sym (next_of_steps g rs) ∙ is)) run.ends
 
 pub fault_ends : (g : Given) (rs : List Record) (a : ℕ) → imprecise_at g (steps rs) ≡ Some a
-    → finish_after g rs ≡ Some (Imprecise a)
+    → finish_after g rs ≡ Some (finish (Imprecise a))
 fault_ends g rs a is = ap (λ (o : Option ℕ). finish_by o (comes_next g (steps rs))) is
 
 pub imprecise_run : (g : Given) (rs : List Record) (a : ℕ) → IsLatePast g rs → imprecise_at g (steps rs) ≡ Some a
-    → IsLateRun g rs (Imprecise a)
+    → IsLateRun g rs (finish (Imprecise a))
 imprecise_run g rs a late is = record { past = late; ends = fault_ends g rs a is }
 
 -- where it is not, it is what comes next
-pub run_ends : (g : Given) (rs : List Record) (e : End) → is_imprecise e ≡ false → IsLateRun g rs e
+pub run_ends : (g : Given) (rs : List Record) (e : Finish) → is_imprecise e.end ≡ false → IsLateRun g rs e
     → (imprecise_at g (steps rs) ≡ None) × (comes_next g (steps rs) ≡ Ends e)
 run_ends g rs e plain run = ended_only (imprecise_at g (steps rs)) (comes_next g (steps rs)) e plain run.ends
 
-pub precise_run : (g : Given) (rs : List Record) (e : End) → IsLatePast g rs → imprecise_at g (steps rs) ≡ None
+pub precise_run : (g : Given) (rs : List Record) (e : Finish) → IsLatePast g rs → imprecise_at g (steps rs) ≡ None
     → comes_next g (steps rs) ≡ Ends e → IsLateRun g rs e
 precise_run g rs e late none is = record {
   past = late;
@@ -117,14 +135,14 @@ precise_run g rs e late none is = record {
 }
 
 -- and a run of the events that were reached
-pub late_run : (g : Given) (rs : List Record) (e : End) → is_imprecise e ≡ false → IsLateRun g rs e
-    → IsRun (with_plan g (reached_after rs)) rs e
+pub late_run : (g : Given) (rs : List Record) (e : Finish) → is_imprecise e.end ≡ false → IsLateRun g rs e
+    → IsRun (with_plan g (reached_in g rs e)) rs e
 late_run g rs e plain run = record {
-  past = late_past g rs run.past;
+  past = past_to_end g rs e (late_events g rs run.past);
   ends = end_of_events g rs e (event_ahead g (steps rs)) (sym (next_of_steps g rs) ∙ (run_ends g rs e plain run).1);
 }
 
-pub counted_run : (g : Given) (rs : List Record) (e : End) → IsByCounts g.plan → is_imprecise e ≡ false → IsLateRun g rs e
+pub counted_run : (g : Given) (rs : List Record) (e : Finish) → IsByCounts g.plan → is_imprecise e.end ≡ false → IsLateRun g rs e
     → IsRun g rs e
 counted_run g rs e counted plain run = record {
   past = late_counted g rs counted run.past;
@@ -132,14 +150,14 @@ counted_run g rs e counted plain run = record {
 }
 
 -- its records are the first of that run
-pub late_first : (g : Given) (rs qs : List Record) (e : End) (f : End) → IsRun (with_plan g (reached_after qs)) rs e
+pub late_first : (g : Given) (rs qs : List Record) (e : Finish) (f : Finish) → IsRun (with_plan g (reached_after qs)) rs e
     → IsLateRun g qs f → (more : List Record) × (more ++ qs ≡ rs)
 late_first g rs qs e f run late =
     let k = with_plan g (reached_after qs) in
     let on = run_goes_on k qs (late_past g qs late.past) in
     (on.0, same_records k (on.0 ++ qs) rs on.1 e on.2 run)
 
-pub counted_first : (g : Given) (rs qs : List Record) (e : End) (f : End) → IsByCounts g.plan → IsRun g rs e → IsLateRun g qs f
+pub counted_first : (g : Given) (rs qs : List Record) (e : Finish) (f : Finish) → IsByCounts g.plan → IsRun g rs e → IsLateRun g qs f
     → (more : List Record) × (more ++ qs ≡ rs)
 counted_first g rs qs e f counted run late =
     let on = run_goes_on g qs (late_counted g qs counted late.past) in
@@ -160,7 +178,7 @@ none_late g [] counted none past = tt
 none_late g (r ∷ rs) counted none past =
     with_step g rs r (none_late g rs counted none.1 past.0) (none_precise g rs none.1) (steps_counted g rs counted ∙ past.1)
 
-pub none_run : (g : Given) (rs : List Record) (e : End) → IsByCounts g.plan → HaveNoLateFault rs → IsRun g rs e
+pub none_run : (g : Given) (rs : List Record) (e : Finish) → IsByCounts g.plan → HaveNoLateFault rs → IsRun g rs e
     → IsLateRun g rs e
 none_run g rs e counted none run =
     precise_run g rs e (none_late g rs counted none run.past) (none_precise g rs none)
@@ -169,7 +187,7 @@ none_run g rs e counted none run =
 -- ---- what comes next of a late run: an imprecise fault ends it
 
 abbrev comes_by : Option ℕ → Next → Next
-comes_by (Some a) o = Ends (Imprecise a)
+comes_by (Some a) o = Ends (finish (Imprecise a))
 comes_by None o = o
 
 abbrev comes_late : Given → List Record → Next
@@ -179,13 +197,13 @@ does_only : (o : Option ℕ) (x : Next) (r : Record) → comes_by o x ≡ Does r
 does_only (Some a) x r h = absurd (cc h)
 does_only None x r h = (refl, h)
 
-ends_only : (o : Option ℕ) (x : Next) (f : End) → comes_by o x ≡ Ends f → finish_by o x ≡ Some f
-ends_only (Some a) x f h = let same : Imprecise a ≡ f = cc in ap Some same
+ends_only : (o : Option ℕ) (x : Next) (f : Finish) → comes_by o x ≡ Ends f → finish_by o x ≡ Some f
+ends_only (Some a) x f h = let same : finish (Imprecise a) ≡ f = cc in ap Some same
 ends_only None (Does r) f h = absurd (cc h)
 ends_only None (Ends e) f h = let same : e ≡ f = cc in ap Some same
 
-finish_only : (o : Option ℕ) (x : Next) (f : End) → finish_by o x ≡ Some f → comes_by o x ≡ Ends f
-finish_only (Some a) x f h = let same : Imprecise a ≡ f = cc in ap Ends same
+finish_only : (o : Option ℕ) (x : Next) (f : Finish) → finish_by o x ≡ Some f → comes_by o x ≡ Ends f
+finish_only (Some a) x f h = let same : finish (Imprecise a) ≡ f = cc in ap Ends same
 finish_only None (Does r) f h = absurd (cc h)
 finish_only None (Ends e) f h = let same : e ≡ f = cc in ap Ends same
 
@@ -211,7 +229,7 @@ by_plan g rs r e =
     (event_ahead g (steps rs), there, sym (next_of_steps g rs) ∙ both.1)
 
 pub late_goes_on : (g : Given) (rs : List Record) → IsLatePast g rs
-    → (more : List Record) × (f : End) × IsLateRun g (more ++ rs) f
+    → (more : List Record) × (f : Finish) × IsLateRun g (more ++ rs) f
 late_goes_on g rs late =
     let on = goes_on g (comes_late g) (by_plan g) rs (past_of_late g rs late) in
     let qs = on.0 ++ rs in
@@ -220,19 +238,19 @@ late_goes_on g rs late =
 
 -- ---- there is one
 
-comes_ends : (g : Given) (rs : List Record) (f : End) → IsLateRun g rs f → comes_late g rs ≡ Ends f
+comes_ends : (g : Given) (rs : List Record) (f : Finish) → IsLateRun g rs f → comes_late g rs ≡ Ends f
 comes_ends g rs f run = finish_only (imprecise_at g (steps rs)) (comes_next g (steps rs)) f run.ends
 
-pub late_records : (g : Given) (rs qs : List Record) (e f : End) → IsLateRun g rs e → IsLateRun g qs f → rs ≡ qs
+pub late_records : (g : Given) (rs qs : List Record) (e f : Finish) → IsLateRun g rs e → IsLateRun g qs f → rs ≡ qs
 late_records g rs qs e f a b =
     one_past (comes_late g) rs qs e f (past_of_late g rs a.past) (comes_ends g rs e a) (past_of_late g qs b.past) (comes_ends g qs f b)
 
-pub late_end : (g : Given) (rs qs : List Record) (e f : End) → IsLateRun g rs e → IsLateRun g qs f → e ≡ f
+pub late_end : (g : Given) (rs qs : List Record) (e f : Finish) → IsLateRun g rs e → IsLateRun g qs f → e ≡ f
 late_end g rs qs e f a b =
     one_end (comes_late g) rs qs e f (past_of_late g rs a.past) (comes_ends g rs e a) (past_of_late g qs b.past) (comes_ends g qs f b)
 
 -- nothing is done behind the end
-pub none_behind : (g : Given) (rs : List Record) (q : Record) (f : End) → IsLateRun g rs f
+pub none_behind : (g : Given) (rs : List Record) (q : Record) (f : Finish) → IsLateRun g rs f
     → ¬ IsLatePast g (q ∷ rs)
 none_behind g rs q f run late =
     let none : finish_after g rs ≡ None =

@@ -1,18 +1,17 @@
 -- Late runs of a plan by counts are the same with any number of sets; and each late run is that of the events alone that
 -- it reached, each at its count.
-use Rattle.std.proofs.Common.{◌≡◌, ℕ, false, List, [], ◌∷◌, ◌++◌, Option, refl, sym, ap, ◌∙◌, ◌↔◌}
+use Rattle.std.proofs.Common.{◌≡◌, ℕ, List, [], ◌∷◌, ◌++◌, Option, refl, sym, ap, ◌∙◌, ◌↔◌, inl, inr, Some, None, subst}
 use Rattle.i9_model.specs.declared.event.Timed.{Timed}
-use Rattle.i9_model.specs.declared.run.End.{End}
-use Rattle.i9_model.specs.declared.run.End.TheVariants.{Exit, Limit, Hazard, Dead, Imprecise}
 use Rattle.i9_model.specs.State.{State}
 use Rattle.i9_model.specs.ScheduleText.{IsByCounts}
-use Rattle.i9_model.specs.Run.{Given, Kind, Instruction, Faulted, Entered, Interrupted, Reached, Blocked, Record, reached_by, reached_after, state_after}
+use Rattle.i9_model.specs.Run.{Given, Kind, Instruction, Faulted, Entered, Interrupted, Reached, Record, reached_by, reached_after, state_after, Finish, reached_in, reached_last}
 use Rattle.i9_model.proofs.Cuts.{state_by, next_by_state}
-use Rattle.i9_model.proofs.Heedful.{with_plan}
+use Rattle.i9_model.proofs.Heedful.{with_plan, past_to_end}
 use Rattle.i9_course.specs.Course.{comes_next, imprecise_at}
-use Rattle.i9_course.specs.LateRun.{steps, IsLatePast, finish_by, IsLateRun, is_imprecise}
-use Rattle.i9_course.proofs.LateRuns.{steps_counted, late_by, late_of_past, late_past, late_run, run_ends, run_imprecise, imprecise_run, precise_run}
+use Rattle.i9_course.specs.LateRun.{steps, IsLatePast, finish_by, IsLateRun}
+use Rattle.i9_course.proofs.LateRuns.{steps_counted, late_by, late_of_past, late_past, late_run, run_ends, imprecise_run, precise_run, run_cases, late_events}
 use Rattle.i9_course.proofs.LateAlike.{imprecise_same}
+use Rattle.i9_model.specs.declared.event.Event.{Event}
 
 -- ---- sets
 
@@ -55,7 +54,7 @@ ends_sets g asked rs counted =
     ap (λ (o : Option ℕ). finish_by o (comes_next k (steps rs))) (imprecise_sets g asked rs)
     ∙ ap (finish_by (imprecise_at g (steps rs))) (next_sets g asked rs counted)
 
-pub run_sets : (g : Given) (asked : Option ℕ) (rs : List Record) (f : End) → IsByCounts g.plan
+pub run_sets : (g : Given) (asked : Option ℕ) (rs : List Record) (f : Finish) → IsByCounts g.plan
     → (IsLateRun (with_sets g asked) rs f ↔ IsLateRun g rs f)
 run_sets g asked rs f counted = (
   (λ run. record { past = less_sets g asked rs counted run.past; ends = sym (ends_sets g asked rs counted) ∙ run.ends }),
@@ -75,7 +74,6 @@ reached_counted (Faulted inst fault) s = tt
 reached_counted (Entered e) s = tt
 reached_counted (Interrupted c e) s = tt
 reached_counted (Reached e u) s = (refl, tt)
-reached_counted (Blocked e a) s = (refl, tt)
 
 both_counted : (ts us : List Timed) → IsByCounts ts → IsByCounts us → IsByCounts (ts ++ us)
 both_counted [] us a b = b
@@ -90,20 +88,32 @@ late_again g rs late =
     let plan = reached_after rs in
     late_of_past g (with_plan g plan) rs (λ qs none. imprecise_plan g plan qs ∙ none) (all_counted rs) (late_past g rs late) late
 
-plain_again : (g : Given) (rs : List Record) (e : End) → is_imprecise e ≡ false → IsLateRun g rs e
-    → IsLateRun (with_plan g (reached_after rs)) rs e
-plain_again g rs e plain run =
-    let plan = reached_after rs in
-    precise_run (with_plan g plan) rs e (late_again g rs run.past) (imprecise_plan g plan rs ∙ (run_ends g rs e plain run).0)
-    (steps_counted (with_plan g plan) rs (all_counted rs) ∙ (late_run g rs e plain run).ends)
+-- with the event that was reached with an end
+last_counted : (k : ℕ) (o : Option Event) → IsByCounts (reached_last k o)
+last_counted k None = tt
+last_counted k (Some e) = (refl, tt)
 
-pub run_again : (g : Given) (rs : List Record) (f : End) → IsLateRun g rs f
-    → IsLateRun (with_plan g (reached_after rs)) rs f
-run_again g rs (Exit w) run = plain_again g rs (Exit w) refl run
-run_again g rs Limit run = plain_again g rs Limit refl run
-run_again g rs (Hazard a) run = plain_again g rs (Hazard a) refl run
-run_again g rs (Dead code a) run = plain_again g rs (Dead code a) refl run
-run_again g rs (Imprecise a) run =
-    let plan = reached_after rs in
-    imprecise_run (with_plan g plan) rs a (late_again g rs run.past)
-    (imprecise_plan g plan rs ∙ run_imprecise g rs a run)
+pub in_counted : (g : Given) (rs : List Record) (f : Finish) → IsByCounts (reached_in g rs f)
+in_counted g rs f =
+    let k = (state_after g rs).count in
+    both_counted (reached_after rs) (reached_last k f.event) (all_counted rs) (last_counted k f.event)
+
+late_to_end : (g : Given) (rs : List Record) (f : Finish) → IsLatePast g rs → IsLatePast (with_plan g (reached_in g rs f)) rs
+late_to_end g rs f late =
+    let plan = reached_in g rs f in
+    late_of_past g (with_plan g plan) rs (λ qs none. imprecise_plan g plan qs ∙ none) (in_counted g rs f)
+    (past_to_end g rs f (late_events g rs late)) late
+
+pub run_again : (g : Given) (rs : List Record) (f : Finish) → IsLateRun g rs f
+    → IsLateRun (with_plan g (reached_in g rs f)) rs f
+run_again g rs f run =
+    let plan = reached_in g rs f in
+    let late = late_to_end g rs f run.past in
+    elim (run_cases g rs f run) [
+      | inl plain ↦
+          precise_run (with_plan g plan) rs f late (imprecise_plan g plan rs ∙ (run_ends g rs f plain run).0)
+          (steps_counted (with_plan g plan) rs (in_counted g rs f) ∙ (late_run g rs f plain run).ends)
+      | inr fault ↦
+          subst (λ (k : Finish). IsLateRun (with_plan g plan) rs k) (sym fault.1)
+          (imprecise_run (with_plan g plan) rs fault.0 late (imprecise_plan g plan rs ∙ fault.2))
+    ]

@@ -19,7 +19,7 @@ use Rattle.i9_model.specs.Step.{first_word, next_word}
 use Rattle.i9_model.specs.Access.{hazard_of, fetch_hazard}
 use Rattle.i9_model.specs.Before.{Received, choice_in, interrupt_in, received_in}
 use Rattle.i9_model.specs.Standing.{Standing, Meets, Refused, Faults, Runs, raised_in, later_fault, by_access, by_later, by_raised, by_word, by_fetch, stands_at}
-use Rattle.i9_model.specs.Run.{Given, Kind, Instruction, Faulted, Entered, Interrupted, Reached, Blocked, Record, record_of, reached_kind, Does, Ends, fault_at, next_by_standing, next_by_entry, entry_in, next_by_event, next_by_interrupt, next_by_choice, next_in, due_after, state_after, next_with, IsPastOfSome}
+use Rattle.i9_model.specs.Run.{Given, Kind, Instruction, Faulted, Entered, Interrupted, Reached, Record, record_of, Does, Ends, fault_at, next_by_standing, next_by_entry, entry_in, next_by_event, next_by_interrupt, next_by_choice, next_in, due_after, state_after, next_with, IsPastOfSome, finish, next_by_received}
 use Rattle.i9_course.specs.LateRun.{steps, IsLateRun}
 use Rattle.i9_course.proofs.Ahead.{imprecise_only}
 use Rattle.i9_course.proofs.Orderly.{comes_after}
@@ -67,7 +67,6 @@ IsNamed s (Faulted inst f) = f.kind ≡ ARITHMETIC → (i : Inst) × (inst ≡ S
 IsNamed s (Entered e) = Unit {0}
 IsNamed s (Interrupted c e) = Unit {0}
 IsNamed s (Reached e u) = Unit {0}
-IsNamed s (Blocked e a) = Unit {0}
 
 named_by : (s : State) (k : Kind) (r : Record) → IsNamed s k → Does (record_of k s) ≡ Does r → IsNamed s r.kind
 named_by s k r named e =
@@ -83,9 +82,9 @@ standing_named s (Faults i number) r other e =
 standing_named s (Runs i) r other e = named_by s (Instruction i) r tt e
 
 reached_named : (s : State) (x : Event) (p : Result Received ℕ) (r : Record)
-    → Does (record_of (reached_kind x p) s) ≡ Does r → IsNamed s r.kind
+    → next_by_received s x p ≡ Does r → IsNamed s r.kind
 reached_named s x (Ok u) r e = named_by s (Reached x u) r tt e
-reached_named s x (Err a) r e = named_by s (Blocked x a) r tt e
+reached_named s x (Err a) r e = absurd (cc e)
 
 event_named : (s : State) (o : Option Event) (r : Record) → next_by_event o s ≡ Does r → IsNamed s r.kind
 event_named s (Some x) r e = reached_named s x (received_in s x) r e
@@ -113,7 +112,7 @@ next_named limit (dues.End f) o s r e = absurd (cc e)
 next_named limit (dues.Entry fault) o s r e = entry_named s (entry_in s fault) r e
 next_named limit dues.Nothing o s r e = by_length (eqb s.count limit) e
   where
-    by_length : (b : Bool) → cond b (Ends Limit) (next_by_choice o s (choice_in s)) ≡ Does r → IsNamed s r.kind
+    by_length : (b : Bool) → cond b (Ends (finish Limit)) (next_by_choice o s (choice_in s)) ≡ Does r → IsNamed s r.kind
     by_length true h = absurd (cc h)
     by_length false h = choice_named s o (choice_in s) r h
 
@@ -124,7 +123,7 @@ past_named g o rs r e =
 
 -- ---- the end of a late run
 
-pub imprecise_named : (g : Given) (rs : List Record) (a : ℕ) → IsLateRun g rs (Imprecise a)
+pub imprecise_named : (g : Given) (rs : List Record) (a : ℕ) → IsLateRun g rs (finish (Imprecise a))
     → (r : Record) × (qs : List Record) × (i : Inst) × (f : Fault) × (rs ≡ r ∷ qs) × (r.kind ≡ Faulted (Some i) f)
     × (f.kind ≡ ARITHMETIC) × (r.before.ip ≡ a)
 imprecise_named g rs a run =

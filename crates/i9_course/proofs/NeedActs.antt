@@ -14,7 +14,7 @@ use Rattle.i9_model.specs.State.{State}
 use Rattle.i9_model.specs.HeldFrames.{Cache}
 use Rattle.i9_model.specs.Controls.{KeepsControls}
 use Rattle.i9_model.specs.Step.{Stays, moving, action_by_name, action_by, action_of}
-use Rattle.i9_model.specs.Run.{Kind, Instruction, Faulted, Entered, Interrupted, Reached, Blocked, action_by_kind}
+use Rattle.i9_model.specs.Run.{Kind, Instruction, Faulted, Entered, Interrupted, Reached, action_by_kind}
 use Rattle.i9_model.specs.Needs.{is_request_name, is_barrier_name}
 use Rattle.i9_model.proofs.NeedLaws.{quiet}
 use Rattle.i9_course.specs.NeedOf.{need_of}
@@ -84,7 +84,6 @@ need_still n c s (Faulted (Some i) fault) q b = (refl, refl, refl)
 need_still n c s (Entered e) q b = absurd (cc b)
 need_still n c s (Interrupted x e) q b = absurd (cc b)
 need_still n c s (Reached e u) q b = absurd (cc b)
-need_still n c s (Blocked e a) q b = absurd (cc b)
 
 pub need_requests : (n : ℕ) (c : Cache) (s : State) (k : Kind) → (need_of n c s k).request ≡ true
     → ((action_by_kind k s).move ≡ Stays) × ((action_by_kind k s).control ≡ KeepsControls)
@@ -94,7 +93,6 @@ need_requests n c s (Faulted inst fault) q = (refl, refl)
 need_requests n c s (Entered e) q = absurd (cc q)
 need_requests n c s (Interrupted x e) q = absurd (cc q)
 need_requests n c s (Reached e u) q = absurd (cc q)
-need_requests n c s (Blocked e a) q = absurd (cc q)
 
 pub need_named : (n : ℕ) (c : Cache) (s : State) (k : Kind) → (need_of n c s k).request ≡ true
     → ((i : Inst) × (k ≡ Instruction i) × (is_request_name i.op ≡ true)) ⊎ ((action_by_kind k s).writes ≡ [])
@@ -104,4 +102,3 @@ need_named n c s (Faulted inst fault) q = inr refl
 need_named n c s (Entered e) q = absurd (cc q)
 need_named n c s (Interrupted x e) q = absurd (cc q)
 need_named n c s (Reached e u) q = absurd (cc q)
-need_named n c s (Blocked e a) q = absurd (cc q)

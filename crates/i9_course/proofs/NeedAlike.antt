@@ -18,12 +18,12 @@ use Rattle.i9_model.specs.Controls.{Control, KeepsControls, controlled}
 use Rattle.i9_model.specs.Branches.{is_taken}
 use Rattle.i9_model.specs.Operands.{value}
 use Rattle.i9_model.specs.Tracing.{trace_of}
-use Rattle.i9_model.specs.Step.{Action, Message, AsksNothing, AsksInterrupt, AsksRestart, AsksGroup, moving, message_kind, message_of, message_action, action_by_name, action_by, action_of, flagged, moved, acted}
+use Rattle.i9_model.specs.Step.{Action, Message, AsksNothing, AsksCheck, AsksInterrupt, AsksRestart, AsksGroup, moving, asked_message, message_action, action_by_name, action_by, action_of, flagged, moved, acted}
 use Rattle.i9_model.specs.Access.{Access, access_of, data_of}
 use Rattle.i9_model.specs.Traced.{switches, seen_of, trace_left, traced_action}
 use Rattle.i9_model.specs.Alike.{with_other, with_memory, AreAlike, AreNextAlike}
 use Rattle.i9_model.specs.HeldFrames.{Cache, sets_in}
-use Rattle.i9_model.specs.Run.{Next, Does, Ends, Kind, Instruction, Faulted, Entered, Interrupted, Reached, Blocked}
+use Rattle.i9_model.specs.Run.{Next, Does, Ends, Kind, Instruction, Faulted, Entered, Interrupted, Reached}
 use Rattle.i9_model.specs.Needs.{is_barrier_name, inst_need, writes_sfr}
 use Rattle.i9_model.proofs.AlikeFetches.{access_same}
 use Rattle.i9_model.proofs.Untraced.{action_untraced}
@@ -34,6 +34,7 @@ use Rattle.i9_course.specs.NeedOf.{moved_frames, touches_port, access_waits, fac
 message_frames : (n : ℕ) (c : Cache) (m : Message) (i : Inst) (s : State) (bytes : ℕ → ℕ)
     → moved_frames n c (message_action m i (with_memory s bytes)).move ≡ moved_frames n c (message_action m i s).move
 message_frames n c AsksNothing i s bytes = refl
+message_frames n c AsksCheck i s bytes = refl
 message_frames n c AsksInterrupt i s bytes = refl
 message_frames n c AsksRestart i s bytes = refl
 message_frames n c AsksGroup i s bytes = refl
@@ -41,7 +42,7 @@ message_frames n c AsksGroup i s bytes = refl
 name_frames : (n : ℕ) (c : Cache) (op : Op) (i : Inst) (s : State) (bytes : ℕ → ℕ)
     → moved_frames n c (action_by_name op i (with_memory s bytes)).move
     ≡ moved_frames n c (action_by_name op i s).move
-name_frames n c Sysctl i s bytes = message_frames n c (message_kind (message_of i s)) i s bytes
+name_frames n c Sysctl i s bytes = message_frames n c (asked_message i s) i s bytes
 name_frames n c _ i s bytes = refl
 
 moving_frames : (n : ℕ) (c : Cache) (d : Direction) (size : Size) (signed : Bool) (i : Inst) (s t : State)
@@ -180,7 +181,6 @@ need_same n c (Faulted (Some i) fault) s bytes = ap (inst_need i) (facts_same i 
 need_same n c (Entered e) s bytes = refl
 need_same n c (Interrupted x e) s bytes = refl
 need_same n c (Reached e u) s bytes = refl
-need_same n c (Blocked e a) s bytes = refl
 
 pub need_alike : (n : ℕ) (c : Cache) (s t : State) (k : Kind) → AreAlike s t → need_of n c t k ≡ need_of n c s k
 need_alike n c s t k alike = ap (λ (u : State). need_of n c u k) alike.rest ∙ need_same n c k s t.memory.bytes

@@ -23,7 +23,7 @@ use Rattle.i9_model.specs.HeldFrames.{Cache}
 use Rattle.i9_model.specs.Traced.{traced_action}
 use Rattle.i9_model.specs.Controls.{KeepsControls}
 use Rattle.i9_model.specs.Step.{Action, moving, push_sets, action_by_name, action_by, action_of}
-use Rattle.i9_model.specs.Run.{Kind, Instruction, Faulted, Entered, Interrupted, Reached, Blocked, action_by_kind}
+use Rattle.i9_model.specs.Run.{Kind, Instruction, Faulted, Entered, Interrupted, Reached, action_by_kind}
 use Rattle.i9_model.specs.Late.{resources}
 use Rattle.i9_model.specs.Needs.{set_of, inst_need, entry_need}
 use Rattle.i9_model.proofs.SetLaws.{set_bits}
@@ -147,4 +147,3 @@ need_covers n c s (Faulted (Some i) fault) =
 need_covers n c s (Entered e) = push_covers 0 e.push s _ refl refl refl
 need_covers n c s (Interrupted x e) = push_covers 0 e.push s _ refl refl refl
 need_covers n c s (Reached e u) = still_covers 0 s _ (λ r. refl) refl refl
-need_covers n c s (Blocked e a) = still_covers 0 s _ (λ r. refl) refl refl

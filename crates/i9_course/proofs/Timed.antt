@@ -6,7 +6,7 @@ use Rattle.std.proofs.lemmas.Bool.{cases_Bool}
 use Rattle.i9_model.specs.State.{State}
 use Rattle.i9_model.specs.Step.{Move, Stays, Action}
 use Rattle.i9_model.specs.HeldFrames.{Cache, sets_in, cache_after}
-use Rattle.i9_model.specs.Run.{Given, Kind, Instruction, Faulted, Entered, Interrupted, Reached, Blocked, action_by_kind}
+use Rattle.i9_model.specs.Run.{Given, Kind, Instruction, Faulted, Entered, Interrupted, Reached, action_by_kind}
 use Rattle.i9_model.specs.Turns.{HasCost, IsTimed, TakesTurns, waiting_until}
 use Rattle.i9_model.specs.Needs.{is_request_name, is_barrier_name}
 use Rattle.i9_model.specs.Late.{turns, AreQuiet}
@@ -27,7 +27,6 @@ need_cost n c s (Faulted (Some i) fault) = inst_cost i _
 need_cost n c s (Entered e) = entry_cost _
 need_cost n c s (Interrupted x e) = entry_cost _
 need_cost n c s (Reached e u) = event_cost (is_of_dma e) 0
-need_cost n c s (Blocked e a) = event_cost (is_of_dma e) 0
 
 pub course_timed : (g : Given) (h : List Item) → IsTimed (turns (course g h).late)
 course_timed g [] = tt
@@ -76,7 +75,6 @@ need_quiet n c s (Faulted (Some i) fault) q = inl refl
 need_quiet n c s (Entered e) q = inr refl
 need_quiet n c s (Interrupted x e) q = inr refl
 need_quiet n c s (Reached e u) q = inr refl
-need_quiet n c s (Blocked e a) q = inr refl
 
 pub course_quiet : (g : Given) (h : List Item) → AreQuiet (course g h).late
 course_quiet g [] = tt

@@ -7,7 +7,7 @@ use Rattle.i9_model.specs.declared.event.Event.{Event}
 use Rattle.i9_model.specs.declared.run.Due.{Due}
 use Rattle.i9_model.specs.ScheduleText.{timed_by_turn, event_where, has_come_by}
 use Rattle.i9_model.specs.State.{State}
-use Rattle.i9_model.specs.Run.{Given, Kind, Instruction, Faulted, Entered, Interrupted, Reached, Blocked, Record, Does, due_after, reached_by, reached_after, state_after}
+use Rattle.i9_model.specs.Run.{Given, Kind, Instruction, Faulted, Entered, Interrupted, Reached, Record, Does, due_after, reached_by, reached_after, state_after}
 use Rattle.i9_model.specs.Turns.{end_turn}
 use Rattle.i9_model.specs.Late.{turns}
 use Rattle.i9_model.proofs.Comes.{MayCome, next_comes}
@@ -45,7 +45,6 @@ reached_one limit due o s u (Faulted inst fault) may some = absurd (some refl)
 reached_one limit due o s u (Entered e) may some = absurd (some refl)
 reached_one limit due o s u (Interrupted c e) may some = absurd (some refl)
 reached_one limit due o s u (Reached e does) may some = ((e, may.2), refl)
-reached_one limit due o s u (Blocked e a) may some = ((e, may.2), refl)
 
 pub waited_turn : (g : Given) (h : List Item) (n : ℕ) (e : Event) (r : Record) → WaitsFor g h n e
     → (ahead g h).imprecise ≡ None → (ahead g h).next ≡ Does r → reached_by r.kind r.before ≢ [] → n ≤ (ahead g h).turn

@@ -3,7 +3,7 @@ use Rattle.std.specs.Prelude.{◌≡◌, ℕ, Bool, true, false, Option, Some, N
 use Rattle.std.specs.List.{AllByRecursion}
 use Rattle.i9_model.specs.declared.run.End.{End}
 use Rattle.i9_model.specs.declared.run.End.TheVariants.{Imprecise}
-use Rattle.i9_model.specs.Run.{Given, Record, Next, Does, Ends}
+use Rattle.i9_model.specs.Run.{Given, Record, Next, Does, Ends, Finish, finish}
 use Rattle.i9_course.specs.Course.{Item, Step, late_fault, ahead, IsCourse}
 
 -- the records as items, with no mark between them
@@ -16,25 +16,25 @@ abbrev pub IsLatePast : Given → List Record → Type 0
 IsLatePast g rs = IsCourse g (steps rs)
 
 -- the end that comes next, where one does
-abbrev pub ended_by : Next → Option End
+abbrev pub ended_by : Next → Option Finish
 ended_by (Does r) = None
 ended_by (Ends e) = Some e
 
 -- an imprecise fault comes before what comes next
-abbrev pub finish_by : Option ℕ → Next → Option End
-finish_by (Some a) o = Some (Imprecise a)
+abbrev pub finish_by : Option ℕ → Next → Option Finish
+finish_by (Some a) o = Some (finish (Imprecise a))
 finish_by None o = ended_by o
 
 -- the end that lies ahead after these items, where one does
-abbrev pub end_ahead : Given → List Item → Option End
+abbrev pub end_ahead : Given → List Item → Option Finish
 end_ahead g h = finish_by (ahead g h).imprecise (ahead g h).next
 
 -- the end after these records, where one comes
-abbrev pub finish_after : Given → List Record → Option End
+abbrev pub finish_after : Given → List Record → Option Finish
 finish_after g rs = end_ahead g (steps rs)
 
 -- these are the records of such a run, and this is its end
-pub record IsLateRun (g : Given) (rs : List Record) (f : End) : Type 0 where
+pub record IsLateRun (g : Given) (rs : List Record) (f : Finish) : Type 0 where
   pub past : IsLatePast g rs
   pub ends : finish_after g rs ≡ Some f
 

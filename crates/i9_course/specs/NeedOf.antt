@@ -18,7 +18,7 @@ use Rattle.i9_model.specs.Step.{Move, Stays, Saves, Returns, Flushes}
 use Rattle.i9_model.specs.Access.{Access, Reads, Writes, Changes, access_of, data_of}
 use Rattle.i9_model.specs.Traced.{is_traced, traced_action}
 use Rattle.i9_model.specs.HeldFrames.{Cache, sets_in}
-use Rattle.i9_model.specs.Run.{Kind, Instruction, Faulted, Entered, Interrupted, Reached, Blocked, Record, Next, Does, Ends, action_by_kind}
+use Rattle.i9_model.specs.Run.{Kind, Instruction, Faulted, Entered, Interrupted, Reached, Record, Next, Does, Ends, action_by_kind}
 use Rattle.i9_model.specs.Needs.{is_barrier_name, blank_need, inst_need, refused_need, event_need, entry_need}
 
 -- ---- the facts of an instruction
@@ -81,7 +81,6 @@ is_barrier_kind (Faulted (Some i) fault) = is_early fault || is_barrier_name i.o
 is_barrier_kind (Entered e) = true
 is_barrier_kind (Interrupted x e) = true
 is_barrier_kind (Reached e u) = true
-is_barrier_kind (Blocked e a) = true
 
 -- how many frames a record of a kind moves
 abbrev pub frames_of : ℕ → Cache → State → Kind → ℕ
@@ -96,7 +95,6 @@ need_of n c s (Faulted (Some i) fault) = inst_need i (facts_of i s 0 (is_early f
 need_of n c s (Entered e) = entry_need (frames_of n c s (Entered e))
 need_of n c s (Interrupted x e) = entry_need (frames_of n c s (Interrupted x e))
 need_of n c s (Reached e u) = event_need (is_of_dma e) 0
-need_of n c s (Blocked e a) = event_need (is_of_dma e) 0
 
 -- what a record needs, from what is held before it, where this number of sets is asked for
 abbrev pub record_need : Option ℕ → Cache → Record → Need

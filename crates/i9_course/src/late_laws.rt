@@ -11,7 +11,7 @@ ghost use Rattle.i9_model.specs.declared.run.End.TheVariants.{Limit, Imprecise};
 ghost use Rattle.i9_model.specs.ScheduleText.{IsByCounts};
 ghost use Rattle.i9_model.specs.State.{State};
 ghost use Rattle.i9_model.specs.HeldFrames.{Cache};
-ghost use Rattle.i9_model.specs.Run.{Given, Record, Kind, Faulted, IsPast, IsRun, state_after, reached_after};
+ghost use Rattle.i9_model.specs.Run.{Given, Record, Kind, Faulted, IsPast, IsRun, state_after, reached_after, finish, Finish, reached_in};
 ghost use Rattle.i9_model.specs.Turns.{IsAlike};
 ghost use Rattle.i9_course.specs.NeedOf.{need_of};
 ghost use Rattle.i9_course.specs.Course.{records_of, last_fault, imprecise_at};
@@ -20,18 +20,18 @@ ghost use Rattle.i9_course.specs.LateRun.{steps, IsLatePast, end_ahead, finish_a
 /// Every late run ends, whatever was done so far, and none counts more instructions than its length.
 pub fn every_late_run_ends()
     ensures ends { (g : Given) (rs : List Record) → IsLatePast g rs
-        → (more : List Record) × (f : End) × IsLateRun g (more ++ rs) f }
+        → (more : List Record) × (f : Finish) × IsLateRun g (more ++ rs) f }
     ensures within { (g : Given) (rs : List Record) → IsLatePast g rs → (state_after g rs).count ≤ g.length }
 {}
 
 /// A late run is the only one of what it is given: an imprecise fault ends it, whatever comes next, and
 /// nothing is done behind its end.
 pub fn one_late_run()
-    ensures records { (g : Given) (rs qs : List Record) (e f : End) → IsLateRun g rs e → IsLateRun g qs f → rs ≡ qs }
-    ensures finish { (g : Given) (rs qs : List Record) (e f : End) → IsLateRun g rs e → IsLateRun g qs f → e ≡ f }
+    ensures records { (g : Given) (rs qs : List Record) (e f : Finish) → IsLateRun g rs e → IsLateRun g qs f → rs ≡ qs }
+    ensures finish { (g : Given) (rs qs : List Record) (e f : Finish) → IsLateRun g rs e → IsLateRun g qs f → e ≡ f }
     ensures fault { (g : Given) (rs : List Record) (a : ℕ) → imprecise_at g (steps rs) ≡ Some a
-        → finish_after g rs ≡ Some (Imprecise a) }
-    ensures behind { (g : Given) (rs : List Record) (r : Record) (f : End) → IsLateRun g rs f
+        → finish_after g rs ≡ Some (finish (Imprecise a)) }
+    ensures behind { (g : Given) (rs : List Record) (r : Record) (f : Finish) → IsLateRun g rs f
         → ¬ IsLatePast g (r ∷ rs) }
 {}
 
@@ -43,22 +43,22 @@ pub fn one_late_run()
 pub fn late_runs_are_runs()
     ensures records { (rs : List Record) → records_of (steps rs) ≡ rs }
     ensures past { (g : Given) (rs : List Record) → IsLatePast g rs → IsPast (record g { plan = reached_after rs }) rs }
-    ensures first { (g : Given) (rs qs : List Record) (e : End) (f : End) → IsRun (record g { plan = reached_after qs }) rs e
+    ensures first { (g : Given) (rs qs : List Record) (e : Finish) (f : Finish) → IsRun (record g { plan = reached_after qs }) rs e
         → IsLateRun g qs f → (more : List Record) × (more ++ qs ≡ rs) }
-    ensures run { (g : Given) (rs : List Record) (e : End) → is_imprecise e ≡ false → IsLateRun g rs e
-        → IsRun (record g { plan = reached_after rs }) rs e }
+    ensures run { (g : Given) (rs : List Record) (e : Finish) → is_imprecise e.end ≡ false → IsLateRun g rs e
+        → IsRun (record g { plan = reached_in g rs e }) rs e }
     ensures counted_past { (g : Given) (rs : List Record) → IsByCounts g.plan → IsLatePast g rs → IsPast g rs }
-    ensures counted_first { (g : Given) (rs qs : List Record) (e : End) (f : End) → IsByCounts g.plan → IsRun g rs e
+    ensures counted_first { (g : Given) (rs qs : List Record) (e : Finish) (f : Finish) → IsByCounts g.plan → IsRun g rs e
         → IsLateRun g qs f → (more : List Record) × (more ++ qs ≡ rs) }
-    ensures counted_run { (g : Given) (rs : List Record) (e : End) → IsByCounts g.plan → is_imprecise e ≡ false
+    ensures counted_run { (g : Given) (rs : List Record) (e : Finish) → IsByCounts g.plan → is_imprecise e.end ≡ false
         → IsLateRun g rs e → IsRun g rs e }
-    ensures plain { (g : Given) (rs : List Record) (e : End) → IsRun g rs e → is_imprecise e ≡ false }
-    ensures imprecise { (g : Given) (rs : List Record) (a : ℕ) → IsLateRun g rs (Imprecise a)
+    ensures plain { (g : Given) (rs : List Record) (e : Finish) → IsRun g rs e → is_imprecise e.end ≡ false }
+    ensures imprecise { (g : Given) (rs : List Record) (a : ℕ) → IsLateRun g rs (finish (Imprecise a))
         → (r : Record) × (qs : List Record) × (i : Inst) × (f : Fault) × (rs ≡ r ∷ qs)
         × (r.kind ≡ Faulted (Some i) f) × (f.kind ≡ ARITHMETIC) × (r.before.ip ≡ a) }
     ensures same_past { (g : Given) (rs : List Record) → IsByCounts g.plan → HaveNoLateFault rs → IsPast g rs
         → IsLatePast g rs }
-    ensures same_run { (g : Given) (rs : List Record) (e : End) → IsByCounts g.plan → HaveNoLateFault rs → IsRun g rs e
+    ensures same_run { (g : Given) (rs : List Record) (e : Finish) → IsByCounts g.plan → HaveNoLateFault rs → IsRun g rs e
         → IsLateRun g rs e }
 {}
 
@@ -71,7 +71,7 @@ pub fn lateness_does_not_depend_on_sets()
         → imprecise_at (record g { sets = asked }) (steps rs) ≡ imprecise_at g (steps rs) }
     ensures past { (g : Given) (asked : Option ℕ) (rs : List Record) → IsByCounts g.plan
         → (IsLatePast (record g { sets = asked }) rs ↔ IsLatePast g rs) }
-    ensures run { (g : Given) (asked : Option ℕ) (rs : List Record) (f : End) → IsByCounts g.plan
+    ensures run { (g : Given) (asked : Option ℕ) (rs : List Record) (f : Finish) → IsByCounts g.plan
         → (IsLateRun (record g { sets = asked }) rs f ↔ IsLateRun g rs f) }
 {}
 
@@ -82,8 +82,8 @@ pub fn lateness_does_not_depend_on_the_plan()
         → imprecise_at (record g { plan = p }) (steps rs) ≡ imprecise_at g (steps rs) }
     ensures past { (g : Given) (rs : List Record) → IsLatePast g rs
         → IsLatePast (record g { plan = reached_after rs }) rs }
-    ensures run { (g : Given) (rs : List Record) (f : End) → IsLateRun g rs f
-        → IsLateRun (record g { plan = reached_after rs }) rs f }
+    ensures run { (g : Given) (rs : List Record) (f : Finish) → IsLateRun g rs f
+        → IsLateRun (record g { plan = reached_in g rs f }) rs f }
 {}
 
 /// The length of a late run cuts it, and changes nothing below the length. At the length itself an
@@ -104,14 +104,14 @@ pub fn a_length_cuts_the_late_run()
         → IsLatePast g (r ∷ rs) → (IsLatePast (record g { length = more }) (r ∷ rs)
         ↔ imprecise_at (record g { length = more }) (steps rs) ≡ None) }
     ensures fault { (g : Given) (more : ℕ) (rs : List Record) (a : ℕ) → g.length ≤ more
-        → IsLateRun g rs (Imprecise a) → IsLateRun (record g { length = more }) rs (Imprecise a) }
-    ensures run { (g : Given) (more : ℕ) (rs : List Record) (e : End) → g.length ≤ more → e ≢ Limit
-        → is_imprecise e ≡ false → IsLateRun g rs e → (last_fault rs ≡ None) ⊎ ((state_after g rs).count < g.length)
+        → IsLateRun g rs (finish (Imprecise a)) → IsLateRun (record g { length = more }) rs (finish (Imprecise a)) }
+    ensures run { (g : Given) (more : ℕ) (rs : List Record) (e : Finish) → g.length ≤ more → e.end ≢ Limit
+        → is_imprecise e.end ≡ false → IsLateRun g rs e → (last_fault rs ≡ None) ⊎ ((state_after g rs).count < g.length)
         → IsLateRun (record g { length = more }) rs e }
-    ensures run_where { (g : Given) (more : ℕ) (rs : List Record) (e : End) → g.length ≤ more → e ≢ Limit
-        → is_imprecise e ≡ false → IsLateRun g rs e → (IsLateRun (record g { length = more }) rs e
+    ensures run_where { (g : Given) (more : ℕ) (rs : List Record) (e : Finish) → g.length ≤ more → e.end ≢ Limit
+        → is_imprecise e.end ≡ false → IsLateRun g rs e → (IsLateRun (record g { length = more }) rs e
         ↔ imprecise_at (record g { length = more }) (steps rs) ≡ None) }
-    ensures run_otherwise { (g : Given) (more : ℕ) (rs : List Record) (e : End) (a : ℕ) → g.length ≤ more
-        → e ≢ Limit → is_imprecise e ≡ false → IsLateRun g rs e
-        → imprecise_at (record g { length = more }) (steps rs) ≡ Some a → IsLateRun (record g { length = more }) rs (Imprecise a) }
+    ensures run_otherwise { (g : Given) (more : ℕ) (rs : List Record) (e : Finish) (a : ℕ) → g.length ≤ more
+        → e.end ≢ Limit → is_imprecise e.end ≡ false → IsLateRun g rs e
+        → imprecise_at (record g { length = more }) (steps rs) ≡ Some a → IsLateRun (record g { length = more }) rs (finish (Imprecise a)) }
 {}

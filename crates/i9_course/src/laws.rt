@@ -14,7 +14,7 @@ ghost use Rattle.i9_model.specs.Alike.{AreAlike, AreNextAlike};
 ghost use Rattle.i9_model.specs.HeldFrames.{Cache, AreWhole, cache_after};
 ghost use Rattle.i9_model.specs.Marks.{marked};
 ghost use Rattle.i9_model.specs.Step.{Move, Returns};
-ghost use Rattle.i9_model.specs.Run.{Given, Record, Kind, Faulted, Next, Does, Ends, IsPast, state_after, reached_by, reached_after};
+ghost use Rattle.i9_model.specs.Run.{Given, Record, Kind, Faulted, Next, Does, Ends, IsPast, state_after, reached_by, reached_after, Finish};
 ghost use Rattle.i9_model.specs.ScheduleText.{IsByCounts, timed_by_turn};
 ghost use Rattle.i9_model.specs.Turns.{IsTimed, TakesTurns, last_issue, end_turn, pending_of};
 ghost use Rattle.i9_model.specs.Late.{turns, cell, resource, resources, latest, all_puts, settled_memory, AreDueInOrder, AreQuiet, Leaves, IsOrderly, IsClear};
@@ -69,7 +69,7 @@ pub fn barriers_wait_for_all()
         → issue_of_next g h o ≡ end_turn (turns (course g h).late) }
     ensures kind { (g : Given) (h : List Item) (r : Record) → IsTrue (is_barrier_kind r.kind)
         → issue_of_next g h (Does r) ≡ end_turn (turns (course g h).late) }
-    ensures end { (g : Given) (h : List Item) (f : End)
+    ensures end { (g : Given) (h : List Item) (f : Finish)
         → issue_of_next g h (Ends f) ≡ end_turn (turns (course g h).late) }
 {}
 

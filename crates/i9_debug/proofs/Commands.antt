@@ -6,12 +6,12 @@ use Rattle.std.specs.List.{All}
 use Rattle.std.proofs.lemmas.List.Elements.{recursion_from_All}
 use Rattle.i9_model.specs.declared.run.End.{End}
 use Rattle.i9_model.specs.Late.{turns as late_turns}
-use Rattle.i9_model.specs.Run.{Given}
+use Rattle.i9_model.specs.Run.{Given, Finish}
 use Rattle.i9_model.specs.Turns.{last_issue}
 use Rattle.i9_schedule.specs.Plan.{Plan}
 use Rattle.i9_course.specs.Course.{Item, course, IsCourse}
 use Rattle.i9_machine.specs.declared.machine.Machine.{Machine}
-use Rattle.i9_machine.specs.StandsFor.{StandsFor, IsUnderWay}
+use Rattle.i9_machine.specs.StandsFor.{StandsFor, IsUnderWay, FollowsUntil}
 use Rattle.i9_machine.specs.InRun.{IsInRun}
 use Rattle.i9_machine.specs.Turned.{steps_on}
 use Rattle.i9_script.specs.declared.command.Command.{Command}
@@ -22,20 +22,30 @@ use Rattle.i9_debug.specs.declared.print.Printed.TheVariants.{Done, Write, Memor
 use Rattle.i9_debug.specs.declared.sessions.SessionEnd.{SessionEnd}
 use Rattle.i9_debug.specs.declared.sessions.SessionEnd.TheVariants as ends
 use Rattle.i9_debug.specs.Print.{Account, Prints, OnDone}
-use Rattle.i9_debug.specs.Session.{Place, at, TurnsTo, turns_pass, turns_end, ComesTo, comes, none_comes, Stays, UnlessOver, Runs, told, Answers, IsText, no_command, next_command}
+use Rattle.i9_debug.specs.Session.{Place, at, TurnsTo, turns_pass, turns_end, ComesTo, comes, none_comes, Stays, UnlessOver, Runs, told, Answers, IsText, no_command, next_command, end_at}
 use Rattle.i9_debug.specs.Driven.{StandsAt, Drives, IsCut, printed_of, TellsEnd, RunsScript}
 use Rattle.i9_debug.proofs.Prints.{prints_none, prints_then, prints_stop, prints_same}
 use Rattle.i9_debug.proofs.Places.{Leads, record_issues, turns_lead, address_leads}
 use Rattle.i9_debug.proofs.Turns.{not_done, cut_whole}
+use Rattle.std.specs.Option.{option_map}
 
 -- ---- places
 
-abbrev pub place_of : List Item → ℕ → Option End → Place
+abbrev pub place_of : List Item → ℕ → Option Finish → Place
 place_of h t e = record { items = h; turn = t; end = e }
 
 -- a place without an end, by the turn of the machine that stands there
 pub as_at : (p : Place) (t : ℕ) → p.end ≡ None → t ≡ p.turn → at p.items t ≡ p
 as_at p t none turn = ap (λ (n : ℕ). place_of p.items n None) turn ∙ ap (place_of p.items p.turn) (sym none)
+
+-- a place is over where the machine says so
+pub none_ended : (e : Option Finish) → option_map (λ f. f.end) e ≡ None → e ≡ None
+none_ended None is = refl
+none_ended (Some f) is = absurd (cc is)
+
+pub some_ended : (e : Option Finish) (x : End) → option_map (λ f. f.end) e ≡ Some x → (f : Finish) × (e ≡ Some f)
+some_ended None x is = absurd (cc is)
+some_ended (Some f) x is = (f, refl)
 
 -- a machine in a run stands at a place of it
 run_place : (m : Machine) (plan : Plan) → IsInRun m plan → (g : Given) × (p : Place) × StandsAt g p m plan
@@ -49,15 +59,15 @@ pub on_its_way : (m : Machine) (plan : Plan) → (r : IsInRun m plan) → r.end 
 on_its_way m plan r none = record {
   given = r.given;
   items = r.items;
-  stands = subst (λ (e : Option End). StandsFor r.given r.items e m) none r.stands;
-  follows = r.follows;
+  stands = subst (λ (e : Option Finish). StandsFor r.given r.items e m) none r.stands;
+  follows = subst (λ (e : Option Finish). FollowsUntil r.given r.items e plan) none r.follows;
 }
 
 module _ (g : Given) where
   -- after an end nothing is
-  pub over_stays : (c : Command) (p : Place) (f : End) → p.end ≡ Some f → Runs g c p [] p
-  over_stays (commands.Turn n) p f is = subst (λ (e : Option End). UnlessOver e (TurnsTo g p.items (p.turn + n) [] p) (Stays p [] p)) (sym is) (refl, refl)
-  over_stays (commands.Until n) p f is = subst (λ (e : Option End). UnlessOver e (ComesTo g p.items n [] p) (Stays p [] p)) (sym is) (refl, refl)
+  pub over_stays : (c : Command) (p : Place) (f : Finish) → p.end ≡ Some f → Runs g c p [] p
+  over_stays (commands.Turn n) p f is = subst (λ (e : Option Finish). UnlessOver e (TurnsTo g p.items (p.turn + n) [] p) (Stays p [] p)) (sym is) (refl, refl)
+  over_stays (commands.Until n) p f is = subst (λ (e : Option Finish). UnlessOver e (ComesTo g p.items n [] p) (Stays p [] p)) (sym is) (refl, refl)
   over_stays commands.Regs p f is = (refl, refl)
   over_stays commands.Raw p f is = (refl, refl)
   over_stays commands.Held p f is = (refl, refl)
@@ -93,7 +103,7 @@ module _ {K : Type 0} (k : Account K) (g : Given) where
   -- the place is told behind what was run
   pub then_tells : (c : Command) (p : Place) (answer : Printed) (a b d : K) (m : Machine) (plan : Plan)
       → Drives (Runs g c p) Done g k a b m plan
-      → ((h : List Item) (e : Option End) → StandsFor g h e m → Prints answer k b d (told g h m.turn c))
+      → ((h : List Item) (e : Option Finish) → StandsFor g h e m → Prints answer k b d (told g h m.turn c))
       → Drives (Answers g c p) answer g k a d m plan
   then_tells c p answer a b d m plan r tells =
       let place : Place = r.place in
@@ -137,7 +147,7 @@ IsPlace g p = UnlessOver p.end (IsCourse g p.items × (last_issue (late_turns (c
 pub is_place : (g : Given) (p : Place) (m : Machine) (plan : Plan) → StandsAt g p m plan → IsPlace g p
 is_place g p m plan s = by_end p.end s.stands
   where
-    by_end : (e : Option End) → StandsFor g p.items e m → UnlessOver e (IsCourse g p.items × (last_issue (late_turns (course g p.items).late) ≤ p.turn)) (Unit {0})
+    by_end : (e : Option Finish) → StandsFor g p.items e m → UnlessOver e (IsCourse g p.items × (last_issue (late_turns (course g p.items).late) ≤ p.turn)) (Unit {0})
     by_end None stands =
         let begun : last_issue (late_turns (course g p.items).late) ≤ m.turn = stands.lands.begun in
         let turn : m.turn ≡ p.turn = s.turn in
@@ -156,7 +166,7 @@ module _ (g : Given) where
   stays_place : (p q : Place) (x : List ℕ) → IsPlace g p → Stays p x q → IsPlace g q
   stays_place p q x is s = subst (IsPlace g) (sym s.1) is
 
-  unless_place : (e : Option End) (p q : Place) (x : List ℕ) (goes : Type 0) → IsPlace g p → (goes → IsPlace g q) → UnlessOver e goes (Stays p x q) → IsPlace g q
+  unless_place : (e : Option Finish) (p q : Place) (x : List ℕ) (goes : Type 0) → IsPlace g p → (goes → IsPlace g q) → UnlessOver e goes (Stays p x q) → IsPlace g q
   unless_place None p q x goes is place r = place r
   unless_place (Some f) p q x goes is place r = stays_place p q x is r
 
@@ -169,7 +179,7 @@ module _ (g : Given) where
   runs_place (commands.Mem a n) p q x is r = stays_place p q x is r
   runs_place (commands.RawMem a n) p q x is r = stays_place p q x is r
 
-  unless_leads : (e : Option End) (p : Place) (goes : List ℕ → Place → Type 0) (P : Type 0) → UnlessOver e P (Unit {0}) → (P → Leads goes)
+  unless_leads : (e : Option Finish) (p : Place) (goes : List ℕ → Place → Type 0) (P : Type 0) → UnlessOver e P (Unit {0}) → (P → Leads goes)
       → Leads (λ x q. UnlessOver e (goes x q) (Stays p x q))
   unless_leads None p goes P is leads = leads is
   unless_leads (Some f) p goes P is leads = ([], p, (refl, refl))
@@ -289,7 +299,7 @@ module _ {K : Type 0} (k : Account K) (g : Given) (p : Place) (cs : List Command
       → RunsScript answer g p all k a e next later
   script_stops answer all cut same inside ranges does =
       let drives = cut_in_next (printed_of answer) cut inside ranges does in
-      subst (λ (xs : List Command). RunsScript answer g p xs k a e next later) same (record { drives = drives; tells = cut_tells answer drives.last.end cut })
+      subst (λ (xs : List Command). RunsScript answer g p xs k a e next later) same (record { drives = drives; tells = cut_tells answer (end_at drives.last) cut })
     where
       cut_tells : (answer : SessionEnd) (end : Option End) → IsCut (printed_of answer) → TellsEnd answer end
       cut_tells ends.Done end cut = absurd cut
@@ -299,11 +309,11 @@ module _ {K : Type 0} (k : Account K) (g : Given) (p : Place) (cs : List Command
 
 -- behind the last command the machine says whether the run is over
 module _ {K : Type 0} (k : Account K) (g : Given) (p : Place) (cs all : List Command) (i : ℕ) (a b : K) (m : Machine) (plan : Plan)
-    (said : Option End) (says : (h : List Item) (e : Option End) → StandsFor g h e m → said ≡ e) where
+    (said : Option End) (says : (h : List Item) (e : Option Finish) → StandsFor g h e m → said ≡ option_map (λ f. f.end) e) where
   whole_script : (answer : SessionEnd) → length cs ≤ i → cs ≡ all → RunsScript answer g p (take i cs) k a b m plan → RunsScript answer g p all k a b m plan
   whole_script answer over same r = subst (λ (xs : List Command). RunsScript answer g p xs k a b m plan) (take_all i cs over ∙ same) r
 
-  last_end : (d : Drives (IsText g (take i cs) p) Done g k a b m plan) → d.last.end ≡ said
+  last_end : (d : Drives (IsText g (take i cs) p) Done g k a b m plan) → end_at d.last ≡ said
   last_end d =
       let here = stands_last k g p (IsText g (take i cs) p) a b m plan d in
       sym (says d.last.items d.last.end here.stands)

@@ -1,12 +1,11 @@
 -- Texts of runs from one place to another.
 use Rattle.std.proofs.Common.{◌≡◌, ℕ, zero, suc, ◌<◌, ◌≤◌, Bool, true, false, List, [], ◌∷◌, ◌++◌, Option, Some, None, refl, sym, ap, ◌∙◌, subst, append_assoc, ◌⊎◌, inl, inr, arith}
 use Rattle.std.proofs.lemmas.List.{append-nil}
-use Rattle.i9_model.specs.declared.run.End.{End}
 use Rattle.i9_model.specs.declared.run.End.TheVariants.{Imprecise}
 use Rattle.i9_model.specs.Late.{turns as late_turns}
 use Rattle.i9_model.specs.PrintedText.{Shown, text_of, lines_of, record_lines, end_lines}
 use Rattle.i9_model.proofs.Lines.{text_of-append}
-use Rattle.i9_model.specs.Run.{Given, Record, Next, Does, Ends}
+use Rattle.i9_model.specs.Run.{Given, Record, Next, Does, Ends, Finish, finish}
 use Rattle.i9_model.specs.Turns.{last_issue}
 use Rattle.i9_course.specs.Course.{Item, Step, records_of, course, comes_next, imprecise_at, issue_of_next, IsCourse}
 use Rattle.i9_course.proofs.Ahead.{ahead_precise}
@@ -33,7 +32,7 @@ lines_of-append (y ∷ ys) xs =
 pub text-append : (ys xs : List Record) → text_of (lines_of xs) ++ text_of (lines_of ys) ≡ text_of (lines_of (ys ++ xs))
 text-append ys xs = sym (text_of-append (lines_of xs) (lines_of ys)) ∙ ap text_of (sym (lines_of-append ys xs))
 
-pub ending-append : (g : Given) (h : List Item) (ys xs : List Record) (f : End)
+pub ending-append : (g : Given) (h : List Item) (ys xs : List Record) (f : Finish)
     → text_of (lines_of xs) ++ text_of (ending_lines g (steps_on xs h) ys f) ≡ text_of (ending_lines g h (ys ++ xs) f)
 ending-append g h ys xs f =
     let last = end_lines (state_at g (steps_on ys (steps_on xs h))) f in
@@ -45,7 +44,7 @@ ending-append g h ys xs f =
 -- ---- what is run behind records is run behind those before them
 
 module _ (g : Given) (h : List Item) (xs : List Record) where
-  ends_after : (ys : List Record) (f : End) → EndsBehind g (steps_on xs h) ys f → EndsBehind g h (ys ++ xs) f
+  ends_after : (ys : List Record) (f : Finish) → EndsBehind g (steps_on xs h) ys f → EndsBehind g h (ys ++ xs) f
   ends_after ys f e =
       let same = sym (steps_on-append ys xs h) in
       record { past = subst (IsCourse g) same e.past; is_end = subst (λ (k : List Item). end_ahead g k ≡ Some f) same e.is_end }
@@ -94,7 +93,7 @@ records-steps_on (r ∷ rs) h = ap (λ (qs : List Record). r ∷ qs) (records-st
 
 -- an end lies behind these items
 abbrev pub Finishes : Given → List Item → Type 0
-Finishes g h = (rs : List Record) × (f : End) × EndsBehind g h rs f
+Finishes g h = (rs : List Record) × (f : Finish) × EndsBehind g h rs f
 
 -- an end behind a record more lies behind the items
 finishes_behind : (g : Given) (h : List Item) (r : Record) → Finishes g (Step r ∷ h) → Finishes g h
@@ -113,7 +112,7 @@ mutual
   finishes_by : (n : ℕ) (g : Given) (h : List Item) (o : Option ℕ) (x : Next) → imprecise_at g h ≡ o → comes_next g h ≡ x → IsCourse g h
       → left_after g (records_of h) ≤ n → Finishes g h
   finishes_by n g h (Some a) x is e c le =
-      ([], Imprecise a, record { past = c; is_end = ap (λ (o : Option ℕ). finish_by o (comes_next g h)) is })
+      ([], finish (Imprecise a), record { past = c; is_end = ap (λ (o : Option ℕ). finish_by o (comes_next g h)) is })
   finishes_by n g h None (Ends f) is e c le =
       ([], f, record { past = c; is_end = ap (λ (o : Option ℕ). finish_by o (comes_next g h)) is ∙ ap ended_by e })
   finishes_by zero g h None (Does r) is e c le =
@@ -159,7 +158,7 @@ module _ (g : Given) (h : List Item) (u : ℕ) (low : last_issue (late_turns (co
     | inr found ↦ inr found
   ]
 
-  at_end : (rs : List Record) (f : End) → EndsBehind g h rs f → last_issue (late_turns (course g (steps_on rs h)).late) < u → Leads (TurnsTo g h u)
+  at_end : (rs : List Record) (f : Finish) → EndsBehind g h rs f → last_issue (late_turns (course g (steps_on rs h)).late) < u → Leads (TurnsTo g h u)
   at_end rs f e before = elim (below (turn_ahead g (steps_on rs h)) u) [
     | inl lt ↦ (text_of (ending_lines g h rs f), ended (steps_on rs h) (turn_ahead g (steps_on rs h)) f, turns_end rs f e lt)
     | inr le ↦ (text_of (lines_of rs), at (steps_on rs h) u, turns_pass rs (record { past = e.past; issued = before; later = le }))

@@ -6,7 +6,7 @@ use Rattle.i9_model.specs.State.{State}
 use Rattle.i9_model.specs.declared.run.End.{End}
 use Rattle.i9_model.specs.declared.view.View.{View}
 use Rattle.i9_model.specs.PrintedText.{view_of, text_of, lines_of, record_lines}
-use Rattle.i9_model.specs.Run.{Given, Kind, Instruction, Faulted, Entered, Interrupted, Reached, Blocked, Record, counts_of}
+use Rattle.i9_model.specs.Run.{Given, Kind, Instruction, Faulted, Entered, Interrupted, Reached, Record, counts_of}
 use Rattle.i9_model.proofs.Lines.{text_of-append}
 use Rattle.i9_schedule.specs.Plan.{Plan}
 use Rattle.i9_course.specs.Course.{Item, Step, IsCourse}
@@ -38,7 +38,6 @@ issued_counts (Faulted inst fault) s t h = refl
 issued_counts (Entered e) s t h = absurd h
 issued_counts (Interrupted c e) s t h = absurd h
 issued_counts (Reached e u) s t h = absurd h
-issued_counts (Blocked e a) s t h = absurd h
 
 on_counts : (kind : Kind) (s : State) → TellsRecord kind s answers.On → counts_of kind ≡ 1 → ⊥
 on_counts (Instruction i) s h one = h
@@ -46,7 +45,6 @@ on_counts (Faulted inst fault) s h one = h
 on_counts (Entered e) s h one = omega (arith, one)
 on_counts (Interrupted c e) s h one = omega (arith, one)
 on_counts (Reached e u) s h one = omega (arith, one)
-on_counts (Blocked e a) s h one = omega (arith, one)
 
 same_whole : (answer : Printed) (P : Type 0) → P → OnDone answer P
 same_whole Done P p = p
@@ -136,9 +134,10 @@ module _ {K : Type 0} (k : Account K) (g : Given) (h : List Item) (allows : View
     }
 
     -- the end was reached
-    pub end_seeks : (answer : Printed) (f : End) → Comes g (steps_on inv.done h) (answers.End f) mid next plan [] ls
+    pub end_seeks : (answer : Printed) (e : End) → Comes g (steps_on inv.done h) (answers.End e) mid next plan [] ls
         → Prints answer k b c (flat_map line_text ls) → Drives (StopsBy answer allows g h) answer g k a c next plan
-    end_seeks answer f d p =
+    end_seeks answer e d p =
+        let f = d.finish in
         let place = ended (steps_on inv.done h) (turn_ahead g (steps_on inv.done h)) f in
         let same : front ++ flat_map line_text ls ≡ text_of (ending_lines g h inv.done f) =
         ap (λ (x : List ℕ). front ++ x) (added-text ls _ d.lines) ∙ sym (text_of-append (lines_of inv.done) _) in
@@ -148,7 +147,7 @@ module _ {K : Type 0} (k : Account K) (g : Given) (h : List Item) (allows : View
           is_text = never_stops inv.done f (record { past = d.stands.past; is_end = d.is_end }) inv.passed;
           prints = prints_same k answer a c _ _ same (behind answer p);
           place = place;
-          stands = record { stands = d.stands; turn = d.turn ∙ sym d.now; follows = d.follows };
+          stands = record { stands = d.stands; turn = d.turn ∙ sym d.now; follows = tt };
           whole = same_whole answer _ refl;
         }
 
@@ -186,7 +185,6 @@ module _ (allows : View → Bool → Type 0) (address : ℕ) (agree : (v : View)
   passed_kind (Entered e) s refused = refl
   passed_kind (Interrupted c e) s refused = refl
   passed_kind (Reached e u) s refused = refl
-  passed_kind (Blocked e a) s refused = refl
 
   held_kind : (kind : Kind) (s : State) → counts_of kind ≡ 1 → allows (view_of s) true → (nat_eq (counts_of kind) 1 && nat_eq s.ip address) ≡ true
   held_kind (Instruction i) s one held = sym (agree (view_of s) true held)
@@ -194,7 +192,6 @@ module _ (allows : View → Bool → Type 0) (address : ℕ) (agree : (v : View)
   held_kind (Entered e) s one held = absurd (omega (arith, one))
   held_kind (Interrupted c e) s one held = absurd (omega (arith, one))
   held_kind (Reached e u) s one held = absurd (omega (arith, one))
-  held_kind (Blocked e a) s one held = absurd (omega (arith, one))
 
   none_come : (rs : List Record) → AllByRecursion (IsPassed allows) rs → NoneComesTo address rs
   none_come [] h = tt

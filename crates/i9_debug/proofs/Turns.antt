@@ -174,33 +174,33 @@ module _ {K : Type 0} (k : Account K) (g : Given) (h : List Item) where
         (subst (λ (x : List Item). Follows g x plan) same d.since.follows) (omega (arith, before_turn, turn, begun, lt)))
 
     -- the text of what is left up to the end
-    ending-text : (f : End) → (d : Turns g (steps_on inv.done h) (answers.End f) before m plan [] ls)
-        → front ++ flat_map line_text ls ≡ front ++ text_of (ending_lines g (steps_on inv.done h) d.done f)
-    ending-text f d = ap (λ (x : List ℕ). front ++ x) (added-text ls (ending_lines g (steps_on inv.done h) d.done f) d.lines)
+    ending-text : (e : End) → (d : Turns g (steps_on inv.done h) (answers.End e) before m plan [] ls)
+        → front ++ flat_map line_text ls ≡ front ++ text_of (ending_lines g (steps_on inv.done h) d.done d.finish)
+    ending-text e d = ap (λ (x : List ℕ). front ++ x) (added-text ls (ending_lines g (steps_on inv.done h) d.done d.finish) d.lines)
 
-    end_leads : (u : ℕ) (f : End) → t + i < u → (d : Turns g (steps_on inv.done h) (answers.End f) before m plan [] ls)
-        → TurnsTo g h u (front ++ text_of (ending_lines g (steps_on inv.done h) d.done f))
-        (ended (steps_on d.done (steps_on inv.done h)) (turn_ahead g (steps_on d.done (steps_on inv.done h))) f)
-    end_leads u f lt d =
+    end_leads : (u : ℕ) (e : End) → t + i < u → (d : Turns g (steps_on inv.done h) (answers.End e) before m plan [] ls)
+        → TurnsTo g h u (front ++ text_of (ending_lines g (steps_on inv.done h) d.done d.finish))
+        (ended (steps_on d.done (steps_on inv.done h)) (turn_ahead g (steps_on d.done (steps_on inv.done h))) d.finish)
+    end_leads u e lt d =
         let before_turn : before.turn ≡ t + i = inv.turn in
         let now : turn_ahead g (steps_on d.done (steps_on inv.done h)) ≡ before.turn = d.now in
-        turns_after g h inv.done u _ _ (turns_end d.done f (record { past = d.stands.past; is_end = d.is_end }) (omega (arith, before_turn, now, lt)))
+        turns_after g h inv.done u _ _ (turns_end d.done d.finish (record { past = d.stands.past; is_end = d.is_end }) (omega (arith, before_turn, now, lt)))
 
-    end_stands : (f : End) → (d : Turns g (steps_on inv.done h) (answers.End f) before m plan [] ls)
-        → StandsAt g (ended (steps_on d.done (steps_on inv.done h)) (turn_ahead g (steps_on d.done (steps_on inv.done h))) f) m plan
-    end_stands f d = record { stands = d.stands; turn = d.turn ∙ sym d.now; follows = d.follows }
+    end_stands : (e : End) → (d : Turns g (steps_on inv.done h) (answers.End e) before m plan [] ls)
+        → StandsAt g (ended (steps_on d.done (steps_on inv.done h)) (turn_ahead g (steps_on d.done (steps_on inv.done h))) d.finish) m plan
+    end_stands e d = record { stands = d.stands; turn = d.turn ∙ sym d.now; follows = tt }
 
-    left_end : (u : ℕ) (f : End) → t + i < u → Turns g (steps_on inv.done h) (answers.End f) before m plan [] ls
+    left_end : (u : ℕ) (e : End) → t + i < u → Turns g (steps_on inv.done h) (answers.End e) before m plan [] ls
         → Left u (front ++ flat_map line_text ls) m plan
-    left_end u f lt d =
-        let place = ended (steps_on d.done (steps_on inv.done h)) (turn_ahead g (steps_on d.done (steps_on inv.done h))) f in
-        subst (λ (x : List ℕ). Left u x m plan) (sym (ending-text f d))
+    left_end u e lt d =
+        let place = ended (steps_on d.done (steps_on inv.done h)) (turn_ahead g (steps_on d.done (steps_on inv.done h))) d.finish in
+        subst (λ (x : List ℕ). Left u x m plan) (sym (ending-text e d))
         (record {
           more = [];
           last = place;
-          leads = subst (λ (x : List ℕ). TurnsTo g h u x place) (sym (append-nil _)) (end_leads u f lt d);
+          leads = subst (λ (x : List ℕ). TurnsTo g h u x place) (sym (append-nil _)) (end_leads u e lt d);
           place = place;
-          stands = end_stands f d;
+          stands = end_stands e d;
         })
 
     turn_left : (u : ℕ) (result : Turn) → t + i < u → Turns g (steps_on inv.done h) result before m plan [] ls
@@ -227,16 +227,16 @@ module _ {K : Type 0} (k : Account K) (g : Given) (h : List Item) where
         (prints_then k Done a b c front (flat_map line_text ls) inv.prints p) (left_memory u lt d)
 
     -- the end was reached
-    pub turn_ends : (c : K) (u : ℕ) (f : End) → t + i < u
-        → Turns g (steps_on inv.done h) (answers.End f) before m plan [] ls → Prints Done k b c (flat_map line_text ls)
+    pub turn_ends : (c : K) (u : ℕ) (e : End) → t + i < u
+        → Turns g (steps_on inv.done h) (answers.End e) before m plan [] ls → Prints Done k b c (flat_map line_text ls)
         → Drives (TurnsTo g h u) Done g k a c m plan
-    turn_ends c u f lt d p = record {
-      text = front ++ text_of (ending_lines g (steps_on inv.done h) d.done f);
-      last = ended (steps_on d.done (steps_on inv.done h)) (turn_ahead g (steps_on d.done (steps_on inv.done h))) f;
-      is_text = end_leads u f lt d;
-      prints = prints_same k Done a c _ _ (ending-text f d) (prints_then k Done a b c front (flat_map line_text ls) inv.prints p);
-      place = ended (steps_on d.done (steps_on inv.done h)) (turn_ahead g (steps_on d.done (steps_on inv.done h))) f;
-      stands = end_stands f d;
+    turn_ends c u e lt d p = record {
+      text = front ++ text_of (ending_lines g (steps_on inv.done h) d.done d.finish);
+      last = ended (steps_on d.done (steps_on inv.done h)) (turn_ahead g (steps_on d.done (steps_on inv.done h))) d.finish;
+      is_text = end_leads u e lt d;
+      prints = prints_same k Done a c _ _ (ending-text e d) (prints_then k Done a b c front (flat_map line_text ls) inv.prints p);
+      place = ended (steps_on d.done (steps_on inv.done h)) (turn_ahead g (steps_on d.done (steps_on inv.done h))) d.finish;
+      stands = end_stands e d;
       whole = refl;
     }
 

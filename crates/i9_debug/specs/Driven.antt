@@ -7,23 +7,23 @@ use Rattle.i9_course.specs.Course.{Item, Step, IsCourse}
 use Rattle.i9_machine.specs.Turned.{steps_on}
 use Rattle.i9_tracer.specs.Until.{view_behind, IsPassed}
 use Rattle.i9_model.specs.declared.run.End.{End}
-use Rattle.i9_model.specs.Run.{Given, Record, counts_of}
+use Rattle.i9_model.specs.Run.{Given, Record, counts_of, Finish}
 use Rattle.i9_schedule.specs.Plan.{Plan}
 use Rattle.i9_machine.specs.declared.machine.Machine.{Machine}
-use Rattle.i9_machine.specs.StandsFor.{StandsFor, Follows}
+use Rattle.i9_machine.specs.StandsFor.{StandsFor, FollowsUntil}
 use Rattle.i9_script.specs.declared.command.Command.{Command}
 use Rattle.i9_debug.specs.declared.print.Printed.{Printed}
 use Rattle.i9_debug.specs.declared.print.Printed.TheVariants as printed
 use Rattle.i9_debug.specs.declared.sessions.SessionEnd.{SessionEnd}
 use Rattle.i9_debug.specs.declared.sessions.SessionEnd.TheVariants as ends
 use Rattle.i9_debug.specs.Print.{Account, Prints, OnDone}
-use Rattle.i9_debug.specs.Session.{Place, at, ended, turn_ahead, EndsBehind, ending_lines, IsText}
+use Rattle.i9_debug.specs.Session.{Place, at, ended, turn_ahead, EndsBehind, ending_lines, IsText, end_at}
 
--- a machine stands at a place of the run of what is given, and a schedule follows it
+-- a machine stands at a place of the run of what is given, and a schedule follows it as long as no end was answered
 pub record StandsAt (g : Given) (p : Place) (m : Machine) (plan : Plan) : Type 0 where
   pub stands : StandsFor g p.items p.end m
   pub turn : m.turn ≡ p.turn
-  pub follows : Follows g p.items plan
+  pub follows : FollowsUntil g p.items p.end plan
 
 -- A text that leads to a place was printed on a sink of this type, or a front of it; and the machine stands at some place
 -- behind whole steps, which is that one where all was printed.
@@ -51,7 +51,7 @@ pub data StopsBy (answer : Printed) (allows : View → Bool → Type 0) (g : Giv
   stops : (rs : List Record) (r : Record) → IsCourse g (Step r ∷ steps_on rs h) → AllByRecursion (IsPassed allows) rs
       → counts_of r.kind ≡ 1 → allows (view_behind r) true
       → StopsBy answer allows g h (text_of (lines_of (r ∷ rs))) (at (Step r ∷ steps_on rs h) (turn_ahead g (steps_on rs h)))
-  never_stops : (rs : List Record) (f : End) → EndsBehind g h rs f → AllByRecursion (IsPassed allows) rs
+  never_stops : (rs : List Record) (f : Finish) → EndsBehind g h rs f → AllByRecursion (IsPassed allows) rs
       → StopsBy answer allows g h (text_of (ending_lines g h rs f)) (ended (steps_on rs h) (turn_ahead g (steps_on rs h)) f)
   goes_on : (rs : List Record) (q : Place) → IsCut answer → IsCourse g (steps_on rs h) → AllByRecursion (IsPassed allows) (drop 1 rs)
       → StopsBy answer allows g h (text_of (lines_of rs)) q
@@ -76,4 +76,4 @@ TellsEnd ends.Memory end = Unit {0}
 pub record RunsScript {K : Type 0} (answer : SessionEnd) (g : Given) (p : Place) (cs : List Command) (k : Account K) (old new : K)
     (m : Machine) (plan : Plan) : Type 0 where
   pub drives : Drives (IsText g cs p) (printed_of answer) g k old new m plan
-  pub tells : TellsEnd answer drives.last.end
+  pub tells : TellsEnd answer (end_at drives.last)

@@ -8,7 +8,7 @@ use Rattle.i9_model.specs.declared.view.View.{View}
 use Rattle.i9_model.specs.HeldFrames.{sets_in, cache_after}
 use Rattle.i9_model.specs.Late.{turns as late_turns}
 use Rattle.i9_model.specs.PrintedText.{Shown, view_of, lines_of, end_lines, text_of, overlays, words_text, bytes_text, spaced, spaced_byte, line_feed}
-use Rattle.i9_model.specs.Run.{Given, Record, counts_of, state_after}
+use Rattle.i9_model.specs.Run.{Given, Record, counts_of, state_after, Finish}
 use Rattle.i9_model.specs.State.{State, boot}
 use Rattle.i9_model.specs.Turns.{last_issue}
 use Rattle.i9_model.specs.Writes.{wrapped}
@@ -20,6 +20,7 @@ use Rattle.i9_machine.specs.Raw.{raw_at}
 use Rattle.i9_machine.specs.Turned.{steps_on}
 use Rattle.i9_script.specs.declared.command.Command.{Command}
 use Rattle.i9_script.specs.declared.command.Command.TheVariants as commands
+use Rattle.std.specs.Option.{option_map}
 
 -- ---- places
 
@@ -27,15 +28,19 @@ use Rattle.i9_script.specs.declared.command.Command.TheVariants as commands
 pub record Place : Type 0 where
   pub items : List Item
   pub turn : ℕ
-  pub end : Option End
+  pub end : Option Finish
 
 -- no end was answered
 abbrev pub at : List Item → ℕ → Place
 at h t = record { items = h; turn = t; end = None }
 
 -- one was, at its turn
-abbrev pub ended : List Item → ℕ → End → Place
+abbrev pub ended : List Item → ℕ → Finish → Place
 ended h t f = record { items = h; turn = t; end = Some f }
+
+-- the end that was answered there
+abbrev pub end_at : Place → Option End
+end_at p = option_map (λ f. f.end) p.end
 
 -- ---- what runs
 
@@ -62,18 +67,18 @@ pub record IssueBelow (g : Given) (h : List Item) (u : ℕ) (rs : List Record) :
   pub later : u ≤ turn_ahead g (steps_on rs h)
 
 -- They are all that is left of the run, and this end is behind them.
-pub record EndsBehind (g : Given) (h : List Item) (rs : List Record) (f : End) : Type 0 where
+pub record EndsBehind (g : Given) (h : List Item) (rs : List Record) (f : Finish) : Type 0 where
   pub past : IsCourse g (steps_on rs h)
   pub is_end : end_ahead g (steps_on rs h) ≡ Some f
 
 -- what is shown of records behind items, and of the end behind those
-abbrev pub ending_lines : Given → List Item → List Record → End → List Shown
+abbrev pub ending_lines : Given → List Item → List Record → Finish → List Shown
 ending_lines g h rs f = lines_of rs ++ end_lines (state_at g (steps_on rs h)) f
 
 -- What is shown from items on until a turn has come, and the place then: so much issues below it, or the end comes below it.
 pub data TurnsTo (g : Given) (h : List Item) (u : ℕ) : List ℕ → Place → Type 0 where
   turns_pass : (rs : List Record) → IssueBelow g h u rs → TurnsTo g h u (text_of (lines_of rs)) (at (steps_on rs h) u)
-  turns_end : (rs : List Record) (f : End) → EndsBehind g h rs f → turn_ahead g (steps_on rs h) < u
+  turns_end : (rs : List Record) (f : Finish) → EndsBehind g h rs f → turn_ahead g (steps_on rs h) < u
       → TurnsTo g h u (text_of (ending_lines g h rs f)) (ended (steps_on rs h) (turn_ahead g (steps_on rs h)) f)
 
 -- What is shown from items on until the first instruction leaves the instruction address at this one, and the place then,
@@ -81,7 +86,7 @@ pub data TurnsTo (g : Given) (h : List Item) (u : ℕ) : List ℕ → Place → 
 pub data ComesTo (g : Given) (h : List Item) (a : ℕ) : List ℕ → Place → Type 0 where
   comes : (rs : List Record) (r : Record) → IsCourse g (Step r ∷ steps_on rs h) → NoneComesTo a rs → comes_to a r ≡ true
       → ComesTo g h a (text_of (lines_of (r ∷ rs))) (at (Step r ∷ steps_on rs h) (turn_ahead g (steps_on rs h)))
-  none_comes : (rs : List Record) (f : End) → EndsBehind g h rs f → NoneComesTo a rs
+  none_comes : (rs : List Record) (f : Finish) → EndsBehind g h rs f → NoneComesTo a rs
       → ComesTo g h a (text_of (ending_lines g h rs f)) (ended (steps_on rs h) (turn_ahead g (steps_on rs h)) f)
 
 -- nothing is shown, and the place is as before
@@ -89,7 +94,7 @@ abbrev pub Stays : Place → List ℕ → Place → Type 0
 Stays p shown q = (shown ≡ []) × (q ≡ p)
 
 -- after an end nothing is run
-abbrev pub UnlessOver : Option End → Type 0 → Type 0 → Type 0
+abbrev pub UnlessOver : Option Finish → Type 0 → Type 0 → Type 0
 UnlessOver None goes stays = goes
 UnlessOver (Some f) goes stays = stays
 

@@ -7,6 +7,7 @@ mod print;
 mod sessions;
 mod text;
 
+pub use i9_script::{Command, Script, read_script};
 pub use print::{
     Printed, print_generated, print_line, print_lines, print_piece, print_refusal, print_text,
 };

@@ -2,9 +2,8 @@
 ghost use Rattle.std.specs.Prelude.{◌≡◌, ◌++◌, ℕ, List, Option, length, map, reverse, IfOk};
 ghost use Rattle.std.specs.List.{flat_map};
 ghost use Rattle.i9_model.specs.Given.{Given};
-ghost use Rattle.i9_model.specs.declared.run.End.{End as Ending};
 ghost use Rattle.i9_model.specs.PrintedText.{overlays, words_text};
-ghost use Rattle.i9_model.specs.Run.{state_after};
+ghost use Rattle.i9_model.specs.Run.{Finish, state_after};
 ghost use Rattle.i9_course.specs.Course.{Item, records_of};
 ghost use Rattle.i9_machine.specs.StandsFor.{StandsFor};
 ghost use Rattle.i9_script.specs.declared.command.Command.TheVariants as command;
@@ -106,7 +105,7 @@ fn held_line(alloc: Global, sets: &Sets) -> Result<Vec<u8>, AllocError>
 /// So many bytes of the view from an address up, `None` where none is compared.
 #[tactic(auto, using(crate::proofs::PlaceBytes::byte_rules))]
 fn shown_bytes(alloc: Global, m: &Machine, a: u32, n: u8) -> Result<Vec<Option<u8>>, AllocError>
-    ensures { IfOk result (λ list. (g : Given) (h : List Item) (end : Option Ending) → StandsFor g h end m.now
+    ensures { IfOk result (λ list. (g : Given) (h : List Item) (end : Option Finish) → StandsFor g h end m.now
         → list.items ≡ overlays (state_after g (records_of h)) a n) }
 {
     let mut list = Vec::new(alloc);
@@ -119,7 +118,7 @@ fn shown_bytes(alloc: Global, m: &Machine, a: u32, n: u8) -> Result<Vec<Option<u
 /// So many bytes of raw memory from an address up.
 #[tactic(auto, using(crate::proofs::PlaceBytes::byte_rules))]
 fn standing_bytes(alloc: Global, m: &Machine, a: u32, n: u8) -> Result<Vec<Option<u8>>, AllocError>
-    ensures { IfOk result (λ list. (g : Given) (h : List Item) (end : Option Ending) → StandsFor g h end m.now
+    ensures { IfOk result (λ list. (g : Given) (h : List Item) (end : Option Finish) → StandsFor g h end m.now
         → list.items ≡ raw_bytes g h m.now.turn a n) }
 {
     let mut list = Vec::new(alloc);
@@ -149,7 +148,7 @@ pub(crate) fn told_lines(
     c: &Command,
 ) -> Result<Vec<Vec<u8>>, AllocError>
     ensures lines { IfOk result (λ ts. AreLines ts.items) }
-    ensures text { IfOk result (λ ts. (g : Given) (h : List Item) (end : Option Ending) → StandsFor g h end m.now
+    ensures text { IfOk result (λ ts. (g : Given) (h : List Item) (end : Option Finish) → StandsFor g h end m.now
         → flat_map (λ t. t.items) ts.items ≡ told g h m.now.turn c.now) }
 {
     match c {

@@ -1,7 +1,7 @@
 //! A session of the debugger: what the commands of a script print, over a machine.
 ghost use Rattle.std.specs.Prelude.{◌≡◌, ◌+◌, ◌≤◌, nat_eq, List, Option, None};
 ghost use Rattle.i9_model.specs.Given.{Given};
-ghost use Rattle.i9_model.specs.declared.run.End.{End as Ending};
+ghost use Rattle.i9_model.specs.Run.{Finish};
 ghost use Rattle.i9_course.specs.Course.{Item};
 ghost use Rattle.i9_machine.specs.InRun.{IsInRun};
 ghost use Rattle.i9_machine.specs.StandsFor.{StandsFor, Follows, IsUnderWay};
@@ -184,7 +184,7 @@ fn run_command<K: Sink>(
 
 /// Prints what a command tells of the place at which a machine stands.
 fn tell<K: Sink>(alloc: Global, m: &Machine, c: &Command, out: &mut K) -> Printed
-    ensures { (g : Given) (h : List Item) (end : Option Ending) → StandsFor g h end m.now
+    ensures { (g : Given) (h : List Item) (end : Option Finish) → StandsFor g h end m.now
         → Prints result (account K.told K.faults K.writes K.sure) out.old out.new (told g h m.now.turn c.now) }
 {
     match told_lines(alloc, m, c) {

@@ -1,7 +1,7 @@
 //! Statements against words that were worked out by hand from the instruction formats.
 use crate::text;
 use i9_statement::{code_of, statement_of, statements_read_back, words_are_one};
-use i9_value::Names;
+use i9_value::{Definition, Known, Table};
 use std::alloc::Global;
 use std::collections::BTreeMap;
 use std::test::Fail;
@@ -183,16 +183,17 @@ fn is_printed(alloc: Global, row: &str) -> Result<bool, Fail> {
 }
 
 /// `n` is 5, `start` is 1000 and `far` is E0000000.
-fn names(alloc: Global) -> Result<Names, Fail> {
-    let mut names = BTreeMap::new(alloc);
-    names.insert(String::from_str(alloc, "n")?, 5)?;
-    names.insert(String::from_str(alloc, "start")?, 0x1000)?;
-    names.insert(String::from_str(alloc, "far")?, 0xE000_0000)?;
-    Ok(names)
+fn table(alloc: Global) -> Result<Table, Fail> {
+    let mut table = BTreeMap::new(alloc);
+    for (name, value) in [("n", 5), ("start", 0x1000), ("far", 0xE000_0000)] {
+        let definition = Definition { value, step: 0 };
+        table.insert(String::from_str(alloc, name)?, definition)?;
+    }
+    Ok(table)
 }
 
 /// The words of a statement at an address, or the kind of its fault.
-fn words(alloc: Global, names: &Names, ip: u32, text: &str) -> Result<String, Fail> {
+fn words(alloc: Global, names: Known<'_>, ip: u32, text: &str) -> Result<String, Fail> {
     let read = statement_of(ip, names, text.as_bytes());
     if let Some(fault) = read.fault {
         return Ok(format!(in alloc; "{}", fault.kind())?);
@@ -206,7 +207,7 @@ fn words(alloc: Global, names: &Names, ip: u32, text: &str) -> Result<String, Fa
 }
 
 /// Whether the statement of a row has its words at its address.
-fn is_read(alloc: Global, names: &Names, row: &str) -> Result<bool, Fail> {
+fn is_read(alloc: Global, names: Known<'_>, row: &str) -> Result<bool, Fail> {
     let Some((place, text)) = row.split_once(": ") else {
         return Ok(false);
     };
@@ -220,7 +221,7 @@ fn is_read(alloc: Global, names: &Names, row: &str) -> Result<bool, Fail> {
 }
 
 /// Whether the statement of a row is refused for its kind.
-fn is_refused(alloc: Global, names: &Names, row: &str) -> Result<bool, Fail> {
+fn is_refused(alloc: Global, names: Known<'_>, row: &str) -> Result<bool, Fail> {
     match row.split_once(": ") {
         Some((kind, text)) => Ok(words(alloc, names, 0, text)?.as_str() == kind),
         None => Ok(false),
@@ -239,10 +240,11 @@ fn prints_statements(rt: HostRuntime) -> Result<(), Fail> {
 
 #[test]
 fn reads_statements(rt: HostRuntime) -> Result<(), Fail> {
-    let names = names(rt.alloc())?;
+    let table = table(rt.alloc())?;
+    let names = Known::All(&table);
     for table in [PRINTED, OTHER_FORMS, ACROSS] {
         for row in table.lines() {
-            assert!(rt; is_read(rt.alloc(), &names, row)?, "{row}");
+            assert!(rt; is_read(rt.alloc(), names, row)?, "{row}");
         }
     }
     statements_read_back();
@@ -252,9 +254,10 @@ fn reads_statements(rt: HostRuntime) -> Result<(), Fail> {
 
 #[test]
 fn refuses_statements(rt: HostRuntime) -> Result<(), Fail> {
-    let names = names(rt.alloc())?;
+    let table = table(rt.alloc())?;
+    let names = Known::All(&table);
     for row in REFUSED.lines() {
-        assert!(rt; is_refused(rt.alloc(), &names, row)?, "{row}");
+        assert!(rt; is_refused(rt.alloc(), names, row)?, "{row}");
     }
     Ok(())
 }

@@ -360,7 +360,11 @@ fn requests(rt: HostRuntime) -> Result<(), Fail> {
         (23, (0x4000, 0x4006), (0x10, 0x01), (0x14, 0x81)),
         (23, (0x4000, 0x4006), (0x04, 0x80), (0x04, 0x80)),
         (250, (0x4003, 0x4023), (0, 0), (0x80, 0x04)),
+        // sysctl asks for none of the vectors below 8; here they are vectors as any other.
         (0, (0x4000, 0x4004), (0, 0), (0x01, 0x01)),
+        (7, (0x4000, 0x4004), (0, 0), (0x01, 0x80)),
+        (8, (0x4000, 0x4005), (0, 0), (0x02, 0x01)),
+        (255, (0x4003, 0x4023), (0, 0), (0x80, 0x80)),
     ];
     for (vector, at, before, after) in rows {
         let mut memory = memory(rt.alloc(), TABLE, &[(at.0, before.0), (at.1, before.1)])?;

@@ -31,10 +31,10 @@ use Rattle.i9_model.specs.Calls.{record_address}
 use Rattle.i9_model.specs.Interrupts.{with_bit, without_bit, vector_priority, priority_place, pending_place, request_writes, left_pending, priority_writes, taken_writes, clearing_writes, record_writes}
 use Rattle.i9_model.specs.Tables.{group_words}
 use Rattle.i9_model.specs.Controls.{Control, KeepsControls, Restarts, LoadsGroup, controlled}
-use Rattle.i9_model.specs.Step.{Move, Stays, Saves, Returns, Flushes, Action, stored_of, bytes_of_words, moving, merged, atomic, atomic_address, branching, resulting, answer_in, Message, AsksNothing, AsksInterrupt, AsksRestart, AsksGroup, message_kind, message_of, argument_of, message_action, action_by_name, action_by, action_of, memory_after, moved, acted}
+use Rattle.i9_model.specs.Step.{Move, Stays, Saves, Returns, Flushes, Action, stored_of, bytes_of_words, moving, merged, atomic, atomic_address, branching, resulting, answer_in, Message, AsksNothing, AsksCheck, AsksInterrupt, AsksRestart, AsksGroup, asked_message, argument_of, message_action, action_by_name, action_by, action_of, memory_after, moved, acted}
 use Rattle.i9_model.specs.Dma.{unit_length, unit_bytes}
 use Rattle.i9_model.specs.Before.{Received}
-use Rattle.i9_model.specs.Run.{Given, Record, Kind, Instruction, Faulted, Entered, Interrupted, Reached, Blocked, action_by_kind, due_after, event_after, state_after, IsPast}
+use Rattle.i9_model.specs.Run.{Given, Record, Kind, Instruction, Faulted, Entered, Interrupted, Reached, action_by_kind, due_after, event_after, state_after, IsPast}
 use Rattle.i9_model.proofs.ControlLaws.{by_group, flagged-others}
 use Rattle.i9_model.proofs.Comes.{MayCome, next_comes}
 use Rattle.i9_laws.specs.Kept.{HasBytes}
@@ -100,6 +100,7 @@ clearing_stores Soft m table v h =
 
 message_stores : (m : Message) (i : Inst) (s : State) → AreBytes s.memory → ArePut 256 (message_action m i s).writes
 message_stores AsksNothing i s h = tt
+message_stores AsksCheck i s h = tt
 message_stores AsksInterrupt i s h = request_stores s.memory s.tables.interrupt_table (argument_of i s) h
 message_stores AsksRestart i s h = tt
 message_stores AsksGroup i s h = tt
@@ -125,7 +126,7 @@ name_stores Flushreg i s h = tt
 name_stores Modac i s h = tt
 name_stores Modtc i s h = tt
 name_stores Modpc i s h = tt
-name_stores Sysctl i s h = message_stores (message_kind (message_of i s)) i s h
+name_stores Sysctl i s h = message_stores (asked_message i s) i s h
 name_stores op i s h = other_stores (asks (question_of op)) i s
 
 instruction_stores : (i : Inst) (s : State) → AreBytes s.memory → ArePut 256 (action_of i s).writes
@@ -184,7 +185,6 @@ kind_stores limit due stands (Interrupted c e) s range may h =
     (clearing_stores c.cause m s.tables.interrupt_table c.vector (stored_below s.memory.bytes recorded h stores))
 kind_stores limit due stands (Reached e u) s range may h =
     received_as ReceivesBytes s e u (event_stores s e (range e may.2) h) may.3
-kind_stores limit due stands (Blocked e a) s range may h = tt
 
 -- ---- the state after it
 

@@ -24,7 +24,7 @@ use Rattle.i9_model.specs.Standing.{Standing, Meets, Refused, Faults, Runs, rais
 use Rattle.i9_model.specs.declared.run.Due.{Due}
 use Rattle.i9_model.specs.declared.run.Due.TheVariants as dues
 use Rattle.i9_model.specs.declared.run.End.TheVariants.{Limit}
-use Rattle.i9_model.specs.Run.{Kind, Instruction, Faulted, Entered, Interrupted, Reached, Blocked, Record, record_of, reached_kind, Does, Ends, next_by_standing, next_by_entry, entry_in, next_by_event, next_by_interrupt, next_by_choice, next_in, fault_at}
+use Rattle.i9_model.specs.Run.{Kind, Instruction, Faulted, Entered, Interrupted, Reached, Record, record_of, Does, Ends, next_by_standing, next_by_entry, entry_in, next_by_event, next_by_interrupt, next_by_choice, next_in, fault_at, finish, next_by_received}
 
 -- ---- what is done is decoded
 
@@ -62,7 +62,6 @@ IsRead s (Faulted inst fault) = Unit {0}
 IsRead s (Entered e) = Unit {0}
 IsRead s (Interrupted c e) = Unit {0}
 IsRead s (Reached e u) = Unit {0}
-IsRead s (Blocked e a) = Unit {0}
 
 read_by : (s : State) (k : Kind) (r : Record) → IsRead s k → Does (record_of k s) ≡ Does r → IsRead s r.kind
 read_by s k r d e = let same : record_of k s ≡ r = cc in subst (λ (q : Record). IsRead s q.kind) same d
@@ -78,10 +77,10 @@ entry_read s (Ok x) r e = read_by s (Entered x) r tt e
 entry_read s (Err (stops.Hazard a)) r e = absurd cc
 entry_read s (Err (stops.Dead code a)) r e = absurd cc
 
-reached_read : (x : Event) (s : State) (o : Result Received ℕ) (r : Record) → Does (record_of (reached_kind x o) s) ≡ Does r
+reached_read : (x : Event) (s : State) (o : Result Received ℕ) (r : Record) → next_by_received s x o ≡ Does r
     → IsRead s r.kind
 reached_read x s (Ok u) r e = read_by s (Reached x u) r tt e
-reached_read x s (Err a) r e = read_by s (Blocked x a) r tt e
+reached_read x s (Err a) r e = absurd (cc e)
 
 event_read : (stands : Option Event) (s : State) (r : Record) → next_by_event stands s ≡ Does r → IsRead s r.kind
 unfolding stands_at
@@ -104,7 +103,7 @@ next_read limit (dues.End f) stands s r e = absurd cc
 next_read limit (dues.Entry fault) stands s r e = entry_read s (entry_in s fault) r e
 next_read limit dues.Nothing stands s r e = by_length (eqb s.count limit) e
   where
-    by_length : (b : Bool) → cond b (Ends Limit) (next_by_choice stands s (choice_in s)) ≡ Does r → IsRead s r.kind
+    by_length : (b : Bool) → cond b (Ends (finish Limit)) (next_by_choice stands s (choice_in s)) ≡ Does r → IsRead s r.kind
     by_length true h = absurd cc
     by_length false h = choice_read stands s (choice_in s) r h
 

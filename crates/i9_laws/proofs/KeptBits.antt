@@ -33,7 +33,7 @@ use Rattle.i9_model.specs.Boot.{setup_of, boot_setup}
 use Rattle.i9_model.specs.Calls.{in_supervisor_mode, takes_record, leaves_supervisor, with_supervisor, without_supervisor, saved_pc, saved_ac, return_type, popped}
 use Rattle.i9_model.specs.Tables.{group_words}
 use Rattle.i9_model.specs.Controls.{Control, KeepsControls, Restarts, LoadsGroup, controlled}
-use Rattle.i9_model.specs.Step.{Action, going, following, branching, resulting, controls_of, answer_in, moving, action_by_name, action_by, action_of, Message, AsksNothing, AsksInterrupt, AsksRestart, AsksGroup, message_kind, message_of, message_action, system_call, calls_action, entering, moved, flagged, acted}
+use Rattle.i9_model.specs.Step.{Action, going, following, branching, resulting, controls_of, answer_in, moving, action_by_name, action_by, action_of, Message, AsksNothing, AsksCheck, AsksInterrupt, AsksRestart, AsksGroup, asked_message, message_action, system_call, calls_action, entering, moved, flagged, acted}
 use Rattle.i9_model.specs.declared.run.Due.{Due}
 use Rattle.i9_model.specs.declared.interrupts.Chosen.{Chosen}
 use Rattle.i9_model.specs.declared.event.Event.{Event}
@@ -45,7 +45,7 @@ use Rattle.i9_model.specs.Requests.{with_bit}
 use Rattle.i9_model.specs.Tracing.{with_bits, breakpoints, break_flag_of, matches, has_match, break_flags, has_mode, comes_with, trace_events, flag_of, event_flags, is_raised, trace_made, trace_of}
 use Rattle.i9_model.specs.Traced.{is_traced, seen_of}
 use Rattle.i9_model.proofs.Untraced.{action_untraced}
-use Rattle.i9_model.specs.Run.{Given, Record, Kind, Instruction, Faulted, Entered, Interrupted, Reached, Blocked, action_by_kind, due_after, event_after, state_after, IsPast, entry_in, faulted_words}
+use Rattle.i9_model.specs.Run.{Given, Record, Kind, Instruction, Faulted, Entered, Interrupted, Reached, action_by_kind, due_after, event_after, state_after, IsPast, entry_in, faulted_words}
 use Rattle.i9_model.proofs.ControlLaws.{by_group}
 use Rattle.i9_model.proofs.Comes.{MayCome, next_comes}
 use Rattle.i9_model.proofs.KeptBits.{masked, same_above}
@@ -204,6 +204,7 @@ read_kept false w ac h = h
 
 message_kept : (m : Message) (i : Inst) (s : State) → IsKept s → Keeps (message_action m i s)
 message_kept AsksNothing i s h = passing_kept s i h
+message_kept AsksCheck i s h = let k = passing_kept s i h in record { ac = k.ac; pc = k.pc; tc = k.tc; ip = k.ip }
 message_kept AsksInterrupt i s h = let k = passing_kept s i h in record { ac = k.ac; pc = k.pc; tc = k.tc; ip = k.ip }
 message_kept AsksRestart i s h = let k = passing_kept s i h in record { ac = k.ac; pc = k.pc; tc = k.tc; ip = k.ip }
 message_kept AsksGroup i s h = let k = passing_kept s i h in record { ac = k.ac; pc = k.pc; tc = k.tc; ip = k.ip }
@@ -232,7 +233,7 @@ name_kept Modac i s h = record { ac = masked AC_MASK _; pc = h.pc; tc = h.tc; ip
 name_kept Modtc i s h = record { ac = h.ac; pc = h.pc; tc = masked TC_MASK _; ip = following_even s (words_of i) h }
 name_kept Modpc i s h = record { ac = h.ac; pc = masked PC_MASK _; tc = h.tc; ip = following_even s (words_of i) h }
 name_kept Sdma i s h = passing_kept s i h
-name_kept Sysctl i s h = message_kept (message_kind (message_of i s)) i s h
+name_kept Sysctl i s h = message_kept (asked_message i s) i s h
 name_kept op i s h = other_kept (asks (question_of op)) i s h
 
 moving_kept : (d : Direction) (size : Size) (signed : Bool) (i : Inst) (s : State) → IsKept s → Keeps (moving d size signed i s)
@@ -273,7 +274,6 @@ kind_kept limit due stands (Faulted inst fault) s may h =
 kind_kept limit due stands (Entered e) s may h = entering_kept s may.0 e h may.2
 kind_kept limit due stands (Interrupted c e) s may h = interrupting_kept s c e h may.2 may.3
 kind_kept limit due stands (Reached e u) s may h = record { ac = h.ac; pc = h.pc; tc = h.tc; ip = h.ip }
-kind_kept limit due stands (Blocked e a) s may h = going_kept s s.ip h h.ip
 
 -- ---- the state after it
 
@@ -354,7 +354,6 @@ kind_flags (Faulted inst fault) s h = tt
 kind_flags (Entered e) s h = tt
 kind_flags (Interrupted c e) s h = tt
 kind_flags (Reached e u) s h = tt
-kind_flags (Blocked e a) s h = tt
 
 -- ---- a run
 

@@ -33,9 +33,9 @@ use Rattle.i9_model.specs.Requests.{without_bit}
 use Rattle.i9_model.specs.Dma.{set_up, is_last, posts_at_end, ended, dma_behind}
 use Rattle.i9_model.specs.Tables.{group_words}
 use Rattle.i9_model.specs.Controls.{Control, KeepsControls, Restarts, LoadsGroup, controlled}
-use Rattle.i9_model.specs.Step.{Action, loaded, atomic_address, following, values_of, destination, answer_in, branching, resulting, moving, channel_in, Message, AsksNothing, AsksInterrupt, AsksRestart, AsksGroup, message_kind, message_of, message_action, action_by_name, action_by, action_of, moved, acted}
+use Rattle.i9_model.specs.Step.{Action, loaded, atomic_address, following, values_of, destination, answer_in, branching, resulting, moving, channel_in, Message, AsksNothing, AsksCheck, AsksInterrupt, AsksRestart, AsksGroup, asked_message, message_action, action_by_name, action_by, action_of, moved, acted}
 use Rattle.i9_model.specs.Before.{Received}
-use Rattle.i9_model.specs.Run.{Given, Record, Kind, Instruction, Faulted, Entered, Interrupted, Reached, Blocked, action_by_kind, due_after, event_after, state_after, IsPast}
+use Rattle.i9_model.specs.Run.{Given, Record, Kind, Instruction, Faulted, Entered, Interrupted, Reached, action_by_kind, due_after, event_after, state_after, IsPast}
 use Rattle.i9_model.proofs.ControlLaws.{by_group, flagged-others}
 use Rattle.i9_model.proofs.Comes.{MayCome, next_comes}
 use Rattle.i9_model.proofs.KeptBits.{masked}
@@ -121,6 +121,7 @@ assigning_lines o vs s h = assigned_lines o vs s.interrupts s.dma h
 
 message_lines : (m : Message) (i : Inst) (s : State) → HasLines s → LeavesLines (message_action m i s)
 message_lines AsksNothing i s h = h
+message_lines AsksCheck i s h = h
 message_lines AsksInterrupt i s h = h
 message_lines AsksRestart i s h = h
 message_lines AsksGroup i s h = h
@@ -145,7 +146,7 @@ name_lines Modac i s h = assigning_lines i.c (s.ac ∷ []) s h
 name_lines Modtc i s h = assigning_lines i.c (s.trace.tc ∷ []) s h
 name_lines Modpc i s h = assigning_lines i.c (s.pc ∷ []) s h
 name_lines Sdma i s h = set_up_lines (value s i.a) (channel_in i s) s h
-name_lines Sysctl i s h = message_lines (message_kind (message_of i s)) i s h
+name_lines Sysctl i s h = message_lines (asked_message i s) i s h
 name_lines op i s h = other_lines (asks (question_of op)) i s h
 
 moving_lines : (d : Direction) (size : Size) (signed : Bool) (i : Inst) (s : State) → HasLines s → LeavesLines (moving d size signed i s)
@@ -193,7 +194,6 @@ kind_lines limit due stands (Faulted inst fault) s range may h = h
 kind_lines limit due stands (Entered e) s range may h = h
 kind_lines limit due stands (Interrupted c e) s range may h = cleared_lines c.cause s.interrupts s.dma h
 kind_lines limit due stands (Reached e u) s range may h = received_as ReceivesLines s e u (event_lines s e (range e may.2) h) may.3
-kind_lines limit due stands (Blocked e a) s range may h = h
 
 -- ---- the state after it
 

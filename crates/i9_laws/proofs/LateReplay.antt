@@ -1,6 +1,6 @@
 -- The events that a run reached whose results land late, each at its count, are those of a schedule; its printed text says
 -- them, and with them and any number of sets it is the same run.
-use Rattle.std.proofs.Common.{◌≡◌, ℕ, zero, suc, ◌<◌, ◌≤◌, true, List, [], ◌∷◌, ◌++◌, length, Option, Some, None, refl, sym, ◌∙◌, subst, inl, inr, length-append, arith}
+use Rattle.std.proofs.Common.{◌≡◌, ℕ, zero, suc, ◌<◌, ◌≤◌, true, List, [], ◌∷◌, ◌++◌, length, Option, Some, None, refl, sym, ◌∙◌, subst, inl, inr, length-append, arith, ap}
 use Rattle.std.specs.List.{slice_get, AllByRecursion}
 use Rattle.i9_text.specs.Text as texts
 use Rattle.i9_model.specs.declared.event.Event.{Event}
@@ -9,16 +9,17 @@ use Rattle.i9_model.specs.declared.layout.TheConstants.{MAX_LENGTH}
 use Rattle.i9_model.specs.declared.run.End.{End}
 use Rattle.i9_model.specs.Events.{IsInRange}
 use Rattle.i9_model.specs.ScheduleText.{time_of, timed_at, IsTimedInRange, InOrder, IsPlan, IsSchedule}
-use Rattle.i9_model.specs.Run.{Given, Record, Does, next_with, reached_after, state_after}
+use Rattle.i9_model.specs.Run.{Given, Record, Does, next_with, reached_after, state_after, Finish, Ends, finish, reached_last, reached_in}
 use Rattle.i9_model.specs.PrintedText.{run_text}
 use Rattle.i9_model.proofs.Heedful.{heedful, counted, with_plan}
 use Rattle.i9_model.proofs.Left.{standing_by_place}
 use Rattle.i9_model.proofs.Plans.{last_time, last_time-push}
-use Rattle.i9_course.specs.Course.{records_of, event_ahead, instruction_turn}
+use Rattle.i9_course.specs.Course.{records_of, event_ahead, instruction_turn, comes_next}
 use Rattle.i9_course.specs.LateRun.{steps, IsLatePast, IsLateRun}
-use Rattle.i9_course.proofs.LateRuns.{records_of-steps, next_of_steps, late_next, late_past, late_within}
-use Rattle.i9_course.proofs.LateSame.{all_counted, run_again, run_sets}
-use Rattle.i9_laws.proofs.RunsAgain.{text_is_schedule, text_with}
+use Rattle.i9_course.proofs.LateRuns.{records_of-steps, next_of_steps, late_next, late_within, run_cases, run_ends}
+use Rattle.i9_course.proofs.LateSame.{run_again, run_sets, in_counted}
+use Rattle.i9_laws.proofs.RunsAgain.{text_says}
+use Rattle.std.proofs.lemmas.List.{append-nil}
 
 -- ---- one event more
 
@@ -77,6 +78,9 @@ more_fits g rs r t f grown fine after before room =
 same_record : (r q : Record) → Does r ≡ Does q → r ≡ q
 same_record r q e = cc
 
+same_finish : (f k : Finish) → Ends f ≡ Ends k → f ≡ k
+same_finish f k e = cc
+
 -- the event that stands is one of the plan, at the place behind those that were reached
 stands : (g : Given) (rs : List Record) (e : Event) → IsPlan g.plan → event_ahead g (steps rs) ≡ Some e
     → IsInRange e × (length (reached_after rs) < length g.plan)
@@ -100,7 +104,7 @@ fits g (r ∷ rs) plan short past =
         let grows = (counted g).grows (Some e) rs r is in
         elim ((heedful g).heard rs e) [
           | inl same ↦ same_fits g rs r before ((heedful g).quiet rs r (sym same ∙ is)) grows
-          | inr found ↦
+          | inr (inl found) ↦
               let t = timed_at (state_after g rs).count e in
               let grown = subst (λ (x : Record). reached_after (x ∷ rs) ≡ reached_after rs ++ t ∷ []) (same_record found.0 r (sym found.1 ∙ is)) found.2 in
               let one = stands g rs e plan at in
@@ -108,34 +112,95 @@ fits g (r ∷ rs) plan short past =
               let most : MAX_LENGTH ≡ 10000000 = refl in
               let fine : IsTimedInRange t = record { time = omega (arith, within, short, most); event = one.0 } in
               more_fits g rs r t before grown fine before.last grows one.1
+          | inr (inr ends) ↦ absurd (cc (sym ends.1 ∙ is))
         ]
 
-pub late_plan : (g : Given) (rs : List Record) → IsPlan g.plan → g.length ≤ MAX_LENGTH → IsLatePast g rs
-    → IsPlan (reached_after rs)
-late_plan g rs plan short past =
+-- the events that were reached with an end are in range and in order too
+record FitsTo (g : Given) (rs : List Record) (ts : List Timed) : Type 0 where
+  each : AllByRecursion IsTimedInRange ts
+  order : InOrder 0 ts
+  few : length ts ≤ length g.plan
+
+fits_none : (g : Given) (rs : List Record) → Fits g rs → FitsTo g rs (reached_after rs ++ [])
+fits_none g rs f =
+    subst (FitsTo g rs) (sym (append-nil (reached_after rs))) (record { each = f.each; order = f.order; few = f.few })
+
+fits_one : (g : Given) (rs : List Record) (e : Event) → IsPlan g.plan → g.length ≤ MAX_LENGTH → IsLatePast g rs
+    → event_ahead g (steps rs) ≡ Some e → FitsTo g rs (reached_after rs ++ timed_at (state_after g rs).count e ∷ [])
+fits_one g rs e plan short past at =
     let f = fits g rs plan short past in
-    let few = f.few in
+    let t = timed_at (state_after g rs).count e in
+    let one = stands g rs e plan at in
+    let room = one.1 in
+    let within = late_within g rs past in
+    let most : MAX_LENGTH ≡ 10000000 = refl in
+    let fine : IsTimedInRange t = record { time = omega (arith, within, short, most); event = one.0 } in
+    let long = length-append (reached_after rs) (t ∷ []) in
+    record {
+      each = each_more (reached_after rs) t f.each fine;
+      order = order_more 0 (reached_after rs) t f.order f.last;
+      few = omega (arith, long, room);
+    }
+
+-- an end that comes next reached nothing, or the event that stood there
+end_fits : (g : Given) (rs : List Record) (f : Finish) → IsPlan g.plan → g.length ≤ MAX_LENGTH → IsLatePast g rs
+    → comes_next g (steps rs) ≡ Ends f → FitsTo g rs (reached_in g rs f)
+end_fits g rs f plan short past ends = by_event (event_ahead g (steps rs)) refl (sym (next_of_steps g rs) ∙ ends)
+  where
+    count : ℕ
+    count = (state_after g rs).count
+
+    silent : f.event ≡ None → FitsTo g rs (reached_in g rs f)
+    silent none =
+        subst (λ (x : Option Event). FitsTo g rs (reached_after rs ++ reached_last count x)) (sym none)
+        (fits_none g rs (fits g rs plan short past))
+
+    by_event : (o : Option Event) → event_ahead g (steps rs) ≡ o → next_with g o rs ≡ Ends f → FitsTo g rs (reached_in g rs f)
+    by_event None at is = silent ((heedful g).silent rs f is)
+    by_event (Some e) at is = elim ((heedful g).heard rs e) [
+      | inl same ↦ silent ((heedful g).silent rs f (sym same ∙ is))
+      | inr (inl found) ↦ absurd (cc (sym found.1 ∙ is))
+      | inr (inr found) ↦
+          let one : found.0 ≡ f = same_finish found.0 f (sym found.1 ∙ is) in
+          let reached : f.event ≡ Some e = ap (λ (x : Finish). x.event) (sym one) ∙ found.2 in
+          subst (λ (x : Option Event). FitsTo g rs (reached_after rs ++ reached_last count x)) (sym reached)
+          (fits_one g rs e plan short past at)
+    ]
+
+run_fits : (g : Given) (rs : List Record) (f : Finish) → IsPlan g.plan → g.length ≤ MAX_LENGTH → IsLateRun g rs f
+    → FitsTo g rs (reached_in g rs f)
+run_fits g rs f plan short run = elim (run_cases g rs f run) [
+  | inl plain ↦ end_fits g rs f plan short run.past (run_ends g rs f plain run).1
+  | inr fault ↦
+      subst (λ (k : Finish). FitsTo g rs (reached_in g rs k)) (sym fault.1) (fits_none g rs (fits g rs plan short run.past))
+]
+
+fit_plan : (g : Given) (rs : List Record) (f : Finish) → IsPlan g.plan → FitsTo g rs (reached_in g rs f) → IsPlan (reached_in g rs f)
+fit_plan g rs f plan fit =
+    let few = fit.few in
     let most = plan.few in
-    record { each = f.each; order = f.order; few = omega (arith, few, most); alike = (true, all_counted rs) }
+    record { each = fit.each; order = fit.order; few = omega (arith, few, most); alike = (true, in_counted g rs f) }
 
 -- ---- its text, and the run of what it reached
 
-pub late_text : (g : Given) (rs : List Record) (end : End) → IsPlan g.plan → g.length ≤ MAX_LENGTH → IsLatePast g rs
-    → IsSchedule (texts.lines_of (run_text g rs end)) (reached_after rs)
-late_text g rs end plan short past =
-    let placed = with_plan g (reached_after rs) in
-    subst (λ (text : List ℕ). IsSchedule (texts.lines_of text) (reached_after rs)) (text_with g (reached_after rs) rs end)
-    (text_is_schedule placed rs end (late_plan g rs plan short past) (late_past g rs past))
+pub late_text : (g : Given) (rs : List Record) (f : Finish) → IsPlan g.plan → g.length ≤ MAX_LENGTH → IsLateRun g rs f
+    → IsSchedule (texts.lines_of (run_text g rs f)) (reached_in g rs f)
+late_text g rs f plan short run = text_says g rs f (fit_plan g rs f plan (run_fits g rs f plan short run))
 
-placed_text : (g : Given) (asked : Option ℕ) (plan : List Timed) (rs : List Record) (end : End)
-    → run_text (record g { plan = plan; sets = asked }) rs end ≡ run_text g rs end
-placed_text g asked plan [] end = refl
-placed_text g asked plan (r ∷ rs) end = refl
+pub late_cut : (g : Given) (rs : List Record) (e : End) → IsPlan g.plan → g.length ≤ MAX_LENGTH → IsLatePast g rs
+    → IsSchedule (texts.lines_of (run_text g rs (finish e))) (reached_in g rs (finish e))
+late_cut g rs e plan short past =
+    text_says g rs (finish e) (fit_plan g rs (finish e) plan (fits_none g rs (fits g rs plan short past)))
 
-pub late_again : (g : Given) (asked : Option ℕ) (rs : List Record) (end : End) → IsLateRun g rs end
-    → IsLateRun (record g { plan = reached_after rs; sets = asked }) rs end
-    × (run_text (record g { plan = reached_after rs; sets = asked }) rs end ≡ run_text g rs end)
-late_again g asked rs end run = (
-  (run_sets (with_plan g (reached_after rs)) asked rs end (all_counted rs)).1 (run_again g rs end run),
-  placed_text g asked (reached_after rs) rs end,
+placed_text : (g : Given) (asked : Option ℕ) (plan : List Timed) (rs : List Record) (f : Finish)
+    → run_text (record g { plan = plan; sets = asked }) rs f ≡ run_text g rs f
+placed_text g asked plan [] f = refl
+placed_text g asked plan (r ∷ rs) f = refl
+
+pub late_again : (g : Given) (asked : Option ℕ) (rs : List Record) (f : Finish) → IsLateRun g rs f
+    → IsLateRun (record g { plan = reached_in g rs f; sets = asked }) rs f
+    × (run_text (record g { plan = reached_in g rs f; sets = asked }) rs f ≡ run_text g rs f)
+late_again g asked rs f run = (
+  (run_sets (with_plan g (reached_in g rs f)) asked rs f (in_counted g rs f)).1 (run_again g rs f run),
+  placed_text g asked (reached_in g rs f) rs f,
 )

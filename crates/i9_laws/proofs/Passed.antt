@@ -16,7 +16,7 @@ use Rattle.i9_model.specs.declared.run.End.TheVariants.{Limit}
 use Rattle.i9_model.specs.State.{State, started, boot}
 use Rattle.i9_model.specs.ScheduleText.{at_time, time_of, is_counted, has_come_at, InOrder, IsPlan, IsByCounts, standing}
 use Rattle.i9_model.specs.Before.{Received, choice_in, interrupt_in, received_in}
-use Rattle.i9_model.specs.Run.{Given, Kind, Instruction, Faulted, Entered, Interrupted, Reached, Blocked, Record, record_of, reached_kind, counts_of, action_by_kind, Does, Ends, next_by_entry, entry_in, next_by_event, next_by_interrupt, next_by_choice, next_in, due_after, reached_by, reached_after, event_after, state_after, IsPast}
+use Rattle.i9_model.specs.Run.{Given, Kind, Instruction, Faulted, Entered, Interrupted, Reached, Record, record_of, counts_of, action_by_kind, Does, Ends, next_by_entry, entry_in, next_by_event, next_by_interrupt, next_by_choice, next_in, due_after, reached_by, reached_after, event_after, state_after, IsPast, finish, next_by_received}
 use Rattle.i9_model.proofs.ControlLaws.{acted-count}
 use Rattle.i9_model.proofs.Comes.{next_comes}
 
@@ -76,12 +76,11 @@ kind_counts (Faulted inst fault) = inr (refl, refl)
 kind_counts (Entered e) = inl refl
 kind_counts (Interrupted c e) = inl refl
 kind_counts (Reached e u) = inl refl
-kind_counts (Blocked e a) = inl refl
 
-reached_counts : (x : Event) (s : State) (o : Result Received ℕ) (r : Record) → Does (record_of (reached_kind x o) s) ≡ Does r
+reached_counts : (x : Event) (s : State) (o : Result Received ℕ) (r : Record) → next_by_received s x o ≡ Does r
     → Counts (Some x) r.kind
 reached_counts x s (Ok u) r e = counts_by (Some x) s (Reached x u) r (inl refl) e
-reached_counts x s (Err a) r e = counts_by (Some x) s (Blocked x a) r (inl refl) e
+reached_counts x s (Err a) r e = absurd (cc e)
 
 event_counts : (stands : Option Event) (s : State) (r : Record) → next_by_event stands s ≡ Does r → Counts stands r.kind
 event_counts (Some x) s r e = reached_counts x s (received_in s x) r e
@@ -110,7 +109,7 @@ next_counts limit (dues.End f) stands s r e = absurd cc
 next_counts limit (dues.Entry fault) stands s r e = entry_counts stands s (entry_in s fault) r e
 next_counts limit dues.Nothing stands s r e = by_length (eqb s.count limit) e
   where
-    by_length : (b : Bool) → cond b (Ends Limit) (next_by_choice stands s (choice_in s)) ≡ Does r → Counts stands r.kind
+    by_length : (b : Bool) → cond b (Ends (finish Limit)) (next_by_choice stands s (choice_in s)) ≡ Does r → Counts stands r.kind
     by_length true h = absurd cc
     by_length false h = choice_counts stands s (choice_in s) r h
 

@@ -20,7 +20,7 @@ use Rattle.i9_model.specs.declared.run.Due.{Due}
 use Rattle.i9_model.specs.declared.interrupts.Chosen.{Chosen}
 use Rattle.i9_model.specs.declared.event.Event.{Event}
 use Rattle.i9_model.specs.Before.{interrupt_in, interrupting}
-use Rattle.i9_model.specs.Run.{Kind, Instruction, Faulted, Entered, Interrupted, Reached, Blocked, action_by_kind, entry_in}
+use Rattle.i9_model.specs.Run.{Kind, Instruction, Faulted, Entered, Interrupted, Reached, action_by_kind, entry_in}
 use Rattle.i9_model.proofs.ControlLaws.{flagged-others}
 use Rattle.i9_model.proofs.Comes.{MayCome}
 use Rattle.i9_laws.specs.Undone.{is_call_name, is_call, return_address}
@@ -40,7 +40,6 @@ type_of (Faulted inst fault) s = LOCAL_RETURN
 type_of (Entered e) s = FAULT_RETURN
 type_of (Interrupted c e) s = INTERRUPT_RETURN
 type_of (Reached e u) s = LOCAL_RETURN
-type_of (Blocked e a) s = LOCAL_RETURN
 
 -- an action saves the locals with a return address, and goes on in a frame whose pfp has a return type
 pub record Pushes (s : State) (a : Action) (back kind : ℕ) : Type 0 where
@@ -114,7 +113,6 @@ kind_pushes limit due stands (Faulted inst fault) s may h = absurd cc
 kind_pushes limit due stands (Entered e) s may h = entering_pushes s may.0 e may.2
 kind_pushes limit due stands (Interrupted c e) s may h = interrupting_pushes s c e may.3
 kind_pushes limit due stands (Reached e u) s may h = absurd cc
-kind_pushes limit due stands (Blocked e a) s may h = absurd cc
 
 pfp_written : (f : ℕ → ℕ) (p : Push) → written f (push_sets p) PFP ≡ p.pfp
 pfp_written f p = frame_local f (p.pfp ∷ p.sp ∷ replicate 14 0) p.frame PFP refl (omega arith)

@@ -23,7 +23,7 @@ use Rattle.i9_model.specs.Hazards.{record_write_hazard}
 use Rattle.i9_model.specs.Step.{bytes_of_words, saved_locals, entering, moved, acted}
 use Rattle.i9_model.specs.Interrupts.{without_bit, vector_priority, priority_place, pending_place, left_pending, taken_writes, clearing_writes, record_writes}
 use Rattle.i9_model.specs.Before.{interrupt_in, interrupting}
-use Rattle.i9_model.specs.Run.{Kind, Instruction, Faulted, Entered, Interrupted, Reached, Blocked, action_by_kind, entry_in}
+use Rattle.i9_model.specs.Run.{Kind, Instruction, Faulted, Entered, Interrupted, Reached, action_by_kind, entry_in}
 use Rattle.i9_model.proofs.Comes.{MayCome}
 use Rattle.i9_model.proofs.CallLaws.{second_none}
 use Rattle.i9_model.proofs.FrameBytes.{stored_at, byte_of_words}
@@ -181,4 +181,3 @@ entry_writes_controls limit due stands (Faulted inst fault) s kept may h left = 
 entry_writes_controls limit due stands (Entered e) s kept may h left = entering_writes s may.0 e kept may.2
 entry_writes_controls limit due stands (Interrupted c e) s kept may h left = interrupting_writes s c e kept may.3 left
 entry_writes_controls limit due stands (Reached e u) s kept may h left = absurd cc
-entry_writes_controls limit due stands (Blocked e a) s kept may h left = absurd cc

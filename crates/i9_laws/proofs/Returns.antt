@@ -23,7 +23,7 @@ use Rattle.i9_model.specs.Traced.{traced_action}
 use Rattle.i9_model.specs.ScheduleText.{IsPlan}
 use Rattle.i9_model.specs.HeldFrames.{frame_at}
 use Rattle.i9_model.specs.declared.run.Due.{Due}
-use Rattle.i9_model.specs.Run.{Given, Record, Kind, Instruction, Faulted, Entered, Interrupted, Reached, Blocked, action_by_kind, action_done, after_kind, record_of, due_after, event_after, state_after, IsPast}
+use Rattle.i9_model.specs.Run.{Given, Record, Kind, Instruction, Faulted, Entered, Interrupted, Reached, action_by_kind, action_done, after_kind, record_of, due_after, event_after, state_after, IsPast}
 use Rattle.i9_model.proofs.CallLaws.{first_none, second_none}
 use Rattle.i9_model.proofs.ControlLaws.{flagged-others}
 use Rattle.i9_model.proofs.Comes.{MayCome, next_comes}
@@ -135,7 +135,6 @@ kind_pc (Faulted inst fault) s u h = absurd cc
 kind_pc (Entered e) s u h = record_pc (in_supervisor_mode u.pc) u.pc (bit_and (saved_pc u.memory (u.regs FP)) PC_MASK)
 kind_pc (Interrupted c e) s u h = record_pc (in_supervisor_mode u.pc) u.pc (bit_and (saved_pc u.memory (u.regs FP)) PC_MASK)
 kind_pc (Reached e does) s u h = absurd cc
-kind_pc (Blocked e a) s u h = absurd cc
 
 kind_ac : (k : Kind) (s u : State) → IsTrue (is_call k) → returned_ac u.memory (type_of k s) (u.regs FP) u.ac ≡ ac_back k u
 kind_ac (Instruction i) s u h = name_ac i.op i s u
@@ -143,7 +142,6 @@ kind_ac (Faulted inst fault) s u h = absurd cc
 kind_ac (Entered e) s u h = refl
 kind_ac (Interrupted c e) s u h = refl
 kind_ac (Reached e does) s u h = absurd cc
-kind_ac (Blocked e a) s u h = absurd cc
 
 controls_back : (k : Kind) (s u : State) → IsTrue (is_call k) → u.regs PFP ≡ rounded_down (s.regs FP) + type_of k s → type_of k s < 8
     → ((acted u (ret_action u)).pc ≡ pc_back k s u) × ((acted u (ret_action u)).ac ≡ ac_back k u)
@@ -172,7 +170,6 @@ return_after (Faulted inst fault) u h = absurd cc
 return_after (Entered e) u h = absurd cc
 return_after (Interrupted c e) u h = absurd cc
 return_after (Reached e does) u h = absurd cc
-return_after (Blocked e a) u h = absurd cc
 
 -- it meets no hazard
 return_free : (limit : ℕ) (due : Due) (stands : Option Event) (k : Kind) (u : State) → IsTrue (is_return k)
@@ -191,7 +188,6 @@ return_free limit due stands (Faulted inst fault) u h may = absurd cc
 return_free limit due stands (Entered e) u h may = absurd cc
 return_free limit due stands (Interrupted c e) u h may = absurd cc
 return_free limit due stands (Reached e does) u h may = absurd cc
-return_free limit due stands (Blocked e a) u h may = absurd cc
 
 -- no call returns to an address with low bits
 address_even : (k : Kind) (s : State) → IsKept s → return_address k s % 4 ≡ 0
@@ -200,7 +196,6 @@ address_even (Faulted inst fault) s h = h.ip
 address_even (Entered e) s h = h.ip
 address_even (Interrupted c e) s h = h.ip
 address_even (Reached e u) s h = h.ip
-address_even (Blocked e a) s h = h.ip
 
 -- ---- a run
 
@@ -297,7 +292,6 @@ entry_is_call (Faulted inst fault) h = absurd cc
 entry_is_call (Entered e) h = h
 entry_is_call (Interrupted c e) h = h
 entry_is_call (Reached e u) h = absurd cc
-entry_is_call (Blocked e a) h = absurd cc
 
 entry_pc : (k : Kind) (s u : State) → IsTrue (is_entry k) → pc_back k s u ≡ pc_of_record u
 entry_pc (Instruction i) s u h = absurd cc
@@ -305,7 +299,6 @@ entry_pc (Faulted inst fault) s u h = absurd cc
 entry_pc (Entered e) s u h = refl
 entry_pc (Interrupted c e) s u h = refl
 entry_pc (Reached e does) s u h = absurd cc
-entry_pc (Blocked e a) s u h = absurd cc
 
 entry_ac : (k : Kind) (u : State) → IsTrue (is_entry k) → ac_back k u ≡ ac_of_record u
 entry_ac (Instruction i) u h = absurd cc
@@ -313,7 +306,6 @@ entry_ac (Faulted inst fault) u h = absurd cc
 entry_ac (Entered e) u h = refl
 entry_ac (Interrupted c e) u h = refl
 entry_ac (Reached e does) u h = absurd cc
-entry_ac (Blocked e a) u h = absurd cc
 
 pub entry_back : (g : Given) (rs between : List Record) (call back : Record) → IsPast g (back ∷ between ++ call ∷ rs)
     → IsTrue (is_entry call.kind) → IsTrue (is_return back.kind) → back.before.regs PFP ≡ call.after.regs PFP

@@ -10,30 +10,36 @@ use Rattle.i9_model.specs.declared.run.End.TheVariants.{Exit, Limit, Hazard, Dea
 use Rattle.i9_model.specs.declared.run.Point.{Point}
 use Rattle.i9_model.specs.State.{State}
 use Rattle.i9_model.specs.ScheduleText.{timed_at, IsPlan, IsSchedule}
-use Rattle.i9_model.specs.Run.{Given, Kind, Instruction, Faulted, Entered, Interrupted, Reached, Blocked, Record, Ends, action_done, point_of, next_with, reached_by, reached_after, state_after, IsPast, IsRun}
-use Rattle.i9_model.specs.PrintedText.{Shown, Out, Drained, Journal, Bytes, Last, out_lines, point_lines, bytes_lines, event_lines, record_lines, lines_of, end_lines, text_of, events_of, run_text}
+use Rattle.i9_model.specs.Run.{Given, Kind, Instruction, Faulted, Entered, Interrupted, Reached, Record, Ends, action_done, point_of, next_with, reached_by, reached_after, state_after, IsPast, IsRun, Finish, finish, reached_last, reached_in}
+use Rattle.i9_model.specs.PrintedText.{Shown, Out, Drained, Journal, Bytes, Last, out_lines, point_lines, bytes_lines, event_lines, record_lines, lines_of, end_lines, text_of, events_of, run_text, view_of, journal_lines, last_lines}
 use Rattle.i9_model.specs.Memory.{console_byte}
 use Rattle.i9_model.proofs.Heedful.{tally, heedful, planned_past, with_plan, next_planned, past_planned}
 use Rattle.i9_model.proofs.Plans.{front_is_plan}
-use Rattle.i9_model.proofs.PlannedRuns.{reached_front, run_of_reached}
+use Rattle.i9_model.proofs.PlannedRuns.{reached_front, run_of_reached, reached_to_end}
 use Rattle.i9_model.proofs.Replay.{replay}
+use Rattle.i9_model.specs.declared.view.View.{View}
 
 pub reaches_front : (g : Given) (rs : List Record) → IsPast g rs → (rest : List Timed) × (reached_after rs ++ rest ≡ g.plan)
 reaches_front g rs past = reached_front (next_with g) (tally g) (heedful g) g.plan rs (planned_past g rs past)
 
 -- ---- the run of what was reached
 
-pub text_with : (g : Given) (plan : List Timed) (rs : List Record) (end : End) → run_text (with_plan g plan) rs end ≡ run_text g rs end
-text_with g plan [] end = refl
-text_with g plan (r ∷ rs) end = refl
+pub text_with : (g : Given) (plan : List Timed) (rs : List Record) (f : Finish) → run_text (with_plan g plan) rs f ≡ run_text g rs f
+text_with g plan [] f = refl
+text_with g plan (r ∷ rs) f = refl
 
-pub run_again : (g : Given) (rs : List Record) (end : End) → IsRun g rs end
-    → IsRun (record g { plan = reached_after rs }) rs end × (run_text (record g { plan = reached_after rs }) rs end ≡ run_text g rs end)
-run_again g rs end run =
-    let plan = reached_after rs in
-    let both = run_of_reached (next_with g) (tally g) (heedful g) g.plan rs end (planned_past g rs run.past) run.ends in (
-      record { past = past_planned g plan rs both.0; ends = next_planned g plan rs (Ends end) both.1 },
-      text_with g plan rs end,
+pub reaches_whole : (g : Given) (rs : List Record) (f : Finish) → IsRun g rs f
+    → (rest : List Timed) × (reached_in g rs f ++ rest ≡ g.plan)
+reaches_whole g rs f run =
+    reached_to_end (next_with g) (tally g) (heedful g) g.plan rs f (planned_past g rs run.past) run.ends
+
+pub run_again : (g : Given) (rs : List Record) (f : Finish) → IsRun g rs f
+    → IsRun (record g { plan = reached_in g rs f }) rs f × (run_text (record g { plan = reached_in g rs f }) rs f ≡ run_text g rs f)
+run_again g rs f run =
+    let plan = reached_in g rs f in
+    let both = run_of_reached (next_with g) (tally g) (heedful g) g.plan rs f (planned_past g rs run.past) run.ends in (
+      record { past = past_planned g plan rs both.0; ends = next_planned g plan rs (Ends f) both.1 },
+      text_with g plan rs f,
     )
 
 -- ---- the events of printed lines
@@ -70,7 +76,6 @@ event_reached (Faulted inst fault) s = refl
 event_reached (Entered e) s = refl
 event_reached (Interrupted c e) s = refl
 event_reached (Reached e u) s = journal_reached e s
-event_reached (Blocked e a) s = journal_reached e s
 
 -- those of a record are what it reached
 record_reached : (r : Record) → events_of (record_lines r) ≡ reached_by r.kind r.before
@@ -93,21 +98,44 @@ records_reached (r ∷ rs) =
     ∙ ap (λ (ts : List Timed). ts ++ events_of (record_lines r)) (records_reached rs)
     ∙ ap (λ (ts : List Timed). reached_after rs ++ ts) (record_reached r)
 
-end_none : (s : State) (f : End) → events_of (end_lines s f) ≡ []
-end_none s (Exit w) = refl
-end_none s Limit = refl
-end_none s (Hazard a) = refl
-end_none s (Dead code a) = refl
-end_none s (Imprecise a) = refl
+last_none : (v : View) (e : End) → events_of (last_lines v e) ≡ []
+last_none v (Exit w) = refl
+last_none v Limit = refl
+last_none v (Hazard a) = refl
+last_none v (Dead code a) = refl
+last_none v (Imprecise a) = refl
 
-pub text_is_schedule : (g : Given) (rs : List Record) (end : End) → IsPlan g.plan → IsPast g rs
-    → IsSchedule (texts.lines_of (run_text g rs end)) (reached_after rs)
-text_is_schedule g rs end plan past =
-    let last = end_lines (state_after g rs) end in
+journal_last : (k : ℕ) (o : Option Event) → events_of (journal_lines k o) ≡ reached_last k o
+journal_last k None = refl
+journal_last k (Some e) = refl
+
+-- those of an end are what was reached with it
+end_reached : (s : State) (f : Finish) → events_of (end_lines s f) ≡ reached_last s.count f.event
+end_reached s f =
+    events_append (journal_lines s.count f.event) (last_lines (view_of s) f.end)
+    ∙ ap (λ (ts : List Timed). events_of (journal_lines s.count f.event) ++ ts) (last_none (view_of s) f.end)
+    ∙ append-nil (events_of (journal_lines s.count f.event)) ∙ journal_last s.count f.event
+
+pub text_says : (g : Given) (rs : List Record) (f : Finish) → IsPlan (reached_in g rs f)
+    → IsSchedule (texts.lines_of (run_text g rs f)) (reached_in g rs f)
+text_says g rs f plan =
+    let last = end_lines (state_after g rs) f in
     let lines = lines_of rs ++ last in
-    let events : events_of lines ≡ reached_after rs =
-    events_append (lines_of rs) last ∙ ap (λ (ts : List Timed). events_of (lines_of rs) ++ ts) (end_none (state_after g rs) end)
-    ∙ append-nil (events_of (lines_of rs)) ∙ records_reached rs in
+    let events : events_of lines ≡ reached_in g rs f =
+    events_append (lines_of rs) last
+    ∙ ap (λ (ts : List Timed). events_of (lines_of rs) ++ ts) (end_reached (state_after g rs) f)
+    ∙ ap (λ (ts : List Timed). ts ++ reached_last (state_after g rs).count f.event) (records_reached rs) in
+    subst (IsSchedule (texts.lines_of (text_of lines))) events (replay lines (subst IsPlan (sym events) plan))
+
+pub cut_is_schedule : (g : Given) (rs : List Record) (e : End) → IsPlan g.plan → IsPast g rs
+    → IsSchedule (texts.lines_of (run_text g rs (finish e))) (reached_in g rs (finish e))
+cut_is_schedule g rs e plan past =
     let front = reaches_front g rs past in
     let whole = front_is_plan (reached_after rs) front.0 (subst IsPlan (sym front.1) plan) in
-    subst (IsSchedule (texts.lines_of (text_of lines))) events (replay lines (subst IsPlan (sym events) whole))
+    text_says g rs (finish e) (subst IsPlan (sym (append-nil (reached_after rs))) whole)
+
+pub text_is_schedule : (g : Given) (rs : List Record) (f : Finish) → IsPlan g.plan → IsRun g rs f
+    → IsSchedule (texts.lines_of (run_text g rs f)) (reached_in g rs f)
+text_is_schedule g rs f plan run =
+    let front = reaches_whole g rs f run in
+    text_says g rs f (front_is_plan (reached_in g rs f) front.0 (subst IsPlan (sym front.1) plan))

@@ -31,7 +31,7 @@ use Rattle.i9_model.specs.Branches.{asks, question_of, is_taken}
 use Rattle.i9_model.specs.Calls.{popped}
 use Rattle.i9_model.specs.Controls.{Control, KeepsControls, Restarts, LoadsGroup, controlled}
 use Rattle.i9_model.specs.Tables.{group_words}
-use Rattle.i9_model.specs.Step.{Move, Stays, Saves, Returns, Flushes, Action, saved_local, saved_locals, pushing, call_action, calls_action, ret_action, first_word, next_word, loaded, moving, merged, atomic, atomic_address, following, answer_in, destination, values_of, branching, resulting, Message, AsksNothing, AsksInterrupt, AsksRestart, AsksGroup, message_kind, message_of, message_action, push_sets, system_call, entering, action_by_name, action_by, action_of, moved, acted}
+use Rattle.i9_model.specs.Step.{Move, Stays, Saves, Returns, Flushes, Action, saved_local, saved_locals, pushing, call_action, calls_action, ret_action, first_word, next_word, loaded, moving, merged, atomic, atomic_address, following, answer_in, destination, values_of, branching, resulting, Message, AsksNothing, AsksCheck, AsksInterrupt, AsksRestart, AsksGroup, asked_message, message_action, push_sets, system_call, entering, action_by_name, action_by, action_of, moved, acted}
 use Rattle.i9_model.specs.declared.run.Due.{Due}
 use Rattle.i9_model.specs.declared.interrupts.TheConstants.{LINE_MASK}
 use Rattle.i9_model.specs.declared.dma.TheConstants.{COMMAND_MASK}
@@ -40,7 +40,7 @@ use Rattle.i9_model.specs.declared.event.Event.{Event}
 use Rattle.i9_model.specs.ScheduleText.{IsPlan}
 use Rattle.i9_model.specs.Interrupts.{vector_place, base_for}
 use Rattle.i9_model.specs.Before.{interrupt_in, interrupting}
-use Rattle.i9_model.specs.Run.{Given, Record, Kind, Instruction, Faulted, Entered, Interrupted, Reached, Blocked, action_by_kind, action_done, due_after, event_after, state_after, IsPast, entry_in}
+use Rattle.i9_model.specs.Run.{Given, Record, Kind, Instruction, Faulted, Entered, Interrupted, Reached, action_by_kind, action_done, due_after, event_after, state_after, IsPast, entry_in}
 use Rattle.i9_model.proofs.ControlLaws.{by_group, flagged-others}
 use Rattle.i9_model.proofs.Comes.{MayCome, next_comes}
 use Rattle.i9_laws.specs.Kept.{IsWithin, IsWord, HasBytes}
@@ -204,6 +204,7 @@ atomic_words i s change h =
 
 message_words : (m : Message) (i : Inst) (s : State) → HasWords s → HasLines s → HasSmall i → DoesWords (message_action m i s)
 message_words AsksNothing i s h l small = setting tt (behind_word i s)
+message_words AsksCheck i s h l small = setting tt (behind_word i s)
 message_words AsksInterrupt i s h l small = setting tt (behind_word i s)
 message_words AsksRestart i s h l small =
     record { registers = tt; saves = tt; starts = value_word s i.b h l small.b; next = behind_word i s }
@@ -252,7 +253,7 @@ name_words Modac i s h l k small = setting (one_set i.c s.ac (within_word AC_MAS
 name_words Modtc i s h l k small = setting (one_set i.c s.trace.tc (within_word TC_MASK s.trace.tc (omega arith) k.tc)) (behind_word i s)
 name_words Modpc i s h l k small = setting (one_set i.c s.pc (within_word PC_MASK s.pc (omega arith) k.pc)) (behind_word i s)
 name_words Sdma i s h l k small = setting tt (behind_word i s)
-name_words Sysctl i s h l k small = message_words (message_kind (message_of i s)) i s h l small
+name_words Sysctl i s h l k small = message_words (asked_message i s) i s h l small
 name_words op i s h l k small = other_words (asks (question_of op)) i s h l small
 
 instruction_words : (i : Inst) (s : State) → HasWords s → HasLines s → IsKept s → HasSmall i → DoesWords (action_of i s)
@@ -292,7 +293,6 @@ kind_words limit due stands (Faulted inst fault) s may d h l k = setting tt (ome
 kind_words limit due stands (Entered e) s may d h l k = entering_words s may.0 e h may.2
 kind_words limit due stands (Interrupted c e) s may d h l k = interrupting_words s c e h may.3
 kind_words limit due stands (Reached e u) s may d h l k = setting tt h.ip
-kind_words limit due stands (Blocked e a) s may d h l k = setting tt h.ip
 
 -- ---- the state after it
 

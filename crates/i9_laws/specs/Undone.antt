@@ -11,7 +11,7 @@ use Rattle.i9_model.specs.Frames.{rounded_down, in_bytes, record_address}
 use Rattle.i9_model.specs.Requests.{priority_place, pending_place}
 use Rattle.i9_model.specs.Calls.{in_supervisor_mode, trace_enable, without_supervisor, saved_pc, saved_ac}
 use Rattle.i9_model.specs.Step.{following, system_call}
-use Rattle.i9_model.specs.Run.{Kind, Instruction, Faulted, Entered, Interrupted, Reached, Blocked, Record}
+use Rattle.i9_model.specs.Run.{Kind, Instruction, Faulted, Entered, Interrupted, Reached, Record}
 
 -- ---- calls and returns
 
@@ -28,7 +28,6 @@ is_entry (Faulted inst fault) = false
 is_entry (Entered e) = true
 is_entry (Interrupted c e) = true
 is_entry (Reached e u) = false
-is_entry (Blocked e a) = false
 
 -- a call: one of these instructions, or such an entry
 abbrev pub is_call : Kind → Bool
@@ -37,7 +36,6 @@ is_call (Faulted inst fault) = false
 is_call (Entered e) = true
 is_call (Interrupted c e) = true
 is_call (Reached e u) = false
-is_call (Blocked e a) = false
 
 abbrev pub is_return_name : Op → Bool
 is_return_name Ret = true
@@ -49,7 +47,6 @@ is_return (Faulted inst fault) = false
 is_return (Entered e) = false
 is_return (Interrupted c e) = false
 is_return (Reached e u) = false
-is_return (Blocked e a) = false
 
 -- the address that a call in a state returns to: behind the instruction, where control is already when its fault is
 -- entered; and that of the instruction that would have come next, before which an interrupt is entered
@@ -59,7 +56,6 @@ return_address (Faulted inst fault) s = s.ip
 return_address (Entered e) s = s.ip
 return_address (Interrupted c e) s = s.ip
 return_address (Reached e u) s = s.ip
-return_address (Blocked e a) s = s.ip
 
 -- ---- controls
 
@@ -81,7 +77,6 @@ pc_back (Faulted inst fault) s u = u.pc
 pc_back (Entered e) s u = pc_of_record u
 pc_back (Interrupted c e) s u = pc_of_record u
 pc_back (Reached e does) s u = u.pc
-pc_back (Blocked e a) s u = u.pc
 
 abbrev pub ac_of_record : State → ℕ
 ac_of_record u = bit_and (saved_ac u.memory (u.regs FP)) AC_MASK
@@ -93,7 +88,6 @@ ac_back (Faulted inst fault) u = u.ac
 ac_back (Entered e) u = ac_of_record u
 ac_back (Interrupted c e) u = ac_of_record u
 ac_back (Reached e does) u = u.ac
-ac_back (Blocked e a) u = u.ac
 
 -- ---- what a return gives back
 
@@ -131,7 +125,6 @@ LeavesRecord (Faulted inst fault) s = Unit {0}
 LeavesRecord (Entered e) s = Unit {0}
 LeavesRecord (Interrupted c e) s = AreBeside c.cause s.tables.interrupt_table c.vector (record_address e.push.frame)
 LeavesRecord (Reached e u) s = Unit {0}
-LeavesRecord (Blocked e a) s = Unit {0}
 
 -- The controls are again what they were before the entry of a fault or of an interrupt, the process controls where the
 -- return is in supervisor mode.

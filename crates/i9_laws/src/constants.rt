@@ -10,7 +10,7 @@ ghost use Rattle.i9_model.specs.declared.layout.TheConstants.{SUPERVISOR_STACK, 
 ghost use Rattle.i9_model.specs.declared.layout.TheConstants.{RECORD_SIZE, FRAME_SIZE, LOCALS, PFP, SP, RIP, LINK, FP};
 ghost use Rattle.i9_model.specs.declared.faults.TheConstants.{TRACE, OPERATION, ARITHMETIC, CONSTRAINT, PROTECTION, TYPE};
 ghost use Rattle.i9_model.specs.declared.faults.TheConstants.{INVALID_OPCODE, UNALIGNED, INVALID_OPERAND, OVERFLOW, ZERO_DIVIDE, RANGE, LENGTH, MISMATCH};
-ghost use Rattle.i9_model.specs.declared.interrupts.TheConstants.{LINES, FIRST_DMA_LINE, LINE_MASK, NMI_VECTOR, HIGHEST_PRIORITY};
+ghost use Rattle.i9_model.specs.declared.interrupts.TheConstants.{LINES, FIRST_DMA_LINE, LINE_MASK, FIRST_VECTOR, NMI_VECTOR, HIGHEST_PRIORITY};
 ghost use Rattle.i9_model.specs.declared.interrupts.TheConstants.{PRIORITY_PLACE, INTERRUPTED_PLACE, PENDING_SIZE, PENDING_VECTORS, VECTOR_WORDS};
 ghost use Rattle.i9_model.specs.declared.dma.TheConstants.{CHANNELS, COMMAND_MASK, FIRST_ENDED_PLACE, SOURCE_HELD_PLACE, TARGET_HELD_PLACE, FED_PLACE, POSTS_PLACE};
 ghost use Rattle.i9_model.specs.declared.trace.TheConstants.{INSTRUCTION_TRACE_PLACE, BRANCH_TRACE_PLACE, CALL_TRACE_PLACE, RETURN_TRACE_PLACE};
@@ -40,7 +40,7 @@ pub fn shared_constants()
     ensures fault_table { (FAULT_ENTRY_SIZE ≡ 8) × (SYSTEM_ENTRY ≡ 0x27F) × (TRACE_MASK ≡ 0x401)
         × (NO_HANDLER ≡ 1) × (NO_SYSTEM_ENTRY ≡ 2) × (NO_PROCEDURE ≡ 3) }
     ensures lines { (LINES ≡ 12) × (FIRST_DMA_LINE ≡ 8) × (LINE_MASK ≡ 0xFFF) }
-    ensures priorities { (NMI_VECTOR ≡ 248) × (HIGHEST_PRIORITY ≡ 31) × (PRIORITY_PLACE ≡ 16) × (INTERRUPTED_PLACE ≡ 13) }
+    ensures priorities { (FIRST_VECTOR ≡ 8) × (NMI_VECTOR ≡ 248) × (HIGHEST_PRIORITY ≡ 31) × (PRIORITY_PLACE ≡ 16) × (INTERRUPTED_PLACE ≡ 13) }
     ensures interrupt_table { (PENDING_SIZE ≡ 36) × (PENDING_VECTORS ≡ 4) × (VECTOR_WORDS ≡ 4) }
     ensures trace_modes { (INSTRUCTION_TRACE_PLACE ≡ 1) × (BRANCH_TRACE_PLACE ≡ 2) × (CALL_TRACE_PLACE ≡ 3) × (RETURN_TRACE_PLACE ≡ 4)
         × (PRERETURN_TRACE_PLACE ≡ 5) × (SUPERVISOR_TRACE_PLACE ≡ 6) × (MARK_TRACE_PLACE ≡ 7) }

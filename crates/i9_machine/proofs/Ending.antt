@@ -1,5 +1,5 @@
 -- An end that is answered, of the run or at an imprecise fault.
-use Rattle.std.proofs.Common.{◌≡◌, ◌≢◌, ℕ, ◌<◌, ◌≤◌, Bool, true, false, cond, ◌||◌, nat_lt, List, ◌++◌, map, Option, Some, None, Result, Ok, Err, length, refl, sym, ap, ◌∙◌, subst, arith}
+use Rattle.std.proofs.Common.{◌≡◌, ◌≢◌, ℕ, ◌<◌, ◌≤◌, Bool, true, false, cond, ◌||◌, nat_lt, List, ◌++◌, map, Option, Some, None, Result, Ok, Err, length, refl, sym, ap, ◌∙◌, subst, arith, length-append, ◌+◌}
 use Rattle.i9_model.specs.declared.faults.Entry.{Entry}
 use Rattle.i9_model.specs.declared.faults.Fault.{Fault}
 use Rattle.i9_model.specs.declared.faults.FaultStop.{FaultStop}
@@ -11,8 +11,8 @@ use Rattle.i9_model.specs.declared.run.End.TheVariants.{Exit, Limit, Hazard, Dea
 use Rattle.i9_model.specs.declared.run.Point.TheVariants as points
 use Rattle.i9_model.specs.Memory.{console_byte}
 use Rattle.i9_model.specs.State.{State}
-use Rattle.i9_model.specs.PrintedText.{out_lines, point_lines, record_lines, end_lines}
-use Rattle.i9_model.specs.Run.{Entered, Ends, record_of, action_done, entry_in, next_by_entry, next_in}
+use Rattle.i9_model.specs.PrintedText.{out_lines, point_lines, record_lines, end_lines, journal_lines, last_lines, view_of}
+use Rattle.i9_model.specs.Run.{Entered, Ends, record_of, action_done, entry_in, next_by_entry, next_in, Finish, finish, reached_last}
 use Rattle.i9_schedule.specs.Plan.{Plan}
 use Rattle.i9_processor.specs.Effect.{has_writes, is_restart}
 use Rattle.i9_processor.specs.State.{state_of}
@@ -24,83 +24,117 @@ use Rattle.i9_machine.specs.declared.machine.Machine.{Machine}
 use Rattle.i9_machine.specs.Issuing.{IsLike}
 use Rattle.i9_machine.specs.Line.{shown_of}
 use Rattle.i9_machine.specs.Overtaking.{late_entry, late_due}
-use Rattle.i9_machine.specs.Step.{NeedsRoom, HasRoom, event_for, next_for, Finishes, Steps, Issues}
+use Rattle.i9_machine.specs.Step.{NeedsRoom, HasRoom, event_for, next_for, Finishes, Steps, Issues, plan_at_end}
 use Rattle.i9_machine.specs.Coming.{Overtakes}
 use Rattle.i9_machine.specs.StandsFor.{LeavesFewer}
 use Rattle.i9_machine.proofs.Performing.{like_same}
+use Rattle.i9_model.specs.declared.view.View.{View}
+use Rattle.std.specs.Option.{option_map}
+use Rattle.std.specs.List.{slice_get}
+use Rattle.i9_model.specs.declared.event.Event.{Event}
+use Rattle.i9_model.specs.declared.event.Timed.{Timed}
+use Rattle.i9_machine.specs.Doing.{next_event, plan_behind_event}
+use Rattle.std.specs.Prelude.{is_some}
+use Rattle.std.proofs.lemmas.Option.{slice_get_within}
+use Rattle.i9_machine.proofs.Unmoved.{stays_at_end}
 
 -- ---- an end of the run
 
-end_long : (s : State) (e : End) → length (end_lines s e) ≤ 2
-end_long s (Exit w) = omega arith
-end_long s Limit = omega arith
-end_long s (Hazard a) = omega arith
-end_long s (Dead code a) = omega arith
-end_long s (Imprecise a) = omega arith
+journal_long : (k n : ℕ) (o : Option Event) → length (journal_lines k o) ≡ length (journal_lines n o)
+journal_long k n None = refl
+journal_long k n (Some e) = refl
 
-pub finish_steps : (before : Machine) (e : End) (spare : ℕ) (answer : Turn) (m : Machine) (plan : Plan) (old new : List Line) → next_for before plan ≡ Ends e
-    → Finishes before e spare answer m old new → Steps before answer m plan plan old new
-finish_steps before e spare (turns.End f) m plan old new is d = subst (λ (x : End). Steps before (turns.End x) m plan plan old new) (sym d.0) (record {
-  is_end = is;
-  same = d.1.same;
-  ended = d.1.ended;
-  kept = refl;
-  lines = d.1.lines;
-})
-finish_steps before e spare turns.Memory m plan old new is d = record {
+last_long : (v : View) (e : End) → length (last_lines v e) ≤ 2
+last_long v (Exit w) = omega arith
+last_long v Limit = omega arith
+last_long v (Hazard a) = omega arith
+last_long v (Dead code a) = omega arith
+last_long v (Imprecise a) = omega arith
+
+end_long : (s : State) (f : Finish) → length (end_lines s f) ≤ length (journal_lines 0 f.event) + 2
+end_long s f =
+    let whole = length-append (journal_lines s.count f.event) (last_lines (view_of s) f.end) in
+    omega (arith, whole, journal_long s.count 0 f.event, last_long (view_of s) f.end)
+
+-- an event that is reached stands in the schedule
+pub next_within : (plan : Plan) (reaches : Bool) → is_some (next_event plan reaches) ≡ true → plan.place < length plan.events
+next_within plan false some = absurd (cc some)
+next_within plan true some = by_place (slice_get plan.events plan.place) refl some
+  where
+    by_place : (o : Option Timed) → slice_get plan.events plan.place ≡ o → is_some (option_map (λ t. t.event) o) ≡ true
+        → plan.place < length plan.events
+    by_place None at h = absurd (cc h)
+    by_place (Some t) at h = slice_get_within plan.events plan.place t at
+
+-- a schedule goes on behind it
+pub plan_ends : (plan : Plan) (f : Finish) (reaches : Bool) → reaches ≡ is_some f.event
+    → plan_behind_event plan reaches ≡ plan_at_end plan f
+plan_ends plan f reaches is =
+    ap (plan_behind_event plan) is ∙ ap (λ (n : ℕ). record plan { place = plan.place + n }) (sym (one_last f.event))
+  where
+    one_last : (o : Option Event) → length (reached_last 0 o) ≡ cond (is_some o) 1 0
+    one_last None = refl
+    one_last (Some e) = refl
+
+pub finish_steps : (before : Machine) (e : Finish) (spare : ℕ) (answer : Turn) (m : Machine) (was plan : Plan) (old new : List Line) → next_for before was ≡ Ends e
+    → Finishes before e spare answer m was plan old new → Steps before answer m was plan old new
+finish_steps before e spare (turns.End f) m was plan old new is d = record { finish = e; answers = d.0; is_end = is; finished = d.1 }
+finish_steps before e spare turns.Memory m was plan old new is d = record {
   same = d.same;
   ended = d.ended;
-  kept = refl;
+  kept = d.kept;
   lines = d.lines;
   needed = subst NeedsRoom (sym is) tt;
 }
-finish_steps before e spare turns.On m plan old new is d = absurd d
-finish_steps before e spare (turns.Issued t) m plan old new is d = absurd d
+finish_steps before e spare turns.On m was plan old new is d = absurd d
+finish_steps before e spare (turns.Issued t) m was plan old new is d = absurd d
 
-pub finish_lacks : (before : Machine) (e : End) (spare : ℕ) (answer : Turn) (m : Machine) (plan : Plan) (old new : List Line) → next_for before plan ≡ Ends e
-    → Finishes before e spare answer m old new → answer ≡ turns.Memory → HasRoom before spare (next_for before plan) → ⊥
-finish_lacks before e spare turns.Memory m plan old new is d refused room =
-    let two : 2 ≤ spare = subst (HasRoom before spare) is room in
-    let long : length (end_lines (state_of before.processor) e) ≤ 2 = end_long (state_of before.processor) e in
+pub finish_lacks : (before : Machine) (e : Finish) (spare : ℕ) (answer : Turn) (m : Machine) (was plan : Plan) (old new : List Line) → next_for before was ≡ Ends e
+    → Finishes before e spare answer m was plan old new → answer ≡ turns.Memory → HasRoom before spare (next_for before was) → ⊥
+finish_lacks before e spare turns.Memory m was plan old new is d refused room =
+    let some : length (journal_lines 0 e.event) + 2 ≤ spare = subst (HasRoom before spare) is room in
+    let long = end_long (state_of before.processor) e in
     let lacks : spare < length (end_lines (state_of before.processor) e) = d.lacking in
-    omega (arith, two, long, lacks)
-finish_lacks before e spare turns.On m plan old new is d refused room = d
-finish_lacks before e spare (turns.Issued t) m plan old new is d refused room = d
-finish_lacks before e spare (turns.End f) m plan old new is d refused room = absurd (cc refused)
+    omega (arith, some, long, lacks)
+finish_lacks before e spare turns.On m was plan old new is d refused room = d
+finish_lacks before e spare (turns.Issued t) m was plan old new is d refused room = d
+finish_lacks before e spare (turns.End f) m was plan old new is d refused room = absurd (cc refused)
 
-pub finish_fewer : (before : Machine) (e : End) (spare : ℕ) (answer : Turn) (m : Machine) (old new : List Line) (was now : ℕ)
-    → Finishes before e spare answer m old new → LeavesFewer answer was now
-finish_fewer before e spare (turns.End f) m old new was now d = tt
-finish_fewer before e spare turns.Memory m old new was now d = tt
-finish_fewer before e spare turns.On m old new was now d = absurd d
-finish_fewer before e spare (turns.Issued t) m old new was now d = absurd d
+pub finish_fewer : (before : Machine) (e : Finish) (spare : ℕ) (answer : Turn) (m : Machine) (was plan : Plan) (old new : List Line) (left now : ℕ)
+    → Finishes before e spare answer m was plan old new → LeavesFewer answer left now
+finish_fewer before e spare (turns.End f) m was plan old new left now d = tt
+finish_fewer before e spare turns.Memory m was plan old new left now d = tt
+finish_fewer before e spare turns.On m was plan old new left now d = absurd d
+finish_fewer before e spare (turns.Issued t) m was plan old new left now d = absurd d
 
-pub finish_issues : (before : Machine) (e : End) (spare : ℕ) (answer : Turn) (m : Machine) (plan : Plan) (old new : List Line)
-    → Finishes before e spare answer m old new → Issues before answer m plan
-finish_issues before e spare (turns.End f) m plan old new d = tt
-finish_issues before e spare turns.Memory m plan old new d = tt
-finish_issues before e spare turns.On m plan old new d = absurd d
-finish_issues before e spare (turns.Issued t) m plan old new d = absurd d
+pub finish_issues : (before : Machine) (e : Finish) (spare : ℕ) (answer : Turn) (m : Machine) (was plan : Plan) (old new : List Line)
+    → Finishes before e spare answer m was plan old new → Issues before answer m was
+finish_issues before e spare (turns.End f) m was plan old new d = tt
+finish_issues before e spare turns.Memory m was plan old new d = tt
+finish_issues before e spare turns.On m was plan old new d = absurd d
+finish_issues before e spare (turns.Issued t) m was plan old new d = absurd d
 
 -- an end that is answered from a machine that is the same
-pub like_finishes : (before mid : Machine) (e : End) (spare : ℕ) (answer : Turn) (m : Machine) (old new : List Line) → IsLike before mid
-    → Finishes mid e spare answer m old new → Finishes before e spare answer m old new
-like_finishes before mid e spare (turns.End f) m old new l d = (
+pub like_finishes : (before mid : Machine) (e : Finish) (spare : ℕ) (answer : Turn) (m : Machine) (was plan : Plan) (old new : List Line) → IsLike before mid
+    → Finishes mid e spare answer m was plan old new → Finishes before e spare answer m was plan old new
+like_finishes before mid e spare (turns.End f) m was plan old new l d = (
   d.0,
   record {
     same = like_same before mid m l d.1.same;
     ended = d.1.ended;
+    behind = d.1.behind;
     lines = d.1.lines ∙ ap (λ (p : Processor). map shown_of old ++ end_lines (state_of p) e) l.processor;
   },
 )
-like_finishes before mid e spare turns.Memory m old new l d = record {
+like_finishes before mid e spare turns.Memory m was plan old new l d = record {
   same = like_same before mid m l d.same;
   ended = d.ended;
+  kept = d.kept;
   lines = d.lines;
   lacking = subst (λ (p : Processor). spare < length (end_lines (state_of p) e)) l.processor d.lacking;
 }
-like_finishes before mid e spare turns.On m old new l d = absurd d
-like_finishes before mid e spare (turns.Issued t) m old new l d = absurd d
+like_finishes before mid e spare turns.On m was plan old new l d = absurd d
+like_finishes before mid e spare (turns.Issued t) m was plan old new l d = absurd d
 
 -- ---- an imprecise fault
 
@@ -147,34 +181,34 @@ late_next : (m : Machine) (plan : Plan) (f : Fault) → m.due ≡ dues.Entry f
     → next_for m plan ≡ next_by_entry (state_of m.processor) (entry_in (state_of m.processor) f)
 late_next m plan f is = ap (λ (d : Due). next_in m.length d (event_for m plan) (state_of m.processor)) is
 
-pub finish_overtakes : (before : Machine) (a spare : ℕ) (answer : Turn) (m : Machine) (plan : Plan) (old new : List Line) → late_due before ≡ Some a
-    → Finishes before (Imprecise a) spare answer m old new → Overtakes a before answer m plan plan old new
-finish_overtakes before a spare (turns.End f) m plan old new due d = record {
-  is_end = d.0;
+pub finish_overtakes : (before : Machine) (a spare : ℕ) (answer : Turn) (m : Machine) (was plan : Plan) (old new : List Line) → late_due before ≡ Some a
+    → Finishes before (finish (Imprecise a)) spare answer m was plan old new → Overtakes a before answer m was plan old new
+finish_overtakes before a spare (turns.End f) m was plan old new due d = record {
+  is_end = sym d.0;
   same = d.1.same;
-  ended = d.1.ended ∙ ap (λ (x : End). Some x) (sym d.0);
-  kept = refl;
-  lines = d.1.lines ∙ ap (λ (x : End). map shown_of old ++ end_lines (state_of before.processor) x) (sym d.0);
+  ended = d.1.ended ∙ ap (λ (x : End). Some x) d.0;
+  kept = d.1.behind ∙ stays_at_end was (Imprecise a);
+  lines = d.1.lines ∙ ap (λ (x : End). map shown_of old ++ end_lines (state_of before.processor) (finish x)) d.0;
 }
-finish_overtakes before a spare turns.Memory m plan old new due d =
+finish_overtakes before a spare turns.Memory m was plan old new due d =
     let is = late_is_due before a due in
     record {
       same = d.same;
       ended = d.ended;
-      kept = refl;
+      kept = d.kept;
       lines = d.lines;
-      needed = subst NeedsRoom (sym (late_next before plan is.0 is.1)) (entry_needs (state_of before.processor) (entry_in (state_of before.processor) is.0));
+      needed = subst NeedsRoom (sym (late_next before was is.0 is.1)) (entry_needs (state_of before.processor) (entry_in (state_of before.processor) is.0));
     }
-finish_overtakes before a spare turns.On m plan old new due d = absurd d
-finish_overtakes before a spare (turns.Issued t) m plan old new due d = absurd d
+finish_overtakes before a spare turns.On m was plan old new due d = absurd d
+finish_overtakes before a spare (turns.Issued t) m was plan old new due d = absurd d
 
-pub finish_lacks_late : (before : Machine) (a spare : ℕ) (answer : Turn) (m : Machine) (plan : Plan) (old new : List Line) → late_due before ≡ Some a
-    → Finishes before (Imprecise a) spare answer m old new → answer ≡ turns.Memory → HasRoom before spare (next_for before plan) → ⊥
-finish_lacks_late before a spare turns.Memory m plan old new due d refused room =
+pub finish_lacks_late : (before : Machine) (a spare : ℕ) (answer : Turn) (m : Machine) (was plan : Plan) (old new : List Line) → late_due before ≡ Some a
+    → Finishes before (finish (Imprecise a)) spare answer m was plan old new → answer ≡ turns.Memory → HasRoom before spare (next_for before was) → ⊥
+finish_lacks_late before a spare turns.Memory m was plan old new due d refused room =
     let is = late_is_due before a due in
     let lacks : spare < 1 = d.lacking in
-    let one = entry_room before spare (state_of before.processor) (entry_in (state_of before.processor) is.0) (subst (HasRoom before spare) (late_next before plan is.0 is.1) room) in
+    let one = entry_room before spare (state_of before.processor) (entry_in (state_of before.processor) is.0) (subst (HasRoom before spare) (late_next before was is.0 is.1) room) in
     omega (arith, one, lacks)
-finish_lacks_late before a spare turns.On m plan old new due d refused room = d
-finish_lacks_late before a spare (turns.Issued t) m plan old new due d refused room = d
-finish_lacks_late before a spare (turns.End f) m plan old new due d refused room = absurd (cc refused)
+finish_lacks_late before a spare turns.On m was plan old new due d refused room = d
+finish_lacks_late before a spare (turns.Issued t) m was plan old new due d refused room = d
+finish_lacks_late before a spare (turns.End f) m was plan old new due d refused room = absurd (cc refused)

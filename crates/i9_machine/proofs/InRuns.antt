@@ -1,7 +1,6 @@
 -- A machine stands for a run behind each step, and behind each turn.
 use Rattle.std.proofs.Common.{◌≡◌, List, ◌∷◌, Option, None, Some, sym, subst, inl, inr}
-use Rattle.i9_model.specs.declared.run.End.{End}
-use Rattle.i9_model.specs.Run.{Given}
+use Rattle.i9_model.specs.Run.{Given, Finish}
 use Rattle.i9_schedule.specs.Plan.{Plan}
 use Rattle.i9_course.specs.Course.{Item, Step}
 use Rattle.i9_machine.specs.declared.line.Line.{Line}
@@ -9,7 +8,7 @@ use Rattle.i9_machine.specs.declared.line.Turn.{Turn}
 use Rattle.i9_machine.specs.declared.line.Turn.TheVariants as turns
 use Rattle.i9_machine.specs.declared.machine.Machine.{Machine}
 use Rattle.i9_machine.specs.InRun.{IsInRun}
-use Rattle.i9_machine.specs.StandsFor.{StandsFor, Follows, DoesNext, Comes, Advances, AnswersAgain}
+use Rattle.i9_machine.specs.StandsFor.{StandsFor, Follows, FollowsUntil, DoesNext, Comes, Advances, AnswersAgain}
 use Rattle.i9_machine.specs.Turned.{steps_on, Turns}
 
 does_in_run : (g : Given) (h : List Item) (answer : Turn) (before m : Machine) (plan : Plan) (old new : List Line)
@@ -28,7 +27,7 @@ pub comes_in_run : (g : Given) (h : List Item) (answer : Turn) (before m : Machi
 comes_in_run g h turns.On before m plan old new d = does_in_run g h turns.On before m plan old new d
 comes_in_run g h (turns.Issued t) before m plan old new d = does_in_run g h (turns.Issued t) before m plan old new d
 comes_in_run g h (turns.End e) before m plan old new d =
-    record { given = g; items = h; end = Some e; stands = d.stands; follows = d.follows }
+    record { given = g; items = h; end = Some d.finish; stands = d.stands; follows = tt }
 comes_in_run g h turns.Memory before m plan old new d =
     record { given = g; items = h; end = None; stands = d.stands; follows = d.follows }
 
@@ -49,25 +48,25 @@ turns_in_run g h turns.On before m plan old new d =
     record { given = g; items = steps_on d.done h; end = None; stands = d.stands; follows = d.follows }
 turns_in_run g h (turns.Issued t) before m plan old new d = absurd d
 turns_in_run g h (turns.End e) before m plan old new d =
-    record { given = g; items = steps_on d.done h; end = Some e; stands = d.stands; follows = d.follows }
+    record { given = g; items = steps_on d.done h; end = Some d.finish; stands = d.stands; follows = tt }
 turns_in_run g h turns.Memory before m plan old new d =
     record { given = g; items = steps_on d.since.done h; end = None; stands = d.since.stands; follows = d.since.follows }
 
 -- whether an end was answered before or none
 pub behind_in_run : (before m : Machine) (answer : Turn) (was plan : Plan) (old new : List Line)
     → ((g : Given) (h : List Item) → StandsFor g h None before → Follows g h was → IsInRun m plan)
-    → ((g : Given) (h : List Item) (f : End) → StandsFor g h (Some f) before → AnswersAgain g h f answer m old new × (plan ≡ was))
+    → ((g : Given) (h : List Item) (f : Finish) → StandsFor g h (Some f) before → AnswersAgain f answer before m old new × (plan ≡ was))
     → IsInRun before was → IsInRun m plan
-behind_in_run before m answer was plan old new next again r = by_end r.end r.stands
+behind_in_run before m answer was plan old new next again r = by_end r.end r.stands r.follows
   where
-    by_end : (end : Option End) → StandsFor r.given r.items end before → IsInRun m plan
-    by_end None stands = next r.given r.items stands r.follows
-    by_end (Some f) stands =
+    by_end : (end : Option Finish) → StandsFor r.given r.items end before → FollowsUntil r.given r.items end was → IsInRun m plan
+    by_end None stands follows = next r.given r.items stands follows
+    by_end (Some f) stands follows =
         let a = again r.given r.items f stands in
         record {
           given = r.given;
           items = r.items;
           end = Some f;
-          stands = a.0.stands;
-          follows = subst (Follows r.given r.items) (sym a.1) r.follows;
+          stands = subst (StandsFor r.given r.items (Some f)) (sym a.0.same) stands;
+          follows = tt;
         }

@@ -8,7 +8,7 @@ use Rattle.i9_model.specs.HeldFrames.{Cache, sets_in, cache_after}
 use Rattle.i9_model.specs.Late.{turns, resource, resources, issued_cell, wait_of, settled_memory, IsClear}
 use Rattle.i9_model.specs.Left.{left_in}
 use Rattle.i9_model.specs.Memory.{stored}
-use Rattle.i9_model.specs.Run.{Given, Kind, Instruction, Faulted, Entered, Interrupted, Reached, Blocked, Record, Does, action_done, due_by, reached_by, due_after, reached_after, state_after}
+use Rattle.i9_model.specs.Run.{Given, Kind, Instruction, Faulted, Entered, Interrupted, Reached, Record, Does, action_done, due_by, reached_by, due_after, reached_after, state_after}
 use Rattle.i9_model.specs.State.{State, boot}
 use Rattle.i9_model.specs.Step.{Action, Move, Stays}
 use Rattle.i9_model.specs.Turns.{Pending, IsAllDone, with_need, waiting_until, placed_record}
@@ -62,7 +62,6 @@ waits_for_none n c s (Faulted (Some i) fault) = refl
 waits_for_none n c s (Entered e) = refl
 waits_for_none n c s (Interrupted x e) = refl
 waits_for_none n c s (Reached e u) = refl
-waits_for_none n c s (Blocked e a) = refl
 
 -- ---- a record issues
 

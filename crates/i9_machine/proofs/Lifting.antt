@@ -1,15 +1,14 @@
 -- A step of a machine is the next record, or the end, of what the machine stands for.
-use Rattle.std.proofs.Common.{◌≡◌, ℕ, ◌+◌, ◌≤◌, ◌||◌, nat_lt, List, ◌∷◌, ◌++◌, Option, Some, None, length, length-append, map, true, max, sym, ap, ◌∙◌, subst, inr, arith}
+use Rattle.std.proofs.Common.{◌≡◌, ℕ, ◌+◌, ◌≤◌, ◌||◌, nat_lt, List, ◌∷◌, ◌++◌, Option, Some, None, length, length-append, map, true, max, sym, ap, ◌∙◌, subst, inr, arith, refl}
 use Rattle.i9_model.specs.declared.event.Timed.{Timed}
 use Rattle.i9_schedule.specs.Plan.{Plan}
 use Rattle.i9_model.specs.State.{State}
 use Rattle.i9_model.specs.Step.{Action}
-use Rattle.i9_model.specs.Run.{Given, Kind, Instruction, Faulted, Entered, Interrupted, Reached, Blocked, Record, Next, Does, Ends, record_of, action_by_kind, action_done, reached_by, reached_after, due_after, state_after}
-use Rattle.i9_model.specs.PrintedText.{Shown, record_lines, last_lines, end_lines}
+use Rattle.i9_model.specs.Run.{Given, Kind, Instruction, Faulted, Entered, Interrupted, Reached, Record, Next, Does, Ends, record_of, action_by_kind, action_done, reached_by, reached_after, due_after, state_after, Finish, finish, reached_last}
+use Rattle.i9_model.specs.PrintedText.{Shown, record_lines, journal_lines}
 use Rattle.i9_model.specs.Alike.{AreAlike, AreRecordsAlike, AreNextAlike, told}
 use Rattle.i9_model.specs.HeldFrames.{Cache, renewed, sets_in, cache_acted, cache_configured, cache_after}
-use Rattle.i9_model.specs.declared.view.View.{View}
-use Rattle.i9_model.proofs.AlikeSteps.{does_alike, ends_alike, done_alike, due_alike, reached_alike, view_alike, lines_alike, alike_trans}
+use Rattle.i9_model.proofs.AlikeSteps.{does_alike, ends_alike, done_alike, due_alike, reached_alike, lines_alike, alike_trans, end_alike}
 use Rattle.i9_model.proofs.HeldRuns.{IsFreeRecord, next_free, configured_by, sets_after}
 use Rattle.i9_processor.specs.Effect.{HasRoomFor, has_writes, is_restart}
 use Rattle.i9_processor.specs.State.{state_of, cache_of, size_of}
@@ -18,21 +17,22 @@ use Rattle.i9_machine.specs.declared.line.Line.{Line}
 use Rattle.i9_machine.specs.declared.line.Turn.{Turn}
 use Rattle.i9_machine.specs.declared.line.Turn.TheVariants as turns
 use Rattle.i9_machine.specs.declared.machine.Machine.{Machine}
-use Rattle.i9_machine.specs.Line.{shown_of, AddsLines}
-use Rattle.i9_machine.specs.Step.{TellsRecord, NeedsRoom, HasRoom, event_for, next_for, plan_behind, Did, IsSame, Ended, Refused, Steps, IssuesNext, Issues}
+use Rattle.i9_machine.specs.Line.{shown_of}
+use Rattle.i9_machine.specs.Step.{TellsRecord, NeedsRoom, HasRoom, event_for, next_for, plan_behind, Did, Ended, Refused, Steps, IssuesNext, Issues, Finished, plan_at_end}
 use Rattle.i9_course.specs.NeedOf.{need_of}
 use Rattle.i9_course.specs.Course.{Item, Step, records_of, event_ahead, comes_next, ahead}
 use Rattle.i9_course.specs.LateRun.{end_ahead, ended_by, finish_by}
 use Rattle.i9_machine.proofs.Beside.{beside}
-use Rattle.i9_machine.proofs.Unmoved.{same_stands}
+use Rattle.i9_machine.proofs.Unmoved.{same_stands, stays_at_end}
 use Rattle.i9_model.specs.declared.need.Need.{Need}
 use Rattle.i9_machine.specs.Issuing.{IsIssued, IsLike}
 use Rattle.i9_machine.specs.declared.step.Coming.{Coming}
 use Rattle.i9_machine.specs.declared.step.Coming.TheVariants.{Waiting, Overtaking, Running, Faulting}
 use Rattle.i9_machine.specs.Coming.{Overtaken, Overtakes, Came, ArrivesAt, overtaken_by}
-use Rattle.i9_machine.specs.StandsFor.{StandsFor, Follows, DoesNext, EndsRun, IsRefused, Comes, Advances, left_after}
+use Rattle.i9_machine.specs.StandsFor.{StandsFor, Follows, DoesNext, EndsRun, IsRefused, Comes, Advances, left_after, FollowsTo}
 use Rattle.i9_machine.proofs.Performing.{like_stands}
 use Rattle.i9_machine.proofs.Issuing.{same_need, waits_for_none, issued_lands, issued_shaded, left_less, issued_paced}
+use Rattle.i9_model.specs.declared.event.Event.{Event}
 
 -- ---- a record
 
@@ -52,7 +52,6 @@ tells_alike (Faulted inst fault) s t (turns.Issued x) alike words tells = record
 tells_alike (Entered e) s t turns.On alike words tells = tt
 tells_alike (Interrupted c e) s t turns.On alike words tells = tt
 tells_alike (Reached e u) s t turns.On alike words tells = tt
-tells_alike (Blocked e a) s t turns.On alike words tells = tt
 tells_alike (Instruction i) s t turns.On alike words tells = absurd tells
 tells_alike (Instruction i) s t (turns.End e) alike words tells = absurd tells
 tells_alike (Instruction i) s t turns.Memory alike words tells = absurd tells
@@ -66,11 +65,8 @@ tells_alike (Interrupted c x) s t (turns.Issued i) alike words tells = absurd te
 tells_alike (Interrupted c x) s t (turns.End e) alike words tells = absurd tells
 tells_alike (Interrupted c x) s t turns.Memory alike words tells = absurd tells
 tells_alike (Reached x u) s t (turns.Issued i) alike words tells = absurd tells
-tells_alike (Blocked x a) s t (turns.Issued i) alike words tells = absurd tells
 tells_alike (Reached x u) s t (turns.End e) alike words tells = absurd tells
-tells_alike (Blocked x a) s t (turns.End e) alike words tells = absurd tells
 tells_alike (Reached x u) s t turns.Memory alike words tells = absurd tells
-tells_alike (Blocked x a) s t turns.Memory alike words tells = absurd tells
 
 -- the number of sets after a record of the machine
 size_next : (g : Given) (h : List Item) (before m : Machine) (r q : Record) → StandsFor g h None before → AreRecordsAlike r q → IsFreeRecord (state_of before.processor) q
@@ -172,19 +168,36 @@ did g h before answer m was plan old new stands follows precise now d i =
 
 -- ---- an end, and want of memory
 
+-- the schedule behind an end
+follows_end : (g : Given) (h : List Item) (before : Machine) (was plan : Plan) (f : Finish) → StandsFor g h None before → Follows g h was
+    → plan ≡ plan_at_end was f → FollowsTo g h f plan
+follows_end g h before was plan f stands follows behind = record {
+  events = ap (λ (p : Plan). p.events) behind ∙ follows.events;
+  place =
+      ap (λ (p : Plan). p.place) behind
+      ∙ ap (λ (n : ℕ). n + length (reached_last 0 f.event)) follows.place
+      ∙ ap (λ (n : ℕ). length (reached_after (records_of h)) + n) (last_long 0 (state_after g (records_of h)).count f.event)
+      ∙ sym (length-append (reached_after (records_of h)) (reached_last (state_after g (records_of h)).count f.event));
+}
+  where
+    last_long : (k n : ℕ) (o : Option Event) → length (reached_last k o) ≡ length (reached_last n o)
+    last_long k n None = refl
+    last_long k n (Some e) = refl
+
 -- what has ended the run stands for it
-over_run : (g : Given) (h : List Item) (before : Machine) (e : End) (m : Machine) (was plan : Plan) (old new : List Line) → StandsFor g h None before → Follows g h was
-    → end_ahead g h ≡ Some e → (ahead g h).turn ≡ before.turn → IsSame before m → m.ended ≡ Some e → plan ≡ was
-    → AddsLines old new (end_lines (state_of before.processor) e) → EndsRun g h e before m plan old new
-over_run g h before e m was plan old new stands follows is_end now same ended kept lines =
+over_run : (g : Given) (h : List Item) (before : Machine) (f : Finish) (e : End) (m : Machine) (was plan : Plan) (old new : List Line) → StandsFor g h None before → Follows g h was
+    → end_ahead g h ≡ Some f → f.end ≡ e → (ahead g h).turn ≡ before.turn → Finished before f m was plan old new → EndsRun g h e before m plan old new
+over_run g h before f e m was plan old new stands follows is_end answers now d =
     let s = state_after g (records_of h) in
     record {
+      finish = f;
+      answers = answers;
       is_end = is_end;
       now = now;
-      turn = same.unmoved.turn;
-      stands = same_stands g h before m (Some e) same ended is_end stands;
-      follows = subst (Follows g h) (sym kept) follows;
-      lines = lines ∙ ap (λ (v : View). map shown_of old ++ last_lines v e) (view_alike s (state_of before.processor) stands.state);
+      turn = d.same.unmoved.turn;
+      stands = same_stands g h before m (Some f) d.same d.ended is_end stands;
+      follows = follows_end g h before was plan f stands follows d.behind;
+      lines = d.lines ∙ ap (λ (ls : List Shown). map shown_of old ++ ls) (end_alike s (state_of before.processor) f stands.state);
     }
 
 -- an imprecise fault has ended it
@@ -192,17 +205,18 @@ overtaken_run : (g : Given) (h : List Item) (a : ℕ) (before : Machine) (e : En
     → (ahead g h).imprecise ≡ Some a → (ahead g h).turn ≤ before.turn → Overtaken a before e m was plan old new → EndsRun g h e before m plan old new
 overtaken_run g h a before e m was plan old new stands follows late now d =
     let in_time : before.turn ≤ (ahead g h).turn = stands.lands.in_time in
-    let is_end : end_ahead g h ≡ Some e =
-    ap (λ (o : Option ℕ). finish_by o (comes_next g h)) late ∙ ap (λ (x : End). Some x) (sym d.is_end) in
-    over_run g h before e m was plan old new stands follows is_end (omega (arith, now, in_time)) d.same d.ended d.kept d.lines
+    let is_end : end_ahead g h ≡ Some (finish e) =
+    ap (λ (o : Option ℕ). finish_by o (comes_next g h)) late ∙ ap (λ (x : End). Some (finish x)) (sym d.is_end) in
+    over_run g h before (finish e) e m was plan old new stands follows is_end refl (omega (arith, now, in_time))
+    (record { same = d.same; ended = d.ended; behind = d.kept ∙ sym (stays_at_end was e); lines = d.lines })
 
 ended_run : (g : Given) (h : List Item) (before : Machine) (e : End) (m : Machine) (was plan : Plan) (old new : List Line) → StandsFor g h None before → Follows g h was → (ahead g h).imprecise ≡ None → (ahead g h).turn ≤ before.turn → Ended before e m was plan old new → EndsRun g h e before m plan old new
 ended_run g h before e m was plan old new stands follows precise now d =
     let in_time : before.turn ≤ (ahead g h).turn = stands.lands.in_time in
-    let next_end = ends_alike (comes_next g h) (next_for before was) e (beside g h before was stands follows) d.is_end in
-    let is_end : end_ahead g h ≡ Some e =
+    let next_end = ends_alike (comes_next g h) (next_for before was) d.finish (beside g h before was stands follows) d.is_end in
+    let is_end : end_ahead g h ≡ Some d.finish =
     ap (λ (o : Option ℕ). finish_by o (comes_next g h)) precise ∙ ap ended_by next_end in
-    over_run g h before e m was plan old new stands follows is_end (omega (arith, now, in_time)) d.same d.ended d.kept d.lines
+    over_run g h before d.finish e m was plan old new stands follows is_end d.answers (omega (arith, now, in_time)) d.finished
 
 abbrev needs_by : List Shown → Action → Type 0
 needs_by ls a = (nat_lt 0 (length ls) || (has_writes a || is_restart a.control)) ≡ true
@@ -214,8 +228,9 @@ needs_alike (Does r) (Ends g) alike needs = absurd alike
 needs_alike (Does r) (Does q) alike needs =
     subst (needs_by (record_lines r)) (done_alike r q alike) (subst (λ (ls : List Shown). needs_by ls (action_done q)) (lines_alike r q alike) needs)
 
-refused : (g : Given) (h : List Item) (before : Machine) (m : Machine) (was plan : Plan) (old new : List Line) → StandsFor g h None before → Follows g h was → Refused before m was plan old new → IsRefused g h before m plan old new
-refused g h before m was plan old new stands follows d = record {
+refused : (g : Given) (h : List Item) (before : Machine) (m : Machine) (was plan : Plan) (old new : List Line) → StandsFor g h None before → Follows g h was → (ahead g h).turn ≤ before.turn → Refused before m was plan old new → IsRefused g h before m plan old new
+refused g h before m was plan old new stands follows now d = record {
+  now = (let in_time : before.turn ≤ (ahead g h).turn = stands.lands.in_time in omega (arith, now, in_time));
   turn = d.same.unmoved.turn;
   stands = same_stands g h before m None d.same d.ended tt stands;
   follows = subst (Follows g h) (sym d.kept) follows;
@@ -225,7 +240,7 @@ refused g h before m was plan old new stands follows d = record {
 
 -- room for what comes next in the run is room for what comes next for the machine
 room_alike : (m : Machine) (spare : ℕ) (o p : Next) → AreNextAlike o p → HasRoom m spare o → HasRoom m spare p
-room_alike m spare (Ends f) (Ends g) alike room = room
+room_alike m spare (Ends f) (Ends g) alike room = subst (λ (x : Finish). length (journal_lines 0 x.event) + 2 ≤ spare) (sym alike) room
 room_alike m spare (Ends f) (Does q) alike room = absurd alike
 room_alike m spare (Does r) (Ends g) alike room = absurd alike
 room_alike m spare (Does r) (Does q) alike room = record {
@@ -244,13 +259,13 @@ did_comes : (g : Given) (h : List Item) (before : Machine) (answer : Turn) (m : 
 did_comes g h before turns.On m was plan old new stands follows precise now d = did g h before turns.On m was plan old new stands follows precise now d.0 d.1
 did_comes g h before (turns.Issued t) m was plan old new stands follows precise now d = did g h before (turns.Issued t) m was plan old new stands follows precise now d.0 d.1
 did_comes g h before (turns.End e) m was plan old new stands follows precise now d = ended_run g h before e m was plan old new stands follows precise now d.0
-did_comes g h before turns.Memory m was plan old new stands follows precise now d = refused g h before m was plan old new stands follows d.0
+did_comes g h before turns.Memory m was plan old new stands follows precise now d = refused g h before m was plan old new stands follows now d.0
 
 overtakes_comes : (g : Given) (h : List Item) (a : ℕ) (before : Machine) (answer : Turn) (m : Machine) (was plan : Plan) (old new : List Line) → StandsFor g h None before → Follows g h was → (ahead g h).imprecise ≡ Some a → (ahead g h).turn ≤ before.turn → Overtakes a before answer m was plan old new → Comes g h answer before m plan old new
 overtakes_comes g h a before turns.On m was plan old new stands follows late now d = absurd d
 overtakes_comes g h a before (turns.Issued t) m was plan old new stands follows late now d = absurd d
 overtakes_comes g h a before (turns.End e) m was plan old new stands follows late now d = overtaken_run g h a before e m was plan old new stands follows late now d
-overtakes_comes g h a before turns.Memory m was plan old new stands follows late now d = refused g h before m was plan old new stands follows d
+overtakes_comes g h a before turns.Memory m was plan old new stands follows late now d = refused g h before m was plan old new stands follows now d
 
 pub came_comes : (g : Given) (h : List Item) (coming : Coming) (before : Machine) (answer : Turn) (m : Machine) (was plan : Plan) (old new : List Line) → StandsFor g h None before → Follows g h was → (ahead g h).imprecise ≡ overtaken_by coming → (ahead g h).turn ≤ before.turn → Came coming before answer m was plan old new → Comes g h answer before m plan old new
 came_comes g h (Waiting read) before answer m was plan old new stands follows fault now d = did_comes g h before answer m was plan old new stands follows fault now d
@@ -275,6 +290,8 @@ comes_from : (g : Given) (h : List Item) (answer : Turn) (before mid m : Machine
 comes_from g h turns.On before mid m plan old new same d = does_from g h turns.On before mid m plan old new same d
 comes_from g h (turns.Issued t) before mid m plan old new same d = does_from g h (turns.Issued t) before mid m plan old new same d
 comes_from g h (turns.End e) before mid m plan old new same d = record {
+  finish = d.finish;
+  answers = d.answers;
   is_end = d.is_end;
   now = d.now ∙ same;
   turn = d.turn ∙ same;
@@ -283,6 +300,7 @@ comes_from g h (turns.End e) before mid m plan old new same d = record {
   lines = d.lines;
 }
 comes_from g h turns.Memory before mid m plan old new same d = record {
+  now = d.now ∙ same;
   turn = d.turn ∙ same;
   stands = d.stands;
   follows = d.follows;

@@ -15,7 +15,7 @@ use Rattle.i9_model.specs.Before.{Received, choice_in, interrupt_in, received_in
 use Rattle.i9_model.specs.HeldFrames.{Cache}
 use Rattle.i9_model.specs.Needs.{is_request_name}
 use Rattle.i9_model.specs.State.{State}
-use Rattle.i9_model.specs.Run.{Kind, Instruction, Faulted, Entered, Interrupted, Reached, Blocked, Next, Does, Ends, record_of, reached_kind, entry_in, next_by_entry, next_by_event, next_by_interrupt, next_by_choice, next_in}
+use Rattle.i9_model.specs.Run.{Kind, Instruction, Faulted, Entered, Interrupted, Reached, Next, Ends, entry_in, next_by_entry, next_by_event, next_by_interrupt, next_by_choice, next_in, finish, next_by_received}
 use Rattle.i9_schedule.specs.Plan.{Plan}
 use Rattle.i9_course.specs.NeedOf.{need_of, need_ahead}
 use Rattle.i9_processor.specs.declared.effect.Effect.{Effect}
@@ -39,7 +39,7 @@ entry_held s (Ok x) asked c = refl
 entry_held s (Err (stops.Hazard a)) asked c = refl
 entry_held s (Err (stops.Dead code a)) asked c = refl
 
-reached_held : (s : State) (e : Event) (p : Result Received ℕ) → IsHeldBack (Does (record_of (reached_kind e p) s))
+reached_held : (s : State) (e : Event) (p : Result Received ℕ) → IsHeldBack (next_by_received s e p)
 unfolding need_of
 reached_held s e (Ok u) asked c = refl
 reached_held s e (Err a) asked c = refl
@@ -61,7 +61,7 @@ due_held limit (dues.Entry fault) o s other = entry_held s (entry_in s fault)
 due_held limit dues.Nothing o s other = absurd (other refl)
 
 limit_held : (limit : ℕ) (o : Option Event) (s : State) → (eqb s.count limit) ≡ true → IsHeldBack (next_in limit dues.Nothing o s)
-limit_held limit o s at = subst IsHeldBack (ap (λ (b : Bool). cond b (Ends Limit) (next_by_choice o s (choice_in s))) (sym at)) (λ asked c. refl)
+limit_held limit o s at = subst IsHeldBack (ap (λ (b : Bool). cond b (Ends (finish Limit)) (next_by_choice o s (choice_in s))) (sym at)) (λ asked c. refl)
 
 pub due_waits : (m : Machine) (plan : Plan) → m.due ≢ dues.Nothing → NextWaits m plan
 due_waits m plan other = inr (due_held m.length m.due (event_for m plan) (state_of m.processor) other)
@@ -107,7 +107,6 @@ none_requests (Faulted inst fault) n c s h = absurd h
 none_requests (Entered e) n c s h = refl
 none_requests (Interrupted x e) n c s h = refl
 none_requests (Reached e u) n c s h = refl
-none_requests (Blocked e a) n c s h = refl
 
 pub no_request_in : (k : Kind) (m : Machine) (need : Need) {e : Effect} → need ≡ need_of (size_of m.processor) (cache_of m.processor) (state_of m.processor) k
     → IsNone k → need.request ≡ true → IsInRow e

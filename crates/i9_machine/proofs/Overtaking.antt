@@ -16,7 +16,7 @@ use Rattle.i9_model.specs.Traced.{traced_action}
 use Rattle.i9_model.specs.Turns.{last_issue, issue_turn, end_turn, waiting_until}
 use Rattle.i9_model.specs.Turns as board
 use Rattle.i9_model.specs.Late.{turns}
-use Rattle.i9_model.specs.Run.{Given, Kind, Instruction, Faulted, Entered, Interrupted, Reached, Blocked, Record, fault_at, due_in, due_by, due_after, next_by_standing, state_after}
+use Rattle.i9_model.specs.Run.{Given, Kind, Instruction, Faulted, Entered, Interrupted, Reached, Record, fault_at, due_in, due_by, due_after, next_by_standing, state_after}
 use Rattle.i9_model.proofs.AlikeFetches.{stands_same}
 use Rattle.i9_course.specs.NeedOf.{need_of, need_ahead}
 use Rattle.i9_course.specs.Course.{Item, records_of, course, instruction_ahead, issue_of_next, late_fault, last_fault, last_done, to_issue, ahead}
@@ -46,7 +46,6 @@ kind_fault (Faulted inst fault) s = by_kind (fault.kind == ARITHMETIC)
 kind_fault (Entered e) s = refl
 kind_fault (Interrupted c e) s = refl
 kind_fault (Reached e u) s = refl
-kind_fault (Blocked e a) s = refl
 
 -- the entry of an arithmetic fault is due where the last record is one
 entry_fault : (rs : List Record) → late_entry (due_after rs) ≡ last_fault rs

@@ -266,11 +266,15 @@ pub like_steps : (before mid m : Machine) (answer : Turn) (was plan : Plan) (old
 like_steps before mid m turns.On was plan old new l d = like_did before mid m turns.On was plan old new l d
 like_steps before mid m (turns.Issued t) was plan old new l d = like_did before mid m (turns.Issued t) was plan old new l d
 like_steps before mid m (turns.End e) was plan old new l d = record {
+  finish = d.finish;
+  answers = d.answers;
   is_end = sym (like_next before mid was l) ∙ d.is_end;
-  same = like_same before mid m l d.same;
-  ended = d.ended;
-  kept = d.kept;
-  lines = d.lines ∙ ap (λ (p : Processor). map shown_of old ++ end_lines (state_of p) e) l.processor;
+  finished = record {
+    same = like_same before mid m l d.finished.same;
+    ended = d.finished.ended;
+    behind = d.finished.behind;
+    lines = d.finished.lines ∙ ap (λ (p : Processor). map shown_of old ++ end_lines (state_of p) d.finish) l.processor;
+  };
 }
 like_steps before mid m turns.Memory was plan old new l d = record {
   same = like_same before mid m l d.same;

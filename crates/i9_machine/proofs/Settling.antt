@@ -6,7 +6,7 @@ use Rattle.i9_model.specs.Alike.{AreAlike}
 use Rattle.i9_model.specs.Memory.{stored}
 use Rattle.i9_model.specs.Late.{Late, WritersDone, AllDone, Shows, turns, landed, due_puts, left_waiting}
 use Rattle.i9_model.specs.State.{boot}
-use Rattle.i9_model.specs.Run.{Given, state_after}
+use Rattle.i9_model.specs.Run.{Given, state_after, Finish}
 use Rattle.i9_model.specs.Turns.{Pending, IsAllDone, last_issue, end_turn}
 use Rattle.i9_model.specs.Turns as board
 use Rattle.std.specs.List.{AllByRecursion}
@@ -77,7 +77,7 @@ settled_marked g h before m until end i floor stands =
     }
 
 -- none is set once an end was answered
-pub settled_ended : (g : Given) (h : List Item) (f : End) (before m : Machine) (until : ℕ) → IsEndTurn before until → IsSettled before m until → m.floor ≡ before.floor
+pub settled_ended : (g : Given) (h : List Item) (f : Finish) (before m : Machine) (until : ℕ) → IsEndTurn before until → IsSettled before m until → m.floor ≡ before.floor
     → StandsFor g h (Some f) before → StandsFor g h (Some f) m
 settled_ended g h f before m until end i floor stands =
     let xs = (course g h).late in
@@ -130,8 +130,8 @@ quiet_by g h m shows le =
       waiting = shows.requests ∙ none-wait m.turn xs (all-requests m.turn xs done);
     }
 
-pub settled_quiet : (g : Given) (h : List Item) (end : Option End) (before m : Machine) (until : ℕ) → IsEndTurn before until → IsSettled before m until
-    → (before.ended ≡ None → m.floor ≡ until) → ((f : End) → before.ended ≡ Some f → m.floor ≡ before.floor) → StandsFor g h end before → IsQuiet m
+pub settled_quiet : (g : Given) (h : List Item) (end : Option Finish) (before m : Machine) (until : ℕ) → IsEndTurn before until → IsSettled before m until
+    → (before.ended ≡ None → m.floor ≡ until) → ((e : End) → before.ended ≡ Some e → m.floor ≡ before.floor) → StandsFor g h end before → IsQuiet m
 settled_quiet g h None before m until end i running over stands =
     let is : until ≡ end_turn (turns (course g h).late) = end (turns (course g h).late) stands.lands.board in
     let turn : m.turn ≡ max before.turn until = i.turn in
@@ -139,4 +139,4 @@ settled_quiet g h None before m until end i running over stands =
 settled_quiet g h (Some f) before m until end i running over stands =
     let is : until ≡ end_turn (turns (course g h).late) = end (turns (course g h).late) stands.lands.board in
     let turn : m.turn ≡ max before.turn until = i.turn in
-    quiet_by g h m (settled_ended g h f before m until end i (over f stands.ended) stands).lands.shows (omega (arith, is, turn))
+    quiet_by g h m (settled_ended g h f before m until end i (over f.end stands.ended) stands).lands.shows (omega (arith, is, turn))

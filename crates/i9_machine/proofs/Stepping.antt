@@ -20,7 +20,7 @@ use Rattle.i9_model.specs.declared.run.Point.{Point}
 use Rattle.i9_model.specs.declared.run.End.TheVariants.{Limit}
 use Rattle.i9_model.specs.Memory.{console_byte}
 use Rattle.i9_model.specs.Step.{Action, acted, counted}
-use Rattle.i9_model.specs.Run.{Kind, Instruction, Faulted, Entered, Interrupted, Reached, Blocked, Record, Next, Does, Ends, action_by_kind, action_done, record_of, counts_of, due_by, point_of, reached_by, next_by_event, next_by_choice, next_in}
+use Rattle.i9_model.specs.Run.{Kind, Instruction, Faulted, Entered, Interrupted, Reached, Record, Next, Does, Ends, action_by_kind, action_done, record_of, counts_of, due_by, point_of, reached_by, next_by_event, next_by_choice, next_in, finish}
 use Rattle.i9_model.specs.PrintedText.{Shown, out_lines, point_lines, bytes_lines, event_lines, record_lines}
 use Rattle.i9_processor.specs.State.{state_of}
 use Rattle.i9_model.specs.declared.run.Due.{Due}
@@ -28,7 +28,7 @@ use Rattle.i9_model.specs.declared.run.Due.TheVariants as dues
 use Rattle.i9_processor.specs.declared.effect.Effect.{Effect}
 use Rattle.i9_processor.specs.Effect.{action_in, writes_in, HasRoomFor, has_writes, is_restart}
 use Rattle.i9_processor.proofs.Rooms.{room_space}
-use Rattle.i9_machine.specs.Doing.{state_behind, state_behind_of, lines_of, asks_room, plan_after_step, point_count, bytes_count, reached_lines, reached_count, event_in, line_count, HasRoomForStep}
+use Rattle.i9_machine.specs.Doing.{state_behind, state_behind_of, lines_of, asks_room, plan_behind_event, point_count, bytes_count, reached_lines, reached_count, event_in, line_count, HasRoomForStep, next_event}
 use Rattle.i9_machine.specs.declared.step.Step.{Step}
 use Rattle.i9_model.specs.declared.run.End.{End}
 use Rattle.i9_machine.specs.declared.line.Line.{Line}
@@ -46,7 +46,6 @@ no_end (Faulted inst fault) s e t = t
 no_end (Entered x) s e t = t
 no_end (Interrupted c x) s e t = t
 no_end (Reached x u) s e t = t
-no_end (Blocked x a) s e t = t
 
 pub no_memory : (k : Kind) (s : State) → TellsRecord k s turns.Memory → ⊥
 no_memory (Instruction i) s t = t
@@ -54,7 +53,6 @@ no_memory (Faulted inst fault) s t = t
 no_memory (Entered x) s t = t
 no_memory (Interrupted c x) s t = t
 no_memory (Reached x u) s t = t
-no_memory (Blocked x a) s t = t
 
 pub did_steps : (before : Machine) (answer : Turn) (m : Machine) (was plan : Plan) (old new : List Line) (s : State) (k : Kind) → TellsRecord k s answer → Did before answer m was plan old new → Steps before answer m was plan old new
 did_steps before turns.On m was plan old new s k t d = d
@@ -130,7 +128,7 @@ goes_on m stands none below =
     let s = state_of m.processor in
     let other : eqb s.count m.length ≡ false = grind (arith, nat_tests, below) in
     ap (λ (d : Due). next_in m.length d stands s) none
-    ∙ before_length (eqb s.count m.length) (Ends Limit) (next_by_choice stands s (choice_in s)) other
+    ∙ before_length (eqb s.count m.length) (Ends (finish Limit)) (next_by_choice stands s (choice_in s)) other
 
 -- where none is chosen it goes by the event that stands there
 pub goes_by_event : (m : Machine) (stands : Option Event) → IsFreeToIssue m → next_where m stands ≡ next_by_event stands (state_of m.processor)
@@ -169,7 +167,6 @@ event_lines_of (Faulted inst fault) s = refl
 event_lines_of (Entered e) s = refl
 event_lines_of (Interrupted c e) s = refl
 event_lines_of (Reached e u) s = refl
-event_lines_of (Blocked e a) s = refl
 
 bytes_long : (e : Event) (s : State) → length (bytes_lines e s) ≡ bytes_count e
 bytes_long (events.Pin x) s = refl
@@ -189,12 +186,14 @@ pub no_event : (plan : Plan) (step : Step) → step.reaches ≡ false → event_
 no_event plan step none = ap (λ (b : Bool). cond b (option_map (λ (t : Timed). t.event) (slice_get plan.events plan.place)) None) none
 
 -- a step that reaches the event that stands there
-pub one_event : (m : Machine) (plan : Plan) (step : Step) (e : Event) → step.reaches ≡ true → event_for m plan ≡ Some e → event_in plan step ≡ Some e
-one_event m plan step e reaches stands =
+pub next_stands : (m : Machine) (plan : Plan) (e : Event) → event_for m plan ≡ Some e → next_event plan true ≡ Some e
+next_stands m plan e stands =
     let found = standing_by_place plan.events plan.place (state_of m.processor).count (turn_at m) e stands in
-    ap (λ (b : Bool). cond b (option_map (λ (t : Timed). t.event) (slice_get plan.events plan.place)) None) reaches
-    ∙ ap (option_map (λ (t : Timed). t.event)) found.1
+    ap (option_map (λ (t : Timed). t.event)) found.1
     ∙ ap (λ (x : Event). Some x) found.2
+
+pub one_event : (m : Machine) (plan : Plan) (step : Step) (e : Event) → step.reaches ≡ true → event_for m plan ≡ Some e → event_in plan step ≡ Some e
+one_event m plan step e reaches stands = ap (next_event plan) reaches ∙ next_stands m plan e stands
 
 -- what is answered as no instruction
 pub tells_on : (k : Kind) (s : State) (answer : Turn) → answer ≡ turns.On → TellsRecord k s turns.On → TellsRecord k s answer
@@ -207,10 +206,9 @@ reached_one (Faulted inst fault) s = refl
 reached_one (Entered e) s = refl
 reached_one (Interrupted c e) s = refl
 reached_one (Reached e u) s = refl
-reached_one (Blocked e a) s = refl
 
 -- a schedule behind a step is behind its record
-pub plan_is_behind : (m : Machine) (plan : Plan) (step : Step) (need : Need) (e : Effect) → (is : IsStep m plan step need e) → plan_after_step plan step ≡ plan_behind plan (record_of is.kind (state_of m.processor))
+pub plan_is_behind : (m : Machine) (plan : Plan) (step : Step) (need : Need) (e : Effect) → (is : IsStep m plan step need e) → plan_behind_event plan step.reaches ≡ plan_behind plan (record_of is.kind (state_of m.processor))
 plan_is_behind m plan step need e is =
     let s = state_of m.processor in
     ap (λ (b : Bool). record plan { place = plan.place + cond b 1 0 }) is.reaches
@@ -227,7 +225,6 @@ reaches_within m plan (Faulted inst fault) may some = absurd cc
 reaches_within m plan (Entered e) may some = absurd cc
 reaches_within m plan (Interrupted c e) may some = absurd cc
 reaches_within m plan (Reached e u) may some = stands_within m plan e may.2
-reaches_within m plan (Blocked e a) may some = stands_within m plan e may.2
 
 -- a schedule has the event that a step reaches
 pub step_within : (m : Machine) (plan : Plan) (k : Kind) → next_for m plan ≡ Does (record_of k (state_of m.processor)) → is_some (event_of k) ≡ true → plan.place < length plan.events

@@ -11,7 +11,7 @@ use Rattle.i9_isa.specs.declared.resources.TheConstants.{CONDITION_CODE}
 use Rattle.i9_model.specs.Late.{Shows, resource, raw_value, latest_value, is_busy, is_plan_open, turns as late_turns}
 use Rattle.i9_model.specs.Needs.{set_below}
 use Rattle.i9_model.specs.PrintedText.{Shown, register_list, lines_of, record_lines, end_lines}
-use Rattle.i9_model.specs.Run.{Given, state_after}
+use Rattle.i9_model.specs.Run.{Given, state_after, Finish}
 use Rattle.i9_model.specs.State.{State, boot}
 use Rattle.i9_model.specs.Turns.{last_issue}
 use Rattle.i9_model.proofs.LateRegisters.{cell-busy}
@@ -82,15 +82,17 @@ module _ (g : Given) (h : List Item) (before m : Machine) (was : Plan) (old mid 
       }
 
   -- the run ends
-  pub ends_since : (f : End) → EndsRun g (steps_on since.done h) f m next plan mid new → EndsTurn g h f before next plan old new
-  ends_since f d = record {
+  pub ends_since : (e : End) → EndsRun g (steps_on since.done h) e m next plan mid new → EndsTurn g h e before next plan old new
+  ends_since e d = record {
     done = since.done;
+    finish = d.finish;
+    answers = d.answers;
     turn = d.turn ∙ since.turn;
     is_end = d.is_end;
     now = d.now ∙ since.turn;
     stands = d.stands;
     follows = d.follows;
-    lines = more_lines old mid new (lines_of since.done) (end_lines (state_after g (records_of (steps_on since.done h))) f) since.lines d.lines;
+    lines = more_lines old mid new (lines_of since.done) (end_lines (state_after g (records_of (steps_on since.done h))) d.finish) since.lines d.lines;
   }
 
   -- memory is refused
@@ -147,16 +149,16 @@ same_set (suc n) p q same =
     ap (λ (b : Bool). set_below n p + cond b (2 ^ n) 0) (same n (omega arith))
     ∙ ap (λ (x : ℕ). x + cond (q n) (2 ^ n) 0) (same_set n p q (λ r lt. same r (omega (arith, lt))))
 
-shows_of : (g : Given) (h : List Item) (end : Option End) (m : Machine) → StandsFor g h end m
+shows_of : (g : Given) (h : List Item) (end : Option Finish) (m : Machine) → StandsFor g h end m
     → Shows (boot g.image) m.turn (course g h).late (kernel_of m).cells (kernel_of m).bytes (kernel_of m).queue
 shows_of g h None m stands = stands.lands.shows
 shows_of g h (Some f) m stands = stands.lands.shows
 
-begun_of : (g : Given) (h : List Item) (end : Option End) (m : Machine) → StandsFor g h end m → last_issue (late_turns (course g h).late) ≤ m.turn
+begun_of : (g : Given) (h : List Item) (end : Option Finish) (m : Machine) → StandsFor g h end m → last_issue (late_turns (course g h).late) ≤ m.turn
 begun_of g h None m stands = stands.lands.begun
 begun_of g h (Some f) m stands = stands.lands.begun
 
-pub raw_is : (g : Given) (h : List Item) (end : Option End) (m : Machine) (raw : Raw) → StandsFor g h end m
+pub raw_is : (g : Given) (h : List Item) (end : Option Finish) (m : Machine) (raw : Raw) → StandsFor g h end m
     → raw.turn ≡ m.turn → raw.regs ≡ register_list (λ r. (cells_of m.processor r).value)
     → raw.busy ≡ set_below 32 (λ r. is_plan_open m.turn (cells_of m.processor r).plan) → raw ≡ raw_at g h m.turn
 raw_is g h end m raw stands turn regs busy =
@@ -172,7 +174,7 @@ raw_is g h end m raw stands turn regs busy =
     ∙ ap (λ (b : ℕ). record { turn = m.turn; regs = register_list (raw_value first m.turn late); busy = b }) marks
 
 -- a byte of raw memory
-pub raw_byte_is : (g : Given) (h : List Item) (end : Option End) (m : Machine) (a : ℕ) → StandsFor g h end m
+pub raw_byte_is : (g : Given) (h : List Item) (end : Option Finish) (m : Machine) (a : ℕ) → StandsFor g h end m
     → unwrap_or (shown m.shade a m.turn) (bytes_of m.processor a) ≡ raw_memory (boot g.image).memory.bytes m.turn (course g h).late a
 raw_byte_is g h end m a stands =
     let shows = shows_of g h end m stands in
@@ -180,7 +182,7 @@ raw_byte_is g h end m a stands =
     ∙ course_shows g h m.turn m.shade a (begun_of g h end m stands) stands.shaded
 
 -- where nothing is open and no frame is live
-pub raw_byte_flushed : (g : Given) (h : List Item) (end : Option End) (m : Machine) (a : ℕ) → StandsFor g h end m → IsFlushed g h m.turn a
+pub raw_byte_flushed : (g : Given) (h : List Item) (end : Option Finish) (m : Machine) (a : ℕ) → StandsFor g h end m → IsFlushed g h m.turn a
     → unwrap_or (shown m.shade a m.turn) (bytes_of m.processor a) ≡ (state_after g (records_of h)).memory.bytes a
 raw_byte_flushed g h end m a stands flushed =
     raw_byte_is g h end m a stands ∙ flushed_raw g h m.turn a stands.past flushed.done flushed.live flushed.hard
@@ -198,7 +200,7 @@ none_in (suc n) p none =
 is_register : (s : State) (r : ℕ) → r < 32 → resource s r ≡ s.regs r
 is_register s r lt = cond-false (r == CONDITION_CODE) (s.ac % 8) (s.regs r) (grind (arith, nat_tests, lt))
 
-pub level_is : (g : Given) (h : List Item) (end : Option End) (m : Machine) → StandsFor g h end m → IsQuiet m → IsLevel g h m.turn
+pub level_is : (g : Given) (h : List Item) (end : Option Finish) (m : Machine) → StandsFor g h end m → IsQuiet m → IsLevel g h m.turn
 level_is g h end m stands quiet =
     let shows = shows_of g h end m stands in
     let late = (course g h).late in

@@ -1,10 +1,10 @@
 -- What a machine stands for that is the same but for the room that it has.
-use Rattle.std.proofs.Common.{◌≡◌, ℕ, ◌≤◌, List, Option, Some, None, sym, ap, ◌∙◌, subst, arith}
+use Rattle.std.proofs.Common.{◌≡◌, ℕ, ◌≤◌, List, Option, Some, None, sym, ap, ◌∙◌, subst, arith, ◌+◌, length}
 use Rattle.i9_model.specs.declared.need.Cell.{Cell}
 use Rattle.i9_model.specs.declared.run.End.{End}
 use Rattle.i9_model.specs.Alike.{AreAlike}
 use Rattle.i9_model.specs.Late.{Wait}
-use Rattle.i9_model.specs.Run.{Given, state_after}
+use Rattle.i9_model.specs.Run.{Given, state_after, Finish, finish, reached_last}
 use Rattle.i9_model.specs.State.{State, boot}
 use Rattle.i9_model.specs.Turns.{Pending, IsAllDone}
 use Rattle.i9_course.specs.Course.{Item, records_of, course, ahead}
@@ -13,8 +13,10 @@ use Rattle.i9_course.specs.Kernel.{Lands}
 use Rattle.i9_processor.specs.State.{state_of, bytes_of, queue_of}
 use Rattle.i9_machine.specs.declared.machine.Machine.{Machine}
 use Rattle.i9_machine.specs.Issuing.{kernel_of, IsPaced, IsUnmoved}
-use Rattle.i9_machine.specs.Step.{IsSame}
+use Rattle.i9_machine.specs.Step.{IsSame, plan_at_end}
 use Rattle.i9_machine.specs.StandsFor.{StandsFor, IsOver, IsLanding, IsInTime, left_after}
+use Rattle.std.specs.Option.{option_map}
+use Rattle.i9_schedule.specs.Plan.{Plan}
 
 same_state : (s : State) (before m : Machine) → AreAlike s (state_of before.processor) → state_of m.processor ≡ state_of before.processor → AreAlike s (state_of m.processor)
 same_state s before m alike e = subst (AreAlike s) (sym e) alike
@@ -51,7 +53,7 @@ unmoved_early : (t : ℕ) (before m : Machine) → IsUnmoved before m → before
 unmoved_early t before m u early = subst (λ (w : ℕ). w ≤ t) (sym u.wait) early
 
 -- once an end is answered, the turn may pass that of what lay ahead
-landing_of : (g : Given) (h : List Item) (end : Option End) (m : Machine) → Lands g h (kernel_of m) → IsLanding g h end (kernel_of m)
+landing_of : (g : Given) (h : List Item) (end : Option Finish) (m : Machine) → Lands g h (kernel_of m) → IsLanding g h end (kernel_of m)
 landing_of g h None m lands = lands
 landing_of g h (Some f) m lands = record {
   board = lands.board;
@@ -61,12 +63,12 @@ landing_of g h (Some f) m lands = record {
   shows = lands.shows;
 }
 
-in_time_of : (g : Given) (h : List Item) (end : Option End) (m : Machine) → m.wait ≤ (ahead g h).turn → IsInTime g h end m
+in_time_of : (g : Given) (h : List Item) (end : Option Finish) (m : Machine) → m.wait ≤ (ahead g h).turn → IsInTime g h end m
 in_time_of g h None m early = early
 in_time_of g h (Some f) m early = tt
 
 -- It has answered this end, if any.
-pub same_stands : (g : Given) (h : List Item) (before m : Machine) (end : Option End) → IsSame before m → m.ended ≡ end → IsOver g h end
+pub same_stands : (g : Given) (h : List Item) (before m : Machine) (end : Option Finish) → IsSame before m → m.ended ≡ option_map (λ f. f.end) end → IsOver g h end
     → StandsFor g h None before → StandsFor g h end m
 same_stands g h before m end same ended over stands = record {
   past = stands.past;
@@ -83,3 +85,9 @@ same_stands g h before m end same ended over stands = record {
   ended = ended;
   over = over;
 }
+
+-- behind an end with no event the schedule stays
+pub stays_at_end : (was : Plan) (e : End) → plan_at_end was (finish e) ≡ was
+stays_at_end was e =
+    let same : was.place + length (reached_last 0 None) ≡ was.place = omega arith in
+    ap (λ (n : ℕ). record was { place = n }) same

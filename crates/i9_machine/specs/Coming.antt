@@ -7,7 +7,7 @@ use Rattle.i9_model.specs.declared.run.End.{End}
 use Rattle.i9_model.specs.declared.run.End.TheVariants.{Imprecise}
 use Rattle.i9_model.specs.PrintedText.{end_lines}
 use Rattle.i9_model.specs.State.{State}
-use Rattle.i9_model.specs.Run.{Given, Kind, Instruction, Faulted, Does, fault_at, record_of}
+use Rattle.i9_model.specs.Run.{Given, Kind, Instruction, Faulted, Does, fault_at, record_of, finish}
 use Rattle.i9_model.specs.Traced.{traced_action}
 use Rattle.i9_model.specs.Turns.{IssuesAt, waiting_until}
 use Rattle.i9_schedule.specs.Plan.{Plan}
@@ -114,7 +114,7 @@ pub record Overtaken (a : ℕ) (before : Machine) (e : End) (m : Machine) (was p
   pub same : IsSame before m
   pub ended : m.ended ≡ Some e
   pub kept : plan ≡ was
-  pub lines : AddsLines old new (end_lines (state_of before.processor) e)
+  pub lines : AddsLines old new (end_lines (state_of before.processor) (finish e))
 
 -- or there was no room for its line
 abbrev pub Overtakes : ℕ → Machine → Turn → Machine → Plan → Plan → List Line → List Line → Type 0

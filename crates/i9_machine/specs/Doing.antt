@@ -22,9 +22,13 @@ abbrev pub reached_lines : Option Event → State → List Shown
 reached_lines None s = []
 reached_lines (Some event) s = Journal s.count event ∷ bytes_lines event s
 
--- the event that a step reaches, the next one of a schedule, where it reaches one
+-- the event that is reached, the next one of a schedule, where one is
+abbrev pub next_event : Plan → Bool → Option Event
+next_event plan reaches = if reaches then option_map (λ t. t.event) (slice_get plan.events plan.place) else None
+
+-- the event that a step reaches, where it reaches one
 abbrev pub event_in : Plan → Step → Option Event
-event_in plan step = if step.reaches then option_map (λ t. t.event) (slice_get plan.events plan.place) else None
+event_in plan step = next_event plan step.reaches
 
 -- the lines of a step that reaches an event or none, from the states before and after it
 abbrev pub lines_of : Effect → Step → Option Event → State → State → List Shown
@@ -83,6 +87,6 @@ state_behind_of s e step = counted step.counts (acted s (action_in s e))
 abbrev pub state_behind : Machine → Effect → Step → State
 state_behind m e step = state_behind_of (state_of m.processor) e step
 
--- a schedule behind a step
-abbrev pub plan_after_step : Plan → Step → Plan
-plan_after_step plan step = record plan { place = plan.place + (if step.reaches then 1 else 0) }
+-- a schedule behind the event that is reached, where one is
+abbrev pub plan_behind_event : Plan → Bool → Plan
+plan_behind_event plan reaches = record plan { place = plan.place + (if reaches then 1 else 0) }

@@ -2,7 +2,7 @@
 use Rattle.std.specs.Prelude.{◌≡◌, ◌⊎◌, ℕ, ◌+◌, ◌<◌, ◌≤◌, List, ◌∷◌, length, drop, Option, Some, None}
 use Rattle.i9_model.specs.declared.run.End.{End}
 use Rattle.i9_model.specs.Left.{left_in}
-use Rattle.i9_model.specs.Run.{Given, Record, Does, due_after, reached_after, state_after}
+use Rattle.i9_model.specs.Run.{Given, Record, Does, due_after, reached_after, state_after, Finish, reached_in}
 use Rattle.i9_schedule.specs.Plan.{Plan}
 use Rattle.i9_model.specs.Alike.{AreAlike}
 use Rattle.i9_model.specs.HeldFrames.{sets_in, cache_after}
@@ -23,9 +23,10 @@ use Rattle.i9_machine.specs.declared.machine.Machine.{Machine}
 use Rattle.i9_machine.specs.Issuing.{kernel_of, IsPaced}
 use Rattle.i9_machine.specs.Line.{AddsLines}
 use Rattle.i9_machine.specs.Step.{TellsRecord, NeedsRoom, HasRoom}
+use Rattle.std.specs.Option.{option_map}
 
 -- the run is over with this end, where there is one
-abbrev pub IsOver : Given → List Item → Option End → Type 0
+abbrev pub IsOver : Given → List Item → Option Finish → Type 0
 IsOver g h None = Unit {0}
 IsOver g h (Some f) = end_ahead g h ≡ Some f
 
@@ -38,6 +39,16 @@ pub record Follows (g : Given) (h : List Item) (plan : Plan) : Type 0 where
   pub events : plan.events ≡ g.plan
   pub place : plan.place ≡ length (reached_after (records_of h))
 
+-- a schedule stands behind the events that the run reached up to its end, the one that was reached with it too
+pub record FollowsTo (g : Given) (h : List Item) (f : Finish) (plan : Plan) : Type 0 where
+  pub events : plan.events ≡ g.plan
+  pub place : plan.place ≡ length (reached_in g (records_of h) f)
+
+-- a schedule follows the items, as long as no end was answered
+abbrev pub FollowsUntil : Given → List Item → Option Finish → Plan → Type 0
+FollowsUntil g h None plan = Follows g h plan
+FollowsUntil g h (Some f) plan = Unit {0}
+
 -- what lands late is as the course of the items has it at the machine's turn, which is not below the last issue
 pub record HasLanded (g : Given) (h : List Item) (k : Kernel) : Type 0 where
   pub board : board.StandsFor k.board (late_turns (course g h).late)
@@ -47,12 +58,12 @@ pub record HasLanded (g : Given) (h : List Item) (k : Kernel) : Type 0 where
   pub shows : Shows (boot g.image) k.turn (course g h).late k.cells k.bytes k.queue
 
 -- the same, where the turn is at most that of what lies ahead as long as no end was answered
-abbrev pub IsLanding : Given → List Item → Option End → Kernel → Type 0
+abbrev pub IsLanding : Given → List Item → Option Finish → Kernel → Type 0
 IsLanding g h None k = Lands g h k
 IsLanding g h (Some f) k = HasLanded g h k
 
 -- as long as no end was answered, the machine waits to no turn above that of what lies ahead
-abbrev pub IsInTime : Given → List Item → Option End → Machine → Type 0
+abbrev pub IsInTime : Given → List Item → Option Finish → Machine → Type 0
 IsInTime g h None m = m.wait ≤ (ahead g h).turn
 IsInTime g h (Some f) m = Unit {0}
 
@@ -61,7 +72,7 @@ IsInTime g h (Some f) m = Unit {0}
 -- sets as are asked for, or as the PRCB asks for, and the frames in them and the memory behind, with all that waits,
 -- are those of the run; what lands late is as the course of the items has it at the machine's turn, which is at most
 -- that of what lies ahead as long as no end was answered; and what stood under an open barrier's writes is kept.
-pub record StandsFor (g : Given) (h : List Item) (end : Option End) (m : Machine) : Type 0 where
+pub record StandsFor (g : Given) (h : List Item) (end : Option Finish) (m : Machine) : Type 0 where
   pub past : IsCourse g h
   pub state : AreAlike (state_after g (records_of h)) (state_of m.processor)
   pub size : size_of m.processor ≡ sets_in g.sets (state_after g (records_of h))
@@ -73,7 +84,7 @@ pub record StandsFor (g : Given) (h : List Item) (end : Option End) (m : Machine
   pub due : m.due ≡ due_after (records_of h)
   pub length : m.length ≡ g.length
   pub sets : m.sets ≡ g.sets
-  pub ended : m.ended ≡ end
+  pub ended : m.ended ≡ option_map (λ f. f.end) end
   pub over : IsOver g h end
 
 -- a machine that has answered no end stands for the first items of some run, and a schedule follows them
@@ -111,17 +122,21 @@ pub record DoesNext (g : Given) (h : List Item) (answer : Turn) (before m : Mach
   pub lines : AddsLines old new (record_lines done)
   pub tells : TellsRecord done.kind done.before answer
 
--- the end was answered, of the run or at an imprecise fault, whose turn has come, and its lines were appended
-pub record EndsRun (g : Given) (h : List Item) (f : End) (before m : Machine) (plan : Plan) (old new : List Line) : Type 0 where
-  pub is_end : end_ahead g h ≡ Some f
+-- the end was answered, of the run or at an imprecise fault, whose turn has come, and its lines were appended, behind
+-- that of an event that was reached with it
+pub record EndsRun (g : Given) (h : List Item) (e : End) (before m : Machine) (plan : Plan) (old new : List Line) : Type 0 where
+  pub finish : Finish
+  pub answers : finish.end ≡ e
+  pub is_end : end_ahead g h ≡ Some finish
   pub now : (ahead g h).turn ≡ before.turn
   pub turn : m.turn ≡ before.turn
-  pub stands : StandsFor g h (Some f) m
-  pub follows : Follows g h plan
-  pub lines : AddsLines old new (end_lines (state_after g (records_of h)) f)
+  pub stands : StandsFor g h (Some finish) m
+  pub follows : FollowsTo g h finish plan
+  pub lines : AddsLines old new (end_lines (state_after g (records_of h)) finish)
 
--- memory was refused, and nothing has changed
+-- memory was refused, when the turn of what lies ahead had come, and nothing has changed
 pub record IsRefused (g : Given) (h : List Item) (before m : Machine) (plan : Plan) (old new : List Line) : Type 0 where
+  pub now : (ahead g h).turn ≡ before.turn
   pub turn : m.turn ≡ before.turn
   pub stands : StandsFor g h None m
   pub follows : Follows g h plan
@@ -151,11 +166,9 @@ pub record Proceeds (g : Given) (h : List Item) (answer : Turn) (before m : Mach
   pub lacking : answer ≡ turns.Memory → HasRoom mid spare (comes_next g h) → ⊥
 
 -- the end is answered again, and nothing has changed
-pub record AnswersAgain (g : Given) (h : List Item) (f : End) (answer : Turn) (m : Machine) (old new : List Line) : Type 0 where
-  pub end : End
-  pub same : end ≡ f
-  pub answers : answer ≡ turns.End end
-  pub stands : StandsFor g h (Some f) m
+pub record AnswersAgain (f : Finish) (answer : Turn) (before m : Machine) (old new : List Line) : Type 0 where
+  pub answers : answer ≡ turns.End f.end
+  pub same : m ≡ before
   pub lines : new ≡ old
 
 -- a record, or a move of the turn, leaves less

@@ -7,10 +7,10 @@ use Rattle.i9_model.specs.ScheduleText.{standing_by}
 use Rattle.i9_model.specs.Left.{left_in}
 use Rattle.i9_model.specs.HeldFrames.{Cache}
 use Rattle.i9_model.specs.declared.run.Due.{Due}
-use Rattle.i9_model.specs.Run.{Kind, Instruction, Faulted, Entered, Interrupted, Reached, Blocked, Record, Next, Does, Ends, next_in, due_by, faulted_words, action_by_kind, counts_of, point_of, record_of, reached_by, action_done}
+use Rattle.i9_model.specs.Run.{Kind, Instruction, Faulted, Entered, Interrupted, Reached, Record, Next, Does, Ends, next_in, due_by, faulted_words, action_by_kind, counts_of, point_of, record_of, reached_by, action_done, Finish, reached_last}
 use Rattle.i9_schedule.specs.Plan.{Plan}
 use Rattle.i9_model.specs.Alike.{AreAlike}
-use Rattle.i9_model.specs.PrintedText.{record_lines, end_lines}
+use Rattle.i9_model.specs.PrintedText.{record_lines, end_lines, journal_lines}
 use Rattle.i9_processor.specs.declared.effect.Effect.{Effect}
 use Rattle.i9_processor.specs.Effect.{IsEffect, HasRoomFor, cache_through, size_through, has_writes, is_restart}
 use Rattle.i9_processor.specs.State.{state_of, cache_of, size_of}
@@ -21,7 +21,7 @@ use Rattle.i9_machine.specs.declared.line.Turn.TheVariants as turns
 use Rattle.i9_machine.specs.declared.machine.Machine.{Machine}
 use Rattle.i9_machine.specs.declared.step.Step.{Step}
 use Rattle.i9_machine.specs.Issue.{TellsIssue}
-use Rattle.i9_machine.specs.Doing.{event_in}
+use Rattle.i9_machine.specs.Doing.{event_in, next_event}
 use Rattle.i9_model.specs.declared.need.Need.{Need}
 use Rattle.i9_model.specs.Turns.{issue_turn, waiting_until}
 use Rattle.i9_course.specs.NeedOf.{need_of, need_ahead}
@@ -29,6 +29,9 @@ use Rattle.i9_course.specs.Course.{instruction_ahead}
 use Rattle.i9_plan.specs.Planned.{IsInRow}
 use Rattle.i9_machine.specs.Issuing.{most_turns, IsIssued, IsUnmoved}
 use Rattle.i9_machine.specs.Line.{AddsLines}
+use Rattle.i9_machine.specs.declared.step.Ending.{Ending}
+use Rattle.i9_machine.specs.declared.step.Ending.TheVariants as endings
+use Rattle.i9_model.specs.declared.run.End.TheVariants.{Hazard}
 
 -- what the instruction at the instruction address would need, and the turn at which it would issue by the scoreboard, if
 -- nothing came before it
@@ -65,7 +68,6 @@ event_of (Faulted inst fault) = None
 event_of (Entered e) = None
 event_of (Interrupted c e) = None
 event_of (Reached e u) = Some e
-event_of (Blocked e a) = Some e
 
 -- an instruction is told, also where it faulted; an entry and an event are none
 abbrev pub TellsRecord : Kind → State → Turn → Type 0
@@ -74,7 +76,6 @@ TellsRecord (Faulted inst fault) s (turns.Issued t) = TellsIssue (faulted_words 
 TellsRecord (Entered e) s turns.On = Unit {0}
 TellsRecord (Interrupted c e) s turns.On = Unit {0}
 TellsRecord (Reached e u) s turns.On = Unit {0}
-TellsRecord (Blocked e a) s turns.On = Unit {0}
 TellsRecord _ s _ = ⊥
 
 -- memory may be needed for a record that prints lines, stores bytes, saves a frame, or makes new sets
@@ -93,9 +94,9 @@ pub record HasRoomToDo (m : Machine) (spare : ℕ) (r : Record) : Type 0 where
   pub effect : HasRoomFor m.processor (action_done r)
   pub no_sets : is_restart (action_done r).control ≡ false
 
--- there is room for what comes next: an end has two lines
+-- there is room for what comes next: an end has two lines, behind that of an event that is reached with it
 abbrev pub HasRoom : Machine → ℕ → Next → Type 0
-HasRoom m spare (Ends f) = 2 ≤ spare
+HasRoom m spare (Ends f) = length (journal_lines 0 f.event) + 2 ≤ spare
 HasRoom m spare (Does r) = HasRoomToDo m spare r
 
 -- ---- what a step is to do
@@ -136,10 +137,22 @@ pub record IsPlannedIn (m : Machine) (plan : Plan) (step : Step) (mid : Machine)
 abbrev pub IsPlanned : Machine → Plan → Step → Type 0
 IsPlanned m plan step = IsPlannedIn m plan step m
 
+-- how a run ends, by what the machine answers: an event that is reached is the next one of the schedule
+abbrev pub reaches_event : Ending → Bool
+reaches_event (endings.Alone e) = false
+reaches_event (endings.AtEvent a) = true
+
+abbrev pub end_in : Ending → End
+end_in (endings.Alone e) = e
+end_in (endings.AtEvent a) = Hazard a
+
+abbrev pub finish_in : Plan → Ending → Finish
+finish_in plan f = record { event = next_event plan (reaches_event f); end = end_in f }
+
 -- what comes next is such a step, or this end
-abbrev pub IsNext : Machine → Plan → Result Step End → Machine → Type 0
+abbrev pub IsNext : Machine → Plan → Result Step Ending → Machine → Type 0
 IsNext m plan (Ok step) mid = IsPlannedIn m plan step mid
-IsNext m plan (Err f) mid = next_for m plan ≡ Ends f
+IsNext m plan (Err f) mid = next_for m plan ≡ Ends (finish_in plan f)
 
 -- ---- what it has done
 
@@ -171,31 +184,37 @@ pub record IsSame (before m : Machine) : Type 0 where
   pub sets : m.sets ≡ before.sets
   pub unmoved : IsUnmoved before m
 
-pub record Ended (before : Machine) (e : End) (m : Machine) (was plan : Plan) (old new : List Line) : Type 0 where
-  pub is_end : next_for before was ≡ Ends e
-  pub same : IsSame before m
-  pub ended : m.ended ≡ Some e
-  pub kept : plan ≡ was
-  pub lines : AddsLines old new (end_lines (state_of before.processor) e)
+-- a schedule goes on behind the event that was reached with an end
+abbrev pub plan_at_end : Plan → Finish → Plan
+plan_at_end plan f = record plan { place = plan.place + length (reached_last 0 f.event) }
 
 -- an end was answered, or there was no room for its lines
-pub record Finished (before : Machine) (e : End) (m : Machine) (old new : List Line) : Type 0 where
+pub record Finished (before : Machine) (f : Finish) (m : Machine) (was plan : Plan) (old new : List Line) : Type 0 where
   pub same : IsSame before m
-  pub ended : m.ended ≡ Some e
-  pub lines : AddsLines old new (end_lines (state_of before.processor) e)
+  pub ended : m.ended ≡ Some f.end
+  pub behind : plan ≡ plan_at_end was f
+  pub lines : AddsLines old new (end_lines (state_of before.processor) f)
 
-pub record Unfinished (before : Machine) (e : End) (spare : ℕ) (m : Machine) (old new : List Line) : Type 0 where
+pub record Unfinished (before : Machine) (f : Finish) (spare : ℕ) (m : Machine) (was plan : Plan) (old new : List Line) : Type 0 where
   pub same : IsSame before m
   pub ended : m.ended ≡ None
+  pub kept : plan ≡ was
   pub lines : new ≡ old
-  pub lacking : spare < length (end_lines (state_of before.processor) e)
+  pub lacking : spare < length (end_lines (state_of before.processor) f)
 
 -- with this many lines to spare
-abbrev pub Finishes : Machine → End → ℕ → Turn → Machine → List Line → List Line → Type 0
-Finishes before e spare (turns.End f) m old new = (f ≡ e) × Finished before e m old new
-Finishes before e spare turns.Memory m old new = Unfinished before e spare m old new
-Finishes before e spare turns.On m old new = ⊥
-Finishes before e spare (turns.Issued t) m old new = ⊥
+abbrev pub Finishes : Machine → Finish → ℕ → Turn → Machine → Plan → Plan → List Line → List Line → Type 0
+Finishes before f spare (turns.End e) m was plan old new = (f.end ≡ e) × Finished before f m was plan old new
+Finishes before f spare turns.Memory m was plan old new = Unfinished before f spare m was plan old new
+Finishes before f spare turns.On m was plan old new = ⊥
+Finishes before f spare (turns.Issued t) m was plan old new = ⊥
+
+-- the end that comes next was answered
+pub record Ended (before : Machine) (e : End) (m : Machine) (was plan : Plan) (old new : List Line) : Type 0 where
+  pub finish : Finish
+  pub answers : finish.end ≡ e
+  pub is_end : next_for before was ≡ Ends finish
+  pub finished : Finished before finish m was plan old new
 
 pub record Refused (before : Machine) (m : Machine) (was plan : Plan) (old new : List Line) : Type 0 where
   pub same : IsSame before m

@@ -3,7 +3,7 @@ use Rattle.std.specs.Prelude.{◌≡◌, ◌+◌, ◌<◌, ◌≤◌, List, [], 
 use Rattle.i9_model.specs.declared.run.End.{End}
 use Rattle.i9_model.specs.Late.{turns}
 use Rattle.i9_model.specs.PrintedText.{lines_of, end_lines}
-use Rattle.i9_model.specs.Run.{Given, Record, state_after}
+use Rattle.i9_model.specs.Run.{Given, Record, state_after, Finish}
 use Rattle.i9_model.specs.Turns.{last_issue}
 use Rattle.i9_schedule.specs.Plan.{Plan}
 use Rattle.i9_course.specs.Course.{Item, Step, records_of, course, comes_next, ahead}
@@ -14,7 +14,7 @@ use Rattle.i9_machine.specs.declared.line.Turn.TheVariants as answers
 use Rattle.i9_machine.specs.declared.machine.Machine.{Machine}
 use Rattle.i9_machine.specs.Line.{AddsLines}
 use Rattle.i9_machine.specs.Step.{NeedsRoom}
-use Rattle.i9_machine.specs.StandsFor.{StandsFor, Follows}
+use Rattle.i9_machine.specs.StandsFor.{StandsFor, Follows, FollowsTo}
 
 -- items with records behind them, the newest first
 abbrev pub steps_on : List Record → List Item → List Item
@@ -40,14 +40,16 @@ pub record TurnsOn (g : Given) (h : List Item) (before m : Machine) (plan : Plan
   pub lines : AddsLines old new (lines_of done)
 
 -- the end was answered, at the machine's turn
-pub record EndsTurn (g : Given) (h : List Item) (f : End) (before m : Machine) (plan : Plan) (old new : List Line) : Type 0 where
+pub record EndsTurn (g : Given) (h : List Item) (e : End) (before m : Machine) (plan : Plan) (old new : List Line) : Type 0 where
   pub done : List Record
+  pub finish : Finish
+  pub answers : finish.end ≡ e
   pub turn : m.turn ≡ before.turn
-  pub is_end : end_ahead g (steps_on done h) ≡ Some f
+  pub is_end : end_ahead g (steps_on done h) ≡ Some finish
   pub now : (ahead g (steps_on done h)).turn ≡ before.turn
-  pub stands : StandsFor g (steps_on done h) (Some f) m
-  pub follows : Follows g (steps_on done h) plan
-  pub lines : AddsLines old new (lines_of done ++ end_lines (state_after g (records_of (steps_on done h))) f)
+  pub stands : StandsFor g (steps_on done h) (Some finish) m
+  pub follows : FollowsTo g (steps_on done h) finish plan
+  pub lines : AddsLines old new (lines_of done ++ end_lines (state_after g (records_of (steps_on done h))) finish)
 
 -- memory was refused behind whole steps
 pub record StopsTurn (g : Given) (h : List Item) (before m : Machine) (plan : Plan) (old new : List Line) : Type 0 where

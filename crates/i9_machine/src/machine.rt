@@ -9,7 +9,7 @@ ghost use Rattle.i9_model.specs.HeldFrames.{cache_after, sets_in};
 ghost use Rattle.i9_model.specs.Given.{Given, given};
 ghost use Rattle.i9_model.specs.declared.run.End.{End};
 ghost use Rattle.i9_model.specs.ScheduleText.{IsPlan};
-ghost use Rattle.i9_model.specs.Run.{Faulted, fault_at, state_after};
+ghost use Rattle.i9_model.specs.Run.{Faulted, fault_at, state_after, Finish};
 ghost use Rattle.i9_model.specs.declared.need.TimedNeed.{TimedNeed};
 ghost use Rattle.i9_model.specs.Turns.{end_turn};
 ghost use Rattle.i9_model.specs.Turns as board;
@@ -19,6 +19,7 @@ ghost use Rattle.i9_schedule.specs.Plan.{Plan};
 ghost use Rattle.i9_plan.specs.Kept.{inst_in};
 ghost use Rattle.i9_frames.specs.Sets.{held};
 ghost use Rattle.i9_processor.specs.State.{state_of, IsDrained};
+ghost use Rattle.std.specs.Option.{option_map};
 
 mod doing;
 mod opening;
@@ -26,7 +27,7 @@ mod planning;
 mod turning;
 
 use crate::line::{Line, Turn};
-use crate::step::Coming;
+use crate::step::{Coming, Ending};
 use i9_frames::Sets;
 use i9_hex::Segments;
 use i9_isa::NoMemory;
@@ -111,8 +112,9 @@ impl Machine {
 
     /// What a drained point shows: the state after the records so far.
     pub fn view(&self) -> View
-        ensures { (g : Given) (h : List Item) (end : Option End) → StandsFor g h end self.now
+        ensures shown { (g : Given) (h : List Item) (end : Option Finish) → StandsFor g h end self.now
             → result ≡ view_of (state_after g (records_of h)) }
+        ensures count { result.count ≤ MAX_LENGTH }
     {
         self.processor.view()
     }
@@ -120,7 +122,7 @@ impl Machine {
     /// A byte of overlaid memory: `None` exactly where it is not compared, which is where only the save
     /// of a frame wrote it and that frame is not live any more.
     pub fn byte(&self, a: u32) -> Option<u8>
-        ensures { (g : Given) (h : List Item) (end : Option End) → StandsFor g h end self.now
+        ensures { (g : Given) (h : List Item) (end : Option Finish) → StandsFor g h end self.now
             → result ≡ overlay (state_after g (records_of h)) a }
     {
         self.processor.overlay(a)
@@ -128,14 +130,15 @@ impl Machine {
 
     /// The end of the run that was answered; `None` where none was.
     pub fn ended(&self) -> Option<End>
-        ensures { (g : Given) (h : List Item) (end : Option End) → StandsFor g h end self.now → result ≡ end }
+        ensures { (g : Given) (h : List Item) (end : Option Finish) → StandsFor g h end self.now
+            → result ≡ option_map (λ f. f.end) end }
     {
         self.ended
     }
 
     /// The frames that are held, each in a set.
     pub fn held(&self) -> &Sets
-        ensures { (g : Given) (h : List Item) (end : Option End) → StandsFor g h end self.now
+        ensures { (g : Given) (h : List Item) (end : Option Finish) → StandsFor g h end self.now
             → result.now ≡ held (sets_in g.sets (state_after g (records_of h))) (cache_after g (records_of h)).held }
     {
         self.processor.sets()
@@ -146,10 +149,10 @@ impl Machine {
     /// at every moment, and takes no memory.
     pub fn settle(&mut self)
         ensures marked { (g : Given) (h : List Item) → StandsFor g h None self.old → StandsFor g (Mark ∷ h) None self.new }
-        ensures ended { (g : Given) (h : List Item) (f : End) → StandsFor g h (Some f) self.old → StandsFor g h (Some f) self.new }
+        ensures ended { (g : Given) (h : List Item) (f : Finish) → StandsFor g h (Some f) self.old → StandsFor g h (Some f) self.new }
         ensures turn { (rs : List TimedNeed) → board.StandsFor self.old.board rs → self.new.turn ≡ max self.old.turn (end_turn rs) }
-        ensures quiet { (g : Given) (h : List Item) (end : Option End) → StandsFor g h end self.old → IsQuiet self.new }
-        ensures level { (g : Given) (h : List Item) (end : Option End) → StandsFor g h end self.old → IsLevel g h self.new.turn }
+        ensures quiet { (g : Given) (h : List Item) (end : Option Finish) → StandsFor g h end self.old → IsQuiet self.new }
+        ensures level { (g : Given) (h : List Item) (end : Option Finish) → StandsFor g h end self.old → IsLevel g h self.new.turn }
     {
         let until = self.board.all_done();
         let floor = self.mark_at(until);
@@ -238,7 +241,7 @@ impl Machine {
                 let issue = self.issue_turn();
                 self.perform(&step, issue, plan, out)
             }
-            Err(end) => self.answer_end(end, out),
+            Err(end) => self.answer_end(end, plan, out),
         }
     }
 
@@ -313,7 +316,9 @@ impl Machine {
     {
         match coming {
             Coming::Waiting { read } => self.step_drained(read, plan, out),
-            Coming::Overtaking(address) => self.answer_end(End::Imprecise(address), out),
+            Coming::Overtaking(address) => {
+                self.answer_end(Ending::Alone(End::Imprecise(address)), plan, out)
+            }
             Coming::Running if self.effect.plain => self.step_running(turn, plan, out),
             Coming::Running => self.step_storing(turn, plan, out),
             Coming::Faulting(number) => self.step_faulting(number, turn, plan, out),
@@ -334,8 +339,8 @@ impl Machine {
         requires stands { self.old.ended ≡ None → IsUnderWay self.old plan.old }
         ensures next { (g : Given) (h : List Item) → StandsFor g h None self.old → Follows g h plan.old
             → Advances g h result self.old self.new plan.new out.old.items out.new.items }
-        ensures again { (g : Given) (h : List Item) (f : End) → StandsFor g h (Some f) self.old
-            → AnswersAgain g h f result self.new out.old.items out.new.items × (plan.new ≡ plan.old) }
+        ensures again { (g : Given) (h : List Item) (f : Finish) → StandsFor g h (Some f) self.old
+            → AnswersAgain f result self.old self.new out.old.items out.new.items × (plan.new ≡ plan.old) }
         ensures lacking { (g : Given) (h : List Item) → StandsFor g h None self.old → Follows g h plan.old
             → result ≡ Turn.Memory → HasRoom self.old (vec_capacity out.old - vec_len out.old) (comes_next g h) → ⊥ }
         ensures fewer { LeavesFewer result (steps_left self.old plan.old) (steps_left self.new plan.new) }
@@ -366,8 +371,8 @@ impl Machine {
         requires stands { self.old.ended ≡ None → IsUnderWay self.old plan.old }
         ensures next { (g : Given) (h : List Item) → StandsFor g h None self.old → Follows g h plan.old
             → Proceeds g h result self.old self.new plan.new (vec_capacity out.old - vec_len out.old) out.old.items out.new.items }
-        ensures again { (g : Given) (h : List Item) (f : End) → StandsFor g h (Some f) self.old
-            → AnswersAgain g h f result self.new out.old.items out.new.items × (plan.new ≡ plan.old) }
+        ensures again { (g : Given) (h : List Item) (f : Finish) → StandsFor g h (Some f) self.old
+            → AnswersAgain f result self.old self.new out.old.items out.new.items × (plan.new ≡ plan.old) }
         ensures fewer { LeavesFewer result (steps_left self.old plan.old) (steps_left self.new plan.new) }
     {
         match self.ended {

@@ -2,9 +2,10 @@
 ghost use Rattle.std.specs.Prelude.{◌≡◌, IfSome};
 ghost use Rattle.std.specs.Option.{option_copied};
 ghost use Rattle.i9_model.specs.Events.{IsInRange};
+ghost use Rattle.i9_machine.specs.Doing.{next_event};
 
 use crate::line::Turn;
-use i9_model::{Due, Event, Point};
+use i9_model::{Due, End, Event, Point};
 use i9_schedule::Schedule;
 
 /// What a step does beside its effect: whether it reaches the next event of the schedule, the drained
@@ -18,19 +19,45 @@ pub(crate) struct Step {
     pub(crate) answer: Turn,
 }
 
-impl Step {
-    ghost use Rattle.i9_machine.specs.Doing.{event_in};
+/// How a run ends.
+#[derive(Clone, Copy)]
+pub(crate) enum Ending {
+    /// At this end, with which no event is reached.
+    Alone(End),
+    /// At this hazard of the next event of the schedule, which is reached with the end.
+    AtEvent(u32),
+}
 
-    /// The event that it reaches, where it reaches one.
-    pub(crate) fn event<'a>(&self, plan: &'a Schedule) -> Option<&'a Event>
-        ensures event { option_copied result ≡ event_in plan.now self.now }
-        ensures ranges { IfSome result (λ e. IsInRange e.now) }
+impl Ending {
+    ghost use Rattle.i9_machine.specs.Step.{reaches_event, end_in};
+
+    /// Whether an event is reached with it.
+    pub(crate) fn reaches(self) -> bool
+        ensures { result ≡ reaches_event self }
     {
-        if self.reaches {
-            Some(&plan.next()?.event)
-        } else {
-            None
+        matches!(self, Ending::AtEvent(_))
+    }
+
+    /// The end itself.
+    pub(crate) fn end(self) -> End
+        ensures { result ≡ end_in self }
+    {
+        match self {
+            Ending::Alone(end) => end,
+            Ending::AtEvent(hazard) => End::Hazard(hazard),
         }
+    }
+}
+
+/// The event that is reached, the next one of the schedule, where one is.
+pub(crate) fn next_event<'a>(plan: &'a Schedule, reaches: bool) -> Option<&'a Event>
+    ensures event { option_copied result ≡ next_event plan.now reaches }
+    ensures ranges { IfSome result (λ e. IsInRange e.now) }
+{
+    if reaches {
+        Some(&plan.next()?.event)
+    } else {
+        None
     }
 }
 

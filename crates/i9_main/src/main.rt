@@ -1,16 +1,20 @@
 //! The program of the command `i960`: its words, and its files and its output of the system.
 #![tactic(auto)]
 
-ghost use Rattle.std.specs.Prelude.{◌≡◌, ◌≢◌, IfOk, drop};
+ghost use Rattle.std.specs.Prelude.{◌≡◌, ◌≢◌, ◌<◌, IfOk, IfErr, OnErr, drop};
+ghost use Rattle.std.specs.IoError.{error_kind};
 ghost use Rattle.std.specs.Process.{exit_status};
 ghost use Rattle.std.specs.Vec.Iter.{into_iter_items};
+ghost use Rattle.i9_debug.specs.Print.{account};
+ghost use Rattle.i9_main.specs.Program.{EndsWith};
+ghost use Rattle.i9_tool.specs.Fetches.{shelf};
 
-use i9_outside::{RealFiles, RealSink};
+use i9_outside::{Files, RealFiles, RealSink, Sink};
 use i9_tool::{Status, i960};
 use std::alloc::{AllocError, Global};
-use std::io::ErrorKind;
+use std::io::{ErrorKind, Print};
 use std::process::ExitCode;
-use std::{env, io};
+use std::{env, io, rt};
 
 /// All of the words that the system gave.
 fn all_words(alloc: Global, given: env::Args) -> Result<Vec<String>, AllocError>
@@ -34,7 +38,7 @@ fn without_name(alloc: Global, given: env::Args) -> Result<Vec<String>, AllocErr
 }
 
 /// The words of the command.
-fn words_of(rt: &HostRuntime) -> io::Result<Vec<String>> {
+fn words_of<R: rt::Env + AllocGlobal>(rt: &R) -> io::Result<Vec<String>> {
     let given = env::args(rt)?;
     Ok(without_name(rt.alloc(), given)?)
 }
@@ -57,14 +61,35 @@ fn exit_of(status: Status) -> ExitCode
     ExitCode::from(status.code)
 }
 
-/// Does what the words ask for and ends with its status, or with that for no words.
-fn main(rt: HostRuntime) -> ExitCode {
-    match words_of(&rt) {
-        Ok(words) => {
-            let mut files = RealFiles::new(&rt);
-            let mut out = RealSink::new(io::writer(&rt));
-            exit_of(i960(rt.alloc(), &words, &mut files, &mut out))
-        }
+/// Does what the words ask for, and ends with the status of that; or with that for no words, and then does nothing.
+fn answer<F: Files, K: Sink>(
+    alloc: Global,
+    words: io::Result<Vec<String>>,
+    files: &mut F,
+    out: &mut K,
+) -> ExitCode
+    ensures given { IfOk words (λ w. EndsWith
+        (shelf F.told F.faults F.fetches F.sure) (account K.told K.faults K.writes K.sure) w.items (exit_status result)
+        files.old files.new out.old out.new) }
+    ensures memory { IfErr words (λ e. error_kind e ≡ ErrorKind.OutOfMemory → exit_status result ≡ 7) }
+    ensures system { IfErr words (λ e. error_kind e ≢ ErrorKind.OutOfMemory → exit_status result ≡ 8) }
+    ensures untouched { OnErr words ((files.new ≡ files.old) × (out.new ≡ out.old)) }
+{
+    match words {
+        Ok(words) => exit_of(i960(alloc, &words, files, out)),
         Err(error) => exit_of(status_without_words(error.kind())),
     }
+}
+
+/// The program over a runtime: its words, its files, and its output.
+fn program<R: rt::Files + rt::Env + Print + AllocGlobal>(rt: &R) -> ExitCode
+    ensures { exit_status result < 9 }
+{
+    let mut files = RealFiles::new(rt);
+    let mut out = RealSink::new(io::writer(rt));
+    answer(rt.alloc(), words_of(rt), &mut files, &mut out)
+}
+
+fn main(rt: HostRuntime) -> ExitCode {
+    program(&rt)
 }

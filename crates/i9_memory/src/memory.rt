@@ -2,6 +2,7 @@
 ghost use Rattle.std.specs.Prelude.{◌≡◌, ℕ, ◌+◌, ◌*◌, ◌/◌, ◌%◌, ◌<◌, ◌≤◌, ◌∷◌, [], Some, OnOk, OnErr, length};
 ghost use Rattle.i9_model.specs.Memory.{region_of, is_big, waits_of, half_in, word_in, words_in, ordered_word, half_bytes, word_bytes, with_bytes, with_words, with_mcon};
 
+use crate::order::{bytes_of_half, bytes_of_word, half_of, word_of};
 use crate::pages::{PAGE_SIZE, Page, Pages};
 use i9_isa::NoMemory;
 use std::alloc::Global;
@@ -29,12 +30,13 @@ fn region_of(a: u32) -> u8
 
 #[tactic(auto, unfolding(crate::specs::Memory::memory_of, crate::specs::Memory::IsReserved))]
 impl Memory {
-    ghost use Rattle.i9_memory.specs.Memory.{no_memory, memory_of, IsReserved, HasRoom, KeepsRoom};
+    ghost use Rattle.i9_memory.specs.Memory.{no_memory, memory_of, IsReserved, HasRoom, HasNoRoom, KeepsRoom, AddsRoomOnly};
     ghost use Rattle.i9_memory.specs.Pages.{page_of};
 
-    /// All bytes and configuration words are 0.
+    /// All bytes and configuration words are 0, and there is room for none.
     pub fn new(alloc: Global) -> Memory
-        ensures { memory_of result ≡ no_memory }
+        ensures memory { memory_of result ≡ no_memory }
+        ensures none { HasNoRoom result }
     {
         Memory {
             pages: Pages::new(alloc),
@@ -42,13 +44,15 @@ impl Memory {
         }
     }
 
-    /// Makes room for `n` bytes from `a` up. Memory is refused only where room is lacking.
+    /// Makes room for `n` bytes from `a` up, and for no others but those of their pages. Memory is refused only where
+    /// room is lacking.
     pub fn reserve(&mut self, a: u32, n: u32) -> Result<(), NoMemory>
         ensures same { memory_of self.new ≡ memory_of self.old }
         ensures ok { OnOk result (HasRoom self.new a n) }
         ensures needed { OnErr result (0 < n) }
         ensures lacking { OnErr result (HasRoom self.old a n → ⊥) }
         ensures keeps { KeepsRoom self.old self.new }
+        ensures only { AddsRoomOnly self.old self.new a n }
     {
         self.pages.reserve_run(a, n as usize)
     }
@@ -72,23 +76,14 @@ impl Memory {
     pub fn half(&self, a: u32) -> u16
         ensures { result ≡ half_in (memory_of self.now) a }
     {
-        let bytes = self.pages.two(a);
-        if self.is_big_at(a) {
-            u16::from_be_bytes(bytes)
-        } else {
-            u16::from_le_bytes(bytes)
-        }
+        half_of(self.is_big_at(a), self.pages.two(a))
     }
 
     /// Four bytes as a word, in the order of the region of `a`.
     fn ordered(&self, a: u32, bytes: [u8; 4]) -> u32
         ensures { result ≡ ordered_word (memory_of self.now) a bytes }
     {
-        if self.is_big_at(a) {
-            u32::from_be_bytes(bytes)
-        } else {
-            u32::from_le_bytes(bytes)
-        }
+        word_of(self.is_big_at(a), bytes)
     }
 
     /// The four bytes from `a` up, in the order of the region of `a`.
@@ -142,6 +137,7 @@ impl Memory {
         requires { HasRoom self.old a (length bytes.now) }
         ensures bytes { memory_of self.new ≡ with_bytes (memory_of self.old) a bytes.now }
         ensures keeps { KeepsRoom self.old self.new }
+        ensures no_more { KeepsRoom self.new self.old }
     {
         self.pages.store(a, bytes);
     }
@@ -153,6 +149,7 @@ impl Memory {
         ensures same { OnErr result (memory_of self.new ≡ memory_of self.old) }
         ensures lacking { OnErr result (HasRoom self.old a (length bytes.now) → ⊥) }
         ensures keeps { KeepsRoom self.old self.new }
+        ensures only { AddsRoomOnly self.old self.new a (length bytes.now) }
     {
         self.pages.reserve_run(a, bytes.len())?;
         self.pages.store(a, bytes);
@@ -164,6 +161,7 @@ impl Memory {
         requires { HasRoom self.old a 1 }
         ensures bytes { memory_of self.new ≡ with_bytes (memory_of self.old) a (v ∷ []) }
         ensures keeps { KeepsRoom self.old self.new }
+        ensures no_more { KeepsRoom self.new self.old }
     {
         self.store(a, &[v]);
     }
@@ -174,11 +172,7 @@ impl Memory {
     pub fn half_bytes(&self, a: u32, v: u16) -> [u8; 2]
         ensures { result ≡ half_bytes (memory_of self.now) a v }
     {
-        if self.is_big_at(a) {
-            v.to_be_bytes()
-        } else {
-            v.to_le_bytes()
-        }
+        bytes_of_half(self.is_big_at(a), v)
     }
 
     /// Stores a half from `a` up in the order of the region of `a`, but for bytes in the port page.
@@ -186,6 +180,7 @@ impl Memory {
         requires { HasRoom self.old a 2 }
         ensures bytes { memory_of self.new ≡ with_bytes (memory_of self.old) a (half_bytes (memory_of self.old) a v) }
         ensures keeps { KeepsRoom self.old self.new }
+        ensures no_more { KeepsRoom self.new self.old }
     {
         let bytes = self.half_bytes(a, v);
         self.store(a, &bytes);
@@ -197,11 +192,7 @@ impl Memory {
     pub fn word_bytes(&self, a: u32, v: u32) -> [u8; 4]
         ensures { result ≡ word_bytes (memory_of self.now) a v }
     {
-        if self.is_big_at(a) {
-            v.to_be_bytes()
-        } else {
-            v.to_le_bytes()
-        }
+        bytes_of_word(self.is_big_at(a), v)
     }
 
     /// Stores a word from `a` up in the order of the region of `a`, but for bytes in the port page.
@@ -209,6 +200,7 @@ impl Memory {
         requires { HasRoom self.old a 4 }
         ensures bytes { memory_of self.new ≡ with_bytes (memory_of self.old) a (word_bytes (memory_of self.old) a v) }
         ensures keeps { KeepsRoom self.old self.new }
+        ensures no_more { KeepsRoom self.new self.old }
     {
         let bytes = self.word_bytes(a, v);
         self.store(a, &bytes);
@@ -220,6 +212,7 @@ impl Memory {
         requires { HasRoom self.old a (4 * length words.now) }
         ensures bytes { memory_of self.new ≡ with_words (memory_of self.old) a words.now }
         ensures keeps { KeepsRoom self.old self.new }
+        ensures no_more { KeepsRoom self.new self.old }
     {
         let mut at = a;
         for w in words {
@@ -233,6 +226,7 @@ impl Memory {
         requires { region < 16 }
         ensures word { memory_of self.new ≡ with_mcon (memory_of self.old) region mcon }
         ensures keeps { KeepsRoom self.old self.new }
+        ensures no_more { KeepsRoom self.new self.old }
     {
         self.mcon[region as usize] = mcon;
     }
@@ -253,5 +247,13 @@ impl Memory {
     {
         let low = if write { 12 } else { 3 };
         u64::from((self.mcon[region as usize] >> low) % 32)
+    }
+}
+
+#[cfg(test)]
+impl Memory {
+    /// Whether there is a page of this number.
+    pub(crate) fn has_page(&self, number: u32) -> bool {
+        self.pages.has_page(number)
     }
 }

@@ -1,5 +1,5 @@
 //! Bytes by address, in pages.
-ghost use Rattle.std.specs.Prelude.{◌≡◌, ℕ, ◌+◌, ◌/◌, ◌%◌, ◌^◌, ◌<◌, ◌≤◌, ◌∷◌, [], OnOk, OnErr, IfSome, Some, length};
+ghost use Rattle.std.specs.Prelude.{◌≡◌, ◌≢◌, ℕ, ◌+◌, ◌/◌, ◌%◌, ◌^◌, ◌<◌, ◌≤◌, ◌∷◌, [], OnOk, OnErr, IfSome, Some, length};
 ghost use Rattle.i9_model.specs.Writes.{wrapped, written, pairs_at, upwards};
 ghost use Rattle.i9_model.specs.Memory.{stored};
 
@@ -77,11 +77,12 @@ pub(crate) struct Pages {
 }
 
 impl Pages {
-    ghost use Rattle.i9_memory.specs.Pages.{byte_of, page_of, HasPage, HasByte};
+    ghost use Rattle.i9_memory.specs.Pages.{byte_of, page_of, HasPage, HasByte, KeepsPages, AddsOnly};
 
-    /// All bytes are 0.
+    /// All bytes are 0, and there is no page.
     pub(crate) fn new(alloc: Global) -> Pages
-        ensures { byte_of result ≡ (λ _. 0) }
+        ensures bytes { byte_of result ≡ (λ _. 0) }
+        ensures none { (p : ℕ) → HasPage result p → ⊥ }
     {
         Pages {
             alloc,
@@ -168,7 +169,8 @@ impl Pages {
         requires lacking { HasPage self.old number → ⊥ }
         ensures same { byte_of self.new ≡ byte_of self.old }
         ensures ok { OnOk result (HasPage self.new number) }
-        ensures keeps { (p : ℕ) → HasPage self.old p → HasPage self.new p }
+        ensures keeps { KeepsPages self.old self.new }
+        ensures only { (p : ℕ) → p ≢ number → HasPage self.new p → HasPage self.old p }
     {
         let bytes = match Box::new(self.alloc, [0; 256]) {
             Ok(bytes) => bytes,
@@ -183,7 +185,8 @@ impl Pages {
         ensures same { byte_of self.new ≡ byte_of self.old }
         ensures ok { OnOk result (HasByte self.new a) }
         ensures lacking { OnErr result (HasByte self.old a → ⊥) }
-        ensures keeps { (p : ℕ) → HasPage self.old p → HasPage self.new p }
+        ensures keeps { KeepsPages self.old self.new }
+        ensures only { (p : ℕ) → p ≢ a / 256 → HasPage self.new p → HasPage self.old p }
     {
         let number = a / PAGE_SIZE;
         if self.pages.contains(number) {
@@ -200,7 +203,8 @@ impl Pages {
         ensures ok { OnOk result ((k : ℕ) → k < n → HasByte self.new (wrapped (a + k))) }
         ensures needed { OnErr result (0 < n) }
         ensures lacking { OnErr result (((k : ℕ) → k < n → HasByte self.old (wrapped (a + k))) → ⊥) }
-        ensures keeps { (p : ℕ) → HasPage self.old p → HasPage self.new p }
+        ensures keeps { KeepsPages self.old self.new }
+        ensures only { AddsOnly self.old self.new a n }
     {
         let mut at = a;
         let mut done = 0;
@@ -220,7 +224,8 @@ impl Pages {
         ensures ok { OnOk result ((k : ℕ) → k < n → HasByte self.new (wrapped (a + k))) }
         ensures needed { OnErr result (0 < n) }
         ensures lacking { OnErr result (((k : ℕ) → k < n → HasByte self.old (wrapped (a + k))) → ⊥) }
-        ensures keeps { (p : ℕ) → HasPage self.old p → HasPage self.new p }
+        ensures keeps { KeepsPages self.old self.new }
+        ensures only { AddsOnly self.old self.new a n }
     {
         if n <= (PAGE_SIZE - a % PAGE_SIZE) as usize && self.pages.contains(a / PAGE_SIZE) {
             return Ok(());
@@ -235,7 +240,8 @@ impl Pages {
         requires room { HasByte self.old a }
         requires within { a % 256 + length bytes.now ≤ 256 }
         ensures bytes { byte_of self.new ≡ stored (byte_of self.old) (upwards a bytes.now) }
-        ensures keeps { (p : ℕ) → HasPage self.old p → HasPage self.new p }
+        ensures keeps { KeepsPages self.old self.new }
+        ensures no_more { KeepsPages self.new self.old }
     {
         if in_port_page(a) {
             return;
@@ -251,7 +257,8 @@ impl Pages {
     fn store_across(&mut self, a: u32, bytes: &[u8])
         requires { (k : ℕ) → k < length bytes.now → HasByte self.old (wrapped (a + k)) }
         ensures bytes { byte_of self.new ≡ stored (byte_of self.old) (upwards a bytes.now) }
-        ensures keeps { (p : ℕ) → HasPage self.old p → HasPage self.new p }
+        ensures keeps { KeepsPages self.old self.new }
+        ensures no_more { KeepsPages self.new self.old }
     {
         let mut at = a;
         let mut rest = bytes;
@@ -267,12 +274,21 @@ impl Pages {
     pub(crate) fn store(&mut self, a: u32, bytes: &[u8])
         requires { (k : ℕ) → k < length bytes.now → HasByte self.old (wrapped (a + k)) }
         ensures bytes { byte_of self.new ≡ stored (byte_of self.old) (upwards a bytes.now) }
-        ensures keeps { (p : ℕ) → HasPage self.old p → HasPage self.new p }
+        ensures keeps { KeepsPages self.old self.new }
+        ensures no_more { KeepsPages self.new self.old }
     {
         if bytes.len() > (PAGE_SIZE - a % PAGE_SIZE) as usize {
             self.store_across(a, bytes);
         } else if !bytes.is_empty() {
             self.store_run(a, bytes);
         }
+    }
+}
+
+#[cfg(test)]
+impl Pages {
+    /// Whether there is a page of this number.
+    pub(crate) fn has_page(&self, number: u32) -> bool {
+        self.pages.contains(number)
     }
 }

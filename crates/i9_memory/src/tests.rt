@@ -7,6 +7,9 @@ use std::test::Fail;
 /// Bit 22 of a configuration word, which makes its region big-endian.
 const BIG_ENDIAN: u32 = 0x0040_0000;
 
+/// How many pages all addresses have.
+const PAGES: u32 = 0x100_0000;
+
 /// What is done to a memory, or what it has to hold.
 #[derive(Clone, Copy)]
 enum Step {
@@ -222,6 +225,47 @@ fn keeps_room(rt: HostRuntime) -> Result<(), Fail> {
     for (a, n) in runs {
         assert!(rt; memory.reserve(a, n).is_ok(), "{n} bytes from {a}");
     }
+    Ok(())
+}
+
+/// How many pages there are: of the first 2 MiB all are counted, and of the rest the first one and the last one of
+/// each 64 KiB.
+fn page_count(memory: &Memory) -> usize {
+    let firsts = (0x2000..PAGES).step_by(256);
+    let lasts = (0x20FF..PAGES).step_by(256);
+    (0..0x2000)
+        .chain(firsts)
+        .chain(lasts)
+        .filter(|number| memory.has_page(*number))
+        .count()
+}
+
+/// There is a page for each 256 addresses of which one was asked for, and no other.
+#[test]
+fn has_pages_of_what_is_reserved(rt: HostRuntime) -> Result<(), Fail> {
+    // An address, a number of bytes, and how many pages there are behind their reservation.
+    let rows = [
+        (0x4000_0000, 0, 0),
+        (0x20FF, 1, 1),
+        (0x2000, 256, 1),
+        (0x20FF, 2, 2),
+        (0x2300, 0x1_0000, 258),
+        (0x0010_0080, 0x200, 261),
+        (0xFFFF_FFFF, 2, 263),
+        (0xE000_0004, 4, 264),
+        (0x2100, 0x1_0200, 265),
+    ];
+    let mut memory = memory(rt.alloc());
+    for (a, n, wanted) in rows {
+        memory.reserve(a, n)?;
+        assert_eq!(rt; page_count(&memory), wanted, "{n} bytes from {a}");
+    }
+    memory.load(0x7FFF_FFFE, &[1, 2, 3, 4])?;
+    assert_eq!(rt; page_count(&memory), 267);
+    memory.reserve(0x20FC, 16)?;
+    memory.put_words(0x20FC, &[1, 2, 3, 4]);
+    memory.configure(7, BIG_ENDIAN);
+    assert_eq!(rt; page_count(&memory), 267);
     Ok(())
 }
 

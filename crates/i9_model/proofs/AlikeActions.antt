@@ -22,7 +22,7 @@ use Rattle.i9_model.specs.Requests.{with_bit, vector_priority, priority_place, p
 use Rattle.i9_model.specs.Hazards.{or_else, read_hazard, write_hazard, save_hazard, port_hazard, frame_hazard, return_hazard}
 use Rattle.i9_model.specs.Operands.{value, source_words, address}
 use Rattle.i9_model.specs.Calls.{entry_address, stack_address, is_switch, stack_hazard, system_hazard, entered_here, entered_switched, system_entered, call_type, record_address, takes_record, return_type, record_hazard, controls_hazard, ret_hazard, returned_pc, returned_ac, popped, in_supervisor_mode, leaves_supervisor, without_supervisor}
-use Rattle.i9_model.specs.Step.{Action, Returns, filled, Message, AsksNothing, AsksInterrupt, AsksRestart, AsksGroup, loaded, moving, assigning, answering, passing, going, bytes_of_words, stored_of, merged, atomic_address, atomic, message_of, argument_of, message_kind, message_action, following, pushing, calls_action, ret_action, frame_sets, action_by_name, action_by, action_of}
+use Rattle.i9_model.specs.Step.{Action, Returns, filled, Message, AsksNothing, AsksCheck, AsksInterrupt, AsksRestart, AsksGroup, loaded, moving, assigning, answering, passing, going, bytes_of_words, stored_of, merged, atomic_address, atomic, argument_of, asked_message, message_action, following, pushing, calls_action, ret_action, frame_sets, action_by_name, action_by, action_of}
 use Rattle.i9_model.specs.Access.{Changes, CallsSystem, ReturnsBy, moved_access, message_access, access_by_name, access_by, hazard_in, hazard_of}
 use Rattle.i9_model.specs.Alike.{is_hard, is_compared, AgreeWhere, with_other, with_memory}
 use Rattle.i9_model.proofs.CallLaws.{first_none, second_none}
@@ -193,6 +193,7 @@ request_same f m bytes table v same none =
 
 message_same : (m : Message) (i : Inst) (s : State) (bytes : ℕ → ℕ) → AgreeWhere (is_hard s.frames) s.memory bytes → hazard_in s (message_access m i s) ≡ None → message_action m i (with_memory s bytes) ≡ message_action m i s
 message_same AsksNothing i s bytes same none = refl
+message_same AsksCheck i s bytes same none = refl
 message_same AsksInterrupt i s bytes same none = ap (λ (ps : List (ℕ × ℕ)). record (message_action AsksInterrupt i s) { writes = ps }) (request_same s.frames s.memory bytes s.tables.interrupt_table (argument_of i s) same none)
 message_same AsksRestart i s bytes same none = refl
 message_same AsksGroup i s bytes same none = refl
@@ -202,7 +203,7 @@ name_same Atadd i s bytes same none = atomic_same i s bytes (λ old. wrapped (ol
 name_same Atmod i s bytes same none = atomic_same i s bytes (λ old. merged old (value s i.b) (value s i.c)) (hard_bytes s.frames s.memory bytes same) none
 name_same Calls i s bytes same none = calls_same i s bytes (hard_bytes s.frames s.memory bytes same) none
 name_same Ret i s bytes same none = ret_same s bytes same none
-name_same Sysctl i s bytes same none = message_same (message_kind (message_of i s)) i s bytes (hard_bytes s.frames s.memory bytes same) none
+name_same Sysctl i s bytes same none = message_same (asked_message i s) i s bytes (hard_bytes s.frames s.memory bytes same) none
 name_same _ i s bytes same none = refl
 
 pub action_same : (i : Inst) (s : State) (bytes : ℕ → ℕ) → AgreeWhere (is_compared s.frames) s.memory bytes → hazard_of i s ≡ None → action_of i (with_memory s bytes) ≡ action_of i s

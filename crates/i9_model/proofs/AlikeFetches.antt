@@ -29,7 +29,7 @@ use Rattle.i9_model.specs.Operands.{value}
 use Rattle.i9_model.specs.Tables.{tables_hazard}
 use Rattle.i9_model.specs.Calls.{system_hazard, system_entered, planned_system, planned_calls, calls_answer, call_type, planned_ret, popped, ret_hazard, return_type, controls_hazard, returned_pc, returned_ac}
 use Rattle.i9_model.specs.Faults.{raised, ◌>>=◌, or_stop, table_entry, checked_word, planned_handler, planned_frame, planned_fault}
-use Rattle.i9_model.specs.Step.{Message, AsksNothing, AsksInterrupt, AsksRestart, AsksGroup, first_word, next_word, message_of, message_kind}
+use Rattle.i9_model.specs.Step.{Message, AsksNothing, AsksCheck, AsksInterrupt, AsksRestart, AsksGroup, first_word, next_word, asked_message}
 use Rattle.i9_model.specs.Access.{Access, NoAccess, Reads, Writes, Changes, SavesAt, CallsSystem, ReturnsBy, Requests, ReadsTables, ReadsGroup, message_access, access_by_name, access_by, access_of, data_of, hazard_in, hazard_of, second_hazard, fetch_hazard}
 use Rattle.i9_model.specs.Standing.{raised_in, later_fault, by_access, by_later, by_raised, by_word, by_fetch, stands_at}
 use Rattle.i9_model.specs.Run.{entry_in}
@@ -76,12 +76,13 @@ access_hazard_same (ReadsGroup group) s bytes same = refl
 
 message_access_same : (m : Message) (i : Inst) (s : State) (bytes : ℕ → ℕ) → message_access m i (with_memory s bytes) ≡ message_access m i s
 message_access_same AsksNothing i s bytes = refl
+message_access_same AsksCheck i s bytes = refl
 message_access_same AsksInterrupt i s bytes = refl
 message_access_same AsksRestart i s bytes = refl
 message_access_same AsksGroup i s bytes = refl
 
 name_access_same : (op : Op) (i : Inst) (s : State) (bytes : ℕ → ℕ) → access_by_name op i (with_memory s bytes) ≡ access_by_name op i s
-name_access_same Sysctl i s bytes = message_access_same (message_kind (message_of i s)) i s bytes
+name_access_same Sysctl i s bytes = message_access_same (asked_message i s) i s bytes
 name_access_same _ i s bytes = refl
 
 pub access_same : (i : Inst) (s : State) (bytes : ℕ → ℕ) → access_of i (with_memory s bytes) ≡ access_of i s

@@ -33,16 +33,16 @@ use Rattle.i9_model.specs.Boot.{table_word, setup_of, configured}
 use Rattle.i9_model.specs.Tables.{tables_hazard, group_address, group_hazard, group_words}
 use Rattle.i9_model.specs.Calls.{record_address}
 use Rattle.i9_model.specs.Controls.{Control, KeepsControls, Restarts, LoadsGroup, with_group, controlled}
-use Rattle.i9_model.specs.Step.{Action, Flushes, Message, AsksNothing, AsksInterrupt, AsksRestart, AsksGroup, passing, moving, entering, message_of, argument_of, message_kind, message_action, action_by_name, action_by, action_of, moved, flagged, acted, counted}
+use Rattle.i9_model.specs.Step.{Action, Flushes, Message, AsksNothing, AsksCheck, AsksInterrupt, AsksRestart, AsksGroup, passing, moving, entering, argument_of, asked_message, message_action, action_by_name, action_by, action_of, moved, flagged, acted, counted}
 use Rattle.i9_model.specs.declared.trace.Seen.{Seen}
 use Rattle.i9_model.specs.declared.trace.Trace.{Trace}
 use Rattle.i9_model.specs.Tracing.{trace_of}
 use Rattle.i9_model.specs.Traced.{switches, seen_of, trace_left, traced, traced_action}
 use Rattle.i9_model.specs.Access.{Access, data_of, message_access, access_by_name, access_by, hazard_in, hazard_of}
 use Rattle.i9_model.specs.Standing.{Standing, Meets, Refused, Faults, Runs, stands_at}
-use Rattle.i9_model.specs.Run.{End, Limit, Kind, Instruction, Faulted, Entered, Interrupted, Reached, Blocked, Record, reached_kind, action_by_kind, action_done, counts_of, Point, point_of, after_kind, record_of, exit_in, due_in, due_by, action_due, Due, Next, Does, Ends, next_by_standing, next_by_event, next_by_interrupt, next_by_choice, next_by_entry, entry_in, fault_at, next_in, reached_by}
+use Rattle.i9_model.specs.Run.{End, Limit, Kind, Instruction, Faulted, Entered, Interrupted, Reached, Record, action_by_kind, action_done, counts_of, Point, point_of, after_kind, record_of, exit_in, due_in, due_by, action_due, Due, Next, Does, Ends, next_by_standing, next_by_event, next_by_interrupt, next_by_choice, next_by_entry, entry_in, fault_at, next_in, reached_by, next_by_received, finish, Finish}
 use Rattle.i9_model.specs.Overlay.{overlay}
-use Rattle.i9_model.specs.PrintedText.{Shown, Drained, Journal, Bytes, view_of, out_lines, point_lines, overlays, bytes_lines, event_lines, record_lines}
+use Rattle.i9_model.specs.PrintedText.{Shown, Drained, Journal, Bytes, view_of, out_lines, point_lines, overlays, bytes_lines, event_lines, record_lines, end_lines}
 use Rattle.i9_model.specs.declared.view.View.{View}
 use Rattle.i9_model.specs.Alike.{is_hard, is_compared, AgreeWhere, with_other, with_memory, AreAlike, told, AreRecordsAlike, AreNextAlike}
 use Rattle.i9_model.proofs.CallLaws.{first_none, second_none}
@@ -181,12 +181,13 @@ group_readable i s group none = ap (λ (f : Frames). group_hazard f s.tables.con
 
 message_readable : (m : Message) (i : Inst) (s : State) → hazard_in s (message_access m i s) ≡ None → IsReadable (moved s (message_action m i s)) (message_action m i s).control
 message_readable AsksNothing i s none = tt
+message_readable AsksCheck i s none = tt
 message_readable AsksInterrupt i s none = tt
 message_readable AsksRestart i s none = restart_readable i s (value s i.b) (value s i.c) none
 message_readable AsksGroup i s none = group_readable i s (argument_of i s) none
 
 name_readable : (op : Op) (i : Inst) (s : State) → hazard_in s (access_by_name op i s) ≡ None → IsReadable (moved s (action_by_name op i s)) (action_by_name op i s).control
-name_readable Sysctl i s none = message_readable (message_kind (message_of i s)) i s none
+name_readable Sysctl i s none = message_readable (asked_message i s) i s none
 name_readable _ i s none = tt
 
 moving_readable : (d : Direction) (size : Size) (signed : Bool) (i : Inst) (s : State) → IsReadable (moved s (moving d size signed i s)) (moving d size signed i s).control
@@ -222,7 +223,6 @@ due_same (Faulted inst fault) s bytes e = refl
 due_same (Entered x) s bytes e = refl
 due_same (Interrupted c x) s bytes e = refl
 due_same (Reached x u) s bytes e = refl
-due_same (Blocked x a) s bytes e = refl
 
 counted_alike : (n : ℕ) (s t : State) → AreAlike s t → AreAlike (counted n s) (counted n t)
 counted_alike n s t alike = record { rest = ap (counted n) alike.rest; bytes = alike.bytes }
@@ -287,13 +287,13 @@ entry_alike s bytes (Ok e) same = record_alike (Entered e) s bytes refl (enterin
 entry_alike s bytes (Err (stops.Hazard a)) same = refl
 entry_alike s bytes (Err (stops.Dead code a)) same = refl
 
-reached_alike_by : (e : Event) (s : State) (bytes : ℕ → ℕ) (p : Result Received ℕ) → AgreeWhere (is_compared s.frames) s.memory bytes → AreRecordsAlike (record_of (reached_kind e p) s) (record_of (reached_kind e p) (with_memory s bytes))
+reached_alike_by : (e : Event) (s : State) (bytes : ℕ → ℕ) (p : Result Received ℕ) → AgreeWhere (is_compared s.frames) s.memory bytes → AreNextAlike (next_by_received s e p) (next_by_received (with_memory s bytes) e p)
 reached_alike_by e s bytes (Ok u) same = record_alike (Reached e u) s bytes refl refl tt tt same
-reached_alike_by e s bytes (Err a) same = record_alike (Blocked e a) s bytes refl refl tt tt same
+reached_alike_by e s bytes (Err a) same = refl
 
 event_alike : (stands : Option Event) (s : State) (bytes : ℕ → ℕ) → AgreeWhere (is_compared s.frames) s.memory bytes → AreNextAlike (next_by_event stands s) (next_by_event stands (with_memory s bytes))
 event_alike (Some e) s bytes same =
-    subst (λ (p : Result Received ℕ). AreNextAlike (Does (record_of (reached_kind e (received_in s e)) s)) (Does (record_of (reached_kind e p) (with_memory s bytes)))) (sym (received_same s bytes e (hard_bytes s.frames s.memory bytes same)))
+    subst (λ (p : Result Received ℕ). AreNextAlike (next_by_received s e (received_in s e)) (next_by_received (with_memory s bytes) e p)) (sym (received_same s bytes e (hard_bytes s.frames s.memory bytes same)))
     (reached_alike_by e s bytes (received_in s e) same)
 event_alike None s bytes same =
     subst (λ (x : Standing). AreNextAlike (next_by_standing s (stands_at s)) (next_by_standing (with_memory s bytes) x)) (sym (stands_same s bytes same)) (standing_alike s bytes (stands_at s) (known s) same)
@@ -311,7 +311,7 @@ choice_alike stands s bytes (Ok None) same = event_alike stands s bytes same
 choice_alike stands s bytes (Err a) same = refl
 
 by_length : (b : Bool) (stands : Option Event) (s : State) (bytes : ℕ → ℕ) → AgreeWhere (is_compared s.frames) s.memory bytes
-    → AreNextAlike (cond b (Ends Limit) (next_by_choice stands s (choice_in s))) (cond b (Ends Limit) (next_by_choice stands (with_memory s bytes) (choice_in (with_memory s bytes))))
+    → AreNextAlike (cond b (Ends (finish Limit)) (next_by_choice stands s (choice_in s))) (cond b (Ends (finish Limit)) (next_by_choice stands (with_memory s bytes) (choice_in (with_memory s bytes))))
 by_length true stands s bytes same = refl
 by_length false stands s bytes same =
     subst (λ (o : Result (Option Chosen) ℕ). AreNextAlike (next_by_choice stands s (choice_in s)) (next_by_choice stands (with_memory s bytes) o)) (sym (choice_same s bytes (hard_bytes s.frames s.memory bytes same)))
@@ -367,8 +367,8 @@ does_alike (Does r) (Ends g) q alike e = absurd alike
 does_alike (Ends f) (Does x) q alike e = absurd alike
 does_alike (Ends f) (Ends g) q alike e = absurd cc
 
-pub ends_alike : (o p : Next) (g : End) → AreNextAlike o p → p ≡ Ends g → o ≡ Ends g
-ends_alike (Ends f) (Ends h) g alike e = let same : h ≡ g = cc in ap (λ (x : End). Ends x) (sym alike ∙ same)
+pub ends_alike : (o p : Next) (g : Finish) → AreNextAlike o p → p ≡ Ends g → o ≡ Ends g
+ends_alike (Ends f) (Ends h) g alike e = let same : h ≡ g = cc in ap (λ (x : Finish). Ends x) (sym alike ∙ same)
 ends_alike (Does r) (Ends h) g alike e = absurd alike
 ends_alike (Ends f) (Does x) g alike e = absurd alike
 ends_alike (Does r) (Does x) g alike e = absurd cc
@@ -380,8 +380,8 @@ does_beside (Does x) (Ends g) r alike e = absurd alike
 does_beside (Ends f) (Does q) r alike e = absurd alike
 does_beside (Ends f) (Ends g) r alike e = absurd cc
 
-pub ends_beside : (o p : Next) (g : End) → AreNextAlike o p → o ≡ Ends g → p ≡ Ends g
-ends_beside (Ends f) (Ends h) g alike e = let same : f ≡ g = cc in ap (λ (x : End). Ends x) (alike ∙ same)
+pub ends_beside : (o p : Next) (g : Finish) → AreNextAlike o p → o ≡ Ends g → p ≡ Ends g
+ends_beside (Ends f) (Ends h) g alike e = let same : f ≡ g = cc in ap (λ (x : Finish). Ends x) (alike ∙ same)
 ends_beside (Does r) (Ends h) g alike e = absurd alike
 ends_beside (Ends f) (Does x) g alike e = absurd alike
 ends_beside (Does r) (Does x) g alike e = absurd cc
@@ -427,7 +427,6 @@ events_alike (Faulted inst fault) s t alike = refl
 events_alike (Entered e) s t alike = refl
 events_alike (Interrupted c e) s t alike = refl
 events_alike (Reached e u) s t alike = journal_alike e s t alike
-events_alike (Blocked e a) s t alike = journal_alike e s t alike
 
 -- which event was reached
 reached_same : (k : Kind) (s t : State) → AreAlike s t → reached_by k t ≡ reached_by k s
@@ -436,7 +435,6 @@ reached_same (Faulted inst fault) s t alike = refl
 reached_same (Entered e) s t alike = refl
 reached_same (Interrupted c e) s t alike = refl
 reached_same (Reached e u) s t alike = ap (λ (v : State). timed_at v.count e ∷ []) alike.rest
-reached_same (Blocked e a) s t alike = ap (λ (u : State). timed_at u.count e ∷ []) alike.rest
 
 pub reached_alike : (r q : Record) → AreRecordsAlike r q → reached_by q.kind q.before ≡ reached_by r.kind r.before
 reached_alike r q same = ap (λ (k : Kind). reached_by k q.before) same.kind ∙ reached_same r.kind r.before q.before same.before
@@ -450,3 +448,6 @@ lines_alike r q same =
     ∙ ap (λ (a : Action). event_lines r.kind r.before ++ (out_lines (console_byte a.writes) ++ points)) (done_alike r q same)
     ∙ ap (λ (ls : List Shown). event_lines r.kind r.before ++ (out_lines (console_byte (action_done r).writes) ++ ls))
     (ap (λ (k : Kind). point_lines (point_of k) q.after) same.kind ∙ lines_by (point_of r.kind) r.after q.after (view_alike r.after q.after same.after))
+
+pub end_alike : (s t : State) (f : Finish) → AreAlike s t → end_lines t f ≡ end_lines s f
+end_alike s t f alike = ap (λ (u : State). end_lines u f) alike.rest

@@ -11,20 +11,18 @@ use Rattle.i9_model.specs.State.{State}
 use Rattle.i9_model.specs.Access.{hazard_of}
 use Rattle.i9_model.specs.Before.{Received, choice_in, interrupt_in, received_in}
 use Rattle.i9_model.specs.Standing.{Standing, Meets, Refused, Faults, Runs, stands_at}
-use Rattle.i9_model.specs.Run.{Limit, Kind, Instruction, Faulted, Entered, Interrupted, Reached, Blocked, Record, record_of, reached_kind, Due, Does, Ends, fault_at, next_by_standing, next_by_entry, entry_in, next_by_event, next_by_interrupt, next_by_choice, next_in}
+use Rattle.i9_model.specs.Run.{Limit, Kind, Instruction, Faulted, Entered, Interrupted, Reached, Record, record_of, Due, Does, Ends, fault_at, next_by_standing, next_by_entry, entry_in, next_by_event, next_by_interrupt, next_by_choice, next_in, next_by_received, finish}
 use Rattle.i9_model.proofs.Stands.{Known, known}
 use Rattle.i9_model.specs.declared.run.Due.TheVariants as dues
 
 -- An instruction comes where nothing is due and the length is not reached, and its access meets no hazard; the entry
--- of a fault where it is due; that of an interrupt where it is chosen, and an event where it stands, by what it does or
--- by the hazard that it meets.
+-- of a fault where it is due; that of an interrupt where it is chosen, and an event where it stands, by what it does.
 abbrev pub MayCome : ℕ → Due → Option Event → State → Kind → Type 0
 MayCome limit due stands s (Instruction i) = (due ≡ dues.Nothing) × (s.count ≢ limit) × (hazard_of i s ≡ None)
 MayCome limit due stands s (Faulted inst fault) = (due ≡ dues.Nothing) × (s.count ≢ limit)
 MayCome limit due stands s (Entered e) = (fault : Fault) × (due ≡ dues.Entry fault) × (entry_in s fault ≡ Ok e)
 MayCome limit due stands s (Interrupted c e) = (due ≡ dues.Nothing) × (s.count ≢ limit) × (choice_in s ≡ Ok (Some c)) × (interrupt_in s c ≡ Ok e)
 MayCome limit due stands s (Reached e u) = (due ≡ dues.Nothing) × (s.count ≢ limit) × (stands ≡ Some e) × (received_in s e ≡ Ok u)
-MayCome limit due stands s (Blocked e a) = (due ≡ dues.Nothing) × (s.count ≢ limit) × (stands ≡ Some e) × (received_in s e ≡ Err a)
 
 abbrev pub Comes : ℕ → Due → Option Event → State → Record → Type 0
 Comes limit due stands s r = (r ≡ record_of r.kind s) × MayCome limit due stands s r.kind
@@ -41,9 +39,9 @@ standing_comes limit o s (Refused number) r other k e = comes_by limit dues.Noth
 standing_comes limit o s (Faults i number) r other k e = comes_by limit dues.Nothing o s (Faulted (Some i) (fault_at s number)) r (refl, other) e
 standing_comes limit o s (Runs i) r other k e = comes_by limit dues.Nothing o s (Instruction i) r (refl, other, k.1) e
 
-reached_comes : (limit : ℕ) (s : State) (x : Event) (p : Result Received ℕ) (r : Record) → s.count ≢ limit → received_in s x ≡ p → Does (record_of (reached_kind x p) s) ≡ Does r → Comes limit dues.Nothing (Some x) s r
+reached_comes : (limit : ℕ) (s : State) (x : Event) (p : Result Received ℕ) (r : Record) → s.count ≢ limit → received_in s x ≡ p → next_by_received s x p ≡ Does r → Comes limit dues.Nothing (Some x) s r
 reached_comes limit s x (Ok u) r other is e = comes_by limit dues.Nothing (Some x) s (Reached x u) r (refl, other, refl, is) e
-reached_comes limit s x (Err a) r other is e = comes_by limit dues.Nothing (Some x) s (Blocked x a) r (refl, other, refl, is) e
+reached_comes limit s x (Err a) r other is e = absurd cc
 
 event_comes : (limit : ℕ) (o : Option Event) (s : State) (r : Record) → s.count ≢ limit → next_by_event o s ≡ Does r → Comes limit dues.Nothing o s r
 event_comes limit (Some x) s r other e = reached_comes limit s x (received_in s x) r other refl e
@@ -58,7 +56,7 @@ choice_comes limit o s (Ok (Some c)) r other is e = interrupt_comes limit o s c 
 choice_comes limit o s (Ok None) r other is e = event_comes limit o s r other e
 choice_comes limit o s (Err a) r other is e = absurd cc
 
-length_comes : (limit : ℕ) (b : Bool) (o : Option Event) (s : State) (r : Record) → eqb s.count limit ≡ b → cond b (Ends Limit) (next_by_choice o s (choice_in s)) ≡ Does r → Comes limit dues.Nothing o s r
+length_comes : (limit : ℕ) (b : Bool) (o : Option Event) (s : State) (r : Record) → eqb s.count limit ≡ b → cond b (Ends (finish Limit)) (next_by_choice o s (choice_in s)) ≡ Does r → Comes limit dues.Nothing o s r
 length_comes limit true o s r t e = absurd cc
 length_comes limit false o s r t e =
     let other : s.count ≢ limit = λ h. grind (arith, nat_tests, t, h) in

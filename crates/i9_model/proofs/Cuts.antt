@@ -5,7 +5,7 @@ use Rattle.i9_model.specs.State.{State, boot}
 use Rattle.i9_model.specs.declared.event.Event.{Event}
 use Rattle.i9_model.specs.ScheduleText.{standing}
 use Rattle.i9_model.specs.Before.{choice_in}
-use Rattle.i9_model.specs.Run.{Given, End, Limit, Record, Due, Next, Does, Ends, next_by_choice, next_in, due_after, reached_after, event_after, state_after, next, IsPast, IsRun}
+use Rattle.i9_model.specs.Run.{Given, Limit, Record, Due, Next, Does, Ends, next_by_choice, next_in, due_after, reached_after, event_after, state_after, next, IsPast, IsRun, finish, Finish}
 use Rattle.i9_model.proofs.Ends.{count_within}
 use Rattle.i9_model.specs.declared.run.Due.TheVariants as dues
 
@@ -30,12 +30,12 @@ next_by_state g rs s e = ap (next_from g rs) e
 below_more : (s : State) (limit more : ℕ) → s.count ≤ limit → limit ≤ more → eqb s.count limit ≡ false → eqb s.count more ≡ false
 below_more s limit more within longer e = grind (arith, nat_tests, e)
 
-by_length : (b c : Bool) (x o : Next) → (b ≡ false → c ≡ false) → o ≢ Ends Limit → cond b (Ends Limit) x ≡ o → cond c (Ends Limit) x ≡ o
+by_length : (b c : Bool) (x o : Next) → (b ≡ false → c ≡ false) → o ≢ Ends (finish Limit) → cond b (Ends (finish Limit)) x ≡ o → cond c (Ends (finish Limit)) x ≡ o
 by_length true c x o same other e = absurd (other (sym e))
-by_length false c x o same other e = ap (λ (d : Bool). cond d (Ends Limit) x) (same refl) ∙ e
+by_length false c x o same other e = ap (λ (d : Bool). cond d (Ends (finish Limit)) x) (same refl) ∙ e
 
 -- what comes next but for the end of the length
-pub next_longer : (limit more : ℕ) (due : Due) (stands : Option Event) (s : State) (o : Next) → s.count ≤ limit → limit ≤ more → o ≢ Ends Limit → next_in limit due stands s ≡ o → next_in more due stands s ≡ o
+pub next_longer : (limit more : ℕ) (due : Due) (stands : Option Event) (s : State) (o : Next) → s.count ≤ limit → limit ≤ more → o ≢ Ends (finish Limit) → next_in limit due stands s ≡ o → next_in more due stands s ≡ o
 next_longer limit more (dues.End f) stands s o within longer other e = e
 next_longer limit more (dues.Entry fault) stands s o within longer other e = e
 next_longer limit more dues.Nothing stands s o within longer other e =
@@ -44,7 +44,7 @@ next_longer limit more dues.Nothing stands s o within longer other e =
 abbrev at_length : Given → ℕ → Given
 at_length g more = record g { length = more }
 
-next_more : (g : Given) (more : ℕ) (rs : List Record) (o : Next) → g.length ≤ more → IsPast g rs → o ≢ Ends Limit → next g rs ≡ o → next (at_length g more) rs ≡ o
+next_more : (g : Given) (more : ℕ) (rs : List Record) (o : Next) → g.length ≤ more → IsPast g rs → o ≢ Ends (finish Limit) → next g rs ≡ o → next (at_length g more) rs ≡ o
 next_more g more rs o longer past other e =
     next_by_state (at_length g more) rs (state_after g rs) (state_by g (at_length g more) rs refl)
     ∙ next_longer g.length more (due_after rs) (event_after g rs) (state_after g rs) o (count_within g rs past) longer other e
@@ -52,8 +52,11 @@ next_more g more rs o longer past other e =
 pub past_more : (g : Given) (more : ℕ) (rs : List Record) → g.length ≤ more → IsPast g rs → IsPast (at_length g more) rs
 past_more g more rs longer past = past_by g (at_length g more) (λ qs r before e. next_more g more qs (Does r) longer before (λ no. cc no) e) rs past
 
-pub run_more : (g : Given) (more : ℕ) (rs : List Record) (end : End) → g.length ≤ more → end ≢ Limit → IsRun g rs end → IsRun (at_length g more) rs end
-run_more g more rs end longer other run = record {
+at_limit : (f : Finish) → Ends f ≡ Ends (finish Limit) → f.end ≡ Limit
+at_limit f e = let same : f ≡ finish Limit = cc in ap (λ (x : Finish). x.end) same
+
+pub run_more : (g : Given) (more : ℕ) (rs : List Record) (f : Finish) → g.length ≤ more → f.end ≢ Limit → IsRun g rs f → IsRun (at_length g more) rs f
+run_more g more rs f longer other run = record {
   past = past_more g more rs longer run.past;
-  ends = next_more g more rs (Ends end) longer run.past (λ no. other (let same : end ≡ Limit = cc in same)) run.ends;
+  ends = next_more g more rs (Ends f) longer run.past (λ no. other (at_limit f no)) run.ends;
 }

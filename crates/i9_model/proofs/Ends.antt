@@ -6,7 +6,7 @@ use Rattle.i9_model.specs.declared.run.Due.{Due}
 use Rattle.i9_model.specs.ScheduleText.{timed_at}
 use Rattle.i9_model.specs.State.{State, started, boot}
 use Rattle.i9_model.specs.Left.{left_in}
-use Rattle.i9_model.specs.Run.{Given, End, Record, Next, Does, Ends, next_in, reached_by, reached_after, state_after, due_after, event_after, next_with, next, IsPast, IsPastOf, IsPastOfSome, IsRun}
+use Rattle.i9_model.specs.Run.{Given, Record, Next, Does, Ends, next_in, reached_by, reached_after, state_after, due_after, event_after, next_with, next, IsPast, IsPastOf, IsPastOfSome, IsRun, Finish}
 use Rattle.i9_model.proofs.Heedful.{past_of_some}
 use Rattle.i9_model.proofs.Left.{IsAtPlace, standing_at_place, next_leaves}
 
@@ -67,7 +67,7 @@ module _ (g : Given) (comes : List Record → Next) (by_plan : IsByPlan g comes)
 
   -- the records of which these are the first, behind which an end comes
   abbrev pub GoesOn : List Record → Type 0
-  GoesOn rs = (later : List Record) × (end : End) × IsPastOf comes (later ++ rs) × (comes (later ++ rs) ≡ Ends end)
+  GoesOn rs = (later : List Record) × (f : Finish) × IsPastOf comes (later ++ rs) × (comes (later ++ rs) ≡ Ends f)
 
   mutual
     go_on : (n : ℕ) (rs : List Record) (x : Next) → IsPastOf comes rs → left_after g rs ≤ n → comes rs ≡ x → GoesOn rs
@@ -89,7 +89,7 @@ module _ (g : Given) (comes : List Record → Next) (by_plan : IsByPlan g comes)
 by_counts : (g : Given) → IsByPlan g (next g)
 by_counts g rs r e = (event_after g rs, standing_at_place g.plan (length (reached_after rs)) (state_after g rs).count, e)
 
-pub run_goes_on : (g : Given) (rs : List Record) → IsPast g rs → (later : List Record) × (end : End) × IsRun g (later ++ rs) end
+pub run_goes_on : (g : Given) (rs : List Record) → IsPast g rs → (later : List Record) × (f : Finish) × IsRun g (later ++ rs) f
 run_goes_on g rs past =
     let on = goes_on g (next g) (by_counts g) rs past in
     (on.0, on.1, record { past = on.2; ends = on.3 })

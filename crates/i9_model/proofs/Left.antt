@@ -37,11 +37,11 @@ use Rattle.i9_model.specs.ScheduleText.{event_where, has_come_at, has_come_by, s
 use Rattle.i9_model.specs.Memory.{word_in}
 use Rattle.i9_model.specs.Branches.{asks, question_of}
 use Rattle.i9_model.specs.Operands.{with_pending, with_mask, interrupts_assigned, address}
-use Rattle.i9_model.specs.Step.{Action, going, Message, AsksNothing, AsksInterrupt, AsksRestart, AsksGroup, message_of, message_kind, message_action, following, loaded, atomic_address, branching, resulting, answer_in, values_of, destination, moving, action_by_name, action_by, action_of, entering, moved, acted}
+use Rattle.i9_model.specs.Step.{Action, Message, AsksNothing, AsksCheck, AsksInterrupt, AsksRestart, AsksGroup, asked_message, message_action, following, loaded, atomic_address, branching, resulting, answer_in, values_of, destination, moving, action_by_name, action_by, action_of, entering, moved, acted}
 use Rattle.i9_model.specs.Dma.{Unit, next_unit}
 use Rattle.i9_model.specs.Before.{Received, choice_in, interrupting, moving_unit, received_by, received_in, receiving}
 use Rattle.i9_model.specs.Left.{flag, asked, event_work, plan_work, pending, left_in}
-use Rattle.i9_model.specs.Run.{Kind, Instruction, Faulted, Entered, Interrupted, Reached, Blocked, Record, record_of, counts_of, after_kind, action_by_kind, due_by, reached_by, Does, next_in}
+use Rattle.i9_model.specs.Run.{Kind, Instruction, Faulted, Entered, Interrupted, Reached, Record, record_of, counts_of, after_kind, action_by_kind, due_by, reached_by, Does, next_in}
 use Rattle.i9_model.proofs.CallLaws.{unless_ok}
 use Rattle.i9_model.specs.Traced.{traced_action}
 use Rattle.i9_model.proofs.ControlLaws.{by_group, flagged-others, acted-count}
@@ -239,6 +239,7 @@ quiet_posts a s is = assigning_posts (Reg 0) [] a s is
 
 message_posts : (m : Message) (i : Inst) (s : State) → PostsFew (message_action m i s) s
 message_posts AsksNothing i s = quiet_posts (message_action AsksNothing i s) s refl
+message_posts AsksCheck i s = quiet_posts (message_action AsksCheck i s) s refl
 message_posts AsksInterrupt i s = quiet_posts (message_action AsksInterrupt i s) s refl
 message_posts AsksRestart i s = quiet_posts (message_action AsksRestart i s) s refl
 message_posts AsksGroup i s = quiet_posts (message_action AsksGroup i s) s refl
@@ -248,7 +249,7 @@ other_posts true i s = quiet_posts (branching i s) s refl
 other_posts false i s = assigning_posts (destination i) (values_of (answer_in i s)) (resulting i s (answer_in i s)) s refl
 
 name_posts : (op : Op) (i : Inst) (s : State) → PostsFew (action_by_name op i s) s
-name_posts Sysctl i s = message_posts (message_kind (message_of i s)) i s
+name_posts Sysctl i s = message_posts (asked_message i s) i s
 name_posts Lda i s = assigning_posts i.c (address s i.ea ∷ []) (action_by_name Lda i s) s refl
 name_posts Atadd i s = assigning_posts i.c (word_in s.memory (atomic_address i s) ∷ []) (action_by_name Atadd i s) s refl
 name_posts Atmod i s = assigning_posts i.c (word_in s.memory (atomic_address i s) ∷ []) (action_by_name Atmod i s) s refl
@@ -398,15 +399,6 @@ reached_leaves limit plan place due o e u s there stands does =
     let work = event_less plan place o e there stands in
     record { within = λ h. omega (arith, count); less = λ h. omega (arith, count, acts, posts, work) }
 
-blocked_leaves : (limit : ℕ) (plan : List Timed) (place : ℕ) (due : Due) (o : Option Event) (e : Event) (a : ℕ) (s : State) → IsAtPlace plan place o → o ≡ Some e → Leaves limit plan place due s (record_of (Blocked e a) s)
-unfolding left_in
-blocked_leaves limit plan place due o e a s there stands =
-    let count = counts_after (Blocked e a) s in
-    let acts = acted_asked s (going s s.ip) in
-    let some = some_work e in
-    let work = event_less plan place o e there stands in
-    record { within = λ h. omega (arith, count); less = λ h. omega (arith, count, acts, some, work) }
-
 kind_leaves : (limit : ℕ) (plan : List Timed) (place : ℕ) (due : Due) (o : Option Event) (k : Kind) (s : State) → IsAtPlace plan place o → MayCome limit due o s k → Leaves limit plan place due s (record_of k s)
 kind_leaves limit plan place due o (Instruction i) s there may = instruction_leaves limit plan place due i s may.1
 kind_leaves limit plan place due o (Faulted inst fault) s there may =
@@ -422,7 +414,6 @@ kind_leaves limit plan place due o (Interrupted c e) s there may =
     let less = entry_less s c may.2 in
     quiet_leaves limit plan place due (Interrupted c e) s refl (λ h. omega arith) (omega (arith, acts, less))
 kind_leaves limit plan place due o (Reached e u) s there may = reached_leaves limit plan place due o e u s there may.2 may.3
-kind_leaves limit plan place due o (Blocked e a) s there may = blocked_leaves limit plan place due o e a s there may.2
 
 -- where the event at the place of a plan stands, or none
 pub next_leaves : (limit : ℕ) (plan : List Timed) (place : ℕ) (due : Due) (o : Option Event) (s : State) (r : Record) → IsAtPlace plan place o → next_in limit due o s ≡ Does r → Leaves limit plan place due s r

@@ -2,7 +2,7 @@
 use Rattle.std.proofs.Common.{◌≡◌, ℕ, List, [], ◌∷◌, ◌++◌, sym, ap, ◌∙◌, append_assoc}
 use Rattle.std.proofs.lemmas.List.{append-nil}
 use Rattle.std.proofs.lemmas.Grind.{flat_map-append}
-use Rattle.i9_model.specs.Run.{Given, End, Record, IsPast, IsRun, state_after}
+use Rattle.i9_model.specs.Run.{Given, Record, IsPast, IsRun, state_after, Finish}
 use Rattle.i9_model.specs.PrintedText.{Shown, shown_text, text_of, record_lines, lines_of, end_lines, run_text}
 use Rattle.i9_model.proofs.Ends.{run_goes_on}
 
@@ -18,7 +18,7 @@ text_of-append xs ys = flat_map-append shown_text xs ys
 
 -- the text of the records so far, and the rest of the run's
 pub text_goes_on : (g : Given) (rs : List Record) → IsPast g rs
-    → (later : List Record) × (end : End) × (rest : List ℕ) × IsRun g (later ++ rs) end × (text_of (lines_of rs) ++ rest ≡ run_text g (later ++ rs) end)
+    → (later : List Record) × (f : Finish) × (rest : List ℕ) × IsRun g (later ++ rs) f × (text_of (lines_of rs) ++ rest ≡ run_text g (later ++ rs) f)
 text_goes_on g rs past =
     let on = run_goes_on g rs past in
     let l = lines_of-later on.0 rs in

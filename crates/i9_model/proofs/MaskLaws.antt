@@ -35,7 +35,7 @@ use Rattle.std.specs.Prelude.{slice_index, ◌+ℤ◌, ◌-ℤ◌, ◌*ℤ◌, p
 use Rattle.i9_isa.specs.Words.{bit}
 use Rattle.i9_model.specs.Results.{Answer, word, words, checked, faulting, code, found, results_by, destination_words, long, long_divided}
 use Rattle.i9_model.specs.Branches.{asks, question_of}
-use Rattle.i9_model.specs.Step.{values_of, destination, loaded, frame_sets, moving, action_by_name, action_by, action_of, push_sets, branching, resulting, answer_in, atomic_address, following, return_in, message_kind, message_of, message_action, system_call, Message, AsksNothing, AsksInterrupt, AsksRestart, AsksGroup}
+use Rattle.i9_model.specs.Step.{values_of, destination, loaded, frame_sets, moving, action_by_name, action_by, action_of, push_sets, branching, resulting, answer_in, atomic_address, following, return_in, asked_message, message_action, system_call, Message, AsksNothing, AsksCheck, AsksInterrupt, AsksRestart, AsksGroup}
 
 -- ---- how many words a result has
 
@@ -178,10 +178,11 @@ name_beside Modac i s k e h = c_beside Modac i k (s.ac ∷ []) e refl h
 name_beside Modtc i s k e h = c_beside Modtc i k (s.trace.tc ∷ []) e refl h
 name_beside Modpc i s k e h = c_beside Modpc i k (s.pc ∷ []) e refl h
 name_beside Sdma i s k e h = refl
-name_beside Sysctl i s k e h = by_message (message_kind (message_of i s))
+name_beside Sysctl i s k e h = by_message (asked_message i s)
   where
     by_message : (m : Message) → last_put (message_action m i s).sets k ≡ None
     by_message AsksNothing = refl
+    by_message AsksCheck = refl
     by_message AsksInterrupt = refl
     by_message AsksRestart = refl
     by_message AsksGroup = refl

@@ -10,8 +10,8 @@ use Rattle.i9_model.specs.declared.event.When.{When}
 use Rattle.i9_model.specs.declared.event.When.TheVariants.{At, Turn}
 use Rattle.i9_model.specs.declared.event.Timed.{Timed}
 use Rattle.i9_model.specs.ScheduleText.{timed_at, has_come_at, event_at, standing}
-use Rattle.i9_model.specs.Run.{Record, End, Does, Ends, IsPastOfSome}
-use Rattle.i9_model.specs.PlannedRuns.{Stepping, Tally, IsHeedful, IsCounted, next_by, IsPastBy}
+use Rattle.i9_model.specs.Run.{Record, Finish, Does, Ends, IsPastOfSome, reached_last}
+use Rattle.i9_model.specs.PlannedRuns.{Stepping, Tally, IsHeedful, IsCounted, next_by, reached_with, IsPastBy}
 
 at_seam : (xs ys : List Timed) → slice_get (xs ++ ys) (length xs) ≡ slice_get ys 0
 at_seam [] ys = refl
@@ -39,6 +39,9 @@ same_count n = grind (arith)
 same_record : (r q : Record) → Does r ≡ Does q → r ≡ q
 same_record r q e = cc
 
+same_finish : (f k : Finish) → Ends f ≡ Ends k → f ≡ k
+same_finish f k e = cc
+
 module _ (next : Stepping) (tally : Tally) (heeds : IsHeedful next tally) where
   -- a record reaches nothing, or the event that stands there
   grown : (rs : List Record) (r : Record) (o : Option Event) → next o rs ≡ Does r
@@ -46,9 +49,10 @@ module _ (next : Stepping) (tally : Tally) (heeds : IsHeedful next tally) where
   grown rs r None h = inl (heeds.quiet rs r h, h)
   grown rs r (Some e) h = elim (heeds.heard rs e) [
     | inl same ↦ let n = sym same ∙ h in inl (heeds.quiet rs r n, n)
-    | inr found ↦
+    | inr (inl found) ↦
         let q = same_record found.0 r (sym found.1 ∙ h) in
         inr (e, refl, subst (λ (x : Record). tally.reached (x ∷ rs) ≡ tally.reached rs ++ timed_at (tally.count rs) e ∷ []) q found.2)
+    | inr (inr ends) ↦ absurd (cc (sym ends.1 ∙ h))
   ]
 
   -- the events that were reached are the first of the plan
@@ -101,21 +105,40 @@ module _ (next : Stepping) (tally : Tally) (heeds : IsHeedful next tally) where
       let before : tally.reached rs ++ (g.0 ++ more) ≡ front = sym (append_assoc (tally.reached rs) g.0 more) ∙ ap (λ (x : List Timed). x ++ more) (sym g.1) ∙ now in
       (past_of_front rs plan front rest (g.0 ++ more) whole before h.0, front_next rs r plan front rest (g.0 ++ more) more whole before now h.1)
 
-  end_unheard : (rs : List Record) (f : End) (o : Option Event) → next o rs ≡ Ends f → next None rs ≡ Ends f
-  end_unheard rs f None h = h
-  end_unheard rs f (Some e) h = elim (heeds.heard rs e) [
-    | inl same ↦ sym same ∙ h
-    | inr found ↦ absurd (cc (sym found.1 ∙ h))
+  -- an end reaches nothing, or the event that stands there
+  ended : (rs : List Record) (f : Finish) (o : Option Event) → next o rs ≡ Ends f
+      → ((f.event ≡ None) × (next None rs ≡ Ends f)) ⊎ ((e : Event) × (o ≡ Some e) × (f.event ≡ Some e))
+  ended rs f None h = inl (heeds.silent rs f h, h)
+  ended rs f (Some e) h = elim (heeds.heard rs e) [
+    | inl same ↦ let n = sym same ∙ h in inl (heeds.silent rs f n, n)
+    | inr (inl found) ↦ absurd (cc (sym found.1 ∙ h))
+    | inr (inr ends) ↦
+        let one : ends.0 ≡ f = same_finish ends.0 f (sym ends.1 ∙ h) in
+        inr (e, refl, subst (λ (x : Finish). x.event ≡ Some e) one ends.2)
   ]
 
-  -- a run is also the run of the events that it reached
-  pub run_of_reached : (plan : List Timed) (rs : List Record) (f : End) → IsPastBy next tally plan rs → next_by next tally plan rs ≡ Ends f → IsPastBy next tally (tally.reached rs) rs × (next_by next tally (tally.reached rs) rs ≡ Ends f)
-  run_of_reached plan rs f past ends =
+  -- the events that were reached to an end are the first of the plan
+  pub reached_to_end : (plan : List Timed) (rs : List Record) (f : Finish) → IsPastBy next tally plan rs
+      → next_by next tally plan rs ≡ Ends f → (rest : List Timed) × (reached_with tally rs f ++ rest ≡ plan)
+  reached_to_end plan rs f past ends =
       let front = reached_front plan rs past in
-      let none_left = slice_get_past (tally.reached rs) (length (tally.reached rs)) (omega arith) in (
-        past_of_front rs plan (tally.reached rs) front.0 [] front.1 (append-nil (tally.reached rs)) past,
-        ap (λ (t : Option Timed). next (event_at (tally.count rs) t) rs) none_left ∙ end_unheard rs f (standing plan (length (tally.reached rs)) (tally.count rs)) ends,
-      )
+      let n = length (tally.reached rs) in
+      elim (ended rs f (standing plan n (tally.count rs)) ends) [
+        | inl quiet ↦ (
+          front.0,
+          ap (λ (o : Option Event). (tally.reached rs ++ reached_last (tally.count rs) o) ++ front.0) quiet.0
+              ∙ ap (λ (x : List Timed). x ++ front.0) (append-nil (tally.reached rs)) ∙ front.1,
+        )
+        | inr found ↦
+            let here : slice_get plan n ≡ slice_get front.0 0 =
+            ap (λ (p : List Timed). slice_get p n) (sym front.1) ∙ at_seam (tally.reached rs) front.0 in
+            let l = first_left (tally.count rs) front.0 found.0 (sym (ap (event_at (tally.count rs)) here) ∙ found.1) in (
+              l.0,
+              ap (λ (o : Option Event). (tally.reached rs ++ reached_last (tally.count rs) o) ++ l.0) found.2
+                  ∙ append_assoc (tally.reached rs) (timed_at (tally.count rs) found.0 ∷ []) l.0
+                  ∙ ap (λ (x : List Timed). tally.reached rs ++ x) (sym l.1) ∙ front.1,
+            )
+      ]
 
   -- ---- the plan of the events that were reached
 
@@ -145,8 +168,11 @@ module _ (next : Stepping) (tally : Tally) (heeds : IsHeedful next tally) where
           let at : k ≡ tally.count rs = eqb-true _ _ is in
           ap (λ (c : Bool). next (cond c (Some e) None) rs) is ∙ elim (heeds.heard rs e) [
             | inl quiet ↦ quiet ∙ without
-            | inr found ↦
+            | inr (inl found) ↦
                 let one : tally.count (r ∷ rs) ≡ tally.count rs + 1 = counted.counts rs e found.0 r found.1 found.2 without in
+                absurd (omega (arith, one, at, le))
+            | inr (inr ends) ↦
+                let one : tally.count (r ∷ rs) ≡ tally.count rs + 1 = counted.ends rs e ends.0 r ends.1 ends.2 without in
                 absurd (omega (arith, one, at, le))
           ]
 
@@ -204,6 +230,35 @@ module _ (next : Stepping) (tally : Tally) (heeds : IsHeedful next tally) where
             )
       ]
 
+  -- the records are those of the plan that has the event behind it that was reached with an end
+  pub past_with_end : (rs : List Record) (f : Finish) → IsCounted next tally → IsPastBy next tally (tally.reached rs) rs
+      → IsPastBy next tally (reached_with tally rs f) rs
+  past_with_end rs f counted past = by_event f.event
+    where
+      by_event : (o : Option Event) → IsPastBy next tally (tally.reached rs ++ reached_last (tally.count rs) o) rs
+      by_event None = subst (λ (plan : List Timed). IsPastBy next tally plan rs) (sym (append-nil (tally.reached rs))) past
+      by_event (Some e) =
+          with_more rs (tally.reached rs) [] (tally.count rs) e counted past (append-nil (tally.reached rs)) (omega arith)
+
   -- and so is an end that comes next with any event
-  pub end_of_reached : (rs : List Record) (f : End) (o : Option Event) → next o rs ≡ Ends f → next_by next tally (tally.reached rs) rs ≡ Ends f
-  end_of_reached rs f o h = ap (λ (x : Option Event). next x rs) (none_left rs) ∙ end_unheard rs f o h
+  pub end_of_reached : (rs : List Record) (f : Finish) (o : Option Event) → next o rs ≡ Ends f
+      → next_by next tally (reached_with tally rs f) rs ≡ Ends f
+  end_of_reached rs f o h = elim (ended rs f o h) [
+    | inl quiet ↦
+        subst (λ (x : Option Event). next_by next tally (tally.reached rs ++ reached_last (tally.count rs) x) rs ≡ Ends f) (sym quiet.0)
+        (subst (λ (plan : List Timed). next_by next tally plan rs ≡ Ends f) (sym (append-nil (tally.reached rs)))
+        (ap (λ (x : Option Event). next x rs) (none_left rs) ∙ quiet.1))
+    | inr found ↦
+        subst (λ (x : Option Event). next_by next tally (tally.reached rs ++ reached_last (tally.count rs) x) rs ≡ Ends f) (sym found.2)
+        (ap (λ (x : Option Event). next x rs) (one_left rs found.0 ∙ sym found.1) ∙ h)
+  ]
+
+  -- a run is also the run of the events that it reached
+  pub run_of_reached : (plan : List Timed) (rs : List Record) (f : Finish) → IsPastBy next tally plan rs
+      → next_by next tally plan rs ≡ Ends f
+      → IsPastBy next tally (reached_with tally rs f) rs × (next_by next tally (reached_with tally rs f) rs ≡ Ends f)
+  run_of_reached plan rs f past ends =
+      let front = reached_to_end plan rs f past ends in (
+        past_of_front rs plan (reached_with tally rs f) front.0 (reached_last (tally.count rs) f.event) front.1 refl past,
+        end_of_reached rs f (standing plan (length (tally.reached rs)) (tally.count rs)) ends,
+      )

@@ -6,9 +6,8 @@ use Rattle.i9_model.specs.ScheduleText.{standing}
 use Rattle.i9_model.specs.Memory.{Memory}
 use Rattle.i9_model.specs.State.{State}
 use Rattle.i9_model.specs.Step.{Action}
-use Rattle.i9_model.specs.Run.{Given, End, Record, Due, action_done, state_after, due_after, reached_by, reached_after, event_after, next_in, next, IsPast, IsRun}
-use Rattle.i9_model.specs.declared.view.View.{View}
-use Rattle.i9_model.specs.PrintedText.{Shown, view_of, record_lines, last_lines, lines_of, text_of, run_text}
+use Rattle.i9_model.specs.Run.{Given, Record, Due, action_done, state_after, due_after, reached_by, reached_after, event_after, next_in, next, IsPast, IsRun, Finish}
+use Rattle.i9_model.specs.PrintedText.{Shown, record_lines, lines_of, end_lines, text_of, run_text}
 use Rattle.i9_model.specs.Alike.{AreAlike, AreRecordsAlike, AreNextAlike}
 use Rattle.i9_model.specs.HeldFrames.{Cache, overlaid, cache_acted, cache_configured, cache_after, sets_in}
 use Rattle.i9_model.specs.RunInSets.{in_sets, IsPastInSets, IsRunInSets}
@@ -16,7 +15,7 @@ use Rattle.i9_model.proofs.Ends.{run_goes_on}
 use Rattle.i9_model.proofs.Cuts.{past_by, state_by, next_by_state}
 use Rattle.i9_model.proofs.Unique.{same_records, same_end}
 use Rattle.i9_model.proofs.Overlays.{over_mcon}
-use Rattle.i9_model.proofs.AlikeSteps.{alike_same, done_alike, due_alike, reached_alike, next_alike, does_alike, does_beside, ends_alike, ends_beside, lines_alike, view_alike}
+use Rattle.i9_model.proofs.AlikeSteps.{alike_same, done_alike, due_alike, reached_alike, next_alike, does_alike, does_beside, ends_alike, ends_beside, lines_alike, end_alike}
 use Rattle.i9_model.proofs.HeldRuns.{configured_by, overlaid_memory, cached-after}
 use Rattle.i9_model.proofs.Heedful.{past_of_some}
 
@@ -101,20 +100,20 @@ past_in_sets g (r ∷ rs) past =
     let q = in_sets g qs found.0 in
     (q ∷ qs, (before.1, found.0, found.1, refl), one_beside g rs qs r found.0 past before.2 found.2)
 
-text_beside : (g : Given) (rs qs : List Record) (e : End) → AreBeside g rs qs → run_text g qs e ≡ run_text g rs e
+text_beside : (g : Given) (rs qs : List Record) (e : Finish) → AreBeside g rs qs → run_text g qs e ≡ run_text g rs e
 text_beside g rs qs e beside =
-    ap (λ (ls : List Shown). text_of (ls ++ last_lines (view_of (state_after g qs)) e)) beside.lines
-    ∙ ap (λ (v : View). text_of (lines_of rs ++ last_lines v e)) (view_alike (state_after g rs) (state_after g qs) beside.state)
+    ap (λ (ls : List Shown). text_of (ls ++ end_lines (state_after g qs) e)) beside.lines
+    ∙ ap (λ (ls : List Shown). text_of (lines_of rs ++ ls)) (end_alike (state_after g rs) (state_after g qs) e beside.state)
 
 -- a run has one in sets, with the same text
-pub run_in_sets : (g : Given) (rs : List Record) (e : End) → IsRun g rs e → (qs : List Record) × IsRunInSets g qs e × (run_text g qs e ≡ run_text g rs e)
+pub run_in_sets : (g : Given) (rs : List Record) (e : Finish) → IsRun g rs e → (qs : List Record) × IsRunInSets g qs e × (run_text g qs e ≡ run_text g rs e)
 run_in_sets g rs e run =
     let found = past_in_sets g rs run.past in
     let qs = found.0 in
     (qs, record { past = found.1; ends = ends_beside (next g rs) (next g qs) e (next_beside g rs qs found.2) run.ends }, text_beside g rs qs e found.2)
 
 -- and each run in sets has the end and the text of the run
-pub sets_same : (g : Given) (qs rs : List Record) (e f : End) → IsRunInSets g qs e → IsRun g rs f → (e ≡ f) × (run_text g qs e ≡ run_text g rs f)
+pub sets_same : (g : Given) (qs rs : List Record) (e f : Finish) → IsRunInSets g qs e → IsRun g rs f → (e ≡ f) × (run_text g qs e ≡ run_text g rs f)
 sets_same g qs rs e f sets run =
     let found = past_beside g qs sets.past in
     let xs = found.0 in
@@ -123,7 +122,7 @@ sets_same g qs rs e f sets run =
       end,
       text_beside g xs qs e found.2
           ∙ ap (λ (ys : List Record). run_text g ys e) (same_records g xs rs e f here run)
-          ∙ ap (λ (x : End). run_text g rs x) end,
+          ∙ ap (λ (x : Finish). run_text g rs x) end,
     )
 
 -- ---- other numbers of sets
@@ -132,7 +131,7 @@ abbrev with_sets : Given → Option ℕ → Given
 with_sets g others = record g { sets = others }
 
 -- the run of the one-at-a-time machine is the same
-run_same : (g : Given) (others : Option ℕ) (rs : List Record) (e : End) → IsRun g rs e → IsRun (with_sets g others) rs e
+run_same : (g : Given) (others : Option ℕ) (rs : List Record) (e : Finish) → IsRun g rs e → IsRun (with_sets g others) rs e
 run_same g others rs e run = record {
   past = past_by g (with_sets g others) (λ qs r before is. next_same qs ∙ is) rs run.past;
   ends = next_same rs ∙ run.ends;
@@ -142,10 +141,10 @@ run_same g others rs e run = record {
     next_same qs = next_by_state (with_sets g others) qs (state_after g qs) (state_by g (with_sets g others) qs refl)
 
 -- so two runs in sets, in any numbers of them, have one text
-pub any_sets : (g : Given) (others : Option ℕ) (qs ps : List Record) (e f : End) → IsRunInSets g qs e → IsRunInSets (with_sets g others) ps f → run_text g qs e ≡ run_text (with_sets g others) ps f
+pub any_sets : (g : Given) (others : Option ℕ) (qs ps : List Record) (e f : Finish) → IsRunInSets g qs e → IsRunInSets (with_sets g others) ps f → run_text g qs e ≡ run_text (with_sets g others) ps f
 any_sets g others qs ps e f one two =
     let plain = run_goes_on g [] tt in
     let rs = plain.0 ++ [] in
     (sets_same g qs rs e plain.1 one plain.2).1
-    ∙ sym (ap (λ (s : State). text_of (lines_of rs ++ last_lines (view_of s) plain.1)) (state_by g (with_sets g others) rs refl))
+    ∙ sym (ap (λ (s : State). text_of (lines_of rs ++ end_lines s plain.1)) (state_by g (with_sets g others) rs refl))
     ∙ sym (sets_same (with_sets g others) ps rs f plain.1 two (run_same g others rs plain.1 plain.2)).1

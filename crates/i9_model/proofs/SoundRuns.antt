@@ -19,11 +19,11 @@ use Rattle.i9_model.specs.Memory.{Memory, with_writes, region_of, is_big, half_b
 use Rattle.i9_model.specs.State.{State, Frames, started, boot}
 use Rattle.i9_model.specs.Hazards.{or_else, read_hazard, write_hazard, writes_hazard, port_hazard, save_hazard}
 use Rattle.i9_model.specs.Operands.{value, word_of, source_words, address}
-use Rattle.i9_model.specs.Step.{Move, Stays, Saves, Returns, Flushes, Action, bytes_of_words, stored_of, moving, merged, atomic_address, atomic, Message, AsksNothing, AsksInterrupt, AsksRestart, AsksGroup, message_of, argument_of, message_kind, message_action, entering, action_by_name, action_by, action_of, frames_after, moved, acted}
+use Rattle.i9_model.specs.Step.{Move, Stays, Saves, Returns, Flushes, Action, bytes_of_words, stored_of, moving, merged, atomic_address, atomic, Message, AsksNothing, AsksCheck, AsksInterrupt, AsksRestart, AsksGroup, argument_of, asked_message, message_action, entering, action_by_name, action_by, action_of, frames_after, moved, acted}
 use Rattle.i9_model.specs.Access.{Changes, message_access, moved_access, access_by_name, access_by, hazard_in, hazard_of}
 use Rattle.i9_model.specs.Sound.{IsSound}
 use Rattle.i9_model.specs.Free.{IsFree}
-use Rattle.i9_model.specs.Run.{Given, Instruction, Faulted, Entered, Interrupted, Reached, Blocked, Kind, action_by_kind, Record, Does, Due, entry_in, state_after, due_after, next_in, next_with, IsPastOfSome}
+use Rattle.i9_model.specs.Run.{Given, Instruction, Faulted, Entered, Interrupted, Reached, Kind, action_by_kind, Record, Does, Due, entry_in, state_after, due_after, next_in, next_with, IsPastOfSome}
 use Rattle.i9_model.specs.declared.layout.TheConstants.{FP, SP}
 use Rattle.i9_model.specs.declared.faults.Entry.{Entry}
 use Rattle.i9_model.specs.declared.interrupts.Chosen.{Chosen}
@@ -146,6 +146,7 @@ request_free m f table v none =
 
 message_clear : (m : Message) (i : Inst) (s : State) → hazard_in s (message_access m i s) ≡ None → IsClear s (message_action m i s)
 message_clear AsksNothing i s none = record { save = tt; free = record { whole = tt; free = no_writes s.frames; controls = tt } }
+message_clear AsksCheck i s none = record { save = tt; free = record { whole = tt; free = no_writes s.frames; controls = tt } }
 message_clear AsksInterrupt i s none = record { save = tt; free = record { whole = tt; free = request_free s.memory s.frames s.tables.interrupt_table (argument_of i s) none; controls = tt } }
 message_clear AsksRestart i s none = record { save = tt; free = record { whole = tt; free = no_writes (frames_after s.frames Flushes); controls = (refl, refl) } }
 message_clear AsksGroup i s none = record { save = tt; free = record { whole = tt; free = no_writes (frames_after s.frames Flushes); controls = (refl, refl) } }
@@ -163,7 +164,7 @@ name_clear Callx i s none = record { save = none; free = record { whole = refl; 
 name_clear Calls i s none = record { save = calls_save i s none; free = record { whole = refl; free = no_writes (frames_after s.frames (action_by_name Calls i s).move); controls = tt } }
 name_clear Ret i s none = record { save = tt; free = record { whole = tt; free = no_writes (frames_after s.frames Returns); controls = tt } }
 name_clear Flushreg i s none = record { save = tt; free = record { whole = tt; free = no_writes (frames_after s.frames Flushes); controls = tt } }
-name_clear Sysctl i s none = message_clear (message_kind (message_of i s)) i s none
+name_clear Sysctl i s none = message_clear (asked_message i s) i s none
 name_clear _ i s none = record { save = tt; free = record { whole = tt; free = no_writes s.frames; controls = tt } }
 
 -- an instruction whose access meets no hazard
@@ -237,7 +238,6 @@ kind_clear limit due stands (Entered e) s may =
     entering_clear s e (enters_free s.memory s.frames s.tables.fault_table s.tables.system_table may.0 s.pc s.ac (s.regs FP) (s.regs SP) e may.2)
 kind_clear limit due stands (Interrupted c e) s may = interrupting_clear s c e (interrupts_free s c e may.3)
 kind_clear limit due stands (Reached e u) s may = record { save = tt; free = record { whole = tt; free = received_free s e u may.3; controls = tt } }
-kind_clear limit due stands (Blocked e a) s may = record { save = tt; free = record { whole = tt; free = no_writes s.frames; controls = tt } }
 
 -- ---- frames along a run
 

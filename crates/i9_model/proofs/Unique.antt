@@ -1,11 +1,11 @@
 -- What comes next is one thing, so a run is the only one.
 use Rattle.std.proofs.Common.{◌≡◌, ℕ, ◌<◌, ◌≤◌, ◌⊎◌, inl, inr, List, [], ◌∷◌, length, refl, sym, ap, ◌∙◌, arith}
-use Rattle.i9_model.specs.Run.{Given, End, Record, Next, Does, Ends, next, IsPastOf, IsRun}
+use Rattle.i9_model.specs.Run.{Given, Record, Next, Does, Ends, next, IsPastOf, IsRun, Finish}
 
 does_is : (r q : Record) → Does r ≡ Does q → r ≡ q
 does_is r q e = cc
 
-ends_is : (e f : End) → Ends e ≡ Ends f → e ≡ f
+ends_is : (e f : Finish) → Ends e ≡ Ends f → e ≡ f
 ends_is e f h = cc
 
 module _ (comes : List Record → Next) where
@@ -20,7 +20,7 @@ module _ (comes : List Record → Next) where
       ap (λ z. z ∷ rs) heads ∙ ap (λ zs. y ∷ zs) tails
 
   -- nothing is done behind an end, so no past is longer than a run
-  no_longer : (rs qs : List Record) (e : End) → IsPastOf comes rs → comes rs ≡ Ends e → IsPastOf comes qs → length qs ≤ length rs
+  no_longer : (rs qs : List Record) (e : Finish) → IsPastOf comes rs → comes rs ≡ Ends e → IsPastOf comes qs → length qs ≤ length rs
   no_longer rs [] e run ends past = omega arith
   no_longer rs (q ∷ qs) e run ends past =
       let shorter = no_longer rs qs e run ends past.0 in
@@ -32,20 +32,20 @@ module _ (comes : List Record → Next) where
       split : (m n : ℕ) → m ≤ n → (m < n) ⊎ (m ≡ n)
       split m n h = grind arith
 
-      clash : (r : Record) (f : End) → Does r ≡ Ends f → ⊥
+      clash : (r : Record) (f : Finish) → Does r ≡ Ends f → ⊥
       clash r f h = cc
 
-  pub one_past : (rs qs : List Record) (e f : End) → IsPastOf comes rs → comes rs ≡ Ends e → IsPastOf comes qs → comes qs ≡ Ends f → rs ≡ qs
+  pub one_past : (rs qs : List Record) (e f : Finish) → IsPastOf comes rs → comes rs ≡ Ends e → IsPastOf comes qs → comes qs ≡ Ends f → rs ≡ qs
   one_past rs qs e f p pe q qe =
       let one = no_longer rs qs e p pe q in
       let two = no_longer qs rs f q qe p in
       same_length rs qs (omega arith) p q
 
-  pub one_end : (rs qs : List Record) (e f : End) → IsPastOf comes rs → comes rs ≡ Ends e → IsPastOf comes qs → comes qs ≡ Ends f → e ≡ f
+  pub one_end : (rs qs : List Record) (e f : Finish) → IsPastOf comes rs → comes rs ≡ Ends e → IsPastOf comes qs → comes qs ≡ Ends f → e ≡ f
   one_end rs qs e f p pe q qe = ends_is e f (sym pe ∙ ap comes (one_past rs qs e f p pe q qe) ∙ qe)
 
-pub same_records : (g : Given) (rs qs : List Record) (e f : End) → IsRun g rs e → IsRun g qs f → rs ≡ qs
+pub same_records : (g : Given) (rs qs : List Record) (e f : Finish) → IsRun g rs e → IsRun g qs f → rs ≡ qs
 same_records g rs qs e f a b = one_past (next g) rs qs e f a.past a.ends b.past b.ends
 
-pub same_end : (g : Given) (rs qs : List Record) (e f : End) → IsRun g rs e → IsRun g qs f → e ≡ f
+pub same_end : (g : Given) (rs qs : List Record) (e f : Finish) → IsRun g rs e → IsRun g qs f → e ≡ f
 same_end g rs qs e f a b = one_end (next g) rs qs e f a.past a.ends b.past b.ends

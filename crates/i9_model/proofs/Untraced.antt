@@ -12,12 +12,13 @@ use Rattle.i9_isa.specs.Transfers.{transfer_of}
 use Rattle.i9_model.specs.declared.trace.Trace.{Trace}
 use Rattle.i9_model.specs.State.{State}
 use Rattle.i9_model.specs.Branches.{asks, question_of}
-use Rattle.i9_model.specs.Step.{Message, AsksNothing, AsksInterrupt, AsksRestart, AsksGroup, moving, branching, resulting, answer_in, message_of, message_kind, message_action, action_by_name, action_by, action_of, acted}
+use Rattle.i9_model.specs.Step.{Message, AsksNothing, AsksCheck, AsksInterrupt, AsksRestart, AsksGroup, moving, branching, resulting, answer_in, asked_message, message_action, action_by_name, action_by, action_of, acted}
 use Rattle.i9_model.specs.Traced.{is_traced, seen_of, traced_action}
 use Rattle.i9_model.specs.Tracing.{is_raised, trace_made, trace_of}
 
 message_untraced : (m : Message) (i : Inst) (s : State) → (message_action m i s).trace ≡ None
 message_untraced AsksNothing i s = refl
+message_untraced AsksCheck i s = refl
 message_untraced AsksInterrupt i s = refl
 message_untraced AsksRestart i s = refl
 message_untraced AsksGroup i s = refl
@@ -27,7 +28,7 @@ other_untraced true i s = refl
 other_untraced false i s = refl
 
 name_untraced : (op : Op) (i : Inst) (s : State) → (action_by_name op i s).trace ≡ None
-name_untraced Sysctl i s = message_untraced (message_kind (message_of i s)) i s
+name_untraced Sysctl i s = message_untraced (asked_message i s) i s
 name_untraced op i s = other_untraced (asks (question_of op)) i s
 
 moving_untraced : (d : Direction) (size : Size) (signed : Bool) (i : Inst) (s : State) → (moving d size signed i s).trace ≡ None

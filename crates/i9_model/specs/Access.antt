@@ -18,7 +18,7 @@ use Rattle.i9_model.specs.Requests.{request_hazard}
 use Rattle.i9_model.specs.Calls.{system_hazard, ret_hazard}
 use Rattle.i9_model.specs.Tables.{tables_hazard, group_hazard}
 use Rattle.i9_model.specs.Operands.{value, address}
-use Rattle.i9_model.specs.Step.{Message, AsksNothing, AsksInterrupt, AsksRestart, AsksGroup, first_word, next_word, atomic_address, message_of, argument_of, message_kind}
+use Rattle.i9_model.specs.Step.{Message, AsksNothing, AsksCheck, AsksInterrupt, AsksRestart, AsksGroup, first_word, next_word, atomic_address, argument_of, asked_message}
 
 -- a read or a write of so many bytes, both after one another, a save area, a system procedure, a return, a request of
 -- a vector, or as after a flush the reads of a PRCB with its control table, or of a control group
@@ -36,6 +36,7 @@ pub data Access : Type 0 where
 
 abbrev pub message_access : Message → Inst → State → Access
 message_access AsksNothing i s = NoAccess
+message_access AsksCheck i s = NoAccess
 message_access AsksInterrupt i s = Requests (argument_of i s)
 message_access AsksRestart i s = ReadsTables (value s i.c)
 message_access AsksGroup i s = ReadsGroup (argument_of i s)
@@ -47,7 +48,7 @@ access_by_name Call i s = SavesAt (rounded_down (s.regs FP))
 access_by_name Callx i s = SavesAt (rounded_down (s.regs FP))
 access_by_name Calls i s = CallsSystem (value s i.a)
 access_by_name Ret i s = ReturnsBy (s.regs PFP)
-access_by_name Sysctl i s = message_access (message_kind (message_of i s)) i s
+access_by_name Sysctl i s = message_access (asked_message i s) i s
 access_by_name _ i s = NoAccess
 
 -- a load reads, and a store writes

@@ -6,7 +6,7 @@ use Rattle.i9_model.specs.State.{State, Frames}
 use Rattle.i9_model.specs.Frames.{in_frames}
 use Rattle.i9_model.specs.Step.{first_word, next_word}
 use Rattle.i9_isa.specs.Words.{words_of}
-use Rattle.i9_model.specs.Run.{Kind, Instruction, Faulted, Entered, Interrupted, Reached, Blocked, Record, Next, Does, Ends, faulted_words, action_by_kind}
+use Rattle.i9_model.specs.Run.{Kind, Instruction, Faulted, Entered, Interrupted, Reached, Record, Next, Does, Ends, faulted_words, action_by_kind}
 
 -- no frame can have a byte here
 abbrev pub is_beyond : ℕ → Bool
@@ -47,7 +47,6 @@ told (Faulted inst fault) s = told_words (faulted_words inst) s
 told (Entered e) s = (0, 0)
 told (Interrupted c e) s = (0, 0)
 told (Reached e u) s = (0, 0)
-told (Blocked e a) s = (0, 0)
 
 -- a record of the same kind and the same words, which does the same between states that are alike
 pub record AreRecordsAlike (r q : Record) : Type 0 where

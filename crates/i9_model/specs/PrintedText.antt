@@ -13,7 +13,7 @@ use Rattle.i9_model.specs.Overlay.{overlay}
 use Rattle.i9_model.specs.Events.{journal_text}
 use Rattle.i9_model.specs.ScheduleText.{timed_at}
 use Rattle.i9_model.specs.State.{State}
-use Rattle.i9_model.specs.Run.{Given, Point, End, Exit, Limit, Hazard, Dead, Imprecise, Kind, Instruction, Faulted, Entered, Interrupted, Reached, Blocked, Record, point_of, action_done, state_after}
+use Rattle.i9_model.specs.Run.{Given, Point, End, Exit, Limit, Hazard, Dead, Imprecise, Finish, Kind, Instruction, Faulted, Entered, Interrupted, Reached, Record, point_of, action_done, state_after}
 use Rattle.i9_model.specs.declared.run.Point.TheVariants as points
 
 -- a printed line; a drained point has three
@@ -61,20 +61,25 @@ event_lines (Faulted inst fault) s = []
 event_lines (Entered e) s = []
 event_lines (Interrupted c e) s = []
 event_lines (Reached e u) s = Journal s.count e ∷ bytes_lines e s
-event_lines (Blocked e a) s = Journal s.count e ∷ bytes_lines e s
 
 -- the lines of a record: those of an event, from the state before it; a console byte; and a drained point
 abbrev pub record_lines : Record → List Shown
 record_lines r =
     event_lines r.kind r.before ++ (out_lines (console_byte (action_done r).writes) ++ point_lines (point_of r.kind) r.after)
 
+-- the line of the event that was reached with an end, where one was
+abbrev pub journal_lines : ℕ → Option Event → List Shown
+journal_lines k None = []
+journal_lines k (Some e) = Journal k e ∷ []
+
 -- the end of a run: its drained point, and how it ended; before an imprecise fault there is no point
 abbrev pub last_lines : View → End → List Shown
 last_lines v (Imprecise a) = Last (Imprecise a) ∷ []
 last_lines v f = Drained points.End v ∷ Last f ∷ []
 
-abbrev pub end_lines : State → End → List Shown
-end_lines s f = last_lines (view_of s) f
+-- the line of an event that was reached comes before them
+abbrev pub end_lines : State → Finish → List Shown
+end_lines s f = journal_lines s.count f.event ++ last_lines (view_of s) f.end
 
 -- the lines of records, newest first
 abbrev pub lines_of : List Record → List Shown
@@ -153,7 +158,7 @@ events_of (Bytes a bs ∷ ls) = events_of ls
 events_of (Last f ∷ ls) = events_of ls
 
 -- the text of a whole run
-abbrev pub run_text : Given → List Record → End → List ℕ
+abbrev pub run_text : Given → List Record → Finish → List ℕ
 run_text g rs f = text_of (lines_of rs ++ end_lines (state_after g rs) f)
 
 -- the status of the command for the end of a run

@@ -17,7 +17,7 @@ use Rattle.i9_model.specs.declared.event.Event.{Event}
 use Rattle.i9_model.specs.declared.event.Timed.{Timed}
 use Rattle.i9_model.specs.Memory.{exit_word}
 use Rattle.i9_model.specs.State.{State, boot}
-use Rattle.i9_model.specs.Step.{Action, going, faulting, entering, acted, counted}
+use Rattle.i9_model.specs.Step.{Action, faulting, entering, acted, counted}
 use Rattle.i9_model.specs.Traced.{traced_action}
 use Rattle.i9_model.specs.Before.{Received, choice_in, interrupt_in, interrupting, received_in, receiving}
 use Rattle.i9_model.specs.ScheduleText.{timed_at, standing}
@@ -32,15 +32,13 @@ use Rattle.i9_model.specs.declared.run.Point.TheVariants as points
 use Rattle.i9_model.specs.declared.run.Due.TheVariants as dues
 
 -- what was done: an instruction, traced or not; one that faulted, where its word is not refused, with its fault; the
--- entry of the fault; the entry of an interrupt that was chosen; an event that was reached, with what it does; or an
--- event that was reached and met a hazard, which does nothing
+-- entry of the fault; the entry of an interrupt that was chosen; or an event that was reached, with what it does
 pub data Kind : Type 0 where
   Instruction : (inst : Inst) → Kind
   Faulted : (inst : Option Inst) → (fault : Fault) → Kind
   Entered : (entry : Entry) → Kind
   Interrupted : (choice : Chosen) → (entry : Entry) → Kind
   Reached : (event : Event) → (does : Received) → Kind
-  Blocked : (event : Event) → (hazard : ℕ) → Kind
 
 -- what was done, and the states before and after it
 pub record Record : Type 0 where
@@ -48,9 +46,22 @@ pub record Record : Type 0 where
   pub before : State
   pub after : State
 
+-- how a run ends, and the event that was reached with the end: one that meets a hazard does nothing, and ends the run
+pub record Finish : Type 0 where
+  pub event : Option Event
+  pub end : End
+
+-- an end with which no event was reached
+abbrev pub finish : End → Finish
+finish f = record { event = None; end = f }
+
+-- the end at the hazard of an event
+abbrev pub finish_at : Event → ℕ → Finish
+finish_at e a = record { event = Some e; end = Hazard a }
+
 pub data Next : Type 0 where
   Does : Record → Next
-  Ends : End → Next
+  Ends : Finish → Next
 
 -- ---- by the kind of a record
 
@@ -66,7 +77,6 @@ action_by_kind (Faulted inst fault) s = faulting (faulted_words inst) s
 action_by_kind (Entered e) s = entering e s
 action_by_kind (Interrupted c e) s = interrupting c e s
 action_by_kind (Reached e u) s = receiving u s
-action_by_kind (Blocked e a) s = going s s.ip
 
 -- how many instructions it counts: an entry is none, and no more is an event
 abbrev pub counts_of : Kind → ℕ
@@ -75,7 +85,6 @@ counts_of (Faulted inst fault) = 1
 counts_of (Entered e) = 0
 counts_of (Interrupted c e) = 0
 counts_of (Reached e u) = 0
-counts_of (Blocked e a) = 0
 
 abbrev pub point_by_name : Op → Option Point
 point_by_name Flushreg = Some points.Flush
@@ -89,7 +98,6 @@ point_of (Faulted inst fault) = None
 point_of (Entered e) = Some points.Fault
 point_of (Interrupted c e) = Some points.Int
 point_of (Reached e u) = Some points.Event
-point_of (Blocked e a) = None
 
 -- the state after it, from the one before
 abbrev pub after_kind : Kind → State → State
@@ -130,7 +138,6 @@ due_by (Faulted inst fault) s = dues.Entry fault
 due_by (Entered e) s = dues.Nothing
 due_by (Interrupted c e) s = dues.Nothing
 due_by (Reached e u) s = dues.Nothing
-due_by (Blocked e a) s = dues.End (Hazard a)
 
 abbrev pub due_after : List Record → Due
 due_after [] = dues.Nothing
@@ -140,7 +147,7 @@ due_after (r ∷ rs) = due_by r.kind r.before
 
 -- an instruction is done or faults, unless a hazard is met
 abbrev pub next_by_standing : State → Standing → Next
-next_by_standing s (Meets a) = Ends (Hazard a)
+next_by_standing s (Meets a) = Ends (finish (Hazard a))
 next_by_standing s (Refused number) = Does (record_of (Faulted None (fault_at s number)) s)
 next_by_standing s (Faults i number) = Does (record_of (Faulted (Some i) (fault_at s number)) s)
 next_by_standing s (Runs i) = Does (record_of (Instruction i) s)
@@ -148,40 +155,40 @@ next_by_standing s (Runs i) = Does (record_of (Instruction i) s)
 -- a fault is entered, unless that meets a hazard or a dead entry
 abbrev pub next_by_entry : State → Result Entry FaultStop → Next
 next_by_entry s (Ok e) = Does (record_of (Entered e) s)
-next_by_entry s (Err (stops.Hazard a)) = Ends (Hazard a)
-next_by_entry s (Err (stops.Dead code a)) = Ends (Dead code a)
+next_by_entry s (Err (stops.Hazard a)) = Ends (finish (Hazard a))
+next_by_entry s (Err (stops.Dead code a)) = Ends (finish (Dead code a))
 
 -- the entry of a fault in a state
 unfoldable pub entry_in : State → Fault → Result Entry FaultStop
 entry_in s fault = planned_fault s.memory s.frames s.tables.fault_table s.tables.system_table fault s.pc s.ac (s.regs FP) (s.regs SP)
 
--- an event is reached whether it meets a hazard or not
-abbrev pub reached_kind : Event → Result Received ℕ → Kind
-reached_kind e (Ok u) = Reached e u
-reached_kind e (Err a) = Blocked e a
+-- an event does what it does, unless that meets a hazard; it is reached in either case
+abbrev pub next_by_received : State → Event → Result Received ℕ → Next
+next_by_received s e (Ok u) = Does (record_of (Reached e u) s)
+next_by_received s e (Err a) = Ends (finish_at e a)
 
 -- the event that stands there is reached; where none does it is the instruction's turn
 abbrev pub next_by_event : Option Event → State → Next
-next_by_event (Some e) s = Does (record_of (reached_kind e (received_in s e)) s)
+next_by_event (Some e) s = next_by_received s e (received_in s e)
 next_by_event None s = next_by_standing s (stands_at s)
 
 -- an interrupt is entered, unless that meets a hazard
 abbrev pub next_by_interrupt : State → Chosen → Result Entry ℕ → Next
 next_by_interrupt s c (Ok e) = Does (record_of (Interrupted c e) s)
-next_by_interrupt s c (Err a) = Ends (Hazard a)
+next_by_interrupt s c (Err a) = Ends (finish (Hazard a))
 
 -- an interrupt that is chosen comes before an event and before an instruction; the choice may meet a hazard
 abbrev pub next_by_choice : Option Event → State → Result (Option Chosen) ℕ → Next
 next_by_choice stands s (Ok (Some c)) = next_by_interrupt s c (interrupt_in s c)
 next_by_choice stands s (Ok None) = next_by_event stands s
-next_by_choice stands s (Err a) = Ends (Hazard a)
+next_by_choice stands s (Err a) = Ends (finish (Hazard a))
 
 -- what comes next in a state, at a length, where this event stands: what is due, the end of the length, the entry of an
 -- interrupt, the event, or one instruction
 abbrev pub next_in : ℕ → Due → Option Event → State → Next
-next_in limit (dues.End f) stands s = Ends f
+next_in limit (dues.End f) stands s = Ends (finish f)
 next_in limit (dues.Entry fault) stands s = next_by_entry s (entry_in s fault)
-next_in limit dues.Nothing stands s = if s.count == limit then Ends Limit else next_by_choice stands s (choice_in s)
+next_in limit dues.Nothing stands s = if s.count == limit then Ends (finish Limit) else next_by_choice stands s (choice_in s)
 
 -- ---- runs of what is given
 
@@ -197,12 +204,20 @@ reached_by (Faulted inst fault) s = []
 reached_by (Entered e) s = []
 reached_by (Interrupted c e) s = []
 reached_by (Reached e u) s = timed_at s.count e ∷ []
-reached_by (Blocked e a) s = timed_at s.count e ∷ []
 
 -- the events that the records reached, the first one first
 abbrev pub reached_after : List Record → List Timed
 reached_after [] = []
 reached_after (r ∷ rs) = reached_after rs ++ reached_by r.kind r.before
+
+-- the event that was reached with an end at a count, where one was
+abbrev pub reached_last : ℕ → Option Event → List Timed
+reached_last k None = []
+reached_last k (Some e) = timed_at k e ∷ []
+
+-- the events that a whole run reached
+abbrev pub reached_in : Given → List Record → Finish → List Timed
+reached_in g rs f = reached_after rs ++ reached_last (state_after g rs).count f.event
 
 -- The event that stands there: the first one of the plan that was not reached, once its count has come. One machine that
 -- does one thing after the other knows no turns, so no event that waits for a turn stands anywhere for it.
@@ -232,6 +247,6 @@ IsPastOfSome comes [] = Unit {0}
 IsPastOfSome comes (r ∷ rs) = IsPastOfSome comes rs × ((o : Option Event) × (comes o rs ≡ Does r))
 
 -- these are the records of the run, and this is its end
-pub record IsRun (g : Given) (rs : List Record) (end : End) : Type 0 where
+pub record IsRun (g : Given) (rs : List Record) (f : Finish) : Type 0 where
   pub past : IsPast g rs
-  pub ends : next g rs ≡ Ends end
+  pub ends : next g rs ≡ Ends f

@@ -1,6 +1,6 @@
 -- A run of a machine that keeps its frames in sets: all that it reads, it reads through the held frames.
 use Rattle.std.specs.Prelude.{◌≡◌, List, [], ◌∷◌}
-use Rattle.i9_model.specs.Run.{Given, End, Record, Does, Ends, next}
+use Rattle.i9_model.specs.Run.{Given, Finish, Record, Does, Ends, next}
 use Rattle.i9_model.specs.HeldFrames.{overlaid, cache_after}
 
 -- a record of such a machine: memory after it is what is held then, laid over what is behind
@@ -13,6 +13,6 @@ IsPastInSets g [] = Unit {0}
 IsPastInSets g (q ∷ rs) = IsPastInSets g rs × (r : Record) × (next g rs ≡ Does r) × (q ≡ in_sets g rs r)
 
 -- these are the records of its run, and this is its end
-pub record IsRunInSets (g : Given) (rs : List Record) (end : End) : Type 0 where
+pub record IsRunInSets (g : Given) (rs : List Record) (f : Finish) : Type 0 where
   pub past : IsPastInSets g rs
-  pub ends : next g rs ≡ Ends end
+  pub ends : next g rs ≡ Ends f

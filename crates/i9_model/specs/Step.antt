@@ -21,6 +21,7 @@ use Rattle.i9_model.specs.declared.calls.Sys.{Sys}
 use Rattle.i9_model.specs.declared.calls.Pop.{Pop}
 use Rattle.i9_model.specs.declared.faults.Entry.{Entry}
 use Rattle.i9_model.specs.declared.trace.Trace.{Trace}
+use Rattle.i9_model.specs.declared.interrupts.TheConstants.{FIRST_VECTOR}
 use Rattle.i9_model.specs.Writes.{wrapped, written, upwards}
 use Rattle.i9_model.specs.Memory.{Memory, half_in, half_bytes, word_in, word_bytes, words_in, with_writes, with_words}
 use Rattle.i9_model.specs.State.{State, Frames, Interrupts, Dma, Channel, aligned}
@@ -224,21 +225,31 @@ message_of i s = value s i.a / 2 ^ 8 % 2 ^ 8
 abbrev pub argument_of : Inst → State → ℕ
 argument_of i s = value s i.a % 2 ^ 8
 
--- what a message asks for: message 0 asks for an interrupt by its vector, message 3 starts the processor anew at
--- src2, by the PRCB at src/dst, and message 4 loads a control group
+-- what a message asks for: message 0 asks for an interrupt by its vector, or sets the check flag alone; message 3 starts
+-- the processor anew at src2, by the PRCB at src/dst, and message 4 loads a control group
 pub data Message : Type 0 where
   AsksNothing : Message
+  AsksCheck : Message
   AsksInterrupt : Message
   AsksRestart : Message
   AsksGroup : Message
 
-abbrev pub message_kind : ℕ → Message
-message_kind n =
-    if n == 0 then AsksInterrupt else if n == 3 then AsksRestart else if n == 4 then AsksGroup else AsksNothing
+-- a vector below the first one is ignored
+abbrev pub interrupt_asked : ℕ → Message
+interrupt_asked v = if nat_lt v FIRST_VECTOR then AsksCheck else AsksInterrupt
 
--- a request is looked at before the next instruction; the others flush first
+abbrev pub message_kind : ℕ → ℕ → Message
+message_kind n argument =
+    if n == 0 then interrupt_asked argument else if n == 3 then AsksRestart else if n == 4 then AsksGroup else AsksNothing
+
+-- what sysctl asks for
+abbrev pub asked_message : Inst → State → Message
+asked_message i s = message_kind (message_of i s) (argument_of i s)
+
+-- what software asks for is looked at before the next instruction; the other two flush first
 abbrev pub message_action : Message → Inst → State → Action
 message_action AsksNothing i s = passing i s
+message_action AsksCheck i s = record (passing i s) { check = true }
 message_action AsksInterrupt i s = record (passing i s) {
   writes = request_writes s.memory s.tables.interrupt_table (argument_of i s);
   check = true;
@@ -343,7 +354,7 @@ action_by_name Modac i s = modac_action i s
 action_by_name Modtc i s = modtc_action i s
 action_by_name Modpc i s = modpc_action i s
 action_by_name Sdma i s = sdma_action i s
-action_by_name Sysctl i s = message_action (message_kind (message_of i s)) i s
+action_by_name Sysctl i s = message_action (asked_message i s) i s
 action_by_name op i s = other_action op i s
 
 abbrev pub action_by : Option Transfer → Inst → State → Action

@@ -10,6 +10,9 @@ pub const FIRST_DMA_LINE: u8 = 8;
 /// The bits of the pending and the mask word that are kept: one for each line.
 pub const LINE_MASK: u32 = 0x0FFF;
 
+/// The first vector that an interrupt can have.
+pub const FIRST_VECTOR: u8 = 8;
+
 /// The vector of the interrupt that is never masked.
 pub const NMI_VECTOR: u8 = 248;
 

@@ -9,7 +9,7 @@ ghost use Rattle.i9_model.specs.Frames.{no_frames, saved, returned, flushed, wro
 ghost use Rattle.i9_model.specs.Hazards.{writes_hazard, save_hazard};
 ghost use Rattle.i9_model.specs.Calls.{planned_calls, Undoes};
 ghost use Rattle.i9_model.specs.Sound.{AreApart, IsSound};
-ghost use Rattle.i9_model.specs.Run.{Given, Record, End, Limit, Due, next_in, IsRun, IsPast, state_after};
+ghost use Rattle.i9_model.specs.Run.{Given, Record, End, Limit, Due, next_in, IsRun, IsPast, state_after, Finish};
 ghost use Rattle.i9_model.specs.Overlay.{overlay};
 ghost use Rattle.i9_model.specs.Alike.{AreAlike, AreNextAlike};
 ghost use Rattle.i9_model.specs.HeldFrames.{cache_after, IsCached, AreInMemory};
@@ -20,17 +20,17 @@ ghost use Rattle.i9_model.specs.PrintedText.{text_of, lines_of, run_text, view_o
 /// what was printed so far is the front of the text of the whole run.
 pub fn every_run_ends()
     ensures ends { (g : Given) (rs : List Record) → IsPast g rs
-        → (later : List Record) × (end : End) × IsRun g (later ++ rs) end }
+        → (later : List Record) × (f : Finish) × IsRun g (later ++ rs) f }
     ensures within { (g : Given) (rs : List Record) → IsPast g rs → (state_after g rs).count ≤ g.length }
     ensures front { (g : Given) (rs : List Record) → IsPast g rs
-        → (later : List Record) × (end : End) × (rest : List ℕ) × IsRun g (later ++ rs) end
-        × (text_of (lines_of rs) ++ rest ≡ run_text g (later ++ rs) end) }
+        → (later : List Record) × (f : Finish) × (rest : List ℕ) × IsRun g (later ++ rs) f
+        × (text_of (lines_of rs) ++ rest ≡ run_text g (later ++ rs) f) }
 {}
 
 /// A run is the only one of what it is given.
 pub fn one_run()
-    ensures records { (g : Given) (rs qs : List Record) (e f : End) → IsRun g rs e → IsRun g qs f → rs ≡ qs }
-    ensures end { (g : Given) (rs qs : List Record) (e f : End) → IsRun g rs e → IsRun g qs f → e ≡ f }
+    ensures records { (g : Given) (rs qs : List Record) (e f : Finish) → IsRun g rs e → IsRun g qs f → rs ≡ qs }
+    ensures end { (g : Given) (rs qs : List Record) (e f : Finish) → IsRun g rs e → IsRun g qs f → e ≡ f }
 {}
 
 /// The length of a run cuts it and changes nothing before the cut: what is done at a length is done at every greater
@@ -38,8 +38,8 @@ pub fn one_run()
 pub fn a_length_cuts_the_run()
     ensures past { (g : Given) (more : ℕ) (rs : List Record) → g.length ≤ more
         → IsPast g rs → IsPast (record g { length = more }) rs }
-    ensures run { (g : Given) (more : ℕ) (rs : List Record) (end : End) → g.length ≤ more
-        → end ≢ Limit → IsRun g rs end → IsRun (record g { length = more }) rs end }
+    ensures run { (g : Given) (more : ℕ) (rs : List Record) (f : Finish) → g.length ≤ more
+        → f.end ≢ Limit → IsRun g rs f → IsRun (record g { length = more }) rs f }
 {}
 
 /// Live frames never overlap: no frame is live at first, and saves without a hazard, returns,
@@ -92,11 +92,11 @@ pub fn held_frames_stand_for_memory()
 /// reads all through the held frames, has a run beside the run of the one-at-a-time machine, and no run of another
 /// end or of another text.
 pub fn text_does_not_depend_on_sets()
-    ensures some { (g : Given) (rs : List Record) (end : End)
-        → IsRun g rs end → (qs : List Record) × IsRunInSets g qs end × (run_text g qs end ≡ run_text g rs end) }
-    ensures only { (g : Given) (qs rs : List Record) (e f : End)
+    ensures some { (g : Given) (rs : List Record) (f : Finish)
+        → IsRun g rs f → (qs : List Record) × IsRunInSets g qs f × (run_text g qs f ≡ run_text g rs f) }
+    ensures only { (g : Given) (qs rs : List Record) (e f : Finish)
         → IsRunInSets g qs e → IsRun g rs f → (e ≡ f) × (run_text g qs e ≡ run_text g rs f) }
-    ensures any { (g : Given) (others : Option ℕ) (qs ps : List Record) (e f : End)
+    ensures any { (g : Given) (others : Option ℕ) (qs ps : List Record) (e f : Finish)
         → IsRunInSets g qs e → IsRunInSets (record g { sets = others }) ps f
         → run_text g qs e ≡ run_text (record g { sets = others }) ps f }
 {}

@@ -1,3 +1,4 @@
+pub mod Asking
 pub mod Failing
 pub mod Reading
 pub mod Writing

@@ -32,13 +32,14 @@ Consumes-then (Some a) (Some b) (Some c) x y p q = p ∙ ap (λ bs. x ++ bs) q �
 pub read_nothing : (known : Option (List ℕ)) (old : List ℕ) → HasRead known known old old 0
 read_nothing known old = record { bytes = []; consumes = Consumes-nothing known; grows = sym (append-nil old); counted = refl; few = omega arith }
 
-pub read_more : (a b c : Option (List ℕ)) (old new : List ℕ) (count : ℕ) (piece : List ℕ)
-    → HasRead a b old new count → Consumes b c piece → count + length piece ≤ FILE_LIMIT + 1 → HasRead a c old (new ++ piece) (count + length piece)
-read_more a b c old new count piece r p few = record {
+-- a piece was read, and the buffer grew by it
+pub read_more : (a b c : Option (List ℕ)) (old new newer : List ℕ) (count n : ℕ) (piece : List ℕ)
+    → HasRead a b old new count → Consumes b c piece → newer ≡ new ++ piece → length piece ≡ n → count + n ≤ FILE_LIMIT + 1 → HasRead a c old newer (count + n)
+read_more a b c old new newer count n piece r p grown many few = record {
   bytes = r.bytes ++ piece;
   consumes = Consumes-then a b c r.bytes piece r.consumes p;
-  grows = ap (λ bs. bs ++ piece) r.grows ∙ append_assoc old r.bytes piece;
-  counted = omega (arith, length-append r.bytes piece, r.counted);
+  grows = grown ∙ ap (λ bs. bs ++ piece) r.grows ∙ append_assoc old r.bytes piece;
+  counted = omega (arith, length-append r.bytes piece, r.counted, many);
   few = few;
 }
 
@@ -72,4 +73,4 @@ read_long (Some a) (Some b) old new count r long = record {
   leaves = (omega (arith, r.counted, ap length r.consumes, length-append r.bytes b), omega (arith, r.few), record { front = r.bytes; rest = b; parts = sym r.consumes; grows = r.grows });
 }
 
-pub ruleset reading_rules = (untold, read_nothing, read_more, read_failed, read_refused, read_whole, read_long)
+pub ruleset reading_rules = (untold, read_nothing, read_failed, read_refused, read_whole, read_long)

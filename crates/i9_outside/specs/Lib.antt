@@ -5,3 +5,4 @@ pub mod MemFiles
 pub mod MemSink
 pub mod RealFiles
 pub mod RealSink
+pub mod System

@@ -1,7 +1,8 @@
 -- What a sink in memory holds, takes, and which of its calls fail.
-use Rattle.std.specs.Prelude.{ℕ, ◌≤◌, List}
+use Rattle.std.specs.Prelude.{ℕ, ◌≤◌, List, Some}
 use Rattle.i9_outside.specs.declared.memory.MemSink.{MemSink}
 use Rattle.i9_outside.specs.Calls.{Plan, plan_of, NoneToFail}
+use Rattle.i9_outside.specs.Traits.{EndsWithPieces}
 
 -- the bytes written so far
 abbrev pub written_bytes : MemSink → List ℕ
@@ -27,3 +28,7 @@ write_count s = (calls_of s).made
 pub record IsSureOf (s : MemSink) (n : ℕ) : Type 0 where
   pub has_room : n ≤ room_left s
   pub none_fails : NoneToFail (calls_of s)
+
+-- its bytes end with those of these pieces
+abbrev pub HasPieces : MemSink → List (List ℕ) → Type 0
+HasPieces s pieces = EndsWithPieces (Some (written_bytes s)) pieces

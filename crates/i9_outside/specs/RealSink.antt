@@ -1,6 +1,7 @@
 -- A sink over a writer.
-use Rattle.std.specs.Prelude.{ℕ}
+use Rattle.std.specs.Prelude.{ℕ, List, Option}
 use Rattle.i9_outside.specs.declared.real.RealSink.{RealSink}
+use Rattle.i9_outside.specs.Traits.{EndsWithPieces}
 
 -- how many faults were met
 abbrev pub fault_count : {W : Type 0} → RealSink W → ℕ
@@ -13,3 +14,7 @@ write_count s = s.writes
 -- the writer that it writes to
 abbrev pub writer_of : {W : Type 0} → RealSink W → W
 writer_of s = s.out
+
+-- the bytes that its writer tells end with those of these pieces
+abbrev pub HasPieces : {W : Type 0} → (W → Option (List ℕ)) → RealSink W → List (List ℕ) → Type 0
+HasPieces contents s pieces = EndsWithPieces (contents (writer_of s)) pieces

@@ -1,5 +1,5 @@
 -- What the calls of files and of a sink do, and why they fail.
-use Rattle.std.specs.Prelude.{◌≡◌, ℕ, ◌+◌, ◌<◌, ◌≤◌, List, ◌++◌, length, Option, Some, None}
+use Rattle.std.specs.Prelude.{◌≡◌, ℕ, ◌+◌, ◌<◌, ◌≤◌, List, [], ◌∷◌, ◌++◌, length, flat_map, Option, Some, None}
 use Rattle.std.specs.Io.KnownBytes.{Appends}
 use Rattle.i9_outside.specs.declared.traits.TheConstants.{FILE_LIMIT}
 use Rattle.i9_outside.specs.declared.traits.Fetch.{Fetch}
@@ -56,3 +56,16 @@ Writes writes.Failed piece old new = AppendsFront old new piece
 abbrev pub WriteCause : Wrote → ℕ → ℕ → Type 0
 WriteCause writes.Failed before now = Rose before now
 WriteCause writes.Ok before now = now ≡ before
+
+-- the bytes are told, and end with those of these pieces
+abbrev pub EndsWithPieces : Option (List ℕ) → List (List ℕ) → Type 0
+EndsWithPieces None pieces = ⊥
+EndsWithPieces (Some bytes) pieces =
+    (before : List ℕ) × (bytes ≡ before ++ flat_map (λ piece. piece) pieces)
+
+-- A piece was taken by one call. It stands behind those that were taken by the calls before.
+abbrev pub TakesPiece : {K : Type 0} → (K → List (List ℕ) → Type 0) → Wrote → List ℕ → K → K → Type 0
+TakesPiece taken writes.Ok piece old new =
+    (pieces : List (List ℕ)) → taken old pieces → taken new (pieces ++ piece ∷ [])
+TakesPiece taken writes.Failed piece old new = (front : List ℕ) × (rest : List ℕ) × (front ++ rest ≡ piece)
+    × ((pieces : List (List ℕ)) → taken old pieces → taken new (pieces ++ front ∷ []))

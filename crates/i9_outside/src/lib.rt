@@ -4,8 +4,13 @@
 #![tactic(auto)]
 
 mod calls;
+#[cfg(test)]
+mod disk;
 mod memory;
 mod real;
+mod system;
+#[cfg(test)]
+mod system_tests;
 #[cfg(test)]
 mod tests;
 mod traits;

@@ -1,6 +1,6 @@
 //! Files and a sink in memory, of which chosen calls fail.
 ghost use Rattle.std.specs.Prelude.{◌≡◌, ◌≢◌, ◌↔◌, ◌⊎◌, ◌+◌, ◌<◌, ◌≤◌, Some, None, OnOk, OnErr, IsNone, IsTrue, List, ℕ, [], length, vec_len, vec_capacity};
-ghost use Rattle.i9_outside.specs.Traits.{Fetches, FetchCause, Writes, WriteCause};
+ghost use Rattle.i9_outside.specs.Traits.{Fetches, FetchCause, Writes, WriteCause, TakesPiece};
 
 use crate::calls::Calls;
 use crate::traits::{FILE_LIMIT, Fetch, Files, Sink, Wrote};
@@ -175,7 +175,7 @@ impl MemSink {
 
 impl Sink for MemSink {
     ghost use Rattle.i9_outside.specs.Calls.{fails_next, CountsCall};
-    ghost use Rattle.i9_outside.specs.MemSink.{written_bytes, room_left, calls_of, fault_count, write_count, IsSureOf};
+    ghost use Rattle.i9_outside.specs.MemSink.{written_bytes, room_left, calls_of, fault_count, write_count, IsSureOf, HasPieces};
     ghost use Rattle.i9_outside.specs.Counts.{one_more};
 
     ghost told = { λ s. Some (written_bytes s) };
@@ -185,6 +185,10 @@ impl Sink for MemSink {
     ghost writes = { write_count };
 
     ghost sure = { IsSureOf };
+
+    ghost pieces = { HasPieces };
+
+    ghost whole = { λ s ps has. has };
 
     /// Fails exactly where the call is set to fail or the piece is longer than the room left, and
     /// then writes nothing.
@@ -196,6 +200,7 @@ impl Sink for MemSink {
         ensures once { write_count self.new ≡ one_more (write_count self.old) }
         ensures calm { (n : ℕ) → IsSureOf self.old (length piece.now + n)
             → (result ≡ Wrote.Ok) × (fault_count self.new ≡ fault_count self.old) × IsSureOf self.new n }
+        ensures piece { TakesPiece HasPieces result piece.now self.old self.new }
         ensures failed { (result ≡ Wrote.Failed)
             ↔ (IsTrue (fails_next (calls_of self.old)) ⊎ (room_left self.old < length piece.now)) }
         ensures took { result ≡ Wrote.Ok → room_left self.new + length piece.now ≡ room_left self.old }

@@ -1,7 +1,7 @@
 //! Files by name, and a sink of bytes: what a call answers, does, and why it fails.
 ghost use Rattle.std.specs.Prelude.{◌≡◌, ◌≢◌, ℕ, ◌+◌, ◌≤◌, List, Option, length};
 ghost use Rattle.i9_outside.specs.Counts.{one_more};
-ghost use Rattle.i9_outside.specs.Traits.{Fetches, FetchCause, Writes, WriteCause};
+ghost use Rattle.i9_outside.specs.Traits.{Fetches, FetchCause, Writes, WriteCause, TakesPiece, EndsWithPieces};
 
 use std::alloc::Global;
 
@@ -72,6 +72,9 @@ pub trait Sink {
     /// Writes of so many bytes in all can't fail.
     ghost sure: { Self → ℕ → Type 0 };
 
+    /// The last calls took these pieces, one a call, in this order; of a call that failed, the front that it wrote.
+    ghost pieces: { Self → List (List ℕ) → Type 0 };
+
     /// Writes the piece after what was written before. `Failed` may leave a front of it there.
     fn write(&mut self, piece: &[u8]) -> Wrote
         ensures later { faults self.old ≤ faults self.new }
@@ -79,5 +82,9 @@ pub trait Sink {
         ensures cause { WriteCause result (faults self.old) (faults self.new) }
         ensures once { writes self.new ≡ one_more (writes self.old) }
         ensures calm { (n : ℕ) → sure self.old (length piece.now + n)
-            → (result ≡ Wrote.Ok) × (faults self.new ≡ faults self.old) × sure self.new n };
+            → (result ≡ Wrote.Ok) × (faults self.new ≡ faults self.old) × sure self.new n }
+        ensures piece { TakesPiece pieces result piece.now self.old self.new };
+
+    /// The bytes that are told end with those of the pieces.
+    ghost whole: { (s : Self) (ps : List (List ℕ)) → pieces s ps → EndsWithPieces (told s) ps };
 }

@@ -10,7 +10,7 @@ use Rattle.i9_isa.specs.declared.size.Transfer.{Transfer}
 use Rattle.i9_isa.specs.Transfers.{transfer_of}
 use Rattle.i9_model.specs.Memory.{Memory, region_of, waits_of}
 use Rattle.i9_model.specs.State.{State}
-use Rattle.i9_model.specs.Step.{Message, AsksNothing, AsksInterrupt, AsksRestart, AsksGroup, message_of, message_kind}
+use Rattle.i9_model.specs.Step.{Message, AsksNothing, AsksCheck, AsksInterrupt, AsksRestart, AsksGroup, asked_message}
 use Rattle.i9_model.specs.Access.{Access, Reads, Writes, Changes, message_access, access_by_name, moved_access, access_by, access_of, data_of}
 use Rattle.i9_model.specs.Needs.{has_access}
 use Rattle.i9_course.specs.NeedOf.{access_waits}
@@ -37,12 +37,13 @@ accesses _ = refl
 
 message_data : (m : Message) (i : Inst) (s : State) → is_some (data_of (message_access m i s)) ≡ false
 message_data AsksNothing i s = refl
+message_data AsksCheck i s = refl
 message_data AsksInterrupt i s = refl
 message_data AsksRestart i s = refl
 message_data AsksGroup i s = refl
 
 named_data : (op : Op) (i : Inst) (s : State) → is_some (data_of (access_by_name op i s)) ≡ is_atomic op
-named_data Sysctl i s = message_data (message_kind (message_of i s)) i s
+named_data Sysctl i s = message_data (asked_message i s) i s
 named_data Lda i s = refl
 named_data _ i s = refl
 

@@ -8,7 +8,7 @@ ghost use Rattle.i9_model.specs.HeldFrames.{Cache};
 ghost use Rattle.i9_model.specs.Before.{Received, interrupting};
 ghost use Rattle.i9_model.specs.Step.{Saves, entering};
 ghost use Rattle.i9_model.specs.Traced.{traced_action};
-ghost use Rattle.i9_model.specs.Run.{Instruction, Faulted, Entered, Interrupted, Reached, Blocked, fault_at};
+ghost use Rattle.i9_model.specs.Run.{Instruction, Faulted, Entered, Interrupted, Reached, fault_at};
 ghost use Rattle.i9_course.specs.NeedOf.{is_of_dma, moved_frames, need_of};
 ghost use Rattle.i9_processor.specs.Effect.{IsEffect, move_in};
 ghost use Rattle.i9_processor.specs.State.{state_of, cache_of, size_of};
@@ -127,12 +127,11 @@ fn is_of_dma(event: &Event) -> bool
     matches!(event, Event::Dma(_) | Event::Feed(_, _))
 }
 
-/// What an event needs that is reached, whether it meets a hazard or not.
+/// What an event needs that is reached and does something.
 #[tactic(auto, unfolding(i9_course::specs::NeedOf::need_of))]
 pub fn need_reached(event: &Event) -> Need
     ensures reached { (n : ℕ) (c : Cache) (s : State) (u : Received)
         → result ≡ need_of n c s (Reached event.now u) }
-    ensures blocked { (n : ℕ) (c : Cache) (s : State) (a : ℕ) → result ≡ need_of n c s (Blocked event.now a) }
     ensures cost { result.cost ≤ 248 }
 {
     event_need(is_of_dma(event), 0)

@@ -7,7 +7,7 @@ ghost use Rattle.i9_model.specs.Frames.{flushed};
 ghost use Rattle.i9_model.specs.Tables.{tables_hazard, group_hazard};
 ghost use Rattle.i9_model.specs.Operands.{value};
 ghost use Rattle.i9_model.specs.Faults.{is_invalid};
-ghost use Rattle.i9_model.specs.Step.{Flushes, AsksInterrupt, AsksRestart, AsksGroup, passing, moved, message_of, argument_of, message_kind};
+ghost use Rattle.i9_model.specs.Step.{Flushes, AsksRestart, AsksGroup, passing, moved, argument_of, interrupt_asked, asked_message};
 ghost use Rattle.i9_model.specs.Step.{modac_action, modtc_action, modpc_action};
 ghost use Rattle.i9_processor.specs.Effect.{CanControl, IsEffect, control_in};
 ghost use Rattle.i9_processor.specs.State.{state_of, IsDrained};
@@ -17,6 +17,7 @@ use crate::effects::{answering, passing};
 use crate::sources::{argument, message, process_controls, value};
 use crate::words::{modified, priority_of};
 use i9_isa::Inst;
+use i9_model::interrupts::FIRST_VECTOR;
 use i9_model::layout::{AC_MASK, CONTROL_GROUP_SIZE, CONTROL_TABLE_SIZE, PRCB_SIZE, TC_MASK};
 use i9_processor::{Control, Effect, Move, Processor};
 
@@ -112,16 +113,18 @@ fn plan_group(p: &Processor, i: &Inst) -> Result<Effect, u32>
     Ok(controlling(p, i, Control::LoadsGroup(group)))
 }
 
-/// Software asks for an interrupt, which the next choice looks at.
+/// Software asks for an interrupt, unless its vector is below the first one; the next choice looks at what is asked for.
 fn plan_request(p: &Processor, i: &Inst) -> Result<Effect, u32>
     requires drained { IsDrained p.now }
-    ensures { PlansMessage AsksInterrupt i.now (state_of p.now) result }
+    ensures { PlansMessage (interrupt_asked (argument_of i.now (state_of p.now))) i.now (state_of p.now) result }
 {
-    let requests = p.plan_request(argument(p, i))?;
+    let vector = argument(p, i);
     let mut effect = passing(p, i);
-    effect.requests = requests;
     effect.plain = false;
     effect.check = true;
+    if vector >= FIRST_VECTOR {
+        effect.requests = p.plan_request(vector)?;
+    }
     Ok(effect)
 }
 
@@ -130,7 +133,7 @@ pub(crate) fn plan_message(p: &Processor, i: &Inst) -> Result<Effect, u32>
     requires valid { IsValid i.now }
     requires drained { IsDrained p.now }
     requires message { is_invalid Sysctl (value (state_of p.now) i.now.a) ≡ false }
-    ensures { PlansMessage (message_kind (message_of i.now (state_of p.now))) i.now (state_of p.now) result }
+    ensures { PlansMessage (asked_message i.now (state_of p.now)) i.now (state_of p.now) result }
 {
     match message(p, i) {
         0 => plan_request(p, i),

@@ -542,8 +542,9 @@ fn both(first: (u32, u8), second: (u32, u8)) -> Requests {
 
 #[test]
 fn plans_posts(rt: HostRuntime) -> Result<(), Fail> {
-    let rows: [Posts; 6] = [
-        // mov 5, sf0, and sf1; sysctl 0 for vector 0, beside vector 18.
+    let rows: [Posts; 9] = [
+        // mov 5, sf0, and sf1; sysctl 0 for vectors 0 and 7, which only sets the check flag, and for vectors 8 and 12,
+        // beside vector 18.
         (
             PC,
             0x5C00_2E05,
@@ -558,10 +559,19 @@ fn plans_posts(rt: HostRuntime) -> Result<(), Fail> {
             Posting::Mask(5),
             (PC, false),
         ),
+        (PC, 0x65A0_1483, Requests::NONE, Posting::Keeps, (PC, true)),
+        (PC, 0x65A0_1C87, Requests::NONE, Posting::Keeps, (PC, true)),
         (
             PC,
-            0x65A0_1483,
-            both((0x1400, 5), (0x1404, 1)),
+            0x65A0_1C88,
+            both((0x1400, 6), (0x1405, 1)),
+            Posting::Keeps,
+            (PC, true),
+        ),
+        (
+            PC,
+            0x65A0_1C8C,
+            both((0x1400, 6), (0x1405, 0x10)),
             Posting::Keeps,
             (PC, true),
         ),

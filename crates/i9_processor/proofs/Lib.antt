@@ -10,3 +10,4 @@ pub mod Tracing
 pub mod Issued
 pub mod Drained
 pub mod BusySet
+pub mod NewPages

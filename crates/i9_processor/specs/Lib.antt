@@ -4,3 +4,4 @@ pub mod Effect
 pub mod Tracing
 pub mod Issued
 pub mod Acts
+pub mod Pages

@@ -15,8 +15,9 @@ ghost use Rattle.i9_model.specs.Alike.{AreAlike};
 ghost use Rattle.i9_model.specs.HeldFrames.{overlaid, cache_moved, cache_acted, cache_configured, cache_stored};
 ghost use Rattle.i9_regs.specs.Covered.{IsCovered, StartsAnew};
 ghost use Rattle.i9_storage.specs.Storage as stores;
-ghost use Rattle.i9_storage.specs.Storage.{HasSpace, KeepsSpace, KeepsFrameSpace};
+ghost use Rattle.i9_storage.specs.Storage.{HasSpace, KeepsSpace, KeepsFrameSpace, AddsNone, AddsBytesOnly};
 ghost use Rattle.i9_processor.specs.Issued.{AreCovered, IsCodeCovered, IsStartCovered, IsIssued};
+ghost use Rattle.i9_processor.specs.Pages.{AddsMoveOnly, AddsWritesOnly};
 ghost use Rattle.i9_processor.specs.Acts.{CanPut, IsDrainedToMove, IsDrainedToControl};
 ghost use Rattle.i9_processor.specs.Effect.{action_in, one_in, requests_in, run_in, writes_in, posting_in, change_in, move_in, sets_in, control_in, cache_through, size_with, is_costly, has_writes};
 ghost use Rattle.i9_processor.specs.Effect.{AreRegisters, AreSpacious, CanPost, CanChange, CanControl, CanMove, HasMoveSpace, HasSpaceFor, IsEmptied, CanTake};
@@ -46,6 +47,7 @@ fn reserve_move(storage: &mut Storage, m: &Move) -> Result<(), NoMemory>
     ensures waiting { stores.waiting_in storage.new ≡ stores.waiting_in storage.old }
     ensures acted { stores.acted_in storage.new ≡ stores.acted_in storage.old }
     ensures keeps { KeepsSpace storage.old storage.new }
+    ensures only { AddsMoveOnly storage.old storage.new m.now }
     ensures space { OnOk result (HasMoveSpace storage.new m.now) }
     ensures needed { (s : State) → OnErr result (is_costly (move_in s m.now) ≡ true) }
     ensures lacking { OnErr result (HasMoveSpace storage.old m.now → ⊥) }
@@ -65,6 +67,7 @@ fn reserve_run(storage: &mut Storage, e: &Effect) -> Result<(), NoMemory>
     ensures waiting { stores.waiting_in storage.new ≡ stores.waiting_in storage.old }
     ensures acted { stores.acted_in storage.new ≡ stores.acted_in storage.old }
     ensures keeps { KeepsSpace storage.old storage.new }
+    ensures only { AddsBytesOnly storage.old storage.new e.now.address (length e.now.bytes.items) }
     ensures frame_space { KeepsFrameSpace storage.old storage.new }
     ensures space { OnOk result (HasSpace storage.new e.now.address (length e.now.bytes.items)) }
     ensures needed { OnErr result (0 < length e.now.bytes.items) }
@@ -85,6 +88,7 @@ fn reserve_one(storage: &mut Storage, byte: Option<(u32, u8)>) -> Result<(), NoM
     ensures waiting { stores.waiting_in storage.new ≡ stores.waiting_in storage.old }
     ensures acted { stores.acted_in storage.new ≡ stores.acted_in storage.old }
     ensures keeps { KeepsSpace storage.old storage.new }
+    ensures only { AddsWritesOnly storage.old storage.new (one_in byte) }
     ensures frame_space { KeepsFrameSpace storage.old storage.new }
     ensures space { OnOk result (AreSpacious storage.new (one_in byte)) }
     ensures needed { OnErr result (0 < length (one_in byte)) }
@@ -107,6 +111,7 @@ fn reserve_requests(storage: &mut Storage, requests: &Requests) -> Result<(), No
     ensures waiting { stores.waiting_in storage.new ≡ stores.waiting_in storage.old }
     ensures acted { stores.acted_in storage.new ≡ stores.acted_in storage.old }
     ensures keeps { KeepsSpace storage.old storage.new }
+    ensures only { AddsWritesOnly storage.old storage.new (requests_in requests.now) }
     ensures frame_space { KeepsFrameSpace storage.old storage.new }
     ensures space { OnOk result (AreSpacious storage.new (requests_in requests.now)) }
     ensures needed { OnErr result (0 < length (requests_in requests.now)) }
@@ -129,6 +134,7 @@ fn store_run(storage: &mut Storage, e: &Effect)
     ensures waiting { stores.waiting_in storage.new ≡ stores.waiting_in storage.old }
     ensures acted { length e.now.bytes.items ≡ 0 → stores.acted_in storage.new ≡ stores.acted_in storage.old }
     ensures keeps { KeepsSpace storage.old storage.new }
+    ensures no_more { AddsNone storage.old storage.new }
 {
     if !e.bytes.is_empty() {
         storage.store(e.address, e.bytes.as_slice());
@@ -150,6 +156,7 @@ fn store_one(storage: &mut Storage, byte: Option<(u32, u8)>)
     ensures waiting { stores.waiting_in storage.new ≡ stores.waiting_in storage.old }
     ensures acted { length (one_in byte) ≡ 0 → stores.acted_in storage.new ≡ stores.acted_in storage.old }
     ensures keeps { KeepsSpace storage.old storage.new }
+    ensures no_more { AddsNone storage.old storage.new }
 {
     match byte {
         Some((address, value)) => storage.store(address, &[value]),
@@ -170,6 +177,7 @@ fn store_requests(storage: &mut Storage, requests: &Requests)
     ensures waiting { stores.waiting_in storage.new ≡ stores.waiting_in storage.old }
     ensures acted { length (requests_in requests.now) ≡ 0 → stores.acted_in storage.new ≡ stores.acted_in storage.old }
     ensures keeps { KeepsSpace storage.old storage.new }
+    ensures no_more { AddsNone storage.old storage.new }
 {
     store_one(storage, requests.first);
     store_one(storage, requests.second);
@@ -189,6 +197,7 @@ fn store_bytes(storage: &mut Storage, e: &Effect)
     ensures size { stores.size_of storage.new ≡ stores.size_of storage.old }
     ensures waiting { stores.waiting_in storage.new ≡ stores.waiting_in storage.old }
     ensures acted { length (writes_in e.now) ≡ 0 → stores.acted_in storage.new ≡ stores.acted_in storage.old }
+    ensures no_more { AddsNone storage.old storage.new }
 {
     store_run(storage, e);
     store_requests(storage, &e.requests);
@@ -205,8 +214,8 @@ fn listed_all(bytes: &[u8]) -> ArrayVec<u8, MOST_BYTES>
     list
 }
 
-/// The same. None, a byte, a word and four words have code of their own, since a copy is a move or two where its length is
-/// known.
+/// The same. None, a byte, a word and four words have code of their own, since a copy is a move or two where its length
+/// is known.
 #[inline(always)]
 #[tactic(auto, using(crate::proofs::Appending::first_rules))]
 fn listed(bytes: &[u8]) -> ArrayVec<u8, MOST_BYTES>
@@ -236,6 +245,7 @@ fn queue_run(storage: &mut Storage, e: &Effect, done: u64)
     ensures waiting { stores.waiting_in storage.new
         ≡ stores.waiting_in storage.old ++ record { puts = run_in e.now; due = done } ∷ [] }
     ensures acted { stores.acted_in storage.new ≡ stores.acted_in storage.old }
+    ensures no_more { AddsNone storage.old storage.new }
 {
     storage.enqueue(Request {
         address: e.address,
@@ -261,6 +271,7 @@ fn put_bytes(storage: &mut Storage, e: &Effect, landing: &Landing)
     ensures acts { landing.now.request ≡ false → stores.waiting_in storage.new ≡ stores.waiting_in storage.old }
     ensures still { landing.now.request ≡ false → length (writes_in e.now) ≡ 0
         → stores.acted_in storage.new ≡ stores.acted_in storage.old }
+    ensures no_more { AddsNone storage.old storage.new }
 {
     if landing.request {
         queue_run(storage, e, landing.done);
@@ -281,8 +292,10 @@ fn new_locals(push: &Push) -> [u32; LOCALS]
 impl Processor {
     ghost use Rattle.i9_processor.specs.State.{registers_of, state_of, cache_of, size_of, cells_of, bytes_of, queue_of};
     ghost use Rattle.i9_processor.specs.Effect.{CanAct, IsStill};
+    ghost use Rattle.i9_processor.specs.Pages.{AddsActionOnly, AddsNoPage};
 
-    /// Makes room for what an effect stores and saves. Memory is refused only where room is lacking.
+    /// Makes room for what an effect stores and saves, and for nothing else but what shares their pages. Memory is
+    /// refused only where room is lacking.
     // Each step calls it, and most effects store and save nothing.
     #[inline(always)]
     #[tactic(auto, unfolding(crate::specs::State::state_of, crate::specs::State::cache_of, crate::specs::State::size_of, crate::specs::State::cells_of, crate::specs::State::bytes_of, crate::specs::State::queue_of), using(crate::proofs::Applying::room_rules))]
@@ -296,6 +309,7 @@ impl Processor {
         ensures space { OnOk result (HasSpaceFor self.new e.now) }
         ensures needed { OnErr result (has_writes (action_in (state_of self.old) e.now) ≡ true) }
         ensures lacking { OnErr result (HasSpaceFor self.old e.now → ⊥) }
+        ensures only { AddsActionOnly self.old self.new (action_in (state_of self.old) e.now) }
     {
         reserve_run(&mut self.storage, e)?;
         if e.plain {
@@ -345,6 +359,7 @@ impl Processor {
         ensures file { self.new.file ≡ self.old.file }
         ensures flags { self.new.flags ≡ self.old.flags }
         ensures queue { queue_of self.new ≡ queue_of self.old }
+        ensures no_more { AddsNoPage self.old self.new }
     {
         match group {
             0 => {
@@ -377,6 +392,7 @@ impl Processor {
             → IsIssued landing.now.writes landing.now.done self.new.flags cells self.new.file }
         ensures queue { queue_of self.new ≡ queue_of self.old }
         ensures bytes { control_in c ≡ KeepsControls → bytes_of self.new ≡ bytes_of self.old }
+        ensures no_more { AddsNoPage self.old self.new }
     {
         match c {
             Control::Keeps => {}
@@ -446,6 +462,7 @@ impl Processor {
         ensures issued { IsIssued landing.now.writes landing.now.done self.new.flags self.old.file self.new.file }
         ensures queue { queue_of self.new ≡ queue_of self.old }
         ensures bytes { move_in (state_of self.old) e.now.frames ≡ Stays → bytes_of self.new ≡ bytes_of self.old }
+        ensures no_more { AddsNoPage self.old self.new }
     {
         match e.frames {
             Move::Stays => {
@@ -554,6 +571,7 @@ impl Processor {
         ensures acts { landing.now.request ≡ false → queue_of self.new ≡ queue_of self.old }
         ensures still { landing.now.request ≡ false → IsStill (action_in (state_of self.old) e.now)
             → bytes_of self.new ≡ bytes_of self.old }
+        ensures no_more { AddsNoPage self.old self.new }
     {
         if e.plain {
             let (file, flags) = (&mut self.file, &mut self.flags);
@@ -602,6 +620,7 @@ impl Processor {
         ensures flags { self.new.flags ≡ self.old.flags }
         ensures queue { queue_of self.new ≡ queue_of self.old }
         ensures bytes { bytes_of self.new ≡ bytes_of self.old }
+        ensures no_more { AddsNoPage self.old self.new }
     {
         if let Some(sets) = sets {
             self.storage.renew(sets);
@@ -653,6 +672,7 @@ impl Processor {
         ensures acts { landing.now.request ≡ false → queue_of self.new ≡ queue_of self.old }
         ensures still { landing.now.request ≡ false → IsStill (action_in (state_of self.old) e.now)
             → bytes_of self.new ≡ bytes_of self.old }
+        ensures no_more { AddsNoPage self.old self.new }
     {
         self.do_moves(e, landing);
         self.control(landing, e.control);
@@ -671,6 +691,7 @@ impl Processor {
         ensures cells { (r : ℕ) → cells_of self.new r ≡ landed turn (cells_of self.old r) }
         ensures bytes { bytes_of self.new ≡ stored (bytes_of self.old) (due_puts turn (queue_of self.old)) }
         ensures queue { queue_of self.new ≡ left_waiting turn (queue_of self.old) }
+        ensures no_more { AddsNoPage self.old self.new }
     {
         self.file.land(turn);
         self.storage.land(turn);

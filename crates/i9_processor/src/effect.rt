@@ -8,6 +8,7 @@ ghost use Rattle.i9_processor.specs.Rest.{LeavesRest, no_requests};
 use crate::processor::Processor;
 use arrayvec::ArrayVec;
 use i9_dma::Channel;
+use i9_memory::word_of;
 use i9_model::layout::{CONSOLE, EXIT_WORD, PORT_PAGE};
 use i9_model::{Cause, Push, Trace};
 
@@ -88,8 +89,9 @@ pub enum DmaChange {
 /// what is done to the other controls, to interrupts and to DMA; the next instruction address; and, where
 /// trace events count, the trace controls with their flags and the subtype of their fault.
 ///
-/// Most effects are plain: they store bytes in a row at most, and frames, interrupts, DMA and the controls that start-up
-/// reads stay. Where `plain` is set nothing of that is asked for; where it is not, the effect may be plain nevertheless.
+/// Most effects are plain: they store bytes in a row at most, and frames, interrupts, DMA and the controls that
+/// start-up reads stay. Where `plain` is set nothing of that is asked for; where it is not, the effect may be plain
+/// nevertheless.
 #[derive(Debug, Drop)]
 pub struct Effect {
     pub register: u8,
@@ -341,11 +343,7 @@ impl Effect {
             self.byte_at(EXIT_WORD + 2)?,
             self.byte_at(EXIT_WORD + 3)?,
         ];
-        Some(if processor.big(14) {
-            u32::from_be_bytes(bytes)
-        } else {
-            u32::from_le_bytes(bytes)
-        })
+        Some(word_of(processor.big(14), bytes))
     }
 
     /// The word that ends the run, in the order of its region: stores to all four of its bytes.

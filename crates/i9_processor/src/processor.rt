@@ -66,6 +66,7 @@ fn set_count(sets: Option<u8>, setup: &Setup) -> u8
 
 impl Processor {
     ghost use Rattle.i9_processor.specs.State.{state_of, cache_of, size_of, cells_of, bytes_of, queue_of};
+    ghost use Rattle.i9_processor.specs.Pages.{HasPagesFor};
 
     /// The state after boot, by the image's boot record, with so many sets or as many as its PRCB
     /// asks for (the i960 CA/CF User's Manual, initialization). Nothing is planned, and nothing waits.
@@ -79,6 +80,7 @@ impl Processor {
         ensures cells { IfOk result (λ p. (r : ℕ) → r < resources → cells_of p r ≡ cell (resource (boot (pairs_of image.now)) r) None) }
         ensures bytes { IfOk result (λ p. bytes_of p ≡ (boot (pairs_of image.now)).memory.bytes) }
         ensures queue { IfOk result (λ p. queue_of p ≡ []) }
+        ensures pages { IfOk result (λ p. HasPagesFor p (pairs_of image.now)) }
     {
         let mut memory = Memory::new(alloc);
         load(&mut memory, image)?;

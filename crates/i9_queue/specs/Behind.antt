@@ -2,7 +2,7 @@
 use Rattle.std.specs.Prelude.{ℕ, List}
 use Rattle.i9_model.specs.Memory as model
 use Rattle.i9_model.specs.Late.{Wait}
-use Rattle.i9_memory.specs.Memory.{memory_of, HasRoom, KeepsRoom}
+use Rattle.i9_memory.specs.Memory.{memory_of, HasRoom, KeepsRoom, AddsRoomOnly}
 use Rattle.i9_queue.specs.declared.behind.Behind.{Behind}
 use Rattle.i9_queue.specs.Waits.{settled_over}
 
@@ -25,3 +25,7 @@ HasRoomIn b a n = HasRoom b.memory a n
 -- what could be written still can be
 abbrev pub KeepsRoomIn : Behind → Behind → Type 0
 KeepsRoomIn old new = KeepsRoom old.memory new.memory
+
+-- room is made for the pages of n bytes from an address up alone
+abbrev pub AddsRoomOnlyIn : Behind → Behind → ℕ → ℕ → Type 0
+AddsRoomOnlyIn old new a n = AddsRoomOnly old.memory new.memory a n

@@ -34,6 +34,7 @@ fn land_all(memory: &mut Memory, queue: &mut Queue, turn: u64)
     ensures room { HasRoomFor memory.new (all_puts queue.new) }
     ensures order { AreDueInOrder queue.new }
     ensures keeps { KeepsRoom memory.old memory.new }
+    ensures no_more { KeepsRoom memory.new memory.old }
 {
     while let Some(r) = queue.take_due(turn) {
         memory.store(r.address, r.bytes.as_slice());
@@ -42,7 +43,7 @@ fn land_all(memory: &mut Memory, queue: &mut Queue, turn: u64)
 
 #[tactic(auto, unfolding(crate::specs::Behind::settled), using(crate::proofs::Drained::drained_rules))]
 impl Behind {
-    ghost use Rattle.i9_queue.specs.Behind.{settled, acted, waiting_of, HasRoomIn, KeepsRoomIn};
+    ghost use Rattle.i9_queue.specs.Behind.{settled, acted, waiting_of, HasRoomIn, KeepsRoomIn, AddsRoomOnlyIn};
     ghost use Rattle.i9_queue.specs.Lending.{LendsMemory};
 
     /// Nothing waits.
@@ -51,6 +52,7 @@ impl Behind {
         ensures acted { acted result ≡ memory_of memory }
         ensures queue { waiting_of result ≡ [] }
         ensures room { KeepsRoom memory result.memory }
+        ensures no_more { KeepsRoom result.memory memory }
     {
         Behind {
             memory,
@@ -65,7 +67,8 @@ impl Behind {
         self.queue.is_empty()
     }
 
-    /// Makes room for `n` bytes from `a` up. Memory is refused only where room is lacking.
+    /// Makes room for `n` bytes from `a` up, and for no others but those of their pages. Memory is refused only where
+    /// room is lacking.
     pub fn reserve(&mut self, a: u32, n: u32) -> Result<(), NoMemory>
         ensures settled { settled self.new ≡ settled self.old }
         ensures acted { acted self.new ≡ acted self.old }
@@ -74,6 +77,7 @@ impl Behind {
         ensures needed { OnErr result (0 < n) }
         ensures lacking { OnErr result (HasRoomIn self.old a n → ⊥) }
         ensures keeps { KeepsRoomIn self.old self.new }
+        ensures only { AddsRoomOnlyIn self.old self.new a n }
     {
         self.memory.reserve(a, n)
     }
@@ -89,6 +93,7 @@ impl Behind {
         ensures queue { waiting_of self.new ≡ waiting_of self.old ++ wait_in request ∷ [] }
         ensures settled { settled self.new ≡ with_bytes (settled self.old) request.address request.bytes.items }
         ensures keeps { KeepsRoomIn self.old self.new }
+        ensures no_more { KeepsRoomIn self.new self.old }
     {
         self.queue.put(request);
     }
@@ -101,6 +106,7 @@ impl Behind {
         ensures bytes { (acted self.new).bytes ≡ stored (acted self.old).bytes (due_puts turn (waiting_of self.old)) }
         ensures queue { waiting_of self.new ≡ left_waiting turn (waiting_of self.old) }
         ensures keeps { KeepsRoomIn self.old self.new }
+        ensures no_more { KeepsRoomIn self.new self.old }
     {
         land_all(&mut self.memory, &mut self.queue, turn);
     }
@@ -130,6 +136,7 @@ impl Behind {
         ensures acted { acted self.new ≡ with_bytes (acted self.old) a bytes.now }
         ensures queue { waiting_of self.new ≡ waiting_of self.old }
         ensures keeps { KeepsRoomIn self.old self.new }
+        ensures no_more { KeepsRoomIn self.new self.old }
     {
         self.memory.store(a, bytes);
     }
@@ -143,6 +150,7 @@ impl Behind {
         ensures acted { acted self.new ≡ with_words (acted self.old) a words.now }
         ensures queue { waiting_of self.new ≡ waiting_of self.old }
         ensures keeps { KeepsRoomIn self.old self.new }
+        ensures no_more { KeepsRoomIn self.new self.old }
     {
         self.memory.put_words(a, words);
     }
@@ -155,6 +163,7 @@ impl Behind {
         ensures acted { acted self.new ≡ with_mcon (acted self.old) region mcon }
         ensures queue { waiting_of self.new ≡ waiting_of self.old }
         ensures keeps { KeepsRoomIn self.old self.new }
+        ensures no_more { KeepsRoomIn self.new self.old }
     {
         self.memory.configure(region, mcon);
     }

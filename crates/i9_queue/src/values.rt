@@ -10,7 +10,7 @@ ghost use Rattle.i9_queue.specs.Waits.{settled_over};
 use crate::queue::Queue;
 use arrayvec::ArrayVec;
 use i9_isa::Size;
-use i9_memory::Memory;
+use i9_memory::{Memory, half_of, word_of};
 use i9_model::in_port_page;
 
 /// How many addresses a region has.
@@ -106,11 +106,7 @@ impl Queue {
         ensures { result ≡ half_in (settled_over (memory_of m.now) self.now) a }
     {
         let bytes = [self.mixed_byte(m, a), self.mixed_byte(m, a.wrapping_add(1))];
-        if m.big((a / REGION_SIZE) as u8) {
-            u16::from_be_bytes(bytes)
-        } else {
-            u16::from_le_bytes(bytes)
-        }
+        half_of(m.big((a / REGION_SIZE) as u8), bytes)
     }
 
     /// The two bytes from `a` up, in the order of the region of `a`. Where no waiting store is to one of
@@ -137,11 +133,7 @@ impl Queue {
             self.mixed_byte(m, a.wrapping_add(2)),
             self.mixed_byte(m, a.wrapping_add(3)),
         ];
-        if m.big((a / REGION_SIZE) as u8) {
-            u32::from_be_bytes(bytes)
-        } else {
-            u32::from_le_bytes(bytes)
-        }
+        word_of(m.big((a / REGION_SIZE) as u8), bytes)
     }
 
     /// The four bytes from `a` up, in the order of the region of `a`. Where no waiting store is to one of

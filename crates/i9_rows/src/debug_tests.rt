@@ -233,3 +233,76 @@ fn sets_are_shown(rt: HostRuntime) -> Result<(), Fail> {
     assert_eq!(rt; held(rt.alloc(), &[PRCB], SETS)?, 1);
     Ok(())
 }
+
+/// An event of DMA that meets a hazard ends the run in one step, at the turn at which all is done: a unit of a channel
+/// whose target is in the frame of a call that is not left.
+const HAZARDS: &str = "
+== The unit comes from memory. The call issues at turn 12 and is done at turn 16.
+        mov   4, r4
+        lda   0x2800, r5
+        lda   0x3010, r6
+        sdma  0, 2, r4
+        mov   1, sf2
+        call  f
+f:      mov   0, g0
+at 6 dma 0
+> turn 1000
+debug script
+at 6 dma 0
+#point 6 end 00001020 00000000 001F2002
+#g 15=3040
+#l 0=3000 1=3080
+#end hazard 00003010
+#turn 16 6
+status 4
+-- Turn 16 comes first, and then the end at that turn.
+at 6 dma 0
+> turn 15
+> turn 1
+debug script
+#turn 16 6
+at 6 dma 0
+#point 6 end 00001020 00000000 001F2002
+#g 15=3040
+#l 0=3000 1=3080
+#end hazard 00003010
+#turn 16 6
+status 4
+== A device gives the unit.
+        mov   4, r4
+        lda   0x2800, r5
+        lda   0x3010, r6
+        sdma  0, 18, r4
+        mov   1, sf2
+        call  f
+f:      mov   0, g0
+at 6 feed 0 01020304
+> turn 1000
+debug script
+at 6 feed 0 01020304
+#point 6 end 00001020 00000000 001F2002
+#g 15=3040
+#l 0=3000 1=3080
+#end hazard 00003010
+#turn 16 6
+status 4
+-- It comes before the first instruction that would issue at turn 14 or later, which is the one in the routine.
+turn 14 feed 0 01020304
+> turn 15
+> turn 1
+debug script
+#turn 16 6
+at 6 feed 0 01020304
+#point 6 end 00001020 00000000 001F2002
+#g 15=3040
+#l 0=3000 1=3080
+#end hazard 00003010
+#turn 16 6
+status 4
+";
+
+#[test]
+fn an_event_meets_a_hazard(rt: HostRuntime) -> Result<(), Fail> {
+    assert_eq!(rt; held(rt.alloc(), &[PRCB], HAZARDS)?, 4);
+    Ok(())
+}

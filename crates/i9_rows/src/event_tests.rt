@@ -435,3 +435,89 @@ fn long_schedules_are_refused(rt: HostRuntime) -> Result<(), Fail> {
     );
     Ok(())
 }
+
+/// `sysctl` with message 0 and a vector below 8 sets the check flag, and does nothing else.
+const LOW_VECTORS: &str = "
+== Vector 3 leaves the interrupt table as it is.
+        mov   3, g1
+        sysctl g1, g1, g1
+        mov   0, g0
+at 2 show 2000 8
+run 3
+at 2 show 00002000 8
+#mem 00002000 00 00 00 00 00 00 00 00
+#point 2 event 00001008 00000000 001F2002
+#g 1=3 15=3000
+#l 1=3040
+#point 3 end 0000100C 00000000 001F2002
+#g 1=3 15=3000
+#l 1=3040
+#end limit
+status 0
+== It meets no hazard either: the table is in the port page, where nothing may be written.
+        .org  0x810
+        .word 0xE0000000
+        .org  0x1000
+        mov   3, g1
+        sysctl g1, g1, g1
+        mov   0, g0
+        mov   0, g0
+run 4
+#point 4 end 00001010 00000000 001F2002
+#g 1=3 15=3000
+#l 1=3040
+#end limit
+status 0
+== Vector 8 would write there.
+        .org  0x810
+        .word 0xE0000000
+        .org  0x1000
+        mov   8, g1
+        sysctl g1, g1, g1
+run 4
+#point 1 end 00001004 00000000 001F2002
+#g 1=8 15=3000
+#l 1=3040
+#end hazard E0000000
+status 4
+== Vector 7 leaves its bit clear, and vector 8, at the next byte, sets one.
+        mov   7, g1
+        sysctl g1, 0, g1
+        ldob  0x2004, g3
+        mov   8, g1
+        sysctl g1, 0, g1
+        ldob  0x2005, g4
+run 6
+#point 6 end 00001020 00000000 001F2002
+#g 1=8 4=1 15=3000
+#l 1=3040
+#end limit
+status 0
+== The look at what is asked for meets a hazard, and not the instruction: a live frame lies over the table.
+        .org  0x81C
+        .word 0x1FF0
+        .org  0x1000
+        call  f
+f:      mov   0, g1
+        sysctl g1, 0, g1
+        mov   1, g2
+run 4
+#point 3 end 0000100C 00000000 001F2002
+#g 15=2030
+#l 0=1FF0 1=2070
+#end hazard 00002000
+status 4
+-- At the length there is none.
+run 3
+#point 3 end 0000100C 00000000 001F2002
+#g 15=2030
+#l 0=1FF0 1=2070
+#end limit
+status 0
+";
+
+#[test]
+fn low_vectors_are_not_requested(rt: HostRuntime) -> Result<(), Fail> {
+    assert_eq!(rt; held(rt.alloc(), &[PRCB], LOW_VECTORS)?, 6);
+    Ok(())
+}

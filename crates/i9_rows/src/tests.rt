@@ -1,4 +1,5 @@
 //! The command over files and a sink in memory, at cases worked out by hand.
+use crate::rows::hex_of;
 use i9_outside::{MemFiles, MemSink};
 use i9_tool::i960;
 use std::alloc::Global;
@@ -201,6 +202,34 @@ fn writes_that_fail_leave_the_lines_before(rt: HostRuntime) -> Result<(), Fail> 
             leaves_lines(rt.alloc(), "run a - - 100", PRINTED, row)?,
             "at {row}"
         );
+    }
+    Ok(())
+}
+
+/// Prints a byte, and then goes round for ever.
+const ENDLESS: &str = "
+        .org  0xFFFFFF10
+        .word start
+        .org  0x1000
+start:  lda   0xE0000000, g5
+        stob  g4, (g5)
+again:  b     again
+";
+
+#[test]
+fn a_write_that_fails_ends_the_run_at_once(rt: HostRuntime) -> Result<(), Fail> {
+    // A run to this length takes seconds, so two hundred would take longer than a test may.
+    let alloc = rt.alloc();
+    let image = hex_of(alloc, ENDLESS)?;
+    for _again in 0..100 {
+        for words in ["run a - - 10000000", "trace a - - 10000000 0 FFFFFFFF"] {
+            let case = Case {
+                file: &image,
+                words,
+                printed: "",
+            };
+            assert_eq!(rt; run_with(alloc, &case, 64, 1)?, (6, true), "{words}");
+        }
     }
     Ok(())
 }

@@ -12,3 +12,4 @@ pub mod Marked
 pub mod Pieces
 pub mod ValidCode
 pub mod SomeWords
+pub mod FirstLetters

@@ -1,5 +1,5 @@
 -- Mnemonics.
-use Rattle.std.specs.Prelude.{ℕ, Bool, true, false, List, [], ◌++◌, codes, Option, Some, None, find, if◌then◌else◌}
+use Rattle.std.specs.Prelude.{ℕ, ◌==◌, Bool, true, false, List, [], ◌∷◌, ◌++◌, codes, Option, Some, None, find, if◌then◌else◌}
 use Rattle.std.specs.Option.{option_and_then}
 use Rattle.std.specs.Str.{bytes_eq}
 use Rattle.i9_isa.specs.declared.op.Op.{Op}
@@ -144,6 +144,11 @@ mnemonic Stis = codes "stis"
 -- the name of a mnemonic
 unfoldable pub op_named : List ℕ → Option Op
 op_named s = find (λ op. bytes_eq s (mnemonic op)) names
+
+-- the text begins with this letter
+abbrev pub begins_with : ℕ → List ℕ → Bool
+begins_with letter [] = false
+begins_with letter (c ∷ s) = c == letter
 
 -- `.`
 abbrev pub dot : ℕ

@@ -1,13 +1,13 @@
 //! Addresses of the memory format.
 ghost use Rattle.std.specs.Prelude.{◌≡◌, ◌<◌, IfSome, MatchOption, None, Some};
-ghost use Rattle.std.specs.BTreeMap.{get_by_text};
+ghost use Rattle.i9_value.specs.Known.{known_in};
 ghost use Rattle.i9_value.specs.Cut.{before, from};
 ghost use Rattle.i9_statement.specs.Addresses.{opens, base_named, base_of, scale_of, scaled_register, if_last, index_of, front_of, is_short, mode_of, disp_part, plain_register, base_part, index_part, scale_part, address_by, with_index, with_base, address_behind, address_of};
 
 use crate::parts::{Base, Front, Index};
 use i9_isa::{Ea, Mode, NO_ADDRESS, Operand};
 use i9_value::{
-    Fault, Names, Noted, Value, behind, closed, cut_byte, cut_where, fine, least, register_at,
+    Fault, Known, Noted, Value, behind, closed, cut_byte, cut_where, fine, least, register_at,
     register_place, value_noted, value_of, wrong,
 };
 
@@ -83,8 +83,8 @@ fn index_of(text: &[u8]) -> Option<Index>
 }
 
 /// What stands before the brackets.
-fn front_of(names: &Names, text: &[u8]) -> Front
-    ensures { result ≡ front_of (get_by_text names.now) text.now }
+fn front_of(names: Known<'_>, text: &[u8]) -> Front
+    ensures { result ≡ front_of (known_in names.entry) text.now }
 {
     if text.is_empty() {
         return Front::Absent;
@@ -220,8 +220,8 @@ fn cut_bracket(text: &[u8]) -> (&[u8], &[u8])
 
 /// An address behind `!`, or without it.
 #[tactic(auto, unfolding(crate::specs::Addresses::address_behind))]
-fn address_behind(forced: bool, names: &Names, text: &[u8]) -> Noted<Ea>
-    ensures { result ≡ address_behind forced (get_by_text names.now) text.now }
+fn address_behind(forced: bool, names: Known<'_>, text: &[u8]) -> Noted<Ea>
+    ensures { result ≡ address_behind forced (known_in names.entry) text.now }
 {
     let (front, rest) = cut_bracket(text);
     let front = front_of(names, front);
@@ -237,8 +237,8 @@ fn address_behind(forced: bool, names: &Names, text: &[u8]) -> Noted<Ea>
 
 /// The address that a text says.
 #[tactic(auto, unfolding(crate::specs::Addresses::address_of))]
-pub(crate) fn address_of(names: &Names, text: &[u8]) -> Noted<Ea>
-    ensures { result ≡ address_of (get_by_text names.now) text.now }
+pub(crate) fn address_of(names: Known<'_>, text: &[u8]) -> Noted<Ea>
+    ensures { result ≡ address_of (known_in names.entry) text.now }
 {
     match text {
         [b'!', rest @ ..] => address_behind(true, names, rest),

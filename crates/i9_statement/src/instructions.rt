@@ -2,7 +2,7 @@
 ghost use Rattle.std.specs.Prelude.{◌≡◌, true};
 ghost use Rattle.i9_isa.specs.Table.{row_of};
 ghost use Rattle.i9_isa.specs.Valid.{IsValid};
-ghost use Rattle.std.specs.BTreeMap.{get_by_text};
+ghost use Rattle.i9_value.specs.Known.{known_in};
 ghost use Rattle.i9_statement.specs.Fields.{fields_of, fields_left};
 ghost use Rattle.i9_statement.specs.Instructions.{take_operand, take_address, take_target, left_over, chosen, instruction_of};
 
@@ -12,15 +12,15 @@ use crate::operands::{NO_OPERAND, operand_of};
 use crate::order::{comes_first, first_use, last_use};
 use crate::targets::target_of;
 use i9_isa::{Ea, Format, Inst, NO_ADDRESS, Op, Operand, Row, Use, row};
-use i9_value::{Fault, Names, Noted, fine, least, wrong};
+use i9_value::{Fault, Known, Noted, fine, least, wrong};
 
 /// The operand of a use, where the use has one, and the operands that are left.
 fn take_operand<'a>(
     used: Use,
-    names: &Names,
+    names: Known<'_>,
     fields: Option<&'a [u8]>,
 ) -> (Noted<Operand>, Option<&'a [u8]>)
-    ensures { take_operand used (get_by_text names.now) (fields_left fields.entry) ≡ (result.0, fields_left result.1) }
+    ensures { take_operand used (known_in names.entry) (fields_left fields.entry) ≡ (result.0, fields_left result.1) }
 {
     if used.is_unused() {
         return (fine(NO_OPERAND), fields);
@@ -35,10 +35,10 @@ fn take_operand<'a>(
 /// The address, in the memory format, and the operands that are left.
 fn take_address<'a>(
     format: Format,
-    names: &Names,
+    names: Known<'_>,
     fields: Option<&'a [u8]>,
 ) -> (Noted<Ea>, Option<&'a [u8]>)
-    ensures { take_address format (get_by_text names.now) (fields_left fields.entry) ≡ (result.0, fields_left result.1) }
+    ensures { take_address format (known_in names.entry) (fields_left fields.entry) ≡ (result.0, fields_left result.1) }
 {
     if !matches!(format, Format::Mem) {
         return (fine(NO_ADDRESS), fields);
@@ -55,10 +55,10 @@ fn take_target<'a>(
     used: bool,
     ip: u32,
     format: Format,
-    names: &Names,
+    names: Known<'_>,
     fields: Option<&'a [u8]>,
 ) -> (Noted<i32>, Option<&'a [u8]>)
-    ensures { take_target used ip format (get_by_text names.now) (fields_left fields.entry) ≡ (result.0, fields_left result.1) }
+    ensures { take_target used ip format (known_in names.entry) (fields_left fields.entry) ≡ (result.0, fields_left result.1) }
 {
     if !used {
         return (fine(0), fields);
@@ -89,8 +89,8 @@ fn chosen(first: bool, a: Operand, b: Operand) -> Operand
 
 /// The answer of `instruction_of`.
 #[tactic(auto, unfolding(crate::specs::Instructions::instruction_of))]
-fn read(ip: u32, op: Op, hint: bool, names: &Names, text: &[u8]) -> Noted<Inst>
-    ensures { result ≡ instruction_of ip op hint (get_by_text names.now) (fields_of text.now) }
+fn read(ip: u32, op: Op, hint: bool, names: Known<'_>, text: &[u8]) -> Noted<Inst>
+    ensures { result ≡ instruction_of ip op hint (known_in names.entry) (fields_of text.now) }
 {
     let row = row(op);
     let (a, rest) = take_operand(row.a, names, fields_of(text));
@@ -118,9 +118,15 @@ fn read(ip: u32, op: Op, hint: bool, names: &Names, text: &[u8]) -> Noted<Inst>
 }
 
 /// The instruction at ip that a name and the text of its operands say.
-pub(crate) fn instruction_of(ip: u32, op: Op, hint: bool, names: &Names, text: &[u8]) -> Noted<Inst>
+pub(crate) fn instruction_of(
+    ip: u32,
+    op: Op,
+    hint: bool,
+    names: Known<'_>,
+    text: &[u8],
+) -> Noted<Inst>
     requires { hint ≡ true → (row_of op).hint ≡ true }
-    ensures value { result ≡ instruction_of ip op hint (get_by_text names.now) (fields_of text.now) }
+    ensures value { result ≡ instruction_of ip op hint (known_in names.entry) (fields_of text.now) }
     ensures valid { IsValid result.value }
 {
     read(ip, op, hint, names, text)

@@ -24,7 +24,7 @@ mod targets;
 
 pub use codes::code_of;
 pub use fields::{fields_of, split_field};
-pub use i9_value::{Fault, Names, Noted};
+pub use i9_value::{Fault, Known, Noted};
 pub use laws::{statements_read_back, words_are_one};
 pub use statement_text::add_statement;
 pub use statements::{Statement, statement_of};

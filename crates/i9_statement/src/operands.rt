@@ -1,10 +1,10 @@
 //! Operands of the register and the compare-and-branch format.
 ghost use Rattle.std.specs.Prelude.{◌≡◌};
-ghost use Rattle.std.specs.BTreeMap.{get_by_text};
+ghost use Rattle.i9_value.specs.Known.{known_in};
 ghost use Rattle.i9_statement.specs.Operands.{small_literal, literal, takes_literals, operand_as, operand_of};
 
 use i9_isa::{Operand, Use};
-use i9_value::{Fault, Names, Noted, Value, fine, register_of, value_of, wrong};
+use i9_value::{Fault, Known, Noted, Value, fine, register_of, value_of, wrong};
 
 /// What stands for an operand that is missing or at fault.
 pub(crate) const NO_OPERAND: Operand = Operand::Reg(0);
@@ -40,8 +40,8 @@ fn takes_literals(used: Use) -> bool
 
 /// The operand of a use that a text says.
 #[tactic(auto, unfolding(crate::specs::Operands::operand_of))]
-pub(crate) fn operand_of(used: Use, names: &Names, text: &[u8]) -> Noted<Operand>
-    ensures { result ≡ operand_of used (get_by_text names.now) text.now }
+pub(crate) fn operand_of(used: Use, names: Known<'_>, text: &[u8]) -> Noted<Operand>
+    ensures { result ≡ operand_of used (known_in names.entry) text.now }
 {
     if let Some(operand) = register_of(text) {
         return if used.takes(operand) {

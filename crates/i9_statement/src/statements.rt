@@ -1,7 +1,7 @@
 //! Statements: a mnemonic, operands, and ignored bits in braces.
 ghost use Rattle.std.specs.Prelude.{◌≡◌};
 ghost use Rattle.std.specs.Int.Bits.{bit_and};
-ghost use Rattle.std.specs.BTreeMap.{get_by_text};
+ghost use Rattle.i9_value.specs.Known.{known_in};
 ghost use Rattle.i9_decode.specs.Ignored.{ignored_bits};
 ghost use Rattle.i9_statement.specs.Statements.{if_nothing_left, braced, spare_of, spare_noted, with_spare, statement_by, statement_of};
 ghost use Rattle.i9_isa.specs.Valid.{IsValid};
@@ -12,7 +12,7 @@ use crate::operands::NO_OPERAND;
 use i9_decode::spare_bits;
 use i9_isa::{Inst, NO_ADDRESS, Op};
 use i9_text::{number, split_word};
-use i9_value::{Fault, Names, Noted, behind, closed, cut_blank, cut_byte, fine, least, wrong};
+use i9_value::{Fault, Known, Noted, behind, closed, cut_blank, cut_byte, fine, least, wrong};
 
 /// Digits between braces.
 fn braced(word: &[u8]) -> Option<u32>
@@ -97,8 +97,8 @@ fn with_spare(read: Noted<Inst>, bits: Option<u32>) -> Noted<Statement>
 /// At fault the statement is still one that has words, and its instruction is of the size that was
 /// read.
 #[tactic(auto, unfolding(crate::specs::Statements::statement_of))]
-pub fn statement_of(ip: u32, names: &Names, text: &[u8]) -> Noted<Statement>
-    ensures value { result ≡ statement_of ip (get_by_text names.now) text.now }
+pub fn statement_of(ip: u32, names: Known<'_>, text: &[u8]) -> Noted<Statement>
+    ensures value { result ≡ statement_of ip (known_in names.entry) text.now }
     ensures valid { IsValid result.value.inst }
     ensures ignored { bit_and result.value.spare (ignored_bits result.value.inst) ≡ result.value.spare }
 {

@@ -1,11 +1,11 @@
 //! Branch targets.
 ghost use Rattle.std.specs.Prelude.{◌≡◌};
-ghost use Rattle.std.specs.BTreeMap.{get_by_text};
+ghost use Rattle.i9_value.specs.Known.{known_in};
 ghost use Rattle.i9_isa.specs.Valid.{is_within};
 ghost use Rattle.i9_statement.specs.Targets.{distance, reach, if_reached, target_by, target_of};
 
 use i9_isa::Format;
-use i9_value::{Fault, Names, Noted, Value, fine, value_of, wrong};
+use i9_value::{Fault, Known, Noted, Value, fine, value_of, wrong};
 
 /// How far a target is from an address, modulo 2^32 as a signed number.
 fn distance(ip: u32, target: u32) -> i32
@@ -39,8 +39,8 @@ fn if_reached(format: Format, distance: i32) -> Noted<i32>
 
 /// The displacement from ip to the target that a text says.
 #[tactic(auto, unfolding(crate::specs::Targets::target_of))]
-pub(crate) fn target_of(ip: u32, format: Format, names: &Names, text: &[u8]) -> Noted<i32>
-    ensures { result ≡ target_of ip format (get_by_text names.now) text.now }
+pub(crate) fn target_of(ip: u32, format: Format, names: Known<'_>, text: &[u8]) -> Noted<i32>
+    ensures { result ≡ target_of ip format (known_in names.entry) text.now }
 {
     match value_of(names, text) {
         Some(Value::Number(n) | Value::Named(n)) => if_reached(format, distance(ip, n)),

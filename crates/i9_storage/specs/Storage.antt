@@ -5,8 +5,10 @@ use Rattle.i9_model.specs.Memory.{Memory}
 use Rattle.i9_model.specs.State.{Frames}
 use Rattle.i9_model.specs.HeldFrames.{Cache, overlaid}
 use Rattle.i9_model.specs.Late.{Wait}
-use Rattle.i9_queue.specs.Behind.{acted, waiting_of, HasRoomIn, KeepsRoomIn}
-use Rattle.i9_watch.specs.Watch.{frames_of, spare_of, HasFrameMarks}
+use Rattle.i9_memory.specs.declared.memory.Memory.{Memory as Kept}
+use Rattle.i9_memory.specs.Memory.{KeepsRoom}
+use Rattle.i9_queue.specs.Behind.{acted, waiting_of, HasRoomIn, KeepsRoomIn, AddsRoomOnlyIn}
+use Rattle.i9_watch.specs.Watch.{frames_of, spare_of, HasFrameMarks, HasNoMarks, KeepsMarks, AddsMarksOnly}
 use Rattle.i9_storage.specs.declared.storage.Storage.{Storage}
 use Rattle.i9_storage.specs.Kept.{cache_in}
 
@@ -55,3 +57,25 @@ KeepsFrameSpace old new = (a : ℕ) → HasFrameSpace old a → HasFrameSpace ne
 -- what could be stored still can be
 abbrev pub KeepsSpace : Storage → Storage → Type 0
 KeepsSpace old new = KeepsRoomIn old.behind new.behind
+
+-- ---- what takes memory: the pages of bytes, and those of the marks of frames
+
+-- no page is new
+pub record AddsNone (old new : Storage) : Type 0 where
+  pub bytes : KeepsSpace new old
+  pub marks : KeepsMarks new.watch old.watch
+
+-- a page that is new is one of n bytes from an address up
+pub record AddsBytesOnly (old new : Storage) (a n : ℕ) : Type 0 where
+  pub bytes : AddsRoomOnlyIn old.behind new.behind a n
+  pub marks : KeepsMarks new.watch old.watch
+
+-- and here one of the bytes of a frame, or of their marks
+pub record AddsFrameOnly (old new : Storage) (a : ℕ) : Type 0 where
+  pub bytes : AddsRoomOnlyIn old.behind new.behind a FRAME_SIZE
+  pub marks : AddsMarksOnly old.watch new.watch a
+
+-- the pages of a memory alone are there
+pub record HasPagesOf (memory : Kept) (s : Storage) : Type 0 where
+  pub bytes : KeepsRoom s.behind.memory memory
+  pub marks : HasNoMarks s.watch

@@ -12,7 +12,7 @@ ghost use Rattle.i9_model.specs.HeldFrames.{cache, AreYoungest, holding, taken, 
 ghost use Rattle.i9_model.specs.Late.{due_puts, left_waiting};
 ghost use Rattle.i9_memory.specs.Memory.{memory_of};
 ghost use Rattle.i9_queue.specs.Queue.{wait_in};
-ghost use Rattle.i9_watch.specs.Watch.{frames_of};
+ghost use Rattle.i9_watch.specs.Watch.{frames_of, KeepsMarks};
 ghost use Rattle.i9_frames.specs.Sets.{held};
 ghost use Rattle.i9_storage.specs.Kept.{IsKept, IsKept-prop};
 
@@ -51,7 +51,8 @@ pub struct Storage {
 /// Drops the youngest live frame, where one is live.
 #[tactic(auto, using(crate::proofs::FrameWords::return_rules))]
 fn drop_frame(watch: &mut Watch)
-    ensures { frames_of watch.new ≡ returned (frames_of watch.old) }
+    ensures frames { frames_of watch.new ≡ returned (frames_of watch.old) }
+    ensures no_more { KeepsMarks watch.new watch.old }
 {
     if watch.first_live().is_some() {
         watch.returned();
@@ -61,6 +62,7 @@ fn drop_frame(watch: &mut Watch)
 impl Storage {
     ghost use Rattle.i9_storage.specs.Storage.{cache_of, memory_in, frames_in, size_of, acted_in, waiting_in};
     ghost use Rattle.i9_storage.specs.Storage.{IsDrained, HasSpace, HasFrameSpace, KeepsSpace, KeepsFrameSpace};
+    ghost use Rattle.i9_storage.specs.Storage.{AddsNone, AddsBytesOnly, AddsFrameOnly, HasPagesOf};
 
     /// Memory as it is, with `sets` sets. No frame is saved, and nothing waits.
     pub fn new(alloc: Global, memory: Memory, sets: u8) -> Result<Storage, NoMemory>
@@ -69,6 +71,7 @@ impl Storage {
         ensures frames { IfOk result (λ s. frames_in s ≡ no_frames) }
         ensures size { IfOk result (λ s. size_of s ≡ sets) }
         ensures waiting { IfOk result (λ s. waiting_in s ≡ []) }
+        ensures pages { IfOk result (λ s. HasPagesOf memory s) }
     {
         Ok(Storage {
             behind: Behind::new(memory),
@@ -96,6 +99,7 @@ impl Storage {
         ensures size { size_of self.new ≡ size_of self.old }
         ensures waiting { waiting_in self.new ≡ waiting_in self.old }
         ensures keeps { KeepsSpace self.old self.new }
+        ensures no_more { AddsNone self.old self.new }
     {
         self.behind.store(a, bytes);
         self.watch.wrote(a, bytes.len() as u32);
@@ -117,6 +121,7 @@ impl Storage {
         ensures waiting { waiting_in self.new ≡ waiting_in self.old ++ wait_in request ∷ [] }
         ensures acted { acted_in self.new ≡ acted_in self.old }
         ensures keeps { KeepsSpace self.old self.new }
+        ensures no_more { AddsNone self.old self.new }
     {
         let a = request.address;
         let n = request.bytes.len() as u32;
@@ -135,6 +140,7 @@ impl Storage {
         ensures acted { (acted_in self.new).bytes
             ≡ stored (acted_in self.old).bytes (due_puts turn (waiting_in self.old)) }
         ensures keeps { KeepsSpace self.old self.new }
+        ensures no_more { AddsNone self.old self.new }
     {
         self.behind.land(turn);
     }
@@ -152,6 +158,7 @@ impl Storage {
         ensures size { size_of self.new ≡ size_of self.old }
         ensures waiting { waiting_in self.new ≡ waiting_in self.old }
         ensures keeps { KeepsSpace self.old self.new }
+        ensures no_more { AddsNone self.old self.new }
     {
         hold(&mut self.behind, &mut self.sets, f);
         self.watch.called(f.address);
@@ -167,6 +174,7 @@ impl Storage {
         ensures waiting { waiting_in self.new ≡ waiting_in self.old }
         ensures acted { acted_in self.new ≡ acted_in self.old }
         ensures keeps { KeepsSpace self.old self.new }
+        ensures no_more { AddsNone self.old self.new }
     {
         let _ = self.sets.pop();
         drop_frame(&mut self.watch);
@@ -181,12 +189,14 @@ impl Storage {
         ensures size { size_of self.new ≡ size_of self.old }
         ensures waiting { waiting_in self.new ≡ waiting_in self.old }
         ensures keeps { KeepsSpace self.old self.new }
+        ensures no_more { AddsNone self.old self.new }
     {
         write_back(&mut self.behind, &mut self.sets);
         self.watch.flushed();
     }
 
-    /// Makes space for `n` bytes from `a` up. Memory is refused only where space is lacking.
+    /// Makes space for `n` bytes from `a` up, and for no others but those of their pages. Memory is refused only where
+    /// space is lacking.
     pub fn reserve(&mut self, a: u32, n: u32) -> Result<(), NoMemory>
         ensures cache { cache_of self.new ≡ cache_of self.old }
         ensures frames { frames_in self.new ≡ frames_in self.old }
@@ -198,12 +208,14 @@ impl Storage {
         ensures waiting { waiting_in self.new ≡ waiting_in self.old }
         ensures acted { acted_in self.new ≡ acted_in self.old }
         ensures keeps { KeepsSpace self.old self.new }
+        ensures only { AddsBytesOnly self.old self.new a n }
     {
         self.behind.reserve(a, n)
     }
 
     /// Makes space for a frame at `a`: for its words in memory, so that it can go there whenever it
-    /// has to, and for its save. Memory is refused only where space is lacking.
+    /// has to, and for its save; and for nothing else but what shares their pages. Memory is refused
+    /// only where space is lacking.
     pub fn reserve_frame(&mut self, a: u32) -> Result<(), NoMemory>
         ensures cache { cache_of self.new ≡ cache_of self.old }
         ensures frames { frames_in self.new ≡ frames_in self.old }
@@ -213,6 +225,7 @@ impl Storage {
         ensures waiting { waiting_in self.new ≡ waiting_in self.old }
         ensures acted { acted_in self.new ≡ acted_in self.old }
         ensures keeps { KeepsSpace self.old self.new }
+        ensures only { AddsFrameOnly self.old self.new a }
     {
         self.behind.reserve(a, FRAME_SIZE)?;
         self.watch.reserve(a)
@@ -228,6 +241,7 @@ impl Storage {
         ensures waiting { waiting_in self.new ≡ waiting_in self.old }
         ensures acted { acted_in self.new ≡ acted_in self.old }
         ensures keeps { KeepsSpace self.old self.new }
+        ensures no_more { AddsNone self.old self.new }
     {
         self.sets = sets;
     }

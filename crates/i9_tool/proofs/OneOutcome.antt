@@ -7,7 +7,7 @@ use Rattle.i9_model.specs.declared.event.Timed.{Timed}
 use Rattle.i9_model.specs.declared.run.End.{End}
 use Rattle.i9_text.specs.Text.{lines_of as text_lines}
 use Rattle.i9_model.specs.ScheduleText.{IsSchedule, IsByCounts}
-use Rattle.i9_model.specs.Run.{Record, reached_after}
+use Rattle.i9_model.specs.Run.{Record, reached_after, Finish, reached_last}
 use Rattle.i9_model.specs.PrintedText.{text_of, lines_of, end_lines, end_code}
 use Rattle.i9_model.specs.Image.{Part, pairs_of}
 use Rattle.i9_model.specs.declared.layout.TheConstants.{MAX_LENGTH}
@@ -18,7 +18,7 @@ use Rattle.i9_course.proofs.LateSame.{run_sets}
 use Rattle.i9_dis.proofs.Listed.{one_text as one_listing, by_pairs}
 use Rattle.i9_script.specs.declared.command.Command.{Command as ScriptCommand}
 use Rattle.i9_debug.specs.Lines.{refused_line, generated_line}
-use Rattle.i9_debug.specs.Session.{Place, at}
+use Rattle.i9_debug.specs.Session.{Place, at, end_at}
 use Rattle.i9_generator.specs.Generator.{generated_source, generated_schedule}
 use Rattle.i9_tool.specs.declared.files.FileKind.{FileKind}
 use Rattle.i9_tool.specs.declared.files.FileKind.TheVariants.{Image, Schedule, Source, Script}
@@ -39,12 +39,12 @@ pub record Same (c d : ℕ) (s t : List ℕ) : Type 0 where
   pub text : s ≡ t
 
 -- the same image runs the same
-same_run : (traced : Option Range) (g : Given) (rs qs : List Record) (e f : End) → IsLateRun g rs e → IsLateRun g qs f
-    → Same (end_code e) (end_code f) (printed_text traced g rs e) (printed_text traced g qs f)
+same_run : (traced : Option Range) (g : Given) (rs qs : List Record) (e f : Finish) → IsLateRun g rs e → IsLateRun g qs f
+    → Same (end_code e.end) (end_code f.end) (printed_text traced g rs e) (printed_text traced g qs f)
 same_run traced g rs qs e f a b =
     let end = late_end g rs qs e f a b in
     let records = late_records g rs qs e f a b in
-    record { status = ap end_code end; text = ap (λ (x : List Record). printed_text traced g x e) records ∙ ap (printed_text traced g qs) end }
+    record { status = ap (λ (x : Finish). end_code x.end) end; text = ap (λ (x : List Record). printed_text traced g x e) records ∙ ap (printed_text traced g qs) end }
 
 -- one status and one text, but for those of a file that was not read
 abbrev Once : (ℕ → List ℕ → Type 0) → Type 0
@@ -61,7 +61,7 @@ once_run sets limit traced pairs events c d s t p q (runs rs e run) (runs us f o
 once_script : (sets : Option ℕ) (pairs : List (ℕ × ℕ)) (events : List Timed) (commands : List ScriptCommand) → Once (ScriptGives sets pairs events commands)
 once_script sets pairs events commands c d s t p q (drives x last is) (drives y other is') =
     let same = one_text (given pairs events MAX_LENGTH sets) commands (at [] 1) last other x y is is' in
-    record { status = ap (λ (z : Place). driven_code z.end) same.1; text = same.0 }
+    record { status = ap (λ (z : Place). driven_code (end_at z)) same.1; text = same.0 }
 
 once_asm : (image : List Part) → Once (AsmGives image)
 once_asm image c d s t p q assembled assembled = record { status = refl; text = refl }
@@ -83,16 +83,16 @@ once_dis : (pairs : List (ℕ × ℕ)) → Once (DisGives pairs)
 once_dis pairs c d s t p q (listed image _ says h) (listed other _ says' g) = record { status = refl; text = one_listing image s t h (by_pairs other image t (says' ∙ sym says) g) }
 
 -- one run comes to one line
-same_line : (number : ℕ) (g : Given) (rs qs : List Record) (e f : End) → IsLateRun g rs e → IsLateRun g qs f → Same (end_code e) (end_code f) (job_line number g rs e) (job_line number g qs f)
+same_line : (number : ℕ) (g : Given) (rs qs : List Record) (e f : Finish) → IsLateRun g rs e → IsLateRun g qs f → Same (end_code e.end) (end_code f.end) (job_line number g rs e) (job_line number g qs f)
 same_line number g rs qs e f a b =
     let end = late_end g rs qs e f a b in
     let records = late_records g rs qs e f a b in
-    record { status = ap end_code end; text = ap (λ (x : List Record). job_line number g x e) records ∙ ap (job_line number g qs) end }
+    record { status = ap (λ (x : Finish). end_code x.end) end; text = ap (λ (x : List Record). job_line number g x e) records ∙ ap (job_line number g qs) end }
 
 -- so do two of what is the same
-same_job : (number : ℕ) (g h : Given) (rs qs : List Record) (e f : End) → g ≡ h → IsLateRun g rs e → IsLateRun h qs f → Same (end_code e) (end_code f) (job_line number g rs e) (job_line number h qs f)
+same_job : (number : ℕ) (g h : Given) (rs qs : List Record) (e f : Finish) → g ≡ h → IsLateRun g rs e → IsLateRun h qs f → Same (end_code e.end) (end_code f.end) (job_line number g rs e) (job_line number h qs f)
 same_job number g h rs qs e f same a b =
-    subst (λ (k : Given). IsLateRun k qs f → Same (end_code e) (end_code f) (job_line number g rs e) (job_line number k qs f)) same (same_line number g rs qs e f a) b
+    subst (λ (k : Given). IsLateRun k qs f → Same (end_code e.end) (end_code f.end) (job_line number g rs e) (job_line number k qs f)) same (same_line number g rs qs e f a) b
 
 once_job : (number : ℕ) (sets : Option ℕ) (source schedule : List ℕ) → Once (JobGives number sets source schedule)
 once_job number sets source schedule c d s t p q (job_source_refused f bad) (job_source_refused g bad') =
@@ -144,10 +144,10 @@ module _ (told : List ℕ → Option (List ℕ)) (rose : List ℕ → Type 0) wh
 
 -- ---- what is printed of a run does not depend on the number of sets
 
-other_run : (ps : List (ℕ × ℕ)) (ts : List Timed) (limit : ℕ) (sets others : Option ℕ) (rs : List Record) (e : End) → IsByCounts ts → IsLateRun (given ps ts limit sets) rs e → IsLateRun (given ps ts limit others) rs e
+other_run : (ps : List (ℕ × ℕ)) (ts : List Timed) (limit : ℕ) (sets others : Option ℕ) (rs : List Record) (e : Finish) → IsByCounts ts → IsLateRun (given ps ts limit sets) rs e → IsLateRun (given ps ts limit others) rs e
 other_run ps ts limit sets others rs e counted run = (run_sets (given ps ts limit sets) others rs e counted).1 run
 
-other_text : (traced : Option Range) (ps : List (ℕ × ℕ)) (ts : List Timed) (limit : ℕ) (sets others : Option ℕ) (rs : List Record) (e : End)
+other_text : (traced : Option Range) (ps : List (ℕ × ℕ)) (ts : List Timed) (limit : ℕ) (sets others : Option ℕ) (rs : List Record) (e : Finish)
     → printed_text traced (given ps ts limit others) rs e ≡ printed_text traced (given ps ts limit sets) rs e
 other_text None ps ts limit sets others rs e =
     ap (λ (s : State). text_of (lines_of rs ++ end_lines s e)) (state_by (given ps ts limit sets) (given ps ts limit others) rs refl)
@@ -157,7 +157,7 @@ other_text (Some range) ps ts limit sets others rs e =
 other_sets : (sets others : Option ℕ) (limit : ℕ) (traced : Option Range) (ps : List (ℕ × ℕ)) (ts : List Timed) (code : ℕ) (text : List ℕ)
     → IsByCounts ts → RunGives sets limit traced ps ts code text → RunGives others limit traced ps ts code text
 other_sets sets others limit traced ps ts code text counted (runs rs e run) =
-    subst (RunGives others limit traced ps ts (end_code e)) (other_text traced ps ts limit sets others rs e)
+    subst (RunGives others limit traced ps ts (end_code e.end)) (other_text traced ps ts limit sets others rs e)
     (runs rs e (other_run ps ts limit sets others rs e counted run))
 
 -- by a schedule by counts
@@ -184,9 +184,9 @@ other_job number sets others source schedule code text counted (job_source_refus
 other_job number sets others source schedule code text counted (job_schedule_refused i f made bad) = job_schedule_refused i f made bad
 other_job number sets others source schedule code text counted (job_runs i ts rs e made says run) =
     let ps = pairs_of i in
-    let line = λ (s : State). generated_line number s.count (length (reached_after rs)) e in
+    let line = λ (s : State). generated_line number s.count (length (reached_after rs ++ reached_last s.count e.event)) e.end in
     let same = state_by (given ps ts MAX_LENGTH sets) (given ps ts MAX_LENGTH others) rs refl in
-    subst (JobGives number others source schedule (end_code e)) (ap line same) (job_runs i ts rs e made says (other_run ps ts MAX_LENGTH sets others rs e (counted ts says) run))
+    subst (JobGives number others source schedule (end_code e.end)) (ap line same) (job_runs i ts rs e made says (other_run ps ts MAX_LENGTH sets others rs e (counted ts says) run))
 
 pub job_same_in_sets : (told : List ℕ → Option (List ℕ)) (rose : List ℕ → Type 0) (number : ℕ) (sets others : Option ℕ) (code : ℕ) (text : List ℕ)
     → Gives told rose (Some (Gen number sets)) code text → Gives told rose (Some (Gen number others)) code text

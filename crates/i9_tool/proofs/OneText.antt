@@ -3,7 +3,7 @@ use Rattle.std.proofs.Common.{◌≡◌, ℕ, ◌+◌, ◌<◌, ◌≤◌, true,
 use Rattle.i9_model.specs.declared.run.End.{End}
 use Rattle.i9_model.specs.Late.{turns as late_turns}
 use Rattle.i9_model.specs.PrintedText.{text_of, lines_of}
-use Rattle.i9_model.specs.Run.{Given, Record, Does}
+use Rattle.i9_model.specs.Run.{Given, Record, Does, Finish}
 use Rattle.i9_model.specs.Turns.{last_issue}
 use Rattle.i9_course.specs.Course.{Item, course, ahead, IsCourse}
 use Rattle.i9_course.specs.LateRun.{end_ahead, finish_by, ended_by}
@@ -59,7 +59,7 @@ module _ (g : Given) (h : List Item) (rs : List Record) where
       omega (arith, same, before, order)
 
   -- nothing goes on from an end
-  none_behind : (f : End) (m : Record) (more : List Record) → end_ahead g (steps_on rs h) ≡ Some f → ¬ Goes (m ∷ more)
+  none_behind : (f : Finish) (m : Record) (more : List Record) → end_ahead g (steps_on rs h) ≡ Some f → ¬ Goes (m ∷ more)
   none_behind f m [] is c =
       let none : end_ahead g (steps_on rs h) ≡ None = ap (λ (o : Option ℕ). finish_by o (ahead g (steps_on rs h)).next) c.1 ∙ ap ended_by c.2 in
       cc (sym is ∙ none)
@@ -88,7 +88,7 @@ module _ (g : Given) (h : List Item) (Stops : List Record → Type 0)
 abbrev Same : List ℕ → List ℕ → Place → Place → Type 0
 Same x y p q = (x ≡ y) × (p ≡ q)
 
-one_end : (e f : End) → ◌≡◌ {A = Option End} (Some e) (Some f) → e ≡ f
+one_end : (e f : Finish) → ◌≡◌ {A = Option Finish} (Some e) (Some f) → e ≡ f
 one_end e f h = cc
 
 -- ---- up to a turn
@@ -97,7 +97,7 @@ module _ (g : Given) (h : List Item) (u : ℕ) where
   -- nothing more issues below it, or the end comes below it
   data StopsAt (rs : List Record) : Type 0 where
     passes : IssueBelow g h u rs → StopsAt rs
-    finishes : (f : End) → EndsBehind g h rs f → turn_ahead g (steps_on rs h) < u → StopsAt rs
+    finishes : (f : Finish) → EndsBehind g h rs f → turn_ahead g (steps_on rs h) < u → StopsAt rs
 
   stop_past : (rs : List Record) → StopsAt rs → IsCourse g (steps_on rs h)
   stop_past rs (passes b) = b.past
@@ -136,7 +136,7 @@ module _ (g : Given) (h : List Item) (u : ℕ) where
   one_turns x y p q (turns_end rs f e low) (turns_end qs k d down) =
       let same = same_pass rs qs (finishes f e low) (finishes k d down) in
       let end = one_end f k (sym e.is_end ∙ ap (λ (xs : List Record). end_ahead g (steps_on xs h)) same ∙ d.is_end) in (
-        ap (λ (xs : List Record). text_of (ending_lines g h xs f)) same ∙ ap (λ (z : End). text_of (ending_lines g h qs z)) end,
+        ap (λ (xs : List Record). text_of (ending_lines g h xs f)) same ∙ ap (λ (z : Finish). text_of (ending_lines g h qs z)) end,
         ap (λ (xs : List Record). ended (steps_on xs h) (turn_ahead g (steps_on xs h)) f) same ∙ ap (ended (steps_on qs h) (turn_ahead g (steps_on qs h))) end,
       )
 
@@ -146,7 +146,7 @@ module _ (g : Given) (h : List Item) (a : ℕ) where
   -- the newest record comes to it, or the end is behind them
   data Arrives : List Record → Type 0 where
     there : (r : Record) (rs : List Record) → IsCourse g (steps_on (r ∷ rs) h) → NoneComesTo a rs → comes_to a r ≡ true → Arrives (r ∷ rs)
-    nowhere : (rs : List Record) (f : End) → EndsBehind g h rs f → NoneComesTo a rs → Arrives rs
+    nowhere : (rs : List Record) (f : Finish) → EndsBehind g h rs f → NoneComesTo a rs → Arrives rs
 
   come_past : (rs : List Record) → Arrives rs → IsCourse g (steps_on rs h)
   come_past _ (there r rs past none is) = past
@@ -197,7 +197,7 @@ module _ (g : Given) (h : List Item) (a : ℕ) where
   one_comes x y p q (none_comes rs f e none) (none_comes qs k d none') =
       let same = same_come rs qs (nowhere rs f e none) (nowhere qs k d none') in
       let end = one_end f k (sym e.is_end ∙ ap (λ (xs : List Record). end_ahead g (steps_on xs h)) same ∙ d.is_end) in (
-        ap (λ (xs : List Record). text_of (ending_lines g h xs f)) same ∙ ap (λ (z : End). text_of (ending_lines g h qs z)) end,
+        ap (λ (xs : List Record). text_of (ending_lines g h xs f)) same ∙ ap (λ (z : Finish). text_of (ending_lines g h qs z)) end,
         ap (λ (xs : List Record). ended (steps_on xs h) (turn_ahead g (steps_on xs h)) f) same ∙ ap (ended (steps_on qs h) (turn_ahead g (steps_on qs h))) end,
       )
 
@@ -206,7 +206,7 @@ module _ (g : Given) (h : List Item) (a : ℕ) where
 one_stay : (p q r : Place) (x y : List ℕ) → Stays p x q → Stays p y r → Same x y q r
 one_stay p q r x y s t = (s.0 ∙ sym t.0, s.1 ∙ sym t.1)
 
-unless_once : (e : Option End) (p q r : Place) (x y : List ℕ) (goes : List ℕ → Place → Type 0)
+unless_once : (e : Option Finish) (p q r : Place) (x y : List ℕ) (goes : List ℕ → Place → Type 0)
     → (goes x q → goes y r → Same x y q r) → UnlessOver e (goes x q) (Stays p x q) → UnlessOver e (goes y r) (Stays p y r) → Same x y q r
 unless_once None p q r x y goes once s t = once s t
 unless_once (Some f) p q r x y goes once s t = one_stay p q r x y s t

@@ -7,7 +7,7 @@ use Rattle.i9_model.specs.declared.event.Timed.{Timed}
 use Rattle.i9_model.specs.Given.{given}
 use Rattle.i9_model.specs.Image.{Part, pairs_of}
 use Rattle.i9_model.specs.declared.layout.TheConstants.{MAX_LENGTH}
-use Rattle.i9_model.specs.Run.{state_after}
+use Rattle.i9_model.specs.Run.{state_after, Finish, reached_in}
 use Rattle.i9_asm.specs.Laws.{IsAssembly}
 use Rattle.i9_model.specs.declared.run.End.{End}
 use Rattle.i9_model.specs.declared.run.End.TheVariants.{Exit, Limit, Hazard, Dead, Imprecise}
@@ -23,7 +23,7 @@ use Rattle.i9_debug.specs.declared.print.Printed.{Printed}
 use Rattle.i9_debug.specs.declared.sessions.SessionEnd.{SessionEnd}
 use Rattle.i9_debug.specs.Lines.{refused_line, generated_line}
 use Rattle.i9_debug.specs.Print.{Account, Prints}
-use Rattle.i9_debug.specs.Session.{at}
+use Rattle.i9_debug.specs.Session.{at, end_at}
 use Rattle.i9_debug.specs.Driven.{RunsScript, printed_of as session_printed}
 use Rattle.i9_debug.proofs.Prints.{prints_same}
 use Rattle.i9_debug.proofs.Commands.{script_leads}
@@ -77,7 +77,7 @@ some_run sets limit traced pairs events =
     let g = given pairs events limit sets in
     let later = late_goes_on g [] tt in
     let records = later.0 ++ [] in
-    (end_code later.1, printed_text traced g records later.1, runs records later.1 later.2)
+    (end_code later.1.end, printed_text traced g records later.1, runs records later.1 later.2)
 
 -- the text of a script from the first turn of a run on
 pub some_commands : (sets : Option ℕ) (pairs : List (ℕ × ℕ)) (events : List Timed) (commands : List ScriptCommand) → IsInLimits commands → SomeFor (ScriptGives sets pairs events commands)
@@ -85,7 +85,7 @@ some_commands sets pairs events commands limits =
     let g = given pairs events MAX_LENGTH sets in
     let ranges = recursion_from_All IsCommandInRange commands limits.each in
     let leads = script_leads g commands (at [] 1) ranges (tt, omega arith) in
-    (driven_code leads.1.end, leads.0, drives leads.0 leads.1 leads.2)
+    (driven_code (end_at leads.1), leads.0, drives leads.0 leads.1 leads.2)
 
 pub some_script : (sets : Option ℕ) (pairs : List (ℕ × ℕ)) (events : List Timed) (file : List ℕ) (commands : List ScriptCommand) → IsAccepted Script file commands
     → SomeFor (ScriptGives sets pairs events commands)
@@ -139,7 +139,7 @@ some_job_run number sets source schedule image made =
           let g = given (pairs_of image) says.0 MAX_LENGTH sets in
           let later = late_goes_on g [] tt in
           let records = later.0 ++ [] in
-          (end_code later.1, job_line number g records later.1, job_runs image says.0 records later.1 made says.1 later.2)
+          (end_code later.1.end, job_line number g records later.1, job_runs image says.0 records later.1 made says.1 later.2)
       | inr bad ↦ (3, refused_line (word_of Schedule) bad.0, job_schedule_refused image bad.0 made bad.1)
     ]
 
@@ -222,17 +222,17 @@ module _ {K : Type 0} (k : Account K) where
 
   -- an image ran
   pub image_runs : (sets : Option ℕ) (limit : ℕ) (traced : Option Range) (pairs : List (ℕ × ℕ)) (events : List Timed) (ran : Ran) (code : ℕ) (a b : K)
-      → (r : Runs ran traced (given pairs events limit sets) k a b) → code ≡ code_for (printed_of ran) (end_code r.end)
+      → (r : Runs ran traced (given pairs events limit sets) k a b) → code ≡ code_for (printed_of ran) (end_code r.finish.end)
       → Answers (RunGives sets limit traced pairs events) code k a b
   image_runs sets limit traced pairs events ran code a b r e =
-      answers_with (RunGives sets limit traced pairs events) (printed_of ran) (end_code r.end) code _ a b (known_finish r.end) (runs r.records r.end r.run) r.prints e
+      answers_with (RunGives sets limit traced pairs events) (printed_of ran) (end_code r.finish.end) code _ a b (known_finish r.finish.end) (runs r.records r.finish r.run) r.prints e
 
   -- a script drove one
   pub script_runs : (sets : Option ℕ) (pairs : List (ℕ × ℕ)) (events : List Timed) (commands : List ScriptCommand) (answer : SessionEnd) (code : ℕ) (a b : K) (m : Machine) (plan : Plan)
-      → (r : RunsScript answer (given pairs events MAX_LENGTH sets) (at [] 1) commands k a b m plan) → code ≡ code_for (session_printed answer) (driven_code r.drives.last.end)
+      → (r : RunsScript answer (given pairs events MAX_LENGTH sets) (at [] 1) commands k a b m plan) → code ≡ code_for (session_printed answer) (driven_code (end_at r.drives.last))
       → Answers (ScriptGives sets pairs events commands) code k a b
   script_runs sets pairs events commands answer code a b m plan r e =
-      answers_with (ScriptGives sets pairs events commands) (session_printed answer) (driven_code r.drives.last.end) code r.drives.text a b (known_driven r.drives.last.end)
+      answers_with (ScriptGives sets pairs events commands) (session_printed answer) (driven_code (end_at r.drives.last)) code r.drives.text a b (known_driven (end_at r.drives.last))
       (drives r.drives.text r.drives.last r.drives.is_text) r.drives.prints e
 
   -- the image of a job ran
@@ -241,8 +241,12 @@ module _ {K : Type 0} (k : Account K) where
       → Prints p k a b (generated_line number counted.count counted.events counted.end) → code ≡ code_for p (end_code counted.end)
       → Answers (JobGives number sets source schedule) code k a b
   job_counted number sets source schedule image events counted p code a b made says c printed e =
-      let same = ap (λ (n : ℕ). generated_line number n counted.events counted.end) c.count ∙ ap (λ (n : ℕ). generated_line number (state_after (given (pairs_of image) events MAX_LENGTH sets) c.records).count n counted.end) c.events in
-      answers_line (JobGives number sets source schedule) p (end_code counted.end) code _ _ a b (known_finish counted.end) (job_runs image events c.records counted.end made says c.run) same printed e
+      let g = given (pairs_of image) events MAX_LENGTH sets in
+      let same = ap (λ (n : ℕ). generated_line number n counted.events counted.end) c.count
+      ∙ ap (λ (n : ℕ). generated_line number (state_after g c.records).count n counted.end) c.events
+      ∙ ap (generated_line number (state_after g c.records).count (length (reached_in g c.records c.finish))) c.end in
+      answers_line (JobGives number sets source schedule) p (end_code c.finish.end) code _ _ a b (known_finish c.finish.end)
+      (job_runs image events c.records c.finish made says c.run) same printed (e ∙ ap (λ (x : End). code_for p (end_code x)) c.end)
 
   -- the line of a refusal was printed
   pub answers_refusal : (kind : FileKind) (fault : ℕ × ℕ) (p : Printed) (status code : ℕ) (word : List ℕ) (a b : K) → word ≡ word_of kind → code ≡ refusal_of kind

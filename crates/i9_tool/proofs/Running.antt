@@ -4,7 +4,7 @@ use Rattle.std.proofs.lemmas.List.{append-nil}
 use Rattle.i9_model.specs.State.{State}
 use Rattle.i9_model.specs.Step.{first_word}
 use Rattle.i9_model.specs.declared.run.End.{End}
-use Rattle.i9_model.specs.Run.{Given, Kind, Instruction, Faulted, Entered, Interrupted, Reached, Blocked, Record, counts_of, state_after}
+use Rattle.i9_model.specs.Run.{Given, Kind, Instruction, Faulted, Entered, Interrupted, Reached, Record, counts_of, state_after, Finish, finish}
 use Rattle.i9_model.specs.PrintedText.{text_of, lines_of, record_lines, end_lines, run_text}
 use Rattle.i9_model.proofs.Lines.{text_of-append}
 use Rattle.i9_course.specs.LateRun.{steps, IsLatePast, finish_after}
@@ -44,7 +44,7 @@ nothing_more text ls none = ap (λ (x : List Line). text ++ flat_map line_text x
 
 -- ---- where printing stopped before its end
 
-tells_cut : (answer : Ran) (e : End) → IsCut answer → TellsEnd answer e
+tells_cut : (answer : Ran) (e : Finish) → IsCut answer → TellsEnd answer e
 tells_cut (ran.Done end) e cut = absurd cut
 tells_cut ran.Write e cut = tt
 tells_cut ran.Memory e cut = tt
@@ -68,7 +68,6 @@ told_issued answer (Faulted inst fault) s t h = told_issue answer _ s t h
 told_issued answer (Entered e) s t h = absurd h
 told_issued answer (Interrupted c e) s t h = absurd h
 told_issued answer (Reached e u) s t h = absurd h
-told_issued answer (Blocked e a) s t h = absurd h
 
 -- what is no instruction has no line
 told_on : (answer : Bool) (kind : Kind) (s : State) → TellsRecord kind s turns.On → turn_text answer turns.On ≡ issued_line (λ a. answer) s (issued_words kind)
@@ -77,7 +76,6 @@ told_on answer (Faulted inst fault) s h = absurd h
 told_on answer (Entered e) s h = refl
 told_on answer (Interrupted c e) s h = refl
 told_on answer (Reached e u) s h = refl
-told_on answer (Blocked e a) s h = refl
 
 -- ---- an answer that is allowed at the instruction of a step is allowed at its record
 
@@ -88,7 +86,6 @@ module _ (allows : ℕ → Bool → Type 0) where
   allowed_issued answer (Entered e) s t h allowed = absurd h
   allowed_issued answer (Interrupted c e) s t h allowed = absurd h
   allowed_issued answer (Reached e u) s t h allowed = absurd h
-  allowed_issued answer (Blocked e a) s t h allowed = absurd h
 
   allowed_on : (answer : Bool) (kind : Kind) (s : State) → TellsRecord kind s turns.On → counts_of kind ≡ 1 → allows s.ip answer
   allowed_on answer (Instruction i) s h one = absurd h
@@ -96,7 +93,6 @@ module _ (allows : ℕ → Bool → Type 0) where
   allowed_on answer (Entered e) s h one = absurd (omega (arith, one))
   allowed_on answer (Interrupted c e) s h one = absurd (omega (arith, one))
   allowed_on answer (Reached e u) s h one = absurd (omega (arith, one))
-  allowed_on answer (Blocked e a) s h one = absurd (omega (arith, one))
 
   module _ (g : Given) (rs : List Record) (before : Machine) where
     -- the text of a step is that of its record
@@ -145,14 +141,14 @@ module _ (allows : ℕ → Bool → Type 0) where
 
     -- the text of the end's step
     end_text : (answer : Bool) (e : End) (m : Machine) (plan : Plan) (ls : List Line)
-        → Comes g (steps rs) (turns.End e) before m plan [] ls
-        → step_text answer (turns.End e) ls ≡ text_of (end_lines (state_after g rs) e)
+        → (a : Comes g (steps rs) (turns.End e) before m plan [] ls)
+        → step_text answer (turns.End e) ls ≡ text_of (end_lines (state_after g rs) a.finish)
     end_text answer e m plan ls a =
-        lines-text ls ∙ ap text_of a.lines ∙ ap (λ (qs : List Record). text_of (end_lines (state_after g qs) e)) (records_of-steps rs)
+        lines-text ls ∙ ap text_of a.lines ∙ ap (λ (qs : List Record). text_of (end_lines (state_after g qs) a.finish)) (records_of-steps rs)
 
     -- the end lies ahead
-    ends : (e : End) (m : Machine) (plan : Plan) (ls : List Line) → Comes g (steps rs) (turns.End e) before m plan [] ls
-        → finish_after g rs ≡ Some e
+    ends : (e : End) (m : Machine) (plan : Plan) (ls : List Line) → (a : Comes g (steps rs) (turns.End e) before m plan [] ls)
+        → finish_after g rs ≡ Some a.finish
     ends e m plan ls a = a.is_end
 
   module _ (g : Given) {K : Type 0} (k : Account K) where
@@ -194,8 +190,8 @@ module _ (allows : ℕ → Bool → Type 0) where
         past = past;
         text = text;
         traced = traced;
-        rest = text_of (end_lines (state_after g rs) e);
-        stops = at_end answer e (ends g rs before e m plan ls d) (tells_cut answer e cut);
+        rest = text_of (end_lines (state_after g rs) d.finish);
+        stops = at_end answer d.finish (ends g rs before e m plan ls d) (tells_cut answer d.finish cut);
         prints = prints_same k (printed_of answer) a b _ _ (ap (λ (t : List ℕ). text ++ t) (end_text g rs before passes e m plan ls d)) p;
       }
       in_step answer text passes turns.Memory m plan ls a b cut past d traced allowed p =
@@ -227,8 +223,8 @@ module _ (allows : ℕ → Bool → Type 0) where
         past = past;
         text = text;
         traced = traced;
-        rest = text_of (end_lines (state_after g rs) e);
-        stops = at_end (ran.Done e) e (ends g rs before e m plan ls d) refl;
+        rest = text_of (end_lines (state_after g rs) d.finish);
+        stops = at_end (ran.Done e) d.finish (ends g rs before e m plan ls d) (sym d.answers);
         prints = prints_same k Done a b _ _ (ap (λ (t : List ℕ). text ++ t) (end_text g rs before passes e m plan ls d)) p;
       }
 
@@ -245,7 +241,6 @@ module _ (allows : ℕ → Bool → Type 0) (passes : ℕ → Bool) (agree : Ans
   same_line answer (Entered e) s allowed = refl
   same_line answer (Interrupted c e) s allowed = refl
   same_line answer (Reached e u) s allowed = refl
-  same_line answer (Blocked e a) s allowed = refl
 
   same_lines : (rs : List Record) (text : List ℕ) → TracedBy allows rs text → text ≡ traced_lines passes rs
   same_lines [] text traced_none = refl
@@ -266,7 +261,7 @@ module _ (allows : ℕ → Bool → Type 0) (passes : ℕ → Bool) (agree : Ans
         → Prints (printed_of answer) k a b (text ++ rest) → RunsAs (traced_text passes) answer g k a b
     whole_run answer rs text rest a b past same (at_end _ e ends tells) p = record {
       records = rs;
-      end = e;
+      finish = e;
       run = record { past = past; ends = ends };
       prints = prints_same k (printed_of answer) a b _ _ (ap (λ (t : List ℕ). t ++ text_of (end_lines (state_after g rs) e)) same) p;
       tells = tells;
@@ -279,7 +274,7 @@ module _ (allows : ℕ → Bool → Type 0) (passes : ℕ → Bool) (agree : Ans
         ap (λ (t : List ℕ). t ++ (l.0 ++ last)) (append-nil text ∙ same) ∙ sym (append_assoc (traced_lines passes rs) l.0 last) ∙ ap (λ (t : List ℕ). t ++ last) (sym l.1) in
         record {
           records = on.0 ++ rs;
-          end = on.1;
+          finish = on.1;
           run = on.2;
           prints = prints_same k (printed_of answer) a b _ _ goes_on (prints_stop k (printed_of answer) a b _ (l.0 ++ last) (not_done answer cut) p);
           tells = tells_cut answer on.1 cut;
@@ -306,7 +301,7 @@ none_traced (r ∷ rs) =
     no_line s None = refl
     no_line s (Some n) = refl
 
-untraced_text : (g : Given) (rs : List Record) (f : End) → traced_text (λ a. false) g rs f ≡ run_text g rs f
+untraced_text : (g : Given) (rs : List Record) (f : Finish) → traced_text (λ a. false) g rs f ≡ run_text g rs f
 untraced_text g rs f =
     ap (λ (t : List ℕ). t ++ text_of (end_lines (state_after g rs) f)) (none_traced rs) ∙ sym (text_of-append (lines_of rs) (end_lines (state_after g rs) f))
 
@@ -315,4 +310,4 @@ pub runs_unranged : (allows : ℕ → Bool → Type 0) {K : Type 0} (k : Account
 runs_unranged allows k g answer traced a b e traces agree =
     let h = whole allows (λ a. false) agree k g answer a b traces in
     subst (λ (o : Option Range). Runs answer o g k a b) (sym e)
-    (record { records = h.records; end = h.end; run = h.run; prints = prints_same k (printed_of answer) a b _ _ (untraced_text g h.records h.end) h.prints; tells = h.tells })
+    (record { records = h.records; finish = h.finish; run = h.run; prints = prints_same k (printed_of answer) a b _ _ (untraced_text g h.records h.finish) h.prints; tells = h.tells })

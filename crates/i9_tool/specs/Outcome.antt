@@ -6,7 +6,7 @@ use Rattle.i9_text.specs.Text.{lines_of}
 use Rattle.i9_model.specs.declared.event.Timed.{Timed}
 use Rattle.i9_model.specs.Given.{Given, given}
 use Rattle.i9_model.specs.declared.run.End.{End}
-use Rattle.i9_model.specs.Run.{Record, state_after, reached_after}
+use Rattle.i9_model.specs.Run.{Record, state_after, Finish, reached_in}
 use Rattle.i9_model.specs.PrintedText.{end_code}
 use Rattle.i9_model.specs.Image.{Part, pairs_of}
 use Rattle.i9_model.specs.declared.layout.TheConstants.{MAX_LENGTH}
@@ -22,7 +22,7 @@ use Rattle.i9_tool.specs.FileKinds.{File, Value, IsAccepted, IsFaulty, word_of, 
 use Rattle.i9_tool.specs.CommandLine.{Command, Run, Asm, Dis, Gen, Driver, ByLength, ByScript, files_of, command_of, words_line, read_line, long_line}
 use Rattle.i9_tool.specs.Fetches.{rose_in}
 use Rattle.i9_debug.specs.Lines.{refused_line, generated_line}
-use Rattle.i9_debug.specs.Session.{Place, at, IsText}
+use Rattle.i9_debug.specs.Session.{Place, at, IsText, end_at}
 use Rattle.i9_tool.specs.declared.words.Range.{Range}
 use Rattle.i9_tool.specs.Traced.{printed_text}
 use Rattle.i9_generator.specs.Generator.{generated_source, generated_schedule}
@@ -53,8 +53,8 @@ pub data FileGives (kind : FileKind) (after : Value kind → ℕ → List ℕ �
 -- it is the run of the machine that does one instruction after the other, but that an arithmetic fault which the next
 -- instruction overtakes ends it, named as imprecise.
 pub data RunGives (sets : Option ℕ) (limit : ℕ) (traced : Option Range) (pairs : List (ℕ × ℕ)) (events : List Timed) : ℕ → List ℕ → Type 0 where
-  runs : (records : List Record) (end : End) → IsLateRun (given pairs events limit sets) records end
-      → RunGives sets limit traced pairs events (end_code end) (printed_text traced (given pairs events limit sets) records end)
+  runs : (records : List Record) (f : Finish) → IsLateRun (given pairs events limit sets) records f
+      → RunGives sets limit traced pairs events (end_code f.end) (printed_text traced (given pairs events limit sets) records f)
 
 -- the status for a run that has come so far: that of its end, where that was reached
 abbrev pub driven_code : Option End → ℕ
@@ -65,7 +65,7 @@ driven_code (Some end) = end_code end
 -- printed.
 pub data ScriptGives (sets : Option ℕ) (pairs : List (ℕ × ℕ)) (events : List Timed) (commands : List ScriptCommand) : ℕ → List ℕ → Type 0 where
   drives : (text : List ℕ) (last : Place) → IsText (given pairs events MAX_LENGTH sets) commands (at [] 1) text last
-      → ScriptGives sets pairs events commands (driven_code last.end) text
+      → ScriptGives sets pairs events commands (driven_code (end_at last)) text
 
 -- the Intel HEX text of segments is printed
 pub data AsmGives (image : List Part) : ℕ → List ℕ → Type 0 where
@@ -76,8 +76,8 @@ pub data DisGives (pairs : List (ℕ × ℕ)) : ℕ → List ℕ → Type 0 wher
   listed : (image : List Part) (text : List ℕ) → pairs_of image ≡ pairs → IsListing image text → DisGives pairs 0 text
 
 -- the line of what the run of the job of a number comes to
-abbrev pub job_line : ℕ → Given → List Record → End → List ℕ
-job_line number g records end = generated_line number (state_after g records).count (length (reached_after records)) end
+abbrev pub job_line : ℕ → Given → List Record → Finish → List ℕ
+job_line number g records f = generated_line number (state_after g records).count (length (reached_in g records f)) f.end
 
 -- For the source and the schedule of the job of a number: one of them is refused for its first line at fault, or the run
 -- of both, whose results land late, is made to its end, and a line says what it comes to.
@@ -87,10 +87,10 @@ pub data JobGives (number : ℕ) (sets : Option ℕ) (source schedule : List ℕ
   job_schedule_refused : (image : List Part) (fault : ℕ × ℕ)
       → IsAssembly (lines_of source) image → IsRefusedSchedule (lines_of schedule) fault
       → JobGives number sets source schedule 3 (refused_line (word_of Schedule) fault)
-  job_runs : (image : List Part) (events : List Timed) (records : List Record) (end : End)
+  job_runs : (image : List Part) (events : List Timed) (records : List Record) (f : Finish)
       → IsAssembly (lines_of source) image → IsSchedule (lines_of schedule) events
-      → IsLateRun (given (pairs_of image) events MAX_LENGTH sets) records end
-      → JobGives number sets source schedule (end_code end) (job_line number (given (pairs_of image) events MAX_LENGTH sets) records end)
+      → IsLateRun (given (pairs_of image) events MAX_LENGTH sets) records f
+      → JobGives number sets source schedule (end_code f.end) (job_line number (given (pairs_of image) events MAX_LENGTH sets) records f)
 
 -- for a number and so many sets
 abbrev pub GenGives : ℕ → Option ℕ → ℕ → List ℕ → Type 0

@@ -1,7 +1,7 @@
 -- What running an image does to a sink, and what a run comes to.
 use Rattle.std.specs.Prelude.{◌≡◌, ℕ, Bool, List, [], ◌∷◌, ◌++◌, length, flat_map, Option, Some}
 use Rattle.i9_model.specs.declared.run.End.{End}
-use Rattle.i9_model.specs.Run.{Given, Record, counts_of, state_after, reached_after}
+use Rattle.i9_model.specs.Run.{Given, Record, counts_of, state_after, Finish, reached_in, finish}
 use Rattle.i9_model.specs.PrintedText.{text_of, record_lines, end_lines}
 use Rattle.i9_course.specs.LateRun.{IsLatePast, IsLateRun, finish_after}
 use Rattle.i9_machine.specs.declared.line.Line.{Line}
@@ -23,18 +23,18 @@ printed_of ran.Write = printed.Write
 printed_of ran.Memory = printed.Memory
 
 -- where all was printed, the end of the run is answered
-abbrev pub TellsEnd : Ran → End → Type 0
-TellsEnd (ran.Done end) f = end ≡ f
+abbrev pub TellsEnd : Ran → Finish → Type 0
+TellsEnd (ran.Done end) f = end ≡ f.end
 TellsEnd ran.Write f = Unit {0}
 TellsEnd ran.Memory f = Unit {0}
 
 -- A text of the run of what is given, whose results land late, was printed on a sink of this type, or a front of it.
-pub record RunsAs {K : Type 0} (text : Given → List Record → End → List ℕ) (answer : Ran) (g : Given) (k : Account K) (old new : K) : Type 0 where
+pub record RunsAs {K : Type 0} (text : Given → List Record → Finish → List ℕ) (answer : Ran) (g : Given) (k : Account K) (old new : K) : Type 0 where
   pub records : List Record
-  pub end : End
-  pub run : IsLateRun g records end
-  pub prints : Prints (printed_of answer) k old new (text g records end)
-  pub tells : TellsEnd answer end
+  pub finish : Finish
+  pub run : IsLateRun g records finish
+  pub prints : Prints (printed_of answer) k old new (text g records finish)
+  pub tells : TellsEnd answer finish
 
 -- the text of a run of which a range is traced, or nothing
 abbrev pub Runs : {K : Type 0} → Ran → Option Range → Given → Account K → K → K → Type 0
@@ -57,8 +57,8 @@ IsCut ran.Memory = Unit {0}
 
 -- what came behind the text of records: that of the end, where it was reached, and nothing where printing stopped
 pub data StopsWith (g : Given) (rs : List Record) : Ran → List ℕ → Type 0 where
-  at_end : (answer : Ran) (end : End) → finish_after g rs ≡ Some end → TellsEnd answer end
-      → StopsWith g rs answer (text_of (end_lines (state_after g rs) end))
+  at_end : (answer : Ran) (f : Finish) → finish_after g rs ≡ Some f → TellsEnd answer f
+      → StopsWith g rs answer (text_of (end_lines (state_after g rs) f))
   before_end : (answer : Ran) → IsCut answer → StopsWith g rs answer []
 
 -- The text of the first records of the run of what is given was printed on a sink of this type, or a front of it; where
@@ -99,6 +99,8 @@ pub record PrintsBy {K : Type 0} (answer : Printed) (allows : ℕ → Bool → T
 -- The run of what is given, whose results land late, comes to so many instructions and so many events, and to this end.
 pub record Counts (counted : Counted) (g : Given) : Type 0 where
   pub records : List Record
-  pub run : IsLateRun g records counted.end
+  pub finish : Finish
+  pub run : IsLateRun g records finish
+  pub end : counted.end ≡ finish.end
   pub count : counted.count ≡ (state_after g records).count
-  pub events : counted.events ≡ length (reached_after records)
+  pub events : counted.events ≡ length (reached_in g records finish)

@@ -4,7 +4,7 @@ use Rattle.i9_isa.specs.Words.{words_of}
 use Rattle.i9_model.specs.State.{State}
 use Rattle.i9_model.specs.Step.{first_word, next_word}
 use Rattle.i9_model.specs.declared.run.End.{End}
-use Rattle.i9_model.specs.Run.{Given, Kind, Instruction, Faulted, Entered, Interrupted, Reached, Blocked, Record, faulted_words, state_after}
+use Rattle.i9_model.specs.Run.{Given, Kind, Instruction, Faulted, Entered, Interrupted, Reached, Record, faulted_words, state_after, Finish}
 use Rattle.i9_model.specs.PrintedText.{text_of, record_lines, end_lines, run_text}
 use Rattle.i9_tracer.specs.Trace.{trace_text}
 use Rattle.i9_tool.specs.declared.words.Range.{Range}
@@ -20,7 +20,6 @@ issued_words (Faulted inst fault) = Some (faulted_words inst)
 issued_words (Entered e) = None
 issued_words (Interrupted c e) = None
 issued_words (Reached e u) = None
-issued_words (Blocked e a) = None
 
 -- an instruction's line, where its address passes
 abbrev pub line_where : Bool → ℕ → ℕ → ℕ → ℕ → List ℕ
@@ -41,10 +40,10 @@ traced_lines passes [] = []
 traced_lines passes (r ∷ rs) = traced_lines passes rs ++ (traced_line passes r ++ text_of (record_lines r))
 
 -- the text of a whole run whose instructions are traced where their addresses pass
-abbrev pub traced_text : (ℕ → Bool) → Given → List Record → End → List ℕ
+abbrev pub traced_text : (ℕ → Bool) → Given → List Record → Finish → List ℕ
 traced_text passes g rs f = traced_lines passes rs ++ text_of (end_lines (state_after g rs) f)
 
 -- the text of a whole run of which a range is traced, or nothing
-abbrev pub printed_text : Option Range → Given → List Record → End → List ℕ
+abbrev pub printed_text : Option Range → Given → List Record → Finish → List ℕ
 printed_text None g rs f = run_text g rs f
 printed_text (Some range) g rs f = traced_text (is_within range) g rs f

@@ -1,7 +1,7 @@
 //! The commands that run an image: its files, one after the other, and what drives the run.
 ghost use Rattle.std.specs.Prelude.{◌≡◌, ◌≢◌, ◌≤◌, ◌∷◌, [], length, IfOk};
 ghost use Rattle.std.specs.Option.{option_copied};
-ghost use Rattle.i9_model.specs.declared.run.End.{End};
+ghost use Rattle.i9_model.specs.Run.{Finish};
 ghost use Rattle.i9_model.specs.Image.{pairs_of};
 ghost use Rattle.i9_model.specs.ScheduleText.{IsPlan};
 ghost use Rattle.i9_model.specs.PrintedText.{end_code};
@@ -29,7 +29,7 @@ use std::alloc::Global;
 
 /// The status for a run that went so.
 fn status_of_run(ran: Ran) -> Status
-    ensures ended { (f : End) → TellsEnd ran f → result.code ≡ code_for (printed_of ran) (end_code f) }
+    ensures ended { (f : Finish) → TellsEnd ran f → result.code ≡ code_for (printed_of ran) (end_code f.end) }
     ensures read { result.code ≢ 5 }
 {
     match ran {

@@ -6,7 +6,7 @@ use Rattle.i9_model.specs.State.{State}
 use Rattle.i9_model.specs.declared.run.End.{End}
 use Rattle.i9_model.specs.declared.view.View.{View}
 use Rattle.i9_model.specs.PrintedText.{Shown, view_of, lines_of, record_lines, end_lines}
-use Rattle.i9_model.specs.Run.{Given, Kind, Instruction, Faulted, Entered, Interrupted, Reached, Blocked, counts_of, state_after}
+use Rattle.i9_model.specs.Run.{Given, Kind, Instruction, Faulted, Entered, Interrupted, Reached, counts_of, state_after, Finish}
 use Rattle.i9_schedule.specs.Plan.{Plan}
 use Rattle.i9_course.specs.Course.{Item, Step, records_of}
 use Rattle.i9_machine.specs.declared.line.Line.{Line}
@@ -18,7 +18,7 @@ use Rattle.i9_machine.specs.Line.{AddsLines, shown_of}
 use Rattle.i9_machine.specs.InRun.{IsInRun}
 use Rattle.i9_machine.specs.Step.{TellsRecord}
 use Rattle.i9_machine.proofs.InRuns.{comes_in_run}
-use Rattle.i9_machine.specs.StandsFor.{StandsFor, Follows, IsUnderWay, DoesNext, Comes, Proceeds, AnswersAgain}
+use Rattle.i9_machine.specs.StandsFor.{StandsFor, Follows, IsUnderWay, DoesNext, Comes, Proceeds, AnswersAgain, FollowsUntil}
 use Rattle.i9_machine.specs.Turned.{steps_on}
 use Rattle.i9_tracer.specs.Until.{IsPassed, Passes, StopsAt, EndsFirst, StopsShort}
 
@@ -31,7 +31,6 @@ issued_counts (Faulted inst fault) s t h = refl
 issued_counts (Entered e) s t h = absurd h
 issued_counts (Interrupted c e) s t h = absurd h
 issued_counts (Reached e u) s t h = absurd h
-issued_counts (Blocked e a) s t h = absurd h
 
 -- and no other one does
 on_counts : (kind : Kind) (s : State) → TellsRecord kind s answers.On → counts_of kind ≡ 1 → ⊥
@@ -40,7 +39,6 @@ on_counts (Faulted inst fault) s h one = h
 on_counts (Entered e) s h one = omega (arith, one)
 on_counts (Interrupted c e) s h one = omega (arith, one)
 on_counts (Reached e u) s h one = omega (arith, one)
-on_counts (Blocked e a) s h one = omega (arith, one)
 
 -- ---- lines
 
@@ -55,7 +53,7 @@ same_lines old mid new xs first same = ap (map shown_of) same ∙ first
 
 -- what a view shows, whatever the machine stands for
 abbrev pub Shows : Given → Machine → View → Type 0
-Shows g m view = (items : List Item) (end : Option End) → StandsFor g items end m → view ≡ view_of (state_after g (records_of items))
+Shows g m view = (items : List Item) (end : Option Finish) → StandsFor g items end m → view ≡ view_of (state_after g (records_of items))
 
 module _ (allows : View → Bool → Type 0) where
   pub none_passed : (g : Given) (h : List Item) (m : Machine) (plan : Plan) (lines : List Line) → StandsFor g h None m → Follows g h plan
@@ -111,15 +109,17 @@ module _ (allows : View → Bool → Type 0) where
     on_pass d = does_pass answers.On d (λ one. absurd (on_counts d.done.kind d.done.before d.tells one))
 
     -- the end
-    pub ends_first : (f : End) → Comes g (steps_on since.done h) (answers.End f) before next plan mid new → EndsFirst allows g h f next plan old new
-    ends_first f d = record {
+    pub ends_first : (e : End) → Comes g (steps_on since.done h) (answers.End e) before next plan mid new → EndsFirst allows g h e next plan old new
+    ends_first e d = record {
       done = since.done;
+      finish = d.finish;
+      answers = d.answers;
       passed = since.passed;
       is_end = d.is_end;
       turn = d.turn ∙ sym d.now;
       stands = d.stands;
       follows = d.follows;
-      lines = more_lines old mid new (lines_of since.done) (end_lines (state_after g (records_of (steps_on since.done h))) f) since.lines d.lines;
+      lines = more_lines old mid new (lines_of since.done) (end_lines (state_after g (records_of (steps_on since.done h))) d.finish) since.lines d.lines;
     }
 
     -- want of memory
@@ -138,33 +138,38 @@ module _ (allows : View → Bool → Type 0) where
 -- ---- the machine stays in its run
 
 pub under_way : (m : Machine) (plan : Plan) → IsInRun m plan → m.ended ≡ None → IsUnderWay m plan
-under_way m plan r none = by_end r.end r.stands
+under_way m plan r none = by_end r.end r.stands r.follows
   where
-    by_end : (end : Option End) → StandsFor r.given r.items end m → IsUnderWay m plan
-    by_end None stands = record { given = r.given; items = r.items; stands = stands; follows = r.follows }
-    by_end (Some f) stands = absurd (none-some f (sym none ∙ stands.ended))
+    by_end : (end : Option Finish) → StandsFor r.given r.items end m → FollowsUntil r.given r.items end plan → IsUnderWay m plan
+    by_end None stands follows = record { given = r.given; items = r.items; stands = stands; follows = follows }
+    by_end (Some f) stands follows = absurd (none-some f.end (sym none ∙ stands.ended))
 
 -- where an end was answered, a step answers it again
-pub not_again : (g : Given) (h : List Item) (f : End) (answer : Turn) (m : Machine) (old new : List Line)
-    → ((e : End) → answer ≡ answers.End e → ⊥) → AnswersAgain g h f answer m old new → ⊥
-not_again g h f answer m old new other again = other again.end again.answers
+pub not_again : (f : Finish) (answer : Turn) (before m : Machine) (old new : List Line)
+    → ((e : End) → answer ≡ answers.End e → ⊥) → AnswersAgain f answer before m old new → ⊥
+not_again f answer before m old new other again = other f.end again.answers
 
 -- where it answers none, the machine stays in its run
 pub stays_in_run : (before m : Machine) (was plan : Plan) (spare : ℕ) (old new : List Line) (answer : Turn) → IsInRun before was
     → ((e : End) → answer ≡ answers.End e → ⊥)
     → ((g : Given) (h : List Item) → StandsFor g h None before → Follows g h was → Proceeds g h answer before m plan spare old new)
-    → ((g : Given) (h : List Item) (f : End) → StandsFor g h (Some f) before → AnswersAgain g h f answer m old new × (plan ≡ was))
+    → ((g : Given) (h : List Item) (f : Finish) → StandsFor g h (Some f) before → AnswersAgain f answer before m old new × (plan ≡ was))
     → IsInRun m plan
-stays_in_run before m was plan spare old new answer r other next again = by_end r.end r.stands
+stays_in_run before m was plan spare old new answer r other next again = by_end r.end r.stands r.follows
   where
-    by_end : (end : Option End) → StandsFor r.given r.items end before → IsInRun m plan
-    by_end None stands =
-        let p = next r.given r.items stands r.follows in
+    by_end : (end : Option Finish) → StandsFor r.given r.items end before → FollowsUntil r.given r.items end was → IsInRun m plan
+    by_end None stands follows =
+        let p = next r.given r.items stands follows in
         comes_in_run r.given r.items answer p.mid m plan old new p.comes
-    by_end (Some f) stands = absurd (not_again r.given r.items f answer m old new other (again r.given r.items f stands).0)
+    by_end (Some f) stands follows = absurd (not_again f answer before m old new other (again r.given r.items f stands).0)
+
+pub still_stands : (g : Given) (h : List Item) (f : Finish) (before now : Machine) → now ≡ before → StandsFor g h (Some f) before
+    → StandsFor g h (Some f) now
+still_stands g h f before now same stands = subst (StandsFor g h (Some f)) (sym same) stands
 
 -- an end that was answered is answered again, and nothing changes
-pub again_same : (g : Given) (h : List Item) (f : End) (answer : Turn) (m : Machine) (old mid new : List Line) (was mid_plan plan : Plan)
-    → mid ≡ old → mid_plan ≡ was → AnswersAgain g h f answer m mid new × (plan ≡ mid_plan) → AnswersAgain g h f answer m old new × (plan ≡ was)
-again_same g h f answer m old mid new was mid_plan plan lines plans again =
-    (record { end = again.0.end; same = again.0.same; answers = again.0.answers; stands = again.0.stands; lines = again.0.lines ∙ lines }, again.1 ∙ plans)
+pub again_same : (f : Finish) (answer : Turn) (before now m : Machine) (old mid new : List Line) (was mid_plan plan : Plan)
+    → now ≡ before → mid ≡ old → mid_plan ≡ was → AnswersAgain f answer now m mid new × (plan ≡ mid_plan)
+    → AnswersAgain f answer before m old new × (plan ≡ was)
+again_same f answer before now m old mid new was mid_plan plan same lines plans again =
+    (record { answers = again.0.answers; same = again.0.same ∙ same; lines = again.0.lines ∙ lines }, again.1 ∙ plans)

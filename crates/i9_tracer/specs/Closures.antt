@@ -8,9 +8,9 @@ use Rattle.i9_model.specs.declared.view.View.{View}
 abbrev pub TakesEachAddress : (ℕ → Type 0) → Type 0
 TakesEachAddress can_test = (a : ℕ) → IsWord a → can_test a
 
--- the numbers of a view are words, but for its count, which has 64 bits
+-- the numbers of a view are words, its count too
 pub record IsView (v : View) : Type 0 where
-  pub count : v.count < 2 ^ 64
+  pub count : v.count < 2 ^ 32
   pub ip : IsWord v.ip
   pub ac : IsWord v.ac
   pub pc : IsWord v.pc

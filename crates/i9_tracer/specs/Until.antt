@@ -4,7 +4,7 @@ use Rattle.std.specs.List.{AllByRecursion}
 use Rattle.i9_model.specs.declared.run.End.{End}
 use Rattle.i9_model.specs.declared.view.View.{View}
 use Rattle.i9_model.specs.PrintedText.{view_of, lines_of, end_lines}
-use Rattle.i9_model.specs.Run.{Given, Record, counts_of, state_after}
+use Rattle.i9_model.specs.Run.{Given, Record, counts_of, state_after, Finish}
 use Rattle.i9_schedule.specs.Plan.{Plan}
 use Rattle.i9_course.specs.Course.{Item, Step, records_of, comes_next, ahead}
 use Rattle.i9_course.specs.LateRun.{end_ahead}
@@ -15,7 +15,7 @@ use Rattle.i9_machine.specs.declared.line.Issued.{Issued}
 use Rattle.i9_machine.specs.declared.machine.Machine.{Machine}
 use Rattle.i9_machine.specs.Line.{AddsLines}
 use Rattle.i9_machine.specs.Step.{TellsRecord, NeedsRoom}
-use Rattle.i9_machine.specs.StandsFor.{StandsFor, Follows}
+use Rattle.i9_machine.specs.StandsFor.{StandsFor, Follows, FollowsTo}
 use Rattle.i9_machine.specs.Turned.{steps_on}
 
 -- what the view shows behind a record
@@ -49,14 +49,16 @@ pub record StopsAt (allows : View → Bool → Type 0) (g : Given) (h : List Ite
   pub lines : AddsLines old new (lines_of (last ∷ done))
 
 -- the end was answered, at its turn, and no instruction before it stopped
-pub record EndsFirst (allows : View → Bool → Type 0) (g : Given) (h : List Item) (f : End) (m : Machine) (plan : Plan) (old new : List Line) : Type 0 where
+pub record EndsFirst (allows : View → Bool → Type 0) (g : Given) (h : List Item) (e : End) (m : Machine) (plan : Plan) (old new : List Line) : Type 0 where
   pub done : List Record
+  pub finish : Finish
+  pub answers : finish.end ≡ e
   pub passed : AllByRecursion (IsPassed allows) done
-  pub is_end : end_ahead g (steps_on done h) ≡ Some f
+  pub is_end : end_ahead g (steps_on done h) ≡ Some finish
   pub turn : m.turn ≡ (ahead g (steps_on done h)).turn
-  pub stands : StandsFor g (steps_on done h) (Some f) m
-  pub follows : Follows g (steps_on done h) plan
-  pub lines : AddsLines old new (lines_of done ++ end_lines (state_after g (records_of (steps_on done h))) f)
+  pub stands : StandsFor g (steps_on done h) (Some finish) m
+  pub follows : FollowsTo g (steps_on done h) finish plan
+  pub lines : AddsLines old new (lines_of done ++ end_lines (state_after g (records_of (steps_on done h))) finish)
 
 -- memory was refused behind whole steps
 pub record StopsShort (allows : View → Bool → Type 0) (g : Given) (h : List Item) (m : Machine) (plan : Plan) (old new : List Line) : Type 0 where

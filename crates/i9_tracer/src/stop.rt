@@ -1,5 +1,5 @@
 //! Stops at views.
-ghost use Rattle.std.specs.Prelude.{◌≡◌, Bool};
+ghost use Rattle.std.specs.Prelude.{◌≡◌, ◌<◌, ◌^◌, Bool};
 ghost use Rattle.std.specs.Borrow.{Bor};
 ghost use Rattle.std.specs.Fn.{FnReturnsAt};
 ghost use Rattle.std.specs.List.{All};
@@ -46,9 +46,9 @@ fn read_words(words: &[u32])
 
 /// Reads the numbers of a view, so that they are known to be in their ranges.
 fn read_view(v: &View)
+    requires { v.now.count < 2 ^ 32 }
     ensures { IsView v.now }
 {
-    let _count = v.count;
     let (_ip, _ac, _pc, _tc) = (v.ip, v.ac, v.pc, v.tc);
     read_words(&v.regs);
 }
@@ -81,9 +81,10 @@ impl<F: Fn(&View) -> bool + ViewTest> Stop<F> {
         Stop { f }
     }
 
-    /// Whether it holds at a view: what the closure answers, which is one of the answers that its contract allows
-    /// there.
+    /// Whether it holds at a view whose count is below 2^32, as that of each machine is: what the closure answers, which
+    /// is one of the answers that its contract allows there.
     pub fn holds(&self, v: &View) -> bool
+        requires { v.now.count < 2 ^ 32 }
         ensures { F.ViewTest.allows self.now v.now result }
     {
         read_view(v);

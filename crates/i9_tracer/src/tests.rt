@@ -1,5 +1,5 @@
 //! Lines, filters and stops, worked out by hand: the instructions' words from the instruction formats.
-ghost use Rattle.std.specs.Prelude.{◌≡◌, ◌≤◌, ◌↔◌, ◌&&◌, nat_le, IsSome, IfSome, IfOk};
+ghost use Rattle.std.specs.Prelude.{◌≡◌, ◌<◌, ◌≤◌, ◌^◌, ◌↔◌, ◌&&◌, nat_le, IsSome, IfSome, IfOk};
 ghost use Rattle.i9_tracer.specs.Closures.{TakesEachAddress, TakesEachView};
 ghost use Rattle.i9_tracer.specs.Trace.{IsTraced, trace_text};
 
@@ -76,7 +76,8 @@ fn passes_by<F: Fn(u32) -> bool + AddressTest>(f: F, a: u32) -> bool
 
 /// Whether the stop of a closure holds at a view.
 fn holds_by<F: Fn(&View) -> bool + ViewTest>(f: F, v: &View) -> bool
-    requires { TakesEachView (F.ViewTest.can_test f) }
+    requires takes { TakesEachView (F.ViewTest.can_test f) }
+    requires count { v.now.count < 2 ^ 32 }
     ensures { F.ViewTest.allows f v.now result }
 {
     Stop::new(f).holds(v)

@@ -3,3 +3,4 @@ pub mod NameBytes
 pub mod ReadValues
 pub mod RegisterSearch
 pub mod Decimals
+pub mod KnownNames

@@ -94,11 +94,11 @@ hex_byte_bytes b h = name_bytes (byte_text b) 16 (lit≤ tt) (byte_digits b h)
 
 -- ---- registers
 
-abbrev found_at : Option ℕ → ℕ → Bool
+abbrev pub found_at : Option ℕ → ℕ → Bool
 found_at (Some j) k = eqb j k
 found_at None k = false
 
-found_true : (o : Option ℕ) (k : ℕ) → found_at o k ≡ true → o ≡ Some k
+pub found_true : (o : Option ℕ) (k : ℕ) → found_at o k ≡ true → o ≡ Some k
 found_true (Some j) k h = ap Some (eqb-true j k h)
 found_true None k h = absurd cc
 

@@ -7,15 +7,17 @@
 
 mod cut;
 mod fault;
+mod known;
 mod number_text;
 mod registers;
 mod values;
 
 pub use cut::{behind, closed, cut_blank, cut_byte, cut_where};
 pub use fault::{Fault, Noted, fine, least, wrong};
+pub use known::{Definition, Known, Table, lookup};
 pub use number_text::{add_decimal, add_digits, add_hex};
 pub use registers::{register_at, register_name, register_of, register_place};
-pub use values::{Names, Value, is_name, lookup, settled, value_noted, value_of};
+pub use values::{Value, is_name, settled, value_noted, value_of};
 
 #[cfg(test)]
 mod tests;

@@ -1,11 +1,8 @@
 //! Registers by their names.
 ghost use Rattle.std.specs.Prelude.{◌≡◌, ◌<◌, IfSome};
-ghost use Rattle.i9_value.specs.Registers.{register_text, register_place, register_at, register_of};
+ghost use Rattle.i9_value.specs.Registers.{register_text, register_place, place_of_two, place_of_three, likely_place, register_at, register_of};
 
 use i9_isa::Operand;
-
-/// How many names of registers there are.
-const COUNT: u8 = 39;
 
 /// The name at a place of the table of register names: those that are printed, of the registers 0
 /// to 31 and of sf0 to sf2, then other names of the registers 0, 1, 2 and 31.
@@ -57,17 +54,59 @@ pub fn register_name(place: u8) -> &'static [u8]
     }
 }
 
+/// Where a name of two bytes stands in the table, if it does.
+fn place_of_two(first: u8, last: u8) -> u8
+    ensures inside { result < 39 }
+    ensures place { result ≡ place_of_two first last }
+{
+    let digit = last % 16;
+    match first {
+        b'g' => 16 + digit,
+        b'r' => { if digit < 3 { 35 + digit } else { digit } }
+        b's' => 1,
+        _ => 31,
+    }
+}
+
+/// Where a name of three bytes stands in the table, if it does.
+fn place_of_three(first: u8, middle: u8, last: u8) -> u8
+    ensures inside { result < 39 }
+    ensures place { result ≡ place_of_three first middle last }
+{
+    match first {
+        b'g' => { if last == b'5' { 38 } else { 26 + last % 8 } }
+        b'r' => { if middle == b'i' { 2 } else { 10 + last % 8 } }
+        b's' => 32 + last % 4,
+        _ => 0,
+    }
+}
+
+/// The one place in the table at which this name can stand, by its length and its first letter.
+#[tactic(auto, unfolding(crate::specs::Registers::likely_place))]
+fn likely_place(text: &[u8]) -> Option<u8>
+    ensures inside { IfSome result (λ k. k < 39) }
+    ensures place { result ≡ likely_place text.now }
+{
+    match *text {
+        [first, last] => Some(place_of_two(first, last)),
+        [first, middle, last] => Some(place_of_three(first, middle, last)),
+        _ => None,
+    }
+}
+
 /// The place of a name in the table of register names.
 pub fn register_place(text: &[u8]) -> Option<u8>
     ensures place { result ≡ register_place text.now }
     ensures inside { IfSome result (λ k. k < 39) }
 {
-    for k in 0..COUNT {
-        if text == register_name(k) {
-            return Some(k);
-        }
+    let Some(place) = likely_place(text) else {
+        return None;
+    };
+    if text == register_name(place) {
+        Some(place)
+    } else {
+        None
     }
-    None
 }
 
 /// The register whose name stands at a place of the table.

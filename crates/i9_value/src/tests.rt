@@ -1,8 +1,8 @@
 //! Names, values, registers and cuts, worked out by hand.
 use crate::{
-    Fault, Names, Noted, Value, add_decimal, add_digits, add_hex, behind, closed, cut_blank,
-    cut_byte, cut_where, fine, is_name, least, lookup, register_at, register_name, register_of,
-    register_place, settled, value_noted, value_of, wrong,
+    Definition, Fault, Known, Noted, Table, Value, add_decimal, add_digits, add_hex, behind,
+    closed, cut_blank, cut_byte, cut_where, fine, is_name, least, lookup, register_at,
+    register_name, register_of, register_place, settled, value_noted, value_of, wrong,
 };
 use i9_isa::Operand;
 use std::collections::BTreeMap;
@@ -33,11 +33,19 @@ fn tells_names(rt: HostRuntime) -> Result<(), Fail> {
 // Where `far` is E0000000.
 #[test]
 fn reads_values(rt: HostRuntime) -> Result<(), Fail> {
-    let mut names: Names = BTreeMap::new(rt.alloc());
-    names.insert(String::from_str(rt.alloc(), "far")?, 0xE000_0000)?;
+    let mut table: Table = BTreeMap::new(rt.alloc());
+    let definition = Definition {
+        value: 0xE000_0000,
+        step: 7,
+    };
+    table.insert(String::from_str(rt.alloc(), "far")?, definition)?;
+    let names = Known::All(&table);
     let far = b"far".as_slice();
     assert!(rt; is_name(far));
-    assert_eq!(rt; lookup(&names, far), Some(0xE000_0000));
+    assert_eq!(rt; lookup(names, far), Some(0xE000_0000));
+    assert_eq!(rt; lookup(Known::Before(&table, 8), far), Some(0xE000_0000));
+    assert_eq!(rt; lookup(Known::Before(&table, 7), far), None);
+    assert_eq!(rt; lookup(Known::Nothing, far), None);
     let rows: [(&[u8], Option<Value>); 10] = [
         (b"far", Some(Value::Named(0xE000_0000))),
         (b"far-1", Some(Value::Named(0xDFFF_FFFF))),
@@ -51,7 +59,7 @@ fn reads_values(rt: HostRuntime) -> Result<(), Fail> {
         (b"g4", None),
     ];
     for (text, value) in rows {
-        assert_eq!(rt; value_of(&names, text), value);
+        assert_eq!(rt; value_of(names, text), value);
     }
     Ok(())
 }

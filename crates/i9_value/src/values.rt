@@ -3,14 +3,14 @@ ghost use Rattle.std.specs.Prelude.{◌≡◌, ◌<◌, ◌≤◌, ◌^◌, ◌*
 ghost use Rattle.std.specs.Option.{option_map};
 ghost use Rattle.std.specs.List.{list_all};
 ghost use Rattle.std.specs.Char.{digit_value};
-ghost use Rattle.std.specs.BTreeMap.{get_by_text};
+ghost use Rattle.i9_value.specs.Known.{known_in};
 ghost use Rattle.i9_value.specs.Values.{begins_name, is_name_byte, has_name_start, is_name, is_hexadecimal, is_decimal_digit, decimal_of, magnitude, in_range, number_text, named, tail_number, name_text, value_of, value_noted, settled, capped};
 
 use crate::cut::cut_sign;
 use crate::fault::{Fault, Noted, fine, wrong};
+use crate::known::{Known, lookup};
 use crate::registers::register_place;
 use i9_text::number;
-use std::collections::BTreeMap;
 
 /// A value, modulo 2^32.
 #[derive(Clone, Copy, Debug, PartialEq, Eq)]
@@ -24,9 +24,6 @@ pub enum Value {
     /// Its name is unknown.
     Unknown,
 }
-
-/// The values of names.
-pub type Names = BTreeMap<String, u32>;
 
 /// What a name has at most.
 const MOST_NAME: usize = 63;
@@ -72,17 +69,6 @@ pub fn is_name(text: &[u8]) -> bool
         && all_name_bytes(text)
         && register_place(text).is_none()
         && text != b"ip".as_slice()
-}
-
-/// The value of a name.
-pub fn lookup(names: &Names, name: &[u8]) -> Option<u32>
-    requires { is_name name.now ≡ true }
-    ensures { result ≡ get_by_text names.now name.now }
-{
-    match str::from_utf8(name) {
-        Ok(name) => names.get(name).copied(),
-        Err(_) => None,
-    }
 }
 
 /// A number, or the limit where it is larger.
@@ -206,8 +192,8 @@ fn tail_number(text: &[u8]) -> Option<Value>
 }
 
 /// A name, perhaps with a number.
-fn name_text(names: &Names, name: &[u8], rest: &[u8]) -> Option<Value>
-    ensures { result ≡ name_text (get_by_text names.now) name.now rest.now }
+fn name_text(names: Known<'_>, name: &[u8], rest: &[u8]) -> Option<Value>
+    ensures { result ≡ name_text (known_in names.entry) name.now rest.now }
 {
     if !is_name(name) {
         return None;
@@ -218,8 +204,8 @@ fn name_text(names: &Names, name: &[u8], rest: &[u8]) -> Option<Value>
 
 /// The value that a text says; None where it has no form of a value.
 #[tactic(auto, unfolding(crate::specs::Values::value_of))]
-pub fn value_of(names: &Names, text: &[u8]) -> Option<Value>
-    ensures { result ≡ value_of (get_by_text names.now) text.now }
+pub fn value_of(names: Known<'_>, text: &[u8]) -> Option<Value>
+    ensures { result ≡ value_of (known_in names.entry) text.now }
 {
     if has_name_start(text) {
         let (name, rest) = cut_sign(text);

@@ -1,5 +1,5 @@
 -- Marks: which addresses are marked, and which have room for marks.
-use Rattle.std.specs.Prelude.{ℕ, ◌+◌, ◌/◌, ◌<◌, ◌%◌, Bool, false, if◌then◌else◌, Option, Some, None, IsSome}
+use Rattle.std.specs.Prelude.{◌≢◌, ℕ, ◌+◌, ◌/◌, ◌<◌, ◌%◌, Bool, false, if◌then◌else◌, Option, Some, None, IsSome}
 use Rattle.i9_model.specs.declared.layout.TheConstants.{FRAME_SIZE}
 use Rattle.i9_model.specs.Writes.{wrapped}
 use Rattle.i9_model.specs.Frames.{in_bytes}
@@ -38,3 +38,11 @@ HasFrameRoom s a = (k : ℕ) → k < FRAME_SIZE → HasRoom s (wrapped (a + k))
 -- pages that were there still are
 abbrev pub KeepsPages : Marks → Marks → Type 0
 KeepsPages old new = (p : ℕ) → HasPage old p → HasPage new p
+
+-- a page has no byte of a frame
+abbrev pub HasNone : ℕ → ℕ → Type 0
+HasNone a p = (k : ℕ) → k < FRAME_SIZE → wrapped (a + k) / 256 ≢ p
+
+-- a page that is new has a byte of a frame
+abbrev pub AddsOnly : Marks → Marks → ℕ → Type 0
+AddsOnly old new a = (p : ℕ) → HasNone a p → HasPage new p → HasPage old p

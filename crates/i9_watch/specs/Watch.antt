@@ -1,11 +1,11 @@
 -- Watch: what it keeps, and what it has room for.
-use Rattle.std.specs.Prelude.{ℕ, ◌+◌, ◌<◌}
+use Rattle.std.specs.Prelude.{ℕ, ◌+◌, ◌/◌, ◌<◌}
 use Rattle.i9_model.specs.declared.layout.TheConstants.{FRAME_SIZE}
 use Rattle.i9_model.specs.Writes.{wrapped}
 use Rattle.i9_model.specs.State.{Frames}
 use Rattle.i9_watch.specs.declared.page.Mark.TheVariants.{Soft}
 use Rattle.i9_watch.specs.declared.watch.Watch.{Watch}
-use Rattle.i9_watch.specs.Marks.{is_marked, HasRoom}
+use Rattle.i9_watch.specs.Marks.{is_marked, HasRoom, HasNone}
 
 -- the soft bytes and the live frames
 unfoldable pub frames_of : Watch → Frames
@@ -26,3 +26,12 @@ HasFrameMarks w a = (k : ℕ) → k < FRAME_SIZE → HasMarks w (wrapped (a + k)
 -- what could be made soft still can be
 abbrev pub KeepsMarks : Watch → Watch → Type 0
 KeepsMarks old new = (a : ℕ) → HasMarks old a → HasMarks new a
+
+-- no byte can be made soft
+abbrev pub HasNoMarks : Watch → Type 0
+HasNoMarks w = (a : ℕ) → HasMarks w a → ⊥
+
+-- Room is made for the pages of a frame alone: what lies in a page of 256 with no byte of it can be made soft only
+-- where it could.
+abbrev pub AddsMarksOnly : Watch → Watch → ℕ → Type 0
+AddsMarksOnly old new a = (x : ℕ) → HasNone a (x / 256) → HasMarks new x → HasMarks old x

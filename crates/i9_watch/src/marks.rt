@@ -28,12 +28,13 @@ fn count_in_page(a: u32, n: u32) -> u32
 }
 
 impl Marks {
-    ghost use Rattle.i9_watch.specs.Marks.{is_marked, changed_run, HasPage, HasRoom, HasFrameRoom, KeepsPages};
+    ghost use Rattle.i9_watch.specs.Marks.{is_marked, changed_run, HasPage, HasRoom, HasFrameRoom, KeepsPages, AddsOnly};
     ghost use Rattle.i9_watch.specs.Live.{AreAligned};
 
-    /// No address is marked.
+    /// No address is marked, and there is no page.
     pub(crate) fn new(alloc: Global) -> Marks
-        ensures { (m : Mark) → is_marked m result ≡ (λ _. false) }
+        ensures marks { (m : Mark) → is_marked m result ≡ (λ _. false) }
+        ensures none { (p : ℕ) → HasPage result p → ⊥ }
     {
         Marks {
             alloc,
@@ -126,6 +127,7 @@ impl Marks {
         ensures same { (m : Mark) → is_marked m self.new ≡ is_marked m self.old }
         ensures ok { OnOk result (HasFrameRoom self.new a) }
         ensures keeps { KeepsPages self.old self.new }
+        ensures only { AddsOnly self.old self.new a }
         ensures err { OnErr result (KeepsPages self.new self.old) }
         ensures needed { OnErr result (HasFrameRoom self.old a → ⊥) }
     {
@@ -152,6 +154,7 @@ impl Marks {
         requires room { change ≡ Change.Save → HasRoom self.old a }
         ensures marks { (m : Mark) → is_marked m self.new ≡ changed_run change m a n (is_marked m self.old) }
         ensures keeps { KeepsPages self.old self.new }
+        ensures no_more { KeepsPages self.new self.old }
     {
         if let Some(page) = self.pages.get_mut(a / PAGE_SIZE) {
             page.change(change, a % PAGE_SIZE, n);
@@ -164,6 +167,7 @@ impl Marks {
         requires room { change ≡ Change.Save → (k : ℕ) → k < n → HasRoom self.old (wrapped (a + k)) }
         ensures marks { (m : Mark) → is_marked m self.new ≡ changed_run change m a n (is_marked m self.old) }
         ensures keeps { KeepsPages self.old self.new }
+        ensures no_more { KeepsPages self.new self.old }
     {
         let mut done = 0;
         while done < n {
@@ -179,6 +183,7 @@ impl Marks {
     pub(crate) fn store(&mut self, a: u32, n: u32)
         ensures marks { (m : Mark) → is_marked m self.new ≡ changed_run Change.Store m a n (is_marked m self.old) }
         ensures keeps { KeepsPages self.old self.new }
+        ensures no_more { KeepsPages self.new self.old }
     {
         if n <= PAGE_SIZE - a % PAGE_SIZE {
             self.change_in_page(Change::Store, a, n);
@@ -192,9 +197,18 @@ impl Marks {
         requires { AreAligned frames.now.items }
         ensures marks { (m : Mark) → is_marked m self.new ≡ (λ x. is_marked m self.old x && not (in_frames frames.now.items x)) }
         ensures keeps { KeepsPages self.old self.new }
+        ensures no_more { KeepsPages self.new self.old }
     {
         for frame in frames.iter() {
             self.change(Change::Flush, *frame, FRAME_SIZE);
         }
+    }
+}
+
+#[cfg(test)]
+impl Marks {
+    /// Whether there is a page of this number.
+    pub(crate) fn has_page(&self, number: u32) -> bool {
+        self.pages.contains(number)
     }
 }

@@ -2,6 +2,9 @@
 use crate::{Push, Watch};
 use std::test::Fail;
 
+/// How many pages all addresses have.
+const PAGES: u32 = 0x100_0000;
+
 /// What is done to a watch, or what it is asked and has to answer.
 #[derive(Clone, Copy)]
 enum Step {
@@ -275,5 +278,45 @@ fn refuses_no_room_that_is_there(rt: HostRuntime) -> Result<(), Fail> {
         save(&mut watch, 0xFFFF_FFF0 - 64 * k)?;
     }
     assert_eq!(rt; watch.live_at(39), Some(0xFFFF_FFF0));
+    Ok(())
+}
+
+/// How many pages of marks there are: of the first 2 MiB all are counted, and of the rest the first one and the last
+/// one of each 64 KiB.
+fn page_count(watch: &Watch) -> usize {
+    let firsts = (0x2000..PAGES).step_by(256);
+    let lasts = (0x20FF..PAGES).step_by(256);
+    (0..0x2000)
+        .chain(firsts)
+        .chain(lasts)
+        .filter(|number| watch.has_page(*number))
+        .count()
+}
+
+/// There is a page of marks for each 256 addresses that have a byte of a frame, and no other.
+#[test]
+fn has_pages_of_frames(rt: HostRuntime) -> Result<(), Fail> {
+    // A frame pointer, and how many pages there are behind the save of its frame.
+    let rows = [
+        (0x2000, 1),
+        (0x20CF, 1),
+        (0x2180, 2),
+        (0x21D0, 3),
+        (0xFFFF_FFF0, 5),
+        (0xFFFF_FF00, 5),
+        (0xE000_FFF0, 7),
+    ];
+    let mut watch = Watch::new(rt.alloc());
+    assert_eq!(rt; page_count(&watch), 0);
+    for (fp, wanted) in rows {
+        save(&mut watch, fp)?;
+        assert_eq!(rt; page_count(&watch), wanted, "the frame at {fp}");
+    }
+    watch.wrote(0x4000_0000, 256);
+    if watch.first_live().is_some() {
+        watch.returned();
+    }
+    watch.flushed();
+    assert_eq!(rt; page_count(&watch), 7);
     Ok(())
 }

@@ -51,12 +51,13 @@ fn first_place<F: Fn(u32) -> bool>(a: u32, n: u32, test: F) -> Option<u32>
 
 #[tactic(auto, unfolding(crate::specs::Watch::frames_of, crate::specs::Watch::spare_of, crate::specs::Watch::HasMarks))]
 impl Watch {
-    ghost use Rattle.i9_watch.specs.Watch.{frames_of, spare_of, HasMarks, HasFrameMarks, KeepsMarks};
+    ghost use Rattle.i9_watch.specs.Watch.{frames_of, spare_of, HasMarks, HasFrameMarks, HasNoMarks, KeepsMarks, AddsMarksOnly};
 
     /// No byte is soft and no frame is live.
     pub fn new(alloc: Global) -> Watch
         ensures frames { frames_of result ≡ no_frames }
         ensures spare { spare_of result ≡ 0 }
+        ensures none { HasNoMarks result }
     {
         Watch {
             marks: Marks::new(alloc),
@@ -66,13 +67,14 @@ impl Watch {
     }
 
     /// Makes room for the save of a frame: one live entry to spare, and soft marks of the 64
-    /// addresses from `a` on.
+    /// addresses from `a` on. There is room for no others then but those of their pages.
     pub fn reserve(&mut self, a: u32) -> Result<(), NoMemory>
         ensures frames { frames_of self.new ≡ frames_of self.old }
         ensures ok_spare { OnOk result (0 < spare_of self.new) }
         ensures ok_marks { OnOk result (HasFrameMarks self.new a) }
         ensures kept_spare { spare_of self.old ≤ spare_of self.new }
         ensures kept_marks { KeepsMarks self.old self.new }
+        ensures only { AddsMarksOnly self.old self.new a }
 
         // Want of memory changes nothing.
         ensures err_spare { OnErr result (spare_of self.new ≡ spare_of self.old) }
@@ -210,6 +212,7 @@ impl Watch {
         ensures frames { frames_of self.new ≡ saved (frames_of self.old) a }
         ensures spare { spare_of self.new + 1 ≡ spare_of self.old }
         ensures marks { KeepsMarks self.old self.new }
+        ensures no_more { KeepsMarks self.new self.old }
     {
         self.marks.change(Change::Save, a, FRAME_SIZE);
         self.spare -= 1;
@@ -222,6 +225,7 @@ impl Watch {
         ensures frames { frames_of self.new ≡ returned (frames_of self.old) }
         ensures spare { spare_of self.new ≡ spare_of self.old }
         ensures marks { KeepsMarks self.old self.new }
+        ensures no_more { KeepsMarks self.new self.old }
     {
         if let Some(frame) = self.live.pop_front() {
             self.marks.change(Change::Return, frame, FRAME_SIZE);
@@ -234,6 +238,7 @@ impl Watch {
         ensures frames { frames_of self.new ≡ flushed (frames_of self.old) }
         ensures spare { spare_of self.new ≡ spare_of self.old }
         ensures marks { KeepsMarks self.old self.new }
+        ensures no_more { KeepsMarks self.new self.old }
     {
         self.marks.flush(&self.live);
         self.live.clear();
@@ -244,6 +249,7 @@ impl Watch {
         ensures frames { frames_of self.new ≡ wrote_run (frames_of self.old) a n }
         ensures spare { spare_of self.new ≡ spare_of self.old }
         ensures marks { KeepsMarks self.old self.new }
+        ensures no_more { KeepsMarks self.new self.old }
     {
         self.marks.store(a, n);
     }
@@ -260,5 +266,13 @@ impl Watch {
         ensures { result ≡ slice_get (frames_of self.now).live k }
     {
         self.live.get(k as usize).copied()
+    }
+}
+
+#[cfg(test)]
+impl Watch {
+    /// Whether there is a page of marks of this number.
+    pub(crate) fn has_page(&self, number: u32) -> bool {
+        self.marks.has_page(number)
     }
 }

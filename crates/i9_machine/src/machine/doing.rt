@@ -1,5 +1,5 @@
 //! A step done, or an end answered, once there is room for what it needs.
-ghost use Rattle.std.specs.Prelude.{◌≡◌, [], ◌∷◌, ◌+◌, ◌-◌, ◌<◌, ◌≤◌, ◌^◌, ◌++◌, None, Some, IfSome, IfOk, OnOk, OnErr, vec_len, vec_capacity, length, nat_lt, true};
+ghost use Rattle.std.specs.Prelude.{◌≡◌, [], ◌∷◌, ◌+◌, ◌-◌, ◌<◌, ◌≤◌, ◌^◌, ◌++◌, None, Some, IfSome, IfOk, OnOk, OnErr, vec_len, vec_capacity, length, nat_lt, true, ℕ};
 ghost use Rattle.std.specs.Option.{option_copied, option_map};
 ghost use Rattle.i9_model.specs.State.{State};
 ghost use Rattle.i9_model.specs.Memory.{console_byte};
@@ -7,8 +7,9 @@ ghost use Rattle.i9_model.specs.Free.{IsFree};
 ghost use Rattle.i9_model.specs.Alike.{AreAlike};
 ghost use Rattle.i9_model.specs.HeldFrames.{AreWhole};
 ghost use Rattle.i9_model.specs.Step.{moved, acted, counted};
+ghost use Rattle.i9_model.specs.declared.view.View.{View as Shown};
 ghost use Rattle.i9_model.specs.Run.{Ends};
-ghost use Rattle.i9_model.specs.PrintedText.{Drained, Last, view_of, out_lines, point_lines, last_lines, overlays};
+ghost use Rattle.i9_model.specs.PrintedText.{Drained, Last, view_of, out_lines, point_lines, last_lines, overlays, journal_lines};
 ghost use Rattle.i9_course.specs.LateRun.{is_imprecise};
 ghost use Rattle.i9_processor.specs.Effect.{action_in, move_in, control_in, AreRegisters, AreMade, CanControl, CanMove, CanTake, HasSpaceFor, cache_through, size_with, has_writes, is_restart};
 ghost use Rattle.i9_processor.specs.State.{state_of, cache_of, size_of};
@@ -16,12 +17,12 @@ ghost use Rattle.i9_model.specs.Events.{IsInRange};
 ghost use Rattle.i9_model.specs.Turns.{HasCost, IssuesAt, waiting_until};
 ghost use Rattle.i9_issue.specs.Room.{IsEarly};
 ghost use Rattle.i9_regs.specs.Covered.{IsCovered};
-ghost use Rattle.i9_machine.specs.Doing.{point_count, reached_lines, reached_count, plan_after_step};
+ghost use Rattle.i9_machine.specs.Doing.{point_count, reached_lines, reached_count, plan_behind_event};
 ghost use Rattle.i9_machine.specs.Line.{AddsLines};
 
 use super::Machine;
 use crate::line::{Line, MOST_SHOWN, Turn, put_line};
-use crate::step::Step;
+use crate::step::{Ending, Step, next_event};
 use arrayvec::ArrayVec;
 use i9_frames::Sets;
 use i9_isa::NoMemory;
@@ -57,41 +58,51 @@ fn is_imprecise(e: End) -> bool
     }
 }
 
-/// Adds the line of an end alone.
-fn put_bare(e: End, out: &mut Vec<Line>) -> Result<(), NoMemory>
-    ensures ok { OnOk result (AddsLines out.old.items out.new.items (Last e ∷ [])) }
-    ensures err { OnErr result (out.new.items ≡ out.old.items) }
-    ensures lacking { OnErr result (vec_capacity out.old < vec_len out.old + 1) }
+/// How many lines an end has, behind that of an event that is reached with it, where one is.
+fn end_count(event: Option<&Event>, e: End) -> usize
+    ensures { (k : ℕ) (v : Shown) → result ≡ length (journal_lines k (option_copied event.entry) ++ last_lines v e) }
 {
-    reserve_lines(1, out)?;
-    put_line(out, Line::End(e));
-    Ok(())
+    usize::from(event.is_some()) + if is_imprecise(e) { 1 } else { 2 }
 }
 
-/// Adds the end point and the line of the end.
-fn put_drained(e: End, view: View, out: &mut Vec<Line>) -> Result<(), NoMemory>
-    ensures ok { OnOk result (AddsLines out.old.items out.new.items (Drained Point.End view ∷ Last e ∷ [])) }
-    ensures err { OnErr result (out.new.items ≡ out.old.items) }
-    ensures lacking { OnErr result (vec_capacity out.old < vec_len out.old + 2) }
+/// Adds the line of an event that is reached with an end, where one is.
+fn put_journal(event: Option<&Event>, count: u64, out: &mut Vec<Line>)
+    requires room { vec_len out.old + length (journal_lines count (option_copied event)) ≤ vec_capacity out.old }
+    requires ranges { IfSome event (λ e. IsInRange e.now) }
+    ensures lines { AddsLines out.old.items out.new.items (journal_lines count (option_copied event.entry)) }
+    ensures len { vec_len out.new ≡ vec_len out.old + length (journal_lines count (option_copied event.entry)) }
+    ensures capacity { vec_capacity out.old ≤ vec_capacity out.new }
 {
-    reserve_lines(2, out)?;
-    let kind = Point::End;
-    put_line(out, Line::Point { kind, view });
-    put_line(out, Line::End(e));
-    Ok(())
-}
-
-/// Adds the lines of an end: before an imprecise fault there is no end point.
-fn put_end(e: End, view: View, out: &mut Vec<Line>) -> Result<(), NoMemory>
-    ensures ok { OnOk result (AddsLines out.old.items out.new.items (last_lines view e)) }
-    ensures err { OnErr result (out.new.items ≡ out.old.items) }
-    ensures lacking { OnErr result (vec_capacity out.old < vec_len out.old + length (last_lines view e)) }
-{
-    if is_imprecise(e) {
-        put_bare(e, out)
-    } else {
-        put_drained(e, view, out)
+    if let Some(event) = event {
+        let event = copied(event);
+        put_line(out, Line::Event { count, event });
     }
+}
+
+/// Adds the line of an end, and its end point, which there is none of before an imprecise fault.
+fn put_last(e: End, view: View, out: &mut Vec<Line>)
+    requires { vec_len out.old + length (last_lines view e) ≤ vec_capacity out.old }
+    ensures { AddsLines out.old.items out.new.items (last_lines view e) }
+{
+    if !is_imprecise(e) {
+        let kind = Point::End;
+        put_line(out, Line::Point { kind, view });
+    }
+    put_line(out, Line::End(e));
+}
+
+/// Adds the lines of an end, behind that of an event that is reached with it, where one is.
+fn put_end(event: Option<&Event>, e: End, view: View, out: &mut Vec<Line>) -> Result<(), NoMemory>
+    requires { IfSome event (λ x. IsInRange x.now) }
+    ensures ok { OnOk result (AddsLines out.old.items out.new.items (journal_lines view.count (option_copied event.entry) ++ last_lines view e)) }
+    ensures err { OnErr result (out.new.items ≡ out.old.items) }
+    ensures lacking { OnErr result (vec_capacity out.old
+        < vec_len out.old + length (journal_lines view.count (option_copied event.entry) ++ last_lines view e)) }
+{
+    reserve_lines(end_count(event, e), out)?;
+    put_journal(event, view.count, out);
+    put_last(e, view, out);
+    Ok(())
 }
 
 /// Adds the line of a byte that goes out at the console.
@@ -205,33 +216,38 @@ impl Step {
     }
 }
 
-/// A schedule goes on behind the event that a step reaches, where it reaches one.
+/// A schedule goes on behind the event that is reached, where one is.
 #[inline(always)]
-fn go_on(step: &Step, plan: &mut Schedule)
-    requires { step.now.reaches ≡ true → plan.old.place < length plan.old.events }
-    ensures { plan.new ≡ plan_after_step plan.old step.now }
+fn go_on(reaches: bool, plan: &mut Schedule)
+    requires { reaches ≡ true → plan.old.place < length plan.old.events }
+    ensures { plan.new ≡ plan_behind_event plan.old reaches }
 {
-    if step.reaches {
+    if reaches {
         plan.step();
     }
 }
 
 impl Machine {
     ghost use Rattle.i9_machine.specs.StandsFor.{LeavesFewer};
-    ghost use Rattle.i9_machine.specs.Step.{IsPlanned, IsSame, Steps, Finishes, Issues, HasRoom, next_for, steps_left};
+    ghost use Rattle.i9_machine.specs.Step.{IsPlanned, IsSame, Steps, Finishes, Issues, HasRoom, finish_in, next_for, steps_left};
     ghost use Rattle.i9_machine.specs.Doing.{lines_of, line_count, asks_room, HasRoomForStep, IsReady, action_for, state_behind};
     ghost use Rattle.i9_machine.specs.Issuing.{most_turns, IsIssued, CanActPlaced};
     ghost use Rattle.i9_machine.specs.StandsFor.{HasCome};
 
-    /// Answers an end, once its lines are written.
-    pub(super) fn answer_end(&mut self, e: End, out: &mut Vec<Line>) -> Turn
+    /// Answers an end, once its lines are written; the schedule goes on behind an event that is reached with it.
+    pub(super) fn answer_end(&mut self, f: Ending, plan: &mut Schedule, out: &mut Vec<Line>) -> Turn
         requires running { self.old.ended ≡ None }
-        ensures { Finishes self.old e (vec_capacity out.old - vec_len out.old) result self.new out.old.items out.new.items }
+        ensures { Finishes self.old (finish_in plan.old f) (vec_capacity out.old - vec_len out.old) result self.new
+            plan.old plan.new out.old.items out.new.items }
     {
-        match put_end(e, self.processor.view(), out) {
+        let event = next_event(plan, f.reaches());
+        let reaches = event.is_some();
+        let end = f.end();
+        match put_end(event, end, self.processor.view(), out) {
             Ok(()) => {
-                self.ended = Some(e);
-                Turn::End(e)
+                self.ended = Some(end);
+                go_on(reaches, plan);
+                Turn::End(end)
             }
             Err(_) => Turn::Memory,
         }
@@ -363,11 +379,11 @@ impl Machine {
             → HasRoom self.old (vec_capacity out.old - vec_len out.old) (next_for self.old plan.old) → ⊥ }
         ensures fewer { LeavesFewer result (steps_left self.old plan.old) (steps_left self.new plan.new) }
     {
-        let event = step.event(plan);
+        let event = next_event(plan, step.reaches);
         match self.make_room(step, event, out) {
             Ok(sets) => {
                 let answer = self.act(step, issue, event, sets, out);
-                go_on(step, plan);
+                go_on(step.reaches, plan);
                 answer
             }
             Err(_) => Turn::Memory,

@@ -22,7 +22,7 @@ ghost use Rattle.i9_machine.specs.Issuing.{most_turns};
 
 use super::Machine;
 use crate::line::{Issued, Turn};
-use crate::step::Step;
+use crate::step::{Ending, Step};
 use i9_faults::{Fault, FaultStop};
 use i9_isa::{Op, word_count};
 use i9_model::faults::TRACE;
@@ -63,19 +63,19 @@ fn entered(point: Point) -> Step
     }
 }
 
-/// An event that is reached, behind which there is a drained point or none, and this is due.
-fn reached(point: Option<Point>, due: Due) -> Step
+/// An event that is reached, behind which there is a drained point.
+fn reached() -> Step
     ensures reaches { result.reaches ≡ true }
-    ensures point { result.point ≡ point }
+    ensures point { result.point ≡ Some Point.Event }
     ensures counts { result.counts ≡ 0 }
-    ensures due { result.due ≡ due }
+    ensures due { result.due ≡ Due.Nothing }
     ensures answer { result.answer ≡ Turn.On }
 {
     Step {
         reaches: true,
-        point,
+        point: Some(Point::Event),
         counts: 0,
-        due,
+        due: Due::Nothing,
         answer: Turn::On,
     }
 }
@@ -216,7 +216,7 @@ impl Machine {
     }
 
     /// The next instruction, or the end that stands in its place. Where `read` is set, it is in the memo.
-    fn next_instruction(&mut self, read: bool, plan: &Schedule) -> Result<Step, End>
+    fn next_instruction(&mut self, read: bool, plan: &Schedule) -> Result<Step, Ending>
         requires below { (state_of self.old.processor).count < self.old.length }
         requires free { self.old.due ≡ Due.Nothing }
         requires chosen { choice_in (state_of self.old.processor) ≡ Ok None }
@@ -227,7 +227,7 @@ impl Machine {
         ensures like { IsLike self.old self.new }
     {
         match plan_here(&self.processor, read, &mut self.memo, &mut self.effect) {
-            Planned::Meets(a) => Err(End::Hazard(a)),
+            Planned::Meets(a) => Err(Ending::Alone(End::Hazard(a))),
             Planned::Refused { words, number } => {
                 let need = need_refused(&self.processor, number);
                 let step = self.faults(words, 1, number);
@@ -250,7 +250,7 @@ impl Machine {
     }
 
     /// The entry of a fault, or the hazard or the dead entry of the fault table that ends the run.
-    fn entry(&mut self, fault: &Fault, plan: &Schedule) -> Result<Step, End>
+    fn entry(&mut self, fault: &Fault, plan: &Schedule) -> Result<Step, Ending>
         requires due { self.old.due ≡ Due.Entry fault.now }
         requires drained { IsDrained self.old.processor }
         ensures next { IsNext self.old plan.now result self.new }
@@ -263,13 +263,13 @@ impl Machine {
                 self.keep(need);
                 Ok(entered(Point::Fault))
             }
-            Err(FaultStop::Hazard(a)) => Err(End::Hazard(a)),
-            Err(FaultStop::Dead { code, address }) => Err(End::Dead(code, address)),
+            Err(FaultStop::Hazard(a)) => Err(Ending::Alone(End::Hazard(a))),
+            Err(FaultStop::Dead { code, address }) => Err(Ending::Alone(End::Dead(code, address))),
         }
     }
 
     /// The entry of an interrupt that is chosen, or the hazard that ends the run.
-    fn interrupt(&mut self, choice: &Chosen, plan: &Schedule) -> Result<Step, End>
+    fn interrupt(&mut self, choice: &Chosen, plan: &Schedule) -> Result<Step, Ending>
         requires below { (state_of self.old.processor).count < self.old.length }
         requires free { self.old.due ≡ Due.Nothing }
         requires chosen { choice_in (state_of self.old.processor) ≡ Ok (Some choice.now) }
@@ -284,39 +284,34 @@ impl Machine {
                 self.keep(need);
                 Ok(entered(Point::Int))
             }
-            Err(a) => Err(End::Hazard(a)),
+            Err(a) => Err(Ending::Alone(End::Hazard(a))),
         }
     }
 
     /// An event is reached: it does something, or it meets a hazard, which ends the run.
-    fn reaches(&mut self, event: &Event, plan: &Schedule) -> Step
+    fn reaches(&mut self, event: &Event, plan: &Schedule) -> Result<Step, Ending>
         requires below { (state_of self.old.processor).count < self.old.length }
         requires free { self.old.due ≡ Due.Nothing }
         requires chosen { choice_in (state_of self.old.processor) ≡ Ok None }
         requires stands { event_for self.old plan.now ≡ Some event.now }
         requires ranges { IsInRange event.now }
         requires drained { IsDrained self.old.processor }
-        ensures step { IsPlannedIn self.old plan.now result self.new }
+        ensures next { IsNext self.old plan.now result self.new }
         ensures like { IsLike self.old self.new }
     {
-        let need = need_reached(event);
         match plan_event(&self.processor, event) {
             Ok(planned) => {
                 self.effect = planned;
-                self.keep(need);
-                reached(Some(Point::Event), Due::Nothing)
+                self.keep(need_reached(event));
+                Ok(reached())
             }
-            Err(a) => {
-                self.effect.go(&self.processor, self.processor.ip());
-                self.keep(need);
-                reached(None, Due::End(End::Hazard(a)))
-            }
+            Err(a) => Err(Ending::AtEvent(a)),
         }
     }
 
     /// The event that stands there, where no interrupt is chosen, or else the next instruction, which is in the memo
     /// where `read` is set.
-    fn event_or_instruction(&mut self, read: bool, plan: &Schedule) -> Result<Step, End>
+    fn event_or_instruction(&mut self, read: bool, plan: &Schedule) -> Result<Step, Ending>
         requires below { (state_of self.old.processor).count < self.old.length }
         requires free { self.old.due ≡ Due.Nothing }
         requires chosen { choice_in (state_of self.old.processor) ≡ Ok None }
@@ -327,14 +322,14 @@ impl Machine {
         ensures like { IsLike self.old self.new }
     {
         match standing(plan, self.processor.count(), self.turn) {
-            Some(event) => Ok(self.reaches(event, plan)),
+            Some(event) => self.reaches(event, plan),
             None => self.next_instruction(read, plan),
         }
     }
 
     /// What comes next where nothing is due and the length is not reached: the entry of an interrupt that is
     /// chosen, an event, or one instruction.
-    fn next_freely(&mut self, plan: &Schedule) -> Result<Step, End>
+    fn next_freely(&mut self, plan: &Schedule) -> Result<Step, Ending>
         requires below { (state_of self.old.processor).count < self.old.length }
         requires free { self.old.due ≡ Due.Nothing }
         requires drained { IsDrained self.old.processor }
@@ -345,14 +340,14 @@ impl Machine {
         match self.processor.choose() {
             Ok(None) => self.event_or_instruction(false, plan),
             Ok(Some(choice)) => self.interrupt(&choice, plan),
-            Err(a) => Err(End::Hazard(a)),
+            Err(a) => Err(Ending::Alone(End::Hazard(a))),
         }
     }
 
     /// What comes next where nothing is open: what is due, the end of the length, or what comes before or is
     /// the next instruction. Its effect is made in the machine. Where `read` is set, nothing comes before the instruction
     /// in the memo but an event.
-    pub(super) fn next_step(&mut self, read: bool, plan: &Schedule) -> Result<Step, End>
+    pub(super) fn next_step(&mut self, read: bool, plan: &Schedule) -> Result<Step, Ending>
         requires drained { IsDrained self.old.processor }
         requires timely { IsTimely self.old plan.now }
         requires read { read ≡ true → HasRead self.old }
@@ -363,9 +358,9 @@ impl Machine {
             return self.event_or_instruction(true, plan);
         }
         match self.due {
-            Due::End(e) => Err(e),
+            Due::End(e) => Err(Ending::Alone(e)),
             Due::Entry(fault) => self.entry(&fault, plan),
-            Due::Nothing if self.processor.count() == self.length => Err(End::Limit),
+            Due::Nothing if self.processor.count() == self.length => Err(Ending::Alone(End::Limit)),
             Due::Nothing => self.next_freely(plan),
         }
     }

@@ -3,7 +3,7 @@ ghost use Rattle.std.specs.Prelude.{◌≡◌, List, Option, None, Some};
 ghost use Rattle.i9_model.specs.Given.{Given};
 ghost use Rattle.i9_model.specs.declared.run.End.{End};
 ghost use Rattle.i9_model.specs.State.{boot};
-ghost use Rattle.i9_model.specs.Run.{state_after};
+ghost use Rattle.i9_model.specs.Run.{state_after, Finish};
 ghost use Rattle.i9_course.specs.Course.{Item, records_of, course};
 ghost use Rattle.i9_raw.specs.Raw.{raw_memory};
 ghost use Rattle.i9_machine.specs.Raw.{raw_at, IsFlushed};
@@ -25,8 +25,8 @@ impl Machine {
         requires stands { self.old.ended ≡ None → IsUnderWay self.old plan.old }
         ensures next { (g : Given) (h : List Item) → StandsFor g h None self.old → Follows g h plan.old
             → Turns g h result self.old self.new plan.new out.old.items out.new.items }
-        ensures again { (g : Given) (h : List Item) (f : End) → StandsFor g h (Some f) self.old
-            → AnswersAgain g h f result self.new out.old.items out.new.items × (plan.new ≡ plan.old) }
+        ensures again { (g : Given) (h : List Item) (f : Finish) → StandsFor g h (Some f) self.old
+            → AnswersAgain f result self.old self.new out.old.items out.new.items × (plan.new ≡ plan.old) }
     {
         match self.ended {
             Some(e) => Turn::End(e),
@@ -57,7 +57,7 @@ impl Machine {
 
     /// The registers as they stand at the machine's turn, and which of them are busy.
     pub fn raw(&self) -> Raw
-        ensures { (g : Given) (h : List Item) (end : Option End) → StandsFor g h end self.now
+        ensures { (g : Given) (h : List Item) (end : Option Finish) → StandsFor g h end self.now
             → result ≡ raw_at g h self.now.turn }
     {
         Raw {
@@ -71,9 +71,9 @@ impl Machine {
     /// machine's turn, in order. A frame that is saved brings nothing there until it is spilled or flushed; where
     /// nothing is open and no frame is live, it is the state's memory, but for soft bytes.
     pub fn raw_byte(&self, a: u32) -> u8
-        ensures raw { (g : Given) (h : List Item) (end : Option End) → StandsFor g h end self.now
+        ensures raw { (g : Given) (h : List Item) (end : Option Finish) → StandsFor g h end self.now
             → result ≡ raw_memory (boot g.image).memory.bytes self.now.turn (course g h).late a }
-        ensures flushed { (g : Given) (h : List Item) (end : Option End) → StandsFor g h end self.now → IsFlushed g h self.now.turn a
+        ensures flushed { (g : Given) (h : List Item) (end : Option Finish) → StandsFor g h end self.now → IsFlushed g h self.now.turn a
             → result ≡ (state_after g (records_of h)).memory.bytes a }
     {
         match self.shade.look(a, self.turn) {

@@ -37,6 +37,7 @@ fn configure_regions(behind: &mut Behind, region: u8, words: &[u32])
     ensures memory { settled behind.new ≡ with_regions (settled behind.old) region words.now }
     ensures waiting { waiting_of behind.new ≡ waiting_of behind.old }
     ensures keeps { KeepsRoomIn behind.old behind.new }
+    ensures no_more { KeepsRoomIn behind.new behind.old }
 {
     for k in 0..words.len() {
         behind.configure(region + k as u8, words[k]);
@@ -45,7 +46,7 @@ fn configure_regions(behind: &mut Behind, region: u8, words: &[u32])
 
 impl Storage {
     ghost use Rattle.i9_storage.specs.Storage.{cache_of, memory_in, frames_in, size_of, waiting_in};
-    ghost use Rattle.i9_storage.specs.Storage.{IsDrained, KeepsSpace};
+    ghost use Rattle.i9_storage.specs.Storage.{IsDrained, KeepsSpace, AddsNone};
 
     /// What a call of system procedure `n` makes, by the system procedure table at `table`, from the
     /// process controls and the frame and stack pointers. `Err` says that there is no procedure of
@@ -231,6 +232,7 @@ impl Storage {
         ensures size { size_of self.new ≡ size_of self.old }
         ensures waiting { waiting_in self.new ≡ waiting_in self.old }
         ensures keeps { KeepsSpace self.old self.new }
+        ensures no_more { AddsNone self.old self.new }
     {
         reinit(self.behind.memory_mut(), &self.watch, first, prcb)
     }
@@ -259,6 +261,7 @@ impl Storage {
         ensures size { size_of self.new ≡ size_of self.old }
         ensures waiting { waiting_in self.new ≡ waiting_in self.old }
         ensures keeps { KeepsSpace self.old self.new }
+        ensures no_more { AddsNone self.old self.new }
     {
         configure_regions(&mut self.behind, region, words);
     }

@@ -9,6 +9,7 @@ ghost use Rattle.i9_storage.specs.Kept.{cache_in, laid_without, byte_in_frame};
 
 use super::Storage;
 use i9_frames::{Frame, Sets};
+use i9_memory::{half_of, word_of};
 use i9_model::in_port_page;
 use i9_model::layout::{FRAME_SIZE, LOCALS};
 use i9_queue::Behind;
@@ -114,11 +115,7 @@ impl Storage {
         ensures { result ≡ half_in (memory_in self.now) a }
     {
         let bytes = [self.byte(a), self.byte(a.wrapping_add(1))];
-        if self.big((a / REGION_SIZE) as u8) {
-            u16::from_be_bytes(bytes)
-        } else {
-            u16::from_le_bytes(bytes)
-        }
+        half_of(self.big((a / REGION_SIZE) as u8), bytes)
     }
 
     /// The two bytes from `a` up, in the order of the region of `a`. Where none is soft memory has
@@ -144,11 +141,7 @@ impl Storage {
             self.byte(a.wrapping_add(2)),
             self.byte(a.wrapping_add(3)),
         ];
-        if self.big((a / REGION_SIZE) as u8) {
-            u32::from_be_bytes(bytes)
-        } else {
-            u32::from_le_bytes(bytes)
-        }
+        word_of(self.big((a / REGION_SIZE) as u8), bytes)
     }
 
     /// The four bytes from `a` up, in the order of the region of `a`, where none of them is soft: memory

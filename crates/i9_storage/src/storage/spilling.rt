@@ -17,6 +17,7 @@ pub(super) fn hold(behind: &mut Behind, sets: &mut Sets, f: Frame)
     ensures size { sets.new.size ≡ sets.old.size }
     ensures waiting { waiting_of behind.new ≡ waiting_of behind.old }
     ensures keeps { KeepsRoomIn behind.old behind.new }
+    ensures no_more { KeepsRoomIn behind.new behind.old }
 {
     if let Some(oldest) = sets.push(f) {
         behind.put_words(oldest.address, &oldest.words);
@@ -35,6 +36,7 @@ fn spill(behind: &mut Behind, sets: &mut Sets)
     ensures size { sets.new.size ≡ sets.old.size }
     ensures waiting { waiting_of behind.new ≡ waiting_of behind.old }
     ensures keeps { KeepsRoomIn behind.old behind.new }
+    ensures no_more { KeepsRoomIn behind.new behind.old }
 {
     if let Some(f) = sets.drain_oldest() {
         behind.put_words(f.address, &f.words);
@@ -50,6 +52,7 @@ pub(super) fn write_back(behind: &mut Behind, sets: &mut Sets)
     ensures size { sets.new.size ≡ sets.old.size }
     ensures waiting { waiting_of behind.new ≡ waiting_of behind.old }
     ensures keeps { KeepsRoomIn behind.old behind.new }
+    ensures no_more { KeepsRoomIn behind.new behind.old }
 {
     for _ in 0..sets.len() {
         spill(behind, sets);

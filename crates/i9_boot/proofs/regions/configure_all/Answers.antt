@@ -16,6 +16,7 @@ loop-region-preserved c =
           ∙ c.loop-region.invariant.memory;
       bytes = ap (λ (m : Memory). m.bytes) c.configure.ensures.word ∙ c.loop-region.invariant.bytes;
       keeps = search rules;
+      no_more = search rules;
     }
 
 pub returns-clause-memory : goal.returns-clause-memory

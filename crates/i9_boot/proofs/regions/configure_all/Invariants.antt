@@ -9,4 +9,5 @@ invariant-loop-region l = record {
   memory : with_regions (memory_of l.m) l.region (drop l.region (take 16 (drop 8 l.control))) ≡ configured (memory_of l.fn.m) l.control;
   bytes : (memory_of l.m).bytes ≡ (memory_of l.fn.m).bytes;
   keeps : KeepsRoom l.fn.m l.m;
+  no_more : KeepsRoom l.m l.fn.m;
 }

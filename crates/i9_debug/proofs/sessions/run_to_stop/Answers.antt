@@ -48,7 +48,7 @@ returns-then-holds g c = λ what h stands follows.
     let came = c.proceed-turn.ensures.next what (steps_on inv.done h) inv.stands inv.follows in
     let step = rw c.in-Issued.is at (rw c.clear.ensures.items at came.comes) in
     issued_holds _ what h _ _ _ _ _ came.mid c.proceed-turn.new.self _ c.proceed-turn.new.plan c.proceed-turn.new.out.items inv c.in-Issued.field-0 c.view.result
-    step (rw c.deref.ensures.value at c.in-Done.ensures) (λ items end s. c.view.ensures what items end s) c.if-holds.ensures
+    step (rw c.deref.ensures.value at c.in-Done.ensures) (λ items end s. c.view.ensures.shown what items end s) c.if-holds.ensures
 
 pub loop-lines-preserved : goal.loop-lines-preserved
 loop-lines-preserved g c =
@@ -61,7 +61,7 @@ loop-lines-preserved g c =
           let came = c.proceed-turn.ensures.next what (steps_on inv.done h) inv.stands inv.follows in
           let step = rw c.in-Issued.is at (rw c.clear.ensures.items at came.comes) in
           issued_seeks _ what h _ _ _ _ _ came.mid c.proceed-turn.new.self _ c.proceed-turn.new.plan c.proceed-turn.new.out.items inv c.in-Issued.field-0 c.view.result
-          step (rw c.deref.ensures.value at c.in-Done.ensures) (λ items end s. c.view.ensures what items end s) c.if-holds.ensures;
+          step (rw c.deref.ensures.value at c.in-Done.ensures) (λ items end s. c.view.ensures.shown what items end s) c.if-holds.ensures;
     }
 
 pub loop-lines-preserved-in-On : goal.loop-lines-preserved-in-On

@@ -1,18 +1,18 @@
 use Rattle.std.proofs.Common.{◌≡◌, List, ◌∷◌, Option, None, Some}
 use Rattle.i9_model.specs.declared.run.End.{End}
-use Rattle.i9_model.specs.Run.{Given}
+use Rattle.i9_model.specs.Run.{Given, Finish}
 use Rattle.i9_schedule.specs.Plan.{Plan}
 use Rattle.i9_course.specs.Course.{Item, Mark}
 use Rattle.i9_machine.specs.declared.machine.Machine.{Machine}
-use Rattle.i9_machine.specs.StandsFor.{StandsFor, Follows}
+use Rattle.i9_machine.specs.StandsFor.{StandsFor, FollowsUntil}
 use Rattle.i9_machine.specs.InRun.{IsInRun}
 use Rattle.i9_machine.proofs.tests.settle.Goals as goal
 
 -- a machine stands for a run behind the call, with a mark where no end was answered
-settled : (g : Given) (h : List Item) (end : Option End) (before m : Machine) (plan : Plan)
+settled : (g : Given) (h : List Item) (end : Option Finish) (before m : Machine) (plan : Plan)
     → (StandsFor g h None before → StandsFor g (Mark ∷ h) None m)
-    → ((f : End) → StandsFor g h (Some f) before → StandsFor g h (Some f) m)
-    → StandsFor g h end before → Follows g h plan → IsInRun m plan
+    → ((f : Finish) → StandsFor g h (Some f) before → StandsFor g h (Some f) m)
+    → StandsFor g h end before → FollowsUntil g h end plan → IsInRun m plan
 settled g h None before m plan marked ended stands follows = record {
   given = g;
   items = Mark ∷ h;
@@ -25,7 +25,7 @@ settled g h (Some f) before m plan marked ended stands follows = record {
   items = h;
   end = Some f;
   stands = ended f stands;
-  follows = follows;
+  follows = tt;
 }
 
 pub returns : goal.returns

@@ -36,6 +36,7 @@ loop-r-preserved c =
       order = order.1;
       room = room_kept c.loop-r.memory c.store.new.self (all_puts ws) c.store.ensures.keeps (room_split c.loop-r.memory w.puts (all_puts ws) room).1;
       keeps = λ a h. c.store.ensures.keeps a (c.loop-r.invariant.keeps a h);
+      no_more = λ a h. c.loop-r.invariant.no_more a (c.store.ensures.no_more a h);
     }
 
 pub returns-clause-memory : goal.returns-clause-memory

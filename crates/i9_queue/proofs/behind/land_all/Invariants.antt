@@ -11,6 +11,7 @@ invariant-loop-r l = record {
   order : AreDueInOrder l.queue;
   room : HasRoomFor l.memory (all_puts l.queue);
   keeps : KeepsRoom l.fn.memory l.memory;
+  no_more : KeepsRoom l.memory l.fn.memory;
 }
 
 abbrev pub decreases-loop-r : goal.decreases-loop-r

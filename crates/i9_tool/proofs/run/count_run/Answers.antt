@@ -1,7 +1,7 @@
-use Rattle.std.proofs.Common.{List, [], ◌∷◌, length, Some, refl, ap, ◌∙◌}
+use Rattle.std.proofs.Common.{List, [], ◌∷◌, length, Some, refl, sym, ap, ◌∙◌}
 use Rattle.i9_model.specs.declared.view.View.{View}
 use Rattle.i9_model.specs.Given.{given}
-use Rattle.i9_model.specs.Run.{Record, state_after, reached_after}
+use Rattle.i9_model.specs.Run.{Record, state_after, reached_in}
 use Rattle.i9_model.specs.Image.{pairs_of}
 use Rattle.i9_course.specs.LateRun.{steps}
 use Rattle.i9_course.proofs.LateRuns.{records_of-steps}
@@ -40,11 +40,13 @@ returns-in-End c =
     let step = rw c.clear.ensures.items at (c.in-End.ensures.next what (steps inv.0) inv.1 inv.2).comes in
     record {
       records = inv.0;
+      finish = step.finish;
       run = record { past = inv.1.past; ends = step.is_end };
+      end = sym step.answers;
       count =
-          ap (λ (v : View). v.count) (c.view-count.ensures what (steps inv.0) (Some c.in-End.end) step.stands)
+          ap (λ (v : View). v.count) (c.view-count.ensures.shown what (steps inv.0) (Some step.finish) step.stands)
           ∙ ap (λ (rs : List Record). (state_after what rs).count) (records_of-steps inv.0);
       events =
           c.place-events.ensures ∙ step.follows.place
-          ∙ ap (λ (rs : List Record). length (reached_after rs)) (records_of-steps inv.0);
+          ∙ ap (λ (rs : List Record). length (reached_in what rs step.finish)) (records_of-steps inv.0);
     }

@@ -1,6 +1,6 @@
 use Rattle.std.proofs.Common.{◌≡◌, List, Some, None}
 use Rattle.i9_model.specs.Given.{Given}
-use Rattle.i9_model.specs.declared.run.End.{End}
+use Rattle.i9_model.specs.Run.{Finish}
 use Rattle.i9_course.specs.Course.{Item}
 use Rattle.i9_machine.specs.InRun.{IsInRun}
 use Rattle.i9_machine.specs.StandsFor.{StandsFor, Follows}
@@ -13,8 +13,8 @@ invariant-steps g l = record {
   in_run : IsInRun l.m l.plan;
   passes : (what : Given) (h : List Item) → StandsFor what h None l.fn.m → Follows what h l.fn.plan
       → Passes (g.F.ViewTest.allows l.s) what h l.m l.plan l.fn.out.items l.out.items;
-  same : (what : Given) (h : List Item) (f : End) → StandsFor what h (Some f) l.fn.m
-      → StandsFor what h (Some f) l.m × (l.out.items ≡ l.fn.out.items) × (l.plan ≡ l.fn.plan);
+  same : (what : Given) (h : List Item) (f : Finish) → StandsFor what h (Some f) l.fn.m
+      → (l.m ≡ l.fn.m) × (l.out.items ≡ l.fn.out.items) × (l.plan ≡ l.fn.plan);
 }
 
 abbrev pub decreases-steps : goal.decreases-steps

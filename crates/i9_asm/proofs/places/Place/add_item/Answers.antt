@@ -1,28 +1,43 @@
 use Rattle.std.proofs.Common.{ap, ◌∙◌}
-use Rattle.std.specs.BTreeMap.{get_by_text}
+use Rattle.i9_value.specs.Known.{known_in}
+use Rattle.i9_asm.specs.Lines.{Empty, Org, Align, Set}
 use Rattle.i9_asm.specs.Said.{item_as, bytes_of}
 use Rattle.i9_asm.specs.Places.{space_of}
+use Rattle.i9_asm.specs.Source.{gives_nothing, gives_move, gives_alignment, gives_assignment}
 use Rattle.i9_asm.specs.Reading.{place_of}
 use Rattle.i9_asm.proofs.FieldLoops.{fields_in}
-use Rattle.i9_asm.proofs.GivenBytes.{on_ok, code_adds, data_adds, string_adds, zeros_add, nothing_adds}
+use Rattle.i9_asm.proofs.GivenBytes.{on_ok, code_adds, data_adds, string_adds, zeros_add, no_bytes}
 use Rattle.i9_asm.proofs.places.Place.add_item.Goals as goal
 
-pub returns-in-Instruction : goal.returns-in-Instruction
-returns-in-Instruction c = on_ok c.add_code.result c.add_code.ensures
-    (λ h. code_adds (get_by_text c.args.names.now) (place_of c.args.self.now) c.address.result c.in-Instruction.text.now c.args.bytes.now.items c.add_code.new.bytes.items (item_as c.args.said.now) c.address.ensures (ap item_as c.in-Instruction.is) h)
+pub returns-in-Instruction-clause-bytes : goal.returns-in-Instruction-clause-bytes
+returns-in-Instruction-clause-bytes c = on_ok c.add_code.result c.add_code.ensures.words
+    (λ h. code_adds (known_in c.args.names) (place_of c.args.self.now) c.address.result c.in-Instruction.text.now c.args.bytes.now.items c.add_code.new.bytes.items (item_as c.args.said.now) c.address.ensures (ap item_as c.in-Instruction.is) h)
 
-pub returns-in-Data : goal.returns-in-Data
-returns-in-Data c = on_ok c.add_data.result c.add_data.ensures
-    (λ h sound. data_adds (get_by_text c.args.names.now) (place_of c.args.self.now) (bytes_of c.in-Data.width) (fields_in c.in-Data.text.now) c.args.bytes.now.items c.add_data.new.bytes.items (item_as c.args.said.now) (ap item_as c.in-Data.is) h)
+pub returns-in-Data-clause-bytes : goal.returns-in-Data-clause-bytes
+returns-in-Data-clause-bytes c = on_ok c.add_data.result c.add_data.ensures.bytes
+    (λ h sound. data_adds (known_in c.args.names) (place_of c.args.self.now) (bytes_of c.in-Data.width) (fields_in c.in-Data.text.now) c.args.bytes.now.items c.add_data.new.bytes.items (item_as c.args.said.now) (ap item_as c.in-Data.is) h)
 
-pub returns-in-Ascii : goal.returns-in-Ascii
-returns-in-Ascii c = on_ok c.add_string.result c.add_string.ensures
-    (λ h. string_adds (get_by_text c.args.names.now) (place_of c.args.self.now) c.in-Ascii.text.now c.args.bytes.now.items c.add_string.new.bytes.items (item_as c.args.said.now) (ap item_as c.in-Ascii.is) h)
+pub returns-in_ok-add_string-in-Ascii-clause-bytes : goal.returns-in_ok-add_string-in-Ascii-clause-bytes
+returns-in_ok-add_string-in-Ascii-clause-bytes c =
+    string_adds (known_in c.args.names) (place_of c.args.self.now) c.in-Ascii.text.now c.args.bytes.now.items c.add_string.new.bytes.items (item_as c.args.said.now) (ap item_as c.in-Ascii.is) c.in_ok-add_string-in-Ascii.ensures
 
-pub returns-in-Space : goal.returns-in-Space
-returns-in-Space c = on_ok c.add_zeros.result c.add_zeros.ensures
-    (λ h sound. zeros_add (get_by_text c.args.names.now) (place_of c.args.self.now) c.in-Space.field.now c.space_of.result.value c.args.bytes.now.items c.add_zeros.new.bytes.items (item_as c.args.said.now) (ap item_as c.in-Space.is)
-    (ap (λ n. n.value) (c.space_of.ensures ∙ ap space_of c.value_of.ensures)) h)
+pub returns-in_ok-add_zeros-in-Space-clause-bytes : goal.returns-in_ok-add_zeros-in-Space-clause-bytes
+returns-in_ok-add_zeros-in-Space-clause-bytes c =
+    λ sound. zeros_add (known_in c.args.names) (place_of c.args.self.now) c.in-Space.field.now c.space_of-read.result.value c.args.bytes.now.items c.add_zeros.new.bytes.items (item_as c.args.said.now) (ap item_as c.in-Space.is)
+    (ap (λ n. n.value) (c.space_of-read.ensures ∙ ap space_of c.value_of.ensures)) c.in_ok-add_zeros-in-Space.ensures
 
-pub returns-in_default : goal.returns-in_default
-returns-in_default c = λ sound. nothing_adds (get_by_text c.args.names.now) (place_of c.args.self.now) c.args.said.now c.args.bytes.now.items c.in_default.not-Space c.in_default.not-Data c.in_default.not-Ascii c.in_default.not-Instruction sound
+pub returns-in-Set-clause-bytes : goal.returns-in-Set-clause-bytes
+returns-in-Set-clause-bytes c =
+    λ sound. no_bytes (known_in c.args.names) (place_of c.args.self.now) (item_as c.args.said.now) (Set c.in-Set.name.now c.in-Set.field.now) c.args.bytes.now.items (ap item_as c.in-Set.is) (gives_assignment c.in-Set.name.now c.in-Set.field.now)
+
+pub returns-in-Org-clause-bytes : goal.returns-in-Org-clause-bytes
+returns-in-Org-clause-bytes c =
+    λ sound. no_bytes (known_in c.args.names) (place_of c.args.self.now) (item_as c.args.said.now) (Org c.in-Org.field.now) c.args.bytes.now.items (ap item_as c.in-Org.is) (gives_move c.in-Org.field.now)
+
+pub returns-in-Align-clause-bytes : goal.returns-in-Align-clause-bytes
+returns-in-Align-clause-bytes c =
+    λ sound. no_bytes (known_in c.args.names) (place_of c.args.self.now) (item_as c.args.said.now) (Align c.in-Align.field.now) c.args.bytes.now.items (ap item_as c.in-Align.is) (gives_alignment c.in-Align.field.now)
+
+pub returns-in-Empty-clause-bytes : goal.returns-in-Empty-clause-bytes
+returns-in-Empty-clause-bytes c =
+    λ sound. no_bytes (known_in c.args.names) (place_of c.args.self.now) (item_as c.args.said.now) Empty c.args.bytes.now.items (ap item_as c.in-Empty.is) gives_nothing

@@ -39,18 +39,18 @@ pub returns-in-Overtaking-clause-came : goal.returns-in-Overtaking-clause-came
 returns-in-Overtaking-clause-came c =
     let m = c.args.self.now in
     let late = subst (IsReadyFor m c.args.plan.now c.args.turn) c.in-Overtaking.is c.requires.ready in
-    subst (λ (x : Coming). Came x m c.answer_end.result c.answer_end.new.self c.args.plan.now c.args.plan.now c.args.out.now.items c.answer_end.new.out.items)
-    (sym c.in-Overtaking.is) (finish_overtakes m _ _ c.answer_end.result c.answer_end.new.self c.args.plan.now _ _ late c.answer_end.ensures)
+    subst (λ (x : Coming). Came x m c.answer_end.result c.answer_end.new.self c.args.plan.now c.answer_end.new.plan c.args.out.now.items c.answer_end.new.out.items)
+    (sym c.in-Overtaking.is) (finish_overtakes m _ _ c.answer_end.result c.answer_end.new.self c.args.plan.now _ _ _ late c.answer_end.ensures)
 
 pub returns-in-Overtaking-clause-lacking : goal.returns-in-Overtaking-clause-lacking
 returns-in-Overtaking-clause-lacking c =
     let m = c.args.self.now in
     let late = subst (IsReadyFor m c.args.plan.now c.args.turn) c.in-Overtaking.is c.requires.ready in
-    finish_lacks_late m _ _ c.answer_end.result c.answer_end.new.self c.args.plan.now _ _ late c.answer_end.ensures
+    finish_lacks_late m _ _ c.answer_end.result c.answer_end.new.self c.args.plan.now _ _ _ late c.answer_end.ensures
 
 pub returns-in-Overtaking-clause-fewer : goal.returns-in-Overtaking-clause-fewer
 returns-in-Overtaking-clause-fewer c =
-    finish_fewer c.args.self.now _ _ c.answer_end.result c.answer_end.new.self _ _ _ _ c.answer_end.ensures
+    finish_fewer c.args.self.now _ _ c.answer_end.result c.answer_end.new.self _ _ _ _ _ _ c.answer_end.ensures
 
 pub step_running-requires-clause-come : goal.step_running-requires-clause-come
 step_running-requires-clause-come c =

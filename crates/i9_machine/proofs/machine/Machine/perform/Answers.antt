@@ -100,7 +100,7 @@ returns-in-Err-clause-lacking c = λ is room.
     let out = c.args.out.now in
     let event = event_in c.args.plan.now c.args.step.now in
     let spare = vec_capacity out - vec_len out in
-    c.in-Err.ensures.lacking (subst (HasRoomForStep c.args.self.now spare c.args.self.now.effect c.args.step.now) (sym c.event-event.ensures.event)
+    c.in-Err.ensures.lacking (subst (HasRoomForStep c.args.self.now spare c.args.self.now.effect c.args.step.now) (sym c.next_event-event.ensures.event)
     (step_room c.args.self.now c.args.plan.now spare c.args.step.now c.requires.step.need c.args.self.now.effect c.requires.step.is room))
 
 pub act-answer-requires-clause-cost : goal.act-answer-requires-clause-cost
@@ -209,11 +209,11 @@ returns-in-Ok-clause-steps c =
       behind = c.go_on.ensures ∙ plan_is_behind old was c.args.step.now kept.need e step;
       lines =
           act.lines
-          ∙ ap (λ (ls : List Line). map shown_of ls ++ lines_of e c.args.step.now (option_copied c.event-event.result) (state_of mid.processor)
+          ∙ ap (λ (ls : List Line). map shown_of ls ++ lines_of e c.args.step.now (option_copied c.next_event-event.result) (state_of mid.processor)
           (state_behind_of (state_of mid.processor) e c.args.step.now)) c.make_room.ensures.items
-          ∙ ap (λ (t : State). map shown_of c.args.out.now.items ++ lines_of e c.args.step.now (option_copied c.event-event.result) t (state_behind_of t e c.args.step.now))
+          ∙ ap (λ (t : State). map shown_of c.args.out.now.items ++ lines_of e c.args.step.now (option_copied c.next_event-event.result) t (state_behind_of t e c.args.step.now))
           same.state
-          ∙ ap (λ (o : Option Event). map shown_of c.args.out.now.items ++ lines_of e c.args.step.now o s (state_behind_of s e c.args.step.now)) c.event-event.ensures.event
+          ∙ ap (λ (o : Option Event). map shown_of c.args.out.now.items ++ lines_of e c.args.step.now o s (state_behind_of s e c.args.step.now)) c.next_event-event.ensures.event
           ∙ ap (λ (ls : List Shown). map shown_of c.args.out.now.items ++ ls) (step_lines old was c.args.step.now kept.need e step);
       tells = step.tells;
     } in
@@ -229,5 +229,5 @@ returns-in-Err-clause-steps c =
       kept = refl;
       lines = c.make_room.ensures.items;
       needed = step_needs old c.args.plan.now c.args.step.now c.requires.step.need c.args.self.now.effect c.requires.step.is
-          (ap (asks_room (state_of old.processor) c.args.self.now.effect c.args.step.now) (sym c.event-event.ensures.event) ∙ c.in-Err.ensures.needed);
+          (ap (asks_room (state_of old.processor) c.args.self.now.effect c.args.step.now) (sym c.next_event-event.ensures.event) ∙ c.in-Err.ensures.needed);
     }

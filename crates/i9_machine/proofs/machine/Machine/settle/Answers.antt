@@ -11,7 +11,7 @@ returns-clause-marked c = λ g h stands.
 pub returns-clause-ended : goal.returns-clause-ended
 returns-clause-ended c = λ g h f stands.
     let all = c.land_all.ensures in
-    settled_ended g h f c.args.self.now _ c.all_done-until.result c.all_done-until.ensures.computed all.settled (all.floor ∙ c.mark_at-floor.ensures.end f stands.ended) stands
+    settled_ended g h f c.args.self.now _ c.all_done-until.result c.all_done-until.ensures.computed all.settled (all.floor ∙ c.mark_at-floor.ensures.end f.end stands.ended) stands
 
 pub returns-clause-quiet : goal.returns-clause-quiet
 returns-clause-quiet c = λ g h end stands.

@@ -52,27 +52,27 @@ pub returns-in-Err-clause-steps : goal.returns-in-Err-clause-steps
 returns-in-Err-clause-steps c =
     let m = c.args.self.now in
     let out = c.args.out.now in
-    finish_steps m c.in-Err.end _ c.answer_end.result c.answer_end.new.self c.args.plan.now _ _ c.in-Err.ensures.next
-    (like_finishes m c.next_step.new.self c.in-Err.end (vec_capacity out - vec_len out) c.answer_end.result c.answer_end.new.self _ _
+    finish_steps m _ _ c.answer_end.result c.answer_end.new.self c.args.plan.now _ _ _ c.in-Err.ensures.next
+    (like_finishes m c.next_step.new.self _ (vec_capacity out - vec_len out) c.answer_end.result c.answer_end.new.self _ _ _ _
     c.next_step.ensures.like c.answer_end.ensures)
 
 pub returns-in-Err-clause-issues : goal.returns-in-Err-clause-issues
 returns-in-Err-clause-issues c =
     let m = c.args.self.now in
     let out = c.args.out.now in
-    finish_issues m c.in-Err.end _ c.answer_end.result c.answer_end.new.self c.args.plan.now _ _
-    (like_finishes m c.next_step.new.self c.in-Err.end (vec_capacity out - vec_len out) c.answer_end.result c.answer_end.new.self _ _
+    finish_issues m _ _ c.answer_end.result c.answer_end.new.self c.args.plan.now _ _ _
+    (like_finishes m c.next_step.new.self _ (vec_capacity out - vec_len out) c.answer_end.result c.answer_end.new.self _ _ _ _
     c.next_step.ensures.like c.answer_end.ensures)
 
 pub returns-in-Err-clause-lacking : goal.returns-in-Err-clause-lacking
 returns-in-Err-clause-lacking c =
     let m = c.args.self.now in
     let out = c.args.out.now in
-    finish_lacks m c.in-Err.end (vec_capacity out - vec_len out) c.answer_end.result c.answer_end.new.self c.args.plan.now _ _ c.in-Err.ensures.next
-    (like_finishes m c.next_step.new.self c.in-Err.end (vec_capacity out - vec_len out) c.answer_end.result c.answer_end.new.self _ _
+    finish_lacks m _ (vec_capacity out - vec_len out) c.answer_end.result c.answer_end.new.self c.args.plan.now _ _ _ c.in-Err.ensures.next
+    (like_finishes m c.next_step.new.self _ (vec_capacity out - vec_len out) c.answer_end.result c.answer_end.new.self _ _ _ _
     c.next_step.ensures.like c.answer_end.ensures)
 
 pub returns-in-Err-clause-fewer : goal.returns-in-Err-clause-fewer
 returns-in-Err-clause-fewer c =
     let out = c.args.out.now in
-    finish_fewer c.next_step.new.self c.in-Err.end (vec_capacity out - vec_len out) c.answer_end.result c.answer_end.new.self _ _ _ _ c.answer_end.ensures
+    finish_fewer c.next_step.new.self _ (vec_capacity out - vec_len out) c.answer_end.result c.answer_end.new.self _ _ _ _ _ _ c.answer_end.ensures

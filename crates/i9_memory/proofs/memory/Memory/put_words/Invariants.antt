@@ -9,4 +9,5 @@ invariant-loop-w l = record {
   at : l.at ≡ wrapped (l.fn.a + 4 * l.w-index);
   rest : with_words (memory_of l.self) l.at (drop l.w-index l.words) ≡ with_words (memory_of l.fn.self) l.fn.a l.words;
   keeps : KeepsRoom l.fn.self l.self;
+  no_more : KeepsRoom l.self l.fn.self;
 }

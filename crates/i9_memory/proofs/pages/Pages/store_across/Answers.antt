@@ -23,6 +23,7 @@ loop-rest-preserved c =
           let place : wrapped (at + (length run + k)) ≡ wrapped (wrapped (at + length run) + k) = omega arith in
           subst (HasByte c.store_run.new.self) place (c.store_run.ensures.keeps _ (c.loop-rest.invariant.room (length run + k) (omega arith)));
       keeps = λ p h. c.store_run.ensures.keeps p (c.loop-rest.invariant.keeps p h);
+      no_more = λ p h. c.loop-rest.invariant.no_more p (c.store_run.ensures.no_more p h);
     }
 
 pub returns-clause-bytes : goal.returns-clause-bytes

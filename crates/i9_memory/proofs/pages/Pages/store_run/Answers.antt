@@ -1,7 +1,7 @@
 use Rattle.std.proofs.Common.{◌≡◌, ℕ, ◌/◌, sym, ap, ◌∙◌, arith}
 use Rattle.std.specs.Prelude.{Some}
 use Rattle.i9_pages.specs.Table.{Updates}
-use Rattle.i9_pages.proofs.Updated.{at_some, updated_keeps}
+use Rattle.i9_pages.proofs.Updated.{at_some, updated_keeps, updated_adds_none}
 use Rattle.i9_memory.specs.declared.pages.Pages.{Pages}
 use Rattle.i9_model.specs.Writes.{upwards}
 use Rattle.i9_model.specs.Memory.{stored}
@@ -33,3 +33,9 @@ returns-in-Some-clause-keeps c =
     let after = c.store.new.self in
     updated_keeps c.args.self.now.pages (c.get_mut.follows.lender after) (c.args.a / 256) after
     (at_some c.get_mut.result c.in-Some.page c.in-Some.is (c.get_mut.follows.holds after))
+
+pub returns-in-Some-clause-no_more : goal.returns-in-Some-clause-no_more
+returns-in-Some-clause-no_more c =
+    let after = c.store.new.self in
+    updated_adds_none c.args.self.now.pages (c.get_mut.follows.lender after) (c.args.a / 256) (Some after)
+    (at_some c.get_mut.result c.in-Some.page c.in-Some.is (c.get_mut.follows.holds after)) c.requires.room

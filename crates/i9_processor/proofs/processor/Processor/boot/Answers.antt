@@ -23,7 +23,7 @@ pub returns-clause-state : goal.returns-clause-state
 unfolding state_of started boot over
 returns-clause-state c =
     let pairs = pairs_of c.args.image.now in
-    let loaded : memory_of c.load.new.memory ≡ image_memory pairs = c.in_ok-load.ensures ∙ ap (λ (m : Memory). with_writes m pairs) c.new-memory.ensures in
+    let loaded : memory_of c.load.new.memory ≡ image_memory pairs = c.in_ok-load.ensures.ok ∙ ap (λ (m : Memory). with_writes m pairs) c.new-memory.ensures.memory in
     let setup = c.boot-setup.ensures.setup ∙ ap boot_setup loaded in
     let storage = c.in_ok-storage.storage in
     let memory : memory_in storage ≡ boot_memory (image_memory pairs) = ap overlaid c.in_ok-storage.ensures.cache ∙ c.boot-setup.ensures.memory ∙ ap boot_memory loaded in
@@ -59,7 +59,14 @@ pub returns-clause-bytes : goal.returns-clause-bytes
 unfolding bytes_of boot started
 returns-clause-bytes c =
     let pairs = pairs_of c.args.image.now in
-    let loaded : memory_of c.load.new.memory ≡ image_memory pairs = c.in_ok-load.ensures ∙ ap (λ (m : Memory). with_writes m pairs) c.new-memory.ensures in
+    let loaded : memory_of c.load.new.memory ≡ image_memory pairs = c.in_ok-load.ensures.ok ∙ ap (λ (m : Memory). with_writes m pairs) c.new-memory.ensures.memory in
     drained_acted c.in_ok-storage.storage c.in_ok-storage.ensures.waiting
     ∙ ap (λ (k : Cache). k.behind.bytes) c.in_ok-storage.ensures.cache
     ∙ ap (λ (m : Memory). m.bytes) (c.boot-setup.ensures.memory ∙ ap boot_memory loaded)
+
+-- room is made for the bytes of the image alone
+pub returns-clause-pages : goal.returns-clause-pages
+returns-clause-pages c = record {
+  bytes = λ x apart has. c.new-memory.ensures.none x (c.load.ensures.only x apart (c.boot-setup.ensures.no_more x (c.in_ok-storage.ensures.pages.bytes x has)));
+  marks = λ x has. c.in_ok-storage.ensures.pages.marks x has;
+}

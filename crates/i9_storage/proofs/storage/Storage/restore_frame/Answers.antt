@@ -4,7 +4,7 @@ use Rattle.i9_storage.proofs.storage.Storage.restore_frame.Goals as goal
 pub invariant_of-self : goal.invariant_of-self
 invariant_of-self c =
     let old = c.args.self.now in
-    record { kept = kept_return old.behind old.watch c.drop_frame.new.watch old.sets c.pop.new.self old.kept c.drop_frame.ensures c.pop.ensures.left }
+    record { kept = kept_return old.behind old.watch c.drop_frame.new.watch old.sets c.pop.new.self old.kept c.drop_frame.ensures.frames c.pop.ensures.left }
 
 pub returns-clause-memory : goal.returns-clause-memory
 returns-clause-memory c =

@@ -8,4 +8,5 @@ invariant-loop-k l = record {
   rest : with_regions (settled l.behind) (l.region + l.k) (drop l.k l.words) ≡ with_regions (settled l.fn.behind) l.region l.words;
   waiting : waiting_of l.behind ≡ waiting_of l.fn.behind;
   keeps : KeepsRoomIn l.fn.behind l.behind;
+  no_more : KeepsRoomIn l.behind l.fn.behind;
 }

@@ -12,4 +12,5 @@ invariant-loop l = record {
   size : l.sets.size ≡ l.fn.sets.size;
   waiting : waiting_of l.behind ≡ waiting_of l.fn.behind;
   keeps : KeepsRoomIn l.fn.behind l.behind;
+  no_more : KeepsRoomIn l.behind l.fn.behind;
 }

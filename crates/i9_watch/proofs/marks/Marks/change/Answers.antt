@@ -10,6 +10,7 @@ loop-done-init c = record {
   blocks = λ _. refl;
   marks = λ m. change_none c.args.change m c.args.a (is_marked m c.args.self.now);
   keeps = λ p h. h;
+  no_more = λ p h. h;
 }
 
 pub loop-done-preserved : goal.loop-done-preserved
@@ -25,6 +26,7 @@ loop-done-preserved c = record {
   marks = λ m. change_more c.args.change m c.args.a c.loop-done.done c.count_in_page-count.result (is_marked m c.args.self.now) (is_marked m c.loop-done.self) (is_marked m c.change_in_page.new.self)
       (c.loop-done.invariant.marks m) (c.change_in_page.ensures.marks m);
   keeps = λ p h. c.change_in_page.ensures.keeps p (c.loop-done.invariant.keeps p h);
+  no_more = λ p h. c.loop-done.invariant.no_more p (c.change_in_page.ensures.no_more p h);
 }
 
 pub returns-clause-marks : goal.returns-clause-marks

@@ -10,6 +10,7 @@ invariant-loop-done l = record {
   blocks : l.change ≢ Store → l.done % 16 ≡ 0;
   marks : (m : Mark) → is_marked m l.self ≡ changed_run l.change m l.a l.done (is_marked m l.fn.self);
   keeps : KeepsPages l.fn.self l.self;
+  no_more : KeepsPages l.self l.fn.self;
 }
 
 abbrev pub decreases-loop-done : goal.decreases-loop-done

@@ -1,7 +1,8 @@
-use Rattle.std.proofs.Common.{◌≡◌, ◌≢◌, ◌/◌, ◌%◌, Some, sym, ap, ◌∙◌, arith}
+use Rattle.std.proofs.Common.{◌≡◌, ◌≢◌, ◌/◌, ◌%◌, Some, refl, sym, subst, ap, ◌∙◌, arith}
+use Rattle.std.specs.Prelude.{IsSome}
 use Rattle.std.proofs.lemmas.Grind.{common_steps}
 use Rattle.i9_pages.specs.Table.{page_at, Updates}
-use Rattle.i9_pages.proofs.Updated.{at_some, updated_here, updated_elsewhere, updated_keeps}
+use Rattle.i9_pages.proofs.Updated.{at_some, updated_here, updated_elsewhere, updated_keeps, updated_adds_none}
 use Rattle.i9_watch.specs.declared.marks.Marks.{Marks}
 use Rattle.i9_watch.specs.Page.{changed}
 use Rattle.i9_watch.specs.Marks.{is_marked, HasPage}
@@ -37,3 +38,10 @@ returns-in-Some-clause-keeps c =
     let after = c.change.new.self in
     updated_keeps c.args.self.now.pages (c.get_mut.follows.lender after) (c.args.a / 256) after
     (at_some c.get_mut.result c.in-Some.page c.in-Some.is (c.get_mut.follows.holds after))
+
+pub returns-in-Some-clause-no_more : goal.returns-in-Some-clause-no_more
+returns-in-Some-clause-no_more c =
+    let after = c.change.new.self in
+    updated_adds_none c.args.self.now.pages (c.get_mut.follows.lender after) (c.args.a / 256) (Some after)
+    (at_some c.get_mut.result c.in-Some.page c.in-Some.is (c.get_mut.follows.holds after))
+    (subst IsSome c.in-Some.ensures.value refl)

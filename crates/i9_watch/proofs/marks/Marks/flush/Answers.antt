@@ -14,6 +14,7 @@ loop-frame-preserved c =
       left = λ m. frame_cleared (is_marked m c.loop-frame.self) (is_marked m c.change.new.self) c.in-Some.frame.now rest (deque_iter_rest c.next.new.self) (c.change.ensures.marks m) first
           ∙ c.loop-frame.invariant.left m;
       keeps = λ p h. c.change.ensures.keeps p (c.loop-frame.invariant.keeps p h);
+      no_more = λ p h. c.loop-frame.invariant.no_more p (c.change.ensures.no_more p h);
     }
 
 pub returns-clause-marks : goal.returns-clause-marks

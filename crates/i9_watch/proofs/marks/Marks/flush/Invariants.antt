@@ -12,4 +12,5 @@ invariant-loop-frame l = record {
   aligned : AreAligned (deque_iter_rest l.frame-iterator);
   left : (m : Mark) → ◌≡◌ {A = ℕ → Bool} (λ x. is_marked m l.self x && not (in_frames (deque_iter_rest l.frame-iterator) x)) (λ x. is_marked m l.fn.self x && not (in_frames l.frames.items x));
   keeps : KeepsPages l.fn.self l.self;
+  no_more : KeepsPages l.self l.fn.self;
 }

@@ -14,8 +14,8 @@ pub invariant_of-result-clause-apart : goal.invariant_of-result-clause-apart
 invariant_of-result-clause-apart c = subst AreApart (sym c.new-2.ensures.items) tt
 
 pub invariant_of-result-clause-marked : goal.invariant_of-result-clause-marked
-invariant_of-result-clause-marked c = live-none (is_marked Live c.new.result) c.new-2.result.items (c.new.ensures Live) c.new-2.ensures.items
+invariant_of-result-clause-marked c = live-none (is_marked Live c.new.result) c.new-2.result.items (c.new.ensures.marks Live) c.new-2.ensures.items
 
 pub returns-clause-frames : goal.returns-clause-frames
 unfolding frames_of
-returns-clause-frames c = same_frames (c.new.ensures Soft) c.new-2.ensures.items
+returns-clause-frames c = same_frames (c.new.ensures.marks Soft) c.new-2.ensures.items

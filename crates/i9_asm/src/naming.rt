@@ -1,0 +1,154 @@
+//! The first pass: the names of a source and their definitions.
+ghost use Rattle.std.specs.Prelude.{◌≡◌, ◌<◌, ◌*◌, ◌^◌, ℕ, List, Some, true, IfOk};
+ghost use Rattle.std.specs.BTreeMap.{get_by_text};
+ghost use Rattle.std.specs.Map.{update};
+ghost use Rattle.std.specs.Str.{bytes_eq};
+ghost use Rattle.i9_value.specs.Values.{is_name};
+ghost use Rattle.i9_asm.specs.Said.{item_as, label_in};
+ghost use Rattle.i9_asm.specs.Numbered.{enter};
+
+use crate::lines::{Said, read_line};
+use crate::places::{Place, effect_of};
+use i9_value::{Definition, Known, Table, is_name, lookup, settled, value_of};
+use std::alloc::{AllocError, Global};
+
+/// A table with the definition of one more name.
+fn with_definition(
+    alloc: Global,
+    mut table: Table,
+    name: &str,
+    definition: Definition,
+) -> Result<Table, AllocError>
+    ensures { IfOk result (λ more. (q : List ℕ) → get_by_text more q
+        ≡ update bytes_eq (get_by_text table) name.now (Some definition) q) }
+{
+    let key = String::from_str(alloc, name)?;
+    table.insert(key, definition)?;
+    Ok(table)
+}
+
+/// A table with one name more, if it is not defined yet.
+fn define(
+    alloc: Global,
+    table: Table,
+    name: &[u8],
+    definition: Definition,
+) -> Result<Table, AllocError>
+    requires { is_name name.now ≡ true }
+    ensures { IfOk result (λ more. get_by_text more ≡ enter name.now definition (get_by_text table)) }
+{
+    if lookup(Known::All(&table), name).is_some() {
+        return Ok(table);
+    }
+    match str::from_utf8(name) {
+        Ok(text) => with_definition(alloc, table, text, definition),
+        Err(_) => Ok(table),
+    }
+}
+
+/// Where the first pass stands: the location, and the names that are defined before it.
+#[derive(Drop)]
+pub(crate) struct Naming {
+    location: u64,
+    pub(crate) table: Table,
+    ghost low: { location < 2 ^ 33 },
+}
+
+impl Naming {
+    ghost use Rattle.i9_asm.specs.Places.{address_at, past_label, past_item, past_line, start_place};
+    ghost use Rattle.i9_asm.specs.Numbered.{no_definitions, label_entered, item_entered, line_entered};
+    ghost use Rattle.i9_asm.specs.Reading.{place_of, naming_place};
+
+    /// Before the first line.
+    pub(crate) fn new(alloc: Global) -> Naming
+        ensures table { get_by_text result.table ≡ no_definitions }
+        ensures place { naming_place result ≡ start_place }
+    {
+        Naming {
+            location: 0,
+            table: Table::new(alloc),
+        }
+    }
+
+    /// The place there.
+    fn place(&self) -> Place<'_>
+        ensures { place_of result ≡ naming_place self.now }
+    {
+        Place {
+            location: self.location,
+            known: Known::All(&self.table),
+        }
+    }
+
+    /// The same behind a label, which is defined at this step.
+    fn with_label(
+        self,
+        alloc: Global,
+        step: u128,
+        label: Option<&[u8]>,
+    ) -> Result<Naming, AllocError>
+        ensures location { IfOk result (λ n. n.location ≡ self.location) }
+        ensures table { IfOk result (λ n. get_by_text n.table
+            ≡ label_entered (label_in label.entry) (address_at (naming_place self)) step (get_by_text self.table)) }
+    {
+        match label {
+            Some(name) if is_name(name) => {
+                let value = self.place().address();
+                let definition = Definition { value, step };
+                Ok(Naming {
+                    location: self.location,
+                    table: define(alloc, self.table, name, definition)?,
+                })
+            }
+            _ => Ok(self),
+        }
+    }
+
+    /// The table behind an item, whose name is defined at this step.
+    fn assigned(self, alloc: Global, step: u128, said: &Said<'_>) -> Result<Table, AllocError>
+        ensures { IfOk result (λ more. get_by_text more
+            ≡ item_entered (naming_place self) step (item_as said.now) (get_by_text self.table)) }
+    {
+        match *said {
+            Said::Set(name, field) => {
+                let value = value_of(Known::All(&self.table), field);
+                if is_name(name) && value.is_some() {
+                    let value = settled(value).value;
+                    define(alloc, self.table, name, Definition { value, step })
+                } else {
+                    Ok(self.table)
+                }
+            }
+            _ => Ok(self.table),
+        }
+    }
+
+    /// The same behind an item, whose name is defined at this step.
+    fn with_item(self, alloc: Global, step: u128, said: &Said<'_>) -> Result<Naming, AllocError>
+        ensures location { IfOk result (λ n. n.location ≡ (past_item (naming_place self) (item_as said.now)).location) }
+        ensures table { IfOk result (λ n. get_by_text n.table
+            ≡ item_entered (naming_place self) step (item_as said.now) (get_by_text self.table)) }
+    {
+        let place = self.place();
+        let location = place.next_location(place.moved_to(said), place.size_of(said));
+        let table = self.assigned(alloc, step, said)?;
+        Ok(Naming { location, table })
+    }
+
+    /// The same behind a line with so many lines before it, also behind one at fault.
+    pub(crate) fn with_line(
+        self,
+        alloc: Global,
+        number: u64,
+        text: &[u8],
+    ) -> Result<Naming, AllocError>
+        ensures location { IfOk result (λ n. n.location ≡ (past_line (naming_place self) text.now).location) }
+        ensures table { IfOk result (λ n. get_by_text n.table
+            ≡ line_entered (naming_place self) (2 * number) text.now (get_by_text self.table)) }
+    {
+        let line = read_line(text);
+        let step = 2 * u128::from(number);
+        let labelled = self.with_label(alloc, step, line.label)?;
+        labelled.with_item(alloc, step + 1, &effect_of(text, &line))
+    }
+}
