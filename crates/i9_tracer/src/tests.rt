@@ -28,7 +28,9 @@ const LAST: u32 = 0xFFFF_FFFF;
 const G0: usize = 16;
 
 /// A view at 1010, with 16 in g0 and 0 in every other register.
-fn shown() -> View {
+fn shown() -> View
+    ensures { result.count < 2 ^ 32 }
+{
     let mut regs = [0; 32];
     regs[G0] = 16;
     View {
