@@ -1,0 +1,3 @@
+pub mod SoundLines
+pub mod LoadLines
+pub mod MadeLines

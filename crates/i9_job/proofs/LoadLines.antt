@@ -1,0 +1,131 @@
+-- Lines that load a decimal number into a register: each number of 32 bits, with or without a label before.
+use Rattle.std.proofs.Common.{◌≡◌, ℕ, ◌+◌, ◌*◌, ◌^◌, ◌<◌, ◌≤◌, Bool, true, false, not, cond, ltb, eqb, List, [], ◌∷◌, ◌++◌, length, Option, Some, None, refl, sym, ap, ◌∙◌, arith, inl, inr}
+use Rattle.std.specs.Prelude.{codes}
+use Rattle.std.specs.List.{list_all}
+use Rattle.std.specs.Fmt.{decimal}
+use Rattle.std.specs.Int.Bits.{bit_and}
+use Rattle.std.proofs.lemmas.Bool.{and_parts, eq-eqb, cases_Bool}
+use Rattle.std.proofs.lemmas.List.{append-nil}
+use Rattle.std.proofs.lemmas.Nat.{and_le_l}
+use Rattle.i9_isa.specs.declared.op.Op.TheVariants.{Lda}
+use Rattle.i9_isa.specs.declared.inst.Mode.TheVariants.{Offset, Disp}
+use Rattle.i9_isa.specs.declared.inst.Ea.{Ea}
+use Rattle.i9_isa.specs.declared.inst.Inst.{Inst}
+use Rattle.i9_isa.specs.Words.{words_of_mode, words_of}
+use Rattle.i9_isa.specs.declared.format.Use.TheVariants.{Load}
+use Rattle.i9_decode.specs.Ignored.{ignored_bits}
+use Rattle.i9_text.specs.Text.{space, is_in_word}
+use Rattle.i9_value.specs.declared.fault.Noted.{Noted}
+use Rattle.i9_value.specs.declared.values.Value.TheVariants.{Number}
+use Rattle.i9_value.specs.Cut.{before, from, is_byte}
+use Rattle.i9_value.specs.Noted.{fine, least}
+use Rattle.i9_value.specs.Values.{Names, is_name_byte, value_of}
+use Rattle.i9_value.proofs.Cutting.{is_free, free_by, before-cut, from-cut, all_append, all_by}
+use Rattle.i9_value.proofs.ReadValues.{has_byte-some, decimal_some, decimal_bytes, value_of-decimal}
+use Rattle.i9_statement.specs.Addresses.{bang, opens, address_behind, address_of, base_of, index_of, valued, front_of, with_base}
+use Rattle.i9_statement.specs.Fields.{fields_of, join_fields, comma}
+use Rattle.i9_statement.specs.Instructions.{instruction_of}
+use Rattle.i9_statement.specs.Mnemonics.{mnemonic, op_named, named_by}
+use Rattle.i9_statement.specs.Operands.{operand_of}
+use Rattle.i9_statement.specs.Statements.{open_brace, fields_text, spare_of, statement_of, joined, with_spare}
+use Rattle.i9_statement.proofs.Classes.{is_operand_byte, apart_by, free_in, IsField}
+use Rattle.i9_statement.proofs.ReadAddresses.{ea}
+use Rattle.i9_asm.specs.Places.{no_names, statement_size}
+use Rattle.i9_statement.proofs.ReadFields.{fields_of-text}
+
+-- ---- the number as an address
+
+-- a word that is a number of 32 bits
+record IsNumber (w : List ℕ) (n : ℕ) : Type 0 where
+  some : 0 < length w
+  bytes : list_all is_name_byte w ≡ true
+  value : (names : Names) → value_of names w ≡ Some (Number n)
+
+decimal_number : (n : ℕ) → n < 2 ^ 32 → IsNumber (decimal n) n
+decimal_number n small =
+    record { some = decimal_some n small; bytes = decimal_bytes n small; value = λ names. value_of-decimal names n small }
+
+number_field : (w : List ℕ) (n : ℕ) → IsNumber w n → IsField w
+number_field w n h = record {
+  bytes = all_by is_name_byte is_operand_byte (λ b in_q. rw in_q refl) w h.bytes;
+  some = has_byte-some w h.some;
+}
+
+-- where a byte is not in a text, all of the text stands before it
+whole_before : (p : ℕ → Bool) (w : List ℕ) → is_free p w ≡ true → before p w ≡ w
+whole_before p w free = ap (before p) (sym (append-nil w)) ∙ before-cut p w [] free refl
+
+none_from : (p : ℕ → Bool) (w : List ℕ) → is_free p w ≡ true → from p w ≡ []
+none_from p w free = ap (from p) (sym (append-nil w)) ∙ from-cut p w [] free refl
+
+-- an offset, or a displacement where the number is too large for one
+abbrev number_address : ℕ → Ea
+number_address n = ea (cond (ltb n 4096) Offset Disp) 0 0 0 n
+
+opens_free : (w : List ℕ) → list_all is_name_byte w ≡ true → is_free opens w ≡ true
+opens_free w h = free_by is_name_byte opens (λ b in_q. rw (apart_by is_name_byte 40 b refl in_q, apart_by is_name_byte 91 b refl in_q) refl) w h
+
+address_number : (names : Names) (w : List ℕ) (n : ℕ) → IsNumber w n → address_of names w ≡ fine (number_address n)
+unfolding address_of address_behind base_of index_of
+address_number names [] n h = absurd (omega (arith, h.some))
+address_number names (c ∷ w) n h =
+    let free = opens_free (c ∷ w) h.bytes in
+    rw (apart_by is_name_byte bang c refl (and_parts (is_name_byte c) _ h.bytes).0)
+    (ap (λ x. with_base false (front_of names x) (base_of (from opens (c ∷ w)))) (whole_before opens (c ∷ w) free)
+    ∙ ap (λ x. with_base false (front_of names (c ∷ w)) (base_of x)) (none_from opens (c ∷ w) free)
+    ∙ ap (λ v. with_base false (valued v) (base_of [])) (h.value names))
+
+-- ---- the statement
+
+-- a register that is loaded
+record IsTarget (g : List ℕ) : Type 0 where
+  field : IsField g
+  read : (names : Names) → (operand_of (Load 1) names g).fault ≡ None
+
+abbrev load_text : List ℕ → List ℕ → List ℕ
+load_text w g = codes "lda" ++ fields_text (w ∷ g ∷ [])
+
+-- the instruction that it says
+abbrev load_of : ℕ → Names → List ℕ → List ℕ → Noted Inst
+load_of ip names w g = instruction_of ip Lda false names (w ∷ g ∷ [])
+
+-- bits that are ignored ones
+same_spare : (n : Noted Inst) (bits : ℕ) → bit_and bits (ignored_bits n.value) ≡ bits → with_spare n (Some bits) ≡ joined n (fine bits)
+same_spare n bits h = rw (eq-eqb (bit_and bits (ignored_bits n.value)) bits h) refl
+
+zero_spare : (n : Noted Inst) → with_spare n (Some 0) ≡ joined n (fine 0)
+zero_spare n = same_spare n 0 (omega (arith, and_le_l 0 (ignored_bits n.value)))
+
+load_parts : (ip : ℕ) (names : Names) (w g : List ℕ) → IsField w → IsField g → statement_of ip names (load_text w g) ≡ joined (load_of ip names w g) (fine 0)
+unfolding statement_of named_by op_named mnemonic spare_of join_fields
+load_parts ip names w g hw hg =
+    let text = fields_text (w ∷ g ∷ []) in
+    let free : is_free (is_byte open_brace) text ≡ true =
+    all_append (λ b. not (is_byte open_brace b)) w (comma ∷ space ∷ g) (free_in is_operand_byte open_brace w refl hw.bytes) (free_in is_operand_byte open_brace g refl hg.bytes) in
+    ap (λ t. with_spare (instruction_of ip Lda false names (fields_of t)) (spare_of (from (is_byte open_brace) text))) (whole_before (is_byte open_brace) text free)
+    ∙ ap (λ t. with_spare (instruction_of ip Lda false names (fields_of text)) (spare_of t)) (none_from (is_byte open_brace) text free)
+    ∙ ap (λ t. with_spare (instruction_of ip Lda false names (fields_of t)) (Some 0)) (sym (append-nil text))
+    ∙ ap (λ fs. with_spare (instruction_of ip Lda false names fs) (Some 0)) (fields_of-text (w ∷ g ∷ []) false (hw, (hg, tt)))
+    ∙ zero_spare (load_of ip names w g)
+
+load_fault : (ip : ℕ) (names : Names) (w g : List ℕ) (n : ℕ) → IsNumber w n → IsTarget g → (load_of ip names w g).fault ≡ None
+unfolding instruction_of
+load_fault ip names w g n h target = rw (address_number names w n h, target.read names) refl
+
+load_words : (ip : ℕ) (names : Names) (w g : List ℕ) (n : ℕ) → IsNumber w n → words_of (load_of ip names w g).value ≡ words_of_mode (number_address n).mode
+unfolding instruction_of
+load_words ip names w g n h = ap (λ a. words_of_mode a.value.mode) (address_number names w n h)
+
+load_sound : (ip : ℕ) (names : Names) (w g : List ℕ) (n : ℕ) → IsNumber w n → IsTarget g → (statement_of ip names (load_text w g)).fault ≡ None
+load_sound ip names w g n h target =
+    ap (λ s. s.fault) (load_parts ip names w g (number_field w n h) target.field)
+    ∙ ap (λ f. least f None) (load_fault ip names w g n h target)
+
+-- how many bytes it has
+abbrev load_size : ℕ → ℕ
+load_size n = 4 * words_of_mode (number_address n).mode
+
+load_counts : (ip : ℕ) (w g : List ℕ) (n : ℕ) → IsNumber w n → IsTarget g → statement_size (statement_of ip no_names (load_text w g)) ≡ load_size n
+load_counts ip w g n h target =
+    ap statement_size (load_parts ip no_names w g (number_field w n h) target.field)
+    ∙ rw (load_fault ip no_names w g n h target, load_words ip no_names w g n h) refl

@@ -1,0 +1,6 @@
+//! Laws of the jobs that are made from numbers, on which nothing stands.
+#![tactic(auto)]
+
+mod laws;
+
+pub use laws::made_jobs_are_accepted;
