@@ -1,10 +1,10 @@
 -- Lines that load a decimal number into a register: each number of 32 bits, with or without a label before.
-use Rattle.std.proofs.Common.{◌≡◌, ℕ, ◌+◌, ◌*◌, ◌^◌, ◌<◌, ◌≤◌, Bool, true, false, not, cond, ltb, eqb, List, [], ◌∷◌, ◌++◌, length, Option, Some, None, refl, sym, ap, ◌∙◌, arith, inl, inr}
+use Rattle.std.proofs.Common.{◌≡◌, ℕ, ◌+◌, ◌*◌, ◌%◌, ◌^◌, ◌<◌, ◌≤◌, Bool, true, false, not, cond, ltb, eqb, List, [], ◌∷◌, ◌++◌, length, Option, Some, None, refl, sym, ap, ◌∙◌, add-one, arith}
 use Rattle.std.specs.Prelude.{codes}
 use Rattle.std.specs.List.{list_all}
 use Rattle.std.specs.Fmt.{decimal}
 use Rattle.std.specs.Int.Bits.{bit_and}
-use Rattle.std.proofs.lemmas.Bool.{and_parts, eq-eqb, cases_Bool}
+use Rattle.std.proofs.lemmas.Bool.{and_parts, eq-eqb, lt-ltb, le-ltb}
 use Rattle.std.proofs.lemmas.List.{append-nil}
 use Rattle.std.proofs.lemmas.Nat.{and_le_l}
 use Rattle.i9_isa.specs.declared.op.Op.TheVariants.{Lda}
@@ -30,8 +30,13 @@ use Rattle.i9_statement.specs.Operands.{operand_of}
 use Rattle.i9_statement.specs.Statements.{open_brace, fields_text, spare_of, statement_of, joined, with_spare}
 use Rattle.i9_statement.proofs.Classes.{is_operand_byte, apart_by, free_in, IsField}
 use Rattle.i9_statement.proofs.ReadAddresses.{ea}
-use Rattle.i9_asm.specs.Places.{no_names, statement_size}
 use Rattle.i9_statement.proofs.ReadFields.{fields_of-text}
+use Rattle.i9_statement.proofs.StatementBytes.{is_statement_byte, operand_statement, low_statement}
+use Rattle.i9_asm.specs.Lines.{Instruction, code_len, without_comment, labelled, item_by, item_of, label_of}
+use Rattle.i9_asm.specs.Places.{Place, location_count, address_at, no_names, is_ascii, is_label, statement_size, past_label, past_line}
+use Rattle.i9_asm.specs.Source.{most_bytes, label_fault, line_fault}
+use Rattle.i9_asm.proofs.ReadLines.{NoTail, without_comment-tail}
+use Rattle.i9_job.proofs.SoundLines.{standing}
 
 -- ---- the number as an address
 
@@ -59,7 +64,7 @@ none_from : (p : ℕ → Bool) (w : List ℕ) → is_free p w ≡ true → from 
 none_from p w free = ap (from p) (sym (append-nil w)) ∙ from-cut p w [] free refl
 
 -- an offset, or a displacement where the number is too large for one
-abbrev number_address : ℕ → Ea
+abbrev pub number_address : ℕ → Ea
 number_address n = ea (cond (ltb n 4096) Offset Disp) 0 0 0 n
 
 opens_free : (w : List ℕ) → list_all is_name_byte w ≡ true → is_free opens w ≡ true
@@ -78,11 +83,11 @@ address_number names (c ∷ w) n h =
 -- ---- the statement
 
 -- a register that is loaded
-record IsTarget (g : List ℕ) : Type 0 where
-  field : IsField g
-  read : (names : Names) → (operand_of (Load 1) names g).fault ≡ None
+pub record IsTarget (g : List ℕ) : Type 0 where
+  pub field : IsField g
+  pub read : (names : Names) → (operand_of (Load 1) names g).fault ≡ None
 
-abbrev load_text : List ℕ → List ℕ → List ℕ
+abbrev pub load_text : List ℕ → List ℕ → List ℕ
 load_text w g = codes "lda" ++ fields_text (w ∷ g ∷ [])
 
 -- the instruction that it says
@@ -122,10 +127,94 @@ load_sound ip names w g n h target =
     ∙ ap (λ f. least f None) (load_fault ip names w g n h target)
 
 -- how many bytes it has
-abbrev load_size : ℕ → ℕ
+abbrev pub load_size : ℕ → ℕ
 load_size n = 4 * words_of_mode (number_address n).mode
 
 load_counts : (ip : ℕ) (w g : List ℕ) (n : ℕ) → IsNumber w n → IsTarget g → statement_size (statement_of ip no_names (load_text w g)) ≡ load_size n
 load_counts ip w g n h target =
     ap statement_size (load_parts ip no_names w g (number_field w n h) target.field)
     ∙ rw (load_fault ip no_names w g n h target, load_words ip no_names w g n h) refl
+
+-- ---- the line
+
+-- a line that says such a statement behind a label, or without one
+pub record Loads (line : List ℕ) (label : Option (List ℕ)) (n : ℕ) : Type 0 where
+  pub said : List ℕ
+  pub item : item_of line ≡ Instruction said
+  pub named : label_of line ≡ label
+  pub ascii : list_all is_ascii line ≡ true
+  pub sound : (ip : ℕ) (names : Names) → (statement_of ip names said).fault ≡ None
+  pub size : (ip : ℕ) → statement_size (statement_of ip no_names said) ≡ load_size n
+
+load_bytes : (w g : List ℕ) → IsField w → IsField g → list_all is_statement_byte (load_text w g) ≡ true
+unfolding join_fields
+load_bytes w g hw hg =
+    all_append is_statement_byte w (comma ∷ space ∷ g) (operand_statement w hw.bytes) (operand_statement g hg.bytes)
+
+load_ascii : (w g : List ℕ) → IsField w → IsField g → list_all is_ascii (load_text w g) ≡ true
+load_ascii w g hw hg =
+    all_by is_statement_byte is_ascii (λ b in_q. lt-ltb b 128 (low_statement b in_q)) (load_text w g) (load_bytes w g hw hg)
+
+load_clean : (w g : List ℕ) → IsField w → IsField g → without_comment (load_text w g) ≡ load_text w g
+load_clean w g hw hg =
+    ap without_comment (sym (append-nil (load_text w g)))
+    ∙ without_comment-tail (load_text w g) NoTail (load_bytes w g hw hg)
+    ∙ append-nil (load_text w g)
+
+pub plain_load : (n : ℕ) (g : List ℕ) → n < 2 ^ 32 → IsTarget g → Loads (load_text (decimal n) g) None n
+unfolding item_of labelled
+plain_load n g small target =
+    let w = decimal n in
+    let h = decimal_number n small in
+    let field = number_field w n h in
+    let clean = load_clean w g field target.field in
+    record {
+      said = load_text w g;
+      item = ap (λ s. item_by (labelled (from is_in_word s)).rest) clean;
+      named = ap (λ s. (labelled (from is_in_word s)).label) clean;
+      ascii = load_ascii w g field target.field;
+      sound = λ ip names. load_sound ip names w g n h target;
+      size = λ ip. load_counts ip w g n h target;
+    }
+
+-- a label and a blank before a text
+behind_label : (s : List ℕ) → without_comment (codes "loop: " ++ s) ≡ codes "loop: " ++ without_comment s
+unfolding code_len
+behind_label s = simp add-one refl
+
+pub loop_load : (n : ℕ) (g : List ℕ) → n < 2 ^ 32 → IsTarget g → Loads (codes "loop: " ++ load_text (decimal n) g) (Some (codes "loop")) n
+unfolding item_of labelled
+loop_load n g small target =
+    let w = decimal n in
+    let h = decimal_number n small in
+    let field = number_field w n h in
+    let clean : without_comment (codes "loop: " ++ load_text w g) ≡ codes "loop: " ++ load_text w g =
+    behind_label (load_text w g) ∙ ap (λ s. codes "loop: " ++ s) (load_clean w g field target.field) in
+    record {
+      said = load_text w g;
+      item = ap (λ s. item_by (labelled (from is_in_word s)).rest) clean;
+      named = ap (λ s. (labelled (from is_in_word s)).label) clean;
+      ascii = load_ascii w g field target.field;
+      sound = λ ip names. load_sound ip names w g n h target;
+      size = λ ip. load_counts ip w g n h target;
+    }
+
+-- ---- the places and the faults
+
+-- so many bytes further
+abbrev pub further : ℕ → Place → Place
+further size p = record p { location = p.location + size }
+
+pub load_past : (p q : Place) (line : List ℕ) (label : Option (List ℕ)) (n : ℕ) → Loads line label n → is_label label ≡ true → past_label label p ≡ q → q.location + load_size n ≤ 2 ^ 32
+    → past_line p line ≡ further (load_size n) q
+load_past p q line label n h is_name named room =
+    let next : (q.location + load_size n) % location_count ≡ q.location + load_size n = omega (arith, room) in
+    rw (h.ascii, h.named, is_name, h.item, named, h.size (address_at q), next) refl
+
+pub load_line_sound : (names : Names) (p q : Place) (count : ℕ) (line : List ℕ) (label : Option (List ℕ)) (n : ℕ) → Loads line label n → past_label label p ≡ q → label_fault label p.known ≡ None
+    → q.location + load_size n ≤ 2 ^ 32 → count + load_size n ≤ most_bytes → line_fault names (standing p count) line ≡ None
+unfolding line_fault
+load_line_sound names p q count line label n h named fresh room few =
+    let inside : ltb (2 ^ 32) (q.location + load_size n) ≡ false = le-ltb _ _ room in
+    let small : ltb most_bytes (count + load_size n) ≡ false = le-ltb _ _ few in
+    rw (h.ascii, h.named, fresh, h.item, named, h.sound (address_at q) names, h.size (address_at q), inside, small) refl
