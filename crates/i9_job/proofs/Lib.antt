@@ -1,3 +1,4 @@
 pub mod SoundLines
 pub mod LoadLines
-pub mod MadeLines
+pub mod MadeText
+pub mod MadeSource

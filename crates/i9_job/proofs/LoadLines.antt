@@ -207,9 +207,9 @@ further size p = record p { location = p.location + size }
 
 pub load_past : (p q : Place) (line : List ℕ) (label : Option (List ℕ)) (n : ℕ) → Loads line label n → is_label label ≡ true → past_label label p ≡ q → q.location + load_size n ≤ 2 ^ 32
     → past_line p line ≡ further (load_size n) q
-load_past p q line label n h is_name named room =
+load_past p q line label n h good named room =
     let next : (q.location + load_size n) % location_count ≡ q.location + load_size n = omega (arith, room) in
-    rw (h.ascii, h.named, is_name, h.item, named, h.size (address_at q), next) refl
+    rw (h.ascii, h.named, good, h.item, named, h.size (address_at q), next) refl
 
 pub load_line_sound : (names : Names) (p q : Place) (count : ℕ) (line : List ℕ) (label : Option (List ℕ)) (n : ℕ) → Loads line label n → past_label label p ≡ q → label_fault label p.known ≡ None
     → q.location + load_size n ≤ 2 ^ 32 → count + load_size n ≤ most_bytes → line_fault names (standing p count) line ≡ None
