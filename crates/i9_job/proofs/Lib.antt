@@ -2,3 +2,4 @@ pub mod SoundLines
 pub mod LoadLines
 pub mod MadeText
 pub mod MadeSource
+pub mod MadeSchedule

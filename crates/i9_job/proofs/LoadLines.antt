@@ -36,7 +36,7 @@ use Rattle.i9_asm.specs.Lines.{Instruction, code_len, without_comment, labelled,
 use Rattle.i9_asm.specs.Places.{Place, location_count, address_at, no_names, is_ascii, is_label, statement_size, past_label, past_line}
 use Rattle.i9_asm.specs.Source.{most_bytes, label_fault, line_fault}
 use Rattle.i9_asm.proofs.ReadLines.{NoTail, without_comment-tail}
-use Rattle.i9_job.proofs.SoundLines.{standing}
+use Rattle.i9_job.proofs.SoundLines.{standing, Passes}
 
 -- ---- the number as an address
 
@@ -138,13 +138,13 @@ load_counts ip w g n h target =
 -- ---- the line
 
 -- a line that says such a statement behind a label, or without one
-pub record Loads (line : List ℕ) (label : Option (List ℕ)) (n : ℕ) : Type 0 where
+pub record Loads (line : List ℕ) (label : Option (List ℕ)) (size : ℕ) : Type 0 where
   pub said : List ℕ
   pub item : item_of line ≡ Instruction said
   pub named : label_of line ≡ label
   pub ascii : list_all is_ascii line ≡ true
   pub sound : (ip : ℕ) (names : Names) → (statement_of ip names said).fault ≡ None
-  pub size : (ip : ℕ) → statement_size (statement_of ip no_names said) ≡ load_size n
+  pub counts : (ip : ℕ) → statement_size (statement_of ip no_names said) ≡ size
 
 load_bytes : (w g : List ℕ) → IsField w → IsField g → list_all is_statement_byte (load_text w g) ≡ true
 unfolding join_fields
@@ -161,7 +161,7 @@ load_clean w g hw hg =
     ∙ without_comment-tail (load_text w g) NoTail (load_bytes w g hw hg)
     ∙ append-nil (load_text w g)
 
-pub plain_load : (n : ℕ) (g : List ℕ) → n < 2 ^ 32 → IsTarget g → Loads (load_text (decimal n) g) None n
+pub plain_load : (n : ℕ) (g : List ℕ) → n < 2 ^ 32 → IsTarget g → Loads (load_text (decimal n) g) None (load_size n)
 unfolding item_of labelled
 plain_load n g small target =
     let w = decimal n in
@@ -174,7 +174,7 @@ plain_load n g small target =
       named = ap (λ s. (labelled (from is_in_word s)).label) clean;
       ascii = load_ascii w g field target.field;
       sound = λ ip names. load_sound ip names w g n h target;
-      size = λ ip. load_counts ip w g n h target;
+      counts = λ ip. load_counts ip w g n h target;
     }
 
 -- a label and a blank before a text
@@ -182,7 +182,7 @@ behind_label : (s : List ℕ) → without_comment (codes "loop: " ++ s) ≡ code
 unfolding code_len
 behind_label s = simp add-one refl
 
-pub loop_load : (n : ℕ) (g : List ℕ) → n < 2 ^ 32 → IsTarget g → Loads (codes "loop: " ++ load_text (decimal n) g) (Some (codes "loop")) n
+pub loop_load : (n : ℕ) (g : List ℕ) → n < 2 ^ 32 → IsTarget g → Loads (codes "loop: " ++ load_text (decimal n) g) (Some (codes "loop")) (load_size n)
 unfolding item_of labelled
 loop_load n g small target =
     let w = decimal n in
@@ -196,7 +196,7 @@ loop_load n g small target =
       named = ap (λ s. (labelled (from is_in_word s)).label) clean;
       ascii = load_ascii w g field target.field;
       sound = λ ip names. load_sound ip names w g n h target;
-      size = λ ip. load_counts ip w g n h target;
+      counts = λ ip. load_counts ip w g n h target;
     }
 
 -- ---- the places and the faults
@@ -205,16 +205,37 @@ loop_load n g small target =
 abbrev pub further : ℕ → Place → Place
 further size p = record p { location = p.location + size }
 
-pub load_past : (p q : Place) (line : List ℕ) (label : Option (List ℕ)) (n : ℕ) → Loads line label n → is_label label ≡ true → past_label label p ≡ q → q.location + load_size n ≤ 2 ^ 32
-    → past_line p line ≡ further (load_size n) q
-load_past p q line label n h good named room =
-    let next : (q.location + load_size n) % location_count ≡ q.location + load_size n = omega (arith, room) in
-    rw (h.ascii, h.named, good, h.item, named, h.size (address_at q), next) refl
+-- a place and a count in a source with room for so many bytes more
+record HasSpace (q : Place) (count size : ℕ) : Type 0 where
+  inside : q.location + size ≤ 2 ^ 32
+  few : count + size ≤ most_bytes
 
-pub load_line_sound : (names : Names) (p q : Place) (count : ℕ) (line : List ℕ) (label : Option (List ℕ)) (n : ℕ) → Loads line label n → past_label label p ≡ q → label_fault label p.known ≡ None
-    → q.location + load_size n ≤ 2 ^ 32 → count + load_size n ≤ most_bytes → line_fault names (standing p count) line ≡ None
+-- where a line with this label stands, which is no name before
+record IsLabel (label : Option (List ℕ)) (p q : Place) : Type 0 where
+  form : is_label label ≡ true
+  past : past_label label p ≡ q
+  fresh : label_fault label p.known ≡ None
+
+load_past : (p q : Place) (line : List ℕ) (label : Option (List ℕ)) (count size : ℕ) → Loads line label size → IsLabel label p q → HasSpace q count size → past_line p line ≡ further size q
+load_past p q line label count size h named space =
+    let next : (q.location + size) % location_count ≡ q.location + size = omega (arith, space.inside) in
+    rw (h.ascii, h.named, named.form, h.item, named.past, h.counts (address_at q), next) refl
+
+load_line_sound : (names : Names) (p q : Place) (line : List ℕ) (label : Option (List ℕ)) (count size : ℕ) → Loads line label size → IsLabel label p q → HasSpace q count size → line_fault names (standing p count) line ≡ None
 unfolding line_fault
-load_line_sound names p q count line label n h named fresh room few =
-    let inside : ltb (2 ^ 32) (q.location + load_size n) ≡ false = le-ltb _ _ room in
-    let small : ltb most_bytes (count + load_size n) ≡ false = le-ltb _ _ few in
-    rw (h.ascii, h.named, fresh, h.item, named, h.sound (address_at q) names, h.size (address_at q), inside, small) refl
+load_line_sound names p q line label count size h named space =
+    let inside : ltb (2 ^ 32) (q.location + size) ≡ false = le-ltb _ _ space.inside in
+    let small : ltb most_bytes (count + size) ≡ false = le-ltb _ _ space.few in
+    rw (h.ascii, h.named, named.fresh, h.item, named.past, h.sound (address_at q) names, h.counts (address_at q), inside, small) refl
+
+-- so such a line is passed
+pub load_passes : (names : Names) (p q : Place) (line : List ℕ) (label : Option (List ℕ)) (count size : ℕ) → Loads line label size → is_label label ≡ true → past_label label p ≡ q → label_fault label p.known ≡ None
+    → q.location + size ≤ 2 ^ 32 → count + size ≤ most_bytes → Passes names p count line (further size q) (count + size)
+load_passes names p q line label count size h form past fresh inside few =
+    let named : IsLabel label p q = record { form = form; past = past; fresh = fresh } in
+    let space : HasSpace q count size = record { inside = inside; few = few } in
+    record {
+      sound = load_line_sound names p q line label count size h named space;
+      past = load_past p q line label count size h named space;
+      count = rw (h.named, h.item, past, h.counts (address_at q)) refl;
+    }

@@ -1,6 +1,8 @@
 -- A made source assembles without a fault.
-use Rattle.std.proofs.Common.{◌≡◌, ℕ, ◌+◌, ◌^◌, ◌<◌, ◌≤◌, Bool, true, false, cond, ltb, List, [], ◌∷◌, ◌++◌, None, refl, sym, ap, subst, ◌∙◌, arith}
-use Rattle.std.specs.Prelude.{codes, if◌then◌else◌}
+use Rattle.std.proofs.Common.{◌≡◌, ℕ, ◌+◌, ◌%◌, ◌^◌, ◌<◌, ◌≤◌, Bool, true, false, cond, ltb, List, [], ◌∷◌, ◌++◌, None, refl, sym, ap, subst, ◌∙◌, arith}
+use Rattle.std.specs.Prelude.{codes, Some, if◌then◌else◌}
+use Rattle.std.specs.Fmt.{decimal}
+use Rattle.std.proofs.lemmas.Bool.{lt-ltb}
 use Rattle.i9_model.specs.Image.{Part}
 use Rattle.i9_text.specs.Text.{lines_of, number_of}
 use Rattle.i9_value.specs.Cut.{closed}
@@ -14,12 +16,15 @@ use Rattle.i9_statement.specs.Operands.{operand_of}
 use Rattle.i9_statement.specs.Statements.{spare_of, statement_of}
 use Rattle.i9_statement.specs.Targets.{target_of}
 use Rattle.i9_asm.specs.Lines.{code_len, labelled, item_of}
-use Rattle.i9_asm.specs.Places.{Place, no_names, define, start_place, past_lines, all_names}
+use Rattle.i9_asm.specs.Places.{Place, no_names, define, start_place, past_label, past_lines, all_names}
 use Rattle.i9_asm.specs.Source.{line_fault}
-use Rattle.i9_asm.specs.Laws.{IsAssembly}
-use Rattle.i9_generator.specs.Generator.{tables_text, set_up_text, calls_text, generated_source}
-use Rattle.i9_job.proofs.SoundLines.{are_sound}
-use Rattle.i9_job.proofs.MadeText.{front_lines, back_lines}
+use Rattle.i9_asm.specs.Laws.{IsAssembly, IsRefusedSource}
+use Rattle.i9_asm.proofs.Once.{never_both_answers}
+use Rattle.i9_generator.specs.Generator.{drawn, rounds_of, start_of, depth_of, tables_text, set_up_text, calls_text, generated_source}
+use Rattle.i9_job.specs.Accepted.{HasAssembly}
+use Rattle.i9_job.proofs.SoundLines.{are_sound, Passes, passes_sound, passes_past, sound_assembles}
+use Rattle.i9_job.proofs.LoadLines.{load_text, load_size, IsTarget, Loads, plain_load, loop_load, further, load_passes}
+use Rattle.i9_job.proofs.MadeText.{front_lines, rounds_line, start_line, depth_line, back_lines, made_lines, made_text}
 
 -- where the lines begin that go by the number, and how many bytes stand before them
 abbrev number_place : Place
@@ -28,19 +33,25 @@ number_place = record { location = 4132; known = no_names }
 abbrev number_count : ℕ
 number_count = 124
 
--- behind these lines, by whether the number of the second takes one word
-abbrev loop_place : Bool → Place
-loop_place short = let a = if short then 4140 else 4144 in record { location = a + 4; known = define (codes "loop") a no_names }
+-- how many bytes the second of them has, by whether its number takes one word
+abbrev size_by : Bool → ℕ
+size_by short = if short then 4 else 8
 
-abbrev loop_count : Bool → ℕ
-loop_count short = if short then 136 else 140
+-- behind them, where the second has so many bytes
+abbrev place_behind : ℕ → Place
+place_behind size = record { location = 4136 + size + 4; known = define (codes "loop") ((4136 + size) % 2 ^ 32) no_names }
 
--- the names
-known_names : Bool → Names
-known_names short = (past_lines (loop_place short) back_lines).known
+abbrev count_behind : ℕ → ℕ
+count_behind size = 128 + size + 4
+
+-- ---- the constant lines, by computation
+
+-- the names of a source whose line has so many bytes
+known_names : ℕ → Names
+known_names size = (past_lines (place_behind size) back_lines).known
 
 -- the lines before have no fault
-front_sound : (short : Bool) (rest : List (List ℕ)) → are_sound (known_names short) start_place 0 (front_lines ++ rest) ≡ are_sound (known_names short) number_place number_count rest
+front_sound : (short : Bool) (rest : List (List ℕ)) → are_sound (known_names (size_by short)) start_place 0 (front_lines ++ rest) ≡ are_sound (known_names (size_by short)) number_place number_count rest
 unfolding known_names back_lines calls_text past_lines are_sound line_fault front_lines tables_text set_up_text
     code_len labelled item_of is_name decimal_of magnitude value_of number_of register_place fields_of closed spare_of
     statement_of named_by op_named mnemonic instruction_of operand_of target_of address_of address_behind base_of index_of
@@ -54,9 +65,104 @@ unfolding past_lines front_lines tables_text set_up_text
 front_past rest = refl
 
 -- and those behind
-back_sound : (short : Bool) → are_sound (known_names short) (loop_place short) (loop_count short) back_lines ≡ true
+back_sound : (short : Bool) → are_sound (known_names (size_by short)) (place_behind (size_by short)) (count_behind (size_by short)) back_lines ≡ true
 unfolding known_names back_lines calls_text past_lines are_sound line_fault
     code_len labelled item_of is_name decimal_of magnitude value_of number_of register_place fields_of closed spare_of
     statement_of named_by op_named mnemonic instruction_of operand_of target_of address_of address_behind base_of index_of
 back_sound true = refl
 back_sound false = refl
+
+-- ---- the lines that go by the number
+
+-- the registers
+target6 : IsTarget (codes "g6")
+unfolding operand_of register_place
+target6 = record { field = record { bytes = refl; some = refl }; read = λ names. refl }
+
+target7 : IsTarget (codes "g7")
+unfolding operand_of register_place
+target7 = record { field = record { bytes = refl; some = refl }; read = λ names. refl }
+
+target0 : IsTarget (codes "g0")
+unfolding operand_of register_place
+target0 = record { field = record { bytes = refl; some = refl }; read = λ names. refl }
+
+-- a number below 4096 takes one word
+short_size : (n : ℕ) → n < 4096 → load_size n ≡ 4
+short_size n h = rw (lt-ltb n 4096 h) refl
+
+abbrev load_lines : ℕ → ℕ → ℕ → List (List ℕ) → List (List ℕ)
+load_lines r s d rest =
+    load_text (decimal r) (codes "g6") ∷ load_text (decimal s) (codes "g7") ∷ (codes "loop: " ++ load_text (decimal d) (codes "g0")) ∷ rest
+
+-- they lead on, and have no fault
+record Led (names : Names) (lines rest : List (List ℕ)) (size : ℕ) : Type 0 where
+  sound : are_sound names number_place number_count lines ≡ are_sound names (place_behind size) (count_behind size) rest
+  past : past_lines number_place lines ≡ past_lines (place_behind size) rest
+
+loads_lead : (names : Names) (r s d size : ℕ) (rest : List (List ℕ)) → r < 4096 → s < 2 ^ 32 → d < 4096 → load_size s ≡ size → size ≤ 8 → Led names (load_lines r s d rest) rest size
+unfolding is_name register_place
+loads_lead names r s d size rest r_small s_small d_small is low =
+    let r_line = load_text (decimal r) (codes "g6") in
+    let s_line = load_text (decimal s) (codes "g7") in
+    let d_line = codes "loop: " ++ load_text (decimal d) (codes "g0") in
+    let r_load = subst (Loads r_line None) (short_size r r_small) (plain_load r (codes "g6") (omega arith) target6) in
+    let s_load = subst (Loads s_line None) is (plain_load s (codes "g7") s_small target7) in
+    let d_load = subst (Loads d_line (Some (codes "loop"))) (short_size d d_small) (loop_load d (codes "g0") (omega arith) target0) in
+    let p = further 4 number_place in
+    let q = further size p in
+    let r_pass = load_passes names number_place number_place r_line None number_count 4 r_load refl refl refl (omega arith) (omega arith) in
+    let s_pass = load_passes names p p s_line None 128 size s_load refl refl refl (omega arith) (omega arith) in
+    let d_pass = load_passes names q (past_label (Some (codes "loop")) q) d_line (Some (codes "loop")) (128 + size) 4 d_load refl refl refl (omega arith) (omega arith) in
+    record {
+      sound = passes_sound names number_place number_count r_line p 128 (s_line ∷ d_line ∷ rest) r_pass
+          ∙ passes_sound names p 128 s_line q (128 + size) (d_line ∷ rest) s_pass
+          ∙ passes_sound names q (128 + size) d_line (place_behind size) (count_behind size) rest d_pass;
+      past = passes_past names number_place number_count r_line p 128 (s_line ∷ d_line ∷ rest) r_pass
+          ∙ passes_past names p 128 s_line q (128 + size) (d_line ∷ rest) s_pass
+          ∙ passes_past names q (128 + size) d_line (place_behind size) (count_behind size) rest d_pass;
+    }
+
+-- ---- the whole
+
+size_low : (short : Bool) → size_by short ≤ 8
+size_low true = omega arith
+size_low false = omega arith
+
+size_is : (n : ℕ) (short : Bool) → ltb n 4096 ≡ short → load_size n ≡ size_by short
+size_is n true h = rw h refl
+size_is n false h = rw h refl
+
+start_small : (number : ℕ) → start_of number < 2 ^ 32
+unfolding drawn
+start_small number = omega arith
+
+lines_lead : (number : ℕ) (short : Bool) → ltb (start_of number) 4096 ≡ short
+    → Led (known_names (size_by short)) (rounds_line number ∷ start_line number ∷ depth_line number ∷ back_lines) back_lines (size_by short)
+lines_lead number short h =
+    loads_lead (known_names (size_by short)) (rounds_of number) (start_of number) (depth_of number) (size_by short) back_lines
+    (omega arith) (start_small number) (omega arith) (size_is (start_of number) short h) (size_low short)
+
+made_sound : (number : ℕ) → are_sound (all_names (made_lines number)) start_place 0 (made_lines number) ≡ true
+unfolding known_names
+made_sound number =
+    let short = ltb (start_of number) 4096 in
+    let rest = rounds_line number ∷ start_line number ∷ depth_line number ∷ back_lines in
+    let lead = lines_lead number short refl in
+    let names : all_names (made_lines number) ≡ known_names (size_by short) = ap (λ (p : Place). p.known) (front_past rest ∙ lead.past) in
+    ap (λ ns. are_sound ns start_place 0 (made_lines number)) names
+    ∙ front_sound short rest
+    ∙ lead.sound
+    ∙ back_sound short
+
+-- a made source assembles
+pub made_source : (number : ℕ) → HasAssembly number
+made_source number =
+    let found = sound_assembles (made_lines number) (made_sound number) in
+    record { image = found.0; assembled = subst (λ lines. IsAssembly lines found.0) (sym (made_text number)) found.1 }
+
+-- so it is not refused
+pub source_not_refused : (number : ℕ) (fault : ℕ × ℕ) → IsRefusedSource (lines_of (generated_source number)) fault → ⊥
+source_not_refused number fault refused =
+    let made = made_source number in
+    never_both_answers (lines_of (generated_source number)) made.image fault made.assembled refused

@@ -9,7 +9,7 @@ use Rattle.i9_value.specs.declared.fault.Fault.{Fault}
 use Rattle.i9_value.specs.Noted.{kind_of}
 use Rattle.i9_value.specs.Values.{Names}
 use Rattle.i9_asm.specs.Lines.{item_of, label_of}
-use Rattle.i9_asm.specs.Places.{Place, start_place, past_label, past_line, size_of, moved_to, all_names}
+use Rattle.i9_asm.specs.Places.{Place, start_place, past_label, past_line, past_lines, size_of, moved_to, all_names}
 use Rattle.i9_asm.specs.Source.{Source, start_source, labelled_source, begun, past_source, line_fault, fault_of, Assembles}
 use Rattle.i9_asm.specs.Laws.{IsAssembly}
 use Rattle.i9_asm.proofs.SomeAnswer.{some_answer}
@@ -27,6 +27,20 @@ unfoldable pub are_sound : Names → Place → ℕ → List (List ℕ) → Bool
 are_sound names p n [] = true
 are_sound names p n (line ∷ lines) =
     not (is_some (line_fault names (standing p n) line)) && are_sound names (past_line p line) (counted p n line) lines
+
+-- a line without fault, with the place and the count behind it
+pub record Passes (names : Names) (p : Place) (n : ℕ) (line : List ℕ) (q : Place) (m : ℕ) : Type 0 where
+  pub sound : line_fault names (standing p n) line ≡ None
+  pub past : past_line p line ≡ q
+  pub count : counted p n line ≡ m
+
+pub passes_sound : (names : Names) (p : Place) (n : ℕ) (line : List ℕ) (q : Place) (m : ℕ) (lines : List (List ℕ)) → Passes names p n line q m → are_sound names p n (line ∷ lines) ≡ are_sound names q m lines
+unfolding are_sound
+passes_sound names p n line q m lines h = rw (h.sound, h.past, h.count) refl
+
+pub passes_past : (names : Names) (p : Place) (n : ℕ) (line : List ℕ) (q : Place) (m : ℕ) (lines : List (List ℕ)) → Passes names p n line q m → past_lines p (line ∷ lines) ≡ past_lines q lines
+unfolding past_lines
+passes_past names p n line q m lines h = ap (λ x. past_lines x lines) h.past
 
 -- ---- such lines are not refused
 
