@@ -1,5 +1,5 @@
 -- Lines that load a decimal number into a register: each number of 32 bits, with or without a label before.
-use Rattle.std.proofs.Common.{◌≡◌, ℕ, ◌+◌, ◌*◌, ◌%◌, ◌^◌, ◌<◌, ◌≤◌, Bool, true, false, not, cond, ltb, eqb, List, [], ◌∷◌, ◌++◌, length, Option, Some, None, refl, sym, ap, ◌∙◌, add-one, arith}
+use Rattle.std.proofs.Common.{◌≡◌, ℕ, ◌+◌, ◌*◌, ◌%◌, ◌^◌, ◌<◌, ◌≤◌, Bool, true, false, not, cond, ltb, List, [], ◌∷◌, ◌++◌, length, Option, Some, None, refl, sym, ap, ◌∙◌, add-one, arith}
 use Rattle.std.specs.Prelude.{codes}
 use Rattle.std.specs.List.{list_all}
 use Rattle.std.specs.Fmt.{decimal}
@@ -32,7 +32,7 @@ use Rattle.i9_statement.proofs.Classes.{is_operand_byte, apart_by, free_in, IsFi
 use Rattle.i9_statement.proofs.ReadAddresses.{ea}
 use Rattle.i9_statement.proofs.ReadFields.{fields_of-text}
 use Rattle.i9_statement.proofs.StatementBytes.{is_statement_byte, operand_statement, low_statement}
-use Rattle.i9_asm.specs.Lines.{Instruction, code_len, without_comment, labelled, item_by, item_of, label_of}
+use Rattle.i9_asm.specs.Lines.{Instruction, Labelled, code_of, code_len, without_comment, labelled, item_by, item_of, label_of}
 use Rattle.i9_asm.specs.Places.{Place, location_count, address_at, no_names, is_ascii, is_label, statement_size, past_label, past_line}
 use Rattle.i9_asm.specs.Source.{most_bytes, label_fault, line_fault}
 use Rattle.i9_asm.proofs.ReadLines.{NoTail, without_comment-tail}
@@ -68,7 +68,8 @@ abbrev pub number_address : ℕ → Ea
 number_address n = ea (cond (ltb n 4096) Offset Disp) 0 0 0 n
 
 opens_free : (w : List ℕ) → list_all is_name_byte w ≡ true → is_free opens w ≡ true
-opens_free w h = free_by is_name_byte opens (λ b in_q. rw (apart_by is_name_byte 40 b refl in_q, apart_by is_name_byte 91 b refl in_q) refl) w h
+opens_free w h =
+    free_by is_name_byte opens (λ b in_q. rw (apart_by is_name_byte 40 b refl in_q, apart_by is_name_byte 91 b refl in_q) refl) w h
 
 address_number : (names : Names) (w : List ℕ) (n : ℕ) → IsNumber w n → address_of names w ≡ fine (number_address n)
 unfolding address_of address_behind base_of index_of
@@ -101,13 +102,16 @@ same_spare n bits h = rw (eq-eqb (bit_and bits (ignored_bits n.value)) bits h) r
 zero_spare : (n : Noted Inst) → with_spare n (Some 0) ≡ joined n (fine 0)
 zero_spare n = same_spare n 0 (omega (arith, and_le_l 0 (ignored_bits n.value)))
 
-load_parts : (ip : ℕ) (names : Names) (w g : List ℕ) → IsField w → IsField g → statement_of ip names (load_text w g) ≡ joined (load_of ip names w g) (fine 0)
+load_parts : (ip : ℕ) (names : Names) (w g : List ℕ) → IsField w → IsField g
+    → statement_of ip names (load_text w g) ≡ joined (load_of ip names w g) (fine 0)
 unfolding statement_of named_by op_named mnemonic spare_of join_fields
 load_parts ip names w g hw hg =
     let text = fields_text (w ∷ g ∷ []) in
     let free : is_free (is_byte open_brace) text ≡ true =
-    all_append (λ b. not (is_byte open_brace b)) w (comma ∷ space ∷ g) (free_in is_operand_byte open_brace w refl hw.bytes) (free_in is_operand_byte open_brace g refl hg.bytes) in
-    ap (λ t. with_spare (instruction_of ip Lda false names (fields_of t)) (spare_of (from (is_byte open_brace) text))) (whole_before (is_byte open_brace) text free)
+    all_append (λ b. not (is_byte open_brace b)) w (comma ∷ space ∷ g)
+    (free_in is_operand_byte open_brace w refl hw.bytes) (free_in is_operand_byte open_brace g refl hg.bytes) in
+    ap (λ t. with_spare (instruction_of ip Lda false names (fields_of t)) (spare_of (from (is_byte open_brace) text)))
+    (whole_before (is_byte open_brace) text free)
     ∙ ap (λ t. with_spare (instruction_of ip Lda false names (fields_of text)) (spare_of t)) (none_from (is_byte open_brace) text free)
     ∙ ap (λ t. with_spare (instruction_of ip Lda false names (fields_of t)) (Some 0)) (sym (append-nil text))
     ∙ ap (λ fs. with_spare (instruction_of ip Lda false names fs) (Some 0)) (fields_of-text (w ∷ g ∷ []) false (hw, (hg, tt)))
@@ -117,11 +121,13 @@ load_fault : (ip : ℕ) (names : Names) (w g : List ℕ) (n : ℕ) → IsNumber 
 unfolding instruction_of
 load_fault ip names w g n h target = rw (address_number names w n h, target.read names) refl
 
-load_words : (ip : ℕ) (names : Names) (w g : List ℕ) (n : ℕ) → IsNumber w n → words_of (load_of ip names w g).value ≡ words_of_mode (number_address n).mode
+load_words : (ip : ℕ) (names : Names) (w g : List ℕ) (n : ℕ) → IsNumber w n
+    → words_of (load_of ip names w g).value ≡ words_of_mode (number_address n).mode
 unfolding instruction_of
 load_words ip names w g n h = ap (λ a. words_of_mode a.value.mode) (address_number names w n h)
 
-load_sound : (ip : ℕ) (names : Names) (w g : List ℕ) (n : ℕ) → IsNumber w n → IsTarget g → (statement_of ip names (load_text w g)).fault ≡ None
+load_sound : (ip : ℕ) (names : Names) (w g : List ℕ) (n : ℕ) → IsNumber w n → IsTarget g
+    → (statement_of ip names (load_text w g)).fault ≡ None
 load_sound ip names w g n h target =
     ap (λ s. s.fault) (load_parts ip names w g (number_field w n h) target.field)
     ∙ ap (λ f. least f None) (load_fault ip names w g n h target)
@@ -130,7 +136,8 @@ load_sound ip names w g n h target =
 abbrev pub load_size : ℕ → ℕ
 load_size n = 4 * words_of_mode (number_address n).mode
 
-load_counts : (ip : ℕ) (w g : List ℕ) (n : ℕ) → IsNumber w n → IsTarget g → statement_size (statement_of ip no_names (load_text w g)) ≡ load_size n
+load_counts : (ip : ℕ) (w g : List ℕ) (n : ℕ) → IsNumber w n → IsTarget g
+    → statement_size (statement_of ip no_names (load_text w g)) ≡ load_size n
 load_counts ip w g n h target =
     ap statement_size (load_parts ip no_names w g (number_field w n h) target.field)
     ∙ rw (load_fault ip no_names w g n h target, load_words ip no_names w g n h) refl
@@ -161,43 +168,45 @@ load_clean w g hw hg =
     ∙ without_comment-tail (load_text w g) NoTail (load_bytes w g hw hg)
     ∙ append-nil (load_text w g)
 
-pub plain_load : (n : ℕ) (g : List ℕ) → n < 2 ^ 32 → IsTarget g → Loads (load_text (decimal n) g) None (load_size n)
-unfolding item_of labelled
-plain_load n g small target =
-    let w = decimal n in
-    let h = decimal_number n small in
-    let field = number_field w n h in
-    let clean = load_clean w g field target.field in
+-- by its code, which is the statement behind the label
+load_coded : (n : ℕ) (g line : List ℕ) (label : Option (List ℕ)) → n < 2 ^ 32 → IsTarget g → list_all is_ascii line ≡ true
+    → code_of line ≡ record { label = label; rest = load_text (decimal n) g } → Loads line label (load_size n)
+unfolding item_of
+load_coded n g line label small target ascii coded =
+    let number = decimal_number n small in
     record {
-      said = load_text w g;
-      item = ap (λ s. item_by (labelled (from is_in_word s)).rest) clean;
-      named = ap (λ s. (labelled (from is_in_word s)).label) clean;
-      ascii = load_ascii w g field target.field;
-      sound = λ ip names. load_sound ip names w g n h target;
-      counts = λ ip. load_counts ip w g n h target;
+      said = load_text (decimal n) g;
+      item = ap (λ (c : Labelled). item_by c.rest) coded;
+      named = ap (λ (c : Labelled). c.label) coded;
+      ascii = ascii;
+      sound = λ ip names. load_sound ip names (decimal n) g n number target;
+      counts = λ ip. load_counts ip (decimal n) g n number target;
     }
+
+decimal_field : (n : ℕ) → n < 2 ^ 32 → IsField (decimal n)
+decimal_field n small = number_field (decimal n) n (decimal_number n small)
+
+pub plain_load : (n : ℕ) (g : List ℕ) → n < 2 ^ 32 → IsTarget g → Loads (load_text (decimal n) g) None (load_size n)
+unfolding labelled
+plain_load n g small target =
+    let field = decimal_field n small in
+    let line = load_text (decimal n) g in
+    load_coded n g line None small target (load_ascii (decimal n) g field target.field)
+    (ap (λ s. labelled (from is_in_word s)) (load_clean (decimal n) g field target.field))
 
 -- a label and a blank before a text
 behind_label : (s : List ℕ) → without_comment (codes "loop: " ++ s) ≡ codes "loop: " ++ without_comment s
 unfolding code_len
 behind_label s = simp add-one refl
 
-pub loop_load : (n : ℕ) (g : List ℕ) → n < 2 ^ 32 → IsTarget g → Loads (codes "loop: " ++ load_text (decimal n) g) (Some (codes "loop")) (load_size n)
-unfolding item_of labelled
+pub loop_load : (n : ℕ) (g : List ℕ) → n < 2 ^ 32 → IsTarget g
+    → Loads (codes "loop: " ++ load_text (decimal n) g) (Some (codes "loop")) (load_size n)
+unfolding labelled
 loop_load n g small target =
-    let w = decimal n in
-    let h = decimal_number n small in
-    let field = number_field w n h in
-    let clean : without_comment (codes "loop: " ++ load_text w g) ≡ codes "loop: " ++ load_text w g =
-    behind_label (load_text w g) ∙ ap (λ s. codes "loop: " ++ s) (load_clean w g field target.field) in
-    record {
-      said = load_text w g;
-      item = ap (λ s. item_by (labelled (from is_in_word s)).rest) clean;
-      named = ap (λ s. (labelled (from is_in_word s)).label) clean;
-      ascii = load_ascii w g field target.field;
-      sound = λ ip names. load_sound ip names w g n h target;
-      counts = λ ip. load_counts ip w g n h target;
-    }
+    let field = decimal_field n small in
+    let line = load_text (decimal n) g in
+    load_coded n g (codes "loop: " ++ line) (Some (codes "loop")) small target (load_ascii (decimal n) g field target.field)
+    (ap (λ s. labelled (from is_in_word s)) (behind_label line ∙ ap (λ s. codes "loop: " ++ s) (load_clean (decimal n) g field target.field)))
 
 -- ---- the places and the faults
 
@@ -216,12 +225,14 @@ record IsLabel (label : Option (List ℕ)) (p q : Place) : Type 0 where
   past : past_label label p ≡ q
   fresh : label_fault label p.known ≡ None
 
-load_past : (p q : Place) (line : List ℕ) (label : Option (List ℕ)) (count size : ℕ) → Loads line label size → IsLabel label p q → HasSpace q count size → past_line p line ≡ further size q
+load_past : (p q : Place) (line : List ℕ) (label : Option (List ℕ)) (count size : ℕ)
+    → Loads line label size → IsLabel label p q → HasSpace q count size → past_line p line ≡ further size q
 load_past p q line label count size h named space =
     let next : (q.location + size) % location_count ≡ q.location + size = omega (arith, space.inside) in
     rw (h.ascii, h.named, named.form, h.item, named.past, h.counts (address_at q), next) refl
 
-load_line_sound : (names : Names) (p q : Place) (line : List ℕ) (label : Option (List ℕ)) (count size : ℕ) → Loads line label size → IsLabel label p q → HasSpace q count size → line_fault names (standing p count) line ≡ None
+load_line_sound : (names : Names) (p q : Place) (line : List ℕ) (label : Option (List ℕ)) (count size : ℕ)
+    → Loads line label size → IsLabel label p q → HasSpace q count size → line_fault names (standing p count) line ≡ None
 unfolding line_fault
 load_line_sound names p q line label count size h named space =
     let inside : ltb (2 ^ 32) (q.location + size) ≡ false = le-ltb _ _ space.inside in
@@ -229,7 +240,8 @@ load_line_sound names p q line label count size h named space =
     rw (h.ascii, h.named, named.fresh, h.item, named.past, h.sound (address_at q) names, h.counts (address_at q), inside, small) refl
 
 -- so such a line is passed
-pub load_passes : (names : Names) (p q : Place) (line : List ℕ) (label : Option (List ℕ)) (count size : ℕ) → Loads line label size → is_label label ≡ true → past_label label p ≡ q → label_fault label p.known ≡ None
+pub load_passes : (names : Names) (p q : Place) (line : List ℕ) (label : Option (List ℕ)) (count size : ℕ)
+    → Loads line label size → is_label label ≡ true → past_label label p ≡ q → label_fault label p.known ≡ None
     → q.location + size ≤ 2 ^ 32 → count + size ≤ most_bytes → Passes names p count line (further size q) (count + size)
 load_passes names p q line label count size h form past fresh inside few =
     let named : IsLabel label p q = record { form = form; past = past; fresh = fresh } in

@@ -1,9 +1,8 @@
 -- A made source assembles without a fault.
-use Rattle.std.proofs.Common.{◌≡◌, ℕ, ◌+◌, ◌%◌, ◌^◌, ◌<◌, ◌≤◌, Bool, true, false, cond, ltb, List, [], ◌∷◌, ◌++◌, None, refl, sym, ap, subst, ◌∙◌, arith}
+use Rattle.std.proofs.Common.{◌≡◌, ℕ, ◌+◌, ◌%◌, ◌^◌, ◌<◌, ◌≤◌, Bool, true, false, ltb, List, ◌∷◌, ◌++◌, None, refl, sym, ap, subst, ◌∙◌, arith}
 use Rattle.std.specs.Prelude.{codes, Some, if◌then◌else◌}
 use Rattle.std.specs.Fmt.{decimal}
 use Rattle.std.proofs.lemmas.Bool.{lt-ltb}
-use Rattle.i9_model.specs.Image.{Part}
 use Rattle.i9_text.specs.Text.{lines_of, number_of}
 use Rattle.i9_value.specs.Cut.{closed}
 use Rattle.i9_value.specs.Registers.{register_place}
@@ -22,7 +21,7 @@ use Rattle.i9_asm.specs.Laws.{IsAssembly, IsRefusedSource}
 use Rattle.i9_asm.proofs.Once.{never_both_answers}
 use Rattle.i9_generator.specs.Generator.{drawn, rounds_of, start_of, depth_of, tables_text, set_up_text, calls_text, generated_source}
 use Rattle.i9_job.specs.Accepted.{HasAssembly}
-use Rattle.i9_job.proofs.SoundLines.{are_sound, Passes, passes_sound, passes_past, sound_assembles}
+use Rattle.i9_job.proofs.SoundLines.{are_sound, passes_sound, passes_past, sound_assembles}
 use Rattle.i9_job.proofs.LoadLines.{load_text, load_size, IsTarget, Loads, plain_load, loop_load, further, load_passes}
 use Rattle.i9_job.proofs.MadeText.{front_lines, rounds_line, start_line, depth_line, back_lines, made_lines, made_text}
 
@@ -51,7 +50,9 @@ known_names : ℕ → Names
 known_names size = (past_lines (place_behind size) back_lines).known
 
 -- the lines before have no fault
-front_sound : (short : Bool) (rest : List (List ℕ)) → are_sound (known_names (size_by short)) start_place 0 (front_lines ++ rest) ≡ are_sound (known_names (size_by short)) number_place number_count rest
+front_sound : (short : Bool) (rest : List (List ℕ))
+    → are_sound (known_names (size_by short)) start_place 0 (front_lines ++ rest)
+    ≡ are_sound (known_names (size_by short)) number_place number_count rest
 unfolding known_names back_lines calls_text past_lines are_sound line_fault front_lines tables_text set_up_text
     code_len labelled item_of is_name decimal_of magnitude value_of number_of register_place fields_of closed spare_of
     statement_of named_by op_named mnemonic instruction_of operand_of target_of address_of address_behind base_of index_of
@@ -65,7 +66,8 @@ unfolding past_lines front_lines tables_text set_up_text
 front_past rest = refl
 
 -- and those behind
-back_sound : (short : Bool) → are_sound (known_names (size_by short)) (place_behind (size_by short)) (count_behind (size_by short)) back_lines ≡ true
+back_sound : (short : Bool)
+    → are_sound (known_names (size_by short)) (place_behind (size_by short)) (count_behind (size_by short)) back_lines ≡ true
 unfolding known_names back_lines calls_text past_lines are_sound line_fault
     code_len labelled item_of is_name decimal_of magnitude value_of number_of register_place fields_of closed spare_of
     statement_of named_by op_named mnemonic instruction_of operand_of target_of address_of address_behind base_of index_of
@@ -100,7 +102,8 @@ record Led (names : Names) (lines rest : List (List ℕ)) (size : ℕ) : Type 0 
   sound : are_sound names number_place number_count lines ≡ are_sound names (place_behind size) (count_behind size) rest
   past : past_lines number_place lines ≡ past_lines (place_behind size) rest
 
-loads_lead : (names : Names) (r s d size : ℕ) (rest : List (List ℕ)) → r < 4096 → s < 2 ^ 32 → d < 4096 → load_size s ≡ size → size ≤ 8 → Led names (load_lines r s d rest) rest size
+loads_lead : (names : Names) (r s d size : ℕ) (rest : List (List ℕ)) → r < 4096 → s < 2 ^ 32 → d < 4096
+    → load_size s ≡ size → size ≤ 8 → Led names (load_lines r s d rest) rest size
 unfolding is_name register_place
 loads_lead names r s d size rest r_small s_small d_small is low =
     let r_line = load_text (decimal r) (codes "g6") in

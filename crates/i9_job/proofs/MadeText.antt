@@ -1,5 +1,5 @@
 -- The lines of a made source: those before the three that go by the number, these three, and those behind them.
-use Rattle.std.proofs.Common.{◌≡◌, ℕ, true, List, [], ◌∷◌, ◌++◌, take, refl, sym, ap, ◌∙◌, append_assoc}
+use Rattle.std.proofs.Common.{◌≡◌, ℕ, true, List, [], ◌∷◌, ◌++◌, take, refl, ap, ◌∙◌, append_assoc}
 use Rattle.std.specs.Prelude.{codes}
 use Rattle.std.specs.List.{list_all, flat_map}
 use Rattle.std.specs.Fmt.{decimal}
@@ -34,7 +34,8 @@ made_lines number = front_lines ++ rounds_line number ∷ start_line number ∷ 
 -- ---- the text is these lines
 
 -- plain lines, with a line feed behind each, before a text
-lines_before : (ls : List (List ℕ)) (rest : List ℕ) → list_all is_plain ls ≡ true → lines_of (flat_map (λ l. l ++ 10 ∷ []) ls ++ rest) ≡ ls ++ lines_of rest
+lines_before : (ls : List (List ℕ)) (rest : List ℕ) → list_all is_plain ls ≡ true
+    → lines_of (flat_map (λ l. l ++ 10 ∷ []) ls ++ rest) ≡ ls ++ lines_of rest
 lines_before [] rest h = refl
 lines_before (l ∷ ls) rest h =
     let plain = and_parts (is_plain l) (list_all is_plain ls) h in
@@ -52,7 +53,9 @@ unfolding join_fields
 load_plain n g h = plain-append (decimal n) (comma ∷ 32 ∷ g) (plain-decimal n) h
 
 -- the text, line by line
-text_by : (front r s d back : List ℕ) → front ++ codes "lda " ++ r ++ codes ", g6\n" ++ codes "lda " ++ s ++ codes ", g7\n" ++ codes "loop: lda " ++ d ++ codes ", g0\n" ++ back
+text_by : (front r s d back : List ℕ)
+    → front ++ codes "lda " ++ r ++ codes ", g6\n" ++ codes "lda " ++ s ++ codes ", g7\n"
+    ++ codes "loop: lda " ++ d ++ codes ", g0\n" ++ back
     ≡ front ++ (load_text r (codes "g6") ++ 10 ∷ (load_text s (codes "g7") ++ 10 ∷ (codes "loop: " ++ load_text d (codes "g0") ++ 10 ∷ back)))
 unfolding join_fields
 text_by front r s d back = simp append_assoc refl
@@ -63,7 +66,8 @@ made_text number =
     let r = rounds_line number in
     let s = start_line number in
     let d = depth_line number in
-    ap lines_of (text_by (tables_text ++ set_up_text) (decimal (rounds_of number)) (decimal (start_of number)) (decimal (depth_of number)) calls_text)
+    ap lines_of
+    (text_by (tables_text ++ set_up_text) (decimal (rounds_of number)) (decimal (start_of number)) (decimal (depth_of number)) calls_text)
     ∙ lines_front (r ++ 10 ∷ (s ++ 10 ∷ (d ++ 10 ∷ calls_text)))
     ∙ ap (λ ls. front_lines ++ ls) (lines_of-then r (s ++ 10 ∷ (d ++ 10 ∷ calls_text)) (load_plain (rounds_of number) (codes "g6") refl))
     ∙ ap (λ ls. front_lines ++ r ∷ ls) (lines_of-then s (d ++ 10 ∷ calls_text) (load_plain (start_of number) (codes "g7") refl))

@@ -1,5 +1,5 @@
 -- Lines none of which has a fault are a source that assembles; that none has one is a test that computes.
-use Rattle.std.proofs.Common.{◌≡◌, ℕ, ◌+◌, Bool, true, false, not, ◌&&◌, List, [], ◌∷◌, ◌++◌, Option, Some, None, refl, sym, ap, ◌∙◌, inl, inr}
+use Rattle.std.proofs.Common.{◌≡◌, ℕ, ◌+◌, Bool, true, not, ◌&&◌, List, [], ◌∷◌, ◌++◌, Option, Some, None, refl, sym, ap, ◌∙◌, inl, inr}
 use Rattle.std.specs.Prelude.{is_some}
 use Rattle.std.specs.Option.{option_map}
 use Rattle.std.proofs.lemmas.Bool.{and_parts}
@@ -10,7 +10,7 @@ use Rattle.i9_value.specs.Noted.{kind_of}
 use Rattle.i9_value.specs.Values.{Names}
 use Rattle.i9_asm.specs.Lines.{item_of, label_of}
 use Rattle.i9_asm.specs.Places.{Place, start_place, past_label, past_line, past_lines, size_of, moved_to, all_names}
-use Rattle.i9_asm.specs.Source.{Source, start_source, labelled_source, begun, past_source, line_fault, fault_of, Assembles}
+use Rattle.i9_asm.specs.Source.{Source, start_source, labelled_source, begun, line_fault, fault_of, Assembles}
 use Rattle.i9_asm.specs.Laws.{IsAssembly}
 use Rattle.i9_asm.proofs.SomeAnswer.{some_answer}
 
@@ -34,11 +34,13 @@ pub record Passes (names : Names) (p : Place) (n : ℕ) (line : List ℕ) (q : P
   pub past : past_line p line ≡ q
   pub count : counted p n line ≡ m
 
-pub passes_sound : (names : Names) (p : Place) (n : ℕ) (line : List ℕ) (q : Place) (m : ℕ) (lines : List (List ℕ)) → Passes names p n line q m → are_sound names p n (line ∷ lines) ≡ are_sound names q m lines
+pub passes_sound : (names : Names) (p : Place) (n : ℕ) (line : List ℕ) (q : Place) (m : ℕ) (lines : List (List ℕ))
+    → Passes names p n line q m → are_sound names p n (line ∷ lines) ≡ are_sound names q m lines
 unfolding are_sound
 passes_sound names p n line q m lines h = rw (h.sound, h.past, h.count) refl
 
-pub passes_past : (names : Names) (p : Place) (n : ℕ) (line : List ℕ) (q : Place) (m : ℕ) (lines : List (List ℕ)) → Passes names p n line q m → past_lines p (line ∷ lines) ≡ past_lines q lines
+pub passes_past : (names : Names) (p : Place) (n : ℕ) (line : List ℕ) (q : Place) (m : ℕ) (lines : List (List ℕ))
+    → Passes names p n line q m → past_lines p (line ∷ lines) ≡ past_lines q lines
 unfolding past_lines
 passes_past names p n line q m lines h = ap (λ x. past_lines x lines) h.past
 
@@ -49,7 +51,8 @@ none_by None h = refl
 none_by (Some f) h = absurd cc
 
 -- faults go by the place and the count alone
-first_sound : (names : Names) (s : Source) (line : List ℕ) (lines : List (List ℕ)) → are_sound names s.place s.total (line ∷ lines) ≡ true → line_fault names s line ≡ None
+first_sound : (names : Names) (s : Source) (line : List ℕ) (lines : List (List ℕ))
+    → are_sound names s.place s.total (line ∷ lines) ≡ true → line_fault names s line ≡ None
 unfolding are_sound line_fault
 first_sound names s line lines h =
     none_by (line_fault names s line) (and_parts (not (is_some (line_fault names s line))) _ h).0
@@ -58,26 +61,31 @@ begun_total : (moved : Option ℕ) (s : Source) → (begun moved s).total ≡ s.
 begun_total None s = refl
 begun_total (Some a) s = refl
 
-rest_sound : (names : Names) (s t : Source) (line : List ℕ) (lines : List (List ℕ)) → Assembles names s line t → are_sound names s.place s.total (line ∷ lines) ≡ true → are_sound names t.place t.total lines ≡ true
+rest_sound : (names : Names) (s t : Source) (line : List ℕ) (lines : List (List ℕ))
+    → Assembles names s line t → are_sound names s.place s.total (line ∷ lines) ≡ true → are_sound names t.place t.total lines ≡ true
 unfolding are_sound
 rest_sound names s t line lines a h =
     let l = labelled_source (label_of line) s in
     let place : t.place ≡ past_line s.place line = ap (λ (x : Source). x.place) a.after in
-    let total : t.total ≡ counted s.place s.total line = ap (λ (x : Source). x.total) a.after ∙ ap (λ n. n + size_of l.place (item_of line)) (begun_total (moved_to l.place (item_of line)) l) in
+    let total : t.total ≡ counted s.place s.total line = ap (λ (x : Source). x.total) a.after
+    ∙ ap (λ n. n + size_of l.place (item_of line)) (begun_total (moved_to l.place (item_of line)) l) in
     rw (place, total) (and_parts (not (is_some (line_fault names (standing s.place s.total) line))) _ h).1
 
-line_sound : (names : Names) (r s : Source) (front : List (List ℕ)) (line : List ℕ) (back : List (List ℕ)) → are_sound names r.place r.total (front ++ line ∷ back) ≡ true → SaysAll (Assembles names) r front s → line_fault names s line ≡ None
+line_sound : (names : Names) (r s : Source) (front : List (List ℕ)) (line : List ℕ) (back : List (List ℕ))
+    → are_sound names r.place r.total (front ++ line ∷ back) ≡ true → SaysAll (Assembles names) r front s → line_fault names s line ≡ None
 line_sound names r s [] line back h says = ap (λ x. line_fault names x line) (sym says) ∙ first_sound names r line back h
 line_sound names r s (first ∷ front) line back h says =
     line_sound names says.0 s front line back (rest_sound names r says.0 first (front ++ line ∷ back) says.1 h) says.2
 
 -- lines without fault are not refused
-not_refused : (names : Names) (lines : List (List ℕ)) (f : ℕ × ℕ) → are_sound names start_place 0 lines ≡ true → IsRefused (Assembles names) (fault_of names) (λ _. None) start_source lines f → ⊥
+not_refused : (names : Names) (lines : List (List ℕ)) (f : ℕ × ℕ) → are_sound names start_place 0 lines ≡ true
+    → IsRefused (Assembles names) (fault_of names) (λ _. None) start_source lines f → ⊥
 not_refused names _ _ h (at_line front line back s kind says wrong) =
     absurd (cc (sym (ap (option_map kind_of) (line_sound names start_source s front line back h says)) ∙ wrong))
 not_refused names _ _ h (at_end lines s kind says wrong) = absurd cc
 
-pub sound_assembles : (lines : List (List ℕ)) → are_sound (all_names lines) start_place 0 lines ≡ true → (image : List Part) × IsAssembly lines image
+pub sound_assembles : (lines : List (List ℕ)) → are_sound (all_names lines) start_place 0 lines ≡ true
+    → (image : List Part) × IsAssembly lines image
 sound_assembles lines h = elim (some_answer lines) [
   | inl found ↦ found
   | inr refused ↦ absurd (not_refused (all_names lines) lines refused.0 h refused.1)
