@@ -186,9 +186,9 @@ load_coded n g line label small target ascii coded =
 decimal_field : (n : ℕ) → n < 2 ^ 32 → IsField (decimal n)
 decimal_field n small = number_field (decimal n) n (decimal_number n small)
 
-pub plain_load : (n : ℕ) (g : List ℕ) → n < 2 ^ 32 → IsTarget g → Loads (load_text (decimal n) g) None (load_size n)
+pub unlabelled_load : (n : ℕ) (g : List ℕ) → n < 2 ^ 32 → IsTarget g → Loads (load_text (decimal n) g) None (load_size n)
 unfolding labelled
-plain_load n g small target =
+unlabelled_load n g small target =
     let field = decimal_field n small in
     let line = load_text (decimal n) g in
     load_coded n g line None small target (load_ascii (decimal n) g field target.field)
@@ -199,10 +199,10 @@ behind_label : (s : List ℕ) → without_comment (codes "loop: " ++ s) ≡ code
 unfolding code_len
 behind_label s = simp add-one refl
 
-pub loop_load : (n : ℕ) (g : List ℕ) → n < 2 ^ 32 → IsTarget g
+pub labelled_load : (n : ℕ) (g : List ℕ) → n < 2 ^ 32 → IsTarget g
     → Loads (codes "loop: " ++ load_text (decimal n) g) (Some (codes "loop")) (load_size n)
 unfolding labelled
-loop_load n g small target =
+labelled_load n g small target =
     let field = decimal_field n small in
     let line = load_text (decimal n) g in
     load_coded n g (codes "loop: " ++ line) (Some (codes "loop")) small target (load_ascii (decimal n) g field target.field)

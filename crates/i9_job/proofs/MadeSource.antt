@@ -1,7 +1,6 @@
 -- A made source assembles without a fault.
 use Rattle.std.proofs.Common.{◌≡◌, ℕ, ◌+◌, ◌%◌, ◌^◌, ◌<◌, ◌≤◌, Bool, true, false, ltb, List, ◌∷◌, ◌++◌, None, refl, sym, ap, subst, ◌∙◌, arith}
 use Rattle.std.specs.Prelude.{codes, Some, if◌then◌else◌}
-use Rattle.std.specs.Fmt.{decimal}
 use Rattle.std.proofs.lemmas.Bool.{lt-ltb}
 use Rattle.i9_text.specs.Text.{lines_of, number_of}
 use Rattle.i9_value.specs.Cut.{closed}
@@ -22,8 +21,8 @@ use Rattle.i9_asm.proofs.Once.{never_both_answers}
 use Rattle.i9_generator.specs.Generator.{drawn, rounds_of, start_of, depth_of, tables_text, set_up_text, calls_text, generated_source}
 use Rattle.i9_job.specs.Accepted.{HasAssembly}
 use Rattle.i9_job.proofs.SoundLines.{are_sound, passes_sound, passes_past, sound_assembles}
-use Rattle.i9_job.proofs.LoadLines.{load_text, load_size, IsTarget, Loads, plain_load, loop_load, further, load_passes}
-use Rattle.i9_job.proofs.MadeText.{front_lines, rounds_line, start_line, depth_line, back_lines, made_lines, made_text}
+use Rattle.i9_job.proofs.LoadLines.{load_size, IsTarget, Loads, unlabelled_load, labelled_load, further, load_passes}
+use Rattle.i9_job.proofs.MadeText.{front_lines, rounds_line, start_line, depth_line, back_lines, later_lines, made_lines, made_text}
 
 -- where the lines begin that go by the number, and how many bytes stand before them
 abbrev number_place : Place
@@ -38,10 +37,11 @@ size_by short = if short then 4 else 8
 
 -- behind them, where the second has so many bytes
 abbrev place_behind : ℕ → Place
-place_behind size = record { location = 4136 + size + 4; known = define (codes "loop") ((4136 + size) % 2 ^ 32) no_names }
+place_behind size =
+    let loop = number_place.location + 4 + size in record { location = loop + 4; known = define (codes "loop") (loop % 2 ^ 32) no_names }
 
 abbrev count_behind : ℕ → ℕ
-count_behind size = 128 + size + 4
+count_behind size = number_count + 4 + size + 4
 
 -- ---- the constant lines, by computation
 
@@ -93,37 +93,37 @@ target0 = record { field = record { bytes = refl; some = refl }; read = λ names
 short_size : (n : ℕ) → n < 4096 → load_size n ≡ 4
 short_size n h = rw (lt-ltb n 4096 h) refl
 
-abbrev load_lines : ℕ → ℕ → ℕ → List (List ℕ) → List (List ℕ)
-load_lines r s d rest =
-    load_text (decimal r) (codes "g6") ∷ load_text (decimal s) (codes "g7") ∷ (codes "loop: " ++ load_text (decimal d) (codes "g0")) ∷ rest
+-- the three lines have no fault, and lead on
+record Lead (names : Names) (rounds start depth size : ℕ) : Type 0 where
+  sound : are_sound names number_place number_count (later_lines rounds start depth) ≡ are_sound names (place_behind size) (count_behind size) back_lines
+  past : past_lines number_place (later_lines rounds start depth) ≡ past_lines (place_behind size) back_lines
 
--- they lead on, and have no fault
-record Led (names : Names) (lines rest : List (List ℕ)) (size : ℕ) : Type 0 where
-  sound : are_sound names number_place number_count lines ≡ are_sound names (place_behind size) (count_behind size) rest
-  past : past_lines number_place lines ≡ past_lines (place_behind size) rest
-
-loads_lead : (names : Names) (r s d size : ℕ) (rest : List (List ℕ)) → r < 4096 → s < 2 ^ 32 → d < 4096
-    → load_size s ≡ size → size ≤ 8 → Led names (load_lines r s d rest) rest size
+loads_lead : (names : Names) (rounds start depth size : ℕ) → rounds < 4096 → start < 2 ^ 32 → depth < 4096
+    → load_size start ≡ size → size ≤ 8 → Lead names rounds start depth size
 unfolding is_name register_place
-loads_lead names r s d size rest r_small s_small d_small is low =
-    let r_line = load_text (decimal r) (codes "g6") in
-    let s_line = load_text (decimal s) (codes "g7") in
-    let d_line = codes "loop: " ++ load_text (decimal d) (codes "g0") in
-    let r_load = subst (Loads r_line None) (short_size r r_small) (plain_load r (codes "g6") (omega arith) target6) in
-    let s_load = subst (Loads s_line None) is (plain_load s (codes "g7") s_small target7) in
-    let d_load = subst (Loads d_line (Some (codes "loop"))) (short_size d d_small) (loop_load d (codes "g0") (omega arith) target0) in
+loads_lead names rounds start depth size rounds_small start_small depth_small is low =
+    let r = rounds_line rounds in
+    let s = start_line start in
+    let d = depth_line depth in
+    let label = Some (codes "loop") in
+    let r_load = subst (Loads r None) (short_size rounds rounds_small) (unlabelled_load rounds (codes "g6") (omega arith) target6) in
+    let s_load = subst (Loads s None) is (unlabelled_load start (codes "g7") start_small target7) in
+    let d_load = subst (Loads d label) (short_size depth depth_small) (labelled_load depth (codes "g0") (omega arith) target0) in
     let p = further 4 number_place in
     let q = further size p in
-    let r_pass = load_passes names number_place number_place r_line None number_count 4 r_load refl refl refl (omega arith) (omega arith) in
-    let s_pass = load_passes names p p s_line None 128 size s_load refl refl refl (omega arith) (omega arith) in
-    let d_pass = load_passes names q (past_label (Some (codes "loop")) q) d_line (Some (codes "loop")) (128 + size) 4 d_load refl refl refl (omega arith) (omega arith) in
+    let m = number_count + 4 in
+    let n = m + size in
+    let end = place_behind size in
+    let r_pass = load_passes names number_place number_place r None number_count 4 r_load refl refl refl (omega arith) (omega arith) in
+    let s_pass = load_passes names p p s None m size s_load refl refl refl (omega arith) (omega arith) in
+    let d_pass = load_passes names q (past_label label q) d label n 4 d_load refl refl refl (omega arith) (omega arith) in
     record {
-      sound = passes_sound names number_place number_count r_line p 128 (s_line ∷ d_line ∷ rest) r_pass
-          ∙ passes_sound names p 128 s_line q (128 + size) (d_line ∷ rest) s_pass
-          ∙ passes_sound names q (128 + size) d_line (place_behind size) (count_behind size) rest d_pass;
-      past = passes_past names number_place number_count r_line p 128 (s_line ∷ d_line ∷ rest) r_pass
-          ∙ passes_past names p 128 s_line q (128 + size) (d_line ∷ rest) s_pass
-          ∙ passes_past names q (128 + size) d_line (place_behind size) (count_behind size) rest d_pass;
+      sound = passes_sound names number_place number_count r p m (s ∷ d ∷ back_lines) r_pass
+          ∙ passes_sound names p m s q n (d ∷ back_lines) s_pass
+          ∙ passes_sound names q n d end (n + 4) back_lines d_pass;
+      past = passes_past names number_place number_count r p m (s ∷ d ∷ back_lines) r_pass
+          ∙ passes_past names p m s q n (d ∷ back_lines) s_pass
+          ∙ passes_past names q n d end (n + 4) back_lines d_pass;
     }
 
 -- ---- the whole
@@ -140,21 +140,21 @@ start_small : (number : ℕ) → start_of number < 2 ^ 32
 unfolding drawn
 start_small number = omega arith
 
-lines_lead : (number : ℕ) (short : Bool) → ltb (start_of number) 4096 ≡ short
-    → Led (known_names (size_by short)) (rounds_line number ∷ start_line number ∷ depth_line number ∷ back_lines) back_lines (size_by short)
-lines_lead number short h =
-    loads_lead (known_names (size_by short)) (rounds_of number) (start_of number) (depth_of number) (size_by short) back_lines
+number_lead : (number : ℕ) (short : Bool) → ltb (start_of number) 4096 ≡ short
+    → Lead (known_names (size_by short)) (rounds_of number) (start_of number) (depth_of number) (size_by short)
+number_lead number short h =
+    loads_lead (known_names (size_by short)) (rounds_of number) (start_of number) (depth_of number) (size_by short)
     (omega arith) (start_small number) (omega arith) (size_is (start_of number) short h) (size_low short)
 
 made_sound : (number : ℕ) → are_sound (all_names (made_lines number)) start_place 0 (made_lines number) ≡ true
 unfolding known_names
 made_sound number =
     let short = ltb (start_of number) 4096 in
-    let rest = rounds_line number ∷ start_line number ∷ depth_line number ∷ back_lines in
-    let lead = lines_lead number short refl in
-    let names : all_names (made_lines number) ≡ known_names (size_by short) = ap (λ (p : Place). p.known) (front_past rest ∙ lead.past) in
+    let later = later_lines (rounds_of number) (start_of number) (depth_of number) in
+    let lead = number_lead number short refl in
+    let names : all_names (made_lines number) ≡ known_names (size_by short) = ap (λ (p : Place). p.known) (front_past later ∙ lead.past) in
     ap (λ ns. are_sound ns start_place 0 (made_lines number)) names
-    ∙ front_sound short rest
+    ∙ front_sound short later
     ∙ lead.sound
     ∙ back_sound short
 
