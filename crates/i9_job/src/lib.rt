@@ -1,4 +1,4 @@
-//! Laws of the jobs that are made from numbers, on which nothing stands.
+//! Laws of the jobs that are made from numbers.
 #![tactic(auto)]
 
 mod laws;
