@@ -7,5 +7,4 @@ pub mod Answering
 pub mod Listable
 pub mod Outcomes
 pub mod OneText
-pub mod JobPlans
 pub mod OneOutcome

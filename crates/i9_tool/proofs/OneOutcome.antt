@@ -23,12 +23,12 @@ use Rattle.i9_generator.specs.Generator.{generated_source, generated_schedule}
 use Rattle.i9_tool.specs.declared.files.FileKind.{FileKind}
 use Rattle.i9_tool.specs.declared.files.FileKind.TheVariants.{Image, Schedule, Source, Script}
 use Rattle.i9_tool.specs.declared.words.Range.{Range}
-use Rattle.i9_tool.proofs.JobPlans.{job_counted}
+use Rattle.i9_job.proofs.MadeSchedule.{schedule_counted}
 use Rattle.i9_tool.specs.FileKinds.{Value, word_of, names}
 use Rattle.i9_tool.specs.Fetches.{AllTold}
 use Rattle.i9_tool.specs.Traced.{is_within, traced_lines, printed_text}
 use Rattle.i9_tool.specs.CommandLine.{Command, Run, Asm, Dis, Gen, Driver, ByLength, ByScript, driver_files, planned_files, files_of}
-use Rattle.i9_tool.specs.Outcome.{Reads, unread, fetched, FileGives, too_long, refused, accepted, RunGives, runs, driven_code, ScriptGives, drives, AsmGives, assembled, JobGives, job_source_refused, job_schedule_refused, job_runs, job_line, DisGives, listed, DriverGives, PlanGives, IsCountedSchedule, CommandGives, Gives, in_no_form, in_form, names_of}
+use Rattle.i9_tool.specs.Outcome.{Reads, unread, fetched, FileGives, too_long, refused, accepted, RunGives, runs, driven_code, ScriptGives, drives, AsmGives, assembled, GenGives, job_runs, job_line, DisGives, listed, DriverGives, PlanGives, IsCountedSchedule, CommandGives, Gives, in_no_form, in_form, names_of}
 use Rattle.i9_tool.proofs.FileAnswers.{apart, one_value, one_fault}
 use Rattle.i9_tool.proofs.OneText.{one_text}
 use Rattle.i9_tool.proofs.Outcomes.{reads_wider, kind_wider}
@@ -94,20 +94,10 @@ same_job : (number : ℕ) (g h : Given) (rs qs : List Record) (e f : Finish) →
 same_job number g h rs qs e f same a b =
     subst (λ (k : Given). IsLateRun k qs f → Same (end_code e.end) (end_code f.end) (job_line number g rs e) (job_line number k qs f)) same (same_line number g rs qs e f a) b
 
-once_job : (number : ℕ) (sets : Option ℕ) (source schedule : List ℕ) → Once (JobGives number sets source schedule)
-once_job number sets source schedule c d s t p q (job_source_refused f bad) (job_source_refused g bad') =
-    record { status = refl; text = ap (refused_line (word_of Source)) (one_fault Source source f g bad bad') }
-once_job number sets source schedule c d s t p q (job_source_refused f bad) (job_schedule_refused i g made bad') = absurd (apart Source source i f made bad)
-once_job number sets source schedule c d s t p q (job_source_refused f bad) (job_runs i us qs e made says run) = absurd (apart Source source i f made bad)
-once_job number sets source schedule c d s t p q (job_schedule_refused i f made bad) (job_source_refused g bad') = absurd (apart Source source i g made bad')
-once_job number sets source schedule c d s t p q (job_schedule_refused i f made bad) (job_schedule_refused j g made' bad') =
-    record { status = refl; text = ap (refused_line (word_of Schedule)) (one_fault Schedule schedule f g bad bad') }
-once_job number sets source schedule c d s t p q (job_schedule_refused i f made bad) (job_runs j us qs e made' says run) = absurd (apart Schedule schedule us f says bad)
-once_job number sets source schedule c d s t p q (job_runs i ts rs e made says run) (job_source_refused g bad) = absurd (apart Source source i g made bad)
-once_job number sets source schedule c d s t p q (job_runs i ts rs e made says run) (job_schedule_refused j g made' bad) = absurd (apart Schedule schedule ts g says bad)
-once_job number sets source schedule c d s t p q (job_runs i ts rs e made says run) (job_runs j us qs f made' says' other) =
-    let image = one_value Source source i j made made' in
-    let events = one_value Schedule schedule ts us says says' in
+once_job : (number : ℕ) (sets : Option ℕ) → Once (GenGives number sets)
+once_job number sets c d s t p q (job_runs i ts rs e made says run) (job_runs j us qs f made' says' other) =
+    let image = one_value Source (generated_source number) i j made made' in
+    let events = one_value Schedule (generated_schedule number) ts us says says' in
     let same = ap (λ (x : List Part). given (pairs_of x) ts MAX_LENGTH sets) image ∙ ap (λ (x : List Timed). given (pairs_of j) x MAX_LENGTH sets) events in
     same_job number _ _ rs qs e f same run other
 
@@ -136,7 +126,7 @@ module _ (told : List ℕ → Option (List ℕ)) (rose : List ℕ → Type 0) wh
       once_read (told image) (rose image) _ known.0 (once_kind Image _ (λ pairs. once_plan schedule driver sets pairs known.1))
   once_command (Asm source) known = once_read (told source) (rose source) _ known.0 (once_kind Source AsmGives once_asm)
   once_command (Dis image) known = once_read (told image) (rose image) _ known.0 (once_kind Image DisGives once_dis)
-  once_command (Gen number sets) known = once_job number sets (generated_source number) (generated_schedule number)
+  once_command (Gen number sets) known = once_job number sets
 
   pub one_outcome : (asked : Option Command) → AllTold told (names_of asked) → Once (Gives told rose asked)
   one_outcome None known c d s t p q in_no_form in_no_form = record { status = refl; text = refl }
@@ -179,16 +169,15 @@ same_in_sets told rose image schedule sets others limit code traced text counted
     in_form (Run image schedule others (ByLength limit traced)) code text
     (reads_wider (told image) (told image) (rose image) (rose image) _ _ (λ f is_file. is_file) (λ r. r) (kind_wider Image _ _ plan) code text g)
 
-other_job : (number : ℕ) (sets others : Option ℕ) (source schedule : List ℕ) (code : ℕ) (text : List ℕ) → ((ts : List Timed) → IsSchedule (text_lines schedule) ts → IsByCounts ts) → JobGives number sets source schedule code text → JobGives number others source schedule code text
-other_job number sets others source schedule code text counted (job_source_refused f bad) = job_source_refused f bad
-other_job number sets others source schedule code text counted (job_schedule_refused i f made bad) = job_schedule_refused i f made bad
-other_job number sets others source schedule code text counted (job_runs i ts rs e made says run) =
+other_job : (number : ℕ) (sets others : Option ℕ) (code : ℕ) (text : List ℕ) → GenGives number sets code text → GenGives number others code text
+other_job number sets others code text (job_runs i ts rs e made says run) =
     let ps = pairs_of i in
     let line = λ (s : State). generated_line number s.count (length (reached_after rs ++ reached_last s.count e.event)) e.end in
     let same = state_by (given ps ts MAX_LENGTH sets) (given ps ts MAX_LENGTH others) rs refl in
-    subst (JobGives number others source schedule (end_code e.end)) (ap line same) (job_runs i ts rs e made says (other_run ps ts MAX_LENGTH sets others rs e (counted ts says) run))
+    subst (GenGives number others (end_code e.end)) (ap line same)
+    (job_runs i ts rs e made says (other_run ps ts MAX_LENGTH sets others rs e (schedule_counted number ts says) run))
 
 pub job_same_in_sets : (told : List ℕ → Option (List ℕ)) (rose : List ℕ → Type 0) (number : ℕ) (sets others : Option ℕ) (code : ℕ) (text : List ℕ)
     → Gives told rose (Some (Gen number sets)) code text → Gives told rose (Some (Gen number others)) code text
 job_same_in_sets told rose number sets others code text (in_form c n t g) =
-    in_form (Gen number others) code text (other_job number sets others (generated_source number) (generated_schedule number) code text (job_counted number) g)
+    in_form (Gen number others) code text (other_job number sets others code text g)

@@ -39,7 +39,10 @@ use Rattle.i9_tool.specs.CommandLine.{Command, Run, Asm, Dis, Gen, Driver, ByLen
 use Rattle.i9_tool.specs.FileKinds.{Value, IsFaulty, IsAccepted, word_of, refusal_of}
 use Rattle.i9_tool.specs.Traced.{printed_text}
 use Rattle.i9_tool.specs.Run.{Runs, Counts, printed_of}
-use Rattle.i9_tool.specs.Outcome.{Reads, unread, fetched, FileGives, too_long, refused, accepted, RunGives, runs, driven_code, ScriptGives, drives, AsmGives, assembled, DisGives, JobGives, job_source_refused, job_schedule_refused, job_runs, job_line, DriverGives, PlanGives, CommandGives, Gives, in_no_form, in_form, Answers, code_for, Only, MissGives, missed_unread, missed_long, AnswersMiss}
+use Rattle.i9_job.specs.Accepted.{HasAssembly, HasPlan}
+use Rattle.i9_job.proofs.MadeSource.{made_source}
+use Rattle.i9_job.proofs.MadeSchedule.{made_schedule}
+use Rattle.i9_tool.specs.Outcome.{Reads, unread, fetched, FileGives, too_long, refused, accepted, RunGives, runs, driven_code, ScriptGives, drives, AsmGives, assembled, DisGives, GenGives, job_runs, job_line, DriverGives, PlanGives, CommandGives, Gives, in_no_form, in_form, Answers, code_for, Only, MissGives, missed_unread, missed_long, AnswersMiss}
 use Rattle.i9_tool.proofs.Answering.{answers_printed, answers_nothing, answers_wider}
 use Rattle.i9_tool.proofs.FileAnswers.{some_answer}
 use Rattle.i9_tool.proofs.Listable.{some_listed}
@@ -131,24 +134,15 @@ some_asm image = (0, hex_text image, assembled)
 pub some_source : (file : List ℕ) → SomeFor (FileGives Source AsmGives file)
 some_source file = some_kind Source AsmGives file (λ image good. some_asm image)
 
--- the schedule of a job whose source is assembled
-pub some_job_run : (number : ℕ) (sets : Option ℕ) (source schedule : List ℕ) (image : List Part) → IsAssembly (lines_of source) image → SomeFor (JobGives number sets source schedule)
-some_job_run number sets source schedule image made =
-    elim (some_answer Schedule schedule) [
-      | inl says ↦
-          let g = given (pairs_of image) says.0 MAX_LENGTH sets in
-          let later = late_goes_on g [] tt in
-          let records = later.0 ++ [] in
-          (end_code later.1.end, job_line number g records later.1, job_runs image says.0 records later.1 made says.1 later.2)
-      | inr bad ↦ (3, refused_line (word_of Schedule) bad.0, job_schedule_refused image bad.0 made bad.1)
-    ]
-
-pub some_job : (number : ℕ) (sets : Option ℕ) (source schedule : List ℕ) → SomeFor (JobGives number sets source schedule)
-some_job number sets source schedule =
-    elim (some_answer Source source) [
-      | inl made ↦ some_job_run number sets source schedule made.0 made.1
-      | inr bad ↦ (3, refused_line (word_of Source) bad.0, job_source_refused bad.0 bad.1)
-    ]
+-- a made job is accepted, and its run comes to an end
+pub some_job : (number : ℕ) (sets : Option ℕ) → SomeFor (GenGives number sets)
+some_job number sets =
+    let source = made_source number in
+    let schedule = made_schedule number in
+    let g = given (pairs_of source.image) schedule.events MAX_LENGTH sets in
+    let later = late_goes_on g [] tt in
+    let records = later.0 ++ [] in
+    (end_code later.1.end, job_line number g records later.1, job_runs source.image schedule.events records later.1 source.assembled schedule.said later.2)
 
 module _ (told : List ℕ → Option (List ℕ)) (rose : List ℕ → Type 0) where
   pub some_driven : (driver : Driver) (sets : Option ℕ) (pairs : List (ℕ × ℕ)) (events : List Timed) → SomeFor (DriverGives told rose driver sets pairs events)
@@ -169,7 +163,7 @@ module _ (told : List ℕ → Option (List ℕ)) (rose : List ℕ → Type 0) wh
   some_command (Run image schedule sets driver) = some_read (told image) (rose image) _ (some_imaged schedule driver sets)
   some_command (Asm source) = some_read (told source) (rose source) _ some_source
   some_command (Dis image) = some_read (told image) (rose image) _ some_list
-  some_command (Gen number sets) = some_job number sets (generated_source number) (generated_schedule number)
+  some_command (Gen number sets) = some_job number sets
 
   pub some_outcome : (asked : Option Command) → SomeFor (Gives told rose asked)
   some_outcome None = (1, words_line, in_no_form)
@@ -236,16 +230,16 @@ module _ {K : Type 0} (k : Account K) where
       (drives r.drives.text r.drives.last r.drives.is_text) r.drives.prints e
 
   -- the image of a job ran
-  pub job_counted : (number : ℕ) (sets : Option ℕ) (source schedule : List ℕ) (image : List Part) (events : List Timed) (counted : Counted) (p : Printed) (code : ℕ) (a b : K)
-      → IsAssembly (lines_of source) image → IsSchedule (lines_of schedule) events → Counts counted (given (pairs_of image) events MAX_LENGTH sets)
+  pub job_counted : (number : ℕ) (sets : Option ℕ) (image : List Part) (events : List Timed) (counted : Counted) (p : Printed) (code : ℕ) (a b : K)
+      → IsAssembly (lines_of (generated_source number)) image → IsSchedule (lines_of (generated_schedule number)) events → Counts counted (given (pairs_of image) events MAX_LENGTH sets)
       → Prints p k a b (generated_line number counted.count counted.events counted.end) → code ≡ code_for p (end_code counted.end)
-      → Answers (JobGives number sets source schedule) code k a b
-  job_counted number sets source schedule image events counted p code a b made says c printed e =
+      → Answers (GenGives number sets) code k a b
+  job_counted number sets image events counted p code a b made says c printed e =
       let g = given (pairs_of image) events MAX_LENGTH sets in
       let same = ap (λ (n : ℕ). generated_line number n counted.events counted.end) c.count
       ∙ ap (λ (n : ℕ). generated_line number (state_after g c.records).count n counted.end) c.events
       ∙ ap (generated_line number (state_after g c.records).count (length (reached_in g c.records c.finish))) c.end in
-      answers_line (JobGives number sets source schedule) p (end_code c.finish.end) code _ _ a b (known_finish c.finish.end)
+      answers_line (GenGives number sets) p (end_code c.finish.end) code _ _ a b (known_finish c.finish.end)
       (job_runs image events c.records c.finish made says c.run) same printed (e ∙ ap (λ (x : End). code_for p (end_code x)) c.end)
 
   -- the line of a refusal was printed

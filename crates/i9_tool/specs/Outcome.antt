@@ -12,9 +12,9 @@ use Rattle.i9_model.specs.Image.{Part, pairs_of}
 use Rattle.i9_model.specs.declared.layout.TheConstants.{MAX_LENGTH}
 use Rattle.i9_course.specs.LateRun.{IsLateRun}
 use Rattle.i9_hex.specs.Writing.{hex_text}
-use Rattle.i9_asm.specs.Laws.{IsAssembly, IsRefusedSource}
+use Rattle.i9_asm.specs.Laws.{IsAssembly}
 use Rattle.i9_asm.specs.Listing.{IsListing}
-use Rattle.i9_model.specs.ScheduleText.{IsSchedule, IsByCounts, IsRefused as IsRefusedSchedule}
+use Rattle.i9_model.specs.ScheduleText.{IsSchedule, IsByCounts}
 use Rattle.i9_script.specs.declared.command.Command.{Command as ScriptCommand}
 use Rattle.i9_tool.specs.declared.files.FileKind.{FileKind}
 use Rattle.i9_tool.specs.declared.files.FileKind.TheVariants.{Image, Schedule, Source, Script}
@@ -79,22 +79,13 @@ pub data DisGives (pairs : List (ℕ × ℕ)) : ℕ → List ℕ → Type 0 wher
 abbrev pub job_line : ℕ → Given → List Record → Finish → List ℕ
 job_line number g records f = generated_line number (state_after g records).count (length (reached_in g records f)) f.end
 
--- For the source and the schedule of the job of a number: one of them is refused for its first line at fault, or the run
--- of both, whose results land late, is made to its end, and a line says what it comes to.
-pub data JobGives (number : ℕ) (sets : Option ℕ) (source schedule : List ℕ) : ℕ → List ℕ → Type 0 where
-  job_source_refused : (fault : ℕ × ℕ) → IsRefusedSource (lines_of source) fault
-      → JobGives number sets source schedule 3 (refused_line (word_of Source) fault)
-  job_schedule_refused : (image : List Part) (fault : ℕ × ℕ)
-      → IsAssembly (lines_of source) image → IsRefusedSchedule (lines_of schedule) fault
-      → JobGives number sets source schedule 3 (refused_line (word_of Schedule) fault)
+-- The run of the source and the schedule that are made from a number, whose results land late, is made to its end, and a
+-- line says what it comes to.
+pub data GenGives (number : ℕ) (sets : Option ℕ) : ℕ → List ℕ → Type 0 where
   job_runs : (image : List Part) (events : List Timed) (records : List Record) (f : Finish)
-      → IsAssembly (lines_of source) image → IsSchedule (lines_of schedule) events
+      → IsAssembly (lines_of (generated_source number)) image → IsSchedule (lines_of (generated_schedule number)) events
       → IsLateRun (given (pairs_of image) events MAX_LENGTH sets) records f
-      → JobGives number sets source schedule (end_code f.end) (job_line number (given (pairs_of image) events MAX_LENGTH sets) records f)
-
--- for a number and so many sets
-abbrev pub GenGives : ℕ → Option ℕ → ℕ → List ℕ → Type 0
-GenGives number sets = JobGives number sets (generated_source number) (generated_schedule number)
+      → GenGives number sets (end_code f.end) (job_line number (given (pairs_of image) events MAX_LENGTH sets) records f)
 
 -- `told` says the files that are told, and `rose` of which names the count of faults rose.
 module _ (told : List ℕ → Option (List ℕ)) (rose : List ℕ → Type 0) where

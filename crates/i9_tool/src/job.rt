@@ -1,13 +1,13 @@
 //! The command `gen`: the run of the job that is made from a number.
-ghost use Rattle.std.specs.Prelude.{◌≡◌, ◌≢◌, List, ℕ};
+ghost use Rattle.std.specs.Prelude.{◌≡◌, ◌≢◌};
 ghost use Rattle.i9_text.specs.Text.{lines_of};
 ghost use Rattle.i9_model.specs.ScheduleText.{IsSchedule, IsPlan};
 ghost use Rattle.i9_asm.specs.Laws.{IsAssembly};
+ghost use Rattle.i9_generator.specs.Generator.{generated_source, generated_schedule};
 ghost use Rattle.i9_tool.specs.Words.{AreFew};
 ghost use Rattle.i9_debug.specs.Print.{account};
-ghost use Rattle.i9_tool.specs.Outcome.{Answers, JobGives, GenGives};
+ghost use Rattle.i9_tool.specs.Outcome.{Answers, GenGives};
 
-use crate::files::{FileKind, refuse};
 use crate::run::count_run;
 use crate::status::{Status, code_of_end, status_for};
 use crate::words::JobWords;
@@ -32,9 +32,9 @@ fn run_job<K: Sink>(
     requires few { AreFew words.sets }
     requires begins { plan.old.place ≡ 0 }
     requires plan { IsPlan plan.old.events }
-    ensures answers { (source schedule : List ℕ)
-        → IsAssembly (lines_of source) image.now → IsSchedule (lines_of schedule) plan.old.events
-        → Answers (JobGives words.number words.sets source schedule)
+    requires assembled { IsAssembly (lines_of (generated_source words.number)) image.now }
+    requires said { IsSchedule (lines_of (generated_schedule words.number)) plan.old.events }
+    ensures answers { Answers (GenGives words.number words.sets)
         result.code (account K.told K.faults K.writes K.sure) out.old out.new }
     ensures read { result.code ≢ 5 }
 {
@@ -54,7 +54,7 @@ fn run_job<K: Sink>(
     }
 }
 
-/// Runs the image of a job with the events of its schedule, or says why the schedule is refused.
+/// Runs the image of a job with the events of its schedule, which is accepted as every one that is made.
 fn schedule_job<K: Sink>(
     alloc: Global,
     words: JobWords,
@@ -63,21 +63,20 @@ fn schedule_job<K: Sink>(
     out: &mut K,
 ) -> Status
     requires few { AreFew words.sets }
-    ensures answers { (source : List ℕ) → IsAssembly (lines_of source) image.now
-        → Answers (JobGives words.number words.sets source schedule.now)
+    requires assembled { IsAssembly (lines_of (generated_source words.number)) image.now }
+    requires schedule { schedule.now ≡ generated_schedule words.number }
+    ensures answers { Answers (GenGives words.number words.sets)
         result.code (account K.told K.faults K.writes K.sure) out.old out.new }
     ensures read { result.code ≢ 5 }
 {
     match i9_schedule::read(alloc, schedule) {
         Ok(mut plan) => run_job(alloc, words, image, &mut plan, out),
-        Err(LineError::Bad(fault)) => {
-            refuse(alloc, FileKind::Schedule, fault.line, fault.kind, out)
-        }
+        Err(LineError::Bad(_)) => unreachable!(),
         Err(LineError::Memory) => Status { code: 7 },
     }
 }
 
-/// Assembles the source of a job and runs it with its schedule, or says why the source is refused.
+/// Assembles the source of a job, which is accepted as every one that is made, and runs it with its schedule.
 fn assemble_job<K: Sink>(
     alloc: Global,
     words: JobWords,
@@ -86,13 +85,15 @@ fn assemble_job<K: Sink>(
     out: &mut K,
 ) -> Status
     requires few { AreFew words.sets }
-    ensures answers { Answers (JobGives words.number words.sets source.now schedule.now)
+    requires source { source.now ≡ generated_source words.number }
+    requires schedule { schedule.now ≡ generated_schedule words.number }
+    ensures answers { Answers (GenGives words.number words.sets)
         result.code (account K.told K.faults K.writes K.sure) out.old out.new }
     ensures read { result.code ≢ 5 }
 {
     match assemble(alloc, source) {
         Ok(image) => schedule_job(alloc, words, &image, schedule, out),
-        Err(AsmError::Bad(fault)) => refuse(alloc, FileKind::Source, fault.line, fault.kind, out),
+        Err(AsmError::Bad(_)) => unreachable!(),
         Err(AsmError::Memory) => Status { code: 7 },
     }
 }
