@@ -1,6 +1,6 @@
 //! Sources: what each line adds, and the segments.
 ghost use Rattle.std.specs.Prelude.{◌≡◌, ◌<◌, ◌≤◌, ◌^◌, ◌+◌, ◌*◌, IfOk};
-ghost use Rattle.std.specs.BTreeMap.{get_by_text};
+ghost use Rattle.i9_value.specs.Known.{definitions};
 ghost use Rattle.i9_value.specs.Values.{Names};
 ghost use Rattle.i9_asm.specs.Said.{item_as};
 ghost use Rattle.i9_asm.specs.Source.{most_bytes, fault_if};
@@ -227,9 +227,9 @@ impl Source {
         number: u64,
         text: &[u8],
     ) -> Result<Source, LineError>
-        requires { values_before (2 * number + 1) (get_by_text table.now) ≡ (past_label (label_of text.now)
-            (source_at (values_before (2 * number) (get_by_text table.now)) self).place).known }
-        ensures { Takes (values_of (get_by_text table.now)) (source_at (values_before (2 * number) (get_by_text table.now)) self)
+        requires { values_before (2 * number + 1) (definitions table.now) ≡ (past_label (label_of text.now)
+            (source_at (values_before (2 * number) (definitions table.now)) self).place).known }
+        ensures { Takes (values_of (definitions table.now)) (source_at (values_before (2 * number) (definitions table.now)) self)
             text.now result }
     {
         let line = read_line(text);
