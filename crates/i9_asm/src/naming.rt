@@ -49,7 +49,7 @@ impl Naming {
             ≡ label_entered (label_in label.entry) (address_at (naming_place self)) step (definitions self.table)) }
     {
         match label {
-            Some(name) if is_name(name) => {
+            Some(name) if named => {
                 let value = self.place().address();
                 let definition = Definition { value, step };
                 Ok(Naming {

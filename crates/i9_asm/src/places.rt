@@ -84,7 +84,7 @@ pub(crate) fn is_ascii(line: &[u8]) -> bool
 }
 
 /// No label, or a name.
-fn is_label(label: Option<&[u8]>) -> bool
+pub(crate) fn is_label(label: Option<&[u8]>) -> bool
     ensures { result ≡ is_label (label_in label.entry) }
 {
     match label {
@@ -94,12 +94,12 @@ fn is_label(label: Option<&[u8]>) -> bool
 }
 
 /// What a line does behind its label: nothing, with a byte past ASCII or a label that is no name.
-pub(crate) fn effect_of<'a>(text: &[u8], line: &Line<'a>) -> Said<'a>
-    requires label { label_in line.now.label ≡ label_of text.now }
+pub(crate) fn effect_of<'a>(text: &[u8], line: &Line<'a>, named: bool) -> Said<'a>
+    requires label { named ≡ is_label (label_of text.now) }
     requires said { item_as line.now.said ≡ item_of text.now }
     ensures { item_as result ≡ effect_of text.now }
 {
-    if is_ascii(text) && is_label(line.label) {
+    if named && is_ascii(text) {
         line.said
     } else {
         Said::Empty

@@ -54,9 +54,9 @@ pub short_name : (s : List ℕ) → is_name s ≡ true → length s ≤ 63
 unfolding is_name
 short_name s h = leb-true (length s) 63 (and_parts (has_name_start s) (leb (length s) 63) (and_parts _ _ (and_parts _ _ (and_parts _ _ h).0).0).0).1
 
--- four words that are those of another key
+-- the mark and the words are those of another key
 abbrev pub SameWords : Key → Key → Type 0
-SameWords x y = (x.0 ≡ y.0) × (x.1 ≡ y.1) × (x.2 ≡ y.2) × (x.3 ≡ y.3)
+SameWords x y = (x.0 ≡ y.0) × (x.1 ≡ y.1) × (x.2 ≡ y.2) × (x.3 ≡ y.3) × (x.4 ≡ y.4)
 
 key_once : (s t : List ℕ) → is_name s ≡ true → is_name t ≡ true → SameWords (key_of s) (key_of t) → s ≡ t
 unfolding key_of
@@ -67,10 +67,10 @@ key_once s t g h e =
     let h2 = parts 16 (drop 16 t) h1.1 in
     let g3 = parts 16 (drop 16 (drop 16 s)) g2.1 in
     let h3 = parts 16 (drop 16 (drop 16 t)) h2.1 in
-    let last = word_once (drop 16 (drop 16 (drop 16 s))) (drop 16 (drop 16 (drop 16 t))) g3.1 h3.1 e.3 in
-    let third = joined 16 (drop 16 (drop 16 s)) (drop 16 (drop 16 t)) (word_once (take 16 (drop 16 (drop 16 s))) (take 16 (drop 16 (drop 16 t))) g3.0 h3.0 e.2) last in
-    let second = joined 16 (drop 16 s) (drop 16 t) (word_once (take 16 (drop 16 s)) (take 16 (drop 16 t)) g2.0 h2.0 e.1) third in
-    joined 16 s t (word_once (take 16 s) (take 16 t) g1.0 h1.0 e.0) second
+    let last = word_once (drop 16 (drop 16 (drop 16 s))) (drop 16 (drop 16 (drop 16 t))) g3.1 h3.1 e.4 in
+    let third = joined 16 (drop 16 (drop 16 s)) (drop 16 (drop 16 t)) (word_once (take 16 (drop 16 (drop 16 s))) (take 16 (drop 16 (drop 16 t))) g3.0 h3.0 e.3) last in
+    let second = joined 16 (drop 16 s) (drop 16 t) (word_once (take 16 (drop 16 s)) (take 16 (drop 16 t)) g2.0 h2.0 e.2) third in
+    joined 16 s t (word_once (take 16 s) (take 16 t) g1.0 h1.0 e.1) second
 
 -- ---- the order of keys
 
@@ -88,19 +88,21 @@ both_so a b g h = sym (tied_then a b) ∙ rw (g, h) refl
 
 same_words : (x y : Key) → is_eq (key_cmp x y) ≡ true → SameWords x y
 same_words x y h =
-    let three = both (ordering_then (ordering_then (nat_cmp x.0 y.0) (nat_cmp x.1 y.1)) (nat_cmp x.2 y.2)) (nat_cmp x.3 y.3) h in
+    let four = both (ordering_then (ordering_then (ordering_then (nat_cmp x.0 y.0) (nat_cmp x.1 y.1)) (nat_cmp x.2 y.2)) (nat_cmp x.3 y.3)) (nat_cmp x.4 y.4) h in
+    let three = both (ordering_then (ordering_then (nat_cmp x.0 y.0) (nat_cmp x.1 y.1)) (nat_cmp x.2 y.2)) (nat_cmp x.3 y.3) four.0 in
     let two = both (ordering_then (nat_cmp x.0 y.0) (nat_cmp x.1 y.1)) (nat_cmp x.2 y.2) three.0 in
     let one = both (nat_cmp x.0 y.0) (nat_cmp x.1 y.1) two.0 in
-    (same_word x.0 y.0 one.0, same_word x.1 y.1 one.1, same_word x.2 y.2 two.1, same_word x.3 y.3 three.1)
+    (same_word x.0 y.0 one.0, same_word x.1 y.1 one.1, same_word x.2 y.2 two.1, same_word x.3 y.3 three.1, same_word x.4 y.4 four.1)
 
 key_itself : (x : Key) → is_eq (key_cmp x x) ≡ true
 key_itself x =
-    both_so (ordering_then (ordering_then (nat_cmp x.0 x.0) (nat_cmp x.1 x.1)) (nat_cmp x.2 x.2)) (nat_cmp x.3 x.3)
-    (both_so (ordering_then (nat_cmp x.0 x.0) (nat_cmp x.1 x.1)) (nat_cmp x.2 x.2) (both_so (nat_cmp x.0 x.0) (nat_cmp x.1 x.1) (word_itself x.0) (word_itself x.1)) (word_itself x.2))
-    (word_itself x.3)
+    let one = both_so (nat_cmp x.0 x.0) (nat_cmp x.1 x.1) (word_itself x.0) (word_itself x.1) in
+    let two = both_so (ordering_then (nat_cmp x.0 x.0) (nat_cmp x.1 x.1)) (nat_cmp x.2 x.2) one (word_itself x.2) in
+    let three = both_so (ordering_then (ordering_then (nat_cmp x.0 x.0) (nat_cmp x.1 x.1)) (nat_cmp x.2 x.2)) (nat_cmp x.3 x.3) two (word_itself x.3) in
+    both_so (ordering_then (ordering_then (ordering_then (nat_cmp x.0 x.0) (nat_cmp x.1 x.1)) (nat_cmp x.2 x.2)) (nat_cmp x.3 x.3)) (nat_cmp x.4 x.4) three (word_itself x.4)
 
 same_key : (x y : Key) → is_eq (key_cmp x y) ≡ true → x ≡ y
-same_key x y h = let e = same_words x y h in rw (e.0, e.1, e.2, e.3) refl
+same_key x y h = let e = same_words x y h in rw (e.0, e.1, e.2, e.3, e.4) refl
 
 same_names : (s t : List ℕ) → is_name s ≡ true → is_name t ≡ true → is_eq (key_cmp (key_of s) (key_of t)) ≡ bytes_eq s t
 same_names s t g h = elim (cases_Bool (is_eq (key_cmp (key_of s) (key_of t)))) [

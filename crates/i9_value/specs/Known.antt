@@ -1,9 +1,10 @@
 -- The names that are known somewhere, and their values.
-use Rattle.std.specs.Prelude.{ℕ, ◌+◌, ◌*◌, nat_lt, List, [], ◌∷◌, take, drop, Option, Some, None, is_some, if◌then◌else◌}
+use Rattle.std.specs.Prelude.{ℕ, ◌+◌, ◌*◌, ◌/◌, ◌%◌, ◌^◌, nat_lt, List, [], ◌∷◌, take, drop, Option, Some, None, is_some, if◌then◌else◌}
 use Rattle.std.specs.Option.{option_map, option_and_then}
 use Rattle.std.specs.declared.cmp.Ordering.{Ordering}
 use Rattle.std.specs.Ordering.{nat_cmp, ordering_then}
 use Rattle.std.specs.BTreeMap.{get}
+use Rattle.std.specs.Int.Bits.{bit_xor}
 use Rattle.std.specs.Map.{update}
 use Rattle.std.specs.Str.{bytes_eq}
 use Rattle.i9_value.specs.declared.known.Definition.{Definition}
@@ -19,16 +20,29 @@ unfoldable pub word_of : List ℕ → ℕ
 word_of [] = 0
 word_of (b ∷ s) = b + 256 * word_of s
 
--- the words of a name, sixteen bytes in each
+-- a number that tells most texts of four words apart
+abbrev pub mark_of : ℕ → ℕ → ℕ → ℕ → ℕ
+mark_of a b c d =
+    let sum = (((a + b) % 2 ^ 128 + c) % 2 ^ 128 + d) % 2 ^ 128 in
+    bit_xor (sum % 2 ^ 64) (sum / 2 ^ 64)
+
+-- the words of a name, sixteen bytes in each, behind their mark
 abbrev pub Key : Type 0
-Key = ℕ × ℕ × ℕ × ℕ
+Key = ℕ × ℕ × ℕ × ℕ × ℕ
+
+abbrev pub key_with : ℕ → ℕ → ℕ → ℕ → Key
+key_with a b c d = (mark_of a b c d, a, b, c, d)
 
 unfoldable pub key_of : List ℕ → Key
-key_of name = (word_of (take 16 name), word_of (take 16 (drop 16 name)), word_of (take 16 (drop 16 (drop 16 name))), word_of (drop 16 (drop 16 (drop 16 name))))
+key_of name =
+    key_with (word_of (take 16 name)) (word_of (take 16 (drop 16 name))) (word_of (take 16 (drop 16 (drop 16 name))))
+    (word_of (drop 16 (drop 16 (drop 16 name))))
 
 -- the order of keys
 abbrev pub key_cmp : Key → Key → Ordering
-key_cmp x y = ordering_then (ordering_then (ordering_then (nat_cmp x.0 y.0) (nat_cmp x.1 y.1)) (nat_cmp x.2 y.2)) (nat_cmp x.3 y.3)
+key_cmp x y =
+    ordering_then (ordering_then (ordering_then (ordering_then (nat_cmp x.0 y.0) (nat_cmp x.1 y.1)) (nat_cmp x.2 y.2)) (nat_cmp x.3 y.3))
+    (nat_cmp x.4 y.4)
 
 -- the definitions of the names in a table
 unfoldable pub definitions : Table → List ℕ → Option Definition

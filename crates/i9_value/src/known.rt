@@ -1,6 +1,6 @@
 //! Names with their definitions, and which of them are known.
 ghost use Rattle.std.specs.Prelude.{◌≡◌, ◌≤◌, length, take, drop, true, None, IfOk};
-ghost use Rattle.i9_value.specs.Known.{word_of, key_of, definitions, enter, known_in};
+ghost use Rattle.i9_value.specs.Known.{word_of, mark_of, key_of, definitions, enter, known_in};
 ghost use Rattle.i9_value.specs.Values.{is_name};
 
 use std::alloc::{AllocError, Global};
@@ -13,8 +13,8 @@ pub struct Definition {
     pub step: u128,
 }
 
-/// The bytes of a name, sixteen in each word: words are compared faster than texts.
-type Key = (u128, u128, u128, u128);
+/// The bytes of a name, sixteen in each word, behind a mark of them all that is compared first.
+type Key = (u64, u128, u128, u128, u128);
 
 /// The word that at most sixteen bytes make, the first one lowest.
 fn word_of(bytes: &[u8]) -> u128
@@ -42,20 +42,48 @@ fn cut_word(text: &[u8]) -> (&[u8], &[u8])
     }
 }
 
-/// The key of a name.
-fn key_of(name: &[u8]) -> Key
+/// The mark of four words.
+fn mark_of(first: u128, second: u128, third: u128, last: u128) -> u64
+    ensures { result ≡ mark_of first second third last }
+{
+    let sum = first
+        .wrapping_add(second)
+        .wrapping_add(third)
+        .wrapping_add(last);
+    (sum % (1 << 64)) as u64 ^ (sum / (1 << 64)) as u64
+}
+
+/// The key of a name of more than sixteen bytes.
+fn long_key_of(name: &[u8]) -> Key
     requires { is_name name.now ≡ true }
     ensures { result ≡ key_of name.now }
 {
     let (first, rest) = cut_word(name);
     let (second, rest) = cut_word(rest);
     let (third, last) = cut_word(rest);
+    let first = word_of(first);
+    let second = word_of(second);
+    let third = word_of(third);
+    let last = word_of(last);
     (
-        word_of(first),
-        word_of(second),
-        word_of(third),
-        word_of(last),
+        mark_of(first, second, third, last),
+        first,
+        second,
+        third,
+        last,
     )
+}
+
+/// The key of a name.
+fn key_of(name: &[u8]) -> Key
+    requires { is_name name.now ≡ true }
+    ensures { result ≡ key_of name.now }
+{
+    if name.len() > 16 {
+        return long_key_of(name);
+    }
+    let word = word_of(name);
+    (mark_of(word, 0, 0, 0), word, 0, 0, 0)
 }
 
 /// Names with their definitions.

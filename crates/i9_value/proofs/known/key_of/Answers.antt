@@ -1,22 +1,12 @@
-use Rattle.std.proofs.Common.{ℕ, ◌≤◌, List, length, take, drop, refl, arith}
-use Rattle.std.proofs.Math.Nat.{min-le_left}
-use Rattle.std.proofs.lemmas.List.{length-take, length-drop}
-use Rattle.i9_value.specs.Known.{key_of}
-use Rattle.i9_value.proofs.NameKeys.{short_name}
+use Rattle.std.proofs.Common.{◌≡◌, [], take, drop, refl, arith}
+use Rattle.std.proofs.lemmas.List.{take_all, drop_all}
+use Rattle.i9_value.specs.Known.{word_of, key_of}
 use Rattle.i9_value.proofs.known.key_of.Goals as goal
 
-short_front : (s : List ℕ) → length (take 16 s) ≤ 16
-short_front s = rw (length-take 16 s) (min-le_left 16 (length s))
-
-pub word_of-requires : goal.word_of-requires
-word_of-requires c = rw c.cut_word.ensures.front (short_front c.args.name.now)
-
-pub word_of-requires-4 : goal.word_of-requires-4
-word_of-requires-4 c =
-    let s = c.args.name.now in
-    let short = short_name s c.requires in
-    rw (c.cut_word-3.ensures.back, c.cut_word-2.ensures.back, c.cut_word.ensures.back, length-drop 16 (drop 16 (drop 16 s)), length-drop 16 (drop 16 s), length-drop 16 s) (omega (arith, short))
-
 pub returns : goal.returns
-unfolding key_of
-returns c = rw (c.word_of.ensures, c.word_of-2.ensures, c.word_of-3.ensures, c.word_of-4.ensures, c.cut_word-3.ensures.front, c.cut_word-3.ensures.back, c.cut_word-2.ensures.front, c.cut_word-2.ensures.back, c.cut_word.ensures.front, c.cut_word.ensures.back) refl
+unfolding word_of key_of
+returns c =
+    let s = c.args.name.now in
+    let front : take 16 s ≡ s = take_all 16 s (omega (arith, c.if-name-gt16.false)) in
+    let back : drop 16 s ≡ [] = drop_all 16 s (omega (arith, c.if-name-gt16.false)) in
+    rw (c.mark_of.ensures, c.word_of-word.ensures, front, back) refl

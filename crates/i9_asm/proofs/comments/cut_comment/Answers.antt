@@ -1,7 +1,7 @@
 use Rattle.std.proofs.Common.{◌≡◌, ℕ, true, false, get_or, take, sym, ap, ◌∙◌}
 use Rattle.i9_asm.specs.Lines.{is_comment}
 use Rattle.i9_asm.proofs.CodeLength.{code_len-on, code_len-end}
-use Rattle.i9_asm.proofs.comments.without_comment.Goals as goal
+use Rattle.i9_asm.proofs.comments.cut_comment.Goals as goal
 
 pub returns-then-is_comment : goal.returns-then-is_comment
 returns-then-is_comment c =
