@@ -4,7 +4,7 @@ ghost use Rattle.i9_value.specs.Known.{definitions};
 ghost use Rattle.i9_asm.specs.Said.{item_as, label_in};
 
 use crate::lines::{Said, read_line};
-use crate::places::{Place, effect_of};
+use crate::places::{Place, effect_of, is_label};
 use i9_value::{Definition, Known, Table, is_name, settled, value_of};
 use std::alloc::{AllocError, Global};
 
@@ -17,7 +17,7 @@ pub(crate) struct Naming {
 }
 
 impl Naming {
-    ghost use Rattle.i9_asm.specs.Places.{address_at, past_label, past_item, past_line, start_place};
+    ghost use Rattle.i9_asm.specs.Places.{is_label, address_at, past_label, past_item, past_line, start_place};
     ghost use Rattle.i9_asm.specs.Numbered.{no_definitions, label_entered, item_entered, line_entered};
     ghost use Rattle.i9_asm.specs.Reading.{place_of, naming_place};
 
@@ -42,8 +42,9 @@ impl Naming {
         }
     }
 
-    /// The same behind a label, which is defined at this step.
-    fn with_label(self, step: u128, label: Option<&[u8]>) -> Result<Naming, AllocError>
+    /// The same behind a label, which is defined at this step where it is a name.
+    fn with_label(self, step: u128, label: Option<&[u8]>, named: bool) -> Result<Naming, AllocError>
+        requires { named ≡ is_label (label_in label) }
         ensures location { IfOk result (λ n. n.location ≡ self.location) }
         ensures table { IfOk result (λ n. definitions n.table
             ≡ label_entered (label_in label.entry) (address_at (naming_place self)) step (definitions self.table)) }
@@ -100,7 +101,8 @@ impl Naming {
     {
         let line = read_line(text);
         let step = 2 * u128::from(number);
-        let labelled = self.with_label(step, line.label)?;
-        labelled.with_item(step + 1, &effect_of(text, &line))
+        let named = is_label(line.label);
+        let labelled = self.with_label(step, line.label, named)?;
+        labelled.with_item(step + 1, &effect_of(text, &line, named))
     }
 }
