@@ -76,11 +76,15 @@ fn moved_up(location: u64, multiple: u32) -> Option<u64>
     if up == location { None } else { Some(up) }
 }
 
-/// Whether a line has no byte past ASCII.
+/// Whether a line has no byte past ASCII. All bytes are tested, so many are at once.
 pub(crate) fn is_ascii(line: &[u8]) -> bool
     ensures { result ≡ list_all is_ascii line.now }
 {
-    line.iter().all(|byte| *byte < 128)
+    let mut ascii = true;
+    for byte in line {
+        ascii = ascii & (*byte < 128);
+    }
+    ascii
 }
 
 /// No label, or a name.
