@@ -19,7 +19,8 @@ use std::alloc::{AllocError, Global};
 
 /// The names of a source with their definitions.
 fn table_of(alloc: Global, text: &[u8]) -> Result<Table, AllocError>
-    ensures { IfOk result (λ table. definitions table ≡ lines_entered start_place 0 (lines_of text.now) no_definitions) }
+    ensures { IfOk result (λ table. definitions table
+        ≡ lines_entered start_place 0 (lines_of text.now) no_definitions) }
 {
     let mut naming = Naming::new(alloc);
     let mut number = 0u64;

@@ -3,7 +3,8 @@ ghost use Rattle.std.specs.Prelude.{◌≡◌, ◌<◌, ◌≤◌, ◌+◌, ◌%
 ghost use Rattle.std.specs.List.{list_all};
 ghost use Rattle.i9_asm.specs.Lines.{item_of, label_of};
 ghost use Rattle.i9_asm.specs.Said.{item_as, label_in};
-ghost use Rattle.i9_asm.specs.Places.{is_alignment, space_of, alignment_of, is_ascii, is_label, is_form_fault, statement_size, moved_up, effect_of};
+ghost use Rattle.i9_asm.specs.Places.{is_alignment, space_of, alignment_of, is_ascii};
+ghost use Rattle.i9_asm.specs.Places.{is_label, is_form_fault, statement_size, moved_up, effect_of};
 
 use crate::data::{data_size, if_holds};
 use crate::lines::{Line, Said};

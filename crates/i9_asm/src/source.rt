@@ -205,7 +205,8 @@ impl Source {
         said: &Said<'_>,
     ) -> Result<Source, LineError>
         ensures { Continues (known_in names.entry) (source_at (known_in behind.entry) self) (item_as said.now)
-            (least front (rest_fault (known_in names.entry) (source_at (known_in behind.entry) self) (item_as said.now))) result }
+            (least front (rest_fault (known_in names.entry) (source_at (known_in behind.entry) self)
+            (item_as said.now))) result }
     {
         let place = self.place(behind);
         let Ok(grown) = self.grown(alloc, names, place, said) else {
@@ -229,8 +230,8 @@ impl Source {
     ) -> Result<Source, LineError>
         requires { values_before (2 * number + 1) (definitions table.now) ≡ (past_label (label_of text.now)
             (source_at (values_before (2 * number) (definitions table.now)) self).place).known }
-        ensures { Takes (values_of (definitions table.now)) (source_at (values_before (2 * number) (definitions table.now)) self)
-            text.now result }
+        ensures { Takes (values_of (definitions table.now))
+            (source_at (values_before (2 * number) (definitions table.now)) self) text.now result }
     {
         let line = read_line(text);
         let step = 2 * u128::from(number);

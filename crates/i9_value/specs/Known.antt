@@ -41,8 +41,8 @@ key_of name =
 -- the order of keys
 abbrev pub key_cmp : Key → Key → Ordering
 key_cmp x y =
-    ordering_then (ordering_then (ordering_then (ordering_then (nat_cmp x.0 y.0) (nat_cmp x.1 y.1)) (nat_cmp x.2 y.2)) (nat_cmp x.3 y.3))
-    (nat_cmp x.4 y.4)
+    let three = ordering_then (ordering_then (ordering_then (nat_cmp x.0 y.0) (nat_cmp x.1 y.1)) (nat_cmp x.2 y.2)) (nat_cmp x.3 y.3) in
+    ordering_then three (nat_cmp x.4 y.4)
 
 -- the definitions of the names in a table
 unfoldable pub definitions : Table → List ℕ → Option Definition

@@ -15,9 +15,15 @@ pub word_of-last-requires : goal.word_of-last-requires
 word_of-last-requires c =
     let s = c.args.name.now in
     let short = short_name s c.requires in
-    rw (c.cut_word-3.ensures.back, c.cut_word-2.ensures.back, c.cut_word.ensures.back, length-drop 16 (drop 16 (drop 16 s)), length-drop 16 (drop 16 s), length-drop 16 s) (omega (arith, short))
+    let left : length (drop 16 (drop 16 (drop 16 s))) ≤ 16 =
+    rw (length-drop 16 (drop 16 (drop 16 s)), length-drop 16 (drop 16 s), length-drop 16 s) (omega (arith, short)) in
+    rw (c.cut_word-3.ensures.back, c.cut_word-2.ensures.back, c.cut_word.ensures.back) left
 
 pub returns : goal.returns
 unfolding key_of
 returns c =
-    rw (c.mark_of.ensures, c.word_of-first.ensures, c.word_of-second.ensures, c.word_of-third.ensures, c.word_of-last.ensures, c.cut_word-3.ensures.front, c.cut_word-3.ensures.back, c.cut_word-2.ensures.front, c.cut_word-2.ensures.back, c.cut_word.ensures.front, c.cut_word.ensures.back) refl
+    let front = c.cut_word.ensures.front in
+    let back = c.cut_word.ensures.back in
+    let last = c.word_of-last.ensures in
+    rw (c.mark_of.ensures, c.word_of-first.ensures, c.word_of-second.ensures, c.word_of-third.ensures, last)
+    (rw (c.cut_word-3.ensures.front, c.cut_word-3.ensures.back, c.cut_word-2.ensures.front, c.cut_word-2.ensures.back, front, back) refl)

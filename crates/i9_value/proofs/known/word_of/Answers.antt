@@ -22,22 +22,28 @@ few n left word h some small =
 
 pub overflow_mul-word : goal.overflow_mul-word
 overflow_mul-word c =
-    let h = few (length c.args.bytes.now) c.loop-left.left c.loop-left.word c.requires (omega (arith, c.loop-left-test.true)) c.loop-left.invariant.small in
+    let some : 0 < c.loop-left.left = omega (arith, c.loop-left-test.true) in
+    let h = few (length c.args.bytes.now) c.loop-left.left c.loop-left.word c.requires some c.loop-left.invariant.small in
     omega (arith, h)
 
 pub overflow_add-word : goal.overflow_add-word
 overflow_add-word c =
-    let h = few (length c.args.bytes.now) c.loop-left.left c.loop-left.word c.requires (omega (arith, c.loop-left-test.true)) c.loop-left.invariant.small in
+    let some : 0 < c.loop-left.left = omega (arith, c.loop-left-test.true) in
+    let h = few (length c.args.bytes.now) c.loop-left.left c.loop-left.word c.requires some c.loop-left.invariant.small in
     let low = c.type_inv.bytes (c.loop-left.left - 1) in
     omega (arith, h, low, c.from.ensures)
 
 pub loop-left-preserved : goal.loop-left-preserved
 unfolding word_of
 loop-left-preserved c =
-    let more : length c.args.bytes.now - (c.loop-left.left - 1) ≡ suc (length c.args.bytes.now - c.loop-left.left) = omega (arith, c.loop-left-test.true, c.loop-left.invariant.inside) in
-    let low = c.type_inv.bytes (c.loop-left.left - 1) in
-    let back : c.loop-left.left - 1 + 1 ≡ c.loop-left.left = omega (arith, c.loop-left-test.true) in
-    let word = at_drop_more word_of c.args.bytes.now (c.loop-left.left - 1) 0 (omega (arith, c.loop-left-test.true, c.loop-left.invariant.inside)) in
+    let bytes = c.args.bytes.now in
+    let left = c.loop-left.left in
+    let inside : left - 1 < length bytes = omega (arith, c.loop-left-test.true, c.loop-left.invariant.inside) in
+    let more : length bytes - (left - 1) ≡ suc (length bytes - left) =
+    omega (arith, c.loop-left-test.true, c.loop-left.invariant.inside) in
+    let low = c.type_inv.bytes (left - 1) in
+    let back : left - 1 + 1 ≡ left = omega (arith, c.loop-left-test.true) in
+    let word = at_drop_more word_of bytes (left - 1) 0 inside in
     record {
       value = rw (c.from.ensures, c.loop-left.invariant.value) (omega (arith, rw back at word));
       small = rw (more, c.from.ensures) (omega (arith, low, c.loop-left.invariant.small));

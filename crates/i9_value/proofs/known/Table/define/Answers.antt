@@ -12,7 +12,9 @@ returns-in_ok-insert-in-Some c =
     let g = get key_cmp c.insert.new.self in
     let h = get key_cmp c.insert-in-Some.new.self in
     let was = sym (c.in_ok-first.ensures.old ∙ ap f key) ∙ c.in-Some.is in
-    stays f g h c.args.name.now c.args.definition c.in-Some.first c.requires was (rw key at c.in_ok-first.ensures.updates.0) (rw key at c.in_ok-insert-in-Some.ensures.updates.0)
+    let put = rw key at c.in_ok-first.ensures.updates.0 in
+    let back = rw key at c.in_ok-insert-in-Some.ensures.updates.0 in
+    stays f g h c.args.name.now c.args.definition c.in-Some.first c.requires was put back
 
 pub returns-in-None : goal.returns-in-None
 unfolding definitions

@@ -5,4 +5,5 @@ use Rattle.i9_value.proofs.known.Table.get.Goals as goal
 
 pub returns : goal.returns
 unfolding definitions
-returns c = rw c.requires (c.copied.ensures ∙ c.get.ensures.value ∙ ap (get key_cmp c.args.self.now.map) c.key_of.ensures)
+returns c =
+    rw c.requires (c.copied.ensures ∙ c.get.ensures.value ∙ ap (get key_cmp c.args.self.now.map) c.key_of.ensures)

@@ -7,4 +7,8 @@ use Rattle.i9_value.proofs.known.Table.new.Goals as goal
 
 pub returns : goal.returns
 unfolding definitions
-returns c = fun_ext (λ name. rw c.new.ensures.empty (elim (cases_Bool (is_name name)) [ inl named ↦ rw named refl | inr unnamed ↦ rw unnamed refl ]))
+returns c =
+    fun_ext (λ name. rw c.new.ensures.empty (elim (cases_Bool (is_name name)) [
+      | inl named ↦ rw named refl
+      | inr unnamed ↦ rw unnamed refl
+    ]))
