@@ -1,7 +1,6 @@
-use Rattle.std.proofs.Common.{◌≡◌, ℕ, false, length, take, sym, ap, ◌∙◌, arith}
+use Rattle.std.proofs.Common.{ℕ, length, take, sym, ap, ◌∙◌, arith}
 use Rattle.std.proofs.lemmas.List.{take_all}
 use Rattle.i9_asm.specs.declared.comments.Quote.TheVariants.{Outside}
-use Rattle.i9_asm.specs.Lines.{code_len}
 use Rattle.i9_asm.proofs.CodeLength.{code_len-whole}
 use Rattle.i9_asm.proofs.comments.without_comment.Goals as goal
 
