@@ -1,9 +1,8 @@
 -- The table of names that the first pass leaves: each name with its value and the step of its definition. The label of
 -- the line behind n lines is defined at step 2 n, and what `.set` assigns there at step 2 n + 1.
 use Rattle.std.specs.Prelude.{ℕ, ◌+◌, ◌&&◌, List, [], ◌∷◌, Option, Some, None, is_some, if◌then◌else◌}
-use Rattle.std.specs.Str.{bytes_eq}
-use Rattle.std.specs.Map.{update}
 use Rattle.i9_value.specs.declared.known.Definition.{Definition}
+use Rattle.i9_value.specs.Known.{enter}
 use Rattle.i9_value.specs.Values.{is_name, value_of, settled}
 use Rattle.i9_asm.specs.Lines.{Item, Set, label_of}
 use Rattle.i9_asm.specs.Places.{Place, address_at, past_label, past_line, effect_of}
@@ -15,10 +14,6 @@ Definitions = List ℕ → Option Definition
 -- no name is defined
 abbrev pub no_definitions : Definitions
 no_definitions name = None
-
--- the first definition of a name counts
-abbrev pub enter : List ℕ → Definition → Definitions → Definitions
-enter name d table = if is_some (table name) then table else update bytes_eq table name (Some d)
 
 -- behind a label at an address
 abbrev pub label_entered : Option (List ℕ) → ℕ → ℕ → Definitions → Definitions

@@ -2,7 +2,7 @@
 use Rattle.std.specs.Prelude.{◌≡◌, ℕ, ◌<◌, ◌++◌, List, [], length, Option, Some, None, Result, Ok, Err}
 use Rattle.std.specs.List.{flat_map}
 use Rattle.std.specs.Int.{w32, to_le_bytes}
-use Rattle.std.specs.BTreeMap.{get_by_text}
+use Rattle.i9_value.specs.Known.{definitions}
 use Rattle.i9_model.specs.Image.{Part}
 use Rattle.i9_value.specs.declared.fault.Fault.{Fault}
 use Rattle.i9_value.specs.Noted.{kind_of}
@@ -40,7 +40,7 @@ place_of p = record { location = p.location; known = known_in p.known }
 
 -- the place of the first pass
 abbrev pub naming_place : code_naming.Naming.Naming → Place
-naming_place n = record { location = n.location; known = values_of (get_by_text n.table) }
+naming_place n = record { location = n.location; known = values_of (definitions n.table) }
 
 -- what stands before, and bytes that an item gives
 pub record Adds (names : Names) (p : Place) (item : Item) (old new : List ℕ) : Type 0 where

@@ -1,6 +1,6 @@
 //! Assembling a source line by line, in two passes.
 ghost use Rattle.std.specs.Prelude.{◌≡◌, ℕ, List, IfOk, IfErr, Ok, Err};
-ghost use Rattle.std.specs.BTreeMap.{get_by_text};
+ghost use Rattle.i9_value.specs.Known.{definitions};
 ghost use Rattle.i9_text.specs.Text.{lines_of};
 ghost use Rattle.i9_model.specs.Image.{Part};
 ghost use Rattle.i9_asm.specs.Places.{start_place};
@@ -19,14 +19,15 @@ use std::alloc::{AllocError, Global};
 
 /// The names of a source with their definitions.
 fn table_of(alloc: Global, text: &[u8]) -> Result<Table, AllocError>
-    ensures { IfOk result (λ table. get_by_text table ≡ lines_entered start_place 0 (lines_of text.now) no_definitions) }
+    ensures { IfOk result (λ table. definitions table
+        ≡ lines_entered start_place 0 (lines_of text.now) no_definitions) }
 {
     let mut naming = Naming::new(alloc);
     let mut number = 0u64;
     let mut rest = Some(text);
     while let Some(lines) = rest {
         let (line, after) = split_line(lines);
-        naming = naming.with_line(alloc, number, line)?;
+        naming = naming.with_line(number, line)?;
         number += 1;
         rest = after;
     }
@@ -35,7 +36,7 @@ fn table_of(alloc: Global, text: &[u8]) -> Result<Table, AllocError>
 
 /// The segments of a source whose names have these definitions.
 fn segments_of(alloc: Global, table: &Table, text: &[u8]) -> Result<Segments, AsmError>
-    requires { get_by_text table.now ≡ lines_entered start_place 0 (lines_of text.now) no_definitions }
+    requires { definitions table.now ≡ lines_entered start_place 0 (lines_of text.now) no_definitions }
     ensures found { IfOk result (λ image. IsAssembly (lines_of text.now) image) }
     ensures refused { IfErr result (λ e. IfBad e (λ f. IsRefusedSource (lines_of text.now) (fault_place f))) }
 {

@@ -31,8 +31,8 @@ fn is_comment(quote: Quote, byte: u8) -> bool
     matches!((quote, byte), (Quote::Outside, b'#'))
 }
 
-/// A line without its comment.
-pub(crate) fn without_comment(line: &[u8]) -> &[u8]
+/// A line without its comment, byte by byte.
+fn cut_comment(line: &[u8]) -> &[u8]
     ensures { result.now ≡ without_comment line.now }
 {
     let mut quote = Quote::Outside;
@@ -43,4 +43,15 @@ pub(crate) fn without_comment(line: &[u8]) -> &[u8]
         quote = next_quote(quote, *byte);
     }
     line
+}
+
+/// A line without its comment.
+pub(crate) fn without_comment(line: &[u8]) -> &[u8]
+    ensures { result.now ≡ without_comment line.now }
+{
+    if line.contains(&b'#') {
+        cut_comment(line)
+    } else {
+        line
+    }
 }

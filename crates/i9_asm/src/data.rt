@@ -85,7 +85,8 @@ pub(crate) fn add_data(
     names: Known<'_>,
     text: &[u8],
 ) -> Result<Option<Fault>, AllocError>
-    ensures fault { IfOk result (λ f. f ≡ data_fault (bytes_of width) (known_in names.entry) (fields_left (Some text.entry))) }
+    ensures fault { IfOk result (λ f. f
+        ≡ data_fault (bytes_of width) (known_in names.entry) (fields_left (Some text.entry))) }
     ensures bytes { OnOk result (bytes.new.items ≡ bytes.old.items ++ flat_map
         (λ f. low_bytes (bytes_of width) (data_value (bytes_of width) (value_of (known_in names.entry) f)).value)
         (fields_left (Some text.entry))) }

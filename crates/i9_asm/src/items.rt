@@ -91,7 +91,8 @@ impl Place<'_> {
         said: &Said<'_>,
         bytes: &mut Vec<u8>,
     ) -> Result<Option<Fault>, AllocError>
-        ensures fault { IfOk result (λ f. f ≡ item_fault (known_in names.entry) (place_of self.now) (item_as said.now)) }
+        ensures fault { IfOk result (λ f. f
+            ≡ item_fault (known_in names.entry) (place_of self.now) (item_as said.now)) }
         ensures bytes { OnOk result (item_fault (known_in names.entry) (place_of self.now) (item_as said.now) ≡ None
             → Adds (known_in names.entry) (place_of self.now) (item_as said.now) bytes.old.items bytes.new.items) }
     {

@@ -1,5 +1,5 @@
-//! Sources whose lines and names have each length, against bytes and faults that no length changes. No clause of `assemble`
-//! keeps it from answering want of memory for some of them.
+//! Sources whose lines and names have each length, against bytes and faults that no length changes. No clause of
+//! `assemble` keeps it from answering want of memory for some of them.
 use crate::source_tests::{is_assembled, is_refused_source};
 use std::alloc::Global;
 use std::test::Fail;

@@ -4,7 +4,8 @@ ghost use Rattle.i9_text.specs.Text.{is_in_word};
 ghost use Rattle.i9_value.specs.declared.fault.Fault.TheVariants as fault;
 ghost use Rattle.i9_value.specs.Cut.{before, from};
 ghost use Rattle.i9_statement.specs.Fields.{fields_of};
-ghost use Rattle.i9_asm.specs.Lines.{Item, Bad, Org, Space, Align, Set, ends_head, labelled, one_value, two_values, some_values, directive_of, item_by, item_of, label_of};
+ghost use Rattle.i9_asm.specs.Lines.{Item, Bad, Org, Space, Align, Set, ends_head, labelled, item_of, label_of};
+ghost use Rattle.i9_asm.specs.Lines.{one_value, two_values, some_values, directive_of, item_by};
 ghost use Rattle.i9_asm.specs.Said.{bytes_of, item_as, label_as, label_in};
 
 use crate::comments::without_comment;

@@ -1,50 +1,12 @@
 //! The first pass: the names of a source and their definitions.
-ghost use Rattle.std.specs.Prelude.{◌≡◌, ◌<◌, ◌*◌, ◌^◌, ℕ, List, Some, true, IfOk};
-ghost use Rattle.std.specs.BTreeMap.{get_by_text};
-ghost use Rattle.std.specs.Map.{update};
-ghost use Rattle.std.specs.Str.{bytes_eq};
-ghost use Rattle.i9_value.specs.Values.{is_name};
+ghost use Rattle.std.specs.Prelude.{◌≡◌, ◌<◌, ◌*◌, ◌^◌, IfOk};
+ghost use Rattle.i9_value.specs.Known.{definitions};
 ghost use Rattle.i9_asm.specs.Said.{item_as, label_in};
-ghost use Rattle.i9_asm.specs.Numbered.{enter};
 
 use crate::lines::{Said, read_line};
-use crate::places::{Place, effect_of};
-use i9_value::{Definition, Known, Table, is_name, lookup, settled, value_of};
+use crate::places::{Place, effect_of, is_label};
+use i9_value::{Definition, Known, Table, is_name, settled, value_of};
 use std::alloc::{AllocError, Global};
-
-/// A table with the definition of one more name.
-fn with_definition(
-    alloc: Global,
-    mut table: Table,
-    name: &str,
-    definition: Definition,
-) -> Result<Table, AllocError>
-    ensures { IfOk result (λ more. (q : List ℕ) → get_by_text more q
-        ≡ update bytes_eq (get_by_text table) name.now (Some definition) q) }
-{
-    let key = String::from_str(alloc, name)?;
-    table.insert(key, definition)?;
-    Ok(table)
-}
-
-/// A table with one name more, if it is not defined yet.
-fn define(
-    alloc: Global,
-    table: Table,
-    name: &[u8],
-    definition: Definition,
-) -> Result<Table, AllocError>
-    requires { is_name name.now ≡ true }
-    ensures { IfOk result (λ more. get_by_text more ≡ enter name.now definition (get_by_text table)) }
-{
-    if lookup(Known::All(&table), name).is_some() {
-        return Ok(table);
-    }
-    match str::from_utf8(name) {
-        Ok(text) => with_definition(alloc, table, text, definition),
-        Err(_) => Ok(table),
-    }
-}
 
 /// Where the first pass stands: the location, and the names that are defined before it.
 #[derive(Drop)]
@@ -55,13 +17,13 @@ pub(crate) struct Naming {
 }
 
 impl Naming {
-    ghost use Rattle.i9_asm.specs.Places.{address_at, past_label, past_item, past_line, start_place};
+    ghost use Rattle.i9_asm.specs.Places.{is_label, address_at, past_label, past_item, past_line, start_place};
     ghost use Rattle.i9_asm.specs.Numbered.{no_definitions, label_entered, item_entered, line_entered};
     ghost use Rattle.i9_asm.specs.Reading.{place_of, naming_place};
 
     /// Before the first line.
     pub(crate) fn new(alloc: Global) -> Naming
-        ensures table { get_by_text result.table ≡ no_definitions }
+        ensures table { definitions result.table ≡ no_definitions }
         ensures place { naming_place result ≡ start_place }
     {
         Naming {
@@ -80,24 +42,20 @@ impl Naming {
         }
     }
 
-    /// The same behind a label, which is defined at this step.
-    fn with_label(
-        self,
-        alloc: Global,
-        step: u128,
-        label: Option<&[u8]>,
-    ) -> Result<Naming, AllocError>
+    /// The same behind a label, which is defined at this step where it is a name.
+    fn with_label(self, step: u128, label: Option<&[u8]>, named: bool) -> Result<Naming, AllocError>
+        requires { named ≡ is_label (label_in label) }
         ensures location { IfOk result (λ n. n.location ≡ self.location) }
-        ensures table { IfOk result (λ n. get_by_text n.table
-            ≡ label_entered (label_in label.entry) (address_at (naming_place self)) step (get_by_text self.table)) }
+        ensures table { IfOk result (λ n. definitions n.table
+            ≡ label_entered (label_in label.entry) (address_at (naming_place self)) step (definitions self.table)) }
     {
         match label {
-            Some(name) if is_name(name) => {
+            Some(name) if named => {
                 let value = self.place().address();
                 let definition = Definition { value, step };
                 Ok(Naming {
                     location: self.location,
-                    table: define(alloc, self.table, name, definition)?,
+                    table: self.table.define(name, definition)?,
                 })
             }
             _ => Ok(self),
@@ -105,16 +63,16 @@ impl Naming {
     }
 
     /// The table behind an item, whose name is defined at this step.
-    fn assigned(self, alloc: Global, step: u128, said: &Said<'_>) -> Result<Table, AllocError>
-        ensures { IfOk result (λ more. get_by_text more
-            ≡ item_entered (naming_place self) step (item_as said.now) (get_by_text self.table)) }
+    fn assigned(self, step: u128, said: &Said<'_>) -> Result<Table, AllocError>
+        ensures { IfOk result (λ more. definitions more
+            ≡ item_entered (naming_place self) step (item_as said.now) (definitions self.table)) }
     {
         match *said {
             Said::Set(name, field) => {
                 let value = value_of(Known::All(&self.table), field);
                 if is_name(name) && value.is_some() {
                     let value = settled(value).value;
-                    define(alloc, self.table, name, Definition { value, step })
+                    self.table.define(name, Definition { value, step })
                 } else {
                     Ok(self.table)
                 }
@@ -124,31 +82,27 @@ impl Naming {
     }
 
     /// The same behind an item, whose name is defined at this step.
-    fn with_item(self, alloc: Global, step: u128, said: &Said<'_>) -> Result<Naming, AllocError>
+    fn with_item(self, step: u128, said: &Said<'_>) -> Result<Naming, AllocError>
         ensures location { IfOk result (λ n. n.location ≡ (past_item (naming_place self) (item_as said.now)).location) }
-        ensures table { IfOk result (λ n. get_by_text n.table
-            ≡ item_entered (naming_place self) step (item_as said.now) (get_by_text self.table)) }
+        ensures table { IfOk result (λ n. definitions n.table
+            ≡ item_entered (naming_place self) step (item_as said.now) (definitions self.table)) }
     {
         let place = self.place();
         let location = place.next_location(place.moved_to(said), place.size_of(said));
-        let table = self.assigned(alloc, step, said)?;
+        let table = self.assigned(step, said)?;
         Ok(Naming { location, table })
     }
 
     /// The same behind a line with so many lines before it, also behind one at fault.
-    pub(crate) fn with_line(
-        self,
-        alloc: Global,
-        number: u64,
-        text: &[u8],
-    ) -> Result<Naming, AllocError>
+    pub(crate) fn with_line(self, number: u64, text: &[u8]) -> Result<Naming, AllocError>
         ensures location { IfOk result (λ n. n.location ≡ (past_line (naming_place self) text.now).location) }
-        ensures table { IfOk result (λ n. get_by_text n.table
-            ≡ line_entered (naming_place self) (2 * number) text.now (get_by_text self.table)) }
+        ensures table { IfOk result (λ n. definitions n.table
+            ≡ line_entered (naming_place self) (2 * number) text.now (definitions self.table)) }
     {
         let line = read_line(text);
         let step = 2 * u128::from(number);
-        let labelled = self.with_label(alloc, step, line.label)?;
-        labelled.with_item(alloc, step + 1, &effect_of(text, &line))
+        let named = is_label(line.label);
+        let labelled = self.with_label(step, line.label, named)?;
+        labelled.with_item(step + 1, &effect_of(text, &line, named))
     }
 }

@@ -3,7 +3,8 @@ ghost use Rattle.std.specs.Prelude.{◌≡◌, ◌<◌, ◌≤◌, ◌+◌, ◌%
 ghost use Rattle.std.specs.List.{list_all};
 ghost use Rattle.i9_asm.specs.Lines.{item_of, label_of};
 ghost use Rattle.i9_asm.specs.Said.{item_as, label_in};
-ghost use Rattle.i9_asm.specs.Places.{is_alignment, space_of, alignment_of, is_ascii, is_label, is_form_fault, statement_size, moved_up, effect_of};
+ghost use Rattle.i9_asm.specs.Places.{is_alignment, space_of, alignment_of, is_ascii};
+ghost use Rattle.i9_asm.specs.Places.{is_label, is_form_fault, statement_size, moved_up, effect_of};
 
 use crate::data::{data_size, if_holds};
 use crate::lines::{Line, Said};
@@ -76,15 +77,19 @@ fn moved_up(location: u64, multiple: u32) -> Option<u64>
     if up == location { None } else { Some(up) }
 }
 
-/// Whether a line has no byte past ASCII.
+/// Whether a line has no byte past ASCII. All bytes are tested, so many are at once.
 pub(crate) fn is_ascii(line: &[u8]) -> bool
     ensures { result ≡ list_all is_ascii line.now }
 {
-    line.iter().all(|byte| *byte < 128)
+    let mut ascii = true;
+    for byte in line {
+        ascii = ascii & (*byte < 128);
+    }
+    ascii
 }
 
 /// No label, or a name.
-fn is_label(label: Option<&[u8]>) -> bool
+pub(crate) fn is_label(label: Option<&[u8]>) -> bool
     ensures { result ≡ is_label (label_in label.entry) }
 {
     match label {
@@ -94,12 +99,12 @@ fn is_label(label: Option<&[u8]>) -> bool
 }
 
 /// What a line does behind its label: nothing, with a byte past ASCII or a label that is no name.
-pub(crate) fn effect_of<'a>(text: &[u8], line: &Line<'a>) -> Said<'a>
-    requires label { label_in line.now.label ≡ label_of text.now }
+pub(crate) fn effect_of<'a>(text: &[u8], line: &Line<'a>, named: bool) -> Said<'a>
+    requires label { named ≡ is_label (label_of text.now) }
     requires said { item_as line.now.said ≡ item_of text.now }
     ensures { item_as result ≡ effect_of text.now }
 {
-    if is_ascii(text) && is_label(line.label) {
+    if named && is_ascii(text) {
         line.said
     } else {
         Said::Empty

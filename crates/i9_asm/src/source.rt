@@ -1,6 +1,6 @@
 //! Sources: what each line adds, and the segments.
 ghost use Rattle.std.specs.Prelude.{◌≡◌, ◌<◌, ◌≤◌, ◌^◌, ◌+◌, ◌*◌, IfOk};
-ghost use Rattle.std.specs.BTreeMap.{get_by_text};
+ghost use Rattle.i9_value.specs.Known.{definitions};
 ghost use Rattle.i9_value.specs.Values.{Names};
 ghost use Rattle.i9_asm.specs.Said.{item_as};
 ghost use Rattle.i9_asm.specs.Source.{most_bytes, fault_if};
@@ -205,7 +205,8 @@ impl Source {
         said: &Said<'_>,
     ) -> Result<Source, LineError>
         ensures { Continues (known_in names.entry) (source_at (known_in behind.entry) self) (item_as said.now)
-            (least front (rest_fault (known_in names.entry) (source_at (known_in behind.entry) self) (item_as said.now))) result }
+            (least front (rest_fault (known_in names.entry) (source_at (known_in behind.entry) self)
+            (item_as said.now))) result }
     {
         let place = self.place(behind);
         let Ok(grown) = self.grown(alloc, names, place, said) else {
@@ -227,10 +228,10 @@ impl Source {
         number: u64,
         text: &[u8],
     ) -> Result<Source, LineError>
-        requires { values_before (2 * number + 1) (get_by_text table.now) ≡ (past_label (label_of text.now)
-            (source_at (values_before (2 * number) (get_by_text table.now)) self).place).known }
-        ensures { Takes (values_of (get_by_text table.now)) (source_at (values_before (2 * number) (get_by_text table.now)) self)
-            text.now result }
+        requires { values_before (2 * number + 1) (definitions table.now) ≡ (past_label (label_of text.now)
+            (source_at (values_before (2 * number) (definitions table.now)) self).place).known }
+        ensures { Takes (values_of (definitions table.now))
+            (source_at (values_before (2 * number) (definitions table.now)) self) text.now result }
     {
         let line = read_line(text);
         let step = 2 * u128::from(number);

@@ -15,6 +15,7 @@ use i9_isa::{Ea, Format, Inst, NO_ADDRESS, Op, Operand, Row, Use, row};
 use i9_value::{Fault, Known, Noted, fine, least, wrong};
 
 /// The operand of a use, where the use has one, and the operands that are left.
+#[inline(always)]
 fn take_operand<'a>(
     used: Use,
     names: Known<'_>,

@@ -39,6 +39,7 @@ fn takes_literals(used: Use) -> bool
 }
 
 /// The operand of a use that a text says.
+#[inline(never)]
 #[tactic(auto, unfolding(crate::specs::Operands::operand_of))]
 pub(crate) fn operand_of(used: Use, names: Known<'_>, text: &[u8]) -> Noted<Operand>
     ensures { result ≡ operand_of used (known_in names.entry) text.now }

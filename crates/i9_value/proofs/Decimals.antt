@@ -1,22 +1,16 @@
 -- Decimal numbers of any length, with a limit.
 use Rattle.std.proofs.Common.{◌≡◌, ℕ, ◌+◌, ◌*◌, ◌^◌, ◌<◌, ◌≤◌, Bool, true, false, ltb, leb, cond, ◌&&◌, List, [], ◌∷◌, length, get_or, Option, Some, None, refl, ap, arith, lit<, inl, inr}
 use Rattle.std.specs.Option.{option_map}
-use Rattle.std.specs.List.{list_all, AllByRecursion}
 use Rattle.std.specs.Char.{digit_value, is_digit}
 use Rattle.std.specs.Str.Parse.{AllDigits, digits_value}
-use Rattle.std.specs.Str.{IsUtf8}
 use Rattle.std.proofs.lemmas.Bool.{and_parts, lt-ltb, le-ltb, lt-leb, ltb-true, leb-true, ltb-false, cases_Bool}
 use Rattle.std.proofs.lemmas.Bool.Decides.{nat_tests}
 use Rattle.std.proofs.lemmas.List.Folds.{list_all_at}
-use Rattle.std.proofs.lemmas.List.Elements.{All-from_recursion}
-use Rattle.std.proofs.lemmas.Str.Ascii.{IsAscii-from_all}
-use Rattle.std.proofs.lemmas.Str.{IsUtf8-from_ascii}
-use Rattle.i9_value.specs.Values.{is_name, is_name_byte, has_name_start, decimal_of, in_range}
+use Rattle.i9_value.specs.Values.{decimal_of, in_range}
 use Rattle.std.proofs.lemmas.Int.Digits.{digits_value-lt}
 use Rattle.std.proofs.Math.Nat.{pow-le-pow_right}
 use Rattle.i9_text.specs.Text.{number_of, are_digits}
 use Rattle.i9_value.specs.Values.{capped}
-use Rattle.i9_value.proofs.NameBytes.{low_name}
 
 pub decimal_of-empty : (w : List ℕ) → length w ≡ 0 → decimal_of w ≡ None
 unfolding decimal_of
@@ -92,13 +86,3 @@ hex_below w n e = elim (cases_Bool (ltb 0 (length w) && leb (length w) 8 && are_
         let small = digits_value-lt 16 w (digits_from_test 16 w parts.1) in
         let wide : 16 ^ length w ≤ 16 ^ 8 = pow-le-pow_right {n = 16} (lit< tt) {i = length w} {j = 8} few in
         omega arith
-
--- ---- names are text
-
-low_bytes_of : (w : List ℕ) → list_all is_name_byte w ≡ true → AllByRecursion (λ b. b < 128) w
-low_bytes_of [] h = tt
-low_bytes_of (b ∷ w) h = let parts = and_parts (is_name_byte b) (list_all is_name_byte w) h in (low_name b parts.0, low_bytes_of w parts.1)
-
-pub name_utf8 : (w : List ℕ) → is_name w ≡ true → IsUtf8 w
-unfolding is_name
-name_utf8 w h = IsUtf8-from_ascii w (IsAscii-from_all w (All-from_recursion (λ b. b < 128) w (low_bytes_of w (and_parts (has_name_start w && leb (length w) 63) (list_all is_name_byte w) (and_parts _ _ (and_parts _ _ h).0).0).1)))

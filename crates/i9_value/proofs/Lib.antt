@@ -4,3 +4,4 @@ pub mod ReadValues
 pub mod RegisterSearch
 pub mod Decimals
 pub mod KnownNames
+pub mod NameKeys

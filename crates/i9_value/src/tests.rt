@@ -5,7 +5,6 @@ use crate::{
     register_name, register_of, register_place, settled, value_noted, value_of, wrong,
 };
 use i9_isa::Operand;
-use std::collections::BTreeMap;
 use std::test::Fail;
 
 #[test]
@@ -33,15 +32,14 @@ fn tells_names(rt: HostRuntime) -> Result<(), Fail> {
 // Where `far` is E0000000.
 #[test]
 fn reads_values(rt: HostRuntime) -> Result<(), Fail> {
-    let mut table: Table = BTreeMap::new(rt.alloc());
     let definition = Definition {
         value: 0xE000_0000,
         step: 7,
     };
-    table.insert(String::from_str(rt.alloc(), "far")?, definition)?;
-    let names = Known::All(&table);
     let far = b"far".as_slice();
     assert!(rt; is_name(far));
+    let table = Table::new(rt.alloc()).define(far, definition)?;
+    let names = Known::All(&table);
     assert_eq!(rt; lookup(names, far), Some(0xE000_0000));
     assert_eq!(rt; lookup(Known::Before(&table, 8), far), Some(0xE000_0000));
     assert_eq!(rt; lookup(Known::Before(&table, 7), far), None);

@@ -1,5 +1,5 @@
 use Rattle.std.proofs.Common.{◌≡◌, ℕ, ◌+◌, ◌*◌, Some, None, sym, subst, arith}
-use Rattle.std.specs.BTreeMap.{get_by_text}
+use Rattle.i9_value.specs.Known.{definitions}
 use Rattle.i9_text.specs.Text.{lines_of}
 use Rattle.i9_text.specs.FirstFault.{IsRefused, SaysAll}
 use Rattle.i9_text.proofs.Loop.{left_len-split}
@@ -13,12 +13,12 @@ use Rattle.i9_asm.proofs.ReadNames.{starts_at, all_told, known_here, known_behin
 use Rattle.i9_asm.proofs.assembling.segments_of.Goals as goal
 
 pub loop-rest-init : goal.loop-rest-init
-loop-rest-init c = record { stands = starts_at (get_by_text c.args.table.now) c.new-source.result c.args.text c.requires c.new-source.ensures; few = omega arith }
+loop-rest-init c = record { stands = starts_at (definitions c.args.table.now) c.new-source.result c.args.text c.requires c.new-source.ensures; few = omega arith }
 
 pub with_line-requires : goal.with_line-requires
 with_line-requires c =
     let l = c.loop-rest in
-    known_behind (get_by_text c.args.table.now) l.number l.source l.rest c.in-Some.lines c.split_line.result.0.now c.split_line.result.1 (lines_of c.args.text.now) c.in-Some.is c.split_line.ensures.lines l.invariant.stands
+    known_behind (definitions c.args.table.now) l.number l.source l.rest c.in-Some.lines c.split_line.result.0.now c.split_line.result.1 (lines_of c.args.text.now) c.in-Some.is c.split_line.ensures.lines l.invariant.stands
 
 pub loop-rest-preserved : goal.loop-rest-preserved
 loop-rest-preserved c =
@@ -26,14 +26,14 @@ loop-rest-preserved c =
     let after = c.split_line.result.1 in
     let shorter = left_len-split l.rest c.in-Some.lines after c.in-Some.is c.split_line.ensures.shorter in
     record {
-      stands = stands_on (get_by_text c.args.table.now) l.number l.source l.rest c.in-Some.lines c.split_line.result.0.now after (lines_of c.args.text.now) c.in-Some.is c.split_line.ensures.lines l.invariant.stands c.in-Ok.next c.in-Ok.ensures;
+      stands = stands_on (definitions c.args.table.now) l.number l.source l.rest c.in-Some.lines c.split_line.result.0.now after (lines_of c.args.text.now) c.in-Some.is c.split_line.ensures.lines l.invariant.stands c.in-Ok.next c.in-Ok.ensures;
       few = omega (arith, shorter, l.invariant.few);
     }
 
 pub returns-in-Err-clause-refused : goal.returns-in-Err-clause-refused
 returns-in-Err-clause-refused c =
     let l = c.loop-rest in
-    let all = get_by_text c.args.table.now in
+    let all = definitions c.args.table.now in
     let names = values_of all in
     let source = lines_of c.args.text.now in
     let line = c.split_line.result.0.now in
@@ -48,7 +48,7 @@ returns-in-Err-clause-refused c =
 pub returns-in-Ok-finish-clause-found : goal.returns-in-Ok-finish-clause-found
 returns-in-Ok-finish-clause-found c =
     let l = c.loop-rest in
-    let all = get_by_text c.args.table.now in
+    let all = definitions c.args.table.now in
     let names = values_of all in
     let source = lines_of c.args.text.now in
     let h = l.invariant.stands in

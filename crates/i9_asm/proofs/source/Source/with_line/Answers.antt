@@ -1,6 +1,6 @@
 use Rattle.std.proofs.Common.{ℕ, ◌+◌, ◌*◌, not, ap, subst, ◌∙◌}
 use Rattle.std.specs.List.{list_all}
-use Rattle.std.specs.BTreeMap.{get_by_text}
+use Rattle.i9_value.specs.Known.{definitions}
 use Rattle.i9_value.specs.declared.fault.Fault.TheVariants.{Form}
 use Rattle.i9_value.specs.Noted.{least}
 use Rattle.i9_value.specs.Values.{Names}
@@ -18,7 +18,7 @@ use Rattle.i9_asm.proofs.source.Source.with_line.Goals as goal
 
 pub returns : goal.returns
 returns c =
-    let all = get_by_text c.args.table.now in
+    let all = definitions c.args.table.now in
     let known = values_before (2 * c.args.number) all in
     let behind = values_before (2 * c.args.number + 1) all in
     let s = source_at known c.args.self in
