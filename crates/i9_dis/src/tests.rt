@@ -1,9 +1,8 @@
 //! Statements against words that were worked out by hand from the instruction formats.
 use crate::text;
 use i9_statement::{code_of, statement_of, statements_read_back, words_are_one};
-use i9_value::{Definition, Known, Table};
+use i9_value::{Definition, Known, Table, is_name};
 use std::alloc::Global;
-use std::collections::BTreeMap;
 use std::test::Fail;
 
 /// Statements as they are printed. A row has an address, one word or two, and the statement.
@@ -184,10 +183,12 @@ fn is_printed(alloc: Global, row: &str) -> Result<bool, Fail> {
 
 /// `n` is 5, `start` is 1000 and `far` is E0000000.
 fn table(alloc: Global) -> Result<Table, Fail> {
-    let mut table = BTreeMap::new(alloc);
-    for (name, value) in [("n", 5), ("start", 0x1000), ("far", 0xE000_0000)] {
-        let definition = Definition { value, step: 0 };
-        table.insert(String::from_str(alloc, name)?, definition)?;
+    let mut table = Table::new(alloc);
+    let rows: [(&[u8], u32); 3] = [(b"n", 5), (b"start", 0x1000), (b"far", 0xE000_0000)];
+    for (name, value) in rows {
+        if is_name(name) {
+            table = table.define(name, Definition { value, step: 0 })?;
+        }
     }
     Ok(table)
 }
