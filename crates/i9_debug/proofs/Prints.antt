@@ -149,6 +149,10 @@ module _ {K : Type 0} (k : Account K) where
     calm = λ n h. let q = p.calm (length y + n) (sure_parts k.sure a x y n h) in (λ e. cc, q.1, tt);
   }
 
+  -- a text was printed whole, and memory was refused behind it
+  pub prints_behind : (a b : K) (x : List ℕ) → Prints Done k a b x → Prints Memory k a b x
+  prints_behind a b x p = prints_same Memory a b _ _ (append-nil x) (prints_cut a b x [] p)
+
   -- the text of a list's first items was printed, and then that of the next item
   pub prints_next : {X : Type 0} (text : X → List ℕ) (answer : Printed) (a b c : K) (items : List X) (i : ℕ) (d : X) → i < length items
       → Prints Done k a b (flat_map text (take i items)) → Prints answer k b c (text (get_or items i d))
