@@ -1,12 +1,13 @@
 //! Running an image to its end, and printing its lines or counting what was done.
-ghost use Rattle.std.specs.Prelude.{◌≡◌, ◌≤◌, ◌&&◌, nat_le, false, IfOk};
-ghost use Rattle.i9_model.specs.Given.{given};
+ghost use Rattle.std.specs.Prelude.{◌≡◌, ◌≤◌, ◌&&◌, nat_le, false, [], None, IfOk};
+ghost use Rattle.i9_model.specs.Given.{Given, given};
 ghost use Rattle.i9_model.specs.declared.layout.TheConstants.{MAX_LENGTH};
 ghost use Rattle.i9_model.specs.Image.{pairs_of};
 ghost use Rattle.i9_model.specs.ScheduleText.{IsPlan};
+ghost use Rattle.i9_machine.specs.StandsFor.{StandsFor, Follows, IsUnderWay};
 ghost use Rattle.i9_tracer.specs.Closures.{TakesEachAddress};
 ghost use Rattle.i9_debug.specs.Print.{account};
-ghost use Rattle.i9_tool.specs.Run.{Counts, PrintsBy, Runs, TracesBy, step_text, turn_text};
+ghost use Rattle.i9_tool.specs.Run.{Counts, DrivesBy, PrintsBy, Runs, TracesBy, step_text, turn_text};
 ghost use Rattle.i9_tool.specs.Words.{AreFew};
 
 use crate::words::Range;
@@ -68,9 +69,39 @@ fn print_step<K: Sink, F: Fn(u32) -> bool + AddressTest>(
     }
 }
 
+/// Runs a machine to the end of its run, and prints the lines of each step as they come, and before those of an
+/// instruction its own, where its address passes a filter.
+fn run_machine<K: Sink, F: Fn(u32) -> bool + AddressTest>(
+    alloc: Global,
+    m: &mut Machine,
+    plan: &mut Schedule,
+    f: &Filter<F>,
+    out: &mut K,
+) -> Ran
+    requires stands { IsUnderWay m.old plan.old }
+    ensures { (g : Given) → StandsFor g [] None m.old → Follows g [] plan.old
+        → DrivesBy result (F.AddressTest.allows f.now) g (account K.told K.faults K.writes K.sure) out.old out.new m.new plan.new }
+{
+    let mut lines = Vec::new(alloc);
+    loop {
+        lines.clear();
+        let turn = m.proceed(plan, &mut lines);
+        match print_step(alloc, f, &turn, &lines, out) {
+            Printed::Done => {}
+            Printed::Write => return Ran::Write,
+            Printed::Memory => return Ran::Memory,
+        }
+        match turn {
+            Turn::On => {}
+            Turn::Issued(_) => {}
+            Turn::End(end) => return Ran::Done(end),
+            Turn::Memory => return Ran::Memory,
+        }
+    }
+}
+
 /// Runs an image with the events of a schedule and its frames in so many sets, for at most so many instructions, and
-/// prints the lines of the run as they come, and before those of an instruction its own, where its address passes a
-/// filter.
+/// prints what `run_machine` does.
 fn run_filtered<K: Sink, F: Fn(u32) -> bool + AddressTest>(
     alloc: Global,
     image: &Segments,
@@ -87,24 +118,9 @@ fn run_filtered<K: Sink, F: Fn(u32) -> bool + AddressTest>(
     ensures { TracesBy result (F.AddressTest.allows f.now) (given (pairs_of image.now) plan.old.events limit sets)
         (account K.told K.faults K.writes K.sure) out.old out.new }
 {
-    let Ok(mut machine) = Machine::new(alloc, image, sets, limit) else {
-        return Ran::Memory;
-    };
-    let mut lines = Vec::new(alloc);
-    loop {
-        lines.clear();
-        let turn = machine.proceed(plan, &mut lines);
-        match print_step(alloc, f, &turn, &lines, out) {
-            Printed::Done => {}
-            Printed::Write => return Ran::Write,
-            Printed::Memory => return Ran::Memory,
-        }
-        match turn {
-            Turn::On => {}
-            Turn::Issued(_) => {}
-            Turn::End(end) => return Ran::Done(end),
-            Turn::Memory => return Ran::Memory,
-        }
+    match Machine::new(alloc, image, sets, limit) {
+        Ok(mut machine) => run_machine(alloc, &mut machine, plan, f, out),
+        Err(NoMemory) => Ran::Memory,
     }
 }
 
