@@ -35,7 +35,7 @@ fn run_job<K: Sink>(
     ensures answers { (source schedule : List ℕ)
         → IsAssembly (lines_of source) image.now → IsSchedule (lines_of schedule) plan.old.events
         → Answers (JobGives words.number words.sets source schedule)
-        result.code (account K.told K.faults K.writes K.sure) out.old out.new }
+        result.code (account K.told K.faults K.writes K.sure K.pieces) out.old out.new }
     ensures read { result.code ≢ 5 }
 {
     match count_run(alloc, image, plan, words.sets, MAX_LENGTH) {
@@ -65,7 +65,7 @@ fn schedule_job<K: Sink>(
     requires few { AreFew words.sets }
     ensures answers { (source : List ℕ) → IsAssembly (lines_of source) image.now
         → Answers (JobGives words.number words.sets source schedule.now)
-        result.code (account K.told K.faults K.writes K.sure) out.old out.new }
+        result.code (account K.told K.faults K.writes K.sure K.pieces) out.old out.new }
     ensures read { result.code ≢ 5 }
 {
     match i9_schedule::read(alloc, schedule) {
@@ -87,7 +87,7 @@ fn assemble_job<K: Sink>(
 ) -> Status
     requires few { AreFew words.sets }
     ensures answers { Answers (JobGives words.number words.sets source.now schedule.now)
-        result.code (account K.told K.faults K.writes K.sure) out.old out.new }
+        result.code (account K.told K.faults K.writes K.sure K.pieces) out.old out.new }
     ensures read { result.code ≢ 5 }
 {
     match assemble(alloc, source) {
@@ -101,7 +101,7 @@ fn assemble_job<K: Sink>(
 pub(crate) fn do_job<K: Sink>(alloc: Global, words: JobWords, out: &mut K) -> Status
     requires few { AreFew words.sets }
     ensures answers { Answers (GenGives words.number words.sets)
-        result.code (account K.told K.faults K.writes K.sure) out.old out.new }
+        result.code (account K.told K.faults K.writes K.sure K.pieces) out.old out.new }
     ensures read { result.code ≢ 5 }
 {
     match generate(alloc, words.number) {

@@ -39,7 +39,7 @@ fn print_turn<K: Sink, F: Fn(u32) -> bool + AddressTest>(
     out: &mut K,
 ) -> Printed
     ensures { PrintsBy result (F.AddressTest.allows f.now) turn.now (λ passes. turn_text passes turn.now)
-        (account K.told K.faults K.writes K.sure) out.old out.new }
+        (account K.told K.faults K.writes K.sure K.pieces) out.old out.new }
 {
     let Turn::Issued(issued) = turn else {
         return Printed::Done;
@@ -60,7 +60,7 @@ fn print_step<K: Sink, F: Fn(u32) -> bool + AddressTest>(
     out: &mut K,
 ) -> Printed
     ensures { PrintsBy result (F.AddressTest.allows f.now) turn.now (λ passes. step_text passes turn.now lines.now)
-        (account K.told K.faults K.writes K.sure) out.old out.new }
+        (account K.told K.faults K.writes K.sure K.pieces) out.old out.new }
 {
     match print_turn(alloc, f, turn, out) {
         Printed::Done => print_lines(alloc, lines, out),
@@ -80,7 +80,8 @@ fn run_machine<K: Sink, F: Fn(u32) -> bool + AddressTest>(
 ) -> Ran
     requires stands { IsUnderWay m.old plan.old }
     ensures { (g : Given) → StandsFor g [] None m.old → Follows g [] plan.old
-        → DrivesBy result (F.AddressTest.allows f.now) g (account K.told K.faults K.writes K.sure) out.old out.new m.new plan.new }
+        → DrivesBy result (F.AddressTest.allows f.now) g
+        (account K.told K.faults K.writes K.sure K.pieces) out.old out.new m.new plan.new }
 {
     let mut lines = Vec::new(alloc);
     loop {
@@ -116,7 +117,7 @@ fn run_filtered<K: Sink, F: Fn(u32) -> bool + AddressTest>(
     requires few { AreFew sets }
     requires short { limit ≤ MAX_LENGTH }
     ensures { TracesBy result (F.AddressTest.allows f.now) (given (pairs_of image.now) plan.old.events limit sets)
-        (account K.told K.faults K.writes K.sure) out.old out.new }
+        (account K.told K.faults K.writes K.sure K.pieces) out.old out.new }
 {
     match Machine::new(alloc, image, sets, limit) {
         Ok(mut machine) => run_machine(alloc, &mut machine, plan, f, out),
@@ -140,7 +141,7 @@ fn run_with<K: Sink, F: Fn(u32) -> bool + AddressTest>(
     requires short { limit ≤ MAX_LENGTH }
     requires takes { TakesEachAddress (F.AddressTest.can_test f) }
     ensures { TracesBy result (F.AddressTest.allows f) (given (pairs_of image.now) plan.old.events limit sets)
-        (account K.told K.faults K.writes K.sure) out.old out.new }
+        (account K.told K.faults K.writes K.sure K.pieces) out.old out.new }
 {
     run_filtered(alloc, image, plan, sets, limit, &Filter::new(f), out)
 }
@@ -162,7 +163,7 @@ pub(crate) fn run<K: Sink>(
     requires few { AreFew sets }
     requires short { limit ≤ MAX_LENGTH }
     ensures { Runs result traced (given (pairs_of image.now) plan.old.events limit sets)
-        (account K.told K.faults K.writes K.sure) out.old out.new }
+        (account K.told K.faults K.writes K.sure K.pieces) out.old out.new }
 {
     match traced {
         None => {

@@ -12,5 +12,5 @@ invariant-loop-c g l = record {
   in_run : IsInRun l.m l.plan;
   drives : (what : Given) (p : Place) → StandsAt what p l.fn.m l.fn.plan
       → Drives (IsText what (take l.c-index l.commands) p) (CutInScript what (take l.c-index l.commands) p) Done what
-      (account g.K.Sink.told g.K.Sink.faults g.K.Sink.writes g.K.Sink.sure) l.fn.out l.out l.m l.plan;
+      (account g.K.Sink.told g.K.Sink.faults g.K.Sink.writes g.K.Sink.sure g.K.Sink.pieces) l.fn.out l.out l.m l.plan;
 }

@@ -10,7 +10,7 @@ abbrev pub invariant-loop-lines : goal.invariant-loop-lines
 invariant-loop-lines g l = record {
   under_way : IsUnderWay l.m l.plan;
   traced : (what : Given) → StandsFor what [] None l.fn.m → Follows what [] l.fn.plan
-      → Traced (g.F.AddressTest.allows l.f) what (account g.K.Sink.told g.K.Sink.faults g.K.Sink.writes g.K.Sink.sure) l.fn.out l.out l.m l.plan;
+      → Traced (g.F.AddressTest.allows l.f) what (account g.K.Sink.told g.K.Sink.faults g.K.Sink.writes g.K.Sink.sure g.K.Sink.pieces) l.fn.out l.out l.m l.plan;
 }
 
 abbrev pub decreases-loop-lines : goal.decreases-loop-lines
