@@ -23,10 +23,10 @@ use Rattle.i9_debug.specs.declared.sessions.SessionEnd.{SessionEnd}
 use Rattle.i9_debug.specs.declared.sessions.SessionEnd.TheVariants as ends
 use Rattle.i9_debug.specs.Print.{Account, Prints, OnDone}
 use Rattle.i9_debug.specs.Session.{Place, at, TurnsTo, turns_pass, turns_end, ComesTo, comes, none_comes, Stays, UnlessOver, Runs, told, Answers, IsText, no_command, next_command, end_at}
-use Rattle.i9_debug.specs.Driven.{StandsAt, Drives, IsCut, printed_of, TellsEnd, RunsScript}
+use Rattle.i9_debug.specs.Driven.{StandsAt, Drives, IsCut, OnCut, StopsAt, StepOf, CutInRun, CutInAnswer, in_run, in_told, CutInScript, in_command, printed_of, TellsEnd, RunsScript}
 use Rattle.i9_debug.proofs.Prints.{prints_none, prints_then, prints_stop, prints_same}
 use Rattle.i9_debug.proofs.Places.{Leads, record_issues, turns_lead, address_leads}
-use Rattle.i9_debug.proofs.Turns.{not_done, cut_whole}
+use Rattle.i9_debug.proofs.Turns.{not_done, on_cut, of_cut, cut_whole}
 use Rattle.std.specs.Option.{option_map}
 
 -- ---- places
@@ -77,10 +77,21 @@ module _ (g : Given) where
 -- ---- one command
 
 module _ {K : Type 0} (k : Account K) (g : Given) where
-  -- the same under another relation that holds where the first does
-  pub drives_as : (one other : List ℕ → Place → Type 0) (answer : Printed) (a b : K) (m : Machine) (plan : Plan)
-      → ((x : List ℕ) (q : Place) → one x q → other x q) → Drives one answer g k a b m plan → Drives other answer g k a b m plan
-  drives_as one other answer a b m plan goes d = record {
+  -- a cut is one by another relation that holds where the first does
+  stopped_as : (one other : List ℕ → List ℕ → Place → Type 0) (answer : Printed) (a b : K) (place : Place)
+      → ((x y : List ℕ) (q : Place) → one x y q → other x y q)
+      → OnCut answer (StopsAt one answer k a b place) → OnCut answer (StopsAt other answer k a b place)
+  stopped_as one other Done a b place goes s = tt
+  stopped_as one other Write a b place goes s =
+      record { whole = s.whole; rest = s.rest; is_cut = goes s.whole s.rest place s.is_cut; between = s.between; first = s.first; behind = s.behind }
+  stopped_as one other Memory a b place goes s =
+      record { whole = s.whole; rest = s.rest; is_cut = goes s.whole s.rest place s.is_cut; between = s.between; first = s.first; behind = s.behind }
+
+  -- the same under other relations that hold where the first do
+  pub drives_as : (one other : List ℕ → Place → Type 0) (cut new : List ℕ → List ℕ → Place → Type 0) (answer : Printed) (a b : K) (m : Machine) (plan : Plan)
+      → ((x : List ℕ) (q : Place) → one x q → other x q) → ((x y : List ℕ) (q : Place) → cut x y q → new x y q)
+      → Drives one cut answer g k a b m plan → Drives other new answer g k a b m plan
+  drives_as one other cut new answer a b m plan goes stops d = record {
     text = d.text;
     last = d.last;
     is_text = goes d.text d.last d.is_text;
@@ -88,23 +99,26 @@ module _ {K : Type 0} (k : Account K) (g : Given) where
     place = d.place;
     stands = d.stands;
     whole = d.whole;
+    stopped = stopped_as cut new answer a b d.place stops d.stopped;
   }
 
   -- what is run from a place without an end is run from there, whatever its turn is called
   pub runs_from : (c : Command) (p : Place) (t : ℕ) (answer : Printed) (a b : K) (m : Machine) (plan : Plan) → p.end ≡ None → t ≡ p.turn
-      → Drives (Runs g c (at p.items t)) answer g k a b m plan → Drives (Runs g c p) answer g k a b m plan
+      → Drives (Runs g c (at p.items t)) (CutInRun g (StepOf g c) p.items) answer g k a b m plan → Drives (Runs g c p) (CutInRun g (StepOf g c) p.items) answer g k a b m plan
   runs_from c p t answer a b m plan none turn d =
-      subst (λ (x : Place). Drives (Runs g c x) answer g k a b m plan) (as_at p t none turn) d
+      subst (λ (x : Place). Drives (Runs g c x) (CutInRun g (StepOf g c) x.items) answer g k a b m plan) (as_at p t none turn) d
 
   -- nothing is run
-  pub stays_there : (c : Command) (p : Place) (a : K) (m : Machine) (plan : Plan) → Runs g c p [] p → StandsAt g p m plan → Drives (Runs g c p) Done g k a a m plan
-  stays_there c p a m plan runs s = record { text = []; last = p; is_text = runs; prints = prints_none k a; place = p; stands = s; whole = refl }
+  pub stays_there : (c : Command) (p : Place) (a : K) (m : Machine) (plan : Plan) → Runs g c p [] p → StandsAt g p m plan
+      → Drives (Runs g c p) (CutInRun g (StepOf g c) p.items) Done g k a a m plan
+  stays_there c p a m plan runs s =
+      record { text = []; last = p; is_text = runs; prints = prints_none k a; place = p; stands = s; whole = refl; stopped = tt }
 
   -- the place is told behind what was run
   pub then_tells : (c : Command) (p : Place) (answer : Printed) (a b d : K) (m : Machine) (plan : Plan)
-      → Drives (Runs g c p) Done g k a b m plan
+      → Drives (Runs g c p) (CutInRun g (StepOf g c) p.items) Done g k a b m plan
       → ((h : List Item) (e : Option Finish) → StandsFor g h e m → Prints answer k b d (told g h m.turn c))
-      → Drives (Answers g c p) answer g k a d m plan
+      → Drives (Answers g c p) (CutInAnswer g c p) answer g k a d m plan
   then_tells c p answer a b d m plan r tells =
       let place : Place = r.place in
       let said : Prints answer k b d (told g place.items place.turn c) =
@@ -118,6 +132,14 @@ module _ {K : Type 0} (k : Account K) (g : Given) where
         place = place;
         stands = r.stands;
         whole = whole_by answer r.whole;
+        stopped = on_cut answer _ (record {
+          whole = r.text;
+          rest = told g place.items place.turn c;
+          is_cut = in_told r.text place (subst (λ (q : Place). Runs g c p r.text q) (sym r.whole) r.is_text);
+          between = b;
+          first = r.prints;
+          behind = said;
+        });
       }
     where
       whole_by : (x : Printed) → r.place ≡ r.last → OnDone x (r.place ≡ r.last)
@@ -127,7 +149,7 @@ module _ {K : Type 0} (k : Account K) (g : Given) where
 
   -- or it is not, where printing stopped before
   pub cut_before : (c : Command) (p : Place) (answer : Printed) (a b : K) (m : Machine) (plan : Plan) → IsCut answer
-      → Drives (Runs g c p) answer g k a b m plan → Drives (Answers g c p) answer g k a b m plan
+      → Drives (Runs g c p) (CutInRun g (StepOf g c) p.items) answer g k a b m plan → Drives (Answers g c p) (CutInAnswer g c p) answer g k a b m plan
   cut_before c p answer a b m plan cut r = record {
     text = r.text ++ told g r.last.items r.last.turn c;
     last = r.last;
@@ -136,6 +158,7 @@ module _ {K : Type 0} (k : Account K) (g : Given) where
     place = r.place;
     stands = r.stands;
     whole = r.whole;
+    stopped = stopped_as _ _ answer a b r.place (λ x y q. in_run x y q) r.stopped;
   }
 
 -- ---- each command has a text
@@ -223,20 +246,22 @@ module _ (g : Given) where
 
 module _ {K : Type 0} (k : Account K) (g : Given) (p : Place) where
   -- no command yet
-  pub no_script : (a : K) (m : Machine) (plan : Plan) → StandsAt g p m plan → Drives (IsText g [] p) Done g k a a m plan
-  no_script a m plan s = record { text = []; last = p; is_text = no_command p; prints = prints_none k a; place = p; stands = s; whole = refl }
+  pub no_script : (a : K) (m : Machine) (plan : Plan) → StandsAt g p m plan → Drives (IsText g [] p) (CutInScript g [] p) Done g k a a m plan
+  no_script a m plan s =
+      record { text = []; last = p; is_text = no_command p; prints = prints_none k a; place = p; stands = s; whole = refl; stopped = tt }
 
   -- the machine stands where the text leads
-  stands_last : (leads : List ℕ → Place → Type 0) (a b : K) (m : Machine) (plan : Plan) → (d : Drives leads Done g k a b m plan) → StandsAt g d.last m plan
-  stands_last leads a b m plan d = subst (λ (q : Place). StandsAt g q m plan) d.whole d.stands
+  stands_last : (leads : List ℕ → Place → Type 0) (cut : List ℕ → List ℕ → Place → Type 0) (a b : K) (m : Machine) (plan : Plan)
+      → (d : Drives leads cut Done g k a b m plan) → StandsAt g d.last m plan
+  stands_last leads cut a b m plan d = subst (λ (q : Place). StandsAt g q m plan) d.whole d.stands
 
-  module _ (cs : List Command) (c : Command) (a b e : K) (m : Machine) (plan : Plan) (d : Drives (IsText g cs p) Done g k a b m plan)
+  module _ (cs : List Command) (c : Command) (a b e : K) (m : Machine) (plan : Plan) (d : Drives (IsText g cs p) (CutInScript g cs p) Done g k a b m plan)
       (next : Machine) (later : Plan) where
     -- one command more
-    script_on : ((q : Place) → StandsAt g q m plan → Drives (Answers g c q) Done g k b e next later)
-        → Drives (IsText g (cs ++ c ∷ []) p) Done g k a e next later
+    script_on : ((q : Place) → StandsAt g q m plan → Drives (Answers g c q) (CutInAnswer g c q) Done g k b e next later)
+        → Drives (IsText g (cs ++ c ∷ []) p) (CutInScript g (cs ++ c ∷ []) p) Done g k a e next later
     script_on does =
-        let one = does d.last (stands_last (IsText g cs p) a b m plan d) in
+        let one = does d.last (stands_last (IsText g cs p) (CutInScript g cs p) a b m plan d) in
         record {
           text = d.text ++ one.text;
           last = one.last;
@@ -245,16 +270,18 @@ module _ {K : Type 0} (k : Account K) (g : Given) (p : Place) where
           place = one.place;
           stands = one.stands;
           whole = one.whole;
+          stopped = tt;
         }
 
     -- printing stopped in a command, and others were left
     script_cut : (answer : Printed) (ds : List Command) → IsCut answer → AllByRecursion IsCommandInRange ds
-        → ((q : Place) → StandsAt g q m plan → Drives (Answers g c q) answer g k b e next later)
-        → Drives (IsText g ((cs ++ c ∷ []) ++ ds) p) answer g k a e next later
+        → ((q : Place) → StandsAt g q m plan → Drives (Answers g c q) (CutInAnswer g c q) answer g k b e next later)
+        → Drives (IsText g ((cs ++ c ∷ []) ++ ds) p) (CutInScript g ((cs ++ c ∷ []) ++ ds) p) answer g k a e next later
     script_cut answer ds cut ranges does =
-        let here = stands_last (IsText g cs p) a b m plan d in
+        let here = stands_last (IsText g cs p) (CutInScript g cs p) a b m plan d in
         let one = does d.last here in
         let is = answers_place g c d.last one.last one.text (is_place g d.last m plan here) one.is_text in
+        let stop : StopsAt (CutInAnswer g c d.last) answer k b e one.place = of_cut answer _ cut one.stopped in
         let rest : Leads (IsText g ds one.last) = script_leads g ds one.last ranges is in
         record {
           text = (d.text ++ one.text) ++ rest.0;
@@ -266,6 +293,15 @@ module _ {K : Type 0} (k : Account K) (g : Given) (p : Place) where
           place = one.place;
           stands = one.stands;
           whole = cut_whole answer (one.place ≡ rest.1) cut;
+          stopped = on_cut answer _ (record {
+            whole = d.text ++ stop.whole;
+            rest = stop.rest;
+            is_cut = subst (λ (xs : List Command). CutInScript g xs p (d.text ++ stop.whole) stop.rest one.place) (sym (append_assoc cs (c ∷ []) ds))
+                (in_command cs c ds p d.last one.place d.text stop.whole stop.rest d.is_text stop.is_cut);
+            between = stop.between;
+            first = prints_then k Done a b stop.between d.text stop.whole d.prints stop.first;
+            behind = stop.behind;
+          });
         }
 
 -- each of some commands is in its range
@@ -276,26 +312,26 @@ ranges_drop (suc n) (c ∷ cs) h = ranges_drop n cs h.1
 
 -- the commands of a script up to one were done, and then that one
 module _ {K : Type 0} (k : Account K) (g : Given) (p : Place) (cs : List Command) (i : ℕ) (none : Command) (a b e : K) (m : Machine) (plan : Plan)
-    (d : Drives (IsText g (take i cs) p) Done g k a b m plan) (next : Machine) (later : Plan) where
-  pub does_next : i < length cs → ((q : Place) → StandsAt g q m plan → Drives (Answers g (get_or cs i none) q) Done g k b e next later)
-      → Drives (IsText g (take (i + 1) cs) p) Done g k a e next later
+    (d : Drives (IsText g (take i cs) p) (CutInScript g (take i cs) p) Done g k a b m plan) (next : Machine) (later : Plan) where
+  pub does_next : i < length cs → ((q : Place) → StandsAt g q m plan → Drives (Answers g (get_or cs i none) q) (CutInAnswer g (get_or cs i none) q) Done g k b e next later)
+      → Drives (IsText g (take (i + 1) cs) p) (CutInScript g (take (i + 1) cs) p) Done g k a e next later
   does_next inside does =
-      subst (λ (xs : List Command). Drives (IsText g xs p) Done g k a e next later) (sym (take_more cs i none inside))
+      subst (λ (xs : List Command). Drives (IsText g xs p) (CutInScript g xs p) Done g k a e next later) (sym (take_more cs i none inside))
       (script_on k g p (take i cs) (get_or cs i none) a b e m plan d next later does)
 
   -- or printing stopped in it
   cut_in_next : (answer : Printed) → IsCut answer → i < length cs → All IsCommandInRange cs
-      → ((q : Place) → StandsAt g q m plan → Drives (Answers g (get_or cs i none) q) answer g k b e next later)
-      → Drives (IsText g cs p) answer g k a e next later
+      → ((q : Place) → StandsAt g q m plan → Drives (Answers g (get_or cs i none) q) (CutInAnswer g (get_or cs i none) q) answer g k b e next later)
+      → Drives (IsText g cs p) (CutInScript g cs p) answer g k a e next later
   cut_in_next answer cut inside ranges does =
       let all : (take i cs ++ get_or cs i none ∷ []) ++ drop (i + 1) cs ≡ cs =
       ap (λ (xs : List Command). xs ++ drop (i + 1) cs) (sym (take_more cs i none inside)) ∙ take-append-drop (i + 1) cs in
-      subst (λ (xs : List Command). Drives (IsText g xs p) answer g k a e next later) all
+      subst (λ (xs : List Command). Drives (IsText g xs p) (CutInScript g xs p) answer g k a e next later) all
       (script_cut k g p (take i cs) (get_or cs i none) a b e m plan d next later answer (drop (i + 1) cs) cut
       (ranges_drop (i + 1) cs (recursion_from_All IsCommandInRange cs ranges)) does)
 
   pub script_stops : (answer : SessionEnd) (all : List Command) → IsCut (printed_of answer) → cs ≡ all → i < length cs → All IsCommandInRange cs
-      → ((q : Place) → StandsAt g q m plan → Drives (Answers g (get_or cs i none) q) (printed_of answer) g k b e next later)
+      → ((q : Place) → StandsAt g q m plan → Drives (Answers g (get_or cs i none) q) (CutInAnswer g (get_or cs i none) q) (printed_of answer) g k b e next later)
       → RunsScript answer g p all k a e next later
   script_stops answer all cut same inside ranges does =
       let drives = cut_in_next (printed_of answer) cut inside ranges does in
@@ -313,23 +349,24 @@ module _ {K : Type 0} (k : Account K) (g : Given) (p : Place) (cs all : List Com
   whole_script : (answer : SessionEnd) → length cs ≤ i → cs ≡ all → RunsScript answer g p (take i cs) k a b m plan → RunsScript answer g p all k a b m plan
   whole_script answer over same r = subst (λ (xs : List Command). RunsScript answer g p xs k a b m plan) (take_all i cs over ∙ same) r
 
-  last_end : (d : Drives (IsText g (take i cs) p) Done g k a b m plan) → end_at d.last ≡ said
+  last_end : (d : Drives (IsText g (take i cs) p) (CutInScript g (take i cs) p) Done g k a b m plan) → end_at d.last ≡ said
   last_end d =
-      let here = stands_last k g p (IsText g (take i cs) p) a b m plan d in
+      let here = stands_last k g p (IsText g (take i cs) p) (CutInScript g (take i cs) p) a b m plan d in
       sym (says d.last.items d.last.end here.stands)
 
-  pub script_done : said ≡ None → length cs ≤ i → cs ≡ all → Drives (IsText g (take i cs) p) Done g k a b m plan → RunsScript ends.Done g p all k a b m plan
+  pub script_done : said ≡ None → length cs ≤ i → cs ≡ all → Drives (IsText g (take i cs) p) (CutInScript g (take i cs) p) Done g k a b m plan → RunsScript ends.Done g p all k a b m plan
   script_done none over same d = whole_script ends.Done over same (record { drives = d; tells = last_end d ∙ none })
 
-  pub script_stopped : (f : End) → said ≡ Some f → length cs ≤ i → cs ≡ all → Drives (IsText g (take i cs) p) Done g k a b m plan
+  pub script_stopped : (f : End) → said ≡ Some f → length cs ≤ i → cs ≡ all → Drives (IsText g (take i cs) p) (CutInScript g (take i cs) p) Done g k a b m plan
       → RunsScript (ends.Stopped f) g p all k a b m plan
   script_stopped f is over same d = whole_script (ends.Stopped f) over same (record { drives = d; tells = last_end d ∙ is })
 
 -- a machine that was brought to some place of a run stands in that run
-pub driven_in_run : {K : Type 0} (k : Given → Account K) (leads : Given → Place → List ℕ → Place → Type 0) (answer : Printed) (a b : K)
+pub driven_in_run : {K : Type 0} (k : Given → Account K) (leads : Given → Place → List ℕ → Place → Type 0)
+    (cut : Given → Place → List ℕ → List ℕ → Place → Type 0) (answer : Printed) (a b : K)
     (before m : Machine) (was plan : Plan) → IsInRun before was
-    → ((g : Given) (p : Place) → StandsAt g p before was → Drives (leads g p) answer g (k g) a b m plan) → IsInRun m plan
-driven_in_run k leads answer a b before m was plan r does =
+    → ((g : Given) (p : Place) → StandsAt g p before was → Drives (leads g p) (cut g p) answer g (k g) a b m plan) → IsInRun m plan
+driven_in_run k leads cut answer a b before m was plan r does =
     let here = run_place before was r in
     let one = does here.0 here.1 here.2 in
     place_in_run here.0 one.place m plan one.stands

@@ -1,5 +1,5 @@
--- Each printed line has one line feed.
-use Rattle.std.proofs.Common.{◌≡◌, ℕ, ◌≤◌, length, true, false, List, [], ◌∷◌, ◌++◌, Option, Some, None, eqb, codes, refl, ◌∙◌, arith}
+-- Each printed line has one line feed, which is its last byte.
+use Rattle.std.proofs.Common.{◌≡◌, ℕ, ◌≤◌, length, true, false, List, [], ◌∷◌, ◌++◌, Option, Some, None, eqb, codes, refl, arith}
 use Rattle.std.specs.List.{flat_map}
 use Rattle.std.specs.Fmt.{decimal}
 use Rattle.std.proofs.lemmas.Bool.{and_parts}
@@ -17,21 +17,18 @@ use Rattle.i9_model.proofs.ReadBack.{journal_plain}
 use Rattle.i9_debug.specs.Lines.{refused_line, ending, generated_line}
 use Rattle.i9_model.specs.declared.frame.Frame.{Frame}
 use Rattle.i9_debug.specs.Session.{turn_text, held_text, raw_bytes_text}
-use Rattle.i9_debug.specs.Print.{line_count, IsLine}
-use Rattle.i9_debug.proofs.Prints.{line_count-append}
+use Rattle.i9_debug.specs.Print.{IsLine}
 
 not_feed : (b : ℕ) → is_plain_byte b ≡ true → eqb b 10 ≡ false
 not_feed b h = grind (arith)
 
-no_feeds : (xs : List ℕ) → is_plain xs ≡ true → line_count xs ≡ 0
-no_feeds [] h = refl
-no_feeds (b ∷ xs) h =
+-- a plain text in front of a line
+after_plain : (xs ys : List ℕ) → is_plain xs ≡ true → IsLine ys → IsLine (xs ++ ys)
+after_plain [] ys h line = line
+after_plain (b ∷ xs) ys h line =
     let p = and_parts (is_plain_byte b) (is_plain xs) h in
-    rw (not_feed b p.0) (no_feeds xs p.1)
-
--- a plain text in front adds no line
-after_plain : (xs ys : List ℕ) → is_plain xs ≡ true → line_count (xs ++ ys) ≡ line_count ys
-after_plain xs ys h = omega (arith, line_count-append xs ys, no_feeds xs h)
+    let rest : IsLine (xs ++ ys) = after_plain xs ys p.1 line in
+    rw (not_feed b p.0) (omega (arith, rest))
 
 plain_words : (ws : List ℕ) → is_plain (flat_map spaced ws) ≡ true
 plain_words [] = refl
@@ -39,11 +36,11 @@ plain_words (w ∷ ws) = plain-append (spaced w) (flat_map spaced ws) (plain-wor
 
 pub line-words : (label ws : List ℕ) → is_plain label ≡ true → IsLine (words_text label ws)
 unfolding words_text
-line-words label ws h = after_plain (label ++ flat_map spaced ws) (10 ∷ []) (plain-append label (flat_map spaced ws) h (plain_words ws))
+line-words label ws h = after_plain (label ++ flat_map spaced ws) (10 ∷ []) (plain-append label (flat_map spaced ws) h (plain_words ws)) refl
 
 pub line-out : (b : ℕ) → IsLine (out_text b)
 unfolding out_text
-line-out b = after_plain (codes "#out ") (byte_text b ++ 10 ∷ []) refl ∙ after_plain (byte_text b) (10 ∷ []) (plain-byte_text b)
+line-out b = after_plain (codes "#out ") (byte_text b ++ 10 ∷ []) refl (after_plain (byte_text b) (10 ∷ []) (plain-byte_text b) refl)
 
 plain_drained : (k : Point) → is_plain (drained_text k) ≡ true
 plain_drained points.Flush = refl
@@ -62,7 +59,7 @@ line-point k v =
 
 pub line-event : (k : ℕ) (e : Event) → IsLine (event_text k e)
 unfolding event_text
-line-event k e = after_plain (journal_text k e) (10 ∷ []) (journal_plain k e)
+line-event k e = after_plain (journal_text k e) (10 ∷ []) (journal_plain k e) refl
 
 plain_byte : (b : Option ℕ) → is_plain (spaced_byte b) ≡ true
 plain_byte None = refl
@@ -76,7 +73,7 @@ pub line-bytes : (a : ℕ) (bs : List (Option ℕ)) → IsLine (bytes_text a bs)
 unfolding bytes_text
 line-bytes a bs =
     let begun = plain-append (codes "#mem") (spaced a) refl (plain-word_text a) in
-    after_plain (codes "#mem" ++ spaced a ++ flat_map spaced_byte bs) (10 ∷ []) (plain-append (codes "#mem" ++ spaced a) (flat_map spaced_byte bs) begun (plain_bytes bs))
+    after_plain (codes "#mem" ++ spaced a ++ flat_map spaced_byte bs) (10 ∷ []) (plain-append (codes "#mem" ++ spaced a) (flat_map spaced_byte bs) begun (plain_bytes bs)) refl
 
 pub line-end : (f : End) → IsLine (end_text f)
 unfolding end_text
@@ -113,7 +110,7 @@ line-generated number count events f =
     let begun = plain_number (codes "#gen ") number refl in
     let counted = plain_number (codes "#gen " ++ decimal number ++ codes " ") count begun in
     let taken = plain_number (codes "#gen " ++ decimal number ++ codes " " ++ decimal count ++ codes " ") events counted in
-    after_plain (codes "#gen " ++ decimal number ++ codes " " ++ decimal count ++ codes " " ++ decimal events ++ codes " ") (ending f) taken ∙ line-ending f
+    after_plain (codes "#gen " ++ decimal number ++ codes " " ++ decimal count ++ codes " " ++ decimal events ++ codes " ") (ending f) taken (line-ending f)
 
 pub line-globals : (ws : List ℕ) → IsLine (words_text (codes "#g") ws)
 line-globals ws = line-words (codes "#g") ws refl
@@ -129,7 +126,7 @@ line-refused what fault plain =
     let line = plain-append (codes "#" ++ what ++ codes " line ") (decimal fault.0) begun (plain-decimal fault.0) in
     let kind = plain-append (codes "#" ++ what ++ codes " line " ++ decimal fault.0) (codes " kind ") line refl in
     after_plain (codes "#" ++ what ++ codes " line " ++ decimal fault.0 ++ codes " kind " ++ decimal fault.1) (10 ∷ [])
-    (plain-append (codes "#" ++ what ++ codes " line " ++ decimal fault.0 ++ codes " kind ") (decimal fault.1) kind (plain-decimal fault.1))
+    (plain-append (codes "#" ++ what ++ codes " line " ++ decimal fault.0 ++ codes " kind ") (decimal fault.1) kind (plain-decimal fault.1)) refl
 
 pub ruleset line_rules = (line-out, line-point, line-event, line-bytes, line-end, line-generated, line-globals, line-locals)
 
@@ -139,7 +136,7 @@ pub line-turn : (t k : ℕ) → IsLine (turn_text t k)
 unfolding turn_text
 line-turn t k =
     after_plain (codes "#turn " ++ decimal t ++ codes " " ++ decimal k) (10 ∷ [])
-    (plain-append (codes "#turn " ++ decimal t ++ codes " ") (decimal k) (plain_number (codes "#turn ") t refl) (plain-decimal k))
+    (plain-append (codes "#turn " ++ decimal t ++ codes " ") (decimal k) (plain_number (codes "#turn ") t refl) (plain-decimal k)) refl
 
 pub line-counted : (label ws : List ℕ) (n : ℕ) → is_plain label ≡ true → IsLine (words_text (label ++ decimal n) ws)
 line-counted label ws n plain = line-words (label ++ decimal n) ws (plain-append label (decimal n) plain (plain-decimal n))
@@ -164,6 +161,6 @@ pub line-raw_bytes : (a : ℕ) (bs : List (Option ℕ)) → IsLine (raw_bytes_te
 unfolding raw_bytes_text
 line-raw_bytes a bs =
     let begun = plain-append (codes "#rawmem") (spaced a) refl (plain-word_text a) in
-    after_plain (codes "#rawmem" ++ spaced a ++ flat_map spaced_byte bs) (10 ∷ []) (plain-append (codes "#rawmem" ++ spaced a) (flat_map spaced_byte bs) begun (plain_bytes bs))
+    after_plain (codes "#rawmem" ++ spaced a ++ flat_map spaced_byte bs) (10 ∷ []) (plain-append (codes "#rawmem" ++ spaced a) (flat_map spaced_byte bs) begun (plain_bytes bs)) refl
 
 pub ruleset place_rules = (line-turn, line-view, line-raw, line-raw_globals, line-raw_locals, line-held, line-bytes, line-raw_bytes, line-globals, line-locals)

@@ -6,7 +6,7 @@ use Rattle.i9_text.specs.Text.{is_line_feed}
 use Rattle.i9_text.proofs.Cuts.{position_or_len-found, position_or_len-missing}
 use Rattle.i9_debug.specs.declared.print.Printed.{Printed}
 use Rattle.i9_debug.specs.declared.print.Printed.TheVariants.{Done}
-use Rattle.i9_debug.specs.Print.{Account, Prints, IsLine, line_count, is_lined}
+use Rattle.i9_debug.specs.Print.{Account, Prints, IsLine, is_lined}
 use Rattle.i9_debug.proofs.Prints.{prints_none, prints_then, prints_stop, prints_same}
 
 lined_tail : (b : ℕ) (bs : List ℕ) → is_lined (b ∷ bs) ≡ true → is_lined bs ≡ true
@@ -44,18 +44,19 @@ no_feed [] e h = refl
 no_feed (b ∷ bs) e h = absurd (omega (arith, feed_inside b bs h, position_or_len-missing is_line_feed (b ∷ bs) e))
 
 -- what stands up to the first line feed is one line
-first_line : (text : List ℕ) → position_or_len is_line_feed text < length text → line_count (take (position_or_len is_line_feed text + 1) text) ≡ 1
+first_line : (text : List ℕ) → position_or_len is_line_feed text < length text → IsLine (take (position_or_len is_line_feed text + 1) text)
 first_line [] h = absurd (omega arith)
 first_line (b ∷ bs) h = by_first (λ k. first_line bs k) (is_line_feed b) refl h
   where
-    by_first : (position_or_len is_line_feed bs < length bs → line_count (take (position_or_len is_line_feed bs + 1) bs) ≡ 1)
+    by_first : (position_or_len is_line_feed bs < length bs → IsLine (take (position_or_len is_line_feed bs + 1) bs))
         → (t : Bool) → is_line_feed b ≡ t → position_or_len is_line_feed (b ∷ bs) < length (b ∷ bs)
-        → line_count (take (position_or_len is_line_feed (b ∷ bs) + 1) (b ∷ bs)) ≡ 1
+        → IsLine (take (position_or_len is_line_feed (b ∷ bs) + 1) (b ∷ bs))
     by_first later true e k = rw e (rw e refl)
     by_first later false e k =
         let n = position_or_len is_line_feed bs in
         let next : 1 + n + 1 ≡ suc (n + 1) = omega arith in
-        rw e (rw next (rw e (later (let j = rw e at k in omega (arith, j)))))
+        let rest : IsLine (take (n + 1) bs) = later (let j = rw e at k in omega (arith, j)) in
+        rw e (rw next (rw e (omega (arith, rest))))
 
 pub line_found : (text : List ℕ) (i : ℕ) → Some i ≡ position is_line_feed text → IsLine (take (i + 1) text)
 line_found text i e =

@@ -1,7 +1,6 @@
 -- Steps that are run and printed until a stop holds, or until an instruction address.
-use Rattle.std.proofs.Common.{◌≡◌, ℕ, Bool, true, false, ◌&&◌, nat_eq, List, [], ◌∷◌, ◌++◌, flat_map, drop, None, refl, sym, ap, ◌∙◌, subst, inl, inr, arith}
+use Rattle.std.proofs.Common.{◌≡◌, ℕ, Bool, true, false, ◌&&◌, nat_eq, List, [], ◌∷◌, ◌++◌, ◌≤◌, length, flat_map, drop, None, refl, sym, ap, ◌∙◌, subst, inl, inr, arith}
 use Rattle.std.specs.List.{AllByRecursion}
-use Rattle.std.proofs.lemmas.List.{append-nil}
 use Rattle.i9_model.specs.State.{State}
 use Rattle.i9_model.specs.declared.run.End.{End}
 use Rattle.i9_model.specs.declared.view.View.{View}
@@ -25,10 +24,10 @@ use Rattle.i9_debug.specs.declared.print.Printed.{Printed}
 use Rattle.i9_debug.specs.declared.print.Printed.TheVariants.{Done, Write, Memory}
 use Rattle.i9_debug.specs.Print.{Account, Prints, OnDone, line_text}
 use Rattle.i9_debug.specs.Session.{Place, at, ended, turn_ahead, ending_lines, comes_to, NoneComesTo, ComesTo, comes, none_comes}
-use Rattle.i9_debug.specs.Driven.{StandsAt, Drives, IsCut, StopsBy, stops, never_stops, goes_on}
-use Rattle.i9_debug.proofs.Prints.{prints_none, prints_then, prints_stop, prints_same, prints_cut}
-use Rattle.i9_debug.proofs.Places.{either, comes_after, address_leads}
-use Rattle.i9_debug.proofs.Turns.{added-text, not_done, cut_whole}
+use Rattle.i9_debug.specs.Driven.{StandsAt, Drives, IsCut, OnCut, StopsAt, AtMostOne, CutInRun, behind_step, behind_end, StopsBy, stops, never_stops, goes_on}
+use Rattle.i9_debug.proofs.Prints.{prints_none, prints_then, prints_stop, prints_same, prints_behind}
+use Rattle.i9_debug.proofs.Places.{steps_on-append, text-append, either, comes_after, address_leads}
+use Rattle.i9_debug.proofs.Turns.{added-text, not_done, on_cut, cut_whole}
 
 -- ---- what a step is
 
@@ -75,9 +74,6 @@ module _ {K : Type 0} (k : Account K) (g : Given) (h : List Item) (allows : View
     one-more : (r : Record) → AddsLines [] ls (record_lines r) → front ++ flat_map line_text ls ≡ text_of (lines_of (r ∷ inv.done))
     one-more r e = ap (λ (x : List ℕ). front ++ x) (added-text ls (record_lines r) e) ∙ sym (text_of-append (lines_of inv.done) (record_lines r))
 
-    no-more : ls ≡ [] → front ++ flat_map line_text ls ≡ front
-    no-more none = ap (λ (x : List Line). front ++ flat_map line_text x) none ∙ append-nil front
-
     behind : (answer : Printed) → Prints answer k b c (flat_map line_text ls) → Prints answer k a c (front ++ flat_map line_text ls)
     behind answer p = prints_then k answer a b c front (flat_map line_text ls) inv.prints p
 
@@ -104,7 +100,7 @@ module _ {K : Type 0} (k : Account K) (g : Given) (h : List Item) (allows : View
     -- the stop holds
     pub issued_holds : (t : Issued) (view : View) → Comes g (steps_on inv.done h) (answers.Issued t) mid next plan [] ls
         → Prints Done k b c (flat_map line_text ls) → Shows g next view → allows view true
-        → Drives (StopsBy Done allows g h) Done g k a c next plan
+        → Drives (StopsBy Done allows g h) (CutInRun g AtMostOne h) Done g k a c next plan
     issued_holds t view d p shows held =
         let shown = shows (Step d.done ∷ steps_on inv.done h) None d.stands in
         let place = at (Step d.done ∷ steps_on inv.done h) (turn_ahead g (steps_on inv.done h)) in
@@ -117,58 +113,79 @@ module _ {K : Type 0} (k : Account K) (g : Given) (h : List Item) (allows : View
           place = place;
           stands = record { stands = d.stands; turn = d.turn ∙ sym d.now; follows = d.follows };
           whole = refl;
+          stopped = tt;
         }
 
-    -- printing stopped behind records
-    cut_by : (answer : Printed) (rs : List Record) → IsCut answer → AllByRecursion (IsPassed allows) (drop 1 rs)
-        → StandsFor g (steps_on rs h) None next → Follows g (steps_on rs h) plan → Prints answer k a c (text_of (lines_of rs))
-        → Drives (StopsBy answer allows g h) answer g k a c next plan
-    cut_by answer rs cut passed stands follows p = record {
-      text = text_of (lines_of rs);
-      last = at (steps_on rs h) next.turn;
-      is_text = goes_on rs (at (steps_on rs h) next.turn) cut stands.past passed;
-      prints = p;
-      place = at (steps_on rs h) next.turn;
-      stands = record { stands = stands; turn = refl; follows = follows };
-      whole = same_whole answer _ refl;
-    }
+    -- printing stopped in what is shown of a record more, or none
+    cut_by : (answer : Printed) (rs : List Record) → IsCut answer → length rs ≤ 1 → AllByRecursion (IsPassed allows) (drop 1 (rs ++ inv.done))
+        → StandsFor g (steps_on rs (steps_on inv.done h)) None next → Follows g (steps_on rs (steps_on inv.done h)) plan
+        → Prints answer k b c (text_of (lines_of rs)) → Drives (StopsBy answer allows g h) (CutInRun g AtMostOne h) answer g k a c next plan
+    cut_by answer rs cut few passed stands follows p =
+        let place = at (steps_on rs (steps_on inv.done h)) next.turn in
+        record {
+          text = text_of (lines_of (rs ++ inv.done));
+          last = place;
+          is_text = goes_on (rs ++ inv.done) place cut (subst (IsCourse g) (sym (steps_on-append rs inv.done h)) stands.past) passed;
+          prints = prints_same k answer a c _ _ (text-append rs inv.done) (prints_then k answer a b c front (text_of (lines_of rs)) inv.prints p);
+          place = place;
+          stands = record { stands = stands; turn = refl; follows = follows };
+          whole = same_whole answer _ refl;
+          stopped = on_cut answer _ (record {
+            whole = front;
+            rest = text_of (lines_of rs);
+            is_cut = behind_step inv.done rs next.turn few;
+            between = b;
+            first = inv.prints;
+            behind = p;
+          });
+        }
 
     -- the end was reached
     pub end_seeks : (answer : Printed) (e : End) → Comes g (steps_on inv.done h) (answers.End e) mid next plan [] ls
-        → Prints answer k b c (flat_map line_text ls) → Drives (StopsBy answer allows g h) answer g k a c next plan
+        → Prints answer k b c (flat_map line_text ls) → Drives (StopsBy answer allows g h) (CutInRun g AtMostOne h) answer g k a c next plan
     end_seeks answer e d p =
         let f = d.finish in
         let place = ended (steps_on inv.done h) (turn_ahead g (steps_on inv.done h)) f in
-        let same : front ++ flat_map line_text ls ≡ text_of (ending_lines g h inv.done f) =
-        ap (λ (x : List ℕ). front ++ x) (added-text ls _ d.lines) ∙ sym (text_of-append (lines_of inv.done) _) in
+        let last : Prints answer k b c (text_of (ending_lines g (steps_on inv.done h) [] f)) =
+        prints_same k answer b c _ _ (added-text ls _ d.lines) p in
+        let same = sym (text_of-append (lines_of inv.done) (ending_lines g (steps_on inv.done h) [] f)) in
         record {
           text = text_of (ending_lines g h inv.done f);
           last = place;
           is_text = never_stops inv.done f (record { past = d.stands.past; is_end = d.is_end }) inv.passed;
-          prints = prints_same k answer a c _ _ same (behind answer p);
+          prints = prints_same k answer a c _ _ same (prints_then k answer a b c front _ inv.prints last);
           place = place;
           stands = record { stands = d.stands; turn = d.turn ∙ sym d.now; follows = tt };
           whole = same_whole answer _ refl;
+          stopped = on_cut answer _ (record {
+            whole = front;
+            rest = text_of (ending_lines g (steps_on inv.done h) [] f);
+            is_cut = behind_end inv.done [] (turn_ahead g (steps_on inv.done h)) f (omega arith);
+            between = b;
+            first = inv.prints;
+            behind = last;
+          });
         }
+
+    -- what a step shows that was refused
+    none-shown : ls ≡ [] → flat_map line_text ls ≡ []
+    none-shown none = ap (flat_map line_text) none
 
     -- printing stopped in the lines of a step
     pub step_cut : (answer : Printed) (turn : Turn) → IsCut answer → Comes g (steps_on inv.done h) turn mid next plan [] ls
-        → Prints answer k b c (flat_map line_text ls) → Drives (StopsBy answer allows g h) answer g k a c next plan
+        → Prints answer k b c (flat_map line_text ls) → Drives (StopsBy answer allows g h) (CutInRun g AtMostOne h) answer g k a c next plan
     step_cut answer answers.On cut d p =
-        cut_by answer (d.done ∷ inv.done) cut inv.passed d.stands d.follows (prints_same k answer a c _ _ (one-more d.done d.lines) (behind answer p))
+        cut_by answer (d.done ∷ []) cut (omega arith) inv.passed d.stands d.follows (prints_same k answer b c _ _ (added-text ls (record_lines d.done) d.lines) p)
     step_cut answer (answers.Issued t) cut d p =
-        cut_by answer (d.done ∷ inv.done) cut inv.passed d.stands d.follows (prints_same k answer a c _ _ (one-more d.done d.lines) (behind answer p))
+        cut_by answer (d.done ∷ []) cut (omega arith) inv.passed d.stands d.follows (prints_same k answer b c _ _ (added-text ls (record_lines d.done) d.lines) p)
     step_cut answer (answers.End f) cut d p = end_seeks answer f d p
     step_cut answer answers.Memory cut d p =
-        cut_by answer inv.done cut (older_passed inv.done inv.passed) d.stands d.follows
-        (prints_same k answer a c _ _ (no-more d.lines) (behind answer p))
+        cut_by answer [] cut (omega arith) (older_passed inv.done inv.passed) d.stands d.follows (prints_same k answer b c _ _ (none-shown d.lines) p)
 
     -- memory was refused for a step
     pub step_refused : Comes g (steps_on inv.done h) answers.Memory mid next plan [] ls
-        → Prints Done k b c (flat_map line_text ls) → Drives (StopsBy Memory allows g h) Memory g k a c next plan
-    step_refused d p =
-        cut_by Memory inv.done tt (older_passed inv.done inv.passed) d.stands d.follows
-        (prints_same k Memory a c _ _ (append-nil front) (prints_cut k a c front [] (prints_same k Done a c _ _ (no-more d.lines) (behind Done p))))
+        → Prints Done k b c (flat_map line_text ls) → Drives (StopsBy Memory allows g h) (CutInRun g AtMostOne h) Memory g k a c next plan
+    step_refused d p = step_cut Memory answers.Memory tt d (prints_behind k b c _ p)
 
 -- ---- the machine stays under way
 
@@ -199,12 +216,16 @@ module _ (allows : View → Bool → Type 0) (address : ℕ) (agree : (v : View)
 
   module _ {K : Type 0} (k : Account K) (g : Given) (h : List Item) (answer : Printed) (a c : K) (m : Machine) (plan : Plan) where
     abbrev Arrives : Type 0
-    Arrives = Drives (ComesTo g h address) answer g k a c m plan
+    Arrives = Drives (ComesTo g h address) (CutInRun g AtMostOne h) answer g k a c m plan
+
+    -- what stands where printing stopped
+    abbrev Stopped : Place → Type 0
+    Stopped place = OnCut answer (StopsAt (CutInRun g AtMostOne h) answer k a c place)
 
     -- where printing stopped, the text goes on to a whole one
     cut_goes_on : (rs : List Record) (place : Place) → IsCut answer → NoneComesTo address rs → (x : List ℕ) (q : Place) → ComesTo g (steps_on rs h) address x q
-        → Prints answer k a c (text_of (lines_of rs)) → StandsAt g place m plan → Arrives
-    cut_goes_on rs place cut none x q leads p stands = record {
+        → Prints answer k a c (text_of (lines_of rs)) → StandsAt g place m plan → Stopped place → Arrives
+    cut_goes_on rs place cut none x q leads p stands stopped = record {
       text = text_of (lines_of rs) ++ x;
       last = q;
       is_text = comes_after g h rs address x q none leads;
@@ -212,11 +233,12 @@ module _ (allows : View → Bool → Type 0) (address : ℕ) (agree : (v : View)
       place = place;
       stands = stands;
       whole = cut_whole answer (place ≡ q) cut;
+      stopped = stopped;
     }
 
     there_arrives : (rs : List Record) (r : Record) (place : Place) → IsCut answer → IsCourse g (Step r ∷ steps_on rs h) → AllByRecursion (IsPassed allows) rs
-        → comes_to address r ≡ true → Prints answer k a c (text_of (lines_of (r ∷ rs))) → StandsAt g place m plan → Arrives
-    there_arrives rs r place cut past passed there p stands = record {
+        → comes_to address r ≡ true → Prints answer k a c (text_of (lines_of (r ∷ rs))) → StandsAt g place m plan → Stopped place → Arrives
+    there_arrives rs r place cut past passed there p stands stopped = record {
       text = text_of (lines_of (r ∷ rs));
       last = at (Step r ∷ steps_on rs h) (turn_ahead g (steps_on rs h));
       is_text = comes rs r past (none_come rs passed) there;
@@ -224,23 +246,24 @@ module _ (allows : View → Bool → Type 0) (address : ℕ) (agree : (v : View)
       place = place;
       stands = stands;
       whole = cut_whole answer _ cut;
+      stopped = stopped;
     }
 
     cut_arrives : (rs : List Record) (place : Place) → IsCut answer → IsCourse g (steps_on rs h) → AllByRecursion (IsPassed allows) (drop 1 rs)
-        → Prints answer k a c (text_of (lines_of rs)) → StandsAt g place m plan → Arrives
-    cut_arrives [] place cut past passed p stands =
+        → Prints answer k a c (text_of (lines_of rs)) → StandsAt g place m plan → Stopped place → Arrives
+    cut_arrives [] place cut past passed p stands stopped =
         let on = address_leads g h address past in
-        cut_goes_on [] place cut tt on.0 on.1 on.2 p stands
-    cut_arrives (r ∷ rs) place cut past passed p stands = elim (either (comes_to address r)) [
-      | inl there ↦ there_arrives rs r place cut past passed there p stands
+        cut_goes_on [] place cut tt on.0 on.1 on.2 p stands stopped
+    cut_arrives (r ∷ rs) place cut past passed p stands stopped = elim (either (comes_to address r)) [
+      | inl there ↦ there_arrives rs r place cut past passed there p stands stopped
       | inr other ↦
           let on = address_leads g (steps_on (r ∷ rs) h) address past in
-          cut_goes_on (r ∷ rs) place cut (other, none_come rs passed) on.0 on.1 on.2 p stands
+          cut_goes_on (r ∷ rs) place cut (other, none_come rs passed) on.0 on.1 on.2 p stands stopped
     ]
 
     by_stop : (text : List ℕ) (last place : Place) → StopsBy answer allows g h text last → Prints answer k a c text
-        → StandsAt g place m plan → OnDone answer (place ≡ last) → Arrives
-    by_stop _ _ place (stops rs r past passed counts held) p stands whole = record {
+        → StandsAt g place m plan → OnDone answer (place ≡ last) → Stopped place → Arrives
+    by_stop _ _ place (stops rs r past passed counts held) p stands whole stopped = record {
       text = text_of (lines_of (r ∷ rs));
       last = at (Step r ∷ steps_on rs h) (turn_ahead g (steps_on rs h));
       is_text = comes rs r past (none_come rs passed) (held_kind r.kind r.after counts held);
@@ -248,8 +271,9 @@ module _ (allows : View → Bool → Type 0) (address : ℕ) (agree : (v : View)
       place = place;
       stands = stands;
       whole = whole;
+      stopped = stopped;
     }
-    by_stop _ _ place (never_stops rs f e passed) p stands whole = record {
+    by_stop _ _ place (never_stops rs f e passed) p stands whole stopped = record {
       text = text_of (ending_lines g h rs f);
       last = ended (steps_on rs h) (turn_ahead g (steps_on rs h)) f;
       is_text = none_comes rs f e (none_come rs passed);
@@ -257,8 +281,9 @@ module _ (allows : View → Bool → Type 0) (address : ℕ) (agree : (v : View)
       place = place;
       stands = stands;
       whole = whole;
+      stopped = stopped;
     }
-    by_stop _ _ place (goes_on rs q cut past passed) p stands whole = cut_arrives rs place cut past passed p stands
+    by_stop _ _ place (goes_on rs q cut past passed) p stands whole stopped = cut_arrives rs place cut past passed p stands stopped
 
-    pub arrives : Drives (StopsBy answer allows g h) answer g k a c m plan → Arrives
-    arrives d = by_stop d.text d.last d.place d.is_text d.prints d.stands d.whole
+    pub arrives : Drives (StopsBy answer allows g h) (CutInRun g AtMostOne h) answer g k a c m plan → Arrives
+    arrives d = by_stop d.text d.last d.place d.is_text d.prints d.stands d.whole d.stopped

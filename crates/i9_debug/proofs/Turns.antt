@@ -1,5 +1,5 @@
 -- Turns that are run and printed.
-use Rattle.std.proofs.Common.{◌≡◌, ◌≢◌, ℕ, ◌+◌, ◌<◌, ◌≤◌, List, [], ◌∷◌, ◌++◌, map, flat_map, None, refl, sym, ap, ◌∙◌, subst, arith}
+use Rattle.std.proofs.Common.{◌≡◌, ◌≢◌, ℕ, ◌+◌, ◌<◌, ◌≤◌, List, [], ◌∷◌, ◌++◌, map, flat_map, None, refl, sym, ap, ◌∙◌, subst, append_assoc, arith}
 use Rattle.std.proofs.lemmas.List.{append-nil}
 use Rattle.i9_model.specs.declared.run.End.{End}
 use Rattle.i9_model.specs.Late.{turns as late_turns}
@@ -19,13 +19,13 @@ use Rattle.i9_debug.specs.declared.print.Printed.{Printed}
 use Rattle.i9_debug.specs.declared.print.Printed.TheVariants.{Done, Write, Memory}
 use Rattle.i9_debug.specs.Print.{Account, Prints, OnDone, line_text}
 use Rattle.i9_debug.specs.Session.{Place, at, ended, turn_ahead, ending_lines, TurnsTo, turns_pass, turns_end}
-use Rattle.i9_debug.specs.Driven.{StandsAt, Drives, IsCut}
-use Rattle.i9_debug.proofs.Prints.{prints_none, prints_then, prints_stop, prints_same, prints_cut}
+use Rattle.i9_debug.specs.Driven.{StandsAt, Drives, IsCut, OnCut, InOneTurn, CutInRun, behind_step, behind_end}
+use Rattle.i9_debug.proofs.Prints.{prints_none, prints_then, prints_stop, prints_same, prints_behind}
 use Rattle.i9_debug.proofs.Places.{steps_on-append, text-append, turns_after, turns_lead}
 
 -- ---- lines
 
-lines-text : (ls : List Line) → flat_map line_text ls ≡ text_of (map shown_of ls)
+pub lines-text : (ls : List Line) → flat_map line_text ls ≡ text_of (map shown_of ls)
 lines-text [] = refl
 lines-text (l ∷ ls) = ap (λ (t : List ℕ). line_text l ++ t) (lines-text ls)
 
@@ -39,6 +39,16 @@ pub not_done : (answer : Printed) → IsCut answer → answer ≢ Done
 not_done Done cut = absurd cut
 not_done Write cut = λ e. cc
 not_done Memory cut = λ e. cc
+
+pub on_cut : (answer : Printed) (P : Type 0) → P → OnCut answer P
+on_cut Done P p = tt
+on_cut Write P p = p
+on_cut Memory P p = p
+
+pub of_cut : (answer : Printed) (P : Type 0) → IsCut answer → OnCut answer P → P
+of_cut Done P cut p = absurd cut
+of_cut Write P cut p = p
+of_cut Memory P cut p = p
 
 pub cut_whole : (answer : Printed) (P : Type 0) → IsCut answer → OnDone answer P
 cut_whole Done P cut = absurd cut
@@ -65,52 +75,47 @@ module _ {K : Type 0} (k : Account K) (g : Given) (h : List Item) where
     prints = prints_none k a;
   }
 
-  -- a text goes on to one that leads to a turn, and the machine stands at some place
-  pub record Left (u : ℕ) (front : List ℕ) (m : Machine) (plan : Plan) : Type 0 where
+  -- a text and that of a turn go on to one that leads to a later turn, and the machine stands behind that turn's records
+  pub record Left (u : ℕ) (front step : List ℕ) (m : Machine) (plan : Plan) : Type 0 where
     pub more : List ℕ
     pub last : Place
-    pub leads : TurnsTo g h u (front ++ more) last
+    pub leads : TurnsTo g h u ((front ++ step) ++ more) last
     pub place : Place
     pub stands : StandsAt g place m plan
+    pub is_cut : CutInRun g (InOneTurn g) h front step place
 
-  left_behind : (u : ℕ) (rs : List Record) (m : Machine) (plan : Plan) → StandsFor g (steps_on rs h) None m → Follows g (steps_on rs h) plan
-      → last_issue (late_turns (course g (steps_on rs h)).late) < u → Left u (text_of (lines_of rs)) m plan
-  left_behind u rs m plan stands follows low =
-      let on = turns_lead g (steps_on rs h) u low stands.past in
+  left_behind : (u : ℕ) (rs xs : List Record) (m : Machine) (plan : Plan) → StandsFor g (steps_on xs (steps_on rs h)) None m
+      → Follows g (steps_on xs (steps_on rs h)) plan → last_issue (late_turns (course g (steps_on xs (steps_on rs h))).late) < u
+      → InOneTurn g (steps_on rs h) xs → Left u (text_of (lines_of rs)) (text_of (lines_of xs)) m plan
+  left_behind u rs xs m plan stands follows low one =
+      let on = turns_lead g (steps_on xs (steps_on rs h)) u low stands.past in
+      let leads = turns_after g h rs u (text_of (lines_of xs) ++ on.0) on.1 (turns_after g (steps_on rs h) xs u on.0 on.1 on.2) in
       record {
         more = on.0;
         last = on.1;
-        leads = turns_after g h rs u on.0 on.1 on.2;
-        place = at (steps_on rs h) m.turn;
+        leads = subst (λ (x : List ℕ). TurnsTo g h u x on.1) (sym (append_assoc (text_of (lines_of rs)) (text_of (lines_of xs)) on.0)) leads;
+        place = at (steps_on xs (steps_on rs h)) m.turn;
         stands = record { stands = stands; turn = refl; follows = follows };
+        is_cut = behind_step rs xs m.turn one;
       }
 
-  pub left_cut : (answer : Printed) (u : ℕ) (front : List ℕ) (a c : K) (m : Machine) (plan : Plan) → IsCut answer
-      → Prints answer k a c front → Left u front m plan → Drives (TurnsTo g h u) answer g k a c m plan
-  left_cut answer u front a c m plan cut p l = record {
-    text = front ++ l.more;
+  left_cut : (answer : Printed) (u : ℕ) (front step : List ℕ) (a b c : K) (m : Machine) (plan : Plan) → IsCut answer
+      → Prints Done k a b front → Prints answer k b c step → Left u front step m plan
+      → Drives (TurnsTo g h u) (CutInRun g (InOneTurn g) h) answer g k a c m plan
+  left_cut answer u front step a b c m plan cut p q l = record {
+    text = (front ++ step) ++ l.more;
     last = l.last;
     is_text = l.leads;
-    prints = prints_stop k answer a c front l.more (not_done answer cut) p;
+    prints = prints_stop k answer a c (front ++ step) l.more (not_done answer cut) (prints_then k answer a b c front step p q);
     place = l.place;
     stands = l.stands;
     whole = cut_whole answer (l.place ≡ l.last) cut;
-  }
-
-  pub left_refused : (u : ℕ) (front : List ℕ) (a c : K) (m : Machine) (plan : Plan)
-      → Prints Done k a c front → Left u front m plan → Drives (TurnsTo g h u) Memory g k a c m plan
-  left_refused u front a c m plan p l = record {
-    text = front ++ l.more;
-    last = l.last;
-    is_text = l.leads;
-    prints = prints_cut k a c front l.more p;
-    place = l.place;
-    stands = l.stands;
-    whole = tt;
+    stopped = on_cut answer _ (record { whole = front; rest = step; is_cut = l.is_cut; between = b; first = p; behind = q });
   }
 
   -- behind as many turns as were asked for
-  pub turned_whole : (t n : ℕ) (a b : K) (m : Machine) (plan : Plan) → 0 < n → Turned t n a b m plan → Drives (TurnsTo g h (t + n)) Done g k a b m plan
+  pub turned_whole : (t n : ℕ) (a b : K) (m : Machine) (plan : Plan) → 0 < n → Turned t n a b m plan
+      → Drives (TurnsTo g h (t + n)) (CutInRun g (InOneTurn g) h) Done g k a b m plan
   turned_whole t n a b m plan some d =
       let turn : m.turn ≡ t + n = d.turn in
       let in_time : m.turn ≤ turn_ahead g (steps_on d.done h) = d.stands.lands.in_time in
@@ -122,6 +127,7 @@ module _ {K : Type 0} (k : Account K) (g : Given) (h : List Item) where
         place = at (steps_on d.done h) (t + n);
         stands = record { stands = d.stands; turn = turn; follows = d.follows };
         whole = refl;
+        stopped = tt;
       }
 
   module _ (t i : ℕ) (a b : K) (before : Machine) (was : Plan) (inv : Turned t i a b before was)
@@ -151,27 +157,26 @@ module _ {K : Type 0} (k : Account K) (g : Given) (h : List Item) where
           prints = prints_same k Done a c _ _ (with-text d.done d.lines) (prints_then k Done a b c front (flat_map line_text ls) inv.prints p);
         }
 
-    left_on : (u : ℕ) → t + i < u → Turns g (steps_on inv.done h) answers.On before m plan [] ls → Left u (front ++ flat_map line_text ls) m plan
+    -- the turn is at most that of what lay ahead
+    early : before.turn ≤ turn_ahead g (steps_on inv.done h)
+    early = inv.stands.lands.in_time
+
+    left_on : (u : ℕ) → t + i < u → Turns g (steps_on inv.done h) answers.On before m plan [] ls → Left u front (flat_map line_text ls) m plan
     left_on u lt d =
-        let same = sym (steps_on-append d.done inv.done h) in
         let before_turn : before.turn ≡ t + i = inv.turn in
         let turn : m.turn ≡ before.turn + 1 = d.turn in
-        let issued : last_issue (late_turns (course g (steps_on (d.done ++ inv.done) h)).late) < m.turn =
-        subst (λ (x : List Item). last_issue (late_turns (course g x).late) < m.turn) same d.issued in
-        subst (λ (x : List ℕ). Left u x m plan) (sym (with-text d.done d.lines))
-        (left_behind u (d.done ++ inv.done) m plan (subst (λ (x : List Item). StandsFor g x None m) same d.stands)
-        (subst (λ (x : List Item). Follows g x plan) same d.follows) (omega (arith, before_turn, turn, issued, lt)))
+        let issued : last_issue (late_turns (course g (steps_on d.done (steps_on inv.done h))).late) < m.turn = d.issued in
+        subst (λ (x : List ℕ). Left u front x m plan) (sym (added-text ls (lines_of d.done) d.lines))
+        (left_behind u inv.done d.done m plan d.stands d.follows (omega (arith, before_turn, turn, issued, lt)) (omega (arith, turn, issued, early)))
 
-    left_memory : (u : ℕ) → t + i < u → Turns g (steps_on inv.done h) answers.Memory before m plan [] ls → Left u (front ++ flat_map line_text ls) m plan
+    left_memory : (u : ℕ) → t + i < u → Turns g (steps_on inv.done h) answers.Memory before m plan [] ls → Left u front (flat_map line_text ls) m plan
     left_memory u lt d =
-        let same = sym (steps_on-append d.since.done inv.done h) in
+        let s = d.since in
         let before_turn : before.turn ≡ t + i = inv.turn in
-        let turn : m.turn ≡ before.turn = d.since.turn in
-        let stands = subst (λ (x : List Item). StandsFor g x None m) same d.since.stands in
-        let begun : last_issue (late_turns (course g (steps_on (d.since.done ++ inv.done) h)).late) ≤ m.turn = stands.lands.begun in
-        subst (λ (x : List ℕ). Left u x m plan) (sym (with-text d.since.done d.since.lines))
-        (left_behind u (d.since.done ++ inv.done) m plan stands
-        (subst (λ (x : List Item). Follows g x plan) same d.since.follows) (omega (arith, before_turn, turn, begun, lt)))
+        let turn : m.turn ≡ before.turn = s.turn in
+        let begun : last_issue (late_turns (course g (steps_on s.done (steps_on inv.done h))).late) ≤ m.turn = s.stands.lands.begun in
+        subst (λ (x : List ℕ). Left u front x m plan) (sym (added-text ls (lines_of s.done) s.lines))
+        (left_behind u inv.done s.done m plan s.stands s.follows (omega (arith, before_turn, turn, begun, lt)) (omega (arith, turn, begun, early)))
 
     -- the text of what is left up to the end
     ending-text : (e : End) → (d : Turns g (steps_on inv.done h) (answers.End e) before m plan [] ls)
@@ -191,20 +196,24 @@ module _ {K : Type 0} (k : Account K) (g : Given) (h : List Item) where
     end_stands e d = record { stands = d.stands; turn = d.turn ∙ sym d.now; follows = tt }
 
     left_end : (u : ℕ) (e : End) → t + i < u → Turns g (steps_on inv.done h) (answers.End e) before m plan [] ls
-        → Left u (front ++ flat_map line_text ls) m plan
+        → Left u front (flat_map line_text ls) m plan
     left_end u e lt d =
-        let place = ended (steps_on d.done (steps_on inv.done h)) (turn_ahead g (steps_on d.done (steps_on inv.done h))) d.finish in
-        subst (λ (x : List ℕ). Left u x m plan) (sym (ending-text e d))
+        let now = turn_ahead g (steps_on d.done (steps_on inv.done h)) in
+        let place = ended (steps_on d.done (steps_on inv.done h)) now d.finish in
+        let turn : m.turn ≡ before.turn = d.turn in
+        let begun : last_issue (late_turns (course g (steps_on d.done (steps_on inv.done h))).late) ≤ m.turn = d.stands.lands.begun in
+        subst (λ (x : List ℕ). Left u front x m plan) (sym (added-text ls (ending_lines g (steps_on inv.done h) d.done d.finish) d.lines))
         (record {
           more = [];
           last = place;
           leads = subst (λ (x : List ℕ). TurnsTo g h u x place) (sym (append-nil _)) (end_leads u e lt d);
           place = place;
           stands = end_stands e d;
+          is_cut = behind_end inv.done d.done now d.finish (omega (arith, turn, begun, early));
         })
 
     turn_left : (u : ℕ) (result : Turn) → t + i < u → Turns g (steps_on inv.done h) result before m plan [] ls
-        → Left u (front ++ flat_map line_text ls) m plan
+        → Left u front (flat_map line_text ls) m plan
     turn_left u answers.On lt d = left_on u lt d
     turn_left u (answers.Issued x) lt d = absurd d
     turn_left u (answers.End f) lt d = left_end u f lt d
@@ -213,23 +222,21 @@ module _ {K : Type 0} (k : Account K) (g : Given) (h : List Item) where
     -- printing stopped in the lines of a turn
     pub turn_cut : (c : K) (answer : Printed) (u : ℕ) (result : Turn) → IsCut answer → t + i < u
         → Turns g (steps_on inv.done h) result before m plan [] ls → Prints answer k b c (flat_map line_text ls)
-        → Drives (TurnsTo g h u) answer g k a c m plan
+        → Drives (TurnsTo g h u) (CutInRun g (InOneTurn g) h) answer g k a c m plan
     turn_cut c answer u result cut lt d p =
-        left_cut answer u (front ++ flat_map line_text ls) a c m plan cut
-        (prints_then k answer a b c front (flat_map line_text ls) inv.prints p) (turn_left u result lt d)
+        left_cut answer u front (flat_map line_text ls) a b c m plan cut inv.prints p (turn_left u result lt d)
 
     -- memory was refused in a turn
     pub turn_refused : (c : K) (u : ℕ) → t + i < u
         → Turns g (steps_on inv.done h) answers.Memory before m plan [] ls → Prints Done k b c (flat_map line_text ls)
-        → Drives (TurnsTo g h u) Memory g k a c m plan
+        → Drives (TurnsTo g h u) (CutInRun g (InOneTurn g) h) Memory g k a c m plan
     turn_refused c u lt d p =
-        left_refused u (front ++ flat_map line_text ls) a c m plan
-        (prints_then k Done a b c front (flat_map line_text ls) inv.prints p) (left_memory u lt d)
+        left_cut Memory u front (flat_map line_text ls) a b c m plan tt inv.prints (prints_behind k b c _ p) (left_memory u lt d)
 
     -- the end was reached
     pub turn_ends : (c : K) (u : ℕ) (e : End) → t + i < u
         → Turns g (steps_on inv.done h) (answers.End e) before m plan [] ls → Prints Done k b c (flat_map line_text ls)
-        → Drives (TurnsTo g h u) Done g k a c m plan
+        → Drives (TurnsTo g h u) (CutInRun g (InOneTurn g) h) Done g k a c m plan
     turn_ends c u e lt d p = record {
       text = front ++ text_of (ending_lines g (steps_on inv.done h) d.done d.finish);
       last = ended (steps_on d.done (steps_on inv.done h)) (turn_ahead g (steps_on d.done (steps_on inv.done h))) d.finish;
@@ -238,6 +245,7 @@ module _ {K : Type 0} (k : Account K) (g : Given) (h : List Item) where
       place = ended (steps_on d.done (steps_on inv.done h)) (turn_ahead g (steps_on d.done (steps_on inv.done h))) d.finish;
       stands = end_stands e d;
       whole = refl;
+      stopped = tt;
     }
 
 -- ---- the machine stays under way

@@ -1,9 +1,11 @@
 -- What a debugger does to a machine and to a sink.
-use Rattle.std.specs.Prelude.{◌≡◌, ℕ, Bool, true, List, drop, ◌∷◌, Option, Some, None}
+use Rattle.std.specs.Prelude.{◌≡◌, ℕ, ◌≤◌, Bool, true, List, ◌∷◌, ◌++◌, drop, length, Option, Some, None}
 use Rattle.std.specs.List.{AllByRecursion}
 use Rattle.i9_model.specs.declared.view.View.{View}
 use Rattle.i9_model.specs.PrintedText.{text_of, lines_of}
-use Rattle.i9_course.specs.Course.{Item, Step, IsCourse}
+use Rattle.i9_model.specs.Late.{turns as late_turns}
+use Rattle.i9_model.specs.Turns.{last_issue}
+use Rattle.i9_course.specs.Course.{Item, Step, course, IsCourse}
 use Rattle.i9_machine.specs.Turned.{steps_on}
 use Rattle.i9_tracer.specs.Until.{view_behind, IsPassed}
 use Rattle.i9_model.specs.declared.run.End.{End}
@@ -12,12 +14,13 @@ use Rattle.i9_schedule.specs.Plan.{Plan}
 use Rattle.i9_machine.specs.declared.machine.Machine.{Machine}
 use Rattle.i9_machine.specs.StandsFor.{StandsFor, FollowsUntil}
 use Rattle.i9_script.specs.declared.command.Command.{Command}
+use Rattle.i9_script.specs.declared.command.Command.TheVariants as commands
 use Rattle.i9_debug.specs.declared.print.Printed.{Printed}
 use Rattle.i9_debug.specs.declared.print.Printed.TheVariants as printed
 use Rattle.i9_debug.specs.declared.sessions.SessionEnd.{SessionEnd}
 use Rattle.i9_debug.specs.declared.sessions.SessionEnd.TheVariants as ends
 use Rattle.i9_debug.specs.Print.{Account, Prints, OnDone}
-use Rattle.i9_debug.specs.Session.{Place, at, ended, turn_ahead, EndsBehind, ending_lines, IsText, end_at}
+use Rattle.i9_debug.specs.Session.{Place, at, ended, turn_ahead, EndsBehind, ending_lines, Runs, told, IsText, end_at}
 
 -- a machine stands at a place of the run of what is given, and a schedule follows it as long as no end was answered
 pub record StandsAt (g : Given) (p : Place) (m : Machine) (plan : Plan) : Type 0 where
@@ -25,10 +28,33 @@ pub record StandsAt (g : Given) (p : Place) (m : Machine) (plan : Plan) : Type 0
   pub turn : m.turn ≡ p.turn
   pub follows : FollowsUntil g p.items p.end plan
 
+-- printing stopped before all was printed
+abbrev pub IsCut : Printed → Type 0
+IsCut printed.Done = ⊥
+IsCut printed.Write = Unit {0}
+IsCut printed.Memory = Unit {0}
+
+-- a fact where printing stopped
+abbrev pub OnCut : Printed → Type 0 → Type 0
+OnCut printed.Done P = Unit {0}
+OnCut printed.Write P = P
+OnCut printed.Memory P = P
+
+-- A text was printed whole, and then a front of another one, and both lead to the place at which printing stopped.
+pub record StopsAt {K : Type 0} (cut : List ℕ → List ℕ → Place → Type 0) (answer : Printed) (k : Account K) (old new : K)
+    (place : Place) : Type 0 where
+  pub whole : List ℕ
+  pub rest : List ℕ
+  pub is_cut : cut whole rest place
+  pub between : K
+  pub first : Prints printed.Done k old between whole
+  pub behind : Prints answer k between new rest
+
 -- A text that leads to a place was printed on a sink of this type, or a front of it; and the machine stands at some place
--- behind whole steps, which is that one where all was printed.
-pub record Drives {K : Type 0} (leads : List ℕ → Place → Type 0) (answer : Printed) (g : Given) (k : Account K) (old new : K)
-    (m : Machine) (plan : Plan) : Type 0 where
+-- behind whole steps, which is that one where all was printed. Where printing stopped, it is the place of the cut: all is
+-- printed as it comes.
+pub record Drives {K : Type 0} (leads : List ℕ → Place → Type 0) (cut : List ℕ → List ℕ → Place → Type 0) (answer : Printed)
+    (g : Given) (k : Account K) (old new : K) (m : Machine) (plan : Plan) : Type 0 where
   pub text : List ℕ
   pub last : Place
   pub is_text : leads text last
@@ -36,14 +62,48 @@ pub record Drives {K : Type 0} (leads : List ℕ → Place → Type 0) (answer :
   pub place : Place
   pub stands : StandsAt g place m plan
   pub whole : OnDone answer (place ≡ last)
+  pub stopped : OnCut answer (StopsAt cut answer k old new place)
+
+-- ---- where printing stopped
+
+-- records behind items that issue at one turn
+abbrev pub InOneTurn : Given → List Item → List Record → Type 0
+InOneTurn g h rs = last_issue (late_turns (course g (steps_on rs h)).late) ≤ turn_ahead g h
+
+-- one record behind items, or none
+abbrev pub AtMostOne : List Item → List Record → Type 0
+AtMostOne h rs = length rs ≤ 1
+
+-- the records of one step of a command, which prints between its steps
+abbrev pub StepOf : Given → Command → List Item → List Record → Type 0
+StepOf g (commands.Turn n) h rs = InOneTurn g h rs
+StepOf g (commands.Until a) h rs = AtMostOne h rs
+StepOf g commands.Regs h rs = ⊥
+StepOf g commands.Raw h rs = ⊥
+StepOf g commands.Held h rs = ⊥
+StepOf g (commands.Mem a n) h rs = ⊥
+StepOf g (commands.RawMem a n) h rs = ⊥
+
+-- A run was cut: what is shown of the records before is whole, and behind them only those of one step were done, or the
+-- end came with them.
+pub data CutInRun (g : Given) (step : List Item → List Record → Type 0) (h : List Item) : List ℕ → List ℕ → Place → Type 0 where
+  behind_step : (before last : List Record) (t : ℕ) → step (steps_on before h) last
+      → CutInRun g step h (text_of (lines_of before)) (text_of (lines_of last)) (at (steps_on last (steps_on before h)) t)
+  behind_end : (before last : List Record) (t : ℕ) (f : Finish) → step (steps_on before h) last
+      → CutInRun g step h (text_of (lines_of before)) (text_of (ending_lines g (steps_on before h) last f))
+      (ended (steps_on last (steps_on before h)) t f)
+
+-- A command was cut: its run was, or it ran to its place, all of it was shown, and what it tells was cut.
+pub data CutInAnswer (g : Given) (c : Command) (p : Place) : List ℕ → List ℕ → Place → Type 0 where
+  in_run : (x y : List ℕ) (q : Place) → CutInRun g (StepOf g c) p.items x y q → CutInAnswer g c p x y q
+  in_told : (x : List ℕ) (q : Place) → Runs g c p x q → CutInAnswer g c p x (told g q.items q.turn c) q
+
+-- A script was cut in a command: the text of the commands before it is whole.
+pub data CutInScript (g : Given) : List Command → Place → List ℕ → List ℕ → Place → Type 0 where
+  in_command : (before : List Command) (c : Command) (left : List Command) (p q place : Place) (x y z : List ℕ) → IsText g before p x q
+      → CutInAnswer g c q y z place → CutInScript g (before ++ c ∷ left) p (x ++ y) z place
 
 -- ---- up to a stop
-
--- printing stopped before all was printed
-abbrev pub IsCut : Printed → Type 0
-IsCut printed.Done = ⊥
-IsCut printed.Write = Unit {0}
-IsCut printed.Memory = Unit {0}
 
 -- The same as running until an instruction address, by the answers that a stop may give behind each instruction. Where
 -- printing stopped, the text may be that of the records so far, of which the stop was not asked behind the newest.
@@ -75,5 +135,5 @@ TellsEnd ends.Memory end = Unit {0}
 -- The text of a script from a place on was printed, or a front of it.
 pub record RunsScript {K : Type 0} (answer : SessionEnd) (g : Given) (p : Place) (cs : List Command) (k : Account K) (old new : K)
     (m : Machine) (plan : Plan) : Type 0 where
-  pub drives : Drives (IsText g cs p) (printed_of answer) g k old new m plan
+  pub drives : Drives (IsText g cs p) (CutInScript g cs p) (printed_of answer) g k old new m plan
   pub tells : TellsEnd answer (end_at drives.last)

@@ -24,7 +24,7 @@ pub enum Printed {
 /// Writes a line by one call of the sink.
 pub fn print_piece<K: Sink>(piece: &[u8], out: &mut K) -> Printed
     requires line { IsLine piece.now }
-    ensures prints { Prints result (account K.told K.faults K.writes K.sure) out.old out.new piece.now }
+    ensures prints { Prints result (account K.told K.faults K.writes K.sure K.pieces) out.old out.new piece.now }
     ensures takes_no_memory { result ≢ Printed.Memory }
 {
     match out.write(piece) {
@@ -37,7 +37,7 @@ pub fn print_piece<K: Sink>(piece: &[u8], out: &mut K) -> Printed
 #[tactic(auto, using(crate::proofs::Prints::prints_rules))]
 pub(crate) fn print_pieces<K: Sink>(pieces: &[Vec<u8>], out: &mut K) -> Printed
     requires lines { AreLines pieces.now }
-    ensures prints { Prints result (account K.told K.faults K.writes K.sure) out.old out.new
+    ensures prints { Prints result (account K.told K.faults K.writes K.sure K.pieces) out.old out.new
         (flat_map (λ p. p.items) pieces.now) }
     ensures takes_no_memory { result ≢ Printed.Memory }
 {
@@ -62,7 +62,7 @@ fn feed_place(text: &[u8]) -> Option<usize>
 #[tactic(auto, using(crate::proofs::Prints::prints_rules))]
 pub fn print_text<K: Sink>(text: &[u8], out: &mut K) -> Printed
     requires lined { is_lined text.now ≡ true }
-    ensures prints { Prints result (account K.told K.faults K.writes K.sure) out.old out.new text.now }
+    ensures prints { Prints result (account K.told K.faults K.writes K.sure K.pieces) out.old out.new text.now }
     ensures takes_no_memory { result ≢ Printed.Memory }
 {
     let mut rest = text;
@@ -88,7 +88,7 @@ pub fn print_refusal<K: Sink>(
     out: &mut K,
 ) -> Printed
     requires line { IsLine (refused_line what.now (line, kind)) }
-    ensures { Prints result (account K.told K.faults K.writes K.sure) out.old out.new
+    ensures { Prints result (account K.told K.faults K.writes K.sure K.pieces) out.old out.new
         (refused_line what.now (line, kind)) }
 {
     match refused_line(alloc, what, line, kind) {
@@ -107,7 +107,7 @@ pub fn print_generated<K: Sink>(
     end: End,
     out: &mut K,
 ) -> Printed
-    ensures { Prints result (account K.told K.faults K.writes K.sure) out.old out.new
+    ensures { Prints result (account K.told K.faults K.writes K.sure K.pieces) out.old out.new
         (generated_line number count events end) }
 {
     match generated_line(alloc, number, count, events, end) {
@@ -119,7 +119,7 @@ pub fn print_generated<K: Sink>(
 /// Writes the lines of l, each by one call of the sink.
 #[tactic(auto, using(crate::proofs::Prints::prints_rules))]
 pub fn print_line<K: Sink>(alloc: Global, l: &Line, out: &mut K) -> Printed
-    ensures { Prints result (account K.told K.faults K.writes K.sure) out.old out.new (line_text l.now) }
+    ensures { Prints result (account K.told K.faults K.writes K.sure K.pieces) out.old out.new (line_text l.now) }
 {
     match lines_of(alloc, l) {
         Ok(lines) => print_pieces(&lines, out),
@@ -131,7 +131,7 @@ pub fn print_line<K: Sink>(alloc: Global, l: &Line, out: &mut K) -> Printed
 #[inline(never)]
 #[tactic(auto, using(crate::proofs::Prints::prints_rules))]
 fn print_each<K: Sink>(alloc: Global, lines: &[Line], out: &mut K) -> Printed
-    ensures { Prints result (account K.told K.faults K.writes K.sure) out.old out.new (flat_map line_text lines.now) }
+    ensures { Prints result (account K.told K.faults K.writes K.sure K.pieces) out.old out.new (flat_map line_text lines.now) }
 {
     for line in lines {
         match print_line(alloc, line, out) {
@@ -147,7 +147,7 @@ fn print_each<K: Sink>(alloc: Global, lines: &[Line], out: &mut K) -> Printed
 #[inline(always)]
 #[tactic(auto, using(crate::proofs::Prints::prints_rules))]
 pub fn print_lines<K: Sink>(alloc: Global, lines: &[Line], out: &mut K) -> Printed
-    ensures { Prints result (account K.told K.faults K.writes K.sure) out.old out.new (flat_map line_text lines.now) }
+    ensures { Prints result (account K.told K.faults K.writes K.sure K.pieces) out.old out.new (flat_map line_text lines.now) }
 {
     if lines.is_empty() {
         Printed::Done

@@ -9,7 +9,7 @@ ghost use Rattle.i9_script.specs.ScriptText.{IsCommandInRange};
 ghost use Rattle.i9_tracer.specs.Closures.{TakesEachView};
 ghost use Rattle.i9_debug.specs.Print.{Prints, account};
 ghost use Rattle.i9_debug.specs.Session.{Place, at, TurnsTo, ComesTo, Runs, Answers, told};
-ghost use Rattle.i9_debug.specs.Driven.{StandsAt, Drives, StopsBy, RunsScript};
+ghost use Rattle.i9_debug.specs.Driven.{StandsAt, Drives, InOneTurn, AtMostOne, StepOf, CutInRun, CutInAnswer, StopsBy, RunsScript};
 
 use crate::place::told_lines;
 use crate::print::{Printed, print_lines, print_pieces};
@@ -45,7 +45,8 @@ fn run_turns<K: Sink>(
     requires stands { IsUnderWay m.old plan.old }
     requires some { 1 ≤ count }
     ensures { (g : Given) (h : List Item) → StandsFor g h None m.old → Follows g h plan.old
-        → Drives (TurnsTo g h (m.old.turn + count)) result g (account K.told K.faults K.writes K.sure) out.old out.new m.new plan.new }
+        → Drives (TurnsTo g h (m.old.turn + count)) (CutInRun g (InOneTurn g) h) result g
+        (account K.told K.faults K.writes K.sure K.pieces) out.old out.new m.new plan.new }
 {
     let mut lines = Vec::new(alloc);
     for _passed in 0..count {
@@ -78,8 +79,8 @@ fn run_to_stop<K: Sink, F: Fn(&View) -> bool + ViewTest>(
 ) -> Printed
     requires stands { IsUnderWay m.old plan.old }
     ensures { (g : Given) (h : List Item) → StandsFor g h None m.old → Follows g h plan.old
-        → Drives (StopsBy result (F.ViewTest.allows s.now) g h) result g
-        (account K.told K.faults K.writes K.sure) out.old out.new m.new plan.new }
+        → Drives (StopsBy result (F.ViewTest.allows s.now) g h) (CutInRun g AtMostOne h) result g
+        (account K.told K.faults K.writes K.sure K.pieces) out.old out.new m.new plan.new }
 {
     let mut lines = Vec::new(alloc);
     loop {
@@ -114,8 +115,8 @@ fn run_while_not<K: Sink, F: Fn(&View) -> bool + ViewTest>(
     requires stands { IsUnderWay m.old plan.old }
     requires takes { TakesEachView (F.ViewTest.can_test f) }
     ensures { (g : Given) (h : List Item) → StandsFor g h None m.old → Follows g h plan.old
-        → Drives (StopsBy result (F.ViewTest.allows f) g h) result g
-        (account K.told K.faults K.writes K.sure) out.old out.new m.new plan.new }
+        → Drives (StopsBy result (F.ViewTest.allows f) g h) (CutInRun g AtMostOne h) result g
+        (account K.told K.faults K.writes K.sure K.pieces) out.old out.new m.new plan.new }
 {
     run_to_stop(alloc, m, plan, &Stop::new(f), out)
 }
@@ -131,7 +132,8 @@ fn run_to<K: Sink>(
 ) -> Printed
     requires stands { IsUnderWay m.old plan.old }
     ensures { (g : Given) (h : List Item) → StandsFor g h None m.old → Follows g h plan.old
-        → Drives (ComesTo g h address) result g (account K.told K.faults K.writes K.sure) out.old out.new m.new plan.new }
+        → Drives (ComesTo g h address) (CutInRun g AtMostOne h) result g
+        (account K.told K.faults K.writes K.sure K.pieces) out.old out.new m.new plan.new }
 {
     let is_there = |v: &View|
         ensures { result ≡ nat_eq v.now.ip address }
@@ -150,7 +152,8 @@ fn run_on<K: Sink>(
     requires stands { IsUnderWay m.old plan.old }
     requires range { IsCommandInRange c.now }
     ensures { (g : Given) (h : List Item) → StandsFor g h None m.old → Follows g h plan.old
-        → Drives (Runs g c.now (at h m.old.turn)) result g (account K.told K.faults K.writes K.sure) out.old out.new m.new plan.new }
+        → Drives (Runs g c.now (at h m.old.turn)) (CutInRun g (StepOf g c.now) h) result g
+        (account K.told K.faults K.writes K.sure K.pieces) out.old out.new m.new plan.new }
 {
     match c {
         Command::Turn(count) => run_turns(alloc, m, plan, *count, out),
@@ -174,7 +177,8 @@ fn run_command<K: Sink>(
     requires stands { IsInRun m.old plan.old }
     requires range { IsCommandInRange c.now }
     ensures { (g : Given) (p : Place) → StandsAt g p m.old plan.old
-        → Drives (Runs g c.now p) result g (account K.told K.faults K.writes K.sure) out.old out.new m.new plan.new }
+        → Drives (Runs g c.now p) (CutInRun g (StepOf g c.now) p.items) result g
+        (account K.told K.faults K.writes K.sure K.pieces) out.old out.new m.new plan.new }
 {
     match m.ended() {
         None => run_on(alloc, m, plan, c, out),
@@ -185,7 +189,7 @@ fn run_command<K: Sink>(
 /// Prints what a command tells of the place at which a machine stands.
 fn tell<K: Sink>(alloc: Global, m: &Machine, c: &Command, out: &mut K) -> Printed
     ensures { (g : Given) (h : List Item) (end : Option Finish) → StandsFor g h end m.now
-        → Prints result (account K.told K.faults K.writes K.sure) out.old out.new (told g h m.now.turn c.now) }
+        → Prints result (account K.told K.faults K.writes K.sure K.pieces) out.old out.new (told g h m.now.turn c.now) }
 {
     match told_lines(alloc, m, c) {
         Ok(lines) => print_pieces(&lines, out),
@@ -204,7 +208,8 @@ fn answer<K: Sink>(
     requires stands { IsInRun m.old plan.old }
     requires range { IsCommandInRange c.now }
     ensures { (g : Given) (p : Place) → StandsAt g p m.old plan.old
-        → Drives (Answers g c.now p) result g (account K.told K.faults K.writes K.sure) out.old out.new m.new plan.new }
+        → Drives (Answers g c.now p) (CutInAnswer g c.now p) result g
+        (account K.told K.faults K.writes K.sure K.pieces) out.old out.new m.new plan.new }
 {
     match run_command(alloc, m, plan, c, out) {
         Printed::Done => tell(alloc, m, c, out),
@@ -230,7 +235,7 @@ pub fn session<K: Sink>(
     requires stands { IsInRun m.old plan.old }
     ensures in_run { IsInRun m.new plan.new }
     ensures text { (g : Given) (p : Place) → StandsAt g p m.old plan.old
-        → RunsScript result g p s.now (account K.told K.faults K.writes K.sure) out.old out.new m.new plan.new }
+        → RunsScript result g p s.now (account K.told K.faults K.writes K.sure K.pieces) out.old out.new m.new plan.new }
 {
     let commands = s.commands();
     for c in commands {

@@ -1,5 +1,5 @@
 -- A status is answered for what was printed.
-use Rattle.std.proofs.Common.{ℕ, ◌<◌, List, length, ◌+◌, refl, sym, subst, add-zero, arith}
+use Rattle.std.proofs.Common.{ℕ, ◌<◌, List, length, ◌+◌, refl, sym, subst, add-zero, inl, inr, arith}
 use Rattle.i9_debug.specs.declared.print.Printed.{Printed}
 use Rattle.i9_debug.specs.declared.print.Printed.TheVariants.{Done, Write, Memory}
 use Rattle.i9_debug.specs.Print.{Account, Prints}
@@ -16,7 +16,7 @@ module _ {K : Type 0} (k : Account K) where
       → Prints p k a b text → Answers gives (code_for p code) k a b
   answers_printed gives Done code text a b known is_given printed = record {
     known = omega arith;
-    whole = λ _. record { text = text; is_given = is_given; appended = printed.leaves; lines = printed.lines };
+    whole = λ _. record { text = text; is_given = is_given; appended = printed.leaves; lines = printed.lines; pieces = printed.pieces };
     front = λ high. absurd (omega arith);
     write = λ six. absurd (omega arith);
     failed = λ more. absurd (omega (arith, printed.cause));
@@ -25,7 +25,7 @@ module _ {K : Type 0} (k : Account K) where
   answers_printed gives Write code text a b known is_given printed = record {
     known = omega arith;
     whole = λ low. absurd (omega arith);
-    front = λ _. record { code = code; text = text; is_given = is_given; appended = printed.leaves; lines = printed.lines };
+    front = λ _. record { code = code; text = text; is_given = is_given; appended = printed.leaves; lines = printed.lines; pieces = inl printed.pieces };
     write = λ _. printed.cause;
     failed = λ _. refl;
     calm = λ all. let q = printed.calm 0 (sure_of a text (all code text is_given)) in absurd (q.0 refl);
@@ -33,7 +33,7 @@ module _ {K : Type 0} (k : Account K) where
   answers_printed gives Memory code text a b known is_given printed = record {
     known = omega arith;
     whole = λ low. absurd (omega arith);
-    front = λ _. record { code = code; text = text; is_given = is_given; appended = printed.leaves; lines = printed.lines };
+    front = λ _. record { code = code; text = text; is_given = is_given; appended = printed.leaves; lines = printed.lines; pieces = inr printed.pieces };
     write = λ six. absurd (omega arith);
     failed = λ more. absurd (omega (arith, printed.cause));
     calm = λ all. (λ six. omega arith, printed.cause);
@@ -44,7 +44,7 @@ module _ {K : Type 0} (k : Account K) where
   answers_nothing gives code text a is_given = let printed = prints_refused k a text in record {
     known = omega arith;
     whole = λ low. absurd (omega arith);
-    front = λ _. record { code = code; text = text; is_given = is_given; appended = printed.leaves; lines = printed.lines };
+    front = λ _. record { code = code; text = text; is_given = is_given; appended = printed.leaves; lines = printed.lines; pieces = inr printed.pieces };
     write = λ six. absurd (omega arith);
     failed = λ more. absurd (omega arith);
     calm = λ all. (λ six. omega arith, refl);
@@ -54,10 +54,10 @@ module _ {K : Type 0} (k : Account K) where
   pub answers_wider : (gives wider : ℕ → List ℕ → Type 0) (code : ℕ) (a b : K) → ((c : ℕ) (t : List ℕ) → gives c t → wider c t) → Answers gives code k a b → Answers wider code k a b
   answers_wider gives wider code a b more h = record {
     known = h.known;
-    whole = λ low. let w = h.whole low in record { text = w.text; is_given = more code w.text w.is_given; appended = w.appended; lines = w.lines };
+    whole = λ low. let w = h.whole low in record { text = w.text; is_given = more code w.text w.is_given; appended = w.appended; lines = w.lines; pieces = w.pieces };
     front = λ high.
         let f = h.front high in
-        record { code = f.code; text = f.text; is_given = more f.code f.text f.is_given; appended = f.appended; lines = f.lines };
+        record { code = f.code; text = f.text; is_given = more f.code f.text f.is_given; appended = f.appended; lines = f.lines; pieces = f.pieces };
     write = h.write;
     failed = h.failed;
     calm = λ all. h.calm (λ c t g. all c t (more c t g));

@@ -1,10 +1,10 @@
 -- What is printed while an image runs is the text of its run, or a front of it.
-use Rattle.std.proofs.Common.{◌≡◌, ◌≢◌, ℕ, Bool, false, List, [], ◌∷◌, ◌++◌, map, flat_map, Option, Some, None, refl, sym, ap, ◌∙◌, subst, append_assoc, arith}
+use Rattle.std.proofs.Common.{◌≡◌, ◌≢◌, ℕ, ◌≤◌, Bool, false, List, [], ◌∷◌, ◌++◌, length, flat_map, Option, Some, None, refl, sym, ap, ◌∙◌, subst, append_assoc, arith}
 use Rattle.std.proofs.lemmas.List.{append-nil}
 use Rattle.i9_model.specs.State.{State}
 use Rattle.i9_model.specs.Step.{first_word}
 use Rattle.i9_model.specs.declared.run.End.{End}
-use Rattle.i9_model.specs.Run.{Given, Kind, Instruction, Faulted, Entered, Interrupted, Reached, Record, counts_of, state_after, Finish, finish}
+use Rattle.i9_model.specs.Run.{Given, Kind, Instruction, Faulted, Entered, Interrupted, Reached, Record, counts_of, state_after, Finish}
 use Rattle.i9_model.specs.PrintedText.{text_of, lines_of, record_lines, end_lines, run_text}
 use Rattle.i9_model.proofs.Lines.{text_of-append}
 use Rattle.i9_course.specs.LateRun.{steps, IsLatePast, finish_after}
@@ -15,7 +15,6 @@ use Rattle.i9_machine.specs.declared.line.Turn.{Turn}
 use Rattle.i9_machine.specs.declared.line.Turn.TheVariants as turns
 use Rattle.i9_machine.specs.declared.machine.Machine.{Machine}
 use Rattle.i9_schedule.specs.Plan.{Plan}
-use Rattle.i9_machine.specs.Line.{shown_of}
 use Rattle.i9_machine.specs.Issue.{TellsIssue}
 use Rattle.i9_machine.specs.Step.{TellsRecord}
 use Rattle.i9_machine.specs.StandsFor.{StandsFor, Follows, IsUnderWay, DoesNext, Comes}
@@ -26,21 +25,14 @@ use Rattle.i9_tool.specs.declared.run.Ran.TheVariants as ran
 use Rattle.i9_debug.specs.Print.{Account, Prints, line_text}
 use Rattle.i9_tool.specs.declared.words.Range.{Range}
 use Rattle.i9_tool.specs.Traced.{is_within, line_where, issued_words, issued_line, traced_line, traced_lines, traced_text}
-use Rattle.i9_tool.specs.Run.{RunsAs, Runs, TracedBy, traced_none, traced_next, IsCut, StopsWith, at_end, before_end, TracesBy, AllowsTurn, TellsEnd, turn_text, step_text, printed_of}
-use Rattle.i9_debug.proofs.Prints.{prints_stop, prints_cut, prints_same, prints_refused}
+use Rattle.i9_tool.specs.Run.{RunsAs, Runs, TracedBy, traced_none, traced_next, IsCut, StopsWith, at_end, before_end, TracesBy, behind_step, behind_end, DrivesBy, AllowsTurn, TellsEnd, turn_text, step_text, printed_of}
+use Rattle.i9_debug.specs.Session.{at, ended}
+use Rattle.i9_debug.proofs.Prints.{prints_none, prints_then, prints_stop, prints_behind, prints_same, prints_refused}
+use Rattle.i9_debug.proofs.Turns.{lines-text, on_cut}
 
 -- the machine of a run stands for its records
 pub under_way : (g : Given) (rs : List Record) (m : Machine) (plan : Plan) → StandsFor g (steps rs) None m → Follows g (steps rs) plan → IsUnderWay m plan
 under_way g rs m plan stands follows = record { given = g; items = steps rs; stands = stands; follows = follows }
-
--- the text of lines is that of what they show
-lines-text : (ls : List Line) → flat_map line_text ls ≡ text_of (map shown_of ls)
-lines-text [] = refl
-lines-text (l ∷ ls) = ap (λ (t : List ℕ). line_text l ++ t) (lines-text ls)
-
--- no lines are no text
-nothing_more : (text : List ℕ) (ls : List Line) → ls ≡ [] → text ++ flat_map line_text ls ≡ text
-nothing_more text ls none = ap (λ (x : List Line). text ++ flat_map line_text x) none ∙ append-nil text
 
 -- ---- where printing stopped before its end
 
@@ -104,7 +96,7 @@ module _ (allows : ℕ → Bool → Type 0) where
         let lines : text_of (record_lines d.done) ≡ flat_map line_text ls = ap text_of (sym d.lines) ∙ sym (lines-text ls) in
         ap (λ (t : List ℕ). t ++ text_of (record_lines d.done)) (sym told) ∙ ap (λ (t : List ℕ). turn_text answer turn ++ t) lines
 
-    pub issued_traced : (text : List ℕ) (answer : Bool) (t : Issued) (m : Machine) (plan : Plan) (ls : List Line)
+    issued_traced : (text : List ℕ) (answer : Bool) (t : Issued) (m : Machine) (plan : Plan) (ls : List Line)
         → (d : DoesNext g (steps rs) (turns.Issued t) before m plan [] ls)
         → TracedBy allows rs text → allows t.address answer
         → TracedBy allows (d.done ∷ rs) (text ++ step_text answer (turns.Issued t) ls)
@@ -121,23 +113,6 @@ module _ (allows : ℕ → Bool → Type 0) where
         let same = step_done answer turns.On m plan ls d (told_on answer d.done.kind d.done.before d.tells) in
         subst (λ (x : List ℕ). TracedBy allows (d.done ∷ rs) (text ++ x)) same
         (traced_next rs text d.done answer traced (allowed_on answer d.done.kind d.done.before d.tells))
-
-    -- the run goes on with one more record where no instruction is told
-    pub record GoesOn (answer : Bool) (text : List ℕ) (m : Machine) (plan : Plan) (ls : List Line) : Type 0 where
-      pub records : List Record
-      pub stands : StandsFor g (steps records) None m
-      pub follows : Follows g (steps records) plan
-      pub traced : TracedBy allows records (text ++ step_text answer turns.On ls)
-
-    pub goes_on : (text : List ℕ) (answer : Bool) (m : Machine) (plan : Plan) (ls : List Line)
-        → Comes g (steps rs) turns.On before m plan [] ls
-        → TracedBy allows rs text → GoesOn answer text m plan ls
-    goes_on text answer m plan ls d traced = record {
-      records = d.done ∷ rs;
-      stands = d.stands;
-      follows = d.follows;
-      traced = on_traced text answer m plan ls d traced;
-    }
 
     -- the text of the end's step
     end_text : (answer : Bool) (e : End) (m : Machine) (plan : Plan) (ls : List Line)
@@ -173,60 +148,114 @@ module _ (allows : ℕ → Bool → Type 0) where
     pub nothing_yet : (a : K) → TracesBy ran.Memory allows g k a a
     nothing_yet a = record { records = []; past = tt; text = []; traced = traced_none; rest = []; stops = before_end ran.Memory tt; prints = prints_refused k a _ }
 
-    module _ (rs : List Record) (before : Machine) where
-      -- printing stopped in the text of a step
-      pub in_step : (answer : Ran) (text : List ℕ) (passes : Bool) (turn : Turn) (m : Machine) (plan : Plan)
-          (ls : List Line) (a b : K) → IsCut answer → IsLatePast g rs → Comes g (steps rs) turn before m plan [] ls
-          → TracedBy allows rs text → AllowsTurn allows turn passes
-          → Printing (printed_of answer) a b (text ++ step_text passes turn ls) → TracesBy answer allows g k a b
-      in_step answer text passes turns.On m plan ls a b cut past d traced allowed p =
-          let on = goes_on g rs before text passes m plan ls d traced in
-          behind_record answer on.records _ a b cut on.stands.past on.traced p
-      in_step answer text passes (turns.Issued t) m plan ls a b cut past d traced allowed p =
-          behind_record answer (d.done ∷ rs) _ a b cut d.stands.past
-          (issued_traced g rs before text passes t m plan ls d traced allowed) p
-      in_step answer text passes (turns.End e) m plan ls a b cut past d traced allowed p = record {
-        records = rs;
-        past = past;
-        text = text;
-        traced = traced;
-        rest = text_of (end_lines (state_after g rs) d.finish);
-        stops = at_end answer d.finish (ends g rs before e m plan ls d) (tells_cut answer d.finish cut);
-        prints = prints_same k (printed_of answer) a b _ _ (ap (λ (t : List ℕ). text ++ t) (end_text g rs before passes e m plan ls d)) p;
-      }
-      in_step answer text passes turns.Memory m plan ls a b cut past d traced allowed p =
-          behind_record answer rs text a b cut past traced
-          (prints_same k (printed_of answer) a b _ _ (nothing_more text ls d.lines) p)
+    -- Records were done from the start of the run, and their text was printed.
+    pub record Traced (a b : K) (m : Machine) (plan : Plan) : Type 0 where
+      pub done : List Record
+      pub stands : StandsFor g (steps done) None m
+      pub follows : Follows g (steps done) plan
+      pub text : List ℕ
+      pub traced : TracedBy allows done text
+      pub prints : Printing Done a b text
 
-      -- memory was refused for a step
-      pub ran_refused : (text : List ℕ) (passes : Bool) (m : Machine) (plan : Plan) (ls : List Line) (a b : K)
-          → IsLatePast g rs → Comes g (steps rs) turns.Memory before m plan [] ls
-          → TracedBy allows rs text → Printing Done a b (text ++ step_text passes turns.Memory ls)
-          → TracesBy ran.Memory allows g k a b
-      ran_refused text passes m plan ls a b past d traced p = record {
-        records = rs;
-        past = past;
-        text = text;
-        traced = traced;
-        rest = [];
-        stops = before_end ran.Memory tt;
-        prints = prints_cut k a b text [] (prints_same k Done a b _ _ (nothing_more text ls d.lines) p);
+    pub none_done : (a : K) (m : Machine) (plan : Plan) → StandsFor g [] None m → Follows g [] plan → Traced a a m plan
+    none_done a m plan stands follows =
+        record { done = []; stands = stands; follows = follows; text = []; traced = traced_none; prints = prints_none k a }
+
+    module _ (a b c : K) (old before m : Machine) (was plan : Plan) (ls : List Line) (passes : Bool) (inv : Traced a b old was) where
+      abbrev rs : List Record
+      rs = inv.done
+
+      behind : (answer : Printed) (x : List ℕ) → Printing answer b c x → Printing answer a c (inv.text ++ x)
+      behind answer x p = prints_then k answer a b c inv.text x inv.prints p
+
+      -- a step was done
+      pub on_done : Comes g (steps rs) turns.On before m plan [] ls → Printing Done b c (step_text passes turns.On ls) → Traced a c m plan
+      on_done d p = record {
+        done = d.done ∷ rs;
+        stands = d.stands;
+        follows = d.follows;
+        text = inv.text ++ step_text passes turns.On ls;
+        traced = on_traced g rs before inv.text passes m plan ls d inv.traced;
+        prints = behind Done _ p;
+      }
+
+      pub issued_done : (t : Issued) → Comes g (steps rs) (turns.Issued t) before m plan [] ls → allows t.address passes
+          → Printing Done b c (step_text passes (turns.Issued t) ls) → Traced a c m plan
+      issued_done t d allowed p = record {
+        done = d.done ∷ rs;
+        stands = d.stands;
+        follows = d.follows;
+        text = inv.text ++ step_text passes (turns.Issued t) ls;
+        traced = issued_traced g rs before inv.text passes t m plan ls d inv.traced allowed;
+        prints = behind Done _ p;
+      }
+
+      -- printing stopped in the text of a record more, or none
+      cut_by : (answer : Ran) (last : List Record) (x : List ℕ) → IsCut answer → length last ≤ 1
+          → StandsFor g (steps (last ++ rs)) None m → Follows g (steps (last ++ rs)) plan
+          → TracedBy allows (last ++ rs) (inv.text ++ x) → Printing (printed_of answer) b c x → DrivesBy answer allows g k a c m plan
+      cut_by answer last x cut few stands follows traced p = record {
+        traces = behind_record answer (last ++ rs) (inv.text ++ x) a c cut stands.past traced (behind (printed_of answer) x p);
+        place = at (steps (last ++ rs)) m.turn;
+        stands = record { stands = stands; turn = refl; follows = follows };
+        stopped = on_cut (printed_of answer) _ (record {
+          whole = inv.text;
+          rest = x;
+          is_cut = behind_step rs last inv.text x m.turn few inv.traced traced;
+          between = b;
+          first = inv.prints;
+          behind = p;
+        });
       }
 
       -- the end was reached
-      pub ran_done : (text : List ℕ) (passes : Bool) (e : End) (m : Machine) (plan : Plan) (ls : List Line) (a b : K)
-          → IsLatePast g rs → Comes g (steps rs) (turns.End e) before m plan [] ls
-          → TracedBy allows rs text → Printing Done a b (text ++ step_text passes (turns.End e) ls)
-          → TracesBy (ran.Done e) allows g k a b
-      ran_done text passes e m plan ls a b past d traced p = record {
-        records = rs;
-        past = past;
-        text = text;
-        traced = traced;
-        rest = text_of (end_lines (state_after g rs) d.finish);
-        stops = at_end (ran.Done e) d.finish (ends g rs before e m plan ls d) (sym d.answers);
-        prints = prints_same k Done a b _ _ (ap (λ (t : List ℕ). text ++ t) (end_text g rs before passes e m plan ls d)) p;
-      }
+      pub at_the_end : (answer : Ran) (e : End) → (d : Comes g (steps rs) (turns.End e) before m plan [] ls) → TellsEnd answer d.finish
+          → Printing (printed_of answer) b c (step_text passes (turns.End e) ls) → DrivesBy answer allows g k a c m plan
+      at_the_end answer e d tells p =
+          let last = text_of (end_lines (state_after g rs) d.finish) in
+          let said : Printing (printed_of answer) b c last =
+          prints_same k (printed_of answer) b c _ _ (end_text g rs before passes e m plan ls d) p in
+          record {
+            traces = record {
+              records = rs;
+              past = d.stands.past;
+              text = inv.text;
+              traced = inv.traced;
+              rest = last;
+              stops = at_end answer d.finish (ends g rs before e m plan ls d) tells;
+              prints = behind (printed_of answer) last said;
+            };
+            place = ended (steps rs) m.turn d.finish;
+            stands = record { stands = d.stands; turn = refl; follows = tt };
+            stopped = on_cut (printed_of answer) _ (record {
+              whole = inv.text;
+              rest = last;
+              is_cut = behind_end rs inv.text m.turn d.finish inv.traced;
+              between = b;
+              first = inv.prints;
+              behind = said;
+            });
+          }
+
+      -- printing stopped in the text of a step
+      pub in_step : (answer : Ran) (turn : Turn) → IsCut answer → Comes g (steps rs) turn before m plan [] ls
+          → AllowsTurn allows turn passes → Printing (printed_of answer) b c (step_text passes turn ls) → DrivesBy answer allows g k a c m plan
+      in_step answer turns.On cut d allowed p =
+          cut_by answer (d.done ∷ []) _ cut (omega arith) d.stands d.follows (on_traced g rs before inv.text passes m plan ls d inv.traced) p
+      in_step answer (turns.Issued t) cut d allowed p =
+          cut_by answer (d.done ∷ []) _ cut (omega arith) d.stands d.follows
+          (issued_traced g rs before inv.text passes t m plan ls d inv.traced allowed) p
+      in_step answer (turns.End e) cut d allowed p = at_the_end answer e d (tells_cut answer d.finish cut) p
+      in_step answer turns.Memory cut d allowed p =
+          let none : step_text passes turns.Memory ls ≡ [] = ap (flat_map line_text) d.lines in
+          cut_by answer [] [] cut (omega arith) d.stands d.follows
+          (subst (λ (t : List ℕ). TracedBy allows rs t) (sym (append-nil inv.text)) inv.traced)
+          (prints_same k (printed_of answer) b c _ _ none p)
+
+      -- memory was refused for a step
+      pub ran_refused : Comes g (steps rs) turns.Memory before m plan [] ls → Printing Done b c (step_text passes turns.Memory ls)
+          → DrivesBy ran.Memory allows g k a c m plan
+      ran_refused d p = in_step ran.Memory turns.Memory tt d tt (prints_behind k b c _ p)
 
 -- ---- a relation that allows one answer at each address
 

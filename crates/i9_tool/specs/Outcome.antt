@@ -29,7 +29,7 @@ use Rattle.i9_generator.specs.Generator.{generated_source, generated_schedule}
 use Rattle.i9_outside.specs.declared.traits.TheConstants.{FILE_LIMIT}
 use Rattle.i9_debug.specs.declared.print.Printed.{Printed}
 use Rattle.i9_debug.specs.declared.print.Printed.TheVariants as printed
-use Rattle.i9_debug.specs.Print.{Account, CountsUpTo, line_count, counted_on}
+use Rattle.i9_debug.specs.Print.{Account, CountsUpTo, TakesLines, TakesFront, LeavesLines, line_count, counted_on}
 use Rattle.i9_outside.specs.Counts.{Rose}
 use Rattle.i9_outside.specs.Traits.{IsFile, AppendsFront}
 
@@ -137,13 +137,14 @@ names_of asked = names (files_for asked)
 abbrev pub Outcomes : {F Z : Type 0} → (F → List ℕ → Option (List ℕ)) → (F → List ℕ → ℕ) → F → F → List (String Z) → ℕ → List ℕ → Type 0
 Outcomes told faults old new words code text = Gives (told old) (rose_in faults old new) (asked_for words) code text
 
--- The status and its text were given whole, by as many writes as the text has lines; or a front of a text that could have
--- been, perhaps nothing of it, by at most as many.
+-- The status and its text were given whole, by as many writes as the text has lines, each of which took one of them; or a
+-- front of a text that could have been, perhaps nothing of it, by at most as many.
 pub record GivesWhole {K : Type 0} (gives : ℕ → List ℕ → Type 0) (code : ℕ) (k : Account K) (old new : K) : Type 0 where
   pub text : List ℕ
   pub is_given : gives code text
   pub appended : Appends (k.told old) (k.told new) text
   pub lines : k.writes new ≡ counted_on (k.writes old) (line_count text)
+  pub pieces : TakesLines k.pieces [] [] old new text
 
 pub record GivesFront {K : Type 0} (gives : ℕ → List ℕ → Type 0) (k : Account K) (old new : K) : Type 0 where
   pub code : ℕ
@@ -151,6 +152,7 @@ pub record GivesFront {K : Type 0} (gives : ℕ → List ℕ → Type 0) (k : Ac
   pub is_given : gives code text
   pub appended : AppendsFront (k.told old) (k.told new) text
   pub lines : CountsUpTo (line_count text) (k.writes old) (k.writes new)
+  pub pieces : TakesFront k.pieces old new text ⊎ LeavesLines k.pieces old new text
 
 -- What a call does that answers a status of these on a sink: 6 where a write failed and 7 where memory was refused.
 pub record Answers {K : Type 0} (gives : ℕ → List ℕ → Type 0) (code : ℕ) (k : Account K) (old new : K) : Type 0 where

@@ -1,12 +1,13 @@
 -- What running an image does to a sink, and what a run comes to.
-use Rattle.std.specs.Prelude.{◌≡◌, ℕ, Bool, List, [], ◌∷◌, ◌++◌, length, flat_map, Option, Some}
-use Rattle.i9_model.specs.declared.run.End.{End}
-use Rattle.i9_model.specs.Run.{Given, Record, counts_of, state_after, Finish, reached_in, finish}
+use Rattle.std.specs.Prelude.{◌≡◌, ℕ, ◌≤◌, Bool, List, [], ◌∷◌, ◌++◌, length, flat_map, Option, Some}
+use Rattle.i9_model.specs.Run.{Given, Record, counts_of, state_after, Finish, reached_in}
 use Rattle.i9_model.specs.PrintedText.{text_of, record_lines, end_lines}
-use Rattle.i9_course.specs.LateRun.{IsLatePast, IsLateRun, finish_after}
+use Rattle.i9_course.specs.LateRun.{steps, IsLatePast, IsLateRun, finish_after}
 use Rattle.i9_machine.specs.declared.line.Line.{Line}
 use Rattle.i9_machine.specs.declared.line.Turn.{Turn}
 use Rattle.i9_machine.specs.declared.line.Turn.TheVariants as turns
+use Rattle.i9_machine.specs.declared.machine.Machine.{Machine}
+use Rattle.i9_schedule.specs.Plan.{Plan}
 use Rattle.i9_tool.specs.declared.words.Range.{Range}
 use Rattle.i9_tool.specs.Traced.{line_where, traced_line, printed_text}
 use Rattle.i9_debug.specs.declared.print.Printed.{Printed}
@@ -15,6 +16,8 @@ use Rattle.i9_tool.specs.declared.run.Counted.{Counted}
 use Rattle.i9_tool.specs.declared.run.Ran.{Ran}
 use Rattle.i9_tool.specs.declared.run.Ran.TheVariants as ran
 use Rattle.i9_debug.specs.Print.{Account, Prints, line_text}
+use Rattle.i9_debug.specs.Session.{Place, at, ended}
+use Rattle.i9_debug.specs.Driven.{StandsAt, OnCut, StopsAt}
 
 -- how the printing of the run's text ended
 abbrev pub printed_of : Ran → Printed
@@ -71,6 +74,22 @@ pub record TracesBy {K : Type 0} (answer : Ran) (allows : ℕ → Bool → Type 
   pub rest : List ℕ
   pub stops : StopsWith g records answer rest
   pub prints : Prints (printed_of answer) k old new (text ++ rest)
+
+-- A traced run was cut: the text of the records before is whole, and behind them one more was done at most, or the end came.
+pub data CutInTrace (allows : ℕ → Bool → Type 0) (g : Given) : List ℕ → List ℕ → Place → Type 0 where
+  behind_step : (before last : List Record) (x y : List ℕ) (t : ℕ) → length last ≤ 1 → TracedBy allows before x
+      → TracedBy allows (last ++ before) (x ++ y) → CutInTrace allows g x y (at (steps (last ++ before)) t)
+  behind_end : (before : List Record) (x : List ℕ) (t : ℕ) (f : Finish) → TracedBy allows before x
+      → CutInTrace allows g x (text_of (end_lines (state_after g before) f)) (ended (steps before) t f)
+
+-- The same of a machine, which stands behind what was done. Where printing stopped, that is the place of the cut: all is
+-- printed as it comes.
+pub record DrivesBy {K : Type 0} (answer : Ran) (allows : ℕ → Bool → Type 0) (g : Given) (k : Account K) (old new : K)
+    (m : Machine) (plan : Plan) : Type 0 where
+  pub traces : TracesBy answer allows g k old new
+  pub place : Place
+  pub stands : StandsAt g place m plan
+  pub stopped : OnCut (printed_of answer) (StopsAt (CutInTrace allows g) (printed_of answer) k old new place)
 
 -- an answer is allowed at the address of a step's instruction
 abbrev pub AllowsTurn : (ℕ → Bool → Type 0) → Turn → Bool → Type 0

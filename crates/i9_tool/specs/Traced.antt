@@ -3,7 +3,6 @@ use Rattle.std.specs.Prelude.{ℕ, Bool, ◌==◌, ◌&&◌, nat_le, if◌then�
 use Rattle.i9_isa.specs.Words.{words_of}
 use Rattle.i9_model.specs.State.{State}
 use Rattle.i9_model.specs.Step.{first_word, next_word}
-use Rattle.i9_model.specs.declared.run.End.{End}
 use Rattle.i9_model.specs.Run.{Given, Kind, Instruction, Faulted, Entered, Interrupted, Reached, Record, faulted_words, state_after, Finish}
 use Rattle.i9_model.specs.PrintedText.{text_of, record_lines, end_lines, run_text}
 use Rattle.i9_tracer.specs.Trace.{trace_text}

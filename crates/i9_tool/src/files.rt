@@ -69,7 +69,7 @@ pub(crate) fn fetch_file<F: Files, K: Sink>(
     ensures fetches { FetchesOne (shelf F.told F.faults F.fetches F.sure) name.now result files.old files.new }
     ensures unwritten { IfOk result (λ file. out.new ≡ out.old) }
     ensures answers { IfErr result (λ status. AnswersMiss kind (F.told files.old name.now) (rose_in F.faults files.old files.new name.now)
-        status.code (account K.told K.faults K.writes K.sure) out.old out.new) }
+        status.code (account K.told K.faults K.writes K.sure K.pieces) out.old out.new) }
 {
     let mut file = Vec::new(alloc);
     match files.fetch(alloc, name, &mut file) {
@@ -93,7 +93,7 @@ pub(crate) fn refuse<K: Sink>(
     out: &mut K,
 ) -> Status
     ensures answers { Answers (Only (refusal_of kind) (refused_line (word_of kind) (line, fault)))
-        result.code (account K.told K.faults K.writes K.sure) out.old out.new }
+        result.code (account K.told K.faults K.writes K.sure K.pieces) out.old out.new }
     ensures read { result.code ≢ 5 }
 {
     let printed = print_refusal(alloc, word_of(kind), line, fault, out);

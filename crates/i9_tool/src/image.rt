@@ -56,7 +56,7 @@ fn print_run<K: Sink>(
     requires begins { plan.old.place ≡ 0 }
     requires plan { IsPlan plan.old.events }
     ensures answers { Answers (RunGives sets limit traced (pairs_of image.now) plan.old.events)
-        result.code (account K.told K.faults K.writes K.sure) out.old out.new }
+        result.code (account K.told K.faults K.writes K.sure K.pieces) out.old out.new }
     ensures read { result.code ≢ 5 }
 {
     status_of_run(run(alloc, image, plan, sets, limit, traced, out))
@@ -76,7 +76,7 @@ fn run_driven<F: Files, K: Sink>(
     requires plan { IsPlan plan.old.events }
     ensures answers { Answers (DriverGives (F.told files.old) (rose_in F.faults files.old files.new)
         (driver_by words.now.driver) words.now.sets (pairs_of image.now) plan.old.events)
-        result.code (account K.told K.faults K.writes K.sure) out.old out.new }
+        result.code (account K.told K.faults K.writes K.sure K.pieces) out.old out.new }
     ensures fetches { Fetches (shelf F.told F.faults F.fetches F.sure) result.code
         (driver_files (driver_by words.now.driver)) files.old files.new }
 {
@@ -110,7 +110,7 @@ fn run_alone<F: Files, K: Sink>(
     requires can { CanRun words.now }
     ensures answers { Answers (DriverGives (F.told files.old) (rose_in F.faults files.old files.new)
         (driver_by words.now.driver) words.now.sets (pairs_of image.now) [])
-        result.code (account K.told K.faults K.writes K.sure) out.old out.new }
+        result.code (account K.told K.faults K.writes K.sure K.pieces) out.old out.new }
     ensures fetches { FetchesOrNone (shelf F.told F.faults F.fetches F.sure) result.code
         (driver_files (driver_by words.now.driver)) files.old files.new }
 {
@@ -133,7 +133,7 @@ fn use_schedule<F: Files, K: Sink>(
     requires sized { length file.now ≤ FILE_LIMIT }
     ensures answers { Answers (FileGives kinds.Schedule (DriverGives (F.told files.old) (rose_in F.faults files.old files.new)
         (driver_by words.now.driver) words.now.sets (pairs_of image.now)) file.now)
-        result.code (account K.told K.faults K.writes K.sure) out.old out.new }
+        result.code (account K.told K.faults K.writes K.sure K.pieces) out.old out.new }
     ensures fetches { FetchesBehind (shelf F.told F.faults F.fetches F.sure) result.code kinds.Schedule file.now
         (driver_files (driver_by words.now.driver)) files.old files.new }
 {
@@ -159,7 +159,7 @@ fn fetch_schedule<F: Files, K: Sink>(
     ensures answers { Answers (Reads (F.told files.old name.now) (rose_in F.faults files.old files.new name.now)
         (FileGives kinds.Schedule (DriverGives (F.told files.old) (rose_in F.faults files.old files.new)
         (driver_by words.now.driver) words.now.sets (pairs_of image.now))))
-        result.code (account K.told K.faults K.writes K.sure) out.old out.new }
+        result.code (account K.told K.faults K.writes K.sure K.pieces) out.old out.new }
     ensures fetches { Fetches (shelf F.told F.faults F.fetches F.sure) result.code
         (file_of kinds.Schedule name.now ∷ driver_files (driver_by words.now.driver)) files.old files.new }
 {
@@ -181,7 +181,7 @@ fn run_planned<F: Files, K: Sink>(
     ensures answers { Answers (PlanGives (F.told files.old) (rose_in F.faults files.old files.new)
         (option_copied words.now.schedule) (DriverGives (F.told files.old) (rose_in F.faults files.old files.new)
         (driver_by words.now.driver) words.now.sets (pairs_of image.now)))
-        result.code (account K.told K.faults K.writes K.sure) out.old out.new }
+        result.code (account K.told K.faults K.writes K.sure K.pieces) out.old out.new }
     ensures fetches { FetchesOrNone (shelf F.told F.faults F.fetches F.sure) result.code
         (planned_files (option_copied words.now.schedule) (driver_files (driver_by words.now.driver))) files.old files.new }
 {
@@ -204,7 +204,7 @@ fn use_image<F: Files, K: Sink>(
     ensures answers { Answers (FileGives kinds.Image (λ pairs. PlanGives (F.told files.old) (rose_in F.faults files.old files.new)
         (option_copied words.now.schedule) (DriverGives (F.told files.old) (rose_in F.faults files.old files.new)
         (driver_by words.now.driver) words.now.sets pairs)) file.now)
-        result.code (account K.told K.faults K.writes K.sure) out.old out.new }
+        result.code (account K.told K.faults K.writes K.sure K.pieces) out.old out.new }
     ensures fetches { FetchesBehind (shelf F.told F.faults F.fetches F.sure) result.code kinds.Image file.now
         (planned_files (option_copied words.now.schedule) (driver_files (driver_by words.now.driver))) files.old files.new }
 {
@@ -226,7 +226,7 @@ pub(crate) fn fetch_image<F: Files, K: Sink>(
     requires can { CanRun words.now }
     ensures answers { Answers
         (CommandGives (F.told files.old) (rose_in F.faults files.old files.new) (run_by words.now))
-        result.code (account K.told K.faults K.writes K.sure) out.old out.new }
+        result.code (account K.told K.faults K.writes K.sure K.pieces) out.old out.new }
     ensures fetches { Fetches (shelf F.told F.faults F.fetches F.sure) result.code
         (files_of (run_by words.now)) files.old files.new }
 {

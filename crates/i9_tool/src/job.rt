@@ -35,7 +35,7 @@ fn run_job<K: Sink>(
     requires assembled { IsAssembly (lines_of (generated_source words.number)) image.now }
     requires said { IsSchedule (lines_of (generated_schedule words.number)) plan.old.events }
     ensures answers { Answers (GenGives words.number words.sets)
-        result.code (account K.told K.faults K.writes K.sure) out.old out.new }
+        result.code (account K.told K.faults K.writes K.sure K.pieces) out.old out.new }
     ensures read { result.code ≢ 5 }
 {
     match count_run(alloc, image, plan, words.sets, MAX_LENGTH) {
@@ -66,7 +66,7 @@ fn schedule_job<K: Sink>(
     requires assembled { IsAssembly (lines_of (generated_source words.number)) image.now }
     requires schedule { schedule.now ≡ generated_schedule words.number }
     ensures answers { Answers (GenGives words.number words.sets)
-        result.code (account K.told K.faults K.writes K.sure) out.old out.new }
+        result.code (account K.told K.faults K.writes K.sure K.pieces) out.old out.new }
     ensures read { result.code ≢ 5 }
 {
     match i9_schedule::read(alloc, schedule) {
@@ -88,7 +88,7 @@ fn assemble_job<K: Sink>(
     requires source { source.now ≡ generated_source words.number }
     requires schedule { schedule.now ≡ generated_schedule words.number }
     ensures answers { Answers (GenGives words.number words.sets)
-        result.code (account K.told K.faults K.writes K.sure) out.old out.new }
+        result.code (account K.told K.faults K.writes K.sure K.pieces) out.old out.new }
     ensures read { result.code ≢ 5 }
 {
     match assemble(alloc, source) {
@@ -102,7 +102,7 @@ fn assemble_job<K: Sink>(
 pub(crate) fn do_job<K: Sink>(alloc: Global, words: JobWords, out: &mut K) -> Status
     requires few { AreFew words.sets }
     ensures answers { Answers (GenGives words.number words.sets)
-        result.code (account K.told K.faults K.writes K.sure) out.old out.new }
+        result.code (account K.told K.faults K.writes K.sure K.pieces) out.old out.new }
     ensures read { result.code ≢ 5 }
 {
     match generate(alloc, words.number) {

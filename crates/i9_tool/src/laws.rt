@@ -55,7 +55,8 @@ pub fn i960_in_memory(
 ) -> Status
     ensures whole { result.code < 6
         → GivesWhole (Outcomes mem_files.held_file (λ m n. mem_files.fault_count m) files.old files.new words.now.items)
-        result.code (account (λ s. Some (mem_sink.written_bytes s)) mem_sink.fault_count mem_sink.write_count mem_sink.IsSureOf) out.old out.new }
+        result.code (account (λ s. Some (mem_sink.written_bytes s)) mem_sink.fault_count mem_sink.write_count
+        mem_sink.IsSureOf mem_sink.HasPieces) out.old out.new }
     ensures calm_files { NoneToFail (mem_files.calls_of files.old)
         → AllByRecursion (λ name. IsSome (mem_files.held_file files.old name)) (names_of (asked_for words.now.items))
         → (result.code ≢ 5) × (mem_files.fault_count files.new ≡ mem_files.fault_count files.old) }

@@ -22,7 +22,7 @@ use std::alloc::Global;
 fn print_listing<K: Sink>(alloc: Global, image: &Segments, out: &mut K) -> Status
     ensures answers { (file : List ℕ) → IsAccepted kinds.Image file (pairs_of image.now)
         → Answers (DisGives (pairs_of image.now)) result.code
-        (account K.told K.faults K.writes K.sure) out.old out.new }
+        (account K.told K.faults K.writes K.sure K.pieces) out.old out.new }
     ensures read { result.code ≢ 5 }
 {
     match listing(alloc, image) {
@@ -35,7 +35,7 @@ fn print_listing<K: Sink>(alloc: Global, image: &Segments, out: &mut K) -> Statu
 fn list_image<K: Sink>(alloc: Global, file: &[u8], out: &mut K) -> Status
     requires sized { length file.now ≤ FILE_LIMIT }
     ensures answers { Answers (FileGives kinds.Image DisGives file.now) result.code
-        (account K.told K.faults K.writes K.sure) out.old out.new }
+        (account K.told K.faults K.writes K.sure K.pieces) out.old out.new }
     ensures read { result.code ≢ 5 }
 {
     match i9_hex::read(alloc, file) {
@@ -53,7 +53,7 @@ pub(crate) fn fetch_listed<F: Files, K: Sink>(
     out: &mut K,
 ) -> Status
     ensures answers { Answers (CommandGives (F.told files.old) (rose_in F.faults files.old files.new) (Dis name.now))
-        result.code (account K.told K.faults K.writes K.sure) out.old out.new }
+        result.code (account K.told K.faults K.writes K.sure K.pieces) out.old out.new }
     ensures fetches { Fetches (shelf F.told F.faults F.fetches F.sure) result.code (files_of (Dis name.now)) files.old files.new }
 {
     match fetch_file(alloc, FileKind::Image, name, files, out) {

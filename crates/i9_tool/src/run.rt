@@ -1,12 +1,13 @@
 //! Running an image to its end, and printing its lines or counting what was done.
-ghost use Rattle.std.specs.Prelude.{◌≡◌, ◌≤◌, ◌&&◌, nat_le, false, IfOk};
-ghost use Rattle.i9_model.specs.Given.{given};
+ghost use Rattle.std.specs.Prelude.{◌≡◌, ◌≤◌, ◌&&◌, nat_le, false, [], None, IfOk};
+ghost use Rattle.i9_model.specs.Given.{Given, given};
 ghost use Rattle.i9_model.specs.declared.layout.TheConstants.{MAX_LENGTH};
 ghost use Rattle.i9_model.specs.Image.{pairs_of};
 ghost use Rattle.i9_model.specs.ScheduleText.{IsPlan};
+ghost use Rattle.i9_machine.specs.StandsFor.{StandsFor, Follows, IsUnderWay};
 ghost use Rattle.i9_tracer.specs.Closures.{TakesEachAddress};
 ghost use Rattle.i9_debug.specs.Print.{account};
-ghost use Rattle.i9_tool.specs.Run.{Counts, PrintsBy, Runs, TracesBy, step_text, turn_text};
+ghost use Rattle.i9_tool.specs.Run.{Counts, DrivesBy, PrintsBy, Runs, TracesBy, step_text, turn_text};
 ghost use Rattle.i9_tool.specs.Words.{AreFew};
 
 use crate::words::Range;
@@ -38,7 +39,7 @@ fn print_turn<K: Sink, F: Fn(u32) -> bool + AddressTest>(
     out: &mut K,
 ) -> Printed
     ensures { PrintsBy result (F.AddressTest.allows f.now) turn.now (λ passes. turn_text passes turn.now)
-        (account K.told K.faults K.writes K.sure) out.old out.new }
+        (account K.told K.faults K.writes K.sure K.pieces) out.old out.new }
 {
     let Turn::Issued(issued) = turn else {
         return Printed::Done;
@@ -59,7 +60,7 @@ fn print_step<K: Sink, F: Fn(u32) -> bool + AddressTest>(
     out: &mut K,
 ) -> Printed
     ensures { PrintsBy result (F.AddressTest.allows f.now) turn.now (λ passes. step_text passes turn.now lines.now)
-        (account K.told K.faults K.writes K.sure) out.old out.new }
+        (account K.told K.faults K.writes K.sure K.pieces) out.old out.new }
 {
     match print_turn(alloc, f, turn, out) {
         Printed::Done => print_lines(alloc, lines, out),
@@ -68,9 +69,40 @@ fn print_step<K: Sink, F: Fn(u32) -> bool + AddressTest>(
     }
 }
 
+/// Runs a machine to the end of its run, and prints the lines of each step as they come, and before those of an
+/// instruction its own, where its address passes a filter.
+fn run_machine<K: Sink, F: Fn(u32) -> bool + AddressTest>(
+    alloc: Global,
+    m: &mut Machine,
+    plan: &mut Schedule,
+    f: &Filter<F>,
+    out: &mut K,
+) -> Ran
+    requires stands { IsUnderWay m.old plan.old }
+    ensures { (g : Given) → StandsFor g [] None m.old → Follows g [] plan.old
+        → DrivesBy result (F.AddressTest.allows f.now) g
+        (account K.told K.faults K.writes K.sure K.pieces) out.old out.new m.new plan.new }
+{
+    let mut lines = Vec::new(alloc);
+    loop {
+        lines.clear();
+        let turn = m.proceed(plan, &mut lines);
+        match print_step(alloc, f, &turn, &lines, out) {
+            Printed::Done => {}
+            Printed::Write => return Ran::Write,
+            Printed::Memory => return Ran::Memory,
+        }
+        match turn {
+            Turn::On => {}
+            Turn::Issued(_) => {}
+            Turn::End(end) => return Ran::Done(end),
+            Turn::Memory => return Ran::Memory,
+        }
+    }
+}
+
 /// Runs an image with the events of a schedule and its frames in so many sets, for at most so many instructions, and
-/// prints the lines of the run as they come, and before those of an instruction its own, where its address passes a
-/// filter.
+/// prints what `run_machine` does.
 fn run_filtered<K: Sink, F: Fn(u32) -> bool + AddressTest>(
     alloc: Global,
     image: &Segments,
@@ -85,26 +117,11 @@ fn run_filtered<K: Sink, F: Fn(u32) -> bool + AddressTest>(
     requires few { AreFew sets }
     requires short { limit ≤ MAX_LENGTH }
     ensures { TracesBy result (F.AddressTest.allows f.now) (given (pairs_of image.now) plan.old.events limit sets)
-        (account K.told K.faults K.writes K.sure) out.old out.new }
+        (account K.told K.faults K.writes K.sure K.pieces) out.old out.new }
 {
-    let Ok(mut machine) = Machine::new(alloc, image, sets, limit) else {
-        return Ran::Memory;
-    };
-    let mut lines = Vec::new(alloc);
-    loop {
-        lines.clear();
-        let turn = machine.proceed(plan, &mut lines);
-        match print_step(alloc, f, &turn, &lines, out) {
-            Printed::Done => {}
-            Printed::Write => return Ran::Write,
-            Printed::Memory => return Ran::Memory,
-        }
-        match turn {
-            Turn::On => {}
-            Turn::Issued(_) => {}
-            Turn::End(end) => return Ran::Done(end),
-            Turn::Memory => return Ran::Memory,
-        }
+    match Machine::new(alloc, image, sets, limit) {
+        Ok(mut machine) => run_machine(alloc, &mut machine, plan, f, out),
+        Err(NoMemory) => Ran::Memory,
     }
 }
 
@@ -124,7 +141,7 @@ fn run_with<K: Sink, F: Fn(u32) -> bool + AddressTest>(
     requires short { limit ≤ MAX_LENGTH }
     requires takes { TakesEachAddress (F.AddressTest.can_test f) }
     ensures { TracesBy result (F.AddressTest.allows f) (given (pairs_of image.now) plan.old.events limit sets)
-        (account K.told K.faults K.writes K.sure) out.old out.new }
+        (account K.told K.faults K.writes K.sure K.pieces) out.old out.new }
 {
     run_filtered(alloc, image, plan, sets, limit, &Filter::new(f), out)
 }
@@ -146,7 +163,7 @@ pub(crate) fn run<K: Sink>(
     requires few { AreFew sets }
     requires short { limit ≤ MAX_LENGTH }
     ensures { Runs result traced (given (pairs_of image.now) plan.old.events limit sets)
-        (account K.told K.faults K.writes K.sure) out.old out.new }
+        (account K.told K.faults K.writes K.sure K.pieces) out.old out.new }
 {
     match traced {
         None => {

@@ -53,7 +53,7 @@ fn run_script<K: Sink>(
     requires plan { IsPlan plan.old.events }
     requires limits { IsInLimits script.now }
     ensures answers { Answers (ScriptGives sets (pairs_of image.now) plan.old.events script.now)
-        result.code (account K.told K.faults K.writes K.sure) out.old out.new }
+        result.code (account K.told K.faults K.writes K.sure K.pieces) out.old out.new }
     ensures read { result.code ≢ 5 }
 {
     match Machine::new(alloc, image, sets, MAX_LENGTH) {
@@ -76,7 +76,7 @@ fn use_script<K: Sink>(
     requires plan { IsPlan plan.old.events }
     requires sized { length file.now ≤ FILE_LIMIT }
     ensures answers { Answers (FileGives kinds.Script (ScriptGives sets (pairs_of image.now) plan.old.events) file.now)
-        result.code (account K.told K.faults K.writes K.sure) out.old out.new }
+        result.code (account K.told K.faults K.writes K.sure K.pieces) out.old out.new }
     ensures read { result.code ≢ 5 }
 {
     match read_script(alloc, file) {
@@ -101,7 +101,7 @@ pub(crate) fn fetch_script<F: Files, K: Sink>(
     requires plan { IsPlan plan.old.events }
     ensures answers { Answers (Reads (F.told files.old name.now) (rose_in F.faults files.old files.new name.now)
         (FileGives kinds.Script (ScriptGives sets (pairs_of image.now) plan.old.events)))
-        result.code (account K.told K.faults K.writes K.sure) out.old out.new }
+        result.code (account K.told K.faults K.writes K.sure K.pieces) out.old out.new }
     ensures fetches { Fetches (shelf F.told F.faults F.fetches F.sure) result.code (file_of kinds.Script name.now ∷ []) files.old files.new }
 {
     match fetch_file(alloc, FileKind::Script, name, files, out) {

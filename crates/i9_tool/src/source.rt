@@ -17,7 +17,7 @@ use std::alloc::Global;
 
 /// Prints the Intel HEX text of segments.
 fn print_image<K: Sink>(alloc: Global, image: &Segments, out: &mut K) -> Status
-    ensures answers { Answers (AsmGives image.now) result.code (account K.told K.faults K.writes K.sure) out.old out.new }
+    ensures answers { Answers (AsmGives image.now) result.code (account K.told K.faults K.writes K.sure K.pieces) out.old out.new }
     ensures read { result.code ≢ 5 }
 {
     match i9_hex::write(alloc, image) {
@@ -30,7 +30,7 @@ fn print_image<K: Sink>(alloc: Global, image: &Segments, out: &mut K) -> Status
 fn use_source<K: Sink>(alloc: Global, file: &[u8], out: &mut K) -> Status
     requires sized { length file.now ≤ FILE_LIMIT }
     ensures answers { Answers (FileGives kinds.Source AsmGives file.now) result.code
-        (account K.told K.faults K.writes K.sure) out.old out.new }
+        (account K.told K.faults K.writes K.sure K.pieces) out.old out.new }
     ensures read { result.code ≢ 5 }
 {
     match assemble(alloc, file) {
@@ -48,7 +48,7 @@ pub(crate) fn fetch_source<F: Files, K: Sink>(
     out: &mut K,
 ) -> Status
     ensures answers { Answers (CommandGives (F.told files.old) (rose_in F.faults files.old files.new) (Asm name.now))
-        result.code (account K.told K.faults K.writes K.sure) out.old out.new }
+        result.code (account K.told K.faults K.writes K.sure K.pieces) out.old out.new }
     ensures fetches { Fetches (shelf F.told F.faults F.fetches F.sure) result.code (files_of (Asm name.now)) files.old files.new }
 {
     match fetch_file(alloc, FileKind::Source, name, files, out) {

@@ -22,7 +22,7 @@ fn answer<F: Files, K: Sink>(alloc: Global, asked: &Asked<'_>, files: &mut F, ou
     requires fits { Fits asked.now }
     ensures answers { Answers
         (CommandGives (F.told files.old) (rose_in F.faults files.old files.new) (asked_by asked.now))
-        result.code (account K.told K.faults K.writes K.sure) out.old out.new }
+        result.code (account K.told K.faults K.writes K.sure K.pieces) out.old out.new }
     ensures fetches { Fetches (shelf F.told F.faults F.fetches F.sure) result.code
         (files_of (asked_by asked.now)) files.old files.new }
 {
@@ -36,7 +36,8 @@ fn answer<F: Files, K: Sink>(alloc: Global, asked: &Asked<'_>, files: &mut F, ou
 
 /// Does what the words ask for.
 fn work<F: Files, K: Sink>(alloc: Global, words: &Vec<String>, files: &mut F, out: &mut K) -> Status
-    ensures answers { Answers (Outcomes F.told F.faults files.old files.new words.now.items) result.code (account K.told K.faults K.writes K.sure) out.old out.new }
+    ensures answers { Answers (Outcomes F.told F.faults files.old files.new words.now.items) result.code
+        (account K.told K.faults K.writes K.sure K.pieces) out.old out.new }
     ensures formless { asked_for words.now.items ≡ None → result.code ≢ 7 }
     ensures unfetched { asked_for words.now.items ≡ None → files.new ≡ files.old }
     ensures fetches { Fetches (shelf F.told F.faults F.fetches F.sure) result.code
@@ -62,14 +63,16 @@ pub fn i960<F: Files, K: Sink>(
     // Answered are 0 to 7.
     ensures known { result.code < 8 }
 
-    // A status below 6 has its whole text, by as many writes as it has lines, and both are those that the words and files give.
-    ensures whole { result.code < 6 → GivesWhole (Outcomes F.told F.faults files.old files.new words.now.items) result.code (account K.told K.faults K.writes K.sure) out.old out.new }
+    // A status below 6 has its whole text, each line by one write, and both are those that the words and files give.
+    ensures whole { result.code < 6 → GivesWhole (Outcomes F.told F.faults files.old files.new words.now.items) result.code
+        (account K.told K.faults K.writes K.sure K.pieces) out.old out.new }
 
     // Words in no form take no memory.
     ensures formless { asked_for words.now.items ≡ None → result.code ≢ 7 }
 
     // Where a write failed or memory was refused, a front of such a text was printed, perhaps nothing of it.
-    ensures front { 6 ≤ result.code → GivesFront (Outcomes F.told F.faults files.old files.new words.now.items) (account K.told K.faults K.writes K.sure) out.old out.new }
+    ensures front { 6 ≤ result.code → GivesFront (Outcomes F.told F.faults files.old files.new words.now.items)
+        (account K.told K.faults K.writes K.sure K.pieces) out.old out.new }
 
     // The files that the words name are fetched in order, each once: one after another only where that was accepted. 5 is
     // answered only where the count of one of these rose, and where it did in the file's own fetch, 5 is, or 6 where a
@@ -93,7 +96,8 @@ pub fn i960<F: Files, K: Sink>(
     ensures complete { (AnyRose (rose_in F.faults files.old files.new) (names_of (asked_for words.now.items)) → ⊥)
         → (Rose (K.faults out.old) (K.faults out.new) → ⊥)
         → (result.code ≡ 7) ⊎ ((result.code < 5)
-        × GivesWhole (Outcomes F.told F.faults files.old files.new words.now.items) result.code (account K.told K.faults K.writes K.sure) out.old out.new) }
+        × GivesWhole (Outcomes F.told F.faults files.old files.new words.now.items) result.code
+        (account K.told K.faults K.writes K.sure K.pieces) out.old out.new) }
 {
     work(alloc, words, files, out)
 }

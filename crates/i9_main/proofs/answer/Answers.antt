@@ -9,7 +9,7 @@ pub returns-in-Ok-clause-given : goal.returns-in-Ok-clause-given
 returns-in-Ok-clause-given g c =
     let e = c.i960.ensures in
     let s = shelf g.F.Files.told g.F.Files.faults g.F.Files.fetches g.F.Files.sure in
-    let k = account g.K.Sink.told g.K.Sink.faults g.K.Sink.writes g.K.Sink.sure in
+    let k = account g.K.Sink.told g.K.Sink.faults g.K.Sink.writes g.K.Sink.sure g.K.Sink.pieces in
     subst (λ words. IfOk words (λ w. EndsWith s k w.items (exit_status c.exit_of.result) c.args.files.now c.i960.new.files c.args.out.now c.i960.new.out)) (sym c.in-Ok.is)
     (subst (λ code. EndsWith s k c.in-Ok.words.items code c.args.files.now c.i960.new.files c.args.out.now c.i960.new.out) (sym c.exit_of.ensures)
     (record {

@@ -4,4 +4,4 @@ use Rattle.i9_debug.specs.Print.{Prints, account}
 use Rattle.i9_debug.proofs.print.print_pieces.Given as goal
 
 abbrev pub invariant-loop-piece : goal.invariant-loop-piece
-invariant-loop-piece g l = Prints Done (account g.K.Sink.told g.K.Sink.faults g.K.Sink.writes g.K.Sink.sure) l.fn.out l.out (flat_map (λ p. p.items) (take l.piece-index l.pieces))
+invariant-loop-piece g l = Prints Done (account g.K.Sink.told g.K.Sink.faults g.K.Sink.writes g.K.Sink.sure g.K.Sink.pieces) l.fn.out l.out (flat_map (λ p. p.items) (take l.piece-index l.pieces))

@@ -5,11 +5,13 @@ use Rattle.i9_debug.proofs.sessions.run_on.Goals as goal
 
 pub returns-in-Turn : goal.returns-in-Turn
 returns-in-Turn g c = λ what h stands follows.
-    drives_as _ what _ _ _ _ _ _ _ (λ x q leads. rw c.in-Turn.is leads) (c.run_turns.ensures what h stands follows)
+    drives_as _ what _ _ _ _ _ _ _ _ _ (λ x q leads. rw c.in-Turn.is leads) (λ x y q cut. rw c.in-Turn.is cut)
+    (c.run_turns.ensures what h stands follows)
 
 pub returns-in-Until : goal.returns-in-Until
 returns-in-Until g c = λ what h stands follows.
-    drives_as _ what _ _ _ _ _ _ _ (λ x q leads. rw c.in-Until.is leads) (c.run_to.ensures what h stands follows)
+    drives_as _ what _ _ _ _ _ _ _ _ _ (λ x q leads. rw c.in-Until.is leads) (λ x y q cut. rw c.in-Until.is cut)
+    (c.run_to.ensures what h stands follows)
 
 pub returns-in-Regs : goal.returns-in-Regs
 returns-in-Regs g c = λ what h stands follows.

@@ -11,7 +11,7 @@ abbrev pub invariant-loop-lines : goal.invariant-loop-lines
 invariant-loop-lines g l = record {
   under_way : IsUnderWay l.m l.plan;
   sought : (what : Given) (h : List Item) → StandsFor what h None l.fn.m → Follows what h l.fn.plan
-      → Sought (account g.K.Sink.told g.K.Sink.faults g.K.Sink.writes g.K.Sink.sure) what h (g.F.ViewTest.allows l.s) l.fn.out l.out l.m l.plan;
+      → Sought (account g.K.Sink.told g.K.Sink.faults g.K.Sink.writes g.K.Sink.sure g.K.Sink.pieces) what h (g.F.ViewTest.allows l.s) l.fn.out l.out l.m l.plan;
 }
 
 abbrev pub decreases-loop-lines : goal.decreases-loop-lines

@@ -10,5 +10,5 @@ abbrev pub invariant-loop-passed : goal.invariant-loop-passed
 invariant-loop-passed g l = record {
   under_way : IsUnderWay l.m l.plan;
   turned : (what : Given) (h : List Item) → StandsFor what h None l.fn.m → Follows what h l.fn.plan
-      → Turned (account g.K.Sink.told g.K.Sink.faults g.K.Sink.writes g.K.Sink.sure) what h l.fn.m.turn l._passed l.fn.out l.out l.m l.plan;
+      → Turned (account g.K.Sink.told g.K.Sink.faults g.K.Sink.writes g.K.Sink.sure g.K.Sink.pieces) what h l.fn.m.turn l._passed l.fn.out l.out l.m l.plan;
 }

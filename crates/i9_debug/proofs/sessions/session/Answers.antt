@@ -12,7 +12,7 @@ loop-c-init g c = record {
 
 pub returns-in-Write-clause-in_run : goal.returns-in-Write-clause-in_run
 returns-in-Write-clause-in_run g c =
-    driven_in_run (λ what. account g.K.Sink.told g.K.Sink.faults g.K.Sink.writes g.K.Sink.sure) _ Write _ _ _ _ _ _ c.loop-c.invariant.in_run
+    driven_in_run (λ what. account g.K.Sink.told g.K.Sink.faults g.K.Sink.writes g.K.Sink.sure g.K.Sink.pieces) _ _ Write _ _ _ _ _ _ c.loop-c.invariant.in_run
     (λ what p at_place. c.in-Write.ensures what p at_place)
 
 pub returns-in-Write-clause-text : goal.returns-in-Write-clause-text
@@ -23,7 +23,7 @@ returns-in-Write-clause-text g c = λ what p at_place.
 
 pub returns-in-Memory-clause-in_run : goal.returns-in-Memory-clause-in_run
 returns-in-Memory-clause-in_run g c =
-    driven_in_run (λ what. account g.K.Sink.told g.K.Sink.faults g.K.Sink.writes g.K.Sink.sure) _ Memory _ _ _ _ _ _ c.loop-c.invariant.in_run
+    driven_in_run (λ what. account g.K.Sink.told g.K.Sink.faults g.K.Sink.writes g.K.Sink.sure g.K.Sink.pieces) _ _ Memory _ _ _ _ _ _ c.loop-c.invariant.in_run
     (λ what p at_place. c.in-Memory.ensures what p at_place)
 
 pub returns-in-Memory-clause-text : goal.returns-in-Memory-clause-text
@@ -34,7 +34,7 @@ returns-in-Memory-clause-text g c = λ what p at_place.
 
 pub loop-c-preserved : goal.loop-c-preserved
 loop-c-preserved g c = record {
-  in_run = driven_in_run (λ what. account g.K.Sink.told g.K.Sink.faults g.K.Sink.writes g.K.Sink.sure) _ Done _ _ _ _ _ _ c.loop-c.invariant.in_run
+  in_run = driven_in_run (λ what. account g.K.Sink.told g.K.Sink.faults g.K.Sink.writes g.K.Sink.sure g.K.Sink.pieces) _ _ Done _ _ _ _ _ _ c.loop-c.invariant.in_run
       (λ what p at_place. c.in-Done.ensures what p at_place);
   drives = λ what p at_place.
       does_next _ what p c.commands-commands.result.now c.loop-c.c-index _ _ _ _ _ _ (c.loop-c.invariant.drives what p at_place) _ _
