@@ -234,6 +234,8 @@ impl Machine {
         ensures issues { Issues self.old result self.new plan.old }
         ensures lacking { result ≡ Turn.Memory
             → HasRoom self.old (vec_capacity out.old - vec_len out.old) (next_for self.old plan.old) → ⊥ }
+        ensures still_lacking { result ≡ Turn.Memory
+            → HasRoom self.new (vec_capacity out.new - vec_len out.new) (next_for self.new plan.new) → ⊥ }
         ensures fewer { LeavesFewer result (steps_left self.old plan.old) (steps_left self.new plan.new) }
     {
         match self.next_step(read, plan) {
@@ -263,6 +265,8 @@ impl Machine {
         ensures issues { Issues self.old result self.new plan.old }
         ensures lacking { result ≡ Turn.Memory
             → HasRoom self.old (vec_capacity out.old - vec_len out.old) (next_for self.old plan.old) → ⊥ }
+        ensures still_lacking { result ≡ Turn.Memory
+            → HasRoom self.new (vec_capacity out.new - vec_len out.new) (next_for self.new plan.new) → ⊥ }
         ensures fewer { LeavesFewer result (steps_left self.old plan.old) (steps_left self.new plan.new) }
     {
         let step = self.faults_by(number);
@@ -280,6 +284,8 @@ impl Machine {
         ensures issues { Issues self.old result self.new plan.old }
         ensures lacking { result ≡ Turn.Memory
             → HasRoom self.old (vec_capacity out.old - vec_len out.old) (next_for self.old plan.old) → ⊥ }
+        ensures still_lacking { result ≡ Turn.Memory
+            → HasRoom self.new (vec_capacity out.new - vec_len out.new) (next_for self.new plan.new) → ⊥ }
         ensures fewer { LeavesFewer result (steps_left self.old plan.old) (steps_left self.new plan.new) }
     {
         let step = self.does();
@@ -297,6 +303,8 @@ impl Machine {
         ensures issues { Issues self.old result self.new plan.old }
         ensures lacking { result ≡ Turn.Memory
             → HasRoom self.old (vec_capacity out.old - vec_len out.old) (next_for self.old plan.old) → ⊥ }
+        ensures still_lacking { result ≡ Turn.Memory
+            → HasRoom self.new (vec_capacity out.new - vec_len out.new) (next_for self.new plan.new) → ⊥ }
         ensures fewer { LeavesFewer result (steps_left self.old plan.old) (steps_left self.new plan.new) }
     {
         self.step_running(issue, plan, out)
@@ -312,6 +320,8 @@ impl Machine {
         ensures came { Came coming self.old result self.new plan.old plan.new out.old.items out.new.items }
         ensures lacking { result ≡ Turn.Memory
             → HasRoom self.old (vec_capacity out.old - vec_len out.old) (next_for self.old plan.old) → ⊥ }
+        ensures still_lacking { result ≡ Turn.Memory
+            → HasRoom self.new (vec_capacity out.new - vec_len out.new) (next_for self.new plan.new) → ⊥ }
         ensures fewer { LeavesFewer result (steps_left self.old plan.old) (steps_left self.new plan.new) }
     {
         match coming {
@@ -333,7 +343,7 @@ impl Machine {
     /// the turn moves by one, and what is due by then lands. The schedule is the one of the run, behind the
     /// events that were reached so far, and goes on where an event is reached. Memory is refused only where
     /// room is lacking in the machine or in `out`, or where new sets are to be made, and never where the turn
-    /// moves; then all three are as before. Once an end was answered, each call answers it again and changes
+    /// moves; then all three are as before, and some room is lacking still. Once an end was answered, each call answers it again and changes
     /// nothing.
     pub fn advance(&mut self, plan: &mut Schedule, out: &mut Vec<Line>) -> Turn
         requires stands { self.old.ended ≡ None → IsUnderWay self.old plan.old }
@@ -343,6 +353,8 @@ impl Machine {
             → AnswersAgain f result self.old self.new out.old.items out.new.items × (plan.new ≡ plan.old) }
         ensures lacking { (g : Given) (h : List Item) → StandsFor g h None self.old → Follows g h plan.old
             → result ≡ Turn.Memory → HasRoom self.old (vec_capacity out.old - vec_len out.old) (comes_next g h) → ⊥ }
+        ensures still_lacking { (g : Given) (h : List Item) → StandsFor g h None self.new → Follows g h plan.new
+            → result ≡ Turn.Memory → HasRoom self.new (vec_capacity out.new - vec_len out.new) (comes_next g h) → ⊥ }
         ensures fewer { LeavesFewer result (steps_left self.old plan.old) (steps_left self.new plan.new) }
     {
         match self.ended {

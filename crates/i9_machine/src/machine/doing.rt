@@ -38,6 +38,7 @@ fn reserve_lines(lines: usize, out: &mut Vec<Line>) -> Result<(), NoMemory>
     ensures room { OnOk result (vec_len out.new + lines ≤ vec_capacity out.new) }
     ensures needed { OnErr result (nat_lt 0 lines ≡ true) }
     ensures lacking { OnErr result (vec_capacity out.old < vec_len out.old + lines) }
+    ensures spare { OnErr result (vec_capacity out.new - vec_len out.new ≡ vec_capacity out.old - vec_len out.old) }
 {
     if lines == 0 {
         return Ok(());
@@ -98,6 +99,7 @@ fn put_end(event: Option<&Event>, e: End, view: View, out: &mut Vec<Line>) -> Re
     ensures err { OnErr result (out.new.items ≡ out.old.items) }
     ensures lacking { OnErr result (vec_capacity out.old
         < vec_len out.old + length (journal_lines view.count (option_copied event.entry) ++ last_lines view e)) }
+    ensures spare { OnErr result (vec_capacity out.new - vec_len out.new ≡ vec_capacity out.old - vec_len out.old) }
 {
     reserve_lines(end_count(event, e), out)?;
     put_journal(event, view.count, out);
@@ -237,8 +239,9 @@ impl Machine {
     /// Answers an end, once its lines are written; the schedule goes on behind an event that is reached with it.
     pub(super) fn answer_end(&mut self, f: Ending, plan: &mut Schedule, out: &mut Vec<Line>) -> Turn
         requires running { self.old.ended ≡ None }
-        ensures { Finishes self.old (finish_in plan.old f) (vec_capacity out.old - vec_len out.old) result self.new
+        ensures finishes { Finishes self.old (finish_in plan.old f) (vec_capacity out.old - vec_len out.old) result self.new
             plan.old plan.new out.old.items out.new.items }
+        ensures spare { result ≡ Turn.Memory → vec_capacity out.new - vec_len out.new ≡ vec_capacity out.old - vec_len out.old }
     {
         let event = next_event(plan, f.reaches());
         let reaches = event.is_some();
@@ -289,6 +292,7 @@ impl Machine {
         ensures made { IfOk result (AreMade self.old.sets (state_of self.old.processor).memory self.new.effect.control) }
         ensures needed { OnErr result (asks_room (state_of self.old.processor) self.old.effect step.now (option_copied event.entry) ≡ true) }
         ensures lacking { OnErr result (HasRoomForStep self.old (vec_capacity out.old - vec_len out.old) self.old.effect step.now (option_copied event.entry) → ⊥) }
+        ensures still_lacking { OnErr result (HasRoomForStep self.new (vec_capacity out.new - vec_len out.new) self.new.effect step.now (option_copied event.entry) → ⊥) }
     {
         let sets = self.make_sets(self.effect.control)?;
         self.processor.reserve(&self.effect)?;
@@ -377,6 +381,8 @@ impl Machine {
         ensures issues { Issues self.old result self.new plan.old }
         ensures lacking { result ≡ Turn.Memory
             → HasRoom self.old (vec_capacity out.old - vec_len out.old) (next_for self.old plan.old) → ⊥ }
+        ensures still_lacking { result ≡ Turn.Memory
+            → HasRoom self.new (vec_capacity out.new - vec_len out.new) (next_for self.new plan.new) → ⊥ }
         ensures fewer { LeavesFewer result (steps_left self.old plan.old) (steps_left self.new plan.new) }
     {
         let event = next_event(plan, step.reaches);

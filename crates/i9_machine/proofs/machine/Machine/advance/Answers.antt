@@ -60,3 +60,8 @@ returns-else-self-turn-clause-lacking c = λ g h stands follows is room.
 pub returns-else-self-turn-clause-fewer : goal.returns-else-self-turn-clause-fewer
 returns-else-self-turn-clause-fewer c =
     like_fewer c.args.self.now c.look-turn.new.self c.come.result c.args.plan.now (steps_left c.come.new.self c.come.new.plan) c.look-turn.ensures.like c.come.ensures.fewer
+
+pub returns-else-self-turn-clause-still_lacking : goal.returns-else-self-turn-clause-still_lacking
+returns-else-self-turn-clause-still_lacking c = λ g h stands follows is room.
+    let out = c.come.new.out in
+    c.come.ensures.still_lacking is (next_room g h c.come.new.self c.come.new.plan (vec_capacity out - vec_len out) stands follows room)
