@@ -19,6 +19,7 @@ ghost use Rattle.i9_schedule.specs.Plan.{Plan};
 ghost use Rattle.i9_plan.specs.Kept.{inst_in};
 ghost use Rattle.i9_frames.specs.Sets.{held};
 ghost use Rattle.i9_processor.specs.State.{state_of, IsDrained};
+ghost use Rattle.i9_processor.specs.Effect.{KeepsRoom};
 ghost use Rattle.std.specs.Option.{option_map};
 
 mod doing;
@@ -185,6 +186,7 @@ impl Machine {
     fn move_to(&mut self, turn: u64)
         ensures moved { IsMovedTo turn self.old self.new }
         ensures keeps { KeepsPlanned self.old self.new }
+        ensures room { KeepsRoom self.old.processor self.new.processor }
     {
         self.turn = turn;
         self.processor.land(turn);
@@ -195,6 +197,7 @@ impl Machine {
     fn pass_to(&mut self, turn: u64)
         ensures passed { IsPassedTo turn self.old self.new }
         ensures keeps { KeepsPlanned self.old self.new }
+        ensures room { KeepsRoom self.old.processor self.new.processor }
     {
         if self.turn < turn {
             self.move_to(turn);
@@ -375,8 +378,8 @@ impl Machine {
     }
 
     /// As `advance`, behind the turns at which nothing comes, which it passes in one go: what comes next is done, or the
-    /// end is answered, and never does it answer that the turn moved alone. Memory is refused where `advance` may refuse
-    /// it once the turn has moved.
+    /// end is answered, and never does it answer that the turn moved alone. Memory is refused only where room was
+    /// lacking before, or where new sets are to be made.
     // Each caller goes round a loop with it, and has its answer where it is made.
     #[inline(always)]
     pub fn proceed(&mut self, plan: &mut Schedule, out: &mut Vec<Line>) -> Turn

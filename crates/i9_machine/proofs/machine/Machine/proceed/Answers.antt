@@ -1,9 +1,11 @@
 use Rattle.std.specs.Prelude.{◌-◌, vec_capacity, vec_len}
-use Rattle.std.proofs.Common.{◌≡◌, max, ◌∙◌, arith}
-use Rattle.i9_course.specs.Course.{ahead}
+use Rattle.std.proofs.Common.{◌≡◌, max, ◌∙◌, subst, arith}
+use Rattle.i9_course.specs.Course.{ahead, comes_next}
+use Rattle.i9_processor.specs.declared.processor.Processor.{Processor}
+use Rattle.i9_processor.specs.Effect.{KeepsRoom}
 use Rattle.i9_machine.specs.Step.{steps_left}
 use Rattle.i9_machine.proofs.Arriving.{passed_arrived, passed_ended, passed_stands, passed_turn, passed_ready, passed_left, fewer_from}
-use Rattle.i9_machine.proofs.Lifting.{came_comes, next_room}
+use Rattle.i9_machine.proofs.Lifting.{came_comes, next_room, kept_room}
 use Rattle.i9_machine.proofs.Performing.{like_stands, like_left}
 use Rattle.i9_machine.proofs.machine.Machine.proceed.Goals as goal
 
@@ -43,7 +45,9 @@ returns-in-None-clause-next c = λ g h stands follows.
       comes = came_comes g h c.look-turn.result.1 c.pass_to.new.self c.come.result c.come.new.self c.args.plan.now c.come.new.plan out.items c.come.new.out.items
           stands_now follows at.imprecise (omega (arith, turn, same, now)) c.come.ensures.came;
       lacking = λ is room.
-          c.come.ensures.lacking is (next_room g h c.pass_to.new.self c.args.plan.now (vec_capacity out - vec_len out) stands_now follows room);
+          let spare = vec_capacity out - vec_len out in
+          let keeps = subst (λ (p : Processor). KeepsRoom p c.pass_to.new.self.processor) c.look-turn.ensures.like.processor c.pass_to.ensures.room in
+          c.come.ensures.lacking is (next_room g h c.pass_to.new.self c.args.plan.now spare stands_now follows (kept_room m c.pass_to.new.self spare (comes_next g h) keeps room));
     }
 
 pub returns-in-None-clause-fewer : goal.returns-in-None-clause-fewer
