@@ -13,6 +13,7 @@ ghost use Rattle.i9_model.specs.PrintedText.{Drained, Last, view_of, out_lines, 
 ghost use Rattle.i9_course.specs.LateRun.{is_imprecise};
 ghost use Rattle.i9_processor.specs.Effect.{action_in, move_in, control_in, AreRegisters, AreMade, CanControl, CanMove, CanTake, HasSpaceFor, cache_through, size_with, has_writes, is_restart};
 ghost use Rattle.i9_processor.specs.State.{state_of, cache_of, size_of};
+ghost use Rattle.i9_processor.specs.Pages.{AddsActionOnly, AddsNoPage};
 ghost use Rattle.i9_model.specs.Events.{IsInRange};
 ghost use Rattle.i9_model.specs.Turns.{HasCost, IssuesAt, waiting_until};
 ghost use Rattle.i9_issue.specs.Room.{IsEarly};
@@ -232,6 +233,7 @@ fn go_on(reaches: bool, plan: &mut Schedule)
 impl Machine {
     ghost use Rattle.i9_machine.specs.StandsFor.{LeavesFewer};
     ghost use Rattle.i9_machine.specs.Step.{IsPlanned, IsSame, Steps, Finishes, Issues, HasRoom, finish_in, next_for, steps_left};
+    ghost use Rattle.i9_machine.specs.NewPages.{AddsNextOnly};
     ghost use Rattle.i9_machine.specs.Doing.{lines_of, line_count, asks_room, HasRoomForStep, IsReady, action_for, state_behind};
     ghost use Rattle.i9_machine.specs.Issuing.{most_turns, IsIssued, CanActPlaced};
     ghost use Rattle.i9_machine.specs.StandsFor.{HasCome};
@@ -241,6 +243,7 @@ impl Machine {
         requires running { self.old.ended ≡ None }
         ensures finishes { Finishes self.old (finish_in plan.old f) (vec_capacity out.old - vec_len out.old) result self.new
             plan.old plan.new out.old.items out.new.items }
+        ensures processor { self.new.processor ≡ self.old.processor }
         ensures spare { result ≡ Turn.Memory → vec_capacity out.new - vec_len out.new ≡ vec_capacity out.old - vec_len out.old }
     {
         let event = next_event(plan, f.reaches());
@@ -293,6 +296,7 @@ impl Machine {
         ensures needed { OnErr result (asks_room (state_of self.old.processor) self.old.effect step.now (option_copied event.entry) ≡ true) }
         ensures lacking { OnErr result (HasRoomForStep self.old (vec_capacity out.old - vec_len out.old) self.old.effect step.now (option_copied event.entry) → ⊥) }
         ensures still_lacking { OnErr result (HasRoomForStep self.new (vec_capacity out.new - vec_len out.new) self.new.effect step.now (option_copied event.entry) → ⊥) }
+        ensures only { AddsActionOnly self.old.processor self.new.processor (action_for self.old self.old.effect) }
     {
         let sets = self.make_sets(self.effect.control)?;
         self.processor.reserve(&self.effect)?;
@@ -338,6 +342,7 @@ impl Machine {
         ensures lines { AddsLines out.old.items out.new.items
             (lines_of self.old.effect step.now (option_copied event.entry) (state_of self.old.processor)
             (state_behind self.old self.old.effect step.now)) }
+        ensures no_more { AddsNoPage self.old.processor self.new.processor }
     {
         let placed = self.board.place_at(&self.need, issue);
         self.done = placed.done;
@@ -383,6 +388,7 @@ impl Machine {
             → HasRoom self.old (vec_capacity out.old - vec_len out.old) (next_for self.old plan.old) → ⊥ }
         ensures still_lacking { result ≡ Turn.Memory
             → HasRoom self.new (vec_capacity out.new - vec_len out.new) (next_for self.new plan.new) → ⊥ }
+        ensures only { AddsNextOnly self.old self.new (next_for self.old plan.old) }
         ensures fewer { LeavesFewer result (steps_left self.old plan.old) (steps_left self.new plan.new) }
     {
         let event = next_event(plan, step.reaches);

@@ -5,6 +5,7 @@ use Rattle.i9_machine.specs.Coming.{IsReadyFor, Came, overtaken_by}
 use Rattle.i9_machine.specs.Step.{HasRoom, next_for}
 use Rattle.i9_machine.proofs.Arriving.{arrived_come}
 use Rattle.i9_machine.proofs.Ending.{finish_overtakes, finish_lacks_late, finish_still_lacks_late, finish_fewer}
+use Rattle.i9_machine.proofs.NewPages.{same_next}
 use Rattle.i9_machine.proofs.Timely.{is_timely}
 use Rattle.i9_machine.proofs.Turning.{all_landed}
 use Rattle.i9_machine.proofs.machine.Machine.come.Goals as goal
@@ -96,3 +97,7 @@ returns-in-Faulting-clause-came c =
 
 pub step_faulting-requires-clause-ahead : goal.step_faulting-requires-clause-ahead
 step_faulting-requires-clause-ahead c = subst (IsReadyFor c.args.self.now c.args.plan.now c.args.turn) c.in-Faulting.is c.requires.ready
+
+pub returns-in-Overtaking-clause-only : goal.returns-in-Overtaking-clause-only
+returns-in-Overtaking-clause-only c =
+    same_next c.args.self.now c.answer_end.new.self (next_for c.args.self.now c.args.plan.now) c.answer_end.ensures.processor

@@ -5,6 +5,7 @@ use Rattle.i9_machine.specs.Step.{HasRoom, next_for, steps_left}
 use Rattle.i9_machine.specs.StandsFor.{left_after}
 use Rattle.i9_machine.proofs.Arriving.{kept_planned}
 use Rattle.i9_machine.proofs.Ending.{finish_steps, finish_issues, finish_lacks, finish_still_lacks, finish_fewer, like_finishes}
+use Rattle.i9_machine.proofs.NewPages.{same_next, like_only}
 use Rattle.i9_machine.proofs.Performing.{like_planned, like_come, like_room, like_fewer, like_steps, like_issues, like_paced}
 use Rattle.i9_machine.proofs.machine.Machine.step_drained.Goals as goal
 
@@ -86,3 +87,12 @@ returns-in-Err-clause-still_lacking c = λ is room.
     (like_finishes m c.next_step.new.self _ (vec_capacity out - vec_len out) c.answer_end.result new _ _ _ _
     c.next_step.ensures.like c.answer_end.ensures.finishes) is
     (subst (λ (n : ℕ). HasRoom new n (next_for new c.answer_end.new.plan)) (c.answer_end.ensures.spare is) room)
+
+pub returns-in-Ok-clause-only : goal.returns-in-Ok-clause-only
+returns-in-Ok-clause-only c =
+    like_only c.args.self.now c.next_step.new.self c.perform.new.self c.args.plan.now c.next_step.ensures.like c.perform.ensures.only
+
+pub returns-in-Err-clause-only : goal.returns-in-Err-clause-only
+returns-in-Err-clause-only c =
+    same_next c.args.self.now c.answer_end.new.self (next_for c.args.self.now c.args.plan.now)
+    (c.answer_end.ensures.processor ∙ c.next_step.ensures.like.processor)
