@@ -24,7 +24,7 @@ use Rattle.i9_machine.specs.declared.machine.Machine.{Machine}
 use Rattle.i9_machine.specs.Issuing.{IsLike}
 use Rattle.i9_machine.specs.Line.{shown_of}
 use Rattle.i9_machine.specs.Overtaking.{late_entry, late_due}
-use Rattle.i9_machine.specs.Step.{NeedsRoom, HasRoom, event_for, next_for, Finishes, Steps, Issues, plan_at_end}
+use Rattle.i9_machine.specs.Step.{NeedsRoom, HasRoom, event_for, next_for, Unfinished, Finishes, Steps, Issues, plan_at_end}
 use Rattle.i9_machine.specs.Coming.{Overtakes}
 use Rattle.i9_machine.specs.StandsFor.{LeavesFewer}
 use Rattle.i9_machine.proofs.Performing.{like_same}
@@ -36,7 +36,7 @@ use Rattle.i9_model.specs.declared.event.Timed.{Timed}
 use Rattle.i9_machine.specs.Doing.{next_event, plan_behind_event}
 use Rattle.std.specs.Prelude.{is_some}
 use Rattle.std.proofs.lemmas.Option.{slice_get_within}
-use Rattle.i9_machine.proofs.Unmoved.{stays_at_end}
+use Rattle.i9_machine.proofs.Unmoved.{stays_at_end, next_stays}
 
 -- ---- an end of the run
 
@@ -99,6 +99,17 @@ finish_lacks before e spare turns.Memory m was plan old new is d refused room =
 finish_lacks before e spare turns.On m was plan old new is d refused room = d
 finish_lacks before e spare (turns.Issued t) m was plan old new is d refused room = d
 finish_lacks before e spare (turns.End f) m was plan old new is d refused room = absurd (cc refused)
+
+-- and it is lacking still
+pub finish_still_lacks : (before : Machine) (e : Finish) (spare : ℕ) (answer : Turn) (m : Machine) (was plan : Plan) (old new : List Line) → next_for before was ≡ Ends e
+    → Finishes before e spare answer m was plan old new → answer ≡ turns.Memory → HasRoom m spare (next_for m plan) → ⊥
+finish_still_lacks before e spare turns.Memory m was plan old new is d refused room =
+    let ends = ap (next_for m) d.kept ∙ next_stays before m was d.same ∙ is in
+    let some : HasRoom m spare (Ends e) = subst (HasRoom m spare) ends room in
+    finish_lacks before e spare turns.Memory m was plan old new is d refused (subst (HasRoom before spare) (sym is) some)
+finish_still_lacks before e spare turns.On m was plan old new is d refused room = d
+finish_still_lacks before e spare (turns.Issued t) m was plan old new is d refused room = d
+finish_still_lacks before e spare (turns.End f) m was plan old new is d refused room = absurd (cc refused)
 
 pub finish_fewer : (before : Machine) (e : Finish) (spare : ℕ) (answer : Turn) (m : Machine) (was plan : Plan) (old new : List Line) (left now : ℕ)
     → Finishes before e spare answer m was plan old new → LeavesFewer answer left now
@@ -202,13 +213,26 @@ finish_overtakes before a spare turns.Memory m was plan old new due d =
 finish_overtakes before a spare turns.On m was plan old new due d = absurd d
 finish_overtakes before a spare (turns.Issued t) m was plan old new due d = absurd d
 
-pub finish_lacks_late : (before : Machine) (a spare : ℕ) (answer : Turn) (m : Machine) (was plan : Plan) (old new : List Line) → late_due before ≡ Some a
-    → Finishes before (finish (Imprecise a)) spare answer m was plan old new → answer ≡ turns.Memory → HasRoom before spare (next_for before was) → ⊥
-finish_lacks_late before a spare turns.Memory m was plan old new due d refused room =
+-- there is no room for its line, whatever else there is room for
+late_lacks : (before k : Machine) (a spare : ℕ) (m : Machine) (was plan : Plan) (old new : List Line) → late_due before ≡ Some a
+    → Unfinished before (finish (Imprecise a)) spare m was plan old new → HasRoom k spare (next_for before was) → ⊥
+late_lacks before k a spare m was plan old new due d room =
     let is = late_is_due before a due in
     let lacks : spare < 1 = d.lacking in
-    let one = entry_room before spare (state_of before.processor) (entry_in (state_of before.processor) is.0) (subst (HasRoom before spare) (late_next before was is.0 is.1) room) in
+    let one = entry_room k spare (state_of before.processor) (entry_in (state_of before.processor) is.0) (subst (HasRoom k spare) (late_next before was is.0 is.1) room) in
     omega (arith, one, lacks)
+
+pub finish_lacks_late : (before : Machine) (a spare : ℕ) (answer : Turn) (m : Machine) (was plan : Plan) (old new : List Line) → late_due before ≡ Some a
+    → Finishes before (finish (Imprecise a)) spare answer m was plan old new → answer ≡ turns.Memory → HasRoom before spare (next_for before was) → ⊥
+finish_lacks_late before a spare turns.Memory m was plan old new due d refused room = late_lacks before before a spare m was plan old new due d room
 finish_lacks_late before a spare turns.On m was plan old new due d refused room = d
 finish_lacks_late before a spare (turns.Issued t) m was plan old new due d refused room = d
 finish_lacks_late before a spare (turns.End f) m was plan old new due d refused room = absurd (cc refused)
+
+pub finish_still_lacks_late : (before : Machine) (a spare : ℕ) (answer : Turn) (m : Machine) (was plan : Plan) (old new : List Line) → late_due before ≡ Some a
+    → Finishes before (finish (Imprecise a)) spare answer m was plan old new → answer ≡ turns.Memory → HasRoom m spare (next_for m plan) → ⊥
+finish_still_lacks_late before a spare turns.Memory m was plan old new due d refused room =
+    late_lacks before m a spare m was plan old new due d (subst (HasRoom m spare) (ap (next_for m) d.kept ∙ next_stays before m was d.same) room)
+finish_still_lacks_late before a spare turns.On m was plan old new due d refused room = d
+finish_still_lacks_late before a spare (turns.Issued t) m was plan old new due d refused room = d
+finish_still_lacks_late before a spare (turns.End f) m was plan old new due d refused room = absurd (cc refused)

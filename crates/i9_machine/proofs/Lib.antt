@@ -16,3 +16,4 @@ pub mod Turned
 pub mod Levels
 pub mod Timely
 pub mod InRuns
+pub mod NewPages

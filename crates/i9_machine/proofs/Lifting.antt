@@ -10,7 +10,7 @@ use Rattle.i9_model.specs.Alike.{AreAlike, AreRecordsAlike, AreNextAlike, told}
 use Rattle.i9_model.specs.HeldFrames.{Cache, renewed, sets_in, cache_acted, cache_configured, cache_after}
 use Rattle.i9_model.proofs.AlikeSteps.{does_alike, ends_alike, done_alike, due_alike, reached_alike, lines_alike, alike_trans, end_alike}
 use Rattle.i9_model.proofs.HeldRuns.{IsFreeRecord, next_free, configured_by, sets_after}
-use Rattle.i9_processor.specs.Effect.{HasRoomFor, has_writes, is_restart}
+use Rattle.i9_processor.specs.Effect.{HasRoomFor, KeepsRoom, has_writes, is_restart}
 use Rattle.i9_processor.specs.State.{state_of, cache_of, size_of}
 use Rattle.i9_model.specs.declared.run.End.{End}
 use Rattle.i9_machine.specs.declared.line.Line.{Line}
@@ -251,6 +251,11 @@ room_alike m spare (Does r) (Does q) alike room = record {
 
 pub next_room : (g : Given) (h : List Item) (m : Machine) (plan : Plan) (spare : ℕ) → StandsFor g h None m → Follows g h plan → HasRoom m spare (comes_next g h) → HasRoom m spare (next_for m plan)
 next_room g h m plan spare stands follows room = room_alike m spare (comes_next g h) (next_for m plan) (beside g h m plan stands follows) room
+
+-- and so is room that stays
+pub kept_room : (before m : Machine) (spare : ℕ) (n : Next) → KeepsRoom before.processor m.processor → HasRoom before spare n → HasRoom m spare n
+kept_room before m spare (Ends f) keeps room = room
+kept_room before m spare (Does r) keeps room = record { lines = room.lines; effect = keeps (action_done r) room.effect; no_sets = room.no_sets }
 
 -- ---- what came next
 

@@ -50,7 +50,7 @@ use Rattle.i9_machine.proofs.Stepping.{move_fewer, step_where}
 use Rattle.i9_machine.proofs.Turning.{same_left, paced_turn}
 use Rattle.i9_machine.proofs.Issuing.{same_need, clear_need, placed_done}
 use Rattle.i9_machine.proofs.Beside.{beside}
-use Rattle.i9_machine.proofs.Unmoved.{unmoved_paced, same_stands}
+use Rattle.i9_machine.proofs.Unmoved.{unmoved_paced, same_stands, event_stays, next_stays}
 
 -- a step's need covers what it changes
 pub step_covers : (m k : Machine) (plan : Plan) (step : Step) (need : Need) (e : Effect) → IsStep m plan step need e → state_of k.processor ≡ state_of m.processor
@@ -181,25 +181,22 @@ like_unmoved before mid l = record {
   shade = l.shade;
 }
 
--- the instruction ahead would issue at the same turn, so the same event stands there
-like_turn_at : (before mid : Machine) → IsLike before mid → turn_at mid ≡ turn_at before
-like_turn_at before mid l =
-    let need = ap (λ (p : Processor). need_ahead (Some (size_of p)) (cache_of p) (instruction_ahead (state_of p))) l.processor in
-    ap (λ (p : Pending). issue_turn p.last p.records (waiting_until mid.floor (need_at mid))) l.board
-    ∙ ap (λ (f : ℕ). issue_turn before.board.last before.board.records (waiting_until f (need_at mid))) l.floor
-    ∙ ap (λ (n : Need). issue_turn before.board.last before.board.records (waiting_until before.floor n)) need
+like_is_same : (before mid : Machine) → IsLike before mid → IsSame before mid
+like_is_same before mid l = record {
+  state = ap state_of l.processor;
+  cache = ap cache_of l.processor;
+  size = ap size_of l.processor;
+  due = l.due;
+  length = l.length;
+  sets = l.sets;
+  unmoved = like_unmoved before mid l;
+}
 
 pub like_event : (before mid : Machine) (plan : Plan) → IsLike before mid → event_for mid plan ≡ event_for before plan
-like_event before mid plan l =
-    ap (λ (p : Processor). standing_by plan.events plan.place (state_of p).count (turn_at mid)) l.processor
-    ∙ ap (standing_by plan.events plan.place (state_of before.processor).count) (like_turn_at before mid l)
+like_event before mid plan l = event_stays before mid plan (like_is_same before mid l)
 
 pub like_next : (before mid : Machine) (plan : Plan) → IsLike before mid → next_for mid plan ≡ next_for before plan
-like_next before mid plan l =
-    ap (λ (o : Option Event). next_in mid.length mid.due o (state_of mid.processor)) (like_event before mid plan l)
-    ∙ ap (λ (p : Processor). next_in mid.length mid.due (event_for before plan) (state_of p)) l.processor
-    ∙ ap (λ (d : Due). next_in mid.length d (event_for before plan) (state_of before.processor)) l.due
-    ∙ ap (λ (n : ℕ). next_in n before.due (event_for before plan) (state_of before.processor)) l.length
+like_next before mid plan l = next_stays before mid plan (like_is_same before mid l)
 
 like_issues_next : (before mid m : Machine) (plan : Plan) → IsLike before mid → IssuesNext mid m plan → IssuesNext before m plan
 like_issues_next before mid m plan l i = record {
@@ -352,16 +349,7 @@ like_room before mid plan spare l room =
 -- what it stands for
 pub like_stands : (g : Given) (h : List Item) (before mid : Machine) → IsLike before mid → StandsFor g h None before → StandsFor g h None mid
 like_stands g h before mid l stands =
-    let same : IsSame before mid = record {
-      state = ap state_of l.processor;
-      cache = ap cache_of l.processor;
-      size = ap size_of l.processor;
-      due = l.due;
-      length = l.length;
-      sets = l.sets;
-      unmoved = like_unmoved before mid l;
-    } in
-    same_stands g h before mid None same (l.ended ∙ stands.ended) tt stands
+    same_stands g h before mid None (like_is_same before mid l) (l.ended ∙ stands.ended) tt stands
 
 -- so what has come has come for it
 pub like_come : (before mid : Machine) (plan : Plan) → IsLike before mid → HasCome before plan → HasCome mid plan

@@ -283,14 +283,15 @@ step_needs m plan step need e is asks =
     ∙ asks)
 
 -- room for what comes next is room for the step that does it
-pub step_room : (m : Machine) (plan : Plan) (spare : ℕ) (step : Step) (need : Need) (e : Effect) → IsStep m plan step need e → HasRoom m spare (next_for m plan) → HasRoomForStep m spare e step (event_in plan step)
-step_room m plan spare step need e is room =
+-- a machine that has room for what comes next of this one has room for the step
+pub step_room : (m k : Machine) (plan : Plan) (spare : ℕ) (step : Step) (need : Need) (e : Effect) → IsStep m plan step need e → HasRoom k spare (next_for m plan) → HasRoomForStep k spare e step (event_in plan step)
+step_room m k plan spare step need e is room =
     let s = state_of m.processor in
     let r = record_of is.kind s in
-    let here : HasRoomToDo m spare r = subst (HasRoom m spare) is.is_next room in
+    let here : HasRoomToDo k spare r = subst (HasRoom k spare) is.is_next room in
     let lines = record_long m plan step need e is in
     record {
       lines = subst (λ (n : ℕ). n ≤ spare) lines here.lines;
-      effect = room_space m.processor s e (subst (HasRoomFor m.processor) (sym is.effect.same) here.effect);
+      effect = room_space k.processor s e (subst (HasRoomFor k.processor) (sym is.effect.same) here.effect);
       no_sets = ap (λ (a : Action). is_restart a.control) is.effect.same ∙ here.no_sets;
     }

@@ -4,16 +4,22 @@ use Rattle.i9_model.specs.declared.need.Cell.{Cell}
 use Rattle.i9_model.specs.declared.run.End.{End}
 use Rattle.i9_model.specs.Alike.{AreAlike}
 use Rattle.i9_model.specs.Late.{Wait}
-use Rattle.i9_model.specs.Run.{Given, state_after, Finish, finish, reached_last}
+use Rattle.i9_model.specs.Run.{Given, state_after, Finish, finish, reached_last, next_in}
+use Rattle.i9_model.specs.ScheduleText.{standing_by}
+use Rattle.i9_model.specs.HeldFrames.{Cache}
+use Rattle.i9_model.specs.declared.need.Need.{Need}
+use Rattle.i9_model.specs.declared.run.Due.{Due}
+use Rattle.i9_model.specs.declared.event.Event.{Event}
 use Rattle.i9_model.specs.State.{State, boot}
-use Rattle.i9_model.specs.Turns.{Pending, IsAllDone}
-use Rattle.i9_course.specs.Course.{Item, records_of, course, ahead}
+use Rattle.i9_model.specs.Turns.{Pending, IsAllDone, issue_turn, waiting_until}
+use Rattle.i9_course.specs.Course.{Item, records_of, course, ahead, instruction_ahead}
+use Rattle.i9_course.specs.NeedOf.{need_ahead}
 use Rattle.i9_raw.specs.Raw.{IsShaded}
 use Rattle.i9_course.specs.Kernel.{Lands}
-use Rattle.i9_processor.specs.State.{state_of, bytes_of, queue_of}
+use Rattle.i9_processor.specs.State.{state_of, cache_of, size_of, bytes_of, queue_of}
 use Rattle.i9_machine.specs.declared.machine.Machine.{Machine}
 use Rattle.i9_machine.specs.Issuing.{kernel_of, IsPaced, IsUnmoved}
-use Rattle.i9_machine.specs.Step.{IsSame, plan_at_end}
+use Rattle.i9_machine.specs.Step.{IsSame, need_at, turn_at, event_for, next_for, plan_at_end}
 use Rattle.i9_machine.specs.StandsFor.{StandsFor, IsOver, IsLanding, IsInTime, left_after}
 use Rattle.std.specs.Option.{option_map}
 use Rattle.i9_schedule.specs.Plan.{Plan}
@@ -91,3 +97,28 @@ pub stays_at_end : (was : Plan) (e : End) → plan_at_end was (finish e) ≡ was
 stays_at_end was e =
     let same : was.place + length (reached_last 0 None) ≡ was.place = omega arith in
     ap (λ (n : ℕ). record was { place = n }) same
+
+-- ---- what comes next of it
+
+-- the instruction ahead would issue at the same turn, so the same event stands there
+turn_stays : (before m : Machine) → IsSame before m → turn_at m ≡ turn_at before
+turn_stays before m same =
+    let need =
+    ap (λ (n : ℕ). need_ahead (Some n) (cache_of m.processor) (instruction_ahead (state_of m.processor))) same.size
+    ∙ ap (λ (c : Cache). need_ahead (Some (size_of before.processor)) c (instruction_ahead (state_of m.processor))) same.cache
+    ∙ ap (λ (s : State). need_ahead (Some (size_of before.processor)) (cache_of before.processor) (instruction_ahead s)) same.state in
+    ap (λ (p : Pending). issue_turn p.last p.records (waiting_until m.floor (need_at m))) same.unmoved.board
+    ∙ ap (λ (f : ℕ). issue_turn before.board.last before.board.records (waiting_until f (need_at m))) same.unmoved.floor
+    ∙ ap (λ (n : Need). issue_turn before.board.last before.board.records (waiting_until before.floor n)) need
+
+pub event_stays : (before m : Machine) (plan : Plan) → IsSame before m → event_for m plan ≡ event_for before plan
+event_stays before m plan same =
+    ap (λ (s : State). standing_by plan.events plan.place s.count (turn_at m)) same.state
+    ∙ ap (standing_by plan.events plan.place (state_of before.processor).count) (turn_stays before m same)
+
+pub next_stays : (before m : Machine) (plan : Plan) → IsSame before m → next_for m plan ≡ next_for before plan
+next_stays before m plan same =
+    ap (λ (o : Option Event). next_in m.length m.due o (state_of m.processor)) (event_stays before m plan same)
+    ∙ ap (next_in m.length m.due (event_for before plan)) same.state
+    ∙ ap (λ (d : Due). next_in m.length d (event_for before plan) (state_of before.processor)) same.due
+    ∙ ap (λ (n : ℕ). next_in n before.due (event_for before plan) (state_of before.processor)) same.length

@@ -10,3 +10,4 @@ pub mod InRun
 pub mod Raw
 pub mod Turned
 pub mod Overtaking
+pub mod NewPages

@@ -157,13 +157,13 @@ Advances g h turns.On before m plan old new =
 Advances g h answer before m plan old new = Comes g h answer before m plan old new
 
 -- The turn moved to the one at which something comes, where the machine was below it, and then that was done. Memory is
--- refused only where room is lacking then, with this many lines to spare.
+-- refused only where room was lacking before, with this many lines to spare.
 pub record Proceeds (g : Given) (h : List Item) (answer : Turn) (before m : Machine) (plan : Plan) (spare : ℕ) (old new : List Line) : Type 0 where
   pub mid : Machine
   pub now : (ahead g h).turn ≡ mid.turn
   pub stands : StandsFor g h None mid
   pub comes : Comes g h answer mid m plan old new
-  pub lacking : answer ≡ turns.Memory → HasRoom mid spare (comes_next g h) → ⊥
+  pub lacking : answer ≡ turns.Memory → HasRoom before spare (comes_next g h) → ⊥
 
 -- the end is answered again, and nothing has changed
 pub record AnswersAgain (f : Finish) (answer : Turn) (before m : Machine) (old new : List Line) : Type 0 where

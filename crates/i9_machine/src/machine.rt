@@ -19,6 +19,8 @@ ghost use Rattle.i9_schedule.specs.Plan.{Plan};
 ghost use Rattle.i9_plan.specs.Kept.{inst_in};
 ghost use Rattle.i9_frames.specs.Sets.{held};
 ghost use Rattle.i9_processor.specs.State.{state_of, IsDrained};
+ghost use Rattle.i9_processor.specs.Effect.{KeepsRoom};
+ghost use Rattle.i9_processor.specs.Pages.{AddsNoPage, HasPagesFor};
 ghost use Rattle.std.specs.Option.{option_map};
 
 mod doing;
@@ -71,12 +73,13 @@ impl Machine {
     ghost use Rattle.i9_machine.specs.Coming.{HasArrived, HasRead, IsAhead, RunsAhead, IsReadyFor, Came};
     ghost use Rattle.i9_machine.specs.StandsFor.{StandsFor, Follows, Advances, Proceeds, AnswersAgain, LeavesFewer, IsUnderWay, HasCome};
     ghost use Rattle.i9_machine.specs.Issuing.{KeepsPlanned, IsMovedTo, IsPassedTo, IsMoved, IsSettled, IsQuiet};
+    ghost use Rattle.i9_machine.specs.NewPages.{AddsNextOnly};
     ghost use Rattle.i9_machine.specs.Opening.{IsTimely};
     ghost use Rattle.i9_machine.specs.Raw.{IsLevel};
     ghost use Rattle.i9_machine.specs.Step.{HasRoom, Steps, Issues, next_for, steps_left};
 
     /// A machine before its first step: its run has the image's bytes, so many register sets or as many
-    /// as the PRCB asks for, and at most so many instructions.
+    /// as the PRCB asks for, and at most so many instructions. It has pages for the image's bytes alone.
     pub fn new(
         alloc: Global,
         image: &Segments,
@@ -88,6 +91,7 @@ impl Machine {
         ensures stands { (plan : List Timed) → IsPlan plan
             → IfOk result (λ m. StandsFor (given (pairs_of image.now) plan length sets) [] None m) }
         ensures turn { IfOk result (λ m. m.turn ≡ 1) }
+        ensures pages { IfOk result (λ m. HasPagesFor m.processor (pairs_of image.now)) }
     {
         let processor = Processor::boot(alloc, image, sets)?;
         let memo = Memo::new(alloc)?;
@@ -185,6 +189,8 @@ impl Machine {
     fn move_to(&mut self, turn: u64)
         ensures moved { IsMovedTo turn self.old self.new }
         ensures keeps { KeepsPlanned self.old self.new }
+        ensures room { KeepsRoom self.old.processor self.new.processor }
+        ensures no_more { AddsNoPage self.old.processor self.new.processor }
     {
         self.turn = turn;
         self.processor.land(turn);
@@ -195,6 +201,8 @@ impl Machine {
     fn pass_to(&mut self, turn: u64)
         ensures passed { IsPassedTo turn self.old self.new }
         ensures keeps { KeepsPlanned self.old self.new }
+        ensures room { KeepsRoom self.old.processor self.new.processor }
+        ensures no_more { AddsNoPage self.old.processor self.new.processor }
     {
         if self.turn < turn {
             self.move_to(turn);
@@ -204,7 +212,8 @@ impl Machine {
     /// The turn moves by one, to which something waits, and what is due lands.
     fn move_on(&mut self)
         requires { self.old.turn < self.old.wait }
-        ensures { IsMoved self.old self.new }
+        ensures moved { IsMoved self.old self.new }
+        ensures no_more { AddsNoPage self.old.processor self.new.processor }
     {
         self.move_to(self.turn + 1);
     }
@@ -214,6 +223,7 @@ impl Machine {
         requires { self.old.turn < turn }
         ensures answer { result ≡ Turn.On }
         ensures moved { IsMoved (record self.old { wait = turn }) self.new }
+        ensures no_more { AddsNoPage self.old.processor self.new.processor }
     {
         self.wait = turn;
         self.move_on();
@@ -234,6 +244,9 @@ impl Machine {
         ensures issues { Issues self.old result self.new plan.old }
         ensures lacking { result ≡ Turn.Memory
             → HasRoom self.old (vec_capacity out.old - vec_len out.old) (next_for self.old plan.old) → ⊥ }
+        ensures still_lacking { result ≡ Turn.Memory
+            → HasRoom self.new (vec_capacity out.new - vec_len out.new) (next_for self.new plan.new) → ⊥ }
+        ensures only { AddsNextOnly self.old self.new (next_for self.old plan.old) }
         ensures fewer { LeavesFewer result (steps_left self.old plan.old) (steps_left self.new plan.new) }
     {
         match self.next_step(read, plan) {
@@ -263,6 +276,9 @@ impl Machine {
         ensures issues { Issues self.old result self.new plan.old }
         ensures lacking { result ≡ Turn.Memory
             → HasRoom self.old (vec_capacity out.old - vec_len out.old) (next_for self.old plan.old) → ⊥ }
+        ensures still_lacking { result ≡ Turn.Memory
+            → HasRoom self.new (vec_capacity out.new - vec_len out.new) (next_for self.new plan.new) → ⊥ }
+        ensures only { AddsNextOnly self.old self.new (next_for self.old plan.old) }
         ensures fewer { LeavesFewer result (steps_left self.old plan.old) (steps_left self.new plan.new) }
     {
         let step = self.faults_by(number);
@@ -280,6 +296,9 @@ impl Machine {
         ensures issues { Issues self.old result self.new plan.old }
         ensures lacking { result ≡ Turn.Memory
             → HasRoom self.old (vec_capacity out.old - vec_len out.old) (next_for self.old plan.old) → ⊥ }
+        ensures still_lacking { result ≡ Turn.Memory
+            → HasRoom self.new (vec_capacity out.new - vec_len out.new) (next_for self.new plan.new) → ⊥ }
+        ensures only { AddsNextOnly self.old self.new (next_for self.old plan.old) }
         ensures fewer { LeavesFewer result (steps_left self.old plan.old) (steps_left self.new plan.new) }
     {
         let step = self.does();
@@ -297,6 +316,9 @@ impl Machine {
         ensures issues { Issues self.old result self.new plan.old }
         ensures lacking { result ≡ Turn.Memory
             → HasRoom self.old (vec_capacity out.old - vec_len out.old) (next_for self.old plan.old) → ⊥ }
+        ensures still_lacking { result ≡ Turn.Memory
+            → HasRoom self.new (vec_capacity out.new - vec_len out.new) (next_for self.new plan.new) → ⊥ }
+        ensures only { AddsNextOnly self.old self.new (next_for self.old plan.old) }
         ensures fewer { LeavesFewer result (steps_left self.old plan.old) (steps_left self.new plan.new) }
     {
         self.step_running(issue, plan, out)
@@ -312,6 +334,9 @@ impl Machine {
         ensures came { Came coming self.old result self.new plan.old plan.new out.old.items out.new.items }
         ensures lacking { result ≡ Turn.Memory
             → HasRoom self.old (vec_capacity out.old - vec_len out.old) (next_for self.old plan.old) → ⊥ }
+        ensures still_lacking { result ≡ Turn.Memory
+            → HasRoom self.new (vec_capacity out.new - vec_len out.new) (next_for self.new plan.new) → ⊥ }
+        ensures only { AddsNextOnly self.old self.new (next_for self.old plan.old) }
         ensures fewer { LeavesFewer result (steps_left self.old plan.old) (steps_left self.new plan.new) }
     {
         match coming {
@@ -333,8 +358,8 @@ impl Machine {
     /// the turn moves by one, and what is due by then lands. The schedule is the one of the run, behind the
     /// events that were reached so far, and goes on where an event is reached. Memory is refused only where
     /// room is lacking in the machine or in `out`, or where new sets are to be made, and never where the turn
-    /// moves; then all three are as before. Once an end was answered, each call answers it again and changes
-    /// nothing.
+    /// moves; then all three are as before, and some room is lacking still. A page of memory is new only for
+    /// what comes next. Once an end was answered, each call answers it again and changes nothing.
     pub fn advance(&mut self, plan: &mut Schedule, out: &mut Vec<Line>) -> Turn
         requires stands { self.old.ended ≡ None → IsUnderWay self.old plan.old }
         ensures next { (g : Given) (h : List Item) → StandsFor g h None self.old → Follows g h plan.old
@@ -343,6 +368,10 @@ impl Machine {
             → AnswersAgain f result self.old self.new out.old.items out.new.items × (plan.new ≡ plan.old) }
         ensures lacking { (g : Given) (h : List Item) → StandsFor g h None self.old → Follows g h plan.old
             → result ≡ Turn.Memory → HasRoom self.old (vec_capacity out.old - vec_len out.old) (comes_next g h) → ⊥ }
+        ensures still_lacking { (g : Given) (h : List Item) → StandsFor g h None self.new → Follows g h plan.new
+            → result ≡ Turn.Memory → HasRoom self.new (vec_capacity out.new - vec_len out.new) (comes_next g h) → ⊥ }
+        ensures only { (g : Given) (h : List Item) → StandsFor g h None self.old → Follows g h plan.old
+            → AddsNextOnly self.old self.new (comes_next g h) }
         ensures fewer { LeavesFewer result (steps_left self.old plan.old) (steps_left self.new plan.new) }
     {
         match self.ended {
@@ -363,8 +392,8 @@ impl Machine {
     }
 
     /// As `advance`, behind the turns at which nothing comes, which it passes in one go: what comes next is done, or the
-    /// end is answered, and never does it answer that the turn moved alone. Memory is refused where `advance` may refuse
-    /// it once the turn has moved.
+    /// end is answered, and never does it answer that the turn moved alone. Memory is refused only where room was
+    /// lacking before, or where new sets are to be made.
     // Each caller goes round a loop with it, and has its answer where it is made.
     #[inline(always)]
     pub fn proceed(&mut self, plan: &mut Schedule, out: &mut Vec<Line>) -> Turn
@@ -373,6 +402,8 @@ impl Machine {
             → Proceeds g h result self.old self.new plan.new (vec_capacity out.old - vec_len out.old) out.old.items out.new.items }
         ensures again { (g : Given) (h : List Item) (f : Finish) → StandsFor g h (Some f) self.old
             → AnswersAgain f result self.old self.new out.old.items out.new.items × (plan.new ≡ plan.old) }
+        ensures only { (g : Given) (h : List Item) → StandsFor g h None self.old → Follows g h plan.old
+            → AddsNextOnly self.old self.new (comes_next g h) }
         ensures fewer { LeavesFewer result (steps_left self.old plan.old) (steps_left self.new plan.new) }
     {
         match self.ended {

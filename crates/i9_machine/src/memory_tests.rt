@@ -7,8 +7,6 @@ use crate::tests::{
     take_steps,
 };
 use crate::{End, Machine, Turn};
-use i9_hex::Segments;
-use i9_model::layout::MAX_LENGTH;
 use std::alloc::Global;
 use std::test::*;
 
@@ -55,28 +53,6 @@ fn memory_grows_with_the_pages_that_are_touched(rt: HostRuntime) -> Result<(), F
             (Some(7), Some(9))
         );
     }
-    Ok(())
-}
-
-/// So many machines of the greatest length, before their first step.
-fn longest(alloc: Global, image: &Segments, count: usize) -> Result<Vec<Machine>, Fail> {
-    let mut machines = Vec::new(alloc);
-    for _ in 0..count {
-        machines.push(Machine::new(alloc, image, None, MAX_LENGTH)?)?;
-    }
-    Ok(machines)
-}
-
-#[test]
-fn a_length_takes_no_memory(rt: HostRuntime) -> Result<(), Fail> {
-    // With a byte for each instruction of a run a thousand of these machines would hold ten gigabytes.
-    let image = image_of(rt.alloc(), &PROGRAM)?;
-    let others = longest(rt.alloc(), &image, 999)?;
-    let mut last = run_of(rt.alloc(), &image, None, MAX_LENGTH, b"")?;
-    take_steps(&mut last, 5);
-    assert_eq!(rt; step(&mut last), Turn::End(End::Exit(7)));
-    assert_eq!(rt; (last.machine.view().count, last.lines.len()), (5, 3));
-    assert_eq!(rt; others.len(), 999);
     Ok(())
 }
 

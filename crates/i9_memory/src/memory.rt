@@ -45,12 +45,13 @@ impl Memory {
     }
 
     /// Makes room for `n` bytes from `a` up, and for no others but those of their pages. Memory is refused only where
-    /// room is lacking.
+    /// room is lacking, and then some is lacking still.
     pub fn reserve(&mut self, a: u32, n: u32) -> Result<(), NoMemory>
         ensures same { memory_of self.new ≡ memory_of self.old }
         ensures ok { OnOk result (HasRoom self.new a n) }
         ensures needed { OnErr result (0 < n) }
         ensures lacking { OnErr result (HasRoom self.old a n → ⊥) }
+        ensures still_lacking { OnErr result (HasRoom self.new a n → ⊥) }
         ensures keeps { KeepsRoom self.old self.new }
         ensures only { AddsRoomOnly self.old self.new a n }
     {

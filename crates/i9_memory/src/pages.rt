@@ -169,6 +169,7 @@ impl Pages {
         requires lacking { HasPage self.old number → ⊥ }
         ensures same { byte_of self.new ≡ byte_of self.old }
         ensures ok { OnOk result (HasPage self.new number) }
+        ensures still_lacking { OnErr result (HasPage self.new number → ⊥) }
         ensures keeps { KeepsPages self.old self.new }
         ensures only { (p : ℕ) → p ≢ number → HasPage self.new p → HasPage self.old p }
     {
@@ -185,6 +186,7 @@ impl Pages {
         ensures same { byte_of self.new ≡ byte_of self.old }
         ensures ok { OnOk result (HasByte self.new a) }
         ensures lacking { OnErr result (HasByte self.old a → ⊥) }
+        ensures still_lacking { OnErr result (HasByte self.new a → ⊥) }
         ensures keeps { KeepsPages self.old self.new }
         ensures only { (p : ℕ) → p ≢ a / 256 → HasPage self.new p → HasPage self.old p }
     {
@@ -203,6 +205,7 @@ impl Pages {
         ensures ok { OnOk result ((k : ℕ) → k < n → HasByte self.new (wrapped (a + k))) }
         ensures needed { OnErr result (0 < n) }
         ensures lacking { OnErr result (((k : ℕ) → k < n → HasByte self.old (wrapped (a + k))) → ⊥) }
+        ensures still_lacking { OnErr result (((k : ℕ) → k < n → HasByte self.new (wrapped (a + k))) → ⊥) }
         ensures keeps { KeepsPages self.old self.new }
         ensures only { AddsOnly self.old self.new a n }
     {
@@ -224,6 +227,7 @@ impl Pages {
         ensures ok { OnOk result ((k : ℕ) → k < n → HasByte self.new (wrapped (a + k))) }
         ensures needed { OnErr result (0 < n) }
         ensures lacking { OnErr result (((k : ℕ) → k < n → HasByte self.old (wrapped (a + k))) → ⊥) }
+        ensures still_lacking { OnErr result (((k : ℕ) → k < n → HasByte self.new (wrapped (a + k))) → ⊥) }
         ensures keeps { KeepsPages self.old self.new }
         ensures only { AddsOnly self.old self.new a n }
     {

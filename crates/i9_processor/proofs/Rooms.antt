@@ -2,16 +2,17 @@
 use Rattle.std.proofs.Common.{◌≡◌, ℕ, zero, suc, ◌+◌, ◌<◌, List, [], ◌∷◌, length, subst, arith}
 use Rattle.std.specs.List.{AllByRecursion}
 use Rattle.i9_model.specs.State.{State}
+use Rattle.i9_model.specs.Step as plain
 use Rattle.i9_model.specs.Writes.{wrapped, upwards}
 use Rattle.i9_memory.specs.Memory.{IsReserved}
 use Rattle.i9_storage.specs.declared.storage.Storage.{Storage}
-use Rattle.i9_storage.specs.Storage.{HasSpace, KeepsFrameSpace}
+use Rattle.i9_storage.specs.Storage.{HasSpace, KeepsSpace, KeepsFrameSpace}
 use Rattle.i9_processor.specs.declared.effect.Effect.{Effect}
 use Rattle.i9_processor.specs.declared.effect.Move.{Move}
 use Rattle.i9_processor.specs.declared.effect.Move.TheVariants as moves
 use Rattle.i9_processor.specs.declared.processor.Processor.{Processor}
 use Rattle.i9_processor.proofs.Appending.{first_spacious, later_spacious}
-use Rattle.i9_processor.specs.Effect.{action_in, run_in, requests_in, move_in, HasMoveSpace, HasSpaceFor, HasRoomToMove, HasRoomFor}
+use Rattle.i9_processor.specs.Effect.{action_in, run_in, requests_in, move_in, HasMoveSpace, HasSpaceFor, HasRoomToMove, HasRoomFor, AreSpacious, KeepsRoom}
 
 -- bytes one by one are bytes in a row
 row_space : (s : Storage) (a : ℕ) (bs : List ℕ) → AllByRecursion (λ w. HasSpace s w.0 1) (upwards a bs) → (k : ℕ) → k < length bs → IsReserved s.behind.memory (wrapped (a + k))
@@ -25,6 +26,23 @@ move_kept s t moves.Stays keeps space = tt
 move_kept s t (moves.Saves push back) keeps space = keeps push.save space
 move_kept s t (moves.Returns frame) keeps space = tt
 move_kept s t moves.Flushes keeps space = tt
+
+-- what could be written still can be
+spacious_kept : (s t : Storage) (ps : List (ℕ × ℕ)) → KeepsSpace s t → AreSpacious s ps → AreSpacious t ps
+spacious_kept s t [] keeps all = tt
+spacious_kept s t (p ∷ ps) keeps all = ((λ k lt. keeps (wrapped (p.0 + k)) (all.0 k lt)), spacious_kept s t ps keeps all.1)
+
+save_kept : (s t : Storage) (m : plain.Move) → KeepsFrameSpace s t → HasRoomToMove s m → HasRoomToMove t m
+save_kept s t plain.Stays keeps room = tt
+save_kept s t (plain.Saves save words) keeps room = keeps save room
+save_kept s t plain.Returns keeps room = tt
+save_kept s t plain.Flushes keeps room = tt
+
+pub room_kept : (p q : Processor) → KeepsSpace p.storage q.storage → KeepsFrameSpace p.storage q.storage → KeepsRoom p q
+room_kept p q keeps frames = λ a room. record {
+  bytes = spacious_kept p.storage q.storage a.writes keeps room.bytes;
+  frames = save_kept p.storage q.storage a.move frames room.frames;
+}
 
 move_space : (s : Storage) (t : State) (m : Move) → HasRoomToMove s (move_in t m) → HasMoveSpace s m
 move_space s t moves.Stays room = tt

@@ -181,6 +181,10 @@ pub record HasRoomFor (p : Processor) (a : plain.Action) : Type 0 where
   pub bytes : AreSpacious p.storage a.writes
   pub frames : HasRoomToMove p.storage a.move
 
+-- where there was room for an action there still is
+abbrev pub KeepsRoom : Processor → Processor → Type 0
+KeepsRoom old new = (a : plain.Action) → HasRoomFor old a → HasRoomFor new a
+
 -- a frame is saved
 abbrev pub is_costly : plain.Move → Bool
 is_costly plain.Stays = false

@@ -20,7 +20,7 @@ ghost use Rattle.i9_processor.specs.Issued.{AreCovered, IsCodeCovered, IsStartCo
 ghost use Rattle.i9_processor.specs.Pages.{AddsMoveOnly, AddsWritesOnly};
 ghost use Rattle.i9_processor.specs.Acts.{CanPut, IsDrainedToMove, IsDrainedToControl};
 ghost use Rattle.i9_processor.specs.Effect.{action_in, one_in, requests_in, run_in, writes_in, posting_in, change_in, move_in, sets_in, control_in, cache_through, size_with, is_costly, has_writes};
-ghost use Rattle.i9_processor.specs.Effect.{AreRegisters, AreSpacious, CanPost, CanChange, CanControl, CanMove, HasMoveSpace, HasSpaceFor, IsEmptied, CanTake};
+ghost use Rattle.i9_processor.specs.Effect.{AreRegisters, AreSpacious, CanPost, CanChange, CanControl, CanMove, HasMoveSpace, HasSpaceFor, KeepsRoom, IsEmptied, CanTake};
 
 use crate::effect::{Control, DmaChange, Effect, MOST_BYTES, Move, Posting, Requests};
 use crate::landing::Landing;
@@ -51,6 +51,7 @@ fn reserve_move(storage: &mut Storage, m: &Move) -> Result<(), NoMemory>
     ensures space { OnOk result (HasMoveSpace storage.new m.now) }
     ensures needed { (s : State) → OnErr result (is_costly (move_in s m.now) ≡ true) }
     ensures lacking { OnErr result (HasMoveSpace storage.old m.now → ⊥) }
+    ensures still_lacking { OnErr result (HasMoveSpace storage.new m.now → ⊥) }
 {
     match m {
         Move::Saves { push, back: _ } => storage.reserve_frame(push.save),
@@ -72,6 +73,7 @@ fn reserve_run(storage: &mut Storage, e: &Effect) -> Result<(), NoMemory>
     ensures space { OnOk result (HasSpace storage.new e.now.address (length e.now.bytes.items)) }
     ensures needed { OnErr result (0 < length e.now.bytes.items) }
     ensures lacking { OnErr result (HasSpace storage.old e.now.address (length e.now.bytes.items) → ⊥) }
+    ensures still_lacking { OnErr result (HasSpace storage.new e.now.address (length e.now.bytes.items) → ⊥) }
 {
     if e.bytes.is_empty() {
         return Ok(());
@@ -93,6 +95,7 @@ fn reserve_one(storage: &mut Storage, byte: Option<(u32, u8)>) -> Result<(), NoM
     ensures space { OnOk result (AreSpacious storage.new (one_in byte)) }
     ensures needed { OnErr result (0 < length (one_in byte)) }
     ensures lacking { OnErr result (AreSpacious storage.old (one_in byte) → ⊥) }
+    ensures still_lacking { OnErr result (AreSpacious storage.new (one_in byte) → ⊥) }
 {
     match byte {
         Some((address, _)) => storage.reserve(address, 1),
@@ -116,6 +119,7 @@ fn reserve_requests(storage: &mut Storage, requests: &Requests) -> Result<(), No
     ensures space { OnOk result (AreSpacious storage.new (requests_in requests.now)) }
     ensures needed { OnErr result (0 < length (requests_in requests.now)) }
     ensures lacking { OnErr result (AreSpacious storage.old (requests_in requests.now) → ⊥) }
+    ensures still_lacking { OnErr result (AreSpacious storage.new (requests_in requests.now) → ⊥) }
 {
     reserve_one(storage, requests.first)?;
     reserve_one(storage, requests.second)
@@ -295,7 +299,7 @@ impl Processor {
     ghost use Rattle.i9_processor.specs.Pages.{AddsActionOnly, AddsNoPage};
 
     /// Makes room for what an effect stores and saves, and for nothing else but what shares their pages. Memory is
-    /// refused only where room is lacking.
+    /// refused only where room is lacking, and then some is lacking still.
     // Each step calls it, and most effects store and save nothing.
     #[inline(always)]
     #[tactic(auto, unfolding(crate::specs::State::state_of, crate::specs::State::cache_of, crate::specs::State::size_of, crate::specs::State::cells_of, crate::specs::State::bytes_of, crate::specs::State::queue_of), using(crate::proofs::Applying::room_rules))]
@@ -309,6 +313,7 @@ impl Processor {
         ensures space { OnOk result (HasSpaceFor self.new e.now) }
         ensures needed { OnErr result (has_writes (action_in (state_of self.old) e.now) ≡ true) }
         ensures lacking { OnErr result (HasSpaceFor self.old e.now → ⊥) }
+        ensures still_lacking { OnErr result (HasSpaceFor self.new e.now → ⊥) }
         ensures only { AddsActionOnly self.old self.new (action_in (state_of self.old) e.now) }
     {
         reserve_run(&mut self.storage, e)?;
@@ -682,7 +687,7 @@ impl Processor {
     }
 
     /// What is due by `turn` lands: planned values take their place, and bytes that wait are stored.
-    /// Nothing else changes.
+    /// Nothing else changes, and no room goes.
     #[tactic(auto, unfolding(crate::specs::State::state_of, crate::specs::State::cache_of, crate::specs::State::size_of, crate::specs::State::cells_of, crate::specs::State::bytes_of, crate::specs::State::queue_of))]
     pub fn land(&mut self, turn: u64)
         ensures state { state_of self.new ≡ state_of self.old }
@@ -691,6 +696,7 @@ impl Processor {
         ensures cells { (r : ℕ) → cells_of self.new r ≡ landed turn (cells_of self.old r) }
         ensures bytes { bytes_of self.new ≡ stored (bytes_of self.old) (due_puts turn (queue_of self.old)) }
         ensures queue { queue_of self.new ≡ left_waiting turn (queue_of self.old) }
+        ensures keeps { KeepsRoom self.old self.new }
         ensures no_more { AddsNoPage self.old self.new }
     {
         self.file.land(turn);

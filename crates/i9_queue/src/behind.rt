@@ -68,7 +68,7 @@ impl Behind {
     }
 
     /// Makes room for `n` bytes from `a` up, and for no others but those of their pages. Memory is refused only where
-    /// room is lacking.
+    /// room is lacking, and then some is lacking still.
     pub fn reserve(&mut self, a: u32, n: u32) -> Result<(), NoMemory>
         ensures settled { settled self.new ≡ settled self.old }
         ensures acted { acted self.new ≡ acted self.old }
@@ -76,6 +76,7 @@ impl Behind {
         ensures ok { OnOk result (HasRoomIn self.new a n) }
         ensures needed { OnErr result (0 < n) }
         ensures lacking { OnErr result (HasRoomIn self.old a n → ⊥) }
+        ensures still_lacking { OnErr result (HasRoomIn self.new a n → ⊥) }
         ensures keeps { KeepsRoomIn self.old self.new }
         ensures only { AddsRoomOnlyIn self.old self.new a n }
     {

@@ -140,6 +140,7 @@ impl Storage {
         ensures acted { (acted_in self.new).bytes
             ≡ stored (acted_in self.old).bytes (due_puts turn (waiting_in self.old)) }
         ensures keeps { KeepsSpace self.old self.new }
+        ensures frame_space { KeepsFrameSpace self.old self.new }
         ensures no_more { AddsNone self.old self.new }
     {
         self.behind.land(turn);
@@ -196,7 +197,7 @@ impl Storage {
     }
 
     /// Makes space for `n` bytes from `a` up, and for no others but those of their pages. Memory is refused only where
-    /// space is lacking.
+    /// space is lacking, and then some is lacking still.
     pub fn reserve(&mut self, a: u32, n: u32) -> Result<(), NoMemory>
         ensures cache { cache_of self.new ≡ cache_of self.old }
         ensures frames { frames_in self.new ≡ frames_in self.old }
@@ -204,6 +205,7 @@ impl Storage {
         ensures frame_space { KeepsFrameSpace self.old self.new }
         ensures needed { OnErr result (0 < n) }
         ensures lacking { OnErr result (HasSpace self.old a n → ⊥) }
+        ensures still_lacking { OnErr result (HasSpace self.new a n → ⊥) }
         ensures size { size_of self.new ≡ size_of self.old }
         ensures waiting { waiting_in self.new ≡ waiting_in self.old }
         ensures acted { acted_in self.new ≡ acted_in self.old }
@@ -215,12 +217,13 @@ impl Storage {
 
     /// Makes space for a frame at `a`: for its words in memory, so that it can go there whenever it
     /// has to, and for its save; and for nothing else but what shares their pages. Memory is refused
-    /// only where space is lacking.
+    /// only where space is lacking, and then some is lacking still.
     pub fn reserve_frame(&mut self, a: u32) -> Result<(), NoMemory>
         ensures cache { cache_of self.new ≡ cache_of self.old }
         ensures frames { frames_in self.new ≡ frames_in self.old }
         ensures space { OnOk result (HasFrameSpace self.new a) }
         ensures lacking { OnErr result (HasFrameSpace self.old a → ⊥) }
+        ensures still_lacking { OnErr result (HasFrameSpace self.new a → ⊥) }
         ensures size { size_of self.new ≡ size_of self.old }
         ensures waiting { waiting_in self.new ≡ waiting_in self.old }
         ensures acted { acted_in self.new ≡ acted_in self.old }

@@ -13,6 +13,7 @@ ghost use Rattle.i9_model.specs.PrintedText.{Drained, Last, view_of, out_lines, 
 ghost use Rattle.i9_course.specs.LateRun.{is_imprecise};
 ghost use Rattle.i9_processor.specs.Effect.{action_in, move_in, control_in, AreRegisters, AreMade, CanControl, CanMove, CanTake, HasSpaceFor, cache_through, size_with, has_writes, is_restart};
 ghost use Rattle.i9_processor.specs.State.{state_of, cache_of, size_of};
+ghost use Rattle.i9_processor.specs.Pages.{AddsActionOnly, AddsNoPage};
 ghost use Rattle.i9_model.specs.Events.{IsInRange};
 ghost use Rattle.i9_model.specs.Turns.{HasCost, IssuesAt, waiting_until};
 ghost use Rattle.i9_issue.specs.Room.{IsEarly};
@@ -38,6 +39,7 @@ fn reserve_lines(lines: usize, out: &mut Vec<Line>) -> Result<(), NoMemory>
     ensures room { OnOk result (vec_len out.new + lines ≤ vec_capacity out.new) }
     ensures needed { OnErr result (nat_lt 0 lines ≡ true) }
     ensures lacking { OnErr result (vec_capacity out.old < vec_len out.old + lines) }
+    ensures spare { OnErr result (vec_capacity out.new - vec_len out.new ≡ vec_capacity out.old - vec_len out.old) }
 {
     if lines == 0 {
         return Ok(());
@@ -98,6 +100,7 @@ fn put_end(event: Option<&Event>, e: End, view: View, out: &mut Vec<Line>) -> Re
     ensures err { OnErr result (out.new.items ≡ out.old.items) }
     ensures lacking { OnErr result (vec_capacity out.old
         < vec_len out.old + length (journal_lines view.count (option_copied event.entry) ++ last_lines view e)) }
+    ensures spare { OnErr result (vec_capacity out.new - vec_len out.new ≡ vec_capacity out.old - vec_len out.old) }
 {
     reserve_lines(end_count(event, e), out)?;
     put_journal(event, view.count, out);
@@ -230,6 +233,7 @@ fn go_on(reaches: bool, plan: &mut Schedule)
 impl Machine {
     ghost use Rattle.i9_machine.specs.StandsFor.{LeavesFewer};
     ghost use Rattle.i9_machine.specs.Step.{IsPlanned, IsSame, Steps, Finishes, Issues, HasRoom, finish_in, next_for, steps_left};
+    ghost use Rattle.i9_machine.specs.NewPages.{AddsNextOnly};
     ghost use Rattle.i9_machine.specs.Doing.{lines_of, line_count, asks_room, HasRoomForStep, IsReady, action_for, state_behind};
     ghost use Rattle.i9_machine.specs.Issuing.{most_turns, IsIssued, CanActPlaced};
     ghost use Rattle.i9_machine.specs.StandsFor.{HasCome};
@@ -237,8 +241,10 @@ impl Machine {
     /// Answers an end, once its lines are written; the schedule goes on behind an event that is reached with it.
     pub(super) fn answer_end(&mut self, f: Ending, plan: &mut Schedule, out: &mut Vec<Line>) -> Turn
         requires running { self.old.ended ≡ None }
-        ensures { Finishes self.old (finish_in plan.old f) (vec_capacity out.old - vec_len out.old) result self.new
+        ensures finishes { Finishes self.old (finish_in plan.old f) (vec_capacity out.old - vec_len out.old) result self.new
             plan.old plan.new out.old.items out.new.items }
+        ensures processor { self.new.processor ≡ self.old.processor }
+        ensures spare { result ≡ Turn.Memory → vec_capacity out.new - vec_len out.new ≡ vec_capacity out.old - vec_len out.old }
     {
         let event = next_event(plan, f.reaches());
         let reaches = event.is_some();
@@ -289,6 +295,8 @@ impl Machine {
         ensures made { IfOk result (AreMade self.old.sets (state_of self.old.processor).memory self.new.effect.control) }
         ensures needed { OnErr result (asks_room (state_of self.old.processor) self.old.effect step.now (option_copied event.entry) ≡ true) }
         ensures lacking { OnErr result (HasRoomForStep self.old (vec_capacity out.old - vec_len out.old) self.old.effect step.now (option_copied event.entry) → ⊥) }
+        ensures still_lacking { OnErr result (HasRoomForStep self.new (vec_capacity out.new - vec_len out.new) self.new.effect step.now (option_copied event.entry) → ⊥) }
+        ensures only { AddsActionOnly self.old.processor self.new.processor (action_for self.old self.old.effect) }
     {
         let sets = self.make_sets(self.effect.control)?;
         self.processor.reserve(&self.effect)?;
@@ -334,6 +342,7 @@ impl Machine {
         ensures lines { AddsLines out.old.items out.new.items
             (lines_of self.old.effect step.now (option_copied event.entry) (state_of self.old.processor)
             (state_behind self.old self.old.effect step.now)) }
+        ensures no_more { AddsNoPage self.old.processor self.new.processor }
     {
         let placed = self.board.place_at(&self.need, issue);
         self.done = placed.done;
@@ -377,6 +386,9 @@ impl Machine {
         ensures issues { Issues self.old result self.new plan.old }
         ensures lacking { result ≡ Turn.Memory
             → HasRoom self.old (vec_capacity out.old - vec_len out.old) (next_for self.old plan.old) → ⊥ }
+        ensures still_lacking { result ≡ Turn.Memory
+            → HasRoom self.new (vec_capacity out.new - vec_len out.new) (next_for self.new plan.new) → ⊥ }
+        ensures only { AddsNextOnly self.old self.new (next_for self.old plan.old) }
         ensures fewer { LeavesFewer result (steps_left self.old plan.old) (steps_left self.new plan.new) }
     {
         let event = next_event(plan, step.reaches);

@@ -1,10 +1,10 @@
 //! A whole turn of the machine, and what it leaves.
-ghost use Rattle.std.specs.Prelude.{◌≡◌, List, Option, None, Some};
+ghost use Rattle.std.specs.Prelude.{◌≡◌, ◌-◌, List, Option, None, Some, vec_len, vec_capacity};
 ghost use Rattle.i9_model.specs.Given.{Given};
 ghost use Rattle.i9_model.specs.declared.run.End.{End};
 ghost use Rattle.i9_model.specs.State.{boot};
 ghost use Rattle.i9_model.specs.Run.{state_after, Finish};
-ghost use Rattle.i9_course.specs.Course.{Item, records_of, course};
+ghost use Rattle.i9_course.specs.Course.{Item, records_of, course, comes_next};
 ghost use Rattle.i9_raw.specs.Raw.{raw_memory};
 ghost use Rattle.i9_machine.specs.Raw.{raw_at, IsFlushed};
 
@@ -14,12 +14,13 @@ use i9_schedule::Schedule;
 
 impl Machine {
     ghost use Rattle.i9_machine.specs.StandsFor.{StandsFor, Follows, AnswersAgain, IsUnderWay};
+    ghost use Rattle.i9_machine.specs.Step.{HasRoom};
     ghost use Rattle.i9_machine.specs.Turned.{Turns};
 
     /// One turn: steps until the turn has risen by one, which is then answered as `On`, or until the end or want
     /// of memory; an instruction is never answered. All that issues at the turn is done, and its lines are
-    /// appended to `out`. Where memory is refused the steps before are done, and the machine stands between two
-    /// of them. The schedule is the one of the run, as `advance` has it. Once an end was answered, each call
+    /// appended to `out`. Where memory is refused the steps before are done, the machine stands between two of
+    /// them, and room for what comes next is lacking. The schedule is the one of the run, as `advance` has it. Once an end was answered, each call
     /// answers it again and changes nothing.
     pub fn turn(&mut self, plan: &mut Schedule, out: &mut Vec<Line>) -> Turn
         requires stands { self.old.ended ≡ None → IsUnderWay self.old plan.old }
@@ -27,6 +28,8 @@ impl Machine {
             → Turns g h result self.old self.new plan.new out.old.items out.new.items }
         ensures again { (g : Given) (h : List Item) (f : Finish) → StandsFor g h (Some f) self.old
             → AnswersAgain f result self.old self.new out.old.items out.new.items × (plan.new ≡ plan.old) }
+        ensures lacking { (g : Given) (h : List Item) → StandsFor g h None self.new → Follows g h plan.new
+            → result ≡ Turn.Memory → HasRoom self.new (vec_capacity out.new - vec_len out.new) (comes_next g h) → ⊥ }
     {
         match self.ended {
             Some(e) => Turn::End(e),
@@ -39,6 +42,8 @@ impl Machine {
         requires stands { IsUnderWay self.old plan.old }
         ensures next { (g : Given) (h : List Item) → StandsFor g h None self.old → Follows g h plan.old
             → Turns g h result self.old self.new plan.new out.old.items out.new.items }
+        ensures lacking { (g : Given) (h : List Item) → StandsFor g h None self.new → Follows g h plan.new
+            → result ≡ Turn.Memory → HasRoom self.new (vec_capacity out.new - vec_len out.new) (comes_next g h) → ⊥ }
     {
         let begun = self.turn;
         'steps: loop {

@@ -1,9 +1,11 @@
-use Rattle.std.proofs.Common.{◌≡◌, sym, ap, subst, arith}
+use Rattle.std.proofs.Common.{◌≡◌, ℕ, sym, ap, subst, arith}
 use Rattle.i9_model.specs.Turns.{end_turn}
 use Rattle.i9_machine.specs.declared.step.Coming.{Coming}
 use Rattle.i9_machine.specs.Coming.{IsReadyFor, Came, overtaken_by}
+use Rattle.i9_machine.specs.Step.{HasRoom, next_for}
 use Rattle.i9_machine.proofs.Arriving.{arrived_come}
-use Rattle.i9_machine.proofs.Ending.{finish_overtakes, finish_lacks_late, finish_fewer}
+use Rattle.i9_machine.proofs.Ending.{finish_overtakes, finish_lacks_late, finish_still_lacks_late, finish_fewer}
+use Rattle.i9_machine.proofs.NewPages.{same_next}
 use Rattle.i9_machine.proofs.Timely.{is_timely}
 use Rattle.i9_machine.proofs.Turning.{all_landed}
 use Rattle.i9_machine.proofs.machine.Machine.come.Goals as goal
@@ -40,17 +42,25 @@ returns-in-Overtaking-clause-came c =
     let m = c.args.self.now in
     let late = subst (IsReadyFor m c.args.plan.now c.args.turn) c.in-Overtaking.is c.requires.ready in
     subst (λ (x : Coming). Came x m c.answer_end.result c.answer_end.new.self c.args.plan.now c.answer_end.new.plan c.args.out.now.items c.answer_end.new.out.items)
-    (sym c.in-Overtaking.is) (finish_overtakes m _ _ c.answer_end.result c.answer_end.new.self c.args.plan.now _ _ _ late c.answer_end.ensures)
+    (sym c.in-Overtaking.is) (finish_overtakes m _ _ c.answer_end.result c.answer_end.new.self c.args.plan.now _ _ _ late c.answer_end.ensures.finishes)
 
 pub returns-in-Overtaking-clause-lacking : goal.returns-in-Overtaking-clause-lacking
 returns-in-Overtaking-clause-lacking c =
     let m = c.args.self.now in
     let late = subst (IsReadyFor m c.args.plan.now c.args.turn) c.in-Overtaking.is c.requires.ready in
-    finish_lacks_late m _ _ c.answer_end.result c.answer_end.new.self c.args.plan.now _ _ _ late c.answer_end.ensures
+    finish_lacks_late m _ _ c.answer_end.result c.answer_end.new.self c.args.plan.now _ _ _ late c.answer_end.ensures.finishes
+
+pub returns-in-Overtaking-clause-still_lacking : goal.returns-in-Overtaking-clause-still_lacking
+returns-in-Overtaking-clause-still_lacking c = λ is room.
+    let m = c.args.self.now in
+    let new = c.answer_end.new.self in
+    let late = subst (IsReadyFor m c.args.plan.now c.args.turn) c.in-Overtaking.is c.requires.ready in
+    finish_still_lacks_late m _ _ c.answer_end.result new c.args.plan.now c.answer_end.new.plan _ _ late c.answer_end.ensures.finishes is
+    (subst (λ (n : ℕ). HasRoom new n (next_for new c.answer_end.new.plan)) (c.answer_end.ensures.spare is) room)
 
 pub returns-in-Overtaking-clause-fewer : goal.returns-in-Overtaking-clause-fewer
 returns-in-Overtaking-clause-fewer c =
-    finish_fewer c.args.self.now _ _ c.answer_end.result c.answer_end.new.self _ _ _ _ _ _ c.answer_end.ensures
+    finish_fewer c.args.self.now _ _ c.answer_end.result c.answer_end.new.self _ _ _ _ _ _ c.answer_end.ensures.finishes
 
 pub step_running-requires-clause-come : goal.step_running-requires-clause-come
 step_running-requires-clause-come c =
@@ -87,3 +97,7 @@ returns-in-Faulting-clause-came c =
 
 pub step_faulting-requires-clause-ahead : goal.step_faulting-requires-clause-ahead
 step_faulting-requires-clause-ahead c = subst (IsReadyFor c.args.self.now c.args.plan.now c.args.turn) c.in-Faulting.is c.requires.ready
+
+pub returns-in-Overtaking-clause-only : goal.returns-in-Overtaking-clause-only
+returns-in-Overtaking-clause-only c =
+    same_next c.args.self.now c.answer_end.new.self (next_for c.args.self.now c.args.plan.now) c.answer_end.ensures.processor

@@ -26,9 +26,16 @@ use Rattle.i9_machine.specs.StandsFor.{LeavesFewer, left_after}
 use Rattle.i9_machine.specs.Issuing.{most_turns, IsIssued}
 use Rattle.i9_machine.proofs.Arriving.{kept_planned}
 use Rattle.i9_machine.proofs.Turning.{waiting_cost, paced_early}
+use Rattle.i9_machine.proofs.Unmoved.{next_stays}
 use Rattle.i9_machine.proofs.Performing.{step_covers, step_acts, step_issues, unmoved_issued}
-use Rattle.i9_machine.specs.Doing.{event_in, lines_of, asks_room, HasRoomForStep, IsReady, state_behind_of}
-use Rattle.i9_machine.specs.Step.{TellsRecord, IsStep, Did, Steps, Issues, event_for, steps_left}
+use Rattle.i9_schedule.specs.Plan.{Plan}
+use Rattle.i9_processor.specs.Pages.{AddsActionOnly}
+use Rattle.i9_machine.specs.declared.machine.Machine.{Machine}
+use Rattle.i9_machine.specs.declared.step.Step.{Step}
+use Rattle.i9_machine.specs.NewPages.{AddsNextOnly}
+use Rattle.i9_machine.proofs.NewPages.{none_then}
+use Rattle.i9_machine.specs.Doing.{action_for, event_in, lines_of, asks_room, HasRoomForStep, IsReady, state_behind_of}
+use Rattle.i9_machine.specs.Step.{TellsRecord, HasRoom, IsStep, Did, Steps, Issues, event_for, next_for, steps_left}
 use Rattle.i9_machine.proofs.Stepping.{no_memory, did_steps, step_lines, step_needs, fewer_by, did_fewer, record_fewer, did_within, behind_alike, step_within, step_room, plan_is_behind}
 use Rattle.i9_machine.proofs.machine.Machine.perform.Goals as goal
 
@@ -101,7 +108,26 @@ returns-in-Err-clause-lacking c = λ is room.
     let event = event_in c.args.plan.now c.args.step.now in
     let spare = vec_capacity out - vec_len out in
     c.in-Err.ensures.lacking (subst (HasRoomForStep c.args.self.now spare c.args.self.now.effect c.args.step.now) (sym c.next_event-event.ensures.event)
-    (step_room c.args.self.now c.args.plan.now spare c.args.step.now c.requires.step.need c.args.self.now.effect c.requires.step.is room))
+    (step_room c.args.self.now c.args.self.now c.args.plan.now spare c.args.step.now c.requires.step.need c.args.self.now.effect c.requires.step.is room))
+
+pub returns-in-Ok-clause-still_lacking : goal.returns-in-Ok-clause-still_lacking
+returns-in-Ok-clause-still_lacking c = λ is room.
+    let kept = c.requires.step in
+    let s = state_of c.args.self.now.processor in
+    absurd (no_memory kept.is.kind s (subst (TellsRecord kept.is.kind s) (sym c.act-answer.ensures.answer ∙ is) kept.is.tells))
+
+pub returns-in-Err-clause-still_lacking : goal.returns-in-Err-clause-still_lacking
+returns-in-Err-clause-still_lacking c = λ is room.
+    let old = c.args.self.now in
+    let new = c.make_room.new.self in
+    let plan = c.args.plan.now in
+    let step = c.args.step.now in
+    let out = c.make_room.new.out in
+    let spare = vec_capacity out - vec_len out in
+    let kept = subst (IsStep old plan step c.requires.step.need) (sym c.make_room.ensures.effect) c.requires.step.is in
+    c.in-Err.ensures.still_lacking (subst (HasRoomForStep new spare new.effect step) (sym c.next_event-event.ensures.event)
+    (step_room old new plan spare step c.requires.step.need new.effect kept
+    (subst (HasRoom new spare) (next_stays old new plan c.make_room.ensures.same) room)))
 
 pub act-answer-requires-clause-cost : goal.act-answer-requires-clause-cost
 act-answer-requires-clause-cost c =
@@ -231,3 +257,19 @@ returns-in-Err-clause-steps c =
       needed = step_needs old c.args.plan.now c.args.step.now c.requires.step.need c.args.self.now.effect c.requires.step.is
           (ap (asks_room (state_of old.processor) c.args.self.now.effect c.args.step.now) (sym c.next_event-event.ensures.event) ∙ c.in-Err.ensures.needed);
     }
+
+-- what was made room for is what comes next
+made_only : (m new : Machine) (plan : Plan) (step : Step) (need : Need) → IsStep m plan step need m.effect
+    → AddsActionOnly m.processor new.processor (action_for m m.effect) → AddsNextOnly m new (next_for m plan)
+made_only m new plan step need is only =
+    subst (AddsNextOnly m new) (sym is.is_next) (subst (AddsActionOnly m.processor new.processor) is.effect.same only)
+
+pub returns-in-Ok-clause-only : goal.returns-in-Ok-clause-only
+returns-in-Ok-clause-only c =
+    let m = c.args.self.now in
+    made_only m c.act-answer.new.self c.args.plan.now c.args.step.now c.requires.step.need c.requires.step.is
+    (none_then m.processor c.make_room.new.self.processor c.act-answer.new.self.processor (action_for m m.effect) c.make_room.ensures.only c.act-answer.ensures.no_more)
+
+pub returns-in-Err-clause-only : goal.returns-in-Err-clause-only
+returns-in-Err-clause-only c =
+    made_only c.args.self.now c.make_room.new.self c.args.plan.now c.args.step.now c.requires.step.need c.requires.step.is c.make_room.ensures.only

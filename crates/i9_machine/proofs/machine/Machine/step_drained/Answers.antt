@@ -1,10 +1,11 @@
 use Rattle.std.specs.Prelude.{◌-◌, vec_capacity, vec_len}
-use Rattle.std.proofs.Common.{◌∙◌}
+use Rattle.std.proofs.Common.{ℕ, ◌∙◌, subst}
 use Rattle.i9_course.specs.Course.{records_of}
-use Rattle.i9_machine.specs.Step.{steps_left}
+use Rattle.i9_machine.specs.Step.{HasRoom, next_for, steps_left}
 use Rattle.i9_machine.specs.StandsFor.{left_after}
 use Rattle.i9_machine.proofs.Arriving.{kept_planned}
-use Rattle.i9_machine.proofs.Ending.{finish_steps, finish_issues, finish_lacks, finish_fewer, like_finishes}
+use Rattle.i9_machine.proofs.Ending.{finish_steps, finish_issues, finish_lacks, finish_still_lacks, finish_fewer, like_finishes}
+use Rattle.i9_machine.proofs.NewPages.{same_next, like_only}
 use Rattle.i9_machine.proofs.Performing.{like_planned, like_come, like_room, like_fewer, like_steps, like_issues, like_paced}
 use Rattle.i9_machine.proofs.machine.Machine.step_drained.Goals as goal
 
@@ -54,7 +55,7 @@ returns-in-Err-clause-steps c =
     let out = c.args.out.now in
     finish_steps m _ _ c.answer_end.result c.answer_end.new.self c.args.plan.now _ _ _ c.in-Err.ensures.next
     (like_finishes m c.next_step.new.self _ (vec_capacity out - vec_len out) c.answer_end.result c.answer_end.new.self _ _ _ _
-    c.next_step.ensures.like c.answer_end.ensures)
+    c.next_step.ensures.like c.answer_end.ensures.finishes)
 
 pub returns-in-Err-clause-issues : goal.returns-in-Err-clause-issues
 returns-in-Err-clause-issues c =
@@ -62,7 +63,7 @@ returns-in-Err-clause-issues c =
     let out = c.args.out.now in
     finish_issues m _ _ c.answer_end.result c.answer_end.new.self c.args.plan.now _ _ _
     (like_finishes m c.next_step.new.self _ (vec_capacity out - vec_len out) c.answer_end.result c.answer_end.new.self _ _ _ _
-    c.next_step.ensures.like c.answer_end.ensures)
+    c.next_step.ensures.like c.answer_end.ensures.finishes)
 
 pub returns-in-Err-clause-lacking : goal.returns-in-Err-clause-lacking
 returns-in-Err-clause-lacking c =
@@ -70,9 +71,28 @@ returns-in-Err-clause-lacking c =
     let out = c.args.out.now in
     finish_lacks m _ (vec_capacity out - vec_len out) c.answer_end.result c.answer_end.new.self c.args.plan.now _ _ _ c.in-Err.ensures.next
     (like_finishes m c.next_step.new.self _ (vec_capacity out - vec_len out) c.answer_end.result c.answer_end.new.self _ _ _ _
-    c.next_step.ensures.like c.answer_end.ensures)
+    c.next_step.ensures.like c.answer_end.ensures.finishes)
 
 pub returns-in-Err-clause-fewer : goal.returns-in-Err-clause-fewer
 returns-in-Err-clause-fewer c =
     let out = c.args.out.now in
-    finish_fewer c.next_step.new.self _ (vec_capacity out - vec_len out) c.answer_end.result c.answer_end.new.self _ _ _ _ _ _ c.answer_end.ensures
+    finish_fewer c.next_step.new.self _ (vec_capacity out - vec_len out) c.answer_end.result c.answer_end.new.self _ _ _ _ _ _ c.answer_end.ensures.finishes
+
+pub returns-in-Err-clause-still_lacking : goal.returns-in-Err-clause-still_lacking
+returns-in-Err-clause-still_lacking c = λ is room.
+    let m = c.args.self.now in
+    let out = c.args.out.now in
+    let new = c.answer_end.new.self in
+    finish_still_lacks m _ (vec_capacity out - vec_len out) c.answer_end.result new c.args.plan.now c.answer_end.new.plan _ _ c.in-Err.ensures.next
+    (like_finishes m c.next_step.new.self _ (vec_capacity out - vec_len out) c.answer_end.result new _ _ _ _
+    c.next_step.ensures.like c.answer_end.ensures.finishes) is
+    (subst (λ (n : ℕ). HasRoom new n (next_for new c.answer_end.new.plan)) (c.answer_end.ensures.spare is) room)
+
+pub returns-in-Ok-clause-only : goal.returns-in-Ok-clause-only
+returns-in-Ok-clause-only c =
+    like_only c.args.self.now c.next_step.new.self c.perform.new.self c.args.plan.now c.next_step.ensures.like c.perform.ensures.only
+
+pub returns-in-Err-clause-only : goal.returns-in-Err-clause-only
+returns-in-Err-clause-only c =
+    same_next c.args.self.now c.answer_end.new.self (next_for c.args.self.now c.args.plan.now)
+    (c.answer_end.ensures.processor ∙ c.next_step.ensures.like.processor)

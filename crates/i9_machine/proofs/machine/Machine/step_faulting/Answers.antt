@@ -1,6 +1,7 @@
 use Rattle.std.specs.Prelude.{◌-◌, vec_capacity, vec_len}
 use Rattle.i9_machine.specs.Step.{steps_left}
 use Rattle.i9_machine.proofs.Arriving.{ahead_planned}
+use Rattle.i9_machine.proofs.NewPages.{like_only}
 use Rattle.i9_machine.proofs.Performing.{like_planned, like_come, like_room, like_fewer, like_steps, like_issues}
 use Rattle.i9_machine.proofs.machine.Machine.step_faulting.Goals as goal
 
@@ -35,3 +36,7 @@ pub returns-clause-fewer : goal.returns-clause-fewer
 returns-clause-fewer c =
     like_fewer c.args.self.now c.faults_by-step.new.self c.perform.result c.args.plan.now (steps_left c.perform.new.self c.perform.new.plan)
     c.faults_by-step.ensures.like c.perform.ensures.fewer
+
+pub returns-clause-only : goal.returns-clause-only
+returns-clause-only c =
+    like_only c.args.self.now c.faults_by-step.new.self c.perform.new.self c.args.plan.now c.faults_by-step.ensures.like c.perform.ensures.only

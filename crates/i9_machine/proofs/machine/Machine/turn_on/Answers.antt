@@ -10,6 +10,7 @@ returns-then-self-begun c = record {
       risen_since g h c.args.self.now c.steps.self c.steps.plan c.args.out.now.items c.steps.out.items since
       c.advance.new.self c.advance.new.plan c.advance.new.out.items
       (c.in-On.ensures.next g (steps_on since.done h) since.stands since.follows) c.if-self-begun.true;
+  lacking = λ g h stands follows is. absurd (cc is);
 }
 
 pub steps-preserved-else-self-begun : goal.steps-preserved-else-self-begun
@@ -43,6 +44,7 @@ returns-in-End c = record {
       ends_since g h c.args.self.now c.steps.self c.steps.plan c.args.out.now.items c.steps.out.items since
       c.advance.new.self c.advance.new.plan c.advance.new.out.items c.in-End.e
       (c.in-End.ensures.next g (steps_on since.done h) since.stands since.follows);
+  lacking = λ g h stands follows is. absurd (cc is);
 }
 
 pub returns-in-Memory : goal.returns-in-Memory
@@ -52,4 +54,5 @@ returns-in-Memory c = record {
       stops_since g h c.args.self.now c.steps.self c.steps.plan c.args.out.now.items c.steps.out.items since
       c.advance.new.self c.advance.new.plan c.advance.new.out.items
       (c.in-Memory.ensures.next g (steps_on since.done h) since.stands since.follows);
+  lacking = c.in-Memory.ensures.still_lacking;
 }

@@ -1,5 +1,6 @@
 use Rattle.i9_processor.specs.State.{state_of}
 use Rattle.i9_processor.proofs.Issued.{registers_landed, arithmetic_landed}
+use Rattle.i9_processor.proofs.Rooms.{room_kept}
 use Rattle.i9_processor.proofs.processor.Processor.land.Goals as goal
 
 pub returns-clause-state : goal.returns-clause-state
@@ -13,3 +14,6 @@ returns-clause-state c =
       memory = c.land-2.ensures.memory i;
       frames = c.land-2.ensures.frames i;
     }
+
+pub returns-clause-keeps : goal.returns-clause-keeps
+returns-clause-keeps c = room_kept c.args.self.now (record c.args.self.now { file = c.land.new.self; storage = c.land-2.new.self }) c.land-2.ensures.keeps c.land-2.ensures.frame_space
