@@ -1,6 +1,6 @@
 -- Pages that are new in a machine: none, or one of what comes next.
-use Rattle.std.proofs.Common.{◌≡◌, List, None, sym, subst}
-use Rattle.i9_model.specs.Run.{Next, Does, Ends, action_done, Given}
+use Rattle.std.proofs.Common.{◌≡◌, List, [], ◌∷◌, None, refl, sym, subst}
+use Rattle.i9_model.specs.Run.{Record, Next, Does, Ends, action_done, Given}
 use Rattle.i9_model.specs.Step.{Action}
 use Rattle.i9_model.specs.Alike.{AreNextAlike}
 use Rattle.i9_model.proofs.AlikeSteps.{done_alike}
@@ -10,7 +10,7 @@ use Rattle.i9_processor.specs.Pages.{AddsActionOnly, AddsNoPage}
 use Rattle.i9_processor.specs.declared.processor.Processor.{Processor}
 use Rattle.i9_machine.specs.declared.machine.Machine.{Machine}
 use Rattle.i9_machine.specs.Issuing.{IsLike}
-use Rattle.i9_machine.specs.NewPages.{AddsNextOnly}
+use Rattle.i9_machine.specs.NewPages.{AddsNextOnly, AddsRecordsOnly, with_next}
 use Rattle.i9_machine.specs.StandsFor.{StandsFor, Follows}
 use Rattle.i9_machine.specs.Step.{next_for}
 use Rattle.i9_machine.proofs.Beside.{beside}
@@ -58,3 +58,22 @@ run_only g h before m plan stands follows only = by_next (comes_next g h) (next_
     by_next (Does r) (Ends e) alike only = absurd alike
     by_next (Ends f) (Does q) alike only = absurd alike
     by_next (Ends f) (Ends e) alike only = only
+
+-- ---- records
+
+pub no_records : (m : Machine) → AddsRecordsOnly m m []
+no_records m = same_pages m.processor m.processor refl
+
+no_more_pages : (before m next : Machine) (rs : List Record) → AddsRecordsOnly before m rs → AddsNoPage m.processor next.processor
+    → AddsRecordsOnly before next rs
+no_more_pages before m next [] pages none = record {
+  bytes = λ x has. pages.bytes x (none.bytes x has);
+  marks = λ x has. pages.marks x (none.marks x has);
+}
+no_more_pages before m next (r ∷ rs) pages none =
+    (pages.0, (pages.1.0, none_then pages.0.processor m.processor next.processor (action_done r) pages.1.1 none))
+
+pub more_pages : (before m next : Machine) (rs : List Record) (n : Next) → AddsRecordsOnly before m rs → AddsNextOnly m next n
+    → AddsRecordsOnly before next (with_next n rs)
+more_pages before m next rs (Does r) pages only = (m, (pages, only))
+more_pages before m next rs (Ends f) pages none = no_more_pages before m next rs pages none

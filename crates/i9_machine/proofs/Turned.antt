@@ -1,5 +1,5 @@
 -- The steps of one turn, and the raw state at it.
-use Rattle.std.proofs.Common.{◌≡◌, ℕ, zero, suc, ◌+◌, ◌%◌, ◌^◌, ◌<◌, ◌≤◌, Bool, false, cond, List, [], ◌∷◌, ◌++◌, map, unwrap_or, Option, None, Some, refl, sym, ap, ◌∙◌, append_assoc, inl, inr, arith}
+use Rattle.std.proofs.Common.{◌≡◌, ℕ, zero, suc, ◌+◌, ◌%◌, ◌^◌, ◌<◌, ◌≤◌, Bool, false, cond, List, [], ◌∷◌, ◌++◌, map, unwrap_or, Option, None, Some, refl, sym, ap, ◌∙◌, subst, append_assoc, inl, inr, arith}
 use Rattle.std.specs.List.{range_with_len}
 use Rattle.std.specs.Prelude.{◌==◌}
 use Rattle.std.proofs.lemmas.Bool.{cond-false}
@@ -11,12 +11,12 @@ use Rattle.i9_isa.specs.declared.resources.TheConstants.{CONDITION_CODE}
 use Rattle.i9_model.specs.Late.{Shows, resource, raw_value, latest_value, is_busy, is_plan_open, turns as late_turns}
 use Rattle.i9_model.specs.Needs.{set_below}
 use Rattle.i9_model.specs.PrintedText.{Shown, register_list, lines_of, record_lines, end_lines}
-use Rattle.i9_model.specs.Run.{Given, state_after, Finish}
+use Rattle.i9_model.specs.Run.{Given, Record, Next, state_after, Finish}
 use Rattle.i9_model.specs.State.{State, boot}
 use Rattle.i9_model.specs.Turns.{last_issue}
 use Rattle.i9_model.proofs.LateRegisters.{cell-busy}
 use Rattle.i9_schedule.specs.Plan.{Plan}
-use Rattle.i9_course.specs.Course.{Item, Step, records_of, course}
+use Rattle.i9_course.specs.Course.{Item, Step, records_of, course, comes_next}
 use Rattle.i9_processor.specs.State.{cells_of, bytes_of}
 use Rattle.i9_raw.specs.Raw.{raw_memory}
 use Rattle.i9_course.proofs.Orderly.{registers_settle}
@@ -31,6 +31,8 @@ use Rattle.i9_machine.specs.Issuing.{kernel_of, IsQuiet}
 use Rattle.i9_machine.specs.Line.{AddsLines, shown_of}
 use Rattle.i9_machine.specs.Raw.{raw_at, IsFlushed, IsLevel}
 use Rattle.i9_machine.specs.StandsFor.{StandsFor, Follows, IsUnderWay, MovesOn, DoesNext, EndsRun, IsRefused, Advances}
+use Rattle.i9_machine.specs.NewPages.{AddsNextOnly, AddsRecordsOnly, with_next}
+use Rattle.i9_machine.proofs.NewPages.{no_records, more_pages}
 use Rattle.i9_machine.specs.Turned.{steps_on, Since, TurnsOn, EndsTurn, StopsTurn}
 
 -- ---- lines
@@ -44,27 +46,44 @@ same_lines old mid new xs first same = ap (map shown_of) same ∙ first
 
 -- ---- steps
 
-pub none_since : (g : Given) (h : List Item) (m : Machine) (plan : Plan) (lines : List Line) → StandsFor g h None m → Follows g h plan
-    → Since g h m m plan lines lines
-none_since g h m plan lines stands follows = record {
-  done = [];
-  turn = refl;
-  stands = stands;
-  follows = follows;
-  lines = sym (append-nil (map shown_of lines));
-}
+-- records were done since a machine, and a page that is new is one of them
+abbrev pub SinceOnly : Given → List Item → Machine → Machine → Plan → List Line → List Line → Type 0
+SinceOnly g h before m plan old new = (since : Since g h before m plan old new) × AddsRecordsOnly before m since.done
+
+pub none_done : (g : Given) (h : List Item) (m : Machine) (plan : Plan) (lines : List Line) → StandsFor g h None m → Follows g h plan
+    → SinceOnly g h m m plan lines lines
+none_done g h m plan lines stands follows = (
+  record {
+    done = [];
+    turn = refl;
+    stands = stands;
+    follows = follows;
+    lines = sym (append-nil (map shown_of lines));
+  },
+  no_records m,
+)
 
 module _ (g : Given) (h : List Item) (before m : Machine) (was : Plan) (old mid : List Line)
-    (since : Since g h before m was old mid) (next : Machine) (plan : Plan) (new : List Line) where
+    (held : SinceOnly g h before m was old mid) (next : Machine) (plan : Plan) (new : List Line)
+    (only : AddsNextOnly m next (comes_next g (steps_on held.0.done h))) where
+  abbrev since : Since g h before m was old mid
+  since = held.0
+
+  pages : AddsRecordsOnly before next (with_next (comes_next g (steps_on since.done h)) since.done)
+  pages = more_pages before m next since.done (comes_next g (steps_on since.done h)) held.1 only
+
   -- one more
-  pub does_since : (answer : Turn) → DoesNext g (steps_on since.done h) answer m next plan mid new → Since g h before next plan old new
-  does_since answer d = record {
-    done = d.done ∷ since.done;
-    turn = d.turn ∙ since.turn;
-    stands = d.stands;
-    follows = d.follows;
-    lines = more_lines old mid new (lines_of since.done) (record_lines d.done) since.lines d.lines;
-  }
+  pub does_since : (answer : Turn) → DoesNext g (steps_on since.done h) answer m next plan mid new → SinceOnly g h before next plan old new
+  does_since answer d = (
+    record {
+      done = d.done ∷ since.done;
+      turn = d.turn ∙ since.turn;
+      stands = d.stands;
+      follows = d.follows;
+      lines = more_lines old mid new (lines_of since.done) (record_lines d.done) since.lines d.lines;
+    },
+    subst (λ (n : Next). AddsRecordsOnly before next (with_next n since.done)) d.is_next pages,
+  )
 
   -- the turn moves
   pub turns_since : MovesOn g (steps_on since.done h) m next plan mid new → TurnsOn g h before next plan old new
@@ -79,6 +98,7 @@ module _ (g : Given) (h : List Item) (before m : Machine) (was : Plan) (old mid 
         stands = d.stands;
         follows = d.follows;
         lines = same_lines old mid new (lines_of since.done) since.lines d.lines;
+        pages = pages;
       }
 
   -- the run ends
@@ -93,6 +113,7 @@ module _ (g : Given) (h : List Item) (before m : Machine) (was : Plan) (old mid 
     stands = d.stands;
     follows = d.follows;
     lines = more_lines old mid new (lines_of since.done) (end_lines (state_after g (records_of (steps_on since.done h))) d.finish) since.lines d.lines;
+    pages = pages;
   }
 
   -- memory is refused
@@ -106,6 +127,7 @@ module _ (g : Given) (h : List Item) (before m : Machine) (was : Plan) (old mid 
       lines = same_lines old mid new (lines_of since.done) since.lines d.lines;
     };
     needed = d.needed;
+    pages = pages;
   }
 
   -- where the turn has risen it moved, and else an event or an entry was done
@@ -113,7 +135,7 @@ module _ (g : Given) (h : List Item) (before m : Machine) (was : Plan) (old mid 
   risen_since (inl moves) risen = turns_since moves
   risen_since (inr does) risen = absurd (risen (does.turn ∙ since.turn))
 
-  pub still_since : Advances g (steps_on since.done h) answers.On m next plan mid new → next.turn ≡ before.turn → Since g h before next plan old new
+  pub still_since : Advances g (steps_on since.done h) answers.On m next plan mid new → next.turn ≡ before.turn → SinceOnly g h before next plan old new
   still_since (inl moves) still =
       let turn : next.turn ≡ m.turn + 1 = moves.turn in
       let was_turn : m.turn ≡ before.turn = since.turn in

@@ -13,6 +13,7 @@ use Rattle.i9_machine.specs.declared.line.Turn.{Turn}
 use Rattle.i9_machine.specs.declared.line.Turn.TheVariants as answers
 use Rattle.i9_machine.specs.declared.machine.Machine.{Machine}
 use Rattle.i9_machine.specs.Line.{AddsLines}
+use Rattle.i9_machine.specs.NewPages.{AddsRecordsOnly, with_next}
 use Rattle.i9_machine.specs.Step.{NeedsRoom}
 use Rattle.i9_machine.specs.StandsFor.{StandsFor, Follows, FollowsTo}
 
@@ -29,7 +30,8 @@ pub record Since (g : Given) (h : List Item) (before m : Machine) (plan : Plan) 
   pub follows : Follows g (steps_on done h) plan
   pub lines : AddsLines old new (lines_of done)
 
--- All records of the run that issue below the new turn have issued, and no others.
+-- All records of the run that issue below the new turn have issued, and no others. Here and below a page that is new
+-- is one of what was done, or of what comes next.
 pub record TurnsOn (g : Given) (h : List Item) (before m : Machine) (plan : Plan) (old new : List Line) : Type 0 where
   pub done : List Record
   pub turn : m.turn ≡ before.turn + 1
@@ -38,6 +40,7 @@ pub record TurnsOn (g : Given) (h : List Item) (before m : Machine) (plan : Plan
   pub stands : StandsFor g (steps_on done h) None m
   pub follows : Follows g (steps_on done h) plan
   pub lines : AddsLines old new (lines_of done)
+  pub pages : AddsRecordsOnly before m (with_next (comes_next g (steps_on done h)) done)
 
 -- the end was answered, at the machine's turn
 pub record EndsTurn (g : Given) (h : List Item) (e : End) (before m : Machine) (plan : Plan) (old new : List Line) : Type 0 where
@@ -50,11 +53,13 @@ pub record EndsTurn (g : Given) (h : List Item) (e : End) (before m : Machine) (
   pub stands : StandsFor g (steps_on done h) (Some finish) m
   pub follows : FollowsTo g (steps_on done h) finish plan
   pub lines : AddsLines old new (lines_of done ++ end_lines (state_after g (records_of (steps_on done h))) finish)
+  pub pages : AddsRecordsOnly before m (with_next (comes_next g (steps_on done h)) done)
 
 -- memory was refused behind whole steps
 pub record StopsTurn (g : Given) (h : List Item) (before m : Machine) (plan : Plan) (old new : List Line) : Type 0 where
   pub since : Since g h before m plan old new
   pub needed : NeedsRoom (comes_next g (steps_on since.done h))
+  pub pages : AddsRecordsOnly before m (with_next (comes_next g (steps_on since.done h)) since.done)
 
 -- what a turn does, by its answer, which is no instruction
 abbrev pub Turns : Given → List Item → Turn → Machine → Machine → Plan → List Line → List Line → Type 0

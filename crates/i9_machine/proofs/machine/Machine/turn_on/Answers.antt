@@ -1,14 +1,22 @@
 use Rattle.i9_machine.specs.declared.line.Turn.TheVariants as answers
 use Rattle.i9_machine.specs.Turned.{steps_on}
-use Rattle.i9_machine.proofs.Turned.{does_since, ends_since, stops_since, risen_since, still_since, does_under_way, still_under_way}
+use Rattle.i9_machine.proofs.Turned.{none_done, does_since, ends_since, stops_since, risen_since, still_since, does_under_way, still_under_way}
 use Rattle.i9_machine.proofs.machine.Machine.turn_on.Goals as goal
+
+pub steps-init : goal.steps-init
+steps-init c = (
+  c.requires.stands,
+  λ g h stands follows. none_done g h c.args.self.now c.args.plan.now c.args.out.now.items stands follows,
+)
 
 pub returns-then-self-begun : goal.returns-then-self-begun
 returns-then-self-begun c = record {
   next = λ g h stands follows.
-      let since = c.steps.invariant.1 g h stands follows in
-      risen_since g h c.args.self.now c.steps.self c.steps.plan c.args.out.now.items c.steps.out.items since
+      let held = c.steps.invariant.1 g h stands follows in
+      let since = held.0 in
+      risen_since g h c.args.self.now c.steps.self c.steps.plan c.args.out.now.items c.steps.out.items held
       c.advance.new.self c.advance.new.plan c.advance.new.out.items
+      (c.in-On.ensures.only g (steps_on since.done h) since.stands since.follows)
       (c.in-On.ensures.next g (steps_on since.done h) since.stands since.follows) c.if-self-begun.true;
   lacking = λ g h stands follows is. absurd (cc is);
 }
@@ -19,9 +27,11 @@ steps-preserved-else-self-begun c =
       still_under_way under.given under.items c.steps.self c.advance.new.self c.advance.new.plan c.steps.out.items c.advance.new.out.items
           (c.in-On.ensures.next under.given under.items under.stands under.follows),
       λ g h stands follows.
-          let since = c.steps.invariant.1 g h stands follows in
-          still_since g h c.args.self.now c.steps.self c.steps.plan c.args.out.now.items c.steps.out.items since
+          let held = c.steps.invariant.1 g h stands follows in
+          let since = held.0 in
+          still_since g h c.args.self.now c.steps.self c.steps.plan c.args.out.now.items c.steps.out.items held
           c.advance.new.self c.advance.new.plan c.advance.new.out.items
+          (c.in-On.ensures.only g (steps_on since.done h) since.stands since.follows)
           (c.in-On.ensures.next g (steps_on since.done h) since.stands since.follows) c.if-self-begun.false,
     )
 
@@ -31,18 +41,22 @@ steps-preserved c =
       does_under_way under.given under.items (answers.Issued c.in-Issued.field-0) c.steps.self c.advance.new.self c.advance.new.plan c.steps.out.items c.advance.new.out.items
           (c.in-Issued.ensures.next under.given under.items under.stands under.follows),
       λ g h stands follows.
-          let since = c.steps.invariant.1 g h stands follows in
-          does_since g h c.args.self.now c.steps.self c.steps.plan c.args.out.now.items c.steps.out.items since
-          c.advance.new.self c.advance.new.plan c.advance.new.out.items (answers.Issued c.in-Issued.field-0)
+          let held = c.steps.invariant.1 g h stands follows in
+          let since = held.0 in
+          does_since g h c.args.self.now c.steps.self c.steps.plan c.args.out.now.items c.steps.out.items held
+          c.advance.new.self c.advance.new.plan c.advance.new.out.items
+          (c.in-Issued.ensures.only g (steps_on since.done h) since.stands since.follows) (answers.Issued c.in-Issued.field-0)
           (c.in-Issued.ensures.next g (steps_on since.done h) since.stands since.follows),
     )
 
 pub returns-in-End : goal.returns-in-End
 returns-in-End c = record {
   next = λ g h stands follows.
-      let since = c.steps.invariant.1 g h stands follows in
-      ends_since g h c.args.self.now c.steps.self c.steps.plan c.args.out.now.items c.steps.out.items since
-      c.advance.new.self c.advance.new.plan c.advance.new.out.items c.in-End.e
+      let held = c.steps.invariant.1 g h stands follows in
+      let since = held.0 in
+      ends_since g h c.args.self.now c.steps.self c.steps.plan c.args.out.now.items c.steps.out.items held
+      c.advance.new.self c.advance.new.plan c.advance.new.out.items
+      (c.in-End.ensures.only g (steps_on since.done h) since.stands since.follows) c.in-End.e
       (c.in-End.ensures.next g (steps_on since.done h) since.stands since.follows);
   lacking = λ g h stands follows is. absurd (cc is);
 }
@@ -50,9 +64,11 @@ returns-in-End c = record {
 pub returns-in-Memory : goal.returns-in-Memory
 returns-in-Memory c = record {
   next = λ g h stands follows.
-      let since = c.steps.invariant.1 g h stands follows in
-      stops_since g h c.args.self.now c.steps.self c.steps.plan c.args.out.now.items c.steps.out.items since
+      let held = c.steps.invariant.1 g h stands follows in
+      let since = held.0 in
+      stops_since g h c.args.self.now c.steps.self c.steps.plan c.args.out.now.items c.steps.out.items held
       c.advance.new.self c.advance.new.plan c.advance.new.out.items
+      (c.in-Memory.ensures.only g (steps_on since.done h) since.stands since.follows)
       (c.in-Memory.ensures.next g (steps_on since.done h) since.stands since.follows);
   lacking = c.in-Memory.ensures.still_lacking;
 }

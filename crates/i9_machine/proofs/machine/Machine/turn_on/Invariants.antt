@@ -3,13 +3,13 @@ use Rattle.i9_model.specs.Run.{Given}
 use Rattle.i9_course.specs.Course.{Item}
 use Rattle.i9_machine.specs.StandsFor.{StandsFor, Follows, IsUnderWay}
 use Rattle.i9_machine.specs.Step.{steps_left}
-use Rattle.i9_machine.specs.Turned.{Since}
+use Rattle.i9_machine.proofs.Turned.{SinceOnly}
 use Rattle.i9_machine.proofs.machine.Machine.turn_on.Given as goal
 
 abbrev pub invariant-steps : goal.invariant-steps
 invariant-steps l =
     IsUnderWay l.self l.plan
-    × ((g : Given) (h : List Item) → StandsFor g h None l.fn.self → Follows g h l.fn.plan → Since g h l.fn.self l.self l.plan l.fn.out.items l.out.items)
+    × ((g : Given) (h : List Item) → StandsFor g h None l.fn.self → Follows g h l.fn.plan → SinceOnly g h l.fn.self l.self l.plan l.fn.out.items l.out.items)
 
 abbrev pub decreases-steps : goal.decreases-steps
 decreases-steps l = steps_left l.self l.plan
