@@ -14,18 +14,17 @@ use Rattle.i9_model.specs.Alike.{AreAlike}
 use Rattle.i9_model.specs.declared.run.Point.{Point}
 use Rattle.i9_model.specs.declared.view.View.{View}
 use Rattle.i9_model.specs.declared.event.Event.{Event}
-use Rattle.i9_model.specs.ScheduleText.{standing_by}
 use Rattle.i9_model.specs.State.{State}
 use Rattle.i9_model.specs.Step.{Action}
-use Rattle.i9_model.specs.Run.{Given, Kind, Record, Next, Does, Ends, record_of, action_by_kind, action_done, due_after, next_in, state_after}
+use Rattle.i9_model.specs.Run.{Given, Kind, Record, Next, Does, Ends, record_of, action_by_kind, action_done, due_after, state_after}
 use Rattle.i9_model.specs.Turns.{Pending, IsAllDone, with_need, last_issue, issue_turn, waiting_until, placed_record}
 use Rattle.i9_model.specs.Turns as board
 use Rattle.i9_model.proofs.AlikeSteps.{does_alike, view_alike}
 use Rattle.i9_model.proofs.HeldRuns.{next_free}
 use Rattle.i9_schedule.specs.Plan.{Plan}
 use Rattle.i9_regs.specs.Covered.{IsCovered}
-use Rattle.i9_course.specs.NeedOf.{need_of, need_ahead}
-use Rattle.i9_course.specs.Course.{Item, records_of, instruction_ahead, event_ahead, comes_next, ahead}
+use Rattle.i9_course.specs.NeedOf.{need_of}
+use Rattle.i9_course.specs.Course.{Item, records_of, event_ahead, comes_next, ahead}
 use Rattle.i9_course.proofs.Landed.{request_last}
 use Rattle.i9_course.proofs.NeedActs.{need_still}
 use Rattle.i9_course.proofs.NeedCovers.{need_covers}
@@ -43,7 +42,7 @@ use Rattle.i9_machine.specs.declared.machine.Machine.{Machine}
 use Rattle.i9_machine.specs.declared.step.Step.{Step}
 use Rattle.i9_machine.specs.Overtaking.{HasPace}
 use Rattle.i9_machine.specs.Issuing.{kernel_of, IsPaced, IsPlaced, IsIssued, IsUnmoved, IsLike, IsMoved, CanActPlaced}
-use Rattle.i9_machine.specs.Step.{TellsRecord, NeedsRoom, HasRoom, IsStepIn, IsStepWhere, IsStep, IsPlannedIn, IsPlanned, IsSame, Did, Steps, IssuesNext, Issues, need_at, turn_at, event_for, next_for, records_left, steps_left}
+use Rattle.i9_machine.specs.Step.{TellsRecord, NeedsRoom, HasRoom, IsStepIn, IsStepWhere, IsStep, IsPlannedIn, IsPlanned, IsSame, Did, Steps, IssuesNext, Issues, event_for, next_for, records_left, steps_left}
 use Rattle.i9_machine.specs.StandsFor.{StandsFor, HasCome, LeavesFewer}
 use Rattle.i9_machine.specs.Line.{shown_of}
 use Rattle.i9_machine.proofs.Stepping.{move_fewer, step_where}

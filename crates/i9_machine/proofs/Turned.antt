@@ -11,7 +11,7 @@ use Rattle.i9_isa.specs.declared.resources.TheConstants.{CONDITION_CODE}
 use Rattle.i9_model.specs.Late.{Shows, resource, raw_value, latest_value, is_busy, is_plan_open, turns as late_turns}
 use Rattle.i9_model.specs.Needs.{set_below}
 use Rattle.i9_model.specs.PrintedText.{Shown, register_list, lines_of, record_lines, end_lines}
-use Rattle.i9_model.specs.Run.{Given, Record, Next, state_after, Finish}
+use Rattle.i9_model.specs.Run.{Given, Next, state_after, Finish}
 use Rattle.i9_model.specs.State.{State, boot}
 use Rattle.i9_model.specs.Turns.{last_issue}
 use Rattle.i9_model.proofs.LateRegisters.{cell-busy}

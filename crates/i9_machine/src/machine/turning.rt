@@ -20,7 +20,8 @@ impl Machine {
     /// One turn: steps until the turn has risen by one, which is then answered as `On`, or until the end or want
     /// of memory; an instruction is never answered. All that issues at the turn is done, and its lines are
     /// appended to `out`. Where memory is refused the steps before are done, the machine stands between two of
-    /// them, and room for what comes next is lacking. The schedule is the one of the run, as `advance` has it. Once an end was answered, each call
+    /// them, and room for what comes next is lacking. A page of memory is new only for what was done, or for
+    /// what comes next. The schedule is the one of the run, as `advance` has it. Once an end was answered, each call
     /// answers it again and changes nothing.
     pub fn turn(&mut self, plan: &mut Schedule, out: &mut Vec<Line>) -> Turn
         requires stands { self.old.ended ≡ None → IsUnderWay self.old plan.old }
