@@ -4,7 +4,6 @@ use Rattle.std.specs.Prelude.{IsSome}
 use Rattle.i9_model.specs.State.{State}
 use Rattle.i9_model.specs.Given.{Given, given}
 use Rattle.i9_model.specs.declared.event.Timed.{Timed}
-use Rattle.i9_model.specs.declared.run.End.{End}
 use Rattle.i9_text.specs.Text.{lines_of as text_lines}
 use Rattle.i9_model.specs.ScheduleText.{IsSchedule, IsByCounts}
 use Rattle.i9_model.specs.Run.{Record, reached_after, Finish, reached_last}

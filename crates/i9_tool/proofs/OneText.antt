@@ -1,6 +1,5 @@
 -- A script prints one text from a place on, and leads to one place.
 use Rattle.std.proofs.Common.{◌≡◌, ℕ, ◌+◌, ◌<◌, ◌≤◌, true, false, List, [], ◌∷◌, ◌++◌, length, drop, Option, Some, None, refl, sym, ap, ◌∙◌, subst, ◌⊎◌, inl, inr, arith}
-use Rattle.i9_model.specs.declared.run.End.{End}
 use Rattle.i9_model.specs.Late.{turns as late_turns}
 use Rattle.i9_model.specs.PrintedText.{text_of, lines_of}
 use Rattle.i9_model.specs.Run.{Given, Record, Does, Finish}
