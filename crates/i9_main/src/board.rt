@@ -1,4 +1,6 @@
 //! A runtime of the tests' own: words, files that are read, and what is printed.
+ghost use Rattle.std.specs.Prelude.{IsErr};
+
 use crate::files::file_named;
 use std::alloc::{Allocator, Global};
 use std::cell::RefCell;
@@ -19,7 +21,9 @@ pub(crate) struct Board<'a> {
 }
 
 /// What the program asks of no board.
-fn unsupported<T>() -> io::Result<T> {
+fn unsupported<T>() -> io::Result<T>
+    ensures { IsErr result }
+{
     Err(io::Error::from(ErrorKind::Unsupported))
 }
 
