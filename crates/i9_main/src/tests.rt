@@ -55,7 +55,7 @@ flushreg {3800} # 00001000 66003E80
 ";
 
 /// Words, of which the first is the program's name, the status, and what is printed.
-const COMMANDS: [(&str, u8, &str); 17] = [
+const COMMANDS: [(&str, u8, &str); 16] = [
     ("i960 run smallest.hex - - 100", 0, RUN),
     ("i960 run smallest.hex - 15 5", 0, RUN),
     ("i960 run smallest.hex show.sch 1 100", 0, RUN_SHOWN),
@@ -63,7 +63,6 @@ const COMMANDS: [(&str, u8, &str); 17] = [
     ("i960 debug unflushed.hex - - unflushed.dbg", 4, TOLD),
     ("i960 asm smallest.s", 0, SMALLEST),
     ("i960 dis flushreg.hex", 0, LISTED),
-    ("i960 gen 1 -", 0, "#gen 1 338401 2000 exit 000007D0\n"),
     ("i960 walk smallest.hex - - 100", 1, "#words\n"),
     ("i960", 1, "#words\n"),
     ("run smallest.hex - - 100", 1, "#words\n"),
@@ -106,6 +105,13 @@ fn each_form_of_the_command(rt: HostRuntime) {
             "{words}"
         );
     }
+}
+
+/// A job of some 270,000 instructions.
+#[test]
+fn a_made_job(rt: HostRuntime) {
+    let line = "#gen 4294967295 268029 2000 exit 000007D0\n";
+    assert!(rt; ends(rt.alloc(), b"i960 gen 4294967295 -", 4096, 0, line));
 }
 
 #[test]
