@@ -1,6 +1,13 @@
 //! The program of the command `i960`: its words, and its files and its output of the system.
 #![tactic(auto)]
 
+#[cfg(test)]
+mod board;
+#[cfg(test)]
+mod files;
+#[cfg(test)]
+mod tests;
+
 ghost use Rattle.std.specs.Prelude.{◌≡◌, ◌≢◌, ◌<◌, IfOk, IfErr, OnErr, drop};
 ghost use Rattle.std.specs.IoError.{error_kind};
 ghost use Rattle.std.specs.Process.{exit_status};
