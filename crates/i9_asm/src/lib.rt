@@ -23,12 +23,3 @@ pub use assembling::assemble;
 pub use error::{AsmError, AsmFault};
 pub use laws::{lines_give_what_they_count, listings_assemble, one_answer};
 pub use lines::{Line, Said, Width, read_line};
-
-#[cfg(test)]
-mod length_tests;
-#[cfg(test)]
-mod source_tests;
-#[cfg(test)]
-mod tests;
-#[cfg(test)]
-mod word_tests;

@@ -9,6 +9,3 @@ mod tables;
 pub use i9_model::{CONTROL_WORDS, Setup};
 pub use start::{boot, control_group, reinit};
 pub use tables::{REGISTER_CACHE, sets_asked};
-
-#[cfg(test)]
-mod tests;

@@ -7,6 +7,3 @@ mod returns;
 pub use calls::{plan_call, plan_calls};
 pub use i9_model::{CallsStop, Pop, Push, Sys};
 pub use returns::plan_ret;
-
-#[cfg(test)]
-mod tests;

@@ -12,8 +12,3 @@ pub use print::{
     Printed, print_generated, print_line, print_lines, print_piece, print_refusal, print_text,
 };
 pub use sessions::{SessionEnd, session};
-
-#[cfg(test)]
-mod session_tests;
-#[cfg(test)]
-mod tests;

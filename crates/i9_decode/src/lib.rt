@@ -14,6 +14,3 @@ pub use decoder::decode;
 pub use encoder::{Code, decode_encoded, encode};
 pub use i9_isa::BadWord;
 pub use spare::spare_bits;
-
-#[cfg(test)]
-mod tests;

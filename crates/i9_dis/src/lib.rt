@@ -11,8 +11,3 @@ mod words;
 pub use images::listing;
 pub use laws::one_listing;
 pub use words::text;
-
-#[cfg(test)]
-mod listing_tests;
-#[cfg(test)]
-mod tests;

@@ -8,6 +8,3 @@ mod moving;
 
 pub use channel::Channel;
 pub use channels::{Channels, Unit};
-
-#[cfg(test)]
-mod tests;

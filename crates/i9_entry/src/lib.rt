@@ -12,6 +12,3 @@ pub use entries::{enter_here, enter_system};
 pub use i9_model::{Push, Sys};
 pub use records::record_write_hazard;
 pub use words::{WORD_SIZE, aligned, read_word};
-
-#[cfg(test)]
-mod tests;

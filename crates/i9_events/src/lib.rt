@@ -9,6 +9,3 @@ mod raised;
 
 pub use i9_model::{Breaks, Seen, Trace};
 pub use raised::event;
-
-#[cfg(test)]
-mod tests;

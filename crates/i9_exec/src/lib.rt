@@ -16,6 +16,3 @@ pub use done::Done;
 pub use i9_model::Arith;
 pub use laws::results_by_name;
 pub use results::{compute, has_result};
-
-#[cfg(test)]
-mod tests;

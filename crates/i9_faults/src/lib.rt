@@ -9,6 +9,3 @@ mod raised;
 pub use entry::plan_fault;
 pub use i9_model::{Entry, Fault, FaultStop, Push};
 pub use raised::{is_unaligned, raises};
-
-#[cfg(test)]
-mod tests;

@@ -5,6 +5,3 @@ mod sets;
 
 pub use i9_model::Frame;
 pub use sets::Sets;
-
-#[cfg(test)]
-mod tests;

@@ -14,6 +14,3 @@ pub use laws::one_answer;
 pub use reading::read;
 pub use segments::{Segment, Segments};
 pub use writing::write;
-
-#[cfg(test)]
-mod tests;

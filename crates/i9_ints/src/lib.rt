@@ -13,6 +13,3 @@ pub use after::clearing_bytes;
 pub use i9_model::{Cause, Chosen, Entry as IntEntry};
 pub use requests::plan_request;
 pub use state::Ints;
-
-#[cfg(test)]
-mod tests;

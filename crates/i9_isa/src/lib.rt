@@ -23,6 +23,3 @@ pub use size::{Direction, Size, Transfer};
 pub use table::row;
 pub use transfers::transfer;
 pub use validity::valid;
-
-#[cfg(test)]
-mod tests;

@@ -8,6 +8,3 @@ pub use board::Board;
 pub use i9_isa::Side;
 pub use i9_model::{Need, Placed};
 pub use laws::at_most_seven_are_open;
-
-#[cfg(test)]
-mod tests;

@@ -9,10 +9,3 @@ mod step;
 pub use i9_model::{End, Event, Point};
 pub use line::{Issued, Line, Raw, Turn};
 pub use machine::Machine;
-
-#[cfg(test)]
-mod memory_tests;
-#[cfg(test)]
-mod tests;
-#[cfg(test)]
-mod turn_tests;

@@ -32,10 +32,3 @@ pub use memo::Memo;
 pub use needs::{need_done, need_entered, need_faulted, need_reached, need_refused};
 pub use open::{Open, plan_open};
 pub use planned::{Planned, plan_here, plan_next};
-
-#[cfg(test)]
-mod needs_tests;
-#[cfg(test)]
-mod open_tests;
-#[cfg(test)]
-mod tests;

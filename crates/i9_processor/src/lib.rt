@@ -13,6 +13,3 @@ mod start;
 pub use effect::{Control, DmaChange, Effect, MOST_BYTES, MOST_VALUES, Move, Posting, Requests};
 pub use landing::Landing;
 pub use processor::{Processor, TraceControls};
-
-#[cfg(test)]
-mod tests;

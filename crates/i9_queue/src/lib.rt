@@ -9,6 +9,3 @@ pub use behind::Behind;
 pub use i9_isa::Size;
 pub use queue::{Queue, Request};
 pub use values::store_bytes;
-
-#[cfg(test)]
-mod tests;

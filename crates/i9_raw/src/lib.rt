@@ -6,6 +6,3 @@ mod shading;
 
 pub use laws::{a_record_hides, flushed_memory_is_raw, memory_shows, nothing_is_hidden};
 pub use shading::hide;
-
-#[cfg(test)]
-mod tests;

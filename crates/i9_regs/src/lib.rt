@@ -5,6 +5,3 @@ mod file;
 mod slot;
 
 pub use file::File;
-
-#[cfg(test)]
-mod tests;

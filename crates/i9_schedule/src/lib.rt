@@ -19,6 +19,3 @@ pub use laws::one_answer;
 pub use reading::read;
 pub use schedule::Schedule;
 pub use words::{is_ascii, is_skipped, number_in, one_word, two_words};
-
-#[cfg(test)]
-mod tests;

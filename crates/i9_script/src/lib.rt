@@ -16,6 +16,3 @@ pub use i9_schedule::{LineError, LineFault};
 pub use laws::one_answer;
 pub use reading::read_script;
 pub use script::Script;
-
-#[cfg(test)]
-mod tests;

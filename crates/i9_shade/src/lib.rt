@@ -4,6 +4,3 @@
 mod shade;
 
 pub use shade::Shade;
-
-#[cfg(test)]
-mod tests;

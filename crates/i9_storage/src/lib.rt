@@ -5,6 +5,3 @@
 mod storage;
 
 pub use storage::Storage;
-
-#[cfg(test)]
-mod tests;

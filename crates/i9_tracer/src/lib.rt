@@ -11,8 +11,3 @@ pub use filter::{AddressTest, Filter};
 pub use line::trace_line;
 pub use stop::{Stop, ViewTest};
 pub use until::run_until;
-
-#[cfg(test)]
-mod tests;
-#[cfg(test)]
-mod until_tests;

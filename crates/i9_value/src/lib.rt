@@ -18,6 +18,3 @@ pub use known::{Definition, Known, Table, lookup};
 pub use number_text::{add_decimal, add_digits, add_hex};
 pub use registers::{register_at, register_name, register_of, register_place};
 pub use values::{Value, is_name, settled, value_noted, value_of};
-
-#[cfg(test)]
-mod tests;

@@ -1,5 +1,5 @@
 //! What is read of the state that a processor stands for.
-ghost use Rattle.std.specs.Prelude.{◌≡◌, ◌+◌, ◌*◌, ◌<◌, ◌≤◌, None};
+ghost use Rattle.std.specs.Prelude.{◌≡◌, ◌+◌, ◌*◌, ◌<◌, ◌≤◌, ◌↔◌, None, IsTrue};
 ghost use Rattle.i9_model.specs.declared.layout.TheConstants.{LOCALS};
 ghost use Rattle.i9_model.specs.Writes.{wrapped};
 ghost use Rattle.i9_model.specs.Memory.{half_in, word_in, words_in, half_bytes, word_bytes, is_big, waits_of};
@@ -17,7 +17,7 @@ use i9_model::{Tables, View};
 use i9_watch::Watch;
 
 impl Processor {
-    ghost use Rattle.i9_processor.specs.State.{state_of, cache_of, size_of};
+    ghost use Rattle.i9_processor.specs.State.{state_of, cache_of, size_of, IsDrained};
 
     /// A register: r0 to r15 are 0 to 15, g0 to g15 are 16 to 31, and there are no others.
     #[tactic(auto, unfolding(crate::specs::State::state_of), using(crate::proofs::RegisterList::register_rules))]
@@ -107,6 +107,14 @@ impl Processor {
         ensures { result ≡ (state_of self.now).count }
     {
         self.count
+    }
+
+    /// Whether no store waits to be made in memory.
+    #[tactic(auto, unfolding(crate::specs::State::queue_of))]
+    pub fn is_drained(&self) -> bool
+        ensures { IsTrue result ↔ IsDrained self.now }
+    {
+        self.storage.is_drained()
     }
 
     /// The byte at `a`; 0 in the port page.

@@ -1,0 +1,11 @@
+//! The tests of i9_calls, i9_faults, i9_ints and i9_dma, whose public calls they make.
+#![tactic(auto)]
+
+#[cfg(test)]
+mod calls;
+#[cfg(test)]
+mod dma;
+#[cfg(test)]
+mod faults;
+#[cfg(test)]
+mod ints;

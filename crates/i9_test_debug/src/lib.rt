@@ -1,0 +1,11 @@
+//! The tests of i9_tracer and i9_debug, whose public calls they make.
+#![tactic(auto)]
+
+#[cfg(test)]
+mod debug;
+#[cfg(test)]
+mod debug_sessions;
+#[cfg(test)]
+mod tracer;
+#[cfg(test)]
+mod tracer_until;

@@ -1,0 +1,11 @@
+use Rattle.i9_machine.proofs.InRuns.{advances_in_run, behind_in_run}
+use Rattle.i9_test_machine.proofs.machine.advance.Goals as goal
+
+pub returns : goal.returns
+returns c =
+    let now = c.args.run.now in
+    let m = c.advance.new.self in
+    let plan = c.advance.new.plan in
+    behind_in_run now.machine m c.advance.result now.plan plan _ _
+    (λ g h stands follows. advances_in_run g h c.advance.result now.machine m plan _ _ (c.advance.ensures.next g h stands follows))
+    c.advance.ensures.again c.requires

@@ -1,0 +1,11 @@
+//! The tests of i9_raw and i9_machine, whose public calls they make.
+#![tactic(auto)]
+
+#[cfg(test)]
+mod machine;
+#[cfg(test)]
+mod machine_memory;
+#[cfg(test)]
+mod machine_turns;
+#[cfg(test)]
+mod raw;

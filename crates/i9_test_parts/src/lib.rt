@@ -1,0 +1,17 @@
+//! The tests of i9_pages, i9_frames, i9_queue, i9_regs, i9_shade, i9_entry and i9_boot, whose public calls they make.
+#![tactic(auto)]
+
+#[cfg(test)]
+mod boot;
+#[cfg(test)]
+mod entry;
+#[cfg(test)]
+mod frames;
+#[cfg(test)]
+mod pages;
+#[cfg(test)]
+mod queue;
+#[cfg(test)]
+mod regs;
+#[cfg(test)]
+mod shade;

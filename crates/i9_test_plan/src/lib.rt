@@ -1,0 +1,9 @@
+//! The tests of i9_plan, whose public calls they make.
+#![tactic(auto)]
+
+#[cfg(test)]
+mod plan;
+#[cfg(test)]
+mod plan_needs;
+#[cfg(test)]
+mod plan_open;

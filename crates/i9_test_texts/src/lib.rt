@@ -1,0 +1,23 @@
+//! The tests of i9_hex, i9_schedule, i9_script, i9_value, i9_asm and i9_dis, whose public calls they make.
+#![tactic(auto)]
+
+#[cfg(test)]
+mod asm;
+#[cfg(test)]
+mod asm_lengths;
+#[cfg(test)]
+mod asm_sources;
+#[cfg(test)]
+mod asm_words;
+#[cfg(test)]
+mod dis;
+#[cfg(test)]
+mod dis_listings;
+#[cfg(test)]
+mod hex;
+#[cfg(test)]
+mod schedule;
+#[cfg(test)]
+mod script;
+#[cfg(test)]
+mod value;

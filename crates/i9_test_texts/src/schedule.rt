@@ -1,0 +1,230 @@
+use i9_schedule::{
+    Event, LineError, LineFault, When, copied, event_text, is_ascii, is_skipped, journal_line,
+    number_in, one_word, read, two_words,
+};
+use std::alloc::{AllocError, Global};
+use std::test::Fail;
+
+/// The line and kind that a text is refused for.
+fn refusal(alloc: Global, text: &[u8]) -> Option<(u64, u8)> {
+    match read(alloc, text) {
+        Err(LineError::Bad(LineFault { line, kind })) => Some((line, kind)),
+        _ => None,
+    }
+}
+
+// Each text is worked by hand: the first line at fault, with the least kind that applies to it.
+#[test]
+fn refuses_the_first_line_at_fault(rt: HostRuntime) -> Result<(), Fail> {
+    let rows: [(&[u8], Option<(u64, u8)>); 70] = [
+        // Lines without words and comments say nothing; one carriage return is dropped.
+        (b"", None),
+        (b"#\n# at x\r\n \t\n\n\r\nat 5 nmi\r\n\tat\t5  nmi ", None),
+        // Kind 1: a byte past ASCII, in a comment too, or another first word than `at` and `turn`.
+        (b"#\xff", Some((1, 1))),
+        (b"at 5 nmi\x80", Some((1, 1))),
+        (b"\n\n# a\nbogus", Some((4, 1))),
+        (b" # a", Some((1, 1))),
+        (b"AT 5 nmi", Some((1, 1))),
+        (b"TURN 5 nmi", Some((1, 1))),
+        (b"turns 5 nmi", Some((1, 1))),
+        (b"turn5 nmi", Some((1, 1))),
+        (b"\r\r", Some((1, 1))),
+        (b"bogus x pin 8", Some((1, 1))),
+        // Kind 2: another event word, or none, whatever the count is.
+        (b"at", Some((1, 2))),
+        (b"at nmi", Some((1, 2))),
+        (b"at x bogus 1", Some((1, 2))),
+        (b"at 5 NMI", Some((1, 2))),
+        (b"at 5 nmi\r\r", Some((1, 2))),
+        (b"turn", Some((1, 2))),
+        (b"turn 5", Some((1, 2))),
+        (b"turn nmi", Some((1, 2))),
+        (b"turn x bogus", Some((1, 2))),
+        // Kind 3: the count, in one to thirteen digits up to 10,000,000.
+        (b"at 0 nmi\nat 0000010000000 nmi", None),
+        (b"at 10000001 nmi", Some((1, 3))),
+        (b"at 00000000000005 nmi", Some((1, 3))),
+        (b"at -1 nmi", Some((1, 3))),
+        (b"at 5f nmi", Some((1, 3))),
+        // The turn, in as many digits up to 1,000,000,000,000.
+        (b"turn 0 nmi\nturn 1000000000000 nmi", None),
+        (b"turn 0000000000007 nmi", None),
+        (b"turn 1000000000001 nmi", Some((1, 3))),
+        (b"turn 00000000000007 nmi", Some((1, 3))),
+        (b"turn 10000000000000 nmi", Some((1, 3))),
+        (b"turn -1 nmi", Some((1, 3))),
+        (b"turn 5f nmi", Some((1, 3))),
+        // Operands out of range or form, missing, or one too many.
+        (b"at 5 pin 0000000007", None),
+        (b"at 5 pin 00000000007", Some((1, 3))),
+        (b"at 5 pin 8", Some((1, 3))),
+        (b"at 5 pin", Some((1, 3))),
+        (b"at 5 pin 1 2", Some((1, 3))),
+        (b"at 5 nmi 1", Some((1, 3))),
+        (b"at 5 dma 4", Some((1, 3))),
+        (b"at 5 dma", Some((1, 3))),
+        (b"at 5 feed 4 00", Some((1, 3))),
+        (b"at 5 feed 0", Some((1, 3))),
+        (b"at 5 feed 0 0", Some((1, 3))),
+        (b"at 5 feed 0 012", Some((1, 3))),
+        (b"at 5 feed 0 012345", Some((1, 3))),
+        (b"at 5 feed 0 0123456789abcdef", Some((1, 3))),
+        (b"at 5 feed 0 0g", Some((1, 3))),
+        (b"at 5 feed 0 00 1", Some((1, 3))),
+        (b"at 5 show 100000000 1", Some((1, 3))),
+        (b"at 5 show 0g 1", Some((1, 3))),
+        (b"at 5 show 0 0", Some((1, 3))),
+        (b"at 5 show 0 65", Some((1, 3))),
+        (b"at 5 show 0", Some((1, 3))),
+        (b"at 5 show 0 1 1", Some((1, 3))),
+        (b"turn 5 pin", Some((1, 3))),
+        (b"turn 5 nmi 1", Some((1, 3))),
+        (b"turn 5 show 0 65", Some((1, 3))),
+        // Kind 4: `at` and `turn` in one text, before kind 5 and behind kinds 1 to 3.
+        (b"at 5 nmi\nturn 5 nmi", Some((2, 4))),
+        (b"turn 5 nmi\nat 5 nmi", Some((2, 4))),
+        (b"at 5 nmi\nturn 4 nmi", Some((2, 4))),
+        (b"turn 5 nmi\nat 4 nmi", Some((2, 4))),
+        (b"turn 5 nmi\n# a\n\nturn 6 nmi\nat 6 nmi", Some((5, 4))),
+        (b"at 5 nmi\nturn 4 pin 8", Some((2, 3))),
+        (b"at 5 nmi\nturn 4 bogus", Some((2, 2))),
+        // Kind 5: an earlier count or turn, behind kinds 1 to 3 of the same line.
+        (b"at 5 nmi\nat 4 nmi\nbogus", Some((2, 5))),
+        (b"at 5 nmi\nat 4 pin 8", Some((2, 3))),
+        (b"at 5 nmi\nat 4 bogus", Some((2, 2))),
+        (b"at 5 nmi\n# a\nat 6 nmi\nat 5 nmi", Some((4, 5))),
+        (b"turn 5 nmi\n# a\nturn 5 nmi\nturn 4 nmi", Some((4, 5))),
+    ];
+    for (text, fault) in rows {
+        assert_eq!(rt; refusal(rt.alloc(), text), fault);
+    }
+    Ok(())
+}
+
+/// The text of 1,000,000 events at count 1 and a last line.
+fn large_text(alloc: Global, last: &[u8]) -> Result<Vec<u8>, AllocError> {
+    let mut text = Vec::new(alloc);
+    for _ in 0..1_000_000 {
+        text.extend_from_slice(b"at 1 nmi\n")?;
+    }
+    text.extend_from_slice(last)?;
+    Ok(text)
+}
+
+// A million events are read, and one more is kind 6, behind kind 5.
+#[test]
+fn reads_a_million_events(rt: HostRuntime) -> Result<(), Fail> {
+    let rows: [(&[u8], Option<(u64, u8)>); 3] = [
+        (b"# a", None),
+        (b"at 1 nmi", Some((1_000_001, 6))),
+        (b"at 0 nmi", Some((1_000_001, 5))),
+    ];
+    for (last, fault) in rows {
+        let text = large_text(rt.alloc(), last)?;
+        assert_eq!(rt; refusal(rt.alloc(), &text), fault);
+    }
+    Ok(())
+}
+
+// The events of all these lines come in order, each at its count, and print as the rules of the format say, and so do
+// their copies.
+#[test]
+fn prints_what_it_reads(rt: HostRuntime) -> Result<(), Fail> {
+    let rows: [(&[u8], u64, &[u8]); 8] = [
+        (b"at 0 pin 07\n", 0, b"at 0 pin 7"),
+        (b"\n# a\nat 000003 nmi\r\n", 3, b"at 3 nmi"),
+        (b" at 3\tdma  3 \n", 3, b"at 3 dma 3"),
+        (b"at 4 feed 0 0a\n", 4, b"at 4 feed 0 0A"),
+        (b"at 4 feed 1 0aFf\n", 4, b"at 4 feed 1 0AFF"),
+        (b"at 5 feed 2 01234567\n", 5, b"at 5 feed 2 01234567"),
+        (
+            b"at 6 feed 3 00112233445566778899aabbccddeeff\n",
+            6,
+            b"at 6 feed 3 00112233445566778899AABBCCDDEEFF",
+        ),
+        (
+            b"at 0000010000000 show fF0 0064",
+            10_000_000,
+            b"at 10000000 show 00000FF0 64",
+        ),
+    ];
+    let mut text = Vec::new(rt.alloc());
+    for (line, _, _) in &rows {
+        text.extend_from_slice(line)?;
+    }
+    let mut schedule = read(rt.alloc(), &text)?;
+    assert_eq!(rt; schedule.place(), 0);
+    for (_, count, line) in rows {
+        let Some(timed) = schedule.next() else {
+            assert!(rt; false);
+            return Ok(());
+        };
+        assert_eq!(rt; timed.when, When::At(count));
+        let printed = journal_line(rt.alloc(), count, &timed.event)?;
+        assert_eq!(rt; printed.as_slice(), line);
+        let text = event_text(rt.alloc(), count, &copied(&timed.event))?;
+        assert_eq!(rt; text.as_slice(), line);
+        schedule.step();
+    }
+    assert!(rt; schedule.next().is_none());
+    assert_eq!(rt; schedule.place(), 8);
+    Ok(())
+}
+
+// The events of all these lines come in order, each at its turn.
+#[test]
+fn reads_turns(rt: HostRuntime) -> Result<(), Fail> {
+    let rows: [(&[u8], u64, Event); 4] = [
+        (b"turn 0 pin 07\n", 0, Event::Pin(7)),
+        (b"# a\n turn\t0000000000003  nmi\r\n", 3, Event::Nmi),
+        (b"\nturn 3 dma 1\n", 3, Event::Dma(1)),
+        (
+            b"turn 1000000000000 show fF0 0064",
+            1_000_000_000_000,
+            Event::Show(0xFF0, 64),
+        ),
+    ];
+    let mut text = Vec::new(rt.alloc());
+    for (line, _, _) in &rows {
+        text.extend_from_slice(line)?;
+    }
+    let mut schedule = read(rt.alloc(), &text)?;
+    for (_, turn, event) in rows {
+        let Some(timed) = schedule.next() else {
+            assert!(rt; false);
+            return Ok(());
+        };
+        assert_eq!(rt; timed.when, When::Turn(turn));
+        assert!(rt; timed.event == event);
+        schedule.step();
+    }
+    assert!(rt; schedule.next().is_none());
+    Ok(())
+}
+
+// Words of a line stand between spaces and tabs, and numbers have no sign or prefix.
+#[test]
+fn tells_words(rt: HostRuntime) -> Result<(), Fail> {
+    assert_eq!(rt; one_word(b" \ta\t"), Some(b"a".as_slice()));
+    assert!(rt; one_word(b"a b").is_none());
+    assert_eq!(rt;
+        two_words(b"\ta  b"),
+        Some((b"a".as_slice(), b"b".as_slice()))
+    );
+    assert!(rt; two_words(b"a b c").is_none());
+    assert_eq!(rt; number_in(b"0fF", 16, 3, 1, 255), Some(255));
+    assert_eq!(rt; number_in(b"256", 10, 3, 1, 255), None);
+    assert!(rt; is_ascii(b"\x7f") && !is_ascii(b"\x80"));
+    assert!(rt; is_skipped(b"#a") && !is_skipped(b" #"));
+    Ok(())
+}
+
+#[test]
+fn tells_errors(rt: HostRuntime) -> Result<(), Fail> {
+    let bad = format!(in rt.alloc(); "{}", LineError::Bad(LineFault { line: 1, kind: 1 }))?;
+    assert_eq!(rt; bad.as_str(), "refused");
+    let memory = format!(in rt.alloc(); "{}", LineError::Memory)?;
+    assert_eq!(rt; memory.as_str(), "no memory");
+    Ok(())
+}
