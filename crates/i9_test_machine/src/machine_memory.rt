@@ -1,12 +1,16 @@
 //! What machines take of memory, and runs that go on where memory was refused.
-ghost use Rattle.std.specs.Prelude.{◌≡◌};
+ghost use Rattle.std.specs.Prelude.{◌≡◌, ◌≤◌};
+ghost use Rattle.i9_model.specs.declared.layout.TheConstants.{MAX_LENGTH};
 ghost use Rattle.i9_machine.specs.InRun.{IsInRun};
 
 use crate::machine::{
     CALL_AND_START_ANEW, NESTED_CALLS, PROGRAM, Run, asked, image_of, run_of, settle, step,
     take_steps,
 };
+use i9_hex::Segments;
 use i9_machine::{End, Machine, Turn};
+use i9_model::layout::MAX_LENGTH;
+use i9_outside::{Fetch, Files, RealFiles};
 use std::alloc::Global;
 use std::test::*;
 
@@ -53,6 +57,44 @@ fn memory_grows_with_the_pages_that_are_touched(rt: HostRuntime) -> Result<(), F
             (Some(7), Some(9))
         );
     }
+    Ok(())
+}
+
+/// How many pages of addresses this process has, by the system's own count: the first number of its line.
+fn pages_held(rt: &HostRuntime) -> Result<u64, Fail> {
+    let mut line = Vec::new(rt.alloc());
+    if RealFiles::new(rt).fetch(rt.alloc(), "/proc/self/statm", &mut line) != Fetch::Ok {
+        return Err("the system tells no count".into());
+    }
+    let line = std::str::from_utf8(&line).unwrap_or("");
+    Ok(line.split(' ').next().unwrap_or("").parse::<u64>()?)
+}
+
+/// So many machines of one length, before their first step.
+fn machines_of(
+    alloc: Global,
+    image: &Segments,
+    length: u64,
+    count: usize,
+) -> Result<Vec<Machine>, Fail>
+    requires { length ≤ MAX_LENGTH }
+{
+    let mut machines = Vec::new(alloc);
+    for _ in 0..count {
+        machines.push(Machine::new(alloc, image, None, length)?)?;
+    }
+    Ok(machines)
+}
+
+// With a byte for each instruction of its run each of the machines would take 2,441 pages; it takes two.
+#[test]
+fn a_length_takes_no_memory(rt: HostRuntime) -> Result<(), Fail> {
+    let image = image_of(rt.alloc(), &PROGRAM)?;
+    let before = pages_held(&rt)?;
+    let machines = machines_of(rt.alloc(), &image, MAX_LENGTH, 200)?;
+    let taken = pages_held(&rt)?.saturating_sub(before);
+    assert_eq!(rt; machines.len(), 200);
+    assert!(rt; taken < 200 * 25, "{taken} pages");
     Ok(())
 }
 
