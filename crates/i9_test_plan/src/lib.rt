@@ -7,3 +7,7 @@ mod plan;
 mod plan_needs;
 #[cfg(test)]
 mod plan_open;
+#[cfg(test)]
+mod state;
+#[cfg(test)]
+mod told;

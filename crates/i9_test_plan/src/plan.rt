@@ -1,524 +1,169 @@
-//! Plans in a state that is worked out by hand: one frame is saved at 3000, and its words are all 9.
-ghost use Rattle.std.specs.Prelude.{◌≡◌, IfOk, OnOk, []};
-ghost use Rattle.i9_model.specs.Free.{IsFree};
-ghost use Rattle.i9_model.specs.Step.{moved};
-ghost use Rattle.i9_processor.specs.Effect.{action_in, AreRegisters, CanPost, CanChange, CanControl, CanMove};
-ghost use Rattle.i9_processor.specs.State.{state_of, IsDrained};
+//! Plans in a state that is worked out by hand.
+ghost use Rattle.std.specs.Prelude.{IfOk};
+ghost use Rattle.i9_processor.specs.State.{IsDrained};
 
-use Rest::{Flushes, Group, Nothing, Restart, Returns, Saves, Stores};
-use Seen::{Faults, Meets, Refused, Runs};
+use crate::state::{PC, changes, hex_words, ready};
+use crate::told::{effect_text, next_text};
 use arrayvec::ArrayVec;
 use i9_dma::Channel;
 use i9_faults::{Fault, FaultStop};
-use i9_hex::Segments;
-use i9_isa::Op;
-use i9_model::{Cause, Chosen, Event, Push, Trace};
-use i9_plan::{
-    Memo, Planned, Words, plan_entry, plan_event, plan_faulting, plan_interrupt, plan_next,
-};
-use i9_processor::{Control, DmaChange, Effect, Landing, Move, Posting, Processor, Requests};
+use i9_model::{Cause, Chosen, Event};
+use i9_plan::{Memo, plan_entry, plan_event, plan_faulting, plan_interrupt};
+use i9_processor::{DmaChange, Effect, Processor};
 use std::alloc::Global;
 use std::test::Fail;
 
-/// Process controls in supervisor mode, in user mode, and with trace enable.
-pub(crate) const PC: u32 = 0x001F_2002;
-
-pub(crate) const USER: u32 = 0x001F_2000;
-
-pub(crate) const TRACED: u32 = 0x001F_2003;
-
-/// Arithmetic controls by which no fault is imprecise.
-pub(crate) const PRECISE: u32 = 0x8000;
-
-/// g0 to g14.
-const GLOBALS: [u32; 15] = [
-    0x3010,
-    0x4001,
-    0x8000_0000,
-    0x0500,
-    5,
-    0x0600_0104,
-    1,
-    0x001F_0000,
-    0,
-    0x0300,
-    0x1234,
-    0x3000,
-    0x0406,
-    0x4008,
-    0,
-];
-
-/// What is planned, but for effects.
-#[derive(Clone, Copy, Debug, PartialEq, Eq)]
-enum Seen {
-    Meets(u32),
-    Refused(u8, u16),
-    Faults(Op, u8, u16),
-    Runs(Op),
-}
-
-fn seen_of(memo: &Memo, planned: &Planned) -> Seen {
-    match planned {
-        Planned::Meets(a) => Meets(*a),
-        Planned::Refused { number, .. } => Refused(number.0, number.1),
-        Planned::Faults(number) => Faults(memo.inst().op, number.0, number.1),
-        Planned::Runs => Runs(memo.inst().op),
+/// The columns of a row: a statement, which is for the reader; the arithmetic and process controls, an address and two
+/// words there; and what is planned, as `told` writes it.
+pub(crate) fn columns(row: &str) -> Result<(&str, &str), Fail> {
+    let mut parts = row.split('|');
+    match (parts.next(), parts.next(), parts.next()) {
+        (Some(_), Some(given), Some(wanted)) => Ok((given, wanted.trim())),
+        _ => Err("a row has three columns".into()),
     }
 }
 
-/// What an effect does but for registers: the address, the number and the last of the bytes that it
-/// stores, and what is done to frames, or to the controls behind a flush.
-#[derive(Clone, Copy, Debug, PartialEq, Eq)]
-pub(crate) enum Rest {
-    Nothing,
-    Stores(u32, usize, u8),
-    Saves(Push, u32),
-    Returns(u32),
-    Flushes,
-    Restart(u32, u32),
-    Group(u8),
-    Other,
-}
-
-pub(crate) fn rest_of(effect: &Effect) -> Rest {
-    let is_flush = matches!(effect.frames, Move::Flushes);
-    match effect.control {
-        Control::Restarts { first, prcb } if is_flush => Restart(first, prcb),
-        Control::LoadsGroup(group) if is_flush => Group(group),
-        Control::Keeps => moved_by(effect),
-        _ => Rest::Other,
-    }
-}
-
-fn moved_by(effect: &Effect) -> Rest {
-    match &effect.frames {
-        Move::Stays => match effect.bytes.last() {
-            Some(b) => Stores(effect.address, effect.bytes.len(), *b),
-            None => Nothing,
-        },
-        Move::Saves { push, back } => Saves(*push, *back),
-        Move::Returns(frame) => Returns(*frame),
-        Move::Flushes => Flushes,
-    }
-}
-
-/// The first register that an effect sets beside those of a frame, and its value.
-pub(crate) fn set_of(effect: &Effect) -> Option<(u8, u32)> {
-    effect.values.first().map(|v| (effect.register, *v))
-}
-
-/// The arithmetic, process and trace controls after an effect, and the next address.
-pub(crate) fn controls_of(effect: &Effect) -> (u32, u32, u32, u32) {
-    (effect.ac, effect.pc, effect.tc, effect.next)
-}
-
-fn put_word(image: &mut Segments, address: u32, word: u32) -> Result<(), Fail> {
-    let mut at = address;
-    for byte in word.to_le_bytes() {
-        image.put(at, byte)?;
-        at = at.wrapping_add(1);
-    }
-    Ok(())
-}
-
-/// The processor after boot of an image: two words of a program, a PRCB at 2000, a fault table, a
-/// system procedure table, and a word to load.
-fn booted(alloc: Global, at: u32, program: (u32, u32)) -> Result<Processor, Fail>
+/// The processor that is about to do the words of a row.
+pub(crate) fn given(alloc: Global, text: &str) -> Result<Processor, Fail>
     ensures { IfOk result (λ p. IsDrained p) }
 {
-    let words = [
-        (at, program.0),
-        (at.wrapping_add(4), program.1),
-        (0xFFFF_FF14, 0x2000),
-        (0x2000, 0x1100),
-        (0x2004, 0x6000),
-        (0x2010, 0x1400),
-        (0x2014, 0x5500),
-        (0x201C, 0x3000),
-        (0x1110, 0x1300),
-        (0x1118, 0x0001),
-        (0x5544, 0x1204),
-        (0x4000, 0x6543_8721),
-        // Region 0 waits 3 turns at a read, and 5 at a write.
-        (0x6020, 0x0000_5018),
-        // Software asks for vector 18; the handlers of 18 and 248.
-        (0x1400, 0x0000_0004),
-        (0x1404, 0x0004_0000),
-        (0x144C, 0x1700),
-        (0x17E4, 0x1600),
-    ];
-    let mut image = Segments::new(alloc);
-    for (address, word) in words {
-        put_word(&mut image, address, word)?;
+    match hex_words(alloc, text)?.as_slice() {
+        [ac, pc, at, first, second] => ready(alloc, *at, (*first, *second), *ac, *pc),
+        _ => Err("a row has five numbers".into()),
     }
-    Ok(Processor::boot(alloc, &image, None)?)
 }
 
-/// What is done lands at once, whatever it writes.
-const AT_ONCE: Landing = Landing {
-    writes: u64::MAX,
-    done: 0,
-    request: false,
-};
+/// Where nothing is done.
+const STOPS: &str = "\
+a word without an instruction    | 0 1F2002 1000 0 0        | refused 2 1
+a word with a wrong operand      | 0 1F2002 1000 5DA00611 0 | refused 2 4
+modpc in user mode               | 0 1F2000 1000 65A48292 0 | Modpc 65A48292 0: fault 10 1
+sysctl by message 5              | 0 1F2002 1000 65A01493 0 | Sysctl 65A01493 0: fault 2 4
+calls past the table             | 0 1F2002 1000 66000015 0 | Calls 66000015 0: fault 7 2
+ld at 4001                       | 0 1F2002 1000 90A46000 0 | Ld 90A46000 0: fault 2 3
+ld of the live frame             | 0 1F2002 1000 90A42000 0 | meets 3010
+st to the live frame             | 0 1F2002 1000 92A42000 0 | meets 3010
+atadd of the live frame          | 0 1F2002 1000 61A05110 0 | meets 3010
+addi that overflows              | 0 1F2002 1000 59A48092 0 | Addi 59A48092 0: fault 3 1
+addi that overflows, precise     | 8000 1F2002 1000 59A48092 0 | Addi 59A48092 0: fault 3 1
+divo by 0, precise               | 8000 1F2002 1000 70A11D80 0 | Divo 70A11D80 0: fault 3 2
+faulte where it is equal         | 2 1F2002 1000 1A000000 0 | Faulte 1A000000 0: fault 5 1
+mov of sf0 in user mode          | 0 1F2000 1000 5CA00620 0 | Mov 5CA00620 0: fault 10 1
+sdma in user mode                | 0 1F2000 1000 63C50801 0 | Sdma 63C50801 0: fault 10 1
+sdma of channel 4                | 0 1F2002 1000 63C50804 0 | Sdma 63C50804 0: fault 2 4
+addi that overflows, traced      | 0 1F2003 1000 59A48092 0 | Addi 59A48092 0: fault 3 1
+a word without one, traced       | 0 1F2003 1000 0 0        | refused 2 1
+a first word in the live frame   | 0 1F2002 3002 8CA83000 0 | meets 3002
+a second word in the live frame  | 0 1F2002 2FFC 8CA83000 0 | meets 3000
+";
 
-/// Makes room for an effect that keeps the controls, and applies it.
-pub(crate) fn applies(p: &mut Processor, effect: &Effect) -> Result<(), Fail>
-    requires drained { IsDrained p.old }
-    requires registers { AreRegisters effect.now }
-    requires posts { CanPost effect.now.posting }
-    requires changes { CanChange effect.now.dma }
-    requires can { CanMove (state_of p.old).frames effect.now.frames }
-    requires free { IsFree (state_of p.old) (action_in (state_of p.old) effect.now) }
-    requires controls { CanControl (moved (state_of p.old) (action_in (state_of p.old) effect.now)) effect.now.control }
-    ensures { OnOk result (IsDrained p.new) }
-{
-    if p.count() > 100 {
-        return Err("too many".into());
-    }
-    p.reserve(effect)?;
-    p.apply(effect, &AT_ONCE, 0, None);
-    Ok(())
-}
+/// What is done to registers and controls.
+const RESULTS: &str = "\
+addo 3, 4, g4                    | 0 1F2002 1000 59A11803 1234 | Addo 59A11803 0: 0 1F2002 0 1004, r20 7
+cmpo 3, 4                        | 1 1F2002 1000 5A011803 1234 | Cmpo 5A011803 0: 4 1F2002 0 1004
+lda 0x1234, g5                   | 0 1F2002 1000 8CA83000 1234 | Lda 8CA83000 1234: 0 1F2002 0 1008, r21 1234
+addi that overflows, masked      | 1000 1F2002 1000 59A48092 1234 | Addi 59A48092 0: 1100 1F2002 0 1004, r20 0
+ldib at 4001                     | 0 1F2002 1000 C0A46000 1234 | Ldib C0A46000 0: 0 1F2002 0 1004, r20 FFFFFF87
+mov of sf1, which is 0           | 0 1F2002 1000 5CA00621 1234 | Mov 5CA00621 0: 0 1F2002 0 1004, r20 0
+cmpobe, taken                    | 0 1F2002 1000 3200E010 1234 | Cmpobe 3200E010 0: 2 1F2002 0 1010
+cmpobe, not taken                | 0 1F2002 1000 3208E010 1234 | Cmpobe 3208E010 0: 1 1F2002 0 1004
+faulte where it is greater       | 1 1F2002 1000 1A000000 1234 | Faulte 1A000000 0: 1 1F2002 0 1004
+b 0x1008                         | 0 1F2002 1000 8000008 1234  | B 8000008 0: 0 1F2002 0 1008
+bal 0x1008                       | 0 1F2002 1000 B000008 1234  | Bal B000008 0: 0 1F2002 0 1008, r30 1004
+modac                            | 8001 1F2002 1000 64A09A87 1234 | Modac 64A09A87 0: 8002 1F2002 0 1004, r20 8001
+modtc                            | 0 1F2002 1000 65A7DA06 1234 | Modtc 65A7DA06 0: 0 1F2002 6 1004, r20 0
+modpc that sets trace enable     | 0 1F2002 1000 65B58296 1234 | Modpc 65B58296 0: 0 1F2003 0 1004, r22 1F2002
+addo where no mode is set        | 0 1F2003 1000 59A11803 0 | Addo 59A11803 0: 0 1F2003 0 1004, r20 7
+modtc that sets two modes        | 0 1F2003 1000 65A7DA06 0 | Modtc 65A7DA06 0: 0 1F2003 6 1004, r20 0, trace 20006 2
+fmark                            | 0 1F2003 1000 66000600 0 | Fmark 66000600 0: 0 1F2003 0 1004, trace 0 80
+fmark, not traced                | 0 1F2002 1000 66000600 0 | Fmark 66000600 0: 0 1F2002 0 1004
+";
 
-/// Saves the frame at 3000, and goes on in a new one.
-#[tactic(auto, unfolding(i9_model::specs::Hazards::writes_hazard), using(i9_processor::proofs::Applying::locals_whole))]
-pub(crate) fn saves(p: &mut Processor) -> Result<(), Fail>
-    requires { IsDrained p.old }
-    ensures { OnOk result (IsDrained p.new) }
-{
-    let push = match p.plan_call() {
-        Ok(push) => push,
-        Err(_) => return Err("a hazard".into()),
-    };
-    let mut effect = Effect::going(p, 0);
-    effect.frames = Move::Saves { push, back: 9 };
-    effect.plain = false;
-    applies(p, &effect)
-}
-
-/// Sets a register of g0 to g14.
-#[tactic(auto, unfolding(i9_model::specs::Hazards::writes_hazard))]
-fn sets(p: &mut Processor, k: u8, value: u32) -> Result<(), Fail>
-    requires { IsDrained p.old }
-    ensures { OnOk result (IsDrained p.new) }
-{
-    if k > 14 {
-        return Err("no such register".into());
-    }
-    let mut effect = Effect::going(p, 0);
-    effect.register = 16 + k;
-    effect.values.push(value);
-    applies(p, &effect)
-}
-
-/// Sets the controls and the instruction address.
-#[tactic(auto, unfolding(i9_model::specs::Hazards::writes_hazard))]
-pub(crate) fn goes(p: &mut Processor, ac: u32, pc: u32, next: u32) -> Result<(), Fail>
-    requires { IsDrained p.old }
-    ensures { OnOk result (IsDrained p.new) }
-{
-    let mut effect = Effect::going(p, next);
-    effect.ac = ac;
-    effect.pc = pc;
-    effect.tc = 0;
-    applies(p, &effect)
-}
-
-/// A processor that is about to do these words: its frame is at 3040, and the one at 3000 is live.
-pub(crate) fn ready(
-    alloc: Global,
-    at: u32,
-    program: (u32, u32),
-    ac: u32,
-    pc: u32,
-) -> Result<Processor, Fail>
-    ensures { IfOk result (λ p. IsDrained p) }
-{
-    let mut p = booted(alloc, at, program)?;
-    saves(&mut p)?;
-    for k in 0..15 {
-        sets(&mut p, k, GLOBALS[usize::from(k)])?;
-    }
-    goes(&mut p, ac, pc, at)?;
-    Ok(p)
-}
-
-/// What stands where nothing is done: the arithmetic and process controls, a word, and what is seen.
-const STOPS: [(u32, u32, u32, Seen); 18] = [
-    // A word that is refused, and one whose operand is.
-    (0, PC, 0x0000_0000, Refused(2, 1)),
-    (0, PC, 0x5DA0_0611, Refused(2, 4)),
-    // modpc in user mode, sysctl by message 5, calls past the table, and ld at 4001.
-    (0, USER, 0x65A4_8292, Faults(Op::Modpc, 10, 1)),
-    (0, PC, 0x65A0_1493, Faults(Op::Sysctl, 2, 4)),
-    (0, PC, 0x6600_0015, Faults(Op::Calls, 7, 2)),
-    (0, PC, 0x90A4_6000, Faults(Op::Ld, 2, 3)),
-    // ld, st and atadd of the live frame.
-    (0, PC, 0x90A4_2000, Meets(0x3010)),
-    (0, PC, 0x92A4_2000, Meets(0x3010)),
-    (0, PC, 0x61A0_5110, Meets(0x3010)),
-    // addi that overflows, where its fault may be imprecise and where it is precise; divo by 0.
-    (0, PC, 0x59A4_8092, Faults(Op::Addi, 3, 1)),
-    (PRECISE, PC, 0x59A4_8092, Faults(Op::Addi, 3, 1)),
-    (PRECISE, PC, 0x70A1_1D80, Faults(Op::Divo, 3, 2)),
-    // faulte where it is equal.
-    (2, PC, 0x1A00_0000, Faults(Op::Faulte, 5, 1)),
-    // mov of sf0 in user mode; sdma in user mode, and of channel 4.
-    (0, USER, 0x5CA0_0620, Faults(Op::Mov, 10, 1)),
-    (0, USER, 0x63C5_0801, Faults(Op::Sdma, 10, 1)),
-    (0, PC, 0x63C5_0804, Faults(Op::Sdma, 2, 4)),
-    // While trace enable is set faults are precise; a word that is refused then.
-    (0, TRACED, 0x59A4_8092, Faults(Op::Addi, 3, 1)),
-    (0, TRACED, 0x0000_0000, Refused(2, 1)),
-];
+/// What is done to frames, memory, start-up, interrupts and DMA.
+const MOVES: &str = "\
+call 0x1008       | 0 1F2002 1000 9000008 0  | Call 9000008 0: 0 1F2002 0 1008, saves 3040 3080 3040 30C0 back 1004
+calls 5           | 0 1F2002 1000 66000805 0 | Calls 66000805 0: 0 1F2002 0 1204, saves 3040 3080 3040 30C0 back 1004
+ret, whose rip is 9 | 0 1F2002 1000 A000000 0 | Ret A000000 0: 0 1F2002 0 8, returns 3000
+flushreg          | 0 1F2002 1000 66000680 0 | Flushreg 66000680 0: 0 1F2002 0 1004, flushes
+stl g4 at 4008    | 0 1F2002 1000 9AA76000 0 | Stl 9AA76000 0: 0 1F2002 0 1004, 4008 05 00 00 00 04 01 00 06
+sysctl 3          | 0 1F2002 1000 65DE8499 0 | Sysctl 65DE8499 0: 0 1F2002 0 1004, flushes, restarts 1234 3000
+sysctl 4          | 0 1F2002 1000 65A0149C 0 | Sysctl 65A0149C 0: 0 1F2002 0 1004, flushes, group 6
+mov 5, sf0        | 0 1F2002 1000 5C002E05 0 | Mov 5C002E05 0: 0 1F2002 0 1004, Pending(5)
+mov 5, sf1        | 0 1F2002 1000 5C082E05 0 | Mov 5C082E05 0: 0 1F2002 0 1004, Mask(5)
+sysctl 0, vector 0 | 0 1F2002 1000 65A01483 0 | Sysctl 65A01483 0: 0 1F2002 0 1004, check
+sysctl 0, vector 7 | 0 1F2002 1000 65A01C87 0 | Sysctl 65A01C87 0: 0 1F2002 0 1004, check
+sysctl 0, vector 8 | 0 1F2002 1000 65A01C88 0 | Sysctl 65A01C88 0: 0 1F2002 0 1004, request 1400 6, request 1405 1, check
+sysctl 0, vector 12 | 0 1F2002 1000 65A01C8C 0 | Sysctl 65A01C8C 0: 0 1F2002 0 1004, request 1400 6, request 1405 10, check
+modpc that lowers | 0 1F2002 1000 65C5C297 0 | Modpc 65C5C297 0: 0 2002 0 1004, r24 1F2002, check
+modpc that keeps  | 0 1F2002 1000 65B58296 0 | Modpc 65B58296 0: 0 1F2003 0 1004, r22 1F2002
+modpc that raises | 0 2 1000 65BDC297 0      | Modpc 65BDC297 0: 0 1F0002 0 1004, r23 2
+mov 5, sf2        | 0 1F2002 1000 5C102E05 0 | Mov 5C102E05 0: 0 1F2002 0 1004, Command(5)
+mov sf2, g4       | 0 1F2002 1000 5CA00622 0 | Mov 5CA00622 0: 0 1F2002 0 1004, r20 0
+sdma 1, g4, g8    | 0 1F2002 1000 63C50801 0 | Sdma 63C50801 0: 0 1F2002 0 1004, SetsUp(1, Channel { control: 5, count: 0, source: 768, target: 4660 })
+";
 
 #[test]
-fn plans_stops(rt: HostRuntime) -> Result<(), Fail> {
-    for (ac, pc, word, wanted) in STOPS {
-        let p = ready(rt.alloc(), 0x1000, (word, 0), ac, pc)?;
-        let mut memo = Memo::none(rt.alloc());
-        let planned = plan_next(&p, &mut memo, &mut Effect::blank());
-        assert_eq!(rt; seen_of(&memo, &planned), wanted, "{word}");
-    }
-    // The words themselves stand in the live frame: the first one, or the second.
-    for (at, hazard) in [(0x3002, 0x3002), (0x2FFC, 0x3000)] {
-        let p = ready(rt.alloc(), at, (0x8CA8_3000, 0), 0, PC)?;
-        let mut memo = Memo::none(rt.alloc());
-        let planned = plan_next(&p, &mut memo, &mut Effect::blank());
-        assert_eq!(rt; seen_of(&memo, &planned), Meets(hazard));
+fn plans_instructions(rt: HostRuntime) -> Result<(), Fail> {
+    for row in STOPS.lines().chain(RESULTS.lines()).chain(MOVES.lines()) {
+        let (state, wanted) = columns(row)?;
+        let p = given(rt.alloc(), state)?;
+        let text = next_text(rt.alloc(), &p, &mut Memo::none(rt.alloc()))?;
+        assert_eq!(rt; text.as_str(), wanted, "{row}");
     }
     Ok(())
 }
 
-/// What is done to registers and controls: the arithmetic controls, a word, its name, the register
-/// that is set, and the arithmetic, process and trace controls and the next address behind it.
-const RESULTS: [(u32, u32, Op, Option<(u8, u32)>, (u32, u32, u32, u32)); 14] = [
-    // addo 3, 4, g4; cmpo 3, 4; lda; addi that overflows, masked; ldib at 4001.
-    (0, 0x59A1_1803, Op::Addo, Some((20, 7)), (0, PC, 0, 0x1004)),
-    (1, 0x5A01_1803, Op::Cmpo, None, (4, PC, 0, 0x1004)),
-    (
-        0,
-        0x8CA8_3000,
-        Op::Lda,
-        Some((21, 0x1234)),
-        (0, PC, 0, 0x1008),
-    ),
-    (
-        0x1000,
-        0x59A4_8092,
-        Op::Addi,
-        Some((20, 0)),
-        (0x1100, PC, 0, 0x1004),
-    ),
-    (
-        0,
-        0xC0A4_6000,
-        Op::Ldib,
-        Some((20, 0xFFFF_FF87)),
-        (0, PC, 0, 0x1004),
-    ),
-    // mov of sf1, which is 0.
-    (0, 0x5CA0_0621, Op::Mov, Some((20, 0)), (0, PC, 0, 0x1004)),
-    // cmpobe, taken and not; faulte where it is greater; b; bal.
-    (0, 0x3200_E010, Op::Cmpobe, None, (2, PC, 0, 0x1010)),
-    (0, 0x3208_E010, Op::Cmpobe, None, (1, PC, 0, 0x1004)),
-    (1, 0x1A00_0000, Op::Faulte, None, (1, PC, 0, 0x1004)),
-    (0, 0x0800_0008, Op::B, None, (0, PC, 0, 0x1008)),
-    (
-        0,
-        0x0B00_0008,
-        Op::Bal,
-        Some((30, 0x1004)),
-        (0, PC, 0, 0x1008),
-    ),
-    // modac, modtc, and modpc that sets trace enable.
-    (
-        0x8001,
-        0x64A0_9A87,
-        Op::Modac,
-        Some((20, 0x8001)),
-        (0x8002, PC, 0, 0x1004),
-    ),
-    (0, 0x65A7_DA06, Op::Modtc, Some((20, 0)), (0, PC, 6, 0x1004)),
-    (
-        0,
-        0x65B5_8296,
-        Op::Modpc,
-        Some((22, PC)),
-        (0, TRACED, 0, 0x1004),
-    ),
-];
+/// What is kept of words that were decoded changes no answer: the third word stands where another one stood, and the
+/// fourth in the same place of the memo, 512 words on.
+const KEPT: &str = "\
+mov 5, g4     | 0 1F2002 1000 5CA01E05 0 | Mov 5CA01E05 0: 0 1F2002 0 1004, r20 5
+mov 5, g4     | 0 1F2002 1000 5CA01E05 0 | Mov 5CA01E05 0: 0 1F2002 0 1004, r20 5
+addo 1, 2, g4 | 0 1F2002 1000 59A09801 0 | Addo 59A09801 0: 0 1F2002 0 1004, r20 3
+flushreg      | 0 1F2002 1800 66000680 0 | Flushreg 66000680 0: 0 1F2002 0 1804, flushes
+addo 1, 2, g4 | 0 1F2002 1000 59A09801 0 | Addo 59A09801 0: 0 1F2002 0 1004, r20 3
+no instruction | 0 1F2002 1000 0 0       | refused 2 1
+flushreg      | 0 1F2002 1800 66000680 0 | Flushreg 66000680 0: 0 1F2002 0 1804, flushes
+";
 
-/// Process controls, a word, and the trace events of what it does.
-const TRACES: [(u32, u32, Option<Trace>); 4] = [
-    // addo where no mode is set.
-    (TRACED, 0x59A1_1803, None),
-    // modtc that sets the modes of instructions and of branches.
-    (
-        TRACED,
-        0x65A7_DA06,
-        Some(Trace {
-            tc: 0x0002_0006,
-            subtype: 2,
-        }),
-    ),
-    // fmark, and the same while trace enable is clear.
-    (
-        TRACED,
-        0x6600_0600,
-        Some(Trace {
-            tc: 0,
-            subtype: 0x80,
-        }),
-    ),
-    (PC, 0x6600_0600, None),
-];
-
-/// An address, a word there, and the name that it is, or none where it is refused.
-const KEPT: [(u32, u32, Option<Op>); 7] = [
-    (0x1000, 0x5CA0_1E05, Some(Op::Mov)),
-    (0x1000, 0x5CA0_1E05, Some(Op::Mov)),
-    // Another word at that address.
-    (0x1000, 0x59A0_9801, Some(Op::Addo)),
-    // The same place of the memo, 512 words on.
-    (0x1800, 0x6600_0680, Some(Op::Flushreg)),
-    (0x1000, 0x59A0_9801, Some(Op::Addo)),
-    (0x1000, 0x0000_0000, None),
-    (0x1800, 0x6600_0680, Some(Op::Flushreg)),
-];
-
-/// What is kept of words that were decoded changes no answer.
 #[test]
 fn keeps_instructions(rt: HostRuntime) -> Result<(), Fail> {
     let mut memo = Memo::new(rt.alloc())?;
-    for (at, word, name) in KEPT {
-        let p = ready(rt.alloc(), at, (word, 0), 0, PC)?;
-        let found = match plan_next(&p, &mut memo, &mut Effect::blank()) {
-            Planned::Runs => Some(memo.inst().op),
-            _ => None,
-        };
-        assert_eq!(rt; found, name, "{at} {word}");
-    }
-    Ok(())
-}
-
-#[test]
-fn plans_traces(rt: HostRuntime) -> Result<(), Fail> {
-    for (pc, word, trace) in TRACES {
-        let p = ready(rt.alloc(), 0x1000, (word, 0), 0, pc)?;
-        let mut effect = Effect::blank();
-        assert!(rt;
-            matches!(
-                plan_next(&p, &mut Memo::none(rt.alloc()), &mut effect),
-                Planned::Runs
-            )
+    for row in KEPT.lines() {
+        let (state, wanted) = columns(row)?;
+        let p = given(rt.alloc(), state)?;
+        assert_eq!(rt;
+            next_text(rt.alloc(), &p, &mut memo)?.as_str(),
+            wanted,
+            "{row}"
         );
-        assert_eq!(rt; effect.trace, trace, "{word}");
     }
     Ok(())
 }
 
-#[test]
-fn plans_results(rt: HostRuntime) -> Result<(), Fail> {
-    for (ac, word, op, set, controls) in RESULTS {
-        let p = ready(rt.alloc(), 0x1000, (word, 0x1234), ac, PC)?;
-        let mut effect = Effect::blank();
-        let mut memo = Memo::none(rt.alloc());
-        match plan_next(&p, &mut memo, &mut effect) {
-            Planned::Runs => {
-                let second = if op == Op::Lda { 0x1234 } else { 0 };
-                assert_eq!(rt;
-                    memo.words(),
-                    Words {
-                        first: word,
-                        second
-                    }
-                );
-                assert_eq!(rt; (memo.inst().op, rest_of(&effect)), (op, Nothing));
-                assert_eq!(rt; set_of(&effect), set);
-                assert_eq!(rt; controls_of(&effect), controls);
-            }
-            _ => assert!(rt; false, "{word}"),
-        }
-    }
-    Ok(())
-}
-
-/// The save of the frame at 3040, with a return address.
-fn saved(back: u32) -> Rest {
-    let push = Push {
-        save: 0x3040,
-        frame: 0x3080,
-        pfp: 0x3040,
-        sp: 0x30C0,
-    };
-    Saves(push, back)
-}
-
-#[test]
-fn plans_moves(rt: HostRuntime) -> Result<(), Fail> {
-    let call = saved(0x1004);
-    let rows = [
-        // call; calls 5; ret, whose rip is 9; flushreg; stl g4 at 4008.
-        (0x0900_0008, call, None, 0x1008),
-        (0x6600_0805, call, None, 0x1204),
-        (0x0A00_0000, Returns(0x3000), None, 8),
-        (0x6600_0680, Flushes, None, 0x1004),
-        (0x9AA7_6000, Stores(0x4008, 8, 6), None, 0x1004),
-        // sysctl 3, by the live frame as a PRCB; sysctl 4.
-        (0x65DE_8499, Restart(0x1234, 0x3000), None, 0x1004),
-        (0x65A0_149C, Group(6), None, 0x1004),
-    ];
-    for (word, rest, set, next) in rows {
-        let p = ready(rt.alloc(), 0x1000, (word, 0), 0, PC)?;
-        let mut effect = Effect::blank();
-        match plan_next(&p, &mut Memo::none(rt.alloc()), &mut effect) {
-            Planned::Runs => {
-                assert_eq!(rt; rest_of(&effect), rest);
-                assert_eq!(rt; set_of(&effect), set);
-                assert_eq!(rt; controls_of(&effect), (0, PC, 0, next));
-            }
-            _ => assert!(rt; false, "{word}"),
-        }
-    }
-    Ok(())
-}
+/// The frame of the handler stands above its record, of PC, AC, the type with the subtype, and the address.
+const FAULT_ENTRY: &str =
+    "8000 1F2002 0 1300, 3080 02 20 1F 00 00 80 00 00 01 00 02 00 FC 0F 00 00, \
+saves 3040 3090 3041 30D0 back 1000";
 
 #[test]
 fn plans_faults(rt: HostRuntime) -> Result<(), Fail> {
-    let p = ready(rt.alloc(), 0x1000, (0, 0), PRECISE, PC)?;
+    let p = ready(rt.alloc(), 0x1000, (0, 0), 0x8000, PC)?;
     let mut faulting = Effect::blank();
     plan_faulting(&p, 2, &mut faulting);
-    assert_eq!(rt; (rest_of(&faulting), set_of(&faulting)), (Nothing, None));
-    assert_eq!(rt; controls_of(&faulting), (PRECISE, PC, 0, 0x1008));
+    assert_eq!(rt;
+        effect_text(rt.alloc(), &faulting)?.as_str(),
+        "8000 1F2002 0 1008"
+    );
     let fault = Fault {
         kind: 2,
         subtype: 1,
         address: 0x0FFC,
     };
-    match plan_entry(&p, &fault) {
-        Ok(effect) => {
-            // The frame of the handler stands above a record of sixteen bytes.
-            let push = Push {
-                save: 0x3040,
-                frame: 0x3090,
-                pfp: 0x3041,
-                sp: 0x30D0,
-            };
-            assert_eq!(rt;
-                (rest_of(&effect), effect.address),
-                (Saves(push, 0x1000), 0x3080)
-            );
-            // The record is below the frame of the handler.
-            let record = [
-                2, 0x20, 0x1F, 0, 0, 0x80, 0, 0, 1, 0, 2, 0, 0xFC, 0x0F, 0, 0,
-            ];
-            assert_eq!(rt; effect.bytes.as_slice(), record.as_slice());
-            assert_eq!(rt; controls_of(&effect), (PRECISE, PC, 0, 0x1300));
-        }
-        Err(_) => assert!(rt; false, "no entry"),
-    }
+    let text = match plan_entry(&p, &fault) {
+        Ok(effect) => effect_text(rt.alloc(), &effect)?,
+        Err(_) => return Err("no entry".into()),
+    };
+    assert_eq!(rt; text.as_str(), FAULT_ENTRY);
     let dead = FaultStop::Dead {
         code: 1,
         address: 0x1118,
@@ -528,233 +173,85 @@ fn plans_faults(rt: HostRuntime) -> Result<(), Fail> {
     Ok(())
 }
 
-/// What is done to interrupts: the process controls, a word, the bytes with bits of requests, what is
-/// posted, and the process controls and the check flag afterwards.
-type Posts = (u32, u32, Requests, Posting, (u32, bool));
+/// The handler's frame stands on the stack in use, since an interrupt is handled, and above its record, of PC, AC, the
+/// vector and 0.
+const NMI_ENTRY: &str = "8000 1F2002 0 1600, 3080 02 20 1F 00 00 80 00 00 F8 00 00 00 00 00 00 00, \
+saves 3040 3090 3047 30D0 back 1000, Clears(Nmi)";
 
-/// Two bytes of requests, each with its address.
-fn both(first: (u32, u8), second: (u32, u8)) -> Requests {
-    Requests {
-        first: Some(first),
-        second: Some(second),
-    }
-}
-
-#[test]
-fn plans_posts(rt: HostRuntime) -> Result<(), Fail> {
-    let rows: [Posts; 9] = [
-        // mov 5, sf0, and sf1; sysctl 0 for vectors 0 and 7, which only sets the check flag, and for vectors 8 and 12,
-        // beside vector 18.
-        (
-            PC,
-            0x5C00_2E05,
-            Requests::NONE,
-            Posting::Pending(5),
-            (PC, false),
-        ),
-        (
-            PC,
-            0x5C08_2E05,
-            Requests::NONE,
-            Posting::Mask(5),
-            (PC, false),
-        ),
-        (PC, 0x65A0_1483, Requests::NONE, Posting::Keeps, (PC, true)),
-        (PC, 0x65A0_1C87, Requests::NONE, Posting::Keeps, (PC, true)),
-        (
-            PC,
-            0x65A0_1C88,
-            both((0x1400, 6), (0x1405, 1)),
-            Posting::Keeps,
-            (PC, true),
-        ),
-        (
-            PC,
-            0x65A0_1C8C,
-            both((0x1400, 6), (0x1405, 0x10)),
-            Posting::Keeps,
-            (PC, true),
-        ),
-        // modpc that lowers the priority, leaves it alone, and raises it.
-        (
-            PC,
-            0x65C5_C297,
-            Requests::NONE,
-            Posting::Keeps,
-            (0x2002, true),
-        ),
-        (
-            PC,
-            0x65B5_8296,
-            Requests::NONE,
-            Posting::Keeps,
-            (TRACED, false),
-        ),
-        (
-            2,
-            0x65BD_C297,
-            Requests::NONE,
-            Posting::Keeps,
-            (0x001F_0002, false),
-        ),
-    ];
-    for (pc, word, requests, posting, (after, check)) in rows {
-        let p = ready(rt.alloc(), 0x1000, (word, 0), 0, pc)?;
-        let mut effect = Effect::blank();
-        match plan_next(&p, &mut Memo::none(rt.alloc()), &mut effect) {
-            Planned::Runs => {
-                assert_eq!(rt; effect.requests, requests);
-                assert_eq!(rt; effect.posting, posting);
-                assert_eq!(rt; (effect.pc, effect.check), (after, check));
-            }
-            _ => assert!(rt; false, "{word}"),
-        }
-    }
-    Ok(())
-}
+const SOFT_ENTRY: &str = "8000 22002 0 1700, 3080 02 20 1F 00 00 80 00 00 12 00 00 00 00 00 00 00, \
+saves 3040 3090 3047 30D0 back 1000, request 1400 0, request 1406 0, Clears(Soft)";
 
 #[test]
 fn plans_interrupts(rt: HostRuntime) -> Result<(), Fail> {
-    // The handler's frame stands on the stack in use, since an interrupt is handled, and above a
-    // record of sixteen bytes.
-    let push = Push {
-        save: 0x3040,
-        frame: 0x3090,
-        pfp: 0x3047,
-        sp: 0x30D0,
-    };
-    let rows = [
-        (248, Cause::Nmi, 0x1600, 0x001F_2002, Requests::NONE),
-        (
-            18,
-            Cause::Soft,
-            0x1700,
-            0x0002_2002,
-            both((0x1400, 0), (0x1406, 0)),
-        ),
-    ];
-    for (vector, cause, handler, pc, requests) in rows {
-        let p = ready(rt.alloc(), 0x1000, (0, 0), PRECISE, PC)?;
-        match plan_interrupt(&p, &Chosen { vector, cause }) {
-            Ok(effect) => {
-                assert_eq!(rt;
-                    (rest_of(&effect), effect.address),
-                    (Saves(push, 0x1000), 0x3080)
-                );
-                let record = [2, 0x20, 0x1F, 0, 0, 0x80, 0, 0, vector, 0, 0, 0, 0, 0, 0, 0];
-                assert_eq!(rt; effect.bytes.as_slice(), record.as_slice());
-                assert_eq!(rt; effect.requests, requests);
-                assert_eq!(rt; effect.posting, Posting::Clears(cause));
-                assert_eq!(rt; controls_of(&effect), (PRECISE, pc, 0, handler));
-            }
-            Err(_) => assert!(rt; false, "no entry"),
-        }
+    let rows = [(248, Cause::Nmi, NMI_ENTRY), (18, Cause::Soft, SOFT_ENTRY)];
+    for (vector, cause, wanted) in rows {
+        let p = ready(rt.alloc(), 0x1000, (0, 0), 0x8000, PC)?;
+        let text = match plan_interrupt(&p, &Chosen { vector, cause }) {
+            Ok(effect) => effect_text(rt.alloc(), &effect)?,
+            Err(_) => return Err("no entry".into()),
+        };
+        assert_eq!(rt; text.as_str(), wanted);
     }
     Ok(())
+}
+
+/// What an event does, or the hazard that it meets.
+fn event_text(alloc: Global, p: &Processor, event: &Event) -> Result<String, Fail>
+    requires { IsDrained p.now }
+{
+    match plan_event(p, event) {
+        Ok(effect) => effect_text(alloc, &effect),
+        Err(a) => Ok(format!(in alloc; "meets {a:X}")?),
+    }
 }
 
 #[test]
 fn plans_events(rt: HostRuntime) -> Result<(), Fail> {
     let p = ready(rt.alloc(), 0x1000, (0, 0), 1, PC)?;
     let rows = [
-        (Event::Pin(3), Posting::Pin(3)),
-        (Event::Nmi, Posting::Nmi),
-        (Event::Dma(1), Posting::Keeps),
-        (Event::Show(0x3000, 4), Posting::Keeps),
+        (Event::Pin(3), "1 1F2002 0 1000, Pin(3)"),
+        (Event::Nmi, "1 1F2002 0 1000, Nmi"),
+        (Event::Dma(1), "1 1F2002 0 1000"),
+        (Event::Show(0x3000, 4), "1 1F2002 0 1000"),
     ];
-    for (event, posting) in rows {
-        match plan_event(&p, &event) {
-            Ok(effect) => {
-                assert_eq!(rt; (rest_of(&effect), set_of(&effect)), (Nothing, None));
-                assert_eq!(rt; controls_of(&effect), (1, PC, 0, 0x1000));
-                assert_eq!(rt; (effect.posting, effect.check), (posting, false));
-                assert_eq!(rt; effect.dma, DmaChange::Keeps);
-            }
-            Err(_) => assert!(rt; false, "a hazard"),
-        }
+    for (event, wanted) in rows {
+        assert_eq!(rt; event_text(rt.alloc(), &p, &event)?.as_str(), wanted);
     }
     Ok(())
 }
 
-#[test]
-fn plans_set_ups(rt: HostRuntime) -> Result<(), Fail> {
-    let channel = Channel {
-        control: 5,
-        count: 0,
-        source: 0x0300,
-        target: 0x1234,
-    };
-    // mov 5, sf2; sdma 1, g4, g8; mov sf2, g4.
-    let rows = [
-        (0x5C10_2E05, DmaChange::Command(5)),
-        (0x63C5_0801, DmaChange::SetsUp(1, channel)),
-        (0x5CA0_0622, DmaChange::Keeps),
-    ];
-    for (word, dma) in rows {
-        let p = ready(rt.alloc(), 0x1000, (word, 0), 0, PC)?;
-        let mut effect = Effect::blank();
-        match plan_next(&p, &mut Memo::none(rt.alloc()), &mut effect) {
-            Planned::Runs => {
-                assert_eq!(rt; (effect.dma, effect.next), (dma, 0x1004));
-                assert_eq!(rt;
-                    (effect.posting, rest_of(&effect)),
-                    (Posting::Keeps, Nothing)
-                );
-            }
-            _ => assert!(rt; false, "{word}"),
-        }
-    }
-    Ok(())
-}
-
-/// Does something to DMA.
-#[tactic(auto, unfolding(i9_model::specs::Hazards::writes_hazard))]
-fn changes(p: &mut Processor, change: DmaChange) -> Result<(), Fail>
-    requires drained { IsDrained p.old }
-    requires change { CanChange change }
-    ensures { OnOk result (IsDrained p.new) }
+/// A processor whose channel 0 moves four bytes from 4000 to a target, with an interrupt at the end.
+fn with_channel(alloc: Global, target: u32) -> Result<Processor, Fail>
+    ensures { IfOk result (λ p. IsDrained p) }
 {
-    let mut effect = Effect::going(p, 0x1000);
-    effect.dma = change;
-    effect.plain = false;
-    applies(p, &effect)
+    let mut p = ready(alloc, 0x1000, (0, 0), 1, PC)?;
+    let channel = Channel {
+        control: 0x42,
+        count: 4,
+        source: 0x4000,
+        target,
+    };
+    changes(&mut p, DmaChange::SetsUp(0, channel))?;
+    changes(&mut p, DmaChange::Command(1))?;
+    Ok(p)
 }
 
 #[test]
 fn plans_units(rt: HostRuntime) -> Result<(), Fail> {
-    let mut p = ready(rt.alloc(), 0x1000, (0, 0), 1, PC)?;
-    let mut channel = Channel {
-        control: 0x42,
-        count: 4,
-        source: 0x4000,
-        target: 0x5000,
-    };
-    changes(&mut p, DmaChange::SetsUp(0, channel))?;
-    changes(&mut p, DmaChange::Command(1))?;
-    match plan_event(&p, &Event::Dma(0)) {
-        Ok(effect) => {
-            assert_eq!(rt; effect.address, 0x5000);
-            assert_eq!(rt;
-                effect.bytes.as_slice(),
-                [0x21, 0x87, 0x43, 0x65].as_slice()
-            );
-            assert_eq!(rt;
-                (effect.dma, effect.posting),
-                (DmaChange::Passes(0), Posting::Dma(0))
-            );
-            assert_eq!(rt; controls_of(&effect), (1, PC, 0, 0x1000));
-        }
-        Err(_) => assert!(rt; false, "a hazard"),
+    // The channel has its bytes from memory, and the frame at 3000 is live.
+    let fed = Event::Feed(0, ArrayVec::from([9; 16]));
+    let rows = [
+        (
+            0x5000,
+            Event::Dma(0),
+            "1 1F2002 0 1000, 5000 21 87 43 65, Dma(0), Passes(0)",
+        ),
+        (0x5000, fed, "1 1F2002 0 1000"),
+        (0x300D, Event::Dma(0), "meets 300D"),
+    ];
+    for (target, event, wanted) in rows {
+        let p = with_channel(rt.alloc(), target)?;
+        assert_eq!(rt; event_text(rt.alloc(), &p, &event)?.as_str(), wanted);
     }
-    // The channel has its bytes from memory.
-    match plan_event(&p, &Event::Feed(0, ArrayVec::from([9; 16]))) {
-        Ok(effect) => assert_eq!(rt; (rest_of(&effect), effect.dma), (Nothing, DmaChange::Keeps)),
-        Err(_) => assert!(rt; false, "a hazard"),
-    }
-    // The frame at 3000 is live.
-    channel.target = 0x300D;
-    changes(&mut p, DmaChange::SetsUp(0, channel))?;
-    changes(&mut p, DmaChange::Command(1))?;
-    assert_eq!(rt; plan_event(&p, &Event::Dma(0)).err(), Some(0x300D));
     Ok(())
 }

@@ -3,7 +3,7 @@
 ghost use Rattle.std.specs.Prelude.{IfOk, OnOk};
 ghost use Rattle.i9_processor.specs.State.{IsDrained};
 
-use crate::plan::{PC, applies, goes, ready, saves};
+use crate::state::{PC, applies, goes, ready, saves};
 use arrayvec::ArrayVec;
 use i9_faults::Fault;
 use i9_model::{Cause, Chosen, Event, Need};
