@@ -204,11 +204,3 @@ next-fault file size place count index ps h kind total lt is loads fault before 
     let hs = left file place count (index + 1) in
     let shown : load_all file size ps (filter is_load (h ∷ hs)) ≡ total = ap (λ (x : Header). load_all file size ps (filter is_load (x ∷ hs))) is ∙ ap (λ (xs : List Header). load_all file size ps (filter is_load xs)) (sym (headers-turn count index place file lt)) ∙ before in
     sym (rw (loads, fault) at shown)
-
--- ---- what is put
-
-pub pairs_of-with_part : (ps : List Part) (a : ℕ) (bs : List ℕ) → pairs_of (with_part ps a bs) ≡ pairs_of ps ++ upwards a bs
-unfolding pairs_of
-pairs_of-with_part ps a [] = sym (append-nil (pairs_of ps))
-pairs_of-with_part ps a (b ∷ bs) =
-    flat_map-append pairs_of_part ps (record { address = a; bytes = b ∷ bs } ∷ []) ∙ ap (λ (qs : List (ℕ × ℕ)). pairs_of ps ++ qs) (append-nil (upwards a (b ∷ bs)))

@@ -9,6 +9,7 @@ use Rattle.i9_hex.specs.Shown.{part_of}
 use Rattle.i9_hex.specs.declared.segments.Segment.{Segment}
 use Rattle.i9_runs.specs.Runs.{IsRun, bytes_in, AreRuns}
 use Rattle.i9_runs.proofs.Placed.{runs_few}
+use Rattle.i9_runs.proofs.PairCounts.{length-pairs_of}
 use Rattle.i9_elf.specs.Files.{magic, half_at, word_at, file_header_size, class_of, order_of, type_of, machine_of, headers_place, header_size_of, header_count, header_size, Header, header_of, headers_in, is_load, load_kind, loads_of, memory_size, loaded_bytes, loaded_pairs, IsLoadable, IsImage}
 use Rattle.i9_elf.specs.Written.{most_headers, halves, words, identity, file_header, program_header, program_headers, bytes_place, file_of, ReadsBack}
 
@@ -118,20 +119,8 @@ pub length-map_part : (runs : List Segment) → length (map part_of runs) ≡ le
 length-map_part [] = refl
 length-map_part (run ∷ runs) = ap suc (length-map_part runs)
 
-length-upwards : (a : ℕ) (bs : List ℕ) → length (upwards a bs) ≡ length bs
-length-upwards a [] = refl
-length-upwards a (b ∷ bs) = ap suc (length-upwards (a + 1) bs)
-
-pub bytes-pairs : (runs : List Part) → length (pairs_of runs) ≡ bytes_in runs
-unfolding pairs_of
-bytes-pairs [] = refl
-bytes-pairs (run ∷ runs) =
-    let one = length-upwards run.address run.bytes in
-    let more = bytes-pairs runs in
-    length-append (upwards run.address run.bytes) (pairs_of runs) ∙ omega (arith, one, more)
-
 pub few_bytes : (image runs : List Part) → AreRuns image runs → length (pairs_of image) ≤ most_bytes → bytes_in runs ≤ most_bytes
-few_bytes image runs are few = let less = runs_few image runs are in let same = bytes-pairs runs in omega (arith, few, less, same)
+few_bytes image runs are few = let less = runs_few image runs are in let same = length-pairs_of runs in omega (arith, few, less, same)
 
 count-back : (runs : List Part) → length runs ≤ most_headers → header_count (file_of runs) ≡ length runs
 unfolding file_of

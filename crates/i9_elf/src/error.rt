@@ -25,7 +25,7 @@ pub(crate) const TOO_MANY_BYTES: u8 = 9;
 #[derive(Debug, Drop, Error)]
 pub enum ElfError {
     /// The file is no image. It has the first kind of this list that applies to it, the kinds being
-    /// this project's own; 8 and 9 are looked for header by header, 8 first.
+    /// this project's own; 8 and 9 are looked for in each header that loads, in order, 8 before 9.
     ///
     /// | kind | the file |
     /// |---|---|
@@ -34,10 +34,10 @@ pub enum ElfError {
     /// | 3 | has another order than 1, for low byte first |
     /// | 4 | has another type than 2, for a linked program |
     /// | 5 | has another machine than 19, for the i960 |
-    /// | 6 | has program headers of another size than 32 bytes |
-    /// | 7 | has program headers that reach past its end |
-    /// | 8 | loads more bytes from the file than there are in memory, or past its end |
-    /// | 9 | loads more than 4,194,304 bytes in memory so far |
+    /// | 6 | has program headers, of another size than 32 bytes |
+    /// | 7 | has program headers, which reach past its end |
+    /// | 8 | has a header that loads, with more bytes in the file than in memory, or past the file's end |
+    /// | 9 | comes, with a header that loads, to more than 4,194,304 bytes in memory |
     #[error("refused")]
     Bad(u8),
     /// Memory was refused.

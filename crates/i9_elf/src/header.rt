@@ -39,9 +39,9 @@ pub(crate) struct Header {
     pub(crate) offset: u32,
     /// The physical address.
     pub(crate) address: u32,
-    /// How many bytes it has in the file,
+    /// How many bytes it has in the file.
     pub(crate) in_file: u32,
-    /// and how many in memory.
+    /// How many bytes it has in memory.
     pub(crate) in_memory: u32,
 }
 

@@ -1,7 +1,7 @@
 //! Reading a file.
 ghost use Rattle.std.specs.Prelude.{◌≡◌, ◌<◌, ◌≤◌, ◌^◌, ◌++◌, ℕ, List, [], length, take, true, None, OnOk, IfOk, IfErr, Ok, Err};
 ghost use Rattle.i9_model.specs.Image.{pairs_of};
-ghost use Rattle.i9_elf.specs.Files.{magic, headers_place, header_count, loads_of, fault_of_file, loaded_bytes, loaded_pairs, IsLoadable, IsImage, IsRefused};
+ghost use Rattle.i9_elf.specs.Files.{magic, file_header_size, headers_place, header_count, loads_of, fault_of_file, loaded_bytes, loaded_pairs, IsLoadable, IsImage, IsRefused};
 ghost use Rattle.i9_elf.specs.Reading.{plain, load_all, Reads, IfBad};
 
 use crate::error::{
@@ -36,14 +36,26 @@ pub fn has_magic(file: &[u8]) -> bool
     matches!(file, [0x7F, b'E', b'L', b'F', ..])
 }
 
-/// Where the program headers stand, and how many there are.
-fn headers_of(file: &[u8]) -> (usize, usize)
-    requires { 52 ≤ length file.now }
-    ensures place { result.0 ≡ headers_place file.now }
-    ensures count { result.1 ≡ header_count file.now }
-    ensures low { (result.0 < 2 ^ 32) × (result.1 < 2 ^ 16) }
-{
-    (word_at(file, 28) as usize, usize::from(half_at(file, 44)))
+/// The program headers of a file: where the first stands, and how many there are.
+#[derive(Clone, Copy, Debug)]
+struct HeaderTable {
+    place: usize,
+    count: usize,
+}
+
+impl HeaderTable {
+    /// What the header of the file says of them.
+    fn of(file: &[u8]) -> HeaderTable
+        requires { file_header_size ≤ length file.now }
+        ensures place { result.place ≡ headers_place file.now }
+        ensures count { result.count ≡ header_count file.now }
+        ensures low { (result.place < 2 ^ 32) × (result.count < 2 ^ 16) }
+    {
+        HeaderTable {
+            place: word_at(file, 28) as usize,
+            count: usize::from(half_at(file, 44)),
+        }
+    }
 }
 
 /// The kind of fault of a file before its program headers are looked at.
@@ -66,11 +78,11 @@ fn fault_of_file(file: &[u8]) -> Option<u8>
     if half_at(file, 18) != I960 {
         return Some(BAD_MACHINE);
     }
-    let (place, count) = headers_of(file);
-    if 0 < count && usize::from(half_at(file, 42)) != HEADER_SIZE {
+    let table = HeaderTable::of(file);
+    if 0 < table.count && usize::from(half_at(file, 42)) != HEADER_SIZE {
         return Some(BAD_HEADER_SIZE);
     }
-    if 0 < count && file.len() < place + HEADER_SIZE * count {
+    if 0 < table.count && file.len() < table.place + HEADER_SIZE * table.count {
         return Some(HEADERS_OUTSIDE);
     }
     None
@@ -111,11 +123,11 @@ fn load_all(alloc: Global, file: &[u8]) -> Result<Segments, ElfError>
     requires { fault_of_file file.now ≡ None }
     ensures { Reads result (load_all file.now 0 [] (loads_of file.now)) }
 {
-    let (place, count) = headers_of(file);
+    let table = HeaderTable::of(file);
     let mut segments = Segments::new(alloc);
     let mut size = 0u32;
-    for index in 0..count {
-        let header = Header::read(file, place + HEADER_SIZE * index);
+    for index in 0..table.count {
+        let header = Header::read(file, table.place + HEADER_SIZE * index);
         if header.is_load() {
             if let Some(kind) = header.fault(file, size) {
                 return Err(ElfError::Bad(kind));

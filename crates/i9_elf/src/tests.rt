@@ -1,192 +1,286 @@
-ghost use Rattle.std.specs.Prelude.{◌≤◌, length, IfOk};
+//! Files and images that were worked out by hand from the format.
+ghost use Rattle.std.specs.Prelude.{◌≡◌, ◌≤◌, length, IfOk};
 ghost use Rattle.i9_model.specs.Image.{pairs_of};
+ghost use Rattle.i9_model.specs.HexText.{most_bytes};
 
 use crate::{ElfError, WriteError, has_magic, one_answer, read, write};
-use i9_hex::Segments;
+use i9_hex::{Segment, Segments};
 use i9_isa::NoMemory;
-use std::alloc::{AllocError, Global};
+use i9_runs::runs_of;
+use std::alloc::Global;
 use std::test::Fail;
 
-/// The header of a file: class and order, type, machine, place, size and number of the program headers.
+/// A file of 118 bytes: its header; at 52 a program header that loads 2 bytes from 116 at 1000, where it has 4 bytes
+/// in memory, with another virtual address; at 84 one that loads a byte from 117 at FFFFFFFF, and has 2 in memory; and
+/// two bytes.
 const FILE: &[u8] = b"\x7FELF\x01\x01\x01\0\0\0\0\0\0\0\0\0\
     \x02\0\x13\0\x01\0\0\0\0\0\0\0\x34\0\0\0\0\0\0\0\0\0\0\0\
-    \x34\0\x20\0\x02\0\0\0\0\0\0\0";
+    \x34\0\x20\0\x02\0\0\0\0\0\0\0\
+    \x01\0\0\0\x74\0\0\0\0\0\0\x80\0\x10\0\0\x02\0\0\0\x04\0\0\0\x07\0\0\0\x01\0\0\0\
+    \x01\0\0\0\x75\0\0\0\0\0\0\0\xFF\xFF\xFF\xFF\x01\0\0\0\x02\0\0\0\x07\0\0\0\x01\0\0\0\
+    \xAA\xBB";
 
-/// A header that loads 2 bytes from 116 at 1000, in 4 bytes of memory. The virtual address differs.
-const LOAD: &[u8] =
-    b"\x01\0\0\0\x74\0\0\0\0\0\0\x80\0\x10\0\0\x02\0\0\0\x04\0\0\0\x07\0\0\0\x01\0\0\0";
+/// The runs of the images of files. A row has the addresses and bytes of the runs in hexadecimal digits, and behind the
+/// semicolon how many bytes of `FILE` there are, and which of them are others.
+const IMAGES: &str = "0 00, 1000 AA BB 00 00, FFFFFFFF BB; 118
+0 00, 1000 AA BB, FFFFFFFF BB; 118 72=02
+1000 AA BB 00 00, FFFFFFFF BB; 118 104=01
+0 00, 1000 00 00 00 00, FFFFFFFF BB; 118 68=00 56=FF 57=FF 58=FF 59=FF
+0 00, FFFFFFFF BB; 118 68=00 72=00
+1000 AA BB 00 00; 118 84=04 88=FF 104=00 107=80
+0 00, FFFFFFFF BB; 118 52=00
+1000 AA BB 00 00; 118 84=01 85=01
+1000 AA BB BB 00; 118 96=02 97=10 98=00 99=00
+1000 AA 00 00 00; 118 96=00 97=10 98=00 99=00 88=74
+FFF BB 00 BB 00 00; 118 96=FF 97=0F 98=00 99=00
+0 00, FFFFFFFF BB; 118 28=54 44=01
+none; 118 28=36
+none; 52 44=00
+none; 52 44=00 28=FF 31=FF 42=21
+0 00, 1000 AA BB 00 00, FFFFFFFF BB; 118 6=00 7=09 20=09 27=09 32=09 36=09 40=09 46=09 48=09 50=09 76=00 80=09";
 
-/// A note, which loads nothing whatever it says.
-const NOTE: &[u8] =
-    b"\x04\0\0\0\xFF\xFF\xFF\xFF\0\0\0\0\0\x20\0\0\xFF\xFF\xFF\xFF\0\0\0\0\0\0\0\0\0\0\0\0";
+/// The kinds of faults of files, in the form of `IMAGES`. Of kinds that follow each other in their order, some file has
+/// both.
+const REFUSED: &str = "1; 51
+1; 51 4=02
+2; 118 4=00
+2; 118 4=02 5=02
+3; 118 5=00
+3; 118 5=02 16=01
+4; 118 16=01
+4; 118 16=03 18=12
+4; 118 17=01
+5; 118 18=12
+5; 118 18=14 42=21
+5; 118 19=01
+6; 118 42=1F
+6; 115 42=21
+6; 118 43=01
+7; 52
+7; 115
+7; 118 28=37
+7; 118 44=03
+7; 118 45=01
+7; 118 31=01
+7; 118 28=FF 29=FF 30=FF 31=FF
+8; 116
+8; 117
+8; 118 56=75
+8; 118 56=FF 57=FF 58=FF 59=FF
+8; 118 72=01
+8; 118 104=00
+8; 118 74=40 71=FF
+8; 118 72=01 106=50
+9; 118 74=50 104=00
+9; 118 72=01 74=40
+9; 118 72=00 74=40
+9; 118 72=FF 73=FF 74=3F
+9; 118 104=FD 106=40
+9; 118 107=80";
 
-/// A header that loads 1 byte from 117 at FFFFFFFF, and a zero behind it at 0.
-const LAST: &[u8] =
-    b"\x01\0\0\0\x75\0\0\0\0\0\0\0\xFF\xFF\xFF\xFF\x01\0\0\0\x02\0\0\0\x07\0\0\0\x01\0\0\0";
-
-/// A file of these parts, with some bytes replaced.
-fn file_of(alloc: Global, parts: &[&[u8]], edits: &[(usize, u8)]) -> Result<Vec<u8>, AllocError> {
-    let mut file = Vec::new(alloc);
-    for part in parts {
-        file.extend_from_slice(part)?;
+/// The bytes of a text, in pairs of hexadecimal digits.
+fn bytes_of(alloc: Global, text: &str) -> Result<Vec<u8>, Fail> {
+    let mut bytes = Vec::new(alloc);
+    for digits in text.split_whitespace() {
+        bytes.push(u8::from_str_radix(digits, 16)?)?;
     }
-    for (place, byte) in edits {
-        if let Some(old) = file.get_mut(*place) {
-            *old = *byte;
+    Ok(bytes)
+}
+
+/// Whether a run has the address and the bytes of a text.
+fn is_run(alloc: Global, run: &Segment, wanted: &str) -> Result<bool, Fail> {
+    let (address, digits) = wanted.split_once(" ").unwrap_or((wanted, ""));
+    let bytes = bytes_of(alloc, digits)?;
+    let same = run.bytes.as_slice() == bytes.as_slice();
+    Ok(same && run.address == u32::from_str_radix(address, 16)?)
+}
+
+/// Whether an image has the runs of a text.
+fn has_runs(alloc: Global, image: &Segments, wanted: &str) -> Result<bool, Fail> {
+    let runs = runs_of(alloc, image)?;
+    let segments = runs.as_slice();
+    if wanted == "none" {
+        return Ok(segments.is_empty());
+    }
+    for (index, text) in wanted.split(", ").enumerate() {
+        let Some(run) = segments.get(index) else {
+            return Ok(false);
+        };
+        if !is_run(alloc, run, text)? {
+            return Ok(false);
+        }
+    }
+    Ok(segments.len() == wanted.split(", ").count())
+}
+
+/// The file of a row: a front of `FILE`, with other bytes at some places.
+fn file_of(alloc: Global, words: &str) -> Result<Vec<u8>, Fail> {
+    let (length, edits) = words.split_once(" ").unwrap_or((words, ""));
+    let mut file = Vec::from_slice(alloc, FILE)?;
+    file.truncate(usize::from_str_radix(length, 10)?);
+    for edit in edits.split_whitespace() {
+        let (place, digits) = edit.split_once("=").unwrap_or((edit, ""));
+        if let Some(byte) = file.get_mut(usize::from_str_radix(place, 10)?) {
+            *byte = u8::from_str_radix(digits, 16)?;
         }
     }
     Ok(file)
 }
 
-/// Whether the image has these segments.
-fn has(image: &Segments, wanted: &[(u32, &[u8])]) -> bool {
-    let segments = image.as_slice();
-    if segments.len() != wanted.len() {
-        return false;
+/// Whether the file of a row is read as its image, or refused for its kind.
+fn is_answered(alloc: Global, row: &str) -> Result<bool, Fail> {
+    let (wanted, words) = row.split_once("; ").unwrap_or((row, ""));
+    let file = file_of(alloc, words)?;
+    if !has_magic(&file) {
+        return Ok(false);
     }
-    for (segment, (address, bytes)) in segments.iter().zip(wanted.iter()) {
-        if segment.address != *address || segment.bytes.as_slice() != *bytes {
-            return false;
-        }
+    match read(alloc, &file) {
+        Ok(image) => has_runs(alloc, &image, wanted),
+        Err(ElfError::Bad(kind)) => Ok(format!(in alloc; "{kind}")?.as_str() == wanted),
+        Err(ElfError::Memory) => Ok(false),
     }
-    true
 }
 
 #[test]
 fn knows_the_magic(rt: HostRuntime) -> Result<(), Fail> {
-    assert!(rt; has_magic(FILE));
+    assert!(rt; has_magic(b"\x7FELF"));
     assert!(rt; !has_magic(b"\x7FEL"));
+    assert!(rt; !has_magic(b"\x7FELf\x01\x01\x01"));
     assert!(rt; !has_magic(b":00000001FF\n"));
     Ok(())
 }
 
-/// The kind that a file is refused for.
-fn refusal(alloc: Global, file: &[u8]) -> Option<u8> {
-    if !has_magic(file) {
-        return None;
-    }
-    match read(alloc, file) {
-        Err(ElfError::Bad(kind)) => Some(kind),
-        _ => None,
-    }
-}
-
-// Each image is worked by hand from the rule of program headers.
 #[test]
-fn reads_images(rt: HostRuntime) -> Result<(), Fail> {
+fn answers_files(rt: HostRuntime) -> Result<(), Fail> {
+    for table in [IMAGES, REFUSED] {
+        for row in table.lines() {
+            assert!(rt; is_answered(rt.alloc(), row)?, "{row}");
+        }
+    }
     one_answer();
-    let bytes: &[u8] = b"\xAA\xBB";
-    let rows: [(&[&[u8]], &[(usize, u8)], &[(u32, &[u8])]); 5] = [
-        // Zeros stand behind the bytes of the file, at the physical address; a note loads nothing.
-        (
-            &[FILE, LOAD, NOTE, bytes],
-            &[],
-            &[(0x1000, b"\xAA\xBB\0\0")],
-        ),
-        // Addresses run on from the last to 0.
-        (
-            &[FILE, LAST, LOAD, bytes],
-            &[],
-            &[(0xFFFF_FFFF, b"\xBB\0"), (0x1000, b"\xAA\xBB\0\0")],
-        ),
-        // No bytes of the file, from past its end.
-        (
-            &[FILE, LOAD, NOTE, bytes],
-            &[(59, 0x7F), (68, 0), (72, 3)],
-            &[(0x1000, b"\0\0\0")],
-        ),
-        // No program headers: their place and size don't count.
-        (&[FILE], &[(31, 0xFF), (42, 1), (44, 0)], &[]),
-        // Neither the entry address nor flags count.
-        (
-            &[FILE, LOAD, NOTE, bytes],
-            &[(24, 9), (36, 9), (76, 0)],
-            &[(0x1000, b"\xAA\xBB\0\0")],
-        ),
-    ];
-    for (parts, edits, wanted) in rows {
-        let file = file_of(rt.alloc(), parts, edits)?;
-        assert!(rt; has_magic(&file));
-        let image = read(rt.alloc(), &file)?;
-        assert!(rt; has(&image, wanted));
-    }
     Ok(())
 }
 
-// Each file is refused for the first row of the table of kinds that applies to it.
+// With the two bytes of the second header there are 4,194,304 bytes in memory; `REFUSED` has one more.
 #[test]
-fn refuses_the_first_fault(rt: HostRuntime) -> Result<(), Fail> {
-    let bytes: &[u8] = b"\xAA\xBB";
-    let two: &[&[u8]] = &[FILE, LOAD, LAST, bytes];
-    let rows: [(&[&[u8]], &[(usize, u8)], Option<u8>); 18] = [
-        (two, &[], None),
-        (&[b"\x7FELF"], &[], Some(1)),
-        (two, &[(4, 2), (5, 2)], Some(2)),
-        (two, &[(5, 2), (16, 1)], Some(3)),
-        (two, &[(17, 2), (18, 3)], Some(4)),
-        (two, &[(19, 1), (42, 40)], Some(5)),
-        (two, &[(42, 40), (31, 1)], Some(6)),
-        (two, &[(31, 1)], Some(7)),
-        (&[FILE, LOAD], &[], Some(7)),
-        // Two bytes from 117 reach past the end, and so does one from the end.
-        (two, &[(56, 0x75)], Some(8)),
-        (two, &[(88, 0x76)], Some(8)),
-        // More bytes in the file than in memory come before too many bytes.
-        (two, &[(72, 1)], Some(8)),
-        (two, &[(70, 0x50), (74, 0x50), (72, 1)], Some(8)),
-        // The limit is 4,194,304 bytes in memory, of all headers so far.
-        (&[FILE, LOAD, NOTE, bytes], &[(72, 0), (74, 0x40)], None),
-        (two, &[(72, 0), (74, 0x40)], Some(9)),
-        (two, &[(72, 0xFE), (73, 0xFF), (74, 0x3F)], None),
-        (two, &[(72, 0xFF), (73, 0xFF), (74, 0x3F)], Some(9)),
-        // The first header at fault counts.
-        (two, &[(74, 0x50), (100, 0x50)], Some(9)),
-    ];
-    for (parts, edits, wanted) in rows {
-        let file = file_of(rt.alloc(), parts, edits)?;
-        assert_eq!(rt; refusal(rt.alloc(), &file), wanted);
+fn reads_the_largest_image(rt: HostRuntime) -> Result<(), Fail> {
+    let file = file_of(rt.alloc(), "118 72=FE 73=FF 74=3F")?;
+    assert!(rt; has_magic(&file));
+    let image = read(rt.alloc(), &file)?;
+    let mut total = 0u64;
+    for segment in image.as_slice() {
+        total = total.saturating_add(segment.bytes.len() as u64);
     }
+    assert_eq!(rt; total, 4_194_304);
     Ok(())
 }
 
-/// The image of a few bytes.
-fn image_of(alloc: Global, bytes: &[(u32, u8)]) -> Result<Segments, NoMemory>
-    requires { length bytes.now ≤ 100 }
-    ensures { IfOk result (λ image. length (pairs_of image) ≤ 100) }
+/// Images as they are put, and their files. Each image has the addresses of its bytes in a row and these bytes in
+/// hexadecimal digits. The first is that of `demo/smallest.s`; the second has a byte twice, and runs over the last
+/// address; the third is empty.
+const WRITTEN: [(&str, &str); 3] = [
+    (
+        "FFFFFF10 00 10 00 00, 1000 41 00 A0 8C 00 30 A8 8C 00 00 00 E0 00 60 A5 82 07 0E A0 5C 04 60 A5 92",
+        "7F 45 4C 46 01 01 01 00 00 00 00 00 00 00 00 00 02 00 13 00 01 00 00 00 00 00 00 00 34 00 00 00
+        00 00 00 00 00 00 00 00 34 00 20 00 02 00 00 00 00 00 00 00
+        01 00 00 00 74 00 00 00 00 10 00 00 00 10 00 00 18 00 00 00 18 00 00 00 07 00 00 00 01 00 00 00
+        01 00 00 00 8C 00 00 00 10 FF FF FF 10 FF FF FF 04 00 00 00 04 00 00 00 07 00 00 00 01 00 00 00
+        41 00 A0 8C 00 30 A8 8C 00 00 00 E0 00 60 A5 82 07 0E A0 5C 04 60 A5 92
+        00 10 00 00",
+    ),
+    (
+        "FFFFFFFF 01 02 03, 1 04",
+        "7F 45 4C 46 01 01 01 00 00 00 00 00 00 00 00 00 02 00 13 00 01 00 00 00 00 00 00 00 34 00 00 00
+        00 00 00 00 00 00 00 00 34 00 20 00 02 00 00 00 00 00 00 00
+        01 00 00 00 74 00 00 00 00 00 00 00 00 00 00 00 02 00 00 00 02 00 00 00 07 00 00 00 01 00 00 00
+        01 00 00 00 76 00 00 00 FF FF FF FF FF FF FF FF 01 00 00 00 01 00 00 00 07 00 00 00 01 00 00 00
+        02 04
+        01",
+    ),
+    (
+        "",
+        "7F 45 4C 46 01 01 01 00 00 00 00 00 00 00 00 00 02 00 13 00 01 00 00 00 00 00 00 00 34 00 00 00
+        00 00 00 00 00 00 00 00 34 00 20 00 00 00 00 00 00 00 00 00",
+    ),
+];
+
+/// The bytes of a text, each with its address.
+fn placed(alloc: Global, text: &str) -> Result<Vec<(u32, u8)>, Fail> {
+    let mut pairs = Vec::new(alloc);
+    for part in text.split(", ") {
+        let (start, digits) = part.split_once(" ").unwrap_or(("0", ""));
+        let mut address = u32::from_str_radix(start, 16)?;
+        let bytes = bytes_of(alloc, digits)?;
+        for &byte in &bytes {
+            pairs.push((address, byte))?;
+            address = address.wrapping_add(1);
+        }
+    }
+    Ok(pairs)
+}
+
+/// The image of bytes.
+fn image_of(alloc: Global, pairs: &[(u32, u8)]) -> Result<Segments, NoMemory>
+    requires { length pairs.now ≤ most_bytes }
+    ensures { IfOk result (λ image. length (pairs_of image) ≤ most_bytes) }
 {
     let mut image = Segments::new(alloc);
-    for entry in bytes {
-        image.put(entry.0, entry.1)?;
+    for pair in pairs {
+        image.put(pair.0, pair.1)?;
     }
     Ok(image)
 }
 
-// An image in the order of its bytes, and the file that is written for it, worked by hand.
 #[test]
 fn writes_images(rt: HostRuntime) -> Result<(), Fail> {
-    let none = image_of(rt.alloc(), &[])?;
-    let empty = write(rt.alloc(), &none)?;
-    let header = file_of(rt.alloc(), &[FILE], &[(44, 0)])?;
-    assert!(rt; empty.as_slice() == header.as_slice());
+    for (text, wanted) in WRITTEN {
+        let pairs = placed(rt.alloc(), text)?;
+        assert!(rt; pairs.len() < 100);
+        let image = image_of(rt.alloc(), &pairs)?;
+        let file = write(rt.alloc(), &image)?;
+        let bytes = bytes_of(rt.alloc(), wanted)?;
+        assert!(rt; file.as_slice() == bytes.as_slice());
+    }
+    Ok(())
+}
 
-    let image = image_of(rt.alloc(), &[(0xFFFF_FFFF, 1), (0, 2), (1, 3), (1, 4)])?;
-    let first: &[u8] =
-        b"\x01\0\0\0\x74\0\0\0\0\0\0\0\0\0\0\0\x02\0\0\0\x02\0\0\0\x07\0\0\0\x01\0\0\0";
-    let second: &[u8] =
-        b"\x01\0\0\0\x76\0\0\0\xFF\xFF\xFF\xFF\xFF\xFF\xFF\xFF\x01\0\0\0\x01\0\0\0\x07\0\0\0\x01\0\0\0";
-    let wanted = file_of(rt.alloc(), &[FILE, first, second, b"\x02\x04\x01"], &[])?;
-    let file = write(rt.alloc(), &image)?;
-    assert!(rt; file.as_slice() == wanted.as_slice());
+/// An image of so many zeros, each so many addresses from the one before.
+fn zeros_apart(alloc: Global, count: u32, step: u32) -> Result<Segments, NoMemory>
+    requires { count ≤ most_bytes }
+    ensures { IfOk result (λ image. length (pairs_of image) ≤ most_bytes) }
+{
+    let mut image = Segments::new(alloc);
+    for index in 0..count {
+        image.put(index.wrapping_mul(step), 0)?;
+    }
+    Ok(image)
+}
+
+/// How many bytes its file has, unless there are too many runs.
+fn written_size(alloc: Global, count: u32, step: u32) -> Result<Option<usize>, Fail>
+    requires { count ≤ most_bytes }
+{
+    let image = zeros_apart(alloc, count, step)?;
+    match write(alloc, &image) {
+        Err(WriteError::Segments) => Ok(None),
+        file => Ok(Some(file?.len())),
+    }
+}
+
+// A file has 52 bytes, 32 for each run, and those of the runs.
+#[test]
+fn writes_the_largest_images(rt: HostRuntime) -> Result<(), Fail> {
+    assert_eq!(rt; written_size(rt.alloc(), 65_535, 2)?, Some(2_162_707));
+    assert_eq!(rt; written_size(rt.alloc(), 65_536, 2)?, None);
+    assert_eq!(rt; written_size(rt.alloc(), 4_194_304, 1)?, Some(4_194_388));
     Ok(())
 }
 
 #[test]
-fn shows_errors(rt: HostRuntime) -> Result<(), Fail> {
-    let bad = format!(in rt.alloc(); "{}", ElfError::Bad(3))?;
-    assert_eq!(rt; bad.as_str(), "refused");
-    let memory = format!(in rt.alloc(); "{}", ElfError::Memory)?;
-    assert_eq!(rt; memory.as_str(), "no memory");
-    let segments = format!(in rt.alloc(); "{}", WriteError::Segments)?;
-    assert_eq!(rt; segments.as_str(), "too many segments");
+fn tells_what_is_wrong(rt: HostRuntime) -> Result<(), Fail> {
+    let bad = format!(in rt.alloc(); "{}, {}", ElfError::Bad(3), ElfError::Memory)?;
+    assert_eq!(rt; bad.as_str(), "refused, no memory");
+    let unwritten = format!(in rt.alloc(); "{}, {}", WriteError::Segments, WriteError::Memory)?;
+    assert_eq!(rt; unwritten.as_str(), "too many segments, no memory");
     Ok(())
 }

@@ -15,7 +15,10 @@ use i9_isa::NoMemory;
 use i9_runs::runs_of;
 use std::alloc::{AllocError, Global};
 
-/// Read, write and execute.
+/// How many program headers a file has at most.
+const MOST_HEADERS: usize = 65_535;
+
+/// The flags of a header: read, write and execute.
 const ALL_ACCESS: u32 = 7;
 
 /// Appends halves, low byte first.
@@ -46,6 +49,7 @@ fn add_file_header(file: &mut Vec<u8>, count: u16) -> Result<(), AllocError>
         0x7F, b'E', b'L', b'F', BITS_32, LOW_FIRST, 1, 0, 0, 0, 0, 0, 0, 0, 0, 0,
     ])?;
     add_halves(file, &[EXECUTABLE, I960])?;
+    // The version, no entry address, the place of the program headers, no section headers, no flags.
     add_words(file, &[1, 0, FILE_HEADER_SIZE as u32, 0, 0])?;
     add_halves(
         file,
@@ -60,19 +64,12 @@ fn add_headers(file: &mut Vec<u8>, runs: &[Segment], start: u32) -> Result<(), A
 {
     let mut place = start;
     for run in runs {
+        let address = run.address;
         let size = run.bytes.len() as u32;
+        // Both addresses, and both sizes; the last is the alignment.
         add_words(
             file,
-            &[
-                LOAD,
-                place,
-                run.address,
-                run.address,
-                size,
-                size,
-                ALL_ACCESS,
-                1,
-            ],
+            &[LOAD, place, address, address, size, size, ALL_ACCESS, 1],
         )?;
         place += size;
     }
@@ -99,8 +96,8 @@ fn file_of(alloc: Global, runs: &[Segment]) -> Result<Vec<u8>, AllocError>
     Ok(file)
 }
 
-/// The ELF file of an image: a program header for each maximal run of its addresses, in ascending
-/// order, and behind them the bytes of the runs.
+/// The ELF file of an image of at most 4,194,304 bytes, those counted twice that stand at one address: a program header
+/// for each maximal run of loaded addresses, in ascending order, and behind them the bytes of the runs.
 ///
 /// The file has 32 bits, low byte first, is of type 2 and for machine 19. Each header has type 1,
 /// equal addresses and sizes, all access, and alignment 1. There are no section headers, and no entry
@@ -119,7 +116,7 @@ pub fn write(alloc: Global, image: &Segments) -> Result<Vec<u8>, WriteError>
         Ok(runs) => runs,
         Err(NoMemory) => return Err(WriteError::Memory),
     };
-    if 65_535 < runs.as_slice().len() {
+    if MOST_HEADERS < runs.as_slice().len() {
         return Err(WriteError::Segments);
     }
     match file_of(alloc, runs.as_slice()) {

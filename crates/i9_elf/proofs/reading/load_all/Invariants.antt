@@ -8,6 +8,6 @@ use Rattle.i9_elf.proofs.reading.load_all.Given as goal
 
 abbrev pub invariant-loop-index : goal.invariant-loop-index
 invariant-loop-index l = record {
-  same : load_all l.file l.size (pairs_of l.segments) (filter is_load (headers_in (l.count - l.index) (drop (l.place + header_size * l.index) l.file))) ≡ load_all l.file 0 [] (loads_of l.file);
+  same : load_all l.file l.size (pairs_of l.segments) (filter is_load (headers_in (l.table.count - l.index) (drop (l.table.place + header_size * l.index) l.file))) ≡ load_all l.file 0 [] (loads_of l.file);
   room : l.size ≤ most_bytes;
 }

@@ -15,10 +15,10 @@ count image runs others segments are also shown =
     let one = runs_once (pairs_of image) others runs also are in
     ap length (one ∙ sym shown) ∙ length-map_part segments
 
-pub returns-then-as_slice-gt65535-clause-segments : goal.returns-then-as_slice-gt65535-clause-segments
-returns-then-as_slice-gt65535-clause-segments c = λ is runs are.
+pub returns-then-as_slice-gt-MOST_HEADERS-clause-segments : goal.returns-then-as_slice-gt-MOST_HEADERS-clause-segments
+returns-then-as_slice-gt-MOST_HEADERS-clause-segments c = λ is runs are.
     let n = count c.args.image.now c.in-Ok.runs runs c.as_slice.result.now c.in-Ok.ensures are c.as_slice.ensures.segments in
-    omega (arith, n, c.if-as_slice-gt65535.true)
+    omega (arith, n, c.if-as_slice-gt-MOST_HEADERS.true)
 
 pub file_of-requires-clause-bytes : goal.file_of-requires-clause-bytes
 file_of-requires-clause-bytes c = subst (λ (runs : List Part). bytes_in runs ≤ most_bytes) (sym c.as_slice-2.ensures.segments) (few_bytes c.args.image.now c.in-Ok.runs c.in-Ok.ensures c.requires)
@@ -27,10 +27,10 @@ pub returns-in-Ok-file_of-clause-file : goal.returns-in-Ok-file_of-clause-file
 returns-in-Ok-file_of-clause-file c = λ runs are.
     let n = count c.args.image.now c.in-Ok.runs runs c.as_slice.result.now c.in-Ok.ensures are c.as_slice.ensures.segments in
     let one = runs_once (pairs_of c.args.image.now) c.in-Ok.runs runs c.in-Ok.ensures are in
-    (omega (arith, n, c.if-as_slice-gt65535.false), c.in-Ok-file_of.ensures ∙ ap file_of (c.as_slice-2.ensures.segments ∙ one))
+    (omega (arith, n, c.if-as_slice-gt-MOST_HEADERS.false), c.in-Ok-file_of.ensures ∙ ap file_of (c.as_slice-2.ensures.segments ∙ one))
 
 pub returns-in-Ok-file_of-clause-again : goal.returns-in-Ok-file_of-clause-again
 returns-in-Ok-file_of-clause-again c =
     let n = count c.args.image.now c.in-Ok.runs c.in-Ok.runs c.as_slice.result.now c.in-Ok.ensures c.in-Ok.ensures c.as_slice.ensures.segments in
-    file-again c.args.image.now c.in-Ok.runs c.in-Ok-file_of.file.items c.in-Ok.ensures (omega (arith, n, c.if-as_slice-gt65535.false))
+    file-again c.args.image.now c.in-Ok.runs c.in-Ok-file_of.file.items c.in-Ok.ensures (omega (arith, n, c.if-as_slice-gt-MOST_HEADERS.false))
     (few_bytes c.args.image.now c.in-Ok.runs c.in-Ok.ensures c.requires) (c.in-Ok-file_of.ensures ∙ ap file_of c.as_slice-2.ensures.segments)
