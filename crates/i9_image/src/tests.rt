@@ -20,7 +20,7 @@ fn reads_either_format(rt: HostRuntime) -> Result<(), Fail> {
         assert_eq!(rt; image.as_slice().len(), 1);
         for segment in image.as_slice() {
             assert_eq!(rt; segment.address, 0x1000);
-            assert!(rt; segment.bytes.as_slice() == b"A");
+            assert!(rt; segment.bytes.as_slice() == b"A".as_slice());
         }
     }
     one_answer();
