@@ -8,13 +8,9 @@ use Rattle.i9_elf.specs.Files.{magic, file_header_size, class_of, bits_32, order
 use Rattle.i9_elf.specs.declared.error.ElfError.{ElfError}
 use Rattle.i9_elf.specs.declared.error.ElfError.TheVariants.{Bad, Memory}
 use Rattle.i9_elf.specs.Reading.{or_refused, load_all, answer_of, Reads, IfBad}
-use Rattle.i9_elf.proofs.Loads.{and_some, some_and, FitAll, Stops, load_all-ok, ok-load_all, load_all-err, err-load_all}
+use Rattle.i9_elf.proofs.Loads.{if_none, refused_ok, and_some, some_and, FitAll, Stops, load_all-ok, ok-load_all, load_all-err, err-load_all}
 
 -- ---- the file before its program headers are looked at
-
-if_none : (b : Bool) (k : ℕ) (o : Option ℕ) → cond b (Some k) o ≡ None → (b ≡ false) × (o ≡ None)
-if_none true k o e = absurd cc
-if_none false k o e = (refl, e)
 
 is_same : (a b : ℕ) → not (eqb a b) ≡ false → a ≡ b
 is_same a b e = elim (cases_Bool (eqb a b)) [
@@ -76,10 +72,6 @@ header_inside file place count index none at many lt = let inside = (fine_file f
 refused_err : {X : Type 0} (o : Option ℕ) (rest : Result X ℕ) (kind : ℕ) → or_refused o rest ≡ Err kind → (o ≡ Some kind) ⊎ ((o ≡ None) × (rest ≡ Err kind))
 refused_err None rest kind e = inr (refl, e)
 refused_err (Some k) rest kind e = inl cc
-
-refused_ok : {X : Type 0} (o : Option ℕ) (rest : Result X ℕ) (x : X) → or_refused o rest ≡ Ok x → (o ≡ None) × (rest ≡ Ok x)
-refused_ok None rest x e = (refl, e)
-refused_ok (Some kind) rest x e = absurd cc
 
 answer-image : (file : List ℕ) (pairs : List (ℕ × ℕ)) → take 4 file ≡ magic → answer_of file ≡ Ok pairs → IsImage file pairs
 answer-image file pairs begins e =

@@ -12,7 +12,8 @@ use Rattle.i9_elf.specs.Files.{Header, header_size, header_of, headers_in, heade
 
 -- ---- one header
 
-if_none : (b : Bool) (k : ℕ) (o : Option ℕ) → cond b (Some k) o ≡ None → (b ≡ false) × (o ≡ None)
+-- where a test gives no fault, and none comes later
+pub if_none : (b : Bool) (k : ℕ) (o : Option ℕ) → cond b (Some k) o ≡ None → (b ≡ false) × (o ≡ None)
 if_none true k o e = absurd cc
 if_none false k o e = (refl, e)
 
@@ -81,7 +82,8 @@ ok_value x y e = cc
 err_value : {X : Type 0} (x y : ℕ) → ◌≡◌ {A = Result X ℕ} (Err x) (Err y) → x ≡ y
 err_value x y e = cc
 
-refused_ok : {X : Type 0} (o : Option ℕ) (rest : Result X ℕ) (x : X) → or_refused o rest ≡ Ok x → (o ≡ None) × (rest ≡ Ok x)
+-- where what comes first refuses nothing
+pub refused_ok : {X : Type 0} (o : Option ℕ) (rest : Result X ℕ) (x : X) → or_refused o rest ≡ Ok x → (o ≡ None) × (rest ≡ Ok x)
 refused_ok None rest x e = (refl, e)
 refused_ok (Some kind) rest x e = absurd cc
 
