@@ -1,12 +1,10 @@
 -- Headers that load, one after the other.
-use Rattle.std.proofs.Common.{◌≡◌, ℕ, zero, suc, ◌+◌, ◌-◌, ◌*◌, ◌<◌, ◌≤◌, Bool, true, false, cond, not, ltb, eqb, ◌||◌, ◌&&◌, List, [], ◌∷◌, ◌++◌, length, take, drop, Option, Some, None, Result, Ok, Err, refl, sym, ap, subst, ◌∙◌, arith, inl, inr, append_assoc}
+use Rattle.std.proofs.Common.{◌≡◌, ℕ, suc, ◌+◌, ◌-◌, ◌*◌, ◌<◌, ◌≤◌, Bool, true, false, cond, ltb, ◌||◌, ◌&&◌, List, [], ◌∷◌, ◌++◌, length, drop, Option, Some, None, Result, Ok, Err, refl, sym, ap, ◌∙◌, arith, inl, inr, append_assoc}
 use Rattle.std.specs.List.{filter, flat_map, AllByRecursion}
-use Rattle.std.proofs.lemmas.Bool.{cases_Bool, eqb-true, ltb-false, le-ltb}
+use Rattle.std.proofs.lemmas.Bool.{cases_Bool, ltb-false, le-ltb}
 use Rattle.std.proofs.lemmas.List.{append-nil, drop-drop}
-use Rattle.std.proofs.lemmas.Grind.{flat_map-append}
-use Rattle.i9_model.specs.Image.{Part, upwards, pairs_of_part, pairs_of}
+use Rattle.i9_model.specs.Image.{Part, pairs_of}
 use Rattle.i9_model.specs.HexText.{most_bytes}
-use Rattle.i9_hex.specs.Put.{with_part}
 use Rattle.i9_elf.specs.Reading.{or_refused, load_all}
 use Rattle.i9_elf.specs.Files.{Header, header_size, header_of, headers_in, headers_place, header_count, is_load, loads_of, memory_size, loaded_pairs, IsLoadable, fault_of_load}
 

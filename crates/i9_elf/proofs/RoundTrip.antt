@@ -1,8 +1,8 @@
 -- What is written for runs is read back.
-use Rattle.std.proofs.Common.{◌≡◌, ℕ, zero, suc, ◌+◌, ◌-◌, ◌*◌, ◌^◌, ◌/◌, ◌%◌, ◌<◌, ◌≤◌, Bool, true, false, cond, eqb, List, [], ◌∷◌, ◌++◌, length, take, drop, map, replicate, get_or, refl, sym, ap, subst, ◌∙◌, arith, append_assoc, length-append}
+use Rattle.std.proofs.Common.{◌≡◌, ℕ, suc, ◌+◌, ◌-◌, ◌*◌, ◌^◌, ◌<◌, ◌≤◌, List, [], ◌∷◌, ◌++◌, length, take, drop, map, get_or, refl, sym, ap, subst, ◌∙◌, arith, append_assoc, length-append}
 use Rattle.std.specs.List.{filter, flat_map, AllByRecursion}
 use Rattle.std.proofs.lemmas.List.{append-nil, drop_at, take_all, take-append-le, drop_more}
-use Rattle.byteorder.specs.Endian.{little_number, little_bytes}
+use Rattle.byteorder.specs.Endian.{little_bytes}
 use Rattle.i9_model.specs.Image.{Part, upwards, pairs_of}
 use Rattle.i9_model.specs.HexText.{most_bytes}
 use Rattle.i9_hex.specs.Shown.{part_of}
@@ -10,8 +10,8 @@ use Rattle.i9_hex.specs.declared.segments.Segment.{Segment}
 use Rattle.i9_runs.specs.Runs.{IsRun, bytes_in, AreRuns}
 use Rattle.i9_runs.proofs.Placed.{runs_few}
 use Rattle.i9_runs.proofs.PairCounts.{length-pairs_of}
-use Rattle.i9_elf.specs.Files.{magic, half_at, word_at, file_header_size, class_of, order_of, type_of, machine_of, headers_place, header_size_of, header_count, header_size, Header, header_of, headers_in, is_load, load_kind, loads_of, memory_size, loaded_bytes, loaded_pairs, IsLoadable, IsImage}
-use Rattle.i9_elf.specs.Written.{most_headers, halves, words, identity, file_header, program_header, program_headers, bytes_place, file_of, ReadsBack}
+use Rattle.i9_elf.specs.Files.{half_at, word_at, header_count, header_size, Header, header_of, headers_in, is_load, load_kind, loads_of, memory_size, loaded_bytes, loaded_pairs, IsLoadable, IsImage}
+use Rattle.i9_elf.specs.Written.{most_headers, words, file_header, program_header, program_headers, bytes_place, file_of, ReadsBack}
 
 -- ---- numbers
 

@@ -1,11 +1,10 @@
 -- The pairs of images stand in the address space, and runs have no more of them than their image.
-use Rattle.std.proofs.Common.{◌≡◌, ℕ, ◌+◌, ◌%◌, ◌<◌, ◌≤◌, cond, ltb, eqb, List, [], ◌∷◌, ◌++◌, length, sym, ap, subst, ◌∙◌, arith, inl, inr}
+use Rattle.std.proofs.Common.{ℕ, ◌+◌, ◌<◌, ◌≤◌, ltb, eqb, List, [], ◌∷◌, ◌++◌, length, sym, subst, ◌∙◌, arith, inl, inr}
 use Rattle.std.specs.List.{AllByRecursion}
 use Rattle.std.proofs.lemmas.Bool.{cases_Bool}
-use Rattle.i9_model.specs.Image.{Part, address_count, upwards, pairs_of, AreParts}
-use Rattle.i9_runs.specs.Pairs.{IsPlaced}
+use Rattle.i9_model.specs.Image.{Part, upwards, pairs_of, AreParts}
 use Rattle.i9_runs.specs.Runs.{IsLow, AreRuns}
-use Rattle.i9_runs.proofs.Rising.{ArePlaced, Rises, rises_once, with_earlier, in_order, in_order_rises, in_order_placed, in_order_says}
+use Rattle.i9_runs.proofs.Rising.{ArePlaced, rises_once, with_earlier, in_order, in_order_rises, in_order_placed, in_order_says}
 use Rattle.i9_runs.proofs.Joining.{joined, joined_runs, runs_rise}
 
 -- the pairs of an image stand in the address space

@@ -1,9 +1,8 @@
-use Rattle.std.proofs.Common.{◌≡◌, ◌+◌, ◌-◌, ◌*◌, ◌<◌, ◌≤◌, arith, ap, ◌∙◌, sym, length, List}
+use Rattle.std.proofs.Common.{arith, ◌∙◌, sym}
 use Rattle.i9_model.specs.Image.{pairs_of}
-use Rattle.i9_elf.specs.Files.{header_of, headers_in, is_load, fault_of_load}
-use Rattle.i9_elf.specs.Reading.{plain, load_all, Reads}
+use Rattle.i9_elf.specs.Reading.{plain}
 use Rattle.i9_elf.proofs.Answers.{fine_file, header_inside}
-use Rattle.i9_elf.proofs.Loads.{fits, begins_all, ends_all, next-other, next-load, next-fault}
+use Rattle.i9_elf.proofs.Loads.{fits, begins_all, next-other, next-load, next-fault}
 use Rattle.i9_elf.proofs.reading.load_all.Goals.{then-is_load+in_default+in-Ok, else-is_load}
 use Rattle.i9_elf.proofs.reading.load_all.Goals as goal
 

@@ -1,7 +1,6 @@
-use Rattle.std.proofs.Common.{◌≡◌, ℕ, List, Option, Some, None, Result, Ok, Err, sym, subst, ◌∙◌, refl}
-use Rattle.i9_elf.specs.Files.{fault_of_file, loads_of}
+use Rattle.std.proofs.Common.{◌≡◌, ℕ, List, Result, Err, sym, subst, ◌∙◌}
 use Rattle.i9_elf.specs.declared.error.ElfError.TheVariants.{Bad}
-use Rattle.i9_elf.specs.Reading.{load_all, answer_of, Reads}
+use Rattle.i9_elf.specs.Reading.{answer_of, Reads}
 use Rattle.i9_elf.proofs.Answers.{found, only, refused, first, answer-at_fault, answer-at_loads}
 use Rattle.i9_elf.proofs.reading.read.Goals as goal
 

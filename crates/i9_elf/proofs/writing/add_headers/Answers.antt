@@ -1,4 +1,4 @@
-use Rattle.std.proofs.Common.{◌≡◌, ◌+◌, length, ◌∙◌, arith}
+use Rattle.std.proofs.Common.{◌≡◌, length, ◌∙◌, arith}
 use Rattle.i9_elf.proofs.RoundTrip.{add_turn, room_turn}
 use Rattle.i9_elf.proofs.writing.add_headers.Goals as goal
 
