@@ -168,6 +168,10 @@ too_many_bytes = 9
 abbrev pub has_headers : List ℕ → Bool
 has_headers file = nat_lt 0 (header_count file)
 
+-- where the program headers end
+abbrev pub headers_end : List ℕ → ℕ
+headers_end file = headers_place file + header_size * header_count file
+
 -- the fault of a file before its program headers are looked at, the first that applies
 unfoldable pub fault_of_file : List ℕ → Option ℕ
 fault_of_file file =
@@ -177,13 +181,17 @@ fault_of_file file =
     else if not (type_of file == executable) then Some bad_type
     else if not (machine_of file == i960) then Some bad_machine
     else if has_headers file && not (header_size_of file == header_size) then Some bad_header_size
-    else if has_headers file && nat_lt (length file) (headers_place file + header_size * header_count file) then Some headers_outside
+    else if has_headers file && nat_lt (length file) (headers_end file) then Some headers_outside
     else None
+
+-- a header has bytes in file, and they reach past the end of the file
+abbrev pub is_cut_off : List ℕ → Header → Bool
+is_cut_off file h = nat_lt 0 h.in_file && nat_lt (length file) (h.offset + h.in_file)
 
 -- the fault of a header that loads, behind so many bytes in memory
 unfoldable pub fault_of_load : List ℕ → ℕ → Header → Option ℕ
 fault_of_load file size h =
-    if nat_lt h.in_memory h.in_file || (nat_lt 0 h.in_file && nat_lt (length file) (h.offset + h.in_file)) then Some bad_load
+    if nat_lt h.in_memory h.in_file || is_cut_off file h then Some bad_load
     else if nat_lt most_bytes (size + h.in_memory) then Some too_many_bytes
     else None
 

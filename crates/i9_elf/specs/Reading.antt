@@ -21,7 +21,8 @@ or_refused (Some kind) rest = Err kind
 -- what headers that load give, behind so many bytes in memory and these pairs
 abbrev pub load_all : List ℕ → ℕ → List (ℕ × ℕ) → List files.Header → Result (List (ℕ × ℕ)) ℕ
 load_all file size ps [] = Ok ps
-load_all file size ps (h ∷ hs) = or_refused (fault_of_load file size h) (load_all file (size + h.in_memory) (ps ++ loaded_pairs file h) hs)
+load_all file size ps (h ∷ hs) =
+    or_refused (fault_of_load file size h) (load_all file (size + h.in_memory) (ps ++ loaded_pairs file h) hs)
 
 abbrev pub answer_of : List ℕ → Result (List (ℕ × ℕ)) ℕ
 answer_of file = or_refused (fault_of_file file) (load_all file 0 [] (loads_of file))

@@ -48,7 +48,8 @@ bytes_place count = file_header_size + header_size * count
 
 -- the file of runs
 unfoldable pub file_of : List Part → List ℕ
-file_of runs = file_header (length runs) ++ program_headers (bytes_place (length runs)) runs ++ flat_map (λ (run : Part). run.bytes) runs
+file_of runs =
+    file_header (length runs) ++ program_headers (bytes_place (length runs)) runs ++ flat_map (λ (run : Part). run.bytes) runs
 
 -- a file without fault that says the bytes of an image
 pub record ReadsBack (file : List ℕ) (image : List Part) : Type 0 where

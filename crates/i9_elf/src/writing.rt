@@ -96,17 +96,19 @@ fn file_of(alloc: Global, runs: &[Segment]) -> Result<Vec<u8>, AllocError>
     Ok(file)
 }
 
-/// The ELF file of an image of at most 4,194,304 bytes, those counted twice that stand at one address: a program header
-/// for each maximal run of loaded addresses, in ascending order, and behind them the bytes of the runs.
+/// The ELF file of an image: a program header for each maximal run of its addresses, in ascending order, and behind
+/// them the bytes of the runs. The image has at most 4,194,304 bytes, of which those at one address count each.
 ///
-/// The file has 32 bits, low byte first, is of type 2 and for machine 19. Each header has type 1,
-/// equal addresses and sizes, all access, and alignment 1. There are no section headers, and no entry
-/// address, since the processor starts by its boot record.
+/// The file has 32 bits, low byte first, is of type 2 and for machine 19. Each header has type 1, equal addresses and
+/// sizes, all access, and alignment 1. There are no section headers, and no entry address, since the processor starts
+/// by its boot record. The format is that of the System V ABI; which of the files of an image this is, is this
+/// project's own.
 pub fn write(alloc: Global, image: &Segments) -> Result<Vec<u8>, WriteError>
     requires { length (pairs_of image.now) ≤ most_bytes }
+    // What is written is the file of the runs, and these are not too many.
     ensures file { (runs : List Part) → AreRuns image.now runs
         → IfOk result (λ file. (length runs ≤ most_headers) × (file.items ≡ file_of runs)) }
-    // It is refused only where there are too many runs.
+    // Only too many runs are refused.
     ensures segments { IsErrOf result WriteError.Segments
         → (runs : List Part) → AreRuns image.now runs → most_headers < length runs }
     // What is written says the bytes of the image.

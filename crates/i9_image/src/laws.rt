@@ -5,7 +5,8 @@ ghost use Rattle.i9_image.specs.Images.{Fault, IsImage, IsRefused};
 
 /// Each file has one answer: it says the pairs of one image, or it is refused for one fault.
 pub fn one_answer()
-    ensures some { (file : List ℕ) → ((pairs : List (ℕ × ℕ)) × IsImage file pairs) ⊎ ((fault : Fault) × IsRefused file fault) }
+    ensures some { (file : List ℕ) → ((pairs : List (ℕ × ℕ)) × IsImage file pairs)
+        ⊎ ((fault : Fault) × IsRefused file fault) }
     ensures apart { (file : List ℕ) (pairs : List (ℕ × ℕ)) (fault : Fault)
         → IsImage file pairs → IsRefused file fault → ⊥ }
     ensures one_image { (file : List ℕ) (ps qs : List (ℕ × ℕ)) → IsImage file ps → IsImage file qs → ps ≡ qs }
