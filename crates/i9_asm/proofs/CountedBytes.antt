@@ -8,6 +8,7 @@ use Rattle.std.proofs.lemmas.Bool.{cases_Bool, ltb-false}
 use Rattle.std.proofs.lemmas.List.{length-take-le}
 use Rattle.i9_isa.specs.Words.{words_of}
 use Rattle.i9_text.specs.Text.{is_blank}
+use Rattle.i9_value.specs.declared.fault.Fault.{Fault}
 use Rattle.i9_value.specs.declared.fault.Fault.TheVariants as fault
 use Rattle.i9_value.specs.declared.values.Value.{Value}
 use Rattle.i9_value.specs.Cut.{before, from}
@@ -157,20 +158,36 @@ label_stays (Some name) p = elim (cases_Bool (is_name name)) [
   | inr bad ↦ rw bad refl
 ]
 
-no_range_fault : (q : Bool) → fault_if q fault.Range ≡ None → q ≡ false
-no_range_fault true h = absurd (cc h)
-no_range_fault false h = refl
+no_fault_if : (q : Bool) (f : Fault) → fault_if q f ≡ None → q ≡ false
+no_fault_if true f h = absurd (cc h)
+no_fault_if false f h = refl
 
--- a line without fault has room up to the last address
-line_fits : (names : Names) (s : Source) (line : List ℕ) → line_fault names s line ≡ None → (item_place s line).location + size_of (item_place s line) (item_of line) ≤ 2 ^ 32
-line_fits names s line h =
+-- a line without fault has room
+line_room : (names : Names) (s : Source) (line : List ℕ) → line_fault names s line ≡ None → room_fault (labelled_source (label_of line) s) (size_of (item_place s line) (item_of line)) ≡ None
+line_room names s line h =
     let u = labelled_source (label_of line) s in
-    let size = size_of u.place (item_of line) in
+    let room = room_fault u (size_of u.place (item_of line)) in
     let rest = rest_sound names s line h in
     let item = item_fault names u.place (item_of line) in
-    let room : room_fault u size ≡ None = least_right item (room_fault u size) (least_left item (room_fault u size) rest) rest in
-    let range = least_left (fault_if (ltb (2 ^ 32) (u.place.location + size)) fault.Range) (fault_if (ltb most_bytes (u.total + size)) fault.TooMany) room in
-    ltb-false _ _ (no_range_fault (ltb (2 ^ 32) (u.place.location + size)) range)
+    least_right item room (least_left item room rest) rest
+
+-- up to the last address
+line_fits : (names : Names) (s : Source) (line : List ℕ) → line_fault names s line ≡ None → (item_place s line).location + size_of (item_place s line) (item_of line) ≤ 2 ^ 32
+line_fits names s line h =
+    let p = item_place s line in
+    let size = size_of p (item_of line) in
+    let range = least_left (fault_if (ltb (2 ^ 32) (p.location + size)) fault.Range) (fault_if (ltb most_bytes (s.total + size)) fault.TooMany) (line_room names s line h) in
+    ltb-false _ _ (no_fault_if (ltb (2 ^ 32) (p.location + size)) fault.Range range)
+
+-- and among the bytes of the source
+pub line_few : (names : Names) (s : Source) (line : List ℕ) → line_fault names s line ≡ None → s.total + size_of (item_place s line) (item_of line) ≤ most_bytes
+line_few names s line h =
+    let p = item_place s line in
+    let size = size_of p (item_of line) in
+    let range = fault_if (ltb (2 ^ 32) (p.location + size)) fault.Range in
+    let many = fault_if (ltb most_bytes (s.total + size)) fault.TooMany in
+    let room = line_room names s line h in
+    ltb-false _ _ (no_fault_if (ltb most_bytes (s.total + size)) fault.TooMany (least_right range many (least_left range many room) room))
 
 -- and the first pass moves on by its bytes
 pub line_moves : (names : Names) (s : Source) (line bs : List ℕ) → line_fault names s line ≡ None → Gives names (item_place s line) (item_of line) bs

@@ -10,6 +10,7 @@ pub mod GivenBytes
 pub mod TakenLines
 pub mod LaterNames
 pub mod CountedBytes
+pub mod CountedSource
 pub mod SomeAnswer
 pub mod NumberedNames
 pub mod ReadNames

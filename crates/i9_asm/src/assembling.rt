@@ -1,9 +1,10 @@
 //! Assembling a source line by line, in two passes.
-ghost use Rattle.std.specs.Prelude.{◌≡◌, ℕ, List, IfOk, IfErr, Ok, Err};
+ghost use Rattle.std.specs.Prelude.{◌≡◌, ◌≤◌, ℕ, List, length, IfOk, IfErr, Ok, Err};
 ghost use Rattle.i9_value.specs.Known.{definitions};
 ghost use Rattle.i9_text.specs.Text.{lines_of};
-ghost use Rattle.i9_model.specs.Image.{Part};
+ghost use Rattle.i9_model.specs.Image.{Part, pairs_of};
 ghost use Rattle.i9_asm.specs.Places.{start_place};
+ghost use Rattle.i9_asm.specs.Source.{most_bytes};
 ghost use Rattle.i9_asm.specs.Numbered.{no_definitions, lines_entered};
 ghost use Rattle.i9_asm.specs.Laws.{IsAssembly, IsRefusedSource};
 ghost use Rattle.i9_asm.specs.Reading.{Answers, IfBad, fault_place};
@@ -70,6 +71,8 @@ fn segments_of(alloc: Global, table: &Table, text: &[u8]) -> Result<Segments, As
 pub fn assemble(alloc: Global, text: &[u8]) -> Result<Segments, AsmError>
     // What is assembled is what the lines say.
     ensures found { IfOk result (λ image. IsAssembly (lines_of text.now) image) }
+    // It has at most 4,194,304 bytes, those counted twice that stand at one address.
+    ensures most { IfOk result (λ image. length (pairs_of image) ≤ most_bytes) }
     // What the lines say is assembled, unless memory runs out.
     ensures only { (image : List Part) → IsAssembly (lines_of text.now) image → Answers result (Ok image) }
     // What is refused has this first fault.

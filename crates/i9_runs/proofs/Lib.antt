@@ -1,0 +1,4 @@
+pub mod Rising
+pub mod Joining
+pub mod Placed
+pub mod PairCounts
