@@ -11,6 +11,3 @@ pub use error::{ElfError, WriteError};
 pub use laws::one_answer;
 pub use reading::{has_magic, read};
 pub use writing::write;
-
-#[cfg(test)]
-mod tests;

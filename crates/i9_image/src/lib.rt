@@ -6,6 +6,3 @@ mod laws;
 
 pub use images::{ImageError, ImageFault, read};
 pub use laws::one_answer;
-
-#[cfg(test)]
-mod tests;

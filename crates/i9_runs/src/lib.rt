@@ -6,6 +6,3 @@ mod runs;
 
 pub use laws::one_list;
 pub use runs::runs_of;
-
-#[cfg(test)]
-mod tests;

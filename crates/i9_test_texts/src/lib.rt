@@ -1,4 +1,5 @@
-//! The tests of i9_hex, i9_schedule, i9_script, i9_value, i9_asm and i9_dis, whose public calls they make.
+//! The tests of i9_hex, i9_schedule, i9_script, i9_value, i9_runs, i9_elf, i9_image, i9_asm and i9_dis, whose public calls
+//! they make.
 #![tactic(auto)]
 
 #[cfg(test)]
@@ -14,7 +15,13 @@ mod dis;
 #[cfg(test)]
 mod dis_listings;
 #[cfg(test)]
+mod elf;
+#[cfg(test)]
 mod hex;
+#[cfg(test)]
+mod image;
+#[cfg(test)]
+mod runs;
 #[cfg(test)]
 mod schedule;
 #[cfg(test)]

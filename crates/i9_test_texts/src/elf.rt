@@ -3,7 +3,7 @@ ghost use Rattle.std.specs.Prelude.{◌≡◌, ◌≤◌, length, IfOk};
 ghost use Rattle.i9_model.specs.Image.{pairs_of};
 ghost use Rattle.i9_model.specs.HexText.{most_bytes};
 
-use crate::{ElfError, WriteError, has_magic, one_answer, read, write};
+use i9_elf::{ElfError, WriteError, has_magic, one_answer, read, write};
 use i9_hex::{Segment, Segments};
 use i9_isa::NoMemory;
 use i9_runs::runs_of;

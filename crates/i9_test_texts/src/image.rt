@@ -1,6 +1,6 @@
 //! Files in either format, worked out by hand.
-use crate::{ImageError, ImageFault, one_answer, read};
 use i9_hex::HexFault;
+use i9_image::{ImageError, ImageFault, one_answer, read};
 use std::alloc::Global;
 use std::test::Fail;
 

@@ -1,5 +1,5 @@
-use crate::{one_list, runs_of};
 use i9_hex::Segments;
+use i9_runs::{one_list, runs_of};
 use std::alloc::Global;
 use std::test::Fail;
 
