@@ -9,3 +9,9 @@ mod machine_memory;
 mod machine_turns;
 #[cfg(test)]
 mod raw;
+#[cfg(test)]
+mod run;
+#[cfg(test)]
+mod script;
+#[cfg(test)]
+mod told;

@@ -1,736 +1,173 @@
 //! The machine at images of a few instructions, worked out by hand.
-ghost use Rattle.std.specs.Prelude.{◌≡◌, ◌<◌, ◌≤◌, IfSome, IfOk};
-ghost use Rattle.i9_model.specs.declared.layout.TheConstants.{MAX_LENGTH};
-ghost use Rattle.i9_model.specs.ScheduleText.{IsPlan};
-ghost use Rattle.i9_machine.specs.InRun.{IsInRun};
-
-use arrayvec::ArrayVec;
-use i9_frames::Frame;
-use i9_hex::Segments;
-use i9_machine::{End, Event, Issued, Line, Machine, Point, Turn};
-use i9_model::View;
-use i9_model::layout::MAX_LENGTH;
-use i9_schedule::{Schedule, read};
-use std::alloc::Global;
+use crate::run::idle;
+use crate::script::{columns, told};
 use std::test::*;
 
-/// `lda 0x41, g4`, `lda 0xE0000000, g5`, `stob g4, (g5)`, `mov 7, g4` and `st g4, 4(g5)`.
-pub(crate) const PROGRAM: [u32; 6] = [
-    0x8CA0_0041,
-    0x8CA8_3000,
-    0xE000_0000,
-    0x82A5_6000,
-    0x5CA0_0E07,
-    0x92A5_6004,
-];
+/// From the start of a run to its end. The last instruction stores the exit word.
+const STEPS: &str = "\
+a run              | image 1000 8CA00041 8CA83000 E0000000 82A56000 5CA00E07 92A56004, run 100, end? | no end
+lda 0x41, g4       | count?, issue | 0, 0 1000 8CA00041 0
+lda 0xE0000000, g5 | count?, issue | 1, 1 1004 8CA83000 E0000000
+stob g4, (g5)      | count?, issue | 2, 2 100C 82A56000 0
+mov 7, g4          | count?, issue | 3, 3 1010 5CA00E07 0
+st g4, 4(g5)       | count?, issue | 4, 4 1014 92A56004 0
+the end, twice     | step, step, end? | exit 7, exit 7, exit 7
+its view           | count?, ip?, controls?, regs? 20 21 1 | 5, 1018, 0 1F2002 0, 7 E0000000 40
+its lines          | lines? | out 41, point End, exit 7
+";
 
-/// `call f`, `f: ret`.
-const CALL_AND_RETURN: [u32; 2] = [0x0900_0004, 0x0A00_0000];
+/// The word 0 is no instruction. The fault table is at 0, and so is its handler. The record is at 40, with the
+/// subtype, 1, at 48 and the type, 2, at 4A.
+const FAULT: &str = "\
+a word 0           | image 1000 0, run 1, issue, count?, ip?, lines? | 0 1000 0 0, 1, 1004, no lines
+its fault          | step, count?, ip?, controls?, lines? | on, 1, 0, 0 1F2002 0, point Fault
+the handler's frame | regs? 31 0 1, bytes? 48 4A | 50 1 90, 1 2
+the length         | step | limit
+";
 
-/// `lda 19, g0`, `call f`, `lda 0xE0000000, g5`, `st g0, 4(g5)`, `f: cmpobe 0, g0, back`,
-/// `subo 1, g0, g0`, `call f`, `back: ret`.
-pub(crate) const NESTED_CALLS: [u32; 9] = [
-    0x8C80_0013,
-    0x0900_0010,
-    0x8CA8_3000,
-    0xE000_0000,
-    0x9285_6004,
-    0x3204_200C,
-    0x5984_0901,
-    0x09FF_FFF8,
-    0x0A00_0000,
-];
+/// Ends, and how many instructions came before them. A word 0 is no instruction, whose fault's entry is at 10. Behind a
+/// division by 0, whose fault's entry is at 18, `addo 1, 2, g5`, `ld 0x100, g6` and `b 4` overtake it; `addo 1, g4, g5`
+/// waits for its quotient; `syncf`, a word that is refused, and one that reads a saved frame wait for all. That frame
+/// stands at 0, over the fault table.
+const ENDS: &str = "\
+the program above  | image 1000 8CA00041 8CA83000 E0000000 82A56000 5CA00E07 92A56004, run 100, end, count? | exit 7, 5
+just long enough   | run 5, end, count? | exit 7, 5
+too short by one   | run 4, end, count? | limit, 4
+of no length       | run 0, end, count? | limit, 0
+call f; f: ld 16(pfp), g4 | image 1000 9000004 90A02010, run 100, end, count? | hazard 10, 1
+a word 0, entry 1  | image 1000 0, put 10 1, run 100, end, count? | dead 1 10, 1
+entry 3            | image 1000 0, put 10 3, run 100, end, count? | dead 1 10, 1
+entry 2 27E        | image 1000 0, put 10 2 27E, run 100, end, count? | dead 2 14, 1
+entry 412 27F      | image 1000 0, put 10 412 27F, run 100, end, count? | dead 3 10, 1
+divo 0, g6, g4; addo 1, 2, g5 | image 1000 70A11D80 59A89801, put 18 1, run 100, end, count? | imprecise 1000, 1
+as long            | run 2, end, count? | imprecise 1000, 1
+shorter            | run 1, end, count? | dead 1 18, 1
+divo; ld 0x100, g6 | image 1000 70A11D80 90B00100, put 18 1, run 100, end, count? | imprecise 1000, 1
+divo; b 4          | image 1000 70A11D80 8000004, put 18 1, run 100, end, count? | imprecise 1000, 1
+divo; addo 1, g4, g5 | image 1000 70A11D80 59A85014, put 18 1, run 100, end, count? | dead 1 18, 1
+divo; syncf; addo  | image 1000 70A11D80 66000780 59A89801, put 18 1, run 100, end, count? | dead 1 18, 1
+divo; a word 0     | image 1000 70A11D80, put 18 1, run 100, end, count? | dead 1 18, 1
+call f; f: divo; ld 16(pfp), g4 | image 1000 9000004 70A11D80 90A02010, run 100, end, count? | hazard 18, 2
+";
 
-/// A program at 1000, which the boot record names.
-pub(crate) fn image_of(alloc: Global, program: &[u32]) -> Result<Segments, Fail> {
-    let mut image = Segments::new(alloc);
-    put_word(&mut image, 0xFFFF_FF10, 0x1000)?;
-    let mut address = 0x1000u32;
-    for word in program {
-        put_word(&mut image, address, *word)?;
-        address = address.wrapping_add(4);
-    }
-    Ok(image)
-}
-
-pub(crate) fn put_word(image: &mut Segments, address: u32, word: u32) -> Result<(), Fail> {
-    let mut at = address;
-    for byte in word.to_le_bytes() {
-        image.put(at, byte)?;
-        at = at.wrapping_add(1);
+#[test]
+fn goes_to_an_end(rt: HostRuntime) -> Result<(), Fail> {
+    let mut run = idle(rt.alloc())?;
+    for row in STEPS.lines().chain(FAULT.lines()).chain(ENDS.lines()) {
+        let (steps, wanted) = columns(row)?;
+        let answers = told(rt.alloc(), &mut run, steps)?;
+        assert_eq!(rt; answers.as_str(), wanted, "{row}");
     }
     Ok(())
 }
 
-/// The schedule that a text says.
-fn events(alloc: Global, text: &[u8]) -> Result<Schedule, Fail>
-    ensures plan { IfOk result (λ p. IsPlan p.events) }
-    ensures place { IfOk result (λ p. p.place ≡ 0) }
-{
-    match read(alloc, text) {
-        Ok(plan) => Ok(plan),
-        Err(_) => Err("no schedule".into()),
-    }
-}
+/// Bytes of live frames alone are compared: three of the first frame, one behind it, one of code, and one of the port
+/// page. The frame of a call is held, with the words of the caller.
+const FRAMES: &str = "\
+call f; f: ret     | image 1000 9000004 A000000, run 2, bytes? 4 8 9 40 1000 E0000000 | 0 0 0 0 4 0
+the call           | steps 1, bytes? 4 8 9 40 1000 E0000000 | 40 4 10 0 4 0
+the return         | steps 1, bytes? 4 8 9 40 1000 E0000000, step | none none none 0 4 0, limit
+of two sets        | run 2 2, frame? 0 | no frame
+the call           | steps 1, frame? 0 | 0: 0 40 1004 0 0 0 0 0 0 0 0 0 0 0 0 0
+the return         | steps 1, frames? | 0
+";
 
-/// A machine with its schedule and the lines so far.
-#[derive(Drop)]
-pub(crate) struct Run {
-    pub(crate) machine: Machine,
-    pub(crate) plan: Schedule,
-    pub(crate) lines: Vec<Line>,
-}
+/// The most frames that a machine holds, by its own sets or those of its PRCB at 800, and what it shows at its end. The
+/// program: `lda 19, g0`, `call f`, `lda 0xE0000000, g5`, `st g0, 4(g5)`, `f: cmpobe 0, g0, back`, `subo 1, g0, g0`,
+/// `call f`, `back: ret`.
+const NESTED: &str = "\
+the program        | image 1000 8C800013 9000010 8CA83000 E0000000 92856004 3204200C 59840901 9FFFFF8 A000000 |
+with a PRCB        | put FFFFFF14 800, put C24 0 |
+one                | put 824 F, run 100 1, most 83, count?, ip?, regs? 1 2 21 | 1 exit 0, 82, 1014, 40 1008 E0000000
+five               | put 824 0, run 100 5, most 83, count?, ip?, regs? 1 2 21 | 5 exit 0, 82, 1014, 40 1008 E0000000
+all                | put 824 0, run 100 15, most 83, count?, ip?, regs? 1 2 21 | 15 exit 0, 82, 1014, 40 1008 E0000000
+the PRCB's 0       | put 824 0, run 100, most 83, count?, ip?, regs? 1 2 21 | 5 exit 0, 82, 1014, 40 1008 E0000000
+the PRCB's 4       | put 824 4, run 100, most 83, count?, ip?, regs? 1 2 21 | 5 exit 0, 82, 1014, 40 1008 E0000000
+the PRCB's 5       | put 824 5, run 100, most 83, count?, ip?, regs? 1 2 21 | 5 exit 0, 82, 1014, 40 1008 E0000000
+the PRCB's 15      | put 824 F, run 100, most 83, count?, ip?, regs? 1 2 21 | 15 exit 0, 82, 1014, 40 1008 E0000000
+the PRCB's 31      | put 824 1F, run 100, most 83, count?, ip?, regs? 1 2 21 | 15 exit 0, 82, 1014, 40 1008 E0000000
+";
 
-/// A machine before its first step, with the schedule that a text says.
-pub(crate) fn run_of(
-    alloc: Global,
-    image: &Segments,
-    sets: Option<u8>,
-    length: u64,
-    text: &[u8],
-) -> Result<Run, Fail>
-    requires sets { IfSome sets (λ n. 0 < n × n < 16) }
-    requires length { length ≤ MAX_LENGTH }
-    ensures { IfOk result (λ r. IsInRun r.machine r.plan) }
-{
-    let plan = events(alloc, text)?;
-    let machine = Machine::new(alloc, image, sets, length)?;
-    Ok(Run {
-        machine,
-        plan,
-        lines: Vec::new(alloc),
-    })
-}
-
-/// One step, which may be a move of the turn.
-pub(crate) fn advance(run: &mut Run) -> Turn
-    requires { IsInRun run.old.machine run.old.plan }
-    ensures { IsInRun run.new.machine run.new.plan }
-{
-    run.machine.advance(&mut run.plan, &mut run.lines)
-}
-
-/// How often the turn moves before the next step that is no move, at most 1000 times, and that step. A move
-/// has no line, and each other step that is answered so has one.
-pub(crate) fn moves_and_step(run: &mut Run) -> (u64, Turn)
-    requires { IsInRun run.old.machine run.old.plan }
-    ensures { IsInRun run.new.machine run.new.plan }
-{
-    let before = run.lines.len();
-    for moves in 0..1000u64 {
-        let turn = advance(run);
-        if turn != Turn::On || run.lines.len() != before {
-            return (moves, turn);
-        }
-    }
-    (1000, Turn::On)
-}
-
-/// The next step that is no move of the turn.
-pub(crate) fn step(run: &mut Run) -> Turn
-    requires { IsInRun run.old.machine run.old.plan }
-    ensures { IsInRun run.new.machine run.new.plan }
-{
-    moves_and_step(run).1
-}
-
-/// So many steps that are no moves of the turn.
-pub(crate) fn take_steps(run: &mut Run, count: usize)
-    requires { IsInRun run.old.machine run.old.plan }
-    ensures { IsInRun run.new.machine run.new.plan }
-{
-    for _ in 0..count {
-        let _ = step(run);
-    }
-}
+/// A new PRCB makes fewer sets and more, and none is held then. It is at C00: `call f`, `f: lda 0x300, g1`,
+/// `lda 0x1200, g2`, `lda 0xC00, g3`, `sysctl g1, g2, g3`. Then it is the frame at 0, whose second word is sp and whose
+/// last word is r9: `mov 7, r9`, `call f`, and the same with `lda 0, g3`.
+const ANEW: &str = "\
+a new PRCB         | image 1000 9000004 8C880300 8C903000 1200 8C980C00 659C8491, put FFFFFF14 800 |
+15 and 0           | put 824 F, put C24 0, run 100, steps 1, sets?, steps 4, sets?, frames? | 15, 5, 0
+0 and 15           | put 824 0, put C24 F, run 100, steps 1, sets?, steps 4, sets?, frames? | 5, 15, 0
+31 and 22          | put 824 1F, put C24 16, run 100, steps 1, sets?, steps 4, sets?, frames? | 15, 6, 0
+three of its own   | put 824 F, put C24 9, run 100 3, steps 1, sets?, steps 4, sets?, frames? | 3, 3, 0
+in a held frame    | image 1000 5C480E07 9000004 8C880300 8C903000 1200 8C980000 659C8491, put FFFFFF14 800 |
+before sysctl      | put 824 F, put C24 0, run 100, steps 5, sets?, frames? | 15, 1
+sysctl             | steps 1, sets?, frames?, count?, ip?, bytes? 24 | 7, 0, 6, 1200, 7
+";
 
 #[test]
-fn steps_through_a_run(rt: HostRuntime) -> Result<(), Fail> {
-    let image = image_of(rt.alloc(), &PROGRAM)?;
-    let mut run = run_of(rt.alloc(), &image, None, 100, b"")?;
-    let steps = [
-        (0x1000, 0x8CA0_0041, 0),
-        (0x1004, 0x8CA8_3000, 0xE000_0000),
-        (0x100C, 0x82A5_6000, 0),
-        (0x1010, 0x5CA0_0E07, 0),
-        (0x1014, 0x92A5_6004, 0),
-    ];
-    let mut count = 0u64;
-    for (address, first, second) in steps {
-        assert_eq!(rt; run.machine.view().count, count);
-        match step(&mut run) {
-            Turn::Issued(t) => {
-                assert_eq!(rt; (t.count, t.address), (count, address));
-                assert_eq!(rt; (t.first, t.second), (first, second));
-            }
-            _ => assert!(rt; false, "no instruction at {address}"),
-        }
-        count = count.saturating_add(1);
-    }
-    assert_eq!(rt; step(&mut run), Turn::End(End::Exit(7)));
-    assert_eq!(rt; step(&mut run), Turn::End(End::Exit(7)));
-    let view = run.machine.view();
-    assert_eq!(rt; (view.count, view.ip), (5, 0x1018));
-    assert_eq!(rt; (view.ac, view.pc, view.tc), (0, 0x1F_2002, 0));
-    assert_eq!(rt;
-        (view.regs[20], view.regs[21], view.regs[1]),
-        (7, 0xE000_0000, 64)
-    );
-    let kind = Point::End;
-    assert_eq!(rt;
-        run.lines.as_slice(),
-        [
-            Line::Out(0x41),
-            Line::Point { kind, view },
-            Line::End(End::Exit(7))
-        ]
-        .as_slice()
-    );
-    Ok(())
-}
-
-/// How the run of a program ends, and after how many instructions, where memory has these words too.
-fn end_of(
-    alloc: Global,
-    program: &[u32],
-    words: &[(u32, u32)],
-    length: u32,
-) -> Result<(Option<End>, u64), Fail> {
-    let mut image = image_of(alloc, program)?;
-    for (address, word) in words {
-        put_word(&mut image, *address, *word)?;
-    }
-    let mut run = run_of(alloc, &image, None, u64::from(length.min(100)), b"")?;
-    for _ in 0..201usize {
-        if let Turn::End(end) = step(&mut run) {
-            return Ok((Some(end), run.machine.view().count));
-        }
-    }
-    Ok((None, run.machine.view().count))
-}
-
-#[test]
-fn ends_as_it_should(rt: HostRuntime) -> Result<(), Fail> {
-    // `call f`, `f: ld 16(pfp), g4` reads a saved frame; a word 0 is no instruction, whose fault's entry is at 16.
-    let reads_a_frame = [0x0900_0004u32, 0x90A0_2010];
-    // Behind a division by 0, whose fault's entry is at 24: `addo 1, 2, g5`, `ld 0x100, g6` and `b 4` overtake
-    // it; `addo 1, g4, g5` waits for its quotient; `syncf`, a word that is refused, and one that reads a saved
-    // frame wait for all. That frame stands at 0, over the fault table.
-    let dead = [(24, 1)];
-    let frame_behind = [0x0900_0004u32, 0x70A1_1D80, 0x90A0_2010];
-    let cases = [
-        (
-            PROGRAM.as_slice(),
-            [].as_slice(),
-            100u32,
-            End::Exit(7),
-            5u64,
-        ),
-        (&PROGRAM, &[], 5, End::Exit(7), 5),
-        (&PROGRAM, &[], 4, End::Limit, 4),
-        (&PROGRAM, &[], 0, End::Limit, 0),
-        (&reads_a_frame, &[], 100, End::Hazard(0x10), 1),
-        (&[0], &[(16, 1)], 100, End::Dead(1, 16), 1),
-        (&[0], &[(16, 3)], 100, End::Dead(1, 16), 1),
-        (&[0], &[(16, 2), (20, 0x27E)], 100, End::Dead(2, 20), 1),
-        (&[0], &[(16, 0x412), (20, 0x27F)], 100, End::Dead(3, 16), 1),
-        (
-            &[0x70A1_1D80, 0x59A8_9801],
-            &dead,
-            100,
-            End::Imprecise(0x1000),
-            1,
-        ),
-        (
-            &[0x70A1_1D80, 0x59A8_9801],
-            &dead,
-            2,
-            End::Imprecise(0x1000),
-            1,
-        ),
-        (&[0x70A1_1D80, 0x59A8_9801], &dead, 1, End::Dead(1, 24), 1),
-        (
-            &[0x70A1_1D80, 0x90B0_0100],
-            &dead,
-            100,
-            End::Imprecise(0x1000),
-            1,
-        ),
-        (
-            &[0x70A1_1D80, 0x0800_0004],
-            &dead,
-            100,
-            End::Imprecise(0x1000),
-            1,
-        ),
-        (&[0x70A1_1D80, 0x59A8_5014], &dead, 100, End::Dead(1, 24), 1),
-        (
-            &[0x70A1_1D80, 0x6600_0780, 0x59A8_9801],
-            &dead,
-            100,
-            End::Dead(1, 24),
-            1,
-        ),
-        (&[0x70A1_1D80], &dead, 100, End::Dead(1, 24), 1),
-        (&frame_behind, &[], 100, End::Hazard(24), 2),
-    ];
-    for (program, words, length, end, count) in cases {
-        let ended = end_of(rt.alloc(), program, words, length)?;
-        assert_eq!(rt; ended, (Some(end), count), "of {program:?}");
+fn holds_frames(rt: HostRuntime) -> Result<(), Fail> {
+    let mut run = idle(rt.alloc())?;
+    for row in FRAMES.lines().chain(NESTED.lines()).chain(ANEW.lines()) {
+        let (steps, wanted) = columns(row)?;
+        let answers = told(rt.alloc(), &mut run, steps)?;
+        assert_eq!(rt; answers.as_str(), wanted, "{row}");
     }
     Ok(())
 }
 
-#[test]
-fn tells_a_fault_and_its_entry(rt: HostRuntime) -> Result<(), Fail> {
-    // The word 0 is no instruction. The fault table is at 0, and so is its handler.
-    let image = image_of(rt.alloc(), &[0])?;
-    let mut run = run_of(rt.alloc(), &image, None, 1, b"")?;
-    let issued = Issued {
-        count: 0,
-        address: 0x1000,
-        first: 0,
-        second: 0,
-    };
-    assert_eq!(rt; step(&mut run), Turn::Issued(issued));
-    assert_eq!(rt;
-        (run.machine.view().count, run.machine.view().ip),
-        (1, 0x1004)
-    );
-    assert!(rt; run.lines.is_empty());
-    assert_eq!(rt; step(&mut run), Turn::On);
-    let view = run.machine.view();
-    assert_eq!(rt; (view.count, view.ip, view.pc), (1, 0, 0x1F_2002));
-    assert_eq!(rt;
-        (view.regs[31], view.regs[0], view.regs[1]),
-        (0x50, 1, 0x90)
-    );
-    let kind = Point::Fault;
-    assert_eq!(rt;
-        run.lines.as_slice(),
-        [Line::Point { kind, view }].as_slice()
-    );
-    // The type, 2, and the subtype, 1, of the record at 40.
-    assert_eq!(rt;
-        (run.machine.byte(0x48), run.machine.byte(0x4A)),
-        (Some(1), Some(2))
-    );
-    assert_eq!(rt; step(&mut run), Turn::End(End::Limit));
-    Ok(())
-}
+/// A run of `lda 0x41, g4` and, at 1200, where the interrupt that is never masked is handled, `mov 7, g4`. The event
+/// at the start comes before the first instruction, and the others before the second one: the pin is masked, and then
+/// the interrupt that is never masked is entered at once. No event at the length is reached. The frame of the handler
+/// stands above sp, since an interrupt is handled, and above its record, which has PC at 40 and the vector at 48.
+const EVENTS: &str = "\
+an image           | image 1000 8CA00041 8CA83000 E0000000 82A56000 5CA00E07 92A56004, put 3E4 1200, put 1200 5CA00E07 |
+its events         | run 2: at 0 show 1000 4; at 1 pin 3; at 1 nmi; at 2 dma 0 |
+what is shown      | step, count?, ip?, lines? | on, 0, 1000, event 0 Show(4096, 4), bytes 1000 41 0 A0 8C, point Event
+lda                | step, count?, ip?, lines? | issued, 1, 1004, no lines
+the pin            | step, count?, ip?, lines? | on, 1, 1004, event 1 Pin(3), point Event
+what is not masked | step, count?, ip?, lines? | on, 1, 1004, event 1 Nmi, point Event
+its entry          | step, count?, ip?, lines? | on, 1, 1200, point Int
+the handler's frame | regs? 31 0 1, controls? | 50 7 90, 0 1F2002 0
+mov                | step, count?, ip?, lines? | issued, 2, 1204, no lines
+the length         | step, count?, ip?, lines? | limit, 2, 1204, point End, limit
+what is left       | planned?, bytes? 48 42 | true, F8 1F
+";
 
-/// The bytes of memory at six places: three of the first frame, one behind it, one of code, and one of the port page.
-fn some_bytes(machine: &Machine) -> [Option<u8>; 6] {
-    [
-        machine.byte(4),
-        machine.byte(8),
-        machine.byte(9),
-        machine.byte(0x40),
-        machine.byte(0x1000),
-        machine.byte(0xE000_0000),
-    ]
-}
+/// How often the turn moves before each instruction, and last before the end. The words: `mulo g5, g6, g4`, of five
+/// turns; `addo 1, g4, g8`, which reads the product; `mov g8, g9`, which reads the sum; `lda 16, g7`, on another
+/// side; `mov 7, g9`, which reads nothing; `call` of the next word, a barrier of four turns; and `mov 1, sf1`, which
+/// waits for all before it, since it writes a special function register, as all behind it wait for it. The product is
+/// there at 6, and the end is answered when all is done; one multiplication is done at a time.
+const MOVES: &str = "\
+mulo; addo; mov g8 | image 1000 70A58095 59C50801 5CC80618, run 3, moves, moves, moves, moves | 0 issued, 5 issued, 1 issued, 1 limit
+mulo; lda; mov 7; addo | image 1000 70A58095 8CB80010 5CC80E07 59C50801, run 4, moves, moves, moves, moves, moves | 0 issued, 0 issued, 1 issued, 4 issued, 1 limit
+lda; mulo          | image 1000 8CB80010 70A58095, run 2, moves, moves, moves | 0 issued, 0 issued, 5 limit
+mov 7; mulo; lda   | image 1000 5CC80E07 70A58095 8CB80010, run 3, moves, moves, moves, moves | 0 issued, 1 issued, 0 issued, 5 limit
+mulo; mulo         | image 1000 70A58095 70A58095, run 2, moves, moves, moves | 0 issued, 5 issued, 5 limit
+mulo; call; lda    | image 1000 70A58095 9000004 8CB80010, run 3, moves, moves, moves, moves | 0 issued, 5 issued, 4 issued, 1 limit
+mulo; mov sf1; lda | image 1000 70A58095 5C082E01 8CB80010, run 3, moves, moves, moves, moves | 0 issued, 5 issued, 1 issued, 1 limit
+";
+
+/// What is open lands: `mov 3, g5`, `mov 7, g6`, their product, which issues at 3 and is there at 8, and its sum with
+/// 1, which is there at 9. Then the end is answered, at once where the turn is 9 before. Last `addo 1, 2, g5`
+/// overtakes the arithmetic fault of `divo 0, g6, g4`, which is open then, and the end stays; where it is settled
+/// before, it is entered.
+const SETTLES: &str = "\
+nothing is open    | image 1000 5CA80E03 5CB00E07 70A58095 59C50801, run 4, settle | true
+up to the product  | moves, moves, moves | 0 issued, 1 issued, 1 issued
+the product        | settle, settle | true, true
+the sum            | moves, count?, regs? 20 24 | 0 issued, 4, 15 16
+the end            | settle, moves | true, 0 limit
+again              | settle, moves | true, 0 limit
+overtaken          | image 1000 70A11D80 59A89801, run 2, steps 1, step, settle, step | imprecise 1000, true, imprecise 1000
+settled before     | run 2, steps 1, settle, moves, count?, ip? | true, 0 on, 1, 0
+";
 
 #[test]
-fn compares_bytes_of_live_frames_alone(rt: HostRuntime) -> Result<(), Fail> {
-    let image = image_of(rt.alloc(), &CALL_AND_RETURN)?;
-    let mut run = run_of(rt.alloc(), &image, None, 2, b"")?;
-    let before = some_bytes(&run.machine);
-    let _ = step(&mut run);
-    let called = some_bytes(&run.machine);
-    let _ = step(&mut run);
-    let returned = some_bytes(&run.machine);
-    assert_eq!(rt; step(&mut run), Turn::End(End::Limit));
-    let (zero, code) = (Some(0), Some(0x04));
-    assert_eq!(rt; before, [zero, zero, zero, zero, code, zero]);
-    assert_eq!(rt;
-        called,
-        [Some(0x40), Some(0x04), Some(0x10), zero, code, zero]
-    );
-    assert_eq!(rt; returned, [None, None, None, zero, code, zero]);
-    Ok(())
-}
-
-/// `call f`, `f: lda 0x300, g1`, `lda 0x1200, g2`, `lda 0xC00, g3`, `sysctl g1, g2, g3`.
-pub(crate) const CALL_AND_START_ANEW: [u32; 6] = [
-    0x0900_0004,
-    0x8C88_0300,
-    0x8C90_3000,
-    0x0000_1200,
-    0x8C98_0C00,
-    0x659C_8491,
-];
-
-/// `mov 7, r9`, `call f`, `f: lda 0x300, g1`, `lda 0x1200, g2`, `lda 0, g3`, `sysctl g1, g2, g3`: the new PRCB is the
-/// frame at 0, whose second word is sp and whose last word is r9.
-const START_BY_A_FRAME: [u32; 7] = [
-    0x5C48_0E07,
-    0x0900_0004,
-    0x8C88_0300,
-    0x8C90_3000,
-    0x0000_1200,
-    0x8C98_0000,
-    0x659C_8491,
-];
-
-/// A program at 1000 whose PRCB, at 800, asks for sets by a word, and another PRCB, at C00, by a second one.
-fn image_with_sets(
-    alloc: Global,
-    program: &[u32],
-    word: u32,
-    other: u32,
-) -> Result<Segments, Fail> {
-    let mut image = image_of(alloc, program)?;
-    put_word(&mut image, 0xFFFF_FF14, 0x800)?;
-    put_word(&mut image, 0x824, word)?;
-    put_word(&mut image, 0xC24, other)?;
-    Ok(image)
-}
-
-/// What a machine is asked for: that many sets, at most 15, or at 0 those of the PRCB.
-pub(crate) fn asked(sets: u8) -> Option<u8>
-    ensures { IfSome result (λ n. 0 < n × n < 16) }
-{
-    match sets {
-        0 => None,
-        n => Some(n.min(15)),
+fn meets_events_and_settles(rt: HostRuntime) -> Result<(), Fail> {
+    let mut run = idle(rt.alloc())?;
+    for row in EVENTS.lines().chain(MOVES.lines()).chain(SETTLES.lines()) {
+        let (steps, wanted) = columns(row)?;
+        let answers = told(rt.alloc(), &mut run, steps)?;
+        assert_eq!(rt; answers.as_str(), wanted, "{row}");
     }
-}
-
-/// The most frames that a machine holds, and what it shows at its end: 0 asks for the sets of the PRCB, whose word
-/// is given.
-fn nested(alloc: Global, sets: u8, word: u32) -> Result<(u8, Turn, View), Fail> {
-    let image = image_with_sets(alloc, &NESTED_CALLS, word, 0)?;
-    let mut run = run_of(alloc, &image, asked(sets), 100, b"")?;
-    let mut most = 0u8;
-    let mut last = Turn::Memory;
-    for _ in 0..83usize {
-        last = step(&mut run);
-        most = most.max(run.machine.held().len());
-    }
-    Ok((most, last, run.machine.view()))
-}
-
-#[test]
-fn holds_as_many_frames_as_there_are_sets(rt: HostRuntime) -> Result<(), Fail> {
-    let cases = [
-        (1u8, 15u32, 1u8),
-        (5, 0, 5),
-        (15, 0, 15),
-        (0, 0, 5),
-        (0, 4, 5),
-        (0, 5, 5),
-        (0, 15, 15),
-        (0, 31, 15),
-    ];
-    for (sets, word, frames) in cases {
-        let (most, last, view) = nested(rt.alloc(), sets, word)?;
-        assert_eq!(rt; most, frames, "of {sets} and {word}");
-        assert_eq!(rt; last, Turn::End(End::Exit(0)));
-        assert_eq!(rt; (view.count, view.ip), (82, 0x1014));
-        assert_eq!(rt;
-            (view.regs[1], view.regs[2], view.regs[21]),
-            (0x40, 0x1008, 0xE000_0000)
-        );
-    }
-    Ok(())
-}
-
-/// How many sets there are behind a call and behind the start anew, where nothing may be held.
-fn sets_anew(alloc: Global, sets: u8, word: u32, other: u32) -> Result<(u8, u8, u8), Fail> {
-    let image = image_with_sets(alloc, &CALL_AND_START_ANEW, word, other)?;
-    let mut run = run_of(alloc, &image, asked(sets), 100, b"")?;
-    let _ = step(&mut run);
-    let before = run.machine.held().size();
-    take_steps(&mut run, 4);
-    Ok((before, run.machine.held().size(), run.machine.held().len()))
-}
-
-#[test]
-fn a_new_prcb_makes_fewer_sets_and_more(rt: HostRuntime) -> Result<(), Fail> {
-    let cases = [
-        (0u8, 15u32, 0u32, 15u8, 5u8),
-        (0, 0, 15, 5, 15),
-        (0, 31, 22, 15, 6),
-        (3, 15, 9, 3, 3),
-    ];
-    for (sets, word, other, before, after) in cases {
-        assert_eq!(rt;
-            sets_anew(rt.alloc(), sets, word, other)?,
-            (before, after, 0)
-        );
-    }
-    Ok(())
-}
-
-#[test]
-fn reads_a_prcb_in_a_held_frame(rt: HostRuntime) -> Result<(), Fail> {
-    let image = image_with_sets(rt.alloc(), &START_BY_A_FRAME, 15, 0)?;
-    let mut run = run_of(rt.alloc(), &image, None, 100, b"")?;
-    take_steps(&mut run, 5);
-    assert_eq!(rt;
-        (run.machine.held().size(), run.machine.held().len()),
-        (15, 1)
-    );
-    let _ = step(&mut run);
-    assert_eq!(rt;
-        (run.machine.held().size(), run.machine.held().len()),
-        (7, 0)
-    );
-    assert_eq!(rt;
-        (run.machine.view().count, run.machine.view().ip),
-        (6, 0x1200)
-    );
-    assert_eq!(rt; run.machine.byte(36), Some(7));
-    Ok(())
-}
-
-#[test]
-fn holds_the_frame_of_a_call(rt: HostRuntime) -> Result<(), Fail> {
-    let image = image_of(rt.alloc(), &CALL_AND_RETURN)?;
-    let mut run = run_of(rt.alloc(), &image, Some(2), 2, b"")?;
-    assert_eq!(rt; run.machine.held().at(0).copied(), None);
-    let _ = step(&mut run);
-    let words = [0, 0x40, 0x1004, 0, 0, 0, 0, 0, 0, 0, 0, 0, 0, 0, 0, 0];
-    let frame = Frame { address: 0, words };
-    assert_eq!(rt; run.machine.held().at(0).copied(), Some(frame));
-    let _ = step(&mut run);
-    assert_eq!(rt; run.machine.held().len(), 0);
-    Ok(())
-}
-
-/// `lda 0x41, g4` at 1000, and `mov 7, g4` at 1200, where the interrupt that is never masked is handled.
-fn image_with_handler(alloc: Global) -> Result<Segments, Fail> {
-    let mut image = image_of(alloc, &PROGRAM)?;
-    put_word(&mut image, 0x03E4, 0x1200)?;
-    put_word(&mut image, 0x1200, 0x5CA0_0E07)?;
-    Ok(image)
-}
-
-/// What the next step did that is no move: whether an instruction was issued, how many have been, and the address of
-/// the next; with the view after it.
-fn turned(run: &mut Run) -> ((bool, u64, u32), View)
-    requires { IsInRun run.old.machine run.old.plan }
-    ensures { IsInRun run.new.machine run.new.plan }
-{
-    let turn = step(run);
-    let view = run.machine.view();
-    ((matches!(turn, Turn::Issued(_)), view.count, view.ip), view)
-}
-
-/// What a step did, with the view after it.
-type Turned = ((bool, u64, u32), View);
-
-/// The run of two instructions with events, behind its seven steps, and what each of these did: the event at the start
-/// comes before the first instruction, and the others before the second one.
-fn events_met(alloc: Global) -> Result<(Run, Vec<Turned>), Fail> {
-    let image = image_with_handler(alloc)?;
-    let text = b"at 0 show 1000 4\nat 1 pin 3\nat 1 nmi\nat 2 dma 0\n";
-    let mut run = run_of(alloc, &image, None, 2, text)?;
-    let mut steps = Vec::new(alloc);
-    for _ in 0..7usize {
-        steps.push(turned(&mut run))?;
-    }
-    Ok((run, steps))
-}
-
-#[test]
-fn meets_events(rt: HostRuntime) -> Result<(), Fail> {
-    let (run, steps) = events_met(rt.alloc())?;
-    // The pin is masked, and then the interrupt that is never masked is entered at once. No event at the length is
-    // reached.
-    let wanted = [
-        (false, 0, 0x1000),
-        (true, 1, 0x1004),
-        (false, 1, 0x1004),
-        (false, 1, 0x1004),
-        (false, 1, 0x1200),
-        (true, 2, 0x1204),
-        (false, 2, 0x1204),
-    ];
-    assert_eq!(rt; steps.len(), wanted.len());
-    for (step, did) in steps.iter().zip(wanted) {
-        assert_eq!(rt; step.0, did);
-    }
-    assert_eq!(rt; run.plan.next().is_some(), true);
-    Ok(())
-}
-
-#[test]
-fn enters_the_handler_of_an_event(rt: HostRuntime) -> Result<(), Fail> {
-    let (run, steps) = events_met(rt.alloc())?;
-    let Some((_, entered)) = steps.get(4) else {
-        return Err("no entry".into());
-    };
-    // The frame of the handler stands above sp, since an interrupt is handled, and above its record.
-    let locals = (entered.regs[31], entered.regs[0], entered.regs[1]);
-    assert_eq!(rt; locals, (0x50, 7, 0x90));
-    assert_eq!(rt; entered.pc, 0x1F_2002);
-    let record = (run.machine.byte(0x48), run.machine.byte(0x42));
-    assert_eq!(rt; record, (Some(248), Some(0x1F)));
-    Ok(())
-}
-
-/// The lines that are wanted of the run with events, by the views behind its steps.
-fn lines_of_events(alloc: Global, steps: &[Turned]) -> Result<Vec<Line>, Fail> {
-    let [shown, _, posted, asked, entered, _, last] = steps else {
-        return Err("no seven steps".into());
-    };
-    let mut list = ArrayVec::new();
-    let _ = list.try_extend_from_slice(&[Some(0x41), Some(0x00), Some(0xA0), Some(0x8C)]);
-    let event = |count: u64, event: Event| Line::Event { count, event };
-    let point = |kind: Point, view: View| Line::Point { kind, view };
-    let address = 0x1000;
-    let mut lines = Vec::new(alloc);
-    lines.push(event(0, Event::Show(address, 4)))?;
-    lines.push(Line::Bytes { address, list })?;
-    lines.push(point(Point::Event, shown.1))?;
-    lines.push(event(1, Event::Pin(3)))?;
-    lines.push(point(Point::Event, posted.1))?;
-    lines.push(event(1, Event::Nmi))?;
-    lines.push(point(Point::Event, asked.1))?;
-    lines.push(point(Point::Int, entered.1))?;
-    lines.push(point(Point::End, last.1))?;
-    lines.push(Line::End(End::Limit))?;
-    Ok(lines)
-}
-
-#[test]
-fn tells_events(rt: HostRuntime) -> Result<(), Fail> {
-    let (run, steps) = events_met(rt.alloc())?;
-    let wanted = lines_of_events(rt.alloc(), &steps)?;
-    assert_eq!(rt; run.lines.as_slice(), wanted.as_slice());
-    Ok(())
-}
-
-/// `mulo g5, g6, g4`, of five turns.
-const MULTIPLY: u32 = 0x70A5_8095;
-
-/// `addo 1, g4, g8`, which reads the product.
-const ADD: u32 = 0x59C5_0801;
-
-/// `lda 16, g7`, on another side.
-const LOAD_ADDRESS: u32 = 0x8CB8_0010;
-
-/// `mov g8, g9`, which reads the sum.
-const MOVE: u32 = 0x5CC8_0618;
-
-/// `mov 7, g9`, which reads nothing.
-const MOVE_LITERAL: u32 = 0x5CC8_0E07;
-
-/// `call` of the next word, a barrier of four turns.
-const CALL: u32 = 0x0900_0004;
-
-/// How often the turn moves before each instruction of a program, and last before the end that follows it.
-fn moves_of(alloc: Global, program: &[u32]) -> Result<Vec<u64>, Fail> {
-    let image = image_of(alloc, program)?;
-    let length = program.len().min(100) as u64;
-    let mut run = run_of(alloc, &image, None, length, b"")?;
-    let mut all = Vec::new(alloc);
-    for _ in 0..101usize {
-        let (moves, turn) = moves_and_step(&mut run);
-        all.push(moves)?;
-        if matches!(turn, Turn::End(_)) {
-            break;
-        }
-    }
-    Ok(all)
-}
-
-#[test]
-fn moves_the_turn(rt: HostRuntime) -> Result<(), Fail> {
-    let cases = [
-        // The product is there at 6 and the sum at 7, and the end is answered when all is done.
-        ([MULTIPLY, ADD, MOVE].as_slice(), [0u64, 5, 1, 1].as_slice()),
-        // At 1 one of another side issues too, and at 2 one of the same side, that needs no product.
-        (
-            &[MULTIPLY, LOAD_ADDRESS, MOVE_LITERAL, ADD],
-            &[0, 0, 1, 4, 1],
-        ),
-        (&[LOAD_ADDRESS, MULTIPLY], &[0, 0, 5]),
-        (&[MOVE_LITERAL, MULTIPLY, LOAD_ADDRESS], &[0, 1, 0, 5]),
-        // One multiplication at a time.
-        (&[MULTIPLY, MULTIPLY], &[0, 5, 5]),
-        // A barrier waits for all before it, and all behind it wait for it.
-        (&[MULTIPLY, CALL, LOAD_ADDRESS], &[0, 5, 4, 1]),
-        // So does `mov 1, sf1`, since it writes a special function register.
-        (&[MULTIPLY, 0x5C08_2E01, LOAD_ADDRESS], &[0, 5, 1, 1]),
-    ];
-    for (program, moves) in cases {
-        assert_eq!(rt;
-            moves_of(rt.alloc(), program)?.as_slice(),
-            moves,
-            "of {program:?}"
-        );
-    }
-    Ok(())
-}
-
-/// `mov 3, g5`, `mov 7, g6`, their product, and its sum with 1.
-const SUM_OF_PRODUCT: [u32; 4] = [0x5CA8_0E03, 0x5CB0_0E07, MULTIPLY, ADD];
-
-/// `divo 0, g6, g4`, whose arithmetic fault `addo 1, 2, g5` overtakes.
-const OVERTAKEN: [u32; 2] = [0x70A1_1D80, 0x59A8_9801];
-
-/// All that is open lands, and the view stays as it is.
-pub(crate) fn settle(run: &mut Run) -> bool
-    requires { IsInRun run.old.machine run.old.plan }
-    ensures { IsInRun run.new.machine run.new.plan }
-{
-    let before = run.machine.view();
-    run.machine.settle();
-    run.machine.view() == before
-}
-
-#[test]
-fn settles_what_is_open(rt: HostRuntime) -> Result<(), Fail> {
-    let image = image_of(rt.alloc(), &SUM_OF_PRODUCT)?;
-    let mut run = run_of(rt.alloc(), &image, None, 4, b"")?;
-    // Where nothing is open it does nothing.
-    assert_eq!(rt; settle(&mut run), true);
-    let (first, _) = moves_and_step(&mut run);
-    let (second, _) = moves_and_step(&mut run);
-    let (third, _) = moves_and_step(&mut run);
-    assert_eq!(rt; (first, second, third), (0, 1, 1));
-    // The multiplication issued at 3. Now the turn is 8, at which the product is there.
-    assert_eq!(rt; settle(&mut run), true);
-    assert_eq!(rt; settle(&mut run), true);
-    let (fourth, turn) = moves_and_step(&mut run);
-    assert!(rt; matches!(turn, Turn::Issued(_)));
-    let view = run.machine.view();
-    assert_eq!(rt;
-        (fourth, view.count, view.regs[20], view.regs[24]),
-        (0, 4, 21, 22)
-    );
-    // The sum is there at 9, and then the end is answered; with the turn at 9 before, it is answered at once.
-    assert_eq!(rt; settle(&mut run), true);
-    assert_eq!(rt; moves_and_step(&mut run), (0, Turn::End(End::Limit)));
-    assert_eq!(rt; settle(&mut run), true);
-    assert_eq!(rt; moves_and_step(&mut run), (0, Turn::End(End::Limit)));
-    Ok(())
-}
-
-#[test]
-fn settles_behind_an_imprecise_fault(rt: HostRuntime) -> Result<(), Fail> {
-    // The division is open, and the end stays.
-    let image = image_of(rt.alloc(), &OVERTAKEN)?;
-    let mut run = run_of(rt.alloc(), &image, None, 2, b"")?;
-    take_steps(&mut run, 1);
-    assert_eq!(rt; step(&mut run), Turn::End(End::Imprecise(0x1000)));
-    assert_eq!(rt; settle(&mut run), true);
-    assert_eq!(rt; step(&mut run), Turn::End(End::Imprecise(0x1000)));
-    Ok(())
-}
-
-#[test]
-fn a_fault_that_is_settled_is_precise(rt: HostRuntime) -> Result<(), Fail> {
-    // All lands before an instruction overtakes it, and then it is entered.
-    let image = image_of(rt.alloc(), &OVERTAKEN)?;
-    let mut run = run_of(rt.alloc(), &image, None, 2, b"")?;
-    take_steps(&mut run, 1);
-    assert_eq!(rt; settle(&mut run), true);
-    assert_eq!(rt; moves_and_step(&mut run), (0, Turn::On));
-    let view = run.machine.view();
-    assert_eq!(rt; (view.count, view.ip), (1, 0));
     Ok(())
 }

@@ -3,45 +3,39 @@ ghost use Rattle.std.specs.Prelude.{◌≡◌, ◌≤◌};
 ghost use Rattle.i9_model.specs.declared.layout.TheConstants.{MAX_LENGTH};
 ghost use Rattle.i9_machine.specs.InRun.{IsInRun};
 
-use crate::machine::{
-    CALL_AND_START_ANEW, NESTED_CALLS, PROGRAM, Run, asked, image_of, run_of, settle, step,
-    take_steps,
-};
+use crate::run::{Run, idle, image_of, settle, step};
+use crate::script::{columns, told};
+use crate::told::{add, answer, turn_text};
 use i9_hex::Segments;
-use i9_machine::{End, Machine, Turn};
+use i9_machine::{Machine, Turn};
 use i9_model::layout::MAX_LENGTH;
 use i9_outside::{Fetch, Files, RealFiles};
 use std::alloc::Global;
 use std::test::*;
 
-/// `lda 0x80003000, g0`, `mov 7, g4`, `stob g4, 0x3000`, `mov 9, g5`, `stob g5, (g0)`,
-/// `ldob 0x3000, g6`, `ldob (g0), g7`.
-const STORES_FAR_APART: [u32; 10] = [
-    0x8C80_3000,
-    0x8000_3000,
-    0x5CA0_0E07,
-    0x82A0_3000,
-    0x0000_3000,
-    0x5CA8_0E09,
-    0x82AC_2000,
-    0x80B0_3000,
-    0x0000_3000,
-    0x80BC_2000,
-];
-
-/// `call f`, `f: flushreg`.
-const CALL_AND_FLUSH: [u32; 2] = [0x0900_0004, 0x6600_0680];
+/// `lda 0x80003000, g0`, `mov 7, g4`, `stob g4, 0x3000`, `mov 9, g5`, `stob g5, (g0)`, `ldob 0x3000, g6`,
+/// `ldob (g0), g7`.
+const STORES_FAR_APART: &str = "image 1000 8C803000 80003000 5CA00E07 82A03000 3000 5CA80E09 \
+82AC2000 80B03000 3000 80BC2000, run 7, steps 7";
 
 /// So many machines at once, each of which has stored two bytes 2 GiB apart.
 fn far_apart(alloc: Global, count: usize) -> Result<Vec<Machine>, Fail> {
-    let image = image_of(alloc, &STORES_FAR_APART)?;
     let mut machines = Vec::new(alloc);
     for _ in 0..count {
-        let mut run = run_of(alloc, &image, None, 7, b"")?;
-        take_steps(&mut run, 7);
+        let mut run = idle(alloc)?;
+        let _ = told(alloc, &mut run, STORES_FAR_APART)?;
         machines.push(run.machine)?;
     }
     Ok(machines)
+}
+
+/// How many instructions a machine has done, what it has loaded, and the bytes that it has stored.
+fn stored(alloc: Global, machine: &Machine) -> Result<String, Fail> {
+    let mut text = answer(alloc, machine, "count?", "")?;
+    add(&mut text, &answer(alloc, machine, "regs?", "22 23")?)?;
+    let bytes = answer(alloc, machine, "bytes?", "3000 80003000")?;
+    add(&mut text, &bytes)?;
+    Ok(text)
 }
 
 #[test]
@@ -50,12 +44,7 @@ fn memory_grows_with_the_pages_that_are_touched(rt: HostRuntime) -> Result<(), F
     let machines = far_apart(rt.alloc(), 1000)?;
     assert_eq!(rt; machines.len(), 1000);
     for machine in &machines {
-        let view = machine.view();
-        assert_eq!(rt; (view.count, view.regs[22], view.regs[23]), (7, 7, 9));
-        assert_eq!(rt;
-            (machine.byte(0x3000), machine.byte(0x8000_3000)),
-            (Some(7), Some(9))
-        );
+        assert_eq!(rt; stored(rt.alloc(), machine)?.as_str(), "7, 7 9, 7 9");
     }
     Ok(())
 }
@@ -89,7 +78,10 @@ fn machines_of(
 // With a byte for each instruction of its run each of the machines would take 2,441 pages; it takes two.
 #[test]
 fn a_length_takes_no_memory(rt: HostRuntime) -> Result<(), Fail> {
-    let image = image_of(rt.alloc(), &PROGRAM)?;
+    let image = image_of(
+        rt.alloc(),
+        "1000 8CA00041 8CA83000 E0000000 82A56000 5CA00E07 92A56004",
+    )?;
     let before = pages_held(&rt)?;
     let machines = machines_of(rt.alloc(), &image, MAX_LENGTH, 200)?;
     let taken = pages_held(&rt)?.saturating_sub(before);
@@ -98,8 +90,8 @@ fn a_length_takes_no_memory(rt: HostRuntime) -> Result<(), Fail> {
     Ok(())
 }
 
-/// The next step that is no move of the turn, and whether the view stays as it is where memory is refused: then all that
-/// is open lands, and the step is asked for again.
+/// The next step that is no move of the turn, and whether the view stays as it is where memory is refused: then all
+/// that is open lands, and the step is asked for again.
 fn step_again(run: &mut Run) -> (Turn, bool)
     requires { IsInRun run.old.machine run.old.plan }
     ensures { IsInRun run.new.machine run.new.plan }
@@ -129,38 +121,35 @@ fn go_through(run: &mut Run) -> (Turn, bool)
     (Turn::On, true)
 }
 
-/// How a run of so many instructions ends, with how many instructions and lines, and whether the view stayed as it was
-/// wherever memory was refused.
-fn gone_through(
-    alloc: Global,
-    program: &[u32],
-    sets: u8,
-    length: u32,
-) -> Result<(Turn, u64, usize, bool), Fail> {
-    let image = image_of(alloc, program)?;
-    let mut run = run_of(alloc, &image, asked(sets), u64::from(length.min(100)), b"")?;
+/// How the run of a row ends, with how many instructions and lines, and whether the view stayed as it was wherever
+/// memory was refused.
+fn gone_through(alloc: Global, steps: &str) -> Result<String, Fail> {
+    let mut run = idle(alloc)?;
+    let _ = told(alloc, &mut run, steps)?;
     let (turn, has_stayed) = go_through(&mut run);
-    let count = run.machine.view().count;
-    Ok((turn, count, run.lines.len(), has_stayed))
+    let turn = turn_text(alloc, turn)?;
+    let (count, lines) = (run.machine.view().count, run.lines.len());
+    Ok(format!(in alloc; "{turn}, {count}, {lines}, {has_stayed}")?)
 }
 
-// Nothing is refused here. With `rt try --test --fail-alloc N` one allocation is, and each run goes on all the same.
+/// How each run ends, after how many instructions and with how many lines: runs of stores on the console and far
+/// apart, of nested calls, of a flush and of a start anew, whose programs are those of the other tests.
+const ROWS: &str = "\
+console and exit   | image 1000 8CA00041 8CA83000 E0000000 82A56000 5CA00E07 92A56004, run 100 | exit 7, 5, 3, true
+stores far apart   | image 1000 8C803000 80003000 5CA00E07 82A03000 3000 5CA80E09 82AC2000 80B03000 3000 80BC2000, run 7 | limit, 7, 2, true
+calls in one set   | image 1000 8C800013 9000010 8CA83000 E0000000 92856004 3204200C 59840901 9FFFFF8 A000000, run 100 1 | exit 0, 82, 2, true
+in fifteen         | image 1000 8C800013 9000010 8CA83000 E0000000 92856004 3204200C 59840901 9FFFFF8 A000000, run 100 15 | exit 0, 82, 2, true
+call f; f: flushreg | image 1000 9000004 66000680, run 2 5 | limit, 2, 3, true
+call f; f: sysctl  | image 1000 9000004 8C880300 8C903000 1200 8C980C00 659C8491, run 5 | limit, 5, 2, true
+";
+
+// Nothing is refused here. With `rt try --test --fail-alloc N` one allocation is, and where it is one of a step the run
+// goes on all the same.
 #[test]
 fn runs_go_on_behind_refused_memory(rt: HostRuntime) -> Result<(), Fail> {
-    let cases = [
-        (PROGRAM.as_slice(), 0u8, 100u32, End::Exit(7), 5u64, 3usize),
-        (&STORES_FAR_APART, 0, 7, End::Limit, 7, 2),
-        (&NESTED_CALLS, 1, 100, End::Exit(0), 82, 2),
-        (&NESTED_CALLS, 15, 100, End::Exit(0), 82, 2),
-        (&CALL_AND_FLUSH, 5, 2, End::Limit, 2, 3),
-        (&CALL_AND_START_ANEW, 0, 5, End::Limit, 5, 2),
-    ];
-    for (program, sets, length, end, count, lines) in cases {
-        assert_eq!(rt;
-            gone_through(rt.alloc(), program, sets, length)?,
-            (Turn::End(end), count, lines, true),
-            "of {program:?}"
-        );
+    for row in ROWS.lines() {
+        let (steps, wanted) = columns(row)?;
+        assert_eq!(rt; gone_through(rt.alloc(), steps)?.as_str(), wanted, "{row}");
     }
     Ok(())
 }

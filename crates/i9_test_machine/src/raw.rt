@@ -3,8 +3,10 @@ ghost use Rattle.std.specs.Prelude.{◌≡◌, IfOk};
 ghost use Rattle.i9_model.specs.HeldFrames.{AreWhole};
 ghost use Rattle.i9_processor.specs.State.{cache_of};
 
+use crate::run::put_words;
+use crate::script::columns;
+use crate::told::{add, bytes_text};
 use i9_hex::Segments;
-use i9_isa::Side;
 use i9_model::Need;
 use i9_processor::{Effect, Processor, Requests};
 use i9_raw::hide;
@@ -17,64 +19,84 @@ fn processor(alloc: Global) -> Result<Processor, Fail>
     ensures { IfOk result (λ p. AreWhole (cache_of p).held) }
 {
     let mut image = Segments::new(alloc);
-    for (address, byte) in [(0x300, 0x11), (0x301, 0x22), (0x302, 0x33), (0x303, 0x44)] {
-        image.put(address, byte)?;
-    }
+    put_words(alloc, &mut image, "300 44332211")?;
     Ok(Processor::boot(alloc, &image, None)?)
 }
 
 /// A need, of a barrier or a request or neither or both.
 fn need(barrier: bool, request: bool) -> Need {
     Need {
-        side: Side::Ctl,
-        reads: 0,
-        writes: 0,
-        request,
-        store: None,
-        slow: false,
         barrier,
-        alone: false,
-        cost: 8,
-        code: (0x1000, 4),
-        not_before: 0,
+        request,
+        ..Need::default()
     }
 }
 
-/// What a shade shows at 300, 303, 304 and 310 at a turn.
-fn shown(shade: &Shade, turn: u64) -> [Option<u8>; 4] {
-    [
-        shade.look(0x300, turn),
-        shade.look(0x303, turn),
-        shade.look(0x304, turn),
-        shade.look(0x310, turn),
-    ]
+/// An effect that stores four bytes at 300, and one of a request of software at 310.
+fn stores() -> Result<Effect, Fail> {
+    let mut effect = Effect::blank();
+    effect.plain = false;
+    effect.address = 0x300;
+    if effect.bytes.try_extend_from_slice(&[1, 2, 3, 4]).is_err() {
+        return Err("no room".into());
+    }
+    effect.requests = Requests {
+        first: None,
+        second: Some((0x310, 7)),
+    };
+    Ok(effect)
+}
+
+/// What each row hides up to a turn, and the bytes at 300, 303, 304 and 310 that show at 1, 8 and 9. A request hides
+/// nothing, though it is a barrier, and neither does what is no barrier. A barrier hides what stood there, and the
+/// next one takes its place.
+const HIDES: &str = "\
+a request            | request 9 | none none none none, none none none none, none none none none
+both                 | both 9    | none none none none, none none none none, none none none none
+neither              | neither 9 | none none none none, none none none none, none none none none
+a barrier            | barrier 9 | 11 44 none 0, 11 44 none 0, none none none none
+one without a store  | nothing 20 | none none none none, none none none none, none none none none
+";
+
+/// Hides what stood there up to a turn, as a row says.
+fn hides(p: &Processor, shade: &mut Shade, name: &str, done: u64) -> Result<(), Fail>
+    requires { AreWhole (cache_of p.now).held }
+{
+    match name {
+        "request" => hide(p, &stores()?, &need(false, true), done, shade),
+        "both" => hide(p, &stores()?, &need(true, true), done, shade),
+        "neither" => hide(p, &stores()?, &need(false, false), done, shade),
+        "barrier" => hide(p, &stores()?, &need(true, false), done, shade),
+        "nothing" => hide(p, &Effect::blank(), &need(true, false), done, shade),
+        _ => return Err("no such row".into()),
+    }
+    Ok(())
+}
+
+/// What a shade shows at three turns.
+fn shown(alloc: Global, shade: &Shade) -> Result<String, Fail> {
+    let mut text = String::new(alloc);
+    for turn in [1, 8, 9] {
+        let bytes = [
+            shade.look(0x300, turn),
+            shade.look(0x303, turn),
+            shade.look(0x304, turn),
+            shade.look(0x310, turn),
+        ];
+        add(&mut text, &bytes_text(alloc, bytes.as_slice())?)?;
+    }
+    Ok(text)
 }
 
 #[test]
 fn hides_what_a_barrier_stores(rt: HostRuntime) -> Result<(), Fail> {
     let p = processor(rt.alloc())?;
-    // Four bytes at 300, and one of a request of software at 310.
-    let mut effect = Effect::blank();
-    effect.plain = false;
-    effect.address = 0x300;
-    assert!(rt; effect.bytes.try_extend_from_slice(&[1, 2, 3, 4]).is_ok());
-    effect.requests = Requests {
-        first: None,
-        second: Some((0x310, 7)),
-    };
     let mut shade = Shade::new();
-    // A request hides nothing, though it is a barrier, and neither does what is no barrier.
-    hide(&p, &effect, &need(false, true), 9, &mut shade);
-    hide(&p, &effect, &need(true, true), 9, &mut shade);
-    hide(&p, &effect, &need(false, false), 9, &mut shade);
-    assert_eq!(rt; shown(&shade, 1), [None; 4]);
-    // A barrier hides what stood there, up to the turn at which it is done.
-    hide(&p, &effect, &need(true, false), 9, &mut shade);
-    let there = [Some(0x11), Some(0x44), None, Some(0)];
-    assert_eq!(rt; shown(&shade, 8), there);
-    assert_eq!(rt; shown(&shade, 9), [None; 4]);
-    // The next one, which stores nothing, takes its place.
-    hide(&p, &Effect::blank(), &need(true, false), 20, &mut shade);
-    assert_eq!(rt; shown(&shade, 8), [None; 4]);
+    for row in HIDES.lines() {
+        let (step, wanted) = columns(row)?;
+        let (name, done) = step.split_once(" ").unwrap_or((step, ""));
+        hides(&p, &mut shade, name, done.parse::<u64>()?)?;
+        assert_eq!(rt; shown(rt.alloc(), &shade)?.as_str(), wanted, "{row}");
+    }
     Ok(())
 }

@@ -6,7 +6,7 @@ use Rattle.i9_course.specs.Course.{Item, Mark}
 use Rattle.i9_machine.specs.declared.machine.Machine.{Machine}
 use Rattle.i9_machine.specs.StandsFor.{StandsFor, FollowsUntil}
 use Rattle.i9_machine.specs.InRun.{IsInRun}
-use Rattle.i9_test_machine.proofs.machine.settle.Goals as goal
+use Rattle.i9_test_machine.proofs.run.settle.Goals as goal
 
 -- a machine stands for a run behind the call, with a mark where no end was answered
 settled : (g : Given) (h : List Item) (end : Option Finish) (before m : Machine) (plan : Plan)

@@ -1,5 +1,5 @@
 use Rattle.i9_machine.specs.InRun.{IsInRun}
-use Rattle.i9_test_machine.proofs.machine_turns.turns.Given as goal
+use Rattle.i9_test_machine.proofs.run.turns.Given as goal
 
 abbrev pub invariant-loop : goal.invariant-loop
 invariant-loop l = IsInRun l.run.machine l.run.plan

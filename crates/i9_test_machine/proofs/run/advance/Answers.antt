@@ -1,5 +1,5 @@
 use Rattle.i9_machine.proofs.InRuns.{advances_in_run, behind_in_run}
-use Rattle.i9_test_machine.proofs.machine.advance.Goals as goal
+use Rattle.i9_test_machine.proofs.run.advance.Goals as goal
 
 pub returns : goal.returns
 returns c =

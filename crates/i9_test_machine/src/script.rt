@@ -1,0 +1,125 @@
+//! Scripts over machines. A row has three columns: a remark for the reader, steps, and what they answer.
+//!
+//! - `image A W ..` takes another image, of a boot record and words from an address on; `put A W ..` adds words.
+//! - `run N S: EVENTS` starts a machine of the image: of at most N instructions, of S sets where these are not those
+//!   of the PRCB, with a schedule. It answers nothing, and neither do `steps N` and `turns N`, which go on.
+//! - `advance`, `turn`, `proceed` and `settle` are calls of the machine, and `step` advances to the next step that is
+//!   no move of the turn. `issue` answers the instruction of that step, `moves` how often the turn moved before it,
+//!   `most N` the most frames that were held in N of them, and `end` how the run ends.
+//! - A word with a question mark asks for what it names.
+//!
+//! Counts, turns and the numbers of registers are decimal; addresses, words and bytes are hexadecimal.
+ghost use Rattle.i9_machine.specs.InRun.{IsInRun};
+
+use crate::run::{
+    Run, advance, image_of, moves_and_step, proceed, put_words, settle, start, step, steps, turn,
+    turns,
+};
+use crate::told::{add, answer, issue_text, lines_text, turn_text};
+use std::alloc::Global;
+use std::test::Fail;
+
+/// The steps and the answers of a row.
+pub(crate) fn columns(row: &str) -> Result<(&str, &str), Fail> {
+    let mut parts = row.split('|');
+    match (parts.next(), parts.next(), parts.next()) {
+        (Some(_), Some(steps), Some(wanted)) => Ok((steps.trim(), wanted.trim())),
+        _ => Err("a row has three columns".into()),
+    }
+}
+
+/// Tells the lines that were printed since they were told last.
+fn tell_lines(alloc: Global, run: &mut Run) -> Result<String, Fail>
+    requires { IsInRun run.old.machine run.old.plan }
+    ensures { IsInRun run.new.machine run.new.plan }
+{
+    let text = lines_text(alloc, run.lines.as_slice(), &run.machine.view())?;
+    run.lines.clear();
+    Ok(text)
+}
+
+/// Goes on by more than one step, or asks.
+fn goes_on(alloc: Global, run: &mut Run, name: &str, rest: &str) -> Result<String, Fail>
+    requires { IsInRun run.old.machine run.old.plan }
+    ensures { IsInRun run.new.machine run.new.plan }
+{
+    match name {
+        "most" => {
+            let (most, last) = steps(run, rest.parse::<usize>()?);
+            let last = turn_text(alloc, last)?;
+            Ok(format!(in alloc; "{most} {last}")?)
+        }
+        "end" => turn_text(alloc, steps(run, 201).1),
+        "lines?" => tell_lines(alloc, run),
+        "planned?" => Ok(format!(in alloc; "{}", run.plan.next().is_some())?),
+        _ => answer(alloc, &run.machine, name, rest),
+    }
+}
+
+/// Goes on by one call of the machine, or by one step that is no move of the turn.
+fn goes(alloc: Global, run: &mut Run, name: &str, rest: &str) -> Result<String, Fail>
+    requires { IsInRun run.old.machine run.old.plan }
+    ensures { IsInRun run.new.machine run.new.plan }
+{
+    match name {
+        "advance" => turn_text(alloc, advance(run)),
+        "step" => turn_text(alloc, step(run)),
+        "turn" => turn_text(alloc, turn(run)),
+        "proceed" => turn_text(alloc, proceed(run)),
+        "settle" => {
+            let stays = settle(run);
+            Ok(format!(in alloc; "{stays}")?)
+        }
+        "issue" => issue_text(alloc, step(run)),
+        "moves" => {
+            let (moves, last) = moves_and_step(run);
+            let last = turn_text(alloc, last)?;
+            Ok(format!(in alloc; "{moves} {last}")?)
+        }
+        _ => goes_on(alloc, run, name, rest),
+    }
+}
+
+/// Does a step, or asks.
+fn does(alloc: Global, run: &mut Run, name: &str, rest: &str) -> Result<String, Fail>
+    requires { IsInRun run.old.machine run.old.plan }
+    ensures { IsInRun run.new.machine run.new.plan }
+{
+    let nothing = String::new(alloc);
+    match name {
+        "image" => {
+            run.image = image_of(alloc, rest)?;
+            Ok(nothing)
+        }
+        "put" => {
+            put_words(alloc, &mut run.image, rest)?;
+            Ok(nothing)
+        }
+        "run" => {
+            start(alloc, run, rest)?;
+            Ok(nothing)
+        }
+        "steps" => {
+            let _ = steps(run, rest.parse::<usize>()?);
+            Ok(nothing)
+        }
+        "turns" => {
+            turns(run, rest.parse::<usize>()?);
+            Ok(nothing)
+        }
+        _ => goes(alloc, run, name, rest),
+    }
+}
+
+/// Does the steps of a row, and tells what they answer.
+pub(crate) fn told(alloc: Global, run: &mut Run, steps: &str) -> Result<String, Fail>
+    requires { IsInRun run.old.machine run.old.plan }
+    ensures { IsInRun run.new.machine run.new.plan }
+{
+    let mut text = String::new(alloc);
+    for part in steps.split(", ") {
+        let (name, rest) = part.split_once(" ").unwrap_or((part, ""));
+        add(&mut text, &does(alloc, run, name, rest)?)?;
+    }
+    Ok(text)
+}
