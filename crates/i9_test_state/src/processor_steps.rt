@@ -1,10 +1,10 @@
 //! The processor after boot of an image of a few words, worked out by hand, and the steps that change it.
-ghost use Rattle.std.specs.Prelude.{◌≡◌, ◌<◌, [], None, IfOk, IfSome};
+ghost use Rattle.std.specs.Prelude.{◌≡◌, ◌<◌, [], None, IfSome};
 ghost use Rattle.i9_model.specs.Frames.{flushed};
 ghost use Rattle.i9_model.specs.Free.{IsFree};
 ghost use Rattle.i9_model.specs.Step.{moved};
 ghost use Rattle.i9_processor.specs.Effect.{action_in, CanPost, CanChange, move_in, AreRegisters, CanControl, CanMove, CanTake};
-ghost use Rattle.i9_processor.specs.State.{state_of, IsDrained};
+ghost use Rattle.i9_processor.specs.State.{state_of};
 
 use crate::rows::{hex_words, named};
 use arrayvec::ArrayVec;
@@ -254,47 +254,30 @@ fn stores_late(p: &mut Processor, a: u32, byte: u8) -> Result<(), Fail> {
     Ok(())
 }
 
-/// Does a step that has no number. The channel of DMA is channel 2.
-fn does_alone(p: &mut Processor, name: &str) -> Result<(), Fail> {
-    match name {
-        "" => Ok(()),
-        "flushes" => leaves(p, Move::Flushes),
-        "passes" => changes(p, DmaChange::Passes(2)),
-        "posts_dma_0" => posts(p, Posting::Dma(0)),
-        _ => Err("no such step".into()),
-    }
-}
-
-/// Does a step that has one number.
-fn does_one(alloc: Global, p: &mut Processor, name: &str, n: u32) -> Result<(), Fail> {
-    match name {
-        "boots" => *p = booted(alloc, n)?,
-        "saves" => saves(p, n)?,
-        "returns" => leaves(p, Move::Returns(n))?,
-        "loads" => loads(p, u8::try_from(n)?)?,
-        "commands" => changes(p, DmaChange::Command(n))?,
-        "sets_late" => sets_late(p, n)?,
-        "lands" => p.land(u64::from(n)),
-        _ => return Err("no such step".into()),
-    }
-    Ok(())
-}
-
 /// Sets channel 2 up.
-fn sets_up(
-    p: &mut Processor,
-    control: u32,
-    count: u32,
-    source: u32,
-    target: u32,
-) -> Result<(), Fail> {
+fn sets_up(p: &mut Processor, control: u32, count: u32, from: u32, to: u32) -> Result<(), Fail> {
     let channel = Channel {
         control,
         count,
-        source,
-        target,
+        source: from,
+        target: to,
     };
     changes(p, DmaChange::SetsUp(2, channel))
+}
+
+/// Does a step to interrupts or DMA, or one that lands late.
+fn does_beside(p: &mut Processor, name: &str, numbers: &[u32]) -> Result<(), Fail> {
+    match (name, numbers) {
+        ("posts_dma_0", []) => posts(p, Posting::Dma(0))?,
+        ("commands", &[word]) => changes(p, DmaChange::Command(word))?,
+        ("sets_up", &[control, count, from, to]) => sets_up(p, control, count, from, to)?,
+        ("passes", []) => changes(p, DmaChange::Passes(2))?,
+        ("sets_late", &[value]) => sets_late(p, value)?,
+        ("stores_late", &[a, byte]) => stores_late(p, a, u8::try_from(byte)?)?,
+        ("lands", &[turn]) => p.land(u64::from(turn)),
+        _ => return Err("no such step".into()),
+    }
+    Ok(())
 }
 
 /// Does a step.
@@ -302,15 +285,16 @@ pub(crate) fn does(alloc: Global, p: &mut Processor, step: &str) -> Result<(), F
     let (name, numbers) = named(step);
     let numbers = hex_words(alloc, numbers)?;
     match (name, numbers.as_slice()) {
-        (_, []) => does_alone(p, name),
-        (_, [n]) => does_one(alloc, p, name, *n),
-        ("restarts", [first, prcb]) => restarts(alloc, p, *first, *prcb),
-        ("stores_late", [a, byte]) => stores_late(p, *a, u8::try_from(*byte)?),
-        ("stores", [a, one, other]) => stores(p, *a, (u8::try_from(*one)?, u8::try_from(*other)?)),
-        ("sets", [g0, g1, g2, g3]) => sets_four(p, [*g0, *g1, *g2, *g3]),
-        ("sets_up", [control, count, source, target]) => sets_up(
-            p, *control, *count, *source, *target,
-        ),
-        _ => Err("no such step".into()),
+        ("", []) => {}
+        ("boots", &[region]) => *p = booted(alloc, region)?,
+        ("saves", &[back]) => saves(p, back)?,
+        ("returns", &[frame]) => leaves(p, Move::Returns(frame))?,
+        ("flushes", []) => leaves(p, Move::Flushes)?,
+        ("stores", &[a, one, other]) => stores(p, a, (u8::try_from(one)?, u8::try_from(other)?))?,
+        ("sets", &[g0, g1, g2, g3]) => sets_four(p, [g0, g1, g2, g3])?,
+        ("restarts", &[first, prcb]) => restarts(alloc, p, first, prcb)?,
+        ("loads", &[group]) => loads(p, u8::try_from(group)?)?,
+        (_, numbers) => does_beside(p, name, numbers)?,
     }
+    Ok(())
 }

@@ -1,109 +1,61 @@
 //! What storage answers, in rows that are worked out by hand.
-ghost use Rattle.std.specs.Prelude.{◌≡◌};
-ghost use Rattle.i9_storage.specs.Storage.{IsDrained};
-
 use crate::rows::{columns, hex_words, named};
 use crate::storage_steps::{does, drained, with_waiting};
 use crate::told::{
-    add, entry_text, fault_text, hazard_text, number_text, pop_text, sys_text, words_text,
+    Told, add, entry_text, hazard_text, hex_text, pop_text, sets_text, sys_text, words_text,
 };
-use i9_faults::{Entry, Fault};
+use i9_faults::{Fault, FaultStop};
 use i9_ints::{Chosen, Ints};
 use i9_model::{Cause, Setup};
 use i9_storage::Storage;
 use std::alloc::Global;
 use std::test::Fail;
 
+/// A division by zero.
+const DIVISION: Fault = Fault {
+    kind: 3,
+    subtype: 2,
+    address: 0x1000,
+};
+
+/// Vector 23, which software asks for.
+const SOFT: Chosen = Chosen {
+    vector: 23,
+    cause: Cause::Soft,
+};
+
 /// A word; where none of its bytes is soft it is read as such too, and is the same.
-fn word(storage: &Storage, a: u32) -> Result<u32, Fail> {
+fn word_text(alloc: Global, storage: &Storage, a: u32) -> Told {
     let word = storage.word(a);
     let hard = match storage.watch().check_read(a, 4) {
         None => storage.hard_word(a),
         Some(_) => word,
     };
-    if hard == word {
-        Ok(word)
-    } else {
-        Err("a hard word is another one".into())
+    if hard != word {
+        return Err("a hard word is another one".into());
     }
+    hex_text(alloc, word)
 }
 
 /// Four words, none of whose bytes is soft.
-fn hard_words_text(alloc: Global, storage: &Storage, a: u32) -> Result<String, Fail> {
+fn hard_words_text(alloc: Global, storage: &Storage, a: u32) -> Told {
     match storage.watch().check_read(a, 16) {
         None => words_text(alloc, &storage.hard_words::<4>(a)),
         Some(a) => hazard_text(alloc, a),
     }
 }
 
-/// Whether a region is big-endian.
-fn is_big(storage: &Storage, region: u32) -> Result<bool, Fail> {
-    if region < 16 {
-        Ok(storage.big(region as u8))
-    } else {
-        Err("no such region".into())
-    }
-}
-
-/// A word of the frame that a return enters.
-fn frame_word(storage: &Storage, a: u32, k: u32) -> Result<u32, Fail> {
-    if k < 16 {
-        Ok(storage.frame_word(a, k as u8))
-    } else {
-        Err("no such word".into())
-    }
-}
-
-/// What stands at an address, or the address of the frame that is held with so many younger ones.
-fn number_at(storage: &Storage, name: &str, a: u32) -> Result<Option<u32>, Fail> {
-    match name {
-        "byte" => Ok(Some(u32::from(storage.byte(a)))),
-        "half" => Ok(Some(u32::from(storage.half(a)))),
-        "word" => Ok(Some(word(storage, a)?)),
-        "acted_byte" => Ok(Some(u32::from(storage.acted_byte(a)))),
-        "held" => Ok(storage.sets().at(u8::try_from(a)?).map(|f| f.address)),
-        _ => Err("no such question".into()),
-    }
-}
-
-/// What calls, returns and faults make: procedure 5 is called, and a division by zero faults.
-fn frame_plan_text(alloc: Global, storage: &Storage, name: &str, a: u32) -> Result<String, Fail> {
-    drained(storage)?;
-    match name {
-        "calls" => {
-            let planned = storage.plan_calls(a, 5, 0x1F_2000, 0x3004, 0x3051);
-            sys_text(alloc, planned)
-        }
-        "ret" => pop_text(alloc, storage.plan_ret(a, 0x5050, 0x1F_2003, 0x8001)),
-        "fault" => {
-            let division = Fault {
-                kind: 3,
-                subtype: 2,
-                address: 0x1000,
-            };
-            let (pc, ac, fp, sp) = (0x1F_2002, 0x8000, 0x3000, 0x3040);
-            let planned = storage.plan_fault(a, 0xB00, &division, pc, ac, fp, sp);
-            fault_text(alloc, planned)
-        }
-        _ => Err("no such question".into()),
-    }
-}
-
-/// The vector that is chosen by a table and PC where software asks for it, and its cause.
-fn chosen_text(alloc: Global, storage: &Storage, table: u32, pc: u32) -> Result<String, Fail> {
-    drained(storage)?;
-    match storage.choose_soft(&Ints::new(), table, pc) {
-        Ok(Some(chosen)) => Ok(format!(in alloc; "{:X} {:?}", chosen.vector, chosen.cause)?),
+/// The vector that is chosen, and its cause.
+fn chosen_text(alloc: Global, chosen: Result<Option<Chosen>, u32>) -> Told {
+    match chosen {
+        Ok(Some(c)) => Ok(format!(in alloc; "{:X} {:?}", c.vector, c.cause)?),
         Ok(None) => Ok(format!(in alloc; "none")?),
         Err(a) => hazard_text(alloc, a),
     }
 }
 
 /// Bytes behind their addresses.
-fn bytes_text(alloc: Global, bytes: &[(u32, u8)]) -> Result<String, Fail> {
-    if bytes.is_empty() {
-        return Ok(format!(in alloc; "none")?);
-    }
+fn places_text(alloc: Global, bytes: &[(u32, u8)]) -> Told {
     let mut text = String::new(alloc);
     for (a, byte) in bytes {
         add(&mut text, " ", &format!(in alloc; "{a:X} {byte:02X}")?)?;
@@ -112,86 +64,90 @@ fn bytes_text(alloc: Global, bytes: &[(u32, u8)]) -> Result<String, Fail> {
 }
 
 /// The bytes of the priority and of the vectors that a request of software stores.
-fn request_text(alloc: Global, storage: &Storage, table: u32, v: u8) -> Result<String, Fail> {
-    drained(storage)?;
-    match storage.plan_request(table, v) {
-        Ok(bytes) => bytes_text(alloc, &bytes),
+fn request_text(alloc: Global, planned: Result<[(u32, u8); 2], u32>) -> Told {
+    match planned {
+        Ok(bytes) => places_text(alloc, &bytes),
         Err(a) => hazard_text(alloc, a),
     }
 }
 
-/// What the entry of an interrupt makes by an interrupt table.
-fn entered(storage: &Storage, table: u32, chosen: &Chosen) -> Result<Entry, u32>
-    requires { IsDrained storage.now }
-{
-    let (stack, pc, ac, fp, sp) = (0x8008, 0x0001_2403, 0x8084, 0x3004, 0x3041);
-    storage.plan_interrupt(&Ints::new(), table, stack, chosen, pc, ac, fp, sp)
-}
-
-/// What the entry of vector 23, which software asks for, makes by an interrupt table.
-fn interrupt_text(alloc: Global, storage: &Storage, table: u32) -> Result<String, Fail> {
-    let chosen = Chosen {
-        vector: 23,
-        cause: Cause::Soft,
-    };
+/// The bytes that clear what chose an interrupt, once it is entered by the interrupt table at 6000.
+fn clearing_text(alloc: Global, storage: &Storage, c: &Chosen) -> Told {
     drained(storage)?;
-    match entered(storage, table, &chosen) {
-        Ok(entry) => entry_text(alloc, &entry),
-        Err(a) => hazard_text(alloc, a),
-    }
-}
-
-/// The bytes that clear what chose vector 23, once it is entered by the interrupt table at 6000.
-fn clearing_text(alloc: Global, storage: &Storage, cause: Cause) -> Result<String, Fail> {
-    let chosen = Chosen { vector: 23, cause };
-    drained(storage)?;
-    match storage.plan_interrupt(&Ints::new(), 0x6000, 0x8008, &chosen, 0, 0, 0x3000, 0x3040) {
+    match storage.plan_interrupt(&Ints::new(), 0x6000, 0x8008, c, 0, 0, 0x3000, 0x3040) {
         Ok(entry) => {
-            let bytes = storage.clearing_bytes(0x6000, &chosen, &entry);
-            bytes_text(alloc, bytes.as_slice())
+            let bytes = storage.clearing_bytes(0x6000, c, &entry);
+            places_text(alloc, bytes.as_slice())
         }
         Err(a) => hazard_text(alloc, a),
     }
 }
 
+/// The answer to a question about the frames of calls, returns and faults.
+fn call_answer(alloc: Global, storage: &Storage, name: &str, numbers: &[u32]) -> Told {
+    drained(storage)?;
+    match (name, numbers) {
+        ("calls", &[table, n, pc, fp, sp]) => {
+            sys_text(alloc, storage.plan_calls(table, n, pc, fp, sp))
+        }
+        ("ret", &[pfp, fp, pc, ac]) => pop_text(alloc, storage.plan_ret(pfp, fp, pc, ac)),
+        ("fault", &[table, system, pc, ac, fp, sp]) => {
+            let planned = storage.plan_fault(table, system, &DIVISION, pc, ac, fp, sp);
+            entry_text(alloc, planned)
+        }
+        _ => Err("no such question".into()),
+    }
+}
+
+/// The answer to a question about interrupts.
+fn interrupt_answer(alloc: Global, storage: &Storage, name: &str, numbers: &[u32]) -> Told {
+    drained(storage)?;
+    let ints = Ints::new();
+    match (name, numbers) {
+        ("choose", &[table, pc]) => chosen_text(alloc, storage.choose_soft(&ints, table, pc)),
+        ("request", &[table, v]) => {
+            request_text(alloc, storage.plan_request(table, u8::try_from(v)?))
+        }
+        ("interrupt", &[table, stack, pc, ac, fp, sp]) => {
+            let planned = storage.plan_interrupt(&ints, table, stack, &SOFT, pc, ac, fp, sp);
+            entry_text(alloc, planned.map_err(FaultStop::Hazard))
+        }
+        ("clearing_soft", []) => clearing_text(alloc, storage, &SOFT),
+        ("clearing_line_5", []) => {
+            let cause = Cause::Line(5);
+            clearing_text(alloc, storage, &Chosen { cause, ..SOFT })
+        }
+        _ => call_answer(alloc, storage, name, numbers),
+    }
+}
+
 /// A group of a control table, behind a flush.
-fn group_text(alloc: Global, storage: &mut Storage, table: u32, n: u32) -> Result<String, Fail> {
+fn group_text(alloc: Global, storage: &mut Storage, table: u32, n: u8) -> Told {
     if n > 6 {
         return Err("no such group".into());
     }
     drained(storage)?;
     storage.flush();
-    match storage.control_group(table, n as u8) {
+    match storage.control_group(table, n) {
         Ok(words) => words_text(alloc, &words),
         Err(a) => hazard_text(alloc, a),
     }
 }
 
-/// What start-up reads: the words of the PRCB, and those of the control table.
-fn setup_text(alloc: Global, setup: &Setup) -> Result<String, Fail> {
-    let words = [
-        setup.first,
-        setup.fault_table,
-        setup.control_table,
-        setup.ac,
-        setup.fault_config,
-        setup.interrupt_table,
-        setup.system_table,
-        setup.interrupt_stack,
-        u32::from(setup.sets),
-    ];
+/// What start-up reads: the first address, the words of the PRCB and the number of sets, and those of the control table.
+fn setup_text(alloc: Global, s: &Setup) -> Told {
+    let memory = words_text(alloc, &[s.first, s.fault_table, s.control_table, s.ac])?;
+    let words = [s.fault_config, s.interrupt_table, s.system_table];
     let words = words_text(alloc, &words)?;
-    let control = words_text(alloc, &setup.control)?;
-    Ok(format!(in alloc; "{words} control {control}")?)
+    let control = words_text(alloc, &s.control)?;
+    Ok(format!(in alloc;
+        "{memory} {words} {:X} {:X} control {control}",
+        s.interrupt_stack, s.sets
+    )?)
 }
 
 /// A start anew, behind a flush.
-fn reinit_text(
-    alloc: Global,
-    storage: &mut Storage,
-    first: u32,
-    prcb: u32,
-) -> Result<String, Fail> {
+fn reinit_text(alloc: Global, storage: &mut Storage, first: u32, prcb: u32) -> Told {
     drained(storage)?;
     storage.flush();
     match storage.reinit(first, prcb) {
@@ -200,56 +156,39 @@ fn reinit_text(
     }
 }
 
-/// The answer to a question that has no number.
-fn answer_alone(alloc: Global, storage: &Storage, name: &str) -> Result<String, Fail> {
-    match name {
-        "sets" => {
-            let sets = storage.sets();
-            Ok(format!(in alloc; "{:X} of {:X}", sets.len(), sets.size())?)
-        }
-        "is_drained" => Ok(format!(in alloc; "{}", storage.is_drained())?),
-        "clearing_soft" => clearing_text(alloc, storage, Cause::Soft),
-        "clearing_line" => clearing_text(alloc, storage, Cause::Line(5)),
-        _ => Err("no such question".into()),
-    }
-}
-
-/// The answer to a question that has one number.
-fn answer_of(alloc: Global, storage: &Storage, name: &str, n: u32) -> Result<String, Fail> {
-    match name {
-        "hard_words" => hard_words_text(alloc, storage, n),
-        "frame_words" => words_text(alloc, &storage.frame_words(n)),
-        "soft" => Ok(format!(in alloc; "{}", storage.watch().soft(n))?),
-        "big" => Ok(format!(in alloc; "{}", is_big(storage, n)?)?),
-        "calls" | "ret" | "fault" => frame_plan_text(alloc, storage, name, n),
-        "interrupt" => interrupt_text(alloc, storage, n),
-        _ => number_text(alloc, number_at(storage, name, n)?),
+/// The answer to a question about memory.
+fn memory_answer(alloc: Global, storage: &Storage, name: &str, numbers: &[u32]) -> Told {
+    match (name, numbers) {
+        ("byte", &[a]) => hex_text(alloc, u32::from(storage.byte(a))),
+        ("half", &[a]) => hex_text(alloc, u32::from(storage.half(a))),
+        ("word", &[a]) => word_text(alloc, storage, a),
+        ("hard_words", &[a]) => hard_words_text(alloc, storage, a),
+        ("frame_words", &[a]) => words_text(alloc, &storage.frame_words(a)),
+        ("frame_word", &[a, k]) if k < 16 => hex_text(alloc, storage.frame_word(a, k as u8)),
+        ("acted_byte", &[a]) => hex_text(alloc, u32::from(storage.acted_byte(a))),
+        _ => interrupt_answer(alloc, storage, name, numbers),
     }
 }
 
 /// The answer to a question.
-fn answer(alloc: Global, storage: &mut Storage, question: &str) -> Result<String, Fail> {
+fn answer(alloc: Global, storage: &mut Storage, question: &str) -> Told {
     let (name, numbers) = named(question);
     let numbers = hex_words(alloc, numbers)?;
     match (name, numbers.as_slice()) {
-        (_, []) => answer_alone(alloc, storage, name),
-        (_, [n]) => answer_of(alloc, storage, name, *n),
-        ("frame_word", [a, k]) => number_text(alloc, Some(frame_word(storage, *a, *k)?)),
-        ("choose", [table, pc]) => chosen_text(alloc, storage, *table, *pc),
-        ("request", [table, v]) => request_text(alloc, storage, *table, u8::try_from(*v)?),
-        ("group", [table, n]) => group_text(alloc, storage, *table, *n),
-        ("reinit", [first, prcb]) => reinit_text(alloc, storage, *first, *prcb),
-        _ => Err("no such question".into()),
+        ("sets", []) => sets_text(alloc, storage.sets()),
+        ("is_drained", []) => Ok(format!(in alloc; "{}", storage.is_drained())?),
+        ("soft", &[a]) => Ok(format!(in alloc; "{}", storage.watch().soft(a))?),
+        ("big", &[region]) if region < 16 => {
+            Ok(format!(in alloc; "{}", storage.big(region as u8))?)
+        }
+        ("group", &[table, n]) => group_text(alloc, storage, table, u8::try_from(n)?),
+        ("reinit", &[first, prcb]) => reinit_text(alloc, storage, first, prcb),
+        (_, numbers) => memory_answer(alloc, storage, name, numbers),
     }
 }
 
 /// Does the steps of a row, and answers its questions.
-fn answers(
-    alloc: Global,
-    storage: &mut Storage,
-    steps: &str,
-    questions: &str,
-) -> Result<String, Fail> {
+fn answers(alloc: Global, storage: &mut Storage, steps: &str, questions: &str) -> Told {
     for step in steps.split(',') {
         does(alloc, storage, step)?;
     }
@@ -262,15 +201,15 @@ fn answers(
 
 /// Frames that are saved, held, spilled, flushed and returned to.
 const FRAMES: &str = "\
-zeros, save 1000 100, save 1040 200 | sets | 2 of 2
-save 1080 300 | sets, held 0, held 1, held 2 | 2 of 2, 1080, 1040, none | the oldest of three goes to memory
+zeros, save 1000 100, save 1040 200 | sets | 2 of 2 1040 1000
+save 1080 300 | sets | 2 of 2 1080 1040 | the oldest of three goes to memory
  | word 1000, word 103C, word 1040, byte 1085, half 10BC | 100, 10F, 200, 3, 30F
  | frame_words 1080 | 300 301 302 303 304 305 306 307 308 309 30A 30B 30C 30D 30E 30F | the youngest
  | frame_words 1000 | 100 101 102 103 104 105 106 107 108 109 10A 10B 10C 10D 10E 10F | in memory
  | frame_words 1020 | 108 109 10A 10B 10C 10D 10E 10F 200 201 202 203 204 205 206 207 | in part
  | frame_word 1080 2, frame_word 1000 F | 302, 10F
  | word 107E | 3000000 | the last two bytes of a frame, and the first two of the next
-return | sets, held 0, word 1080, soft 1080 | 1 of 2, 1040, 0, true | memory never gets it
+return | sets, word 1080, soft 1080 | 1 of 2 1040, 0, true | memory never gets it
 return | word 1040 | 0
 return | sets, word 1000, frame_word 1000 2, soft 1000 | 0 of 2, 100, 102, true
  | frame_words 1000 | 100 101 102 103 104 105 106 107 108 109 10A 10B 10C 10D 10E 10F
@@ -279,14 +218,13 @@ zeros, save 1000 100, save 1040 200, save 1080 300, return, flush | sets | 0 of 
 zeros, save 1000 100, flush, save 1000 200 | word 1004 | 201 | it hides what memory has there
 return | word 1004 | 101
 zeros, save 1000 100, restart 1 | sets, word 1000, soft 1000 | 0 of 1, 100, false
-save 1000 200, save 1040 300 | sets, word 1000 | 1 of 1, 200 | other sets take over
+save 1000 200, save 1040 300 | sets, word 1000 | 1 of 1 1040, 200 | other sets take over
 return | word 1040, word 1000 | 0, 200
 ";
 
 /// Stores beside the frames, whose bytes are soft no more, and region 1, which is big-endian, of memory and of frames.
 const STORES: &str = "\
-zeros, save 1000 100, return, save 1040 200 | sets | 1 of 2
-store_word 103C 12345678 | soft 103B, soft 103C, half 103E | true, false, 1234
+zeros, save 1000 100, return, save 1040 200, store_word 103C 12345678 | soft 103B, soft 103C, half 103E | true, false, 1234
  | word 103E | 2001234 | the last two bytes of the word, and the first two of the frame
 store_word E0000010 12345678 | word E0000010 | 0
 zeros, store_word 10000000 12345678, store_half 10000004 9ABC | hard_words 10000000 | 12345678 9ABC0000 0 0
@@ -302,17 +240,18 @@ waiting, land 4, land 5, land 6, land 7, land 8, land 9, flush | word 103E, acte
 /// Calls, faults and returns beside a frame that is held at 4040 and one that was spilled at 4000: a hazard is in one of
 /// them. The record gives back PC and AC; then only the youngest frame is returned to.
 const PLANS: &str = "\
-entries, save 4000 100, save 4040 200 | calls B00 | 1104 1F2003 true saves 3000 5010 3002 5050
- | calls 4000, calls 3FC0 | hazard 4044, hazard 4004
- | fault 900 | 1100 1F2002 saves 3000 3050 3001 3090 record 1F2002 8000 30002 1000
- | ret 4041, ret 4001 | 4040 true D2402 1005 false, hazard 4000
+entries, save 4000 100, save 4040 200 | calls B00 5 1F2000 3004 3051 | 1104 1F2003 true saves 3000 5010 3002 5050
+ | calls 4000 5 1F2000 3004 3051, calls 3FC0 5 1F2000 3004 3051 | hazard 4044, hazard 4004
+ | fault 900 B00 1F2002 8000 3000 3040 | 1100 1F2002 saves 3000 3050 3001 3090 record 1F2002 8000 30002 1000
+ | ret 4041 5050 1F2003 8001, ret 4001 5050 1F2003 8001 | 4040 D2402 1005 true false, hazard 4000
 requests, save 4000 100, save 4040 200 | choose 6000 10000, choose 6000 20000 | 17 Soft, none
  | choose 4040 0, choose 3FE0 0 | hazard 4040, hazard 4000
  | request 6000 10, request 6000 FA | 6000 06 6006 85, 6003 80 6023 04
  | request 4040 10, request 3FFC 10 | hazard 4040, hazard 4002
- | interrupt 6000 | 1100 22002 saves 3000 3060 3007 30A0 record 12403 8084 17 0
- | interrupt 3FE0, interrupt 3FA0 | hazard 4040, hazard 4000
- | clearing_soft, clearing_line | 6006 04, none | of both vectors 18 is left
+ | interrupt 6000 8008 12403 8084 3004 3041 | 1100 22002 saves 3000 3060 3007 30A0 record 12403 8084 17 0
+ | interrupt 3FE0 8008 12403 8084 3004 3041, interrupt 3FA0 8008 12403 8084 3004 3041 | hazard 4040, hazard 4000
+ | clearing_line_5 |  | a line asks in no table
+ | clearing_soft | 6006 04 | of both vectors 18 is left
 tables, save 3040 100, return, save 1000 100, flush | group 3000 2, group 3000 4 | 0 0 400000 0, hazard 3040
 configure 3 400000 0 | big 1, big 2, big 3, big 4 | true, false, true, false
  | reinit 1236 2000, big 1, big 2, big 3, big 4 | hazard 3040, true, false, true, false
@@ -341,7 +280,7 @@ const READS: &str = "\
  | byte 10000001, half 10000000, word 10000000 | 22, 2122, 21220000
  | hard_words 1030 | 0 0 0 14331211
  | hard_words FFFFFFC | 0 21220000 0 0
- | soft 103F, soft 1040, sets | false, true, 1 of 2
+ | soft 103F, soft 1040, sets | false, true, 1 of 2 1040
 ";
 
 /// The first of these rows that is answered otherwise; nothing where none is.

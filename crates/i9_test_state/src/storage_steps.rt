@@ -53,14 +53,13 @@ fn put_words(memory: &mut Memory, a: u32, words: &[u32]) -> Result<(), Fail> {
     Ok(())
 }
 
-/// Storage with sets, over zeros with these words, of which region 1 is big-endian.
-fn fresh(alloc: Global, words: &str, sets: u8) -> Result<Storage, Fail>
+/// Storage with so many sets over an image, of which region 1 is big-endian.
+fn fresh(alloc: Global, image: &str, sets: u8) -> Result<Storage, Fail>
     requires { (0 < sets) × (sets < 16) }
-    ensures { IfOk result (λ s. IsDrained s) }
 {
     let mut memory = Memory::new(alloc);
     memory.configure(1, BIG_ENDIAN);
-    for line in words.lines() {
+    for line in image.lines() {
         match hex_words(alloc, line)?.as_slice() {
             [address, words @ ..] => put_words(&mut memory, *address, words)?,
             _ => return Err("no address".into()),
@@ -116,9 +115,7 @@ fn store(storage: &mut Storage, a: u32, bytes: &[u8]) -> Result<(), Fail>
 }
 
 /// Flushes, where nothing waits.
-pub(crate) fn flush(storage: &mut Storage) -> Result<(), Fail>
-    ensures { IfOk result (λ _. IsDrained storage.new) }
-{
+fn flush(storage: &mut Storage) -> Result<(), Fail> {
     drained(storage)?;
     storage.flush();
     Ok(())
@@ -185,35 +182,17 @@ fn configure(storage: &mut Storage, region: u8, words: [u32; 2]) -> Result<(), F
     Ok(())
 }
 
-/// Does a step that has no number.
-fn does_alone(alloc: Global, storage: &mut Storage, name: &str) -> Result<(), Fail> {
+/// Begins anew.
+fn begins(alloc: Global, storage: &mut Storage, name: &str) -> Result<(), Fail> {
     match name {
-        "" => {}
         "zeros" => *storage = fresh(alloc, "", 2)?,
         "entries" => *storage = fresh(alloc, ENTRIES, 1)?,
         "requests" => *storage = fresh(alloc, REQUESTS, 1)?,
         "tables" => *storage = fresh(alloc, TABLES, 2)?,
         "waiting" => *storage = with_waiting(alloc)?,
-        "return" => storage.restore_frame(),
-        "flush" => flush(storage)?,
         _ => return Err("no such step".into()),
     }
     Ok(())
-}
-
-/// Stores a value at an address, in the order of its region.
-fn store_value(storage: &mut Storage, name: &str, a: u32, v: u32) -> Result<(), Fail> {
-    match name {
-        "store_half" => {
-            let bytes = storage.half_bytes(a, u16::try_from(v)?);
-            store(storage, a, &bytes)
-        }
-        "store_word" => {
-            let bytes = storage.word_bytes(a, v);
-            store(storage, a, &bytes)
-        }
-        _ => Err("no such step".into()),
-    }
 }
 
 /// Does a step.
@@ -221,13 +200,22 @@ pub(crate) fn does(alloc: Global, storage: &mut Storage, step: &str) -> Result<(
     let (name, numbers) = named(step);
     let numbers = hex_words(alloc, numbers)?;
     match (name, numbers.as_slice()) {
-        (_, []) => does_alone(alloc, storage, name)?,
-        ("land", [turn]) => storage.land(u64::from(*turn)),
-        ("restart", [sets]) => restart(alloc, storage, u8::try_from(*sets)?)?,
-        ("save", [fp, first]) => save(storage, *fp, *first)?,
-        (_, [a, v]) => store_value(storage, name, *a, *v)?,
-        ("configure", [region, v, w]) => configure(storage, u8::try_from(*region)?, [*v, *w])?,
-        _ => return Err("no such step".into()),
+        ("", []) => {}
+        ("save", &[fp, first]) => save(storage, fp, first)?,
+        ("return", []) => storage.restore_frame(),
+        ("flush", []) => flush(storage)?,
+        ("restart", &[sets]) => restart(alloc, storage, u8::try_from(sets)?)?,
+        ("store_half", &[a, v]) => {
+            let bytes = storage.half_bytes(a, u16::try_from(v)?);
+            store(storage, a, &bytes)?;
+        }
+        ("store_word", &[a, v]) => {
+            let bytes = storage.word_bytes(a, v);
+            store(storage, a, &bytes)?;
+        }
+        ("land", &[turn]) => storage.land(u64::from(turn)),
+        ("configure", &[region, v, w]) => configure(storage, u8::try_from(region)?, [v, w])?,
+        _ => begins(alloc, storage, name)?,
     }
     Ok(())
 }
