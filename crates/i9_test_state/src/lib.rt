@@ -4,4 +4,12 @@
 #[cfg(test)]
 mod processor;
 #[cfg(test)]
+mod processor_steps;
+#[cfg(test)]
+mod rows;
+#[cfg(test)]
 mod storage;
+#[cfg(test)]
+mod storage_steps;
+#[cfg(test)]
+mod told;

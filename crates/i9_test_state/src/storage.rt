@@ -1,685 +1,318 @@
-//! Storage, worked out by hand.
-ghost use Rattle.std.specs.Prelude.{◌≡◌, ◌<◌, ◌≤◌, ◌∷◌, ◌++◌, [], IfOk, length};
-ghost use Rattle.std.specs.List.{AllByRecursion};
-ghost use Rattle.i9_model.specs.Writes.{upwards};
-ghost use Rattle.i9_storage.specs.Storage.{waiting_in, IsDrained};
-
-use arrayvec::ArrayVec;
-use i9_calls::{CallsStop, Pop, Sys};
-use i9_faults::{Entry, Fault};
-use i9_frames::{Frame, Sets};
-use i9_ints::{Chosen, IntEntry, Ints};
-use i9_memory::Memory;
-use i9_model::{CONTROL_WORDS, Cause, Push, Setup};
-use i9_queue::Request;
+//! What storage answers, in rows that are worked out by hand.
+use crate::rows::{columns, hex_words, named};
+use crate::storage_steps::{does, drained, with_waiting};
+use crate::told::{
+    Told, add, entry_text, hazard_text, hex_text, pop_text, sets_text, sys_text, words_text,
+};
+use i9_faults::{Fault, FaultStop};
+use i9_ints::{Chosen, Ints};
+use i9_model::{Cause, Setup};
 use i9_storage::Storage;
 use std::alloc::Global;
 use std::test::Fail;
 
-/// Bit 22 of a configuration word, which makes its region big-endian.
-const BIG_ENDIAN: u32 = 0x0040_0000;
-
-/// Lays words from an address on, each in the order of its region.
-fn put_words(memory: &mut Memory, a: u32, words: &[u32]) -> Result<(), Fail> {
-    let mut at = a;
-    for word in words {
-        memory.reserve(at, 4)?;
-        memory.put_word(at, *word);
-        at = at.wrapping_add(4);
-    }
-    Ok(())
-}
-
-/// A memory of zeros, of which region 1 is big-endian.
-fn memory(alloc: Global) -> Memory {
-    let mut memory = Memory::new(alloc);
-    memory.configure(1, BIG_ENDIAN);
-    memory
-}
-
-/// Sixteen words, of which eight count up from a first one, and eight from the ninth.
-fn counting(first: u32, ninth: u32) -> [u32; 16] {
-    let mut words = [0; 16];
-    for k in 0..8_u8 {
-        words[k as usize] = first.wrapping_add(u32::from(k));
-        words[k as usize + 8] = ninth.wrapping_add(u32::from(k));
-    }
-    words
-}
-
-/// Goes on where nothing waits.
-fn drained(storage: &Storage) -> Result<(), Fail>
-    ensures { IfOk result (λ _. IsDrained storage.now) }
-{
-    if storage.is_drained() {
-        Ok(())
-    } else {
-        Err("a request waits".into())
-    }
-}
-
-/// Saves the frame at a frame pointer, where nothing waits. Its words count up from a first one.
-fn save(storage: &mut Storage, fp: u32, first: u32) -> Result<(), Fail>
-    ensures { IfOk result (λ _. IsDrained storage.new) }
-{
-    drained(storage)?;
-    let words = counting(first, first.wrapping_add(8));
-    match storage.watch().plan_push(fp, 0, 0, 0) {
-        Ok(push) => {
-            storage.reserve_frame(push.save)?;
-            let address = push.save;
-            storage.save_frame(Frame { address, words });
-            Ok(())
-        }
-        Err(_) => Err("a hazard".into()),
-    }
-}
-
-/// Stores bytes beside the live frames, at most four, where nothing waits.
-#[tactic(auto, using(i9_storage::proofs::Keeping::run_rules))]
-fn store(storage: &mut Storage, a: u32, bytes: &[u8]) -> Result<(), Fail>
-    ensures { IfOk result (λ _. IsDrained storage.new) }
-{
-    drained(storage)?;
-    let n = bytes.len();
-    if n > 4 || storage.watch().check_write(a, n as u32).is_some() {
-        return Err("a hazard".into());
-    }
-    storage.reserve(a, n as u32)?;
-    storage.store(a, bytes);
-    Ok(())
-}
-
-/// Flushes, where nothing waits.
-fn flush(storage: &mut Storage) -> Result<(), Fail>
-    ensures { IfOk result (λ _. IsDrained storage.new) }
-{
-    drained(storage)?;
-    storage.flush();
-    Ok(())
-}
-
-/// Flushes, and goes on with so many new sets.
-fn restart(alloc: Global, storage: &mut Storage, sets: u8) -> Result<(), Fail> {
-    if sets == 0 || sets > 15 {
-        return Err("no such sets".into());
-    }
-    let sets = Sets::new(alloc, sets)?;
-    drained(storage)?;
-    storage.flush();
-    storage.renew(sets);
-    Ok(())
-}
-
-/// What is done to storage, or what it is asked and has to answer.
-#[derive(Clone, Copy)]
-enum Step {
-    Save(u32, u32),
-    Return,
-    Flush,
-    Restart(u8),
-    StoreHalf(u32, u16),
-    StoreWord(u32, u32),
-    Byte(u32, u8),
-    Half(u32, u16),
-    Word(u32, u32),
-    Words(u32, [u32; 4]),
-    FrameWords(u32, u32, u32),
-    FrameWord(u32, u8, u32),
-    IsSoft(u32, bool),
-    Holds(u8, u8),
-    Held(u8, Option<u32>),
-}
-
-use Step::{
-    Byte, Flush, FrameWord, FrameWords, Half, Held, Holds, IsSoft, Restart, Return, Save,
-    StoreHalf, StoreWord, Word, Words,
+/// A division by zero.
+const DIVISION: Fault = Fault {
+    kind: 3,
+    subtype: 2,
+    address: 0x1000,
 };
 
-/// Whether a word is read so where none of its bytes is soft.
-fn hard(storage: &Storage, a: u32, wanted: u32) -> bool {
-    match storage.watch().check_read(a, 4) {
-        None => storage.hard_word(a) == wanted,
-        Some(_) => true,
+/// Vector 23, which software asks for.
+const SOFT: Chosen = Chosen {
+    vector: 23,
+    cause: Cause::Soft,
+};
+
+/// A word; where none of its bytes is soft it is read as such too, and is the same.
+fn word_text(alloc: Global, storage: &Storage, a: u32) -> Told {
+    let word = storage.word(a);
+    let hard = match storage.watch().check_read(a, 4) {
+        None => storage.hard_word(a),
+        Some(_) => word,
+    };
+    if hard != word {
+        return Err("a hard word is another one".into());
     }
+    hex_text(alloc, word)
 }
 
-/// Whether words are read so where none of their bytes is soft, as it has to be.
-fn hard_group(storage: &Storage, a: u32, wanted: [u32; 4]) -> bool {
+/// Four words, none of whose bytes is soft.
+fn hard_words_text(alloc: Global, storage: &Storage, a: u32) -> Told {
     match storage.watch().check_read(a, 16) {
-        None => storage.hard_words::<4>(a) == wanted,
-        Some(_) => false,
+        None => words_text(alloc, &storage.hard_words::<4>(a)),
+        Some(a) => hazard_text(alloc, a),
     }
 }
 
-/// Whether storage answers so; what is done asks nothing.
-fn answers(storage: &Storage, step: Step) -> bool {
-    match step {
-        Byte(a, wanted) => storage.byte(a) == wanted,
-        Half(a, wanted) => storage.half(a) == wanted,
-        Word(a, wanted) => storage.word(a) == wanted && hard(storage, a, wanted),
-        Words(a, wanted) => hard_group(storage, a, wanted),
-        FrameWords(a, first, ninth) => storage.frame_words(a) == counting(first, ninth),
-        FrameWord(a, k, wanted) => k < 16 && storage.frame_word(a, k) == wanted,
-        IsSoft(a, wanted) => storage.watch().soft(a) == wanted,
-        Holds(frames, sets) => storage.sets().len() == frames && storage.sets().size() == sets,
-        Held(k, wanted) => storage.sets().at(k).map(|f| f.address) == wanted,
-        _ => true,
+/// The vector that is chosen, and its cause.
+fn chosen_text(alloc: Global, chosen: Result<Option<Chosen>, u32>) -> Told {
+    match chosen {
+        Ok(Some(c)) => Ok(format!(in alloc; "{:X} {:?}", c.vector, c.cause)?),
+        Ok(None) => Ok(format!(in alloc; "none")?),
+        Err(a) => hazard_text(alloc, a),
     }
 }
 
-/// Does a step; false where the answer is another one.
-fn does(alloc: Global, storage: &mut Storage, step: Step) -> Result<bool, Fail> {
-    match step {
-        Save(fp, first) => save(storage, fp, first)?,
-        Return => storage.restore_frame(),
-        Flush => flush(storage)?,
-        Restart(sets) => restart(alloc, storage, sets)?,
-        StoreHalf(a, v) => {
-            let bytes = storage.half_bytes(a, v);
-            store(storage, a, &bytes)?;
-        }
-        StoreWord(a, v) => {
-            let bytes = storage.word_bytes(a, v);
-            store(storage, a, &bytes)?;
-        }
-        _ => return Ok(answers(storage, step)),
+/// Bytes behind their addresses.
+fn places_text(alloc: Global, bytes: &[(u32, u8)]) -> Told {
+    let mut text = String::new(alloc);
+    for (a, byte) in bytes {
+        add(&mut text, " ", &format!(in alloc; "{a:X} {byte:02X}")?)?;
     }
-    Ok(true)
+    Ok(text)
 }
 
-#[test]
-fn holds_frames(rt: HostRuntime) -> Result<(), Fail> {
-    let stories: [&[Step]; 6] = [
-        // Three frames in two sets: the oldest goes to memory, and the others are read in their
-        // sets. Memory never gets what is returned to while it is held.
-        &[
-            Save(0x1000, 0x100),
-            Save(0x1040, 0x200),
-            Holds(2, 2),
-            Save(0x1080, 0x300),
-            Holds(2, 2),
-            Held(0, Some(0x1080)),
-            Held(1, Some(0x1040)),
-            Held(2, None),
-            Word(0x1000, 0x100),
-            Word(0x103C, 0x10F),
-            Word(0x1040, 0x200),
-            Byte(0x1085, 0x03),
-            Half(0x10BC, 0x30F),
-            // The youngest frame, and one that is in memory under a part of another.
-            FrameWords(0x1080, 0x300, 0x308),
-            FrameWords(0x1000, 0x100, 0x108),
-            FrameWords(0x1020, 0x108, 0x200),
-            FrameWord(0x1080, 2, 0x302),
-            FrameWord(0x1000, 15, 0x10F),
-            // The last two bytes of a frame, and the first two of the next.
-            Word(0x107E, 0x0300_0000),
-            Return,
-            Holds(1, 2),
-            Held(0, Some(0x1040)),
-            Word(0x1080, 0),
-            IsSoft(0x1080, true),
-            Return,
-            Word(0x1040, 0),
-            Return,
-            Holds(0, 2),
-            Word(0x1000, 0x100),
-            FrameWords(0x1000, 0x100, 0x108),
-            FrameWord(0x1000, 2, 0x102),
-            IsSoft(0x1000, true),
-        ],
-        // A flush writes what is held, and not the frame that was returned to.
-        &[
-            Save(0x1000, 0x100),
-            Save(0x1040, 0x200),
-            Save(0x1080, 0x300),
-            Return,
-            Flush,
-            Holds(0, 2),
-            Word(0x1000, 0x100),
-            Word(0x107C, 0x20F),
-            Word(0x1080, 0),
-            IsSoft(0x1000, false),
-            IsSoft(0x1080, true),
-        ],
-        // A frame that is saved again hides what its place has in memory, until it is returned to.
-        &[
-            Save(0x1000, 0x100),
-            Flush,
-            Save(0x1000, 0x200),
-            Word(0x1004, 0x201),
-            Return,
-            Word(0x1004, 0x101),
-        ],
-        // Stores go to memory beside the frames, and their bytes are soft no more.
-        &[
-            Save(0x1000, 0x100),
-            Return,
-            Save(0x1040, 0x200),
-            StoreWord(0x103C, 0x1234_5678),
-            IsSoft(0x103B, true),
-            IsSoft(0x103C, false),
-            Half(0x103E, 0x1234),
-            // The last two bytes of the word, and the first two of the frame.
-            Word(0x103E, 0x0200_1234),
-            StoreWord(0xE000_0010, 0x1234_5678),
-            Word(0xE000_0010, 0),
-        ],
-        // Region 1 is big-endian, of memory and of frames.
-        &[
-            StoreWord(0x1000_0000, 0x1234_5678),
-            StoreHalf(0x1000_0004, 0x9ABC),
-            Words(0x1000_0000, [0x1234_5678, 0x9ABC_0000, 0, 0]),
-            Words(0x0FFF_FFF8, [0, 0, 0x1234_5678, 0x9ABC_0000]),
-            Byte(0x1000_0000, 0x12),
-            Byte(0x1000_0005, 0xBC),
-            Half(0x1000_0002, 0x5678),
-            Word(0x1000_0002, 0x5678_9ABC),
-            StoreHalf(0x2000_0004, 0x9ABC),
-            Byte(0x2000_0005, 0x9A),
-            Save(0x1000_0040, 0x0102_0304),
-            Byte(0x1000_0040, 0x01),
-            Half(0x1000_0046, 0x0305),
-            FrameWord(0x1000_0040, 1, 0x0102_0305),
-            Word(0x1000_007C, 0x0102_0313),
-            // A frame runs on from the last address to 0.
-            Save(0xFFFF_FFE0, 0x100),
-            Byte(0xFFFF_FFFC, 0x07),
-            Word(0, 0x108),
-            Word(0xFFFF_FFFE, 0x0108_0000),
-        ],
-        // Other sets take over what is saved from then on.
-        &[
-            Save(0x1000, 0x100),
-            Restart(1),
-            Holds(0, 1),
-            Word(0x1000, 0x100),
-            IsSoft(0x1000, false),
-            Save(0x1000, 0x200),
-            Save(0x1040, 0x300),
-            Holds(1, 1),
-            Word(0x1000, 0x200),
-            Return,
-            Word(0x1040, 0),
-            Word(0x1000, 0x200),
-        ],
-    ];
-    for (number, story) in stories.iter().enumerate() {
-        let mut storage = Storage::new(rt.alloc(), memory(rt.alloc()), 2)?;
-        for (index, step) in story.iter().enumerate() {
-            let is_right = does(rt.alloc(), &mut storage, *step)?;
-            assert!(rt; is_right, "story {number}, step {index}");
-        }
+/// The bytes of the priority and of the vectors that a request of software stores.
+fn request_text(alloc: Global, planned: Result<[(u32, u8); 2], u32>) -> Told {
+    match planned {
+        Ok(bytes) => places_text(alloc, &bytes),
+        Err(a) => hazard_text(alloc, a),
     }
-    Ok(())
-}
-
-/// A store waits until a turn, beside the live frames; at most four bytes.
-#[tactic(auto, using(i9_storage::proofs::Keeping::run_rules))]
-fn wait(storage: &mut Storage, a: u32, bytes: &[u8], due: u64) -> Result<(), Fail>
-    requires few { length (waiting_in storage.old) < 3 }
-    requires order { AllByRecursion (λ w. w.due ≤ due) (waiting_in storage.old) }
-    ensures { IfOk result (λ _. waiting_in storage.new
-        ≡ waiting_in storage.old ++ record { puts = upwards a bytes.now; due = due } ∷ []) }
-{
-    let mut list = ArrayVec::new();
-    if bytes.len() > 4 || list.try_extend_from_slice(bytes).is_err() {
-        return Err("too many bytes".into());
-    }
-    let request = Request {
-        address: a,
-        bytes: list,
-        due,
-    };
-    let n = request.bytes.len() as u32;
-    if storage.watch().check_write(a, n).is_some() {
-        return Err("a hazard".into());
-    }
-    storage.reserve(a, n)?;
-    storage.enqueue(request);
-    Ok(())
-}
-
-/// The index of the first step of these that is answered otherwise.
-fn first_wrong(storage: &Storage, steps: &[Step]) -> Option<usize> {
-    for (index, step) in steps.iter().enumerate() {
-        if !answers(storage, *step) {
-            return Some(index);
-        }
-    }
-    None
-}
-
-/// What is read below at once, and at each turn.
-const SEEN: [Step; 19] = [
-    Byte(0x103C, 0x11),
-    Byte(0x103D, 0x12),
-    Byte(0x103E, 0x33),
-    Byte(0x103F, 0x14),
-    Half(0x103C, 0x1211),
-    Half(0x103D, 0x3312),
-    Word(0x103C, 0x1433_1211),
-    // The last two bytes that wait, and the first two of the frame.
-    Half(0x103F, 0x0014),
-    Word(0x103E, 0x0200_1433),
-    FrameWords(0x1040, 0x200, 0x208),
-    FrameWord(0x103C, 0, 0x1433_1211),
-    Byte(0x1000_0001, 0x22),
-    Half(0x1000_0000, 0x2122),
-    Word(0x1000_0000, 0x2122_0000),
-    Words(0x1030, [0, 0, 0, 0x1433_1211]),
-    Words(0x0FFF_FFFC, [0, 0x2122_0000, 0, 0]),
-    IsSoft(0x103F, false),
-    IsSoft(0x1040, true),
-    Holds(1, 2),
-];
-
-// The frame at 1040 is held, and memory has 01 to 04 from 103C up. Until turn 5 a store of 11 to 14
-// waits there, until turn 7 one of 21 and 22 in region 1, which is big-endian, and until turn 9 one of
-// 33 at 103E.
-#[test]
-fn reads_over_what_waits(rt: HostRuntime) -> Result<(), Fail> {
-    let mut storage = Storage::new(rt.alloc(), memory(rt.alloc()), 2)?;
-    save(&mut storage, 0x1040, 0x200)?;
-    store(&mut storage, 0x103C, b"\x01\x02\x03\x04")?;
-    wait(&mut storage, 0x103C, b"\x11\x12\x13\x14", 5)?;
-    wait(&mut storage, 0x1000_0000, b"\x21\x22", 7)?;
-    wait(&mut storage, 0x103E, b"\x33", 9)?;
-    assert_eq!(rt; first_wrong(&storage, &SEEN), None);
-    // The turn, what memory has then at 103C, 103E and 10000001, and whether nothing waits.
-    let rows = [
-        (4, [0x01, 0x03, 0x00], false),
-        (5, [0x11, 0x13, 0x00], false),
-        (6, [0x11, 0x13, 0x00], false),
-        (7, [0x11, 0x13, 0x22], false),
-        (8, [0x11, 0x13, 0x22], false),
-        (9, [0x11, 0x33, 0x22], true),
-    ];
-    for (turn, bytes, is_drained) in &rows {
-        storage.land(*turn);
-        let places = [0x103C, 0x103E, 0x1000_0001];
-        assert_eq!(rt; places.map(|a| storage.acted_byte(a)), *bytes);
-        assert_eq!(rt; storage.is_drained(), *is_drained);
-        assert_eq!(rt; first_wrong(&storage, &SEEN), None);
-    }
-    // Now the frame can go to memory.
-    flush(&mut storage)?;
-    assert_eq!(rt;
-        (storage.word(0x103E), storage.acted_byte(0x1041)),
-        (0x0200_1433, 0x02)
-    );
-    Ok(())
-}
-
-/// Memory with a system procedure table at B00, whose procedure 5 is at 1104 on the supervisor stack
-/// at 5010; with a fault table at 900, whose faults of type 3 have their handler at 1100; and with
-/// PC and AC in the record below the frame at 5050.
-fn with_entries(alloc: Global) -> Result<Memory, Fail> {
-    let mut memory = memory(alloc);
-    put_words(&mut memory, 0xB0C, &[0x5013])?;
-    put_words(&mut memory, 0xB44, &[0x1106])?;
-    put_words(&mut memory, 0x918, &[0x1100, 0xFFFF_FFFF])?;
-    put_words(&mut memory, 0x5040, &[0xABCD_EF12, 0x1234_567D])?;
-    Ok(memory)
-}
-
-/// The push of a frame that is saved at 3000.
-fn push(frame: u32, pfp: u32, sp: u32) -> Push {
-    Push {
-        save: 0x3000,
-        frame,
-        pfp,
-        sp,
-    }
-}
-
-/// What a call of procedure 5 of a system procedure table makes.
-fn call(storage: &Storage, table: u32) -> Result<Sys, CallsStop>
-    requires { IsDrained storage.now }
-{
-    storage.plan_calls(table, 5, 0x1F_2000, 0x3004, 0x3051)
-}
-
-#[test]
-fn plans_beside_held_frames(rt: HostRuntime) -> Result<(), Fail> {
-    let mut storage = Storage::new(rt.alloc(), with_entries(rt.alloc())?, 1)?;
-    save(&mut storage, 0x4000, 0x100)?;
-    save(&mut storage, 0x4040, 0x200)?;
-    let sys = Sys {
-        push: push(0x5010, 0x3002, 0x5050),
-        target: 0x1104,
-        pc: 0x1F_2003,
-        switched: true,
-    };
-    assert_eq!(rt; call(&storage, 0xB00), Ok(sys));
-    // The entry is at 4044, in the frame that is held, or at 4004, in the one that was spilled.
-    assert_eq!(rt; call(&storage, 0x4000), Err(CallsStop::Hazard(0x4044)));
-    assert_eq!(rt; call(&storage, 0x3FC0), Err(CallsStop::Hazard(0x4004)));
-
-    let division = Fault {
-        kind: 3,
-        subtype: 2,
-        address: 0x1000,
-    };
-    let entry = Entry {
-        push: push(0x3050, 0x3001, 0x3090),
-        target: 0x1100,
-        pc: 0x1F_2002,
-        words: [0x1F_2002, 0x8000, 0x0003_0002, 0x1000],
-    };
-    assert_eq!(rt;
-        storage.plan_fault(0x900, 0xB00, &division, 0x1F_2002, 0x8000, 0x3000, 0x3040),
-        Ok(entry)
-    );
-
-    // The record gives back PC and AC; then only the youngest frame is returned to.
-    let pop = Pop {
-        frame: 0x4040,
-        live: true,
-        pc: 0x0D_2402,
-        ac: 0x1005,
-        check: false,
-    };
-    assert_eq!(rt;
-        storage.plan_ret(0x4041, 0x5050, 0x1F_2003, 0x8001),
-        Ok(pop)
-    );
-    assert_eq!(rt;
-        storage.plan_ret(0x4001, 0x5050, 0x1F_2003, 0x8001),
-        Err(0x4000)
-    );
-    Ok(())
-}
-
-/// Storage with an interrupt table at 6000, in which software asks for vectors 18 and 23, both of
-/// priority 2, and for one of priority 1. The handler of vector 23 is at 1100. The frame at 4040 is
-/// held, and the one at 4000 was spilled.
-fn with_requests(alloc: Global) -> Result<Storage, Fail>
-    ensures { IfOk result (λ s. IsDrained s) }
-{
-    let mut memory = memory(alloc);
-    put_words(&mut memory, 0x6000, &[0x06, 0x0084_0000])?;
-    put_words(&mut memory, 0x6060, &[0x1103])?;
-    let mut storage = Storage::new(alloc, memory, 1)?;
-    save(&mut storage, 0x4000, 0x100)?;
-    save(&mut storage, 0x4040, 0x200)?;
-    Ok(storage)
-}
-
-/// The choice of a vector that software asks for.
-fn soft(vector: u8) -> Chosen {
-    Chosen {
-        vector,
-        cause: Cause::Soft,
-    }
-}
-
-#[test]
-fn chooses_and_asks_beside_held_frames(rt: HostRuntime) -> Result<(), Fail> {
-    let storage = with_requests(rt.alloc())?;
-    let ints = Ints::new();
-    // The table, PC, and what is chosen: the requests are in no frame, in the frame that is held, or
-    // in the one that was spilled.
-    let rows = [
-        (0x6000, 0x0001_0000, Ok(Some(soft(23)))),
-        (0x6000, 0x0002_0000, Ok(None)),
-        (0x4040, 0, Err(0x4040)),
-        (0x3FE0, 0, Err(0x4000)),
-    ];
-    for (table, pc, wanted) in rows {
-        assert_eq!(rt; storage.choose_soft(&ints, table, pc), wanted);
-    }
-    // The table, the vector, and the bytes of its priority and of its vectors.
-    let rows = [
-        (0x6000, 16, Ok([(0x6000, 0x06), (0x6006, 0x85)])),
-        (0x6000, 250, Ok([(0x6003, 0x80), (0x6023, 0x04)])),
-        (0x4040, 16, Err(0x4040)),
-        (0x3FFC, 16, Err(0x4002)),
-    ];
-    for (table, vector, wanted) in rows {
-        assert_eq!(rt; storage.plan_request(table, vector), wanted);
-    }
-    Ok(())
-}
-
-/// What the entry of an interrupt makes by an interrupt table.
-fn entered(storage: &Storage, table: u32, chosen: &Chosen) -> Result<IntEntry, u32>
-    requires { IsDrained storage.now }
-{
-    storage.plan_interrupt(
-        &Ints::new(),
-        table,
-        0x8008,
-        chosen,
-        0x0001_2403,
-        0x8084,
-        0x3004,
-        0x3041,
-    )
-}
-
-#[test]
-fn enters_interrupts_beside_held_frames(rt: HostRuntime) -> Result<(), Fail> {
-    let storage = with_requests(rt.alloc())?;
-    let wanted = IntEntry {
-        push: push(0x3060, 0x3007, 0x30A0),
-        target: 0x1100,
-        pc: 0x0002_2002,
-        words: [0x0001_2403, 0x8084, 23, 0],
-    };
-    assert_eq!(rt; entered(&storage, 0x6000, &soft(23)), Ok(wanted));
-    // The word of the vector is in the frame that is held, or in the one that was spilled.
-    assert_eq!(rt; entered(&storage, 0x3FE0, &soft(23)), Err(0x4040));
-    assert_eq!(rt; entered(&storage, 0x3FA0, &soft(23)), Err(0x4000));
-    Ok(())
 }
 
 /// The bytes that clear what chose an interrupt, once it is entered by the interrupt table at 6000.
-fn cleared(storage: &Storage, chosen: &Chosen) -> Result<ArrayVec<(u32, u8), 2>, Fail>
-    requires { IsDrained storage.now }
-{
-    match storage.plan_interrupt(&Ints::new(), 0x6000, 0x8008, chosen, 0, 0, 0x3000, 0x3040) {
-        Ok(entry) => Ok(storage.clearing_bytes(0x6000, chosen, &entry)),
-        Err(_) => Err("a hazard".into()),
+fn clearing_text(alloc: Global, storage: &Storage, c: &Chosen) -> Told {
+    drained(storage)?;
+    match storage.plan_interrupt(&Ints::new(), 0x6000, 0x8008, c, 0, 0, 0x3000, 0x3040) {
+        Ok(entry) => {
+            let bytes = storage.clearing_bytes(0x6000, c, &entry);
+            places_text(alloc, bytes.as_slice())
+        }
+        Err(a) => hazard_text(alloc, a),
     }
 }
 
+/// The answer to a question about the frames of calls, returns and faults.
+fn call_answer(alloc: Global, storage: &Storage, name: &str, numbers: &[u32]) -> Told {
+    drained(storage)?;
+    match (name, numbers) {
+        ("calls", &[table, n, pc, fp, sp]) => {
+            sys_text(alloc, storage.plan_calls(table, n, pc, fp, sp))
+        }
+        ("ret", &[pfp, fp, pc, ac]) => pop_text(alloc, storage.plan_ret(pfp, fp, pc, ac)),
+        ("fault", &[table, system, pc, ac, fp, sp]) => {
+            let planned = storage.plan_fault(table, system, &DIVISION, pc, ac, fp, sp);
+            entry_text(alloc, planned)
+        }
+        _ => Err("no such question".into()),
+    }
+}
+
+/// The answer to a question about interrupts.
+fn interrupt_answer(alloc: Global, storage: &Storage, name: &str, numbers: &[u32]) -> Told {
+    drained(storage)?;
+    let ints = Ints::new();
+    match (name, numbers) {
+        ("choose", &[table, pc]) => chosen_text(alloc, storage.choose_soft(&ints, table, pc)),
+        ("request", &[table, v]) => {
+            request_text(alloc, storage.plan_request(table, u8::try_from(v)?))
+        }
+        ("interrupt", &[table, stack, pc, ac, fp, sp]) => {
+            let planned = storage.plan_interrupt(&ints, table, stack, &SOFT, pc, ac, fp, sp);
+            entry_text(alloc, planned.map_err(FaultStop::Hazard))
+        }
+        ("clearing_soft", []) => clearing_text(alloc, storage, &SOFT),
+        ("clearing_line_5", []) => {
+            let cause = Cause::Line(5);
+            clearing_text(alloc, storage, &Chosen { cause, ..SOFT })
+        }
+        _ => call_answer(alloc, storage, name, numbers),
+    }
+}
+
+/// A group of a control table, behind a flush.
+fn group_text(alloc: Global, storage: &mut Storage, table: u32, n: u8) -> Told {
+    if n > 6 {
+        return Err("no such group".into());
+    }
+    drained(storage)?;
+    storage.flush();
+    match storage.control_group(table, n) {
+        Ok(words) => words_text(alloc, &words),
+        Err(a) => hazard_text(alloc, a),
+    }
+}
+
+/// What start-up reads: the first address, the words of the PRCB and the number of sets, and those of the control table.
+fn setup_text(alloc: Global, s: &Setup) -> Told {
+    let memory = words_text(alloc, &[s.first, s.fault_table, s.control_table, s.ac])?;
+    let words = [s.fault_config, s.interrupt_table, s.system_table];
+    let words = words_text(alloc, &words)?;
+    let control = words_text(alloc, &s.control)?;
+    Ok(format!(in alloc;
+        "{memory} {words} {:X} {:X} control {control}",
+        s.interrupt_stack, s.sets
+    )?)
+}
+
+/// A start anew, behind a flush.
+fn reinit_text(alloc: Global, storage: &mut Storage, first: u32, prcb: u32) -> Told {
+    drained(storage)?;
+    storage.flush();
+    match storage.reinit(first, prcb) {
+        Ok(setup) => setup_text(alloc, &setup),
+        Err(a) => hazard_text(alloc, a),
+    }
+}
+
+/// The answer to a question about memory.
+fn memory_answer(alloc: Global, storage: &Storage, name: &str, numbers: &[u32]) -> Told {
+    match (name, numbers) {
+        ("byte", &[a]) => hex_text(alloc, u32::from(storage.byte(a))),
+        ("half", &[a]) => hex_text(alloc, u32::from(storage.half(a))),
+        ("word", &[a]) => word_text(alloc, storage, a),
+        ("hard_words", &[a]) => hard_words_text(alloc, storage, a),
+        ("frame_words", &[a]) => words_text(alloc, &storage.frame_words(a)),
+        ("frame_word", &[a, k]) if k < 16 => hex_text(alloc, storage.frame_word(a, k as u8)),
+        ("acted_byte", &[a]) => hex_text(alloc, u32::from(storage.acted_byte(a))),
+        _ => interrupt_answer(alloc, storage, name, numbers),
+    }
+}
+
+/// The answer to a question.
+fn answer(alloc: Global, storage: &mut Storage, question: &str) -> Told {
+    let (name, numbers) = named(question);
+    let numbers = hex_words(alloc, numbers)?;
+    match (name, numbers.as_slice()) {
+        ("sets", []) => sets_text(alloc, storage.sets()),
+        ("is_drained", []) => Ok(format!(in alloc; "{}", storage.is_drained())?),
+        ("soft", &[a]) => Ok(format!(in alloc; "{}", storage.watch().soft(a))?),
+        ("big", &[region]) if region < 16 => {
+            Ok(format!(in alloc; "{}", storage.big(region as u8))?)
+        }
+        ("group", &[table, n]) => group_text(alloc, storage, table, u8::try_from(n)?),
+        ("reinit", &[first, prcb]) => reinit_text(alloc, storage, first, prcb),
+        (_, numbers) => memory_answer(alloc, storage, name, numbers),
+    }
+}
+
+/// Does the steps of a row, and answers its questions.
+fn answers(alloc: Global, storage: &mut Storage, steps: &str, questions: &str) -> Told {
+    for step in steps.split(',') {
+        does(alloc, storage, step)?;
+    }
+    let mut text = String::new(alloc);
+    for question in questions.split(',') {
+        add(&mut text, ", ", &answer(alloc, storage, question)?)?;
+    }
+    Ok(text)
+}
+
+/// Frames that are saved, held, spilled, flushed and returned to.
+const FRAMES: &str = "\
+zeros, save 1000 100, save 1040 200 | sets | 2 of 2 1040 1000
+save 1080 300 | sets | 2 of 2 1080 1040 | the oldest of three goes to memory
+ | word 1000, word 103C, word 1040, byte 1085, half 10BC | 100, 10F, 200, 3, 30F
+ | frame_words 1080 | 300 301 302 303 304 305 306 307 308 309 30A 30B 30C 30D 30E 30F | the youngest
+ | frame_words 1000 | 100 101 102 103 104 105 106 107 108 109 10A 10B 10C 10D 10E 10F | in memory
+ | frame_words 1020 | 108 109 10A 10B 10C 10D 10E 10F 200 201 202 203 204 205 206 207 | in part
+ | frame_word 1080 2, frame_word 1000 F | 302, 10F
+ | word 107E | 3000000 | the last two bytes of a frame, and the first two of the next
+return | sets, word 1080, soft 1080 | 1 of 2 1040, 0, true | memory never gets it
+return | word 1040 | 0
+return | sets, word 1000, frame_word 1000 2, soft 1000 | 0 of 2, 100, 102, true
+ | frame_words 1000 | 100 101 102 103 104 105 106 107 108 109 10A 10B 10C 10D 10E 10F
+zeros, save 1000 100, save 1040 200, save 1080 300, return, flush | sets | 0 of 2 | two are written
+ | word 1000, word 107C, word 1080, soft 1000, soft 1080 | 100, 20F, 0, false, true
+zeros, save 1000 100, flush, save 1000 200 | word 1004 | 201 | it hides what memory has there
+return | word 1004 | 101
+zeros, save 1000 100, restart 1 | sets, word 1000, soft 1000 | 0 of 1, 100, false
+save 1000 200, save 1040 300 | sets, word 1000 | 1 of 1 1040, 200 | other sets take over
+return | word 1040, word 1000 | 0, 200
+";
+
+/// Stores beside the frames, whose bytes are soft no more, and region 1, which is big-endian, of memory and of frames.
+const STORES: &str = "\
+zeros, save 1000 100, return, save 1040 200, store_word 103C 12345678 | soft 103B, soft 103C, half 103E | true, false, 1234
+ | word 103E | 2001234 | the last two bytes of the word, and the first two of the frame
+store_word E0000010 12345678 | word E0000010 | 0
+zeros, store_word 10000000 12345678, store_half 10000004 9ABC | hard_words 10000000 | 12345678 9ABC0000 0 0
+ | hard_words FFFFFF8 | 0 0 12345678 9ABC0000
+ | byte 10000000, byte 10000005, half 10000002, word 10000002 | 12, BC, 5678, 56789ABC
+store_half 20000004 9ABC | byte 20000005 | 9A
+save 10000040 1020304 | byte 10000040, half 10000046 | 1, 305
+ | frame_word 10000040 1, word 1000007C | 1020305, 1020313
+save FFFFFFE0 100 | byte FFFFFFFC, word 0, word FFFFFFFE | 7, 108, 1080000 | it runs on to 0
+waiting, land 4, land 5, land 6, land 7, land 8, land 9, flush | word 103E, acted_byte 1041 | 2001433, 2
+";
+
+/// Calls, faults and returns beside a frame that is held at 4040 and one that was spilled at 4000: a hazard is in one of
+/// them. The record gives back PC and AC; then only the youngest frame is returned to.
+const PLANS: &str = "\
+entries, save 4000 100, save 4040 200 | calls B00 5 1F2000 3004 3051 | 1104 1F2003 true saves 3000 5010 3002 5050
+ | calls 4000 5 1F2000 3004 3051, calls 3FC0 5 1F2000 3004 3051 | hazard 4044, hazard 4004
+ | fault 900 B00 1F2002 8000 3000 3040 | 1100 1F2002 saves 3000 3050 3001 3090 record 1F2002 8000 30002 1000
+ | ret 4041 5050 1F2003 8001, ret 4001 5050 1F2003 8001 | 4040 D2402 1005 true false, hazard 4000
+requests, save 4000 100, save 4040 200 | choose 6000 10000, choose 6000 20000 | 17 Soft, none
+ | choose 4040 0, choose 3FE0 0 | hazard 4040, hazard 4000
+ | request 6000 10, request 6000 FA | 6000 06 6006 85, 6003 80 6023 04
+ | request 4040 10, request 3FFC 10 | hazard 4040, hazard 4002
+ | interrupt 6000 8008 12403 8084 3004 3041 | 1100 22002 saves 3000 3060 3007 30A0 record 12403 8084 17 0
+ | interrupt 3FE0 8008 12403 8084 3004 3041, interrupt 3FA0 8008 12403 8084 3004 3041 | hazard 4040, hazard 4000
+ | clearing_line_5 |  | a line asks in no table
+ | clearing_soft | 6006 04 | of both vectors 18 is left
+tables, save 3040 100, return, save 1000 100, flush | group 3000 2, group 3000 4 | 0 0 400000 0, hazard 3040
+configure 3 400000 0 | big 1, big 2, big 3, big 4 | true, false, true, false
+ | reinit 1236 2000, big 1, big 2, big 3, big 4 | hazard 3040, true, false, true, false
+tables, save 1000 100, flush | reinit 1236 2000 | 1236 1110 3000 7 40000000 4440 5550 7770 7 \
+control A0 A1 A2 A3 0 0 0 0 0 0 400000 0 0 0 0 0 0 0 0 0 0 0 0 0 0 0 0 C3
+ | big 1, big 2, big 3, big 4, word 1000, soft 1000 | false, true, false, false, 100, false
+";
+
 #[test]
-fn clears_requests_beside_held_frames(rt: HostRuntime) -> Result<(), Fail> {
-    let storage = with_requests(rt.alloc())?;
-    // Of both vectors 18 is left.
-    let bytes = cleared(&storage, &soft(23))?;
-    assert_eq!(rt; bytes.as_slice(), [(0x6006, 0x04)].as_slice());
-    let line = Chosen {
-        vector: 23,
-        cause: Cause::Line(5),
-    };
-    let bytes = cleared(&storage, &line)?;
-    assert!(rt; bytes.is_empty());
+fn answers_rows(rt: HostRuntime) -> Result<(), Fail> {
+    let mut storage = with_waiting(rt.alloc())?;
+    for row in FRAMES.lines().chain(STORES.lines()).chain(PLANS.lines()) {
+        let (steps, questions, wanted) = columns(row)?;
+        let told = answers(rt.alloc(), &mut storage, steps, questions)?;
+        assert_eq!(rt; told.as_str(), wanted, "{row}");
+    }
     Ok(())
 }
 
-/// A processor control block (PRCB) that names a control table at 3000 and asks for seven sets.
-const PRCB: [u32; 10] = [
-    0x1110,
-    0x3000,
-    0xFFFF_6EFF,
-    0x4000_0000,
-    0x4440,
-    0x5550,
-    0x6660,
-    0x7770,
-    0x8880,
-    0x9997,
-];
+/// What is read over what waits, at each turn.
+const READS: &str = "\
+ | byte 103C, byte 103D, byte 103E, byte 103F | 11, 12, 33, 14
+ | half 103C, half 103D, word 103C, frame_word 103C 0 | 1211, 3312, 14331211, 14331211
+ | half 103F, word 103E | 14, 2001433 | the last two bytes that wait, and the first two of the frame
+ | frame_words 1040 | 200 201 202 203 204 205 206 207 208 209 20A 20B 20C 20D 20E 20F
+ | byte 10000001, half 10000000, word 10000000 | 22, 2122, 21220000
+ | hard_words 1030 | 0 0 0 14331211
+ | hard_words FFFFFFC | 0 21220000 0 0
+ | soft 103F, soft 1040, sets | false, true, 1 of 2 1040
+";
 
-/// A control table that makes region 2 big-endian, and no other.
-const CONTROL: [u32; CONTROL_WORDS] = [
-    0xA0, 0xA1, 0xA2, 0xA3, 0, 0, 0, 0, 0, 0, BIG_ENDIAN, 0, 0, 0, 0, 0, 0, 0, 0, 0, 0, 0, 0, 0, 0,
-    0, 0, 0xC3,
-];
-
-/// Storage with nothing held, the PRCB at 2000 and the control table. Frames were returned to at
-/// the given frame pointers, so their bytes are soft.
-fn with_tables(alloc: Global, left: &[u32]) -> Result<Storage, Fail>
-    ensures { IfOk result (λ s. IsDrained s) }
-{
-    let mut memory = memory(alloc);
-    put_words(&mut memory, 0x2000, &PRCB)?;
-    put_words(&mut memory, 0x3000, &CONTROL)?;
-    let mut storage = Storage::new(alloc, memory, 2)?;
-    for fp in left {
-        save(&mut storage, *fp, 0x100)?;
-        storage.restore_frame();
+/// The first of these rows that is answered otherwise; nothing where none is.
+fn first_wrong(alloc: Global, storage: &mut Storage) -> Result<&'static str, Fail> {
+    for row in READS.lines() {
+        let (steps, questions, wanted) = columns(row)?;
+        if answers(alloc, storage, steps, questions)?.as_str() != wanted {
+            return Ok(row);
+        }
     }
-    drained(&storage)?;
-    Ok(storage)
+    Ok("")
 }
 
-/// Whether regions 1 to 4 are big-endian.
-fn orders(storage: &Storage) -> [bool; 4] {
-    [
-        storage.big(1),
-        storage.big(2),
-        storage.big(3),
-        storage.big(4),
-    ]
-}
+/// What is in memory before any turn, and at each one.
+const TURNS: &str = "\
+       | acted_byte 103C, acted_byte 103E, acted_byte 10000001, is_drained | 1, 3, 0, false
+land 4 | acted_byte 103C, acted_byte 103E, acted_byte 10000001, is_drained | 1, 3, 0, false
+land 5 | acted_byte 103C, acted_byte 103E, acted_byte 10000001, is_drained | 11, 13, 0, false
+land 6 | acted_byte 103C, acted_byte 103E, acted_byte 10000001, is_drained | 11, 13, 0, false
+land 7 | acted_byte 103C, acted_byte 103E, acted_byte 10000001, is_drained | 11, 13, 22, false
+land 8 | acted_byte 103C, acted_byte 103E, acted_byte 10000001, is_drained | 11, 13, 22, false
+land 9 | acted_byte 103C, acted_byte 103E, acted_byte 10000001, is_drained | 11, 33, 22, true
+";
 
 #[test]
-fn reads_tables_where_nothing_is_held(rt: HostRuntime) -> Result<(), Fail> {
-    let mut storage = with_tables(rt.alloc(), &[0x3040])?;
-    save(&mut storage, 0x1000, 0x100)?;
-    storage.flush();
-    assert_eq!(rt; storage.control_group(0x3000, 2), Ok([0, 0, BIG_ENDIAN, 0]));
-    assert_eq!(rt; storage.control_group(0x3000, 4), Err(0x3040));
-    storage.configure(3, &[BIG_ENDIAN, 0]);
-    assert_eq!(rt; orders(&storage), [true, false, true, false]);
-    assert_eq!(rt; storage.reinit(0x1236, 0x2000), Err(0x3040));
-    assert_eq!(rt; orders(&storage), [true, false, true, false]);
-
-    let mut storage = with_tables(rt.alloc(), &[])?;
-    save(&mut storage, 0x1000, 0x100)?;
-    storage.flush();
-    let setup = Setup {
-        first: 0x1236,
-        fault_table: 0x1110,
-        control_table: 0x3000,
-        ac: 0x0000_0007,
-        fault_config: 0x4000_0000,
-        interrupt_table: 0x4440,
-        system_table: 0x5550,
-        interrupt_stack: 0x7770,
-        sets: 7,
-        control: CONTROL,
-    };
-    assert_eq!(rt; storage.reinit(0x1236, 0x2000), Ok(setup));
-    assert_eq!(rt; orders(&storage), [false, true, false, false]);
-    assert_eq!(rt; storage.word(0x1000), 0x100);
-    assert_eq!(rt;
-        (storage.watch().soft(0x1000), hard(&storage, 0x1000, 0x100)),
-        (false, true)
-    );
+fn reads_over_what_waits(rt: HostRuntime) -> Result<(), Fail> {
+    let mut storage = with_waiting(rt.alloc())?;
+    for row in TURNS.lines() {
+        let (steps, questions, wanted) = columns(row)?;
+        let told = answers(rt.alloc(), &mut storage, steps, questions)?;
+        let wrong = first_wrong(rt.alloc(), &mut storage)?;
+        assert_eq!(rt; (told.as_str(), wrong), (wanted, ""), "{row}");
+    }
     Ok(())
 }

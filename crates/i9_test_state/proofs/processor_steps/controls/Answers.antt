@@ -14,7 +14,7 @@ use Rattle.i9_processor.specs.declared.effect.Control.TheVariants as kinds
 use Rattle.i9_processor.specs.Effect.{action_in, requests_in, CanControl}
 use Rattle.i9_processor.specs.State.{state_of}
 use Rattle.i9_model.proofs.AlikeSteps.{none_wrote}
-use Rattle.i9_test_state.proofs.processor.controls.Goals as goal
+use Rattle.i9_test_state.proofs.processor_steps.controls.Goals as goal
 
 -- behind a mere flush the tables are read as they are
 behind : (c : Control) (s : State) (a : Action) → a.move ≡ Flushes → a.writes ≡ [] → CanControl (record s { frames = flushed s.frames }) c → CanControl (moved s a) c

@@ -7,7 +7,7 @@ use Rattle.i9_regs.specs.Covered.{StartsAnew, IsCovered}
 use Rattle.i9_processor.specs.declared.effect.Effect.{Effect}
 use Rattle.i9_processor.specs.Effect.{action_in}
 use Rattle.i9_processor.specs.State.{state_of}
-use Rattle.i9_test_state.proofs.processor.stores_late.Goals as goal
+use Rattle.i9_test_state.proofs.processor_steps.stores_late.Goals as goal
 
 -- no register is set, and the controls stay
 none_covered : (s : State) (next : ℕ) (a : Action) → a.sets ≡ [] → a.ac ≡ s.ac → a.control ≡ (going s next).control

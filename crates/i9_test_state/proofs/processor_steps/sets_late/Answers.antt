@@ -8,7 +8,7 @@ use Rattle.i9_model.specs.Writes.{last_put, pairs_at}
 use Rattle.i9_regs.specs.Covered.{StartsAnew, IsCovered}
 use Rattle.i9_processor.specs.Effect.{action_in}
 use Rattle.i9_processor.specs.State.{state_of}
-use Rattle.i9_test_state.proofs.processor.sets_late.Goals as goal
+use Rattle.i9_test_state.proofs.processor_steps.sets_late.Goals as goal
 
 -- r4 alone is set
 beside_by : (r v : ℕ) (b : Bool) → eqb r 4 ≡ b → bit_at 16 r ≡ 0 → cond b (Some v) None ≡ None

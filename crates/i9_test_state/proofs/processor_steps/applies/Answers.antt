@@ -3,7 +3,7 @@ use Rattle.std.specs.Int.{bit_at}
 use Rattle.std.proofs.lemmas.Nat.Bits.{bit_at_ones}
 use Rattle.i9_model.specs.Late.{resources}
 use Rattle.i9_model.proofs.TurnTests.{one-set}
-use Rattle.i9_test_state.proofs.processor.applies.Goals as goal
+use Rattle.i9_test_state.proofs.processor_steps.applies.Goals as goal
 
 -- all resources
 whole : (r : ℕ) → r < resources → bit_at 18446744073709551615 r ≡ 1
