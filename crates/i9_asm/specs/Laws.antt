@@ -3,26 +3,11 @@ use Rattle.std.specs.Prelude.{◌≡◌, ℕ, ◌+◌, ◌^◌, ◌<◌, ◌≤�
 use Rattle.std.specs.List.{AllByRecursion}
 use Rattle.i9_text.specs.FirstFault.{SaysAll, IsRefused}
 use Rattle.i9_text.specs.Text.{lines_of}
-use Rattle.i9_model.specs.Writes.{last_put}
 use Rattle.i9_model.specs.Image.{Part, pairs_of}
+use Rattle.i9_runs.specs.Runs.{SaySameBytes}
 use Rattle.i9_asm.specs.Lines.{label_of}
 use Rattle.i9_asm.specs.Places.{Place, past_label, all_names}
 use Rattle.i9_asm.specs.Source.{Source, start_source, fault_of, Assembles, segments_of}
-
--- bytes
-abbrev pub IsLow : List ℕ → Type 0
-IsLow bs = AllByRecursion (λ b. b < 256) bs
-
--- a run of bytes in the address space
-pub record IsRun (run : Part) : Type 0 where
-  pub inside : run.address + length run.bytes ≤ 2 ^ 32
-  pub some : 0 < length run.bytes
-  pub low : IsLow run.bytes
-
--- how many bytes runs have
-abbrev pub bytes_in : List Part → ℕ
-bytes_in [] = 0
-bytes_in (run ∷ runs) = length run.bytes + bytes_in runs
 
 -- where a line of a source stands behind its label
 abbrev pub item_place : Source → List ℕ → Place
@@ -33,10 +18,6 @@ pub record IsAssembly (lines : List (List ℕ)) (segments : List Part) : Type 0 
   pub end : Source
   pub assembled : SaysAll (Assembles (all_names lines)) start_source lines end
   pub kept : segments_of end ≡ segments
-
--- pairs that say the same byte of each address, or none
-abbrev pub SaySameBytes : List (ℕ × ℕ) → List (ℕ × ℕ) → Type 0
-SaySameBytes pairs others = (a : ℕ) → last_put others a ≡ last_put pairs a
 
 -- a text whose lines assemble without fault, to the bytes of an image
 pub record Reassembles (image : List Part) (text : List ℕ) : Type 0 where

@@ -15,7 +15,7 @@ use Rattle.i9_value.specs.NumberText.{hex_text, hex_byte_text}
 use Rattle.i9_statement.specs.Statements.{statement_text}
 use Rattle.i9_statement.specs.Codes.{taken}
 use Rattle.i9_asm.specs.Lines.{hash}
-use Rattle.i9_asm.specs.Laws.{SaySameBytes, IsRun}
+use Rattle.i9_runs.specs.Runs.{AreRuns}
 
 -- ---- the statement of two words
 
@@ -99,22 +99,6 @@ pub data ListsAll : List Part → List (List ℕ) → Type 0 where
       → ListsAll (record { address = a; bytes = bs } ∷ runs) (org_line a ∷ (lines ++ more))
 
 -- ---- the listing of an image
-
--- between each run and those behind it there is at least one address
-abbrev pub AreApart : List Part → Type 0
-AreApart [] = ⊤
-AreApart (run ∷ runs) = AllByRecursion (λ later. run.address + length run.bytes < later.address) runs × AreApart runs
-
--- The maximal runs of the bytes that pairs say, in ascending order. The addresses between two of them have no byte, so
--- none can be longer; what goes on from FFFFFFFF to 0 is two runs.
-pub record AreRunsOf (pairs : List (ℕ × ℕ)) (runs : List Part) : Type 0 where
-  pub each : AllByRecursion IsRun runs
-  pub apart : AreApart runs
-  pub same : SaySameBytes pairs (pairs_of runs)
-
--- those of an image
-abbrev pub AreRuns : List Part → List Part → Type 0
-AreRuns image runs = AreRunsOf (pairs_of image) runs
 
 -- the listing of an image: the lines of its runs, each with a line feed behind it
 pub record IsListing (image : List Part) (text : List ℕ) : Type 0 where

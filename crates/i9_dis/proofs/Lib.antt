@@ -1,4 +1,2 @@
-pub mod Rising
-pub mod Joining
 pub mod Listed
 pub mod Printing

@@ -9,12 +9,14 @@ use Rattle.i9_statement.proofs.StatementWords.{one_or_two}
 use Rattle.i9_model.specs.Image.{Part, upwards, pairs_of, AreParts}
 use Rattle.i9_hex.specs.Writing.{with_line_feed}
 use Rattle.i9_asm.specs.Source.{most_bytes}
-use Rattle.i9_asm.specs.Laws.{IsLow, bytes_in, Reassembles}
-use Rattle.i9_asm.specs.Listing.{word_at, whole_size, is_single, line_size, first_line, Lists, lists_none, lists_line, org_line, ListsAll, lists_all, lists_run, AreRunsOf, AreRuns, IsListing}
+use Rattle.i9_asm.specs.Laws.{Reassembles}
+use Rattle.i9_asm.specs.Listing.{word_at, whole_size, is_single, line_size, first_line, Lists, lists_none, lists_line, org_line, ListsAll, lists_all, lists_run, IsListing}
 use Rattle.i9_asm.proofs.ReadListing.{line_size-le, text_is_assembly}
 use Rattle.i9_dis.specs.Printed.{AddsRuns}
-use Rattle.i9_dis.proofs.Rising.{ArePlaced, in_order, in_order_rises, in_order_placed, in_order_says}
-use Rattle.i9_dis.proofs.Joining.{joined, joined_runs, runs_once}
+use Rattle.i9_runs.specs.Runs.{IsLow, bytes_in, AreRunsOf, AreRuns}
+use Rattle.i9_runs.proofs.Rising.{ArePlaced, in_order, in_order_rises, in_order_placed, in_order_says}
+use Rattle.i9_runs.proofs.Joining.{joined, joined_runs, runs_once}
+use Rattle.i9_runs.proofs.Placed.{image_placed}
 
 -- ---- the lines of a run
 
@@ -97,26 +99,6 @@ lists_all_some (run ∷ runs) =
     (org_line run.address ∷ (first.0 ++ more.0), lists_run run.address run.bytes runs first.0 more.0 first.1 more.1)
 
 -- ---- the listing of an image
-
--- the pairs of an image stand in the address space
-placed_run : (a : ℕ) (bs : List ℕ) (ps : List (ℕ × ℕ)) → AllByRecursion (λ (p : ℕ × ℕ). p.1 < 256) (upwards a bs ++ ps) → (AllByRecursion (λ (p : ℕ × ℕ). p.1 < 256) ps → ArePlaced ps) → ArePlaced (upwards a bs ++ ps)
-placed_run a [] ps low rest = rest low
-placed_run a (b ∷ bs) ps low rest = (record { address = omega arith; byte = low.0 }, placed_run (a + 1) bs ps low.1 rest)
-
-pub image_placed : (image : List Part) → AllByRecursion (λ (p : ℕ × ℕ). p.1 < 256) (pairs_of image) → ArePlaced (pairs_of image)
-unfolding pairs_of
-image_placed [] low = tt
-image_placed (part ∷ image) low = placed_run part.address part.bytes (pairs_of image) low (image_placed image)
-
--- so do those of segments
-placed_bytes : (a : ℕ) (bs : List ℕ) (ps : List (ℕ × ℕ)) → IsLow bs → ArePlaced ps → ArePlaced (upwards a bs ++ ps)
-placed_bytes a [] ps low rest = rest
-placed_bytes a (b ∷ bs) ps low rest = (record { address = omega arith; byte = low.0 }, placed_bytes (a + 1) bs ps low.1 rest)
-
-pub parts_placed : (image : List Part) → AreParts image → ArePlaced (pairs_of image)
-unfolding pairs_of
-parts_placed [] h = tt
-parts_placed (part ∷ image) h = placed_bytes part.address part.bytes (pairs_of image) h.0.bytes (parts_placed image h.1)
 
 pub some_listing : (image : List Part) → AllByRecursion (λ (p : ℕ × ℕ). p.1 < 256) (pairs_of image) → (text : List ℕ) × IsListing image text
 some_listing image low =

@@ -5,7 +5,6 @@
 mod images;
 mod laws;
 mod lines;
-mod runs;
 mod words;
 
 pub use images::listing;

@@ -1,0 +1,162 @@
+-- What reading a file answers: the image that it says, or its first fault.
+use Rattle.std.proofs.Common.{◌≡◌, ℕ, zero, suc, ◌+◌, ◌*◌, ◌<◌, ◌≤◌, ◌⊎◌, inl, inr, Bool, true, false, cond, not, ltb, eqb, ◌||◌, ◌&&◌, List, [], ◌∷◌, ◌++◌, length, take, Option, Some, None, Result, Ok, Err, refl, sym, ap, subst, ◌∙◌, arith, IfOk, IfErr}
+use Rattle.std.specs.List.{flat_map}
+use Rattle.std.proofs.lemmas.Bool.{cases_Bool, eqb-true, ltb-false, le-ltb}
+use Rattle.i9_model.specs.Image.{Part, pairs_of}
+use Rattle.i9_model.specs.HexText.{most_bytes}
+use Rattle.i9_elf.specs.Files.{magic, file_header_size, class_of, bits_32, order_of, low_first, type_of, executable, machine_of, i960, header_count, header_size_of, header_size, headers_place, has_headers, loads_of, memory_size, loaded_pairs, IsImage, fault_of_file, fault_of_load, IsRefused, at_file, at_load}
+use Rattle.i9_elf.specs.declared.error.ElfError.{ElfError}
+use Rattle.i9_elf.specs.declared.error.ElfError.TheVariants.{Bad, Memory}
+use Rattle.i9_elf.specs.Reading.{or_refused, load_all, answer_of, Reads, IfBad}
+use Rattle.i9_elf.proofs.Loads.{and_some, some_and, FitAll, Stops, load_all-ok, ok-load_all, load_all-err, err-load_all}
+
+-- ---- the file before its program headers are looked at
+
+if_none : (b : Bool) (k : ℕ) (o : Option ℕ) → cond b (Some k) o ≡ None → (b ≡ false) × (o ≡ None)
+if_none true k o e = absurd cc
+if_none false k o e = (refl, e)
+
+is_same : (a b : ℕ) → not (eqb a b) ≡ false → a ≡ b
+is_same a b e = elim (cases_Bool (eqb a b)) [
+  | inl same ↦ eqb-true a b same
+  | inr other ↦ absurd (cc (rw other at e))
+]
+
+same_not : (a b : ℕ) → a ≡ b → not (eqb a b) ≡ false
+same_not a b e = grind arith
+
+-- a file without fault
+pub record Fine (file : List ℕ) : Type 0 where
+  pub long : file_header_size ≤ length file
+  pub class : class_of file ≡ bits_32
+  pub order : order_of file ≡ low_first
+  pub program : type_of file ≡ executable
+  pub machine : machine_of file ≡ i960
+  pub size : 0 < header_count file → header_size_of file ≡ header_size
+  pub inside : 0 < header_count file → headers_place file + header_size * header_count file ≤ length file
+
+pub fine_file : (file : List ℕ) → fault_of_file file ≡ None → Fine file
+unfolding fault_of_file
+fine_file file none =
+    let a = if_none (ltb (length file) file_header_size) _ _ none in
+    let b = if_none (not (eqb (class_of file) bits_32)) _ _ a.1 in
+    let c = if_none (not (eqb (order_of file) low_first)) _ _ b.1 in
+    let d = if_none (not (eqb (type_of file) executable)) _ _ c.1 in
+    let e = if_none (not (eqb (machine_of file) i960)) _ _ d.1 in
+    let f = if_none (has_headers file && not (eqb (header_size_of file) header_size)) _ _ e.1 in
+    let g = if_none (has_headers file && ltb (length file) (headers_place file + header_size * header_count file)) _ _ f.1 in
+    record {
+      long = ltb-false _ _ a.0;
+      class = is_same _ _ b.0;
+      order = is_same _ _ c.0;
+      program = is_same _ _ d.0;
+      machine = is_same _ _ e.0;
+      size = λ some. is_same _ _ (and_some (header_count file) _ f.0 some);
+      inside = λ some. ltb-false _ _ (and_some (header_count file) _ g.0 some);
+    }
+
+no_fault : (file : List ℕ) → Fine file → fault_of_file file ≡ None
+unfolding fault_of_file
+no_fault file fine =
+    let a : ltb (length file) file_header_size ≡ false = le-ltb _ _ fine.long in
+    let b = same_not _ _ fine.class in
+    let c = same_not _ _ fine.order in
+    let d = same_not _ _ fine.program in
+    let e = same_not _ _ fine.machine in
+    let f : (has_headers file && not (eqb (header_size_of file) header_size)) ≡ false = some_and (header_count file) _ (λ some. same_not _ _ (fine.size some)) in
+    let g : (has_headers file && ltb (length file) (headers_place file + header_size * header_count file)) ≡ false = some_and (header_count file) _ (λ some. le-ltb _ _ (fine.inside some)) in
+    rw (a, b, c, d, e, f, g) refl
+
+-- each header stands in the file
+pub header_inside : (file : List ℕ) (place count index : ℕ) → fault_of_file file ≡ None → place ≡ headers_place file → count ≡ header_count file → index < count → place + header_size * index + header_size ≤ length file
+header_inside file place count index none at many lt = let inside = (fine_file file none).inside (omega (arith, many)) in omega (arith, at, many, inside)
+
+-- ---- the answer is what the definitions say
+
+refused_err : {X : Type 0} (o : Option ℕ) (rest : Result X ℕ) (kind : ℕ) → or_refused o rest ≡ Err kind → (o ≡ Some kind) ⊎ ((o ≡ None) × (rest ≡ Err kind))
+refused_err None rest kind e = inr (refl, e)
+refused_err (Some k) rest kind e = inl cc
+
+refused_ok : {X : Type 0} (o : Option ℕ) (rest : Result X ℕ) (x : X) → or_refused o rest ≡ Ok x → (o ≡ None) × (rest ≡ Ok x)
+refused_ok None rest x e = (refl, e)
+refused_ok (Some kind) rest x e = absurd cc
+
+answer-image : (file : List ℕ) (pairs : List (ℕ × ℕ)) → take 4 file ≡ magic → answer_of file ≡ Ok pairs → IsImage file pairs
+answer-image file pairs begins e =
+    let both = refused_ok (fault_of_file file) _ pairs e in
+    let fine = fine_file file both.0 in
+    let fit = load_all-ok file 0 [] (loads_of file) pairs (omega arith) both.1 in
+    record {
+      begins = begins;
+      long = fine.long;
+      class = fine.class;
+      order = fine.order;
+      program = fine.program;
+      machine = fine.machine;
+      size = fine.size;
+      inside = fine.inside;
+      loads = fit.loads;
+      room = omega (arith, fit.room);
+      same = fit.same;
+    }
+
+image-answer : (file : List ℕ) (pairs : List (ℕ × ℕ)) → IsImage file pairs → answer_of file ≡ Ok pairs
+image-answer file pairs i =
+    let none = no_fault file (record { long = i.long; class = i.class; order = i.order; program = i.program; machine = i.machine; size = i.size; inside = i.inside }) in
+    let fit : FitAll file 0 [] (loads_of file) pairs = record { loads = i.loads; room = omega (arith, i.room); same = i.same } in
+    rw none (ok-load_all file 0 [] (loads_of file) pairs fit)
+
+pub answer-refused : (file : List ℕ) (kind : ℕ) → answer_of file ≡ Err kind → IsRefused file kind
+answer-refused file kind e = elim (refused_err (fault_of_file file) _ kind e) [
+  | inl first ↦ at_file kind first
+  | inr later ↦
+      let s = load_all-err file 0 [] (loads_of file) kind (omega arith) later.1 in
+      at_load s.front s.at s.back kind later.0 s.are s.loads (omega (arith, s.room)) (ap (λ (n : ℕ). fault_of_load file n s.at) (omega arith) ∙ s.fault)
+]
+
+refused-answer : (file : List ℕ) (kind : ℕ) → IsRefused file kind → answer_of file ≡ Err kind
+refused-answer file _ (at_file kind fault) = rw fault refl
+refused-answer file _ (at_load front h back kind none are loads room fault) =
+    rw none (ap (load_all file 0 []) are ∙ err-load_all file 0 [] front h back kind loads (omega (arith, room)) (ap (λ (n : ℕ). fault_of_load file n h) (omega arith) ∙ fault))
+
+-- where the file has a fault by itself, or none
+pub answer-at_fault : (file : List ℕ) (kind : ℕ) → fault_of_file file ≡ Some kind → answer_of file ≡ Err kind
+answer-at_fault file kind e = rw e refl
+
+pub answer-at_loads : (file : List ℕ) → fault_of_file file ≡ None → answer_of file ≡ load_all file 0 [] (loads_of file)
+answer-at_loads file e = rw e refl
+
+-- ---- each file has one answer
+
+some_by : (file : List ℕ) (r : Result (List (ℕ × ℕ)) ℕ) → take 4 file ≡ magic → answer_of file ≡ r → ((pairs : List (ℕ × ℕ)) × IsImage file pairs) ⊎ ((kind : ℕ) × IsRefused file kind)
+some_by file (Ok pairs) begins e = inl (pairs, answer-image file pairs begins e)
+some_by file (Err kind) begins e = inr (kind, answer-refused file kind e)
+
+pub some_answer : (file : List ℕ) → take 4 file ≡ magic → ((pairs : List (ℕ × ℕ)) × IsImage file pairs) ⊎ ((kind : ℕ) × IsRefused file kind)
+some_answer file begins = some_by file (answer_of file) begins refl
+
+pub image_apart : (file : List ℕ) (pairs : List (ℕ × ℕ)) (kind : ℕ) → IsImage file pairs → IsRefused file kind → ⊥
+image_apart file pairs kind image bad = let a = image-answer file pairs image in let b = refused-answer file kind bad in cc
+
+pub one_image : (file : List ℕ) (ps qs : List (ℕ × ℕ)) → IsImage file ps → IsImage file qs → ps ≡ qs
+one_image file ps qs p q = let a = image-answer file ps p in let b = image-answer file qs q in cc
+
+pub one_fault : (file : List ℕ) (f g : ℕ) → IsRefused file f → IsRefused file g → f ≡ g
+one_fault file f g p q = let a = refused-answer file f p in let b = refused-answer file g q in cc
+
+-- ---- the clauses of the reader
+
+pub found : (file : List ℕ) (r : Result (List Part) ElfError) → take 4 file ≡ magic → Reads r (answer_of file) → IfOk r (λ image. IsImage file (pairs_of image))
+found file (Ok x) begins h = answer-image file (pairs_of x) begins h
+found file (Err e) begins h = tt
+
+pub only : (file : List ℕ) (r : Result (List Part) ElfError) → Reads r (answer_of file) → (pairs : List (ℕ × ℕ)) → IsImage file pairs → Reads r (Ok pairs)
+only file r h pairs image = subst (λ (a : Result (List (ℕ × ℕ)) ℕ). Reads r a) (image-answer file pairs image) h
+
+pub refused : (file : List ℕ) (r : Result (List Part) ElfError) → Reads r (answer_of file) → IfErr r (λ e. IfBad e (λ kind. IsRefused file kind))
+refused file (Ok x) h = tt
+refused file (Err Memory) h = tt
+refused file (Err (Bad kind)) h = answer-refused file kind h
+
+pub first : (file : List ℕ) (r : Result (List Part) ElfError) → Reads r (answer_of file) → (kind : ℕ) → IsRefused file kind → Reads r (Err kind)
+first file r h kind bad = subst (λ (a : Result (List (ℕ × ℕ)) ℕ). Reads r a) (refused-answer file kind bad) h

@@ -1,0 +1,53 @@
+use Rattle.std.proofs.Common.{◌≡◌, ◌+◌, ◌-◌, ◌*◌, ◌<◌, ◌≤◌, arith, ap, ◌∙◌, sym, length, List}
+use Rattle.i9_model.specs.Image.{pairs_of}
+use Rattle.i9_elf.specs.Files.{header_of, headers_in, is_load, fault_of_load}
+use Rattle.i9_elf.specs.Reading.{plain, load_all, Reads}
+use Rattle.i9_elf.proofs.Answers.{fine_file, header_inside}
+use Rattle.i9_elf.proofs.Loads.{fits, begins_all, ends_all, next-other, next-load, next-fault}
+use Rattle.i9_elf.proofs.reading.load_all.Goals.{then-is_load+in_default+in-Ok, else-is_load}
+use Rattle.i9_elf.proofs.reading.load_all.Goals as goal
+
+pub headers_of-place-requires : goal.headers_of-place-requires
+headers_of-place-requires c = (fine_file c.args.file.now c.requires).long
+
+pub loop-index-init : goal.loop-index-init
+loop-index-init c = record {
+  same = begins_all c.args.file.now c.headers_of-place.result.0 c.headers_of-place.result.1 c.new-segments.result c.headers_of-place.ensures.place c.headers_of-place.ensures.count c.new-segments.ensures;
+  room = omega arith;
+}
+
+pub read-header-requires : goal.read-header-requires
+read-header-requires c =
+    header_inside c.args.file.now c.headers_of-place.result.0 c.headers_of-place.result.1 c.loop-index.index c.requires c.headers_of-place.ensures.place c.headers_of-place.ensures.count c.loop-index-test.true
+
+pub returns-in-Some : goal.returns-in-Some
+returns-in-Some c =
+    next-fault c.args.file.now c.loop-index.size c.headers_of-place.result.0 c.headers_of-place.result.1 c.loop-index.index (pairs_of c.loop-index.segments) (plain c.read-header.result) c.in-Some.kind _ c.loop-index-test.true c.read-header.ensures
+    (sym c.is_load.ensures ∙ c.if-is_load.true) (sym c.fault.ensures ∙ c.in-Some.is) c.loop-index.invariant.same
+
+pub load-requires : goal.load-requires
+load-requires c = (fits c.args.file.now c.loop-index.size (plain c.read-header.result) (sym c.fault.ensures ∙ c.in_default.is)).loadable
+
+pub overflow_add-size : goal.overflow_add-size
+overflow_add-size c =
+    let fit = fits c.args.file.now c.loop-index.size (plain c.read-header.result) (sym c.fault.ensures ∙ c.in_default.is) in
+    omega (arith, fit.room)
+
+pub loop-index-preserved : goal.loop-index-preserved
+loop-index-preserved c = elim c.if-is_load.branch [
+  | then-is_load+in_default+in-Ok w ↦
+      let fine = sym w.fault.ensures ∙ w.in_default.is in
+      let fit = fits c.args.file.now c.loop-index.size (plain c.read-header.result) fine in
+      record {
+        same = rw (w.segments-is, w.size-is)
+            (next-load c.args.file.now c.loop-index.size c.headers_of-place.result.0 c.headers_of-place.result.1 c.loop-index.index (pairs_of c.loop-index.segments) (pairs_of w.load.new.segments) (plain c.read-header.result) _ c.loop-index-test.true c.read-header.ensures
+            (sym c.is_load.ensures ∙ w.if-is_load.true) fine w.in-Ok.ensures c.loop-index.invariant.same);
+        room = omega (arith, fit.room, w.size-is);
+      }
+  | else-is_load w ↦ record {
+    same = rw (w.segments-is, w.size-is)
+        (next-other c.args.file.now c.loop-index.size c.headers_of-place.result.0 c.headers_of-place.result.1 c.loop-index.index (pairs_of c.loop-index.segments) (plain c.read-header.result) _ c.loop-index-test.true c.read-header.ensures
+        (sym c.is_load.ensures ∙ w.if-is_load.false) c.loop-index.invariant.same);
+    room = omega (arith, c.loop-index.invariant.room, w.size-is);
+  }
+]
