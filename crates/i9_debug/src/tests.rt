@@ -105,7 +105,6 @@ fn prints_each_line(rt: HostRuntime) -> Result<(), Fail> {
 }
 
 #[test]
-#[tactic(auto, unfolding(crate::specs::Print::is_lined))]
 fn prints_what_else_there_is(rt: HostRuntime) -> Result<(), Fail> {
     let alloc = rt.alloc();
     let mut sink = sink_failing(alloc, 0)?;
