@@ -62,3 +62,33 @@ closed_join x y h k = record {
       ap lines_in (append_assoc x y behind) ∙ h.apart (y ++ behind) ∙ ap (λ (ls : List (List ℕ)). lines_in x ++ ls) (k.apart behind)
       ∙ sym (append_assoc (lines_in x) (lines_in y) (lines_in behind)) ∙ ap (λ (ls : List (List ℕ)). ls ++ lines_in behind) (sym (h.apart y));
 }
+
+-- ---- a text that ends with a line feed
+
+some_first : (b : ℕ) (lines : List (List ℕ)) → 0 < length (onto_first b lines)
+some_first b [] = omega arith
+some_first b (line ∷ lines) = omega arith
+
+some_line : (front : List ℕ) → 0 < length (lines_in (front ++ 10 ∷ []))
+some_line [] = omega arith
+some_line (b ∷ bs) = by_first (is_line_feed b) refl
+  where
+    by_first : (t : Bool) → is_line_feed b ≡ t → 0 < length (lines_in (b ∷ bs ++ 10 ∷ []))
+    by_first true e = rw e (omega arith)
+    by_first false e = rw e (some_first b (lines_in (bs ++ 10 ∷ [])))
+
+first_apart : (b : ℕ) (lines later : List (List ℕ)) → 0 < length lines → onto_first b (lines ++ later) ≡ onto_first b lines ++ later
+first_apart b [] later some = absurd (omega (arith, some))
+first_apart b (line ∷ lines) later some = refl
+
+feed_apart : (front behind : List ℕ) → lines_in ((front ++ 10 ∷ []) ++ behind) ≡ lines_in (front ++ 10 ∷ []) ++ lines_in behind
+feed_apart [] behind = refl
+feed_apart (b ∷ bs) behind = by_first (feed_apart bs behind) (is_line_feed b) refl
+  where
+    by_first : lines_in ((bs ++ 10 ∷ []) ++ behind) ≡ lines_in (bs ++ 10 ∷ []) ++ lines_in behind → (t : Bool) → is_line_feed b ≡ t
+        → lines_in ((b ∷ bs ++ 10 ∷ []) ++ behind) ≡ lines_in (b ∷ bs ++ 10 ∷ []) ++ lines_in behind
+    by_first later true e = rw e (ap (λ (ls : List (List ℕ)). (b ∷ []) ∷ ls) later)
+    by_first later false e = rw e (ap (onto_first b) later ∙ first_apart b (lines_in (bs ++ 10 ∷ [])) (lines_in behind) (some_line bs))
+
+pub closed_feed : (front : List ℕ) → IsClosed (front ++ 10 ∷ [])
+closed_feed front = record { apart = feed_apart front }
