@@ -105,9 +105,9 @@ fn told(alloc: Global, words: &str, scene_text: &str) -> Told {
     entry_text(alloc, planned)
 }
 
-/// Words of memory, what else there is than the division, and its entry: the target and PC, the frames, and the record,
-/// of PC, AC, the type with the subtype, and the address. Frames that are left have soft bytes. System procedure 5 has
-/// its word at B44, and 259 at F3C.
+/// Words of memory, what else there is than the division, and its entry: the target and PC, the frames, and the
+/// record, of PC, AC, the type with the subtype, and the address. Frames that are left have soft bytes. System
+/// procedure 5 has its word at B44, and 259 at F3C.
 const ENTRIES: &str = "\
 918 1100 FFFFFFFF |      | 1100 1F2002 saves 3000 3050 3001 3090 record 1F2002 8000 30002 1000
 918 1100 FFFFFFFF | fp 300F, sp 3041, pc 1F2401 | 1100 1F2000 saves 3000 3060 3001 30A0 \

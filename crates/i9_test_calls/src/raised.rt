@@ -114,8 +114,8 @@ fn told(alloc: Global, text: &str, state: &str) -> Told {
     }
 }
 
-/// An instruction; the values of its two sources, PC, the configuration, and the address and the bytes of its access, if
-/// there is one; and the fault. In user mode PC is 1F2401, with every kept bit but that of supervisor mode, and in
+/// An instruction; the values of its two sources, PC, the configuration, and the address and the bytes of its access,
+/// if there is one; and the fault. In user mode PC is 1F2401, with every kept bit but that of supervisor mode, and in
 /// supervisor mode it is that bit alone. A mismatch comes before all.
 const MISMATCHES: &str = "\
 modpc r4 r5 r6   | 7 0 1F2401 0             | none

@@ -6,14 +6,41 @@ use std::test::Fail;
 
 pub(crate) type Told = Result<String, Fail>;
 
+/// Adds an item behind others.
+pub(crate) fn add(text: &mut String, separator: &str, item: &str) -> Result<(), Fail> {
+    if !text.is_empty() {
+        text.push_str(separator)?;
+    }
+    text.push_str(item)?;
+    Ok(())
+}
+
+/// A number.
+pub(crate) fn hex_text(alloc: Global, number: u32) -> Told {
+    Ok(format!(in alloc; "{number:X}")?)
+}
+
 /// Numbers.
 pub(crate) fn words_text(alloc: Global, words: &[u32]) -> Told {
     let mut text = String::new(alloc);
     for word in words {
-        let separator = if text.is_empty() { "" } else { " " };
-        text.push_str(&format!(in alloc; "{separator}{word:X}")?)?;
+        add(&mut text, " ", &hex_text(alloc, *word)?)?;
     }
     Ok(text)
+}
+
+/// Bytes.
+pub(crate) fn bytes_text(alloc: Global, bytes: &[u8]) -> Told {
+    let mut text = String::new(alloc);
+    for byte in bytes {
+        add(&mut text, " ", &format!(in alloc; "{byte:X}")?)?;
+    }
+    Ok(text)
+}
+
+/// Whether something is so.
+pub(crate) fn truth_text(alloc: Global, so: bool) -> Told {
+    Ok(format!(in alloc; "{so}")?)
 }
 
 /// The address of a hazard.
