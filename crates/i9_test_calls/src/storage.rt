@@ -14,6 +14,17 @@ pub(crate) fn put_words(memory: &mut Memory, a: u32, words: &[u32]) -> Result<()
     Ok(())
 }
 
+/// Puts bytes from an address on; each is a number.
+pub(crate) fn put_bytes(memory: &mut Memory, a: u32, bytes: &[u32]) -> Result<(), Fail> {
+    let mut at = a;
+    for byte in bytes {
+        memory.reserve(at, 1)?;
+        memory.put_byte(at, u8::try_from(*byte)?);
+        at = at.wrapping_add(1);
+    }
+    Ok(())
+}
+
 /// Saves the frame at a frame pointer.
 fn save(watch: &mut Watch, fp: u32) -> Result<(), Fail> {
     match watch.plan_push(fp, 0, 0, 0) {
