@@ -19,8 +19,8 @@ const NMI: Chosen = Chosen {
     cause: Cause::Nmi,
 };
 
-/// A controller over a memory with an interrupt table, and frames; what was chosen, and where it is entered: PC, and the
-/// frame and stack pointers.
+/// A controller over a memory with an interrupt table, and frames; what was chosen, and where it is entered: PC, and
+/// the frame and stack pointers.
 #[derive(Drop)]
 struct Scene {
     ints: Ints,
@@ -31,8 +31,8 @@ struct Scene {
     at: (u32, u32, u32),
 }
 
-/// Nothing is posted, and no frame was saved. There is room for 36 bytes at the table. Software asks for vector 23 while
-/// an interrupt is handled.
+/// Nothing is posted, and no frame was saved. There is room for 36 bytes at the table. Software asks for vector 23
+/// while an interrupt is handled.
 fn fresh(alloc: Global, table: u32) -> Result<Scene, Fail> {
     let mut memory = Memory::new(alloc);
     memory.reserve(table, 36)?;
@@ -316,8 +316,8 @@ table 4000, lines FFF FFF 100 0 0, nmi | take_nmi, pending, choose 0 | taken, FF
  | take_pin_2, pending, choose 0 | taken, FFB, none
 ";
 
-/// What software asks for, in two bytes of the table. Pin 0 has vector 18: of one priority it comes first, whatever vector
-/// software asks for. Requests are read where the interrupt that is never masked is posted too.
+/// What software asks for, in two bytes of the table. Pin 0 has vector 18: of one priority it comes first, whatever
+/// vector software asks for. Requests are read where the interrupt that is never masked is posted too.
 const CHOICES: &str = "\
 table 4000, bytes 4003 80, bytes 4023 4 | choose_soft 1F2002 | \
 FA Soft | vector 250 has priority 31: bit 7 of byte 3, and bit 2 of byte 35
@@ -349,8 +349,8 @@ fn chooses_interrupts(rt: HostRuntime) -> Result<(), Fail> {
     Ok(())
 }
 
-/// Entries, with a handler at 1100, whose word has low bits that don't count: on the stack in use while an interrupt is
-/// handled, and else on the interrupt stack. The words of vectors 18, 23 and 248 are at 404C, 4060 and 43E4.
+/// Entries, with a handler at 1100, whose word has low bits that don't count: on the stack in use while an interrupt
+/// is handled, and else on the interrupt stack. The words of vectors 18, 23 and 248 are at 404C, 4060 and 43E4.
 const ENTRIES: &str = "\
 table 4000, bytes 4060 3 11 | plan | 1100 22002 saves 3000 3060 3007 30A0 record 12403 8084 17 0
 table 4000, bytes 4060 3 11, at 1DFFF 3004 3041 | plan | 1100 22002 saves 3000 8020 3007 8060 record 1DFFF 8084 17 0
@@ -366,8 +366,8 @@ table 4000, bytes 4060 3 11, left 4000, chosen_line 5 17 | plan | \
 1100 22002 saves 3000 3060 3007 30A0 record 12403 8084 17 0 | a line reads nothing of the requests
 ";
 
-/// Hazards in their order, the first ones with everything later. Live bytes that were written to are not soft; the byte of
-/// the priority is written where no other vector is left.
+/// Hazards in their order, the first ones with everything later. Live bytes that were written to are not soft; the
+/// byte of the priority is written where no other vector is left.
 const HAZARDS: &str = "\
 table 4000, bytes 4060 3 11, left 4060 4000, live 3010 3050 | plan | hazard 4060 | the word of the vector
 table 4000, bytes 4060 3 11, left 4000, live 3010 3050 | plan | hazard 3010 | the save area
@@ -388,8 +388,8 @@ table 4000, bytes 4006 80, live 4000, wrote 4000 24 | plan | hazard 4000
 table 4000, bytes 4006 0, live 4000, wrote 4000 24 | plan | hazard 4000
 ";
 
-/// Bytes with the bits of requests: those that a request stores, those that are left once it is entered, and those that
-/// clear it. Vectors 18 and 23 have priority 2, and another vector has priority 1.
+/// Bytes with the bits of requests: those that a request stores, those that are left once it is entered, and those
+/// that clear it. Vectors 18 and 23 have priority 2, and another vector has priority 1.
 const REQUESTS: &str = "\
 table 4000 | plan_request 17, request 17, byte 4000, byte 4006 | 4000 4 4006 80, done, 4, 80
 table 4000, bytes 4000 10, bytes 4006 1 | plan_request 17, request 17, byte 4000, byte 4006 | \

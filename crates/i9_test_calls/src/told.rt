@@ -1,4 +1,5 @@
 //! What is answered, as a text. Numbers are hexadecimal.
+use i9_calls::{CallsStop, Pop, Sys};
 use i9_faults::{Entry, FaultStop};
 use i9_model::Push;
 use std::alloc::Global;
@@ -51,6 +52,37 @@ pub(crate) fn hazard_text(alloc: Global, a: u32) -> Told {
 /// A frame that is saved: the save area, and the new frame with its pfp and its sp.
 pub(crate) fn push_text(alloc: Global, p: &Push) -> Told {
     Ok(format!(in alloc; "saves {:X} {:X} {:X} {:X}", p.save, p.frame, p.pfp, p.sp)?)
+}
+
+/// What a call to an address makes.
+pub(crate) fn call_text(alloc: Global, planned: Result<Push, u32>) -> Told {
+    match planned {
+        Ok(push) => push_text(alloc, &push),
+        Err(a) => hazard_text(alloc, a),
+    }
+}
+
+/// What a system call makes: the target, PC, whether the stack is switched, and the frames.
+pub(crate) fn sys_text(alloc: Global, planned: Result<Sys, CallsStop>) -> Told {
+    match planned {
+        Ok(sys) => {
+            let push = push_text(alloc, &sys.push)?;
+            Ok(format!(in alloc; "{:X} {:X} {} {push}", sys.target, sys.pc, sys.switched)?)
+        }
+        Err(CallsStop::Hazard(a)) => hazard_text(alloc, a),
+        Err(CallsStop::Length) => Ok(format!(in alloc; "no procedure")?),
+    }
+}
+
+/// What a return makes: the frame, PC, AC, and whether the frame is live and the check flag is set.
+pub(crate) fn pop_text(alloc: Global, planned: Result<Pop, u32>) -> Told {
+    match planned {
+        Ok(pop) => {
+            let words = words_text(alloc, &[pop.frame, pop.pc, pop.ac])?;
+            Ok(format!(in alloc; "{words} {} {}", pop.live, pop.check)?)
+        }
+        Err(a) => hazard_text(alloc, a),
+    }
 }
 
 /// What the entry of a fault or an interrupt makes: the target, PC, the frames, and the words of the record.
