@@ -1,5 +1,7 @@
 //! DMA, worked out by hand.
-use Unit::{Ended, Hazard, Idle, Moved};
+use crate::rows::{columns, hex_words, named};
+use crate::storage::{left, live};
+use crate::told::{Told, add, bytes_text, hazard_text, hex_text, truth_text, words_text};
 use i9_dma::{Channels, Unit};
 use i9_memory::Memory;
 use i9_model::dma::CHANNELS;
@@ -7,7 +9,7 @@ use i9_watch::Watch;
 use std::alloc::Global;
 use std::test::Fail;
 
-/// The channel of most tests.
+/// The channel whose units move.
 const CHANNEL: u8 = 2;
 
 /// The command word that enables that channel alone.
@@ -16,64 +18,88 @@ const ENABLED: u32 = 4;
 /// Bit 22 of a configuration word, which makes its region big-endian.
 const BIG_ENDIAN: u32 = 0x0040_0000;
 
-/// Where bytes of most tests come from, and where they go.
-const SOURCE: u32 = 0x1000;
-
-const TARGET: u32 = 0x2000;
-
 /// The bytes from 1 on.
 const COUNTING: [u8; 24] = [
     1, 2, 3, 4, 5, 6, 7, 8, 9, 10, 11, 12, 13, 14, 15, 16, 17, 18, 19, 20, 21, 22, 23, 24,
 ];
 
-/// Frames that were saved: those that were left again, so that their bytes are soft, and those that
-/// are live.
-type Saved<'a> = (&'a [u32], &'a [u32]);
+/// Channels over a memory and frames.
+#[derive(Drop)]
+struct Scene {
+    channels: Channels,
+    memory: Memory,
+    watch: Watch,
+}
 
-/// No frame was saved.
-const UNSAVED: Saved<'static> = (&[], &[]);
-
-/// A memory with bytes from an address on, whose region 1 is big-endian.
-fn memory(alloc: Global, a: u32, bytes: &[u8]) -> Result<Memory, Fail> {
+/// A memory of which region 1 is big-endian, without frames, and channels that are not set up.
+fn fresh(alloc: Global) -> Scene {
     let mut memory = Memory::new(alloc);
     memory.configure(1, BIG_ENDIAN);
-    memory.load(a, bytes)?;
-    Ok(memory)
+    Scene {
+        channels: Channels::new(),
+        memory,
+        watch: Watch::new(alloc),
+    }
 }
 
-/// Saves the frame at a frame pointer.
-fn save(watch: &mut Watch, fp: u32) -> Result<(), Fail> {
-    match watch.plan_push(fp, 0, 0, 0) {
-        Ok(push) => {
-            watch.reserve(push.save)?;
-            watch.called(push.save);
-            Ok(())
+/// The bytes of numbers.
+fn bytes_of(alloc: Global, numbers: &[u32]) -> Result<Vec<u8>, Fail> {
+    let mut bytes = Vec::new(alloc);
+    for number in numbers {
+        bytes.push(u8::try_from(*number)?)?;
+    }
+    Ok(bytes)
+}
+
+/// Sets up a channel with a control word, a count, a source and a target.
+fn sets_up(
+    channels: &mut Channels,
+    c: u8,
+    (control, count, source, target): (u32, u32, u32, u32),
+) -> Result<(), Fail> {
+    if c >= CHANNELS {
+        return Err("no such channel".into());
+    }
+    channels.setup(c, control, count, source, target);
+    Ok(())
+}
+
+/// Does a step.
+fn does(alloc: Global, scene: &mut Scene, step: &str) -> Result<(), Fail> {
+    let (name, numbers) = named(step);
+    let numbers = hex_words(alloc, numbers)?;
+    match (name, numbers.as_slice()) {
+        ("", []) => {}
+        ("fresh", []) => *scene = fresh(alloc),
+        ("fresh", &[a]) => {
+            *scene = fresh(alloc);
+            scene.memory.load(a, &COUNTING)?;
         }
-        Err(_) => Err("a hazard".into()),
-    }
-}
-
-/// A watch of these frames.
-fn watch(alloc: Global, (left, live): Saved) -> Result<Watch, Fail> {
-    let mut watch = Watch::new(alloc);
-    for fp in left {
-        save(&mut watch, *fp)?;
-        if watch.first_live().is_some() {
-            watch.returned();
+        ("left", frames) => left(&mut scene.watch, frames)?,
+        ("live", frames) => live(&mut scene.watch, frames)?,
+        ("command", &[word]) => scene.channels.set_dmac(word),
+        ("enabled", &[control, count, source, target]) => {
+            let words = (control, count, source, target);
+            sets_up(&mut scene.channels, CHANNEL, words)?;
+            scene.channels.set_dmac(ENABLED);
         }
+        ("setup", &[c, control, count, source, target]) => {
+            let words = (control, count, source, target);
+            sets_up(&mut scene.channels, u8::try_from(c)?, words)?;
+        }
+        _ => return Err("no such step".into()),
     }
-    for fp in live {
-        save(&mut watch, *fp)?;
-    }
-    Ok(watch)
+    Ok(())
 }
 
-/// The channel of most tests, enabled, with a control word, a count and addresses.
-fn channels((control, count, source, target): (u32, u32, u32, u32)) -> Channels {
-    let mut channels = Channels::new();
-    channels.setup(CHANNEL, control, count, source, target);
-    channels.set_dmac(ENABLED);
-    channels
+/// What comes of a unit.
+fn unit_text(alloc: Global, unit: Unit) -> Told {
+    match unit {
+        Unit::Idle => Ok(format!(in alloc; "idle")?),
+        Unit::Moved => Ok(format!(in alloc; "moved")?),
+        Unit::Ended => Ok(format!(in alloc; "ended")?),
+        Unit::Hazard(a) => hazard_text(alloc, a),
+    }
 }
 
 /// Moves a unit, for whose target room is made.
@@ -88,11 +114,41 @@ fn step(
     Ok(channels.unit(memory, watch, CHANNEL, given))
 }
 
-/// Whether memory has these bytes from an address on.
-fn has_bytes(memory: &Memory, a: u32, bytes: &[u8]) -> bool {
+/// Moves a unit, and tells what comes of it.
+fn moves(alloc: Global, scene: &mut Scene, given: Option<&[u8]>) -> Told {
+    let Scene {
+        channels,
+        memory,
+        watch,
+    } = scene;
+    unit_text(alloc, step(channels, memory, watch, given)?)
+}
+
+/// The bytes of a unit that is planned.
+fn plan_text(alloc: Global, scene: &Scene, given: Option<&[u8]>) -> Told {
+    let channels = &scene.channels;
+    match channels.plan_unit(&scene.memory, &scene.watch, CHANNEL, given) {
+        Ok(Some(bytes)) => bytes_text(alloc, bytes.as_slice()),
+        Ok(None) => Ok(format!(in alloc; "none")?),
+        Err(a) => hazard_text(alloc, a),
+    }
+}
+
+/// So many bytes of memory from an address on.
+fn memory_text(alloc: Global, memory: &Memory, a: u32, n: u32) -> Told {
+    let mut text = String::new(alloc);
+    for k in 0..n {
+        let byte = memory.byte(a.wrapping_add(k));
+        add(&mut text, " ", &hex_text(alloc, u32::from(byte))?)?;
+    }
+    Ok(text)
+}
+
+/// Whether memory has the bytes from 1 on at an address.
+fn counts(memory: &Memory, a: u32) -> bool {
     let mut at = a;
-    for byte in bytes {
-        if memory.byte(at) != *byte {
+    for byte in COUNTING {
+        if memory.byte(at) != byte {
             return false;
         }
         at = at.wrapping_add(1);
@@ -100,374 +156,193 @@ fn has_bytes(memory: &Memory, a: u32, bytes: &[u8]) -> bool {
     true
 }
 
-/// Moves units one after the other; false where another thing comes of one, or where the next one has
-/// another address or length.
-fn moves(
-    channels: &mut Channels,
-    memory: &mut Memory,
-    watch: &mut Watch,
-    units: &[(Unit, (u32, u32))],
-) -> Result<bool, Fail> {
-    for (unit, next) in units {
-        let done = step(channels, memory, watch, None)?;
-        if done != *unit || channels.target(CHANNEL) != *next {
-            return Ok(false);
-        }
+/// The answer to a question about a channel: where its next unit goes and how long that is, whether its interrupt is
+/// posted at its end, and whether it has ended once a unit was passed.
+fn channel_answer(alloc: Global, channels: &mut Channels, name: &str, c: u8) -> Told {
+    if c >= CHANNELS {
+        return Err("no such channel".into());
     }
-    Ok(true)
+    match name {
+        "next" => {
+            let (target, length) = channels.target(c);
+            words_text(alloc, &[target, length])
+        }
+        "posts" => truth_text(alloc, channels.posts(c)),
+        "pass" => truth_text(alloc, channels.pass_unit(c)),
+        _ => Err("no such question".into()),
+    }
 }
+
+/// The answer to a question.
+fn answer(alloc: Global, scene: &mut Scene, question: &str) -> Told {
+    let (name, numbers) = named(question);
+    let numbers = hex_words(alloc, numbers)?;
+    match (name, numbers.as_slice()) {
+        ("unit", []) => moves(alloc, scene, None),
+        ("given", list) => moves(alloc, scene, Some(bytes_of(alloc, list)?.as_slice())),
+        ("plan", []) => plan_text(alloc, scene, None),
+        ("plan_given", list) => plan_text(alloc, scene, Some(bytes_of(alloc, list)?.as_slice())),
+        ("at", &[a, n]) => memory_text(alloc, &scene.memory, a, n),
+        ("counts", &[a]) => truth_text(alloc, counts(&scene.memory, a)),
+        ("soft", &[a]) => truth_text(alloc, scene.watch.soft(a)),
+        ("dmac", []) => hex_text(alloc, scene.channels.dmac()),
+        (_, &[c]) => channel_answer(alloc, &mut scene.channels, name, u8::try_from(c)?),
+        _ => Err("no such question".into()),
+    }
+}
+
+/// Does the steps of a row, and answers its questions.
+fn told(alloc: Global, scene: &mut Scene, steps: &str, questions: &str) -> Told {
+    for step in steps.split(',') {
+        does(alloc, scene, step)?;
+    }
+    let mut text = String::new(alloc);
+    for question in questions.split(',') {
+        add(&mut text, ", ", &answer(alloc, scene, question)?)?;
+    }
+    Ok(text)
+}
+
+/// Units of 1, 2, 4 and 16 bytes: what comes of each, the address and the length of the next one, and the bytes at the
+/// target and the source behind all. The other bits of the control word don't count.
+const MOVES: &str = "\
+fresh 1000, enabled 0 2 1000 2000 | unit, next 2, unit, next 2, at 2000 3, counts 1000 | \
+moved, 2001 1, ended, 2002 0, 1 2 0, true
+fresh 1000, enabled 1 4 1000 2000 | unit, next 2, unit, next 2, at 2000 5, counts 1000 | \
+moved, 2002 2, ended, 2004 0, 1 2 3 4 0, true
+fresh 1000, enabled 2 8 1000 2000 | unit, next 2, unit, next 2, at 2000 9, counts 1000 | \
+moved, 2004 4, ended, 2008 0, 1 2 3 4 5 6 7 8 0, true
+fresh 1000, enabled 3 20 1000 2000 | unit, next 2, at 2000 11, counts 1000 | \
+moved, 2010 10, 1 2 3 4 5 6 7 8 9 A B C D E F 10 0, true
+fresh 1000, enabled 3 14 1000 2000 | unit, next 2, unit, next 2, at 2000 15, counts 1000 | \
+moved, 2010 4, ended, 2014 0, 1 2 3 4 5 6 7 8 9 A B C D E F 10 11 12 13 14 0, true | the last unit is short
+fresh 1000, enabled 2 5 1000 2000 | unit, next 2, unit, next 2, at 2000 6, counts 1000 | \
+moved, 2004 1, ended, 2005 0, 1 2 3 4 5 0, true
+fresh 1000, enabled 3 3 1000 2000 | unit, next 2, at 2000 4, counts 1000 | \
+ended, 2003 0, 1 2 3 0, true | the only one is
+fresh 1000, enabled 5 4 1000 2000 | unit, next 2, unit, next 2, at 2000 5, counts 1000 | \
+moved, 2002 2, ended, 2004 0, 1 2 1 2 0, true | the source is held
+fresh 1000, enabled 9 4 1000 2000 | unit, next 2, unit, next 2, at 2000 3, counts 1000 | \
+moved, 2000 2, ended, 2000 0, 3 4 0, true | the target is
+fresh 1000, enabled D 4 1000 2000 | unit, next 2, unit, next 2, at 2000 3, counts 1000 | \
+moved, 2000 2, ended, 2000 0, 1 2 0, true | both are
+fresh 1000, enabled FFFFFFA1 3 1000 2000 | unit, next 2, unit, next 2, at 2000 4, counts 1000 | \
+moved, 2002 1, ended, 2003 0, 1 2 3 0, true
+";
+
+/// All bytes of a unit are read before one is written. They move one for one over the last address and over the ends
+/// of a big-endian region, and addresses run on from the last to 0. The port page reads as 0, and is never written
+/// to.
+const PLACES: &str = "\
+fresh 1000, enabled 2 4 1000 1001 | unit, at 1000 7 | ended, 1 1 2 3 4 6 7
+fresh 1000, enabled 2 4 1000 1003 | unit, at 1000 7 | ended, 1 2 3 1 2 3 4
+fresh 1000, enabled 2 4 1001 1000 | unit, at 1000 7 | ended, 2 3 4 5 5 6 7
+fresh 1000, enabled 2 4 1002 1001 | unit, at 1000 7 | ended, 1 3 4 5 6 6 7
+fresh 1000, enabled 2 4 1000 1000 | unit, at 1000 7 | ended, 1 2 3 4 5 6 7
+fresh FFFFFFFE, enabled 2 8 FFFFFFFE 2000 | unit, next 2, at 2000 4 | moved, 2004 4, 1 2 3 4
+ | unit, at 2000 8 | ended, 1 2 3 4 5 6 7 8
+fresh 2000, enabled 2 8 2000 FFFFFFFD | unit, next 2, at FFFFFFFD 4 | moved, 1 4, 1 2 3 4
+ | unit, at FFFFFFFD 8 | ended, 1 2 3 4 5 6 7 8
+fresh 2000, enabled 2 8 2000 FFFFFFFC | unit, next 2, at FFFFFFFC 4 | moved, 0 4, 1 2 3 4
+ | unit, at FFFFFFFC 8 | ended, 1 2 3 4 5 6 7 8
+fresh 1FFFFFFE, enabled 2 8 1FFFFFFE 3000 | unit, next 2, at 3000 4 | moved, 3004 4, 1 2 3 4
+ | unit, at 3000 8 | ended, 1 2 3 4 5 6 7 8
+fresh 3000, enabled 2 8 3000 1FFFFFFF | unit, next 2, at 1FFFFFFF 4 | moved, 20000003 4, 1 2 3 4
+ | unit, at 1FFFFFFF 8 | ended, 1 2 3 4 5 6 7 8
+fresh FFFFFFD, enabled 2 8 FFFFFFD 10000100 | unit, next 2, at 10000100 4 | moved, 10000104 4, 1 2 3 4
+ | unit, at 10000100 8 | ended, 1 2 3 4 5 6 7 8
+fresh 10000100, enabled 2 8 10000100 FFFFFFF | unit, next 2, at FFFFFFF 4 | moved, 10000003 4, 1 2 3 4
+ | unit, at FFFFFFF 8 | ended, 1 2 3 4 5 6 7 8
+fresh 1000, enabled 2 4 1000 DFFFFFFC | unit, at DFFFFFFC 4 | ended, 1 2 3 4
+fresh 1000, enabled 2 4 1000 DFFFFFFD | unit, at DFFFFFFD 4 | hazard E0000000, 0 0 0 0
+fresh 1000, enabled 2 1 1000 E0000000 | unit, at E0000000 4 | hazard E0000000, 0 0 0 0
+fresh 1000, enabled 2 4 1000 E0000FFF | unit, at E0000FFF 4 | hazard E0000FFF, 0 0 0 0
+fresh 1000, enabled 2 4 1000 E0001000 | unit, at E0001000 4 | ended, 1 2 3 4
+fresh DFFFFFFE, enabled 2 4 DFFFFFFE 2000 | unit, at 2000 4 | ended, 1 2 0 0
+fresh E0000FFE, enabled 2 4 E0000FFE 2000 | unit, at 2000 4 | ended, 0 0 3 4
+";
+
+/// The source may have no soft byte; the target may be soft, and may not be in a live frame. The source comes first. A
+/// plan has the bytes, and changes nothing.
+const HAZARDS: &str = "\
+fresh 3FFC, left 4000, enabled 2 4 3FFC 2000 | unit, at 2000 4, soft 2000, dmac | ended, 1 2 3 4, false, 40
+fresh 3FFD, left 4000, enabled 2 4 3FFD 2000 | unit, next 2, dmac | hazard 4000, 2000 4, 4
+fresh 403F, left 4000, enabled 2 4 403F 2000 | unit, next 2, dmac | hazard 403F, 2000 4, 4
+fresh 4040, left 4000, enabled 2 4 4040 2000 | unit, at 2000 4, soft 2000, dmac | ended, 1 2 3 4, false, 40
+fresh 1000, left 4000, enabled 2 4 1000 4000 | unit, at 4000 4, soft 4000, dmac | ended, 1 2 3 4, false, 40
+fresh 1000, live 4000, enabled 2 4 1000 3FFC | unit, at 3FFC 4, soft 3FFC, dmac | ended, 1 2 3 4, false, 40
+fresh 1000, live 4000, enabled 2 4 1000 3FFD | unit, next 2, dmac | hazard 4000, 3FFD 4, 4
+fresh 1000, live 4000, enabled 2 4 1000 403F | unit, next 2, dmac | hazard 403F, 403F 4, 4
+fresh 1000, live 4000, enabled 2 4 1000 4040 | unit, at 4040 4, soft 4040, dmac | ended, 1 2 3 4, false, 40
+fresh 4010, live 4000, enabled 2 4 4010 4000 | unit, next 2, dmac | hazard 4010, 4000 4, 4
+fresh 4010, left 4000, enabled 2 4 4010 E0000000 | unit, next 2, dmac | hazard 4010, E0000000 4, 4
+fresh 1000, live 4000, enabled 2 8 1000 2000 | plan | 1 2 3 4
+fresh 1000, live 4000, enabled 2 3 1001 2000 | plan | 2 3 4
+fresh 1000, live 4000, enabled 12 3 1000 2000 | plan_given 9 8 7 6 | 9 8 7
+fresh 1000, live 4000, enabled 2 0 1000 2000 | plan | none
+fresh 1000, live 4000, enabled 2 8 3FFF 2000 | plan | hazard 4000
+fresh 1000, live 4000, enabled 2 8 1000 4001 | plan | hazard 4001
+";
 
 #[test]
 fn moves_units(rt: HostRuntime) -> Result<(), Fail> {
-    // The control word and the count; of each unit what comes of it, and the address and the length
-    // of the next one; and the bytes at the target behind all.
-    let rows: [(u32, u32, &[(Unit, (u32, u32))], &[u8]); 11] = [
-        // Units of 1, 2, 4 and 16 bytes.
-        (
-            0,
-            2,
-            &[(Moved, (0x2001, 1)), (Ended, (0x2002, 0))],
-            &[1, 2, 0],
-        ),
-        (
-            1,
-            4,
-            &[(Moved, (0x2002, 2)), (Ended, (0x2004, 0))],
-            &[1, 2, 3, 4, 0],
-        ),
-        (
-            2,
-            8,
-            &[(Moved, (0x2004, 4)), (Ended, (0x2008, 0))],
-            &[1, 2, 3, 4, 5, 6, 7, 8, 0],
-        ),
-        (
-            3,
-            32,
-            &[(Moved, (0x2010, 16))],
-            &[1, 2, 3, 4, 5, 6, 7, 8, 9, 10, 11, 12, 13, 14, 15, 16, 0],
-        ),
-        // The last unit is short, or the only one.
-        (
-            3,
-            20,
-            &[(Moved, (0x2010, 4)), (Ended, (0x2014, 0))],
-            &[
-                1, 2, 3, 4, 5, 6, 7, 8, 9, 10, 11, 12, 13, 14, 15, 16, 17, 18, 19, 20, 0,
-            ],
-        ),
-        (
-            2,
-            5,
-            &[(Moved, (0x2004, 1)), (Ended, (0x2005, 0))],
-            &[1, 2, 3, 4, 5, 0],
-        ),
-        (3, 3, &[(Ended, (0x2003, 0))], &[1, 2, 3, 0]),
-        // The source is held, the target is, and both are.
-        (
-            5,
-            4,
-            &[(Moved, (0x2002, 2)), (Ended, (0x2004, 0))],
-            &[1, 2, 1, 2, 0],
-        ),
-        (
-            9,
-            4,
-            &[(Moved, (0x2000, 2)), (Ended, (0x2000, 0))],
-            &[3, 4, 0],
-        ),
-        (
-            13,
-            4,
-            &[(Moved, (0x2000, 2)), (Ended, (0x2000, 0))],
-            &[1, 2, 0],
-        ),
-        // The other bits of the control word don't count.
-        (
-            0xFFFF_FFA1,
-            3,
-            &[(Moved, (0x2002, 1)), (Ended, (0x2003, 0))],
-            &[1, 2, 3, 0],
-        ),
-    ];
-    for (control, count, units, wanted) in rows {
-        let mut memory = memory(rt.alloc(), SOURCE, &COUNTING)?;
-        let mut watch = watch(rt.alloc(), UNSAVED)?;
-        let mut channels = channels((control, count, SOURCE, TARGET));
-        let are_right = moves(&mut channels, &mut memory, &mut watch, units)?;
-        assert!(rt; are_right, "units of {control} {count}");
-        assert!(rt;
-            has_bytes(&memory, TARGET, wanted),
-            "bytes of {control} {count}"
-        );
-        assert!(rt; has_bytes(&memory, SOURCE, &COUNTING));
+    let mut scene = fresh(rt.alloc());
+    let rows = MOVES.lines().chain(PLACES.lines());
+    for row in rows.chain(HAZARDS.lines()) {
+        let (steps, questions, wanted) = columns(row)?;
+        let text = told(rt.alloc(), &mut scene, steps, questions)?;
+        assert_eq!(rt; text.as_str(), wanted, "{row}");
     }
     Ok(())
 }
 
-/// All bytes of a unit are read before one is written.
-#[test]
-fn moves_bytes_that_overlap(rt: HostRuntime) -> Result<(), Fail> {
-    let rows = [
-        (SOURCE, [1, 1, 2, 3, 4, 6, 7], SOURCE + 1),
-        (SOURCE, [1, 2, 3, 1, 2, 3, 4], SOURCE + 3),
-        (SOURCE + 1, [2, 3, 4, 5, 5, 6, 7], SOURCE),
-        (SOURCE + 2, [1, 3, 4, 5, 6, 6, 7], SOURCE + 1),
-        (SOURCE, [1, 2, 3, 4, 5, 6, 7], SOURCE),
-    ];
-    for (source, wanted, target) in rows {
-        let mut memory = memory(rt.alloc(), SOURCE, &COUNTING)?;
-        let mut watch = watch(rt.alloc(), UNSAVED)?;
-        let mut channels = channels((2, 4, source, target));
-        let done = step(&mut channels, &mut memory, &mut watch, None)?;
-        assert_eq!(rt; done, Ended);
-        assert!(rt;
-            has_bytes(&memory, SOURCE, &wanted),
-            "from {source} to {target}"
-        );
-    }
-    Ok(())
-}
+/// Nothing moves where the channel is not enabled, nothing is left, or the bytes come from elsewhere, and where a
+/// device gives fewer bytes or more than a whole unit has. A device gives whole units, of which the last may count in
+/// part; the source is not read then, so its bytes may be soft.
+const GIFTS: &str = "\
+fresh 1000, enabled 2 8 1000 2000, command 0 | unit, next 2, dmac, at 2000 5 | idle, 2000 4, 0, 0 0 0 0 0
+fresh 1000, enabled 2 8 1000 2000, command FB | unit, next 2, dmac, at 2000 5 | idle, 2000 4, FB, 0 0 0 0 0
+fresh 1000, enabled 12 8 1000 2000, command FB | given 9 8 7 6, next 2, dmac, at 2000 5 | idle, 2000 4, FB, 0 0 0 0 0
+fresh 1000, enabled 2 0 1000 2000, command 4 | unit, next 2, dmac, at 2000 5 | idle, 2000 0, 4, 0 0 0 0 0
+fresh 1000, enabled 12 0 1000 2000, command 4 | given 9 8 7 6, next 2, dmac, at 2000 5 | idle, 2000 0, 4, 0 0 0 0 0
+fresh 1000, enabled 12 8 1000 2000, command 4 | unit, next 2, dmac, at 2000 5 | idle, 2000 4, 4, 0 0 0 0 0
+fresh 1000, enabled 2 8 1000 2000, command 4 | given 9 8 7 6, next 2, dmac, at 2000 5 | idle, 2000 4, 4, 0 0 0 0 0
+fresh 1000, enabled 12 8 1000 2000, command 4 | given 9 8 7, next 2, dmac, at 2000 5 | idle, 2000 4, 4, 0 0 0 0 0
+fresh 1000, enabled 12 8 1000 2000, command 4 | given 9 8 7 6 5, next 2, dmac, at 2000 5 | idle, 2000 4, 4, 0 0 0 0 0
+fresh 1000, enabled 12 3 1000 2000, command 4 | given 9 8 7, next 2, dmac, at 2000 5 | idle, 2000 3, 4, 0 0 0 0 0
+fresh 1000, enabled 10 8 1000 2000, command 4 | given, next 2, dmac, at 2000 5 | idle, 2000 1, 4, 0 0 0 0 0
+fresh 1000, left 1000, enabled 12 6 1000 2000 | given 9 8 7 6, next 2 | moved, 2004 2
+ | given 5 4 3 2, next 2, at 2000 7 | ended, 2006 0, 9 8 7 6 5 4 0
+ | given 5 4 3 2, dmac | idle, 40
+";
 
-/// Bytes move one for one over the last address and over the ends of a big-endian region, and
-/// addresses run on from the last to 0.
-#[test]
-fn moves_bytes_over_ends(rt: HostRuntime) -> Result<(), Fail> {
-    let rows = [
-        (0xFFFF_FFFE, 0x2000, 0x2004),
-        (0x2000, 0xFFFF_FFFD, 1),
-        (0x2000, 0xFFFF_FFFC, 0),
-        (0x1FFF_FFFE, 0x3000, 0x3004),
-        (0x3000, 0x1FFF_FFFF, 0x2000_0003),
-        (0x0FFF_FFFD, 0x1000_0100, 0x1000_0104),
-        (0x1000_0100, 0x0FFF_FFFF, 0x1000_0003),
-    ];
-    for (source, target, next) in rows {
-        let mut memory = memory(rt.alloc(), source, &COUNTING)?;
-        let mut watch = watch(rt.alloc(), UNSAVED)?;
-        let mut channels = channels((2, 8, source, target));
-        let done = step(&mut channels, &mut memory, &mut watch, None)?;
-        assert_eq!(rt;
-            (done, channels.target(CHANNEL)),
-            (Moved, (next, 4)),
-            "to {target}"
-        );
-        assert!(rt; has_bytes(&memory, target, &[1, 2, 3, 4]), "from {source}");
-        let done = step(&mut channels, &mut memory, &mut watch, None)?;
-        assert_eq!(rt; done, Ended);
-        assert!(rt;
-            has_bytes(&memory, target, &[1, 2, 3, 4, 5, 6, 7, 8]),
-            "from {source}"
-        );
-    }
-    Ok(())
-}
-
-/// The port page reads as 0, and is never written to.
-#[test]
-fn meets_the_port_page(rt: HostRuntime) -> Result<(), Fail> {
-    // The source, the target and the count; what comes of the unit, and the bytes at the target.
-    let rows = [
-        ((0x1000, 0xDFFF_FFFC, 4), Ended, [1, 2, 3, 4]),
-        ((0x1000, 0xDFFF_FFFD, 4), Hazard(0xE000_0000), [0, 0, 0, 0]),
-        ((0x1000, 0xE000_0000, 1), Hazard(0xE000_0000), [0, 0, 0, 0]),
-        ((0x1000, 0xE000_0FFF, 4), Hazard(0xE000_0FFF), [0, 0, 0, 0]),
-        ((0x1000, 0xE000_1000, 4), Ended, [1, 2, 3, 4]),
-        // Of 24 bytes from 1 on, those that lie there are dropped.
-        ((0xDFFF_FFFE, 0x2000, 4), Ended, [1, 2, 0, 0]),
-        ((0xE000_0FFE, 0x2000, 4), Ended, [0, 0, 3, 4]),
-    ];
-    for ((source, target, count), wanted, bytes) in rows {
-        let mut memory = memory(rt.alloc(), source, &COUNTING)?;
-        let mut watch = watch(rt.alloc(), UNSAVED)?;
-        let mut channels = channels((2, count, source, target));
-        let done = step(&mut channels, &mut memory, &mut watch, None)?;
-        assert_eq!(rt; done, wanted, "to {target}");
-        assert!(rt;
-            has_bytes(&memory, target, &bytes),
-            "from {source} to {target}"
-        );
-    }
-    Ok(())
-}
+/// The bits of the command word, of which eight are kept: after the set-up of each channel, with all bits set before,
+/// and after its end, with all enabled. Each channel keeps what it was set up with. Then the interrupts at ends.
+const COMMANDS: &str = "\
+fresh | dmac, next 3 | 0, 0 0
+command FFFFFFA5 | dmac | A5
+command FF, setup 0 0 2 1000 0 | dmac, next 0 | EE, 0 1
+command F | pass 0, dmac, pass 0, dmac | false, F, true, 1E
+command FF, setup 1 0 2 1000 2000 | dmac, next 1 | DD, 2000 1
+command F | pass 1, dmac, pass 1, dmac | false, F, true, 2D
+command FF, setup 2 0 2 1000 4000 | dmac, next 2 | BB, 4000 1
+command F | pass 2, dmac, pass 2, dmac | false, F, true, 4B
+command FF, setup 3 0 2 1000 6000 | dmac, next 3 | 77, 6000 1
+command F | pass 3, dmac, pass 3, dmac | false, F, true, 87
+ | next 0, next 1, next 2, next 3 | 2 0, 2002 0, 4002 0, 6002 0
+fresh, enabled 0 1 1000 2000 | posts 2, posts 0 | false, false
+fresh, enabled 40 1 1000 2000 | posts 2, posts 0 | true, false
+fresh, enabled FFFFFFBF 1 1000 2000 | posts 2, posts 0 | false, false
+fresh, enabled 53 1 1000 2000 | posts 2, posts 0 | true, false
+";
 
 #[test]
-fn moves_nothing(rt: HostRuntime) -> Result<(), Fail> {
-    // The control word, the count, the command word, and what a device gives.
-    let rows: [(u32, u32, u32, Option<&[u8]>); 11] = [
-        // The channel is not enabled.
-        (2, 8, 0x00, None),
-        (2, 8, 0xFB, None),
-        (0x12, 8, 0xFB, Some(&[9, 8, 7, 6])),
-        // Nothing is left.
-        (2, 0, 0x04, None),
-        (0x12, 0, 0x04, Some(&[9, 8, 7, 6])),
-        // The bytes come from elsewhere.
-        (0x12, 8, 0x04, None),
-        (2, 8, 0x04, Some(&[9, 8, 7, 6])),
-        // A device gives fewer bytes or more than a whole unit has.
-        (0x12, 8, 0x04, Some(&[9, 8, 7])),
-        (0x12, 8, 0x04, Some(&[9, 8, 7, 6, 5])),
-        (0x12, 3, 0x04, Some(&[9, 8, 7])),
-        (0x10, 8, 0x04, Some(&[])),
-    ];
-    for (control, count, command, given) in rows {
-        let mut memory = memory(rt.alloc(), SOURCE, &COUNTING)?;
-        let mut watch = watch(rt.alloc(), UNSAVED)?;
-        let mut channels = channels((control, count, SOURCE, TARGET));
-        channels.set_dmac(command);
-        let before = channels.target(CHANNEL);
-        let done = step(&mut channels, &mut memory, &mut watch, given)?;
-        assert_eq!(rt; done, Idle, "{control} {count} {command}");
-        assert_eq!(rt;
-            (channels.target(CHANNEL), channels.dmac()),
-            (before, command)
-        );
-        assert!(rt; has_bytes(&memory, TARGET, &[0, 0, 0, 0, 0]));
-    }
-    Ok(())
-}
-
-/// A device gives whole units, of which the last may count in part.
-#[test]
-fn moves_what_is_given(rt: HostRuntime) -> Result<(), Fail> {
-    let mut memory = memory(rt.alloc(), SOURCE, &COUNTING)?;
-    // The source is not read, so its bytes may be soft.
-    let mut watch = watch(rt.alloc(), (&[SOURCE], &[]))?;
-    let mut channels = channels((0x12, 6, SOURCE, TARGET));
-    let done = step(&mut channels, &mut memory, &mut watch, Some(&[9, 8, 7, 6]))?;
-    assert_eq!(rt; (done, channels.target(CHANNEL)), (Moved, (0x2004, 2)));
-    let done = step(&mut channels, &mut memory, &mut watch, Some(&[5, 4, 3, 2]))?;
-    assert_eq!(rt; (done, channels.target(CHANNEL)), (Ended, (0x2006, 0)));
-    assert!(rt; has_bytes(&memory, TARGET, &[9, 8, 7, 6, 5, 4, 0]));
-    let done = step(&mut channels, &mut memory, &mut watch, Some(&[5, 4, 3, 2]))?;
-    assert_eq!(rt; (done, channels.dmac()), (Idle, 0x40));
-    Ok(())
-}
-
-#[test]
-fn meets_hazards(rt: HostRuntime) -> Result<(), Fail> {
-    // The frames; the source, the target, and what comes of a unit of four bytes.
-    let left: Saved = (&[0x4000], &[]);
-    let live: Saved = (&[], &[0x4000]);
-    let rows = [
-        // The source has a soft byte.
-        (left, (0x3FFC, TARGET), Ended),
-        (left, (0x3FFD, TARGET), Hazard(0x4000)),
-        (left, (0x403F, TARGET), Hazard(0x403F)),
-        (left, (0x4040, TARGET), Ended),
-        // The target may be soft, and may not be in a live frame.
-        (left, (SOURCE, 0x4000), Ended),
-        (live, (SOURCE, 0x3FFC), Ended),
-        (live, (SOURCE, 0x3FFD), Hazard(0x4000)),
-        (live, (SOURCE, 0x403F), Hazard(0x403F)),
-        (live, (SOURCE, 0x4040), Ended),
-        // The source comes first.
-        (live, (0x4010, 0x4000), Hazard(0x4010)),
-        (left, (0x4010, 0xE000_0000), Hazard(0x4010)),
-    ];
-    for (saved, (source, target), wanted) in rows {
-        let mut memory = memory(rt.alloc(), source, &COUNTING)?;
-        let mut watch = watch(rt.alloc(), saved)?;
-        let mut channels = channels((2, 4, source, target));
-        let done = step(&mut channels, &mut memory, &mut watch, None)?;
-        assert_eq!(rt; done, wanted, "from {source} to {target}");
-        if let Hazard(_) = wanted {
-            assert_eq!(rt;
-                (channels.target(CHANNEL), channels.dmac()),
-                ((target, 4), ENABLED)
-            );
-        } else {
-            assert!(rt; has_bytes(&memory, target, &[1, 2, 3, 4]));
-            assert_eq!(rt; (watch.soft(target), channels.dmac()), (false, 0x40));
-        }
-    }
-    Ok(())
-}
-
-/// The bits of a channel in the command word, at its set-up and at its end.
-#[test]
-fn keeps_the_command_word(rt: HostRuntime) {
-    let mut channels = Channels::new();
-    assert_eq!(rt; (channels.dmac(), channels.target(3)), (0, (0, 0)));
-    // Eight bits are kept.
-    channels.set_dmac(0xFFFF_FFA5);
-    assert_eq!(rt; channels.dmac(), 0xA5);
-    // After the set-up of a channel, with all bits set before, and after its end, with all enabled.
-    let rows = [(0xEE, 0x1E), (0xDD, 0x2D), (0xBB, 0x4B), (0x77, 0x87)];
-    for c in 0..CHANNELS {
-        let (set_up, ended) = rows[c as usize];
-        let address = 0x2000 * u32::from(c);
-        channels.set_dmac(0xFF);
-        channels.setup(c, 0, 2, SOURCE, address);
-        assert_eq!(rt;
-            (channels.dmac(), channels.target(c)),
-            (set_up, (address, 1)),
-            "{c}"
-        );
-        channels.set_dmac(0x0F);
-        assert_eq!(rt;
-            (channels.pass_unit(c), channels.dmac()),
-            (false, 0x0F),
-            "{c}"
-        );
-        assert_eq!(rt;
-            (channels.pass_unit(c), channels.dmac()),
-            (true, ended),
-            "{c}"
-        );
-    }
-    // Each channel keeps what it was set up with.
-    for c in 0..CHANNELS {
-        assert_eq!(rt; channels.target(c), (0x2000 * u32::from(c) + 2, 0), "{c}");
-    }
-}
-
-#[test]
-fn posts_at_the_end(rt: HostRuntime) {
-    let rows = [
-        (0x00, false),
-        (0x40, true),
-        (0xFFFF_FFBF, false),
-        (0x53, true),
-    ];
-    for (control, wanted) in rows {
-        let channels = channels((control, 1, SOURCE, TARGET));
-        assert_eq!(rt; channels.posts(CHANNEL), wanted, "{control}");
-        assert!(rt; !channels.posts(0));
-    }
-}
-
-/// A plan has the bytes, and changes nothing.
-#[test]
-fn plans_units(rt: HostRuntime) -> Result<(), Fail> {
-    // What is set up, what a device gives, and the bytes, or the hazard.
-    let rows: [(
-        (u32, u32, u32, u32),
-        Option<&[u8]>,
-        Result<Option<&[u8]>, u32>,
-    ); 6] = [
-        ((2, 8, SOURCE, TARGET), None, Ok(Some(&[1, 2, 3, 4]))),
-        ((2, 3, SOURCE + 1, TARGET), None, Ok(Some(&[2, 3, 4]))),
-        (
-            (0x12, 3, SOURCE, TARGET),
-            Some(&[9, 8, 7, 6]),
-            Ok(Some(&[9, 8, 7])),
-        ),
-        ((2, 0, SOURCE, TARGET), None, Ok(None)),
-        ((2, 8, 0x3FFF, TARGET), None, Err(0x4000)),
-        ((2, 8, SOURCE, 0x4001), None, Err(0x4001)),
-    ];
-    for (set_up, given, wanted) in rows {
-        let memory = memory(rt.alloc(), SOURCE, &COUNTING)?;
-        let watch = watch(rt.alloc(), (&[], &[0x4000]))?;
-        let channels = channels(set_up);
-        match (channels.plan_unit(&memory, &watch, CHANNEL, given), wanted) {
-            (Ok(Some(bytes)), Ok(Some(list))) => assert_eq!(rt; bytes.as_slice(), list),
-            (Ok(None), Ok(None)) => {}
-            (Err(hazard), Err(address)) => assert_eq!(rt; hazard, address),
-            _ => return Err("another answer".into()),
-        }
+fn keeps_channels(rt: HostRuntime) -> Result<(), Fail> {
+    let mut scene = fresh(rt.alloc());
+    for row in GIFTS.lines().chain(COMMANDS.lines()) {
+        let (steps, questions, wanted) = columns(row)?;
+        let text = told(rt.alloc(), &mut scene, steps, questions)?;
+        assert_eq!(rt; text.as_str(), wanted, "{row}");
     }
     Ok(())
 }

@@ -1,13 +1,16 @@
 //! Interrupts, worked out by hand.
+use crate::rows::{columns, hex_words, named};
+use crate::storage::{left, live, put_bytes};
+use crate::told::{Told, add, entry_text, hazard_text, hex_text};
 use arrayvec::ArrayVec;
-use i9_ints::{Cause, Chosen, IntEntry, Ints, clearing_bytes, plan_request};
+use i9_faults::FaultStop;
+use i9_ints::{Cause, Chosen, Ints, clearing_bytes, plan_request};
 use i9_memory::Memory;
-use i9_model::Push;
 use i9_watch::Watch;
 use std::alloc::Global;
 use std::test::Fail;
 
-/// The interrupt table of most tests.
+/// The interrupt table of most rows.
 const TABLE: u32 = 0x4000;
 
 /// The choice of the interrupt that is never masked.
@@ -16,30 +19,31 @@ const NMI: Chosen = Chosen {
     cause: Cause::Nmi,
 };
 
-/// Frames that were saved: those that were left again, so that their bytes are soft, those that are
-/// live, and the bytes that were written to since, so many from an address on.
-type Saved<'a> = (&'a [u32], &'a [u32], (u32, u32));
-
-/// No frame was saved.
-const UNSAVED: Saved<'static> = (&[], &[], (0, 0));
-
-/// A controller of a pending word, a mask word and map words.
-fn controller(pending: u32, mask: u32, maps: (u32, u32, u32)) -> Ints {
-    let mut ints = Ints::new();
-    ints.set_pending(pending);
-    ints.set_mask(mask);
-    ints.set_maps([maps.0, 0, 0]);
-    ints.set_map(1, maps.1);
-    ints.set_map(2, maps.2);
-    ints
+/// A controller over a memory with an interrupt table, and frames; what was chosen, and where it is entered: PC, and
+/// the frame and stack pointers.
+#[derive(Drop)]
+struct Scene {
+    ints: Ints,
+    memory: Memory,
+    watch: Watch,
+    table: u32,
+    chosen: Chosen,
+    at: (u32, u32, u32),
 }
 
-/// The choice of a line, with its vector.
-fn line((k, vector): (u8, u8)) -> Chosen {
-    Chosen {
-        vector,
-        cause: Cause::Line(k),
-    }
+/// Nothing is posted, and no frame was saved. There is room for 36 bytes at the table. Software asks for vector 23
+/// while an interrupt is handled.
+fn fresh(alloc: Global, table: u32) -> Result<Scene, Fail> {
+    let mut memory = Memory::new(alloc);
+    memory.reserve(table, 36)?;
+    Ok(Scene {
+        ints: Ints::new(),
+        memory,
+        watch: Watch::new(alloc),
+        table,
+        chosen: soft(23),
+        at: (0x0001_2403, 0x3004, 0x3041),
+    })
 }
 
 /// The choice of a vector that software asks for.
@@ -50,379 +54,136 @@ fn soft(vector: u8) -> Chosen {
     }
 }
 
-/// A memory with room for 36 bytes at a table, and these bytes.
-fn memory(alloc: Global, table: u32, bytes: &[(u32, u8)]) -> Result<Memory, Fail> {
-    let mut memory = Memory::new(alloc);
-    memory.reserve(table, 36)?;
-    for (a, byte) in bytes {
-        memory.reserve(*a, 1)?;
-        memory.put_byte(*a, *byte);
-    }
-    Ok(memory)
+/// Sets the pending word, the mask word and the map words.
+fn controls(ints: &mut Ints, pending: u32, mask: u32, maps: (u32, u32, u32)) {
+    ints.set_pending(pending);
+    ints.set_mask(mask);
+    ints.set_maps([maps.0, 0, 0]);
+    ints.set_map(1, maps.1);
+    ints.set_map(2, maps.2);
 }
 
-/// Saves the frame at a frame pointer.
-fn save(watch: &mut Watch, fp: u32) -> Result<(), Fail> {
-    match watch.plan_push(fp, 0, 0, 0) {
-        Ok(push) => {
-            watch.reserve(push.save)?;
-            watch.called(push.save);
-            Ok(())
+/// Changes the controller.
+fn posts(ints: &mut Ints, name: &str, numbers: &[u32]) -> Result<(), Fail> {
+    match (name, numbers) {
+        ("nmi", []) => ints.post_nmi(),
+        ("pin", &[k]) if k < 8 => ints.post_pin(k as u8),
+        ("dma", &[k]) if k < 4 => ints.post_dma(k as u8),
+        ("pending", &[word]) => ints.set_pending(word),
+        ("mask", &[word]) => ints.set_mask(word),
+        ("lines", &[pending, mask, a, b, c]) => controls(ints, pending, mask, (a, b, c)),
+        _ => return Err("no such step".into()),
+    }
+    Ok(())
+}
+
+/// Chooses an interrupt, or the place where it is entered.
+fn chooses(scene: &mut Scene, name: &str, numbers: &[u32]) -> Result<(), Fail> {
+    match (name, numbers) {
+        ("chosen_soft", &[vector]) => scene.chosen = soft(u8::try_from(vector)?),
+        ("chosen_line", &[k, vector]) => {
+            scene.chosen = Chosen {
+                vector: u8::try_from(vector)?,
+                cause: Cause::Line(u8::try_from(k)?),
+            };
         }
+        ("chosen_nmi", []) => scene.chosen = NMI,
+        ("at", &[pc, fp, sp]) => scene.at = (pc, fp, sp),
+        _ => posts(&mut scene.ints, name, numbers)?,
+    }
+    Ok(())
+}
+
+/// Does a step.
+fn does(alloc: Global, scene: &mut Scene, step: &str) -> Result<(), Fail> {
+    let (name, numbers) = named(step);
+    let numbers = hex_words(alloc, numbers)?;
+    match (name, numbers.as_slice()) {
+        ("", []) => {}
+        ("table", &[table]) => *scene = fresh(alloc, table)?,
+        ("bytes", [a, bytes @ ..]) => put_bytes(&mut scene.memory, *a, bytes)?,
+        ("left", frames) => left(&mut scene.watch, frames)?,
+        ("live", frames) => live(&mut scene.watch, frames)?,
+        ("wrote", &[a, n]) => scene.watch.wrote(a, n),
+        (_, numbers) => chooses(scene, name, numbers)?,
+    }
+    Ok(())
+}
+
+/// The vector that is chosen, and its cause.
+fn chosen_text(alloc: Global, chosen: Option<Chosen>) -> Told {
+    match chosen {
+        Some(c) => Ok(format!(in alloc; "{:X} {:?}", c.vector, c.cause)?),
+        None => Ok(format!(in alloc; "none")?),
+    }
+}
+
+/// What is chosen of what is posted and of what software asks for.
+fn choice_text(alloc: Global, scene: &Scene, pc: u32) -> Told {
+    let ints = &scene.ints;
+    match ints.choose_soft(&scene.memory, &scene.watch, scene.table, pc) {
+        Ok(chosen) => chosen_text(alloc, chosen),
+        Err(a) => hazard_text(alloc, a),
+    }
+}
+
+/// The entry of what was chosen, where AC is 8084 and the interrupt stack is at 8008.
+fn plan_text(alloc: Global, scene: &Scene) -> Told {
+    let (pc, fp, sp) = scene.at;
+    let planned = scene.ints.plan_int(
+        &scene.memory,
+        &scene.watch,
+        scene.table,
+        0x8008,
+        &scene.chosen,
+        pc,
+        0x8084,
+        fp,
+        sp,
+    );
+    entry_text(alloc, planned.map_err(FaultStop::Hazard))
+}
+
+/// Bytes behind their addresses.
+fn places_text(alloc: Global, bytes: &[(u32, u8)]) -> Told {
+    let mut text = String::new(alloc);
+    for (a, byte) in bytes {
+        add(&mut text, " ", &format!(in alloc; "{a:X} {byte:X}")?)?;
+    }
+    Ok(text)
+}
+
+/// The bytes that clear what was chosen, once it is entered.
+#[tactic(auto, using(i9_ints::proofs::AfterRecords::record_free))]
+fn cleared(
+    memory: &Memory,
+    watch: &Watch,
+    table: u32,
+    chosen: &Chosen,
+    (pc, fp, sp): (u32, u32, u32),
+) -> Result<ArrayVec<(u32, u8), 2>, Fail> {
+    let ints = Ints::new();
+    match ints.plan_int(memory, watch, table, 0x8008, chosen, pc, 0x8084, fp, sp) {
+        Ok(entry) => Ok(clearing_bytes(memory, table, chosen, &entry)),
         Err(_) => Err("a hazard".into()),
     }
 }
 
-/// A watch of these frames.
-fn watch(alloc: Global, saved: Saved) -> Result<Watch, Fail> {
-    let (left, live, written) = saved;
-    let mut watch = Watch::new(alloc);
-    for fp in left {
-        save(&mut watch, *fp)?;
-        if watch.first_live().is_some() {
-            watch.returned();
-        }
-    }
-    for fp in live {
-        save(&mut watch, *fp)?;
-    }
-    watch.wrote(written.0, written.1);
-    Ok(watch)
-}
-
-#[test]
-fn posts(rt: HostRuntime) {
-    let mut ints = Ints::new();
-    assert_eq!(rt; (ints.pending(), ints.mask()), (0, 0));
-    ints.post_pin(0);
-    ints.post_pin(7);
-    ints.post_dma(0);
-    ints.post_dma(3);
-    assert_eq!(rt; (ints.pending(), ints.mask()), (0x981, 0));
-    // Twelve bits are kept.
-    ints.set_pending(0xFFFF_F123);
-    ints.set_mask(0xFFFF_FFFE);
-    assert_eq!(rt; (ints.pending(), ints.mask()), (0x123, 0xFFE));
-    ints.post_pin(1);
-    assert_eq!(rt; ints.pending(), 0x123);
-}
-
-#[test]
-fn chooses_lines(rt: HostRuntime) {
-    // The pending and the mask word, the maps, PC, and the line that is chosen, with its vector.
-    let rows = [
-        // Pin 0 has vector 18, of priority 2. The other bits of PC don't count.
-        ((1, 0xFFF, (1, 0, 0)), 0x0002_0000, None),
-        ((1, 0xFFF, (1, 0, 0)), 0x0001_0000, Some((0, 18))),
-        ((1, 0xFFF, (1, 0, 0)), 0xFFE1_FFFF, Some((0, 18))),
-        // It is masked, or another pin is posted.
-        ((1, 0xFFE, (1, 0, 0)), 0, None),
-        ((2, 0xFFF, (1, 0, 0)), 0, None),
-        // No vector below 8 is entered.
-        ((0xFFF, 0xFFF, (0, 0, 0)), 0, None),
-        // The greatest vector, and of one vector the lowest line.
-        ((0xFFF, 0xFFF, (0x1432, 0x5, 0)), 0, Some((4, 82))),
-        ((0xFFF, 0xFFF, (0x0400, 0, 0x40)), 0, Some((2, 66))),
-        // Fields of the maps, as far as line 11 with vector 242.
-        ((0xFFF, 0xFFF, (0x7001, 0, 0)), 0, Some((3, 114))),
-        ((0xFFF, 0xFFF, (0, 0x7001, 0)), 0, Some((7, 114))),
-        ((0xFFF, 0xFFF, (0, 0, 1)), 0, Some((8, 18))),
-        (
-            (0xFFF, 0xFFF, (0, 0, 0xFFFF_F000)),
-            0x001D_0000,
-            Some((11, 242)),
-        ),
-        ((0xFFF, 0xFFF, (0, 0, 0xFFFF_F000)), 0x001E_0000, None),
-    ];
-    for ((pending, mask, maps), pc, wanted) in rows {
-        let chosen = controller(pending, mask, maps).choose(pc);
-        assert_eq!(rt; chosen, wanted.map(line), "{pending:?} {maps:?}");
-    }
-    // The interrupt that is never masked comes first.
-    for (pending, mask) in [(0, 0), (0xFFF, 0), (0xFFF, 0xFFF)] {
-        let mut ints = controller(pending, mask, (0xFFFF, 0xFFFF, 0xFFFF));
-        ints.post_nmi();
-        assert_eq!(rt; ints.choose(0x001F_2002), Some(NMI));
+/// The bytes that a request of software stores.
+fn request_text(alloc: Global, scene: &Scene, vector: u8) -> Told {
+    match plan_request(&scene.memory, &scene.watch, scene.table, vector) {
+        Ok(bytes) => places_text(alloc, &bytes),
+        Err(a) => hazard_text(alloc, a),
     }
 }
 
-#[test]
-fn chooses_requests(rt: HostRuntime) -> Result<(), Fail> {
-    let watch = watch(rt.alloc(), UNSAVED)?;
-    // Two bytes of the table, PC, and the vector that is chosen.
-    let rows = [
-        // Vector 250 has priority 31: bit 7 of byte 3, and bit 2 of byte 35.
-        ((0x4003, 0x80), (0x4023, 0x04), 0x001F_2002, Some(250)),
-        // One of the two bits is not set.
-        ((0x4003, 0x40), (0x4023, 0x04), 0, None),
-        ((0x4003, 0x80), (0x4022, 0x04), 0, None),
-        // Vectors 18 and 23 have priority 2, and vector 24 has priority 3.
-        ((0x4000, 0x04), (0x4006, 0x84), 0x0001_0000, Some(23)),
-        ((0x4000, 0x04), (0x4006, 0x04), 0x0001_0000, Some(18)),
-        ((0x4000, 0x04), (0x4006, 0x84), 0x0002_0000, None),
-        ((0x4000, 0x0C), (0x4007, 0x01), 0x0002_0000, Some(24)),
-        // Priority 0 is never let in.
-        ((0x4000, 0x01), (0x4004, 0xFF), 0, None),
-    ];
-    for (first, second, pc, wanted) in rows {
-        let memory = memory(rt.alloc(), TABLE, &[first, second])?;
-        let chosen = Ints::new().choose_soft(&memory, &watch, TABLE, pc);
-        assert_eq!(rt; chosen, Ok(wanted.map(soft)), "{second:?}");
+/// Software asks for a vector.
+fn requests(alloc: Global, memory: &mut Memory, watch: &mut Watch, table: u32, vector: u8) -> Told {
+    memory.reserve(table, 36)?;
+    match Ints::request(memory, watch, table, vector) {
+        Ok(()) => Ok(format!(in alloc; "done")?),
+        Err(a) => hazard_text(alloc, a),
     }
-    // Pin 0 has vector 18: of one priority it comes first, whatever vector software asks for.
-    let pin_0 = controller(1, 1, (1, 0, 0));
-    let rows = [
-        ((0x4000, 0x04), (0x4006, 0x80), line((0, 18))),
-        ((0x4000, 0x02), (0x4005, 0x80), line((0, 18))),
-        ((0x4000, 0x08), (0x4007, 0x01), soft(24)),
-    ];
-    for (first, second, wanted) in rows {
-        let memory = memory(rt.alloc(), TABLE, &[first, second])?;
-        let chosen = pin_0.choose_soft(&memory, &watch, TABLE, 0);
-        assert_eq!(rt; chosen, Ok(Some(wanted)), "{second:?}");
-    }
-    Ok(())
-}
-
-#[test]
-fn reads_all_requests(rt: HostRuntime) -> Result<(), Fail> {
-    let memory = memory(rt.alloc(), TABLE, &[])?;
-    // They are read where the interrupt that is never masked is posted too.
-    let mut ints = Ints::new();
-    ints.post_nmi();
-    // A frame that was left, and what comes of it.
-    let rows = [
-        (0x3FC0, Ok(Some(NMI))),
-        (0x3FD0, Err(0x4000)),
-        (0x4020, Err(0x4020)),
-        (0x4030, Ok(Some(NMI))),
-    ];
-    for (left, wanted) in rows {
-        let watch = watch(rt.alloc(), (&[left], &[], (0, 0)))?;
-        assert_eq!(rt; ints.choose_soft(&memory, &watch, TABLE, 0), wanted);
-    }
-    Ok(())
-}
-
-/// The word of vector 23, which is at 4060: a handler at 1100, with low bits that don't count.
-const HANDLER: &[(u32, u8)] = &[(0x4060, 0x03), (0x4061, 0x11)];
-
-/// What an entry makes from the process controls, the frame and the stack pointer, where AC is 8084
-/// and the interrupt stack is at 8008.
-fn entered(
-    rt: &HostRuntime,
-    bytes: &[(u32, u8)],
-    saved: Saved,
-    table: u32,
-    chosen: Chosen,
-    (pc, fp, sp): (u32, u32, u32),
-) -> Result<Result<IntEntry, u32>, Fail> {
-    let memory = memory(rt.alloc(), table, bytes)?;
-    let watch = watch(rt.alloc(), saved)?;
-    let ints = Ints::new();
-    Ok(ints.plan_int(&memory, &watch, table, 0x8008, &chosen, pc, 0x8084, fp, sp))
-}
-
-/// An entry with the handler at 1100, from the frame at 3000 and AC 8084.
-fn entry(frame: u32, sp: u32, pc: u32, old: u32, vector: u32) -> IntEntry {
-    IntEntry {
-        push: Push {
-            save: 0x3000,
-            frame,
-            pfp: 0x3007,
-            sp,
-        },
-        target: 0x1100,
-        pc,
-        words: [old, 0x8084, vector, 0],
-    }
-}
-
-/// Process controls while an interrupt is handled, a frame pointer and a stack pointer.
-const HANDLED: (u32, u32, u32) = (0x0001_2403, 0x3004, 0x3041);
-
-#[test]
-fn enters(rt: HostRuntime) -> Result<(), Fail> {
-    let other: &[(u32, u8)] = &[(0x404D, 0x11), (0x43E5, 0x11)];
-    let rows = [
-        // On the stack in use while an interrupt is handled, and else on the interrupt stack.
-        (
-            HANDLER,
-            soft(23),
-            HANDLED,
-            entry(0x3060, 0x30A0, 0x0002_2002, 0x0001_2403, 23),
-        ),
-        (
-            HANDLER,
-            soft(23),
-            (0x0001_DFFF, 0x3004, 0x3041),
-            entry(0x8020, 0x8060, 0x0002_2002, 0x0001_DFFF, 23),
-        ),
-        // The word of vector 18 is at 404C, and that of vector 248 at 43E4.
-        (
-            other,
-            line((0, 18)),
-            (0, 0x3004, 0x3041),
-            entry(0x8020, 0x8060, 0x0002_2002, 0, 18),
-        ),
-        (
-            other,
-            NMI,
-            HANDLED,
-            entry(0x3060, 0x30A0, 0x001F_2002, 0x0001_2403, 248),
-        ),
-    ];
-    for (bytes, chosen, before, wanted) in rows {
-        let made = entered(&rt, bytes, UNSAVED, TABLE, chosen, before)?;
-        assert_eq!(rt; made, Ok(wanted));
-    }
-    Ok(())
-}
-
-#[test]
-fn meets_hazards_in_order(rt: HostRuntime) -> Result<(), Fail> {
-    // The frames, the table, PC with fp and sp, and the hazard.
-    let rows: [(Saved, u32, (u32, u32, u32), u32); 13] = [
-        // The word of the vector, the save area, and the record, with everything later.
-        (
-            (&[0x4060, 0x4000], &[0x3010, 0x3050], (0, 0)),
-            TABLE,
-            HANDLED,
-            0x4060,
-        ),
-        (
-            (&[0x4000], &[0x3010, 0x3050], (0, 0)),
-            TABLE,
-            HANDLED,
-            0x3010,
-        ),
-        ((&[0x4000], &[0x3050], (0, 0)), TABLE, HANDLED, 0x3050),
-        ((&[], &[0x8000], (0, 0)), TABLE, (0, 0x3004, 0x3041), 0x8010),
-        (UNSAVED, TABLE, (0x2000, 0x3004, 0x2FF1), 0x3000),
-        // The same in the port page.
-        (UNSAVED, TABLE, (0, 0xDFFF_FFDF, 0x3041), 0xE000_0000),
-        (UNSAVED, TABLE, (0x2000, 0x3004, 0xDFFF_FFF1), 0xE000_0000),
-        // The byte of the priority, and that of the vectors: they are soft, or the entry saves them.
-        ((&[0x4000], &[], (0, 0)), TABLE, HANDLED, 0x4000),
-        ((&[0x4000], &[], (0, 0)), 0x3FFC, HANDLED, 0x4002),
-        (UNSAVED, TABLE, (0, 0x4000, 0x3041), 0x4000),
-        (UNSAVED, 0x3FFC, (0, 0x4000, 0x3041), 0x4002),
-        // They are written in the port page.
-        (UNSAVED, 0xE000_0000, HANDLED, 0xE000_0000),
-        (UNSAVED, 0xDFFF_FFFC, HANDLED, 0xE000_0002),
-    ];
-    for (saved, table, before, wanted) in rows {
-        let made = entered(&rt, HANDLER, saved, table, soft(23), before)?;
-        assert_eq!(rt; made, Err(wanted));
-    }
-    Ok(())
-}
-
-#[test]
-fn writes_live_bytes(rt: HostRuntime) -> Result<(), Fail> {
-    // Live bytes that were written to are not soft.
-    let hard: Saved = (&[], &[0x4000], (0x4000, 36));
-    // The byte of the vectors: that of the priority is written where no other vector is left.
-    for (vectors, wanted) in [(0x84, 0x4006), (0x80, 0x4000), (0x00, 0x4000)] {
-        let made = entered(&rt, &[(0x4006, vectors)], hard, TABLE, soft(23), HANDLED)?;
-        assert_eq!(rt; made, Err(wanted));
-    }
-    Ok(())
-}
-
-#[test]
-fn reads_the_record(rt: HostRuntime) -> Result<(), Fail> {
-    let before = (0x0001_2403, 0x3004, 0x4000);
-    // The record is at 4000 and AC at 4004, where the bits of the vectors are: 18 and 23 are set.
-    let live: Saved = (&[], &[0x3FC0], (0x3FFE, 2));
-    let bytes = &[(0x4004, 0x80), (0x405F, 0x11)];
-    let wanted = entry(0x4010, 0x4050, 0x0002_2002, 0x0001_2403, 23);
-    let made = entered(&rt, bytes, live, 0x3FFE, soft(23), before)?;
-    assert_eq!(rt; made, Ok(wanted));
-    // Soft bytes under the record are not soft any more.
-    let left: Saved = (&[0x4000], &[], (0, 0));
-    let made = entered(&rt, HANDLER, left, TABLE, soft(23), before)?;
-    assert_eq!(rt; made, Ok(wanted));
-    // A line reads nothing of the requests.
-    let made = entered(&rt, HANDLER, left, TABLE, line((5, 23)), HANDLED)?;
-    assert_eq!(rt;
-        made,
-        Ok(entry(0x3060, 0x30A0, 0x0002_2002, 0x0001_2403, 23))
-    );
-    Ok(())
-}
-
-#[test]
-fn requests(rt: HostRuntime) -> Result<(), Fail> {
-    // The vector; where the bytes of its priority and of its vectors are; before and after.
-    let rows = [
-        (23, (0x4000, 0x4006), (0, 0), (0x04, 0x80)),
-        (23, (0x4000, 0x4006), (0x10, 0x01), (0x14, 0x81)),
-        (23, (0x4000, 0x4006), (0x04, 0x80), (0x04, 0x80)),
-        (250, (0x4003, 0x4023), (0, 0), (0x80, 0x04)),
-        // sysctl asks for none of the vectors below 8; here they are vectors as any other.
-        (0, (0x4000, 0x4004), (0, 0), (0x01, 0x01)),
-        (7, (0x4000, 0x4004), (0, 0), (0x01, 0x80)),
-        (8, (0x4000, 0x4005), (0, 0), (0x02, 0x01)),
-        (255, (0x4003, 0x4023), (0, 0), (0x80, 0x80)),
-    ];
-    for (vector, at, before, after) in rows {
-        let mut memory = memory(rt.alloc(), TABLE, &[(at.0, before.0), (at.1, before.1)])?;
-        let mut watch = watch(rt.alloc(), UNSAVED)?;
-        memory.reserve(TABLE, 36)?;
-        assert_eq!(rt;
-            plan_request(&memory, &watch, TABLE, vector),
-            Ok([(at.0, after.0), (at.1, after.1)])
-        );
-        assert_eq!(rt;
-            Ints::request(&mut memory, &mut watch, TABLE, vector),
-            Ok(())
-        );
-        assert_eq!(rt; (memory.byte(at.0), memory.byte(at.1)), after);
-    }
-    Ok(())
-}
-
-#[test]
-fn requests_meet_hazards(rt: HostRuntime) -> Result<(), Fail> {
-    let left: Saved = (&[0x4000], &[], (0, 0));
-    let hard: Saved = (&[], &[0x4000], (0x4000, 36));
-    let rows = [
-        (left, TABLE, 0x4000),
-        (left, 0x3FFC, 0x4002),
-        (hard, TABLE, 0x4000),
-        (hard, 0x3FFC, 0x4002),
-        // The byte of the priority is live, and that of the vectors is soft, which comes first.
-        ((&[0x4000], &[0x3FC0], (0x3FFC, 4)), 0x3FFC, 0x4002),
-        (UNSAVED, 0xE000_0000, 0xE000_0000),
-        (UNSAVED, 0xDFFF_FFFC, 0xE000_0002),
-    ];
-    for (saved, table, wanted) in rows {
-        let mut memory = memory(rt.alloc(), table, &[])?;
-        let mut watch = watch(rt.alloc(), saved)?;
-        memory.reserve(table, 36)?;
-        let done = Ints::request(&mut memory, &mut watch, table, 23);
-        assert_eq!(rt; (done, memory.byte(table)), (Err(wanted), 0));
-    }
-    Ok(())
-}
-
-#[test]
-fn takes_lines(rt: HostRuntime) -> Result<(), Fail> {
-    let mut memory = memory(rt.alloc(), TABLE, &[])?;
-    let mut watch = watch(rt.alloc(), UNSAVED)?;
-    memory.reserve(TABLE, 36)?;
-    let mut ints = controller(0xFFF, 0xFFF, (0x0100, 0, 0));
-    ints.post_nmi();
-    let pin_2 = Chosen {
-        vector: 18,
-        cause: Cause::Line(2),
-    };
-    ints.take(&mut memory, &mut watch, TABLE, &NMI);
-    assert_eq!(rt; (ints.pending(), ints.choose(0)), (0xFFF, Some(pin_2)));
-    ints.take(&mut memory, &mut watch, TABLE, &pin_2);
-    assert_eq!(rt; (ints.pending(), ints.choose(0)), (0xFFB, None));
-    Ok(())
 }
 
 /// Enters an interrupt: plans it, saves the frame, writes the record, and clears what chose it.
@@ -448,85 +209,232 @@ fn enter(
     }
 }
 
+/// The interrupt that is never masked is taken.
+fn take_nmi(ints: &mut Ints, memory: &mut Memory, watch: &mut Watch) -> Result<(), Fail> {
+    memory.reserve(TABLE, 36)?;
+    ints.take(memory, watch, TABLE, &NMI);
+    Ok(())
+}
+
+/// Pin 2, which has vector 18, is taken.
+fn take_pin_2(ints: &mut Ints, memory: &mut Memory, watch: &mut Watch) -> Result<(), Fail> {
+    let pin_2 = Chosen {
+        vector: 18,
+        cause: Cause::Line(2),
+    };
+    memory.reserve(TABLE, 36)?;
+    ints.take(memory, watch, TABLE, &pin_2);
+    Ok(())
+}
+
+/// Takes an interrupt: one of software is entered first.
+fn takes(alloc: Global, scene: &mut Scene, name: &str) -> Told {
+    let Scene {
+        ints,
+        memory,
+        watch,
+        chosen,
+        ..
+    } = scene;
+    match name {
+        "take_nmi" => take_nmi(ints, memory, watch)?,
+        "take_pin_2" => take_pin_2(ints, memory, watch)?,
+        "enter" => enter(ints, memory, watch, chosen)?,
+        _ => return Err("no such question".into()),
+    }
+    Ok(format!(in alloc; "taken")?)
+}
+
+/// The answer to a question of what software asks for, and of the bytes that have it.
+fn request_answer(alloc: Global, scene: &mut Scene, name: &str, numbers: &[u32]) -> Told {
+    match (name, numbers) {
+        ("plan_request", &[vector]) => request_text(alloc, scene, u8::try_from(vector)?),
+        ("request", &[vector]) => {
+            let vector = u8::try_from(vector)?;
+            let table = scene.table;
+            requests(alloc, &mut scene.memory, &mut scene.watch, table, vector)
+        }
+        ("byte", &[a]) => hex_text(alloc, u32::from(scene.memory.byte(a))),
+        _ => takes(alloc, scene, name),
+    }
+}
+
+/// The answer to a question.
+fn answer(alloc: Global, scene: &mut Scene, question: &str) -> Told {
+    let (name, numbers) = named(question);
+    let numbers = hex_words(alloc, numbers)?;
+    match (name, numbers.as_slice()) {
+        ("pending", []) => hex_text(alloc, scene.ints.pending()),
+        ("mask", []) => hex_text(alloc, scene.ints.mask()),
+        ("choose", &[pc]) => chosen_text(alloc, scene.ints.choose(pc)),
+        ("choose_soft", &[pc]) => choice_text(alloc, scene, pc),
+        ("plan", []) => plan_text(alloc, scene),
+        ("cleared", []) => {
+            let (table, at) = (scene.table, scene.at);
+            let bytes = cleared(&scene.memory, &scene.watch, table, &scene.chosen, at)?;
+            places_text(alloc, bytes.as_slice())
+        }
+        (_, numbers) => request_answer(alloc, scene, name, numbers),
+    }
+}
+
+/// Does the steps of a row, and answers its questions.
+fn told(alloc: Global, scene: &mut Scene, steps: &str, questions: &str) -> Told {
+    for step in steps.split(',') {
+        does(alloc, scene, step)?;
+    }
+    let mut text = String::new(alloc);
+    for question in questions.split(',') {
+        add(&mut text, ", ", &answer(alloc, scene, question)?)?;
+    }
+    Ok(text)
+}
+
+/// What is posted, masked and chosen: the vector and its cause. The interrupt that is never masked comes first.
+const LINES: &str = "\
+table 4000 | pending, mask | 0, 0
+pin 0, pin 7, dma 0, dma 3 | pending, mask | 981, 0
+pending FFFFF123, mask FFFFFFFE | pending, mask | 123, FFE | twelve bits are kept
+pin 1 | pending | 123
+table 4000, lines 1 FFF 1 0 0 | choose 20000 | none | pin 0 has vector 18, of priority 2
+table 4000, lines 1 FFF 1 0 0 | choose 10000 | 12 Line(0)
+table 4000, lines 1 FFF 1 0 0 | choose FFE1FFFF | 12 Line(0) | the other bits of PC don't count
+table 4000, lines 1 FFE 1 0 0 | choose 0 | none | it is masked
+table 4000, lines 2 FFF 1 0 0 | choose 0 | none | another pin is posted
+table 4000, lines FFF FFF 0 0 0 | choose 0 | none | no vector below 8 is entered
+table 4000, lines FFF FFF 1432 5 0 | choose 0 | 52 Line(4) | the greatest vector, and of one vector the lowest line
+table 4000, lines FFF FFF 400 0 40 | choose 0 | 42 Line(2)
+table 4000, lines FFF FFF 7001 0 0 | choose 0 | 72 Line(3) | fields of the maps, as far as line 11 with vector 242
+table 4000, lines FFF FFF 0 7001 0 | choose 0 | 72 Line(7)
+table 4000, lines FFF FFF 0 0 1 | choose 0 | 12 Line(8)
+table 4000, lines FFF FFF 0 0 FFFFF000 | choose 1D0000 | F2 Line(11)
+table 4000, lines FFF FFF 0 0 FFFFF000 | choose 1E0000 | none
+table 4000, lines 0 0 FFFF FFFF FFFF, nmi | choose 1F2002 | F8 Nmi
+table 4000, lines FFF 0 FFFF FFFF FFFF, nmi | choose 1F2002 | F8 Nmi
+table 4000, lines FFF FFF FFFF FFFF FFFF, nmi | choose 1F2002 | F8 Nmi
+table 4000, lines FFF FFF 100 0 0, nmi | take_nmi, pending, choose 0 | taken, FFF, 12 Line(2)
+ | take_pin_2, pending, choose 0 | taken, FFB, none
+";
+
+/// What software asks for, in two bytes of the table. Pin 0 has vector 18: of one priority it comes first, whatever
+/// vector software asks for. Requests are read where the interrupt that is never masked is posted too.
+const CHOICES: &str = "\
+table 4000, bytes 4003 80, bytes 4023 4 | choose_soft 1F2002 | \
+FA Soft | vector 250 has priority 31: bit 7 of byte 3, and bit 2 of byte 35
+table 4000, bytes 4003 40, bytes 4023 4 | choose_soft 0 | none | one of the two bits is not set
+table 4000, bytes 4003 80, bytes 4022 4 | choose_soft 0 | none
+table 4000, bytes 4000 4, bytes 4006 84 | choose_soft 10000 | \
+17 Soft | vectors 18 and 23 have priority 2, and vector 24 has priority 3
+table 4000, bytes 4000 4, bytes 4006 4 | choose_soft 10000 | 12 Soft
+table 4000, bytes 4000 4, bytes 4006 84 | choose_soft 20000 | none
+table 4000, bytes 4000 C, bytes 4007 1 | choose_soft 20000 | 18 Soft
+table 4000, bytes 4000 1, bytes 4004 FF | choose_soft 0 | none | priority 0 is never let in
+table 4000, lines 1 1 1 0 0, bytes 4000 4, bytes 4006 80 | choose_soft 0 | 12 Line(0)
+table 4000, lines 1 1 1 0 0, bytes 4000 2, bytes 4005 80 | choose_soft 0 | 12 Line(0)
+table 4000, lines 1 1 1 0 0, bytes 4000 8, bytes 4007 1 | choose_soft 0 | 18 Soft
+table 4000, nmi, left 3FC0 | choose_soft 0 | F8 Nmi
+table 4000, nmi, left 3FD0 | choose_soft 0 | hazard 4000
+table 4000, nmi, left 4020 | choose_soft 0 | hazard 4020
+table 4000, nmi, left 4030 | choose_soft 0 | F8 Nmi
+";
+
 #[test]
-fn takes_requests(rt: HostRuntime) -> Result<(), Fail> {
-    // Vectors 18 and 23 have priority 2, and another vector has priority 1: the bytes at 4000 and
-    // 4006 before, the vector, and both bytes after.
-    let rows = [
-        ((0x06, 0x84), 23, (0x06, 0x04)),
-        ((0x06, 0x84), 18, (0x06, 0x80)),
-        ((0x06, 0x80), 23, (0x02, 0x00)),
-        ((0x04, 0x04), 18, (0x00, 0x00)),
-    ];
-    for (before, vector, after) in rows {
-        let bytes = [(0x4000, before.0), (0x4006, before.1)];
-        let mut memory = memory(rt.alloc(), TABLE, &bytes)?;
-        let mut watch = watch(rt.alloc(), UNSAVED)?;
-        let mut ints = controller(0xFFF, 0xFFF, (0, 0, 0));
-        enter(&mut ints, &mut memory, &mut watch, &soft(vector))?;
-        assert_eq!(rt; (memory.byte(0x4000), memory.byte(0x4006)), after);
-        assert_eq!(rt; ints.pending(), 0xFFF);
+fn chooses_interrupts(rt: HostRuntime) -> Result<(), Fail> {
+    let mut scene = fresh(rt.alloc(), TABLE)?;
+    for row in LINES.lines().chain(CHOICES.lines()) {
+        let (steps, questions, wanted) = columns(row)?;
+        let text = told(rt.alloc(), &mut scene, steps, questions)?;
+        assert_eq!(rt; text.as_str(), wanted, "{row}");
     }
     Ok(())
 }
 
-/// The bytes that clear what chose an interrupt, where no frame was saved.
-#[tactic(auto, using(i9_ints::proofs::AfterRecords::record_free))]
-fn cleared(
-    rt: &HostRuntime,
-    memory: &Memory,
-    table: u32,
-    chosen: &Chosen,
-    (pc, fp, sp): (u32, u32, u32),
-) -> Result<ArrayVec<(u32, u8), 2>, Fail> {
-    let watch = watch(rt.alloc(), UNSAVED)?;
-    let ints = Ints::new();
-    match ints.plan_int(memory, &watch, table, 0x8008, chosen, pc, 0x8084, fp, sp) {
-        Ok(entry) => Ok(clearing_bytes(memory, table, chosen, &entry)),
-        Err(_) => Err("a hazard".into()),
-    }
-}
+/// Entries, with a handler at 1100, whose word has low bits that don't count: on the stack in use while an interrupt
+/// is handled, and else on the interrupt stack. The words of vectors 18, 23 and 248 are at 404C, 4060 and 43E4.
+const ENTRIES: &str = "\
+table 4000, bytes 4060 3 11 | plan | 1100 22002 saves 3000 3060 3007 30A0 record 12403 8084 17 0
+table 4000, bytes 4060 3 11, at 1DFFF 3004 3041 | plan | 1100 22002 saves 3000 8020 3007 8060 record 1DFFF 8084 17 0
+table 4000, bytes 404D 11, bytes 43E5 11, chosen_line 0 12, at 0 3004 3041 | plan | \
+1100 22002 saves 3000 8020 3007 8060 record 0 8084 12 0
+table 4000, bytes 404D 11, bytes 43E5 11, chosen_nmi | plan | \
+1100 1F2002 saves 3000 3060 3007 30A0 record 12403 8084 F8 0
+table 3FFE, bytes 4004 80, bytes 405F 11, live 3FC0, wrote 3FFE 2, at 12403 3004 4000 | plan | \
+1100 22002 saves 3000 4010 3007 4050 record 12403 8084 17 0 | the record is at 4000, and AC at 4004, where the bits of the vectors are
+table 4000, bytes 4060 3 11, left 4000, at 12403 3004 4000 | plan | \
+1100 22002 saves 3000 4010 3007 4050 record 12403 8084 17 0 | soft bytes under the record are not soft any more
+table 4000, bytes 4060 3 11, left 4000, chosen_line 5 17 | plan | \
+1100 22002 saves 3000 3060 3007 30A0 record 12403 8084 17 0 | a line reads nothing of the requests
+";
+
+/// Hazards in their order, the first ones with everything later. Live bytes that were written to are not soft; the
+/// byte of the priority is written where no other vector is left.
+const HAZARDS: &str = "\
+table 4000, bytes 4060 3 11, left 4060 4000, live 3010 3050 | plan | hazard 4060 | the word of the vector
+table 4000, bytes 4060 3 11, left 4000, live 3010 3050 | plan | hazard 3010 | the save area
+table 4000, bytes 4060 3 11, left 4000, live 3050 | plan | hazard 3050 | the record
+table 4000, bytes 4060 3 11, live 8000, at 0 3004 3041 | plan | hazard 8010
+table 4000, bytes 4060 3 11, at 2000 3004 2FF1 | plan | hazard 3000
+table 4000, bytes 4060 3 11, at 0 DFFFFFDF 3041 | plan | hazard E0000000 | the same in the port page
+table 4000, bytes 4060 3 11, at 2000 3004 DFFFFFF1 | plan | hazard E0000000
+table 4000, bytes 4060 3 11, left 4000 | plan | \
+hazard 4000 | the byte of the priority, and that of the vectors: they are soft
+table 3FFC, bytes 4060 3 11, left 4000 | plan | hazard 4002
+table 4000, bytes 4060 3 11, at 0 4000 3041 | plan | hazard 4000 | the entry saves them
+table 3FFC, bytes 4060 3 11, at 0 4000 3041 | plan | hazard 4002
+table E0000000, bytes 4060 3 11 | plan | hazard E0000000 | they are written in the port page
+table DFFFFFFC, bytes 4060 3 11 | plan | hazard E0000002
+table 4000, bytes 4006 84, live 4000, wrote 4000 24 | plan | hazard 4006
+table 4000, bytes 4006 80, live 4000, wrote 4000 24 | plan | hazard 4000
+table 4000, bytes 4006 0, live 4000, wrote 4000 24 | plan | hazard 4000
+";
+
+/// Bytes with the bits of requests: those that a request stores, those that are left once it is entered, and those
+/// that clear it. Vectors 18 and 23 have priority 2, and another vector has priority 1.
+const REQUESTS: &str = "\
+table 4000 | plan_request 17, request 17, byte 4000, byte 4006 | 4000 4 4006 80, done, 4, 80
+table 4000, bytes 4000 10, bytes 4006 1 | plan_request 17, request 17, byte 4000, byte 4006 | \
+4000 14 4006 81, done, 14, 81
+table 4000, bytes 4000 4, bytes 4006 80 | plan_request 17, request 17, byte 4000, byte 4006 | \
+4000 4 4006 80, done, 4, 80
+table 4000 | plan_request FA, request FA, byte 4003, byte 4023 | 4003 80 4023 4, done, 80, 4
+table 4000 | plan_request 0, request 0, byte 4000, byte 4004 | \
+4000 1 4004 1, done, 1, 1 | sysctl asks for none below 8; here they are vectors as any other
+table 4000 | plan_request 7, request 7, byte 4000, byte 4004 | 4000 1 4004 80, done, 1, 80
+table 4000 | plan_request 8, request 8, byte 4000, byte 4005 | 4000 2 4005 1, done, 2, 1
+table 4000 | plan_request FF, request FF, byte 4003, byte 4023 | 4003 80 4023 80, done, 80, 80
+table 4000, left 4000 | request 17, byte 4000 | hazard 4000, 0
+table 3FFC, left 4000 | request 17, byte 3FFC | hazard 4002, 0
+table 4000, live 4000, wrote 4000 24 | request 17, byte 4000 | \
+hazard 4000, 0 | live bytes that were written to are not soft
+table 3FFC, live 4000, wrote 4000 24 | request 17, byte 3FFC | hazard 4002, 0
+table 3FFC, left 4000, live 3FC0, wrote 3FFC 4 | request 17, byte 3FFC | \
+hazard 4002, 0 | the byte of the priority is live, and that of the vectors is soft
+table E0000000 | request 17, byte E0000000 | hazard E0000000, 0
+table DFFFFFFC | request 17, byte DFFFFFFC | hazard E0000002, 0
+table 4000, bytes 4000 6, bytes 4006 84, lines FFF FFF 0 0 0, chosen_soft 17 | enter, byte 4000, byte 4006, pending | \
+taken, 6, 4, FFF
+table 4000, bytes 4000 6, bytes 4006 84, lines FFF FFF 0 0 0, chosen_soft 12 | enter, byte 4000, byte 4006, pending | \
+taken, 6, 80, FFF
+table 4000, bytes 4000 6, bytes 4006 80, lines FFF FFF 0 0 0, chosen_soft 17 | enter, byte 4000, byte 4006, pending | \
+taken, 2, 0, FFF
+table 4000, bytes 4000 4, bytes 4006 4, lines FFF FFF 0 0 0, chosen_soft 12 | enter, byte 4000, byte 4006, pending | \
+taken, 0, 0, FFF
+table 4000, bytes 4000 6, bytes 4006 84 | cleared | 4006 4
+table 4000, bytes 4000 6, bytes 4006 80 | cleared | 4000 2 4006 0
+table 3FFE, bytes 3FFE 6, bytes 4004 80, at 12403 3004 4000 | cleared | \
+4004 4 | the record at 4000 has AC, 8084, at 4004
+table 4000, bytes 4000 6, bytes 4006 80, chosen_line 5 17 | cleared | 
+table 4000, bytes 4000 6, bytes 4006 80, chosen_nmi | cleared | 
+";
 
 #[test]
-fn clears_requests(rt: HostRuntime) -> Result<(), Fail> {
-    let at_record = (0x0001_2403, 0x3004, 0x4000);
-    // Two bytes before, the table, what was chosen, PC with fp and sp, and the bytes that clear it.
-    let rows: [([(u32, u8); 2], u32, Chosen, (u32, u32, u32), &[(u32, u8)]); 5] = [
-        (
-            [(0x4000, 0x06), (0x4006, 0x84)],
-            TABLE,
-            soft(23),
-            HANDLED,
-            &[(0x4006, 0x04)],
-        ),
-        (
-            [(0x4000, 0x06), (0x4006, 0x80)],
-            TABLE,
-            soft(23),
-            HANDLED,
-            &[(0x4000, 0x02), (0x4006, 0x00)],
-        ),
-        // The record is at 4000, and AC, which is 8084, at 4004, where the bits of the vectors are.
-        (
-            [(0x3FFE, 0x06), (0x4004, 0x80)],
-            0x3FFE,
-            soft(23),
-            at_record,
-            &[(0x4004, 0x04)],
-        ),
-        (
-            [(0x4000, 0x06), (0x4006, 0x80)],
-            TABLE,
-            line((5, 23)),
-            HANDLED,
-            &[],
-        ),
-        ([(0x4000, 0x06), (0x4006, 0x80)], TABLE, NMI, HANDLED, &[]),
-    ];
-    for (before, table, chosen, registers, wanted) in rows {
-        let memory = memory(rt.alloc(), table, &before)?;
-        let bytes = cleared(&rt, &memory, table, &chosen, registers)?;
-        assert_eq!(rt; bytes.as_slice(), wanted);
+fn enters_interrupts(rt: HostRuntime) -> Result<(), Fail> {
+    let mut scene = fresh(rt.alloc(), TABLE)?;
+    let rows = ENTRIES.lines().chain(HAZARDS.lines());
+    for row in rows.chain(REQUESTS.lines()) {
+        let (steps, questions, wanted) = columns(row)?;
+        let text = told(rt.alloc(), &mut scene, steps, questions)?;
+        assert_eq!(rt; text.as_str(), wanted, "{row}");
     }
     Ok(())
 }

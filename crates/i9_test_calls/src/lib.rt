@@ -9,3 +9,11 @@ mod dma;
 mod faults;
 #[cfg(test)]
 mod ints;
+#[cfg(test)]
+mod raised;
+#[cfg(test)]
+mod rows;
+#[cfg(test)]
+mod storage;
+#[cfg(test)]
+mod told;
