@@ -209,29 +209,29 @@ fn costs_and_kinds_of_names(rt: HostRuntime) -> Result<(), Fail> {
 /// waits of an atomic count, which stores nothing of its own and is no request. Calls, returns and sysctl change the
 /// frame.
 const NEEDS: &str = "\
-addo 1, g0, g1       | 0 0 0       | Reg 10000 20000 1000+4 1
-addc 1, g0, g1       | 0 0 0       | Reg 100010000 100020000 1000+4 1
-testno r4            | 0 0 0       | Ctl 100000000 10 1000+4 1
-cmpobg r4, r4, 0     | 0 0 0       | Ctl 10 100000000 1000+4 1
-bal 0                | 0 0 0       | Ctl 0 40000000 1000+4 1
-lda !(g8), g0        | 0 0 0       | Mem 1000000 10000 1000+4 1
-mulo g0, g1, g2      | 0 0 0       | Reg 30000 40000 1000+4 5 slow
-mulo g0, g1, g2      | 0 0 0 alone | Reg 30000 40000 1000+4 5 slow alone
-ldq !(g8), g0        | 16 2 0      | Mem 1000000 F0000 1000+4 3 request
-stl g0, (g8)[g9*4]   | 8 2 0       | Mem 3030000 0 1000+4 3 request stores 2000+8
-stob g0, 0x12345678  | 1 2 0       | Mem 10000 0 1000+8 3 request stores 2000+1
-lda 0x12345678, g0   | 0 0 0       | Mem 0 10000 1000+8 1
-ld !(g8), g0         | 4 2 0 port  | Mem 1000000 10000 1000+4 3 request barrier
-st g0, !(g8)         | 4 2 0 port  | Mem 1010000 0 1000+4 3 request barrier stores 2000+4
-mov g0, sf2          | 0 0 0       | Reg 10000 0 1000+4 1 barrier
-mov sf1, g0          | 0 0 0       | Reg 0 10000 1000+4 1
-atadd g0, g1, g2     | 4 2 0       | Reg 30000 40000 1000+4 4 barrier
-atmod g0, g1, g2     | 4 2 0       | Reg 70000 40000 1000+4 4 barrier
-call 0               | 0 0 0       | Ctl 0 8000FFFF 1000+4 4 barrier
-callx !(g8)          | 0 0 0       | Ctl 1000000 8000FFFF 1000+4 4 barrier
-calls r4             | 0 0 1       | Reg 10 8000FFFF 1000+4 20 barrier
-ret                  | 0 0 1       | Ctl 0 18000FFFF 1000+4 20 barrier
-sysctl g0, g1, g2    | 0 0 0       | Reg 70000 18000FFFF 1000+4 8 barrier
+addo 1, g0, g1      | 0 0 0       | Reg 10000 20000 1000+4 1
+addc 1, g0, g1      | 0 0 0       | Reg 100010000 100020000 1000+4 1
+testno r4           | 0 0 0       | Ctl 100000000 10 1000+4 1
+cmpobg r4, r4, 0    | 0 0 0       | Ctl 10 100000000 1000+4 1
+bal 0               | 0 0 0       | Ctl 0 40000000 1000+4 1
+lda !(g8), g0       | 0 0 0       | Mem 1000000 10000 1000+4 1
+mulo g0, g1, g2     | 0 0 0       | Reg 30000 40000 1000+4 5 slow
+mulo g0, g1, g2     | 0 0 0 alone | Reg 30000 40000 1000+4 5 slow alone
+ldq !(g8), g0       | 16 2 0      | Mem 1000000 F0000 1000+4 3 request
+stl g0, (g8)[g9*4]  | 8 2 0       | Mem 3030000 0 1000+4 3 request stores 2000+8
+stob g0, 0x12345678 | 1 2 0       | Mem 10000 0 1000+8 3 request stores 2000+1
+lda 0x12345678, g0  | 0 0 0       | Mem 0 10000 1000+8 1
+ld !(g8), g0        | 4 2 0 port  | Mem 1000000 10000 1000+4 3 request barrier
+st g0, !(g8)        | 4 2 0 port  | Mem 1010000 0 1000+4 3 request barrier stores 2000+4
+mov g0, sf2         | 0 0 0       | Reg 10000 0 1000+4 1 barrier
+mov sf1, g0         | 0 0 0       | Reg 0 10000 1000+4 1
+atadd g0, g1, g2    | 4 2 0       | Reg 30000 40000 1000+4 4 barrier
+atmod g0, g1, g2    | 4 2 0       | Reg 70000 40000 1000+4 4 barrier
+call 0              | 0 0 0       | Ctl 0 8000FFFF 1000+4 4 barrier
+callx !(g8)         | 0 0 0       | Ctl 1000000 8000FFFF 1000+4 4 barrier
+calls r4            | 0 0 1       | Reg 10 8000FFFF 1000+4 20 barrier
+ret                 | 0 0 1       | Ctl 0 18000FFFF 1000+4 20 barrier
+sysctl g0, g1, g2   | 0 0 0       | Reg 70000 18000FFFF 1000+4 8 barrier
 ";
 
 /// The same where it faults or meets a hazard: but by its result or by a trace, what faults keeps its resources, is no

@@ -1,4 +1,4 @@
-//! Rows of text, in three columns: a statement, what is given with it, and what is answered.
+//! Rows of text, in columns: a statement, what is given with it, if anything, and what is answered.
 ghost use Rattle.std.specs.Prelude.{IfOk};
 ghost use Rattle.i9_isa.specs.Valid.{IsValid};
 
@@ -8,7 +8,7 @@ use i9_value::Known;
 use std::alloc::Global;
 use std::test::Fail;
 
-/// The columns of a row.
+/// The columns of a row. Another one behind these is for the reader.
 pub(crate) fn columns(row: &str) -> Result<(&str, &str, &str), Fail> {
     let mut parts = row.split('|');
     match (parts.next(), parts.next(), parts.next()) {
@@ -16,6 +16,14 @@ pub(crate) fn columns(row: &str) -> Result<(&str, &str, &str), Fail> {
             Ok((statement.trim(), given.trim(), wanted.trim()))
         }
         _ => Err("a row has three columns".into()),
+    }
+}
+
+/// The columns of a row where nothing else is given.
+pub(crate) fn pair(row: &str) -> Result<(&str, &str), Fail> {
+    match row.split_once("|") {
+        Some((statement, wanted)) => Ok((statement.trim(), wanted.trim())),
+        None => Err("a row has two columns".into()),
     }
 }
 
