@@ -1,4 +1,5 @@
 //! Rows of text, in two columns: what is given, and what is answered.
+use std::alloc::Global;
 use std::test::Fail;
 
 /// The columns of a row.
@@ -16,4 +17,13 @@ pub(crate) fn add(text: &mut String, separator: &str, item: &str) -> Result<(), 
     }
     text.push_str(item)?;
     Ok(())
+}
+
+/// The numbers of a text, in hexadecimal digits.
+pub(crate) fn hex_words(alloc: Global, text: &str) -> Result<Vec<u32>, Fail> {
+    let mut words = Vec::new(alloc);
+    for word in text.split_whitespace() {
+        words.push(u32::from_str_radix(word, 16)?)?;
+    }
+    Ok(words)
 }
