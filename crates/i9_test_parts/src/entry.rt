@@ -1,4 +1,5 @@
 //! Entries, worked out by hand.
+use crate::rows::{columns, hex_words};
 use i9_entry::{
     Push, Sys, enter_here, enter_system, in_supervisor_mode, read_word, record_write_hazard,
     trace_enable, without_supervisor,
@@ -46,13 +47,29 @@ fn save(watch: &mut Watch, fp: u32) -> Result<(), Fail> {
     }
 }
 
-/// The push of a frame that is saved at 3000.
-fn push(frame: u32, kind: u32, sp: u32) -> Push {
-    Push {
-        save: 0x3000,
-        frame,
-        pfp: 0x3000 | kind,
-        sp,
+/// The two numbers of a row.
+fn two_numbers(alloc: Global, given: &str) -> Result<(u32, u32), Fail> {
+    match hex_words(alloc, given)?.as_slice() {
+        [n, pc] => Ok((*n, *pc)),
+        _ => Err("a row has two numbers".into()),
+    }
+}
+
+/// What an entry makes: its target and PC, whether stacks are switched, the save area, and the new frame with its pfp
+/// and its sp; or the hazard that it meets.
+fn entry_text(alloc: Global, planned: Result<Sys, u32>) -> Result<String, Fail> {
+    match planned {
+        Ok(sys) => {
+            let Push {
+                save,
+                frame,
+                pfp,
+                sp,
+            } = sys.push;
+            let push = format!(in alloc; "{save:X} {frame:X} {pfp:X} {sp:X}")?;
+            Ok(format!(in alloc; "{:X} {:X} {} {push}", sys.target, sys.pc, sys.switched)?)
+        }
+        Err(a) => Ok(format!(in alloc; "hazard {a:X}")?),
     }
 }
 
@@ -96,32 +113,32 @@ fn reads_words(rt: HostRuntime) -> Result<(), Fail> {
     Ok(())
 }
 
+/// The frame pointer and the base of entries with the return type of an interrupt: from sp, and from the beginning of
+/// another stack; the base, and so the new frame, is past the last address, or the new frame alone; the save area may
+/// not meet a live frame or the port page.
+const ENTRIES: &str = "\
+300F 3041     | 1100 1F2401 false 3000 3060 3007 30A0
+3000 8000     | 1100 1F2401 false 3000 8010 3007 8050
+3000 FFFFFFF1 | 1100 1F2401 false 3000 10 3007 50
+3000 FFFFFFE1 | 1100 1F2401 false 3000 0 3007 40
+FD8 3040      | hazard 1000
+DFFFFFF0 3040 | hazard E0000000
+";
+
+/// What such an entry makes.
+fn above_text(alloc: Global, watch: &Watch, given: &str) -> Result<String, Fail> {
+    let (fp, base) = two_numbers(alloc, given)?;
+    let planned = enter_here(watch, 0x1103, 0x001F_2401, fp, base, 16, 7);
+    entry_text(alloc, planned)
+}
+
 #[test]
 fn enters_above_a_record(rt: HostRuntime) -> Result<(), Fail> {
     let watch = watch(rt.alloc(), &[], &[0x1000])?;
-    // Entries with the return type of an interrupt: the frame pointer and the base, the push.
-    let rows = [
-        // From sp, and from the beginning of another stack.
-        ((0x300F, 0x3041), Ok(push(0x3060, 7, 0x30A0))),
-        ((0x3000, 0x8000), Ok(push(0x8010, 7, 0x8050))),
-        // The base, and so the new frame, is past the last address; or the new frame alone.
-        ((0x3000, 0xFFFF_FFF1), Ok(push(0x0010, 7, 0x0050))),
-        ((0x3000, 0xFFFF_FFE1), Ok(push(0x0000, 7, 0x0040))),
-        // The save area may not meet a live frame or the port page.
-        ((0x0FD8, 0x3040), Err(0x1000)),
-        ((0xDFFF_FFF0, 0x3040), Err(0xE000_0000)),
-    ];
-    for ((fp, base), wanted) in rows {
-        let sys = |push: Push| Sys {
-            push,
-            target: 0x1100,
-            pc: 0x001F_2401,
-            switched: false,
-        };
-        assert_eq!(rt;
-            enter_here(&watch, 0x1103, 0x001F_2401, fp, base, 16, 7),
-            wanted.map(sys)
-        );
+    for row in ENTRIES.lines() {
+        let (given, wanted) = columns(row)?;
+        let text = above_text(rt.alloc(), &watch, given)?;
+        assert_eq!(rt; text.as_str(), wanted, "{row}");
     }
     Ok(())
 }
@@ -135,123 +152,118 @@ const TABLE: [(u32, u32); 4] = [
     (0xF40, 0x1300),
 ];
 
+/// The number and PC, and what a call makes. In user mode entry 5 switches stacks, and its trace enable is that of the
+/// stack word; in supervisor mode it does not, and entry 0 never does. Words run on behind the table, and from the last
+/// address to 0.
+const CALLS: &str = "\
+5 1F2000   | 1104 1F2003 true 3000 5010 3003 5050
+5 1F2002   | 1104 1F2002 false 3000 3060 3000 30A0
+0 1F2000   | 1200 1F2000 false 3000 3060 3000 30A0
+104 0      | 1300 0 false 3000 3060 3000 30A0
+40000000 0 | 1200 0 false 3000 3060 3000 30A0
+";
+
+/// The same of the entry of a fault, which leaves room for a record.
+const FAULTS: &str = "\
+5 1F2000   | 1104 1F2003 true 3000 5020 3001 5060
+5 1F2002   | 1104 1F2002 false 3000 3070 3001 30B0
+0 1F2000   | 1200 1F2000 false 3000 3070 3001 30B0
+104 0      | 1300 0 false 3000 3070 3001 30B0
+40000000 0 | 1200 0 false 3000 3070 3001 30B0
+";
+
 #[test]
 fn enters_by_the_table(rt: HostRuntime) -> Result<(), Fail> {
     let memory = memory(rt.alloc(), &TABLE)?;
     let watch = watch(rt.alloc(), &[], &[])?;
-    // The number and PC; then what a call makes, and the frame, pfp and sp of a fault's entry.
-    let rows = [
-        // In user mode entry 5 switches stacks; its trace enable is that of the stack word.
-        (
-            (5, 0x001F_2000),
-            (0x1104, 0x001F_2003, true),
-            push(0x5010, 3, 0x5050),
-            push(0x5020, 1, 0x5060),
-        ),
-        // In supervisor mode it does not, and entry 0 never does.
-        (
-            (5, 0x001F_2002),
-            (0x1104, 0x001F_2002, false),
-            push(0x3060, 0, 0x30A0),
-            push(0x3070, 1, 0x30B0),
-        ),
-        (
-            (0, 0x001F_2000),
-            (0x1200, 0x001F_2000, false),
-            push(0x3060, 0, 0x30A0),
-            push(0x3070, 1, 0x30B0),
-        ),
-        // Words run on behind the table, and from the last address to 0.
-        (
-            (260, 0),
-            (0x1300, 0, false),
-            push(0x3060, 0, 0x30A0),
-            push(0x3070, 1, 0x30B0),
-        ),
-        (
-            (0x4000_0000, 0),
-            (0x1200, 0, false),
-            push(0x3060, 0, 0x30A0),
-            push(0x3070, 1, 0x30B0),
-        ),
-    ];
-    for ((n, pc), (target, after, switched), call, fault) in rows {
-        let sys = |push: Push| {
-            Ok(Sys {
-                push,
-                target,
-                pc: after,
-                switched,
-            })
-        };
-        assert_eq!(rt;
-            enter_system(&memory, &watch, 0xB00, n, pc, 0x3004, 0x3051, 0, 0, 3),
-            sys(call)
-        );
-        assert_eq!(rt;
-            enter_system(&memory, &watch, 0xB00, n, pc, 0x3004, 0x3051, 16, 1, 1),
-            sys(fault)
-        );
+    for row in CALLS.lines() {
+        let (given, wanted) = columns(row)?;
+        let (n, pc) = two_numbers(rt.alloc(), given)?;
+        let planned = enter_system(&memory, &watch, 0xB00, n, pc, 0x3004, 0x3051, 0, 0, 3);
+        assert_eq!(rt; entry_text(rt.alloc(), planned)?.as_str(), wanted, "{row}");
+    }
+    for row in FAULTS.lines() {
+        let (given, wanted) = columns(row)?;
+        let (n, pc) = two_numbers(rt.alloc(), given)?;
+        let planned = enter_system(&memory, &watch, 0xB00, n, pc, 0x3004, 0x3051, 16, 1, 1);
+        assert_eq!(rt; entry_text(rt.alloc(), planned)?.as_str(), wanted, "{row}");
     }
     Ok(())
+}
+
+/// The frames that were left, the number and PC, and the hazard; a frame is live at 3010. The stack word is not read
+/// where stacks are not switched.
+const HAZARDS: &str = "\
+B40 B00, 5 1F2000 | hazard B44
+B00, 5 1F2000     | hazard B0C
+B00, 5 1F2002     | hazard 3010
+B00, 0 1F2000     | hazard B30
+, 5 1F2000        | hazard 3010
+";
+
+/// What an entry by the table makes where these frames were left.
+fn left_text(alloc: Global, memory: &Memory, given: &str) -> Result<String, Fail> {
+    let (left, numbers) = given.split_once(",").unwrap_or((given, ""));
+    let left = hex_words(alloc, left)?;
+    let watch = watch(alloc, left.as_slice(), &[0x3010])?;
+    let (n, pc) = two_numbers(alloc, numbers)?;
+    let planned = enter_system(memory, &watch, 0xB00, n, pc, 0x3000, 0x3040, 0, 0, 2);
+    entry_text(alloc, planned)
 }
 
 #[test]
 fn meets_hazards_in_order(rt: HostRuntime) -> Result<(), Fail> {
     let memory = memory(rt.alloc(), &TABLE)?;
-    let user = 0x001F_2000;
-    let supervisor = 0x001F_2002;
-    // The frames that were left, the number, PC and the hazard; a frame is live at 3010.
-    let rows: [(&[u32], u32, u32, u32); 5] = [
-        (&[0xB40, 0xB00], 5, user, 0xB44),
-        (&[0xB00], 5, user, 0xB0C),
-        // The stack word is not read where stacks are not switched.
-        (&[0xB00], 5, supervisor, 0x3010),
-        (&[0xB00], 0, user, 0xB30),
-        (&[], 5, user, 0x3010),
-    ];
-    for (left, n, pc, wanted) in rows {
-        let watch = watch(rt.alloc(), left, &[0x3010])?;
-        assert_eq!(rt;
-            enter_system(&memory, &watch, 0xB00, n, pc, 0x3000, 0x3040, 0, 0, 2),
-            Err(wanted)
-        );
+    for row in HAZARDS.lines() {
+        let (given, wanted) = columns(row)?;
+        let text = left_text(rt.alloc(), &memory, given)?;
+        assert_eq!(rt; text.as_str(), wanted, "{row}");
     }
     Ok(())
+}
+
+/// The save address and the new frame, and the hazard: over the saved frame and beside it, over the live frame and
+/// beside it, and in the port page.
+const RECORDS: &str = "\
+3000 3050     | none
+3000 3000     | none
+3000 3010     | 3000
+3000 3040     | 3030
+FFFFFFE0 20   | 10
+FFFFFFE0 30   | none
+3000 4000     | none
+3000 4010     | 4000
+3000 4040     | 4030
+3000 4050     | none
+3000 E0000000 | none
+3000 E0000010 | E0000000
+3000 E0001000 | E0000FF0
+3000 E0001010 | none
+";
+
+/// The hazard of a record below a new frame.
+fn record_text(alloc: Global, watch: &Watch, given: &str) -> Result<String, Fail> {
+    let (save, frame) = two_numbers(alloc, given)?;
+    let push = Push {
+        save: save - save % 16,
+        frame: frame - frame % 16,
+        pfp: save,
+        sp: frame,
+    };
+    match record_write_hazard(watch, push) {
+        Some(a) => Ok(format!(in alloc; "{a:X}")?),
+        None => Ok(format!(in alloc; "none")?),
+    }
 }
 
 #[test]
 fn finds_records_in_the_way(rt: HostRuntime) -> Result<(), Fail> {
     // The bytes at 3040 are soft, and a frame is live at 4000.
     let watch = watch(rt.alloc(), &[0x3040], &[0x4000])?;
-    // The save address, the new frame and the hazard.
-    let rows = [
-        (0x3000, 0x3050, None),
-        // Over the saved frame and beside it.
-        (0x3000, 0x3000, None),
-        (0x3000, 0x3010, Some(0x3000)),
-        (0x3000, 0x3040, Some(0x3030)),
-        (0xFFFF_FFE0, 0x0020, Some(0x0010)),
-        (0xFFFF_FFE0, 0x0030, None),
-        // Over the live frame and beside it.
-        (0x3000, 0x4000, None),
-        (0x3000, 0x4010, Some(0x4000)),
-        (0x3000, 0x4040, Some(0x4030)),
-        (0x3000, 0x4050, None),
-        // In the port page.
-        (0x3000, 0xE000_0000, None),
-        (0x3000, 0xE000_0010, Some(0xE000_0000)),
-        (0x3000, 0xE000_1000, Some(0xE000_0FF0)),
-        (0x3000, 0xE000_1010, None),
-    ];
-    for (save, frame, wanted) in rows {
-        let push = Push {
-            save: save - save % 16,
-            frame: frame - frame % 16,
-            pfp: save,
-            sp: frame,
-        };
-        assert_eq!(rt; record_write_hazard(&watch, push), wanted);
+    for row in RECORDS.lines() {
+        let (given, wanted) = columns(row)?;
+        let text = record_text(rt.alloc(), &watch, given)?;
+        assert_eq!(rt; text.as_str(), wanted, "{row}");
     }
     Ok(())
 }

@@ -14,4 +14,6 @@ mod queue;
 #[cfg(test)]
 mod regs;
 #[cfg(test)]
+mod rows;
+#[cfg(test)]
 mod shade;

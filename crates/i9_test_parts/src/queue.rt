@@ -1,65 +1,100 @@
+//! Requests that wait, what is stored, and what is read over it, worked out by hand.
 ghost use Rattle.std.specs.Prelude.{◌≡◌, ◌∷◌, []};
 
+use crate::rows::{add, columns};
 use arrayvec::ArrayVec;
 use i9_memory::Memory;
 use i9_queue::{Behind, Queue, Request, Size, store_bytes};
 use std::alloc::Global;
 use std::test::Fail;
 
-fn request(address: u32, bytes: &[u8], due: u64) -> Request {
-    let mut list = ArrayVec::new();
-    for byte in bytes {
-        if list.try_push(*byte).is_err() {
-            break;
+/// A request: its address, the turn at which it is due, and the bytes that it stores; a load has none.
+fn request(text: &str) -> Result<Request, Fail> {
+    let mut words = text.split_whitespace();
+    let (Some(address), Some(due)) = (words.next(), words.next()) else {
+        return Err("a request has an address and a turn".into());
+    };
+    let address = u32::from_str_radix(address, 16)?;
+    let due = due.parse::<u64>()?;
+    let mut bytes = ArrayVec::new();
+    for word in words {
+        if bytes.try_push(u8::from_str_radix(word, 16)?).is_err() {
+            return Err("too many bytes".into());
         }
     }
-    Request {
+    Ok(Request {
         address,
-        bytes: list,
+        bytes,
         due,
-    }
+    })
 }
 
-/// The address, the number of bytes and the turn of the request that is taken.
-fn taken(queue: &mut Queue, turn: u64) -> Option<(u32, usize, u64)> {
-    let request = queue.take_due(turn)?;
-    Some((request.address, request.bytes.len(), request.due))
-}
-
-// A store of 01 02 03 04 at FFFFFFFC, a load, and a store of 09 08 07 at FFFFFFFE, which goes on at 0.
-#[test]
-fn forwards_the_youngest_store(rt: HostRuntime) {
+/// The requests of a text, between commas.
+fn waiting(text: &str) -> Result<Queue, Fail> {
     let mut queue = Queue::new();
-    assert_eq!(rt; queue.len(), 0);
-    assert_eq!(rt; queue.forward(0), None);
-    queue.put(request(0xFFFF_FFFC, b"\x01\x02\x03\x04", 5));
-    queue.put(request(0xFFFF_FFFC, b"", 7));
-    queue.put(request(0xFFFF_FFFE, b"\x09\x08\x07", 9));
-    assert_eq!(rt; queue.len(), 3);
-    // The byte at each address: at first, once the first store was taken, and at the end.
-    let rows = [
-        (0xFFFF_FFFB, None, None),
-        (0xFFFF_FFFC, Some(1), None),
-        (0xFFFF_FFFD, Some(2), None),
-        (0xFFFF_FFFE, Some(9), Some(9)),
-        (0xFFFF_FFFF, Some(8), Some(8)),
-        (0, Some(7), Some(7)),
-        (1, None, None),
-    ];
-    for (address, first, _) in &rows {
-        assert_eq!(rt; queue.forward(*address), *first);
+    for item in text.split(',') {
+        if queue.len() > 2 {
+            return Err("too many requests".into());
+        }
+        if !item.trim().is_empty() {
+            queue.put(request(item)?);
+        }
     }
-    assert_eq!(rt; taken(&mut queue, 4), None);
-    assert_eq!(rt; taken(&mut queue, 5), Some((0xFFFF_FFFC, 4, 5)));
-    for (address, _, second) in &rows {
-        assert_eq!(rt; queue.forward(*address), *second);
+    Ok(queue)
+}
+
+/// How many requests wait, and the byte that they give at each address, if any.
+fn queue_text(alloc: Global, queue: &Queue) -> Result<String, Fail> {
+    let mut text = format!(in alloc; "{}:", queue.len())?;
+    for place in 0..7_u32 {
+        let byte = queue.forward(0xFFFF_FFFB_u32.wrapping_add(place));
+        match byte {
+            Some(byte) => add(&mut text, " ", &format!(in alloc; "{byte:X}")?)?,
+            None => add(&mut text, " ", "none")?,
+        }
     }
-    assert_eq!(rt; taken(&mut queue, 6), None);
-    assert_eq!(rt; taken(&mut queue, 9), Some((0xFFFF_FFFC, 0, 7)));
-    assert_eq!(rt; taken(&mut queue, 9), Some((0xFFFF_FFFE, 3, 9)));
-    assert_eq!(rt; taken(&mut queue, 9), None);
-    assert_eq!(rt; queue.len(), 0);
-    assert_eq!(rt; queue.forward(0), None);
+    Ok(text)
+}
+
+/// Takes the request that is due: its address, the number of its bytes and its turn; and what waits then.
+fn taken_text(alloc: Global, queue: &mut Queue, turn: u64) -> Result<String, Fail> {
+    let Some(request) = queue.take_due(turn) else {
+        let left = queue_text(alloc, queue)?;
+        return Ok(format!(in alloc; "none, {left}")?);
+    };
+    let left = queue_text(alloc, queue)?;
+    Ok(format!(in alloc;
+        "{:X} {} {}, {left}",
+        request.address,
+        request.bytes.len(),
+        request.due
+    )?)
+}
+
+/// A store, a load, and a store that goes on at 0.
+const REQUESTS: &str = "FFFFFFFC 5 01 02 03 04, FFFFFFFC 7, FFFFFFFE 9 09 08 07";
+
+/// A turn, the request that is taken at it, and what waits then: how many requests, and the bytes from FFFFFFFB on.
+const TAKEN: &str = "\
+4 | none, 3: none 1 2 9 8 7 none
+5 | FFFFFFFC 4 5, 2: none none none 9 8 7 none
+6 | none, 2: none none none 9 8 7 none
+9 | FFFFFFFC 0 7, 1: none none none 9 8 7 none
+9 | FFFFFFFE 3 9, 0: none none none none none none none
+9 | none, 0: none none none none none none none
+";
+
+#[test]
+fn forwards_the_youngest_store(rt: HostRuntime) -> Result<(), Fail> {
+    let empty = queue_text(rt.alloc(), &Queue::new())?;
+    assert_eq!(rt; empty.as_str(), "0: none none none none none none none");
+    let mut queue = waiting(REQUESTS)?;
+    for row in TAKEN.lines() {
+        let (turn, wanted) = columns(row)?;
+        let text = taken_text(rt.alloc(), &mut queue, turn.parse::<u64>()?)?;
+        assert_eq!(rt; text.as_str(), wanted, "{row}");
+    }
+    Ok(())
 }
 
 /// Bit 22 of a configuration word, which makes its region big-endian.
@@ -88,6 +123,15 @@ fn store(address: u32, byte: u8, due: u64) -> Request
     }
 }
 
+/// The bytes at these addresses.
+fn bytes_text(alloc: Global, behind: &Behind, addresses: &[u32]) -> Result<String, Fail> {
+    let mut text = String::new(alloc);
+    for a in addresses {
+        add(&mut text, " ", &format!(in alloc; "{:X}", behind.byte(*a))?)?;
+    }
+    Ok(text)
+}
+
 // A byte is that of the youngest waiting store to it, before and after some have landed; the port
 // page reads as 0.
 #[test]
@@ -104,38 +148,59 @@ fn lands_stores(rt: HostRuntime) -> Result<(), Fail> {
     behind.enqueue(store(0xE000_0000, 5, 4));
     behind.reserve(0x1000, 1)?;
     behind.enqueue(store(0x1000, 9, 6));
-    let rows = [
-        (0x0FFF, 0),
-        (0x1000, 9),
-        (0x1001, 0),
-        (0x1002, 6),
-        (0xE000_0000, 0),
-    ];
     for turn in [0, 3, 5, 6] {
         behind.land(turn);
-        for (address, byte) in &rows {
-            assert_eq!(rt; behind.byte(*address), *byte);
-        }
+        let places = [0x0FFF, 0x1000, 0x1001, 0x1002, 0xE000_0000];
+        let text = bytes_text(rt.alloc(), &behind, &places)?;
+        assert_eq!(rt; text.as_str(), "0 9 0 6 0");
     }
     Ok(())
 }
 
-/// What is read at an address where the region is little-endian, and what memory holds there.
-type Reading = (u32, u16, u32, [u32; 2], u8);
-
-/// The address of the first reading that is wrong.
-fn first_misread(behind: &Behind, readings: &[Reading]) -> Option<u32> {
-    for (address, half, word, words, held) in readings {
-        let is_right = behind.half(*address) == *half
-            && behind.word(*address) == *word
-            && behind.words(*address) == *words
-            && behind.acted_byte(*address) == *held;
-        if !is_right {
-            return Some(*address);
-        }
-    }
-    None
+/// A half, a word and two words at an address where the region is little-endian.
+fn words_text(alloc: Global, behind: &Behind, a: u32) -> Result<String, Fail> {
+    let [first, second] = behind.words::<2>(a);
+    let (half, word) = (behind.half(a), behind.word(a));
+    Ok(format!(in alloc; "{half:X} {word:X} {first:X} {second:X}")?)
 }
+
+/// Whether nothing waits any more, and what memory holds at these addresses.
+fn held_text(alloc: Global, behind: &Behind, addresses: &[u32]) -> Result<String, Fail> {
+    let mut text = format!(in alloc; "{}", behind.is_drained())?;
+    for a in addresses {
+        let byte = behind.acted_byte(*a);
+        add(&mut text, " ", &format!(in alloc; "{byte:X}")?)?;
+    }
+    Ok(text)
+}
+
+/// What is read at each address, and behind it what memory holds there.
+fn reads_text(alloc: Global, behind: &Behind) -> Result<String, Fail> {
+    let places = [
+        0x0FFF_FFF4,
+        0x0FFF_FFFA,
+        0x0FFF_FFFC,
+        0x0FFF_FFFF,
+        0x1000_0001,
+    ];
+    let mut text = held_text(alloc, behind, &places)?;
+    for a in places {
+        add(&mut text, ", ", &words_text(alloc, behind, a)?)?;
+    }
+    Ok(text)
+}
+
+/// What is read at 0FFFFFF4, 0FFFFFFA, 0FFFFFFC, 0FFFFFFF and 10000001, whatever has landed.
+const READS: &str = "0 0 0 2010000, 201 4B10201 4B10201 C1070605, 4B1 60504B1 60504B1 7C10000, \
+706 C10706 C10706 0, C100 C1000000 C1000000 0";
+
+/// A turn, whether nothing waits then, and what memory holds at these addresses.
+const LANDED: &str = "\
+2 | false 0 1 3 6 8
+3 | false 0 1 A1 6 8
+4 | false 0 1 A1 6 8
+5 | true 0 1 B1 6 C1
+";
 
 // Memory holds 01 to 08 from 0FFFFFFA up, so the last two in the big-endian region 1. A store of A1 at
 // 0FFFFFFC waits until turn 3, one of B1 there and one of C1 at 10000001 until turn 5.
@@ -145,44 +210,18 @@ fn reads_words_over_what_waits(rt: HostRuntime) -> Result<(), Fail> {
     memory.load(0x0FFF_FFFA, b"\x01\x02\x03\x04\x05\x06\x07\x08")?;
     let mut behind = Behind::new(memory);
     assert_eq!(rt; (behind.is_drained(), behind.waits(1, false)), (true, 0));
-    let wanted = |held: u8, above: u8| {
-        [
-            (0x0FFF_FFF4, 0, 0, [0, 0x0201_0000], 0),
-            (
-                0x0FFF_FFFA,
-                0x0201,
-                0x04B1_0201,
-                [0x04B1_0201, 0xC107_0605],
-                1,
-            ),
-            (
-                0x0FFF_FFFC,
-                0x04B1,
-                0x0605_04B1,
-                [0x0605_04B1, 0x07C1_0000],
-                held,
-            ),
-            (0x0FFF_FFFF, 0x0706, 0x00C1_0706, [0x00C1_0706, 0], 6),
-            (0x1000_0001, 0xC100, 0xC100_0000, [0xC100_0000, 0], above),
-        ]
-    };
     behind.reserve(0x0FFF_FFFC, 1)?;
     behind.enqueue(store(0x0FFF_FFFC, 0xA1, 3));
     behind.reserve(0x0FFF_FFFC, 1)?;
     behind.enqueue(store(0x0FFF_FFFC, 0xB1, 5));
     behind.reserve(0x1000_0001, 1)?;
     behind.enqueue(store(0x1000_0001, 0xC1, 5));
-    // The turn, whether nothing waits any more, and what memory holds at 0FFFFFFC and 10000001.
-    let rows = [
-        (2, false, 0x03, 0x08),
-        (3, false, 0xA1, 0x08),
-        (4, false, 0xA1, 0x08),
-        (5, true, 0xB1, 0xC1),
-    ];
-    for (turn, is_drained, held, above) in &rows {
-        behind.land(*turn);
-        assert_eq!(rt; behind.is_drained(), *is_drained);
-        assert_eq!(rt; first_misread(&behind, &wanted(*held, *above)), None);
+    for row in LANDED.lines() {
+        let (turn, held) = columns(row)?;
+        behind.land(turn.parse::<u64>()?);
+        let wanted = format!(in rt.alloc(); "{held}, {READS}")?;
+        let text = reads_text(rt.alloc(), &behind)?;
+        assert_eq!(rt; text.as_str(), wanted.as_str(), "{row}");
     }
     Ok(())
 }
@@ -190,77 +229,75 @@ fn reads_words_over_what_waits(rt: HostRuntime) -> Result<(), Fail> {
 /// The values that are stored.
 const VALUES: [u32; 4] = [0xA1B2_C3D4, 0x0102_0304, 0x1122_3344, 0x5566_7788];
 
-/// The bytes of all four in a little-endian region.
-const LITTLE: &[u8] = b"\xD4\xC3\xB2\xA1\x04\x03\x02\x01\x44\x33\x22\x11\x88\x77\x66\x55";
+/// An address and a size, and the bytes of the values: each size in a little-endian region, in the port page, which is
+/// little-endian too, and in a big-endian region.
+const STORES: &str = "\
+1001 byte     | D4
+E0000002 byte | D4
+10000001 byte | D4
+1001 half     | D4 C3
+E0000002 half | D4 C3
+10000001 half | C3 D4
+1001 1        | D4 C3 B2 A1
+E0000002 1    | D4 C3 B2 A1
+10000001 1    | A1 B2 C3 D4
+1001 2        | D4 C3 B2 A1 04 03 02 01
+E0000002 2    | D4 C3 B2 A1 04 03 02 01
+10000001 2    | A1 B2 C3 D4 01 02 03 04
+1001 3        | D4 C3 B2 A1 04 03 02 01 44 33 22 11
+E0000002 3    | D4 C3 B2 A1 04 03 02 01 44 33 22 11
+10000001 3    | A1 B2 C3 D4 01 02 03 04 11 22 33 44
+1001 4        | D4 C3 B2 A1 04 03 02 01 44 33 22 11 88 77 66 55
+E0000002 4    | D4 C3 B2 A1 04 03 02 01 44 33 22 11 88 77 66 55
+10000001 4    | A1 B2 C3 D4 01 02 03 04 11 22 33 44 55 66 77 88
+";
 
-/// Those in a big-endian region.
-const BIG: &[u8] = b"\xA1\xB2\xC3\xD4\x01\x02\x03\x04\x11\x22\x33\x44\x55\x66\x77\x88";
+/// The same where each value has the order of the region of its own first byte, over the end of a region and on from
+/// FFFFFFFF to 0.
+const STORES_OVER_AN_END: &str = "\
+FFFFFFF half  | D4 C3
+1FFFFFFF half | C3 D4
+FFFFFFFF half | C3 D4
+FFFFFFC 2     | D4 C3 B2 A1 01 02 03 04
+FFFFFFE 2     | D4 C3 B2 A1 01 02 03 04
+1FFFFFF8 3    | A1 B2 C3 D4 01 02 03 04 44 33 22 11
+FFFFFFFC 2    | A1 B2 C3 D4 04 03 02 01
+FFFFFFFE 2    | A1 B2 C3 D4 04 03 02 01
+";
 
-// Each size in a little-endian region, in the port page, which is little-endian too, and in a
-// big-endian region.
-#[test]
-fn stores_values(rt: HostRuntime) {
-    let memory = memory(rt.alloc());
-    let rows: [(Size, &[u8], &[u8]); 6] = [
-        (Size::Byte, b"\xD4", b"\xD4"),
-        (Size::Half, b"\xD4\xC3", b"\xC3\xD4"),
-        (Size::Words(1), &LITTLE[..4], &BIG[..4]),
-        (Size::Words(2), &LITTLE[..8], &BIG[..8]),
-        (Size::Words(3), &LITTLE[..12], &BIG[..12]),
-        (Size::Words(4), LITTLE, BIG),
-    ];
-    for (size, little, big) in &rows {
-        let places = [
-            (0x1001, *little),
-            (0xE000_0002, *little),
-            (0x1000_0001, *big),
-        ];
-        for (address, bytes) in &places {
-            let stored = store_bytes(&memory, *address, *size, &VALUES);
-            assert_eq!(rt; stored.as_slice(), *bytes);
-        }
-    }
+/// An address, and a size: a byte, a half, or so many words.
+fn place(text: &str) -> Result<(u32, Size), Fail> {
+    let (address, size) = text.split_once(" ").unwrap_or((text, ""));
+    let size = match size {
+        "byte" => Size::Byte,
+        "half" => Size::Half,
+        _ => Size::Words(size.parse::<u8>()?),
+    };
+    Ok((u32::from_str_radix(address, 16)?, size))
 }
 
-// Each value has the order of the region of its own first byte, over the end of a region and on from
-// FFFFFFFF to 0.
-#[test]
-fn stores_values_over_an_end(rt: HostRuntime) {
-    let memory = memory(rt.alloc());
-    let rows: [(u32, Size, &[u8]); 8] = [
-        (0x0FFF_FFFF, Size::Half, b"\xD4\xC3"),
-        (0x1FFF_FFFF, Size::Half, b"\xC3\xD4"),
-        (0xFFFF_FFFF, Size::Half, b"\xC3\xD4"),
-        (
-            0x0FFF_FFFC,
-            Size::Words(2),
-            b"\xD4\xC3\xB2\xA1\x01\x02\x03\x04",
-        ),
-        (
-            0x0FFF_FFFE,
-            Size::Words(2),
-            b"\xD4\xC3\xB2\xA1\x01\x02\x03\x04",
-        ),
-        (
-            0x1FFF_FFF8,
-            Size::Words(3),
-            b"\xA1\xB2\xC3\xD4\x01\x02\x03\x04\x44\x33\x22\x11",
-        ),
-        (
-            0xFFFF_FFFC,
-            Size::Words(2),
-            b"\xA1\xB2\xC3\xD4\x04\x03\x02\x01",
-        ),
-        (
-            0xFFFF_FFFE,
-            Size::Words(2),
-            b"\xA1\xB2\xC3\xD4\x04\x03\x02\x01",
-        ),
-    ];
-    for (address, size, bytes) in &rows {
-        let stored = store_bytes(&memory, *address, *size, &VALUES);
-        assert_eq!(rt; stored.as_slice(), *bytes);
+/// The bytes of the values that are stored at a place.
+fn stored_text(alloc: Global, memory: &Memory, text: &str) -> Result<String, Fail> {
+    let (address, size) = place(text)?;
+    let mut told = String::new(alloc);
+    for byte in store_bytes(memory, address, size, &VALUES).iter() {
+        add(&mut told, " ", &format!(in alloc; "{byte:02X}")?)?;
     }
+    Ok(told)
+}
+
+#[test]
+fn stores_values(rt: HostRuntime) -> Result<(), Fail> {
+    let memory = memory(rt.alloc());
+    for row in STORES.lines().chain(STORES_OVER_AN_END.lines()) {
+        let (text, wanted) = columns(row)?;
+        assert_eq!(rt;
+            stored_text(rt.alloc(), &memory, text)?.as_str(),
+            wanted,
+            "{row}"
+        );
+    }
+    Ok(())
 }
 
 /// A memory with 01 to 10 from 0FFFFFF8 up, 21 to 28 from FFFFFFFC up, F1 and F2 from 2000 up, and 31
@@ -275,149 +312,91 @@ fn filled_memory(alloc: Global) -> Result<Memory, Fail> {
     Ok(memory)
 }
 
-/// A load at an address, and the values that it has.
-type Load = (u32, Size, [u32; 4]);
+/// The address and size of a load, and the values that it has where nothing waits. A byte and a half have zeros above,
+/// and words that are not read are 0. The last loads go over the end of a region, on from FFFFFFFF to 0, and into the
+/// port page.
+const NOTHING_WAITS: &str = "\
+2000 byte     | F1 0 0 0
+2000 half     | F2F1 0 0 0
+FFFFFF9 half  | 302 0 0 0
+10000001 byte | A 0 0 0
+10000001 half | A0B 0 0 0
+FFFFFF8 1     | 4030201 0 0 0
+FFFFFF8 2     | 4030201 8070605 0 0
+10000000 1    | 90A0B0C 0 0 0
+10000000 2    | 90A0B0C D0E0F10 0 0
+E0000000 byte | 0 0 0 0
+E0000000 2    | 0 0 0 0
+FFFFFFF half  | 908 0 0 0
+FFFFFFE 2     | A090807 B0C0D0E 0 0
+FFFFFFC 3     | 8070605 90A0B0C D0E0F10 0
+FFFFFF8 4     | 4030201 8070605 90A0B0C D0E0F10
+FFFFFFFF half | 2425 0 0 0
+FFFFFFFE 1    | 23242526 0 0 0
+FFFFFFFC 2    | 21222324 28272625 0 0
+DFFFFFFE 1    | 3231 0 0 0
+";
 
-/// The address of the first load that sees other values.
-fn first_wrong(queue: &Queue, memory: &Memory, loads: &[Load]) -> Option<u32> {
-    for (address, size, values) in loads {
-        if queue.see(memory, *address, *size) != *values {
-            return Some(*address);
+/// The same where a store covers only some bytes of a load.
+const STORE_WAITS: &str = "\
+FFFFFFA byte | A1 0 0 0
+FFFFFF9 byte | 2 0 0 0
+FFFFFF9 half | A102 0 0 0
+FFFFFF8 2    | A2A10201 80706A3 0 0
+10000000 1   | 90A0B0C 0 0 0
+";
+
+/// The same where the younger of two stores wins in their common bytes.
+const YOUNGER_WINS: &str = "\
+FFFFFFA byte | A1 0 0 0
+FFFFFFB byte | B1 0 0 0
+FFFFFFA half | B1A1 0 0 0
+FFFFFFF half | B6B5 0 0 0
+FFFFFFF 1    | B0AB6B5 0 0 0
+FFFFFF8 4    | B1A10201 B5B4B3B2 B60A0B0C D0E0F10
+";
+
+/// The same where a store goes on at 0, and one goes on into the port page, where its bytes fall nowhere.
+const OVER_AN_END: &str = "\
+FFFFFFFF half | C2C3 0 0 0
+FFFFFFFE 1    | C1C2C326 0 0 0
+FFFFFFFC 2    | 2122C1C2 282726C3 0 0
+E0000000 half | 0 0 0 0
+DFFFFFFE 2    | D131 0 0 0
+";
+
+/// The requests that wait, and the loads over them; a load among the requests changes nothing.
+const LOADS: [(&str, &str); 5] = [
+    ("", NOTHING_WAITS),
+    ("FFFFFFA 5 A1 A2 A3", STORE_WAITS),
+    ("FFFFFFA 5 A1 A2 A3, FFFFFF8 6", STORE_WAITS),
+    (
+        "FFFFFFA 5 A1 A2 A3, FFFFFF8 6, FFFFFFB 7 B1 B2 B3 B4 B5 B6",
+        YOUNGER_WINS,
+    ),
+    ("FFFFFFFE 5 C1 C2 C3, DFFFFFFF 6 D1 D2 D3", OVER_AN_END),
+];
+
+/// The values that a load sees.
+fn seen_text(alloc: Global, queue: &Queue, memory: &Memory, text: &str) -> Result<String, Fail> {
+    let (address, size) = place(text)?;
+    let mut told = String::new(alloc);
+    for value in queue.see(memory, address, size) {
+        add(&mut told, " ", &format!(in alloc; "{value:X}")?)?;
+    }
+    Ok(told)
+}
+
+#[test]
+fn sees_what_waits(rt: HostRuntime) -> Result<(), Fail> {
+    let memory = filled_memory(rt.alloc())?;
+    for (given, loads) in LOADS {
+        let queue = waiting(given)?;
+        for row in loads.lines() {
+            let (text, wanted) = columns(row)?;
+            let seen = seen_text(rt.alloc(), &queue, &memory, text)?;
+            assert_eq!(rt; seen.as_str(), wanted, "{row}");
         }
     }
-    None
-}
-
-// Nothing waits. A byte and a half have zeros above, and words that are not read are 0.
-#[test]
-fn sees_memory(rt: HostRuntime) -> Result<(), Fail> {
-    let memory = filled_memory(rt.alloc())?;
-    let loads = [
-        (0x2000, Size::Byte, [0xF1, 0, 0, 0]),
-        (0x2000, Size::Half, [0xF2F1, 0, 0, 0]),
-        (0x0FFF_FFF9, Size::Half, [0x0302, 0, 0, 0]),
-        (0x1000_0001, Size::Byte, [0x0A, 0, 0, 0]),
-        (0x1000_0001, Size::Half, [0x0A0B, 0, 0, 0]),
-        (0x0FFF_FFF8, Size::Words(1), [0x0403_0201, 0, 0, 0]),
-        (
-            0x0FFF_FFF8,
-            Size::Words(2),
-            [0x0403_0201, 0x0807_0605, 0, 0],
-        ),
-        (0x1000_0000, Size::Words(1), [0x090A_0B0C, 0, 0, 0]),
-        (
-            0x1000_0000,
-            Size::Words(2),
-            [0x090A_0B0C, 0x0D0E_0F10, 0, 0],
-        ),
-        (0xE000_0000, Size::Byte, [0, 0, 0, 0]),
-        (0xE000_0000, Size::Words(2), [0, 0, 0, 0]),
-    ];
-    assert_eq!(rt; first_wrong(&Queue::new(), &memory, &loads), None);
-    Ok(())
-}
-
-// Nothing waits. Loads go over the end of a region, on from FFFFFFFF to 0, and into the port page.
-#[test]
-fn sees_memory_over_an_end(rt: HostRuntime) -> Result<(), Fail> {
-    let memory = filled_memory(rt.alloc())?;
-    let loads = [
-        (0x0FFF_FFFF, Size::Half, [0x0908, 0, 0, 0]),
-        (
-            0x0FFF_FFFE,
-            Size::Words(2),
-            [0x0A09_0807, 0x0B0C_0D0E, 0, 0],
-        ),
-        (
-            0x0FFF_FFFC,
-            Size::Words(3),
-            [0x0807_0605, 0x090A_0B0C, 0x0D0E_0F10, 0],
-        ),
-        (
-            0x0FFF_FFF8,
-            Size::Words(4),
-            [0x0403_0201, 0x0807_0605, 0x090A_0B0C, 0x0D0E_0F10],
-        ),
-        (0xFFFF_FFFF, Size::Half, [0x2425, 0, 0, 0]),
-        (0xFFFF_FFFE, Size::Words(1), [0x2324_2526, 0, 0, 0]),
-        (
-            0xFFFF_FFFC,
-            Size::Words(2),
-            [0x2122_2324, 0x2827_2625, 0, 0],
-        ),
-        (0xDFFF_FFFE, Size::Words(1), [0x3231, 0, 0, 0]),
-    ];
-    assert_eq!(rt; first_wrong(&Queue::new(), &memory, &loads), None);
-    Ok(())
-}
-
-// A store of A1 A2 A3 at 0FFFFFFA covers only some bytes of a load, and a load among the requests
-// changes nothing.
-#[test]
-fn sees_a_waiting_store(rt: HostRuntime) -> Result<(), Fail> {
-    let memory = filled_memory(rt.alloc())?;
-    let mut queue = Queue::new();
-    let loads = [
-        (0x0FFF_FFFA, Size::Byte, [0xA1, 0, 0, 0]),
-        (0x0FFF_FFF9, Size::Byte, [0x02, 0, 0, 0]),
-        (0x0FFF_FFF9, Size::Half, [0xA102, 0, 0, 0]),
-        (
-            0x0FFF_FFF8,
-            Size::Words(2),
-            [0xA2A1_0201, 0x0807_06A3, 0, 0],
-        ),
-        (0x1000_0000, Size::Words(1), [0x090A_0B0C, 0, 0, 0]),
-    ];
-    queue.put(request(0x0FFF_FFFA, b"\xA1\xA2\xA3", 5));
-    assert_eq!(rt; first_wrong(&queue, &memory, &loads), None);
-    queue.put(request(0x0FFF_FFF8, b"", 6));
-    assert_eq!(rt; first_wrong(&queue, &memory, &loads), None);
-    Ok(())
-}
-
-// A store of A1 A2 A3 at 0FFFFFFA, a load, and a store of B1 to B6 at 0FFFFFFB, which wins where the
-// two overlap.
-#[test]
-fn sees_the_younger_store(rt: HostRuntime) -> Result<(), Fail> {
-    let memory = filled_memory(rt.alloc())?;
-    let mut queue = Queue::new();
-    queue.put(request(0x0FFF_FFFA, b"\xA1\xA2\xA3", 5));
-    queue.put(request(0x0FFF_FFF8, b"", 6));
-    queue.put(request(0x0FFF_FFFB, b"\xB1\xB2\xB3\xB4\xB5\xB6", 7));
-    let loads = [
-        (0x0FFF_FFFA, Size::Byte, [0xA1, 0, 0, 0]),
-        (0x0FFF_FFFB, Size::Byte, [0xB1, 0, 0, 0]),
-        (0x0FFF_FFFA, Size::Half, [0xB1A1, 0, 0, 0]),
-        (0x0FFF_FFFF, Size::Half, [0xB6B5, 0, 0, 0]),
-        (0x0FFF_FFFF, Size::Words(1), [0x0B0A_B6B5, 0, 0, 0]),
-        (
-            0x0FFF_FFF8,
-            Size::Words(4),
-            [0xB1A1_0201, 0xB5B4_B3B2, 0xB60A_0B0C, 0x0D0E_0F10],
-        ),
-    ];
-    assert_eq!(rt; first_wrong(&queue, &memory, &loads), None);
-    Ok(())
-}
-
-// A store of C1 C2 C3 at FFFFFFFE goes on at 0; of D1 D2 D3 at DFFFFFFF the last two fall nowhere.
-#[test]
-fn sees_stores_over_an_end(rt: HostRuntime) -> Result<(), Fail> {
-    let memory = filled_memory(rt.alloc())?;
-    let mut queue = Queue::new();
-    queue.put(request(0xFFFF_FFFE, b"\xC1\xC2\xC3", 5));
-    queue.put(request(0xDFFF_FFFF, b"\xD1\xD2\xD3", 6));
-    let loads = [
-        (0xFFFF_FFFF, Size::Half, [0xC2C3, 0, 0, 0]),
-        (0xFFFF_FFFE, Size::Words(1), [0xC1C2_C326, 0, 0, 0]),
-        (
-            0xFFFF_FFFC,
-            Size::Words(2),
-            [0x2122_C1C2, 0x2827_26C3, 0, 0],
-        ),
-        (0xE000_0000, Size::Half, [0, 0, 0, 0]),
-        (0xDFFF_FFFE, Size::Words(2), [0xD131, 0, 0, 0]),
-    ];
-    assert_eq!(rt; first_wrong(&queue, &memory, &loads), None);
     Ok(())
 }

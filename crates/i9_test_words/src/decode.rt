@@ -1,178 +1,176 @@
 //! Words against instructions that were worked out by hand from the instruction formats.
-use i9_decode::{BadWord, Code, decode, decode_encoded, encode, spare_bits};
-use i9_isa::{Ea, Inst, Mode, NO_ADDRESS, Op, Operand, valid};
+ghost use Rattle.std.specs.Prelude.{IfOk};
+ghost use Rattle.i9_isa.specs.Valid.{IsValid};
+
+use crate::rows::{columns, hex_words, pair};
+use i9_decode::{decode, decode_encoded, encode, spare_bits};
+use i9_isa::{Inst, valid};
+use std::alloc::Global;
 use std::test::*;
 
 /// What stands behind an instruction of one word.
 const AFTER: u32 = 0xDEAD_BEEF;
 
-/// An instruction of the register format.
-fn register(op: Op, a: Operand, b: Operand, c: Operand) -> Inst {
-    Inst {
+/// The instruction of words, which is valid.
+fn decoded(first: u32, second: u32) -> Result<Inst, Fail>
+    ensures { IfOk result (λ i. IsValid i) }
+{
+    match decode(first, second) {
+        Ok(inst) if valid(&inst) => Ok(inst),
+        _ => Err("no valid instruction".into()),
+    }
+}
+
+/// The words of an instruction.
+fn code_text(alloc: Global, i: &Inst) -> Result<String, Fail>
+    requires { IsValid i.now }
+{
+    let code = encode(i);
+    match code.second {
+        Some(second) => Ok(format!(in alloc; "{:08X} {second:08X}", code.first)?),
+        None => Ok(format!(in alloc; "{:08X}", code.first)?),
+    }
+}
+
+/// The fields of an instruction: its name, src1, src2 and src/dst; mode, base, index, scale and displacement of its
+/// effective address; the displacement of a branch, and its hint.
+fn inst_text(alloc: Global, i: &Inst) -> Result<String, Fail> {
+    let Inst {
         op,
         a,
         b,
         c,
-        ea: NO_ADDRESS,
-        disp: 0,
-        hint: false,
-    }
-}
-
-/// An instruction of the memory format on register `c`.
-fn memory(op: Op, c: u8, ea: Ea) -> Inst {
-    Inst {
-        op,
-        a: Operand::Reg(0),
-        b: Operand::Reg(0),
-        c: Operand::Reg(c),
         ea,
-        disp: 0,
-        hint: false,
-    }
+        ..
+    } = i;
+    let operands = format!(in alloc; "{op:?} {a:?} {b:?} {c:?}")?;
+    let address = format!(in alloc;
+        "{:?} {} {} {} {:X}",
+        ea.mode, ea.base, ea.index, ea.scale, ea.disp
+    )?;
+    Ok(format!(in alloc; "{operands}, {address}, {} {}", i.disp, i.hint)?)
 }
 
-/// A branch, with src1 and src2 where it compares them.
-fn branch(op: Op, a: Operand, b: Operand, disp: i32, hint: bool) -> Inst {
-    Inst {
-        op,
-        a,
-        b,
-        c: Operand::Reg(0),
-        ea: NO_ADDRESS,
-        disp,
-        hint,
+/// The words of instructions, and their fields.
+const WORDS: &str = "\
+5CA00E07          | Mov Lit(7) Reg(0) Reg(20), Offset 0 0 0 0, 0 false
+5C200E05          | Mov Lit(5) Reg(0) Reg(4), Offset 0 0 0 0, 0 false
+5C102E01          | Mov Lit(1) Reg(0) Sfr(2), Offset 0 0 0 0, 0 false
+59B58901          | Subo Lit(1) Reg(22) Reg(22), Offset 0 0 0 0, 0 false
+59A09801          | Addo Lit(1) Lit(2) Reg(20), Offset 0 0 0 0, 0 false
+66000680          | Flushreg Reg(0) Reg(0) Reg(0), Offset 0 0 0 0, 0 false
+66000780          | Syncf Reg(0) Reg(0) Reg(0), Offset 0 0 0 0, 0 false
+8CA00041          | Lda Reg(0) Reg(0) Reg(20), Offset 0 0 0 41, 0 false
+8CA83000 E0000000 | Lda Reg(0) Reg(0) Reg(21), Disp 0 0 0 E0000000, 0 false
+82A56000          | Stob Reg(0) Reg(0) Reg(20), BaseOffset 21 0 0 0, 0 false
+92A56004          | St Reg(0) Reg(0) Reg(20), BaseOffset 21 0 0 4, 0 false
+90A02010          | Ld Reg(0) Reg(0) Reg(20), BaseOffset 0 0 0 10, 0 false
+90B51D15          | Ld Reg(0) Reg(0) Reg(22), BaseIndex 20 21 2 0, 0 false
+08000010          | B Reg(0) Reg(0) Reg(0), Offset 0 0 0 0, 16 false
+1200000A          | Be Reg(0) Reg(0) Reg(0), Offset 0 0 0 0, 8 true
+3505BFF8          | Cmpobne Lit(0) Reg(22) Reg(0), Offset 0 0 0 0, -8 false
+";
+
+/// The fields of the instruction of words, which gives these words again, and from them itself.
+fn fields_text(alloc: Global, words: &str) -> Result<String, Fail> {
+    let numbers = hex_words(alloc, words)?;
+    let inst = match numbers.as_slice() {
+        [first] => decoded(*first, AFTER)?,
+        [first, second] => decoded(*first, *second)?,
+        _ => return Err("an instruction has one word or two".into()),
+    };
+    if code_text(alloc, &inst)?.as_str() != words {
+        return Err("it has other words".into());
     }
+    if decode_encoded(&inst, AFTER) != Ok(inst) {
+        return Err("its words have another instruction".into());
+    }
+    inst_text(alloc, &inst)
 }
 
 #[test]
 fn words_and_instructions(rt: HostRuntime) -> Result<(), Fail> {
-    use Operand::{Lit, Reg, Sfr};
-    let none = Reg(0);
-    let base_offset = |base: u8, disp: u32| Ea {
-        mode: Mode::BaseOffset,
-        base,
-        disp,
-        ..NO_ADDRESS
-    };
-    let offset = Ea {
-        disp: 0x41,
-        ..NO_ADDRESS
-    };
-    let disp = Ea {
-        mode: Mode::Disp,
-        disp: 0xE000_0000,
-        ..NO_ADDRESS
-    };
-    let index = Ea {
-        mode: Mode::BaseIndex,
-        base: 20,
-        index: 21,
-        scale: 2,
-        disp: 0,
-    };
-    let table = [
-        (0x5CA0_0E07, None, register(Op::Mov, Lit(7), none, Reg(20))),
-        (0x5C20_0E05, None, register(Op::Mov, Lit(5), none, Reg(4))),
-        (0x5C10_2E01, None, register(Op::Mov, Lit(1), none, Sfr(2))),
-        (
-            0x59B5_8901,
-            None,
-            register(Op::Subo, Lit(1), Reg(22), Reg(22)),
-        ),
-        (
-            0x59A0_9801,
-            None,
-            register(Op::Addo, Lit(1), Lit(2), Reg(20)),
-        ),
-        (0x6600_0680, None, register(Op::Flushreg, none, none, none)),
-        (0x6600_0780, None, register(Op::Syncf, none, none, none)),
-        (0x8CA0_0041, None, memory(Op::Lda, 20, offset)),
-        (0x8CA8_3000, Some(0xE000_0000), memory(Op::Lda, 21, disp)),
-        (0x82A5_6000, None, memory(Op::Stob, 20, base_offset(21, 0))),
-        (0x92A5_6004, None, memory(Op::St, 20, base_offset(21, 4))),
-        (0x90A0_2010, None, memory(Op::Ld, 20, base_offset(0, 16))),
-        (0x90B5_1D15, None, memory(Op::Ld, 22, index)),
-        (0x0800_0010, None, branch(Op::B, none, none, 16, false)),
-        (0x1200_000A, None, branch(Op::Be, none, none, 8, true)),
-        (
-            0x3505_BFF8,
-            None,
-            branch(Op::Cmpobne, Lit(0), Reg(22), -8, false),
-        ),
-    ];
-    for (first, second, inst) in table {
-        assert_eq!(rt;
-            decode(first, second.unwrap_or(AFTER)),
-            Ok(inst),
-            "of {first}"
-        );
-        assert!(rt; valid(&inst), "at {first}");
-        assert_eq!(rt; encode(&inst), Code { first, second }, "to {first}");
-        assert_eq!(rt;
-            decode_encoded(&inst, AFTER),
-            Ok(inst),
-            "to {first} and back"
-        );
+    for row in WORDS.lines() {
+        let (words, wanted) = pair(row)?;
+        assert_eq!(rt; fields_text(rt.alloc(), words)?.as_str(), wanted, "{row}");
     }
     Ok(())
+}
+
+/// Words that are no instruction, and why.
+const REFUSED: &str = "\
+both M1 and S1               | 5CA00E27 | Operand
+a source sf3                 | 5CA00623 | Operand
+a destination sf3            | 5C182E01 | Operand
+a src2 sf3 of a branch       | 3200C001 | Operand
+a pair from sf1              | 5D200621 | Operand
+a pair to r5                 | 5D280604 | Operand
+three words to r6            | 5E300604 | Operand
+four words loaded to g2      | B0902000 | Operand
+M3 of a register that is read | 65002000 | Operand
+M1 of a test                 | 22A02000 | Operand
+scale 5                      | 90B51E95 | Operand
+mode 0110                    | 90A01800 | Opcode
+opcode 00                    | 00000000 | Opcode
+opcode 60                    | 60000000 | Opcode
+opcode FF                    | FFFFFFFF | Opcode
+opcode 58 with extension 5   | 58000280 | Opcode
+the same with M1 and S1      | 58000AA0 | Opcode
+mode 0110 of a pair to g5    | 98A81800 | Opcode
+";
+
+/// Why a word is refused.
+fn refusal_text(alloc: Global, word: &str) -> Result<String, Fail> {
+    match decode(u32::from_str_radix(word, 16)?, AFTER) {
+        Ok(_) => Err("it is an instruction".into()),
+        Err(refusal) => Ok(format!(in alloc; "{refusal:?}")?),
+    }
 }
 
 #[test]
 fn refused_words(rt: HostRuntime) -> Result<(), Fail> {
-    let table = [
-        ("both M1 and S1", 0x5CA0_0E27, BadWord::Operand),
-        ("a source sf3", 0x5CA0_0623, BadWord::Operand),
-        ("a destination sf3", 0x5C18_2E01, BadWord::Operand),
-        ("a src2 sf3 of a branch", 0x3200_C001, BadWord::Operand),
-        ("a pair from sf1", 0x5D20_0621, BadWord::Operand),
-        ("a pair to r5", 0x5D28_0604, BadWord::Operand),
-        ("three words to r6", 0x5E30_0604, BadWord::Operand),
-        ("four words loaded to g2", 0xB090_2000, BadWord::Operand),
-        (
-            "M3 of a register that is read",
-            0x6500_2000,
-            BadWord::Operand,
-        ),
-        ("M1 of a test", 0x22A0_2000, BadWord::Operand),
-        ("scale 5", 0x90B5_1E95, BadWord::Operand),
-        ("mode 0110", 0x90A0_1800, BadWord::Opcode),
-        ("opcode 00", 0x0000_0000, BadWord::Opcode),
-        ("opcode 60", 0x6000_0000, BadWord::Opcode),
-        ("opcode FF", 0xFFFF_FFFF, BadWord::Opcode),
-        ("opcode 58 with extension 5", 0x5800_0280, BadWord::Opcode),
-        ("the same with M1 and S1", 0x5800_0AA0, BadWord::Opcode),
-        ("mode 0110 of a pair to g5", 0x98A8_1800, BadWord::Opcode),
-    ];
-    for (why, word, refusal) in table {
-        assert_eq!(rt; decode(word, AFTER), Err(refusal), "{why}");
+    for row in REFUSED.lines() {
+        let (_, word, wanted) = columns(row)?;
+        assert_eq!(rt; refusal_text(rt.alloc(), word)?.as_str(), wanted, "{row}");
     }
     Ok(())
 }
 
+/// A word, one of its instruction that has further bits set, and all the bits that are ignored.
+const IGNORED: &str = "\
+66000680 66003E80 | FFF87F
+5CA00E07 5CA55E47 | 7D040
+5A058001 5AF5A001 | F82000
+22A00000 22A54FFF | 7DFFF
+3505BFF8 3505BFF8 | 0
+08000010 08000013 | 3
+0A000000 0ABCDEF1 | FFFFFF
+8CA00041 8CA54041 | 7C000
+90B51D15 90B51D55 | 60
+84051000 84AD13FF | F803FF
+";
+
+/// The bits that are ignored, of two words of one instruction, of which the first has none set.
+fn ignored_text(alloc: Global, words: &str) -> Result<String, Fail> {
+    let numbers = hex_words(alloc, words)?;
+    let [first, other] = numbers.as_slice() else {
+        return Err("a row has two words".into());
+    };
+    let inst = decoded(*first, AFTER)?;
+    if decode(*other, AFTER) != Ok(inst) {
+        return Err("they have two instructions".into());
+    }
+    if encode(&inst).first != *first {
+        return Err("it has another word".into());
+    }
+    Ok(format!(in alloc; "{:X}", spare_bits(&inst))?)
+}
+
 #[test]
 fn ignored_bits(rt: HostRuntime) -> Result<(), Fail> {
-    // A word, one of its instruction that has further bits set, and all the bits that are ignored.
-    let table = [
-        (0x6600_0680, 0x6600_3E80, 0x00FF_F87F),
-        (0x5CA0_0E07, 0x5CA5_5E47, 0x0007_D040),
-        (0x5A05_8001, 0x5AF5_A001, 0x00F8_2000),
-        (0x22A0_0000, 0x22A5_4FFF, 0x0007_DFFF),
-        (0x3505_BFF8, 0x3505_BFF8, 0),
-        (0x0800_0010, 0x0800_0013, 3),
-        (0x0A00_0000, 0x0ABC_DEF1, 0x00FF_FFFF),
-        (0x8CA0_0041, 0x8CA5_4041, 0x0007_C000),
-        (0x90B5_1D15, 0x90B5_1D55, 0x60),
-        (0x8405_1000, 0x84AD_13FF, 0x00F8_03FF),
-    ];
-    for (first, other, bits) in table {
-        let Ok(inst) = decode(first, AFTER) else {
-            return Err("a refused word".into());
-        };
-        assert_eq!(rt; decode(other, AFTER), Ok(inst), "of {other}");
-        assert!(rt; valid(&inst), "at {first}");
-        assert_eq!(rt; spare_bits(&inst), bits, "at {first}");
-        assert_eq!(rt; encode(&inst).first, first, "to {first}");
+    for row in IGNORED.lines() {
+        let (words, wanted) = pair(row)?;
+        assert_eq!(rt; ignored_text(rt.alloc(), words)?.as_str(), wanted, "{row}");
     }
     Ok(())
 }

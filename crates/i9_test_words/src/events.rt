@@ -1,349 +1,292 @@
 //! Trace events, worked out by hand from the places of the modes and the flags.
+use crate::rows::{columns, instruction};
 use i9_events::{Breaks, Seen, event};
-use i9_isa::{Inst, NO_ADDRESS, Op, Operand};
+use i9_isa::Inst;
+use std::alloc::Global;
+use std::test::Fail;
 
-/// Trace enable, in the process controls.
-const ENABLED: u32 = 1;
+/// What is given with an instruction: the trace and process controls, what it shows, and the breakpoints.
+#[derive(Drop)]
+struct Given {
+    tc: u32,
+    pc: u32,
+    seen: Seen,
+    breaks: Breaks,
+}
 
-/// An instruction at 00001000 that shows nothing else.
-const PLAIN: Seen = Seen {
-    address: 0x1000,
-    access: None,
-    taken: false,
-    switched: false,
+/// An instruction at 1000 that shows nothing else, where trace enable is set and no breakpoint is enabled.
+const PLAIN: Given = Given {
+    tc: 0,
+    pc: 1,
+    seen: Seen {
+        address: 0x1000,
+        access: None,
+        taken: false,
+        switched: false,
+    },
+    breaks: Breaks {
+        ipb: [0, 0],
+        dab: [0, 0],
+        bpcon: 0,
+    },
 };
 
-/// A branch that is taken.
-const TAKEN: Seen = Seen {
-    taken: true,
-    ..PLAIN
-};
+fn number(digits: &str) -> Result<u32, Fail> {
+    Ok(u32::from_str_radix(digits, 16)?)
+}
 
-/// A call or a return that switches.
-const SWITCHED: Seen = Seen {
-    switched: true,
-    ..PLAIN
-};
+fn two_numbers(text: &str) -> Result<[u32; 2], Fail> {
+    let (first, second) = text.split_once(" ").unwrap_or((text, ""));
+    Ok([number(first)?, number(second)?])
+}
 
-/// No breakpoint is enabled.
-const NO_BREAKS: Breaks = Breaks {
-    ipb: [0, 0],
-    dab: [0, 0],
-    bpcon: 0,
-};
+/// Sets one thing that is given: that a branch is taken or a call or a return switches, where the instruction is and
+/// which address it accesses, and the controls and breakpoints.
+fn set(given: &mut Given, item: &str) -> Result<(), Fail> {
+    let (name, value) = item.split_once(" ").unwrap_or((item, ""));
+    match name {
+        "tc" => given.tc = number(value)?,
+        "pc" => given.pc = number(value)?,
+        "taken" => given.seen.taken = true,
+        "switched" => given.seen.switched = true,
+        "at" => given.seen.address = number(value)?,
+        "to" => given.seen.access = Some(number(value)?),
+        "ipb" => given.breaks.ipb = two_numbers(value)?,
+        "dab" => given.breaks.dab = two_numbers(value)?,
+        "bpcon" => given.breaks.bpcon = number(value)?,
+        _ => return Err("nothing such is given".into()),
+    }
+    Ok(())
+}
 
-/// An instruction of this name.
-fn inst(op: Op) -> Inst {
-    Inst {
-        op,
-        a: Operand::Reg(0),
-        b: Operand::Reg(0),
-        c: Operand::Reg(0),
-        ea: NO_ADDRESS,
-        disp: 0,
-        hint: false,
+/// The trace controls and the subtype behind an instruction where this is given, if a trace fault comes.
+fn trace_text(alloc: Global, i: &Inst, text: &str) -> Result<String, Fail> {
+    let mut given = PLAIN;
+    for item in text.split(',') {
+        set(&mut given, item.trim())?;
+    }
+    match event(given.tc, given.pc, i, &given.seen, &given.breaks) {
+        Some(trace) => Ok(format!(in alloc; "{:X} {:X}", trace.tc, trace.subtype)?),
+        None => Ok(format!(in alloc; "none")?),
     }
 }
 
-/// The trace controls and the subtype behind an instruction of this name.
-fn traced(tc: u32, op: Op, seen: &Seen, breaks: &Breaks) -> Option<(u32, u16)> {
-    let trace = event(tc, ENABLED, &inst(op), seen, breaks)?;
-    Some((trace.tc, trace.subtype))
-}
-
-/// Each mode alone, with instructions that raise its event and others that do not.
-#[test]
-fn counts_one_mode(rt: HostRuntime) {
-    let rows = [
-        // Instruction: each one.
-        (0x02, Op::Mov, PLAIN, Some((0x0002_0002, 0x02))),
-        (0x02, Op::Ld, PLAIN, Some((0x0002_0002, 0x02))),
-        (0x02, Op::Ret, PLAIN, Some((0x0002_0002, 0x02))),
-        // Branch.
-        (0x04, Op::B, PLAIN, Some((0x0004_0004, 0x04))),
-        (0x04, Op::Bx, PLAIN, Some((0x0004_0004, 0x04))),
-        (0x04, Op::Mov, TAKEN, None),
-        (0x04, Op::Lda, TAKEN, None),
-        (0x04, Op::Bal, TAKEN, None),
-        (0x04, Op::Balx, TAKEN, None),
-        (0x04, Op::Call, TAKEN, None),
-        (0x04, Op::Ret, TAKEN, None),
-        (0x04, Op::Faulte, TAKEN, None),
-        (0x04, Op::Faultno, TAKEN, None),
-        (0x04, Op::Teste, TAKEN, None),
-        (0x04, Op::Cmpo, TAKEN, None),
-        // Call.
-        (0x08, Op::Bal, PLAIN, Some((0x0008_0008, 0x08))),
-        (0x08, Op::Balx, PLAIN, Some((0x0008_0008, 0x08))),
-        (0x08, Op::Call, PLAIN, Some((0x0008_0008, 0x08))),
-        (0x08, Op::Callx, PLAIN, Some((0x0008_0008, 0x08))),
-        (0x08, Op::Calls, PLAIN, Some((0x0008_0008, 0x08))),
-        (0x08, Op::B, PLAIN, None),
-        (0x08, Op::Bx, PLAIN, None),
-        (0x08, Op::Be, TAKEN, None),
-        (0x08, Op::Ret, SWITCHED, None),
-        // Return.
-        (0x10, Op::Ret, PLAIN, Some((0x0010_0010, 0x10))),
-        (0x10, Op::Call, PLAIN, None),
-        (0x10, Op::Calls, SWITCHED, None),
-        // Prereturn.
-        (0x20, Op::Ret, PLAIN, Some((0x0020_0020, 0x20))),
-        (0x20, Op::Callx, PLAIN, None),
-        (0x20, Op::Bx, PLAIN, None),
-        // Supervisor.
-        (0x40, Op::Calls, SWITCHED, Some((0x0040_0040, 0x40))),
-        (0x40, Op::Ret, SWITCHED, Some((0x0040_0040, 0x40))),
-        (0x40, Op::Calls, PLAIN, None),
-        (0x40, Op::Ret, PLAIN, None),
-        // Mark.
-        (0x80, Op::Mark, PLAIN, Some((0x0080_0080, 0x80))),
-        (0x80, Op::Fmark, PLAIN, Some((0x0080_0080, 0x80))),
-        (0x80, Op::Syncf, PLAIN, None),
-        (0x80, Op::Mov, TAKEN, None),
-        (0x80, Op::Calls, SWITCHED, None),
-        // No mode.
-        (0x00, Op::Mov, TAKEN, None),
-        (0x00, Op::B, TAKEN, None),
-        (0x00, Op::Ret, SWITCHED, None),
-    ];
-    for (tc, op, seen, wanted) in rows {
-        assert_eq!(rt; traced(tc, op, &seen, &NO_BREAKS), wanted, "{op:?} by {tc}");
-    }
-}
-
-/// Each conditional branch and each compare branch, taken and not.
-#[test]
-fn counts_branches_that_are_taken(rt: HostRuntime) {
-    let names = [
-        Op::Bno,
-        Op::Bg,
-        Op::Be,
-        Op::Bge,
-        Op::Bl,
-        Op::Bne,
-        Op::Ble,
-        Op::Bo,
-        Op::Bbc,
-        Op::Bbs,
-        Op::Cmpobg,
-        Op::Cmpobe,
-        Op::Cmpobge,
-        Op::Cmpobl,
-        Op::Cmpobne,
-        Op::Cmpoble,
-        Op::Cmpibno,
-        Op::Cmpibg,
-        Op::Cmpibe,
-        Op::Cmpibge,
-        Op::Cmpibl,
-        Op::Cmpibne,
-        Op::Cmpible,
-        Op::Cmpibo,
-    ];
-    for op in names {
-        let taken = traced(0x04, op, &TAKEN, &NO_BREAKS);
-        assert_eq!(rt; taken, Some((0x0004_0004, 0x04)), "{op:?}");
-        assert_eq!(rt; traced(0x04, op, &PLAIN, &NO_BREAKS), None, "{op:?}");
-    }
-}
+/// Each mode alone, from that of instructions to that of marks, and none, with instructions that raise its event and
+/// others that do not.
+const ONE_MODE: &str = "\
+mov r4, g6     | tc 2            | 20002 2
+ld 8(g5), g6   | tc 2            | 20002 2
+ret            | tc 2            | 20002 2
+b 0x40         | tc 4            | 40004 4
+bx 8(g5)       | tc 4            | 40004 4
+mov r4, g6     | tc 4, taken     | none
+lda 8(g5), g6  | tc 4, taken     | none
+bal 0x40       | tc 4, taken     | none
+balx 8(g5), g6 | tc 4, taken     | none
+call 0x40      | tc 4, taken     | none
+ret            | tc 4, taken     | none
+faulte         | tc 4, taken     | none
+faultno        | tc 4, taken     | none
+teste g6       | tc 4, taken     | none
+cmpo r4, g5    | tc 4, taken     | none
+bal 0x40       | tc 8            | 80008 8
+balx 8(g5), g6 | tc 8            | 80008 8
+call 0x40      | tc 8            | 80008 8
+callx 8(g5)    | tc 8            | 80008 8
+calls r4       | tc 8            | 80008 8
+b 0x40         | tc 8            | none
+bx 8(g5)       | tc 8            | none
+be 0x40        | tc 8, taken     | none
+ret            | tc 8, switched  | none
+ret            | tc 10           | 100010 10
+call 0x40      | tc 10           | none
+calls r4       | tc 10, switched | none
+ret            | tc 20           | 200020 20
+callx 8(g5)    | tc 20           | none
+bx 8(g5)       | tc 20           | none
+calls r4       | tc 40, switched | 400040 40
+ret            | tc 40, switched | 400040 40
+calls r4       | tc 40           | none
+ret            | tc 40           | none
+mark           | tc 80           | 800080 80
+fmark          | tc 80           | 800080 80
+syncf          | tc 80           | none
+mov r4, g6     | tc 80, taken    | none
+calls r4       | tc 80, switched | none
+mov r4, g6     | tc 0, taken     | none
+b 0x40         | tc 0, taken     | none
+ret            | tc 0, switched  | none
+";
 
 /// Several events make one fault, whose subtype has a bit for each.
-#[test]
-fn counts_several_modes(rt: HostRuntime) {
-    let rows = [
-        (0x06, Op::B, PLAIN, (0x0006_0006, 0x06)),
-        (0x06, Op::Be, TAKEN, (0x0006_0006, 0x06)),
-        (0x06, Op::Be, PLAIN, (0x0002_0006, 0x02)),
-        (0x30, Op::Ret, PLAIN, (0x0030_0030, 0x30)),
-        (0x3A, Op::Ret, PLAIN, (0x0032_003A, 0x32)),
-        (0x48, Op::Calls, SWITCHED, (0x0048_0048, 0x48)),
-        (0x48, Op::Calls, PLAIN, (0x0008_0048, 0x08)),
-        (0xFE, Op::Calls, SWITCHED, (0x004A_00FE, 0x4A)),
-        (0xFE, Op::Ret, SWITCHED, (0x0072_00FE, 0x72)),
-        (0xFE, Op::Cmpobl, TAKEN, (0x0006_00FE, 0x06)),
-        (0xFE, Op::Mark, PLAIN, (0x0082_00FE, 0x82)),
-        (0xFE, Op::Mov, PLAIN, (0x0002_00FE, 0x02)),
-    ];
-    for (tc, op, seen, wanted) in rows {
-        let trace = traced(tc, op, &seen, &NO_BREAKS);
-        assert_eq!(rt; trace, Some(wanted), "{op:?} by {tc}");
-    }
-}
+const SEVERAL_MODES: &str = "\
+b 0x40              | tc 6            | 60006 6
+be 0x40             | tc 6, taken     | 60006 6
+be 0x40             | tc 6            | 20006 2
+ret                 | tc 30           | 300030 30
+ret                 | tc 3A           | 32003A 32
+calls r4            | tc 48, switched | 480048 48
+calls r4            | tc 48           | 80048 8
+calls r4            | tc FE, switched | 4A00FE 4A
+ret                 | tc FE, switched | 7200FE 72
+cmpobl r4, g5, 0x40 | tc FE, taken    | 600FE 6
+mark                | tc FE           | 8200FE 82
+mov r4, g6          | tc FE           | 200FE 2
+";
 
 /// `fmark` counts in any mode, and sets the flag of its event where the mode is set.
-#[test]
-fn counts_forced_marks(rt: HostRuntime) {
-    let rows = [
-        (0x00, Op::Fmark, Some((0x0000_0000, 0x80))),
-        (0x00, Op::Mark, None),
-        (0x7C, Op::Fmark, Some((0x0000_007C, 0x80))),
-        (0x7C, Op::Mark, None),
-        (0x02, Op::Fmark, Some((0x0002_0002, 0x82))),
-        (0x02, Op::Mark, Some((0x0002_0002, 0x02))),
-        (0x82, Op::Fmark, Some((0x0082_0082, 0x82))),
-        (0x82, Op::Mark, Some((0x0082_0082, 0x82))),
-    ];
-    for (tc, op, wanted) in rows {
-        assert_eq!(rt;
-            traced(tc, op, &PLAIN, &NO_BREAKS),
-            wanted,
-            "{op:?} by {tc}"
-        );
-    }
-}
+const FORCED_MARKS: &str = "\
+fmark | tc 0  | 0 80
+mark  | tc 0  | none
+fmark | tc 7C | 7C 80
+mark  | tc 7C | none
+fmark | tc 2  | 20002 82
+mark  | tc 2  | 20002 2
+fmark | tc 82 | 820082 82
+mark  | tc 82 | 820082 82
+";
 
-/// The words of IPB0 and IPB1, and the address of the instruction.
-#[test]
-fn meets_instruction_breakpoints(rt: HostRuntime) {
-    let rows = [
-        ([0x1001, 0], 0x1000, Some((0x0100_0000, 0x80))),
-        ([0, 0x1001], 0x1000, Some((0x0200_0000, 0x80))),
-        ([0x1001, 0x1001], 0x1000, Some((0x0300_0000, 0x80))),
-        // The bit that enables is clear.
-        ([0x1000, 0], 0x1000, None),
-        ([0, 0x1000], 0x1000, None),
-        ([0x1002, 0x1002], 0x1000, None),
-        ([0x1000, 0x1001], 0x1000, Some((0x0200_0000, 0x80))),
-        // The two low bits of both do not count.
-        ([0x1003, 0], 0x1000, Some((0x0100_0000, 0x80))),
-        ([0x1001, 0], 0x1002, Some((0x0100_0000, 0x80))),
-        ([0, 0x1003], 0x1003, Some((0x0200_0000, 0x80))),
-        // All others do.
-        ([0x1005, 0x0FFD], 0x1000, None),
-        ([0x8000_1001, 0x4000_1001], 0x1000, None),
-        ([0xFFFF_FFFD, 1], 0xFFFF_FFFC, Some((0x0100_0000, 0x80))),
-        ([0xFFFF_FFFD, 1], 0, Some((0x0200_0000, 0x80))),
-    ];
-    for (ipb, address, wanted) in rows {
-        let seen = Seen {
-            address,
-            access: Some(0x2000),
-            ..PLAIN
-        };
-        let breaks = Breaks { ipb, ..NO_BREAKS };
-        assert_eq!(rt;
-            traced(0, Op::Ld, &seen, &breaks),
-            wanted,
-            "{ipb:?} at {address}"
-        );
-    }
-}
+/// The words of IPB0 and IPB1, and the address of the instruction: the low bit of a word enables, the two low bits of
+/// both do not count, and all others do.
+const INSTRUCTION_BREAKPOINTS: &str = "\
+ld 8(g5), g6 | ipb 1001 0, to 2000                  | 1000000 80
+ld 8(g5), g6 | ipb 0 1001, to 2000                  | 2000000 80
+ld 8(g5), g6 | ipb 1001 1001, to 2000               | 3000000 80
+ld 8(g5), g6 | ipb 1000 0, to 2000                  | none
+ld 8(g5), g6 | ipb 0 1000, to 2000                  | none
+ld 8(g5), g6 | ipb 1002 1002, to 2000               | none
+ld 8(g5), g6 | ipb 1000 1001, to 2000               | 2000000 80
+ld 8(g5), g6 | ipb 1003 0, to 2000                  | 1000000 80
+ld 8(g5), g6 | ipb 1001 0, at 1002, to 2000         | 1000000 80
+ld 8(g5), g6 | ipb 0 1003, at 1003, to 2000         | 2000000 80
+ld 8(g5), g6 | ipb 1005 FFD, to 2000                | none
+ld 8(g5), g6 | ipb 80001001 40001001, to 2000       | none
+ld 8(g5), g6 | ipb FFFFFFFD 1, at FFFFFFFC, to 2000 | 1000000 80
+ld 8(g5), g6 | ipb FFFFFFFD 1, at 0, to 2000        | 2000000 80
+";
 
-/// DAB0, DAB1 and the breakpoint controls, and the effective address.
-#[test]
-fn meets_data_breakpoints(rt: HostRuntime) {
-    let rows = [
-        ([0x2000, 0], 1, Some(0x2000), Some((0x0400_0000, 0x80))),
-        ([0, 0x2000], 2, Some(0x2000), Some((0x0800_0000, 0x80))),
-        ([0x2000, 0x2000], 3, Some(0x2000), Some((0x0C00_0000, 0x80))),
-        // The bit that enables is clear.
-        ([0x2000, 0], 0, Some(0x2000), None),
-        ([0x2000, 0], 2, Some(0x2000), None),
-        ([0, 0x2000], 0, Some(0x2000), None),
-        ([0, 0x2000], 1, Some(0x2000), None),
-        ([0x2000, 0x2000], 0xFFFF_FFFC, Some(0x2000), None),
-        (
-            [0x2000, 0x2000],
-            0xFFFF_FFFD,
-            Some(0x2000),
-            Some((0x0400_0000, 0x80)),
-        ),
-        // All bits count.
-        ([0x2000, 0x2000], 3, Some(0x2001), None),
-        ([0x2000, 0x2000], 3, Some(0x1FFF), None),
-        ([0x2000, 0x2000], 3, Some(0x8000_2000), None),
-        ([0x2001, 0x2003], 3, Some(0x2003), Some((0x0800_0000, 0x80))),
-        ([0, 1], 3, Some(0), Some((0x0400_0000, 0x80))),
-        // There is no effective address, and that of the instruction does not count.
-        ([0, 0], 3, None, None),
-        ([0x1000, 0x1000], 3, None, None),
-        ([0x1000, 0x1000], 3, Some(0x2000), None),
-    ];
-    for (dab, bpcon, access, wanted) in rows {
-        let seen = Seen { access, ..PLAIN };
-        let breaks = Breaks {
-            dab,
-            bpcon,
-            ..NO_BREAKS
-        };
-        let trace = traced(0, Op::St, &seen, &breaks);
-        assert_eq!(rt; trace, wanted, "{dab:?} by {bpcon} at {access:?}");
-    }
-}
+/// DAB0, DAB1 and the breakpoint controls, whose bits enable, and the effective address, all of whose bits count. There
+/// may be none, and the address of the instruction does not count.
+const DATA_BREAKPOINTS: &str = "\
+st g6, 8(g5) | dab 2000 0, bpcon 1, to 2000           | 4000000 80
+st g6, 8(g5) | dab 0 2000, bpcon 2, to 2000           | 8000000 80
+st g6, 8(g5) | dab 2000 2000, bpcon 3, to 2000        | C000000 80
+st g6, 8(g5) | dab 2000 0, bpcon 0, to 2000           | none
+st g6, 8(g5) | dab 2000 0, bpcon 2, to 2000           | none
+st g6, 8(g5) | dab 0 2000, bpcon 0, to 2000           | none
+st g6, 8(g5) | dab 0 2000, bpcon 1, to 2000           | none
+st g6, 8(g5) | dab 2000 2000, bpcon FFFFFFFC, to 2000 | none
+st g6, 8(g5) | dab 2000 2000, bpcon FFFFFFFD, to 2000 | 4000000 80
+st g6, 8(g5) | dab 2000 2000, bpcon 3, to 2001        | none
+st g6, 8(g5) | dab 2000 2000, bpcon 3, to 1FFF        | none
+st g6, 8(g5) | dab 2000 2000, bpcon 3, to 80002000    | none
+st g6, 8(g5) | dab 2001 2003, bpcon 3, to 2003        | 8000000 80
+st g6, 8(g5) | dab 0 1, bpcon 3, to 0                 | 4000000 80
+st g6, 8(g5) | dab 0 0, bpcon 3                       | none
+st g6, 8(g5) | dab 1000 1000, bpcon 3                 | none
+st g6, 8(g5) | dab 1000 1000, bpcon 3, to 2000        | none
+";
 
 /// A breakpoint raises the mark event, beside the others.
-#[test]
-fn counts_breakpoints_and_events(rt: HostRuntime) {
-    let breaks = Breaks {
-        ipb: [0x1001, 0x1001],
-        dab: [0x2000, 0x2000],
-        bpcon: 3,
-    };
-    let seen = Seen {
-        access: Some(0x2000),
-        ..PLAIN
-    };
-    let rows = [
-        (0x00, Op::Atadd, seen, (0x0F00_0000, 0x80)),
-        (0x02, Op::Atadd, seen, (0x0F02_0002, 0x82)),
-        (0x80, Op::Atadd, seen, (0x0F80_0080, 0x80)),
-        (0xFE, Op::Atadd, seen, (0x0F82_00FE, 0x82)),
-        (0x00, Op::Mark, PLAIN, (0x0300_0000, 0x80)),
-        (0x00, Op::Fmark, PLAIN, (0x0300_0000, 0x80)),
-        (0x7C, Op::Ret, SWITCHED, (0x0370_007C, 0xF0)),
-        (0xFE, Op::Be, TAKEN, (0x0386_00FE, 0x86)),
-    ];
-    for (tc, op, seen, wanted) in rows {
-        let trace = traced(tc, op, &seen, &breaks);
-        assert_eq!(rt; trace, Some(wanted), "{op:?} by {tc}");
-    }
-}
+const BREAKPOINTS_AND_EVENTS: &str = "\
+atadd r4, g5, g6 | tc 0, to 2000, ipb 1001 1001, dab 2000 2000, bpcon 3   | F000000 80
+atadd r4, g5, g6 | tc 2, to 2000, ipb 1001 1001, dab 2000 2000, bpcon 3   | F020002 82
+atadd r4, g5, g6 | tc 80, to 2000, ipb 1001 1001, dab 2000 2000, bpcon 3  | F800080 80
+atadd r4, g5, g6 | tc FE, to 2000, ipb 1001 1001, dab 2000 2000, bpcon 3  | F8200FE 82
+mark             | tc 0, ipb 1001 1001, dab 2000 2000, bpcon 3            | 3000000 80
+fmark            | tc 0, ipb 1001 1001, dab 2000 2000, bpcon 3            | 3000000 80
+ret              | tc 7C, switched, ipb 1001 1001, dab 2000 2000, bpcon 3 | 370007C F0
+be 0x40          | tc FE, taken, ipb 1001 1001, dab 2000 2000, bpcon 3    | 38600FE 86
+";
 
-/// Where trace enable is clear there is no event, whatever else is set.
-#[test]
-fn asks_for_trace_enable(rt: HostRuntime) {
-    let breaks = Breaks {
-        ipb: [0x1001, 0],
-        ..NO_BREAKS
-    };
-    let rows = [
-        (0x0000_0000, 0xFE, Op::Mov, NO_BREAKS, None),
-        (0x0000_0000, 0xFE, Op::Fmark, NO_BREAKS, None),
-        (0x0000_0000, 0x00, Op::Fmark, NO_BREAKS, None),
-        (0x0000_0000, 0xFE, Op::Mov, breaks, None),
-        // All other bits of the process controls that are kept.
-        (0x001F_2402, 0xFE, Op::Fmark, breaks, None),
-        (0x001F_2403, 0xFE, Op::Mov, NO_BREAKS, Some(0x0002_00FE)),
-        (0x001F_2403, 0x00, Op::Mov, breaks, Some(0x0100_0000)),
-        (0x0000_0001, 0x00, Op::Mov, NO_BREAKS, None),
-    ];
-    for (pc, tc, op, breaks, wanted) in rows {
-        let found = match event(tc, pc, &inst(op), &PLAIN, &breaks) {
-            None => None,
-            Some(trace) => Some(trace.tc),
-        };
-        assert_eq!(rt; found, wanted, "{op:?} by {pc}");
-    }
-}
+/// Where trace enable is clear there is no event, whatever else is set, as all other bits of the process controls that
+/// are kept.
+const TRACE_ENABLE: &str = "\
+mov r4, g6 | pc 0, tc FE                  | none
+fmark      | pc 0, tc FE                  | none
+fmark      | pc 0, tc 0                   | none
+mov r4, g6 | pc 0, tc FE, ipb 1001 0      | none
+fmark      | pc 1F2402, tc FE, ipb 1001 0 | none
+mov r4, g6 | pc 1F2403, tc FE             | 200FE 2
+mov r4, g6 | pc 1F2403, tc 0, ipb 1001 0  | 1000000 80
+mov r4, g6 | pc 1, tc 0                   | none
+";
 
 /// Flags that were set stay, and neither count nor make an event count.
+const FLAGS: &str = "\
+mov r4, g6 | tc FFE0000 | none
+mark       | tc FFE0000 | none
+fmark      | tc FFE0000 | FFE0000 80
+mov r4, g6 | tc FFE00FE | FFE00FE 2
+mov r4, g6 | tc 8800002 | 8820002 2
+mov r4, g6 | tc 1020002 | 1020002 2
+b 0x40     | tc 4000004 | 4040004 4
+fmark      | tc 100000  | 100000 80
+";
+
+const EVENTS: [&str; 8] = [
+    ONE_MODE,
+    SEVERAL_MODES,
+    FORCED_MARKS,
+    INSTRUCTION_BREAKPOINTS,
+    DATA_BREAKPOINTS,
+    BREAKPOINTS_AND_EVENTS,
+    TRACE_ENABLE,
+    FLAGS,
+];
+
 #[test]
-fn keeps_flags(rt: HostRuntime) {
-    let rows = [
-        (0x0FFE_0000, Op::Mov, None),
-        (0x0FFE_0000, Op::Mark, None),
-        (0x0FFE_0000, Op::Fmark, Some((0x0FFE_0000, 0x80))),
-        (0x0FFE_00FE, Op::Mov, Some((0x0FFE_00FE, 0x02))),
-        (0x0880_0002, Op::Mov, Some((0x0882_0002, 0x02))),
-        (0x0102_0002, Op::Mov, Some((0x0102_0002, 0x02))),
-        (0x0400_0004, Op::B, Some((0x0404_0004, 0x04))),
-        (0x0010_0000, Op::Fmark, Some((0x0010_0000, 0x80))),
-    ];
-    for (tc, op, wanted) in rows {
-        assert_eq!(rt;
-            traced(tc, op, &PLAIN, &NO_BREAKS),
-            wanted,
-            "{op:?} by {tc}"
-        );
+fn counts_events(rt: HostRuntime) -> Result<(), Fail> {
+    for table in EVENTS {
+        for row in table.lines() {
+            let (statement, given, wanted) = columns(row)?;
+            let text = trace_text(rt.alloc(), &instruction(statement)?, given)?;
+            assert_eq!(rt; text.as_str(), wanted, "{row}");
+        }
     }
+    Ok(())
+}
+
+/// Each conditional branch and each compare branch.
+const BRANCHES: &str = "\
+bno 0x40
+bg 0x40
+be 0x40
+bge 0x40
+bl 0x40
+bne 0x40
+ble 0x40
+bo 0x40
+bbc r4, g5, 0x40
+bbs r4, g5, 0x40
+cmpobg r4, g5, 0x40
+cmpobe r4, g5, 0x40
+cmpobge r4, g5, 0x40
+cmpobl r4, g5, 0x40
+cmpobne r4, g5, 0x40
+cmpoble r4, g5, 0x40
+cmpibno r4, g5, 0x40
+cmpibg r4, g5, 0x40
+cmpibe r4, g5, 0x40
+cmpibge r4, g5, 0x40
+cmpibl r4, g5, 0x40
+cmpibne r4, g5, 0x40
+cmpible r4, g5, 0x40
+cmpibo r4, g5, 0x40
+";
+
+/// The trace by the branch mode where the branch is taken, and where it is not.
+fn branch_text(alloc: Global, i: &Inst) -> Result<String, Fail> {
+    let taken = trace_text(alloc, i, "tc 4, taken")?;
+    let other = trace_text(alloc, i, "tc 4")?;
+    Ok(format!(in alloc; "{taken}, {other}")?)
+}
+
+#[test]
+fn counts_branches_that_are_taken(rt: HostRuntime) -> Result<(), Fail> {
+    for statement in BRANCHES.lines() {
+        let text = branch_text(rt.alloc(), &instruction(statement)?)?;
+        assert_eq!(rt; text.as_str(), "40004 4, none", "{statement}");
+    }
+    Ok(())
 }

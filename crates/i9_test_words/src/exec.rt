@@ -1,517 +1,417 @@
 //! Results, branches and addresses that were worked out by hand from the descriptions of the instructions.
-ghost use Rattle.std.specs.Prelude.{◌≡◌};
-
-use i9_exec::{Arith, Done, Jump, address, branch, compute, has_result};
-use i9_isa::{Ea, Inst, Mode, Op, Operand};
+use crate::rows::{columns, hex_words, instruction, pair};
+use i9_exec::{address, branch, compute, has_result};
+use i9_isa::Inst;
+use std::alloc::Global;
 use std::test::*;
 
-/// No address.
-const NO_ADDRESS: Ea = Ea {
-    mode: Mode::Offset,
-    base: 0,
-    index: 0,
-    scale: 0,
-    disp: 0,
-};
-
-/// Controls with the bits of the overflow mask, above and below it, and condition code 101.
-const MASKED: u32 = 0x8001_1005;
-
-/// The same without the mask.
-const UNMASKED: u32 = 0x8001_0005;
-
-/// Controls without a condition code.
-const CLEAR: u32 = 0x8001_0000;
-
-/// An instruction of this name; its operands don't count here.
-fn inst(op: Op) -> Inst
-    ensures { result.op ≡ op }
-{
-    Inst {
-        op,
-        a: Operand::Reg(0),
-        b: Operand::Reg(0),
-        c: Operand::Reg(0),
-        ea: NO_ADDRESS,
-        disp: 0,
-        hint: false,
-    }
-}
-
-/// The result of a name that has one, of sources of several words.
-fn long_result(op: Op, a: &[u32; 4], b: &[u32; 2], c: u32, ac: u32) -> Result<Done, Fail> {
-    if !has_result(op) {
-        return Err("a name without a result".into());
-    }
-    Ok(compute(&inst(op), a, b, c, ac))
-}
-
-/// The same, of sources of one word.
-fn result(op: Op, a: u32, b: u32, c: u32, ac: u32) -> Result<Done, Fail> {
-    long_result(op, &[a, 0, 0, 0], &[b, 0], c, ac)
-}
+/// Whether a name has a result; operands don't count here, and neither do they for results and branches.
+const NAMES: &str = "\
+and r4, g5, g6      | true
+scanbit r4, g6      | true
+extract r4, g5, g6  | true
+testno g6           | true
+testo g6            | true
+atadd r4, g5, g6    | false
+modac r4, g5, g6    | false
+modpc r4, g5, g6    | false
+sysctl r4, g5, g6   | false
+syncf               | false
+bbc r4, g5, 0x40    | false
+cmpibo r4, g5, 0x40 | false
+b 0x40              | false
+faulto              | false
+ld 8(g5), g6        | false
+";
 
 #[test]
 fn names_with_results(rt: HostRuntime) -> Result<(), Fail> {
-    let with = [Op::And, Op::Scanbit, Op::Extract, Op::Testno, Op::Testo];
-    for op in with {
-        assert!(rt; has_result(op));
-    }
-    let without = [
-        Op::Atadd,
-        Op::Modac,
-        Op::Modpc,
-        Op::Sysctl,
-        Op::Syncf,
-        Op::Bbc,
-        Op::Cmpibo,
-        Op::B,
-        Op::Faulto,
-        Op::Ld,
-    ];
-    for op in without {
-        assert!(rt; !has_result(op));
-    }
-    Ok(())
-}
-
-/// Results of one word: name, src1, src2, the old src/dst, the condition code before; the word, and the
-/// condition code after. The rows of the logic have the bits 1100 and 1010 in each place of four.
-const WORDS: [(Op, u32, u32, u32, u32, u32, u32); 96] = [
-    (
-        Op::And,
-        0xCCCC_CCCC,
-        0xAAAA_AAAA,
-        0,
-        0b101,
-        0x8888_8888,
-        0b101,
-    ),
-    (
-        Op::Or,
-        0xCCCC_CCCC,
-        0xAAAA_AAAA,
-        0,
-        0b101,
-        0xEEEE_EEEE,
-        0b101,
-    ),
-    (
-        Op::Xor,
-        0xCCCC_CCCC,
-        0xAAAA_AAAA,
-        0,
-        0b101,
-        0x6666_6666,
-        0b101,
-    ),
-    (
-        Op::Nor,
-        0xCCCC_CCCC,
-        0xAAAA_AAAA,
-        0,
-        0b101,
-        0x1111_1111,
-        0b101,
-    ),
-    (
-        Op::Xnor,
-        0xCCCC_CCCC,
-        0xAAAA_AAAA,
-        0,
-        0b101,
-        0x9999_9999,
-        0b101,
-    ),
-    (
-        Op::Nand,
-        0xCCCC_CCCC,
-        0xAAAA_AAAA,
-        0,
-        0b101,
-        0x7777_7777,
-        0b101,
-    ),
-    (
-        Op::Andnot,
-        0xCCCC_CCCC,
-        0xAAAA_AAAA,
-        0,
-        0b101,
-        0x2222_2222,
-        0b101,
-    ),
-    (
-        Op::Notand,
-        0xCCCC_CCCC,
-        0xAAAA_AAAA,
-        0,
-        0b101,
-        0x4444_4444,
-        0b101,
-    ),
-    (
-        Op::Ornot,
-        0xCCCC_CCCC,
-        0xAAAA_AAAA,
-        0,
-        0b101,
-        0xBBBB_BBBB,
-        0b101,
-    ),
-    (
-        Op::Notor,
-        0xCCCC_CCCC,
-        0xAAAA_AAAA,
-        0,
-        0b101,
-        0xDDDD_DDDD,
-        0b101,
-    ),
-    (
-        Op::Not,
-        0xCCCC_CCCC,
-        0xAAAA_AAAA,
-        0,
-        0b101,
-        0x3333_3333,
-        0b101,
-    ),
-    (
-        Op::Mov,
-        0xCCCC_CCCC,
-        0xAAAA_AAAA,
-        0,
-        0b101,
-        0xCCCC_CCCC,
-        0b101,
-    ),
-    (
-        Op::Modify,
-        0x0000_FFFF,
-        0x1234_5678,
-        0x9ABC_DEF0,
-        0b101,
-        0x9ABC_5678,
-        0b101,
-    ),
-    (Op::Setbit, 33, 0, 0, 0b101, 2, 0b101),
-    (Op::Clrbit, 63, 0xFFFF_FFFF, 0, 0b101, 0x7FFF_FFFF, 0b101),
-    (Op::Notbit, 32, 1, 0, 0b101, 0, 0b101),
-    (Op::Notbit, 0xFFFF_FFFF, 1, 0, 0b101, 0x8000_0001, 0b101),
-    (Op::Addo, 1, 0xFFFF_FFFF, 0, 0b101, 0, 0b101),
-    (Op::Subo, 1, 0, 0, 0b101, 0xFFFF_FFFF, 0b101),
-    (
-        Op::Mulo,
-        0x0001_0000,
-        0x0001_0001,
-        0,
-        0b101,
-        0x0001_0000,
-        0b101,
-    ),
-    (Op::Divo, 3, 0xFFFF_FFFF, 0, 0b101, 0x5555_5555, 0b101),
-    (Op::Remo, 16, 0xFFFF_FFFF, 0, 0b101, 15, 0b101),
-    (Op::Remi, 0xFFFF_FFFF, 0x8000_0000, 0, 0b101, 0, 0b101),
-    (Op::Remi, 3, 0xFFFF_FFF9, 0, 0b101, 0xFFFF_FFFF, 0b101),
-    (Op::Remi, 0xFFFF_FFFD, 7, 0, 0b101, 1, 0b101),
-    (Op::Modi, 0xFFFF_FFFF, 0x8000_0000, 0, 0b101, 0, 0b101),
-    (Op::Modi, 3, 0xFFFF_FFF9, 0, 0b101, 2, 0b101),
-    (Op::Modi, 0xFFFF_FFFD, 7, 0, 0b101, 0xFFFF_FFFE, 0b101),
-    (
-        Op::Modi,
-        0xFFFF_FFFD,
-        0xFFFF_FFF9,
-        0,
-        0b101,
-        0xFFFF_FFFF,
-        0b101,
-    ),
-    (Op::Modi, 3, 0xFFFF_FFFA, 0, 0b101, 0, 0b101),
-    (Op::Shro, 31, 0x8000_0000, 0, 0b101, 1, 0b101),
-    (Op::Shro, 32, 0x8000_0000, 0, 0b101, 0, 0b101),
-    (Op::Shro, 33, 0x8000_0000, 0, 0b101, 0, 0b101),
-    (Op::Shlo, 31, 3, 0, 0b101, 0x8000_0000, 0b101),
-    (Op::Shlo, 32, 3, 0, 0b101, 0, 0b101),
-    (Op::Shlo, 33, 3, 0, 0b101, 0, 0b101),
-    (Op::Shri, 1, 0xFFFF_FFF9, 0, 0b101, 0xFFFF_FFFC, 0b101),
-    (Op::Shri, 31, 0x8000_0000, 0, 0b101, 0xFFFF_FFFF, 0b101),
-    (Op::Shri, 32, 0x8000_0000, 0, 0b101, 0xFFFF_FFFF, 0b101),
-    (Op::Shri, 33, 0x7FFF_FFFF, 0, 0b101, 0, 0b101),
-    (Op::Shrdi, 1, 0xFFFF_FFF9, 0, 0b101, 0xFFFF_FFFD, 0b101),
-    (Op::Shrdi, 1, 0xFFFF_FFFF, 0, 0b101, 0, 0b101),
-    (Op::Shrdi, 31, 0x8000_0000, 0, 0b101, 0xFFFF_FFFF, 0b101),
-    (Op::Shrdi, 32, 0x8000_0000, 0, 0b101, 0, 0b101),
-    (Op::Shrdi, 33, 0x8000_0000, 0, 0b101, 0, 0b101),
-    (Op::Rotate, 0, 0x8000_0001, 0, 0b101, 0x8000_0001, 0b101),
-    (Op::Rotate, 1, 0x8000_0001, 0, 0b101, 0x0000_0003, 0b101),
-    (Op::Rotate, 32, 0x8000_0001, 0, 0b101, 0x8000_0001, 0b101),
-    (Op::Rotate, 33, 0x8000_0001, 0, 0b101, 0x0000_0003, 0b101),
-    (Op::Extract, 4, 8, 0x1234_5678, 0b101, 0x67, 0b101),
-    (Op::Extract, 0, 32, 0x1234_5678, 0b101, 0x1234_5678, 0b101),
-    (Op::Extract, 4, 33, 0x1234_5678, 0b101, 0x0123_4567, 0b101),
-    (Op::Extract, 4, 0, 0x1234_5678, 0b101, 0, 0b101),
-    (Op::Extract, 31, 1, 0x8000_0000, 0b101, 1, 0b101),
-    (Op::Extract, 32, 8, 0x1234_5678, 0b101, 0, 0b101),
-    (Op::Extract, 33, 40, 0x1234_5678, 0b101, 0, 0b101),
-    (Op::Cmpinco, 0xFFFF_FFFF, 0xFFFF_FFFF, 0, 0b000, 0, 0b010),
-    (Op::Cmpinci, 0, 0x7FFF_FFFF, 0, 0b000, 0x8000_0000, 0b100),
-    (Op::Cmpdeco, 1, 0, 0, 0b000, 0xFFFF_FFFF, 0b001),
-    (Op::Cmpdeci, 0, 0x8000_0000, 0, 0b000, 0x7FFF_FFFF, 0b001),
-    (Op::Addc, 1, 0xFFFF_FFFF, 0, 0b000, 0, 0b010),
-    (
-        Op::Addc,
-        0xFFFF_FFFF,
-        0xFFFF_FFFF,
-        0,
-        0b010,
-        0xFFFF_FFFF,
-        0b010,
-    ),
-    (Op::Addc, 1, 0x7FFF_FFFF, 0, 0b101, 0x8000_0000, 0b001),
-    (Op::Addc, 0, 0x7FFF_FFFF, 0, 0b010, 0x8000_0000, 0b001),
-    (Op::Addc, 0x8000_0000, 0x8000_0000, 0, 0b000, 0, 0b011),
-    (Op::Addc, 0, 0, 0, 0b111, 1, 0b000),
-    (Op::Subc, 1, 0, 0, 0b010, 0xFFFF_FFFF, 0b000),
-    (Op::Subc, 1, 0, 0, 0b101, 0xFFFF_FFFE, 0b000),
-    (Op::Subc, 1, 1, 0, 0b010, 0, 0b010),
-    (Op::Subc, 1, 0x8000_0000, 0, 0b010, 0x7FFF_FFFF, 0b011),
-    (
-        Op::Subc,
-        0xFFFF_FFFF,
-        0x7FFF_FFFF,
-        0,
-        0b010,
-        0x8000_0000,
-        0b001,
-    ),
-    (Op::Scanbit, 0, 0, 0, 0b111, 0xFFFF_FFFF, 0b000),
-    (Op::Scanbit, 1, 0, 0, 0b000, 0, 0b010),
-    (Op::Scanbit, 0x0000_0A00, 0, 0, 0b000, 11, 0b010),
-    (Op::Scanbit, 0xFFFF_FFFF, 0, 0, 0b000, 31, 0b010),
-    (Op::Spanbit, 0xFFFF_FFFF, 0, 0, 0b111, 0xFFFF_FFFF, 0b000),
-    (Op::Spanbit, 0xFFFF_FFFE, 0, 0, 0b000, 0, 0b010),
-    (Op::Spanbit, 0, 0, 0, 0b000, 31, 0b010),
-    (Op::Alterbit, 35, 0, 0, 0b010, 8, 0b010),
-    (Op::Alterbit, 35, 0xF, 0, 0b101, 7, 0b101),
-    (Op::Testno, 0, 0, 0, 0b000, 1, 0b000),
-    (Op::Testno, 0, 0, 0, 0b001, 0, 0b001),
-    (Op::Testg, 0, 0, 0, 0b001, 1, 0b001),
-    (Op::Testg, 0, 0, 0, 0b110, 0, 0b110),
-    (Op::Teste, 0, 0, 0, 0b010, 1, 0b010),
-    (Op::Teste, 0, 0, 0, 0b101, 0, 0b101),
-    (Op::Testge, 0, 0, 0, 0b001, 1, 0b001),
-    (Op::Testge, 0, 0, 0, 0b100, 0, 0b100),
-    (Op::Testl, 0, 0, 0, 0b100, 1, 0b100),
-    (Op::Testl, 0, 0, 0, 0b011, 0, 0b011),
-    (Op::Testne, 0, 0, 0, 0b100, 1, 0b100),
-    (Op::Testne, 0, 0, 0, 0b010, 0, 0b010),
-    (Op::Testle, 0, 0, 0, 0b010, 1, 0b010),
-    (Op::Testle, 0, 0, 0, 0b001, 0, 0b001),
-    (Op::Testo, 0, 0, 0, 0b001, 1, 0b001),
-    (Op::Testo, 0, 0, 0, 0b000, 0, 0b000),
-];
-
-/// Condition codes alone: name, src1, src2, the condition code before and after.
-const CODES: [(Op, u32, u32, u32, u32); 20] = [
-    (Op::Cmpo, 1, 0xFFFF_FFFF, 0b000, 0b100),
-    (Op::Cmpo, 5, 5, 0b111, 0b010),
-    (Op::Cmpo, 0x8000_0000, 0x7FFF_FFFF, 0b000, 0b001),
-    (Op::Cmpi, 1, 0xFFFF_FFFF, 0b000, 0b001),
-    (Op::Cmpi, 5, 5, 0b111, 0b010),
-    (Op::Cmpi, 0x8000_0000, 0x7FFF_FFFF, 0b000, 0b100),
-    (Op::Concmpo, 3, 3, 0b000, 0b010),
-    (Op::Concmpo, 4, 3, 0b010, 0b001),
-    (Op::Concmpo, 3, 3, 0b100, 0b100),
-    (Op::Concmpo, 4, 3, 0b111, 0b111),
-    (Op::Concmpi, 0xFFFF_FFFF, 0, 0b001, 0b010),
-    (Op::Concmpi, 0, 0xFFFF_FFFF, 0b011, 0b001),
-    (Op::Concmpi, 0, 0, 0b101, 0b101),
-    (Op::Scanbyte, 0x1234_5678, 0x0034_0000, 0b100, 0b010),
-    (Op::Scanbyte, 0x1234_5678, 0x1200_0000, 0b000, 0b010),
-    (Op::Scanbyte, 0x1234_5678, 0x0000_5600, 0b000, 0b010),
-    (Op::Scanbyte, 0x1234_5678, 0x0000_0078, 0b000, 0b010),
-    (Op::Scanbyte, 0x1234_5678, 0x3412_7856, 0b111, 0b000),
-    (Op::Chkbit, 33, 0x0000_0002, 0b101, 0b010),
-    (Op::Chkbit, 33, 0xFFFF_FFFD, 0b111, 0b000),
-];
-
-#[test]
-fn words_and_codes(rt: HostRuntime) -> Result<(), Fail> {
-    // The overflow mask does not count.
-    for controls in [CLEAR, CLEAR | 0x1000] {
-        for (op, a, b, c, before, word, after) in WORDS {
-            let done = result(op, a, b, c, controls | before)?;
-            assert_eq!(rt; done.values.as_slice(), &[word][..]);
-            assert_eq!(rt; (done.ac, done.fault), (controls | after, None));
-        }
-        for (op, a, b, before, after) in CODES {
-            let done = result(op, a, b, 0, controls | before)?;
-            assert!(rt; done.values.is_empty());
-            assert_eq!(rt; (done.ac, done.fault), (controls | after, None));
-        }
-    }
-    Ok(())
-}
-
-#[test]
-fn overflows(rt: HostRuntime) -> Result<(), Fail> {
-    // Name, src1, src2, the low word, whether it overflows.
-    let table = [
-        (Op::Addi, 1, 0x7FFF_FFFE, 0x7FFF_FFFF, false),
-        (Op::Addi, 1, 0x7FFF_FFFF, 0x8000_0000, true),
-        (Op::Addi, 0xFFFF_FFFF, 0x8000_0000, 0x7FFF_FFFF, true),
-        (Op::Subi, 0x8000_0000, 0xFFFF_FFFF, 0x7FFF_FFFF, false),
-        (Op::Subi, 0x8000_0000, 0, 0x8000_0000, true),
-        (Op::Subi, 1, 0x8000_0000, 0x7FFF_FFFF, true),
-        (Op::Muli, 0x8000, 0xFFFF_0000, 0x8000_0000, false),
-        (Op::Muli, 0x8000, 0x0001_0000, 0x8000_0000, true),
-        (Op::Muli, 0x0001_0000, 0x0001_0000, 0, true),
-        (Op::Divi, 2, 0xFFFF_FFF9, 0xFFFF_FFFD, false),
-        (Op::Divi, 0xFFFF_FFFF, 0x8000_0001, 0x7FFF_FFFF, false),
-        (Op::Divi, 0xFFFF_FFFF, 0x8000_0000, 0x8000_0000, true),
-        (Op::Shli, 30, 1, 0x4000_0000, false),
-        (Op::Shli, 31, 0xFFFF_FFFF, 0x8000_0000, false),
-        (Op::Shli, 31, 1, 0x8000_0000, true),
-        (Op::Shli, 32, 0xFFFF_FFFF, 0, true),
-        (Op::Shli, 33, 1, 0, true),
-        (Op::Shli, 33, 0, 0, false),
-    ];
-    for (op, a, b, word, overflows) in table {
-        let masked = result(op, a, b, 0, MASKED)?;
-        let flag = if overflows { 0x100 } else { 0 };
-        assert_eq!(rt; masked.values.as_slice(), &[word][..]);
-        assert_eq!(rt; masked.ac, MASKED | flag);
-        assert_eq!(rt; masked.fault, None);
-
-        let unmasked = result(op, a, b, 0, UNMASKED)?;
-        assert_eq!(rt; unmasked.ac, UNMASKED);
-        if overflows {
-            assert!(rt; unmasked.values.is_empty());
-            assert_eq!(rt; unmasked.fault, Some(Arith::Overflow));
+    for row in NAMES.lines() {
+        let (statement, wanted) = pair(row)?;
+        let told = if has_result(instruction(statement)?.op) {
+            "true"
         } else {
-            assert_eq!(rt; unmasked.values.as_slice(), &[word][..]);
-            assert_eq!(rt; unmasked.fault, None);
+            "false"
+        };
+        assert_eq!(rt; told, wanted, "{row}");
+    }
+    Ok(())
+}
+
+/// Controls without a condition code and without the overflow mask, with bits above and below the mask.
+const CLEAR: u32 = 0x8001_0000;
+
+/// The same with the overflow mask.
+const MASKED: u32 = 0x8001_1000;
+
+/// Results of bits: the words of src1 and of src2, the old src/dst and the condition code before; the words, and the
+/// condition code after. The rows of the logic have the bits 1100 and 1010 in each place of four.
+const BITS: &str = "\
+and r4, g5, g6      | CCCCCCCC, AAAAAAAA, 0, 5    | 88888888 ac 5
+or r4, g5, g6       | CCCCCCCC, AAAAAAAA, 0, 5    | EEEEEEEE ac 5
+xor r4, g5, g6      | CCCCCCCC, AAAAAAAA, 0, 5    | 66666666 ac 5
+nor r4, g5, g6      | CCCCCCCC, AAAAAAAA, 0, 5    | 11111111 ac 5
+xnor r4, g5, g6     | CCCCCCCC, AAAAAAAA, 0, 5    | 99999999 ac 5
+nand r4, g5, g6     | CCCCCCCC, AAAAAAAA, 0, 5    | 77777777 ac 5
+andnot r4, g5, g6   | CCCCCCCC, AAAAAAAA, 0, 5    | 22222222 ac 5
+notand r4, g5, g6   | CCCCCCCC, AAAAAAAA, 0, 5    | 44444444 ac 5
+ornot r4, g5, g6    | CCCCCCCC, AAAAAAAA, 0, 5    | BBBBBBBB ac 5
+notor r4, g5, g6    | CCCCCCCC, AAAAAAAA, 0, 5    | DDDDDDDD ac 5
+not r4, g6          | CCCCCCCC, AAAAAAAA, 0, 5    | 33333333 ac 5
+mov r4, g6          | CCCCCCCC, AAAAAAAA, 0, 5    | CCCCCCCC ac 5
+modify r4, g5, g6   | FFFF, 12345678, 9ABCDEF0, 5 | 9ABC5678 ac 5
+setbit r4, g5, g6   | 21, 0, 0, 5                 | 2 ac 5
+clrbit r4, g5, g6   | 3F, FFFFFFFF, 0, 5          | 7FFFFFFF ac 5
+notbit r4, g5, g6   | 20, 1, 0, 5                 | 0 ac 5
+notbit r4, g5, g6   | FFFFFFFF, 1, 0, 5           | 80000001 ac 5
+alterbit r4, g5, g6 | 23, 0, 0, 2                 | 8 ac 2
+alterbit r4, g5, g6 | 23, F, 0, 5                 | 7 ac 5
+";
+
+/// The same of sums, products, quotients and remainders.
+const SUMS: &str = "\
+addo r4, g5, g6 | 1, FFFFFFFF, 0, 5        | 0 ac 5
+subo r4, g5, g6 | 1, 0, 0, 5               | FFFFFFFF ac 5
+mulo r4, g5, g6 | 10000, 10001, 0, 5       | 10000 ac 5
+divo r4, g5, g6 | 3, FFFFFFFF, 0, 5        | 55555555 ac 5
+remo r4, g5, g6 | 10, FFFFFFFF, 0, 5       | F ac 5
+remi r4, g5, g6 | FFFFFFFF, 80000000, 0, 5 | 0 ac 5
+remi r4, g5, g6 | 3, FFFFFFF9, 0, 5        | FFFFFFFF ac 5
+remi r4, g5, g6 | FFFFFFFD, 7, 0, 5        | 1 ac 5
+modi r4, g5, g6 | FFFFFFFF, 80000000, 0, 5 | 0 ac 5
+modi r4, g5, g6 | 3, FFFFFFF9, 0, 5        | 2 ac 5
+modi r4, g5, g6 | FFFFFFFD, 7, 0, 5        | FFFFFFFE ac 5
+modi r4, g5, g6 | FFFFFFFD, FFFFFFF9, 0, 5 | FFFFFFFF ac 5
+modi r4, g5, g6 | 3, FFFFFFFA, 0, 5        | 0 ac 5
+";
+
+/// The same of shifts.
+const SHIFTS: &str = "\
+shro r4, g5, g6    | 1F, 80000000, 0, 5  | 1 ac 5
+shro r4, g5, g6    | 20, 80000000, 0, 5  | 0 ac 5
+shro r4, g5, g6    | 21, 80000000, 0, 5  | 0 ac 5
+shlo r4, g5, g6    | 1F, 3, 0, 5         | 80000000 ac 5
+shlo r4, g5, g6    | 20, 3, 0, 5         | 0 ac 5
+shlo r4, g5, g6    | 21, 3, 0, 5         | 0 ac 5
+shri r4, g5, g6    | 1, FFFFFFF9, 0, 5   | FFFFFFFC ac 5
+shri r4, g5, g6    | 1F, 80000000, 0, 5  | FFFFFFFF ac 5
+shri r4, g5, g6    | 20, 80000000, 0, 5  | FFFFFFFF ac 5
+shri r4, g5, g6    | 21, 7FFFFFFF, 0, 5  | 0 ac 5
+shrdi r4, g5, g6   | 1, FFFFFFF9, 0, 5   | FFFFFFFD ac 5
+shrdi r4, g5, g6   | 1, FFFFFFFF, 0, 5   | 0 ac 5
+shrdi r4, g5, g6   | 1F, 80000000, 0, 5  | FFFFFFFF ac 5
+shrdi r4, g5, g6   | 20, 80000000, 0, 5  | 0 ac 5
+shrdi r4, g5, g6   | 21, 80000000, 0, 5  | 0 ac 5
+rotate r4, g5, g6  | 0, 80000001, 0, 5   | 80000001 ac 5
+rotate r4, g5, g6  | 1, 80000001, 0, 5   | 3 ac 5
+rotate r4, g5, g6  | 20, 80000001, 0, 5  | 80000001 ac 5
+rotate r4, g5, g6  | 21, 80000001, 0, 5  | 3 ac 5
+extract r4, g5, g6 | 4, 8, 12345678, 5   | 67 ac 5
+extract r4, g5, g6 | 0, 20, 12345678, 5  | 12345678 ac 5
+extract r4, g5, g6 | 4, 21, 12345678, 5  | 1234567 ac 5
+extract r4, g5, g6 | 4, 0, 12345678, 5   | 0 ac 5
+extract r4, g5, g6 | 1F, 1, 80000000, 5  | 1 ac 5
+extract r4, g5, g6 | 20, 8, 12345678, 5  | 0 ac 5
+extract r4, g5, g6 | 21, 28, 12345678, 5 | 0 ac 5
+";
+
+/// The same of what sets the condition code beside a word.
+const CARRIES: &str = "\
+cmpinco r4, g5, g6 | FFFFFFFF, FFFFFFFF, 0, 0 | 0 ac 2
+cmpinci r4, g5, g6 | 0, 7FFFFFFF, 0, 0        | 80000000 ac 4
+cmpdeco r4, g5, g6 | 1, 0, 0, 0               | FFFFFFFF ac 1
+cmpdeci r4, g5, g6 | 0, 80000000, 0, 0        | 7FFFFFFF ac 1
+addc r4, g5, g6    | 1, FFFFFFFF, 0, 0        | 0 ac 2
+addc r4, g5, g6    | FFFFFFFF, FFFFFFFF, 0, 2 | FFFFFFFF ac 2
+addc r4, g5, g6    | 1, 7FFFFFFF, 0, 5        | 80000000 ac 1
+addc r4, g5, g6    | 0, 7FFFFFFF, 0, 2        | 80000000 ac 1
+addc r4, g5, g6    | 80000000, 80000000, 0, 0 | 0 ac 3
+addc r4, g5, g6    | 0, 0, 0, 7               | 1 ac 0
+subc r4, g5, g6    | 1, 0, 0, 2               | FFFFFFFF ac 0
+subc r4, g5, g6    | 1, 0, 0, 5               | FFFFFFFE ac 0
+subc r4, g5, g6    | 1, 1, 0, 2               | 0 ac 2
+subc r4, g5, g6    | 1, 80000000, 0, 2        | 7FFFFFFF ac 3
+subc r4, g5, g6    | FFFFFFFF, 7FFFFFFF, 0, 2 | 80000000 ac 1
+";
+
+/// The same of the highest place of a bit.
+const SCANS: &str = "\
+scanbit r4, g6 | 0, 0, 0, 7        | FFFFFFFF ac 0
+scanbit r4, g6 | 1, 0, 0, 0        | 0 ac 2
+scanbit r4, g6 | A00, 0, 0, 0      | B ac 2
+scanbit r4, g6 | FFFFFFFF, 0, 0, 0 | 1F ac 2
+spanbit r4, g6 | FFFFFFFF, 0, 0, 7 | FFFFFFFF ac 0
+spanbit r4, g6 | FFFFFFFE, 0, 0, 0 | 0 ac 2
+spanbit r4, g6 | 0, 0, 0, 0        | 1F ac 2
+";
+
+/// The same of tests of the condition code.
+const TESTS: &str = "\
+testno g6 | 0, 0, 0, 0 | 1 ac 0
+testno g6 | 0, 0, 0, 1 | 0 ac 1
+testg g6  | 0, 0, 0, 1 | 1 ac 1
+testg g6  | 0, 0, 0, 6 | 0 ac 6
+teste g6  | 0, 0, 0, 2 | 1 ac 2
+teste g6  | 0, 0, 0, 5 | 0 ac 5
+testge g6 | 0, 0, 0, 1 | 1 ac 1
+testge g6 | 0, 0, 0, 4 | 0 ac 4
+testl g6  | 0, 0, 0, 4 | 1 ac 4
+testl g6  | 0, 0, 0, 3 | 0 ac 3
+testne g6 | 0, 0, 0, 4 | 1 ac 4
+testne g6 | 0, 0, 0, 2 | 0 ac 2
+testle g6 | 0, 0, 0, 2 | 1 ac 2
+testle g6 | 0, 0, 0, 1 | 0 ac 1
+testo g6  | 0, 0, 0, 1 | 1 ac 1
+testo g6  | 0, 0, 0, 0 | 0 ac 0
+";
+
+/// The same of condition codes alone.
+const CODES: &str = "\
+cmpo r4, g5     | 1, FFFFFFFF, 0, 0        | ac 4
+cmpo r4, g5     | 5, 5, 0, 7               | ac 2
+cmpo r4, g5     | 80000000, 7FFFFFFF, 0, 0 | ac 1
+cmpi r4, g5     | 1, FFFFFFFF, 0, 0        | ac 1
+cmpi r4, g5     | 5, 5, 0, 7               | ac 2
+cmpi r4, g5     | 80000000, 7FFFFFFF, 0, 0 | ac 4
+concmpo r4, g5  | 3, 3, 0, 0               | ac 2
+concmpo r4, g5  | 4, 3, 0, 2               | ac 1
+concmpo r4, g5  | 3, 3, 0, 4               | ac 4
+concmpo r4, g5  | 4, 3, 0, 7               | ac 7
+concmpi r4, g5  | FFFFFFFF, 0, 0, 1        | ac 2
+concmpi r4, g5  | 0, FFFFFFFF, 0, 3        | ac 1
+concmpi r4, g5  | 0, 0, 0, 5               | ac 5
+scanbyte r4, g5 | 12345678, 340000, 0, 4   | ac 2
+scanbyte r4, g5 | 12345678, 12000000, 0, 0 | ac 2
+scanbyte r4, g5 | 12345678, 5600, 0, 0     | ac 2
+scanbyte r4, g5 | 12345678, 78, 0, 0       | ac 2
+scanbyte r4, g5 | 12345678, 34127856, 0, 7 | ac 0
+chkbit r4, g5   | 21, 2, 0, 5              | ac 2
+chkbit r4, g5   | 21, FFFFFFFD, 0, 7       | ac 0
+";
+
+/// The same of results that may overflow: with the mask, which lets the low word and the flag stand, and without it,
+/// where that is another answer.
+const OVERFLOWS: &str = "\
+addi r4, g5, g6 | 1, 7FFFFFFE, 0, 5        | 7FFFFFFF ac 5
+addi r4, g5, g6 | 1, 7FFFFFFF, 0, 5        | 80000000 ac 105, ac 5 Overflow
+addi r4, g5, g6 | FFFFFFFF, 80000000, 0, 5 | 7FFFFFFF ac 105, ac 5 Overflow
+subi r4, g5, g6 | 80000000, FFFFFFFF, 0, 5 | 7FFFFFFF ac 5
+subi r4, g5, g6 | 80000000, 0, 0, 5        | 80000000 ac 105, ac 5 Overflow
+subi r4, g5, g6 | 1, 80000000, 0, 5        | 7FFFFFFF ac 105, ac 5 Overflow
+muli r4, g5, g6 | 8000, FFFF0000, 0, 5     | 80000000 ac 5
+muli r4, g5, g6 | 8000, 10000, 0, 5        | 80000000 ac 105, ac 5 Overflow
+muli r4, g5, g6 | 10000, 10000, 0, 5       | 0 ac 105, ac 5 Overflow
+divi r4, g5, g6 | 2, FFFFFFF9, 0, 5        | FFFFFFFD ac 5
+divi r4, g5, g6 | FFFFFFFF, 80000001, 0, 5 | 7FFFFFFF ac 5
+divi r4, g5, g6 | FFFFFFFF, 80000000, 0, 5 | 80000000 ac 105, ac 5 Overflow
+shli r4, g5, g6 | 1E, 1, 0, 5              | 40000000 ac 5
+shli r4, g5, g6 | 1F, FFFFFFFF, 0, 5       | 80000000 ac 5
+shli r4, g5, g6 | 1F, 1, 0, 5              | 80000000 ac 105, ac 5 Overflow
+shli r4, g5, g6 | 20, FFFFFFFF, 0, 5       | 0 ac 105, ac 5 Overflow
+shli r4, g5, g6 | 21, 1, 0, 5              | 0 ac 105, ac 5 Overflow
+shli r4, g5, g6 | 21, 0, 0, 5              | 0 ac 5
+";
+
+/// The same of divisions by 0.
+const ZERO_DIVIDES: &str = "\
+divo r4, g5, g6 | 0, 80000000, 0, 5 | ac 5 ZeroDivide
+remo r4, g5, g6 | 0, 80000000, 0, 5 | ac 5 ZeroDivide
+divi r4, g5, g6 | 0, 80000000, 0, 5 | ac 5 ZeroDivide
+remi r4, g5, g6 | 0, 80000000, 0, 5 | ac 5 ZeroDivide
+modi r4, g5, g6 | 0, 80000000, 0, 5 | ac 5 ZeroDivide
+ediv r4, r6, r8 | 0, 80000000, 0, 5 | ac 5 ZeroDivide
+";
+
+/// The same of several words.
+const LONG: &str = "\
+movl r4, g6     | 11 22 33 44, 0, 0, 5       | 11 22 ac 5
+movt r4, g8     | 11 22 33 44, 0, 0, 5       | 11 22 33 ac 5
+movq r4, g8     | 11 22 33 44, 0, 0, 5       | 11 22 33 44 ac 5
+movq r4, g8     | 7, 0, 0, 5                 | 7 0 0 0 ac 5
+emul r4, g5, g6 | FFFFFFFF, FFFFFFFF, 0, 5   | 1 FFFFFFFE ac 5
+ediv r4, r6, r8 | 2, 1 5, 0, 5               | 1 80000000 ac 5
+ediv r4, r6, r8 | FFFFFFFF, FFFFFFFE 0, 0, 5 | FFFFFFFE 0 ac 5
+";
+
+const RESULT_TABLES: [&str; 10] = [
+    BITS,
+    SHIFTS,
+    SCANS,
+    SUMS,
+    CARRIES,
+    LONG,
+    OVERFLOWS,
+    ZERO_DIVIDES,
+    TESTS,
+    CODES,
+];
+
+/// The words of src1 and src2, the old word of src/dst, and the condition code.
+#[derive(Drop)]
+struct Sources {
+    a: [u32; 4],
+    b: [u32; 2],
+    c: u32,
+    code: u32,
+}
+
+/// A word of some, and 0 behind them.
+fn word_at(words: &[u32], place: usize) -> u32 {
+    words.get(place).copied().unwrap_or(0)
+}
+
+/// The sources of a row.
+fn read_sources(alloc: Global, text: &str) -> Result<Sources, Fail> {
+    let mut parts = text.split(',');
+    let (Some(a), Some(b), Some(c), Some(code)) = (
+        parts.next(),
+        parts.next(),
+        parts.next(),
+        parts.next(),
+    ) else {
+        return Err("a row has four sources".into());
+    };
+    let a = hex_words(alloc, a)?;
+    let b = hex_words(alloc, b)?;
+    Ok(Sources {
+        a: [
+            word_at(a.as_slice(), 0),
+            word_at(a.as_slice(), 1),
+            word_at(a.as_slice(), 2),
+            word_at(a.as_slice(), 3),
+        ],
+        b: [word_at(b.as_slice(), 0), word_at(b.as_slice(), 1)],
+        c: u32::from_str_radix(c.trim(), 16)?,
+        code: u32::from_str_radix(code.trim(), 16)?,
+    })
+}
+
+/// What a name with a result gives where the arithmetic controls are these and the condition code: the words, the
+/// difference of AC from these controls, and the fault.
+fn done_text(alloc: Global, i: &Inst, s: &Sources, controls: u32) -> Result<String, Fail> {
+    if !has_result(i.op) {
+        return Err("a name without a result".into());
+    }
+    let done = compute(i, &s.a, &s.b, s.c, controls | s.code);
+    let mut text = String::new(alloc);
+    for value in done.values.iter() {
+        text.push_str(&format!(in alloc; "{value:X} ")?)?;
+    }
+    text.push_str(&format!(in alloc; "ac {:X}", done.ac ^ controls)?)?;
+    if let Some(fault) = done.fault {
+        text.push_str(&format!(in alloc; " {fault:?}")?)?;
+    }
+    Ok(text)
+}
+
+/// What it gives with the overflow mask, and without it where that is another answer.
+fn result_text(alloc: Global, i: &Inst, s: &Sources) -> Result<String, Fail> {
+    let masked = done_text(alloc, i, s, MASKED)?;
+    let unmasked = done_text(alloc, i, s, CLEAR)?;
+    if masked.as_str() == unmasked.as_str() {
+        return Ok(masked);
+    }
+    Ok(format!(in alloc; "{masked}, {unmasked}")?)
+}
+
+#[test]
+fn results(rt: HostRuntime) -> Result<(), Fail> {
+    for table in RESULT_TABLES {
+        for row in table.lines() {
+            let (statement, given, wanted) = columns(row)?;
+            let s = read_sources(rt.alloc(), given)?;
+            let text = result_text(rt.alloc(), &instruction(statement)?, &s)?;
+            assert_eq!(rt; text.as_str(), wanted, "{row}");
         }
     }
     Ok(())
 }
 
-#[test]
-fn zero_divides(rt: HostRuntime) -> Result<(), Fail> {
-    let names = [Op::Divo, Op::Remo, Op::Divi, Op::Remi, Op::Modi, Op::Ediv];
-    for op in names {
-        for ac in [MASKED, UNMASKED] {
-            let done = result(op, 0, 0x8000_0000, 0, ac)?;
-            assert!(rt; done.values.is_empty());
-            assert_eq!(rt; done.ac, ac);
-            assert_eq!(rt; done.fault, Some(Arith::ZeroDivide));
-        }
-    }
-    Ok(())
-}
+/// Values of src1 and src2 and the condition code before; whether it is taken, and the condition code after.
+const BRANCH_ROWS: &str = "\
+b 0x40               | 0 0 0               | taken 0
+bal 0x40             | 0 0 5               | taken 5
+call 0x40            | 0 0 7               | not taken 7
+ret                  | 0 0 7               | not taken 7
+teste g6             | 0 0 2               | not taken 2
+bno 0x40             | 0 0 0               | taken 0
+bno 0x40             | 0 0 2               | not taken 2
+be 0x40              | 0 0 2               | taken 2
+be 0x40              | 0 0 0               | not taken 0
+bg 0x40              | 0 0 1               | taken 1
+bge 0x40             | 0 0 4               | not taken 4
+bl 0x40              | 0 0 4               | taken 4
+bne 0x40             | 0 0 2               | not taken 2
+ble 0x40             | 0 0 6               | taken 6
+bo 0x40              | 0 0 0               | not taken 0
+faultno              | 0 0 0               | taken 0
+faulte               | 0 0 5               | not taken 5
+faulto               | 0 0 1               | taken 1
+bbc r4, g5, 0x40     | 21 2 7              | not taken 2
+bbc r4, g5, 0x40     | 21 FFFFFFFD 7       | taken 0
+bbs r4, g5, 0x40     | 21 2 7              | taken 2
+bbs r4, g5, 0x40     | 21 FFFFFFFD 7       | not taken 0
+cmpobg r4, g5, 0x40  | 1 FFFFFFFF 0        | not taken 4
+cmpobl r4, g5, 0x40  | 1 FFFFFFFF 0        | taken 4
+cmpobe r4, g5, 0x40  | 7 7 0               | taken 2
+cmpobne r4, g5, 0x40 | 7 7 4               | not taken 2
+cmpibg r4, g5, 0x40  | 1 FFFFFFFF 0        | taken 1
+cmpibl r4, g5, 0x40  | 80000000 7FFFFFFF 0 | taken 4
+cmpibge r4, g5, 0x40 | 80000000 7FFFFFFF 0 | not taken 4
+cmpibno r4, g5, 0x40 | 3 3 0               | not taken 2
+cmpibo r4, g5, 0x40  | 3 3 0               | taken 2
+";
 
-#[test]
-fn several_words(rt: HostRuntime) -> Result<(), Fail> {
-    let moved = [0x11, 0x22, 0x33, 0x44];
-    let literal = [7, 0, 0, 0];
-    let most = [0xFFFF_FFFF, 0, 0, 0];
-    let two = [2, 0, 0, 0];
-    let none = [0, 0];
-    // Name, src1, src2, the words.
-    let table = [
-        (Op::Movl, &moved, none, &[0x11, 0x22][..]),
-        (Op::Movt, &moved, none, &[0x11, 0x22, 0x33][..]),
-        (Op::Movq, &moved, none, &[0x11, 0x22, 0x33, 0x44][..]),
-        (Op::Movq, &literal, none, &[7, 0, 0, 0][..]),
-        (Op::Emul, &most, [0xFFFF_FFFF, 0], &[1, 0xFFFF_FFFE][..]),
-        (Op::Ediv, &two, [1, 5], &[1, 0x8000_0000][..]),
-        (Op::Ediv, &most, [0xFFFF_FFFE, 0], &[0xFFFF_FFFE, 0][..]),
-    ];
-    for (op, a, b, words) in table {
-        let done = long_result(op, a, &b, 0, MASKED)?;
-        assert_eq!(rt; done.values.as_slice(), words);
-        assert_eq!(rt; done.ac, MASKED);
-        assert_eq!(rt; done.fault, None);
-    }
-    Ok(())
+/// What a branch does.
+fn branch_text(alloc: Global, i: &Inst, given: &str) -> Result<String, Fail> {
+    let numbers = hex_words(alloc, given)?;
+    let [a, b, code] = numbers.as_slice() else {
+        return Err("a branch has two values and a code".into());
+    };
+    let jump = branch(i, *a, *b, CLEAR | *code);
+    let taken = if jump.taken { "taken" } else { "not taken" };
+    Ok(format!(in alloc; "{taken} {:X}", jump.ac ^ CLEAR)?)
 }
 
 #[test]
 fn branches(rt: HostRuntime) -> Result<(), Fail> {
-    // Name, src1, src2, the condition code before; whether it is taken, the condition code after.
-    let table = [
-        (Op::B, 0, 0, 0b000, true, 0b000),
-        (Op::Bal, 0, 0, 0b101, true, 0b101),
-        (Op::Call, 0, 0, 0b111, false, 0b111),
-        (Op::Ret, 0, 0, 0b111, false, 0b111),
-        (Op::Teste, 0, 0, 0b010, false, 0b010),
-        (Op::Bno, 0, 0, 0b000, true, 0b000),
-        (Op::Bno, 0, 0, 0b010, false, 0b010),
-        (Op::Be, 0, 0, 0b010, true, 0b010),
-        (Op::Be, 0, 0, 0b000, false, 0b000),
-        (Op::Bg, 0, 0, 0b001, true, 0b001),
-        (Op::Bge, 0, 0, 0b100, false, 0b100),
-        (Op::Bl, 0, 0, 0b100, true, 0b100),
-        (Op::Bne, 0, 0, 0b010, false, 0b010),
-        (Op::Ble, 0, 0, 0b110, true, 0b110),
-        (Op::Bo, 0, 0, 0b000, false, 0b000),
-        (Op::Faultno, 0, 0, 0b000, true, 0b000),
-        (Op::Faulte, 0, 0, 0b101, false, 0b101),
-        (Op::Faulto, 0, 0, 0b001, true, 0b001),
-        (Op::Bbc, 33, 0x0000_0002, 0b111, false, 0b010),
-        (Op::Bbc, 33, 0xFFFF_FFFD, 0b111, true, 0b000),
-        (Op::Bbs, 33, 0x0000_0002, 0b111, true, 0b010),
-        (Op::Bbs, 33, 0xFFFF_FFFD, 0b111, false, 0b000),
-        (Op::Cmpobg, 1, 0xFFFF_FFFF, 0b000, false, 0b100),
-        (Op::Cmpobl, 1, 0xFFFF_FFFF, 0b000, true, 0b100),
-        (Op::Cmpobe, 7, 7, 0b000, true, 0b010),
-        (Op::Cmpobne, 7, 7, 0b100, false, 0b010),
-        (Op::Cmpibg, 1, 0xFFFF_FFFF, 0b000, true, 0b001),
-        (Op::Cmpibl, 0x8000_0000, 0x7FFF_FFFF, 0b000, true, 0b100),
-        (Op::Cmpibge, 0x8000_0000, 0x7FFF_FFFF, 0b000, false, 0b100),
-        (Op::Cmpibno, 3, 3, 0b000, false, 0b010),
-        (Op::Cmpibo, 3, 3, 0b000, true, 0b010),
-    ];
-    for (op, a, b, before, taken, after) in table {
-        let ac = CLEAR | after;
-        assert_eq!(rt; branch(&inst(op), a, b, CLEAR | before), Jump { ac, taken });
+    for row in BRANCH_ROWS.lines() {
+        let (statement, given, wanted) = columns(row)?;
+        let text = branch_text(rt.alloc(), &instruction(statement)?, given)?;
+        assert_eq!(rt; text.as_str(), wanted, "{row}");
     }
     Ok(())
 }
 
+/// The words of the base and of the index and its own address; the address. The index is scaled modulo 2^32.
+const ADDRESS_ROWS: &str = "\
+lda 0xFFF, g0                | 1000 30 FFFFFFF8 | FFF
+lda 0xFFF(r4), g0            | 1000 30 FFFFFFF8 | 1FFF
+lda !(r4), g0                | 1000 30 FFFFFFF8 | 1000
+lda 0x10(ip), g0             | 1000 30 FFFFFFF8 | 10
+lda (r4)[r5*16], g0          | 1000 30 FFFFFFF8 | 1300
+lda 0xE0000004, g0           | 1000 30 FFFFFFF8 | E0000004
+lda 0xFFFFF000(r4), g0       | 1000 30 FFFFFFF8 | 0
+lda 0xFFFFFFFF[r5*4], g0     | 1000 30 FFFFFFF8 | BF
+lda 0xFFFFFFFF(r4)[r5*2], g0 | 1000 30 FFFFFFF8 | 105F
+lda (r4)[r5*16], g0          | 1 10000001 0     | 11
+";
+
+/// The address that an instruction makes.
+fn address_text(alloc: Global, i: &Inst, given: &str) -> Result<String, Fail> {
+    let numbers = hex_words(alloc, given)?;
+    let [base, index, ip] = numbers.as_slice() else {
+        return Err("an address has three words".into());
+    };
+    Ok(format!(in alloc; "{:X}", address(&i.ea, *base, *index, *ip))?)
+}
+
 #[test]
 fn addresses(rt: HostRuntime) -> Result<(), Fail> {
-    // Mode, scale, displacement; the address from base 1000, index 30 and own address FFFFFFF8.
-    let table = [
-        (Mode::Offset, 0, 0x0FFF, 0x0000_0FFF),
-        (Mode::BaseOffset, 0, 0x0FFF, 0x0000_1FFF),
-        (Mode::Base, 0, 0, 0x0000_1000),
-        (Mode::Ip, 0, 0x0000_0010, 0x0000_0010),
-        (Mode::BaseIndex, 4, 0, 0x0000_1300),
-        (Mode::Disp, 0, 0xE000_0004, 0xE000_0004),
-        (Mode::BaseDisp, 0, 0xFFFF_F000, 0x0000_0000),
-        (Mode::IndexDisp, 2, 0xFFFF_FFFF, 0x0000_00BF),
-        (Mode::BaseIndexDisp, 1, 0xFFFF_FFFF, 0x0000_105F),
-    ];
-    for (mode, scale, disp, expected) in table {
-        let ea = Ea {
-            mode,
-            base: 4,
-            index: 5,
-            scale,
-            disp,
-        };
-        assert_eq!(rt; address(&ea, 0x1000, 0x30, 0xFFFF_FFF8), expected);
+    for row in ADDRESS_ROWS.lines() {
+        let (statement, given, wanted) = columns(row)?;
+        let text = address_text(rt.alloc(), &instruction(statement)?, given)?;
+        assert_eq!(rt; text.as_str(), wanted, "{row}");
     }
-    // The index is scaled modulo 2^32.
-    let ea = Ea {
-        mode: Mode::BaseIndex,
-        base: 4,
-        index: 5,
-        scale: 4,
-        disp: 0,
-    };
-    assert_eq!(rt; address(&ea, 1, 0x1000_0001, 0), 0x11);
     Ok(())
 }

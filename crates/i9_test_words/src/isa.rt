@@ -1,275 +1,177 @@
 //! Resources, sides, latencies and transfers, worked out by hand from the descriptions of the instructions.
-use i9_isa::{
-    CONDITION_CODE, Direction, Ea, Inst, Mode, NO_ADDRESS, Op, Operand, Side, latency, reads,
-    side_of, transfer, valid, writes,
-};
+use crate::rows::{columns, instruction, pair};
+use i9_isa::{Ea, Inst, Operand, latency, reads, side_of, transfer, valid, writes};
+use std::alloc::Global;
 use std::test::*;
 
-/// The condition code alone.
-const CODE: u64 = 1 << CONDITION_CODE;
+/// What instructions of the register format read and write, as sets of resources, their sides and their turns.
+const REGISTERS: &str = "\
+addo 1, g0, g1     | 10000 20000 Reg 1
+mov g0, sf2        | 10000 0 Reg 1
+alterbit 1, g0, g1 | 100010000 20000 Reg 1
+addc 1, g0, g1     | 100010000 100020000 Reg 1
+addi 1, g0, g1     | 10000 20000 Reg 1
+cmpo g1, g0        | 30000 100000000 Reg 1
+concmpi 0, g0      | 100010000 100000000 Reg 1
+modify g0, 0, g1   | 30000 20000 Reg 1
+modac g0, 0, g1    | 100010000 100020000 Reg 1
+emul 1, g0, g2     | 10000 C0000 Reg 5
+ediv 1, g2, g0     | C0000 30000 Reg 37
+movt g0, g4        | 70000 700000 Reg 1
+sdma 0, 0, g0      | 70000 0 Reg 8
+sysctl g0, 0, g1   | 30000 18000FFFF Reg 8
+calls g0           | 10000 8000FFFF Reg 4
+atadd g0, 1, g1    | 10000 20000 Reg 2
+atmod g0, 1, g1    | 30000 20000 Reg 2
+";
 
-/// The local registers and g15.
-const FRAME: u64 = 0x8000_FFFF;
+/// The same of branches, loads and stores.
+const OTHERS: &str = "\
+teste g0          | 100000000 10000 Ctl 1
+cmpobe g0, g1, 0  | 30000 100000000 Ctl 1
+be 0              | 100000000 0 Ctl 1
+faulte            | 100000000 0 Ctl 1
+b 0               | 0 0 Ctl 1
+bal 0             | 0 40000000 Ctl 1
+call 0            | 0 8000FFFF Ctl 4
+ret               | 0 18000FFFF Ctl 4
+ld (g4)[g5*4], g6 | 300000 400000 Mem 1
+stq g4, !(g8)     | 1F00000 0 Mem 1
+lda 0, g0         | 0 10000 Mem 1
+balx !(g8), g0    | 1000000 10000 Ctl 1
+callx !(g8)       | 1000000 8000FFFF Ctl 4
+";
 
-/// An instruction of three operands.
-fn inst(op: Op, a: Operand, b: Operand, c: Operand) -> Inst {
-    Inst {
-        op,
-        a,
-        b,
-        c,
-        ea: NO_ADDRESS,
-        disp: 0,
-        hint: false,
+/// What a valid instruction reads and writes, its side and its turns.
+fn resources_text(alloc: Global, i: &Inst) -> Result<String, Fail> {
+    if !valid(i) {
+        return Err("it is not valid".into());
     }
+    let side = side_of(i);
+    Ok(format!(in alloc; "{:X} {:X} {side:?} {}", reads(i), writes(i), latency(i))?)
 }
 
 #[test]
 fn resources_of_instructions(rt: HostRuntime) -> Result<(), Fail> {
-    use Operand::{Lit, Reg, Sfr};
-    let none = Reg(0);
-    let index = Ea {
-        mode: Mode::BaseIndex,
-        base: 20,
-        index: 21,
-        scale: 2,
-        disp: 0,
-    };
-    let base = Ea {
-        mode: Mode::Base,
-        base: 24,
-        ..NO_ADDRESS
-    };
-    let at = |op: Op, c: u8, ea: Ea| Inst {
-        ea,
-        ..inst(op, Reg(0), Reg(0), Reg(c))
-    };
-    let (g0, g1) = (1u64 << 16, 1u64 << 17);
-    let table = [
-        (
-            inst(Op::Addo, Lit(1), Reg(16), Reg(17)),
-            g0,
-            g1,
-            Side::Reg,
-            1,
-        ),
-        (inst(Op::Mov, Reg(16), none, Sfr(2)), g0, 0, Side::Reg, 1),
-        (
-            inst(Op::Alterbit, Lit(1), Reg(16), Reg(17)),
-            CODE | g0,
-            g1,
-            Side::Reg,
-            1,
-        ),
-        (
-            inst(Op::Addc, Lit(1), Reg(16), Reg(17)),
-            CODE | g0,
-            CODE | g1,
-            Side::Reg,
-            1,
-        ),
-        (
-            inst(Op::Addi, Lit(1), Reg(16), Reg(17)),
-            g0,
-            g1,
-            Side::Reg,
-            1,
-        ),
-        (
-            inst(Op::Cmpo, Reg(17), Reg(16), none),
-            g0 | g1,
-            CODE,
-            Side::Reg,
-            1,
-        ),
-        (
-            inst(Op::Concmpi, Lit(0), Reg(16), none),
-            CODE | g0,
-            CODE,
-            Side::Reg,
-            1,
-        ),
-        (
-            inst(Op::Modify, Reg(16), Lit(0), Reg(17)),
-            g0 | g1,
-            g1,
-            Side::Reg,
-            1,
-        ),
-        (
-            inst(Op::Modac, Reg(16), Lit(0), Reg(17)),
-            CODE | g0,
-            CODE | g1,
-            Side::Reg,
-            1,
-        ),
-        (
-            inst(Op::Emul, Lit(1), Reg(16), Reg(18)),
-            g0,
-            3 << 18,
-            Side::Reg,
-            5,
-        ),
-        (
-            inst(Op::Ediv, Lit(1), Reg(18), Reg(16)),
-            3 << 18,
-            g0 | g1,
-            Side::Reg,
-            37,
-        ),
-        (
-            inst(Op::Movt, Reg(16), none, Reg(20)),
-            7 << 16,
-            7 << 20,
-            Side::Reg,
-            1,
-        ),
-        (
-            inst(Op::Sdma, Lit(0), Lit(0), Reg(16)),
-            7 << 16,
-            0,
-            Side::Reg,
-            8,
-        ),
-        (
-            inst(Op::Sysctl, Reg(16), Lit(0), Reg(17)),
-            g0 | g1,
-            CODE | FRAME,
-            Side::Reg,
-            8,
-        ),
-        (
-            inst(Op::Calls, Reg(16), none, none),
-            g0,
-            FRAME,
-            Side::Reg,
-            4,
-        ),
-        (
-            inst(Op::Atadd, Reg(16), Lit(1), Reg(17)),
-            g0,
-            g1,
-            Side::Reg,
-            2,
-        ),
-        (
-            inst(Op::Atmod, Reg(16), Lit(1), Reg(17)),
-            g0 | g1,
-            g1,
-            Side::Reg,
-            2,
-        ),
-        (inst(Op::Teste, Reg(16), none, none), CODE, g0, Side::Ctl, 1),
-        (
-            inst(Op::Cmpobe, Reg(16), Reg(17), none),
-            g0 | g1,
-            CODE,
-            Side::Ctl,
-            1,
-        ),
-        (inst(Op::Be, none, none, none), CODE, 0, Side::Ctl, 1),
-        (inst(Op::Faulte, none, none, none), CODE, 0, Side::Ctl, 1),
-        (inst(Op::B, none, none, none), 0, 0, Side::Ctl, 1),
-        (inst(Op::Bal, none, none, none), 0, 1 << 30, Side::Ctl, 1),
-        (inst(Op::Call, none, none, none), 0, FRAME, Side::Ctl, 4),
-        (
-            inst(Op::Ret, none, none, none),
-            0,
-            CODE | FRAME,
-            Side::Ctl,
-            4,
-        ),
-        (at(Op::Ld, 22, index), 3 << 20, 1 << 22, Side::Mem, 1),
-        (at(Op::Stq, 20, base), 15 << 20 | 1 << 24, 0, Side::Mem, 1),
-        (at(Op::Lda, 16, NO_ADDRESS), 0, g0, Side::Mem, 1),
-        (at(Op::Balx, 16, base), 1 << 24, g0, Side::Ctl, 1),
-        (at(Op::Callx, 0, base), 1 << 24, FRAME, Side::Ctl, 4),
-    ];
-    for (i, read, written, side, turns) in table {
-        assert!(rt; valid(&i), "{:?}", i.op);
-        assert_eq!(rt; reads(&i), read, "{:?} reads", i.op);
-        assert_eq!(rt; writes(&i), written, "{:?} writes", i.op);
-        assert_eq!(rt; (side_of(&i), latency(&i)), (side, turns), "{:?}", i.op);
+    for row in REGISTERS.lines().chain(OTHERS.lines()) {
+        let (statement, wanted) = pair(row)?;
+        let text = resources_text(rt.alloc(), &instruction(statement)?)?;
+        assert_eq!(rt; text.as_str(), wanted, "{row}");
     }
     Ok(())
 }
 
-/// The direction of each load and store, the bytes and registers that it moves, and its sign.
+/// The direction of each load and store, the bytes and registers that it moves, and its sign; and names that move none.
+const TRANSFERS: &str = "\
+ldob 0, g0      | Load 1 1 false
+ldib 0, g0      | Load 1 1 true
+ldos 0, g0      | Load 2 1 false
+ldis 0, g0      | Load 2 1 true
+ld 0, g0        | Load 4 1 false
+ldl 0, g0       | Load 8 2 false
+ldt 0, g0       | Load 12 3 false
+ldq 0, g0       | Load 16 4 false
+stob g0, 0      | Store 1 1 false
+stib g0, 0      | Store 1 1 true
+stos g0, 0      | Store 2 1 false
+stis g0, 0      | Store 2 1 true
+st g0, 0        | Store 4 1 false
+stl g0, 0       | Store 8 2 false
+stt g0, 0       | Store 12 3 false
+stq g0, 0       | Store 16 4 false
+lda 0, g0       | none
+bx 0            | none
+balx 0, g0      | none
+callx 0         | none
+atadd g0, 1, g1 | none
+mov 0, g0       | none
+";
+
+/// What a name moves.
+fn transfer_text(alloc: Global, i: &Inst) -> Result<String, Fail> {
+    let Some(moved) = transfer(i.op) else {
+        return Ok(format!(in alloc; "none")?);
+    };
+    let (direction, size) = (moved.direction, moved.size);
+    Ok(format!(in alloc;
+        "{direction:?} {} {} {}",
+        size.bytes(),
+        size.registers(),
+        moved.signed
+    )?)
+}
+
 #[test]
-fn transfers_of_names(rt: HostRuntime) {
-    use Direction::{Load, Store};
-    let rows = [
-        (Op::Ldob, Load, 1, 1, false),
-        (Op::Ldib, Load, 1, 1, true),
-        (Op::Ldos, Load, 2, 1, false),
-        (Op::Ldis, Load, 2, 1, true),
-        (Op::Ld, Load, 4, 1, false),
-        (Op::Ldl, Load, 8, 2, false),
-        (Op::Ldt, Load, 12, 3, false),
-        (Op::Ldq, Load, 16, 4, false),
-        (Op::Stob, Store, 1, 1, false),
-        (Op::Stib, Store, 1, 1, true),
-        (Op::Stos, Store, 2, 1, false),
-        (Op::Stis, Store, 2, 1, true),
-        (Op::St, Store, 4, 1, false),
-        (Op::Stl, Store, 8, 2, false),
-        (Op::Stt, Store, 12, 3, false),
-        (Op::Stq, Store, 16, 4, false),
-    ];
-    for (op, direction, bytes, registers, signed) in rows {
-        let moved = transfer(op).map(|t| (
-            t.direction,
-            t.size.bytes(),
-            t.size.registers(),
-            t.signed,
-        ));
-        assert_eq!(rt; moved, Some((direction, bytes, registers, signed)));
+fn transfers_of_names(rt: HostRuntime) -> Result<(), Fail> {
+    for row in TRANSFERS.lines() {
+        let (statement, wanted) = pair(row)?;
+        let text = transfer_text(rt.alloc(), &instruction(statement)?)?;
+        assert_eq!(rt; text.as_str(), wanted, "{row}");
     }
-    for op in [Op::Lda, Op::Bx, Op::Balx, Op::Callx, Op::Atadd, Op::Mov] {
-        assert_eq!(rt; transfer(op), None);
+    Ok(())
+}
+
+/// Whether an instruction is valid by the uses of its operands, its mode and its format, where a field of it is another
+/// one.
+const VALIDITY: &str = "\
+addo 31, sf2, g15  |                  | valid
+addo 1, g0, g1     | src1 literal 32  | invalid
+addo 1, g0, g1     | src2 special 3   | invalid
+addo 1, g0, g1     | dst literal 17   | invalid
+cmpo 1, g0         |                  | valid
+cmpo 1, g0         | dst register 17  | invalid
+movl g0, g2        |                  | valid
+movl g0, g2        | src1 register 17 | invalid
+movt g4, g8        |                  | valid
+movt g4, g8        | dst register 22  | invalid
+ld (g4)[g5*16], g0 |                  | valid
+ld (g4)[g5*16], g0 | scale 5          | invalid
+be.f 0xFF800000    |                  | valid
+be 0x7FFFFC        |                  | valid
+be 0               | target 8388608   | invalid
+be 0               | target 6         | invalid
+";
+
+/// An operand of a kind and a number.
+fn operand(text: &str) -> Result<Operand, Fail> {
+    let (kind, number) = text.split_once(" ").unwrap_or((text, ""));
+    let number = number.parse::<u8>()?;
+    match kind {
+        "register" => Ok(Operand::Reg(number)),
+        "literal" => Ok(Operand::Lit(number)),
+        "special" => Ok(Operand::Sfr(number)),
+        _ => Err("no such operand".into()),
     }
 }
 
-/// What an instruction may have, by the uses of its operands, its mode and its format.
-#[test]
-fn valid_instructions(rt: HostRuntime) {
-    use Operand::{Lit, Reg, Sfr};
-    let none = Reg(0);
-    let move_pair = |from: u8, to: u8| inst(Op::Movl, Reg(from), none, Reg(to));
-    let scaled = |scale: u8| Inst {
-        ea: Ea {
-            mode: Mode::BaseIndex,
-            base: 20,
-            index: 21,
-            scale,
-            disp: 0,
-        },
-        ..inst(Op::Ld, none, none, Reg(16))
-    };
-    let branch = |disp: i32, hint: bool| Inst {
-        disp,
-        hint,
-        ..inst(Op::Be, none, none, none)
-    };
-    let rows = [
-        (inst(Op::Addo, Lit(31), Sfr(2), Reg(31)), true),
-        (inst(Op::Addo, Lit(32), Reg(16), Reg(17)), false),
-        (inst(Op::Addo, Lit(1), Sfr(3), Reg(17)), false),
-        (inst(Op::Addo, Lit(1), Reg(16), Lit(17)), false),
-        (inst(Op::Cmpo, Lit(1), Reg(16), none), true),
-        (inst(Op::Cmpo, Lit(1), Reg(16), Reg(17)), false),
-        (move_pair(16, 18), true),
-        (move_pair(17, 18), false),
-        (inst(Op::Movt, Reg(20), none, Reg(24)), true),
-        (inst(Op::Movt, Reg(20), none, Reg(22)), false),
-        (scaled(4), true),
-        (scaled(5), false),
-        (branch(-(1 << 23), true), true),
-        (branch((1 << 23) - 4, false), true),
-        (branch(1 << 23, false), false),
-        (branch(6, false), false),
-    ];
-    for (i, want) in rows {
-        assert_eq!(rt; valid(&i), want, "{:?}", i);
+/// An instruction with another field, where one is named.
+fn changed(i: Inst, change: &str) -> Result<Inst, Fail> {
+    let (field, value) = change.split_once(" ").unwrap_or((change, ""));
+    let mut i = i;
+    match field {
+        "" => {}
+        "src1" => i.a = operand(value)?,
+        "src2" => i.b = operand(value)?,
+        "dst" => i.c = operand(value)?,
+        "scale" => {
+            i.ea = Ea {
+                scale: value.parse::<u8>()?,
+                ..i.ea
+            }
+        }
+        "target" => i.disp = value.parse::<i32>()?,
+        _ => return Err("no such field".into()),
     }
+    Ok(i)
+}
+
+#[test]
+fn valid_instructions(rt: HostRuntime) -> Result<(), Fail> {
+    for row in VALIDITY.lines() {
+        let (statement, change, wanted) = columns(row)?;
+        let is_valid = valid(&changed(instruction(statement)?, change)?);
+        let told = if is_valid { "valid" } else { "invalid" };
+        assert_eq!(rt; told, wanted, "{row}");
+    }
+    Ok(())
 }

@@ -1,21 +1,8 @@
 //! Worked turns, by hand from the rules.
-
+use crate::rows::{columns, pair};
 use i9_issue::{Board, Need, Side};
-
-// Registers r0 to r5 as sets of resources, and the condition code.
-const R0: u64 = 1;
-
-const R1: u64 = 1 << 1;
-
-const R2: u64 = 1 << 2;
-
-const R3: u64 = 1 << 3;
-
-const R4: u64 = 1 << 4;
-
-const R5: u64 = 1 << 5;
-
-const CODE: u64 = 1 << 32;
+use std::alloc::Global;
+use std::test::Fail;
 
 /// A need of one turn with its own words at 1000.
 fn need(side: Side, reads: u64, writes: u64) -> Need {
@@ -29,19 +16,12 @@ fn need(side: Side, reads: u64, writes: u64) -> Need {
     }
 }
 
-fn multiply(reads: u64, writes: u64) -> Need {
+/// A multiplication or division of so many turns.
+fn slow(cost: u64, reads: u64, writes: u64) -> Need {
     Need {
         slow: true,
-        cost: 5,
+        cost,
         ..need(Side::Reg, reads, writes)
-    }
-}
-
-fn divide(writes: u64) -> Need {
-    Need {
-        slow: true,
-        cost: 37,
-        ..need(Side::Reg, 0, writes)
     }
 }
 
@@ -85,6 +65,40 @@ fn code(address: u32, size: u32) -> Need {
     }
 }
 
+/// A set of resources, in hexadecimal digits.
+fn set(digits: &str) -> Result<u64, Fail> {
+    Ok(u64::from_str_radix(digits, 16)?)
+}
+
+/// A need of a row: `reg`, `mem`, `ctl`, `multiply` and `divide` have what they read and what they write, where bit r
+/// stands for register r and bit 32 for the condition code; a load has what it writes and its waits, a store what it
+/// reads and its address; a barrier has its turns and the turn that it waits for.
+fn need_of(text: &str) -> Result<Need, Fail> {
+    let mut words = text.split_whitespace();
+    let (Some(name), Some(a), Some(b)) = (words.next(), words.next(), words.next()) else {
+        return Err("a need has a name and two numbers".into());
+    };
+    match name {
+        "multiply" => Ok(slow(5, set(a)?, set(b)?)),
+        "divide" => Ok(slow(37, set(a)?, set(b)?)),
+        "load" => Ok(load(set(a)?, b.parse::<u32>()?)),
+        "store" => Ok(store(set(a)?, u32::from_str_radix(b, 16)?)),
+        "barrier" => Ok(barrier(a.parse::<u64>()?, b.parse::<u64>()?)),
+        "alone" => Ok(alone()),
+        "code" => Ok(code(u32::from_str_radix(a, 16)?, b.parse::<u32>()?)),
+        _ => Ok(need(side(name)?, set(a)?, set(b)?)),
+    }
+}
+
+fn side(name: &str) -> Result<Side, Fail> {
+    match name {
+        "reg" => Ok(Side::Reg),
+        "mem" => Ok(Side::Mem),
+        "ctl" => Ok(Side::Ctl),
+        _ => Err("no such need".into()),
+    }
+}
+
 /// Places a need whose cost and turns are in range: the turn that `next_turn` tells, and its turns. Where it
 /// is asked for, the record is placed at the turn that was told.
 fn place(board: &mut Board, n: &Need, told: bool) -> Option<(u64, u64, u64)> {
@@ -104,98 +118,112 @@ fn place(board: &mut Board, n: &Need, told: bool) -> Option<(u64, u64, u64)> {
     Some((next, placed.issue, placed.done))
 }
 
-/// Whether a row begins with a new board.
-const FIRST: bool = true;
+/// Whether a row begins with a new board; a need; the turn at which it issues, as `next_turn` tells it, and the turn at
+/// which it is done.
+const TURNS: &str = "\
+new  | multiply 0 1    | 1 1 6    | multiply, add, load, branch and move
+then | reg 0 2         | 2 2 3
+then | load 4 0        | 2 2 3
+then | ctl 0 0         | 2 2 3
+then | reg 0 8         | 3 3 4
+new  | load 1 3        | 1 1 5    | four loads with three read waits
+then | load 2 3        | 2 2 9
+then | load 4 3        | 3 3 13
+then | load 8 3        | 5 5 17   | it waits until one is done
+then | reg 0 10        | 5 5 6    | what is no request does not wait behind them
+then | load 20 0       | 9 9 18   | a request of one turn does
+new  | reg 0 1         | 1 1 2    | each side takes one record in a turn
+then | mem 0 2         | 1 1 2
+then | ctl 0 0         | 1 1 2
+then | mem 0 4         | 2 2 3
+then | mem 0 8         | 3 3 4
+new  | ctl 0 0         | 1 1 2    | nothing else follows the control side in its turn
+then | reg 0 1         | 2 2 3
+new  | multiply 2 1    | 1 1 6
+then | mem 0 2         | 1 1 2    | what is read is written at once
+then | mem 1 4         | 6 6 7    | what is written is read when it is there
+new  | multiply 0 1    | 1 1 6
+then | mem 0 1         | 6 6 7    | and written again
+new  | reg 0 100000000 | 1 1 2
+then | ctl 100000000 0 | 2 2 3
+new  | multiply 0 1    | 1 1 6    | one multiplication or division at a time
+then | divide 0 2      | 6 6 43
+then | multiply 0 4    | 43 43 48
+";
 
-const THEN: bool = false;
+/// The same of stores, barriers, what stands alone and what waits for a turn.
+const BARRIERS: &str = "\
+new  | load 1 0         | 1 1 2
+then | store 1 1010     | 2 2 3
+then | code 1010 4      | 3 3 4     | behind a store to its own words
+new  | store 0 1010     | 1 1 2
+then | code 100C 8      | 2 2 3     | behind one to the second of them
+new  | store 0 1010     | 1 1 2
+then | code 1014 4      | 1 1 2     | behind one beside them
+new  | store 0 FFFFFFFE | 1 1 2
+then | code 0 4         | 2 2 3
+new  | multiply 0 1     | 1 1 6
+then | barrier 4 0      | 6 6 10    | a barrier waits for all before it
+then | reg 0 2          | 10 10 11  | all behind it wait for it
+new  | load 1 2         | 1 1 4
+then | barrier 24 0     | 4 4 28    | the entry of a fault that spills a frame
+then | barrier 81 0     | 28 28 109 | a flush of five
+new  | multiply 0 1     | 1 1 6
+then | alone 0 0        | 6 6 7     | what stands alone waits for all before it
+then | mem 0 2          | 6 6 7     | nothing waits for it
+new  | multiply 0 1     | 1 1 6
+then | barrier 1 3      | 6 6 7
+then | reg 0 2          | 7 7 8
+new  | barrier 1 9      | 9 9 10    | some wait for a turn
+then | reg 0 2          | 10 10 11
+";
 
-#[test]
-fn places_records(rt: HostRuntime) {
-    let rows: [(bool, Need, u64, u64); 51] = [
-        // Multiply, add, load, branch and move.
-        (FIRST, multiply(0, R0), 1, 6),
-        (THEN, need(Side::Reg, 0, R1), 2, 3),
-        (THEN, load(R2, 0), 2, 3),
-        (THEN, need(Side::Ctl, 0, 0), 2, 3),
-        (THEN, need(Side::Reg, 0, R3), 3, 4),
-        // Four loads with three read waits: the fourth waits until one is done.
-        (FIRST, load(R0, 3), 1, 5),
-        (THEN, load(R1, 3), 2, 9),
-        (THEN, load(R2, 3), 3, 13),
-        (THEN, load(R3, 3), 5, 17),
-        // A record that is no request does not wait behind them, and a request of one turn does.
-        (THEN, need(Side::Reg, 0, R4), 5, 6),
-        (THEN, load(R5, 0), 9, 18),
-        // Each side takes one record in a turn, and nothing else follows the control side in its turn.
-        (FIRST, need(Side::Reg, 0, R0), 1, 2),
-        (THEN, need(Side::Mem, 0, R1), 1, 2),
-        (THEN, need(Side::Ctl, 0, 0), 1, 2),
-        (THEN, need(Side::Mem, 0, R2), 2, 3),
-        (THEN, need(Side::Mem, 0, R3), 3, 4),
-        (FIRST, need(Side::Ctl, 0, 0), 1, 2),
-        (THEN, need(Side::Reg, 0, R0), 2, 3),
-        // What is written is read, and written again, when it is there; what is read is written at once.
-        (FIRST, multiply(R1, R0), 1, 6),
-        (THEN, need(Side::Mem, 0, R1), 1, 2),
-        (THEN, need(Side::Mem, R0, R2), 6, 7),
-        (FIRST, multiply(0, R0), 1, 6),
-        (THEN, need(Side::Mem, 0, R0), 6, 7),
-        (FIRST, need(Side::Reg, 0, CODE), 1, 2),
-        (THEN, need(Side::Ctl, CODE, 0), 2, 3),
-        // One multiplication or division at a time.
-        (FIRST, multiply(0, R0), 1, 6),
-        (THEN, divide(R1), 6, 43),
-        (THEN, multiply(0, R2), 43, 48),
-        // A store to its own words, to the second of them, and beside them.
-        (FIRST, load(R0, 0), 1, 2),
-        (THEN, store(R0, 0x1010), 2, 3),
-        (THEN, code(0x1010, 4), 3, 4),
-        (FIRST, store(0, 0x1010), 1, 2),
-        (THEN, code(0x100C, 8), 2, 3),
-        (FIRST, store(0, 0x1010), 1, 2),
-        (THEN, code(0x1014, 4), 1, 2),
-        (FIRST, store(0, 0xFFFF_FFFE), 1, 2),
-        (THEN, code(0, 4), 2, 3),
-        // A barrier waits for all before it, and all behind it wait for it.
-        (FIRST, multiply(0, R0), 1, 6),
-        (THEN, barrier(4, 0), 6, 10),
-        (THEN, need(Side::Reg, 0, R1), 10, 11),
-        // The entry of a fault that spills a frame, and a flush of five.
-        (FIRST, load(R0, 2), 1, 4),
-        (THEN, barrier(24, 0), 4, 28),
-        (THEN, barrier(81, 0), 28, 109),
-        // What stands alone waits for all before it, and nothing waits for it.
-        (FIRST, multiply(0, R0), 1, 6),
-        (THEN, alone(), 6, 7),
-        (THEN, need(Side::Mem, 0, R1), 6, 7),
-        // Some wait for a turn.
-        (FIRST, multiply(0, R0), 1, 6),
-        (THEN, barrier(1, 3), 6, 7),
-        (THEN, need(Side::Reg, 0, R1), 7, 8),
-        (FIRST, barrier(1, 9), 9, 10),
-        (THEN, need(Side::Reg, 0, R1), 10, 11),
-    ];
-    let mut board = Board::new();
-    for (first, need, issue, done) in rows {
-        if first {
-            board = Board::new();
-            assert_eq!(rt; board.all_done(), 1);
-        }
-        assert_eq!(rt; place(&mut board, &need, false), Some((issue, issue, done)));
+/// Places a need: its turns.
+fn placed_text(alloc: Global, board: &mut Board, need: &str, told: bool) -> Result<String, Fail> {
+    match place(board, &need_of(need)?, told) {
+        Some((next, issue, done)) => Ok(format!(in alloc; "{next} {issue} {done}")?),
+        None => Err("out of range".into()),
     }
 }
 
 #[test]
-fn tells_when_all_is_done(rt: HostRuntime) {
+fn places_records(rt: HostRuntime) -> Result<(), Fail> {
     let mut board = Board::new();
-    let rows = [
-        (multiply(0, R0), 6),
-        (need(Side::Reg, 0, R1), 6),
-        (load(R2, 6), 9),
-        (barrier(1, 20), 21),
-    ];
-    for (need, done) in rows {
-        assert!(rt; place(&mut board, &need, true).is_some());
-        assert_eq!(rt; board.all_done(), done);
+    for row in TURNS.lines().chain(BARRIERS.lines()) {
+        let (start, need, wanted) = columns(row)?;
+        if start == "new" {
+            board = Board::new();
+        }
+        let text = placed_text(rt.alloc(), &mut board, need, false)?;
+        assert_eq!(rt; text.as_str(), wanted, "{row}");
     }
+    Ok(())
+}
+
+/// Needs that are placed on one board, and when all is done then, which is at 1 at first.
+const ENDS: &str = "\
+multiply 0 1 | 1 to 6
+reg 0 2      | 6 to 6
+load 4 6     | 6 to 9
+barrier 1 20 | 9 to 21
+";
+
+/// Places a need at the turn that is told: when all is done before and behind it.
+fn ends_text(alloc: Global, board: &mut Board, need: &str) -> Result<String, Fail> {
+    let before = board.all_done();
+    if place(board, &need_of(need)?, true).is_none() {
+        return Err("out of range".into());
+    }
+    Ok(format!(in alloc; "{before} to {}", board.all_done())?)
+}
+
+#[test]
+fn tells_when_all_is_done(rt: HostRuntime) -> Result<(), Fail> {
+    let mut board = Board::new();
+    for row in ENDS.lines() {
+        let (need, wanted) = pair(row)?;
+        let text = ends_text(rt.alloc(), &mut board, need)?;
+        assert_eq!(rt; text.as_str(), wanted, "{row}");
+    }
+    Ok(())
 }

@@ -13,3 +13,5 @@ mod isa;
 mod issue;
 #[cfg(test)]
 mod need;
+#[cfg(test)]
+mod rows;

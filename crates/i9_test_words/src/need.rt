@@ -1,30 +1,14 @@
 //! Needs, worked out by hand from the table of costs and the list of barriers.
-
 ghost use Rattle.std.specs.Prelude.{◌≡◌};
 ghost use Rattle.i9_model.specs.Needs.{has_access};
 ghost use Rattle.i9_need.specs.Known.{moves_a_frame};
 
-use i9_isa::{Ea, Inst, Mode, NO_ADDRESS, Op, Operand, Side, Use, row, transfer, valid};
+use crate::rows::{columns, instruction, where_so};
+use i9_isa::{Inst, Op, transfer, valid};
 use i9_model::{Facts, Need};
 use i9_need::{entry_need, event_need, inst_need, refused_need};
-
-/// The local registers and g15.
-const FRAME: u64 = 0x8000_FFFF;
-
-/// The condition code.
-const CODE: u64 = 0x1_0000_0000;
-
-/// g0, g1 and g2.
-const G0: u64 = 0x1_0000;
-
-const G1: u64 = 0x2_0000;
-
-const G2: u64 = 0x4_0000;
-
-/// g8 and g9, which addresses are made of.
-const G8: u64 = 0x100_0000;
-
-const G9: u64 = 0x200_0000;
+use std::alloc::Global;
+use std::test::Fail;
 
 /// A load, a store or an atomic.
 fn has_access(op: Op) -> bool
@@ -33,38 +17,6 @@ fn has_access(op: Op) -> bool
     matches!(op, Op::Atadd | Op::Atmod) || transfer(op).is_some()
 }
 
-/// At g8.
-const BASE: Ea = Ea {
-    mode: Mode::Base,
-    base: 24,
-    ..NO_ADDRESS
-};
-
-/// At g8 and four times g9.
-const INDEX: Ea = Ea {
-    mode: Mode::BaseIndex,
-    base: 24,
-    index: 25,
-    scale: 2,
-    disp: 0,
-};
-
-/// At a displacement in a second word.
-const SECOND: Ea = Ea {
-    mode: Mode::Disp,
-    disp: 0x1234_5678,
-    ..NO_ADDRESS
-};
-
-/// Whether a name is a request, slow or a barrier.
-const PLAIN: (bool, bool, bool) = (false, false, false);
-
-const REQUEST: (bool, bool, bool) = (true, false, false);
-
-const SLOW: (bool, bool, bool) = (false, true, false);
-
-const BARRIER: (bool, bool, bool) = (false, false, true);
-
 fn moves_a_frame(op: Op) -> bool
     ensures { result ≡ moves_a_frame op }
 {
@@ -72,45 +24,26 @@ fn moves_a_frame(op: Op) -> bool
 }
 
 /// The need of an instruction, where it is one and can have these facts.
-fn need_of(i: &Inst, f: &Facts) -> Option<Need> {
+fn need_of(i: &Inst, f: &Facts) -> Result<Need, Fail> {
     let most = if moves_a_frame(i.op) { 1 } else { 15 };
     if f.frames > most || f.waits > 62 || f.access.is_some() != has_access(i.op) || !valid(i) {
-        return None;
+        return Err("it cannot have these facts".into());
     }
-    Some(inst_need(i, f))
+    Ok(inst_need(i, f))
 }
 
-/// The register where the operand is used.
-fn operand(use_of: Use, register: u8) -> Operand {
-    Operand::Reg(if use_of.is_unused() { 0 } else { register })
-}
-
-/// An instruction of this name on r4.
-fn inst(op: Op) -> Inst {
-    let row = row(op);
-    Inst {
-        op,
-        a: operand(row.a, 4),
-        b: operand(row.b, 4),
-        c: operand(row.c, 4),
-        ea: NO_ADDRESS,
-        disp: 0,
-        hint: false,
-    }
-}
-
-/// What is known of one at 1000 that accesses four bytes at 2000, if any.
-fn facts(op: Op) -> Facts {
+/// What is known of an instruction at 1000, of bytes that it accesses at 2000, if any, of waits and of frames.
+fn counted(bytes: u32, waits: u64, frames: u8) -> Facts {
     Facts {
         ip: 0x1000,
-        access: if has_access(op) {
-            Some((0x2000, 4))
-        } else {
+        access: if bytes == 0 {
             None
+        } else {
+            Some((0x2000, bytes))
         },
         port: false,
-        waits: 0,
-        frames: 0,
+        waits,
+        frames,
         fault: false,
         trace: false,
         hazard: false,
@@ -118,423 +51,229 @@ fn facts(op: Op) -> Facts {
     }
 }
 
-/// A name with its waits and frames, whether it is a request, slow or a barrier, and its turns.
-#[test]
-fn costs_and_kinds_of_names(rt: HostRuntime) {
-    let rows: [(Op, u64, u8, (bool, bool, bool), u64); 68] = [
-        (Op::Addo, 0, 0, PLAIN, 1),
-        (Op::Lda, 0, 0, PLAIN, 1),
-        (Op::Cmpo, 0, 0, PLAIN, 1),
-        (Op::Modify, 0, 0, PLAIN, 1),
-        (Op::Udma, 0, 0, PLAIN, 1),
-        (Op::Mark, 0, 0, PLAIN, 1),
-        (Op::Fmark, 0, 0, PLAIN, 1),
-        (Op::Testno, 0, 0, PLAIN, 1),
-        (Op::Cmpobg, 0, 0, PLAIN, 1),
-        (Op::B, 0, 0, PLAIN, 1),
-        (Op::Bal, 0, 0, PLAIN, 1),
-        (Op::Bx, 0, 0, PLAIN, 1),
-        (Op::Balx, 0, 0, PLAIN, 1),
-        (Op::Faultno, 0, 0, PLAIN, 1),
-        (Op::Mulo, 0, 0, SLOW, 5),
-        (Op::Muli, 0, 0, SLOW, 5),
-        (Op::Emul, 0, 0, SLOW, 5),
-        (Op::Divo, 0, 0, SLOW, 37),
-        (Op::Divi, 0, 0, SLOW, 37),
-        (Op::Remo, 0, 0, SLOW, 37),
-        (Op::Remi, 0, 0, SLOW, 37),
-        (Op::Modi, 0, 0, SLOW, 37),
-        (Op::Ediv, 0, 0, SLOW, 37),
-        // A load or a store, with the waits of its region.
-        (Op::Ldob, 0, 0, REQUEST, 1),
-        (Op::Ldib, 1, 0, REQUEST, 2),
-        (Op::Ldos, 2, 0, REQUEST, 3),
-        (Op::Ldis, 3, 0, REQUEST, 4),
-        (Op::Ld, 31, 0, REQUEST, 32),
-        (Op::Ldl, 5, 0, REQUEST, 6),
-        (Op::Ldt, 6, 0, REQUEST, 7),
-        (Op::Ldq, 7, 0, REQUEST, 8),
-        (Op::Stob, 0, 0, REQUEST, 1),
-        (Op::Stib, 1, 0, REQUEST, 2),
-        (Op::Stos, 2, 0, REQUEST, 3),
-        (Op::Stis, 3, 0, REQUEST, 4),
-        (Op::St, 31, 0, REQUEST, 32),
-        (Op::Stl, 5, 0, REQUEST, 6),
-        (Op::Stt, 6, 0, REQUEST, 7),
-        (Op::Stq, 7, 0, REQUEST, 8),
-        // Both waits of an atomic.
-        (Op::Atadd, 0, 0, BARRIER, 2),
-        (Op::Atadd, 62, 0, BARRIER, 64),
-        (Op::Atmod, 3, 0, BARRIER, 5),
-        // A frame that is spilled or refilled.
-        (Op::Call, 0, 0, BARRIER, 4),
-        (Op::Call, 0, 1, BARRIER, 20),
-        (Op::Callx, 0, 0, BARRIER, 4),
-        (Op::Callx, 0, 1, BARRIER, 20),
-        (Op::Calls, 0, 0, BARRIER, 4),
-        (Op::Calls, 0, 1, BARRIER, 20),
-        (Op::Ret, 0, 0, BARRIER, 4),
-        (Op::Ret, 0, 1, BARRIER, 20),
-        // Frames that are flushed.
-        (Op::Flushreg, 0, 0, BARRIER, 1),
-        (Op::Flushreg, 0, 1, BARRIER, 17),
-        (Op::Flushreg, 0, 15, BARRIER, 241),
-        (Op::Sysctl, 0, 0, BARRIER, 8),
-        (Op::Sysctl, 0, 2, BARRIER, 40),
-        (Op::Sysctl, 0, 15, BARRIER, 248),
-        (Op::Sdma, 0, 0, BARRIER, 8),
-        (Op::Syncf, 0, 0, BARRIER, 1),
-        (Op::Modac, 0, 0, BARRIER, 1),
-        (Op::Modpc, 0, 0, BARRIER, 1),
-        (Op::Modtc, 0, 0, BARRIER, 1),
-        // Waits and frames of what has none count nothing.
-        (Op::Addo, 62, 15, PLAIN, 1),
-        (Op::Mulo, 62, 15, SLOW, 5),
-        (Op::Divo, 62, 15, SLOW, 37),
-        (Op::Ld, 1, 15, REQUEST, 2),
-        (Op::Atadd, 1, 15, BARRIER, 3),
-        (Op::Sdma, 62, 15, BARRIER, 8),
-        (Op::Call, 62, 1, BARRIER, 20),
-    ];
-    for (op, waits, frames, kinds, cost) in rows {
-        let known = Facts {
-            waits,
-            frames,
-            ..facts(op)
-        };
-        let need = need_of(&inst(op), &known);
-        assert_eq!(rt; need.map(|n| (n.request, n.slow, n.barrier)), Some(kinds));
-        assert_eq!(rt; need.map(|n| n.cost), Some(cost));
-    }
-}
-
-/// An instruction of the register format with two sources and a destination.
-fn three(op: Op, a: Operand, b: Operand, c: Operand) -> Inst {
-    Inst {
-        a,
-        b,
-        c,
-        ..inst(op)
-    }
-}
-
-/// An instruction of the memory format on g0.
-fn at(op: Op, ea: Ea) -> Inst {
-    Inst {
-        c: operand(row(op).c, 16),
-        ea,
-        ..inst(op)
-    }
-}
-
-/// What is known of an access to so many bytes at 2000, with two waits.
-fn access(bytes: u32) -> Facts {
-    Facts {
-        access: Some((0x2000, bytes)),
-        waits: 2,
-        ..facts(Op::Ld)
-    }
-}
-
-fn with_fault(f: Facts) -> Facts {
-    Facts { fault: true, ..f }
-}
-
-fn with_trace(f: Facts) -> Facts {
-    Facts { trace: true, ..f }
-}
-
-fn with_hazard(f: Facts) -> Facts {
-    Facts { hazard: true, ..f }
-}
-
-fn with_frames(f: Facts, frames: u8) -> Facts {
-    Facts { frames, ..f }
-}
-
-/// The need of one turn of an instruction of one word at 1000.
-fn plain(side: Side, reads: u64, writes: u64) -> Need {
-    Need {
-        side,
-        reads,
-        writes,
-        cost: 1,
-        code: (0x1000, 4),
-        ..Need::default()
-    }
-}
-
-fn barrier(side: Side, reads: u64, writes: u64, cost: u64) -> Need {
-    Need {
-        barrier: true,
-        cost,
-        ..plain(side, reads, writes)
-    }
-}
-
-/// The need of a load or store with two waits.
-fn request(reads: u64, writes: u64, store: Option<(u32, u32)>) -> Need {
-    Need {
-        request: true,
-        store,
-        cost: 3,
-        ..plain(Side::Mem, reads, writes)
-    }
-}
-
-/// Whether two needs are the same.
-fn same(a: &Need, b: &Need) -> bool {
-    a.side == b.side
-        && (a.reads, a.writes) == (b.reads, b.writes)
-        && (a.request, a.slow, a.barrier, a.alone) == (b.request, b.slow, b.barrier, b.alone)
-        && a.store == b.store
-        && a.code == b.code
-        && (a.cost, a.not_before) == (b.cost, b.not_before)
-}
-
-#[test]
-fn needs_of_instructions(rt: HostRuntime) {
-    use Operand::{Lit, Reg, Sfr};
-    let (g0, g1, g2) = (Reg(16), Reg(17), Reg(18));
-    let add = three(Op::Addo, Lit(1), g0, g1);
-    let multiply = three(Op::Mulo, g0, g1, g2);
-    let divide = three(Op::Divo, g0, g1, g2);
-    let none = facts(Op::Addo);
-    let slow = Need {
-        slow: true,
-        ..plain(Side::Reg, G0 | G1, G2)
+/// What is known of an instruction: its bytes, waits and frames, and what else is so.
+fn facts(text: &str) -> Result<Facts, Fail> {
+    let mut words = text.split_whitespace();
+    let (Some(bytes), Some(waits), Some(frames)) = (words.next(), words.next(), words.next()) else {
+        return Err("three numbers are known".into());
     };
-    let rows: [(Inst, Facts, Need); 37] = [
-        (add, none, plain(Side::Reg, G0, G1)),
-        (
-            three(Op::Addc, Lit(1), g0, g1),
-            none,
-            plain(Side::Reg, CODE | G0, CODE | G1),
-        ),
-        (inst(Op::Testno), none, plain(Side::Ctl, CODE, 0x10)),
-        (inst(Op::Cmpobg), none, plain(Side::Ctl, 0x10, CODE)),
-        (inst(Op::Bal), none, plain(Side::Ctl, 0, 0x4000_0000)),
-        (at(Op::Lda, BASE), none, plain(Side::Mem, G8, G0)),
-        (multiply, none, Need { cost: 5, ..slow }),
-        (
-            multiply,
-            Facts {
-                alone: true,
-                ..none
-            },
-            Need {
-                cost: 5,
-                alone: true,
-                ..slow
-            },
-        ),
-        // A load that reads a group, and stores with their own bytes; a second word is the instruction's own.
-        (at(Op::Ldq, BASE), access(16), request(G8, 0xF_0000, None)),
-        (
-            at(Op::Stl, INDEX),
-            access(8),
-            request(G0 | G1 | G8 | G9, 0, Some((0x2000, 8))),
-        ),
-        (
-            at(Op::Stob, SECOND),
-            access(1),
-            Need {
-                code: (0x1000, 8),
-                ..request(G0, 0, Some((0x2000, 1)))
-            },
-        ),
-        (
-            at(Op::Lda, SECOND),
-            none,
-            Need {
-                code: (0x1000, 8),
-                ..plain(Side::Mem, 0, G0)
-            },
-        ),
-        // An access to the port page is a barrier and a request.
-        (
-            at(Op::Ld, BASE),
-            Facts {
-                port: true,
-                ..access(4)
-            },
-            Need {
-                barrier: true,
-                ..request(G8, G0, None)
-            },
-        ),
-        (
-            at(Op::St, BASE),
-            Facts {
-                port: true,
-                ..access(4)
-            },
-            Need {
-                barrier: true,
-                ..request(G0 | G8, 0, Some((0x2000, 4)))
-            },
-        ),
-        // A special function register is written, and read.
-        (
-            Inst {
-                a: g0,
-                c: Sfr(2),
-                ..inst(Op::Mov)
-            },
-            none,
-            barrier(Side::Reg, G0, 0, 1),
-        ),
-        (
-            Inst {
-                a: Sfr(1),
-                c: g0,
-                ..inst(Op::Mov)
-            },
-            none,
-            plain(Side::Reg, 0, G0),
-        ),
-        // Both waits of an atomic, which stores nothing of its own and is no request.
-        (
-            three(Op::Atadd, g0, g1, g2),
-            access(4),
-            barrier(Side::Reg, G0 | G1, G2, 4),
-        ),
-        (
-            three(Op::Atmod, g0, g1, g2),
-            access(4),
-            barrier(Side::Reg, G0 | G1 | G2, G2, 4),
-        ),
-        // Calls, returns and sysctl change the frame.
-        (inst(Op::Call), none, barrier(Side::Ctl, 0, FRAME, 4)),
-        (at(Op::Callx, BASE), none, barrier(Side::Ctl, G8, FRAME, 4)),
-        (
-            inst(Op::Calls),
-            with_frames(none, 1),
-            barrier(Side::Reg, 0x10, FRAME, 20),
-        ),
-        (
-            inst(Op::Ret),
-            with_frames(none, 1),
-            barrier(Side::Ctl, 0, CODE | FRAME, 20),
-        ),
-        (
-            three(Op::Sysctl, g0, g1, g2),
-            none,
-            barrier(Side::Reg, G0 | G1 | G2, CODE | FRAME, 8),
-        ),
-        // What faults, but by its result or by a trace, keeps its resources, is no request and takes one turn.
-        (add, with_fault(none), barrier(Side::Reg, G0, G1, 1)),
-        (
-            divide,
-            with_fault(none),
-            Need {
-                barrier: true,
-                ..slow
-            },
-        ),
-        (
-            at(Op::Ldq, BASE),
-            with_fault(access(16)),
-            barrier(Side::Mem, G8, 0xF_0000, 1),
-        ),
-        (
-            at(Op::St, BASE),
-            with_fault(access(4)),
-            barrier(Side::Mem, G0 | G8, 0, 1),
-        ),
-        (
-            three(Op::Atadd, g0, g1, g2),
-            with_fault(access(4)),
-            barrier(Side::Reg, G0 | G1, G2, 1),
-        ),
-        (
-            inst(Op::Calls),
-            with_fault(with_frames(none, 1)),
-            barrier(Side::Reg, 0x10, FRAME, 1),
-        ),
-        (
-            inst(Op::Faultno),
-            with_fault(none),
-            barrier(Side::Ctl, CODE, 0, 1),
-        ),
-        // So does what meets a hazard.
-        (
-            at(Op::St, BASE),
-            with_hazard(access(4)),
-            barrier(Side::Mem, G0 | G8, 0, 1),
-        ),
-        (
-            inst(Op::Ret),
-            with_hazard(with_frames(none, 1)),
-            barrier(Side::Ctl, 0, CODE | FRAME, 1),
-        ),
-        (
-            inst(Op::Flushreg),
-            with_hazard(with_frames(none, 5)),
-            barrier(Side::Reg, 0, 0, 1),
-        ),
-        // A trace fault comes after the instruction.
-        (
-            divide,
-            with_trace(none),
-            Need {
-                barrier: true,
-                cost: 37,
-                ..slow
-            },
-        ),
-        (
-            at(Op::St, BASE),
-            with_trace(access(4)),
-            Need {
-                barrier: true,
-                ..request(G0 | G8, 0, Some((0x2000, 4)))
-            },
-        ),
-        (
-            inst(Op::Call),
-            with_trace(none),
-            barrier(Side::Ctl, 0, FRAME, 4),
-        ),
-        (
-            at(Op::Bx, BASE),
-            with_trace(none),
-            barrier(Side::Ctl, G8, 0, 1),
-        ),
-    ];
-    for (i, f, want) in rows {
-        assert!(rt; need_of(&i, &f).is_some_and(|n| same(&n, &want)));
+    let mut known = counted(
+        bytes.parse::<u32>()?,
+        waits.parse::<u64>()?,
+        frames.parse::<u8>()?,
+    );
+    for word in words {
+        match word {
+            "port" => known.port = true,
+            "fault" => known.fault = true,
+            "trace" => known.trace = true,
+            "hazard" => known.hazard = true,
+            "alone" => known.alone = true,
+            _ => return Err("no such fact".into()),
+        }
     }
+    Ok(known)
+}
+
+/// The turns of a need, and whether it is a request, slow or a barrier.
+fn kinds_text(alloc: Global, n: &Need) -> Result<String, Fail> {
+    let mut text = format!(in alloc; "{}", n.cost)?;
+    text.push_str(where_so(n.request, " request"))?;
+    text.push_str(where_so(n.slow, " slow"))?;
+    text.push_str(where_so(n.barrier, " barrier"))?;
+    Ok(text)
+}
+
+/// The side of a need, the sets of what it reads and of what it writes, its own words, its turns and kinds, and, where
+/// it is so, that it stands alone, the bytes that it stores, and the turn that it waits for.
+fn need_text(alloc: Global, n: &Need) -> Result<String, Fail> {
+    let (at, size) = n.code;
+    let kinds = kinds_text(alloc, n)?;
+    let mut text = format!(in alloc;
+        "{:?} {:X} {:X} {at:X}+{size} {kinds}",
+        n.side, n.reads, n.writes
+    )?;
+    text.push_str(where_so(n.alone, " alone"))?;
+    if let Some((address, bytes)) = n.store {
+        text.push_str(&format!(in alloc; " stores {address:X}+{bytes}")?)?;
+    }
+    if n.not_before != 0 {
+        text.push_str(&format!(in alloc; " from {}", n.not_before)?)?;
+    }
+    Ok(text)
+}
+
+/// A name with its bytes, waits and frames; its turns, and whether it is a request, slow or a barrier.
+const ONE_TURN: &str = "\
+addo r4, r4, r4   | 0 0 0 | 1
+lda 0, r4         | 0 0 0 | 1
+cmpo r4, r4       | 0 0 0 | 1
+modify r4, r4, r4 | 0 0 0 | 1
+udma              | 0 0 0 | 1
+mark              | 0 0 0 | 1
+fmark             | 0 0 0 | 1
+testno r4         | 0 0 0 | 1
+cmpobg r4, r4, 0  | 0 0 0 | 1
+b 0               | 0 0 0 | 1
+bal 0             | 0 0 0 | 1
+bx 0              | 0 0 0 | 1
+balx 0, r4        | 0 0 0 | 1
+faultno           | 0 0 0 | 1
+";
+
+/// The same of what is slow.
+const SLOW: &str = "\
+mulo r4, r4, r4 | 0 0 0 | 5 slow
+muli r4, r4, r4 | 0 0 0 | 5 slow
+emul r4, r4, r4 | 0 0 0 | 5 slow
+divo r4, r4, r4 | 0 0 0 | 37 slow
+divi r4, r4, r4 | 0 0 0 | 37 slow
+remo r4, r4, r4 | 0 0 0 | 37 slow
+remi r4, r4, r4 | 0 0 0 | 37 slow
+modi r4, r4, r4 | 0 0 0 | 37 slow
+ediv r4, r4, r4 | 0 0 0 | 37 slow
+";
+
+/// The same of loads and stores, with the waits of their region.
+const REQUESTS: &str = "\
+ldob 0, r4 | 4 0 0  | 1 request
+ldib 0, r4 | 4 1 0  | 2 request
+ldos 0, r4 | 4 2 0  | 3 request
+ldis 0, r4 | 4 3 0  | 4 request
+ld 0, r4   | 4 31 0 | 32 request
+ldl 0, r4  | 4 5 0  | 6 request
+ldt 0, r4  | 4 6 0  | 7 request
+ldq 0, r4  | 4 7 0  | 8 request
+stob r4, 0 | 4 0 0  | 1 request
+stib r4, 0 | 4 1 0  | 2 request
+stos r4, 0 | 4 2 0  | 3 request
+stis r4, 0 | 4 3 0  | 4 request
+st r4, 0   | 4 31 0 | 32 request
+stl r4, 0  | 4 5 0  | 6 request
+stt r4, 0  | 4 6 0  | 7 request
+stq r4, 0  | 4 7 0  | 8 request
+";
+
+/// The same of barriers: both waits of an atomic, a frame that is spilled or refilled, frames that are flushed, and
+/// others.
+const BARRIERS: &str = "\
+atadd r4, r4, r4  | 4 0 0  | 2 barrier
+atadd r4, r4, r4  | 4 62 0 | 64 barrier
+atmod r4, r4, r4  | 4 3 0  | 5 barrier
+call 0            | 0 0 0  | 4 barrier
+call 0            | 0 0 1  | 20 barrier
+callx 0           | 0 0 0  | 4 barrier
+callx 0           | 0 0 1  | 20 barrier
+calls r4          | 0 0 0  | 4 barrier
+calls r4          | 0 0 1  | 20 barrier
+ret               | 0 0 0  | 4 barrier
+ret               | 0 0 1  | 20 barrier
+flushreg          | 0 0 0  | 1 barrier
+flushreg          | 0 0 1  | 17 barrier
+flushreg          | 0 0 15 | 241 barrier
+sysctl r4, r4, r4 | 0 0 0  | 8 barrier
+sysctl r4, r4, r4 | 0 0 2  | 40 barrier
+sysctl r4, r4, r4 | 0 0 15 | 248 barrier
+sdma r4, r4, r4   | 0 0 0  | 8 barrier
+syncf             | 0 0 0  | 1 barrier
+modac r4, r4, r4  | 0 0 0  | 1 barrier
+modpc r4, r4, r4  | 0 0 0  | 1 barrier
+modtc r4, r4, r4  | 0 0 0  | 1 barrier
+";
+
+/// Waits and frames of what has none count nothing.
+const UNCOUNTED: &str = "\
+addo r4, r4, r4  | 0 62 15 | 1
+mulo r4, r4, r4  | 0 62 15 | 5 slow
+divo r4, r4, r4  | 0 62 15 | 37 slow
+ld 0, r4         | 4 1 15  | 2 request
+atadd r4, r4, r4 | 4 1 15  | 3 barrier
+sdma r4, r4, r4  | 0 62 15 | 8 barrier
+call 0           | 0 62 1  | 20 barrier
+";
+
+#[test]
+fn costs_and_kinds_of_names(rt: HostRuntime) -> Result<(), Fail> {
+    for table in [ONE_TURN, SLOW, REQUESTS, BARRIERS, UNCOUNTED] {
+        for row in table.lines() {
+            let (statement, known, wanted) = columns(row)?;
+            let need = need_of(&instruction(statement)?, &facts(known)?)?;
+            assert_eq!(rt; kinds_text(rt.alloc(), &need)?.as_str(), wanted, "{row}");
+        }
+    }
+    Ok(())
+}
+
+/// Whole needs. A load reads a group, and stores have their own bytes; a second word is the instruction's own. An
+/// access to the port page is a barrier and a request, and a write of a special function register is a barrier. Both
+/// waits of an atomic count, which stores nothing of its own and is no request. Calls, returns and sysctl change the
+/// frame.
+const NEEDS: &str = "\
+addo 1, g0, g1      | 0 0 0       | Reg 10000 20000 1000+4 1
+addc 1, g0, g1      | 0 0 0       | Reg 100010000 100020000 1000+4 1
+testno r4           | 0 0 0       | Ctl 100000000 10 1000+4 1
+cmpobg r4, r4, 0    | 0 0 0       | Ctl 10 100000000 1000+4 1
+bal 0               | 0 0 0       | Ctl 0 40000000 1000+4 1
+lda !(g8), g0       | 0 0 0       | Mem 1000000 10000 1000+4 1
+mulo g0, g1, g2     | 0 0 0       | Reg 30000 40000 1000+4 5 slow
+mulo g0, g1, g2     | 0 0 0 alone | Reg 30000 40000 1000+4 5 slow alone
+ldq !(g8), g0       | 16 2 0      | Mem 1000000 F0000 1000+4 3 request
+stl g0, (g8)[g9*4]  | 8 2 0       | Mem 3030000 0 1000+4 3 request stores 2000+8
+stob g0, 0x12345678 | 1 2 0       | Mem 10000 0 1000+8 3 request stores 2000+1
+lda 0x12345678, g0  | 0 0 0       | Mem 0 10000 1000+8 1
+ld !(g8), g0        | 4 2 0 port  | Mem 1000000 10000 1000+4 3 request barrier
+st g0, !(g8)        | 4 2 0 port  | Mem 1010000 0 1000+4 3 request barrier stores 2000+4
+mov g0, sf2         | 0 0 0       | Reg 10000 0 1000+4 1 barrier
+mov sf1, g0         | 0 0 0       | Reg 0 10000 1000+4 1
+atadd g0, g1, g2    | 4 2 0       | Reg 30000 40000 1000+4 4 barrier
+atmod g0, g1, g2    | 4 2 0       | Reg 70000 40000 1000+4 4 barrier
+call 0              | 0 0 0       | Ctl 0 8000FFFF 1000+4 4 barrier
+callx !(g8)         | 0 0 0       | Ctl 1000000 8000FFFF 1000+4 4 barrier
+calls r4            | 0 0 1       | Reg 10 8000FFFF 1000+4 20 barrier
+ret                 | 0 0 1       | Ctl 0 18000FFFF 1000+4 20 barrier
+sysctl g0, g1, g2   | 0 0 0       | Reg 70000 18000FFFF 1000+4 8 barrier
+";
+
+/// The same where it faults or meets a hazard: but by its result or by a trace, what faults keeps its resources, is no
+/// request and takes one turn, and so does what meets a hazard. A trace fault comes after the instruction.
+const FAULTING: &str = "\
+addo 1, g0, g1   | 0 0 0 fault  | Reg 10000 20000 1000+4 1 barrier
+divo g0, g1, g2  | 0 0 0 fault  | Reg 30000 40000 1000+4 1 slow barrier
+ldq !(g8), g0    | 16 2 0 fault | Mem 1000000 F0000 1000+4 1 barrier
+st g0, !(g8)     | 4 2 0 fault  | Mem 1010000 0 1000+4 1 barrier
+atadd g0, g1, g2 | 4 2 0 fault  | Reg 30000 40000 1000+4 1 barrier
+calls r4         | 0 0 1 fault  | Reg 10 8000FFFF 1000+4 1 barrier
+faultno          | 0 0 0 fault  | Ctl 100000000 0 1000+4 1 barrier
+st g0, !(g8)     | 4 2 0 hazard | Mem 1010000 0 1000+4 1 barrier
+ret              | 0 0 1 hazard | Ctl 0 18000FFFF 1000+4 1 barrier
+flushreg         | 0 0 5 hazard | Reg 0 0 1000+4 1 barrier
+divo g0, g1, g2  | 0 0 0 trace  | Reg 30000 40000 1000+4 37 slow barrier
+st g0, !(g8)     | 4 2 0 trace  | Mem 1010000 0 1000+4 3 request barrier stores 2000+4
+call 0           | 0 0 0 trace  | Ctl 0 8000FFFF 1000+4 4 barrier
+bx !(g8)         | 0 0 0 trace  | Ctl 1000000 0 1000+4 1 barrier
+";
+
+#[test]
+fn needs_of_instructions(rt: HostRuntime) -> Result<(), Fail> {
+    for row in NEEDS.lines().chain(FAULTING.lines()) {
+        let (statement, known, wanted) = columns(row)?;
+        let need = need_of(&instruction(statement)?, &facts(known)?)?;
+        assert_eq!(rt; need_text(rt.alloc(), &need)?.as_str(), wanted, "{row}");
+    }
+    Ok(())
 }
 
 #[test]
-fn needs_of_other_records(rt: HostRuntime) {
-    let blank = Need {
-        code: (0, 0),
-        ..barrier(Side::Ctl, 0, 0, 1)
-    };
-    let refused = Need {
-        code: (0xFFFF_FFFC, 4),
-        ..blank
-    };
-    let moving = Need {
-        cost: 4,
-        not_before: 12,
-        ..blank
-    };
-    let entry = Need {
-        writes: FRAME,
-        cost: 8,
-        ..blank
-    };
+fn needs_of_other_records(rt: HostRuntime) -> Result<(), Fail> {
     let rows = [
-        (refused_need(0xFFFF_FFFC), refused),
-        (event_need(false, 0), blank),
-        (event_need(true, 12), moving),
-        (entry_need(0), entry),
-        (entry_need(1), Need { cost: 24, ..entry }),
+        (refused_need(0xFFFF_FFFC), "Ctl 0 0 FFFFFFFC+4 1 barrier"),
+        (event_need(false, 0), "Ctl 0 0 0+0 1 barrier"),
+        (event_need(true, 12), "Ctl 0 0 0+0 4 barrier from 12"),
+        (entry_need(0), "Ctl 0 8000FFFF 0+0 8 barrier"),
+        (entry_need(1), "Ctl 0 8000FFFF 0+0 24 barrier"),
     ];
-    for (need, want) in rows {
-        assert!(rt; same(&need, &want));
+    for (need, wanted) in rows {
+        assert_eq!(rt; need_text(rt.alloc(), &need)?.as_str(), wanted);
     }
+    Ok(())
 }
