@@ -1,0 +1,15 @@
+pub mod Inputs
+pub mod Sources
+pub mod Swaps
+pub mod Taken
+pub mod Watched
+pub mod Stood
+pub mod Carried
+pub mod Fetched
+pub mod Plain
+pub mod Chosen
+pub mod Depend
+pub mod Extended
+pub mod Tuned
+pub mod OneOrder
+pub mod Worded

@@ -1,0 +1,5 @@
+use Rattle.i9_tune.proofs.Worded.{stand_by_words}
+use Rattle.i9_tune.proofs.laws.instructions_stand_by_their_words.Goals as goal
+
+pub returns : goal.returns
+returns c = stand_by_words

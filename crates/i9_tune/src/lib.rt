@@ -1,0 +1,19 @@
+//! The block tuner: a block of instructions in an order that takes fewer turns and does the same.
+#![tactic(auto)]
+
+mod greedy;
+mod kinds;
+mod laws;
+mod turns;
+
+pub use greedy::tune;
+pub use kinds::allowed;
+pub use laws::{
+    a_block_is_tuned_one_way, a_result_sees_its_sources, an_instruction_sees_what_it_reads,
+    instructions_stand_by_their_words, instructions_that_are_apart_change_places,
+    orders_are_as_good, tuned_blocks_do_the_same,
+};
+pub use turns::span;
+
+#[cfg(test)]
+mod tests;
