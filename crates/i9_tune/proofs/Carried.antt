@@ -20,7 +20,7 @@ use Rattle.i9_model.specs.Memory.{Memory, region_of, is_big, half_bytes}
 use Rattle.i9_model.specs.Frames.{in_bytes, is_put}
 use Rattle.i9_model.specs.State.{State}
 use Rattle.i9_model.specs.Operands.{address, value, word_of, source_words}
-use Rattle.i9_model.specs.Access.{access_by, access_of, data_of, moved_access}
+use Rattle.i9_model.specs.Access.{Access, access_by, access_of, data_of, moved_access}
 use Rattle.i9_model.specs.Step.{Action, stored_of, moving, action_by, action_of}
 use Rattle.i9_model.proofs.Storing.{stored_agree, stored_kept}
 use Rattle.i9_model.proofs.SoundRuns.{words_long}
@@ -89,18 +89,15 @@ writes_beside area i s x ok miss h = by_transfer (transfer_of i.op) refl
 
 -- ---- one instruction
 
-moved_bytes : (area : ℕ × ℕ) (d : Direction) (a n : ℕ) → MissesBytes (data_of (moved_access d a n)) area → (k : ℕ) → k < n → in_bytes area.0 area.1 (wrapped (a + k)) ≡ false
-moved_bytes area Load a n miss = miss
-moved_bytes area Store a n miss = miss
-
 agree_there : (area : ℕ × ℕ) (i : Inst) (s t : State) → DiffersIn area s t → MissesBytes (data_of (access_of i s)) area → Agree i s t
 agree_there area i s t differs miss = record {
   regs = λ k h. sym (ap (λ (u : State). u.regs k) differs.rest);
   code = λ h. sym (ap (λ (u : State). u.ac % 8) differs.rest);
-  mask = sym (ap (λ (u : State). bit u.ac 12) differs.rest);
-  orders = sym (ap (λ (u : State). u.memory.mcon) differs.rest);
-  bytes = λ m e k h. sym (differs.bytes (wrapped (address s i.ea + k))
-      (moved_bytes area m.direction (address s i.ea) (byte_count m.size) (subst (λ (o : Option Transfer). MissesBytes (data_of (access_by o i s)) area) e miss) k h));
+  beside = record {
+    mask = sym (ap (λ (u : State). bit u.ac 12) differs.rest);
+    orders = sym (ap (λ (u : State). u.memory.mcon) differs.rest);
+    bytes = λ a n reads k h. sym (differs.bytes (wrapped (a + k)) (subst (λ (x : Access). MissesBytes (data_of x) area) reads miss k h));
+  };
 }
 
 -- where two states differ in the area alone, and what is done in both

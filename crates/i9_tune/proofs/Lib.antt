@@ -1,5 +1,6 @@
 pub mod Inputs
 pub mod Sources
+pub mod ReadRegisters
 pub mod Swaps
 pub mod Taken
 pub mod Watched

@@ -41,33 +41,36 @@ use Rattle.i9_model.proofs.Readings.{map_below, words_same}
 use Rattle.i9_model.proofs.AlikeActions.{stored_words_same}
 use Rattle.i9_tune.specs.Inputs.{Change, Keeps, changed, is_code, AreSame}
 use Rattle.i9_tune.specs.Blocks.{is_result_name, is_lda, is_relative, is_allowed_name, is_allowed}
-use Rattle.i9_tune.specs.Deeds.{Agree, Deed, deed_action, DoesSame, AreSameBytes}
+use Rattle.i9_tune.specs.Deeds.{AreSameBytes, is_register_read, Agree, Deed, deed_action, DoesSame}
 use Rattle.i9_tune.proofs.Inputs.{Four, result_same}
 
 -- ---- what is read
 
-reads_a : (i : Inst) (k : ℕ) → is_in_operand i.a (words_read (row_of i.op).a) k ≡ true → is_read i k ≡ true
-reads_a i k h = or_left _ _ (or_left _ _ (or_left _ _ (or_left _ _ (or_left _ _ h))))
+reads_a : (i : Inst) (k : ℕ) → is_in_operand i.a (words_read (row_of i.op).a) k ≡ true → is_register_read i k ≡ true
+reads_a i k h = or_left _ _ (or_left _ _ (or_left _ _ (or_left _ _ h)))
 
-reads_b : (i : Inst) (k : ℕ) → is_in_operand i.b (words_read (row_of i.op).b) k ≡ true → is_read i k ≡ true
-reads_b i k h = or_left _ _ (or_left _ _ (or_left _ _ (or_left _ _ (or_right _ _ h))))
+reads_b : (i : Inst) (k : ℕ) → is_in_operand i.b (words_read (row_of i.op).b) k ≡ true → is_register_read i k ≡ true
+reads_b i k h = or_left _ _ (or_left _ _ (or_left _ _ (or_right _ _ h)))
 
-reads_c : (i : Inst) (k : ℕ) → is_in_operand i.c (words_read (row_of i.op).c) k ≡ true → is_read i k ≡ true
-reads_c i k h = or_left _ _ (or_left _ _ (or_left _ _ (or_right _ _ h)))
+reads_c : (i : Inst) (k : ℕ) → is_in_operand i.c (words_read (row_of i.op).c) k ≡ true → is_register_read i k ≡ true
+reads_c i k h = or_left _ _ (or_left _ _ (or_right _ _ h))
 
 also : (b c : Bool) → b ≡ true → c ≡ true → (b && c) ≡ true
 also true true h k = refl
 also false c h k = absurd (cc h)
 also true false h k = absurd (cc k)
 
-reads_base : (i : Inst) → has_base i.ea.mode ≡ true → is_read i i.ea.base ≡ true
-reads_base i h = or_left _ _ (or_left _ _ (or_right _ _ (also _ _ h (eq-eqb i.ea.base i.ea.base refl))))
+reads_base : (i : Inst) → has_base i.ea.mode ≡ true → is_register_read i i.ea.base ≡ true
+reads_base i h = or_left _ _ (or_right _ _ (also _ _ h (eq-eqb i.ea.base i.ea.base refl)))
 
-reads_index : (i : Inst) → has_index i.ea.mode ≡ true → is_read i i.ea.index ≡ true
-reads_index i h = or_left _ _ (or_right _ _ (also _ _ h (eq-eqb i.ea.index i.ea.index refl)))
+reads_index : (i : Inst) → has_index i.ea.mode ≡ true → is_register_read i i.ea.index ≡ true
+reads_index i h = or_right _ _ (also _ _ h (eq-eqb i.ea.index i.ea.index refl))
 
-reads_its_code : (i : Inst) → reads_code i.op ≡ true → is_read i CONDITION_CODE ≡ true
-reads_its_code i h = or_right _ _ (also _ _ h refl)
+pub register_is_read : (i : Inst) (k : ℕ) → is_register_read i k ≡ true → is_read i k ≡ true
+register_is_read i k h = or_left _ _ h
+
+pub code_is_read : (i : Inst) → reads_code i.op ≡ true → is_read i CONDITION_CODE ≡ true
+code_is_read i h = or_right _ _ (also _ _ h refl)
 
 -- ---- sources
 
@@ -161,7 +164,7 @@ answer_same i s t ok same =
     (operand_four s t i.a (words_read (row_of i.op).a) ok.a (λ k h. same.regs k (reads_a i k h)))
     (operand_two s t i.b (words_read (row_of i.op).b) (second_few i.op) ok.b (λ k h. same.regs k (reads_b i k h)))
     (λ h. operand_words s t i.c (words_read (row_of i.op).c) ok.c (λ k r. same.regs k (reads_c i k r)) 0 h)
-    (λ h. same.code (reads_its_code i h)) same.mask
+    same.code same.beside.mask
 
 -- by its name an allowed instruction has a result, or is lda, or moves
 named : (op : Op) (i : Inst) (s : State) → action_by_name op i s ≡ cond (is_result_name op) (resulting i s (answer_in i s)) (action_by_name op i s)
@@ -237,16 +240,16 @@ moving_is Load size signed i s ok = plain_target i.c (loaded size signed s.memor
 moving_is Store size signed i s ok = refl
 
 moving_agree : (d : Direction) (size : Size) (signed : Bool) (i : Inst) (s t : State) → IsAllowed i → Agree i s t
-    → AreSameBytes s.memory t.memory (address s i.ea) (byte_count size) → (d ≡ Store → words_read (row_of i.op).c ≡ register_count size)
+    → (d ≡ Load → AreSameBytes s.memory t.memory (address s i.ea) (byte_count size)) → (d ≡ Store → words_read (row_of i.op).c ≡ register_count size)
     → moving_deed d size signed i s ≡ moving_deed d size signed i t
 moving_agree Load size signed i s t ok same bytes row =
-    let e = loaded_agree size signed s.memory t.memory _ same.orders bytes in
+    let e = loaded_agree size signed s.memory t.memory _ same.beside.orders (bytes refl) in
     let f = ap (λ (a : ℕ). loaded size signed t.memory a) (address_same i s t ok same) in
     ap (λ (vs : List ℕ). record { sets = assigned i.c vs; change = Keeps; writes = [] }) (e ∙ f)
 moving_agree Store size signed i s t ok same bytes row =
     let count = row refl in
     let words = operand_words s t i.c (words_read (row_of i.op).c) ok.c (λ k r. same.regs k (reads_c i k r)) in
-    let e = stored_agree size s t i.c (address s i.ea) same.orders (λ k h. words k (omega (arith, count, h))) in
+    let e = stored_agree size s t i.c (address s i.ea) same.beside.orders (λ k h. words k (omega (arith, count, h))) in
     ap (λ (bs : List ℕ). record { sets = []; change = Keeps; writes = upwards (address s i.ea) bs }) e
     ∙ ap (λ (a : ℕ). record { sets = []; change = Keeps; writes = upwards a (stored_of size t i.c a) }) (address_same i s t ok same)
 
@@ -313,10 +316,12 @@ move_does i s t m ok same e =
     let acts : (u : State) → action_of i u ≡ deed_action i u (moving_deed m.direction m.size m.signed i u) =
     λ u. ap (λ (o : Option Transfer). action_by o i u) e ∙ moving_is m.direction m.size m.signed i u ok in
     let deed = moving_deed m.direction m.size m.signed i s in
+    let bytes : m.direction ≡ Load → AreSameBytes s.memory t.memory (address s i.ea) (byte_count m.size) = λ load.
+    same.beside.bytes (address s i.ea) (byte_count m.size) (ap (λ (o : Option Transfer). access_by o i s) e ∙ ap (λ (d : Direction). moved_access d (address s i.ea) (byte_count m.size)) load) in
     record {
       deed = deed;
       here = acts s;
-      there = acts t ∙ ap (λ (d : Deed). deed_action i t d) (sym (moving_agree m.direction m.size m.signed i s t ok same (same.bytes m e) (stores_registers i.op m e)));
+      there = acts t ∙ ap (λ (d : Deed). deed_action i t d) (sym (moving_agree m.direction m.size m.signed i s t ok same bytes (stores_registers i.op m e)));
       coded = keeps m.direction;
       quiet = λ h. absurd (both_ways (is_request_name i.op) h (ap is_some e));
       access = access_agree i s t ok same;

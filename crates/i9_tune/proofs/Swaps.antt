@@ -34,7 +34,7 @@ use Rattle.i9_model.specs.declared.run.End.TheVariants.{Exit}
 use Rattle.std.proofs.lemmas.Nat.{or_comm, or_shifted, or_shr, or_block}
 use Rattle.i9_model.specs.Needs.{is_request_name}
 use Rattle.i9_model.specs.Alike.{with_other}
-use Rattle.i9_model.specs.Access.{Access, NoAccess, access_by, access_of, data_of, moved_access, hazard_in, hazard_of}
+use Rattle.i9_model.specs.Access.{Access, NoAccess, Reads, access_by, access_of, data_of, moved_access, hazard_in, hazard_of}
 use Rattle.i9_model.specs.Standing.{raised_in, later_fault}
 use Rattle.i9_model.specs.Step.{Action, following, action_of, moved, acted, counted}
 use Rattle.i9_model.specs.Run.{exit_in}
@@ -46,7 +46,7 @@ use Rattle.i9_tune.specs.Inputs.{Change, Keeps, Codes, Flags, changed, is_code}
 use Rattle.i9_tune.specs.Blocks.{is_allowed_name, Spares, AreApart}
 use Rattle.i9_tune.specs.Deeds.{Agree, Deed, deed_action, DoesSame}
 use Rattle.i9_tune.specs.Passes.{MissesBytes, is_watched, is_seen, Passes, stepped, port_bytes, ArePassed, behind, sent, AreAsGood}
-use Rattle.i9_tune.proofs.Sources.{IsAllowed, does_same, still, other_memory}
+use Rattle.i9_tune.proofs.Sources.{IsAllowed, register_is_read, code_is_read, does_same, still, other_memory}
 
 -- ---- the state behind a deed
 
@@ -66,7 +66,7 @@ unfolding acted moved
 stepped_by i s d e = ap (λ (a : Action). counted 1 (acted s a)) e
 
 pub same_here : (i : Inst) (s : State) → Agree i s s
-same_here i s = record { regs = λ k h. refl; code = λ h. refl; mask = refl; orders = refl; bytes = λ m e k h. refl }
+same_here i s = record { regs = λ k h. refl; code = λ h. refl; beside = record { mask = refl; orders = refl; bytes = λ a n e k h. refl } }
 
 -- ---- what it leaves
 
@@ -114,8 +114,18 @@ unspared i j k spares r = by_test (is_written i k) refl
 
 -- ---- what the other one reads is left
 
-no_request : (i : Inst) (m : Transfer) → transfer_of i.op ≡ Some m → is_request_name i.op ≡ true
-no_request i m e = ap is_some e
+is_request : (i : Inst) (m : Transfer) → transfer_of i.op ≡ Some m → is_request_name i.op ≡ true
+is_request i m e = ap is_some e
+
+-- what reads is a load
+load_request : (i : Inst) (s : State) (a n : ℕ) → IsAllowed i → access_of i s ≡ Reads a n → is_request_name i.op ≡ true
+load_request i s a n ok reads = by_transfer (transfer_of i.op) refl
+  where
+    by_transfer : (o : Option Transfer) → transfer_of i.op ≡ o → is_request_name i.op ≡ true
+    by_transfer (Some m) e = is_request i m e
+    by_transfer None e =
+        let none : access_of i s ≡ NoAccess = ap (λ (o : Option Transfer). access_by o i s) e ∙ still i.op i s ∙ cond-true _ _ _ ok.name in
+        absurd (cc (sym none ∙ reads))
 
 quiet_other : (a b : Bool) → (a && b) ≡ false → b ≡ true → a ≡ false
 quiet_other false b h k = refl
@@ -125,21 +135,23 @@ with_none : (m : Memory) → with_writes m [] ≡ m
 unfolding written
 with_none m = refl
 
-agree_deed : (i j : Inst) (s : State) (d : Deed) → action_of i s ≡ deed_action i s d → (is_request_name i.op ≡ false → d.writes ≡ []) → Spares i j → (is_request_name i.op && is_request_name j.op) ≡ false
+agree_deed : (i j : Inst) (s : State) (d : Deed) → IsAllowed j → action_of i s ≡ deed_action i s d → (is_request_name i.op ≡ false → d.writes ≡ []) → Spares i j → (is_request_name i.op && is_request_name j.op) ≡ false
     → Agree j s (after_deed i s d)
-agree_deed i j s d e quiet spares requests = record {
-  regs = λ k r. sym (written-last s.regs d.sets k ∙ ap (λ (o : Option ℕ). unwrap_or o (s.regs k)) (unset i s d k e (unspared i j k spares r)));
-  code = λ r. sym (sym (ap (λ (a : Action). a.ac % 8) e) ∙ code_beside i s (writes_no_code i (unspared i j CONDITION_CODE spares r)));
-  mask = sym (change_mask d.change s.ac);
-  orders = refl;
-  bytes = λ m t k h. let none = quiet (quiet_other _ _ requests (no_request j m t)) in
-      sym (ap (λ (ws : List (ℕ × ℕ)). (with_writes s.memory ws).bytes (wrapped (address s j.ea + k))) none ∙ ap (λ (n : Memory). n.bytes (wrapped (address s j.ea + k))) (with_none s.memory));
+agree_deed i j s d ok e quiet spares requests = record {
+  regs = λ k r. sym (written-last s.regs d.sets k ∙ ap (λ (o : Option ℕ). unwrap_or o (s.regs k)) (unset i s d k e (unspared i j k spares (register_is_read j k r))));
+  code = λ r. sym (sym (ap (λ (a : Action). a.ac % 8) e) ∙ code_beside i s (writes_no_code i (unspared i j CONDITION_CODE spares (code_is_read j r))));
+  beside = record {
+    mask = sym (change_mask d.change s.ac);
+    orders = refl;
+    bytes = λ a n reads k h. let none = quiet (quiet_other _ _ requests (load_request j s a n ok reads)) in
+        sym (ap (λ (ws : List (ℕ × ℕ)). (with_writes s.memory ws).bytes (wrapped (a + k))) none ∙ ap (λ (m : Memory). m.bytes (wrapped (a + k))) (with_none s.memory));
+  };
 }
 
-pub agree_after : (i j : Inst) (s : State) → IsAllowed i → Spares i j → (is_request_name i.op && is_request_name j.op) ≡ false → Agree j s (stepped i s)
-agree_after i j s ok spares requests =
+pub agree_after : (i j : Inst) (s : State) → IsAllowed i → IsAllowed j → Spares i j → (is_request_name i.op && is_request_name j.op) ≡ false → Agree j s (stepped i s)
+agree_after i j s ok other spares requests =
     let x = does_same i s s ok (same_here i s) in
-    subst (Agree j s) (sym (stepped_by i s x.deed x.here)) (agree_deed i j s x.deed x.here x.quiet spares requests)
+    subst (Agree j s) (sym (stepped_by i s x.deed x.here)) (agree_deed i j s x.deed other x.here x.quiet spares requests)
 
 -- ---- what decides whether it is done
 
@@ -184,7 +196,7 @@ hazard_same i s t ok access frames = by_transfer (transfer_of i.op) refl
     by_transfer : (o : Option Transfer) → transfer_of i.op ≡ o → hazard_in s (access_of i s) ≡ hazard_in t (access_of i t)
     by_transfer (Some m) e =
         let here : access_of i s ≡ moved_access m.direction (address s i.ea) (byte_count m.size) = ap (λ (o : Option Transfer). access_by o i s) e in
-        ap (hazard_in s) here ∙ moved_hazard m.direction (address s i.ea) (byte_count m.size) s t (frames (no_request i m e)) ∙ ap (hazard_in t) (sym here ∙ access)
+        ap (hazard_in s) here ∙ moved_hazard m.direction (address s i.ea) (byte_count m.size) s t (frames (is_request i m e)) ∙ ap (hazard_in t) (sym here ∙ access)
     by_transfer None e =
         let none : (u : State) → access_of i u ≡ NoAccess = λ u. ap (λ (o : Option Transfer). access_by o i u) e ∙ still i.op i u ∙ cond-true _ _ _ ok.name in
         ap (hazard_in s) (none s) ∙ sym (ap (hazard_in t) (none t))
@@ -343,8 +355,8 @@ pub record Square (i j : Inst) (s : State) : Type 0 where
 pub square : (i j : Inst) (s : State) → IsAllowed i → IsAllowed j → AreApart i j → Square i j s
 square i j s p q apart =
     let requests = swapped (is_request_name i.op) (is_request_name j.op) apart.requests in
-    let x = does_same i s (stepped j s) p (agree_after j i s q apart.second requests) in
-    let y = does_same j s (stepped i s) q (agree_after i j s p apart.first apart.requests) in
+    let x = does_same i s (stepped j s) p (agree_after j i s q p apart.second requests) in
+    let y = does_same j s (stepped i s) q (agree_after i j s p q apart.first apart.requests) in
     let d = x.deed in
     let e = y.deed in
     let one = one_empty _ _ d.writes e.writes apart.requests x.quiet y.quiet in

@@ -1,17 +1,17 @@
 -- What an allowed instruction does to registers, controls and memory, and of what it depends.
-use Rattle.std.specs.Prelude.{◌≡◌, ℕ, ◌+◌, ◌<◌, ◌%◌, true, false, Some, List, []}
+use Rattle.std.specs.Prelude.{◌≡◌, ℕ, ◌+◌, ◌<◌, ◌%◌, ◌==◌, ◌&&◌, ◌||◌, Bool, true, false, List, []}
+use Rattle.std.specs.Int.{bit_at}
 use Rattle.i9_isa.specs.declared.inst.Inst.{Inst}
-use Rattle.i9_isa.specs.declared.size.Transfer.{Transfer}
-use Rattle.i9_isa.specs.declared.resources.TheConstants.{CONDITION_CODE}
-use Rattle.i9_isa.specs.Resources.{is_read, writes_code}
-use Rattle.i9_isa.specs.Transfers.{transfer_of, byte_count}
+use Rattle.i9_isa.specs.Operands.{words_read, has_base, has_index}
+use Rattle.i9_isa.specs.Resources.{is_in_operand, reads_code, writes_code}
+use Rattle.i9_isa.specs.Table.{row_of}
 use Rattle.i9_isa.specs.Words.{bit}
 use Rattle.i9_model.specs.Writes.{wrapped}
 use Rattle.i9_model.specs.Memory.{Memory}
 use Rattle.i9_model.specs.State.{State}
-use Rattle.i9_model.specs.Operands.{address}
 use Rattle.i9_model.specs.Needs.{is_request_name}
-use Rattle.i9_model.specs.Access.{access_of}
+use Rattle.i9_model.specs.Late.{resource, resources}
+use Rattle.i9_model.specs.Access.{Reads, access_of}
 use Rattle.i9_model.specs.Standing.{later_fault}
 use Rattle.i9_model.specs.Step.{Action, passing, action_of}
 use Rattle.i9_tune.specs.Inputs.{Change, changed, is_code}
@@ -20,14 +20,31 @@ use Rattle.i9_tune.specs.Inputs.{Change, changed, is_code}
 abbrev pub AreSameBytes : Memory → Memory → ℕ → ℕ → Type 0
 AreSameBytes m n a count = (k : ℕ) → k < count → m.bytes (wrapped (a + k)) ≡ n.bytes (wrapped (a + k))
 
--- The second state has what the instruction reads in the first one: its resources, bit 12 of the arithmetic controls,
--- the orders of bytes, and the bytes of its load or store.
-pub record Agree (i : Inst) (s t : State) : Type 0 where
-  pub regs : (k : ℕ) → is_read i k ≡ true → s.regs k ≡ t.regs k
-  pub code : is_read i CONDITION_CODE ≡ true → s.ac % 8 ≡ t.ac % 8
+-- What the instruction sees beside registers and condition code, the second state has as the first one: bit 12 of the
+-- arithmetic controls, the orders of bytes, and the bytes that it loads.
+pub record AgreeBeside (i : Inst) (s t : State) : Type 0 where
   pub mask : bit s.ac 12 ≡ bit t.ac 12
   pub orders : s.memory.mcon ≡ t.memory.mcon
-  pub bytes : (m : Transfer) → transfer_of i.op ≡ Some m → AreSameBytes s.memory t.memory (address s i.ea) (byte_count m.size)
+  pub bytes : (a n : ℕ) → access_of i s ≡ Reads a n → AreSameBytes s.memory t.memory a n
+
+-- register k is read, as an operand or for the address
+abbrev pub is_register_read : Inst → ℕ → Bool
+is_register_read i k =
+    is_in_operand i.a (words_read (row_of i.op).a) k
+    || is_in_operand i.b (words_read (row_of i.op).b) k
+    || is_in_operand i.c (words_read (row_of i.op).c) k
+    || (has_base i.ea.mode && (k == i.ea.base))
+    || (has_index i.ea.mode && (k == i.ea.index))
+
+-- the second state has all that the instruction sees as the first one
+pub record Agree (i : Inst) (s t : State) : Type 0 where
+  pub regs : (k : ℕ) → is_register_read i k ≡ true → s.regs k ≡ t.regs k
+  pub code : reads_code i.op ≡ true → s.ac % 8 ≡ t.ac % 8
+  pub beside : AgreeBeside i s t
+
+-- two states have the same in the resources of a set
+abbrev pub AreSameIn : ℕ → State → State → Type 0
+AreSameIn set s t = (r : ℕ) → r < resources → bit_at set r ≡ 1 → resource s r ≡ resource t r
 
 -- the registers that are set, what is made of the arithmetic controls, and the bytes that are written
 pub record Deed : Type 0 where

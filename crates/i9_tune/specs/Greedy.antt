@@ -73,13 +73,15 @@ pub record IsChosen (taken before : List Inst) (x : Inst) (behind : List Inst) :
 -- it is the one with so many before it
 abbrev pub IsChosenAt : List Inst → List Inst → ℕ → Type 0
 IsChosenAt taken left k =
-    (before : List Inst) × (x : Inst) × (behind : List Inst) × (left ≡ before ++ x ∷ behind) × (length before ≡ k) × IsChosen taken before x behind
+    (before : List Inst) × (x : Inst) × (behind : List Inst) × (left ≡ before ++ x ∷ behind) × (length before ≡ k)
+    × IsChosen taken before x behind
 
 -- The order takes the one that is to be taken, again and again. Those that are taken stand the newest first.
 abbrev pub IsGreedy : List Inst → List Inst → List Inst → Type 0
 IsGreedy taken left [] = left ≡ []
 IsGreedy taken left (x ∷ order) =
-    (before : List Inst) × (behind : List Inst) × (left ≡ before ++ x ∷ behind) × IsChosen taken before x behind × IsGreedy (x ∷ taken) (before ++ behind) order
+    (before : List Inst) × (behind : List Inst) × (left ≡ before ++ x ∷ behind) × IsChosen taken before x behind
+    × IsGreedy (x ∷ taken) (before ++ behind) order
 
 -- an order, where all of it is done earlier, else the block
 abbrev pub better : List Inst → List Inst → List Inst

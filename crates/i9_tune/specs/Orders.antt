@@ -9,7 +9,8 @@ use Rattle.i9_tune.specs.Blocks.{is_allowed, AreApart}
 abbrev pub IsOrder : List Inst → List Inst → Type 0
 IsOrder block [] = block ≡ []
 IsOrder block (x ∷ order) =
-    (before : List Inst) × (behind : List Inst) × (block ≡ before ++ x ∷ behind) × AllByRecursion (λ i. AreApart i x) before × IsOrder (before ++ behind) order
+    (before : List Inst) × (behind : List Inst) × (block ≡ before ++ x ∷ behind) × AllByRecursion (λ i. AreApart i x) before
+    × IsOrder (before ++ behind) order
 
 -- each is allowed
 abbrev pub AreAllowed : List Inst → Type 0

@@ -7,13 +7,16 @@ ghost use Rattle.i9_isa.specs.Words.{bit};
 ghost use Rattle.i9_isa.specs.Resources.{reads_code};
 ghost use Rattle.i9_isa.specs.Operands.{words_read};
 ghost use Rattle.i9_isa.specs.Table.{row_of};
+ghost use Rattle.i9_isa.specs.Valid.{IsValid};
+ghost use Rattle.i9_model.specs.declared.need.Facts.{Facts};
+ghost use Rattle.i9_model.specs.Needs.{inst_need};
 ghost use Rattle.i9_model.specs.Results.{results_by};
 ghost use Rattle.std.specs.List.Sorted.{IsPermutation};
 ghost use Rattle.i9_model.specs.Memory.{Memory};
 ghost use Rattle.i9_model.specs.State.{State};
 ghost use Rattle.i9_tune.specs.Inputs.{IsSameWords, AreSame};
 ghost use Rattle.i9_tune.specs.Blocks.{is_allowed, AreApart};
-ghost use Rattle.i9_tune.specs.Deeds.{Agree, DoesSame};
+ghost use Rattle.i9_tune.specs.Deeds.{Agree, AgreeBeside, AreSameIn, DoesSame};
 ghost use Rattle.i9_tune.specs.Passes.{ArePassed, AreAsGood};
 ghost use Rattle.i9_tune.specs.Orders.{IsOrder, AreAllowed};
 ghost use Rattle.i9_tune.specs.Standings.{byte_length, StandAt, AreWords, HoldsWords, Replaces, DoTheSame};
@@ -29,9 +32,13 @@ pub fn a_result_sees_its_sources()
         → AreSame op ac bc (results_by op a b c ac) (results_by op x y z bc) }
 {}
 
-/// An allowed instruction does the same where all that it reads is the same.
+/// An allowed instruction does the same where all that it reads is the same: its registers and the condition code, which
+/// for a valid one are the resources that its need reads, and beside them bit 12 of the arithmetic controls, the orders
+/// of bytes and the bytes that it loads.
 pub fn an_instruction_sees_what_it_reads()
-    ensures { (i : Inst) (s t : State) → is_allowed i ≡ true → Agree i s t → DoesSame i s t }
+    ensures reads { (i : Inst) (s t : State) → is_allowed i ≡ true → Agree i s t → DoesSame i s t }
+    ensures need { (f : Facts) (i : Inst) (s t : State) → IsValid i → is_allowed i ≡ true
+        → AreSameIn (inst_need i f).reads s t → AgreeBeside i s t → DoesSame i s t }
 {}
 
 /// Two instructions that are apart may change places.
