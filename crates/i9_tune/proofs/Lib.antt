@@ -8,6 +8,7 @@ pub mod Stood
 pub mod Carried
 pub mod Fetched
 pub mod Plain
+pub mod Fronts
 pub mod Chosen
 pub mod Depend
 pub mod Extended

@@ -5,4 +5,5 @@ pub mod Passes
 pub mod Orders
 pub mod Standings
 pub mod Greedy
+pub mod Fronts
 pub mod Reading

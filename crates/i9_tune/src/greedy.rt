@@ -7,37 +7,11 @@ ghost use Rattle.i9_model.specs.Turns.{StandsFor, IsAllDone};
 ghost use Rattle.i9_tune.specs.Greedy.{depends, is_free, turns_of, span_of, IsChosenAt, IsGreedy, IsTuned, AreTunable};
 ghost use Rattle.i9_tune.specs.Orders.{IsOrder};
 
+use crate::front::Front;
 use crate::turns::{plain_need, span};
 use i9_isa::{Inst, NoMemory};
 use i9_issue::Board;
 use std::alloc::Global;
-
-/// Whether one writes what the other reads or writes, or both are loads or stores.
-fn depends(a: &Inst, b: &Inst) -> bool
-    requires first { IsValid a.now }
-    requires second { IsValid b.now }
-    ensures { result ≡ depends a.now b.now }
-{
-    let a = plain_need(a);
-    let b = plain_need(b);
-    a.writes & (b.reads | b.writes) != 0
-        || b.writes & (a.reads | a.writes) != 0
-        || (a.request && b.request)
-}
-
-/// Whether an instruction depends on none of those before it.
-fn is_free(before: &[Inst], i: &Inst) -> bool
-    requires valid { AreTunable before.now }
-    requires one { IsValid i.now }
-    ensures { result ≡ is_free before.now i.now }
-{
-    for k in 0..before.len() {
-        if depends(&before[k], i) {
-            return false;
-        }
-    }
-    true
-}
 
 /// Which of the instructions that are left is to be taken: of those that depend on none before them the one that
 /// issues first, and of more than one the earliest.
@@ -48,16 +22,21 @@ fn choose(board: &Board, left: &[Inst]) -> usize
     ensures within { result < length left.now }
     ensures chosen { (taken : List Inst) → StandsFor board.now (turns_of taken) → IsChosenAt taken left.now result }
 {
+    let first = plain_need(&left[0]);
+    let mut front = Front::new();
+    front.add(&first);
     let mut best = 0;
-    let mut least = board.next_turn(&plain_need(&left[0]));
+    let mut least = board.next_turn(&first);
     for k in 1..left.len() {
-        if is_free(&left[..k], &left[k]) {
-            let turn = board.next_turn(&plain_need(&left[k]));
+        let need = plain_need(&left[k]);
+        if !front.binds(&need) {
+            let turn = board.next_turn(&need);
             if turn < least {
                 best = k;
                 least = turn;
             }
         }
+        front.add(&need);
     }
     best
 }

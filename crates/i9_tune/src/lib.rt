@@ -1,6 +1,7 @@
 //! The block tuner: a block of instructions in an order that takes fewer turns and does the same.
 #![tactic(auto)]
 
+mod front;
 mod greedy;
 mod kinds;
 mod laws;
