@@ -13,5 +13,6 @@ pub mod Chosen
 pub mod Depend
 pub mod Extended
 pub mod Tuned
+pub mod SomeOrder
 pub mod OneOrder
 pub mod Worded

@@ -32,7 +32,7 @@ no_more_by false block order e = omega arith
 pub tuned_no_more : (block tuned : List Inst) → IsTuned block tuned → span_of tuned ≤ span_of block
 tuned_no_more block tuned t = subst (λ (is : List Inst). span_of is ≤ span_of block) (sym t.2) (no_more_by (nat_lt (span_of t.0) (span_of block)) block t.0 refl)
 
-one_less : (before : List Inst) (x : Inst) (behind : List Inst) → length (before ++ x ∷ behind) ≡ suc (length (before ++ behind))
+pub one_less : (before : List Inst) (x : Inst) (behind : List Inst) → length (before ++ x ∷ behind) ≡ suc (length (before ++ behind))
 one_less [] x behind = refl
 one_less (i ∷ before) x behind = ap suc (one_less before x behind)
 

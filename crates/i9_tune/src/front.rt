@@ -8,7 +8,7 @@ use i9_model::Need;
 
 /// What the instructions that stand before others read and write, as sets of resources, and whether one of them is a
 /// load or a store. So whether another one depends on one of them takes the same steps however many they are.
-#[derive(Clone, Copy, Debug)]
+#[derive(Clone, Copy)]
 pub(crate) struct Front {
     /// The resources that are read or written.
     touched: u64,

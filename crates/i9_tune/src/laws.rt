@@ -64,9 +64,10 @@ pub fn tuned_blocks_do_the_same()
         → Replaces block tuned s t → DoTheSame (s.ip, byte_length block) block tuned s t }
 {}
 
-/// A block has one greedy order, and so one tuned block, which keeps the order of instructions that depend on each
-/// other, and takes no more turns.
+/// A block has one greedy order, and so one tuned block. That is a permutation of it in which instructions that depend on
+/// each other keep their order, and takes no more turns.
 pub fn a_block_is_tuned_one_way()
+    ensures some { (block : List Inst) → (tuned : List Inst) × IsTuned block tuned }
     ensures greedy { (block p q : List Inst) → IsGreedy [] block p → IsGreedy [] block q → p ≡ q }
     ensures tuned { (block p q : List Inst) → IsTuned block p → IsTuned block q → p ≡ q }
     ensures order { (block tuned : List Inst) → AreTunable block → IsTuned block tuned → IsOrder block tuned }

@@ -40,8 +40,8 @@ pub fn span(block: &[Inst]) -> u64
     ensures { result ≡ span_of block.now }
 {
     let mut board = Board::new();
-    for k in 0..block.len() {
-        board.place(&plain_need(&block[k]));
+    for inst in block {
+        board.place(&plain_need(inst));
     }
     board.all_done()
 }
