@@ -7,6 +7,8 @@ pub mod Watched
 pub mod Stood
 pub mod Carried
 pub mod Fetched
+pub mod Loaded
+pub mod InBlock
 pub mod Plain
 pub mod Fronts
 pub mod Chosen

@@ -1,12 +1,14 @@
 //! The block tuner: a block of instructions in an order that takes fewer turns and does the same.
 #![tactic(auto)]
 
+mod block;
 mod front;
 mod greedy;
 mod kinds;
 mod laws;
 mod turns;
 
+pub use block::{BlockError, BlockFault, Flaw, block_in};
 pub use greedy::tune;
 pub use kinds::allowed;
 pub use laws::{
