@@ -9,6 +9,7 @@ pub mod Carried
 pub mod Fetched
 pub mod Loaded
 pub mod InBlock
+pub mod Lines
 pub mod Plain
 pub mod Fronts
 pub mod Chosen

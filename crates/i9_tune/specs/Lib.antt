@@ -7,3 +7,4 @@ pub mod Standings
 pub mod Greedy
 pub mod Fronts
 pub mod Reading
+pub mod Tuning

@@ -15,7 +15,7 @@ use Rattle.i9_tune.specs.declared.block.BlockError.TheVariants.{Bad, Memory}
 use Rattle.i9_tune.specs.Blocks.{is_allowed}
 
 -- the kind of a flaw
-abbrev pub kind_of : Flaw → ℕ
+unfoldable pub kind_of : Flaw → ℕ
 kind_of NotLoaded = 1
 kind_of NotAllowed = 2
 

@@ -27,6 +27,7 @@ pub enum Flaw {
 
 impl Flaw {
     /// The kind.
+    #[tactic(auto, unfolding(crate::specs::Reading::kind_of))]
     pub fn kind(self) -> u8
         ensures { result ≡ kind_of self }
     {

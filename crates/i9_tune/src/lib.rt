@@ -6,6 +6,7 @@ mod front;
 mod greedy;
 mod kinds;
 mod laws;
+mod printing;
 mod turns;
 
 pub use block::{BlockError, BlockFault, Flaw, block_in};
@@ -16,6 +17,7 @@ pub use laws::{
     instructions_stand_by_their_words, instructions_that_are_apart_change_places,
     orders_are_as_good, tuned_blocks_do_the_same,
 };
+pub use printing::{block_line, tuning};
 pub use turns::span;
 
 #[cfg(test)]
