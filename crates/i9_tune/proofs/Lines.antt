@@ -1,11 +1,12 @@
 -- The lines of instructions as a listing has them.
-use Rattle.std.proofs.Common.{◌≡◌, ℕ, ◌+◌, ◌*◌, ◌%◌, ◌^◌, ◌<◌, Bool, true, false, cond, ◌||◌, List, [], ◌∷◌, ◌++◌, length, take, drop, slice_index_or, get_or, Option, Some, None, IsSome, IsNone, IfSome, Result, Ok, refl, sym, ap, ◌∙◌, subst, inl, inr, ◌⊎◌, arith}
+use Rattle.std.proofs.Common.{◌≡◌, ℕ, ◌+◌, ◌*◌, ◌%◌, ◌^◌, ◌<◌, ◌≤◌, Bool, true, false, cond, ◌||◌, List, [], ◌∷◌, ◌++◌, length, take, drop, slice_index_or, get_or, Option, Some, None, IsSome, IsNone, IfSome, Result, Ok, refl, sym, ap, ◌∙◌, subst, inl, inr, ◌⊎◌, arith}
 use Rattle.std.specs.Prelude.{nat_lt, codes}
 use Rattle.std.specs.List.{flat_map}
 use Rattle.std.specs.Int.{w32, to_le_bytes, from_le_bytes}
 use Rattle.std.specs.Int.Bits.{bit_and}
 use Rattle.std.proofs.lemmas.Bool.Decides.{nat_tests}
-use Rattle.std.proofs.lemmas.List.{append-nil, append_assoc}
+use Rattle.std.proofs.lemmas.List.{append-nil, append_assoc, drop_more, drop_all}
+use Rattle.std.proofs.lemmas.Grind.{flat_map-append}
 use Rattle.std.proofs.lemmas.Nat.{from_le_bytes-to_le_bytes_4}
 use Rattle.i9_isa.specs.declared.inst.Inst.{Inst}
 use Rattle.i9_isa.specs.declared.inst.BadWord.{BadWord}
@@ -15,6 +16,7 @@ use Rattle.i9_decode.specs.Ignored.{ignored_bits}
 use Rattle.i9_text.specs.Text.{space}
 use Rattle.i9_text.specs.Written.{word_text}
 use Rattle.i9_value.specs.NumberText.{hex_text, hex_byte_text}
+use Rattle.i9_model.specs.Writes.{wrapped}
 use Rattle.i9_hex.specs.Writing.{with_line_feed}
 use Rattle.i9_statement.specs.Statements.{statement_text}
 use Rattle.i9_statement.specs.Codes.{IsCode}
@@ -22,7 +24,7 @@ use Rattle.i9_asm.specs.Lines.{hash}
 use Rattle.i9_asm.specs.Listing.{text_by, word_at, is_single, whole_size, whole_text, line_size, said_text, noted_words, first_line}
 use Rattle.i9_statement.proofs.StatementWords.{one_or_two}
 use Rattle.i9_decode.specs.declared.encoder.Code.{Code}
-use Rattle.i9_tune.specs.Tuning.{one_word, two_words, code_line, words_in, spaced, AddsLine}
+use Rattle.i9_tune.specs.Tuning.{IsCodeOf, one_word, two_words, AreCodes, no_codes, more_codes, code_line, code_lines, words_in, spaced, AddsLine, AddsLines}
 
 -- ---- the line of an instruction that is whole
 
@@ -152,3 +154,44 @@ line_added a i first (Some v) old said marked head words new aligned coded e f g
       text = joined_line old said marked head words new (statement_text a i 0) (word_text a) (spaced first ++ spaced v) (code_line a (first ∷ v ∷ [])) e f g
           (h ∙ ap (λ (t : List ℕ). head ++ (spaced first ++ t)) (append-nil (spaced v))) k line;
     }
+
+-- ---- the lines of a block, of which more and more are there
+
+code_length : (i : Inst) (ws : List ℕ) → IsCodeOf i ws → length ws ≡ words_of i
+code_length i ws (one_word w one code) = sym one
+code_length i ws (two_words w v two code) = sym two
+
+-- the lines of the others from this address on go behind the text
+abbrev pub GoOn : ℕ → List Inst → List ℕ → ℕ → List Inst → List ℕ → Type 0
+GoOn a block old at rest text = (codes : List (List ℕ)) → AreCodes rest codes → AddsLines a block old (text ++ flat_map with_line_feed (code_lines at codes))
+
+pub go_start : (a : ℕ) (block : List Inst) (old : List ℕ) → GoOn a block old a block old
+go_start a block old codes are = record { codes = codes; words = are; text = refl }
+
+pub go_turn : (a : ℕ) (block : List Inst) (old : List ℕ) (at k next : ℕ) (d : Inst) (text more : List ℕ) → k < length block → AddsLine at (slice_index_or block k d) text more
+    → next ≡ wrapped (at + 4 * words_of (slice_index_or block k d)) → GoOn a block old at (drop k block) text → GoOn a block old next (drop (k + 1) block) more
+go_turn a block old at k next d text more lt line on go codes are =
+    let i = slice_index_or block k d in
+    let ws = line.words in
+    let there : drop k block ≡ i ∷ drop (k + 1) block = drop_more block k d lt in
+    let place : wrapped (at + 4 * length ws) ≡ next = ap (λ (n : ℕ). wrapped (at + 4 * n)) (code_length i ws line.is) ∙ sym on in
+    let all = go (ws ∷ codes) (subst (λ (is : List Inst). AreCodes is (ws ∷ codes)) (sym there) (more_codes i (drop (k + 1) block) ws codes line.is are)) in
+    let joins : text ++ flat_map with_line_feed (code_lines at (ws ∷ codes)) ≡ more ++ flat_map with_line_feed (code_lines next codes) =
+    ap (λ (n : ℕ). text ++ (with_line_feed (code_line at ws) ++ flat_map with_line_feed (code_lines n codes))) place
+    ∙ sym (append_assoc text (with_line_feed (code_line at ws)) (flat_map with_line_feed (code_lines next codes)))
+    ∙ ap (λ (t : List ℕ). t ++ flat_map with_line_feed (code_lines next codes)) (sym line.text) in
+    subst (AddsLines a block old) joins all
+
+pub go_end : (a : ℕ) (block : List Inst) (old : List ℕ) (at k : ℕ) (text : List ℕ) → length block ≤ k → GoOn a block old at (drop k block) text → AddsLines a block old text
+go_end a block old at k text past go =
+    subst (AddsLines a block old) (append-nil text) (go [] (subst (λ (is : List Inst). AreCodes is []) (sym (drop_all k block past)) no_codes))
+
+-- ---- the whole text
+
+pub text_whole : (org spans one two three : List ℕ) (lines : List (List ℕ)) → one ≡ with_line_feed org → two ≡ one ++ flat_map with_line_feed lines → three ≡ two ++ with_line_feed spans
+    → three ≡ flat_map with_line_feed (org ∷ (lines ++ spans ∷ []))
+text_whole org spans one two three lines e f g =
+    let all : three ≡ (with_line_feed org ++ flat_map with_line_feed lines) ++ with_line_feed spans = rw (g, f, e) refl in
+    all ∙ append_assoc (with_line_feed org) (flat_map with_line_feed lines) (with_line_feed spans)
+    ∙ ap (λ (t : List ℕ). with_line_feed org ++ (flat_map with_line_feed lines ++ t)) (sym (append-nil (with_line_feed spans)))
+    ∙ ap (λ (t : List ℕ). with_line_feed org ++ t) (sym (flat_map-append with_line_feed lines (spans ∷ [])))

@@ -50,7 +50,7 @@ spans_line a block tuned =
 pub record IsText (a : ℕ) (block tuned : List Inst) (text : List ℕ) : Type 0 where
   pub codes : List (List ℕ)
   pub words : AreCodes tuned codes
-  pub whole : text ≡ flat_map with_line_feed (org_line a ∷ code_lines a codes ++ spans_line a block tuned ∷ [])
+  pub whole : text ≡ flat_map with_line_feed (org_line a ∷ (code_lines a codes ++ spans_line a block tuned ∷ []))
 
 -- the lines of the tuned block
 pub record IsTuning (a : ℕ) (block : List Inst) (text : List ℕ) : Type 0 where

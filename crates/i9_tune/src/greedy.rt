@@ -70,6 +70,8 @@ pub fn tune(alloc: Global, block: &[Inst]) -> Result<Vec<Inst>, NoMemory>
     ensures tuned { IfOk result (λ tuned. IsTuned block.now tuned.items) }
     ensures order { IfOk result (λ tuned. IsOrder block.now tuned.items) }
     ensures no_more { IfOk result (λ tuned. span_of tuned.items ≤ span_of block.now) }
+    ensures tunable { IfOk result (λ tuned. AreTunable tuned.items) }
+    ensures count { IfOk result (λ tuned. length tuned.items ≡ length block.now) }
 {
     let order = greedy(alloc, block)?;
     if span(&order) < span(block) {
