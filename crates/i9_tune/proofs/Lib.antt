@@ -19,3 +19,4 @@ pub mod Tuned
 pub mod SomeOrder
 pub mod OneOrder
 pub mod Worded
+pub mod OneText

@@ -1,6 +1,6 @@
 //! Laws of blocks, as the contracts of calls that do nothing.
 
-ghost use Rattle.std.specs.Prelude.{◌≡◌, ◌<◌, ◌≤◌, ◌%◌, ◌∷◌, [], ℕ, List, true};
+ghost use Rattle.std.specs.Prelude.{◌≡◌, ◌<◌, ◌≤◌, ◌%◌, ◌∷◌, [], ℕ, List, Ok, true};
 ghost use Rattle.i9_isa.specs.declared.op.Op.{Op};
 ghost use Rattle.i9_isa.specs.declared.inst.Inst.{Inst};
 ghost use Rattle.i9_isa.specs.Words.{bit};
@@ -11,7 +11,9 @@ ghost use Rattle.i9_isa.specs.Valid.{IsValid};
 ghost use Rattle.i9_model.specs.declared.need.Facts.{Facts};
 ghost use Rattle.i9_model.specs.Needs.{inst_need};
 ghost use Rattle.i9_model.specs.Results.{results_by};
+ghost use Rattle.std.specs.List.{AllByRecursion};
 ghost use Rattle.std.specs.List.Sorted.{IsPermutation};
+ghost use Rattle.i9_model.specs.Writes.{last_put};
 ghost use Rattle.i9_model.specs.Memory.{Memory};
 ghost use Rattle.i9_model.specs.State.{State};
 ghost use Rattle.i9_tune.specs.Inputs.{IsSameWords, AreSame};
@@ -21,6 +23,8 @@ ghost use Rattle.i9_tune.specs.Passes.{ArePassed, AreAsGood};
 ghost use Rattle.i9_tune.specs.Orders.{IsOrder, AreAllowed};
 ghost use Rattle.i9_tune.specs.Standings.{byte_length, StandAt, AreWords, HoldsWords, Replaces, DoTheSame};
 ghost use Rattle.i9_tune.specs.Greedy.{AreTunable, IsGreedy, IsTuned, span_of};
+ghost use Rattle.i9_tune.specs.Reading.{block_at};
+ghost use Rattle.i9_tune.specs.Tuning.{IsTuning};
 
 /// A result sees of its sources the words that the name reads, and of the arithmetic controls bit 12 and, where the
 /// name reads it, the condition code.
@@ -73,6 +77,16 @@ pub fn a_block_is_tuned_one_way()
     ensures order { (block tuned : List Inst) → AreTunable block → IsTuned block tuned → IsOrder block tuned }
     ensures permutation { (block order : List Inst) → IsOrder block order → IsPermutation block order }
     ensures no_more { (block tuned : List Inst) → IsTuned block tuned → span_of tuned ≤ span_of block }
+{}
+
+/// A block that stands in an image of bytes may be tuned, and a block that may be tuned has one text.
+pub fn a_block_has_one_text()
+    ensures tunable { (pairs : List (ℕ × ℕ)) (n a : ℕ) (block : List Inst)
+        → AllByRecursion (λ (p : ℕ × ℕ). p.1 < 256) pairs
+        → block_at (last_put pairs) n a ≡ Ok block → AreTunable block }
+    ensures some { (a : ℕ) (block : List Inst) → AreTunable block → (text : List ℕ) × IsTuning a block text }
+    ensures one { (a : ℕ) (block : List Inst) (s t : List ℕ) → AreTunable block
+        → IsTuning a block s → IsTuning a block t → s ≡ t }
 {}
 
 /// Instructions stand where their words are in memory.

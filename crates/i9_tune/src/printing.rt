@@ -67,7 +67,12 @@ fn add_line(alloc: Global, text: &mut Vec<u8>, address: u32, inst: &Inst) -> Res
 }
 
 /// Appends the lines of instructions from an address on.
-fn add_lines(alloc: Global, text: &mut Vec<u8>, address: u32, block: &[Inst]) -> Result<(), AllocError>
+fn add_lines(
+    alloc: Global,
+    text: &mut Vec<u8>,
+    address: u32,
+    block: &[Inst],
+) -> Result<(), AllocError>
     requires tunable { AreTunable block.now }
     requires aligned { address % 4 ≡ 0 }
     ensures { OnOk result (AddsLines address block.now text.old.items text.new.items) }
@@ -114,7 +119,12 @@ fn add_spans(
 }
 
 /// The lines of a block at an address in another order.
-fn text_of(alloc: Global, address: u32, block: &[Inst], tuned: &[Inst]) -> Result<Vec<u8>, AllocError>
+fn text_of(
+    alloc: Global,
+    address: u32,
+    block: &[Inst],
+    tuned: &[Inst],
+) -> Result<Vec<u8>, AllocError>
     requires tunable { AreTunable block.now }
     requires few { length block.now ≤ 64 }
     requires tunable_too { AreTunable tuned.now }
