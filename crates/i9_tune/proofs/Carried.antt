@@ -24,27 +24,15 @@ use Rattle.i9_model.specs.Access.{Access, access_by, access_of, data_of, moved_a
 use Rattle.i9_model.specs.Step.{Action, stored_of, moving, action_by, action_of}
 use Rattle.i9_model.proofs.Storing.{stored_agree, stored_kept}
 use Rattle.i9_model.proofs.SoundRuns.{words_long}
-use Rattle.i9_tune.specs.Deeds.{Agree, Deed}
+use Rattle.i9_tune.specs.Deeds.{Deed}
 use Rattle.i9_tune.specs.Passes.{MissesBytes, Passes, stepped, port_bytes, ArePassed, behind, sent}
 use Rattle.i9_tune.specs.Orders.{AreAllowed}
 use Rattle.i9_tune.specs.Standings.{DiffersIn}
-use Rattle.i9_tune.proofs.Sources.{IsAllowed, allowed_parts, does_same}
+use Rattle.i9_tune.proofs.Borrowed.{stored_long}
+use Rattle.i9_tune.proofs.Sources.{Agree, IsAllowed, allowed_parts, does_same}
 use Rattle.i9_tune.proofs.Swaps.{after_deed, stepped_by, same_here, port_by, fate_of, passes_by}
 
 -- ---- a store beside the area leaves it
-
-two_by : (b : Bool) (v : ℕ) → length (cond b (to_be_bytes w16 v) (to_le_bytes w16 v)) ≡ 2
-two_by true v = refl
-two_by false v = refl
-
-two_bytes : (m : Memory) (a v : ℕ) → length (half_bytes m a v) ≡ 2
-unfolding half_bytes
-two_bytes m a v = two_by (is_big m (region_of a)) v
-
-stored_long : (size : Size) (s : State) (o : Operand) (a : ℕ) → length (stored_of size s o a) ≡ byte_count size
-stored_long Byte s o a = refl
-stored_long Half s o a = two_bytes s.memory a (value s o % 2 ^ 16)
-stored_long (Words n) s o a = words_long s.memory a (source_words s o n) ∙ ap (λ (k : ℕ). 4 * k) (length-map-range_with_len (word_of s o) 0 n)
 
 beside : (test : ℕ → Bool) (x y : ℕ) (b : Bool) → (x == y) ≡ b → test x ≡ true → test y ≡ false → (x == y) ≡ false
 beside test x y false e h n = e

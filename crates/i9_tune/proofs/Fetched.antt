@@ -19,6 +19,7 @@ use Rattle.i9_model.specs.Traced.{traced_action}
 use Rattle.i9_model.specs.Run.{Instruction, after_kind, exit_in}
 use Rattle.i9_model.proofs.Readings.{in_bytes-has, inner_word_same}
 use Rattle.i9_model.proofs.FrameLaws.{read_hazard-none}
+use Rattle.i9_statement.proofs.StatementWords.{one_or_two}
 use Rattle.i9_model.proofs.Stands.{IsRead, Known, known}
 use Rattle.i9_model.proofs.Storing.{stored_kept}
 use Rattle.i9_tune.specs.Passes.{MissesBytes, is_broken, Passes, stepped, port_bytes, ArePassed, behind, sent}
@@ -100,20 +101,6 @@ all_passed area (i ∷ is) s ok done =
 
 -- ---- the bytes of the block are not soft
 
-one_or_two : (i : Inst) → (words_of i ≡ 1) ⊎ (words_of i ≡ 2)
-one_or_two i = by_mode i.ea.mode
-  where
-    by_mode : (m : Mode) → (words_of_mode m ≡ 1) ⊎ (words_of_mode m ≡ 2)
-    by_mode Offset = inl refl
-    by_mode BaseOffset = inl refl
-    by_mode Base = inl refl
-    by_mode Ip = inr refl
-    by_mode BaseIndex = inl refl
-    by_mode Disp = inr refl
-    by_mode BaseDisp = inr refl
-    by_mode IndexDisp = inr refl
-    by_mode BaseIndexDisp = inr refl
-
 -- so many bytes from an address on are not soft
 abbrev AreHard : Frames → ℕ → ℕ → Type 0
 AreHard f a n = (k : ℕ) → k < n → f.soft (wrapped (a + k)) ≡ false
@@ -127,7 +114,7 @@ read_known s i e = (subst (Known s) e (known s)).0
 own_hard : (s : State) (i : Inst) → stands_at s ≡ Runs i → AreHard s.frames s.ip (4 * words_of i)
 own_hard s i e k h = elim (cases_lt k 4) [
   | inl low ↦ read_hard s.frames s.ip 4 read.first k low
-  | inr high ↦ elim (one_or_two i) [
+  | inr high ↦ elim (one_or_two i.ea.mode) [
     | inl one ↦ absurd (omega (arith, one, high, h))
     | inr two ↦
         let place : wrapped (wrapped (s.ip + 4) + (k - 4)) ≡ wrapped (s.ip + k) = omega (arith, high) in
@@ -211,7 +198,7 @@ second_none s i hard = by_test (words_of i == 2) refl
         ap s.frames.soft place ∙ hard (4 + k) (omega (arith, two, l))))
 
 some_words : (i : Inst) → 1 ≤ words_of i
-some_words i = elim (one_or_two i) [ inl one ↦ omega (arith, one) | inr two ↦ omega (arith, two) ]
+some_words i = elim (one_or_two i.ea.mode) [ inl one ↦ omega (arith, one) | inr two ↦ omega (arith, two) ]
 
 fetched : (s : State) (i : Inst) → AreHard s.frames s.ip (4 * words_of i) → decoded (first_word s) (next_word s) ≡ Ok i → fetch_hazard s ≡ None
 unfolding fetch_hazard
@@ -231,7 +218,7 @@ stand_kept area m n (i ∷ is) o orders same ends stand =
     ap (λ (x : Memory). word_in x (wrapped (area.0 + k))) (sym (other_memory m n orders)) ∙ inner_word_same m n.bytes area.0 area.1 k same h in
     let first : word_in n a ≡ word_in m a = word_there o (omega (arith, some, ends)) in
     let second_place : wrapped (a + 4) ≡ wrapped (area.0 + (o + 4)) = omega arith in
-    let head : decoded (word_in n a) (word_in n (wrapped (a + 4))) ≡ Ok i = elim (one_or_two i) [
+    let head : decoded (word_in n a) (word_in n (wrapped (a + 4))) ≡ Ok i = elim (one_or_two i.ea.mode) [
       | inl one ↦ ap (λ (w : ℕ). decoded w (word_in n (wrapped (a + 4)))) first ∙ second_free (word_in m a) (word_in m (wrapped (a + 4))) (word_in n (wrapped (a + 4))) i one stand.0
       | inr two ↦
           let second : word_in n (wrapped (a + 4)) ≡ word_in m (wrapped (a + 4)) =

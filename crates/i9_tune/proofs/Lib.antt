@@ -1,3 +1,4 @@
+pub mod Borrowed
 pub mod Inputs
 pub mod Sources
 pub mod ReadRegisters

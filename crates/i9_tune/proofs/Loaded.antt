@@ -13,6 +13,7 @@ use Rattle.i9_model.specs.Image.{pairs_of, pairs_of_part}
 use Rattle.i9_model.proofs.MaskLaws.{last_append}
 use Rattle.i9_hex.specs.declared.segments.Segment.{Segment}
 use Rattle.i9_hex.specs.Shown.{part_of}
+use Rattle.i9_tune.proofs.Borrowed.{or_none, get_later}
 
 -- how far an address lies above another one, and the last place of so many that lies there
 abbrev above : ℕ → ℕ → ℕ
@@ -20,13 +21,6 @@ above a x = (x + (2 ^ 32 - a % 2 ^ 32)) % 2 ^ 32
 
 abbrev last_place : ℕ → ℕ → ℕ
 last_place n k = k + (n - (k + 1)) / 2 ^ 32 * 2 ^ 32
-
-or_none : (o : Option ℕ) → or_earlier o None ≡ o
-or_none None = refl
-or_none (Some v) = refl
-
-get_later : (b : ℕ) (bs : List ℕ) (i k : ℕ) → i ≡ k + 1 → slice_get (b ∷ bs) i ≡ slice_get bs k
-get_later b bs i k e = rw (e, add-one) refl
 
 next_place : (a x n : ℕ) → x < 2 ^ 32 → x ≢ wrapped a → last_place (n + 1) (above a x) ≡ last_place n (above (a + 1) x) + 1
 next_place a x n small other =
@@ -70,10 +64,6 @@ pub last_from : (a : ℕ) (bs : List ℕ) (x : ℕ) → a < 2 ^ 32 → x < 2 ^ 3
 last_from a bs x lt small =
     let same : a % 2 ^ 32 ≡ a = omega (arith, lt) in
     last_around a bs x small ∙ ap (λ (n : ℕ). slice_get bs (last_place (length bs) ((x + (2 ^ 32 - n)) % 2 ^ 32))) same
-
-pub option_copied-get : (bs : List ℕ) (k : ℕ) (o : Option (Bor ℕ)) → is_some o ≡ nat_lt k (length bs) → IfSome o (λ x. x.now ≡ get_or bs k x.now) → option_copied o ≡ slice_get bs k
-option_copied-get bs k None e h = sym (slice_get_past bs k (grind (arith, nat_tests, e)))
-option_copied-get bs k (Some x) e h = sym (slice_get-get_or bs k x.now (grind (arith, nat_tests, e)) ∙ ap Some (sym h))
 
 -- ---- a segment more
 

@@ -23,8 +23,9 @@ use Rattle.i9_model.specs.Late.{resource, resources}
 use Rattle.i9_model.specs.Needs.{set_of, inst_need}
 use Rattle.i9_model.specs.State.{State}
 use Rattle.i9_model.proofs.SetLaws.{set_bits}
-use Rattle.i9_tune.specs.Deeds.{is_register_read, AgreeBeside, Agree, AreSameIn}
-use Rattle.i9_tune.proofs.Sources.{register_is_read, code_is_read}
+use Rattle.i9_tune.specs.Deeds.{AgreeBeside, AreSameIn}
+use Rattle.i9_tune.proofs.Sources.{is_register_read, Agree, register_is_read, code_is_read}
+use Rattle.i9_tune.proofs.Borrowed.{registers}
 
 -- ---- operands
 
@@ -67,25 +68,6 @@ each_few _ = refl
 
 -- ---- base and index
 
-below_limit : (b : Bool) (n : ℕ) → nat_lt n (cond b 32 1) ≡ true → n < 32
-below_limit true n h = grind (arith, nat_tests, h)
-below_limit false n h = grind (arith, nat_tests, h)
-
-nothing_there : (e : Ea) → e ≡ no_address → (e.base < 32) × (e.index < 32)
-nothing_there e h =
-    let base : e.base ≡ 0 = ap (λ (x : Ea). x.base) h in
-    let index : e.index ≡ 0 = ap (λ (x : Ea). x.index) h in
-    (omega (arith, base), omega (arith, index))
-
-parts_below : (f : Format) (e : Ea) → FitsAddress f e → (e.base < 32) × (e.index < 32)
-parts_below Format.Mem e h =
-    let p = and_parts (nat_lt e.base (cond (has_base e.mode) 32 1)) _ h in
-    let q = and_parts (nat_lt e.index (cond (has_index e.mode) 32 1)) _ p.1 in
-    (below_limit (has_base e.mode) e.base p.0, below_limit (has_index e.mode) e.index q.0)
-parts_below Format.Reg e h = nothing_there e h
-parts_below Format.Cobr e h = nothing_there e h
-parts_below Format.Ctrl e h = nothing_there e h
-
 this_below : (b : Bool) (k n : ℕ) → n < 32 → (b && (k == n)) ≡ true → k < 32
 this_below b k n lt h = let e = eqb-true k n (and_parts b (k == n) h).1 in omega (arith, e, lt)
 
@@ -95,7 +77,7 @@ register_below : (i : Inst) (k : ℕ) → IsValid i → is_register_read i k ≡
 register_below i k valid h =
     let few = and_parts _ _ (each_few i.op) in
     let fewer = and_parts _ _ few.0 in
-    let ea = parts_below (row_of i.op).format i.ea valid.ea in
+    let ea = registers (row_of i.op).format i.ea valid.ea in
     elim (or_cases _ _ h) [
       | inr index ↦ this_below (has_index i.ea.mode) k i.ea.index ea.1 index
       | inl p ↦ elim (or_cases _ _ p) [

@@ -41,10 +41,25 @@ use Rattle.i9_model.proofs.Readings.{map_below, words_same}
 use Rattle.i9_model.proofs.AlikeActions.{stored_words_same}
 use Rattle.i9_tune.specs.Inputs.{Change, Keeps, changed, is_code, AreSame}
 use Rattle.i9_tune.specs.Blocks.{is_result_name, is_lda, is_relative, is_allowed_name, is_allowed}
-use Rattle.i9_tune.specs.Deeds.{AreSameBytes, is_register_read, Agree, Deed, deed_action, DoesSame}
+use Rattle.i9_tune.specs.Deeds.{AreSameBytes, AgreeBeside, Deed, deed_action, DoesSame}
 use Rattle.i9_tune.proofs.Inputs.{Four, result_same}
 
 -- ---- what is read
+
+-- register k is read, as an operand or for the address
+abbrev pub is_register_read : Inst → ℕ → Bool
+is_register_read i k =
+    is_in_operand i.a (words_read (row_of i.op).a) k
+    || is_in_operand i.b (words_read (row_of i.op).b) k
+    || is_in_operand i.c (words_read (row_of i.op).c) k
+    || (has_base i.ea.mode && (k == i.ea.base))
+    || (has_index i.ea.mode && (k == i.ea.index))
+
+-- the second state has all that the instruction sees as the first one
+pub record Agree (i : Inst) (s t : State) : Type 0 where
+  pub regs : (k : ℕ) → is_register_read i k ≡ true → s.regs k ≡ t.regs k
+  pub code : reads_code i.op ≡ true → s.ac % 8 ≡ t.ac % 8
+  pub beside : AgreeBeside i s t
 
 reads_a : (i : Inst) (k : ℕ) → is_in_operand i.a (words_read (row_of i.op).a) k ≡ true → is_register_read i k ≡ true
 reads_a i k h = or_left _ _ (or_left _ _ (or_left _ _ (or_left _ _ h)))

@@ -44,9 +44,10 @@ use Rattle.i9_model.proofs.CodeLaws.{code_beside}
 use Rattle.i9_model.proofs.AlikeSteps.{none_wrote}
 use Rattle.i9_tune.specs.Inputs.{Change, Keeps, Codes, Flags, changed, is_code}
 use Rattle.i9_tune.specs.Blocks.{is_allowed_name, Spares, AreApart}
-use Rattle.i9_tune.specs.Deeds.{Agree, Deed, deed_action, DoesSame}
+use Rattle.i9_tune.specs.Deeds.{Deed, deed_action, DoesSame}
 use Rattle.i9_tune.specs.Passes.{MissesBytes, is_watched, is_seen, Passes, stepped, port_bytes, ArePassed, behind, sent, AreAsGood}
-use Rattle.i9_tune.proofs.Sources.{IsAllowed, register_is_read, code_is_read, does_same, still, other_memory}
+use Rattle.i9_tune.proofs.Borrowed.{all_false}
+use Rattle.i9_tune.proofs.Sources.{Agree, IsAllowed, register_is_read, code_is_read, does_same, still, other_memory}
 
 -- ---- the state behind a deed
 
@@ -78,14 +79,6 @@ change_mask Flags ac =
     let none : bit_at (2 ^ 8) 12 ≡ 0 = bit_at-pow_other 8 12 (λ e. absurd (omega (arith, e))) in
     let most : max (bit_at ac 12) 0 ≡ bit_at ac 12 = omega arith in
     ap (λ (x : ℕ). x == 1) (bit_at_or ac (2 ^ 8) 12 ∙ ap (max (bit_at ac 12)) none ∙ most)
-
-all_false : (a b c d e : Bool) → (a || b || c || d || e) ≡ false → (a ≡ false) × (b ≡ false) × (c ≡ false) × (d ≡ false) × (e ≡ false)
-all_false a b c d e h =
-    let p = or_parts (a || b || c || d) e h in
-    let q = or_parts (a || b || c) d p.0 in
-    let r = or_parts (a || b) c q.0 in
-    let s = or_parts a b r.0 in
-    (s.0, s.1, r.1, q.1, p.1)
 
 outside : (i : Inst) (k : ℕ) → is_written i k ≡ false → IsOutside i k
 outside i k h =

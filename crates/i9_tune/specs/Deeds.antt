@@ -1,10 +1,8 @@
 -- What an allowed instruction does to registers, controls and memory, and of what it depends.
-use Rattle.std.specs.Prelude.{◌≡◌, ℕ, ◌+◌, ◌<◌, ◌%◌, ◌==◌, ◌&&◌, ◌||◌, Bool, true, false, List, []}
+use Rattle.std.specs.Prelude.{◌≡◌, ℕ, ◌+◌, ◌<◌, true, false, List, []}
 use Rattle.std.specs.Int.{bit_at}
 use Rattle.i9_isa.specs.declared.inst.Inst.{Inst}
-use Rattle.i9_isa.specs.Operands.{words_read, has_base, has_index}
-use Rattle.i9_isa.specs.Resources.{is_in_operand, reads_code, writes_code}
-use Rattle.i9_isa.specs.Table.{row_of}
+use Rattle.i9_isa.specs.Resources.{writes_code}
 use Rattle.i9_isa.specs.Words.{bit}
 use Rattle.i9_model.specs.Writes.{wrapped}
 use Rattle.i9_model.specs.Memory.{Memory}
@@ -26,21 +24,6 @@ pub record AgreeBeside (i : Inst) (s t : State) : Type 0 where
   pub mask : bit s.ac 12 ≡ bit t.ac 12
   pub orders : s.memory.mcon ≡ t.memory.mcon
   pub bytes : (a n : ℕ) → access_of i s ≡ Reads a n → AreSameBytes s.memory t.memory a n
-
--- register k is read, as an operand or for the address
-abbrev pub is_register_read : Inst → ℕ → Bool
-is_register_read i k =
-    is_in_operand i.a (words_read (row_of i.op).a) k
-    || is_in_operand i.b (words_read (row_of i.op).b) k
-    || is_in_operand i.c (words_read (row_of i.op).c) k
-    || (has_base i.ea.mode && (k == i.ea.base))
-    || (has_index i.ea.mode && (k == i.ea.index))
-
--- the second state has all that the instruction sees as the first one
-pub record Agree (i : Inst) (s t : State) : Type 0 where
-  pub regs : (k : ℕ) → is_register_read i k ≡ true → s.regs k ≡ t.regs k
-  pub code : reads_code i.op ≡ true → s.ac % 8 ≡ t.ac % 8
-  pub beside : AgreeBeside i s t
 
 -- two states have the same in the resources of a set
 abbrev pub AreSameIn : ℕ → State → State → Type 0

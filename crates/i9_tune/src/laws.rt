@@ -18,7 +18,7 @@ ghost use Rattle.i9_model.specs.Memory.{Memory};
 ghost use Rattle.i9_model.specs.State.{State};
 ghost use Rattle.i9_tune.specs.Inputs.{IsSameWords, AreSame};
 ghost use Rattle.i9_tune.specs.Blocks.{is_allowed, AreApart};
-ghost use Rattle.i9_tune.specs.Deeds.{Agree, AgreeBeside, AreSameIn, DoesSame};
+ghost use Rattle.i9_tune.specs.Deeds.{AgreeBeside, AreSameIn, DoesSame};
 ghost use Rattle.i9_tune.specs.Passes.{ArePassed, AreAsGood};
 ghost use Rattle.i9_tune.specs.Orders.{IsOrder, AreAllowed};
 ghost use Rattle.i9_tune.specs.Standings.{byte_length, StandAt, AreWords, HoldsWords, Replaces, DoTheSame};
@@ -36,12 +36,11 @@ pub fn a_result_sees_its_sources()
         → AreSame op ac bc (results_by op a b c ac) (results_by op x y z bc) }
 {}
 
-/// An allowed instruction does the same where all that it reads is the same: its registers and the condition code, which
-/// for a valid one are the resources that its need reads, and beside them bit 12 of the arithmetic controls, the orders
-/// of bytes and the bytes that it loads.
-pub fn an_instruction_sees_what_it_reads()
-    ensures reads { (i : Inst) (s t : State) → is_allowed i ≡ true → Agree i s t → DoesSame i s t }
-    ensures need { (f : Facts) (i : Inst) (s t : State) → IsValid i → is_allowed i ≡ true
+/// An allowed instruction sees what its need reads, and beside these resources bit 12 of the arithmetic controls, which
+/// no allowed instruction changes, the orders of bytes, and the bytes that it loads: where all that is the same, it does
+/// the same. So what a need says of reading is enough, as `actions_keep_to_their_needs` says of writing.
+pub fn an_instruction_sees_what_its_need_reads()
+    ensures { (f : Facts) (i : Inst) (s t : State) → IsValid i → is_allowed i ≡ true
         → AreSameIn (inst_need i f).reads s t → AgreeBeside i s t → DoesSame i s t }
 {}
 

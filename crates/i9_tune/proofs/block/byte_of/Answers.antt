@@ -1,6 +1,7 @@
 use Rattle.std.proofs.Common.{◌≡◌, ℕ, ◌+◌, ◌-◌, ◌*◌, ◌/◌, ◌%◌, ◌^◌, List, length, sym, ap, ◌∙◌, arith}
 use Rattle.std.specs.List.{slice_get}
-use Rattle.i9_tune.proofs.Loaded.{option_copied-get, last_from}
+use Rattle.i9_tune.proofs.Borrowed.{option_copied-get}
+use Rattle.i9_tune.proofs.Loaded.{last_from}
 use Rattle.i9_tune.proofs.block.byte_of.Goals as goal
 
 pub returns : goal.returns
