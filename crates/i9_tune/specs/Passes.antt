@@ -29,14 +29,18 @@ is_watched b access =
 
 -- tracing sees each instruction, or a data breakpoint this one
 abbrev pub is_seen : Inst → State → Bool
-is_seen i s = is_traced s && (has_mode s.trace.tc Instruction || is_watched s.trace.breaks (option_map (λ d. d.0) (data_of (access_of i s))))
+is_seen i s =
+    is_traced s
+    && (has_mode s.trace.tc Instruction || is_watched s.trace.breaks (option_map (λ d. d.0) (data_of (access_of i s))))
 
 -- tracing stops at an address, for an instruction breakpoint
 abbrev pub is_broken : State → ℕ → Bool
-is_broken s a = is_traced s && (is_at_address (slice_index s.trace.breaks.ipb 0) a || is_at_address (slice_index s.trace.breaks.ipb 1) a)
+is_broken s a =
+    is_traced s
+    && (is_at_address (slice_index s.trace.breaks.ipb 0) a || is_at_address (slice_index s.trace.breaks.ipb 1) a)
 
--- The instruction is done in a state: it raises no fault, meets no hazard, brings no exit, has no trace event but by its
--- address, and its load or store has no byte of the area.
+-- The instruction is done in a state: it raises no fault, meets no hazard, brings no exit, has no trace event but by
+-- its address, and its load or store has no byte of the area.
 pub record Passes (area : ℕ × ℕ) (i : Inst) (s : State) : Type 0 where
   pub raised : raised_in i s ≡ None
   pub later : later_fault i s ≡ None

@@ -21,13 +21,16 @@ byte_length (i ∷ is) = 4 * words_of i + byte_length is
 -- their words stand in memory from an address on
 abbrev pub StandAt : Memory → ℕ → List Inst → Type 0
 StandAt m a [] = Unit {0}
-StandAt m a (i ∷ is) = (decoded (word_in m a) (word_in m (wrapped (a + 4))) ≡ Ok i) × StandAt m (wrapped (a + 4 * words_of i)) is
+StandAt m a (i ∷ is) =
+    (decoded (word_in m a) (word_in m (wrapped (a + 4))) ≡ Ok i) × StandAt m (wrapped (a + 4 * words_of i)) is
 
 -- these are words of instructions, one behind the other
 pub data AreWords : List Inst → List ℕ → Type 0 where
   none : AreWords [] []
-  short : {i : Inst} {is : List Inst} {w : ℕ} {ws : List ℕ} → words_of i ≡ 1 → decoded w 0 ≡ Ok i → AreWords is ws → AreWords (i ∷ is) (w ∷ ws)
-  long : {i : Inst} {is : List Inst} {w v : ℕ} {ws : List ℕ} → words_of i ≡ 2 → decoded w v ≡ Ok i → AreWords is ws → AreWords (i ∷ is) (w ∷ v ∷ ws)
+  short : {i : Inst} {is : List Inst} {w : ℕ} {ws : List ℕ} → words_of i ≡ 1 → decoded w 0 ≡ Ok i → AreWords is ws
+      → AreWords (i ∷ is) (w ∷ ws)
+  long : {i : Inst} {is : List Inst} {w v : ℕ} {ws : List ℕ} → words_of i ≡ 2 → decoded w v ≡ Ok i → AreWords is ws
+      → AreWords (i ∷ is) (w ∷ v ∷ ws)
 
 -- words are in memory from an address on
 abbrev pub HoldsWords : Memory → ℕ → List ℕ → Type 0
@@ -55,7 +58,8 @@ after_all (i ∷ is) s = after_all is (after_kind (Instruction i) s)
 -- what all send to the port page
 abbrev pub port_bytes_of : List Inst → State → List (ℕ × ℕ)
 port_bytes_of [] s = []
-port_bytes_of (i ∷ is) s = filter (λ p. in_port_page p.0) (traced_action i s).writes ++ port_bytes_of is (after_kind (Instruction i) s)
+port_bytes_of (i ∷ is) s =
+    filter (λ p. in_port_page p.0) (traced_action i s).writes ++ port_bytes_of is (after_kind (Instruction i) s)
 
 -- the second state is the first one, but for bytes of the area
 pub record DiffersIn (area : ℕ × ℕ) (s t : State) : Type 0 where

@@ -11,7 +11,7 @@ ghost use Rattle.i9_isa.specs.Valid.{IsValid};
 ghost use Rattle.i9_model.specs.declared.need.Facts.{Facts};
 ghost use Rattle.i9_model.specs.Needs.{inst_need};
 ghost use Rattle.i9_model.specs.Results.{results_by};
-ghost use Rattle.std.specs.List.{AllByRecursion};
+ghost use Rattle.std.specs.List.{AllByRecursion, flat_map};
 ghost use Rattle.std.specs.List.Sorted.{IsPermutation};
 ghost use Rattle.i9_model.specs.Writes.{last_put};
 ghost use Rattle.i9_model.specs.Memory.{Memory};
@@ -24,7 +24,7 @@ ghost use Rattle.i9_tune.specs.Orders.{IsOrder, AreAllowed};
 ghost use Rattle.i9_tune.specs.Standings.{byte_length, StandAt, AreWords, HoldsWords, Replaces, DoTheSame};
 ghost use Rattle.i9_tune.specs.Greedy.{AreTunable, IsGreedy, IsTuned, span_of};
 ghost use Rattle.i9_tune.specs.Reading.{block_at};
-ghost use Rattle.i9_tune.specs.Tuning.{IsTuning};
+ghost use Rattle.i9_tune.specs.Tuning.{AreCodes, IsTuning};
 
 /// A result sees of its sources the words that the name reads, and of the arithmetic controls bit 12 and, where the
 /// name reads it, the condition code.
@@ -88,7 +88,10 @@ pub fn a_block_has_one_text()
         → IsTuning a block s → IsTuning a block t → s ≡ t }
 {}
 
-/// Instructions stand where their words are in memory.
+/// Instructions stand where their words are in memory, and the words that are printed of a tuned block are words of it.
 pub fn instructions_stand_by_their_words()
-    ensures { (m : Memory) (a : ℕ) (is : List Inst) (ws : List ℕ) → AreWords is ws → HoldsWords m a ws → StandAt m a is }
+    ensures stand { (m : Memory) (a : ℕ) (is : List Inst) (ws : List ℕ) → AreWords is ws → HoldsWords m a ws
+        → StandAt m a is }
+    ensures printed { (is : List Inst) (codes : List (List ℕ)) → AreCodes is codes
+        → AreWords is (flat_map (λ (ws : List ℕ). ws) codes) }
 {}

@@ -1,132 +1,137 @@
-//! Blocks whose turns and orders were worked out by hand from the rules.
-
-ghost use Rattle.std.specs.Prelude.{◌≡◌, true};
-ghost use Rattle.i9_tune.specs.Greedy.{AreTunable};
-
-use crate::{allowed, span, tune};
-use i9_isa::{Ea, Inst, Mode, NO_ADDRESS, Op, Operand, valid};
+//! Blocks whose turns and orders were worked out by hand from the rules, and blocks at fault.
+use crate::{BlockError, allowed, block_in, block_line, span, tune, tuning};
+use i9_hex::Segments;
 use std::alloc::Global;
+use std::test::Fail;
 
-/// An instruction of the register format.
-fn three(op: Op, a: Operand, b: Operand, c: Operand) -> Inst {
-    Inst {
-        op,
-        a,
-        b,
-        c,
-        ea: NO_ADDRESS,
-        disp: 0,
-        hint: false,
+/// What is printed of blocks. The first line of each has the address of the block, the number of its instructions, and
+/// the segments of the image.
+const BLOCKS: &str = "\
+1000 4 1000:8318917012809C59010EA05C020EA85C
+.org 0x00001000
+mulo 3, 4, g2 # 00001000 70911883
+mov 1, g4 # 00001004 5CA00E01
+mov 2, g5 # 00001008 5CA80E02
+addo g2, g2, g3 # 0000100C 599C8012
+#tune 00001000 4 9 7
+
+1000 2 1000:0198A0591406A85C
+.org 0x00001000
+addo 1, 2, g4 # 00001000 59A09801
+mov g4, g5 # 00001004 5CA80614
+#tune 00001000 2 3 3
+
+1000 4 1000:9040947000B49C8C78563412010EA05C020EA85C
+.org 0x00001000
+mulo g0, g1, g2 # 00001000 70944090
+mov 1, g4 # 00001004 5CA00E01
+mov 2, g5 # 00001008 5CA80E02
+lda 0x12345678(g2), g3 # 0000100C 8C9CB400 12345678
+#tune 00001000 4 8 7
+
+FFFFFFFC 2 FFFFFFFC:0198A0591406A85C
+.org 0xFFFFFFFC
+addo 1, 2, g4 # FFFFFFFC 59A09801
+mov g4, g5 # 00000000 5CA80614
+#tune FFFFFFFC 2 3 3
+
+1004 1 1000:00000000014EA05C
+.org 0x00001004
+mov 1, g4 # 00001004 5CA00E01
+#tune 00001004 1 2 2
+
+1000 1 1001:0EA05C
+#block kind 1 00001000
+
+1000 1 1000:01 1002:A05C
+#block kind 1 00001000
+
+1000 1 1000:010E 1003:5C
+#block kind 1 00001000
+
+1000 1 1000:010EA0
+#block kind 1 00001000
+
+1000 1 1000:00B49C8C 1005:563412
+#block kind 1 00001000
+
+1000 1 1000:00B49C8C78 1006:3412
+#block kind 1 00001000
+
+1000 1 1000:00B49C8C7856 1007:12
+#block kind 1 00001000
+
+1000 1 1000:00B49C8C785634
+#block kind 1 00001000
+
+1000 3 1000:010EA05C020EA85C
+#block kind 1 00001008
+
+1000 2 1000:010EA05C08000008
+#block kind 2 00001004
+
+1000 1 1000:00000000
+#block kind 2 00001000
+
+1000 1 1000:20C0A459
+#block kind 2 00001000
+
+1000 1 1000:0014A09010000000
+#block kind 2 00001000
+
+1000 1 1000:0014A090
+#block kind 1 00001000
+
+1000 1 1000:0001A8B0
+#block kind 2 00001000";
+
+/// An image of segments, each of them `ADDRESS:BYTES`.
+fn image(alloc: Global, text: &str) -> Result<Segments, Fail> {
+    let mut segments = Segments::new(alloc);
+    for segment in text.split(" ") {
+        let (address, bytes) = segment.split_once(":").unwrap_or((segment, ""));
+        let address = u32::from_str_radix(address, 16)?;
+        segments.push(address, hex::decode(alloc, bytes.as_bytes())?)?;
     }
+    Ok(segments)
 }
 
-/// A load or a store, by an offset from a register.
-fn moved(op: Op, base: u8, disp: u32, register: u8) -> Inst {
-    Inst {
-        op,
-        a: NONE,
-        b: NONE,
-        c: Operand::Reg(register),
-        ea: Ea {
-            mode: Mode::BaseOffset,
-            base,
-            index: 0,
-            scale: 0,
-            disp,
-        },
-        disp: 0,
-        hint: false,
+/// What is printed of a block: its address, the number of its instructions, and the image where it stands.
+fn printed(alloc: Global, given: &str) -> Result<Vec<u8>, Fail> {
+    let (address, rest) = given.split_once(" ").unwrap_or((given, ""));
+    let (count, segments) = rest.split_once(" ").unwrap_or((rest, ""));
+    let address = u32::from_str_radix(address, 16)? / 4 * 4;
+    let count = u8::from_str_radix(count, 10)?.min(64);
+    match block_in(alloc, &image(alloc, segments)?, address, count) {
+        Ok(block) => Ok(tuning(alloc, address, &block)?),
+        Err(BlockError::Bad(fault)) => Ok(block_line(alloc, &fault)?),
+        Err(BlockError::Memory) => Err(Fail::from(i9_isa::NoMemory)),
     }
-}
-
-/// The same by a displacement in a second word.
-fn far(op: Op, base: u8, disp: u32, register: u8) -> Inst {
-    let near = moved(op, base, disp, register);
-    Inst {
-        ea: Ea {
-            mode: Mode::BaseDisp,
-            ..near.ea
-        },
-        ..near
-    }
-}
-
-const NONE: Operand = Operand::Reg(0);
-
-const G2: Operand = Operand::Reg(18);
-
-const G3: Operand = Operand::Reg(19);
-
-const G4: Operand = Operand::Reg(20);
-
-const G5: Operand = Operand::Reg(21);
-
-/// Whether a block may be tuned.
-fn are_tunable(block: &[Inst]) -> bool
-    ensures { result ≡ true → AreTunable block.now }
-{
-    for k in 0..block.len() {
-        if !valid(&block[k]) || !allowed(&block[k]) {
-            return false;
-        }
-    }
-    true
-}
-
-/// The spans of a block and of its tuned one, and whether the tuned one has these places of the block.
-fn tunes(alloc: Global, block: &[Inst], places: &[usize]) -> Option<(u64, u64, bool)> {
-    if block.len() > 64 || !are_tunable(block) {
-        return None;
-    }
-    let tuned = tune(alloc, block).ok()?;
-    if tuned.len() > 64 || !are_tunable(&tuned) || tuned.len() != places.len() {
-        return None;
-    }
-    let mut same = true;
-    for k in 0..places.len() {
-        if places[k] >= block.len() || block[places[k]] != tuned[k] {
-            same = false;
-        }
-    }
-    Some((span(block), span(&tuned), same))
 }
 
 #[test]
-fn tunes_blocks(rt: HostRuntime) {
+fn prints_blocks(rt: HostRuntime) -> Result<(), Fail> {
     let alloc = rt.alloc();
-    // Two instructions that stand behind a multiplication and its use go before the use.
-    let first = [
-        three(Op::Mulo, Operand::Lit(3), Operand::Lit(4), G2),
-        three(Op::Addo, G2, G2, G3),
-        three(Op::Mov, Operand::Lit(1), NONE, G4),
-        three(Op::Mov, Operand::Lit(2), NONE, G5),
-    ];
-    assert!(rt; tunes(alloc, &first, &[0, 2, 3, 1]) == Some((9, 7, true)));
-    // An instruction stays behind the one whose result it takes.
-    let second = [
-        three(Op::Addo, Operand::Lit(1), Operand::Lit(2), G4),
-        three(Op::Mov, G4, NONE, G5),
-    ];
-    assert!(rt; tunes(alloc, &second, &[0, 1]) == Some((3, 3, true)));
-    // Loads and stores keep their order.
-    let third = [moved(Op::Ld, 16, 4, 20), moved(Op::St, 17, 8, 21)];
-    assert!(rt; tunes(alloc, &third, &[0, 1]) == Some((3, 3, true)));
-    // An instruction of two words waits for a product, and those behind it go before it.
-    let fourth = [
-        three(Op::Mulo, Operand::Reg(16), Operand::Reg(17), G2),
-        far(Op::Lda, 18, 0x1234_5678, 19),
-        three(Op::Mov, Operand::Lit(1), NONE, G4),
-        three(Op::Mov, Operand::Lit(2), NONE, G5),
-    ];
-    assert!(rt; tunes(alloc, &fourth, &[0, 2, 3, 1]) == Some((8, 7, true)));
+    for row in BLOCKS.split("\n\n") {
+        let (given, lines) = row.split_once("\n").unwrap_or((row, ""));
+        let wanted = format!(in alloc; "{lines}\n")?;
+        let text = printed(alloc, given)?;
+        assert!(rt; text.as_slice() == wanted.as_bytes());
+    }
+    Ok(())
 }
 
 #[test]
-fn allows_what_it_says(rt: HostRuntime) {
-    assert!(rt; allowed(&three(Op::Mulo, Operand::Lit(3), Operand::Lit(4), G2)));
-    assert!(rt; !allowed(&three(Op::Modac, G2, G3, G4)));
-    assert!(rt; !allowed(&three(Op::Addo, Operand::Sfr(0), G3, G4)));
-    assert!(rt; allowed(&moved(Op::Ld, 16, 4, 20)));
-    assert!(rt; allowed(&moved(Op::Lda, 16, 4, 20)));
-    assert!(rt; !allowed(&three(Op::Syncf, NONE, NONE, NONE)));
+fn tunes_a_block(rt: HostRuntime) -> Result<(), Fail> {
+    let alloc = rt.alloc();
+    let image = image(alloc, "1000:8318917012809C59010EA05C020EA85C")?;
+    let Ok(block) = block_in(alloc, &image, 0x1000, 4) else {
+        return Err(Fail::from(i9_isa::NoMemory));
+    };
+    assert!(rt; allowed(&block[1]));
+    assert_eq!(rt; span(&block), 9);
+    let tuned = tune(alloc, &block)?;
+    assert_eq!(rt; tuned[3], block[1]);
+    assert_eq!(rt; span(&tuned), 7);
+    Ok(())
 }
