@@ -1,5 +1,5 @@
 -- Lemmas that crates below prove and keep to themselves: the copies here go once those are public there.
-use Rattle.std.proofs.Common.{◌≡◌, ℕ, ◌+◌, ◌*◌, ◌%◌, ◌^◌, ◌<◌, Bool, true, false, cond, nat_lt, ◌||◌, List, [], ◌∷◌, length, get_or, Option, Some, None, is_some, IfSome, Bor, sym, ap, ◌∙◌, refl, add-one, arith}
+use Rattle.std.proofs.Common.{◌≡◌, ℕ, ◌+◌, ◌*◌, ◌%◌, ◌^◌, ◌<◌, Bool, true, false, cond, nat_lt, ◌||◌, List, ◌∷◌, length, get_or, Option, Some, None, is_some, IfSome, Bor, sym, ap, ◌∙◌, refl, add-one, arith}
 use Rattle.std.specs.List.{slice_get}
 use Rattle.std.specs.Int.{w16, to_le_bytes, to_be_bytes}
 use Rattle.std.specs.Option.{option_copied}

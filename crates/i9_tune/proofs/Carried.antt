@@ -1,29 +1,23 @@
 -- What instructions do in a state they do in another one, where their loads and stores have no byte in which the two
 -- differ.
-use Rattle.std.proofs.Common.{◌≡◌, ℕ, suc, ◌+◌, ◌*◌, ◌%◌, ◌^◌, ◌<◌, Bool, true, false, cond, ◌||◌, List, [], ◌∷◌, ◌++◌, length, Option, Some, None, refl, sym, ap, ◌∙◌, subst, inl, arith}
+use Rattle.std.proofs.Common.{◌≡◌, ℕ, suc, ◌+◌, ◌%◌, ◌<◌, Bool, true, false, ◌||◌, List, [], ◌∷◌, ◌++◌, length, Option, Some, None, refl, sym, ap, ◌∙◌, subst, inl, arith}
 use Rattle.std.specs.Prelude.{◌==◌}
-use Rattle.std.specs.Int.{w16, to_le_bytes, to_be_bytes}
 use Rattle.std.specs.Option.{is_some}
 use Rattle.std.proofs.lemmas.Bool.{both_ways, eqb-true}
-use Rattle.std.proofs.lemmas.List.FromFn.{length-map-range_with_len}
 use Rattle.i9_isa.specs.declared.size.Size.{Size}
-use Rattle.i9_isa.specs.declared.size.Size.TheVariants.{Byte, Half, Words}
 use Rattle.i9_isa.specs.declared.size.Direction.{Direction}
 use Rattle.i9_isa.specs.declared.size.Direction.TheVariants.{Load, Store}
 use Rattle.i9_isa.specs.declared.size.Transfer.{Transfer}
-use Rattle.i9_isa.specs.declared.inst.Operand.{Operand}
 use Rattle.i9_isa.specs.declared.inst.Inst.{Inst}
 use Rattle.i9_isa.specs.Transfers.{transfer_of, byte_count}
 use Rattle.i9_isa.specs.Words.{bit}
 use Rattle.i9_model.specs.Writes.{wrapped, upwards}
-use Rattle.i9_model.specs.Memory.{Memory, region_of, is_big, half_bytes}
 use Rattle.i9_model.specs.Frames.{in_bytes, is_put}
 use Rattle.i9_model.specs.State.{State}
-use Rattle.i9_model.specs.Operands.{address, value, word_of, source_words}
+use Rattle.i9_model.specs.Operands.{address}
 use Rattle.i9_model.specs.Access.{Access, access_by, access_of, data_of, moved_access}
 use Rattle.i9_model.specs.Step.{Action, stored_of, moving, action_by, action_of}
 use Rattle.i9_model.proofs.Storing.{stored_agree, stored_kept}
-use Rattle.i9_model.proofs.SoundRuns.{words_long}
 use Rattle.i9_tune.specs.Deeds.{Deed}
 use Rattle.i9_tune.specs.Passes.{MissesBytes, Passes, stepped, port_bytes, ArePassed, behind, sent}
 use Rattle.i9_tune.specs.Orders.{AreAllowed}

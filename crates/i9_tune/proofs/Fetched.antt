@@ -1,11 +1,9 @@
 -- A block that stands in memory and is done there does the same in every order that stands there instead.
-use Rattle.std.proofs.Common.{◌≡◌, ℕ, zero, suc, ◌+◌, ◌-◌, ◌*◌, ◌^◌, ◌<◌, ◌≤◌, Bool, true, false, cond, ◌&&◌, List, [], ◌∷◌, ◌++◌, Option, Some, None, Ok, refl, sym, ap, ◌∙◌, subst, inl, inr, ◌⊎◌, arith}
+use Rattle.std.proofs.Common.{◌≡◌, ℕ, zero, suc, ◌+◌, ◌-◌, ◌*◌, ◌^◌, ◌<◌, ◌≤◌, Bool, true, false, cond, ◌&&◌, List, [], ◌∷◌, ◌++◌, Option, Some, None, Ok, refl, sym, ap, ◌∙◌, subst, inl, inr, arith}
 use Rattle.std.specs.Prelude.{◌==◌, not, find}
 use Rattle.std.proofs.lemmas.Bool.{eqb-true, cases_lt, both_ways}
-use Rattle.i9_isa.specs.declared.inst.Mode.{Mode}
-use Rattle.i9_isa.specs.declared.inst.Mode.TheVariants.{Offset, BaseOffset, Base, Ip, BaseIndex, Disp, BaseDisp, IndexDisp, BaseIndexDisp}
 use Rattle.i9_isa.specs.declared.inst.Inst.{Inst}
-use Rattle.i9_isa.specs.Words.{words_of, words_of_mode, decoded}
+use Rattle.i9_isa.specs.Words.{words_of, decoded}
 use Rattle.i9_isa.proofs.Decoding.{second_free}
 use Rattle.i9_model.specs.Writes.{wrapped}
 use Rattle.i9_model.specs.Memory.{Memory, word_in}

@@ -1,26 +1,24 @@
 -- A valid instruction reads registers, and its need says which, and whether it reads the condition code.
-use Rattle.std.proofs.Common.{◌≡◌, ℕ, zero, suc, ◌+◌, ◌%◌, ◌<◌, ◌≤◌, Bool, true, false, cond, ◌||◌, ◌&&◌, refl, sym, ap, ◌∙◌, inl, inr, arith}
+use Rattle.std.proofs.Common.{◌≡◌, ℕ, ◌+◌, ◌%◌, ◌<◌, ◌≤◌, Bool, true, false, cond, ◌&&◌, refl, sym, ap, ◌∙◌, inl, inr, arith}
 use Rattle.std.specs.Prelude.{◌==◌, nat_lt, nat_le}
 use Rattle.std.specs.Int.{bit_at, from_bool}
 use Rattle.std.proofs.lemmas.Bool.{and_parts, eqb-true, or_cases}
 use Rattle.std.proofs.lemmas.Bool.Decides.{nat_tests}
 use Rattle.i9_isa.specs.declared.op.Op.{Op}
 use Rattle.i9_isa.specs.declared.op.Op.TheVariants.{Lda}
-use Rattle.i9_isa.specs.declared.format.Format.{Format}
 use Rattle.i9_isa.specs.declared.format.Use.{Use}
 use Rattle.i9_isa.specs.declared.format.Use.TheVariants.{Unused, Source, Left, Right, Destination, Load, Store, Change}
 use Rattle.i9_isa.specs.declared.inst.Operand.{Operand}
 use Rattle.i9_isa.specs.declared.inst.Operand.TheVariants.{Reg, Lit, Sfr}
-use Rattle.i9_isa.specs.declared.inst.Ea.{Ea}
 use Rattle.i9_isa.specs.declared.inst.Inst.{Inst}
 use Rattle.i9_isa.specs.declared.resources.TheConstants.{CONDITION_CODE}
-use Rattle.i9_isa.specs.Operands.{takes, starts_group, words_read, has_base, has_index, no_address}
-use Rattle.i9_isa.specs.Resources.{is_in_group, is_in_operand, is_read, reads_code}
+use Rattle.i9_isa.specs.Operands.{takes, starts_group, words_read, has_base, has_index}
+use Rattle.i9_isa.specs.Resources.{is_in_group, is_in_operand, is_read}
 use Rattle.i9_isa.specs.Table.{row_of}
-use Rattle.i9_isa.specs.Valid.{IsValid, FitsAddress}
+use Rattle.i9_isa.specs.Valid.{IsValid}
 use Rattle.i9_model.specs.declared.need.Facts.{Facts}
 use Rattle.i9_model.specs.Late.{resource, resources}
-use Rattle.i9_model.specs.Needs.{set_of, inst_need}
+use Rattle.i9_model.specs.Needs.{inst_need}
 use Rattle.i9_model.specs.State.{State}
 use Rattle.i9_model.proofs.SetLaws.{set_bits}
 use Rattle.i9_tune.specs.Deeds.{AgreeBeside, AreSameIn}

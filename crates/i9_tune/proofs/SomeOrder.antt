@@ -1,11 +1,11 @@
 -- A block has a greedy order.
-use Rattle.std.proofs.Common.{◌≡◌, ℕ, zero, suc, ◌+◌, ◌<◌, ◌≤◌, Bool, true, false, List, [], ◌∷◌, ◌++◌, length, refl, sym, ap, ◌∙◌, subst, arith}
+use Rattle.std.proofs.Common.{◌≡◌, ℕ, zero, suc, Bool, true, false, List, [], ◌∷◌, ◌++◌, length, refl, sym, ap, subst, arith}
 use Rattle.std.specs.Prelude.{nat_lt}
 use Rattle.std.proofs.lemmas.Bool.{both_ways}
 use Rattle.std.proofs.lemmas.Bool.Decides.{nat_tests}
 use Rattle.std.proofs.lemmas.List.{append-nil, append_assoc}
 use Rattle.i9_isa.specs.declared.inst.Inst.{Inst}
-use Rattle.i9_tune.specs.Greedy.{is_free, next_issue, IsChosen, IsGreedy, IsTuned, better}
+use Rattle.i9_tune.specs.Greedy.{is_free, next_issue, IsGreedy, IsTuned, better}
 use Rattle.i9_tune.proofs.Chosen.{IsBest, first_best, best_stays, best_changes}
 use Rattle.i9_tune.proofs.Tuned.{one_less}
 

@@ -37,8 +37,8 @@ pub fn a_result_sees_its_sources()
 {}
 
 /// An allowed instruction sees what its need reads, and beside these resources bit 12 of the arithmetic controls, which
-/// no allowed instruction changes, the orders of bytes, and the bytes that it loads: where all that is the same, it does
-/// the same. So what a need says of reading is enough, as `actions_keep_to_their_needs` says of writing.
+/// no allowed instruction changes, the orders of bytes, and the bytes that it loads: where all that is the same, it
+/// does the same. So a need names all that is read, as `actions_keep_to_their_needs` says of what is written.
 pub fn an_instruction_sees_what_its_need_reads()
     ensures { (f : Facts) (i : Inst) (s t : State) → IsValid i → is_allowed i ≡ true
         → AreSameIn (inst_need i f).reads s t → AgreeBeside i s t → DoesSame i s t }
@@ -67,8 +67,8 @@ pub fn tuned_blocks_do_the_same()
         → Replaces block tuned s t → DoTheSame (s.ip, byte_length block) block tuned s t }
 {}
 
-/// A block has one greedy order, and so one tuned block. That is a permutation of it in which instructions that depend on
-/// each other keep their order, and takes no more turns.
+/// A block has one greedy order, and so one tuned block. That is a permutation of it in which instructions that depend
+/// on each other keep their order, and takes no more turns.
 pub fn a_block_is_tuned_one_way()
     ensures some { (block : List Inst) → (tuned : List Inst) × IsTuned block tuned }
     ensures greedy { (block p q : List Inst) → IsGreedy [] block p → IsGreedy [] block q → p ≡ q }

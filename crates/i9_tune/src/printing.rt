@@ -140,9 +140,9 @@ fn text_of(
 }
 
 /// The text of a block that stands at an address: `.org` and the address, the instructions of the tuned block as lines
-/// of a listing, with words none of whose ignored bits is set, and `#tune` with the address, the number of instructions,
-/// and the spans of the block and of the tuned one. Addresses run on from FFFFFFFF to 0. The form of the text is this
-/// project's own.
+/// of a listing, with words none of whose ignored bits is set, and `#tune` with the address, the number of
+/// instructions, and the spans of the block and of the tuned one. Addresses run on from FFFFFFFF to 0. The form of the
+/// text is this project's own.
 pub fn tuning(alloc: Global, address: u32, block: &[Inst]) -> Result<Vec<u8>, NoMemory>
     requires tunable { AreTunable block.now }
     requires few { length block.now ≤ 64 }

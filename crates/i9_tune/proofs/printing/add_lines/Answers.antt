@@ -1,4 +1,4 @@
-use Rattle.std.proofs.Common.{◌≡◌, ℕ, ◌+◌, ◌*◌, ◌%◌, ap, arith}
+use Rattle.std.proofs.Common.{ℕ, ◌+◌, ◌*◌, ap, arith}
 use Rattle.i9_model.specs.Writes.{wrapped}
 use Rattle.i9_tune.proofs.Lines.{go_turn, go_end}
 use Rattle.i9_tune.proofs.printing.add_lines.Goals as goal

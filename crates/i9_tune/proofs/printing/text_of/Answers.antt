@@ -1,4 +1,4 @@
-use Rattle.std.proofs.Common.{◌≡◌, ◌++◌, List, ℕ, [], ap, ◌∙◌}
+use Rattle.std.proofs.Common.{◌++◌, List, ℕ, ap, ◌∙◌}
 use Rattle.i9_hex.specs.Writing.{with_line_feed}
 use Rattle.i9_asm.specs.Listing.{org_line}
 use Rattle.i9_tune.specs.Tuning.{code_lines, spans_line}
