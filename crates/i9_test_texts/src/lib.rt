@@ -1,5 +1,5 @@
-//! The tests of i9_hex, i9_schedule, i9_script, i9_value, i9_runs, i9_elf, i9_image, i9_asm and i9_dis, whose public calls
-//! they make.
+//! The tests of i9_hex, i9_schedule, i9_script, i9_value, i9_runs, i9_elf, i9_image, i9_asm, i9_dis and i9_tune, whose public
+//! calls they make.
 #![tactic(auto)]
 
 #[cfg(test)]
@@ -26,5 +26,7 @@ mod runs;
 mod schedule;
 #[cfg(test)]
 mod script;
+#[cfg(test)]
+mod tune;
 #[cfg(test)]
 mod value;

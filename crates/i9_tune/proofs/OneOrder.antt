@@ -1,0 +1,77 @@
+-- A block has one greedy order.
+use Rattle.std.proofs.Common.{◌≡◌, ◌<◌, ◌≤◌, true, List, [], ◌∷◌, ◌++◌, refl, sym, ap, ◌∙◌, subst, arith}
+use Rattle.std.proofs.lemmas.List.{append_assoc, append-nil}
+use Rattle.i9_isa.specs.declared.inst.Inst.{Inst}
+use Rattle.i9_tune.specs.Greedy.{is_free, next_issue, AllFree, IsChosen, IsGreedy, better, IsTuned}
+
+head_or : Inst → List Inst → Inst
+head_or d [] = d
+head_or d (x ∷ xs) = x
+
+rest_of : List Inst → List Inst
+rest_of [] = []
+rest_of (x ∷ xs) = xs
+
+same_head : (x y : Inst) (xs ys : List Inst) → x ∷ xs ≡ y ∷ ys → x ≡ y
+unfolding head_or
+same_head x y xs ys e = ap (head_or x) e
+
+same_rest : (x y : Inst) (xs ys : List Inst) → x ∷ xs ≡ y ∷ ys → xs ≡ ys
+unfolding rest_of
+same_rest x y xs ys e = ap rest_of e
+
+-- one list, split at two places: the places are the same, or one is before the other
+data AreSplits (b : List Inst) (x : Inst) (a c : List Inst) (y : Inst) (d : List Inst) : Type 0 where
+  same : b ≡ c → x ≡ y → a ≡ d → AreSplits b x a c y d
+  first : (e : List Inst) → c ≡ b ++ x ∷ e → a ≡ e ++ y ∷ d → AreSplits b x a c y d
+  second : (e : List Inst) → b ≡ c ++ y ∷ e → d ≡ e ++ x ∷ a → AreSplits b x a c y d
+
+under : (i j : Inst) (b : List Inst) (x : Inst) (a c : List Inst) (y : Inst) (d : List Inst) → i ≡ j → AreSplits b x a c y d → AreSplits (i ∷ b) x a (j ∷ c) y d
+under i j b x a c y d e (same p q r) = same (ap (λ (k : Inst). k ∷ b) e ∙ ap (λ (is : List Inst). j ∷ is) p) q r
+under i j b x a c y d e (first f p q) = first f (ap (λ (k : Inst). k ∷ c) (sym e) ∙ ap (λ (is : List Inst). i ∷ is) p) q
+under i j b x a c y d e (second f p q) = second f (ap (λ (k : Inst). k ∷ b) e ∙ ap (λ (is : List Inst). j ∷ is) p) q
+
+splits : (b : List Inst) (x : Inst) (a c : List Inst) (y : Inst) (d : List Inst) → b ++ x ∷ a ≡ c ++ y ∷ d → AreSplits b x a c y d
+splits [] x a [] y d e = same refl (same_head x y a d e) (same_rest x y a d e)
+splits [] x a (j ∷ c) y d e = first c (ap (λ (k : Inst). k ∷ c) (sym (same_head x j a (c ++ y ∷ d) e))) (same_rest x j a (c ++ y ∷ d) e)
+splits (i ∷ b) x a [] y d e = second b (ap (λ (k : Inst). k ∷ b) (same_head i y (b ++ x ∷ a) d e)) (sym (same_rest i y (b ++ x ∷ a) d e))
+splits (i ∷ b) x a (j ∷ c) y d e =
+    under i j b x a c y d (same_head i j (b ++ x ∷ a) (c ++ y ∷ d) e) (splits b x a c y d (same_rest i j (b ++ x ∷ a) (c ++ y ∷ d) e))
+
+free_at : (P : Inst → Type 0) (before is : List Inst) (y : Inst) (js : List Inst) → AllFree P before (is ++ y ∷ js) → is_free (before ++ is) y ≡ true → P y
+free_at P before [] y js h e = h.0 (subst (λ (b : List Inst). is_free b y ≡ true) (append-nil before) e)
+free_at P before (i ∷ is) y js h e = free_at P (before ++ i ∷ []) is y js h.1 (subst (λ (b : List Inst). is_free b y ≡ true) (sym (append_assoc before (i ∷ []) is)) e)
+
+-- of two that are chosen neither is before the other
+none_first : (taken b : List Inst) (x : Inst) (a c : List Inst) (y : Inst) (d e : List Inst) → c ≡ b ++ x ∷ e → a ≡ e ++ y ∷ d → IsChosen taken b x a → IsChosen taken c y d → ⊥
+none_first taken b x a c y d e p q one two =
+    let less : next_issue taken y < next_issue taken x =
+    free_at (λ i. next_issue taken y < next_issue taken i) [] b x e (subst (AllFree (λ i. next_issue taken y < next_issue taken i) []) p two.earlier) one.free in
+    let more : next_issue taken x ≤ next_issue taken y =
+    free_at (λ i. next_issue taken x ≤ next_issue taken i) (b ++ x ∷ []) e y d (subst (AllFree (λ i. next_issue taken x ≤ next_issue taken i) (b ++ x ∷ [])) q one.later)
+    (subst (λ (z : List Inst). is_free z y ≡ true) (p ∙ sym (append_assoc b (x ∷ []) e)) two.free) in
+    omega (arith, less, more)
+
+none_left : (c : List Inst) (z : Inst) (d : List Inst) → c ++ z ∷ d ≡ [] → ⊥
+none_left [] z d e = cc e
+none_left (i ∷ c) z d e = cc e
+
+-- the first ones are the same, and the others, where that is known
+same_orders : (taken left : List Inst) (x y : Inst) (p q : List Inst) (g : IsGreedy taken left (x ∷ p)) (h : IsGreedy taken left (y ∷ q))
+    → ((t is : List Inst) → IsGreedy t is p → IsGreedy t is q → p ≡ q) → AreSplits g.0 x g.1 h.0 y h.1 → x ∷ p ≡ y ∷ q
+same_orders taken left x y p q g h later (same e f k) =
+    let there = subst (λ (z : Inst). IsGreedy (z ∷ taken) (g.0 ++ g.1) p) f g.4 in
+    let left_same : g.0 ++ g.1 ≡ h.0 ++ h.1 = ap (λ (b : List Inst). b ++ g.1) e ∙ ap (λ (b : List Inst). h.0 ++ b) k in
+    let rest = later (y ∷ taken) (h.0 ++ h.1) (subst (λ (is : List Inst). IsGreedy (y ∷ taken) is p) left_same there) h.4 in
+    ap (λ (z : Inst). z ∷ p) f ∙ ap (λ (is : List Inst). y ∷ is) rest
+same_orders taken left x y p q g h later (first e f k) = absurd (none_first taken g.0 x g.1 h.0 y h.1 e f k g.3 h.3)
+same_orders taken left x y p q g h later (second e f k) = absurd (none_first taken h.0 y h.1 g.0 x g.1 e f k h.3 g.3)
+
+pub one_greedy : (taken left p q : List Inst) → IsGreedy taken left p → IsGreedy taken left q → p ≡ q
+one_greedy taken left [] [] g h = refl
+one_greedy taken left [] (y ∷ q) g h = absurd (none_left h.0 y h.1 (sym h.2 ∙ g))
+one_greedy taken left (x ∷ p) [] g h = absurd (none_left g.0 x g.1 (sym g.2 ∙ h))
+one_greedy taken left (x ∷ p) (y ∷ q) g h = same_orders taken left x y p q g h (λ t is u v. one_greedy t is p q u v) (splits g.0 x g.1 h.0 y h.1 (sym g.2 ∙ h.2))
+
+pub one_tuned : (block p q : List Inst) → IsTuned block p → IsTuned block q → p ≡ q
+one_tuned block p q g h = g.2 ∙ ap (better block) (one_greedy [] block g.0 h.0 g.1 h.1) ∙ sym h.2

@@ -1,0 +1,364 @@
+-- What an allowed instruction does depends on what it reads alone.
+use Rattle.std.proofs.Common.{◌≡◌, ℕ, ◌+◌, ◌*◌, ◌%◌, ◌^◌, ◌<◌, Bool, true, false, cond, ◌||◌, ◌&&◌, List, [], ◌∷◌, Option, Some, None, refl, sym, ap, ◌∙◌, arith}
+use Rattle.std.specs.Prelude.{◌==◌, nat_le, not}
+use Rattle.std.proofs.lemmas.Bool.{or_left, or_right, or_parts, both_ways, eq-eqb, cond-true}
+use Rattle.std.proofs.lemmas.Bool.Decides.{nat_tests}
+use Rattle.i9_isa.specs.declared.op.Op.{Op}
+use Rattle.i9_isa.specs.declared.op.Op.TheVariants.{Addi, Lda}
+use Rattle.i9_isa.specs.declared.size.Size.{Size}
+use Rattle.i9_isa.specs.declared.size.Size.TheVariants.{Byte, Half, Words}
+use Rattle.i9_isa.specs.declared.size.Direction.{Direction}
+use Rattle.i9_isa.specs.declared.size.Direction.TheVariants.{Load, Store}
+use Rattle.i9_isa.specs.declared.size.Transfer.{Transfer}
+use Rattle.i9_isa.specs.declared.inst.Operand.{Operand}
+use Rattle.i9_isa.specs.declared.inst.Operand.TheVariants.{Reg, Lit, Sfr}
+use Rattle.i9_isa.specs.declared.inst.Mode.{Mode}
+use Rattle.i9_isa.specs.declared.inst.Mode.TheVariants.{Offset, BaseOffset, Base, Ip, BaseIndex, Disp, BaseDisp, IndexDisp, BaseIndexDisp}
+use Rattle.i9_isa.specs.declared.inst.Ea.{Ea}
+use Rattle.i9_isa.specs.declared.inst.Inst.{Inst}
+use Rattle.i9_isa.specs.declared.resources.TheConstants.{CONDITION_CODE}
+use Rattle.i9_isa.specs.Operands.{words_read, words_written, has_base, has_index}
+use Rattle.i9_isa.specs.Resources.{is_in_group, is_in_operand, reads_code, writes_code, is_read}
+use Rattle.i9_isa.specs.Table.{row_of}
+use Rattle.i9_isa.specs.Transfers.{byte_count, register_count, transfer_of}
+use Rattle.i9_isa.proofs.Moved.{stores_registers}
+use Rattle.i9_model.specs.Writes.{wrapped, upwards}
+use Rattle.i9_model.specs.Memory.{Memory, half_in, half_bytes}
+use Rattle.i9_model.specs.State.{State}
+use Rattle.i9_model.specs.Addresses.{sum_for}
+use Rattle.i9_model.specs.Operands.{value, word_of, source_words, assigned, address}
+use Rattle.i9_model.specs.Results.{Answer}
+use Rattle.i9_model.specs.Faults.{is_special}
+use Rattle.i9_model.specs.Step.{Action, filled, passing, assigning, answering, loaded, stored_of, bytes_of_words, moving, destination, answer_in, values_of, controls_of, resulting, action_by_name, action_by, action_of}
+use Rattle.i9_model.specs.Needs.{is_request_name}
+use Rattle.i9_model.specs.Branches.{is_taken}
+use Rattle.i9_model.specs.declared.faults.TheConstants.{CONSTRAINT, RANGE}
+use Rattle.std.specs.Option.{is_some}
+use Rattle.i9_model.specs.Alike.{with_other}
+use Rattle.i9_model.specs.Access.{NoAccess, access_by_name, access_by, access_of, moved_access}
+use Rattle.i9_model.specs.Standing.{is_fault_name, later_fault, range_fault, first_fault, answer_fault}
+use Rattle.i9_model.proofs.Readings.{map_below, words_same}
+use Rattle.i9_model.proofs.AlikeActions.{stored_words_same}
+use Rattle.i9_tune.specs.Inputs.{Change, Keeps, changed, is_code, AreSame}
+use Rattle.i9_tune.specs.Blocks.{is_result_name, is_lda, is_relative, is_allowed_name, is_allowed}
+use Rattle.i9_tune.specs.Deeds.{AreSameBytes, AgreeBeside, Deed, deed_action, DoesSame}
+use Rattle.i9_tune.proofs.Inputs.{Four, result_same}
+
+-- ---- what is read
+
+-- register k is read, as an operand or for the address
+abbrev pub is_register_read : Inst → ℕ → Bool
+is_register_read i k =
+    is_in_operand i.a (words_read (row_of i.op).a) k
+    || is_in_operand i.b (words_read (row_of i.op).b) k
+    || is_in_operand i.c (words_read (row_of i.op).c) k
+    || (has_base i.ea.mode && (k == i.ea.base))
+    || (has_index i.ea.mode && (k == i.ea.index))
+
+-- the second state has all that the instruction sees as the first one
+pub record Agree (i : Inst) (s t : State) : Type 0 where
+  pub regs : (k : ℕ) → is_register_read i k ≡ true → s.regs k ≡ t.regs k
+  pub code : reads_code i.op ≡ true → s.ac % 8 ≡ t.ac % 8
+  pub beside : AgreeBeside i s t
+
+reads_a : (i : Inst) (k : ℕ) → is_in_operand i.a (words_read (row_of i.op).a) k ≡ true → is_register_read i k ≡ true
+reads_a i k h = or_left _ _ (or_left _ _ (or_left _ _ (or_left _ _ h)))
+
+reads_b : (i : Inst) (k : ℕ) → is_in_operand i.b (words_read (row_of i.op).b) k ≡ true → is_register_read i k ≡ true
+reads_b i k h = or_left _ _ (or_left _ _ (or_left _ _ (or_right _ _ h)))
+
+reads_c : (i : Inst) (k : ℕ) → is_in_operand i.c (words_read (row_of i.op).c) k ≡ true → is_register_read i k ≡ true
+reads_c i k h = or_left _ _ (or_left _ _ (or_right _ _ h))
+
+also : (b c : Bool) → b ≡ true → c ≡ true → (b && c) ≡ true
+also true true h k = refl
+also false c h k = absurd (cc h)
+also true false h k = absurd (cc k)
+
+reads_base : (i : Inst) → has_base i.ea.mode ≡ true → is_register_read i i.ea.base ≡ true
+reads_base i h = or_left _ _ (or_right _ _ (also _ _ h (eq-eqb i.ea.base i.ea.base refl)))
+
+reads_index : (i : Inst) → has_index i.ea.mode ≡ true → is_register_read i i.ea.index ≡ true
+reads_index i h = or_right _ _ (also _ _ h (eq-eqb i.ea.index i.ea.index refl))
+
+pub register_is_read : (i : Inst) (k : ℕ) → is_register_read i k ≡ true → is_read i k ≡ true
+register_is_read i k h = or_left _ _ h
+
+pub code_is_read : (i : Inst) → reads_code i.op ≡ true → is_read i CONDITION_CODE ≡ true
+code_is_read i h = or_right _ _ (also _ _ h refl)
+
+-- ---- sources
+
+in_group : (r n k : ℕ) → k < n → is_in_group r n (r + k) ≡ true
+in_group r n k h = grind (arith, nat_tests, h)
+
+register_words : (s t : State) (r n : ℕ) → ((k : ℕ) → is_in_group r n k ≡ true → s.regs k ≡ t.regs k) → (k : ℕ) → k < n → word_of s (Reg r) k ≡ word_of t (Reg r) k
+register_words s t r n same k h = by_test (k == 0) refl
+  where
+    here : k ≡ 0 → r + k ≡ r
+    here e = omega (arith, e)
+
+    by_test : (b : Bool) → (k == 0) ≡ b → cond b (s.regs r) (s.regs (r + k)) ≡ cond b (t.regs r) (t.regs (r + k))
+    by_test true e = let z = here (grind (arith, nat_tests, e)) in ap s.regs (sym z) ∙ same (r + k) (in_group r n k h) ∙ ap t.regs z
+    by_test false e = same (r + k) (in_group r n k h)
+
+operand_words : (s t : State) (o : Operand) (n : ℕ) → is_special o ≡ false → ((k : ℕ) → is_in_operand o n k ≡ true → s.regs k ≡ t.regs k) → (k : ℕ) → k < n → word_of s o k ≡ word_of t o k
+operand_words s t (Reg r) n plain same k h = register_words s t r n same k h
+operand_words s t (Lit l) n plain same k h = refl
+operand_words s t (Sfr j) n plain same k h = absurd (cc plain)
+
+operand_four : (s t : State) (o : Operand) (n : ℕ) → is_special o ≡ false → ((k : ℕ) → is_in_operand o n k ≡ true → s.regs k ≡ t.regs k) → Four n (source_words s o 4) (source_words t o 4)
+operand_four s t o n plain same =
+    let w = operand_words s t o n plain same in
+    record { first = w 0; second = w 1; third = w 2; fourth = w 3 }
+
+-- of src2 two words are taken, and no name reads more
+second_few : (op : Op) → nat_le (words_read (row_of op).b) 2 ≡ true
+second_few Addi = refl
+second_few _ = refl
+
+operand_two : (s t : State) (o : Operand) (n : ℕ) → nat_le n 2 ≡ true → is_special o ≡ false → ((k : ℕ) → is_in_operand o n k ≡ true → s.regs k ≡ t.regs k) → Four n (source_words s o 2) (source_words t o 2)
+operand_two s t o n few plain same =
+    let w = operand_words s t o n plain same in
+    record { first = w 0; second = w 1; third = λ h. absurd (grind (arith, nat_tests, few, h)); fourth = λ h. absurd (grind (arith, nat_tests, few, h)) }
+
+-- ---- addresses
+
+sum_same : (m : Mode) (e : Ea) (b c x y ip jp : ℕ) → is_relative m ≡ false → (has_base m ≡ true → b ≡ c) → (has_index m ≡ true → x ≡ y) → sum_for m e b x ip ≡ sum_for m e c y jp
+sum_same Offset e b c x y ip jp r base index = refl
+sum_same BaseOffset e b c x y ip jp r base index = rw (base refl) refl
+sum_same Base e b c x y ip jp r base index = base refl
+sum_same Ip e b c x y ip jp r base index = absurd (cc r)
+sum_same BaseIndex e b c x y ip jp r base index = rw (base refl, index refl) refl
+sum_same Disp e b c x y ip jp r base index = refl
+sum_same BaseDisp e b c x y ip jp r base index = rw (base refl) refl
+sum_same IndexDisp e b c x y ip jp r base index = rw (index refl) refl
+sum_same BaseIndexDisp e b c x y ip jp r base index = rw (base refl, index refl) refl
+
+-- ---- an allowed instruction
+
+pub record IsAllowed (i : Inst) : Type 0 where
+  pub name : is_allowed_name i.op ≡ true
+  pub a : is_special i.a ≡ false
+  pub b : is_special i.b ≡ false
+  pub c : is_special i.c ≡ false
+  pub own : is_relative i.ea.mode ≡ false
+
+both : (p q : Bool) → (p && q) ≡ true → (p ≡ true) × (q ≡ true)
+both true true h = (refl, refl)
+both true false h = absurd (cc h)
+both false q h = absurd (cc h)
+
+negated : (p : Bool) → not p ≡ true → p ≡ false
+negated false h = refl
+negated true h = absurd (cc h)
+
+pub allowed_parts : (i : Inst) → is_allowed i ≡ true → IsAllowed i
+allowed_parts i h =
+    let p = both _ _ h in
+    let q = both _ _ p.0 in
+    let u = or_parts _ _ (negated _ q.1) in
+    let v = or_parts _ _ u.0 in
+    record { name = q.0; a = v.0; b = v.1; c = u.1; own = negated _ p.1 }
+
+pub address_same : (i : Inst) (s t : State) → IsAllowed i → Agree i s t → address s i.ea ≡ address t i.ea
+address_same i s t ok same =
+    ap wrapped (sum_same i.ea.mode i.ea (s.regs i.ea.base) (t.regs i.ea.base) (s.regs i.ea.index) (t.regs i.ea.index) s.ip t.ip ok.own
+    (λ h. same.regs i.ea.base (reads_base i h)) (λ h. same.regs i.ea.index (reads_index i h)))
+
+plain_target : (o : Operand) (vs : List ℕ) (a : Action) → is_special o ≡ false → assigning o vs a ≡ record a { sets = assigned o vs }
+plain_target (Reg r) vs a h = refl
+plain_target (Lit n) vs a h = refl
+plain_target (Sfr k) vs a h = absurd (cc h)
+
+-- ---- results
+
+answer_same : (i : Inst) (s t : State) → IsAllowed i → Agree i s t → AreSame i.op s.ac t.ac (answer_in i s) (answer_in i t)
+answer_same i s t ok same =
+    result_same i.op _ _ _ _ _ _ s.ac t.ac
+    (operand_four s t i.a (words_read (row_of i.op).a) ok.a (λ k h. same.regs k (reads_a i k h)))
+    (operand_two s t i.b (words_read (row_of i.op).b) (second_few i.op) ok.b (λ k h. same.regs k (reads_b i k h)))
+    (λ h. operand_words s t i.c (words_read (row_of i.op).c) ok.c (λ k r. same.regs k (reads_c i k r)) 0 h)
+    same.code same.beside.mask
+
+-- by its name an allowed instruction has a result, or is lda, or moves
+named : (op : Op) (i : Inst) (s : State) → action_by_name op i s ≡ cond (is_result_name op) (resulting i s (answer_in i s)) (action_by_name op i s)
+named Addi i s = refl
+named _ i s = refl
+
+pub still : (op : Op) (i : Inst) (s : State) → access_by_name op i s ≡ cond (is_allowed_name op) NoAccess (access_by_name op i s)
+still Addi i s = refl
+still _ i s = refl
+
+no_range : (op : Op) → is_fault_name op ≡ cond (is_allowed_name op) false (is_fault_name op)
+no_range Addi = refl
+no_range _ = refl
+
+target_plain : (i : Inst) → IsAllowed i → is_special (destination i) ≡ false
+target_plain i ok = by_test (words_written (row_of i.op).a == 0)
+  where
+    by_test : (b : Bool) → is_special (cond b i.c i.a) ≡ false
+    by_test true = ok.c
+    by_test false = ok.a
+
+resulting_deed : (i : Inst) (s : State) (o : Option Answer) (c : Change) → IsAllowed i → controls_of o s.ac ≡ changed c s.ac → resulting i s o ≡ deed_action i s (record { sets = assigned (destination i) (values_of o); change = c; writes = [] })
+resulting_deed i s o c ok e =
+    ap (λ (a : Action). record a { ac = controls_of o s.ac }) (plain_target (destination i) (values_of o) (passing i s) (target_plain i ok))
+    ∙ ap (λ (n : ℕ). record (passing i s) { sets = assigned (destination i) (values_of o); ac = n }) e
+
+-- ---- loads and stores
+
+first_byte : (m n : Memory) (x c : ℕ) → AreSameBytes m n (wrapped x) c → 0 < c → m.bytes (wrapped x) ≡ n.bytes (wrapped x)
+first_byte m n x c same h =
+    let e : wrapped (wrapped x + 0) ≡ wrapped x = omega arith in
+    ap m.bytes (sym e) ∙ same 0 h ∙ ap n.bytes e
+
+pub other_memory : (m n : Memory) → m.mcon ≡ n.mcon → with_other m n.bytes ≡ n
+other_memory m n e = ap (λ (c : ℕ → ℕ). record { bytes = n.bytes; mcon = c }) e
+
+half_agree : (m : Memory) (bytes : ℕ → ℕ) (a : ℕ) → m.bytes a ≡ bytes a → m.bytes (wrapped (a + 1)) ≡ bytes (wrapped (a + 1)) → half_in m a ≡ half_in (with_other m bytes) a
+unfolding half_in
+half_agree m bytes a e f = rw (e, f) refl
+
+loaded_other : (size : Size) (signed : Bool) (m : Memory) (bytes : ℕ → ℕ) (x : ℕ) → AreSameBytes m (with_other m bytes) (wrapped x) (byte_count size)
+    → loaded size signed m (wrapped x) ≡ loaded size signed (with_other m bytes) (wrapped x)
+loaded_other Byte signed m bytes x same = ap (λ (v : ℕ). filled signed 8 v ∷ []) (first_byte m (with_other m bytes) x 1 same (omega arith))
+loaded_other Half signed m bytes x same =
+    ap (λ (v : ℕ). filled signed 16 v ∷ []) (half_agree m bytes (wrapped x) (first_byte m (with_other m bytes) x 2 same (omega arith)) (same 1 (omega arith)))
+loaded_other (Words n) signed m bytes x same = sym (words_same m bytes (wrapped x) (4 * n) n (λ k h. sym (same k h)) (omega arith))
+
+loaded_agree : (size : Size) (signed : Bool) (m n : Memory) (x : ℕ) → m.mcon ≡ n.mcon → AreSameBytes m n (wrapped x) (byte_count size)
+    → loaded size signed m (wrapped x) ≡ loaded size signed n (wrapped x)
+loaded_agree size signed m n x e same = loaded_other size signed m n.bytes x same ∙ ap (λ (o : Memory). loaded size signed o (wrapped x)) (other_memory m n e)
+
+half_order : (m : Memory) (bytes : ℕ → ℕ) (a v : ℕ) → half_bytes (with_other m bytes) a v ≡ half_bytes m a v
+unfolding half_bytes
+half_order m bytes a v = refl
+
+stored_agree : (size : Size) (s t : State) (o : Operand) (a : ℕ) → s.memory.mcon ≡ t.memory.mcon → ((k : ℕ) → k < register_count size → word_of s o k ≡ word_of t o k)
+    → stored_of size s o a ≡ stored_of size t o a
+stored_agree Byte s t o a e same = ap (λ (v : ℕ). v % 2 ^ 8 ∷ []) (same 0 (omega arith))
+stored_agree Half s t o a e same =
+    ap (λ (v : ℕ). half_bytes s.memory a (v % 2 ^ 16)) (same 0 (omega arith))
+    ∙ sym (half_order s.memory t.memory.bytes a (value t o % 2 ^ 16)) ∙ ap (λ (m : Memory). half_bytes m a (value t o % 2 ^ 16)) (other_memory s.memory t.memory e)
+stored_agree (Words n) s t o a e same =
+    ap (λ (ws : List ℕ). bytes_of_words s.memory a ws) (map_below (word_of s o) (word_of t o) n same)
+    ∙ sym (stored_words_same s.memory t.memory.bytes a (source_words t o n)) ∙ ap (λ (m : Memory). bytes_of_words m a (source_words t o n)) (other_memory s.memory t.memory e)
+
+-- what an action of either direction is as a deed
+abbrev moving_deed : Direction → Size → Bool → Inst → State → Deed
+moving_deed Load size signed i s = record { sets = assigned i.c (loaded size signed s.memory (address s i.ea)); change = Keeps; writes = [] }
+moving_deed Store size signed i s = record { sets = []; change = Keeps; writes = upwards (address s i.ea) (stored_of size s i.c (address s i.ea)) }
+
+moving_is : (d : Direction) (size : Size) (signed : Bool) (i : Inst) (s : State) → IsAllowed i → moving d size signed i s ≡ deed_action i s (moving_deed d size signed i s)
+moving_is Load size signed i s ok = plain_target i.c (loaded size signed s.memory (address s i.ea)) (passing i s) ok.c
+moving_is Store size signed i s ok = refl
+
+moving_agree : (d : Direction) (size : Size) (signed : Bool) (i : Inst) (s t : State) → IsAllowed i → Agree i s t
+    → (d ≡ Load → AreSameBytes s.memory t.memory (address s i.ea) (byte_count size)) → (d ≡ Store → words_read (row_of i.op).c ≡ register_count size)
+    → moving_deed d size signed i s ≡ moving_deed d size signed i t
+moving_agree Load size signed i s t ok same bytes row =
+    let e = loaded_agree size signed s.memory t.memory _ same.beside.orders (bytes refl) in
+    let f = ap (λ (a : ℕ). loaded size signed t.memory a) (address_same i s t ok same) in
+    ap (λ (vs : List ℕ). record { sets = assigned i.c vs; change = Keeps; writes = [] }) (e ∙ f)
+moving_agree Store size signed i s t ok same bytes row =
+    let count = row refl in
+    let words = operand_words s t i.c (words_read (row_of i.op).c) ok.c (λ k r. same.regs k (reads_c i k r)) in
+    let e = stored_agree size s t i.c (address s i.ea) same.beside.orders (λ k h. words k (omega (arith, count, h))) in
+    ap (λ (bs : List ℕ). record { sets = []; change = Keeps; writes = upwards (address s i.ea) bs }) e
+    ∙ ap (λ (a : ℕ). record { sets = []; change = Keeps; writes = upwards a (stored_of size t i.c a) }) (address_same i s t ok same)
+
+-- ---- all
+
+load_address : (op : Op) (i : Inst) (s : State) → is_lda op ≡ true → action_by_name op i s ≡ answering i s (address s i.ea)
+load_address Lda i s h = refl
+load_address _ i s h = absurd (cc h)
+
+range_none : (i : Inst) (s : State) → IsAllowed i → range_fault i s ≡ None
+range_none i s ok =
+    let none : is_fault_name i.op ≡ false = no_range i.op ∙ cond-true _ _ _ ok.name in
+    ap (λ (b : Bool). cond (b && is_taken i (value s i.a) (value s i.b) s.ac) (Some (CONSTRAINT, RANGE)) None) none
+
+fault_agree : (i : Inst) (s t : State) → IsAllowed i → Agree i s t → later_fault i s ≡ later_fault i t
+fault_agree i s t ok same =
+    ap (λ (f : Option (ℕ × ℕ)). first_fault f (range_fault i s)) (answer_same i s t ok same).fault
+    ∙ ap (λ (f : Option (ℕ × ℕ)). first_fault (answer_fault (answer_in i t)) f) (range_none i s ok ∙ sym (range_none i t ok))
+
+access_agree : (i : Inst) (s t : State) → IsAllowed i → Agree i s t → access_of i s ≡ access_of i t
+access_agree i s t ok same = by_transfer (transfer_of i.op)
+  where
+    none : (u : State) → access_by_name i.op i u ≡ NoAccess
+    none u = still i.op i u ∙ cond-true _ _ _ ok.name
+
+    by_transfer : (o : Option Transfer) → access_by o i s ≡ access_by o i t
+    by_transfer (Some m) = ap (λ (a : ℕ). moved_access m.direction a (byte_count m.size)) (address_same i s t ok same)
+    by_transfer None = none s ∙ sym (none t)
+
+result_does : (i : Inst) (s t : State) → IsAllowed i → Agree i s t → transfer_of i.op ≡ None → is_result_name i.op ≡ true → DoesSame i s t
+unfolding action_of
+result_does i s t ok same e r =
+    let x = answer_same i s t ok same in
+    let acts : (u : State) → action_of i u ≡ resulting i u (answer_in i u) = λ u. ap (λ (o : Option Transfer). action_by o i u) e ∙ named i.op i u ∙ cond-true _ _ _ r in
+    record {
+      deed = record { sets = assigned (destination i) (values_of (answer_in i s)); change = x.change; writes = [] };
+      here = acts s ∙ resulting_deed i s (answer_in i s) x.change ok x.here;
+      there = acts t ∙ resulting_deed i t (answer_in i t) x.change ok x.there
+          ∙ ap (λ (vs : List ℕ). deed_action i t (record { sets = assigned (destination i) vs; change = x.change; writes = [] })) (sym x.values);
+      coded = x.coded;
+      quiet = λ h. refl;
+      access = access_agree i s t ok same;
+      fault = fault_agree i s t ok same;
+    }
+
+address_does : (i : Inst) (s t : State) → IsAllowed i → Agree i s t → transfer_of i.op ≡ None → is_lda i.op ≡ true → DoesSame i s t
+unfolding action_of
+address_does i s t ok same e l =
+    let acts : (u : State) → action_of i u ≡ deed_action i u (record { sets = assigned i.c (address u i.ea ∷ []); change = Keeps; writes = [] }) =
+    λ u. ap (λ (o : Option Transfer). action_by o i u) e ∙ load_address i.op i u l ∙ plain_target i.c (address u i.ea ∷ []) (passing i u) ok.c in
+    record {
+      deed = record { sets = assigned i.c (address s i.ea ∷ []); change = Keeps; writes = [] };
+      here = acts s;
+      there = acts t ∙ ap (λ (a : ℕ). deed_action i t (record { sets = assigned i.c (a ∷ []); change = Keeps; writes = [] })) (sym (address_same i s t ok same));
+      coded = λ h. absurd (cc h);
+      quiet = λ h. refl;
+      access = access_agree i s t ok same;
+      fault = fault_agree i s t ok same;
+    }
+
+move_does : (i : Inst) (s t : State) (m : Transfer) → IsAllowed i → Agree i s t → transfer_of i.op ≡ Some m → DoesSame i s t
+unfolding action_of
+move_does i s t m ok same e =
+    let acts : (u : State) → action_of i u ≡ deed_action i u (moving_deed m.direction m.size m.signed i u) =
+    λ u. ap (λ (o : Option Transfer). action_by o i u) e ∙ moving_is m.direction m.size m.signed i u ok in
+    let deed = moving_deed m.direction m.size m.signed i s in
+    let bytes : m.direction ≡ Load → AreSameBytes s.memory t.memory (address s i.ea) (byte_count m.size) = λ load.
+    same.beside.bytes (address s i.ea) (byte_count m.size) (ap (λ (o : Option Transfer). access_by o i s) e ∙ ap (λ (d : Direction). moved_access d (address s i.ea) (byte_count m.size)) load) in
+    record {
+      deed = deed;
+      here = acts s;
+      there = acts t ∙ ap (λ (d : Deed). deed_action i t d) (sym (moving_agree m.direction m.size m.signed i s t ok same bytes (stores_registers i.op m e)));
+      coded = keeps m.direction;
+      quiet = λ h. absurd (both_ways (is_request_name i.op) h (ap is_some e));
+      access = access_agree i s t ok same;
+      fault = fault_agree i s t ok same;
+    }
+  where
+    keeps : (d : Direction) → is_code (moving_deed d m.size m.signed i s).change ≡ true → writes_code i.op ≡ true
+    keeps Load h = absurd (cc h)
+    keeps Store h = absurd (cc h)
+
+either : (a b c : Bool) → (a || b || c) ≡ true → a ≡ false → c ≡ false → b ≡ true
+either true b c h x y = absurd (cc x)
+either false true c h x y = refl
+either false false c h x y = absurd (both_ways c y h)
+
+pub does_same : (i : Inst) (s t : State) → IsAllowed i → Agree i s t → DoesSame i s t
+does_same i s t ok same = by_transfer (transfer_of i.op) refl
+  where
+    by_name : (b : Bool) → is_result_name i.op ≡ b → transfer_of i.op ≡ None → DoesSame i s t
+    by_name true r e = result_does i s t ok same e r
+    by_name false r e = address_does i s t ok same e (either (is_result_name i.op) (is_lda i.op) (is_request_name i.op) ok.name r (ap is_some e))
+
+    by_transfer : (o : Option Transfer) → transfer_of i.op ≡ o → DoesSame i s t
+    by_transfer (Some m) e = move_does i s t m ok same e
+    by_transfer None e = by_name (is_result_name i.op) refl e

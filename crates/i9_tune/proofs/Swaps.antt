@@ -1,0 +1,381 @@
+-- Two instructions that are apart may change places.
+use Rattle.std.proofs.Common.{◌≡◌, ℕ, ◌+◌, ◌*◌, ◌/◌, ◌%◌, ◌^◌, max, Bool, true, false, cond, ◌||◌, ◌&&◌, List, [], ◌∷◌, ◌++◌, Option, Some, None, unwrap_or, refl, sym, ap, ◌∙◌, subst, arith}
+use Rattle.std.specs.Prelude.{◌==◌, not, bit_or, filter}
+use Rattle.std.specs.Int.{bit_at}
+use Rattle.std.specs.Option.{is_some, option_map}
+use Rattle.std.proofs.lemmas.Bool.{or_right, or_parts, both_ways, cond-true}
+use Rattle.std.proofs.lemmas.Nat.Bits.{bit_at_or, bit_at-pow_other}
+use Rattle.i9_isa.specs.declared.op.Op.{Op}
+use Rattle.i9_isa.specs.declared.op.Op.TheVariants.{Addi}
+use Rattle.i9_isa.specs.declared.size.Direction.{Direction}
+use Rattle.i9_isa.specs.declared.size.Direction.TheVariants.{Load, Store}
+use Rattle.i9_isa.specs.declared.size.Transfer.{Transfer}
+use Rattle.i9_isa.specs.declared.inst.Inst.{Inst}
+use Rattle.i9_isa.specs.declared.resources.TheConstants.{CONDITION_CODE, LINK}
+use Rattle.i9_isa.specs.Operands.{words_written}
+use Rattle.i9_isa.specs.Resources.{is_in_operand, is_in_frame, writes_link, changes_frame, writes_code, is_read, is_written}
+use Rattle.i9_isa.specs.Table.{row_of}
+use Rattle.i9_isa.specs.Transfers.{transfer_of, byte_count}
+use Rattle.i9_isa.specs.Words.{bit, words_of}
+use Rattle.i9_model.specs.Writes.{wrapped, written, last_put}
+use Rattle.i9_model.specs.Memory.{Memory, with_writes, exit_word, in_port_page}
+use Rattle.i9_model.specs.State.{State, Frames, TraceControls}
+use Rattle.i9_model.specs.declared.layout.TheConstants.{TRACE_ENABLE_PLACE}
+use Rattle.i9_model.specs.Tracing.{Instruction, has_mode}
+use Rattle.i9_model.specs.Frames.{wrote}
+use Rattle.i9_model.specs.Hazards.{read_hazard, write_hazard}
+use Rattle.i9_model.specs.Operands.{address}
+use Rattle.i9_model.specs.Conditions.{with_code}
+use Rattle.i9_model.specs.Faults.{raised, is_special, is_supervisor_only, is_invalid, is_past_table, is_unaligned}
+use Rattle.i9_model.specs.Calls.{in_supervisor_mode}
+use Rattle.i9_model.specs.declared.faults.TheConstants.{OPERATION, PROTECTION, TYPE, UNALIGNED, INVALID_OPERAND, LENGTH, MISMATCH}
+use Rattle.i9_model.specs.declared.setup.Tables.{Tables}
+use Rattle.i9_model.specs.declared.run.End.TheVariants.{Exit}
+use Rattle.std.proofs.lemmas.Nat.{or_comm, or_shifted, or_shr, or_block}
+use Rattle.i9_model.specs.Needs.{is_request_name}
+use Rattle.i9_model.specs.Alike.{with_other}
+use Rattle.i9_model.specs.Access.{Access, NoAccess, Reads, access_by, access_of, data_of, moved_access, hazard_in, hazard_of}
+use Rattle.i9_model.specs.Standing.{raised_in, later_fault}
+use Rattle.i9_model.specs.Step.{Action, following, action_of, moved, acted, counted}
+use Rattle.i9_model.specs.Run.{exit_in}
+use Rattle.i9_model.proofs.Stored.{written-last}
+use Rattle.i9_model.proofs.MaskLaws.{IsOutside, sets_beside}
+use Rattle.i9_model.proofs.CodeLaws.{code_beside}
+use Rattle.i9_model.proofs.AlikeSteps.{none_wrote}
+use Rattle.i9_tune.specs.Inputs.{Change, Keeps, Codes, Flags, changed, is_code}
+use Rattle.i9_tune.specs.Blocks.{is_allowed_name, Spares, AreApart}
+use Rattle.i9_tune.specs.Deeds.{Deed, deed_action, DoesSame}
+use Rattle.i9_tune.specs.Passes.{MissesBytes, is_watched, is_seen, Passes, stepped, port_bytes, ArePassed, behind, sent, AreAsGood}
+use Rattle.i9_tune.proofs.Borrowed.{all_false}
+use Rattle.i9_tune.proofs.Sources.{Agree, IsAllowed, register_is_read, code_is_read, does_same, still, other_memory}
+
+-- ---- the state behind a deed
+
+abbrev pub after_deed : Inst → State → Deed → State
+after_deed i s d = record s {
+  regs = written s.regs d.sets;
+  ac = changed d.change s.ac;
+  check = false;
+  memory = with_writes s.memory d.writes;
+  frames = wrote s.frames d.writes;
+  ip = following i s;
+  count = s.count + 1;
+}
+
+pub stepped_by : (i : Inst) (s : State) (d : Deed) → action_of i s ≡ deed_action i s d → stepped i s ≡ after_deed i s d
+unfolding acted moved
+stepped_by i s d e = ap (λ (a : Action). counted 1 (acted s a)) e
+
+pub same_here : (i : Inst) (s : State) → Agree i s s
+same_here i s = record { regs = λ k h. refl; code = λ h. refl; beside = record { mask = refl; orders = refl; bytes = λ a n e k h. refl } }
+
+-- ---- what it leaves
+
+-- bit 12 of the arithmetic controls is no part of the condition code, and not the overflow flag
+change_mask : (c : Change) (ac : ℕ) → bit (changed c ac) 12 ≡ bit ac 12
+change_mask Keeps ac = refl
+change_mask (Codes n) ac = ap (λ (x : ℕ). x == 1) (let h : (ac / 8 * 8 + n % 8) / 4096 % 2 ≡ ac / 4096 % 2 = omega arith in h)
+change_mask Flags ac =
+    let none : bit_at (2 ^ 8) 12 ≡ 0 = bit_at-pow_other 8 12 (λ e. absurd (omega (arith, e))) in
+    let most : max (bit_at ac 12) 0 ≡ bit_at ac 12 = omega arith in
+    ap (λ (x : ℕ). x == 1) (bit_at_or ac (2 ^ 8) 12 ∙ ap (max (bit_at ac 12)) none ∙ most)
+
+outside : (i : Inst) (k : ℕ) → is_written i k ≡ false → IsOutside i k
+outside i k h =
+    let f = all_false (is_in_operand i.a (words_written (row_of i.op).a) k) (is_in_operand i.c (words_written (row_of i.op).c) k) (writes_link i.op && (k == LINK)) (changes_frame i.op && is_in_frame k) (writes_code i.op && (k == CONDITION_CODE)) h in
+    record { a = f.0; c = f.1; link = f.2; frame = f.3 }
+
+not_coded : (b : Bool) → (b && true) ≡ false → b ≡ false
+not_coded true h = absurd (cc h)
+not_coded false h = refl
+
+writes_no_code : (i : Inst) → is_written i CONDITION_CODE ≡ false → writes_code i.op ≡ false
+writes_no_code i h =
+    let f = all_false (is_in_operand i.a (words_written (row_of i.op).a) 32) (is_in_operand i.c (words_written (row_of i.op).c) 32) (writes_link i.op && (32 == LINK)) (changes_frame i.op && is_in_frame 32) (writes_code i.op && true) h in
+    not_coded (writes_code i.op) f.4
+
+-- a register that is not written is not set
+unset : (i : Inst) (s : State) (d : Deed) (k : ℕ) → action_of i s ≡ deed_action i s d → is_written i k ≡ false → last_put d.sets k ≡ None
+unset i s d k e h = sym (ap (λ (a : Action). last_put a.sets k) e) ∙ sets_beside i s k (outside i k h)
+
+unspared : (i j : Inst) (k : ℕ) → Spares i j → is_read j k ≡ true → is_written i k ≡ false
+unspared i j k spares r = by_test (is_written i k) refl
+  where
+    by_test : (b : Bool) → is_written i k ≡ b → is_written i k ≡ false
+    by_test false e = e
+    by_test true e = absurd (both_ways (is_read j k) (spares k e).0 r)
+
+-- ---- what the other one reads is left
+
+is_request : (i : Inst) (m : Transfer) → transfer_of i.op ≡ Some m → is_request_name i.op ≡ true
+is_request i m e = ap is_some e
+
+-- what reads is a load
+load_request : (i : Inst) (s : State) (a n : ℕ) → IsAllowed i → access_of i s ≡ Reads a n → is_request_name i.op ≡ true
+load_request i s a n ok reads = by_transfer (transfer_of i.op) refl
+  where
+    by_transfer : (o : Option Transfer) → transfer_of i.op ≡ o → is_request_name i.op ≡ true
+    by_transfer (Some m) e = is_request i m e
+    by_transfer None e =
+        let none : access_of i s ≡ NoAccess = ap (λ (o : Option Transfer). access_by o i s) e ∙ still i.op i s ∙ cond-true _ _ _ ok.name in
+        absurd (cc (sym none ∙ reads))
+
+quiet_other : (a b : Bool) → (a && b) ≡ false → b ≡ true → a ≡ false
+quiet_other false b h k = refl
+quiet_other true b h k = absurd (both_ways b h k)
+
+with_none : (m : Memory) → with_writes m [] ≡ m
+unfolding written
+with_none m = refl
+
+agree_deed : (i j : Inst) (s : State) (d : Deed) → IsAllowed j → action_of i s ≡ deed_action i s d → (is_request_name i.op ≡ false → d.writes ≡ []) → Spares i j → (is_request_name i.op && is_request_name j.op) ≡ false
+    → Agree j s (after_deed i s d)
+agree_deed i j s d ok e quiet spares requests = record {
+  regs = λ k r. sym (written-last s.regs d.sets k ∙ ap (λ (o : Option ℕ). unwrap_or o (s.regs k)) (unset i s d k e (unspared i j k spares (register_is_read j k r))));
+  code = λ r. sym (sym (ap (λ (a : Action). a.ac % 8) e) ∙ code_beside i s (writes_no_code i (unspared i j CONDITION_CODE spares (code_is_read j r))));
+  beside = record {
+    mask = sym (change_mask d.change s.ac);
+    orders = refl;
+    bytes = λ a n reads k h. let none = quiet (quiet_other _ _ requests (load_request j s a n ok reads)) in
+        sym (ap (λ (ws : List (ℕ × ℕ)). (with_writes s.memory ws).bytes (wrapped (a + k))) none ∙ ap (λ (m : Memory). m.bytes (wrapped (a + k))) (with_none s.memory));
+  };
+}
+
+pub agree_after : (i j : Inst) (s : State) → IsAllowed i → IsAllowed j → Spares i j → (is_request_name i.op && is_request_name j.op) ≡ false → Agree j s (stepped i s)
+agree_after i j s ok other spares requests =
+    let x = does_same i s s ok (same_here i s) in
+    subst (Agree j s) (sym (stepped_by i s x.deed x.here)) (agree_deed i j s x.deed other x.here x.quiet spares requests)
+
+-- ---- what decides whether it is done
+
+-- of an allowed instruction only an access that is not aligned raises a fault before it does anything
+names_raise : (op : Op) (a b : ℕ) → (is_supervisor_only op b || is_invalid op a || is_past_table op a) ≡ cond (is_allowed_name op) false (is_supervisor_only op b || is_invalid op a || is_past_table op a)
+names_raise Addi a b = refl
+names_raise _ a b = refl
+
+by_flags : (A : Type 0) (sup only special invalid past : Bool) (w x y z : A) → only ≡ false → special ≡ false → invalid ≡ false → past ≡ false
+    → cond (not sup && (only || special)) w (cond invalid x (cond past y z)) ≡ z
+by_flags A sup only special invalid past w x y z e f g h = rw (e, f, g, h) (last sup)
+  where
+    last : (b : Bool) → cond (not b && false) w z ≡ z
+    last true = refl
+    last false = refl
+
+raised_plain : (i : Inst) (a b : ℕ) (access : Option (ℕ × ℕ)) (pc config : ℕ) → IsAllowed i → raised i a b access pc config ≡ cond (is_unaligned access config) (Some (OPERATION, UNALIGNED)) None
+unfolding raised
+raised_plain i a b access pc config ok =
+    let n = names_raise i.op a b ∙ cond-true _ _ _ ok.name in
+    let u = or_parts _ _ n in
+    let v = or_parts _ _ u.0 in
+    let special : (is_special i.a || is_special i.b || is_special i.c) ≡ false = rw (ok.a, ok.b, ok.c) refl in
+    by_flags (Option (ℕ × ℕ)) (in_supervisor_mode pc) (is_supervisor_only i.op b) (is_special i.a || is_special i.b || is_special i.c) (is_invalid i.op a) (is_past_table i.op a)
+    (Some (TYPE, MISMATCH)) (Some (OPERATION, INVALID_OPERAND)) (Some (PROTECTION, LENGTH)) (cond (is_unaligned access config) (Some (OPERATION, UNALIGNED)) None) v.0 special v.1 u.1
+
+raised_same : (i : Inst) (s t : State) → IsAllowed i → access_of i s ≡ access_of i t → s.pc ≡ t.pc → s.tables ≡ t.tables → raised_in i s ≡ raised_in i t
+raised_same i s t ok access pc tables =
+    raised_plain i _ _ (data_of (access_of i s)) s.pc s.tables.fault_config ok
+    ∙ ap (λ (x : Access). cond (is_unaligned (data_of x) s.tables.fault_config) (Some (OPERATION, UNALIGNED)) None) access
+    ∙ ap (λ (x : Tables). cond (is_unaligned (data_of (access_of i t)) x.fault_config) (Some (OPERATION, UNALIGNED)) None) tables
+    ∙ sym (raised_plain i _ _ (data_of (access_of i t)) t.pc t.tables.fault_config ok)
+
+moved_hazard : (d : Direction) (a n : ℕ) (s t : State) → s.frames ≡ t.frames → hazard_in s (moved_access d a n) ≡ hazard_in t (moved_access d a n)
+moved_hazard Load a n s t e = ap (λ (f : Frames). read_hazard f a n) e
+moved_hazard Store a n s t e = ap (λ (f : Frames). write_hazard f a n) e
+
+hazard_same : (i : Inst) (s t : State) → IsAllowed i → access_of i s ≡ access_of i t → (is_request_name i.op ≡ true → s.frames ≡ t.frames) → hazard_of i s ≡ hazard_of i t
+unfolding hazard_of
+hazard_same i s t ok access frames = by_transfer (transfer_of i.op) refl
+  where
+    by_transfer : (o : Option Transfer) → transfer_of i.op ≡ o → hazard_in s (access_of i s) ≡ hazard_in t (access_of i t)
+    by_transfer (Some m) e =
+        let here : access_of i s ≡ moved_access m.direction (address s i.ea) (byte_count m.size) = ap (λ (o : Option Transfer). access_by o i s) e in
+        ap (hazard_in s) here ∙ moved_hazard m.direction (address s i.ea) (byte_count m.size) s t (frames (is_request i m e)) ∙ ap (hazard_in t) (sym here ∙ access)
+    by_transfer None e =
+        let none : (u : State) → access_of i u ≡ NoAccess = λ u. ap (λ (o : Option Transfer). access_by o i u) e ∙ still i.op i u ∙ cond-true _ _ _ ok.name in
+        ap (hazard_in s) (none s) ∙ sym (ap (hazard_in t) (none t))
+
+exit_other : (m : Memory) (bytes : ℕ → ℕ) (ps : List (ℕ × ℕ)) → exit_word (with_other m bytes) ps ≡ exit_word m ps
+unfolding exit_word
+exit_other m bytes ps = refl
+
+exit_same : (m n : Memory) (ps qs : List (ℕ × ℕ)) → m.mcon ≡ n.mcon → ps ≡ qs → exit_word m ps ≡ exit_word n qs
+exit_same m n ps qs e f = ap (exit_word m) f ∙ sym (exit_other m n.bytes qs) ∙ ap (λ (x : Memory). exit_word x qs) (other_memory m n e)
+
+-- all that decides whether an instruction is done is the same in both states
+pub record Fate (i : Inst) (s t : State) : Type 0 where
+  pub raised : raised_in i s ≡ raised_in i t
+  pub later : later_fault i s ≡ later_fault i t
+  pub hazard : hazard_of i s ≡ hazard_of i t
+  pub exit : exit_in s (action_of i s) ≡ exit_in t (action_of i t)
+  pub seen : is_seen i s ≡ is_seen i t
+  pub access : access_of i s ≡ access_of i t
+
+pub fate_back : (i : Inst) (s t : State) → Fate i s t → Fate i t s
+fate_back i s t f = record { raised = sym f.raised; later = sym f.later; hazard = sym f.hazard; exit = sym f.exit; seen = sym f.seen; access = sym f.access }
+
+pub passes_by : (area : ℕ × ℕ) (i : Inst) (s t : State) → Fate i s t → Passes area i s → Passes area i t
+passes_by area i s t f p = record {
+  raised = sym f.raised ∙ p.raised;
+  later = sym f.later ∙ p.later;
+  hazard = sym f.hazard ∙ p.hazard;
+  exit = sym f.exit ∙ p.exit;
+  unseen = sym f.seen ∙ p.unseen;
+  misses = subst (λ (x : Access). MissesBytes (data_of x) area) f.access p.misses;
+}
+
+-- whether an instruction with this access is seen
+abbrev seen_by : ℕ → TraceControls → Access → Bool
+seen_by pc c a = bit pc TRACE_ENABLE_PLACE && (has_mode c.tc Instruction || is_watched c.breaks (option_map (λ (d : ℕ × ℕ). d.0) (data_of a)))
+
+pub fate_of : (i : Inst) (s t : State) → IsAllowed i → DoesSame i s t → s.pc ≡ t.pc → s.trace ≡ t.trace → s.tables ≡ t.tables → s.memory.mcon ≡ t.memory.mcon → (is_request_name i.op ≡ true → s.frames ≡ t.frames) → Fate i s t
+fate_of i s t ok x pc trace tables orders frames = record {
+  raised = raised_same i s t ok x.access pc tables;
+  later = x.fault;
+  hazard = hazard_same i s t ok x.access frames;
+  exit = ap (option_map Exit) (exit_same s.memory t.memory (action_of i s).writes (action_of i t).writes orders (ap (λ (a : Action). a.writes) x.here ∙ sym (ap (λ (a : Action). a.writes) x.there)));
+  seen = ap (λ (p : ℕ). seen_by p s.trace (access_of i s)) pc ∙ ap (λ (c : TraceControls). seen_by t.pc c (access_of i s)) trace ∙ ap (λ (a : Access). seen_by t.pc t.trace a) x.access;
+  access = x.access;
+}
+
+-- ---- two deeds
+
+options_change : (w : Bool) (a b : Option ℕ) (y : ℕ) → (w ≡ false → a ≡ None) → (w ≡ true → b ≡ None) → unwrap_or b (unwrap_or a y) ≡ unwrap_or a (unwrap_or b y)
+options_change false a b y f g = rw (f refl) refl
+options_change true a b y f g = rw (g refl) refl
+
+registers_change : (f : ℕ → ℕ) (ps qs : List (ℕ × ℕ)) (w : ℕ → Bool) → ((k : ℕ) → w k ≡ false → last_put ps k ≡ None) → ((k : ℕ) → w k ≡ true → last_put qs k ≡ None)
+    → written (written f ps) qs ≡ written (written f qs) ps
+registers_change f ps qs w p q = λ r k. at k r
+  where
+    at : (k : ℕ) → written (written f ps) qs k ≡ written (written f qs) ps k
+    at k =
+        written-last (written f ps) qs k ∙ ap (unwrap_or (last_put qs k)) (written-last f ps k)
+        ∙ options_change (w k) (last_put ps k) (last_put qs k) (f k) (p k) (q k)
+        ∙ sym (written-last (written f qs) ps k ∙ ap (unwrap_or (last_put ps k)) (written-last f qs k))
+
+-- the overflow flag and a new condition code
+flag_and_code : (ac n : ℕ) → with_code (bit_or ac (2 ^ 8)) n ≡ bit_or (with_code ac n) (2 ^ 8)
+flag_and_code ac n =
+    let up : bit_or ac 256 / 8 ≡ bit_or (ac / 8) 32 = or_shr ac 256 3 in
+    let alone : 0 + n % 8 ≡ n % 8 = omega arith in
+    let zero_or : bit_or (n % 8) 0 ≡ n % 8 = or_comm (n % 8) 0 ∙ or_shifted 0 3 (n % 8) (omega arith) ∙ alone in
+    let down : bit_or (ac / 8 * 8 + n % 8) 256 ≡ bit_or (ac / 8) 32 * 8 + bit_or (n % 8) 0 = or_block 3 (ac / 8) 32 (n % 8) 0 (omega arith) (omega arith) in
+    ap (λ (x : ℕ). x * 8 + n % 8) up ∙ sym (down ∙ ap (λ (x : ℕ). bit_or (ac / 8) 32 * 8 + x) zero_or)
+
+changes_change : (c d : Change) (ac : ℕ) → (is_code c ≡ true → is_code d ≡ true → ⊥) → changed d (changed c ac) ≡ changed c (changed d ac)
+changes_change Keeps d ac h = refl
+changes_change (Codes n) Keeps ac h = refl
+changes_change (Codes n) (Codes m) ac h = absurd (h refl refl)
+changes_change (Codes n) Flags ac h = sym (flag_and_code ac n)
+changes_change Flags Keeps ac h = refl
+changes_change Flags (Codes m) ac h = flag_and_code ac m
+changes_change Flags Flags ac h = refl
+
+-- writes of which one list is empty
+pub record OneEmpty (ps qs : List (ℕ × ℕ)) : Type 0 where
+  pub which : Bool
+  pub first : which ≡ true → ps ≡ []
+  pub second : which ≡ false → qs ≡ []
+
+memory_change : (m : Memory) (ps qs : List (ℕ × ℕ)) → OneEmpty ps qs → with_writes (with_writes m ps) qs ≡ with_writes (with_writes m qs) ps
+memory_change m ps qs one = by_test one.which one.first one.second
+  where
+    by_test : (b : Bool) → (b ≡ true → ps ≡ []) → (b ≡ false → qs ≡ []) → with_writes (with_writes m ps) qs ≡ with_writes (with_writes m qs) ps
+    by_test true e f = rw (e refl) (ap (λ (n : Memory). with_writes n qs) (with_none m) ∙ sym (with_none (with_writes m qs)))
+    by_test false e f = rw (f refl) (with_none (with_writes m ps) ∙ sym (ap (λ (n : Memory). with_writes n ps) (with_none m)))
+
+frames_change : (m : Frames) (ps qs : List (ℕ × ℕ)) → OneEmpty ps qs → wrote (wrote m ps) qs ≡ wrote (wrote m qs) ps
+frames_change m ps qs one = by_test one.which one.first one.second
+  where
+    by_test : (b : Bool) → (b ≡ true → ps ≡ []) → (b ≡ false → qs ≡ []) → wrote (wrote m ps) qs ≡ wrote (wrote m qs) ps
+    by_test true e f = rw (e refl) (ap (λ (n : Frames). wrote n qs) (none_wrote m) ∙ sym (none_wrote (wrote m qs)))
+    by_test false e f = rw (f refl) (none_wrote (wrote m ps) ∙ sym (ap (λ (n : Frames). wrote n ps) (none_wrote m)))
+
+abbrev pub in_port : List (ℕ × ℕ) → List (ℕ × ℕ)
+in_port ps = filter (λ (p : ℕ × ℕ). in_port_page p.0) ps
+
+port_change : (ps qs rs : List (ℕ × ℕ)) → OneEmpty ps qs → in_port qs ++ (in_port ps ++ rs) ≡ in_port ps ++ (in_port qs ++ rs)
+port_change ps qs rs one = by_test one.which one.first one.second
+  where
+    by_test : (b : Bool) → (b ≡ true → ps ≡ []) → (b ≡ false → qs ≡ []) → in_port qs ++ (in_port ps ++ rs) ≡ in_port ps ++ (in_port qs ++ rs)
+    by_test true e f = rw (e refl) refl
+    by_test false e f = rw (f refl) refl
+
+deeds_change : (i j : Inst) (s : State) (d e : Deed) → written (written s.regs d.sets) e.sets ≡ written (written s.regs e.sets) d.sets → changed e.change (changed d.change s.ac) ≡ changed d.change (changed e.change s.ac) → OneEmpty d.writes e.writes
+    → after_deed j (after_deed i s d) e ≡ after_deed i (after_deed j s e) d
+deeds_change i j s d e regs ac one =
+    let memory = memory_change s.memory d.writes e.writes one in
+    let frames = frames_change s.frames d.writes e.writes one in
+    let ip : wrapped (wrapped (s.ip + 4 * words_of i) + 4 * words_of j) ≡ wrapped (wrapped (s.ip + 4 * words_of j) + 4 * words_of i) = omega arith in
+    λ r. record s { regs = regs r; ac = ac r; check = false; memory = memory r; frames = frames r; ip = ip r; count = s.count + 1 + 1 }
+
+swapped : (a b : Bool) → (a && b) ≡ false → (b && a) ≡ false
+swapped true true h = h
+swapped true false h = refl
+swapped false true h = refl
+swapped false false h = refl
+
+one_empty : (a b : Bool) (ps qs : List (ℕ × ℕ)) → (a && b) ≡ false → (a ≡ false → ps ≡ []) → (b ≡ false → qs ≡ []) → OneEmpty ps qs
+one_empty false b ps qs h p q = record { which = true; first = λ e. p refl; second = λ e. absurd (cc e) }
+one_empty true b ps qs h p q = record { which = false; first = λ e. absurd (cc e); second = λ e. q (quiet_other b true (swapped true b h) refl) }
+
+codes_written : (i : Inst) → writes_code i.op ≡ true → is_written i CONDITION_CODE ≡ true
+codes_written i h = or_right _ _ (ap (λ (b : Bool). b && true) h)
+
+three : (p q r x y z : List (ℕ × ℕ)) → p ≡ x → q ≡ y → r ≡ z → p ++ (q ++ r) ≡ x ++ (y ++ z)
+three p q r x y z e f g = rw (e, f, g) refl
+
+pub port_by : (i : Inst) (s : State) (d : Deed) → action_of i s ≡ deed_action i s d → port_bytes i s ≡ in_port d.writes
+port_by i s d e = ap (λ (a : Action). filter (λ (p : ℕ × ℕ). in_port_page p.0) a.writes) e
+
+frames_left : (i : Inst) (s : State) (d : Deed) → action_of i s ≡ deed_action i s d → d.writes ≡ [] → s.frames ≡ (stepped i s).frames
+frames_left i s d e none = sym (ap (λ (t : State). t.frames) (stepped_by i s d e) ∙ ap (wrote s.frames) none ∙ none_wrote s.frames)
+
+fate_after : (i j : Inst) (s : State) (d : Deed) → IsAllowed j → action_of i s ≡ deed_action i s d → (is_request_name i.op ≡ false → d.writes ≡ []) → (is_request_name i.op && is_request_name j.op) ≡ false → DoesSame j s (stepped i s)
+    → Fate j s (stepped i s)
+fate_after i j s d ok e quiet requests y =
+    let step = stepped_by i s d e in
+    fate_of j s (stepped i s) ok y (sym (ap (λ (t : State). t.pc) step)) (sym (ap (λ (t : State). t.trace) step)) (sym (ap (λ (t : State). t.tables) step)) (sym (ap (λ (t : State). t.memory.mcon) step))
+    (λ r. frames_left i s d e (quiet (quiet_other _ _ requests r)))
+
+-- both ways, the same state, and the same fates
+pub record Square (i j : Inst) (s : State) : Type 0 where
+  pub state : stepped i (stepped j s) ≡ stepped j (stepped i s)
+  pub first : Fate i s (stepped j s)
+  pub second : Fate j s (stepped i s)
+  pub port : (r : List (ℕ × ℕ)) → port_bytes j s ++ (port_bytes i (stepped j s) ++ r) ≡ port_bytes i s ++ (port_bytes j (stepped i s) ++ r)
+
+pub square : (i j : Inst) (s : State) → IsAllowed i → IsAllowed j → AreApart i j → Square i j s
+square i j s p q apart =
+    let requests = swapped (is_request_name i.op) (is_request_name j.op) apart.requests in
+    let x = does_same i s (stepped j s) p (agree_after j i s q p apart.second requests) in
+    let y = does_same j s (stepped i s) q (agree_after i j s p q apart.first apart.requests) in
+    let d = x.deed in
+    let e = y.deed in
+    let one = one_empty _ _ d.writes e.writes apart.requests x.quiet y.quiet in
+    let regs = registers_change s.regs d.sets e.sets (is_written i) (λ k h. unset i s d k x.here h) (λ k h. unset j s e k y.here (apart.first k h).1) in
+    let ac = changes_change d.change e.change s.ac
+    (λ c g. both_ways (is_written j CONDITION_CODE) (apart.first CONDITION_CODE (codes_written i (x.coded c))).1 (codes_written j (y.coded g))) in
+    let ij = stepped_by j (stepped i s) e y.there ∙ ap (λ (t : State). after_deed j t e) (stepped_by i s d x.here) in
+    let ji = stepped_by i (stepped j s) d x.there ∙ ap (λ (t : State). after_deed i t d) (stepped_by j s e y.here) in
+    record {
+      state = ji ∙ sym (deeds_change i j s d e regs ac one) ∙ sym ij;
+      first = fate_after j i s e p y.here y.quiet requests x;
+      second = fate_after i j s d q x.here x.quiet apart.requests y;
+      port = λ r.
+          three (port_bytes j s) (port_bytes i (stepped j s)) r (in_port e.writes) (in_port d.writes) r (port_by j s e y.here) (port_by i (stepped j s) d x.there) refl
+          ∙ port_change d.writes e.writes r one
+          ∙ sym (three (port_bytes i s) (port_bytes j (stepped i s)) r (in_port d.writes) (in_port e.writes) r (port_by i s d x.here) (port_by j (stepped i s) e y.there) refl);
+    }
+
+pub swap : (area : ℕ × ℕ) (i j : Inst) (is : List Inst) (s : State) → IsAllowed i → IsAllowed j → AreApart i j → ArePassed area (i ∷ j ∷ is) s → AreAsGood area (i ∷ j ∷ is) (j ∷ i ∷ is) s
+swap area i j is s p q apart passed =
+    let x = square i j s p q apart in
+    record {
+      passed = (
+        passes_by area j (stepped i s) s (fate_back j s (stepped i s) x.second) passed.1.0,
+        (passes_by area i s (stepped j s) x.first passed.0, subst (ArePassed area is) (sym x.state) passed.1.1),
+      );
+      state = ap (behind is) x.state;
+      port = ap (λ (t : State). port_bytes j s ++ (port_bytes i (stepped j s) ++ sent is t)) x.state ∙ x.port (sent is (stepped j (stepped i s)));
+    }
