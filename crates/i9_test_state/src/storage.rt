@@ -283,15 +283,16 @@ const READS: &str = "\
  | soft 103F, soft 1040, sets | false, true, 1 of 2 1040
 ";
 
-/// The first of these rows that is answered otherwise; nothing where none is.
-fn first_wrong(alloc: Global, storage: &mut Storage) -> Result<&'static str, Fail> {
+/// How many of these rows are answered as they should be.
+fn answered(alloc: Global, storage: &mut Storage) -> Result<usize, Fail> {
+    let mut count = 0usize;
     for row in READS.lines() {
         let (steps, questions, wanted) = columns(row)?;
-        if answers(alloc, storage, steps, questions)?.as_str() != wanted {
-            return Ok(row);
+        if answers(alloc, storage, steps, questions)?.as_str() == wanted {
+            count = count.saturating_add(1);
         }
     }
-    Ok("")
+    Ok(count)
 }
 
 /// What is in memory before any turn, and at each one.
@@ -311,8 +312,8 @@ fn reads_over_what_waits(rt: HostRuntime) -> Result<(), Fail> {
     for row in TURNS.lines() {
         let (steps, questions, wanted) = columns(row)?;
         let told = answers(rt.alloc(), &mut storage, steps, questions)?;
-        let wrong = first_wrong(rt.alloc(), &mut storage)?;
-        assert_eq!(rt; (told.as_str(), wrong), (wanted, ""), "{row}");
+        assert_eq!(rt; told.as_str(), wanted, "{row}");
+        assert_eq!(rt; answered(rt.alloc(), &mut storage)?, 8, "{row}");
     }
     Ok(())
 }
