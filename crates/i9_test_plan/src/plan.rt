@@ -1,5 +1,6 @@
 //! Plans in a state that is worked out by hand.
 ghost use Rattle.std.specs.Prelude.{IfOk};
+ghost use Rattle.i9_model.specs.Events.{IsInRange};
 ghost use Rattle.i9_processor.specs.State.{IsDrained};
 
 use crate::state::{PC, changes, hex_words, ready};
@@ -197,7 +198,8 @@ fn plans_interrupts(rt: HostRuntime) -> Result<(), Fail> {
 
 /// What an event does, or the hazard that it meets.
 fn event_text(alloc: Global, p: &Processor, event: &Event) -> Result<String, Fail>
-    requires { IsDrained p.now }
+    requires drained { IsDrained p.now }
+    requires range { IsInRange event.now }
 {
     match plan_event(p, event) {
         Ok(effect) => effect_text(alloc, &effect),
