@@ -17,7 +17,7 @@ mod dis_listings;
 #[cfg(test)]
 mod elf;
 #[cfg(test)]
-mod hex;
+mod hex_texts;
 #[cfg(test)]
 mod image;
 #[cfg(test)]
