@@ -13,7 +13,7 @@ returns-in-Ok-clause-answers g c =
 pub returns-in-Err-Segments-clause-answers : goal.returns-in-Err-Segments-clause-answers
 returns-in-Err-Segments-clause-answers g c =
     let runs = some_runs c.args.image.now c.requires.bytes in
-    let many = c.in-Err-Segments.ensures.segments runs.0 runs.1 in
+    let many = c.in-Err-Segments.ensures.segments c.in-Err-Segments.field-0-is runs.0 runs.1 in
     answers_with _ _ _ 3 _ _ _ _ (omega arith) (too_many_runs c.args.image.now runs.0 runs.1 many) c.print_piece.ensures.prints c.status_for-in-Err-Segments.ensures
 
 pub returns-in-Err-Memory-clause-answers : goal.returns-in-Err-Memory-clause-answers
