@@ -14,8 +14,6 @@ mod dma_tests;
 #[cfg(test)]
 mod edge_tests;
 #[cfg(test)]
-mod elf_tests;
-#[cfg(test)]
 mod event_tests;
 #[cfg(test)]
 mod fault_tests;

@@ -1,5 +1,4 @@
-pub mod TracedLines
-pub mod AssembledBytes
+pub mod LinedTexts
 pub mod Refusals
 pub mod Running
 pub mod FileAnswers

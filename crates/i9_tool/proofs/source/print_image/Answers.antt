@@ -1,0 +1,15 @@
+use Rattle.std.proofs.Common.{◌∙◌, arith}
+use Rattle.i9_tool.specs.Outcome.{assembled}
+use Rattle.i9_tool.proofs.LinedTexts.{lined_hex}
+use Rattle.i9_tool.proofs.Outcomes.{answers_unprinted, answers_line, some_asm}
+use Rattle.i9_tool.proofs.source.print_image.Goals as goal
+
+pub print_text-requires : goal.print_text-requires
+print_text-requires g c = record { lined = rw (c.deref.ensures.value ∙ c.in-Ok.ensures.text) (lined_hex c.args.image.now) }
+
+pub returns-in-Ok-clause-answers : goal.returns-in-Ok-clause-answers
+returns-in-Ok-clause-answers g c =
+    answers_line _ _ _ 0 _ _ _ _ _ (omega arith) assembled (c.deref.ensures.value ∙ c.in-Ok.ensures.text) c.print_text.ensures.prints c.status_for.ensures
+
+pub returns-in-Err-clause-answers : goal.returns-in-Err-clause-answers
+returns-in-Err-clause-answers g c = answers_unprinted _ _ _ (some_asm c.args.image.now)
