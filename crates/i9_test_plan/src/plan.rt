@@ -1,6 +1,5 @@
 //! Plans in a state that is worked out by hand.
 ghost use Rattle.std.specs.Prelude.{IfOk};
-ghost use Rattle.i9_model.specs.Events.{IsInRange};
 ghost use Rattle.i9_processor.specs.State.{IsDrained};
 
 use crate::state::{PC, changes, hex_words, ready};
@@ -196,17 +195,6 @@ fn plans_interrupts(rt: HostRuntime) -> Result<(), Fail> {
     Ok(())
 }
 
-/// What an event does, or the hazard that it meets.
-fn event_text(alloc: Global, p: &Processor, event: &Event) -> Result<String, Fail>
-    requires drained { IsDrained p.now }
-    requires range { IsInRange event.now }
-{
-    match plan_event(p, event) {
-        Ok(effect) => effect_text(alloc, &effect),
-        Err(a) => Ok(format!(in alloc; "meets {a:X}")?),
-    }
-}
-
 #[test]
 fn plans_events(rt: HostRuntime) -> Result<(), Fail> {
     let p = ready(rt.alloc(), 0x1000, (0, 0), 1, PC)?;
@@ -217,7 +205,10 @@ fn plans_events(rt: HostRuntime) -> Result<(), Fail> {
         (Event::Show(0x3000, 4), "1 1F2002 0 1000"),
     ];
     for (event, wanted) in rows {
-        assert_eq!(rt; event_text(rt.alloc(), &p, &event)?.as_str(), wanted);
+        match plan_event(&p, &event) {
+            Ok(effect) => assert_eq!(rt; effect_text(rt.alloc(), &effect)?.as_str(), wanted),
+            Err(_) => assert!(rt; false, "a hazard"),
+        }
     }
     Ok(())
 }
@@ -240,20 +231,27 @@ fn with_channel(alloc: Global, target: u32) -> Result<Processor, Fail>
 
 #[test]
 fn plans_units(rt: HostRuntime) -> Result<(), Fail> {
-    // The channel has its bytes from memory, and the frame at 3000 is live.
-    let fed = Event::Feed(0, ArrayVec::from([9; 16]));
-    let rows = [
-        (
-            0x5000,
-            Event::Dma(0),
-            "1 1F2002 0 1000, 5000 21 87 43 65, Dma(0), Passes(0)",
-        ),
-        (0x5000, fed, "1 1F2002 0 1000"),
-        (0x300D, Event::Dma(0), "meets 300D"),
-    ];
-    for (target, event, wanted) in rows {
-        let p = with_channel(rt.alloc(), target)?;
-        assert_eq!(rt; event_text(rt.alloc(), &p, &event)?.as_str(), wanted);
+    let p = with_channel(rt.alloc(), 0x5000)?;
+    match plan_event(&p, &Event::Dma(0)) {
+        Ok(effect) => {
+            let text = effect_text(rt.alloc(), &effect)?;
+            let wanted = "1 1F2002 0 1000, 5000 21 87 43 65, Dma(0), Passes(0)";
+            assert_eq!(rt; text.as_str(), wanted);
+        }
+        Err(_) => assert!(rt; false, "a hazard"),
     }
+    // The channel has its bytes from memory.
+    match plan_event(&p, &Event::Feed(0, ArrayVec::from([9; 16]))) {
+        Ok(effect) => {
+            assert_eq!(rt;
+                effect_text(rt.alloc(), &effect)?.as_str(),
+                "1 1F2002 0 1000"
+            );
+        }
+        Err(_) => assert!(rt; false, "a hazard"),
+    }
+    // The frame at 3000 is live.
+    let p = with_channel(rt.alloc(), 0x300D)?;
+    assert_eq!(rt; plan_event(&p, &Event::Dma(0)).err(), Some(0x300D));
     Ok(())
 }
