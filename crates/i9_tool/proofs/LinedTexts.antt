@@ -5,7 +5,11 @@ use Rattle.i9_model.specs.PrintedText.{spaced}
 use Rattle.i9_model.specs.Image.{Part}
 use Rattle.i9_hex.specs.Writing.{with_line_feed, hex_lines, hex_text}
 use Rattle.i9_asm.specs.Listing.{text_of as statement_text}
+use Rattle.i9_text.specs.Written.{word_text}
 use Rattle.i9_tracer.specs.Trace.{trace_text}
+use Rattle.i9_tune.specs.declared.block.BlockFault.{BlockFault}
+use Rattle.i9_tune.specs.Reading.{kind_of}
+use Rattle.i9_tune.specs.Tuning.{fault_line}
 use Rattle.i9_debug.specs.Print.{is_lined}
 use Rattle.i9_debug.proofs.Lined.{lined_append}
 
@@ -23,3 +27,8 @@ lined_hex image = lined_lines (hex_lines image)
 pub lined_trace : (count address first second : ℕ) → is_lined (trace_text count address first second) ≡ true
 unfolding trace_text is_lined
 lined_trace count address first second = lined_append (codes "#t " ++ decimal count ++ spaced address ++ codes " " ++ statement_text address first second) [] refl
+
+-- the line of an instruction at fault
+pub lined_fault : (fault : BlockFault) → is_lined (fault_line fault) ≡ true
+unfolding is_lined
+lined_fault fault = lined_append (codes "#block kind " ++ decimal (kind_of fault.flaw) ++ codes " " ++ word_text fault.address) [] refl
