@@ -1,10 +1,8 @@
 //! The greedy order of a block, and the tuned block.
-ghost use Rattle.std.specs.Prelude.{◌≡◌, ◌<◌, ◌≤◌, ℕ, List, [], length, reverse, IfOk};
-ghost use Rattle.std.specs.List.{AllByRecursion};
+ghost use Rattle.std.specs.Prelude.{◌≡◌, ◌<◌, ◌≤◌, List, [], length, IfOk};
 ghost use Rattle.i9_isa.specs.declared.inst.Inst.{Inst};
-ghost use Rattle.i9_isa.specs.Valid.{IsValid};
 ghost use Rattle.i9_model.specs.Turns.{StandsFor, IsAllDone};
-ghost use Rattle.i9_tune.specs.Greedy.{depends, is_free, turns_of, span_of, IsChosenAt, IsGreedy, IsTuned, AreTunable};
+ghost use Rattle.i9_tune.specs.Greedy.{turns_of, span_of, IsChosenAt, IsGreedy, IsTuned, AreTunable};
 ghost use Rattle.i9_tune.specs.Orders.{IsOrder};
 
 use crate::front::Front;
@@ -18,6 +16,7 @@ use std::alloc::Global;
 fn choose(board: &Board, left: &[Inst]) -> usize
     requires tunable { AreTunable left.now }
     requires some { 0 < length left.now }
+    // So many instructions as a block has take less: none takes more than 248 turns.
     requires early { IsAllDone board.now 20000 }
     ensures within { result < length left.now }
     ensures chosen { (taken : List Inst) → StandsFor board.now (turns_of taken) → IsChosenAt taken left.now result }
