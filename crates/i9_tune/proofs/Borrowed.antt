@@ -1,4 +1,5 @@
--- Lemmas that crates below prove and keep to themselves: the copies here go once those are public there.
+-- Lemmas that stand privately in i9_model, i9_need and i9_processor, under these names in the modules that are named
+-- here. Once one is public below this crate, its copy goes.
 use Rattle.std.proofs.Common.{◌≡◌, ℕ, ◌+◌, ◌*◌, ◌%◌, ◌^◌, ◌<◌, Bool, true, false, cond, nat_lt, ◌||◌, List, ◌∷◌, length, get_or, Option, Some, None, is_some, IfSome, Bor, sym, ap, ◌∙◌, refl, add-one, arith}
 use Rattle.std.specs.List.{slice_get}
 use Rattle.std.specs.Int.{w16, to_le_bytes, to_be_bytes}

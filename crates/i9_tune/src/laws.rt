@@ -59,7 +59,8 @@ pub fn orders_are_as_good()
 /// From every state at whose instruction address a block stands and is done, without hazard, fault, exit or trace
 /// event and without a load or store that has a byte of the block: each such order of it, and so the tuned block, is
 /// done where it stands there instead, leaves the same state, and sends the same bytes to the port page, but that the
-/// block's own bytes are those of the order.
+/// block's own bytes are those of the order. Where trace enable is set, no enabled instruction breakpoint is at a byte
+/// of the block (`Replaces`).
 pub fn tuned_blocks_do_the_same()
     ensures order { (block order : List Inst) (s t : State) → AreAllowed block → IsOrder block order
         → Replaces block order s t → DoTheSame (s.ip, byte_length block) block order s t }
