@@ -195,21 +195,25 @@ fn plans_interrupts(rt: HostRuntime) -> Result<(), Fail> {
     Ok(())
 }
 
+/// What is planned of an event, or the hazard that it meets.
+fn told(alloc: Global, planned: Result<Effect, u32>) -> Result<String, Fail> {
+    match planned {
+        Ok(effect) => effect_text(alloc, &effect),
+        Err(a) => Ok(format!(in alloc; "meets {a:X}")?),
+    }
+}
+
 #[test]
 fn plans_events(rt: HostRuntime) -> Result<(), Fail> {
     let p = ready(rt.alloc(), 0x1000, (0, 0), 1, PC)?;
-    let rows = [
-        (Event::Pin(3), "1 1F2002 0 1000, Pin(3)"),
-        (Event::Nmi, "1 1F2002 0 1000, Nmi"),
-        (Event::Dma(1), "1 1F2002 0 1000"),
-        (Event::Show(0x3000, 4), "1 1F2002 0 1000"),
-    ];
-    for (event, wanted) in rows {
-        match plan_event(&p, &event) {
-            Ok(effect) => assert_eq!(rt; effect_text(rt.alloc(), &effect)?.as_str(), wanted),
-            Err(_) => assert!(rt; false, "a hazard"),
-        }
-    }
+    let pin = told(rt.alloc(), plan_event(&p, &Event::Pin(3)))?;
+    assert_eq!(rt; pin.as_str(), "1 1F2002 0 1000, Pin(3)");
+    let nmi = told(rt.alloc(), plan_event(&p, &Event::Nmi))?;
+    assert_eq!(rt; nmi.as_str(), "1 1F2002 0 1000, Nmi");
+    let idle = told(rt.alloc(), plan_event(&p, &Event::Dma(1)))?;
+    assert_eq!(rt; idle.as_str(), "1 1F2002 0 1000");
+    let shown = told(rt.alloc(), plan_event(&p, &Event::Show(0x3000, 4)))?;
+    assert_eq!(rt; shown.as_str(), "1 1F2002 0 1000");
     Ok(())
 }
 
