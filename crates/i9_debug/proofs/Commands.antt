@@ -25,6 +25,8 @@ use Rattle.i9_debug.specs.Print.{Account, Prints, OnDone}
 use Rattle.i9_debug.specs.Session.{Place, at, TurnsTo, turns_pass, turns_end, ComesTo, comes, none_comes, Stays, UnlessOver, Runs, told, Answers, IsText, no_command, next_command, end_at}
 use Rattle.i9_debug.specs.Driven.{StandsAt, Drives, IsCut, OnCut, StopsAt, StepOf, CutInRun, CutInAnswer, in_run, in_told, CutInScript, in_command, printed_of, TellsEnd, RunsScript}
 use Rattle.i9_debug.proofs.Prints.{prints_none, prints_then, prints_stop, prints_same}
+use Rattle.i9_debug.proofs.TextLines.{IsClosed, closed_join}
+use Rattle.i9_debug.proofs.ClosedTexts.{closed_runs, closed_answers, closed_script}
 use Rattle.i9_debug.proofs.Places.{Leads, record_issues, turns_lead, address_leads}
 use Rattle.i9_debug.proofs.Turns.{not_done, on_cut, of_cut, cut_whole}
 use Rattle.std.specs.Option.{option_map}
@@ -128,7 +130,7 @@ module _ {K : Type 0} (k : Account K) (g : Given) where
         text = r.text ++ told g r.last.items r.last.turn c;
         last = r.last;
         is_text = record { shown = r.text; runs = r.is_text; whole = refl };
-        prints = prints_then k answer a b d r.text _ r.prints (prints_same k answer b d _ _ same said);
+        prints = prints_then k answer a b d r.text _ (closed_runs g c p r.last r.text r.is_text) r.prints (prints_same k answer b d _ _ same said);
         place = place;
         stands = r.stands;
         whole = whole_by answer r.whole;
@@ -154,7 +156,7 @@ module _ {K : Type 0} (k : Account K) (g : Given) where
     text = r.text ++ told g r.last.items r.last.turn c;
     last = r.last;
     is_text = record { shown = r.text; runs = r.is_text; whole = refl };
-    prints = prints_stop k answer a b r.text _ (not_done answer cut) r.prints;
+    prints = prints_stop k answer a b r.text _ (closed_runs g c p r.last r.text r.is_text) (not_done answer cut) r.prints;
     place = r.place;
     stands = r.stands;
     whole = r.whole;
@@ -266,7 +268,7 @@ module _ {K : Type 0} (k : Account K) (g : Given) (p : Place) where
           text = d.text ++ one.text;
           last = one.last;
           is_text = text_more g cs c p d.last one.last d.text one.text d.is_text one.is_text;
-          prints = prints_then k Done a b e d.text one.text d.prints one.prints;
+          prints = prints_then k Done a b e d.text one.text (closed_script g cs p d.last d.text d.is_text) d.prints one.prints;
           place = one.place;
           stands = one.stands;
           whole = one.whole;
@@ -283,13 +285,14 @@ module _ {K : Type 0} (k : Account K) (g : Given) (p : Place) where
         let is = answers_place g c d.last one.last one.text (is_place g d.last m plan here) one.is_text in
         let stop : StopsAt (CutInAnswer g c d.last) answer k b e one.place = of_cut answer _ cut one.stopped in
         let rest : Leads (IsText g ds one.last) = script_leads g ds one.last ranges is in
+        let closed : IsClosed d.text = closed_script g cs p d.last d.text d.is_text in
         record {
           text = (d.text ++ one.text) ++ rest.0;
           last = rest.1;
           is_text = text_then g (cs ++ c ∷ []) ds p one.last rest.1 (d.text ++ one.text) rest.0
               (text_more g cs c p d.last one.last d.text one.text d.is_text one.is_text) rest.2;
-          prints = prints_stop k answer a e (d.text ++ one.text) rest.0 (not_done answer cut)
-              (prints_then k answer a b e d.text one.text d.prints one.prints);
+          prints = prints_stop k answer a e (d.text ++ one.text) rest.0 (closed_join d.text one.text closed (closed_answers g c d.last one.last one.text one.is_text)) (not_done answer cut)
+              (prints_then k answer a b e d.text one.text closed d.prints one.prints);
           place = one.place;
           stands = one.stands;
           whole = cut_whole answer (one.place ≡ rest.1) cut;
@@ -299,7 +302,7 @@ module _ {K : Type 0} (k : Account K) (g : Given) (p : Place) where
             is_cut = subst (λ (xs : List Command). CutInScript g xs p (d.text ++ stop.whole) stop.rest one.place) (sym (append_assoc cs (c ∷ []) ds))
                 (in_command cs c ds p d.last one.place d.text stop.whole stop.rest d.is_text stop.is_cut);
             between = stop.between;
-            first = prints_then k Done a b stop.between d.text stop.whole d.prints stop.first;
+            first = prints_then k Done a b stop.between d.text stop.whole closed d.prints stop.first;
             behind = stop.behind;
           });
         }

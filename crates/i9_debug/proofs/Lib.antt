@@ -1,6 +1,8 @@
+pub mod TextLines
 pub mod Prints
 pub mod Lined
 pub mod LineCounts
+pub mod ClosedTexts
 pub mod Places
 pub mod Turns
 pub mod PlaceBytes

@@ -14,10 +14,11 @@ use Rattle.i9_model.specs.PrintedText.{out_text, spaced, spaced_byte, words_text
 use Rattle.i9_model.specs.declared.event.Event.{Event}
 use Rattle.i9_model.specs.Events.{journal_text}
 use Rattle.i9_model.proofs.ReadBack.{journal_plain}
-use Rattle.i9_debug.specs.Lines.{refused_line, ending, generated_line}
+use Rattle.i9_debug.specs.Lines.{refused_line, elf_line, ending, generated_line}
 use Rattle.i9_model.specs.declared.frame.Frame.{Frame}
 use Rattle.i9_debug.specs.Session.{turn_text, held_text, raw_bytes_text}
 use Rattle.i9_debug.specs.Print.{IsLine}
+use Rattle.i9_debug.proofs.TextLines.{line_alone}
 
 not_feed : (b : ℕ) → is_plain_byte b ≡ true → eqb b 10 ≡ false
 not_feed b h = grind (arith)
@@ -128,7 +129,11 @@ line-refused what fault plain =
     after_plain (codes "#" ++ what ++ codes " line " ++ decimal fault.0 ++ codes " kind " ++ decimal fault.1) (10 ∷ [])
     (plain-append (codes "#" ++ what ++ codes " line " ++ decimal fault.0 ++ codes " kind ") (decimal fault.1) kind (plain-decimal fault.1)) refl
 
-pub ruleset line_rules = (line-out, line-point, line-event, line-bytes, line-end, line-generated, line-globals, line-locals)
+pub line-elf : (kind : ℕ) → IsLine (elf_line kind)
+unfolding elf_line
+line-elf kind = after_plain (codes "#image elf kind " ++ decimal kind) (10 ∷ []) (plain-append (codes "#image elf kind ") (decimal kind) refl (plain-decimal kind)) refl
+
+pub ruleset line_rules = (line_alone, line-out, line-point, line-event, line-bytes, line-end, line-generated, line-elf, line-globals, line-locals)
 
 -- ---- the lines of a session
 

@@ -26,6 +26,7 @@ use Rattle.i9_debug.specs.Print.{Account, Prints, OnDone, line_text}
 use Rattle.i9_debug.specs.Session.{Place, at, ended, turn_ahead, ending_lines, comes_to, NoneComesTo, ComesTo, comes, none_comes}
 use Rattle.i9_debug.specs.Driven.{StandsAt, Drives, IsCut, OnCut, StopsAt, AtMostOne, CutInRun, behind_step, behind_end, StopsBy, stops, never_stops, goes_on}
 use Rattle.i9_debug.proofs.Prints.{prints_none, prints_then, prints_stop, prints_same, prints_behind}
+use Rattle.i9_debug.proofs.ClosedTexts.{closed_text}
 use Rattle.i9_debug.proofs.Places.{steps_on-append, text-append, either, comes_after, address_leads}
 use Rattle.i9_debug.proofs.Turns.{added-text, not_done, on_cut, cut_whole}
 
@@ -75,7 +76,7 @@ module _ {K : Type 0} (k : Account K) (g : Given) (h : List Item) (allows : View
     one-more r e = ap (λ (x : List ℕ). front ++ x) (added-text ls (record_lines r) e) ∙ sym (text_of-append (lines_of inv.done) (record_lines r))
 
     behind : (answer : Printed) → Prints answer k b c (flat_map line_text ls) → Prints answer k a c (front ++ flat_map line_text ls)
-    behind answer p = prints_then k answer a b c front (flat_map line_text ls) inv.prints p
+    behind answer p = prints_then k answer a b c front (flat_map line_text ls) (closed_text (lines_of inv.done)) inv.prints p
 
     -- the run goes on
     does_seek : (turn : Turn) → (d : DoesNext g (steps_on inv.done h) turn mid next plan [] ls) → IsPassed allows d.done
@@ -126,7 +127,7 @@ module _ {K : Type 0} (k : Account K) (g : Given) (h : List Item) (allows : View
           text = text_of (lines_of (rs ++ inv.done));
           last = place;
           is_text = goes_on (rs ++ inv.done) place cut (subst (IsCourse g) (sym (steps_on-append rs inv.done h)) stands.past) passed;
-          prints = prints_same k answer a c _ _ (text-append rs inv.done) (prints_then k answer a b c front (text_of (lines_of rs)) inv.prints p);
+          prints = prints_same k answer a c _ _ (text-append rs inv.done) (prints_then k answer a b c front (text_of (lines_of rs)) (closed_text (lines_of inv.done)) inv.prints p);
           place = place;
           stands = record { stands = stands; turn = refl; follows = follows };
           whole = same_whole answer _ refl;
@@ -153,7 +154,7 @@ module _ {K : Type 0} (k : Account K) (g : Given) (h : List Item) (allows : View
           text = text_of (ending_lines g h inv.done f);
           last = place;
           is_text = never_stops inv.done f (record { past = d.stands.past; is_end = d.is_end }) inv.passed;
-          prints = prints_same k answer a c _ _ same (prints_then k answer a b c front _ inv.prints last);
+          prints = prints_same k answer a c _ _ same (prints_then k answer a b c front _ (closed_text (lines_of inv.done)) inv.prints last);
           place = place;
           stands = record { stands = d.stands; turn = d.turn ∙ sym d.now; follows = tt };
           whole = same_whole answer _ refl;
@@ -229,7 +230,7 @@ module _ (allows : View → Bool → Type 0) (address : ℕ) (agree : (v : View)
       text = text_of (lines_of rs) ++ x;
       last = q;
       is_text = comes_after g h rs address x q none leads;
-      prints = prints_stop k answer a c (text_of (lines_of rs)) x (not_done answer cut) p;
+      prints = prints_stop k answer a c (text_of (lines_of rs)) x (closed_text (lines_of rs)) (not_done answer cut) p;
       place = place;
       stands = stands;
       whole = cut_whole answer (place ≡ q) cut;

@@ -21,6 +21,8 @@ use Rattle.i9_debug.specs.Print.{Account, Prints, OnDone, line_text}
 use Rattle.i9_debug.specs.Session.{Place, at, ended, turn_ahead, ending_lines, TurnsTo, turns_pass, turns_end}
 use Rattle.i9_debug.specs.Driven.{StandsAt, Drives, IsCut, OnCut, InOneTurn, CutInRun, behind_step, behind_end}
 use Rattle.i9_debug.proofs.Prints.{prints_none, prints_then, prints_stop, prints_same, prints_behind}
+use Rattle.i9_debug.proofs.TextLines.{closed_join}
+use Rattle.i9_debug.proofs.ClosedTexts.{closed_text, closed_cut}
 use Rattle.i9_debug.proofs.Places.{steps_on-append, text-append, turns_after, turns_lead}
 
 -- ---- lines
@@ -106,7 +108,10 @@ module _ {K : Type 0} (k : Account K) (g : Given) (h : List Item) where
     text = (front ++ step) ++ l.more;
     last = l.last;
     is_text = l.leads;
-    prints = prints_stop k answer a c (front ++ step) l.more (not_done answer cut) (prints_then k answer a b c front step p q);
+    prints =
+        let closed = closed_cut g (InOneTurn g) h front step l.place l.is_cut in
+        prints_stop k answer a c (front ++ step) l.more (closed_join front step closed.0 closed.1) (not_done answer cut)
+        (prints_then k answer a b c front step closed.0 p q);
     place = l.place;
     stands = l.stands;
     whole = cut_whole answer (l.place ≡ l.last) cut;
@@ -154,7 +159,7 @@ module _ {K : Type 0} (k : Account K) (g : Given) (h : List Item) where
           turn = omega (arith, before_turn, turn);
           issued = λ some. omega (arith, before_turn, turn, issued);
           follows = subst (λ (x : List Item). Follows g x plan) same d.follows;
-          prints = prints_same k Done a c _ _ (with-text d.done d.lines) (prints_then k Done a b c front (flat_map line_text ls) inv.prints p);
+          prints = prints_same k Done a c _ _ (with-text d.done d.lines) (prints_then k Done a b c front (flat_map line_text ls) (closed_text (lines_of inv.done)) inv.prints p);
         }
 
     -- the turn is at most that of what lay ahead
@@ -241,7 +246,7 @@ module _ {K : Type 0} (k : Account K) (g : Given) (h : List Item) where
       text = front ++ text_of (ending_lines g (steps_on inv.done h) d.done d.finish);
       last = ended (steps_on d.done (steps_on inv.done h)) (turn_ahead g (steps_on d.done (steps_on inv.done h))) d.finish;
       is_text = end_leads u e lt d;
-      prints = prints_same k Done a c _ _ (ending-text e d) (prints_then k Done a b c front (flat_map line_text ls) inv.prints p);
+      prints = prints_same k Done a c _ _ (ending-text e d) (prints_then k Done a b c front (flat_map line_text ls) (closed_text (lines_of inv.done)) inv.prints p);
       place = ended (steps_on d.done (steps_on inv.done h)) (turn_ahead g (steps_on d.done (steps_on inv.done h))) d.finish;
       stands = end_stands e d;
       whole = refl;

@@ -4,11 +4,15 @@ use Rattle.std.specs.Fmt.{decimal}
 use Rattle.i9_model.specs.declared.run.End.{End}
 use Rattle.i9_model.specs.PrintedText.{end_text}
 
--- ---- an image, a schedule or a source that is refused
+-- ---- a file that is refused
 
 -- the first line at fault and its kind
 unfoldable pub refused_line : List ℕ → ℕ × ℕ → List ℕ
 refused_line what fault = codes "#" ++ what ++ codes " line " ++ decimal fault.0 ++ codes " kind " ++ decimal fault.1 ++ 10 ∷ []
+
+-- of an ELF image the kind of its fault
+unfoldable pub elf_line : ℕ → List ℕ
+elf_line kind = codes "#image elf kind " ++ decimal kind ++ 10 ∷ []
 
 -- ---- the run of the job that is made from a number
 

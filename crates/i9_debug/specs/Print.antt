@@ -1,5 +1,5 @@
 -- What printing a text does to a sink.
-use Rattle.std.specs.Prelude.{◌≡◌, ◌≢◌, ℕ, zero, suc, ◌+◌, ◌≤◌, Bool, true, List, [], ◌∷◌, ◌++◌, length, filter, flat_map, Option}
+use Rattle.std.specs.Prelude.{◌≡◌, ◌≢◌, ℕ, zero, suc, ◌+◌, ◌≤◌, if◌then◌else◌, List, [], ◌∷◌, ◌++◌, length, Option}
 use Rattle.std.specs.Global.{Vec}
 use Rattle.std.specs.List.{AllByRecursion, position_or_len}
 use Rattle.std.specs.Io.KnownBytes.{Appends}
@@ -25,19 +25,31 @@ abbrev pub account : {K : Type 0} → (K → Option (List ℕ)) → (K → ℕ) 
     → Account K
 account told faults writes sure pieces = record { told = told; faults = faults; writes = writes; sure = sure; pieces = pieces }
 
--- how many lines a text has, each of which ends with a line feed
-abbrev pub line_count : List ℕ → ℕ
-line_count text = length (filter is_line_feed text)
+-- ---- lines
 
--- each line of a text ends with a line feed
-unfoldable pub is_lined : List ℕ → Bool
-is_lined [] = true
-is_lined (b ∷ []) = is_line_feed b
-is_lined (b ∷ c ∷ bs) = is_lined (c ∷ bs)
+-- a byte in front of the first line, or as a line of its own where there is none
+abbrev pub onto_first : ℕ → List (List ℕ) → List (List ℕ)
+onto_first b [] = (b ∷ []) ∷ []
+onto_first b (line ∷ lines) = (b ∷ line) ∷ lines
 
--- a text that is one line: its first line feed is its last byte
+-- the lines of a text, each with its line feed, which the last one may lack
+abbrev pub lines_in : List ℕ → List (List ℕ)
+lines_in [] = []
+lines_in (b ∷ bs) = if is_line_feed b then (b ∷ []) ∷ lines_in bs else onto_first b (lines_in bs)
+
+-- a text that is one line, which may lack its line feed
+abbrev pub IsPiece : List ℕ → Type 0
+IsPiece text = lines_in text ≡ text ∷ []
+
+-- a text that is one line with its line feed: its first line feed is its last byte
 abbrev pub IsLine : List ℕ → Type 0
 IsLine text = position_or_len is_line_feed text + 1 ≡ length text
+
+-- each piece is one line with its line feed
+abbrev pub AreLines : List (Vec ℕ) → Type 0
+AreLines pieces = AllByRecursion (λ p. IsLine p.items) pieces
+
+-- ---- counts
 
 -- so many more were counted, one after the other
 abbrev pub counted_on : ℕ → ℕ → ℕ
@@ -56,33 +68,35 @@ PrintCount printed.Done lines before now = now ≡ counted_on before lines
 PrintCount printed.Write lines before now = CountsUpTo lines before now
 PrintCount printed.Memory lines before now = CountsUpTo lines before now
 
--- Calls took whole lines of a text, one a call, and then these last pieces, behind what was taken before; this of the text
--- stands behind the whole lines.
-pub record TakesLines {K : Type 0} (taken : K → List (List ℕ) → Type 0) (last : List (List ℕ)) (left : List ℕ) (old new : K)
-    (text : List ℕ) : Type 0 where
-  pub pieces : List (List ℕ)
-  pub lines : AllByRecursion IsLine pieces
-  pub parts : flat_map (λ piece. piece) pieces ++ left ≡ text
-  pub takes : (before : List (List ℕ)) → taken old before → taken new (before ++ (pieces ++ last))
+-- ---- pieces
 
--- Lines were taken up to one of which a call took a front.
-pub record TakesFront {K : Type 0} (taken : K → List (List ℕ) → Type 0) (old new : K) (text : List ℕ) : Type 0 where
+-- calls took these pieces, one a call, behind what was taken before
+abbrev pub Takes : {K : Type 0} → (K → List (List ℕ) → Type 0) → List (List ℕ) → K → K → Type 0
+Takes taken pieces old new = (before : List (List ℕ)) → taken old before → taken new (before ++ pieces)
+
+-- The first of some lines were taken, and then a front of the next one.
+pub record TakesFront {K : Type 0} (taken : K → List (List ℕ) → Type 0) (lines : List (List ℕ)) (old new : K) : Type 0 where
+  pub first : List (List ℕ)
   pub front : List ℕ
   pub back : List ℕ
-  pub behind : List ℕ
-  pub line : IsLine (front ++ back)
-  pub lines : TakesLines taken (front ∷ []) ((front ++ back) ++ behind) old new text
+  pub left : List (List ℕ)
+  pub parts : first ++ (front ++ back) ∷ left ≡ lines
+  pub takes : Takes taken (first ++ front ∷ []) old new
 
--- Lines were taken, and others were left.
-pub record LeavesLines {K : Type 0} (taken : K → List (List ℕ) → Type 0) (old new : K) (text : List ℕ) : Type 0 where
-  pub left : List ℕ
-  pub lines : TakesLines taken [] left old new text
+-- The first of some lines were taken.
+pub record TakesFirst {K : Type 0} (taken : K → List (List ℕ) → Type 0) (lines : List (List ℕ)) (old new : K) : Type 0 where
+  pub first : List (List ℕ)
+  pub left : List (List ℕ)
+  pub parts : first ++ left ≡ lines
+  pub takes : Takes taken first old new
 
 -- each call took a line of the text, and a call that failed a front of one
-abbrev pub PrintPieces : {K : Type 0} → (K → List (List ℕ) → Type 0) → Printed → K → K → List ℕ → Type 0
-PrintPieces taken printed.Done old new text = TakesLines taken [] [] old new text
-PrintPieces taken printed.Write old new text = TakesFront taken old new text
-PrintPieces taken printed.Memory old new text = LeavesLines taken old new text
+abbrev pub PrintPieces : {K : Type 0} → (K → List (List ℕ) → Type 0) → Printed → List (List ℕ) → K → K → Type 0
+PrintPieces taken printed.Done lines old new = Takes taken lines old new
+PrintPieces taken printed.Write lines old new = TakesFront taken lines old new
+PrintPieces taken printed.Memory lines old new = TakesFirst taken lines old new
+
+-- ---- printing
 
 -- the whole text where it is done, and else a front of it
 abbrev pub PrintLeaves : Printed → Option (List ℕ) → Option (List ℕ) → List ℕ → Type 0
@@ -107,14 +121,10 @@ pub record Prints {K : Type 0} (answer : Printed) (k : Account K) (old new : K) 
   pub later : k.faults old ≤ k.faults new
   pub leaves : PrintLeaves answer (k.told old) (k.told new) text
   pub cause : PrintCause answer (k.faults old) (k.faults new)
-  pub lines : PrintCount answer (line_count text) (k.writes old) (k.writes new)
-  pub pieces : PrintPieces k.pieces answer old new text
+  pub lines : PrintCount answer (length (lines_in text)) (k.writes old) (k.writes new)
+  pub pieces : PrintPieces k.pieces answer (lines_in text) old new
   pub calm : (n : ℕ) → k.sure old (length text + n)
       → (answer ≢ printed.Write) × (k.faults new ≡ k.faults old) × OnDone answer (k.sure new n)
-
--- each piece is one line
-abbrev pub AreLines : List (Vec ℕ) → Type 0
-AreLines pieces = AllByRecursion (λ p. IsLine p.items) pieces
 
 -- the text of a line of the machine
 abbrev pub line_text : Line → List ℕ

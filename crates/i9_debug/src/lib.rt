@@ -9,6 +9,7 @@ mod text;
 
 pub use i9_script::{Command, Script, read_script};
 pub use print::{
-    Printed, print_generated, print_line, print_lines, print_piece, print_refusal, print_text,
+    Printed, print_elf_refusal, print_generated, print_line, print_lines, print_piece,
+    print_refusal, print_text,
 };
 pub use sessions::{SessionEnd, session};

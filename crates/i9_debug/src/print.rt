@@ -1,11 +1,11 @@
 //! Printing of lines.
-ghost use Rattle.std.specs.Prelude.{◌≡◌, ◌≢◌, flat_map, true};
+ghost use Rattle.std.specs.Prelude.{◌≡◌, ◌≢◌, flat_map};
 ghost use Rattle.std.specs.List.{position};
 ghost use Rattle.i9_text.specs.Text.{is_line_feed};
-ghost use Rattle.i9_debug.specs.Lines.{generated_line, refused_line};
-ghost use Rattle.i9_debug.specs.Print.{Prints, IsLine, AreLines, account, is_lined, line_text};
+ghost use Rattle.i9_debug.specs.Lines.{elf_line, generated_line, refused_line};
+ghost use Rattle.i9_debug.specs.Print.{Prints, IsLine, IsPiece, AreLines, account, line_text};
 
-use crate::text::{generated_line, lines_of, refused_line};
+use crate::text::{elf_line, generated_line, lines_of, refused_line};
 use i9_machine::{End, Line};
 use i9_outside::{Sink, Wrote};
 use std::alloc::Global;
@@ -21,9 +21,9 @@ pub enum Printed {
     Memory,
 }
 
-/// Writes a line by one call of the sink.
+/// Writes one line, which may lack its line feed, by one call of the sink.
 pub fn print_piece<K: Sink>(piece: &[u8], out: &mut K) -> Printed
-    requires line { IsLine piece.now }
+    requires line { IsPiece piece.now }
     ensures prints { Prints result (account K.told K.faults K.writes K.sure K.pieces) out.old out.new piece.now }
     ensures takes_no_memory { result ≢ Printed.Memory }
 {
@@ -58,10 +58,9 @@ fn feed_place(text: &[u8]) -> Option<usize>
     text.iter().position(|byte| *byte == b'\n')
 }
 
-/// Writes the lines of a text, each by one call of the sink.
+/// Writes the lines of a text, each by one call of the sink; the last one may lack its line feed.
 #[tactic(auto, using(crate::proofs::Prints::prints_rules))]
 pub fn print_text<K: Sink>(text: &[u8], out: &mut K) -> Printed
-    requires lined { is_lined text.now ≡ true }
     ensures prints { Prints result (account K.told K.faults K.writes K.sure K.pieces) out.old out.new text.now }
     ensures takes_no_memory { result ≢ Printed.Memory }
 {
@@ -75,10 +74,14 @@ pub fn print_text<K: Sink>(text: &[u8], out: &mut K) -> Printed
         }
         rest = after;
     }
-    Printed::Done
+    if rest.is_empty() {
+        Printed::Done
+    } else {
+        print_piece(rest, out)
+    }
 }
 
-/// Writes the line of a refused image, schedule or source, with its first line at fault and its kind.
+/// Writes the line of a refused file, with its first line at fault and its kind.
 #[tactic(auto, using(crate::proofs::Prints::prints_rules))]
 pub fn print_refusal<K: Sink>(
     alloc: Global,
@@ -92,6 +95,17 @@ pub fn print_refusal<K: Sink>(
         (refused_line what.now (line, kind)) }
 {
     match refused_line(alloc, what, line, kind) {
+        Ok(text) => print_piece(&text, out),
+        Err(_) => Printed::Memory,
+    }
+}
+
+/// Writes the line of a refused ELF image, with the kind of its fault.
+#[tactic(auto, using(crate::proofs::LineCounts::line_rules))]
+pub fn print_elf_refusal<K: Sink>(alloc: Global, kind: u8, out: &mut K) -> Printed
+    ensures { Prints result (account K.told K.faults K.writes K.sure K.pieces) out.old out.new (elf_line kind) }
+{
+    match elf_line(alloc, kind) {
         Ok(text) => print_piece(&text, out),
         Err(_) => Printed::Memory,
     }

@@ -7,7 +7,7 @@ ghost use Rattle.i9_model.specs.PrintedText.{out_text, event_text, drained_text,
 ghost use Rattle.i9_model.specs.PrintedText.{end_text, shown_text, words_text, spaced, spaced_byte, line_feed};
 ghost use Rattle.i9_machine.specs.Line.{shown_of};
 ghost use Rattle.i9_debug.specs.Print.{IsLine, AreLines};
-ghost use Rattle.i9_debug.specs.Lines.{generated_line, refused_line};
+ghost use Rattle.i9_debug.specs.Lines.{elf_line, generated_line, refused_line};
 
 use i9_machine::{End, Line, Point};
 use i9_model::{Event, View};
@@ -235,7 +235,7 @@ pub(crate) fn one(alloc: Global, text: Vec<u8>) -> Result<Vec<Vec<u8>>, AllocErr
     Ok(lines)
 }
 
-/// The line of a refused image, schedule or source, with its first line at fault and its kind.
+/// The line of a refused file, with its first line at fault and its kind.
 #[tactic(auto, unfolding(crate::specs::Lines::refused_line))]
 pub(crate) fn refused_line(
     alloc: Global,
@@ -250,6 +250,17 @@ pub(crate) fn refused_line(
     text.extend_from_slice(b" line ")?;
     add_count(alloc, &mut text, line)?;
     text.extend_from_slice(b" kind ")?;
+    add_count(alloc, &mut text, u64::from(kind))?;
+    text.push(b'\n')?;
+    Ok(text)
+}
+
+/// The line of a refused ELF image, with the kind of its fault.
+#[tactic(auto, unfolding(crate::specs::Lines::elf_line))]
+pub(crate) fn elf_line(alloc: Global, kind: u8) -> Result<Vec<u8>, AllocError>
+    ensures { IfOk result (λ t. t.items ≡ elf_line kind) }
+{
+    let mut text = Vec::from_slice(alloc, b"#image elf kind ")?;
     add_count(alloc, &mut text, u64::from(kind))?;
     text.push(b'\n')?;
     Ok(text)

@@ -47,6 +47,13 @@ rawmem 3010 4
 turn 100
 ";
 
+/// Two bytes at 0, of which the first is a line feed, as an ELF file: its header, one program header, and the bytes.
+pub(crate) const FEED_ELF: &str = "\x7FELF\x01\x01\x01\0\0\0\0\0\0\0\0\0\
+    \x02\0\x13\0\x01\0\0\0\0\0\0\0\x34\0\0\0\0\0\0\0\0\0\0\0\
+    \x34\0\x20\0\x01\0\0\0\0\0\0\0\
+    \x01\0\0\0\x54\0\0\0\0\0\0\0\0\0\0\0\x02\0\0\0\x02\0\0\0\x07\0\0\0\x01\0\0\0\
+    \x0A\x01";
+
 /// The text of the file of this name.
 pub(crate) fn file_named(name: &str) -> Option<&'static str> {
     match name {
@@ -55,6 +62,9 @@ pub(crate) fn file_named(name: &str) -> Option<&'static str> {
         "flushreg.hex" => Some(FLUSHREG),
         "unflushed.hex" => Some(UNFLUSHED),
         "unflushed.dbg" => Some(TELLS),
+        "feed.s" => Some(".byte 10, 1\n"),
+        "feed.elf" => Some(FEED_ELF),
+        "cut.elf" => Some("\x7FELF"),
         "show.sch" => Some("at 4 show 1010 4\n"),
         "refused.hex" => Some(":02000004FFFFFD\n"),
         "refused.s" => Some("frob 1\n"),

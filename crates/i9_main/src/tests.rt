@@ -1,6 +1,6 @@
 //! Each form of the command by the program, over a runtime of the tests' own, at texts worked out by hand.
 use crate::board::Board;
-use crate::files::SMALLEST;
+use crate::files::{FEED_ELF, SMALLEST};
 use crate::program;
 use std::alloc::Global;
 use std::cell::RefCell;
@@ -54,21 +54,30 @@ const LISTED: &str = ".org 0x00001000
 flushreg {3800} # 00001000 66003E80
 ";
 
+/// A listing of `feed.elf`.
+const FEED_LISTED: &str = ".org 0x00000000
+.byte 0x0A # 00000000 0A
+.byte 0x01 # 00000001 01
+";
+
 /// Words, of which the first is the program's name, the status, and what is printed.
-const COMMANDS: [(&str, u8, &str); 16] = [
+const COMMANDS: [(&str, u8, &str); 19] = [
     ("i960 run smallest.hex - - 100", 0, RUN),
     ("i960 run smallest.hex - 15 5", 0, RUN),
     ("i960 run smallest.hex show.sch 1 100", 0, RUN_SHOWN),
     ("i960 trace smallest.hex - - 100 1010 1010", 0, RUN_TRACED),
     ("i960 debug unflushed.hex - - unflushed.dbg", 4, TOLD),
     ("i960 asm smallest.s", 0, SMALLEST),
+    ("i960 asmelf feed.s", 0, FEED_ELF),
     ("i960 dis flushreg.hex", 0, LISTED),
+    ("i960 dis feed.elf", 0, FEED_LISTED),
     ("i960 walk smallest.hex - - 100", 1, "#words\n"),
     ("i960", 1, "#words\n"),
     ("run smallest.hex - - 100", 1, "#words\n"),
     ("i960 run nowhere.hex - - 100", 5, "#read\n"),
     ("i960 run refused.hex - - 100", 2, "#image line 1 kind 4\n"),
     ("i960 dis refused.hex", 2, "#image line 1 kind 4\n"),
+    ("i960 run cut.elf - - 100", 2, "#image elf kind 1\n"),
     ("i960 asm refused.s", 3, "#source line 1 kind 1\n"),
     (
         "i960 run smallest.hex refused.sch - 100",

@@ -14,6 +14,8 @@ mod dma_tests;
 #[cfg(test)]
 mod edge_tests;
 #[cfg(test)]
+mod elf_tests;
+#[cfg(test)]
 mod event_tests;
 #[cfg(test)]
 mod fault_tests;

@@ -5,7 +5,7 @@ use crate::tests::{AT_ONCE, PRINTED, SMALLEST, answers, leaves_lines};
 use std::test::*;
 
 /// What is printed of the smallest image where the instruction at 1010 is traced.
-const TRACED: &str = "#out 41
+pub(crate) const TRACED: &str = "#out 41
 #t 3 00001010 mov 7, g4
 #point 5 end 00001018 00000000 001F2002
 #g 00000000 00000000 00000000 00000000 00000007 E0000000 00000000 00000000 00000000 00000000 00000000 00000000 00000000 00000000 00000000 00000000

@@ -1,7 +1,8 @@
 //! Printing over a sink in memory, with texts worked out by hand.
 use arrayvec::ArrayVec;
 use i9_debug::{
-    Printed, print_generated, print_line, print_lines, print_piece, print_refusal, print_text,
+    Printed, print_elf_refusal, print_generated, print_line, print_lines, print_piece,
+    print_refusal, print_text,
 };
 use i9_machine::{End, Line, Point};
 use i9_model::{Event, View};
@@ -28,9 +29,11 @@ const OTHERS: &str = "#words
 :02FFFE0041427E
 :00000001FF
 #image line 2 kind 7
+#image elf kind 9
 #gen 1 338401 2000 exit 000007D0
 #out 00
-";
+two lines,
+of which the last has no line feed";
 
 /// The first lines of what is printed where the write of this number fails, the first being 1: those before it.
 const FRONTS: [(u64, &str); 3] = [
@@ -105,17 +108,19 @@ fn prints_each_line(rt: HostRuntime) -> Result<(), Fail> {
 }
 
 #[test]
-#[tactic(auto, unfolding(i9_debug::specs::Print::is_lined))]
 fn prints_what_else_there_is(rt: HostRuntime) -> Result<(), Fail> {
     let alloc = rt.alloc();
     let mut sink = sink_failing(alloc, 0)?;
     let end = End::Exit(0x7D0);
     let hex = b":02FFFE0041427E\n:00000001FF\n";
+    let open = b"two lines,\nof which the last has no line feed";
     assert!(rt; done(print_piece(b"#words\n", &mut sink)));
     assert!(rt; done(print_text(hex, &mut sink)));
     assert!(rt; done(print_refusal(alloc, b"image", 2, 7, &mut sink)));
+    assert!(rt; done(print_elf_refusal(alloc, 9, &mut sink)));
     assert!(rt; done(print_generated(alloc, 1, 338_401, 2000, end, &mut sink)));
     assert!(rt; done(print_line(alloc, &Line::Out(0), &mut sink)));
+    assert!(rt; done(print_text(open, &mut sink)));
     assert!(rt; sink.bytes() == OTHERS.as_bytes());
     Ok(())
 }

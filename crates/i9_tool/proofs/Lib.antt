@@ -1,4 +1,5 @@
-pub mod LinedTexts
+pub mod TracedLines
+pub mod AssembledBytes
 pub mod Refusals
 pub mod Running
 pub mod FileAnswers

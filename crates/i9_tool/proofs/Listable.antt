@@ -1,29 +1,31 @@
 -- An accepted image has a listing.
-use Rattle.std.proofs.Common.{◌≡◌, ℕ, suc, ◌+◌, ◌%◌, ◌<◌, List, [], ◌∷◌, ◌++◌, map, refl, ap, ◌∙◌, subst, sym, arith}
-use Rattle.std.specs.List.{AllByRecursion}
+use Rattle.std.proofs.Common.{◌≡◌, ℕ, zero, suc, ◌+◌, ◌-◌, ◌%◌, ◌<◌, List, [], ◌∷◌, ◌++◌, map, take, drop, replicate, refl, ap, ◌∙◌, subst, sym, arith}
+use Rattle.std.specs.List.{flat_map}
 use Rattle.hex.specs.Hex.{IsBytes}
 use Rattle.hex.proofs.HexLemmas.{decode_of-ok}
 use Rattle.i9_text.specs.Text.{lines_of}
 use Rattle.i9_text.specs.FirstFault.{SaysAll}
+use Rattle.i9_model.specs.HexText as hex
 use Rattle.i9_model.specs.HexText.{Origin, Upper, Base, address_in, HexState, start, record_bytes, IsRecord, Says, says_nothing, says_bytes, says_end, says_base, says_start_segment, says_upper, says_start_address}
-use Rattle.i9_model.specs.Image.{Part, pairs_of, address_count, pairs_at}
+use Rattle.i9_model.specs.Image.{Part, pairs_of, address_count, pairs_at, upwards}
+use Rattle.i9_elf.specs.Files.{Header, loads_of, loaded_bytes, loaded_pairs}
+use Rattle.i9_image.specs.Images.{IsImage, says_elf, says_hex}
+use Rattle.i9_runs.specs.Runs.{IsLow}
 use Rattle.i9_runs.proofs.Rising.{ArePlaced}
 use Rattle.i9_dis.proofs.Listed.{some_listing}
 use Rattle.i9_tool.specs.declared.files.FileKind.TheVariants.{Image}
-use Rattle.i9_tool.specs.FileKinds.{IsAccepted}
+use Rattle.i9_tool.specs.FileKinds.{AreBytes, octets, IsAccepted}
 use Rattle.i9_tool.specs.Outcome.{DisGives, listed}
+use Rattle.i9_tool.proofs.AssembledBytes.{low_append, low_take, low_drop}
 
 -- ---- the pairs of an accepted image stand in the address space
 
-abbrev AreLow : List ℕ → Type 0
-AreLow bs = AllByRecursion (λ b. b < 256) bs
-
-low_front : (bs more : List ℕ) → IsBytes (bs ++ more) → AreLow bs
+low_front : (bs more : List ℕ) → IsBytes (bs ++ more) → IsLow bs
 low_front [] more h = tt
 low_front (b ∷ bs) more h = (h 0, low_front bs more (λ i. h (suc i)))
 
 -- the content of a record
-content_low : (line : List ℕ) (kind a : ℕ) (content : List ℕ) → IsRecord line kind a content → AreLow content
+content_low : (line : List ℕ) (kind a : ℕ) (content : List ℕ) → IsRecord line kind a content → IsLow content
 content_low line kind a content r =
     let bytes = (decode_of-ok r.digits (record_bytes kind a content r.check) r.bytes).3 in
     low_front content (r.check ∷ []) (λ i. bytes (suc (suc (suc (suc i)))))
@@ -37,7 +39,7 @@ fine_address : (o : Origin) (n : ℕ) → IsFine o → address_in o n < address_
 fine_address (Upper half) n fine = omega arith
 fine_address (Base base) n fine = omega arith
 
-placed_at : (o : Origin) (n : ℕ) (bs : List ℕ) → IsFine o → AreLow bs → ArePlaced (pairs_at (address_in o) n bs)
+placed_at : (o : Origin) (n : ℕ) (bs : List ℕ) → IsFine o → IsLow bs → ArePlaced (pairs_at (address_in o) n bs)
 placed_at o n [] fine low = tt
 placed_at o n (b ∷ bs) fine low = (record { address = fine_address o n fine; byte = low.0 }, placed_at o (n + 1) bs fine low.1)
 
@@ -66,10 +68,39 @@ sound_lines : (s : HexState) (lines : List (List ℕ)) (t : HexState) → SaysAl
 sound_lines s [] t same h = subst IsSound same h
 sound_lines s (line ∷ lines) t says h = sound_lines says.0 lines t says.2 (sound_line s line says.0 says.1 h)
 
-accepted_placed : (file : List ℕ) (pairs : List (ℕ × ℕ)) → IsAccepted Image file pairs → ArePlaced pairs
-accepted_placed file pairs accepted =
-    let image = accepted.says in
+-- an image in Intel HEX
+hex_placed : (file : List ℕ) (pairs : List (ℕ × ℕ)) → hex.IsImage (lines_of file) pairs → ArePlaced pairs
+hex_placed file pairs image =
     subst ArePlaced image.same (sound_lines start (lines_of file) image.last image.says (record { placed = tt; fine = tt })).placed
+
+low_octets : (file : List ℕ) → IsLow (octets file)
+low_octets [] = tt
+low_octets (n ∷ file) = (omega arith, low_octets file)
+
+low_loaded : (file : List ℕ) (h : Header) → IsLow file → IsLow (loaded_bytes file h)
+low_loaded file h low =
+    low_append (take h.in_file (drop h.offset file)) (replicate (h.in_memory - h.in_file) 0)
+    (low_take h.in_file (drop h.offset file) (low_drop h.offset file low)) (low_replicate (h.in_memory - h.in_file))
+  where
+    low_replicate : (n : ℕ) → IsLow (replicate n 0)
+    low_replicate zero = tt
+    low_replicate (suc n) = (omega arith, low_replicate n)
+
+placed_upwards : (a : ℕ) (bs : List ℕ) → IsLow bs → ArePlaced (upwards a bs)
+placed_upwards a [] low = tt
+placed_upwards a (b ∷ bs) low = (record { address = omega arith; byte = low.0 }, placed_upwards (a + 1) bs low.1)
+
+placed_loads : (file : List ℕ) (loads : List Header) → IsLow file → ArePlaced (flat_map (loaded_pairs file) loads)
+placed_loads file [] low = tt
+placed_loads file (h ∷ loads) low =
+    placed_append (loaded_pairs file h) (flat_map (loaded_pairs file) loads) (placed_upwards h.address (loaded_bytes file h) (low_loaded file h low)) (placed_loads file loads low)
+
+image_placed : (file : List ℕ) (pairs : List (ℕ × ℕ)) → IsLow file → IsImage file pairs → ArePlaced pairs
+image_placed file pairs low (says_elf image) = subst ArePlaced image.same (placed_loads file (loads_of file) low)
+image_placed file pairs low (says_hex other image) = hex_placed file pairs image
+
+accepted_placed : (file : List ℕ) (pairs : List (ℕ × ℕ)) → IsAccepted Image file pairs → ArePlaced pairs
+accepted_placed file pairs accepted = image_placed (octets file) pairs (low_octets file) accepted.says
 
 -- ---- a listing of such pairs
 
@@ -84,7 +115,7 @@ image_pairs (p ∷ ps) placed =
     let address : p.0 % address_count ≡ p.0 = omega (arith, placed.0.address) in
     ap (λ (a : ℕ). (a, p.1) ∷ pairs_of (image_of ps)) address ∙ ap (λ (qs : List (ℕ × ℕ)). p ∷ qs) (image_pairs ps placed.1)
 
-low_pairs : (ps : List (ℕ × ℕ)) → ArePlaced ps → AllByRecursion (λ (p : ℕ × ℕ). p.1 < 256) ps
+low_pairs : (ps : List (ℕ × ℕ)) → ArePlaced ps → AreBytes ps
 low_pairs [] placed = tt
 low_pairs (p ∷ ps) placed = (placed.0.byte, low_pairs ps placed.1)
 
@@ -92,5 +123,5 @@ pub some_listed : (file : List ℕ) (pairs : List (ℕ × ℕ)) → IsAccepted I
 some_listed file pairs accepted =
     let placed = accepted_placed file pairs accepted in
     let same = image_pairs pairs placed in
-    let text = some_listing (image_of pairs) (subst (λ (ps : List (ℕ × ℕ)). AllByRecursion (λ (p : ℕ × ℕ). p.1 < 256) ps) (sym same) (low_pairs pairs placed)) in
+    let text = some_listing (image_of pairs) (subst AreBytes (sym same) (low_pairs pairs placed)) in
     (text.0, listed (image_of pairs) text.0 same text.1)

@@ -14,20 +14,24 @@ use Rattle.i9_model.proofs.Cuts.{state_by}
 use Rattle.i9_course.specs.LateRun.{IsLateRun}
 use Rattle.i9_course.proofs.LateRuns.{late_records, late_end}
 use Rattle.i9_course.proofs.LateSame.{run_sets}
+use Rattle.i9_elf.specs.Written.{file_of}
+use Rattle.i9_runs.proofs.Joining.{runs_once}
 use Rattle.i9_dis.proofs.Listed.{one_text as one_listing, by_pairs}
 use Rattle.i9_script.specs.declared.command.Command.{Command as ScriptCommand}
-use Rattle.i9_debug.specs.Lines.{refused_line, generated_line}
+use Rattle.i9_debug.specs.Lines.{generated_line}
 use Rattle.i9_debug.specs.Session.{Place, at, end_at}
 use Rattle.i9_generator.specs.Generator.{generated_source, generated_schedule}
 use Rattle.i9_tool.specs.declared.files.FileKind.{FileKind}
 use Rattle.i9_tool.specs.declared.files.FileKind.TheVariants.{Image, Schedule, Source, Script}
+use Rattle.i9_tool.specs.declared.words.Format.{Format}
+use Rattle.i9_tool.specs.declared.words.Format.TheVariants.{Hex, Elf}
 use Rattle.i9_tool.specs.declared.words.Range.{Range}
 use Rattle.i9_job.proofs.MadeSchedule.{schedule_counted}
-use Rattle.i9_tool.specs.FileKinds.{Value, word_of, names}
+use Rattle.i9_tool.specs.FileKinds.{Value, fault_line, names}
 use Rattle.i9_tool.specs.Fetches.{AllTold}
 use Rattle.i9_tool.specs.Traced.{is_within, traced_lines, printed_text}
 use Rattle.i9_tool.specs.CommandLine.{Command, Run, Asm, Dis, Gen, Driver, ByLength, ByScript, driver_files, planned_files, files_of}
-use Rattle.i9_tool.specs.Outcome.{Reads, unread, fetched, FileGives, too_long, refused, accepted, RunGives, runs, driven_code, ScriptGives, drives, AsmGives, assembled, GenGives, job_runs, job_line, DisGives, listed, DriverGives, PlanGives, IsCountedSchedule, CommandGives, Gives, in_no_form, in_form, names_of}
+use Rattle.i9_tool.specs.Outcome.{Reads, unread, fetched, FileGives, too_long, refused, accepted, RunGives, runs, driven_code, ScriptGives, drives, AsmGives, as_hex, as_elf, too_many_runs, GenGives, job_runs, job_line, DisGives, listed, DriverGives, PlanGives, IsCountedSchedule, CommandGives, Gives, in_no_form, in_form, names_of}
 use Rattle.i9_tool.proofs.FileAnswers.{apart, one_value, one_fault}
 use Rattle.i9_tool.proofs.OneText.{one_text}
 use Rattle.i9_tool.proofs.Outcomes.{reads_wider, kind_wider}
@@ -62,8 +66,13 @@ once_script sets pairs events commands c d s t p q (drives x last is) (drives y 
     let same = one_text (given pairs events MAX_LENGTH sets) commands (at [] 1) last other x y is is' in
     record { status = ap (λ (z : Place). driven_code (end_at z)) same.1; text = same.0 }
 
-once_asm : (image : List Part) → Once (AsmGives image)
-once_asm image c d s t p q assembled assembled = record { status = refl; text = refl }
+-- one text of segments in a format, since they have one list of runs
+once_asm : (format : Format) (image : List Part) → Once (AsmGives format image)
+once_asm Hex image c d s t p q (as_hex _) (as_hex _) = record { status = refl; text = refl }
+once_asm Elf image c d s t p q (as_elf _ parts are few) (as_elf _ others are' few') = record { status = refl; text = ap file_of (runs_once (pairs_of image) parts others are are') }
+once_asm Elf image c d s t p q (as_elf _ parts are few) (too_many_runs _ others are' many) = absurd (let same = ap length (runs_once (pairs_of image) parts others are are') in omega (arith, same))
+once_asm Elf image c d s t p q (too_many_runs _ parts are many) (as_elf _ others are' few) = absurd (let same = ap length (runs_once (pairs_of image) parts others are are') in omega (arith, same))
+once_asm Elf image c d s t p q (too_many_runs _ parts are many) (too_many_runs _ others are' many') = record { status = refl; text = refl }
 
 once_kind : (kind : FileKind) (after : Value kind → ℕ → List ℕ → Type 0) → ((value : Value kind) → Once (after value)) → (file : List ℕ) → Once (FileGives kind after file)
 once_kind kind after once file c d s t p q (too_long long) (too_long longer) = record { status = refl; text = refl }
@@ -71,7 +80,7 @@ once_kind kind after once file c d s t p q (too_long long) (refused g short h) =
 once_kind kind after once file c d s t p q (too_long long) (accepted us d' t' good gives) = absurd (omega (arith, good.short))
 once_kind kind after once file c d s t p q (refused g short h) (too_long long) = absurd (omega arith)
 once_kind kind after once file c d s t p q (refused g short h) (refused g' short' h') =
-    record { status = refl; text = ap (refused_line (word_of kind)) (one_fault kind file g g' h h') }
+    record { status = refl; text = ap (fault_line kind) (one_fault kind file g g' h h') }
 once_kind kind after once file c d s t p q (refused g short h) (accepted us d' t' good gives) = absurd (apart kind file us g good.says h)
 once_kind kind after once file c d s t p q (accepted ts c' s' good gives) (too_long long) = absurd (omega (arith, good.short))
 once_kind kind after once file c d s t p q (accepted ts c' s' good gives) (refused g short h) = absurd (apart kind file ts g good.says h)
@@ -123,7 +132,7 @@ module _ (told : List ℕ → Option (List ℕ)) (rose : List ℕ → Type 0) wh
   once_command : (command : Command) → AllTold told (names (files_of command)) → Once (CommandGives told rose command)
   once_command (Run image schedule sets driver) known =
       once_read (told image) (rose image) _ known.0 (once_kind Image _ (λ pairs. once_plan schedule driver sets pairs known.1))
-  once_command (Asm source) known = once_read (told source) (rose source) _ known.0 (once_kind Source AsmGives once_asm)
+  once_command (Asm format source) known = once_read (told source) (rose source) _ known.0 (once_kind Source (AsmGives format) (once_asm format))
   once_command (Dis image) known = once_read (told image) (rose image) _ known.0 (once_kind Image DisGives once_dis)
   once_command (Gen number sets) known = once_job number sets
 

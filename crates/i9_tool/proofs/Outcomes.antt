@@ -14,6 +14,8 @@ use Rattle.i9_model.specs.declared.run.End.TheVariants.{Exit, Limit, Hazard, Dea
 use Rattle.i9_model.specs.PrintedText.{end_code}
 use Rattle.i9_course.proofs.LateRuns.{late_goes_on}
 use Rattle.i9_hex.specs.Writing.{hex_text}
+use Rattle.i9_elf.specs.Written.{most_headers, file_of}
+use Rattle.i9_runs.proofs.Placed.{some_runs}
 use Rattle.i9_script.specs.declared.command.Command.{Command as ScriptCommand}
 use Rattle.i9_script.specs.ScriptText.{IsCommandInRange, IsInLimits}
 use Rattle.i9_script.proofs.Limits.{script_in_limits}
@@ -34,16 +36,19 @@ use Rattle.i9_tool.specs.declared.files.FileKind.{FileKind}
 use Rattle.i9_tool.specs.declared.files.FileKind.TheVariants.{Image, Schedule, Source, Script}
 use Rattle.i9_tool.specs.declared.run.Counted.{Counted}
 use Rattle.i9_tool.specs.declared.run.Ran.{Ran}
+use Rattle.i9_tool.specs.declared.words.Format.{Format}
+use Rattle.i9_tool.specs.declared.words.Format.TheVariants.{Hex, Elf}
 use Rattle.i9_tool.specs.declared.words.Range.{Range}
-use Rattle.i9_tool.specs.CommandLine.{Command, Run, Asm, Dis, Gen, Driver, ByLength, ByScript, words_line, read_line, long_line}
-use Rattle.i9_tool.specs.FileKinds.{Value, IsFaulty, IsAccepted, word_of, refusal_of}
+use Rattle.i9_tool.specs.CommandLine.{Command, Run, Asm, Dis, Gen, Driver, ByLength, ByScript, words_line, read_line, segments_line, long_line}
+use Rattle.i9_tool.specs.FileKinds.{Value, AreBytes, FaultOf, IsFaulty, IsAccepted, word_of, fault_line, refusal_of}
 use Rattle.i9_tool.specs.Traced.{printed_text}
 use Rattle.i9_tool.specs.Run.{Runs, Counts, printed_of}
 use Rattle.i9_job.specs.Accepted.{HasAssembly, HasPlan}
 use Rattle.i9_job.proofs.MadeSource.{made_source}
 use Rattle.i9_job.proofs.MadeSchedule.{made_schedule}
-use Rattle.i9_tool.specs.Outcome.{Reads, unread, fetched, FileGives, too_long, refused, accepted, RunGives, runs, driven_code, ScriptGives, drives, AsmGives, assembled, DisGives, GenGives, job_runs, job_line, DriverGives, PlanGives, CommandGives, Gives, in_no_form, in_form, Answers, code_for, Only, MissGives, missed_unread, missed_long, AnswersMiss}
+use Rattle.i9_tool.specs.Outcome.{Reads, unread, fetched, FileGives, too_long, refused, accepted, RunGives, runs, driven_code, ScriptGives, drives, AsmGives, as_hex, as_elf, too_many_runs, DisGives, GenGives, job_runs, job_line, DriverGives, PlanGives, CommandGives, Gives, in_no_form, in_form, Answers, code_for, Only, MissGives, missed_unread, missed_long, AnswersMiss}
 use Rattle.i9_tool.proofs.Answering.{answers_printed, answers_nothing, answers_wider}
+use Rattle.i9_tool.proofs.AssembledBytes.{assembled_bytes}
 use Rattle.i9_tool.proofs.FileAnswers.{some_answer}
 use Rattle.i9_tool.proofs.Listable.{some_listed}
 
@@ -112,7 +117,7 @@ short_kind kind after file some short =
           let good : IsAccepted kind file says.0 = record { short = short; says = says.1 } in
           let s = some says.0 good in
           (s.0, s.1, accepted says.0 s.0 s.1 good s.2)
-      | inr bad ↦ (refusal_of kind, refused_line (word_of kind) bad.0, refused bad.0 short bad.1)
+      | inr bad ↦ (refusal_of kind, fault_line kind bad.0, refused bad.0 short bad.1)
     ]
 
 pub some_kind : (kind : FileKind) (after : Value kind → ℕ → List ℕ → Type 0) (file : List ℕ) → ((value : Value kind) → IsAccepted kind file value → SomeFor (after value)) → SomeFor (FileGives kind after file)
@@ -128,11 +133,27 @@ some_dis file pairs good = let s = some_listed file pairs good in (0, s.0, s.1)
 pub some_list : (file : List ℕ) → SomeFor (FileGives Image DisGives file)
 some_list file = some_kind Image DisGives file (some_dis file)
 
-pub some_asm : (image : List Part) → SomeFor (AsmGives image)
-some_asm image = (0, hex_text image, assembled)
+pub some_hex : (image : List Part) → SomeFor (AsmGives Hex image)
+some_hex image = (0, hex_text image, as_hex image)
 
-pub some_source : (file : List ℕ) → SomeFor (FileGives Source AsmGives file)
-some_source file = some_kind Source AsmGives file (λ image good. some_asm image)
+headed : (n : ℕ) → (n ≤ most_headers) ⊎ (most_headers < n)
+headed n = grind arith
+
+-- bytes have runs, which are not too many for an ELF file or are
+pub some_elf : (image : List Part) → AreBytes (pairs_of image) → SomeFor (AsmGives Elf image)
+some_elf image low =
+    let runs = some_runs image low in
+    elim (headed (length runs.0)) [
+      | inl few ↦ (0, file_of runs.0, as_elf image runs.0 runs.1 few)
+      | inr many ↦ (3, segments_line, too_many_runs image runs.0 runs.1 many)
+    ]
+
+some_asm : (format : Format) (file : List ℕ) (image : List Part) → IsAccepted Source file image → SomeFor (AsmGives format image)
+some_asm Hex file image good = some_hex image
+some_asm Elf file image good = some_elf image (assembled_bytes (lines_of file) image good.says)
+
+pub some_source : (format : Format) (file : List ℕ) → SomeFor (FileGives Source (AsmGives format) file)
+some_source format file = some_kind Source (AsmGives format) file (some_asm format file)
 
 -- a made job is accepted, and its run comes to an end
 pub some_job : (number : ℕ) (sets : Option ℕ) → SomeFor (GenGives number sets)
@@ -161,7 +182,7 @@ module _ (told : List ℕ → Option (List ℕ)) (rose : List ℕ → Type 0) wh
 
   pub some_command : (c : Command) → SomeFor (CommandGives told rose c)
   some_command (Run image schedule sets driver) = some_read (told image) (rose image) _ (some_imaged schedule driver sets)
-  some_command (Asm source) = some_read (told source) (rose source) _ some_source
+  some_command (Asm format source) = some_read (told source) (rose source) _ (some_source format)
   some_command (Dis image) = some_read (told image) (rose image) _ some_list
   some_command (Gen number sets) = some_job number sets
 
@@ -260,9 +281,9 @@ module _ {K : Type 0} (k : Account K) where
     file_accepted value code a b good h = answers_wider k (after value) (FileGives kind after file) code a b (λ c t g. accepted value c t good g) h
 
     -- a file is refused
-    pub file_refused : (fault : ℕ × ℕ) (code : ℕ) (a b : K) → length file ≤ FILE_LIMIT → IsFaulty kind (lines_of file) fault
-        → Answers (Only (refusal_of kind) (refused_line (word_of kind) fault)) code k a b → Answers (FileGives kind after file) code k a b
-    file_refused fault code a b short bad h = answers_only (FileGives kind after file) (refusal_of kind) code (refused_line (word_of kind) fault) a b (refused fault short bad) h
+    pub file_refused : (fault : FaultOf kind) (code : ℕ) (a b : K) → length file ≤ FILE_LIMIT → IsFaulty kind file fault
+        → Answers (Only (refusal_of kind) (fault_line kind fault)) code k a b → Answers (FileGives kind after file) code k a b
+    file_refused fault code a b short bad h = answers_only (FileGives kind after file) (refusal_of kind) code (fault_line kind fault) a b (refused fault short bad) h
 
   -- what is answered for a file that was fetched
   pub file_fetched : (told : Option (List ℕ)) (rose : Type 0) (gives : List ℕ → ℕ → List ℕ → Type 0) (file bytes : List ℕ) (code : ℕ) (a mid b : K) → IsFile told file → bytes ≡ file

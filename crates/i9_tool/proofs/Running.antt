@@ -27,8 +27,10 @@ use Rattle.i9_tool.specs.declared.words.Range.{Range}
 use Rattle.i9_tool.specs.Traced.{is_within, line_where, issued_words, issued_line, traced_line, traced_lines, traced_text}
 use Rattle.i9_tool.specs.Run.{RunsAs, Runs, TracedBy, traced_none, traced_next, IsCut, StopsWith, at_end, before_end, TracesBy, behind_step, behind_end, DrivesBy, AllowsTurn, TellsEnd, turn_text, step_text, printed_of}
 use Rattle.i9_debug.specs.Session.{at, ended}
+use Rattle.i9_debug.proofs.TextLines.{IsClosed}
 use Rattle.i9_debug.proofs.Prints.{prints_none, prints_then, prints_stop, prints_behind, prints_same, prints_refused}
 use Rattle.i9_debug.proofs.Turns.{lines-text, on_cut}
+use Rattle.i9_tool.proofs.TracedLines.{closed_traces, closed_by}
 
 -- the machine of a run stands for its records
 pub under_way : (g : Given) (rs : List Record) (m : Machine) (plan : Plan) → StandsFor g (steps rs) None m → Follows g (steps rs) plan → IsUnderWay m plan
@@ -166,7 +168,7 @@ module _ (allows : ℕ → Bool → Type 0) where
       rs = inv.done
 
       behind : (answer : Printed) (x : List ℕ) → Printing answer b c x → Printing answer a c (inv.text ++ x)
-      behind answer x p = prints_then k answer a b c inv.text x inv.prints p
+      behind answer x p = prints_then k answer a b c inv.text x (closed_by allows inv.done inv.text inv.traced) inv.prints p
 
       -- a step was done
       pub on_done : Comes g (steps rs) turns.On before m plan [] ls → Printing Done b c (step_text passes turns.On ls) → Traced a c m plan
@@ -299,13 +301,14 @@ module _ (allows : ℕ → Bool → Type 0) (passes : ℕ → Bool) (agree : Ans
         let on = late_goes_on g rs past in
         let l = later_lines on.0 rs in
         let last = text_of (end_lines (state_after g (on.0 ++ rs)) on.1) in
+        let closed : IsClosed (text ++ []) = subst IsClosed (sym (append-nil text ∙ same)) (closed_traces passes rs) in
         let goes_on : (text ++ []) ++ (l.0 ++ last) ≡ traced_lines passes (on.0 ++ rs) ++ last =
         ap (λ (t : List ℕ). t ++ (l.0 ++ last)) (append-nil text ∙ same) ∙ sym (append_assoc (traced_lines passes rs) l.0 last) ∙ ap (λ (t : List ℕ). t ++ last) (sym l.1) in
         record {
           records = on.0 ++ rs;
           finish = on.1;
           run = on.2;
-          prints = prints_same k (printed_of answer) a b _ _ goes_on (prints_stop k (printed_of answer) a b _ (l.0 ++ last) (not_done answer cut) p);
+          prints = prints_same k (printed_of answer) a b _ _ goes_on (prints_stop k (printed_of answer) a b _ (l.0 ++ last) closed (not_done answer cut) p);
           tells = tells_cut answer on.1 cut;
         }
 

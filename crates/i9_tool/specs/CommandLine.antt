@@ -4,6 +4,8 @@ use Rattle.std.specs.Option.{option_map}
 use Rattle.std.specs.Str.{bytes_eq}
 use Rattle.i9_text.specs.Text.{number_of}
 use Rattle.i9_model.specs.declared.layout.TheConstants.{MAX_LENGTH, MOST_SETS}
+use Rattle.i9_tool.specs.declared.words.Format.{Format}
+use Rattle.i9_tool.specs.declared.words.Format.TheVariants as formats
 use Rattle.i9_tool.specs.declared.words.Range.{Range}
 use Rattle.i9_tool.specs.declared.files.FileKind.TheVariants.{Image, Schedule, Source, Script}
 use Rattle.i9_tool.specs.FileKinds.{File, file_of}
@@ -16,10 +18,11 @@ pub data Driver : Type 0 where
 
 -- What the words ask for: to run the image of this name, with the events of the schedule of this name or with none, with
 -- so many sets or, where none are asked for, with those of the PRCB, as far as it is driven; to assemble the source of
--- this name; to list the image of this name; or to run, in so many sets, the job that is made from a number.
+-- this name and print its image in a format; to list the image of this name; or to run, in so many sets, the job that is
+-- made from a number.
 pub data Command : Type 0 where
   Run : (image : List ℕ) → (schedule : Option (List ℕ)) → (sets : Option ℕ) → (driver : Driver) → Command
-  Asm : (source : List ℕ) → Command
+  Asm : (format : Format) → (source : List ℕ) → Command
   Dis : (image : List ℕ) → Command
   Gen : (number : ℕ) → (sets : Option ℕ) → Command
 
@@ -36,7 +39,7 @@ planned_files (Some name) files = file_of Schedule name ∷ files
 -- the files that a command names, in the order in which they are read
 abbrev pub files_of : Command → List File
 files_of (Run image schedule sets driver) = file_of Image image ∷ planned_files schedule (driver_files driver)
-files_of (Asm source) = file_of Source source ∷ []
+files_of (Asm format source) = file_of Source source ∷ []
 files_of (Dis image) = file_of Image image ∷ []
 files_of (Gen number sets) = []
 
@@ -114,12 +117,14 @@ gen_for (Some number) None = None
 abbrev pub file_for : List ℕ → List ℕ → Option Command
 file_for name file =
     if length file == 0 then None
-    else if bytes_eq name (codes "asm") then Some (Asm file)
+    else if bytes_eq name (codes "asm") then Some (Asm formats.Hex file)
+    else if bytes_eq name (codes "asmelf") then Some (Asm formats.Elf file)
     else if bytes_eq name (codes "dis") then Some (Dis file)
     else None
 
--- `asm SOURCE`, `dis IMAGE`, `gen NUMBER SETS`, `run IMAGE SCHEDULE SETS LENGTH`, `debug IMAGE SCHEDULE SETS SCRIPT`, or
--- `trace IMAGE SCHEDULE SETS LENGTH LOW HIGH`, with names of files that aren't empty
+-- `asm SOURCE`, `asmelf SOURCE`, `dis IMAGE`, `gen NUMBER SETS`, `run IMAGE SCHEDULE SETS LENGTH`,
+-- `debug IMAGE SCHEDULE SETS SCRIPT`, or `trace IMAGE SCHEDULE SETS LENGTH LOW HIGH`, with names of files that aren't
+-- empty
 unfoldable pub command_of : List (List ℕ) → Option Command
 command_of (name ∷ file ∷ []) = file_for name file
 command_of (name ∷ number ∷ sets ∷ []) =
@@ -134,6 +139,10 @@ words_line = codes "#words\n"
 
 abbrev pub read_line : List ℕ
 read_line = codes "#read\n"
+
+-- a source whose bytes stand in more runs than an ELF file has headers
+abbrev pub segments_line : List ℕ
+segments_line = codes "#source segments\n"
 
 -- a file that is too long, by what it is to be
 abbrev pub long_line : List ℕ → List ℕ

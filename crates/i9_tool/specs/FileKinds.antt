@@ -1,7 +1,9 @@
 -- Files by what they are to be: what each says, and which fault it has.
-use Rattle.std.specs.Prelude.{ℕ, ◌≤◌, List, length, map, codes}
+use Rattle.std.specs.Prelude.{ℕ, ◌%◌, ◌<◌, ◌≤◌, List, length, map, codes}
+use Rattle.std.specs.List.{AllByRecursion}
 use Rattle.i9_text.specs.Text.{lines_of}
-use Rattle.i9_model.specs.HexText.{IsImage, IsRefused}
+use Rattle.i9_image.specs.Images.{Fault, AtLine, OfElf, IsImage, IsRefused}
+use Rattle.i9_debug.specs.Lines.{refused_line, elf_line}
 use Rattle.i9_model.specs.ScheduleText.{IsSchedule, IsRefused as IsRefusedSchedule}
 use Rattle.i9_model.specs.declared.event.Timed.{Timed}
 use Rattle.i9_model.specs.Image.{Part}
@@ -31,24 +33,40 @@ Value kinds.Schedule = List Timed
 Value kinds.Source = List Part
 Value kinds.Script = List Command
 
--- the lines of a file say this
-abbrev pub Says : (kind : FileKind) → List (List ℕ) → Value kind → Type 0
-Says kinds.Image lines pairs = IsImage lines pairs
-Says kinds.Schedule lines events = IsSchedule lines events
-Says kinds.Source lines image = IsAssembly lines image
-Says kinds.Script lines commands = IsScript lines commands
+-- pairs of an address and a byte
+abbrev pub AreBytes : List (ℕ × ℕ) → Type 0
+AreBytes pairs = AllByRecursion (λ (p : ℕ × ℕ). p.1 < 256) pairs
 
--- or this is the first line at fault, with its kind
-abbrev pub IsFaulty : FileKind → List (List ℕ) → ℕ × ℕ → Type 0
-IsFaulty kinds.Image lines fault = IsRefused lines fault
-IsFaulty kinds.Schedule lines fault = IsRefusedSchedule lines fault
-IsFaulty kinds.Source lines fault = IsRefusedSource lines fault
-IsFaulty kinds.Script lines fault = IsRefusedScript lines fault
+-- the bytes of a file, of whose numbers each counts modulo 256
+abbrev pub octets : List ℕ → List ℕ
+octets file = map (λ n. n % 256) file
+
+-- A file says this: an ELF image where it begins as ELF files do, and else the lines of an image in Intel HEX; or the lines
+-- of another text.
+abbrev pub Says : (kind : FileKind) → List ℕ → Value kind → Type 0
+Says kinds.Image file pairs = IsImage (octets file) pairs
+Says kinds.Schedule file events = IsSchedule (lines_of file) events
+Says kinds.Source file image = IsAssembly (lines_of file) image
+Says kinds.Script file commands = IsScript (lines_of file) commands
+
+-- what a file is refused for: its first line at fault, with the kind, or the first fault of an ELF image
+abbrev pub FaultOf : FileKind → Type 0
+FaultOf kinds.Image = Fault
+FaultOf kinds.Schedule = ℕ × ℕ
+FaultOf kinds.Source = ℕ × ℕ
+FaultOf kinds.Script = ℕ × ℕ
+
+-- a file has this fault first
+abbrev pub IsFaulty : (kind : FileKind) → List ℕ → FaultOf kind → Type 0
+IsFaulty kinds.Image file fault = IsRefused (octets file) fault
+IsFaulty kinds.Schedule file fault = IsRefusedSchedule (lines_of file) fault
+IsFaulty kinds.Source file fault = IsRefusedSource (lines_of file) fault
+IsFaulty kinds.Script file fault = IsRefusedScript (lines_of file) fault
 
 -- a file is accepted, and says this
 pub record IsAccepted (kind : FileKind) (file : List ℕ) (value : Value kind) : Type 0 where
   pub short : length file ≤ FILE_LIMIT
-  pub says : Says kind (lines_of file) value
+  pub says : Says kind file value
 
 -- ---- what is answered where one is refused
 
@@ -58,6 +76,18 @@ word_of kinds.Image = codes "image"
 word_of kinds.Schedule = codes "schedule"
 word_of kinds.Source = codes "source"
 word_of kinds.Script = codes "script"
+
+-- the line for an image
+abbrev pub image_line : Fault → List ℕ
+image_line (AtLine fault) = refused_line (word_of kinds.Image) fault
+image_line (OfElf kind) = elf_line kind
+
+-- the line for any file
+abbrev pub fault_line : (kind : FileKind) → FaultOf kind → List ℕ
+fault_line kinds.Image fault = image_line fault
+fault_line kinds.Schedule fault = refused_line (word_of kinds.Schedule) fault
+fault_line kinds.Source fault = refused_line (word_of kinds.Source) fault
+fault_line kinds.Script fault = refused_line (word_of kinds.Script) fault
 
 -- the status
 abbrev pub refusal_of : FileKind → ℕ

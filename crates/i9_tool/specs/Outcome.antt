@@ -12,24 +12,28 @@ use Rattle.i9_model.specs.Image.{Part, pairs_of}
 use Rattle.i9_model.specs.declared.layout.TheConstants.{MAX_LENGTH}
 use Rattle.i9_course.specs.LateRun.{IsLateRun}
 use Rattle.i9_hex.specs.Writing.{hex_text}
+use Rattle.i9_runs.specs.Runs.{AreRuns}
+use Rattle.i9_elf.specs.Written.{most_headers, file_of}
 use Rattle.i9_asm.specs.Laws.{IsAssembly}
 use Rattle.i9_asm.specs.Listing.{IsListing}
 use Rattle.i9_model.specs.ScheduleText.{IsSchedule, IsByCounts}
 use Rattle.i9_script.specs.declared.command.Command.{Command as ScriptCommand}
 use Rattle.i9_tool.specs.declared.files.FileKind.{FileKind}
 use Rattle.i9_tool.specs.declared.files.FileKind.TheVariants.{Image, Schedule, Source, Script}
-use Rattle.i9_tool.specs.FileKinds.{File, Value, IsAccepted, IsFaulty, word_of, refusal_of, names}
-use Rattle.i9_tool.specs.CommandLine.{Command, Run, Asm, Dis, Gen, Driver, ByLength, ByScript, files_of, command_of, words_line, read_line, long_line}
+use Rattle.i9_tool.specs.FileKinds.{File, Value, IsAccepted, FaultOf, IsFaulty, word_of, fault_line, refusal_of, names}
+use Rattle.i9_tool.specs.CommandLine.{Command, Run, Asm, Dis, Gen, Driver, ByLength, ByScript, files_of, command_of, words_line, read_line, segments_line, long_line}
 use Rattle.i9_tool.specs.Fetches.{rose_in}
-use Rattle.i9_debug.specs.Lines.{refused_line, generated_line}
+use Rattle.i9_debug.specs.Lines.{generated_line}
 use Rattle.i9_debug.specs.Session.{Place, at, IsText, end_at}
+use Rattle.i9_tool.specs.declared.words.Format.{Format}
+use Rattle.i9_tool.specs.declared.words.Format.TheVariants as formats
 use Rattle.i9_tool.specs.declared.words.Range.{Range}
 use Rattle.i9_tool.specs.Traced.{printed_text}
 use Rattle.i9_generator.specs.Generator.{generated_source, generated_schedule}
 use Rattle.i9_outside.specs.declared.traits.TheConstants.{FILE_LIMIT}
 use Rattle.i9_debug.specs.declared.print.Printed.{Printed}
 use Rattle.i9_debug.specs.declared.print.Printed.TheVariants as printed
-use Rattle.i9_debug.specs.Print.{Account, CountsUpTo, TakesLines, TakesFront, LeavesLines, line_count, counted_on}
+use Rattle.i9_debug.specs.Print.{Account, CountsUpTo, Takes, TakesFront, TakesFirst, lines_in, counted_on}
 use Rattle.i9_outside.specs.Counts.{Rose}
 use Rattle.i9_outside.specs.Traits.{IsFile, AppendsFront}
 
@@ -40,12 +44,12 @@ pub data Reads (told : Option (List ℕ)) (rose : Type 0) (gives : List ℕ → 
   unread : rose → Reads told rose gives 5 read_line
   fetched : (file : List ℕ) (code : ℕ) (text : List ℕ) → IsFile told file → gives file code text → Reads told rose gives code text
 
--- For a file of a kind that was fetched: it is too long, it is refused for its first line at fault, or it is accepted, and
--- what it says gives a status and a text.
+-- For a file of a kind that was fetched: it is too long, it is refused for its first fault, or it is accepted, and what it
+-- says gives a status and a text.
 pub data FileGives (kind : FileKind) (after : Value kind → ℕ → List ℕ → Type 0) (file : List ℕ) : ℕ → List ℕ → Type 0 where
   too_long : FILE_LIMIT < length file → FileGives kind after file (refusal_of kind) (long_line (word_of kind))
-  refused : (fault : ℕ × ℕ) → length file ≤ FILE_LIMIT → IsFaulty kind (lines_of file) fault
-      → FileGives kind after file (refusal_of kind) (refused_line (word_of kind) fault)
+  refused : (fault : FaultOf kind) → length file ≤ FILE_LIMIT → IsFaulty kind file fault
+      → FileGives kind after file (refusal_of kind) (fault_line kind fault)
   accepted : (value : Value kind) (code : ℕ) (text : List ℕ) → IsAccepted kind file value → after value code text
       → FileGives kind after file code text
 
@@ -67,9 +71,14 @@ pub data ScriptGives (sets : Option ℕ) (pairs : List (ℕ × ℕ)) (events : L
   drives : (text : List ℕ) (last : Place) → IsText (given pairs events MAX_LENGTH sets) commands (at [] 1) text last
       → ScriptGives sets pairs events commands (driven_code (end_at last)) text
 
--- the Intel HEX text of segments is printed
-pub data AsmGives (image : List Part) : ℕ → List ℕ → Type 0 where
-  assembled : AsmGives image 0 (hex_text image)
+-- Segments are printed in a format: as Intel HEX text, or as the ELF file of the runs of their bytes, unless these are
+-- more than it has headers.
+pub data AsmGives : Format → List Part → ℕ → List ℕ → Type 0 where
+  as_hex : (image : List Part) → AsmGives formats.Hex image 0 (hex_text image)
+  as_elf : (image runs : List Part) → AreRuns image runs → length runs ≤ most_headers
+      → AsmGives formats.Elf image 0 (file_of runs)
+  too_many_runs : (image runs : List Part) → AreRuns image runs → most_headers < length runs
+      → AsmGives formats.Elf image 3 segments_line
 
 -- the listing of an image is printed
 pub data DisGives (pairs : List (ℕ × ℕ)) : ℕ → List ℕ → Type 0 where
@@ -103,7 +112,7 @@ module _ (told : List ℕ → Option (List ℕ)) (rose : List ℕ → Type 0) wh
   abbrev pub CommandGives : Command → ℕ → List ℕ → Type 0
   CommandGives (Run image schedule sets driver) =
       Reads (told image) (rose image) (FileGives Image (λ pairs. PlanGives schedule (DriverGives driver sets pairs)))
-  CommandGives (Asm source) = Reads (told source) (rose source) (FileGives Source AsmGives)
+  CommandGives (Asm format source) = Reads (told source) (rose source) (FileGives Source (AsmGives format))
   CommandGives (Dis image) = Reads (told image) (rose image) (FileGives Image DisGives)
   CommandGives (Gen number sets) = GenGives number sets
 
@@ -143,16 +152,16 @@ pub record GivesWhole {K : Type 0} (gives : ℕ → List ℕ → Type 0) (code :
   pub text : List ℕ
   pub is_given : gives code text
   pub appended : Appends (k.told old) (k.told new) text
-  pub lines : k.writes new ≡ counted_on (k.writes old) (line_count text)
-  pub pieces : TakesLines k.pieces [] [] old new text
+  pub lines : k.writes new ≡ counted_on (k.writes old) (length (lines_in text))
+  pub pieces : Takes k.pieces (lines_in text) old new
 
 pub record GivesFront {K : Type 0} (gives : ℕ → List ℕ → Type 0) (k : Account K) (old new : K) : Type 0 where
   pub code : ℕ
   pub text : List ℕ
   pub is_given : gives code text
   pub appended : AppendsFront (k.told old) (k.told new) text
-  pub lines : CountsUpTo (line_count text) (k.writes old) (k.writes new)
-  pub pieces : TakesFront k.pieces old new text ⊎ LeavesLines k.pieces old new text
+  pub lines : CountsUpTo (length (lines_in text)) (k.writes old) (k.writes new)
+  pub pieces : TakesFront k.pieces (lines_in text) old new ⊎ TakesFirst k.pieces (lines_in text) old new
 
 -- What a call does that answers a status of these on a sink: 6 where a write failed and 7 where memory was refused.
 pub record Answers {K : Type 0} (gives : ℕ → List ℕ → Type 0) (code : ℕ) (k : Account K) (old new : K) : Type 0 where

@@ -22,7 +22,7 @@ job_by job = Gen job.number job.sets
 
 abbrev pub asked_by : Asked → Command
 asked_by (asked.Run run) = run_by run
-asked_by (asked.Asm source) = Asm source.now
+asked_by (asked.Asm format source) = Asm format source.now
 asked_by (asked.Dis image) = Dis image.now
 asked_by (asked.Gen job) = job_by job
 
@@ -43,6 +43,6 @@ pub record CanRun (run : RunWords) : Type 0 where
 -- and nothing else is asked of what the words ask for
 abbrev pub Fits : Asked → Type 0
 Fits (asked.Run run) = CanRun run
-Fits (asked.Asm source) = Unit {0}
+Fits (asked.Asm format source) = Unit {0}
 Fits (asked.Dis image) = Unit {0}
 Fits (asked.Gen job) = AreFew job.sets

@@ -1,14 +1,17 @@
 //! Files by what they are to be: fetching one, and what is answered where it gives nothing further.
 ghost use Rattle.std.specs.Prelude.{◌≡◌, ◌≢◌, IfOk, IfErr};
 ghost use Rattle.i9_debug.specs.Lines.{refused_line};
-ghost use Rattle.i9_debug.specs.Print.{IsLine, account};
+ghost use Rattle.i9_debug.specs.Print.{IsPiece, account};
+ghost use Rattle.i9_image.specs.Reading.{fault_in};
+ghost use Rattle.i9_tool.specs.declared.files.FileKind.TheVariants as kinds;
 ghost use Rattle.i9_tool.specs.CommandLine.{long_line};
-ghost use Rattle.i9_tool.specs.FileKinds.{word_of, refusal_of};
+ghost use Rattle.i9_tool.specs.FileKinds.{word_of, image_line, refusal_of};
 ghost use Rattle.i9_tool.specs.Fetches.{FetchesOne, shelf, rose_in};
 ghost use Rattle.i9_tool.specs.Outcome.{Answers, AnswersMiss, Only};
 
 use crate::status::{Status, status_for};
-use i9_debug::{print_piece, print_refusal};
+use i9_debug::{print_elf_refusal, print_piece, print_refusal};
+use i9_image::ImageFault;
 use i9_outside::{Fetch, Files, Sink};
 use std::alloc::Global;
 
@@ -36,7 +39,7 @@ fn word_of(kind: FileKind) -> &'static [u8]
 /// The line of a file that is too long.
 fn long_line(kind: FileKind) -> &'static [u8]
     ensures text { result.now ≡ long_line (word_of kind) }
-    ensures line { IsLine result.now }
+    ensures line { IsPiece result.now }
 {
     match kind {
         FileKind::Image => b"#image too long\n",
@@ -98,4 +101,19 @@ pub(crate) fn refuse<K: Sink>(
 {
     let printed = print_refusal(alloc, word_of(kind), line, fault, out);
     status_for(printed, refusal_of(kind))
+}
+
+/// Says that an image is refused, for its first fault.
+pub(crate) fn refuse_image<K: Sink>(alloc: Global, fault: ImageFault, out: &mut K) -> Status
+    ensures answers { Answers (Only (refusal_of kinds.Image) (image_line (fault_in fault)))
+        result.code (account K.told K.faults K.writes K.sure K.pieces) out.old out.new }
+    ensures read { result.code ≢ 5 }
+{
+    match fault {
+        ImageFault::Line(fault) => refuse(alloc, FileKind::Image, fault.line, fault.kind, out),
+        ImageFault::Elf(kind) => {
+            let printed = print_elf_refusal(alloc, kind, out);
+            status_for(printed, refusal_of(FileKind::Image))
+        }
+    }
 }

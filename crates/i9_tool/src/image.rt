@@ -15,12 +15,13 @@ ghost use Rattle.i9_tool.specs.Outcome.{Reads, FileGives, RunGives, DriverGives,
 ghost use Rattle.i9_tool.specs.Run.{TellsEnd, printed_of};
 ghost use Rattle.i9_tool.specs.Words.{driver_by, run_by, AreFew, CanRun};
 
-use crate::files::{FileKind, fetch_file, refuse};
+use crate::files::{FileKind, fetch_file, refuse, refuse_image};
 use crate::run::{Ran, run};
 use crate::script::fetch_script;
 use crate::status::{Status, code_of_end};
 use crate::words::{Driver, Range, RunWords};
-use i9_hex::{HexError, Segments};
+use i9_hex::Segments;
+use i9_image::ImageError;
 use i9_isa::NoMemory;
 use i9_model::layout::MAX_LENGTH;
 use i9_outside::{Files, Sink};
@@ -208,10 +209,10 @@ fn use_image<F: Files, K: Sink>(
     ensures fetches { FetchesBehind (shelf F.told F.faults F.fetches F.sure) result.code kinds.Image file.now
         (planned_files (option_copied words.now.schedule) (driver_files (driver_by words.now.driver))) files.old files.new }
 {
-    match i9_hex::read(alloc, file) {
+    match i9_image::read(alloc, file) {
         Ok(image) => run_planned(alloc, &image, words, files, out),
-        Err(HexError::Bad(fault)) => refuse(alloc, FileKind::Image, fault.line, fault.kind, out),
-        Err(HexError::Memory) => Status { code: 7 },
+        Err(ImageError::Bad(fault)) => refuse_image(alloc, fault, out),
+        Err(ImageError::Memory) => Status { code: 7 },
     }
 }
 

@@ -19,10 +19,10 @@ use std::alloc::Global;
 
 /// What words give for files that are told and were read is one status and one text: an image is accepted or refused,
 /// not both, for one fault, and so are a schedule and a script; the run of image and schedule is the only one, and so is
-/// the text of a script; a source has one list of segments or one first fault, and so has the job of a number. So each
-/// status is answered exactly where it is given. There is a status and a text for all words and files, and those of a run
-/// that is printed do not depend on the number of sets that is asked for where its schedule is by counts, nor do those of a
-/// job.
+/// the text of a script; a source has one list of segments or one first fault, and so has the job of a number; segments
+/// have one list of runs, and so one ELF file or too many runs for one. So each status is answered exactly where it is
+/// given. There is a status and a text for all words and files, and those of a run that is printed do not depend on the
+/// number of sets that is asked for where its schedule is by counts, nor do those of a job.
 pub fn one_outcome()
     ensures some { (told : List ℕ → Option (List ℕ)) (asked : Option Command)
         → (code : ℕ) × (text : List ℕ) × Gives told (λ n. ⊥) asked code text }

@@ -9,11 +9,12 @@ ghost use Rattle.i9_tool.specs.FileKinds.{IsAccepted};
 ghost use Rattle.i9_tool.specs.Fetches.{Fetches, rose_in, shelf};
 ghost use Rattle.i9_tool.specs.Outcome.{Answers, CommandGives, DisGives, FileGives};
 
-use crate::files::{FileKind, fetch_file, refuse};
+use crate::files::{FileKind, fetch_file, refuse_image};
 use crate::status::{Status, status_for};
 use i9_debug::print_text;
 use i9_dis::listing;
-use i9_hex::{HexError, Segments};
+use i9_hex::Segments;
+use i9_image::ImageError;
 use i9_isa::NoMemory;
 use i9_outside::{Files, Sink};
 use std::alloc::Global;
@@ -38,10 +39,10 @@ fn list_image<K: Sink>(alloc: Global, file: &[u8], out: &mut K) -> Status
         (account K.told K.faults K.writes K.sure K.pieces) out.old out.new }
     ensures read { result.code ≢ 5 }
 {
-    match i9_hex::read(alloc, file) {
+    match i9_image::read(alloc, file) {
         Ok(image) => print_listing(alloc, &image, out),
-        Err(HexError::Bad(fault)) => refuse(alloc, FileKind::Image, fault.line, fault.kind, out),
-        Err(HexError::Memory) => Status { code: 7 },
+        Err(ImageError::Bad(fault)) => refuse_image(alloc, fault, out),
+        Err(ImageError::Memory) => Status { code: 7 },
     }
 }
 

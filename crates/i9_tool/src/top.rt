@@ -28,7 +28,7 @@ fn answer<F: Files, K: Sink>(alloc: Global, asked: &Asked<'_>, files: &mut F, ou
 {
     match asked {
         Asked::Run(words) => fetch_image(alloc, words, files, out),
-        Asked::Asm(source) => fetch_source(alloc, source, files, out),
+        Asked::Asm(format, source) => fetch_source(alloc, *format, source, files, out),
         Asked::Dis(image) => fetch_listed(alloc, image, files, out),
         Asked::Gen(words) => do_job(alloc, *words, out),
     }
@@ -51,9 +51,10 @@ fn work<F: Files, K: Sink>(alloc: Global, words: &Vec<String>, files: &mut F, ou
 
 /// Does what the words ask for, and answers a status: 0 where a run exited or reached its length, where a script left a
 /// run before its end or at such an end, and where a source was assembled or an image listed; 1 where the words are in no
-/// form; 2 where the image was refused, or is too long; 3 where the schedule, the source or the script was; 4 where the run
-/// ended early, as it does at an arithmetic fault that the next instruction overtakes; 5 where a file was not read; 6
-/// where a write failed; 7 where memory was refused. `Outcomes` says which status goes with which text.
+/// form; 2 where the image was refused, or is too long; 3 where the schedule, the source or the script was, and where a
+/// source has too many runs of bytes for an ELF file; 4 where the run ended early, as it does at an arithmetic fault that
+/// the next instruction overtakes; 5 where a file was not read; 6 where a write failed; 7 where memory was refused.
+/// `Outcomes` says which status goes with which text.
 pub fn i960<F: Files, K: Sink>(
     alloc: Global,
     words: &Vec<String>,

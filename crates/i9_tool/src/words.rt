@@ -43,12 +43,19 @@ pub(crate) struct JobWords {
     pub(crate) sets: Option<u8>,
 }
 
-/// What the words ask for: to run an image, to assemble the source of this name, to list the image of this name, or to
-/// run the job of a number.
+/// The format of an image that is printed: Intel HEX text, or an ELF file of 32 bits.
+#[derive(Clone, Copy)]
+pub(crate) enum Format {
+    Hex,
+    Elf,
+}
+
+/// What the words ask for: to run an image, to assemble the source of this name and print its image in a format, to list
+/// the image of this name, or to run the job of a number.
 #[derive(Clone, Copy)]
 pub(crate) enum Asked<'a> {
     Run(RunWords<'a>),
-    Asm(&'a str),
+    Asm(Format, &'a str),
     Dis(&'a str),
     Gen(JobWords),
 }
@@ -185,7 +192,7 @@ fn run_asked<'a>(
     })
 }
 
-/// What `asm` or `dis` asks for with the name of a file behind it, where the words are in a form of these.
+/// What `asm`, `asmelf` or `dis` asks for with the name of a file behind it, where the words are in a form of these.
 #[tactic(auto, unfolding(crate::specs::CommandLine::command_of))]
 fn file_asked<'a>(name: &str, file: &'a str) -> Option<Asked<'a>>
     ensures asked { option_map asked_by result ≡ command_of (name.now ∷ file.now ∷ []) }
@@ -195,7 +202,8 @@ fn file_asked<'a>(name: &str, file: &'a str) -> Option<Asked<'a>>
         return None;
     }
     match name {
-        "asm" => Some(Asked::Asm(file)),
+        "asm" => Some(Asked::Asm(Format::Hex, file)),
+        "asmelf" => Some(Asked::Asm(Format::Elf, file)),
         "dis" => Some(Asked::Dis(file)),
         _ => None,
     }

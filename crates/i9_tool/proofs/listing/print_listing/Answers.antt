@@ -1,13 +1,7 @@
-use Rattle.std.proofs.Common.{◌∙◌, refl, sym, arith}
+use Rattle.std.proofs.Common.{refl, arith}
 use Rattle.i9_tool.specs.Outcome.{listed}
-use Rattle.i9_tool.proofs.LinedTexts.{lined_lines}
 use Rattle.i9_tool.proofs.Outcomes.{answers_unprinted, answers_line, some_dis}
 use Rattle.i9_tool.proofs.listing.print_listing.Goals as goal
-
-pub print_text-requires : goal.print_text-requires
-print_text-requires g c =
-    let said = c.in-Ok.ensures.text in
-    record { lined = rw (c.deref.ensures.value ∙ sym said.whole) (lined_lines said.lines) }
 
 pub returns-in-Ok-clause-answers : goal.returns-in-Ok-clause-answers
 returns-in-Ok-clause-answers g c = λ file accepted.

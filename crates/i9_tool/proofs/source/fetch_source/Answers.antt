@@ -11,7 +11,7 @@ pub returns-in-Ok-clause-fetches : goal.returns-in-Ok-clause-fetches
 returns-in-Ok-clause-fetches g c = fetches_last _ _ _ _ Source _ _ c.use_source.ensures.read c.in-Ok.ensures.fetches
 
 pub returns-in-Err-clause-answers : goal.returns-in-Err-clause-answers
-returns-in-Err-clause-answers g c = file_missed _ Source _ _ _ _ _ _ (some_read _ _ _ some_source) c.in-Err.ensures.answers
+returns-in-Err-clause-answers g c = file_missed _ Source _ _ _ _ _ _ (some_read _ _ _ (some_source c.args.format)) c.in-Err.ensures.answers
 
 pub returns-in-Err-clause-fetches : goal.returns-in-Err-clause-fetches
 returns-in-Err-clause-fetches g c = fetches_missed _ _ _ _ Source _ _ c.in-Err.ensures.fetches

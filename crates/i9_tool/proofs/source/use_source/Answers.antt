@@ -1,6 +1,11 @@
 use Rattle.i9_tool.specs.declared.files.FileKind.TheVariants.{Source}
+use Rattle.i9_tool.specs.Outcome.{AsmGives}
+use Rattle.i9_tool.proofs.AssembledBytes.{assembled_bytes}
 use Rattle.i9_tool.proofs.Outcomes.{answers_unprinted, file_accepted, file_refused, some_source}
 use Rattle.i9_tool.proofs.source.use_source.Goals as goal
+
+pub print_image-requires : goal.print_image-requires
+print_image-requires g c = record { few = c.in-Ok.ensures.most; bytes = assembled_bytes _ _ c.in-Ok.ensures.found }
 
 pub returns-in-Ok-clause-answers : goal.returns-in-Ok-clause-answers
 returns-in-Ok-clause-answers g c =
@@ -9,7 +14,7 @@ returns-in-Ok-clause-answers g c =
 pub returns-in-Err-Bad-clause-answers : goal.returns-in-Err-Bad-clause-answers
 returns-in-Err-Bad-clause-answers g c =
     let bad = rw c.in-Err-Bad.field-0-is at c.in-Err-Bad.ensures.refused in
-    file_refused _ Source _ _ _ _ _ _ c.requires.sized bad c.refuse.ensures.answers
+    file_refused _ Source (AsmGives c.args.format) c.args.file.now _ _ _ _ c.requires.sized bad c.refuse.ensures.answers
 
 pub returns-in-Err-Memory-clause-answers : goal.returns-in-Err-Memory-clause-answers
-returns-in-Err-Memory-clause-answers g c = answers_unprinted _ _ _ (some_source c.args.file.now)
+returns-in-Err-Memory-clause-answers g c = answers_unprinted _ _ _ (some_source c.args.format c.args.file.now)
