@@ -119,6 +119,10 @@ low_pairs : (ps : List (ℕ × ℕ)) → ArePlaced ps → AreBytes ps
 low_pairs [] placed = tt
 low_pairs (p ∷ ps) placed = (placed.0.byte, low_pairs ps placed.1)
 
+-- each value is a byte
+pub accepted_bytes : (file : List ℕ) (pairs : List (ℕ × ℕ)) → IsAccepted Image file pairs → AreBytes pairs
+accepted_bytes file pairs accepted = low_pairs pairs (accepted_placed file pairs accepted)
+
 pub some_listed : (file : List ℕ) (pairs : List (ℕ × ℕ)) → IsAccepted Image file pairs → (text : List ℕ) × DisGives pairs 0 text
 some_listed file pairs accepted =
     let placed = accepted_placed file pairs accepted in

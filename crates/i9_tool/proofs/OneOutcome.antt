@@ -1,5 +1,5 @@
 -- Words and files have one status and one text.
-use Rattle.std.proofs.Common.{◌≡◌, ◌≢◌, ℕ, List, [], ◌++◌, length, Option, Some, None, refl, sym, ap, ◌∙◌, subst, arith}
+use Rattle.std.proofs.Common.{◌≡◌, ◌≢◌, ℕ, List, [], ◌++◌, length, Option, Some, None, Result, Ok, Err, refl, sym, ap, ◌∙◌, subst, arith}
 use Rattle.std.specs.Prelude.{IsSome}
 use Rattle.i9_model.specs.State.{State}
 use Rattle.i9_model.specs.Given.{Given, given}
@@ -9,6 +9,11 @@ use Rattle.i9_model.specs.ScheduleText.{IsSchedule, IsByCounts}
 use Rattle.i9_model.specs.Run.{Record, reached_after, Finish, reached_last}
 use Rattle.i9_model.specs.PrintedText.{text_of, lines_of, end_lines, end_code}
 use Rattle.i9_model.specs.Image.{Part, pairs_of}
+use Rattle.i9_isa.specs.declared.inst.Inst.{Inst}
+use Rattle.i9_tune.specs.declared.block.BlockFault.{BlockFault}
+use Rattle.i9_tune.specs.Tuning.{fault_line, IsTuning}
+use Rattle.i9_tune.proofs.OneText.{image_tunable, one_tuning}
+use Rattle.i9_tool.proofs.Listable.{accepted_bytes}
 use Rattle.i9_model.specs.declared.layout.TheConstants.{MAX_LENGTH}
 use Rattle.i9_model.proofs.Cuts.{state_by}
 use Rattle.i9_course.specs.LateRun.{IsLateRun}
@@ -27,11 +32,11 @@ use Rattle.i9_tool.specs.declared.words.Format.{Format}
 use Rattle.i9_tool.specs.declared.words.Format.TheVariants.{Hex, Elf}
 use Rattle.i9_tool.specs.declared.words.Range.{Range}
 use Rattle.i9_job.proofs.MadeSchedule.{schedule_counted}
-use Rattle.i9_tool.specs.FileKinds.{Value, fault_line, names}
+use Rattle.i9_tool.specs.FileKinds.{Value, IsAccepted, fault_line, names}
 use Rattle.i9_tool.specs.Fetches.{AllTold}
 use Rattle.i9_tool.specs.Traced.{is_within, traced_lines, printed_text}
-use Rattle.i9_tool.specs.CommandLine.{Command, Run, Asm, Dis, Gen, Driver, ByLength, ByScript, driver_files, planned_files, files_of}
-use Rattle.i9_tool.specs.Outcome.{Reads, unread, fetched, FileGives, too_long, refused, accepted, RunGives, runs, driven_code, ScriptGives, drives, AsmGives, as_hex, as_elf, too_many_runs, GenGives, job_runs, job_line, DisGives, listed, DriverGives, PlanGives, IsCountedSchedule, CommandGives, Gives, in_no_form, in_form, names_of}
+use Rattle.i9_tool.specs.CommandLine.{Command, Run, Asm, Dis, Gen, Tune, Driver, ByLength, ByScript, driver_files, planned_files, files_of}
+use Rattle.i9_tool.specs.Outcome.{Reads, unread, fetched, FileGives, too_long, refused, accepted, RunGives, runs, driven_code, ScriptGives, drives, AsmGives, as_hex, as_elf, too_many_runs, GenGives, job_runs, job_line, DisGives, listed, TuneGives, no_block, tuned, DriverGives, PlanGives, IsCountedSchedule, CommandGives, Gives, in_no_form, in_form, names_of}
 use Rattle.i9_tool.proofs.FileAnswers.{apart, one_value, one_fault}
 use Rattle.i9_tool.proofs.OneText.{one_text}
 use Rattle.i9_tool.proofs.Outcomes.{reads_wider, kind_wider}
@@ -74,7 +79,7 @@ once_asm Elf image c d s t p q (as_elf _ parts are few) (too_many_runs _ others 
 once_asm Elf image c d s t p q (too_many_runs _ parts are many) (as_elf _ others are' few) = absurd (let same = ap length (runs_once (pairs_of image) parts others are are') in omega (arith, same))
 once_asm Elf image c d s t p q (too_many_runs _ parts are many) (too_many_runs _ others are' many') = record { status = refl; text = refl }
 
-once_kind : (kind : FileKind) (after : Value kind → ℕ → List ℕ → Type 0) → ((value : Value kind) → Once (after value)) → (file : List ℕ) → Once (FileGives kind after file)
+once_kind : (kind : FileKind) (after : Value kind → ℕ → List ℕ → Type 0) → ((file : List ℕ) (value : Value kind) → IsAccepted kind file value → Once (after value)) → (file : List ℕ) → Once (FileGives kind after file)
 once_kind kind after once file c d s t p q (too_long long) (too_long longer) = record { status = refl; text = refl }
 once_kind kind after once file c d s t p q (too_long long) (refused g short h) = absurd (omega arith)
 once_kind kind after once file c d s t p q (too_long long) (accepted us d' t' good gives) = absurd (omega (arith, good.short))
@@ -85,10 +90,27 @@ once_kind kind after once file c d s t p q (refused g short h) (accepted us d' t
 once_kind kind after once file c d s t p q (accepted ts c' s' good gives) (too_long long) = absurd (omega (arith, good.short))
 once_kind kind after once file c d s t p q (accepted ts c' s' good gives) (refused g short h) = absurd (apart kind file ts g good.says h)
 once_kind kind after once file c d s t p q (accepted ts c' s' good gives) (accepted us d' t' good' gives') =
-    once_both after once ts us (one_value kind file ts us good.says good'.says) c d s t p q gives gives'
+    let same = one_value kind file ts us good.says good'.says in
+    once file ts good c d s t p q gives (subst (λ (value : Value kind). after value d t) (sym same) gives')
 
 once_dis : (pairs : List (ℕ × ℕ)) → Once (DisGives pairs)
 once_dis pairs c d s t p q (listed image _ says h) (listed other _ says' g) = record { status = refl; text = one_listing image s t h (by_pairs other image t (says' ∙ sym says) g) }
+
+-- one block is tuned one way, or has one first fault
+same_fault : (f g : BlockFault) → ◌≡◌ {A = Result (List Inst) BlockFault} (Err f) (Err g) → f ≡ g
+same_fault f g e = cc e
+
+same_block : (is js : List Inst) → ◌≡◌ {A = Result (List Inst) BlockFault} (Ok is) (Ok js) → is ≡ js
+same_block is js e = cc e
+
+once_tune : (a n : ℕ) (file : List ℕ) (pairs : List (ℕ × ℕ)) → IsAccepted Image file pairs → Once (TuneGives a n pairs)
+once_tune a n file pairs good c d s t p q (no_block f e) (no_block g h) = record { status = refl; text = ap fault_line (same_fault f g (sym e ∙ h)) }
+once_tune a n file pairs good c d s t p q (no_block f e) (tuned js t' h is) = absurd (cc (sym e ∙ h))
+once_tune a n file pairs good c d s t p q (tuned is s' e one) (no_block g h) = absurd (cc (sym e ∙ h))
+once_tune a n file pairs good c d s t p q (tuned is s' e one) (tuned js t' h other) =
+    let same = same_block is js (sym e ∙ h) in
+    let ok = image_tunable pairs n a js (accepted_bytes file pairs good) h in
+    record { status = refl; text = one_tuning a js s t ok (subst (λ (block : List Inst). IsTuning a block s) same one) other }
 
 -- one run comes to one line
 same_line : (number : ℕ) (g : Given) (rs qs : List Record) (e f : Finish) → IsLateRun g rs e → IsLateRun g qs f → Same (end_code e.end) (end_code f.end) (job_line number g rs e) (job_line number g qs f)
@@ -120,21 +142,22 @@ module _ (told : List ℕ → Option (List ℕ)) (rose : List ℕ → Type 0) wh
   once_driven : (driver : Driver) (sets : Option ℕ) (pairs : List (ℕ × ℕ)) (events : List Timed) → AllTold told (names (driver_files driver)) → Once (DriverGives told rose driver sets pairs events)
   once_driven (ByLength limit traced) sets pairs events known = once_run sets limit traced pairs events
   once_driven (ByScript script) sets pairs events known =
-      once_read (told script) (rose script) _ known.0 (once_kind Script (ScriptGives sets pairs events) (once_script sets pairs events))
+      once_read (told script) (rose script) _ known.0 (once_kind Script (ScriptGives sets pairs events) (λ file commands good. once_script sets pairs events commands))
 
   once_plan : (schedule : Option (List ℕ)) (driver : Driver) (sets : Option ℕ) (pairs : List (ℕ × ℕ)) → AllTold told (names (planned_files schedule (driver_files driver)))
       → Once (PlanGives told rose schedule (DriverGives told rose driver sets pairs))
   once_plan None driver sets pairs known = once_driven driver sets pairs [] known
   once_plan (Some name) driver sets pairs known =
       once_read (told name) (rose name) _ known.0
-      (once_kind Schedule (DriverGives told rose driver sets pairs) (λ events. once_driven driver sets pairs events known.1))
+      (once_kind Schedule (DriverGives told rose driver sets pairs) (λ file events good. once_driven driver sets pairs events known.1))
 
   once_command : (command : Command) → AllTold told (names (files_of command)) → Once (CommandGives told rose command)
   once_command (Run image schedule sets driver) known =
-      once_read (told image) (rose image) _ known.0 (once_kind Image _ (λ pairs. once_plan schedule driver sets pairs known.1))
-  once_command (Asm format source) known = once_read (told source) (rose source) _ known.0 (once_kind Source (AsmGives format) (once_asm format))
-  once_command (Dis image) known = once_read (told image) (rose image) _ known.0 (once_kind Image DisGives once_dis)
+      once_read (told image) (rose image) _ known.0 (once_kind Image _ (λ file pairs good. once_plan schedule driver sets pairs known.1))
+  once_command (Asm format source) known = once_read (told source) (rose source) _ known.0 (once_kind Source (AsmGives format) (λ file image good. once_asm format image))
+  once_command (Dis image) known = once_read (told image) (rose image) _ known.0 (once_kind Image DisGives (λ file pairs good. once_dis pairs))
   once_command (Gen number sets) known = once_job number sets
+  once_command (Tune image a n) known = once_read (told image) (rose image) _ known.0 (once_kind Image (TuneGives a n) (once_tune a n))
 
   pub one_outcome : (asked : Option Command) → AllTold told (names_of asked) → Once (Gives told rose asked)
   one_outcome None known c d s t p q in_no_form in_no_form = record { status = refl; text = refl }

@@ -1,11 +1,17 @@
 -- What the command answers for its files, and for the words.
-use Rattle.std.proofs.Common.{◌≡◌, ℕ, ◌<◌, ◌≤◌, ◌⊎◌, inl, inr, List, [], ◌++◌, length, Option, Some, None, refl, sym, ap, ◌∙◌, subst, arith}
+use Rattle.std.proofs.Common.{◌≡◌, ℕ, ◌<◌, ◌≤◌, ◌⊎◌, inl, inr, List, [], ◌++◌, length, Option, Some, None, Result, Ok, Err, refl, sym, ap, ◌∙◌, subst, arith}
 use Rattle.std.proofs.lemmas.List.Elements.{recursion_from_All}
 use Rattle.i9_text.specs.Text.{lines_of}
 use Rattle.i9_model.specs.ScheduleText.{IsSchedule}
 use Rattle.i9_model.specs.declared.event.Timed.{Timed}
 use Rattle.i9_model.specs.Given.{given}
 use Rattle.i9_model.specs.Image.{Part, pairs_of}
+use Rattle.i9_model.specs.Writes.{last_put}
+use Rattle.i9_isa.specs.declared.inst.Inst.{Inst}
+use Rattle.i9_tune.specs.declared.block.BlockFault.{BlockFault}
+use Rattle.i9_tune.specs.Reading.{block_at}
+use Rattle.i9_tune.specs.Tuning.{fault_line}
+use Rattle.i9_tune.proofs.OneText.{image_tunable, some_tuning}
 use Rattle.i9_model.specs.declared.layout.TheConstants.{MAX_LENGTH}
 use Rattle.i9_model.specs.Run.{state_after, reached_in}
 use Rattle.i9_asm.specs.Laws.{IsAssembly}
@@ -39,18 +45,18 @@ use Rattle.i9_tool.specs.declared.run.Ran.{Ran}
 use Rattle.i9_tool.specs.declared.words.Format.{Format}
 use Rattle.i9_tool.specs.declared.words.Format.TheVariants.{Hex, Elf}
 use Rattle.i9_tool.specs.declared.words.Range.{Range}
-use Rattle.i9_tool.specs.CommandLine.{Command, Run, Asm, Dis, Gen, Driver, ByLength, ByScript, words_line, read_line, segments_line, long_line}
+use Rattle.i9_tool.specs.CommandLine.{Command, Run, Asm, Dis, Gen, Tune, Driver, ByLength, ByScript, words_line, read_line, segments_line, long_line}
 use Rattle.i9_tool.specs.FileKinds.{Value, AreBytes, FaultOf, IsFaulty, IsAccepted, word_of, fault_line, refusal_of}
 use Rattle.i9_tool.specs.Traced.{printed_text}
 use Rattle.i9_tool.specs.Run.{Runs, Counts, printed_of}
 use Rattle.i9_job.specs.Accepted.{HasAssembly, HasPlan}
 use Rattle.i9_job.proofs.MadeSource.{made_source}
 use Rattle.i9_job.proofs.MadeSchedule.{made_schedule}
-use Rattle.i9_tool.specs.Outcome.{Reads, unread, fetched, FileGives, too_long, refused, accepted, RunGives, runs, driven_code, ScriptGives, drives, AsmGives, as_hex, as_elf, too_many_runs, DisGives, GenGives, job_runs, job_line, DriverGives, PlanGives, CommandGives, Gives, in_no_form, in_form, Answers, code_for, Only, MissGives, missed_unread, missed_long, AnswersMiss}
+use Rattle.i9_tool.specs.Outcome.{Reads, unread, fetched, FileGives, too_long, refused, accepted, RunGives, runs, driven_code, ScriptGives, drives, AsmGives, as_hex, as_elf, too_many_runs, DisGives, TuneGives, no_block, tuned, GenGives, job_runs, job_line, DriverGives, PlanGives, CommandGives, Gives, in_no_form, in_form, Answers, code_for, Only, MissGives, missed_unread, missed_long, AnswersMiss}
 use Rattle.i9_tool.proofs.Answering.{answers_printed, answers_nothing, answers_wider}
 use Rattle.i9_tool.proofs.AssembledBytes.{assembled_bytes}
 use Rattle.i9_tool.proofs.FileAnswers.{some_answer}
-use Rattle.i9_tool.proofs.Listable.{some_listed}
+use Rattle.i9_tool.proofs.Listable.{accepted_bytes, some_listed}
 
 -- ---- statuses
 
@@ -133,6 +139,19 @@ some_dis file pairs good = let s = some_listed file pairs good in (0, s.0, s.1)
 pub some_list : (file : List ℕ) → SomeFor (FileGives Image DisGives file)
 some_list file = some_kind Image DisGives file (some_dis file)
 
+-- a block of an accepted image may be tuned, or has a first fault
+some_block : (a n : ℕ) (file : List ℕ) (pairs : List (ℕ × ℕ)) (r : Result (List Inst) BlockFault) → IsAccepted Image file pairs → block_at (last_put pairs) n a ≡ r → SomeFor (TuneGives a n pairs)
+some_block a n file pairs (Err fault) good e = (3, fault_line fault, no_block fault e)
+some_block a n file pairs (Ok block) good e =
+    let s = some_tuning a block (image_tunable pairs n a block (accepted_bytes file pairs good) e) in
+    (0, s.0, tuned block s.0 e s.1)
+
+pub some_tune : (a n : ℕ) (file : List ℕ) (pairs : List (ℕ × ℕ)) → IsAccepted Image file pairs → SomeFor (TuneGives a n pairs)
+some_tune a n file pairs good = some_block a n file pairs (block_at (last_put pairs) n a) good refl
+
+pub some_tuned : (a n : ℕ) (file : List ℕ) → SomeFor (FileGives Image (TuneGives a n) file)
+some_tuned a n file = some_kind Image (TuneGives a n) file (some_tune a n file)
+
 pub some_hex : (image : List Part) → SomeFor (AsmGives Hex image)
 some_hex image = (0, hex_text image, as_hex image)
 
@@ -185,6 +204,7 @@ module _ (told : List ℕ → Option (List ℕ)) (rose : List ℕ → Type 0) wh
   some_command (Asm format source) = some_read (told source) (rose source) _ (some_source format)
   some_command (Dis image) = some_read (told image) (rose image) _ some_list
   some_command (Gen number sets) = some_job number sets
+  some_command (Tune image a n) = some_read (told image) (rose image) _ (some_tuned a n)
 
   pub some_outcome : (asked : Option Command) → SomeFor (Gives told rose asked)
   some_outcome None = (1, words_line, in_no_form)

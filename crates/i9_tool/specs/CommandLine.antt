@@ -1,5 +1,5 @@
 -- The words of the command, and the lines that answer what was refused.
-use Rattle.std.specs.Prelude.{ℕ, Bool, ◌&&◌, ◌==◌, nat_le, if◌then◌else◌, List, [], ◌∷◌, ◌++◌, length, Option, Some, None, codes}
+use Rattle.std.specs.Prelude.{ℕ, ◌%◌, Bool, ◌&&◌, ◌==◌, nat_le, if◌then◌else◌, List, [], ◌∷◌, ◌++◌, length, Option, Some, None, codes}
 use Rattle.std.specs.Option.{option_map}
 use Rattle.std.specs.Str.{bytes_eq}
 use Rattle.i9_text.specs.Text.{number_of}
@@ -18,13 +18,15 @@ pub data Driver : Type 0 where
 
 -- What the words ask for: to run the image of this name, with the events of the schedule of this name or with none, with
 -- so many sets or, where none are asked for, with those of the PRCB, as far as it is driven; to assemble the source of
--- this name and print its image in a format; to list the image of this name; or to run, in so many sets, the job that is
--- made from a number.
+-- this name and print its image in a format; to list the image of this name; to run, in so many sets, the job that is
+-- made from a number; or to tune the block of so many instructions that stands in the image of this name from an address
+-- on.
 pub data Command : Type 0 where
   Run : (image : List ℕ) → (schedule : Option (List ℕ)) → (sets : Option ℕ) → (driver : Driver) → Command
   Asm : (format : Format) → (source : List ℕ) → Command
   Dis : (image : List ℕ) → Command
   Gen : (number : ℕ) → (sets : Option ℕ) → Command
+  Tune : (image : List ℕ) → (address : ℕ) → (count : ℕ) → Command
 
 -- the file of a script, where one drives a run
 abbrev pub driver_files : Driver → List File
@@ -42,6 +44,7 @@ files_of (Run image schedule sets driver) = file_of Image image ∷ planned_file
 files_of (Asm format source) = file_of Source source ∷ []
 files_of (Dis image) = file_of Image image ∷ []
 files_of (Gen number sets) = []
+files_of (Tune image address count) = file_of Image image ∷ []
 
 abbrev pub is_dash : List ℕ → Bool
 is_dash word = bytes_eq word (codes "-")
@@ -113,6 +116,20 @@ gen_for (Some number) (Some sets) = Some (Gen number sets)
 gen_for None sets = None
 gen_for (Some number) None = None
 
+-- the most instructions of a block that is tuned
+abbrev pub most_tuned : ℕ
+most_tuned = 64
+
+-- the address of an instruction, which is a multiple of 4
+abbrev pub of_instruction : Option ℕ → Option ℕ
+of_instruction (Some a) = if a % 4 == 0 then Some a else None
+of_instruction None = None
+
+-- a block of the image of a name that isn't empty, where no word is behind the number of its instructions
+abbrev pub tune_for : List ℕ → Option ℕ → Option ℕ → List (List ℕ) → Option Command
+tune_for image (Some address) (Some count) [] = if length image == 0 then None else Some (Tune image address count)
+tune_for image address count _ = None
+
 -- a command on the one file of this name
 abbrev pub file_for : List ℕ → List ℕ → Option Command
 file_for name file =
@@ -122,14 +139,17 @@ file_for name file =
     else if bytes_eq name (codes "dis") then Some (Dis file)
     else None
 
--- `asm SOURCE`, `asmelf SOURCE`, `dis IMAGE`, `gen NUMBER SETS`, `run IMAGE SCHEDULE SETS LENGTH`,
+-- `asm SOURCE`, `asmelf SOURCE`, `dis IMAGE`, `gen NUMBER SETS`, `tune IMAGE A N`, `run IMAGE SCHEDULE SETS LENGTH`,
 -- `debug IMAGE SCHEDULE SETS SCRIPT`, or `trace IMAGE SCHEDULE SETS LENGTH LOW HIGH`, with names of files that aren't
 -- empty
 unfoldable pub command_of : List (List ℕ) → Option Command
 command_of (name ∷ file ∷ []) = file_for name file
 command_of (name ∷ number ∷ sets ∷ []) =
     if bytes_eq name (codes "gen") then gen_for (number_in 0 most_number number) (sets_for sets) else None
-command_of (name ∷ image ∷ schedule ∷ sets ∷ last) = run_for image (schedule_for schedule) (sets_for sets) (driver_for name last)
+command_of (name ∷ image ∷ second ∷ third ∷ last) =
+    if bytes_eq name (codes "tune")
+    then tune_for image (of_instruction (address_of second)) (number_in 1 most_tuned third) last
+    else run_for image (schedule_for second) (sets_for third) (driver_for name last)
 command_of _ = None
 
 -- ---- lines that end with a line feed

@@ -1,5 +1,5 @@
 -- What the command answers and prints, for its words and files.
-use Rattle.std.specs.Prelude.{◌≡◌, ◌≢◌, ◌⊎◌, ◌<◌, ◌≤◌, ℕ, List, [], length, map, String, Option, Some, None}
+use Rattle.std.specs.Prelude.{◌≡◌, ◌≢◌, ◌⊎◌, ◌<◌, ◌≤◌, ℕ, List, [], length, map, String, Option, Some, None, Ok, Err}
 use Rattle.std.specs.String.{string_bytes}
 use Rattle.std.specs.Io.KnownBytes.{Appends}
 use Rattle.i9_text.specs.Text.{lines_of}
@@ -9,6 +9,11 @@ use Rattle.i9_model.specs.declared.run.End.{End}
 use Rattle.i9_model.specs.Run.{Record, state_after, Finish, reached_in}
 use Rattle.i9_model.specs.PrintedText.{end_code}
 use Rattle.i9_model.specs.Image.{Part, pairs_of}
+use Rattle.i9_model.specs.Writes.{last_put}
+use Rattle.i9_isa.specs.declared.inst.Inst.{Inst}
+use Rattle.i9_tune.specs.declared.block.BlockFault.{BlockFault}
+use Rattle.i9_tune.specs.Reading.{block_at}
+use Rattle.i9_tune.specs.Tuning.{fault_line, IsTuning}
 use Rattle.i9_model.specs.declared.layout.TheConstants.{MAX_LENGTH}
 use Rattle.i9_course.specs.LateRun.{IsLateRun}
 use Rattle.i9_hex.specs.Writing.{hex_text}
@@ -21,7 +26,7 @@ use Rattle.i9_script.specs.declared.command.Command.{Command as ScriptCommand}
 use Rattle.i9_tool.specs.declared.files.FileKind.{FileKind}
 use Rattle.i9_tool.specs.declared.files.FileKind.TheVariants.{Image, Schedule, Source, Script}
 use Rattle.i9_tool.specs.FileKinds.{File, Value, IsAccepted, FaultOf, IsFaulty, word_of, fault_line, refusal_of, names}
-use Rattle.i9_tool.specs.CommandLine.{Command, Run, Asm, Dis, Gen, Driver, ByLength, ByScript, files_of, command_of, words_line, read_line, segments_line, long_line}
+use Rattle.i9_tool.specs.CommandLine.{Command, Run, Asm, Dis, Gen, Tune, Driver, ByLength, ByScript, files_of, command_of, words_line, read_line, segments_line, long_line}
 use Rattle.i9_tool.specs.Fetches.{rose_in}
 use Rattle.i9_debug.specs.Lines.{generated_line}
 use Rattle.i9_debug.specs.Session.{Place, at, IsText, end_at}
@@ -84,6 +89,13 @@ pub data AsmGives : Format → List Part → ℕ → List ℕ → Type 0 where
 pub data DisGives (pairs : List (ℕ × ℕ)) : ℕ → List ℕ → Type 0 where
   listed : (image : List Part) (text : List ℕ) → pairs_of image ≡ pairs → IsListing image text → DisGives pairs 0 text
 
+-- The block of so many instructions that stands in an image from an address on is tuned, and its text is printed; or the
+-- line of its first instruction at fault is.
+pub data TuneGives (a n : ℕ) (pairs : List (ℕ × ℕ)) : ℕ → List ℕ → Type 0 where
+  no_block : (fault : BlockFault) → block_at (last_put pairs) n a ≡ Err fault → TuneGives a n pairs 3 (fault_line fault)
+  tuned : (block : List Inst) (text : List ℕ) → block_at (last_put pairs) n a ≡ Ok block → IsTuning a block text
+      → TuneGives a n pairs 0 text
+
 -- the line of what the run of the job of a number comes to
 abbrev pub job_line : ℕ → Given → List Record → Finish → List ℕ
 job_line number g records f = generated_line number (state_after g records).count (length (reached_in g records f)) f.end
@@ -115,6 +127,7 @@ module _ (told : List ℕ → Option (List ℕ)) (rose : List ℕ → Type 0) wh
   CommandGives (Asm format source) = Reads (told source) (rose source) (FileGives Source (AsmGives format))
   CommandGives (Dis image) = Reads (told image) (rose image) (FileGives Image DisGives)
   CommandGives (Gen number sets) = GenGives number sets
+  CommandGives (Tune image a n) = Reads (told image) (rose image) (FileGives Image (TuneGives a n))
 
 -- each event of the schedule that the words name happens after so many instructions, whatever that file is
 abbrev pub IsCountedSchedule : (List ℕ → Option (List ℕ)) → Option (List ℕ) → Type 0

@@ -11,6 +11,7 @@ mod script;
 mod source;
 mod status;
 mod top;
+mod tuned;
 mod words;
 
 pub use crate::status::Status;

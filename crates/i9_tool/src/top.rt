@@ -12,6 +12,7 @@ use crate::job::do_job;
 use crate::listing::fetch_listed;
 use crate::source::fetch_source;
 use crate::status::{Status, status_for};
+use crate::tuned::fetch_tuned;
 use crate::words::{Asked, read_words};
 use i9_debug::print_piece;
 use i9_outside::{Files, Sink};
@@ -31,6 +32,7 @@ fn answer<F: Files, K: Sink>(alloc: Global, asked: &Asked<'_>, files: &mut F, ou
         Asked::Asm(format, source) => fetch_source(alloc, *format, source, files, out),
         Asked::Dis(image) => fetch_listed(alloc, image, files, out),
         Asked::Gen(words) => do_job(alloc, *words, out),
+        Asked::Tune(words) => fetch_tuned(alloc, words, files, out),
     }
 }
 
@@ -50,9 +52,10 @@ fn work<F: Files, K: Sink>(alloc: Global, words: &Vec<String>, files: &mut F, ou
 }
 
 /// Does what the words ask for, and answers a status: 0 where a run exited or reached its length, where a script left a
-/// run before its end or at such an end, and where a source was assembled or an image listed; 1 where the words are in no
-/// form; 2 where the image was refused, or is too long; 3 where the schedule, the source or the script was, and where a
-/// source has too many runs of bytes for an ELF file; 4 where the run ended early, as it does at an arithmetic fault that
+/// run before its end or at such an end, and where a source was assembled, an image listed or a block tuned; 1 where the
+/// words are in no form; 2 where the image was refused, or is too long; 3 where the schedule, the source or the script
+/// was, where a source has too many runs of bytes for an ELF file, and where an instruction of the block that is to be
+/// tuned is at fault; 4 where the run ended early, as it does at an arithmetic fault that
 /// the next instruction overtakes; 5 where a file was not read; 6 where a write failed; 7 where memory was refused.
 /// `Outcomes` says which status goes with which text.
 pub fn i960<F: Files, K: Sink>(

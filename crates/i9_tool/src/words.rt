@@ -1,11 +1,11 @@
 //! The words of the command.
-ghost use Rattle.std.specs.Prelude.{◌≡◌, ◌≤◌, ◌<◌, ◌∷◌, [], IfSome, map};
+ghost use Rattle.std.specs.Prelude.{◌≡◌, ◌%◌, ◌≤◌, ◌<◌, ◌∷◌, [], IfSome, map};
 ghost use Rattle.std.specs.Option.{option_map, option_copied};
 ghost use Rattle.std.specs.String.{string_bytes};
 ghost use Rattle.i9_model.specs.declared.layout.TheConstants.{MAX_LENGTH};
-ghost use Rattle.i9_tool.specs.CommandLine.{sets_for, schedule_for, address_of, range_for, number_in, most_number};
+ghost use Rattle.i9_tool.specs.CommandLine.{sets_for, schedule_for, address_of, range_for, number_in, most_number, most_tuned, of_instruction, tune_for};
 ghost use Rattle.i9_tool.specs.CommandLine.{length_for, script_for, driver_for, run_for, command_of};
-ghost use Rattle.i9_tool.specs.Words.{driver_by, run_by, job_by, asked_by, AreFew, IsShort, CanRun, Fits};
+ghost use Rattle.i9_tool.specs.Words.{driver_by, run_by, job_by, tune_by, asked_by, AreFew, IsShort, CanRun, IsBlock, Fits};
 
 use i9_model::layout::{MAX_LENGTH, MOST_SETS};
 use i9_text::number;
@@ -50,15 +50,28 @@ pub(crate) enum Format {
     Elf,
 }
 
+/// What `tune` asks for: to tune the block of so many instructions that stands in the image of this name from an address
+/// on, which is a multiple of 4.
+#[derive(Clone, Copy)]
+pub(crate) struct TuneWords<'a> {
+    pub(crate) image: &'a str,
+    pub(crate) address: u32,
+    pub(crate) count: u8,
+}
+
 /// What the words ask for: to run an image, to assemble the source of this name and print its image in a format, to list
-/// the image of this name, or to run the job of a number.
+/// the image of this name, to run the job of a number, or to tune a block of an image.
 #[derive(Clone, Copy)]
 pub(crate) enum Asked<'a> {
     Run(RunWords<'a>),
     Asm(Format, &'a str),
     Dis(&'a str),
     Gen(JobWords),
+    Tune(TuneWords<'a>),
 }
+
+/// The most instructions of a block that is tuned.
+const MOST_TUNED: u64 = 64;
 
 /// The number of sets that a word asks for, of which `-` asks for none.
 #[tactic(auto, unfolding(crate::specs::CommandLine::sets_for))]
@@ -234,6 +247,72 @@ fn gen_asked(name: &str, number: &str, sets: &str) -> Option<JobWords>
     Some(JobWords { number, sets })
 }
 
+/// The address of an instruction that a word says.
+fn instruction_asked(word: &str) -> Option<u32>
+    ensures asked { result ≡ of_instruction (address_of word.now) }
+    ensures aligned { IfSome result (λ a. a % 4 ≡ 0) }
+{
+    let address = address_asked(word)?;
+    if address % 4 != 0 {
+        return None;
+    }
+    Some(address)
+}
+
+/// The number of instructions that a word says.
+fn count_asked(word: &str) -> Option<u8>
+    ensures asked { result ≡ number_in 1 most_tuned word.now }
+    ensures few { IfSome result (λ n. n ≤ most_tuned) }
+{
+    let n = number(word.as_bytes(), 10, 10)?;
+    if n == 0 || n > MOST_TUNED {
+        return None;
+    }
+    Some(n as u8)
+}
+
+/// The block that these words ask for, with no word behind them.
+fn block_asked<'a>(
+    image: &'a str,
+    address: &str,
+    count: &str,
+    last: &[String],
+) -> Option<TuneWords<'a>>
+    ensures asked { option_map tune_by result ≡ tune_for image.now (of_instruction (address_of address.now)) (number_in 1 most_tuned count.now) (map string_bytes last.now) }
+    ensures block { IfSome result IsBlock }
+{
+    let address = instruction_asked(address)?;
+    let count = count_asked(count)?;
+    if image.is_empty() || !last.is_empty() {
+        return None;
+    }
+    Some(TuneWords {
+        image,
+        address,
+        count,
+    })
+}
+
+/// What `tune` asks for, or what drives a run, with these words behind it, where they are in a form of these.
+#[tactic(auto, unfolding(crate::specs::CommandLine::command_of))]
+fn image_asked<'a>(
+    name: &str,
+    image: &'a str,
+    second: &'a str,
+    third: &str,
+    last: &'a [String],
+) -> Option<Asked<'a>>
+    ensures asked { option_map asked_by result ≡ command_of (name.now ∷ image.now ∷ second.now ∷ third.now ∷ map string_bytes last.now) }
+    ensures fits { IfSome result Fits }
+{
+    if name == "tune" {
+        let block = block_asked(image, second, third, last)?;
+        return Some(Asked::Tune(block));
+    }
+    let run = run_asked(name, image, second, third, last)?;
+    Some(Asked::Run(run))
+}
+
 /// What the words ask for, where they are in a form of the command.
 #[tactic(auto, unfolding(crate::specs::CommandLine::command_of))]
 pub(crate) fn read_words(words: &[String]) -> Option<Asked<'_>>
@@ -246,10 +325,7 @@ pub(crate) fn read_words(words: &[String]) -> Option<Asked<'_>>
             let job = gen_asked(name, number, sets)?;
             Some(Asked::Gen(job))
         }
-        [name, image, schedule, sets, last @ ..] => {
-            let run = run_asked(name, image, schedule, sets, last)?;
-            Some(Asked::Run(run))
-        }
+        [name, image, second, third, last @ ..] => image_asked(name, image, second, third, last),
         _ => None,
     }
 }
