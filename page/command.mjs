@@ -1,23 +1,16 @@
 // The command in its module: words and up to three files go in, a status and a text come out. Each call has an instance of
 // its own, whose memory is let go with it; an instance that trapped is never called again.
-const module = await WebAssembly.compile(await moduleBytes());
 const FIRST_ROOM = 1 << 20, MOST_ROOM = 1 << 28, NO_ROOM = 6;
 
-async function moduleBytes() {
-  const kept = document.getElementById("module");
-  if (kept) return Uint8Array.from(atob(kept.textContent), c => c.charCodeAt(0));
-  return (await fetch("i960.wasm")).arrayBuffer();
-}
-
-/** The status and the text; the words name the files 1, 2 and 3. */
-export function command(words, files) {
+/** The status and the text; the words name the files 1, 2 and 3. The room for the text grows until it has room. */
+export function command(module, words, files) {
   for (let room = FIRST_ROOM; ; room *= 4) {
-    const reply = callWith(words, files, room);
+    const reply = callWith(module, words, files, room);
     if (reply.status !== NO_ROOM || room >= MOST_ROOM) return reply;
   }
 }
 
-function callWith(words, files, room) {
+function callWith(module, words, files, room) {
   const { exports: calls } = new WebAssembly.Instance(module, {});
   const take = length => {
     const place = calls.page_take(BigInt(length));
@@ -35,5 +28,5 @@ function callWith(words, files, room) {
   const out = take(room), printed = take(8);
   const status = calls.i9_page(...given, out, BigInt(room), printed) & 255;
   const length = Number(new DataView(calls.memory.buffer).getBigUint64(Number(printed), true));
-  return { status, text: new TextDecoder().decode(new Uint8Array(calls.memory.buffer, Number(out), length)) };
+  return { status, bytes: new Uint8Array(calls.memory.buffer, Number(out), length).slice() };
 }
