@@ -1,7 +1,7 @@
 // What is shown of a board. Each view shows words of lines that the command printed.
 import { REGISTERS, LOCALS, hex, number, isBusy, returnTypeOf, recordOf, sideOf, destinationOf } from "./session.mjs";
 
-const LISTED = 240, CELL = 9, ROW = 13, PICTURED = 60, STATEMENT = 230;
+const LISTED = 240, CELL = 9, ROW = 13, PICTURED = 60, STATEMENT = 216;
 export const at = id => document.getElementById(id);
 
 /** An element with a class and a text or children. */
@@ -147,21 +147,22 @@ export function chooseLine(area, line) {
 export function showPicture(board, issued) {
   const shown = issued.slice(-PICTURED), box = at("picture");
   if (shown.length === 0) { box.replaceChildren("nothing has issued in these turns"); return; }
-  const first = shown[0].turn, last = board.position.turn;
-  const width = STATEMENT + CELL * (last - first + 4), height = ROW * (shown.length + 1);
-  const rows = shown.map((item, n) => pictureRow(board, item, n, first, last)).join("");
-  const now = STATEMENT + CELL * (last - first);
-  box.innerHTML = `<svg width="${width}" height="${height}" role="img" aria-label="instructions by turn">`
-    + `<text x="0" y="10">turns ${first} to ${last}</text><line x1="${now}" y1="0" x2="${now}" y2="${height}"/>${rows}</svg>`;
-  box.scrollTop = box.scrollHeight;
+  const first = shown[0].turn, last = board.position.turn, height = ROW * (shown.length + 1);
+  const width = CELL * (last - first + 4), now = CELL * (last - first);
+  const names = shown.map(({ address, statement }, n) => `<text x="0" y="${ROW * (n + 1) + 10}">${escaped(`${hex(address)} ${statement}`.slice(0, 34))}</text>`);
+  const bars = shown.map((item, n) => bar(board, item, ROW * (n + 1), first, last));
+  box.innerHTML = `<svg class="names" width="${STATEMENT}" height="${height}"><text x="0" y="10">turns ${first} to ${last}</text>${names.join("")}</svg>`
+    + `<svg width="${width}" height="${height}" role="img" aria-label="instructions by turn">`
+    + `<line x1="${now}" y1="0" x2="${now}" y2="${height}"/>${bars.join("")}</svg>`;
+  [box.scrollTop, box.scrollLeft] = [box.scrollHeight, box.scrollWidth];
 }
 
-function pictureRow(board, { turn, address, statement }, n, first, last) {
-  const done = doneAt(board, turn, statement, last), y = ROW * (n + 1), side = sideOf(statement.split(" ")[0]);
-  const x = STATEMENT + CELL * (turn - first), length = CELL * Math.max(1, done - turn);
-  const text = `${hex(address)} ${statement}`.slice(0, 36).replaceAll("&", "&amp;").replaceAll("<", "&lt;");
-  return `<text x="0" y="${y + 10}">${text}</text>`
-    + `<rect class="${side}" x="${x}" y="${y + 2}" width="${length}" height="${ROW - 4}"><title>turn ${turn}, side ${side}</title></rect>`;
+const escaped = text => text.replaceAll("&", "&amp;").replaceAll("<", "&lt;");
+
+function bar(board, { turn, statement }, y, first, last) {
+  const done = doneAt(board, turn, statement, last), side = sideOf(statement.split(" ")[0]);
+  const length = CELL * Math.max(1, done - turn) - 1;
+  return `<rect class="${side}" x="${CELL * (turn - first)}" y="${y + 2}" width="${length}" height="${ROW - 4}"><title>turn ${turn} to ${done}, side ${side}</title></rect>`;
 }
 
 /** The first turn behind an issue at which the register that is written is not busy; at most the last one. */

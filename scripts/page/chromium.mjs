@@ -73,8 +73,12 @@ export class Chromium {
     return Buffer.from((await this.send("Page.captureScreenshot", { format: "png" })).data, "base64");
   }
 
-  close() {
+  async close() {
+    const ended = new Promise(done => this.process.once("exit", done));
     this.process.kill();
-    rmSync(this.room, { recursive: true, force: true, maxRetries: 5 });
+    await ended;
+    // Some of its processes may still write there for a moment.
+    await new Promise(done => setTimeout(done, 200));
+    rmSync(this.room, { recursive: true, force: true, maxRetries: 10, retryDelay: 200 });
   }
 }
