@@ -1,10 +1,10 @@
 // What is loaded and where the session stands, and the moves from there: each is a run of the command from the start.
 import {
-  hex, number, leadTo, tell, tellTurns, tellFrames, readPlaces, readTrace, readListing, readRefusal, readTable,
+  hex, number, passTo, leadTo, tell, tellTurns, tellFrames, readPlaces, readTurns, readTrace, readListing, readRefusal, readTable,
   sourceWithTable, memoryOf, framesOf, isCall,
 } from "./session.mjs";
 
-const BEHIND = 32, AHEAD = 96, EDGE = 24, MOST_TRIES = 64, FRAME_ROUNDS = 6, TRACED = 400;
+const BEHIND = 32, AHEAD = 96, EDGE = 24, MOST_TRIES = 64, FRAME_ROUNDS = 6, TRACED = 400, STRIDE = 64, STRIDES = 4096;
 const NO_BYTES = bytesOf(":00000001FF\n");
 
 export function bytesOf(text) {
@@ -132,16 +132,45 @@ export class Board {
   /** The turn at which the run has ended, near to one that is known. */
   async lastTurn(near) {
     await this.tellAround(near);
-    return [...this.told].filter(([, place]) => place.end).map(([turn]) => turn).reduce((a, b) => Math.min(a, b), Infinity);
+    const ended = [...this.told].filter(([, place]) => place.end).map(([turn]) => turn);
+    return ended.length ? Math.min(...ended) : near + 1;
   }
 
-  /** Goes to the next time, behind a turn, that an address is the next instruction. */
-  async goTo(position) {
-    const script = leadTo(position) + tell(this.memory);
-    const [place] = readPlaces(await this.debug(script));
+  /** Goes from a position to the next time that an instruction leads to an address. */
+  async goUntil(from, address) {
+    const [place] = readPlaces(await this.debug(`${leadTo(from)}until ${hex(address)}\n${tell(this.memory)}`));
+    await this.settleAt(place, address);
+  }
+
+  /** Takes a place within a turn, to which an instruction led that has left the instruction address there. */
+  async settleAt(place, address) {
     if (place.end) return this.goTurn(place.turn + 1);
     if (!this.told.has(place.turn)) await this.tellAround(place.turn);
-    this.take({ turn: place.turn, address: position.address }, place, this.told.get(place.turn));
+    const before = this.told.get(place.turn);
+    let times = 1;
+    // An address can come more than once in a turn, as where a branch leads to itself.
+    if (place.count - before.count > 1) {
+      const text = await this.debug(passTo(place.turn) + `until ${hex(address)}\n`.repeat(3));
+      times = readTurns(text).slice(-3).findIndex(({ count }) => count === place.count) + 1;
+    }
+    this.take({ turn: place.turn, address, times }, place, before);
+  }
+
+  /** Goes behind so many instructions, of which there are more than now, where the next one is at an address. */
+  async goCount(count, address) {
+    const first = this.position.turn, strides = readTurns(await this.debug(passTo(first) + `turn ${STRIDE}\n`.repeat(STRIDES)));
+    const behind = strides.filter(told => told.count < count).at(-1)?.turn ?? first;
+    let turn = behind;
+    for (; ; turn++) {
+      if (!this.told.has(turn)) await this.tellAround(turn);
+      const place = this.told.get(turn);
+      if (place === undefined) throw new Error(`${hex(address)} is too far ahead`);
+      if (place.count === count && number(place.ip) === address) return this.goTurn(turn);
+      if (place.count > count || place.end) break;
+    }
+    // An entry of a handler leads to an address without an instruction, perhaps within a turn.
+    if (this.told.get(turn - 1).count === count) return this.goTurn(turn - 1);
+    await this.goUntil({ turn: turn - 1 }, address);
   }
 
   take(position, place, before) {
@@ -164,10 +193,9 @@ export class Board {
   }
 
   async step() {
-    const count = this.place.count + 1, address = await this.addressBehind(count);
-    if (address === undefined) return this.goTurn(this.place.turn + 1);
-    await this.goTo({ turn: this.position.turn, address });
-    if (this.place.count !== count) await this.goTurn(this.place.turn);
+    const address = await this.addressBehind(this.place.count + 1);
+    if (address === undefined) return this.goTurn(await this.lastTurn(this.place.turn));
+    await this.goUntil(this.position, address);
   }
 
   async stepBack() {
@@ -178,7 +206,11 @@ export class Board {
       if (!this.told.has(turn)) await this.tellAround(turn);
       if (this.told.get(turn).count < count) break;
     }
-    await this.goTo({ turn, address: await this.addressBehind(count) });
+    const address = await this.addressBehind(count), missing = count - this.told.get(turn).count;
+    const text = await this.debug(leadTo({ turn }) + `until ${hex(address)}\n`.repeat(missing));
+    const times = readTurns(text).slice(-missing).findIndex(told => told.count === count) + 1;
+    const [place] = readPlaces(await this.debug(leadTo({ turn, address, times }) + tell(this.memory)));
+    this.take({ turn, address, times }, place, this.told.get(turn));
   }
 
   /** The line of the listing at an address. */
@@ -203,37 +235,35 @@ export class Board {
 
   /** Goes to the next time that the instruction at an address comes, with this frame pointer where one is given. */
   async reach(address, frame) {
-    const most = await this.timesAhead(address);
-    if (most === 0) throw new Error(`${hex(address)} is not reached within ${this.length} instructions`);
-    const tries = frame === undefined ? 1 : Math.min(most, MOST_TRIES);
+    const counts = await this.countsAhead(address);
+    if (frame === undefined && counts.length > 0) return this.goCount(counts[0], address);
+    // An instruction at which the run ends is not traced.
+    if (counts.length === 0 && (await this.endOfRun())[0] === "limit") throw new Error(`${hex(address)} is not reached within ${this.length} instructions`);
+    const tries = frame === undefined ? 1 : MOST_TRIES;
     const script = leadTo(this.position) + `until ${hex(address)}\n${tell(this.memory)}`.repeat(tries);
     const place = readPlaces(await this.debug(script)).find(place => place.end || frame === undefined || place.seen[31] === frame);
     if (!place) throw new Error(`${hex(address)} is not reached in this frame within ${tries} times`);
-    if (place.end) return this.goTurn(place.turn + 1);
-    if (!this.told.has(place.turn)) await this.tellAround(place.turn);
-    this.take({ turn: place.turn, address }, place, this.told.get(place.turn));
+    await this.settleAt(place, address);
   }
 
-  /** How often the instruction at an address may come from here on; where the run ends within the length, any number. */
-  async timesAhead(address) {
-    if ((await this.endOfRun())[0] !== "limit") return MOST_TRIES;
+  /** Behind how many instructions the one at an address comes from here on, within the length. */
+  async countsAhead(address) {
     const { text } = await this.form(["trace", this.length, hex(address), hex(address)]);
-    return readTrace(text, MOST_TRIES * 16).filter(({ count }) => count > this.place.count).length;
+    return readTrace(text, Infinity).map(({ count }) => count).filter(count => count > this.place.count);
   }
 
   /** Goes on to the first of the breakpoints that comes. */
   async goOn() {
-    const here = { position: this.position, place: this.place, before: this.before };
+    if (this.stops.size === 0) throw new Error("there is no breakpoint");
     let best;
     for (const address of this.stops) {
-      Object.assign(this, here);
-      await this.reach(address).catch(error => { if (error instanceof Refused || error.name === "Cancelled") throw error; });
-      const moved = this.place !== here.place && !this.place.end;
-      if (moved && (!best || this.place.count < best.place.count)) best = { position: this.position, place: this.place, before: this.before };
+      const [count] = await this.countsAhead(address);
+      if (count !== undefined && (best === undefined || count < best.count)) best = { count, address };
     }
-    Object.assign(this, best ?? here);
-    if (!best) throw new Error(this.stops.size ? `no breakpoint is reached within ${this.length} instructions` : "there is no breakpoint");
-    this.script = leadTo(this.position) + tell(this.memory);
+    if (best) return this.goCount(best.count, best.address);
+    const last = [...this.stops].at(-1);
+    if (this.stops.size === 1 && (await this.endOfRun())[0] !== "limit") return this.reach(last);
+    throw new Error(`no breakpoint is reached within ${this.length} instructions`);
   }
 
   // ---- what belongs to a place

@@ -19,8 +19,8 @@ export function passTo(turn) {
   return script;
 }
 
-/** The commands that lead to a position: to a turn, and then to the next time that `address` is the next instruction. */
-export const leadTo = ({ turn, address }) => passTo(turn) + (address === undefined ? "" : `until ${hex(address)}\n`);
+/** The commands that lead to a position: to a turn, and then so many times on until an instruction leads to `address`. */
+export const leadTo = ({ turn, address, times = 1 }) => passTo(turn) + (address === undefined ? "" : `until ${hex(address)}\n`.repeat(times));
 
 /** The commands that tell a place: rows of 16 bytes of memory by the command `mem` or `rawmem`, and then the state. */
 export function tell({ from, rows, by }) {
@@ -67,6 +67,11 @@ function takeLine(place, [word, ...rest], seen) {
   else if (word === "#l" && seen) place.seen = [...rest, ...place.seen.slice(16)];
   else if (word === "#mem" || word === "#rawmem") place.memory.push({ address: number(rest[0]), bytes: rest.slice(1) });
   else if (word === "#who") place.who = rest;
+}
+
+/** The turn and the count of instructions of each line that tells one. */
+export function readTurns(text) {
+  return [...text.matchAll(/^#turn (\d+) (\d+)$/gm)].map(([, turn, count]) => ({ turn: Number(turn), count: Number(count) }));
 }
 
 /** Whether a register is busy at a place. */
