@@ -10,6 +10,7 @@ const NO_BYTES: &str = ":00000001FF\n";
 
 /// A source of four bytes, and its Intel HEX.
 const SOURCE: &str = ".org 16\n.word 0x01020304\n";
+
 const HEX: &str = ":0400100004030201E2\n:00000001FF\n";
 
 const ROWS: [Row; 10] = [
@@ -18,10 +19,34 @@ const ROWS: [Row; 10] = [
     ("asm\n1", [SOURCE, "", ""], 32, 0, HEX),
     ("asm\n1", [SOURCE, "", ""], 31, 6, ""),
     ("asm\n3", ["", "", SOURCE], 64, 0, HEX),
-    ("asm\n1", [".word\n", "", ""], 64, 3, "#source line 1 kind 2\n"),
-    ("run\n1\n-\n-\n0", ["no image", "", ""], 64, 2, "#image line 1 kind 1\n"),
-    ("run\n1\n2\n-\n0", [NO_BYTES, "at\n", ""], 64, 3, "#schedule line 1 kind 2\n"),
-    ("debug\n1\n2\n-\n3", [NO_BYTES, "", "\n?"], 64, 3, "#script line 2 kind 1\n"),
+    (
+        "asm\n1",
+        [".word\n", "", ""],
+        64,
+        3,
+        "#source line 1 kind 2\n",
+    ),
+    (
+        "run\n1\n-\n-\n0",
+        ["no image", "", ""],
+        64,
+        2,
+        "#image line 1 kind 1\n",
+    ),
+    (
+        "run\n1\n2\n-\n0",
+        [NO_BYTES, "at\n", ""],
+        64,
+        3,
+        "#schedule line 1 kind 2\n",
+    ),
+    (
+        "debug\n1\n2\n-\n3",
+        [NO_BYTES, "", "\n?"],
+        64,
+        3,
+        "#script line 2 kind 1\n",
+    ),
     ("run\n9\n-\n-\n0", ["", "", ""], 64, 5, "#read\n"),
 ];
 
