@@ -7,8 +7,9 @@ import {
 const BEHIND = 32, AHEAD = 96, EDGE = 24, MOST_TRIES = 64, FRAME_ROUNDS = 6, TRACED = 400, STRIDE = 64, STRIDES = 4096;
 const NO_BYTES = bytesOf(":00000001FF\n");
 
+/** A text as the program takes it, a byte for each character; one past 255 is a byte past ASCII, which it refuses. */
 export function bytesOf(text) {
-  return Uint8Array.from(text, character => character.charCodeAt(0) & 255);
+  return Uint8Array.from(text, character => Math.min(character.charCodeAt(0), 255));
 }
 
 /** What the program says of a file that it refuses; `text` is that of the file. */
