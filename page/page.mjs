@@ -8,7 +8,7 @@ import {
 } from "./views.mjs";
 
 const PICTURED_TURNS = 100;
-let board, simulator, words, chosen, lastText = "", moving = false, shownMoves = 0;
+let board, simulator, words, chosen, lastText = "", moving = false, resting = 0, shownMoves = 0;
 
 // ---- what is in the page's own file
 
@@ -23,7 +23,7 @@ async function start() {
   board = new Board((...asked) => simulator.ask(...asked));
   await board.probe();
   at("who").hidden = !board.has.who;
-  window.page = { board, words, ready: true, isIdle: () => !moving };
+  window.page = { board, words, ready: true, isIdle: () => !moving && resting === 0 };
   notice("Open an image, a source or an ELF file; a schedule may come with it.");
 }
 
@@ -75,6 +75,15 @@ function showPlace() {
 
 /** What needs runs of its own, as long as no other move came. */
 async function showRest(number) {
+  resting++;
+  try {
+    await showFramesAndTurns(number);
+  } finally {
+    resting--;
+  }
+}
+
+async function showFramesAndTurns(number) {
   const still = () => number === shownMoves && !moving;
   const frames = await board.frames();
   if (!still()) return;
