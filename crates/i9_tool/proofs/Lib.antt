@@ -6,6 +6,7 @@ pub mod FileAnswers
 pub mod Fetching
 pub mod Answering
 pub mod Listable
+pub mod Wider
 pub mod Outcomes
 pub mod OneText
 pub mod OneOutcome

@@ -39,7 +39,7 @@ use Rattle.i9_tool.specs.CommandLine.{Command, Run, Asm, Dis, Gen, Tune, Driver,
 use Rattle.i9_tool.specs.Outcome.{Reads, unread, fetched, FileGives, too_long, refused, accepted, RunGives, runs, driven_code, ScriptGives, drives, AsmGives, as_hex, as_elf, too_many_runs, GenGives, job_runs, job_line, DisGives, listed, TuneGives, no_block, tuned, DriverGives, PlanGives, IsCountedSchedule, CommandGives, Gives, in_no_form, in_form, names_of}
 use Rattle.i9_tool.proofs.FileAnswers.{apart, one_value, one_fault}
 use Rattle.i9_tool.proofs.OneText.{one_text}
-use Rattle.i9_tool.proofs.Outcomes.{reads_wider, kind_wider}
+use Rattle.i9_tool.proofs.Wider.{reads_wider, kind_wider}
 
 -- a status and a text at once
 pub record Same (c d : ℕ) (s t : List ℕ) : Type 0 where

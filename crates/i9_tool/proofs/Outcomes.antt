@@ -53,6 +53,7 @@ use Rattle.i9_job.specs.Accepted.{HasAssembly, HasPlan}
 use Rattle.i9_job.proofs.MadeSource.{made_source}
 use Rattle.i9_job.proofs.MadeSchedule.{made_schedule}
 use Rattle.i9_tool.specs.Outcome.{Reads, unread, fetched, FileGives, too_long, refused, accepted, RunGives, runs, driven_code, ScriptGives, drives, AsmGives, as_hex, as_elf, too_many_runs, DisGives, TuneGives, no_block, tuned, GenGives, job_runs, job_line, DriverGives, PlanGives, CommandGives, Gives, in_no_form, in_form, Answers, code_for, Only, MissGives, missed_unread, missed_long, AnswersMiss}
+use Rattle.i9_tool.proofs.Wider.{kind_wider, driver_wider, plan_wider}
 use Rattle.i9_tool.proofs.Answering.{answers_printed, answers_nothing, answers_wider}
 use Rattle.i9_tool.proofs.AssembledBytes.{assembled_bytes}
 use Rattle.i9_tool.proofs.FileAnswers.{some_answer}
@@ -209,32 +210,6 @@ module _ (told : List ℕ → Option (List ℕ)) (rose : List ℕ → Type 0) wh
   pub some_outcome : (asked : Option Command) → SomeFor (Gives told rose asked)
   some_outcome None = (1, words_line, in_no_form)
   some_outcome (Some c) = let s = some_command c in (s.0, s.1, in_form c s.0 s.1 s.2)
-
--- ---- the same in a wider choice
-
-pub reads_wider : (told other : Option (List ℕ)) (rose risen : Type 0) (gives wider : List ℕ → ℕ → List ℕ → Type 0) → ((f : List ℕ) → IsFile told f → IsFile other f) → (rose → risen)
-    → ((f : List ℕ) (c : ℕ) (t : List ℕ) → gives f c t → wider f c t) → (c : ℕ) (t : List ℕ) → Reads told rose gives c t → Reads other risen wider c t
-reads_wider told other rose risen gives wider found rises more c t (unread r) = unread (rises r)
-reads_wider told other rose risen gives wider found rises more c t (fetched f d s is_file g) = fetched f c t (found f is_file) (more f c t g)
-
-pub kind_wider : (kind : FileKind) (after other : Value kind → ℕ → List ℕ → Type 0) → ((value : Value kind) (c : ℕ) (t : List ℕ) → after value c t → other value c t)
-    → (f : List ℕ) (c : ℕ) (t : List ℕ) → FileGives kind after f c t → FileGives kind other f c t
-kind_wider kind after other more f c t (too_long long) = too_long long
-kind_wider kind after other more f c t (refused fault short bad) = refused fault short bad
-kind_wider kind after other more f c t (accepted value d s good g) = accepted value c t good (more value c t g)
-
-module _ (told other : List ℕ → Option (List ℕ)) (rose risen : List ℕ → Type 0) (found : (n f : List ℕ) → IsFile (told n) f → IsFile (other n) f) (rises : (n : List ℕ) → rose n → risen n) where
-  pub driver_wider : (driver : Driver) (sets : Option ℕ) (pairs : List (ℕ × ℕ)) (events : List Timed) (c : ℕ) (t : List ℕ)
-      → DriverGives told rose driver sets pairs events c t → DriverGives other risen driver sets pairs events c t
-  driver_wider (ByLength limit traced) sets pairs events c t g = g
-  driver_wider (ByScript script) sets pairs events c t g =
-      reads_wider (told script) (other script) (rose script) (risen script) _ _ (found script) (rises script) (λ f d s h. h) c t g
-
-  pub plan_wider : (schedule : Option (List ℕ)) (run wider : List Timed → ℕ → List ℕ → Type 0) → ((events : List Timed) (c : ℕ) (t : List ℕ) → run events c t → wider events c t)
-      → (c : ℕ) (t : List ℕ) → PlanGives told rose schedule run c t → PlanGives other risen schedule wider c t
-  plan_wider None run wider more c t g = more [] c t g
-  plan_wider (Some name) run wider more c t g =
-      reads_wider (told name) (other name) (rose name) (risen name) (FileGives Schedule run) (FileGives Schedule wider) (found name) (rises name) (kind_wider Schedule run wider more) c t g
 
 -- ---- what is answered
 

@@ -6,8 +6,10 @@ ghost use Rattle.std.specs.List.{AllByRecursion};
 ghost use Rattle.i9_tool.specs.CommandLine.{Command, Run, Gen, ByLength};
 ghost use Rattle.i9_tool.specs.declared.words.Range.{Range};
 ghost use Rattle.i9_outside.specs.Calls.{NoneToFail};
+ghost use Rattle.i9_outside.specs.Counts.{Rose};
 ghost use Rattle.i9_outside.specs.MemFiles as mem_files;
 ghost use Rattle.i9_outside.specs.MemSink as mem_sink;
+ghost use Rattle.i9_outside.specs.Traits.{IsFile};
 ghost use Rattle.i9_tool.specs.Fetches.{AllTold};
 ghost use Rattle.i9_tool.specs.Outcome.{Gives, GivesWhole, IsCountedSchedule, Outcomes, asked_for, names_of};
 ghost use Rattle.i9_debug.specs.Print.{account};
@@ -42,6 +44,20 @@ pub fn one_outcome()
         (sets others : Option ℕ) (code : ℕ) (text : List ℕ)
         → Gives told (λ n. risen n ≡ true) (Some (Gen number sets)) code text
         → Gives told (λ n. risen n ≡ true) (Some (Gen number others)) code text }
+{}
+
+/// What words give for files that another reading tells too is given under that reading: where no file can fail to be
+/// read, if no count rose, and else with the counts of that reading, where each of them rises that rose.
+pub fn where_none_rose()
+    ensures none { (told other : List ℕ → Option (List ℕ)) (before now : List ℕ → ℕ) (asked : Option Command)
+        (code : ℕ) (text : List ℕ)
+        → ((n file : List ℕ) → IsFile (told n) file → IsFile (other n) file) → ((n : List ℕ) → Rose (before n) (now n) → ⊥)
+        → Gives told (λ n. Rose (before n) (now n)) asked code text → Gives other (λ n. ⊥) asked code text }
+    ensures some { (told other : List ℕ → Option (List ℕ)) (before now first last : List ℕ → ℕ) (asked : Option Command)
+        (code : ℕ) (text : List ℕ)
+        → ((n file : List ℕ) → IsFile (told n) file → IsFile (other n) file)
+        → ((n : List ℕ) → Rose (before n) (now n) → Rose (first n) (last n))
+        → Gives told (λ n. Rose (before n) (now n)) asked code text → Gives other (λ n. Rose (first n) (last n)) asked code text }
 {}
 
 /// The command over files and a sink in memory: a status below 6 has its whole text. Where no call is set to fail, each

@@ -1,0 +1,3 @@
+pub mod SlotFiles
+pub mod Line
+pub mod Request

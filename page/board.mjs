@@ -1,0 +1,302 @@
+// What is loaded and where the session stands, and the moves from there: each is a run of the command from the start.
+import {
+  hex, number, passTo, leadTo, tell, tellTurns, tellFrames, readPlaces, readTurns, readTrace, readListing, readRefusal, readTable,
+  sourceWithTable, memoryOf, framesOf, isCall,
+} from "./session.mjs";
+
+const BEHIND = 32, AHEAD = 96, EDGE = 24, MOST_TRIES = 64, FRAME_ROUNDS = 6, TRACED = 400, STRIDE = 64, STRIDES = 4096;
+const NO_BYTES = bytesOf(":00000001FF\n");
+
+/** A text as the program takes it, a byte for each character; one past 255 is a byte past ASCII, which it refuses. */
+export function bytesOf(text) {
+  return Uint8Array.from(text, character => Math.min(character.charCodeAt(0), 255));
+}
+
+/** What the program says of a file that it refuses; `text` is that of the file. */
+export class Refused extends Error {
+  constructor(reply, name, text) {
+    super(reply.text.trim());
+    Object.assign(this, { status: reply.status, refusal: readRefusal(reply.text), name, text });
+  }
+}
+
+/** What a file is to be, by its name and how it begins. */
+export function kindOf(name, bytes) {
+  const head = String.fromCharCode(...bytes.slice(0, 400));
+  if (head.startsWith("\x7FELF") || head.startsWith(":")) return "image";
+  if (/\.sch$/i.test(name) || /^(?:\s*(?:#.*)?\n)*\s*(at|turn)\s+\d/.test(head)) return "schedule";
+  return "source";
+}
+
+export class Board {
+  /** `ask(words, ...files)` answers a status and a text. */
+  constructor(ask) {
+    Object.assign(this, { ask, image: undefined, name: "", source: undefined, schedule: "", sets: "-", length: "100000" });
+    Object.assign(this, { names: new Map(), lines: new Map(), listing: [], stops: new Set(), has: {}, memory: { from: 0x1000, rows: 8, by: "mem" } });
+    this.forget();
+  }
+
+  /** Which of the commands the debugger has that came later. */
+  async probe() {
+    const { status } = await this.ask(["debug", "1", "-", "-", "3"], NO_BYTES, undefined, bytesOf("who 0\n"));
+    this.has.who = status === 0 || status === 4;
+  }
+
+  /** Lets go of what was told, as where something else is loaded. */
+  forget() {
+    Object.assign(this, { told: new Map(), position: { turn: 1 }, place: undefined, before: undefined, script: "", ending: undefined });
+  }
+
+  // ---- what is loaded
+
+  async load(name, bytes) {
+    const kind = kindOf(name, bytes), text = new TextDecoder("latin1").decode(bytes);
+    if (kind === "schedule") { this.schedule = text; this.forget(); return kind; }
+    if (kind === "source") await this.loadSource(name, text, bytes);
+    else await this.loadImage(name, text, bytes);
+    this.forget();
+    return kind;
+  }
+
+  async loadSource(name, text, bytes) {
+    const made = await this.ask(["asm", "1"], bytes);
+    if (made.status !== 0) throw new Refused(made, name, text);
+    const { labels, text: marked } = sourceWithTable(text.replaceAll("\r\n", "\n"));
+    const table = await this.ask(["asm", "1"], bytesOf(marked));
+    await this.loadImage(name, text, bytesOf(made.text));
+    if (table.status === 0) Object.assign(this, readTable(labels, table.text));
+    this.source = text.split("\n");
+  }
+
+  async loadImage(name, text, bytes) {
+    const listed = await this.ask(["dis", "1"], bytes);
+    if (listed.status !== 0) throw new Refused(listed, name, text);
+    Object.assign(this, { image: bytes, name, source: undefined, names: new Map(), lines: new Map(), listing: readListing(listed.text) });
+  }
+
+  /** The label of an address, or the nearest one before it. */
+  labelOf(address) {
+    let best;
+    for (const at of this.names.keys()) if (at <= address && (best === undefined || at > best) && address - at < 65536) best = at;
+    if (best === undefined) return "";
+    const distance = address - best;
+    return this.names.get(best)[0] + (distance ? `+0x${distance.toString(16).toUpperCase()}` : "");
+  }
+
+  // ---- asking
+
+  /** The status and the text of a form of the command over the image and the schedule. */
+  async form(words, script) {
+    const plan = this.schedule.trim() === "" ? "-" : "2";
+    const reply = await this.ask([words[0], "1", plan, this.sets, ...words.slice(1)], this.image, bytesOf(this.schedule), script && bytesOf(script));
+    if (reply.status !== 0 && reply.status !== 4) throw new Refused(reply, plan === "2" ? "the schedule" : this.name, this.schedule);
+    return reply;
+  }
+
+  async debug(script) {
+    return (await this.form(["debug", "3"], script)).text;
+  }
+
+  run() {
+    return this.form(["run", this.length]);
+  }
+
+  /** How the run ends within the length: the words of its last line. */
+  async endOfRun() {
+    this.ending ??= (await this.run()).text.trim().split("\n").at(-1).split(" ").slice(1);
+    return this.ending;
+  }
+
+  // ---- places
+
+  /** Tells the turns round one that was not told yet. */
+  async tellAround(turn) {
+    const first = Math.max(1, turn - BEHIND), last = Math.max(1, turn) + AHEAD;
+    const places = readPlaces(await this.debug(tellTurns(first, last, this.memory)));
+    for (const [n, place] of places.entries()) {
+      this.told.set(first + n, place);
+      if (place.end) break;
+    }
+    return places;
+  }
+
+  /** Goes to a turn, or to the last one where the run ends before. A turn is one more than the turns that have passed. */
+  async goTurn(turn) {
+    turn = Math.max(1, turn);
+    if (!this.told.has(turn)) {
+      const places = await this.tellAround(turn);
+      if (!this.told.has(turn)) turn = await this.lastTurn(places[0].turn);
+    }
+    this.take({ turn }, this.told.get(turn), this.told.get(turn - 1));
+  }
+
+  /** The turn at which the run has ended, near to one that is known. */
+  async lastTurn(near) {
+    await this.tellAround(near);
+    const ended = [...this.told].filter(([, place]) => place.end).map(([turn]) => turn);
+    return ended.length ? Math.min(...ended) : near + 1;
+  }
+
+  /** Goes from a position to the next time that an instruction leads to an address. */
+  async goUntil(from, address) {
+    const [place] = readPlaces(await this.debug(`${leadTo(from)}until ${hex(address)}\n${tell(this.memory)}`));
+    await this.settleAt(place, address);
+  }
+
+  /** Takes a place within a turn, to which an instruction led that has left the instruction address there. */
+  async settleAt(place, address) {
+    if (place.end) return this.goTurn(place.turn + 1);
+    if (!this.told.has(place.turn)) await this.tellAround(place.turn);
+    const before = this.told.get(place.turn);
+    let times = 1;
+    // An address can come more than once in a turn, as where a branch leads to itself.
+    if (place.count - before.count > 1) {
+      const text = await this.debug(passTo(place.turn) + `until ${hex(address)}\n`.repeat(3));
+      times = readTurns(text).slice(-3).findIndex(({ count }) => count === place.count) + 1;
+    }
+    this.take({ turn: place.turn, address, times }, place, before);
+  }
+
+  /** Goes behind so many instructions, of which there are more than now, where the next one is at an address. */
+  async goCount(count, address) {
+    const first = this.position.turn, strides = readTurns(await this.debug(passTo(first) + `turn ${STRIDE}\n`.repeat(STRIDES)));
+    const behind = strides.filter(told => told.count < count).at(-1)?.turn ?? first;
+    let turn = behind;
+    for (; ; turn++) {
+      if (!this.told.has(turn)) await this.tellAround(turn);
+      const place = this.told.get(turn);
+      if (place === undefined) throw new Error(`${hex(address)} is too far ahead`);
+      if (place.count === count && number(place.ip) === address) return this.goTurn(turn);
+      if (place.count > count || place.end) break;
+    }
+    // An entry of a handler leads to an address without an instruction, perhaps within a turn.
+    if (this.told.get(turn - 1).count === count) return this.goTurn(turn - 1);
+    await this.goUntil({ turn: turn - 1 }, address);
+  }
+
+  take(position, place, before) {
+    Object.assign(this, { position, place, before, script: leadTo(position) + tell(this.memory) });
+  }
+
+  /** Whether the next turns ought to be told before they are asked for. */
+  isNearEdge() {
+    const turn = this.position.turn;
+    return !this.place.end && !(this.told.has(turn + EDGE) || [...this.told.values()].some(place => place.end));
+  }
+
+  // ---- moves
+
+  /** The address of the next instruction behind so many; undefined where the run ends before. */
+  async addressBehind(count) {
+    const { text } = await this.form(["run", String(count)]);
+    const point = text.slice(text.lastIndexOf("#point ")).split(/\s/);
+    return point[1] === String(count) && point[2] === "end" && text.trimEnd().endsWith("#end limit") ? number(point[3]) : undefined;
+  }
+
+  async step() {
+    const address = await this.addressBehind(this.place.count + 1);
+    if (address === undefined) return this.goTurn(await this.lastTurn(this.place.turn));
+    await this.goUntil(this.position, address);
+  }
+
+  async stepBack() {
+    const count = this.place.count - 1;
+    if (count <= 0) return this.goTurn(1);
+    let turn = this.position.turn;
+    for (; turn > 1; turn--) {
+      if (!this.told.has(turn)) await this.tellAround(turn);
+      if (this.told.get(turn).count < count) break;
+    }
+    const address = await this.addressBehind(count), missing = count - this.told.get(turn).count;
+    const text = await this.debug(leadTo({ turn }) + `until ${hex(address)}\n`.repeat(missing));
+    const times = readTurns(text).slice(-missing).findIndex(told => told.count === count) + 1;
+    const [place] = readPlaces(await this.debug(leadTo({ turn, address, times }) + tell(this.memory)));
+    this.take({ turn, address, times }, place, this.told.get(turn));
+  }
+
+  /** The line of the listing at an address. */
+  lineAt(address) {
+    return this.listing.find(line => line.address === address);
+  }
+
+  /** Goes behind a call; where there is none, one instruction on. */
+  async over() {
+    const line = this.lineAt(number(this.place.ip));
+    if (!line || !isCall(line.statement)) return this.step();
+    const words = line.words.trim().split(/\s+/).length;
+    return this.reach(line.address + 4 * words, this.place.seen[31]);
+  }
+
+  /** Goes to the caller, where it goes on. */
+  async out() {
+    const { frames } = await this.frames();
+    if (frames.length < 2) throw new Error("there is no caller");
+    return this.reach(number(frames[1].locals[2]), hex(frames[1].address));
+  }
+
+  /** Goes to the next time that the instruction at an address comes, with this frame pointer where one is given. */
+  async reach(address, frame) {
+    const counts = await this.countsAhead(address);
+    if (frame === undefined && counts.length > 0) return this.goCount(counts[0], address);
+    // An instruction at which the run ends is not traced.
+    if (counts.length === 0 && (await this.endOfRun())[0] === "limit") throw new Error(`${hex(address)} is not reached within ${this.length} instructions`);
+    const tries = frame === undefined ? 1 : MOST_TRIES;
+    const script = leadTo(this.position) + `until ${hex(address)}\n${tell(this.memory)}`.repeat(tries);
+    const place = readPlaces(await this.debug(script)).find(place => place.end || frame === undefined || place.seen[31] === frame);
+    if (!place) throw new Error(`${hex(address)} is not reached in this frame within ${tries} times`);
+    await this.settleAt(place, address);
+  }
+
+  /** Behind how many instructions the one at an address comes from here on, within the length. */
+  async countsAhead(address) {
+    const { text } = await this.form(["trace", this.length, hex(address), hex(address)]);
+    return readTrace(text, Infinity).map(({ count }) => count).filter(count => count > this.place.count);
+  }
+
+  /** Goes on to the first of the breakpoints that comes. */
+  async goOn() {
+    if (this.stops.size === 0) throw new Error("there is no breakpoint");
+    let best;
+    for (const address of this.stops) {
+      const [count] = await this.countsAhead(address);
+      if (count !== undefined && (best === undefined || count < best.count)) best = { count, address };
+    }
+    if (best) return this.goCount(best.count, best.address);
+    const last = [...this.stops].at(-1);
+    if (this.stops.size === 1 && (await this.endOfRun())[0] !== "limit") return this.reach(last);
+    throw new Error(`no breakpoint is reached within ${this.length} instructions`);
+  }
+
+  // ---- what belongs to a place
+
+  /** The frames of the place, from the current one on, and the bytes that were told for them. */
+  async frames() {
+    const { place, position } = this;
+    let rows = [], missing;
+    for (let round = 0; round < FRAME_ROUNDS; round++) {
+      const [told] = readPlaces(await this.debug(leadTo(position) + tellFrames(place, missing)));
+      rows = [...rows, ...told.memory];
+      const found = framesOf(place, memoryOf(rows));
+      missing = found.missing;
+      if (missing === undefined) break;
+    }
+    return { ...framesOf(place, memoryOf(rows)), bytes: memoryOf(rows) };
+  }
+
+  /** The instructions of the last turns that were told, each with the turn in which it issued. */
+  async issued(turns) {
+    const last = this.position.turn, first = Math.max(1, last - turns), counts = [];
+    for (let turn = first; turn <= last + 1; turn++) if (this.told.has(turn)) counts.push([turn, this.told.get(turn).count]);
+    const most = counts.at(-1)?.[1] ?? 0, least = counts[0]?.[1] ?? 0;
+    if (most === least) return [];
+    const { text } = await this.form(["trace", String(Math.min(most, 10000000)), "0", "FFFFFFFF"]);
+    const turnOf = count => counts.filter(([, issued]) => issued <= count).at(-1)?.[0];
+    return readTrace(text, TRACED).filter(({ count }) => count >= least).map(item => ({ ...item, turn: turnOf(item.count) }));
+  }
+
+  /** Who wrote the byte at an address last: the words that the debugger tells. */
+  async whoWrote(address) {
+    const [place] = readPlaces(await this.debug(`${leadTo(this.position)}who ${hex(address)}\nraw\nheld\nregs\n`));
+    return place.who;
+  }
+}

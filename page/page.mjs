@@ -1,0 +1,214 @@
+// The page of the simulator: what is pressed, and what is shown then. It computes nothing of the machine.
+import { Simulator, Cancelled } from "./simulator.mjs";
+import { Board, Refused } from "./board.mjs";
+import { hex, number } from "./session.mjs";
+import {
+  at, showListing, showRegisters, showFrames, showMemory, showText, showConsole, showPicture, showFaultyText, refusalText,
+  endText, chooseLine,
+} from "./views.mjs";
+
+const PICTURED_TURNS = 100;
+let board, simulator, words, chosen, lastText = "", moving = false, resting = 0, shownMoves = 0;
+
+// ---- what is in the page's own file
+
+const kept = id => document.getElementById(id).textContent;
+const moduleBytes = () => Uint8Array.from(atob(kept("module")), character => character.charCodeAt(0));
+const workerScript = () => URL.createObjectURL(new Blob([kept("worker")], { type: "text/javascript" }));
+
+async function start() {
+  words = JSON.parse(kept("words"));
+  simulator = await Simulator.start(moduleBytes(), workerScript());
+  simulator.busy = is => { at("cancel").disabled = !is; };
+  board = new Board((...asked) => simulator.ask(...asked));
+  await board.probe();
+  at("who").hidden = !board.has.who;
+  window.page = { board, words, ready: true, isIdle: () => !moving && resting === 0 };
+  notice("Open an image, a source or an ELF file; a schedule may come with it.");
+}
+
+const notice = text => { at("notice").textContent = text; };
+
+// ---- moves
+
+/** Makes a move and shows where it leads; one at a time. */
+async function move(go) {
+  if (moving || !board.image) return;
+  moving = true;
+  const begun = performance.now();
+  notice("");
+  try {
+    await go();
+    showPlace();
+    at("took").textContent = `${(performance.now() - begun).toFixed(0)} ms`;
+    moving = false;
+    await showRest(++shownMoves);
+  } catch (error) {
+    tellError(error);
+  } finally {
+    moving = false;
+  }
+}
+
+function tellError(error) {
+  if (error instanceof Cancelled) { notice("cancelled"); return; }
+  if (!(error instanceof Refused)) { notice(error.message); return; }
+  notice(refusalText(error, words));
+  showText(error.status, error.message, words);
+  if (error.refusal?.what === "schedule") chooseLine(at("schedule"), error.refusal.line);
+  else showFaultyText(error);
+}
+
+/** What the place itself tells. */
+function showPlace() {
+  const { place, position } = board;
+  chosen = undefined;
+  at("turn").value = position.turn;
+  showListing(board, chosen);
+  showRegisters(board);
+  showMemory(board);
+  showConsole(place.console);
+  lastText = place.lines.join("\n");
+  showText(undefined, lastText, words);
+  notice(place.end ? endText(place.end, words) : position.address === undefined ? "" : `within turn ${place.turn}, behind ${place.count} instructions`);
+}
+
+/** What needs runs of its own, as long as no other move came. */
+async function showRest(number) {
+  resting++;
+  try {
+    await showFramesAndTurns(number);
+  } finally {
+    resting--;
+  }
+}
+
+async function showFramesAndTurns(number) {
+  const still = () => number === shownMoves && !moving;
+  const frames = await board.frames();
+  if (!still()) return;
+  showFrames(board, frames, words);
+  if (at("picture-box").open) {
+    const issued = await board.issued(PICTURED_TURNS);
+    if (!still()) return;
+    showPicture(board, issued);
+  }
+  if (board.isNearEdge()) await board.tellAround(board.position.turn + 64);
+}
+
+// ---- loading
+
+async function open(files) {
+  notice("");
+  try {
+    for (const file of files) await board.load(file.name, new Uint8Array(await file.arrayBuffer()));
+  } catch (error) {
+    tellError(error);
+    return;
+  }
+  at("schedule").value = board.schedule;
+  at("name").textContent = board.name;
+  document.title = `i960CA: ${board.name}`;
+  await move(() => board.goTurn(1));
+}
+
+/** Takes what the fields have, where it is not what it was. */
+function takeFields() {
+  const given = { schedule: at("schedule").value, sets: at("sets").value.trim() || "-", length: at("length").value.trim() || "100000" };
+  const from = parseInt(at("address").value, 16) >>> 0, by = at("by").value;
+  if (["schedule", "sets", "length"].some(name => board[name] !== given[name])) { Object.assign(board, given); board.forget(); board.position = { turn: Number(at("turn").value) || 1 }; }
+  if (board.memory.from !== from || board.memory.by !== by) { board.memory = { ...board.memory, from, by }; board.told.clear(); }
+}
+
+const again = () => { takeFields(); return move(() => board.goTurn(board.position.turn)); };
+
+async function runAll() {
+  takeFields();
+  notice("");
+  const begun = performance.now();
+  try {
+    const reply = await board.run();
+    lastText = reply.text;
+    showText(reply.status, reply.text, words);
+    showConsole(reply.text.split("\n").filter(line => line.startsWith("#out ")).map(line => String.fromCharCode(number(line.slice(5)))).join(""));
+    at("took").textContent = `${(performance.now() - begun).toFixed(0)} ms`;
+  } catch (error) {
+    tellError(error);
+  }
+}
+
+async function who() {
+  const told = await board.whoWrote(board.memory.from).catch(tellError);
+  if (told) notice(told[0] === "none" ? `${hex(board.memory.from)} was not written` : `${hex(board.memory.from)} was last written by the instruction at ${told[1]}, the ${told[0]}th`);
+}
+
+function save(name, text) {
+  const link = document.createElement("a");
+  link.href = URL.createObjectURL(new Blob([text], { type: "text/plain" }));
+  link.download = name;
+  link.click();
+}
+
+// ---- the listing
+
+function choose(address) {
+  chosen = address;
+  showListing(board, chosen);
+}
+
+function chooseNext(step) {
+  const here = chosen ?? number(board.place.ip), n = board.listing.findIndex(line => line.address >= here);
+  const line = board.listing[Math.max(0, Math.min(board.listing.length - 1, n + step))];
+  if (line) choose(line.address);
+}
+
+function toggleStop() {
+  const address = chosen ?? number(board.place.ip);
+  if (!board.stops.delete(address)) board.stops.add(address);
+  showListing(board, chosen);
+}
+
+// ---- wiring
+
+const MOVES = {
+  "first": () => board.goTurn(1),
+  "turn-back": () => board.goTurn(board.position.address === undefined ? board.position.turn - 1 : board.position.turn),
+  "turn-next": () => board.goTurn(board.place.end ? board.position.turn : board.position.turn + 1),
+  "step-back": () => board.stepBack(),
+  "step": () => board.step(),
+  "over": () => board.over(),
+  "out": () => board.out(),
+  "to-line": () => board.reach(chosen ?? number(board.place.ip)),
+  "go-on": () => board.goOn(),
+};
+const KEYS = {
+  ArrowRight: "turn-next", ArrowLeft: "turn-back", ArrowDown: "step", ArrowUp: "step-back", Home: "first",
+  o: "over", u: "out", g: "to-line", c: "go-on", b: "break",
+};
+
+for (const [id, go] of Object.entries(MOVES)) at(id).onclick = () => { takeFields(); move(go); };
+at("turn").onchange = () => move(() => board.goTurn(Number(at("turn").value) || 1));
+for (const id of ["schedule", "sets", "length", "address", "by"]) at(id).onchange = again;
+at("run").onclick = runAll;
+at("break").onclick = toggleStop;
+at("who").onclick = who;
+at("cancel").onclick = () => simulator.cancel();
+at("save-script").onclick = () => save("session.dbg", board.script);
+at("save-text").onclick = () => save("session.txt", lastText);
+at("files").onchange = event => open(event.target.files);
+at("listing").onclick = event => {
+  const item = event.target.closest("li[data-address]");
+  if (item) choose(Number(item.dataset.address));
+};
+at("listing").ondblclick = () => toggleStop();
+document.ondragover = event => event.preventDefault();
+document.ondrop = event => { event.preventDefault(); open(event.dataTransfer.files); };
+document.onkeydown = event => {
+  if (event.key === "Escape") { simulator.cancel(); return; }
+  if (event.target.matches("input, textarea, select") || event.ctrlKey || event.metaKey || event.altKey || !board?.place) return;
+  if (event.key === "j" || event.key === "k") { chooseNext(event.key === "j" ? 1 : -1); return; }
+  if (!KEYS[event.key]) return;
+  event.preventDefault();
+  at(KEYS[event.key]).click();
+};
+start().catch(error => notice(`This browser cannot run the page: ${error.message}. It needs WebAssembly with 64-bit memory.`));
