@@ -1,7 +1,7 @@
 -- Each number of instructions of a run has one earlier state.
-use Rattle.std.proofs.Common.{◌≡◌, ℕ, zero, suc, ◌+◌, ◌<◌, ◌≤◌, List, [], ◌∷◌, ◌++◌, Some, refl, sym, ap, ◌∙◌, subst, ◌⊎◌, inl, inr, arith}
+use Rattle.std.proofs.Common.{◌≡◌, ℕ, ◌+◌, ◌<◌, ◌≤◌, List, [], ◌∷◌, ◌++◌, Some, refl, sym, ap, ◌∙◌, subst, ◌⊎◌, inl, inr, arith}
 use Rattle.i9_model.specs.Run.{Given, Kind, Instruction, Faulted, Entered, Interrupted, Reached, Record, counts_of, state_after, Finish}
-use Rattle.i9_model.specs.State.{State, boot, started}
+use Rattle.i9_model.specs.State.{boot, started}
 use Rattle.i9_model.proofs.Left.{counts_after}
 use Rattle.i9_course.specs.Course.{event_ahead}
 use Rattle.i9_course.specs.LateRun.{steps, IsLatePast, finish_after}
@@ -35,7 +35,7 @@ pub none_done : (g : Given) → (state_after g []).count ≡ 0
 none_done g = boot_count g.image
 
 -- counts do not fall
-rises : (g : Given) (zs rs : List Record) → IsLatePast g (zs ++ rs) → (state_after g rs).count ≤ (state_after g (zs ++ rs)).count
+pub rises : (g : Given) (zs rs : List Record) → IsLatePast g (zs ++ rs) → (state_after g rs).count ≤ (state_after g (zs ++ rs)).count
 rises g [] rs late = omega arith
 rises g (z ∷ zs) rs late =
     let before : (state_after g rs).count ≤ (state_after g (zs ++ rs)).count = rises g zs rs late.0 in

@@ -1,11 +1,10 @@
 -- A machine that goes on from an earlier state to a later one.
-use Rattle.std.proofs.Common.{◌≡◌, ℕ, ◌+◌, ◌<◌, ◌≤◌, List, [], ◌∷◌, Option, None, refl, sym, ap, ◌∙◌, subst, arith}
+use Rattle.std.proofs.Common.{◌≡◌, ℕ, ◌+◌, ◌<◌, ◌≤◌, List, [], ◌∷◌, None, refl, sym, ap, ◌∙◌, subst, arith}
 use Rattle.i9_model.specs.declared.run.End.{End}
 use Rattle.i9_model.specs.State.{State}
 use Rattle.i9_model.specs.Run.{Given, Kind, Instruction, Faulted, Entered, Interrupted, Reached, Record, counts_of, state_after}
-use Rattle.i9_model.specs.Turns.{last_issue}
 use Rattle.i9_schedule.specs.Plan.{Plan}
-use Rattle.i9_course.specs.Course.{Step, course, ahead, issue_of_next, IsCourse}
+use Rattle.i9_course.specs.Course.{ahead, issue_of_next}
 use Rattle.i9_course.specs.LateRun.{steps, IsLatePast}
 use Rattle.i9_course.proofs.Ahead.{ahead_precise}
 use Rattle.i9_machine.specs.declared.line.Line.{Line}
@@ -13,10 +12,10 @@ use Rattle.i9_machine.specs.declared.line.Issued.{Issued}
 use Rattle.i9_machine.specs.declared.line.Turn.{Turn}
 use Rattle.i9_machine.specs.declared.line.Turn.TheVariants as answers
 use Rattle.i9_machine.specs.declared.machine.Machine.{Machine}
-use Rattle.i9_machine.specs.StandsFor.{StandsFor, Follows, IsUnderWay, DoesNext, Comes}
+use Rattle.i9_machine.specs.StandsFor.{StandsFor, Follows, IsUnderWay, Comes}
 use Rattle.i9_machine.specs.Step.{TellsRecord}
 use Rattle.i9_back.specs.Earlier.{EndsAt, IsEarlier, HasInstructions, issue_of}
-use Rattle.i9_back.specs.Stands.{StandsEarlier, CanGoOn}
+use Rattle.i9_back.specs.Stands.{StandsEarlier}
 use Rattle.i9_back.proofs.Earlier.{record_after, earlier_count, ended_whole}
 
 -- what is told as an instruction is one

@@ -6,8 +6,8 @@ use Rattle.i9_model.specs.Overlay.{overlay}
 use Rattle.i9_model.specs.State.{State}
 use Rattle.i9_model.specs.Run.{Given, Kind, Instruction, Faulted, Entered, Interrupted, Reached, Record, counts_of, state_after}
 use Rattle.i9_schedule.specs.Plan.{Plan}
-use Rattle.i9_course.specs.Course.{Step, records_of}
-use Rattle.i9_course.specs.LateRun.{steps, IsLatePast}
+use Rattle.i9_course.specs.Course.{records_of}
+use Rattle.i9_course.specs.LateRun.{steps}
 use Rattle.i9_course.proofs.LateRuns.{records_of-steps}
 use Rattle.i9_machine.specs.declared.line.Line.{Line}
 use Rattle.i9_machine.specs.declared.line.Issued.{Issued}
@@ -15,7 +15,6 @@ use Rattle.i9_machine.specs.declared.line.Turn.TheVariants as answers
 use Rattle.i9_machine.specs.declared.machine.Machine.{Machine}
 use Rattle.i9_machine.specs.StandsFor.{StandsFor, Comes}
 use Rattle.i9_machine.specs.Step.{TellsRecord}
-use Rattle.i9_back.specs.Earlier.{issue_of}
 use Rattle.i9_back.specs.Stands.{StandsEarlier, same_byte, changes, last_change, Watched, IsLastChange}
 use Rattle.i9_back.proofs.Earlier.{record_after}
 use Rattle.i9_back.proofs.Going.{issued_counts, on_counts, GoingAt, going_begins, earlier_there, on_goes, issued_goes}
