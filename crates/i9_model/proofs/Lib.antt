@@ -1,3 +1,4 @@
+pub mod Copies
 pub mod Stands
 pub mod Comes
 pub mod Left

@@ -48,7 +48,7 @@ record IsKept (i : Inst) (r : ℕ) : Type 0 where
   outside : IsOutside i r
   code : (writes_code i.op && (r == CONDITION_CODE)) ≡ false
 
-all_false : (a b c d e : Bool) → (a || b || c || d || e) ≡ false → (a ≡ false) × (b ≡ false) × (c ≡ false) × (d ≡ false) × (e ≡ false)
+pub all_false : (a b c d e : Bool) → (a || b || c || d || e) ≡ false → (a ≡ false) × (b ≡ false) × (c ≡ false) × (d ≡ false) × (e ≡ false)
 all_false a b c d e h =
     let p = or_parts (a || b || c || d) e h in
     let q = or_parts (a || b || c) d p.0 in

@@ -71,7 +71,7 @@ words_long m a (w ∷ ws) =
     length-append (word_bytes m a w) (bytes_of_words m (wrapped (a + 4)) ws) ∙ omega (arith, first, rest)
 
 -- a store has the bytes of its size
-stored_long : (size : Size) (s : State) (o : Operand) (a : ℕ) → length (stored_of size s o a) ≡ byte_count size
+pub stored_long : (size : Size) (s : State) (o : Operand) (a : ℕ) → length (stored_of size s o a) ≡ byte_count size
 stored_long Byte s o a = refl
 stored_long Half s o a = two_bytes s.memory a (value s o % 2 ^ 16)
 stored_long (Words n) s o a = words_long s.memory a (source_words s o n) ∙ ap (λ (k : ℕ). 4 * k) (length-map-range_with_len (word_of s o) 0 n)

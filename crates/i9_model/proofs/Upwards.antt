@@ -9,7 +9,7 @@ use Rattle.i9_model.specs.Writes.{wrapped, or_earlier, last_put, upwards}
 abbrev above : ℕ → ℕ → ℕ
 above a x = (x + (2 ^ 32 - wrapped a)) % 2 ^ 32
 
-or_none : (o : Option ℕ) → or_earlier o None ≡ o
+pub or_none : (o : Option ℕ) → or_earlier o None ≡ o
 or_none None = refl
 or_none (Some v) = refl
 
@@ -25,7 +25,7 @@ later_place a x k ne = omega arith
 past_all : (a : ℕ) (bs : List ℕ) → length bs < 2 ^ 32 → slice_get bs (above (a + 1) (wrapped a)) ≡ None
 past_all a bs few = slice_get_past bs (above (a + 1) (wrapped a)) (omega (arith, before_first a))
 
-get_later : (b : ℕ) (bs : List ℕ) (i k : ℕ) → i ≡ k + 1 → slice_get (b ∷ bs) i ≡ slice_get bs k
+pub get_later : (b : ℕ) (bs : List ℕ) (i k : ℕ) → i ≡ k + 1 → slice_get (b ∷ bs) i ≡ slice_get bs k
 get_later b bs i k e = rw (e, add-one) refl
 
 -- the value of a place, by whether it is the first one

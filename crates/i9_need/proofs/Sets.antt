@@ -113,7 +113,7 @@ none_there e h =
     (omega (arith, base), omega (arith, index))
 
 -- base and index are registers
-registers : (f : Format) (e : Ea) → FitsAddress f e → (e.base < 32) × (e.index < 32)
+pub registers : (f : Format) (e : Ea) → FitsAddress f e → (e.base < 32) × (e.index < 32)
 registers Format.Mem e h =
     let p = and_parts (nat_lt e.base (cond (has_base e.mode) 32 1)) _ h in
     let q = and_parts (nat_lt e.index (cond (has_index e.mode) 32 1)) _ p.1 in

@@ -1,5 +1,4 @@
 pub mod RegisterList
-pub mod Copies
 pub mod Loading
 pub mod Appending
 pub mod Applying

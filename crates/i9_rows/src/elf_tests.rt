@@ -27,15 +27,27 @@ st g4, 4(g5) # 00001014 92A56004
 .word 0x00001000 # FFFFFF10 00001000
 ";
 
+/// Its block, whose order stands as it is: each but the `mov` is of the side of loads and stores, which issues one
+/// instruction a turn, and the last one, behind the `mov`, is done at turn 5.
+const TUNED: &str = ".org 0x00001000
+lda 65, g4 # 00001000 8CA00041
+lda 0xE0000000, g5 # 00001004 8CA83000 E0000000
+stob g4, (g5) # 0000100C 82A56000
+mov 7, g4 # 00001010 5CA00E07
+st g4, 4(g5) # 00001014 92A56004
+#tune 00001000 5 5 5
+";
+
 /// What the words print where `a` is that file and `b` is a script with the line `turn 1`: in the first turn the first
 /// instruction issues, and the second, which is of the same side, in the next.
-const TAKES: [(&str, &str); 6] = [
+const TAKES: [(&str, &str); 7] = [
     ("run a - - 100", PRINTED),
     ("run a - 1 100", PRINTED),
     ("run a - - 0", AT_ONCE),
     ("trace a - - 100 1010 1010", TRACED),
     ("debug a - - b", "#turn 2 1\n"),
     ("dis a", LISTING),
+    ("tune a 1000 5", TUNED),
 ];
 
 /// How many of its bytes a file has, and the line for it. A file that ends within the four bytes that ELF files begin

@@ -43,3 +43,5 @@ mod tests;
 mod trace_event_tests;
 #[cfg(test)]
 mod trace_tests;
+#[cfg(test)]
+mod tune_tests;

@@ -1,4 +1,3 @@
-pub mod Borrowed
 pub mod Inputs
 pub mod Sources
 pub mod ReadRegisters

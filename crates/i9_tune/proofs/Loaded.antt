@@ -13,7 +13,7 @@ use Rattle.i9_model.specs.Image.{pairs_of, pairs_of_part}
 use Rattle.i9_model.proofs.MaskLaws.{last_append}
 use Rattle.i9_hex.specs.declared.segments.Segment.{Segment}
 use Rattle.i9_hex.specs.Shown.{part_of}
-use Rattle.i9_tune.proofs.Borrowed.{or_none, get_later}
+use Rattle.i9_model.proofs.Upwards.{or_none, get_later}
 
 -- how far an address lies above another one, and the last place of so many that lies there
 abbrev above : ℕ → ℕ → ℕ

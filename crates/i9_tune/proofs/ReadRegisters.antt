@@ -23,7 +23,7 @@ use Rattle.i9_model.specs.State.{State}
 use Rattle.i9_model.proofs.SetLaws.{set_bits}
 use Rattle.i9_tune.specs.Deeds.{AgreeBeside, AreSameIn}
 use Rattle.i9_tune.proofs.Sources.{is_register_read, Agree, register_is_read, code_is_read}
-use Rattle.i9_tune.proofs.Borrowed.{registers}
+use Rattle.i9_need.proofs.Sets.{registers}
 
 -- ---- operands
 

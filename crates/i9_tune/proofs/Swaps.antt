@@ -46,7 +46,7 @@ use Rattle.i9_tune.specs.Inputs.{Change, Keeps, Codes, Flags, changed, is_code}
 use Rattle.i9_tune.specs.Blocks.{is_allowed_name, Spares, AreApart}
 use Rattle.i9_tune.specs.Deeds.{Deed, deed_action, DoesSame}
 use Rattle.i9_tune.specs.Passes.{MissesBytes, is_watched, is_seen, Passes, stepped, port_bytes, ArePassed, behind, sent, AreAsGood}
-use Rattle.i9_tune.proofs.Borrowed.{all_false}
+use Rattle.i9_model.proofs.Outside.{all_false}
 use Rattle.i9_tune.proofs.Sources.{Agree, IsAllowed, register_is_read, code_is_read, does_same, still, other_memory}
 
 -- ---- the state behind a deed

@@ -1,6 +1,6 @@
 use Rattle.std.proofs.Common.{◌≡◌, ℕ, ◌+◌, ◌-◌, ◌*◌, ◌/◌, ◌%◌, ◌^◌, List, length, sym, ap, ◌∙◌, arith}
 use Rattle.std.specs.List.{slice_get}
-use Rattle.i9_tune.proofs.Borrowed.{option_copied-get}
+use Rattle.i9_model.proofs.Copies.{option_copied-get}
 use Rattle.i9_tune.proofs.Loaded.{last_from}
 use Rattle.i9_tune.proofs.block.byte_of.Goals as goal
 
