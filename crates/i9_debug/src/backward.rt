@@ -121,7 +121,15 @@ pub(crate) fn back_by(
         → GoneBack g (count_at g p - count) result m.old m.new plan.old plan.new }
 {
     let issued = m.view().count;
-    go_back(alloc, image, sets, MAX_LENGTH, m, plan, issued.saturating_sub(count))
+    go_back(
+        alloc,
+        image,
+        sets,
+        MAX_LENGTH,
+        m,
+        plan,
+        issued.saturating_sub(count),
+    )
 }
 
 /// Goes back to right after the last instruction before the present one that left the instruction address at this one,

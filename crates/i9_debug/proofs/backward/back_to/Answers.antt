@@ -1,16 +1,42 @@
 use Rattle.std.proofs.Common.{◌≡◌, ap, sym, ◌∙◌, refl, subst, arith}
 use Rattle.i9_model.specs.declared.view.View.{View}
 use Rattle.i9_model.specs.Run.{Given}
+use Rattle.i9_schedule.specs.Plan.{Plan}
 use Rattle.i9_course.specs.Course.{records_of}
 use Rattle.i9_back.specs.Earlier.{HasInstructions}
 use Rattle.i9_debug.specs.Session.{count_at, last_arrival}
-use Rattle.i9_debug.specs.Driven.{given_of}
-use Rattle.i9_debug.proofs.Returning.{same_given, place_has, arrived, gone_back}
+use Rattle.i9_debug.specs.Driven.{GoneBack, given_of}
+use Rattle.i9_debug.proofs.Returning.{same_given, place_has, arrival_below, arrived, gone_back}
 use Rattle.i9_debug.proofs.backward.back_to.Goals as goal
 
 pub arrival-requires-clause-reaches : goal.arrival-requires-clause-reaches
 arrival-requires-clause-reaches c =
     let r = c.requires.stands in
-    let issued : c.view.result.count ≡ count_at r.given r.place = ap (λ (v : View). v.count) (c.view.ensures.shown r.given r.place.items r.place.end r.stands.stands) in
-    subst (λ (g : Given). HasInstructions g c.view.result.count) (sym (same_given c.args.image.now c.args.sets r.given c.args.plan.now r.of r.stands.events))
-    (place_has r.given r.place c.view.result.count r.is_place (omega (arith, issued)))
+    let issued : c.view-issued.result.count ≡ count_at r.given r.place = ap (λ (v : View). v.count) (c.view-issued.ensures.shown r.given r.place.items r.place.end r.stands.stands) in
+    subst (λ (g : Given). HasInstructions g c.view-issued.result.count) (sym (same_given c.args.image.now c.args.sets r.given c.args.plan.now r.of r.stands.events))
+    (place_has r.given r.place c.view-issued.result.count r.is_place (omega (arith, issued)))
+
+pub go_back-requires-clause-reaches : goal.go_back-requires-clause-reaches
+go_back-requires-clause-reaches c =
+    let r = c.requires.stands in
+    let what = given_of c.args.image.now c.args.sets c.args.plan.now in
+    let issued : c.view-issued.result.count ≡ count_at r.given r.place = ap (λ (v : View). v.count) (c.view-issued.ensures.shown r.given r.place.items r.place.end r.stands.stands) in
+    let same = same_given c.args.image.now c.args.sets r.given c.args.plan.now r.of r.stands.events in
+    let is = arrived r.given what r.place c.args.address c.view-issued.result.count c.in_ok-count.count r.is_place same issued c.in_ok-count.ensures.last in
+    let below = arrival_below c.args.address (count_at r.given r.place) (records_of r.place.items) in
+    subst (λ (g : Given). HasInstructions g c.in_ok-count.count) (sym (ap (given_of c.args.image.now c.args.sets) c.arrival-count.ensures.same ∙ same))
+    (place_has r.given r.place c.in_ok-count.count r.is_place (omega (arith, is, below)))
+
+pub returns-in_err-count : goal.returns-in_err-count
+returns-in_err-count c = λ what p of is at_place. record { gone = tt; same = (refl, c.arrival-count.ensures.same) }
+
+pub returns : goal.returns
+returns c = λ what p of is at_place.
+    let issued : c.view-issued.result.count ≡ count_at what p = ap (λ (v : View). v.count) (c.view-issued.ensures.shown what p.items p.end at_place.stands) in
+    let same = same_given c.args.image.now c.args.sets what c.args.plan.now of at_place.events in
+    let there = arrived what (given_of c.args.image.now c.args.sets c.args.plan.now) p c.args.address c.view-issued.result.count c.in_ok-count.count is same issued
+    c.in_ok-count.ensures.last in
+    let kept = c.arrival-count.ensures.same in
+    subst (λ (x : Plan). GoneBack what (last_arrival c.args.address (count_at what p) (records_of p.items)) c.go_back.result c.args.m.now _ x _) kept
+    (gone_back c.go_back.result what (given_of c.args.image.now c.args.sets c.arrival-count.new.plan) _ c.in_ok-count.count _ _ _ _
+    (ap (given_of c.args.image.now c.args.sets) kept ∙ same) there c.go_back.ensures.stands c.go_back.ensures.same)

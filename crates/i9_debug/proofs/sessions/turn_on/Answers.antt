@@ -20,7 +20,7 @@ returns-in-None g c = λ what p at_place.
     let follows = subst (λ (e : Option Finish). FollowsUntil what p.items e c.args.plan.now) none at_place.follows in
     drives_as _ what _ _ _ _ _ _ _ _ _
     (λ x q leads. goes_on (TurnsTo what p.items (p.turn + c.args.count)) p none x q
-      (subst (λ (t : ℕ). TurnsTo what p.items (t + c.args.count) x q) at_place.turn leads))
+    (subst (λ (t : ℕ). TurnsTo what p.items (t + c.args.count) x q) at_place.turn leads))
     (λ x y q cut. cut) (c.run_turns.ensures what p.items stands follows)
 
 pub returns-in-Some : goal.returns-in-Some
