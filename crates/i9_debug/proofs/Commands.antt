@@ -274,16 +274,16 @@ module _ (g : Given) where
       subst (λ (z : List ℕ). IsText g (cs ++ c ∷ []) p (x ++ z) r) (append-nil y)
       (text_then cs (c ∷ []) p q r x (y ++ []) t (next_command c [] q r r y [] a (no_command r)))
 
+-- the machine stands where the text leads
+pub stands_last : {K : Type 0} (k : Account K) (g : Given) (leads : List ℕ → Place → Type 0) (cut : List ℕ → List ℕ → Place → Type 0) (a b : K)
+    (m : Machine) (plan : Plan) → (d : Drives leads cut Done g k a b m plan) → StandsAt g d.last m plan
+stands_last k g leads cut a b m plan d = subst (λ (q : Place). StandsAt g q m plan) d.whole d.stands
+
 module _ {K : Type 0} (k : Account K) (g : Given) (p : Place) (begins : IsPlace g p) where
   -- no command yet
   pub no_script : (a : K) (m : Machine) (plan : Plan) → StandsAt g p m plan → Drives (IsText g [] p) (CutInScript g [] p) Done g k a a m plan
   no_script a m plan s =
       record { text = []; last = p; is_text = no_command p; prints = prints_none k a; place = p; stands = s; whole = refl; stopped = tt }
-
-  -- the machine stands where the text leads
-  stands_last : (leads : List ℕ → Place → Type 0) (cut : List ℕ → List ℕ → Place → Type 0) (a b : K) (m : Machine) (plan : Plan)
-      → (d : Drives leads cut Done g k a b m plan) → StandsAt g d.last m plan
-  stands_last leads cut a b m plan d = subst (λ (q : Place). StandsAt g q m plan) d.whole d.stands
 
   module _ (cs : List Command) (c : Command) (a b e : K) (m : Machine) (plan : Plan) (d : Drives (IsText g cs p) (CutInScript g cs p) Done g k a b m plan)
       (next : Machine) (later : Plan) where
@@ -294,7 +294,7 @@ module _ {K : Type 0} (k : Account K) (g : Given) (p : Place) (begins : IsPlace 
     script_on : ((q : Place) → IsPlace g q → StandsAt g q m plan → Drives (Answers g c q) (CutInAnswer g c q) Done g k b e next later)
         → Drives (IsText g (cs ++ c ∷ []) p) (CutInScript g (cs ++ c ∷ []) p) Done g k a e next later
     script_on does =
-        let one = does d.last last_place (stands_last (IsText g cs p) (CutInScript g cs p) a b m plan d) in
+        let one = does d.last last_place (stands_last k g (IsText g cs p) (CutInScript g cs p) a b m plan d) in
         record {
           text = d.text ++ one.text;
           last = one.last;
@@ -311,7 +311,7 @@ module _ {K : Type 0} (k : Account K) (g : Given) (p : Place) (begins : IsPlace 
         → ((q : Place) → IsPlace g q → StandsAt g q m plan → Drives (Answers g c q) (CutInAnswer g c q) answer g k b e next later)
         → Drives (IsText g ((cs ++ c ∷ []) ++ ds) p) (CutInScript g ((cs ++ c ∷ []) ++ ds) p) answer g k a e next later
     script_cut answer ds cut ranges does =
-        let here = stands_last (IsText g cs p) (CutInScript g cs p) a b m plan d in
+        let here = stands_last k g (IsText g cs p) (CutInScript g cs p) a b m plan d in
         let one = does d.last last_place here in
         let is = answers_place g c d.last one.last one.text last_place one.is_text in
         let stop : StopsAt (CutInAnswer g c d.last) answer k b e one.place = of_cut answer _ cut one.stopped in
@@ -385,7 +385,7 @@ module _ {K : Type 0} (k : Account K) (g : Given) (p : Place) (begins : IsPlace 
 
   last_end : (d : Drives (IsText g (take i cs) p) (CutInScript g (take i cs) p) Done g k a b m plan) → end_at d.last ≡ said
   last_end d =
-      let here = stands_last k g p begins (IsText g (take i cs) p) (CutInScript g (take i cs) p) a b m plan d in
+      let here = stands_last k g (IsText g (take i cs) p) (CutInScript g (take i cs) p) a b m plan d in
       sym (says d.last.items d.last.end here.stands)
 
   pub script_done : said ≡ None → length cs ≤ i → cs ≡ all → Drives (IsText g (take i cs) p) (CutInScript g (take i cs) p) Done g k a b m plan → RunsScript ends.Done g p all k a b m plan
@@ -404,5 +404,5 @@ driven_there k image sets g leads cut a b m plan of is d = record {
   place = d.last;
   of = of;
   is_place = is d.last d.text d.is_text;
-  stands = subst (λ (q : Place). StandsAt g q m plan) d.whole d.stands;
+  stands = stands_last k g leads cut a b m plan d;
 }

@@ -216,3 +216,14 @@ arrived g k p a n c is same count said =
     let e = has_earlier g (count_at g p) (place_has g p (count_at g p) is (omega arith)) in
     let earlier : IsEarlier k n e.0 = subst (λ (m : ℕ). IsEarlier k m e.0) (sym count) (subst (λ (x : Given). IsEarlier x (count_at g p) e.0) (sym same) e.1) in
     said e.0 earlier ∙ ap (λ (m : ℕ). last_arrival a m e.0) count ∙ sym (place_arrival g p a e.0 is e.1)
+
+-- memory was refused before the way back
+pub not_gone : {A E : Type 0} (result : Result A E) (e : E) (g : Given) (c : ℕ) (m : Machine) (was plan : Plan) → result ≡ Err e → plan ≡ was
+    → GoneBack g c result m m was plan
+not_gone result e g c m was plan is same = subst (λ (r : Result _ _). GoneBack g c r m m was plan) (sym is) (record { gone = tt; same = (refl, same) })
+
+-- the same where the schedule was looked at before
+pub gone_back_from : {A E : Type 0} (result : Result A E) (g k : Given) (c n : ℕ) (before m : Machine) (was mid plan : Plan) → mid ≡ was → k ≡ g → n ≡ c
+    → OnOk result (StandsEarlier k n m plan) → OnErr result ((m ≡ before) × (plan ≡ mid)) → GoneBack g c result before m was plan
+gone_back_from result g k c n before m was mid plan kept same count stands none =
+    subst (λ (x : Plan). GoneBack g c result before m x plan) kept (gone_back result g k c n before m mid plan same count stands none)

@@ -7,8 +7,8 @@ use Rattle.i9_debug.specs.Driven.{given_of}
 use Rattle.i9_debug.proofs.Returning.{same_given, place_has, answered_change}
 use Rattle.i9_debug.proofs.backward.change_told.Goals as goal
 
-pub last_change-requires-clause-reaches : goal.last_change-requires-clause-reaches
-last_change-requires-clause-reaches c =
+pub last_change-change-requires-clause-reaches : goal.last_change-change-requires-clause-reaches
+last_change-change-requires-clause-reaches c =
     let r = c.requires.stands in
     let issued : c.view-issued.result.count ≡ count_at r.given r.place = ap (λ (v : View). v.count) (c.view-issued.ensures.shown r.given r.place.items r.place.end r.stands.stands) in
     subst (λ (g : Given). HasInstructions g c.view-issued.result.count) (sym (same_given c.args.image.now c.args.sets r.given c.args.plan.now r.of r.stands.events))

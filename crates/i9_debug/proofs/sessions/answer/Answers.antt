@@ -1,8 +1,5 @@
-use Rattle.std.proofs.Common.{subst}
 use Rattle.i9_debug.specs.declared.print.Printed.TheVariants.{Write, Memory}
-use Rattle.i9_debug.specs.Session.{Place}
-use Rattle.i9_debug.specs.Driven.{StandsAt}
-use Rattle.i9_debug.proofs.Commands.{then_tells, cut_before, runs_place, driven_there}
+use Rattle.i9_debug.proofs.Commands.{then_tells, cut_before, runs_place, stands_last, driven_there}
 use Rattle.i9_debug.proofs.sessions.answer.Goals as goal
 
 pub tell-requires-clause-stands : goal.tell-requires-clause-stands
@@ -16,7 +13,7 @@ returns-in-Done g c = λ what p of is at_place.
     let run = c.in-Done.ensures what p of is at_place in
     then_tells _ what c.args.c.now p c.tell.result _ _ _ _ _ _ c.tell.ensures.same run
     (c.tell.ensures.told what run.last of (runs_place what c.args.c.now p run.last run.text is run.is_text)
-    (subst (λ (q : Place). StandsAt what q _ _) run.whole run.stands))
+    (stands_last _ what _ _ _ _ _ _ run))
 
 pub returns-in-Write : goal.returns-in-Write
 returns-in-Write g c = λ what p of is at_place.

@@ -31,7 +31,7 @@ returns-in-Back g c = λ what p of is at_place.
 
 pub returns-in-Last : goal.returns-in-Last
 returns-in-Last g c = λ what p of is at_place.
-    went_back _ what c.back_to.result _ _ p _ _ _ _ _ _ _ c.gone-2.ensures.done c.gone-2.ensures.refused (λ q back. rw c.in-Last.is (refl, back))
+    went_back _ what c.back_to.result _ _ p _ _ _ _ _ _ _ c.gone-in-Last.ensures.done c.gone-in-Last.ensures.refused (λ q back. rw c.in-Last.is (refl, back))
     (last_leads what p _ is) (rw c.in-Last.is (not_last _)) at_place (c.back_to.ensures what p of is at_place)
 
 pub returns-in-Regs : goal.returns-in-Regs
