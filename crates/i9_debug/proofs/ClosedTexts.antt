@@ -16,7 +16,7 @@ use Rattle.i9_debug.specs.Print.{IsLine, line_text}
 use Rattle.i9_debug.specs.Session.{Place, TurnsTo, turns_pass, turns_end, ComesTo, comes, none_comes, Stays, UnlessOver, Runs, ending_lines, registers_text, view_text, raw_text, told, Answers, IsText, no_command, next_command}
 use Rattle.i9_debug.specs.Driven.{CutInRun, behind_step, behind_end}
 use Rattle.i9_debug.proofs.TextLines.{IsClosed, closed_none, closed_line, closed_join}
-use Rattle.i9_debug.proofs.LineCounts.{line-out, line-point, line-event, line-bytes, line-end, line-turn, line-view, line-raw, line-raw_globals, line-raw_locals, line-held, line-raw_bytes, line-globals, line-locals}
+use Rattle.i9_debug.proofs.LineCounts.{line-out, line-point, line-event, line-bytes, line-end, line-turn, line-view, line-raw, line-raw_globals, line-raw_locals, line-held, line-raw_bytes, line-who, line-globals, line-locals}
 
 -- ---- what is shown of a run
 
@@ -73,6 +73,9 @@ module _ (g : Given) where
   closed_runs commands.Held p q x r = closed_stays p q x r
   closed_runs (commands.Mem a n) p q x r = closed_stays p q x r
   closed_runs (commands.RawMem a n) p q x r = closed_stays p q x r
+  closed_runs (commands.Back n) p q x r = subst IsClosed (sym r.0) closed_none
+  closed_runs (commands.Last a) p q x r = subst IsClosed (sym r.0) closed_none
+  closed_runs (commands.Who a) p q x r = closed_stays p q x r
 
   closed_view : (v : View) → IsClosed (view_text v)
   unfolding view_text
@@ -95,6 +98,9 @@ module _ (g : Given) where
   closed_told h t commands.Held = closed_line _ (line-held _ _)
   closed_told h t (commands.Mem a n) = closed_line _ (line-bytes _ _)
   closed_told h t (commands.RawMem a n) = closed_line _ (line-raw_bytes _ _)
+  closed_told h t (commands.Back n) = closed_line _ (line-turn _ _)
+  closed_told h t (commands.Last a) = closed_line _ (line-turn _ _)
+  closed_told h t (commands.Who a) = closed_line _ (line-who _)
 
   pub closed_answers : (c : Command) (p q : Place) (x : List ℕ) → Answers g c p x q → IsClosed x
   closed_answers c p q x a =

@@ -7,4 +7,6 @@ pub mod Places
 pub mod Turns
 pub mod PlaceBytes
 pub mod Stops
+pub mod Lasts
+pub mod Returning
 pub mod Commands

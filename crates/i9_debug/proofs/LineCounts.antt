@@ -16,7 +16,7 @@ use Rattle.i9_model.specs.Events.{journal_text}
 use Rattle.i9_model.proofs.ReadBack.{journal_plain}
 use Rattle.i9_debug.specs.Lines.{refused_line, elf_line, ending, generated_line}
 use Rattle.i9_model.specs.declared.frame.Frame.{Frame}
-use Rattle.i9_debug.specs.Session.{turn_text, held_text, raw_bytes_text}
+use Rattle.i9_debug.specs.Session.{turn_text, held_text, raw_bytes_text, who_text}
 use Rattle.i9_debug.specs.Print.{IsLine}
 use Rattle.i9_debug.proofs.TextLines.{line_alone}
 
@@ -168,4 +168,12 @@ line-raw_bytes a bs =
     let begun = plain-append (codes "#rawmem") (spaced a) refl (plain-word_text a) in
     after_plain (codes "#rawmem" ++ spaced a ++ flat_map spaced_byte bs) (10 ∷ []) (plain-append (codes "#rawmem" ++ spaced a) (flat_map spaced_byte bs) begun (plain_bytes bs)) refl
 
-pub ruleset place_rules = (line-turn, line-view, line-raw, line-raw_globals, line-raw_locals, line-held, line-bytes, line-raw_bytes, line-globals, line-locals)
+pub line-who : (change : Option (ℕ × ℕ)) → IsLine (who_text change)
+unfolding who_text
+line-who None = refl
+line-who (Some change) =
+    let begun = plain-append (codes "#who ") (decimal change.0) refl (plain-decimal change.0) in
+    after_plain (codes "#who " ++ decimal change.0 ++ spaced change.1) (10 ∷ [])
+    (plain-append (codes "#who " ++ decimal change.0) (spaced change.1) begun (plain-word_text change.1)) refl
+
+pub ruleset place_rules = (line-turn, line-view, line-raw, line-raw_globals, line-raw_locals, line-held, line-bytes, line-raw_bytes, line-who, line-globals, line-locals)

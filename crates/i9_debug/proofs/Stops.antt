@@ -112,7 +112,7 @@ module _ {K : Type 0} (k : Account K) (g : Given) (h : List Item) (allows : View
               (subst (λ (v : View). allows v true) shown held);
           prints = prints_same k Done a c _ _ (one-more d.done d.lines) (behind Done p);
           place = place;
-          stands = record { stands = d.stands; turn = d.turn ∙ sym d.now; follows = d.follows };
+          stands = record { stands = d.stands; turn = d.turn ∙ sym d.now; follows = d.follows; events = d.follows.events };
           whole = refl;
           stopped = tt;
         }
@@ -129,7 +129,7 @@ module _ {K : Type 0} (k : Account K) (g : Given) (h : List Item) (allows : View
           is_text = goes_on (rs ++ inv.done) place cut (subst (IsCourse g) (sym (steps_on-append rs inv.done h)) stands.past) passed;
           prints = prints_same k answer a c _ _ (text-append rs inv.done) (prints_then k answer a b c front (text_of (lines_of rs)) (closed_text (lines_of inv.done)) inv.prints p);
           place = place;
-          stands = record { stands = stands; turn = refl; follows = follows };
+          stands = record { stands = stands; turn = refl; follows = follows; events = follows.events };
           whole = same_whole answer _ refl;
           stopped = on_cut answer _ (record {
             whole = front;
@@ -156,7 +156,7 @@ module _ {K : Type 0} (k : Account K) (g : Given) (h : List Item) (allows : View
           is_text = never_stops inv.done f (record { past = d.stands.past; is_end = d.is_end }) inv.passed;
           prints = prints_same k answer a c _ _ same (prints_then k answer a b c front _ (closed_text (lines_of inv.done)) inv.prints last);
           place = place;
-          stands = record { stands = d.stands; turn = d.turn ∙ sym d.now; follows = tt };
+          stands = record { stands = d.stands; turn = d.turn ∙ sym d.now; follows = tt; events = d.follows.events };
           whole = same_whole answer _ refl;
           stopped = on_cut answer _ (record {
             whole = front;

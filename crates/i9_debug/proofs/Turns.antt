@@ -97,7 +97,7 @@ module _ {K : Type 0} (k : Account K) (g : Given) (h : List Item) where
         last = on.1;
         leads = subst (λ (x : List ℕ). TurnsTo g h u x on.1) (sym (append_assoc (text_of (lines_of rs)) (text_of (lines_of xs)) on.0)) leads;
         place = at (steps_on xs (steps_on rs h)) m.turn;
-        stands = record { stands = stands; turn = refl; follows = follows };
+        stands = record { stands = stands; turn = refl; follows = follows; events = follows.events };
         is_cut = behind_step rs xs m.turn one;
       }
 
@@ -130,7 +130,7 @@ module _ {K : Type 0} (k : Account K) (g : Given) (h : List Item) where
         is_text = turns_pass d.done (record { past = d.stands.past; issued = d.issued some; later = omega (arith, turn, in_time) });
         prints = d.prints;
         place = at (steps_on d.done h) (t + n);
-        stands = record { stands = d.stands; turn = turn; follows = d.follows };
+        stands = record { stands = d.stands; turn = turn; follows = d.follows; events = d.follows.events };
         whole = refl;
         stopped = tt;
       }
@@ -198,7 +198,7 @@ module _ {K : Type 0} (k : Account K) (g : Given) (h : List Item) where
 
     end_stands : (e : End) → (d : Turns g (steps_on inv.done h) (answers.End e) before m plan [] ls)
         → StandsAt g (ended (steps_on d.done (steps_on inv.done h)) (turn_ahead g (steps_on d.done (steps_on inv.done h))) d.finish) m plan
-    end_stands e d = record { stands = d.stands; turn = d.turn ∙ sym d.now; follows = tt }
+    end_stands e d = record { stands = d.stands; turn = d.turn ∙ sym d.now; follows = tt; events = d.follows.events }
 
     left_end : (u : ℕ) (e : End) → t + i < u → Turns g (steps_on inv.done h) (answers.End e) before m plan [] ls
         → Left u front (flat_map line_text ls) m plan

@@ -1,11 +1,16 @@
 -- What a debugger does to a machine and to a sink.
-use Rattle.std.specs.Prelude.{◌≡◌, ℕ, ◌≤◌, Bool, true, List, ◌∷◌, ◌++◌, drop, length, Option, Some, None}
+use Rattle.std.specs.Prelude.{◌≡◌, ℕ, ◌≤◌, Bool, true, List, [], ◌∷◌, ◌++◌, drop, length, Option, Some, None, Result, OnOk, OnErr}
 use Rattle.std.specs.List.{AllByRecursion}
+use Rattle.i9_model.specs.declared.layout.TheConstants.{MAX_LENGTH}
 use Rattle.i9_model.specs.declared.view.View.{View}
+use Rattle.i9_model.specs.Given.{given}
+use Rattle.i9_model.specs.Image.{Part, pairs_of}
 use Rattle.i9_model.specs.PrintedText.{text_of, lines_of}
 use Rattle.i9_model.specs.Late.{turns as late_turns}
 use Rattle.i9_model.specs.Turns.{last_issue}
 use Rattle.i9_course.specs.Course.{Item, Step, course, IsCourse}
+use Rattle.i9_course.specs.LateRun.{steps, IsLatePast}
+use Rattle.i9_back.specs.Stands.{last_change}
 use Rattle.i9_machine.specs.Turned.{steps_on}
 use Rattle.i9_tracer.specs.Until.{view_behind, IsPassed}
 use Rattle.i9_model.specs.declared.run.End.{End}
@@ -20,13 +25,52 @@ use Rattle.i9_debug.specs.declared.print.Printed.TheVariants as printed
 use Rattle.i9_debug.specs.declared.sessions.SessionEnd.{SessionEnd}
 use Rattle.i9_debug.specs.declared.sessions.SessionEnd.TheVariants as ends
 use Rattle.i9_debug.specs.Print.{Account, Prints, OnDone}
-use Rattle.i9_debug.specs.Session.{Place, at, ended, turn_ahead, EndsBehind, ending_lines, Runs, told, IsText, end_at}
+use Rattle.i9_debug.specs.Session.{Place, at, ended, turn_ahead, EndsBehind, ending_lines, UnlessOver, IsBack, Runs, told, IsText, end_at}
 
--- a machine stands at a place of the run of what is given, and a schedule follows it as long as no end was answered
+-- a machine stands at a place of the run of what is given, a schedule is its plan, and follows it as long as no end was
+-- answered
 pub record StandsAt (g : Given) (p : Place) (m : Machine) (plan : Plan) : Type 0 where
   pub stands : StandsFor g p.items p.end m
   pub turn : m.turn ≡ p.turn
   pub follows : FollowsUntil g p.items p.end plan
+  pub events : plan.events ≡ g.plan
+
+-- ---- the run of an image
+
+-- what a session runs: an image with the events of a schedule, in so many sets
+abbrev pub given_of : List Part → Option ℕ → Plan → Given
+given_of image sets plan = given (pairs_of image) plan.events MAX_LENGTH sets
+
+-- what is given is an image in so many sets, with some events
+abbrev pub IsOf : List Part → Option ℕ → Given → Type 0
+IsOf image sets g = g ≡ given (pairs_of image) g.plan MAX_LENGTH sets
+
+-- A place of a run in which no mark was set; nothing has issued above its turn, as long as no end was answered.
+pub record IsPlace (g : Given) (p : Place) : Type 0 where
+  pub records : List Record
+  pub are : p.items ≡ steps records
+  pub past : IsLatePast g records
+  pub begun : UnlessOver p.end (last_issue (late_turns (course g p.items).late) ≤ p.turn) (Unit {0})
+
+-- a machine stands at such a place of the run of an image
+pub record IsDebugged (image : List Part) (sets : Option ℕ) (m : Machine) (plan : Plan) : Type 0 where
+  pub given : Given
+  pub place : Place
+  pub of : IsOf image sets given
+  pub is_place : IsPlace given place
+  pub stands : StandsAt given place m plan
+
+-- The run went back to right after so many instructions, or memory was refused and nothing has changed.
+pub record GoneBack {A E : Type 0} (g : Given) (c : ℕ) (result : Result A E) (before m : Machine) (was plan : Plan) : Type 0 where
+  pub gone : OnOk result ((q : Place) × IsBack g c q × StandsAt g q m plan)
+  pub same : OnErr result ((m ≡ before) × (plan ≡ was))
+
+-- what a command tells of the last change of a byte among records, if anything
+abbrev pub change_for : Command → List Record → Option (ℕ × ℕ)
+change_for (commands.Who a) rs = last_change a rs
+change_for c rs = None
+
+-- ---- printing
 
 -- printing stopped before all was printed
 abbrev pub IsCut : Printed → Type 0
@@ -83,6 +127,9 @@ StepOf g commands.Raw h rs = ⊥
 StepOf g commands.Held h rs = ⊥
 StepOf g (commands.Mem a n) h rs = ⊥
 StepOf g (commands.RawMem a n) h rs = ⊥
+StepOf g (commands.Back k) h rs = ⊥
+StepOf g (commands.Last a) h rs = ⊥
+StepOf g (commands.Who a) h rs = ⊥
 
 -- A run was cut: what is shown of the records before is whole, and behind them only those of one step were done, or the
 -- end came with them.
@@ -93,9 +140,15 @@ pub data CutInRun (g : Given) (step : List Item → List Record → Type 0) (h :
       → CutInRun g step h (text_of (lines_of before)) (text_of (ending_lines g (steps_on before h) last f))
       (ended (steps_on last (steps_on before h)) t f)
 
--- A command was cut: its run was, or it ran to its place, all of it was shown, and what it tells was cut.
+-- What a command runs was cut: its run was, or memory was refused on the way back, and the place is as before.
+pub data CutOnWay (g : Given) (p : Place) : Command → List ℕ → List ℕ → Place → Type 0 where
+  in_run : (c : Command) (x y : List ℕ) (q : Place) → CutInRun g (StepOf g c) p.items x y q → CutOnWay g p c x y q
+  not_back : (k : ℕ) → CutOnWay g p (commands.Back k) [] [] p
+  not_last : (a : ℕ) → CutOnWay g p (commands.Last a) [] [] p
+
+-- A command was cut: what it runs was, or it ran to its place, all of it was shown, and what it tells was cut.
 pub data CutInAnswer (g : Given) (c : Command) (p : Place) : List ℕ → List ℕ → Place → Type 0 where
-  in_run : (x y : List ℕ) (q : Place) → CutInRun g (StepOf g c) p.items x y q → CutInAnswer g c p x y q
+  on_way : (x y : List ℕ) (q : Place) → CutOnWay g p c x y q → CutInAnswer g c p x y q
   in_told : (x : List ℕ) (q : Place) → Runs g c p x q → CutInAnswer g c p x (told g q.items q.turn c) q
 
 -- A script was cut in a command: the text of the commands before it is whole.

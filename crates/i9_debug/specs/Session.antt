@@ -1,5 +1,5 @@
 -- The text of a script of the debugger, from a place of a run on.
-use Rattle.std.specs.Prelude.{◌≡◌, ℕ, ◌+◌, ◌<◌, ◌≤◌, Bool, true, false, nat_eq, ◌&&◌, List, [], ◌∷◌, ◌++◌, codes, take, drop, map, length, reverse, Option, Some, None}
+use Rattle.std.specs.Prelude.{◌≡◌, ℕ, ◌+◌, ◌-◌, ◌<◌, ◌≤◌, Bool, true, false, nat_eq, nat_lt, ◌&&◌, if◌then◌else◌, List, [], ◌∷◌, ◌++◌, codes, take, drop, map, length, reverse, Option, Some, None}
 use Rattle.std.specs.Fmt.{decimal}
 use Rattle.std.specs.List.{AllByRecursion, flat_map, range_with_len}
 use Rattle.i9_model.specs.declared.frame.Frame.{Frame}
@@ -13,11 +13,13 @@ use Rattle.i9_model.specs.State.{State, boot}
 use Rattle.i9_model.specs.Turns.{last_issue}
 use Rattle.i9_model.specs.Writes.{wrapped}
 use Rattle.i9_course.specs.Course.{Item, Step, records_of, course, ahead, IsCourse}
-use Rattle.i9_course.specs.LateRun.{end_ahead}
+use Rattle.i9_course.specs.LateRun.{end_ahead, steps}
 use Rattle.i9_raw.specs.Raw.{raw_memory}
 use Rattle.i9_machine.specs.declared.line.Raw.{Raw}
 use Rattle.i9_machine.specs.Raw.{raw_at}
 use Rattle.i9_machine.specs.Turned.{steps_on}
+use Rattle.i9_back.specs.Earlier.{IsEarlier, issue_of}
+use Rattle.i9_back.specs.Stands.{last_change}
 use Rattle.i9_script.specs.declared.command.Command.{Command}
 use Rattle.i9_script.specs.declared.command.Command.TheVariants as commands
 use Rattle.std.specs.Option.{option_map}
@@ -89,11 +91,36 @@ pub data ComesTo (g : Given) (h : List Item) (a : ℕ) : List ℕ → Place → 
   none_comes : (rs : List Record) (f : Finish) → EndsBehind g h rs f → NoneComesTo a rs
       → ComesTo g h a (text_of (ending_lines g h rs f)) (ended (steps_on rs h) (turn_ahead g (steps_on rs h)) f)
 
+-- ---- what goes back
+
+-- how many instructions have issued at a place
+abbrev pub count_at : Given → Place → ℕ
+count_at g p = (state_at g p.items).count
+
+-- The place right after so many instructions of the run, at the turn at which the last of them issues; before the first
+-- one where they are none. No end was answered there.
+pub record IsBack (g : Given) (c : ℕ) (q : Place) : Type 0 where
+  pub records : List Record
+  pub earlier : IsEarlier g c records
+  pub is : q ≡ at (steps records) (issue_of g records)
+
+-- Of records, the newest one that is an instruction, has fewer than n up to it and left the instruction address at this
+-- one: how many there are up to it, and 0 where none did.
+abbrev pub last_arrival : ℕ → ℕ → List Record → ℕ
+last_arrival a n [] = 0
+last_arrival a n (r ∷ rs) = if comes_to a r && nat_lt r.after.count n then r.after.count else last_arrival a n rs
+
+-- nothing is shown, and the run goes back to right after so many instructions, whether it has ended or not
+abbrev pub GoesBack : Given → ℕ → List ℕ → Place → Type 0
+GoesBack g c shown q = (shown ≡ []) × IsBack g c q
+
+-- ---- what a command does
+
 -- nothing is shown, and the place is as before
 abbrev pub Stays : Place → List ℕ → Place → Type 0
 Stays p shown q = (shown ≡ []) × (q ≡ p)
 
--- after an end nothing is run
+-- while the run stands at its end nothing is run
 abbrev pub UnlessOver : Option Finish → Type 0 → Type 0 → Type 0
 UnlessOver None goes stays = goes
 UnlessOver (Some f) goes stays = stays
@@ -107,6 +134,9 @@ Runs g commands.Raw p shown q = Stays p shown q
 Runs g commands.Held p shown q = Stays p shown q
 Runs g (commands.Mem a n) p shown q = Stays p shown q
 Runs g (commands.RawMem a n) p shown q = Stays p shown q
+Runs g (commands.Back k) p shown q = GoesBack g (count_at g p - k) shown q
+Runs g (commands.Last a) p shown q = GoesBack g (last_arrival a (count_at g p) (records_of p.items)) shown q
+Runs g (commands.Who a) p shown q = Stays p shown q
 
 -- ---- what is told at a place
 
@@ -141,8 +171,13 @@ raw_bytes_text a bs = codes "#rawmem" ++ spaced a ++ flat_map spaced_byte bs ++ 
 abbrev pub raw_bytes : Given → List Item → ℕ → ℕ → ℕ → List (Option ℕ)
 raw_bytes g h t a n = map (λ k. Some (raw_memory (boot g.image).memory.bytes t (course g h).late (wrapped (a + k)))) (range_with_len 0 n)
 
--- What a command tells at a turn behind items, after what was shown on the way there. One that runs tells the turn and how
--- many instructions have issued.
+-- what last changed a byte: how many instructions there are up to it, and its address
+unfoldable pub who_text : Option (ℕ × ℕ) → List ℕ
+who_text None = codes "#who none" ++ line_feed
+who_text (Some change) = codes "#who " ++ decimal change.0 ++ spaced change.1 ++ line_feed
+
+-- What a command tells at a turn behind items, after what was shown on the way there. One that runs or goes back tells the
+-- turn and how many instructions have issued.
 abbrev pub told : Given → List Item → ℕ → Command → List ℕ
 told g h t (commands.Turn n) = turn_text t (state_at g h).count
 told g h t (commands.Until a) = turn_text t (state_at g h).count
@@ -151,6 +186,9 @@ told g h t commands.Raw = raw_text (raw_at g h t)
 told g h t commands.Held = held_text (sets_in g.sets (state_at g h)) (cache_after g (records_of h)).held
 told g h t (commands.Mem a n) = bytes_text a (overlays (state_at g h) a n)
 told g h t (commands.RawMem a n) = raw_bytes_text a (raw_bytes g h t a n)
+told g h t (commands.Back k) = turn_text t (state_at g h).count
+told g h t (commands.Last a) = turn_text t (state_at g h).count
+told g h t (commands.Who a) = who_text (last_change a (records_of h))
 
 -- ---- scripts
 

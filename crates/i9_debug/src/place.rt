@@ -8,7 +8,8 @@ ghost use Rattle.i9_course.specs.Course.{Item, records_of};
 ghost use Rattle.i9_machine.specs.StandsFor.{StandsFor};
 ghost use Rattle.i9_script.specs.declared.command.Command.TheVariants as command;
 ghost use Rattle.i9_debug.specs.Print.{IsLine, AreLines};
-ghost use Rattle.i9_debug.specs.Session.{turn_text, registers_text, view_text, raw_text, held_text, raw_bytes_text, raw_bytes, told};
+ghost use Rattle.i9_debug.specs.Session.{turn_text, registers_text, view_text, raw_text, held_text, raw_bytes_text, raw_bytes, who_text, told};
+ghost use Rattle.i9_debug.specs.Driven.{change_for};
 
 use crate::text::{add_bytes, add_count, add_word, bytes_line, one, words_line};
 use i9_frames::Sets;
@@ -140,19 +141,39 @@ fn raw_bytes_line(alloc: Global, address: u32, list: &[Option<u8>]) -> Result<Ve
     Ok(text)
 }
 
-/// What a command tells of the place at which a machine stands: one text for each call of the sink.
+/// The line of what last changed a byte.
+#[tactic(auto, unfolding(crate::specs::Session::who_text))]
+fn who_line(alloc: Global, change: Option<(u64, u32)>) -> Result<Vec<u8>, AllocError>
+    ensures { IfOk result (λ t. t.items ≡ who_text change) }
+{
+    match change {
+        None => Vec::from_slice(alloc, b"#who none\n"),
+        Some((count, address)) => {
+            let mut text = Vec::from_slice(alloc, b"#who ")?;
+            add_count(alloc, &mut text, count)?;
+            text.push(b' ')?;
+            add_word(alloc, &mut text, address)?;
+            text.push(b'\n')?;
+            Ok(text)
+        }
+    }
+}
+
+/// What a command tells of the place at which a machine stands, with the last change of a byte where it tells one: one
+/// text for each call of the sink.
 #[tactic(auto, using(crate::proofs::LineCounts::place_rules))]
 pub(crate) fn told_lines(
     alloc: Global,
     m: &Machine,
     c: &Command,
+    change: Option<(u64, u32)>,
 ) -> Result<Vec<Vec<u8>>, AllocError>
     ensures lines { IfOk result (λ ts. AreLines ts.items) }
     ensures text { IfOk result (λ ts. (g : Given) (h : List Item) (end : Option Finish) → StandsFor g h end m.now
-        → flat_map (λ t. t.items) ts.items ≡ told g h m.now.turn c.now) }
+        → change ≡ change_for c.now (records_of h) → flat_map (λ t. t.items) ts.items ≡ told g h m.now.turn c.now) }
 {
     match c {
-        Command::Turn(_) | Command::Until(_) => {
+        Command::Turn(_) | Command::Until(_) | Command::Back(_) | Command::Last(_) => {
             one(alloc, turn_line(alloc, m.raw().turn, m.view().count)?)
         }
         Command::Regs => view_lines(alloc, &m.view()),
@@ -166,5 +187,6 @@ pub(crate) fn told_lines(
             let list = standing_bytes(alloc, m, *a, *n)?;
             one(alloc, raw_bytes_line(alloc, *a, &list)?)
         }
+        Command::Who(_) => one(alloc, who_line(alloc, change)?),
     }
 }

@@ -1,18 +1,22 @@
 //! A session of the debugger: what the commands of a script print, over a machine.
-ghost use Rattle.std.specs.Prelude.{◌≡◌, ◌+◌, ◌≤◌, nat_eq, List, Option, None};
+ghost use Rattle.std.specs.Prelude.{◌≡◌, ◌+◌, ◌<◌, ◌≤◌, nat_eq, [], List, Option, None, IfSome, OnOk, OnErr};
 ghost use Rattle.i9_model.specs.Given.{Given};
-ghost use Rattle.i9_model.specs.Run.{Finish};
 ghost use Rattle.i9_course.specs.Course.{Item};
 ghost use Rattle.i9_machine.specs.InRun.{IsInRun};
 ghost use Rattle.i9_machine.specs.StandsFor.{StandsFor, Follows, IsUnderWay};
 ghost use Rattle.i9_script.specs.ScriptText.{IsCommandInRange};
 ghost use Rattle.i9_tracer.specs.Closures.{TakesEachView};
 ghost use Rattle.i9_debug.specs.Print.{Prints, account};
-ghost use Rattle.i9_debug.specs.Session.{Place, at, TurnsTo, ComesTo, Runs, Answers, told};
-ghost use Rattle.i9_debug.specs.Driven.{StandsAt, Drives, InOneTurn, AtMostOne, StepOf, CutInRun, CutInAnswer, StopsBy, RunsScript};
+ghost use Rattle.i9_debug.specs.Session.{Place, at, UnlessOver, Stays, TurnsTo, ComesTo, Runs, Answers, told};
+ghost use Rattle.i9_debug.specs.Driven.{StandsAt, IsOf, IsPlace, IsDebugged, given_of};
+ghost use Rattle.i9_debug.specs.Driven.{Drives, InOneTurn, AtMostOne, CutInRun, CutOnWay, CutInAnswer, StopsBy, RunsScript};
+ghost use Rattle.i9_debug.specs.declared.print.Printed.TheVariants as printed;
 
+use crate::backward::{back_by, back_to, change_told};
 use crate::place::told_lines;
 use crate::print::{Printed, print_lines, print_pieces};
+use i9_hex::Segments;
+use i9_isa::NoMemory;
 use i9_machine::{End, Machine, Turn};
 use i9_model::View;
 use i9_outside::Sink;
@@ -24,9 +28,9 @@ use std::alloc::Global;
 /// How a session ended.
 #[derive(Clone, Copy, Debug, PartialEq, Eq)]
 pub enum SessionEnd {
-    /// The whole text was written, and the run goes on behind it.
+    /// The whole text was written, and the run can go on behind it.
     Done,
-    /// The whole text was written, and the run is over with this end.
+    /// The whole text was written, and the run stands at this end.
     Stopped(End),
     /// A write failed; a front of the text was written, perhaps nothing.
     Write,
@@ -141,58 +145,109 @@ fn run_to<K: Sink>(
     run_while_not(alloc, m, plan, is_there, out)
 }
 
-/// Runs what a command runs, if anything, over a machine that has answered no end, and prints the lines of it.
-fn run_on<K: Sink>(
+/// Runs so many turns, fewer at an end, and prints the lines of each; at an end nothing.
+fn turn_on<K: Sink>(
     alloc: Global,
+    m: &mut Machine,
+    plan: &mut Schedule,
+    count: u64,
+    out: &mut K,
+) -> Printed
+    requires stands { IsInRun m.old plan.old }
+    requires some { 1 ≤ count }
+    ensures { (g : Given) (p : Place) → StandsAt g p m.old plan.old
+        → Drives (λ x q. UnlessOver p.end (TurnsTo g p.items (p.turn + count) x q) (Stays p x q)) (CutInRun g (InOneTurn g) p.items) result g
+        (account K.told K.faults K.writes K.sure K.pieces) out.old out.new m.new plan.new }
+{
+    match m.ended() {
+        None => run_turns(alloc, m, plan, count, out),
+        Some(_) => Printed::Done,
+    }
+}
+
+/// Runs as `run_to` does; at an end nothing.
+fn come_to<K: Sink>(
+    alloc: Global,
+    m: &mut Machine,
+    plan: &mut Schedule,
+    address: u32,
+    out: &mut K,
+) -> Printed
+    requires stands { IsInRun m.old plan.old }
+    ensures { (g : Given) (p : Place) → StandsAt g p m.old plan.old
+        → Drives (λ x q. UnlessOver p.end (ComesTo g p.items address x q) (Stays p x q)) (CutInRun g AtMostOne p.items) result g
+        (account K.told K.faults K.writes K.sure K.pieces) out.old out.new m.new plan.new }
+{
+    match m.ended() {
+        None => run_to(alloc, m, plan, address, out),
+        Some(_) => Printed::Done,
+    }
+}
+
+/// What was printed on the way back, which is nothing, or memory was refused.
+fn gone(went: Result<(), NoMemory>) -> Printed
+    ensures done { OnOk went (result ≡ printed.Done) }
+    ensures refused { OnErr went (result ≡ printed.Memory) }
+{
+    match went {
+        Ok(()) => Printed::Done,
+        Err(_) => Printed::Memory,
+    }
+}
+
+/// Runs what a command runs, if anything, and prints the lines of it. At an end nothing is run; what goes back does so
+/// from there too, and prints nothing.
+fn run_command<K: Sink>(
+    alloc: Global,
+    image: &Segments,
+    sets: Option<u8>,
     m: &mut Machine,
     plan: &mut Schedule,
     c: &Command,
     out: &mut K,
 ) -> Printed
-    requires stands { IsUnderWay m.old plan.old }
+    requires sets { IfSome sets (λ n. 0 < n × n < 16) }
+    requires stands { IsDebugged image.now sets m.old plan.old }
     requires range { IsCommandInRange c.now }
-    ensures { (g : Given) (h : List Item) → StandsFor g h None m.old → Follows g h plan.old
-        → Drives (Runs g c.now (at h m.old.turn)) (CutInRun g (StepOf g c.now) h) result g
+    ensures { (g : Given) (p : Place) → IsOf image.now sets g → IsPlace g p → StandsAt g p m.old plan.old
+        → Drives (Runs g c.now p) (CutOnWay g p c.now) result g
         (account K.told K.faults K.writes K.sure K.pieces) out.old out.new m.new plan.new }
 {
     match c {
-        Command::Turn(count) => run_turns(alloc, m, plan, *count, out),
-        Command::Until(address) => run_to(alloc, m, plan, *address, out),
+        Command::Turn(count) => turn_on(alloc, m, plan, *count, out),
+        Command::Until(address) => come_to(alloc, m, plan, *address, out),
+        Command::Back(count) => gone(back_by(alloc, image, sets, m, plan, *count)),
+        Command::Last(address) => gone(back_to(alloc, image, sets, m, plan, *address)),
         Command::Regs => Printed::Done,
         Command::Raw => Printed::Done,
         Command::Held => Printed::Done,
         Command::Mem(_, _) => Printed::Done,
         Command::RawMem(_, _) => Printed::Done,
+        Command::Who(_) => Printed::Done,
     }
 }
 
-/// Runs what a command runs, if anything, and prints the lines of it. After an end nothing is run.
-fn run_command<K: Sink>(
+/// Prints what a command tells of the place at which a machine stands. The schedule stays where it is.
+fn tell<K: Sink>(
     alloc: Global,
-    m: &mut Machine,
+    image: &Segments,
+    sets: Option<u8>,
+    m: &Machine,
     plan: &mut Schedule,
     c: &Command,
     out: &mut K,
 ) -> Printed
-    requires stands { IsInRun m.old plan.old }
-    requires range { IsCommandInRange c.now }
-    ensures { (g : Given) (p : Place) → StandsAt g p m.old plan.old
-        → Drives (Runs g c.now p) (CutInRun g (StepOf g c.now) p.items) result g
-        (account K.told K.faults K.writes K.sure K.pieces) out.old out.new m.new plan.new }
+    requires sets { IfSome sets (λ n. 0 < n × n < 16) }
+    requires stands { IsDebugged image.now sets m.now plan.old }
+    ensures told { (g : Given) (p : Place) → IsOf image.now sets g → IsPlace g p → StandsAt g p m.now plan.old
+        → Prints result (account K.told K.faults K.writes K.sure K.pieces) out.old out.new (told g p.items m.now.turn c.now) }
+    ensures same { plan.new ≡ plan.old }
 {
-    match m.ended() {
-        None => run_on(alloc, m, plan, c, out),
-        Some(_) => Printed::Done,
-    }
-}
-
-/// Prints what a command tells of the place at which a machine stands.
-fn tell<K: Sink>(alloc: Global, m: &Machine, c: &Command, out: &mut K) -> Printed
-    ensures { (g : Given) (h : List Item) (end : Option Finish) → StandsFor g h end m.now
-        → Prints result (account K.told K.faults K.writes K.sure K.pieces) out.old out.new (told g h m.now.turn c.now) }
-{
-    match told_lines(alloc, m, c) {
-        Ok(lines) => print_pieces(&lines, out),
+    match change_told(alloc, image, sets, m, plan, c) {
+        Ok(change) => match told_lines(alloc, m, c, change) {
+            Ok(lines) => print_pieces(&lines, out),
+            Err(_) => Printed::Memory,
+        },
         Err(_) => Printed::Memory,
     }
 }
@@ -200,46 +255,52 @@ fn tell<K: Sink>(alloc: Global, m: &Machine, c: &Command, out: &mut K) -> Printe
 /// Runs what a command runs, if anything, and then tells what it tells.
 fn answer<K: Sink>(
     alloc: Global,
+    image: &Segments,
+    sets: Option<u8>,
     m: &mut Machine,
     plan: &mut Schedule,
     c: &Command,
     out: &mut K,
 ) -> Printed
-    requires stands { IsInRun m.old plan.old }
+    requires sets { IfSome sets (λ n. 0 < n × n < 16) }
+    requires stands { IsDebugged image.now sets m.old plan.old }
     requires range { IsCommandInRange c.now }
-    ensures { (g : Given) (p : Place) → StandsAt g p m.old plan.old
+    ensures { (g : Given) (p : Place) → IsOf image.now sets g → IsPlace g p → StandsAt g p m.old plan.old
         → Drives (Answers g c.now p) (CutInAnswer g c.now p) result g
         (account K.told K.faults K.writes K.sure K.pieces) out.old out.new m.new plan.new }
 {
-    match run_command(alloc, m, plan, c, out) {
-        Printed::Done => tell(alloc, m, c, out),
+    match run_command(alloc, image, sets, m, plan, c, out) {
+        Printed::Done => tell(alloc, image, sets, m, plan, c, out),
         Printed::Write => Printed::Write,
         Printed::Memory => Printed::Memory,
     }
 }
 
 /// Does the commands of a script in order, and writes what they print: each line by one call of the sink, as it
-/// arises. The text is this project's own; `specs/Session.antt` defines it. The schedule is the one of the run, as
-/// `Machine::advance` has it.
+/// arises. The text is this project's own; `specs/Session.antt` defines it. The machine is new, from this image and these
+/// sets, with the longest length, and the schedule stands at its first event.
 ///
-/// `Done` and `Stopped` say that the whole text was written, and whether the run is over behind it, in this session or
-/// before. Behind an end nothing is run, and what stands then is told. Where a write fails or memory is refused, the
-/// session stops there, and a front of the text was written.
+/// A command that goes back has the run done again from its start; the lines that arise on the way are not written, and
+/// those that arise when the run goes forward again are written again. `Done` and `Stopped` say that the whole text was
+/// written, and whether the run stands at an end when the script is over. At an end nothing is run, and what stands then
+/// is told. Where a write fails or memory is refused, the session stops there, and a front of the text was written.
 pub fn session<K: Sink>(
     alloc: Global,
+    image: &Segments,
+    sets: Option<u8>,
     m: &mut Machine,
     plan: &mut Schedule,
     s: &Script,
     out: &mut K,
 ) -> SessionEnd
-    requires stands { IsInRun m.old plan.old }
-    ensures in_run { IsInRun m.new plan.new }
-    ensures text { (g : Given) (p : Place) → StandsAt g p m.old plan.old
-        → RunsScript result g p s.now (account K.told K.faults K.writes K.sure K.pieces) out.old out.new m.new plan.new }
+    requires sets { IfSome sets (λ n. 0 < n × n < 16) }
+    requires stands { StandsAt (given_of image.now sets plan.old) (at [] 1) m.old plan.old }
+    ensures { RunsScript result (given_of image.now sets plan.old) (at [] 1) s.now
+        (account K.told K.faults K.writes K.sure K.pieces) out.old out.new m.new plan.new }
 {
     let commands = s.commands();
     for c in commands {
-        match answer(alloc, m, plan, c, out) {
+        match answer(alloc, image, sets, m, plan, c, out) {
             Printed::Done => {}
             Printed::Write => return SessionEnd::Write,
             Printed::Memory => return SessionEnd::Memory,

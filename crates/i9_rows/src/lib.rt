@@ -4,6 +4,8 @@
 #[cfg(test)]
 mod asm_tests;
 #[cfg(test)]
+mod back_tests;
+#[cfg(test)]
 mod debug_tests;
 #[cfg(test)]
 mod demo_tests;

@@ -1,5 +1,5 @@
 //! A schedule: its events in order, and how many of them were reached.
-ghost use Rattle.std.specs.Prelude.{◌≡◌, ◌+◌, ◌<◌, length, IfSome};
+ghost use Rattle.std.specs.Prelude.{◌≡◌, ◌+◌, ◌<◌, ◌≤◌, length, IfSome};
 ghost use Rattle.std.specs.Option.{option_copied};
 ghost use Rattle.std.specs.List.{slice_get};
 ghost use Rattle.i9_model.specs.ScheduleText.{IsPlan, IsTimedInRange};
@@ -46,7 +46,8 @@ impl Schedule {
 
     /// How many of its events lie behind.
     pub fn place(&self) -> u64
-        ensures { result ≡ self.now.place }
+        ensures place { result ≡ self.now.place }
+        ensures within { result ≤ length self.now.events }
     {
         self.place as u64
     }
@@ -57,5 +58,22 @@ impl Schedule {
         ensures { self.new ≡ record self.old { place = self.old.place + 1 } }
     {
         self.place += 1;
+    }
+
+    /// Goes to the place behind so many events. No memory is asked for.
+    pub fn seek(&mut self, place: u64)
+        requires { place ≤ length self.old.events }
+        ensures { self.new ≡ record self.old { place = place } }
+    {
+        self.place = place as usize;
+    }
+
+    /// Goes back to the first event. No memory is asked for.
+    pub fn rewind(&mut self)
+        ensures first { self.new ≡ record self.old { place = 0 } }
+        // So a new machine stands for the empty list of the run with these events.
+        ensures plan { IsPlan self.new.events }
+    {
+        self.place = 0;
     }
 }

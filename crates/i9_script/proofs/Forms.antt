@@ -6,10 +6,10 @@ use Rattle.std.proofs.lemmas.Bool.{cases_Bool}
 use Rattle.std.proofs.lemmas.Option.{option_and_then_some}
 use Rattle.std.proofs.lemmas.Slice.Eq.{bytes_eq-Decides}
 use Rattle.i9_model.specs.Events.{Words, decimal_in, address_of, most_shown}
-use Rattle.i9_script.specs.ScriptText.{IsCommand, is_turn, is_until, is_regs, is_raw, is_held, is_mem, is_rawmem, is_named, most_turns, unknown_command, bad_operand}
-use Rattle.i9_script.specs.Lines.{bare_of, turn_of, until_of, piece_of, mem_of, rawmem_of, command_of}
+use Rattle.i9_script.specs.ScriptText.{IsCommand, is_turn, is_until, is_regs, is_raw, is_held, is_mem, is_rawmem, is_back, is_last, is_who, is_named, most_turns, most_back, unknown_command, bad_operand}
+use Rattle.i9_script.specs.Lines.{bare_of, number_of, place_of, turn_of, until_of, piece_of, mem_of, rawmem_of, back_of, last_of, who_of, command_of}
 use Rattle.i9_script.specs.declared.command.Command.{Command}
-use Rattle.i9_script.specs.declared.command.Command.TheVariants.{Turn, Until, Regs, Raw, Held, Mem, RawMem}
+use Rattle.i9_script.specs.declared.command.Command.TheVariants.{Turn, Until, Regs, Raw, Held, Mem, RawMem, Back, Last, Who}
 
 same_some : {A : Type 0} (x y : A) → ◌≡◌ {A = Option A} (Some x) (Some y) → x ≡ y
 same_some x y h = cc
@@ -23,19 +23,19 @@ ok_or_ok None k x h = absurd cc
 
 -- ---- what is read is what the words say
 
-turn_case : (ws : Words) (c : Command) → turn_of ws ≡ Some c → IsCommand (codes "turn" ∷ ws) c
-unfolding turn_of
-turn_case [] c h = absurd cc
-turn_case (w ∷ []) c h =
-    option_and_then_some (λ n. Some (Turn n)) (decimal_in 1 most_turns w) c h (λ n number is. subst (λ (x : Command). IsCommand (codes "turn" ∷ w ∷ []) x) (same_some (Turn n) c is) (is_turn w n number))
-turn_case (v ∷ w ∷ ws) c h = absurd cc
+-- the one operand that is a number
+number_case : (P : Words → ℕ → Type 0) (high : ℕ) → ((w : List ℕ) (n : ℕ) → decimal_in 1 high w ≡ Some n → P (w ∷ []) n) → (ws : Words) (n : ℕ) → number_of high ws ≡ Some n → P ws n
+unfolding number_of
+number_case P high says [] n h = absurd cc
+number_case P high says (w ∷ []) n h = says w n h
+number_case P high says (v ∷ w ∷ ws) n h = absurd cc
 
-until_case : (ws : Words) (c : Command) → until_of ws ≡ Some c → IsCommand (codes "until" ∷ ws) c
-unfolding until_of
-until_case [] c h = absurd cc
-until_case (w ∷ []) c h =
-    option_and_then_some (λ a. Some (Until a)) (address_of w) c h (λ a address is. subst (λ (x : Command). IsCommand (codes "until" ∷ w ∷ []) x) (same_some (Until a) c is) (is_until w a address))
-until_case (v ∷ w ∷ ws) c h = absurd cc
+-- the one operand that is an address
+place_case : (P : Words → ℕ → Type 0) → ((w : List ℕ) (a : ℕ) → address_of w ≡ Some a → P (w ∷ []) a) → (ws : Words) (a : ℕ) → place_of ws ≡ Some a → P ws a
+unfolding place_of
+place_case P says [] a h = absurd cc
+place_case P says (w ∷ []) a h = says w a h
+place_case P says (v ∷ w ∷ ws) a h = absurd cc
 
 bare_case : (name : List ℕ) (ws : Words) (own c : Command) → IsCommand (name ∷ []) own → bare_of own ws ≡ Some c → IsCommand (name ∷ ws) c
 bare_case name [] own c says h = subst (λ (x : Command). IsCommand (name ∷ []) x) (same_some own c h) says
@@ -52,9 +52,24 @@ piece_case P says (v ∷ w ∷ []) p h =
     subst (λ (x : ℕ × ℕ). P (v ∷ w ∷ []) x) (same_some (a, l) p is) (says v w a l address size)))
 piece_case P says (u ∷ v ∷ w ∷ ws) p h = absurd cc
 
-map_case : (own : ℕ × ℕ → Command) (P : Command → Type 0) (o : Option (ℕ × ℕ)) (c : Command) → ((p : ℕ × ℕ) → o ≡ Some p → P (own p)) → option_map own o ≡ Some c → P c
+map_case : {A : Type 0} (own : A → Command) (P : Command → Type 0) (o : Option A) (c : Command) → ((p : A) → o ≡ Some p → P (own p)) → option_map own o ≡ Some c → P c
 map_case own P None c says h = absurd cc
 map_case own P (Some p) c says h = subst P (same_some (own p) c h) (says p refl)
+
+turn_case : (ws : Words) (c : Command) → turn_of ws ≡ Some c → IsCommand (codes "turn" ∷ ws) c
+turn_case ws c h = map_case Turn (λ x. IsCommand (codes "turn" ∷ ws) x) (number_of most_turns ws) c (number_case (λ us n. IsCommand (codes "turn" ∷ us) (Turn n)) most_turns is_turn ws) h
+
+back_case : (ws : Words) (c : Command) → back_of ws ≡ Some c → IsCommand (codes "back" ∷ ws) c
+back_case ws c h = map_case Back (λ x. IsCommand (codes "back" ∷ ws) x) (number_of most_back ws) c (number_case (λ us n. IsCommand (codes "back" ∷ us) (Back n)) most_back is_back ws) h
+
+until_case : (ws : Words) (c : Command) → until_of ws ≡ Some c → IsCommand (codes "until" ∷ ws) c
+until_case ws c h = map_case Until (λ x. IsCommand (codes "until" ∷ ws) x) (place_of ws) c (place_case (λ us a. IsCommand (codes "until" ∷ us) (Until a)) is_until ws) h
+
+last_case : (ws : Words) (c : Command) → last_of ws ≡ Some c → IsCommand (codes "last" ∷ ws) c
+last_case ws c h = map_case Last (λ x. IsCommand (codes "last" ∷ ws) x) (place_of ws) c (place_case (λ us a. IsCommand (codes "last" ∷ us) (Last a)) is_last ws) h
+
+who_case : (ws : Words) (c : Command) → who_of ws ≡ Some c → IsCommand (codes "who" ∷ ws) c
+who_case ws c h = map_case Who (λ x. IsCommand (codes "who" ∷ ws) x) (place_of ws) c (place_case (λ us a. IsCommand (codes "who" ∷ us) (Who a)) is_who ws) h
 
 mem_case : (ws : Words) (c : Command) → mem_of ws ≡ Some c → IsCommand (codes "mem" ∷ ws) c
 mem_case ws c h = map_case (λ p. Mem p.0 p.1) (λ x. IsCommand (codes "mem" ∷ ws) x) (piece_of ws) c (piece_case (λ us p. IsCommand (codes "mem" ∷ us) (Mem p.0 p.1)) is_mem ws) h
@@ -81,12 +96,15 @@ command_case (name ∷ ws) c h =
     (by_name name (codes "raw") ws c (bare_of Raw ws) _ (bare_case (codes "raw") ws Raw c is_raw)
     (by_name name (codes "held") ws c (bare_of Held ws) _ (bare_case (codes "held") ws Held c is_held)
     (by_name name (codes "mem") ws c (mem_of ws) _ (mem_case ws c)
-    (by_name name (codes "rawmem") ws c (rawmem_of ws) (Err unknown_command) (rawmem_case ws c) (λ none. absurd (cc none)))))))) h
+    (by_name name (codes "rawmem") ws c (rawmem_of ws) _ (rawmem_case ws c)
+    (by_name name (codes "back") ws c (back_of ws) _ (back_case ws c)
+    (by_name name (codes "last") ws c (last_of ws) _ (last_case ws c)
+    (by_name name (codes "who") ws c (who_of ws) (Err unknown_command) (who_case ws c) (λ none. absurd (cc none))))))))))) h
 
 -- ---- the way back
 
 pub command_is : (ws : Words) (c : Command) → IsCommand ws c → command_of ws ≡ Ok c
-unfolding command_of turn_of until_of piece_of
+unfolding command_of number_of place_of piece_of
 command_is ws c (is_turn w n h) = rw h refl
 command_is ws c (is_until w a h) = rw h refl
 command_is ws c is_regs = refl
@@ -94,6 +112,9 @@ command_is ws c is_raw = refl
 command_is ws c is_held = refl
 command_is ws c (is_mem v w a l h g) = rw (h, g) refl
 command_is ws c (is_rawmem v w a l h g) = rw (h, g) refl
+command_is ws c (is_back w n h) = rw h refl
+command_is ws c (is_last w a h) = rw h refl
+command_is ws c (is_who w a h) = rw h refl
 
 -- ---- a fault tells whether the first word is a command's name
 
@@ -117,4 +138,7 @@ kind_of_command (name ∷ ws) =
     (kind_by_name (bare_of Raw ws) (bytes_eq name (codes "raw")) _ _
     (kind_by_name (bare_of Held ws) (bytes_eq name (codes "held")) _ _
     (kind_by_name (mem_of ws) (bytes_eq name (codes "mem")) _ _
-    (kind_by_name (rawmem_of ws) (bytes_eq name (codes "rawmem")) false (Err unknown_command) refl))))))
+    (kind_by_name (rawmem_of ws) (bytes_eq name (codes "rawmem")) _ _
+    (kind_by_name (back_of ws) (bytes_eq name (codes "back")) _ _
+    (kind_by_name (last_of ws) (bytes_eq name (codes "last")) _ _
+    (kind_by_name (who_of ws) (bytes_eq name (codes "who")) false (Err unknown_command) refl)))))))))

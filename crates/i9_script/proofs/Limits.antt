@@ -4,7 +4,7 @@ use Rattle.std.proofs.lemmas.List.Elements.{All-append, All-cons, All-nil}
 use Rattle.i9_text.specs.FirstFault.{SaysAll}
 use Rattle.i9_model.specs.Events.{Words, last_address, most_shown}
 use Rattle.i9_model.proofs.Plans.{in_range}
-use Rattle.i9_script.specs.ScriptText.{IsCommand, is_turn, is_until, is_regs, is_raw, is_held, is_mem, is_rawmem, Says, says_nothing, says_command, most_turns, IsScript, IsCommandInRange, IsInLimits}
+use Rattle.i9_script.specs.ScriptText.{IsCommand, is_turn, is_until, is_regs, is_raw, is_held, is_mem, is_rawmem, is_back, is_last, is_who, Says, says_nothing, says_command, most_turns, most_back, IsScript, IsCommandInRange, IsInLimits}
 use Rattle.i9_script.specs.declared.command.Command.{Command}
 
 command_in_range : (ws : Words) (c : Command) → IsCommand ws c → IsCommandInRange c
@@ -15,6 +15,9 @@ command_in_range ws c is_raw = tt
 command_in_range ws c is_held = tt
 command_in_range ws c (is_mem v w a l h g) = let r = in_range 10 10 1 most_shown l w g in ((in_range 16 8 0 last_address a v h).1, r.0, r.1)
 command_in_range ws c (is_rawmem v w a l h g) = let r = in_range 10 10 1 most_shown l w g in ((in_range 16 8 0 last_address a v h).1, r.0, r.1)
+command_in_range ws c (is_back w n h) = in_range 10 10 1 most_back n w h
+command_in_range ws c (is_last w a h) = (in_range 16 8 0 last_address a w h).1
+command_in_range ws c (is_who w a h) = (in_range 16 8 0 last_address a w h).1
 
 line_in_limits : (cs ds : List Command) (line : List ℕ) → Says cs line ds → IsInLimits cs → IsInLimits ds
 line_in_limits cs ds line (says_nothing xs l ascii skipped) h = h

@@ -5,26 +5,41 @@ use Rattle.std.specs.Str.{bytes_eq}
 use Rattle.i9_text.specs.Text.{words_of}
 use Rattle.i9_model.specs.Events.{Words, decimal_in, address_of, most_shown, one_of, two_of, ◌>>=◌}
 use Rattle.i9_model.specs.ScheduleText.{is_ascii, is_skipped, and_then}
-use Rattle.i9_script.specs.ScriptText.{most_turns, unknown_command, bad_operand}
+use Rattle.i9_script.specs.ScriptText.{most_turns, most_back, unknown_command, bad_operand}
 use Rattle.i9_script.specs.declared.command.Command.{Command}
-use Rattle.i9_script.specs.declared.command.Command.TheVariants.{Turn, Until, Regs, Raw, Held, Mem, RawMem}
+use Rattle.i9_script.specs.declared.command.Command.TheVariants.{Turn, Until, Regs, Raw, Held, Mem, RawMem, Back, Last, Who}
 
 -- a command that has no operands
 abbrev pub bare_of : Command → Words → Option Command
 bare_of c [] = Some c
 bare_of c (w ∷ ws) = None
 
-unfoldable pub turn_of : Words → Option Command
-turn_of ws = do
+-- a number from 1 on
+unfoldable pub number_of : ℕ → Words → Option ℕ
+number_of high ws = do
   w ← one_of ws
-  n ← decimal_in 1 most_turns w
-  Some (Turn n)
+  decimal_in 1 high w
 
-unfoldable pub until_of : Words → Option Command
-until_of ws = do
+-- an address
+unfoldable pub place_of : Words → Option ℕ
+place_of ws = do
   w ← one_of ws
-  a ← address_of w
-  Some (Until a)
+  address_of w
+
+abbrev pub turn_of : Words → Option Command
+turn_of ws = option_map Turn (number_of most_turns ws)
+
+abbrev pub back_of : Words → Option Command
+back_of ws = option_map Back (number_of most_back ws)
+
+abbrev pub until_of : Words → Option Command
+until_of ws = option_map Until (place_of ws)
+
+abbrev pub last_of : Words → Option Command
+last_of ws = option_map Last (place_of ws)
+
+abbrev pub who_of : Words → Option Command
+who_of ws = option_map Who (place_of ws)
 
 -- an address and a number of bytes
 unfoldable pub piece_of : Words → Option (ℕ × ℕ)
@@ -50,6 +65,9 @@ command_of (name ∷ ws) =
     else if bytes_eq name (codes "held") then ok_or (bare_of Held ws) bad_operand
     else if bytes_eq name (codes "mem") then ok_or (mem_of ws) bad_operand
     else if bytes_eq name (codes "rawmem") then ok_or (rawmem_of ws) bad_operand
+    else if bytes_eq name (codes "back") then ok_or (back_of ws) bad_operand
+    else if bytes_eq name (codes "last") then ok_or (last_of ws) bad_operand
+    else if bytes_eq name (codes "who") then ok_or (who_of ws) bad_operand
     else Err unknown_command
 
 -- nothing or a command

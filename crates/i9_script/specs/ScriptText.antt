@@ -7,12 +7,15 @@ use Rattle.i9_text.specs.FirstFault as texts
 use Rattle.i9_model.specs.Events.{Words, decimal_in, address_of, last_address, most_shown}
 use Rattle.i9_model.specs.ScheduleText.{is_ascii, is_skipped}
 use Rattle.i9_script.specs.declared.command.Command.{Command}
-use Rattle.i9_script.specs.declared.command.Command.TheVariants.{Turn, Until, Regs, Raw, Held, Mem, RawMem}
+use Rattle.i9_script.specs.declared.command.Command.TheVariants.{Turn, Until, Regs, Raw, Held, Mem, RawMem, Back, Last, Who}
 
 -- ---- limits, with those of an event
 
 abbrev pub most_turns : ℕ
 most_turns = 1000000
+
+abbrev pub most_back : ℕ
+most_back = 10000000
 
 abbrev pub most_commands : ℕ
 most_commands = 100000
@@ -41,10 +44,15 @@ pub data IsCommand : Words → Command → Type 0 where
       → IsCommand (codes "mem" ∷ v ∷ w ∷ []) (Mem a l)
   is_rawmem : (v w : List ℕ) (a l : ℕ) → address_of v ≡ Some a → decimal_in 1 most_shown w ≡ Some l
       → IsCommand (codes "rawmem" ∷ v ∷ w ∷ []) (RawMem a l)
+  is_back : (w : List ℕ) (n : ℕ) → decimal_in 1 most_back w ≡ Some n → IsCommand (codes "back" ∷ w ∷ []) (Back n)
+  is_last : (w : List ℕ) (a : ℕ) → address_of w ≡ Some a → IsCommand (codes "last" ∷ w ∷ []) (Last a)
+  is_who : (w : List ℕ) (a : ℕ) → address_of w ≡ Some a → IsCommand (codes "who" ∷ w ∷ []) (Who a)
 
 -- the names of the commands
 abbrev pub names : Words
-names = codes "turn" ∷ codes "until" ∷ codes "regs" ∷ codes "raw" ∷ codes "held" ∷ codes "mem" ∷ codes "rawmem" ∷ []
+names =
+    codes "turn" ∷ codes "until" ∷ codes "regs" ∷ codes "raw" ∷ codes "held" ∷ codes "mem" ∷ codes "rawmem"
+    ∷ codes "back" ∷ codes "last" ∷ codes "who" ∷ []
 
 -- the first word is one of them
 abbrev pub is_named : Words → Bool
@@ -92,6 +100,9 @@ IsCommandInRange Raw = Unit {0}
 IsCommandInRange Held = Unit {0}
 IsCommandInRange (Mem a l) = (a ≤ last_address) × (1 ≤ l) × (l ≤ most_shown)
 IsCommandInRange (RawMem a l) = (a ≤ last_address) × (1 ≤ l) × (l ≤ most_shown)
+IsCommandInRange (Back n) = (1 ≤ n) × (n ≤ most_back)
+IsCommandInRange (Last a) = a ≤ last_address
+IsCommandInRange (Who a) = a ≤ last_address
 
 -- what the commands of a script are
 pub record IsInLimits (cs : List Command) : Type 0 where

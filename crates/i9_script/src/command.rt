@@ -17,4 +17,10 @@ pub enum Command {
     Mem(u32, u8),
     /// The bytes at this address as they stand are told, 1 to 64 of them.
     RawMem(u32, u8),
+    /// The run goes back by so many instructions, 1 to 10,000,000.
+    Back(u64),
+    /// The run goes back to the last instruction before that left the instruction address at this one.
+    Last(u32),
+    /// The last instruction that changed the byte of the view at this address is told.
+    Who(u32),
 }

@@ -2,7 +2,7 @@
 ghost use Rattle.std.specs.Prelude.{◌≡◌, ◌≤◌, IfSome};
 ghost use Rattle.i9_text.specs.Text.{words_of};
 ghost use Rattle.i9_model.specs.Events.{decimal_in, address_of};
-ghost use Rattle.i9_script.specs.Lines.{bare_of, turn_of, until_of, piece_of, command_of};
+ghost use Rattle.i9_script.specs.Lines.{bare_of, number_of, place_of, piece_of, command_of};
 
 use crate::command::Command;
 use crate::kinds::{BAD_OPERAND, UNKNOWN_COMMAND};
@@ -10,6 +10,9 @@ use i9_schedule::{number_in, one_word, two_words};
 use i9_text::split_word;
 
 const MOST_TURNS: u64 = 1_000_000;
+
+/// How many instructions `back` goes back at most.
+const MOST_BACK: u64 = 10_000_000;
 
 const LAST_ADDRESS: u64 = 0xFFFF_FFFF;
 
@@ -42,22 +45,20 @@ fn bare(words: &[u8], command: Command) -> Option<Command>
     }
 }
 
-/// The command `turn` of these operands.
-#[tactic(auto, unfolding(crate::specs::Lines::turn_of))]
-fn turn(words: &[u8]) -> Option<Command>
-    ensures { result ≡ turn_of (words_of words.now) }
+/// The operand of `turn` and `back`: a number from 1 on.
+#[tactic(auto, unfolding(crate::specs::Lines::number_of))]
+fn number(words: &[u8], high: u64) -> Option<u64>
+    ensures { result ≡ number_of high (words_of words.now) }
 {
-    let turns = decimal(one_word(words)?, MOST_TURNS)?;
-    Some(Command::Turn(turns))
+    decimal(one_word(words)?, high)
 }
 
-/// The command `until` of these operands.
-#[tactic(auto, unfolding(crate::specs::Lines::until_of))]
-fn until(words: &[u8]) -> Option<Command>
-    ensures { result ≡ until_of (words_of words.now) }
+/// The operand of `until`, `last` and `who`: an address.
+#[tactic(auto, unfolding(crate::specs::Lines::place_of))]
+fn place(words: &[u8]) -> Option<u32>
+    ensures { result ≡ place_of (words_of words.now) }
 {
-    let address = address(one_word(words)?)?;
-    Some(Command::Until(address))
+    address(one_word(words)?)
 }
 
 /// The operands of `mem` and `rawmem`: an address, and how many bytes.
@@ -78,9 +79,9 @@ pub(crate) fn command(words: &[u8]) -> Result<Command, u8>
 {
     let (name, operands) = split_word(words).ok_or(UNKNOWN_COMMAND)?;
     if name == b"turn".as_slice() {
-        turn(operands).ok_or(BAD_OPERAND)
+        Ok(Command::Turn(number(operands, MOST_TURNS).ok_or(BAD_OPERAND)?))
     } else if name == b"until".as_slice() {
-        until(operands).ok_or(BAD_OPERAND)
+        Ok(Command::Until(place(operands).ok_or(BAD_OPERAND)?))
     } else if name == b"regs".as_slice() {
         bare(operands, Command::Regs).ok_or(BAD_OPERAND)
     } else if name == b"raw".as_slice() {
@@ -93,6 +94,12 @@ pub(crate) fn command(words: &[u8]) -> Result<Command, u8>
     } else if name == b"rawmem".as_slice() {
         let (start, length) = piece(operands).ok_or(BAD_OPERAND)?;
         Ok(Command::RawMem(start, length))
+    } else if name == b"back".as_slice() {
+        Ok(Command::Back(number(operands, MOST_BACK).ok_or(BAD_OPERAND)?))
+    } else if name == b"last".as_slice() {
+        Ok(Command::Last(place(operands).ok_or(BAD_OPERAND)?))
+    } else if name == b"who".as_slice() {
+        Ok(Command::Who(place(operands).ok_or(BAD_OPERAND)?))
     } else {
         Err(UNKNOWN_COMMAND)
     }

@@ -45,7 +45,8 @@ fn take_line(commands: &mut Vec<Command>, line: &[u8], number: u64) -> Result<()
 /// | command | operands |
 /// |---|---|
 /// | `turn N` | N is 1 to 1,000,000 |
-/// | `until A` | A is one to eight hexadecimal digits |
+/// | `back N` | N is 1 to 10,000,000 |
+/// | `until A`, `last A`, `who A` | A is one to eight hexadecimal digits |
 /// | `regs`, `raw`, `held` | |
 /// | `mem A L`, `rawmem A L` | A is one to eight hexadecimal digits; L is 1 to 64 |
 ///

@@ -1,12 +1,13 @@
 //! Sessions over images of a few instructions, with turns and texts worked out by hand.
-ghost use Rattle.std.specs.Prelude.{◌≡◌, ◌<◌, ◌≤◌, IfSome, IfOk};
-ghost use Rattle.i9_model.specs.declared.layout.TheConstants.{MAX_LENGTH};
+ghost use Rattle.std.specs.Prelude.{◌≡◌, ◌<◌, [], IfSome, IfOk};
 ghost use Rattle.i9_model.specs.ScheduleText.{IsPlan};
-ghost use Rattle.i9_machine.specs.InRun.{IsInRun};
+ghost use Rattle.i9_debug.specs.Session.{at};
+ghost use Rattle.i9_debug.specs.Driven.{StandsAt, given_of};
 
 use i9_debug::{SessionEnd, session};
 use i9_hex::Segments;
 use i9_machine::{End, Machine};
+use i9_model::layout::MAX_LENGTH;
 use i9_outside::{MemSink, Sink};
 use i9_schedule::{Schedule, read};
 use i9_script::{Script, read_script};
@@ -23,12 +24,28 @@ const PACKET: [u32; 5] = [
     0x5CB8_0E00,
 ];
 
-/// `mov 5, r4`, `call f`, `f: flushreg`: they issue at 1, 2 and 6, and the frame of the call is in memory at 23.
-const FLUSH: [u32; 3] = [0x5C20_0E05, 0x0900_0004, 0x6600_0680];
+/// `mov 5, r4`, `call f`, `f: flushreg`: they issue at 1, 2 and 6, and the frame of the call is in memory at 23. Then
+/// `lda 0xE0000000, g5`, `st g4, 4(g5)`, at 23 and 24, and an exit at 25.
+const FLUSH: [u32; 6] = [
+    0x5C20_0E05,
+    0x0900_0004,
+    0x6600_0680,
+    0x8CA8_3000,
+    0xE000_0000,
+    0x92A5_6004,
+];
 
 /// `mov 5, r4`, `call f`, `f: call g`, `g: mov 0, g0`: the second call issues at 6. With one set it spills the frame of the
-/// first, which is in memory at 26.
-const SPILL: [u32; 4] = [0x5C20_0E05, 0x0900_0004, 0x0900_0004, 0x5C80_0E00];
+/// first, which is in memory at 26. Then the same as above, at 26 and 27, and an exit at 28.
+const SPILL: [u32; 7] = [
+    0x5C20_0E05,
+    0x0900_0004,
+    0x0900_0004,
+    0x5C80_0E00,
+    0x8CA8_3000,
+    0xE000_0000,
+    0x92A5_6004,
+];
 
 /// `lda 0x300, g1`, `lda 0x1200, g2`, `lda 0xC00, g3`, `sysctl g1, g2, g3`: it goes on at 1200 with the PRCB at C00, whose
 /// interrupt stack is at 5000, and which asks for 15 sets.
@@ -86,13 +103,12 @@ fn no_events(alloc: Global) -> Result<Schedule, Fail>
 }
 
 /// A machine before its first step.
-fn run_of(alloc: Global, image: &Segments, sets: Option<u8>, length: u64) -> Result<Run, Fail>
-    requires sets { IfSome sets (λ n. 0 < n × n < 16) }
-    requires length { length ≤ MAX_LENGTH }
-    ensures { IfOk result (λ r. IsInRun r.machine r.plan) }
+fn run_of(alloc: Global, image: &Segments, sets: Option<u8>) -> Result<Run, Fail>
+    requires { IfSome sets (λ n. 0 < n × n < 16) }
+    ensures { IfOk result (λ r. StandsAt (given_of image.now sets r.plan) (at [] 1) r.machine r.plan) }
 {
     let plan = no_events(alloc)?;
-    let machine = Machine::new(alloc, image, sets, length)?;
+    let machine = Machine::new(alloc, image, sets, MAX_LENGTH)?;
     Ok(Run { machine, plan })
 }
 
@@ -102,20 +118,6 @@ fn script_of(alloc: Global, text: &str) -> Result<Script, Fail> {
         Ok(script) => Ok(script),
         Err(_) => Err("no script".into()),
     }
-}
-
-/// What a session answers.
-fn answer_of(
-    alloc: Global,
-    run: &mut Run,
-    text: &str,
-    out: &mut MemSink,
-) -> Result<SessionEnd, Fail>
-    requires { IsInRun run.old.machine run.old.plan }
-    ensures { IsInRun run.new.machine run.new.plan }
-{
-    let script = script_of(alloc, text)?;
-    Ok(session(alloc, &mut run.machine, &mut run.plan, &script, out))
 }
 
 /// A sink with room, whose write of this number fails; none where it is 0.
@@ -136,19 +138,27 @@ fn asked(sets: u8) -> Option<u8>
     }
 }
 
-/// What a session answers that begins before the first step, and what it writes.
+/// What a session answers, and what it writes to a sink whose write of this number fails.
 fn session_of(
     alloc: Global,
     image: &Segments,
     sets: u8,
-    length: u64,
     text: &str,
-) -> Result<(SessionEnd, MemSink), Fail>
-    requires { length ≤ MAX_LENGTH }
-{
-    let mut run = run_of(alloc, image, asked(sets), length)?;
-    let mut sink = sink_failing(alloc, 0)?;
-    let end = answer_of(alloc, &mut run, text, &mut sink)?;
+    failing: u64,
+) -> Result<(SessionEnd, MemSink), Fail> {
+    let sets = asked(sets);
+    let script = script_of(alloc, text)?;
+    let mut run = run_of(alloc, image, sets)?;
+    let mut sink = sink_failing(alloc, failing)?;
+    let end = session(
+        alloc,
+        image,
+        sets,
+        &mut run.machine,
+        &mut run.plan,
+        &script,
+        &mut sink,
+    );
     Ok((end, sink))
 }
 
@@ -184,13 +194,13 @@ const FLUSH_TEXT: &str = "#turn 3 2
 #turn 23 3
 #rawmem 00000010 05 00
 #held 5 0
-#point 3 end 0000100C 00000000 001F2002
-#g 00000000 00000000 00000000 00000000 00000000 00000000 00000000 00000000 00000000 00000000 00000000 00000000 00000000 00000000 00000000 00000040
+#turn 24 4
+#point 5 end 00001018 00000000 001F2002
+#g 00000000 00000000 00000000 00000000 00000000 E0000000 00000000 00000000 00000000 00000000 00000000 00000000 00000000 00000000 00000000 00000040
 #l 00000000 00000080 00000000 00000000 00000000 00000000 00000000 00000000 00000000 00000000 00000000 00000000 00000000 00000000 00000000 00000000
-#end limit
-#turn 23 3
-#turn 23 3
-#turn 23 3
+#end exit 00000000
+#turn 25 5
+#turn 25 5
 #mem FFFFFFFF 00 00
 ";
 
@@ -206,11 +216,35 @@ const SPILL_TEXT: &str = "#turn 6 2
 #rawmem 00000010 00
 #turn 26 3
 #rawmem 00000010 05
-#point 4 end 00001010 00000000 001F2002
-#g 00000000 00000000 00000000 00000000 00000000 00000000 00000000 00000000 00000000 00000000 00000000 00000000 00000000 00000000 00000000 00000080
+#point 6 end 0000101C 00000000 001F2002
+#g 00000000 00000000 00000000 00000000 00000000 E0000000 00000000 00000000 00000000 00000000 00000000 00000000 00000000 00000000 00000000 00000080
 #l 00000040 000000C0 00000000 00000000 00000000 00000000 00000000 00000000 00000000 00000000 00000000 00000000 00000000 00000000 00000000 00000000
-#end limit
-#turn 27 4
+#end exit 00000000
+#turn 28 6
+";
+
+/// Back from the end to right behind the flush, whose frame was not in memory at its turn, and to before the call; and a
+/// byte that the call changed.
+const BACK_SCRIPT: &str =
+    "turn 30\nback 2\nrawmem 10 1\nlast 1004\nheld\nuntil 1008\nheld\nwho 10\nback 9\nwho 10\n";
+
+const BACK_TEXT: &str = "#point 3 flush 0000100C 00000000 001F2002
+#g 00000000 00000000 00000000 00000000 00000000 00000000 00000000 00000000 00000000 00000000 00000000 00000000 00000000 00000000 00000000 00000040
+#l 00000000 00000080 00000000 00000000 00000000 00000000 00000000 00000000 00000000 00000000 00000000 00000000 00000000 00000000 00000000 00000000
+#point 5 end 00001018 00000000 001F2002
+#g 00000000 00000000 00000000 00000000 00000000 E0000000 00000000 00000000 00000000 00000000 00000000 00000000 00000000 00000000 00000000 00000040
+#l 00000000 00000080 00000000 00000000 00000000 00000000 00000000 00000000 00000000 00000000 00000000 00000000 00000000 00000000 00000000 00000000
+#end exit 00000000
+#turn 25 5
+#turn 6 3
+#rawmem 00000010 00
+#turn 1 1
+#held 5 0
+#turn 2 2
+#held 5 1 00000000
+#who 2 00001004
+#turn 1 0
+#who none
 ";
 
 #[test]
@@ -219,59 +253,55 @@ fn tells_what_is_asked(rt: HostRuntime) -> Result<(), Fail> {
         (
             PACKET.as_slice(),
             0u8,
-            5u64,
             PACKET_SCRIPT,
             SessionEnd::Done,
             PACKET_TEXT,
         ),
         // An instruction stops, and not its turn; then the rest of that is run.
+        (&PACKET, 0, "until 1008\n", SessionEnd::Done, "#turn 2 2\n"),
         (
             &PACKET,
             0,
-            5,
-            "until 1008\n",
-            SessionEnd::Done,
-            "#turn 2 2\n",
-        ),
-        (
-            &PACKET,
-            0,
-            5,
             "until 1008\nturn 1\n",
             SessionEnd::Done,
             "#turn 2 2\n#turn 3 4\n",
         ),
-        (&PACKET, 0, 5, "", SessionEnd::Done, ""),
+        (&PACKET, 0, "", SessionEnd::Done, ""),
         (
             &FLUSH,
             0,
-            3,
             FLUSH_SCRIPT,
-            SessionEnd::Stopped(End::Limit),
+            SessionEnd::Stopped(End::Exit(0)),
             FLUSH_TEXT,
         ),
         (
             &SPILL,
             1,
-            4,
             SPILL_SCRIPT,
-            SessionEnd::Stopped(End::Limit),
+            SessionEnd::Stopped(End::Exit(0)),
             SPILL_TEXT,
         ),
         // With two sets both frames are held, the youngest first.
         (
             &SPILL,
             2,
-            4,
             "turn 6\nheld\n",
             SessionEnd::Done,
             "#turn 7 3\n#held 2 2 00000040 00000000\n",
         ),
+        // Back over the spill, with one set.
+        (
+            &SPILL,
+            1,
+            "turn 6\nheld\nback 1\nheld\nturn 4\nheld\n",
+            SessionEnd::Done,
+            "#turn 7 3\n#held 1 1 00000040\n#turn 2 2\n#held 1 1 00000000\n#turn 6 2\n#held 1 1 00000000\n",
+        ),
+        (&FLUSH, 0, BACK_SCRIPT, SessionEnd::Done, BACK_TEXT),
     ];
-    for (program, sets, length, script, end, text) in rows {
+    for (program, sets, script, end, text) in rows {
         let image = image_of(rt.alloc(), program)?;
-        let length = length.min(100);
-        let (answer, sink) = session_of(rt.alloc(), &image, sets, length, script)?;
+        let (answer, sink) = session_of(rt.alloc(), &image, sets, script, 0)?;
         assert_eq!(rt; answer, end, "of {script}");
         assert!(rt; holds(&sink, text), "of {script}");
     }
@@ -285,20 +315,17 @@ fn holds_as_many_frames_as_a_new_start_asks_for(rt: HostRuntime) -> Result<(), F
     let prcb = [0x900, 0xA00, 0, 0x4000_0000, 0x2000, 0xB00, 0, 0x3000, 0, 0];
     put_words(&mut image, 0x800, &prcb)?;
     put_words(&mut image, 0xC1C, &[0x5000, 0, 15])?;
-    let (answer, sink) = session_of(rt.alloc(), &image, 0, 100, "until 1200\nheld\n")?;
+    let (answer, sink) = session_of(rt.alloc(), &image, 0, "until 1200\nheld\n", 0)?;
     assert_eq!(rt; answer, SessionEnd::Done);
     assert!(rt; holds(&sink, "#turn 4 4\n#held 15 0\n"));
     Ok(())
 }
 
+// The third write fails, that of the globals of the drained point, which is printed at the end of turn 6.
 #[test]
-fn goes_on_where_a_session_stopped(rt: HostRuntime) -> Result<(), Fail> {
-    let alloc = rt.alloc();
-    let image = image_of(alloc, &FLUSH)?;
-    let mut run = run_of(alloc, &image, None, 3)?;
-    // The third write fails, that of the globals of the drained point, which is printed at the end of turn 6.
-    let mut sink = sink_failing(alloc, 3)?;
-    let answer = answer_of(alloc, &mut run, "turn 2\nturn 20\nheld\n", &mut sink)?;
+fn stops_where_a_write_fails(rt: HostRuntime) -> Result<(), Fail> {
+    let image = image_of(rt.alloc(), &FLUSH)?;
+    let (answer, sink) = session_of(rt.alloc(), &image, 0, "turn 2\nturn 20\nheld\n", 3)?;
     assert_eq!(rt; answer, SessionEnd::Write);
     assert!(rt;
         holds(
@@ -306,15 +333,5 @@ fn goes_on_where_a_session_stopped(rt: HostRuntime) -> Result<(), Fail> {
             "#turn 3 2\n#point 3 flush 0000100C 00000000 001F2002\n"
         )
     );
-    // The next session begins at turn 7, and one behind the end tells what stands there.
-    let mut sink = sink_failing(alloc, 0)?;
-    let answer = answer_of(alloc, &mut run, "turn 16\nheld\n", &mut sink)?;
-    assert_eq!(rt; answer, SessionEnd::Done);
-    assert!(rt; holds(&sink, "#turn 23 3\n#held 5 0\n"));
-    let _ = answer_of(alloc, &mut run, "turn 1\n", &mut sink)?;
-    let mut sink = sink_failing(alloc, 0)?;
-    let answer = answer_of(alloc, &mut run, "mem 10 1\n", &mut sink)?;
-    assert_eq!(rt; answer, SessionEnd::Stopped(End::Limit));
-    assert!(rt; holds(&sink, "#mem 00000010 05\n"));
     Ok(())
 }

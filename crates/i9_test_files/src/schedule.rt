@@ -168,7 +168,15 @@ fn prints_what_it_reads(rt: HostRuntime) -> Result<(), Fail> {
         schedule.step();
     }
     assert!(rt; schedule.next().is_none());
+    let behind = schedule.place();
+    assert_eq!(rt; behind, 8);
+    // Back to the first event, and to where it stood.
+    schedule.rewind();
+    assert_eq!(rt; schedule.place(), 0);
+    assert!(rt; schedule.next().is_some());
+    schedule.seek(behind);
     assert_eq!(rt; schedule.place(), 8);
+    assert!(rt; schedule.next().is_none());
     Ok(())
 }
 

@@ -14,7 +14,7 @@ fn refusal(alloc: Global, text: &[u8]) -> Result<Option<(u64, u8)>, LineError> {
 // Each text is worked by hand: the first line at fault, with the least kind that applies to it.
 #[test]
 fn refuses_the_first_line_at_fault(rt: HostRuntime) -> Result<(), Fail> {
-    let rows: [(&[u8], Option<(u64, u8)>); 60] = [
+    let rows: [(&[u8], Option<(u64, u8)>); 78] = [
         // Lines without words and comments say nothing; one carriage return is dropped.
         (b"", None),
         (b"#\n# frob\r\n \t\n\n\r\nregs\r\n\tturn\t5  ", None),
@@ -50,6 +50,26 @@ fn refuses_the_first_line_at_fault(rt: HostRuntime) -> Result<(), Fail> {
         (b"until g", Some((1, 2))),
         (b"until", Some((1, 2))),
         (b"until 0 1", Some((1, 2))),
+        // Instructions to go back by, in one to ten digits from 1 to 10,000,000.
+        (b"back 1\nback 10000000\nback 0010000000", None),
+        (b"back 0", Some((1, 2))),
+        (b"back 10000001", Some((1, 2))),
+        (b"back 00000000001", Some((1, 2))),
+        (b"back", Some((1, 2))),
+        (b"back 1 2", Some((1, 2))),
+        (b"back a", Some((1, 2))),
+        (b"back1", Some((1, 1))),
+        // The address of a last arrival, and of a byte, as one to run to.
+        (b"last 0\nlast FFFFFFFF\nlast 0000000a", None),
+        (b"last 100000000", Some((1, 2))),
+        (b"last", Some((1, 2))),
+        (b"last 0 1", Some((1, 2))),
+        (b"lasts 0", Some((1, 1))),
+        (b"who 0\nwho FFFFFFFF\nwho 0000000a", None),
+        (b"who 000000000", Some((1, 2))),
+        (b"who g", Some((1, 2))),
+        (b"who", Some((1, 2))),
+        (b"who 0 1", Some((1, 2))),
         // No operands.
         (b"regs 1", Some((1, 2))),
         (b"raw 1", Some((1, 2))),
@@ -92,7 +112,7 @@ fn refuses_the_first_line_at_fault(rt: HostRuntime) -> Result<(), Fail> {
 // Each command once, and the operands at both ends of their ranges, in the order of the lines.
 #[test]
 fn reads_commands_in_order(rt: HostRuntime) -> Result<(), Fail> {
-    let rows: [(&[u8], Command); 12] = [
+    let rows: [(&[u8], Command); 17] = [
         (b"turn 1\n", Command::Turn(1)),
         (b"\n# a\n turn\t0001000000 \r\n", Command::Turn(1_000_000)),
         (b"until 0\n", Command::Until(0)),
@@ -104,6 +124,11 @@ fn reads_commands_in_order(rt: HostRuntime) -> Result<(), Fail> {
         (b"mem FFFFFFFF 0064\n", Command::Mem(0xFFFF_FFFF, 64)),
         (b"rawmem 10 16\n", Command::RawMem(0x10, 16)),
         (b"rawmem 0 64\n", Command::RawMem(0, 64)),
+        (b"back 1\n", Command::Back(1)),
+        (b"\tback 10000000\r\n", Command::Back(10_000_000)),
+        (b"last 1008\n", Command::Last(0x1008)),
+        (b"who ffffffff\n", Command::Who(0xFFFF_FFFF)),
+        (b"who 0\n", Command::Who(0)),
         (b"turn 10", Command::Turn(10)),
     ];
     let mut text = Vec::new(rt.alloc());
@@ -112,7 +137,7 @@ fn reads_commands_in_order(rt: HostRuntime) -> Result<(), Fail> {
     }
     let script = read_script(rt.alloc(), &text)?;
     let commands = script.commands();
-    assert_eq!(rt; commands.len(), 12);
+    assert_eq!(rt; commands.len(), 17);
     let mut place = 0usize;
     for (_, command) in rows {
         assert_eq!(rt; commands.get(place).copied(), Some(command));

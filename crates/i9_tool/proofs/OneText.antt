@@ -10,6 +10,7 @@ use Rattle.i9_course.proofs.Ahead.{ahead_later}
 use Rattle.i9_machine.specs.Turned.{steps_on}
 use Rattle.i9_script.specs.declared.command.Command.{Command}
 use Rattle.i9_script.specs.declared.command.Command.TheVariants as commands
+use Rattle.i9_debug.proofs.Returning.{one_back}
 use Rattle.i9_debug.specs.Session.{Place, at, ended, turn_ahead, comes_to, NoneComesTo, IssueBelow, EndsBehind, ending_lines, TurnsTo, turns_pass, turns_end, ComesTo, comes, none_comes, Stays, UnlessOver, Runs, told, Answers, IsText, no_command, next_command}
 use Rattle.i9_debug.proofs.Places.{record_issues}
 
@@ -220,6 +221,9 @@ module _ (g : Given) where
   one_run commands.Held p q r x y s t = one_stay p q r x y s t
   one_run (commands.Mem a n) p q r x y s t = one_stay p q r x y s t
   one_run (commands.RawMem a n) p q r x y s t = one_stay p q r x y s t
+  one_run (commands.Back n) p q r x y s t = (s.0 ∙ sym t.0, one_back g _ q r s.1 t.1)
+  one_run (commands.Last a) p q r x y s t = (s.0 ∙ sym t.0, one_back g _ q r s.1 t.1)
+  one_run (commands.Who a) p q r x y s t = one_stay p q r x y s t
 
   one_answer : (c : Command) (p q r : Place) (x y : List ℕ) → Answers g c p x q → Answers g c p y r → Same x y q r
   one_answer c p q r x y s t =

@@ -34,7 +34,7 @@ use Rattle.i9_debug.specs.Print.{Account, Prints}
 use Rattle.i9_debug.specs.Session.{at, end_at}
 use Rattle.i9_debug.specs.Driven.{RunsScript, printed_of as session_printed}
 use Rattle.i9_debug.proofs.Prints.{prints_same}
-use Rattle.i9_debug.proofs.Commands.{script_leads}
+use Rattle.i9_debug.proofs.Commands.{start_place, script_leads}
 use Rattle.i9_machine.specs.declared.machine.Machine.{Machine}
 use Rattle.i9_schedule.specs.Plan.{Plan}
 use Rattle.i9_generator.specs.Generator.{generated_source, generated_schedule}
@@ -99,7 +99,7 @@ pub some_commands : (sets : Option ℕ) (pairs : List (ℕ × ℕ)) (events : Li
 some_commands sets pairs events commands limits =
     let g = given pairs events MAX_LENGTH sets in
     let ranges = recursion_from_All IsCommandInRange commands limits.each in
-    let leads = script_leads g commands (at [] 1) ranges (tt, omega arith) in
+    let leads = script_leads g commands (at [] 1) ranges (start_place g) in
     (driven_code (end_at leads.1), leads.0, drives leads.0 leads.1 leads.2)
 
 pub some_script : (sets : Option ℕ) (pairs : List (ℕ × ℕ)) (events : List Timed) (file : List ℕ) (commands : List ScriptCommand) → IsAccepted Script file commands

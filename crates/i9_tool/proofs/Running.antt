@@ -199,7 +199,7 @@ module _ (allows : ℕ → Bool → Type 0) where
       cut_by answer last x cut few stands follows traced p = record {
         traces = behind_record answer (last ++ rs) (inv.text ++ x) a c cut stands.past traced (behind (printed_of answer) x p);
         place = at (steps (last ++ rs)) m.turn;
-        stands = record { stands = stands; turn = refl; follows = follows };
+        stands = record { stands = stands; turn = refl; follows = follows; events = follows.events };
         stopped = on_cut (printed_of answer) _ (record {
           whole = inv.text;
           rest = x;
@@ -228,7 +228,7 @@ module _ (allows : ℕ → Bool → Type 0) where
               prints = behind (printed_of answer) last said;
             };
             place = ended (steps rs) m.turn d.finish;
-            stands = record { stands = d.stands; turn = refl; follows = tt };
+            stands = record { stands = d.stands; turn = refl; follows = tt; events = d.follows.events };
             stopped = on_cut (printed_of answer) _ (record {
               whole = inv.text;
               rest = last;

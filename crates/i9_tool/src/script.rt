@@ -57,7 +57,9 @@ fn run_script<K: Sink>(
     ensures read { result.code ≢ 5 }
 {
     match Machine::new(alloc, image, sets, MAX_LENGTH) {
-        Ok(mut machine) => status_of_session(session(alloc, &mut machine, plan, script, out)),
+        Ok(mut machine) => {
+            status_of_session(session(alloc, image, sets, &mut machine, plan, script, out))
+        }
         Err(_) => Status { code: 7 },
     }
 }

@@ -1,26 +1,53 @@
-use Rattle.std.proofs.Common.{◌≡◌, ◌∙◌, sym, Option, None, subst}
-use Rattle.i9_model.specs.Run.{Finish}
-use Rattle.i9_machine.specs.StandsFor.{StandsFor, FollowsUntil}
-use Rattle.i9_debug.proofs.Commands.{runs_from, on_its_way, stays_there, over_stays, none_ended, some_ended}
+use Rattle.std.proofs.Common.{refl}
+use Rattle.i9_debug.specs.Driven.{in_run, not_back, not_last}
+use Rattle.i9_debug.proofs.Returning.{back_leads, last_leads}
+use Rattle.i9_debug.proofs.Commands.{drives_as, place_in_run, stays_there, went_back}
 use Rattle.i9_debug.proofs.sessions.run_command.Goals as goal
 
-pub run_on-requires : goal.run_on-requires
-run_on-requires g c =
+pub turn_on-requires : goal.turn_on-requires
+turn_on-requires g c =
     let r = c.requires.stands in
-    record {
-      stands = on_its_way c.args.m.now c.args.plan.now r (none_ended r.end (sym (c.ended.ensures r.given r.items r.end r.stands) ∙ c.in-None.is));
-      range = c.requires.range;
-    }
+    record { stands = place_in_run r.given r.place c.args.m.now c.args.plan.now r.stands; some = (rw c.in-Turn.is at c.requires.range).0 }
 
-pub returns-in-None : goal.returns-in-None
-returns-in-None g c = λ what p at_place.
-    let none : p.end ≡ None = none_ended p.end (sym (c.ended.ensures what p.items p.end at_place.stands) ∙ c.in-None.is) in
-    let stands = subst (λ (e : Option Finish). StandsFor what p.items e c.args.m.now) none at_place.stands in
-    let follows = subst (λ (e : Option Finish). FollowsUntil what p.items e c.args.plan.now) none at_place.follows in
-    runs_from _ what c.args.c.now p c.args.m.now.turn _ _ _ _ _ none at_place.turn
-    (c.run_on.ensures what p.items stands follows)
+pub come_to-requires : goal.come_to-requires
+come_to-requires g c =
+    let r = c.requires.stands in
+    record { stands = place_in_run r.given r.place c.args.m.now c.args.plan.now r.stands }
 
-pub returns-in-Some : goal.returns-in-Some
-returns-in-Some g c = λ what p at_place.
-    let over = some_ended p.end _ (sym (c.ended.ensures what p.items p.end at_place.stands) ∙ c.in-Some.is) in
-    stays_there _ what c.args.c.now p _ _ _ (over_stays what c.args.c.now p over.0 over.1) at_place
+pub returns-in-Turn : goal.returns-in-Turn
+returns-in-Turn g c = λ what p of is at_place.
+    drives_as _ what _ _ _ _ _ _ _ _ _ (λ x q leads. rw c.in-Turn.is leads) (λ x y q cut. rw c.in-Turn.is (in_run _ x y q cut))
+    (c.turn_on.ensures what p at_place)
+
+pub returns-in-Until : goal.returns-in-Until
+returns-in-Until g c = λ what p of is at_place.
+    drives_as _ what _ _ _ _ _ _ _ _ _ (λ x q leads. rw c.in-Until.is leads) (λ x y q cut. rw c.in-Until.is (in_run _ x y q cut))
+    (c.come_to.ensures what p at_place)
+
+pub returns-in-Back : goal.returns-in-Back
+returns-in-Back g c = λ what p of is at_place.
+    went_back _ what c.back_by.result _ _ p _ _ _ _ _ _ _ c.gone.ensures.done c.gone.ensures.refused (λ q back. rw c.in-Back.is (refl, back))
+    (back_leads what p _ is) (rw c.in-Back.is (not_back _)) at_place (c.back_by.ensures what p of is at_place)
+
+pub returns-in-Last : goal.returns-in-Last
+returns-in-Last g c = λ what p of is at_place.
+    went_back _ what c.back_to.result _ _ p _ _ _ _ _ _ _ c.gone-in-Last.ensures.done c.gone-in-Last.ensures.refused (λ q back. rw c.in-Last.is (refl, back))
+    (last_leads what p _ is) (rw c.in-Last.is (not_last _)) at_place (c.back_to.ensures what p of is at_place)
+
+pub returns-in-Regs : goal.returns-in-Regs
+returns-in-Regs g c = λ what p of is at_place. stays_there _ what _ _ p _ _ _ (rw c.in-Regs.is (refl, refl)) at_place
+
+pub returns-in-Raw : goal.returns-in-Raw
+returns-in-Raw g c = λ what p of is at_place. stays_there _ what _ _ p _ _ _ (rw c.in-Raw.is (refl, refl)) at_place
+
+pub returns-in-Held : goal.returns-in-Held
+returns-in-Held g c = λ what p of is at_place. stays_there _ what _ _ p _ _ _ (rw c.in-Held.is (refl, refl)) at_place
+
+pub returns-in-Mem : goal.returns-in-Mem
+returns-in-Mem g c = λ what p of is at_place. stays_there _ what _ _ p _ _ _ (rw c.in-Mem.is (refl, refl)) at_place
+
+pub returns-in-RawMem : goal.returns-in-RawMem
+returns-in-RawMem g c = λ what p of is at_place. stays_there _ what _ _ p _ _ _ (rw c.in-RawMem.is (refl, refl)) at_place
+
+pub returns-in-Who : goal.returns-in-Who
+returns-in-Who g c = λ what p of is at_place. stays_there _ what _ _ p _ _ _ (rw c.in-Who.is (refl, refl)) at_place

@@ -1,0 +1,136 @@
+-- A machine that goes on from an earlier state to a later one.
+use Rattle.std.proofs.Common.{◌≡◌, ℕ, ◌+◌, ◌<◌, ◌≤◌, List, [], ◌∷◌, None, refl, sym, ap, ◌∙◌, subst, arith}
+use Rattle.i9_model.specs.declared.run.End.{End}
+use Rattle.i9_model.specs.State.{State}
+use Rattle.i9_model.specs.Run.{Given, Kind, Instruction, Faulted, Entered, Interrupted, Reached, Record, counts_of, state_after}
+use Rattle.i9_schedule.specs.Plan.{Plan}
+use Rattle.i9_course.specs.Course.{ahead, issue_of_next}
+use Rattle.i9_course.specs.LateRun.{steps, IsLatePast}
+use Rattle.i9_course.proofs.Ahead.{ahead_precise}
+use Rattle.i9_machine.specs.declared.line.Line.{Line}
+use Rattle.i9_machine.specs.declared.line.Issued.{Issued}
+use Rattle.i9_machine.specs.declared.line.Turn.{Turn}
+use Rattle.i9_machine.specs.declared.line.Turn.TheVariants as answers
+use Rattle.i9_machine.specs.declared.machine.Machine.{Machine}
+use Rattle.i9_machine.specs.StandsFor.{StandsFor, Follows, IsUnderWay, Comes}
+use Rattle.i9_machine.specs.Step.{TellsRecord}
+use Rattle.i9_back.specs.Earlier.{EndsAt, IsEarlier, HasInstructions, issue_of}
+use Rattle.i9_back.specs.Stands.{StandsEarlier}
+use Rattle.i9_back.proofs.Earlier.{record_after, earlier_count, ended_whole}
+
+-- what is told as an instruction is one
+pub issued_counts : (kind : Kind) (s : State) (t : Issued) → TellsRecord kind s (answers.Issued t) → counts_of kind ≡ 1
+issued_counts (Instruction i) s t h = refl
+issued_counts (Faulted inst fault) s t h = refl
+issued_counts (Entered e) s t h = absurd h
+issued_counts (Interrupted c e) s t h = absurd h
+issued_counts (Reached e u) s t h = absurd h
+
+-- and nothing else is
+pub on_counts : (kind : Kind) (s : State) → TellsRecord kind s answers.On → counts_of kind ≡ 0
+on_counts (Instruction i) s h = absurd h
+on_counts (Faulted inst fault) s h = absurd h
+on_counts (Entered e) s h = refl
+on_counts (Interrupted c e) s h = refl
+on_counts (Reached e u) s h = refl
+
+-- a record issues at the turn of what lies ahead of it
+pub record_issues : (g : Given) (rs : List Record) (r : Record) → IsLatePast g (r ∷ rs) → issue_of g (r ∷ rs) ≡ (ahead g (steps rs)).turn
+record_issues g rs r late = sym (ahead_precise g (steps rs) late.1 ∙ ap (issue_of_next g (steps rs)) late.2)
+
+-- These records, with so many instructions, were done on the way to the state after more; with as many it is that state.
+pub record GoingAt (g : Given) (records : List Record) (done to : ℕ) (m : Machine) (plan : Plan) : Type 0 where
+  pub stands : StandsFor g (steps records) None m
+  pub follows : Follows g (steps records) plan
+  pub count : (state_after g records).count ≡ done
+  pub within : done ≤ to
+  pub there : done ≡ to → EndsAt to records × (m.turn ≡ issue_of g records)
+
+abbrev pub Going : Given → ℕ → ℕ → Machine → Plan → Type 0
+Going g done to m plan = (rs : List Record) × GoingAt g rs done to m plan
+
+-- a new machine stands for the start of its run
+abbrev pub new_stands : (g : Given) (m : Machine) (plan : Plan) → StandsFor g [] None m → m.turn ≡ 1 → plan.events ≡ g.plan → plan.place ≡ 0
+    → StandsEarlier g 0 m plan
+new_stands g m plan stands turn events place = record {
+  records = [];
+  earlier = record { past = tt; last = refl };
+  turn = turn;
+  stands = stands;
+  follows = record { events = events; place = place };
+}
+
+module _ (g : Given) where
+  pub going_begins : (from to : ℕ) (m : Machine) (plan : Plan) → from ≤ to → (s : StandsEarlier g from m plan) → GoingAt g s.records from to m plan
+  going_begins from to m plan le s = record {
+    stands = s.stands;
+    follows = s.follows;
+    count = earlier_count g from s.records s.earlier.last;
+    within = le;
+    there = λ same. (subst (λ (n : ℕ). EndsAt n s.records) same s.earlier.last, s.turn);
+  }
+
+  module _ (rs : List Record) (done to : ℕ) (m : Machine) (plan : Plan) (s : GoingAt g rs done to m plan) where
+    pub earlier_there : to ≤ done → IsEarlier g to rs
+    earlier_there le =
+        let within = s.within in
+        record { past = s.stands.past; last = (s.there (omega (arith, le, within))).0 }
+
+    pub going_there : to ≤ done → StandsEarlier g to m plan
+    going_there le =
+        let within = s.within in
+        record {
+          records = rs;
+          earlier = earlier_there le;
+          turn = (s.there (omega (arith, le, within))).1;
+          stands = s.stands;
+          follows = s.follows;
+        }
+
+    pub under_way : IsUnderWay m plan
+    under_way = record { given = g; items = steps rs; stands = s.stands; follows = s.follows }
+
+  module _ (rs : List Record) (done to : ℕ) (was : Machine) (old_plan : Plan) (s : GoingAt g rs done to was old_plan)
+      (before m : Machine) (plan : Plan) (old new : List Line) where
+    -- an event or an entry
+    pub on_goes : done < to → (d : Comes g (steps rs) answers.On before m plan old new) → GoingAt g (d.done ∷ rs) done to m plan
+    on_goes below d =
+        let none = on_counts d.done.kind d.done.before d.tells in
+        let count = (record_after g rs d.done d.stands.past).1 in
+        let so_far = s.count in
+        record {
+          stands = d.stands;
+          follows = d.follows;
+          count = omega (arith, count, none, so_far);
+          within = s.within;
+          there = λ same. absurd (omega (arith, below, same));
+        }
+
+    -- an instruction
+    pub issued_goes : done < to → (t : Issued) → (d : Comes g (steps rs) (answers.Issued t) before m plan old new) → GoingAt g (d.done ∷ rs) (done + 1) to m plan
+    issued_goes below t d =
+        let one = issued_counts d.done.kind d.done.before t d.tells in
+        let count = (record_after g rs d.done d.stands.past).1 in
+        let so_far = s.count in
+        let after : d.done.after.count ≡ done + 1 = omega (arith, count, one, so_far) in
+        record {
+          stands = d.stands;
+          follows = d.follows;
+          count = after;
+          within = omega (arith, below);
+          there = λ same. ((one, after ∙ same), d.turn ∙ sym d.now ∙ sym (record_issues g rs d.done d.stands.past));
+        }
+
+    -- no end comes before
+    pub no_end : done < to → HasInstructions g to → (f : End) → Comes g (steps rs) (answers.End f) before m plan old new → ⊥
+    no_end below has f d =
+        let reached = ended_whole g rs d.finish to s.stands.past d.is_end has in
+        let so_far = s.count in
+        omega (arith, below, reached, so_far)
+
+    -- the events of the schedule stay
+    pub same_events : (answer : Turn) → Comes g (steps rs) answer before m plan old new → plan.events ≡ old_plan.events
+    same_events answers.On d = d.follows.events ∙ sym s.follows.events
+    same_events (answers.Issued t) d = d.follows.events ∙ sym s.follows.events
+    same_events (answers.End f) d = d.follows.events ∙ sym s.follows.events
+    same_events answers.Memory d = d.follows.events ∙ sym s.follows.events

@@ -1,0 +1,229 @@
+-- Going back from a place of a run without marks leads to one place, and what was asked before it.
+use Rattle.std.proofs.Common.{◌≡◌, ℕ, ◌+◌, ◌-◌, ◌<◌, ◌≤◌, ◌&&◌, cond, Bool, true, false, nat_eq, nat_lt, not, List, [], ◌∷◌, ◌++◌, Option, Some, None, Result, Ok, Err, OnOk, OnErr, IfOk, refl, sym, ap, ◌∙◌, subst, ◌⊎◌, inl, inr, arith}
+use Rattle.std.specs.List.{AllByRecursion}
+use Rattle.std.proofs.lemmas.Bool.{lt-ltb, le-ltb}
+use Rattle.i9_model.specs.declared.event.Timed.{Timed}
+use Rattle.i9_model.specs.declared.layout.TheConstants.{MAX_LENGTH}
+use Rattle.i9_model.specs.declared.view.View.{View}
+use Rattle.i9_model.specs.Given.{given}
+use Rattle.i9_model.specs.Image.{Part, pairs_of}
+use Rattle.i9_model.specs.Overlay.{overlay}
+use Rattle.i9_model.specs.PrintedText.{view_of}
+use Rattle.i9_model.specs.Run.{Given, Record, counts_of, state_after}
+use Rattle.i9_course.specs.Course.{records_of}
+use Rattle.i9_course.specs.LateRun.{steps, IsLatePast}
+use Rattle.i9_course.proofs.LateRuns.{records_of-steps}
+use Rattle.i9_schedule.specs.Plan.{Plan}
+use Rattle.i9_machine.specs.declared.machine.Machine.{Machine}
+use Rattle.i9_back.specs.Earlier.{HasInstructions, IsEarlier, issue_of}
+use Rattle.i9_back.specs.Stands.{StandsEarlier, same_byte, last_change, IsLastChange}
+use Rattle.i9_back.proofs.Earlier.{record_after, one_or_none, none_done, rises, one_earlier, has_earlier}
+use Rattle.i9_debug.specs.Last.{IsLast, IsLastIn}
+use Rattle.i9_debug.specs.Session.{Place, at, comes_to, count_at, IsBack, last_arrival}
+use Rattle.i9_debug.specs.Driven.{StandsAt, IsOf, IsPlace, IsDebugged, GoneBack, given_of}
+
+-- ---- what is given
+
+pub same_given : (image : List Part) (sets : Option ℕ) (g : Given) (plan : Plan) → IsOf image sets g → plan.events ≡ g.plan → given_of image sets plan ≡ g
+same_given image sets g plan of events = ap (λ (es : List Timed). given (pairs_of image) es MAX_LENGTH sets) events ∙ sym of
+
+-- ---- each earlier state is one place
+
+pub one_back : (g : Given) (c : ℕ) (q r : Place) → IsBack g c q → IsBack g c r → q ≡ r
+one_back g c q r a b =
+    a.is ∙ ap (λ (rs : List Record). at (steps rs) (issue_of g rs)) (one_earlier g c a.records b.records a.earlier b.earlier) ∙ sym b.is
+
+some_back : (g : Given) (c : ℕ) → HasInstructions g c → (q : Place) × IsBack g c q
+some_back g c has =
+    let e = has_earlier g c has in
+    (at (steps e.0) (issue_of g e.0), record { records = e.0; earlier = e.1; is = refl })
+
+-- and so are the items there
+pub back_place : (g : Given) (c : ℕ) (q : Place) → IsBack g c q → IsPlace g q
+back_place g c q b =
+    subst (IsPlace g) (sym b.is) (record { records = b.records; are = refl; past = b.earlier.past; begun = omega arith })
+
+-- what a place counts is what its records do
+place_count : (g : Given) (p : Place) → (is : IsPlace g p) → count_at g p ≡ (state_after g is.records).count
+place_count g p is =
+    ap (λ h. (state_after g (records_of h)).count) is.are ∙ ap (λ (qs : List Record). (state_after g qs).count) (records_of-steps is.records)
+
+-- a place has as many instructions as it counts, and fewer
+pub place_has : (g : Given) (p : Place) (c : ℕ) → IsPlace g p → c ≤ count_at g p → HasInstructions g c
+place_has g p c is le =
+    let same : count_at g p ≡ (state_after g is.records).count = place_count g p is in
+    record { records = is.records; past = is.past; reaches = omega (arith, le, same) }
+
+-- what is arrived at last lies before
+pub arrival_below : (a n : ℕ) (rs : List Record) → last_arrival a n rs ≤ n
+arrival_below a n [] = omega arith
+arrival_below a n (r ∷ rs) = by_test (comes_to a r) (nat_lt r.after.count n) refl (arrival_below a n rs)
+  where
+    by_test : (b c : Bool) → nat_lt r.after.count n ≡ c → last_arrival a n rs ≤ n → cond (b && c) r.after.count (last_arrival a n rs) ≤ n
+    by_test true true is before = grind (arith, is)
+    by_test true false is before = before
+    by_test false true is before = before
+    by_test false false is before = before
+
+-- so each command that goes back has a place
+pub back_leads : (g : Given) (p : Place) (k : ℕ) → IsPlace g p → (q : Place) × IsBack g (count_at g p - k) q
+back_leads g p k is = some_back g (count_at g p - k) (place_has g p (count_at g p - k) is (omega arith))
+
+pub last_leads : (g : Given) (p : Place) (a : ℕ) → IsPlace g p → (q : Place) × IsBack g (last_arrival a (count_at g p) (records_of p.items)) q
+last_leads g p a is =
+    let c = last_arrival a (count_at g p) (records_of p.items) in
+    some_back g c (place_has g p c is (arrival_below a (count_at g p) (records_of p.items)))
+
+-- ---- behind the last instruction of a place nothing arrives anywhere, and no step of an instruction changes a byte
+
+-- records that are no instructions
+abbrev NoneCounts : List Record → Type 0
+NoneCounts zs = AllByRecursion (λ r. counts_of r.kind ≡ 0) zs
+
+-- the last instruction of records, and those behind it
+last_of : (g : Given) (n : ℕ) (qs : List Record) → IsLatePast g qs → (state_after g qs).count ≡ n
+    → (zs : List Record) × (rs : List Record) × IsEarlier g n rs × (zs ++ rs ≡ qs) × NoneCounts zs
+last_of g n [] late is = ([], [], record { past = tt; last = sym is ∙ none_done g }, refl, tt)
+last_of g n (r ∷ rs) late is =
+    let count = (record_after g rs r late).1 in
+    elim (one_or_none r.kind) [
+      | inl one ↦ ([], r ∷ rs, record { past = late; last = (one, is) }, refl, tt)
+      | inr none ↦
+          let before : (state_after g rs).count ≡ n = omega (arith, count, none, is) in
+          let on = last_of g n rs late.0 before in
+          (r ∷ on.0, on.1, on.2, ap (λ (xs : List Record). r ∷ xs) on.3, (none, on.4))
+    ]
+
+-- the records of a place are those of its earlier state, and others that are no instructions
+place_earlier : (g : Given) (p : Place) (rs : List Record) → IsPlace g p → IsEarlier g (count_at g p) rs
+    → (zs : List Record) × (records_of p.items ≡ zs ++ rs) × NoneCounts zs
+place_earlier g p rs is earlier =
+    let on = last_of g (count_at g p) is.records is.past (sym (place_count g p is)) in
+    let same : on.1 ≡ rs = one_earlier g (count_at g p) on.1 rs on.2 earlier in
+    (on.0, ap records_of is.are ∙ records_of-steps is.records ∙ sym on.3 ∙ ap (λ (xs : List Record). on.0 ++ xs) same, on.4)
+
+arrival_later : (a n : ℕ) (zs rs : List Record) → NoneCounts zs → last_arrival a n (zs ++ rs) ≡ last_arrival a n rs
+arrival_later a n [] rs none = refl
+arrival_later a n (z ∷ zs) rs none =
+    ap (λ (k : ℕ). cond ((nat_eq k 1 && nat_eq z.after.ip a) && nat_lt z.after.count n) z.after.count (last_arrival a n (zs ++ rs))) none.0
+    ∙ arrival_later a n zs rs none.1
+
+change_later : (a : ℕ) (zs rs : List Record) → NoneCounts zs → last_change a (zs ++ rs) ≡ last_change a rs
+change_later a [] rs none = refl
+change_later a (z ∷ zs) rs none =
+    ap (λ (k : ℕ). cond (nat_eq k 1 && not (same_byte (overlay z.before a) (overlay z.after a))) (Some (z.after.count, z.before.ip)) (last_change a (zs ++ rs))) none.0
+    ∙ change_later a zs rs none.1
+
+pub place_arrival : (g : Given) (p : Place) (a : ℕ) (rs : List Record) → IsPlace g p → IsEarlier g (count_at g p) rs
+    → last_arrival a (count_at g p) (records_of p.items) ≡ last_arrival a (count_at g p) rs
+place_arrival g p a rs is earlier =
+    let on = place_earlier g p rs is earlier in
+    ap (last_arrival a (count_at g p)) on.1 ∙ arrival_later a (count_at g p) on.0 rs on.2
+
+pub place_change : (g : Given) (p : Place) (a : ℕ) (rs : List Record) → IsPlace g p → IsEarlier g (count_at g p) rs
+    → last_change a rs ≡ last_change a (records_of p.items)
+place_change g p a rs is earlier =
+    let on = place_earlier g p rs is earlier in
+    sym (ap (last_change a) on.1 ∙ change_later a on.0 rs on.2)
+
+-- ---- where a stop at an address held last is the last arrival
+
+at_or_below : (c n : ℕ) → (c ≤ n) ⊎ (n < c)
+at_or_below c n = grind arith
+
+picked : (b : Bool) (x y c : ℕ) → b ≡ true → c ≡ x → c ≡ cond b x y
+picked true x y c is same = same
+picked false x y c is same = absurd (cc is)
+
+passed_by : (b : Bool) (x y c : ℕ) → b ≡ false → c ≡ y → c ≡ cond b x y
+passed_by true x y c is same = absurd (cc is)
+passed_by false x y c is same = same
+
+module _ (allows : View → Bool → Type 0) (address : ℕ) (answers : (v : View) (b : Bool) → allows v b → b ≡ nat_eq v.ip address) (n : ℕ) where
+  -- a record is no arrival that the stop passed
+  no_arrival : (r : Record) → (counts_of r.kind ≡ 1 → r.after.count < n → allows (view_of r.after) false)
+      → (comes_to address r && nat_lt r.after.count n) ≡ false
+  no_arrival r passed = elim (one_or_none r.kind) [
+    | inr none ↦ ap (λ (k : ℕ). (nat_eq k 1 && nat_eq r.after.ip address) && nat_lt r.after.count n) none
+    | inl one ↦ elim (at_or_below n r.after.count) [
+      | inl late ↦
+          ap (λ (k : ℕ). (nat_eq k 1 && nat_eq r.after.ip address) && nat_lt r.after.count n) one
+          ∙ both_false (nat_eq r.after.ip address) (nat_lt r.after.count n) (inr (le-ltb _ _ late))
+      | inr lt ↦
+          ap (λ (k : ℕ). (nat_eq k 1 && nat_eq r.after.ip address) && nat_lt r.after.count n) one
+          ∙ both_false (nat_eq r.after.ip address) (nat_lt r.after.count n) (inl (sym (answers (view_of r.after) false (passed one lt))))
+    ]
+  ]
+    where
+      both_false : (b c : Bool) → (b ≡ false) ⊎ (c ≡ false) → (b && c) ≡ false
+      both_false true true (inl is) = is
+      both_false true true (inr is) = is
+      both_false true false h = refl
+      both_false false true h = refl
+      both_false false false h = refl
+
+  is_arrival : (rs : List Record) (c : ℕ) → IsLast allows n rs c → c ≡ last_arrival address n rs
+  is_arrival [] c is = is
+  is_arrival (r ∷ rs) c (inl w) =
+      let held = answers (view_of r.after) true w.0.2 in
+      let test : (comes_to address r && nat_lt r.after.count n) ≡ true =
+      ap (λ (k : ℕ). (nat_eq k 1 && nat_eq r.after.ip address) && nat_lt r.after.count n) w.0.0
+      ∙ ap (λ (b : Bool). b && nat_lt r.after.count n) (sym held) ∙ lt-ltb _ _ w.0.1 in
+      picked (comes_to address r && nat_lt r.after.count n) r.after.count (last_arrival address n rs) c test w.1
+  is_arrival (r ∷ rs) c (inr w) =
+      passed_by (comes_to address r && nat_lt r.after.count n) r.after.count (last_arrival address n rs) c (no_arrival r w.0) (is_arrival rs c w.1)
+
+  pub answered_arrival : {E : Type 0} (result : Result ℕ E) (g : Given) → IfOk result (λ c. IsLastIn allows g n c)
+      → IfOk result (λ c. (rs : List Record) → IsEarlier g n rs → c ≡ last_arrival address n rs)
+  answered_arrival (Ok c) g is = λ rs earlier.
+      is_arrival is.records c is.is ∙ ap (last_arrival address n) (one_earlier g n is.records rs is.earlier earlier)
+  answered_arrival (Err e) g is = tt
+
+-- ---- what the calls answer at a place
+
+pub answered_change : {E : Type 0} (result : Result (Option (ℕ × ℕ)) E) (g k : Given) (p : Place) (a n : ℕ) (plan : Plan) → IsPlace g p → k ≡ g → n ≡ count_at g p
+    → IfOk result (λ o. IsLastChange k n a o plan) → IfOk result (λ o. o ≡ last_change a (records_of p.items))
+answered_change (Ok o) g k p a n plan is same count found =
+    let earlier : IsEarlier g (count_at g p) found.records =
+    subst (λ (m : ℕ). IsEarlier g m found.records) count (subst (λ (x : Given). IsEarlier x n found.records) same found.earlier) in
+    found.is ∙ place_change g p a found.records is earlier
+answered_change (Err e) g k p a n plan is same count found = tt
+
+-- a machine that stands for an earlier state stands at its place
+back_stands : (g : Given) (c : ℕ) (m : Machine) (plan : Plan) → StandsEarlier g c m plan → (q : Place) × IsBack g c q × StandsAt g q m plan
+back_stands g c m plan s = (
+  at (steps s.records) (issue_of g s.records),
+  record { records = s.records; earlier = s.earlier; is = refl },
+  record { stands = s.stands; turn = s.turn; follows = s.follows; events = s.follows.events },
+)
+
+pub gone_back : {A E : Type 0} (result : Result A E) (g k : Given) (c n : ℕ) (before m : Machine) (was plan : Plan) → k ≡ g → n ≡ c
+    → OnOk result (StandsEarlier k n m plan) → OnErr result ((m ≡ before) × (plan ≡ was)) → GoneBack g c result before m was plan
+gone_back (Ok x) g k c n before m was plan same count stands none = record {
+  gone = back_stands g c m plan (subst (λ (i : ℕ). StandsEarlier g i m plan) count (subst (λ (y : Given). StandsEarlier y n m plan) same stands));
+  same = tt;
+}
+gone_back (Err e) g k c n before m was plan same count stands none = record { gone = tt; same = none }
+
+-- the place of a schedule is that of before
+pub same_plan : (was mid : Plan) (n : ℕ) → mid.events ≡ was.events → n ≡ was.place → record mid { place = n } ≡ was
+same_plan was mid n events place = ap (λ (es : List Timed). record was { events = es; place = n }) events ∙ ap (λ (i : ℕ). record was { place = i }) place
+
+-- what a call answers of the last arrival is that of the place
+pub arrived : (g k : Given) (p : Place) (a n c : ℕ) → IsPlace g p → k ≡ g → n ≡ count_at g p
+    → ((rs : List Record) → IsEarlier k n rs → c ≡ last_arrival a n rs) → c ≡ last_arrival a (count_at g p) (records_of p.items)
+arrived g k p a n c is same count said =
+    let e = has_earlier g (count_at g p) (place_has g p (count_at g p) is (omega arith)) in
+    let earlier : IsEarlier k n e.0 = subst (λ (m : ℕ). IsEarlier k m e.0) (sym count) (subst (λ (x : Given). IsEarlier x (count_at g p) e.0) (sym same) e.1) in
+    said e.0 earlier ∙ ap (λ (m : ℕ). last_arrival a m e.0) count ∙ sym (place_arrival g p a e.0 is e.1)
+
+-- memory was refused before the way back
+pub not_gone : {A E : Type 0} (result : Result A E) (e : E) (g : Given) (c : ℕ) (m : Machine) (was plan : Plan) → result ≡ Err e → plan ≡ was
+    → GoneBack g c result m m was plan
+not_gone result e g c m was plan is same = subst (λ (r : Result _ _). GoneBack g c r m m was plan) (sym is) (record { gone = tt; same = (refl, same) })
+
+-- the same where the schedule was looked at before
+pub gone_back_from : {A E : Type 0} (result : Result A E) (g k : Given) (c n : ℕ) (before m : Machine) (was mid plan : Plan) → mid ≡ was → k ≡ g → n ≡ c
+    → OnOk result (StandsEarlier k n m plan) → OnErr result ((m ≡ before) × (plan ≡ mid)) → GoneBack g c result before m was plan
+gone_back_from result g k c n before m was mid plan kept same count stands none =
+    subst (λ (x : Plan). GoneBack g c result before m x plan) kept (gone_back result g k c n before m mid plan same count stands none)
