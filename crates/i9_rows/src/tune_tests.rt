@@ -28,7 +28,12 @@ mov g4, g5 # 00001004 5CA80614
 ",
     ),
     ("b start\n", "tune a 1000 1", 3, "#block kind 2 00001000\n"),
-    ("mov 1, g4\n", "tune a 1000 2", 3, "#block kind 1 00001004\n"),
+    (
+        "mov 1, g4\n",
+        "tune a 1000 2",
+        3,
+        "#block kind 1 00001004\n",
+    ),
     ("mov 1, g4\n", "tune a 1000 65", 1, "#words\n"),
     ("mov 1, g4\n", "tune a 1000 0", 1, "#words\n"),
     ("mov 1, g4\n", "tune a 1002 1", 1, "#words\n"),

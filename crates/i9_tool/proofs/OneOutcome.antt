@@ -11,7 +11,7 @@ use Rattle.i9_model.specs.PrintedText.{text_of, lines_of, end_lines, end_code}
 use Rattle.i9_model.specs.Image.{Part, pairs_of}
 use Rattle.i9_isa.specs.declared.inst.Inst.{Inst}
 use Rattle.i9_tune.specs.declared.block.BlockFault.{BlockFault}
-use Rattle.i9_tune.specs.Tuning.{fault_line, IsTuning}
+use Rattle.i9_tune.specs.Tuning.{fault_line as block_fault_line, IsTuning}
 use Rattle.i9_tune.proofs.OneText.{image_tunable, one_tuning}
 use Rattle.i9_tool.proofs.Listable.{accepted_bytes}
 use Rattle.i9_model.specs.declared.layout.TheConstants.{MAX_LENGTH}
@@ -104,7 +104,7 @@ same_block : (is js : List Inst) → ◌≡◌ {A = Result (List Inst) BlockFaul
 same_block is js e = cc e
 
 once_tune : (a n : ℕ) (file : List ℕ) (pairs : List (ℕ × ℕ)) → IsAccepted Image file pairs → Once (TuneGives a n pairs)
-once_tune a n file pairs good c d s t p q (no_block f e) (no_block g h) = record { status = refl; text = ap fault_line (same_fault f g (sym e ∙ h)) }
+once_tune a n file pairs good c d s t p q (no_block f e) (no_block g h) = record { status = refl; text = ap block_fault_line (same_fault f g (sym e ∙ h)) }
 once_tune a n file pairs good c d s t p q (no_block f e) (tuned js t' h is) = absurd (cc (sym e ∙ h))
 once_tune a n file pairs good c d s t p q (tuned is s' e one) (no_block g h) = absurd (cc (sym e ∙ h))
 once_tune a n file pairs good c d s t p q (tuned is s' e one) (tuned js t' h other) =

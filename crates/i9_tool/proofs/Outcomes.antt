@@ -10,7 +10,7 @@ use Rattle.i9_model.specs.Writes.{last_put}
 use Rattle.i9_isa.specs.declared.inst.Inst.{Inst}
 use Rattle.i9_tune.specs.declared.block.BlockFault.{BlockFault}
 use Rattle.i9_tune.specs.Reading.{block_at}
-use Rattle.i9_tune.specs.Tuning.{fault_line}
+use Rattle.i9_tune.specs.Tuning.{fault_line as block_fault_line}
 use Rattle.i9_tune.proofs.OneText.{image_tunable, some_tuning}
 use Rattle.i9_model.specs.declared.layout.TheConstants.{MAX_LENGTH}
 use Rattle.i9_model.specs.Run.{state_after, reached_in}
@@ -141,7 +141,7 @@ some_list file = some_kind Image DisGives file (some_dis file)
 
 -- a block of an accepted image may be tuned, or has a first fault
 some_block : (a n : ℕ) (file : List ℕ) (pairs : List (ℕ × ℕ)) (r : Result (List Inst) BlockFault) → IsAccepted Image file pairs → block_at (last_put pairs) n a ≡ r → SomeFor (TuneGives a n pairs)
-some_block a n file pairs (Err fault) good e = (3, fault_line fault, no_block fault e)
+some_block a n file pairs (Err fault) good e = (3, block_fault_line fault, no_block fault e)
 some_block a n file pairs (Ok block) good e =
     let s = some_tuning a block (image_tunable pairs n a block (accepted_bytes file pairs good) e) in
     (0, s.0, tuned block s.0 e s.1)

@@ -13,7 +13,7 @@ use Rattle.i9_model.specs.Writes.{last_put}
 use Rattle.i9_isa.specs.declared.inst.Inst.{Inst}
 use Rattle.i9_tune.specs.declared.block.BlockFault.{BlockFault}
 use Rattle.i9_tune.specs.Reading.{block_at}
-use Rattle.i9_tune.specs.Tuning.{fault_line, IsTuning}
+use Rattle.i9_tune.specs.Tuning.{fault_line as block_fault_line, IsTuning}
 use Rattle.i9_model.specs.declared.layout.TheConstants.{MAX_LENGTH}
 use Rattle.i9_course.specs.LateRun.{IsLateRun}
 use Rattle.i9_hex.specs.Writing.{hex_text}
@@ -92,7 +92,7 @@ pub data DisGives (pairs : List (ℕ × ℕ)) : ℕ → List ℕ → Type 0 wher
 -- The block of so many instructions that stands in an image from an address on is tuned, and its text is printed; or the
 -- line of its first instruction at fault is.
 pub data TuneGives (a n : ℕ) (pairs : List (ℕ × ℕ)) : ℕ → List ℕ → Type 0 where
-  no_block : (fault : BlockFault) → block_at (last_put pairs) n a ≡ Err fault → TuneGives a n pairs 3 (fault_line fault)
+  no_block : (fault : BlockFault) → block_at (last_put pairs) n a ≡ Err fault → TuneGives a n pairs 3 (block_fault_line fault)
   tuned : (block : List Inst) (text : List ℕ) → block_at (last_put pairs) n a ≡ Ok block → IsTuning a block text
       → TuneGives a n pairs 0 text
 

@@ -51,7 +51,12 @@ fn refuse_block<K: Sink>(alloc: Global, fault: &BlockFault, out: &mut K) -> Stat
 }
 
 /// Tunes a block of an image that was accepted, or says which of its instructions is at fault.
-fn tune_accepted<K: Sink>(alloc: Global, image: &Segments, words: &TuneWords<'_>, out: &mut K) -> Status
+fn tune_accepted<K: Sink>(
+    alloc: Global,
+    image: &Segments,
+    words: &TuneWords<'_>,
+    out: &mut K,
+) -> Status
     requires block { IsBlock words.now }
     ensures answers { (file : List ℕ) → IsAccepted kinds.Image file (pairs_of image.now)
         → Answers (TuneGives words.now.address words.now.count (pairs_of image.now)) result.code

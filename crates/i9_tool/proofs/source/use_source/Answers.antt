@@ -14,7 +14,8 @@ returns-in-Ok-clause-answers g c =
 pub returns-in-Err-Bad-clause-answers : goal.returns-in-Err-Bad-clause-answers
 returns-in-Err-Bad-clause-answers g c =
     let bad = rw c.in-Err-Bad.field-0-is at c.in-Err-Bad.ensures.refused in
-    file_refused _ Source (AsmGives c.args.format) c.args.file.now _ _ _ _ c.requires.sized bad c.refuse.ensures.answers
+    let printed = rw c.in-Err-Bad.field-0-is at c.refuse.ensures.answers in
+    file_refused _ Source (AsmGives c.args.format) c.args.file.now _ _ _ _ c.requires.sized bad printed
 
 pub returns-in-Err-Memory-clause-answers : goal.returns-in-Err-Memory-clause-answers
 returns-in-Err-Memory-clause-answers g c = answers_unprinted _ _ _ (some_source c.args.format c.args.file.now)

@@ -24,8 +24,9 @@ returns-in-Ok-clause-answers g c = λ file accepted.
     answers_wider _ _ _ _ _ _ (λ code text given. subst (λ (k : ℕ). TuneGives a n pairs k text) (sym given.0) (tuned c.deref.result.now text block given.1)) c.print_tuned.ensures.answers
 
 pub returns-in-Err-Bad-clause-answers : goal.returns-in-Err-Bad-clause-answers
-returns-in-Err-Bad-clause-answers g c = λ file accepted.
-    answers_only _ _ 3 _ _ _ _ (no_block c.in-Err-Bad.fault c.in-Err-Bad.ensures.block) c.refuse_block.ensures.answers
+returns-in-Err-Bad-clause-answers g c =
+    let block = rw c.in-Err-Bad.field-0-is at c.in-Err-Bad.ensures.block in
+    λ file accepted. answers_only _ _ 3 _ _ _ _ (no_block c.in-Err-Bad.fault block) c.refuse_block.ensures.answers
 
 pub returns-in-Err-Memory-clause-answers : goal.returns-in-Err-Memory-clause-answers
 returns-in-Err-Memory-clause-answers g c = λ file accepted.
