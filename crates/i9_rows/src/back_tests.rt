@@ -128,7 +128,7 @@ f:      ret
 debug script
 #point 4 end 0000100C 00000000 001F2002
 #g
-#l 1=40
+#l 1=40 2=1004
 #end hazard 0000000C
 #turn 11 4
 #who 3 00001004
@@ -142,7 +142,7 @@ status 4
 debug script
 #point 4 end 0000100C 00000000 001F2002
 #g
-#l 1=40
+#l 1=40 2=1004
 #end hazard 0000000C
 #turn 11 4
 #turn 5 2
@@ -157,13 +157,13 @@ status 0
 debug script
 #point 4 end 0000100C 00000000 001F2002
 #g
-#l 1=40
+#l 1=40 2=1004
 #end hazard 0000000C
 #turn 11 4
 #turn 1 0
 #point 4 end 0000100C 00000000 001F2002
 #g
-#l 1=40
+#l 1=40 2=1004
 #end hazard 0000000C
 #turn 11 4
 status 4
