@@ -211,4 +211,4 @@ document.onkeydown = event => {
   event.preventDefault();
   at(KEYS[event.key]).click();
 };
-start().catch(error => notice(`This browser cannot run the page: ${error.message}. It needs WebAssembly with 64-bit memory.`));
+start().catch(error => notice(`This browser cannot run the page: ${error.message}. It needs WebAssembly with bulk memory and 64-bit numbers.`));

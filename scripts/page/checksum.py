@@ -11,7 +11,7 @@ import sys
 
 TOP = pathlib.Path(__file__).resolve().parent.parent.parent
 BUILT = ("i960.html", "i960.wasm")
-SCRIPTS = ("build", "bundle.py", "clang", "heap.c")
+SCRIPTS = ("build", "bundle.py", "clang", "heap.c", "small_table.py")
 
 
 def crates_below(name):

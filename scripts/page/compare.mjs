@@ -11,7 +11,6 @@ import { existsSync, readFileSync } from "node:fs";
 import { dirname, join, resolve } from "node:path";
 import { fileURLToPath } from "node:url";
 import { command } from "../../page/command.mjs";
-import { readModule } from "./module.mjs";
 
 const TOP = resolve(dirname(fileURLToPath(import.meta.url)), "../..");
 const FILES = { run: [1, 2], trace: [1, 2], debug: [1, 2, 4], asm: [1], asmelf: [1], dis: [1], tune: [1] };
@@ -56,21 +55,24 @@ function least(times, call) {
   }));
 }
 
+/** The processor time of the program in milliseconds, the least of some, as the shell tells it of what it ran. */
 function nativeTime(program) {
-  const script = "import resource,subprocess,sys\nsubprocess.run(sys.argv[1:],stdout=subprocess.DEVNULL)\nu=resource.getrusage(resource.RUSAGE_CHILDREN)\nprint(1000*(u.ru_utime+u.ru_stime))";
-  return Math.min(...Array.from({ length: 5 }, () => Number(spawnSync("python3", ["-c", script, program, "gen", "1", "-"]).stdout)));
+  return Math.min(...Array.from({ length: 9 }, () => {
+    const told = spawnSync("bash", ["-c", '"$0" gen 1 - >/dev/null; times', program], { encoding: "utf8" }).stdout.split("\n")[1];
+    return told.split(" ").map(part => part.match(/(\d+)m([\d.]+)s/)).reduce((sum, [, minutes, seconds]) => sum + 60000 * minutes + 1000 * seconds, 0);
+  }));
 }
 
 const [program, ...tables] = process.argv.slice(2);
 if (program === undefined) { console.error("scripts/page/compare.mjs PROGRAM [TABLE ..]"); process.exit(2); }
-const module = readModule(join(TOP, "page", "i960.wasm"));
+const module = new WebAssembly.Module(readFileSync(join(TOP, "page", "i960.wasm")));
 const runs = tables.length === 0 ? DEMO.map(words => [words, join(TOP, "demo")]) : tables.flatMap(table => rowsOf(table).map(words => [words, dirname(resolve(table))]));
 let wrong = 0;
 for (const [words, folder] of runs) {
   const found = differs(resolve(program), module, words === "" ? [] : words.split(" "), folder);
   if (found) { wrong++; console.log(`${words}: ${found}`); }
 }
-const here = least(5, () => command(module, ["gen", "1", "-"], [])), there = nativeTime(resolve(program));
+const here = least(9, () => command(module, ["gen", "1", "-"], [])), there = nativeTime(resolve(program));
 console.log(`gen 1 -: ${here.toFixed(0)} ms in the module, ${there.toFixed(0)} ms in the program: ${(here / there).toFixed(2)} times`);
 console.log(`${runs.length} runs, ${wrong} differ`);
 process.exit(wrong ? 1 : 0);

@@ -24,7 +24,8 @@ static void *take(u64 n) {
     } else {
         if (!top) top = ((u64)&__heap_base + 15) & ~15UL;
         u64 size = 1UL << c, end = top + size, have = __builtin_wasm_memory_size(0) * PAGE;
-        if (end > have && __builtin_wasm_memory_grow(0, (end - have + PAGE - 1) / PAGE) == (u64)-1) return 0;
+        // A refusal is -1, of 64 bits or of the 32 to which the build brings the module.
+        if (end > have && __builtin_wasm_memory_grow(0, (end - have + PAGE - 1) / PAGE) >= 0xFFFFFFFFUL) return 0;
         block = (unsigned char *)top;
         top = end;
     }
