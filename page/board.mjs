@@ -4,7 +4,7 @@ import {
   sourceWithTable, memoryOf, framesOf, isCall,
 } from "./session.mjs";
 
-const BEHIND = 32, AHEAD = 96, EDGE = 24, MOST_TRIES = 64, FRAME_ROUNDS = 6, TRACED = 400, STRIDE = 64, STRIDES = 4096;
+const BEHIND = 100, AHEAD = 100, EDGE = 24, MOST_TRIES = 64, FRAME_ROUNDS = 6, TRACED = 400, STRIDE = 64, STRIDES = 4096;
 const NO_BYTES = bytesOf(":00000001FF\n");
 
 /** A text as the program takes it, a byte for each character; one past 255 is a byte past ASCII, which it refuses. */
@@ -109,22 +109,29 @@ export class Board {
 
   // ---- places
 
-  /** Tells the turns round one that was not told yet. */
-  async tellAround(turn) {
-    const first = Math.max(1, turn - BEHIND), last = Math.max(1, turn) + AHEAD;
+  /** Tells the turns from one to another, or to the one at which the run has ended. */
+  async tellFrom(first, last) {
     const places = readPlaces(await this.debug(tellTurns(first, last, this.memory)));
     for (const [n, place] of places.entries()) {
+      // A run that had ended before says nothing of which turn that was.
+      if (n === 0 && first > 1 && place.end) break;
       this.told.set(first + n, place);
       if (place.end) break;
     }
     return places;
   }
 
+  /** Tells the turns round one. */
+  tellAround(turn) {
+    return this.tellFrom(Math.max(1, turn - BEHIND), Math.max(1, turn) + AHEAD);
+  }
+
   /** Goes to a turn, or to the last one where the run ends before. A turn is one more than the turns that have passed. */
   async goTurn(turn) {
     turn = Math.max(1, turn);
     if (!this.told.has(turn)) {
-      const places = await this.tellAround(turn);
+      // Only what is shown at once: the rest is told when it is shown.
+      const places = await this.tellFrom(Math.max(1, turn - 1), turn);
       if (!this.told.has(turn)) turn = await this.lastTurn(places[0].turn);
     }
     this.take({ turn }, this.told.get(turn), this.told.get(turn - 1));
@@ -178,10 +185,11 @@ export class Board {
     Object.assign(this, { position, place, before, script: leadTo(position) + tell(this.memory) });
   }
 
-  /** Whether the next turns ought to be told before they are asked for. */
-  isNearEdge() {
-    const turn = this.position.turn;
-    return !this.place.end && !(this.told.has(turn + EDGE) || [...this.told.values()].some(place => place.end));
+  /** Tells the turns before and behind the place that were not told yet. */
+  async tellRound() {
+    const turn = this.position.turn, near = Math.max(1, turn - EDGE);
+    const hasEnd = this.place.end || [...this.told].some(([told, place]) => place.end && told - turn <= EDGE);
+    if (!this.told.has(near) || !(hasEnd || this.told.has(turn + EDGE))) await this.tellAround(turn);
   }
 
   // ---- moves

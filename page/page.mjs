@@ -85,6 +85,8 @@ async function showRest(number) {
 
 async function showFramesAndTurns(number) {
   const still = () => number === shownMoves && !moving;
+  await board.tellRound();
+  if (!still()) return;
   const frames = await board.frames();
   if (!still()) return;
   showFrames(board, frames, words);
@@ -93,7 +95,6 @@ async function showFramesAndTurns(number) {
     if (!still()) return;
     showPicture(board, issued);
   }
-  if (board.isNearEdge()) await board.tellAround(board.position.turn + 64);
 }
 
 // ---- loading
@@ -195,7 +196,12 @@ at("who").onclick = who;
 at("cancel").onclick = () => simulator.cancel();
 at("save-script").onclick = () => save("session.dbg", board.script);
 at("save-text").onclick = () => save("session.txt", lastText);
-at("files").onchange = event => open(event.target.files);
+at("files").onchange = event => {
+  const files = [...event.target.files];
+  // The same file can be chosen again then, as after a change.
+  event.target.value = "";
+  open(files);
+};
 at("listing").onclick = event => {
   const item = event.target.closest("li[data-address]");
   if (item) choose(Number(item.dataset.address));
