@@ -47,6 +47,6 @@ returns-in-End c =
           ap (λ (v : View). v.count) (c.view-count.ensures.shown what (steps inv.0) (Some step.finish) step.stands)
           ∙ ap (λ (rs : List Record). (state_after what rs).count) (records_of-steps inv.0);
       events =
-          c.place-events.ensures ∙ step.follows.place
+          c.place-events.ensures.place ∙ step.follows.place
           ∙ ap (λ (rs : List Record). length (reached_in what rs step.finish)) (records_of-steps inv.0);
     }
