@@ -1,6 +1,8 @@
-//! The tests of i9_tracer and i9_debug, whose public calls they make.
+//! The tests of i9_back, i9_tracer and i9_debug, whose public calls they make.
 #![tactic(auto)]
 
+#[cfg(test)]
+mod back;
 #[cfg(test)]
 mod debug;
 #[cfg(test)]
