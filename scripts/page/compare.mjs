@@ -3,7 +3,7 @@
 //
 // Each row of a TABLE, behind its first line, is a run: its last column, behind a tab, has the words of the program, which
 // name files in the table's folder. Without a table the runs are those below, in demo/. Each is done by the program and by the
-// module in page/i960.wasm, and both must print the same bytes and end with the same status. At the end it says how much more
+// module in page/i960.html, and both must print the same bytes and end with the same status. At the end it says how much more
 // time `gen 1 -` takes in the module, and it ends with 1 where a run differed. It is no part of the gate, and stands for a
 // proof that what is built for a page does what the proved program does.
 import { spawnSync } from "node:child_process";
@@ -57,7 +57,7 @@ function least(times, call) {
 
 /** The processor time of the program in milliseconds, the least of some, as the shell tells it of what it ran. */
 function nativeTime(program) {
-  return Math.min(...Array.from({ length: 9 }, () => {
+  return Math.min(...Array.from({ length: 30 }, () => {
     const told = spawnSync("bash", ["-c", '"$0" gen 1 - >/dev/null; times', program], { encoding: "utf8" }).stdout.split("\n")[1];
     return told.split(" ").map(part => part.match(/(\d+)m([\d.]+)s/)).reduce((sum, [, minutes, seconds]) => sum + 60000 * minutes + 1000 * seconds, 0);
   }));
@@ -65,14 +65,15 @@ function nativeTime(program) {
 
 const [program, ...tables] = process.argv.slice(2);
 if (program === undefined) { console.error("scripts/page/compare.mjs PROGRAM [TABLE ..]"); process.exit(2); }
-const module = new WebAssembly.Module(readFileSync(join(TOP, "page", "i960.wasm")));
+const kept = /<script type="text\/plain" id="module">([^<]*)</.exec(readFileSync(join(TOP, "page", "i960.html"), "latin1"))[1];
+const module = new WebAssembly.Module(Buffer.from(kept, "base64"));
 const runs = tables.length === 0 ? DEMO.map(words => [words, join(TOP, "demo")]) : tables.flatMap(table => rowsOf(table).map(words => [words, dirname(resolve(table))]));
 let wrong = 0;
 for (const [words, folder] of runs) {
   const found = differs(resolve(program), module, words === "" ? [] : words.split(" "), folder);
   if (found) { wrong++; console.log(`${words}: ${found}`); }
 }
-const here = least(9, () => command(module, ["gen", "1", "-"], [])), there = nativeTime(resolve(program));
+const here = least(30, () => command(module, ["gen", "1", "-"], [])), there = nativeTime(resolve(program));
 console.log(`gen 1 -: ${here.toFixed(0)} ms in the module, ${there.toFixed(0)} ms in the program: ${(here / there).toFixed(2)} times`);
 console.log(`${runs.length} runs, ${wrong} differ`);
 process.exit(wrong ? 1 : 0);

@@ -1,5 +1,5 @@
 -- A fetch that memory is refused.
-use Rattle.std.proofs.Common.{◌≡◌, ℕ, List, [], ◌++◌, Option, Some, refl, sym, ◌∙◌, subst}
+use Rattle.std.proofs.Common.{◌≡◌, ℕ, List, [], Option, Some, refl, sym, ◌∙◌, subst}
 use Rattle.std.proofs.lemmas.List.{append-nil}
 use Rattle.i9_outside.specs.declared.traits.Fetch.TheVariants as fetches
 use Rattle.i9_outside.specs.Traits.{Fetches, IsFile}

@@ -1,8 +1,8 @@
 -- What the command over buffers answers.
-use Rattle.std.proofs.Common.{◌≡◌, ◌≢◌, ◌⊎◌, inl, inr, ℕ, ◌+◌, ◌<◌, ◌≤◌, List, [], ◌∷◌, ◌++◌, length, length-append, take, Option, Some, None, All, refl, sym, ◌∙◌, ap, subst, arith}
+use Rattle.std.proofs.Common.{◌≡◌, ◌≢◌, ◌⊎◌, inl, inr, ℕ, ◌+◌, ◌<◌, ◌≤◌, List, [], ◌∷◌, ◌++◌, length, length-append, take, Option, Some, sym, ◌∙◌, ap, subst, arith}
 use Rattle.std.specs.Prelude.{IsSome}
 use Rattle.std.specs.List.{AllByRecursion}
-use Rattle.i9_outside.specs.Counts.{one_more, Rose}
+use Rattle.i9_outside.specs.Counts.{Rose}
 use Rattle.i9_outside.specs.Calls.{Plan, no_calls, NoneToFail}
 use Rattle.i9_outside.specs.Traits.{AppendsFront, IsFile}
 use Rattle.i9_tool.specs.CommandLine.{Command, command_of}

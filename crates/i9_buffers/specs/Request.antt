@@ -1,5 +1,5 @@
 -- What is answered for a text of words and three files.
-use Rattle.std.specs.Prelude.{◌≡◌, ◌⊎◌, ℕ, List, [], ◌++◌, take}
+use Rattle.std.specs.Prelude.{◌≡◌, ◌⊎◌, ℕ, List, [], ◌++◌}
 use Rattle.i9_outside.specs.Counts.{Rose}
 use Rattle.i9_tool.specs.CommandLine.{command_of}
 use Rattle.i9_tool.specs.Fetches.{AllTold}

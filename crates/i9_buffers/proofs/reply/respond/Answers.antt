@@ -1,6 +1,6 @@
-use Rattle.std.proofs.Common.{◌≡◌, ◌≢◌, ◌<◌, ◌≤◌, ℕ, List, [], ◌++◌, length, take, map, Option, Some, sym, ap, ◌∙◌, subst}
+use Rattle.std.proofs.Common.{◌≡◌, ◌<◌, ◌≤◌, ℕ, List, [], ◌++◌, length, map, sym, ap, ◌∙◌, subst}
 use Rattle.std.specs.String.{string_bytes}
-use Rattle.i9_outside.specs.MemSink.{written_bytes, room_left, calls_of, IsSureOf}
+use Rattle.i9_outside.specs.MemSink.{written_bytes, calls_of, IsSureOf}
 use Rattle.i9_tool.specs.CommandLine.{command_of}
 use Rattle.i9_tool.specs.Outcome.{Gives}
 use Rattle.i9_tool.specs.Fetches.{rose_in}
