@@ -8,16 +8,20 @@ type Row = (&'static str, [&'static str; 3], usize, u8, &'static str);
 /// An image without bytes.
 const NO_BYTES: &str = ":00000001FF\n";
 
-/// A source of four bytes, and its Intel HEX.
+/// A source of four bytes, its Intel HEX, and the first line of that.
 const SOURCE: &str = ".org 16\n.word 0x01020304\n";
 
 const HEX: &str = ":0400100004030201E2\n:00000001FF\n";
 
-const ROWS: [Row; 10] = [
+const FIRST_LINE: &str = ":0400100004030201E2\n";
+
+const ROWS: [Row; 11] = [
     ("gen\n1", ["", "", ""], 64, 1, "#words\n"),
     ("", ["", "", ""], 64, 1, "#words\n"),
     ("asm\n1", [SOURCE, "", ""], 32, 0, HEX),
-    ("asm\n1", [SOURCE, "", ""], 31, 6, ""),
+    // There is room for the line of 20 bytes, and then not for that of 12; and for none.
+    ("asm\n1", [SOURCE, "", ""], 31, 6, FIRST_LINE),
+    ("asm\n1", [SOURCE, "", ""], 19, 6, ""),
     ("asm\n3", ["", "", SOURCE], 64, 0, HEX),
     (
         "asm\n1",
