@@ -1,10 +1,10 @@
 //! What is posted, what is masked, and the vectors of the lines.
 ghost use Rattle.std.specs.Prelude.{◌≡◌, ◌+◌, ◌<◌};
-ghost use Rattle.i9_model.specs.Interrupts.{posted, posted_nmi, line_vector, is_open, cleared};
+ghost use Rattle.i9_model.specs.Interrupts.{pending_word, posted, posted_nmi, line_vector, is_open, cleared};
 ghost use Rattle.i9_model.specs.declared.interrupts.TheConstants.{LINES, FIRST_DMA_LINE};
-ghost use Rattle.i9_ints.specs.Ints.{no_interrupts, with_pending, with_mask, with_map};
+ghost use Rattle.i9_ints.specs.Ints.{with_level, no_interrupts, with_pending, with_mask, with_map};
 
-use crate::bits::without_bit;
+use crate::bits::{byte_without_bit, has_bit, with_bit, without_bit};
 use i9_model::Cause;
 use i9_model::interrupts::{FIRST_DMA_LINE, LINE_MASK};
 
@@ -26,6 +26,11 @@ pub struct Ints {
     pending: u32,
     mask: u32,
     maps: [u32; 3],
+    /// The control word of pins (ICON): bit 2 + x chooses a falling edge for pin x where it is set, and
+    /// level detection where it is clear.
+    icon: u32,
+    /// The pins that are low, a bit for each.
+    low: u8,
     nmi: bool,
 }
 
@@ -41,6 +46,8 @@ impl Ints {
             pending: 0,
             mask: 0,
             maps: [0; 3],
+            icon: 0,
+            low: 0,
             nmi: false,
         }
     }
@@ -68,11 +75,27 @@ impl Ints {
         self.pending |= 1 << (FIRST_DMA_LINE + c);
     }
 
-    /// The lines that are posted, a bit for each.
-    pub fn pending(&self) -> u32
-        ensures { result ≡ (interrupts_of self.now).pending }
+    /// Pin `x`, 0 to 7, goes low or high. Where it was high under falling edge, to go low posts it.
+    pub fn level(&mut self, x: u8, low: bool)
+        requires { x < 8 }
+        ensures { interrupts_of self.new ≡ with_level (interrupts_of self.old) x low }
     {
-        self.pending
+        if !low {
+            self.low = byte_without_bit(self.low, x);
+            return;
+        }
+        if (self.icon >> (2 + x)) % 2 == 1 && !has_bit(self.low, x) {
+            self.pending |= 1 << x;
+        }
+        self.low = with_bit(self.low, x);
+    }
+
+    /// The lines that are posted, a bit for each: those that are kept, and the pins that are low under
+    /// level detection.
+    pub fn pending(&self) -> u32
+        ensures { result ≡ pending_word (interrupts_of self.now) }
+    {
+        self.pending | u32::from(self.low & (255 - ((self.icon >> 2) % 256) as u8))
     }
 
     /// The lines that are not masked, a bit for each.
@@ -82,7 +105,14 @@ impl Ints {
         self.mask
     }
 
-    /// Sets the pending word, of which bits 0 to 11 are kept.
+    /// Sets the control word of pins.
+    pub fn set_icon(&mut self, v: u32)
+        ensures { interrupts_of self.new ≡ record (interrupts_of self.old) { icon = v } }
+    {
+        self.icon = v;
+    }
+
+    /// Sets the kept word, of which bits 0 to 11 are kept; pins that are low under level detection stay posted.
     pub fn set_pending(&mut self, v: u32)
         ensures { interrupts_of self.new ≡ with_pending (interrupts_of self.old) v }
     {
@@ -123,7 +153,7 @@ impl Ints {
         requires { k < LINES }
         ensures { result ≡ is_open (interrupts_of self.now) k }
     {
-        (self.pending >> k) % 2 == 1 && (self.mask >> k) % 2 == 1
+        (self.pending() >> k) % 2 == 1 && (self.mask >> k) % 2 == 1
     }
 
     /// The vector of line `k`.

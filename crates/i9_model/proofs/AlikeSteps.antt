@@ -129,7 +129,7 @@ pub controlled_same : (c : Control) (s : State) (bytes : ℕ → ℕ) → AgreeW
 unfolding started configured
 controlled_same KeepsControls s bytes same readable = refl
 controlled_same (Restarts first prcb) s bytes same readable =
-    ap (λ (u : Setup). started u s.regs s.count (configured (with_other s.memory bytes) u.control) s.frames) (setup_same s.frames s.memory bytes first prcb same readable)
+    ap (λ (u : Setup). started u s.regs s.count s.interrupts.low (configured (with_other s.memory bytes) u.control) s.frames) (setup_same s.frames s.memory bytes first prcb same readable)
 controlled_same (LoadsGroup group) s bytes same readable =
     ap (with_group (with_memory s bytes) group) (group_same s.frames s.memory bytes s.tables.control_table group same readable)
     ∙ group_memory (eqb group 0) (eqb group 1) (eqb group 6) s bytes group (group_words s.memory s.tables.control_table group)
@@ -412,6 +412,8 @@ overlays_alike s t a n alike = by_places (range_with_len 0 n)
 
 bytes_alike : (e : Event) (s t : State) → AreAlike s t → bytes_lines e t ≡ bytes_lines e s
 bytes_alike (events.Pin x) s t alike = refl
+bytes_alike (events.Low x) s t alike = refl
+bytes_alike (events.High x) s t alike = refl
 bytes_alike events.Nmi s t alike = refl
 bytes_alike (events.Dma c) s t alike = refl
 bytes_alike (events.Feed c bytes) s t alike = refl

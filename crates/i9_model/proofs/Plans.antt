@@ -8,9 +8,10 @@ use Rattle.hex.specs.Hex.{decode_of, IsBytes}
 use Rattle.hex.proofs.HexLemmas.{decode_of-ok}
 use Rattle.i9_text.specs.Text.{number_of}
 use Rattle.i9_text.specs.FirstFault.{SaysAll}
-use Rattle.i9_model.specs.Events.{Words, within, number_in, bytes_in, IsInRange, IsUnit, IsEvent, is_pin, is_nmi, is_dma, is_feed, is_show, last_pin, last_channel, last_address, most_shown}
-use Rattle.i9_model.specs.ScheduleText.{last_count, last_turn, most_events, earlier_fault, order_fault, fault_after, fault_of_count, first_fault, Says, says_nothing, says_event, IsTimed, is_at, is_turn, IsSchedule, time_of, at_time, is_counted, AreCounted, IsTimedInRange, InOrder, IsPlan}
+use Rattle.i9_model.specs.Events.{Words, within, number_in, bytes_in, IsInRange, IsUnit, IsEvent, is_pin, is_low, is_high, is_nmi, is_dma, is_feed, is_show, last_pin, last_channel, last_address, most_shown}
+use Rattle.i9_model.specs.ScheduleText.{last_count, last_turn, most_events, earlier_fault, order_fault, fault_after, fault_of_count, first_fault, levels_version, IsVersion, IsOfVersion, AreOfVersion, version_in, SoFar, nothing_yet, Contents, Says, says_nothing, says_version, says_event, IsTimed, is_at, is_turn, IsSchedule, time_of, at_time, is_counted, AreCounted, IsTimedInRange, InOrder, IsPlan}
 use Rattle.i9_model.specs.declared.event.Event.{Event}
+use Rattle.i9_model.specs.declared.event.Event.TheVariants.{Pin, Low, High, Nmi, Dma, Feed, Show}
 use Rattle.i9_model.specs.declared.event.When.{When}
 use Rattle.i9_model.specs.declared.event.When.TheVariants.{At, Turn}
 use Rattle.i9_model.specs.declared.event.Timed.{Timed}
@@ -55,16 +56,55 @@ bytes_in-range : (word bs : List ℕ) → bytes_in word ≡ Some bs → IsUnit (
 unfolding bytes_in
 bytes_in-range word bs h = bytes_read word bs _ refl h
 
-event_in_range : (name : List ℕ) (ws : Words) (e : Event) → IsEvent name ws e → IsInRange e
-event_in_range name ws e (is_pin x n h) = (in_range 10 10 0 last_pin n x h).1
-event_in_range name ws e is_nmi = tt
-event_in_range name ws e (is_dma c n h) = (in_range 10 10 0 last_channel n c h).1
-event_in_range name ws e (is_feed c x n bs h g) = let b = bytes_in-range x bs g in ((in_range 10 10 0 last_channel n c h).1, b.0, b.1)
-event_in_range name ws e (is_show a l m n h g) = let b = in_range 10 10 1 most_shown n l g in ((in_range 16 8 0 last_address m a h).1, b.0, b.1)
+event_in_range : (version : ℕ) (name : List ℕ) (ws : Words) (e : Event) → IsEvent version name ws e → IsInRange e
+event_in_range version name ws e (is_pin x n h) = (in_range 10 10 0 last_pin n x h).1
+event_in_range version name ws e (is_low x n levels h) = (in_range 10 10 0 last_pin n x h).1
+event_in_range version name ws e (is_high x n levels h) = (in_range 10 10 0 last_pin n x h).1
+event_in_range version name ws e is_nmi = tt
+event_in_range version name ws e (is_dma c n h) = (in_range 10 10 0 last_channel n c h).1
+event_in_range version name ws e (is_feed c x n bs h g) = let b = bytes_in-range x bs g in ((in_range 10 10 0 last_channel n c h).1, b.0, b.1)
+event_in_range version name ws e (is_show a l m n h g) = let b = in_range 10 10 1 most_shown n l g in ((in_range 16 8 0 last_address m a h).1, b.0, b.1)
 
-timed_in_range : (ws : Words) (t : Timed) → IsTimed ws t → IsTimedInRange t
-timed_in_range ws t (is_at k name operands n e h is) = record { time = (in_range 10 13 0 last_count n k h).1; event = event_in_range name operands e is }
-timed_in_range ws t (is_turn k name operands n e h is) = record { time = (in_range 10 13 0 last_turn n k h).1; event = event_in_range name operands e is }
+timed_in_range : (version : ℕ) (ws : Words) (t : Timed) → IsTimed version ws t → IsTimedInRange t
+timed_in_range version ws t (is_at k name operands n e h is) = record { time = (in_range 10 13 0 last_count n k h).1; event = event_in_range version name operands e is }
+timed_in_range version ws t (is_turn k name operands n e h is) = record { time = (in_range 10 13 0 last_turn n k h).1; event = event_in_range version name operands e is }
+
+-- ---- and of its version
+
+event_of_version : (version : ℕ) (name : List ℕ) (ws : Words) (e : Event) → IsEvent version name ws e → IsOfVersion version e
+event_of_version version name ws e (is_pin x n h) = tt
+event_of_version version name ws e (is_low x n levels h) = levels
+event_of_version version name ws e (is_high x n levels h) = levels
+event_of_version version name ws e is_nmi = tt
+event_of_version version name ws e (is_dma c n h) = tt
+event_of_version version name ws e (is_feed c x n bs h g) = tt
+event_of_version version name ws e (is_show a l m n h g) = tt
+
+timed_of_version : (version : ℕ) (ws : Words) (t : Timed) → IsTimed version ws t → IsOfVersion version t.event
+timed_of_version version ws t (is_at k name operands n e h is) = event_of_version version name operands e is
+timed_of_version version ws t (is_turn k name operands n e h is) = event_of_version version name operands e is
+
+-- the version of levels has all events
+levels_have : (version : ℕ) (e : Event) → IsOfVersion version e → IsOfVersion levels_version e
+levels_have version (Pin x) h = tt
+levels_have version (Low x) h = refl
+levels_have version (High x) h = refl
+levels_have version Nmi h = tt
+levels_have version (Dma c) h = tt
+levels_have version (Feed c bytes) h = tt
+levels_have version (Show a l) h = tt
+
+levels_have_all : (version : ℕ) (ts : List Timed) → AreOfVersion version ts → AreOfVersion levels_version ts
+levels_have_all version [] h = tt
+levels_have_all version (t ∷ ts) h = (levels_have version t.event h.0, levels_have_all version ts h.1)
+
+AreOfVersion-push : (version : ℕ) (ts : List Timed) (t : Timed) → AreOfVersion version ts → IsOfVersion version t.event → AreOfVersion version (ts ++ t ∷ [])
+AreOfVersion-push version [] t h new = (new, tt)
+AreOfVersion-push version (x ∷ ts) t h new = (h.0, AreOfVersion-push version ts t h.1 new)
+
+pub front_of_version : (version : ℕ) (ts us : List Timed) → AreOfVersion version (ts ++ us) → AreOfVersion version ts
+front_of_version version [] us h = tt
+front_of_version version (t ∷ ts) us h = (h.0, front_of_version version ts us h.1)
 
 -- ---- the last time
 
@@ -160,25 +200,52 @@ InOrder-push : (time : ℕ) (ts : List Timed) (t : Timed) → InOrder time ts �
 InOrder-push time [] t h new = (new, tt)
 InOrder-push time (x ∷ ts) t h new = (h.0, InOrder-push (time_of x) ts t h.1 new)
 
-line_plan : (ts us : List Timed) (line : List ℕ) → Says ts line us → IsPlan ts → IsPlan us
-line_plan ts us line (says_nothing xs l ascii skipped) plan = plan
-line_plan ts us line (says_event xs l t ascii some is fine) plan =
-    let f = fine_follows xs t fine in
-    let c = fine_alike xs t plan.alike.0 fine plan.alike.1 in
+-- what lines so far said may be the front of a schedule
+record MayBegin (s : SoFar) : Type 0 where
+  plan : IsPlan s.events
+  version : IsVersion (version_in s.version)
+  of_version : AreOfVersion (version_in s.version) s.events
+
+line_begins : (s u : SoFar) (line : List ℕ) → Says s line u → MayBegin s → MayBegin u
+line_begins s u line (says_nothing x l ascii skipped) may = may
+line_begins s u line (says_version x l ascii some none is) may = record {
+  plan = may.plan;
+  version = inr refl;
+  of_version = levels_have_all (version_in x.version) x.events may.of_version;
+}
+line_begins s u line (says_event x l t ascii some is fine) may =
+    let f = fine_follows x.events t fine in
+    let c = fine_alike x.events t may.plan.alike.0 fine may.plan.alike.1 in
     record {
-      each = AllTimedInRange-push xs t plan.each (timed_in_range _ t is);
-      order = InOrder-push 0 xs t plan.order f.0;
-      few = omega (arith, length-append xs (t ∷ []), f.1);
-      alike = (c.0, AreCounted-push c.0 xs t c.1 c.2);
+      plan = record {
+        each = AllTimedInRange-push x.events t may.plan.each (timed_in_range _ _ t is);
+        order = InOrder-push 0 x.events t may.plan.order f.0;
+        few = omega (arith, length-append x.events (t ∷ []), f.1);
+        alike = (c.0, AreCounted-push c.0 x.events t c.1 c.2);
+      };
+      version = may.version;
+      of_version = AreOfVersion-push (version_in x.version) x.events t may.of_version (timed_of_version _ _ t is);
     }
 
-lines_plan : (ts us : List Timed) (lines : List (List ℕ)) → SaysAll Says ts lines us → IsPlan ts → IsPlan us
-lines_plan ts us [] h plan = subst (λ (x : List Timed). IsPlan x) h plan
-lines_plan ts us (line ∷ lines) h plan = lines_plan h.0 us lines h.2 (line_plan ts h.0 line h.1 plan)
+lines_begin : (s u : SoFar) (lines : List (List ℕ)) → SaysAll Says s lines u → MayBegin s → MayBegin u
+lines_begin s u [] h may = subst MayBegin h may
+lines_begin s u (line ∷ lines) h may = lines_begin h.0 u lines h.2 (line_begins s h.0 line h.1 may)
 
 -- what a schedule's lines say
-pub schedule_is_plan : (lines : List (List ℕ)) (ts : List Timed) → IsSchedule lines ts → IsPlan ts
-schedule_is_plan lines ts h = lines_plan [] ts lines h (record { each = tt; order = tt; few = omega arith; alike = (true, tt) })
+schedule_begins : (lines : List (List ℕ)) (c : Contents) (h : IsSchedule lines c) → MayBegin h.0
+schedule_begins lines c h = lines_begin nothing_yet h.0 lines h.1 (record {
+  plan = record { each = tt; order = tt; few = omega arith; alike = (true, tt) };
+  version = inl refl;
+  of_version = tt;
+})
+
+pub schedule_is_plan : (lines : List (List ℕ)) (c : Contents) → IsSchedule lines c → IsPlan c.events
+schedule_is_plan lines c h = subst (λ (x : Contents). IsPlan x.events) h.2 (schedule_begins lines c h).plan
+
+pub schedule_of_version : (lines : List (List ℕ)) (c : Contents) → IsSchedule lines c → IsVersion c.version × AreOfVersion c.version c.events
+schedule_of_version lines c h =
+    let may = schedule_begins lines c h in
+    subst (λ (x : Contents). IsVersion x.version × AreOfVersion x.version x.events) h.2 (may.version, may.of_version)
 
 -- ---- the front of a plan is one
 

@@ -1,5 +1,5 @@
 -- A journal's line says its event at its count.
-use Rattle.std.proofs.Common.{◌≡◌, ℕ, zero, suc, ◌*◌, ◌^◌, ◌<◌, ◌≤◌, true, false, ltb, eqb, List, [], ◌∷◌, length, Some, Ok, refl, arith, inl, inr, lit<, lit≤, get_or, ◌==◌, ◌||◌}
+use Rattle.std.proofs.Common.{◌≡◌, ℕ, zero, suc, ◌*◌, ◌^◌, ◌<◌, ◌≤◌, true, false, ltb, eqb, List, [], ◌∷◌, length, Option, None, Some, Ok, refl, arith, inl, inr, lit<, lit≤, get_or, ◌==◌, ◌||◌}
 use Rattle.std.specs.List.{join_with_byte, AllByRecursion}
 use Rattle.std.specs.Fmt.{decimal}
 use Rattle.std.proofs.lemmas.Bool.{le-ltb}
@@ -11,10 +11,11 @@ use Rattle.i9_text.specs.Written.{word_text}
 use Rattle.i9_text.proofs.WrittenWords.{IsWord, IsWord-decimal, IsWord-digits, number_of-decimal, words_of-join}
 use Rattle.i9_text.proofs.WrittenDigits.{AllDigits-encode_upper, word_digits, word_length, number_of-word}
 use Rattle.i9_text.proofs.WrittenLines.{is_plain, ascii-plain, plain-append, plain-decimal, plain-encode_upper, plain-word_text}
-use Rattle.i9_model.specs.Events.{Words, number_in, decimal_in, address_of, bytes_in, last_pin, last_channel, last_address, most_shown, is_pin, is_nmi, is_dma, is_feed, is_show, event_words, journal_words, journal_text, IsUnit, IsInRange}
-use Rattle.i9_model.specs.ScheduleText.{last_count, count_of, timed_at, IsTimed, is_at, is_ascii, is_skipped, line_of}
+use Rattle.i9_model.specs.Events.{Words, number_in, decimal_in, address_of, bytes_in, last_pin, last_channel, last_address, most_shown, is_pin, is_low, is_high, is_nmi, is_dma, is_feed, is_show, event_words, journal_words, journal_text, IsUnit, IsInRange, IsOfVersion}
+use Rattle.i9_model.specs.ScheduleText.{last_count, count_of, timed_at, IsTimed, is_at, is_ascii, is_skipped, version_in, timed_of, opening_of, said_of, line_of}
+use Rattle.i9_model.specs.declared.event.Said.TheVariants as said
 use Rattle.i9_model.specs.declared.event.Event.{Event}
-use Rattle.i9_model.specs.declared.event.Event.TheVariants.{Pin, Nmi, Dma, Feed, Show}
+use Rattle.i9_model.specs.declared.event.Event.TheVariants.{Pin, Low, High, Nmi, Dma, Feed, Show}
 use Rattle.i9_model.proofs.EventForms.{timed_is}
 
 number_in-decimal : (most low high n : ℕ) → 0 < most → n < 10 ^ most → n < 2 ^ 64 → low ≤ n → n ≤ high → number_in 10 most low high (decimal n) ≡ Some n
@@ -45,6 +46,8 @@ address_word a = IsWord-digits (word_text a) 16 (lit≤ tt) (omega (arith, word_
 
 event_words-words : (e : Event) → IsInRange e → AllByRecursion IsWord (event_words e)
 event_words-words (Pin x) h = (record { test = refl }, (IsWord-decimal x (omega arith), tt))
+event_words-words (Low x) h = (record { test = refl }, (IsWord-decimal x (omega arith), tt))
+event_words-words (High x) h = (record { test = refl }, (IsWord-decimal x (omega arith), tt))
 event_words-words Nmi h = (record { test = refl }, tt)
 event_words-words (Dma c) h = (record { test = refl }, (IsWord-decimal c (omega arith), tt))
 event_words-words (Feed c v) h = (record { test = refl }, (IsWord-decimal c (omega arith), (bytes_word v.items (some_bytes (length v.items) h.1) h.2, tt)))
@@ -77,13 +80,15 @@ decimal_back low high n small above below = number_in-decimal 10 low high n (lit
 count_back : (k : ℕ) → k ≤ last_count → count_of (decimal k) ≡ Some k
 count_back k few = number_in-decimal 13 0 last_count k (lit< tt) (omega arith) (omega arith) (omega arith) few
 
-event_back : (k : ℕ) (e : Event) → k ≤ last_count → IsInRange e → IsTimed (journal_words k e) (timed_at k e)
-event_back k (Pin x) few h = is_at (decimal k) _ _ k (Pin x) (count_back k few) (is_pin (decimal x) x (decimal_back 0 last_pin x (omega arith) (omega arith) h))
-event_back k Nmi few h = is_at (decimal k) _ _ k Nmi (count_back k few) is_nmi
-event_back k (Dma c) few h = is_at (decimal k) _ _ k (Dma c) (count_back k few) (is_dma (decimal c) c (decimal_back 0 last_channel c (omega arith) (omega arith) h))
-event_back k (Feed c v) few h =
+event_back : (version k : ℕ) (e : Event) → IsOfVersion version e → k ≤ last_count → IsInRange e → IsTimed version (journal_words k e) (timed_at k e)
+event_back version k (Pin x) of few h = is_at (decimal k) _ _ k (Pin x) (count_back k few) (is_pin (decimal x) x (decimal_back 0 last_pin x (omega arith) (omega arith) h))
+event_back version k (Low x) of few h = is_at (decimal k) _ _ k (Low x) (count_back k few) (is_low (decimal x) x of (decimal_back 0 last_pin x (omega arith) (omega arith) h))
+event_back version k (High x) of few h = is_at (decimal k) _ _ k (High x) (count_back k few) (is_high (decimal x) x of (decimal_back 0 last_pin x (omega arith) (omega arith) h))
+event_back version k Nmi of few h = is_at (decimal k) _ _ k Nmi (count_back k few) is_nmi
+event_back version k (Dma c) of few h = is_at (decimal k) _ _ k (Dma c) (count_back k few) (is_dma (decimal c) c (decimal_back 0 last_channel c (omega arith) (omega arith) h))
+event_back version k (Feed c v) of few h =
     is_at (decimal k) _ _ k (Feed c v) (count_back k few) (is_feed (decimal c) (encode_upper v.items) c v.items (decimal_back 0 last_channel c (omega arith) (omega arith) h.0) (bytes_in-encode v.items h.1 h.2))
-event_back k (Show a l) few h =
+event_back version k (Show a l) of few h =
     is_at (decimal k) _ _ k (Show a l) (count_back k few) (is_show (word_text a) (decimal l) a l (address_digits a h.0) (decimal_back 1 most_shown l (omega arith) h.1 h.2))
 
 -- ---- the line is plain, whatever the operands
@@ -95,6 +100,8 @@ plain-join (w ∷ x ∷ ws) h = plain-append w (32 ∷ join_with_byte 32 (x ∷ 
 
 event_plain : (e : Event) → AllByRecursion (λ w. is_plain w ≡ true) (event_words e)
 event_plain (Pin x) = (refl, (plain-decimal x, tt))
+event_plain (Low x) = (refl, (plain-decimal x, tt))
+event_plain (High x) = (refl, (plain-decimal x, tt))
 event_plain Nmi = (refl, tt)
 event_plain (Dma c) = (refl, (plain-decimal c, tt))
 event_plain (Feed c v) = (refl, (plain-decimal c, (plain-encode_upper v.items, tt)))
@@ -131,10 +138,17 @@ journal_not_skipped k e few h =
     rw (not_hash k e, words, some) refl
 
 -- its words say the event
-pub journal_says : (k : ℕ) (e : Event) → k ≤ last_count → IsInRange e → IsTimed (words_of (journal_text k e)) (timed_at k e)
-journal_says k e few h = rw (journal_words_back k e few h) (event_back k e few h)
+pub journal_says : (version k : ℕ) (e : Event) → IsOfVersion version e → k ≤ last_count → IsInRange e → IsTimed version (words_of (journal_text k e)) (timed_at k e)
+journal_says version k e of few h = rw (journal_words_back k e few h) (event_back version k e of few h)
 
--- and the line is read as the event
-pub line_of-journal : (k : ℕ) (e : Event) → k ≤ last_count → IsInRange e → line_of (journal_text k e) ≡ Ok (Some (timed_at k e))
+-- and the line is read as the event, whether a line before told the version or not
+said_journal : (told : Option ℕ) (k : ℕ) (e : Event) → timed_of (version_in told) (journal_words k e) ≡ Ok (timed_at k e) → said_of told (journal_words k e) ≡ Ok (said.Event (timed_at k e))
+unfolding opening_of
+said_journal None k e is = rw is refl
+said_journal (Some version) k e is = rw is refl
+
+pub line_of-journal : (told : Option ℕ) (k : ℕ) (e : Event) → IsOfVersion (version_in told) e → k ≤ last_count → IsInRange e → line_of told (journal_text k e) ≡ Ok (said.Event (timed_at k e))
 unfolding line_of
-line_of-journal k e few h = rw (journal_ascii k e, journal_not_skipped k e few h, timed_is _ _ (journal_says k e few h)) refl
+line_of-journal told k e of few h =
+    let is = timed_is (version_in told) (journal_words k e) (timed_at k e) (event_back (version_in told) k e of few h) in
+    rw (journal_ascii k e, journal_not_skipped k e few h, journal_words_back k e few h) (said_journal told k e is)

@@ -1,5 +1,5 @@
 -- Printed lines are the text of a schedule, which says the events that were printed.
-use Rattle.std.proofs.Common.{◌≡◌, ℕ, ◌+◌, ◌≤◌, true, List, [], ◌∷◌, ◌++◌, length, get_or, take, drop, Option, Some, None, refl, sym, ap, subst, ◌∙◌, arith, append_assoc, length-append, codes}
+use Rattle.std.proofs.Common.{◌≡◌, ℕ, ◌+◌, ◌≤◌, true, List, [], ◌∷◌, ◌++◌, length, get_or, take, drop, Option, Some, None, refl, sym, ap, subst, ◌∙◌, arith, append_assoc, length-append, codes, ◌⊎◌, inl, inr}
 use Rattle.std.specs.List.{flat_map, AllByRecursion}
 use Rattle.std.specs.Fmt.{decimal}
 use Rattle.std.proofs.lemmas.List.{append-nil}
@@ -12,28 +12,30 @@ use Rattle.i9_model.specs.declared.event.Event.{Event}
 use Rattle.i9_model.specs.declared.event.Timed.{Timed}
 use Rattle.i9_model.specs.Run.{Point, End, Exit, Limit, Hazard, Dead, Imprecise}
 use Rattle.i9_model.specs.Events.{journal_text}
-use Rattle.i9_model.specs.ScheduleText.{most_events, timed_at, Says, says_nothing, says_event, IsSchedule, IsTimedInRange, InOrder, IsPlan, IsByCounts, is_skipped, fault_after}
-use Rattle.i9_model.specs.PrintedText.{Shown, Out, Drained, Journal, Bytes, Last, out_text, spaced, words_text, drained_text, point_text, point_shown, end_text, event_text, spaced_byte, bytes_text, text_of, events_of}
+use Rattle.i9_model.specs.ScheduleText.{first_version, levels_version, IsVersion, IsOfVersion, AreOfVersion, version_in, SoFar, nothing_yet, with_event, contents_of, most_events, timed_at, Says, says_nothing, says_version, says_event, IsSchedule, IsTimedInRange, InOrder, IsPlan, IsByCounts, is_skipped, fault_after}
+use Rattle.i9_model.specs.PrintedText.{Shown, Out, Drained, Journal, Bytes, Last, out_text, spaced, words_text, drained_text, point_text, point_shown, end_text, event_text, spaced_byte, bytes_text, heading_text, text_of, events_of}
 use Rattle.i9_model.proofs.ReadBack.{journal_plain, journal_ascii, journal_not_skipped, journal_says}
 use Rattle.i9_model.proofs.Plans.{last_time, last_time-push, AreCounted-push, follows_fine}
 use Rattle.i9_model.specs.declared.run.Point.TheVariants as points
 
 -- a text that says nothing, whatever stands behind it
 abbrev Passes : List ℕ → Type 0
-Passes text = (ts us : List Timed) (rest : List ℕ) → SaysAll Says ts (texts.lines_of rest) us → SaysAll Says ts (texts.lines_of (text ++ rest)) us
+Passes text = (s u : SoFar) (rest : List ℕ) → SaysAll Says s (texts.lines_of rest) u → SaysAll Says s (texts.lines_of (text ++ rest)) u
 
 passes-append : (a b : List ℕ) → Passes a → Passes b → Passes (a ++ b)
-passes-append a b pa pb ts us rest h =
-    subst (λ (x : List ℕ). SaysAll Says ts (texts.lines_of x) us) (sym (append_assoc a b rest)) (pa ts us (b ++ rest) (pb ts us rest h))
+passes-append a b pa pb s u rest h =
+    subst (λ (x : List ℕ). SaysAll Says s (texts.lines_of x) u) (sym (append_assoc a b rest)) (pa s u (b ++ rest) (pb s u rest h))
 
 skipped_hash : (line : List ℕ) → get_or line 0 0 ≡ 35 → is_skipped line ≡ true
 skipped_hash line h = rw h refl
 
+lines_of-line : (line rest : List ℕ) → is_plain line ≡ true → texts.lines_of ((line ++ 10 ∷ []) ++ rest) ≡ line ∷ texts.lines_of rest
+lines_of-line line rest plain = ap texts.lines_of (append_assoc line (10 ∷ []) rest) ∙ lines_of-then line rest plain
+
 -- a comment
 passes_line : (line : List ℕ) → is_plain line ≡ true → get_or line 0 0 ≡ 35 → Passes (line ++ 10 ∷ [])
-passes_line line plain first ts us rest h =
-    let lines : texts.lines_of ((line ++ 10 ∷ []) ++ rest) ≡ line ∷ texts.lines_of rest = ap texts.lines_of (append_assoc line (10 ∷ []) rest) ∙ lines_of-then line rest plain in
-    subst (λ (x : List (List ℕ)). SaysAll Says ts x us) (sym lines) (ts, says_nothing ts line (ascii-plain line plain) (skipped_hash line first), h)
+passes_line line plain first s u rest h =
+    subst (λ (x : List (List ℕ)). SaysAll Says s x u) (sym (lines_of-line line rest plain)) (s, says_nothing s line (ascii-plain line plain) (skipped_hash line first), h)
 
 -- ---- the printed lines but for events are comments
 
@@ -99,31 +101,74 @@ passes_bytes a bs =
 
 -- ---- an event's line
 
-event_passes : (k : ℕ) (e : Event) (ts us : List Timed) (rest : List ℕ) → IsTimedInRange (timed_at k e) → fault_after ts (timed_at k e) ≡ None → SaysAll Says (ts ++ timed_at k e ∷ []) (texts.lines_of rest) us
-    → SaysAll Says ts (texts.lines_of (event_text k e ++ rest)) us
+event_passes : (k : ℕ) (e : Event) (s u : SoFar) (rest : List ℕ) → IsOfVersion (version_in s.version) e → IsTimedInRange (timed_at k e) → fault_after s.events (timed_at k e) ≡ None
+    → SaysAll Says (with_event s (timed_at k e)) (texts.lines_of rest) u → SaysAll Says s (texts.lines_of (event_text k e ++ rest)) u
 unfolding event_text
-event_passes k e ts us rest range fine h =
+event_passes k e s u rest of range fine h =
     let line = journal_text k e in
-    let lines : texts.lines_of ((line ++ 10 ∷ []) ++ rest) ≡ line ∷ texts.lines_of rest = ap texts.lines_of (append_assoc line (10 ∷ []) rest) ∙ lines_of-then line rest (journal_plain k e) in
-    let says = says_event ts line (timed_at k e) (journal_ascii k e) (journal_not_skipped k e range.time range.event) (journal_says k e range.time range.event) fine in
-    subst (λ (x : List (List ℕ)). SaysAll Says ts x us) (sym lines) (ts ++ timed_at k e ∷ [], says, h)
+    let says = says_event s line (timed_at k e) (journal_ascii k e) (journal_not_skipped k e range.time range.event) (journal_says (version_in s.version) k e of range.time range.event) fine in
+    subst (λ (x : List (List ℕ)). SaysAll Says s x u) (sym (lines_of-line line rest (journal_plain k e))) (with_event s (timed_at k e), says, h)
 
 -- ---- all lines
 
-replay_from : (ls : List Shown) (ts : List Timed) → IsByCounts ts → AllByRecursion IsTimedInRange (events_of ls) → InOrder (last_time 0 ts) (events_of ls) → length ts + length (events_of ls) ≤ most_events
-    → SaysAll Says ts (texts.lines_of (text_of ls)) (ts ++ events_of ls)
-replay_from [] ts counted each order few = (ts, says_nothing ts [] refl refl, sym (append-nil ts))
-replay_from (Out b ∷ ls) ts counted each order few = passes_out b ts _ (text_of ls) (replay_from ls ts counted each order few)
-replay_from (Drained k v ∷ ls) ts counted each order few = passes_shown_point k v ts _ (text_of ls) (replay_from ls ts counted each order few)
-replay_from (Bytes a bs ∷ ls) ts counted each order few = passes_bytes a bs ts _ (text_of ls) (replay_from ls ts counted each order few)
-replay_from (Last f ∷ ls) ts counted each order few = passes_finish f ts _ (text_of ls) (replay_from ls ts counted each order few)
-replay_from (Journal k e ∷ ls) ts counted each order few =
-    let t = timed_at k e in
-    let last : last_time 0 (ts ++ t ∷ []) ≡ k = last_time-push 0 ts t in
-    let later = subst (λ (x : ℕ). InOrder x (events_of ls)) (sym last) order.1 in
-    let rest = replay_from ls (ts ++ t ∷ []) (AreCounted-push true ts t counted refl) each.1 later (omega (arith, few, length-append ts (t ∷ []))) in
-    let whole = subst (λ (x : List Timed). SaysAll Says (ts ++ t ∷ []) (texts.lines_of (text_of ls)) x) (append_assoc ts (t ∷ []) (events_of ls)) rest in
-    event_passes k e ts _ (text_of ls) each.0 (follows_fine ts t counted order.0 (omega (arith, few))) whole
+-- lines lead from what was said so far to these events more, in the same version
+record LeadsOn (s : SoFar) (lines : List (List ℕ)) (ts : List Timed) : Type 0 where
+  end : SoFar
+  says : SaysAll Says s lines end
+  version : version_in end.version ≡ version_in s.version
+  events : end.events ≡ s.events ++ ts
 
-pub replay : (ls : List Shown) → IsPlan (events_of ls) → IsSchedule (texts.lines_of (text_of ls)) (events_of ls)
-replay ls plan = replay_from ls [] tt plan.each plan.order (omega (arith, plan.few))
+passes_on : (text rest : List ℕ) (s : SoFar) (ts : List Timed) → Passes text → LeadsOn s (texts.lines_of rest) ts → LeadsOn s (texts.lines_of (text ++ rest)) ts
+passes_on text rest s ts passes on = record { end = on.end; says = passes s on.end rest on.says; version = on.version; events = on.events }
+
+replay_from : (ls : List Shown) (s : SoFar) → IsByCounts s.events → AreOfVersion (version_in s.version) (events_of ls) → AllByRecursion IsTimedInRange (events_of ls) → InOrder (last_time 0 s.events) (events_of ls)
+    → length s.events + length (events_of ls) ≤ most_events → LeadsOn s (texts.lines_of (text_of ls)) (events_of ls)
+replay_from [] s counted of each order few = record { end = s; says = (s, says_nothing s [] refl refl, refl); version = refl; events = sym (append-nil s.events) }
+replay_from (Out b ∷ ls) s counted of each order few = passes_on (out_text b) (text_of ls) s (events_of ls) (passes_out b) (replay_from ls s counted of each order few)
+replay_from (Drained k v ∷ ls) s counted of each order few = passes_on (point_shown k v) (text_of ls) s (events_of ls) (passes_shown_point k v) (replay_from ls s counted of each order few)
+replay_from (Bytes a bs ∷ ls) s counted of each order few = passes_on (bytes_text a bs) (text_of ls) s (events_of ls) (passes_bytes a bs) (replay_from ls s counted of each order few)
+replay_from (Last f ∷ ls) s counted of each order few = passes_on (end_text f) (text_of ls) s (events_of ls) (passes_finish f) (replay_from ls s counted of each order few)
+replay_from (Journal k e ∷ ls) s counted of each order few =
+    let t = timed_at k e in
+    let last : last_time 0 (s.events ++ t ∷ []) ≡ k = last_time-push 0 s.events t in
+    let later = subst (λ (x : ℕ). InOrder x (events_of ls)) (sym last) order.1 in
+    let on = replay_from ls (with_event s t) (AreCounted-push true s.events t counted refl) of.1 each.1 later (omega (arith, few, length-append s.events (t ∷ []))) in
+    record {
+      end = on.end;
+      says = event_passes k e s on.end (text_of ls) of.0 each.0 (follows_fine s.events t counted order.0 (omega (arith, few))) on.says;
+      version = on.version;
+      events = on.events ∙ append_assoc s.events (t ∷ []) (events_of ls);
+    }
+
+-- ---- the line of a version
+
+abbrev levels_told : SoFar
+levels_told = record { version = Some levels_version; events = [] }
+
+schedule_from : (version : ℕ) (s : SoFar) (ls : List Shown) → version_in s.version ≡ version → s.events ≡ [] → IsPlan (events_of ls) → AreOfVersion version (events_of ls) → LeadsOn s (texts.lines_of (text_of ls)) (events_of ls)
+schedule_from version s ls is none plan of =
+    replay_from ls s (subst IsByCounts (sym none) tt) (subst (λ (v : ℕ). AreOfVersion v (events_of ls)) (sym is) of) plan.each
+    (subst (λ (ts : List Timed). InOrder (last_time 0 ts) (events_of ls)) (sym none) plan.order)
+    (subst (λ (ts : List Timed). length ts + length (events_of ls) ≤ most_events) (sym none) (omega (arith, plan.few)))
+
+same_contents : (s : SoFar) (version : ℕ) (ts : List Timed) → version_in s.version ≡ version → s.events ≡ ts → contents_of s ≡ record { version = version; events = ts }
+same_contents s version ts is same = rw (is, same) refl
+
+by_version : (version : ℕ) (ls : List Shown) → (version ≡ first_version) ⊎ (version ≡ levels_version) → IsPlan (events_of ls) → AreOfVersion version (events_of ls)
+    → IsSchedule (texts.lines_of (heading_text version ++ text_of ls)) (record { version = version; events = events_of ls })
+unfolding heading_text
+by_version version ls (inl first) plan of =
+    let on = schedule_from version nothing_yet ls (sym first) refl plan of in
+    let says = subst (λ (text : List ℕ). SaysAll Says nothing_yet (texts.lines_of text) on.end) (sym (ap (λ (v : ℕ). heading_text v ++ text_of ls) first)) on.says in
+    (on.end, says, same_contents on.end version (events_of ls) (on.version ∙ sym first) on.events)
+by_version version ls (inr levels) plan of =
+    let on = schedule_from version levels_told ls (sym levels) refl plan of in
+    let lines = lines_of-line (codes "schedule 2") (text_of ls) refl in
+    let told = says_version nothing_yet (codes "schedule 2") refl refl refl refl in
+    let whole = subst (λ (x : List (List ℕ)). SaysAll Says nothing_yet x on.end) (sym lines) (levels_told, told, on.says) in
+    let says = subst (λ (text : List ℕ). SaysAll Says nothing_yet (texts.lines_of text) on.end) (sym (ap (λ (v : ℕ). heading_text v ++ text_of ls) levels)) whole in
+    (on.end, says, same_contents on.end version (events_of ls) (on.version ∙ sym levels) on.events)
+
+pub replay : (version : ℕ) (ls : List Shown) → IsVersion version → IsPlan (events_of ls) → AreOfVersion version (events_of ls)
+    → IsSchedule (texts.lines_of (heading_text version ++ text_of ls)) (record { version = version; events = events_of ls })
+replay version ls is plan of = by_version version ls is plan of

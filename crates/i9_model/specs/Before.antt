@@ -5,12 +5,12 @@ use Rattle.i9_model.specs.declared.interrupts.TheConstants.{FIRST_DMA_LINE}
 use Rattle.i9_model.specs.declared.interrupts.Chosen.{Chosen}
 use Rattle.i9_model.specs.declared.faults.Entry.{Entry}
 use Rattle.i9_model.specs.declared.event.Event.{Event}
-use Rattle.i9_model.specs.declared.event.Event.TheVariants.{Pin, Nmi, Dma, Feed, Show}
+use Rattle.i9_model.specs.declared.event.Event.TheVariants.{Pin, Low, High, Nmi, Dma, Feed, Show}
 use Rattle.i9_model.specs.Memory.{with_writes}
 use Rattle.i9_model.specs.State.{State, Interrupts}
 use Rattle.i9_model.specs.State as states
 use Rattle.i9_model.specs.Dma.{Unit, next_unit}
-use Rattle.i9_model.specs.Interrupts.{posted, posted_nmi, chosen, chosen_soft, cleared, clearing_writes, record_writes, planned_interrupt}
+use Rattle.i9_model.specs.Interrupts.{posted, posted_nmi, lowered, raised, chosen, chosen_soft, cleared, clearing_writes, record_writes, planned_interrupt}
 use Rattle.i9_model.specs.Step.{Action, going, pushing}
 
 -- ---- interrupts
@@ -73,6 +73,8 @@ unit_in s c given = received_by s c (next_unit s.memory s.frames s.dma c given)
 -- what an event does in a state, or the hazard that it meets: only those of DMA meet one
 unfoldable pub received_in : State → Event → Result Received ℕ
 received_in s (Pin x) = Ok (posting s (posted s.interrupts x))
+received_in s (Low x) = Ok (posting s (lowered s.interrupts x))
+received_in s (High x) = Ok (posting s (raised s.interrupts x))
 received_in s Nmi = Ok (posting s (posted_nmi s.interrupts))
 received_in s (Dma c) = unit_in s c None
 received_in s (Feed c bytes) = unit_in s c (Some bytes.items)

@@ -22,9 +22,9 @@ with_breakpoints s ws = record s {
   };
 }
 
--- the first three as the interrupt maps
+-- the four words as the interrupt maps and the control word of pins
 abbrev pub with_maps : State → List ℕ → State
-with_maps s ws = record s { interrupts = record s.interrupts { maps = slice_index ws 0 ∷ slice_index ws 1 ∷ slice_index ws 2 ∷ [] } }
+with_maps s ws = record s { interrupts = record s.interrupts { maps = slice_index ws 0 ∷ slice_index ws 1 ∷ slice_index ws 2 ∷ []; icon = slice_index ws 3 } }
 
 -- the second and the third as the controls of breakpoints and of tracing
 abbrev pub with_trace_controls : State → List ℕ → State
@@ -35,7 +35,7 @@ with_trace_controls s ws = record s {
   };
 }
 
--- Group 0 has the breakpoints, group 1 the interrupt maps, groups 2 to 5 the configuration words of regions, four
+-- Group 0 has the breakpoints, group 1 the interrupt maps and pins, groups 2 to 5 the configuration words of regions, four
 -- each, and group 6 the controls of breakpoints and of tracing.
 abbrev pub with_group : State → ℕ → List ℕ → State
 with_group s group ws =
@@ -44,10 +44,10 @@ with_group s group ws =
     else if group == 6 then with_trace_controls s ws
     else record s { memory = with_regions s.memory (4 * (group - 2)) ws }
 
--- g0 to g14, the bytes of memory, the frames and the count stay where the processor starts anew
+-- g0 to g14, the bytes of memory, the frames, the levels of pins and the count stay where the processor starts anew
 abbrev pub controlled : State → Control → State
 controlled s KeepsControls = s
 controlled s (Restarts first prcb) =
     let u = setup_of s.memory first prcb in
-    started u s.regs s.count (configured s.memory u.control) s.frames
+    started u s.regs s.count s.interrupts.low (configured s.memory u.control) s.frames
 controlled s (LoadsGroup group) = with_group s group (group_words s.memory s.tables.control_table group)

@@ -9,7 +9,7 @@ use Rattle.hex.specs.Hex.{IsBytes, decode_of, encode_upper}
 use Rattle.i9_text.specs.Text.{number_of, space}
 use Rattle.i9_text.specs.Written.{word_text}
 use Rattle.i9_model.specs.declared.event.Event.{Event}
-use Rattle.i9_model.specs.declared.event.Event.TheVariants.{Pin, Nmi, Dma, Feed, Show}
+use Rattle.i9_model.specs.declared.event.Event.TheVariants.{Pin, Low, High, Nmi, Dma, Feed, Show}
 
 abbrev pub Words : Type 0
 Words = List (List ℕ)
@@ -27,6 +27,28 @@ last_address = 4294967295
 
 abbrev pub most_shown : ℕ
 most_shown = 64
+
+-- ---- the versions of schedules
+
+abbrev pub first_version : ℕ
+first_version = 1
+
+-- the one with the levels of pins
+abbrev pub levels_version : ℕ
+levels_version = 2
+
+abbrev pub IsVersion : ℕ → Type 0
+IsVersion version = (version ≡ first_version) ⊎ (version ≡ levels_version)
+
+-- a schedule of this version may have the event
+abbrev pub IsOfVersion : ℕ → Event → Type 0
+IsOfVersion version (Pin x) = Unit {0}
+IsOfVersion version (Low x) = version ≡ levels_version
+IsOfVersion version (High x) = version ≡ levels_version
+IsOfVersion version Nmi = Unit {0}
+IsOfVersion version (Dma c) = Unit {0}
+IsOfVersion version (Feed c bytes) = Unit {0}
+IsOfVersion version (Show a l) = Unit {0}
 
 -- ---- the kinds of faults of an event
 
@@ -72,16 +94,20 @@ two_of [] = None
 two_of (w ∷ []) = None
 two_of (w ∷ x ∷ y ∷ ws) = None
 
--- ---- which words say an event, one case for each
+-- ---- which words say an event in a version, one case for each
 
-pub data IsEvent : List ℕ → Words → Event → Type 0 where
-  is_pin : (x : List ℕ) (n : ℕ) → decimal_in 0 last_pin x ≡ Some n → IsEvent (codes "pin") (x ∷ []) (Pin n)
-  is_nmi : IsEvent (codes "nmi") [] Nmi
-  is_dma : (c : List ℕ) (n : ℕ) → decimal_in 0 last_channel c ≡ Some n → IsEvent (codes "dma") (c ∷ []) (Dma n)
+pub data IsEvent (version : ℕ) : List ℕ → Words → Event → Type 0 where
+  is_pin : (x : List ℕ) (n : ℕ) → decimal_in 0 last_pin x ≡ Some n → IsEvent version (codes "pin") (x ∷ []) (Pin n)
+  is_low : (x : List ℕ) (n : ℕ) → version ≡ levels_version → decimal_in 0 last_pin x ≡ Some n
+      → IsEvent version (codes "low") (x ∷ []) (Low n)
+  is_high : (x : List ℕ) (n : ℕ) → version ≡ levels_version → decimal_in 0 last_pin x ≡ Some n
+      → IsEvent version (codes "high") (x ∷ []) (High n)
+  is_nmi : IsEvent version (codes "nmi") [] Nmi
+  is_dma : (c : List ℕ) (n : ℕ) → decimal_in 0 last_channel c ≡ Some n → IsEvent version (codes "dma") (c ∷ []) (Dma n)
   is_feed : (c h : List ℕ) (n : ℕ) (bs : List ℕ) → decimal_in 0 last_channel c ≡ Some n → bytes_in h ≡ Some bs
-      → IsEvent (codes "feed") (c ∷ h ∷ []) (Feed n (record { items = bs }))
+      → IsEvent version (codes "feed") (c ∷ h ∷ []) (Feed n (record { items = bs }))
   is_show : (a l : List ℕ) (m n : ℕ) → address_of a ≡ Some m → decimal_in 1 most_shown l ≡ Some n
-      → IsEvent (codes "show") (a ∷ l ∷ []) (Show m n)
+      → IsEvent version (codes "show") (a ∷ l ∷ []) (Show m n)
 
 -- ---- the same as functions, which give the least fault too
 
@@ -95,6 +121,18 @@ pin_of ws = do
   x ← one_of ws
   n ← decimal_in 0 last_pin x
   Some (Pin n)
+
+unfoldable pub low_of : Words → Option Event
+low_of ws = do
+  x ← one_of ws
+  n ← decimal_in 0 last_pin x
+  Some (Low n)
+
+unfoldable pub high_of : Words → Option Event
+high_of ws = do
+  x ← one_of ws
+  n ← decimal_in 0 last_pin x
+  Some (High n)
 
 unfoldable pub nmi_of : Words → Option Event
 nmi_of [] = Some Nmi
@@ -120,14 +158,22 @@ show_of ws = do
   l ← decimal_in 1 most_shown p.1
   Some (Show a l)
 
--- the event of a name and operands, or the kind of their fault
-unfoldable pub event_of : List ℕ → Words → Result Event ℕ
-event_of name ws =
+-- the words that the version of levels has beside
+unfoldable pub level_event_of : List ℕ → Words → Result Event ℕ
+level_event_of name ws =
+    if bytes_eq name (codes "low") then ok_or (low_of ws) bad_operand
+    else if bytes_eq name (codes "high") then ok_or (high_of ws) bad_operand
+    else Err unknown_event
+
+-- the event of a name and operands in a version, or the kind of their fault
+unfoldable pub event_of : ℕ → List ℕ → Words → Result Event ℕ
+event_of version name ws =
     if bytes_eq name (codes "pin") then ok_or (pin_of ws) bad_operand
     else if bytes_eq name (codes "nmi") then ok_or (nmi_of ws) bad_operand
     else if bytes_eq name (codes "dma") then ok_or (dma_of ws) bad_operand
     else if bytes_eq name (codes "feed") then ok_or (feed_of ws) bad_operand
     else if bytes_eq name (codes "show") then ok_or (show_of ws) bad_operand
+    else if version == levels_version then level_event_of name ws
     else Err unknown_event
 
 -- ---- which events there are
@@ -139,6 +185,8 @@ IsUnit n = ((n ≡ 1) ⊎ (n ≡ 2)) ⊎ ((n ≡ 4) ⊎ (n ≡ 16))
 -- the operands are in their ranges
 abbrev pub IsInRange : Event → Type 0
 IsInRange (Pin x) = x ≤ last_pin
+IsInRange (Low x) = x ≤ last_pin
+IsInRange (High x) = x ≤ last_pin
 IsInRange Nmi = Unit {0}
 IsInRange (Dma c) = c ≤ last_channel
 IsInRange (Feed c bytes) = (c ≤ last_channel) × IsUnit (length bytes.items) × IsBytes bytes.items
@@ -149,6 +197,8 @@ IsInRange (Show a l) = (a ≤ last_address) × (1 ≤ l) × (l ≤ most_shown)
 -- numbers without leading zeros, an address in eight digits, and upper-case digits
 abbrev pub event_words : Event → Words
 event_words (Pin x) = codes "pin" ∷ decimal x ∷ []
+event_words (Low x) = codes "low" ∷ decimal x ∷ []
+event_words (High x) = codes "high" ∷ decimal x ∷ []
 event_words Nmi = codes "nmi" ∷ []
 event_words (Dma c) = codes "dma" ∷ decimal c ∷ []
 event_words (Feed c bytes) = codes "feed" ∷ decimal c ∷ encode_upper bytes.items ∷ []

@@ -1,5 +1,5 @@
 -- Interrupts: how they are posted, which one is chosen, and what its entry makes.
-use Rattle.std.specs.Prelude.{ℕ, ◌+◌, ◌-◌, ◌*◌, ◌/◌, ◌%◌, ◌^◌, Bool, true, false, ◌==◌, ◌&&◌, ◌||◌, nat_lt, if◌then◌else◌, slice_index, List, [], ◌∷◌, ◌++◌, map, filter, flat_map, find, Option, Some, None, Result}
+use Rattle.std.specs.Prelude.{ℕ, ◌+◌, ◌-◌, ◌*◌, ◌/◌, ◌%◌, ◌^◌, Bool, true, false, ◌==◌, ◌&&◌, ◌||◌, not, nat_lt, if◌then◌else◌, slice_index, List, [], ◌∷◌, ◌++◌, map, filter, flat_map, find, Option, Some, None, Result}
 use Rattle.std.specs.List.{range_with_len}
 use Rattle.i9_isa.specs.Words.{bit, field}
 use Rattle.i9_model.specs.declared.layout.TheConstants.{RECORD_SIZE, INTERRUPT_RETURN, SUPERVISOR_PLACE}
@@ -12,6 +12,7 @@ use Rattle.i9_model.specs.declared.faults.Entry.{Entry}
 use Rattle.i9_model.specs.Writes.{wrapped, upwards}
 use Rattle.i9_model.specs.Memory.{Memory, word_in, with_writes}
 use Rattle.i9_model.specs.State.{Frames, Interrupts, aligned}
+pub use Rattle.i9_model.specs.Pins.{by_edge, is_low, pending_word}
 use Rattle.i9_model.specs.Frames.{saved, wrote, pushed, record_address}
 use Rattle.i9_model.specs.Hazards.{or_else, unless, read_hazard, save_hazard, record_write_hazard}
 pub use Rattle.i9_model.specs.Requests.{with_bit, without_bit, vector_priority, priority_place, pending_place, byte_hazard}
@@ -21,9 +22,17 @@ use Rattle.i9_model.specs.Step.{bytes_of_words}
 
 -- ---- posting
 
--- a line is posted in the pending word
+-- a line is posted in the kept word
 abbrev pub posted : Interrupts → ℕ → Interrupts
 posted s k = record s { pending = with_bit s.pending k }
+
+-- a pin goes low: where it was high under falling edge, this posts it
+abbrev pub lowered : Interrupts → ℕ → Interrupts
+lowered s x = record (if by_edge s x && not (is_low s x) then posted s x else s) { low = with_bit s.low x }
+
+-- a pin goes high
+abbrev pub raised : Interrupts → ℕ → Interrupts
+raised s x = record s { low = without_bit s.low x }
 
 abbrev pub posted_nmi : Interrupts → Interrupts
 posted_nmi s = record s { nmi = true }
@@ -42,7 +51,7 @@ line_vector maps k = field (slice_index maps (k / 4)) (4 * (k % 4)) 4 * 16 + 2
 
 -- a line is posted and not masked
 abbrev pub is_open : Interrupts → ℕ → Bool
-is_open s k = bit s.pending k && bit s.mask k
+is_open s k = bit (pending_word s) k && bit s.mask k
 
 abbrev pub is_requested : Memory → ℕ → ℕ → Bool
 is_requested m table v =
@@ -120,7 +129,7 @@ taken_hazard m f table v =
     (or_else (read_hazard f (pending_place table v) 1)
     (or_else (priority_hazard m f table v) (byte_hazard f (pending_place table v))))
 
--- what chose an interrupt is cleared: of software, bytes of the interrupt table
+-- what chose an interrupt is cleared: of a line, its bit of the kept word; of software, bytes of the interrupt table
 abbrev pub cleared : Cause → Interrupts → Interrupts
 cleared Nmi s = record s { nmi = false }
 cleared (Line k) s = record s { pending = without_bit s.pending k }

@@ -4,6 +4,7 @@ pub mod HexText
 pub mod Memory
 pub mod Boot
 pub mod State
+pub mod Pins
 pub mod Frames
 pub mod Hazards
 pub mod Tables

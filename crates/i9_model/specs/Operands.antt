@@ -11,12 +11,13 @@ use Rattle.i9_model.specs.Addresses.{address_of}
 use Rattle.i9_model.specs.declared.dma.TheConstants.{COMMAND_MASK}
 use Rattle.i9_model.specs.declared.interrupts.TheConstants.{LINE_MASK}
 use Rattle.i9_model.specs.State.{State, Interrupts, Dma}
+use Rattle.i9_model.specs.Pins.{pending_word}
 
 -- ---- special function registers
 
--- sf0 is the pending word, sf1 the mask word, and sf2 the DMA command word
+-- sf0 is the pending word, and a write of it sets the kept one; sf1 the mask word, and sf2 the DMA command word
 abbrev pub special : State → ℕ → ℕ
-special s k = if k == 0 then s.interrupts.pending else if k == 1 then s.interrupts.mask else s.dma.dmac
+special s k = if k == 0 then pending_word s.interrupts else if k == 1 then s.interrupts.mask else s.dma.dmac
 
 -- of the first two the bits of lines are kept, and of the third the two bits of each channel
 abbrev pub with_pending : Interrupts → ℕ → Interrupts

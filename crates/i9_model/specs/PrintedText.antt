@@ -1,17 +1,17 @@
 -- The printed text of a run: its lines, and their bytes.
-use Rattle.std.specs.Prelude.{ℕ, ◌+◌, Option, Some, None, List, [], ◌∷◌, ◌++◌, codes, take, drop, map}
+use Rattle.std.specs.Prelude.{ℕ, ◌+◌, ◌==◌, if◌then◌else◌, Option, Some, None, List, [], ◌∷◌, ◌++◌, codes, take, drop, map}
 use Rattle.std.specs.Fmt.{decimal}
 use Rattle.std.specs.List.{flat_map, range_with_len}
 use Rattle.i9_text.specs.Written.{word_text, byte_text}
 use Rattle.i9_model.specs.declared.view.View.{View}
 use Rattle.i9_model.specs.declared.event.Event.{Event}
-use Rattle.i9_model.specs.declared.event.Event.TheVariants.{Pin, Nmi, Dma, Feed, Show}
+use Rattle.i9_model.specs.declared.event.Event.TheVariants.{Pin, Low, High, Nmi, Dma, Feed, Show}
 use Rattle.i9_model.specs.declared.event.Timed.{Timed}
 use Rattle.i9_model.specs.Writes.{wrapped}
 use Rattle.i9_model.specs.Memory.{console_byte}
 use Rattle.i9_model.specs.Overlay.{overlay}
 use Rattle.i9_model.specs.Events.{journal_text}
-use Rattle.i9_model.specs.ScheduleText.{timed_at}
+use Rattle.i9_model.specs.ScheduleText.{levels_version, timed_at}
 use Rattle.i9_model.specs.State.{State}
 use Rattle.i9_model.specs.Run.{Given, Point, End, Exit, Limit, Hazard, Dead, Imprecise, Finish, Kind, Instruction, Faulted, Entered, Interrupted, Reached, Record, point_of, action_done, state_after}
 use Rattle.i9_model.specs.declared.run.Point.TheVariants as points
@@ -49,6 +49,8 @@ overlays s a n = map (λ k. overlay s (wrapped (a + k))) (range_with_len 0 n)
 -- the bytes that an event shows
 abbrev pub bytes_lines : Event → State → List Shown
 bytes_lines (Pin x) s = []
+bytes_lines (Low x) s = []
+bytes_lines (High x) s = []
 bytes_lines Nmi s = []
 bytes_lines (Dma c) s = []
 bytes_lines (Feed c bytes) s = []
@@ -160,6 +162,10 @@ events_of (Last f ∷ ls) = events_of ls
 -- the text of a whole run
 abbrev pub run_text : Given → List Record → Finish → List ℕ
 run_text g rs f = text_of (lines_of rs ++ end_lines (state_after g rs) f)
+
+-- the line that tells the version of a schedule, where it has the levels of pins
+unfoldable pub heading_text : ℕ → List ℕ
+heading_text version = if version == levels_version then codes "schedule 2" ++ line_feed else []
 
 -- the status of the command for the end of a run
 abbrev pub end_code : End → ℕ

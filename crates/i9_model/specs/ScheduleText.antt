@@ -5,11 +5,14 @@ use Rattle.std.specs.List.{slice_get, list_all, AllByRecursion}
 use Rattle.std.specs.Str.{bytes_eq}
 use Rattle.i9_text.specs.Text.{words_of}
 use Rattle.i9_text.specs.FirstFault as texts
-use Rattle.i9_model.specs.Events.{Words, number_in, IsEvent, event_of, unknown_event, bad_operand, IsInRange}
+use Rattle.i9_model.specs.Events.{Words, number_in, one_of, IsEvent, event_of, unknown_event, bad_operand, IsInRange}
+pub use Rattle.i9_model.specs.Events.{first_version, levels_version, IsVersion, IsOfVersion}
 use Rattle.i9_model.specs.declared.event.Event.{Event}
 use Rattle.i9_model.specs.declared.event.When.{When}
 use Rattle.i9_model.specs.declared.event.When.TheVariants.{At, Turn}
 use Rattle.i9_model.specs.declared.event.Timed.{Timed}
+use Rattle.i9_model.specs.declared.event.Said.{Said}
+use Rattle.i9_model.specs.declared.event.Said.TheVariants as said
 
 -- ---- limits
 
@@ -53,12 +56,12 @@ timed_at k e = record { when = At k; event = e }
 abbrev pub timed_by_turn : ℕ → Event → Timed
 timed_by_turn t e = record { when = Turn t; event = e }
 
--- which words say an event and when it happens
-pub data IsTimed : Words → Timed → Type 0 where
-  is_at : (k name : List ℕ) (operands : Words) (n : ℕ) (e : Event) → count_of k ≡ Some n → IsEvent name operands e
-      → IsTimed (codes "at" ∷ k ∷ name ∷ operands) (timed_at n e)
-  is_turn : (t name : List ℕ) (operands : Words) (n : ℕ) (e : Event) → turn_of t ≡ Some n → IsEvent name operands e
-      → IsTimed (codes "turn" ∷ t ∷ name ∷ operands) (timed_by_turn n e)
+-- which words say an event and when it happens, in a version
+pub data IsTimed (version : ℕ) : Words → Timed → Type 0 where
+  is_at : (k name : List ℕ) (operands : Words) (n : ℕ) (e : Event) → count_of k ≡ Some n → IsEvent version name operands e
+      → IsTimed version (codes "at" ∷ k ∷ name ∷ operands) (timed_at n e)
+  is_turn : (t name : List ℕ) (operands : Words) (n : ℕ) (e : Event) → turn_of t ≡ Some n → IsEvent version name operands e
+      → IsTimed version (codes "turn" ∷ t ∷ name ∷ operands) (timed_by_turn n e)
 
 abbrev pub and_then : {A B : Type 0} → Result A ℕ → (A → Result B ℕ) → Result B ℕ
 and_then (Ok x) f = f x
@@ -77,21 +80,54 @@ turn_time word = option_map Turn (turn_of word)
 
 -- what the words behind the first one say, where the next one is read as this time, or the kind of their fault; an unknown
 -- event comes before a bad time
-unfoldable pub timed_by : (List ℕ → Option When) → Words → Result Timed ℕ
-timed_by time [] = Err unknown_event
-timed_by time (k ∷ []) = Err unknown_event
-timed_by time (k ∷ name ∷ operands) = do
-  e ← event_of name operands
+unfoldable pub timed_by : ℕ → (List ℕ → Option When) → Words → Result Timed ℕ
+timed_by version time [] = Err unknown_event
+timed_by version time (k ∷ []) = Err unknown_event
+timed_by version time (k ∷ name ∷ operands) = do
+  e ← event_of version name operands
   w ← ok_or (time k) bad_operand
   Ok (record { when = w; event = e })
 
--- what words say, or the kind of their fault
-unfoldable pub timed_of : Words → Result Timed ℕ
-timed_of [] = Err unknown_line
-timed_of (first ∷ rest) =
-    if bytes_eq first (codes "at") then timed_by count_time rest
-    else if bytes_eq first (codes "turn") then timed_by turn_time rest
+-- what words say in a version, or the kind of their fault
+unfoldable pub timed_of : ℕ → Words → Result Timed ℕ
+timed_of version [] = Err unknown_line
+timed_of version (first ∷ rest) =
+    if bytes_eq first (codes "at") then timed_by version count_time rest
+    else if bytes_eq first (codes "turn") then timed_by version turn_time rest
     else Err unknown_line
+
+-- ---- the version
+
+-- the words of the line that tells it
+abbrev pub heading : Words
+heading = codes "schedule" ∷ codes "2" ∷ []
+
+-- the version of a text whose lines so far told this one, or none
+abbrev pub version_in : Option ℕ → ℕ
+version_in None = first_version
+version_in (Some version) = version
+
+abbrev pub heading_by : Option (List ℕ) → Result Said ℕ
+heading_by None = Err bad_operand
+heading_by (Some word) = if bytes_eq word (codes "2") then Ok (said.Version levels_version) else Err bad_operand
+
+-- what the words behind `schedule` say, or the kind of their fault
+unfoldable pub heading_of : Words → Result Said ℕ
+heading_of ws = heading_by (one_of ws)
+
+abbrev pub event_said : ℕ → Words → Result Said ℕ
+event_said version ws = and_then (timed_of version ws) (λ t. Ok (said.Event t))
+
+-- what the words of the first line say that is not skipped, or the kind of their fault
+unfoldable pub opening_of : Words → Result Said ℕ
+opening_of [] = Err unknown_line
+opening_of (first ∷ rest) =
+    if bytes_eq first (codes "schedule") then heading_of rest else event_said first_version (first ∷ rest)
+
+-- the same behind lines that told this version, or none
+abbrev pub said_of : Option ℕ → Words → Result Said ℕ
+said_of None ws = opening_of ws
+said_of (Some version) ws = event_said version ws
 
 -- no byte is past ASCII
 abbrev pub is_ascii_byte : ℕ → Bool
@@ -108,12 +144,13 @@ hash = 35
 abbrev pub is_skipped : List ℕ → Bool
 is_skipped line = (slice_index line 0 == hash) || (length (words_of line) == 0)
 
--- what a line says by itself, nothing or an event, or the kind of its fault
-unfoldable pub line_of : List ℕ → Result (Option Timed) ℕ
-line_of line =
+-- what a line says by itself, behind lines that told this version, or none: nothing, the version, or an event; or the kind
+-- of its fault
+unfoldable pub line_of : Option ℕ → List ℕ → Result Said ℕ
+line_of version line =
     if not (is_ascii line) then Err unknown_line
-    else if is_skipped line then Ok None
-    else and_then (timed_of (words_of line)) (λ t. Ok (Some t))
+    else if is_skipped line then Ok said.Nothing
+    else said_of version (words_of line)
 
 -- ---- after the lines before
 
@@ -147,38 +184,61 @@ unfoldable pub fault_after : List Timed → Timed → Option ℕ
 fault_after ts t =
     first_fault (fault_after_last (slice_get ts (length ts - 1)) t) (fault_of_count (length ts))
 
--- what a line without fault says: nothing where it is skipped, else an event
-pub data Says : List Timed → List ℕ → List Timed → Type 0 where
-  says_nothing : (ts : List Timed) (line : List ℕ) → is_ascii line ≡ true → is_skipped line ≡ true → Says ts line ts
-  says_event : (ts : List Timed) (line : List ℕ) (t : Timed) → is_ascii line ≡ true → is_skipped line ≡ false
-      → IsTimed (words_of line) t → fault_after ts t ≡ None → Says ts line (ts ++ t ∷ [])
+-- what lines so far said: a version, or none, and events
+pub record SoFar : Type 0 where
+  pub version : Option ℕ
+  pub events : List Timed
+
+abbrev pub nothing_yet : SoFar
+nothing_yet = record { version = None; events = [] }
+
+-- what they said with one event more, which tells the version
+abbrev pub with_event : SoFar → Timed → SoFar
+with_event s t = record { version = Some (version_in s.version); events = s.events ++ t ∷ [] }
+
+-- what a line without fault says: nothing where it is skipped; the version, where no line before told it; or an event
+pub data Says : SoFar → List ℕ → SoFar → Type 0 where
+  says_nothing : (s : SoFar) (line : List ℕ) → is_ascii line ≡ true → is_skipped line ≡ true → Says s line s
+  says_version : (s : SoFar) (line : List ℕ) → is_ascii line ≡ true → is_skipped line ≡ false → s.version ≡ None
+      → words_of line ≡ heading → Says s line (record s { version = Some levels_version })
+  says_event : (s : SoFar) (line : List ℕ) (t : Timed) → is_ascii line ≡ true → is_skipped line ≡ false
+      → IsTimed (version_in s.version) (words_of line) t → fault_after s.events t ≡ None → Says s line (with_event s t)
 
 -- the fault of what a line says by itself
-abbrev pub fault_of_said : List Timed → Result (Option Timed) ℕ → Option ℕ
+abbrev pub fault_of_said : List Timed → Result Said ℕ → Option ℕ
 fault_of_said ts (Err kind) = Some kind
-fault_of_said ts (Ok None) = None
-fault_of_said ts (Ok (Some t)) = fault_after ts t
+fault_of_said ts (Ok said.Nothing) = None
+fault_of_said ts (Ok (said.Version version)) = None
+fault_of_said ts (Ok (said.Event t)) = fault_after ts t
 
--- The fault of a line, the least of its kinds: 1, it is not ASCII, or its first word is neither `at` nor `turn`; 2, there is
--- no event word, or an unknown one; 3, a number or operand is out of its form or range, or missing, or there is one too
--- many; 4, its first word is not that of the event before; 5, its time is below that of the event before; 6, there are too
--- many events.
-abbrev pub fault_of : List Timed → List ℕ → Option ℕ
-fault_of ts line = fault_of_said ts (line_of line)
+-- The fault of a line, the least of its kinds: 1, it is not ASCII, or its first word is neither `at` nor `turn`, nor is it
+-- `schedule` where no line before said anything; 2, there is no event word, or one that is unknown in the version; 3, a
+-- number or operand is out of its form or range, or missing, or there is one too many; 4, its first word is not that of the
+-- event before; 5, its time is below that of the event before; 6, there are too many events.
+abbrev pub fault_of : SoFar → List ℕ → Option ℕ
+fault_of s line = fault_of_said s.events (line_of s.version line)
 
 -- a text may end after every line
-abbrev pub nothing_missing : List Timed → Option ℕ
-nothing_missing ts = None
+abbrev pub nothing_missing : SoFar → Option ℕ
+nothing_missing s = None
 
 -- ---- whole texts
 
--- the lines say these events
-abbrev pub IsSchedule : List (List ℕ) → List Timed → Type 0
-IsSchedule lines ts = texts.SaysAll Says [] lines ts
+-- what a schedule says: its version and its events
+pub record Contents : Type 0 where
+  pub version : ℕ
+  pub events : List Timed
+
+abbrev pub contents_of : SoFar → Contents
+contents_of s = record { version = version_in s.version; events = s.events }
+
+-- the lines say this version and these events
+abbrev pub IsSchedule : List (List ℕ) → Contents → Type 0
+IsSchedule lines c = (s : SoFar) × texts.SaysAll Says nothing_yet lines s × (contents_of s ≡ c)
 
 -- the first line at fault, counted from 1, with its kind
 abbrev pub IsRefused : List (List ℕ) → ℕ × ℕ → Type 0
-IsRefused lines fault = texts.IsRefused Says fault_of nothing_missing [] lines fault
+IsRefused lines fault = texts.IsRefused Says fault_of nothing_missing nothing_yet lines fault
 
 -- ---- which events a schedule may have
 
@@ -217,6 +277,10 @@ AreCounted b ts = AllByRecursion (λ t. is_counted t.when ≡ b) ts
 -- the events of a schedule by counts: each happens after so many instructions
 abbrev pub IsByCounts : List Timed → Type 0
 IsByCounts ts = AreCounted true ts
+
+-- a schedule of this version may have the events
+abbrev pub AreOfVersion : ℕ → List Timed → Type 0
+AreOfVersion version ts = AllByRecursion (λ t. IsOfVersion version t.event) ts
 
 -- what the events of a schedule are
 pub record IsPlan (ts : List Timed) : Type 0 where

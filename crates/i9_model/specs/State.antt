@@ -15,11 +15,14 @@ pub record Frames : Type 0 where
   pub soft : ℕ → Bool
   pub live : List ℕ
 
--- pending and mask words, the three map words, and whether NMI is posted
+-- The kept pending word and the mask word, the three map words, the control word of pins (ICON), the word of the pins that
+-- are low, and whether NMI is posted.
 pub record Interrupts : Type 0 where
   pub pending : ℕ
   pub mask : ℕ
   pub maps : List ℕ
+  pub icon : ℕ
+  pub low : ℕ
   pub nmi : Bool
 
 -- what a DMA channel was set up with, as far as it has come
@@ -72,12 +75,15 @@ first_frame u = wrapped (rounded_up u.interrupt_stack)
 abbrev pub start_sets : Setup → List (ℕ × ℕ)
 start_sets u = frame_sets (0 ∷ wrapped (first_frame u + FRAME_SIZE) ∷ replicate 14 0) (first_frame u)
 
--- no interrupt is pending or unmasked; words 4 to 6 of the control table are the interrupt maps
-abbrev pub start_interrupts : Setup → Interrupts
-start_interrupts u = record {
+-- No interrupt is pending or unmasked; words 4 to 7 of the control table are the interrupt maps and the control word of
+-- pins. The levels of pins stay.
+abbrev pub start_interrupts : Setup → ℕ → Interrupts
+start_interrupts u low = record {
   pending = 0;
   mask = 0;
   maps = slice_index u.control 4 ∷ slice_index u.control 5 ∷ slice_index u.control 6 ∷ [];
+  icon = slice_index u.control 7;
+  low = low;
   nmi = false;
 }
 
@@ -95,9 +101,10 @@ start_trace u = record {
   };
 }
 
--- The state that start-up leaves, from the registers and the count before it, and the memory and the frames behind it.
-unfoldable pub started : Setup → (ℕ → ℕ) → ℕ → Memory → Frames → State
-started u regs count m f = record {
+-- The state that start-up leaves, from the registers, the count and the low pins before it, and the memory and the frames
+-- behind it.
+unfoldable pub started : Setup → (ℕ → ℕ) → ℕ → ℕ → Memory → Frames → State
+started u regs count low m f = record {
   regs = written regs (start_sets u);
   ip = aligned u.first;
   ac = u.ac;
@@ -106,14 +113,14 @@ started u regs count m f = record {
   check = false;
   memory = m;
   frames = f;
-  interrupts = start_interrupts u;
+  interrupts = start_interrupts u low;
   dma = no_dma;
   trace = start_trace u;
   tables = tables_of u;
 }
 
--- the state after boot
+-- the state after boot; all pins are high
 unfoldable pub boot : List (ℕ × ℕ) → State
 boot image =
     let m = image_memory image in
-    started (boot_setup m) (λ _. 0) 0 (boot_memory m) (record { soft = λ _. false; live = [] })
+    started (boot_setup m) (λ _. 0) 0 0 (boot_memory m) (record { soft = λ _. false; live = [] })

@@ -7,6 +7,10 @@ use arrayvec::ArrayVec;
 pub enum Event {
     /// The pin of this number, 0 to 7.
     Pin(u8),
+    /// The pin of this number goes low,
+    Low(u8),
+    /// or high.
+    High(u8),
     /// The non-maskable interrupt.
     Nmi,
     /// A unit of the DMA channel of this number, 0 to 3.
@@ -31,4 +35,15 @@ pub enum When {
 pub struct Timed {
     pub when: When,
     pub event: Event,
+}
+
+/// What a line of a schedule says.
+#[derive(Debug, Drop)]
+pub enum Said {
+    /// Nothing: it is skipped.
+    Nothing,
+    /// The version of the schedule.
+    Version(u8),
+    /// An event, and when it happens.
+    Event(Timed),
 }

@@ -24,7 +24,7 @@ mod view;
 
 pub use arith::Arith;
 pub use calls::{CallsStop, Pop, Sys};
-pub use event::{Event, Timed, When};
+pub use event::{Event, Said, Timed, When};
 pub use faults::{Entry, Fault, FaultStop, Handler};
 pub use frame::Frame;
 pub use interrupts::{Cause, Chosen};

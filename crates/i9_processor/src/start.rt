@@ -53,9 +53,10 @@ pub(crate) fn issue_start(file: &mut File, flags: &mut u32, landing: &Landing, s
     issue_frame(file, flags, landing, &first_locals(frame), frame, setup.ac);
 }
 
-/// Nothing is posted, and every line is masked; words of the control table are the interrupt maps.
-pub(crate) fn start_interrupts(setup: &Setup) -> Ints
-    ensures { interrupts_of result ≡ start_interrupts setup.now }
+/// Nothing is posted, and every line is masked; words of the control table are the interrupt maps and the control word of
+/// pins. The levels of pins stay.
+pub(crate) fn start_interrupts(setup: &Setup, before: &Ints) -> Ints
+    ensures { interrupts_of result ≡ start_interrupts setup.now (interrupts_of before.now).low }
 {
     let mut ints = Ints::new();
     ints.set_maps([setup.control[4], setup.control[5], setup.control[6]]);

@@ -22,6 +22,8 @@ pub fn copied(event: &Event) -> Event
 {
     match event {
         Event::Pin(pin) => Event::Pin(*pin),
+        Event::Low(pin) => Event::Low(*pin),
+        Event::High(pin) => Event::High(*pin),
         Event::Nmi => Event::Nmi,
         Event::Dma(channel) => Event::Dma(*channel),
         Event::Feed(channel, bytes) => Event::Feed(*channel, copied_bytes(bytes)),

@@ -63,6 +63,14 @@ pub fn event_text(alloc: Global, count: u64, event: &Event) -> Result<Vec<u8>, A
             push_word(&mut line, b"pin")?;
             push_decimal(alloc, &mut line, u64::from(*pin))?;
         }
+        Event::Low(pin) => {
+            push_word(&mut line, b"low")?;
+            push_decimal(alloc, &mut line, u64::from(*pin))?;
+        }
+        Event::High(pin) => {
+            push_word(&mut line, b"high")?;
+            push_decimal(alloc, &mut line, u64::from(*pin))?;
+        }
         Event::Nmi => push_word(&mut line, b"nmi")?,
         Event::Dma(channel) => {
             push_word(&mut line, b"dma")?;

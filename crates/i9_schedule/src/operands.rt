@@ -4,7 +4,7 @@ ghost use Rattle.std.specs.Option.{option_map};
 ghost use Rattle.std.specs.Result.{result_ok};
 ghost use Rattle.hex.specs.Hex.{decode_of};
 ghost use Rattle.i9_text.specs.Text.{words_of};
-ghost use Rattle.i9_model.specs.Events.{decimal_in, bytes_in, pin_of, nmi_of, dma_of, feed_of, show_of, event_of};
+ghost use Rattle.i9_model.specs.Events.{decimal_in, bytes_in, pin_of, low_of, high_of, nmi_of, dma_of, feed_of, show_of, event_of};
 
 use crate::error::{BAD_OPERAND, UNKNOWN_EVENT};
 use crate::words::{number_in, one_word, two_words};
@@ -37,6 +37,24 @@ fn pin(words: &[u8]) -> Option<Event>
 {
     let pin = decimal_in(one_word(words)?, 0, LAST_PIN)?;
     Some(Event::Pin(pin as u8))
+}
+
+/// The event `low` of these operands.
+#[tactic(auto, unfolding(i9_model::specs::Events::low_of))]
+fn low(words: &[u8]) -> Option<Event>
+    ensures { result ≡ low_of (words_of words.now) }
+{
+    let pin = decimal_in(one_word(words)?, 0, LAST_PIN)?;
+    Some(Event::Low(pin as u8))
+}
+
+/// The event `high` of these operands.
+#[tactic(auto, unfolding(i9_model::specs::Events::high_of))]
+fn high(words: &[u8]) -> Option<Event>
+    ensures { result ≡ high_of (words_of words.now) }
+{
+    let pin = decimal_in(one_word(words)?, 0, LAST_PIN)?;
+    Some(Event::High(pin as u8))
 }
 
 /// The event `nmi`, which has no operands.
@@ -116,6 +134,10 @@ pub(crate) fn event(name: &[u8], operands: &[u8]) -> Result<Event, u8>
 {
     if name == b"pin".as_slice() {
         pin(operands).ok_or(BAD_OPERAND)
+    } else if name == b"low".as_slice() {
+        low(operands).ok_or(BAD_OPERAND)
+    } else if name == b"high".as_slice() {
+        high(operands).ok_or(BAD_OPERAND)
     } else if name == b"nmi".as_slice() {
         nmi(operands).ok_or(BAD_OPERAND)
     } else if name == b"dma".as_slice() {
