@@ -1,7 +1,7 @@
 -- What the reader of a text answers.
 use Rattle.std.specs.Prelude.{◌≡◌, ℕ, List, Option, Some, None, Result, Ok, Err}
-use Rattle.std.specs.Global.{Vec}
-use Rattle.i9_model.specs.declared.event.Timed.{Timed}
+use Rattle.i9_model.specs.ScheduleText as texts
+use Rattle.i9_schedule.specs.declared.reading.SoFar.{SoFar}
 use Rattle.i9_schedule.specs.declared.error.LineFault.{LineFault}
 use Rattle.i9_schedule.specs.declared.error.LineError.{LineError}
 use Rattle.i9_schedule.specs.declared.error.LineError.TheVariants as errors
@@ -15,9 +15,13 @@ abbrev pub Fails : StepError → Option ℕ → Type 0
 Fails steps.Memory fault = Unit {0}
 Fails (steps.Bad kind) fault = fault ≡ Some kind
 
--- the events are the wanted ones where there is no fault, else the error is the fault, or want of memory
-abbrev pub Takes : Result (Vec Timed) StepError → Option ℕ → List Timed → Type 0
-Takes (Ok v) fault wanted = (fault ≡ None) × (v.items ≡ wanted)
+-- what the lines so far said
+abbrev pub said_by : SoFar → texts.SoFar
+said_by s = record { version = s.version; events = s.events.items }
+
+-- what was said is the wanted where there is no fault, else the error is the fault, or want of memory
+abbrev pub Takes : Result SoFar StepError → Option ℕ → texts.SoFar → Type 0
+Takes (Ok s) fault wanted = (fault ≡ None) × (said_by s ≡ wanted)
 Takes (Err e) fault wanted = Fails e fault
 
 -- the error of the text, for a line of this number

@@ -20,8 +20,8 @@ pub(crate) const TOO_MANY_EVENTS: u8 = 6;
 ///
 /// | kind | the line |
 /// |---|---|
-/// | 1 | has a byte past ASCII, or its first word is neither `at` nor `turn` |
-/// | 2 | has an unknown event word, or none |
+/// | 1 | has a byte past ASCII, or its first word is neither `at` nor `turn`, nor is it `schedule` on the first line that is not skipped |
+/// | 2 | has an event word that is unknown in the version, or none |
 /// | 3 | has a number or operand out of its form or range, or lacks one, or has one too many |
 /// | 4 | has `turn` where the event before has `at`, or the other way round |
 /// | 5 | has a count or turn below that of the event before |

@@ -1,10 +1,11 @@
 //! The line that a journal prints for an event.
-ghost use Rattle.std.specs.Prelude.{◌≡◌, ◌∷◌, ◌++◌, ◌≤◌, OnOk, IfOk, Ok, Some};
+ghost use Rattle.std.specs.Prelude.{◌≡◌, ◌∷◌, ◌++◌, ◌≤◌, ℕ, Option, OnOk, IfOk, Ok};
 ghost use Rattle.std.specs.Fmt.{decimal};
 ghost use Rattle.hex.specs.Hex.{encode_upper};
 ghost use Rattle.i9_text.specs.Text.{words_of, space};
 ghost use Rattle.i9_model.specs.Events.{journal_text, IsInRange};
-ghost use Rattle.i9_model.specs.ScheduleText.{IsTimed, line_of, timed_at, last_count};
+ghost use Rattle.i9_model.specs.ScheduleText.{IsOfVersion, IsTimed, version_in, line_of, timed_at, last_count};
+ghost use Rattle.i9_model.specs.declared.event.Said.TheVariants as said;
 
 use i9_isa::NoMemory;
 use i9_model::Event;
@@ -35,15 +36,18 @@ fn push_bytes(alloc: Global, line: &mut Vec<u8>, bytes: &[u8]) -> Result<(), All
 }
 
 /// The line that a journal prints for an event that is reached after `count` instructions, without
-/// its line feed. `read` reads it as the same event at the same count.
+/// its line feed. `read` reads it as the same event at the same count, in a text of a version that has
+/// the event: version 2 for `low` and `high`.
 pub fn journal_line(alloc: Global, count: u64, event: &Event) -> Result<Vec<u8>, NoMemory>
     requires count { count ≤ last_count }
     requires ranges { IsInRange event.now }
     ensures text { IfOk result (λ line. line.items ≡ journal_text count event.now) }
 
     // So its words say the event, and it is read as the event.
-    ensures says { IfOk result (λ line. IsTimed (words_of line.items) (timed_at count event.now)) }
-    ensures read { IfOk result (λ line. line_of line.items ≡ Ok (Some (timed_at count event.now))) }
+    ensures says { IfOk result (λ line. (version : ℕ) → IsOfVersion version event.now
+        → IsTimed version (words_of line.items) (timed_at count event.now)) }
+    ensures read { IfOk result (λ line. (told : Option ℕ) → IsOfVersion (version_in told) event.now
+        → line_of told line.items ≡ Ok (said.Event (timed_at count event.now))) }
 {
     match event_text(alloc, count, event) {
         Ok(line) => Ok(line),

@@ -9,6 +9,7 @@ mod operands;
 mod parsing;
 mod reading;
 mod schedule;
+mod version;
 mod words;
 
 pub use copying::copied;

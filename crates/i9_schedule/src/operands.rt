@@ -4,9 +4,10 @@ ghost use Rattle.std.specs.Option.{option_map};
 ghost use Rattle.std.specs.Result.{result_ok};
 ghost use Rattle.hex.specs.Hex.{decode_of};
 ghost use Rattle.i9_text.specs.Text.{words_of};
-ghost use Rattle.i9_model.specs.Events.{decimal_in, bytes_in, pin_of, low_of, high_of, nmi_of, dma_of, feed_of, show_of, event_of};
+ghost use Rattle.i9_model.specs.Events.{decimal_in, bytes_in, pin_of, low_of, high_of, nmi_of, dma_of, feed_of, show_of, level_event_of, event_of};
 
 use crate::error::{BAD_OPERAND, UNKNOWN_EVENT};
+use crate::version::LEVELS_VERSION;
 use crate::words::{number_in, one_word, two_words};
 use arrayvec::ArrayVec;
 use hex::FromHex;
@@ -127,17 +128,27 @@ fn feed(words: &[u8]) -> Option<Event>
     Some(Event::Feed(channel as u8, bytes))
 }
 
-/// The event of a name and operands, or the kind of their fault.
-#[tactic(auto, unfolding(i9_model::specs::Events::event_of))]
-pub(crate) fn event(name: &[u8], operands: &[u8]) -> Result<Event, u8>
-    ensures { result ≡ event_of name.now (words_of operands.now) }
+/// The event of a name that only the version of levels has, or the kind of the fault.
+#[tactic(auto, unfolding(i9_model::specs::Events::level_event_of))]
+fn level_event(name: &[u8], operands: &[u8]) -> Result<Event, u8>
+    ensures { result ≡ level_event_of name.now (words_of operands.now) }
 {
-    if name == b"pin".as_slice() {
-        pin(operands).ok_or(BAD_OPERAND)
-    } else if name == b"low".as_slice() {
+    if name == b"low".as_slice() {
         low(operands).ok_or(BAD_OPERAND)
     } else if name == b"high".as_slice() {
         high(operands).ok_or(BAD_OPERAND)
+    } else {
+        Err(UNKNOWN_EVENT)
+    }
+}
+
+/// The event of a name and operands in a version, or the kind of their fault.
+#[tactic(auto, unfolding(i9_model::specs::Events::event_of))]
+pub(crate) fn event(version: u8, name: &[u8], operands: &[u8]) -> Result<Event, u8>
+    ensures { result ≡ event_of version name.now (words_of operands.now) }
+{
+    if name == b"pin".as_slice() {
+        pin(operands).ok_or(BAD_OPERAND)
     } else if name == b"nmi".as_slice() {
         nmi(operands).ok_or(BAD_OPERAND)
     } else if name == b"dma".as_slice() {
@@ -146,6 +157,8 @@ pub(crate) fn event(name: &[u8], operands: &[u8]) -> Result<Event, u8>
         feed(operands).ok_or(BAD_OPERAND)
     } else if name == b"show".as_slice() {
         show(operands).ok_or(BAD_OPERAND)
+    } else if version == LEVELS_VERSION {
+        level_event(name, operands)
     } else {
         Err(UNKNOWN_EVENT)
     }

@@ -1,15 +1,16 @@
 //! What a line says, and whether it may follow the lines before it.
 ghost use Rattle.std.specs.Prelude.{◌≡◌};
 ghost use Rattle.i9_text.specs.Text.{words_of};
-ghost use Rattle.i9_model.specs.ScheduleText.{timed_by, timed_of, line_of, order_fault, fault_after};
+ghost use Rattle.i9_model.specs.ScheduleText.{timed_by, timed_of, opening_of, said_of, line_of, order_fault, fault_after};
 ghost use Rattle.i9_schedule.specs.Lines.{time_by};
 
 use crate::error::{
     BAD_OPERAND, EARLIER_TIME, MIXED_TIMES, TOO_MANY_EVENTS, UNKNOWN_EVENT, UNKNOWN_LINE,
 };
 use crate::operands::event;
+use crate::version::{FIRST_VERSION, heading};
 use crate::words::{is_ascii, is_skipped, number_in};
-use i9_model::{Timed, When};
+use i9_model::{Said, Timed, When};
 use i9_text::split_word;
 
 /// The last count that an event may have.
@@ -41,8 +42,8 @@ fn time(clock: Clock, word: &[u8]) -> Option<When>
 
 /// What the words behind `at` or `turn` say, or the kind of their fault.
 #[tactic(auto, unfolding(i9_model::specs::ScheduleText::timed_by))]
-fn timed_by(clock: Clock, words: &[u8]) -> Result<Timed, u8>
-    ensures { result ≡ timed_by (time_by clock) (words_of words.now) }
+fn timed_by(version: u8, clock: Clock, words: &[u8]) -> Result<Timed, u8>
+    ensures { result ≡ timed_by version (time_by clock) (words_of words.now) }
 {
     let (time_word, rest) = split_word(words).ok_or(UNKNOWN_EVENT)?;
     let (name, operands) = split_word(rest).ok_or(UNKNOWN_EVENT)?;
@@ -51,33 +52,50 @@ fn timed_by(clock: Clock, words: &[u8]) -> Result<Timed, u8>
     Ok(Timed { when, event })
 }
 
-/// What the words of a line say, or the kind of their fault.
+/// What the words of a line say in a version, or the kind of their fault.
 #[tactic(auto, unfolding(i9_model::specs::ScheduleText::timed_of))]
-fn timed(words: &[u8]) -> Result<Timed, u8>
-    ensures { result ≡ timed_of (words_of words.now) }
+fn timed(version: u8, words: &[u8]) -> Result<Timed, u8>
+    ensures { result ≡ timed_of version (words_of words.now) }
 {
     let (first, rest) = split_word(words).ok_or(UNKNOWN_LINE)?;
     if first == b"at".as_slice() {
-        timed_by(Clock::Instructions, rest)
+        timed_by(version, Clock::Instructions, rest)
     } else if first == b"turn".as_slice() {
-        timed_by(Clock::Turns, rest)
+        timed_by(version, Clock::Turns, rest)
     } else {
         Err(UNKNOWN_LINE)
     }
 }
 
-/// What a line says by itself, nothing or an event, or the kind of its fault.
+/// What the words of the first line say that is not skipped, or the kind of their fault.
+#[tactic(auto, unfolding(i9_model::specs::ScheduleText::opening_of))]
+fn opening(words: &[u8]) -> Result<Said, u8>
+    ensures { result ≡ opening_of (words_of words.now) }
+{
+    let (first, rest) = split_word(words).ok_or(UNKNOWN_LINE)?;
+    if first == b"schedule".as_slice() {
+        heading(rest)
+    } else {
+        Ok(Said::Event(timed(FIRST_VERSION, words)?))
+    }
+}
+
+/// What a line says by itself, behind lines that told this version, or none: nothing, the version, or an event;
+/// or the kind of its fault.
 #[tactic(auto, unfolding(i9_model::specs::ScheduleText::line_of))]
-pub(crate) fn said(line: &[u8]) -> Result<Option<Timed>, u8>
-    ensures { result ≡ line_of line.now }
+pub(crate) fn said(version: Option<u8>, line: &[u8]) -> Result<Said, u8>
+    ensures { result ≡ line_of version line.now }
 {
     if !is_ascii(line) {
         return Err(UNKNOWN_LINE);
     }
     if is_skipped(line) {
-        return Ok(None);
+        return Ok(Said::Nothing);
     }
-    Ok(Some(timed(line)?))
+    match version {
+        Some(version) => Ok(Said::Event(timed(version, line)?)),
+        None => opening(line),
+    }
 }
 
 /// The fault of a time after an earlier one.

@@ -2,37 +2,55 @@
 ghost use Rattle.std.specs.Prelude.{◌≡◌, ◌+◌, ◌<◌, ◌≤◌, length, IfSome};
 ghost use Rattle.std.specs.Option.{option_copied};
 ghost use Rattle.std.specs.List.{slice_get};
-ghost use Rattle.i9_model.specs.ScheduleText.{IsPlan, IsTimedInRange};
+ghost use Rattle.i9_model.specs.ScheduleText.{IsVersion, AreOfVersion, IsPlan, IsTimedInRange};
 
 use i9_model::Timed;
 use std::marker::Model;
 
-/// Events in order, and the place of the next one among them.
+/// Its version, events in order, and the place of the next one among them.
 #[derive(Debug, Drop)]
 pub struct Schedule {
+    version: u8,
     events: Vec<Timed>,
     place: usize,
 }
 
 impl Model for Schedule {
     ghost use Rattle.std.specs.Prelude.{◌≤◌, length};
-    ghost use Rattle.i9_model.specs.ScheduleText.{IsPlan};
+    ghost use Rattle.i9_model.specs.ScheduleText.{IsVersion, AreOfVersion, IsPlan};
     ghost use Rattle.i9_schedule.specs.Plan.{Plan};
 
     ghost Value = { Plan };
 
-    ghost view = { λ s. record { events = s.events.items; place = s.place } };
+    ghost view = { λ s. record { version = s.version; events = s.events.items; place = s.place } };
 
-    ghost invariant = { λ s. (s.place ≤ length s.events.items) × IsPlan s.events.items };
+    ghost invariant = { λ s. (s.place ≤ length s.events.items) × IsPlan s.events.items
+        × IsVersion s.version × AreOfVersion s.version s.events.items };
 }
 
 impl Schedule {
-    pub(crate) fn new(events: Vec<Timed>) -> Schedule
-        requires { IsPlan events.items }
+    pub(crate) fn new(version: u8, events: Vec<Timed>) -> Schedule
+        requires plan { IsPlan events.items }
+        requires version { IsVersion version }
+        requires of_version { AreOfVersion version events.items }
+        ensures version { result.version ≡ version }
         ensures events { result.events ≡ events.items }
         ensures place { result.place ≡ 0 }
     {
-        Schedule { events, place: 0 }
+        Schedule {
+            version,
+            events,
+            place: 0,
+        }
+    }
+
+    /// Its version, 1 or 2: one of version 2 may have the levels of pins.
+    pub fn version(&self) -> u8
+        ensures value { result ≡ self.now.version }
+        ensures known { IsVersion self.now.version }
+        ensures events { AreOfVersion self.now.version self.now.events }
+    {
+        self.version
     }
 
     /// The next event, where there is one.
