@@ -3,12 +3,14 @@
 #![tactic(auto)]
 
 mod backward;
+mod heading;
 mod place;
 mod print;
 mod sessions;
 mod text;
 
 pub use backward::last;
+pub use heading::print_heading;
 pub use i9_script::{Command, Script, read_script};
 pub use print::{
     Printed, print_elf_refusal, print_generated, print_line, print_lines, print_piece,

@@ -1,13 +1,12 @@
 -- A made schedule is read as a plan whose events stand at counts.
-use Rattle.std.proofs.Common.{◌≡◌, ℕ, zero, suc, ◌+◌, ◌*◌, ◌%◌, ◌≤◌, true, List, [], ◌∷◌, ◌++◌, length, refl, sym, ap, ◌∙◌, subst, append_assoc, codes, arith}
+use Rattle.std.proofs.Common.{◌≡◌, ℕ, zero, suc, ◌+◌, ◌*◌, ◌%◌, ◌≤◌, true, List, [], ◌∷◌, ◌++◌, length, refl, sym, ap, ◌∙◌, subst, append_assoc, codes, inl, arith}
 use Rattle.std.specs.List.{flat_map, range_with_len, join_with_byte, AllByRecursion}
 use Rattle.std.specs.Fmt.{decimal}
 use Rattle.i9_text.specs.Text.{lines_of}
 use Rattle.i9_model.specs.declared.event.Event.TheVariants.{Pin}
-use Rattle.i9_model.specs.declared.event.Timed.{Timed}
 use Rattle.i9_model.specs.Events.{journal_text}
-use Rattle.i9_model.specs.ScheduleText.{IsTimedInRange, InOrder, IsPlan, IsByCounts, IsSchedule, IsRefused}
-use Rattle.i9_model.specs.PrintedText.{Shown, Journal, event_text, text_of, events_of}
+use Rattle.i9_model.specs.ScheduleText.{first_version, AreOfVersion, IsTimedInRange, InOrder, IsPlan, IsByCounts, Contents, IsSchedule, IsRefused}
+use Rattle.i9_model.specs.PrintedText.{Shown, Journal, event_text, heading_text, text_of, events_of}
 use Rattle.i9_model.proofs.Replay.{replay}
 use Rattle.i9_schedule.proofs.OneAnswer.{answers_apart, one_schedule}
 use Rattle.i9_generator.specs.Generator.{drawn, pin_line, event_line, event_number, generated_schedule}
@@ -61,6 +60,10 @@ counted_made : (number : ℕ) (js : List ℕ) → IsByCounts (events_of (made_li
 counted_made number [] = tt
 counted_made number (j ∷ js) = (refl, counted_made number js)
 
+version_made : (number : ℕ) (js : List ℕ) → AreOfVersion first_version (events_of (made_lines number js))
+version_made number [] = tt
+version_made number (j ∷ js) = (tt, version_made number js)
+
 made_plan : (number : ℕ) → IsPlan (events_of (made_lines number (range_with_len 1 event_number)))
 made_plan number =
     let few = few_made number 1 event_number in
@@ -72,12 +75,15 @@ made_plan number =
     }
 
 -- the schedule is read as these events
-made_says : (number : ℕ) → IsSchedule (lines_of (generated_schedule number)) (events_of (made_lines number (range_with_len 1 event_number)))
-unfolding generated_schedule
+abbrev made_contents : ℕ → Contents
+made_contents number = record { version = first_version; events = events_of (made_lines number (range_with_len 1 event_number)) }
+
+made_says : (number : ℕ) → IsSchedule (lines_of (generated_schedule number)) (made_contents number)
+unfolding generated_schedule heading_text
 made_says number =
-    subst (λ (text : List ℕ). IsSchedule (lines_of text) (events_of (made_lines number (range_with_len 1 event_number))))
+    subst (λ (text : List ℕ). IsSchedule (lines_of text) (made_contents number))
     (sym (lines_are number (range_with_len 1 event_number)))
-    (replay (made_lines number (range_with_len 1 event_number)) (made_plan number))
+    (replay first_version (made_lines number (range_with_len 1 event_number)) (inl refl) (made_plan number) (version_made number (range_with_len 1 event_number)))
 
 -- a made schedule is read
 pub made_schedule : (number : ℕ) → HasPlan number
@@ -90,12 +96,9 @@ made_schedule number = record {
 
 -- so it is not refused
 pub schedule_not_refused : (number : ℕ) (fault : ℕ × ℕ) → IsRefused (lines_of (generated_schedule number)) fault → ⊥
-schedule_not_refused number fault refused =
-    let made = made_schedule number in
-    answers_apart (generated_schedule number) made.events fault made.said refused
+schedule_not_refused number fault refused = answers_apart (generated_schedule number) (made_contents number) fault (made_says number) refused
 
 -- whatever it is read as stands at counts
-pub schedule_counted : (number : ℕ) (events : List Timed) → IsSchedule (lines_of (generated_schedule number)) events → IsByCounts events
-schedule_counted number events says =
-    let made = made_schedule number in
-    subst IsByCounts (one_schedule (generated_schedule number) made.events events made.said says) made.counted
+pub schedule_counted : (number : ℕ) (c : Contents) → IsSchedule (lines_of (generated_schedule number)) c → IsByCounts c.events
+schedule_counted number c says =
+    subst (λ (x : Contents). IsByCounts x.events) (one_schedule (generated_schedule number) (made_contents number) c (made_says number) says) (made_schedule number).counted

@@ -165,6 +165,8 @@ unit_stores s c given bytes h =
 
 event_stores : (s : State) (e : Event) → IsInRange e → AreBytes s.memory → IsByEvent ReceivesBytes s e
 event_stores s (events.Pin x) range h = tt
+event_stores s (events.Low x) range h = tt
+event_stores s (events.High x) range h = tt
 event_stores s events.Nmi range h = tt
 event_stores s (events.Dma c) range h = unit_stores s c None tt h
 event_stores s (events.Feed c bytes) range h = unit_stores s c (Some bytes.items) range.2 h

@@ -2,12 +2,12 @@
 use Rattle.std.proofs.Common.{◌≡◌, ℕ, zero, suc, Bool, true, false, cond, List, [], ◌∷◌, length, Option, Some, None, Result, Ok, Err, refl, subst}
 use Rattle.std.specs.List.{slice_get, AllByRecursion}
 use Rattle.i9_model.specs.declared.event.Event.{Event}
-use Rattle.i9_model.specs.declared.event.Event.TheVariants.{Pin, Nmi, Dma, Feed, Show}
+use Rattle.i9_model.specs.declared.event.Event.TheVariants.{Pin, Low, High, Nmi, Dma, Feed, Show}
 use Rattle.i9_model.specs.declared.event.Timed.{Timed}
 use Rattle.i9_model.specs.Events.{IsInRange}
 use Rattle.i9_model.specs.ScheduleText.{IsTimedInRange, IsPlan, has_come_at, event_at}
 use Rattle.i9_model.specs.State.{State}
-use Rattle.i9_model.specs.Interrupts.{posted, posted_nmi}
+use Rattle.i9_model.specs.Interrupts.{posted, posted_nmi, lowered, raised}
 use Rattle.i9_model.specs.Dma.{Unit, unit, next_unit}
 use Rattle.i9_model.specs.Before.{Received, posting, moving_unit, received_by, received_in}
 use Rattle.i9_model.specs.Run.{Given, Record, reached_after, event_after, state_after}
@@ -46,6 +46,8 @@ IsByUnit P s c given = P (posting s s.interrupts) × P (moving_unit s c (Some (u
 -- a property of all that an event may do
 abbrev pub IsByEvent : (Received → Type 0) → State → Event → Type 0
 IsByEvent P s (Pin x) = P (posting s (posted s.interrupts x))
+IsByEvent P s (Low x) = P (posting s (lowered s.interrupts x))
+IsByEvent P s (High x) = P (posting s (raised s.interrupts x))
 IsByEvent P s Nmi = P (posting s (posted_nmi s.interrupts))
 IsByEvent P s (Dma c) = IsByUnit P s c None
 IsByEvent P s (Feed c bytes) = IsByUnit P s c (Some bytes.items)
@@ -67,6 +69,8 @@ received_by_unit P s c given (Err a) u h next is = absurd cc
 pub received_as : (P : Received → Type 0) (s : State) (e : Event) (u : Received) → IsByEvent P s e → received_in s e ≡ Ok u → P u
 unfolding received_in
 received_as P s (Pin x) u h is = same_received P (posting s (posted s.interrupts x)) u h is
+received_as P s (Low x) u h is = same_received P (posting s (lowered s.interrupts x)) u h is
+received_as P s (High x) u h is = same_received P (posting s (raised s.interrupts x)) u h is
 received_as P s Nmi u h is = same_received P (posting s (posted_nmi s.interrupts)) u h is
 received_as P s (Dma c) u h is = received_by_unit P s c None (next_unit s.memory s.frames s.dma c None) u h refl is
 received_as P s (Feed c bytes) u h is =

@@ -1,7 +1,7 @@
 -- Along every run of a schedule's plan the pending and the mask word have the bits of lines alone, and the DMA command word
 -- those of channels.
 use Rattle.std.proofs.Common.{◌≡◌, ℕ, ◌+◌, ◌^◌, ◌<◌, ◌≤◌, Bool, true, false, cond, eqb, List, [], ◌∷◌, Option, Some, None, refl, sym, ◌∙◌, subst, arith}
-use Rattle.std.specs.Prelude.{◌==◌, ◌&&◌}
+use Rattle.std.specs.Prelude.{◌==◌, ◌&&◌, not}
 use Rattle.std.proofs.lemmas.Nat.{and_mask, pow_below}
 use Rattle.i9_isa.specs.declared.op.Op.{Op}
 use Rattle.i9_isa.specs.declared.op.Op.TheVariants.{Lda, Atadd, Atmod, Bx, Balx, Bal, Call, Callx, Calls, Ret, Flushreg, Modac, Modtc, Modpc, Sdma, Sysctl}
@@ -18,7 +18,7 @@ use Rattle.i9_model.specs.declared.dma.TheConstants.{COMMAND_MASK, FIRST_ENDED_P
 use Rattle.i9_model.specs.declared.interrupts.Cause.{Cause}
 use Rattle.i9_model.specs.declared.interrupts.Cause.TheVariants as causes
 use Rattle.i9_model.specs.declared.event.Event.{Event}
-use Rattle.i9_model.specs.declared.event.Event.TheVariants.{Pin, Nmi, Dma, Feed, Show}
+use Rattle.i9_model.specs.declared.event.Event.TheVariants.{Pin, Low, High, Nmi, Dma, Feed, Show}
 use Rattle.i9_model.specs.declared.run.Due.{Due}
 use Rattle.i9_model.specs.Events.{last_channel, IsInRange}
 use Rattle.i9_model.specs.ScheduleText.{IsPlan}
@@ -28,7 +28,7 @@ use Rattle.i9_model.specs.State.{State, Interrupts, Channel, started, boot}
 use Rattle.i9_model.specs.Numbers.{complement}
 use Rattle.i9_model.specs.Branches.{asks, question_of}
 use Rattle.i9_model.specs.Operands.{with_pending, with_mask, with_command, with_dma_special, interrupts_assigned, dma_assigned, value, address}
-use Rattle.i9_model.specs.Interrupts.{posted, cleared}
+use Rattle.i9_model.specs.Interrupts.{with_bit, by_edge, is_low, posted, lowered, cleared}
 use Rattle.i9_model.specs.Requests.{without_bit}
 use Rattle.i9_model.specs.Dma.{set_up, is_last, posts_at_end, ended, dma_behind}
 use Rattle.i9_model.specs.Tables.{group_words}
@@ -64,6 +64,13 @@ line_bit k h = let small = pow_below k 12 h in and_mask (2 ^ k) 12 ∙ omega (ar
 posted_lines : (k : ℕ) (i : Interrupts) (d : states.Dma) → k < 12 → AreLines i d → AreLines (posted i k) d
 posted_lines k i d small h =
     record { pending = masked_or LINE_MASK i.pending (2 ^ k) h.pending (line_bit k small); mask = h.mask; command = h.command }
+
+lowered_lines : (x : ℕ) (i : Interrupts) (d : states.Dma) → x < 12 → AreLines i d → AreLines (lowered i x) d
+lowered_lines x i d small h = by_post (by_edge i x && not (is_low i x))
+  where
+    by_post : (b : Bool) → AreLines (record (cond b (posted i x) i) { low = with_bit i.low x }) d
+    by_post true = let p = posted_lines x i d small h in record { pending = p.pending; mask = p.mask; command = p.command }
+    by_post false = record { pending = h.pending; mask = h.mask; command = h.command }
 
 cleared_lines : (c : Cause) (i : Interrupts) (d : states.Dma) → AreLines i d → AreLines (cleared c i) d
 cleared_lines causes.Nmi i d h = record { pending = h.pending; mask = h.mask; command = h.command }
@@ -182,6 +189,8 @@ unit_lines s c given small h = (h, posted_at_end (is_last (s.dma.channels c) && 
 
 event_lines : (s : State) (e : Event) → IsInRange e → HasLines s → IsByEvent ReceivesLines s e
 event_lines s (Pin x) range h = posted_lines x s.interrupts s.dma (omega (arith, range)) h
+event_lines s (Low x) range h = lowered_lines x s.interrupts s.dma (omega (arith, range)) h
+event_lines s (High x) range h = record { pending = h.pending; mask = h.mask; command = h.command }
 event_lines s Nmi range h = record { pending = h.pending; mask = h.mask; command = h.command }
 event_lines s (Dma c) range h = unit_lines s c None range h
 event_lines s (Feed c bytes) range h = unit_lines s c (Some bytes.items) range.0 h

@@ -2,13 +2,12 @@
 -- them, and with them and any number of sets it is the same run.
 use Rattle.std.proofs.Common.{◌≡◌, ℕ, zero, suc, ◌<◌, ◌≤◌, true, List, [], ◌∷◌, ◌++◌, length, Option, Some, None, refl, sym, ◌∙◌, subst, inl, inr, length-append, arith, ap}
 use Rattle.std.specs.List.{slice_get, AllByRecursion}
-use Rattle.i9_text.specs.Text as texts
 use Rattle.i9_model.specs.declared.event.Event.{Event}
 use Rattle.i9_model.specs.declared.event.Timed.{Timed}
 use Rattle.i9_model.specs.declared.layout.TheConstants.{MAX_LENGTH}
 use Rattle.i9_model.specs.declared.run.End.{End}
-use Rattle.i9_model.specs.Events.{IsInRange}
-use Rattle.i9_model.specs.ScheduleText.{time_of, timed_at, IsTimedInRange, InOrder, IsPlan, IsSchedule}
+use Rattle.i9_model.specs.Events.{IsInRange, IsOfVersion}
+use Rattle.i9_model.specs.ScheduleText.{time_of, timed_at, IsVersion, AreOfVersion, IsTimedInRange, InOrder, IsPlan}
 use Rattle.i9_model.specs.Run.{Given, Record, Does, next_with, reached_after, state_after, Finish, Ends, finish, reached_last, reached_in}
 use Rattle.i9_model.specs.PrintedText.{run_text}
 use Rattle.i9_model.proofs.Heedful.{heedful, counted, with_plan}
@@ -18,7 +17,7 @@ use Rattle.i9_course.specs.Course.{records_of, event_ahead, instruction_turn, co
 use Rattle.i9_course.specs.LateRun.{steps, IsLatePast, IsLateRun}
 use Rattle.i9_course.proofs.LateRuns.{records_of-steps, next_of_steps, late_next, late_within, run_cases, run_ends}
 use Rattle.i9_course.proofs.LateSame.{run_again, run_sets, in_counted}
-use Rattle.i9_laws.proofs.RunsAgain.{text_says}
+use Rattle.i9_laws.proofs.RunsAgain.{SaysReached, text_says}
 use Rattle.std.proofs.lemmas.List.{append-nil}
 
 -- ---- one event more
@@ -27,6 +26,11 @@ each_more : (ts : List Timed) (t : Timed) → AllByRecursion IsTimedInRange ts �
     → AllByRecursion IsTimedInRange (ts ++ t ∷ [])
 each_more [] t h new = (new, tt)
 each_more (x ∷ ts) t h new = (h.0, each_more ts t h.1 new)
+
+version_more : (version : ℕ) (ts : List Timed) (t : Timed) → AreOfVersion version ts → IsOfVersion version t.event
+    → AreOfVersion version (ts ++ t ∷ [])
+version_more version [] t h new = (new, tt)
+version_more version (x ∷ ts) t h new = (h.0, version_more version ts t h.1 new)
 
 order_more : (time : ℕ) (ts : List Timed) (t : Timed) → InOrder time ts → last_time time ts ≤ time_of t
     → InOrder time (ts ++ t ∷ [])
@@ -40,7 +44,18 @@ planned [] k t each is = absurd cc
 planned (x ∷ ts) zero t each is = let same : x ≡ t = cc in (subst IsTimedInRange same each.0, omega arith)
 planned (x ∷ ts) (suc k) t each is = let p = planned ts k t each.1 is in (p.0, omega (arith, p.1))
 
+-- and it is of its version
+of_version : (version : ℕ) (ts : List Timed) (k : ℕ) (t : Timed) → AreOfVersion version ts → slice_get ts k ≡ Some t
+    → IsOfVersion version t.event
+of_version version [] k t each is = absurd cc
+of_version version (x ∷ ts) zero t each is = let same : x ≡ t = cc in subst (λ (y : Timed). IsOfVersion version y.event) same each.0
+of_version version (x ∷ ts) (suc k) t each is = of_version version ts k t each.1 is
+
 -- ---- along a late run
+
+-- a schedule of a version that may have the events of the plan may have these
+abbrev KeepsVersion : Given → List Timed → Type 0
+KeepsVersion g ts = (version : ℕ) → AreOfVersion version g.plan → AreOfVersion version ts
 
 -- the events that were reached are in range and in order, none is at a count that has not come, and they are no more than
 -- the plan has
@@ -49,6 +64,7 @@ record Fits (g : Given) (rs : List Record) : Type 0 where
   order : InOrder 0 (reached_after rs)
   last : last_time 0 (reached_after rs) ≤ (state_after g rs).count
   few : length (reached_after rs) ≤ length g.plan
+  version : KeepsVersion g (reached_after rs)
 
 same_fits : (g : Given) (rs : List Record) (r : Record) → Fits g rs → reached_after (r ∷ rs) ≡ reached_after rs
     → (state_after g rs).count ≤ r.after.count → Fits g (r ∷ rs)
@@ -59,12 +75,14 @@ same_fits g rs r f same grows =
       order = subst (λ (ts : List Timed). InOrder 0 ts) (sym same) f.order;
       last = subst (λ (ts : List Timed). last_time 0 ts ≤ r.after.count) (sym same) (omega (arith, last, grows));
       few = subst (λ (ts : List Timed). length ts ≤ length g.plan) (sym same) f.few;
+      version = subst (KeepsVersion g) (sym same) f.version;
     }
 
 more_fits : (g : Given) (rs : List Record) (r : Record) (t : Timed) → Fits g rs → reached_after (r ∷ rs) ≡ reached_after rs ++ t ∷ []
     → IsTimedInRange t → last_time 0 (reached_after rs) ≤ time_of t → time_of t ≤ r.after.count
-    → length (reached_after rs) < length g.plan → Fits g (r ∷ rs)
-more_fits g rs r t f grown fine after before room =
+    → length (reached_after rs) < length g.plan → ((version : ℕ) → AreOfVersion version g.plan → IsOfVersion version t.event)
+    → Fits g (r ∷ rs)
+more_fits g rs r t f grown fine after before room of =
     let here = reached_after rs in
     let long = length-append here (t ∷ []) in
     record {
@@ -73,6 +91,7 @@ more_fits g rs r t f grown fine after before room =
       last = subst (λ (ts : List Timed). last_time 0 ts ≤ r.after.count) (sym grown)
           (subst (λ (n : ℕ). n ≤ r.after.count) (sym (last_time-push 0 here t)) before);
       few = subst (λ (ts : List Timed). length ts ≤ length g.plan) (sym grown) (omega (arith, long, room));
+      version = subst (KeepsVersion g) (sym grown) (λ version plan. version_more version here t (f.version version plan) (of version plan));
     }
 
 same_record : (r q : Record) → Does r ≡ Does q → r ≡ q
@@ -83,7 +102,7 @@ same_finish f k e = cc
 
 -- the event that stands is one of the plan, at the place behind those that were reached
 stands : (g : Given) (rs : List Record) (e : Event) → IsPlan g.plan → event_ahead g (steps rs) ≡ Some e
-    → IsInRange e × (length (reached_after rs) < length g.plan)
+    → IsInRange e × (length (reached_after rs) < length g.plan) × ((version : ℕ) → AreOfVersion version g.plan → IsOfVersion version e)
 stands g rs e plan at =
     let past = records_of (steps rs) in
     let there =
@@ -91,10 +110,11 @@ stands g rs e plan at =
     let p = planned g.plan (length (reached_after past)) there.0 plan.each there.1 in (
       subst IsInRange there.2 p.0.event,
       subst (λ (qs : List Record). length (reached_after qs) < length g.plan) (records_of-steps rs) p.1,
+      λ version of. subst (IsOfVersion version) there.2 (of_version version g.plan (length (reached_after past)) there.0 of there.1),
     )
 
 fits : (g : Given) (rs : List Record) → IsPlan g.plan → g.length ≤ MAX_LENGTH → IsLatePast g rs → Fits g rs
-fits g [] plan short past = record { each = tt; order = tt; last = omega arith; few = omega arith }
+fits g [] plan short past = record { each = tt; order = tt; last = omega arith; few = omega arith; version = λ version of. tt }
 fits g (r ∷ rs) plan short past =
     by_event (fits g rs plan short past.0) (event_ahead g (steps rs)) refl (sym (next_of_steps g rs) ∙ late_next g rs r past)
   where
@@ -111,7 +131,7 @@ fits g (r ∷ rs) plan short past =
               let within = late_within g rs past.0 in
               let most : MAX_LENGTH ≡ 10000000 = refl in
               let fine : IsTimedInRange t = record { time = omega (arith, within, short, most); event = one.0 } in
-              more_fits g rs r t before grown fine before.last grows one.1
+              more_fits g rs r t before grown fine before.last grows one.1 one.2
           | inr (inr ends) ↦ absurd (cc (sym ends.1 ∙ is))
         ]
 
@@ -120,10 +140,11 @@ record FitsTo (g : Given) (rs : List Record) (ts : List Timed) : Type 0 where
   each : AllByRecursion IsTimedInRange ts
   order : InOrder 0 ts
   few : length ts ≤ length g.plan
+  version : KeepsVersion g ts
 
 fits_none : (g : Given) (rs : List Record) → Fits g rs → FitsTo g rs (reached_after rs ++ [])
 fits_none g rs f =
-    subst (FitsTo g rs) (sym (append-nil (reached_after rs))) (record { each = f.each; order = f.order; few = f.few })
+    subst (FitsTo g rs) (sym (append-nil (reached_after rs))) (record { each = f.each; order = f.order; few = f.few; version = f.version })
 
 fits_one : (g : Given) (rs : List Record) (e : Event) → IsPlan g.plan → g.length ≤ MAX_LENGTH → IsLatePast g rs
     → event_ahead g (steps rs) ≡ Some e → FitsTo g rs (reached_after rs ++ timed_at (state_after g rs).count e ∷ [])
@@ -140,6 +161,7 @@ fits_one g rs e plan short past at =
       each = each_more (reached_after rs) t f.each fine;
       order = order_more 0 (reached_after rs) t f.order f.last;
       few = omega (arith, long, room);
+      version = λ version plan. version_more version (reached_after rs) t (f.version version plan) (one.2 version plan);
     }
 
 -- an end that comes next reached nothing, or the event that stood there
@@ -183,14 +205,17 @@ fit_plan g rs f plan fit =
 
 -- ---- its text, and the run of what it reached
 
-pub late_text : (g : Given) (rs : List Record) (f : Finish) → IsPlan g.plan → g.length ≤ MAX_LENGTH → IsLateRun g rs f
-    → IsSchedule (texts.lines_of (run_text g rs f)) (reached_in g rs f)
-late_text g rs f plan short run = text_says g rs f (fit_plan g rs f plan (run_fits g rs f plan short run))
+pub late_text : (version : ℕ) (g : Given) (rs : List Record) (f : Finish) → IsVersion version → IsPlan g.plan → AreOfVersion version g.plan
+    → g.length ≤ MAX_LENGTH → IsLateRun g rs f → SaysReached version g rs f
+late_text version g rs f is plan of short run =
+    let fit = run_fits g rs f plan short run in
+    text_says version g rs f is (fit_plan g rs f plan fit) (fit.version version of)
 
-pub late_cut : (g : Given) (rs : List Record) (e : End) → IsPlan g.plan → g.length ≤ MAX_LENGTH → IsLatePast g rs
-    → IsSchedule (texts.lines_of (run_text g rs (finish e))) (reached_in g rs (finish e))
-late_cut g rs e plan short past =
-    text_says g rs (finish e) (fit_plan g rs (finish e) plan (fits_none g rs (fits g rs plan short past)))
+pub late_cut : (version : ℕ) (g : Given) (rs : List Record) (e : End) → IsVersion version → IsPlan g.plan → AreOfVersion version g.plan
+    → g.length ≤ MAX_LENGTH → IsLatePast g rs → SaysReached version g rs (finish e)
+late_cut version g rs e is plan of short past =
+    let fit = fits_none g rs (fits g rs plan short past) in
+    text_says version g rs (finish e) is (fit_plan g rs (finish e) plan fit) (fit.version version of)
 
 placed_text : (g : Given) (asked : Option ℕ) (plan : List Timed) (rs : List Record) (f : Finish)
     → run_text (record g { plan = plan; sets = asked }) rs f ≡ run_text g rs f

@@ -3,18 +3,18 @@ use Rattle.std.proofs.Common.{◌≡◌, ℕ, List, [], ◌∷◌, ◌++◌, Opt
 use Rattle.std.proofs.lemmas.List.{append-nil}
 use Rattle.i9_text.specs.Text as texts
 use Rattle.i9_model.specs.declared.event.Event.{Event}
-use Rattle.i9_model.specs.declared.event.Event.TheVariants.{Pin, Nmi, Dma, Feed, Show}
+use Rattle.i9_model.specs.declared.event.Event.TheVariants.{Pin, Low, High, Nmi, Dma, Feed, Show}
 use Rattle.i9_model.specs.declared.event.Timed.{Timed}
 use Rattle.i9_model.specs.declared.run.End.{End}
 use Rattle.i9_model.specs.declared.run.End.TheVariants.{Exit, Limit, Hazard, Dead, Imprecise}
 use Rattle.i9_model.specs.declared.run.Point.{Point}
 use Rattle.i9_model.specs.State.{State}
-use Rattle.i9_model.specs.ScheduleText.{timed_at, IsPlan, IsSchedule}
+use Rattle.i9_model.specs.ScheduleText.{timed_at, IsVersion, AreOfVersion, IsPlan, Contents, IsSchedule}
 use Rattle.i9_model.specs.Run.{Given, Kind, Instruction, Faulted, Entered, Interrupted, Reached, Record, Ends, action_done, point_of, next_with, reached_by, reached_after, state_after, IsPast, IsRun, Finish, finish, reached_last, reached_in}
-use Rattle.i9_model.specs.PrintedText.{Shown, Out, Drained, Journal, Bytes, Last, out_lines, point_lines, bytes_lines, event_lines, record_lines, lines_of, end_lines, text_of, events_of, run_text, view_of, journal_lines, last_lines}
+use Rattle.i9_model.specs.PrintedText.{Shown, Out, Drained, Journal, Bytes, Last, out_lines, point_lines, bytes_lines, event_lines, record_lines, lines_of, end_lines, text_of, events_of, run_text, heading_text, view_of, journal_lines, last_lines}
 use Rattle.i9_model.specs.Memory.{console_byte}
 use Rattle.i9_model.proofs.Heedful.{tally, heedful, planned_past, with_plan, next_planned, past_planned}
-use Rattle.i9_model.proofs.Plans.{front_is_plan}
+use Rattle.i9_model.proofs.Plans.{front_is_plan, front_of_version}
 use Rattle.i9_model.proofs.PlannedRuns.{reached_front, run_of_reached, reached_to_end}
 use Rattle.i9_model.proofs.Replay.{replay}
 use Rattle.i9_model.specs.declared.view.View.{View}
@@ -62,6 +62,8 @@ point_none (Some k) s = refl
 
 bytes_none : (e : Event) (s : State) → events_of (bytes_lines e s) ≡ []
 bytes_none (Pin x) s = refl
+bytes_none (Low x) s = refl
+bytes_none (High x) s = refl
 bytes_none Nmi s = refl
 bytes_none (Dma c) s = refl
 bytes_none (Feed c bytes) s = refl
@@ -116,26 +118,35 @@ end_reached s f =
     ∙ ap (λ (ts : List Timed). events_of (journal_lines s.count f.event) ++ ts) (last_none (view_of s) f.end)
     ∙ append-nil (events_of (journal_lines s.count f.event)) ∙ journal_last s.count f.event
 
-pub text_says : (g : Given) (rs : List Record) (f : Finish) → IsPlan (reached_in g rs f)
-    → IsSchedule (texts.lines_of (run_text g rs f)) (reached_in g rs f)
-text_says g rs f plan =
+-- the text behind the line of a version says it, and the events that were reached
+abbrev pub SaysReached : ℕ → Given → List Record → Finish → Type 0
+SaysReached version g rs f =
+    IsSchedule (texts.lines_of (heading_text version ++ run_text g rs f)) (record { version = version; events = reached_in g rs f })
+
+pub text_says : (version : ℕ) (g : Given) (rs : List Record) (f : Finish) → IsVersion version → IsPlan (reached_in g rs f)
+    → AreOfVersion version (reached_in g rs f) → SaysReached version g rs f
+text_says version g rs f is plan of =
     let last = end_lines (state_after g rs) f in
     let lines = lines_of rs ++ last in
     let events : events_of lines ≡ reached_in g rs f =
     events_append (lines_of rs) last
     ∙ ap (λ (ts : List Timed). events_of (lines_of rs) ++ ts) (end_reached (state_after g rs) f)
     ∙ ap (λ (ts : List Timed). ts ++ reached_last (state_after g rs).count f.event) (records_reached rs) in
-    subst (IsSchedule (texts.lines_of (text_of lines))) events (replay lines (subst IsPlan (sym events) plan))
+    let says = replay version lines is (subst IsPlan (sym events) plan) (subst (AreOfVersion version) (sym events) of) in
+    subst (λ (ts : List Timed). IsSchedule (texts.lines_of (heading_text version ++ text_of lines)) (record { version = version; events = ts })) events says
 
-pub cut_is_schedule : (g : Given) (rs : List Record) (e : End) → IsPlan g.plan → IsPast g rs
-    → IsSchedule (texts.lines_of (run_text g rs (finish e))) (reached_in g rs (finish e))
-cut_is_schedule g rs e plan past =
+pub cut_is_schedule : (version : ℕ) (g : Given) (rs : List Record) (e : End) → IsVersion version → IsPlan g.plan → AreOfVersion version g.plan
+    → IsPast g rs → SaysReached version g rs (finish e)
+cut_is_schedule version g rs e is plan of past =
     let front = reaches_front g rs past in
     let whole = front_is_plan (reached_after rs) front.0 (subst IsPlan (sym front.1) plan) in
-    text_says g rs (finish e) (subst IsPlan (sym (append-nil (reached_after rs))) whole)
+    let same = sym (append-nil (reached_after rs)) in
+    let each = front_of_version version (reached_after rs) front.0 (subst (AreOfVersion version) (sym front.1) of) in
+    text_says version g rs (finish e) is (subst IsPlan same whole) (subst (AreOfVersion version) same each)
 
-pub text_is_schedule : (g : Given) (rs : List Record) (f : Finish) → IsPlan g.plan → IsRun g rs f
-    → IsSchedule (texts.lines_of (run_text g rs f)) (reached_in g rs f)
-text_is_schedule g rs f plan run =
+pub text_is_schedule : (version : ℕ) (g : Given) (rs : List Record) (f : Finish) → IsVersion version → IsPlan g.plan → AreOfVersion version g.plan
+    → IsRun g rs f → SaysReached version g rs f
+text_is_schedule version g rs f is plan of run =
     let front = reaches_whole g rs f run in
-    text_says g rs f (front_is_plan (reached_in g rs f) front.0 (subst IsPlan (sym front.1) plan))
+    text_says version g rs f is (front_is_plan (reached_in g rs f) front.0 (subst IsPlan (sym front.1) plan))
+    (front_of_version version (reached_in g rs f) front.0 (subst (AreOfVersion version) (sym front.1) of))

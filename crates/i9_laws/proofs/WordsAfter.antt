@@ -39,6 +39,8 @@ use Rattle.i9_model.specs.declared.interrupts.Chosen.{Chosen}
 use Rattle.i9_model.specs.declared.event.Event.{Event}
 use Rattle.i9_model.specs.ScheduleText.{IsPlan}
 use Rattle.i9_model.specs.Interrupts.{vector_place, base_for}
+use Rattle.i9_model.specs.Pins.{level_word, pending_word}
+use Rattle.std.specs.Int.Bits.{or_add_and}
 use Rattle.i9_model.specs.Before.{interrupt_in, interrupting}
 use Rattle.i9_model.specs.Run.{Given, Record, Kind, Instruction, Faulted, Entered, Interrupted, Reached, action_by_kind, action_done, due_after, event_after, state_after, IsPast, entry_in}
 use Rattle.i9_model.proofs.ControlLaws.{by_group, flagged-others}
@@ -90,8 +92,17 @@ within_word mask w h e = let k = and_le_r w mask in omega (arith, h, e, k)
 
 -- ---- sources and destinations
 
-special_word : (a b : Bool) (s : State) → HasLines s → IsWord (cond a s.interrupts.pending (cond b s.interrupts.mask s.dma.dmac))
-special_word true b s l = within_word LINE_MASK s.interrupts.pending (omega arith) l.pending
+-- the pending word, the kept one with the bits of pins that are low
+pending_is_word : (i : Interrupts) → IsWithin LINE_MASK i.pending → IsWord (pending_word i)
+pending_is_word i h =
+    let kept : bit_and i.pending LINE_MASK ≡ i.pending = h in
+    let within = and_le_r i.pending LINE_MASK in
+    let levels = and_le_r i.low (255 - field i.icon 2 8) in
+    let sum = or_add_and i.pending (level_word i) in
+    omega (arith, kept, within, levels, sum)
+
+special_word : (a b : Bool) (s : State) → HasLines s → IsWord (cond a (pending_word s.interrupts) (cond b s.interrupts.mask s.dma.dmac))
+special_word true b s l = pending_is_word s.interrupts l.pending
 special_word false true s l = within_word LINE_MASK s.interrupts.mask (omega arith) l.mask
 special_word false false s l = within_word COMMAND_MASK s.dma.dmac (omega arith) l.command
 

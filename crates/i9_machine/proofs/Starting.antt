@@ -1,16 +1,12 @@
 -- A run begins far below the largest turn.
 use Rattle.std.proofs.Common.{◌≡◌, ℕ, ◌+◌, ◌*◌, ◌^◌, ◌<◌, ◌≤◌, List, [], ◌∷◌, length, None, refl, sym, subst, arith}
-use Rattle.std.specs.List.{AllByRecursion}
-use Rattle.std.proofs.Math.Pow.{pow_mono}
 use Rattle.i9_model.specs.declared.event.Event.{Event}
-use Rattle.i9_model.specs.declared.event.Event.TheVariants.{Pin, Nmi, Dma, Feed, Show}
+use Rattle.i9_model.specs.declared.event.Event.TheVariants.{Pin, Low, High, Nmi, Dma, Feed, Show}
 use Rattle.i9_model.specs.declared.event.Timed.{Timed}
-use Rattle.i9_model.specs.declared.interrupts.TheConstants.{FIRST_DMA_LINE}
 use Rattle.i9_model.specs.declared.layout.TheConstants.{MAX_LENGTH}
-use Rattle.i9_model.specs.Events.{IsInRange}
 use Rattle.i9_model.specs.Left.{event_work, plan_work, asked, left_in}
 use Rattle.i9_model.specs.Run.{Given}
-use Rattle.i9_model.specs.ScheduleText.{IsPlan, IsTimedInRange, most_events}
+use Rattle.i9_model.specs.ScheduleText.{IsPlan, most_events}
 use Rattle.i9_model.specs.State.{boot, started}
 use Rattle.i9_model.specs.Late.{cell, resource, resources}
 use Rattle.i9_model.specs.Turns.{Pending, StandsFor, IsAllDone, pending_of}
@@ -21,21 +17,23 @@ use Rattle.i9_course.proofs.Ahead.{ahead_later}
 use Rattle.i9_machine.specs.StandsFor.{left_after}
 
 -- an event is little work
-event_few : (e : Event) → IsInRange e → event_work e ≤ 2049
-event_few (Pin x) h = let le : 2 ^ x ≤ 2 ^ 7 = pow_mono {i = x} {j = 7} (omega (arith, h)) in omega (arith, le)
-event_few Nmi h = omega arith
-event_few (Dma c) h = let le : 2 ^ (FIRST_DMA_LINE + c) ≤ 2 ^ 11 = pow_mono {i = FIRST_DMA_LINE + c} {j = 11} (omega (arith, h)) in omega (arith, le)
-event_few (Feed c bytes) h = let le : 2 ^ (FIRST_DMA_LINE + c) ≤ 2 ^ 11 = pow_mono {i = FIRST_DMA_LINE + c} {j = 11} (omega (arith, h.0)) in omega (arith, le)
-event_few (Show a n) h = omega arith
+event_few : (e : Event) → event_work e ≤ 2
+event_few (Pin x) = omega arith
+event_few (Low x) = omega arith
+event_few (High x) = omega arith
+event_few Nmi = omega arith
+event_few (Dma c) = omega arith
+event_few (Feed c bytes) = omega arith
+event_few (Show a n) = omega arith
 
-plan_few : (ts : List Timed) → AllByRecursion IsTimedInRange ts → plan_work ts ≤ 2049 * length ts
-plan_few [] h = omega arith
-plan_few (t ∷ ts) h =
-    let one : event_work t.event ≤ 2049 = event_few t.event h.0.event in
-    let others : plan_work ts ≤ 2049 * length ts = plan_few ts h.1 in
+plan_few : (ts : List Timed) → plan_work ts ≤ 2 * length ts
+plan_few [] = omega arith
+plan_few (t ∷ ts) =
+    let one : event_work t.event ≤ 2 = event_few t.event in
+    let others : plan_work ts ≤ 2 * length ts = plan_few ts in
     omega (arith, one, others)
 
--- nothing is asked for at the start
+-- nothing is asked for at the start, at the highest priority
 none_asked : (image : List (ℕ × ℕ)) → asked (boot image) ≡ 0
 unfolding boot started
 none_asked image = refl
@@ -47,7 +45,7 @@ none_counted image = refl
 pub first_far : (g : Given) → IsPlan g.plan → g.length ≤ MAX_LENGTH → 1 + 2 ^ 8 * left_after g [] < 2 ^ 62
 unfolding left_in
 first_far g plan short =
-    let work : plan_work g.plan ≤ 2049 * length g.plan = plan_few g.plan plan.each in
+    let work : plan_work g.plan ≤ 2 * length g.plan = plan_few g.plan in
     let few : length g.plan ≤ most_events = plan.few in
     let none : asked (boot g.image) ≡ 0 = none_asked g.image in
     let count : (boot g.image).count ≡ 0 = none_counted g.image in

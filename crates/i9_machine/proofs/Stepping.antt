@@ -170,6 +170,8 @@ event_lines_of (Reached e u) s = refl
 
 bytes_long : (e : Event) (s : State) → length (bytes_lines e s) ≡ bytes_count e
 bytes_long (events.Pin x) s = refl
+bytes_long (events.Low x) s = refl
+bytes_long (events.High x) s = refl
 bytes_long events.Nmi s = refl
 bytes_long (events.Dma c) s = refl
 bytes_long (events.Feed c bytes) s = refl

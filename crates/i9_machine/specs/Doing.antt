@@ -37,6 +37,8 @@ lines_of e step event s t = reached_lines event s ++ (out_lines (console_byte (w
 -- how many bytes lines an event has
 abbrev pub bytes_count : Event → ℕ
 bytes_count (Pin x) = 0
+bytes_count (Low x) = 0
+bytes_count (High x) = 0
 bytes_count Nmi = 0
 bytes_count (Dma c) = 0
 bytes_count (Feed c bytes) = 0

@@ -20,8 +20,8 @@ fn posting(p: &Processor, what: Posting) -> Effect
     effect
 }
 
-/// What an event does that is reached: it posts its interrupt, moves a unit of a DMA channel, or does
-/// nothing; or the hazard that it meets, which is one of such a unit. The events are this project's own.
+/// What an event does that is reached: it posts its interrupt, changes the level of its pin, moves a
+/// unit of a DMA channel, or does nothing; or the hazard that it meets, which is one of such a unit. The events are this project's own.
 #[tactic(auto, unfolding(i9_model::specs::Before::received_in))]
 pub fn plan_event(p: &Processor, event: &Event) -> Result<Effect, u32>
     requires drained { IsDrained p.now }
@@ -30,6 +30,8 @@ pub fn plan_event(p: &Processor, event: &Event) -> Result<Effect, u32>
 {
     match event {
         Event::Pin(x) => Ok(posting(p, Posting::Pin(*x))),
+        Event::Low(x) => Ok(posting(p, Posting::Level(*x, true))),
+        Event::High(x) => Ok(posting(p, Posting::Level(*x, false))),
         Event::Nmi => Ok(posting(p, Posting::Nmi)),
         Event::Dma(c) => plan_unit(p, *c, None),
         Event::Feed(c, bytes) => plan_unit(p, *c, Some(bytes.as_slice())),

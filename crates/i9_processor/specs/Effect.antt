@@ -10,6 +10,7 @@ use Rattle.i9_model.specs.State.{State, Frames, Interrupts, Dma, frame_sets}
 use Rattle.i9_model.specs.Dma.{set_up, dma_behind}
 use Rattle.i9_model.specs.Operands.{with_pending, with_mask, with_command}
 use Rattle.i9_model.specs.Interrupts.{posted, posted_nmi, cleared}
+use Rattle.i9_ints.specs.Ints.{with_level}
 use Rattle.i9_model.specs.Hazards.{save_hazard}
 use Rattle.i9_model.specs.Tables.{tables_hazard, group_hazard}
 use Rattle.i9_model.specs.HeldFrames.{Cache, renewed, cache_acted, cache_configured}
@@ -64,6 +65,7 @@ sets_in s e = sets_by s e.frames (group_in e)
 abbrev pub posting_in : Posting → Interrupts → Interrupts
 posting_in postings.Keeps i = i
 posting_in (postings.Pin x) i = posted i x
+posting_in (postings.Level x low) i = with_level i x low
 posting_in (postings.Dma c) i = posted i (FIRST_DMA_LINE + c)
 posting_in postings.Nmi i = posted_nmi i
 posting_in (postings.Clears c) i = cleared c i
@@ -120,6 +122,7 @@ AreRegisters e = e.register + length e.values.items ≤ 32
 -- a pin is one of eight, and a channel one of four
 abbrev pub CanPost : Posting → Type 0
 CanPost (postings.Pin x) = x < 8
+CanPost (postings.Level x low) = x < 8
 CanPost (postings.Dma c) = c < 4
 CanPost _ = Unit {0}
 

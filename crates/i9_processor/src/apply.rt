@@ -331,7 +331,7 @@ impl Processor {
     fn start(&mut self, landing: &Landing, setup: &Setup)
         requires { IsStartCovered landing.now.writes }
         ensures state { state_of self.new ≡ started setup.now (state_of self.old).regs (state_of self.old).count
-            (state_of self.old).memory (state_of self.old).frames }
+            (state_of self.old).interrupts.low (state_of self.old).memory (state_of self.old).frames }
         ensures cache { cache_of self.new ≡ cache_of self.old }
         ensures size { size_of self.new ≡ size_of self.old }
         ensures count { (state_of self.new).count ≡ (state_of self.old).count }
@@ -343,7 +343,7 @@ impl Processor {
         self.pc = BOOT_PC;
         self.tc = start_trace_controls(setup);
         self.check = false;
-        self.ints = start_interrupts(setup);
+        start_interrupts(&mut self.ints, setup);
         self.channels = Channels::new();
         self.breaks = start_breaks(setup);
         self.tables = tables_of(setup);
@@ -371,7 +371,10 @@ impl Processor {
                 self.breaks.ipb = [words[0], words[1]];
                 self.breaks.dab = [words[2], words[3]];
             }
-            1 => self.ints.set_maps([words[0], words[1], words[2]]),
+            1 => {
+                self.ints.set_maps([words[0], words[1], words[2]]);
+                self.ints.set_icon(words[3]);
+            }
             6 => {
                 self.tc = words[2] & TC_MASK;
                 self.breaks.bpcon = words[1];
@@ -512,6 +515,7 @@ impl Processor {
         match p {
             Posting::Keeps => {}
             Posting::Pin(x) => self.ints.post_pin(x),
+            Posting::Level(x, low) => self.ints.level(x, low),
             Posting::Nmi => self.ints.post_nmi(),
             Posting::Dma(c) => self.ints.post_dma(c),
             Posting::Clears(cause) => self.ints.clear(cause),

@@ -58,13 +58,15 @@ pub enum Posting {
     Keeps,
     /// The pin of this number, 0 to 7, is posted.
     Pin(u8),
+    /// The pin of this number, 0 to 7, goes low, or high.
+    Level(u8, bool),
     /// The interrupt that is never masked is posted.
     Nmi,
     /// The interrupt of the DMA channel of this number, 0 to 3, is posted.
     Dma(u8),
     /// What chose an interrupt is not posted any more.
     Clears(Cause),
-    /// The pending word is set.
+    /// The kept pending word is set.
     Pending(u32),
     /// The mask word is set.
     Mask(u32),

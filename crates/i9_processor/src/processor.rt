@@ -90,6 +90,8 @@ impl Processor {
         let mut flags = 0;
         start_registers(&mut file, &setup);
         set_arithmetic(&mut file, &mut flags, setup.ac);
+        let mut ints = Ints::new();
+        start_interrupts(&mut ints, &setup);
         Ok(Processor {
             file,
             ip: aligned(setup.first),
@@ -97,7 +99,7 @@ impl Processor {
             pc: BOOT_PC,
             tc: start_trace_controls(&setup),
             check: false,
-            ints: start_interrupts(&setup),
+            ints,
             channels: Channels::new(),
             breaks: start_breaks(&setup),
             tables: tables_of(&setup),

@@ -10,7 +10,7 @@ ghost use Rattle.i9_processor.specs.Issued.{IsStartCovered, IsIssued, AreStill};
 
 use crate::landing::Landing;
 use crate::registers::{issue_frame, set_frame};
-use i9_ints::Ints;
+use i9_ints::{Cause, Ints};
 use i9_isa::CONDITION_CODE;
 use i9_model::layout::{FRAME_SIZE, LOCALS, TC_MASK};
 use i9_model::{Breaks, Setup, Tables};
@@ -53,14 +53,16 @@ pub(crate) fn issue_start(file: &mut File, flags: &mut u32, landing: &Landing, s
     issue_frame(file, flags, landing, &first_locals(frame), frame, setup.ac);
 }
 
-/// Nothing is posted, and every line is masked; words of the control table are the interrupt maps and the control word of
-/// pins. The levels of pins stay.
-pub(crate) fn start_interrupts(setup: &Setup, before: &Ints) -> Ints
-    ensures { interrupts_of result ≡ start_interrupts setup.now (interrupts_of before.now).low }
+/// Nothing is posted any more, and every line is masked; words of the control table are the interrupt maps and the
+/// control word of pins. The levels of pins stay.
+pub(crate) fn start_interrupts(ints: &mut Ints, setup: &Setup)
+    ensures { interrupts_of ints.new ≡ start_interrupts setup.now (interrupts_of ints.old).low }
 {
-    let mut ints = Ints::new();
+    ints.set_pending(0);
+    ints.set_mask(0);
+    ints.clear(Cause::Nmi);
     ints.set_maps([setup.control[4], setup.control[5], setup.control[6]]);
-    ints
+    ints.set_icon(setup.control[7]);
 }
 
 /// The breakpoints.

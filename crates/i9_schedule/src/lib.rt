@@ -19,4 +19,5 @@ pub use journal::{event_text, journal_line};
 pub use laws::one_answer;
 pub use reading::read;
 pub use schedule::Schedule;
+pub use version::LEVELS_VERSION;
 pub use words::{is_ascii, is_skipped, number_in, one_word, two_words};

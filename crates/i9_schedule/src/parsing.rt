@@ -47,7 +47,7 @@ fn timed_by(version: u8, clock: Clock, words: &[u8]) -> Result<Timed, u8>
 {
     let (time_word, rest) = split_word(words).ok_or(UNKNOWN_EVENT)?;
     let (name, operands) = split_word(rest).ok_or(UNKNOWN_EVENT)?;
-    let event = event(name, operands)?;
+    let event = event(version, name, operands)?;
     let when = time(clock, time_word).ok_or(BAD_OPERAND)?;
     Ok(Timed { when, event })
 }

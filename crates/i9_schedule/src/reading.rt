@@ -15,6 +15,7 @@ use i9_text::split_line;
 use std::alloc::Global;
 
 /// What the lines so far said: the version, once one told it, and events.
+#[derive(Drop)]
 struct SoFar {
     version: Option<u8>,
     events: Vec<Timed>,

@@ -11,7 +11,7 @@ use i9_model::Said;
 pub(crate) const FIRST_VERSION: u8 = 1;
 
 /// The version that has the levels of pins.
-pub(crate) const LEVELS_VERSION: u8 = 2;
+pub const LEVELS_VERSION: u8 = 2;
 
 /// What the words behind `schedule` say, or the kind of their fault.
 #[tactic(auto, unfolding(i9_model::specs::ScheduleText::heading_of))]

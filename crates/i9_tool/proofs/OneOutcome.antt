@@ -5,9 +5,9 @@ use Rattle.i9_model.specs.State.{State}
 use Rattle.i9_model.specs.Given.{Given, given}
 use Rattle.i9_model.specs.declared.event.Timed.{Timed}
 use Rattle.i9_text.specs.Text.{lines_of as text_lines}
-use Rattle.i9_model.specs.ScheduleText.{IsSchedule, IsByCounts}
+use Rattle.i9_model.specs.ScheduleText.{Contents, IsSchedule, IsByCounts}
 use Rattle.i9_model.specs.Run.{Record, reached_after, Finish, reached_last}
-use Rattle.i9_model.specs.PrintedText.{text_of, lines_of, end_lines, end_code}
+use Rattle.i9_model.specs.PrintedText.{text_of, lines_of, end_lines, end_code, heading_text}
 use Rattle.i9_model.specs.Image.{Part, pairs_of}
 use Rattle.i9_isa.specs.declared.inst.Inst.{Inst}
 use Rattle.i9_tune.specs.declared.block.BlockFault.{BlockFault}
@@ -34,9 +34,9 @@ use Rattle.i9_tool.specs.declared.words.Range.{Range}
 use Rattle.i9_job.proofs.MadeSchedule.{schedule_counted}
 use Rattle.i9_tool.specs.FileKinds.{Value, IsAccepted, fault_line, names}
 use Rattle.i9_tool.specs.Fetches.{AllTold}
-use Rattle.i9_tool.specs.Traced.{is_within, traced_lines, printed_text}
+use Rattle.i9_tool.specs.Traced.{is_within, traced_lines, printed_text, headed_text}
 use Rattle.i9_tool.specs.CommandLine.{Command, Run, Asm, Dis, Gen, Tune, Driver, ByLength, ByScript, driver_files, planned_files, files_of}
-use Rattle.i9_tool.specs.Outcome.{Reads, unread, fetched, FileGives, too_long, refused, accepted, RunGives, runs, driven_code, ScriptGives, drives, AsmGives, as_hex, as_elf, too_many_runs, GenGives, job_runs, job_line, DisGives, listed, TuneGives, no_block, tuned, DriverGives, PlanGives, IsCountedSchedule, CommandGives, Gives, in_no_form, in_form, names_of}
+use Rattle.i9_tool.specs.Outcome.{no_schedule, Reads, unread, fetched, FileGives, too_long, refused, accepted, RunGives, runs, driven_code, ScriptGives, drives, AsmGives, as_hex, as_elf, too_many_runs, GenGives, job_runs, job_line, DisGives, listed, TuneGives, no_block, tuned, DriverGives, PlanGives, IsCountedSchedule, CommandGives, Gives, in_no_form, in_form, names_of}
 use Rattle.i9_tool.proofs.FileAnswers.{apart, one_value, one_fault}
 use Rattle.i9_tool.proofs.OneText.{one_text}
 use Rattle.i9_tool.proofs.Wider.{reads_wider, kind_wider}
@@ -47,12 +47,12 @@ pub record Same (c d : ℕ) (s t : List ℕ) : Type 0 where
   pub text : s ≡ t
 
 -- the same image runs the same
-same_run : (traced : Option Range) (g : Given) (rs qs : List Record) (e f : Finish) → IsLateRun g rs e → IsLateRun g qs f
-    → Same (end_code e.end) (end_code f.end) (printed_text traced g rs e) (printed_text traced g qs f)
-same_run traced g rs qs e f a b =
+same_run : (version : ℕ) (traced : Option Range) (g : Given) (rs qs : List Record) (e f : Finish) → IsLateRun g rs e → IsLateRun g qs f
+    → Same (end_code e.end) (end_code f.end) (headed_text version traced g rs e) (headed_text version traced g qs f)
+same_run version traced g rs qs e f a b =
     let end = late_end g rs qs e f a b in
     let records = late_records g rs qs e f a b in
-    record { status = ap (λ (x : Finish). end_code x.end) end; text = ap (λ (x : List Record). printed_text traced g x e) records ∙ ap (printed_text traced g qs) end }
+    record { status = ap (λ (x : Finish). end_code x.end) end; text = ap (λ (x : List Record). headed_text version traced g x e) records ∙ ap (headed_text version traced g qs) end }
 
 -- one status and one text, but for those of a file that was not read
 abbrev Once : (ℕ → List ℕ → Type 0) → Type 0
@@ -62,8 +62,8 @@ Once gives = (c d : ℕ) (s t : List ℕ) → c ≢ 5 → d ≢ 5 → gives c s 
 once_both : {X : Type 0} (gives : X → ℕ → List ℕ → Type 0) → ((x : X) → Once (gives x)) → (x y : X) → x ≡ y → (c d : ℕ) (s t : List ℕ) → c ≢ 5 → d ≢ 5 → gives x c s → gives y d t → Same c d s t
 once_both gives once x y same c d s t p q g h = once x c d s t p q g (subst (λ (z : _). gives z d t) (sym same) h)
 
-once_run : (sets : Option ℕ) (limit : ℕ) (traced : Option Range) (pairs : List (ℕ × ℕ)) (events : List Timed) → Once (RunGives sets limit traced pairs events)
-once_run sets limit traced pairs events c d s t p q (runs rs e run) (runs us f other) = same_run traced (given pairs events limit sets) rs us e f run other
+once_run : (sets : Option ℕ) (limit : ℕ) (traced : Option Range) (pairs : List (ℕ × ℕ)) (plan : Contents) → Once (RunGives sets limit traced pairs plan)
+once_run sets limit traced pairs plan c d s t p q (runs rs e run) (runs us f other) = same_run plan.version traced (given pairs plan.events limit sets) rs us e f run other
 
 -- one text of a script, and one place behind it
 once_script : (sets : Option ℕ) (pairs : List (ℕ × ℕ)) (events : List Timed) (commands : List ScriptCommand) → Once (ScriptGives sets pairs events commands)
@@ -128,7 +128,7 @@ once_job : (number : ℕ) (sets : Option ℕ) → Once (GenGives number sets)
 once_job number sets c d s t p q (job_runs i ts rs e made says run) (job_runs j us qs f made' says' other) =
     let image = one_value Source (generated_source number) i j made made' in
     let events = one_value Schedule (generated_schedule number) ts us says says' in
-    let same = ap (λ (x : List Part). given (pairs_of x) ts MAX_LENGTH sets) image ∙ ap (λ (x : List Timed). given (pairs_of j) x MAX_LENGTH sets) events in
+    let same = ap (λ (x : List Part). given (pairs_of x) ts.events MAX_LENGTH sets) image ∙ ap (λ (x : Contents). given (pairs_of j) x.events MAX_LENGTH sets) events in
     same_job number _ _ rs qs e f same run other
 
 -- a file that is told, where it was read
@@ -139,17 +139,17 @@ once_read (Some f) rose gives some once c d s t p q (fetched x c' s' is_x g) (un
 once_read (Some f) rose gives some once c d s t p q (fetched x c' s' is_x g) (fetched y d' t' is_y h) = once_both gives once x y (is_x ∙ sym is_y) c d s t p q g h
 
 module _ (told : List ℕ → Option (List ℕ)) (rose : List ℕ → Type 0) where
-  once_driven : (driver : Driver) (sets : Option ℕ) (pairs : List (ℕ × ℕ)) (events : List Timed) → AllTold told (names (driver_files driver)) → Once (DriverGives told rose driver sets pairs events)
-  once_driven (ByLength limit traced) sets pairs events known = once_run sets limit traced pairs events
-  once_driven (ByScript script) sets pairs events known =
-      once_read (told script) (rose script) _ known.0 (once_kind Script (ScriptGives sets pairs events) (λ file commands good. once_script sets pairs events commands))
+  once_driven : (driver : Driver) (sets : Option ℕ) (pairs : List (ℕ × ℕ)) (plan : Contents) → AllTold told (names (driver_files driver)) → Once (DriverGives told rose driver sets pairs plan)
+  once_driven (ByLength limit traced) sets pairs plan known = once_run sets limit traced pairs plan
+  once_driven (ByScript script) sets pairs plan known =
+      once_read (told script) (rose script) _ known.0 (once_kind Script (ScriptGives sets pairs plan.events) (λ file commands good. once_script sets pairs plan.events commands))
 
   once_plan : (schedule : Option (List ℕ)) (driver : Driver) (sets : Option ℕ) (pairs : List (ℕ × ℕ)) → AllTold told (names (planned_files schedule (driver_files driver)))
       → Once (PlanGives told rose schedule (DriverGives told rose driver sets pairs))
-  once_plan None driver sets pairs known = once_driven driver sets pairs [] known
+  once_plan None driver sets pairs known = once_driven driver sets pairs no_schedule known
   once_plan (Some name) driver sets pairs known =
       once_read (told name) (rose name) _ known.0
-      (once_kind Schedule (DriverGives told rose driver sets pairs) (λ file events good. once_driven driver sets pairs events known.1))
+      (once_kind Schedule (DriverGives told rose driver sets pairs) (λ file plan good. once_driven driver sets pairs plan known.1))
 
   once_command : (command : Command) → AllTold told (names (files_of command)) → Once (CommandGives told rose command)
   once_command (Run image schedule sets driver) known =
@@ -175,38 +175,39 @@ other_text None ps ts limit sets others rs e =
 other_text (Some range) ps ts limit sets others rs e =
     ap (λ (s : State). traced_lines (is_within range) rs ++ text_of (end_lines s e)) (state_by (given ps ts limit sets) (given ps ts limit others) rs refl)
 
-other_sets : (sets others : Option ℕ) (limit : ℕ) (traced : Option Range) (ps : List (ℕ × ℕ)) (ts : List Timed) (code : ℕ) (text : List ℕ)
-    → IsByCounts ts → RunGives sets limit traced ps ts code text → RunGives others limit traced ps ts code text
-other_sets sets others limit traced ps ts code text counted (runs rs e run) =
-    subst (RunGives others limit traced ps ts (end_code e.end)) (other_text traced ps ts limit sets others rs e)
-    (runs rs e (other_run ps ts limit sets others rs e counted run))
+other_sets : (sets others : Option ℕ) (limit : ℕ) (traced : Option Range) (ps : List (ℕ × ℕ)) (plan : Contents) (code : ℕ) (text : List ℕ)
+    → IsByCounts plan.events → RunGives sets limit traced ps plan code text → RunGives others limit traced ps plan code text
+other_sets sets others limit traced ps plan code text counted (runs rs e run) =
+    let same = ap (λ (t : List ℕ). heading_text plan.version ++ t) (other_text traced ps plan.events limit sets others rs e) in
+    subst (RunGives others limit traced ps plan (end_code e.end)) same
+    (runs rs e (other_run ps plan.events limit sets others rs e counted run))
 
 -- by a schedule by counts
-counted_plan : (told : List ℕ → Option (List ℕ)) (rose : List ℕ → Type 0) (schedule : Option (List ℕ)) (run wider : List Timed → ℕ → List ℕ → Type 0) → IsCountedSchedule told schedule
-    → ((events : List Timed) → IsByCounts events → (c : ℕ) (t : List ℕ) → run events c t → wider events c t)
+counted_plan : (told : List ℕ → Option (List ℕ)) (rose : List ℕ → Type 0) (schedule : Option (List ℕ)) (run wider : Contents → ℕ → List ℕ → Type 0) → IsCountedSchedule told schedule
+    → ((plan : Contents) → IsByCounts plan.events → (c : ℕ) (t : List ℕ) → run plan c t → wider plan c t)
     → (c : ℕ) (t : List ℕ) → PlanGives told rose schedule run c t → PlanGives told rose schedule wider c t
-counted_plan told rose None run wider counted more c t g = more [] tt c t g
+counted_plan told rose None run wider counted more c t g = more no_schedule tt c t g
 counted_plan told rose (Some name) run wider counted more c t (unread r) = unread r
 counted_plan told rose (Some name) run wider counted more c t (fetched f d s is_file (too_long long)) = fetched f c t is_file (too_long long)
 counted_plan told rose (Some name) run wider counted more c t (fetched f d s is_file (refused fault short bad)) = fetched f c t is_file (refused fault short bad)
-counted_plan told rose (Some name) run wider counted more c t (fetched f d s is_file (accepted events e u good g)) =
-    fetched f c t is_file (accepted events c t good (more events (counted f events is_file good.says) c t g))
+counted_plan told rose (Some name) run wider counted more c t (fetched f d s is_file (accepted plan e u good g)) =
+    fetched f c t is_file (accepted plan c t good (more plan (counted f plan is_file good.says) c t g))
 
 pub same_in_sets : (told : List ℕ → Option (List ℕ)) (rose : List ℕ → Type 0) (image : List ℕ) (schedule : Option (List ℕ)) (sets others : Option ℕ) (limit code : ℕ) (traced : Option Range) (text : List ℕ) → IsCountedSchedule told schedule
     → Gives told rose (Some (Run image schedule sets (ByLength limit traced))) code text → Gives told rose (Some (Run image schedule others (ByLength limit traced))) code text
 same_in_sets told rose image schedule sets others limit code traced text counted (in_form c n t g) =
     let plan = λ (pairs : List (ℕ × ℕ)). counted_plan told rose schedule (RunGives sets limit traced pairs) (RunGives others limit traced pairs) counted
-    (λ events by_counts c t g. other_sets sets others limit traced pairs events c t by_counts g) in
+    (λ plan by_counts c t g. other_sets sets others limit traced pairs plan c t by_counts g) in
     in_form (Run image schedule others (ByLength limit traced)) code text
     (reads_wider (told image) (told image) (rose image) (rose image) _ _ (λ f is_file. is_file) (λ r. r) (kind_wider Image _ _ plan) code text g)
 
 other_job : (number : ℕ) (sets others : Option ℕ) (code : ℕ) (text : List ℕ) → GenGives number sets code text → GenGives number others code text
-other_job number sets others code text (job_runs i ts rs e made says run) =
+other_job number sets others code text (job_runs i plan rs e made says run) =
     let ps = pairs_of i in
     let line = λ (s : State). generated_line number s.count (length (reached_after rs ++ reached_last s.count e.event)) e.end in
-    let same = state_by (given ps ts MAX_LENGTH sets) (given ps ts MAX_LENGTH others) rs refl in
+    let same = state_by (given ps plan.events MAX_LENGTH sets) (given ps plan.events MAX_LENGTH others) rs refl in
     subst (GenGives number others (end_code e.end)) (ap line same)
-    (job_runs i ts rs e made says (other_run ps ts MAX_LENGTH sets others rs e (schedule_counted number ts says) run))
+    (job_runs i plan rs e made says (other_run ps plan.events MAX_LENGTH sets others rs e (schedule_counted number plan says) run))
 
 pub job_same_in_sets : (told : List ℕ → Option (List ℕ)) (rose : List ℕ → Type 0) (number : ℕ) (sets others : Option ℕ) (code : ℕ) (text : List ℕ)
     → Gives told rose (Some (Gen number sets)) code text → Gives told rose (Some (Gen number others)) code text

@@ -2,7 +2,7 @@
 use Rattle.std.proofs.Common.{◌≡◌, ℕ, ◌<◌, ◌≤◌, ◌⊎◌, inl, inr, List, [], ◌++◌, length, Option, Some, None, Result, Ok, Err, refl, sym, ap, ◌∙◌, subst, arith}
 use Rattle.std.proofs.lemmas.List.Elements.{recursion_from_All}
 use Rattle.i9_text.specs.Text.{lines_of}
-use Rattle.i9_model.specs.ScheduleText.{IsSchedule}
+use Rattle.i9_model.specs.ScheduleText.{first_version, Contents, IsSchedule}
 use Rattle.i9_model.specs.declared.event.Timed.{Timed}
 use Rattle.i9_model.specs.Given.{given}
 use Rattle.i9_model.specs.Image.{Part, pairs_of}
@@ -47,12 +47,12 @@ use Rattle.i9_tool.specs.declared.words.Format.TheVariants.{Hex, Elf}
 use Rattle.i9_tool.specs.declared.words.Range.{Range}
 use Rattle.i9_tool.specs.CommandLine.{Command, Run, Asm, Dis, Gen, Tune, Driver, ByLength, ByScript, words_line, read_line, segments_line, long_line}
 use Rattle.i9_tool.specs.FileKinds.{Value, AreBytes, FaultOf, IsFaulty, IsAccepted, word_of, fault_line, refusal_of}
-use Rattle.i9_tool.specs.Traced.{printed_text}
-use Rattle.i9_tool.specs.Run.{Runs, Counts, printed_of}
+use Rattle.i9_tool.specs.Traced.{headed_text}
+use Rattle.i9_tool.specs.Run.{RunsHeaded, Counts, printed_of}
 use Rattle.i9_job.specs.Accepted.{HasAssembly, HasPlan}
 use Rattle.i9_job.proofs.MadeSource.{made_source}
 use Rattle.i9_job.proofs.MadeSchedule.{made_schedule}
-use Rattle.i9_tool.specs.Outcome.{Reads, unread, fetched, FileGives, too_long, refused, accepted, RunGives, runs, driven_code, ScriptGives, drives, AsmGives, as_hex, as_elf, too_many_runs, DisGives, TuneGives, no_block, tuned, GenGives, job_runs, job_line, DriverGives, PlanGives, CommandGives, Gives, in_no_form, in_form, Answers, code_for, Only, MissGives, missed_unread, missed_long, AnswersMiss}
+use Rattle.i9_tool.specs.Outcome.{no_schedule, Reads, unread, fetched, FileGives, too_long, refused, accepted, RunGives, runs, driven_code, ScriptGives, drives, AsmGives, as_hex, as_elf, too_many_runs, DisGives, TuneGives, no_block, tuned, GenGives, job_runs, job_line, DriverGives, PlanGives, CommandGives, Gives, in_no_form, in_form, Answers, code_for, Only, MissGives, missed_unread, missed_long, AnswersMiss}
 use Rattle.i9_tool.proofs.Wider.{kind_wider, driver_wider, plan_wider}
 use Rattle.i9_tool.proofs.Answering.{answers_printed, answers_nothing, answers_wider}
 use Rattle.i9_tool.proofs.AssembledBytes.{assembled_bytes}
@@ -87,12 +87,12 @@ sized n = grind arith
 abbrev pub SomeFor : (ℕ → List ℕ → Type 0) → Type 0
 SomeFor gives = (code : ℕ) × (text : List ℕ) × gives code text
 
-pub some_run : (sets : Option ℕ) (limit : ℕ) (traced : Option Range) (pairs : List (ℕ × ℕ)) (events : List Timed) → SomeFor (RunGives sets limit traced pairs events)
-some_run sets limit traced pairs events =
-    let g = given pairs events limit sets in
+pub some_run : (sets : Option ℕ) (limit : ℕ) (traced : Option Range) (pairs : List (ℕ × ℕ)) (plan : Contents) → SomeFor (RunGives sets limit traced pairs plan)
+some_run sets limit traced pairs plan =
+    let g = given pairs plan.events limit sets in
     let later = late_goes_on g [] tt in
     let records = later.0 ++ [] in
-    (end_code later.1.end, printed_text traced g records later.1, runs records later.1 later.2)
+    (end_code later.1.end, headed_text plan.version traced g records later.1, runs records later.1 later.2)
 
 -- the text of a script from the first turn of a run on
 pub some_commands : (sets : Option ℕ) (pairs : List (ℕ × ℕ)) (events : List Timed) (commands : List ScriptCommand) → IsInLimits commands → SomeFor (ScriptGives sets pairs events commands)
@@ -183,17 +183,17 @@ some_job number sets =
     let g = given (pairs_of source.image) schedule.events MAX_LENGTH sets in
     let later = late_goes_on g [] tt in
     let records = later.0 ++ [] in
-    (end_code later.1.end, job_line number g records later.1, job_runs source.image schedule.events records later.1 source.assembled schedule.said later.2)
+    (end_code later.1.end, job_line number g records later.1, job_runs source.image (record { version = first_version; events = schedule.events }) records later.1 source.assembled schedule.said later.2)
 
 module _ (told : List ℕ → Option (List ℕ)) (rose : List ℕ → Type 0) where
-  pub some_driven : (driver : Driver) (sets : Option ℕ) (pairs : List (ℕ × ℕ)) (events : List Timed) → SomeFor (DriverGives told rose driver sets pairs events)
-  some_driven (ByLength limit traced) sets pairs events = some_run sets limit traced pairs events
-  some_driven (ByScript script) sets pairs events =
-      some_read (told script) (rose script) _ (λ file. some_kind Script (ScriptGives sets pairs events) file (some_script sets pairs events file))
+  pub some_driven : (driver : Driver) (sets : Option ℕ) (pairs : List (ℕ × ℕ)) (plan : Contents) → SomeFor (DriverGives told rose driver sets pairs plan)
+  some_driven (ByLength limit traced) sets pairs plan = some_run sets limit traced pairs plan
+  some_driven (ByScript script) sets pairs plan =
+      some_read (told script) (rose script) _ (λ file. some_kind Script (ScriptGives sets pairs plan.events) file (some_script sets pairs plan.events file))
 
-  pub some_planned : (schedule : Option (List ℕ)) (run : List Timed → ℕ → List ℕ → Type 0) → ((events : List Timed) → SomeFor (run events)) → SomeFor (PlanGives told rose schedule run)
-  some_planned None run some = some []
-  some_planned (Some name) run some = some_read (told name) (rose name) _ (λ file. some_kind Schedule run file (λ events good. some events))
+  pub some_planned : (schedule : Option (List ℕ)) (run : Contents → ℕ → List ℕ → Type 0) → ((plan : Contents) → SomeFor (run plan)) → SomeFor (PlanGives told rose schedule run)
+  some_planned None run some = some no_schedule
+  some_planned (Some name) run some = some_read (told name) (rose name) _ (λ file. some_kind Schedule run file (λ plan good. some plan))
 
   pub some_imaged : (schedule : Option (List ℕ)) (driver : Driver) (sets : Option ℕ) (file : List ℕ)
       → SomeFor (FileGives Image (λ pairs. PlanGives told rose schedule (DriverGives told rose driver sets pairs)) file)
@@ -231,11 +231,11 @@ module _ {K : Type 0} (k : Account K) where
   answers_unprinted gives a some = answers_nothing k gives some.0 some.1 a some.2
 
   -- an image ran
-  pub image_runs : (sets : Option ℕ) (limit : ℕ) (traced : Option Range) (pairs : List (ℕ × ℕ)) (events : List Timed) (ran : Ran) (code : ℕ) (a b : K)
-      → (r : Runs ran traced (given pairs events limit sets) k a b) → code ≡ code_for (printed_of ran) (end_code r.finish.end)
-      → Answers (RunGives sets limit traced pairs events) code k a b
-  image_runs sets limit traced pairs events ran code a b r e =
-      answers_with (RunGives sets limit traced pairs events) (printed_of ran) (end_code r.finish.end) code _ a b (known_finish r.finish.end) (runs r.records r.finish r.run) r.prints e
+  pub image_runs : (sets : Option ℕ) (limit : ℕ) (traced : Option Range) (pairs : List (ℕ × ℕ)) (plan : Contents) (ran : Ran) (code : ℕ) (a b : K)
+      → (r : RunsHeaded ran plan.version traced (given pairs plan.events limit sets) k a b) → code ≡ code_for (printed_of ran) (end_code r.finish.end)
+      → Answers (RunGives sets limit traced pairs plan) code k a b
+  image_runs sets limit traced pairs plan ran code a b r e =
+      answers_with (RunGives sets limit traced pairs plan) (printed_of ran) (end_code r.finish.end) code _ a b (known_finish r.finish.end) (runs r.records r.finish r.run) r.prints e
 
   -- a script drove one
   pub script_runs : (sets : Option ℕ) (pairs : List (ℕ × ℕ)) (events : List Timed) (commands : List ScriptCommand) (answer : SessionEnd) (code : ℕ) (a b : K) (m : Machine) (plan : Plan)
@@ -246,17 +246,17 @@ module _ {K : Type 0} (k : Account K) where
       (drives r.drives.text r.drives.last r.drives.is_text) r.drives.prints e
 
   -- the image of a job ran
-  pub job_counted : (number : ℕ) (sets : Option ℕ) (image : List Part) (events : List Timed) (counted : Counted) (p : Printed) (code : ℕ) (a b : K)
-      → IsAssembly (lines_of (generated_source number)) image → IsSchedule (lines_of (generated_schedule number)) events → Counts counted (given (pairs_of image) events MAX_LENGTH sets)
+  pub job_counted : (number : ℕ) (sets : Option ℕ) (image : List Part) (plan : Contents) (counted : Counted) (p : Printed) (code : ℕ) (a b : K)
+      → IsAssembly (lines_of (generated_source number)) image → IsSchedule (lines_of (generated_schedule number)) plan → Counts counted (given (pairs_of image) plan.events MAX_LENGTH sets)
       → Prints p k a b (generated_line number counted.count counted.events counted.end) → code ≡ code_for p (end_code counted.end)
       → Answers (GenGives number sets) code k a b
-  job_counted number sets image events counted p code a b made says c printed e =
-      let g = given (pairs_of image) events MAX_LENGTH sets in
+  job_counted number sets image plan counted p code a b made says c printed e =
+      let g = given (pairs_of image) plan.events MAX_LENGTH sets in
       let same = ap (λ (n : ℕ). generated_line number n counted.events counted.end) c.count
       ∙ ap (λ (n : ℕ). generated_line number (state_after g c.records).count n counted.end) c.events
       ∙ ap (generated_line number (state_after g c.records).count (length (reached_in g c.records c.finish))) c.end in
       answers_line (GenGives number sets) p (end_code c.finish.end) code _ _ a b (known_finish c.finish.end)
-      (job_runs image events c.records c.finish made says c.run) same printed (e ∙ ap (λ (x : End). code_for p (end_code x)) c.end)
+      (job_runs image plan c.records c.finish made says c.run) same printed (e ∙ ap (λ (x : End). code_for p (end_code x)) c.end)
 
   -- the line of a refusal was printed
   pub answers_refusal : (kind : FileKind) (fault : ℕ × ℕ) (p : Printed) (status code : ℕ) (word : List ℕ) (a b : K) → word ≡ word_of kind → code ≡ refusal_of kind

@@ -1,11 +1,14 @@
 -- What is printed while an image runs is the text of its run, or a front of it.
-use Rattle.std.proofs.Common.{◌≡◌, ◌≢◌, ℕ, ◌≤◌, Bool, false, List, [], ◌∷◌, ◌++◌, length, flat_map, Option, Some, None, refl, sym, ap, ◌∙◌, subst, append_assoc, arith}
+use Rattle.std.proofs.Common.{◌≡◌, ◌≢◌, ℕ, ◌≤◌, Bool, false, List, [], ◌∷◌, ◌++◌, length, flat_map, Option, Some, None, inl, inr, codes, refl, sym, ap, ◌∙◌, subst, append_assoc, arith}
+use Rattle.std.proofs.lemmas.Bool.{cases_Bool}
 use Rattle.std.proofs.lemmas.List.{append-nil}
+use Rattle.std.specs.Prelude.{◌==◌}
+use Rattle.i9_model.specs.ScheduleText.{levels_version}
 use Rattle.i9_model.specs.State.{State}
 use Rattle.i9_model.specs.Step.{first_word}
 use Rattle.i9_model.specs.declared.run.End.{End}
 use Rattle.i9_model.specs.Run.{Given, Kind, Instruction, Faulted, Entered, Interrupted, Reached, Record, counts_of, state_after, Finish}
-use Rattle.i9_model.specs.PrintedText.{text_of, lines_of, record_lines, end_lines, run_text}
+use Rattle.i9_model.specs.PrintedText.{text_of, lines_of, record_lines, end_lines, run_text, heading_text}
 use Rattle.i9_model.proofs.Lines.{text_of-append}
 use Rattle.i9_course.specs.LateRun.{steps, IsLatePast, finish_after}
 use Rattle.i9_course.proofs.LateRuns.{late_goes_on, records_of-steps}
@@ -25,9 +28,9 @@ use Rattle.i9_tool.specs.declared.run.Ran.TheVariants as ran
 use Rattle.i9_debug.specs.Print.{Account, Prints, line_text}
 use Rattle.i9_tool.specs.declared.words.Range.{Range}
 use Rattle.i9_tool.specs.Traced.{is_within, line_where, issued_words, issued_line, traced_line, traced_lines, traced_text}
-use Rattle.i9_tool.specs.Run.{RunsAs, Runs, TracedBy, traced_none, traced_next, IsCut, StopsWith, at_end, before_end, TracesBy, behind_step, behind_end, DrivesBy, AllowsTurn, TellsEnd, turn_text, step_text, printed_of}
+use Rattle.i9_tool.specs.Run.{RunsAs, Runs, RunsHeaded, TracedBy, traced_none, traced_next, IsCut, StopsWith, at_end, before_end, TracesBy, behind_step, behind_end, DrivesBy, AllowsTurn, TellsEnd, turn_text, step_text, printed_of}
 use Rattle.i9_debug.specs.Session.{at, ended}
-use Rattle.i9_debug.proofs.TextLines.{IsClosed}
+use Rattle.i9_debug.proofs.TextLines.{IsClosed, closed_none, closed_line}
 use Rattle.i9_debug.proofs.Prints.{prints_none, prints_then, prints_stop, prints_behind, prints_same, prints_refused}
 use Rattle.i9_debug.proofs.Turns.{lines-text, on_cut}
 use Rattle.i9_tool.proofs.TracedLines.{closed_traces, closed_by}
@@ -343,3 +346,35 @@ runs_unranged allows k g answer traced a b e traces agree =
     let h = whole allows (λ a. false) agree k g answer a b traces in
     subst (λ (o : Option Range). Runs answer o g k a b) (sym e)
     (record { records = h.records; finish = h.finish; run = h.run; prints = prints_same k (printed_of answer) a b _ _ (untraced_text g h.records h.finish) h.prints; tells = h.tells })
+
+-- ---- behind the line of the version of the schedule
+
+closed_heading : (version : ℕ) → IsClosed (heading_text version)
+unfolding heading_text
+closed_heading version = elim (cases_Bool (version == levels_version)) [
+  | inl is ↦ rw is (closed_line (codes "schedule 2" ++ 10 ∷ []) refl)
+  | inr other ↦ rw other closed_none
+]
+
+pub headed : {K : Type 0} (k : Account K) (g : Given) (answer : Ran) (version : ℕ) (traced : Option Range) (a b c : K) → Prints Done k a b (heading_text version)
+    → Runs answer traced g k b c → RunsHeaded answer version traced g k a c
+headed k g answer version traced a b c first r = record {
+  records = r.records;
+  finish = r.finish;
+  run = r.run;
+  prints = prints_then k (printed_of answer) a b c _ _ (closed_heading version) first r.prints;
+  tells = r.tells;
+}
+
+-- the line was not printed, and so nothing of the run
+pub headed_cut : {K : Type 0} (k : Account K) (g : Given) (answer : Ran) (version : ℕ) (traced : Option Range) (a b : K) → IsCut answer
+    → Prints (printed_of answer) k a b (heading_text version) → RunsHeaded answer version traced g k a b
+headed_cut k g answer version traced a b cut p =
+    let on = late_goes_on g [] tt in
+    record {
+      records = on.0 ++ [];
+      finish = on.1;
+      run = on.2;
+      prints = prints_stop k (printed_of answer) a b _ _ (closed_heading version) (not_done answer cut) p;
+      tells = tells_cut answer on.1 cut;
+    }

@@ -1,12 +1,12 @@
 -- The same status and text in a wider choice: of files that say no more, and of more counts that rose.
 use Rattle.std.proofs.Common.{ℕ, List, [], Option, Some, None}
-use Rattle.i9_model.specs.declared.event.Timed.{Timed}
+use Rattle.i9_model.specs.ScheduleText.{Contents}
 use Rattle.i9_outside.specs.Traits.{IsFile}
 use Rattle.i9_tool.specs.declared.files.FileKind.{FileKind}
 use Rattle.i9_tool.specs.declared.files.FileKind.TheVariants.{Image, Schedule}
 use Rattle.i9_tool.specs.CommandLine.{Command, Run, Asm, Dis, Gen, Tune, Driver, ByLength, ByScript}
 use Rattle.i9_tool.specs.FileKinds.{Value}
-use Rattle.i9_tool.specs.Outcome.{Reads, unread, fetched, FileGives, too_long, refused, accepted, DriverGives, PlanGives, CommandGives, Gives, in_no_form, in_form}
+use Rattle.i9_tool.specs.Outcome.{no_schedule, Reads, unread, fetched, FileGives, too_long, refused, accepted, DriverGives, PlanGives, CommandGives, Gives, in_no_form, in_form}
 
 pub reads_wider : (told other : Option (List ℕ)) (rose risen : Type 0) (gives wider : List ℕ → ℕ → List ℕ → Type 0) → ((f : List ℕ) → IsFile told f → IsFile other f) → (rose → risen)
     → ((f : List ℕ) (c : ℕ) (t : List ℕ) → gives f c t → wider f c t) → (c : ℕ) (t : List ℕ) → Reads told rose gives c t → Reads other risen wider c t
@@ -20,15 +20,15 @@ kind_wider kind after other more f c t (refused fault short bad) = refused fault
 kind_wider kind after other more f c t (accepted value d s good g) = accepted value c t good (more value c t g)
 
 module _ (told other : List ℕ → Option (List ℕ)) (rose risen : List ℕ → Type 0) (found : (n f : List ℕ) → IsFile (told n) f → IsFile (other n) f) (rises : (n : List ℕ) → rose n → risen n) where
-  pub driver_wider : (driver : Driver) (sets : Option ℕ) (pairs : List (ℕ × ℕ)) (events : List Timed) (c : ℕ) (t : List ℕ)
-      → DriverGives told rose driver sets pairs events c t → DriverGives other risen driver sets pairs events c t
-  driver_wider (ByLength limit traced) sets pairs events c t g = g
-  driver_wider (ByScript script) sets pairs events c t g =
+  pub driver_wider : (driver : Driver) (sets : Option ℕ) (pairs : List (ℕ × ℕ)) (plan : Contents) (c : ℕ) (t : List ℕ)
+      → DriverGives told rose driver sets pairs plan c t → DriverGives other risen driver sets pairs plan c t
+  driver_wider (ByLength limit traced) sets pairs plan c t g = g
+  driver_wider (ByScript script) sets pairs plan c t g =
       reads_wider (told script) (other script) (rose script) (risen script) _ _ (found script) (rises script) (λ f d s h. h) c t g
 
-  pub plan_wider : (schedule : Option (List ℕ)) (run wider : List Timed → ℕ → List ℕ → Type 0) → ((events : List Timed) (c : ℕ) (t : List ℕ) → run events c t → wider events c t)
+  pub plan_wider : (schedule : Option (List ℕ)) (run wider : Contents → ℕ → List ℕ → Type 0) → ((plan : Contents) (c : ℕ) (t : List ℕ) → run plan c t → wider plan c t)
       → (c : ℕ) (t : List ℕ) → PlanGives told rose schedule run c t → PlanGives other risen schedule wider c t
-  plan_wider None run wider more c t g = more [] c t g
+  plan_wider None run wider more c t g = more no_schedule c t g
   plan_wider (Some name) run wider more c t g =
       reads_wider (told name) (other name) (rose name) (risen name) (FileGives Schedule run) (FileGives Schedule wider) (found name) (rises name) (kind_wider Schedule run wider more) c t g
 

@@ -4,8 +4,7 @@ use Rattle.std.specs.List.{AllByRecursion}
 use Rattle.i9_text.specs.Text.{lines_of}
 use Rattle.i9_image.specs.Images.{Fault, AtLine, OfElf, IsImage, IsRefused}
 use Rattle.i9_debug.specs.Lines.{refused_line, elf_line}
-use Rattle.i9_model.specs.ScheduleText.{IsSchedule, IsRefused as IsRefusedSchedule}
-use Rattle.i9_model.specs.declared.event.Timed.{Timed}
+use Rattle.i9_model.specs.ScheduleText.{Contents, IsSchedule, IsRefused as IsRefusedSchedule}
 use Rattle.i9_model.specs.Image.{Part}
 use Rattle.i9_asm.specs.Laws.{IsAssembly, IsRefusedSource}
 use Rattle.i9_script.specs.ScriptText.{IsScript, IsRefused as IsRefusedScript}
@@ -25,11 +24,11 @@ file_of kind name = record { kind = kind; name = name }
 abbrev pub names : List File → List (List ℕ)
 names files = map (λ f. f.name) files
 
--- what a file says: the addresses of an image with their bytes, the events of a schedule, the segments of a source, or the
+-- what a file says: the addresses of an image with their bytes, the version and events of a schedule, the segments of a source, or the
 -- commands of a script
 abbrev pub Value : FileKind → Type 0
 Value kinds.Image = List (ℕ × ℕ)
-Value kinds.Schedule = List Timed
+Value kinds.Schedule = Contents
 Value kinds.Source = List Part
 Value kinds.Script = List Command
 
@@ -45,7 +44,7 @@ octets file = map (λ n. n % 256) file
 -- of another text.
 abbrev pub Says : (kind : FileKind) → List ℕ → Value kind → Type 0
 Says kinds.Image file pairs = IsImage (octets file) pairs
-Says kinds.Schedule file events = IsSchedule (lines_of file) events
+Says kinds.Schedule file schedule = IsSchedule (lines_of file) schedule
 Says kinds.Source file image = IsAssembly (lines_of file) image
 Says kinds.Script file commands = IsScript (lines_of file) commands
 

@@ -21,7 +21,7 @@ use Rattle.i9_runs.specs.Runs.{AreRuns}
 use Rattle.i9_elf.specs.Written.{most_headers, file_of}
 use Rattle.i9_asm.specs.Laws.{IsAssembly}
 use Rattle.i9_asm.specs.Listing.{IsListing}
-use Rattle.i9_model.specs.ScheduleText.{IsSchedule, IsByCounts}
+use Rattle.i9_model.specs.ScheduleText.{first_version, Contents, IsSchedule, IsByCounts}
 use Rattle.i9_script.specs.declared.command.Command.{Command as ScriptCommand}
 use Rattle.i9_tool.specs.declared.files.FileKind.{FileKind}
 use Rattle.i9_tool.specs.declared.files.FileKind.TheVariants.{Image, Schedule, Source, Script}
@@ -33,7 +33,7 @@ use Rattle.i9_debug.specs.Session.{Place, at, IsText, end_at}
 use Rattle.i9_tool.specs.declared.words.Format.{Format}
 use Rattle.i9_tool.specs.declared.words.Format.TheVariants as formats
 use Rattle.i9_tool.specs.declared.words.Range.{Range}
-use Rattle.i9_tool.specs.Traced.{printed_text}
+use Rattle.i9_tool.specs.Traced.{headed_text}
 use Rattle.i9_generator.specs.Generator.{generated_source, generated_schedule}
 use Rattle.i9_outside.specs.declared.traits.TheConstants.{FILE_LIMIT}
 use Rattle.i9_debug.specs.declared.print.Printed.{Printed}
@@ -58,12 +58,14 @@ pub data FileGives (kind : FileKind) (after : Value kind → ℕ → List ℕ �
   accepted : (value : Value kind) (code : ℕ) (text : List ℕ) → IsAccepted kind file value → after value code text
       → FileGives kind after file code text
 
--- The run of an image with these events is printed to its end, and what is traced of it. The results of this run land late:
+-- The run of an image with the events of a schedule is printed to its end behind the line of the schedule's version, and what
+-- is traced of it. The results of this run land late:
 -- it is the run of the machine that does one instruction after the other, but that an arithmetic fault which the next
 -- instruction overtakes ends it, named as imprecise.
-pub data RunGives (sets : Option ℕ) (limit : ℕ) (traced : Option Range) (pairs : List (ℕ × ℕ)) (events : List Timed) : ℕ → List ℕ → Type 0 where
-  runs : (records : List Record) (f : Finish) → IsLateRun (given pairs events limit sets) records f
-      → RunGives sets limit traced pairs events (end_code f.end) (printed_text traced (given pairs events limit sets) records f)
+pub data RunGives (sets : Option ℕ) (limit : ℕ) (traced : Option Range) (pairs : List (ℕ × ℕ)) (c : Contents) : ℕ → List ℕ → Type 0 where
+  runs : (records : List Record) (f : Finish) → IsLateRun (given pairs c.events limit sets) records f
+      → RunGives sets limit traced pairs c (end_code f.end)
+          (headed_text c.version traced (given pairs c.events limit sets) records f)
 
 -- the status for a run that has come so far: that of its end, where that was reached
 abbrev pub driven_code : Option End → ℕ
@@ -103,21 +105,25 @@ job_line number g records f = generated_line number (state_after g records).coun
 -- The run of the source and the schedule that are made from a number, whose results land late, is made to its end, and a
 -- line says what it comes to.
 pub data GenGives (number : ℕ) (sets : Option ℕ) : ℕ → List ℕ → Type 0 where
-  job_runs : (image : List Part) (events : List Timed) (records : List Record) (f : Finish)
-      → IsAssembly (lines_of (generated_source number)) image → IsSchedule (lines_of (generated_schedule number)) events
-      → IsLateRun (given (pairs_of image) events MAX_LENGTH sets) records f
-      → GenGives number sets (end_code f.end) (job_line number (given (pairs_of image) events MAX_LENGTH sets) records f)
+  job_runs : (image : List Part) (c : Contents) (records : List Record) (f : Finish)
+      → IsAssembly (lines_of (generated_source number)) image → IsSchedule (lines_of (generated_schedule number)) c
+      → IsLateRun (given (pairs_of image) c.events MAX_LENGTH sets) records f
+      → GenGives number sets (end_code f.end) (job_line number (given (pairs_of image) c.events MAX_LENGTH sets) records f)
+
+-- a schedule without events
+abbrev pub no_schedule : Contents
+no_schedule = record { version = first_version; events = [] }
 
 -- `told` says the files that are told, and `rose` of which names the count of faults rose.
 module _ (told : List ℕ → Option (List ℕ)) (rose : List ℕ → Type 0) where
   -- a run is printed, or a script is read, and drives it
-  abbrev pub DriverGives : Driver → Option ℕ → List (ℕ × ℕ) → List Timed → ℕ → List ℕ → Type 0
-  DriverGives (ByLength limit traced) sets pairs events = RunGives sets limit traced pairs events
-  DriverGives (ByScript script) sets pairs events = Reads (told script) (rose script) (FileGives Script (ScriptGives sets pairs events))
+  abbrev pub DriverGives : Driver → Option ℕ → List (ℕ × ℕ) → Contents → ℕ → List ℕ → Type 0
+  DriverGives (ByLength limit traced) sets pairs c = RunGives sets limit traced pairs c
+  DriverGives (ByScript script) sets pairs c = Reads (told script) (rose script) (FileGives Script (ScriptGives sets pairs c.events))
 
   -- a schedule is read where one is named, and else a run has no events
-  abbrev pub PlanGives : Option (List ℕ) → (List Timed → ℕ → List ℕ → Type 0) → ℕ → List ℕ → Type 0
-  PlanGives None run = run []
+  abbrev pub PlanGives : Option (List ℕ) → (Contents → ℕ → List ℕ → Type 0) → ℕ → List ℕ → Type 0
+  PlanGives None run = run no_schedule
   PlanGives (Some name) run = Reads (told name) (rose name) (FileGives Schedule run)
 
   -- the image comes first, the schedule only where it is accepted, and a script only where both are
@@ -133,7 +139,7 @@ module _ (told : List ℕ → Option (List ℕ)) (rose : List ℕ → Type 0) wh
 abbrev pub IsCountedSchedule : (List ℕ → Option (List ℕ)) → Option (List ℕ) → Type 0
 IsCountedSchedule told None = Unit {0}
 IsCountedSchedule told (Some name) =
-    (file : List ℕ) (events : List Timed) → IsFile (told name) file → IsSchedule (lines_of file) events → IsByCounts events
+    (file : List ℕ) (c : Contents) → IsFile (told name) file → IsSchedule (lines_of file) c → IsByCounts c.events
 
 -- The status and the text for what the words ask for.
 pub data Gives (told : List ℕ → Option (List ℕ)) (rose : List ℕ → Type 0) : Option Command → ℕ → List ℕ → Type 0 where

@@ -9,7 +9,7 @@ use Rattle.i9_machine.specs.declared.line.Turn.TheVariants as turns
 use Rattle.i9_machine.specs.declared.machine.Machine.{Machine}
 use Rattle.i9_schedule.specs.Plan.{Plan}
 use Rattle.i9_tool.specs.declared.words.Range.{Range}
-use Rattle.i9_tool.specs.Traced.{line_where, traced_line, printed_text}
+use Rattle.i9_tool.specs.Traced.{line_where, traced_line, printed_text, headed_text}
 use Rattle.i9_debug.specs.declared.print.Printed.{Printed}
 use Rattle.i9_debug.specs.declared.print.Printed.TheVariants as printed
 use Rattle.i9_tool.specs.declared.run.Counted.{Counted}
@@ -42,6 +42,10 @@ pub record RunsAs {K : Type 0} (text : Given → List Record → Finish → List
 -- the text of a run of which a range is traced, or nothing
 abbrev pub Runs : {K : Type 0} → Ran → Option Range → Given → Account K → K → K → Type 0
 Runs answer traced g k old new = RunsAs (printed_text traced) answer g k old new
+
+-- the same behind the line of the version of its schedule
+abbrev pub RunsHeaded : {K : Type 0} → Ran → ℕ → Option Range → Given → Account K → K → K → Type 0
+RunsHeaded answer version traced g k old new = RunsAs (headed_text version traced) answer g k old new
 
 -- ---- the same under a relation of answers, those that it allows at an address
 

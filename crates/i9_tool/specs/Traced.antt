@@ -4,7 +4,7 @@ use Rattle.i9_isa.specs.Words.{words_of}
 use Rattle.i9_model.specs.State.{State}
 use Rattle.i9_model.specs.Step.{first_word, next_word}
 use Rattle.i9_model.specs.Run.{Given, Kind, Instruction, Faulted, Entered, Interrupted, Reached, Record, faulted_words, state_after, Finish}
-use Rattle.i9_model.specs.PrintedText.{text_of, record_lines, end_lines, run_text}
+use Rattle.i9_model.specs.PrintedText.{text_of, record_lines, end_lines, run_text, heading_text}
 use Rattle.i9_tracer.specs.Trace.{trace_text}
 use Rattle.i9_tool.specs.declared.words.Range.{Range}
 
@@ -46,3 +46,7 @@ traced_text passes g rs f = traced_lines passes rs ++ text_of (end_lines (state_
 abbrev pub printed_text : Option Range → Given → List Record → Finish → List ℕ
 printed_text None g rs f = run_text g rs f
 printed_text (Some range) g rs f = traced_text (is_within range) g rs f
+
+-- the same behind the line of the version of its schedule
+abbrev pub headed_text : ℕ → Option Range → Given → List Record → Finish → List ℕ
+headed_text version traced g rs f = heading_text version ++ printed_text traced g rs f

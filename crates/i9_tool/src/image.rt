@@ -6,17 +6,18 @@ ghost use Rattle.i9_model.specs.Image.{pairs_of};
 ghost use Rattle.i9_model.specs.ScheduleText.{IsPlan};
 ghost use Rattle.i9_model.specs.PrintedText.{end_code};
 ghost use Rattle.i9_outside.specs.declared.traits.TheConstants.{FILE_LIMIT};
+ghost use Rattle.i9_schedule.specs.Plan.{contents};
 ghost use Rattle.i9_debug.specs.Print.{account};
 ghost use Rattle.i9_tool.specs.declared.files.FileKind.TheVariants as kinds;
 ghost use Rattle.i9_tool.specs.CommandLine.{driver_files, planned_files, files_of};
 ghost use Rattle.i9_tool.specs.FileKinds.{file_of};
 ghost use Rattle.i9_tool.specs.Fetches.{Fetches, FetchesBehind, FetchesOrNone, rose_in, shelf};
-ghost use Rattle.i9_tool.specs.Outcome.{Reads, FileGives, RunGives, DriverGives, PlanGives, CommandGives, Answers, code_for};
+ghost use Rattle.i9_tool.specs.Outcome.{Reads, FileGives, RunGives, DriverGives, PlanGives, CommandGives, Answers, code_for, no_schedule};
 ghost use Rattle.i9_tool.specs.Run.{TellsEnd, printed_of};
 ghost use Rattle.i9_tool.specs.Words.{driver_by, run_by, AreFew, CanRun};
 
 use crate::files::{FileKind, fetch_file, refuse, refuse_image};
-use crate::run::{Ran, run};
+use crate::run::{Ran, run_headed};
 use crate::script::fetch_script;
 use crate::status::{Status, code_of_end};
 use crate::words::{Driver, Range, RunWords};
@@ -56,11 +57,11 @@ fn print_run<K: Sink>(
     requires short { limit ≤ MAX_LENGTH }
     requires begins { plan.old.place ≡ 0 }
     requires plan { IsPlan plan.old.events }
-    ensures answers { Answers (RunGives sets limit traced (pairs_of image.now) plan.old.events)
+    ensures answers { Answers (RunGives sets limit traced (pairs_of image.now) (contents plan.old))
         result.code (account K.told K.faults K.writes K.sure K.pieces) out.old out.new }
     ensures read { result.code ≢ 5 }
 {
-    status_of_run(run(alloc, image, plan, sets, limit, traced, out))
+    status_of_run(run_headed(alloc, image, plan, sets, limit, traced, out))
 }
 
 /// Runs an image that was accepted, with the events of a schedule, as far as it is driven.
@@ -76,7 +77,7 @@ fn run_driven<F: Files, K: Sink>(
     requires begins { plan.old.place ≡ 0 }
     requires plan { IsPlan plan.old.events }
     ensures answers { Answers (DriverGives (F.told files.old) (rose_in F.faults files.old files.new)
-        (driver_by words.now.driver) words.now.sets (pairs_of image.now) plan.old.events)
+        (driver_by words.now.driver) words.now.sets (pairs_of image.now) (contents plan.old))
         result.code (account K.told K.faults K.writes K.sure K.pieces) out.old out.new }
     ensures fetches { Fetches (shelf F.told F.faults F.fetches F.sure) result.code
         (driver_files (driver_by words.now.driver)) files.old files.new }
@@ -91,7 +92,7 @@ fn run_driven<F: Files, K: Sink>(
 
 /// A schedule without events.
 fn no_events(alloc: Global) -> Result<Schedule, NoMemory>
-    ensures events { IfOk result (λ s. s.events ≡ []) }
+    ensures contents { IfOk result (λ s. contents s ≡ no_schedule) }
     ensures place { IfOk result (λ s. s.place ≡ 0) }
 {
     match i9_schedule::read(alloc, b"") {
@@ -110,7 +111,7 @@ fn run_alone<F: Files, K: Sink>(
 ) -> Status
     requires can { CanRun words.now }
     ensures answers { Answers (DriverGives (F.told files.old) (rose_in F.faults files.old files.new)
-        (driver_by words.now.driver) words.now.sets (pairs_of image.now) [])
+        (driver_by words.now.driver) words.now.sets (pairs_of image.now) no_schedule)
         result.code (account K.told K.faults K.writes K.sure K.pieces) out.old out.new }
     ensures fetches { FetchesOrNone (shelf F.told F.faults F.fetches F.sure) result.code
         (driver_files (driver_by words.now.driver)) files.old files.new }

@@ -5,6 +5,7 @@ ghost use Rattle.i9_model.specs.ScheduleText.{IsSchedule, IsPlan};
 ghost use Rattle.i9_asm.specs.Laws.{IsAssembly};
 ghost use Rattle.i9_generator.specs.Generator.{generated_source, generated_schedule};
 ghost use Rattle.i9_tool.specs.Words.{AreFew};
+ghost use Rattle.i9_schedule.specs.Plan.{contents};
 ghost use Rattle.i9_debug.specs.Print.{account};
 ghost use Rattle.i9_tool.specs.Outcome.{Answers, GenGives};
 
@@ -33,7 +34,7 @@ fn run_job<K: Sink>(
     requires begins { plan.old.place ≡ 0 }
     requires plan { IsPlan plan.old.events }
     requires assembled { IsAssembly (lines_of (generated_source words.number)) image.now }
-    requires said { IsSchedule (lines_of (generated_schedule words.number)) plan.old.events }
+    requires said { IsSchedule (lines_of (generated_schedule words.number)) (contents plan.old) }
     ensures answers { Answers (GenGives words.number words.sets)
         result.code (account K.told K.faults K.writes K.sure K.pieces) out.old out.new }
     ensures read { result.code ≢ 5 }

@@ -7,11 +7,11 @@ ghost use Rattle.i9_model.specs.ScheduleText.{IsPlan};
 ghost use Rattle.i9_machine.specs.StandsFor.{StandsFor, Follows, IsUnderWay};
 ghost use Rattle.i9_tracer.specs.Closures.{TakesEachAddress};
 ghost use Rattle.i9_debug.specs.Print.{account};
-ghost use Rattle.i9_tool.specs.Run.{Counts, DrivesBy, PrintsBy, Runs, TracesBy, step_text, turn_text};
+ghost use Rattle.i9_tool.specs.Run.{Counts, DrivesBy, PrintsBy, Runs, RunsHeaded, TracesBy, step_text, turn_text};
 ghost use Rattle.i9_tool.specs.Words.{AreFew};
 
 use crate::words::Range;
-use i9_debug::{Printed, print_lines, print_text};
+use i9_debug::{Printed, print_heading, print_lines, print_text};
 use i9_hex::Segments;
 use i9_isa::NoMemory;
 use i9_machine::{End, Line, Machine, Turn};
@@ -149,7 +149,7 @@ fn run_with<K: Sink, F: Fn(u32) -> bool + AddressTest>(
 /// Runs an image with the events of a schedule and its frames in so many sets, for at most so many instructions, and
 /// prints the lines of the run as they come. Where a range is traced, the line of each instruction of it comes before
 /// the lines of its step.
-pub(crate) fn run<K: Sink>(
+fn run<K: Sink>(
     alloc: Global,
     image: &Segments,
     plan: &mut Schedule,
@@ -178,6 +178,30 @@ pub(crate) fn run<K: Sink>(
             { low <= address && address <= high };
             run_with(alloc, image, plan, sets, limit, passes, out)
         }
+    }
+}
+
+/// Prints the line of the version of a schedule, and then the run that `run` makes.
+pub(crate) fn run_headed<K: Sink>(
+    alloc: Global,
+    image: &Segments,
+    plan: &mut Schedule,
+    sets: Option<u8>,
+    limit: u64,
+    traced: Option<Range>,
+    out: &mut K,
+) -> Ran
+    requires begins { plan.old.place ≡ 0 }
+    requires plan { IsPlan plan.old.events }
+    requires few { AreFew sets }
+    requires short { limit ≤ MAX_LENGTH }
+    ensures { RunsHeaded result plan.old.version traced (given (pairs_of image.now) plan.old.events limit sets)
+        (account K.told K.faults K.writes K.sure K.pieces) out.old out.new }
+{
+    match print_heading(plan.version(), out) {
+        Printed::Done => run(alloc, image, plan, sets, limit, traced, out),
+        Printed::Write => Ran::Write,
+        Printed::Memory => Ran::Memory,
     }
 }
 
