@@ -74,26 +74,26 @@ heading_said : opening_of heading ≡ Ok (said.Version levels_version)
 unfolding opening_of heading_of
 heading_said = refl
 
+no_words : (t : Timed) → timed_of (version_in None) [] ≡ Ok t → ⊥
+unfolding timed_of
+no_words t h = cc
+
 -- an event's first word is not that of the heading
+no_event : (rest : Words) (t : Timed) → timed_of (version_in None) (codes "schedule" ∷ rest) ≡ Ok t → ⊥
+unfolding timed_of
+no_event rest t h = cc
+
+opening_is_event : (ws : Words) (t : Timed) → timed_of (version_in None) ws ≡ Ok t → opening_of ws ≡ Ok (said.Event t)
+unfolding opening_of
+opening_is_event [] t is = absurd (no_words t is)
+opening_is_event (first ∷ rest) t is = elim (cases_Bool (bytes_eq first (codes "schedule"))) [
+  | inl same ↦ absurd (no_event rest t (subst (λ (x : List ℕ). timed_of (version_in None) (x ∷ rest) ≡ Ok t) ((bytes_eq-Decides first (codes "schedule")).0 same) is))
+  | inr other ↦ rw (other, is) refl
+]
+
 event_is_said : (told : Option ℕ) (ws : Words) (t : Timed) → timed_of (version_in told) ws ≡ Ok t → said_of told ws ≡ Ok (said.Event t)
 event_is_said (Some version) ws t is = rw is refl
-event_is_said None ws t is = opening_is_event ws is
-  where
-    opening_is_event : (xs : Words) → timed_of (version_in None) xs ≡ Ok t → opening_of xs ≡ Ok (said.Event t)
-    unfolding opening_of
-    opening_is_event [] e = absurd (no_words e)
-      where
-        no_words : timed_of (version_in None) [] ≡ Ok t → ⊥
-        unfolding timed_of
-        no_words h = cc
-    opening_is_event (first ∷ rest) e = elim (cases_Bool (bytes_eq first (codes "schedule"))) [
-      | inl same ↦ absurd (no_event (subst (λ (x : List ℕ). timed_of (version_in None) (x ∷ rest) ≡ Ok t) ((bytes_eq-Decides first (codes "schedule")).0 same) e))
-      | inr other ↦ rw (other, e) refl
-    ]
-      where
-        no_event : timed_of (version_in None) (codes "schedule" ∷ rest) ≡ Ok t → ⊥
-        unfolding timed_of
-        no_event h = cc
+event_is_said None ws t is = opening_is_event ws t is
 
 pub line_says : (s : SoFar) (line : List ℕ) (u : SoFar) → Says s line u → (fault_of s line ≡ None) × (with_line s line ≡ u)
 unfolding line_of
