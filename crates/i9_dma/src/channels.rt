@@ -22,7 +22,7 @@ pub enum Unit {
 /// Four channels, and the DMA command word (DMAC), of which bits 0 to 3 say which channels are enabled
 /// and bits 4 to 7 which have ended. After the i960 CA/CF User's Manual, DMA controller; the bits of the
 /// words are this project's own.
-#[derive(Drop)]
+#[derive(Clone, Copy)]
 pub struct Channels {
     channels: [Channel; CHANNELS as usize],
     command: u32,

@@ -40,6 +40,17 @@ impl Sets {
         }
     }
 
+    /// As many sets, which hold the same frames.
+    pub fn copy(&self, alloc: Global) -> Result<Sets, NoMemory>
+        ensures { IfOk result (λ s. s ≡ self.now) }
+    {
+        let mut sets = Sets::new(alloc, self.size())?;
+        let (older, younger) = self.frames.as_slices();
+        sets.frames.fill_from_slice(older);
+        sets.frames.fill_from_slice(younger);
+        Ok(sets)
+    }
+
     /// Holds a frame, which is the youngest then. The oldest comes out where all sets were taken.
     pub fn push(&mut self, f: Frame) -> Option<Frame>
         ensures spills { IsSome result ↔ (length self.old.frames ≡ self.old.size) }

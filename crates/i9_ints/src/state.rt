@@ -21,7 +21,7 @@ const VECTOR_END: u8 = 2;
 /// masked (IMSK), and the three words that give the lines their vectors (IMAP0 to IMAP2), in
 /// dedicated mode. Bits 0 to 7 of the first two words are the pins, bits 8 to 11 the DMA channels.
 /// After the i960 CA/CF User's Manual, interrupts.
-#[derive(Drop)]
+#[derive(Clone, Copy)]
 pub struct Ints {
     pending: u32,
     mask: u32,

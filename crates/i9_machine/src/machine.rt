@@ -23,6 +23,7 @@ ghost use Rattle.i9_processor.specs.Effect.{KeepsRoom};
 ghost use Rattle.i9_processor.specs.Pages.{AddsNoPage, HasPagesFor};
 ghost use Rattle.std.specs.Option.{option_map};
 
+mod copying;
 mod doing;
 mod opening;
 mod planning;

@@ -1,8 +1,8 @@
 -- Bytes in pages.
 use Rattle.std.proofs.Common.{◌≡◌, ℕ, zero, suc, ◌/◌, ◌%◌, Bool, true, false, List, get_or, replicate, refl, ap, ◌∙◌, arith}
-use Rattle.std.specs.Prelude.{◌==◌, if◌then◌else◌, Option, Some}
+use Rattle.std.specs.Prelude.{◌==◌, if◌then◌else◌, Option, Some, None}
 use Rattle.std.proofs.lemmas.Bool.Decides.{nat_tests}
-use Rattle.i9_pages.specs.Table.{SamePages, Updates}
+use Rattle.i9_pages.specs.Table.{IsCopy, SamePages, Updates}
 use Rattle.i9_memory.specs.declared.pages.Page.{Page}
 use Rattle.i9_memory.specs.declared.pages.Pages.{Pages}
 use Rattle.i9_memory.specs.Pages.{byte_in, byte_of, page_of, HasPage}
@@ -47,3 +47,17 @@ zero_page m n page lacks zeros = same_bytes _ _ (λ x. grind (arith, nat_tests, 
 
 pub same_pages : (old new : Pages) → SamePages old.pages new.pages → byte_of new ≡ byte_of old
 same_pages old new is = same_bytes _ _ (λ x. ap (λ (o : Option Page). byte_in o (x % 256)) (is (x / 256)))
+
+-- ---- copies
+
+copied_byte : (copies : Page → Page → Type 0) → ((x y : Page) → copies x y → y.bytes.value ≡ x.bytes.value) → (p q : Option Page)
+    → IsCopy copies p q → (k : ℕ) → byte_in q k ≡ byte_in p k
+copied_byte copies same None q h k = ap (λ (o : Option Page). byte_in o k) h
+copied_byte copies same (Some x) None h k = absurd h
+copied_byte copies same (Some x) (Some y) h k = ap (λ (bs : List ℕ). get_or bs k 0) (same x y h)
+
+-- where each page of a copy has the bytes of the other's, so has the whole
+pub copied_bytes : (old new : Pages) (copies : Page → Page → Type 0) → ((n : ℕ) → IsCopy copies (page_of old n) (page_of new n))
+    → ((x y : Page) → copies x y → y.bytes.value ≡ x.bytes.value) → byte_of new ≡ byte_of old
+copied_bytes old new copies is same =
+    same_bytes _ _ (λ x. copied_byte copies same (page_of old (x / 256)) (page_of new (x / 256)) (is (x / 256)) (x % 256))

@@ -1,5 +1,5 @@
 //! Memory.
-ghost use Rattle.std.specs.Prelude.{◌≡◌, ℕ, ◌+◌, ◌*◌, ◌/◌, ◌%◌, ◌<◌, ◌≤◌, ◌∷◌, [], Some, OnOk, OnErr, length};
+ghost use Rattle.std.specs.Prelude.{◌≡◌, ℕ, ◌+◌, ◌*◌, ◌/◌, ◌%◌, ◌<◌, ◌≤◌, ◌∷◌, [], Some, OnOk, OnErr, IfOk, length};
 ghost use Rattle.i9_model.specs.Memory.{region_of, is_big, waits_of, half_in, word_in, words_in, ordered_word, half_bytes, word_bytes, with_bytes, with_words, with_mcon};
 
 use crate::order::{bytes_of_half, bytes_of_word, half_of, word_of};
@@ -42,6 +42,19 @@ impl Memory {
             pages: Pages::new(alloc),
             mcon: [0; 16],
         }
+    }
+
+    /// The same memory, with room for the same bytes.
+    pub fn copy(&self) -> Result<Memory, NoMemory>
+        ensures memory { IfOk result (λ m. memory_of m ≡ memory_of self.now) }
+        ensures room { IfOk result (λ m. KeepsRoom self.now m) }
+        ensures no_more { IfOk result (λ m. KeepsRoom m self.now) }
+    {
+        let pages = self.pages.copy()?;
+        Ok(Memory {
+            pages,
+            mcon: self.mcon,
+        })
     }
 
     /// Makes room for `n` bytes from `a` up, and for no others but those of their pages. Memory is refused only where

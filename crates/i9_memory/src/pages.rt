@@ -1,12 +1,12 @@
 //! Bytes by address, in pages.
-ghost use Rattle.std.specs.Prelude.{◌≡◌, ◌≢◌, ℕ, ◌+◌, ◌/◌, ◌%◌, ◌^◌, ◌<◌, ◌≤◌, ◌∷◌, [], OnOk, OnErr, IfSome, Some, length};
+ghost use Rattle.std.specs.Prelude.{◌≡◌, ◌≢◌, ℕ, ◌+◌, ◌/◌, ◌%◌, ◌^◌, ◌<◌, ◌≤◌, ◌∷◌, [], OnOk, OnErr, IfOk, IfSome, Some, length};
 ghost use Rattle.i9_model.specs.Writes.{wrapped, written, pairs_at, upwards};
 ghost use Rattle.i9_model.specs.Memory.{stored};
 
 use i9_isa::NoMemory;
 use i9_model::in_port_page;
 use i9_pages::PageTable;
-use std::alloc::Global;
+use std::alloc::{AllocError, Global};
 
 /// How many bytes a page has.
 pub(crate) const PAGE_SIZE: u32 = 256;
@@ -15,6 +15,15 @@ pub(crate) const PAGE_SIZE: u32 = 256;
 #[derive(Drop)]
 pub(crate) struct Page {
     bytes: Box<[u8; 256]>,
+}
+
+impl Clone for Page {
+    ghost is_clone = { λ p q. q.bytes.value ≡ p.bytes.value };
+
+    fn clone(&self) -> Result<Page, AllocError> {
+        let bytes = Box::new(*Box::allocator(&self.bytes), *self.bytes)?;
+        Ok(Page { bytes })
+    }
 }
 
 impl Page {
@@ -88,6 +97,19 @@ impl Pages {
             alloc,
             pages: PageTable::new(alloc),
         }
+    }
+
+    /// The same bytes, with room for the same ones.
+    pub(crate) fn copy(&self) -> Result<Pages, NoMemory>
+        ensures bytes { IfOk result (λ m. byte_of m ≡ byte_of self.now) }
+        ensures room { IfOk result (λ m. KeepsPages self.now m) }
+        ensures no_more { IfOk result (λ m. KeepsPages m self.now) }
+    {
+        let pages = self.pages.copy()?;
+        Ok(Pages {
+            alloc: self.alloc,
+            pages,
+        })
     }
 
     /// The byte at an address.

@@ -1,5 +1,5 @@
 -- Table: the page of each number.
-use Rattle.std.specs.Prelude.{◌≡◌, ℕ, ◌/◌, ◌%◌, ◌==◌, if◌then◌else◌, List, [], Option, Some, None, slice_get, slice_index_or}
+use Rattle.std.specs.Prelude.{◌≡◌, ℕ, ◌/◌, ◌%◌, ◌==◌, if◌then◌else◌, List, [], Option, Some, None, MatchOption, IsSomeAnd, slice_get, slice_index_or}
 use Rattle.std.specs.declared.vec.Vec.{Vec}
 use Rattle.i9_pages.specs.declared.table.PageTable.{PageTable}
 
@@ -25,3 +25,7 @@ module _ {T : Type 0} where
   -- one number has this page, or none, and each other one the page that it had
   abbrev pub Updates : PageTable T → ℕ → Option T → PageTable T → Type 0
   Updates old number page new = (n : ℕ) → page_at new n ≡ (if n == number then page else page_at old n)
+
+  -- a copy has a page where the other has one, and it is one of that page
+  abbrev pub IsCopy : (T → T → Type 0) → Option T → Option T → Type 0
+  IsCopy copies p q = MatchOption p (q ≡ None) (λ x. IsSomeAnd q (copies x))

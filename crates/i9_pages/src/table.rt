@@ -1,5 +1,5 @@
 //! Pages by number.
-ghost use Rattle.std.specs.Prelude.{◌≡◌, ℕ, ◌^◌, ◌<◌, ◌≤◌, ◌↔◌, IsTrue, IsSome, OnOk, OnErr, option_copied, slice_index_or, vec_len};
+ghost use Rattle.std.specs.Prelude.{◌≡◌, ℕ, ◌^◌, ◌<◌, ◌≤◌, ◌↔◌, IsTrue, IsSome, OnOk, OnErr, IfOk, option_copied, slice_index_or, vec_len};
 ghost use Rattle.std.specs.Option.{option_copied_mut};
 ghost use Rattle.std.specs.Borrow.{sem};
 ghost use Rattle.i9_pages.specs.Table.{list_at};
@@ -115,6 +115,24 @@ impl<T: Drop> PageTable<T> {
             && let Some(place) = low.get_mut((number % 256) as usize)
         {
             *place = None;
+        }
+    }
+}
+
+#[tactic(auto, unfolding(crate::specs::Table::page_at))]
+impl<T: Clone + Drop> PageTable<T> {
+    ghost use Rattle.i9_pages.specs.Table.{page_at, IsCopy};
+
+    /// A table that has a clone of each page, and no other page.
+    pub fn copy(&self) -> Result<PageTable<T>, NoMemory>
+        ensures { IfOk result (λ t. (n : ℕ) → IsCopy T.is_clone (page_at self.now n) (page_at t n)) }
+    {
+        match self.levels.clone() {
+            Ok(levels) => Ok(PageTable {
+                alloc: self.alloc,
+                levels,
+            }),
+            Err(_) => Err(NoMemory),
         }
     }
 }

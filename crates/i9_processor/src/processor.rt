@@ -108,6 +108,33 @@ impl Processor {
         })
     }
 
+    /// The same state, with the same frames in the same sets, the same plans, and the same requests that wait.
+    #[tactic(auto, unfolding(crate::specs::State::state_of, crate::specs::State::cache_of, crate::specs::State::size_of, crate::specs::State::cells_of, crate::specs::State::bytes_of, crate::specs::State::queue_of))]
+    pub fn copy(&self, alloc: Global) -> Result<Processor, NoMemory>
+        ensures state { IfOk result (λ p. state_of p ≡ state_of self.now) }
+        ensures cache { IfOk result (λ p. cache_of p ≡ cache_of self.now) }
+        ensures size { IfOk result (λ p. size_of p ≡ size_of self.now) }
+        ensures cells { IfOk result (λ p. cells_of p ≡ cells_of self.now) }
+        ensures bytes { IfOk result (λ p. bytes_of p ≡ bytes_of self.now) }
+        ensures queue { IfOk result (λ p. queue_of p ≡ queue_of self.now) }
+    {
+        let storage = self.storage.copy(alloc)?;
+        Ok(Processor {
+            file: self.file,
+            ip: self.ip,
+            flags: self.flags,
+            pc: self.pc,
+            tc: self.tc,
+            check: self.check,
+            ints: self.ints,
+            channels: self.channels,
+            breaks: self.breaks,
+            tables: self.tables,
+            count: self.count,
+            storage,
+        })
+    }
+
     /// The number of sets that the PRCB at an address asks for.
     #[tactic(auto, unfolding(crate::specs::State::state_of, i9_model::specs::Boot::setup_of))]
     pub fn sets_at(&self, prcb: u32) -> u8

@@ -1,6 +1,6 @@
 //! Memory behind the held frames, with the requests that wait.
 
-ghost use Rattle.std.specs.Prelude.{◌≡◌, ◌*◌, ◌<◌, ◌≤◌, ◌↔◌, ◌∷◌, ◌++◌, [], IsTrue, length, OnOk, OnErr};
+ghost use Rattle.std.specs.Prelude.{◌≡◌, ◌*◌, ◌<◌, ◌≤◌, ◌↔◌, ◌∷◌, ◌++◌, [], IsTrue, length, IfOk, OnOk, OnErr};
 ghost use Rattle.std.specs.List.{AllByRecursion};
 ghost use Rattle.std.specs.Borrow.{sem};
 ghost use Rattle.i9_memory.specs.Memory.{memory_of, HasRoom, KeepsRoom};
@@ -58,6 +58,20 @@ impl Behind {
             memory,
             queue: Queue::new(),
         }
+    }
+
+    /// The same memory with the same requests, and room for the same bytes.
+    pub fn copy(&self) -> Result<Behind, NoMemory>
+        ensures settled { IfOk result (λ b. settled b ≡ settled self.now) }
+        ensures acted { IfOk result (λ b. acted b ≡ acted self.now) }
+        ensures queue { IfOk result (λ b. waiting_of b ≡ waiting_of self.now) }
+        ensures keeps { IfOk result (λ b. KeepsRoomIn self.now b) }
+        ensures no_more { IfOk result (λ b. KeepsRoomIn b self.now) }
+    {
+        Ok(Behind {
+            memory: self.memory.copy()?,
+            queue: self.queue.copy(),
+        })
     }
 
     /// Whether nothing waits.

@@ -29,6 +29,25 @@ impl Default for Request {
     }
 }
 
+impl Request {
+    ghost use Rattle.i9_queue.specs.Queue.{wait_in};
+
+    /// The same request.
+    fn copy(&self) -> Request
+        ensures { wait_in result ≡ wait_in self.now }
+    {
+        let mut bytes = ArrayVec::new();
+        for b in self.bytes.as_slice() {
+            bytes.push(*b);
+        }
+        Request {
+            address: self.address,
+            bytes,
+            due: self.due,
+        }
+    }
+}
+
 /// At most three requests, the oldest first.
 #[derive(Drop)]
 pub struct Queue {
@@ -112,6 +131,17 @@ impl Queue {
         Queue {
             items: ArrayVec::new(),
         }
+    }
+
+    /// The same requests.
+    pub fn copy(&self) -> Queue
+        ensures { result ≡ self.now }
+    {
+        let mut items = ArrayVec::new();
+        for r in self.items.as_slice() {
+            items.push(r.copy());
+        }
+        Queue { items }
     }
 
     /// How many requests wait.

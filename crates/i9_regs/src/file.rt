@@ -29,7 +29,7 @@ const RESOURCE_BITS: u64 = 1 << 33;
 
 /// For each of 33 resources, the 32 registers and the condition code, a value and perhaps a planned
 /// value with the turn at which it takes its place.
-#[derive(Drop)]
+#[derive(Clone, Copy)]
 pub struct File {
     slots: [Slot; RESOURCES],
     // a value is planned for no resource but these

@@ -102,6 +102,20 @@ impl Shade {
         }
     }
 
+    /// The same bytes, up to the same turn.
+    pub fn copy(&self) -> Shade
+        ensures { result ≡ self.now }
+    {
+        let mut pieces = ArrayVec::new();
+        for old in self.pieces.as_slice() {
+            pieces.push(OldBytes::new(old.address, old.bytes.as_slice()));
+        }
+        Shade {
+            pieces,
+            due: self.due,
+        }
+    }
+
     /// Keeps the bytes that stand from `a` up, 1 to 64 of them, behind the fewer than 18 pieces that
     /// were kept before.
     pub fn keep(&mut self, a: u32, old: &[u8])

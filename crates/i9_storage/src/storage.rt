@@ -80,6 +80,23 @@ impl Storage {
         })
     }
 
+    /// The same memory with the same frames and the same requests.
+    pub fn copy(&self, alloc: Global) -> Result<Storage, NoMemory>
+        ensures cache { IfOk result (λ s. cache_of s ≡ cache_of self.now) }
+        ensures frames { IfOk result (λ s. frames_in s ≡ frames_in self.now) }
+        ensures size { IfOk result (λ s. size_of s ≡ size_of self.now) }
+        ensures waiting { IfOk result (λ s. waiting_in s ≡ waiting_in self.now) }
+        ensures acted { IfOk result (λ s. acted_in s ≡ acted_in self.now) }
+        ensures keeps { IfOk result (λ s. KeepsSpace self.now s) }
+        ensures no_more { IfOk result (λ s. AddsNone self.now s) }
+    {
+        Ok(Storage {
+            behind: self.behind.copy()?,
+            watch: self.watch.copy()?,
+            sets: self.sets.copy(alloc)?,
+        })
+    }
+
     /// Whether nothing waits to be stored in memory.
     pub fn is_drained(&self) -> bool
         ensures { IsTrue result ↔ IsDrained self.now }

@@ -9,7 +9,7 @@ use Rattle.std.proofs.lemmas.Bool.Decides.{nat_tests}
 use Rattle.i9_model.specs.Writes.{wrapped}
 use Rattle.i9_model.specs.Frames.{in_bytes}
 use Rattle.i9_model.proofs.Places.{in_bytes-none, in_bytes-more}
-use Rattle.i9_pages.specs.Table.{page_at}
+use Rattle.i9_pages.specs.Table.{page_at, IsCopy}
 use Rattle.i9_watch.specs.declared.page.Mark.{Mark}
 use Rattle.i9_watch.specs.declared.page.Mark.TheVariants.{Soft, Live}
 use Rattle.i9_watch.specs.declared.page.Change.{Change}
@@ -254,3 +254,22 @@ change_more c m a j k f g h p q = same_marks _ _ (λ x.
     ∙ ap (λ (f : ℕ → Bool). changed_if c m (in_bytes (wrapped (a + j)) k x) (f x)) p
     ∙ if_either c m (in_bytes a j x) (in_bytes (wrapped (a + j)) k x) (f x)
     ∙ ap (λ (b : Bool). changed_if c m b (f x)) (sym (in_bytes-split a j k x)))
+
+-- ---- copies
+
+copied_mark : (copies : Page → Page → Type 0) → ((x y : Page) → copies x y → (m : Mark) (k : ℕ) → has_mark m y k ≡ has_mark m x k)
+    → (m : Mark) (p q : Option Page) → IsCopy copies p q → (k : ℕ) → is_marked_in m q k ≡ is_marked_in m p k
+copied_mark copies same m None q h k = ap (λ (o : Option Page). is_marked_in m o k) h
+copied_mark copies same m (Some x) None h k = absurd h
+copied_mark copies same m (Some x) (Some y) h k = same x y h m k
+
+-- where each page of a copy has the marks of the other's, so has the whole
+pub copied_marks : (old new : Marks) (copies : Page → Page → Type 0) → ((n : ℕ) → IsCopy copies (page_at old.pages n) (page_at new.pages n))
+    → ((x y : Page) → copies x y → (m : Mark) (k : ℕ) → has_mark m y k ≡ has_mark m x k) → (m : Mark) → is_marked m new ≡ is_marked m old
+copied_marks old new copies is same m = λ i x.
+    copied_mark copies same m (page_at old.pages (x / 256)) (page_at new.pages (x / 256)) (is (x / 256)) (x % 256) i
+
+-- a page with the same values has the same marks
+pub same_values : (x y : Page) → y.soft.value ≡ x.soft.value → y.live ≡ x.live → (m : Mark) (k : ℕ) → has_mark m y k ≡ has_mark m x k
+same_values x y soft live Soft k = ap (λ (bs : List Bool). get_or bs k false) soft
+same_values x y soft live Live k = ap (λ (bs : List Bool). get_or bs (k / 16) false) live

@@ -1,5 +1,5 @@
 //! The marks of all addresses.
-ghost use Rattle.std.specs.Prelude.{◌≡◌, ◌≢◌, ℕ, ◌+◌, ◌/◌, ◌%◌, ◌^◌, ◌<◌, ◌≤◌, ◌==◌, if◌then◌else◌, ◌&&◌, not, true, false, OnOk, OnErr};
+ghost use Rattle.std.specs.Prelude.{◌≡◌, ◌≢◌, ℕ, ◌+◌, ◌/◌, ◌%◌, ◌^◌, ◌<◌, ◌≤◌, ◌==◌, if◌then◌else◌, ◌&&◌, not, true, false, IfOk, OnOk, OnErr};
 ghost use Rattle.i9_model.specs.Writes.{wrapped};
 ghost use Rattle.i9_model.specs.Frames.{in_bytes, in_frames};
 
@@ -40,6 +40,19 @@ impl Marks {
             alloc,
             pages: PageTable::new(alloc),
         }
+    }
+
+    /// The same marks, with room for the same ones.
+    pub(crate) fn copy(&self) -> Result<Marks, NoMemory>
+        ensures marks { IfOk result (λ s. (m : Mark) → is_marked m s ≡ is_marked m self.now) }
+        ensures room { IfOk result (λ s. KeepsPages self.now s) }
+        ensures no_more { IfOk result (λ s. KeepsPages s self.now) }
+    {
+        let pages = self.pages.copy()?;
+        Ok(Marks {
+            alloc: self.alloc,
+            pages,
+        })
     }
 
     /// Whether an address has a mark.

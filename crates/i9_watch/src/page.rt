@@ -2,7 +2,7 @@
 ghost use Rattle.std.specs.Prelude.{◌≡◌, ◌≢◌, ◌⊎◌, ℕ, ◌+◌, ◌%◌, ◌<◌, ◌≤◌, IfOk, false};
 
 use i9_isa::NoMemory;
-use std::alloc::Global;
+use std::alloc::{AllocError, Global};
 
 /// How many addresses a page has.
 pub(crate) const PAGE_SIZE: u32 = 256;
@@ -37,6 +37,18 @@ pub(crate) enum Change {
 pub(crate) struct Page {
     soft: Box<[bool; 256]>,
     live: [bool; 16],
+}
+
+impl Clone for Page {
+    ghost is_clone = { λ p q. (q.soft.value ≡ p.soft.value) × (q.live ≡ p.live) };
+
+    fn clone(&self) -> Result<Page, AllocError> {
+        let soft = Box::new(*Box::allocator(&self.soft), *self.soft)?;
+        Ok(Page {
+            soft,
+            live: self.live,
+        })
+    }
 }
 
 impl Page {

@@ -66,6 +66,24 @@ impl Watch {
         }
     }
 
+    /// The same soft bytes and live frames, with room for the same marks, and none to spare for a further frame.
+    pub fn copy(&self) -> Result<Watch, NoMemory>
+        ensures frames { IfOk result (λ w. frames_of w ≡ frames_of self.now) }
+        ensures spare { IfOk result (λ w. spare_of w ≡ 0) }
+        ensures marks { IfOk result (λ w. KeepsMarks self.now w) }
+        ensures no_more { IfOk result (λ w. KeepsMarks w self.now) }
+    {
+        let marks = self.marks.copy()?;
+        match self.live.clone() {
+            Ok(live) => Ok(Watch {
+                marks,
+                live,
+                spare: 0,
+            }),
+            Err(_) => Err(NoMemory),
+        }
+    }
+
     /// Makes room for the save of a frame: one live entry to spare, and soft marks of the 64
     /// addresses from `a` on. There is room for no others then but those of their pages.
     pub fn reserve(&mut self, a: u32) -> Result<(), NoMemory>

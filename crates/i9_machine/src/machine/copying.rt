@@ -1,0 +1,44 @@
+//! A machine that stands where another stands.
+ghost use Rattle.std.specs.Prelude.{◌≡◌, List, None, IfOk};
+ghost use Rattle.i9_model.specs.Given.{Given};
+ghost use Rattle.i9_course.specs.Course.{Item};
+
+use super::Machine;
+use i9_isa::NoMemory;
+use i9_model::Need;
+use i9_plan::Memo;
+use i9_processor::Effect;
+use std::alloc::Global;
+
+impl Machine {
+    ghost use Rattle.i9_machine.specs.StandsFor.{StandsFor};
+
+    /// A machine that stands for the same records at the same turn, and goes on by itself. It takes as much memory as
+    /// its pages, however long the run was.
+    // What was decoded isn't copied, since it changes no answer.
+    pub fn copy(&self, alloc: Global) -> Result<Machine, NoMemory>
+        ensures stands { (g : Given) (h : List Item) → StandsFor g h None self.now
+            → IfOk result (λ m. StandsFor g h None m) }
+        ensures turn { IfOk result (λ m. m.turn ≡ self.now.turn) }
+    {
+        let processor = self.processor.copy(alloc)?;
+        let memo = Memo::new(alloc)?;
+        Ok(Machine {
+            processor,
+            memo,
+            alloc,
+            sets: self.sets,
+            length: self.length,
+            due: self.due,
+            ended: self.ended,
+            board: self.board,
+            turn: self.turn,
+            floor: self.floor,
+            done: self.done,
+            wait: self.wait,
+            shade: self.shade.copy(),
+            effect: Effect::blank(),
+            need: Need::default(),
+        })
+    }
+}
