@@ -13,7 +13,7 @@ use Rattle.i9_outside.specs.declared.traits.Wrote.TheVariants as writes
 use Rattle.i9_outside.specs.Traits.{AppendsFront, TakesPiece}
 use Rattle.i9_debug.specs.Print.{Account, Prints, OnDone, CountsUpTo, Takes, TakesFront, TakesFirst, IsPiece, IsLine, AreLines, lines_in, counted_on}
 use Rattle.i9_debug.proofs.TextLines.{IsClosed, closed_none, closed_join, closed_line, line_alone}
-use Rattle.i9_outside.proofs.Writing.{Appends-nothing, Appends-then}
+use Rattle.i9_outside.proofs.Appending.{Appends-nothing, Appends-then}
 
 front_none : (known : Option (List ℕ)) (text : List ℕ) → AppendsFront known known text
 front_none known text = record { front = []; rest = text; parts = refl; grows = Appends-nothing known }

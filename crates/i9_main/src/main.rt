@@ -16,7 +16,8 @@ ghost use Rattle.i9_debug.specs.Print.{account};
 ghost use Rattle.i9_main.specs.Program.{EndsWith};
 ghost use Rattle.i9_tool.specs.Fetches.{shelf};
 
-use i9_outside::{Files, RealFiles, RealSink, Sink};
+use i9_outside::{Files, Sink};
+use i9_system::{RealFiles, RealSink};
 use i9_tool::{Status, i960};
 use std::alloc::{AllocError, Global};
 use std::io::{ErrorKind, Print};

@@ -1,4 +1,2 @@
-pub mod Asking
+pub mod Appending
 pub mod Failing
-pub mod Reading
-pub mod Writing

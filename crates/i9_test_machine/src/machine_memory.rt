@@ -9,7 +9,8 @@ use crate::told::{add, answer, turn_text};
 use i9_hex::Segments;
 use i9_machine::{Machine, Turn};
 use i9_model::layout::MAX_LENGTH;
-use i9_outside::{Fetch, Files, RealFiles};
+use i9_outside::{Fetch, Files};
+use i9_system::RealFiles;
 use std::alloc::Global;
 use std::test::*;
 

@@ -6,7 +6,7 @@
 ghost use Rattle.std.specs.Prelude.{ℕ, List, Option, Result, ⊤};
 ghost use Rattle.std.specs.Io.{ReadsAtMost, WritesAtMost};
 ghost use Rattle.std.specs.Io.KnownBytes.{ReadConsumes, WriteAppends};
-ghost use Rattle.i9_outside.specs.System.{read_piece, ok_value};
+ghost use Rattle.i9_system.specs.System.{read_piece, ok_value};
 
 use std::io::{Read, Write};
 use std::{fs, io, rt};

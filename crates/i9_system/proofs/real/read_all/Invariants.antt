@@ -1,8 +1,8 @@
 use Rattle.std.proofs.Common.{◌+◌, ◌-◌}
 use Rattle.i9_outside.specs.declared.traits.TheConstants.{FILE_LIMIT}
-use Rattle.i9_outside.proofs.Asking.{HasAsked}
-use Rattle.i9_outside.proofs.Reading.{HasRead}
-use Rattle.i9_outside.proofs.real.read_all.Given as goal
+use Rattle.i9_system.proofs.Asking.{HasAsked}
+use Rattle.i9_system.proofs.Reading.{HasRead}
+use Rattle.i9_system.proofs.real.read_all.Given as goal
 
 abbrev pub invariant-loop-taken : goal.invariant-loop-taken
 invariant-loop-taken g l =

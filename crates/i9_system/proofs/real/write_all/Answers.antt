@@ -1,7 +1,7 @@
 use Rattle.std.proofs.Common.{arith}
-use Rattle.i9_outside.proofs.Asking.{called_more}
-use Rattle.i9_outside.proofs.Writing.{written_more}
-use Rattle.i9_outside.proofs.real.write_all.Goals as goal
+use Rattle.i9_system.proofs.Asking.{called_more}
+use Rattle.i9_system.proofs.Writing.{written_more}
+use Rattle.i9_system.proofs.real.write_all.Goals as goal
 
 pub loop-rest-preserved : goal.loop-rest-preserved
 loop-rest-preserved g c = (

@@ -1,7 +1,7 @@
 use Rattle.std.proofs.Common.{length}
-use Rattle.i9_outside.proofs.Asking.{HasCalled}
-use Rattle.i9_outside.proofs.Writing.{HasWritten}
-use Rattle.i9_outside.proofs.real.write_all.Given as goal
+use Rattle.i9_system.proofs.Asking.{HasCalled}
+use Rattle.i9_system.proofs.Writing.{HasWritten}
+use Rattle.i9_system.proofs.real.write_all.Given as goal
 
 abbrev pub invariant-loop-rest : goal.invariant-loop-rest
 invariant-loop-rest g l =

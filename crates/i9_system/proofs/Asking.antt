@@ -4,7 +4,7 @@ use Rattle.std.proofs.lemmas.List.{append-nil, flat_map_more}
 use Rattle.std.proofs.lemmas.Grind.{common_steps}
 use Rattle.i9_outside.specs.declared.traits.Fetch.TheVariants as fetches
 use Rattle.i9_outside.specs.declared.traits.Wrote.TheVariants as wrotes
-use Rattle.i9_outside.specs.System.{ReadsOf, ReadsInto, WritesOf, WriteCalls}
+use Rattle.i9_system.specs.System.{ReadsOf, ReadsInto, WritesOf, WriteCalls}
 
 -- reads were made, whose pieces went into the buffer
 pub record HasAsked {F : Type 0} (reads : F → Option (List ℕ) → F → Type 0) (before after : F) (old new : List ℕ) : Type 0 where

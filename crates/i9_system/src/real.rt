@@ -1,11 +1,11 @@
 //! Files and a sink of the system.
 ghost use Rattle.std.specs.Prelude.{◌≡◌, ◌≢◌, ◌≤◌, None, ℕ, List, length};
 ghost use Rattle.i9_outside.specs.Counts.{one_more};
-ghost use Rattle.i9_outside.specs.System.{FetchCalls, ReadsInto, WriteCalls};
+ghost use Rattle.i9_system.specs.System.{FetchCalls, ReadsInto, WriteCalls};
 ghost use Rattle.i9_outside.specs.Traits.{Fetches, FetchCause, Writes, WriteCause, TakesPiece};
 
 use crate::system::{OpenOnce, ReadOnce, WriteOnce};
-use crate::traits::{FILE_LIMIT, Fetch, Files, Sink, Wrote};
+use i9_outside::{FILE_LIMIT, Fetch, Files, Sink, Wrote};
 use std::alloc::Global;
 
 /// How many bytes are asked of a file at a time.
@@ -20,7 +20,7 @@ pub struct RealFiles<O> {
 }
 
 impl<O: OpenOnce + Drop> RealFiles<O> {
-    ghost use Rattle.i9_outside.specs.RealFiles.{fetch_count, fault_count, opener_of};
+    ghost use Rattle.i9_system.specs.RealFiles.{fetch_count, fault_count, opener_of};
 
     /// The files that this runtime opens; none was fetched, and no fault was met.
     pub fn new(from: O) -> RealFiles<O>
@@ -37,7 +37,7 @@ impl<O: OpenOnce + Drop> RealFiles<O> {
 }
 
 impl<O: OpenOnce + Drop> Files for RealFiles<O> {
-    ghost use Rattle.i9_outside.specs.RealFiles.{fetch_count, fault_count, opener_of, told_bytes};
+    ghost use Rattle.i9_system.specs.RealFiles.{fetch_count, fault_count, opener_of, told_bytes};
 
     ghost told = { told_bytes };
 
@@ -112,7 +112,7 @@ pub struct RealSink<W> {
 }
 
 impl<W: WriteOnce + Drop> RealSink<W> {
-    ghost use Rattle.i9_outside.specs.RealSink.{write_count, fault_count, writer_of};
+    ghost use Rattle.i9_system.specs.RealSink.{write_count, fault_count, writer_of};
 
     /// A sink that writes to `out`; nothing was written, and no fault was met.
     pub fn new(out: W) -> RealSink<W>
@@ -129,7 +129,7 @@ impl<W: WriteOnce + Drop> RealSink<W> {
 }
 
 impl<W: WriteOnce + Drop> Sink for RealSink<W> {
-    ghost use Rattle.i9_outside.specs.RealSink.{write_count, fault_count, writer_of, HasPieces};
+    ghost use Rattle.i9_system.specs.RealSink.{write_count, fault_count, writer_of, HasPieces};
 
     ghost told = { λ s. W.contents (writer_of s) };
 

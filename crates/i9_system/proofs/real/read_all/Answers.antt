@@ -1,9 +1,9 @@
 use Rattle.std.proofs.Common.{◌≡◌, ◌+◌, ◌≤◌, ◌++◌, length, take, arith}
 use Rattle.std.proofs.lemmas.Grind.{common_steps}
 use Rattle.i9_outside.specs.declared.traits.TheConstants.{FILE_LIMIT}
-use Rattle.i9_outside.proofs.Asking.{asked_more}
-use Rattle.i9_outside.proofs.Reading.{read_failed, read_refused, read_long, read_more}
-use Rattle.i9_outside.proofs.real.read_all.Goals as goal
+use Rattle.i9_system.proofs.Asking.{asked_more}
+use Rattle.i9_system.proofs.Reading.{read_failed, read_refused, read_long, read_more}
+use Rattle.i9_system.proofs.real.read_all.Goals as goal
 
 pub returns-in-Err-clause-bytes : goal.returns-in-Err-clause-bytes
 returns-in-Err-clause-bytes g c = read_failed _ _ _ _ _ c.loop-taken.invariant.0

@@ -1,6 +1,6 @@
 -- A sink over a writer.
 use Rattle.std.specs.Prelude.{ℕ, List, Option}
-use Rattle.i9_outside.specs.declared.real.RealSink.{RealSink}
+use Rattle.i9_system.specs.declared.real.RealSink.{RealSink}
 use Rattle.i9_outside.specs.Traits.{EndsWithPieces}
 
 -- how many faults were met

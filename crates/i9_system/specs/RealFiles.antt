@@ -1,6 +1,6 @@
 -- The files of the runtime.
 use Rattle.std.specs.Prelude.{ℕ, List, Option, None}
-use Rattle.i9_outside.specs.declared.real.RealFiles.{RealFiles}
+use Rattle.i9_system.specs.declared.real.RealFiles.{RealFiles}
 
 -- how many faults were met, at any name
 abbrev pub fault_count : {O : Type 0} → RealFiles O → ℕ

@@ -1,6 +1,7 @@
 //! The files and the sink of the system over a disk and a writer that keep what was asked of them.
 use crate::disk::{Disk, Log, Taker};
-use crate::{Fetch, Files, RealFiles, RealSink, Sink, Wrote};
+use crate::{RealFiles, RealSink};
+use i9_outside::{Fetch, Files, Sink, Wrote};
 use std::alloc::Global;
 use std::test::*;
 

@@ -6,22 +6,13 @@ use Rattle.std.specs.Io.KnownBytes.{Appends, Keeps}
 use Rattle.i9_outside.specs.declared.traits.Wrote.{Wrote}
 use Rattle.i9_outside.specs.declared.traits.Wrote.TheVariants as wrotes
 use Rattle.i9_outside.specs.Traits.{AppendsFront, Writes, EndsWithPieces, TakesPiece}
+use Rattle.i9_outside.proofs.Appending.{Appends-nothing, Appends-then}
 
 -- a front of the piece was written, and this is its rest
 pub record HasWritten (old new : Option (List ℕ)) (piece rest : List ℕ) : Type 0 where
   pub front : List ℕ
   pub parts : front ++ rest ≡ piece
   pub grows : Appends old new front
-
-pub Appends-nothing : (known : Option (List ℕ)) → Appends known known []
-Appends-nothing None = tt
-Appends-nothing (Some xs) = sym (append-nil xs)
-
-pub Appends-then : (a b c : Option (List ℕ)) (x y : List ℕ) → Appends a b x → Appends b c y → Appends a c (x ++ y)
-Appends-then None b c x y p q = tt
-Appends-then (Some a) None c x y p q = absurd p
-Appends-then (Some a) (Some b) None x y p q = absurd q
-Appends-then (Some a) (Some b) (Some c) x y p q = q ∙ ap (λ bs. bs ++ y) p ∙ append_assoc a x y
 
 Appends-kept : (a b c : Option (List ℕ)) (x : List ℕ) → Appends a b x → Keeps b c → Appends a c x
 Appends-kept None b c x p k = tt

@@ -1,0 +1,3 @@
+pub mod RealFiles
+pub mod RealSink
+pub mod System
