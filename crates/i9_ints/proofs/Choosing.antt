@@ -12,7 +12,7 @@ use Rattle.i9_model.specs.declared.interrupts.TheConstants.{LINES, NMI_VECTOR, H
 use Rattle.i9_model.specs.declared.interrupts.Cause.TheVariants.{Nmi, Line, Soft}
 use Rattle.i9_model.specs.declared.interrupts.Chosen.{Chosen}
 use Rattle.i9_model.specs.State.{Interrupts}
-use Rattle.i9_model.specs.Interrupts.{vector_priority, line_vector, passes, is_open, choice, lines_with, vectors_of, choices_at, choices, is_asked, chosen_of}
+use Rattle.i9_model.specs.Interrupts.{pending_word, vector_priority, line_vector, passes, is_open, choice, lines_with, vectors_of, choices_at, choices, is_asked, chosen_of}
 use Rattle.i9_ints.specs.Best.{is_let_in, is_ready, IsBest, IsBestLine, IsTop, IsGreatest, is_wanted, preferred}
 use Rattle.i9_ints.proofs.Firsts.{first_some, first_none, tested_some, tested_none, parts_none, parts_some, below_none, below_some, each_none, each_some, filtered}
 
@@ -169,7 +169,7 @@ closed a b k e =
     both_set : (x y : ℕ) → min x y ≡ 0 → (x == 1 && y == 1) ≡ false
     both_set x y e = grind (arith, nat_tests)
 
-pub chosen_closed : (s : Interrupts) (pc : ℕ) → s.nmi ≡ false → bit_and s.pending s.mask ≡ 0 → None ≡ chosen_of s (λ v. false) pc
-chosen_closed s pc posted e = chosen_by_line s pc None posted (λ k few. ap (λ (b : Bool). b && is_let_in pc (line_vector s.maps k)) (closed s.pending s.mask k e))
+pub chosen_closed : (s : Interrupts) (pc : ℕ) → s.nmi ≡ false → bit_and (pending_word s) s.mask ≡ 0 → None ≡ chosen_of s (λ v. false) pc
+chosen_closed s pc posted e = chosen_by_line s pc None posted (λ k few. ap (λ (b : Bool). b && is_let_in pc (line_vector s.maps k)) (closed (pending_word s) s.mask k e))
 
 pub ruleset choice_rules = (chosen_by_bests, chosen_nmi, chosen_by_line, chosen_closed)

@@ -406,6 +406,11 @@ fn schedules_are_refused(rt: HostRuntime) -> Result<(), Fail> {
             "#schedule line 2 kind 3\n",
         ),
         ("at 1 frob", "#schedule line 1 kind 2\n"),
+        // `low` and `high` are of version 2, which the first line tells.
+        ("at 1 low 0", "#schedule line 1 kind 2\n"),
+        ("schedule 2\nat 1 low 8", "#schedule line 2 kind 3\n"),
+        ("at 0 nmi\nschedule 2", "#schedule line 2 kind 1\n"),
+        ("schedule 3", "#schedule line 1 kind 3\n"),
     ];
     for (schedule, line) in rows {
         assert_eq!(rt;

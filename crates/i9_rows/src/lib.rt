@@ -30,6 +30,8 @@ mod gen_tests;
 #[cfg(test)]
 mod hostile_tests;
 #[cfg(test)]
+mod level_tests;
+#[cfg(test)]
 mod result_tests;
 #[cfg(test)]
 mod rows;

@@ -176,8 +176,10 @@ fn take_line(alloc: Global, case: &mut Case, line: &str) -> Result<(), Fail> {
             begin_case(case);
         }
         ("--", _) => begin_case(case),
-        ("at" | "turn", _) if case.length.is_empty() => add_line(&mut case.schedule, line)?,
-        ("at", _) => add_line(&mut case.printed, line)?,
+        ("schedule" | "at" | "turn", _) if case.length.is_empty() => {
+            add_line(&mut case.schedule, line)?;
+        }
+        ("schedule" | "at", _) => add_line(&mut case.printed, line)?,
         (">", command) => add_line(&mut case.script, command)?,
         (command @ ("run" | "trace" | "debug"), length) => {
             case.command.push_str(command)?;
@@ -194,7 +196,7 @@ fn take_line(alloc: Global, case: &mut Case, line: &str) -> Result<(), Fail> {
 }
 
 /// How many cases of a table hold. Behind the title, which begins with `==`, come the lines of the source, those of the
-/// schedule, which begin with `at` or `turn`, `run` and the length of the run, or `trace`, the length and a range, what is to be
+/// schedule, which begin with `schedule`, `at` or `turn`, `run` and the length of the run, or `trace`, the length and a range, what is to be
 /// printed, where those registers are given that are not 0, and the status. Where a title begins with `--`, the source
 /// goes on from the case before. A line of a script stands behind `> `, and `debug script` is the command then.
 pub(crate) fn held(alloc: Global, fronts: &[&str], table: &str) -> Result<u32, Fail> {

@@ -1,7 +1,7 @@
 //! Reading a text line by line.
 ghost use Rattle.std.specs.Prelude.{◌≡◌, ℕ, None, Ok, Err, IfOk, IfErr};
 ghost use Rattle.i9_text.specs.Text.{lines_of};
-ghost use Rattle.i9_model.specs.ScheduleText.{Contents, contents_of, IsSchedule, IsRefused, fault_of, with_event};
+ghost use Rattle.i9_model.specs.ScheduleText.{Contents, contents_of, IsSchedule, IsRefused, fault_of, version_in, with_event};
 ghost use Rattle.i9_schedule.specs.Lines.{with_line};
 ghost use Rattle.i9_schedule.specs.Plan.{contents};
 ghost use Rattle.i9_schedule.specs.Reading.{said_by, Takes, Reads, IfBad};
@@ -21,13 +21,23 @@ struct SoFar {
     events: Vec<Timed>,
 }
 
+impl SoFar {
+    /// The version, which is the first one where no line told it.
+    fn version(&self) -> u8
+        ensures { result ≡ version_in self.now.version }
+    {
+        self.version.unwrap_or(FIRST_VERSION)
+    }
+}
+
 /// What was said with one event more, which tells the version.
 fn with_event(mut so_far: SoFar, next: Timed) -> Result<SoFar, StepError>
     ensures { Takes result None (with_event (said_by so_far) next) }
 {
+    let version = so_far.version();
     match so_far.events.push(next) {
         Ok(()) => Ok(SoFar {
-            version: Some(so_far.version.unwrap_or(FIRST_VERSION)),
+            version: Some(version),
             events: so_far.events,
         }),
         Err(_) => Err(StepError::Memory),
@@ -120,7 +130,7 @@ pub fn read(alloc: Global, text: &[u8]) -> Result<Schedule, LineError>
 {
     match read_lines(alloc, text) {
         Ok(said) => {
-            let version = said.version.unwrap_or(FIRST_VERSION);
+            let version = said.version();
             Ok(Schedule::new(version, said.events))
         }
         Err(error) => Err(error),

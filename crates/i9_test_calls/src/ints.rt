@@ -69,6 +69,9 @@ fn posts(ints: &mut Ints, name: &str, numbers: &[u32]) -> Result<(), Fail> {
         ("nmi", []) => ints.post_nmi(),
         ("pin", &[k]) if k < 8 => ints.post_pin(k as u8),
         ("dma", &[k]) if k < 4 => ints.post_dma(k as u8),
+        ("low", &[k]) if k < 8 => ints.level(k as u8, true),
+        ("high", &[k]) if k < 8 => ints.level(k as u8, false),
+        ("icon", &[word]) => ints.set_icon(word),
         ("pending", &[word]) => ints.set_pending(word),
         ("mask", &[word]) => ints.set_mask(word),
         ("lines", &[pending, mask, a, b, c]) => controls(ints, pending, mask, (a, b, c)),
@@ -216,14 +219,19 @@ fn take_nmi(ints: &mut Ints, memory: &mut Memory, watch: &mut Watch) -> Result<(
     Ok(())
 }
 
-/// Pin 2, which has vector 18, is taken.
-fn take_pin_2(ints: &mut Ints, memory: &mut Memory, watch: &mut Watch) -> Result<(), Fail> {
-    let pin_2 = Chosen {
+/// A pin, which has vector 18, is taken.
+fn take_pin(
+    ints: &mut Ints,
+    memory: &mut Memory,
+    watch: &mut Watch,
+    pin: u8,
+) -> Result<(), Fail> {
+    let chosen = Chosen {
         vector: 18,
-        cause: Cause::Line(2),
+        cause: Cause::Line(pin),
     };
     memory.reserve(TABLE, 36)?;
-    ints.take(memory, watch, TABLE, &pin_2);
+    ints.take(memory, watch, TABLE, &chosen);
     Ok(())
 }
 
@@ -238,7 +246,8 @@ fn takes(alloc: Global, scene: &mut Scene, name: &str) -> Told {
     } = scene;
     match name {
         "take_nmi" => take_nmi(ints, memory, watch)?,
-        "take_pin_2" => take_pin_2(ints, memory, watch)?,
+        "take_pin_0" => take_pin(ints, memory, watch, 0)?,
+        "take_pin_2" => take_pin(ints, memory, watch, 2)?,
         "enter" => enter(ints, memory, watch, chosen)?,
         _ => return Err("no such question".into()),
     }
@@ -316,6 +325,65 @@ table 4000, lines FFF FFF 100 0 0, nmi | take_nmi, pending, choose 0 | taken, FF
  | take_pin_2, pending, choose 0 | taken, FFB, none
 ";
 
+/// The levels of pins. Bit 2 + x of the control word chooses a falling edge for pin x where it is set, and level
+/// detection where it is clear.
+const LEVELS: &str = "\
+table 4000, low 0 | pending | 1 | each pin by level: its bit stands as long as it is low
+high 0, low 1 | pending | 2
+high 1, low 2 | pending | 4
+high 2, low 3 | pending | 8
+high 3, low 4 | pending | 10
+high 4, low 5 | pending | 20
+high 5, low 6 | pending | 40
+high 6, low 7 | pending | 80
+high 7 | pending | 0
+icon 3FC, low 0, high 0 | pending | 1 | each pin by falling edge: its bit is kept
+pending 0, low 1, high 1 | pending | 2
+pending 0, low 2, high 2 | pending | 4
+pending 0, low 3, high 3 | pending | 8
+pending 0, low 4, high 4 | pending | 10
+pending 0, low 5, high 5 | pending | 20
+pending 0, low 6, high 6 | pending | 40
+pending 0, low 7, high 7 | pending | 80
+table 4000, icon 154, low 0, low 1, low 2, low 3, low 4, low 5, low 6, low 7 | pending | FF | pins 0, 2, 4, 6 by edge
+high 0, high 1, high 2, high 3, high 4, high 5, high 6, high 7 | pending | 55
+table 4000, icon FFFFFC03, low 0, low 7 | pending | 81 | the other bits choose nothing
+high 0, high 7 | pending | 0
+table 4000, icon 4, low 0, pending 0, low 0 | pending | 0 | a pin that is low already has no falling edge
+high 0, high 0 | pending | 0 | to go high posts nothing
+low 0 | pending | 1
+table 4000, low 0, low 0 | pending | 1
+high 0, high 0 | pending | 0
+pin 0 | pending | 1 | a pin that asks is kept, under level detection too
+low 0, high 0 | pending | 1
+low 0, pending 0 | pending | 1 | what is written is the kept word
+pending FFFFFFFF | pending | FFF
+high 0 | pending | FFF
+low 1, pending 0 | pending | 2
+pending 1 | pending | 3
+high 1 | pending | 1
+table 4000, lines 0 1 1 0 0, low 0 | choose 10000, choose 20000 | 12 Line(0), none | pin 0 has vector 18, of priority 2
+ | take_pin_0, pending, choose 10000 | taken, 1, 12 Line(0) | an entry leaves the level
+high 0 | pending, choose 0 | 0, none
+table 4000, lines 0 1 1 0 0, icon 4, low 0 | choose 10000, choose 20000 | 12 Line(0), none
+ | take_pin_0, pending, choose 0 | taken, 0, none
+low 0 | pending, choose 0 | 0, none
+table 4000, lines 1 1 1 0 0, low 0 | take_pin_0, pending | taken, 1 | kept and low: the kept bit goes
+high 0 | pending | 0
+table 4000, lines 0 0 1 0 0, low 0 | choose 0 | none | masked
+mask 1 | choose 0 | 12 Line(0) | and not masked any more
+mask 0 | choose 0 | none
+table 4000, lines 0 3 11 0 0, low 1, low 0 | choose 0 | 12 Line(0) | of one priority the lower pin comes first
+high 0 | choose 0 | 12 Line(1)
+low 0, high 1 | choose 0 | 12 Line(0)
+table 4000, lines 0 FFF 21 0 3, low 0, low 1, dma 0 | choose 0 | 32 Line(8) | a channel has no level
+table 4000, icon 4, low 0, pending 0, icon 0 | pending | 1 | by level from now on: it asks at once
+icon 4 | pending | 0 | by edge again: no edge
+table 4000, low 0, icon 4, high 0 | pending | 0
+low 0 | pending | 1
+table 4000, lines 0 1 F 0 0, low 0 | choose 1D0000, choose 1E0000 | F2 Line(0), none | the greatest vector of a pin
+";
+
 /// What software asks for, in two bytes of the table. Pin 0 has vector 18: of one priority it comes first, whatever
 /// vector software asks for. Requests are read where the interrupt that is never masked is posted too.
 const CHOICES: &str = "\
@@ -342,6 +410,18 @@ table 4000, nmi, left 4030 | choose_soft 0 | F8 Nmi
 fn chooses_interrupts(rt: HostRuntime) -> Result<(), Fail> {
     let mut scene = fresh(rt.alloc(), TABLE)?;
     for row in LINES.lines().chain(CHOICES.lines()) {
+        let (steps, questions, wanted) = columns(row)?;
+        let text = told(rt.alloc(), &mut scene, steps, questions)?;
+        assert_eq!(rt; text.as_str(), wanted, "{row}");
+    }
+    Ok(())
+}
+
+// What a low pin asks for, by level and by edge, and what is left of it.
+#[test]
+fn follows_levels(rt: HostRuntime) -> Result<(), Fail> {
+    let mut scene = fresh(rt.alloc(), TABLE)?;
+    for row in LEVELS.lines() {
         let (steps, questions, wanted) = columns(row)?;
         let text = told(rt.alloc(), &mut scene, steps, questions)?;
         assert_eq!(rt; text.as_str(), wanted, "{row}");

@@ -1,6 +1,6 @@
 use i9_schedule::{
-    Event, LineError, LineFault, When, copied, event_text, is_ascii, is_skipped, journal_line,
-    number_in, one_word, read, two_words,
+    Event, LEVELS_VERSION, LineError, LineFault, When, copied, event_text, is_ascii, is_skipped,
+    journal_line, number_in, one_word, read, two_words,
 };
 use std::alloc::{AllocError, Global};
 use std::test::Fail;
@@ -99,6 +99,101 @@ fn refuses_the_first_line_at_fault(rt: HostRuntime) -> Result<(), Fail> {
     for (text, fault) in rows {
         assert_eq!(rt; refusal(rt.alloc(), text), fault);
     }
+    Ok(())
+}
+
+/// The version of a text, or the line and kind that it is refused for.
+fn version_of(alloc: Global, text: &[u8]) -> Result<Result<u8, (u64, u8)>, Fail> {
+    match read(alloc, text) {
+        Ok(schedule) => Ok(Ok(schedule.version())),
+        Err(LineError::Bad(LineFault { line, kind })) => Ok(Err((line, kind))),
+        Err(LineError::Memory) => Err("no memory".into()),
+    }
+}
+
+// The first line that says anything may tell version 2, in which `low` and `high` are known; any other text has version 1.
+#[test]
+fn tells_versions(rt: HostRuntime) -> Result<(), Fail> {
+    let rows: [(&[u8], Result<u8, (u64, u8)>); 38] = [
+        (b"", Ok(1)),
+        (b"# schedule 2\nat 1 pin 0", Ok(1)),
+        (b"schedule 2", Ok(2)),
+        (b"# a\n\n \t\n schedule\t2 \r\nat 1 low 0\nat 1 high 7", Ok(2)),
+        (b"schedule 2\nturn 4 low 007\n# a\nturn 4 high 0", Ok(2)),
+        // The words of version 1 stay in version 2.
+        (
+            b"schedule 2\nat 1 pin 0\nat 1 nmi\nat 1 dma 3\nat 1 feed 0 00\nat 1 show 0 1",
+            Ok(2),
+        ),
+        // In version 1 both words are unknown, whatever stands before and behind them.
+        (b"at 1 low 0", Err((1, 2))),
+        (b"at 1 high 0", Err((1, 2))),
+        (b"at 1 low 8", Err((1, 2))),
+        (b"at x low", Err((1, 2))),
+        (b"turn 1 high 7", Err((1, 2))),
+        (b"at 1 nmi\nat 2 high 0", Err((2, 2))),
+        // Operands out of range or form, missing, or one too many; the count is out of form.
+        (b"schedule 2\nat 1 low 8", Err((2, 3))),
+        (b"schedule 2\nat 1 low", Err((2, 3))),
+        (b"schedule 2\nat 1 low 0 0", Err((2, 3))),
+        (b"schedule 2\nat 1 low x", Err((2, 3))),
+        (b"schedule 2\nat 1 high 8", Err((2, 3))),
+        (b"schedule 2\nat 1 high", Err((2, 3))),
+        (b"schedule 2\nat 1 high 0 0", Err((2, 3))),
+        (b"schedule 2\nat x high 0", Err((2, 3))),
+        (b"schedule 2\nat 1 Low 0", Err((2, 2))),
+        (b"schedule 2\nat 1 lower 0", Err((2, 2))),
+        // The version is told on the first line that says anything, and on no other one.
+        (b"at 0 nmi\nschedule 2", Err((2, 1))),
+        (b"schedule 2\nschedule 2", Err((2, 1))),
+        (b"schedule 2\n# a\nschedule", Err((3, 1))),
+        // Its operand is the word `2` alone.
+        (b"schedule", Err((1, 3))),
+        (b"schedule 1", Err((1, 3))),
+        (b"schedule 02", Err((1, 3))),
+        (b"schedule 2.0", Err((1, 3))),
+        (b"schedule 2 2", Err((1, 3))),
+        (b"# a\nschedule two\nat 1 low 0", Err((2, 3))),
+        (b"schedule 2\xff", Err((1, 1))),
+        (b"Schedule 2", Err((1, 1))),
+        (b"schedules 2", Err((1, 1))),
+        (b"schedule2", Err((1, 1))),
+        (b"at schedule 2", Err((1, 2))),
+        // Times are ordered as in version 1.
+        (b"schedule 2\nat 5 low 0\nat 4 high 0", Err((3, 5))),
+        (b"schedule 2\nat 5 low 0\nturn 5 high 0", Err((3, 4))),
+    ];
+    for (text, version) in rows {
+        assert_eq!(rt; version_of(rt.alloc(), text)?, version);
+    }
+    Ok(())
+}
+
+// Levels come in order, each at its count, and print as the rules of the format say, and so do their copies.
+#[test]
+fn prints_levels(rt: HostRuntime) -> Result<(), Fail> {
+    let text = b"schedule 2\nat 0 low 07\n# a\n at 0002\thigh  0 \r\nat 2 pin 3";
+    let mut schedule = read(rt.alloc(), text)?;
+    assert_eq!(rt; schedule.version(), LEVELS_VERSION);
+    let rows: [(Event, u64, &[u8]); 3] = [
+        (Event::Low(7), 0, b"at 0 low 7"),
+        (Event::High(0), 2, b"at 2 high 0"),
+        (Event::Pin(3), 2, b"at 2 pin 3"),
+    ];
+    for (event, count, line) in rows {
+        let Some(timed) = schedule.next() else {
+            assert!(rt; false);
+            return Ok(());
+        };
+        assert_eq!(rt; timed.when, When::At(count));
+        assert!(rt; timed.event == event);
+        let printed = journal_line(rt.alloc(), count, &timed.event)?;
+        assert_eq!(rt; printed.as_slice(), line);
+        let text = event_text(rt.alloc(), count, &copied(&timed.event))?;
+        assert_eq!(rt; text.as_slice(), line);
+        schedule.step();
+    }
+    assert!(rt; schedule.next().is_none());
     Ok(())
 }
 
