@@ -18,7 +18,7 @@ const MOST_OPEN: usize = 7;
 /// which the last request is done, or 0; and how many records are open at the last issue turn, with those,
 /// the oldest first. At most seven are. Which turns records get is this project's own, after the i960 CA/CF
 /// User's Manual, instruction execution in parallel.
-#[derive(Clone, Copy, Debug)]
+#[derive(Debug, Drop)]
 pub struct Board {
     last: u64,
     until: u64,
@@ -40,6 +40,19 @@ impl Model for Board {
 }
 
 impl Board {
+    /// The same records, and the same turns.
+    pub fn copy(&self) -> Board
+        ensures { result ≡ self.now }
+    {
+        Board {
+            last: self.last,
+            until: self.until,
+            asked: self.asked,
+            count: self.count,
+            records: self.records,
+        }
+    }
+
     /// No record was placed.
     pub fn new() -> Board
         ensures { StandsFor result [] }

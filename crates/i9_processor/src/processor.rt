@@ -120,7 +120,7 @@ impl Processor {
     {
         let storage = self.storage.copy(alloc)?;
         Ok(Processor {
-            file: self.file,
+            file: self.file.copy(),
             ip: self.ip,
             flags: self.flags,
             pc: self.pc,

@@ -41,3 +41,5 @@ none-waits (r ∷ rs) none = absurd cc
 pub waits-put : (rs : List Request) (r : Request) → waits_in (rs ++ r ∷ []) ≡ waits_in rs ++ wait_in r ∷ []
 waits-put [] r = refl
 waits-put (q ∷ rs) r = ap (λ ws. wait_in q ∷ ws) (waits-put rs r)
+
+pub ruleset copy_rules = (waits-put)

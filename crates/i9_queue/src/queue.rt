@@ -29,6 +29,18 @@ impl Default for Request {
     }
 }
 
+/// The same bytes.
+fn copy_bytes(bytes: &[u8]) -> ArrayVec<u8, 16>
+    requires { length bytes.now ≤ 16 }
+    ensures { result.items ≡ bytes.now }
+{
+    let mut copies = ArrayVec::new();
+    for b in bytes {
+        copies.push(*b);
+    }
+    copies
+}
+
 impl Request {
     ghost use Rattle.i9_queue.specs.Queue.{wait_in};
 
@@ -36,13 +48,9 @@ impl Request {
     fn copy(&self) -> Request
         ensures { wait_in result ≡ wait_in self.now }
     {
-        let mut bytes = ArrayVec::new();
-        for b in self.bytes.as_slice() {
-            bytes.push(*b);
-        }
         Request {
             address: self.address,
-            bytes,
+            bytes: copy_bytes(self.bytes.as_slice()),
             due: self.due,
         }
     }
@@ -62,6 +70,19 @@ impl Model for Queue {
     ghost Value = { List Wait };
 
     ghost view = { λ q. waits_in q.items.items };
+}
+
+/// The same requests.
+#[tactic(auto, using(crate::proofs::Bytes::copy_rules))]
+fn copy_all(requests: &[Request]) -> ArrayVec<Request, 3>
+    requires { length requests.now ≤ 3 }
+    ensures { waits_in result.items ≡ waits_in requests.now }
+{
+    let mut copies = ArrayVec::new();
+    for r in requests {
+        copies.push(r.copy());
+    }
+    copies
 }
 
 /// The byte at a place, of bytes that stand from an address on.
@@ -137,11 +158,9 @@ impl Queue {
     pub fn copy(&self) -> Queue
         ensures { result ≡ self.now }
     {
-        let mut items = ArrayVec::new();
-        for r in self.items.as_slice() {
-            items.push(r.copy());
+        Queue {
+            items: copy_all(self.items.as_slice()),
         }
-        Queue { items }
     }
 
     /// How many requests wait.

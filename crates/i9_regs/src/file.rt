@@ -29,7 +29,7 @@ const RESOURCE_BITS: u64 = 1 << 33;
 
 /// For each of 33 resources, the 32 registers and the condition code, a value and perhaps a planned
 /// value with the turn at which it takes its place.
-#[derive(Clone, Copy)]
+#[derive(Drop)]
 pub struct File {
     slots: [Slot; RESOURCES],
     // a value is planned for no resource but these
@@ -249,6 +249,16 @@ fn plan_frame(
 }
 
 impl File {
+    /// The same values, and the same plans.
+    pub fn copy(&self) -> File
+        ensures { result ≡ self.now }
+    {
+        File {
+            slots: self.slots,
+            planned: self.planned,
+        }
+    }
+
     /// All values are 0, and none is planned.
     pub fn new() -> File
         ensures { result ≡ replicate resources (cell 0 None) }

@@ -39,6 +39,12 @@ kept_new m w h is none =
     let young : AreYoungest [] [] = record { first = refl; whole = tt } in
     kept_by m m w w h h no_frames is sound-none (subst (λ (fs : List Frame). AreYoungest fs []) (sym none) young) (subst (HaveRoom m) (sym none) tt)
 
+-- ---- a copy
+
+pub kept_copy : (m k : Behind) (w v : Watch) (h g : Held) → IsKept m w h → KeepsRoomIn m k → frames_of v ≡ frames_of w → g ≡ h → IsKept k v g
+kept_copy m k w v h g kept keeps is same =
+    subst (IsKept k v) (sym same) (kept_by m k w v h h (frames_of w) is kept.sound kept.youngest (kept_room m k h.frames keeps kept.room))
+
 -- ---- stores
 
 pub kept_store : (m k : Behind) (w v : Watch) (h : Held) (ps : List (ℕ × ℕ)) → IsKept m w h → KeepsRoomIn m k → frames_of v ≡ wrote (frames_of w) ps → writes_hazard (frames_of w) ps ≡ None → IsKept k v h

@@ -90,10 +90,13 @@ impl Storage {
         ensures keeps { IfOk result (λ s. KeepsSpace self.now s) }
         ensures no_more { IfOk result (λ s. AddsNone self.now s) }
     {
+        let behind = self.behind.copy()?;
+        let watch = self.watch.copy()?;
+        let sets = self.sets.copy(alloc)?;
         Ok(Storage {
-            behind: self.behind.copy()?,
-            watch: self.watch.copy()?,
-            sets: self.sets.copy(alloc)?,
+            behind,
+            watch,
+            sets,
         })
     }
 

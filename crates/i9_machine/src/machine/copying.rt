@@ -23,6 +23,8 @@ impl Machine {
     {
         let processor = self.processor.copy(alloc)?;
         let memo = Memo::new(alloc)?;
+        let board = self.board.copy();
+        let shade = self.shade.copy();
         Ok(Machine {
             processor,
             memo,
@@ -31,12 +33,12 @@ impl Machine {
             length: self.length,
             due: self.due,
             ended: self.ended,
-            board: self.board,
+            board,
             turn: self.turn,
             floor: self.floor,
             done: self.done,
             wait: self.wait,
-            shade: self.shade.copy(),
+            shade,
             effect: Effect::blank(),
             need: Need::default(),
         })
