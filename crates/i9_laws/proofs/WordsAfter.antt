@@ -3,6 +3,8 @@ use Rattle.std.proofs.Common.{◌≡◌, ℕ, zero, suc, ◌+◌, ◌-◌, ◌^�
 use Rattle.std.specs.Prelude.{◌==◌, replicate}
 use Rattle.std.specs.List.{range_with_len}
 use Rattle.std.proofs.lemmas.Nat.{and_le_r}
+use Rattle.std.specs.Prelude.{bit_and}
+use Rattle.i9_isa.specs.Words.{field}
 use Rattle.i9_isa.specs.declared.op.Op.{Op}
 use Rattle.i9_isa.specs.declared.op.Op.TheVariants.{Lda, Atadd, Atmod, Bx, Balx, Bal, Call, Callx, Calls, Ret, Flushreg, Modac, Modtc, Modpc, Sdma, Sysctl}
 use Rattle.i9_isa.specs.declared.size.Size.{Size}
@@ -24,7 +26,7 @@ use Rattle.i9_model.specs.Writes.{pairs_at, wrapped, aligned}
 use Rattle.i9_model.specs.Image.{Part, pairs_of_part, pairs_of, AreParts}
 use Rattle.i9_model.specs.Memory.{Memory, half_in, word_in, words_in}
 use Rattle.i9_model.specs.Boot.{setup_of, configured, with_boot_bytes, boot_setup}
-use Rattle.i9_model.specs.State.{State, image_memory, frame_sets, first_frame, start_sets, started, boot}
+use Rattle.i9_model.specs.State.{State, Interrupts, image_memory, frame_sets, first_frame, start_sets, started, boot}
 use Rattle.i9_model.specs.Frames.{rounded_down, pushed}
 use Rattle.i9_model.specs.Operands.{value, higher_word, word_of, source_words, assigned, address, target}
 use Rattle.i9_model.specs.Branches.{asks, question_of, is_taken}

@@ -27,11 +27,11 @@ pub fn printed_text_replays_its_run()
     ensures text { (version : ℕ) (g : Given) (rs : List Record) (f : Finish) → IsVersion version → IsPlan g.plan
         → AreOfVersion version g.plan → IsRun g rs f
         → IsSchedule (texts.lines_of (heading_text version ++ run_text g rs f))
-            (record { version = version; events = reached_in g rs f }) }
+        (record { version = version; events = reached_in g rs f }) }
     ensures cut { (version : ℕ) (g : Given) (rs : List Record) (e : End) → IsVersion version → IsPlan g.plan
         → AreOfVersion version g.plan → IsPast g rs
         → IsSchedule (texts.lines_of (heading_text version ++ run_text g rs (finish e)))
-            (record { version = version; events = reached_in g rs (finish e) }) }
+        (record { version = version; events = reached_in g rs (finish e) }) }
     ensures shown { (g : Given) (plan : List Timed) (rs : List Record) (f : Finish)
         → run_text (record g { plan = plan }) rs f ≡ run_text g rs f }
     ensures again { (g : Given) (rs : List Record) (f : Finish) → IsRun g rs f
@@ -48,11 +48,11 @@ pub fn printed_text_replays_its_late_run()
     ensures text { (version : ℕ) (g : Given) (rs : List Record) (f : Finish) → IsVersion version → IsPlan g.plan
         → AreOfVersion version g.plan → g.length ≤ MAX_LENGTH → IsLateRun g rs f
         → IsSchedule (texts.lines_of (heading_text version ++ run_text g rs f))
-            (record { version = version; events = reached_in g rs f }) }
+        (record { version = version; events = reached_in g rs f }) }
     ensures cut { (version : ℕ) (g : Given) (rs : List Record) (e : End) → IsVersion version → IsPlan g.plan
         → AreOfVersion version g.plan → g.length ≤ MAX_LENGTH → IsLatePast g rs
         → IsSchedule (texts.lines_of (heading_text version ++ run_text g rs (finish e)))
-            (record { version = version; events = reached_in g rs (finish e) }) }
+        (record { version = version; events = reached_in g rs (finish e) }) }
     ensures again { (g : Given) (asked : Option ℕ) (rs : List Record) (f : Finish) → IsLateRun g rs f
         → IsLateRun (record g { plan = reached_in g rs f; sets = asked }) rs f
         × (run_text (record g { plan = reached_in g rs f; sets = asked }) rs f ≡ run_text g rs f) }

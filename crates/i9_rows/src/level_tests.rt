@@ -344,3 +344,94 @@ fn a_low_pin_enters_a_thousand_times(rt: HostRuntime) -> Result<(), Fail> {
     }
     Ok(())
 }
+
+/// `level.s` of `demo/`.
+const DEMO: &str =
+    "# Firmware that polls a pin, and serves a device that holds another one low. It waits until pin 3 goes low and then until
+# it is high again, prints `v` and `^` for that, and lets pin 0 in. Its handler counts, and is entered as long as the device
+# is not served; the run ends with the count.
+
+        .set  console, 0xE0000000
+        .set  control_table, 0xA00
+        .set  interrupt_table, 0x2000
+
+        .org  0xFFFFFF10
+        .word start, prcb
+        .org  0x800
+prcb:   .word 0x900, control_table, 0, 0x40000000       # fault table, control table, AC, fault configuration
+        .word interrupt_table, 0xB00, 0, 0x3000         # interrupt table, system procedures, reserved, stack
+        .word 0, 0
+        .org  control_table+0x10
+        .word 1, 0, 0, 0        # pin 0 has vector 18; every pin is detected by its level
+        .org  interrupt_table+0x4C
+        .word serve
+
+        .org  0x1000
+start:  lda   console, g5
+down:   mov   sf0, g0
+        bbc   3, g0, down       # until pin 3 is low
+        lda   0x76, g1
+        stob  g1, (g5)
+up:     mov   sf0, g0
+        bbs   3, g0, up         # until it is high
+        lda   0x5E, g1
+        stob  g1, (g5)
+        mov   1, sf1            # pin 0 is not masked
+        lda   0x1F0000, g1
+        mov   0, g2
+        modpc 0, g1, g2         # and let in
+        st    g12, 4(g5)        # ends the run with the count
+
+serve:  addo  1, g12, g12
+        ret
+";
+
+/// The events of `level.sch`, and `level.out`.
+const DEMO_RUN: &str = "
+== A pin that is polled, and one that enters its handler as long as it is low.
+schedule 2
+at 4 low 3
+at 11 high 3
+at 16 low 0
+at 24 high 0
+run 1000
+schedule 2
+at 4 low 3
+#point 4 event 0000100C 00000000 001F2002
+#g 5=E0000000 15=3000
+#l 1=3040
+#out 76
+at 11 high 3
+#point 11 event 00001018 00000002 001F2002
+#g 0=8 1=76 5=E0000000 15=3000
+#l 1=3040
+#out 5E
+at 16 low 0
+#point 16 event 0000102C 00000000 001F2002
+#g 1=5E 5=E0000000 15=3000
+#l 1=3040
+#point 19 int 00001040 00000000 00022002
+#g 1=1F0000 2=1F2002 5=E0000000 15=3050
+#l 0=3007 1=3090
+#point 21 int 00001040 00000000 00022002
+#g 1=1F0000 2=1F2002 5=E0000000 12=1 15=3050
+#l 0=3007 1=3090
+#point 23 int 00001040 00000000 00022002
+#g 1=1F0000 2=1F2002 5=E0000000 12=2 15=3050
+#l 0=3007 1=3090
+at 24 high 0
+#point 24 event 00001044 00000000 00022002
+#g 1=1F0000 2=1F2002 5=E0000000 12=3 15=3050
+#l 0=3007 1=3090
+#point 26 end 00001040 00000000 00002002
+#g 1=1F0000 2=1F2002 5=E0000000 12=3 15=3000
+#l 1=3040 2=103C
+#end exit 00000003
+status 0
+";
+
+#[test]
+fn the_demo_of_levels_runs(rt: HostRuntime) -> Result<(), Fail> {
+    assert_eq!(rt; held(rt.alloc(), &[DEMO], DEMO_RUN)?, 1);
+    Ok(())
+}

@@ -220,12 +220,7 @@ fn take_nmi(ints: &mut Ints, memory: &mut Memory, watch: &mut Watch) -> Result<(
 }
 
 /// A pin, which has vector 18, is taken.
-fn take_pin(
-    ints: &mut Ints,
-    memory: &mut Memory,
-    watch: &mut Watch,
-    pin: u8,
-) -> Result<(), Fail> {
+fn take_pin(ints: &mut Ints, memory: &mut Memory, watch: &mut Watch, pin: u8) -> Result<(), Fail> {
     let chosen = Chosen {
         vector: 18,
         cause: Cause::Line(pin),

@@ -1,8 +1,8 @@
 //! Printing over a sink in memory, with texts worked out by hand.
 use arrayvec::ArrayVec;
 use i9_debug::{
-    Printed, print_elf_refusal, print_generated, print_line, print_lines, print_piece,
-    print_refusal, print_text,
+    Printed, print_elf_refusal, print_generated, print_heading, print_line, print_lines,
+    print_piece, print_refusal, print_text,
 };
 use i9_machine::{End, Line, Point};
 use i9_model::{Event, View};
@@ -122,6 +122,18 @@ fn prints_what_else_there_is(rt: HostRuntime) -> Result<(), Fail> {
     assert!(rt; done(print_line(alloc, &Line::Out(0), &mut sink)));
     assert!(rt; done(print_text(open, &mut sink)));
     assert!(rt; sink.bytes() == OTHERS.as_bytes());
+    Ok(())
+}
+
+// The line of a version comes first where it is 2; version 1 has none.
+#[test]
+fn prints_the_line_of_a_version(rt: HostRuntime) -> Result<(), Fail> {
+    let mut sink = MemSink::new(rt.alloc());
+    sink.room(100)?;
+    assert!(rt; done(print_heading(1, &mut sink)));
+    assert!(rt; sink.bytes().is_empty());
+    assert!(rt; done(print_heading(2, &mut sink)));
+    assert!(rt; sink.bytes() == b"schedule 2\n".as_slice());
     Ok(())
 }
 

@@ -118,7 +118,10 @@ fn tells_versions(rt: HostRuntime) -> Result<(), Fail> {
         (b"", Ok(1)),
         (b"# schedule 2\nat 1 pin 0", Ok(1)),
         (b"schedule 2", Ok(2)),
-        (b"# a\n\n \t\n schedule\t2 \r\nat 1 low 0\nat 1 high 7", Ok(2)),
+        (
+            b"# a\n\n \t\n schedule\t2 \r\nat 1 low 0\nat 1 high 7",
+            Ok(2),
+        ),
         (b"schedule 2\nturn 4 low 007\n# a\nturn 4 high 0", Ok(2)),
         // The words of version 1 stay in version 2.
         (

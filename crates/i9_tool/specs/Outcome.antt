@@ -65,7 +65,7 @@ pub data FileGives (kind : FileKind) (after : Value kind → ℕ → List ℕ �
 pub data RunGives (sets : Option ℕ) (limit : ℕ) (traced : Option Range) (pairs : List (ℕ × ℕ)) (c : Contents) : ℕ → List ℕ → Type 0 where
   runs : (records : List Record) (f : Finish) → IsLateRun (given pairs c.events limit sets) records f
       → RunGives sets limit traced pairs c (end_code f.end)
-          (headed_text c.version traced (given pairs c.events limit sets) records f)
+      (headed_text c.version traced (given pairs c.events limit sets) records f)
 
 -- the status for a run that has come so far: that of its end, where that was reached
 abbrev pub driven_code : Option End → ℕ
