@@ -12,13 +12,15 @@ use std::alloc::Global;
 use std::mem;
 use std::test::Fail;
 
-/// An image, and a machine that was made of one, with its schedule and the lines that are not told yet.
+/// An image, and a machine that was made of one, with its schedule and the lines that are not told yet; and the machine
+/// that was copied last, as it was then.
 #[derive(Drop)]
 pub(crate) struct Run {
     pub(crate) image: Segments,
     pub(crate) machine: Machine,
     pub(crate) plan: Schedule,
     pub(crate) lines: Vec<Line>,
+    pub(crate) copied: Option<Machine>,
 }
 
 /// Puts words into an image, in hexadecimal digits behind the address of the first.
@@ -78,6 +80,7 @@ fn run_of(alloc: Global, image: Segments, sets: u8, length: u64, events: &str) -
         machine,
         plan,
         lines: Vec::new(alloc),
+        copied: None,
     })
 }
 
@@ -99,6 +102,19 @@ pub(crate) fn start(alloc: Global, run: &mut Run, text: &str) -> Result<(), Fail
     let sets = sets.parse::<u8>()?;
     let image = mem::replace(&mut run.image, Segments::new(alloc));
     *run = run_of(alloc, image, sets, u64::from(length.min(100)), events)?;
+    Ok(())
+}
+
+/// Goes on with a copy of the machine, and keeps that; not behind the end.
+pub(crate) fn copy(alloc: Global, run: &mut Run) -> Result<(), Fail>
+    requires { IsInRun run.old.machine run.old.plan }
+    ensures { IsInRun run.new.machine run.new.plan }
+{
+    if run.machine.ended().is_some() {
+        return Err("the run has ended".into());
+    }
+    let copy = run.machine.copy(alloc)?;
+    run.copied = Some(mem::replace(&mut run.machine, copy));
     Ok(())
 }
 

@@ -6,14 +6,15 @@
 //! - `advance`, `turn`, `proceed` and `settle` are calls of the machine, and `step` advances to the next step that is
 //!   no move of the turn. `issue` answers the instruction of that step, `moves` how often the turn moved before it,
 //!   `most N` the most frames that were held in N of them, and `end` how the run ends.
-//! - A word with a question mark asks for what it names.
+//! - `copy` goes on with a copy of the machine, and keeps that.
+//! - A word with a question mark asks for what it names; behind `kept` it asks the machine that was copied last.
 //!
 //! Counts, turns and the numbers of registers are decimal; addresses, words and bytes are hexadecimal.
 ghost use Rattle.i9_machine.specs.InRun.{IsInRun};
 
 use crate::run::{
-    Run, advance, image_of, moves_and_step, proceed, put_words, settle, start, step, steps, turn,
-    turns,
+    Run, advance, copy, image_of, moves_and_step, proceed, put_words, settle, start, step, steps,
+    turn, turns,
 };
 use crate::told::{add, answer, issue_text, lines_text, turn_text};
 use std::alloc::Global;
@@ -51,6 +52,13 @@ fn goes_on(alloc: Global, run: &mut Run, name: &str, rest: &str) -> Result<Strin
         }
         "end" => turn_text(alloc, steps(run, 201).1),
         "lines?" => tell_lines(alloc, run),
+        "kept" => match &run.copied {
+            Some(machine) => {
+                let (name, rest) = rest.split_once(" ").unwrap_or((rest, ""));
+                answer(alloc, machine, name, rest)
+            }
+            None => Err("no machine was copied".into()),
+        },
         "planned?" => Ok(format!(in alloc; "{}", run.plan.next().is_some())?),
         _ => answer(alloc, &run.machine, name, rest),
     }
@@ -97,6 +105,10 @@ fn does(alloc: Global, run: &mut Run, name: &str, rest: &str) -> Result<String, 
         }
         "run" => {
             start(alloc, run, rest)?;
+            Ok(nothing)
+        }
+        "copy" => {
+            copy(alloc, run)?;
             Ok(nothing)
         }
         "steps" => {

@@ -98,6 +98,8 @@ fn holds_the_youngest_frames(rt: HostRuntime) -> Result<(), Fail> {
         assert!(rt; 0 < *size && *size < 16);
         let mut sets = Sets::new(rt.alloc(), *size)?;
         for (index, step) in story.iter().enumerate() {
+            // Each step is done to a copy of what the steps before it left.
+            sets = sets.copy(rt.alloc())?;
             assert!(rt; does(&mut sets, *step), "story {number}, step {index}");
         }
     }

@@ -1,4 +1,5 @@
-//! The tests of i9_pages, i9_frames, i9_queue, i9_regs, i9_shade, i9_entry and i9_boot, whose public calls they make.
+//! The tests of i9_pages, i9_frames, i9_queue, i9_regs, i9_shade, i9_entry and i9_boot, whose public calls they make, and
+//! of the copies of i9_memory and i9_watch.
 #![tactic(auto)]
 
 #[cfg(test)]
@@ -7,6 +8,8 @@ mod boot;
 mod entry;
 #[cfg(test)]
 mod frames;
+#[cfg(test)]
+mod memory;
 #[cfg(test)]
 mod pages;
 #[cfg(test)]
@@ -17,3 +20,5 @@ mod regs;
 mod rows;
 #[cfg(test)]
 mod shade;
+#[cfg(test)]
+mod watch;

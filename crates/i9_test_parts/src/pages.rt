@@ -114,9 +114,34 @@ fn holds_pages(rt: HostRuntime) -> Result<(), Fail> {
     for (number, story) in stories.iter().enumerate() {
         let mut table = PageTable::new(rt.alloc());
         for (index, step) in story.iter().enumerate() {
+            // Each step is done to a copy of what the steps before it left.
+            table = table.copy()?;
             let is_right = does(&mut table, *step)?;
             assert!(rt; is_right, "story {number}, step {index}");
         }
+    }
+    Ok(())
+}
+
+// A page that is changed, put or taken away in one of the two tables is not in the other.
+#[test]
+fn copies_are_apart(rt: HostRuntime) -> Result<(), Fail> {
+    let mut table = PageTable::new(rt.alloc());
+    for number in [0, 0x12_3456, 0xFF_FFFF] {
+        does(&mut table, Put(number, 1))?;
+    }
+    let mut copy = table.copy()?;
+    let steps = [
+        (Change(0, 2), Remove(0xFF_FFFF)),
+        (Put(0x12_3457, 3), Change(0x12_3456, 4)),
+        (Holds(0, 2), Holds(0, 1)),
+        (Holds(0x12_3456, 1), Holds(0x12_3456, 4)),
+        (Holds(0x12_3457, 3), Lacks(0x12_3457)),
+        (Holds(0xFF_FFFF, 1), Lacks(0xFF_FFFF)),
+    ];
+    for (index, (step, of_copy)) in steps.iter().enumerate() {
+        assert!(rt; does(&mut table, *step)?, "step {index}");
+        assert!(rt; does(&mut copy, *of_copy)?, "step {index} of the copy");
     }
     Ok(())
 }

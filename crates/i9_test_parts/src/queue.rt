@@ -91,6 +91,8 @@ fn forwards_the_youngest_store(rt: HostRuntime) -> Result<(), Fail> {
     let mut queue = waiting(REQUESTS)?;
     for row in TAKEN.lines() {
         let (turn, wanted) = columns(row)?;
+        // The request is taken from a copy of what waits.
+        queue = queue.copy();
         let text = taken_text(rt.alloc(), &mut queue, turn.parse::<u64>()?)?;
         assert_eq!(rt; text.as_str(), wanted, "{row}");
     }
@@ -149,6 +151,7 @@ fn lands_stores(rt: HostRuntime) -> Result<(), Fail> {
     behind.reserve(0x1000, 1)?;
     behind.enqueue(store(0x1000, 9, 6));
     for turn in [0, 3, 5, 6] {
+        behind = behind.copy()?;
         behind.land(turn);
         let places = [0x0FFF, 0x1000, 0x1001, 0x1002, 0xE000_0000];
         let text = bytes_text(rt.alloc(), &behind, &places)?;

@@ -36,6 +36,7 @@ fn lands_values(rt: HostRuntime) {
     file.set(32, 2);
     file.plan(0, 1, 8);
     for (landed, r, turn, value, latest, busy) in rows {
+        file = file.copy();
         file.land(landed);
         assert_eq!(rt; shown(&file, r, turn), Some((value, latest, busy)));
     }

@@ -29,7 +29,10 @@ fn shows_the_first_kept_byte(rt: HostRuntime) {
         (0, Some(0x0A)),
         (1, None),
     ];
+    let copy = shade.copy();
     for (address, byte) in &rows {
+        assert_eq!(rt; copy.look(*address, 9), *byte);
+        assert_eq!(rt; copy.look(*address, 10), None);
         assert_eq!(rt; shade.look(*address, 0), *byte);
         assert_eq!(rt; shade.look(*address, 9), *byte);
         assert_eq!(rt; shade.look(*address, 10), None);
@@ -50,7 +53,9 @@ fn lands_at_the_due_turn(rt: HostRuntime) {
     shade.keep(0x1000, b"\x02\x03");
     assert_eq!(rt; shade.look(0x1000, 9), Some(1));
     assert_eq!(rt; shade.look(0x1001, 9), Some(3));
+    let copy = shade.copy();
     shade.land(10);
+    assert_eq!(rt; copy.look(0x1001, 9), Some(3));
     assert_eq!(rt; shade.look(0x1001, 9), None);
     shade.keep(0x1000, b"\x04");
     assert_eq!(rt; shade.look(0x1000, 9), Some(4));

@@ -297,6 +297,8 @@ fn answers_rows(rt: HostRuntime) -> Result<(), Fail> {
     let mut p = booted(rt.alloc(), 0)?;
     for row in READS.lines().chain(FRAMES.lines()).chain(CHANGES.lines()) {
         let (steps, questions, wanted) = columns(row)?;
+        // The steps of each row are done to a copy of what the rows before it left.
+        p = p.copy(rt.alloc())?;
         let told = answers(rt.alloc(), &mut p, steps, questions)?;
         assert_eq!(rt; told.as_str(), wanted, "{row}");
     }

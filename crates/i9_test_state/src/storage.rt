@@ -311,6 +311,8 @@ fn reads_over_what_waits(rt: HostRuntime) -> Result<(), Fail> {
     let mut storage = with_waiting(rt.alloc())?;
     for row in TURNS.lines() {
         let (steps, questions, wanted) = columns(row)?;
+        // Each turn is landed in a copy of what the turns before it left.
+        storage = storage.copy(rt.alloc())?;
         let told = answers(rt.alloc(), &mut storage, steps, questions)?;
         assert_eq!(rt; told.as_str(), wanted, "{row}");
         assert_eq!(rt; answered(rt.alloc(), &mut storage)?, 8, "{row}");

@@ -194,6 +194,8 @@ fn places_records(rt: HostRuntime) -> Result<(), Fail> {
         if start == "new" {
             board = Board::new();
         }
+        // The record is placed on a copy of the board.
+        board = board.copy();
         let text = placed_text(rt.alloc(), &mut board, need, false)?;
         assert_eq!(rt; text.as_str(), wanted, "{row}");
     }
