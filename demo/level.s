@@ -1,6 +1,6 @@
-# Firmware that polls a pin, and serves a device that holds another one low. It waits until pin 3 goes low and then until
-# it is high again, prints `v` and `^` for that, and lets pin 0 in. Its handler counts, and is entered as long as the device
-# is not served; the run ends with the count.
+# Firmware that polls a pin, and serves a device that holds another one low. It waits until pin 3 goes low and then
+# until it is high again, prints `v` and `^` for that, and lets pin 0 in. Its handler counts, and is entered as long as
+# the device is not served; the run ends with the count.
 
         .set  console, 0xE0000000
         .set  control_table, 0xA00

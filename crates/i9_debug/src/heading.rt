@@ -11,7 +11,8 @@ use i9_schedule::LEVELS_VERSION;
 /// version.
 #[tactic(auto, using(crate::proofs::Prints::prints_rules), unfolding(i9_model::specs::PrintedText::heading_text))]
 pub fn print_heading<K: Sink>(version: u8, out: &mut K) -> Printed
-    ensures prints { Prints result (account K.told K.faults K.writes K.sure K.pieces) out.old out.new (heading_text version) }
+    ensures prints { Prints result (account K.told K.faults K.writes K.sure K.pieces) out.old out.new
+        (heading_text version) }
     ensures takes_no_memory { result ≢ Printed.Memory }
 {
     if version == LEVELS_VERSION {

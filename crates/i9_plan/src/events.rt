@@ -21,7 +21,8 @@ fn posting(p: &Processor, what: Posting) -> Effect
 }
 
 /// What an event does that is reached: it posts its interrupt, changes the level of its pin, moves a
-/// unit of a DMA channel, or does nothing; or the hazard that it meets, which is one of such a unit. The events are this project's own.
+/// unit of a DMA channel, or does nothing; or the hazard that it meets, which is one of such a unit.
+/// The events are this project's own.
 #[tactic(auto, unfolding(i9_model::specs::Before::received_in))]
 pub fn plan_event(p: &Processor, event: &Event) -> Result<Effect, u32>
     requires drained { IsDrained p.now }

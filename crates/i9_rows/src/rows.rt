@@ -196,9 +196,10 @@ fn take_line(alloc: Global, case: &mut Case, line: &str) -> Result<(), Fail> {
 }
 
 /// How many cases of a table hold. Behind the title, which begins with `==`, come the lines of the source, those of the
-/// schedule, which begin with `schedule`, `at` or `turn`, `run` and the length of the run, or `trace`, the length and a range, what is to be
-/// printed, where those registers are given that are not 0, and the status. Where a title begins with `--`, the source
-/// goes on from the case before. A line of a script stands behind `> `, and `debug script` is the command then.
+/// schedule, which begin with `schedule`, `at` or `turn`, `run` and the length of the run, or `trace`, the length and a
+/// range, what is to be printed, where those registers are given that are not 0, and the status. Where a title begins
+/// with `--`, the source goes on from the case before. A line of a script stands behind `> `, and `debug script` is the
+/// command then.
 pub(crate) fn held(alloc: Global, fronts: &[&str], table: &str) -> Result<u32, Fail> {
     let mut case = Case {
         source: String::new(alloc),

@@ -111,7 +111,8 @@ fn version_of(alloc: Global, text: &[u8]) -> Result<Result<u8, (u64, u8)>, Fail>
     }
 }
 
-// The first line that says anything may tell version 2, in which `low` and `high` are known; any other text has version 1.
+// The first line that says anything may tell version 2, in which `low` and `high` are known; any other text has
+// version 1.
 #[test]
 fn tells_versions(rt: HostRuntime) -> Result<(), Fail> {
     let rows: [(&[u8], Result<u8, (u64, u8)>); 38] = [

@@ -24,8 +24,8 @@ file_of kind name = record { kind = kind; name = name }
 abbrev pub names : List File → List (List ℕ)
 names files = map (λ f. f.name) files
 
--- what a file says: the addresses of an image with their bytes, the version and events of a schedule, the segments of a source, or the
--- commands of a script
+-- what a file says: the addresses of an image with their bytes, the version and events of a schedule, the segments of a
+-- source, or the commands of a script
 abbrev pub Value : FileKind → Type 0
 Value kinds.Image = List (ℕ × ℕ)
 Value kinds.Schedule = Contents
