@@ -1,7 +1,7 @@
-use Rattle.std.proofs.Common.{refl, ◌∙◌, arith}
+use Rattle.std.proofs.Common.{◌≡◌, ℕ, refl, ◌∙◌, subst, arith}
 use Rattle.i9_model.specs.Given.{given}
 use Rattle.i9_model.specs.Image.{pairs_of}
-use Rattle.i9_back.specs.Trail.{ChangedLast}
+use Rattle.i9_back.specs.Trail.{FoundBetween, ChangedLast}
 use Rattle.i9_back.proofs.Trails.{can_go_on, found_none, watched_on, watched_stands}
 use Rattle.i9_back.proofs.trail.Trail.watch_last.Goals as goal
 
@@ -36,3 +36,11 @@ stops-preserved c =
       trail = c.keep.ensures g was.trail stands;
       events = c.in_ok-watch.ensures.events ∙ was.events;
     }
+
+pub returns-clause-found : goal.returns-clause-found
+returns-clause-found c =
+    let g = given (pairs_of c.args.image.now) c.args.plan.now.events c.args.length c.args.sets in
+    let within = c.stops.invariant.within in
+    let over = c.stops-test.false in
+    let whole : c.stops.done ≡ c.args.to = omega (arith, within, over) in
+    subst (λ (n : ℕ). FoundBetween (ChangedLast c.args.a) g c.in_ok-m.from n c.stops.found) whole c.stops.invariant.found
