@@ -5,13 +5,14 @@
 mod backward;
 mod place;
 mod print;
+mod seeking;
 mod sessions;
 mod text;
 
-pub use backward::last;
 pub use i9_script::{Command, Script, read_script};
 pub use print::{
     Printed, print_elf_refusal, print_generated, print_line, print_lines, print_piece,
     print_refusal, print_text,
 };
+pub use seeking::last;
 pub use sessions::{SessionEnd, session};
