@@ -1,3 +1,4 @@
 pub mod Earlier
 pub mod Going
 pub mod Watching
+pub mod Trails

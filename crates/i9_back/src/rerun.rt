@@ -1,5 +1,5 @@
 //! Going to an earlier state of a run, by doing the run again.
-ghost use Rattle.std.specs.Prelude.{◌≡◌, ◌<◌, ◌≤◌, if◌then◌else◌, ℕ, Some, IfOk, IfSome, OnOk, OnErr};
+ghost use Rattle.std.specs.Prelude.{◌≡◌, ◌<◌, ◌≤◌, if◌then◌else◌, ℕ, Some, IfOk, IfSome, OnOk};
 ghost use Rattle.i9_model.specs.declared.layout.TheConstants.{MAX_LENGTH};
 ghost use Rattle.i9_model.specs.Given.{Given, given};
 ghost use Rattle.i9_model.specs.Image.{pairs_of};
@@ -148,34 +148,4 @@ pub fn last_change(
     plan.rewind();
     let mut m = Machine::new(alloc, image, sets, length)?;
     watch(alloc, &mut m, plan, 0, n, a)
-}
-
-/// The run goes to right after its instruction `c`: the machine and the schedule do, or where memory is refused both are
-/// as before.
-pub fn go_back(
-    alloc: Global,
-    image: &Segments,
-    sets: Option<u8>,
-    length: u64,
-    m: &mut Machine,
-    plan: &mut Schedule,
-    c: u64,
-) -> Result<(), NoMemory>
-    requires sets { IfSome sets (λ n. 0 < n × n < 16) }
-    requires length { length ≤ MAX_LENGTH }
-    requires reaches { HasInstructions (given (pairs_of image.now) plan.old.events length sets) c }
-    ensures stands { OnOk result (StandsEarlier (given (pairs_of image.now) plan.old.events length sets) c m.new plan.new) }
-    ensures same { OnErr result ((m.new ≡ m.old) × (plan.new ≡ plan.old)) }
-{
-    let place = plan.place();
-    match replay(alloc, image, sets, length, plan, c) {
-        Ok(machine) => {
-            *m = machine;
-            Ok(())
-        }
-        Err(_) => {
-            plan.seek(place);
-            Err(NoMemory)
-        }
-    }
 }

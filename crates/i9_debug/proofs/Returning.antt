@@ -15,7 +15,9 @@ use Rattle.i9_course.specs.LateRun.{steps, IsLatePast}
 use Rattle.i9_course.proofs.LateRuns.{records_of-steps}
 use Rattle.i9_schedule.specs.Plan.{Plan}
 use Rattle.i9_machine.specs.declared.machine.Machine.{Machine}
+use Rattle.i9_back.specs.declared.trail.Trail.{Trail}
 use Rattle.i9_back.specs.Earlier.{HasInstructions, IsEarlier, issue_of}
+use Rattle.i9_back.specs.Trail.{IsTrail}
 use Rattle.i9_back.specs.Stands.{StandsEarlier, same_byte, last_change, IsLastChange}
 use Rattle.i9_back.proofs.Earlier.{record_after, one_or_none, none_done, rises, one_earlier, has_earlier}
 use Rattle.i9_debug.specs.Last.{IsLast, IsLastIn}
@@ -26,6 +28,12 @@ use Rattle.i9_debug.specs.Driven.{StandsAt, IsOf, IsPlace, IsDebugged, GoneBack,
 
 pub same_given : (image : List Part) (sets : Option ℕ) (g : Given) (plan : Plan) → IsOf image sets g → plan.events ≡ g.plan → given_of image sets plan ≡ g
 same_given image sets g plan of events = ap (λ (es : List Timed). given (pairs_of image) es MAX_LENGTH sets) events ∙ sym of
+
+-- so what is kept on the way of a schedule is on that of another with the same events
+pub trail_of : (image : List Part) (sets : Option ℕ) (g : Given) (was plan : Plan) (t : Trail) → was.events ≡ g.plan → plan.events ≡ g.plan
+    → IsTrail (given_of image sets was) t → IsTrail (given_of image sets plan) t
+trail_of image sets g was plan t before events kept =
+    subst (λ (k : Given). IsTrail k t) (ap (λ (es : List Timed). given (pairs_of image) es MAX_LENGTH sets) (before ∙ sym events)) kept
 
 -- ---- each earlier state is one place
 

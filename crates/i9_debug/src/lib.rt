@@ -6,14 +6,15 @@ mod backward;
 mod heading;
 mod place;
 mod print;
+mod seeking;
 mod sessions;
 mod text;
 
-pub use backward::last;
 pub use heading::print_heading;
 pub use i9_script::{Command, Script, read_script};
 pub use print::{
     Printed, print_elf_refusal, print_generated, print_line, print_lines, print_piece,
     print_refusal, print_text,
 };
+pub use seeking::last;
 pub use sessions::{SessionEnd, session};

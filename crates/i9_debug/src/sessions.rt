@@ -6,6 +6,7 @@ ghost use Rattle.i9_machine.specs.InRun.{IsInRun};
 ghost use Rattle.i9_machine.specs.StandsFor.{StandsFor, Follows, IsUnderWay};
 ghost use Rattle.i9_script.specs.ScriptText.{IsCommandInRange};
 ghost use Rattle.i9_tracer.specs.Closures.{TakesEachView};
+ghost use Rattle.i9_back.specs.Trail.{IsTrail};
 ghost use Rattle.i9_debug.specs.Print.{Prints, account};
 ghost use Rattle.i9_debug.specs.Session.{Place, at, UnlessOver, Stays, TurnsTo, ComesTo, Runs, Answers, told};
 ghost use Rattle.i9_debug.specs.Driven.{StandsAt, IsOf, IsPlace, IsDebugged, given_of};
@@ -15,6 +16,7 @@ ghost use Rattle.i9_debug.specs.declared.print.Printed.TheVariants as printed;
 use crate::backward::{back_by, back_to, change_told};
 use crate::place::told_lines;
 use crate::print::{Printed, print_lines, print_pieces};
+use i9_back::Trail;
 use i9_hex::Segments;
 use i9_isa::NoMemory;
 use i9_machine::{End, Machine, Turn};
@@ -201,6 +203,7 @@ fn run_command<K: Sink>(
     alloc: Global,
     image: &Segments,
     sets: Option<u8>,
+    trail: &mut Trail,
     m: &mut Machine,
     plan: &mut Schedule,
     c: &Command,
@@ -209,15 +212,17 @@ fn run_command<K: Sink>(
     requires sets { IfSome sets (λ n. 0 < n × n < 16) }
     requires stands { IsDebugged image.now sets m.old plan.old }
     requires range { IsCommandInRange c.now }
-    ensures { (g : Given) (p : Place) → IsOf image.now sets g → IsPlace g p → StandsAt g p m.old plan.old
+    requires trail { IsTrail (given_of image.now sets plan.old) trail.old }
+    ensures drives { (g : Given) (p : Place) → IsOf image.now sets g → IsPlace g p → StandsAt g p m.old plan.old
         → Drives (Runs g c.now p) (CutOnWay g p c.now) result g
         (account K.told K.faults K.writes K.sure K.pieces) out.old out.new m.new plan.new }
+    ensures trail { IsTrail (given_of image.now sets plan.old) trail.new }
 {
     match c {
         Command::Turn(count) => turn_on(alloc, m, plan, *count, out),
         Command::Until(address) => come_to(alloc, m, plan, *address, out),
-        Command::Back(count) => gone(back_by(alloc, image, sets, m, plan, *count)),
-        Command::Last(address) => gone(back_to(alloc, image, sets, m, plan, *address)),
+        Command::Back(count) => gone(back_by(alloc, image, sets, trail, m, plan, *count)),
+        Command::Last(address) => gone(back_to(alloc, image, sets, trail, m, plan, *address)),
         Command::Regs => Printed::Done,
         Command::Raw => Printed::Done,
         Command::Held => Printed::Done,
@@ -232,6 +237,7 @@ fn tell<K: Sink>(
     alloc: Global,
     image: &Segments,
     sets: Option<u8>,
+    trail: &mut Trail,
     m: &Machine,
     plan: &mut Schedule,
     c: &Command,
@@ -239,11 +245,13 @@ fn tell<K: Sink>(
 ) -> Printed
     requires sets { IfSome sets (λ n. 0 < n × n < 16) }
     requires stands { IsDebugged image.now sets m.now plan.old }
+    requires trail { IsTrail (given_of image.now sets plan.old) trail.old }
     ensures told { (g : Given) (p : Place) → IsOf image.now sets g → IsPlace g p → StandsAt g p m.now plan.old
         → Prints result (account K.told K.faults K.writes K.sure K.pieces) out.old out.new (told g p.items m.now.turn c.now) }
     ensures same { plan.new ≡ plan.old }
+    ensures trail { IsTrail (given_of image.now sets plan.old) trail.new }
 {
-    match change_told(alloc, image, sets, m, plan, c) {
+    match change_told(alloc, image, sets, trail, m, plan, c) {
         Ok(change) => match told_lines(alloc, m, c, change) {
             Ok(lines) => print_pieces(&lines, out),
             Err(_) => Printed::Memory,
@@ -257,6 +265,7 @@ fn answer<K: Sink>(
     alloc: Global,
     image: &Segments,
     sets: Option<u8>,
+    trail: &mut Trail,
     m: &mut Machine,
     plan: &mut Schedule,
     c: &Command,
@@ -265,12 +274,14 @@ fn answer<K: Sink>(
     requires sets { IfSome sets (λ n. 0 < n × n < 16) }
     requires stands { IsDebugged image.now sets m.old plan.old }
     requires range { IsCommandInRange c.now }
-    ensures { (g : Given) (p : Place) → IsOf image.now sets g → IsPlace g p → StandsAt g p m.old plan.old
+    requires trail { IsTrail (given_of image.now sets plan.old) trail.old }
+    ensures drives { (g : Given) (p : Place) → IsOf image.now sets g → IsPlace g p → StandsAt g p m.old plan.old
         → Drives (Answers g c.now p) (CutInAnswer g c.now p) result g
         (account K.told K.faults K.writes K.sure K.pieces) out.old out.new m.new plan.new }
+    ensures trail { IsTrail (given_of image.now sets plan.old) trail.new }
 {
-    match run_command(alloc, image, sets, m, plan, c, out) {
-        Printed::Done => tell(alloc, image, sets, m, plan, c, out),
+    match run_command(alloc, image, sets, trail, m, plan, c, out) {
+        Printed::Done => tell(alloc, image, sets, trail, m, plan, c, out),
         Printed::Write => Printed::Write,
         Printed::Memory => Printed::Memory,
     }
@@ -280,8 +291,9 @@ fn answer<K: Sink>(
 /// arises. The text is this project's own; `specs/Session.antt` defines it. The machine is new, from this image and these
 /// sets, with the longest length, and the schedule stands at its first event.
 ///
-/// A command that goes back has the run done again from its start; the lines that arise on the way are not written, and
-/// those that arise when the run goes forward again are written again. `Done` and `Stopped` say that the whole text was
+/// A command that goes back has the run done again, the first one from its start, and later ones from the nearest of the
+/// machines that are kept on the way; the lines that arise on the way are not written, and those that arise when the run
+/// goes forward again are written again. `Done` and `Stopped` say that the whole text was
 /// written, and whether the run stands at an end when the script is over. At an end nothing is run, and what stands then
 /// is told. Where a write fails or memory is refused, the session stops there, and a front of the text was written.
 pub fn session<K: Sink>(
@@ -299,8 +311,9 @@ pub fn session<K: Sink>(
         (account K.told K.faults K.writes K.sure K.pieces) out.old out.new m.new plan.new }
 {
     let commands = s.commands();
+    let mut trail = Trail::new(alloc);
     for c in commands {
-        match answer(alloc, image, sets, m, plan, c, out) {
+        match answer(alloc, image, sets, &mut trail, m, plan, c, out) {
             Printed::Done => {}
             Printed::Write => return SessionEnd::Write,
             Printed::Memory => return SessionEnd::Memory,

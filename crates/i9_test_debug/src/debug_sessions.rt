@@ -91,23 +91,23 @@ struct Run {
     plan: Schedule,
 }
 
-/// The schedule without events.
-fn no_events(alloc: Global) -> Result<Schedule, Fail>
+/// The schedule that a text says.
+fn plan_of(alloc: Global, text: &str) -> Result<Schedule, Fail>
     ensures plan { IfOk result (λ p. IsPlan p.events) }
     ensures place { IfOk result (λ p. p.place ≡ 0) }
 {
-    match read(alloc, b"") {
+    match read(alloc, text.as_bytes()) {
         Ok(plan) => Ok(plan),
         Err(_) => Err("no schedule".into()),
     }
 }
 
-/// A machine before its first step.
-fn run_of(alloc: Global, image: &Segments, sets: Option<u8>) -> Result<Run, Fail>
+/// A machine before its first step, with the events of a text ahead.
+fn run_of(alloc: Global, image: &Segments, sets: Option<u8>, events: &str) -> Result<Run, Fail>
     requires { IfSome sets (λ n. 0 < n × n < 16) }
     ensures { IfOk result (λ r. StandsAt (given_of image.now sets r.plan) (at [] 1) r.machine r.plan) }
 {
-    let plan = no_events(alloc)?;
+    let plan = plan_of(alloc, events)?;
     let machine = Machine::new(alloc, image, sets, MAX_LENGTH)?;
     Ok(Run { machine, plan })
 }
@@ -120,10 +120,11 @@ fn script_of(alloc: Global, text: &str) -> Result<Script, Fail> {
     }
 }
 
-/// A sink with room, whose write of this number fails; none where it is 0.
-fn sink_failing(alloc: Global, failing: u64) -> Result<MemSink, Fail> {
+/// A sink with room for what is shown and for the short lines of so many commands, whose write of this number fails; none
+/// where it is 0.
+fn sink_failing(alloc: Global, commands: usize, failing: u64) -> Result<MemSink, Fail> {
     let mut sink = MemSink::new(alloc);
-    sink.room(16384)?;
+    sink.room((commands as u64).saturating_mul(16).saturating_add(16384))?;
     sink.fail_at(failing)?;
     Ok(sink)
 }
@@ -138,18 +139,19 @@ fn asked(sets: u8) -> Option<u8>
     }
 }
 
-/// What a session answers, and what it writes to a sink whose write of this number fails.
-fn session_of(
+/// What a session of a run with these events answers, and what it writes to a sink whose write of this number fails.
+pub(crate) fn session_of(
     alloc: Global,
     image: &Segments,
     sets: u8,
+    events: &str,
     text: &str,
     failing: u64,
 ) -> Result<(SessionEnd, MemSink), Fail> {
     let sets = asked(sets);
     let script = script_of(alloc, text)?;
-    let mut run = run_of(alloc, image, sets)?;
-    let mut sink = sink_failing(alloc, failing)?;
+    let mut run = run_of(alloc, image, sets, events)?;
+    let mut sink = sink_failing(alloc, script.commands().len(), failing)?;
     let end = session(
         alloc,
         image,
@@ -163,7 +165,7 @@ fn session_of(
 }
 
 /// Whether a sink holds this text.
-fn holds(sink: &MemSink, text: &str) -> bool {
+pub(crate) fn holds(sink: &MemSink, text: &str) -> bool {
     sink.bytes() == text.as_bytes()
 }
 
@@ -301,7 +303,7 @@ fn tells_what_is_asked(rt: HostRuntime) -> Result<(), Fail> {
     ];
     for (program, sets, script, end, text) in rows {
         let image = image_of(rt.alloc(), program)?;
-        let (answer, sink) = session_of(rt.alloc(), &image, sets, script, 0)?;
+        let (answer, sink) = session_of(rt.alloc(), &image, sets, "", script, 0)?;
         assert_eq!(rt; answer, end, "of {script}");
         assert!(rt; holds(&sink, text), "of {script}");
     }
@@ -315,7 +317,7 @@ fn holds_as_many_frames_as_a_new_start_asks_for(rt: HostRuntime) -> Result<(), F
     let prcb = [0x900, 0xA00, 0, 0x4000_0000, 0x2000, 0xB00, 0, 0x3000, 0, 0];
     put_words(&mut image, 0x800, &prcb)?;
     put_words(&mut image, 0xC1C, &[0x5000, 0, 15])?;
-    let (answer, sink) = session_of(rt.alloc(), &image, 0, "until 1200\nheld\n", 0)?;
+    let (answer, sink) = session_of(rt.alloc(), &image, 0, "", "until 1200\nheld\n", 0)?;
     assert_eq!(rt; answer, SessionEnd::Done);
     assert!(rt; holds(&sink, "#turn 4 4\n#held 15 0\n"));
     Ok(())
@@ -325,7 +327,7 @@ fn holds_as_many_frames_as_a_new_start_asks_for(rt: HostRuntime) -> Result<(), F
 #[test]
 fn stops_where_a_write_fails(rt: HostRuntime) -> Result<(), Fail> {
     let image = image_of(rt.alloc(), &FLUSH)?;
-    let (answer, sink) = session_of(rt.alloc(), &image, 0, "turn 2\nturn 20\nheld\n", 3)?;
+    let (answer, sink) = session_of(rt.alloc(), &image, 0, "", "turn 2\nturn 20\nheld\n", 3)?;
     assert_eq!(rt; answer, SessionEnd::Write);
     assert!(rt;
         holds(

@@ -4,6 +4,8 @@
 #[cfg(test)]
 mod back;
 #[cfg(test)]
+mod back_sessions;
+#[cfg(test)]
 mod debug;
 #[cfg(test)]
 mod debug_sessions;

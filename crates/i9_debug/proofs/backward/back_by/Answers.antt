@@ -15,8 +15,8 @@ go_back-requires-clause-reaches c =
     subst (λ (g : Given). HasInstructions g c.saturating_sub.result) (sym (same_given c.args.image.now c.args.sets r.given c.args.plan.now r.of r.stands.events))
     (place_has r.given r.place c.saturating_sub.result r.is_place (omega (arith, issued, by)))
 
-pub returns : goal.returns
-returns c = λ what p of is at_place.
+pub returns-clause-gone : goal.returns-clause-gone
+returns-clause-gone c = λ what p of is at_place.
     let issued : c.view-issued.result.count ≡ count_at what p = ap (λ (v : View). v.count) (c.view-issued.ensures.shown what p.items p.end at_place.stands) in
     let by = c.saturating_sub.ensures in
     let same : c.saturating_sub.result ≡ count_at what p - c.args.count = omega (arith, issued, by) in

@@ -3,7 +3,9 @@ use Rattle.std.proofs.lemmas.Result.{err_from_is_err_and}
 use Rattle.i9_model.specs.declared.view.View.{View}
 use Rattle.i9_model.specs.Run.{Given}
 use Rattle.i9_course.specs.Course.{records_of}
+use Rattle.i9_schedule.specs.Plan.{Plan}
 use Rattle.i9_back.specs.Earlier.{HasInstructions}
+use Rattle.i9_back.specs.Trail.{IsTrail}
 use Rattle.i9_debug.specs.Session.{count_at}
 use Rattle.i9_debug.specs.Driven.{given_of}
 use Rattle.i9_debug.proofs.Returning.{same_given, place_has, arrival_below, arrived, not_gone, gone_back_from}
@@ -27,13 +29,13 @@ go_back-requires-clause-reaches c =
     subst (λ (g : Given). HasInstructions g c.in_ok-count.count) (sym (ap (given_of c.args.image.now c.args.sets) c.arrival.ensures.same ∙ same))
     (place_has r.given r.place c.in_ok-count.count r.is_place (omega (arith, is, below)))
 
-pub returns-in_err-count : goal.returns-in_err-count
-returns-in_err-count c = λ what p of is at_place.
+pub returns-in_err-count-clause-gone : goal.returns-in_err-count-clause-gone
+returns-in_err-count-clause-gone c = λ what p of is at_place.
     let e = err_from_is_err_and c.from_residual.result c.from_residual.ensures.1 in
     not_gone c.from_residual.result _ what _ c.args.m.now c.args.plan.now _ e.1 c.arrival.ensures.same
 
-pub returns : goal.returns
-returns c = λ what p of is at_place.
+pub returns-clause-gone : goal.returns-clause-gone
+returns-clause-gone c = λ what p of is at_place.
     let issued : c.view-issued.result.count ≡ count_at what p = ap (λ (v : View). v.count) (c.view-issued.ensures.shown what p.items p.end at_place.stands) in
     let same = same_given c.args.image.now c.args.sets what c.args.plan.now of at_place.events in
     let there = arrived what (given_of c.args.image.now c.args.sets c.args.plan.now) p c.args.address c.view-issued.result.count c.in_ok-count.count is same issued
@@ -41,3 +43,10 @@ returns c = λ what p of is at_place.
     let kept = c.arrival.ensures.same in
     gone_back_from c.go_back.result what (given_of c.args.image.now c.args.sets c.arrival.new.plan) _ c.in_ok-count.count _ _ _ _ _ kept
     (ap (given_of c.args.image.now c.args.sets) kept ∙ same) there c.go_back.ensures.stands c.go_back.ensures.same
+
+-- the schedule of the second call is that of the first
+pub go_back-requires-clause-trail : goal.go_back-requires-clause-trail
+go_back-requires-clause-trail c = subst (λ (p : Plan). IsTrail (given_of c.args.image.now c.args.sets p) c.arrival.new.trail) (sym c.arrival.ensures.same) c.arrival.ensures.trail
+
+pub returns-clause-trail : goal.returns-clause-trail
+returns-clause-trail c = subst (λ (p : Plan). IsTrail (given_of c.args.image.now c.args.sets p) c.go_back.new.self) c.arrival.ensures.same c.go_back.ensures.trail

@@ -1,13 +1,14 @@
 use Rattle.std.proofs.Common.{◌≡◌}
-use Rattle.i9_model.specs.Given.{given}
-use Rattle.i9_model.specs.Image.{pairs_of}
+use Rattle.i9_model.specs.Given.{Given}
 use Rattle.i9_machine.specs.Step.{steps_left}
+use Rattle.i9_back.specs.Stands.{StandsEarlier}
 use Rattle.i9_debug.proofs.Lasts.{Seeking}
-use Rattle.i9_debug.proofs.backward.last.Given as goal
+use Rattle.i9_debug.proofs.seeking.seek.Given as goal
 
 abbrev pub invariant-steps : goal.invariant-steps
 invariant-steps g l = record {
-  seeking : Seeking (g.F.ViewTest.allows l.s) (given (pairs_of l.fn.image) l.fn.plan.events l.fn.length l.fn.sets) l.done l.n l.found l.m l.plan;
+  seeking : (what : Given) (s : StandsEarlier what l.fn.from l.fn.m l.fn.plan)
+      → Seeking (g.F.ViewTest.allows l.s) what s.records l.done l.to l.n l.found l.m l.plan;
   events : l.plan.events ≡ l.fn.plan.events;
 }
 
