@@ -101,4 +101,4 @@ schedule_not_refused number fault refused = answers_apart (generated_schedule nu
 -- whatever it is read as stands at counts
 pub schedule_counted : (number : ℕ) (c : Contents) → IsSchedule (lines_of (generated_schedule number)) c → IsByCounts c.events
 schedule_counted number c says =
-    subst (λ (x : Contents). IsByCounts x.events) (one_schedule (generated_schedule number) (made_contents number) c (made_says number) says) (made_schedule number).counted
+    subst (λ (x : Contents). IsByCounts x.events) (one_schedule (generated_schedule number) (made_contents number) c (made_says number) says) (counted_made number (range_with_len 1 event_number))

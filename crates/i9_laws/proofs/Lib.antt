@@ -3,6 +3,7 @@ pub mod Vectors
 pub mod EventCases
 pub mod KeptBits
 pub mod KeptLines
+pub mod HighPins
 pub mod Decoded
 pub mod StoredWords
 pub mod ResultWords

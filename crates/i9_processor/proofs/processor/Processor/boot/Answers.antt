@@ -4,7 +4,7 @@ use Rattle.i9_model.specs.Image.{pairs_of}
 use Rattle.i9_model.specs.Memory.{Memory, with_writes}
 use Rattle.i9_model.specs.Boot.{boot_setup, boot_memory}
 use Rattle.i9_model.specs.Late.{cell, resource}
-use Rattle.i9_model.specs.State.{State, image_memory, started, boot}
+use Rattle.i9_model.specs.State.{State, Interrupts, image_memory, start_interrupts, started, boot}
 use Rattle.i9_model.specs.HeldFrames.{Cache, over, overlaid}
 use Rattle.i9_model.specs.declared.layout.TheConstants.{BOOT_PC}
 use Rattle.i9_processor.specs.State.{registers_of, state_of, cells_of, bytes_of}
@@ -28,7 +28,9 @@ returns-clause-state c =
     let storage = c.in_ok-storage.storage in
     let memory : memory_in storage ≡ boot_memory (image_memory pairs) = ap overlaid c.in_ok-storage.ensures.cache ∙ c.boot-setup.ensures.memory ∙ ap boot_memory loaded in
     let file = c.set_arithmetic.new.file in
-    let kept : state_of record { file = file; ip = c.aligned.result; flags = c.set_arithmetic.new.flags; pc = BOOT_PC; tc = c.start_trace_controls.result; check = false; ints = c.start_interrupts.result; channels = c.new-2.result; breaks = c.start_breaks.result; tables = c.tables_of.result; count = 0; storage = storage } ≡ started c.boot-setup.result (registers_of c.new-file.result) 0 (memory_in storage) (frames_in storage) =
+    let high = ap (λ (x : Interrupts). x.low) c.new-ints.ensures in
+    let interrupts = c.start_interrupts.ensures ∙ ap (start_interrupts c.boot-setup.result) high in
+    let kept : state_of record { file = file; ip = c.aligned.result; flags = c.set_arithmetic.new.flags; pc = BOOT_PC; tc = c.start_trace_controls.result; check = false; ints = c.start_interrupts.new.ints; channels = c.new-2.result; breaks = c.start_breaks.result; tables = c.tables_of.result; count = 0; storage = storage } ≡ started c.boot-setup.result (registers_of c.new-file.result) 0 0 (memory_in storage) (frames_in storage) =
     λ i. record {
       regs = (c.set_arithmetic.ensures.registers ∙ c.start_registers.ensures.registers) i;
       ip = c.aligned.ensures i;
@@ -38,13 +40,13 @@ returns-clause-state c =
       check = false;
       memory = memory_in storage;
       frames = frames_in storage;
-      interrupts = c.start_interrupts.ensures i;
+      interrupts = interrupts i;
       dma = c.new-2.ensures i;
       trace = record { tc = c.start_trace_controls.ensures i; breaks = c.start_breaks.ensures i };
       tables = c.tables_of.ensures i;
     } in
     let none = ap registers_of c.new-file.ensures ∙ registers_of-zeros 33 in
-    kept ∙ (λ i. started (setup i) (none i) 0 (memory i) (c.in_ok-storage.ensures.frames i))
+    kept ∙ (λ i. started (setup i) (none i) 0 0 (memory i) (c.in_ok-storage.ensures.frames i))
 
 pub returns-clause-cells : goal.returns-clause-cells
 unfolding state_of cells_of
