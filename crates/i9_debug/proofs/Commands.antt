@@ -10,8 +10,8 @@ use Rattle.i9_model.specs.Late.{turns as late_turns}
 use Rattle.i9_model.specs.Run.{Given, Record, Finish}
 use Rattle.i9_model.specs.Turns.{last_issue}
 use Rattle.i9_schedule.specs.Plan.{Plan}
-use Rattle.i9_course.specs.Course.{Item, Step, records_of, course, IsCourse}
-use Rattle.i9_course.specs.LateRun.{steps, IsLatePast}
+use Rattle.i9_course.specs.Course.{Item, Step, course, IsCourse}
+use Rattle.i9_course.specs.LateRun.{steps}
 use Rattle.i9_machine.specs.declared.machine.Machine.{Machine}
 use Rattle.i9_machine.specs.StandsFor.{StandsFor, IsUnderWay, FollowsUntil}
 use Rattle.i9_machine.specs.InRun.{IsInRun}
@@ -25,11 +25,11 @@ use Rattle.i9_debug.specs.declared.sessions.SessionEnd.{SessionEnd}
 use Rattle.i9_debug.specs.declared.sessions.SessionEnd.TheVariants as ends
 use Rattle.i9_debug.specs.Print.{Account, Prints, OnDone}
 use Rattle.i9_debug.specs.Session.{Place, at, TurnsTo, turns_pass, turns_end, ComesTo, comes, none_comes, IsBack, Stays, UnlessOver, Runs, told, Answers, IsText, no_command, next_command, end_at}
-use Rattle.i9_debug.specs.Driven.{StandsAt, IsOf, IsPlace, IsDebugged, GoneBack, Drives, IsCut, OnCut, StopsAt, StepOf, CutInRun, CutOnWay, in_run, CutInAnswer, on_way, in_told, CutInScript, in_command, printed_of, TellsEnd, RunsScript}
+use Rattle.i9_debug.specs.Driven.{StandsAt, IsOf, IsPlace, IsDebugged, GoneBack, Drives, IsCut, OnCut, StopsAt, CutOnWay, CutInAnswer, on_way, in_told, CutInScript, in_command, printed_of, TellsEnd, RunsScript}
 use Rattle.i9_debug.proofs.Prints.{prints_none, prints_refused, prints_then, prints_stop, prints_same}
 use Rattle.i9_debug.proofs.TextLines.{IsClosed, closed_join}
 use Rattle.i9_debug.proofs.ClosedTexts.{closed_runs, closed_answers, closed_script}
-use Rattle.i9_debug.proofs.Places.{Leads, steps_on-append, record_issues, turns_lead, address_leads}
+use Rattle.i9_debug.proofs.Places.{Leads, record_issues, turns_lead, address_leads}
 use Rattle.i9_debug.proofs.Returning.{back_place, back_leads, last_leads}
 use Rattle.i9_debug.proofs.Turns.{not_done, on_cut, of_cut, cut_whole}
 use Rattle.std.specs.Option.{option_map}

@@ -1,9 +1,9 @@
 -- On the way to a later state, where a stop held last.
-use Rattle.std.proofs.Common.{◌≡◌, ℕ, ◌+◌, ◌<◌, ◌≤◌, Bool, true, false, List, [], ◌∷◌, ◌++◌, Option, Some, None, Result, Ok, Err, IfOk, refl, sym, subst, ◌∙◌, ap, ◌⊎◌, inl, inr, is_some, arith}
+use Rattle.std.proofs.Common.{◌≡◌, ℕ, ◌+◌, ◌<◌, ◌≤◌, Bool, true, false, List, [], ◌∷◌, ◌++◌, Option, Some, None, refl, sym, subst, ap, ◌⊎◌, inl, inr, is_some, arith}
 use Rattle.std.specs.Option.{option_or, unwrap_or}
 use Rattle.i9_model.specs.declared.view.View.{View}
 use Rattle.i9_model.specs.PrintedText.{view_of}
-use Rattle.i9_model.specs.Run.{Given, Record, counts_of, state_after}
+use Rattle.i9_model.specs.Run.{Given, Record}
 use Rattle.i9_schedule.specs.Plan.{Plan}
 use Rattle.i9_course.specs.LateRun.{steps}
 use Rattle.i9_machine.specs.declared.line.Line.{Line}
@@ -15,7 +15,7 @@ use Rattle.i9_back.specs.Stands.{StandsEarlier}
 use Rattle.i9_back.specs.Trail.{FoundBetween}
 use Rattle.i9_back.proofs.Going.{issued_counts, on_counts, GoingAt, going_begins, earlier_there, going_there, on_goes, issued_goes}
 use Rattle.i9_back.proofs.Trails.{found_joins, found_all}
-use Rattle.i9_debug.specs.Last.{IsPassed, IsLast, HeldLast, IsLastIn}
+use Rattle.i9_debug.specs.Last.{IsLast, HeldLast, IsLastIn}
 
 module _ (allows : View → Bool → Type 0) (g : Given) where
   -- newer records were done behind older ones, and this is where the stop held last among them

@@ -1,5 +1,5 @@
 -- Going back from a place of a run without marks leads to one place, and what was asked before it.
-use Rattle.std.proofs.Common.{◌≡◌, ℕ, ◌+◌, ◌-◌, ◌<◌, ◌≤◌, ◌&&◌, cond, Bool, true, false, nat_eq, nat_lt, not, List, [], ◌∷◌, ◌++◌, Option, Some, None, Result, Ok, Err, OnOk, OnErr, IfOk, refl, sym, ap, ◌∙◌, subst, ◌⊎◌, inl, inr, arith}
+use Rattle.std.proofs.Common.{◌≡◌, ℕ, ◌-◌, ◌<◌, ◌≤◌, ◌&&◌, cond, Bool, true, false, nat_eq, nat_lt, not, List, [], ◌∷◌, ◌++◌, Option, Some, Result, Ok, Err, OnOk, OnErr, IfOk, refl, sym, ap, ◌∙◌, subst, ◌⊎◌, inl, inr, arith}
 use Rattle.std.specs.List.{AllByRecursion}
 use Rattle.std.proofs.lemmas.Bool.{lt-ltb, le-ltb}
 use Rattle.i9_model.specs.declared.event.Timed.{Timed}
@@ -19,10 +19,10 @@ use Rattle.i9_back.specs.declared.trail.Trail.{Trail}
 use Rattle.i9_back.specs.Earlier.{HasInstructions, IsEarlier, issue_of}
 use Rattle.i9_back.specs.Trail.{IsTrail}
 use Rattle.i9_back.specs.Stands.{StandsEarlier, same_byte, last_change, IsLastChange}
-use Rattle.i9_back.proofs.Earlier.{record_after, one_or_none, none_done, rises, one_earlier, has_earlier}
+use Rattle.i9_back.proofs.Earlier.{record_after, one_or_none, none_done, one_earlier, has_earlier}
 use Rattle.i9_debug.specs.Last.{IsLast, IsLastIn}
 use Rattle.i9_debug.specs.Session.{Place, at, comes_to, count_at, IsBack, last_arrival}
-use Rattle.i9_debug.specs.Driven.{StandsAt, IsOf, IsPlace, IsDebugged, GoneBack, given_of}
+use Rattle.i9_debug.specs.Driven.{StandsAt, IsOf, IsPlace, GoneBack, given_of}
 
 -- ---- what is given
 

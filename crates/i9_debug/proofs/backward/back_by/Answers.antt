@@ -1,4 +1,4 @@
-use Rattle.std.proofs.Common.{◌≡◌, ◌-◌, ap, sym, ◌∙◌, subst, arith}
+use Rattle.std.proofs.Common.{◌≡◌, ◌-◌, ap, sym, subst, arith}
 use Rattle.i9_model.specs.declared.view.View.{View}
 use Rattle.i9_model.specs.Run.{Given}
 use Rattle.i9_back.specs.Earlier.{HasInstructions}

@@ -1,4 +1,4 @@
-use Rattle.std.proofs.Common.{◌≡◌, ℕ, refl, sym, inl, ap, subst}
+use Rattle.std.proofs.Common.{ℕ, refl, sym, inl, ap, subst}
 use Rattle.i9_model.specs.Given.{given}
 use Rattle.i9_model.specs.Image.{pairs_of}
 use Rattle.i9_model.specs.ScheduleText.{IsPlan}

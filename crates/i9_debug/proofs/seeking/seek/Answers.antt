@@ -1,4 +1,4 @@
-use Rattle.std.proofs.Common.{◌∷◌, ◌++◌, Bool, true, false, None, refl, subst, ◌∙◌}
+use Rattle.std.proofs.Common.{◌∷◌, ◌++◌, true, false, None, refl, subst, ◌∙◌}
 use Rattle.i9_model.specs.declared.view.View.{View}
 use Rattle.i9_course.specs.Course.{Step}
 use Rattle.i9_course.specs.LateRun.{steps}
