@@ -330,7 +330,7 @@ fn a_low_pin_enters_a_thousand_times(rt: HostRuntime) -> Result<(), Fail> {
         source.push_str(part)?;
     }
     let image = hex_of(rt.alloc(), &source)?;
-    for sets in ["-", "1", "15"] {
+    for sets in ["-", "1"] {
         let bytes = nested_text(rt.alloc(), &image, sets)?;
         let text = std::str::from_utf8(&bytes)?;
         let mut entries: u32 = 0;
