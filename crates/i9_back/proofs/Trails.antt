@@ -1,10 +1,9 @@
 -- Machines that are kept at earlier states, and what is found between two of those.
-use Rattle.std.proofs.Common.{◌≡◌, ℕ, zero, suc, ◌<◌, ◌≤◌, Bool, true, false, cond, List, [], ◌∷◌, ◌++◌, length, get_or, Option, Some, None, Result, Ok, Err, IfOk, OnOk, refl, sym, ap, ◌∙◌, subst, append_assoc, ◌⊎◌, inl, inr, is_some, arith}
+use Rattle.std.proofs.Common.{◌≡◌, ℕ, zero, suc, ◌<◌, ◌≤◌, Bool, true, false, cond, List, [], ◌∷◌, ◌++◌, length, get_or, Option, Some, None, refl, sym, ap, ◌∙◌, subst, append_assoc, ◌⊎◌, inl, inr, is_some, arith}
 use Rattle.std.specs.List.{AllByRecursion, items_where_true}
 use Rattle.std.specs.List.Retain.{IsFiltered}
 use Rattle.std.specs.Option.{option_or}
 use Rattle.std.proofs.lemmas.List.{append-nil}
-use Rattle.i9_model.specs.declared.event.Timed.{Timed}
 use Rattle.i9_model.specs.Run.{Given, Record}
 use Rattle.i9_course.specs.Course.{Item}
 use Rattle.i9_course.specs.LateRun.{steps}
@@ -12,7 +11,7 @@ use Rattle.i9_machine.specs.StandsFor.{StandsFor, Follows}
 use Rattle.i9_machine.specs.declared.machine.Machine.{Machine}
 use Rattle.i9_schedule.specs.Plan.{Plan}
 use Rattle.i9_back.specs.declared.trail.Kept.{Kept}
-use Rattle.i9_back.specs.Earlier.{EndsAt, IsEarlier, HasInstructions}
+use Rattle.i9_back.specs.Earlier.{IsEarlier, HasInstructions}
 use Rattle.i9_back.specs.Stands.{StandsEarlier, CanGoOn, changes, last_change, Watched, IsLastChange}
 use Rattle.i9_back.specs.Trail.{IsKept, FoundBetween, ChangedLast, FollowsEarlier}
 use Rattle.i9_back.proofs.Earlier.{one_earlier}
