@@ -356,25 +356,26 @@ closed_heading version = elim (cases_Bool (version == levels_version)) [
   | inr other ↦ rw other closed_none
 ]
 
-pub headed : {K : Type 0} (k : Account K) (g : Given) (answer : Ran) (version : ℕ) (traced : Option Range) (a b c : K) → Prints Done k a b (heading_text version)
-    → Runs answer traced g k b c → RunsHeaded answer version traced g k a c
-headed k g answer version traced a b c first r = record {
+pub headed : {K : Type 0} (k : Account K) (g : Given) (answer : Ran) (said version : ℕ) (traced : Option Range) (a b c : K) → said ≡ version
+    → Prints Done k a b (heading_text said) → Runs answer traced g k b c → RunsHeaded answer version traced g k a c
+headed k g answer said version traced a b c same first r = record {
   records = r.records;
   finish = r.finish;
   run = r.run;
-  prints = prints_then k (printed_of answer) a b c _ _ (closed_heading version) first r.prints;
+  prints = prints_then k (printed_of answer) a b c _ _ (closed_heading version) (prints_same k Done a b _ _ (ap heading_text same) first) r.prints;
   tells = r.tells;
 }
 
 -- the line was not printed, and so nothing of the run
-pub headed_cut : {K : Type 0} (k : Account K) (g : Given) (answer : Ran) (version : ℕ) (traced : Option Range) (a b : K) → IsCut answer
-    → Prints (printed_of answer) k a b (heading_text version) → RunsHeaded answer version traced g k a b
-headed_cut k g answer version traced a b cut p =
+pub headed_cut : {K : Type 0} (k : Account K) (g : Given) (answer : Ran) (said version : ℕ) (traced : Option Range) (a b : K) → IsCut answer → said ≡ version
+    → Prints (printed_of answer) k a b (heading_text said) → RunsHeaded answer version traced g k a b
+headed_cut k g answer said version traced a b cut same p =
     let on = late_goes_on g [] tt in
+    let first = prints_same k (printed_of answer) a b _ _ (ap heading_text same) p in
     record {
       records = on.0 ++ [];
       finish = on.1;
       run = on.2;
-      prints = prints_stop k (printed_of answer) a b _ _ (closed_heading version) (not_done answer cut) p;
+      prints = prints_stop k (printed_of answer) a b _ _ (closed_heading version) (not_done answer cut) first;
       tells = tells_cut answer on.1 cut;
     }

@@ -5,10 +5,14 @@ use Rattle.i9_tool.proofs.Running.{headed, headed_cut}
 use Rattle.i9_tool.proofs.run.run_headed.Goals as goal
 
 pub returns-in-Done : goal.returns-in-Done
-returns-in-Done g c = headed _ _ _ _ _ _ _ _ c.in-Done.ensures.prints c.run.ensures
+returns-in-Done g c = headed _ _ _ _ _ _ _ _ _ c.version.ensures.value c.in-Done.ensures.prints c.run.ensures
 
 pub returns-in-Write : goal.returns-in-Write
-returns-in-Write g c = headed_cut _ (given (pairs_of c.args.image.now) c.args.plan.now.events c.args.limit c.args.sets) ran.Write _ _ _ _ tt c.in-Write.ensures.prints
+returns-in-Write g c =
+    let what = given (pairs_of c.args.image.now) c.args.plan.now.events c.args.limit c.args.sets in
+    headed_cut _ what ran.Write _ _ _ _ _ tt c.version.ensures.value c.in-Write.ensures.prints
 
 pub returns-in-Memory : goal.returns-in-Memory
-returns-in-Memory g c = headed_cut _ (given (pairs_of c.args.image.now) c.args.plan.now.events c.args.limit c.args.sets) ran.Memory _ _ _ _ tt c.in-Memory.ensures.prints
+returns-in-Memory g c =
+    let what = given (pairs_of c.args.image.now) c.args.plan.now.events c.args.limit c.args.sets in
+    headed_cut _ what ran.Memory _ _ _ _ _ tt c.version.ensures.value c.in-Memory.ensures.prints
