@@ -1,4 +1,5 @@
-use Rattle.std.proofs.Common.{None, refl}
+use Rattle.std.proofs.Common.{◌≤◌, None, refl, sym, subst}
+use Rattle.i9_model.specs.State.{State}
 use Rattle.i9_machine.proofs.Unmoved.{same_stands}
 use Rattle.i9_machine.proofs.machine.Machine.copy.Goals as goal
 
@@ -26,3 +27,12 @@ returns-clause-stands c = λ g h stands.
       };
     }
     stands.ended tt stands
+
+pub invariant_of-result : goal.invariant_of-result
+invariant_of-result c =
+    let old = c.args.self.now in
+    record {
+      short = old.short;
+      below = subst (λ (s : State). s.count ≤ old.length) (sym c.in_ok-processor.ensures.state) old.below;
+      few = old.few;
+    }
