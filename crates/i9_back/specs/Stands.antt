@@ -17,6 +17,10 @@ pub record StandsEarlier (g : Given) (c : ℕ) (m : Machine) (plan : Plan) : Typ
   pub stands : StandsFor g (steps records) None m
   pub follows : Follows g (steps records) plan
 
+-- a schedule has the same events as before, and stands behind as many of them
+abbrev pub StaysAt : Plan → Plan → Type 0
+StaysAt old new = (new.events ≡ old.events) × (new.place ≡ old.place)
+
 -- it does of some run, which has at least so many instructions
 pub record CanGoOn (from to : ℕ) (m : Machine) (plan : Plan) : Type 0 where
   pub given : Given

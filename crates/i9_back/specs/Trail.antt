@@ -10,9 +10,9 @@ use Rattle.i9_back.specs.declared.trail.Trail.{Trail}
 use Rattle.i9_back.specs.Earlier.{IsEarlier}
 use Rattle.i9_back.specs.Stands.{StandsEarlier, last_change}
 
--- a machine that is kept stands for the state after its count, behind its place of the schedule
+-- a machine that is kept stands for the state after its count, behind its place of the schedule, whatever version that has
 pub record IsKept (g : Given) (k : Kept) : Type 0 where
-  pub stands : StandsEarlier g k.count k.machine (record { events = g.plan; place = k.place })
+  pub stands : (version : ℕ) → StandsEarlier g k.count k.machine (record { version = version; events = g.plan; place = k.place })
   pub within : k.place ≤ length g.plan
 
 -- each of a trail is

@@ -5,7 +5,7 @@ ghost use Rattle.i9_model.specs.declared.layout.TheConstants.{MAX_LENGTH};
 ghost use Rattle.i9_model.specs.Given.{Given, given};
 ghost use Rattle.i9_model.specs.Image.{pairs_of};
 ghost use Rattle.i9_back.specs.Earlier.{HasInstructions};
-ghost use Rattle.i9_back.specs.Stands.{StandsEarlier, IsLastChange};
+ghost use Rattle.i9_back.specs.Stands.{StandsEarlier, StaysAt, IsLastChange};
 ghost use Rattle.i9_back.specs.Trail.{IsKept, IsTrail, FoundBetween, ChangedLast, FollowsEarlier};
 
 use crate::rerun::{forward, watch};
@@ -183,7 +183,7 @@ impl Trail {
         requires reaches { HasInstructions (given (pairs_of image.now) plan.old.events length sets) c }
         requires trail { IsTrail (given (pairs_of image.now) plan.old.events length sets) self.old }
         ensures stands { OnOk result (StandsEarlier (given (pairs_of image.now) plan.old.events length sets) c m.new plan.new) }
-        ensures same { OnErr result ((m.new ≡ m.old) × (plan.new ≡ plan.old)) }
+        ensures same { OnErr result ((m.new ≡ m.old) × StaysAt plan.old plan.new) }
         ensures trail { IsTrail (given (pairs_of image.now) plan.old.events length sets) self.new }
     {
         let place = plan.place();

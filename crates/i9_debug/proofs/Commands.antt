@@ -30,7 +30,7 @@ use Rattle.i9_debug.proofs.Prints.{prints_none, prints_refused, prints_then, pri
 use Rattle.i9_debug.proofs.TextLines.{IsClosed, closed_join}
 use Rattle.i9_debug.proofs.ClosedTexts.{closed_runs, closed_answers, closed_script}
 use Rattle.i9_debug.proofs.Places.{Leads, record_issues, turns_lead, address_leads}
-use Rattle.i9_debug.proofs.Returning.{back_place, back_leads, last_leads}
+use Rattle.i9_debug.proofs.Returning.{back_place, back_leads, last_leads, stands_kept}
 use Rattle.i9_debug.proofs.Turns.{not_done, on_cut, of_cut, cut_whole}
 use Rattle.std.specs.Option.{option_map}
 
@@ -116,7 +116,7 @@ module _ {K : Type 0} (k : Account K) (g : Given) where
       subst (λ (w : Printed). Drives leads cut w g k a a m plan) (sym done)
       (stays_there leads cut there.0 a m plan (goes there.0 there.1) there.2)
   went_back (Err e) leads cut p c answer a before m was plan none refused goes some is_cut here gone =
-      let stands : StandsAt g p m plan = subst (λ (y : Plan). StandsAt g p m y) (sym gone.same.1) (subst (λ (x : Machine). StandsAt g p x was) (sym gone.same.0) here) in
+      let stands : StandsAt g p m plan = stands_kept g p m was plan gone.same.1 (subst (λ (x : Machine). StandsAt g p x was) (sym gone.same.0) here) in
       subst (λ (w : Printed). Drives leads cut w g k a a m plan) (sym refused) (record {
         text = [];
         last = some.0;
@@ -129,7 +129,7 @@ module _ {K : Type 0} (k : Account K) (g : Given) where
       })
 
   -- the place is told behind what was run
-  pub then_tells : (c : Command) (p : Place) (answer : Printed) (a b d : K) (m : Machine) (plan now : Plan) → now ≡ plan
+  pub then_tells : (c : Command) (p : Place) (answer : Printed) (a b d : K) (m : Machine) (plan now : Plan) → StaysAt plan now
       → (r : Drives (Runs g c p) (CutOnWay g p c) Done g k a b m plan)
       → Prints answer k b d (told g r.last.items m.turn c)
       → Drives (Answers g c p) (CutInAnswer g c p) answer g k a d m now
@@ -145,7 +145,7 @@ module _ {K : Type 0} (k : Account K) (g : Given) where
         is_text = record { shown = r.text; runs = r.is_text; whole = refl };
         prints = prints_then k answer a b d r.text _ (closed_runs g c p r.last r.text r.is_text) r.prints said;
         place = place;
-        stands = subst (λ (x : Plan). StandsAt g place m x) (sym same_plan) r.stands;
+        stands = stands_kept g place m plan now same_plan r.stands;
         whole = whole_by answer r.whole;
         stopped = on_cut answer _ (record {
           whole = r.text;

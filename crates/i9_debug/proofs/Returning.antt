@@ -1,5 +1,5 @@
 -- Going back from a place of a run without marks leads to one place, and what was asked before it.
-use Rattle.std.proofs.Common.{◌≡◌, ℕ, ◌-◌, ◌<◌, ◌≤◌, ◌&&◌, cond, Bool, true, false, nat_eq, nat_lt, not, List, [], ◌∷◌, ◌++◌, Option, Some, Result, Ok, Err, OnOk, OnErr, IfOk, refl, sym, ap, ◌∙◌, subst, ◌⊎◌, inl, inr, arith}
+use Rattle.std.proofs.Common.{◌≡◌, ℕ, ◌-◌, ◌<◌, ◌≤◌, ◌&&◌, cond, Bool, true, false, nat_eq, nat_lt, not, List, [], ◌∷◌, ◌++◌, Option, Some, None, Result, Ok, Err, OnOk, OnErr, IfOk, refl, sym, ap, ◌∙◌, subst, ◌⊎◌, inl, inr, arith}
 use Rattle.std.specs.List.{AllByRecursion}
 use Rattle.std.proofs.lemmas.Bool.{lt-ltb, le-ltb}
 use Rattle.i9_model.specs.declared.event.Timed.{Timed}
@@ -10,15 +10,16 @@ use Rattle.i9_model.specs.Image.{Part, pairs_of}
 use Rattle.i9_model.specs.Overlay.{overlay}
 use Rattle.i9_model.specs.PrintedText.{view_of}
 use Rattle.i9_model.specs.Run.{Given, Record, counts_of, state_after}
-use Rattle.i9_course.specs.Course.{records_of}
+use Rattle.i9_course.specs.Course.{Item, records_of}
 use Rattle.i9_course.specs.LateRun.{steps, IsLatePast}
 use Rattle.i9_course.proofs.LateRuns.{records_of-steps}
 use Rattle.i9_schedule.specs.Plan.{Plan}
 use Rattle.i9_machine.specs.declared.machine.Machine.{Machine}
+use Rattle.i9_machine.specs.StandsFor.{FollowsUntil}
 use Rattle.i9_back.specs.declared.trail.Trail.{Trail}
 use Rattle.i9_back.specs.Earlier.{HasInstructions, IsEarlier, issue_of}
 use Rattle.i9_back.specs.Trail.{IsTrail}
-use Rattle.i9_back.specs.Stands.{StandsEarlier, same_byte, last_change, IsLastChange}
+use Rattle.i9_back.specs.Stands.{StandsEarlier, StaysAt, same_byte, last_change, IsLastChange}
 use Rattle.i9_back.proofs.Earlier.{record_after, one_or_none, none_done, one_earlier, has_earlier}
 use Rattle.i9_debug.specs.Last.{IsLast, IsLastIn}
 use Rattle.i9_debug.specs.Session.{Place, at, comes_to, count_at, IsBack, last_arrival}
@@ -206,16 +207,25 @@ back_stands g c m plan s = (
 )
 
 pub gone_back : {A E : Type 0} (result : Result A E) (g k : Given) (c n : ℕ) (before m : Machine) (was plan : Plan) → k ≡ g → n ≡ c
-    → OnOk result (StandsEarlier k n m plan) → OnErr result ((m ≡ before) × (plan ≡ was)) → GoneBack g c result before m was plan
+    → OnOk result (StandsEarlier k n m plan) → OnErr result ((m ≡ before) × StaysAt was plan) → GoneBack g c result before m was plan
 gone_back (Ok x) g k c n before m was plan same count stands none = record {
   gone = back_stands g c m plan (subst (λ (i : ℕ). StandsEarlier g i m plan) count (subst (λ (y : Given). StandsEarlier y n m plan) same stands));
   same = tt;
 }
 gone_back (Err e) g k c n before m was plan same count stands none = record { gone = tt; same = none }
 
--- the place of a schedule is that of before
-pub same_plan : (was mid : Plan) (n : ℕ) → mid.events ≡ was.events → n ≡ was.place → record mid { place = n } ≡ was
-same_plan was mid n events place = ap (λ (es : List Timed). record was { events = es; place = n }) events ∙ ap (λ (i : ℕ). record was { place = i }) place
+-- what is given goes by the events of a schedule alone
+pub given_kept : (image : List Part) (sets : Option ℕ) (was plan : Plan) → plan.events ≡ was.events → given_of image sets plan ≡ given_of image sets was
+given_kept image sets was plan events = ap (λ (es : List Timed). given (pairs_of image) es MAX_LENGTH sets) events
+
+follows_kept : (g : Given) (h : List Item) (f : Option Finish) (was plan : Plan) → StaysAt was plan → FollowsUntil g h f was → FollowsUntil g h f plan
+follows_kept g h None was plan same f = record { events = same.0 ∙ f.events; place = same.1 ∙ f.place }
+follows_kept g h (Some e) was plan same f = tt
+
+-- a machine stands at a place by a schedule that stays where it is
+pub stands_kept : (g : Given) (p : Place) (m : Machine) (was plan : Plan) → StaysAt was plan → StandsAt g p m was → StandsAt g p m plan
+stands_kept g p m was plan same s =
+    record { stands = s.stands; turn = s.turn; follows = follows_kept g p.items p.end was plan same s.follows; events = same.0 ∙ s.events }
 
 -- what a call answers of the last arrival is that of the place
 pub arrived : (g k : Given) (p : Place) (a n c : ℕ) → IsPlace g p → k ≡ g → n ≡ count_at g p
@@ -226,12 +236,13 @@ arrived g k p a n c is same count said =
     said e.0 earlier ∙ ap (λ (m : ℕ). last_arrival a m e.0) count ∙ sym (place_arrival g p a e.0 is e.1)
 
 -- memory was refused before the way back
-pub not_gone : {A E : Type 0} (result : Result A E) (e : E) (g : Given) (c : ℕ) (m : Machine) (was plan : Plan) → result ≡ Err e → plan ≡ was
+pub not_gone : {A E : Type 0} (result : Result A E) (e : E) (g : Given) (c : ℕ) (m : Machine) (was plan : Plan) → result ≡ Err e → StaysAt was plan
     → GoneBack g c result m m was plan
 not_gone result e g c m was plan is same = subst (λ (r : Result _ _). GoneBack g c r m m was plan) (sym is) (record { gone = tt; same = (refl, same) })
 
 -- the same where the schedule was looked at before
-pub gone_back_from : {A E : Type 0} (result : Result A E) (g k : Given) (c n : ℕ) (before m : Machine) (was mid plan : Plan) → mid ≡ was → k ≡ g → n ≡ c
-    → OnOk result (StandsEarlier k n m plan) → OnErr result ((m ≡ before) × (plan ≡ mid)) → GoneBack g c result before m was plan
-gone_back_from result g k c n before m was mid plan kept same count stands none =
-    subst (λ (x : Plan). GoneBack g c result before m x plan) kept (gone_back result g k c n before m mid plan same count stands none)
+pub gone_back_from : {A E : Type 0} (result : Result A E) (g k : Given) (c n : ℕ) (before m : Machine) (was mid plan : Plan) → StaysAt was mid → k ≡ g → n ≡ c
+    → OnOk result (StandsEarlier k n m plan) → OnErr result ((m ≡ before) × StaysAt mid plan) → GoneBack g c result before m was plan
+gone_back_from (Ok x) g k c n before m was mid plan kept same count stands none = gone_back (Ok x) g k c n before m was plan same count stands tt
+gone_back_from (Err e) g k c n before m was mid plan kept same count stands none =
+    record { gone = tt; same = (none.0, (none.1.0 ∙ kept.0, none.1.1 ∙ kept.1)) }

@@ -10,7 +10,7 @@ use Rattle.i9_model.specs.Late.{turns as late_turns}
 use Rattle.i9_model.specs.Turns.{last_issue}
 use Rattle.i9_course.specs.Course.{Item, Step, course, IsCourse}
 use Rattle.i9_course.specs.LateRun.{steps, IsLatePast}
-use Rattle.i9_back.specs.Stands.{last_change}
+use Rattle.i9_back.specs.Stands.{StaysAt, last_change}
 use Rattle.i9_machine.specs.Turned.{steps_on}
 use Rattle.i9_tracer.specs.Until.{view_behind, IsPassed}
 use Rattle.i9_model.specs.declared.run.End.{End}
@@ -60,10 +60,10 @@ pub record IsDebugged (image : List Part) (sets : Option ℕ) (m : Machine) (pla
   pub is_place : IsPlace given place
   pub stands : StandsAt given place m plan
 
--- The run went back to right after so many instructions, or memory was refused and nothing has changed.
+-- The run went back to right after so many instructions, or memory was refused and machine and schedule stay where they are.
 pub record GoneBack {A E : Type 0} (g : Given) (c : ℕ) (result : Result A E) (before m : Machine) (was plan : Plan) : Type 0 where
   pub gone : OnOk result ((q : Place) × IsBack g c q × StandsAt g q m plan)
-  pub same : OnErr result ((m ≡ before) × (plan ≡ was))
+  pub same : OnErr result ((m ≡ before) × StaysAt was plan)
 
 -- what a command tells of the last change of a byte among records, if anything
 abbrev pub change_for : Command → List Record → Option (ℕ × ℕ)

@@ -4,6 +4,7 @@ ghost use Rattle.i9_model.specs.Given.{Given};
 ghost use Rattle.i9_model.specs.Run.{Record};
 ghost use Rattle.i9_course.specs.Course.{records_of};
 ghost use Rattle.i9_back.specs.Earlier.{HasInstructions, IsEarlier};
+ghost use Rattle.i9_back.specs.Stands.{StaysAt};
 ghost use Rattle.i9_back.specs.Trail.{IsTrail};
 ghost use Rattle.i9_tracer.specs.Closures.{TakesEachView};
 ghost use Rattle.i9_debug.specs.Last.{IsLastIn};
@@ -38,7 +39,7 @@ fn last_by<F: Fn(&View) -> bool + ViewTest>(
     requires takes { TakesEachView (F.ViewTest.can_test f) }
     requires trail { IsTrail (given_of image.now sets plan.old) trail.old }
     ensures last { IfOk result (λ c. IsLastIn (F.ViewTest.allows f) (given_of image.now sets plan.old) n c) }
-    ensures same { plan.new ≡ plan.old }
+    ensures same { StaysAt plan.old plan.new }
     ensures trail { IsTrail (given_of image.now sets plan.old) trail.new }
 {
     let place = plan.place();
@@ -63,7 +64,7 @@ fn arrival(
     requires trail { IsTrail (given_of image.now sets plan.old) trail.old }
     ensures last { IfOk result (λ c. (rs : List Record) → IsEarlier (given_of image.now sets plan.old) n rs
         → c ≡ last_arrival address n rs) }
-    ensures same { plan.new ≡ plan.old }
+    ensures same { StaysAt plan.old plan.new }
     ensures trail { IsTrail (given_of image.now sets plan.old) trail.new }
 {
     let is_there = |v: &View|
@@ -139,7 +140,7 @@ pub(crate) fn change_told(
     requires trail { IsTrail (given_of image.now sets plan.old) trail.old }
     ensures change { (g : Given) (p : Place) → IsOf image.now sets g → IsPlace g p → StandsAt g p m.now plan.old
         → IfOk result (λ o. o ≡ change_for c.now (records_of p.items)) }
-    ensures same { plan.new ≡ plan.old }
+    ensures same { StaysAt plan.old plan.new }
     ensures trail { IsTrail (given_of image.now sets plan.old) trail.new }
 {
     match c {

@@ -6,6 +6,7 @@ ghost use Rattle.i9_machine.specs.InRun.{IsInRun};
 ghost use Rattle.i9_machine.specs.StandsFor.{StandsFor, Follows, IsUnderWay};
 ghost use Rattle.i9_script.specs.ScriptText.{IsCommandInRange};
 ghost use Rattle.i9_tracer.specs.Closures.{TakesEachView};
+ghost use Rattle.i9_back.specs.Stands.{StaysAt};
 ghost use Rattle.i9_back.specs.Trail.{IsTrail};
 ghost use Rattle.i9_debug.specs.Print.{Prints, account};
 ghost use Rattle.i9_debug.specs.Session.{Place, at, UnlessOver, Stays, TurnsTo, ComesTo, Runs, Answers, told};
@@ -248,7 +249,7 @@ fn tell<K: Sink>(
     requires trail { IsTrail (given_of image.now sets plan.old) trail.old }
     ensures told { (g : Given) (p : Place) → IsOf image.now sets g → IsPlace g p → StandsAt g p m.now plan.old
         → Prints result (account K.told K.faults K.writes K.sure K.pieces) out.old out.new (told g p.items m.now.turn c.now) }
-    ensures same { plan.new ≡ plan.old }
+    ensures same { StaysAt plan.old plan.new }
     ensures trail { IsTrail (given_of image.now sets plan.old) trail.new }
 {
     match change_told(alloc, image, sets, trail, m, plan, c) {

@@ -3,12 +3,11 @@ use Rattle.std.proofs.lemmas.Result.{err_from_is_err_and}
 use Rattle.i9_model.specs.declared.view.View.{View}
 use Rattle.i9_model.specs.Run.{Given}
 use Rattle.i9_course.specs.Course.{records_of}
-use Rattle.i9_schedule.specs.Plan.{Plan}
 use Rattle.i9_back.specs.Earlier.{HasInstructions}
 use Rattle.i9_back.specs.Trail.{IsTrail}
 use Rattle.i9_debug.specs.Session.{count_at}
 use Rattle.i9_debug.specs.Driven.{given_of}
-use Rattle.i9_debug.proofs.Returning.{same_given, place_has, arrival_below, arrived, not_gone, gone_back_from}
+use Rattle.i9_debug.proofs.Returning.{same_given, given_kept, place_has, arrival_below, arrived, not_gone, gone_back_from}
 use Rattle.i9_debug.proofs.backward.back_to.Goals as goal
 
 pub arrival-requires-clause-reaches : goal.arrival-requires-clause-reaches
@@ -26,7 +25,7 @@ go_back-requires-clause-reaches c =
     let same = same_given c.args.image.now c.args.sets r.given c.args.plan.now r.of r.stands.events in
     let is = arrived r.given what r.place c.args.address c.view-issued.result.count c.in_ok-count.count r.is_place same issued c.in_ok-count.ensures.last in
     let below = arrival_below c.args.address (count_at r.given r.place) (records_of r.place.items) in
-    subst (λ (g : Given). HasInstructions g c.in_ok-count.count) (sym (ap (given_of c.args.image.now c.args.sets) c.arrival.ensures.same ∙ same))
+    subst (λ (g : Given). HasInstructions g c.in_ok-count.count) (sym (given_kept c.args.image.now c.args.sets c.args.plan.now c.arrival.new.plan c.arrival.ensures.same.0 ∙ same))
     (place_has r.given r.place c.in_ok-count.count r.is_place (omega (arith, is, below)))
 
 pub returns-in_err-count-clause-gone : goal.returns-in_err-count-clause-gone
@@ -42,11 +41,15 @@ returns-clause-gone c = λ what p of is at_place.
     c.in_ok-count.ensures.last in
     let kept = c.arrival.ensures.same in
     gone_back_from c.go_back.result what (given_of c.args.image.now c.args.sets c.arrival.new.plan) _ c.in_ok-count.count _ _ _ _ _ kept
-    (ap (given_of c.args.image.now c.args.sets) kept ∙ same) there c.go_back.ensures.stands c.go_back.ensures.same
+    (given_kept c.args.image.now c.args.sets c.args.plan.now c.arrival.new.plan kept.0 ∙ same) there c.go_back.ensures.stands c.go_back.ensures.same
 
 -- the schedule of the second call is that of the first
 pub go_back-requires-clause-trail : goal.go_back-requires-clause-trail
-go_back-requires-clause-trail c = subst (λ (p : Plan). IsTrail (given_of c.args.image.now c.args.sets p) c.arrival.new.trail) (sym c.arrival.ensures.same) c.arrival.ensures.trail
+go_back-requires-clause-trail c =
+    subst (λ (g : Given). IsTrail g c.arrival.new.trail) (sym (given_kept c.args.image.now c.args.sets c.args.plan.now c.arrival.new.plan c.arrival.ensures.same.0))
+    c.arrival.ensures.trail
 
 pub returns-clause-trail : goal.returns-clause-trail
-returns-clause-trail c = subst (λ (p : Plan). IsTrail (given_of c.args.image.now c.args.sets p) c.go_back.new.self) c.arrival.ensures.same c.go_back.ensures.trail
+returns-clause-trail c =
+    subst (λ (g : Given). IsTrail g c.go_back.new.self) (given_kept c.args.image.now c.args.sets c.args.plan.now c.arrival.new.plan c.arrival.ensures.same.0)
+    c.go_back.ensures.trail

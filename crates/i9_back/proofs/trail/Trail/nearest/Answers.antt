@@ -18,7 +18,7 @@ pub returns-in_ok-machine-in-Some-clause-stands : goal.returns-in_ok-machine-in-
 returns-in_ok-machine-in-Some-clause-stands c =
     let g = given (pairs_of c.args.image.now) c.args.plan.now.events c.args.length c.args.sets in
     let k = (c.in-Some.ensures g (subst (AllByRecursion (IsKept g)) (sym c.deref.ensures.value) c.requires.trail)).0 in
-    copy_stands g _ _ _ _ _ k.stands (λ h stands. c.in_ok-machine-in-Some.ensures.stands g h stands) c.in_ok-machine-in-Some.ensures.turn
+    copy_stands g _ _ _ _ _ (k.stands c.args.plan.now.version) (λ h stands. c.in_ok-machine-in-Some.ensures.stands g h stands) c.in_ok-machine-in-Some.ensures.turn
     (ap (λ (p : Plan). p.events) c.seek.ensures) (ap (λ (p : Plan). p.place) c.seek.ensures)
 
 pub returns-in_ok-machine-in-Some-clause-order : goal.returns-in_ok-machine-in-Some-clause-order
