@@ -13,6 +13,7 @@ use Rattle.i9_schedule.specs.Plan.{Plan}
 use Rattle.i9_course.specs.Course.{Item, Step, course, IsCourse}
 use Rattle.i9_course.specs.LateRun.{steps}
 use Rattle.i9_machine.specs.declared.machine.Machine.{Machine}
+use Rattle.i9_back.specs.Stands.{StaysAt}
 use Rattle.i9_machine.specs.StandsFor.{StandsFor, IsUnderWay, FollowsUntil}
 use Rattle.i9_machine.specs.InRun.{IsInRun}
 use Rattle.i9_machine.specs.Turned.{steps_on}

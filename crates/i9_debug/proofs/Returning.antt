@@ -9,7 +9,7 @@ use Rattle.i9_model.specs.Given.{given}
 use Rattle.i9_model.specs.Image.{Part, pairs_of}
 use Rattle.i9_model.specs.Overlay.{overlay}
 use Rattle.i9_model.specs.PrintedText.{view_of}
-use Rattle.i9_model.specs.Run.{Given, Record, counts_of, state_after}
+use Rattle.i9_model.specs.Run.{Given, Record, counts_of, state_after, Finish}
 use Rattle.i9_course.specs.Course.{Item, records_of}
 use Rattle.i9_course.specs.LateRun.{steps, IsLatePast}
 use Rattle.i9_course.proofs.LateRuns.{records_of-steps}
