@@ -40,7 +40,8 @@ returns-clause-gone c = λ what p of is at_place.
     let there = arrived what (given_of c.args.image.now c.args.sets c.args.plan.now) p c.args.address c.view-issued.result.count c.in_ok-count.count is same issued
     c.in_ok-count.ensures.last in
     let kept = c.arrival.ensures.same in
-    gone_back_from c.go_back.result what (given_of c.args.image.now c.args.sets c.arrival.new.plan) _ c.in_ok-count.count _ _ _ _ _ kept
+    gone_back_from c.go_back.result what (given_of c.args.image.now c.args.sets c.arrival.new.plan) _ c.in_ok-count.count
+    c.args.m.now c.go_back.new.m c.args.plan.now c.arrival.new.plan c.go_back.new.plan kept
     (given_kept c.args.image.now c.args.sets c.args.plan.now c.arrival.new.plan kept.0 ∙ same) there c.go_back.ensures.stands c.go_back.ensures.same
 
 -- the schedule of the second call is that of the first
