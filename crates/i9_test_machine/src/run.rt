@@ -3,6 +3,7 @@ ghost use Rattle.std.specs.Prelude.{◌≡◌, ◌<◌, ◌≤◌, IfSome, IfOk}
 ghost use Rattle.i9_model.specs.declared.layout.TheConstants.{MAX_LENGTH};
 ghost use Rattle.i9_model.specs.ScheduleText.{IsPlan};
 ghost use Rattle.i9_machine.specs.InRun.{IsInRun};
+ghost use Rattle.i9_schedule.specs.Plan.{Plan};
 
 use i9_hex::Segments;
 use i9_machine::{Line, Machine, Turn};
@@ -105,15 +106,25 @@ pub(crate) fn start(alloc: Global, run: &mut Run, text: &str) -> Result<(), Fail
     Ok(())
 }
 
-/// Goes on with a copy of the machine, and keeps that; not behind the end.
+/// A copy of a machine, which is in the same run; not behind the end.
+fn copied(alloc: Global, machine: &Machine) -> Result<Machine, Fail>
+    ensures { (plan : Plan) → IsInRun machine.now plan → IfOk result (λ m. IsInRun m plan) }
+{
+    match machine.ended() {
+        Some(_) => Err("the run has ended".into()),
+        None => {
+            let copy = machine.copy(alloc)?;
+            Ok(copy)
+        }
+    }
+}
+
+/// Goes on with a copy of the machine, and keeps that.
 pub(crate) fn copy(alloc: Global, run: &mut Run) -> Result<(), Fail>
     requires { IsInRun run.old.machine run.old.plan }
     ensures { IsInRun run.new.machine run.new.plan }
 {
-    if run.machine.ended().is_some() {
-        return Err("the run has ended".into());
-    }
-    let copy = run.machine.copy(alloc)?;
+    let copy = copied(alloc, &run.machine)?;
     run.copied = Some(mem::replace(&mut run.machine, copy));
     Ok(())
 }
