@@ -13,10 +13,10 @@ ghost use Rattle.i9_course.specs.LateRun.{IsLatePast, IsLateRun};
 /// The printed text of a run replays it. A run reaches the first events of its plan, in order; where the plan is one of
 /// a schedule by counts, no event that is left stands at a count that is past, since an event comes before the
 /// instruction at its count. An event that waits for a turn stands at no count, so this machine, which does one thing
-/// after the other, never reaches it. The printed text, behind the line of the schedule's version, is a schedule of this
-/// version, of the events that were reached, each at its count, the one that met a hazard and so ended the run too; and
-/// with these as its plan the run is the same and prints the same. A text that is cut behind some record is a schedule
-/// of the events up to there, whatever end it tells.
+/// after the other, never reaches it. The printed text, behind the line of the schedule's version, is a schedule of
+/// this version, of the events that were reached, each at its count, the one that met a hazard and so ended the run
+/// too; and with these as its plan the run is the same and prints the same. A text that is cut behind some record is a
+/// schedule of the events up to there, whatever end it tells.
 pub fn printed_text_replays_its_run()
     ensures reached { (g : Given) (rs : List Record) → IsPast g rs
         → (rest : List Timed) × (reached_after rs ++ rest ≡ g.plan) }

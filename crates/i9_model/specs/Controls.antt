@@ -35,8 +35,8 @@ with_trace_controls s ws = record s {
   };
 }
 
--- Group 0 has the breakpoints, group 1 the interrupt maps and pins, groups 2 to 5 the configuration words of regions, four
--- each, and group 6 the controls of breakpoints and of tracing.
+-- Group 0 has the breakpoints, group 1 the interrupt maps and pins, groups 2 to 5 the configuration words of regions,
+-- four each, and group 6 the controls of breakpoints and of tracing.
 abbrev pub with_group : State → ℕ → List ℕ → State
 with_group s group ws =
     if group == 0 then with_breakpoints s ws

@@ -15,8 +15,8 @@ pub record Frames : Type 0 where
   pub soft : ℕ → Bool
   pub live : List ℕ
 
--- The kept pending word and the mask word, the three map words, the control word of pins (ICON), the word of the pins that
--- are low, and whether NMI is posted.
+-- The kept pending word and the mask word, the three map words, the control word of pins (ICON), the word of the pins
+-- that are low, and whether NMI is posted.
 pub record Interrupts : Type 0 where
   pub pending : ℕ
   pub mask : ℕ
@@ -101,8 +101,8 @@ start_trace u = record {
   };
 }
 
--- The state that start-up leaves, from the registers, the count and the low pins before it, and the memory and the frames
--- behind it.
+-- The state that start-up leaves, from the registers, the count and the low pins before it, and the memory and the
+-- frames behind it.
 unfoldable pub started : Setup → (ℕ → ℕ) → ℕ → ℕ → Memory → Frames → State
 started u regs count low m f = record {
   regs = written regs (start_sets u);

@@ -58,9 +58,9 @@ pub data FileGives (kind : FileKind) (after : Value kind → ℕ → List ℕ �
   accepted : (value : Value kind) (code : ℕ) (text : List ℕ) → IsAccepted kind file value → after value code text
       → FileGives kind after file code text
 
--- The run of an image with the events of a schedule is printed to its end behind the line of the schedule's version, and
--- what is traced of it. The results of this run land late: it is the run of the machine that does one instruction after
--- the other, but that an arithmetic fault which the next instruction overtakes ends it, named as imprecise.
+-- The run of an image with the events of a schedule is printed to its end behind the line of the schedule's version,
+-- and what is traced of it. The results of this run land late: it is the run of the machine that does one instruction
+-- after the other, but that an arithmetic fault which the next instruction overtakes ends it, named as imprecise.
 pub data RunGives (sets : Option ℕ) (limit : ℕ) (traced : Option Range) (pairs : List (ℕ × ℕ)) (c : Contents) : ℕ → List ℕ → Type 0 where
   runs : (records : List Record) (f : Finish) → IsLateRun (given pairs c.events limit sets) records f
       → RunGives sets limit traced pairs c (end_code f.end)
