@@ -27,7 +27,7 @@ fn save(watch: &mut Watch, fp: u32) -> Result<(), Fail> {
     match watch.plan_push(fp, 0, 0, 0) {
         Ok(push) => {
             watch.reserve(push.save)?;
-            watch.called(push.save);
+            watch.called(push.save, 0);
             Ok(())
         }
         Err(_) => Err("a hazard".into()),
@@ -40,7 +40,7 @@ fn does(watch: &mut Watch, step: Step) -> Result<bool, Fail> {
         Save(fp) => save(watch, fp)?,
         Return => {
             if watch.first_live().is_some() {
-                watch.returned();
+                let _ = watch.returned();
             }
         }
         Flush => watch.flushed(),
@@ -104,7 +104,9 @@ fn keeps_frames(rt: HostRuntime) -> Result<(), Fail> {
             Flush,
             Reads(0x40, 64, None),
             Reads(0x40, 65, Some(0x80)),
-            Returns(0x70, Some(0x80)),
+            // Of a frame that is read from memory, the return address alone has to be known.
+            Returns(0x70, None),
+            Returns(0x78, Some(0x80)),
         ],
         // A frame's bytes run on from the last address to 0.
         &[
@@ -314,9 +316,51 @@ fn has_pages_of_frames(rt: HostRuntime) -> Result<(), Fail> {
     }
     watch.wrote(0x4000_0000, 256);
     if watch.first_live().is_some() {
-        watch.returned();
+        let _ = watch.returned();
     }
     watch.flushed();
     assert_eq!(rt; page_count(&watch), 7);
+    Ok(())
+}
+
+/// Words of a frame that are marked stay so until the frame is returned to, or is flushed; and a store of marked bytes
+/// makes them soft.
+#[test]
+fn keeps_marks_of_words(rt: HostRuntime) -> Result<(), Fail> {
+    let mut watch = Watch::new(rt.alloc());
+    watch.reserve(0x1FF0)?;
+    watch.called(0x1FF0, 0x8013);
+    // Words 0, 1, 4 and 15 of the frame are marked.
+    let rows = [
+        (0x1FEF, false),
+        (0x1FF0, true),
+        (0x1FF7, true),
+        (0x1FF8, false),
+        (0x2000, true),
+        (0x2003, true),
+        (0x2004, false),
+        (0x202B, false),
+        (0x202C, true),
+        (0x2030, false),
+    ];
+    for (a, wanted) in rows {
+        assert_eq!(rt; watch.live_mark(a), wanted);
+    }
+    assert_eq!(rt; watch.stale(0x1FEE, 4), 0b1100);
+    assert_eq!(rt; watch.check_flushed_read(0x1FF8, 16), Some(0x2000));
+    assert_eq!(rt; watch.returned(), 0x8013);
+    assert_eq!(rt; watch.live_mark(0x1FF0), false);
+    assert_eq!(rt; watch.stale(0x2028, 16), 0x00FF);
+    // Of a frame that is flushed, the marked words stay soft.
+    watch.reserve(0x4000)?;
+    watch.called(0x4000, 2);
+    watch.flushed();
+    assert_eq!(rt; watch.stale(0x4000, 16), 0x00F0);
+    // A store of marked bytes makes them soft.
+    watch.reserve_bytes(0x60FE, 4)?;
+    watch.wrote_marked(0x60FE, 4, 0b0110);
+    assert_eq!(rt; watch.stale(0x60FD, 6), 0b0_1100);
+    watch.wrote(0x60FF, 1);
+    assert_eq!(rt; watch.stale(0x60FD, 6), 0b0_1000);
     Ok(())
 }
