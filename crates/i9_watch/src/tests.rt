@@ -348,8 +348,12 @@ fn keeps_marks_of_words(rt: HostRuntime) -> Result<(), Fail> {
     }
     assert_eq!(rt; watch.stale(0x1FEE, 4), 0b1100);
     assert_eq!(rt; watch.check_flushed_read(0x1FF8, 16), Some(0x2000));
+    assert_eq!(rt; watch.return_marks(0x1FF0), 0x8013);
     assert_eq!(rt; watch.returned(), 0x8013);
     assert_eq!(rt; watch.live_mark(0x1FF0), false);
+    // Where no frame is live, a word with a soft byte is marked.
+    assert_eq!(rt; watch.return_marks(0x1FF0), 0xFFFF);
+    assert_eq!(rt; watch.return_marks(0x2025), 0x0007);
     assert_eq!(rt; watch.stale(0x2028, 16), 0x00FF);
     // Of a frame that is flushed, the marked words stay soft.
     watch.reserve(0x4000)?;
