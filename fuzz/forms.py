@@ -87,10 +87,15 @@ def read_image(text):
 # Schedules and scripts.
 
 
-def event_kind(words):
-    """The kind of the fault of an event's words, or None."""
+LEVELS = (b"low", b"high")
+
+
+def event_kind(words, version):
+    """The kind of the fault of an event's words in a version, or None."""
     name, operands = words[0], words[1:]
-    if name == b"pin" and len(operands) == 1:
+    if name in LEVELS and version == 1:
+        return 2
+    if name in (b"pin", *LEVELS) and len(operands) == 1:
         good = number(operands[0], 10, 10, 0, 7) is not None
     elif name == b"nmi":
         good = not operands
@@ -102,13 +107,13 @@ def event_kind(words):
         good = number(operands[0], 10, 10, 0, 3) is not None and len(operands[1]) in (2, 4, 8, 32)
         good = good and number(operands[1], 16, 32, 0, 2**128) is not None
     else:
-        return 3 if name in (b"pin", b"dma", b"show", b"feed") else 2
+        return 3 if name in (b"pin", b"dma", b"show", b"feed", *LEVELS) else 2
     return None if good else 3
 
 
 @functools.lru_cache(4096)
-def event_line(line):
-    """Nothing, or the clock and the time of a line's event, or the kind of its fault."""
+def event_line(line, version):
+    """Nothing, or the clock and the time of a line's event in a version, or the kind of its fault."""
     if line.strip(bytes(range(128))):
         return 1
     words = words_of(line)
@@ -120,15 +125,31 @@ def event_line(line):
         return 2
     most = MAX_LENGTH if words[0] == b"at" else 10**12
     time = number(words[1], 10, 13, 0, most)
-    kind = event_kind(words[2:])
+    kind = event_kind(words[2:], version)
     return kind or (3 if time is None else (words[0], time))
+
+
+def version_of(text):
+    """The version of a schedule, or None where its first line names none, and how many lines stand up to that one."""
+    for place, line in enumerate(lines_of(text), 1):
+        words = words_of(line)
+        if line[:1] == b"#" or not words:
+            continue
+        if words[0] != b"schedule" or line.strip(bytes(range(128))):
+            break
+        return (2 if words[1:] == [b"2"] else None), place
+    return 1, 0
 
 
 def schedule_fault(text):
     """The line and the kind of a schedule's first fault, or None."""
     last, count = None, 0
-    for place, line in enumerate(lines_of(text), 1):
-        said = event_line(line)
+    lines = lines_of(text)
+    version, start = version_of(text)
+    if version is None:
+        return start, 3
+    for place, line in enumerate(lines[start:], start + 1):
+        said = event_line(line, version)
         if said is None:
             continue
         if isinstance(said, int):
@@ -145,7 +166,8 @@ def schedule_fault(text):
 
 def is_by_turns(text):
     """Whether an accepted schedule is one by turns."""
-    events = [said for said in map(event_line, lines_of(text)) if said]
+    version, start = version_of(text)
+    events = [said for said in (event_line(line, version) for line in lines_of(text)[start:]) if said]
     return bool(events) and events[0][0] == b"turn"
 
 

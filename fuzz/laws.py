@@ -82,12 +82,17 @@ class Tester:
             raise Wrong("status %d in the place of %d" % (status, good))
         return answer
 
+    def version(self, words):
+        """The version of the schedule of a run, which is accepted."""
+        return 1 if words[2] == "-" else forms.version_of(self.files[words[2]])[0]
+
     def read_run(self, words, status, out):
-        run = printed.Run(out, int(words[4])).whole()
+        run = printed.Run(out, int(words[4]), version=self.version(words)).whole()
         return run, run.status()
 
     def read_trace(self, words, status, out):
-        run = printed.Run(out, int(words[4]), (int(words[5], 16), int(words[6], 16))).whole()
+        traced = int(words[5], 16), int(words[6], 16)
+        run = printed.Run(out, int(words[4]), traced, self.version(words)).whole()
         return run, run.status()
 
     def read_debug(self, words, status, out):
@@ -173,13 +178,14 @@ def debugs(t, r, base, schedule, sets, script):
     loaded = [0 if 0xE0000000 <= place < 0xE0001000 else image.get(place, 0) for place in places]
     if session.first != b"".join(b" %02X" % byte for byte in loaded):
         raise Wrong("the first bytes are not those of the image")
-    text = b"".join(session.run.plain)
+    heading = base.plain[:1] if base.version == 2 else []
+    text = b"".join(heading + session.run.plain)
     if not goes_on(base, text, session.run.end):
         raise Wrong("the session prints other lines than the run")
     drives = [line for line in forms.lines_of(script) if line[:2] in (b"tu", b"un")]
     t.put("drives", b"\n".join(drives))
     plain = t.go("debug", "image", schedule, sets, "drives")
-    if plain.turns != session.turns or b"".join(plain.run.plain) != text:
+    if plain.turns != session.turns or plain.run.plain != session.run.plain:
         raise Wrong("the questions of a script change the run")
 
 

@@ -204,10 +204,10 @@ def repaired(text):
 # Schedules and scripts.
 
 
-def event(r):
+def event(r, version):
     kind = r.randrange(10)
     if kind < 4:
-        return "pin %d" % r.randrange(8)
+        return "%s %d" % (r.choice(["pin", "low", "high"] if version == 2 else ["pin"]), r.randrange(8))
     if kind < 5:
         return "nmi"
     if kind < 7:
@@ -219,10 +219,11 @@ def event(r):
 
 def schedule(r, by_turns):
     """A schedule that is accepted."""
-    time, lines = 0, []
+    time, version = 0, r.choice([1, 1, 2])
+    lines = ["schedule 2"] if version == 2 else []
     for _ in range(r.choice([1, 3, 10, 60])):
         time = min(time + r.choice([0, 0, 1, 2, 5, 30, 400]), 10**7)
-        lines.append("%s %d %s" % ("turn" if by_turns else "at", time, event(r)))
+        lines.append("%s %d %s" % ("turn" if by_turns else "at", time, event(r, version)))
     if r.random() < 0.1:
         lines.append("turn 1000000000000 nmi" if by_turns else "at 10000000 nmi")
     if r.random() < 0.3:

@@ -9,8 +9,9 @@ WORDS = rb"(?: " + H + rb"){16}\n"
 REGISTERS = rb"#g" + WORDS + rb"#l" + WORDS
 POINT = re.compile(rb"#point (\d+) (flush|sync|event|int|fault|end)((?: " + H + rb"){3}\n" + REGISTERS + rb")")
 OUT = re.compile(rb"#out [0-9A-F]{2}\n")
+HEADING = re.compile(rb"schedule 2\n")
 EVENT = re.compile(
-    rb"at (\d+) (?:pin [0-7]|nmi|dma [0-3]|feed [0-3] (?:[0-9A-F]{2}|[0-9A-F]{4}|" + H + rb"|[0-9A-F]{32})"
+    rb"at (\d+) (?:(?:pin|low|high) [0-7]|nmi|dma [0-3]|feed [0-3] (?:[0-9A-F]{2}|[0-9A-F]{4}|" + H + rb"|[0-9A-F]{32})"
     rb"|show (" + H + rb") (\d+))\n"
 )
 MEM = re.compile(rb"#mem (" + H + rb")((?: (?:[0-9A-F]{2}|--))+)\n")
@@ -48,8 +49,8 @@ class Run:
     """The lines of a run, as they come. `end` is the kind of its end once that was read, and `final` the last drained
     point; `plain` has the text without the lines of traced instructions."""
 
-    def __init__(self, text, length, traced=None):
-        self.reader, self.length, self.traced = Reader(text), length, traced
+    def __init__(self, text, length, traced=None, version=1):
+        self.reader, self.length, self.traced, self.version = Reader(text), length, traced, version
         self.count, self.end, self.final, self.end_line, self.last = 0, None, None, None, None
         self.told, self.plain = [], []
 
@@ -99,7 +100,9 @@ class Run:
             self.reader.fail("the limit at another count")
 
     def whole(self):
-        """Reads the whole text of `run` or `trace`."""
+        """Reads the whole text of `run` or `trace`, in front of which the version stands where it is not the first."""
+        if self.version == 2:
+            self.plain.append(self.reader.need(HEADING, "line of the version")[0])
         while self.end is None and self.step():
             pass
         if self.end is None or self.reader.place != len(self.reader.text):

@@ -134,7 +134,7 @@ def some_lines(r, text):
     elif kind == 2:
         lines[k], lines[m] = lines[m], lines[k]
     elif kind == 3:
-        lines.insert(k, r.choice([b"", b" \t", b"#", b"# a comment", b"at 0 nmi", b":00000001FF", b"turn 1"]))
+        lines.insert(k, r.choice([b"", b" \t", b"#", b"# a comment", b"at 0 nmi", b":00000001FF", b"turn 1", b"schedule 2", b"at 1 low 0"]))
     else:
         lines[k] = lines[k] * r.choice([2, 100, 5000])
     return b"\n".join(lines)
