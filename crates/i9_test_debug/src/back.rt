@@ -1,7 +1,7 @@
 //! The state of a run before its first instruction; states behind others are gone to by sessions.
 ghost use Rattle.i9_tracer.specs.Closures.{TakesEachView};
 
-use i9_back::{last_change, next_stop, one_earlier_state, replay};
+use i9_back::{Trail, last_change, next_stop, one_earlier_state, replay};
 use i9_debug::last;
 use i9_hex::Segments;
 use i9_model::View;
@@ -56,6 +56,31 @@ fn begins_again(rt: HostRuntime) -> Result<(), Fail> {
     let is_there = |v: &View| v.ip == 0x1000;
     assert_eq!(rt; last_by(alloc, &image, &mut plan, is_there)?, 0);
     one_earlier_state();
+    Ok(())
+}
+
+// A trail does so from what it keeps, which is nothing yet.
+#[test]
+#[tactic(auto, using(crate::proofs::Starts::has_none))]
+fn a_trail_begins_again(rt: HostRuntime) -> Result<(), Fail> {
+    let alloc = rt.alloc();
+    let image = image_of(alloc)?;
+    let mut plan = plan_of(alloc)?;
+    let mut trail = Trail::new(alloc);
+    let mut m = trail.replay(alloc, &image, None, 100, &mut plan, 0)?;
+    assert_eq!(rt; m.view().ip, 0x1000);
+    assert_eq!(rt; plan.place(), 0);
+    trail.keep(alloc, &m, &plan, 0, 1);
+    let (again, done) = trail.nearest(alloc, &image, None, 100, &mut plan, 7)?;
+    assert_eq!(rt; again.view().ip, 0x1000);
+    assert_eq!(rt; done, 0);
+    trail.go_back(alloc, &image, None, 100, &mut m, &mut plan, 0)?;
+    assert_eq!(rt; m.view().count, 0);
+    assert!(rt;
+        trail
+            .last_change(alloc, &image, None, 100, &mut plan, 0, 0x1000)?
+            .is_none()
+    );
     Ok(())
 }
 
