@@ -40,16 +40,18 @@ MOST_TURNS = 24000
 MOST_PASSED = 1000000
 # The statuses of a session that was done: its run has not ended, or ended with a hazard and the like.
 DONE = (0, 4)
+# What stands for a register that is marked.
+MARKED = "-" * 8
 
 
 class Place:
-    """What the debugger tells at a turn (`values`, by scope and name; None is unknown), and what came up to it."""
+    """What the debugger tells at a turn (`values`, by scope and name; None is unknown or marked), and what came up to it."""
 
     def __init__(self):
         self.turn, self.values, self.events, self.console = None, {}, [], None
 
     def put(self, scope, names, words, base=16):
-        self.values.update(((scope, name), int(word, base)) for name, word in zip(names, words))
+        self.values.update(((scope, name), None if word == MARKED else int(word, base)) for name, word in zip(names, words))
 
     def take(self, word, rest):
         """Takes a line of the debugger, of which `word` is the first word."""

@@ -132,7 +132,7 @@ async function hazard() {
   await browser.evaluate("document.getElementById('schedule').value = ''; document.getElementById('schedule').onchange()");
   await settle();
   for (let n = 0; n < 20 && !/ended/.test(await notice()); n++) await press("ArrowRight");
-  check("the hazard", (await notice()).split(":").slice(0, 2).join(":"), "the run has ended: hazard 00003010");
+  check("the hazard", (await notice()).split(":").slice(0, 2).join(":"), "the run has ended: hazard 00001024");
   check("its registers", (await shown()).raw, wanted("unflushed.hex", "-", "-", "turn 100\n").raw);
   await picture("hazard");
   await press("ArrowLeft", 3);

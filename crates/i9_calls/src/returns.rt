@@ -82,7 +82,9 @@ fn controls_after(
 /// What a return makes, from the previous frame pointer with its return type, the frame pointer, and
 /// the process and arithmetic controls; or the hazard of the first access that meets one: the words
 /// of PC and AC in the record below the frame, for the return types 001 and 111, and then the
-/// frame that is returned to. After the i960 CA/CF User's Manual, returns.
+/// frame that is returned to. The marks of its words are those that were saved with it, or, where no
+/// frame is live, those of words with a soft byte. After the i960 CA/CF User's Manual, returns; marks
+/// are this project's own.
 #[tactic(auto, unfolding(i9_model::specs::Calls::ret_hazard, i9_model::specs::Calls::popped))]
 pub fn plan_ret(m: &Memory, w: &Watch, pfp: u32, fp: u32, pc: u32, ac: u32) -> Result<Pop, u32>
     ensures pop { result ≡ planned_ret (memory_of m.now) (frames_of w.now) pfp fp pc ac }
@@ -106,5 +108,6 @@ pub fn plan_ret(m: &Memory, w: &Watch, pfp: u32, fp: u32, pc: u32, ac: u32) -> R
         pc: controls.pc,
         ac: controls.ac,
         check: kind == INTERRUPT_RETURN,
+        marks: w.return_marks(frame),
     })
 }

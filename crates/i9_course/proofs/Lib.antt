@@ -20,3 +20,4 @@ pub mod Landed
 pub mod Placing
 pub mod PlainEnds
 pub mod Waiting
+pub mod NeedAgree

@@ -16,6 +16,7 @@ use Rattle.i9_model.specs.declared.run.Due.TheVariants as dues
 use Rattle.i9_model.specs.declared.run.End.TheVariants.{Limit, Imprecise}
 use Rattle.i9_model.specs.State.{State}
 use Rattle.i9_model.specs.Step.{first_word, next_word}
+use Rattle.i9_model.specs.Stale.{misuses}
 use Rattle.i9_model.specs.Access.{hazard_of, fetch_hazard}
 use Rattle.i9_model.specs.Before.{Received, choice_in, interrupt_in, received_in}
 use Rattle.i9_model.specs.Standing.{Standing, Meets, Refused, Faults, Runs, raised_in, later_fault, by_access, by_later, by_raised, by_word, by_fetch, stands_at}
@@ -45,10 +46,14 @@ raised_other : (i : Inst) (s : State) (o : Option (ℕ × ℕ)) → IsOther (by_
 raised_other i s (Some number) = tt
 raised_other i s None = later_other i s (later_fault i s)
 
+allowed_other : (b : Bool) (a : ℕ) (x : Standing) → IsOther x → IsOther (cond b (Meets a) x)
+allowed_other true a x h = tt
+allowed_other false a x h = h
+
 word_other : (s : State) (r : Result Inst BadWord) → IsOther (by_word s r)
 word_other s (Err Opcode) = λ h. absurd (omega (arith, h))
 word_other s (Err Operand) = λ h. absurd (omega (arith, h))
-word_other s (Ok i) = raised_other i s (raised_in i s)
+word_other s (Ok i) = allowed_other (misuses i s) s.ip (by_raised i s (raised_in i s)) (raised_other i s (raised_in i s))
 
 fetch_other : (s : State) (o : Option ℕ) → IsOther (by_fetch s o)
 fetch_other s (Some a) = tt

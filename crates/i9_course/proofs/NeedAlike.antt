@@ -19,13 +19,12 @@ use Rattle.i9_model.specs.Branches.{is_taken}
 use Rattle.i9_model.specs.Operands.{value}
 use Rattle.i9_model.specs.Tracing.{trace_of}
 use Rattle.i9_model.specs.Step.{Action, Message, AsksNothing, AsksCheck, AsksInterrupt, AsksRestart, AsksGroup, moving, asked_message, message_action, action_by_name, action_by, action_of, flagged, moved, acted}
-use Rattle.i9_model.specs.Access.{Access, access_of, data_of}
+use Rattle.i9_model.specs.Access.{Access, message_access, access_by_name, access_by, access_of, data_of}
 use Rattle.i9_model.specs.Traced.{switches, seen_of, trace_left, traced_action}
 use Rattle.i9_model.specs.Alike.{with_other, with_memory, AreAlike, AreNextAlike}
 use Rattle.i9_model.specs.HeldFrames.{Cache, sets_in}
 use Rattle.i9_model.specs.Run.{Next, Does, Ends, Kind, Instruction, Faulted, Entered, Interrupted, Reached}
 use Rattle.i9_model.specs.Needs.{is_barrier_name, inst_need, writes_sfr}
-use Rattle.i9_model.proofs.AlikeFetches.{access_same}
 use Rattle.i9_model.proofs.Untraced.{action_untraced}
 use Rattle.i9_course.specs.NeedOf.{moved_frames, touches_port, access_waits, facts_of, is_early, need_of, need_ahead}
 
@@ -59,6 +58,26 @@ action_frames n c i s bytes = by_transfer (transfer_of i.op)
         → moved_frames n c (action_by o i (with_memory s bytes)).move ≡ moved_frames n c (action_by o i s).move
     by_transfer (Some t) = moving_frames n c t.direction t.size t.signed i s (with_memory s bytes)
     by_transfer None = name_frames n c i.op i s bytes
+
+-- ---- nor does the access
+
+message_access_same : (m : Message) (i : Inst) (s : State) (bytes : ℕ → ℕ) → message_access m i (with_memory s bytes) ≡ message_access m i s
+message_access_same AsksNothing i s bytes = refl
+message_access_same AsksCheck i s bytes = refl
+message_access_same AsksInterrupt i s bytes = refl
+message_access_same AsksRestart i s bytes = refl
+message_access_same AsksGroup i s bytes = refl
+
+name_access_same : (op : Op) (i : Inst) (s : State) (bytes : ℕ → ℕ) → access_by_name op i (with_memory s bytes) ≡ access_by_name op i s
+name_access_same Sysctl i s bytes = message_access_same (asked_message i s) i s bytes
+name_access_same _ i s bytes = refl
+
+access_same : (i : Inst) (s : State) (bytes : ℕ → ℕ) → access_of i (with_memory s bytes) ≡ access_of i s
+access_same i s bytes = by_transfer (transfer_of i.op)
+  where
+    by_transfer : (o : Option Transfer) → access_by o i (with_memory s bytes) ≡ access_by o i s
+    by_transfer (Some t) = refl
+    by_transfer None = name_access_same i.op i s bytes
 
 -- ---- nor do the trace events of what is no barrier by its name
 
@@ -123,7 +142,7 @@ trace_same i s bytes h =
 
 -- ---- the facts of an instruction
 
-waits_same : (s : State) (bytes : ℕ → ℕ) (x : Access)
+pub waits_same : (s : State) (bytes : ℕ → ℕ) (x : Access)
     → access_waits (with_other s.memory bytes) x ≡ access_waits s.memory x
 waits_same s bytes (Access.Reads a n) = refl
 waits_same s bytes (Access.Writes a n) = refl

@@ -2,7 +2,7 @@
 
 ghost use Rattle.std.specs.List.{slice_get};
 ghost use Rattle.i9_model.specs.declared.event.Event.{Event};
-ghost use Rattle.std.specs.Prelude.{◌≡◌, ◌≢◌, ◌<◌, ◌≤◌, ◌↔◌, ◌*◌, ◌∷◌, [], length, max, ℕ, List, Option, Some, None, IsTrue};
+ghost use Rattle.std.specs.Prelude.{◌≡◌, ◌≢◌, ◌<◌, ◌≤◌, ◌↔◌, ◌*◌, ◌∷◌, [], length, max, ℕ, Bool, List, Option, Some, None, IsTrue};
 ghost use Rattle.i9_isa.specs.declared.inst.Inst.{Inst};
 ghost use Rattle.i9_model.specs.declared.faults.TheConstants.{ARITHMETIC};
 ghost use Rattle.i9_model.specs.declared.layout.TheConstants.{FRAME_SIZE};
@@ -10,7 +10,7 @@ ghost use Rattle.i9_model.specs.declared.faults.Fault.{Fault};
 ghost use Rattle.i9_model.specs.declared.run.End.{End};
 ghost use Rattle.i9_model.specs.Memory.{stored};
 ghost use Rattle.i9_model.specs.State.{State, boot};
-ghost use Rattle.i9_model.specs.Alike.{AreAlike, AreNextAlike};
+ghost use Rattle.i9_model.specs.Alike.{AreAlike, AreNextAlike, NextsAgree};
 ghost use Rattle.i9_model.specs.HeldFrames.{Cache, AreWhole, cache_after};
 ghost use Rattle.i9_model.specs.Marks.{marked};
 ghost use Rattle.i9_model.specs.Step.{Move, Returns};
@@ -140,4 +140,9 @@ pub fn events_wait_for_their_turn()
         → slice_get g.plan (length (reached_after (records_of h))) ≡ Some (timed_by_turn n e)
         → (ahead g h).imprecise ≡ None → (ahead g h).next ≡ Does r → reached_by r.kind r.before ≢ []
         → n ≤ (ahead g h).turn }
+{}
+
+/// What comes next needs the same in states that agree, whatever is read at soft bytes.
+pub fn agreeing_states_need_alike()
+    ensures { (hides : Bool) (asked : Option ℕ) (c : Cache) (o p : Next) → NextsAgree hides o p → need_ahead asked c p ≡ need_ahead asked c o }
 {}

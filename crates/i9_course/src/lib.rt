@@ -11,9 +11,9 @@ pub use late_laws::{
 };
 pub use laws::{
     a_course_begins, a_course_settles, a_mark_is_set, a_record_issues, a_turn_moves,
-    alike_states_need_alike, barriers_wait_for_all, courses_are_orderly,
-    events_wait_for_their_turn, nothing_issues_earlier, overtaken_faults_are_imprecise,
-    what_waits_settles, written_frames_are_counted,
+    agreeing_states_need_alike, alike_states_need_alike, barriers_wait_for_all,
+    courses_are_orderly, events_wait_for_their_turn, nothing_issues_earlier,
+    overtaken_faults_are_imprecise, what_waits_settles, written_frames_are_counted,
 };
 pub use machine_laws::{
     a_check_waits_for_all, memory_acts_at_once, needs_cover_actions, needs_take_turns,

@@ -1,5 +1,5 @@
 -- The printed texts whose last line has its line feed.
-use Rattle.std.proofs.Common.{ℕ, List, [], ◌∷◌, ◌++◌, take, drop, codes, flat_map, Option, Some, None, sym, subst}
+use Rattle.std.proofs.Common.{ℕ, List, [], ◌∷◌, ◌++◌, codes, flat_map, Option, Some, None, sym, subst}
 use Rattle.std.specs.Fmt.{decimal}
 use Rattle.std.specs.List.{AllByRecursion}
 use Rattle.i9_model.specs.declared.view.View.{View}
@@ -13,23 +13,20 @@ use Rattle.i9_machine.specs.Turned.{steps_on}
 use Rattle.i9_script.specs.declared.command.Command.{Command}
 use Rattle.i9_script.specs.declared.command.Command.TheVariants as commands
 use Rattle.i9_debug.specs.Print.{IsLine, line_text}
-use Rattle.i9_debug.specs.Session.{Place, TurnsTo, turns_pass, turns_end, ComesTo, comes, none_comes, Stays, UnlessOver, Runs, ending_lines, registers_text, view_text, raw_text, told, Answers, IsText, no_command, next_command}
+use Rattle.i9_debug.specs.Session.{Place, TurnsTo, turns_pass, turns_end, ComesTo, comes, none_comes, Stays, UnlessOver, Runs, ending_lines, view_text, raw_text, told, Answers, IsText, no_command, next_command}
 use Rattle.i9_debug.specs.Driven.{CutInRun, behind_step, behind_end}
 use Rattle.i9_debug.proofs.TextLines.{IsClosed, closed_none, closed_line, closed_join}
 use Rattle.i9_debug.proofs.LineCounts.{line-out, line-point, line-event, line-bytes, line-end, line-turn, line-view, line-raw, line-raw_globals, line-raw_locals, line-held, line-raw_bytes, line-who, line-globals, line-locals}
 
 -- ---- what is shown of a run
 
--- a line and those of registers
-closed_registers : (first globals locals regs : List ℕ) → IsLine first → ((ws : List ℕ) → IsLine (words_text globals ws))
-    → ((ws : List ℕ) → IsLine (words_text locals ws)) → IsClosed (first ++ registers_text globals locals regs)
-closed_registers first globals locals regs h g l =
-    closed_join first (registers_text globals locals regs) (closed_line first h)
-    (closed_join _ _ (closed_line _ (g (drop 16 regs))) (closed_line _ (l (take 16 regs))))
+-- a line and two more
+closed_three : (x y z : List ℕ) → IsLine x → IsLine y → IsLine z → IsClosed (x ++ (y ++ z))
+closed_three x y z h k l = closed_join x (y ++ z) (closed_line x h) (closed_join y z (closed_line y k) (closed_line z l))
 
 closed_shown : (s : Shown) → IsClosed (shown_text s)
 closed_shown (Out b) = closed_line _ (line-out b)
-closed_shown (Drained k v) = closed_registers (point_text k v) (codes "#g") (codes "#l") v.regs (line-point k v) line-globals line-locals
+closed_shown (Drained k v) = closed_three (point_text k v) _ _ (line-point k v) (line-globals v) (line-locals v)
 closed_shown (Journal k e) = closed_line _ (line-event k e)
 closed_shown (Bytes a bs) = closed_line _ (line-bytes a bs)
 closed_shown (Last f) = closed_line _ (line-end f)
@@ -80,14 +77,14 @@ module _ (g : Given) where
   closed_view : (v : View) → IsClosed (view_text v)
   unfolding view_text
   closed_view v =
-      closed_registers (words_text (codes "#view " ++ decimal v.count) (v.ip ∷ v.ac ∷ v.pc ∷ [])) (codes "#g") (codes "#l") v.regs
-      (line-view v.count (v.ip ∷ v.ac ∷ v.pc ∷ [])) line-globals line-locals
+      closed_three (words_text (codes "#view " ++ decimal v.count) (v.ip ∷ v.ac ∷ v.pc ∷ [])) _ _
+      (line-view v.count (v.ip ∷ v.ac ∷ v.pc ∷ [])) (line-globals v) (line-locals v)
 
   closed_raw : (raw : Raw) → IsClosed (raw_text raw)
   unfolding raw_text
   closed_raw raw =
-      closed_registers (words_text (codes "#raw " ++ decimal raw.turn) (raw.busy ∷ [])) (codes "#rg") (codes "#rl") raw.regs
-      (line-raw raw.turn (raw.busy ∷ [])) line-raw_globals line-raw_locals
+      closed_three (words_text (codes "#raw " ++ decimal raw.turn) (raw.busy ∷ [])) _ _
+      (line-raw raw.turn (raw.busy ∷ [])) (line-raw_globals _) (line-raw_locals _)
 
   -- what is told there
   closed_told : (h : List Item) (t : ℕ) (c : Command) → IsClosed (told g h t c)

@@ -1,16 +1,18 @@
 -- Each printed line has one line feed, which is its last byte.
-use Rattle.std.proofs.Common.{◌≡◌, ℕ, ◌≤◌, length, true, false, List, [], ◌∷◌, ◌++◌, Option, Some, None, eqb, codes, refl, arith}
+use Rattle.std.proofs.Common.{◌≡◌, ℕ, ◌≤◌, length, Bool, true, false, cond, List, [], ◌∷◌, ◌++◌, slice_index, Option, Some, None, eqb, codes, refl, arith}
 use Rattle.std.specs.List.{flat_map}
 use Rattle.std.specs.Fmt.{decimal}
 use Rattle.std.proofs.lemmas.Bool.{and_parts}
-use Rattle.i9_text.specs.Written.{byte_text}
+use Rattle.std.specs.List.{range_with_len}
+use Rattle.i9_isa.specs.Words.{bit}
+use Rattle.i9_text.specs.Written.{byte_text, word_text}
 use Rattle.i9_text.proofs.WrittenLines.{is_plain_byte, is_plain, plain-append, plain-decimal, plain-word_text, plain-byte_text}
 use Rattle.i9_model.specs.declared.view.View.{View}
 use Rattle.i9_model.specs.declared.run.Point.{Point}
 use Rattle.i9_model.specs.declared.run.Point.TheVariants as points
 use Rattle.i9_model.specs.declared.run.End.{End}
 use Rattle.i9_model.specs.declared.run.End.TheVariants.{Exit, Limit, Hazard, Dead, Imprecise}
-use Rattle.i9_model.specs.PrintedText.{out_text, spaced, spaced_byte, words_text, drained_text, point_text, event_text, bytes_text, end_text}
+use Rattle.i9_model.specs.PrintedText.{out_text, spaced, spaced_byte, spaced_register, words_text, registers_text, drained_text, point_text, event_text, bytes_text, end_text}
 use Rattle.i9_model.specs.declared.event.Event.{Event}
 use Rattle.i9_model.specs.Events.{journal_text}
 use Rattle.i9_model.proofs.ReadBack.{journal_plain}
@@ -113,11 +115,30 @@ line-generated number count events f =
     let taken = plain_number (codes "#gen " ++ decimal number ++ codes " " ++ decimal count ++ codes " ") events counted in
     after_plain (codes "#gen " ++ decimal number ++ codes " " ++ decimal count ++ codes " " ++ decimal events ++ codes " ") (ending f) taken (line-ending f)
 
-pub line-globals : (ws : List ℕ) → IsLine (words_text (codes "#g") ws)
-line-globals ws = line-words (codes "#g") ws refl
+-- a register, or eight dashes
+plain_register : (v : View) (r : ℕ) → is_plain (spaced_register v r) ≡ true
+plain_register v r = by_mark (bit v.marks r)
+  where
+    by_mark : (t : Bool) → is_plain (cond t (codes " --------") (spaced (slice_index v.regs r))) ≡ true
+    by_mark true = refl
+    by_mark false = plain-append (codes " ") (word_text (slice_index v.regs r)) refl (plain-word_text (slice_index v.regs r))
 
-pub line-locals : (ws : List ℕ) → IsLine (words_text (codes "#l") ws)
-line-locals ws = line-words (codes "#l") ws refl
+plain_registers : (v : View) (rs : List ℕ) → is_plain (flat_map (spaced_register v) rs) ≡ true
+plain_registers v [] = refl
+plain_registers v (r ∷ rs) = plain-append (spaced_register v r) (flat_map (spaced_register v) rs) (plain_register v r) (plain_registers v rs)
+
+line-registers : (label : List ℕ) (v : View) (first : ℕ) → is_plain label ≡ true → IsLine (registers_text label v first)
+unfolding registers_text
+line-registers label v first h =
+    let rs = range_with_len first 16 in
+    after_plain (label ++ flat_map (spaced_register v) rs) (10 ∷ [])
+    (plain-append label (flat_map (spaced_register v) rs) h (plain_registers v rs)) refl
+
+pub line-globals : (v : View) → IsLine (registers_text (codes "#g") v 16)
+line-globals v = line-registers (codes "#g") v 16 refl
+
+pub line-locals : (v : View) → IsLine (registers_text (codes "#l") v 0)
+line-locals v = line-registers (codes "#l") v 0 refl
 
 -- what was refused, by a plain name
 pub line-refused : (what : List ℕ) (fault : ℕ × ℕ) → is_plain what ≡ true → IsLine (refused_line what fault)

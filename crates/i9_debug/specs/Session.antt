@@ -7,7 +7,7 @@ use Rattle.i9_model.specs.declared.run.End.{End}
 use Rattle.i9_model.specs.declared.view.View.{View}
 use Rattle.i9_model.specs.HeldFrames.{sets_in, cache_after}
 use Rattle.i9_model.specs.Late.{turns as late_turns}
-use Rattle.i9_model.specs.PrintedText.{Shown, view_of, lines_of, end_lines, text_of, overlays, words_text, bytes_text, spaced, spaced_byte, line_feed}
+use Rattle.i9_model.specs.PrintedText.{Shown, view_of, lines_of, end_lines, text_of, overlays, words_text, bytes_text, spaced, spaced_byte, line_feed, registers_text}
 use Rattle.i9_model.specs.Run.{Given, Record, counts_of, state_after, Finish}
 use Rattle.i9_model.specs.State.{State, boot}
 use Rattle.i9_model.specs.Turns.{last_issue}
@@ -140,9 +140,9 @@ Runs g (commands.Who a) p shown q = Stays p shown q
 
 -- ---- what is told at a place
 
--- a label in front of the global and of the local registers
-abbrev pub registers_text : List ℕ → List ℕ → List ℕ → List ℕ
-registers_text globals locals regs = words_text globals (drop 16 regs) ++ words_text locals (take 16 regs)
+-- the global and the local registers of a view, with dashes for those that are marked
+abbrev pub view_registers : View → List ℕ
+view_registers v = registers_text (codes "#g") v 16 ++ registers_text (codes "#l") v 0
 
 -- the turn, and how many instructions have issued
 unfoldable pub turn_text : ℕ → ℕ → List ℕ
@@ -151,11 +151,13 @@ turn_text t k = codes "#turn " ++ decimal t ++ codes " " ++ decimal k ++ line_fe
 -- the count, the address, AC and PC of a view, and its registers
 unfoldable pub view_text : View → List ℕ
 view_text v =
-    words_text (codes "#view " ++ decimal v.count) (v.ip ∷ v.ac ∷ v.pc ∷ []) ++ registers_text (codes "#g") (codes "#l") v.regs
+    words_text (codes "#view " ++ decimal v.count) (v.ip ∷ v.ac ∷ v.pc ∷ []) ++ view_registers v
 
 -- the turn, which registers are busy, and the registers as they stand
 unfoldable pub raw_text : Raw → List ℕ
-raw_text raw = words_text (codes "#raw " ++ decimal raw.turn) (raw.busy ∷ []) ++ registers_text (codes "#rg") (codes "#rl") raw.regs
+raw_text raw =
+    words_text (codes "#raw " ++ decimal raw.turn) (raw.busy ∷ [])
+    ++ (words_text (codes "#rg") (drop 16 raw.regs) ++ words_text (codes "#rl") (take 16 raw.regs))
 
 -- how many sets there are, how many of them hold a frame, and the addresses to which these frames are saved; frames are
 -- given the oldest first, and told the youngest first

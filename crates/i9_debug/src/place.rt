@@ -8,10 +8,12 @@ ghost use Rattle.i9_course.specs.Course.{Item, records_of};
 ghost use Rattle.i9_machine.specs.StandsFor.{StandsFor};
 ghost use Rattle.i9_script.specs.declared.command.Command.TheVariants as command;
 ghost use Rattle.i9_debug.specs.Print.{IsLine, AreLines};
-ghost use Rattle.i9_debug.specs.Session.{turn_text, registers_text, view_text, raw_text, held_text, raw_bytes_text, raw_bytes, who_text, told};
+ghost use Rattle.i9_debug.specs.Session.{turn_text, view_text, raw_text, held_text, raw_bytes_text, raw_bytes, who_text, told};
 ghost use Rattle.i9_debug.specs.Driven.{change_for};
 
-use crate::text::{add_bytes, add_count, add_word, bytes_line, one, words_line};
+use crate::text::{
+    add_bytes, add_count, add_word, bytes_line, one, three, with_registers, words_line,
+};
 use i9_frames::Sets;
 use i9_machine::{Machine, Raw};
 use i9_model::View;
@@ -31,28 +33,6 @@ fn turn_line(alloc: Global, turn: u64, count: u64) -> Result<Vec<u8>, AllocError
     Ok(text)
 }
 
-/// A line, and behind it those of the global and of the local registers, under these labels.
-fn register_lines(
-    alloc: Global,
-    first: Vec<u8>,
-    globals: &[u8],
-    locals: &[u8],
-    regs: &[u32; 32],
-) -> Result<Vec<Vec<u8>>, AllocError>
-    requires first { IsLine first.items }
-    requires globals { (ws : List ℕ) → IsLine (words_text globals.now ws) }
-    requires locals { (ws : List ℕ) → IsLine (words_text locals.now ws) }
-    ensures lines { IfOk result (λ ts. AreLines ts.items) }
-    ensures text { IfOk result (λ ts. flat_map (λ t. t.items) ts.items ≡ first.items ++ registers_text globals.now locals.now regs.now) }
-{
-    let (first_half, second_half) = regs.split_at(16);
-    let mut lines = Vec::new(alloc);
-    lines.push(first)?;
-    lines.push(words_line(alloc, globals, second_half)?)?;
-    lines.push(words_line(alloc, locals, first_half)?)?;
-    Ok(lines)
-}
-
 /// The lines of a view.
 #[tactic(auto, using(crate::proofs::LineCounts::place_rules), unfolding(crate::specs::Session::view_text))]
 fn view_lines(alloc: Global, view: &View) -> Result<Vec<Vec<u8>>, AllocError>
@@ -62,7 +42,7 @@ fn view_lines(alloc: Global, view: &View) -> Result<Vec<Vec<u8>>, AllocError>
     let mut label = Vec::from_slice(alloc, b"#view ")?;
     add_count(alloc, &mut label, view.count)?;
     let first = words_line(alloc, &label, &[view.ip, view.ac, view.pc])?;
-    register_lines(alloc, first, b"#g", b"#l", &view.regs)
+    with_registers(alloc, first, view)
 }
 
 /// The lines of a raw state.
@@ -73,8 +53,11 @@ fn raw_lines(alloc: Global, raw: &Raw) -> Result<Vec<Vec<u8>>, AllocError>
 {
     let mut label = Vec::from_slice(alloc, b"#raw ")?;
     add_count(alloc, &mut label, raw.turn)?;
+    let (locals, globals) = raw.regs.split_at(16);
     let first = words_line(alloc, &label, &[raw.busy])?;
-    register_lines(alloc, first, b"#rg", b"#rl", &raw.regs)
+    let globals = words_line(alloc, b"#rg", globals)?;
+    let locals = words_line(alloc, b"#rl", locals)?;
+    three(alloc, first, globals, locals)
 }
 
 /// The addresses to which the frames that are held are saved, the youngest first.

@@ -5,9 +5,11 @@ ghost use Rattle.std.specs.List.{flat_map};
 ghost use Rattle.i9_text.specs.Written.{word_text, byte_text};
 ghost use Rattle.i9_model.specs.PrintedText.{out_text, event_text, drained_text, point_text, point_shown, bytes_text};
 ghost use Rattle.i9_model.specs.PrintedText.{end_text, shown_text, words_text, spaced, spaced_byte, line_feed};
+ghost use Rattle.i9_model.specs.PrintedText.{spaced_register, registers_text};
 ghost use Rattle.i9_machine.specs.Line.{shown_of};
 ghost use Rattle.i9_debug.specs.Print.{IsLine, AreLines};
 ghost use Rattle.i9_debug.specs.Lines.{elf_line, generated_line, refused_line};
+ghost use Rattle.i9_debug.specs.Session.{view_registers};
 
 use i9_machine::{End, Line, Point};
 use i9_model::{Event, View};
@@ -128,6 +130,72 @@ pub(crate) fn words_line(alloc: Global, label: &[u8], words: &[u32]) -> Result<V
     Ok(text)
 }
 
+/// Appends a register after a space: its value, or eight dashes where it is marked.
+fn add_register(alloc: Global, text: &mut Vec<u8>, view: &View, r: usize) -> Result<(), AllocError>
+    requires { r < 32 }
+    ensures { OnOk result (text.new.items ≡ text.old.items ++ spaced_register view.now r) }
+{
+    if (view.marks >> r) % 2 == 1 {
+        return text.extend_from_slice(b" --------");
+    }
+    text.push(b' ')?;
+    add_word(alloc, text, view.regs[r])
+}
+
+/// A label, and sixteen registers of a view from one on.
+fn registers_line(
+    alloc: Global,
+    label: &[u8],
+    view: &View,
+    first: usize,
+) -> Result<Vec<u8>, AllocError>
+    requires { first ≤ 16 }
+    ensures { IfOk result (λ t. t.items ≡ registers_text label.now view.now first) }
+{
+    let mut text = Vec::from_slice(alloc, label)?;
+    for k in 0..16 {
+        add_register(alloc, &mut text, view, first + k)?;
+    }
+    text.push(b'\n')?;
+    Ok(text)
+}
+
+/// Three texts.
+pub(crate) fn three(
+    alloc: Global,
+    first: Vec<u8>,
+    second: Vec<u8>,
+    third: Vec<u8>,
+) -> Result<Vec<Vec<u8>>, AllocError>
+    requires first { IsLine first.items }
+    requires second { IsLine second.items }
+    requires third { IsLine third.items }
+    ensures lines { IfOk result (λ ts. AreLines ts.items) }
+    ensures text { IfOk result (λ ts. flat_map (λ t. t.items) ts.items ≡ first.items ++ (second.items ++ third.items)) }
+{
+    let mut lines = Vec::new(alloc);
+    lines.push(first)?;
+    lines.push(second)?;
+    lines.push(third)?;
+    Ok(lines)
+}
+
+/// A line, and behind it those of the global and of the local registers of a view.
+#[tactic(auto, using(crate::proofs::LineCounts::line_rules))]
+pub(crate) fn with_registers(
+    alloc: Global,
+    first: Vec<u8>,
+    view: &View,
+) -> Result<Vec<Vec<u8>>, AllocError>
+    requires first { IsLine first.items }
+    ensures lines { IfOk result (λ ts. AreLines ts.items) }
+    ensures text { IfOk result (λ ts. flat_map (λ t. t.items) ts.items ≡ first.items ++ view_registers view.now) }
+{
+    let globals = registers_line(alloc, b"#g", view, 16)?;
+    let locals = registers_line(alloc, b"#l", view, 0)?;
+    three(alloc, first, globals, locals)
+}
+
 /// The first line of a drained point.
 #[tactic(auto, unfolding(i9_model::specs::PrintedText::point_text))]
 fn point_line(alloc: Global, kind: Point, view: &View) -> Result<Vec<u8>, AllocError>
@@ -201,12 +269,7 @@ fn point_lines(alloc: Global, kind: Point, view: &View) -> Result<Vec<Vec<u8>>, 
     ensures lines { IfOk result (λ ts. AreLines ts.items) }
     ensures text { IfOk result (λ ts. flat_map (λ t. t.items) ts.items ≡ point_shown kind view.now) }
 {
-    let (locals, globals) = view.regs.split_at(16);
-    let mut lines = Vec::new(alloc);
-    lines.push(point_line(alloc, kind, view)?)?;
-    lines.push(words_line(alloc, b"#g", globals)?)?;
-    lines.push(words_line(alloc, b"#l", locals)?)?;
-    Ok(lines)
+    with_registers(alloc, point_line(alloc, kind, view)?, view)
 }
 
 /// What is printed of a line: one text for each call of the sink.

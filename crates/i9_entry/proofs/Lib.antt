@@ -1,1 +1,2 @@
 pub mod SavedRecords
+pub mod Switching

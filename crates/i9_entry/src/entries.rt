@@ -2,12 +2,14 @@
 ghost use Rattle.std.specs.Prelude.{◌≡◌, ◌%◌, ◌<◌, ◌⊎◌, None, IfOk};
 ghost use Rattle.i9_model.specs.declared.layout.TheConstants.{PC_MASK};
 ghost use Rattle.i9_model.specs.Frames.{rounded_down};
-ghost use Rattle.i9_model.specs.Hazards.{save_hazard, unless};
-ghost use Rattle.i9_model.specs.Calls.{is_switch, entered_here, entered_switched, planned_system};
+ghost use Rattle.i9_model.specs.Hazards.{read_hazard, save_hazard, unless};
+ghost use Rattle.i9_model.specs.Memory.{word_in};
+ghost use Rattle.i9_model.specs.Calls.{entry_address, stack_address, is_switch, entered_here, entered_switched, planned_system};
 ghost use Rattle.i9_memory.specs.Memory.{memory_of};
 ghost use Rattle.i9_watch.specs.Watch.{frames_of};
 ghost use Rattle.i9_model.specs.Numbers.{IsWithin};
 ghost use Rattle.i9_entry.specs.Kinds.{kind_by};
+ghost use Rattle.i9_entry.specs.Switches.{system_switch};
 
 use crate::controls::{in_supervisor_mode, trace_enable, with_supervisor};
 use crate::words::{WORD_SIZE, aligned, read_word};
@@ -87,6 +89,38 @@ fn enter_switched(
     })
 }
 
+/// The word of procedure `n` in the system procedure table at `table`.
+fn procedure_word(m: &Memory, w: &Watch, table: u32, n: u32) -> Result<u32, u32>
+    ensures { result ≡ unless (read_hazard (frames_of w.now) (entry_address table n) 4)
+        (word_in (memory_of m.now) (entry_address table n)) }
+{
+    let offset = SYSTEM_TABLE_ENTRIES.wrapping_add(n.wrapping_mul(WORD_SIZE));
+    read_word(m, w, table.wrapping_add(offset))
+}
+
+/// The supervisor stack word of the system procedure table at `table`.
+fn stack_word(m: &Memory, w: &Watch, table: u32) -> Result<u32, u32>
+    ensures { result ≡ unless (read_hazard (frames_of w.now) (stack_address table) 4)
+        (word_in (memory_of m.now) (stack_address table)) }
+{
+    read_word(m, w, table.wrapping_add(SUPERVISOR_STACK))
+}
+
+/// Whether the entry of procedure `n` of the system procedure table at `table` switches stacks, by
+/// the process controls. `Err` is the hazard of the first read that meets one: the procedure's word
+/// in the table, the supervisor stack word where stacks are switched. After the i960 CA/CF User's
+/// Manual, system calls.
+pub fn system_switches(m: &Memory, w: &Watch, table: u32, n: u32, pc: u32) -> Result<bool, u32>
+    ensures { result ≡ system_switch (memory_of m.now) (frames_of w.now) table n pc }
+{
+    let entry = procedure_word(m, w, table, n)?;
+    let is_switched = is_switch(entry, pc);
+    if is_switched {
+        let _stack = stack_word(m, w, table)?;
+    }
+    Ok(is_switched)
+}
+
 /// What the entry of procedure `n` of the system procedure table at `table` makes, from the process
 /// controls and the frame and stack pointers; whether there is such a procedure is for the caller to
 /// know. The new frame is above a record of `extra` bytes, 0 or 16; its return type, the low three
@@ -122,11 +156,10 @@ pub fn enter_system(
     // No bit of PC is set that is not kept.
     ensures kept { IsWithin PC_MASK pc → IfOk result (λ s. IsWithin PC_MASK s.pc) }
 {
-    let offset = SYSTEM_TABLE_ENTRIES.wrapping_add(n.wrapping_mul(WORD_SIZE));
-    let entry = read_word(m, w, table.wrapping_add(offset))?;
+    let entry = procedure_word(m, w, table, n)?;
     if !is_switch(entry, pc) {
         return enter_here(w, entry, pc, fp, sp, extra, kind_here);
     }
-    let stack = read_word(m, w, table.wrapping_add(SUPERVISOR_STACK))?;
+    let stack = stack_word(m, w, table)?;
     enter_switched(w, entry, stack, pc, fp, extra, kind_switched)
 }

@@ -8,7 +8,7 @@ mod records;
 mod words;
 
 pub use controls::{in_supervisor_mode, trace_enable, without_supervisor};
-pub use entries::{enter_here, enter_system};
+pub use entries::{enter_here, enter_system, system_switches};
 pub use i9_model::{Push, Sys};
 pub use records::record_write_hazard;
 pub use words::{WORD_SIZE, aligned, read_word};

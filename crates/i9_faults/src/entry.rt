@@ -1,13 +1,15 @@
 //! The entry of a fault.
 ghost use Rattle.std.specs.Prelude.{◌≡◌, ◌%◌, None, IfOk};
 ghost use Rattle.i9_model.specs.Hazards.{save_hazard};
-ghost use Rattle.i9_model.specs.Faults.{without_trace, fault_record, planned_frame, planned_fault};
+ghost use Rattle.i9_model.specs.Calls.{save_area};
+ghost use Rattle.i9_model.specs.Faults.{without_trace, fault_record, table_entry, planned_frame, planned_fault};
 ghost use Rattle.i9_model.specs.Hazards.{record_write_hazard};
 ghost use Rattle.i9_memory.specs.Memory.{memory_of};
 ghost use Rattle.i9_watch.specs.Watch.{frames_of};
+ghost use Rattle.i9_faults.specs.Switches.{handler_switch, fault_switch};
 
 use crate::handlers::plan_handler;
-use i9_entry::{enter_here, enter_system, record_write_hazard};
+use i9_entry::{enter_here, enter_system, record_write_hazard, system_switches};
 use i9_memory::Memory;
 use i9_model::faults::{FAULT_ENTRY_SIZE, TRACE_MASK};
 use i9_model::layout::{FAULT_RETURN, RECORD_SIZE};
@@ -15,7 +17,7 @@ use i9_model::{Entry, Fault, FaultStop, Handler, Sys};
 use i9_watch::Watch;
 
 /// A handler is entered above a record, with the return type of a fault.
-#[tactic(auto, unfolding(i9_model::specs::Faults::planned_frame, i9_model::specs::Calls::system_entered))]
+#[tactic(auto, unfolding(i9_model::specs::Faults::planned_frame, i9_model::specs::Calls::system_hazard, i9_model::specs::Calls::system_entered))]
 fn enter_handler(
     m: &Memory,
     w: &Watch,
@@ -25,7 +27,8 @@ fn enter_handler(
     fp: u32,
     sp: u32,
 ) -> Result<Sys, u32>
-    ensures sys { result ≡ planned_frame (memory_of m.now) (frames_of w.now) system pc fp sp handler }
+    ensures sys { result ≡ planned_frame (memory_of m.now) (frames_of w.now) system pc fp sp
+        (save_area (frames_of w.now) fp) handler }
     ensures free { IfOk result (λ s. save_hazard (frames_of w.now) s.push.save ≡ None) }
     ensures aligned { IfOk result (λ s. s.push.save % 16 ≡ 0) }
     ensures above { IfOk result (λ s. s.push.frame % 16 ≡ 0) }
@@ -62,6 +65,49 @@ fn fault_record(f: &Fault, pc: u32, ac: u32) -> [u32; 4]
     [pc, ac, number, f.address]
 }
 
+/// Where the fault table at `table` has the entry of a fault.
+fn entry_of(table: u32, f: &Fault) -> u32
+    ensures { result ≡ table_entry table f.now.kind }
+{
+    table.wrapping_add(FAULT_ENTRY_SIZE * u32::from(f.kind))
+}
+
+/// Whether a handler is entered with a switch of stacks.
+fn handler_switches(
+    m: &Memory,
+    w: &Watch,
+    system: u32,
+    pc: u32,
+    handler: Handler,
+) -> Result<bool, u32>
+    ensures { result ≡ handler_switch (memory_of m.now) (frames_of w.now) system pc handler }
+{
+    match handler {
+        Handler::Local(_) => Ok(false),
+        Handler::System(n) => system_switches(m, w, system, n, pc),
+    }
+}
+
+/// Whether the entry of a fault switches stacks, from the addresses of the fault table and of the
+/// system procedure table, and the process controls. `Err` is what stops it before its push: the
+/// hazard of the entry's two words; a dead entry; the hazard of the procedure's word in its table,
+/// and of the supervisor stack word where stacks are switched. After the i960 CA/CF User's Manual,
+/// faults.
+#[tactic(auto, unfolding(crate::specs::Switches::fault_switch))]
+pub fn fault_switches(
+    m: &Memory,
+    w: &Watch,
+    table: u32,
+    system: u32,
+    f: &Fault,
+    pc: u32,
+) -> Result<bool, FaultStop>
+    ensures { result ≡ fault_switch (memory_of m.now) (frames_of w.now) table system f.now pc }
+{
+    let handler = plan_handler(m, w, entry_of(table, f))?;
+    handler_switches(m, w, system, pc, handler).map_err(FaultStop::Hazard)
+}
+
 /// What the entry of a fault makes, from the addresses of the fault table and of the system
 /// procedure table, the process and arithmetic controls, and the frame and stack pointers (i960
 /// CA/CF User's Manual, faults; the layout of the record is this project's own). The fault table has
@@ -73,7 +119,7 @@ fn fault_record(f: &Fault, pc: u32, ac: u32) -> [u32; 4]
 /// `Err` is what comes first: the hazard of the entry's two words; a dead entry; the hazard of the
 /// procedure's word in its table, of the supervisor stack word where stacks are switched, of the
 /// save area, and of the record, which is written once the frame is saved.
-#[tactic(auto, unfolding(i9_model::specs::Faults::planned_fault))]
+#[tactic(auto, unfolding(i9_model::specs::Faults::planned_fault_by))]
 pub fn plan_fault(
     m: &Memory,
     w: &Watch,
@@ -94,8 +140,7 @@ pub fn plan_fault(
     // And the record can be written below the new one.
     ensures record { IfOk result (λ e. record_write_hazard (frames_of w.now) e.push ≡ None) }
 {
-    let at = table.wrapping_add(FAULT_ENTRY_SIZE * u32::from(f.kind));
-    let handler = plan_handler(m, w, at)?;
+    let handler = plan_handler(m, w, entry_of(table, f))?;
     let sys = enter_handler(m, w, system, handler, pc, fp, sp).map_err(FaultStop::Hazard)?;
     if let Some(hazard) = record_write_hazard(w, sys.push) {
         return Err(FaultStop::Hazard(hazard));

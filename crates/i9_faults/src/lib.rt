@@ -6,6 +6,6 @@ mod entry;
 mod handlers;
 mod raised;
 
-pub use entry::plan_fault;
+pub use entry::{fault_switches, plan_fault};
 pub use i9_model::{Entry, Fault, FaultStop, Push};
 pub use raised::{is_unaligned, raises};

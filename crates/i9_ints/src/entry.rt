@@ -17,7 +17,7 @@ use i9_model::layout::{INTERRUPT_RETURN, RECORD_SIZE, SUPERVISOR_PLACE};
 use i9_watch::Watch;
 
 /// The address of a vector's word in the interrupt table.
-fn vector_place(table: u32, vector: u8) -> u32
+pub fn vector_place(table: u32, vector: u8) -> u32
     ensures { result ≡ vector_place table vector }
 {
     table.wrapping_add(VECTOR_WORDS + 4 * u32::from(vector))
@@ -64,7 +64,7 @@ impl Ints {
     ///
     /// `Err` is the hazard of the first access that meets one: the vector's word, the save area, the
     /// record, which is written once the frame is saved, and what `take` then reads and writes.
-    #[tactic(auto, unfolding(i9_model::specs::Interrupts::planned_interrupt, i9_model::specs::Interrupts::interrupt_hazard))]
+    #[tactic(auto, unfolding(i9_model::specs::Interrupts::planned_interrupt_by, i9_model::specs::Interrupts::interrupt_hazard))]
     pub fn plan_int(
         &self,
         m: &Memory,

@@ -10,6 +10,7 @@ mod requests;
 mod state;
 
 pub use after::clearing_bytes;
+pub use entry::vector_place;
 pub use i9_model::{Cause, Chosen, Entry as IntEntry};
 pub use requests::plan_request;
 pub use state::Ints;

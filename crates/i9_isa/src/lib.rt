@@ -5,6 +5,7 @@
 mod cost;
 mod format;
 mod inst;
+mod keeping;
 mod laws;
 mod op;
 mod resources;
@@ -16,6 +17,7 @@ mod validity;
 pub use cost::{latency, side_of};
 pub use format::{Format, Row, Use};
 pub use inst::{BadWord, Ea, Inst, Mode, NO_ADDRESS, NoMemory, Operand, Side, word_count};
+pub use keeping::keeps_marks;
 pub use laws::{decoding_is_one, second_word_is_free};
 pub use op::Op;
 pub use resources::{CONDITION_CODE, FRAME_POINTER, LINK, LOCALS, reads, writes};

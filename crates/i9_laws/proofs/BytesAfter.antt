@@ -1,6 +1,6 @@
 -- Along every run of a schedule's plan bytes of memory are below 256, where the bytes of the image are.
 use Rattle.std.proofs.Common.{◌≡◌, ℕ, ◌+◌, ◌-◌, ◌%◌, ◌^◌, ◌<◌, Bool, true, false, cond, eqb, List, [], ◌∷◌, Option, Some, None, sym, subst, arith}
-use Rattle.std.specs.Prelude.{slice_index, ◌==◌}
+use Rattle.std.specs.Prelude.{slice_index, ◌==◌, ◌||◌}
 use Rattle.std.proofs.lemmas.Nat.{and_le_l, or_of_8, pow_below}
 use Rattle.i9_isa.specs.declared.op.Op.{Op}
 use Rattle.i9_isa.specs.declared.op.Op.TheVariants.{Atadd, Atmod, Sysctl, Lda, Bx, Balx, Bal, Call, Callx, Calls, Ret, Flushreg, Modac, Modtc, Modpc}
@@ -25,6 +25,7 @@ use Rattle.i9_model.specs.Memory.{Memory, word_in, word_bytes, with_writes}
 use Rattle.i9_model.specs.Boot.{boot_memory, configured, with_boot_bytes}
 use Rattle.i9_model.specs.State.{State, Channel, image_memory, started, boot}
 use Rattle.i9_model.specs.Frames.{places}
+use Rattle.i9_model.specs.Stale.{legible, mark_of}
 use Rattle.i9_model.specs.Operands.{value, source_words, address}
 use Rattle.i9_model.specs.Branches.{asks, question_of}
 use Rattle.i9_model.specs.Calls.{record_address}
@@ -57,10 +58,10 @@ moving_stores Store size signed i s =
     let a = address s i.ea in
     put_pairs 256 wrapped a (stored_of size s i.c a) (stored_bytes size s i.c a)
 
-atomic_stores : (i : Inst) (s : State) (change : ℕ → ℕ) → ArePut 256 (atomic i s change).writes
-atomic_stores i s change =
+atomic_stores : (i : Inst) (s : State) (marked : Bool) (change : ℕ → ℕ) → ArePut 256 (atomic i s marked change).writes
+atomic_stores i s marked change =
     let a = atomic_address i s in
-    let new = change (word_in s.memory a) in
+    let new = change (word_in (legible s) a) in
     put_pairs 256 wrapped a (word_bytes s.memory a new) (word_bytes_below s.memory a new)
 
 -- ---- requests of software
@@ -113,8 +114,8 @@ other_stores false i s = tt
 
 name_stores : (op : Op) (i : Inst) (s : State) → AreBytes s.memory → ArePut 256 (action_by_name op i s).writes
 name_stores Lda i s h = tt
-name_stores Atadd i s h = atomic_stores i s (λ old. wrapped (old + value s i.b))
-name_stores Atmod i s h = atomic_stores i s (λ old. merged old (value s i.b) (value s i.c))
+name_stores Atadd i s h = atomic_stores i s (mark_of s i.b 0) (λ old. wrapped (old + value s i.b))
+name_stores Atmod i s h = atomic_stores i s (mark_of s i.b 0 || mark_of s i.c 0) (λ old. merged old (value s i.b) (value s i.c))
 name_stores Bx i s h = tt
 name_stores Balx i s h = tt
 name_stores Bal i s h = tt

@@ -19,6 +19,7 @@ use Rattle.i9_model.specs.declared.event.Event.{Event}
 use Rattle.i9_model.specs.Before.{Received, choice_in, interrupt_in, received_in}
 use Rattle.i9_model.specs.State.{State}
 use Rattle.i9_model.specs.Step.{first_word, next_word}
+use Rattle.i9_model.specs.Stale.{misuses}
 use Rattle.i9_model.specs.Access.{hazard_of, fetch_hazard}
 use Rattle.i9_model.specs.Standing.{Standing, Meets, Refused, Faults, Runs, raised_in, later_fault, by_access, by_later, by_raised, by_word, by_fetch, stands_at}
 use Rattle.i9_model.specs.declared.run.Due.{Due}
@@ -48,9 +49,13 @@ raised_stands : (s : State) (i : Inst) (o : Option (ℕ × ℕ)) → IsDecoded s
 raised_stands s i (Some number) d = tt
 raised_stands s i None d = later_stands s i (later_fault i s) d
 
+allowed_stands : (b : Bool) (s : State) (x : Standing) → Stands s x → Stands s (cond b (Meets s.ip) x)
+allowed_stands true s x d = tt
+allowed_stands false s x d = d
+
 word_stands : (s : State) (r : Result Inst BadWord) → decoded (first_word s) (next_word s) ≡ r → Stands s (by_word s r)
 word_stands s (Err e) d = tt
-word_stands s (Ok i) d = raised_stands s i (raised_in i s) d
+word_stands s (Ok i) d = allowed_stands (misuses i s) s (by_raised i s (raised_in i s)) (raised_stands s i (raised_in i s) d)
 
 fetch_stands : (s : State) (h : Option ℕ) → Stands s (by_fetch s h)
 fetch_stands s (Some a) = tt

@@ -1,6 +1,6 @@
 -- What a system call and the entry of a fault enter: a procedure on the stack in use, or one on the supervisor stack, by
 -- words of memory; and what the entry of an interrupt makes.
-use Rattle.std.proofs.Common.{◌≡◌, ℕ, Bool, true, false, cond, None, Ok, Err, subst}
+use Rattle.std.proofs.Common.{◌≡◌, ℕ, Bool, true, false, cond, Option, None, Ok, Err, subst}
 use Rattle.std.specs.Prelude.{◌+◌, ◌/◌, ◌%◌, ◌==◌, not, nat_le, List}
 use Rattle.i9_isa.specs.declared.inst.Inst.{Inst}
 use Rattle.i9_model.specs.declared.layout.TheConstants.{FP, SP, RECORD_SIZE, FAULT_RETURN, MOST_SYSTEM_CALL}
@@ -13,18 +13,20 @@ use Rattle.i9_model.specs.declared.faults.Handler.TheVariants.{Local, System}
 use Rattle.i9_model.specs.declared.faults.FaultStop.{FaultStop}
 use Rattle.i9_model.specs.declared.push.Push.{Push}
 use Rattle.i9_model.specs.declared.interrupts.Chosen.{Chosen}
+use Rattle.i9_model.specs.declared.interrupts.TheConstants.{INTERRUPTED_PLACE}
+use Rattle.i9_isa.specs.Words.{bit}
 use Rattle.i9_model.specs.Writes.{wrapped}
 use Rattle.i9_model.specs.Memory.{Memory, word_in}
 use Rattle.i9_model.specs.State.{State, Frames}
-use Rattle.i9_model.specs.Frames.{rounded_down}
-use Rattle.i9_model.specs.Hazards.{or_else, unless, read_hazard, save_hazard}
+use Rattle.i9_model.specs.Hazards.{or_else, unless, read_hazard}
+use Rattle.i9_model.specs.Stale.{area_hazard}
 use Rattle.i9_model.specs.Operands.{value}
-use Rattle.i9_model.specs.Calls.{entry_address, stack_address, is_switch, call_type, entered_here, entered_switched, system_entered, system_hazard}
-use Rattle.i9_model.specs.Faults.{◌>>=◌, or_stop, table_entry, checked_word, handler_of, planned_handler, planned_frame, entry_of, planned_fault}
+use Rattle.i9_model.specs.Calls.{entry_address, stack_address, is_switch, call_type, entered_here, entered_switched, system_entered, system_hazard_by}
+use Rattle.i9_model.specs.Faults.{◌>>=◌, or_stop, table_entry, checked_word, handler_of, planned_handler, planned_frame, entry_of, planned_fault_by}
 use Rattle.i9_model.specs.Hazards.{record_write_hazard}
 use Rattle.i9_model.specs.Step.{system_call}
 use Rattle.i9_model.specs.Run.{entry_in}
-use Rattle.i9_model.specs.Interrupts.{vector_place, interrupt_push, interrupt_record, cleared_hazard, interrupt_hazard, interrupt_entry, planned_interrupt}
+use Rattle.i9_model.specs.Interrupts.{vector_place, interrupt_push, interrupt_record, cleared_hazard, interrupt_hazard, interrupt_entry, planned_interrupt_by}
 use Rattle.i9_model.specs.Before.{interrupt_in}
 use Rattle.i9_model.proofs.CallLaws.{first_none, second_none, unless_ok, stop_ok, bind_ok}
 
@@ -83,28 +85,28 @@ planned_from m f at h ok =
     let word = (unless_ok hazard (word_in m at) a.0 (stop_ok (unless hazard (word_in m at)) a.0 a.1)).1 in
     handler_from m at a.0 b.0 h word b.2
 
-frame_by : (P : Sys → Type 0) (m : Memory) (f : Frames) (system pc fp sp : ℕ) (h : Handler) (sys : Sys)
-    → Ways P m pc fp sp RECORD_SIZE (λ _. FAULT_RETURN) → IsFrom m h → planned_frame m f system pc fp sp h ≡ Ok sys → P sys
+frame_by : (P : Sys → Type 0) (m : Memory) (f : Frames) (system pc fp sp : ℕ) (area : Bool → Option ℕ) (h : Handler) (sys : Sys)
+    → Ways P m pc fp sp RECORD_SIZE (λ _. FAULT_RETURN) → IsFrom m h → planned_frame m f system pc fp sp area h ≡ Ok sys → P sys
 unfolding planned_frame
-frame_by P m f system pc fp sp (Local target) sys ways from e =
+frame_by P m f system pc fp sp area (Local target) sys ways from e =
     let here : P (entered_here target pc fp sp RECORD_SIZE FAULT_RETURN) =
     subst (λ (t : ℕ). P (entered_here t pc fp sp RECORD_SIZE FAULT_RETURN)) from.1 (ways.here from.0) in
-    subst P (unless_ok (save_hazard f (rounded_down fp)) (entered_here target pc fp sp RECORD_SIZE FAULT_RETURN) sys e).1 here
-frame_by P m f system pc fp sp (System n) sys ways from e =
+    subst P (unless_ok (area false) (entered_here target pc fp sp RECORD_SIZE FAULT_RETURN) sys e).1 here
+frame_by P m f system pc fp sp area (System n) sys ways from e =
     let entered = system_entered m system n pc fp sp RECORD_SIZE (λ _. FAULT_RETURN) in
-    subst P (unless_ok (system_hazard m f system n pc fp) entered sys e).1
+    subst P (unless_ok (system_hazard_by m f system n pc area) entered sys e).1
     (system_by P m system n pc fp sp RECORD_SIZE (λ _. FAULT_RETURN) ways)
 
 -- and it holds of what the entry of a fault enters, whose record meets no hazard
 pub entry_by : (P : Sys → Type 0) (s : State) (fault : Fault) (e : Entry)
     → Ways P s.memory s.pc (s.regs FP) (s.regs SP) RECORD_SIZE (λ _. FAULT_RETURN)
     → entry_in s fault ≡ Ok e → (sys : Sys) × P sys × (entry_of fault s.pc s.ac sys ≡ e) × (record_write_hazard s.frames sys.push ≡ None)
-unfolding entry_in planned_fault
+unfolding entry_in planned_fault_by
 entry_by P s fault e ways ok =
     let m = s.memory in
     let f = s.frames in
     let made = λ (sys : Sys). or_stop (unless (record_write_hazard f sys.push) (entry_of fault s.pc s.ac sys)) in
-    let frame = λ (h : Handler). planned_frame m f s.tables.system_table s.pc (s.regs FP) (s.regs SP) h in
+    let frame = λ (h : Handler). planned_frame m f s.tables.system_table s.pc (s.regs FP) (s.regs SP) (area_hazard s) h in
     let at = table_entry s.tables.fault_table fault.kind in
     let a = bind_ok (planned_handler m f at) (λ h. or_stop (frame h) >>= made) e ok in
     let b = bind_ok (or_stop (frame a.0)) made e a.2 in
@@ -112,7 +114,7 @@ entry_by P s fault e ways ok =
     let plan = unless (record_write_hazard f b.0.push) (entry_of fault s.pc s.ac b.0) in
     let done = unless_ok (record_write_hazard f b.0.push) (entry_of fault s.pc s.ac b.0) e (stop_ok plan e b.2) in (
       b.0,
-      frame_by P m f s.tables.system_table s.pc (s.regs FP) (s.regs SP) a.0 b.0 ways from (stop_ok (frame a.0) b.0 b.1),
+      frame_by P m f s.tables.system_table s.pc (s.regs FP) (s.regs SP) (area_hazard s) a.0 b.0 ways from (stop_ok (frame a.0) b.0 b.1),
       done.1,
       done.0,
     )
@@ -132,14 +134,15 @@ entry_for s c = interrupt_entry s.memory s.tables.interrupt_table c (push_for s)
 -- where it meets no hazard, its record meets none
 pub interrupt_made : (s : State) (c : Chosen) (e : Entry) → interrupt_in s c ≡ Ok e
     → (entry_for s c ≡ e) × (record_write_hazard s.frames (push_for s) ≡ None)
-unfolding interrupt_in planned_interrupt interrupt_hazard
+unfolding interrupt_in planned_interrupt_by interrupt_hazard
 interrupt_made s c e ok =
     let f = s.frames in
     let push = push_for s in
     let vector = read_hazard f (vector_place s.tables.interrupt_table c.vector) 4 in
     let clears = cleared_hazard s.memory f s.tables.interrupt_table c push (words_for s c) in
     let records = or_else (record_write_hazard f push) clears in
-    let saves = or_else (save_hazard f push.save) records in
+    let area = area_hazard s (not (bit s.pc INTERRUPTED_PLACE)) in
+    let saves = or_else area records in
     let found = unless_ok (or_else vector saves) (entry_for s c) e ok in
-    let later = second_none (save_hazard f push.save) records (second_none vector saves found.0) in
+    let later = second_none area records (second_none vector saves found.0) in
     (found.1, first_none (record_write_hazard f push) clears later)

@@ -26,7 +26,8 @@ use Rattle.i9_model.specs.ScheduleText.{first_version, IsOfVersion, AreOfVersion
 use Rattle.i9_model.specs.Memory.{word_in}
 use Rattle.i9_model.specs.State.{State, Interrupts, started, boot}
 use Rattle.i9_model.specs.Branches.{asks, question_of}
-use Rattle.i9_model.specs.Operands.{with_pending, with_mask, interrupts_assigned, value, address}
+use Rattle.i9_model.specs.Stale.{legible}
+use Rattle.i9_model.specs.Operands.{with_pending, with_mask, interrupts_assigned, address}
 use Rattle.i9_model.specs.Pins.{level_word, pending_word}
 use Rattle.i9_model.specs.Interrupts.{posted, cleared}
 use Rattle.i9_model.specs.Dma.{is_last, posts_at_end}
@@ -95,8 +96,8 @@ other_high false i s h = assigning_high (destination i) (values_of (answer_in i 
 
 name_high : (op : Op) (i : Inst) (s : State) → AreHigh s.interrupts → LeavesHigh (action_by_name op i s)
 name_high Lda i s h = assigning_high i.c (address s i.ea ∷ []) s h
-name_high Atadd i s h = assigning_high i.c (word_in s.memory (atomic_address i s) ∷ []) s h
-name_high Atmod i s h = assigning_high i.c (word_in s.memory (atomic_address i s) ∷ []) s h
+name_high Atadd i s h = assigning_high i.c (word_in (legible s) (atomic_address i s) ∷ []) s h
+name_high Atmod i s h = assigning_high i.c (word_in (legible s) (atomic_address i s) ∷ []) s h
 name_high Bx i s h = h
 name_high Balx i s h = assigning_high i.c (following i s ∷ []) s h
 name_high Bal i s h = h
@@ -113,7 +114,7 @@ name_high Sysctl i s h = message_high (asked_message i s) i s h
 name_high op i s h = other_high (asks (question_of op)) i s h
 
 moving_high : (d : Direction) (size : Size) (signed : Bool) (i : Inst) (s : State) → AreHigh s.interrupts → LeavesHigh (moving d size signed i s)
-moving_high Load size signed i s h = assigning_high i.c (loaded size signed s.memory (address s i.ea)) s h
+moving_high Load size signed i s h = assigning_high i.c (loaded size signed (legible s) (address s i.ea)) s h
 moving_high Store size signed i s h = h
 
 instruction_high : (i : Inst) (s : State) → AreHigh s.interrupts → LeavesHigh (action_of i s)

@@ -27,6 +27,7 @@ use Rattle.i9_model.specs.State as states
 use Rattle.i9_model.specs.State.{State, Interrupts, Channel, started, boot}
 use Rattle.i9_model.specs.Numbers.{complement}
 use Rattle.i9_model.specs.Branches.{asks, question_of}
+use Rattle.i9_model.specs.Stale.{legible}
 use Rattle.i9_model.specs.Operands.{with_pending, with_mask, with_command, with_dma_special, interrupts_assigned, dma_assigned, value, address}
 use Rattle.i9_model.specs.Interrupts.{with_bit, by_edge, is_low, posted, lowered, cleared}
 use Rattle.i9_model.specs.Requests.{without_bit}
@@ -139,8 +140,8 @@ other_lines false i s h = assigning_lines (destination i) (values_of (answer_in 
 
 name_lines : (op : Op) (i : Inst) (s : State) → HasLines s → LeavesLines (action_by_name op i s)
 name_lines Lda i s h = assigning_lines i.c (address s i.ea ∷ []) s h
-name_lines Atadd i s h = assigning_lines i.c (word_in s.memory (atomic_address i s) ∷ []) s h
-name_lines Atmod i s h = assigning_lines i.c (word_in s.memory (atomic_address i s) ∷ []) s h
+name_lines Atadd i s h = assigning_lines i.c (word_in (legible s) (atomic_address i s) ∷ []) s h
+name_lines Atmod i s h = assigning_lines i.c (word_in (legible s) (atomic_address i s) ∷ []) s h
 name_lines Bx i s h = h
 name_lines Balx i s h = assigning_lines i.c (following i s ∷ []) s h
 name_lines Bal i s h = h
@@ -157,7 +158,7 @@ name_lines Sysctl i s h = message_lines (asked_message i s) i s h
 name_lines op i s h = other_lines (asks (question_of op)) i s h
 
 moving_lines : (d : Direction) (size : Size) (signed : Bool) (i : Inst) (s : State) → HasLines s → LeavesLines (moving d size signed i s)
-moving_lines Load size signed i s h = assigning_lines i.c (loaded size signed s.memory (address s i.ea)) s h
+moving_lines Load size signed i s h = assigning_lines i.c (loaded size signed (legible s) (address s i.ea)) s h
 moving_lines Store size signed i s h = h
 
 instruction_lines : (i : Inst) (s : State) → HasLines s → LeavesLines (action_of i s)

@@ -11,7 +11,8 @@ use Rattle.i9_isa.specs.Words.{words_of}
 use Rattle.i9_model.specs.declared.layout.TheConstants.{LOCALS, FRAME_SIZE, PFP, RIP, FP, PC_MASK, AC_MASK}
 use Rattle.i9_model.specs.declared.event.Event.{Event}
 use Rattle.i9_model.specs.Writes.{wrapped, aligned, written}
-use Rattle.i9_model.specs.Memory.{word_in, words_in}
+use Rattle.i9_model.specs.Memory.{Memory, word_in, words_in}
+use Rattle.i9_model.specs.Stale.{left_memory}
 use Rattle.i9_model.specs.State.{State, Frames, frame_sets}
 use Rattle.i9_model.specs.Frames.{rounded_down}
 use Rattle.i9_model.specs.Hazards.{port_hazard, frame_hazard, return_hazard}
@@ -50,25 +51,33 @@ locals_flagged : (o : Option Trace) (s u t : State) (back : ℕ) → GivesLocals
 locals_flagged None s u t back l = l
 locals_flagged (Some x) s u t back l = record { locals = l.locals; fp = l.fp; globals = l.globals; ip = l.ip }
 
-gives_locals : (s u : State) (back : ℕ) → rounded_down (u.regs PFP) ≡ rounded_down (s.regs FP)
+gives_locals : (s u : State) (back : ℕ) (rest : List ℕ) → u.frames.live ≡ rounded_down (s.regs FP) ∷ rest
+    → rounded_down (u.regs PFP) ≡ rounded_down (s.regs FP)
     → words_in u.memory (rounded_down (s.regs FP)) LOCALS ≡ saved_locals s back
     → GivesLocals s u (acted u (ret_action u)) back
 unfolding acted moved popped
-gives_locals s u back frame words = record {
+gives_locals s u back rest live frame stands = record {
   locals = λ r h.
       ap (λ (f : ℕ → ℕ). f r) regs
       ∙ frame_local u.regs (saved_locals s back) save r refl h
       ∙ get_or-map-range_with_len (saved_local s back) 0 LOCALS r r 0 h (omega arith);
   fp = ap (λ (f : ℕ → ℕ). f FP) regs ∙ frame_pointer u.regs (saved_locals s back) save;
   globals = λ r h other. ap (λ (f : ℕ → ℕ). f r) regs ∙ frame_others u.regs (saved_locals s back) save r refl h other;
-  ip = ap (λ (a : ℕ). aligned (word_in u.memory (wrapped (a + 8)))) frame ∙ ap (λ (ws : List ℕ). aligned (get_or ws 2 0)) words;
+  ip = ap (λ (a : ℕ). aligned (word_in left (wrapped (a + 8)))) frame ∙ ap (λ (ws : List ℕ). aligned (get_or ws 2 0)) words;
 }
   where
     save : ℕ
     save = rounded_down (s.regs FP)
 
+    -- what was stored is read, as a frame is live
+    left : Memory
+    left = left_memory u.frames.live u
+
+    words : words_in left save LOCALS ≡ saved_locals s back
+    words = ap (λ (l : List ℕ). words_in (left_memory l u) save LOCALS) live ∙ stands
+
     from_frame : ℕ → ℕ → ℕ
-    from_frame a = written u.regs (frame_sets (words_in u.memory a LOCALS) a)
+    from_frame a = written u.regs (frame_sets (words_in left a LOCALS) a)
 
     regs : from_frame (rounded_down (u.regs PFP)) ≡ written u.regs (frame_sets (saved_locals s back) save)
     regs = ap from_frame frame ∙ ap (λ (ws : List ℕ). written u.regs (frame_sets ws save)) words
@@ -247,7 +256,7 @@ registers_back g rs between call back image plan past is_called is_returned live
     let saved = subst (AreSaved u.memory) frames (live_saved g all image plan past.0) in
     let addresses : u.frames.live ≡ save ∷ addresses_of (live_after rs) = live_addresses g all past.0 ∙ ap addresses_of frames in
     let first = first_live u.frames (u.regs PFP) (u.regs FP) save (addresses_of (live_after rs)) addresses i.free in
-    let l = locals_flagged (action_by_kind back.kind u).trace s u (acted u (ret_action u)) address (gives_locals s u address first saved.0) in
+    let l = locals_flagged (action_by_kind back.kind u).trace s u (acted u (ret_action u)) address (gives_locals s u address (addresses_of (live_after rs)) addresses first saved.0) in
     let even = address_even call.kind s i.kept in
     let here : GivesRegisters (record_of call.kind s) (return_record back.kind u) = record {
       locals = λ r h other. l.locals r h ∙ ap (λ (c : Bool). cond c address (s.regs r)) (ne_eqb r RIP other);

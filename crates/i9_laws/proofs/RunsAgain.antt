@@ -9,7 +9,7 @@ use Rattle.i9_model.specs.declared.run.End.{End}
 use Rattle.i9_model.specs.declared.run.End.TheVariants.{Exit, Limit, Hazard, Dead, Imprecise}
 use Rattle.i9_model.specs.declared.run.Point.{Point}
 use Rattle.i9_model.specs.State.{State}
-use Rattle.i9_model.specs.ScheduleText.{timed_at, IsVersion, AreOfVersion, IsPlan, Contents, IsSchedule}
+use Rattle.i9_model.specs.ScheduleText.{timed_at, IsVersion, AreOfVersion, IsPlan, IsSchedule}
 use Rattle.i9_model.specs.Run.{Given, Kind, Instruction, Faulted, Entered, Interrupted, Reached, Record, Ends, action_done, point_of, next_with, reached_by, reached_after, state_after, IsPast, IsRun, Finish, finish, reached_last, reached_in}
 use Rattle.i9_model.specs.PrintedText.{Shown, Out, Drained, Journal, Bytes, Last, out_lines, point_lines, bytes_lines, event_lines, record_lines, lines_of, end_lines, text_of, events_of, run_text, heading_text, view_of, journal_lines, last_lines}
 use Rattle.i9_model.specs.Memory.{console_byte}

@@ -1,6 +1,6 @@
 -- Along every run registers are below 2^32 and bytes of memory below 256, where the bytes of the image are.
 use Rattle.std.proofs.Common.{◌≡◌, ℕ, zero, suc, ◌+◌, ◌-◌, ◌^◌, ◌<◌, Bool, true, false, cond, List, [], ◌∷◌, Option, Some, None, Ok, length, refl, sym, subst, arith}
-use Rattle.std.specs.Prelude.{◌==◌, replicate}
+use Rattle.std.specs.Prelude.{◌==◌, ◌||◌, replicate}
 use Rattle.std.specs.List.{range_with_len}
 use Rattle.std.proofs.lemmas.Nat.{and_le_r}
 use Rattle.std.specs.Prelude.{bit_and}
@@ -28,6 +28,7 @@ use Rattle.i9_model.specs.Memory.{Memory, half_in, word_in, words_in}
 use Rattle.i9_model.specs.Boot.{setup_of, configured, with_boot_bytes, boot_setup}
 use Rattle.i9_model.specs.State.{State, Interrupts, image_memory, frame_sets, first_frame, start_sets, started, boot}
 use Rattle.i9_model.specs.Frames.{rounded_down, pushed}
+use Rattle.i9_model.specs.Stale.{legible, left_memory, mark_of}
 use Rattle.i9_model.specs.Operands.{value, higher_word, word_of, source_words, assigned, address, target}
 use Rattle.i9_model.specs.Branches.{asks, question_of, is_taken}
 use Rattle.i9_model.specs.Calls.{popped}
@@ -56,11 +57,24 @@ use Rattle.i9_laws.proofs.Decoded.{IsSmall, HasSmall, decoded_small, IsRead, nex
 use Rattle.i9_laws.proofs.StoredWords.{ArePut, put_append, put_pairs, below_map, written_below, half_below, word_below, words_below}
 use Rattle.i9_laws.proofs.ResultWords.{AreWords, either_word, results_words}
 
--- registers and the instruction address are words, and bytes are bytes
+-- registers and the instruction address are words, and bytes are bytes, soft ones as they are read too
 pub record HasWords (s : State) : Type 0 where
   pub regs : (r : ℕ) → IsWord (s.regs r)
   pub ip : IsWord s.ip
   pub bytes : (x : ℕ) → s.memory.bytes x < 256
+  pub reading : (b : ℕ) → b < 256 → s.reading b < 256
+
+-- so bytes are as a load and as a return finds them
+legible_bytes : (s : State) → HasWords s → (x : ℕ) → (legible s).bytes x < 256
+legible_bytes s h x = by_soft (s.frames.soft x)
+  where
+    by_soft : (b : Bool) → cond b (s.reading (s.memory.bytes x)) (s.memory.bytes x) < 256
+    by_soft true = h.reading (s.memory.bytes x) (h.bytes x)
+    by_soft false = h.bytes x
+
+left_bytes : (live : List ℕ) (s : State) → HasWords s → (x : ℕ) → (left_memory live s).bytes x < 256
+left_bytes [] s h = legible_bytes s h
+left_bytes (f ∷ live) s h = h.bytes
 
 -- a frame is saved whole, at an address
 abbrev pub SavesWords : Move → Type 0
@@ -156,7 +170,7 @@ aligned_word a h = omega (arith, h)
 moving_words : (d : Direction) (size : Size) (signed : Bool) (i : Inst) (s : State) → HasWords s → DoesWords (moving d size signed i s)
 moving_words Load size signed i s h =
     let a = address s i.ea in
-    setting (assigned_words i.c (loaded size signed s.memory a) (loaded_words size signed s.memory a h.bytes)) (behind_word i s)
+    setting (assigned_words i.c (loaded size signed (legible s) a) (loaded_words size signed (legible s) a (legible_bytes s h))) (behind_word i s)
 moving_words Store size signed i s h = setting tt (behind_word i s)
 
 -- ---- pushes
@@ -210,10 +224,10 @@ other_words false i s h l small =
 one_set : (o : Operand) (v : ℕ) → IsWord v → ArePut (2 ^ 32) (assigned o (v ∷ []))
 one_set o v h = assigned_words o (v ∷ []) (h, tt)
 
-atomic_words : (i : Inst) (s : State) (change : ℕ → ℕ) → HasWords s → DoesWords (atomic i s change)
-atomic_words i s change h =
+atomic_words : (i : Inst) (s : State) (marked : Bool) (change : ℕ → ℕ) → HasWords s → DoesWords (atomic i s marked change)
+atomic_words i s marked change h =
     let a = atomic_address i s in
-    setting (one_set i.c (word_in s.memory a) (word_below s.memory a h.bytes)) (behind_word i s)
+    setting (one_set i.c (word_in (legible s) a) (word_below (legible s) a (legible_bytes s h))) (behind_word i s)
 
 message_words : (m : Message) (i : Inst) (s : State) → HasWords s → HasLines s → HasSmall i → DoesWords (message_action m i s)
 message_words AsksNothing i s h l small = setting tt (behind_word i s)
@@ -243,17 +257,19 @@ ret_words : (s : State) → HasWords s → DoesWords (ret_action s)
 unfolding popped
 ret_words s h =
     let a = rounded_down (s.regs PFP) in
+    let m = left_memory s.frames.live s in
+    let bytes = left_bytes s.frames.live s h in
     let pfp = h.regs PFP in record {
-      registers = frame_words (words_in s.memory a LOCALS) a (words_below s.memory a LOCALS h.bytes) (omega (arith, pfp));
+      registers = frame_words (words_in m a LOCALS) a (words_below m a LOCALS bytes) (omega (arith, pfp));
       saves = tt;
       starts = tt;
-      next = aligned_word _ (word_below s.memory (wrapped (a + 8)) h.bytes);
+      next = aligned_word _ (word_below m (wrapped (a + 8)) bytes);
     }
 
 name_words : (op : Op) (i : Inst) (s : State) → HasWords s → HasLines s → IsKept s → HasSmall i → DoesWords (action_by_name op i s)
 name_words Lda i s h l k small = setting (one_set i.c (address s i.ea) (omega arith)) (behind_word i s)
-name_words Atadd i s h l k small = atomic_words i s (λ old. wrapped (old + value s i.b)) h
-name_words Atmod i s h l k small = atomic_words i s (λ old. merged old (value s i.b) (value s i.c)) h
+name_words Atadd i s h l k small = atomic_words i s (mark_of s i.b 0) (λ old. wrapped (old + value s i.b)) h
+name_words Atmod i s h l k small = atomic_words i s (mark_of s i.b 0 || mark_of s i.c 0) (λ old. merged old (value s i.b) (value s i.c)) h
 name_words Bx i s h l k small = setting tt (aligned_word (address s i.ea) (omega arith))
 name_words Balx i s h l k small = setting (one_set i.c (following i s) (behind_word i s)) (aligned_word (address s i.ea) (omega arith))
 name_words Bal i s h l k small = setting (behind_word i s, tt) (aligned_word (target i s) (omega arith))
@@ -316,17 +332,17 @@ start_words u =
 
 -- a control group changes no register and no instruction address
 group_words_kept : (a b c : Bool) (s : State) (group : ℕ) (ws : List ℕ) → HasWords s → HasWords (by_group a b c s group ws)
-group_words_kept true b c s group ws h = record { regs = h.regs; ip = h.ip; bytes = h.bytes }
-group_words_kept false true c s group ws h = record { regs = h.regs; ip = h.ip; bytes = h.bytes }
-group_words_kept false false true s group ws h = record { regs = h.regs; ip = h.ip; bytes = h.bytes }
-group_words_kept false false false s group ws h = record { regs = h.regs; ip = h.ip; bytes = h.bytes }
+group_words_kept true b c s group ws h = record { regs = h.regs; ip = h.ip; bytes = h.bytes; reading = h.reading }
+group_words_kept false true c s group ws h = record { regs = h.regs; ip = h.ip; bytes = h.bytes; reading = h.reading }
+group_words_kept false false true s group ws h = record { regs = h.regs; ip = h.ip; bytes = h.bytes; reading = h.reading }
+group_words_kept false false false s group ws h = record { regs = h.regs; ip = h.ip; bytes = h.bytes; reading = h.reading }
 
 controlled_words : (s : State) (c : Control) → StartsWord c → HasWords s → HasWords (controlled s c)
 unfolding started configured setup_of
 controlled_words s KeepsControls first h = h
 controlled_words s (Restarts first prcb) word h =
     let u = setup_of s.memory first prcb in
-    record { regs = written_below (2 ^ 32) s.regs (start_sets u) h.regs (start_words u); ip = aligned_word first word; bytes = h.bytes }
+    record { regs = written_below (2 ^ 32) s.regs (start_sets u) h.regs (start_words u); ip = aligned_word first word; bytes = h.bytes; reading = h.reading }
 controlled_words s (LoadsGroup group) first h =
     group_words_kept (group == 0) (group == 1) (group == 6) s group (group_words s.memory s.tables.control_table group) h
 
@@ -337,8 +353,9 @@ acted_words s a k stores h =
       regs = written_below (2 ^ 32) s.regs a.sets h.regs k.registers;
       ip = k.next;
       bytes = moved_bytes s a h.bytes stores;
+      reading = h.reading;
     }) in
-    subst HasWords (sym (flagged-others a.trace (controlled (moved s a) a.control))) (record { regs = after.regs; ip = after.ip; bytes = after.bytes })
+    subst HasWords (sym (flagged-others a.trace (controlled (moved s a) a.control))) (record { regs = after.regs; ip = after.ip; bytes = after.bytes; reading = after.reading })
 
 -- ---- a run
 
@@ -349,6 +366,7 @@ boot_words image h =
       regs = written_below (2 ^ 32) (λ _. 0) (start_sets (boot_setup m)) (λ x. omega arith) (start_words (boot_setup m));
       ip = aligned_word _ (word_below (with_boot_bytes m) FIRST_INSTRUCTION (image_bytes image h));
       bytes = boot_bytes image h;
+      reading = λ b k. omega arith;
     }
 
 done_words : (g : Given) (r : Record) (rs : List Record) → IsPlan g.plan → IsPast g (r ∷ rs) → HasWords (state_after g rs)
@@ -368,7 +386,7 @@ words_after g (r ∷ rs) image plan past =
     let stores = done_stores g r rs plan past h.bytes in
     let after = acted_words s (action_by_kind r.kind s) (done_words g r rs plan past h) stores h in
     let comes = next_comes g.length (due_after rs) (event_after g rs) s r past.1 in
-    subst (λ (q : Record). HasWords q.after) (sym comes.0) (record { regs = after.regs; ip = after.ip; bytes = after.bytes })
+    subst (λ (q : Record). HasWords q.after) (sym comes.0) (record { regs = after.regs; ip = after.ip; bytes = after.bytes; reading = after.reading })
 
 -- the frames that are saved
 pub saved_after : (g : Given) (r : Record) (rs : List Record) → HasBytes g.image → IsPlan g.plan → IsPast g (r ∷ rs)

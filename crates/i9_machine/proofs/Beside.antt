@@ -13,15 +13,17 @@ use Rattle.i9_model.specs.Late.{turns}
 use Rattle.i9_model.specs.Run.{Given, Faulted, Instruction, Next, fault_at, next_by_standing, reached_after, due_after, next_in, state_after}
 use Rattle.i9_model.specs.Alike.{AreNextAlike}
 use Rattle.i9_model.proofs.AlikeSteps.{next_alike}
+use Rattle.i9_model.proofs.SoundRuns.{sound-after}
 use Rattle.i9_model.proofs.TurnPending.{stands-pending_turn}
 use Rattle.i9_schedule.specs.Plan.{Plan}
 use Rattle.i9_course.specs.NeedOf.{need_of, need_ahead}
 use Rattle.i9_course.specs.Course.{Item, records_of, course, instruction_ahead, instruction_turn, event_ahead, comes_next}
+use Rattle.i9_course.proofs.Orderly.{course_events}
 use Rattle.i9_processor.specs.State.{state_of, size_of}
 use Rattle.i9_machine.specs.declared.machine.Machine.{Machine}
 use Rattle.i9_machine.specs.Step.{need_at, turn_at, event_for, next_for}
 use Rattle.i9_machine.specs.StandsFor.{StandsFor, Follows}
-use Rattle.i9_machine.proofs.Overtaking.{ahead_need}
+use Rattle.i9_machine.proofs.Overtaking.{ahead_need, course_blind}
 
 -- a number of sets that is the one that is asked for, or that the PRCB asks for
 standing_sets : (asked : Option ℕ) (n : ℕ) (c : Cache) (s : State) (x : Standing) → n ≡ sets_in asked s
@@ -41,7 +43,7 @@ same_need_at g h m stands =
     let size = stands.size ∙ sym (ap (sets_in g.sets) stands.state.rest) in
     ap (λ (d : Cache). need_ahead (Some (size_of m.processor)) d (instruction_ahead t)) stands.cache
     ∙ standing_sets g.sets (size_of m.processor) c t (stands_at t) size
-    ∙ ahead_need g.sets c s t stands.state
+    ∙ ahead_need g.sets c s t (course_blind g h stands.past) stands.state
 
 -- so it would issue at the same turn
 pub same_turn_at : (g : Given) (h : List Item) (m : Machine) → StandsFor g h None m → turn_at m ≡ instruction_turn g h
@@ -69,4 +71,4 @@ beside g h m plan stands follows =
     (ap (λ (l : ℕ). next_in l m.due (event_for m plan) s) stands.length
     ∙ ap (λ (d : Due). next_in g.length d (event_for m plan) s) stands.due
     ∙ ap (λ (o : Option Event). next_in g.length (due_after (records_of h)) o s) (same_event g h m plan stands follows))
-    (next_alike m.length m.due (event_for m plan) s (state_of m.processor) stands.state)
+    (next_alike m.length m.due (event_for m plan) s (state_of m.processor) (sound-after g (records_of h) (course_events g h stands.past)) (course_blind g h stands.past) stands.state)

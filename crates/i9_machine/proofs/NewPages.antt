@@ -22,18 +22,18 @@ same_pages p q same = subst (AddsNoPage p) same (record { bytes = λ x has. has;
 pub none_then : (old mid new : Processor) (a : Action) → AddsActionOnly old mid a → AddsNoPage mid new → AddsActionOnly old new a
 none_then old mid new a only none = record {
   bytes = λ x writes move has. only.bytes x writes move (none.bytes x has);
-  marks = λ x move has. only.marks x move (none.marks x has);
+  marks = λ x marked move has. only.marks x marked move (none.marks x has);
 }
 
 -- what comes next adds a page of it at most
 pub none_next : (before m : Machine) (n : Next) → AddsNoPage before.processor m.processor → AddsNextOnly before m n
-none_next before m (Does r) none = record { bytes = λ x writes move has. none.bytes x has; marks = λ x move has. none.marks x has }
+none_next before m (Does r) none = record { bytes = λ x writes move has. none.bytes x has; marks = λ x marked move has. none.marks x has }
 none_next before m (Ends f) none = none
 
 pub next_behind : (before mid m : Machine) (n : Next) → AddsNoPage before.processor mid.processor → AddsNextOnly mid m n → AddsNextOnly before m n
 next_behind before mid m (Does r) none only = record {
   bytes = λ x writes move has. none.bytes x (only.bytes x writes move has);
-  marks = λ x move has. none.marks x (only.marks x move has);
+  marks = λ x marked move has. none.marks x (only.marks x marked move has);
 }
 next_behind before mid m (Ends f) none only = record {
   bytes = λ x has. none.bytes x (only.bytes x has);

@@ -17,12 +17,15 @@ use Rattle.i9_model.specs.Turns.{last_issue, issue_turn, end_turn, waiting_until
 use Rattle.i9_model.specs.Turns as board
 use Rattle.i9_model.specs.Late.{turns}
 use Rattle.i9_model.specs.Run.{Given, Kind, Instruction, Faulted, Entered, Interrupted, Reached, Record, fault_at, due_in, due_by, due_after, next_by_standing, state_after}
-use Rattle.i9_model.proofs.AlikeFetches.{stands_same}
+use Rattle.i9_model.proofs.AlikeSteps.{IsBlind, agree-alike}
+use Rattle.i9_model.proofs.AgreeStands.{stands-same}
+use Rattle.i9_model.proofs.BlindRuns.{blind-after}
 use Rattle.i9_course.specs.NeedOf.{need_of, need_ahead}
-use Rattle.i9_course.specs.Course.{Item, records_of, course, instruction_ahead, issue_of_next, late_fault, last_fault, last_done, to_issue, ahead}
+use Rattle.i9_course.specs.Course.{Item, IsCourse, records_of, course, instruction_ahead, issue_of_next, late_fault, last_fault, last_done, to_issue, ahead}
 use Rattle.i9_course.proofs.Ahead.{imprecise_overtaken, precise_by}
 use Rattle.i9_course.proofs.Barriers.{next_barrier, last_reached}
 use Rattle.i9_course.proofs.NeedAlike.{need_alike}
+use Rattle.i9_course.proofs.Orderly.{course_events}
 use Rattle.i9_plan.specs.Open.{WaitsForAll, NeedsAhead}
 use Rattle.i9_processor.specs.State.{state_of, cache_of, size_of}
 use Rattle.i9_machine.specs.declared.machine.Machine.{Machine}
@@ -110,11 +113,21 @@ standing_need asked c s t alike (Faults i number) =
     (ap (λ (u : State). Faulted (Some i) (fault_at u number)) alike.rest)
 standing_need asked c s t alike (Runs i) = kind_need asked c s t alike (λ u. Instruction i) refl
 
-pub ahead_need : (asked : Option ℕ) (c : Cache) (s t : State) → AreAlike s t
+-- the run reads soft bytes as 0
+pub course_blind : (g : Given) (h : List Item) → IsCourse g h → IsBlind (state_after g (records_of h))
+course_blind g h past = blind-after g (records_of h) (course_events g h past)
+
+-- so the same stands at the instruction address of states that are alike
+standing_alike : (s t : State) → IsBlind s → AreAlike s t → stands_at t ≡ stands_at s
+standing_alike s t blind alike =
+    let agree = agree-alike s t blind alike in
+    ap stands_at agree.rest
+    ∙ stands-same false s t.regs t.memory.bytes t.reading (record { regs = agree.regs; bytes = agree.bytes; reading = agree.reading })
+
+pub ahead_need : (asked : Option ℕ) (c : Cache) (s t : State) → IsBlind s → AreAlike s t
     → need_ahead asked c (instruction_ahead t) ≡ need_ahead asked c (instruction_ahead s)
-ahead_need asked c s t alike =
-    ap (λ (x : Standing). need_ahead asked c (next_by_standing t x))
-    (ap stands_at alike.rest ∙ stands_same s t.memory.bytes alike.bytes)
+ahead_need asked c s t blind alike =
+    ap (λ (x : Standing). need_ahead asked c (next_by_standing t x)) (standing_alike s t blind alike)
     ∙ standing_need asked c s t alike (stands_at s)
 
 -- it issues at the turn that the scoreboard gives its need
@@ -128,7 +141,7 @@ ahead_issues m need t is turn g h stands =
     turn rs stands.lands.board
     ∙ ap (λ (f : ℕ). issue_turn (last_issue rs) rs (waiting_until f need)) stands.lands.mark
     ∙ ap (λ (n : Need). issue_turn (last_issue rs) rs (waiting_until (course g h).mark n))
-    (sym (is.ahead g.sets c) ∙ ahead_need g.sets c s (state_of m.processor) stands.state)
+    (sym (is.ahead g.sets c) ∙ ahead_need g.sets c s (state_of m.processor) (course_blind g h stands.past) stands.state)
 
 -- where it waits for all, it overtakes nothing
 pub waits_precise : (g : Given) (h : List Item) (m : Machine) → StandsFor g h None m
@@ -136,7 +149,7 @@ pub waits_precise : (g : Given) (h : List Item) (m : Machine) → StandsFor g h 
 waits_precise g h m stands waits =
     let s = state_after g (records_of h) in
     let c = cache_after g (records_of h) in
-    let barrier = sym (ap (λ (n : Need). n.barrier) (ahead_need g.sets c s (state_of m.processor) stands.state)) ∙ waits g.sets c in
+    let barrier = sym (ap (λ (n : Need). n.barrier) (ahead_need g.sets c s (state_of m.processor) (course_blind g h stands.past) stands.state)) ∙ waits g.sets c in
     let turn : issue_of_next g h (instruction_ahead s) ≡ end_turn (turns (course g h).late) = next_barrier g h (instruction_ahead s) barrier in
     let reached : last_done (course g h).late ≤ end_turn (turns (course g h).late) = last_reached (course g h).late in
     precise_by g h (omega (arith, turn, reached))

@@ -26,7 +26,7 @@ use Rattle.i9_machine.specs.Opening.{IsFreeToIssue, IsTimely}
 use Rattle.i9_machine.specs.StandsFor.{StandsFor, Follows, IsUnderWay}
 use Rattle.i9_machine.specs.Step.{turn_at, event_for, next_where, next_for}
 use Rattle.i9_machine.proofs.Beside.{same_turn_at, beside}
-use Rattle.i9_machine.proofs.Overtaking.{ahead_need, drained_precise}
+use Rattle.i9_machine.proofs.Overtaking.{ahead_need, course_blind, drained_precise}
 use Rattle.i9_machine.proofs.Stepping.{goes_by_itself}
 
 -- where the instruction comes next, it issues at its turn
@@ -39,7 +39,7 @@ itself_issues g h m plan stands follows free none =
     ap (issue_after (course g h))
     (sym same
     ∙ ap (need_ahead g.sets c) itself
-    ∙ ahead_need g.sets c (state_after g (records_of h)) (state_of m.processor) stands.state)
+    ∙ ahead_need g.sets c (state_after g (records_of h)) (state_of m.processor) (course_blind g h stands.past) stands.state)
 
 pub is_timely : (m : Machine) (plan : Plan) → IsUnderWay m plan → ((rs : List TimedNeed) → board.StandsFor m.board rs → end_turn rs ≤ m.turn)
     → IsTimely m plan

@@ -44,6 +44,8 @@ const TELLS: &str = "until 1018
 held
 mem 3010 4
 rawmem 3010 4
+until 101C
+regs
 turn 100
 ";
 

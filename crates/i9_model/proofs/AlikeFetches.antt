@@ -3,16 +3,12 @@
 use Rattle.std.proofs.Common.{◌≡◌, ℕ, ◌+◌, Bool, true, false, cond, eqb, nat_le, Option, Some, None, Result, Ok, Err, refl, sym, ap, ◌∙◌, inl, inr, arith}
 use Rattle.std.specs.Prelude.{not, ◌&&◌, ◌||◌, ◌⊎◌}
 use Rattle.std.proofs.lemmas.Bool.{eqb-true}
-use Rattle.i9_isa.specs.declared.op.Op.{Op}
-use Rattle.i9_isa.specs.declared.op.Op.TheVariants.{Sysctl}
 use Rattle.i9_isa.specs.declared.inst.Mode.{Mode}
 use Rattle.i9_isa.specs.declared.inst.Mode.TheVariants.{Offset, BaseOffset, Base, Ip, BaseIndex, Disp, BaseDisp, IndexDisp, BaseIndexDisp}
 use Rattle.i9_isa.specs.declared.inst.Inst.{Inst}
 use Rattle.i9_isa.specs.declared.inst.BadWord.{BadWord}
-use Rattle.i9_isa.specs.declared.size.Transfer.{Transfer}
-use Rattle.i9_isa.specs.Transfers.{transfer_of}
 use Rattle.i9_isa.specs.Words.{words_of_mode, words_of, decoded}
-use Rattle.i9_model.specs.declared.layout.TheConstants.{FP, SP, RECORD_SIZE, FAULT_RETURN, MOST_SYSTEM_CALL, PRCB_SIZE, CONTROL_TABLE_SIZE}
+use Rattle.i9_model.specs.declared.layout.TheConstants.{RECORD_SIZE, FAULT_RETURN, MOST_SYSTEM_CALL, PRCB_SIZE, CONTROL_TABLE_SIZE}
 use Rattle.i9_model.specs.declared.calls.Sys.{Sys}
 use Rattle.i9_model.specs.declared.calls.Pop.{Pop}
 use Rattle.i9_model.specs.declared.calls.CallsStop.TheVariants.{Length}
@@ -25,31 +21,29 @@ use Rattle.i9_model.specs.Memory.{Memory, word_in}
 use Rattle.i9_model.specs.State.{State, Frames}
 use Rattle.i9_model.specs.Frames.{rounded_down, in_frames, flushed}
 use Rattle.i9_model.specs.Hazards.{unless, read_hazard, return_hazard}
-use Rattle.i9_model.specs.Operands.{value}
 use Rattle.i9_model.specs.Tables.{tables_hazard}
-use Rattle.i9_model.specs.Calls.{system_hazard, system_entered, planned_system, planned_calls, calls_answer, call_type, planned_ret, popped, ret_hazard, return_type, controls_hazard, returned_pc, returned_ac}
-use Rattle.i9_model.specs.Faults.{raised, ◌>>=◌, or_stop, table_entry, checked_word, planned_handler, planned_frame, planned_fault}
-use Rattle.i9_model.specs.Step.{Message, AsksNothing, AsksCheck, AsksInterrupt, AsksRestart, AsksGroup, first_word, next_word, asked_message}
-use Rattle.i9_model.specs.Access.{Access, NoAccess, Reads, Writes, Changes, SavesAt, CallsSystem, ReturnsBy, Requests, ReadsTables, ReadsGroup, message_access, access_by_name, access_by, access_of, data_of, hazard_in, hazard_of, second_hazard, fetch_hazard}
-use Rattle.i9_model.specs.Standing.{raised_in, later_fault, by_access, by_later, by_raised, by_word, by_fetch, stands_at}
-use Rattle.i9_model.specs.Run.{entry_in}
+use Rattle.i9_model.specs.Calls.{save_area, system_hazard_by, entered_here, system_hazard, system_entered, planned_system, planned_calls, calls_answer, call_type, planned_ret, popped, ret_hazard, return_type, controls_hazard, returned_pc, returned_ac}
+use Rattle.i9_model.specs.Faults.{◌>>=◌, or_stop, table_entry, checked_word, planned_handler, planned_frame, planned_fault, planned_fault_by}
+use Rattle.i9_model.specs.Step.{first_word, next_word}
+use Rattle.i9_model.specs.Access.{second_hazard, fetch_hazard}
 use Rattle.i9_model.specs.Alike.{is_beyond, is_hard, is_compared, AgreeWhere, with_other, with_memory, told_words}
-use Rattle.i9_model.proofs.CallLaws.{first_none, second_none}
+use Rattle.i9_model.proofs.CallLaws.{first_none}
 use Rattle.i9_model.proofs.Readings.{read_same, inner_word_same, word_same}
-use Rattle.i9_model.proofs.AlikeActions.{hard_bytes, or_else_same, system_hazard_same, system_same, saved_pc_same, saved_ac_same}
+use Rattle.i9_model.proofs.AlikeActions.{or_else_same, AreKnown, system_hazard_by_same, system_by_same, system_hazard_same, system_same, saved_pc_same, saved_ac_same}
 use Rattle.i9_model.proofs.SecondWords.{AreOfWord, decoded_alike}
 use Rattle.i9_model.proofs.Stands.{IsRead}
 
 -- ---- as after a flush
 
 pub flushed_compared : (f : Frames) (x : ℕ) → is_hard (flushed f) x ≡ true → is_compared f x ≡ true
-flushed_compared f x h = by_cases (is_beyond x) (f.soft x) (in_frames f.live x) h
+flushed_compared f x h = by_cases (is_beyond x) (f.soft x) (f.marked x) (in_frames f.live x) h
   where
-    by_cases : (beyond soft live : Bool) → (beyond || not (soft && not live)) ≡ true → ((beyond || not soft) || live) ≡ true
-    by_cases true soft live h = refl
-    by_cases false false live h = refl
-    by_cases false true true h = refl
-    by_cases false true false h = absurd cc
+    by_cases : (beyond soft m live : Bool) → (beyond || not (soft && not (cond (not m) live false))) ≡ true → ((beyond || not soft) || live) ≡ true
+    by_cases true soft m live h = refl
+    by_cases false false m live h = refl
+    by_cases false true false true h = refl
+    by_cases false true true live h = absurd cc
+    by_cases false true false false h = absurd cc
 
 pub flushed_hard : (f : Frames) (m : Memory) (bytes : ℕ → ℕ) → AgreeWhere (is_compared f) m bytes → AgreeWhere (is_hard (flushed f)) m bytes
 flushed_hard f m bytes same = λ x h. same x (flushed_compared f x h)
@@ -60,45 +54,9 @@ tables_hazard_same f m bytes prcb same =
     or_else_same (read_hazard f prcb PRCB_SIZE) _ _ (λ none.
     ap (λ (w : ℕ). read_hazard f w CONTROL_TABLE_SIZE) (inner_word_same m bytes prcb PRCB_SIZE 4 (read_same f m bytes prcb PRCB_SIZE same none) (omega arith)))
 
--- ---- hazards
-
-access_hazard_same : (x : Access) (s : State) (bytes : ℕ → ℕ) → AgreeWhere (is_compared s.frames) s.memory bytes → hazard_in (with_memory s bytes) x ≡ hazard_in s x
-access_hazard_same NoAccess s bytes same = refl
-access_hazard_same (Reads a n) s bytes same = refl
-access_hazard_same (Writes a n) s bytes same = refl
-access_hazard_same (Changes a n) s bytes same = refl
-access_hazard_same (SavesAt a) s bytes same = refl
-access_hazard_same (CallsSystem n) s bytes same = system_hazard_same s.frames s.memory bytes s.tables.system_table n s.pc (s.regs FP) (hard_bytes s.frames s.memory bytes same)
-access_hazard_same (ReturnsBy pfp) s bytes same = refl
-access_hazard_same (Requests v) s bytes same = refl
-access_hazard_same (ReadsTables prcb) s bytes same = tables_hazard_same (flushed s.frames) s.memory bytes prcb (flushed_hard s.frames s.memory bytes same)
-access_hazard_same (ReadsGroup group) s bytes same = refl
-
-message_access_same : (m : Message) (i : Inst) (s : State) (bytes : ℕ → ℕ) → message_access m i (with_memory s bytes) ≡ message_access m i s
-message_access_same AsksNothing i s bytes = refl
-message_access_same AsksCheck i s bytes = refl
-message_access_same AsksInterrupt i s bytes = refl
-message_access_same AsksRestart i s bytes = refl
-message_access_same AsksGroup i s bytes = refl
-
-name_access_same : (op : Op) (i : Inst) (s : State) (bytes : ℕ → ℕ) → access_by_name op i (with_memory s bytes) ≡ access_by_name op i s
-name_access_same Sysctl i s bytes = message_access_same (asked_message i s) i s bytes
-name_access_same _ i s bytes = refl
-
-pub access_same : (i : Inst) (s : State) (bytes : ℕ → ℕ) → access_of i (with_memory s bytes) ≡ access_of i s
-access_same i s bytes = by_transfer (transfer_of i.op)
-  where
-    by_transfer : (o : Option Transfer) → access_by o i (with_memory s bytes) ≡ access_by o i s
-    by_transfer (Some t) = refl
-    by_transfer None = name_access_same i.op i s bytes
-
-hazard_same : (i : Inst) (s : State) (bytes : ℕ → ℕ) → AgreeWhere (is_compared s.frames) s.memory bytes → hazard_of i (with_memory s bytes) ≡ hazard_of i s
-unfolding hazard_of
-hazard_same i s bytes same = ap (hazard_in (with_memory s bytes)) (access_same i s bytes) ∙ access_hazard_same (access_of i s) s bytes same
-
 -- ---- the fetch
 
-first_word_same : (s : State) (bytes : ℕ → ℕ) → AgreeWhere (is_hard s.frames) s.memory bytes → read_hazard s.frames s.ip 4 ≡ None → first_word (with_memory s bytes) ≡ first_word s
+pub first_word_same : (s : State) (bytes : ℕ → ℕ) → AgreeWhere (is_hard s.frames) s.memory bytes → read_hazard s.frames s.ip 4 ≡ None → first_word (with_memory s bytes) ≡ first_word s
 first_word_same s bytes same none = word_same s.frames s.memory bytes s.ip 4 same none (omega arith)
 
 second_hazard_same : (s : State) (bytes : ℕ → ℕ) (r q : Result Inst BadWord) → AreOfWord r q → second_hazard (with_memory s bytes) q ≡ second_hazard s r
@@ -107,31 +65,13 @@ second_hazard_same s bytes (Err e) (Err d) h = refl
 second_hazard_same s bytes (Ok i) (Err d) h = absurd h
 second_hazard_same s bytes (Err e) (Ok j) h = absurd h
 
-fetch_hazard_same : (s : State) (bytes : ℕ → ℕ) → AgreeWhere (is_hard s.frames) s.memory bytes → fetch_hazard (with_memory s bytes) ≡ fetch_hazard s
+pub fetch_hazard_same : (s : State) (bytes : ℕ → ℕ) → AgreeWhere (is_hard s.frames) s.memory bytes → fetch_hazard (with_memory s bytes) ≡ fetch_hazard s
 unfolding fetch_hazard
 fetch_hazard_same s bytes same =
     let t = with_memory s bytes in
     or_else_same (read_hazard s.frames s.ip 4) _ _ (λ none.
     ap (λ (w : ℕ). second_hazard t (decoded w (next_word t))) (first_word_same s bytes same none)
     ∙ second_hazard_same s bytes (decoded (first_word s) (next_word s)) (decoded (first_word s) (next_word t)) (decoded_alike (first_word s) (next_word s) (next_word t)))
-
--- what an instruction raises goes by registers alone
-raised_same : (i : Inst) (s : State) (bytes : ℕ → ℕ) → raised_in i (with_memory s bytes) ≡ raised_in i s
-raised_same i s bytes = ap (λ (x : Access). raised i (value s i.a) (value s i.b) (data_of x) s.pc s.tables.fault_config) (access_same i s bytes)
-
-later_same : (i : Inst) (s : State) (bytes : ℕ → ℕ) (o : Option (ℕ × ℕ)) → AgreeWhere (is_compared s.frames) s.memory bytes → by_later i (with_memory s bytes) o ≡ by_later i s o
-later_same i s bytes (Some number) same = refl
-later_same i s bytes None same = ap (by_access i) (hazard_same i s bytes same)
-
-by_raised_same : (i : Inst) (s : State) (bytes : ℕ → ℕ) (o : Option (ℕ × ℕ)) → AgreeWhere (is_compared s.frames) s.memory bytes → by_raised i (with_memory s bytes) o ≡ by_raised i s o
-by_raised_same i s bytes (Some number) same = refl
-by_raised_same i s bytes None same = later_same i s bytes (later_fault i s) same
-
-by_word_same : (s : State) (bytes : ℕ → ℕ) (r : Result Inst BadWord) → AgreeWhere (is_compared s.frames) s.memory bytes → by_word (with_memory s bytes) r ≡ by_word s r
-by_word_same s bytes (Err e) same = refl
-by_word_same s bytes (Ok i) same =
-    let t = with_memory s bytes in
-    ap (by_raised i t) (raised_same i s bytes) ∙ by_raised_same i s bytes (raised_in i s) same
 
 -- an instruction has one word or two
 one_or_two : (i : Inst) → (words_of i ≡ 1) ⊎ (words_of i ≡ 2)
@@ -149,7 +89,7 @@ one_or_two i = by_mode i.ea.mode
     by_mode BaseIndexDisp = inr refl
 
 -- where the second word isn't read it doesn't matter, and where it is, it is the same
-decoded_same : (s : State) (bytes : ℕ → ℕ) (r q : Result Inst BadWord) → AgreeWhere (is_hard s.frames) s.memory bytes → AreOfWord r q → second_hazard s r ≡ None → (next_word (with_memory s bytes) ≡ next_word s → q ≡ r) → q ≡ r
+pub decoded_same : (s : State) (bytes : ℕ → ℕ) (r q : Result Inst BadWord) → AgreeWhere (is_hard s.frames) s.memory bytes → AreOfWord r q → second_hazard s r ≡ None → (next_word (with_memory s bytes) ≡ next_word s → q ≡ r) → q ≡ r
 decoded_same s bytes (Err e) (Err d) same h none next = ap (λ (x : BadWord). Err x) h
 decoded_same s bytes (Ok i) (Err d) same h none next = absurd h
 decoded_same s bytes (Err e) (Ok j) same h none next = absurd h
@@ -160,25 +100,6 @@ decoded_same s bytes (Ok i) (Ok j) same h none next = elim (one_or_two i) [
       let read : read_hazard s.frames a 4 ≡ None = sym (ap (λ (n : ℕ). cond (eqb n 2) (read_hazard s.frames a 4) None) two) ∙ none in
       next (word_same s.frames s.memory bytes a 4 same read (omega arith))
 ]
-
-by_fetch_same : (s : State) (bytes : ℕ → ℕ) (h : Option ℕ) → AgreeWhere (is_compared s.frames) s.memory bytes → fetch_hazard s ≡ h → by_fetch (with_memory s bytes) h ≡ by_fetch s h
-unfolding fetch_hazard
-by_fetch_same s bytes (Some a) same is = refl
-by_fetch_same s bytes None same is =
-    let t = with_memory s bytes in
-    let w = first_word s in
-    let r = decoded w (next_word s) in
-    let hard = hard_bytes s.frames s.memory bytes same in
-    let first = first_word_same s bytes hard (first_none (read_hazard s.frames s.ip 4) (second_hazard s r) is) in
-    let second = second_none (read_hazard s.frames s.ip 4) (second_hazard s r) is in
-    let word = decoded_same s bytes r (decoded w (next_word t)) hard (decoded_alike w (next_word s) (next_word t)) second (λ e. ap (decoded w) e) in
-    ap (by_word t) (ap (λ (v : ℕ). decoded v (next_word t)) first ∙ word) ∙ by_word_same s bytes r same
-
--- the same stands at the instruction address
-pub stands_same : (s : State) (bytes : ℕ → ℕ) → AgreeWhere (is_compared s.frames) s.memory bytes → stands_at (with_memory s bytes) ≡ stands_at s
-unfolding stands_at
-stands_same s bytes same =
-    ap (by_fetch (with_memory s bytes)) (fetch_hazard_same s bytes (hard_bytes s.frames s.memory bytes same)) ∙ by_fetch_same s bytes (fetch_hazard s) same refl
 
 -- ---- its words
 
@@ -198,7 +119,7 @@ bind_rest : {A B : Type 0} (r : Result A FaultStop) (f g : A → Result B FaultS
 bind_rest (Ok x) f g same = same x
 bind_rest (Err stop) f g same = refl
 
-bind_same : {A B : Type 0} (r q : Result A FaultStop) (f g : A → Result B FaultStop) → q ≡ r → ((x : A) → g x ≡ f x) → (q >>= g) ≡ (r >>= f)
+pub bind_same : {A B : Type 0} (r q : Result A FaultStop) (f g : A → Result B FaultStop) → q ≡ r → ((x : A) → g x ≡ f x) → (q >>= g) ≡ (r >>= f)
 bind_same r q f g e same = ap (λ x. x >>= g) e ∙ bind_rest r f g same
 
 pub unless_same : {A : Type 0} (h : Option ℕ) (x y : A) → (h ≡ None → y ≡ x) → unless h y ≡ unless h x
@@ -208,7 +129,7 @@ unless_same (Some a) x y same = refl
 checked_same : (f : Frames) (m : Memory) (bytes : ℕ → ℕ) (a : ℕ) → AgreeWhere (is_hard f) m bytes → checked_word (with_other m bytes) f a ≡ checked_word m f a
 checked_same f m bytes a same = ap or_stop (unless_same (read_hazard f a 4) (word_in m a) (word_in (with_other m bytes) a) (λ none. word_same f m bytes a 4 same none (omega arith)))
 
-handler_same : (f : Frames) (m : Memory) (bytes : ℕ → ℕ) (at : ℕ) → AgreeWhere (is_hard f) m bytes → planned_handler (with_other m bytes) f at ≡ planned_handler m f at
+pub handler_same : (f : Frames) (m : Memory) (bytes : ℕ → ℕ) (at : ℕ) → AgreeWhere (is_hard f) m bytes → planned_handler (with_other m bytes) f at ≡ planned_handler m f at
 unfolding planned_handler
 handler_same f m bytes at same =
     bind_same _ _ _ _ (checked_same f m bytes at same) (λ first.
@@ -220,21 +141,27 @@ planned_system_same f m bytes table n pc fp sp extra kind same =
     ap (λ (h : Option ℕ). unless h (system_entered (with_other m bytes) table n pc fp sp extra kind)) (system_hazard_same f m bytes table n pc fp same)
     ∙ unless_same (system_hazard m f table n pc fp) (system_entered m table n pc fp sp extra kind) (system_entered (with_other m bytes) table n pc fp sp extra kind) (λ none. system_same f m bytes table n pc fp sp extra kind same none)
 
-planned_frame_same : (f : Frames) (m : Memory) (bytes : ℕ → ℕ) (system pc fp sp : ℕ) (h : Handler) → AgreeWhere (is_hard f) m bytes → planned_frame (with_other m bytes) f system pc fp sp h ≡ planned_frame m f system pc fp sp h
+planned_frame_same : (f : Frames) (m : Memory) (bytes : ℕ → ℕ) (system pc fp sp fp2 sp2 : ℕ) (area : Bool → Option ℕ) (h : Handler) → AgreeWhere (is_hard f) m bytes → AreKnown area fp sp fp2 sp2 → planned_frame (with_other m bytes) f system pc fp2 sp2 area h ≡ planned_frame m f system pc fp sp area h
 unfolding planned_frame
-planned_frame_same f m bytes system pc fp sp (Local target) same = refl
-planned_frame_same f m bytes system pc fp sp (System n) same = planned_system_same f m bytes system n pc fp sp RECORD_SIZE (λ _. FAULT_RETURN) same
+planned_frame_same f m bytes system pc fp sp fp2 sp2 area (Local target) same known =
+    unless_same (area false) (entered_here target pc fp sp RECORD_SIZE FAULT_RETURN) (entered_here target pc fp2 sp2 RECORD_SIZE FAULT_RETURN) (λ none.
+    let push = known false none in
+    ap (λ (x : ℕ). entered_here target pc x sp2 RECORD_SIZE FAULT_RETURN) push.0 ∙ ap (λ (x : ℕ). entered_here target pc fp x RECORD_SIZE FAULT_RETURN) (push.1 refl))
+planned_frame_same f m bytes system pc fp sp fp2 sp2 area (System n) same known =
+    ap (λ (h : Option ℕ). unless h (system_entered (with_other m bytes) system n pc fp2 sp2 RECORD_SIZE (λ _. FAULT_RETURN))) (system_hazard_by_same f m bytes system n pc area same)
+    ∙ unless_same (system_hazard_by m f system n pc area) (system_entered m system n pc fp sp RECORD_SIZE (λ _. FAULT_RETURN)) (system_entered (with_other m bytes) system n pc fp2 sp2 RECORD_SIZE (λ _. FAULT_RETURN)) (λ none.
+    system_by_same f m bytes system n pc fp sp fp2 sp2 RECORD_SIZE (λ _. FAULT_RETURN) area same known none)
+
+pub planned_fault_by_same : (f : Frames) (m : Memory) (bytes : ℕ → ℕ) (table system : ℕ) (fault : Fault) (pc ac fp sp fp2 sp2 : ℕ) (area : Bool → Option ℕ) → AgreeWhere (is_hard f) m bytes → AreKnown area fp sp fp2 sp2
+    → planned_fault_by (with_other m bytes) f table system fault pc ac fp2 sp2 area ≡ planned_fault_by m f table system fault pc ac fp sp area
+unfolding planned_fault_by
+planned_fault_by_same f m bytes table system fault pc ac fp sp fp2 sp2 area same known =
+    bind_same _ _ _ _ (handler_same f m bytes (table_entry table fault.kind) same) (λ handler.
+    bind_same _ _ _ _ (ap or_stop (planned_frame_same f m bytes system pc fp sp fp2 sp2 area handler same known)) (λ sys. refl))
 
 pub planned_fault_same : (f : Frames) (m : Memory) (bytes : ℕ → ℕ) (table system : ℕ) (fault : Fault) (pc ac fp sp : ℕ) → AgreeWhere (is_hard f) m bytes
     → planned_fault (with_other m bytes) f table system fault pc ac fp sp ≡ planned_fault m f table system fault pc ac fp sp
-unfolding planned_fault
-planned_fault_same f m bytes table system fault pc ac fp sp same =
-    bind_same _ _ _ _ (handler_same f m bytes (table_entry table fault.kind) same) (λ handler.
-    bind_same _ _ _ _ (ap or_stop (planned_frame_same f m bytes system pc fp sp handler same)) (λ sys. refl))
-
-pub entry_same : (s : State) (bytes : ℕ → ℕ) (fault : Fault) → AgreeWhere (is_hard s.frames) s.memory bytes → entry_in (with_memory s bytes) fault ≡ entry_in s fault
-unfolding entry_in
-entry_same s bytes fault same = planned_fault_same s.frames s.memory bytes s.tables.fault_table s.tables.system_table fault s.pc s.ac (s.regs FP) (s.regs SP) same
+planned_fault_same f m bytes table system fault pc ac fp sp same = planned_fault_by_same f m bytes table system fault pc ac fp sp fp sp (save_area f fp) same (λ b none. (refl, λ e. refl))
 
 -- ---- calls and returns as they are planned
 

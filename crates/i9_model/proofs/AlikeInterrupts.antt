@@ -1,26 +1,27 @@
 -- In states that are alike the same interrupt is chosen, and its entry is the same.
-use Rattle.std.proofs.Common.{◌≡◌, ℕ, ◌+◌, ◌/◌, ◌%◌, ◌<◌, Bool, true, false, cond, List, [], ◌∷◌, ◌++◌, Option, None, Result, Ok, refl, ap, ◌∙◌, arith}
+use Rattle.std.proofs.Common.{◌≡◌, ℕ, ◌+◌, ◌/◌, ◌%◌, ◌<◌, Bool, true, false, cond, List, [], ◌∷◌, ◌++◌, Option, Some, None, Result, Ok, refl, ap, ◌∙◌, arith}
 use Rattle.std.specs.Prelude.{not, ◌&&◌, ◌||◌, ◌==◌, nat_le}
 use Rattle.i9_isa.specs.Words.{bit}
-use Rattle.i9_model.specs.declared.layout.TheConstants.{FRAME_SIZE, FP, SP}
+use Rattle.i9_model.specs.declared.layout.TheConstants.{FRAME_SIZE, RECORD_SIZE, INTERRUPT_RETURN}
 use Rattle.i9_model.specs.declared.push.Push.{Push}
 use Rattle.i9_model.specs.declared.faults.Entry.{Entry}
 use Rattle.i9_model.specs.declared.interrupts.Cause.{Cause}
 use Rattle.i9_model.specs.declared.interrupts.Cause.TheVariants.{Nmi, Line, Soft}
 use Rattle.i9_model.specs.declared.interrupts.Chosen.{Chosen}
-use Rattle.i9_model.specs.declared.interrupts.TheConstants.{PENDING_SIZE, PENDING_VECTORS}
+use Rattle.i9_model.specs.declared.interrupts.TheConstants.{PENDING_SIZE, PENDING_VECTORS, INTERRUPTED_PLACE}
 use Rattle.i9_model.specs.Writes.{address_count, upwards}
 use Rattle.i9_model.specs.Memory.{Memory, in_port_page, stored, with_writes}
 use Rattle.i9_model.specs.State.{State, Frames, Interrupts, aligned}
-use Rattle.i9_model.specs.Frames.{in_bytes, is_put, saved, wrote, record_address}
-use Rattle.i9_model.specs.Hazards.{or_else, unless, read_hazard, save_hazard, record_write_hazard}
-use Rattle.i9_model.specs.Interrupts.{vector_priority, priority_place, pending_place, is_requested, chosen_of, chosen, chosen_soft, without_bit, byte_hazard, left_pending, taken_writes, priority_hazard, taken_hazard, clearing_writes, clearing_hazard, vector_place, interrupt_push, interrupt_record, record_writes, cleared_hazard, interrupt_hazard, interrupt_entry, planned_interrupt}
-use Rattle.i9_model.specs.Before.{choice_in, interrupt_in, entry_writes, interrupting}
+use Rattle.i9_model.specs.Frames.{in_bytes, is_put, saved, wrote, record_address, pushed}
+use Rattle.i9_model.specs.Calls.{save_area}
+use Rattle.i9_model.specs.Hazards.{or_else, unless, read_hazard, record_write_hazard}
+use Rattle.i9_model.specs.Interrupts.{vector_priority, priority_place, pending_place, is_requested, chosen_of, chosen, chosen_soft, without_bit, byte_hazard, left_pending, taken_writes, priority_hazard, taken_hazard, clearing_writes, clearing_hazard, vector_place, interrupt_push, interrupt_record, record_writes, cleared_hazard, interrupt_hazard, interrupt_entry, planned_interrupt, planned_interrupt_by}
+use Rattle.i9_model.specs.Before.{choice_in, entry_writes}
 use Rattle.i9_model.specs.Alike.{is_beyond, is_hard, AgreeWhere, with_other, with_memory}
 use Rattle.i9_model.proofs.CallLaws.{first_none, second_none}
 use Rattle.i9_model.proofs.Readings.{byte_same, first_same, word_same}
 use Rattle.i9_model.proofs.Storing.{stored_agree}
-use Rattle.i9_model.proofs.AlikeActions.{or_else_same, stored_words_same}
+use Rattle.i9_model.proofs.AlikeActions.{or_else_same, AreKnown, stored_words_same}
 use Rattle.i9_model.proofs.AlikeFetches.{unless_same}
 use Rattle.i9_model.proofs.AlikeChoices.{chosen_of_same}
 use Rattle.i9_model.proofs.InterruptsFree.{InterruptsFree}
@@ -119,21 +120,45 @@ cleared_hazard_same f m bytes table c push words same =
     ap (λ (qs : List (ℕ × ℕ)). clearing_hazard c.cause (with_writes (with_other m bytes) qs) (wrote (saved f push.save) qs) table c.vector) (records_same m bytes push words)
     ∙ clearing_hazard_same c.cause (wrote (saved f push.save) ps) (with_writes m ps) (stored bytes ps) table c.vector (recorded_hard f m bytes push.save ps same)
 
-pub planned_same : (f : Frames) (m : Memory) (bytes : ℕ → ℕ) (table stack : ℕ) (c : Chosen) (pc ac fp sp : ℕ) → AgreeWhere (is_hard f) m bytes → planned_interrupt (with_other m bytes) f table stack c pc ac fp sp ≡ planned_interrupt m f table stack c pc ac fp sp
-unfolding planned_interrupt interrupt_hazard
-planned_same f m bytes table stack c pc ac fp sp same =
+planned_memory_same : (f : Frames) (m : Memory) (bytes : ℕ → ℕ) (table : ℕ) (push : Push) (c : Chosen) (words : List ℕ) (area : Option ℕ) → AgreeWhere (is_hard f) m bytes
+    → unless (interrupt_hazard (with_other m bytes) f table c push words area) (interrupt_entry (with_other m bytes) table c push words) ≡ unless (interrupt_hazard m f table c push words area) (interrupt_entry m table c push words)
+unfolding interrupt_hazard
+planned_memory_same f m bytes table push c words area same =
     let n = with_other m bytes in
-    let push = interrupt_push stack pc fp sp in
-    let words = interrupt_record c.vector pc ac in
     let vector = read_hazard f (vector_place table c.vector) 4 in
-    let later = or_else (save_hazard f push.save) (or_else (record_write_hazard f push) (cleared_hazard m f table c push words)) in
-    ap (λ (h : Option ℕ). unless (or_else vector (or_else (save_hazard f push.save) (or_else (record_write_hazard f push) h))) (interrupt_entry n table c push words)) (cleared_hazard_same f m bytes table c push words same)
+    let later = or_else area (or_else (record_write_hazard f push) (cleared_hazard m f table c push words)) in
+    ap (λ (h : Option ℕ). unless (or_else vector (or_else area (or_else (record_write_hazard f push) h))) (interrupt_entry n table c push words)) (cleared_hazard_same f m bytes table c push words same)
     ∙ unless_same (or_else vector later) (interrupt_entry m table c push words) (interrupt_entry n table c push words) (λ none.
     ap (λ (w : ℕ). record (interrupt_entry m table c push words) { target = aligned w }) (word_same f m bytes (vector_place table c.vector) 4 same (first_none vector later none) (omega arith)))
 
-pub interrupt_same : (s : State) (bytes : ℕ → ℕ) (c : Chosen) → AgreeWhere (is_hard s.frames) s.memory bytes → interrupt_in (with_memory s bytes) c ≡ interrupt_in s c
-unfolding interrupt_in
-interrupt_same s bytes c same = planned_same s.frames s.memory bytes s.tables.interrupt_table s.tables.interrupt_stack c s.pc s.ac (s.regs FP) (s.regs SP) same
+pub planned_by_same : (f : Frames) (m : Memory) (bytes : ℕ → ℕ) (table stack : ℕ) (c : Chosen) (pc ac fp sp fp2 sp2 : ℕ) (area : Bool → Option ℕ) → AgreeWhere (is_hard f) m bytes → AreKnown area fp sp fp2 sp2
+    → planned_interrupt_by (with_other m bytes) f table stack c pc ac fp2 sp2 area ≡ planned_interrupt_by m f table stack c pc ac fp sp area
+unfolding planned_interrupt_by interrupt_hazard
+planned_by_same f m bytes table stack c pc ac fp sp fp2 sp2 area same known =
+    let n = with_other m bytes in
+    let words = interrupt_record c.vector pc ac in
+    let here = area (not (bit pc INTERRUPTED_PLACE)) in
+    let vector = read_hazard f (vector_place table c.vector) 4 in
+    pushes vector here (interrupt_push stack pc fp sp) (interrupt_push stack pc fp2 sp2) (λ (push : Push). or_else (record_write_hazard f push) (cleared_hazard n f table c push words)) (λ (push : Push). interrupt_entry n table c push words) (λ none. push_same none)
+    ∙ planned_memory_same f m bytes table (interrupt_push stack pc fp sp) c words here same
+  where
+    push_same : area (not (bit pc INTERRUPTED_PLACE)) ≡ None → interrupt_push stack pc fp2 sp2 ≡ interrupt_push stack pc fp sp
+    push_same none =
+        let push = known (not (bit pc INTERRUPTED_PLACE)) none in
+        ap (λ (x : ℕ). interrupt_push stack pc x sp2) push.0 ∙ by_stack (bit pc INTERRUPTED_PLACE) push.1
+      where
+        by_stack : (b : Bool) → (not b ≡ false → sp2 ≡ sp) → pushed fp (cond b sp2 stack) RECORD_SIZE INTERRUPT_RETURN ≡ pushed fp (cond b sp stack) RECORD_SIZE INTERRUPT_RETURN
+        by_stack true h = ap (λ (x : ℕ). pushed fp x RECORD_SIZE INTERRUPT_RETURN) (h refl)
+        by_stack false h = refl
+
+    pushes : (vector here : Option ℕ) (p q : Push) (later : Push → Option ℕ) (entry : Push → Entry) → (here ≡ None → q ≡ p)
+        → unless (or_else vector (or_else here (later q))) (entry q) ≡ unless (or_else vector (or_else here (later p))) (entry p)
+    pushes (Some a) here p q later entry e = refl
+    pushes None (Some a) p q later entry e = refl
+    pushes None None p q later entry e = ap (λ (x : Push). unless (later x) (entry x)) (e refl)
+
+pub planned_same : (f : Frames) (m : Memory) (bytes : ℕ → ℕ) (table stack : ℕ) (c : Chosen) (pc ac fp sp : ℕ) → AgreeWhere (is_hard f) m bytes → planned_interrupt (with_other m bytes) f table stack c pc ac fp sp ≡ planned_interrupt m f table stack c pc ac fp sp
+planned_same f m bytes table stack c pc ac fp sp same = planned_by_same f m bytes table stack c pc ac fp sp fp sp (save_area f fp) same (λ b none. (refl, λ e. refl))
 
 -- the bytes that clear the request, behind the push and the record
 pub cleared_same : (f : Frames) (m : Memory) (bytes : ℕ → ℕ) (table : ℕ) (c : Chosen) (push : Push) (words : List ℕ) → AgreeWhere (is_hard f) m bytes → cleared_hazard m f table c push words ≡ None
@@ -143,13 +168,11 @@ cleared_same f m bytes table c push words same none =
     ap (λ (qs : List (ℕ × ℕ)). clearing_writes c.cause (with_writes (with_other m bytes) qs) table c.vector) (records_same m bytes push words)
     ∙ clearing_writes_same c.cause (wrote (saved f push.save) ps) (with_writes m ps) (stored bytes ps) table c.vector (recorded_hard f m bytes push.save ps same) none
 
-pub interrupting_same : (s : State) (bytes : ℕ → ℕ) (c : Chosen) (e : Entry) → AgreeWhere (is_hard s.frames) s.memory bytes → InterruptsFree s c e → interrupting c e (with_memory s bytes) ≡ interrupting c e s
-interrupting_same s bytes c e same free =
+pub entry_writes_same : (s : State) (bytes : ℕ → ℕ) (c : Chosen) (e : Entry) → AgreeWhere (is_hard s.frames) s.memory bytes → InterruptsFree s c e → entry_writes (with_memory s bytes) c e ≡ entry_writes s c e
+entry_writes_same s bytes c e same free =
     let m = s.memory in
     let n = with_other m bytes in
     let table = s.tables.interrupt_table in
     let ps = record_writes m e.push e.words in
-    let writes : entry_writes (with_memory s bytes) c e ≡ entry_writes s c e =
     ap (λ (qs : List (ℕ × ℕ)). qs ++ clearing_writes c.cause (with_writes n (record_writes n e.push e.words)) table c.vector) (records_same m bytes e.push e.words)
-    ∙ ap (λ (qs : List (ℕ × ℕ)). ps ++ qs) (cleared_same s.frames m bytes table c e.push e.words same free.clears) in
-    ap (λ (ws : List (ℕ × ℕ)). record (interrupting c e s) { writes = ws }) writes
+    ∙ ap (λ (qs : List (ℕ × ℕ)). ps ++ qs) (cleared_same s.frames m bytes table c e.push e.words same free.clears)

@@ -1,12 +1,12 @@
 -- An action makes states that are alike of states that are alike.
-use Rattle.std.proofs.Common.{◌≡◌, ℕ, ◌*◌, Bool, true, false, ◌&&◌, ◌||◌, List, [], ◌∷◌, length, drop, nat_le, refl, sym, ap, ◌∙◌}
+use Rattle.std.proofs.Common.{◌≡◌, ℕ, ◌*◌, Bool, true, false, cond, ◌&&◌, ◌||◌, List, [], ◌∷◌, length, drop, nat_le, refl, sym, ap, ◌∙◌}
 use Rattle.std.specs.Prelude.{not}
 use Rattle.std.proofs.lemmas.Bool.{or_left, or_right}
 use Rattle.i9_model.specs.declared.layout.TheConstants.{FRAME_SIZE}
 use Rattle.i9_model.specs.Writes.{address_count, upwards}
 use Rattle.i9_model.specs.Memory.{Memory, in_port_page, stored, with_bytes, with_writes}
 use Rattle.i9_model.specs.State.{State, Frames}
-use Rattle.i9_model.specs.Frames.{in_bytes, in_frames, saved, returned, flushed, is_put, wrote}
+use Rattle.i9_model.specs.Frames.{in_bytes, in_frames, has, saved, returned, flushed, is_put, wrote, softened}
 use Rattle.i9_model.specs.Step.{Move, Stays, Saves, Returns, Flushes, Action, bytes_of_words, memory_after, frames_after, moved}
 use Rattle.i9_model.specs.Alike.{is_beyond, is_hard, is_compared, AgreeWhere, with_other, with_memory, AreAlike}
 use Rattle.i9_model.specs.Free.{IsWhole}
@@ -43,13 +43,14 @@ after_return f x h = by_live f.live (is_hard f x) h
     by_live (g ∷ live) false h = or_right (in_bytes g FRAME_SIZE x) (in_frames live x) h
 
 after_flush : (f : Frames) (x : ℕ) → is_compared (flushed f) x ≡ true → is_compared f x ≡ true
-after_flush f x h = by_cases (is_beyond x) (f.soft x) (in_frames f.live x) h
+after_flush f x h = by_cases (is_beyond x) (f.soft x) (f.marked x) (in_frames f.live x) h
   where
-    by_cases : (beyond soft live : Bool) → ((beyond || not (soft && not live)) || false) ≡ true → ((beyond || not soft) || live) ≡ true
-    by_cases true soft live h = refl
-    by_cases false false live h = refl
-    by_cases false true true h = refl
-    by_cases false true false h = absurd cc
+    by_cases : (beyond soft m live : Bool) → ((beyond || not (soft && not (cond (not m) live false))) || false) ≡ true → ((beyond || not soft) || live) ≡ true
+    by_cases true soft m live h = refl
+    by_cases false false m live h = refl
+    by_cases false true false true h = refl
+    by_cases false true true live h = absurd cc
+    by_cases false true false false h = absurd cc
 
 port_compared : (f : Frames) (x : ℕ) → in_port_page x ≡ true → is_compared f x ≡ true
 port_compared f x p = or_left (is_hard f x) (in_frames f.live x) (or_left (is_beyond x) (not (f.soft x)) (or_left (in_port_page x) (nat_le address_count x) p))
@@ -82,6 +83,16 @@ move_mcon Returns m = refl
 move_mcon Flushes m = refl
 move_mcon (Saves save words) m = ap (λ (k : Memory). k.mcon) (words_as_bytes m save words)
 
+-- bytes that are soft again are compared no more
+pub softened_compared : (f : Frames) (stale : List ℕ) (x : ℕ) → is_compared (softened f stale) x ≡ true → is_compared f x ≡ true
+softened_compared f stale x h = by_cases (is_beyond x) (has stale x) (f.soft x) (in_frames f.live x) h
+  where
+    by_cases : (beyond again soft live : Bool) → ((beyond || not (again || soft)) || live) ≡ true → ((beyond || not soft) || live) ≡ true
+    by_cases true again soft live h = refl
+    by_cases false false soft live h = h
+    by_cases false true false live h = refl
+    by_cases false true true live h = h
+
 -- a state after an action with other bytes, from the memory after its move
 abbrev with_moved : State → Action → Memory → State
 with_moved s a m = record (moved s a) { memory = with_writes m a.writes }
@@ -97,5 +108,7 @@ pub moved_alike : (s : State) (a : Action) (bytes : ℕ → ℕ) → IsWhole a.m
 unfolding moved
 moved_alike s a bytes whole same = record {
   rest = moved_rest s a bytes;
-  bytes = stored_alike (frames_after s.frames a.move) (memory_after s.memory a.move) (memory_after (with_other s.memory bytes) a.move).bytes a.writes (move_alike a.move s.frames s.memory bytes whole same);
+  bytes = λ x h.
+      stored_alike (frames_after s.frames a.move) (memory_after s.memory a.move) (memory_after (with_other s.memory bytes) a.move).bytes a.writes (move_alike a.move s.frames s.memory bytes whole same) x
+      (softened_compared (wrote (frames_after s.frames a.move) a.writes) a.stale x h);
 }

@@ -11,8 +11,8 @@ use Rattle.i9_model.specs.Memory.{Memory, word_in}
 use Rattle.i9_model.specs.State.{Frames}
 use Rattle.i9_model.specs.Frames.{rounded_down, saved}
 use Rattle.i9_model.specs.Hazards.{or_else, unless, read_hazard, write_hazard, port_hazard, save_hazard}
-use Rattle.i9_model.specs.Calls.{entry_address, stack_address, is_switch, stack_hazard, system_hazard, entered_here, entered_switched, system_entered, record_address}
-use Rattle.i9_model.specs.Faults.{◌>>=◌, or_stop, table_entry, planned_handler, planned_frame, entry_of, planned_fault}
+use Rattle.i9_model.specs.Calls.{save_area, system_hazard_by, entry_address, stack_address, is_switch, stack_hazard, system_hazard, entered_here, entered_switched, system_entered, record_address}
+use Rattle.i9_model.specs.Faults.{◌>>=◌, or_stop, table_entry, planned_handler, planned_frame, entry_of, planned_fault, planned_fault_by}
 use Rattle.i9_model.specs.Hazards.{record_write_hazard}
 
 pub first_none : (o p : Option ℕ) → or_else o p ≡ None → o ≡ None
@@ -59,17 +59,28 @@ pub bind_ok : {A B : Type 0} (r : Result A FaultStop) (next : A → Result B Fau
 bind_ok (Ok x) next y e = (x, refl, e)
 bind_ok (Err stop) next y e = absurd cc
 
-frame_free : (m : Memory) (f : Frames) (system pc fp sp : ℕ) (h : Handler) (s : Sys) → planned_frame m f system pc fp sp h ≡ Ok s → save_hazard f s.push.save ≡ None
+-- what is checked of a push has its save area in it
+abbrev pub ChecksSave : Frames → ℕ → (Bool → Option ℕ) → Type 0
+ChecksSave f fp area = (b : Bool) → area b ≡ None → save_hazard f (rounded_down fp) ≡ None
+
+-- and it is checked last
+pub system_checks : (m : Memory) (f : Frames) (table n pc : ℕ) (area : Bool → Option ℕ) → system_hazard_by m f table n pc area ≡ None → area (is_switch (word_in m (entry_address table n)) pc) ≡ None
+system_checks m f table n pc area e =
+    let at = entry_address table n in
+    let switched = is_switch (word_in m at) pc in
+    second_none (stack_hazard f table switched) (area switched) (second_none (read_hazard f at 4) (or_else (stack_hazard f table switched) (area switched)) e)
+
+frame_free : (m : Memory) (f : Frames) (system pc fp sp : ℕ) (area : Bool → Option ℕ) (h : Handler) (s : Sys) → ChecksSave f fp area → planned_frame m f system pc fp sp area h ≡ Ok s → save_hazard f s.push.save ≡ None
 unfolding planned_frame
-frame_free m f system pc fp sp (Local target) s e =
-    let u = unless_ok (save_hazard f (rounded_down fp)) (entered_here target pc fp sp RECORD_SIZE 1) s e in
-    ap (λ (x : Sys). save_hazard f x.push.save) (sym u.1) ∙ u.0
-frame_free m f system pc fp sp (System n) s e =
+frame_free m f system pc fp sp area (Local target) s checks e =
+    let u = unless_ok (area false) (entered_here target pc fp sp RECORD_SIZE 1) s e in
+    ap (λ (x : Sys). save_hazard f x.push.save) (sym u.1) ∙ checks false u.0
+frame_free m f system pc fp sp area (System n) s checks e =
     let t = system_entered m system n pc fp sp RECORD_SIZE (λ _. 1) in
-    let u = unless_ok (system_hazard m f system n pc fp) t s e in
+    let u = unless_ok (system_hazard_by m f system n pc area) t s e in
     ap (λ (x : Sys). save_hazard f x.push.save) (sym u.1)
     ∙ ap (save_hazard f) (system_save m system n pc fp sp RECORD_SIZE (λ _. 1))
-    ∙ system_free m f system n pc fp u.0
+    ∙ checks (is_switch (word_in m (entry_address system n)) pc) (system_checks m f system n pc area u.0)
 
 -- the save area and the record of an entry meet no hazard, and the record has four words
 pub record EntersFree (f : Frames) (e : Entry) : Type 0 where
@@ -87,10 +98,13 @@ record_of_entry f fault pc ac s e save none same =
     } in
     subst (EntersFree f) same here
 
-pub enters_free : (m : Memory) (f : Frames) (table system : ℕ) (fault : Fault) (pc ac fp sp : ℕ) (e : Entry) → planned_fault m f table system fault pc ac fp sp ≡ Ok e → EntersFree f e
-unfolding planned_fault
-enters_free m f table system fault pc ac fp sp e ok =
-    let a = bind_ok (planned_handler m f (table_entry table fault.kind)) (λ h. or_stop (planned_frame m f system pc fp sp h) >>= (λ s. or_stop (unless (record_write_hazard f s.push) (entry_of fault pc ac s)))) e ok in
-    let b = bind_ok (or_stop (planned_frame m f system pc fp sp a.0)) (λ s. or_stop (unless (record_write_hazard f s.push) (entry_of fault pc ac s))) e a.2 in
+pub enters_free_by : (m : Memory) (f : Frames) (table system : ℕ) (fault : Fault) (pc ac fp sp : ℕ) (area : Bool → Option ℕ) (e : Entry) → ChecksSave f fp area → planned_fault_by m f table system fault pc ac fp sp area ≡ Ok e → EntersFree f e
+unfolding planned_fault_by
+enters_free_by m f table system fault pc ac fp sp area e checks ok =
+    let a = bind_ok (planned_handler m f (table_entry table fault.kind)) (λ h. or_stop (planned_frame m f system pc fp sp area h) >>= (λ s. or_stop (unless (record_write_hazard f s.push) (entry_of fault pc ac s)))) e ok in
+    let b = bind_ok (or_stop (planned_frame m f system pc fp sp area a.0)) (λ s. or_stop (unless (record_write_hazard f s.push) (entry_of fault pc ac s))) e a.2 in
     let c = unless_ok (record_write_hazard f b.0.push) (entry_of fault pc ac b.0) e (stop_ok (unless (record_write_hazard f b.0.push) (entry_of fault pc ac b.0)) e b.2) in
-    record_of_entry f fault pc ac b.0 e (frame_free m f system pc fp sp a.0 b.0 (stop_ok (planned_frame m f system pc fp sp a.0) b.0 b.1)) c.0 c.1
+    record_of_entry f fault pc ac b.0 e (frame_free m f system pc fp sp area a.0 b.0 checks (stop_ok (planned_frame m f system pc fp sp area a.0) b.0 b.1)) c.0 c.1
+
+pub enters_free : (m : Memory) (f : Frames) (table system : ℕ) (fault : Fault) (pc ac fp sp : ℕ) (e : Entry) → planned_fault m f table system fault pc ac fp sp ≡ Ok e → EntersFree f e
+enters_free m f table system fault pc ac fp sp e ok = enters_free_by m f table system fault pc ac fp sp (save_area f fp) e (λ b none. none) ok

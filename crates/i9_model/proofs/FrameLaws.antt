@@ -1,5 +1,5 @@
 -- Frames along a run without hazards: live frames stay apart, and their bytes stay soft.
-use Rattle.std.proofs.Common.{◌≡◌, ℕ, Bool, true, false, cond, List, [], ◌∷◌, Option, Some, None, drop, refl, ap, ◌∙◌}
+use Rattle.std.proofs.Common.{◌≡◌, ℕ, Bool, true, false, cond, List, [], ◌∷◌, Option, Some, None, drop, refl, sym, ap, ◌∙◌}
 use Rattle.std.specs.Prelude.{◌==◌, ◌&&◌, ◌||◌, not}
 use Rattle.std.specs.List.{list_any, find}
 use Rattle.std.proofs.lemmas.Bool.{eqb-true}
@@ -7,9 +7,11 @@ use Rattle.i9_model.specs.declared.layout.TheConstants.{FRAME_SIZE}
 use Rattle.i9_model.specs.Memory.{in_port_page}
 use Rattle.i9_model.specs.State.{Frames}
 use Rattle.i9_model.specs.Writes.{places_of}
-use Rattle.i9_model.specs.Frames.{places, in_bytes, in_frames, no_frames, saved, returned, flushed, is_put, wrote}
+use Rattle.i9_model.specs.Frames.{places, in_bytes, in_frames, no_frames, has, saved, with_marked, returned, flushed, is_put, wrote, softened}
 use Rattle.i9_model.specs.Hazards.{least, read_hazard, write_hazard, writes_hazard, port_hazard, or_else, save_hazard}
-use Rattle.i9_model.specs.Sound.{AreApart, IsSound}
+use Rattle.i9_model.specs.Sound.{AreApart, in_returns, IsSound}
+use Rattle.i9_model.specs.Hazards.{return_place}
+use Rattle.i9_model.proofs.Among.{return-inside}
 
 -- ---- accesses without a hazard
 
@@ -70,6 +72,28 @@ apart_rest (f ∷ live) apart = apart.1
 pub apart-returned : (s : Frames) → AreApart s.live → AreApart (returned s).live
 apart-returned s apart = apart_rest s.live apart
 
+-- ---- marks
+
+and_second : (b c : Bool) → (b && c) ≡ true → c ≡ true
+and_second true c t = t
+and_second false c t = absurd cc
+
+unmarked : (m live : Bool) → live ≡ false → (m ≡ true → live ≡ true) → m ≡ false
+unmarked false live l h = refl
+unmarked true live l h = let no : false ≡ true = sym l ∙ h refl in absurd (cc no)
+
+by_return : (here later m : Bool) → (here ≡ true → m ≡ false) → (later ≡ true → m ≡ false) → (here || later) ≡ true → m ≡ false
+by_return true later m h k t = h refl
+by_return false later m h k t = k t
+
+returns_rest : (live : List ℕ) (x : ℕ) → in_returns (drop 1 live) x ≡ true → in_returns live x ≡ true
+returns_rest [] x t = t
+returns_rest (f ∷ live) x t = or_second (in_bytes (return_place f) 4 x) (in_returns live x) t
+  where
+    or_second : (b c : Bool) → c ≡ true → (b || c) ≡ true
+    or_second true c t = refl
+    or_second false c t = t
+
 -- ---- frames are sound
 
 or_right : (b c : Bool) → c ≡ true → (b || c) ≡ true
@@ -93,7 +117,7 @@ still_soft live soft true l s h = absurd (cc (h refl))
 still_soft live soft false l s h = ap (λ (b : Bool). b && true) (s l)
 
 pub sound-none : IsSound no_frames
-sound-none = record { apart = tt; soft = λ x t. absurd (cc); outside = λ x t. absurd (cc) }
+sound-none = record { apart = tt; soft = λ x t. absurd (cc); outside = λ x t. absurd (cc); within = λ x t. absurd (cc); known = λ x t. refl }
 
 pub sound-saved : (s : Frames) (a : ℕ) → IsSound s → save_hazard s a ≡ None → IsSound (saved s a)
 sound-saved s a sound none =
@@ -102,6 +126,8 @@ sound-saved s a sound none =
       apart = apart-saved s a sound.apart none;
       soft = λ x t. either_soft (in_bytes a FRAME_SIZE x) (in_frames s.live x) (s.soft x) (sound.soft x) t;
       outside = λ x t. either_outside (in_bytes a FRAME_SIZE x) (in_frames s.live x) (in_port_page x) (port_hazard-none a FRAME_SIZE x safe.1) (sound.outside x) t;
+      within = λ x t. or_right (in_bytes a FRAME_SIZE x) (in_frames s.live x) (sound.within x t);
+      known = λ x t. by_return (in_bytes (return_place a) 4 x) (in_returns s.live x) (s.marked x) (λ r. unmarked (s.marked x) (in_frames s.live x) (write_hazard-none s a FRAME_SIZE x safe.0 (return-inside a x r)) (sound.within x)) (sound.known x) t;
     }
 
 pub sound-returned : (s : Frames) → IsSound s → IsSound (returned s)
@@ -109,14 +135,46 @@ sound-returned s sound = record {
   apart = apart-returned s sound.apart;
   soft = λ x t. sound.soft x (in_rest s.live x t);
   outside = λ x t. sound.outside x (in_rest s.live x t);
+  within = λ x t. and_second (s.marked x) (in_frames (drop 1 s.live) x) t;
+  known = λ x t. ap (λ (b : Bool). b && in_frames (drop 1 s.live) x) (sound.known x (returns_rest s.live x t));
 }
 
 pub sound-flushed : (s : Frames) → IsSound s → IsSound (flushed s)
-sound-flushed s sound = record { apart = tt; soft = λ x t. absurd (cc); outside = λ x t. absurd (cc) }
+sound-flushed s sound = record { apart = tt; soft = λ x t. absurd (cc); outside = λ x t. absurd (cc); within = λ x t. absurd (cc); known = λ x t. refl }
 
 pub sound-wrote : (s : Frames) (ps : List (ℕ × ℕ)) → IsSound s → writes_hazard s ps ≡ None → IsSound (wrote s ps)
 sound-wrote s ps sound none = record {
   apart = sound.apart;
   soft = λ x t. still_soft (in_frames s.live x) (s.soft x) (is_put ps x) t (sound.soft x) (writes_hazard-none s ps x none);
   outside = sound.outside;
+  within = sound.within;
+  known = sound.known;
 }
+
+-- bytes that are soft again
+pub sound-softened : (s : Frames) (stale : List ℕ) → IsSound s → IsSound (softened s stale)
+sound-softened s stale sound = record {
+  apart = sound.apart;
+  soft = λ x t. or_right (has stale x) (s.soft x) (sound.soft x t);
+  outside = sound.outside;
+  within = sound.within;
+  known = sound.known;
+}
+
+-- marks of live frames beside their return addresses
+pub sound-marked : (s : Frames) (lost : List ℕ) → ((x : ℕ) → has lost x ≡ true → (in_frames s.live x ≡ true) × (in_returns s.live x ≡ false)) → IsSound s → IsSound (with_marked s lost)
+sound-marked s lost inside sound = record {
+  apart = sound.apart;
+  soft = sound.soft;
+  outside = sound.outside;
+  within = λ x t. by_lost (has lost x) (s.marked x) (in_frames s.live x) (λ l. (inside x l).0) (sound.within x) t;
+  known = λ x t. neither (has lost x) (s.marked x) (in_returns s.live x) (λ l. (inside x l).1) t (sound.known x t);
+}
+  where
+    by_lost : (l m live : Bool) → (l ≡ true → live ≡ true) → (m ≡ true → live ≡ true) → (l || m) ≡ true → live ≡ true
+    by_lost true m live h k t = h refl
+    by_lost false m live h k t = k t
+
+    neither : (l m r : Bool) → (l ≡ true → r ≡ false) → r ≡ true → m ≡ false → (l || m) ≡ false
+    neither false m r h t n = n
+    neither true m r h t n = let no : true ≡ false = sym t ∙ h refl in absurd (cc no)

@@ -16,7 +16,7 @@ use Rattle.i9_isa.specs.Transfers.{transfer_of}
 use Rattle.i9_model.specs.declared.interrupts.Cause.{Cause}
 use Rattle.i9_model.specs.declared.interrupts.Cause.TheVariants.{Nmi, Line, Soft}
 use Rattle.i9_model.specs.declared.interrupts.Chosen.{Chosen}
-use Rattle.i9_model.specs.declared.interrupts.TheConstants.{NMI_VECTOR, PENDING_SIZE, FIRST_DMA_LINE, LINES}
+use Rattle.i9_model.specs.declared.interrupts.TheConstants.{NMI_VECTOR, PENDING_SIZE, FIRST_DMA_LINE, LINES, INTERRUPTED_PLACE}
 use Rattle.i9_model.specs.declared.event.Event.{Event}
 use Rattle.i9_model.specs.declared.event.Event.TheVariants as events
 use Rattle.i9_model.specs.declared.event.Timed.{Timed}
@@ -25,10 +25,11 @@ use Rattle.i9_model.specs.declared.run.Due.{Due}
 use Rattle.i9_model.specs.declared.run.Due.TheVariants as dues
 use Rattle.i9_model.specs.State.{State, Interrupts, started}
 use Rattle.i9_model.specs.Controls.{Control, KeepsControls, Restarts, LoadsGroup, controlled}
+use Rattle.i9_isa.specs.Words.{bit}
 use Rattle.i9_model.specs.Tables.{group_words}
 use Rattle.i9_model.specs.Hazards.{read_hazard}
 use Rattle.i9_model.specs.Pins.{by_edge, is_low}
-use Rattle.i9_model.specs.Interrupts.{with_bit, is_asked, is_requested, passes, priority_of, vector_priority, line_vector, below, vectors_of, choice, lines_with, choices_at, choices, chosen_of, chosen, chosen_soft, cleared, posted, interrupt_pc, interrupt_push, interrupt_record, interrupt_hazard, interrupt_entry, planned_interrupt}
+use Rattle.i9_model.specs.Interrupts.{with_bit, is_asked, is_requested, passes, priority_of, vector_priority, line_vector, below, vectors_of, choice, lines_with, choices_at, choices, chosen_of, chosen, chosen_soft, cleared, posted, interrupt_pc, interrupt_push, interrupt_record, interrupt_hazard, interrupt_entry, planned_interrupt_by}
 use Rattle.i9_model.specs.declared.faults.Entry.{Entry}
 use Rattle.i9_model.specs.declared.layout.TheConstants.{FP, SP}
 use Rattle.i9_model.specs.ScheduleText.{event_where, has_come_at, has_come_by, standing, standing_by}
@@ -36,6 +37,7 @@ use Rattle.i9_model.specs.Memory.{word_in}
 use Rattle.i9_model.specs.Branches.{asks, question_of}
 use Rattle.i9_model.specs.Operands.{with_pending, with_mask, interrupts_assigned, address}
 use Rattle.i9_model.specs.Step.{Action, Message, AsksNothing, AsksCheck, AsksInterrupt, AsksRestart, AsksGroup, asked_message, message_action, following, loaded, atomic_address, branching, resulting, answer_in, values_of, destination, moving, action_by_name, action_by, action_of, entering, moved, acted}
+use Rattle.i9_model.specs.Stale.{legible, area_hazard}
 use Rattle.i9_model.specs.Dma.{Unit, next_unit}
 use Rattle.i9_model.specs.Before.{Received, choice_in, interrupt_in, interrupting, moving_unit, received_by, received_in, receiving}
 use Rattle.i9_model.specs.Left.{flag, room_of, asked, event_work, plan_work, pending, left_in}
@@ -185,11 +187,12 @@ entry_less s c is = by_check s.check refl is
 
 -- the process controls that an entry leaves
 entry_pc : (s : State) (c : Chosen) (e : Entry) → interrupt_in s c ≡ Ok e → e.pc ≡ interrupt_pc c.vector
-unfolding interrupt_in planned_interrupt
+unfolding interrupt_in planned_interrupt_by
 entry_pc s c e is =
     let push = interrupt_push s.tables.interrupt_stack s.pc (s.regs FP) (s.regs SP) in
     let words = interrupt_record c.vector s.pc s.ac in
-    let found = unless_ok (interrupt_hazard s.memory s.frames s.tables.interrupt_table c push words) (interrupt_entry s.memory s.tables.interrupt_table c push words) e is in
+    let area = area_hazard s (not (bit s.pc INTERRUPTED_PLACE)) in
+    let found = unless_ok (interrupt_hazard s.memory s.frames s.tables.interrupt_table c push words area) (interrupt_entry s.memory s.tables.interrupt_table c push words) e is in
     ap (λ (x : Entry). x.pc) (sym found.1)
 
 -- ---- what an action asks for
@@ -259,8 +262,8 @@ other_posts false i s = assigning_posts (destination i) (values_of (answer_in i 
 name_posts : (op : Op) (i : Inst) (s : State) → PostsFew (action_by_name op i s) s
 name_posts Sysctl i s = message_posts (asked_message i s) i s
 name_posts Lda i s = assigning_posts i.c (address s i.ea ∷ []) (action_by_name Lda i s) s refl
-name_posts Atadd i s = assigning_posts i.c (word_in s.memory (atomic_address i s) ∷ []) (action_by_name Atadd i s) s refl
-name_posts Atmod i s = assigning_posts i.c (word_in s.memory (atomic_address i s) ∷ []) (action_by_name Atmod i s) s refl
+name_posts Atadd i s = assigning_posts i.c (word_in (legible s) (atomic_address i s) ∷ []) (action_by_name Atadd i s) s refl
+name_posts Atmod i s = assigning_posts i.c (word_in (legible s) (atomic_address i s) ∷ []) (action_by_name Atmod i s) s refl
 name_posts Bx i s = quiet_posts (action_by_name Bx i s) s refl
 name_posts Balx i s = assigning_posts i.c (following i s ∷ []) (action_by_name Balx i s) s refl
 name_posts Bal i s = quiet_posts (action_by_name Bal i s) s refl
@@ -276,7 +279,7 @@ name_posts Sdma i s = quiet_posts (action_by_name Sdma i s) s refl
 name_posts op i s = other_posts (asks (question_of op)) i s
 
 moving_posts : (d : Direction) (size : Size) (signed : Bool) (i : Inst) (s : State) → PostsFew (moving d size signed i s) s
-moving_posts Load size signed i s = assigning_posts i.c (loaded size signed s.memory (address s i.ea)) (moving Load size signed i s) s refl
+moving_posts Load size signed i s = assigning_posts i.c (loaded size signed (legible s) (address s i.ea)) (moving Load size signed i s) s refl
 moving_posts Store size signed i s = quiet_posts (moving Store size signed i s) s refl
 
 action_posts : (i : Inst) (s : State) → PostsFew (action_of i s) s

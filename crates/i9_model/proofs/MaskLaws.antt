@@ -36,6 +36,7 @@ use Rattle.i9_isa.specs.Words.{bit}
 use Rattle.i9_model.specs.Results.{Answer, word, words, checked, faulting, code, found, results_by, destination_words, long, long_divided}
 use Rattle.i9_model.specs.Branches.{asks, question_of}
 use Rattle.i9_model.specs.Step.{values_of, destination, loaded, frame_sets, moving, action_by_name, action_by, action_of, push_sets, branching, resulting, answer_in, atomic_address, following, return_in, asked_message, message_action, system_call, Message, AsksNothing, AsksCheck, AsksInterrupt, AsksRestart, AsksGroup}
+use Rattle.i9_model.specs.Stale.{legible, left_memory}
 
 -- ---- how many words a result has
 
@@ -164,15 +165,15 @@ true_frame op i k e t h = sym (ap (λ (b : Bool). b && is_in_frame k) (ap change
 name_beside : (op : Op) (i : Inst) (s : State) (k : ℕ) → i.op ≡ op → IsOutside i k → last_put (action_by_name op i s).sets k ≡ None
 unfolding last_put
 name_beside Lda i s k e h = c_beside Lda i k (address s i.ea ∷ []) e refl h
-name_beside Atadd i s k e h = c_beside Atadd i k (word_in s.memory (atomic_address i s) ∷ []) e refl h
-name_beside Atmod i s k e h = c_beside Atmod i k (word_in s.memory (atomic_address i s) ∷ []) e refl h
+name_beside Atadd i s k e h = c_beside Atadd i k (word_in (legible s) (atomic_address i s) ∷ []) e refl h
+name_beside Atmod i s k e h = c_beside Atmod i k (word_in (legible s) (atomic_address i s) ∷ []) e refl h
 name_beside Bx i s k e h = refl
 name_beside Balx i s k e h = c_beside Balx i k (following i s ∷ []) e refl h
 name_beside Bal i s k e h = one_beside 30 (following i s) k (sym (ap (λ (b : Bool). b && (k == 30)) (ap writes_link e)) ∙ h.link)
 name_beside Call i s k e h = push_beside (pushed (s.regs FP) (s.regs SP) 0 LOCAL_RETURN) k (true_frame Call i k e refl h)
 name_beside Callx i s k e h = push_beside (pushed (s.regs FP) (s.regs SP) 0 LOCAL_RETURN) k (true_frame Callx i k e refl h)
 name_beside Calls i s k e h = push_beside (system_call i s).push k (true_frame Calls i k e refl h)
-name_beside Ret i s k e h = frame_beside (words_in s.memory (return_in s).frame 16) (return_in s).frame k refl (true_frame Ret i k e refl h)
+name_beside Ret i s k e h = frame_beside (words_in (left_memory s.frames.live s) (return_in s).frame 16) (return_in s).frame k refl (true_frame Ret i k e refl h)
 name_beside Flushreg i s k e h = refl
 name_beside Modac i s k e h = c_beside Modac i k (s.ac ∷ []) e refl h
 name_beside Modtc i s k e h = c_beside Modtc i k (s.trace.tc ∷ []) e refl h
@@ -197,9 +198,9 @@ loaded_long (Words n) signed m a = length-map-range_with_len (λ (k : ℕ). word
 moving_beside : (d : Direction) (size : Size) (signed : Bool) (i : Inst) (s : State) (k : ℕ) → (d ≡ Load → words_written (row_of i.op).c ≡ register_count size) → IsOutside i k → last_put (moving d size signed i s).sets k ≡ None
 unfolding last_put
 moving_beside Load size signed i s k row h =
-    let long = loaded_long size signed s.memory (address s i.ea) in
+    let long = loaded_long size signed (legible s) (address s i.ea) in
     let words = row refl in
-    operand_beside i.c (words_written (row_of i.op).c) k (loaded size signed s.memory (address s i.ea)) (omega (arith, long, words)) h.c
+    operand_beside i.c (words_written (row_of i.op).c) k (loaded size signed (legible s) (address s i.ea)) (omega (arith, long, words)) h.c
 moving_beside Store size signed i s k row h = refl
 
 -- a register that the need does not write is not set

@@ -1,32 +1,17 @@
 -- A read without a hazard sees hard bytes alone, so it gives the same in every memory that has these.
 use Rattle.std.proofs.Common.{◌≡◌, ℕ, zero, suc, ◌+◌, ◌*◌, ◌<◌, ◌≤◌, Bool, true, false, cond, List, [], ◌∷◌, map, None, refl, sym, ap, ◌∙◌, arith}
-use Rattle.std.specs.Prelude.{◌==◌, not, nat_le}
+use Rattle.std.specs.Prelude.{not, nat_le}
 use Rattle.std.specs.List.{range_with_len}
-use Rattle.std.proofs.lemmas.Bool.{or_left, or_right, eq-eqb}
+use Rattle.std.proofs.lemmas.Bool.{or_left, or_right}
 use Rattle.std.proofs.lemmas.Bool.Decides.{nat_tests}
 use Rattle.std.specs.Int.{w16, from_le_bytes, from_be_bytes}
 use Rattle.i9_model.specs.Writes.{address_count, wrapped}
 use Rattle.i9_model.specs.Memory.{Memory, in_port_page, region_of, is_big, half_in, word_in, words_in, ordered_word}
 use Rattle.i9_model.specs.State.{Frames}
-use Rattle.i9_model.specs.Frames.{in_bytes}
 use Rattle.i9_model.specs.Hazards.{read_hazard}
 use Rattle.i9_model.specs.Alike.{is_beyond, is_hard, AgreeWhere, with_other}
 use Rattle.i9_model.proofs.FrameLaws.{read_hazard-none}
-
-here_first : (a : ℕ) → wrapped (a + 0) ≡ wrapped a
-here_first a = omega arith
-
-here_later : (a k : ℕ) → wrapped (a + 1 + k) ≡ wrapped (a + suc k)
-here_later a k = omega arith
-
--- one of so many bytes from an address on
-pub in_bytes-has : (a n k : ℕ) → k < n → in_bytes a n (wrapped (a + k)) ≡ true
-unfolding in_bytes
-in_bytes-has a zero k h = absurd (omega arith)
-in_bytes-has a (suc n) zero h = or_left _ _ (eq-eqb (wrapped (a + 0)) (wrapped a) (here_first a))
-in_bytes-has a (suc n) (suc k) h =
-    ap (λ (x : ℕ). in_bytes a (suc n) x) (sym (here_later a k))
-    ∙ or_right (wrapped (a + 1 + k) == wrapped a) (in_bytes (a + 1) n (wrapped (a + 1 + k))) (in_bytes-has (a + 1) n k (omega arith))
+pub use Rattle.i9_model.proofs.Among.{in_bytes-has}
 
 not_soft : (b : Bool) → b ≡ false → not b ≡ true
 not_soft b e = ap not e
@@ -74,10 +59,10 @@ at_place : (m : Memory) (bytes : ℕ → ℕ) (a n k j : ℕ) → SameBytes m by
 at_place m bytes a n k j same h =
     ap bytes (next_place a k j) ∙ same (k + j) h ∙ ap m.bytes (sym (next_place a k j))
 
-four : (m : Memory) (a p q r s v w x y : ℕ) → p ≡ v → q ≡ w → r ≡ x → s ≡ y → ordered_word m a (p ∷ q ∷ r ∷ s ∷ []) ≡ ordered_word m a (v ∷ w ∷ x ∷ y ∷ [])
+pub four : (m : Memory) (a p q r s v w x y : ℕ) → p ≡ v → q ≡ w → r ≡ x → s ≡ y → ordered_word m a (p ∷ q ∷ r ∷ s ∷ []) ≡ ordered_word m a (v ∷ w ∷ x ∷ y ∷ [])
 four m a p q r s v w x y h i j k = rw (h, i, j, k) refl
 
-two : (read : List ℕ → ℕ) (p q v w : ℕ) → p ≡ v → q ≡ w → read (p ∷ q ∷ []) ≡ read (v ∷ w ∷ [])
+pub two : (read : List ℕ → ℕ) (p q v w : ℕ) → p ≡ v → q ≡ w → read (p ∷ q ∷ []) ≡ read (v ∷ w ∷ [])
 two read p q v w h i = rw (h, i) refl
 
 -- a half that is read

@@ -1,8 +1,10 @@
 -- Printed lines are the text of a schedule, which says the events that were printed.
-use Rattle.std.proofs.Common.{◌≡◌, ℕ, ◌+◌, ◌≤◌, true, List, [], ◌∷◌, ◌++◌, length, get_or, take, drop, Option, Some, None, refl, sym, ap, subst, ◌∙◌, arith, append_assoc, length-append, codes, ◌⊎◌, inl, inr}
-use Rattle.std.specs.List.{flat_map, AllByRecursion}
+use Rattle.std.proofs.Common.{◌≡◌, ℕ, ◌+◌, ◌≤◌, Bool, true, false, cond, List, [], ◌∷◌, ◌++◌, length, get_or, Option, Some, None, refl, sym, ap, subst, ◌∙◌, arith, append_assoc, length-append, codes, ◌⊎◌, inl, inr}
+use Rattle.std.specs.Prelude.{slice_index}
+use Rattle.std.specs.List.{flat_map, range_with_len, AllByRecursion}
 use Rattle.std.specs.Fmt.{decimal}
 use Rattle.std.proofs.lemmas.List.{append-nil}
+use Rattle.i9_isa.specs.Words.{bit}
 use Rattle.i9_text.specs.Text as texts
 use Rattle.i9_text.specs.FirstFault.{SaysAll}
 use Rattle.i9_text.specs.Written.{byte_text}
@@ -13,7 +15,7 @@ use Rattle.i9_model.specs.declared.event.Timed.{Timed}
 use Rattle.i9_model.specs.Run.{Point, End, Exit, Limit, Hazard, Dead, Imprecise}
 use Rattle.i9_model.specs.Events.{journal_text}
 use Rattle.i9_model.specs.ScheduleText.{first_version, levels_version, IsVersion, IsOfVersion, AreOfVersion, version_in, SoFar, nothing_yet, with_event, contents_of, most_events, timed_at, Says, says_nothing, says_version, says_event, IsSchedule, IsTimedInRange, InOrder, IsPlan, IsByCounts, is_skipped, fault_after}
-use Rattle.i9_model.specs.PrintedText.{Shown, Out, Drained, Journal, Bytes, Last, out_text, spaced, words_text, drained_text, point_text, point_shown, end_text, event_text, spaced_byte, bytes_text, heading_text, text_of, events_of}
+use Rattle.i9_model.specs.PrintedText.{Shown, Out, Drained, Journal, Bytes, Last, out_text, spaced, words_text, drained_text, point_text, spaced_register, registers_text, point_shown, end_text, event_text, spaced_byte, bytes_text, heading_text, text_of, events_of}
 use Rattle.i9_model.proofs.ReadBack.{journal_plain, journal_ascii, journal_not_skipped, journal_says}
 use Rattle.i9_model.proofs.Plans.{last_time, last_time-push, AreCounted-push, follows_fine}
 use Rattle.i9_model.specs.declared.run.Point.TheVariants as points
@@ -79,11 +81,28 @@ passes_point k v =
     let c = plain-append (codes "#point " ++ decimal v.count ++ codes " ") (drained_text k) b (plain_drained k) in
     passes_words (codes "#point " ++ decimal v.count ++ codes " " ++ drained_text k) (v.ip ∷ v.ac ∷ v.pc ∷ []) c refl
 
+plain_register : (v : View) (r : ℕ) → is_plain (spaced_register v r) ≡ true
+plain_register v r = by_mark (bit v.marks r)
+  where
+    by_mark : (b : Bool) → is_plain (cond b (codes " --------") (spaced (slice_index v.regs r))) ≡ true
+    by_mark true = refl
+    by_mark false = plain-word_text (slice_index v.regs r)
+
+plain_registers : (v : View) (rs : List ℕ) → is_plain (flat_map (spaced_register v) rs) ≡ true
+plain_registers v [] = refl
+plain_registers v (r ∷ rs) = plain-append (spaced_register v r) (flat_map (spaced_register v) rs) (plain_register v r) (plain_registers v rs)
+
+passes_registers : (label : List ℕ) (v : View) (first : ℕ) → is_plain label ≡ true → get_or label 0 0 ≡ 35 → Passes (registers_text label v first)
+unfolding registers_text
+passes_registers label v first plain hash =
+    let words = flat_map (spaced_register v) (range_with_len first 16) in
+    passes_line (label ++ words) (plain-append label words plain (plain_registers v (range_with_len first 16))) (first_append label words hash)
+
 passes_shown_point : (k : Point) (v : View) → Passes (point_shown k v)
 passes_shown_point k v =
-    let g = words_text (codes "#g") (drop 16 v.regs) in
-    let l = words_text (codes "#l") (take 16 v.regs) in
-    passes-append (point_text k v) (g ++ l) (passes_point k v) (passes-append g l (passes_words (codes "#g") (drop 16 v.regs) refl refl) (passes_words (codes "#l") (take 16 v.regs) refl refl))
+    let g = registers_text (codes "#g") v 16 in
+    let l = registers_text (codes "#l") v 0 in
+    passes-append (point_text k v) (g ++ l) (passes_point k v) (passes-append g l (passes_registers (codes "#g") v 16 refl refl) (passes_registers (codes "#l") v 0 refl refl))
 
 passes_finish : (f : End) → Passes (end_text f)
 unfolding end_text

@@ -18,6 +18,8 @@ use Rattle.i9_model.proofs.Overlays.{over_mcon}
 use Rattle.i9_model.proofs.AlikeSteps.{alike_same, done_alike, due_alike, reached_alike, next_alike, does_alike, does_beside, ends_alike, ends_beside, lines_alike, end_alike}
 use Rattle.i9_model.proofs.HeldRuns.{configured_by, overlaid_memory, cached-after}
 use Rattle.i9_model.proofs.Heedful.{past_of_some}
+use Rattle.i9_model.proofs.SoundRuns.{sound-after}
+use Rattle.i9_model.proofs.BlindRuns.{blind-after}
 
 -- records of a machine with sets beside records of the one-at-a-time machine
 record AreBeside (g : Given) (rs qs : List Record) : Type 0 where
@@ -30,13 +32,13 @@ record AreBeside (g : Given) (rs qs : List Record) : Type 0 where
 none_beside : (g : Given) → AreBeside g [] []
 none_beside g = record { state = alike_same (state_after g []); due = refl; reached = refl; cache = refl; lines = refl }
 
-next_beside : (g : Given) (rs qs : List Record) → AreBeside g rs qs → AreNextAlike (next g rs) (next g qs)
-next_beside g rs qs beside =
+next_beside : (g : Given) (rs qs : List Record) → IsPast g rs → AreBeside g rs qs → AreNextAlike (next g rs) (next g qs)
+next_beside g rs qs past beside =
     let t = state_after g qs in
     let stands : event_after g qs ≡ event_after g rs =
     ap (λ (ts : List Timed). standing g.plan (length ts) t.count) beside.reached ∙ ap (λ (u : State). standing g.plan (length (reached_after rs)) u.count) beside.state.rest in
     subst (λ (d : Due). AreNextAlike (next g rs) (next_in g.length d (event_after g qs) t)) (sym beside.due)
-    (subst (λ (o : Option Event). AreNextAlike (next g rs) (next_in g.length (due_after rs) o t)) (sym stands) (next_alike g.length (due_after rs) (event_after g rs) (state_after g rs) t beside.state))
+    (subst (λ (o : Option Event). AreNextAlike (next g rs) (next_in g.length (due_after rs) o t)) (sym stands) (next_alike g.length (due_after rs) (event_after g rs) (state_after g rs) t (sound-after g rs (past_of_some g rs past)) (blind-after g rs (past_of_some g rs past)) beside.state))
 
 -- what is held after records that are alike
 same_cache : (g : Given) (rs qs : List Record) (r p : Record) → AreBeside g rs qs → AreRecordsAlike r p → cache_after g (p ∷ qs) ≡ cache_after g (r ∷ rs)
@@ -87,7 +89,7 @@ past_beside g (q ∷ qs) past =
     let before = past_beside g qs past.0 in
     let rs = before.0 in
     let p = past.1 in
-    let found = does_alike (next g rs) (next g qs) p (next_beside g rs qs before.2) past.2 in
+    let found = does_alike (next g rs) (next g qs) p (next_beside g rs qs before.1 before.2) past.2 in
     let there : IsPast g (found.0 ∷ rs) = (before.1, found.1) in
     (found.0 ∷ rs, there, subst (λ (x : Record). AreBeside g (found.0 ∷ rs) (x ∷ qs)) (sym past.3) (one_beside g rs qs found.0 p there before.2 found.2))
 
@@ -96,7 +98,7 @@ past_in_sets g [] past = ([], tt, none_beside g)
 past_in_sets g (r ∷ rs) past =
     let before = past_in_sets g rs past.0 in
     let qs = before.0 in
-    let found = does_beside (next g rs) (next g qs) r (next_beside g rs qs before.2) past.1 in
+    let found = does_beside (next g rs) (next g qs) r (next_beside g rs qs past.0 before.2) past.1 in
     let q = in_sets g qs found.0 in
     (q ∷ qs, (before.1, found.0, found.1, refl), one_beside g rs qs r found.0 past before.2 found.2)
 
@@ -110,14 +112,14 @@ pub run_in_sets : (g : Given) (rs : List Record) (e : Finish) → IsRun g rs e �
 run_in_sets g rs e run =
     let found = past_in_sets g rs run.past in
     let qs = found.0 in
-    (qs, record { past = found.1; ends = ends_beside (next g rs) (next g qs) e (next_beside g rs qs found.2) run.ends }, text_beside g rs qs e found.2)
+    (qs, record { past = found.1; ends = ends_beside (next g rs) (next g qs) e (next_beside g rs qs run.past found.2) run.ends }, text_beside g rs qs e found.2)
 
 -- and each run in sets has the end and the text of the run
 pub sets_same : (g : Given) (qs rs : List Record) (e f : Finish) → IsRunInSets g qs e → IsRun g rs f → (e ≡ f) × (run_text g qs e ≡ run_text g rs f)
 sets_same g qs rs e f sets run =
     let found = past_beside g qs sets.past in
     let xs = found.0 in
-    let here : IsRun g xs e = record { past = found.1; ends = ends_alike (next g xs) (next g qs) e (next_beside g xs qs found.2) sets.ends } in
+    let here : IsRun g xs e = record { past = found.1; ends = ends_alike (next g xs) (next g qs) e (next_beside g xs qs found.1 found.2) sets.ends } in
     let end = same_end g xs rs e f here run in (
       end,
       text_beside g xs qs e found.2

@@ -1,5 +1,5 @@
 -- The accesses of an instruction in a state, and the first hazard that they meet.
-use Rattle.std.specs.Prelude.{ℕ, ◌+◌, ◌==◌, if◌then◌else◌, Option, Some, None, Result, Ok, Err}
+use Rattle.std.specs.Prelude.{ℕ, ◌+◌, ◌==◌, false, if◌then◌else◌, Option, Some, None, Result, Ok, Err}
 use Rattle.i9_isa.specs.declared.op.Op.{Op}
 use Rattle.i9_isa.specs.declared.op.Op.TheVariants.{Atadd, Atmod, Call, Callx, Calls, Ret, Sysctl}
 use Rattle.i9_isa.specs.declared.size.Transfer.{Transfer}
@@ -12,22 +12,23 @@ use Rattle.i9_isa.specs.Transfers.{transfer_of, byte_count}
 use Rattle.i9_model.specs.declared.layout.TheConstants.{PFP, FP}
 use Rattle.i9_model.specs.Writes.{wrapped}
 use Rattle.i9_model.specs.State.{State}
-use Rattle.i9_model.specs.Frames.{rounded_down, flushed}
-use Rattle.i9_model.specs.Hazards.{or_else, read_hazard, write_hazard, save_hazard}
+use Rattle.i9_model.specs.Frames.{flushed}
+use Rattle.i9_model.specs.Hazards.{or_else, read_hazard, write_hazard}
+use Rattle.i9_model.specs.Stale.{area_hazard}
 use Rattle.i9_model.specs.Requests.{request_hazard}
-use Rattle.i9_model.specs.Calls.{system_hazard, ret_hazard}
+use Rattle.i9_model.specs.Calls.{system_hazard_by, ret_hazard}
 use Rattle.i9_model.specs.Tables.{tables_hazard, group_hazard}
 use Rattle.i9_model.specs.Operands.{value, address}
 use Rattle.i9_model.specs.Step.{Message, AsksNothing, AsksCheck, AsksInterrupt, AsksRestart, AsksGroup, first_word, next_word, atomic_address, argument_of, asked_message}
 
--- a read or a write of so many bytes, both after one another, a save area, a system procedure, a return, a request of
+-- a read or a write of so many bytes, both after one another, the save of a frame, a system procedure, a return, a request of
 -- a vector, or as after a flush the reads of a PRCB with its control table, or of a control group
 pub data Access : Type 0 where
   NoAccess : Access
   Reads : (address : ℕ) → (count : ℕ) → Access
   Writes : (address : ℕ) → (count : ℕ) → Access
   Changes : (address : ℕ) → (count : ℕ) → Access
-  SavesAt : (address : ℕ) → Access
+  SavesFrame : Access
   CallsSystem : (number : ℕ) → Access
   ReturnsBy : (pfp : ℕ) → Access
   Requests : (vector : ℕ) → Access
@@ -44,8 +45,8 @@ message_access AsksGroup i s = ReadsGroup (argument_of i s)
 abbrev pub access_by_name : Op → Inst → State → Access
 access_by_name Atadd i s = Changes (atomic_address i s) 4
 access_by_name Atmod i s = Changes (atomic_address i s) 4
-access_by_name Call i s = SavesAt (rounded_down (s.regs FP))
-access_by_name Callx i s = SavesAt (rounded_down (s.regs FP))
+access_by_name Call i s = SavesFrame
+access_by_name Callx i s = SavesFrame
 access_by_name Calls i s = CallsSystem (value s i.a)
 access_by_name Ret i s = ReturnsBy (s.regs PFP)
 access_by_name Sysctl i s = message_access (asked_message i s) i s
@@ -72,11 +73,11 @@ data_of _ = None
 
 abbrev pub hazard_in : State → Access → Option ℕ
 hazard_in s NoAccess = None
-hazard_in s (Reads a n) = read_hazard s.frames a n
+hazard_in s (Reads a n) = None
 hazard_in s (Writes a n) = write_hazard s.frames a n
-hazard_in s (Changes a n) = or_else (read_hazard s.frames a n) (write_hazard s.frames a n)
-hazard_in s (SavesAt a) = save_hazard s.frames a
-hazard_in s (CallsSystem n) = system_hazard s.memory s.frames s.tables.system_table n s.pc (s.regs FP)
+hazard_in s (Changes a n) = write_hazard s.frames a n
+hazard_in s SavesFrame = area_hazard s false
+hazard_in s (CallsSystem n) = system_hazard_by s.memory s.frames s.tables.system_table n s.pc (area_hazard s)
 hazard_in s (ReturnsBy pfp) = ret_hazard s.frames pfp (s.regs FP)
 hazard_in s (Requests v) = request_hazard s.frames s.tables.interrupt_table v
 hazard_in s (ReadsTables prcb) = tables_hazard s.memory (flushed s.frames) prcb

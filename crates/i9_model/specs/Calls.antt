@@ -2,7 +2,7 @@
 use Rattle.std.specs.Prelude.{◌≡◌, ℕ, ◌+◌, ◌*◌, ◌%◌, ◌^◌, Bool, true, false, not, ◌==◌, ◌&&◌, ◌||◌, nat_le, nat_lt, if◌then◌else◌, bit_and, length, Option, None, Result, Ok, Err}
 use Rattle.i9_isa.specs.Words.{bit, field}
 use Rattle.i9_model.specs.declared.interrupts.TheConstants.{PRIORITY_PLACE}
-use Rattle.i9_model.specs.declared.layout.TheConstants.{SUPERVISOR_PLACE, SUPERVISOR_STACK, SYSTEM_TABLE_ENTRIES, MOST_SYSTEM_CALL, ASKS_SUPERVISOR_PLACE, LOCAL_RETURN, FAULT_RETURN, SUPERVISOR_RETURN, INTERRUPT_RETURN, PC_MASK, AC_MASK}
+use Rattle.i9_model.specs.declared.layout.TheConstants.{LOCALS, SUPERVISOR_PLACE, SUPERVISOR_STACK, SYSTEM_TABLE_ENTRIES, MOST_SYSTEM_CALL, ASKS_SUPERVISOR_PLACE, LOCAL_RETURN, FAULT_RETURN, SUPERVISOR_RETURN, INTERRUPT_RETURN, PC_MASK, AC_MASK}
 use Rattle.i9_model.specs.declared.push.Push.{Push}
 use Rattle.i9_model.specs.declared.calls.Sys.{Sys}
 use Rattle.i9_model.specs.declared.calls.CallsStop.{CallsStop}
@@ -11,7 +11,8 @@ use Rattle.i9_model.specs.declared.calls.Pop.{Pop}
 use Rattle.i9_model.specs.Writes.{wrapped}
 use Rattle.i9_model.specs.Memory.{Memory, word_in}
 use Rattle.i9_model.specs.State.{Frames, aligned}
-use Rattle.i9_model.specs.Frames.{rounded_down, pushed, saved}
+use Rattle.i9_model.specs.Frames.{rounded_down, pushed, saved, word_mark, left_stale}
+use Rattle.i9_model.specs.Needs.{set_below}
 pub use Rattle.i9_model.specs.Frames.{record_address}
 use Rattle.i9_model.specs.Hazards.{or_else, unless, read_hazard, save_hazard, return_hazard, planned_push}
 
@@ -61,12 +62,20 @@ is_switch entry pc = bit entry ASKS_SUPERVISOR_PLACE && not (in_supervisor_mode 
 abbrev pub stack_hazard : Frames → ℕ → Bool → Option ℕ
 stack_hazard f table switched = if switched then read_hazard f (stack_address table) 4 else None
 
--- the accesses of a procedure's entry: its word in the table, the supervisor stack word, the save area
-unfoldable pub system_hazard : Memory → Frames → ℕ → ℕ → ℕ → ℕ → Option ℕ
-system_hazard m f table n pc fp =
+-- the accesses of a procedure's entry: its word in the table, the supervisor stack word, and what is checked of the push, by
+-- whether stacks are switched
+abbrev pub system_hazard_by : Memory → Frames → ℕ → ℕ → ℕ → (Bool → Option ℕ) → Option ℕ
+system_hazard_by m f table n pc area =
     or_else (read_hazard f (entry_address table n) 4)
     (or_else (stack_hazard f table (is_switch (word_in m (entry_address table n)) pc))
-    (save_hazard f (rounded_down fp)))
+    (area (is_switch (word_in m (entry_address table n)) pc)))
+
+-- of the push, the save area
+abbrev pub save_area : Frames → ℕ → Bool → Option ℕ
+save_area f fp switched = save_hazard f (rounded_down fp)
+
+unfoldable pub system_hazard : Memory → Frames → ℕ → ℕ → ℕ → ℕ → Option ℕ
+system_hazard m f table n pc fp = system_hazard_by m f table n pc (save_area f fp)
 
 -- a procedure's frame is on the stack in use
 abbrev pub entered_here : ℕ → ℕ → ℕ → ℕ → ℕ → ℕ → Sys
@@ -156,6 +165,10 @@ returned_ac m kind fp ac = if takes_record kind then bit_and (saved_ac m fp) AC_
 unfoldable pub ret_hazard : Frames → ℕ → ℕ → Option ℕ
 ret_hazard f pfp fp = or_else (controls_hazard f (return_type pfp) fp) (return_hazard f (rounded_down pfp))
 
+-- the marks of the words of a frame that is returned to, as a number
+unfoldable pub return_marks : Frames → ℕ → ℕ
+return_marks f a = set_below LOCALS (λ k. word_mark (left_stale f.live f) (wrapped (a + 4 * k)))
+
 -- a return: where a frame is live the youngest is left, and after an interrupt's return software interrupts are
 -- looked at
 unfoldable pub popped : Memory → Frames → ℕ → ℕ → ℕ → ℕ → Pop
@@ -165,6 +178,7 @@ popped m f pfp fp pc ac = record {
   pc = returned_pc m (return_type pfp) fp pc;
   ac = returned_ac m (return_type pfp) fp ac;
   check = return_type pfp == INTERRUPT_RETURN;
+  marks = return_marks f (rounded_down pfp);
 }
 
 -- what is planned of a return, or the hazard that it meets
@@ -174,9 +188,9 @@ planned_ret m f pfp fp pc ac = unless (ret_hazard f pfp fp) (popped m f pfp fp p
 -- ---- the way back
 
 -- the return that undoes a system call goes to the frame that the call saved, with the controls from before it
-abbrev pub undone : Sys → ℕ → ℕ → Pop
-undone s pc ac = record { frame = s.push.save; live = true; pc = pc; ac = ac; check = false }
+abbrev pub undone : Frames → Sys → ℕ → ℕ → Pop
+undone f s pc ac = record { frame = s.push.save; live = true; pc = pc; ac = ac; check = false; marks = return_marks f s.push.save }
 
 -- a return right after a system call, made with the pfp, fp and process controls that the call left, undoes it
 abbrev pub Undoes : Memory → Frames → ℕ → ℕ → Sys → Type 0
-Undoes later f pc ac s = planned_ret later (saved f s.push.save) s.push.pfp s.push.frame s.pc ac ≡ Ok (undone s pc ac)
+Undoes later f pc ac s = planned_ret later (saved f s.push.save) s.push.pfp s.push.frame s.pc ac ≡ Ok (undone (saved f s.push.save) s pc ac)

@@ -1,8 +1,9 @@
 -- What sysctl does to the controls: it starts the processor anew, or loads a control group.
-use Rattle.std.specs.Prelude.{ℕ, ◌-◌, ◌*◌, ◌==◌, if◌then◌else◌, bit_and, slice_index, List, [], ◌∷◌}
+use Rattle.std.specs.Prelude.{ℕ, ◌-◌, ◌*◌, ◌==◌, Bool, ◌||◌, ◌&&◌, not, if◌then◌else◌, bit_and, slice_index, List, [], ◌∷◌}
 use Rattle.i9_model.specs.declared.layout.TheConstants.{TC_MASK}
 use Rattle.i9_model.specs.Boot.{setup_of, with_regions, configured}
-use Rattle.i9_model.specs.State.{State, started}
+use Rattle.i9_model.specs.State.{State, start_sets, started}
+use Rattle.i9_model.specs.Frames.{has, is_put}
 use Rattle.i9_model.specs.Tables.{group_words}
 
 -- nothing; start-up by the PRCB at an address, with a first instruction address; or the load of a control group
@@ -35,8 +36,8 @@ with_trace_controls s ws = record s {
   };
 }
 
--- Group 0 has the breakpoints, group 1 the interrupt maps and pins, groups 2 to 5 the configuration words of regions, four
--- each, and group 6 the controls of breakpoints and of tracing.
+-- Group 0 has the breakpoints, group 1 the interrupt maps and pins, groups 2 to 5 the configuration words of regions,
+-- four each, and group 6 the controls of breakpoints and of tracing.
 abbrev pub with_group : State → ℕ → List ℕ → State
 with_group s group ws =
     if group == 0 then with_breakpoints s ws
@@ -44,10 +45,18 @@ with_group s group ws =
     else if group == 6 then with_trace_controls s ws
     else record s { memory = with_regions s.memory (4 * (group - 2)) ws }
 
--- g0 to g14, the bytes of memory, the frames, the levels of pins and the count stay where the processor starts anew
+-- of the registers that are set, these get marks, and the others lose theirs
+abbrev pub marks_after : (ℕ → Bool) → List (ℕ × ℕ) → List ℕ → ℕ → Bool
+marks_after marks sets marked r = has marked r || (marks r && not (is_put sets r))
+
+-- g0 to g14 with their marks, the bytes of memory, the frames, the levels of pins and the count stay where the processor
+-- starts anew
 abbrev pub controlled : State → Control → State
 controlled s KeepsControls = s
 controlled s (Restarts first prcb) =
     let u = setup_of s.memory first prcb in
-    started u s.regs s.count s.interrupts.low (configured s.memory u.control) s.frames
+    record (started u s.regs s.count s.interrupts.low (configured s.memory u.control) s.frames) {
+      marks = marks_after s.marks (start_sets u) [];
+      reading = s.reading;
+    }
 controlled s (LoadsGroup group) = with_group s group (group_words s.memory s.tables.control_table group)

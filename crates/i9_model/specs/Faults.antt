@@ -19,10 +19,9 @@ use Rattle.i9_model.specs.declared.calls.Sys.{Sys}
 use Rattle.i9_model.specs.Writes.{wrapped}
 use Rattle.i9_model.specs.Memory.{Memory, word_in}
 use Rattle.i9_model.specs.State.{Frames}
-use Rattle.i9_model.specs.Frames.{rounded_down}
-use Rattle.i9_model.specs.Hazards.{unless, read_hazard, save_hazard, record_write_hazard}
+use Rattle.i9_model.specs.Hazards.{unless, read_hazard, record_write_hazard}
 use Rattle.i9_model.specs.Numbers.{complement}
-use Rattle.i9_model.specs.Calls.{in_supervisor_mode, entered_here, planned_system}
+use Rattle.i9_model.specs.Calls.{in_supervisor_mode, save_area, system_hazard_by, entered_here, system_entered}
 
 -- ---- the faults of an instruction
 
@@ -125,10 +124,11 @@ planned_handler m f at = do
 -- ---- the entry of a fault
 
 -- The handler is entered above a record and with the return type of a fault: on the stack in use, or as by a system
--- call.
-unfoldable pub planned_frame : Memory → Frames → ℕ → ℕ → ℕ → ℕ → Handler → Result Sys ℕ
-planned_frame m f system pc fp sp (Local target) = unless (save_hazard f (rounded_down fp)) (entered_here target pc fp sp RECORD_SIZE FAULT_RETURN)
-planned_frame m f system pc fp sp (System n) = planned_system m f system n pc fp sp RECORD_SIZE (λ _. FAULT_RETURN)
+-- call. What is checked of the push goes by whether stacks are switched.
+unfoldable pub planned_frame : Memory → Frames → ℕ → ℕ → ℕ → ℕ → (Bool → Option ℕ) → Handler → Result Sys ℕ
+planned_frame m f system pc fp sp area (Local target) = unless (area false) (entered_here target pc fp sp RECORD_SIZE FAULT_RETURN)
+planned_frame m f system pc fp sp area (System n) =
+    unless (system_hazard_by m f system n pc area) (system_entered m system n pc fp sp RECORD_SIZE (λ _. FAULT_RETURN))
 
 -- trace enable and trace fault pending are cleared
 abbrev pub without_trace : ℕ → ℕ
@@ -143,8 +143,12 @@ entry_of fault pc ac s = record { push = s.push; target = s.target; pc = without
 
 -- The entry of a fault by a fault table and a system procedure table, or what stops it first: the entry's words are
 -- read, then what a system procedure needs, then the frame is saved, and then the record is written.
-unfoldable pub planned_fault : Memory → Frames → ℕ → ℕ → Fault → ℕ → ℕ → ℕ → ℕ → Result Entry FaultStop
-planned_fault m f table system fault pc ac fp sp = do
+unfoldable pub planned_fault_by : Memory → Frames → ℕ → ℕ → Fault → ℕ → ℕ → ℕ → ℕ → (Bool → Option ℕ) → Result Entry FaultStop
+planned_fault_by m f table system fault pc ac fp sp area = do
   handler ← planned_handler m f (table_entry table fault.kind)
-  sys ← or_stop (planned_frame m f system pc fp sp handler)
+  sys ← or_stop (planned_frame m f system pc fp sp area handler)
   or_stop (unless (record_write_hazard f sys.push) (entry_of fault pc ac sys))
+
+-- of the push, the save area is checked alone
+abbrev pub planned_fault : Memory → Frames → ℕ → ℕ → Fault → ℕ → ℕ → ℕ → ℕ → Result Entry FaultStop
+planned_fault m f table system fault pc ac fp sp = planned_fault_by m f table system fault pc ac fp sp (save_area f fp)

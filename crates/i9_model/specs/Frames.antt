@@ -1,5 +1,5 @@
 -- Frames: where local registers are saved, which bytes only a save wrote, and which frames may be returned to.
-use Rattle.std.specs.Prelude.{ℕ, ◌+◌, ◌-◌, Bool, false, ◌==◌, ◌&&◌, ◌||◌, not, List, [], ◌∷◌, drop, map}
+use Rattle.std.specs.Prelude.{ℕ, ◌+◌, ◌-◌, Bool, false, ◌==◌, ◌&&◌, ◌||◌, not, if◌then◌else◌, List, [], ◌∷◌, drop, map}
 use Rattle.std.specs.List.{list_any, range_with_len}
 use Rattle.i9_model.specs.declared.layout.TheConstants.{FRAME_SIZE, RECORD_SIZE}
 use Rattle.i9_model.specs.declared.push.Push.{Push}
@@ -20,19 +20,31 @@ abbrev pub in_frames : List ℕ → ℕ → Bool
 in_frames live x = list_any (λ f. in_bytes f FRAME_SIZE x) live
 
 abbrev pub no_frames : Frames
-no_frames = record { soft = λ _. false; live = [] }
+no_frames = record { soft = λ _. false; live = []; marked = λ _. false }
+
+-- a byte in a word of a live frame that is not marked
+abbrev pub is_kept : Frames → ℕ → Bool
+is_kept s x = if not (s.marked x) then in_frames s.live x else false
+
+-- one of these places
+abbrev pub has : List ℕ → ℕ → Bool
+has places x = list_any (λ y. x == y) places
 
 -- a frame is saved: its bytes are soft, and it is the first that may be returned to
 abbrev pub saved : Frames → ℕ → Frames
-saved s a = record { soft = λ x. in_bytes a FRAME_SIZE x || s.soft x; live = a ∷ s.live }
+saved s a = record { soft = λ x. in_bytes a FRAME_SIZE x || s.soft x; live = a ∷ s.live; marked = s.marked }
+
+-- and these of its bytes are in marked words
+abbrev pub with_marked : Frames → List ℕ → Frames
+with_marked s places = record s { marked = λ x. has places x || s.marked x }
 
 -- the first live frame is returned to; its bytes stay as they are
 abbrev pub returned : Frames → Frames
-returned s = record s { live = drop 1 s.live }
+returned s = record s { live = drop 1 s.live; marked = λ x. s.marked x && in_frames (drop 1 s.live) x }
 
--- no frame is live any more, and the bytes of those that were are not soft
+-- no frame is live any more, and the bytes of their words that are not marked are not soft
 abbrev pub flushed : Frames → Frames
-flushed s = record { soft = λ x. s.soft x && not (in_frames s.live x); live = [] }
+flushed s = record { soft = λ x. s.soft x && not (is_kept s x); live = []; marked = λ _. false }
 
 -- so many bytes from an address on are stored to, and not soft any more
 abbrev pub wrote_run : Frames → ℕ → ℕ → Frames
@@ -45,6 +57,21 @@ is_put ps x = list_any (λ y. x == y) (places_of ps)
 -- the bytes of writes are not soft any more
 abbrev pub wrote : Frames → List (ℕ × ℕ) → Frames
 wrote s ps = record s { soft = λ x. s.soft x && not (is_put ps x) }
+
+-- and these of them are soft again, since their values are marked
+abbrev pub softened : Frames → List ℕ → Frames
+softened s places = record s { soft = λ x. has places x || s.soft x }
+
+-- ---- the marks of words
+
+-- a word has the mark of each of its bytes
+abbrev pub word_mark : (ℕ → Bool) → ℕ → Bool
+word_mark stale a = stale a || (stale (wrapped (a + 1)) || (stale (wrapped (a + 2)) || stale (wrapped (a + 3))))
+
+-- a return reads words with the marks of the first live frame; where none is live a word is marked by its soft bytes
+abbrev pub left_stale : List ℕ → Frames → ℕ → Bool
+left_stale [] s = s.soft
+left_stale (f ∷ live) s = s.marked
 
 -- ---- pushes
 

@@ -1,9 +1,9 @@
 -- Hazards: accesses that lean on the frame of a call that the processor may not have written to memory yet. Each names
 -- the least byte of the access that is concerned, counted upwards from its address.
-use Rattle.std.specs.Prelude.{ℕ, Bool, ◌==◌, if◌then◌else◌, List, [], ◌∷◌, Option, Some, None, Result, Ok, Err, find}
+use Rattle.std.specs.Prelude.{ℕ, ◌+◌, Bool, ◌==◌, if◌then◌else◌, List, [], ◌∷◌, Option, Some, None, Result, Ok, Err, find}
 use Rattle.i9_model.specs.declared.layout.TheConstants.{FRAME_SIZE, RECORD_SIZE}
 use Rattle.i9_model.specs.declared.push.Push.{Push}
-use Rattle.i9_model.specs.Writes.{places_of}
+use Rattle.i9_model.specs.Writes.{wrapped, places_of}
 use Rattle.i9_model.specs.Memory.{in_port_page}
 use Rattle.i9_model.specs.State.{Frames}
 use Rattle.i9_model.specs.Frames.{places, in_frames, rounded_down, saved, pushed, record_address}
@@ -37,9 +37,13 @@ or_else None later = later
 abbrev pub save_hazard : Frames → ℕ → Option ℕ
 save_hazard s a = or_else (write_hazard s a FRAME_SIZE) (port_hazard a FRAME_SIZE)
 
--- a frame that is returned to has to be the first live one; where none is live, it is read from memory
+-- where a saved frame has its return address
+abbrev pub return_place : ℕ → ℕ
+return_place a = wrapped (a + 8)
+
+-- a frame that is returned to has to be the first live one; where none is live, its return address is read from memory
 abbrev pub frame_hazard : List ℕ → Frames → ℕ → Option ℕ
-frame_hazard [] s a = read_hazard s a FRAME_SIZE
+frame_hazard [] s a = read_hazard s (return_place a) 4
 frame_hazard (f ∷ live) s a = if a == f then None else Some a
 
 abbrev pub return_hazard : Frames → ℕ → Option ℕ

@@ -14,9 +14,10 @@ use Rattle.i9_model.specs.Memory.{Memory, word_in, with_writes}
 use Rattle.i9_model.specs.State.{Frames, Interrupts, aligned}
 pub use Rattle.i9_model.specs.Pins.{by_edge, is_low, pending_word}
 use Rattle.i9_model.specs.Frames.{saved, wrote, pushed, record_address}
-use Rattle.i9_model.specs.Hazards.{or_else, unless, read_hazard, save_hazard, record_write_hazard}
+use Rattle.i9_model.specs.Hazards.{or_else, unless, read_hazard, record_write_hazard}
 pub use Rattle.i9_model.specs.Requests.{with_bit, without_bit, vector_priority, priority_place, pending_place, byte_hazard}
 unfoldable pub use Rattle.i9_model.specs.Requests.{request_hazard, request_writes}
+use Rattle.i9_model.specs.Calls.{save_area}
 pub use Rattle.i9_model.specs.Calls.{priority_of}
 use Rattle.i9_model.specs.Step.{bytes_of_words}
 
@@ -174,11 +175,11 @@ abbrev pub cleared_hazard : Memory → Frames → ℕ → Chosen → Push → Li
 cleared_hazard m f table c push words =
     clearing_hazard c.cause (with_writes m (record_writes m push words)) (wrote (saved f push.save) (record_writes m push words)) table c.vector
 
--- the accesses of an entry: the word of its vector, the save area, its record, and what clears its request
-unfoldable pub interrupt_hazard : Memory → Frames → ℕ → Chosen → Push → List ℕ → Option ℕ
-interrupt_hazard m f table c push words =
+-- the accesses of an entry: the word of its vector, what is checked of the push, its record, and what clears its request
+unfoldable pub interrupt_hazard : Memory → Frames → ℕ → Chosen → Push → List ℕ → Option ℕ → Option ℕ
+interrupt_hazard m f table c push words area =
     or_else (read_hazard f (vector_place table c.vector) 4)
-    (or_else (save_hazard f push.save)
+    (or_else area
     (or_else (record_write_hazard f push) (cleared_hazard m f table c push words)))
 
 abbrev pub interrupt_entry : Memory → ℕ → Chosen → Push → List ℕ → Entry
@@ -190,8 +191,12 @@ interrupt_entry m table c push words = record {
 }
 
 -- what the entry of an interrupt makes, or the hazard that it meets
-unfoldable pub planned_interrupt : Memory → Frames → ℕ → ℕ → Chosen → ℕ → ℕ → ℕ → ℕ → Result Entry ℕ
-planned_interrupt m f table stack c pc ac fp sp =
+unfoldable pub planned_interrupt_by : Memory → Frames → ℕ → ℕ → Chosen → ℕ → ℕ → ℕ → ℕ → (Bool → Option ℕ) → Result Entry ℕ
+planned_interrupt_by m f table stack c pc ac fp sp area =
     let push = interrupt_push stack pc fp sp in
     let words = interrupt_record c.vector pc ac in
-    unless (interrupt_hazard m f table c push words) (interrupt_entry m table c push words)
+    unless (interrupt_hazard m f table c push words (area (not (bit pc INTERRUPTED_PLACE)))) (interrupt_entry m table c push words)
+
+-- of the push, the save area is checked alone
+abbrev pub planned_interrupt : Memory → Frames → ℕ → ℕ → Chosen → ℕ → ℕ → ℕ → ℕ → Result Entry ℕ
+planned_interrupt m f table stack c pc ac fp sp = planned_interrupt_by m f table stack c pc ac fp sp (save_area f fp)

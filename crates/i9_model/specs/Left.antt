@@ -17,9 +17,9 @@ flag true = 1
 abbrev pub room_of : ℕ → ℕ
 room_of pc = HIGHEST_PRIORITY - priority_of pc
 
--- What may still choose an interrupt. No entry lowers the priority. That of a line raises it, since the priority of a line
--- is at most 30, whether its bit is cleared or its pin stays low; the entry of the interrupt that is never masked clears
--- what chose it, and so does that of software, which is looked for once.
+-- What may still choose an interrupt. No entry lowers the priority. That of a line raises it, since the priority of a
+-- line is at most 30, whether its bit is cleared or its pin stays low; the entry of the interrupt that is never masked
+-- clears what chose it, and so does that of software, which is looked for once.
 abbrev pub asked : State → ℕ
 asked s = room_of s.pc + flag s.interrupts.nmi + flag s.check
 

@@ -17,6 +17,7 @@ pub mod Numbers
 pub mod Conditions
 pub mod Results
 pub mod Branches
+pub mod Stale
 pub mod Requests
 pub mod Dma
 pub mod Tracing
@@ -43,3 +44,4 @@ pub mod ScheduleText
 pub mod PlannedRuns
 pub mod RunInSets
 pub mod PrintedText
+pub mod ReadingRuns

@@ -1,7 +1,8 @@
 -- The printed text of a run: its lines, and their bytes.
-use Rattle.std.specs.Prelude.{ℕ, ◌+◌, ◌==◌, if◌then◌else◌, Option, Some, None, List, [], ◌∷◌, ◌++◌, codes, take, drop, map}
+use Rattle.std.specs.Prelude.{ℕ, ◌+◌, ◌==◌, if◌then◌else◌, Option, Some, None, List, [], ◌∷◌, ◌++◌, codes, map, slice_index}
 use Rattle.std.specs.Fmt.{decimal}
 use Rattle.std.specs.List.{flat_map, range_with_len}
+use Rattle.i9_isa.specs.Words.{bit}
 use Rattle.i9_text.specs.Written.{word_text, byte_text}
 use Rattle.i9_model.specs.declared.view.View.{View}
 use Rattle.i9_model.specs.declared.event.Event.{Event}
@@ -10,6 +11,7 @@ use Rattle.i9_model.specs.declared.event.Timed.{Timed}
 use Rattle.i9_model.specs.Writes.{wrapped}
 use Rattle.i9_model.specs.Memory.{console_byte}
 use Rattle.i9_model.specs.Overlay.{overlay}
+use Rattle.i9_model.specs.Needs.{set_below}
 use Rattle.i9_model.specs.Events.{journal_text}
 use Rattle.i9_model.specs.ScheduleText.{levels_version, timed_at}
 use Rattle.i9_model.specs.State.{State}
@@ -28,8 +30,9 @@ pub data Shown : Type 0 where
 unfoldable pub register_list : (ℕ → ℕ) → List ℕ
 register_list regs = map regs (range_with_len 0 32)
 
+-- what is shown of a state, with the marks of its registers as a number
 abbrev pub view_of : State → View
-view_of s = record { count = s.count; ip = s.ip; ac = s.ac; pc = s.pc; tc = s.trace.tc; regs = register_list s.regs }
+view_of s = record { count = s.count; ip = s.ip; ac = s.ac; pc = s.pc; tc = s.trace.tc; regs = register_list s.regs; marks = set_below 32 s.marks }
 
 -- ---- the lines of a run
 
@@ -123,9 +126,17 @@ end_text (Hazard a) = words_text (codes "#end hazard") (a ∷ [])
 end_text (Dead code a) = words_text (codes "#end dead " ++ decimal code) (a ∷ [])
 end_text (Imprecise a) = words_text (codes "#end imprecise") (a ∷ [])
 
+-- a register after a space: its value, or eight dashes where it is marked
+abbrev pub spaced_register : View → ℕ → List ℕ
+spaced_register v r = if bit v.marks r then codes " --------" else spaced (slice_index v.regs r)
+
+-- a label and sixteen registers from one on
+unfoldable pub registers_text : List ℕ → View → ℕ → List ℕ
+registers_text label v first = label ++ flat_map (spaced_register v) (range_with_len first 16) ++ line_feed
+
 -- a drained point, with its global and its local registers
 abbrev pub point_shown : Point → View → List ℕ
-point_shown k v = point_text k v ++ (words_text (codes "#g") (drop 16 v.regs) ++ words_text (codes "#l") (take 16 v.regs))
+point_shown k v = point_text k v ++ (registers_text (codes "#g") v 16 ++ registers_text (codes "#l") v 0)
 
 -- an event that was reached after so many instructions
 unfoldable pub event_text : ℕ → Event → List ℕ

@@ -22,7 +22,8 @@ use Rattle.i9_model.specs.Traced.{traced_action}
 use Rattle.i9_model.specs.Before.{Received, choice_in, interrupt_in, interrupting, received_in, receiving}
 use Rattle.i9_model.specs.ScheduleText.{timed_at, standing}
 use Rattle.i9_model.specs.Standing.{Standing, Meets, Refused, Faults, Runs, stands_at}
-use Rattle.i9_model.specs.Faults.{planned_fault}
+use Rattle.i9_model.specs.Stale.{area_hazard}
+use Rattle.i9_model.specs.Faults.{planned_fault_by}
 pub use Rattle.i9_model.specs.Given.{Given}
 pub use Rattle.i9_model.specs.declared.run.End.{End}
 pub use Rattle.i9_model.specs.declared.run.End.TheVariants.{Exit, Limit, Hazard, Dead, Imprecise}
@@ -160,7 +161,7 @@ next_by_entry s (Err (stops.Dead code a)) = Ends (finish (Dead code a))
 
 -- the entry of a fault in a state
 unfoldable pub entry_in : State → Fault → Result Entry FaultStop
-entry_in s fault = planned_fault s.memory s.frames s.tables.fault_table s.tables.system_table fault s.pc s.ac (s.regs FP) (s.regs SP)
+entry_in s fault = planned_fault_by s.memory s.frames s.tables.fault_table s.tables.system_table fault s.pc s.ac (s.regs FP) (s.regs SP) (area_hazard s)
 
 -- an event does what it does, unless that meets a hazard; it is reached in either case
 abbrev pub next_by_received : State → Event → Result Received ℕ → Next

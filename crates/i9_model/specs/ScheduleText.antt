@@ -144,8 +144,8 @@ hash = 35
 abbrev pub is_skipped : List ℕ → Bool
 is_skipped line = (slice_index line 0 == hash) || (length (words_of line) == 0)
 
--- what a line says by itself, behind lines that told this version, or none: nothing, the version, or an event; or the kind
--- of its fault
+-- what a line says by itself, behind lines that told this version, or none: nothing, the version, or an event; or the
+-- kind of its fault
 unfoldable pub line_of : Option ℕ → List ℕ → Result Said ℕ
 line_of version line =
     if not (is_ascii line) then Err unknown_line
@@ -211,10 +211,10 @@ fault_of_said ts (Ok said.Nothing) = None
 fault_of_said ts (Ok (said.Version version)) = None
 fault_of_said ts (Ok (said.Event t)) = fault_after ts t
 
--- The fault of a line, the least of its kinds: 1, it is not ASCII, or its first word is neither `at` nor `turn`, nor is it
--- `schedule` where no line before said anything; 2, there is no event word, or one that is unknown in the version; 3, a
--- number or operand is out of its form or range, or missing, or there is one too many; 4, its first word is not that of the
--- event before; 5, its time is below that of the event before; 6, there are too many events.
+-- The fault of a line, the least of its kinds: 1, it is not ASCII, or its first word is neither `at` nor `turn`, nor is
+-- it `schedule` where no line before said anything; 2, there is no event word, or one that is unknown in the version;
+-- 3, a number or operand is out of its form or range, or missing, or there is one too many; 4, its first word is not
+-- that of the event before; 5, its time is below that of the event before; 6, there are too many events.
 abbrev pub fault_of : SoFar → List ℕ → Option ℕ
 fault_of s line = fault_of_said s.events (line_of s.version line)
 

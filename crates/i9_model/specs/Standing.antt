@@ -18,6 +18,7 @@ use Rattle.i9_model.specs.Branches.{is_taken}
 use Rattle.i9_model.specs.Step.{first_word, next_word, answer_in}
 use Rattle.i9_model.specs.Access.{access_of, data_of, hazard_of, fetch_hazard}
 use Rattle.i9_model.specs.Faults.{raised}
+use Rattle.i9_model.specs.Stale.{misuses}
 
 -- ---- the fault of an instruction, as type and subtype
 
@@ -84,10 +85,10 @@ abbrev pub by_raised : Inst → State → Option (ℕ × ℕ) → Standing
 by_raised i s (Some number) = Faults i number
 by_raised i s None = by_later i s (later_fault i s)
 
--- by the first word that is there
+-- by the first word that is there; what marks forbid comes before what is raised
 abbrev pub by_word : State → Result Inst BadWord → Standing
 by_word s (Err e) = Refused (word_fault e)
-by_word s (Ok i) = by_raised i s (raised_in i s)
+by_word s (Ok i) = if misuses i s then Meets s.ip else by_raised i s (raised_in i s)
 
 abbrev pub by_fetch : State → Option ℕ → Standing
 by_fetch s (Some a) = Meets a

@@ -9,14 +9,15 @@ pub use Rattle.i9_model.specs.Writes.{aligned}
 use Rattle.i9_model.specs.Memory.{Memory, stored}
 use Rattle.i9_model.specs.Boot.{tables_of, boot_setup, boot_memory}
 
--- bytes that only the save of a frame wrote, and the save addresses of the frames that may be returned to, youngest
--- first
+-- bytes that only the save of a frame or a marked value wrote; the save addresses of the frames that may be returned to,
+-- youngest first; and the bytes of these frames that are in marked words
 pub record Frames : Type 0 where
   pub soft : ℕ → Bool
   pub live : List ℕ
+  pub marked : ℕ → Bool
 
--- The kept pending word and the mask word, the three map words, the control word of pins (ICON), the word of the pins that
--- are low, and whether NMI is posted.
+-- The kept pending word and the mask word, the three map words, the control word of pins (ICON), the word of the pins
+-- that are low, and whether NMI is posted.
 pub record Interrupts : Type 0 where
   pub pending : ℕ
   pub mask : ℕ
@@ -42,7 +43,9 @@ pub record TraceControls : Type 0 where
   pub breaks : Breaks
 
 -- The registers (r0 to r15 are 0 to 15, g0 to g15 are 16 to 31), instruction address, arithmetic and process controls,
--- count of instructions, whether the next choice of an interrupt looks at software ones, and the words of the PRCB.
+-- count of instructions, whether the next choice of an interrupt looks at software ones, and the words of the PRCB; which
+-- registers are marked, that is, have values that stale bytes decide; and, the same for the whole run, what a soft byte is
+-- read as, by what memory holds there.
 pub record State : Type 0 where
   pub regs : ℕ → ℕ
   pub ip : ℕ
@@ -56,6 +59,8 @@ pub record State : Type 0 where
   pub dma : Dma
   pub trace : TraceControls
   pub tables : Tables
+  pub marks : ℕ → Bool
+  pub reading : ℕ → ℕ
 
 -- the memory of an image before boot; later pairs win
 abbrev pub image_memory : List (ℕ × ℕ) → Memory
@@ -101,6 +106,13 @@ start_trace u = record {
   };
 }
 
+-- The machine of runs reads a soft byte as 0. It may as well read it as memory holds it: no difference is seen.
+abbrev pub as_zero : ℕ → ℕ
+as_zero b = 0
+
+abbrev pub as_held : ℕ → ℕ
+as_held b = b
+
 -- The state that start-up leaves, from the registers, the count and the low pins before it, and the memory and the frames
 -- behind it.
 unfoldable pub started : Setup → (ℕ → ℕ) → ℕ → ℕ → Memory → Frames → State
@@ -117,10 +129,12 @@ started u regs count low m f = record {
   dma = no_dma;
   trace = start_trace u;
   tables = tables_of u;
+  marks = λ _. false;
+  reading = as_zero;
 }
 
 -- the state after boot; all pins are high
 unfoldable pub boot : List (ℕ × ℕ) → State
 boot image =
     let m = image_memory image in
-    started (boot_setup m) (λ _. 0) 0 0 (boot_memory m) (record { soft = λ _. false; live = [] })
+    started (boot_setup m) (λ _. 0) 0 0 (boot_memory m) (record { soft = λ _. false; live = []; marked = λ _. false })

@@ -1,5 +1,5 @@
 -- One instruction in a state: what it does is data, and one function applies it.
-use Rattle.std.specs.Prelude.{ℕ, ◌+◌, ◌-◌, ◌*◌, ◌/◌, nat_lt, ◌%◌, ◌^◌, ◌==◌, Bool, true, false, if◌then◌else◌, bit_and, bit_or, List, [], ◌∷◌, ◌++◌, map, replicate, Option, Some, None}
+use Rattle.std.specs.Prelude.{ℕ, ◌+◌, ◌-◌, ◌*◌, ◌/◌, nat_lt, ◌%◌, ◌^◌, ◌==◌, Bool, true, false, ◌||◌, if◌then◌else◌, bit_and, bit_or, List, [], ◌∷◌, ◌++◌, map, replicate, Option, Some, None}
 use Rattle.std.specs.List.{range_with_len}
 use Rattle.i9_isa.specs.declared.op.Op.{Op}
 use Rattle.i9_isa.specs.declared.op.Op.TheVariants.{Lda, Atadd, Atmod, Bx, Balx, Bal, Call, Callx, Calls, Ret, Flushreg, Modac, Modtc, Modpc, Sdma, Sysctl}
@@ -26,8 +26,10 @@ use Rattle.i9_model.specs.Writes.{wrapped, written, upwards}
 use Rattle.i9_model.specs.Memory.{Memory, half_in, half_bytes, word_in, word_bytes, words_in, with_writes, with_words}
 use Rattle.i9_model.specs.State.{State, Frames, Interrupts, Dma, Channel, aligned}
 pub use Rattle.i9_model.specs.State.{frame_sets}
-use Rattle.i9_model.specs.Controls.{Control, KeepsControls, Restarts, LoadsGroup, controlled}
-use Rattle.i9_model.specs.Frames.{pushed, saved, returned, flushed, wrote}
+use Rattle.i9_model.specs.Controls.{Control, KeepsControls, Restarts, LoadsGroup, marks_after, controlled}
+use Rattle.i9_model.specs.Frames.{pushed, saved, with_marked, returned, flushed, wrote, softened}
+use Rattle.i9_model.specs.Hazards.{return_place}
+use Rattle.i9_model.specs.Stale.{picked, marks_for, byte_marks, mark_of, word_mark, word_marks, legible, loaded_marks, stored_marks, saved_marks, left_memory, left_stale, address_registers, is_marked, result_marks}
 use Rattle.i9_model.specs.Requests.{request_writes}
 use Rattle.i9_model.specs.Dma.{set_up}
 use Rattle.i9_model.specs.Calls.{priority_of, call_type, system_entered, record_address, popped}
@@ -46,8 +48,9 @@ pub data Move : Type 0 where
   Flushes : Move
 
 -- the registers that are set; the bytes that are written; the frames; the arithmetic, process and trace controls,
--- the check flag, interrupts and DMA afterwards; the other controls; the next address; and, where trace events count,
--- the trace controls with their flags and the subtype of their fault
+-- the check flag, interrupts and DMA afterwards; the other controls; the next address; where trace events count,
+-- the trace controls with their flags and the subtype of their fault; and what has a mark: of the registers that are set,
+-- of the bytes that are written, and of the bytes of the frame that is saved
 pub record Action : Type 0 where
   pub sets : List (ℕ × ℕ)
   pub writes : List (ℕ × ℕ)
@@ -61,6 +64,9 @@ pub record Action : Type 0 where
   pub control : Control
   pub next : ℕ
   pub trace : Option Trace
+  pub marked : List ℕ
+  pub stale : List ℕ
+  pub lost : List ℕ
 
 -- Nothing is done, but control goes to an address. The choice of an interrupt that came before has looked at what
 -- software asks for, where the check flag was set, so the flag is clear.
@@ -78,6 +84,9 @@ going s next = record {
   control = KeepsControls;
   next = next;
   trace = None;
+  marked = [];
+  stale = [];
+  lost = [];
 }
 
 -- the address behind an instruction
@@ -95,6 +104,10 @@ assigning o vs a = record a {
   interrupts = interrupts_assigned o vs a.interrupts;
   dma = dma_assigned o vs a.dma;
 }
+
+-- its registers get these marks
+abbrev pub marking : Operand → List Bool → Action → Action
+marking o bs a = record a { marked = marks_for o bs }
 
 -- a destination gets one value, and nothing else is done
 abbrev pub answering : Inst → State → ℕ → Action
@@ -128,10 +141,15 @@ stored_of Half s o a = half_bytes s.memory a (value s o % 2 ^ 16)
 stored_of (Words n) s o a = bytes_of_words s.memory a (source_words s o n)
 
 abbrev pub loading : Size → Bool → Inst → State → Action
-loading size signed i s = assigning i.c (loaded size signed s.memory (address s i.ea)) (passing i s)
+loading size signed i s =
+    let a = address s i.ea in
+    marking i.c (loaded_marks size s.frames.soft a) (assigning i.c (loaded size signed (legible s) a) (passing i s))
 
 abbrev pub storing : Size → Inst → State → Action
-storing size i s = record (passing i s) { writes = upwards (address s i.ea) (stored_of size s i.c (address s i.ea)) }
+storing size i s = record (passing i s) {
+  writes = upwards (address s i.ea) (stored_of size s i.c (address s i.ea));
+  stale = picked wrapped (address s i.ea) (stored_marks size s i.c);
+}
 
 -- loads and stores go between registers and memory
 abbrev pub moving : Direction → Size → Bool → Inst → State → Action
@@ -149,12 +167,17 @@ merged old mask bits = bit_or (bit_and bits mask) (bit_and old (complement mask)
 abbrev pub atomic_address : Inst → State → ℕ
 atomic_address i s = aligned (value s i.a)
 
--- the old word is answered, and another one stored in its place
-abbrev pub atomic : Inst → State → (ℕ → ℕ) → Action
-atomic i s change =
+-- The old word is answered, and another one stored in its place. The answer is marked where the old word is stale, and the
+-- new word is stale where that is so or where the data are marked.
+abbrev pub atomic : Inst → State → Bool → (ℕ → ℕ) → Action
+atomic i s data_marked change =
     let a = atomic_address i s in
-    let old = word_in s.memory a in
-    record (answering i s old) { writes = upwards a (word_bytes s.memory a (change old)) }
+    let old = word_in (legible s) a in
+    let is_stale = word_mark s.frames.soft a in
+    record (marking i.c (is_stale ∷ []) (answering i s old)) {
+      writes = upwards a (word_bytes s.memory a (change old));
+      stale = picked wrapped a (byte_marks ((is_stale || data_marked) ∷ []));
+    }
 
 -- ---- branches
 
@@ -192,7 +215,7 @@ controls_of (Some r) ac = r.controls
 
 -- a result goes to the destination, and the arithmetic controls change with it
 abbrev pub resulting : Inst → State → Option Answer → Action
-resulting i s o = record (assigning (destination i) (values_of o) (passing i s)) { ac = controls_of o s.ac }
+resulting i s o = record (marking (destination i) (result_marks i s) (assigning (destination i) (values_of o) (passing i s))) { ac = controls_of o s.ac }
 
 -- controls with other bits where a mask has them, of which some are kept
 abbrev pub modified : ℕ → ℕ → ℕ → ℕ → ℕ
@@ -287,7 +310,11 @@ push_sets p = frame_sets (p.pfp ∷ p.sp ∷ replicate 14 0) p.frame
 
 -- the locals are saved with a return address, and control goes on in a new frame
 abbrev pub pushing : State → Push → ℕ → ℕ → Action
-pushing s p back next = record (going s next) { sets = push_sets p; move = Saves p.save (saved_locals s back) }
+pushing s p back next = record (going s next) {
+  sets = push_sets p;
+  move = Saves p.save (saved_locals s back);
+  lost = picked wrapped p.save (byte_marks (saved_marks s));
+}
 
 -- call and callx go on in a frame above sp
 abbrev pub call_action : Inst → State → ℕ → Action
@@ -306,8 +333,9 @@ return_in s = popped s.memory s.frames (s.regs PFP) (s.regs FP) s.pc s.ac
 
 -- ret reads the locals of that frame, and goes on at its rip; that of an interrupt has software's requests looked at
 abbrev pub ret_action : State → Action
-ret_action s = record (going s (aligned (word_in s.memory (wrapped ((return_in s).frame + 8))))) {
-  sets = frame_sets (words_in s.memory (return_in s).frame LOCALS) (return_in s).frame;
+ret_action s = record (going s (aligned (word_in (left_memory s.frames.live s) (return_place (return_in s).frame)))) {
+  sets = frame_sets (words_in (left_memory s.frames.live s) (return_in s).frame LOCALS) (return_in s).frame;
+  marked = picked (λ r. r) 0 (word_marks (left_stale s.frames.live s.frames) (return_in s).frame LOCALS);
   move = Returns;
   pc = (return_in s).pc;
   ac = (return_in s).ac;
@@ -339,9 +367,9 @@ other_action op i s = if asks (question_of op) then branching i s else resulting
 -- its message; syncf does nothing but drain, mark and fmark nothing but what tracing makes of them, and udma nothing; the
 -- others branch or go by the table of results.
 abbrev pub action_by_name : Op → Inst → State → Action
-action_by_name Lda i s = answering i s (address s i.ea)
-action_by_name Atadd i s = atomic i s (λ old. wrapped (old + value s i.b))
-action_by_name Atmod i s = atomic i s (λ old. merged old (value s i.b) (value s i.c))
+action_by_name Lda i s = marking i.c (is_marked s (address_registers i.ea) ∷ []) (answering i s (address s i.ea))
+action_by_name Atadd i s = atomic i s (mark_of s i.b 0) (λ old. wrapped (old + value s i.b))
+action_by_name Atmod i s = atomic i s (mark_of s i.b 0 || mark_of s i.c 0) (λ old. merged old (value s i.b) (value s i.c))
 action_by_name Bx i s = jumping i s (address s i.ea)
 action_by_name Balx i s = linking i.c i s (address s i.ea)
 action_by_name Bal i s = linking (Reg LINK) i s (target i s)
@@ -382,6 +410,7 @@ frames_after s Flushes = flushed s
 unfoldable pub moved : State → Action → State
 moved s a = record s {
   regs = written s.regs a.sets;
+  marks = marks_after s.marks a.sets a.marked;
   ac = a.ac;
   pc = a.pc;
   trace = record s.trace { tc = a.tc };
@@ -389,7 +418,7 @@ moved s a = record s {
   interrupts = a.interrupts;
   dma = a.dma;
   memory = with_writes (memory_after s.memory a.move) a.writes;
-  frames = wrote (frames_after s.frames a.move) a.writes;
+  frames = softened (wrote (with_marked (frames_after s.frames a.move) a.lost) a.writes) a.stale;
   ip = a.next;
 }
 

@@ -23,7 +23,8 @@ pub enum CallsStop {
 }
 
 /// A return: the frame that is returned to, whether a live frame is left by it, the process and
-/// arithmetic controls afterwards, and whether software interrupts are looked at next.
+/// arithmetic controls afterwards, and whether software interrupts are looked at next. Bit k of
+/// `marks` is the mark of word k of the frame, whose value is stale where it is marked.
 #[derive(Clone, Copy, Debug, PartialEq, Eq)]
 pub struct Pop {
     pub frame: u32,
@@ -31,4 +32,5 @@ pub struct Pop {
     pub pc: u32,
     pub ac: u32,
     pub check: bool,
+    pub marks: u16,
 }

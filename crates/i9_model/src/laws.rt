@@ -1,20 +1,21 @@
 //! Laws of the definitions, as the contracts of calls that do nothing.
 
-ghost use Rattle.std.specs.Prelude.{◌≡◌, ◌≢◌, ◌≤◌, ◌++◌, List, ℕ, Option, None, Ok};
+ghost use Rattle.std.specs.Prelude.{◌≡◌, ◌≢◌, ◌≤◌, ◌++◌, List, ℕ, Bool, true, Option, None, Ok};
 ghost use Rattle.i9_model.specs.declared.calls.Sys.{Sys};
 ghost use Rattle.i9_model.specs.declared.event.Event.{Event};
 ghost use Rattle.i9_model.specs.Memory.{Memory};
-ghost use Rattle.i9_model.specs.State.{State, Frames};
+ghost use Rattle.i9_model.specs.State.{State, Frames, as_zero};
 ghost use Rattle.i9_model.specs.Frames.{no_frames, saved, returned, flushed, wrote};
 ghost use Rattle.i9_model.specs.Hazards.{writes_hazard, save_hazard};
 ghost use Rattle.i9_model.specs.Calls.{planned_calls, Undoes};
 ghost use Rattle.i9_model.specs.Sound.{AreApart, IsSound};
-ghost use Rattle.i9_model.specs.Run.{Given, Record, End, Limit, Due, next_in, IsRun, IsPast, state_after, Finish};
+ghost use Rattle.i9_model.specs.Run.{Given, Record, Limit, Due, next_in, IsRun, IsPast, state_after, Finish};
 ghost use Rattle.i9_model.specs.Overlay.{overlay};
-ghost use Rattle.i9_model.specs.Alike.{AreAlike, AreNextAlike};
+ghost use Rattle.i9_model.specs.Alike.{AreAlike, AreNextAlike, Agree, DoAgree, NextsAgree};
 ghost use Rattle.i9_model.specs.HeldFrames.{cache_after, IsCached, AreInMemory};
 ghost use Rattle.i9_model.specs.RunInSets.{IsRunInSets};
-ghost use Rattle.i9_model.specs.PrintedText.{text_of, lines_of, run_text, view_of};
+ghost use Rattle.i9_model.specs.ReadingRuns.{boot_reading, state_from, IsRunReading, reading_text, AreViewsAlike};
+ghost use Rattle.i9_model.specs.PrintedText.{text_of, lines_of, record_lines, run_text, view_of};
 
 /// Every run ends, whatever was done so far; no run counts more instructions than its length; and
 /// what was printed so far is the front of the text of the whole run.
@@ -75,8 +76,8 @@ pub fn returns_undo_system_calls()
 /// next in them is the same end, or a record that does the same and leaves states that are again the same but for
 /// such bytes.
 pub fn only_compared_bytes_are_seen()
-    ensures next { (limit : ℕ) (due : Due) (stands : Option Event) (s t : State) → AreAlike s t
-        → AreNextAlike (next_in limit due stands s) (next_in limit due stands t) }
+    ensures next { (limit : ℕ) (due : Due) (stands : Option Event) (s t : State) → IsSound s.frames → s.reading ≡ as_zero
+        → AreAlike s t → AreNextAlike (next_in limit due stands s) (next_in limit due stands t) }
     ensures view { (s t : State) → AreAlike s t → view_of t ≡ view_of s }
     ensures overlay { (s t : State) (a : ℕ) → AreAlike s t → overlay t a ≡ overlay s a }
 {}
@@ -99,4 +100,28 @@ pub fn text_does_not_depend_on_sets()
     ensures any { (g : Given) (others : Option ℕ) (qs ps : List Record) (e f : Finish)
         → IsRunInSets g qs e → IsRunInSets (record g { sets = others }) ps f
         → run_text g qs e ≡ run_text (record g { sets = others }) ps f }
+{}
+
+/// Stale values are not seen: from states that are the same but for the values of marked registers and for bytes that
+/// are not compared, whatever either machine reads at a soft byte, comes the same end, or a record of the same kind, of
+/// the same words, of an action that is the same but for marked values, and of the same text, and the states after it
+/// agree again. Where marks do not hide, two machines agree that read soft bytes alike, with all values of registers and
+/// of live frames.
+pub fn stale_values_are_not_seen()
+    ensures next { (hides : Bool) (limit : ℕ) (due : Due) (stands : Option Event) (s t : State) → IsSound s.frames
+        → Agree hides s t → NextsAgree hides (next_in limit due stands s) (next_in limit due stands t) }
+    ensures view { (s t : State) → Agree true s t → AreViewsAlike (view_of s) (view_of t) }
+    ensures overlay { (s t : State) (a : ℕ) → Agree true s t → overlay t a ≡ overlay s a }
+    ensures text { (r q : Record) → DoAgree true r q → text_of (record_lines q) ≡ text_of (record_lines r) }
+{}
+
+/// The text of a run does not depend on what is read at stale bytes: a machine that reads soft bytes in any other way
+/// has a run beside each run of the one-at-a-time machine, of the same end and the same text, and no run of another end
+/// or of another text.
+pub fn runs_do_not_depend_on_stale_bytes()
+    ensures some { (reading : ℕ → ℕ) (g : Given) (rs : List Record) (f : Finish) → IsRun g rs f
+        → (qs : List Record) × IsRunReading reading g qs f × (reading_text reading g qs f ≡ run_text g rs f)
+        × Agree true (state_after g rs) (state_from (boot_reading reading g.image) qs) }
+    ensures only { (reading : ℕ → ℕ) (g : Given) (qs rs : List Record) (e f : Finish) → IsRunReading reading g qs e
+        → IsRun g rs f → (e ≡ f) × (reading_text reading g qs e ≡ run_text g rs f) }
 {}

@@ -35,7 +35,7 @@ pub use late_laws::{
 pub use laws::{
     a_length_cuts_the_run, every_run_ends, frames_stay_sound, held_frames_stand_for_memory,
     live_frames_never_overlap, one_run, only_compared_bytes_are_seen, returns_undo_system_calls,
-    text_does_not_depend_on_sets,
+    runs_do_not_depend_on_stale_bytes, stale_values_are_not_seen, text_does_not_depend_on_sets,
 };
 pub use need::{Cell, Facts, Need, Placed, TimedNeed};
 pub use need_laws::{actions_keep_to_their_needs, needs_have_costs, others_write_no_memory};

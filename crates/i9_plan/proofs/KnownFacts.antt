@@ -3,7 +3,7 @@ use Rattle.std.proofs.Common.{◌≡◌, ℕ, ◌≤◌, Bool, true, false, cond
 use Rattle.std.specs.Prelude.{is_some, ◌||◌, find}
 use Rattle.std.specs.List.{list_any}
 use Rattle.i9_isa.specs.declared.op.Op.{Op}
-use Rattle.i9_isa.specs.declared.op.Op.TheVariants.{Lda, Atadd, Atmod, Sysctl}
+use Rattle.i9_isa.specs.declared.op.Op.TheVariants.{Lda, Sysctl}
 use Rattle.i9_isa.specs.declared.inst.Inst.{Inst}
 use Rattle.i9_isa.specs.declared.size.Direction.{Direction}
 use Rattle.i9_isa.specs.declared.size.Transfer.{Transfer}
@@ -14,6 +14,7 @@ use Rattle.i9_model.specs.Step.{Message, AsksNothing, AsksCheck, AsksInterrupt, 
 use Rattle.i9_model.specs.Access.{Access, Reads, Writes, Changes, message_access, access_by_name, moved_access, access_by, access_of, data_of}
 use Rattle.i9_model.specs.Needs.{has_access}
 use Rattle.i9_course.specs.NeedOf.{access_waits}
+use Rattle.i9_plan.specs.Names.{is_atomic}
 
 -- one passes a test where a first one does
 pub any_found : {A : Type 0} (p : A → Bool) (xs : List A) → is_some (find p xs) ≡ list_any p xs
@@ -25,11 +26,6 @@ any_found p (x ∷ xs) = by (p x) (any_found p xs)
     by false rest = rest
 
 -- ---- a data access
-
-abbrev is_atomic : Op → Bool
-is_atomic Atadd = true
-is_atomic Atmod = true
-is_atomic _ = false
 
 accesses : (op : Op) → (is_atomic op || is_some (transfer_of op)) ≡ has_access op
 accesses Lda = refl

@@ -10,3 +10,8 @@ pub mod Fetching
 pub mod Opened
 pub mod KnownFacts
 pub mod MovedFrames
+pub mod MarkBits
+pub mod MarkUses
+pub mod ReadMarks
+pub mod MarkLists
+pub mod Marking

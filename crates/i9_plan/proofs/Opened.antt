@@ -1,6 +1,6 @@
 -- What waits for all before it: a barrier, whatever it comes to, a word that is refused, a hazard, and a fault that is
 -- raised before anything is done; and what others need.
-use Rattle.std.proofs.Common.{◌≡◌, ℕ, ◌+◌, ◌*◌, ◌&&◌, Bool, true, false, Option, Some, None, Ok, refl, sym, ap, ◌∙◌, subst}
+use Rattle.std.proofs.Common.{◌≡◌, ℕ, ◌+◌, ◌*◌, ◌&&◌, Bool, true, false, cond, Option, Some, None, Ok, refl, sym, ap, ◌∙◌, subst}
 use Rattle.std.specs.Prelude.{not, ◌||◌, ◌==◌, if◌then◌else◌, IsTrue}
 use Rattle.std.specs.Option.{is_some}
 use Rattle.i9_isa.specs.declared.op.Op.{Op}
@@ -12,6 +12,7 @@ use Rattle.i9_isa.specs.declared.inst.Inst.{Inst}
 use Rattle.i9_model.specs.declared.faults.TheConstants.{ARITHMETIC}
 use Rattle.i9_model.specs.State.{State}
 use Rattle.i9_model.specs.Access.{hazard_of}
+use Rattle.i9_model.specs.Stale.{misuses}
 use Rattle.i9_model.specs.Needs.{has_access, moves_frames, is_barrier_name, writes_sfr, inst_need}
 use Rattle.i9_model.specs.Standing.{Standing, Meets, Refused, Faults, Runs, word_fault, raised_in, later_fault, by_access, by_later, by_raised, by_word, by_fetch, stands_at}
 use Rattle.i9_model.specs.HeldFrames.{Cache, sets_in}
@@ -79,6 +80,13 @@ raised_waits : (i : Inst) (s : State) (f : Option (ℕ × ℕ)) → IsBarrier i 
 raised_waits i s None b = later_waits i s (later_fault i s) b
 raised_waits i s (Some number) b = faults_waits i s number b
 
+word_waits : (i : Inst) (s : State) → IsBarrier i → WaitsForAll s (by_word s (Ok i))
+word_waits i s b = by (misuses i s)
+  where
+    by : (m : Bool) → WaitsForAll s (cond m (Meets s.ip) (by_raised i s (raised_in i s)))
+    by true = meets_waits s s.ip
+    by false = raised_waits i s (raised_in i s) b
+
 -- ---- what stands there
 
 -- what was read stays so while the instruction does
@@ -91,13 +99,13 @@ still_read s m n e read = record {
 }
 
 -- by an instruction that is read
-pub read_stands : (s : State) (m : Memo) → IsRead s m → stands_at s ≡ by_raised (inst_in m) s (raised_in (inst_in m) s)
+pub read_stands : (s : State) (m : Memo) → IsRead s m → stands_at s ≡ by_word s (Ok (inst_in m))
 unfolding stands_at
 read_stands s m read = ap (by_fetch s) read.clear ∙ ap (by_word s) read.read
 
 pub barrier_waits : (s : State) (m : Memo) → IsRead s m → IsBarrier (inst_in m) → WaitsForAll s (stands_at s)
 barrier_waits s m read b =
-    subst (WaitsForAll s) (sym (read_stands s m read)) (raised_waits (inst_in m) s (raised_in (inst_in m) s) b)
+    subst (WaitsForAll s) (sym (read_stands s m read)) (word_waits (inst_in m) s b)
 
 -- where none is read
 pub unread_waits : (s : State) (e : Unread) → IsUnread s e → WaitsForAll s (stands_at s)
@@ -119,12 +127,12 @@ stop_waits s i outcomes.Runs stops = absurd stops
 
 -- what the instruction that was read comes to is what stands there
 pub outcome_stands : (s : State) (m : Memo) (i : Inst) (o : Outcome) → IsRead s m → i ≡ inst_in m
-    → standing_in i o ≡ by_raised i s (raised_in i s) → stands_at s ≡ standing_in (inst_in m) o
+    → standing_in i o ≡ by_word s (Ok i) → stands_at s ≡ standing_in (inst_in m) o
 outcome_stands s m i o read is stands =
-    read_stands s m read ∙ sym (subst (λ (x : Inst). standing_in x o ≡ by_raised x s (raised_in x s)) is stands)
+    read_stands s m read ∙ sym (subst (λ (x : Inst). standing_in x o ≡ by_word s (Ok x)) is stands)
 
 pub outcome_waits : (s : State) (m : Memo) (i : Inst) (o : Outcome) → IsRead s m → i ≡ inst_in m
-    → standing_in i o ≡ by_raised i s (raised_in i s) → Stops o → WaitsForAll s (stands_at s)
+    → standing_in i o ≡ by_word s (Ok i) → Stops o → WaitsForAll s (stands_at s)
 outcome_waits s m i o read is stands stops =
     subst (WaitsForAll s) (sym (outcome_stands s m i o read is stands)) (stop_waits s (inst_in m) o stops)
 

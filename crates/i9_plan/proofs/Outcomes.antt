@@ -1,8 +1,9 @@
 -- What an instruction comes to that raises nothing before it does anything: by its result, by its condition, or by its
 -- access alone.
-use Rattle.std.proofs.Common.{◌≡◌, ℕ, Bool, true, false, cond, ◌&&◌, List, [], Option, Some, None, Result, refl, sym, ap, ◌∙◌, subst}
-use Rattle.std.specs.Prelude.{is_some, not, ◌||◌}
+use Rattle.std.proofs.Common.{◌≡◌, ℕ, Bool, true, false, cond, ◌&&◌, List, [], replicate, Option, Some, None, Result, Ok, refl, sym, ap, ◌∙◌, subst}
+use Rattle.std.specs.Prelude.{is_some, not, ◌||◌, ◌==◌}
 use Rattle.std.specs.Option.{option_map}
+use Rattle.std.proofs.lemmas.Bool.{eqb-true}
 use Rattle.i9_isa.specs.declared.op.Op.{Op}
 use Rattle.i9_isa.specs.declared.op.Op.TheVariants.{Lda, Atadd, Atmod, Bx, Balx, Bal, Call, Callx, Calls, Ret, Flushreg, Modac, Modtc, Modpc, Sysctl, Sdma}
 use Rattle.i9_isa.specs.declared.inst.Inst.{Inst}
@@ -17,12 +18,13 @@ use Rattle.i9_isa.specs.declared.inst.Operand.TheVariants.{Reg, Lit, Sfr}
 use Rattle.i9_model.specs.Operands.{value, address, assigned, interrupts_assigned, dma_assigned}
 use Rattle.i9_model.specs.Branches.{asks, question_of, is_taken}
 use Rattle.i9_model.specs.Needs.{is_barrier_name, has_access}
-use Rattle.i9_model.specs.Results.{Answer, has_result}
+use Rattle.i9_model.specs.Results.{Answer, has_result, destination_words}
+use Rattle.i9_model.specs.Stale.{misuses, marks_for, marks_of, sources, is_marked, moves_words, result_marks}
 use Rattle.i9_model.specs.Step.{Action, passing, destination, answer_in, resulting, branching, other_action, action_by_name, action_by, action_of}
 use Rattle.i9_model.specs.Access.{NoAccess, moved_access, access_by_name, access_by, access_of, data_of, hazard_in, hazard_of}
 use Rattle.i9_model.specs.Calls.{in_supervisor_mode}
 use Rattle.i9_model.specs.Faults.{is_supervisor_only, uses_special, mismatches, is_invalid, is_past_table, is_unaligned, raised}
-use Rattle.i9_model.specs.Standing.{Standing, Faults, Runs, arithmetic_fault, answer_fault, is_fault_name, range_fault, raised_in, first_fault, by_access, by_later, by_raised}
+use Rattle.i9_model.specs.Standing.{Standing, Meets, Faults, Runs, arithmetic_fault, answer_fault, is_fault_name, range_fault, raised_in, first_fault, by_access, by_later, by_raised, by_word}
 use Rattle.i9_exec.specs.declared.done.Done.{Done}
 use Rattle.i9_exec.specs.Shown.{answer_of}
 use Rattle.i9_processor.specs.declared.effect.Effect.{Effect}
@@ -457,10 +459,23 @@ nothing_changed (Reg r) d = refl
 nothing_changed (Lit l) d = refl
 nothing_changed (Sfr k) d = refl
 
-nothing_given : (i : Inst) (s : State) → resulting i s None ≡ passing i s
-nothing_given i s =
+nothing_marked : (o : Operand) → marks_for o [] ≡ []
+nothing_marked (Reg r) = refl
+nothing_marked (Lit l) = refl
+nothing_marked (Sfr k) = refl
+
+no_marks : (i : Inst) (s : State) → destination_words i.op ≡ 0 → marks_for (destination i) (result_marks i s) ≡ []
+no_marks i s none = ap (marks_for (destination i)) (by (moves_words i.op)) ∙ nothing_marked (destination i)
+  where
+    by : (m : Bool) → cond m (marks_of s i.a (destination_words i.op)) (replicate (destination_words i.op) (is_marked s (sources i))) ≡ []
+    by true = ap (marks_of s i.a) none
+    by false = ap (λ (n : ℕ). replicate n (is_marked s (sources i))) none
+
+nothing_given : (i : Inst) (s : State) → destination_words i.op ≡ 0 → resulting i s None ≡ passing i s
+nothing_given i s none =
     let o = destination i in
-    ap (λ (sets : List (ℕ × ℕ)). record (passing i s) { sets = sets; interrupts = interrupts_assigned o [] s.interrupts; dma = dma_assigned o [] s.dma }) (nothing_assigned o)
+    ap (λ (marked : List ℕ). record (passing i s) { sets = assigned o []; interrupts = interrupts_assigned o [] s.interrupts; dma = dma_assigned o [] s.dma; marked = marked }) (no_marks i s none)
+    ∙ ap (λ (sets : List (ℕ × ℕ)). record (passing i s) { sets = sets; interrupts = interrupts_assigned o [] s.interrupts; dma = dma_assigned o [] s.dma }) (nothing_assigned o)
     ∙ ap (λ (x : Interrupts). record (passing i s) { interrupts = x; dma = dma_assigned o [] s.dma }) (nothing_posted o s.interrupts)
     ∙ ap (λ (d : Dma). record (passing i s) { dma = d }) (nothing_changed o s.dma)
 
@@ -483,6 +498,21 @@ not_own Sdma other = absurd (other.not_sdma refl)
 not_own Sysctl other = absurd (other.not_sysctl refl)
 not_own _ other = refl
 
+nothing_written : (op : Op) → (not (destination_words op == 0) && not (is_some (transfer_of op) || has_result op || is_branch op || is_own op)) ≡ false
+nothing_written Lda = refl
+nothing_written _ = refl
+
+no_words : (n : ℕ) (a b c d : Bool) → (not (n == 0) && not (a || b || c || d)) ≡ false → a ≡ false → b ≡ false → c ≡ false → d ≡ false → n ≡ 0
+no_words n false false false false e f g h k = eqb-true n 0 (by (n == 0) e)
+  where
+    by : (z : Bool) → (not z && true) ≡ false → z ≡ true
+    by true e = refl
+    by false e = absurd cc
+no_words n true b c d e f g h k = absurd cc
+no_words n false true c d e f g h k = absurd cc
+no_words n false false true d e f g h k = absurd cc
+no_words n false false false true e f g h k = absurd cc
+
 unbranched : (op : Op) → (asks (question_of op) && not (is_branch op || is_own op)) ≡ false
 unbranched Lda = refl
 unbranched _ = refl
@@ -493,18 +523,27 @@ no_branch true true c e f g = absurd cc
 no_branch true false true e f g = absurd cc
 no_branch false b c e f g = refl
 
-other_action_is : (op : Op) (i : Inst) (s : State) → is_own op ≡ false → is_branch op ≡ false → answer_in i s ≡ None → action_by_name op i s ≡ passing i s
-other_action_is op i s own b none =
+other_action_is : (op : Op) (i : Inst) (s : State) → is_own op ≡ false → is_branch op ≡ false → destination_words i.op ≡ 0 → answer_in i s ≡ None → action_by_name op i s ≡ passing i s
+other_action_is op i s own b words none =
     plain_action op i s own
     ∙ unpicked (asks (question_of op)) (branching i s) (resulting i s (answer_in i s)) (no_branch (asks (question_of op)) (is_branch op) (is_own op) (unbranched op) b own)
-    ∙ ap (resulting i s) none ∙ nothing_given i s
+    ∙ ap (resulting i s) none ∙ nothing_given i s words
 
-pub other_plan : (i : Inst) (s : State) (e : Effect) → is_own i.op ≡ false → has_result i.op ≡ false
+pub other_plan : (i : Inst) (s : State) (e : Effect) → transfer_of i.op ≡ None → is_own i.op ≡ false → has_result i.op ≡ false
     → is_branch i.op ≡ false → is_some (answer_in i s) ≡ has_result i.op → IsEffect s (passing i s) e
     → (hazard_in s (access_by_name i.op i s) ≡ None) × IsEffect s (action_by_name i.op i s) e
-other_plan i s e own r b answers is =
-    let does = other_action_is i.op i s own b (none_of (answer_in i s) (answers ∙ r)) in
+other_plan i s e still own r b answers is =
+    let words = no_words (destination_words i.op) (is_some (transfer_of i.op)) (has_result i.op) (is_branch i.op) (is_own i.op) (nothing_written i.op) (ap (λ (t : Option Transfer). is_some t) still) r b own in
+    let does = other_action_is i.op i s own b words (none_of (answer_in i s) (answers ∙ r)) in
     (ap (hazard_in s) (plain_access i.op i s own), subst (λ (a : Action). IsEffect s a e) (sym does) is)
+
+-- ---- what marks forbid comes first
+
+pub misused_stands : (i : Inst) (s : State) (a : ℕ) → misuses i s ≡ true → a ≡ s.ip → Meets a ≡ by_word s (Ok i)
+misused_stands i s a misused here = ap Meets here ∙ sym (ap (λ (b : Bool). cond b (Meets s.ip) (by_raised i s (raised_in i s))) misused)
+
+pub allowed_stands : (i : Inst) (s : State) → misuses i s ≡ false → by_raised i s (raised_in i s) ≡ by_word s (Ok i)
+allowed_stands i s allowed = sym (ap (λ (b : Bool). cond b (Meets s.ip) (by_raised i s (raised_in i s))) allowed)
 
 -- ---- barriers
 

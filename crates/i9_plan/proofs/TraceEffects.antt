@@ -1,5 +1,5 @@
 -- The effect of an instruction with its trace events.
-use Rattle.std.proofs.Common.{◌≡◌, ℕ, false, Option, Some, None, refl, sym, ap, ◌∙◌, subst}
+use Rattle.std.proofs.Common.{◌≡◌, ℕ, Bool, true, false, cond, Option, Some, None, Ok, refl, sym, ap, ◌∙◌, subst}
 use Rattle.i9_isa.specs.declared.inst.Inst.{Inst}
 use Rattle.i9_model.specs.declared.trace.Trace.{Trace}
 use Rattle.i9_model.specs.State.{State, TraceControls}
@@ -9,7 +9,8 @@ use Rattle.i9_model.specs.Free.{ComesAfterFlush}
 use Rattle.i9_model.specs.Step.{Action, action_of, moved, flagged, acted}
 use Rattle.i9_model.specs.Tracing.{trace_of}
 use Rattle.i9_model.specs.Traced.{is_traced, seen_of, trace_left, traced_action}
-use Rattle.i9_model.specs.Standing.{Runs, later_fault, by_access, by_later, by_raised}
+use Rattle.i9_model.specs.Standing.{Meets, Runs, raised_in, later_fault, by_access, by_later, by_raised, by_word}
+use Rattle.i9_model.specs.Stale.{misuses}
 use Rattle.i9_model.proofs.SoundRuns.{action_clear}
 use Rattle.i9_model.proofs.Untraced.{action_untraced, traced_clear}
 use Rattle.i9_processor.specs.declared.processor.tracing.TraceControls.{TraceControls as Controls}
@@ -24,13 +25,20 @@ access_clear : (i : Inst) (h : Option ℕ) → Runs i ≡ by_access i h → h �
 access_clear i None runs = refl
 access_clear i (Some a) runs = absurd cc
 
-pub runs_clear : (i : Inst) (s : State) (o : Option (ℕ × ℕ)) → Runs i ≡ by_raised i s o → hazard_of i s ≡ None
-runs_clear i s (Some number) runs = absurd cc
-runs_clear i s None runs = by (later_fault i s) runs
+raised_clear : (i : Inst) (s : State) (o : Option (ℕ × ℕ)) → Runs i ≡ by_raised i s o → hazard_of i s ≡ None
+raised_clear i s (Some number) runs = absurd cc
+raised_clear i s None runs = by (later_fault i s) runs
   where
     by : (f : Option (ℕ × ℕ)) → Runs i ≡ by_later i s f → hazard_of i s ≡ None
     by (Some number) runs = absurd cc
     by None runs = access_clear i (hazard_of i s) runs
+
+pub runs_clear : (i : Inst) (s : State) → Runs i ≡ by_word s (Ok i) → hazard_of i s ≡ None
+runs_clear i s runs = by (misuses i s) runs
+  where
+    by : (m : Bool) → Runs i ≡ cond m (Meets s.ip) (by_raised i s (raised_in i s)) → hazard_of i s ≡ None
+    by true runs = absurd cc
+    by false runs = raised_clear i s (raised_in i s) runs
 
 -- ---- its effect, with its trace events
 

@@ -1,13 +1,12 @@
 -- Words of loads and bytes of stores.
 use Rattle.std.proofs.Common.{◌≡◌, ℕ, zero, suc, ◌+◌, ◌*◌, ◌^◌, ◌<◌, ◌≤◌, List, [], ◌∷◌, ◌++◌, length, get_or, take, refl, sym, ap, ◌∙◌, add-one, append_assoc, append-nil, arith}
 use Rattle.std.proofs.lemmas.List.{take_all, length-take}
-use Rattle.std.proofs.lemmas.List.FromFn.{length-map-range_with_len}
 use Rattle.std.proofs.Math.Seq.{take-suc}
 use Rattle.i9_isa.specs.declared.inst.Operand.{Operand}
 use Rattle.i9_model.specs.Writes.{wrapped}
 use Rattle.i9_model.specs.Memory.{Memory, word_in, words_in, word_bytes}
 use Rattle.i9_model.specs.State.{State}
-use Rattle.i9_model.specs.Operands.{word_of, source_words}
+use Rattle.i9_model.specs.Operands.{source_words}
 use Rattle.i9_model.specs.Step.{bytes_of_words}
 
 -- one more byte
@@ -45,9 +44,6 @@ listed_none m a ws = refl
 pub ruleset word_rules = (listed_more, listed_none)
 
 -- ---- the first words of a source of four
-
-words_long : (s : State) (o : Operand) (n : ℕ) → length (source_words s o n) ≡ n
-words_long s o n = length-map-range_with_len (word_of s o) 0 n
 
 pub source_take : (s : State) (o : Operand) (n : ℕ) → n ≤ 4 → take n (source_words s o 4) ≡ source_words s o n
 source_take s o zero h = refl

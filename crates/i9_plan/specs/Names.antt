@@ -1,7 +1,7 @@
 -- What is known of every valid instruction, and which names do what.
-use Rattle.std.specs.Prelude.{ℕ, ◌+◌, ◌≤◌, Bool, false}
+use Rattle.std.specs.Prelude.{ℕ, ◌+◌, ◌≤◌, Bool, true, false}
 use Rattle.i9_isa.specs.declared.op.Op.{Op}
-use Rattle.i9_isa.specs.declared.op.Op.TheVariants.{Bal}
+use Rattle.i9_isa.specs.declared.op.Op.TheVariants.{Atadd, Atmod, Bal}
 use Rattle.i9_isa.specs.declared.inst.Operand.{Operand}
 use Rattle.i9_isa.specs.declared.inst.Operand.TheVariants.{Reg, Lit, Sfr}
 use Rattle.i9_model.specs.Branches.{asks, question_of}
@@ -16,3 +16,8 @@ HasGroup (Sfr k) n = Unit {0}
 abbrev pub is_branch : Op → Bool
 is_branch Bal = false
 is_branch op = asks (question_of op)
+
+abbrev pub is_atomic : Op → Bool
+is_atomic Atadd = true
+is_atomic Atmod = true
+is_atomic _ = false

@@ -91,6 +91,8 @@ IsLocated s m _ = Unit {0}
 -- an effect by which nothing is done, but control goes on behind an instruction
 pub record Passes (s : State) (i : Inst) (e : Effect) : Type 0 where
   pub effect : IsEffect s (passing i s) e
+  pub marks : e.marks ≡ 0
+  pub stale : e.stale ≡ 0
   pub requests : e.requests ≡ no_requests
   pub posting : e.posting ≡ Posting.Keeps
   pub dma : e.dma ≡ DmaChange.Keeps

@@ -1,11 +1,11 @@
 //! What an instruction comes to that is a barrier by its name: a call, a return, a flush, an atomic
 //! instruction, one that changes controls, and what asks something of the system.
-ghost use Rattle.std.specs.Prelude.{◌≡◌, None, true};
+ghost use Rattle.std.specs.Prelude.{◌≡◌, None, Ok, true};
 ghost use Rattle.i9_isa.specs.Valid.{IsValid};
 ghost use Rattle.i9_model.specs.Access.{access_by_name};
 ghost use Rattle.i9_model.specs.Needs.{is_barrier_name};
 ghost use Rattle.i9_model.specs.Step.{Flushes, passing, action_by_name};
-ghost use Rattle.i9_model.specs.Standing.{raised_in, by_raised};
+ghost use Rattle.i9_model.specs.Standing.{raised_in, by_word};
 ghost use Rattle.i9_processor.specs.Effect.{IsEffect};
 ghost use Rattle.i9_processor.specs.State.{state_of, IsDrained};
 ghost use Rattle.i9_plan.specs.Planned.{standing_in, HasEffect, IsPlanFor};
@@ -13,6 +13,7 @@ ghost use Rattle.i9_plan.specs.Planned.{standing_in, HasEffect, IsPlanFor};
 use crate::calls::{plan_call, plan_calls, plan_return};
 use crate::dma::plan_sdma;
 use crate::effects::passing;
+use crate::misuses::misuses;
 use crate::outcome::Outcome;
 use crate::raised::raised_in;
 use crate::sources::{address, target};
@@ -66,9 +67,12 @@ pub(crate) fn barrier_outcome(p: &Processor, i: &Inst, effect: &mut Effect) -> O
     requires valid { IsValid i.now }
     requires drained { IsDrained p.now }
     requires barrier { is_barrier_name i.now.op ≡ true }
-    ensures standing { standing_in i.now result ≡ by_raised i.now (state_of p.now) (raised_in i.now (state_of p.now)) }
+    ensures standing { standing_in i.now result ≡ by_word (state_of p.now) (Ok i.now) }
     ensures effect { HasEffect (state_of p.now) i.now result effect.new }
 {
+    if misuses(p, i) {
+        return Outcome::Meets(p.ip());
+    }
     if let Some(number) = raised_in(p, i) {
         return Outcome::Faults(number);
     }

@@ -1,11 +1,10 @@
 //! What calls, returns, and the entries of faults and interrupts will do.
 ghost use Rattle.std.specs.Prelude.{◌≡◌, ◌≤◌, ◌%◌, None};
-ghost use Rattle.i9_model.specs.declared.layout.TheConstants.{FP, PFP, MOST_SYSTEM_CALL};
+ghost use Rattle.i9_model.specs.declared.layout.TheConstants.{PFP, MOST_SYSTEM_CALL};
 ghost use Rattle.i9_model.specs.Hazards.{save_hazard};
-ghost use Rattle.i9_model.specs.Frames.{rounded_down};
 ghost use Rattle.i9_model.specs.Operands.{value};
-ghost use Rattle.i9_model.specs.Step.{pushing, call_action, calls_action, ret_action, entering};
-ghost use Rattle.i9_model.specs.Access.{SavesAt, CallsSystem, ReturnsBy};
+ghost use Rattle.i9_model.specs.Step.{pushing, call_action, calls_action, return_in, ret_action, entering};
+ghost use Rattle.i9_model.specs.Access.{SavesFrame, CallsSystem, ReturnsBy};
 ghost use Rattle.i9_processor.specs.Effect.{IsEffect};
 ghost use Rattle.i9_processor.specs.Rest.{no_requests};
 ghost use Rattle.i9_processor.specs.State.{state_of, IsDrained};
@@ -13,7 +12,7 @@ ghost use Rattle.i9_plan.specs.Planned.{IsPlanFor, PlansEntry, PlansInterrupt, r
 
 use crate::sources::{following, value};
 use crate::transfers::bytes_of_words;
-use i9_calls::{CallsStop, Push};
+use i9_calls::{CallsStop, Pop, Push};
 use i9_entry::aligned;
 use i9_faults::{Entry, Fault, FaultStop};
 use i9_isa::Inst;
@@ -26,6 +25,7 @@ fn pushing(p: &Processor, push: &Push, back: u32, next: u32) -> Effect
     requires free { save_hazard (state_of p.now).frames push.now.save ≡ None }
     requires place { push.now.save % 16 ≡ 0 }
     ensures effect { IsEffect (state_of p.now) (pushing (state_of p.now) push.now back next) result }
+    ensures stale { result.stale ≡ 0 }
     ensures requests { result.requests ≡ no_requests }
     ensures posting { result.posting ≡ Posting.Keeps }
     ensures dma { result.dma ≡ DmaChange.Keeps }
@@ -40,8 +40,7 @@ fn pushing(p: &Processor, push: &Push, back: u32, next: u32) -> Effect
 /// A call to an address.
 #[tactic(auto, using(crate::proofs::CallPlans::push_rules))]
 pub(crate) fn plan_call(p: &Processor, i: &Inst, to: u32) -> Result<Effect, u32>
-    ensures { IsPlanFor (state_of p.now) (SavesAt (rounded_down ((state_of p.now).regs FP)))
-        (call_action i.now (state_of p.now) to) result }
+    ensures { IsPlanFor (state_of p.now) SavesFrame (call_action i.now (state_of p.now) to) result }
 {
     let push = p.plan_call()?;
     Ok(pushing(p, &push, following(p, i), aligned(to)))
@@ -65,28 +64,38 @@ pub(crate) fn plan_calls(p: &Processor, i: &Inst) -> Result<Effect, u32>
     Ok(effect)
 }
 
-/// The locals of the frame that pfp names are read, and that frame is entered again.
+/// The locals of a frame are read, with their marks, and it is entered again.
+fn returning(p: &Processor, pop: &Pop) -> Effect
+    requires { pop.now ≡ return_in (state_of p.now) }
+    ensures { IsEffect (state_of p.now) (ret_action (state_of p.now)) result }
+{
+    let mut effect = Effect::going(p, aligned(p.left_word(pop.frame, RIP)));
+    effect.frames = Move::Returns(pop.frame);
+    effect.marks = pop.marks;
+    effect.plain = false;
+    effect.pc = pop.pc;
+    effect.ac = pop.ac;
+    effect.check = pop.check;
+    effect
+}
+
+/// The frame that pfp names is entered again.
 #[tactic(auto, using(crate::proofs::CallPlans::call_rules))]
 pub(crate) fn plan_return(p: &Processor) -> Result<Effect, u32>
     requires drained { IsDrained p.now }
     ensures { IsPlanFor (state_of p.now) (ReturnsBy ((state_of p.now).regs PFP)) (ret_action (state_of p.now)) result }
 {
     let pop = p.plan_ret()?;
-    let mut effect = Effect::going(p, aligned(p.frame_word(pop.frame, RIP)));
-    effect.frames = Move::Returns(pop.frame);
-    effect.plain = false;
-    effect.pc = pop.pc;
-    effect.ac = pop.ac;
-    effect.check = pop.check;
-    Ok(effect)
+    Ok(returning(p, &pop))
 }
 
 /// A handler is entered: the record of its entry is written below the new frame.
-#[tactic(auto, using(crate::proofs::WordBytes::word_rules))]
+#[tactic(auto, using(crate::proofs::WordBytes::word_rules, crate::proofs::MarkLists::clean_rules))]
 fn recording(p: &Processor, e: &Entry) -> Effect
     requires free { save_hazard (state_of p.now).frames e.now.push.save ≡ None }
     requires place { e.now.push.save % 16 ≡ 0 }
     ensures effect { IsEffect (state_of p.now) (recording e.now (state_of p.now)) result }
+    ensures stale { result.stale ≡ 0 }
     ensures requests { result.requests ≡ no_requests }
     ensures posting { result.posting ≡ Posting.Keeps }
     ensures dma { result.dma ≡ DmaChange.Keeps }

@@ -52,6 +52,7 @@ fn posting_of(posts: bool, c: u8) -> Posting
 }
 
 /// The next unit of channel `c` is moved, which has these bytes.
+#[tactic(auto, using(crate::proofs::MarkLists::clean_rules))]
 fn moving(p: &Processor, c: u8, bytes: ArrayVec<u8, MOST_BYTES>) -> Effect
     requires { c < 4 }
     ensures { (given : Option (List ℕ)) → bytes.items ≡ unit_bytes (state_of p.now).memory ((state_of p.now).dma.channels c) given

@@ -73,6 +73,7 @@ pub(crate) fn assigning(
 ) -> Effect
     requires { HasGroup o (length values.items) }
     ensures effect { IsEffect (state_of p.now) (assigning o values.items (going (state_of p.now) next)) result }
+    ensures stale { result.stale ≡ 0 }
     ensures requests { result.requests ≡ no_requests }
 {
     match o {
@@ -89,6 +90,7 @@ pub(crate) fn assigning(
 }
 
 /// A destination gets values.
+#[tactic(auto, using(crate::proofs::MarkLists::clean_rules))]
 pub(crate) fn assign(
     p: &Processor,
     i: &Inst,
@@ -128,6 +130,7 @@ pub(crate) fn one_word(v: u32) -> ArrayVec<u32, MOST_VALUES>
 pub(crate) fn answering(p: &Processor, i: &Inst, v: u32) -> Effect
     requires { IsValid i.now }
     ensures effect { IsEffect (state_of p.now) (answering i.now (state_of p.now) v) result }
+    ensures stale { result.stale ≡ 0 }
     ensures requests { result.requests ≡ no_requests }
 {
     assigning(p, following(p, i), i.c, one_word(v))

@@ -21,7 +21,7 @@ use i9_processor::Processor;
 use i9_watch::Watch;
 
 /// Whether a data access has a byte in the port page.
-fn touches_port(access: Option<(u32, u32)>) -> bool
+pub(crate) fn touches_port(access: Option<(u32, u32)>) -> bool
     ensures { result ≡ touches_port access }
 {
     match access {

@@ -3,7 +3,7 @@ ghost use Rattle.std.specs.Prelude.{◌≡◌};
 ghost use Rattle.i9_model.specs.Needs.{is_barrier_name};
 ghost use Rattle.i9_model.specs.Standing.{is_fault_name};
 ghost use Rattle.i9_model.specs.Faults.{is_special, uses_special};
-ghost use Rattle.i9_plan.specs.Names.{is_branch};
+ghost use Rattle.i9_plan.specs.Names.{is_atomic, is_branch};
 
 use i9_isa::{Inst, Op, Operand};
 
@@ -32,7 +32,7 @@ pub(crate) fn is_branch(op: Op) -> bool
 }
 
 /// Whether an operand is a special function register.
-fn is_special(o: Operand) -> bool
+pub(crate) fn is_special(o: Operand) -> bool
     ensures { result ≡ is_special o }
 {
     matches!(o, Operand::Sfr(_))
@@ -43,6 +43,13 @@ pub(crate) fn uses_special(i: &Inst) -> bool
     ensures { result ≡ uses_special i.now }
 {
     is_special(i.a) || is_special(i.b) || is_special(i.c)
+}
+
+/// Whether a name is that of an atomic instruction.
+pub(crate) fn is_atomic(op: Op) -> bool
+    ensures { result ≡ is_atomic op }
+{
+    matches!(op, Op::Atadd | Op::Atmod)
 }
 
 /// Whether a name passes nothing, and nothing passes it, whatever its operands are.

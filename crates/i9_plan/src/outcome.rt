@@ -1,15 +1,16 @@
 //! What an instruction comes to that is read.
-ghost use Rattle.std.specs.Prelude.{◌≡◌, ◌&&◌, None, Some, Ok, true, false, length};
+ghost use Rattle.std.specs.Prelude.{◌≡◌, ◌∷◌, ◌&&◌, [], None, Some, Ok, true, false, length};
 ghost use Rattle.i9_isa.specs.Transfers.{transfer_of};
 ghost use Rattle.i9_isa.specs.Valid.{IsValid};
 ghost use Rattle.i9_exec.specs.Shown.{answer_of};
-ghost use Rattle.i9_model.specs.Operands.{value};
+ghost use Rattle.i9_model.specs.Operands.{value, address};
 ghost use Rattle.i9_model.specs.Access.{access_by_name};
 ghost use Rattle.i9_model.specs.Branches.{branch_controls, is_taken};
 ghost use Rattle.i9_model.specs.Needs.{is_barrier_name};
 ghost use Rattle.i9_model.specs.Results.{has_result, destination_words};
-ghost use Rattle.i9_model.specs.Step.{destination, resulting, branching, action_by_name};
-ghost use Rattle.i9_model.specs.Standing.{is_fault_name, raised_in, by_raised};
+ghost use Rattle.i9_model.specs.Stale.{address_registers, is_marked};
+ghost use Rattle.i9_model.specs.Step.{destination, resulting, branching, marking, answering, action_by_name};
+ghost use Rattle.i9_model.specs.Standing.{is_fault_name, raised_in, by_raised, by_word};
 ghost use Rattle.i9_processor.specs.Effect.{IsEffect};
 ghost use Rattle.i9_processor.specs.State.{state_of, IsDrained};
 ghost use Rattle.i9_plan.specs.Names.{is_branch};
@@ -18,6 +19,8 @@ ghost use Rattle.i9_plan.specs.Planned.{standing_in, HasEffect, RunsInRow, IsPla
 
 use crate::barriers::barrier_outcome;
 use crate::effects::{answering, dma_change, jumping, linking, passing, posting};
+use crate::marks::{address_marked, result_marks};
+use crate::misuses::misuses_open;
 use crate::names::{is_barrier, is_branch, is_fault_name};
 use crate::raised::{arithmetic_fault, mismatches, raised_by_transfer};
 use crate::sources::{address, answer, target, value};
@@ -48,10 +51,11 @@ fn destination(i: &Inst) -> Operand
     }
 }
 
-/// A result goes to its destination.
+/// A result goes to its destination, with its marks.
 #[tactic(auto, using(crate::proofs::Answering::answer_rules, crate::proofs::ValidGroups::group_rules))]
 fn resulting(p: &Processor, i: &Inst, done: Done, effect: &mut Effect)
     requires valid { IsValid i.now }
+    requires result { has_result i.now.op ≡ true }
     requires whole { length done.values.items ≡ destination_words i.now.op }
     requires passes { Passes (state_of p.now) i.now effect.old }
     ensures { IsEffect (state_of p.now) (resulting i.now (state_of p.now) (Some (answer_of done))) effect.new }
@@ -61,6 +65,7 @@ fn resulting(p: &Processor, i: &Inst, done: Done, effect: &mut Effect)
         Operand::Reg(r) => {
             effect.register = r;
             effect.values = done.values;
+            effect.marks = result_marks(p, i);
         }
         Operand::Lit(_) => {}
         Operand::Sfr(k) => {
@@ -134,18 +139,30 @@ fn branch_outcome(p: &Processor, i: &Inst, effect: &mut Effect) -> Outcome
     }
 }
 
+/// The effective address is answered, with its mark.
+fn plan_lda(p: &Processor, i: &Inst) -> Effect
+    requires { IsValid i.now }
+    ensures { IsEffect (state_of p.now) (marking i.now.c (is_marked (state_of p.now) (address_registers i.now.ea) ∷ [])
+        (answering i.now (state_of p.now) (address (state_of p.now) i.now.ea))) result }
+{
+    let mut effect = answering(p, i, address(p, &i.ea));
+    effect.marks = u16::from(address_marked(p, &i.ea));
+    effect
+}
+
 /// What an instruction does that is no barrier, and that neither branches nor has a result, nor moves data.
 fn plan_plain(p: &Processor, i: &Inst) -> Effect
     requires valid { IsValid i.now }
     requires result { has_result i.now.op ≡ false }
     requires branch { is_branch i.now.op ≡ false }
     requires barrier { is_barrier_name i.now.op ≡ false }
+    requires still { transfer_of i.now.op ≡ None }
     ensures { IsPlanFor (state_of p.now) (access_by_name i.now.op i.now (state_of p.now))
         (action_by_name i.now.op i.now (state_of p.now)) (Ok result) }
 {
     results_by_name();
     match i.op {
-        Op::Lda => answering(p, i, address(p, &i.ea)),
+        Op::Lda => plan_lda(p, i),
         Op::Bx => jumping(p, i, address(p, &i.ea)),
         Op::Balx => linking(p, i.c, i, address(p, &i.ea)),
         Op::Bal => linking(p, Operand::Reg(LINK), i, target(p, i)),
@@ -228,10 +245,13 @@ pub(crate) fn outcome_open(
     requires barrier { is_barrier_name i.now.op ≡ false }
     requires moves { Moves (state_of p.now) i.now moving }
     requires passes { Passes (state_of p.now) i.now effect.old }
-    ensures standing { standing_in i.now result ≡ by_raised i.now (state_of p.now) (raised_in i.now (state_of p.now)) }
+    ensures standing { standing_in i.now result ≡ by_word (state_of p.now) (Ok i.now) }
     ensures effect { HasEffect (state_of p.now) i.now result effect.new }
     ensures row { RunsInRow i.now result effect.new }
 {
+    if misuses_open(p, i, moving) {
+        return Outcome::Meets(p.ip());
+    }
     match moving {
         Some(m) => transfer_outcome(p, i, m, effect),
         None => still_outcome(p, i, effect),
@@ -249,7 +269,7 @@ pub(crate) fn outcome_of(
     requires drained { IsDrained p.now }
     requires moves { Moves (state_of p.now) i.now moving }
     requires passes { Passes (state_of p.now) i.now effect.old }
-    ensures standing { standing_in i.now result ≡ by_raised i.now (state_of p.now) (raised_in i.now (state_of p.now)) }
+    ensures standing { standing_in i.now result ≡ by_word (state_of p.now) (Ok i.now) }
     ensures effect { HasEffect (state_of p.now) i.now result effect.new }
     ensures row { RunsInRow i.now result effect.new }
 {

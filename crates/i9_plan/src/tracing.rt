@@ -1,11 +1,11 @@
 //! Trace events of an instruction that is done (the i960 CA/CF User's Manual, tracing and debugging).
-ghost use Rattle.std.specs.Prelude.{◌≡◌, None};
+ghost use Rattle.std.specs.Prelude.{◌≡◌, None, Ok};
 ghost use Rattle.std.specs.Option.{option_map};
 ghost use Rattle.i9_model.specs.Access.{access_of, data_of, hazard_of};
 ghost use Rattle.i9_model.specs.Calls.{in_supervisor_mode, leaves_supervisor, return_type};
 ghost use Rattle.i9_model.specs.Step.{action_of};
 ghost use Rattle.i9_model.specs.Traced.{is_traced, seen_of, switches, traced_action};
-ghost use Rattle.i9_model.specs.Standing.{Runs, raised_in, by_raised};
+ghost use Rattle.i9_model.specs.Standing.{Runs, by_word};
 ghost use Rattle.i9_processor.specs.Effect.{IsEffect, action_in};
 ghost use Rattle.i9_processor.specs.State.{state_of};
 ghost use Rattle.i9_plan.specs.Moved.{Moves};
@@ -98,7 +98,7 @@ fn trace(p: &Processor, i: &Inst, moving: Option<Moving>, effect: &mut Effect)
 #[inline(always)]
 pub(crate) fn follow(p: &Processor, i: &Inst, moving: Option<Moving>, effect: &mut Effect)
     requires moves { Moves (state_of p.now) i.now moving }
-    requires runs { Runs i.now ≡ by_raised i.now (state_of p.now) (raised_in i.now (state_of p.now)) }
+    requires runs { Runs i.now ≡ by_word (state_of p.now) (Ok i.now) }
     requires effect { IsEffect (state_of p.now) (action_of i.now (state_of p.now)) effect.old }
     ensures effect { IsEffect (state_of p.now) (traced_action i.now (state_of p.now)) effect.new }
     ensures row { IsInRow effect.old → IsInRow effect.new }

@@ -1,15 +1,20 @@
 -- Bytes that are stored after others, one by one.
-use Rattle.std.proofs.Common.{◌≡◌, ℕ, ◌+◌, ◌-◌, ◌%◌, ◌<◌, ◌^◌, ◌||◌, ◌&&◌, ◌==◌, Bool, true, false, cond, List, [], ◌∷◌, ◌++◌, length, length-append, append-nil, take, ◌≤◌, find, Some, None, refl, sym, ap, ◌∙◌, arith}
+use Rattle.std.proofs.Common.{◌≡◌, ℕ, ◌+◌, ◌-◌, ◌%◌, ◌<◌, ◌^◌, ◌||◌, ◌&&◌, ◌==◌, Bool, true, false, cond, List, [], ◌∷◌, ◌++◌, length, length-append, append-nil, take, ◌≤◌, ◌⊎◌, inl, inr, find, Some, None, refl, sym, ap, ◌∙◌, arith}
 use Rattle.std.specs.Prelude.{not}
 use Rattle.std.specs.List.{slice_get}
 use Rattle.std.proofs.lemmas.List.{take_all}
 use Rattle.std.proofs.lemmas.Option.{slice_get_past}
+use Rattle.std.proofs.lemmas.Bool.{eqb-true}
 use Rattle.std.proofs.lemmas.Bool.Decides.{nat_tests}
-use Rattle.i9_model.specs.declared.layout.TheConstants.{PORT_PAGE, CONSOLE, EXIT_WORD}
+use Rattle.i9_model.specs.declared.layout.TheConstants.{LOCALS, PORT_PAGE, CONSOLE, EXIT_WORD}
 use Rattle.i9_model.specs.Writes.{wrapped, places_of, upwards, last_put, written}
 use Rattle.i9_model.specs.Memory.{Memory, with_writes, console_byte, exit_word}
 use Rattle.i9_model.specs.State.{Frames}
-use Rattle.i9_model.specs.Frames.{in_frames, is_put, wrote}
+use Rattle.i9_model.specs.Frames.{in_frames, is_put, wrote, softened}
+use Rattle.i9_model.specs.Stale.{picked}
+use Rattle.i9_watch.specs.Bits.{bits_of}
+use Rattle.i9_storage.proofs.Saves.{none_picked}
+use Rattle.i9_processor.specs.declared.effect.Effect.{Effect}
 use Rattle.i9_model.specs.Hazards.{writes_hazard}
 use Rattle.i9_model.specs.HeldFrames.{Cache, cache_stored}
 use Rattle.i9_model.proofs.Stored.{stored-append}
@@ -17,7 +22,9 @@ use Rattle.i9_model.proofs.Upwards.{last_put-from}
 use Rattle.i9_model.proofs.AlikeSteps.{none_wrote}
 use Rattle.i9_storage.specs.declared.storage.Storage.{Storage}
 use Rattle.i9_storage.specs.Storage.{KeepsSpace}
-use Rattle.i9_processor.specs.Effect.{one_in, AreBelowPort, AreSpacious}
+use Rattle.i9_processor.specs.declared.effect.Move.{Move}
+use Rattle.i9_processor.specs.declared.effect.Move.TheVariants as moves
+use Rattle.i9_processor.specs.Effect.{one_in, requests_in, run_in, writes_in, marked_by, marked_in, stale_in, AreBelowPort, AreSpacious}
 
 -- ---- writes after others
 
@@ -27,7 +34,7 @@ cache_append c ps qs = ap (λ (bytes : ℕ → ℕ). record c { behind = record 
 pub memory_append : (m : Memory) (ps qs : List (ℕ × ℕ)) → with_writes (with_writes m ps) qs ≡ with_writes m (ps ++ qs)
 memory_append m ps qs = ap (λ (bytes : ℕ → ℕ). record m { bytes = bytes }) (sym (stored-append m.bytes ps qs))
 
-put_append : (ps qs : List (ℕ × ℕ)) (x : ℕ) → is_put (ps ++ qs) x ≡ (is_put ps x || is_put qs x)
+pub put_append : (ps qs : List (ℕ × ℕ)) (x : ℕ) → is_put (ps ++ qs) x ≡ (is_put ps x || is_put qs x)
 unfolding is_put
 put_append [] qs x = refl
 put_append (p ∷ ps) qs x = by_first (x == p.0) (put_append ps qs x)
@@ -43,6 +50,48 @@ soft_append true false q = refl
 
 pub frames_append : (f : Frames) (ps qs : List (ℕ × ℕ)) → wrote (wrote f ps) qs ≡ wrote f (ps ++ qs)
 frames_append f ps qs = λ i. record f { soft = λ x. (soft_append (f.soft x) (is_put ps x) (is_put qs x) ∙ ap (λ (b : Bool). f.soft x && not b) (sym (put_append ps qs x))) i }
+
+-- ---- with marks
+
+-- bytes of which none gets a mark
+pub soft_none : (f : Frames) (a n : ℕ) → softened f (picked wrapped a (bits_of 0 n)) ≡ f
+soft_none f a n = ap (softened f) (none_picked wrapped a n)
+
+-- an effect that marks no byte, and one that marks no register
+pub unmarked_bytes : (e : Effect) → e.stale ≡ 0 → stale_in e ≡ []
+unmarked_bytes e zero =
+    ap (λ (v : ℕ). picked wrapped e.address (bits_of v (length e.bytes.items))) zero ∙ none_picked wrapped e.address (length e.bytes.items)
+
+pub unmarked_registers : (e : Effect) → e.marks ≡ 0 → marked_in e ≡ []
+unmarked_registers e zero = ap (marked_by e.frames e.register (length e.values.items)) zero ∙ by_move e.frames
+  where
+    by_move : (m : Move) → marked_by m e.register (length e.values.items) 0 ≡ []
+    by_move moves.Stays = none_picked (λ r. r) e.register (length e.values.items)
+    by_move (moves.Saves push back) = refl
+    by_move (moves.Returns frame) = none_picked (λ r. r) 0 LOCALS
+    by_move moves.Flushes = refl
+
+-- an effect marks no byte, or stores no bits of requests
+marked_alone : (e : Effect) → (stale_in e ≡ []) ⊎ (requests_in e.requests ≡ [])
+marked_alone e = by_marks (e.stale == 0) refl
+  where
+    by_marks : (b : Bool) → (e.stale == 0) ≡ b → (stale_in e ≡ []) ⊎ (requests_in e.requests ≡ [])
+    by_marks true t = inl (unmarked_bytes e (eqb-true e.stale 0 t))
+    by_marks false t = inr (ap requests_in (e.marked (λ zero. grind (arith, nat_tests, t, zero))).requests)
+
+-- so these may as well be stored behind the marks
+pub marked_append : (f : Frames) (e : Effect) → wrote (softened (wrote f (run_in e)) (stale_in e)) (requests_in e.requests) ≡ softened (wrote f (writes_in e)) (stale_in e)
+marked_append f e = by_which (marked_alone e)
+  where
+    by_which : (stale_in e ≡ []) ⊎ (requests_in e.requests ≡ []) → wrote (softened (wrote f (run_in e)) (stale_in e)) (requests_in e.requests) ≡ softened (wrote f (writes_in e)) (stale_in e)
+    by_which (inl none) =
+        ap (λ (ms : List ℕ). wrote (softened (wrote f (run_in e)) ms) (requests_in e.requests)) none
+        ∙ frames_append f (run_in e) (requests_in e.requests)
+        ∙ ap (softened (wrote f (writes_in e))) (sym none)
+    by_which (inr none) =
+        ap (wrote (softened (wrote f (run_in e)) (stale_in e))) none
+        ∙ none_wrote (softened (wrote f (run_in e)) (stale_in e))
+        ∙ ap (λ (ps : List (ℕ × ℕ)). softened (wrote f ps) (stale_in e)) (sym (ap (λ (qs : List (ℕ × ℕ)). run_in e ++ qs) none ∙ append-nil (run_in e)))
 
 -- ---- hazards of each
 
@@ -84,7 +133,7 @@ none_memory m = refl
 pub none_frames : (f : Frames) → f ≡ wrote f []
 none_frames f = sym (none_wrote f)
 
-pub ruleset none_rules = (none_cache, none_memory, none_frames, one_write)
+pub ruleset none_rules = (none_cache, none_memory, none_frames, one_write, soft_none)
 
 -- ---- bytes below the port page
 

@@ -1,5 +1,5 @@
 -- What was planned in a state can be done in one that is alike, and leaves states that are alike.
-use Rattle.std.proofs.Common.{◌≡◌, ℕ, ◌%◌, ◌<◌, ◌||◌, ◌==◌, nat_lt, Bool, true, List, [], ◌∷◌, ◌++◌, length, refl, sym, ap, ◌∙◌, subst, arith}
+use Rattle.std.proofs.Common.{◌≡◌, ℕ, ◌%◌, ◌<◌, ◌||◌, ◌==◌, nat_lt, Bool, true, false, List, [], ◌∷◌, ◌++◌, length, refl, sym, ap, ◌∙◌, subst, arith}
 use Rattle.std.specs.Prelude.{max}
 use Rattle.std.proofs.lemmas.Bool.{or_left, or_right}
 use Rattle.std.proofs.lemmas.Bool.Decides.{nat_tests}
@@ -7,13 +7,14 @@ use Rattle.i9_model.specs.declared.layout.TheConstants.{LEAST_SETS, LOCALS, PRCB
 use Rattle.i9_model.specs.declared.setup.Setup.{Setup}
 use Rattle.i9_model.specs.Boot.{table_word, setup_of, boot_setup, with_boot_bytes}
 use Rattle.i9_model.specs.Memory.{Memory, word_in, with_writes}
-use Rattle.i9_model.specs.Frames.{wrote}
+use Rattle.i9_model.specs.Frames.{wrote, softened}
+use Rattle.i9_model.specs.Stale.{picked}
 use Rattle.i9_model.specs.State.{State, Frames}
 use Rattle.i9_model.specs.Tables.{tables_hazard, group_hazard}
 use Rattle.i9_model.specs.Controls as plain
-use Rattle.i9_model.specs.Writes.{written, upwards}
+use Rattle.i9_model.specs.Writes.{wrapped, written, upwards}
 use Rattle.i9_model.specs.Step.{Move, Action, saved_locals, moved, flagged, acted, counted}
-use Rattle.i9_model.specs.Alike.{AreAlike}
+use Rattle.i9_model.specs.Alike.{AreAlike, Agree}
 use Rattle.i9_model.specs.Free.{IsFree}
 use Rattle.i9_model.specs.Sound.{IsSound}
 use Rattle.i9_model.specs.HeldFrames.{Cache, overlaid, cache_stored, cache_acted, AreYoungest}
@@ -22,7 +23,9 @@ use Rattle.i9_model.proofs.HeldRuns.{moved_cached}
 use Rattle.i9_storage.proofs.Known.{frames_sound, held_youngest}
 use Rattle.i9_model.proofs.AlikeActions.{hard_bytes}
 use Rattle.i9_model.proofs.AlikeFetches.{tables_hazard_same}
-use Rattle.i9_model.proofs.AlikeSteps.{IsReadable, controlled_alike, flagged_alike}
+use Rattle.i9_model.proofs.AlikeSteps.{IsReadable, IsBlind, agree-alike, alike-agree}
+use Rattle.i9_model.proofs.AgreeSteps.{controlled-agree, flagged-agree}
+use Rattle.i9_watch.specs.Bits.{bits_of}
 use Rattle.i9_processor.specs.declared.effect.Control.{Control}
 use Rattle.i9_processor.specs.declared.effect.Control.TheVariants as controls
 use Rattle.i9_processor.specs.declared.processor.Processor.{Processor}
@@ -43,13 +46,14 @@ readable controls.Keeps s can = tt
 readable (controls.Restarts first prcb) s can = can
 readable (controls.LoadsGroup group) s can = can.1
 
-pub applied_alike : (c : Control) (s t u : State) (a : Action) → control_in c ≡ a.control → CanControl (moved s a) c → AreAlike (moved s a) t → u ≡ flagged a.trace (plain.controlled t (control_in c)) → AreAlike (acted s a) u
-unfolding acted
-applied_alike c s t u a is can alike e =
-    let here : AreAlike (plain.controlled (moved s a) (control_in c)) (plain.controlled t (control_in c)) = controlled_alike (control_in c) (moved s a) t (readable c (moved s a) can) alike in
+pub applied_alike : (c : Control) (s t u : State) (a : Action) → IsBlind s → control_in c ≡ a.control → CanControl (moved s a) c → AreAlike (moved s a) t → u ≡ flagged a.trace (plain.controlled t (control_in c)) → AreAlike (acted s a) u
+unfolding acted moved
+applied_alike c s t u a blind is can alike e =
+    let here : Agree false (plain.controlled (moved s a) (control_in c)) (plain.controlled t (control_in c)) = controlled-agree false (control_in c) (moved s a) t (readable c (moved s a) can) (agree-alike (moved s a) t blind alike) in
     subst (λ (x : State). AreAlike (flagged a.trace (plain.controlled (moved s a) a.control)) x) (sym e)
-    (flagged_alike a.trace (plain.controlled (moved s a) a.control) (plain.controlled t (control_in c))
-    (subst (λ (k : plain.Control). AreAlike (plain.controlled (moved s a) k) (plain.controlled t (control_in c))) is here))
+    (alike-agree (flagged a.trace (plain.controlled (moved s a) a.control)) (flagged a.trace (plain.controlled t (control_in c)))
+    (flagged-agree false a.trace (plain.controlled (moved s a) a.control) (plain.controlled t (control_in c))
+    (subst (λ (k : plain.Control). Agree false (plain.controlled (moved s a) k) (plain.controlled t (control_in c))) is here)))
 
 -- the PRCB gives at least five sets, and at most fifteen
 pub sets_few : (m : Memory) (u : Setup) → u ≡ boot_setup m → (0 < u.sets) × (u.sets < 16)
@@ -71,11 +75,16 @@ unfolding written
 no_bytes_memory m a [] none = refl
 no_bytes_memory m a (b ∷ bs) none = absurd (grind (arith, nat_tests, none))
 
-pub no_bytes_frames : (f : Frames) (a : ℕ) (bs : List ℕ) → (length bs == 0) ≡ true → f ≡ wrote f (upwards a bs)
-no_bytes_frames f a [] none = sym (none_wrote f)
-no_bytes_frames f a (b ∷ bs) none = absurd (grind (arith, nat_tests, none))
+pub no_bytes_frames : (f : Frames) (a stale : ℕ) (bs : List ℕ) → (length bs == 0) ≡ true → f ≡ softened (wrote f (upwards a bs)) (picked wrapped a (bits_of stale (length bs)))
+no_bytes_frames f a stale [] none = sym (none_wrote f)
+no_bytes_frames f a stale (b ∷ bs) none = absurd (grind (arith, nat_tests, none))
 
 -- ---- what a processor keeps
+
+-- it reads soft bytes as 0
+pub reads_zero : (p : Processor) → IsBlind (state_of p)
+unfolding state_of
+reads_zero p = refl
 
 pub laid_memory : (p : Processor) → (state_of p).memory ≡ overlaid (cache_of p)
 unfolding state_of cache_of

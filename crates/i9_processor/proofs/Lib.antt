@@ -10,3 +10,5 @@ pub mod Issued
 pub mod Drained
 pub mod BusySet
 pub mod NewPages
+pub mod MarkBits
+pub mod Pushing

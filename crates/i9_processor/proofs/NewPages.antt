@@ -11,8 +11,10 @@ use Rattle.i9_watch.specs.Watch.{HasMarks}
 use Rattle.i9_storage.specs.declared.storage.Storage.{Storage}
 use Rattle.i9_processor.specs.declared.effect.Move.{Move}
 use Rattle.i9_processor.specs.declared.effect.Move.TheVariants as moves
-use Rattle.i9_processor.specs.Effect.{move_in}
-use Rattle.i9_processor.specs.Pages.{AddsMoveOnly, IsApartFromMove}
+use Rattle.i9_processor.specs.declared.effect.Effect.{Effect}
+use Rattle.i9_processor.specs.Effect.{move_in, run_in, requests_in, action_in}
+use Rattle.i9_processor.specs.Pages.{AddsMoveOnly, IsApartFromMove, IsApartFromMarked}
+use Rattle.i9_processor.proofs.MarkBits.{some_stale}
 
 -- ---- writes that stand beside a page
 
@@ -48,6 +50,10 @@ segment_apart (s ∷ ss) zero d x h apart =
 segment_apart (s ∷ ss) (suc k) d x h apart =
     segment_apart ss k d x (omega (arith, h))
     (later_apart (pairs_of_part (part_of s)) (pairs_of (map part_of ss)) x (subst (λ ps. IsApartFrom ps x) (flat_map-cons pairs_of_part (part_of s) (map part_of ss)) apart))
+
+-- the bytes in a row of an effect, where some get marks
+pub run_apart : (e : Effect) (s : State) (x : ℕ) → IsApartFromMarked (action_in s e) x → e.stale ≢ 0 → IsApart e.address (length e.bytes.items) x
+run_apart e s x apart some = row_apart e.address e.bytes.items x (first_apart (run_in e) (requests_in e.requests) x (apart (some_stale e some)))
 
 -- ---- room that is made
 

@@ -1,24 +1,40 @@
 -- Room for effects: that of the action that an effect stands for, and room that stays.
-use Rattle.std.proofs.Common.{◌≡◌, ℕ, zero, suc, ◌+◌, ◌<◌, List, [], ◌∷◌, length, subst, arith}
+use Rattle.std.proofs.Common.{◌≡◌, ℕ, zero, suc, ◌+◌, ◌<◌, List, [], ◌∷◌, ◌++◌, length, subst, arith}
 use Rattle.std.specs.List.{AllByRecursion}
 use Rattle.i9_model.specs.State.{State}
 use Rattle.i9_model.specs.Step as plain
 use Rattle.i9_model.specs.Writes.{wrapped, upwards}
 use Rattle.i9_memory.specs.Memory.{IsReserved}
+use Rattle.i9_watch.specs.Watch.{HasMarks}
 use Rattle.i9_storage.specs.declared.storage.Storage.{Storage}
-use Rattle.i9_storage.specs.Storage.{HasSpace, KeepsSpace, KeepsFrameSpace}
+use Rattle.i9_storage.specs.Storage.{HasSpace, HasSoftSpace, KeepsSpace, KeepsSoftSpace, KeepsFrameSpace}
 use Rattle.i9_processor.specs.declared.effect.Effect.{Effect}
 use Rattle.i9_processor.specs.declared.effect.Move.{Move}
 use Rattle.i9_processor.specs.declared.effect.Move.TheVariants as moves
 use Rattle.i9_processor.specs.declared.processor.Processor.{Processor}
 use Rattle.i9_processor.proofs.Appending.{first_spacious, later_spacious}
-use Rattle.i9_processor.specs.Effect.{action_in, run_in, requests_in, move_in, HasMoveSpace, HasSpaceFor, HasRoomToMove, HasRoomFor, AreSpacious, KeepsRoom}
+use Rattle.i9_processor.specs.Effect.{action_in, run_in, requests_in, move_in, HasMoveSpace, HasRunSpace, HasSpaceFor, HasRoomToMove, HasRoomFor, AreSpacious, AreMarkable, KeepsRoom}
+use Rattle.i9_processor.proofs.MarkBits.{some_stale}
 
 -- bytes one by one are bytes in a row
 row_space : (s : Storage) (a : ℕ) (bs : List ℕ) → AllByRecursion (λ w. HasSpace s w.0 1) (upwards a bs) → (k : ℕ) → k < length bs → IsReserved s.behind.memory (wrapped (a + k))
 row_space s a [] all k h = absurd (omega (arith, h))
 row_space s a (b ∷ bs) all zero h = let here : wrapped (wrapped a + 0) ≡ wrapped (a + 0) = omega arith in subst (IsReserved s.behind.memory) here (all.0 0 (omega arith))
 row_space s a (b ∷ bs) all (suc k) h = let next : wrapped (a + 1 + k) ≡ wrapped (a + suc k) = omega arith in subst (IsReserved s.behind.memory) next (row_space s (a + 1) bs all.1 k (omega (arith, h)))
+
+-- and so are their marks
+row_marks : (s : Storage) (a : ℕ) (bs : List ℕ) → AreMarkable s (upwards a bs) → HasSoftSpace s a (length bs)
+row_marks s a [] all k h = absurd (omega (arith, h))
+row_marks s a (b ∷ bs) all zero h = let here : wrapped (wrapped a + 0) ≡ wrapped (a + 0) = omega arith in subst (HasMarks s.watch) here (all.0 0 (omega arith))
+row_marks s a (b ∷ bs) all (suc k) h = let next : wrapped (a + 1 + k) ≡ wrapped (a + suc k) = omega arith in subst (HasMarks s.watch) next (row_marks s (a + 1) bs all.1 k (omega (arith, h)))
+
+first_markable : (s : Storage) (ps qs : List (ℕ × ℕ)) → AreMarkable s (ps ++ qs) → AreMarkable s ps
+first_markable s [] qs all = tt
+first_markable s (p ∷ ps) qs all = (all.0, first_markable s ps qs all.1)
+
+-- a run that could be stored still can be
+pub run_kept : (s t : Storage) (e : Effect) → KeepsSpace s t → KeepsSoftSpace s t → HasRunSpace s e → HasRunSpace t e
+run_kept s t e keeps soft space = record { bytes = λ k h. keeps (wrapped (e.address + k)) (space.bytes k h); soft = λ some k h. soft (wrapped (e.address + k)) (space.soft some k h) }
 
 -- a frame that could be saved still can be
 pub move_kept : (s t : Storage) (m : Move) → KeepsFrameSpace s t → HasMoveSpace s m → HasMoveSpace t m
@@ -38,9 +54,14 @@ save_kept s t (plain.Saves save words) keeps room = keeps save room
 save_kept s t plain.Returns keeps room = tt
 save_kept s t plain.Flushes keeps room = tt
 
-pub room_kept : (p q : Processor) → KeepsSpace p.storage q.storage → KeepsFrameSpace p.storage q.storage → KeepsRoom p q
-room_kept p q keeps frames = λ a room. record {
+markable_kept : (s t : Storage) (ps : List (ℕ × ℕ)) → KeepsSoftSpace s t → AreMarkable s ps → AreMarkable t ps
+markable_kept s t [] keeps all = tt
+markable_kept s t (p ∷ ps) keeps all = ((λ k lt. keeps (wrapped (p.0 + k)) (all.0 k lt)), markable_kept s t ps keeps all.1)
+
+pub room_kept : (p q : Processor) → KeepsSpace p.storage q.storage → KeepsSoftSpace p.storage q.storage → KeepsFrameSpace p.storage q.storage → KeepsRoom p q
+room_kept p q keeps soft frames = λ a room. record {
   bytes = spacious_kept p.storage q.storage a.writes keeps room.bytes;
+  soft = λ some. markable_kept p.storage q.storage a.writes soft (room.soft some);
   frames = save_kept p.storage q.storage a.move frames room.frames;
 }
 
@@ -52,7 +73,10 @@ move_space s t moves.Flushes room = tt
 
 pub room_space : (p : Processor) (s : State) (e : Effect) → HasRoomFor p (action_in s e) → HasSpaceFor p e
 room_space p s e room = record {
-  bytes = row_space p.storage e.address e.bytes.items (first_spacious p.storage (run_in e) (requests_in e.requests) room.bytes);
+  run = record {
+    bytes = row_space p.storage e.address e.bytes.items (first_spacious p.storage (run_in e) (requests_in e.requests) room.bytes);
+    soft = λ some. row_marks p.storage e.address e.bytes.items (first_markable p.storage (run_in e) (requests_in e.requests) (room.soft (some_stale e some)));
+  };
   requests = later_spacious p.storage (run_in e) (requests_in e.requests) room.bytes;
   frames = move_space p.storage s e.frames room.frames;
 }

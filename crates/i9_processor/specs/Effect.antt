@@ -1,12 +1,13 @@
 -- An effect as the action of the definitions, and where it can be applied.
-use Rattle.std.specs.Prelude.{◌≡◌, ℕ, ◌+◌, ◌<◌, ◌≤◌, ◌%◌, ◌^◌, ◌⊎◌, Bool, true, false, ◌||◌, nat_lt, List, [], ◌∷◌, ◌++◌, length, Option, None, Some, unwrap_or}
+use Rattle.std.specs.Prelude.{◌≡◌, ◌≢◌, ℕ, ◌+◌, ◌<◌, ◌≤◌, ◌%◌, ◌^◌, ◌⊎◌, Bool, true, false, ◌||◌, nat_lt, List, [], ◌∷◌, ◌++◌, length, Option, None, Some, unwrap_or}
 use Rattle.std.specs.List.{AllByRecursion}
 use Rattle.i9_model.specs.declared.layout.TheConstants.{LOCALS, PORT_PAGE}
-use Rattle.i9_model.specs.Writes.{pairs_at, upwards, last_put}
+use Rattle.i9_model.specs.Writes.{wrapped, pairs_at, upwards, last_put}
 use Rattle.i9_model.specs.Memory.{Memory, words_in}
 use Rattle.i9_model.specs.Boot.{setup_of}
 use Rattle.i9_model.specs.declared.interrupts.TheConstants.{FIRST_DMA_LINE}
 use Rattle.i9_model.specs.State.{State, Frames, Interrupts, Dma, frame_sets}
+use Rattle.i9_model.specs.Stale.{picked, byte_marks, saved_marks, left_memory}
 use Rattle.i9_model.specs.Dma.{set_up, dma_behind}
 use Rattle.i9_model.specs.Operands.{with_pending, with_mask, with_command}
 use Rattle.i9_model.specs.Interrupts.{posted, posted_nmi, cleared}
@@ -18,7 +19,8 @@ use Rattle.i9_model.specs.Controls as plain_controls
 use Rattle.i9_model.specs.Step as plain
 use Rattle.i9_frames.specs.Sets.{Held, held}
 use Rattle.i9_storage.specs.declared.storage.Storage.{Storage}
-use Rattle.i9_storage.specs.Storage.{HasSpace, HasFrameSpace}
+use Rattle.i9_watch.specs.Bits.{bits_of}
+use Rattle.i9_storage.specs.Storage.{HasSpace, HasSoftSpace, HasFrameSpace}
 use Rattle.i9_processor.specs.declared.effect.Move.{Move}
 use Rattle.i9_processor.specs.declared.effect.Move.TheVariants as moves
 use Rattle.i9_processor.specs.declared.effect.Requests.{Requests}
@@ -46,7 +48,7 @@ move_in s moves.Flushes = plain.Flushes
 abbrev pub sets_by : State → Move → List (ℕ × ℕ) → List (ℕ × ℕ)
 sets_by s moves.Stays group = group
 sets_by s (moves.Saves push back) group = plain.push_sets push
-sets_by s (moves.Returns frame) group = frame_sets (words_in s.memory frame LOCALS) frame
+sets_by s (moves.Returns frame) group = frame_sets (words_in (left_memory s.frames.live s) frame LOCALS) frame
 sets_by s moves.Flushes group = []
 
 abbrev pub control_in : Control → plain_controls.Control
@@ -60,6 +62,32 @@ group_in e = pairs_at (λ r. r) e.register e.values.items
 
 abbrev pub sets_in : State → Effect → List (ℕ × ℕ)
 sets_in s e = sets_by s e.frames (group_in e)
+
+-- ---- marks
+
+-- of the registers that are set, those that get marks, by bits: values of a group, or the locals of a frame that is
+-- returned to
+abbrev pub marked_by : Move → ℕ → ℕ → ℕ → List ℕ
+marked_by moves.Stays first count marks = picked (λ r. r) first (bits_of marks count)
+marked_by (moves.Saves push back) first count marks = []
+marked_by (moves.Returns frame) first count marks = picked (λ r. r) 0 (bits_of marks LOCALS)
+marked_by moves.Flushes first count marks = []
+
+abbrev pub marked_in : Effect → List ℕ
+marked_in e = marked_by e.frames e.register (length e.values.items) e.marks
+
+-- of the bytes in a row, those that get marks
+abbrev pub stale_in : Effect → List ℕ
+stale_in e = picked wrapped e.address (bits_of e.stale (length e.bytes.items))
+
+-- of a frame that is saved, the bytes with the marks of its words
+abbrev pub lost_by : State → Move → List ℕ
+lost_by s moves.Stays = []
+lost_by s (moves.Saves push back) = picked wrapped push.save (byte_marks (saved_marks s))
+lost_by s (moves.Returns frame) = []
+lost_by s moves.Flushes = []
+
+-- ---- interrupts and DMA
 
 -- what is done to interrupts
 abbrev pub posting_in : Posting → Interrupts → Interrupts
@@ -113,6 +141,9 @@ action_in s e = record {
   control = control_in e.control;
   next = e.next;
   trace = e.trace;
+  marked = marked_in e;
+  stale = stale_in e;
+  lost = lost_by s e.frames;
 }
 
 -- its group is one of the 32 registers
@@ -166,9 +197,14 @@ HasMoveSpace s moves.Flushes = Unit {0}
 abbrev pub AreSpacious : Storage → List (ℕ × ℕ) → Type 0
 AreSpacious s ps = AllByRecursion (λ w. HasSpace s w.0 1) ps
 
+-- there is room for the bytes in a row of an effect, and for their marks where some get marks
+pub record HasRunSpace (s : Storage) (e : Effect) : Type 0 where
+  pub bytes : HasSpace s e.address (length e.bytes.items)
+  pub soft : e.stale ≢ 0 → HasSoftSpace s e.address (length e.bytes.items)
+
 -- there is room for what an effect stores and saves
 pub record HasSpaceFor (p : Processor) (e : Effect) : Type 0 where
-  pub bytes : HasSpace p.storage e.address (length e.bytes.items)
+  pub run : HasRunSpace p.storage e
   pub requests : AreSpacious p.storage (requests_in e.requests)
   pub frames : HasMoveSpace p.storage e.frames
 
@@ -179,9 +215,14 @@ HasRoomToMove s (plain.Saves save words) = HasFrameSpace s save
 HasRoomToMove s plain.Returns = Unit {0}
 HasRoomToMove s plain.Flushes = Unit {0}
 
--- there is room for each byte that an action writes, and for the frame that it saves
+-- each of these bytes can be marked
+abbrev pub AreMarkable : Storage → List (ℕ × ℕ) → Type 0
+AreMarkable s ps = AllByRecursion (λ w. HasSoftSpace s w.0 1) ps
+
+-- there is room for each byte that an action writes, for their marks where some get one, and for the frame that it saves
 pub record HasRoomFor (p : Processor) (a : plain.Action) : Type 0 where
   pub bytes : AreSpacious p.storage a.writes
+  pub soft : a.stale ≢ [] → AreMarkable p.storage a.writes
   pub frames : HasRoomToMove p.storage a.move
 
 -- where there was room for an action there still is

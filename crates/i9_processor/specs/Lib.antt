@@ -5,3 +5,4 @@ pub mod Tracing
 pub mod Issued
 pub mod Acts
 pub mod Pages
+pub mod Entries

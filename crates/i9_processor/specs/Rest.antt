@@ -1,5 +1,5 @@
 -- What most effects leave as it is.
-use Rattle.std.specs.Prelude.{◌≡◌, Option, None}
+use Rattle.std.specs.Prelude.{◌≡◌, ℕ, ◌^◌, ◌<◌, Option, None}
 use Rattle.i9_model.specs.declared.trace.Trace.{Trace}
 use Rattle.i9_processor.specs.declared.effect.Requests.{Requests}
 use Rattle.i9_processor.specs.declared.effect.Move.{Move}
@@ -13,6 +13,11 @@ use Rattle.i9_processor.specs.declared.effect.Control.TheVariants as controls
 
 abbrev pub no_requests : Requests
 no_requests = record { first = None; second = None }
+
+-- where bytes are marked, one of so many is, and no bits of requests are stored
+pub record AreMarked (stale count : ℕ) (asked : Requests) : Type 0 where
+  pub some : stale < 2 ^ count
+  pub requests : asked ≡ no_requests
 
 -- no bits of requests are stored; frames, interrupts, DMA and the controls that start-up reads stay; and no trace event
 -- counts

@@ -1,12 +1,13 @@
 -- The state that a processor stands for.
 use Rattle.std.specs.Prelude.{◌≡◌, ℕ, ◌+◌, ◌*◌, ◌/◌, ◌%◌, nat_lt, if◌then◌else◌, List, []}
 use Rattle.i9_isa.specs.declared.resources.TheConstants.{CONDITION_CODE}
+use Rattle.i9_isa.specs.Words.{bit}
 use Rattle.i9_ints.specs.Ints.{interrupts_of}
 use Rattle.i9_dma.specs.Channels.{dma_of}
 use Rattle.i9_storage.specs.Storage as storage
 use Rattle.i9_model.specs.declared.need.Cell.{Cell}
 use Rattle.i9_model.specs.Late.{Wait, latest}
-use Rattle.i9_model.specs.State.{State}
+use Rattle.i9_model.specs.State.{State, as_zero}
 use Rattle.i9_model.specs.HeldFrames.{Cache}
 use Rattle.i9_regs.specs.File.{cell_in}
 use Rattle.i9_processor.specs.declared.processor.Processor.{Processor}
@@ -33,6 +34,8 @@ state_of p = record {
   dma = dma_of p.channels;
   trace = record { tc = p.tc; breaks = p.breaks };
   tables = p.tables;
+  marks = bit p.marks;
+  reading = as_zero;
 }
 
 -- the frames that are held, and the memory behind them

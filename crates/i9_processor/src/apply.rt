@@ -3,10 +3,11 @@ ghost use Rattle.std.specs.Prelude.{◌≡◌, ℕ, List, ◌+◌, ◌*◌, ◌^
 ghost use Rattle.std.specs.List.{AllByRecursion};
 ghost use Rattle.i9_model.specs.declared.need.Cell.{Cell};
 ghost use Rattle.i9_model.specs.Late.{resource, resources, issued_cell, landed, due_puts, left_waiting};
-ghost use Rattle.i9_model.specs.Controls.{KeepsControls, with_group, controlled};
-ghost use Rattle.i9_model.specs.State.{State, started};
+ghost use Rattle.i9_model.specs.Controls.{KeepsControls, marks_after, with_group, controlled};
+ghost use Rattle.i9_model.specs.State.{State, start_sets, started};
 ghost use Rattle.i9_model.specs.Memory.{stored, words_in, with_writes};
-ghost use Rattle.i9_model.specs.Frames.{wrote};
+ghost use Rattle.i9_model.specs.Frames.{with_marked, wrote, softened};
+ghost use Rattle.i9_model.specs.Stale.{picked};
 ghost use Rattle.i9_model.specs.Hazards.{writes_hazard};
 ghost use Rattle.i9_model.specs.Writes.{written};
 ghost use Rattle.i9_model.specs.Step.{Stays, saved_locals, frames_after, moved, flagged, acted, counted};
@@ -15,15 +16,17 @@ ghost use Rattle.i9_model.specs.Alike.{AreAlike};
 ghost use Rattle.i9_model.specs.HeldFrames.{overlaid, cache_moved, cache_acted, cache_configured, cache_stored};
 ghost use Rattle.i9_regs.specs.Covered.{IsCovered, StartsAnew};
 ghost use Rattle.i9_storage.specs.Storage as stores;
-ghost use Rattle.i9_storage.specs.Storage.{HasSpace, KeepsSpace, KeepsFrameSpace, AddsNone, AddsBytesOnly};
+ghost use Rattle.i9_storage.specs.Storage.{KeepsSpace, KeepsSoftSpace, KeepsFrameSpace, AddsNone};
+ghost use Rattle.i9_watch.specs.Bits.{bits_of};
 ghost use Rattle.i9_processor.specs.Issued.{AreCovered, IsCodeCovered, IsStartCovered, IsIssued};
-ghost use Rattle.i9_processor.specs.Pages.{AddsMoveOnly, AddsWritesOnly};
+ghost use Rattle.i9_processor.specs.Pages.{AddsRunOnly, AddsMoveOnly, AddsWritesOnly};
 ghost use Rattle.i9_processor.specs.Acts.{CanPut, IsDrainedToMove, IsDrainedToControl};
-ghost use Rattle.i9_processor.specs.Effect.{action_in, one_in, requests_in, run_in, writes_in, posting_in, change_in, move_in, sets_in, control_in, cache_through, size_with, is_costly, has_writes};
-ghost use Rattle.i9_processor.specs.Effect.{AreRegisters, AreSpacious, CanPost, CanChange, CanControl, CanMove, HasMoveSpace, HasSpaceFor, KeepsRoom, IsEmptied, CanTake};
+ghost use Rattle.i9_processor.specs.Effect.{action_in, one_in, requests_in, run_in, writes_in, posting_in, change_in, move_in, group_in, sets_in, marked_in, stale_in, lost_by, control_in, cache_through, size_with, is_costly, has_writes};
+ghost use Rattle.i9_processor.specs.Effect.{AreRegisters, AreSpacious, CanPost, CanChange, CanControl, CanMove, HasMoveSpace, HasRunSpace, HasSpaceFor, KeepsRoom, IsEmptied, CanTake};
 
 use crate::effect::{Control, DmaChange, Effect, MOST_BYTES, Move, Posting, Requests};
 use crate::landing::Landing;
+use crate::marks;
 use crate::processor::Processor;
 use crate::registers::{issue_frame, issue_group};
 use crate::start::{issue_start, start_breaks, start_interrupts, start_trace_controls, tables_of};
@@ -47,6 +50,7 @@ fn reserve_move(storage: &mut Storage, m: &Move) -> Result<(), NoMemory>
     ensures waiting { stores.waiting_in storage.new ≡ stores.waiting_in storage.old }
     ensures acted { stores.acted_in storage.new ≡ stores.acted_in storage.old }
     ensures keeps { KeepsSpace storage.old storage.new }
+    ensures soft_space { KeepsSoftSpace storage.old storage.new }
     ensures only { AddsMoveOnly storage.old storage.new m.now }
     ensures space { OnOk result (HasMoveSpace storage.new m.now) }
     ensures needed { (s : State) → OnErr result (is_costly (move_in s m.now) ≡ true) }
@@ -59,7 +63,8 @@ fn reserve_move(storage: &mut Storage, m: &Move) -> Result<(), NoMemory>
     }
 }
 
-/// Makes room for the bytes in a row of an effect. Most effects have none, and then nothing is looked up.
+/// Makes room for the bytes in a row of an effect, and for their marks where some get one. Most effects have none,
+/// and then nothing is looked up.
 #[inline(always)]
 fn reserve_run(storage: &mut Storage, e: &Effect) -> Result<(), NoMemory>
     ensures cache { stores.cache_of storage.new ≡ stores.cache_of storage.old }
@@ -68,17 +73,22 @@ fn reserve_run(storage: &mut Storage, e: &Effect) -> Result<(), NoMemory>
     ensures waiting { stores.waiting_in storage.new ≡ stores.waiting_in storage.old }
     ensures acted { stores.acted_in storage.new ≡ stores.acted_in storage.old }
     ensures keeps { KeepsSpace storage.old storage.new }
-    ensures only { AddsBytesOnly storage.old storage.new e.now.address (length e.now.bytes.items) }
+    ensures only { AddsRunOnly storage.old storage.new e.now }
     ensures frame_space { KeepsFrameSpace storage.old storage.new }
-    ensures space { OnOk result (HasSpace storage.new e.now.address (length e.now.bytes.items)) }
+    ensures space { OnOk result (HasRunSpace storage.new e.now) }
     ensures needed { OnErr result (0 < length e.now.bytes.items) }
-    ensures lacking { OnErr result (HasSpace storage.old e.now.address (length e.now.bytes.items) → ⊥) }
-    ensures still_lacking { OnErr result (HasSpace storage.new e.now.address (length e.now.bytes.items) → ⊥) }
+    ensures lacking { OnErr result (HasRunSpace storage.old e.now → ⊥) }
+    ensures still_lacking { OnErr result (HasRunSpace storage.new e.now → ⊥) }
 {
     if e.bytes.is_empty() {
         return Ok(());
     }
-    storage.reserve(e.address, e.bytes.len() as u32)
+    let n = e.bytes.len() as u32;
+    storage.reserve(e.address, n)?;
+    if e.stale == 0 {
+        return Ok(());
+    }
+    storage.reserve_soft(e.address, n)
 }
 
 /// Makes room for a byte at an address, where there is one.
@@ -90,6 +100,7 @@ fn reserve_one(storage: &mut Storage, byte: Option<(u32, u8)>) -> Result<(), NoM
     ensures waiting { stores.waiting_in storage.new ≡ stores.waiting_in storage.old }
     ensures acted { stores.acted_in storage.new ≡ stores.acted_in storage.old }
     ensures keeps { KeepsSpace storage.old storage.new }
+    ensures soft_space { KeepsSoftSpace storage.old storage.new }
     ensures only { AddsWritesOnly storage.old storage.new (one_in byte) }
     ensures frame_space { KeepsFrameSpace storage.old storage.new }
     ensures space { OnOk result (AreSpacious storage.new (one_in byte)) }
@@ -114,6 +125,7 @@ fn reserve_requests(storage: &mut Storage, requests: &Requests) -> Result<(), No
     ensures waiting { stores.waiting_in storage.new ≡ stores.waiting_in storage.old }
     ensures acted { stores.acted_in storage.new ≡ stores.acted_in storage.old }
     ensures keeps { KeepsSpace storage.old storage.new }
+    ensures soft_space { KeepsSoftSpace storage.old storage.new }
     ensures only { AddsWritesOnly storage.old storage.new (requests_in requests.now) }
     ensures frame_space { KeepsFrameSpace storage.old storage.new }
     ensures space { OnOk result (AreSpacious storage.new (requests_in requests.now)) }
@@ -129,11 +141,12 @@ fn reserve_requests(storage: &mut Storage, requests: &Requests) -> Result<(), No
 #[inline(always)]
 fn store_run(storage: &mut Storage, e: &Effect)
     requires drained { 0 < length e.now.bytes.items → stores.IsDrained storage.old }
-    requires space { HasSpace storage.old e.now.address (length e.now.bytes.items) }
+    requires space { HasRunSpace storage.old e.now }
     requires free { writes_hazard (stores.frames_in storage.old) (run_in e.now) ≡ None }
     ensures cache { stores.cache_of storage.new ≡ cache_stored (run_in e.now) (stores.cache_of storage.old) }
     ensures memory { stores.memory_in storage.new ≡ with_writes (stores.memory_in storage.old) (run_in e.now) }
-    ensures frames { stores.frames_in storage.new ≡ wrote (stores.frames_in storage.old) (run_in e.now) }
+    ensures frames { stores.frames_in storage.new
+        ≡ softened (wrote (stores.frames_in storage.old) (run_in e.now)) (stale_in e.now) }
     ensures size { stores.size_of storage.new ≡ stores.size_of storage.old }
     ensures waiting { stores.waiting_in storage.new ≡ stores.waiting_in storage.old }
     ensures acted { length e.now.bytes.items ≡ 0 → stores.acted_in storage.new ≡ stores.acted_in storage.old }
@@ -141,7 +154,7 @@ fn store_run(storage: &mut Storage, e: &Effect)
     ensures no_more { AddsNone storage.old storage.new }
 {
     if !e.bytes.is_empty() {
-        storage.store(e.address, e.bytes.as_slice());
+        storage.store(e.address, e.bytes.as_slice(), e.stale);
     }
 }
 
@@ -163,7 +176,7 @@ fn store_one(storage: &mut Storage, byte: Option<(u32, u8)>)
     ensures no_more { AddsNone storage.old storage.new }
 {
     match byte {
-        Some((address, value)) => storage.store(address, &[value]),
+        Some((address, value)) => storage.store(address, &[value], 0),
         None => {}
     }
 }
@@ -192,12 +205,13 @@ fn store_requests(storage: &mut Storage, requests: &Requests)
 #[inline(never)]
 fn store_bytes(storage: &mut Storage, e: &Effect)
     requires drained { 0 < length (writes_in e.now) → stores.IsDrained storage.old }
-    requires space { HasSpace storage.old e.now.address (length e.now.bytes.items) }
+    requires space { HasRunSpace storage.old e.now }
     requires requests { AreSpacious storage.old (requests_in e.now.requests) }
     requires free { writes_hazard (stores.frames_in storage.old) (writes_in e.now) ≡ None }
     ensures cache { stores.cache_of storage.new ≡ cache_stored (writes_in e.now) (stores.cache_of storage.old) }
     ensures memory { stores.memory_in storage.new ≡ with_writes (stores.memory_in storage.old) (writes_in e.now) }
-    ensures frames { stores.frames_in storage.new ≡ wrote (stores.frames_in storage.old) (writes_in e.now) }
+    ensures frames { stores.frames_in storage.new
+        ≡ softened (wrote (stores.frames_in storage.old) (writes_in e.now)) (stale_in e.now) }
     ensures size { stores.size_of storage.new ≡ stores.size_of storage.old }
     ensures waiting { stores.waiting_in storage.new ≡ stores.waiting_in storage.old }
     ensures acted { length (writes_in e.now) ≡ 0 → stores.acted_in storage.new ≡ stores.acted_in storage.old }
@@ -240,34 +254,37 @@ fn listed(bytes: &[u8]) -> ArrayVec<u8, MOST_BYTES>
 fn queue_run(storage: &mut Storage, e: &Effect, done: u64)
     requires few { length (stores.waiting_in storage.old) < 3 }
     requires order { AllByRecursion (λ w. w.due ≤ done) (stores.waiting_in storage.old) }
-    requires space { HasSpace storage.old e.now.address (length e.now.bytes.items) }
+    requires space { HasRunSpace storage.old e.now }
     requires free { writes_hazard (stores.frames_in storage.old) (run_in e.now) ≡ None }
     ensures cache { stores.cache_of storage.new ≡ cache_stored (run_in e.now) (stores.cache_of storage.old) }
     ensures memory { stores.memory_in storage.new ≡ with_writes (stores.memory_in storage.old) (run_in e.now) }
-    ensures frames { stores.frames_in storage.new ≡ wrote (stores.frames_in storage.old) (run_in e.now) }
+    ensures frames { stores.frames_in storage.new
+        ≡ softened (wrote (stores.frames_in storage.old) (run_in e.now)) (stale_in e.now) }
     ensures size { stores.size_of storage.new ≡ stores.size_of storage.old }
     ensures waiting { stores.waiting_in storage.new
         ≡ stores.waiting_in storage.old ++ record { puts = run_in e.now; due = done } ∷ [] }
     ensures acted { stores.acted_in storage.new ≡ stores.acted_in storage.old }
     ensures no_more { AddsNone storage.old storage.new }
 {
-    storage.enqueue(Request {
+    let request = Request {
         address: e.address,
         bytes: listed(e.bytes.as_slice()),
         due: done,
-    });
+    };
+    storage.enqueue(request, e.stale);
 }
 
 /// The bytes of an effect wait where it is a request, and else they are stored.
 #[inline(always)]
 fn put_bytes(storage: &mut Storage, e: &Effect, landing: &Landing)
     requires acts { CanPut (stores.waiting_in storage.old) landing.now e.now }
-    requires space { HasSpace storage.old e.now.address (length e.now.bytes.items) }
+    requires space { HasRunSpace storage.old e.now }
     requires requests { AreSpacious storage.old (requests_in e.now.requests) }
     requires free { writes_hazard (stores.frames_in storage.old) (writes_in e.now) ≡ None }
     ensures cache { stores.cache_of storage.new ≡ cache_stored (writes_in e.now) (stores.cache_of storage.old) }
     ensures memory { stores.memory_in storage.new ≡ with_writes (stores.memory_in storage.old) (writes_in e.now) }
-    ensures frames { stores.frames_in storage.new ≡ wrote (stores.frames_in storage.old) (writes_in e.now) }
+    ensures frames { stores.frames_in storage.new
+        ≡ softened (wrote (stores.frames_in storage.old) (writes_in e.now)) (stale_in e.now) }
     ensures size { stores.size_of storage.new ≡ stores.size_of storage.old }
     ensures waits { landing.now.request ≡ true → (stores.acted_in storage.new ≡ stores.acted_in storage.old)
         × (stores.waiting_in storage.new
@@ -330,8 +347,10 @@ impl Processor {
     #[tactic(auto, unfolding(crate::specs::State::state_of, crate::specs::State::cache_of, crate::specs::State::size_of, crate::specs::State::bytes_of, crate::specs::State::queue_of, i9_model::specs::State::started))]
     fn start(&mut self, landing: &Landing, setup: &Setup)
         requires { IsStartCovered landing.now.writes }
-        ensures state { state_of self.new ≡ started setup.now (state_of self.old).regs (state_of self.old).count
-            (state_of self.old).interrupts.low (state_of self.old).memory (state_of self.old).frames }
+        ensures state { state_of self.new ≡ record (started setup.now (state_of self.old).regs (state_of self.old).count
+            (state_of self.old).interrupts.low (state_of self.old).memory (state_of self.old).frames) {
+              marks = marks_after (state_of self.old).marks (start_sets setup.now) [];
+            } }
         ensures cache { cache_of self.new ≡ cache_of self.old }
         ensures size { size_of self.new ≡ size_of self.old }
         ensures count { (state_of self.new).count ≡ (state_of self.old).count }
@@ -339,6 +358,7 @@ impl Processor {
         ensures storage { self.new.storage ≡ self.old.storage }
     {
         issue_start(&mut self.file, &mut self.flags, landing, setup);
+        self.marks = marks::with_frame(self.marks, 0);
         self.ip = aligned(setup.first);
         self.pc = BOOT_PC;
         self.tc = start_trace_controls(setup);
@@ -446,6 +466,22 @@ impl Processor {
         ]
     }
 
+    /// Marks the registers of the group that an effect sets, as it says.
+    #[inline(always)]
+    #[tactic(auto, unfolding(crate::specs::State::state_of, crate::specs::State::cache_of, crate::specs::State::size_of, crate::specs::State::bytes_of, crate::specs::State::queue_of))]
+    fn mark_group(&mut self, e: &Effect)
+        requires { AreRegisters e.now }
+        ensures state { state_of self.new ≡ record (state_of self.old) {
+          marks = marks_after (state_of self.old).marks (group_in e.now)
+              (picked (λ r. r) e.now.register (bits_of e.now.marks (length e.now.values.items)));
+        } }
+        ensures file { self.new.file ≡ self.old.file }
+        ensures flags { self.new.flags ≡ self.old.flags }
+        ensures storage { self.new.storage ≡ self.old.storage }
+    {
+        self.marks = marks::with_group(self.marks, e.register, e.values.len(), e.marks);
+    }
+
     /// Does what is done to frames, and plans registers and the condition code.
     // Calls and returns do, and this is no part of the code that calls it.
     #[inline(never)]
@@ -459,14 +495,17 @@ impl Processor {
         requires code { IsCodeCovered landing.now.writes (state_of self.old).ac e.now.ac }
         ensures state { state_of self.new ≡ record (state_of self.old) {
           regs = written (state_of self.old).regs (sets_in (state_of self.old) e.now);
+          marks = marks_after (state_of self.old).marks (sets_in (state_of self.old) e.now) (marked_in e.now);
           ac = e.now.ac;
           memory = (state_of self.new).memory;
-          frames = frames_after (state_of self.old).frames (move_in (state_of self.old) e.now.frames);
+          frames = with_marked (frames_after (state_of self.old).frames (move_in (state_of self.old) e.now.frames))
+              (lost_by (state_of self.old) e.now.frames);
         } }
         ensures memory { (state_of self.new).memory ≡ overlaid (cache_of self.new) }
         ensures cache { cache_of self.new ≡ cache_moved (size_of self.old) (move_in (state_of self.old) e.now.frames) (cache_of self.old) }
         ensures size { size_of self.new ≡ size_of self.old }
         ensures keeps { KeepsSpace self.old.storage self.new.storage }
+        ensures soft_space { KeepsSoftSpace self.old.storage self.new.storage }
         ensures issued { IsIssued landing.now.writes landing.now.done self.new.flags self.old.file self.new.file }
         ensures queue { queue_of self.new ≡ queue_of self.old }
         ensures bytes { move_in (state_of self.old) e.now.frames ≡ Stays → bytes_of self.new ≡ bytes_of self.old }
@@ -477,17 +516,21 @@ impl Processor {
                 let (file, flags) = (&mut self.file, &mut self.flags);
                 let values = e.values.as_slice();
                 issue_group(file, flags, landing, e.register, values, e.ac);
+                self.mark_group(e);
             }
             Move::Saves { push, back } => {
                 let address = push.save;
                 let words = self.saved_locals(back);
-                self.storage.save_frame(Frame { address, words });
+                self.storage
+                    .save_frame(Frame { address, words }, marks::saved(self.marks));
+                self.marks = marks::with_frame(self.marks, 0);
                 let (file, flags) = (&mut self.file, &mut self.flags);
                 issue_frame(file, flags, landing, &new_locals(&push), push.frame, e.ac);
             }
             Move::Returns(frame) => {
-                let locals = self.storage.frame_words(frame);
+                let locals = self.storage.left_words(frame);
                 self.storage.restore_frame();
+                self.marks = marks::with_frame(self.marks, e.marks);
                 let (file, flags) = (&mut self.file, &mut self.flags);
                 issue_frame(file, flags, landing, &locals, frame, e.ac);
             }
@@ -585,6 +628,7 @@ impl Processor {
         if e.plain {
             let (file, flags) = (&mut self.file, &mut self.flags);
             issue_group(file, flags, landing, e.register, e.values.as_slice(), e.ac);
+            self.mark_group(e);
             put_bytes(&mut self.storage, e, landing);
         } else {
             self.move_frames(e, landing);

@@ -1,9 +1,9 @@
 //! What is done to a processor, as data.
-ghost use Rattle.std.specs.Prelude.{◌≡◌, ◌+◌, ◌<◌, ◌≤◌, ◌^◌, ◌↔◌, IsTrue, [], length};
+ghost use Rattle.std.specs.Prelude.{◌≡◌, ◌≢◌, ◌+◌, ◌<◌, ◌≤◌, ◌^◌, ◌↔◌, IsTrue, [], length};
 ghost use Rattle.i9_model.specs.Writes.{last_put, pairs_at, upwards};
 ghost use Rattle.i9_model.specs.Step.{going};
 ghost use Rattle.i9_model.specs.Memory.{console_byte, exit_word};
-ghost use Rattle.i9_processor.specs.Rest.{LeavesRest, no_requests};
+ghost use Rattle.i9_processor.specs.Rest.{AreMarked, LeavesRest, no_requests};
 
 use crate::processor::Processor;
 use arrayvec::ArrayVec;
@@ -85,8 +85,9 @@ pub enum DmaChange {
     Passes(u8),
 }
 
-/// The values that go to registers from one up, where nothing is done to frames; the bytes that are
-/// stored from an address on, and then those with bits of requests, each at an address of its own;
+/// The values that go to registers from one up, where nothing is done to frames, and their marks: bit k is that of
+/// value k, or of local k of a frame that is returned to; the bytes that are stored from an address on, of which byte
+/// k gets a mark where bit k of `stale` is set, and then those with bits of requests, each at an address of its own;
 /// what is done to frames; the arithmetic, process and trace controls and the check flag afterwards;
 /// what is done to the other controls, to interrupts and to DMA; the next instruction address; and, where
 /// trace events count, the trace controls with their flags and the subtype of their fault.
@@ -98,8 +99,10 @@ pub enum DmaChange {
 pub struct Effect {
     pub register: u8,
     pub values: ArrayVec<u32, MOST_VALUES>,
+    pub marks: u16,
     pub address: u32,
     pub bytes: ArrayVec<u8, MOST_BYTES>,
+    pub stale: u16,
     pub requests: Requests,
     pub frames: Move,
     pub ac: u32,
@@ -113,6 +116,7 @@ pub struct Effect {
     pub trace: Option<Trace>,
     pub plain: bool,
     pub ghost rest: { IsTrue plain → LeavesRest requests frames posting dma control trace },
+    pub ghost marked: { stale ≢ 0 → AreMarked stale (length bytes.items) requests },
 }
 
 /// The byte at a place, of bytes that stand from an address on.
@@ -188,7 +192,9 @@ impl Effect {
         ensures effect { IsEffect (state_of processor.now)
             (record (going (state_of processor.now) next) { sets = pairs_at (λ r. r) register values.items }) result }
         ensures values { result.values.items ≡ values.items }
+        ensures marks { result.marks ≡ 0 }
         ensures bytes { result.bytes.items ≡ [] }
+        ensures stale { result.stale ≡ 0 }
         ensures requests { result.requests ≡ no_requests }
         ensures frames { result.frames ≡ Move.Stays }
         ensures posting { result.posting ≡ Posting.Keeps }
@@ -198,8 +204,10 @@ impl Effect {
         Effect {
             register,
             values,
+            marks: 0,
             address: 0,
             bytes: ArrayVec::new(),
+            stale: 0,
             requests: Requests::NONE,
             frames: Move::Stays,
             ac: processor.ac(),
@@ -219,7 +227,9 @@ impl Effect {
     pub fn going(processor: &Processor, next: u32) -> Effect
         ensures effect { IsEffect (state_of processor.now) (going (state_of processor.now) next) result }
         ensures values { result.values.items ≡ [] }
+        ensures marks { result.marks ≡ 0 }
         ensures bytes { result.bytes.items ≡ [] }
+        ensures stale { result.stale ≡ 0 }
         ensures requests { result.requests ≡ no_requests }
         ensures frames { result.frames ≡ Move.Stays }
         ensures posting { result.posting ≡ Posting.Keeps }
@@ -232,7 +242,9 @@ impl Effect {
     /// An effect to plan in: it sets no register, stores no byte, and leaves frames alone.
     pub fn blank() -> Effect
         ensures values { result.values.items ≡ [] }
+        ensures marks { result.marks ≡ 0 }
         ensures bytes { result.bytes.items ≡ [] }
+        ensures stale { result.stale ≡ 0 }
         ensures requests { result.requests ≡ no_requests }
         ensures frames { result.frames ≡ Move.Stays }
         ensures posting { result.posting ≡ Posting.Keeps }
@@ -242,8 +254,10 @@ impl Effect {
         Effect {
             register: 0,
             values: ArrayVec::new(),
+            marks: 0,
             address: 0,
             bytes: ArrayVec::new(),
+            stale: 0,
             requests: Requests::NONE,
             frames: Move::Stays,
             ac: 0,
@@ -265,6 +279,7 @@ impl Effect {
     fn clear(&mut self)
         ensures values { self.new.values.items ≡ self.old.values.items }
         ensures bytes { self.new.bytes.items ≡ self.old.bytes.items }
+        ensures stale { self.new.stale ≡ self.old.stale }
         ensures plain { IsTrue self.new.plain }
     {
         self.requests = Requests::NONE;
@@ -280,7 +295,9 @@ impl Effect {
     pub fn go(&mut self, processor: &Processor, next: u32)
         ensures effect { IsEffect (state_of processor.now) (going (state_of processor.now) next) self.new }
         ensures values { self.new.values.items ≡ [] }
+        ensures marks { self.new.marks ≡ 0 }
         ensures bytes { self.new.bytes.items ≡ [] }
+        ensures stale { self.new.stale ≡ 0 }
         ensures requests { self.new.requests ≡ no_requests }
         ensures frames { self.new.frames ≡ Move.Stays }
         ensures posting { self.new.posting ≡ Posting.Keeps }
@@ -292,7 +309,9 @@ impl Effect {
         }
         self.register = 0;
         self.values = ArrayVec::new();
+        self.marks = 0;
         self.bytes = ArrayVec::new();
+        self.stale = 0;
         self.ac = processor.ac();
         self.pc = processor.pc();
         self.tc = processor.tc();

@@ -6,6 +6,7 @@ mod apply;
 mod effect;
 mod landing;
 mod load;
+mod marks;
 mod processor;
 mod registers;
 mod start;

@@ -33,12 +33,14 @@ pub use tracing::TraceControls;
 /// All that an instruction may read or change: the registers and the controls, whether the next choice
 /// of an interrupt looks at what software asks for, the interrupts that are posted, the DMA channels, the
 /// tables that the processor goes by, the count of instructions, and the storage with its frames. Of the
-/// arithmetic controls the low three bits, the condition code, are in the file, and `flags` is the others.
+/// arithmetic controls the low three bits, the condition code, are in the file, and `flags` is the others. Bit r of
+/// `marks` is the mark of register r, that is, of its latest value: an effect that sets a register sets it at once.
 #[derive(Drop)]
 pub struct Processor {
     pub(crate) file: File,
     pub(crate) ip: u32,
     pub(crate) flags: u32,
+    pub(crate) marks: u32,
     pub(crate) pc: u32,
     pub(crate) tc: u32,
     pub(crate) check: bool,
@@ -96,6 +98,7 @@ impl Processor {
             file,
             ip: aligned(setup.first),
             flags,
+            marks: 0,
             pc: BOOT_PC,
             tc: start_trace_controls(&setup),
             check: false,
@@ -123,6 +126,7 @@ impl Processor {
             file: self.file.copy(),
             ip: self.ip,
             flags: self.flags,
+            marks: self.marks,
             pc: self.pc,
             tc: self.tc,
             check: self.check,

@@ -117,7 +117,7 @@ debug script
 #turn 2 2
 #held 5 1 00000000
 status 0
-== A return leaves its frame's bytes as they may not be read, and a store makes a byte of them one that may.
+== A return leaves its frame's bytes uncompared, and a store makes a byte of them one that is compared.
         call  f
         st    g4, 16
         ld    16, g5
@@ -126,25 +126,25 @@ f:      ret
 > turn 100
 > who 10
 debug script
-#point 4 end 0000100C 00000000 001F2002
-#g
+#point 5 end 00001010 00000000 001F2002
+#g 6=-
 #l 1=40 2=1004
-#end hazard 0000000C
-#turn 11 4
+#end hazard 00000008
+#turn 12 5
 #who 3 00001004
 status 4
 -- Back from a hazard, to right behind the return.
 > turn 100
-> back 2
+> back 3
 > mem 10 1
 > who 10
 > until 100C
 debug script
-#point 4 end 0000100C 00000000 001F2002
-#g
+#point 5 end 00001010 00000000 001F2002
+#g 6=-
 #l 1=40 2=1004
-#end hazard 0000000C
-#turn 11 4
+#end hazard 00000008
+#turn 12 5
 #turn 5 2
 #mem 00000010 --
 #who 2 00001010
@@ -152,20 +152,20 @@ debug script
 status 0
 -- And to the hazard again.
 > turn 100
-> back 4
+> back 5
 > turn 100
 debug script
-#point 4 end 0000100C 00000000 001F2002
-#g
+#point 5 end 00001010 00000000 001F2002
+#g 6=-
 #l 1=40 2=1004
-#end hazard 0000000C
-#turn 11 4
+#end hazard 00000008
+#turn 12 5
 #turn 1 0
-#point 4 end 0000100C 00000000 001F2002
-#g
+#point 5 end 00001010 00000000 001F2002
+#g 6=-
 #l 1=40 2=1004
-#end hazard 0000000C
-#turn 11 4
+#end hazard 00000008
+#turn 12 5
 status 4
 == Calls that call, of which the sixth writes the first frame to memory. Back over it the frame is in a set.
 f:      call  f

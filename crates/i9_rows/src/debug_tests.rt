@@ -106,18 +106,19 @@ debug script
 #turn 5 4
 #turn 5 4
 status 0
-== A hazard ends the run, and the session goes on behind it.
+== A hazard ends the run, and the session goes on behind it. The load marks its register; the word behind it is refused,
+== and the entry of its fault would save the frame at 40 a second time.
         lda   0x40, fp
         call  f
 f:      ld    0x40, g4
 > until 9999
 > held
 debug script
-#point 2 end 00001008 00000000 001F2002
-#g 15=40
+#point 4 end 00001010 00000000 001F2002
+#g 4=- 15=40
 #l 0=40 1=80
 #end hazard 00000040
-#turn 6 2
+#turn 8 4
 #held 5 1 00000040
 status 4
 == A script at fault.
@@ -165,17 +166,23 @@ show:   ld      16(pfp), g4
 > held
 > mem 3010 4
 > rawmem 3010 4
+> until 101C
+> regs
 > turn 100
 debug script
 #turn 2 2
 #held 5 1 00003000
 #mem 00003010 41 00 00 00
 #rawmem 00003010 00 00 00 00
-#point 2 end 00001018 00000000 001F2002
-#g 15=3040
+#turn 6 3
+#view 3 0000101C 00000000 001F2002
+#g 4=- 15=3040
 #l 0=3000 1=3080
-#end hazard 00003010
-#turn 6 2
+#point 4 end 00001024 00000000 001F2002
+#g 4=- 5=E0000000 15=3040
+#l 0=3000 1=3080
+#end hazard 00001024
+#turn 8 4
 status 4
 == It is flushed first.
 start:  lda     0x41, r4

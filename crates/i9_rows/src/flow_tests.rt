@@ -271,15 +271,16 @@ run 9
 #l 1=80
 #end hazard 00000020
 status 4
-== It loads a byte from there.
+== It loads a byte from there, and the register is marked. The word behind it is refused, and its entry of the fault
+== table is there.
         call  f
 f:
         ldib  5, g4
 run 9
-#point 1 end 00001004 00000000 001F2002
-#g 15=40
+#point 3 end 0000100C 00000000 001F2002
+#g 4=- 15=40
 #l 1=80
-#end hazard 00000005
+#end hazard 00000010
 status 4
 == It stores to the last byte.
         call  f
@@ -291,29 +292,29 @@ run 9
 #l 1=80
 #end hazard 0000003F
 status 4
-== A byte is stored in the frame at 0, which a call saved and a return took back; the rest of the group may not be
-== loaded.
+== A byte is stored in the frame at 0, which a call saved and a return took back; the rest of the group marks all four
+== registers. A second return finds no return address there.
         call  f
         stob  g4, 16
         ldq   16, r4
 f:      ret
 run 9
-#point 3 end 00001008 00000000 001F2002
+#point 4 end 0000100C 00000000 001F2002
 #g
-#l 1=40 2=1004
-#end hazard 00000011
+#l 1=40 2=1004 4=- 5=- 6=- 7=-
+#end hazard 00000008
 status 4
-== The same with a word, which atmod may then read, and the next word, which it may not.
+== The same with a word, which atmod then answers, and the next word, which it answers with a mark.
         call  f
         st    g4, 16
         atmod 16, g1, g2
         atmod 20, g1, g2
 f:      ret
 run 9
-#point 4 end 0000100C 00000000 001F2002
-#g
+#point 5 end 00001010 00000000 001F2002
+#g 2=-
 #l 1=40 2=1004
-#end hazard 00000014
+#end hazard 00000008
 status 4
 == An address that suits bytes alone: a load of a half.
         mov   1, g0

@@ -4,17 +4,24 @@ use std::test::*;
 
 /// Calls and returns.
 const CALLS: &str = "
-== A load from the caller's frame, which is kept in a set.
+== A load from the caller's frame, which is kept in a set, marks its register.
         mov   5, r4
         call  f
 f:      ld    16(pfp), g4
+run 3
+#point 3 end 0000100C 00000000 001F2002
+#g 4=- 15=40
+#l 1=80
+#end limit
+status 0
+-- The word behind it is refused, and its entry of the fault table is in that frame.
 run 4
-#point 2 end 00001008 00000000 001F2002
-#g 15=40
+#point 4 end 00001010 00000000 001F2002
+#g 4=- 15=40
 #l 1=80
 #end hazard 00000010
 status 4
-== The same behind a flush.
+== The load behind a flush.
         mov   5, r4
         call  f
 f:      flushreg
@@ -28,30 +35,44 @@ run 4
 #l 1=80
 #end limit
 status 0
-== Loads from the frame at 0, which a call saved and a return took back: a word that was stored there since may be
-== read, and the one before it may not.
+== Loads from the frame at 0, which a call saved and a return took back: a word that was stored there since has no mark,
+== and the one before it has one. A second return finds no return address there.
         call  f
         st    g4, 16
         ld    16, g5
         ld    12, g6
 f:      ret
 run 9
-#point 4 end 0000100C 00000000 001F2002
-#g
+#point 5 end 00001010 00000000 001F2002
+#g 6=-
 #l 1=40 2=1004
-#end hazard 0000000C
+#end hazard 00000008
 status 4
-== The same with a byte: the rest of its word may not be read.
+== The same with a byte: the rest of its word marks the register.
         call  f
         stob  g4, 16
         ld    16, g5
         ld    12, g6
 f:      ret
 run 9
-#point 3 end 00001008 00000000 001F2002
-#g
+#point 5 end 00001010 00000000 001F2002
+#g 5=- 6=-
 #l 1=40 2=1004
-#end hazard 00000011
+#end hazard 00000008
+status 4
+== A sum has the mark, and its comparison may not be.
+        call  f
+        st    g4, 16
+        ld    16, g5
+        ld    12, g6
+        addo  1, g6, g7
+        cmpo  0, g7
+f:      ret
+run 9
+#point 6 end 00001014 00000000 001F2002
+#g 6=- 7=-
+#l 1=40 2=1004
+#end hazard 00001014
 status 4
 == A return to another frame than the caller's, which is not flushed.
         call  f
@@ -170,6 +191,6 @@ status 4
 
 #[test]
 fn calls_returns_and_hazards(rt: HostRuntime) -> Result<(), Fail> {
-    assert_eq!(rt; held(rt.alloc(), &[BOOT], CALLS)?, 15);
+    assert_eq!(rt; held(rt.alloc(), &[BOOT], CALLS)?, 17);
     Ok(())
 }

@@ -53,7 +53,7 @@ run 9
 #end hazard 00000000
 status 4
 == A frame pointer of ones: its low bits don't count, so the frame goes from FFFFFFF0 to 2F, and the return leaves the
-== rounded one.
+== rounded one. A second return finds no return address at 8, in that frame.
         lda   -1, fp
         call  f
         mov   fp, g4
@@ -61,10 +61,10 @@ status 4
         ld    0x2C, g5
 f:      ret
 run 9
-#point 5 end 00001014 00000000 001F2002
-#g 4=FFFFFFF0 15=FFFFFFF0
+#point 6 end 00001018 00000000 001F2002
+#g 4=FFFFFFF0 5=- 15=FFFFFFF0
 #l 1=40 2=100C
-#end hazard 0000002C
+#end hazard 00000008
 status 4
 ";
 
@@ -79,15 +79,16 @@ run 9
 #l
 #end hazard 00000000
 status 4
-== Returns a second time to a frame that was left, and of which a store wrote the first four words since.
+== Returns a second time to a frame that was left, and of which a store wrote the first four words since: the others are
+== marked. The word at the return address, 0, is refused, and its entry of the fault table is in the frame.
         call  f
         stq   g4, 0
         ret
 f:      ret
 run 9
-#point 3 end 00001008 00000000 001F2002
+#point 5 end 00000004 00000000 001F2002
 #g
-#l 1=40 2=1004
+#l 4=- 5=- 6=- 7=- 8=- 9=- 10=- 11=- 12=- 13=- 14=- 15=-
 #end hazard 00000010
 status 4
 == A return of type 001 behind a call reads PC below fp first, which is in the caller's frame: this comes before the
@@ -247,7 +248,7 @@ status 0
 == What meets a hazard waits for all before it and so overtakes nothing: the fault before it is precise.
         call  f
 f:      divi  0, 7, g4
-        ld    16(pfp), g5       # in the caller's frame
+        st    g5, 16(pfp)       # in the caller's frame
         .org  arithmetic_faults
         .word handler, 0
         .org  0x1100
@@ -262,6 +263,13 @@ run 3
 #l 0=3041 1=30D0
 #end limit
 status 0
+== A load from there meets none, and overtakes it.
+        call  f
+f:      divi  0, 7, g4
+        ld    16(pfp), g5       # in the caller's frame
+run 3
+#end imprecise 00001004
+status 4
 ";
 
 /// Tables that share their words.
@@ -566,7 +574,7 @@ fn handlers_that_fault(rt: HostRuntime) -> Result<(), Fail> {
 
 #[test]
 fn faults_beside_stores_and_hazards(rt: HostRuntime) -> Result<(), Fail> {
-    assert_eq!(rt; held(rt.alloc(), &[PRCB], FAULTS)?, 2);
+    assert_eq!(rt; held(rt.alloc(), &[PRCB], FAULTS)?, 3);
     Ok(())
 }
 

@@ -32,6 +32,12 @@ mod hostile_tests;
 #[cfg(test)]
 mod level_tests;
 #[cfg(test)]
+mod marks_frame_tests;
+#[cfg(test)]
+mod marks_tests;
+#[cfg(test)]
+mod marks_use_tests;
+#[cfg(test)]
 mod result_tests;
 #[cfg(test)]
 mod rows;

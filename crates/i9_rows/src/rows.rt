@@ -1,4 +1,5 @@
-//! Tables for tests: sources and what the runs of their images have to print; registers that are 0 are left out.
+//! Tables for tests: sources and what the runs of their images have to print; registers that are 0 are left out, and
+//! those that are marked are given as `-`.
 use crate::tests::words_of;
 use i9_asm::assemble;
 use i9_outside::{MemFiles, MemSink};
@@ -80,19 +81,28 @@ pub(crate) fn hex_of(alloc: Global, source: &str) -> Result<Vec<u8>, Fail> {
     Ok(i9_hex::write(alloc, &image)?)
 }
 
-/// The word of the register of this number, of those that are given, as `4=1F`.
-fn register(given: &str, number: u32) -> Result<u32, Fail> {
+/// The eight digits of a word, or eight dashes for a register that is marked, which is given as `-`.
+fn register_text(alloc: Global, word: &str) -> Result<String, Fail> {
+    if word == "-" {
+        return Ok(String::from_str(alloc, "--------")?);
+    }
+    let value = u32::from_str_radix(word, 16)?;
+    Ok(format!(in alloc; "{value:08X}")?)
+}
+
+/// What is given for the register of this number, of those that are given, as `4=1F` or `4=-`; 0 where it is none of them.
+fn register(given: &str, number: u32) -> Result<&str, Fail> {
     for part in given.split(' ') {
         if let Some((place, word)) = part.split_once("=") {
             if u32::from_str_radix(place, 10)? == number {
-                return Ok(u32::from_str_radix(word, 16)?);
+                return Ok(word);
             }
         }
     }
-    Ok(0)
+    Ok("0")
 }
 
-/// Appends the line of sixteen registers, of which those that are not 0 are given.
+/// Appends the line of sixteen registers, of which those that are not 0 or are marked are given.
 pub(crate) fn add_registers(
     alloc: Global,
     text: &mut String,
@@ -101,8 +111,8 @@ pub(crate) fn add_registers(
 ) -> Result<(), Fail> {
     text.push_str(label)?;
     for number in 0..16u32 {
-        let word = register(given, number)?;
-        text.push_str(&format!(in alloc; " {word:08X}")?)?;
+        let word = register_text(alloc, register(given, number)?)?;
+        text.push_str(&format!(in alloc; " {word}")?)?;
     }
     text.push_str("\n")?;
     Ok(())
@@ -197,9 +207,9 @@ fn take_line(alloc: Global, case: &mut Case, line: &str) -> Result<(), Fail> {
 
 /// How many cases of a table hold. Behind the title, which begins with `==`, come the lines of the source, those of the
 /// schedule, which begin with `schedule`, `at` or `turn`, `run` and the length of the run, or `trace`, the length and a
-/// range, what is to be printed, where those registers are given that are not 0, and the status. Where a title begins
-/// with `--`, the source goes on from the case before. A line of a script stands behind `> `, and `debug script` is the
-/// command then.
+/// range, what is to be printed, where those registers are given that are not 0 or are marked, and the status. Where a
+/// title begins with `--`, the source goes on from the case before. A line of a script stands behind `> `, and
+/// `debug script` is the command then.
 pub(crate) fn held(alloc: Global, fronts: &[&str], table: &str) -> Result<u32, Fail> {
     let mut case = Case {
         source: String::new(alloc),

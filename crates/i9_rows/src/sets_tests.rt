@@ -97,14 +97,15 @@ run 9
 #l 0=40 1=C0
 #end hazard 00000010
 status 4
-== The same with a load.
+== The same with a load, which marks its register. The word behind it is refused, and its entry of the fault table is in
+== the first frame.
         call  f
 f:      call  g
 g:
         ld    16, g4
 run 9
-#point 2 end 00001008 00000000 001F2002
-#g 15=80
+#point 4 end 00001010 00000000 001F2002
+#g 4=- 15=80
 #l 0=40 1=C0
 #end hazard 00000010
 status 4

@@ -376,7 +376,7 @@ at 5 dma 0
 #l 1=3040 4=4 5=2800 6=101C
 #end limit
 status 0
-== A unit into a frame that was left: its word may be read then, and the next one may not.
+== A unit into a frame that was left: its word has no mark then, and the next one has one.
         call  f
         mov   4, r4
         lda   0x2800, r5
@@ -394,11 +394,11 @@ at 7 dma 0
 #point 7 event 00001020 00000000 001F2002
 #g 15=3000
 #l 1=3040 2=1004 4=4 5=2800 6=3010
-#point 8 end 00001028 00000000 001F2002
-#g 0=11223344 15=3000
+#point 9 end 00001030 00000000 001F2002
+#g 0=11223344 1=- 15=3000
 #l 1=3040 2=1004 4=4 5=2800 6=3010
-#end hazard 00003014
-status 4
+#end limit
+status 0
 == A device gives a whole unit of four where one byte is left: the first of them is moved, and the channel ends.
         mov   1, r4
         lda   0x2800, r5
@@ -648,7 +648,7 @@ const EVENTS: &str = "
 == before it.
         call  f
 f:      muli  3, 4, g2
-        ld    16(pfp), g4       # in the caller's frame
+        st    g4, 16(pfp)       # in the caller's frame
 turn 10 show 100 1
 run 9
 at 2 show 00000100 1
@@ -669,11 +669,28 @@ run 9
 #l 1=80
 #end hazard 00000010
 status 4
-== Events of the count where a hazard ends the run come before it: a show reads what the load may not. The one of the
-== next count does not come.
+== A load from there waits for nothing, and the refused word behind it waits for the multiplication: the event of turn
+== 10 comes before that word, whose entry of the fault table is in the frame.
+        call  f
+f:      muli  3, 4, g2
+        ld    16(pfp), g4
+turn 10 show 100 1
+run 9
+at 3 show 00000100 1
+#mem 00000100 00
+#point 3 event 0000100C 00000000 001F2002
+#g 2=C 4=- 15=40
+#l 1=80
+#point 4 end 00001010 00000000 001F2002
+#g 2=C 4=- 15=40
+#l 1=80
+#end hazard 00000010
+status 4
+== Events of the count where a hazard ends the run come before it: a show reads where the store may not write. The one
+== of the next count does not come.
         mov   5, r4
         call  f
-f:      ld    16(pfp), g4
+f:      st    g4, 16(pfp)
 at 2 pin 7
 at 2 dma 3
 at 2 show 10 4
@@ -767,6 +784,6 @@ fn events_beside_an_imprecise_fault(rt: HostRuntime) -> Result<(), Fail> {
 
 #[test]
 fn events_beside_a_hazard(rt: HostRuntime) -> Result<(), Fail> {
-    assert_eq!(rt; held(rt.alloc(), &[BOOT], EVENTS)?, 3);
+    assert_eq!(rt; held(rt.alloc(), &[BOOT], EVENTS)?, 4);
     Ok(())
 }

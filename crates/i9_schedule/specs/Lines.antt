@@ -1,5 +1,5 @@
--- What a word says as a time; and what was said after a line, as a function of what was said before it, which counts only
--- where the line has no fault.
+-- What a word says as a time; and what was said after a line, as a function of what was said before it, which counts
+-- only where the line has no fault.
 use Rattle.std.specs.Prelude.{ℕ, List, Option, Some, Result, Ok, Err}
 use Rattle.i9_model.specs.ScheduleText.{SoFar, with_event, count_time, turn_time, line_of}
 use Rattle.i9_model.specs.declared.event.When.{When}

@@ -1,7 +1,7 @@
 //! What a line says, and whether it may follow the lines before it.
 ghost use Rattle.std.specs.Prelude.{◌≡◌};
 ghost use Rattle.i9_text.specs.Text.{words_of};
-ghost use Rattle.i9_model.specs.ScheduleText.{timed_by, timed_of, opening_of, said_of, line_of, order_fault, fault_after};
+ghost use Rattle.i9_model.specs.ScheduleText.{timed_by, timed_of, opening_of, line_of, order_fault, fault_after};
 ghost use Rattle.i9_schedule.specs.Lines.{time_by};
 
 use crate::error::{

@@ -1,18 +1,20 @@
 -- What storage keeps true of its memory, its frames and its sets.
 use Rattle.std.proofs.Common.{◌≡◌, ℕ, ◌-◌, Bool, true, false, cond, ltb, zero, suc, List, [], ◌∷◌, ◌++◌, length, take, None, refl, sym, ap, ◌∙◌, subst}
-use Rattle.i9_model.specs.declared.layout.TheConstants.{LOCALS, FRAME_SIZE}
+use Rattle.i9_model.specs.declared.layout.TheConstants.{LOCALS, FRAME_SIZE, RIP}
 use Rattle.i9_model.specs.declared.frame.Frame.{Frame}
 use Rattle.i9_model.specs.Memory as model
 use Rattle.i9_model.specs.Memory.{with_writes, with_words}
 use Rattle.i9_model.specs.State.{Frames}
-use Rattle.i9_model.specs.Frames.{no_frames, saved, returned, flushed, wrote, wrote_run}
-use Rattle.i9_model.specs.Writes.{upwards}
+use Rattle.i9_isa.specs.Words.{bit}
+use Rattle.i9_model.specs.Frames.{no_frames, saved, with_marked, returned, flushed, wrote, wrote_run, softened}
+use Rattle.i9_model.specs.Stale.{picked, byte_marks}
+use Rattle.i9_model.specs.Writes.{wrapped, upwards}
 use Rattle.i9_model.specs.Hazards.{write_hazard, writes_hazard, save_hazard}
 use Rattle.i9_model.specs.Sound.{IsSound}
 use Rattle.i9_model.specs.Step.{Saves}
 use Rattle.i9_model.specs.Alike.{is_compared, AgreeWhere}
 use Rattle.i9_model.specs.HeldFrames.{Cache, over, overlaid, spilled, with_room, holding, taken, written_back, AreYoungest}
-use Rattle.i9_model.proofs.FrameLaws.{sound-none, sound-saved, sound-returned, sound-flushed, sound-wrote}
+use Rattle.i9_model.proofs.FrameLaws.{sound-none, sound-returned, sound-flushed, sound-wrote, sound-softened}
 use Rattle.i9_model.proofs.Runs.{writes_hazard-upwards, wrote-upwards}
 use Rattle.i9_model.proofs.Overlays.{overlaid_holding, over_stored}
 use Rattle.i9_model.proofs.HeldFrames.{write_beside, return_keeps, move_keeps, taken_alike}
@@ -22,7 +24,9 @@ use Rattle.i9_watch.specs.declared.watch.Watch.{Watch}
 use Rattle.i9_watch.specs.Watch.{frames_of}
 use Rattle.i9_frames.specs.Sets.{Held, held}
 use Rattle.i9_storage.specs.Kept.{cache_in, HaveRoom, IsKept}
+use Rattle.i9_watch.specs.Bits.{bits_of}
 use Rattle.i9_storage.proofs.HeldRooms.{kept_room}
+use Rattle.i9_storage.proofs.Saves.{sound-save}
 
 -- frames after a step are kept, from what holds of them
 kept_by : (m k : Behind) (w v : Watch) (h g : Held) (f : Frames) → frames_of v ≡ f → IsSound f → AreYoungest g.frames f.live → HaveRoom k g.frames → IsKept k v g
@@ -47,9 +51,9 @@ kept_copy m k w v h g kept keeps is same =
 
 -- ---- stores
 
-pub kept_store : (m k : Behind) (w v : Watch) (h : Held) (ps : List (ℕ × ℕ)) → IsKept m w h → KeepsRoomIn m k → frames_of v ≡ wrote (frames_of w) ps → writes_hazard (frames_of w) ps ≡ None → IsKept k v h
-kept_store m k w v h ps kept keeps is free =
-    kept_by m k w v h h (wrote (frames_of w) ps) is (sound-wrote (frames_of w) ps kept.sound free) kept.youngest (kept_room m k h.frames keeps kept.room)
+pub kept_store : (m k : Behind) (w v : Watch) (h : Held) (ps : List (ℕ × ℕ)) (stale : List ℕ) → IsKept m w h → KeepsRoomIn m k → frames_of v ≡ softened (wrote (frames_of w) ps) stale → writes_hazard (frames_of w) ps ≡ None → IsKept k v h
+kept_store m k w v h ps stale kept keeps is free =
+    kept_by m k w v h h (softened (wrote (frames_of w) ps) stale) is (sound-softened (wrote (frames_of w) ps) stale (sound-wrote (frames_of w) ps kept.sound free)) kept.youngest (kept_room m k h.frames keeps kept.room)
 
 pub store_laid : (m k : Behind) (w : Watch) (h : Held) (ps : List (ℕ × ℕ)) → IsKept m w h → writes_hazard (frames_of w) ps ≡ None → settled k ≡ with_writes (settled m) ps → overlaid (cache_in k h) ≡ with_writes (overlaid (cache_in m h)) ps
 store_laid m k w h ps kept free is =
@@ -62,8 +66,8 @@ run_free f a bs none = writes_hazard-upwards f a bs ∙ none
 pub ruleset run_rules = (run_free)
 
 -- a run of bytes that is marked is writes that are
-pub run_wrote : (f g : Frames) (a : ℕ) (bs : List ℕ) → g ≡ wrote_run f a (length bs) → g ≡ wrote f (upwards a bs)
-run_wrote f g a bs is = is ∙ sym (wrote-upwards f a bs)
+pub run_wrote : (f g : Frames) (a : ℕ) (bs stale : List ℕ) → g ≡ softened (wrote_run f a (length bs)) stale → g ≡ softened (wrote f (upwards a bs)) stale
+run_wrote f g a bs stale is = is ∙ ap (λ (x : Frames). softened x stale) (sym (wrote-upwards f a bs))
 
 -- ---- saves
 
@@ -79,13 +83,13 @@ room_by : (m : Behind) (t : Bool) (c : Cache) → HaveRoom m c.held → HaveRoom
 room_by m true c all = all
 room_by m false c all = room_spilled m c.held c.behind all
 
-pub kept_save : (m k : Behind) (w v : Watch) (h g : Held) (f : Frame) → IsKept m w h → KeepsRoomIn m k → frames_of v ≡ saved (frames_of w) f.address → save_hazard (frames_of w) f.address ≡ None
+pub kept_save : (m k : Behind) (w v : Watch) (h g : Held) (f : Frame) (marks : ℕ) → IsKept m w h → KeepsRoomIn m k → frames_of v ≡ with_marked (saved (frames_of w) f.address) (picked wrapped f.address (byte_marks (bits_of marks 16))) → bit marks RIP ≡ false → save_hazard (frames_of w) f.address ≡ None
     → cache_in k g ≡ holding h.size f (cache_in m h) → length f.words ≡ LOCALS → HasRoomIn m f.address FRAME_SIZE → IsKept k v g
-kept_save m k w v h g f kept keeps is free held whole room =
+kept_save m k w v h g f marks kept keeps is known free held whole room =
     let c = cache_in m h in
     let frames : g.frames ≡ (holding h.size f c).held = ap (λ (d : Cache). d.held) held in
     let all = kept_room m k (holding h.size f c).held keeps (room_push m (with_room h.size c).held f (room_by m (ltb (length h.frames) h.size) c kept.room) room) in
-    kept_by m k w v h g (saved (frames_of w) f.address) is (sound-saved (frames_of w) f.address kept.sound free)
+    kept_by m k w v h g (with_marked (saved (frames_of w) f.address) (picked wrapped f.address (byte_marks (bits_of marks 16)))) is (sound-save (frames_of w) marks f.address f.words kept.sound free known)
     (subst (λ (fs : List Frame). AreYoungest fs (f.address ∷ (frames_of w).live)) (sym frames) (move_keeps h.size (Saves f.address f.words) c (frames_of w) whole kept.youngest))
     (subst (HaveRoom k) (sym frames) all)
 

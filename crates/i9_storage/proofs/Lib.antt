@@ -7,3 +7,5 @@ pub mod Configured
 pub mod Regions
 pub mod Known
 pub mod Youngest
+pub mod Saves
+pub mod Legible

@@ -1,5 +1,5 @@
 -- What is planned by reads that meet no hazard is planned by the memory behind the held frames, as it is lent.
-use Rattle.std.proofs.Common.{◌≡◌, ℕ, ◌*◌, false, cond, List, Option, None, Some, Result, Ok, Err, sym, ap, ◌∙◌, subst, arith}
+use Rattle.std.proofs.Common.{◌≡◌, ℕ, ◌*◌, false, cond, List, Option, None, Some, Result, Ok, Err, refl, sym, ap, ◌∙◌, subst, arith}
 use Rattle.std.specs.Prelude.{not, IfOk}
 use Rattle.std.proofs.lemmas.Bool.{or_right}
 use Rattle.i9_model.specs.declared.faults.Fault.{Fault}
@@ -12,17 +12,21 @@ use Rattle.i9_model.specs.State.{Frames, Interrupts, Dma}
 use Rattle.i9_model.specs.Dma.{is_idle, unit_hazard, unit_bytes}
 use Rattle.i9_model.specs.Hazards.{or_else, unless, read_hazard, save_hazard, record_write_hazard}
 use Rattle.i9_model.specs.Requests.{request_hazard, request_writes}
-use Rattle.i9_model.specs.Interrupts.{chosen_soft, clearing_writes, vector_place, interrupt_push, interrupt_record, record_writes, cleared_hazard, interrupt_hazard, interrupt_entry, planned_interrupt}
-use Rattle.i9_model.specs.Calls.{planned_calls, planned_ret}
-use Rattle.i9_model.specs.Faults.{planned_fault}
+use Rattle.i9_model.specs.Interrupts.{chosen_soft, clearing_writes, vector_place, interrupt_push, interrupt_record, record_writes, cleared_hazard, interrupt_hazard, interrupt_entry, planned_interrupt, planned_interrupt_by}
+use Rattle.i9_model.specs.Calls.{entry_address, is_switch, stack_hazard, system_hazard_by, planned_calls, planned_ret}
+use Rattle.i9_model.specs.Faults.{or_stop, table_entry, planned_fault}
+use Rattle.i9_model.specs.declared.faults.Handler.{Handler}
+use Rattle.i9_model.specs.declared.faults.Handler.TheVariants.{Local, System}
+use Rattle.i9_entry.specs.Switches.{system_switch}
+use Rattle.i9_faults.specs.Switches.{handler_switch, fault_switch}
 use Rattle.i9_model.specs.Alike.{is_beyond, is_hard, AgreeWhere, with_other}
 use Rattle.i9_model.specs.HeldFrames.{Cache, overlaid}
-use Rattle.i9_model.proofs.CallLaws.{second_none, unless_ok}
+use Rattle.i9_model.proofs.CallLaws.{first_none, second_none, unless_ok}
 use Rattle.i9_model.proofs.Overlays.{over_mcon}
 use Rattle.i9_model.proofs.HeldFrames.{hard_behind}
 use Rattle.i9_model.proofs.Readings.{half_same, word_same, read_same, words_same}
-use Rattle.i9_model.proofs.AlikeFetches.{unless_same, planned_calls_same, planned_ret_same, planned_fault_same}
-use Rattle.i9_model.proofs.AlikeActions.{request_same}
+use Rattle.i9_model.proofs.AlikeFetches.{unless_same, bind_same, handler_same, planned_calls_same, planned_ret_same, planned_fault_same}
+use Rattle.i9_model.proofs.AlikeActions.{system_hazard_by_same, request_same}
 use Rattle.i9_model.proofs.Units.{bytes_same}
 use Rattle.i9_model.proofs.AlikeInterrupts.{chosen_soft_same, planned_same, cleared_same}
 use Rattle.i9_queue.specs.declared.behind.Behind.{Behind}
@@ -87,6 +91,42 @@ fault_laid lent m w h table system fault pc ac fp sp is kept =
     ∙ sym (planned_fault_same f (settled m) (overlaid c).bytes table system fault pc ac fp sp (hard_behind c f kept.sound kept.youngest))
     ∙ ap (λ (x : model.Memory). planned_fault x f table system fault pc ac fp sp) (laid_other c)
 
+-- ---- whether stacks are switched
+
+system_switch_same : (f : Frames) (m : model.Memory) (bytes : ℕ → ℕ) (table n pc : ℕ) → AgreeWhere (is_hard f) m bytes → system_switch (with_other m bytes) f table n pc ≡ system_switch m f table n pc
+system_switch_same f m bytes table n pc same =
+    let at = entry_address table n in
+    let switched = λ (x : model.Memory). is_switch (word_in x at) pc in
+    ap (λ (h : Option ℕ). unless h (switched (with_other m bytes))) (system_hazard_by_same f m bytes table n pc (λ _. None) same)
+    ∙ unless_same (system_hazard_by m f table n pc (λ _. None)) (switched m) (switched (with_other m bytes)) (λ none.
+    ap (λ (w : ℕ). is_switch w pc) (word_same f m bytes at 4 same (first_none (read_hazard f at 4) (or_else (stack_hazard f table (switched m)) None) none) (omega arith)))
+
+handler_switch_same : (f : Frames) (m : model.Memory) (bytes : ℕ → ℕ) (system pc : ℕ) (h : Handler) → AgreeWhere (is_hard f) m bytes → handler_switch (with_other m bytes) f system pc h ≡ handler_switch m f system pc h
+handler_switch_same f m bytes system pc (Local target) same = refl
+handler_switch_same f m bytes system pc (System n) same = system_switch_same f m bytes system n pc same
+
+fault_switch_same : (f : Frames) (m : model.Memory) (bytes : ℕ → ℕ) (table system : ℕ) (fault : Fault) (pc : ℕ) → AgreeWhere (is_hard f) m bytes → fault_switch (with_other m bytes) f table system fault pc ≡ fault_switch m f table system fault pc
+unfolding fault_switch
+fault_switch_same f m bytes table system fault pc same =
+    bind_same _ _ _ _ (handler_same f m bytes (table_entry table fault.kind) same) (λ h. ap or_stop (handler_switch_same f m bytes system pc h same))
+
+pub system_switch_laid : (lent : model.Memory) (m : Behind) (w : Watch) (h : Held) (table n pc : ℕ) → lent ≡ settled m → IsKept m w h → system_switch lent (frames_of w) table n pc ≡ system_switch (overlaid (cache_in m h)) (frames_of w) table n pc
+system_switch_laid lent m w h table n pc is kept =
+    let c = cache_in m h in
+    let f = frames_of w in
+    ap (λ (x : model.Memory). system_switch x f table n pc) is
+    ∙ sym (system_switch_same f (settled m) (overlaid c).bytes table n pc (hard_behind c f kept.sound kept.youngest))
+    ∙ ap (λ (x : model.Memory). system_switch x f table n pc) (laid_other c)
+
+pub fault_switch_laid : (lent : model.Memory) (m : Behind) (w : Watch) (h : Held) (table system : ℕ) (fault : Fault) (pc : ℕ) → lent ≡ settled m → IsKept m w h
+    → fault_switch lent (frames_of w) table system fault pc ≡ fault_switch (overlaid (cache_in m h)) (frames_of w) table system fault pc
+fault_switch_laid lent m w h table system fault pc is kept =
+    let c = cache_in m h in
+    let f = frames_of w in
+    ap (λ (x : model.Memory). fault_switch x f table system fault pc) is
+    ∙ sym (fault_switch_same f (settled m) (overlaid c).bytes table system fault pc (hard_behind c f kept.sound kept.youngest))
+    ∙ ap (λ (x : model.Memory). fault_switch x f table system fault pc) (laid_other c)
+
 -- ---- interrupts
 
 pub chosen_laid : (lent : model.Memory) (m : Behind) (w : Watch) (h : Held) (i : Interrupts) (table pc : ℕ) → lent ≡ settled m → IsKept m w h → chosen_soft i lent (frames_of w) table pc ≡ chosen_soft i (overlaid (cache_in m h)) (frames_of w) table pc
@@ -108,7 +148,7 @@ interrupt_laid lent m w h table stack chosen pc ac fp sp is kept =
 
 -- what chose an interrupt whose entry is planned can be cleared
 planned_clears : (m : model.Memory) (f : Frames) (table stack : ℕ) (c : Chosen) (pc ac fp sp : ℕ) (e : Entry) → planned_interrupt m f table stack c pc ac fp sp ≡ Ok e → cleared_hazard m f table c e.push e.words ≡ None
-unfolding planned_interrupt interrupt_hazard
+unfolding planned_interrupt_by interrupt_hazard
 planned_clears m f table stack c pc ac fp sp e is =
     let push = interrupt_push stack pc fp sp in
     let words = interrupt_record c.vector pc ac in

@@ -1,5 +1,5 @@
 -- What storage stands for: memory with the held frames laid over it, and the frames that may be returned to.
-use Rattle.std.specs.Prelude.{◌≡◌, ℕ, ◌<◌, List, []}
+use Rattle.std.specs.Prelude.{◌≡◌, ℕ, ◌<◌, if◌then◌else◌, List, [], ◌∷◌}
 use Rattle.i9_model.specs.declared.layout.TheConstants.{FRAME_SIZE}
 use Rattle.i9_model.specs.Memory.{Memory}
 use Rattle.i9_model.specs.State.{Frames}
@@ -8,7 +8,7 @@ use Rattle.i9_model.specs.Late.{Wait}
 use Rattle.i9_memory.specs.declared.memory.Memory.{Memory as Kept}
 use Rattle.i9_memory.specs.Memory.{KeepsRoom}
 use Rattle.i9_queue.specs.Behind.{acted, waiting_of, HasRoomIn, KeepsRoomIn, AddsRoomOnlyIn}
-use Rattle.i9_watch.specs.Watch.{frames_of, spare_of, HasFrameMarks, HasNoMarks, KeepsMarks, AddsMarksOnly}
+use Rattle.i9_watch.specs.Watch.{frames_of, spare_of, HasRunMarks, HasFrameMarks, HasNoMarks, KeepsMarks, AddsMarksOnly}
 use Rattle.i9_storage.specs.declared.storage.Storage.{Storage}
 use Rattle.i9_storage.specs.Kept.{cache_in}
 
@@ -23,6 +23,15 @@ memory_in s = overlaid (cache_of s)
 -- soft bytes and live frames
 abbrev pub frames_in : Storage → Frames
 frames_in s = frames_of s.watch
+
+-- memory as a load finds it: a soft byte is 0
+abbrev pub legible_in : Storage → Memory
+legible_in s = record (memory_in s) { bytes = λ x. if (frames_in s).soft x then 0 else (memory_in s).bytes x }
+
+-- memory as a return finds it, by the live frames: what was stored, or where none is live what a load finds
+abbrev pub left_in : List ℕ → Storage → Memory
+left_in [] s = legible_in s
+left_in (f ∷ live) s = memory_in s
 
 -- how many frames can be held
 abbrev pub size_of : Storage → ℕ
@@ -44,6 +53,10 @@ IsDrained s = waiting_in s ≡ []
 abbrev pub HasSpace : Storage → ℕ → ℕ → Type 0
 HasSpace s a n = HasRoomIn s.behind a n
 
+-- so many bytes from an address up can be made soft
+abbrev pub HasSoftSpace : Storage → ℕ → ℕ → Type 0
+HasSoftSpace s a n = HasRunMarks s.watch a n
+
 -- a frame can be saved at an address
 pub record HasFrameSpace (s : Storage) (a : ℕ) : Type 0 where
   pub bytes : HasRoomIn s.behind a FRAME_SIZE
@@ -53,6 +66,10 @@ pub record HasFrameSpace (s : Storage) (a : ℕ) : Type 0 where
 -- where a frame could be saved one still can be
 abbrev pub KeepsFrameSpace : Storage → Storage → Type 0
 KeepsFrameSpace old new = (a : ℕ) → HasFrameSpace old a → HasFrameSpace new a
+
+-- what could be made soft still can be
+abbrev pub KeepsSoftSpace : Storage → Storage → Type 0
+KeepsSoftSpace old new = KeepsMarks old.watch new.watch
 
 -- what could be stored still can be
 abbrev pub KeepsSpace : Storage → Storage → Type 0
@@ -73,7 +90,12 @@ pub record AddsBytesOnly (old new : Storage) (a n : ℕ) : Type 0 where
 -- and here one of the bytes of a frame, or of their marks
 pub record AddsFrameOnly (old new : Storage) (a : ℕ) : Type 0 where
   pub bytes : AddsRoomOnlyIn old.behind new.behind a FRAME_SIZE
-  pub marks : AddsMarksOnly old.watch new.watch a
+  pub marks : AddsMarksOnly old.watch new.watch a FRAME_SIZE
+
+-- and here one of the marks of n bytes from an address up
+pub record AddsSoftOnly (old new : Storage) (a n : ℕ) : Type 0 where
+  pub bytes : KeepsSpace new old
+  pub marks : AddsMarksOnly old.watch new.watch a n
 
 -- the pages of a memory alone are there
 pub record HasPagesOf (memory : Kept) (s : Storage) : Type 0 where

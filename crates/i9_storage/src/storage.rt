@@ -1,10 +1,13 @@
 //! Memory, the requests that wait to be stored in it, and the frames that are held in place of it.
-ghost use Rattle.std.specs.Prelude.{◌≡◌, ◌+◌, ◌-◌, ◌%◌, ◌^◌, ◌<◌, ◌≤◌, ◌↔◌, ◌∷◌, ◌++◌, [], length, take};
+ghost use Rattle.std.specs.Prelude.{◌≡◌, ◌≢◌, false, ◌+◌, ◌-◌, ◌%◌, ◌^◌, ◌<◌, ◌≤◌, ◌↔◌, ◌∷◌, ◌++◌, [], length, take};
 ghost use Rattle.std.specs.Prelude.{IsTrue, None, Some, OnOk, OnErr, IfOk};
 ghost use Rattle.std.specs.List.{AllByRecursion};
 ghost use Rattle.i9_model.specs.Memory.{with_bytes, with_words, stored};
-ghost use Rattle.i9_model.specs.Frames.{no_frames, saved, returned, flushed, wrote};
-ghost use Rattle.i9_model.specs.Writes.{upwards};
+ghost use Rattle.i9_isa.specs.Words.{bit};
+ghost use Rattle.i9_model.specs.declared.layout.TheConstants.{RIP};
+ghost use Rattle.i9_model.specs.Frames.{no_frames, saved, with_marked, returned, flushed, wrote, wrote_run, softened};
+ghost use Rattle.i9_model.specs.Stale.{picked, byte_marks};
+ghost use Rattle.i9_model.specs.Writes.{wrapped, upwards};
 ghost use Rattle.i9_model.specs.Hazards.{writes_hazard, save_hazard};
 ghost use Rattle.i9_model.specs.Sound.{IsSound};
 ghost use Rattle.i9_model.specs.Alike.{is_compared, AgreeWhere};
@@ -12,7 +15,8 @@ ghost use Rattle.i9_model.specs.HeldFrames.{cache, AreYoungest, holding, taken, 
 ghost use Rattle.i9_model.specs.Late.{due_puts, left_waiting};
 ghost use Rattle.i9_memory.specs.Memory.{memory_of};
 ghost use Rattle.i9_queue.specs.Queue.{wait_in};
-ghost use Rattle.i9_watch.specs.Watch.{frames_of, KeepsMarks};
+ghost use Rattle.i9_watch.specs.Bits.{bits_of};
+ghost use Rattle.i9_watch.specs.Watch.{frames_of, HasRunMarks, KeepsMarks};
 ghost use Rattle.i9_frames.specs.Sets.{held};
 ghost use Rattle.i9_storage.specs.Kept.{IsKept, IsKept-prop};
 
@@ -51,18 +55,37 @@ pub struct Storage {
 /// Drops the youngest live frame, where one is live.
 #[tactic(auto, using(crate::proofs::FrameWords::return_rules))]
 fn drop_frame(watch: &mut Watch)
+    requires sound { IsSound (frames_of watch.old) }
     ensures frames { frames_of watch.new ≡ returned (frames_of watch.old) }
+    ensures keeps { KeepsMarks watch.old watch.new }
     ensures no_more { KeepsMarks watch.new watch.old }
 {
     if watch.first_live().is_some() {
-        watch.returned();
+        let _ = watch.returned();
+    }
+}
+
+/// Bytes were stored to: byte k is soft where bit k of `stale` is set, and elsewhere it is not.
+#[tactic(auto, using(crate::proofs::Saves::stale_rules))]
+fn mark_stored(watch: &mut Watch, a: u32, n: u32, stale: u16)
+    requires few { stale ≢ 0 → n ≤ 16 }
+    requires room { stale ≢ 0 → HasRunMarks watch.old a n }
+    ensures frames { frames_of watch.new ≡ softened (wrote_run (frames_of watch.old) a n) (picked wrapped a (bits_of stale n)) }
+    ensures keeps { KeepsMarks watch.old watch.new }
+    ensures no_more { KeepsMarks watch.new watch.old }
+{
+    // Few values are marked.
+    if stale == 0 {
+        watch.wrote(a, n);
+    } else {
+        watch.wrote_marked(a, n, stale);
     }
 }
 
 impl Storage {
     ghost use Rattle.i9_storage.specs.Storage.{cache_of, memory_in, frames_in, size_of, acted_in, waiting_in};
-    ghost use Rattle.i9_storage.specs.Storage.{IsDrained, HasSpace, HasFrameSpace, KeepsSpace, KeepsFrameSpace};
-    ghost use Rattle.i9_storage.specs.Storage.{AddsNone, AddsBytesOnly, AddsFrameOnly, HasPagesOf};
+    ghost use Rattle.i9_storage.specs.Storage.{IsDrained, HasSpace, HasSoftSpace, HasFrameSpace, KeepsSpace, KeepsSoftSpace, KeepsFrameSpace};
+    ghost use Rattle.i9_storage.specs.Storage.{AddsNone, AddsBytesOnly, AddsFrameOnly, AddsSoftOnly, HasPagesOf};
 
     /// Memory as it is, with `sets` sets. No frame is saved, and nothing waits.
     pub fn new(alloc: Global, memory: Memory, sets: u8) -> Result<Storage, NoMemory>
@@ -107,36 +130,43 @@ impl Storage {
         self.behind.is_drained()
     }
 
-    /// Stores bytes for which there is space, beside the live frames, where nothing waits.
-    pub fn store(&mut self, a: u32, bytes: &[u8])
+    /// Stores bytes for which there is space, beside the live frames, where nothing waits. Byte k is
+    /// soft then where bit k of `stale` is set.
+    pub fn store(&mut self, a: u32, bytes: &[u8], stale: u16)
         requires drained { IsDrained self.old }
         requires space { HasSpace self.old a (length bytes.now) }
         requires free { writes_hazard (frames_in self.old) (upwards a bytes.now) ≡ None }
         requires few { length bytes.now < 2 ^ 32 }
+        requires stale_few { stale ≢ 0 → length bytes.now ≤ 16 }
+        requires stale_space { stale ≢ 0 → HasSoftSpace self.old a (length bytes.now) }
         ensures cache { cache_of self.new ≡ cache_stored (upwards a bytes.now) (cache_of self.old) }
         ensures memory { memory_in self.new ≡ with_bytes (memory_in self.old) a bytes.now }
-        ensures frames { frames_in self.new ≡ wrote (frames_in self.old) (upwards a bytes.now) }
+        ensures frames { frames_in self.new ≡ softened (wrote (frames_in self.old) (upwards a bytes.now))
+            (picked wrapped a (bits_of stale (length bytes.now))) }
         ensures size { size_of self.new ≡ size_of self.old }
         ensures waiting { waiting_in self.new ≡ waiting_in self.old }
         ensures keeps { KeepsSpace self.old self.new }
         ensures no_more { AddsNone self.old self.new }
     {
         self.behind.store(a, bytes);
-        self.watch.wrote(a, bytes.len() as u32);
+        mark_stored(&mut self.watch, a, bytes.len() as u32, stale);
     }
 
     /// A request waits, behind the others and due no earlier. There is space for its bytes, beside the
-    /// live frames, and they are read from now on, though they go to memory later.
+    /// live frames, and they are read from now on, though they go to memory later. Byte k is soft
+    /// then where bit k of `stale` is set.
     #[inline(always)]
-    pub fn enqueue(&mut self, request: Request)
+    pub fn enqueue(&mut self, request: Request, stale: u16)
         requires few { length (waiting_in self.old) < 3 }
         requires order { AllByRecursion (λ w. w.due ≤ request.due) (waiting_in self.old) }
         requires space { HasSpace self.old request.address (length request.bytes.items) }
+        requires stale_space { stale ≢ 0 → HasSoftSpace self.old request.address (length request.bytes.items) }
         requires free { writes_hazard (frames_in self.old) (upwards request.address request.bytes.items) ≡ None }
         ensures cache { cache_of self.new
             ≡ cache_stored (upwards request.address request.bytes.items) (cache_of self.old) }
         ensures memory { memory_in self.new ≡ with_bytes (memory_in self.old) request.address request.bytes.items }
-        ensures frames { frames_in self.new ≡ wrote (frames_in self.old) (upwards request.address request.bytes.items) }
+        ensures frames { frames_in self.new ≡ softened (wrote (frames_in self.old) (upwards request.address request.bytes.items))
+            (picked wrapped request.address (bits_of stale (length request.bytes.items))) }
         ensures size { size_of self.new ≡ size_of self.old }
         ensures waiting { waiting_in self.new ≡ waiting_in self.old ++ wait_in request ∷ [] }
         ensures acted { acted_in self.new ≡ acted_in self.old }
@@ -146,7 +176,7 @@ impl Storage {
         let a = request.address;
         let n = request.bytes.len() as u32;
         self.behind.enqueue(request);
-        self.watch.wrote(a, n);
+        mark_stored(&mut self.watch, a, n, stale);
     }
 
     /// What is due by `turn` goes to memory. Nothing else changes.
@@ -161,28 +191,33 @@ impl Storage {
             ≡ stored (acted_in self.old).bytes (due_puts turn (waiting_in self.old)) }
         ensures keeps { KeepsSpace self.old self.new }
         ensures frame_space { KeepsFrameSpace self.old self.new }
+        ensures soft_space { KeepsSoftSpace self.old self.new }
         ensures no_more { AddsNone self.old self.new }
     {
         self.behind.land(turn);
     }
 
-    /// Saves a frame for which there is space. It is held, and goes to memory later; where all sets
-    /// are taken, the oldest held frame goes there now. Nothing waits.
-    pub fn save_frame(&mut self, f: Frame)
+    /// Saves a frame for which there is space, with the marks of its words; its return address has
+    /// none. It is held, and goes to memory later; where all sets are taken, the oldest held frame
+    /// goes there now. Nothing waits.
+    pub fn save_frame(&mut self, f: Frame, marks: u16)
         requires drained { IsDrained self.old }
         requires space { HasFrameSpace self.old f.address }
         requires free { save_hazard (frames_in self.old) f.address ≡ None }
         requires place { f.address % 16 ≡ 0 }
+        requires known { bit marks RIP ≡ false }
         ensures cache { cache_of self.new ≡ holding (size_of self.old) f (cache_of self.old) }
         ensures memory { memory_in self.new ≡ with_words (memory_in self.old) f.address f.words }
-        ensures frames { frames_in self.new ≡ saved (frames_in self.old) f.address }
+        ensures frames { frames_in self.new ≡ with_marked (saved (frames_in self.old) f.address)
+            (picked wrapped f.address (byte_marks (bits_of marks 16))) }
         ensures size { size_of self.new ≡ size_of self.old }
         ensures waiting { waiting_in self.new ≡ waiting_in self.old }
         ensures keeps { KeepsSpace self.old self.new }
+        ensures soft_space { KeepsSoftSpace self.old self.new }
         ensures no_more { AddsNone self.old self.new }
     {
         hold(&mut self.behind, &mut self.sets, f);
-        self.watch.called(f.address);
+        self.watch.called(f.address, marks);
     }
 
     /// The youngest live frame, where one is live, is returned to. It is held no more, and what is
@@ -195,6 +230,7 @@ impl Storage {
         ensures waiting { waiting_in self.new ≡ waiting_in self.old }
         ensures acted { acted_in self.new ≡ acted_in self.old }
         ensures keeps { KeepsSpace self.old self.new }
+        ensures soft_space { KeepsSoftSpace self.old self.new }
         ensures no_more { AddsNone self.old self.new }
     {
         let _ = self.sets.pop();
@@ -210,6 +246,7 @@ impl Storage {
         ensures size { size_of self.new ≡ size_of self.old }
         ensures waiting { waiting_in self.new ≡ waiting_in self.old }
         ensures keeps { KeepsSpace self.old self.new }
+        ensures soft_space { KeepsSoftSpace self.old self.new }
         ensures no_more { AddsNone self.old self.new }
     {
         write_back(&mut self.behind, &mut self.sets);
@@ -223,6 +260,7 @@ impl Storage {
         ensures frames { frames_in self.new ≡ frames_in self.old }
         ensures space { OnOk result (HasSpace self.new a n) }
         ensures frame_space { KeepsFrameSpace self.old self.new }
+        ensures soft_space { KeepsSoftSpace self.old self.new }
         ensures needed { OnErr result (0 < n) }
         ensures lacking { OnErr result (HasSpace self.old a n → ⊥) }
         ensures still_lacking { OnErr result (HasSpace self.new a n → ⊥) }
@@ -248,10 +286,31 @@ impl Storage {
         ensures waiting { waiting_in self.new ≡ waiting_in self.old }
         ensures acted { acted_in self.new ≡ acted_in self.old }
         ensures keeps { KeepsSpace self.old self.new }
+        ensures soft_space { KeepsSoftSpace self.old self.new }
         ensures only { AddsFrameOnly self.old self.new a }
     {
         self.behind.reserve(a, FRAME_SIZE)?;
         self.watch.reserve(a)
+    }
+
+    /// Makes space for the soft marks of `n` bytes from `a` up, and for no others but those of their
+    /// pages. Memory is refused only where space is lacking.
+    pub fn reserve_soft(&mut self, a: u32, n: u32) -> Result<(), NoMemory>
+        requires few { n ≤ 16 }
+        ensures cache { cache_of self.new ≡ cache_of self.old }
+        ensures frames { frames_in self.new ≡ frames_in self.old }
+        ensures space { OnOk result (HasSoftSpace self.new a n) }
+        ensures frame_space { KeepsFrameSpace self.old self.new }
+        ensures soft_space { KeepsSoftSpace self.old self.new }
+        ensures lacking { OnErr result (HasSoftSpace self.old a n → ⊥) }
+        ensures still_lacking { OnErr result (HasSoftSpace self.new a n → ⊥) }
+        ensures size { size_of self.new ≡ size_of self.old }
+        ensures waiting { waiting_in self.new ≡ waiting_in self.old }
+        ensures acted { acted_in self.new ≡ acted_in self.old }
+        ensures keeps { KeepsSpace self.old self.new }
+        ensures only { AddsSoftOnly self.old self.new a n }
+    {
+        self.watch.reserve_bytes(a, n)
     }
 
     /// New sets, which hold nothing, take the place of the others, which hold nothing either.

@@ -1,6 +1,6 @@
 //! Calls and returns, worked out by hand.
 use crate::rows::{columns, hex_words, named};
-use crate::storage::{live, put_bytes, put_words};
+use crate::storage::{left, live, put_bytes, put_words, save};
 use crate::told::{Told, add, call_text, pop_text, sys_text};
 use i9_calls::{Pop, Sys, plan_call, plan_calls, plan_ret};
 use i9_memory::Memory;
@@ -52,6 +52,8 @@ fn does(alloc: Global, scene: &mut Scene, step: &str) -> Result<(), Fail> {
         ("bytes", [a, bytes @ ..]) => put_bytes(&mut scene.memory, *a, bytes)?,
         ("unsaved", []) => scene.watch = Watch::new(alloc),
         ("live", frames) => live(&mut scene.watch, frames)?,
+        ("left", frames) => left(&mut scene.watch, frames)?,
+        ("marked", &[fp, marks]) => save(&mut scene.watch, fp, u16::try_from(marks)?)?,
         ("wrote", &[a, n]) => scene.watch.wrote(a, n),
         _ => return Err("no such step".into()),
     }
@@ -62,7 +64,7 @@ fn does(alloc: Global, scene: &mut Scene, step: &str) -> Result<(), Fail> {
 fn return_by(memory: &Memory, watch: &mut Watch, pfp: u32, fp: u32, pc: u32) -> Result<Pop, u32> {
     let pop = plan_ret(memory, watch, pfp, fp, pc, 0)?;
     if pop.live {
-        watch.returned();
+        let _ = watch.returned();
     }
     Ok(pop)
 }
@@ -72,7 +74,7 @@ fn call(memory: &Memory, watch: &mut Watch, n: u32, pc: u32, fp: u32) -> Result<
     match plan_calls(memory, watch, 0xB00, n, pc, fp, fp.wrapping_add(64)) {
         Ok(sys) => {
             watch.reserve(sys.push.save)?;
-            watch.called(sys.push.save);
+            watch.called(sys.push.save, 0);
             Ok(sys)
         }
         Err(_) => Err("refused".into()),
@@ -161,10 +163,21 @@ unsaved, wrote 5040 0 | ret DFFFFFD0 5050 1F2002 0 | hazard E0000000 | no frame 
 unsaved, wrote 5040 0 | ret E0000FF0 5050 1F2002 0 | hazard E0000FF0
 ";
 
+/// Returns to frames with marked words, and to frames that were left: of these only the return address has to be known.
+const MARKED: &str = "\
+fresh, marked 3000 8013 | ret 3000 5050 1F2002 0 | 3000 1F2002 0 true false marks 8013
+, live 4000 | ret 4000 5050 1F2002 0 | 4000 1F2002 0 true false | the marks of an older frame stay its own
+unsaved, left 3000 | ret 3000 5050 1F2002 0 | hazard 3008
+, wrote 3008 3 | ret 3000 5050 1F2002 0 | hazard 300B
+, wrote 300B 1 | ret 3000 5050 1F2002 0 | 3000 1F2002 0 false false marks FFFB
+, wrote 3000 3B | ret 3000 5050 1F2002 0 | 3000 1F2002 0 false false marks C000 | a word with a soft byte is marked
+, wrote 303B 5 | ret 3000 5050 1F2002 0 | 3000 1F2002 0 false false
+";
+
 #[test]
 fn plans_calls(rt: HostRuntime) -> Result<(), Fail> {
     let mut scene = fresh(rt.alloc());
-    for row in CALLS.lines().chain(REFUSED.lines()) {
+    for row in CALLS.lines().chain(REFUSED.lines()).chain(MARKED.lines()) {
         let (steps, questions, wanted) = columns(row)?;
         let text = told(rt.alloc(), &mut scene, steps, questions)?;
         assert_eq!(rt; text.as_str(), wanted, "{row}");
@@ -195,8 +208,8 @@ live 4000 3000 | ret 3008 5050 1F2003 8001, ret 3008 5050 1F2001 8001 | \
  | ret 300D 5050 1F2003 8001, ret 300D 5050 1F2001 8001 | 3000 1F2003 8001 true false, 3000 1F2001 8001 true false
  | ret 300E 5050 1F2003 8001, ret 300E 5050 1F2001 8001 | 3000 1F2003 8001 true false, 3000 1F2001 8001 true false
  | ret 300F 5050 1F2003 8001, ret 300F 5050 1F2001 8001 | 3000 D2402 1005 true true, 3000 1F2001 1005 true true
-fresh, words FFFFFFF0 2000 8002, live 3000 | return 3001 F 2, return 3001 F 2 | 3000 2000 8002 true false, hazard 3000
-wrote 3000 40 | return 3001 F 2 | 3000 2000 8002 false false | the bytes of the frame may not be soft
+fresh, words FFFFFFF0 2000 8002, live 3000 | return 3001 F 2, return 3001 F 2 | 3000 2000 8002 true false, hazard 3008
+wrote 3000 40 | return 3001 F 2 | 3000 2000 8002 false false | the return address is known once it is stored
 table 5001 | enter 5 1F2000 3000, enter 103 1F2003 5000 | \
 1104 1F2003 true saves 3000 5000 3002 5040, 1100 1F2003 false saves 5000 5040 5000 5080
  | return 5000 5040 1F2003, return 3002 5000 1F2003 | 5000 1F2003 0 true false, 3000 1F2000 0 true false

@@ -2,7 +2,7 @@
 use crate::rows::{columns, hex_words, named};
 use crate::storage::{left, live, put_words};
 use crate::told::{Told, entry_text};
-use i9_faults::{Fault, plan_fault};
+use i9_faults::{Fault, fault_switches, plan_fault};
 use i9_memory::Memory;
 use i9_watch::Watch;
 use std::alloc::Global;
@@ -84,13 +84,19 @@ fn changes(alloc: Global, scene: &mut Scene, change: &str) -> Result<(), Fail> {
     Ok(())
 }
 
-/// What the entry of the fault makes in the scene of a row, where AC is 8000.
-fn told(alloc: Global, words: &str, scene_text: &str) -> Told {
+/// The scene of a row.
+fn scene_of(alloc: Global, words: &str, scene_text: &str) -> Result<Scene, Fail> {
     let mut scene = division(alloc);
     remembers(alloc, &mut scene, words)?;
     for change in scene_text.split(',') {
         changes(alloc, &mut scene, change)?;
     }
+    Ok(scene)
+}
+
+/// What the entry of the fault makes in the scene of a row, where AC is 8000.
+fn told(alloc: Global, words: &str, scene_text: &str) -> Told {
+    let scene = scene_of(alloc, words, scene_text)?;
     let planned = plan_fault(
         &scene.memory,
         &scene.watch,
@@ -170,6 +176,52 @@ record 1F2002 8000 30002 1000 | beside live frames, and beside the one that is s
 FFFFFFFC 16 | table FFFFFFE4 | dead 2 0 | the entry in it
 918 12 27F, 0 1200 | system FFFFFFC0 | 1200 1F2002 saves 3000 3050 3001 3090 record 1F2002 8000 30002 1000
 ";
+
+/// Whether stacks are switched, or what stops an entry before its push: neither the save area nor the record is looked
+/// at.
+const SWITCHES: &str = "\
+918 1100 FFFFFFFF                        | fp E0000000                      | false
+918 16 27F, B44 1200                     | pc 1                             | false
+918 16 27F, B44 1202, B0C 5008           | pc 1F2000, live 3020 5010        | true
+918 16 27F, B44 1202, B0C 5008           | pc 2, left B00                   | false
+918 16 27F, B44 1202, B0C 5008           | pc 1F2000, left B00              | hazard B0C
+918 16 27F, B44 1202, B0C 5008           | pc 1F2000, left B40 B00          | hazard B44
+918 16 27F, B44 1202, B0C 5008           | pc 1F2000, left 8E0 B40 B00      | hazard 918
+91C 1101                                 | table 904, left 920              | hazard 920
+918 1101 27F                             | fp E0000000                      | dead 1 918
+918 6 27E                                | fp E0000000                      | dead 2 91C
+918 412 27F                              | fp E0000000                      | dead 3 918
+";
+
+/// Whether the entry of the fault switches stacks in the scene of a row.
+fn switch_told(alloc: Global, words: &str, scene_text: &str) -> Told {
+    let scene = scene_of(alloc, words, scene_text)?;
+    let (memory, watch) = (&scene.memory, &scene.watch);
+    match fault_switches(
+        memory,
+        watch,
+        scene.table,
+        scene.system,
+        &scene.fault,
+        scene.pc,
+    ) {
+        Ok(is_switched) => Ok(format!(in alloc; "{is_switched}")?),
+        Err(stop) => entry_text(alloc, Err(stop)),
+    }
+}
+
+#[test]
+fn tells_switches_of_stacks(rt: HostRuntime) -> Result<(), Fail> {
+    for row in SWITCHES.lines() {
+        let (words, scene, wanted) = columns(row)?;
+        assert_eq!(rt;
+            switch_told(rt.alloc(), words, scene)?.as_str(),
+            wanted,
+            "{row}"
+        );
+    }
+    Ok(())
+}
 
 #[test]
 fn enters_handlers(rt: HostRuntime) -> Result<(), Fail> {

@@ -202,7 +202,7 @@ fn enter(
             memory.reserve(record, 16)?;
             memory.reserve(TABLE, 36)?;
             watch.reserve(entry.push.save)?;
-            watch.called(entry.push.save);
+            watch.called(entry.push.save, 0);
             memory.put_words(record, &entry.words);
             watch.wrote(record, 16);
             ints.take(memory, watch, TABLE, chosen);

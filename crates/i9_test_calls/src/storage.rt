@@ -25,12 +25,12 @@ pub(crate) fn put_bytes(memory: &mut Memory, a: u32, bytes: &[u32]) -> Result<()
     Ok(())
 }
 
-/// Saves the frame at a frame pointer.
-fn save(watch: &mut Watch, fp: u32) -> Result<(), Fail> {
+/// Saves the frame at a frame pointer, with the marks of its words.
+pub(crate) fn save(watch: &mut Watch, fp: u32, marks: u16) -> Result<(), Fail> {
     match watch.plan_push(fp, 0, 0, 0) {
         Ok(push) => {
             watch.reserve(push.save)?;
-            watch.called(push.save);
+            watch.called(push.save, marks);
             Ok(())
         }
         Err(_) => Err("a hazard".into()),
@@ -40,7 +40,7 @@ fn save(watch: &mut Watch, fp: u32) -> Result<(), Fail> {
 /// Saves frames, which are live.
 pub(crate) fn live(watch: &mut Watch, frames: &[u32]) -> Result<(), Fail> {
     for fp in frames {
-        save(watch, *fp)?;
+        save(watch, *fp, 0)?;
     }
     Ok(())
 }
@@ -48,9 +48,9 @@ pub(crate) fn live(watch: &mut Watch, frames: &[u32]) -> Result<(), Fail> {
 /// Saves frames and leaves each again, so that their bytes are soft.
 pub(crate) fn left(watch: &mut Watch, frames: &[u32]) -> Result<(), Fail> {
     for fp in frames {
-        save(watch, *fp)?;
+        save(watch, *fp, 0)?;
         if watch.first_live().is_some() {
-            watch.returned();
+            let _ = watch.returned();
         }
     }
     Ok(())

@@ -74,12 +74,17 @@ pub(crate) fn sys_text(alloc: Global, planned: Result<Sys, CallsStop>) -> Told {
     }
 }
 
-/// What a return makes: the frame, PC, AC, and whether the frame is live and the check flag is set.
+/// What a return makes: the frame, PC, AC, whether the frame is live and the check flag is set, and the marks of its
+/// words, where some are marked.
 pub(crate) fn pop_text(alloc: Global, planned: Result<Pop, u32>) -> Told {
     match planned {
         Ok(pop) => {
             let words = words_text(alloc, &[pop.frame, pop.pc, pop.ac])?;
-            Ok(format!(in alloc; "{words} {} {}", pop.live, pop.check)?)
+            let controls = format!(in alloc; "{words} {} {}", pop.live, pop.check)?;
+            if pop.marks == 0 {
+                return Ok(controls);
+            }
+            Ok(format!(in alloc; "{controls} marks {:X}", pop.marks)?)
         }
         Err(a) => hazard_text(alloc, a),
     }

@@ -40,6 +40,7 @@ fn shown() -> View
         pc: 0x001F_2002,
         tc: 0,
         regs,
+        marks: 0,
     }
 }
 

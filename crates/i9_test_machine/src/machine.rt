@@ -27,14 +27,16 @@ the length         | step | limit
 
 /// Ends, and how many instructions came before them. A word 0 is no instruction, whose fault's entry is at 10. Behind a
 /// division by 0, whose fault's entry is at 18, `addo 1, 2, g5`, `ld 0x100, g6` and `b 4` overtake it; `addo 1, g4, g5`
-/// waits for its quotient; `syncf`, a word that is refused, and one that reads a saved frame wait for all. That frame
-/// stands at 0, over the fault table.
+/// waits for its quotient; `syncf`, a word that is refused, and a store into a saved frame wait for all, and a load of that
+/// frame overtakes as any load does. The frame stands at 0, over the fault table.
 const ENDS: &str = "\
 the program above  | image 1000 8CA00041 8CA83000 E0000000 82A56000 5CA00E07 92A56004, run 100, end, count? | exit 7, 5
 just long enough   | run 5, end, count? | exit 7, 5
 too short by one   | run 4, end, count? | limit, 4
 of no length       | run 0, end, count? | limit, 0
-call f; f: ld 16(pfp), g4 | image 1000 9000004 90A02010, run 100, end, count? | hazard 10, 1
+call f; f: st g5, 16(pfp) | image 1000 9000004 92A82010, run 100, end, count? | hazard 10, 1
+call f; f: ld 16(pfp), g4 | image 1000 9000004 90A02010, run 2, end, count? | limit, 2
+a word 0 behind it | run 100, end, count? | hazard 10, 3
 a word 0, entry 1  | image 1000 0, put 10 1, run 100, end, count? | dead 1 10, 1
 entry 3            | image 1000 0, put 10 3, run 100, end, count? | dead 1 10, 1
 entry 2 27E        | image 1000 0, put 10 2 27E, run 100, end, count? | dead 2 14, 1
@@ -47,7 +49,8 @@ divo; b 4          | image 1000 70A11D80 8000004, put 18 1, run 100, end, count?
 divo; addo 1, g4, g5 | image 1000 70A11D80 59A85014, put 18 1, run 100, end, count? | dead 1 18, 1
 divo; syncf; addo  | image 1000 70A11D80 66000780 59A89801, put 18 1, run 100, end, count? | dead 1 18, 1
 divo; a word 0     | image 1000 70A11D80, put 18 1, run 100, end, count? | dead 1 18, 1
-call f; f: divo; ld 16(pfp), g4 | image 1000 9000004 70A11D80 90A02010, run 100, end, count? | hazard 18, 2
+call f; f: divo; st g5, 16(pfp) | image 1000 9000004 70A11D80 92A82010, run 100, end, count? | hazard 18, 2
+call f; f: divo; ld 16(pfp), g6 | image 1000 9000004 70A11D80 90B02010, run 100, end, count? | imprecise 1004, 2
 ";
 
 #[test]

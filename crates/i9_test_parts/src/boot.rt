@@ -128,12 +128,12 @@ fn watch(alloc: Global, frames: &[u32]) -> Result<Watch, Fail> {
         match watch.plan_push(*fp, 0, 0, 0) {
             Ok(push) => {
                 watch.reserve(push.save)?;
-                watch.called(push.save);
+                watch.called(push.save, 0);
             }
             Err(_) => return Err("a hazard".into()),
         }
         if watch.first_live().is_some() {
-            watch.returned();
+            let _ = watch.returned();
         }
     }
     Ok(watch)

@@ -2,7 +2,7 @@
 use crate::rows::{columns, hex_words};
 use i9_entry::{
     Push, Sys, enter_here, enter_system, in_supervisor_mode, read_word, record_write_hazard,
-    trace_enable, without_supervisor,
+    system_switches, trace_enable, without_supervisor,
 };
 use i9_memory::Memory;
 use i9_watch::Watch;
@@ -26,7 +26,7 @@ fn watch(alloc: Global, left: &[u32], live: &[u32]) -> Result<Watch, Fail> {
     for fp in left {
         save(&mut watch, *fp)?;
         if watch.first_live().is_some() {
-            watch.returned();
+            let _ = watch.returned();
         }
     }
     for fp in live {
@@ -40,7 +40,7 @@ fn save(watch: &mut Watch, fp: u32) -> Result<(), Fail> {
     match watch.plan_push(fp, 0, 0, 0) {
         Ok(push) => {
             watch.reserve(push.save)?;
-            watch.called(push.save);
+            watch.called(push.save, 0);
             Ok(())
         }
         Err(_) => Err("a hazard".into()),
@@ -201,12 +201,18 @@ B00, 0 1F2000     | hazard B30
 , 5 1F2000        | hazard 3010
 ";
 
-/// What an entry by the table makes where these frames were left.
-fn left_text(alloc: Global, memory: &Memory, given: &str) -> Result<String, Fail> {
+/// The frames and numbers of a row.
+fn scene(alloc: Global, given: &str) -> Result<(Watch, u32, u32), Fail> {
     let (left, numbers) = given.split_once(",").unwrap_or((given, ""));
     let left = hex_words(alloc, left)?;
     let watch = watch(alloc, left.as_slice(), &[0x3010])?;
     let (n, pc) = two_numbers(alloc, numbers)?;
+    Ok((watch, n, pc))
+}
+
+/// What an entry by the table makes where these frames were left.
+fn left_text(alloc: Global, memory: &Memory, given: &str) -> Result<String, Fail> {
+    let (watch, n, pc) = scene(alloc, given)?;
     let planned = enter_system(memory, &watch, 0xB00, n, pc, 0x3000, 0x3040, 0, 0, 2);
     entry_text(alloc, planned)
 }
@@ -217,6 +223,37 @@ fn meets_hazards_in_order(rt: HostRuntime) -> Result<(), Fail> {
     for row in HAZARDS.lines() {
         let (given, wanted) = columns(row)?;
         let text = left_text(rt.alloc(), &memory, given)?;
+        assert_eq!(rt; text.as_str(), wanted, "{row}");
+    }
+    Ok(())
+}
+
+/// The same, and whether stacks are switched: the live frame, over the save area, is not looked at.
+const SWITCHES: &str = "\
+, 5 1F2000        | true
+, 5 1F2002        | false
+, 0 1F2000        | false
+B40 B00, 5 1F2000 | hazard B44
+B00, 5 1F2000     | hazard B0C
+B00, 5 1F2002     | false
+B00, 0 1F2000     | hazard B30
+";
+
+/// Whether an entry by the table switches stacks where these frames were left.
+fn switch_text(alloc: Global, memory: &Memory, given: &str) -> Result<String, Fail> {
+    let (watch, n, pc) = scene(alloc, given)?;
+    match system_switches(memory, &watch, 0xB00, n, pc) {
+        Ok(is_switched) => Ok(format!(in alloc; "{is_switched}")?),
+        Err(a) => Ok(format!(in alloc; "hazard {a:X}")?),
+    }
+}
+
+#[test]
+fn tells_switches_of_stacks(rt: HostRuntime) -> Result<(), Fail> {
+    let memory = memory(rt.alloc(), &TABLE)?;
+    for row in SWITCHES.lines() {
+        let (given, wanted) = columns(row)?;
+        let text = switch_text(rt.alloc(), &memory, given)?;
         assert_eq!(rt; text.as_str(), wanted, "{row}");
     }
     Ok(())

@@ -2,45 +2,55 @@
 use i9_watch::Watch;
 use std::test::Fail;
 
-/// Saves the frame at a frame pointer.
-fn save(watch: &mut Watch, fp: u32) -> Result<(), Fail> {
+/// Saves the frame at a frame pointer, with the marks of its words.
+fn save(watch: &mut Watch, fp: u32, marks: u16) -> Result<(), Fail> {
     match watch.plan_push(fp, 0, 0, 0) {
         Ok(push) => {
             watch.reserve(push.save)?;
-            watch.called(push.save);
+            watch.called(push.save, marks);
             Ok(())
         }
         Err(_) => Err("a hazard".into()),
     }
 }
 
-// The frames at 40 and 80 are saved. Then the second is returned to, and one at D0, across the border of a page, is
-// saved in the copy. The columns are an address, whether its byte is soft, and whether it is one of a live frame.
+/// Whether a byte is soft, whether it is one of a live frame, and whether it is in a marked word of one.
+fn shown(watch: &Watch, address: u32) -> (bool, bool, bool) {
+    (
+        watch.soft(address),
+        watch.check_write(address, 1).is_some(),
+        watch.live_mark(address),
+    )
+}
+
+// The frames at 40 and 80 are saved, the second with its word 1 marked. Then the second is returned to, and one at D0,
+// across the border of a page, is saved in the copy. The columns are an address, and what is shown of it.
 #[test]
 fn copies_are_apart(rt: HostRuntime) -> Result<(), Fail> {
     let mut watch = Watch::new(rt.alloc());
-    save(&mut watch, 0x40)?;
-    save(&mut watch, 0x80)?;
+    save(&mut watch, 0x40, 0)?;
+    save(&mut watch, 0x80, 2)?;
     let mut copy = watch.copy()?;
     if watch.first_live().is_some() {
-        watch.returned();
+        let _ = watch.returned();
     }
-    save(&mut copy, 0xD0)?;
+    save(&mut copy, 0xD0, 0)?;
     let rows = [
-        (0x3F, (false, false), (false, false)),
-        (0x40, (true, true), (true, true)),
-        (0x80, (true, false), (true, true)),
-        (0xBF, (true, false), (true, true)),
-        (0xC0, (false, false), (false, false)),
-        (0xD0, (false, false), (true, true)),
-        (0x10F, (false, false), (true, true)),
-        (0x110, (false, false), (false, false)),
+        (0x3F, (false, false, false), (false, false, false)),
+        (0x40, (true, true, false), (true, true, false)),
+        (0x83, (true, false, false), (true, true, false)),
+        (0x84, (true, false, false), (true, true, true)),
+        (0x87, (true, false, false), (true, true, true)),
+        (0x88, (true, false, false), (true, true, false)),
+        (0xBF, (true, false, false), (true, true, false)),
+        (0xC0, (false, false, false), (false, false, false)),
+        (0xD0, (false, false, false), (true, true, false)),
+        (0x10F, (false, false, false), (true, true, false)),
+        (0x110, (false, false, false), (false, false, false)),
     ];
     for (address, marks, of_copy) in rows {
-        let shown = (watch.soft(address), watch.check_write(address, 1).is_some());
-        assert_eq!(rt; shown, marks, "{address:X}");
-        let shown = (copy.soft(address), copy.check_write(address, 1).is_some());
-        assert_eq!(rt; shown, of_copy, "{address:X} of the copy");
+        assert_eq!(rt; shown(&watch, address), marks, "{address:X}");
+        assert_eq!(rt; shown(&copy, address), of_copy, "{address:X} of the copy");
     }
     let live = [watch.live_at(0), watch.live_at(1), watch.live_at(2)];
     assert_eq!(rt; live, [Some(0x40), None, None]);

@@ -41,7 +41,6 @@ modpc in user mode               | 0 1F2000 1000 65A48292 0 | Modpc 65A48292 0: 
 sysctl by message 5              | 0 1F2002 1000 65A01493 0 | Sysctl 65A01493 0: fault 2 4
 calls past the table             | 0 1F2002 1000 66000015 0 | Calls 66000015 0: fault 7 2
 ld at 4001                       | 0 1F2002 1000 90A46000 0 | Ld 90A46000 0: fault 2 3
-ld of the live frame             | 0 1F2002 1000 90A42000 0 | meets 3010
 st to the live frame             | 0 1F2002 1000 92A42000 0 | meets 3010
 atadd of the live frame          | 0 1F2002 1000 61A05110 0 | meets 3010
 addi that overflows              | 0 1F2002 1000 59A48092 0 | Addi 59A48092 0: fault 3 1
@@ -83,7 +82,7 @@ fmark, not traced                | 0 1F2002 1000 66000600 0 | Fmark 66000600 0: 
 const MOVES: &str = "\
 call 0x1008       | 0 1F2002 1000 9000008 0  | Call 9000008 0: 0 1F2002 0 1008, saves 3040 3080 3040 30C0 back 1004
 calls 5           | 0 1F2002 1000 66000805 0 | Calls 66000805 0: 0 1F2002 0 1204, saves 3040 3080 3040 30C0 back 1004
-ret, whose rip is 9 | 0 1F2002 1000 A000000 0 | Ret A000000 0: 0 1F2002 0 8, returns 3000
+ret, whose rip is 9 | 0 1F2002 1000 A000000 0 | Ret A000000 0: 0 1F2002 0 8, returns 3000 0
 flushreg          | 0 1F2002 1000 66000680 0 | Flushreg 66000680 0: 0 1F2002 0 1004, flushes
 stl g4 at 4008    | 0 1F2002 1000 9AA76000 0 | Stl 9AA76000 0: 0 1F2002 0 1004, 4008 05 00 00 00 04 01 00 06
 sysctl 3          | 0 1F2002 1000 65DE8499 0 | Sysctl 65DE8499 0: 0 1F2002 0 1004, flushes, restarts 1234 3000

@@ -23,7 +23,6 @@ a word without an instruction   | 0 1F2002 1000 0 0        | waits
 ld at 4001                      | 0 1F2002 1000 90A46000 0 | waits
 mov of sf0 in user mode         | 0 1F2000 1000 5CA00620 0 | waits
 faulte where it is equal        | 2 1F2002 1000 1A000000 0 | waits
-ld of the live frame            | 0 1F2002 1000 90A42000 0 | waits
 st to the live frame            | 0 1F2002 1000 92A42000 0 | waits
 a first word in the live frame  | 0 1F2002 3002 8CA83000 0 | waits
 a second word in the live frame | 0 1F2002 2FFC 8CA83000 0 | waits
@@ -35,6 +34,7 @@ mov 5, g4                | 0 1F2002 1000 5CA01E05 0 | Mov 5CA01E05 0: 0 1F2002 0
 addo 3, 4, g4            | 0 1F2002 1000 59A11803 0 | Addo 59A11803 0: 0 1F2002 0 1004, r20 7
 mov of sf1, which is 0   | 0 1F2002 1000 5CA00621 0 | Mov 5CA00621 0: 0 1F2002 0 1004, r20 0
 ld at 1110               | 0 1F2002 1000 90A72D0A 0 | Ld 90A72D0A 0: 0 1F2002 0 1004, r20 1300
+ld of the live frame     | 0 1F2002 1000 90A42000 0 | Ld 90A42000 0: 0 1F2002 0 1004, r20 --------
 ldq at 1110              | 0 1F2002 1000 B0A72D0A 0 | Ldq B0A72D0A 0: 0 1F2002 0 1004, r20 1300 0 1 0
 st g5 at 4008            | 0 1F2002 1000 92AF6000 0 | St 92AF6000 0: 0 1F2002 0 1004, 4008 04 01 00 06
 stob g4 to the console   | 0 1F2002 1000 82A03000 E0000000 | Stob 82A03000 E0000000: 0 1F2002 0 1008, E0000000 05
@@ -53,7 +53,7 @@ addi that overflows, traced | 0 1F2003 1000 59A48092 0 | Addi 59A48092 0: fault 
 ";
 
 /// What is planned while something is open.
-fn open_text(alloc: Global, p: &Processor) -> Result<String, Fail> {
+pub(crate) fn open_text(alloc: Global, p: &Processor) -> Result<String, Fail> {
     let mut memo = Memo::none(alloc);
     let mut effect = Effect::blank();
     match plan_open(p, &mut memo, &mut effect) {
@@ -80,10 +80,10 @@ fn plans_while_something_is_open(rt: HostRuntime) -> Result<(), Fail> {
 const READ: &str = "\
 flushreg             | 0 1F2002 1000 66000680 0 | true, then Flushreg 66000680 0: 0 1F2002 0 1004, flushes
 syncf                | 0 1F2002 1000 66000780 0 | true, then Syncf 66000780 0: 0 1F2002 0 1004
-ret                  | 0 1F2002 1000 A000000 0  | true, then Ret A000000 0: 0 1F2002 0 8, returns 3000
+ret                  | 0 1F2002 1000 A000000 0  | true, then Ret A000000 0: 0 1F2002 0 8, returns 3000 0
 no instruction       | 0 1F2002 1000 0 0        | false, then refused 2 1
 ld at 4001           | 0 1F2002 1000 90A46000 0 | false, then Ld 90A46000 0: fault 2 3
-ld of the live frame | 0 1F2002 1000 90A42000 0 | false, then meets 3010
+st to the live frame | 0 1F2002 1000 92A42000 0 | false, then meets 3010
 ";
 
 /// What is planned of what waits, once all is done, and whether it had been read.

@@ -129,18 +129,19 @@ pub(crate) fn saves(p: &mut Processor) -> Result<(), Fail>
     applies(p, &effect)
 }
 
-/// Sets a register of g0 to g14.
+/// Sets a register, which is marked or is not.
 #[tactic(auto, unfolding(i9_model::specs::Hazards::writes_hazard))]
-fn sets(p: &mut Processor, k: u8, value: u32) -> Result<(), Fail>
+pub(crate) fn sets(p: &mut Processor, r: u8, value: u32, marked: bool) -> Result<(), Fail>
     requires { IsDrained p.old }
     ensures { OnOk result (IsDrained p.new) }
 {
-    if k > 14 {
+    if r > 31 {
         return Err("no such register".into());
     }
     let mut effect = Effect::going(p, 0);
-    effect.register = 16 + k;
+    effect.register = r;
     effect.values.push(value);
+    effect.marks = u16::from(marked);
     applies(p, &effect)
 }
 
@@ -170,7 +171,7 @@ pub(crate) fn ready(
     let mut p = booted(alloc, at, program)?;
     saves(&mut p)?;
     for k in 0..15 {
-        sets(&mut p, k, GLOBALS[usize::from(k)])?;
+        sets(&mut p, 16 + k, GLOBALS[usize::from(k)], false)?;
     }
     goes(&mut p, ac, pc, at)?;
     Ok(p)

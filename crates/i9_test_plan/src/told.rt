@@ -1,4 +1,5 @@
-//! What is planned, as a text: what a plan leaves as it is is not told. Numbers are hexadecimal.
+//! What is planned, as a text: what a plan leaves as it is is not told. Numbers are hexadecimal, and what is marked is
+//! told as dashes.
 ghost use Rattle.i9_processor.specs.State.{IsDrained};
 
 use i9_model::Push;
@@ -13,8 +14,14 @@ fn values_text(alloc: Global, effect: &Effect) -> Result<String, Fail> {
     if !effect.values.is_empty() {
         text.push_str(&format!(in alloc; ", r{}", effect.register)?)?;
     }
+    let mut marks = effect.marks;
     for value in effect.values.iter() {
-        text.push_str(&format!(in alloc; " {value:X}")?)?;
+        if marks % 2 == 1 {
+            text.push_str(" --------")?;
+        } else {
+            text.push_str(&format!(in alloc; " {value:X}")?)?;
+        }
+        marks /= 2;
     }
     Ok(text)
 }
@@ -25,15 +32,22 @@ fn bytes_text(alloc: Global, effect: &Effect) -> Result<String, Fail> {
     if !effect.bytes.is_empty() {
         text.push_str(&format!(in alloc; ", {:X}", effect.address)?)?;
     }
+    let mut stale = effect.stale;
     for byte in effect.bytes.iter() {
-        text.push_str(&format!(in alloc; " {byte:02X}")?)?;
+        if stale % 2 == 1 {
+            text.push_str(" --")?;
+        } else {
+            text.push_str(&format!(in alloc; " {byte:02X}")?)?;
+        }
+        stale /= 2;
     }
     Ok(text)
 }
 
-/// What is done to frames: the save area, the new frame, its pfp and its sp, and the return address.
-fn frames_text(alloc: Global, frames: &Move) -> Result<String, Fail> {
-    match frames {
+/// What is done to frames: the save area, the new frame, its pfp and its sp, and the return address; or the frame that
+/// is returned to, with the set of its marked words.
+fn frames_text(alloc: Global, effect: &Effect) -> Result<String, Fail> {
+    match &effect.frames {
         Move::Stays => Ok(String::new(alloc)),
         Move::Saves { push, back } => {
             let Push {
@@ -44,7 +58,7 @@ fn frames_text(alloc: Global, frames: &Move) -> Result<String, Fail> {
             } = push;
             Ok(format!(in alloc; ", saves {save:X} {frame:X} {pfp:X} {sp:X} back {back:X}")?)
         }
-        Move::Returns(frame) => Ok(format!(in alloc; ", returns {frame:X}")?),
+        Move::Returns(frame) => Ok(format!(in alloc; ", returns {frame:X} {:X}", effect.marks)?),
         Move::Flushes => Ok(format!(in alloc; ", flushes")?),
     }
 }
@@ -95,7 +109,7 @@ pub(crate) fn effect_text(alloc: Global, effect: &Effect) -> Result<String, Fail
     )?;
     text.push_str(&values_text(alloc, effect)?)?;
     text.push_str(&bytes_text(alloc, effect)?)?;
-    text.push_str(&frames_text(alloc, &effect.frames)?)?;
+    text.push_str(&frames_text(alloc, effect)?)?;
     text.push_str(&control_text(alloc, effect.control)?)?;
     text.push_str(&asked_text(alloc, effect)?)?;
     Ok(text)

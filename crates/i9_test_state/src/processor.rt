@@ -12,11 +12,12 @@ use i9_processor::{Effect, Posting, Processor};
 use std::alloc::Global;
 use std::test::Fail;
 
-/// What a drained point shows: the count, the controls and the registers.
+/// What a drained point shows: the count, the controls, and the registers with their marks.
 fn view_text(alloc: Global, p: &Processor) -> Told {
     let v = p.view();
     let words = words_text(alloc, &[u32::try_from(v.count)?, v.ip, v.ac, v.pc, v.tc])?;
-    Ok(format!(in alloc; "{words} registers {}", words_text(alloc, &v.regs)?)?)
+    let regs = words_text(alloc, &v.regs)?;
+    Ok(format!(in alloc; "{words} registers {regs} marks {:X}", v.marks)?)
 }
 
 /// The words of the PRCB that the processor goes by, and the number of its sets.
@@ -93,6 +94,11 @@ fn port_text(alloc: Global, p: &Processor, address: u32) -> Told {
     Ok(format!(in alloc; "{byte} {word}")?)
 }
 
+/// Four words as a load finds them.
+fn legible_words_text(alloc: Global, p: &Processor, a: u32) -> Told {
+    words_text(alloc, &p.legible_words::<4>(a))
+}
+
 /// Four words, none of whose bytes is soft.
 fn hard_words_text(alloc: Global, p: &Processor, a: u32) -> Told {
     match p.check_read(a, 16) {
@@ -123,7 +129,10 @@ fn plan_answer(alloc: Global, p: &Processor, name: &str, numbers: &[u32]) -> Tol
         return Err("a request waits".into());
     }
     match (name, numbers) {
-        ("call", []) => push_text(alloc, &p.plan_call()?),
+        ("call", []) => match p.plan_call() {
+            Ok(push) => push_text(alloc, &push),
+            Err(a) => hazard_text(alloc, a),
+        },
         ("calls", &[n]) => sys_text(alloc, p.plan_calls(n)),
         ("ret", []) => pop_text(alloc, p.plan_ret()),
         ("fault", &[kind]) => {
@@ -142,11 +151,15 @@ fn plan_answer(alloc: Global, p: &Processor, name: &str, numbers: &[u32]) -> Tol
 fn memory_answer(alloc: Global, p: &Processor, name: &str, numbers: &[u32]) -> Told {
     match (name, numbers) {
         ("byte", &[a]) => hex_text(alloc, u32::from(p.byte(a))),
-        ("half", &[a]) => hex_text(alloc, u32::from(p.half(a))),
         ("word", &[a]) => hex_text(alloc, p.word(a)),
         ("hard_word", &[a]) => hard_word_text(alloc, p, a),
         ("hard_words", &[a]) => hard_words_text(alloc, p, a),
-        ("frame_word", &[a, k]) if k < 16 => hex_text(alloc, p.frame_word(a, k as u8)),
+        ("stale", &[a, n]) if n <= 16 => hex_text(alloc, u32::from(p.stale(a, n))),
+        ("legible_byte", &[a]) => hex_text(alloc, u32::from(p.legible_byte(a))),
+        ("legible_half", &[a]) => hex_text(alloc, u32::from(p.legible_half(a))),
+        ("legible_word", &[a]) => hex_text(alloc, p.legible_word(a)),
+        ("legible_words", &[a]) => legible_words_text(alloc, p, a),
+        ("left_word", &[a, k]) if k < 16 => hex_text(alloc, p.left_word(a, k as u8)),
         ("half_bytes", &[a, v]) => bytes_text(alloc, &p.half_bytes(a, u16::try_from(v)?)),
         ("word_bytes", &[a, v]) => bytes_text(alloc, &p.word_bytes(a, v)),
         _ => plan_answer(alloc, p, name, numbers),
@@ -196,6 +209,8 @@ fn answer(alloc: Global, p: &mut Processor, question: &str) -> Told {
         ("pc", []) => hex_text(alloc, p.pc()),
         ("tc", []) => hex_text(alloc, p.tc()),
         ("register", &[r]) => hex_text(alloc, p.register(u8::try_from(r)?)),
+        ("marks", []) => hex_text(alloc, p.marks()),
+        ("is_marked", &[r]) => Ok(format!(in alloc; "{}", p.is_marked(u8::try_from(r)?))?),
         ("register_above", &[r, k]) => {
             hex_text(alloc, p.register_above(u8::try_from(r)?, u8::try_from(k)?))
         }
@@ -222,20 +237,20 @@ fn answers(alloc: Global, p: &mut Processor, steps: &str, questions: &str) -> To
 const READS: &str = "\
 boots 0 | ip, ac, pc, tc, count, sets | 1234, 7, 1F2002, 23400FE, 0, 0 of 7
  | tables | 1100 3000 40000000 4440 5500 7771 7
- | view | 0 1234 7 1F2002 23400FE registers 0 77C0 0 0 0 0 0 0 0 0 0 0 0 0 0 0 0 0 0 0 0 0 0 0 0 0 0 0 0 0 0 7780
+ | view | 0 1234 7 1F2002 23400FE registers 0 77C0 0 0 0 0 0 0 0 0 0 0 0 0 0 0 0 0 0 0 0 0 0 0 0 0 0 0 0 0 0 7780 marks 0
  | register_above 1F 0, register_above 1 0, register_above 1E 1 | 7780, 77C0, 7780
  | register_above 1F 1, register_above FF FF, register 1F, register 20 | 0, 0, 7780, 0
  | sets_at 2000, sets_at 2100, sets_at 2200, sets_at 2300 | 7, F, 5, 5
- | byte 4000, half 4000, word 4000, hard_word 4000 | 21, 4321, 87654321, 87654321
- | byte 4002, half 4002, word 4002, hard_word 4002 | 65, 8765, 8765, 8765
- | byte 10004000, half 10004000, word 10004000, hard_word 10004000 | 21, 2143, 21436587, 21436587
- | byte E0000008, half E0000008, word E0000008, hard_word E0000008 | 0, 0, 0, 0
+ | byte 4000, legible_half 4000, word 4000, hard_word 4000 | 21, 4321, 87654321, 87654321
+ | byte 4002, legible_half 4002, word 4002, hard_word 4002 | 65, 8765, 8765, 8765
+ | byte 10004000, legible_half 10004000, word 10004000, hard_word 10004000 | 21, 2143, 21436587, 21436587
+ | byte E0000008, legible_half E0000008, word E0000008, hard_word E0000008 | 0, 0, 0, 0
  | hard_words 6000, regions | 11 12 13 14, 1
  | half_bytes FFFFFFF 1234, word_bytes FFFFFFF 12345678 | 34 12, 78 56 34 12
  | half_bytes 10000000 1234, word_bytes 10000000 12345678 | 12 34, 12 34 56 78
  | call | saves 7780 77C0 7780 7800
  | calls 5, calls 104 | 1204 1F2002 false saves 7780 77C0 7780 7800, no procedure
- | ret | 0 1F2002 7 false false
+ | ret | 0 1F2002 7 false false marks 0
  | fault 2 | 1300 1F2002 saves 7780 77D0 7781 7810 record 1F2002 7 20004 1234
  | fault 3 | dead 1 1118
  | port E0000000, port E0000001, port E0000005 | 1 8070605, none 7060504, none none
@@ -247,7 +262,7 @@ boots 400000 | port E0000000 | 1 5060708
 const FRAMES: &str = "\
 boots 0, saves 9 | count, ip, register 0, register 1, register 1F | 1, 1300, 7780, 7800, 77C0
  | check_read 777C 8, check_write 77BE 4, check_flushed_read 7780 40 | 7780, 77BE, none | soft, live and held
- | word 7788, frame_word 7780 2 | 9, 9
+ | word 7788, left_word 7780 2 | 9, 9
  | overlay 7788, overlay 4000, overlay E0000008 | 9, 21, 0
  | sets, held | 1 of 7 7780, 0 77C0 9 0 0 0 0 0 0 0 0 0 0 0 0 0
 returns 7780 | register 1, register 2, register 1F, count | 77C0, 9, 7780, 2 | its locals are there again
@@ -256,7 +271,7 @@ returns 7780 | register 1, register 2, register 1F, count | 77C0, 9, 7780, 2 | i
 stores 7780 7 8 | check_read 777C 40, overlay 7781, overlay 7782 | 7782, 8, none | until they are stored to
 saves 5, flushes | check_read 7780 40, overlay 7788, sets, ip | none, 5, 0 of 7, 1304 | live frames go to memory
 boots 0, sets 5 6 7 8, saves 9, restarts 1403 2100 | tables | 1500 6000 40000001 4450 5600 8881 F
- | view | 3 1400 9105 1F2002 FFE00FE registers 0 88D0 0 0 0 0 0 0 0 0 0 0 0 0 0 0 5 6 7 8 0 0 0 0 0 0 0 0 0 0 0 8890
+ | view | 3 1400 9105 1F2002 FFE00FE registers 0 88D0 0 0 0 0 0 0 0 0 0 0 0 0 0 0 5 6 7 8 0 0 0 0 0 0 0 0 0 0 0 8890 marks 0
  | breaks, regions | 11 12 13 14 31, 2 | the globals stay
  | sets, check_read 7780 40, word 7788 | 0 of F, none, 9 | the frame that was held is in memory
  | vectors | 12 22 32 | the interrupt maps are 21, 22 and 23
@@ -292,10 +307,31 @@ lands 5 | register 4, byte 4001, raw_register_4, is_drained | 7, 8, 7, false
 lands 6 | register 4, byte 4001, raw_register_4, is_drained | 7, 8, 7, true
 ";
 
+/// Marks of registers that are set, of a frame that is saved and returned to, and of bytes that are stored, which a
+/// load finds as 0. A push by a marked stack pointer or frame pointer is refused, but a dead entry comes before that.
+const MARKS: &str = "\
+boots 0, sets_marked 5 | marks, is_marked 10, is_marked 11, is_marked 12, is_marked 20 | 50000, true, false, true, false
+sets 5 6 7 8 | marks | 0
+boots 0, sets_one 5 77 1, sets_one 6 78 0 | marks, register 5 | 20, 77
+saves 9 | marks, overlay 7794, overlay 7797, overlay 7798 | 0, none, none, 78
+returns_marked 7780 20 | marks, register 5, register 6 | 20, 77, 78
+saves 9, flushes | marks, word 7794, legible_word 7794, overlay 7794 | 0, 77, 0, none
+sets_one 5 77 1, sets_marked 5, restarts 1403 2100 | marks, register 10 | 50000, 1 | the globals keep theirs
+boots 0, stores_marked 4000 11 22 1 | stale 4000 4, stale 3FFF 2, word 4000 | 1, 2, 87652211
+ | legible_byte 4000, legible_half 4000, legible_word 4000, left_word 4000 0 | 0, 2200, 87652200, 87652200
+ | legible_words 3FFC, hard_word 4000 | 0 87652200 0 0, hazard 4000
+stores 4000 33 44 | stale 4000 4, legible_word 4000 | 0, 87654433
+boots 0, sets_one 1 77C0 1 | call, calls 5, calls 104 | hazard 130C, hazard 130C, no procedure
+ | fault 2, fault 3 | hazard 130C, dead 1 1118
+sets_one 1 77C0 0, sets_one 1F 7780 1 | call, calls 5, fault 2 | hazard 130C, hazard 130C, hazard 130C
+sets_one 1F 7780 0 | call | saves 7780 77C0 7780 7800
+";
+
 #[test]
 fn answers_rows(rt: HostRuntime) -> Result<(), Fail> {
     let mut p = booted(rt.alloc(), 0)?;
-    for row in READS.lines().chain(FRAMES.lines()).chain(CHANGES.lines()) {
+    let rows = READS.lines().chain(FRAMES.lines());
+    for row in rows.chain(MARKS.lines()).chain(CHANGES.lines()) {
         let (steps, questions, wanted) = columns(row)?;
         // The steps of each row are done to a copy of what the rows before it left.
         p = p.copy(rt.alloc())?;

@@ -115,25 +115,27 @@ fn saves(p: &mut Processor, back: u32) -> Result<(), Fail> {
     applies(p, &effect, None)
 }
 
-/// Stores two bytes.
+/// Stores two bytes, of which byte k gets a mark where bit k is set.
 #[tactic(auto, unfolding(i9_model::specs::Hazards::writes_hazard, i9_model::specs::Hazards::write_hazard))]
-fn stores(p: &mut Processor, a: u32, bytes: (u8, u8)) -> Result<(), Fail> {
-    if p.check_write(a, 2).is_some() {
-        return Err("a hazard".into());
+fn stores(p: &mut Processor, a: u32, bytes: (u8, u8), stale: u16) -> Result<(), Fail> {
+    if stale > 3 || p.check_write(a, 2).is_some() {
+        return Err("no such marks, or a hazard".into());
     }
     let mut effect = Effect::blank();
     effect.go(p, 0x1308);
     effect.address = a;
     effect.bytes.push(bytes.0);
     effect.bytes.push(bytes.1);
+    effect.stale = stale;
     effect.plain = false;
     applies(p, &effect, None)
 }
 
-/// Returns to the youngest live frame, or flushes all of them.
+/// Returns to the youngest live frame, whose words have these marks, or flushes all of them.
 #[tactic(auto, unfolding(i9_model::specs::Hazards::writes_hazard))]
-fn leaves(p: &mut Processor, by: Move) -> Result<(), Fail> {
+fn leaves(p: &mut Processor, by: Move, marks: u16) -> Result<(), Fail> {
     let mut effect = Effect::going(p, 0x1304);
+    effect.marks = marks;
     match by {
         Move::Saves { .. } => return Err("a save".into()),
         other => effect.frames = other,
@@ -142,10 +144,24 @@ fn leaves(p: &mut Processor, by: Move) -> Result<(), Fail> {
     applies(p, &effect, None)
 }
 
-/// Sets g0 to g3.
+/// Sets g0 to g3, with these marks.
 #[tactic(auto, unfolding(i9_model::specs::Hazards::writes_hazard))]
-fn sets_four(p: &mut Processor, values: [u32; 4]) -> Result<(), Fail> {
-    let effect = Effect::setting(p, 0x130C, 16, ArrayVec::from(values));
+fn sets_four(p: &mut Processor, values: [u32; 4], marks: u16) -> Result<(), Fail> {
+    let mut effect = Effect::setting(p, 0x130C, 16, ArrayVec::from(values));
+    effect.marks = marks;
+    applies(p, &effect, None)
+}
+
+/// Sets a register, with this mark.
+#[tactic(auto, unfolding(i9_model::specs::Hazards::writes_hazard))]
+fn sets_one(p: &mut Processor, register: u8, value: u32, mark: u16) -> Result<(), Fail> {
+    if register > 31 {
+        return Err("no such register".into());
+    }
+    let mut values = ArrayVec::new();
+    values.push(value);
+    let mut effect = Effect::setting(p, 0x130C, register, values);
+    effect.marks = mark;
     applies(p, &effect, None)
 }
 
@@ -288,10 +304,23 @@ pub(crate) fn does(alloc: Global, p: &mut Processor, step: &str) -> Result<(), F
         ("", []) => {}
         ("boots", &[region]) => *p = booted(alloc, region)?,
         ("saves", &[back]) => saves(p, back)?,
-        ("returns", &[frame]) => leaves(p, Move::Returns(frame))?,
-        ("flushes", []) => leaves(p, Move::Flushes)?,
-        ("stores", &[a, one, other]) => stores(p, a, (u8::try_from(one)?, u8::try_from(other)?))?,
-        ("sets", &[g0, g1, g2, g3]) => sets_four(p, [g0, g1, g2, g3])?,
+        ("returns", &[frame]) => leaves(p, Move::Returns(frame), 0)?,
+        ("returns_marked", &[frame, marks]) => {
+            leaves(p, Move::Returns(frame), u16::try_from(marks)?)?;
+        }
+        ("flushes", []) => leaves(p, Move::Flushes, 0)?,
+        ("stores", &[a, one, other]) => {
+            stores(p, a, (u8::try_from(one)?, u8::try_from(other)?), 0)?;
+        }
+        ("stores_marked", &[a, one, other, stale]) => {
+            let bytes = (u8::try_from(one)?, u8::try_from(other)?);
+            stores(p, a, bytes, u16::try_from(stale)?)?;
+        }
+        ("sets", &[g0, g1, g2, g3]) => sets_four(p, [g0, g1, g2, g3], 0)?,
+        ("sets_marked", &[marks]) => sets_four(p, [1, 2, 3, 4], u16::try_from(marks)?)?,
+        ("sets_one", &[register, value, mark]) => {
+            sets_one(p, u8::try_from(register)?, value, u16::try_from(mark)?)?;
+        }
         ("restarts", &[first, prcb]) => restarts(alloc, p, first, prcb)?,
         ("loads", &[group]) => loads(p, u8::try_from(group)?)?,
         (_, numbers) => does_beside(p, name, numbers)?,

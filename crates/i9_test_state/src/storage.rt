@@ -2,7 +2,8 @@
 use crate::rows::{columns, hex_words, named};
 use crate::storage_steps::{does, drained, with_waiting};
 use crate::told::{
-    Told, add, entry_text, hazard_text, hex_text, pop_text, sets_text, sys_text, words_text,
+    Told, add, entry_text, hazard_text, hex_text, pop_text, sets_text, switch_text, sys_text,
+    words_text,
 };
 use i9_faults::{Fault, FaultStop};
 use i9_ints::{Chosen, Ints};
@@ -35,6 +36,11 @@ fn word_text(alloc: Global, storage: &Storage, a: u32) -> Told {
         return Err("a hard word is another one".into());
     }
     hex_text(alloc, word)
+}
+
+/// Four words as a load finds them.
+fn legible_words_text(alloc: Global, storage: &Storage, a: u32) -> Told {
+    words_text(alloc, &storage.legible_words::<4>(a))
 }
 
 /// Four words, none of whose bytes is soft.
@@ -89,6 +95,16 @@ fn call_answer(alloc: Global, storage: &Storage, name: &str, numbers: &[u32]) ->
     match (name, numbers) {
         ("calls", &[table, n, pc, fp, sp]) => {
             sys_text(alloc, storage.plan_calls(table, n, pc, fp, sp))
+        }
+        ("call_switches", &[table, n, pc]) => match storage.system_switches(table, n, pc) {
+            Ok(is_switched) => switch_text(alloc, is_switched),
+            Err(a) => hazard_text(alloc, a),
+        },
+        ("fault_switches", &[table, system, pc]) => {
+            match storage.fault_switches(table, system, &DIVISION, pc) {
+                Ok(is_switched) => switch_text(alloc, is_switched),
+                Err(stop) => entry_text(alloc, Err(stop)),
+            }
         }
         ("ret", &[pfp, fp, pc, ac]) => pop_text(alloc, storage.plan_ret(pfp, fp, pc, ac)),
         ("fault", &[table, system, pc, ac, fp, sp]) => {
@@ -160,11 +176,14 @@ fn reinit_text(alloc: Global, storage: &mut Storage, first: u32, prcb: u32) -> T
 fn memory_answer(alloc: Global, storage: &Storage, name: &str, numbers: &[u32]) -> Told {
     match (name, numbers) {
         ("byte", &[a]) => hex_text(alloc, u32::from(storage.byte(a))),
-        ("half", &[a]) => hex_text(alloc, u32::from(storage.half(a))),
         ("word", &[a]) => word_text(alloc, storage, a),
         ("hard_words", &[a]) => hard_words_text(alloc, storage, a),
-        ("frame_words", &[a]) => words_text(alloc, &storage.frame_words(a)),
-        ("frame_word", &[a, k]) if k < 16 => hex_text(alloc, storage.frame_word(a, k as u8)),
+        ("legible_byte", &[a]) => hex_text(alloc, u32::from(storage.legible_byte(a))),
+        ("legible_half", &[a]) => hex_text(alloc, u32::from(storage.legible_half(a))),
+        ("legible_word", &[a]) => hex_text(alloc, storage.legible_word(a)),
+        ("legible_words", &[a]) => legible_words_text(alloc, storage, a),
+        ("left_words", &[a]) => words_text(alloc, &storage.left_words(a)),
+        ("left_word", &[a, k]) if k < 16 => hex_text(alloc, storage.left_word(a, k as u8)),
         ("acted_byte", &[a]) => hex_text(alloc, u32::from(storage.acted_byte(a))),
         _ => interrupt_answer(alloc, storage, name, numbers),
     }
@@ -178,6 +197,7 @@ fn answer(alloc: Global, storage: &mut Storage, question: &str) -> Told {
         ("sets", []) => sets_text(alloc, storage.sets()),
         ("is_drained", []) => Ok(format!(in alloc; "{}", storage.is_drained())?),
         ("soft", &[a]) => Ok(format!(in alloc; "{}", storage.watch().soft(a))?),
+        ("lost", &[a]) => Ok(format!(in alloc; "{}", storage.watch().live_mark(a))?),
         ("big", &[region]) if region < 16 => {
             Ok(format!(in alloc; "{}", storage.big(region as u8))?)
         }
@@ -203,16 +223,16 @@ fn answers(alloc: Global, storage: &mut Storage, steps: &str, questions: &str) -
 const FRAMES: &str = "\
 zeros, save 1000 100, save 1040 200 | sets | 2 of 2 1040 1000
 save 1080 300 | sets | 2 of 2 1080 1040 | the oldest of three goes to memory
- | word 1000, word 103C, word 1040, byte 1085, half 10BC | 100, 10F, 200, 3, 30F
- | frame_words 1080 | 300 301 302 303 304 305 306 307 308 309 30A 30B 30C 30D 30E 30F | the youngest
- | frame_words 1000 | 100 101 102 103 104 105 106 107 108 109 10A 10B 10C 10D 10E 10F | in memory
- | frame_words 1020 | 108 109 10A 10B 10C 10D 10E 10F 200 201 202 203 204 205 206 207 | in part
- | frame_word 1080 2, frame_word 1000 F | 302, 10F
+ | word 1000, word 103C, word 1040, byte 1085 | 100, 10F, 200, 3
+ | left_words 1080 | 300 301 302 303 304 305 306 307 308 309 30A 30B 30C 30D 30E 30F | the youngest
+ | left_words 1000 | 100 101 102 103 104 105 106 107 108 109 10A 10B 10C 10D 10E 10F | in memory
+ | left_words 1020 | 108 109 10A 10B 10C 10D 10E 10F 200 201 202 203 204 205 206 207 | in part
+ | left_word 1080 2, left_word 1000 F | 302, 10F
  | word 107E | 3000000 | the last two bytes of a frame, and the first two of the next
 return | sets, word 1080, soft 1080 | 1 of 2 1040, 0, true | memory never gets it
 return | word 1040 | 0
-return | sets, word 1000, frame_word 1000 2, soft 1000 | 0 of 2, 100, 102, true
- | frame_words 1000 | 100 101 102 103 104 105 106 107 108 109 10A 10B 10C 10D 10E 10F
+return | sets, word 1000, left_word 1000 2, soft 1000 | 0 of 2, 100, 0, true
+ | left_words 1000 | 0 0 0 0 0 0 0 0 0 0 0 0 0 0 0 0 | where none is live, as a load
 zeros, save 1000 100, save 1040 200, save 1080 300, return, flush | sets | 0 of 2 | two are written
  | word 1000, word 107C, word 1080, soft 1000, soft 1080 | 100, 20F, 0, false, true
 zeros, save 1000 100, flush, save 1000 200 | word 1004 | 201 | it hides what memory has there
@@ -224,17 +244,35 @@ return | word 1040, word 1000 | 0, 200
 
 /// Stores beside the frames, whose bytes are soft no more, and region 1, which is big-endian, of memory and of frames.
 const STORES: &str = "\
-zeros, save 1000 100, return, save 1040 200, store_word 103C 12345678 | soft 103B, soft 103C, half 103E | true, false, 1234
+zeros, save 1000 100, return, save 1040 200, store_word 103C 12345678 | soft 103B, soft 103C | true, false
+ | legible_half 103E | 1234
  | word 103E | 2001234 | the last two bytes of the word, and the first two of the frame
+ | legible_word 103E | 1234 | a load does not see these
 store_word E0000010 12345678 | word E0000010 | 0
 zeros, store_word 10000000 12345678, store_half 10000004 9ABC | hard_words 10000000 | 12345678 9ABC0000 0 0
  | hard_words FFFFFF8 | 0 0 12345678 9ABC0000
- | byte 10000000, byte 10000005, half 10000002, word 10000002 | 12, BC, 5678, 56789ABC
+ | byte 10000000, byte 10000005, legible_half 10000002, word 10000002 | 12, BC, 5678, 56789ABC
 store_half 20000004 9ABC | byte 20000005 | 9A
-save 10000040 1020304 | byte 10000040, half 10000046 | 1, 305
- | frame_word 10000040 1, word 1000007C | 1020305, 1020313
+save 10000040 1020304 | byte 10000040, byte 10000047 | 1, 5
+ | left_word 10000040 1, word 1000007C | 1020305, 1020313
 save FFFFFFE0 100 | byte FFFFFFFC, word 0, word FFFFFFFE | 7, 108, 1080000 | it runs on to 0
 waiting, land 4, land 5, land 6, land 7, land 8, land 9, flush | word 103E, acted_byte 1041 | 2001433, 2
+";
+
+/// Marks of words 3 and 8 of a frame, and of bytes that are stored. A flush leaves marked bytes soft, and a load finds 0
+/// there.
+const MARKS: &str = "\
+zeros, save_marked 1000 100 | lost 100B, lost 100C, lost 1023, lost 1024 | false, true, true, false
+ | left_words 1000 | 100 101 102 103 104 105 106 107 108 109 10A 10B 10C 10D 10E 10F | it is live
+flush | lost 100C, soft 100B, soft 100C, soft 1023, soft 1024 | false, false, true, true, false
+ | legible_byte 1008, legible_byte 100C, legible_half 1008, legible_word 100C, word 100C | 2, 0, 102, 0, 103
+ | legible_words 1004 | 101 102 0 104
+ | left_words 1000 | 100 101 102 0 104 105 106 107 0 109 10A 10B 10C 10D 10E 10F
+ | left_word 1000 3, left_word 1000 4 | 0, 104
+zeros, store_marked 2000 12345678 6 | soft 2000, soft 2001, soft 2002, soft 2003 | false, true, true, false
+ | legible_word 2000, word 2000 | 12000078, 12345678
+store_half 2001 ABCD | soft 2001, legible_word 2000 | false, 12ABCD78 | it is stored to again
+marked_waiting | soft 2000, soft 2001, legible_word 2000, word 2000 | false, true, 14000011, 14131211
 ";
 
 /// Calls, faults and returns beside a frame that is held at 4040 and one that was spilled at 4000: a hazard is in one of
@@ -243,7 +281,9 @@ const PLANS: &str = "\
 entries, save 4000 100, save 4040 200 | calls B00 5 1F2000 3004 3051 | 1104 1F2003 true saves 3000 5010 3002 5050
  | calls 4000 5 1F2000 3004 3051, calls 3FC0 5 1F2000 3004 3051 | hazard 4044, hazard 4004
  | fault 900 B00 1F2002 8000 3000 3040 | 1100 1F2002 saves 3000 3050 3001 3090 record 1F2002 8000 30002 1000
- | ret 4041 5050 1F2003 8001, ret 4001 5050 1F2003 8001 | 4040 D2402 1005 true false, hazard 4000
+ | call_switches B00 5 1F2000, call_switches B00 5 1F2002, call_switches 4000 5 1F2000 | true, false, hazard 4044
+ | fault_switches 900 B00 1F2002, fault_switches 4000 B00 1F2002 | false, hazard 4018
+ | ret 4041 5050 1F2003 8001, ret 4001 5050 1F2003 8001 | 4040 D2402 1005 true false marks 0, hazard 4000
 requests, save 4000 100, save 4040 200 | choose 6000 10000, choose 6000 20000 | 17 Soft, none
  | choose 4040 0, choose 3FE0 0 | hazard 4040, hazard 4000
  | request 6000 10, request 6000 FA | 6000 06 6006 85, 6003 80 6023 04
@@ -263,7 +303,8 @@ control A0 A1 A2 A3 0 0 0 0 0 0 400000 0 0 0 0 0 0 0 0 0 0 0 0 0 0 0 0 C3
 #[test]
 fn answers_rows(rt: HostRuntime) -> Result<(), Fail> {
     let mut storage = with_waiting(rt.alloc())?;
-    for row in FRAMES.lines().chain(STORES.lines()).chain(PLANS.lines()) {
+    let rows = FRAMES.lines().chain(STORES.lines());
+    for row in rows.chain(MARKS.lines()).chain(PLANS.lines()) {
         let (steps, questions, wanted) = columns(row)?;
         let told = answers(rt.alloc(), &mut storage, steps, questions)?;
         assert_eq!(rt; told.as_str(), wanted, "{row}");
@@ -274,10 +315,10 @@ fn answers_rows(rt: HostRuntime) -> Result<(), Fail> {
 /// What is read over what waits, at each turn.
 const READS: &str = "\
  | byte 103C, byte 103D, byte 103E, byte 103F | 11, 12, 33, 14
- | half 103C, half 103D, word 103C, frame_word 103C 0 | 1211, 3312, 14331211, 14331211
- | half 103F, word 103E | 14, 2001433 | the last two bytes that wait, and the first two of the frame
- | frame_words 1040 | 200 201 202 203 204 205 206 207 208 209 20A 20B 20C 20D 20E 20F
- | byte 10000001, half 10000000, word 10000000 | 22, 2122, 21220000
+ | legible_half 103C, legible_half 103D, word 103C, left_word 103C 0 | 1211, 3312, 14331211, 14331211
+ | legible_half 103F, word 103E | 14, 2001433 | the last two bytes that wait, and the first two of the frame
+ | left_words 1040 | 200 201 202 203 204 205 206 207 208 209 20A 20B 20C 20D 20E 20F
+ | byte 10000001, legible_half 10000000, word 10000000 | 22, 2122, 21220000
  | hard_words 1030 | 0 0 0 14331211
  | hard_words FFFFFFC | 0 21220000 0 0
  | soft 103F, soft 1040, sets | false, true, 1 of 2 1040

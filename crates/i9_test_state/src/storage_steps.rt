@@ -1,5 +1,7 @@
 //! Storage over memories that are worked out by hand, and the steps that change it.
-ghost use Rattle.std.specs.Prelude.{◌≡◌, ◌<◌, ◌≤◌, ◌∷◌, ◌++◌, [], IfOk, length};
+ghost use Rattle.std.specs.Prelude.{◌≡◌, ◌<◌, ◌≤◌, ◌∷◌, ◌++◌, [], false, IfOk, length};
+ghost use Rattle.i9_isa.specs.Words.{bit};
+ghost use Rattle.i9_model.specs.declared.layout.TheConstants.{RIP};
 ghost use Rattle.std.specs.List.{AllByRecursion};
 ghost use Rattle.i9_model.specs.Writes.{upwards};
 ghost use Rattle.i9_storage.specs.Storage.{waiting_in, IsDrained};
@@ -15,6 +17,9 @@ use std::test::Fail;
 
 /// Bit 22 of a configuration word, which makes its region big-endian.
 const BIG_ENDIAN: u32 = 0x0040_0000;
+
+/// Marks of two words of a frame.
+const WORDS_3_AND_8: u16 = 0b1_0000_1000;
 
 /// Words of memory, from an address on: a fault table at 900, whose faults of type 3 have their handler at 1100; a system
 /// procedure table at B00, whose procedure 5 is at 1104 on the supervisor stack at 5010; and PC and AC in the record
@@ -56,6 +61,7 @@ fn put_words(memory: &mut Memory, a: u32, words: &[u32]) -> Result<(), Fail> {
 /// Storage with so many sets over an image, of which region 1 is big-endian.
 fn fresh(alloc: Global, image: &str, sets: u8) -> Result<Storage, Fail>
     requires { (0 < sets) × (sets < 16) }
+    ensures { IfOk result (λ s. IsDrained s) }
 {
     let mut memory = Memory::new(alloc);
     memory.configure(1, BIG_ENDIAN);
@@ -79,8 +85,9 @@ pub(crate) fn drained(storage: &Storage) -> Result<(), Fail>
     }
 }
 
-/// Saves the frame at a frame pointer, where nothing waits. Its words count up from a first one.
-fn save(storage: &mut Storage, fp: u32, first: u32) -> Result<(), Fail>
+/// Saves the frame at a frame pointer, where nothing waits. Its words count up from a first one, and have these marks.
+fn save(storage: &mut Storage, fp: u32, first: u32, marks: u16) -> Result<(), Fail>
+    requires { bit marks RIP ≡ false }
     ensures { IfOk result (λ _. IsDrained storage.new) }
 {
     drained(storage)?;
@@ -92,16 +99,16 @@ fn save(storage: &mut Storage, fp: u32, first: u32) -> Result<(), Fail>
         Ok(push) => {
             storage.reserve_frame(push.save)?;
             let address = push.save;
-            storage.save_frame(Frame { address, words });
+            storage.save_frame(Frame { address, words }, marks);
             Ok(())
         }
         Err(_) => Err("a hazard".into()),
     }
 }
 
-/// Stores bytes beside the live frames, at most four, where nothing waits.
+/// Stores bytes beside the live frames, at most four, where nothing waits. Byte k is soft then where bit k is set.
 #[tactic(auto, using(i9_storage::proofs::Keeping::run_rules))]
-fn store(storage: &mut Storage, a: u32, bytes: &[u8]) -> Result<(), Fail>
+fn store(storage: &mut Storage, a: u32, bytes: &[u8], stale: u16) -> Result<(), Fail>
     ensures { IfOk result (λ _. IsDrained storage.new) }
 {
     drained(storage)?;
@@ -110,7 +117,8 @@ fn store(storage: &mut Storage, a: u32, bytes: &[u8]) -> Result<(), Fail>
         return Err("a hazard".into());
     }
     storage.reserve(a, n as u32)?;
-    storage.store(a, bytes);
+    storage.reserve_soft(a, n as u32)?;
+    storage.store(a, bytes, stale);
     Ok(())
 }
 
@@ -133,9 +141,9 @@ fn restart(alloc: Global, storage: &mut Storage, sets: u8) -> Result<(), Fail> {
     Ok(())
 }
 
-/// A store waits until a turn, beside the live frames; at most four bytes.
+/// A store waits until a turn, beside the live frames; at most four bytes, of which byte k is soft where bit k is set.
 #[tactic(auto, using(i9_storage::proofs::Keeping::run_rules))]
-fn wait(storage: &mut Storage, a: u32, bytes: &[u8], due: u64) -> Result<(), Fail>
+fn wait(storage: &mut Storage, a: u32, bytes: &[u8], stale: u16, due: u64) -> Result<(), Fail>
     requires few { length (waiting_in storage.old) < 3 }
     requires order { AllByRecursion (λ w. w.due ≤ due) (waiting_in storage.old) }
     ensures { IfOk result (λ _. waiting_in storage.new
@@ -155,7 +163,8 @@ fn wait(storage: &mut Storage, a: u32, bytes: &[u8], due: u64) -> Result<(), Fai
         return Err("a hazard".into());
     }
     storage.reserve(a, n)?;
-    storage.enqueue(request);
+    storage.reserve_soft(a, n)?;
+    storage.enqueue(request, stale);
     Ok(())
 }
 
@@ -163,11 +172,18 @@ fn wait(storage: &mut Storage, a: u32, bytes: &[u8], due: u64) -> Result<(), Fai
 /// waits there, until turn 7 one of 21 and 22 in region 1, and until turn 9 one of 33 at 103E.
 pub(crate) fn with_waiting(alloc: Global) -> Result<Storage, Fail> {
     let mut storage = fresh(alloc, "", 2)?;
-    save(&mut storage, 0x1040, 0x200)?;
-    store(&mut storage, 0x103C, b"\x01\x02\x03\x04")?;
-    wait(&mut storage, 0x103C, b"\x11\x12\x13\x14", 5)?;
-    wait(&mut storage, 0x1000_0000, b"\x21\x22", 7)?;
-    wait(&mut storage, 0x103E, b"\x33", 9)?;
+    save(&mut storage, 0x1040, 0x200, 0)?;
+    store(&mut storage, 0x103C, b"\x01\x02\x03\x04", 0)?;
+    wait(&mut storage, 0x103C, b"\x11\x12\x13\x14", 0, 5)?;
+    wait(&mut storage, 0x1000_0000, b"\x21\x22", 0, 7)?;
+    wait(&mut storage, 0x103E, b"\x33", 0, 9)?;
+    Ok(storage)
+}
+
+/// Storage in which a store of 11 to 14 waits at 2000, of which 12 and 13 are marked.
+fn with_marked_waiting(alloc: Global) -> Result<Storage, Fail> {
+    let mut storage = fresh(alloc, "", 2)?;
+    wait(&mut storage, 0x2000, b"\x11\x12\x13\x14", 0b0110, 5)?;
     Ok(storage)
 }
 
@@ -190,6 +206,7 @@ fn begins(alloc: Global, storage: &mut Storage, name: &str) -> Result<(), Fail> 
         "requests" => *storage = fresh(alloc, REQUESTS, 1)?,
         "tables" => *storage = fresh(alloc, TABLES, 2)?,
         "waiting" => *storage = with_waiting(alloc)?,
+        "marked_waiting" => *storage = with_marked_waiting(alloc)?,
         _ => return Err("no such step".into()),
     }
     Ok(())
@@ -201,17 +218,22 @@ pub(crate) fn does(alloc: Global, storage: &mut Storage, step: &str) -> Result<(
     let numbers = hex_words(alloc, numbers)?;
     match (name, numbers.as_slice()) {
         ("", []) => {}
-        ("save", &[fp, first]) => save(storage, fp, first)?,
+        ("save", &[fp, first]) => save(storage, fp, first, 0)?,
+        ("save_marked", &[fp, first]) => save(storage, fp, first, WORDS_3_AND_8)?,
         ("return", []) => storage.restore_frame(),
         ("flush", []) => flush(storage)?,
         ("restart", &[sets]) => restart(alloc, storage, u8::try_from(sets)?)?,
         ("store_half", &[a, v]) => {
             let bytes = storage.half_bytes(a, u16::try_from(v)?);
-            store(storage, a, &bytes)?;
+            store(storage, a, &bytes, 0)?;
         }
         ("store_word", &[a, v]) => {
             let bytes = storage.word_bytes(a, v);
-            store(storage, a, &bytes)?;
+            store(storage, a, &bytes, 0)?;
+        }
+        ("store_marked", &[a, v, stale]) => {
+            let bytes = storage.word_bytes(a, v);
+            store(storage, a, &bytes, u16::try_from(stale)?)?;
         }
         ("land", &[turn]) => storage.land(u64::from(turn)),
         ("configure", &[region, v, w]) => configure(storage, u8::try_from(region)?, [v, w])?,

@@ -47,6 +47,11 @@ pub(crate) fn number_text(alloc: Global, number: Option<u32>) -> Told {
     }
 }
 
+/// Whether stacks are switched.
+pub(crate) fn switch_text(alloc: Global, is_switched: bool) -> Told {
+    Ok(format!(in alloc; "{is_switched}")?)
+}
+
 /// The address of a hazard.
 pub(crate) fn hazard_text(alloc: Global, a: u32) -> Told {
     Ok(format!(in alloc; "hazard {a:X}")?)
@@ -69,12 +74,14 @@ pub(crate) fn sys_text(alloc: Global, planned: Result<Sys, CallsStop>) -> Told {
     }
 }
 
-/// What a return makes: the frame, PC, AC, and whether the frame is live and the check flag is set.
+/// What a return makes: the frame, PC, AC, whether the frame is live and the check flag is set, and the marks of its
+/// words.
 pub(crate) fn pop_text(alloc: Global, planned: Result<Pop, u32>) -> Told {
     match planned {
         Ok(pop) => {
             let words = words_text(alloc, &[pop.frame, pop.pc, pop.ac])?;
-            Ok(format!(in alloc; "{words} {} {}", pop.live, pop.check)?)
+            let marks = pop.marks;
+            Ok(format!(in alloc; "{words} {} {} marks {marks:X}", pop.live, pop.check)?)
         }
         Err(a) => hazard_text(alloc, a),
     }

@@ -1,6 +1,6 @@
 //! Resources, sides, latencies and transfers, worked out by hand from the descriptions of the instructions.
 use crate::rows::{columns, instruction, pair};
-use i9_isa::{Ea, Inst, Operand, latency, reads, side_of, transfer, valid, writes};
+use i9_isa::{Ea, Inst, Operand, keeps_marks, latency, reads, side_of, transfer, valid, writes};
 use std::alloc::Global;
 use std::test::*;
 
@@ -107,6 +107,95 @@ fn transfers_of_names(rt: HostRuntime) -> Result<(), Fail> {
         let (statement, wanted) = pair(row)?;
         let text = transfer_text(rt.alloc(), &instruction(statement)?)?;
         assert_eq!(rt; text.as_str(), wanted, "{row}");
+    }
+    Ok(())
+}
+
+/// Names that keep marks of stale values, each of them.
+const KEEP_MARKS: &str = "\
+and 1, g0, g1
+andnot 1, g0, g1
+notand 1, g0, g1
+xor 1, g0, g1
+or 1, g0, g1
+nor 1, g0, g1
+xnor 1, g0, g1
+not g0, g1
+ornot 1, g0, g1
+notor 1, g0, g1
+nand 1, g0, g1
+setbit 1, g0, g1
+clrbit 1, g0, g1
+notbit 1, g0, g1
+alterbit 1, g0, g1
+addo 1, g0, g1
+subo 1, g0, g1
+mulo 1, g0, g1
+emul 1, g0, g2
+shro 1, g0, g1
+shlo 1, g0, g1
+shri 1, g0, g1
+shrdi 1, g0, g1
+rotate 1, g0, g1
+modify g0, 0, g1
+extract 1, 2, g1
+mov g0, g1
+movl g0, g2
+movt g0, g4
+movq g0, g4
+lda 0, g0
+";
+
+/// Names that do not: their sources decide a fault, a condition, an address or a control, or they have none.
+const KEEP_NO_MARKS: &str = "\
+addc 1, g0, g1
+subc 1, g0, g1
+addi 1, g0, g1
+subi 1, g0, g1
+muli 1, g0, g1
+divo 1, g0, g1
+remi 1, g0, g1
+modi 1, g0, g1
+ediv 1, g2, g0
+shli 1, g0, g1
+cmpo g1, g0
+cmpinco 1, g0, g1
+concmpi 0, g0
+chkbit 1, g0
+scanbit g0, g1
+scanbyte g0, g1
+teste g0
+cmpobe g0, g1, 0
+bbs 1, g0, 0
+be 0
+faulte
+b 0
+bal 0
+bx 0
+balx 0, g0
+call 0
+callx 0
+calls g0
+ret
+ld 0, g0
+st g0, 0
+atadd g0, 1, g1
+atmod g0, 1, g1
+modac g0, 0, g1
+modpc g0, g0, g1
+sysctl g0, 0, g1
+sdma 0, 0, g0
+flushreg
+syncf
+";
+
+#[test]
+fn names_that_keep_marks(rt: HostRuntime) -> Result<(), Fail> {
+    for statement in KEEP_MARKS.lines() {
+        assert!(rt; keeps_marks(&instruction(statement)?), "{statement}");
+    }
+    for statement in KEEP_NO_MARKS.lines() {
+        assert!(rt; !keeps_marks(&instruction(statement)?), "{statement}");
     }
     Ok(())
 }

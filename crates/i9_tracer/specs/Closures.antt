@@ -17,6 +17,7 @@ pub record IsView (v : View) : Type 0 where
   pub tc : IsWord v.tc
   pub registers : length v.regs ≡ 32
   pub words : All IsWord v.regs
+  pub marks : IsWord v.marks
 
 -- each view
 abbrev pub TakesEachView : (View → Type 0) → Type 0

@@ -49,7 +49,8 @@ fn read_view(v: &View)
     requires { v.now.count < 2 ^ 32 }
     ensures { IsView v.now }
 {
-    let (_ip, _ac, _pc, _tc) = (v.ip, v.ac, v.pc, v.tc);
+    let (_ip, _ac, _pc) = (v.ip, v.ac, v.pc);
+    let (_tc, _marks) = (v.tc, v.marks);
     read_words(&v.regs);
 }
 

@@ -1,9 +1,8 @@
 -- What instructions do in a state they do in another one, where their loads and stores have no byte in which the two
 -- differ.
-use Rattle.std.proofs.Common.{◌≡◌, ℕ, suc, ◌+◌, ◌%◌, ◌<◌, Bool, true, false, ◌||◌, List, [], ◌∷◌, ◌++◌, length, Option, Some, None, refl, sym, ap, ◌∙◌, subst, inl, arith}
+use Rattle.std.proofs.Common.{◌≡◌, ℕ, suc, ◌+◌, ◌%◌, ◌<◌, Bool, true, false, cond, ◌||◌, List, [], ◌∷◌, ◌++◌, length, Option, Some, None, refl, sym, ap, ◌∙◌, subst, inl, arith}
 use Rattle.std.specs.Prelude.{◌==◌}
 use Rattle.std.specs.Option.{is_some}
-use Rattle.std.proofs.lemmas.Bool.{both_ways, eqb-true}
 use Rattle.i9_isa.specs.declared.size.Size.{Size}
 use Rattle.i9_isa.specs.declared.size.Direction.{Direction}
 use Rattle.i9_isa.specs.declared.size.Direction.TheVariants.{Load, Store}
@@ -12,7 +11,8 @@ use Rattle.i9_isa.specs.declared.inst.Inst.{Inst}
 use Rattle.i9_isa.specs.Transfers.{transfer_of, byte_count}
 use Rattle.i9_isa.specs.Words.{bit}
 use Rattle.i9_model.specs.Writes.{wrapped, upwards}
-use Rattle.i9_model.specs.Frames.{in_bytes, is_put}
+use Rattle.i9_model.specs.Frames.{in_bytes, has, is_put}
+use Rattle.i9_model.specs.Stale.{stored_marks}
 use Rattle.i9_model.specs.State.{State}
 use Rattle.i9_model.specs.Operands.{address}
 use Rattle.i9_model.specs.Access.{Access, access_by, access_of, data_of, moved_access}
@@ -23,14 +23,11 @@ use Rattle.i9_tune.specs.Passes.{MissesBytes, Passes, stepped, port_bytes, ArePa
 use Rattle.i9_tune.specs.Orders.{AreAllowed}
 use Rattle.i9_tune.specs.Standings.{DiffersIn}
 use Rattle.i9_model.proofs.SoundRuns.{stored_long}
+use Rattle.i9_tune.proofs.Marked.{beside, bytes_beside, stored_long as marks_long}
 use Rattle.i9_tune.proofs.Sources.{Agree, IsAllowed, allowed_parts, does_same}
 use Rattle.i9_tune.proofs.Swaps.{after_deed, stepped_by, same_here, port_by, fate_of, passes_by}
 
 -- ---- a store beside the area leaves it
-
-beside : (test : ℕ → Bool) (x y : ℕ) (b : Bool) → (x == y) ≡ b → test x ≡ true → test y ≡ false → (x == y) ≡ false
-beside test x y false e h n = e
-beside test x y true e h n = absurd (both_ways (test y) n (sym (ap test (eqb-true x y e)) ∙ h))
 
 both_false : (a b : Bool) → a ≡ false → b ≡ false → (a || b) ≡ false
 both_false false b p q = q
@@ -69,16 +66,40 @@ writes_beside area i s x ok miss h = by_transfer (transfer_of i.op) refl
         let y = does_same i s s ok (same_here i s) in
         ap (λ (a : Action). is_put a.writes x) y.here ∙ ap (λ (ws : List (ℕ × ℕ)). is_put ws x) (y.quiet (ap is_some e)) ∙ none_put x
 
+-- nor does a byte of the area get soft
+moving_clean : (area : ℕ × ℕ) (d : Direction) (size : Size) (signed : Bool) (i : Inst) (s : State) (x : ℕ) → MissesBytes (data_of (moved_access d (address s i.ea) (byte_count size))) area → in_bytes area.0 area.1 x ≡ true
+    → has (moving d size signed i s).stale x ≡ false
+moving_clean area Load size signed i s x miss h = refl
+moving_clean area Store size signed i s x miss h =
+    bytes_beside (in_bytes area.0 area.1) (address s i.ea) (byte_count size) (stored_marks size s i.c) x (marks_long size s i.c) h miss
+
+pub stale_beside : (area : ℕ × ℕ) (i : Inst) (s : State) (x : ℕ) → IsAllowed i → MissesBytes (data_of (access_of i s)) area → in_bytes area.0 area.1 x ≡ true → has (action_of i s).stale x ≡ false
+unfolding action_of
+stale_beside area i s x ok miss h = by_transfer (transfer_of i.op) refl
+  where
+    by_transfer : (o : Option Transfer) → transfer_of i.op ≡ o → has (action_by (transfer_of i.op) i s).stale x ≡ false
+    by_transfer (Some m) e =
+        ap (λ (o : Option Transfer). has (action_by o i s).stale x) e
+        ∙ moving_clean area m.direction m.size m.signed i s x (subst (λ (o : Option Transfer). MissesBytes (data_of (access_by o i s)) area) e miss) h
+    by_transfer None e =
+        let y = does_same i s s ok (same_here i s) in
+        ap (λ (a : Action). has a.stale x) y.here ∙ ap (λ (ws : List ℕ). has ws x) (y.clean (ap is_some e))
+
 -- ---- one instruction
 
 agree_there : (area : ℕ × ℕ) (i : Inst) (s t : State) → DiffersIn area s t → MissesBytes (data_of (access_of i s)) area → Agree i s t
 agree_there area i s t differs miss = record {
   regs = λ k h. sym (ap (λ (u : State). u.regs k) differs.rest);
+  marks = λ k h. sym (ap (λ (u : State). u.marks k) differs.rest);
   code = λ h. sym (ap (λ (u : State). u.ac % 8) differs.rest);
   beside = record {
     mask = sym (ap (λ (u : State). bit u.ac 12) differs.rest);
     orders = sym (ap (λ (u : State). u.memory.mcon) differs.rest);
-    bytes = λ a n reads k h. sym (differs.bytes (wrapped (a + k)) (subst (λ (x : Access). MissesBytes (data_of x) area) reads miss k h));
+    bytes = λ a n reads k h.
+        let x = wrapped (a + k) in
+        sym (ap (λ (u : State). cond (u.frames.soft x) (u.reading (t.memory.bytes x)) (t.memory.bytes x)) differs.rest
+        ∙ ap (λ (b : ℕ). cond (s.frames.soft x) (s.reading b) b) (differs.bytes x (subst (λ (x : Access). MissesBytes (data_of x) area) reads miss k h)));
+    soft = λ a n reads k h. sym (ap (λ (u : State). u.frames.soft (wrapped (a + k))) differs.rest);
   };
 }
 

@@ -1,5 +1,5 @@
 -- A block that stands in memory and is done there does the same in every order that stands there instead.
-use Rattle.std.proofs.Common.{◌≡◌, ℕ, zero, suc, ◌+◌, ◌-◌, ◌*◌, ◌^◌, ◌<◌, ◌≤◌, Bool, true, false, cond, ◌&&◌, List, [], ◌∷◌, ◌++◌, Option, Some, None, Ok, refl, sym, ap, ◌∙◌, subst, inl, inr, arith}
+use Rattle.std.proofs.Common.{◌≡◌, ℕ, zero, suc, ◌+◌, ◌-◌, ◌*◌, ◌^◌, ◌<◌, ◌≤◌, Bool, true, false, cond, ◌||◌, ◌&&◌, List, [], ◌∷◌, ◌++◌, Option, Some, None, Ok, refl, sym, ap, ◌∙◌, subst, inl, inr, arith}
 use Rattle.std.specs.Prelude.{◌==◌, not, find}
 use Rattle.std.proofs.lemmas.Bool.{eqb-true, cases_lt, both_ways}
 use Rattle.i9_isa.specs.declared.inst.Inst.{Inst}
@@ -8,7 +8,7 @@ use Rattle.i9_isa.proofs.Decoding.{second_free}
 use Rattle.i9_model.specs.Writes.{wrapped}
 use Rattle.i9_model.specs.Memory.{Memory, word_in}
 use Rattle.i9_model.specs.State.{State, Frames}
-use Rattle.i9_model.specs.Frames.{is_put, places}
+use Rattle.i9_model.specs.Frames.{has, is_put, places}
 use Rattle.i9_model.specs.Hazards.{or_else, read_hazard}
 use Rattle.i9_model.specs.Access.{access_of, data_of, second_hazard, fetch_hazard}
 use Rattle.i9_model.specs.Standing.{Runs, stands_at}
@@ -28,7 +28,7 @@ use Rattle.i9_tune.proofs.Swaps.{stepped_by, same_here, in_port}
 use Rattle.i9_tune.proofs.Taken.{one_there, others_there, order_good}
 use Rattle.i9_tune.proofs.Stood.{stood, stands_there}
 use Rattle.i9_tune.proofs.Watched.{unseen_from, untraced_by, as_action}
-use Rattle.i9_tune.proofs.Carried.{writes_beside, all_carried}
+use Rattle.i9_tune.proofs.Carried.{writes_beside, stale_beside, all_carried}
 
 -- ---- an order of a block
 
@@ -84,6 +84,7 @@ done_passes : (area : ℕ × ℕ) (i : Inst) (s : State) → IsAllowed i → IsD
 done_passes area i s ok done =
     let calm = (stood s i done.stands).calm in
     record {
+      proper = calm.proper;
       raised = calm.raised;
       later = calm.later;
       hazard = calm.hazard;
@@ -123,9 +124,10 @@ own_hard s i e k h = elim (cases_lt k 4) [
     read : IsRead s (words_of i)
     read = read_known s i e
 
-kept_soft : (b c : Bool) → (b && not c) ≡ false → c ≡ false → b ≡ false
-kept_soft false c h e = refl
-kept_soft true c h e = absurd (both_ways (not c) h (ap not e))
+kept_soft : (b c e : Bool) → (e || (b && not c)) ≡ false → c ≡ false → b ≡ false
+kept_soft false c e h k = refl
+kept_soft true c true h k = absurd (cc h)
+kept_soft true c false h k = absurd (both_ways (not c) h (ap not k))
 
 -- a byte of the area that is not soft behind an instruction was not soft before it
 hard_before : (area : ℕ × ℕ) (i : Inst) (s : State) (k : ℕ) → IsAllowed i → MissesBytes (data_of (access_of i s)) area → k < area.1
@@ -134,14 +136,17 @@ hard_before area i s k ok miss h e =
     let x = does_same i s s ok (same_here i s) in
     let y = wrapped (area.0 + k) in
     let beside = sym (ap (λ (a : Action). is_put a.writes y) x.here) ∙ writes_beside area i s y ok miss (in_bytes-has area.0 area.1 k h) in
-    kept_soft (s.frames.soft y) (is_put x.deed.writes y) (sym (ap (λ (t : State). t.frames.soft y) (stepped_by i s x.deed x.here)) ∙ e) beside
+    kept_soft (s.frames.soft y) (is_put x.deed.writes y) (has x.deed.stale y) (sym (ap (λ (t : State). t.frames.soft y) (stepped_by i s x.deed x.here)) ∙ e) beside
 
 -- and is not behind it where it was not before it
-hard_after : (area : ℕ × ℕ) (i : Inst) (s : State) (k : ℕ) → IsAllowed i → s.frames.soft (wrapped (area.0 + k)) ≡ false → (stepped i s).frames.soft (wrapped (area.0 + k)) ≡ false
-hard_after area i s k ok e =
+hard_after : (area : ℕ × ℕ) (i : Inst) (s : State) (k : ℕ) → IsAllowed i → MissesBytes (data_of (access_of i s)) area → k < area.1
+    → s.frames.soft (wrapped (area.0 + k)) ≡ false → (stepped i s).frames.soft (wrapped (area.0 + k)) ≡ false
+hard_after area i s k ok miss h e =
     let x = does_same i s s ok (same_here i s) in
     let y = wrapped (area.0 + k) in
-    ap (λ (t : State). t.frames.soft y) (stepped_by i s x.deed x.here) ∙ ap (λ (b : Bool). b && not (is_put x.deed.writes y)) e
+    let clean = sym (ap (λ (a : Action). has a.stale y) x.here) ∙ stale_beside area i s y ok miss (in_bytes-has area.0 area.1 k h) in
+    ap (λ (t : State). t.frames.soft y) (stepped_by i s x.deed x.here)
+    ∙ ap (λ (b : Bool). b || (s.frames.soft y && not (is_put x.deed.writes y))) clean ∙ ap (λ (b : Bool). b && not (is_put x.deed.writes y)) e
 
 -- the instructions stand so many bytes behind the beginning of the area, and end with it
 record IsPlaced (area : ℕ × ℕ) (is : List Inst) (s : State) (o : ℕ) : Type 0 where
@@ -249,7 +254,7 @@ ready_after area i is s o ok miss ready =
     ∙ stored_kept s.memory.bytes x.deed.writes y (inl (sym (ap (λ (a : Action). is_put a.writes y) x.here) ∙ writes_beside area i s y ok miss (in_bytes-has area.0 area.1 k h))) in
     record {
       place = place;
-      hard = λ k h. hard_after area i s k ok (ready.hard k h);
+      hard = λ k h. hard_after area i s k ok miss h (ready.hard k h);
       stand = subst (λ (a : ℕ). StandAt (stepped i s).memory a is) (sym place.here)
           (stand_kept area s.memory (stepped i s).memory is (o + 4 * words_of i) (sym (ap (λ (t : State). t.memory.mcon) step)) same place.ends
           (subst (λ (a : ℕ). StandAt s.memory a is) there ready.stand.1));
@@ -264,7 +269,7 @@ is_done area i is s o ok unbroken passes ready =
     (let e : wrapped (s.ip + k) ≡ wrapped (area.0 + (o + k)) = omega (arith, here) in ap s.frames.soft e ∙ ready.hard (o + k) (omega (arith, ends, h))) in
     let none = untraced_by i s ok passes.unseen (ap (is_broken s) here ∙ unbroken o (omega (arith, some, ends))) in
     record {
-      stands = stands_there s i (record { fetch = fetched s i hard ready.stand.0; word = ready.stand.0; calm = record { raised = passes.raised; later = passes.later; hazard = passes.hazard } });
+      stands = stands_there s i (record { fetch = fetched s i hard ready.stand.0; word = ready.stand.0; calm = record { proper = passes.proper; raised = passes.raised; later = passes.later; hazard = passes.hazard } });
       untraced = none;
       exit = ap (exit_in s) (as_action i s none) ∙ passes.exit;
       misses = passes.misses;

@@ -1,6 +1,8 @@
 pub mod Inputs
+pub mod Marked
 pub mod Sources
 pub mod ReadRegisters
+pub mod Unmarked
 pub mod Swaps
 pub mod Taken
 pub mod Watched

@@ -101,7 +101,8 @@ as_register s k lt =
 pub agree_by_need : (f : Facts) (i : Inst) (s t : State) → IsValid i → AreSameIn (inst_need i f).reads s t → AgreeBeside i s t → Agree i s t
 agree_by_need f i s t valid same beside = record {
   regs = λ k h. let lt = register_below i k valid h in
-      sym (as_register s k lt) ∙ same k (omega (arith, lt)) (in_need f i k (omega (arith, lt)) (register_is_read i k h)) ∙ as_register t k lt;
-  code = λ h. same CONDITION_CODE (omega arith) (in_need f i CONDITION_CODE (omega arith) (code_is_read i h));
+      sym (as_register s k lt) ∙ same.values k (omega (arith, lt)) (in_need f i k (omega (arith, lt)) (register_is_read i k h)) ∙ as_register t k lt;
+  marks = λ k h. let lt = register_below i k valid h in same.marks k lt (in_need f i k (omega (arith, lt)) (register_is_read i k h));
+  code = λ h. same.values CONDITION_CODE (omega arith) (in_need f i CONDITION_CODE (omega arith) (code_is_read i h));
   beside = beside;
 }

@@ -1,5 +1,5 @@
 -- What an allowed instruction does depends on what it reads alone.
-use Rattle.std.proofs.Common.{◌≡◌, ℕ, ◌+◌, ◌*◌, ◌%◌, ◌^◌, ◌<◌, Bool, true, false, cond, ◌||◌, ◌&&◌, List, [], ◌∷◌, Option, Some, None, refl, sym, ap, ◌∙◌, arith}
+use Rattle.std.proofs.Common.{◌≡◌, ℕ, ◌+◌, ◌*◌, ◌%◌, ◌^◌, ◌<◌, Bool, true, false, cond, ◌||◌, ◌&&◌, List, [], ◌∷◌, ◌++◌, Option, Some, None, refl, sym, ap, ◌∙◌, arith}
 use Rattle.std.specs.Prelude.{◌==◌, nat_le, not}
 use Rattle.std.proofs.lemmas.Bool.{or_left, or_right, or_parts, both_ways, eq-eqb, cond-true}
 use Rattle.std.proofs.lemmas.Bool.Decides.{nat_tests}
@@ -19,6 +19,7 @@ use Rattle.i9_isa.specs.declared.inst.Inst.{Inst}
 use Rattle.i9_isa.specs.declared.resources.TheConstants.{CONDITION_CODE}
 use Rattle.i9_isa.specs.Operands.{words_read, words_written, has_base, has_index}
 use Rattle.i9_isa.specs.Resources.{is_in_group, is_in_operand, reads_code, writes_code, is_read}
+use Rattle.i9_isa.specs.Keeping.{keeps_marks}
 use Rattle.i9_isa.specs.Table.{row_of}
 use Rattle.i9_isa.specs.Transfers.{byte_count, register_count, transfer_of}
 use Rattle.i9_isa.proofs.Moved.{stores_registers}
@@ -29,11 +30,16 @@ use Rattle.i9_model.specs.Addresses.{sum_for}
 use Rattle.i9_model.specs.Operands.{value, word_of, source_words, assigned, address}
 use Rattle.i9_model.specs.Results.{Answer}
 use Rattle.i9_model.specs.Faults.{is_special}
-use Rattle.i9_model.specs.Step.{Action, filled, passing, assigning, answering, loaded, stored_of, bytes_of_words, moving, destination, answer_in, values_of, controls_of, resulting, action_by_name, action_by, action_of}
+use Rattle.i9_model.specs.Stale.{picked, marks_for, legible, loaded_marks, stored_marks, marks_of, registers_of, sources, address_registers, is_marked, moves_words, result_marks, deciding, deciding_by, touches_port, stored_out, goes_out, goes_out_by, reaches_special, destination_marks, misuses}
+use Rattle.i9_model.specs.Results.{destination_words}
+use Rattle.i9_model.specs.Step.{Action, filled, passing, assigning, marking, answering, loaded, stored_of, bytes_of_words, moving, destination, answer_in, values_of, controls_of, resulting, action_by_name, action_by, action_of}
 use Rattle.i9_model.specs.Needs.{is_request_name}
 use Rattle.i9_model.specs.Branches.{is_taken}
 use Rattle.i9_model.specs.declared.faults.TheConstants.{CONSTRAINT, RANGE}
 use Rattle.std.specs.Option.{is_some}
+use Rattle.std.specs.List.{list_any}
+use Rattle.std.specs.Prelude.{replicate}
+use Rattle.std.proofs.lemmas.List.Folds.{list_any-append}
 use Rattle.i9_model.specs.Alike.{with_other}
 use Rattle.i9_model.specs.Access.{NoAccess, access_by_name, access_by, access_of, moved_access}
 use Rattle.i9_model.specs.Standing.{is_fault_name, later_fault, range_fault, first_fault, answer_fault}
@@ -41,8 +47,9 @@ use Rattle.i9_model.proofs.Readings.{map_below, words_same}
 use Rattle.i9_model.proofs.AlikeActions.{stored_words_same}
 use Rattle.i9_tune.specs.Inputs.{Change, Keeps, changed, is_code, AreSame}
 use Rattle.i9_tune.specs.Blocks.{is_result_name, is_lda, is_relative, is_allowed_name, is_allowed}
-use Rattle.i9_tune.specs.Deeds.{AreSameBytes, AgreeBeside, Deed, deed_action, DoesSame}
+use Rattle.i9_tune.specs.Deeds.{AreSameBytes, AreSameSoft, AgreeBeside, Deed, deed_action, DoesSame}
 use Rattle.i9_tune.proofs.Inputs.{Four, result_same}
+use Rattle.i9_tune.proofs.Marked.{in_group, operand_marked, operand_marks, marks_same, stored_same, loaded_same}
 
 -- ---- what is read
 
@@ -58,6 +65,7 @@ is_register_read i k =
 -- the second state has all that the instruction sees as the first one
 pub record Agree (i : Inst) (s t : State) : Type 0 where
   pub regs : (k : ℕ) → is_register_read i k ≡ true → s.regs k ≡ t.regs k
+  pub marks : (k : ℕ) → is_register_read i k ≡ true → s.marks k ≡ t.marks k
   pub code : reads_code i.op ≡ true → s.ac % 8 ≡ t.ac % 8
   pub beside : AgreeBeside i s t
 
@@ -88,9 +96,6 @@ pub code_is_read : (i : Inst) → reads_code i.op ≡ true → is_read i CONDITI
 code_is_read i h = or_right _ _ (also _ _ h refl)
 
 -- ---- sources
-
-in_group : (r n k : ℕ) → k < n → is_in_group r n (r + k) ≡ true
-in_group r n k h = grind (arith, nat_tests, h)
 
 register_words : (s t : State) (r n : ℕ) → ((k : ℕ) → is_in_group r n k ≡ true → s.regs k ≡ t.regs k) → (k : ℕ) → k < n → word_of s (Reg r) k ≡ word_of t (Reg r) k
 register_words s t r n same k h = by_test (k == 0) refl
@@ -182,7 +187,7 @@ answer_same i s t ok same =
     same.code same.beside.mask
 
 -- by its name an allowed instruction has a result, or is lda, or moves
-named : (op : Op) (i : Inst) (s : State) → action_by_name op i s ≡ cond (is_result_name op) (resulting i s (answer_in i s)) (action_by_name op i s)
+pub named : (op : Op) (i : Inst) (s : State) → action_by_name op i s ≡ cond (is_result_name op) (resulting i s (answer_in i s)) (action_by_name op i s)
 named Addi i s = refl
 named _ i s = refl
 
@@ -201,10 +206,14 @@ target_plain i ok = by_test (words_written (row_of i.op).a == 0)
     by_test true = ok.c
     by_test false = ok.a
 
-resulting_deed : (i : Inst) (s : State) (o : Option Answer) (c : Change) → IsAllowed i → controls_of o s.ac ≡ changed c s.ac → resulting i s o ≡ deed_action i s (record { sets = assigned (destination i) (values_of o); change = c; writes = [] })
+-- what a result is as a deed
+abbrev result_deed : Inst → List ℕ → List Bool → Change → Deed
+result_deed i vs bs c = record { sets = assigned (destination i) vs; change = c; writes = []; marked = marks_for (destination i) bs; stale = [] }
+
+resulting_deed : (i : Inst) (s : State) (o : Option Answer) (c : Change) → IsAllowed i → controls_of o s.ac ≡ changed c s.ac → resulting i s o ≡ deed_action i s (result_deed i (values_of o) (result_marks i s) c)
 resulting_deed i s o c ok e =
-    ap (λ (a : Action). record a { ac = controls_of o s.ac }) (plain_target (destination i) (values_of o) (passing i s) (target_plain i ok))
-    ∙ ap (λ (n : ℕ). record (passing i s) { sets = assigned (destination i) (values_of o); ac = n }) e
+    ap (λ (a : Action). record (marking (destination i) (result_marks i s) a) { ac = controls_of o s.ac }) (plain_target (destination i) (values_of o) (passing i s) (target_plain i ok))
+    ∙ ap (λ (n : ℕ). record (passing i s) { sets = assigned (destination i) (values_of o); ac = n; marked = marks_for (destination i) (result_marks i s) }) e
 
 -- ---- loads and stores
 
@@ -246,31 +255,134 @@ stored_agree (Words n) s t o a e same =
     ∙ sym (stored_words_same s.memory t.memory.bytes a (source_words t o n)) ∙ ap (λ (m : Memory). bytes_of_words m a (source_words t o n)) (other_memory s.memory t.memory e)
 
 -- what an action of either direction is as a deed
+abbrev loading_deed : Inst → List ℕ → List Bool → Deed
+loading_deed i vs bs = record { sets = assigned i.c vs; change = Keeps; writes = []; marked = marks_for i.c bs; stale = [] }
+
+abbrev storing_deed : ℕ → List ℕ → List Bool → Deed
+storing_deed a vs bs = record { sets = []; change = Keeps; writes = upwards a vs; marked = []; stale = picked wrapped a bs }
+
 abbrev moving_deed : Direction → Size → Bool → Inst → State → Deed
-moving_deed Load size signed i s = record { sets = assigned i.c (loaded size signed s.memory (address s i.ea)); change = Keeps; writes = [] }
-moving_deed Store size signed i s = record { sets = []; change = Keeps; writes = upwards (address s i.ea) (stored_of size s i.c (address s i.ea)) }
+moving_deed Load size signed i s = loading_deed i (loaded size signed (legible s) (address s i.ea)) (loaded_marks size s.frames.soft (address s i.ea))
+moving_deed Store size signed i s = storing_deed (address s i.ea) (stored_of size s i.c (address s i.ea)) (stored_marks size s i.c)
 
 moving_is : (d : Direction) (size : Size) (signed : Bool) (i : Inst) (s : State) → IsAllowed i → moving d size signed i s ≡ deed_action i s (moving_deed d size signed i s)
-moving_is Load size signed i s ok = plain_target i.c (loaded size signed s.memory (address s i.ea)) (passing i s) ok.c
+moving_is Load size signed i s ok =
+    let a = address s i.ea in
+    ap (marking i.c (loaded_marks size s.frames.soft a)) (plain_target i.c (loaded size signed (legible s) a) (passing i s) ok.c)
 moving_is Store size signed i s ok = refl
 
+-- the bytes that are loaded are the same, and the same of them are soft
+record AreLoaded (s t : State) (a n : ℕ) : Type 0 where
+  bytes : AreSameBytes (legible s) (legible t) a n
+  soft : AreSameSoft s.frames.soft t.frames.soft a n
+
 moving_agree : (d : Direction) (size : Size) (signed : Bool) (i : Inst) (s t : State) → IsAllowed i → Agree i s t
-    → (d ≡ Load → AreSameBytes s.memory t.memory (address s i.ea) (byte_count size)) → (d ≡ Store → words_read (row_of i.op).c ≡ register_count size)
+    → (d ≡ Load → AreLoaded s t (address s i.ea) (byte_count size)) → (d ≡ Store → words_read (row_of i.op).c ≡ register_count size)
     → moving_deed d size signed i s ≡ moving_deed d size signed i t
-moving_agree Load size signed i s t ok same bytes row =
-    let e = loaded_agree size signed s.memory t.memory _ same.beside.orders (bytes refl) in
-    let f = ap (λ (a : ℕ). loaded size signed t.memory a) (address_same i s t ok same) in
-    ap (λ (vs : List ℕ). record { sets = assigned i.c vs; change = Keeps; writes = [] }) (e ∙ f)
-moving_agree Store size signed i s t ok same bytes row =
+moving_agree Load size signed i s t ok same loads row =
+    let e = loaded_agree size signed (legible s) (legible t) _ same.beside.orders (loads refl).bytes in
+    let f = loaded_same size s.frames.soft t.frames.soft _ (loads refl).soft in
+    ap (λ (vs : List ℕ). loading_deed i vs (loaded_marks size s.frames.soft (address s i.ea))) e
+    ∙ ap (λ (bs : List Bool). loading_deed i (loaded size signed (legible t) (address s i.ea)) bs) f
+    ∙ ap (λ (a : ℕ). loading_deed i (loaded size signed (legible t) a) (loaded_marks size t.frames.soft a)) (address_same i s t ok same)
+moving_agree Store size signed i s t ok same loads row =
     let count = row refl in
     let words = operand_words s t i.c (words_read (row_of i.op).c) ok.c (λ k r. same.regs k (reads_c i k r)) in
-    let e = stored_agree size s t i.c (address s i.ea) same.beside.orders (λ k h. words k (omega (arith, count, h))) in
-    ap (λ (bs : List ℕ). record { sets = []; change = Keeps; writes = upwards (address s i.ea) bs }) e
-    ∙ ap (λ (a : ℕ). record { sets = []; change = Keeps; writes = upwards a (stored_of size t i.c a) }) (address_same i s t ok same)
+    let marks = operand_marks s t i.c (words_read (row_of i.op).c) (λ k r. same.marks k (reads_c i k r)) in
+    ap (λ (bs : List ℕ). storing_deed (address s i.ea) bs (stored_marks size s i.c)) (stored_agree size s t i.c (address s i.ea) same.beside.orders (λ k h. words k (omega (arith, count, h))))
+    ∙ ap (λ (bs : List Bool). storing_deed (address s i.ea) (stored_of size t i.c (address s i.ea)) bs) (stored_same size s t i.c (λ k h. marks k (omega (arith, count, h))))
+    ∙ ap (λ (a : ℕ). storing_deed a (stored_of size t i.c a) (stored_marks size t i.c)) (address_same i s t ok same)
+
+-- ---- marks
+
+-- where words are moved, as many are read
+moved_few : (op : Op) → nat_le (cond (moves_words op) (destination_words op) 0) (words_read (row_of op).a) ≡ true
+moved_few Addi = refl
+moved_few _ = refl
+
+sources_same : (i : Inst) (s t : State) → Agree i s t → is_marked s (sources i) ≡ is_marked t (sources i)
+sources_same i s t same =
+    let row = row_of i.op in
+    let a = operand_marked s t i.a (words_read row.a) (λ k h. same.marks k (reads_a i k h)) in
+    let b = operand_marked s t i.b (words_read row.b) (λ k h. same.marks k (reads_b i k h)) in
+    let c = operand_marked s t i.c (words_read row.c) (λ k h. same.marks k (reads_c i k h)) in
+    apart s ∙ rw (a, b, c) (sym (apart t))
+  where
+    apart : (u : State) → is_marked u (sources i)
+        ≡ (is_marked u (registers_of i.a (words_read (row_of i.op).a)) || (is_marked u (registers_of i.b (words_read (row_of i.op).b)) || is_marked u (registers_of i.c (words_read (row_of i.op).c))))
+    apart u =
+        let first = registers_of i.a (words_read (row_of i.op).a) in
+        let second = registers_of i.b (words_read (row_of i.op).b) in
+        let third = registers_of i.c (words_read (row_of i.op).c) in
+        list_any-append u.marks first (second ++ third) ∙ ap (λ (b : Bool). is_marked u first || b) (list_any-append u.marks second third)
+
+result_marks_same : (i : Inst) (s t : State) → Agree i s t → result_marks i s ≡ result_marks i t
+result_marks_same i s t same = by_move (moves_words i.op) refl
+  where
+    words : ℕ
+    words = destination_words i.op
+
+    by_move : (b : Bool) → moves_words i.op ≡ b → cond b (marks_of s i.a words) (replicate words (is_marked s (sources i))) ≡ cond b (marks_of t i.a words) (replicate words (is_marked t (sources i)))
+    by_move true e =
+        let few : nat_le words (words_read (row_of i.op).a) ≡ true = sym (ap (λ (b : Bool). nat_le (cond b words 0) (words_read (row_of i.op).a)) e) ∙ moved_few i.op in
+        marks_same s t i.a words (λ k h. operand_marks s t i.a (words_read (row_of i.op).a) (λ j r. same.marks j (reads_a i j r)) k (grind (arith, nat_tests, few, h)))
+    by_move false e = ap (replicate words) (sources_same i s t same)
+
+address_marked : (i : Inst) (s t : State) → Agree i s t → is_marked s (address_registers i.ea) ≡ is_marked t (address_registers i.ea)
+address_marked i s t same = by_tests (has_base i.ea.mode) (has_index i.ea.mode) (λ h. same.marks i.ea.base (reads_base i h)) (λ h. same.marks i.ea.index (reads_index i h))
+  where
+    by_tests : (b x : Bool) → (b ≡ true → s.marks i.ea.base ≡ t.marks i.ea.base) → (x ≡ true → s.marks i.ea.index ≡ t.marks i.ea.index)
+        → is_marked s (cond b (i.ea.base ∷ []) [] ++ cond x (i.ea.index ∷ []) []) ≡ is_marked t (cond b (i.ea.base ∷ []) [] ++ cond x (i.ea.index ∷ []) [])
+    by_tests false false base index = refl
+    by_tests false true base index = rw (index refl) refl
+    by_tests true false base index = rw (base refl) refl
+    by_tests true true base index = rw (base refl, index refl) refl
+
+-- an allowed name that moves nothing lets no mark out, and decides by its sources where it keeps no marks
+plain_decides : (op : Op) (i : Inst) (s : State) → deciding op i s ≡ cond (is_allowed_name op) (cond (keeps_marks op) [] (sources i)) (deciding op i s)
+plain_decides Addi i s = refl
+plain_decides _ i s = refl
+
+stays_in : (op : Op) (i : Inst) (s : State) → goes_out op i s ≡ cond (is_allowed_name op) false (goes_out op i s)
+stays_in Addi i s = refl
+stays_in _ i s = refl
+
+stored_out_same : (d : Direction) (size : Size) (i : Inst) (s t : State) → IsAllowed i → Agree i s t → (d ≡ Store → words_read (row_of i.op).c ≡ register_count size) → stored_out d size i s ≡ stored_out d size i t
+stored_out_same Load size i s t ok same row = refl
+stored_out_same Store size i s t ok same row =
+    let count = row refl in
+    let marked : is_marked s (registers_of i.c (register_count size)) ≡ is_marked t (registers_of i.c (register_count size)) =
+    operand_marked s t i.c (register_count size) (λ k h. same.marks k (reads_c i k (ap (λ (n : ℕ). is_in_operand i.c n k) count ∙ h))) in
+    ap (λ (b : Bool). b && touches_port (address s i.ea) (byte_count size)) marked
+    ∙ ap (λ (a : ℕ). is_marked t (registers_of i.c (register_count size)) && touches_port a (byte_count size)) (address_same i s t ok same)
+
+misuse_same : (i : Inst) (s t : State) → IsAllowed i → Agree i s t → misuses i s ≡ misuses i t
+unfolding misuses
+misuse_same i s t ok same =
+    let parts = by_transfer (transfer_of i.op) refl in
+    plain s ∙ ap (λ (b : Bool). b || goes_out_by (transfer_of i.op) i s) parts.0 ∙ ap (λ (b : Bool). is_marked t (deciding_by (transfer_of i.op) i t) || b) parts.1 ∙ sym (plain t)
+  where
+    plain : (u : State) → (is_marked u (deciding_by (transfer_of i.op) i u) || (reaches_special i u || goes_out_by (transfer_of i.op) i u)) ≡ (is_marked u (deciding_by (transfer_of i.op) i u) || goes_out_by (transfer_of i.op) i u)
+    plain u = ap (λ (b : Bool). is_marked u (deciding_by (transfer_of i.op) i u) || ((b && list_any (λ (c : Bool). c) (destination_marks i u)) || goes_out_by (transfer_of i.op) i u)) ok.c
+
+    by_name : (u : State) → deciding i.op i u ≡ cond (keeps_marks i.op) [] (sources i)
+    by_name u = plain_decides i.op i u ∙ cond-true _ _ _ ok.name
+
+    none_out : (u : State) → goes_out i.op i u ≡ false
+    none_out u = stays_in i.op i u ∙ cond-true _ _ _ ok.name
+
+    by_keeping : (b : Bool) → is_marked s (cond b [] (sources i)) ≡ is_marked t (cond b [] (sources i))
+    by_keeping true = refl
+    by_keeping false = sources_same i s t same
+
+    by_transfer : (o : Option Transfer) → transfer_of i.op ≡ o → (is_marked s (deciding_by o i s) ≡ is_marked t (deciding_by o i t)) × (goes_out_by o i s ≡ goes_out_by o i t)
+    by_transfer (Some m) e = (address_marked i s t same, stored_out_same m.direction m.size i s t ok same (stores_registers i.op m e))
+    by_transfer None e =
+        (ap (is_marked s) (by_name s) ∙ by_keeping (keeps_marks i.op) ∙ sym (ap (is_marked t) (by_name t)), none_out s ∙ sym (none_out t))
 
 -- ---- all
 
-load_address : (op : Op) (i : Inst) (s : State) → is_lda op ≡ true → action_by_name op i s ≡ answering i s (address s i.ea)
+pub load_address : (op : Op) (i : Inst) (s : State) → is_lda op ≡ true → action_by_name op i s ≡ marking i.c (is_marked s (address_registers i.ea) ∷ []) (answering i s (address s i.ea))
 load_address Lda i s h = refl
 load_address _ i s h = absurd (cc h)
 
@@ -300,29 +412,36 @@ result_does i s t ok same e r =
     let x = answer_same i s t ok same in
     let acts : (u : State) → action_of i u ≡ resulting i u (answer_in i u) = λ u. ap (λ (o : Option Transfer). action_by o i u) e ∙ named i.op i u ∙ cond-true _ _ _ r in
     record {
-      deed = record { sets = assigned (destination i) (values_of (answer_in i s)); change = x.change; writes = [] };
+      deed = result_deed i (values_of (answer_in i s)) (result_marks i s) x.change;
       here = acts s ∙ resulting_deed i s (answer_in i s) x.change ok x.here;
       there = acts t ∙ resulting_deed i t (answer_in i t) x.change ok x.there
-          ∙ ap (λ (vs : List ℕ). deed_action i t (record { sets = assigned (destination i) vs; change = x.change; writes = [] })) (sym x.values);
+          ∙ ap (λ (vs : List ℕ). deed_action i t (result_deed i vs (result_marks i t) x.change)) (sym x.values)
+          ∙ ap (λ (bs : List Bool). deed_action i t (result_deed i (values_of (answer_in i s)) bs x.change)) (sym (result_marks_same i s t same));
       coded = x.coded;
       quiet = λ h. refl;
+      clean = λ h. refl;
       access = access_agree i s t ok same;
       fault = fault_agree i s t ok same;
+      misuse = misuse_same i s t ok same;
     }
 
 address_does : (i : Inst) (s t : State) → IsAllowed i → Agree i s t → transfer_of i.op ≡ None → is_lda i.op ≡ true → DoesSame i s t
 unfolding action_of
 address_does i s t ok same e l =
-    let acts : (u : State) → action_of i u ≡ deed_action i u (record { sets = assigned i.c (address u i.ea ∷ []); change = Keeps; writes = [] }) =
-    λ u. ap (λ (o : Option Transfer). action_by o i u) e ∙ load_address i.op i u l ∙ plain_target i.c (address u i.ea ∷ []) (passing i u) ok.c in
+    let acts : (u : State) → action_of i u ≡ deed_action i u (loading_deed i (address u i.ea ∷ []) (is_marked u (address_registers i.ea) ∷ [])) = λ u.
+    ap (λ (o : Option Transfer). action_by o i u) e ∙ load_address i.op i u l
+    ∙ ap (marking i.c (is_marked u (address_registers i.ea) ∷ [])) (plain_target i.c (address u i.ea ∷ []) (passing i u) ok.c) in
     record {
-      deed = record { sets = assigned i.c (address s i.ea ∷ []); change = Keeps; writes = [] };
+      deed = loading_deed i (address s i.ea ∷ []) (is_marked s (address_registers i.ea) ∷ []);
       here = acts s;
-      there = acts t ∙ ap (λ (a : ℕ). deed_action i t (record { sets = assigned i.c (a ∷ []); change = Keeps; writes = [] })) (sym (address_same i s t ok same));
+      there = acts t ∙ ap (λ (a : ℕ). deed_action i t (loading_deed i (a ∷ []) (is_marked t (address_registers i.ea) ∷ []))) (sym (address_same i s t ok same))
+          ∙ ap (λ (b : Bool). deed_action i t (loading_deed i (address s i.ea ∷ []) (b ∷ []))) (sym (address_marked i s t same));
       coded = λ h. absurd (cc h);
       quiet = λ h. refl;
+      clean = λ h. refl;
       access = access_agree i s t ok same;
       fault = fault_agree i s t ok same;
+      misuse = misuse_same i s t ok same;
     }
 
 move_does : (i : Inst) (s t : State) (m : Transfer) → IsAllowed i → Agree i s t → transfer_of i.op ≡ Some m → DoesSame i s t
@@ -331,23 +450,26 @@ move_does i s t m ok same e =
     let acts : (u : State) → action_of i u ≡ deed_action i u (moving_deed m.direction m.size m.signed i u) =
     λ u. ap (λ (o : Option Transfer). action_by o i u) e ∙ moving_is m.direction m.size m.signed i u ok in
     let deed = moving_deed m.direction m.size m.signed i s in
-    let bytes : m.direction ≡ Load → AreSameBytes s.memory t.memory (address s i.ea) (byte_count m.size) = λ load.
-    same.beside.bytes (address s i.ea) (byte_count m.size) (ap (λ (o : Option Transfer). access_by o i s) e ∙ ap (λ (d : Direction). moved_access d (address s i.ea) (byte_count m.size)) load) in
+    let loads : m.direction ≡ Load → AreLoaded s t (address s i.ea) (byte_count m.size) = λ load.
+    let reads = ap (λ (o : Option Transfer). access_by o i s) e ∙ ap (λ (d : Direction). moved_access d (address s i.ea) (byte_count m.size)) load in
+    record { bytes = same.beside.bytes (address s i.ea) (byte_count m.size) reads; soft = same.beside.soft (address s i.ea) (byte_count m.size) reads } in
     record {
       deed = deed;
       here = acts s;
-      there = acts t ∙ ap (λ (d : Deed). deed_action i t d) (sym (moving_agree m.direction m.size m.signed i s t ok same bytes (stores_registers i.op m e)));
+      there = acts t ∙ ap (λ (d : Deed). deed_action i t d) (sym (moving_agree m.direction m.size m.signed i s t ok same loads (stores_registers i.op m e)));
       coded = keeps m.direction;
       quiet = λ h. absurd (both_ways (is_request_name i.op) h (ap is_some e));
+      clean = λ h. absurd (both_ways (is_request_name i.op) h (ap is_some e));
       access = access_agree i s t ok same;
       fault = fault_agree i s t ok same;
+      misuse = misuse_same i s t ok same;
     }
   where
     keeps : (d : Direction) → is_code (moving_deed d m.size m.signed i s).change ≡ true → writes_code i.op ≡ true
     keeps Load h = absurd (cc h)
     keeps Store h = absurd (cc h)
 
-either : (a b c : Bool) → (a || b || c) ≡ true → a ≡ false → c ≡ false → b ≡ true
+pub either : (a b c : Bool) → (a || b || c) ≡ true → a ≡ false → c ≡ false → b ≡ true
 either true b c h x y = absurd (cc x)
 either false true c h x y = refl
 either false false c h x y = absurd (both_ways c y h)

@@ -17,13 +17,15 @@ use Rattle.i9_isa.specs.Resources.{is_in_operand, is_in_frame, writes_link, chan
 use Rattle.i9_isa.specs.Table.{row_of}
 use Rattle.i9_isa.specs.Transfers.{transfer_of, byte_count}
 use Rattle.i9_isa.specs.Words.{bit, words_of}
-use Rattle.i9_model.specs.Writes.{wrapped, written, last_put}
+use Rattle.i9_model.specs.Writes.{wrapped, written, or_earlier, last_put}
 use Rattle.i9_model.specs.Memory.{Memory, with_writes, exit_word, in_port_page}
 use Rattle.i9_model.specs.State.{State, Frames, TraceControls}
 use Rattle.i9_model.specs.declared.layout.TheConstants.{TRACE_ENABLE_PLACE}
 use Rattle.i9_model.specs.Tracing.{Instruction, has_mode}
-use Rattle.i9_model.specs.Frames.{wrote}
-use Rattle.i9_model.specs.Hazards.{read_hazard, write_hazard}
+use Rattle.i9_model.specs.Frames.{has, is_put, wrote, softened}
+use Rattle.i9_model.specs.Controls.{marks_after}
+use Rattle.i9_model.specs.Stale.{legible, misuses}
+use Rattle.i9_model.specs.Hazards.{write_hazard}
 use Rattle.i9_model.specs.Operands.{address}
 use Rattle.i9_model.specs.Conditions.{with_code}
 use Rattle.i9_model.specs.Faults.{raised, is_special, is_supervisor_only, is_invalid, is_past_table, is_unaligned}
@@ -42,22 +44,25 @@ use Rattle.i9_model.proofs.Stored.{written-last}
 use Rattle.i9_model.proofs.MaskLaws.{IsOutside, sets_beside}
 use Rattle.i9_model.proofs.CodeLaws.{code_beside}
 use Rattle.i9_model.proofs.AlikeSteps.{none_wrote}
+use Rattle.i9_model.proofs.Legible.{read_as}
 use Rattle.i9_tune.specs.Inputs.{Change, Keeps, Codes, Flags, changed, is_code}
 use Rattle.i9_tune.specs.Blocks.{is_allowed_name, Spares, AreApart}
 use Rattle.i9_tune.specs.Deeds.{Deed, deed_action, DoesSame}
 use Rattle.i9_tune.specs.Passes.{MissesBytes, is_watched, is_seen, Passes, stepped, port_bytes, ArePassed, behind, sent, AreAsGood}
 use Rattle.i9_model.proofs.Outside.{all_false}
 use Rattle.i9_tune.proofs.Sources.{Agree, IsAllowed, register_is_read, code_is_read, does_same, still, other_memory}
+use Rattle.i9_tune.proofs.Unmarked.{unmarked}
 
 -- ---- the state behind a deed
 
 abbrev pub after_deed : Inst → State → Deed → State
 after_deed i s d = record s {
   regs = written s.regs d.sets;
+  marks = marks_after s.marks d.sets d.marked;
   ac = changed d.change s.ac;
   check = false;
   memory = with_writes s.memory d.writes;
-  frames = wrote s.frames d.writes;
+  frames = softened (wrote s.frames d.writes) d.stale;
   ip = following i s;
   count = s.count + 1;
 }
@@ -67,7 +72,7 @@ unfolding acted moved
 stepped_by i s d e = ap (λ (a : Action). counted 1 (acted s a)) e
 
 pub same_here : (i : Inst) (s : State) → Agree i s s
-same_here i s = record { regs = λ k h. refl; code = λ h. refl; beside = record { mask = refl; orders = refl; bytes = λ a n e k h. refl } }
+same_here i s = record { regs = λ k h. refl; marks = λ k h. refl; code = λ h. refl; beside = record { mask = refl; orders = refl; bytes = λ a n e k h. refl; soft = λ a n e k h. refl } }
 
 -- ---- what it leaves
 
@@ -97,6 +102,27 @@ writes_no_code i h =
 -- a register that is not written is not set
 unset : (i : Inst) (s : State) (d : Deed) (k : ℕ) → action_of i s ≡ deed_action i s d → is_written i k ≡ false → last_put d.sets k ≡ None
 unset i s d k e h = sym (ap (λ (a : Action). last_put a.sets k) e) ∙ sets_beside i s k (outside i k h)
+
+not_put : (ps : List (ℕ × ℕ)) (k : ℕ) → last_put ps k ≡ None → is_put ps k ≡ false
+unfolding last_put is_put
+not_put [] k e = refl
+not_put (p ∷ ps) k e = by_parts (last_put ps k) (k == p.0) e (not_put ps k)
+  where
+    by_parts : (o : Option ℕ) (b : Bool) → or_earlier o (cond b (Some p.1) None) ≡ None → (o ≡ None → is_put ps k ≡ false) → (b || is_put ps k) ≡ false
+    by_parts (Some v) b e later = absurd (cc e)
+    by_parts None true e later = absurd (cc e)
+    by_parts None false e later = later refl
+
+and_true : (b : Bool) → (b && true) ≡ b
+and_true true = refl
+and_true false = refl
+
+-- and keeps its mark
+marks_kept : (marks : ℕ → Bool) (sets : List (ℕ × ℕ)) (marked : List ℕ) (k : ℕ) → last_put sets k ≡ None → has marked k ≡ false → marks_after marks sets marked k ≡ marks k
+marks_kept marks sets marked k e h = rw (h, not_put sets k e) (and_true (marks k))
+
+unset_mark : (i : Inst) (s : State) (d : Deed) (k : ℕ) → IsAllowed i → action_of i s ≡ deed_action i s d → is_written i k ≡ false → has d.marked k ≡ false
+unset_mark i s d k ok e h = sym (ap (λ (a : Action). has a.marked k) e) ∙ unmarked i s k ok (outside i k h)
 
 unspared : (i j : Inst) (k : ℕ) → Spares i j → is_read j k ≡ true → is_written i k ≡ false
 unspared i j k spares r = by_test (is_written i k) refl
@@ -128,23 +154,47 @@ with_none : (m : Memory) → with_writes m [] ≡ m
 unfolding written
 with_none m = refl
 
-agree_deed : (i j : Inst) (s : State) (d : Deed) → IsAllowed j → action_of i s ≡ deed_action i s d → (is_request_name i.op ≡ false → d.writes ≡ []) → Spares i j → (is_request_name i.op && is_request_name j.op) ≡ false
+-- the deed writes nothing, and makes nothing soft
+pub record IsQuiet (d : Deed) : Type 0 where
+  pub writes : d.writes ≡ []
+  pub stale : d.stale ≡ []
+
+quiet_frames : (f : Frames) (d : Deed) → IsQuiet d → softened (wrote f d.writes) d.stale ≡ f
+quiet_frames f d q = rw (q.writes, q.stale) (none_wrote f)
+
+quiet_memory : (m : Memory) (d : Deed) → IsQuiet d → with_writes m d.writes ≡ m
+quiet_memory m d q = rw (q.writes) (with_none m)
+
+quiet_legible : (i : Inst) (s : State) (d : Deed) → IsQuiet d → legible (after_deed i s d) ≡ legible s
+quiet_legible i s d q =
+    ap (λ (f : Frames). read_as (with_writes s.memory d.writes) f s.reading) (quiet_frames s.frames d q)
+    ∙ ap (λ (m : Memory). read_as m s.frames s.reading) (quiet_memory s.memory d q)
+
+agree_deed : (i j : Inst) (s : State) (d : Deed) → IsAllowed i → IsAllowed j → action_of i s ≡ deed_action i s d → (is_request_name i.op ≡ false → IsQuiet d) → Spares i j → (is_request_name i.op && is_request_name j.op) ≡ false
     → Agree j s (after_deed i s d)
-agree_deed i j s d ok e quiet spares requests = record {
+agree_deed i j s d own ok e quiet spares requests = record {
   regs = λ k r. sym (written-last s.regs d.sets k ∙ ap (λ (o : Option ℕ). unwrap_or o (s.regs k)) (unset i s d k e (unspared i j k spares (register_is_read j k r))));
+  marks = λ k r. let none = unspared i j k spares (register_is_read j k r) in
+      sym (marks_kept s.marks d.sets d.marked k (unset i s d k e none) (unset_mark i s d k own e none));
   code = λ r. sym (sym (ap (λ (a : Action). a.ac % 8) e) ∙ code_beside i s (writes_no_code i (unspared i j CONDITION_CODE spares (code_is_read j r))));
   beside = record {
     mask = sym (change_mask d.change s.ac);
     orders = refl;
-    bytes = λ a n reads k h. let none = quiet (quiet_other _ _ requests (load_request j s a n ok reads)) in
-        sym (ap (λ (ws : List (ℕ × ℕ)). (with_writes s.memory ws).bytes (wrapped (a + k))) none ∙ ap (λ (m : Memory). m.bytes (wrapped (a + k))) (with_none s.memory));
+    bytes = λ a n reads k h. sym (ap (λ (m : Memory). m.bytes (wrapped (a + k))) (quiet_legible i s d (still_there a n reads)));
+    soft = λ a n reads k h. sym (ap (λ (f : Frames). f.soft (wrapped (a + k))) (quiet_frames s.frames d (still_there a n reads)));
   };
 }
+  where
+    still_there : (a n : ℕ) → access_of j s ≡ Reads a n → IsQuiet d
+    still_there a n reads = quiet (quiet_other _ _ requests (load_request j s a n ok reads))
+
+quiet_deed : (i : Inst) (s t : State) (x : DoesSame i s t) → is_request_name i.op ≡ false → IsQuiet x.deed
+quiet_deed i s t x h = record { writes = x.quiet h; stale = x.clean h }
 
 pub agree_after : (i j : Inst) (s : State) → IsAllowed i → IsAllowed j → Spares i j → (is_request_name i.op && is_request_name j.op) ≡ false → Agree j s (stepped i s)
 agree_after i j s ok other spares requests =
     let x = does_same i s s ok (same_here i s) in
-    subst (Agree j s) (sym (stepped_by i s x.deed x.here)) (agree_deed i j s x.deed other x.here x.quiet spares requests)
+    subst (Agree j s) (sym (stepped_by i s x.deed x.here)) (agree_deed i j s x.deed ok other x.here (quiet_deed i s s x) spares requests)
 
 -- ---- what decides whether it is done
 
@@ -179,7 +229,7 @@ raised_same i s t ok access pc tables =
     ∙ sym (raised_plain i _ _ (data_of (access_of i t)) t.pc t.tables.fault_config ok)
 
 moved_hazard : (d : Direction) (a n : ℕ) (s t : State) → s.frames ≡ t.frames → hazard_in s (moved_access d a n) ≡ hazard_in t (moved_access d a n)
-moved_hazard Load a n s t e = ap (λ (f : Frames). read_hazard f a n) e
+moved_hazard Load a n s t e = refl
 moved_hazard Store a n s t e = ap (λ (f : Frames). write_hazard f a n) e
 
 hazard_same : (i : Inst) (s t : State) → IsAllowed i → access_of i s ≡ access_of i t → (is_request_name i.op ≡ true → s.frames ≡ t.frames) → hazard_of i s ≡ hazard_of i t
@@ -203,6 +253,7 @@ exit_same m n ps qs e f = ap (exit_word m) f ∙ sym (exit_other m n.bytes qs) �
 
 -- all that decides whether an instruction is done is the same in both states
 pub record Fate (i : Inst) (s t : State) : Type 0 where
+  pub misuse : misuses i s ≡ misuses i t
   pub raised : raised_in i s ≡ raised_in i t
   pub later : later_fault i s ≡ later_fault i t
   pub hazard : hazard_of i s ≡ hazard_of i t
@@ -211,10 +262,11 @@ pub record Fate (i : Inst) (s t : State) : Type 0 where
   pub access : access_of i s ≡ access_of i t
 
 pub fate_back : (i : Inst) (s t : State) → Fate i s t → Fate i t s
-fate_back i s t f = record { raised = sym f.raised; later = sym f.later; hazard = sym f.hazard; exit = sym f.exit; seen = sym f.seen; access = sym f.access }
+fate_back i s t f = record { misuse = sym f.misuse; raised = sym f.raised; later = sym f.later; hazard = sym f.hazard; exit = sym f.exit; seen = sym f.seen; access = sym f.access }
 
 pub passes_by : (area : ℕ × ℕ) (i : Inst) (s t : State) → Fate i s t → Passes area i s → Passes area i t
 passes_by area i s t f p = record {
+  proper = sym f.misuse ∙ p.proper;
   raised = sym f.raised ∙ p.raised;
   later = sym f.later ∙ p.later;
   hazard = sym f.hazard ∙ p.hazard;
@@ -229,6 +281,7 @@ seen_by pc c a = bit pc TRACE_ENABLE_PLACE && (has_mode c.tc Instruction || is_w
 
 pub fate_of : (i : Inst) (s t : State) → IsAllowed i → DoesSame i s t → s.pc ≡ t.pc → s.trace ≡ t.trace → s.tables ≡ t.tables → s.memory.mcon ≡ t.memory.mcon → (is_request_name i.op ≡ true → s.frames ≡ t.frames) → Fate i s t
 fate_of i s t ok x pc trace tables orders frames = record {
+  misuse = x.misuse;
   raised = raised_same i s t ok x.access pc tables;
   later = x.fault;
   hazard = hazard_same i s t ok x.access frames;
@@ -271,43 +324,62 @@ changes_change Flags Keeps ac h = refl
 changes_change Flags (Codes m) ac h = flag_and_code ac m
 changes_change Flags Flags ac h = refl
 
--- writes of which one list is empty
-pub record OneEmpty (ps qs : List (ℕ × ℕ)) : Type 0 where
+marks_change : (f : ℕ → Bool) (ps qs : List (ℕ × ℕ)) (ms ns : List ℕ) (w : ℕ → Bool)
+    → ((k : ℕ) → w k ≡ false → (last_put ps k ≡ None) × (has ms k ≡ false)) → ((k : ℕ) → w k ≡ true → (last_put qs k ≡ None) × (has ns k ≡ false))
+    → marks_after (marks_after f ps ms) qs ns ≡ marks_after (marks_after f qs ns) ps ms
+marks_change f ps qs ms ns w p q = λ r k. by_test k (w k) refl r
+  where
+    by_test : (k : ℕ) (b : Bool) → w k ≡ b → marks_after (marks_after f ps ms) qs ns k ≡ marks_after (marks_after f qs ns) ps ms k
+    by_test k false e =
+        let h = p k e in
+        ap (λ (b : Bool). has ns k || (b && not (is_put qs k))) (marks_kept f ps ms k h.0 h.1) ∙ sym (marks_kept (marks_after f qs ns) ps ms k h.0 h.1)
+    by_test k true e =
+        let h = q k e in
+        marks_kept (marks_after f ps ms) qs ns k h.0 h.1 ∙ sym (ap (λ (b : Bool). has ms k || (b && not (is_put ps k))) (marks_kept f qs ns k h.0 h.1))
+
+-- writes, and bytes that get soft, of which the lists of one deed are empty
+pub record OneEmpty (d e : Deed) : Type 0 where
   pub which : Bool
-  pub first : which ≡ true → ps ≡ []
-  pub second : which ≡ false → qs ≡ []
+  pub first : which ≡ true → IsQuiet d
+  pub second : which ≡ false → IsQuiet e
 
-memory_change : (m : Memory) (ps qs : List (ℕ × ℕ)) → OneEmpty ps qs → with_writes (with_writes m ps) qs ≡ with_writes (with_writes m qs) ps
-memory_change m ps qs one = by_test one.which one.first one.second
+memory_change : (m : Memory) (d e : Deed) → OneEmpty d e → with_writes (with_writes m d.writes) e.writes ≡ with_writes (with_writes m e.writes) d.writes
+memory_change m d e one = by_test one.which one.first one.second
   where
-    by_test : (b : Bool) → (b ≡ true → ps ≡ []) → (b ≡ false → qs ≡ []) → with_writes (with_writes m ps) qs ≡ with_writes (with_writes m qs) ps
-    by_test true e f = rw (e refl) (ap (λ (n : Memory). with_writes n qs) (with_none m) ∙ sym (with_none (with_writes m qs)))
-    by_test false e f = rw (f refl) (with_none (with_writes m ps) ∙ sym (ap (λ (n : Memory). with_writes n ps) (with_none m)))
+    by_test : (b : Bool) → (b ≡ true → IsQuiet d) → (b ≡ false → IsQuiet e) → with_writes (with_writes m d.writes) e.writes ≡ with_writes (with_writes m e.writes) d.writes
+    by_test true p q = ap (λ (n : Memory). with_writes n e.writes) (quiet_memory m d (p refl)) ∙ sym (quiet_memory (with_writes m e.writes) d (p refl))
+    by_test false p q = quiet_memory (with_writes m d.writes) e (q refl) ∙ sym (ap (λ (n : Memory). with_writes n d.writes) (quiet_memory m e (q refl)))
 
-frames_change : (m : Frames) (ps qs : List (ℕ × ℕ)) → OneEmpty ps qs → wrote (wrote m ps) qs ≡ wrote (wrote m qs) ps
-frames_change m ps qs one = by_test one.which one.first one.second
+-- the frames behind a deed
+abbrev pub left : Frames → Deed → Frames
+left f d = softened (wrote f d.writes) d.stale
+
+frames_change : (f : Frames) (d e : Deed) → OneEmpty d e → left (left f d) e ≡ left (left f e) d
+frames_change f d e one = by_test one.which one.first one.second
   where
-    by_test : (b : Bool) → (b ≡ true → ps ≡ []) → (b ≡ false → qs ≡ []) → wrote (wrote m ps) qs ≡ wrote (wrote m qs) ps
-    by_test true e f = rw (e refl) (ap (λ (n : Frames). wrote n qs) (none_wrote m) ∙ sym (none_wrote (wrote m qs)))
-    by_test false e f = rw (f refl) (none_wrote (wrote m ps) ∙ sym (ap (λ (n : Frames). wrote n ps) (none_wrote m)))
+    by_test : (b : Bool) → (b ≡ true → IsQuiet d) → (b ≡ false → IsQuiet e) → left (left f d) e ≡ left (left f e) d
+    by_test true p q = ap (λ (g : Frames). left g e) (quiet_frames f d (p refl)) ∙ sym (quiet_frames (left f e) d (p refl))
+    by_test false p q = quiet_frames (left f d) e (q refl) ∙ sym (ap (λ (g : Frames). left g d) (quiet_frames f e (q refl)))
 
 abbrev pub in_port : List (ℕ × ℕ) → List (ℕ × ℕ)
 in_port ps = filter (λ (p : ℕ × ℕ). in_port_page p.0) ps
 
-port_change : (ps qs rs : List (ℕ × ℕ)) → OneEmpty ps qs → in_port qs ++ (in_port ps ++ rs) ≡ in_port ps ++ (in_port qs ++ rs)
-port_change ps qs rs one = by_test one.which one.first one.second
+port_change : (d e : Deed) (rs : List (ℕ × ℕ)) → OneEmpty d e → in_port e.writes ++ (in_port d.writes ++ rs) ≡ in_port d.writes ++ (in_port e.writes ++ rs)
+port_change d e rs one = by_test one.which one.first one.second
   where
-    by_test : (b : Bool) → (b ≡ true → ps ≡ []) → (b ≡ false → qs ≡ []) → in_port qs ++ (in_port ps ++ rs) ≡ in_port ps ++ (in_port qs ++ rs)
-    by_test true e f = rw (e refl) refl
-    by_test false e f = rw (f refl) refl
+    by_test : (b : Bool) → (b ≡ true → IsQuiet d) → (b ≡ false → IsQuiet e) → in_port e.writes ++ (in_port d.writes ++ rs) ≡ in_port d.writes ++ (in_port e.writes ++ rs)
+    by_test true p q = rw ((p refl).writes) refl
+    by_test false p q = rw ((q refl).writes) refl
 
-deeds_change : (i j : Inst) (s : State) (d e : Deed) → written (written s.regs d.sets) e.sets ≡ written (written s.regs e.sets) d.sets → changed e.change (changed d.change s.ac) ≡ changed d.change (changed e.change s.ac) → OneEmpty d.writes e.writes
+deeds_change : (i j : Inst) (s : State) (d e : Deed) → written (written s.regs d.sets) e.sets ≡ written (written s.regs e.sets) d.sets
+    → marks_after (marks_after s.marks d.sets d.marked) e.sets e.marked ≡ marks_after (marks_after s.marks e.sets e.marked) d.sets d.marked
+    → changed e.change (changed d.change s.ac) ≡ changed d.change (changed e.change s.ac) → OneEmpty d e
     → after_deed j (after_deed i s d) e ≡ after_deed i (after_deed j s e) d
-deeds_change i j s d e regs ac one =
-    let memory = memory_change s.memory d.writes e.writes one in
-    let frames = frames_change s.frames d.writes e.writes one in
+deeds_change i j s d e regs marks ac one =
+    let memory = memory_change s.memory d e one in
+    let frames = frames_change s.frames d e one in
     let ip : wrapped (wrapped (s.ip + 4 * words_of i) + 4 * words_of j) ≡ wrapped (wrapped (s.ip + 4 * words_of j) + 4 * words_of i) = omega arith in
-    λ r. record s { regs = regs r; ac = ac r; check = false; memory = memory r; frames = frames r; ip = ip r; count = s.count + 1 + 1 }
+    λ r. record s { regs = regs r; marks = marks r; ac = ac r; check = false; memory = memory r; frames = frames r; ip = ip r; count = s.count + 1 + 1 }
 
 swapped : (a b : Bool) → (a && b) ≡ false → (b && a) ≡ false
 swapped true true h = h
@@ -315,9 +387,9 @@ swapped true false h = refl
 swapped false true h = refl
 swapped false false h = refl
 
-one_empty : (a b : Bool) (ps qs : List (ℕ × ℕ)) → (a && b) ≡ false → (a ≡ false → ps ≡ []) → (b ≡ false → qs ≡ []) → OneEmpty ps qs
-one_empty false b ps qs h p q = record { which = true; first = λ e. p refl; second = λ e. absurd (cc e) }
-one_empty true b ps qs h p q = record { which = false; first = λ e. absurd (cc e); second = λ e. q (quiet_other b true (swapped true b h) refl) }
+one_empty : (a b : Bool) (d e : Deed) → (a && b) ≡ false → (a ≡ false → IsQuiet d) → (b ≡ false → IsQuiet e) → OneEmpty d e
+one_empty false b d e h p q = record { which = true; first = λ x. p refl; second = λ x. absurd (cc x) }
+one_empty true b d e h p q = record { which = false; first = λ x. absurd (cc x); second = λ x. q (quiet_other b true (swapped true b h) refl) }
 
 codes_written : (i : Inst) → writes_code i.op ≡ true → is_written i CONDITION_CODE ≡ true
 codes_written i h = or_right _ _ (ap (λ (b : Bool). b && true) h)
@@ -328,10 +400,10 @@ three p q r x y z e f g = rw (e, f, g) refl
 pub port_by : (i : Inst) (s : State) (d : Deed) → action_of i s ≡ deed_action i s d → port_bytes i s ≡ in_port d.writes
 port_by i s d e = ap (λ (a : Action). filter (λ (p : ℕ × ℕ). in_port_page p.0) a.writes) e
 
-frames_left : (i : Inst) (s : State) (d : Deed) → action_of i s ≡ deed_action i s d → d.writes ≡ [] → s.frames ≡ (stepped i s).frames
-frames_left i s d e none = sym (ap (λ (t : State). t.frames) (stepped_by i s d e) ∙ ap (wrote s.frames) none ∙ none_wrote s.frames)
+frames_left : (i : Inst) (s : State) (d : Deed) → action_of i s ≡ deed_action i s d → IsQuiet d → s.frames ≡ (stepped i s).frames
+frames_left i s d e quiet = sym (ap (λ (t : State). t.frames) (stepped_by i s d e) ∙ quiet_frames s.frames d quiet)
 
-fate_after : (i j : Inst) (s : State) (d : Deed) → IsAllowed j → action_of i s ≡ deed_action i s d → (is_request_name i.op ≡ false → d.writes ≡ []) → (is_request_name i.op && is_request_name j.op) ≡ false → DoesSame j s (stepped i s)
+fate_after : (i j : Inst) (s : State) (d : Deed) → IsAllowed j → action_of i s ≡ deed_action i s d → (is_request_name i.op ≡ false → IsQuiet d) → (is_request_name i.op && is_request_name j.op) ≡ false → DoesSame j s (stepped i s)
     → Fate j s (stepped i s)
 fate_after i j s d ok e quiet requests y =
     let step = stepped_by i s d e in
@@ -352,19 +424,25 @@ square i j s p q apart =
     let y = does_same j s (stepped i s) q (agree_after i j s p q apart.first apart.requests) in
     let d = x.deed in
     let e = y.deed in
-    let one = one_empty _ _ d.writes e.writes apart.requests x.quiet y.quiet in
-    let regs = registers_change s.regs d.sets e.sets (is_written i) (λ k h. unset i s d k x.here h) (λ k h. unset j s e k y.here (apart.first k h).1) in
+    let first_quiet = quiet_deed i s (stepped j s) x in
+    let second_quiet = quiet_deed j s (stepped i s) y in
+    let one = one_empty _ _ d e apart.requests first_quiet second_quiet in
+    let first_unset = λ (k : ℕ). λ (h : is_written i k ≡ false). unset i s d k x.here h in
+    let second_unset = λ (k : ℕ). λ (h : is_written i k ≡ true). unset j s e k y.here (apart.first k h).1 in
+    let regs = registers_change s.regs d.sets e.sets (is_written i) first_unset second_unset in
+    let marks = marks_change s.marks d.sets e.sets d.marked e.marked (is_written i)
+    (λ k h. (first_unset k h, unset_mark i s d k p x.here h)) (λ k h. (second_unset k h, unset_mark j s e k q y.here (apart.first k h).1)) in
     let ac = changes_change d.change e.change s.ac
     (λ c g. both_ways (is_written j CONDITION_CODE) (apart.first CONDITION_CODE (codes_written i (x.coded c))).1 (codes_written j (y.coded g))) in
     let ij = stepped_by j (stepped i s) e y.there ∙ ap (λ (t : State). after_deed j t e) (stepped_by i s d x.here) in
     let ji = stepped_by i (stepped j s) d x.there ∙ ap (λ (t : State). after_deed i t d) (stepped_by j s e y.here) in
     record {
-      state = ji ∙ sym (deeds_change i j s d e regs ac one) ∙ sym ij;
-      first = fate_after j i s e p y.here y.quiet requests x;
-      second = fate_after i j s d q x.here x.quiet apart.requests y;
+      state = ji ∙ sym (deeds_change i j s d e regs marks ac one) ∙ sym ij;
+      first = fate_after j i s e p y.here second_quiet requests x;
+      second = fate_after i j s d q x.here first_quiet apart.requests y;
       port = λ r.
           three (port_bytes j s) (port_bytes i (stepped j s)) r (in_port e.writes) (in_port d.writes) r (port_by j s e y.here) (port_by i (stepped j s) d x.there) refl
-          ∙ port_change d.writes e.writes r one
+          ∙ port_change d e r one
           ∙ sym (three (port_bytes i s) (port_bytes j (stepped i s)) r (in_port d.writes) (in_port e.writes) r (port_by i s d x.here) (port_by j (stepped i s) e y.there) refl);
     }
 

@@ -14,6 +14,7 @@ use Rattle.i9_model.specs.State.{State}
 use Rattle.i9_model.specs.Step.{action_of, acted, counted}
 use Rattle.i9_model.specs.Access.{access_of, data_of, hazard_of}
 use Rattle.i9_model.specs.Standing.{raised_in, later_fault}
+use Rattle.i9_model.specs.Stale.{misuses}
 use Rattle.i9_model.specs.Run.{exit_in}
 
 -- an access of memory has no byte of an area, which is an address and a number of bytes
@@ -39,9 +40,10 @@ is_broken s a =
     is_traced s
     && (is_at_address (slice_index s.trace.breaks.ipb 0) a || is_at_address (slice_index s.trace.breaks.ipb 1) a)
 
--- The instruction is done in a state: it raises no fault, meets no hazard, brings no exit, has no trace event but by
--- its address, and its load or store has no byte of the area.
+-- The instruction is done in a state: it misuses no marked register, raises no fault, meets no hazard, brings no exit,
+-- has no trace event but by its address, and its load or store has no byte of the area.
 pub record Passes (area : ℕ × ℕ) (i : Inst) (s : State) : Type 0 where
+  pub proper : misuses i s ≡ false
   pub raised : raised_in i s ≡ None
   pub later : later_fault i s ≡ None
   pub hazard : hazard_of i s ≡ None

@@ -1,2 +1,4 @@
 pub mod Marking
 pub mod Watching
+pub mod Runs
+pub mod SetBits

@@ -11,12 +11,12 @@ use Rattle.i9_model.specs.Frames.{in_bytes}
 use Rattle.i9_model.proofs.Places.{in_bytes-none, in_bytes-more}
 use Rattle.i9_pages.specs.Table.{page_at, IsCopy}
 use Rattle.i9_watch.specs.declared.page.Mark.{Mark}
-use Rattle.i9_watch.specs.declared.page.Mark.TheVariants.{Soft, Live}
+use Rattle.i9_watch.specs.declared.page.Mark.TheVariants.{Soft, Live, Lost}
 use Rattle.i9_watch.specs.declared.page.Change.{Change}
-use Rattle.i9_watch.specs.declared.page.Change.TheVariants.{Save, Store, Return, Flush}
+use Rattle.i9_watch.specs.declared.page.Change.TheVariants.{Save, Store, Return, Soften, Lose}
 use Rattle.i9_watch.specs.declared.page.Page.{Page}
 use Rattle.i9_watch.specs.declared.marks.Marks.{Marks}
-use Rattle.i9_watch.specs.Page.{has_mark, changed}
+use Rattle.i9_watch.specs.Page.{has_mark, changed, sets_marks}
 use Rattle.i9_watch.specs.Marks.{is_marked, is_marked_in, changed_run, HasPage}
 
 -- functions that agree everywhere are one
@@ -29,9 +29,10 @@ get_or_unmarked (suc n) zero = refl
 get_or_unmarked (suc n) (suc k) = get_or_unmarked n k
 
 -- a new page has no marks
-pub new_page : (p : Page) → p.soft.value ≡ replicate 256 false → p.live ≡ replicate 16 false → (m : Mark) (k : ℕ) → has_mark m p k ≡ false
-new_page p soft live Soft k = ap (λ (xs : List Bool). get_or xs k false) soft ∙ get_or_unmarked 256 k
-new_page p soft live Live k = ap (λ (xs : List Bool). get_or xs (k / 16) false) live ∙ get_or_unmarked 16 (k / 16)
+pub new_page : (p : Page) → p.soft.value ≡ replicate 256 false → p.live ≡ replicate 16 false → p.lost.value ≡ replicate 256 false → (m : Mark) (k : ℕ) → has_mark m p k ≡ false
+new_page p soft live lost Soft k = ap (λ (xs : List Bool). get_or xs k false) soft ∙ get_or_unmarked 256 k
+new_page p soft live lost Live k = ap (λ (xs : List Bool). get_or xs (k / 16) false) live ∙ get_or_unmarked 16 (k / 16)
+new_page p soft live lost Lost k = ap (λ (xs : List Bool). get_or xs k false) lost ∙ get_or_unmarked 256 k
 
 passed_by : (b c : Bool) → (b || c) ≡ false → (b ≡ false) × (c ≡ false)
 passed_by b c e = (grind arith, grind arith)
@@ -149,6 +150,17 @@ none_case false f a j m k e first second h =
 pub none_more : (f : ℕ → Bool) (a j m : ℕ) → ((i : ℕ) → i < j → f (wrapped (a + i)) ≡ false) → ((i : ℕ) → i < m → f (wrapped (wrapped (a + j) + i)) ≡ false) → (k : ℕ) → k < j + m → f (wrapped (a + k)) ≡ false
 none_more f a j m first second k h = none_case (nat_lt k j) f a j m k refl first second h
 
+-- where none of a run is marked, its addresses are not
+pub run_clear : (f : ℕ → Bool) (a n x : ℕ) → ((k : ℕ) → k < n → f (wrapped (a + k)) ≡ false) → in_bytes a n x ≡ true → f x ≡ false
+run_clear f a zero x none t = absurd (let no : false ≡ true = sym (in_bytes-none a x) ∙ t in cc no)
+run_clear f a (suc n) x none t =
+    by_cases (in_bytes a n x) (x == wrapped (a + n)) refl refl (run_clear f a n x (λ k h. none k (omega (arith, h)))) (sym (one_more a n x) ∙ t)
+  where
+    by_cases : (b c : Bool) → in_bytes a n x ≡ b → (x == wrapped (a + n)) ≡ c → (in_bytes a n x ≡ true → f x ≡ false) → (b || c) ≡ true → f x ≡ false
+    by_cases true c p q again u = again p
+    by_cases false true p q again u = ap f (eqb-true x (wrapped (a + n)) q) ∙ none n (omega arith)
+    by_cases false false p q again u = absurd cc
+
 -- ---- marks of a run
 
 -- where a place of a page lies, if not in a run
@@ -209,16 +221,19 @@ set_place a n x value before after small fits within outside others =
     place_case (x / 256 == a / 256) (is_outside (a % 256) n (x % 256)) a n x value before after small fits refl refl within outside others
 
 -- where there is no room nothing is marked
-none_after : (c : Change) (m : Mark) (A : Type 0) → (A → ⊥) → (c ≡ Save → A) → false ≡ changed c m false
+none_after : (c : Change) (m : Mark) (A : Type 0) → (A → ⊥) → (sets_marks c ≡ true → A) → false ≡ changed c m false
 none_after Save m A lacks room = absurd (lacks (room refl))
+none_after Soften m A lacks room = absurd (lacks (room refl))
+none_after Lose m A lacks room = absurd (lacks (room refl))
+none_after Store Lost A lacks room = refl
+none_after Return Lost A lacks room = refl
 none_after Store Soft A lacks room = refl
 none_after Store Live A lacks room = refl
 none_after Return Soft A lacks room = refl
 none_after Return Live A lacks room = refl
-none_after Flush m A lacks room = refl
 
 -- where the page is lacking there is nothing to take away, and no room to save
-pub lacking_page : (c : Change) (m : Mark) (s : Marks) (a n : ℕ) → a < 2 ^ 32 → a % 256 + n ≤ 256 → (HasPage s (a / 256) → ⊥) → (c ≡ Save → HasPage s (a / 256)) → is_marked m s ≡ changed_run c m a n (is_marked m s)
+pub lacking_page : (c : Change) (m : Mark) (s : Marks) (a n : ℕ) → a < 2 ^ 32 → a % 256 + n ≤ 256 → (HasPage s (a / 256) → ⊥) → (sets_marks c ≡ true → HasPage s (a / 256)) → is_marked m s ≡ changed_run c m a n (is_marked m s)
 lacking_page c m s a n small fits lacks room = same_marks _ _ (λ x.
     set_place a n x (changed c m (is_marked m s x)) (is_marked m s x) (is_marked m s x) small fits
     (λ e _ _.
@@ -229,17 +244,26 @@ lacking_page c m s a n small fits lacks room = same_marks _ _ (λ x.
 
 -- a change that is made twice
 twice : (c : Change) (m : Mark) (b : Bool) → changed c m (changed c m b) ≡ changed c m b
-twice Save m b = refl
+twice Save Soft b = refl
+twice Save Live b = refl
+twice Save Lost b = refl
 twice Store Soft b = refl
 twice Store Live b = refl
+twice Store Lost b = refl
 twice Return Soft b = refl
 twice Return Live b = refl
-twice Flush m b = refl
+twice Return Lost b = refl
+twice Soften Soft b = refl
+twice Soften Live b = refl
+twice Soften Lost b = refl
+twice Lose Soft b = refl
+twice Lose Live b = refl
+twice Lose Lost b = refl
 
 abbrev changed_if : Change → Mark → Bool → Bool → Bool
 changed_if c m here mark = if here then changed c m mark else mark
 
-if_either : (c : Change) (m : Mark) (here there mark : Bool) → changed_if c m there (changed_if c m here mark) ≡ changed_if c m (here || there) mark
+pub if_either : (c : Change) (m : Mark) (here there mark : Bool) → changed_if c m there (changed_if c m here mark) ≡ changed_if c m (here || there) mark
 if_either c m true true mark = twice c m mark
 if_either c m true false mark = refl
 if_either c m false there mark = refl
@@ -270,6 +294,7 @@ copied_marks old new copies is same m = λ i x.
     copied_mark copies same m (page_at old.pages (x / 256)) (page_at new.pages (x / 256)) (is (x / 256)) (x % 256) i
 
 -- a page with the same values has the same marks
-pub same_values : (x y : Page) → y.soft.value ≡ x.soft.value → y.live ≡ x.live → (m : Mark) (k : ℕ) → has_mark m y k ≡ has_mark m x k
-same_values x y soft live Soft k = ap (λ (bs : List Bool). get_or bs k false) soft
-same_values x y soft live Live k = ap (λ (bs : List Bool). get_or bs (k / 16) false) live
+pub same_values : (x y : Page) → y.soft.value ≡ x.soft.value → y.live ≡ x.live → y.lost.value ≡ x.lost.value → (m : Mark) (k : ℕ) → has_mark m y k ≡ has_mark m x k
+same_values x y soft live lost Soft k = ap (λ (bs : List Bool). get_or bs k false) soft
+same_values x y soft live lost Live k = ap (λ (bs : List Bool). get_or bs (k / 16) false) live
+same_values x y soft live lost Lost k = ap (λ (bs : List Bool). get_or bs k false) lost

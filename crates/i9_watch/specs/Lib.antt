@@ -1,3 +1,4 @@
+pub mod Bits
 pub mod Live
 pub mod Marks
 pub mod Page

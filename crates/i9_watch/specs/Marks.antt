@@ -1,6 +1,5 @@
 -- Marks: which addresses are marked, and which have room for marks.
 use Rattle.std.specs.Prelude.{◌≢◌, ℕ, ◌+◌, ◌/◌, ◌<◌, ◌%◌, Bool, false, if◌then◌else◌, Option, Some, None, IsSome}
-use Rattle.i9_model.specs.declared.layout.TheConstants.{FRAME_SIZE}
 use Rattle.i9_model.specs.Writes.{wrapped}
 use Rattle.i9_model.specs.Frames.{in_bytes}
 use Rattle.i9_pages.specs.Table.{page_at}
@@ -19,6 +18,10 @@ is_marked_in m (Some p) k = has_mark m p k
 abbrev pub is_marked : Mark → Marks → ℕ → Bool
 is_marked m s a = is_marked_in m (page_at s.pages (a / 256)) (a % 256)
 
+-- a mark after a change, where it is made
+abbrev pub changed_where : Change → Mark → Bool → Bool → Bool
+changed_where c m here marked = if here then changed c m marked else marked
+
 -- marks after a change of so many addresses from one on
 abbrev pub changed_run : Change → Mark → ℕ → ℕ → (ℕ → Bool) → ℕ → Bool
 changed_run c m a n marks x = if in_bytes a n x then changed c m (marks x) else marks x
@@ -31,18 +34,18 @@ HasPage s p = IsSome (page_at s.pages p)
 abbrev pub HasRoom : Marks → ℕ → Type 0
 HasRoom s a = HasPage s (a / 256)
 
--- each byte of a frame can be marked
-abbrev pub HasFrameRoom : Marks → ℕ → Type 0
-HasFrameRoom s a = (k : ℕ) → k < FRAME_SIZE → HasRoom s (wrapped (a + k))
+-- each of so many bytes from an address on can be marked
+abbrev pub HasRunRoom : Marks → ℕ → ℕ → Type 0
+HasRunRoom s a n = (k : ℕ) → k < n → HasRoom s (wrapped (a + k))
 
 -- pages that were there still are
 abbrev pub KeepsPages : Marks → Marks → Type 0
 KeepsPages old new = (p : ℕ) → HasPage old p → HasPage new p
 
--- a page has no byte of a frame
-abbrev pub HasNone : ℕ → ℕ → Type 0
-HasNone a p = (k : ℕ) → k < FRAME_SIZE → wrapped (a + k) / 256 ≢ p
+-- a page has none of so many addresses from one on
+abbrev pub HasNone : ℕ → ℕ → ℕ → Type 0
+HasNone a n p = (k : ℕ) → k < n → wrapped (a + k) / 256 ≢ p
 
--- a page that is new has a byte of a frame
-abbrev pub AddsOnly : Marks → Marks → ℕ → Type 0
-AddsOnly old new a = (p : ℕ) → HasNone a p → HasPage new p → HasPage old p
+-- a page that is new has one of them
+abbrev pub AddsOnly : Marks → Marks → ℕ → ℕ → Type 0
+AddsOnly old new a n = (p : ℕ) → HasNone a n p → HasPage new p → HasPage old p

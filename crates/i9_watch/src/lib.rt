@@ -2,6 +2,7 @@
 //! accesses that lean on a frame that may not have been written to memory yet.
 #![tactic(auto)]
 
+mod bits;
 mod marks;
 mod page;
 mod watch;

@@ -1,5 +1,5 @@
 //! The marks of all addresses.
-ghost use Rattle.std.specs.Prelude.{◌≡◌, ◌≢◌, ℕ, ◌+◌, ◌/◌, ◌%◌, ◌^◌, ◌<◌, ◌≤◌, ◌==◌, if◌then◌else◌, ◌&&◌, not, true, false, IfOk, OnOk, OnErr};
+ghost use Rattle.std.specs.Prelude.{◌≡◌, ◌≢◌, ℕ, ◌+◌, ◌/◌, ◌%◌, ◌^◌, ◌<◌, ◌≤◌, ◌*◌, ◌⊎◌, ◌==◌, if◌then◌else◌, ◌&&◌, not, true, false, IfOk, OnOk, OnErr};
 ghost use Rattle.i9_model.specs.Writes.{wrapped};
 ghost use Rattle.i9_model.specs.Frames.{in_bytes, in_frames};
 
@@ -28,7 +28,9 @@ fn count_in_page(a: u32, n: u32) -> u32
 }
 
 impl Marks {
-    ghost use Rattle.i9_watch.specs.Marks.{is_marked, changed_run, HasPage, HasRoom, HasFrameRoom, KeepsPages, AddsOnly};
+    ghost use Rattle.i9_watch.specs.Marks.{is_marked, changed_run, changed_where, HasPage, HasRoom, HasRunRoom, KeepsPages, AddsOnly};
+    ghost use Rattle.i9_watch.specs.Page.{is_blockwise, sets_marks};
+    ghost use Rattle.i9_watch.specs.Bits.{bits_of, in_runs};
     ghost use Rattle.i9_watch.specs.Live.{AreAligned};
 
     /// No address is marked, and there is no page.
@@ -135,17 +137,21 @@ impl Marks {
         self.pages.remove(page);
     }
 
-    /// Makes room for the marks of a frame.
-    pub(crate) fn reserve(&mut self, a: u32) -> Result<(), NoMemory>
+    /// Makes room for the marks of so many addresses from one on.
+    pub(crate) fn reserve(&mut self, a: u32, n: u32) -> Result<(), NoMemory>
+        requires { n ≤ 64 }
         ensures same { (m : Mark) → is_marked m self.new ≡ is_marked m self.old }
-        ensures ok { OnOk result (HasFrameRoom self.new a) }
+        ensures ok { OnOk result (HasRunRoom self.new a n) }
         ensures keeps { KeepsPages self.old self.new }
-        ensures only { AddsOnly self.old self.new a }
+        ensures only { AddsOnly self.old self.new a n }
         ensures err { OnErr result (KeepsPages self.new self.old) }
-        ensures needed { OnErr result (HasFrameRoom self.old a → ⊥) }
+        ensures needed { OnErr result (HasRunRoom self.old a n → ⊥) }
     {
+        if n == 0 {
+            return Ok(());
+        }
         let first = a / PAGE_SIZE;
-        let last = a.wrapping_add(FRAME_SIZE - 1) / PAGE_SIZE;
+        let last = a.wrapping_add(n - 1) / PAGE_SIZE;
         if first == last {
             return self.reserve_page(first);
         }
@@ -160,11 +166,11 @@ impl Marks {
         Ok(())
     }
 
-    /// Changes the marks of so many addresses of a page. All but a store is done to whole blocks.
+    /// Changes the marks of so many addresses of a page. What is done to frames is done to whole blocks.
     fn change_in_page(&mut self, change: Change, a: u32, n: u32)
         requires within { a % 256 + n ≤ 256 }
-        requires blocks { change ≢ Change.Store → (a % 16 ≡ 0) × (n % 16 ≡ 0) }
-        requires room { change ≡ Change.Save → HasRoom self.old a }
+        requires blocks { is_blockwise change ≡ true → (a % 16 ≡ 0) × (n % 16 ≡ 0) }
+        requires room { sets_marks change ≡ true → HasRoom self.old a }
         ensures marks { (m : Mark) → is_marked m self.new ≡ changed_run change m a n (is_marked m self.old) }
         ensures keeps { KeepsPages self.old self.new }
         ensures no_more { KeepsPages self.new self.old }
@@ -174,10 +180,10 @@ impl Marks {
         }
     }
 
-    /// Changes the marks of so many addresses from one on. All but a store is done to whole blocks.
+    /// Changes the marks of so many addresses from one on. What is done to frames is done to whole blocks.
     pub(crate) fn change(&mut self, change: Change, a: u32, n: u32)
-        requires blocks { change ≢ Change.Store → (a % 16 ≡ 0) × (n % 16 ≡ 0) }
-        requires room { change ≡ Change.Save → (k : ℕ) → k < n → HasRoom self.old (wrapped (a + k)) }
+        requires blocks { is_blockwise change ≡ true → (a % 16 ≡ 0) × (n % 16 ≡ 0) }
+        requires room { sets_marks change ≡ true → (k : ℕ) → k < n → HasRoom self.old (wrapped (a + k)) }
         ensures marks { (m : Mark) → is_marked m self.new ≡ changed_run change m a n (is_marked m self.old) }
         ensures keeps { KeepsPages self.old self.new }
         ensures no_more { KeepsPages self.new self.old }
@@ -205,15 +211,100 @@ impl Marks {
         }
     }
 
-    /// Takes the marks of the bytes of frames away.
-    pub(crate) fn flush(&mut self, frames: &VecDeque<u32>)
+    /// Changes the marks of so many addresses from one on, where this is asked for.
+    fn change_if(&mut self, change: Change, a: u32, n: u32, is_asked: bool)
+        requires blocks { is_blockwise change ≡ true → (a % 16 ≡ 0) × (n % 16 ≡ 0) }
+        requires room { (k : ℕ) → k < n → HasRoom self.old (wrapped (a + k)) }
+        ensures marks { (m : Mark) → is_marked m self.new ≡ (if is_asked
+            then changed_run change m a n (is_marked m self.old)
+            else is_marked m self.old) }
+        ensures keeps { KeepsPages self.old self.new }
+        ensures no_more { KeepsPages self.new self.old }
+    {
+        if is_asked {
+            self.change(change, a, n);
+        }
+    }
+
+    /// A byte of a live frame is not soft any more, where it is in no marked word.
+    fn harden_byte(&mut self, a: u32)
+        ensures soft { is_marked Mark.Soft self.new ≡ (if is_marked Mark.Lost self.old a
+            then is_marked Mark.Soft self.old
+            else changed_run Change.Store Mark.Soft a 1 (is_marked Mark.Soft self.old)) }
+        ensures others { (m : Mark) → m ≢ Mark.Soft → is_marked m self.new ≡ is_marked m self.old }
+        ensures keeps { KeepsPages self.old self.new }
+        ensures no_more { KeepsPages self.new self.old }
+    {
+        if !self.is_marked(Mark::Lost, a) {
+            self.store(a, 1);
+        }
+    }
+
+    /// Changes the marks of those of so many runs of addresses, one behind the other from one on, whose bit is set.
+    pub(crate) fn change_runs(&mut self, change: Change, a: u32, width: u32, count: u32, bits: u16)
+        requires change { (change ≡ Change.Soften) ⊎ (change ≡ Change.Lose) }
+        requires few { count ≤ 16 }
+        requires most { width * count ≤ 64 }
+        requires room { HasRunRoom self.old a (width * count) }
+        ensures marks { (m : Mark) → is_marked m self.new ≡ (λ x.
+            changed_where change m (in_runs a width (bits_of bits count) x) (is_marked m self.old x)) }
+        ensures keeps { KeepsPages self.old self.new }
+        ensures no_more { KeepsPages self.new self.old }
+    {
+        // Most frames are saved with no marked word.
+        if bits == 0 {
+            return;
+        }
+        for k in 0..count {
+            let is_set = (bits >> k) % 2 == 1;
+            self.change_if(change, a.wrapping_add(width * k), width, is_set);
+        }
+    }
+
+    /// The bytes of a frame that are in no marked word are not soft any more.
+    fn harden(&mut self, frame: u32)
+        requires { frame % 16 ≡ 0 }
+        ensures soft { is_marked Mark.Soft self.new ≡ (λ x.
+            is_marked Mark.Soft self.old x && not (in_bytes frame FRAME_SIZE x && not (is_marked Mark.Lost self.old x))) }
+        ensures others { (m : Mark) → m ≢ Mark.Soft → is_marked m self.new ≡ is_marked m self.old }
+        ensures keeps { KeepsPages self.old self.new }
+        ensures no_more { KeepsPages self.new self.old }
+    {
+        // Most frames have no marked word.
+        if !self.has_any(Mark::Lost, frame, FRAME_SIZE) {
+            self.store(frame, FRAME_SIZE);
+            return;
+        }
+        for k in 0..FRAME_SIZE {
+            self.harden_byte(frame.wrapping_add(k));
+        }
+    }
+
+    /// The bytes of frames that are in no marked word are not soft any more.
+    pub(crate) fn harden_all(&mut self, frames: &VecDeque<u32>)
         requires { AreAligned frames.now.items }
-        ensures marks { (m : Mark) → is_marked m self.new ≡ (λ x. is_marked m self.old x && not (in_frames frames.now.items x)) }
+        ensures soft { is_marked Mark.Soft self.new ≡ (λ x.
+            is_marked Mark.Soft self.old x && not (in_frames frames.now.items x && not (is_marked Mark.Lost self.old x))) }
+        ensures others { (m : Mark) → m ≢ Mark.Soft → is_marked m self.new ≡ is_marked m self.old }
         ensures keeps { KeepsPages self.old self.new }
         ensures no_more { KeepsPages self.new self.old }
     {
         for frame in frames.iter() {
-            self.change(Change::Flush, *frame, FRAME_SIZE);
+            self.harden(*frame);
+        }
+    }
+
+    /// No byte of frames is live, or in a marked word of a live frame.
+    pub(crate) fn leave_all(&mut self, frames: &VecDeque<u32>)
+        requires { AreAligned frames.now.items }
+        ensures soft { is_marked Mark.Soft self.new ≡ is_marked Mark.Soft self.old }
+        ensures others { (m : Mark) → m ≢ Mark.Soft
+            → is_marked m self.new ≡ (λ x. is_marked m self.old x && not (in_frames frames.now.items x)) }
+        ensures keeps { KeepsPages self.old self.new }
+        ensures no_more { KeepsPages self.new self.old }
+    {
+        for frame in frames.iter() {
+            self.change(Change::Return, *frame, FRAME_SIZE);
         }
     }
 }

@@ -1,5 +1,5 @@
 //! The marks of a page.
-ghost use Rattle.std.specs.Prelude.{◌≡◌, ◌≢◌, ◌⊎◌, ℕ, ◌+◌, ◌%◌, ◌<◌, ◌≤◌, IfOk, false};
+ghost use Rattle.std.specs.Prelude.{◌≡◌, ◌≢◌, ◌⊎◌, ℕ, ◌+◌, ◌%◌, ◌<◌, ◌≤◌, IfOk, true, false};
 
 use i9_isa::NoMemory;
 use std::alloc::{AllocError, Global};
@@ -17,6 +17,8 @@ pub(crate) enum Mark {
     Soft,
     /// The byte is one of a frame that may be returned to.
     Live,
+    /// The byte is in a word of such a frame that was saved from a marked register.
+    Lost,
 }
 
 /// What happens to the bytes of a run.
@@ -26,33 +28,38 @@ pub(crate) enum Change {
     Save,
     /// They are stored to, and not soft any more.
     Store,
-    /// Their frame is returned to, and not live any more.
+    /// Their frame is returned to, and neither live any more nor in a marked word of a live frame.
     Return,
-    /// Their frame is written to memory: they are neither.
-    Flush,
+    /// A marked value was stored to them: they are soft.
+    Soften,
+    /// They are saved from a marked register.
+    Lose,
 }
 
-/// Which addresses of a page are soft, and which of its blocks are live.
+/// Which addresses of a page are soft, which of its blocks are live, and which addresses are in marked words of these.
 #[derive(Drop)]
 pub(crate) struct Page {
     soft: Box<[bool; 256]>,
     live: [bool; 16],
+    lost: Box<[bool; 256]>,
 }
 
 impl Clone for Page {
-    ghost is_clone = { λ p q. (q.soft.value ≡ p.soft.value) × (q.live ≡ p.live) };
+    ghost is_clone = { λ p q. (q.soft.value ≡ p.soft.value) × (q.live ≡ p.live) × (q.lost.value ≡ p.lost.value) };
 
     fn clone(&self) -> Result<Page, AllocError> {
         let soft = Box::new(*Box::allocator(&self.soft), *self.soft)?;
+        let lost = Box::new(*Box::allocator(&self.lost), *self.lost)?;
         Ok(Page {
             soft,
             live: self.live,
+            lost,
         })
     }
 }
 
 impl Page {
-    ghost use Rattle.i9_watch.specs.Page.{has_mark, changed};
+    ghost use Rattle.i9_watch.specs.Page.{has_mark, changed, is_blockwise};
 
     /// No address is marked.
     pub(crate) fn new(alloc: Global) -> Result<Page, NoMemory>
@@ -62,9 +69,14 @@ impl Page {
             Ok(soft) => soft,
             Err(_) => return Err(NoMemory),
         };
+        let lost = match Box::new(alloc, [false; 256]) {
+            Ok(lost) => lost,
+            Err(_) => return Err(NoMemory),
+        };
         Ok(Page {
             soft,
             live: [false; 16],
+            lost,
         })
     }
 
@@ -76,6 +88,7 @@ impl Page {
         match mark {
             Mark::Soft => self.soft[place as usize],
             Mark::Live => self.live[place as usize / BLOCK_SIZE],
+            Mark::Lost => self.lost[place as usize],
         }
     }
 
@@ -92,13 +105,14 @@ impl Page {
                 let last = to.div_ceil(BLOCK_SIZE);
                 self.live[from / BLOCK_SIZE..last].contains(&true)
             }
+            Mark::Lost => self.lost[from..to].contains(&true),
         }
     }
 
-    /// Changes the marks of so many places from one on. All but a store is done to whole blocks.
+    /// Changes the marks of so many places from one on. What is done to frames is done to whole blocks.
     pub(crate) fn change(&mut self, change: Change, place: u32, n: u32)
         requires room { place + n ≤ 256 }
-        requires blocks { change ≢ Change.Store → (place % 16 ≡ 0) × (n % 16 ≡ 0) }
+        requires blocks { is_blockwise change ≡ true → (place % 16 ≡ 0) × (n % 16 ≡ 0) }
         ensures within { (m : Mark) (k : ℕ) → place ≤ k → k < place + n → has_mark m self.new k ≡ changed change m (has_mark m self.old k) }
         ensures outside { (m : Mark) (k : ℕ) → (k < place) ⊎ (place + n ≤ k) → has_mark m self.new k ≡ has_mark m self.old k }
     {
@@ -110,11 +124,12 @@ impl Page {
                 self.live[first..last].fill(true);
             }
             Change::Store => self.soft[from..to].fill(false),
-            Change::Return => self.live[first..last].fill(false),
-            Change::Flush => {
-                self.soft[from..to].fill(false);
+            Change::Return => {
                 self.live[first..last].fill(false);
+                self.lost[from..to].fill(false);
             }
+            Change::Soften => self.soft[from..to].fill(true),
+            Change::Lose => self.lost[from..to].fill(true),
         }
     }
 }

@@ -22,26 +22,32 @@ enum Step {
 
 use Step::{Flush, IsSoft, LiveAt, Reads, ReadsFlushed, Return, Returns, Save, Store, Writes};
 
-/// Saves the frame at a frame pointer.
-fn save(watch: &mut Watch, fp: u32) -> Result<(), Fail> {
+/// Saves the frame at a frame pointer, with the marks of its words.
+fn save(watch: &mut Watch, fp: u32, marks: u16) -> Result<(), Fail> {
     match watch.plan_push(fp, 0, 0, 0) {
         Ok(push) => {
             watch.reserve(push.save)?;
-            watch.called(push.save);
+            watch.called(push.save, marks);
             Ok(())
         }
         Err(_) => Err("a hazard".into()),
     }
 }
 
+/// Returns to the youngest live frame, where there is one: the marks of its words.
+fn leave(watch: &mut Watch) -> Option<u16> {
+    match watch.first_live() {
+        None => None,
+        Some(_) => Some(watch.returned()),
+    }
+}
+
 /// Does a step; false where the answer is another one.
 fn does(watch: &mut Watch, step: Step) -> Result<bool, Fail> {
     match step {
-        Save(fp) => save(watch, fp)?,
+        Save(fp) => save(watch, fp, 0)?,
         Return => {
-            if watch.first_live().is_some() {
-                watch.returned();
-            }
+            let _ = leave(watch);
         }
         Flush => watch.flushed(),
         Store(a, n) => watch.wrote(a, n),
@@ -104,7 +110,9 @@ fn keeps_frames(rt: HostRuntime) -> Result<(), Fail> {
             Flush,
             Reads(0x40, 64, None),
             Reads(0x40, 65, Some(0x80)),
-            Returns(0x70, Some(0x80)),
+            // Of a frame that is read from memory, the return address alone has to be known.
+            Returns(0x70, None),
+            Returns(0x78, Some(0x80)),
         ],
         // A frame's bytes run on from the last address to 0.
         &[
@@ -200,7 +208,7 @@ fn plan(watch: &Watch, fp: u32, base: u32, has_record: bool, kind: u8) -> Result
 #[test]
 fn plans_pushes(rt: HostRuntime) -> Result<(), Fail> {
     let mut watch = Watch::new(rt.alloc());
-    save(&mut watch, 0x1000)?;
+    save(&mut watch, 0x1000, 0)?;
     let push = |save: u32, frame: u32, pfp: u32, sp: u32| {
         Ok(Push {
             save,
@@ -254,7 +262,7 @@ fn finds_the_port_page(rt: HostRuntime) {
 fn flushes_many_frames(rt: HostRuntime) -> Result<(), Fail> {
     let mut watch = Watch::new(rt.alloc());
     for k in 0..100 {
-        save(&mut watch, 0x1010 + 64 * k)?;
+        save(&mut watch, 0x1010 + 64 * k, 0)?;
     }
     assert_eq!(rt; watch.live_at(99), Some(0x1010));
     assert_eq!(rt; watch.check_write(0, 0x1_0000), Some(0x1010));
@@ -275,7 +283,7 @@ fn refuses_no_room_that_is_there(rt: HostRuntime) -> Result<(), Fail> {
     }
     watch.reserve(0xFFFF_FFF0)?;
     for k in 0..40 {
-        save(&mut watch, 0xFFFF_FFF0 - 64 * k)?;
+        save(&mut watch, 0xFFFF_FFF0 - 64 * k, 0)?;
     }
     assert_eq!(rt; watch.live_at(39), Some(0xFFFF_FFF0));
     Ok(())
@@ -309,14 +317,56 @@ fn has_pages_of_frames(rt: HostRuntime) -> Result<(), Fail> {
     let mut watch = Watch::new(rt.alloc());
     assert_eq!(rt; page_count(&watch), 0);
     for (fp, wanted) in rows {
-        save(&mut watch, fp)?;
+        save(&mut watch, fp, 0)?;
         assert_eq!(rt; page_count(&watch), wanted, "the frame at {fp}");
     }
     watch.wrote(0x4000_0000, 256);
-    if watch.first_live().is_some() {
-        watch.returned();
-    }
+    let _ = leave(&mut watch);
     watch.flushed();
     assert_eq!(rt; page_count(&watch), 7);
+    Ok(())
+}
+
+/// Words of a frame that are marked stay so until the frame is returned to, or is flushed; and a store of marked bytes
+/// makes them soft.
+#[test]
+fn keeps_marks_of_words(rt: HostRuntime) -> Result<(), Fail> {
+    let mut watch = Watch::new(rt.alloc());
+    save(&mut watch, 0x1FF0, 0x8013)?;
+    // Words 0, 1, 4 and 15 of the frame are marked.
+    let rows = [
+        (0x1FEF, false),
+        (0x1FF0, true),
+        (0x1FF7, true),
+        (0x1FF8, false),
+        (0x2000, true),
+        (0x2003, true),
+        (0x2004, false),
+        (0x202B, false),
+        (0x202C, true),
+        (0x2030, false),
+    ];
+    for (a, wanted) in rows {
+        assert_eq!(rt; watch.live_mark(a), wanted);
+    }
+    assert_eq!(rt; watch.stale(0x1FEE, 4), 0b1100);
+    assert_eq!(rt; watch.check_flushed_read(0x1FF8, 16), Some(0x2000));
+    assert_eq!(rt; watch.return_marks(0x1FF0), 0x8013);
+    assert_eq!(rt; leave(&mut watch), Some(0x8013));
+    assert_eq!(rt; watch.live_mark(0x1FF0), false);
+    // Where no frame is live, a word with a soft byte is marked.
+    assert_eq!(rt; watch.return_marks(0x1FF0), 0xFFFF);
+    assert_eq!(rt; watch.return_marks(0x2025), 0x0007);
+    assert_eq!(rt; watch.stale(0x2028, 16), 0x00FF);
+    // Of a frame that is flushed, the marked words stay soft.
+    save(&mut watch, 0x4000, 2)?;
+    watch.flushed();
+    assert_eq!(rt; watch.stale(0x4000, 16), 0x00F0);
+    // A store of marked bytes makes them soft.
+    watch.reserve_bytes(0x60FE, 4)?;
+    watch.wrote_marked(0x60FE, 4, 0b0110);
+    assert_eq!(rt; watch.stale(0x60FD, 6), 0b0_1100);
+    watch.wrote(0x60FF, 1);
+    assert_eq!(rt; watch.stale(0x60FD, 6), 0b0_1000);
     Ok(())
 }

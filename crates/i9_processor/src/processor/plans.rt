@@ -1,6 +1,6 @@
 //! What calls, returns, requests of software, the entries of faults and interrupts, and DMA make in the
 //! state that a processor stands for.
-ghost use Rattle.std.specs.Prelude.{◌≡◌, ◌%◌, ◌<◌, ◌&&◌, true, None, Some, IfOk, IfErr};
+ghost use Rattle.std.specs.Prelude.{◌≡◌, ◌%◌, ◌<◌, ◌&&◌, ◌||◌, true, None, Some, IfOk, IfErr};
 ghost use Rattle.i9_model.specs.declared.layout.TheConstants.{FP, SP, PFP};
 ghost use Rattle.i9_model.specs.Memory.{with_writes};
 ghost use Rattle.i9_model.specs.Hazards.{unless, save_hazard, record_write_hazard};
@@ -10,7 +10,10 @@ ghost use Rattle.i9_model.specs.Before.{choice_in, interrupt_in};
 ghost use Rattle.i9_model.specs.Dma.{is_last, posts_at_end};
 ghost use Rattle.i9_dma.specs.Units.{given_in, bytes_in, planned_bytes};
 ghost use Rattle.i9_processor.specs.Effect.{requests_in};
-ghost use Rattle.i9_model.specs.Calls.{planned_call, planned_calls, planned_ret};
+ghost use Rattle.i9_model.specs.Calls.{planned_calls, planned_ret};
+ghost use Rattle.i9_model.specs.Faults.{planned_fault};
+ghost use Rattle.i9_model.specs.Stale.{push_mark};
+ghost use Rattle.i9_processor.specs.Entries.{call_in, calls_in};
 ghost use Rattle.i9_model.specs.Run.{entry_in};
 
 use super::Processor;
@@ -18,25 +21,47 @@ use crate::effect::{MOST_BYTES, Requests};
 use arrayvec::ArrayVec;
 use i9_calls::{CallsStop, Pop, Push, Sys, plan_call};
 use i9_faults::{Entry, Fault, FaultStop};
-use i9_model::Chosen;
-use i9_model::layout::{FP, PFP, SP};
+use i9_ints::vector_place;
+use i9_model::interrupts::INTERRUPTED_PLACE;
+use i9_model::layout::{FP, MOST_SYSTEM_CALL, PFP, SP};
+use i9_model::{Chosen, Tables};
 
 impl Processor {
     ghost use Rattle.i9_processor.specs.State.{state_of, IsDrained};
 
-    /// What a call to an address makes of the frames, or the hazard of its save area.
+    /// The instruction address, where a push takes its save address from a marked fp, or, where stacks are not
+    /// switched, its base from a marked sp: neither may be.
     #[tactic(auto, unfolding(crate::specs::State::state_of))]
+    fn push_mark(&self, is_switched: bool) -> Option<u32>
+        ensures { result ≡ push_mark (state_of self.now) is_switched }
+    {
+        (self.is_marked(FP) || !is_switched && self.is_marked(SP)).then_some(self.ip)
+    }
+
+    /// Whether fp or sp is marked.
+    #[tactic(auto, unfolding(crate::specs::State::state_of))]
+    fn has_marked_pointer(&self) -> bool
+        ensures { result ≡ ((state_of self.now).marks FP || (state_of self.now).marks SP) }
+    {
+        self.is_marked(FP) || self.is_marked(SP)
+    }
+
+    /// What a call to an address makes of the frames, or the hazard of its push.
+    #[tactic(auto, unfolding(crate::specs::State::state_of), using(crate::proofs::Pushing::call_rules))]
     pub fn plan_call(&self) -> Result<Push, u32>
-        ensures push { result ≡ planned_call (state_of self.now).frames ((state_of self.now).regs FP) ((state_of self.now).regs SP) }
+        ensures push { result ≡ call_in (state_of self.now) }
         ensures free { IfOk result (λ p. save_hazard (state_of self.now).frames p.save ≡ None) }
         ensures aligned { IfOk result (λ p. p.save % 16 ≡ 0) }
     {
+        if let Some(mark) = self.push_mark(false) {
+            return Err(mark);
+        }
         plan_call(self.storage.watch(), self.register(FP), self.register(SP))
     }
 
-    /// What a call of system procedure `n` makes; `Err` where there is no such number, or at a hazard.
+    /// What a call of system procedure `n` makes, by pointers that are not marked.
     #[tactic(auto, unfolding(crate::specs::State::state_of, crate::specs::State::queue_of))]
-    pub fn plan_calls(&self, n: u32) -> Result<Sys, CallsStop>
+    fn plan_plain_calls(&self, n: u32) -> Result<Sys, CallsStop>
         requires drained { IsDrained self.now }
         ensures sys { result ≡ planned_calls (state_of self.now).memory (state_of self.now).frames (state_of self.now).tables.system_table n
             (state_of self.now).pc ((state_of self.now).regs FP) ((state_of self.now).regs SP) }
@@ -52,6 +77,30 @@ impl Processor {
         )
     }
 
+    /// What a call of system procedure `n` makes; `Err` where there is no such number, or at a hazard.
+    #[tactic(auto, unfolding(crate::specs::State::state_of, crate::specs::State::queue_of))]
+    pub fn plan_calls(&self, n: u32) -> Result<Sys, CallsStop>
+        requires drained { IsDrained self.now }
+        ensures sys { result ≡ calls_in (state_of self.now) n }
+        ensures free { IfOk result (λ s. save_hazard (state_of self.now).frames s.push.save ≡ None) }
+        ensures aligned { IfOk result (λ s. s.push.save % 16 ≡ 0) }
+    {
+        if !self.has_marked_pointer() {
+            return self.plan_plain_calls(n);
+        }
+        if n > MOST_SYSTEM_CALL {
+            return Err(CallsStop::Length);
+        }
+        let table = self.tables.system_table;
+        match self.storage.system_switches(table, n, self.pc) {
+            Err(hazard) => Err(CallsStop::Hazard(hazard)),
+            Ok(is_switched) => match self.push_mark(is_switched) {
+                Some(mark) => Err(CallsStop::Hazard(mark)),
+                None => self.plan_plain_calls(n),
+            },
+        }
+    }
+
     /// What a return makes of the controls and of frames, or its hazard.
     #[tactic(auto, unfolding(crate::specs::State::state_of, crate::specs::State::queue_of))]
     pub fn plan_ret(&self) -> Result<Pop, u32>
@@ -63,11 +112,13 @@ impl Processor {
             .plan_ret(self.register(PFP), self.register(FP), self.pc, self.ac())
     }
 
-    /// What the entry of a fault makes, or the hazard or the dead entry that comes first.
-    #[tactic(auto, unfolding(crate::specs::State::state_of, crate::specs::State::queue_of, i9_model::specs::Run::entry_in))]
-    pub fn plan_fault(&self, fault: &Fault) -> Result<Entry, FaultStop>
+    /// What the entry of a fault makes, by pointers that are not marked.
+    #[tactic(auto, unfolding(crate::specs::State::state_of, crate::specs::State::queue_of))]
+    fn plan_plain_fault(&self, fault: &Fault) -> Result<Entry, FaultStop>
         requires drained { IsDrained self.now }
-        ensures entry { result ≡ entry_in (state_of self.now) fault.now }
+        ensures entry { result ≡ planned_fault (state_of self.now).memory (state_of self.now).frames
+            (state_of self.now).tables.fault_table (state_of self.now).tables.system_table fault.now
+            (state_of self.now).pc (state_of self.now).ac ((state_of self.now).regs FP) ((state_of self.now).regs SP) }
         ensures free { IfOk result (λ e. save_hazard (state_of self.now).frames e.push.save ≡ None) }
         ensures aligned { IfOk result (λ e. e.push.save % 16 ≡ 0) }
     {
@@ -80,6 +131,34 @@ impl Processor {
             self.register(FP),
             self.register(SP),
         )
+    }
+
+    /// What the entry of a fault makes, or the hazard or the dead entry that comes first.
+    #[tactic(auto, unfolding(crate::specs::State::state_of, crate::specs::State::queue_of, i9_model::specs::Run::entry_in))]
+    pub fn plan_fault(&self, fault: &Fault) -> Result<Entry, FaultStop>
+        requires drained { IsDrained self.now }
+        ensures entry { result ≡ entry_in (state_of self.now) fault.now }
+        ensures free { IfOk result (λ e. save_hazard (state_of self.now).frames e.push.save ≡ None) }
+        ensures aligned { IfOk result (λ e. e.push.save % 16 ≡ 0) }
+    {
+        if !self.has_marked_pointer() {
+            return self.plan_plain_fault(fault);
+        }
+        let Tables {
+            fault_table,
+            system_table,
+            ..
+        } = self.tables;
+        match self
+            .storage
+            .fault_switches(fault_table, system_table, fault, self.pc)
+        {
+            Err(stop) => Err(stop),
+            Ok(is_switched) => match self.push_mark(is_switched) {
+                Some(mark) => Err(FaultStop::Hazard(mark)),
+                None => self.plan_plain_fault(fault),
+            },
+        }
     }
 
     /// The interrupt that comes next, if there is one, or the hazard of a look at what software asks for.
@@ -110,16 +189,24 @@ impl Processor {
         ensures clear { IfOk result (λ e. cleared_hazard (state_of self.now).memory (state_of self.now).frames
             (state_of self.now).tables.interrupt_table c.now e.push e.words ≡ None) }
     {
-        self.storage.plan_interrupt(
-            &self.ints,
-            self.tables.interrupt_table,
-            self.tables.interrupt_stack,
-            c,
-            self.pc,
-            self.ac(),
-            self.register(FP),
-            self.register(SP),
-        )
+        // The handler's frame is on another stack, where none is handled yet.
+        let is_interrupted = (self.pc >> INTERRUPTED_PLACE) % 2 == 1;
+        match self.push_mark(!is_interrupted) {
+            Some(mark) => {
+                let vector = vector_place(self.tables.interrupt_table, c.vector);
+                Err(self.check_read(vector, 4).unwrap_or(mark))
+            }
+            None => self.storage.plan_interrupt(
+                &self.ints,
+                self.tables.interrupt_table,
+                self.tables.interrupt_stack,
+                c,
+                self.pc,
+                self.ac(),
+                self.register(FP),
+                self.register(SP),
+            ),
+        }
     }
 
     /// The bytes that clear what chose an interrupt, behind its frame and its record.

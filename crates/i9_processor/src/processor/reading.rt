@@ -1,10 +1,12 @@
 //! What is read of the state that a processor stands for.
-ghost use Rattle.std.specs.Prelude.{◌≡◌, ◌+◌, ◌*◌, ◌<◌, ◌≤◌, ◌↔◌, None, IsTrue};
+ghost use Rattle.std.specs.Prelude.{◌≡◌, ℕ, ◌+◌, ◌*◌, ◌<◌, ◌≤◌, ◌↔◌, ◌&&◌, nat_lt, None, IsTrue};
+ghost use Rattle.i9_isa.specs.Words.{bit};
 ghost use Rattle.i9_model.specs.declared.layout.TheConstants.{LOCALS};
 ghost use Rattle.i9_model.specs.Writes.{wrapped};
 ghost use Rattle.i9_model.specs.Memory.{half_in, word_in, words_in, half_bytes, word_bytes, is_big, waits_of};
 ghost use Rattle.i9_model.specs.Hazards.{read_hazard, write_hazard};
 ghost use Rattle.i9_model.specs.Frames.{flushed};
+ghost use Rattle.i9_model.specs.Stale.{legible, left_memory};
 ghost use Rattle.i9_model.specs.Overlay.{overlay};
 ghost use Rattle.i9_model.specs.Operands.{special};
 ghost use Rattle.i9_model.specs.PrintedText.{view_of};
@@ -38,6 +40,23 @@ impl Processor {
         } else {
             0
         }
+    }
+
+    /// The marks of the registers: bit r is that of register r.
+    #[tactic(auto, unfolding(crate::specs::State::state_of))]
+    pub fn marks(&self) -> u32
+        ensures { bit result ≡ (state_of self.now).marks }
+    {
+        self.marks
+    }
+
+    /// Whether a register is marked.
+    #[tactic(auto, unfolding(crate::specs::State::state_of))]
+    pub fn is_marked(&self, r: u8) -> bool
+        ensures { result ≡ (state_of self.now).marks r }
+    {
+        let marks = self.marks;
+        r < 32 && (marks >> r) % 2 == 1
     }
 
     /// The instruction address.
@@ -125,12 +144,48 @@ impl Processor {
         self.storage.byte(a)
     }
 
-    /// The two bytes from `a` up, in the order of the region of `a`.
+    /// Which of `n` bytes from `a` up are soft: bit k is that of the byte k above `a`.
     #[tactic(auto, unfolding(crate::specs::State::state_of))]
-    pub fn half(&self, a: u32) -> u16
-        ensures { result ≡ half_in (state_of self.now).memory a }
+    pub fn stale(&self, a: u32, n: u32) -> u16
+        requires { n ≤ 16 }
+        ensures { (k : ℕ) → bit result k ≡ (nat_lt k n && (state_of self.now).frames.soft (wrapped (a + k))) }
     {
-        self.storage.half(a)
+        self.storage.watch().stale(a, n)
+    }
+
+    /// The byte at `a` as a load finds it: 0 where it is soft.
+    #[inline(always)]
+    #[tactic(auto, unfolding(crate::specs::State::state_of))]
+    pub fn legible_byte(&self, a: u32) -> u8
+        ensures { result ≡ (legible (state_of self.now)).bytes a }
+    {
+        self.storage.legible_byte(a)
+    }
+
+    /// The two bytes from `a` up as a load finds them, in the order of the region of `a`.
+    #[tactic(auto, unfolding(crate::specs::State::state_of))]
+    pub fn legible_half(&self, a: u32) -> u16
+        ensures { result ≡ half_in (legible (state_of self.now)) a }
+    {
+        self.storage.legible_half(a)
+    }
+
+    /// The four bytes from `a` up as a load finds them, in the order of the region of `a`.
+    #[tactic(auto, unfolding(crate::specs::State::state_of))]
+    pub fn legible_word(&self, a: u32) -> u32
+        ensures { result ≡ word_in (legible (state_of self.now)) a }
+    {
+        self.storage.legible_word(a)
+    }
+
+    /// Words from `a` up as a load finds them, each in the order of its own region. At most 64.
+    #[inline(always)]
+    #[tactic(auto, unfolding(crate::specs::State::state_of))]
+    pub fn legible_words<const N: usize>(&self, a: u32) -> [u32; N]
+        requires few { N ≤ 64 }
+        ensures { result ≡ words_in (legible (state_of self.now)) a N }
+    {
+        self.storage.legible_words(a)
     }
 
     /// The four bytes from `a` up, in the order of the region of `a`.
@@ -164,11 +219,12 @@ impl Processor {
 
     /// Word `k` of the sixteen from `a` up, as of the frame that a return to `a` enters.
     #[tactic(auto, unfolding(crate::specs::State::state_of))]
-    pub fn frame_word(&self, a: u32, k: u8) -> u32
+    pub fn left_word(&self, a: u32, k: u8) -> u32
         requires { k < LOCALS }
-        ensures { result ≡ word_in (state_of self.now).memory (wrapped (a + 4 * k)) }
+        ensures { result
+            ≡ word_in (left_memory (state_of self.now).frames.live (state_of self.now)) (wrapped (a + 4 * k)) }
     {
-        self.storage.frame_word(a, k)
+        self.storage.left_word(a, k)
     }
 
     /// The bytes of a half that is stored at `a`, from the lowest address up.
@@ -243,6 +299,7 @@ impl Processor {
             pc: self.pc,
             tc: self.tc,
             regs: self.file.registers(),
+            marks: self.marks(),
         }
     }
 
@@ -255,7 +312,7 @@ impl Processor {
         if Watch::touches_port(a, 1).is_some() {
             return Some(0);
         }
-        if watch.soft(a) && watch.check_write(a, 1).is_none() {
+        if watch.soft(a) && (watch.live_mark(a) || watch.check_write(a, 1).is_none()) {
             return None;
         }
         Some(self.storage.byte(a))

@@ -14,6 +14,8 @@ ghost use Rattle.i9_model.specs.Requests.{request_hazard, request_writes};
 ghost use Rattle.i9_model.specs.Interrupts.{chosen_soft, record_writes, cleared_hazard, clearing_writes, planned_interrupt};
 ghost use Rattle.i9_model.specs.HeldFrames.{cache_configured};
 ghost use Rattle.i9_model.specs.Numbers.{IsWithin};
+ghost use Rattle.i9_entry.specs.Switches.{system_switch};
+ghost use Rattle.i9_faults.specs.Switches.{fault_switch};
 ghost use Rattle.i9_queue.specs.Behind.{settled, waiting_of, KeepsRoomIn};
 ghost use Rattle.i9_ints.specs.Ints.{interrupts_of};
 ghost use Rattle.i9_dma.specs.Channels.{dma_of};
@@ -24,7 +26,8 @@ use arrayvec::ArrayVec;
 use i9_boot::{control_group, reinit};
 use i9_calls::{CallsStop, Pop, Sys, plan_calls, plan_ret};
 use i9_dma::Channels;
-use i9_faults::{Entry, Fault, FaultStop, plan_fault};
+use i9_entry::system_switches;
+use i9_faults::{Entry, Fault, FaultStop, fault_switches, plan_fault};
 use i9_ints::{Chosen, IntEntry, Ints, clearing_bytes, plan_request};
 use i9_model::Setup;
 use i9_queue::Behind;
@@ -71,6 +74,15 @@ impl Storage {
         ensures kept { IsWithin PC_MASK pc → IfOk result (λ s. IsWithin PC_MASK s.pc) }
     {
         plan_calls(self.behind.memory(), &self.watch, table, n, pc, fp, sp)
+    }
+
+    /// Whether a call of system procedure `n` switches stacks, by the system procedure table at `table`
+    /// and the process controls. `Err` is the hazard of a word that tells it.
+    pub fn system_switches(&self, table: u32, n: u32, pc: u32) -> Result<bool, u32>
+        requires drained { IsDrained self.now }
+        ensures { result ≡ system_switch (memory_in self.now) (frames_in self.now) table n pc }
+    {
+        system_switches(self.behind.memory(), &self.watch, table, n, pc)
     }
 
     /// What a return makes, from the previous frame pointer with its return type, the frame pointer,
@@ -124,6 +136,21 @@ impl Storage {
             fp,
             sp,
         )
+    }
+
+    /// Whether the entry of a fault switches stacks, by the fault table at `table` and the system
+    /// procedure table at `system`. `Err` is what stops the entry before that is known.
+    pub fn fault_switches(
+        &self,
+        table: u32,
+        system: u32,
+        fault: &Fault,
+        pc: u32,
+    ) -> Result<bool, FaultStop>
+        requires drained { IsDrained self.now }
+        ensures { result ≡ fault_switch (memory_in self.now) (frames_in self.now) table system fault.now pc }
+    {
+        fault_switches(self.behind.memory(), &self.watch, table, system, fault, pc)
     }
 
     /// The interrupt that comes next where the requests of software count too, by the interrupt

@@ -71,7 +71,7 @@ fn overlaid_byte(behind: &Behind, sets: &Sets, a: u32) -> u8
 }
 
 impl Storage {
-    ghost use Rattle.i9_storage.specs.Storage.{memory_in, acted_in, frames_in};
+    ghost use Rattle.i9_storage.specs.Storage.{memory_in, legible_in, left_in, acted_in, frames_in};
 
     /// The byte at `a`; 0 in the port page. All bytes of held frames are soft, so the sets are looked
     /// at for a soft byte alone.
@@ -107,27 +107,6 @@ impl Storage {
         ensures { result ≡ waits_of (memory_in self.now) region write }
     {
         self.behind.waits(region, write)
-    }
-
-    /// The two bytes from `a` up, each from the youngest frame that has it.
-    #[tactic(auto, unfolding(i9_model::specs::Memory::half_in))]
-    fn laid_half(&self, a: u32) -> u16
-        ensures { result ≡ half_in (memory_in self.now) a }
-    {
-        let bytes = [self.byte(a), self.byte(a.wrapping_add(1))];
-        half_of(self.big((a / REGION_SIZE) as u8), bytes)
-    }
-
-    /// The two bytes from `a` up, in the order of the region of `a`. Where none is soft memory has
-    /// them.
-    #[tactic(auto, using(crate::proofs::StoragePlans::hard_rules))]
-    pub fn half(&self, a: u32) -> u16
-        ensures { result ≡ half_in (memory_in self.now) a }
-    {
-        match self.watch.check_read(a, 2) {
-            None => self.behind.half(a),
-            Some(_) => self.laid_half(a),
-        }
     }
 
     /// The four bytes from `a` up, each from the youngest frame that has it.
@@ -195,7 +174,7 @@ impl Storage {
     /// return to `a` enters: those of memory where no frame is held, and of the youngest held frame
     /// where it was saved there.
     #[tactic(auto, using(crate::proofs::Youngest::none_held))]
-    pub fn frame_words(&self, a: u32) -> [u32; LOCALS]
+    fn frame_words(&self, a: u32) -> [u32; LOCALS]
         ensures { result ≡ words_in (memory_in self.now) a LOCALS }
     {
         let Some(f) = self.sets.at(0).copied() else {
@@ -211,7 +190,7 @@ impl Storage {
 
     /// Word `k` of the sixteen that `frame_words` reads, alone.
     #[tactic(auto, using(crate::proofs::Youngest::word_rules))]
-    pub fn frame_word(&self, a: u32, k: u8) -> u32
+    fn frame_word(&self, a: u32, k: u8) -> u32
         requires { k < LOCALS }
         ensures { result ≡ word_in (memory_in self.now) (wrapped (a + 4 * k)) }
     {
@@ -224,6 +203,109 @@ impl Storage {
             f.words[k as usize]
         } else {
             self.word(at)
+        }
+    }
+
+    // ---- as a load finds them: a soft byte is 0, whatever the sets hold
+
+    /// The byte at `a` as a load finds it.
+    #[inline(always)]
+    #[tactic(auto, using(crate::proofs::Legible::legible_rules))]
+    pub fn legible_byte(&self, a: u32) -> u8
+        ensures { result ≡ (legible_in self.now).bytes a }
+    {
+        let byte = self.behind.byte(a);
+        if self.watch.soft(a) { 0 } else { byte }
+    }
+
+    /// The two bytes from `a` up as a load finds them, one by one.
+    #[tactic(auto, unfolding(i9_model::specs::Memory::half_in))]
+    fn partly_half(&self, a: u32) -> u16
+        ensures { result ≡ half_in (legible_in self.now) a }
+    {
+        let bytes = [self.legible_byte(a), self.legible_byte(a.wrapping_add(1))];
+        half_of(self.big((a / REGION_SIZE) as u8), bytes)
+    }
+
+    /// The two bytes from `a` up as a load finds them, in the order of the region of `a`.
+    #[tactic(auto, using(crate::proofs::Legible::legible_rules))]
+    pub fn legible_half(&self, a: u32) -> u16
+        ensures { result ≡ half_in (legible_in self.now) a }
+    {
+        match self.watch.check_read(a, 2) {
+            None => self.behind.half(a),
+            Some(_) => self.partly_half(a),
+        }
+    }
+
+    /// The four bytes from `a` up as a load finds them, one by one.
+    #[tactic(auto, unfolding(i9_model::specs::Memory::word_in))]
+    fn partly_word(&self, a: u32) -> u32
+        ensures { result ≡ word_in (legible_in self.now) a }
+    {
+        let bytes = [
+            self.legible_byte(a),
+            self.legible_byte(a.wrapping_add(1)),
+            self.legible_byte(a.wrapping_add(2)),
+            self.legible_byte(a.wrapping_add(3)),
+        ];
+        word_of(self.big((a / REGION_SIZE) as u8), bytes)
+    }
+
+    /// The four bytes from `a` up as a load finds them, in the order of the region of `a`.
+    #[tactic(auto, using(crate::proofs::Legible::legible_rules))]
+    pub fn legible_word(&self, a: u32) -> u32
+        ensures { result ≡ word_in (legible_in self.now) a }
+    {
+        match self.watch.check_read(a, 4) {
+            None => self.behind.word(a),
+            Some(_) => self.partly_word(a),
+        }
+    }
+
+    /// Words from `a` up as a load finds them, each in the order of its own region, one by one.
+    fn partly_words<const N: usize>(&self, a: u32) -> [u32; N]
+        requires few { N ≤ 64 }
+        ensures { result ≡ words_in (legible_in self.now) a N }
+    {
+        let mut words = [0; N];
+        for k in 0..N {
+            words[k] = self.legible_word(a.wrapping_add(4 * k as u32));
+        }
+        words
+    }
+
+    /// Words from `a` up as a load finds them, each in the order of its own region. At most 64.
+    #[tactic(auto, using(crate::proofs::Legible::legible_rules))]
+    pub fn legible_words<const N: usize>(&self, a: u32) -> [u32; N]
+        requires few { N ≤ 64 }
+        ensures { result ≡ words_in (legible_in self.now) a N }
+    {
+        match self.watch.check_read(a, 4 * N as u32) {
+            None => self.behind.words(a),
+            Some(_) => self.partly_words(a),
+        }
+    }
+
+    /// The sixteen words from `a` up as a return finds them: where a frame is live, those that were
+    /// stored, and else as a load does.
+    pub fn left_words(&self, a: u32) -> [u32; LOCALS]
+        ensures { result ≡ words_in (left_in (frames_in self.now).live self.now) a LOCALS }
+    {
+        match self.watch.first_live() {
+            None => self.legible_words(a),
+            Some(_) => self.frame_words(a),
+        }
+    }
+
+    /// Word `k` of the sixteen that `left_words` reads, alone.
+    pub fn left_word(&self, a: u32, k: u8) -> u32
+        requires { k < LOCALS }
+        ensures { result ≡ word_in (left_in (frames_in self.now).live self.now) (wrapped (a + 4 * k)) }
+    {
+        match self.watch.first_live() {
+            None => self.legible_word(a.wrapping_add(4 * u32::from(k))),
+            Some(_) => self.frame_word(a, k),
         }
     }
 

@@ -1,7 +1,7 @@
 use Rattle.std.proofs.Common.{◌≡◌, Some, None, rules, sym, ap, ◌∙◌}
 use Rattle.i9_model.specs.Standing.{by_raised}
 use Rattle.i9_processor.specs.State.{state_of}
-use Rattle.i9_plan.proofs.Outcomes.{barrier_moves, barrier_stands, barrier_does}
+use Rattle.i9_plan.proofs.Outcomes.{barrier_moves, barrier_stands, barrier_does, allowed_stands}
 use Rattle.i9_plan.proofs.barriers.barrier_outcome.Goals as goal
 
 pub raised_in-requires-clause-still : goal.raised_in-requires-clause-still
@@ -13,7 +13,7 @@ returns-in-Ok-clause-standing c =
     let s = state_of c.args.p.now in
     let none : c.raised_in.result ≡ None = search rules in
     let stands = barrier_stands i s None c.requires.barrier (c.results_by_name.ensures i _ _ _ _) c.in-Ok.ensures.0 in
-    sym (ap (by_raised i s) (sym c.raised_in.ensures ∙ none) ∙ stands)
+    sym (sym (allowed_stands i s (sym c.misuses.ensures ∙ c.if-misuses.false)) ∙ ap (by_raised i s) (sym c.raised_in.ensures ∙ none) ∙ stands)
 
 pub returns-in-Ok-clause-effect : goal.returns-in-Ok-clause-effect
 returns-in-Ok-clause-effect c =
@@ -25,4 +25,4 @@ returns-in-Err-clause-standing c =
     let s = state_of c.args.p.now in
     let none : c.raised_in.result ≡ None = search rules in
     let stands = barrier_stands i s (Some _) c.requires.barrier (c.results_by_name.ensures i _ _ _ _) c.in-Err.ensures in
-    sym (ap (by_raised i s) (sym c.raised_in.ensures ∙ none) ∙ stands)
+    sym (sym (allowed_stands i s (sym c.misuses.ensures ∙ c.if-misuses.false)) ∙ ap (by_raised i s) (sym c.raised_in.ensures ∙ none) ∙ stands)

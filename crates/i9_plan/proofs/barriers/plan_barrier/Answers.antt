@@ -1,13 +1,11 @@
 use Rattle.std.proofs.Common.{ℕ, Ok, refl, subst}
 use Rattle.i9_isa.specs.declared.op.Op.TheVariants.{Atadd, Atmod, Call, Callx, Calls, Ret, Flushreg, Modac, Modtc, Modpc, Sdma, Sysctl}
 use Rattle.i9_model.specs.Step.{call_action}
-use Rattle.i9_model.specs.Access.{SavesAt}
-use Rattle.i9_model.specs.declared.layout.TheConstants.{FP}
-use Rattle.i9_model.specs.Frames.{rounded_down}
+use Rattle.i9_model.specs.Access.{SavesFrame}
 use Rattle.i9_processor.specs.State.{state_of}
 use Rattle.i9_plan.specs.Planned.{IsPlanFor}
 use Rattle.i9_plan.proofs.Faulting.{calls_number, sdma_channel, sysctl_message}
-use Rattle.i9_plan.proofs.Outcomes.{IsOther, not_own, other_plan, by_name, barrier_has_no_result, barrier_goes_on}
+use Rattle.i9_plan.proofs.Outcomes.{IsOther, not_own, other_plan, by_name, barrier_moves, barrier_has_no_result, barrier_goes_on}
 use Rattle.i9_plan.proofs.barriers.plan_barrier.Goals as goal
 
 pub plan_calls-requires-clause-number : goal.plan_calls-requires-clause-number
@@ -83,13 +81,13 @@ pub returns-in-Call : goal.returns-in-Call
 returns-in-Call c =
     let i = c.args.i.now in
     let s = state_of c.args.p.now in
-    by_name Call i s _ c.in-Call.is (subst (λ (a : ℕ). IsPlanFor s (SavesAt (rounded_down (s.regs FP))) (call_action i s a) c.plan_call.result) c.target.ensures c.plan_call.ensures)
+    by_name Call i s _ c.in-Call.is (subst (λ (a : ℕ). IsPlanFor s SavesFrame (call_action i s a) c.plan_call.result) c.target.ensures c.plan_call.ensures)
 
 pub returns-in-Callx : goal.returns-in-Callx
 returns-in-Callx c =
     let i = c.args.i.now in
     let s = state_of c.args.p.now in
-    by_name Callx i s _ c.in-Callx.is (subst (λ (a : ℕ). IsPlanFor s (SavesAt (rounded_down (s.regs FP))) (call_action i s a) c.plan_call-in-Callx.result) c.address.ensures c.plan_call-in-Callx.ensures)
+    by_name Callx i s _ c.in-Callx.is (subst (λ (a : ℕ). IsPlanFor s SavesFrame (call_action i s a) c.plan_call-in-Callx.result) c.address.ensures c.plan_call-in-Callx.ensures)
 
 pub returns-in_default : goal.returns-in_default
 returns-in_default c =
@@ -111,5 +109,5 @@ returns-in_default c =
       not_sdma = c.in_default.not-Sdma;
       not_sysctl = c.in_default.not-Sysctl;
     } in
-    other_plan i s c.passing.result (not_own i.op other) (barrier_has_no_result i.op b) (barrier_goes_on i.op b)
+    other_plan i s c.passing.result (barrier_moves i.op b) (not_own i.op other) (barrier_has_no_result i.op b) (barrier_goes_on i.op b)
     (c.results_by_name.ensures i _ _ _ _) c.passing.ensures.effect

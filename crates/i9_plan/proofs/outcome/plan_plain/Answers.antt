@@ -2,7 +2,7 @@ use Rattle.std.proofs.Common.{ℕ, Ok, refl, subst}
 use Rattle.i9_isa.specs.declared.op.Op.TheVariants.{Lda, Bx, Balx, Bal}
 use Rattle.i9_isa.specs.declared.inst.Operand.TheVariants.{Reg}
 use Rattle.i9_model.specs.declared.layout.TheConstants.{LINK}
-use Rattle.i9_model.specs.Step.{answering, jumping, linking}
+use Rattle.i9_model.specs.Step.{jumping, linking}
 use Rattle.i9_processor.specs.Effect.{IsEffect}
 use Rattle.i9_processor.specs.State.{state_of}
 use Rattle.i9_plan.proofs.Outcomes.{plain_own, other_plan, by_name}
@@ -12,13 +12,13 @@ pub returns-in-Lda : goal.returns-in-Lda
 returns-in-Lda c =
     let i = c.args.i.now in
     let s = state_of c.args.p.now in
-    by_name Lda i s (Ok c.answering.result) c.in-Lda.is (refl, subst (λ (v : ℕ). IsEffect s (answering i s v) c.answering.result) c.address.ensures c.answering.ensures.effect)
+    by_name Lda i s (Ok c.plan_lda.result) c.in-Lda.is (refl, c.plan_lda.ensures)
 
 pub returns-in-Bx : goal.returns-in-Bx
 returns-in-Bx c =
     let i = c.args.i.now in
     let s = state_of c.args.p.now in
-    by_name Bx i s (Ok c.jumping.result) c.in-Bx.is (refl, subst (λ (a : ℕ). IsEffect s (jumping i s a) c.jumping.result) c.address-in-Bx.ensures c.jumping.ensures)
+    by_name Bx i s (Ok c.jumping.result) c.in-Bx.is (refl, subst (λ (a : ℕ). IsEffect s (jumping i s a) c.jumping.result) c.address.ensures c.jumping.ensures)
 
 pub returns-in-Balx : goal.returns-in-Balx
 returns-in-Balx c =
@@ -38,5 +38,5 @@ returns-in_default c =
     let s = state_of c.args.p.now in
     let o = c.in_default in
     let own = plain_own i.op c.requires.barrier o.not-Lda o.not-Bx o.not-Balx o.not-Bal in
-    other_plan i s c.passing.result own c.requires.result c.requires.branch (c.results_by_name.ensures i _ _ _ _)
+    other_plan i s c.passing.result c.requires.still own c.requires.result c.requires.branch (c.results_by_name.ensures i _ _ _ _)
     c.passing.ensures.effect

@@ -6,7 +6,7 @@ use Rattle.i9_model.specs.Hazards.{writes_hazard}
 use Rattle.i9_model.specs.HeldFrames.{cache_stored}
 use Rattle.i9_storage.specs.Storage.{cache_of, memory_in, frames_in}
 use Rattle.i9_processor.specs.Effect.{requests_in, run_in}
-use Rattle.i9_processor.proofs.Appending.{cache_append, memory_append, frames_append, first_free, later_free, spacious_kept, longer_first, none_first, none_later}
+use Rattle.i9_processor.proofs.Appending.{cache_append, memory_append, marked_append, first_free, later_free, spacious_kept, longer_first, none_first, none_later}
 use Rattle.i9_processor.proofs.Applying.{run_long, run_none}
 use Rattle.i9_processor.proofs.apply.store_bytes.Goals as goal
 
@@ -24,6 +24,7 @@ store_requests-requires-clause-space c =
     spacious_kept c.args.storage.now c.store_run.new.storage (requests_in c.args.e.now.requests) c.store_run.ensures.keeps c.requires.requests
 
 pub store_requests-requires-clause-free : goal.store_requests-requires-clause-free
+unfolding writes_hazard
 store_requests-requires-clause-free c =
     let e = c.args.e.now in
     ap (λ (f : Frames). writes_hazard f (requests_in e.requests)) c.store_run.ensures.frames
@@ -42,7 +43,7 @@ returns-clause-memory c =
 pub returns-clause-frames : goal.returns-clause-frames
 returns-clause-frames c =
     let e = c.args.e.now in
-    c.store_requests.ensures.frames ∙ ap (λ (f : Frames). wrote f (requests_in e.requests)) c.store_run.ensures.frames ∙ frames_append (frames_in c.args.storage.now) (run_in e) (requests_in e.requests)
+    c.store_requests.ensures.frames ∙ ap (λ (f : Frames). wrote f (requests_in e.requests)) c.store_run.ensures.frames ∙ marked_append (frames_in c.args.storage.now) e
 
 pub returns-clause-acted : goal.returns-clause-acted
 returns-clause-acted c none =

@@ -16,4 +16,4 @@ returns-else-not-is_empty-clause-memory c =
 pub returns-else-not-is_empty-clause-frames : goal.returns-else-not-is_empty-clause-frames
 returns-else-not-is_empty-clause-frames c =
     let e = c.args.e.now in
-    no_bytes_frames (frames_in c.args.storage.now) e.address e.bytes.items (sym c.is_empty.ensures ∙ c.if-not-is_empty.false)
+    no_bytes_frames (frames_in c.args.storage.now) e.address e.stale e.bytes.items (sym c.is_empty.ensures ∙ c.if-not-is_empty.false)

@@ -7,7 +7,7 @@ use Rattle.i9_storage.specs.Storage.{waiting_in, acted_in}
 use Rattle.i9_processor.specs.Effect.{action_in, control_in}
 use Rattle.i9_processor.specs.Issued.{IsIssued}
 use Rattle.i9_processor.specs.State.{state_of, cells_of, bytes_of, queue_of}
-use Rattle.i9_processor.proofs.Applying.{moved_alike_by, can_alike, applied_alike, counted_alike}
+use Rattle.i9_processor.proofs.Applying.{reads_zero, moved_alike_by, can_alike, applied_alike, counted_alike}
 use Rattle.i9_processor.proofs.processor.Processor.apply.Goals as goal
 
 pub control-requires-clause-can : goal.control-requires-clause-can
@@ -24,7 +24,7 @@ returns-clause-state c =
     let s = state_of p in
     let a = action_in s c.args.e.now in
     let alike = moved_alike_by p a c.do_moves.new.self c.requires.free c.do_moves.ensures.state c.do_moves.ensures.memory c.do_moves.ensures.cache in
-    let controlled = applied_alike c.args.e.now.control s (state_of c.do_moves.new.self) (state_of c.renew.new.self) a refl c.requires.controls alike (c.renew.ensures.state ∙ c.flag.ensures.state ∙ ap (flagged c.args.e.now.trace) c.control.ensures.state) in
+    let controlled = applied_alike c.args.e.now.control s (state_of c.do_moves.new.self) (state_of c.renew.new.self) a (reads_zero p) refl c.requires.controls alike (c.renew.ensures.state ∙ c.flag.ensures.state ∙ ap (flagged c.args.e.now.trace) c.control.ensures.state) in
     subst (AreAlike (counted c.args.counts (acted s a))) (sym c.add_count.ensures.state) (counted_alike c.args.counts (acted s a) (state_of c.renew.new.self) controlled)
 
 pub returns-clause-cells : goal.returns-clause-cells

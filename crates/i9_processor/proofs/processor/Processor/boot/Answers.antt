@@ -4,10 +4,11 @@ use Rattle.i9_model.specs.Image.{pairs_of}
 use Rattle.i9_model.specs.Memory.{Memory, with_writes}
 use Rattle.i9_model.specs.Boot.{boot_setup, boot_memory}
 use Rattle.i9_model.specs.Late.{cell, resource}
-use Rattle.i9_model.specs.State.{State, Interrupts, image_memory, start_interrupts, started, boot}
+use Rattle.i9_model.specs.State.{State, Interrupts, image_memory, start_interrupts, as_zero, started, boot}
 use Rattle.i9_model.specs.HeldFrames.{Cache, over, overlaid}
 use Rattle.i9_model.specs.declared.layout.TheConstants.{BOOT_PC}
 use Rattle.i9_processor.specs.State.{registers_of, state_of, cells_of, bytes_of}
+use Rattle.i9_watch.proofs.SetBits.{bit_none}
 use Rattle.i9_storage.specs.Storage.{memory_in, frames_in}
 use Rattle.i9_processor.proofs.RegisterList.{registers_of-zeros}
 use Rattle.i9_processor.proofs.Applying.{sets_few}
@@ -30,7 +31,7 @@ returns-clause-state c =
     let file = c.set_arithmetic.new.file in
     let high = ap (λ (x : Interrupts). x.low) c.new-ints.ensures in
     let interrupts = c.start_interrupts.ensures ∙ ap (start_interrupts c.boot-setup.result) high in
-    let kept : state_of record { file = file; ip = c.aligned.result; flags = c.set_arithmetic.new.flags; pc = BOOT_PC; tc = c.start_trace_controls.result; check = false; ints = c.start_interrupts.new.ints; channels = c.new-2.result; breaks = c.start_breaks.result; tables = c.tables_of.result; count = 0; storage = storage } ≡ started c.boot-setup.result (registers_of c.new-file.result) 0 0 (memory_in storage) (frames_in storage) =
+    let kept : state_of record { file = file; ip = c.aligned.result; flags = c.set_arithmetic.new.flags; marks = 0; pc = BOOT_PC; tc = c.start_trace_controls.result; check = false; ints = c.start_interrupts.new.ints; channels = c.new-2.result; breaks = c.start_breaks.result; tables = c.tables_of.result; count = 0; storage = storage } ≡ started c.boot-setup.result (registers_of c.new-file.result) 0 0 (memory_in storage) (frames_in storage) =
     λ i. record {
       regs = (c.set_arithmetic.ensures.registers ∙ c.start_registers.ensures.registers) i;
       ip = c.aligned.ensures i;
@@ -44,6 +45,8 @@ returns-clause-state c =
       dma = c.new-2.ensures i;
       trace = record { tc = c.start_trace_controls.ensures i; breaks = c.start_breaks.ensures i };
       tables = c.tables_of.ensures i;
+      marks = λ r. bit_none r i;
+      reading = as_zero;
     } in
     let none = ap registers_of c.new-file.ensures ∙ registers_of-zeros 33 in
     kept ∙ (λ i. started (setup i) (none i) 0 0 (memory i) (c.in_ok-storage.ensures.frames i))

@@ -16,4 +16,4 @@ returns-clause-state c =
     }
 
 pub returns-clause-keeps : goal.returns-clause-keeps
-returns-clause-keeps c = room_kept c.args.self.now (record c.args.self.now { file = c.land.new.self; storage = c.land-2.new.self }) c.land-2.ensures.keeps c.land-2.ensures.frame_space
+returns-clause-keeps c = room_kept c.args.self.now (record c.args.self.now { file = c.land.new.self; storage = c.land-2.new.self }) c.land-2.ensures.keeps c.land-2.ensures.soft_space c.land-2.ensures.frame_space

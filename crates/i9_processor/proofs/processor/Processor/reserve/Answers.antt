@@ -2,7 +2,7 @@ use Rattle.std.proofs.lemmas.Result.{on_err_weaker}
 use Rattle.i9_processor.specs.State.{state_of}
 use Rattle.i9_processor.specs.Effect.{run_in, requests_in}
 use Rattle.i9_processor.proofs.Rooms.{move_kept}
-use Rattle.i9_processor.proofs.NewPages.{first_apart, later_apart, row_apart, move_bytes, move_marks}
+use Rattle.i9_processor.proofs.NewPages.{first_apart, later_apart, row_apart, run_apart, move_bytes, move_marks}
 use Rattle.i9_processor.proofs.processor.Processor.reserve.Goals as goal
 
 pub returns-clause-lacking : goal.returns-clause-lacking
@@ -19,7 +19,7 @@ returns-in_err-reserve_run-clause-only c =
     let e = c.args.e.now in
     record {
       bytes = λ x writes move has. c.reserve_run.ensures.only.bytes x (row_apart e.address e.bytes.items x (first_apart (run_in e) (requests_in e.requests) x writes)) has;
-      marks = λ x move has. c.reserve_run.ensures.only.marks x has;
+      marks = λ x marked move has. c.reserve_run.ensures.only.marks x (run_apart e (state_of c.args.self.now) x marked) has;
     }
 
 pub returns-then-e-clause-only : goal.returns-then-e-clause-only
@@ -27,7 +27,7 @@ returns-then-e-clause-only c =
     let e = c.args.e.now in
     record {
       bytes = λ x writes move has. c.reserve_run.ensures.only.bytes x (row_apart e.address e.bytes.items x (first_apart (run_in e) (requests_in e.requests) x writes)) has;
-      marks = λ x move has. c.reserve_run.ensures.only.marks x has;
+      marks = λ x marked move has. c.reserve_run.ensures.only.marks x (run_apart e (state_of c.args.self.now) x marked) has;
     }
 
 -- and for bits of requests
@@ -38,7 +38,7 @@ returns-in_err-reserve_requests-clause-only c =
       bytes = λ x writes move has.
           c.reserve_run.ensures.only.bytes x (row_apart e.address e.bytes.items x (first_apart (run_in e) (requests_in e.requests) x writes))
           (c.reserve_requests.ensures.only.bytes x (later_apart (run_in e) (requests_in e.requests) x writes) has);
-      marks = λ x move has. c.reserve_run.ensures.only.marks x (c.reserve_requests.ensures.only.marks x has);
+      marks = λ x marked move has. c.reserve_run.ensures.only.marks x (run_apart e (state_of c.args.self.now) x marked) (c.reserve_requests.ensures.only.marks x has);
     }
 
 -- and for a frame
@@ -53,6 +53,6 @@ returns-clause-only c =
           c.reserve_run.ensures.only.bytes x (row_apart e.address e.bytes.items x (first_apart (run_in e) (requests_in e.requests) x writes))
           (c.reserve_requests.ensures.only.bytes x (later_apart (run_in e) (requests_in e.requests) x writes)
           (move_bytes e.frames s mid last x c.reserve_move.ensures.only move has));
-      marks = λ x move has.
-          c.reserve_run.ensures.only.marks x (c.reserve_requests.ensures.only.marks x (move_marks e.frames s mid last x c.reserve_move.ensures.only move has));
+      marks = λ x marked move has.
+          c.reserve_run.ensures.only.marks x (run_apart e s x marked) (c.reserve_requests.ensures.only.marks x (move_marks e.frames s mid last x c.reserve_move.ensures.only move has));
     }

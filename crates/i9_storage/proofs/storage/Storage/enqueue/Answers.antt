@@ -1,23 +1,33 @@
-use Rattle.std.proofs.Common.{ap, ◌∙◌}
-use Rattle.i9_model.specs.Frames.{wrote_run}
-use Rattle.i9_model.specs.Writes.{upwards}
+use Rattle.std.proofs.Common.{◌≡◌, ℕ, List, length, ap, ◌∙◌}
+use Rattle.i9_model.specs.State.{Frames}
+use Rattle.i9_model.specs.Frames.{wrote_run, wrote, softened}
+use Rattle.i9_model.specs.Stale.{picked}
+use Rattle.i9_model.specs.Writes.{wrapped, upwards}
+use Rattle.i9_queue.specs.declared.queue.Request.{Request}
+use Rattle.i9_watch.specs.Bits.{bits_of}
 use Rattle.i9_watch.specs.Watch.{frames_of}
 use Rattle.i9_storage.proofs.Keeping.{kept_store, store_laid, run_wrote}
 use Rattle.i9_storage.proofs.storage.Storage.enqueue.Goals as goal
 
+-- the marks that the bytes of a request get
+abbrev marked_in : Request → ℕ → List ℕ
+marked_in r stale = picked wrapped r.address (bits_of stale (length r.bytes.items))
+
+request_wrote : (f g : Frames) (r : Request) (stale n : ℕ) → n ≡ length r.bytes.items → g ≡ softened (wrote_run f r.address n) (picked wrapped r.address (bits_of stale n))
+    → g ≡ softened (wrote f (upwards r.address r.bytes.items)) (marked_in r stale)
+request_wrote f g r stale n e is =
+    run_wrote f g r.address r.bytes.items (marked_in r stale) (is ∙ ap (λ (k : ℕ). softened (wrote_run f r.address k) (picked wrapped r.address (bits_of stale k))) e)
+
 pub invariant_of-self : goal.invariant_of-self
 invariant_of-self c =
     let old = c.args.self.now in
-    let a = c.args.request.address in
-    let bytes = c.args.request.bytes.items in
-    let wrote = run_wrote (frames_of old.watch) (frames_of c.wrote.new.self) a bytes (c.wrote.ensures.frames ∙ ap (wrote_run (frames_of old.watch) a) c.len-n.ensures.value) in
-    record { kept = kept_store old.behind c.enqueue.new.self old.watch c.wrote.new.self old.sets (upwards a bytes) old.kept c.enqueue.ensures.keeps wrote c.requires.free }
+    let r = c.args.request in
+    let wrote = request_wrote (frames_of old.watch) (frames_of c.mark_stored.new.watch) r c.args.stale c.len-n.result c.len-n.ensures.value c.mark_stored.ensures.frames in
+    record { kept = kept_store old.behind c.enqueue.new.self old.watch c.mark_stored.new.watch old.sets (upwards r.address r.bytes.items) (marked_in r c.args.stale) old.kept c.enqueue.ensures.keeps wrote c.requires.free }
 
 pub returns-clause-frames : goal.returns-clause-frames
 returns-clause-frames c =
-    let before = frames_of c.args.self.now.watch in
-    let a = c.args.request.address in
-    run_wrote before (frames_of c.wrote.new.self) a c.args.request.bytes.items (c.wrote.ensures.frames ∙ ap (wrote_run before a) c.len-n.ensures.value)
+    request_wrote (frames_of c.args.self.now.watch) (frames_of c.mark_stored.new.watch) c.args.request c.args.stale c.len-n.result c.len-n.ensures.value c.mark_stored.ensures.frames
 
 pub returns-clause-memory : goal.returns-clause-memory
 returns-clause-memory c =

@@ -12,3 +12,8 @@ returns-in-Live c = λ none k low high.
     let end = c.div_ceil-last.ensures in
     let clear : get_or c.args.self.now.live (k / 16) false ≡ false = unmarked_part c.args.self.now.live (c.args.place / 16) c.div_ceil-last.result (k / 16) (sym c.contains-in-Live.ensures.value ∙ none) (omega arith) (omega (arith, end)) in
     rw c.in-Live.is clear
+
+pub returns-in-Lost : goal.returns-in-Lost
+returns-in-Lost c = λ none k low high.
+    let clear : get_or c.deref-in-Lost.result.now k false ≡ false = unmarked_part c.deref-in-Lost.result.now c.args.place (c.args.place + c.args.n) k (sym c.contains-in-Lost.ensures.value ∙ none) low high in
+    rw c.in-Lost.is (search (rules, clear))

@@ -1,5 +1,5 @@
-use Rattle.std.proofs.Common.{refl, ◌∙◌}
-use Rattle.i9_watch.specs.declared.page.Mark.TheVariants.{Soft, Live}
+use Rattle.std.proofs.Common.{ℕ, Bool, refl, sym, ap, ◌∙◌}
+use Rattle.i9_watch.specs.declared.page.Mark.TheVariants.{Soft, Live, Lost}
 use Rattle.i9_watch.specs.Marks.{is_marked}
 use Rattle.i9_watch.specs.Watch.{frames_of}
 use Rattle.i9_watch.proofs.Watching.{same_frames, no_change, soft-wrote}
@@ -14,6 +14,12 @@ invariant_of-self-clause-apart c = c.args.self.now.apart
 pub invariant_of-self-clause-marked : goal.invariant_of-self-clause-marked
 invariant_of-self-clause-marked c = no_change c.args.a c.args.n (is_marked Live c.args.self.now.marks) (is_marked Live c.store.new.self) (c.store.ensures.marks Live) ∙ c.args.self.now.marked
 
+pub invariant_of-self-clause-within : goal.invariant_of-self-clause-within
+invariant_of-self-clause-within c = λ x t. c.args.self.now.within x (ap (λ (f : ℕ → Bool). f x) (sym (no_change c.args.a c.args.n (is_marked Lost c.args.self.now.marks) (is_marked Lost c.store.new.self) (c.store.ensures.marks Lost))) ∙ t)
+
+pub invariant_of-self-clause-none_lost : goal.invariant_of-self-clause-none_lost
+invariant_of-self-clause-none_lost c = λ e x. ap (λ (f : ℕ → Bool). f x) (no_change c.args.a c.args.n (is_marked Lost c.args.self.now.marks) (is_marked Lost c.store.new.self) (c.store.ensures.marks Lost)) ∙ c.args.self.now.none_lost e x
+
 pub returns-clause-frames : goal.returns-clause-frames
 unfolding frames_of
-returns-clause-frames c = same_frames (soft-wrote c.args.a c.args.n (is_marked Soft c.args.self.now.marks) (is_marked Soft c.store.new.self) (c.store.ensures.marks Soft)) refl
+returns-clause-frames c = same_frames (soft-wrote c.args.a c.args.n (is_marked Soft c.args.self.now.marks) (is_marked Soft c.store.new.self) (c.store.ensures.marks Soft)) refl (no_change c.args.a c.args.n (is_marked Lost c.args.self.now.marks) (is_marked Lost c.store.new.self) (c.store.ensures.marks Lost))

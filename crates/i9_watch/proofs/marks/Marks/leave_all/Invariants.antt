@@ -1,0 +1,18 @@
+use Rattle.std.proofs.Common.{◌≡◌, ◌≢◌, ℕ, Bool}
+use Rattle.std.specs.Prelude.{◌&&◌, not}
+use Rattle.std.specs.VecDeque.Iter.{deque_iter_rest}
+use Rattle.i9_model.specs.Frames.{in_frames}
+use Rattle.i9_watch.specs.declared.page.Mark.{Mark}
+use Rattle.i9_watch.specs.declared.page.Mark.TheVariants.{Soft}
+use Rattle.i9_watch.specs.Marks.{is_marked, KeepsPages}
+use Rattle.i9_watch.specs.Live.{AreAligned}
+use Rattle.i9_watch.proofs.marks.Marks.leave_all.Given as goal
+
+abbrev pub invariant-loop-frame : goal.invariant-loop-frame
+invariant-loop-frame l = record {
+  aligned : AreAligned (deque_iter_rest l.frame-iterator);
+  soft : is_marked Soft l.self ≡ is_marked Soft l.fn.self;
+  left : (m : Mark) → m ≢ Soft → ◌≡◌ {A = ℕ → Bool} (λ x. is_marked m l.self x && not (in_frames (deque_iter_rest l.frame-iterator) x)) (λ x. is_marked m l.fn.self x && not (in_frames l.frames.items x));
+  keeps : KeepsPages l.fn.self l.self;
+  no_more : KeepsPages l.self l.fn.self;
+}
