@@ -6,7 +6,8 @@ from forms import Wrong
 
 H = rb"[0-9A-F]{8}"
 WORDS = rb"(?: " + H + rb"){16}\n"
-REGISTERS = rb"#g" + WORDS + rb"#l" + WORDS
+MARKED = rb"(?: (?:" + H + rb"|-{8})){16}\n"
+REGISTERS = rb"#g" + MARKED + rb"#l" + MARKED
 POINT = re.compile(rb"#point (\d+) (flush|sync|event|int|fault|end)((?: " + H + rb"){3}\n" + REGISTERS + rb")")
 OUT = re.compile(rb"#out [0-9A-F]{2}\n")
 HEADING = re.compile(rb"schedule 2\n")
