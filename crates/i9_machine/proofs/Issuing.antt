@@ -5,7 +5,7 @@ use Rattle.i9_model.specs.declared.need.Need.{Need}
 use Rattle.i9_model.specs.declared.need.Placed.{Placed}
 use Rattle.i9_model.specs.Alike.{AreAlike, AreRecordsAlike}
 use Rattle.i9_model.specs.HeldFrames.{Cache, sets_in, cache_after}
-use Rattle.i9_model.specs.Late.{turns, resource, resources, issued_cell, wait_of, settled_memory, IsClear}
+use Rattle.i9_model.specs.Late.{turns, resource, resources, landed, issued_cell, wait_of, settled_memory, IsClear}
 use Rattle.i9_model.specs.Left.{left_in}
 use Rattle.i9_model.specs.Memory.{stored}
 use Rattle.i9_model.specs.Run.{Given, Kind, Instruction, Faulted, Entered, Interrupted, Reached, Record, Does, action_done, due_by, reached_by, due_after, reached_after, state_after}
@@ -25,7 +25,12 @@ use Rattle.i9_course.proofs.Settled.{course_settles}
 use Rattle.i9_course.proofs.NeedActs.{need_still, need_requests}
 use Rattle.i9_course.proofs.NeedAlike.{need_alike}
 use Rattle.i9_course.proofs.Placing.{placed_turns}
+use Rattle.i9_model.proofs.TurnOpen.{done-after}
+use Rattle.i9_course.proofs.Timed.{course_costs}
+use Rattle.i9_course.specs.Course.{issue_of_next}
+use Rattle.i9_course.proofs.Ahead.{ahead_precise}
 use Rattle.i9_course.proofs.Steps.{issues_lands, lands_clear}
+use Rattle.i9_regs.proofs.Shown.{issued_shows}
 use Rattle.i9_processor.specs.Effect.{IsStill}
 use Rattle.i9_processor.specs.State.{state_of, cache_of, size_of, cells_of, bytes_of, queue_of}
 use Rattle.i9_processor.proofs.Drained.{drained_bytes}
@@ -73,9 +78,9 @@ still_puts n c a stays = ap (λ (v : Move). move_writes n c v ++ a.writes) stays
 pub clear_need : (g : Given) (h : List Item) (before : Machine) (r : Record) (need : Need) → StandsFor g h None before
     → comes_next g h ≡ Does r → (ahead g h).imprecise ≡ None → (ahead g h).turn ≤ before.turn
     → record_need g.sets (cache_after g (records_of h)) r ≡ need
-    → IsClear (cells_of before.processor) (queue_of before.processor) need
+    → IsClear (kernel_of before).cells (queue_of before.processor) need
 clear_need g h before r need stands is_next precise now is_need =
-    subst (IsClear (cells_of before.processor) (queue_of before.processor))
+    subst (IsClear (kernel_of before).cells (queue_of before.processor))
     (ap (need_ahead g.sets (cache_after g (records_of h))) is_next ∙ is_need)
     (lands_clear g h (kernel_of before) stands.lands precise now)
 
@@ -109,20 +114,34 @@ module _ (g : Given) (h : List Item) (before m : Machine) (r q : Record) (need :
   done : (late_after g h r).timed.done ≡ issued.placed.done
   done = placed_done g h before r need issued.placed m.board stands is_need issued.board
 
-  clear : IsClear (cells_of before.processor) (queue_of before.processor) need
+  clear : IsClear (kernel_of before).cells (queue_of before.processor) need
   clear = clear_need g h before r need stands is_next precise now is_need
 
   acted : action_done q ≡ action_done r
   acted = done_alike r q same
 
-  cells_issued : (c : ℕ) → c < resources → cells_of m.processor c
-      ≡ issued_cell (late_after g h r).timed.need.writes (late_after g h r).timed.done c (resource r.after c) (cells_of before.processor c)
+  -- the record is done later
+  later : before.turn < issued.placed.done
+  later =
+      let x = late_after g h r in
+      let issue : (ahead g h).turn ≡ x.timed.issue = ahead_precise g h precise ∙ ap (issue_of_next g h) is_next in
+      let in_time : before.turn ≤ (ahead g h).turn = stands.lands.in_time in
+      let takes : x.timed.issue < x.timed.done =
+      done-after (turns (course g h).late) x.timed.need x.timed.issue (course_costs g (Step r ∷ h)).0 in
+      let is : x.timed.done ≡ issued.placed.done = done in
+      omega (arith, issue, in_time, takes, is)
+
+  cells_issued : (c : ℕ) → c < resources → (kernel_of m).cells c
+      ≡ issued_cell (late_after g h r).timed.need.writes (late_after g h r).timed.done c (resource r.after c) ((kernel_of before).cells c)
   cells_issued c lt =
-      issued.acts.cells c lt
-      ∙ ap (λ (v : ℕ). issued_cell need.writes issued.placed.done c v (cells_of before.processor c))
+      ap (λ (t : ℕ). landed t (cells_of m.processor c)) issued.turn
+      ∙ ap (landed before.turn) (issued.acts.cells c lt)
+      ∙ issued_shows before.turn need.writes issued.placed.done c (resource (state_of m.processor) c) (cells_of before.processor c)
+      later (clear.plans c lt)
+      ∙ ap (λ (v : ℕ). issued_cell need.writes issued.placed.done c v ((kernel_of before).cells c))
       (ap (λ (s : State). resource s c) after.rest)
-      ∙ ap (λ (t : ℕ). issued_cell need.writes t c (resource r.after c) (cells_of before.processor c)) (sym done)
-      ∙ ap (λ (n : Need). issued_cell n.writes (late_after g h r).timed.done c (resource r.after c) (cells_of before.processor c))
+      ∙ ap (λ (t : ℕ). issued_cell need.writes t c (resource r.after c) ((kernel_of before).cells c)) (sym done)
+      ∙ ap (λ (n : Need). issued_cell n.writes (late_after g h r).timed.done c (resource r.after c) ((kernel_of before).cells c))
       (sym needs)
 
   waiting : (late_after g h r).timed.need.request ≡ true → (bytes_of m.processor ≡ bytes_of before.processor)

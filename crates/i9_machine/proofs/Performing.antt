@@ -23,6 +23,7 @@ use Rattle.i9_model.proofs.AlikeSteps.{does_alike, view_alike}
 use Rattle.i9_model.proofs.HeldRuns.{next_free}
 use Rattle.i9_schedule.specs.Plan.{Plan}
 use Rattle.i9_regs.specs.Covered.{IsCovered}
+use Rattle.i9_regs.specs.File.{issued_over}
 use Rattle.i9_course.specs.NeedOf.{need_of}
 use Rattle.i9_course.specs.Course.{Item, records_of, event_ahead, comes_next, ahead}
 use Rattle.i9_course.proofs.Landed.{request_last}
@@ -148,7 +149,7 @@ unmoved_issued before mid m need a u size cache i = record {
   wait = i.wait ∙ u.wait;
   done = i.done;
   acts = record {
-    cells = λ r lt. i.acts.cells r lt ∙ ap (λ (c : ℕ → Cell). issued_cell need.writes i.placed.done r (resource (state_of m.processor) r) (c r)) u.cells;
+    cells = λ r lt. i.acts.cells r lt ∙ ap (λ (c : ℕ → Cell). issued_over need.writes i.placed.done r (resource (state_of m.processor) r) (c r)) u.cells;
     waits = λ request.
         let w = i.acts.waits request in
         (w.0 ∙ u.bytes, w.1 ∙ ap (λ (ws : List Wait). ws ++ record { puts = a.writes; due = i.placed.done } ∷ []) u.queue);
@@ -368,7 +369,7 @@ like_moved before mid m wait l i = record {
   state = i.state ∙ ap state_of l.processor;
   cache = i.cache ∙ ap cache_of l.processor;
   size = i.size ∙ ap size_of l.processor;
-  cells = λ r. i.cells r ∙ ap (λ (p : Processor). landed m.turn (cells_of p r)) l.processor;
+  cells = i.cells ∙ ap cells_of l.processor;
   bytes = i.bytes ∙ ap (λ (p : Processor). stored (bytes_of p) (due_puts m.turn (queue_of p))) l.processor;
   queue = i.queue ∙ ap (λ (p : Processor). left_waiting m.turn (queue_of p)) l.processor;
   turn = i.turn ∙ ap (λ (t : ℕ). t + 1) l.turn;

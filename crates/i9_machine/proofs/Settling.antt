@@ -24,14 +24,17 @@ use Rattle.i9_raw.specs.Raw.{IsShaded}
 use Rattle.i9_machine.specs.declared.machine.Machine.{Machine}
 use Rattle.i9_machine.specs.Issuing.{kernel_of, IsPaced, IsEndTurn, IsSettled, IsQuiet}
 use Rattle.i9_machine.specs.StandsFor.{StandsFor, HasLanded, left_after}
-use Rattle.i9_machine.proofs.Turning.{ended_by}
+use Rattle.i9_machine.proofs.Turning.{ended_by, moved_cells}
 
 settled_moves : (before m : Machine) (until : ℕ) → IsSettled before m until → MovesTo (max before.turn until) (kernel_of before) (kernel_of m)
 settled_moves before m until i = record {
   board = i.board;
   turn = i.turn;
   done = i.done;
-  cells = λ r lt. subst (λ (t : ℕ). (kernel_of m).cells r ≡ landed t ((kernel_of before).cells r)) i.turn (i.cells r);
+  cells = λ r lt.
+      let turn : m.turn ≡ max before.turn until = i.turn in
+      subst (λ (t : ℕ). (kernel_of m).cells r ≡ landed t ((kernel_of before).cells r)) i.turn
+      (moved_cells before m r i.cells (omega (arith, turn)));
   bytes = subst (λ (t : ℕ). (kernel_of m).bytes ≡ stored (kernel_of before).bytes (due_puts t (kernel_of before).queue)) i.turn i.bytes;
   queue = subst (λ (t : ℕ). (kernel_of m).queue ≡ left_waiting t (kernel_of before).queue) i.turn i.queue;
 }
@@ -92,7 +95,7 @@ settled_ended g h f before m until end i floor stands =
       last = i.done ∙ stands.lands.last;
       begun = omega (arith, begun, le);
       shows = shows_moves (boot g.image) before.turn m.turn xs (kernel_of before).cells (kernel_of m).cells (kernel_of before).bytes (kernel_of m).bytes (kernel_of before).queue (kernel_of m).queue stands.lands.shows le
-          (issued-by before.turn xs (course_timed g h) begun) (course_orderly g h) (λ r lt. i.cells r) i.bytes i.queue;
+          (issued-by before.turn xs (course_timed g h) begun) (course_orderly g h) (λ r lt. moved_cells before m r i.cells le) i.bytes i.queue;
     } in
     record {
       past = stands.past;

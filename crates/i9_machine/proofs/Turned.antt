@@ -8,7 +8,7 @@ use Rattle.std.proofs.lemmas.List.{append-nil}
 use Rattle.i9_model.specs.declared.need.Cell.{Cell}
 use Rattle.i9_model.specs.declared.run.End.{End}
 use Rattle.i9_isa.specs.declared.resources.TheConstants.{CONDITION_CODE}
-use Rattle.i9_model.specs.Late.{Shows, resource, raw_value, latest_value, is_busy, is_plan_open, turns as late_turns}
+use Rattle.i9_model.specs.Late.{Shows, landed, resource, raw_value, latest_value, is_busy, is_plan_open, turns as late_turns}
 use Rattle.i9_model.specs.Needs.{set_below}
 use Rattle.i9_model.specs.PrintedText.{Shown, register_list, lines_of, record_lines, end_lines}
 use Rattle.i9_model.specs.Run.{Given, Next, state_after, Finish}
@@ -17,6 +17,7 @@ use Rattle.i9_model.specs.Turns.{last_issue}
 use Rattle.i9_model.proofs.LateRegisters.{cell-busy}
 use Rattle.i9_schedule.specs.Plan.{Plan}
 use Rattle.i9_course.specs.Course.{Item, Step, records_of, course, comes_next}
+use Rattle.i9_regs.proofs.Shown.{landed_busy}
 use Rattle.i9_processor.specs.State.{cells_of, bytes_of}
 use Rattle.i9_raw.specs.Raw.{raw_memory}
 use Rattle.i9_course.proofs.Orderly.{registers_settle}
@@ -181,16 +182,16 @@ begun_of g h None m stands = stands.lands.begun
 begun_of g h (Some f) m stands = stands.lands.begun
 
 pub raw_is : (g : Given) (h : List Item) (end : Option Finish) (m : Machine) (raw : Raw) → StandsFor g h end m
-    → raw.turn ≡ m.turn → raw.regs ≡ register_list (λ r. (cells_of m.processor r).value)
+    → raw.turn ≡ m.turn → raw.regs ≡ register_list (λ r. (landed m.turn (cells_of m.processor r)).value)
     → raw.busy ≡ set_below 32 (λ r. is_plan_open m.turn (cells_of m.processor r).plan) → raw ≡ raw_at g h m.turn
 raw_is g h end m raw stands turn regs busy =
     let shows = shows_of g h end m stands in
     let late = (course g h).late in
     let first = boot g.image in
-    let values = regs ∙ same_list (λ r. (cells_of m.processor r).value) (raw_value first m.turn late)
+    let values = regs ∙ same_list (λ r. (landed m.turn (cells_of m.processor r)).value) (raw_value first m.turn late)
     (λ r lt. ap (λ (c : Cell). c.value) (shows.registers r (omega (arith, lt)))) in
     let marks = busy ∙ same_set 32 (λ r. is_plan_open m.turn (cells_of m.processor r).plan) (is_busy m.turn late)
-    (λ r lt. ap (λ (c : Cell). is_plan_open m.turn c.plan) (shows.registers r (omega (arith, lt))) ∙ cell-busy m.turn r late) in
+    (λ r lt. sym (landed_busy m.turn (cells_of m.processor r)) ∙ ap (λ (c : Cell). is_plan_open m.turn c.plan) (shows.registers r (omega (arith, lt))) ∙ cell-busy m.turn r late) in
     ap (λ (t : ℕ). record { turn = t; regs = raw.regs; busy = raw.busy }) turn
     ∙ ap (λ (rs : List ℕ). record { turn = m.turn; regs = rs; busy = raw.busy }) values
     ∙ ap (λ (b : ℕ). record { turn = m.turn; regs = register_list (raw_value first m.turn late); busy = b }) marks

@@ -14,7 +14,10 @@ use Rattle.i9_model.specs.Alike.{AreAlike}
 use Rattle.i9_model.specs.Turns.{HasCost, Pending, IsAllDone, AreAllDone, last_issue, issue_turn, end_turn, done_from, waiting_until}
 use Rattle.i9_model.specs.Turns as board
 use Rattle.i9_model.proofs.TurnOpen.{open-all_done}
-use Rattle.i9_model.specs.Late.{turns}
+use Rattle.i9_model.specs.Late.{turns, landed}
+use Rattle.i9_model.specs.declared.need.Cell.{Cell}
+use Rattle.i9_regs.proofs.Shown.{landed_later}
+use Rattle.i9_processor.specs.State.{cells_of}
 use Rattle.i9_issue.specs.Room.{IsEarly}
 use Rattle.i9_schedule.specs.Plan.{Plan}
 use Rattle.i9_course.specs.NeedOf.{need_of, need_ahead}
@@ -94,6 +97,13 @@ moved_paced g h t before m wait stands bound i =
       floor = omega (arith, floor, floor_was);
     }
 
+-- what shows at a later turn is what showed, landed by then
+pub moved_cells : (before m : Machine) (r : ℕ) → cells_of m.processor ≡ cells_of before.processor → before.turn ≤ m.turn
+    → landed m.turn (cells_of m.processor r) ≡ landed m.turn (landed before.turn (cells_of before.processor r))
+moved_cells before m r same le =
+    ap (λ (c : ℕ → Cell). landed m.turn (c r)) same
+    ∙ sym (landed_later before.turn m.turn (cells_of before.processor r) le)
+
 -- to a turn below which nothing comes next
 pub moved_stands : (g : Given) (h : List Item) (t : ℕ) (before m : Machine) (wait : ℕ)
     → StandsFor g h None before → before.turn ≤ t → t ≤ (ahead g h).turn → wait ≤ (ahead g h).turn
@@ -107,7 +117,7 @@ moved_stands g h t before m wait stands later within bound i =
       size = i.size ∙ stands.size;
       cache = i.cache ∙ stands.cache;
       lands = moves_lands g h m.turn (kernel_of before) (kernel_of m) stands.lands (omega (arith, turn, later)) (omega (arith, turn, within))
-          (record { board = i.board; turn = refl; done = i.done; cells = λ r lt. i.cells r; bytes = i.bytes; queue = i.queue }) i.floor;
+          (record { board = i.board; turn = refl; done = i.done; cells = λ r lt. moved_cells before m r i.cells (omega (arith, turn, later)); bytes = i.bytes; queue = i.queue }) i.floor;
       shaded = subst (IsShaded (boot g.image).memory.bytes (course g h).late) (sym i.shade) stands.shaded;
       early = omega (arith, wait_now, bound);
       paced = moved_paced g h t before m wait stands within i;

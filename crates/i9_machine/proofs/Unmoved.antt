@@ -3,7 +3,7 @@ use Rattle.std.proofs.Common.{◌≡◌, ℕ, ◌≤◌, List, Option, Some, Non
 use Rattle.i9_model.specs.declared.need.Cell.{Cell}
 use Rattle.i9_model.specs.declared.run.End.{End}
 use Rattle.i9_model.specs.Alike.{AreAlike}
-use Rattle.i9_model.specs.Late.{Wait}
+use Rattle.i9_model.specs.Late.{Wait, landed}
 use Rattle.i9_model.specs.Run.{Given, state_after, Finish, finish, reached_last, next_in}
 use Rattle.i9_model.specs.ScheduleText.{standing_by}
 use Rattle.i9_model.specs.HeldFrames.{Cache}
@@ -16,7 +16,7 @@ use Rattle.i9_course.specs.Course.{Item, records_of, course, ahead, instruction_
 use Rattle.i9_course.specs.NeedOf.{need_ahead}
 use Rattle.i9_raw.specs.Raw.{IsShaded}
 use Rattle.i9_course.specs.Kernel.{Lands}
-use Rattle.i9_processor.specs.State.{state_of, cache_of, size_of, bytes_of, queue_of}
+use Rattle.i9_processor.specs.State.{state_of, cache_of, size_of, cells_of, bytes_of, queue_of}
 use Rattle.i9_machine.specs.declared.machine.Machine.{Machine}
 use Rattle.i9_machine.specs.Issuing.{kernel_of, IsPaced, IsUnmoved}
 use Rattle.i9_machine.specs.Step.{IsSame, need_at, turn_at, event_for, next_for, plan_at_end}
@@ -31,10 +31,10 @@ same_state s before m alike e = subst (AreAlike s) (sym e) alike
 unmoved_kernel : (before m : Machine) → IsUnmoved before m → kernel_of m ≡ kernel_of before
 unmoved_kernel before m u =
     ap (λ (p : Pending). record (kernel_of m) { board = p }) u.board
-    ∙ ap (λ (t : ℕ). record (kernel_of m) { board = before.board; turn = t }) u.turn
-    ∙ ap (λ (t : ℕ). record (kernel_of m) { board = before.board; turn = before.turn; floor = t }) u.floor
-    ∙ ap (λ (t : ℕ). record (kernel_of m) { board = before.board; turn = before.turn; floor = before.floor; done = t }) u.done
-    ∙ ap (λ (c : ℕ → Cell). record (kernel_of before) { cells = c; bytes = bytes_of m.processor; queue = queue_of m.processor }) u.cells
+    ∙ ap (λ (t : ℕ). record (kernel_of m) { board = before.board; turn = t; cells = λ r. landed t (cells_of m.processor r) }) u.turn
+    ∙ ap (λ (t : ℕ). record (kernel_of m) { board = before.board; turn = before.turn; floor = t; cells = λ r. landed before.turn (cells_of m.processor r) }) u.floor
+    ∙ ap (λ (t : ℕ). record (kernel_of m) { board = before.board; turn = before.turn; floor = before.floor; done = t; cells = λ r. landed before.turn (cells_of m.processor r) }) u.done
+    ∙ ap (λ (c : ℕ → Cell). record (kernel_of before) { cells = λ r. landed before.turn (c r); bytes = bytes_of m.processor; queue = queue_of m.processor }) u.cells
     ∙ ap (λ (b : ℕ → ℕ). record (kernel_of before) { bytes = b; queue = queue_of m.processor }) u.bytes
     ∙ ap (λ (q : List Wait). record (kernel_of before) { queue = q }) u.queue
 

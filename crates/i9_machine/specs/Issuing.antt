@@ -3,7 +3,8 @@ use Rattle.std.specs.Prelude.{◌≡◌, ℕ, max, None, ◌+◌, ◌*◌, ◌^�
 use Rattle.i9_model.specs.declared.need.Need.{Need}
 use Rattle.i9_model.specs.declared.need.Placed.{Placed}
 use Rattle.i9_model.specs.declared.need.TimedNeed.{TimedNeed}
-use Rattle.i9_model.specs.Late.{resource, resources, landed, due_puts, left_waiting, issued_cell}
+use Rattle.i9_model.specs.Late.{resource, resources, landed, due_puts, left_waiting}
+use Rattle.i9_regs.specs.File.{issued_over}
 use Rattle.i9_model.specs.Memory.{stored}
 use Rattle.i9_model.specs.Step.{Action}
 use Rattle.i9_model.specs.Turns.{Pending, StandsFor, IsAllDone, with_need, waiting_until, placed_record, end_turn}
@@ -25,7 +26,7 @@ kernel_of m = record {
   turn = m.turn;
   floor = m.floor;
   done = m.done;
-  cells = cells_of m.processor;
+  cells = λ r. landed m.turn (cells_of m.processor r);
   bytes = bytes_of m.processor;
   queue = queue_of m.processor;
 }
@@ -50,7 +51,7 @@ IsPlaced old need placed new = (rs : List TimedNeed) → StandsFor old rs → St
 -- What an action leaves lands late: what is written is planned, and bytes wait where it is a request.
 pub record Acts (before : Processor) (l : Landing) (a : Action) (p : Processor) : Type 0 where
   pub cells : (r : ℕ) → r < resources
-      → cells_of p r ≡ issued_cell l.writes l.done r (resource (state_of p) r) (cells_of before r)
+      → cells_of p r ≡ issued_over l.writes l.done r (resource (state_of p) r) (cells_of before r)
   pub waits : l.request ≡ true → (bytes_of p ≡ bytes_of before)
       × (queue_of p ≡ queue_of before ++ record { puts = a.writes; due = l.done } ∷ [])
   pub acts : l.request ≡ false → queue_of p ≡ queue_of before
@@ -111,7 +112,7 @@ pub record IsMovedTo (t : ℕ) (before m : Machine) : Type 0 where
   pub state : state_of m.processor ≡ state_of before.processor
   pub cache : cache_of m.processor ≡ cache_of before.processor
   pub size : size_of m.processor ≡ size_of before.processor
-  pub cells : (r : ℕ) → cells_of m.processor r ≡ landed m.turn (cells_of before.processor r)
+  pub cells : cells_of m.processor ≡ cells_of before.processor
   pub bytes : bytes_of m.processor ≡ stored (bytes_of before.processor) (due_puts m.turn (queue_of before.processor))
   pub queue : queue_of m.processor ≡ left_waiting m.turn (queue_of before.processor)
   pub turn : m.turn ≡ t
@@ -155,7 +156,7 @@ pub record IsSettled (before m : Machine) (until : ℕ) : Type 0 where
   pub state : state_of m.processor ≡ state_of before.processor
   pub cache : cache_of m.processor ≡ cache_of before.processor
   pub size : size_of m.processor ≡ size_of before.processor
-  pub cells : (r : ℕ) → cells_of m.processor r ≡ landed m.turn (cells_of before.processor r)
+  pub cells : cells_of m.processor ≡ cells_of before.processor
   pub bytes : bytes_of m.processor ≡ stored (bytes_of before.processor) (due_puts m.turn (queue_of before.processor))
   pub queue : queue_of m.processor ≡ left_waiting m.turn (queue_of before.processor)
   pub turn : m.turn ≡ max before.turn until
@@ -170,5 +171,5 @@ pub record IsSettled (before m : Machine) (until : ℕ) : Type 0 where
 
 -- nothing is planned for a register or the condition code, and no request waits
 pub record IsQuiet (m : Machine) : Type 0 where
-  pub planned : (r : ℕ) → r < resources → (cells_of m.processor r).plan ≡ None
+  pub planned : (r : ℕ) → r < resources → (landed m.turn (cells_of m.processor r)).plan ≡ None
   pub waiting : queue_of m.processor ≡ []

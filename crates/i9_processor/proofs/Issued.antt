@@ -1,6 +1,6 @@
 -- Registers and the condition code behind an issue, and cells in which nothing is planned.
 use Rattle.std.proofs.Common.{◌≡◌, ℕ, zero, suc, ◌+◌, ◌-◌, ◌*◌, ◌/◌, ◌%◌, ◌<◌, ◌≤◌, Bool, true, false, cond, eqb, nat_lt}
-use Rattle.std.proofs.Common.{List, ◌∷◌, [], length, replicate, Option, None, ◌⊎◌}
+use Rattle.std.proofs.Common.{List, ◌∷◌, [], length, replicate, Some, None, ◌⊎◌}
 use Rattle.std.proofs.Common.{refl, sym, ap, ◌∙◌, inl, inr, arith}
 use Rattle.std.specs.Prelude.{unwrap_or, slice_index, slice_set}
 use Rattle.std.specs.Int.{bit_at, IsBitSet}
@@ -10,27 +10,20 @@ use Rattle.std.proofs.lemmas.Nat.Bits.{bit_at-lt}
 use Rattle.i9_isa.specs.declared.resources.TheConstants.{CONDITION_CODE}
 use Rattle.i9_isa.specs.Resources.{is_in_frame}
 use Rattle.i9_model.specs.declared.need.Cell.{Cell}
-use Rattle.i9_model.specs.Late.{resources, cell, landed, latest, latest_value, issued_cell}
+use Rattle.i9_model.specs.Late.{resources, cell, latest, issued_cell}
 use Rattle.i9_model.specs.Writes.{written, pairs_at, last_put}
 use Rattle.i9_model.specs.State.{frame_sets}
-use Rattle.i9_model.proofs.LateOrder.{landed_latest}
 use Rattle.i9_model.proofs.MaskLaws.{frame_beside}
 use Rattle.i9_model.proofs.Stored.{written-last}
 use Rattle.i9_model.proofs.TurnTests.{set-one, one-set}
-use Rattle.i9_regs.specs.File.{cell_in, latest_of}
-use Rattle.i9_regs.proofs.Issued.{issued_one, issued_none, written_in}
+use Rattle.i9_regs.specs.declared.file.File.{File}
+use Rattle.i9_regs.specs.File.{cell_in, still, latest_of, issued_over}
+use Rattle.i9_regs.proofs.Issued.{issued_one, issued_none, amended_one, amended_none, cases_bit, written_in}
 use Rattle.i9_processor.specs.State.{registers_of, arithmetic_of}
 use Rattle.i9_processor.specs.Issued.{AreCovered, IsCodeCovered, IsStartCovered, resource_of, IsIssued, AreStill}
-use Rattle.i9_processor.proofs.RegisterList.{registers_at, registers_past, frame_written, zero_at}
+use Rattle.i9_processor.proofs.RegisterList.{registers_at, registers_past, frame_written}
 
 -- ---- what is set is in the set of resources
-
--- a bit that is not set is 0
-cases_bit : (n k : ℕ) → (bit_at n k ≡ 1) ⊎ (bit_at n k ≡ 0)
-cases_bit n k = elim (cases_lt 0 (bit_at n k)) [
-  | inl some ↦ inl (omega (arith, bit_at-lt n k))
-  | inr none ↦ inr (omega arith)
-]
 
 -- a resource that is set whatever it was before
 put_set : (writes r v : ℕ) (sets : List (ℕ × ℕ)) → AreCovered writes sets → r < resources
@@ -87,13 +80,13 @@ frame_past locals frame r whole past = frame_beside locals frame r whole (grind 
 
 -- ---- registers, condition code and cells behind an issue
 
-module _ (olds news : List Cell) (writes done flags ac : ℕ) (sets : List (ℕ × ℕ))
+module _ (olds news : File) (writes done flags ac : ℕ) (sets : List (ℕ × ℕ))
     (past : (r : ℕ) → 32 ≤ r → last_put sets r ≡ None)
     (covered : AreCovered writes sets)
     (kept : IsCodeCovered writes (arithmetic_of flags olds) ac)
     (all : (r : ℕ) → r < resources
-    → cell_in news r ≡ issued_cell writes done r
-    (cond (eqb r CONDITION_CODE) (ac % 8) (written (latest_of olds) sets r)) (cell_in olds r)) where
+    → latest_of news r ≡ latest (issued_over writes done r
+    (cond (eqb r CONDITION_CODE) (ac % 8) (written (latest_of olds) sets r)) (cell_in olds r))) where
   abbrev value_of : ℕ → ℕ
   value_of r = cond (eqb r CONDITION_CODE) (ac % 8) (written (latest_of olds) sets r)
 
@@ -104,9 +97,9 @@ module _ (olds news : List Cell) (writes done flags ac : ℕ) (sets : List (ℕ 
       let value : value_of r ≡ written (latest_of olds) sets r =
       ap (λ (b : Bool). cond b (ac % 8) (written (latest_of olds) sets r)) register in
       elim (cases_bit writes r) [
-        | inl one ↦ ap latest (all r few ∙ issued_one writes done r (value_of r) (cell_in olds r) one) ∙ value
+        | inl one ↦ all r few ∙ ap latest (issued_one writes done r (value_of r) (cell_in olds r) one) ∙ value
         | inr clear ↦
-            ap latest (all r few ∙ issued_none writes done r (value_of r) (cell_in olds r) clear)
+            all r few ∙ ap latest (issued_none writes done r (value_of r) (cell_in olds r) clear)
             ∙ ap (λ o. unwrap_or o (latest_of olds r)) (sym (covered r few clear))
             ∙ sym (written-last (latest_of olds) sets r)
       ]
@@ -117,10 +110,10 @@ module _ (olds news : List Cell) (writes done flags ac : ℕ) (sets : List (ℕ 
       let few : 32 < resources = omega arith in
       elim (cases_bit writes 32) [
         | inl one ↦
-            let is = ap latest (all 32 few ∙ issued_one writes done 32 (ac % 8) (cell_in olds 32) one) in
+            let is = all 32 few ∙ ap latest (issued_one writes done 32 (ac % 8) (cell_in olds 32) one) in
             omega (arith, is)
         | inr clear ↦
-            let is = ap latest (all 32 few ∙ issued_none writes done 32 (ac % 8) (cell_in olds 32) clear) in
+            let is = all 32 few ∙ ap latest (issued_none writes done 32 (ac % 8) (cell_in olds 32) clear) in
             omega (arith, is, kept clear)
       ]
 
@@ -154,12 +147,57 @@ module _ (olds news : List Cell) (writes done flags ac : ℕ) (sets : List (ℕ 
       let low : r < 32 = grind (arith, nat_tests, few, is) in
       sym (registers_at news r low ∙ register_latest r low)
 
-  pub cells_issued : IsIssued writes done (ac - ac % 8) olds news
-  cells_issued = record {
+  pub cells_issued : ((r : ℕ) → r < resources → cell_in news r ≡ issued_over writes done r (value_of r) (cell_in olds r))
+      → IsIssued writes done (ac - ac % 8) olds news
+  cells_issued cells = record {
     each = λ r few.
-        all r few
-        ∙ ap (λ (v : ℕ). issued_cell writes done r v (cell_in olds r)) (value_is r (eqb r CONDITION_CODE) few refl);
+        cells r few
+        ∙ ap (λ (v : ℕ). issued_over writes done r v (cell_in olds r)) (value_is r (eqb r CONDITION_CODE) few refl);
   }
+
+  -- over what the same record has planned
+  amended_each : (firsts : File) (flags0 r : ℕ) → IsIssued writes done flags0 firsts olds → r < resources
+      → cell_in news r ≡ issued_cell writes done r (value_of r) (cell_in olds r)
+      → cell_in news r ≡ issued_over writes done r (value_of r) (cell_in firsts r)
+  amended_each firsts flags0 r first few is =
+      let v0 = resource_of flags0 olds r in
+      elim (cases_bit writes r) [
+        | inl one ↦
+            is
+            ∙ amended_one writes done r (value_of r) (cell_in olds r) one
+            ∙ ap (λ (c : Cell). cell c.value (Some (value_of r, done)))
+            (first.each r few ∙ issued_one writes done r v0 (cell_in firsts r) one)
+            ∙ sym (issued_one writes done r (value_of r) (cell_in firsts r) one)
+        | inr none ↦
+            is
+            ∙ amended_none writes done r (value_of r) (cell_in olds r) none
+            ∙ first.each r few
+            ∙ issued_none writes done r v0 (cell_in firsts r) none
+            ∙ sym (issued_none writes done r (value_of r) (cell_in firsts r) none)
+      ]
+
+  pub cells_amended : (firsts : File) (flags0 : ℕ) → IsIssued writes done flags0 firsts olds
+      → ((r : ℕ) → r < resources → cell_in news r ≡ issued_cell writes done r (value_of r) (cell_in olds r))
+      → IsIssued writes done (ac - ac % 8) firsts news
+  cells_amended firsts flags0 first cells = record {
+    each = λ r few.
+        amended_each firsts flags0 r first few (cells r few)
+        ∙ ap (λ (v : ℕ). issued_over writes done r v (cell_in firsts r)) (value_is r (eqb r CONDITION_CODE) few refl);
+  }
+
+-- the latest values are the same, planned over what was or not
+pub latest_issued : (writes done r v : ℕ) (c d : Cell) → d ≡ issued_over writes done r v c
+    → latest d ≡ latest (issued_over writes done r v c)
+latest_issued writes done r v c d = ap latest
+
+pub latest_amended : (writes done r v : ℕ) (c d : Cell) → d ≡ issued_cell writes done r v c
+    → latest d ≡ latest (issued_over writes done r v c)
+latest_amended writes done r v c d is = elim (cases_bit writes r) [
+  | inl one ↦
+      ap latest (is ∙ amended_one writes done r v c one) ∙ sym (ap latest (issued_one writes done r v c one))
+  | inr none ↦
+      ap latest (is ∙ amended_none writes done r v c none) ∙ sym (ap latest (issued_none writes done r v c none))
+]
 
 -- ---- the first frame
 
@@ -177,55 +215,40 @@ code_covered writes old new covered clear =
     let one = set-one writes 32 (covered 32 (omega arith) refl) in
     absurd (omega (arith, one, clear))
 
--- ---- nothing is planned
+-- ---- each cell shows its value at every turn
 
-still_by : (olds : List Cell) (r v x : ℕ) → ((cell_in olds x).plan ≡ None)
-    → (cell_in (slice_set olds r (cell v None)) x).plan ≡ None
-still_by [] r v x still = still
-still_by (c ∷ cs) zero v zero still = refl
-still_by (c ∷ cs) (suc r) v zero still = still
-still_by (c ∷ cs) zero v (suc x) still = still
-still_by (c ∷ cs) (suc r) v (suc x) still = still_by cs r v x still
+still_at : (olds news : File) (r v x : ℕ) → cell_in news r ≡ still v
+    → ((k : ℕ) → (k ≡ r → ⊥) → cell_in news k ≡ cell_in olds k) → cell_in olds x ≡ still (latest_of olds x)
+    → (b : Bool) → eqb x r ≡ b → cell_in news x ≡ still (latest_of news x)
+still_at olds news r v x here others was true is =
+    let same : x ≡ r = grind (arith, nat_tests, is) in
+    ap (cell_in news) same
+    ∙ here
+    ∙ ap still (sym (ap latest here))
+    ∙ ap (λ (k : ℕ). still (latest_of news k)) (sym same)
+still_at olds news r v x here others was false is =
+    let apart : x ≡ r → ⊥ = λ same. grind (arith, nat_tests, is, same) in
+    let kept = others x apart in
+    kept ∙ was ∙ ap (λ (c : Cell). still (latest c)) (sym kept)
 
-pub still_set : (olds news : List Cell) (r v : ℕ) → news ≡ slice_set olds r (cell v None) → AreStill olds
-    → AreStill news
-still_set olds news r v is still x few =
-    ap (λ (cs : List Cell). (cell_in cs x).plan) is ∙ still_by olds r v x (still x few)
+pub still_set : (olds news : File) (r v : ℕ) → cell_in news r ≡ still v
+    → ((k : ℕ) → (k ≡ r → ⊥) → cell_in news k ≡ cell_in olds k) → AreStill olds → AreStill news
+still_set olds news r v here others were x few = still_at olds news r v x here others (were x few) (eqb x r) refl
 
-pub new_still : (cells : List Cell) → cells ≡ replicate resources (cell 0 None) → AreStill cells
-new_still cells is r few =
-    ap (λ (cs : List Cell). (cell_in cs r).plan) is ∙ ap (λ (c : Cell). c.plan) (zero_at resources r)
+pub new_still : (cells : File) → ((r : ℕ) → cell_in cells r ≡ still 0) → AreStill cells
+new_still cells is r few = is r ∙ ap still (sym (ap latest (is r)))
 
 -- each cell then has its resource, where the condition code has three bits
-still_cell : (c : Cell) → c.plan ≡ None → c ≡ cell (latest c) None
-still_cell c none =
-    ap (λ (p : Option (ℕ × ℕ)). cell c.value p) none
-    ∙ ap (λ (p : Option (ℕ × ℕ)). cell (latest_value p c.value) None) (sym none)
-
-pub cell_resource : (flags ac : ℕ) (cells : List Cell) → AreStill cells
-    → cell_in cells CONDITION_CODE ≡ cell (ac % 8) None → arithmetic_of flags cells ≡ ac
-    → (r : ℕ) → r < resources → cell_in cells r ≡ cell (resource_of flags cells r) None
-cell_resource flags ac cells still code is r few = by_code (eqb r CONDITION_CODE) refl
+pub cell_resource : (flags ac : ℕ) (cells : File) → AreStill cells
+    → cell_in cells CONDITION_CODE ≡ still (ac % 8) → arithmetic_of flags cells ≡ ac
+    → (r : ℕ) → r < resources → cell_in cells r ≡ still (resource_of flags cells r)
+cell_resource flags ac cells are code is r few = by_code (eqb r CONDITION_CODE) refl
   where
     by_code : (b : Bool) → eqb r CONDITION_CODE ≡ b
-        → cell_in cells r ≡ cell (cond b (arithmetic_of flags cells % 8) (registers_of cells r)) None
+        → cell_in cells r ≡ still (cond b (arithmetic_of flags cells % 8) (registers_of cells r))
     by_code true here =
         let same : r ≡ 32 = grind (arith, nat_tests, here) in
-        ap (cell_in cells) same ∙ code ∙ ap (λ (n : ℕ). cell (n % 8) None) (sym is)
+        ap (cell_in cells) same ∙ code ∙ ap (λ (n : ℕ). still (n % 8)) (sym is)
     by_code false other =
         let low : r < 32 = grind (arith, nat_tests, other, few) in
-        still_cell (cell_in cells r) (still r few) ∙ ap (λ (v : ℕ). cell v None) (sym (registers_at cells r low))
-
--- ---- values that take their place
-
-pub registers_landed : (turn : ℕ) (olds news : List Cell)
-    → ((r : ℕ) → cell_in news r ≡ landed turn (cell_in olds r)) → registers_of news ≡ registers_of olds
-unfolding registers_of
-registers_landed turn olds news all = λ i r.
-    ap (λ (v : ℕ). cond (nat_lt r 32) v 0) (ap latest (all r) ∙ landed_latest turn (cell_in olds r)) i
-
-pub arithmetic_landed : (flags turn : ℕ) (olds news : List Cell)
-    → ((r : ℕ) → cell_in news r ≡ landed turn (cell_in olds r)) → arithmetic_of flags news ≡ arithmetic_of flags olds
-unfolding arithmetic_of
-arithmetic_landed flags turn olds news all =
-    ap (λ (v : ℕ). flags / 8 * 8 + v % 8) (ap latest (all 32) ∙ landed_latest turn (cell_in olds 32))
+        are r few ∙ ap still (sym (registers_at cells r low))

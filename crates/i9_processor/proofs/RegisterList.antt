@@ -6,100 +6,80 @@ use Rattle.std.proofs.lemmas.Bool.Decides.{nat_tests}
 use Rattle.i9_isa.specs.declared.resources.TheConstants.{CONDITION_CODE}
 use Rattle.i9_model.specs.declared.layout.TheConstants.{FP}
 use Rattle.i9_model.specs.declared.need.Cell.{Cell}
-use Rattle.i9_model.specs.Late.{cell, latest}
+use Rattle.i9_model.specs.Late.{latest}
 use Rattle.i9_model.specs.Writes.{put, pairs_at, written}
 use Rattle.i9_model.specs.State.{frame_sets}
 use Rattle.i9_model.proofs.Stored.{written-append}
 use Rattle.std.specs.List.{range_with_len}
 use Rattle.i9_model.specs.PrintedText.{register_list}
-use Rattle.i9_regs.specs.File.{cell_in}
+use Rattle.i9_regs.specs.declared.file.File.{File}
+use Rattle.i9_regs.specs.File.{cell_in, still}
 use Rattle.i9_processor.specs.State.{registers_of, arithmetic_of}
 
 -- ---- cells that are read and set
 
-pub registers_at : (cs : List Cell) (r : ℕ) → r < 32 → registers_of cs r ≡ latest (cell_in cs r)
+pub registers_at : (cs : File) (r : ℕ) → r < 32 → registers_of cs r ≡ latest (cell_in cs r)
 unfolding registers_of
 registers_at cs r low = cond-true (nat_lt r 32) (latest (cell_in cs r)) 0 (grind (arith, nat_tests, low))
 
 -- there are no others
-pub registers_past : (cs : List Cell) (r : ℕ) → 32 ≤ r → registers_of cs r ≡ 0
+pub registers_past : (cs : File) (r : ℕ) → 32 ≤ r → registers_of cs r ≡ 0
 unfolding registers_of
 registers_past cs r high = cond-false (nat_lt r 32) (latest (cell_in cs r)) 0 (grind (arith, nat_tests, high))
 
--- a cell is set, and no other
-abbrev IsSet : List Cell → List Cell → ℕ → ℕ → Type 0
-IsSet olds news r v = news ≡ slice_set olds r (cell v None)
+-- no other cell is set
+abbrev Beside : File → File → ℕ → Type 0
+Beside olds news r = (k : ℕ) → (k ≡ r → ⊥) → cell_in news k ≡ cell_in olds k
 
-cell_other : (olds news : List Cell) (r x v : ℕ) → (x ≡ r → ⊥) → IsSet olds news r v
-    → cell_in news x ≡ cell_in olds x
-cell_other olds news r x v apart is =
-    ap (λ (cs : List Cell). cell_in cs x) is ∙ get_or-set_other olds r x (cell v None) (cell 0 None) apart
-
-cell_same : (olds news : List Cell) (r v : ℕ) → r < 33 → IsSet olds news r v → length news ≡ 33
-    → cell_in news r ≡ cell v None
-cell_same olds news r v few is len =
-    let size : length olds ≡ length news =
-    sym (length-set olds r (cell v None)) ∙ ap (λ (cs : List Cell). length cs) (sym is) in
-    ap (λ (cs : List Cell). cell_in cs r) is
-    ∙ get_or-set_same olds r (cell v None) (cell 0 None) (omega (arith, few, size, len))
-
-set_at : (olds news : List Cell) (r v x : ℕ) (b : Bool) → r < 32 → IsSet olds news r v → length news ≡ 33
+set_at : (olds news : File) (r v x : ℕ) (b : Bool) → r < 32 → cell_in news r ≡ still v → Beside olds news r
     → eqb x r ≡ b → registers_of news x ≡ cond b v (registers_of olds x)
 unfolding registers_of
-set_at olds news r v x true h is len t =
+set_at olds news r v x true h here others t =
     let same : x ≡ r = grind (arith, nat_tests, t) in
-    ap (registers_of news) same
-    ∙ registers_at news r h
-    ∙ ap latest (cell_same olds news r v (omega (arith, h)) is len)
-set_at olds news r v x false h is len t =
+    ap (registers_of news) same ∙ registers_at news r h ∙ ap latest here
+set_at olds news r v x false h here others t =
     let apart : x ≡ r → ⊥ = λ same. grind (arith, nat_tests, t, same) in
-    ap (λ (c : Cell). cond (nat_lt x 32) (latest c) 0) (cell_other olds news r x v apart is)
+    ap (λ (c : Cell). cond (nat_lt x 32) (latest c) 0) (others x apart)
 
-pub registers_of-set : (olds news : List Cell) (r v : ℕ) → r < 32 → news ≡ slice_set olds r (cell v None)
-    → length news ≡ 33 → registers_of news ≡ put (registers_of olds) r v
-registers_of-set olds news r v h is len = λ i x. set_at olds news r v x (eqb x r) h is len refl i
+pub registers_of-set : (olds news : File) (r v : ℕ) → r < 32 → cell_in news r ≡ still v
+    → ((k : ℕ) → (k ≡ r → ⊥) → cell_in news k ≡ cell_in olds k) → registers_of news ≡ put (registers_of olds) r v
+registers_of-set olds news r v h here others = λ i x. set_at olds news r v x (eqb x r) h here others refl i
 
-pub code_of-set : (olds news : List Cell) (r v : ℕ) → r < 32 → news ≡ slice_set olds r (cell v None)
+pub code_of-set : (olds news : File) (r : ℕ) → r < 32
+    → ((k : ℕ) → (k ≡ r → ⊥) → cell_in news k ≡ cell_in olds k)
     → cell_in news CONDITION_CODE ≡ cell_in olds CONDITION_CODE
-code_of-set olds news r v h is = cell_other olds news r CONDITION_CODE v (λ same. omega (arith, h, same)) is
+code_of-set olds news r h others = others CONDITION_CODE (λ same. omega (arith, h, same))
 
 -- the condition code is no register
-beside_at : (olds news : List Cell) (v x : ℕ) (b : Bool) → IsSet olds news CONDITION_CODE v → nat_lt x 32 ≡ b
+beside_at : (olds news : File) (x : ℕ) (b : Bool) → Beside olds news CONDITION_CODE → nat_lt x 32 ≡ b
     → cond b (latest (cell_in news x)) 0 ≡ cond b (latest (cell_in olds x)) 0
-beside_at olds news v x true is low =
+beside_at olds news x true others low =
     let apart : x ≡ CONDITION_CODE → ⊥ = λ same. grind (arith, nat_tests, low, same) in
-    ap latest (cell_other olds news CONDITION_CODE x v apart is)
-beside_at olds news v x false is low = refl
+    ap latest (others x apart)
+beside_at olds news x false others low = refl
 
-pub registers_beside : (olds news : List Cell) (v : ℕ) → news ≡ slice_set olds CONDITION_CODE (cell v None)
+pub registers_beside : (olds news : File) → ((k : ℕ) → (k ≡ CONDITION_CODE → ⊥) → cell_in news k ≡ cell_in olds k)
     → registers_of news ≡ registers_of olds
 unfolding registers_of
-registers_beside olds news v is = λ i x. beside_at olds news v x (nat_lt x 32) is refl i
+registers_beside olds news others = λ i x. beside_at olds news x (nat_lt x 32) others refl i
 
 whole : (a : ℕ) → (a - a % 8) / 8 * 8 + a % 8 % 8 ≡ a
 whole a = omega arith
 
-pub arithmetic_of-set : (olds news : List Cell) (a : ℕ)
-    → news ≡ slice_set olds CONDITION_CODE (cell (a % 8) None) → length news ≡ 33
+pub arithmetic_of-set : (news : File) (a : ℕ) → cell_in news CONDITION_CODE ≡ still (a % 8)
     → arithmetic_of (a - a % 8) news ≡ a
 unfolding arithmetic_of
-arithmetic_of-set olds news a is len =
-    let code = cell_same olds news CONDITION_CODE (a % 8) (omega arith) is len in
-    ap (λ (c : Cell). (a - a % 8) / 8 * 8 + latest c % 8) code ∙ whole a
-
-pub zero_at : (n x : ℕ) → cell_in (replicate n (cell 0 None)) x ≡ cell 0 None
-zero_at zero x = refl
-zero_at (suc n) zero = refl
-zero_at (suc n) (suc x) = zero_at n x
+arithmetic_of-set news a code = ap (λ (c : Cell). (a - a % 8) / 8 * 8 + latest c % 8) code ∙ whole a
 
 no_value : (b : Bool) → ◌≡◌ {A = ℕ} (cond b 0 0) 0
 no_value true = refl
 no_value false = refl
 
-pub registers_of-zeros : (n : ℕ) → ◌≡◌ {A = ℕ → ℕ} (registers_of (replicate n (cell 0 None))) (λ x. 0)
+pub registers_of-zeros : (f : File) → ((r : ℕ) → cell_in f r ≡ still 0)
+    → ◌≡◌ {A = ℕ → ℕ} (registers_of f) (λ x. 0)
 unfolding registers_of
-registers_of-zeros n = λ i x.
-    (ap (λ (c : Cell). cond (nat_lt x 32) (latest c) 0) (zero_at n x) ∙ no_value (nat_lt x 32)) i
+registers_of-zeros f zeros = λ i x.
+    (ap (λ (c : Cell). cond (nat_lt x 32) (latest c) 0) (zeros x) ∙ no_value (nat_lt x 32)) i
 
 -- one more register, and all
 pairs_next : (n : ℕ) (xs : List ℕ) (k : ℕ) → k < length xs → pairs_at (λ r. r) n (take (suc k) xs) ≡ pairs_at (λ r. r) n (take k xs) ++ (n + k, get_or xs k 0) ∷ []
@@ -144,7 +124,7 @@ unfolding register_list
 registers_in_order f regs len are = listed f 0 32 regs len (λ k h. ap f (zero-add k) ∙ sym (are k h))
 
 -- and by the latest values
-pub register_list-of : (cs : List Cell) (regs : List ℕ) → length regs ≡ 32
+pub register_list-of : (cs : File) (regs : List ℕ) → length regs ≡ 32
     → ((r : ℕ) → r < 32 → slice_index regs r ≡ latest (cell_in cs r)) → register_list (registers_of cs) ≡ regs
 register_list-of cs regs len are =
     registers_in_order (registers_of cs) regs len (λ r h. are r h ∙ sym (registers_at cs r h))

@@ -3,10 +3,10 @@ use Rattle.std.specs.Prelude.{◌≡◌, ℕ, ◌<◌, ◌%◌, ◌==◌, ◌||�
 use Rattle.std.specs.Int.{bit_at, IsBitSet}
 use Rattle.i9_isa.specs.declared.resources.TheConstants.{CONDITION_CODE}
 use Rattle.i9_isa.specs.Resources.{is_in_frame}
-use Rattle.i9_model.specs.declared.need.Cell.{Cell}
-use Rattle.i9_model.specs.Late.{resources, issued_cell}
+use Rattle.i9_model.specs.Late.{resources}
 use Rattle.i9_model.specs.Writes.{last_put}
-use Rattle.i9_regs.specs.File.{cell_in}
+use Rattle.i9_regs.specs.declared.file.File.{File}
+use Rattle.i9_regs.specs.File.{cell_in, still, latest_of, issued_over}
 use Rattle.i9_processor.specs.State.{registers_of, arithmetic_of}
 
 -- registers that are not in a set of resources are not set
@@ -22,14 +22,14 @@ abbrev pub IsStartCovered : ℕ → Type 0
 IsStartCovered writes = (r : ℕ) → r < resources → IsTrue (is_in_frame r || r == CONDITION_CODE) → IsBitSet writes r
 
 -- what a resource is, by the cells and the arithmetic controls but for the condition code
-abbrev pub resource_of : ℕ → List Cell → ℕ → ℕ
+abbrev pub resource_of : ℕ → File → ℕ → ℕ
 resource_of flags cells r = if r == CONDITION_CODE then arithmetic_of flags cells % 8 else registers_of cells r
 
--- each cell in the set has its old value, and what the resource is now is planned for a turn; the others stay
-pub record IsIssued (writes done flags : ℕ) (olds news : List Cell) : Type 0 where
+-- each cell in the set has its latest value, and what the resource is now is planned for a turn; the others stay
+pub record IsIssued (writes done flags : ℕ) (olds news : File) : Type 0 where
   pub each : (r : ℕ) → r < resources
-      → cell_in news r ≡ issued_cell writes done r (resource_of flags news r) (cell_in olds r)
+      → cell_in news r ≡ issued_over writes done r (resource_of flags news r) (cell_in olds r)
 
--- nothing is planned
-abbrev pub AreStill : List Cell → Type 0
-AreStill cells = (r : ℕ) → r < resources → (cell_in cells r).plan ≡ None
+-- each cell shows its value at every turn
+abbrev pub AreStill : File → Type 0
+AreStill cells = (r : ℕ) → r < resources → cell_in cells r ≡ still (latest_of cells r)

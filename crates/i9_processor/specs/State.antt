@@ -9,15 +9,16 @@ use Rattle.i9_model.specs.declared.need.Cell.{Cell}
 use Rattle.i9_model.specs.Late.{Wait, latest}
 use Rattle.i9_model.specs.State.{State, as_zero}
 use Rattle.i9_model.specs.HeldFrames.{Cache}
+use Rattle.i9_regs.specs.declared.file.File.{File}
 use Rattle.i9_regs.specs.File.{cell_in}
 use Rattle.i9_processor.specs.declared.processor.Processor.{Processor}
 
 -- the register of each number: the latest value of its cell
-unfoldable pub registers_of : List Cell → ℕ → ℕ
+unfoldable pub registers_of : File → ℕ → ℕ
 registers_of cells r = if nat_lt r 32 then latest (cell_in cells r) else 0
 
 -- the arithmetic controls: the latest value of a cell is the condition code, their low three bits
-unfoldable pub arithmetic_of : ℕ → List Cell → ℕ
+unfoldable pub arithmetic_of : ℕ → File → ℕ
 arithmetic_of flags cells = flags / 8 * 8 + latest (cell_in cells CONDITION_CODE) % 8
 
 unfoldable pub state_of : Processor → State
@@ -48,7 +49,7 @@ size_of p = storage.size_of p.storage
 
 -- ---- what lands late
 
--- registers and the condition code, with the values that are planned for them
+-- registers and the condition code, each with the value that it had and the latest one, which shows from its turn on
 unfoldable pub cells_of : Processor → ℕ → Cell
 cells_of p = cell_in p.file
 

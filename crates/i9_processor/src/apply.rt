@@ -1,8 +1,7 @@
 //! An effect applied.
 ghost use Rattle.std.specs.Prelude.{◌≡◌, ℕ, List, ◌+◌, ◌*◌, ◌^◌, ◌<◌, ◌≤◌, OnOk, OnErr, IfSome, IsSome, None, [], ◌∷◌, ◌++◌, length, replicate, true, false};
 ghost use Rattle.std.specs.List.{AllByRecursion};
-ghost use Rattle.i9_model.specs.declared.need.Cell.{Cell};
-ghost use Rattle.i9_model.specs.Late.{resource, resources, issued_cell, landed, due_puts, left_waiting};
+ghost use Rattle.i9_model.specs.Late.{resource, resources, due_puts, left_waiting};
 ghost use Rattle.i9_model.specs.Controls.{KeepsControls, marks_after, with_group, controlled};
 ghost use Rattle.i9_model.specs.State.{State, start_sets, started};
 ghost use Rattle.i9_model.specs.Memory.{stored, words_in, with_writes};
@@ -14,6 +13,8 @@ ghost use Rattle.i9_model.specs.Step.{Stays, saved_locals, frames_after, moved, 
 ghost use Rattle.i9_model.specs.Free.{IsFree};
 ghost use Rattle.i9_model.specs.Alike.{AreAlike};
 ghost use Rattle.i9_model.specs.HeldFrames.{overlaid, cache_moved, cache_acted, cache_configured, cache_stored};
+ghost use Rattle.i9_regs.specs.declared.file.File.{File};
+ghost use Rattle.i9_regs.specs.File.{issued_over};
 ghost use Rattle.i9_regs.specs.Covered.{IsCovered, StartsAnew};
 ghost use Rattle.i9_storage.specs.Storage as stores;
 ghost use Rattle.i9_storage.specs.Storage.{KeepsSpace, KeepsSoftSpace, KeepsFrameSpace, AddsNone};
@@ -354,7 +355,9 @@ impl Processor {
         ensures cache { cache_of self.new ≡ cache_of self.old }
         ensures size { size_of self.new ≡ size_of self.old }
         ensures count { (state_of self.new).count ≡ (state_of self.old).count }
-        ensures issued { IsIssued landing.now.writes landing.now.done self.new.flags self.old.file self.new.file }
+        ensures issued { (cells : File)
+            → IsIssued landing.now.writes landing.now.done self.old.flags cells self.old.file
+            → IsIssued landing.now.writes landing.now.done self.new.flags cells self.new.file }
         ensures storage { self.new.storage ≡ self.old.storage }
     {
         issue_start(&mut self.file, &mut self.flags, landing, setup);
@@ -415,7 +418,7 @@ impl Processor {
         ensures cache { cache_of self.new ≡ cache_configured (state_of self.new).memory (cache_of self.old) }
         ensures size { size_of self.new ≡ size_of self.old }
         ensures count { (state_of self.new).count ≡ (state_of self.old).count }
-        ensures issued { (cells : List Cell)
+        ensures issued { (cells : File)
             → IsIssued landing.now.writes landing.now.done self.old.flags cells self.old.file
             → IsIssued landing.now.writes landing.now.done self.new.flags cells self.new.file }
         ensures queue { queue_of self.new ≡ queue_of self.old }
@@ -718,7 +721,7 @@ impl Processor {
         ensures size { size_of self.new ≡ size_with sets (size_of self.old) }
         ensures count { (state_of self.new).count ≡ (state_of self.old).count + counts }
         ensures cells { (r : ℕ) → r < resources → cells_of self.new r
-            ≡ issued_cell landing.now.writes landing.now.done r (resource (state_of self.new) r) (cells_of self.old r) }
+            ≡ issued_over landing.now.writes landing.now.done r (resource (state_of self.new) r) (cells_of self.old r) }
         ensures waits { landing.now.request ≡ true → (bytes_of self.new ≡ bytes_of self.old)
             × (queue_of self.new ≡ queue_of self.old
             ++ record { puts = (action_in (state_of self.old) e.now).writes; due = landing.now.done } ∷ []) }
@@ -734,20 +737,24 @@ impl Processor {
         self.add_count(counts);
     }
 
-    /// What is due by `turn` lands: planned values take their place, and bytes that wait are stored.
-    /// Nothing else changes, and no room goes.
+    /// What is due by `turn` lands: bytes that wait are stored. Nothing else changes, and no room goes. Planned values
+    /// take their place by themselves.
+    // At most turns nothing waits, and then this test is all that is done. It is no part of the code that calls it.
+    #[inline(never)]
     #[tactic(auto, unfolding(crate::specs::State::state_of, crate::specs::State::cache_of, crate::specs::State::size_of, crate::specs::State::cells_of, crate::specs::State::bytes_of, crate::specs::State::queue_of))]
     pub fn land(&mut self, turn: u64)
         ensures state { state_of self.new ≡ state_of self.old }
         ensures cache { cache_of self.new ≡ cache_of self.old }
         ensures size { size_of self.new ≡ size_of self.old }
-        ensures cells { (r : ℕ) → cells_of self.new r ≡ landed turn (cells_of self.old r) }
+        ensures cells { cells_of self.new ≡ cells_of self.old }
         ensures bytes { bytes_of self.new ≡ stored (bytes_of self.old) (due_puts turn (queue_of self.old)) }
         ensures queue { queue_of self.new ≡ left_waiting turn (queue_of self.old) }
         ensures keeps { KeepsRoom self.old self.new }
         ensures no_more { AddsNoPage self.old self.new }
     {
-        self.file.land(turn);
+        if self.storage.is_drained() {
+            return;
+        }
         self.storage.land(turn);
     }
 }

@@ -1,10 +1,11 @@
 //! The registers, controls, memory and frames of the machine.
-ghost use Rattle.std.specs.Prelude.{◌≡◌, ◌<◌, ℕ, IfOk, IfSome, None, unwrap_or, []};
+ghost use Rattle.std.specs.Prelude.{◌≡◌, ◌<◌, ℕ, IfOk, IfSome, unwrap_or, []};
 ghost use Rattle.i9_model.specs.Image.{pairs_of};
 ghost use Rattle.i9_model.specs.HeldFrames.{cache, sets_in};
 ghost use Rattle.i9_model.specs.Boot.{setup_of};
 ghost use Rattle.i9_model.specs.State.{boot};
-ghost use Rattle.i9_model.specs.Late.{cell, resource, resources};
+ghost use Rattle.i9_model.specs.Late.{resource, resources};
+ghost use Rattle.i9_regs.specs.File.{still};
 
 mod plans;
 mod raw;
@@ -79,7 +80,7 @@ impl Processor {
         ensures cache { IfOk result (λ p. cache_of p ≡ cache [] (boot (pairs_of image.now)).memory) }
         ensures size { IfOk result (λ p. size_of p ≡ sets_in sets (boot (pairs_of image.now))) }
         ensures count { IfOk result (λ p. (state_of p).count ≡ 0) }
-        ensures cells { IfOk result (λ p. (r : ℕ) → r < resources → cells_of p r ≡ cell (resource (boot (pairs_of image.now)) r) None) }
+        ensures cells { IfOk result (λ p. (r : ℕ) → r < resources → cells_of p r ≡ still (resource (boot (pairs_of image.now)) r)) }
         ensures bytes { IfOk result (λ p. bytes_of p ≡ (boot (pairs_of image.now)).memory.bytes) }
         ensures queue { IfOk result (λ p. queue_of p ≡ []) }
         ensures pages { IfOk result (λ p. HasPagesFor p (pairs_of image.now)) }

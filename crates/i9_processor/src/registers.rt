@@ -1,9 +1,9 @@
 //! The registers and the condition code, and what they are set to.
-ghost use Rattle.std.specs.Prelude.{◌≡◌, ◌+◌, ◌%◌, ◌<◌, ◌≤◌, length, None};
-ghost use Rattle.i9_model.specs.Late.{cell};
+ghost use Rattle.std.specs.Prelude.{◌≡◌, ◌+◌, ◌%◌, ◌<◌, ◌≤◌, length};
 ghost use Rattle.i9_model.specs.Writes.{put, written, pairs_at};
 ghost use Rattle.i9_model.specs.State.{frame_sets};
-ghost use Rattle.i9_regs.specs.File.{cell_in};
+ghost use Rattle.i9_regs.specs.declared.file.File.{File};
+ghost use Rattle.i9_regs.specs.File.{cell_in, still};
 ghost use Rattle.i9_processor.specs.State.{registers_of, arithmetic_of};
 ghost use Rattle.i9_processor.specs.Issued.{AreCovered, IsCodeCovered, IsIssued, AreStill};
 
@@ -50,7 +50,7 @@ pub(crate) fn set_frame(file: &mut File, locals: &[u32; LOCALS], frame: u32)
 pub(crate) fn set_arithmetic(file: &mut File, flags: &mut u32, ac: u32)
     ensures registers { registers_of file.new ≡ registers_of file.old }
     ensures ac { arithmetic_of flags.new file.new ≡ ac }
-    ensures code { cell_in file.new CONDITION_CODE ≡ cell (ac % 8) None }
+    ensures code { cell_in file.new CONDITION_CODE ≡ still (ac % 8) }
     ensures still { AreStill file.old → AreStill file.new }
 {
     *flags = ac - ac % 8;
@@ -97,4 +97,25 @@ pub(crate) fn issue_frame(
 {
     *flags = ac - ac % 8;
     file.issue_frame(landing.writes, landing.done, locals, frame, ac % 8);
+}
+
+/// As `issue_frame`, over what the same record has planned.
+#[inline(never)]
+pub(crate) fn amend_frame(
+    file: &mut File,
+    flags: &mut u32,
+    landing: &Landing,
+    locals: &[u32; LOCALS],
+    frame: u32,
+    ac: u32,
+)
+    requires sets { AreCovered landing.now.writes (frame_sets locals.now frame) }
+    requires code { IsCodeCovered landing.now.writes (arithmetic_of flags.old file.old) ac }
+    ensures registers { registers_of file.new ≡ written (registers_of file.old) (frame_sets locals.now frame) }
+    ensures ac { arithmetic_of flags.new file.new ≡ ac }
+    ensures issued { (cells : File) → IsIssued landing.now.writes landing.now.done flags.old cells file.old
+        → IsIssued landing.now.writes landing.now.done flags.new cells file.new }
+{
+    *flags = ac - ac % 8;
+    file.amend_frame(landing.writes, landing.done, locals, frame, ac % 8);
 }

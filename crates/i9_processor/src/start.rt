@@ -4,12 +4,13 @@ ghost use Rattle.i9_model.specs.Boot.{tables_of};
 ghost use Rattle.i9_model.specs.State.{first_frame, start_sets, start_interrupts, start_trace};
 ghost use Rattle.i9_model.specs.Writes.{wrapped, written};
 ghost use Rattle.i9_ints.specs.Ints.{interrupts_of};
+ghost use Rattle.i9_regs.specs.declared.file.File.{File};
 ghost use Rattle.i9_regs.specs.File.{cell_in};
 ghost use Rattle.i9_processor.specs.State.{registers_of, arithmetic_of};
 ghost use Rattle.i9_processor.specs.Issued.{IsStartCovered, IsIssued, AreStill};
 
 use crate::landing::Landing;
-use crate::registers::{issue_frame, set_frame};
+use crate::registers::{amend_frame, set_frame};
 use i9_ints::{Cause, Ints};
 use i9_isa::CONDITION_CODE;
 use i9_model::layout::{FRAME_SIZE, LOCALS, TC_MASK};
@@ -42,15 +43,17 @@ pub(crate) fn start_registers(file: &mut File, setup: &Setup)
     set_frame(file, &first_locals(frame), frame);
 }
 
-/// Plans the first frame and the condition code, and sets the other arithmetic controls.
+/// Plans the first frame and the condition code, over what the same record has planned, and sets the other arithmetic
+/// controls.
 pub(crate) fn issue_start(file: &mut File, flags: &mut u32, landing: &Landing, setup: &Setup)
     requires { IsStartCovered landing.now.writes }
     ensures registers { registers_of file.new ≡ written (registers_of file.old) (start_sets setup.now) }
     ensures ac { arithmetic_of flags.new file.new ≡ setup.now.ac }
-    ensures issued { IsIssued landing.now.writes landing.now.done flags.new file.old file.new }
+    ensures issued { (cells : File) → IsIssued landing.now.writes landing.now.done flags.old cells file.old
+        → IsIssued landing.now.writes landing.now.done flags.new cells file.new }
 {
     let frame = first_frame(setup);
-    issue_frame(file, flags, landing, &first_locals(frame), frame, setup.ac);
+    amend_frame(file, flags, landing, &first_locals(frame), frame, setup.ac);
 }
 
 /// Nothing is posted any more, and every line is masked; words of the control table are the interrupt maps and the

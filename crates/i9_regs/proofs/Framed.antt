@@ -4,13 +4,13 @@ use Rattle.std.specs.Prelude.{unwrap_or}
 use Rattle.std.specs.Int.{bit_at, IsBitSet}
 use Rattle.std.proofs.lemmas.Bool.Decides.{nat_tests}
 use Rattle.i9_isa.specs.declared.resources.TheConstants.{CONDITION_CODE, FRAME_POINTER}
-use Rattle.i9_model.specs.declared.need.Cell.{Cell}
-use Rattle.i9_model.specs.Late.{resources, latest, issued_cell}
+use Rattle.i9_model.specs.Late.{resources, latest}
 use Rattle.i9_model.specs.Writes.{written, pairs_at, last_put}
 use Rattle.i9_model.specs.State.{frame_sets}
 use Rattle.i9_model.proofs.TurnTests.{set-one, one-set}
 use Rattle.i9_model.proofs.Stored.{written-append, written-last}
-use Rattle.i9_regs.specs.File.{cell_in, in_group, planned_cell, rest_bit, latest_of, issued_value, framed_value}
+use Rattle.i9_regs.specs.declared.file.File.{File}
+use Rattle.i9_regs.specs.File.{cell_in, in_group, planned_cell, rest_bit, latest_of, issued_over, issued_value, framed_value}
 use Rattle.i9_regs.proofs.Groups.{planned_out, rest_in, rest_out}
 use Rattle.i9_regs.proofs.Issued.{issued_one, issued_none, issued_same}
 
@@ -40,13 +40,13 @@ left_locals left writes n most bits locals k within =
     let same = bits k (omega (arith, low)) ∙ rest_out 31 1 writes k out in
     subst (IsBitSet left) place (one-set left k (same ∙ set-one writes k (locals k low)))
 
-module _ (olds ones news : List Cell) (writes left done : ℕ) (locals : List ℕ) (frame code : ℕ)
+module _ (olds ones news : File) (writes left done : ℕ) (locals : List ℕ) (frame code : ℕ)
     (frames : IsBitSet writes FRAME_POINTER)
     (group : (r : ℕ) → cell_in ones r ≡ planned_cell 31 1 (frame ∷ []) done r (cell_in olds r))
     (bits : (r : ℕ) → r < 64 → bit_at left r ≡ rest_bit 31 1 writes r)
     (all : (r : ℕ) → r < resources
-    → cell_in news r ≡ issued_cell left done r (issued_value ones 0 locals code r) (cell_in ones r)) where
-  pointer_issued : cell_in news 31 ≡ issued_cell writes done 31 frame (cell_in olds 31)
+    → cell_in news r ≡ issued_over left done r (issued_value ones 0 locals code r) (cell_in ones r)) where
+  pointer_issued : cell_in news 31 ≡ issued_over writes done 31 frame (cell_in olds 31)
   pointer_issued =
       let none = bits 31 (omega arith) ∙ rest_in 31 1 writes 31 refl in
       all 31 (omega arith)
@@ -55,7 +55,7 @@ module _ (olds ones news : List Cell) (writes left done : ℕ) (locals : List �
       ∙ sym (issued_one writes done 31 frame (cell_in olds 31) (set-one writes 31 frames))
 
   other_issued : (r : ℕ) → r < resources → (r ≡ 31 → ⊥)
-      → cell_in news r ≡ issued_cell writes done r (issued_value olds 0 locals code r) (cell_in olds r)
+      → cell_in news r ≡ issued_over writes done r (issued_value olds 0 locals code r) (cell_in olds r)
   other_issued r few apart =
       let old = cell_in olds r in
       let out = out_frame r apart in
@@ -64,25 +64,25 @@ module _ (olds ones news : List Cell) (writes left done : ℕ) (locals : List �
       let same = same_at (latest_of ones) (latest_of olds) (locals_of locals) r (ap latest kept) in
       let value = ap (cond (eqb r CONDITION_CODE) code) same in
       all r few
-      ∙ ap (λ (v : ℕ). issued_cell left done r v (cell_in ones r)) value
-      ∙ ap (issued_cell left done r (issued_value olds 0 locals code r)) kept
+      ∙ ap (λ (v : ℕ). issued_over left done r v (cell_in ones r)) value
+      ∙ ap (issued_over left done r (issued_value olds 0 locals code r)) kept
       ∙ issued_same left writes done r (issued_value olds 0 locals code r) old bit
 
   abbrev value_by : ℕ → Bool → ℕ
   value_by r b = cond (eqb r CONDITION_CODE) code (cond b frame (written (latest_of olds) (locals_of locals) r))
 
   by_pointer : (r : ℕ) (b : Bool) → r < resources → eqb r FRAME_POINTER ≡ b
-      → cell_in news r ≡ issued_cell writes done r (value_by r b) (cell_in olds r)
+      → cell_in news r ≡ issued_over writes done r (value_by r b) (cell_in olds r)
   by_pointer r true few is =
       let same : r ≡ 31 = grind (arith, nat_tests, is) in
       ap (cell_in news) same
       ∙ pointer_issued
-      ∙ ap (λ (k : ℕ). issued_cell writes done k (value_by k true) (cell_in olds k)) (sym same)
+      ∙ ap (λ (k : ℕ). issued_over writes done k (value_by k true) (cell_in olds k)) (sym same)
   by_pointer r false few is = other_issued r few (λ same. grind (arith, nat_tests, is, same))
 
   pub frame_issued : (r : ℕ) → r < resources
-      → cell_in news r ≡ issued_cell writes done r (framed_value olds locals frame code r) (cell_in olds r)
+      → cell_in news r ≡ issued_over writes done r (framed_value olds locals frame code r) (cell_in olds r)
   frame_issued r few =
       let value = sym (frame_last (latest_of olds) locals frame r) in
       by_pointer r (eqb r FRAME_POINTER) few refl
-      ∙ ap (λ (v : ℕ). issued_cell writes done r (cond (eqb r CONDITION_CODE) code v) (cell_in olds r)) value
+      ∙ ap (λ (v : ℕ). issued_over writes done r (cond (eqb r CONDITION_CODE) code v) (cell_in olds r)) value

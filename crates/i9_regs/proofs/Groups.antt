@@ -1,12 +1,11 @@
 -- A group of values that are planned from a register up, one by one, and the resources that are left.
-use Rattle.std.proofs.Common.{◌≡◌, ℕ, ◌+◌, ◌-◌, ◌*◌, ◌%◌, ◌^◌, ◌<◌, Bool, true, false, cond, eqb, List, length, None, refl, sym, ap, ◌∙◌, arith}
-use Rattle.std.specs.Prelude.{bit_and, slice_index, slice_set}
+use Rattle.std.proofs.Common.{◌≡◌, ℕ, ◌+◌, ◌-◌, ◌*◌, ◌%◌, ◌^◌, ◌<◌, Bool, true, false, cond, eqb, List, refl, sym, ap, ◌∙◌, arith}
+use Rattle.std.specs.Prelude.{bit_and, slice_index}
 use Rattle.std.specs.Int.{bit_at, bit_not, w64}
-use Rattle.std.proofs.lemmas.List.{get_or-set_same, get_or-set_other}
 use Rattle.std.proofs.lemmas.Bool.Decides.{nat_tests}
 use Rattle.std.proofs.lemmas.Nat.Bits.{bit_at_clear_same, bit_at_clear_other}
 use Rattle.i9_model.specs.declared.need.Cell.{Cell}
-use Rattle.i9_model.specs.Late.{cell}
+use Rattle.i9_regs.specs.declared.file.File.{File}
 use Rattle.i9_regs.specs.File.{cell_in, in_group, with_plan, planned_cell, rest_bit}
 
 -- ---- in a group or not
@@ -51,43 +50,41 @@ here_not register k = grind (arith, nat_tests)
 other_more : (register k r : ℕ) → (r ≡ register + k → ⊥) → in_group register (k + 1) r ≡ in_group register k r
 other_more register k r apart = grind (arith, nat_tests, apart)
 
-module _ (cs olds : List Cell) (register k : ℕ) (values : List ℕ) (done : ℕ) (new : Cell)
-    (fits : register + k < length cs)
-    (are : (r : ℕ) → cell_in cs r ≡ planned_cell register k values done r (cell_in olds r))
-    (is : new ≡ with_plan (slice_index values k) done (cell_in cs (register + k))) where
-  planned_here : cell_in (slice_set cs (register + k) new) (register + k)
+module _ (olds ones news : File) (register k : ℕ) (values : List ℕ) (done : ℕ)
+    (are : (r : ℕ) → cell_in ones r ≡ planned_cell register k values done r (cell_in olds r))
+    (here : cell_in news (register + k) ≡ with_plan (slice_index values k) done (cell_in ones (register + k)))
+    (others : (r : ℕ) → (r ≡ register + k → ⊥) → cell_in news r ≡ cell_in ones r) where
+  planned_here : cell_in news (register + k)
       ≡ planned_cell register (k + 1) values done (register + k) (cell_in olds (register + k))
   planned_here =
       let at = register + k in
       let old = cell_in olds at in
       let place : at - register ≡ k = omega arith in
-      let kept : cell_in cs at ≡ old = are at ∙ planned_out register k values done at old (here_not register k) in
-      get_or-set_same cs at new (cell 0 None) fits
-      ∙ is
+      let kept : cell_in ones at ≡ old = are at ∙ planned_out register k values done at old (here_not register k) in
+      here
       ∙ ap (with_plan (slice_index values k) done) kept
       ∙ ap (λ (j : ℕ). with_plan (slice_index values j) done old) (sym place)
       ∙ sym (planned_in register (k + 1) values done at old (here_more register k))
 
-  planned_there : (r : ℕ) → (r ≡ register + k → ⊥) → cell_in (slice_set cs (register + k) new) r
+  planned_there : (r : ℕ) → (r ≡ register + k → ⊥) → cell_in news r
       ≡ planned_cell register (k + 1) values done r (cell_in olds r)
   planned_there r apart =
       let old = cell_in olds r in
-      get_or-set_other cs (register + k) r new (cell 0 None) apart
+      others r apart
       ∙ are r
       ∙ sym (ap (λ (b : Bool). cond b (with_plan (slice_index values (r - register)) done old) old)
       (other_more register k r apart))
 
-  planned_at : (r : ℕ) (b : Bool) → eqb r (register + k) ≡ b → cell_in (slice_set cs (register + k) new) r
+  planned_at : (r : ℕ) (b : Bool) → eqb r (register + k) ≡ b → cell_in news r
       ≡ planned_cell register (k + 1) values done r (cell_in olds r)
   planned_at r true t =
       let same : r ≡ register + k = grind (arith, nat_tests, t) in
-      ap (cell_in (slice_set cs (register + k) new)) same
+      ap (cell_in news) same
       ∙ planned_here
       ∙ ap (λ (j : ℕ). planned_cell register (k + 1) values done j (cell_in olds j)) (sym same)
   planned_at r false t = planned_there r (λ same. grind (arith, nat_tests, t, same))
 
-  pub one_planned : (r : ℕ) → cell_in (slice_set cs (register + k) new) r
-      ≡ planned_cell register (k + 1) values done r (cell_in olds r)
+  pub one_planned : (r : ℕ) → cell_in news r ≡ planned_cell register (k + 1) values done r (cell_in olds r)
   one_planned r = planned_at r (eqb r (register + k)) refl
 
 -- the set without a resource

@@ -1,7 +1,5 @@
-pub mod Blank
-pub mod Lists
 pub mod Groups
+pub mod Rows
 pub mod Issued
 pub mod Framed
-pub mod Among
-pub mod Landing
+pub mod Shown

@@ -1,16 +1,14 @@
-//! The register file: values, and values that are planned.
+//! The register file: values, and values that take their place at a later turn.
 
-ghost use Rattle.std.specs.Prelude.{◌≡◌, ℕ, ◌+◌, ◌<◌, ◌≤◌, ◌≢◌, None, Some};
-ghost use Rattle.std.specs.Prelude.{length, slice_index, slice_set, replicate};
+ghost use Rattle.std.specs.Prelude.{◌≡◌, ℕ, ◌+◌, ◌<◌, ◌≤◌, ◌≢◌};
+ghost use Rattle.std.specs.Prelude.{◌++◌, length, drop, replicate, slice_index};
 ghost use Rattle.std.specs.Int.{IsBitSet, bit_at};
-ghost use Rattle.i9_model.specs.Late.{resources, cell, landed, latest, is_plan_open, issued_cell};
-ghost use Rattle.i9_regs.specs.File.{cell_in, ArePlannedAmong, planned_cell, rest_bit};
+ghost use Rattle.i9_model.specs.Late.{resources, landed, latest, is_plan_open, issued_cell};
+ghost use Rattle.i9_regs.specs.File.{cell_in, still, with_plan, planned_cell, rest_bit, issued_over};
 ghost use Rattle.i9_regs.specs.File.{issued_value, framed_value};
 
-use crate::slot::Slot;
 use i9_isa::{CONDITION_CODE, FRAME_POINTER};
 use i9_model::layout::LOCALS;
-use std::marker::Model;
 
 /// How many resources there are.
 const RESOURCES: usize = 33;
@@ -24,257 +22,69 @@ const LOCAL_BITS: u64 = 1 << 16;
 /// The first 32 bits of a set are those of the registers.
 const REGISTER_BITS: u64 = 1 << 32;
 
-/// The first 33 bits of a set are those of the resources.
-const RESOURCE_BITS: u64 = 1 << 33;
-
-/// For each of 33 resources, the 32 registers and the condition code, a value and perhaps a planned
-/// value with the turn at which it takes its place.
+/// For each of 33 resources, the 32 registers and the condition code, the value that it had, the latest one, and the
+/// turn from which on that one shows. So a value lands by itself, and nothing is done when the turn moves. A value that
+/// is planned takes the place of the one before it, which has landed by then: a record waits for those that write the
+/// same.
+// Each of the three has its own array, so that a row of registers is set by copies.
 #[derive(Drop)]
 pub struct File {
-    slots: [Slot; RESOURCES],
-    // a value is planned for no resource but these
-    planned: u64,
+    before: [u32; RESOURCES],
+    latest: [u32; RESOURCES],
+    due: [u64; RESOURCES],
 }
 
-impl Model for File {
-    ghost use Rattle.std.specs.Prelude.{List, ◌≡◌, length};
-    ghost use Rattle.i9_model.specs.declared.need.Cell.{Cell};
-    ghost use Rattle.i9_model.specs.Late.{resources};
-    ghost use Rattle.i9_regs.specs.File.{ArePlannedAmong};
-
-    ghost Value = { List Cell };
-
-    ghost view = { λ f. f.slots };
-
-    ghost invariant = { λ f. (length f.slots ≡ resources) × ArePlannedAmong f.planned f.slots };
-}
-
-/// The value that is planned for a resource takes its place where it is due, and the resource is then
-/// taken out of the set.
-fn land_one(slots: &mut [Slot; RESOURCES], planned: u64, r: usize, turn: u64) -> u64
-    requires range { r < resources }
-    requires planned { ArePlannedAmong planned slots.old }
-    ensures size { length slots.new ≡ resources }
-    ensures cell { cell_in slots.new r ≡ landed turn (cell_in slots.old r) }
-    ensures others { (k : ℕ) → k ≢ r → cell_in slots.new k ≡ cell_in slots.old k }
-    ensures planned { ArePlannedAmong result slots.new }
-{
-    if slots[r].busy(turn) {
-        return planned;
-    }
-    slots[r] = slots[r].landed(turn);
-    planned & !(1 << r)
-}
-
-/// Values that are planned for the locals take their place where they are due. It gives the resources of a set that
-/// are left.
-// Whether this is done first is speed alone: where each has its turn, the code needs no search for the next one. It is
-// no part of the code that calls it, since calls and returns alone plan all locals.
-#[inline(never)]
-fn land_locals(slots: &mut [Slot; RESOURCES], planned: u64, turn: u64) -> u64
-    requires { ArePlannedAmong planned slots.old }
-    ensures size { length slots.new ≡ resources }
-    ensures cells { (r : ℕ) → landed turn (cell_in slots.new r) ≡ landed turn (cell_in slots.old r) }
-    ensures planned { ArePlannedAmong result slots.new }
-{
-    let mut kept = planned;
-    for r in 0..LOCALS {
-        kept = land_one(slots, kept, r, turn);
-    }
-    kept
-}
-
-/// Each value that is planned for `turn` or an earlier one takes its place. It gives the set of the
-/// resources for which a value is left.
+/// Sets the first values, those of the locals.
 #[inline(always)]
-fn land_each(slots: &mut [Slot; RESOURCES], planned: u64, turn: u64) -> u64
-    requires { ArePlannedAmong planned slots.old }
-    ensures size { length slots.new ≡ resources }
-    ensures cells { (r : ℕ) → cell_in slots.new r ≡ landed turn (cell_in slots.old r) }
-    ensures planned { ArePlannedAmong result slots.new }
+fn set_row(all: &mut [u32; RESOURCES], row: &[u32])
+    requires { length row.now ≡ LOCALS }
+    ensures { all.new ≡ row.now ++ drop LOCALS all.old }
 {
-    let mut kept = planned;
-    let mut left = planned % RESOURCE_BITS;
-    'due: while left != 0 {
-        let r = left.trailing_zeros() as usize;
-        left &= !(1 << r);
-        kept = land_one(slots, kept, r, turn);
-    }
-    kept
+    all[..LOCALS].copy_from_slice(row);
 }
 
-/// As `land_each`. A call or a return plans all locals, which then land in a row.
+/// Sets the first turns, those of the locals.
 #[inline(always)]
-fn land_all(slots: &mut [Slot; RESOURCES], planned: u64, turn: u64) -> u64
-    requires { ArePlannedAmong planned slots.old }
-    ensures size { length slots.new ≡ resources }
-    ensures cells { (r : ℕ) → cell_in slots.new r ≡ landed turn (cell_in slots.old r) }
-    ensures planned { ArePlannedAmong result slots.new }
+fn set_turns(due: &mut [u64; RESOURCES], done: u64)
+    ensures { due.new ≡ replicate LOCALS done ++ drop LOCALS due.old }
 {
-    if planned % LOCAL_BITS == LOCAL_BITS - 1 {
-        let left = land_locals(slots, planned, turn);
-        return land_each(slots, left, turn);
-    }
-    land_each(slots, planned, turn)
-}
-
-/// Plans values from a register up, and gives the resources of a set that are left.
-#[inline(always)]
-fn plan_group(
-    slots: &mut [Slot; RESOURCES],
-    writes: u64,
-    done: u64,
-    register: u8,
-    values: &[u32],
-) -> u64
-    requires { register + length values.now ≤ 32 }
-    ensures size { length slots.new ≡ resources }
-    ensures cells { (r : ℕ) → cell_in slots.new r
-        ≡ planned_cell register (length values.now) values.now done r (cell_in slots.old r) }
-    ensures left { (r : ℕ) → r < 64 → bit_at result r ≡ rest_bit register (length values.now) writes r }
-{
-    let mut left = writes;
-    for k in 0..values.len() {
-        let r = register as usize + k;
-        slots[r] = slots[r].planned(values[k], done);
-        left &= !(1 << r);
-    }
-    left
-}
-
-/// Plans for each register of a set the latest value that it has.
-fn plan_each(slots: &mut [Slot; RESOURCES], left: u64, done: u64)
-    ensures registers { (r : ℕ) → r < 32 → cell_in slots.new r
-        ≡ issued_cell left done r (latest (cell_in slots.old r)) (cell_in slots.old r) }
-    ensures code { cell_in slots.new CODE ≡ cell_in slots.old CODE }
-{
-    for r in 0..32 {
-        if left >> r & 1 == 1 {
-            slots[r] = slots[r].planned(slots[r].latest(), done);
-        }
-    }
-}
-
-/// As `plan_each`. Most records leave no register, and then none is looked at.
-#[tactic(auto, using(crate::proofs::Issued::low_rules))]
-fn plan_left(slots: &mut [Slot; RESOURCES], left: u64, done: u64)
-    ensures registers { (r : ℕ) → r < 32 → cell_in slots.new r
-        ≡ issued_cell left done r (latest (cell_in slots.old r)) (cell_in slots.old r) }
-    ensures code { cell_in slots.new CODE ≡ cell_in slots.old CODE }
-{
-    if left % REGISTER_BITS != 0 {
-        plan_each(slots, left, done);
-    }
-}
-
-/// Plans the condition code where it is in a set.
-fn plan_code(slots: &mut [Slot; RESOURCES], writes: u64, done: u64, code: u32)
-    ensures size { length slots.new ≡ resources }
-    ensures code { cell_in slots.new CODE ≡ issued_cell writes done CODE code (cell_in slots.old CODE) }
-    ensures registers { (r : ℕ) → r < 32 → cell_in slots.new r ≡ cell_in slots.old r }
-{
-    if writes >> CODE & 1 == 1 {
-        slots[CODE] = slots[CODE].planned(code, done);
-    }
-}
-
-/// Plans what a record leaves in the resources of a set.
-// Most records write one register or none, and this is no part of their code.
-#[inline(never)]
-fn plan_many(
-    slots: &mut [Slot; RESOURCES],
-    writes: u64,
-    done: u64,
-    register: u8,
-    values: &[u32],
-    code: u32,
-)
-    requires range { register + length values.now ≤ 32 }
-    requires set { (k : ℕ) → k < length values.now → IsBitSet writes (register + k) }
-    ensures size { length slots.new ≡ resources }
-    ensures cells { (r : ℕ) → r < resources → cell_in slots.new r
-        ≡ issued_cell writes done r (issued_value slots.old register values.now code r) (cell_in slots.old r) }
-{
-    let left = plan_group(slots, writes, done, register, values);
-    plan_left(slots, left, done);
-    plan_code(slots, writes, done, code);
-}
-
-/// As `plan_many`. Most records write one register or none, and then none of the others is looked at.
-#[inline(always)]
-fn plan_all(
-    slots: &mut [Slot; RESOURCES],
-    writes: u64,
-    done: u64,
-    register: u8,
-    values: &[u32],
-    code: u32,
-)
-    requires range { register + length values.now ≤ 32 }
-    requires set { (k : ℕ) → k < length values.now → IsBitSet writes (register + k) }
-    ensures size { length slots.new ≡ resources }
-    ensures cells { (r : ℕ) → r < resources → cell_in slots.new r
-        ≡ issued_cell writes done r (issued_value slots.old register values.now code r) (cell_in slots.old r) }
-{
-    if values.len() == 1 && writes == 1 << register {
-        plan_group(slots, writes, done, register, values);
-        return;
-    }
-    if values.is_empty() && writes % REGISTER_BITS == 0 {
-        plan_code(slots, writes, done, code);
-        return;
-    }
-    plan_many(slots, writes, done, register, values, code);
-}
-
-/// Plans what a record leaves in the resources of a set, where it enters a frame.
-fn plan_frame(
-    slots: &mut [Slot; RESOURCES],
-    writes: u64,
-    done: u64,
-    locals: &[u32; LOCALS],
-    frame: u32,
-    code: u32,
-)
-    requires locals { (k : ℕ) → k < LOCALS → IsBitSet writes k }
-    requires frame { IsBitSet writes FRAME_POINTER }
-    ensures size { length slots.new ≡ resources }
-    ensures cells { (r : ℕ) → r < resources → cell_in slots.new r
-        ≡ issued_cell writes done r (framed_value slots.old locals.now frame code r) (cell_in slots.old r) }
-{
-    let left = plan_group(slots, writes, done, FRAME_POINTER, &[frame]);
-    let rest = plan_group(slots, left, done, 0, locals);
-    plan_left(slots, rest, done);
-    plan_code(slots, left, done, code);
+    due[..LOCALS].fill(done);
 }
 
 impl File {
-    /// The same values, and the same plans.
+    /// The same values, at the same turns.
     pub fn copy(&self) -> File
         ensures { result ≡ self.now }
     {
         File {
-            slots: self.slots,
-            planned: self.planned,
+            before: self.before,
+            latest: self.latest,
+            due: self.due,
         }
     }
 
-    /// All values are 0, and none is planned.
+    /// All values are 0.
     pub fn new() -> File
-        ensures { result ≡ replicate resources (cell 0 None) }
+        ensures { (r : ℕ) → cell_in result r ≡ still 0 }
     {
         File {
-            slots: [Slot::still(0); RESOURCES],
-            planned: 0,
+            before: [0; RESOURCES],
+            latest: [0; RESOURCES],
+            due: [0; RESOURCES],
         }
     }
 
-    /// The value that the resource has.
-    pub fn value(&self, r: u8) -> u32
+    /// The value that the resource has at a turn.
+    pub fn value(&self, r: u8, turn: u64) -> u32
         requires { r < resources }
-        ensures { result ≡ (cell_in self.now r).value }
+        ensures { result ≡ (landed turn (cell_in self.now r)).value }
     {
-        self.slots[r as usize].value()
+        let r = r as usize;
+        if self.due[r] <= turn {
+            self.latest[r]
+        } else {
+            self.before[r]
+        }
     }
 
     /// The planned value where there is one, else the value.
@@ -282,7 +92,7 @@ impl File {
         requires { r < resources }
         ensures { result ≡ latest (cell_in self.now r) }
     {
-        self.slots[r as usize].latest()
+        self.latest[r as usize]
     }
 
     /// The latest values of the registers.
@@ -290,9 +100,7 @@ impl File {
         ensures { (r : ℕ) → r < 32 → slice_index result r ≡ latest (cell_in self.now r) }
     {
         let mut registers = [0; 32];
-        for r in 0..32 {
-            registers[r] = self.slots[r].latest();
-        }
+        registers.copy_from_slice(&self.latest[..32]);
         registers
     }
 
@@ -301,41 +109,133 @@ impl File {
         requires { r < resources }
         ensures { result ≡ is_plan_open turn (cell_in self.now r).plan }
     {
-        self.slots[r as usize].busy(turn)
+        turn < self.due[r as usize]
     }
 
-    /// Plans a value, which takes its place at `turn`.
+    /// Plans a value, which takes its place at `turn`; until then the resource has the latest value.
+    #[inline(always)]
     pub fn plan(&mut self, r: u8, value: u32, turn: u64)
-        requires range { r < resources }
-        requires free { (cell_in self.old r).plan ≡ None }
-        ensures { self.new ≡ slice_set self.old r (cell (cell_in self.old r).value (Some (value, turn))) }
+        requires { r < resources }
+        ensures cell { cell_in self.new r ≡ with_plan value turn (cell_in self.old r) }
+        ensures others { (k : ℕ) → k ≢ r → cell_in self.new k ≡ cell_in self.old k }
     {
-        self.slots[r as usize] = self.slots[r as usize].planned(value, turn);
-        self.planned |= 1 << r;
+        let r = r as usize;
+        self.before[r] = self.latest[r];
+        self.latest[r] = value;
+        self.due[r] = turn;
     }
 
     /// Sets the value at once, and what was planned is dropped.
     pub fn set(&mut self, r: u8, value: u32)
         requires { r < resources }
-        ensures cells { self.new ≡ slice_set self.old r (cell value None) }
-        ensures size { length self.new ≡ resources }
+        ensures cell { cell_in self.new r ≡ still value }
+        ensures others { (k : ℕ) → k ≢ r → cell_in self.new k ≡ cell_in self.old k }
     {
-        self.slots[r as usize] = Slot::still(value);
+        let r = r as usize;
+        self.before[r] = value;
+        self.latest[r] = value;
+        self.due[r] = 0;
+    }
+
+    /// Plans values from a register up, and gives the resources of a set that are left.
+    #[inline(always)]
+    fn plan_group(&mut self, writes: u64, done: u64, register: u8, values: &[u32]) -> u64
+        requires { register + length values.now ≤ 32 }
+        ensures cells { (r : ℕ) → cell_in self.new r
+            ≡ planned_cell register (length values.now) values.now done r (cell_in self.old r) }
+        ensures left { (r : ℕ) → r < 64 → bit_at result r ≡ rest_bit register (length values.now) writes r }
+    {
+        let mut left = writes;
+        for k in 0..values.len() {
+            let r = register + k as u8;
+            self.plan(r, values[k], done);
+            left &= !(1 << r);
+        }
+        left
+    }
+
+    /// Plans values for the locals, all at once, and gives the resources of a set that are left.
+    fn plan_locals(&mut self, writes: u64, done: u64, locals: &[u32; LOCALS]) -> u64
+        ensures cells { (r : ℕ) → cell_in self.new r
+            ≡ planned_cell 0 (length locals.now) locals.now done r (cell_in self.old r) }
+        ensures left { (r : ℕ) → r < 64 → bit_at result r ≡ rest_bit 0 (length locals.now) writes r }
+    {
+        let had = self.latest;
+        set_row(&mut self.before, &had[..LOCALS]);
+        set_row(&mut self.latest, locals);
+        set_turns(&mut self.due, done);
+        writes / LOCAL_BITS * LOCAL_BITS
+    }
+
+    /// Plans for each register of a set the latest value that it has.
+    fn plan_each(&mut self, left: u64, done: u64)
+        ensures registers { (r : ℕ) → r < 32 → cell_in self.new r
+            ≡ issued_over left done r (latest (cell_in self.old r)) (cell_in self.old r) }
+        ensures code { cell_in self.new CODE ≡ cell_in self.old CODE }
+    {
+        for r in 0..32 {
+            if left >> r & 1 == 1 {
+                self.plan(r, self.latest(r), done);
+            }
+        }
+    }
+
+    /// As `plan_each`. Most records leave no register, and then none is looked at.
+    #[tactic(auto, using(crate::proofs::Issued::low_rules))]
+    fn plan_left(&mut self, left: u64, done: u64)
+        ensures registers { (r : ℕ) → r < 32 → cell_in self.new r
+            ≡ issued_over left done r (latest (cell_in self.old r)) (cell_in self.old r) }
+        ensures code { cell_in self.new CODE ≡ cell_in self.old CODE }
+    {
+        if left % REGISTER_BITS != 0 {
+            self.plan_each(left, done);
+        }
+    }
+
+    /// Plans the condition code where it is in a set.
+    fn plan_code(&mut self, writes: u64, done: u64, code: u32)
+        ensures code { cell_in self.new CODE ≡ issued_over writes done CODE code (cell_in self.old CODE) }
+        ensures registers { (r : ℕ) → r < 32 → cell_in self.new r ≡ cell_in self.old r }
+    {
+        if writes >> CODE & 1 == 1 {
+            self.plan(CONDITION_CODE, code, done);
+        }
+    }
+
+    /// Plans what a record leaves in the resources of a set.
+    // Most records write one register or none, and this is no part of their code.
+    #[inline(never)]
+    fn plan_many(&mut self, writes: u64, done: u64, register: u8, values: &[u32], code: u32)
+        requires range { register + length values.now ≤ 32 }
+        requires set { (k : ℕ) → k < length values.now → IsBitSet writes (register + k) }
+        ensures { (r : ℕ) → r < resources → cell_in self.new r
+            ≡ issued_over writes done r (issued_value self.old register values.now code r) (cell_in self.old r) }
+    {
+        let left = self.plan_group(writes, done, register, values);
+        self.plan_left(left, done);
+        self.plan_code(writes, done, code);
     }
 
     /// Plans a value for each resource of a set, which takes its place at `done`: `values` for the
     /// registers from `register` up, `code` for the condition code, and for each other one the latest
     /// value that it has.
-    // Each step calls it, and most records write one register or none.
+    // Each step calls it. Most records write one register or none, and then none of the others is looked at.
     #[inline(always)]
     pub fn issue(&mut self, writes: u64, done: u64, register: u8, values: &[u32], code: u32)
         requires range { register + length values.now ≤ 32 }
         requires set { (k : ℕ) → k < length values.now → IsBitSet writes (register + k) }
         ensures { (r : ℕ) → r < resources → cell_in self.new r
-            ≡ issued_cell writes done r (issued_value self.old register values.now code r) (cell_in self.old r) }
+            ≡ issued_over writes done r (issued_value self.old register values.now code r) (cell_in self.old r) }
     {
-        plan_all(&mut self.slots, writes, done, register, values, code);
-        self.planned |= writes;
+        if values.len() == 1 && writes == 1 << register {
+            self.plan_group(writes, done, register, values);
+            return;
+        }
+        if values.is_empty() && writes % REGISTER_BITS == 0 {
+            self.plan_code(writes, done, code);
+            return;
+        }
+        self.plan_many(writes, done, register, values, code);
     }
 
     /// As `issue`, of a record that enters a frame: `locals` for the locals, and `frame` for the frame
@@ -351,17 +251,32 @@ impl File {
         requires locals { (k : ℕ) → k < LOCALS → IsBitSet writes k }
         requires frame { IsBitSet writes FRAME_POINTER }
         ensures { (r : ℕ) → r < resources → cell_in self.new r
-            ≡ issued_cell writes done r (framed_value self.old locals.now frame code r) (cell_in self.old r) }
+            ≡ issued_over writes done r (framed_value self.old locals.now frame code r) (cell_in self.old r) }
     {
-        plan_frame(&mut self.slots, writes, done, locals, frame, code);
-        self.planned |= writes;
+        let left = self.plan_group(writes, done, FRAME_POINTER, &[frame]);
+        let rest = self.plan_locals(left, done, locals);
+        self.plan_left(rest, done);
+        self.plan_code(left, done, code);
     }
 
-    /// Each value that is planned for `turn` or an earlier one takes its place.
-    #[inline(always)]
-    pub fn land(&mut self, turn: u64)
-        ensures { (r : ℕ) → cell_in self.new r ≡ landed turn (cell_in self.old r) }
+    /// As `issue_frame`, over what the same record has planned: until `done` each resource of the set keeps the value
+    /// that it had.
+    #[inline(never)]
+    pub fn amend_frame(
+        &mut self,
+        writes: u64,
+        done: u64,
+        locals: &[u32; LOCALS],
+        frame: u32,
+        code: u32,
+    )
+        requires locals { (k : ℕ) → k < LOCALS → IsBitSet writes k }
+        requires frame { IsBitSet writes FRAME_POINTER }
+        ensures { (r : ℕ) → r < resources → cell_in self.new r
+            ≡ issued_cell writes done r (framed_value self.old locals.now frame code r) (cell_in self.old r) }
     {
-        self.planned = land_all(&mut self.slots, self.planned, turn);
+        let before = self.before;
+        self.issue_frame(writes, done, locals, frame, code);
+        self.before = before;
     }
 }

@@ -2,6 +2,7 @@
 #![tactic(auto)]
 
 mod file;
-mod slot;
+mod laws;
 
 pub use file::File;
+pub use laws::cells_land_by_themselves;

@@ -180,7 +180,8 @@ impl Storage {
     }
 
     /// What is due by `turn` goes to memory. Nothing else changes.
-    #[inline(always)]
+    // At most turns nothing waits, and this is no part of the code for these.
+    #[inline(never)]
     pub fn land(&mut self, turn: u64)
         ensures cache { cache_of self.new ≡ cache_of self.old }
         ensures memory { memory_in self.new ≡ memory_in self.old }

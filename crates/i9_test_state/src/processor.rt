@@ -176,7 +176,7 @@ fn frame_answer(alloc: Global, p: &Processor, name: &str, numbers: &[u32]) -> To
         ("check_write", &[a, n]) => number_text(alloc, p.check_write(a, n)),
         ("check_flushed_read", &[a, n]) => number_text(alloc, p.check_flushed_read(a, n)),
         ("overlay", &[a]) => number_text(alloc, p.overlay(a).map(|byte| u32::from(byte))),
-        ("raw_register_4", []) => hex_text(alloc, p.raw_registers()[4]),
+        ("raw_register_4", &[turn]) => hex_text(alloc, p.raw_registers(u64::from(turn))[4]),
         ("is_drained", []) => Ok(format!(in alloc; "{}", p.is_drained())?),
         _ => memory_answer(alloc, p, name, numbers),
     }
@@ -301,10 +301,10 @@ passes | unit, posts_behind_unit | 87 to 5002, true
 passes | unit, special 2 | none, F0
 saves 9, sets_up 41 3 4001 77BF, commands 4 | is_drained, unit | true, hazard 77BF | it is written to a live frame
 posts_dma_0 | special 0 | 100 | line 8
-boots 0, sets_late 7, stores_late 4001 8, lands 0 | register 4, byte 4001, raw_register_4, is_drained | 7, 8, 0, false
-lands 4 | register 4, byte 4001, raw_register_4, is_drained | 7, 8, 0, false | what is read is the same
-lands 5 | register 4, byte 4001, raw_register_4, is_drained | 7, 8, 7, false
-lands 6 | register 4, byte 4001, raw_register_4, is_drained | 7, 8, 7, true
+boots 0, sets_late 7, stores_late 4001 8, lands 0 | register 4, byte 4001, raw_register_4 0, is_drained | 7, 8, 0, false
+lands 4 | register 4, byte 4001, raw_register_4 4, is_drained | 7, 8, 0, false | what is read is the same
+lands 5 | register 4, byte 4001, raw_register_4 5, is_drained | 7, 8, 7, false
+lands 6 | register 4, byte 4001, raw_register_4 6, is_drained | 7, 8, 7, true
 ";
 
 /// Marks of registers that are set, of a frame that is saved and returned to, and of bytes that are stored, which a

@@ -68,7 +68,7 @@ impl Machine {
     {
         Raw {
             turn: self.turn,
-            regs: self.processor.raw_registers(),
+            regs: self.processor.raw_registers(self.turn),
             busy: self.processor.busy_registers(self.turn),
         }
     }

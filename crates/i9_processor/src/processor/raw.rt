@@ -1,6 +1,6 @@
 //! What of a processor has landed, whatever is planned and waits.
 ghost use Rattle.std.specs.Prelude.{◌≡◌, ℕ};
-ghost use Rattle.i9_model.specs.Late.{is_plan_open};
+ghost use Rattle.i9_model.specs.Late.{is_plan_open, landed};
 ghost use Rattle.i9_model.specs.Needs.{set_below};
 ghost use Rattle.i9_model.specs.PrintedText.{register_list};
 
@@ -12,14 +12,14 @@ const REGISTERS: usize = 32;
 impl Processor {
     ghost use Rattle.i9_processor.specs.State.{cells_of, bytes_of};
 
-    /// The registers as they stand, whatever is planned for them.
+    /// The registers as they stand at a turn, whatever is planned for them.
     #[tactic(auto, unfolding(crate::specs::State::cells_of))]
-    pub fn raw_registers(&self) -> [u32; REGISTERS]
-        ensures { result ≡ register_list (λ r. (cells_of self.now r).value) }
+    pub fn raw_registers(&self, turn: u64) -> [u32; REGISTERS]
+        ensures { result ≡ register_list (λ r. (landed turn (cells_of self.now r)).value) }
     {
         let mut registers = [0; REGISTERS];
         for r in 0..REGISTERS {
-            registers[r] = self.file.value(r as u8);
+            registers[r] = self.file.value(r as u8, turn);
         }
         registers
     }

@@ -2,7 +2,7 @@ use Rattle.i9_processor.proofs.RegisterList.{registers_of-set, code_of-set}
 use Rattle.i9_processor.proofs.registers.set.Goals as goal
 
 pub returns-clause-registers : goal.returns-clause-registers
-returns-clause-registers c = registers_of-set c.args.file.now c.set.new.self c.args.r c.args.v c.requires c.set.ensures.cells c.set.ensures.size
+returns-clause-registers c = registers_of-set c.args.file.now c.set.new.self c.args.r c.args.v c.requires c.set.ensures.cell c.set.ensures.others
 
 pub returns-clause-code : goal.returns-clause-code
-returns-clause-code c = code_of-set c.args.file.now c.set.new.self c.args.r c.args.v c.requires c.set.ensures.cells
+returns-clause-code c = code_of-set c.args.file.now c.set.new.self c.args.r c.requires c.set.ensures.others

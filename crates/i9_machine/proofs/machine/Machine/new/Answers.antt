@@ -1,4 +1,5 @@
-use Rattle.std.proofs.Common.{refl, sym, subst, arith}
+use Rattle.i9_model.specs.Late.{landed}
+use Rattle.std.proofs.Common.{ap, refl, sym, subst, arith}
 use Rattle.i9_model.specs.Alike.{AreAlike}
 use Rattle.i9_model.specs.Given.{given}
 use Rattle.i9_model.specs.Image.{pairs_of}
@@ -19,7 +20,7 @@ returns-clause-stands c = λ plan is_plan.
       state = subst (AreAlike (boot (pairs_of c.args.image.now))) (sym booted.state) (alike_same (boot (pairs_of c.args.image.now)));
       size = booted.size;
       cache = booted.cache;
-      lands = first_lands g _ board refl refl refl booted.cells booted.bytes booted.queue;
+      lands = first_lands g _ board refl refl refl (λ r few. ap (landed 1) (booted.cells r few)) booted.bytes booted.queue;
       shaded = none_hidden (boot (pairs_of c.args.image.now)).memory.bytes _ c.new-3.ensures.due;
       early = omega arith;
       paced = record {

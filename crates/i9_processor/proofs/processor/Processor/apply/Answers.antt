@@ -1,5 +1,5 @@
-use Rattle.std.proofs.Common.{ℕ, List, refl, sym, ap, ◌∙◌, subst}
-use Rattle.i9_model.specs.declared.need.Cell.{Cell}
+use Rattle.std.proofs.Common.{ℕ, refl, sym, ap, ◌∙◌, subst}
+use Rattle.i9_regs.specs.declared.file.File.{File}
 use Rattle.i9_model.specs.Step.{moved, flagged, acted, counted}
 use Rattle.i9_model.specs.Alike.{AreAlike}
 use Rattle.i9_storage.specs.declared.storage.Storage.{Storage}
@@ -37,7 +37,7 @@ returns-clause-cells c =
     let flags = c.add_count.ensures.flags ∙ c.renew.ensures.flags ∙ c.flag.ensures.flags in
     let last : IsIssued l.writes l.done c.add_count.new.self.flags olds c.add_count.new.self.file =
     subst (λ (n : ℕ). IsIssued l.writes l.done n olds c.add_count.new.self.file) (sym flags)
-    (subst (λ (cs : List Cell). IsIssued l.writes l.done c.control.new.self.flags olds cs) (sym files) done) in
+    (subst (λ (cs : File). IsIssued l.writes l.done c.control.new.self.flags olds cs) (sym files) done) in
     last.each
 
 -- flags of trace events, new sets and the count leave what waits

@@ -3,7 +3,8 @@ use Rattle.i9_memory.specs.Memory.{memory_of}
 use Rattle.i9_model.specs.Image.{pairs_of}
 use Rattle.i9_model.specs.Memory.{Memory, with_writes}
 use Rattle.i9_model.specs.Boot.{boot_setup, boot_memory}
-use Rattle.i9_model.specs.Late.{cell, resource}
+use Rattle.i9_model.specs.Late.{resource}
+use Rattle.i9_regs.specs.File.{still}
 use Rattle.i9_model.specs.State.{State, Interrupts, image_memory, start_interrupts, as_zero, started, boot}
 use Rattle.i9_model.specs.HeldFrames.{Cache, over, overlaid}
 use Rattle.i9_model.specs.declared.layout.TheConstants.{BOOT_PC}
@@ -48,7 +49,7 @@ returns-clause-state c =
       marks = λ r. bit_none r i;
       reading = as_zero;
     } in
-    let none = ap registers_of c.new-file.ensures ∙ registers_of-zeros 33 in
+    let none = registers_of-zeros c.new-file.result c.new-file.ensures in
     kept ∙ (λ i. started (setup i) (none i) 0 0 (memory i) (c.in_ok-storage.ensures.frames i))
 
 pub returns-clause-cells : goal.returns-clause-cells
@@ -56,9 +57,9 @@ unfolding state_of cells_of
 returns-clause-cells c r few =
     let file = c.set_arithmetic.new.file in
     let flags = c.set_arithmetic.new.flags in
-    let still = c.set_arithmetic.ensures.still (c.start_registers.ensures.still (new_still c.new-file.result c.new-file.ensures)) in
-    cell_resource flags c.boot-setup.result.ac file still c.set_arithmetic.ensures.code c.set_arithmetic.ensures.ac r few
-    ∙ ap (λ (s : State). cell (resource s r) None) (returns-clause-state c)
+    let kept = c.set_arithmetic.ensures.still (c.start_registers.ensures.still (new_still c.new-file.result c.new-file.ensures)) in
+    cell_resource flags c.boot-setup.result.ac file kept c.set_arithmetic.ensures.code c.set_arithmetic.ensures.ac r few
+    ∙ ap (λ (s : State). still (resource s r)) (returns-clause-state c)
 
 pub returns-clause-bytes : goal.returns-clause-bytes
 unfolding bytes_of boot started

@@ -1,13 +1,18 @@
-use Rattle.i9_regs.specs.File.{framed_value}
-use Rattle.i9_regs.proofs.Among.{issued_among}
+use Rattle.std.proofs.Common.{rules, length}
+use Rattle.i9_regs.proofs.Framed.{left_locals, frame_issued}
+use Rattle.i9_regs.proofs.Issued.{all_issued}
 use Rattle.i9_regs.proofs.file.File.issue_frame.Goals as goal
 
-pub invariant_of-self : goal.invariant_of-self
-invariant_of-self c =
+pub returns : goal.returns
+returns c =
     let a = c.args in
-    let all = c.plan_frame in
-    let olds = c.self.inside.slots in
-    let value = framed_value olds a.locals.now a.frame a.code in
-    let planned = c.self.inside.planned in
-    let among = issued_among olds all.new.slots planned a.writes a.done value c.self.invariant.1 all.ensures.cells in
-    (all.ensures.size, among)
+    let pointer = c.plan_group-left in
+    let group = c.plan_locals-rest in
+    let left = c.plan_left in
+    let code = c.plan_code in
+    let set = left_locals pointer.result a.writes (length a.locals.now) (search rules) pointer.ensures.left c.requires.locals in
+    let all = all_issued pointer.new.self group.new.self left.new.self code.new.self pointer.result group.result a.done 0
+    a.locals.now a.code (search rules) set group.ensures.cells group.ensures.left left.ensures.registers left.ensures.code
+    code.ensures.code code.ensures.registers in
+    frame_issued a.self.now pointer.new.self code.new.self a.writes pointer.result a.done a.locals.now a.frame a.code
+    c.requires.frame pointer.ensures.cells pointer.ensures.left all

@@ -1,9 +1,7 @@
-use Rattle.std.proofs.Common.{replicate, refl, sym, subst}
-use Rattle.i9_model.specs.declared.need.Cell.{Cell}
-use Rattle.i9_regs.specs.File.{ArePlannedAmong}
-use Rattle.i9_regs.proofs.Among.{new_among}
+use Rattle.std.proofs.Common.{Some}
+use Rattle.i9_model.specs.Late.{cell}
+use Rattle.i9_regs.proofs.Rows.{zero_at}
 use Rattle.i9_regs.proofs.file.File.new.Goals as goal
 
-pub invariant_of-result : goal.invariant_of-result
-invariant_of-result c =
-    (refl, subst (λ (x : Cell). ArePlannedAmong 0 (replicate 33 x)) (sym c.still.ensures) (new_among 0))
+pub returns : goal.returns
+returns c = λ r i. cell (zero_at 33 r i) (Some (zero_at 33 r i, zero_at 33 r i))
