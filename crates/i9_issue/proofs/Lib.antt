@@ -1,3 +1,4 @@
 pub mod Loops
 pub mod Seven
 pub mod AllOpen
+pub mod Early

@@ -1,10 +1,10 @@
 -- Why few records are open.
-use Rattle.std.specs.Prelude.{◌≡◌, ℕ, ◌+◌, ◌<◌, ◌≤◌, ◌^◌, ◌&&◌, max, List, length, reverse, take, IsTrue, nat_eq}
+use Rattle.std.specs.Prelude.{◌≡◌, ℕ, ◌+◌, ◌<◌, ◌≤◌, ◌^◌, ◌&&◌, if◌then◌else◌, max, List, [], ◌∷◌, length, reverse, take, IsTrue, nat_eq}
 use Rattle.std.specs.List.{AllByRecursion, count_by}
 use Rattle.i9_isa.specs.declared.inst.Side.{Side}
 use Rattle.i9_model.specs.declared.need.Need.{Need}
 use Rattle.i9_model.specs.declared.need.TimedNeed.{TimedNeed}
-use Rattle.i9_model.specs.Turns.{same_side, Pending, RequestsInOrder, is_plain, done_from, last_request}
+use Rattle.i9_model.specs.Turns.{same_side, keeps_side, Pending, RequestsInOrder, is_plain, done_from, last_request}
 
 -- What is known of the open records, of which the last issued at the turn last.
 pub record Fits (last : ℕ) (rs : List TimedNeed) : Type 0 where
@@ -32,3 +32,8 @@ pub record IsEarly (p : Pending) (n : Need) : Type 0 where
   pub done : AllByRecursion (λ r. r.done < 2 ^ 62) p.records
   pub waited : n.not_before < 2 ^ 62
   pub cost : n.cost < 2 ^ 32
+
+-- the turn from which the newest record leaves the need its side; 0 where it does not keep it
+abbrev pub side_from : Need → List TimedNeed → ℕ
+side_from n [] = 0
+side_from n (r ∷ rs) = if keeps_side r.need.side n then r.issue + 1 else 0

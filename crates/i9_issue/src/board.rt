@@ -5,7 +5,7 @@ ghost use Rattle.i9_model.specs.declared.need.TimedNeed.{TimedNeed};
 ghost use Rattle.std.specs.List.{AllByRecursion};
 ghost use Rattle.i9_model.specs.Turns.{issue_turn, turn_from, with_need, end_turn, StandsFor, AreAllDone, last_issue, IssuesAt, FollowsOpen, pending_after, placed_record, open_at, IsAllDone, HasCost};
 ghost use Rattle.i9_model.specs.Turns as spec;
-ghost use Rattle.i9_issue.specs.Room.{IsEarly};
+ghost use Rattle.i9_issue.specs.Room.{IsEarly, side_from};
 
 use i9_isa::Side;
 use i9_model::{Need, Placed, TimedNeed};
@@ -80,7 +80,7 @@ impl Board {
         ensures early { result < 2 ^ 62 }
     {
         let from = self.last.max(n.not_before);
-        permitted_from(&self.records, self.count, from, n)
+        turn_by(&self.records, self.count, self.until, from, n)
     }
 
     /// Places a record of this need, and forgets what is done at its issue turn.
@@ -124,12 +124,8 @@ impl Board {
         ensures bound { (m : ℕ) → IsAllDone self.old m → n.now.not_before ≤ m → IsAllDone self.new (m + n.now.cost) }
     {
         let done = done_turn(n, issue, self.asked);
-        let kept = keep_open(&mut self.records, self.count, issue);
-        self.records[kept] = TimedNeed {
-            need: *n,
-            issue,
-            done,
-        };
+        let kept = keep_open(&mut self.records, self.count, self.until, issue);
+        put(&mut self.records, kept, n, issue, done);
         self.count = kept + 1;
         self.last = issue;
         self.until = self.until.max(done);
@@ -243,6 +239,42 @@ fn permitted_from(records: &[TimedNeed; MOST_OPEN], count: usize, from: u64, n: 
     turn
 }
 
+/// The turn from which the newest of so many records leaves the need its side; 0 where it does not keep it.
+#[inline(always)]
+fn side_from(records: &[TimedNeed; MOST_OPEN], count: usize, n: &Need) -> u64
+    requires few { count ≤ 7 }
+    requires early { AllByRecursion (λ r. r.issue < 2 ^ 62) (reverse (take count records.now)) }
+    ensures { result ≡ side_from n.now (reverse (take count records.now)) }
+{
+    if count == 0 {
+        return 0;
+    }
+    let newest = &records[count - 1];
+    if keeps_side(newest.need.side, n) {
+        newest.issue + 1
+    } else {
+        0
+    }
+}
+
+/// As `permitted_from`, where all these records are done at `until`.
+// Most often that is the first turn that the side leaves, and no loop is needed.
+#[inline(always)]
+fn turn_by(records: &[TimedNeed; MOST_OPEN], count: usize, until: u64, from: u64, n: &Need) -> u64
+    requires few { count ≤ 7 }
+    requires early { AllByRecursion (λ r. r.issue < 2 ^ 62) (reverse (take count records.now)) }
+    requires time { AllByRecursion (λ r. r.issue < r.done) (reverse (take count records.now)) }
+    requires done { AllByRecursion (λ r. r.done ≤ until) (reverse (take count records.now)) }
+    ensures { result ≡ turn_from n.now from 0 (reverse (take count records.now)) }
+{
+    let free = from.max(side_from(records, count, n));
+    if until <= free {
+        free
+    } else {
+        permitted_from(records, count, from, n)
+    }
+}
+
 /// Copies a record to a place.
 // Mostly it stands there already, since no record before it is done, and nothing is copied.
 fn copy_down(records: &mut [TimedNeed; MOST_OPEN], from: usize, to: usize)
@@ -255,8 +287,22 @@ fn copy_down(records: &mut [TimedNeed; MOST_OPEN], from: usize, to: usize)
     }
 }
 
+/// A record of a need stands at a place, with its turns.
+// It is written where it stands, and copied once.
+#[inline(always)]
+fn put(records: &mut [TimedNeed; MOST_OPEN], at: usize, n: &Need, issue: u64, done: u64)
+    requires { at < 7 }
+    ensures { records.new ≡ slice_set records.old at (placed_record n.now (record { issue = issue; done = done })) }
+{
+    let place = &mut records[at];
+    place.need = *n;
+    place.issue = issue;
+    place.done = done;
+}
+
 /// Moves the records that are open at `turn` to the front, of so many, and tells how many they are.
-fn keep_open(records: &mut [TimedNeed; MOST_OPEN], count: usize, turn: u64) -> usize
+#[inline(never)]
+fn move_open(records: &mut [TimedNeed; MOST_OPEN], count: usize, turn: u64) -> usize
     requires { count ≤ 7 }
     ensures kept { take result records.new ≡ open_at turn (take count records.old) }
     ensures few { result ≤ count }
@@ -270,6 +316,22 @@ fn keep_open(records: &mut [TimedNeed; MOST_OPEN], count: usize, turn: u64) -> u
         }
     }
     kept
+}
+
+/// The same, where all these records are done at `until`: mostly none is open, and there is nothing to move.
+#[inline(always)]
+fn keep_open(records: &mut [TimedNeed; MOST_OPEN], count: usize, until: u64, turn: u64) -> usize
+    requires few { count ≤ 7 }
+    requires done { AllByRecursion (λ r. r.done ≤ until) (reverse (take count records.old)) }
+    ensures kept { take result records.new ≡ open_at turn (take count records.old) }
+    ensures few { result ≤ count }
+    ensures whole { length records.new ≡ 7 }
+{
+    if until <= turn {
+        0
+    } else {
+        move_open(records, count, turn)
+    }
 }
 
 /// The turn at which the last request is done, once this need is placed, which is done at `done`.

@@ -1,7 +1,14 @@
 -- What a result gives, for names that have one and for those that have none.
-use Rattle.std.proofs.Common.{◌≡◌, ℕ, ◌≤◌, false, List, [], length, Option, Some, None, refl, ap, arith}
+use Rattle.std.proofs.Common.{◌≡◌, ℕ, ◌≤◌, false, List, [], ◌∷◌, length, Option, Some, None, refl, sym, ap, arith}
+use Rattle.std.proofs.lemmas.Bool.{false≢true}
 use Rattle.std.specs.Prelude.{is_some, IsNone, IsSome}
-use Rattle.i9_model.specs.Results.{Answer}
+use Rattle.i9_isa.specs.declared.op.Op.{Op}
+use Rattle.i9_isa.specs.declared.op.Op.TheVariants.{Movl, Movt, Movq, Ediv, Modify, Extract}
+use Rattle.i9_isa.specs.declared.inst.Inst.{Inst}
+use Rattle.i9_model.specs.State.{State}
+use Rattle.i9_model.specs.Operands.{source_words, value}
+use Rattle.i9_model.specs.Results.{Answer, results, results_by}
+use Rattle.i9_plan.specs.Names.{reads_more}
 use Rattle.i9_exec.specs.declared.done.Done.{Done}
 
 pub none_by : (o : Option Answer) → is_some o ≡ false → o ≡ None
@@ -17,3 +24,19 @@ pub answer_few : (d : Done) (n : ℕ) → (IsNone d.fault → length d.values.it
 answer_few d n whole none = few_by d.fault d.values.items n whole none
 
 pub ruleset answer_rules = (none_by, answer_few)
+
+-- a name that looks at no further words has the same result whatever they are
+by_first : (op : Op) (a b : List ℕ) (x y c ac : ℕ) → reads_more op ≡ false → results_by op (x ∷ 0 ∷ 0 ∷ 0 ∷ []) (y ∷ 0 ∷ []) 0 ac ≡ results_by op (x ∷ a) (y ∷ b) c ac
+by_first Movl a b x y c ac h = absurd (false≢true (sym h))
+by_first Movt a b x y c ac h = absurd (false≢true (sym h))
+by_first Movq a b x y c ac h = absurd (false≢true (sym h))
+by_first Ediv a b x y c ac h = absurd (false≢true (sym h))
+by_first Modify a b x y c ac h = absurd (false≢true (sym h))
+by_first Extract a b x y c ac h = absurd (false≢true (sym h))
+by_first _ a b x y c ac h = refl
+
+pub first_words : (i : Inst) (s : State) (ac : ℕ) → reads_more i.op ≡ false
+    → results i (value s i.a ∷ 0 ∷ 0 ∷ 0 ∷ []) (value s i.b ∷ 0 ∷ []) 0 ac ≡ results i (source_words s i.a 4) (source_words s i.b 2) (value s i.c) ac
+first_words i s ac h = by_first i.op _ _ (value s i.a) (value s i.b) (value s i.c) ac h
+
+pub ruleset source_rules = (first_words)

@@ -1,5 +1,5 @@
 -- What is known of an instruction can be known of it: whether it has a data access, and how long that waits at most.
-use Rattle.std.proofs.Common.{◌≡◌, ℕ, ◌≤◌, Bool, true, false, cond, List, [], ◌∷◌, Option, Some, None, refl, ◌∙◌, arith}
+use Rattle.std.proofs.Common.{◌≡◌, ℕ, ◌≤◌, Bool, true, false, cond, List, [], ◌∷◌, Option, Some, None, refl, sym, ap, ◌∙◌, arith}
 use Rattle.std.specs.Prelude.{is_some, ◌||◌, find}
 use Rattle.std.specs.List.{list_any}
 use Rattle.i9_isa.specs.declared.op.Op.{Op}
@@ -13,8 +13,11 @@ use Rattle.i9_model.specs.State.{State}
 use Rattle.i9_model.specs.Step.{Message, AsksNothing, AsksCheck, AsksInterrupt, AsksRestart, AsksGroup, asked_message}
 use Rattle.i9_model.specs.Access.{Access, Reads, Writes, Changes, message_access, access_by_name, moved_access, access_by, access_of, data_of}
 use Rattle.i9_model.specs.Needs.{has_access}
-use Rattle.i9_course.specs.NeedOf.{access_waits}
+use Rattle.i9_model.specs.declared.need.Facts.{Facts}
+use Rattle.i9_course.specs.NeedOf.{access_waits, touches_port, stands_alone, facts_of}
+use Rattle.i9_need.specs.Known.{AreFacts}
 use Rattle.i9_plan.specs.Names.{is_atomic}
+use Rattle.i9_plan.specs.Plain.{plain_facts}
 
 -- one passes a test where a first one does
 pub any_found : {A : Type 0} (p : A → Bool) (xs : List A) → is_some (find p xs) ≡ list_any p xs
@@ -96,3 +99,16 @@ known_waits m (Changes a n) =
     let write = waits_few m (region_of a) true in
     omega (arith, read, write)
 known_waits m _ = omega arith
+
+-- ---- without a data access
+
+pub plain_are : (i : Inst) (ip : ℕ) → has_access i.op ≡ false → AreFacts i (plain_facts ip)
+plain_are i ip h = record { frames = omega arith; one = λ _. omega arith; waits = omega arith; access = sym h }
+
+pub plain_known : (i : Inst) (s : State) → has_access i.op ≡ false → stands_alone s ≡ false → facts_of i s 0 false false ≡ plain_facts s.ip
+plain_known i s h a =
+    let facts : Option (ℕ × ℕ) → ℕ → Bool → Facts =
+    λ d w b. record { ip = s.ip; access = d; port = touches_port d; waits = w; frames = 0; fault = false; trace = false; hazard = false; alone = b } in
+    ap (λ (d : Option (ℕ × ℕ)). facts d (access_waits s.memory (access_of i s)) (stands_alone s)) (no_access i s h)
+    ∙ ap (λ (w : ℕ). facts None w (stands_alone s)) (no_waits i s h)
+    ∙ ap (λ (b : Bool). facts None 0 b) a

@@ -3,3 +3,4 @@ pub mod Moved
 pub mod Planned
 pub mod Open
 pub mod Kept
+pub mod Plain

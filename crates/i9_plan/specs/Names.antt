@@ -1,7 +1,7 @@
 -- What is known of every valid instruction, and which names do what.
 use Rattle.std.specs.Prelude.{ℕ, ◌+◌, ◌≤◌, Bool, true, false}
 use Rattle.i9_isa.specs.declared.op.Op.{Op}
-use Rattle.i9_isa.specs.declared.op.Op.TheVariants.{Atadd, Atmod, Bal}
+use Rattle.i9_isa.specs.declared.op.Op.TheVariants.{Atadd, Atmod, Bal, Movl, Movt, Movq, Ediv, Modify, Extract}
 use Rattle.i9_isa.specs.declared.inst.Operand.{Operand}
 use Rattle.i9_isa.specs.declared.inst.Operand.TheVariants.{Reg, Lit, Sfr}
 use Rattle.i9_model.specs.Branches.{asks, question_of}
@@ -21,3 +21,13 @@ abbrev pub is_atomic : Op → Bool
 is_atomic Atadd = true
 is_atomic Atmod = true
 is_atomic _ = false
+
+-- names whose result is made of more than one word of src1 and one of src2: of further words, or of src/dst
+abbrev pub reads_more : Op → Bool
+reads_more Movl = true
+reads_more Movt = true
+reads_more Movq = true
+reads_more Ediv = true
+reads_more Modify = true
+reads_more Extract = true
+reads_more _ = false

@@ -3,24 +3,28 @@ ghost use Rattle.std.specs.Prelude.{◌≡◌, ◌==◌, if◌then◌else◌, Ok
 ghost use Rattle.i9_isa.specs.Transfers.{transfer_of};
 ghost use Rattle.i9_isa.specs.Valid.{IsValid};
 ghost use Rattle.i9_isa.specs.Words.{decoded, words_of};
+ghost use Rattle.i9_model.specs.Results.{has_result};
 ghost use Rattle.i9_need.specs.Fixed.{fixed_need};
 
 use crate::fetched::Words;
 use i9_decode::{BadWord, decode};
+use i9_exec::has_result;
 use i9_isa::{Inst, NO_ADDRESS, Op, Operand, Transfer, transfer};
 use i9_need::{FixedNeed, fixed_need};
 
-/// Words, the instruction that they are, what it needs by its name and its operands alone, and the load or
-/// the store that it is, where it is one.
+/// Words, the instruction that they are, what it needs by its name and its operands alone, the load or the store
+/// that it is, where it is one, and whether it has a result.
 #[derive(Clone, Copy, Debug)]
 pub(crate) struct Kept {
     pub words: Words,
     pub inst: Inst,
     pub need: FixedNeed,
     pub transfer: Option<Transfer>,
+    pub gives: bool,
     ghost read: { decoded words.first words.second ≡ Ok inst },
     ghost needs: { need ≡ fixed_need inst },
     ghost moves: { transfer ≡ transfer_of inst.op },
+    ghost results: { gives ≡ has_result inst.op },
     ghost short: { words.second ≡ (if words_of inst == 2 then words.second else 0) },
 }
 
@@ -38,6 +42,7 @@ impl Kept {
             inst,
             need: fixed_need(&inst),
             transfer: transfer(inst.op),
+            gives: has_result(inst.op),
         }
     }
 

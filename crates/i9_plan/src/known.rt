@@ -6,6 +6,7 @@ ghost use Rattle.i9_course.specs.NeedOf.{touches_port, access_waits, stands_alon
 ghost use Rattle.i9_need.specs.Known.{AreFacts, moves_a_frame};
 ghost use Rattle.i9_processor.specs.State.{state_of};
 ghost use Rattle.i9_plan.specs.Kept.{inst_in, Locates};
+ghost use Rattle.i9_plan.specs.Plain.{plain_facts};
 ghost use Rattle.i9_plan.specs.Moved.{Moves};
 
 use crate::memo::Memo;
@@ -58,7 +59,7 @@ fn access_waits(p: &Processor, i: &Inst, moving: Option<Moving>) -> u64
 }
 
 /// Whether bit 15 of AC or trace enable is set, so that an instruction passes nothing.
-fn stands_alone(p: &Processor) -> bool
+pub(crate) fn stands_alone(p: &Processor) -> bool
     ensures { result ≡ stands_alone (state_of p.now) }
 {
     bit(p.ac(), PRECISE_FAULTS_PLACE) || is_traced(p)
@@ -109,5 +110,24 @@ pub fn facts(p: &Processor, memo: &Memo, frames: u8, fault: bool, trace: bool) -
         trace,
         hazard: false,
         alone: stands_alone(p),
+    }
+}
+
+/// What is known of an instruction without a data access that meets no hazard, moves no frame, raises no fault, and
+/// does not stand alone.
+#[inline(always)]
+pub(crate) fn plain_facts(p: &Processor) -> Facts
+    ensures { result ≡ plain_facts (state_of p.now).ip }
+{
+    Facts {
+        ip: p.ip(),
+        access: None,
+        port: false,
+        waits: 0,
+        frames: 0,
+        fault: false,
+        trace: false,
+        hazard: false,
+        alone: false,
     }
 }

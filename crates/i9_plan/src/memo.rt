@@ -2,6 +2,7 @@
 ghost use Rattle.std.specs.Prelude.{◌≡◌, ◌==◌, MatchResult};
 ghost use Rattle.i9_isa.specs.Valid.{IsValid};
 ghost use Rattle.i9_isa.specs.Words.{decoded, words_of};
+ghost use Rattle.i9_model.specs.Results.{has_result};
 ghost use Rattle.i9_need.specs.Fixed.{fixed_need};
 ghost use Rattle.i9_processor.specs.State.{state_of};
 ghost use Rattle.i9_plan.specs.Kept.{inst_in, words_in, need_in, moving_in, Locates};
@@ -77,6 +78,13 @@ impl Memo {
         ensures { result ≡ (words_of (inst_in self.now) == 2) }
     {
         self.last.need.length == LONG
+    }
+
+    /// Whether it has a result.
+    pub(crate) fn gives(&self) -> bool
+        ensures { result ≡ has_result (inst_in self.now).op }
+    {
+        self.last.gives
     }
 
     /// The load or the store that it is, as it was worked out last.

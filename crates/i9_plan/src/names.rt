@@ -3,7 +3,7 @@ ghost use Rattle.std.specs.Prelude.{◌≡◌};
 ghost use Rattle.i9_model.specs.Needs.{is_barrier_name};
 ghost use Rattle.i9_model.specs.Standing.{is_fault_name};
 ghost use Rattle.i9_model.specs.Faults.{is_special, uses_special};
-ghost use Rattle.i9_plan.specs.Names.{is_atomic, is_branch};
+ghost use Rattle.i9_plan.specs.Names.{is_atomic, is_branch, reads_more};
 
 use i9_isa::{Inst, Op, Operand};
 
@@ -50,6 +50,16 @@ pub(crate) fn is_atomic(op: Op) -> bool
     ensures { result ≡ is_atomic op }
 {
     matches!(op, Op::Atadd | Op::Atmod)
+}
+
+/// Whether a name with a result looks at more than one word of src1 and one of src2.
+pub(crate) fn reads_more(op: Op) -> bool
+    ensures { result ≡ reads_more op }
+{
+    matches!(
+        op,
+        Op::Movl | Op::Movt | Op::Movq | Op::Ediv | Op::Modify | Op::Extract
+    )
 }
 
 /// Whether a name passes nothing, and nothing passes it, whatever its operands are.

@@ -1,6 +1,6 @@
 //! What is needed by what is planned: by an instruction that is done or that faults, by a word that is
 //! refused, by the entry of a fault or of an interrupt, and by an event.
-ghost use Rattle.std.specs.Prelude.{◌≡◌, ◌≤◌, ℕ, List, Some, None, length};
+ghost use Rattle.std.specs.Prelude.{◌≡◌, ◌≤◌, ℕ, List, Some, None, true, false, length};
 ghost use Rattle.i9_model.specs.declared.faults.Entry.{Entry};
 ghost use Rattle.i9_model.specs.declared.interrupts.Chosen.{Chosen};
 ghost use Rattle.i9_model.specs.State.{State};
@@ -9,12 +9,14 @@ ghost use Rattle.i9_model.specs.Before.{Received, interrupting};
 ghost use Rattle.i9_model.specs.Step.{Saves, entering};
 ghost use Rattle.i9_model.specs.Traced.{traced_action};
 ghost use Rattle.i9_model.specs.Run.{Instruction, Faulted, Entered, Interrupted, Reached, fault_at};
-ghost use Rattle.i9_course.specs.NeedOf.{is_of_dma, moved_frames, need_of};
+ghost use Rattle.i9_model.specs.Needs.{inst_need};
+ghost use Rattle.i9_course.specs.NeedOf.{is_of_dma, moved_frames, need_of, stands_alone};
 ghost use Rattle.i9_processor.specs.Effect.{IsEffect, move_in};
 ghost use Rattle.i9_processor.specs.State.{state_of, cache_of, size_of};
-ghost use Rattle.i9_plan.specs.Kept.{inst_in, Locates};
+ghost use Rattle.i9_plan.specs.Kept.{inst_in, need_in, Locates};
+ghost use Rattle.i9_plan.specs.Plain.{plain_facts};
 
-use crate::known::facts;
+use crate::known::{facts, plain_facts, stands_alone};
 use crate::memo::Memo;
 use i9_model::faults::ARITHMETIC;
 use i9_model::{Event, Need};
@@ -56,11 +58,31 @@ fn moved_frames(p: &Processor, effect: &Effect) -> u8
     }
 }
 
-/// What the instruction in the memo needs, which is done by this effect.
-// Each step asks for it, and it is made where the step is.
+/// Whether the instruction in the memo has no data access and does not stand alone, and its effect is told to be plain.
+#[inline(always)]
+fn is_plain(p: &Processor, memo: &Memo, effect: &Effect) -> bool
+    ensures access { result ≡ true → (need_in memo.now).access ≡ false }
+    ensures alone { result ≡ true → stands_alone (state_of p.now) ≡ false }
+    ensures frames { result ≡ true → effect.now.frames ≡ Move.Stays }
+    ensures trace { result ≡ true → effect.now.trace ≡ None }
+{
+    effect.plain && !memo.need().access && !stands_alone(p)
+}
+
+/// What the instruction in the memo needs, which has no data access, and of which nothing is known but its address.
+#[inline(always)]
+fn plain_need(p: &Processor, memo: &Memo) -> Need
+    requires { (need_in memo.now).access ≡ false }
+    ensures need { result ≡ inst_need (inst_in memo.now) (plain_facts (state_of p.now).ip) }
+    ensures cost { result.cost ≤ 248 }
+{
+    need_by(memo.need(), &plain_facts(p))
+}
+
+/// What the instruction in the memo needs, which is done by this effect, whatever is known of it.
 #[inline(always)]
 #[tactic(auto, unfolding(i9_course::specs::NeedOf::need_of))]
-pub fn need_done(p: &Processor, memo: &Memo, effect: &Effect) -> Need
+fn known_need(p: &Processor, memo: &Memo, effect: &Effect) -> Need
     requires located { Locates (state_of p.now) memo.now }
     requires effect { IsEffect (state_of p.now) (traced_action (inst_in memo.now) (state_of p.now)) effect.now }
     ensures need { result ≡ need_of (size_of p.now) (cache_of p.now) (state_of p.now) (Instruction (inst_in memo.now)) }
@@ -69,6 +91,22 @@ pub fn need_done(p: &Processor, memo: &Memo, effect: &Effect) -> Need
     let frames = moved_frames(p, effect);
     let known = facts(p, memo, frames, false, effect.trace.is_some());
     need_by(memo.need(), &known)
+}
+
+/// What the instruction in the memo needs, which is done by this effect.
+// Each step asks for it, and it is made where the step is. Most have no access, and nothing is asked of their facts.
+#[inline(always)]
+pub fn need_done(p: &Processor, memo: &Memo, effect: &Effect) -> Need
+    requires located { Locates (state_of p.now) memo.now }
+    requires effect { IsEffect (state_of p.now) (traced_action (inst_in memo.now) (state_of p.now)) effect.now }
+    ensures need { result ≡ need_of (size_of p.now) (cache_of p.now) (state_of p.now) (Instruction (inst_in memo.now)) }
+    ensures cost { result.cost ≤ 248 }
+{
+    if is_plain(p, memo, effect) {
+        plain_need(p, memo)
+    } else {
+        known_need(p, memo, effect)
+    }
 }
 
 /// What the instruction in the memo needs, which raises a fault of this type and subtype.

@@ -55,7 +55,7 @@ pub fn plan_open(p: &Processor, memo: &mut Memo, effect: &mut Effect) -> Open
     let moving = memo.locate(p);
     let inst = memo.inst();
     pass(p, inst, effect);
-    match outcome_open(p, inst, moving, effect) {
+    match outcome_open(p, inst, moving, memo.gives(), effect) {
         Outcome::Runs => {
             follow(p, inst, moving, effect);
             Open::Runs

@@ -26,7 +26,7 @@ use crate::raised::{arithmetic_fault, mismatches, raised_by_transfer};
 use crate::sources::{address, answer, target, value};
 use crate::transfers::{Moving, plan_transfer};
 use i9_entry::aligned;
-use i9_exec::{Done, Jump, branch, has_result, results_by_name};
+use i9_exec::{Done, Jump, branch, results_by_name};
 use i9_isa::{Inst, Op, Operand};
 use i9_model::faults::{CONSTRAINT, MISMATCH, RANGE, TYPE};
 use i9_model::layout::LINK;
@@ -208,12 +208,13 @@ fn transfer_outcome(p: &Processor, i: &Inst, m: Moving, effect: &mut Effect) -> 
     }
 }
 
-/// What an instruction comes to that is read, no barrier by its name, and no load or store, with its effect
-/// in the place of one that passes. It raises nothing before it does anything, but for a special function
-/// register that it uses outside supervisor mode.
+/// What an instruction comes to that is read, no barrier by its name, and no load or store, where it is told whether
+/// it has a result, with its effect in the place of one that passes. It raises nothing before it does anything, but for
+/// a special function register that it uses outside supervisor mode.
 #[inline(never)]
-fn still_outcome(p: &Processor, i: &Inst, effect: &mut Effect) -> Outcome
+fn still_outcome(p: &Processor, i: &Inst, gives: bool, effect: &mut Effect) -> Outcome
     requires valid { IsValid i.now }
+    requires gives { gives ≡ has_result i.now.op }
     requires barrier { is_barrier_name i.now.op ≡ false }
     requires still { transfer_of i.now.op ≡ None }
     requires passes { Passes (state_of p.now) i.now effect.old }
@@ -222,7 +223,7 @@ fn still_outcome(p: &Processor, i: &Inst, effect: &mut Effect) -> Outcome
 {
     if mismatches(p, i) {
         Outcome::Faults((TYPE, MISMATCH))
-    } else if has_result(i.op) {
+    } else if gives {
         result_outcome(p, i, effect)
     } else if is_branch(i.op) {
         branch_outcome(p, i, effect)
@@ -239,9 +240,11 @@ pub(crate) fn outcome_open(
     p: &Processor,
     i: &Inst,
     moving: Option<Moving>,
+    gives: bool,
     effect: &mut Effect,
 ) -> Outcome
     requires valid { IsValid i.now }
+    requires gives { gives ≡ has_result i.now.op }
     requires barrier { is_barrier_name i.now.op ≡ false }
     requires moves { Moves (state_of p.now) i.now moving }
     requires passes { Passes (state_of p.now) i.now effect.old }
@@ -254,7 +257,7 @@ pub(crate) fn outcome_open(
     }
     match moving {
         Some(m) => transfer_outcome(p, i, m, effect),
-        None => still_outcome(p, i, effect),
+        None => still_outcome(p, i, gives, effect),
     }
 }
 
@@ -263,9 +266,11 @@ pub(crate) fn outcome_of(
     p: &Processor,
     i: &Inst,
     moving: Option<Moving>,
+    gives: bool,
     effect: &mut Effect,
 ) -> Outcome
     requires valid { IsValid i.now }
+    requires gives { gives ≡ has_result i.now.op }
     requires drained { IsDrained p.now }
     requires moves { Moves (state_of p.now) i.now moving }
     requires passes { Passes (state_of p.now) i.now effect.old }
@@ -276,6 +281,6 @@ pub(crate) fn outcome_of(
     if is_barrier(i.op) {
         barrier_outcome(p, i, effect)
     } else {
-        outcome_open(p, i, moving, effect)
+        outcome_open(p, i, moving, gives, effect)
     }
 }

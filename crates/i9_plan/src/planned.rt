@@ -57,7 +57,7 @@ fn plan_read(p: &Processor, memo: &mut Memo, effect: &mut Effect) -> Planned
     let moving = memo.locate(p);
     let inst = memo.inst();
     pass(p, inst, effect);
-    match outcome_of(p, inst, moving, effect) {
+    match outcome_of(p, inst, moving, memo.gives(), effect) {
         Outcome::Meets(a) => Planned::Meets(a),
         Outcome::Faults(number) => Planned::Faults(number),
         Outcome::Runs => {

@@ -1,11 +1,12 @@
 //! What an instruction reads of its operands, and where it goes on.
-ghost use Rattle.std.specs.Prelude.{◌≡◌, ◌<◌, ◌∷◌, [], Some, IsNone, IsSome, length, true};
+ghost use Rattle.std.specs.Prelude.{◌≡◌, ◌<◌, ◌∷◌, [], ℕ, Some, IsNone, IsSome, length, true};
 ghost use Rattle.i9_model.specs.Operands.{value, higher_word, source_words, address, target};
 ghost use Rattle.i9_model.specs.Step.{following, answer_in, process_controls, message_of, argument_of, atomic_address};
-ghost use Rattle.i9_model.specs.Results.{has_result, destination_words};
+ghost use Rattle.i9_model.specs.Results.{has_result, destination_words, results};
 ghost use Rattle.i9_exec.specs.Shown.{answer_of};
 ghost use Rattle.i9_processor.specs.State.{state_of};
 
+use crate::names::reads_more;
 use crate::words::modified;
 use i9_entry::aligned;
 use i9_exec::{Done, address as effective_address, compute};
@@ -96,6 +97,24 @@ pub(crate) fn argument(p: &Processor, i: &Inst) -> u8
     (value(p, i.a) % 256) as u8
 }
 
+/// The words of src1 and of src2, and the value of src/dst, of which a result is made; zeros stand for those that the
+/// name does not look at.
+// Most names look at one word of each source, and then no other is read.
+#[inline(always)]
+#[tactic(auto, using(crate::proofs::Answering::source_rules))]
+fn sources_of(p: &Processor, i: &Inst) -> ([u32; 4], [u32; 2], u32)
+    ensures { (ac : ℕ) → results i.now result.0 result.1 result.2 ac
+        ≡ results i.now (source_words (state_of p.now) i.now.a 4) (source_words (state_of p.now) i.now.b 2)
+        (value (state_of p.now) i.now.c) ac }
+{
+    if reads_more(i.op) {
+        let b = [value(p, i.b), higher_word(p, i.b, 1)];
+        (source_words(p, i.a), b, value(p, i.c))
+    } else {
+        ([value(p, i.a), 0, 0, 0], [value(p, i.b), 0], 0)
+    }
+}
+
 /// What an instruction with a result gives.
 pub(crate) fn answer(p: &Processor, i: &Inst) -> Done
     requires { has_result i.now.op ≡ true }
@@ -103,6 +122,6 @@ pub(crate) fn answer(p: &Processor, i: &Inst) -> Done
     ensures words { IsNone result.fault → length result.values.items ≡ destination_words i.now.op }
     ensures unwritten { IsSome result.fault → result.values.items ≡ [] }
 {
-    let b = [value(p, i.b), higher_word(p, i.b, 1)];
-    compute(i, &source_words(p, i.a), &b, value(p, i.c), p.ac())
+    let (a, b, c) = sources_of(p, i);
+    compute(i, &a, &b, c, p.ac())
 }

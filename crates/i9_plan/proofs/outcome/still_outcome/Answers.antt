@@ -10,8 +10,8 @@ returns-then-mismatches-clause-standing c =
     let s = state_of c.args.p.now in
     sym (ap (by_raised i s) (mismatch_raised i s (sym c.mismatches.ensures ∙ c.if-mismatches.true)))
 
-pub returns-then-has_result-clause-standing : goal.returns-then-has_result-clause-standing
-returns-then-has_result-clause-standing c =
+pub returns-then-gives-clause-standing : goal.returns-then-gives-clause-standing
+returns-then-gives-clause-standing c =
     let i = c.args.i.now in
     let s = state_of c.args.p.now in
     let fits = sym c.mismatches.ensures ∙ c.if-mismatches.false in

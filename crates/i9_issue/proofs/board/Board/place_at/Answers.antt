@@ -1,11 +1,12 @@
 use Rattle.std.proofs.Common.{List, ◌≡◌, ℕ, ◌+◌, ◌<◌, ◌≤◌, ◌^◌, max, cond, ◌∷◌, length, take, reverse, set, subst, sym, ap, ◌∙◌, arith, length-set}
 use Rattle.i9_model.specs.declared.need.TimedNeed.{TimedNeed}
-use Rattle.i9_model.specs.Turns.{Pending, StandsFor, IsAllDone, FollowsOpen, IssuesAt, last_request, done_turn, done_from, open_at, pending_after}
+use Rattle.i9_model.specs.Turns.{Pending, StandsFor, IsAllDone, FollowsOpen, IssuesAt, last_request, done_turn, done_from, open_at, pending_after, with_need}
 use Rattle.i9_model.proofs.TurnStands.{stands-next, stands-with_need, stands-issue_turn}
 use Rattle.i9_model.proofs.TurnOpen.{done-after}
 use Rattle.i9_issue.specs.Room.{Fits, IsEarly, Holds}
 use Rattle.i9_issue.proofs.Loops.{issues-early, last_request-early, request-turn, request-next, until-next, placed-list, kept-length, place-fits, place-bound}
 use Rattle.i9_issue.proofs.Seven.{placed_at, at_most_seven}
+use Rattle.i9_issue.proofs.Early.{held-done}
 use Rattle.i9_issue.proofs.board.Board.place_at.Goals as goal
 use Rattle.i9_issue.proofs.board.Board.place_at.Goals.{After-keep_open-kept}
 
@@ -53,9 +54,12 @@ has_room c =
 list_after : (c : After-keep_open-kept) → reverse (take (c.keep_open-kept.result + 1) (places_after c)) ≡ open_after c
 list_after c = placed-list c.args.issue c.self.inside.count c.keep_open-kept.result c.keep_open-kept.new.records c.self.inside.records (placed c) (omega (arith, whole c, has_room c)) c.keep_open-kept.ensures.kept
 
--- what is open afterwards
+-- what is open afterwards, by the places
+abbrev open_by : After-keep_open-kept → List TimedNeed → Pending
+open_by c xs = record { last = c.args.issue; records = reverse (take (c.keep_open-kept.result + 1) xs) }
+
 abbrev after : After-keep_open-kept → Pending
-after c = record { last = c.args.issue; records = reverse (take (c.keep_open-kept.result + 1) (places_after c)) }
+after c = open_by c (places_after c)
 
 after_is : (c : After-keep_open-kept) → after c ≡ pending_after c.args.self.now (placed c)
 after_is c = ap (λ (xs : List TimedNeed). record { last = c.args.issue; records = xs }) (list_after c) ∙ ap (λ (p : Pending). pending_after p (placed c)) c.self.view_is
@@ -102,27 +106,45 @@ done_turn-done-requires-clause-before c =
     let other : last_request (reverse (take c.self.inside.count c.self.inside.records)) < 2 ^ 62 = last_request-early (2 ^ 62) (reverse (take c.self.inside.count c.self.inside.records)) (omega arith) is_early.done in
     omega (arith, one, other, c.self.invariant.request)
 
-pub bounds-self-inside-kept : goal.bounds-self-inside-kept
-bounds-self-inside-kept c = has_room (goal.at.bounds-self-inside-kept c).After-keep_open-kept
+pub keep_open-kept-requires-clause-done : goal.keep_open-kept-requires-clause-done
+keep_open-kept-requires-clause-done c = held-done c.self.inside.last c.self.inside.until c.self.inside.asked c.self.inside.count c.self.inside.records c.self.invariant
+
+pub put-requires : goal.put-requires
+put-requires c = has_room (goal.at.put-requires c).After-keep_open-kept
 
 pub invariant_of-self : goal.invariant_of-self
-invariant_of-self c = holds_after (goal.at.invariant_of-self c).After-keep_open-kept c.max-self-inside.result c.asked_until-self-inside.result c.max-self-inside.ensures c.asked_until-self-inside.ensures
+invariant_of-self c =
+    let p = (goal.at.invariant_of-self c).After-keep_open-kept in
+    let written : c.put.new.records ≡ places_after p = c.put.ensures in
+    let until = c.max-self-inside.result in
+    let asked = c.asked_until-self-inside.result in
+    subst (λ (xs : List TimedNeed). Holds c.args.issue until asked (p.keep_open-kept.result + 1) xs) (sym written) (holds_after p until asked c.max-self-inside.ensures c.asked_until-self-inside.ensures)
 
 pub returns-clause-after : goal.returns-clause-after
-returns-clause-after c = after_is (goal.at.returns-clause-after c).After-keep_open-kept
+returns-clause-after c =
+    let p = (goal.at.returns-clause-after c).After-keep_open-kept in
+    let written : c.put.new.records ≡ places_after p = c.put.ensures in
+    ap (open_by p) written ∙ after_is p
 
 pub returns-clause-of_all : goal.returns-clause-of_all
-returns-clause-of_all c rs s = stands_after (goal.at.returns-clause-of_all c).After-keep_open-kept rs s
+returns-clause-of_all c rs s =
+    let p = (goal.at.returns-clause-of_all c).After-keep_open-kept in
+    let written : c.put.new.records ≡ places_after p = c.put.ensures in
+    subst (λ (xs : List TimedNeed). StandsFor (open_by p xs) (placed p ∷ rs)) (sym written) (stands_after p rs s)
 
 pub returns-clause-computed : goal.returns-clause-computed
 returns-clause-computed c rs s =
     let p = (goal.at.returns-clause-computed c).After-keep_open-kept in
+    let written : c.put.new.records ≡ places_after p = c.put.ensures in
     let whole = stands-with_need c.args.self.now rs (placed p) s (follows p) in
-    (subst (λ (xs : List TimedNeed). StandsFor (after p) xs) whole (stands_after p rs s), stands-issue_turn c.args.self.now rs c.args.n.now c.args.issue s c.requires.issue)
+    let stands = subst (λ (xs : List TimedNeed). StandsFor (after p) xs) whole (stands_after p rs s) in
+    (subst (λ (xs : List TimedNeed). StandsFor (open_by p xs) (with_need rs c.args.n.now)) (sym written) stands, stands-issue_turn c.args.self.now rs c.args.n.now c.args.issue s c.requires.issue)
 
 pub returns-clause-bound : goal.returns-clause-bound
 returns-clause-bound c m a w =
     let p = (goal.at.returns-clause-bound c).After-keep_open-kept in
+    let written : c.put.new.records ≡ places_after p = c.put.ensures in
     let fits = subst (λ (p : Pending). Fits p.last p.records) c.self.view_is c.self.invariant.fits in
     let bound = place-bound c.args.self.now c.args.n.now c.args.issue c.done_turn-done.result m fits c.requires.issue (follows p).done a w in
-    subst (λ (q : Pending). IsAllDone q (m + c.args.n.now.cost)) (sym (after_is p)) bound
+    let all = subst (λ (q : Pending). IsAllDone q (m + c.args.n.now.cost)) (sym (after_is p)) bound in
+    subst (λ (xs : List TimedNeed). IsAllDone (open_by p xs) (m + c.args.n.now.cost)) (sym written) all

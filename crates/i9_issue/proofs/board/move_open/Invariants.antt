@@ -1,6 +1,6 @@
 use Rattle.std.proofs.Common.{◌≡◌, ◌≤◌, ◌++◌, ◌-◌, drop, take, length}
 use Rattle.i9_model.specs.Turns.{open_at}
-use Rattle.i9_issue.proofs.board.keep_open.Given as goal
+use Rattle.i9_issue.proofs.board.move_open.Given as goal
 
 abbrev pub invariant-loop-k : goal.invariant-loop-k
 invariant-loop-k l = record {
