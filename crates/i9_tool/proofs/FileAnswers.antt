@@ -7,10 +7,9 @@ use Rattle.i9_schedule.proofs.OneAnswer.{some_answer as some_schedule, answers_a
 use Rattle.i9_asm.proofs.SomeAnswer.{some_answer as some_assembly}
 use Rattle.i9_asm.proofs.Once.{assembly_once, refusal_once, never_both_answers as assembly_apart}
 use Rattle.i9_script.proofs.OneAnswer.{some_answer as some_script, one_script, one_fault as one_script_fault, never_both_answers as script_apart}
-use Rattle.i9_outside.specs.declared.traits.TheConstants.{FILE_LIMIT}
-use Rattle.i9_tool.specs.declared.files.FileKind.{FileKind}
-use Rattle.i9_tool.specs.declared.files.FileKind.TheVariants.{Image, Schedule, Source, Script}
-use Rattle.i9_tool.specs.FileKinds.{Value, octets, Says, FaultOf, IsFaulty, IsAccepted}
+use Rattle.i9_tool.specs.declared.refusal.FileKind.{FileKind}
+use Rattle.i9_tool.specs.declared.refusal.FileKind.TheVariants.{Image, Schedule, Source, Script}
+use Rattle.i9_tool.specs.FileKinds.{Value, octets, Says, FaultOf, IsFaulty}
 
 pub some_answer : (kind : FileKind) (file : List ℕ) → ((value : Value kind) × Says kind file value) ⊎ ((fault : FaultOf kind) × IsFaulty kind file fault)
 some_answer Image file = some_image (octets file)
@@ -50,13 +49,3 @@ image_said file pairs low is = subst (λ (bs : List ℕ). IsImage bs pairs) (sym
 
 pub image_faulty : (file : List ℕ) (fault : Fault) → ((k : ℕ) → get_or file k 0 < 256) → IsRefused file fault → IsFaulty Image file fault
 image_faulty file fault low is = subst (λ (bs : List ℕ). IsRefused bs fault) (sym (octets_same file low)) is
-
--- ---- files that are not accepted
-
--- a file that is too long is not accepted
-pub long_refused : (kind : FileKind) (file : List ℕ) → FILE_LIMIT < length file → (value : Value kind) → ¬ IsAccepted kind file value
-long_refused kind file long value good = absurd (omega (arith, good.short))
-
--- nor is one with a fault
-pub faulty_refused : (kind : FileKind) (file : List ℕ) (fault : FaultOf kind) → IsFaulty kind file fault → (value : Value kind) → ¬ IsAccepted kind file value
-faulty_refused kind file fault bad value good = apart kind file value fault good.says bad

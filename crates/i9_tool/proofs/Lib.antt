@@ -3,10 +3,11 @@ pub mod AssembledBytes
 pub mod Refusals
 pub mod Running
 pub mod FileAnswers
-pub mod Fetching
+pub mod Wider
+pub mod Reading
+pub mod RunInputs
 pub mod Answering
 pub mod Listable
-pub mod Wider
 pub mod Outcomes
 pub mod OneText
 pub mod OneOutcome

@@ -13,7 +13,7 @@ use Rattle.i9_image.specs.Images.{IsImage, says_elf, says_hex}
 use Rattle.i9_runs.specs.Runs.{IsLow}
 use Rattle.i9_runs.proofs.Rising.{ArePlaced}
 use Rattle.i9_dis.proofs.Listed.{some_listing}
-use Rattle.i9_tool.specs.declared.files.FileKind.TheVariants.{Image}
+use Rattle.i9_tool.specs.declared.refusal.FileKind.TheVariants.{Image}
 use Rattle.i9_tool.specs.FileKinds.{AreBytes, octets, IsAccepted}
 use Rattle.i9_tool.specs.Outcome.{DisGives, listed}
 use Rattle.i9_tool.proofs.AssembledBytes.{low_append, low_take, low_drop}

@@ -1,5 +1,5 @@
 -- Words and files have one status and one text.
-use Rattle.std.proofs.Common.{◌≡◌, ◌≢◌, ℕ, List, [], ◌++◌, length, Option, Some, None, Result, Ok, Err, refl, sym, ap, ◌∙◌, subst, arith}
+use Rattle.std.proofs.Common.{◌≡◌, ◌≢◌, ℕ, List, [], ◌∷◌, ◌++◌, inl, inr, length, Option, Some, None, Result, Ok, Err, refl, sym, ap, ◌∙◌, subst, arith}
 use Rattle.std.specs.Prelude.{IsSome}
 use Rattle.i9_model.specs.State.{State}
 use Rattle.i9_model.specs.Given.{Given, given}
@@ -26,20 +26,22 @@ use Rattle.i9_script.specs.declared.command.Command.{Command as ScriptCommand}
 use Rattle.i9_debug.specs.Lines.{generated_line}
 use Rattle.i9_debug.specs.Session.{Place, at, end_at}
 use Rattle.i9_generator.specs.Generator.{generated_source, generated_schedule}
-use Rattle.i9_tool.specs.declared.files.FileKind.{FileKind}
-use Rattle.i9_tool.specs.declared.files.FileKind.TheVariants.{Image, Schedule, Source, Script}
+use Rattle.i9_tool.specs.declared.refusal.FileKind.TheVariants.{Schedule, Source}
 use Rattle.i9_tool.specs.declared.words.Format.{Format}
 use Rattle.i9_tool.specs.declared.words.Format.TheVariants.{Hex, Elf}
 use Rattle.i9_tool.specs.declared.words.Range.{Range}
 use Rattle.i9_job.proofs.MadeSchedule.{schedule_counted}
-use Rattle.i9_tool.specs.FileKinds.{Value, IsAccepted, fault_line, names}
+use Rattle.i9_tool.specs.FileKinds.{File, Value, AreBytes, IsRead, names}
+use Rattle.i9_outside.specs.Traits.{IsFile}
 use Rattle.i9_tool.specs.Fetches.{AllTold}
 use Rattle.i9_tool.specs.Traced.{is_within, traced_lines, printed_text, headed_text}
-use Rattle.i9_tool.specs.CommandLine.{Command, Run, Asm, Dis, Gen, Tune, Driver, ByLength, ByScript, driver_files, planned_files, files_of}
-use Rattle.i9_tool.specs.Outcome.{no_schedule, Reads, unread, fetched, FileGives, too_long, refused, accepted, RunGives, runs, driven_code, ScriptGives, drives, AsmGives, as_hex, as_elf, too_many_runs, GenGives, job_runs, job_line, DisGives, listed, TuneGives, no_block, tuned, DriverGives, PlanGives, IsCountedSchedule, CommandGives, Gives, in_no_form, in_form, names_of}
+use Rattle.i9_tool.specs.CommandLine.{Command, Run, Gen, ByLength, files_of}
+use Rattle.i9_tool.specs.Refusals.{Refusal, Unread, Faulty, refusal_code, refusal_line, Refuses, unread, too_long, faulty, FirstRefusal}
+use Rattle.i9_tool.specs.Inputs.{Inputs, AreRead, ToLength, ByCommands, Task, Runs, Assembles, Lists, Generates, Tunes, no_schedule, task_of}
+use Rattle.i9_tool.specs.Outcome.{RunGives, runs, driven_code, ScriptGives, drives, AsmGives, as_hex, as_elf, too_many_runs, GenGives, job_runs, job_line, DisGives, listed, TuneGives, no_block, tuned, TaskGives, CommandGives, refused, done, IsCountedSchedule, Gives, in_no_form, in_form, names_of}
 use Rattle.i9_tool.proofs.FileAnswers.{apart, one_value, one_fault}
 use Rattle.i9_tool.proofs.OneText.{one_text}
-use Rattle.i9_tool.proofs.Wider.{reads_wider, kind_wider}
+use Rattle.i9_tool.proofs.Outcomes.{Sound, sound_task}
 
 -- a status and a text at once
 pub record Same (c d : ℕ) (s t : List ℕ) : Type 0 where
@@ -58,10 +60,6 @@ same_run version traced g rs qs e f a b =
 abbrev Once : (ℕ → List ℕ → Type 0) → Type 0
 Once gives = (c d : ℕ) (s t : List ℕ) → c ≢ 5 → d ≢ 5 → gives c s → gives d t → Same c d s t
 
--- the same of two choices that are one
-once_both : {X : Type 0} (gives : X → ℕ → List ℕ → Type 0) → ((x : X) → Once (gives x)) → (x y : X) → x ≡ y → (c d : ℕ) (s t : List ℕ) → c ≢ 5 → d ≢ 5 → gives x c s → gives y d t → Same c d s t
-once_both gives once x y same c d s t p q g h = once x c d s t p q g (subst (λ (z : _). gives z d t) (sym same) h)
-
 once_run : (sets : Option ℕ) (limit : ℕ) (traced : Option Range) (pairs : List (ℕ × ℕ)) (plan : Contents) → Once (RunGives sets limit traced pairs plan)
 once_run sets limit traced pairs plan c d s t p q (runs rs e run) (runs us f other) = same_run plan.version traced (given pairs plan.events limit sets) rs us e f run other
 
@@ -79,20 +77,6 @@ once_asm Elf image c d s t p q (as_elf _ parts are few) (too_many_runs _ others 
 once_asm Elf image c d s t p q (too_many_runs _ parts are many) (as_elf _ others are' few) = absurd (let same = ap length (runs_once (pairs_of image) parts others are are') in omega (arith, same))
 once_asm Elf image c d s t p q (too_many_runs _ parts are many) (too_many_runs _ others are' many') = record { status = refl; text = refl }
 
-once_kind : (kind : FileKind) (after : Value kind → ℕ → List ℕ → Type 0) → ((file : List ℕ) (value : Value kind) → IsAccepted kind file value → Once (after value)) → (file : List ℕ) → Once (FileGives kind after file)
-once_kind kind after once file c d s t p q (too_long long) (too_long longer) = record { status = refl; text = refl }
-once_kind kind after once file c d s t p q (too_long long) (refused g short h) = absurd (omega arith)
-once_kind kind after once file c d s t p q (too_long long) (accepted us d' t' good gives) = absurd (omega (arith, good.short))
-once_kind kind after once file c d s t p q (refused g short h) (too_long long) = absurd (omega arith)
-once_kind kind after once file c d s t p q (refused g short h) (refused g' short' h') =
-    record { status = refl; text = ap (fault_line kind) (one_fault kind file g g' h h') }
-once_kind kind after once file c d s t p q (refused g short h) (accepted us d' t' good gives) = absurd (apart kind file us g good.says h)
-once_kind kind after once file c d s t p q (accepted ts c' s' good gives) (too_long long) = absurd (omega (arith, good.short))
-once_kind kind after once file c d s t p q (accepted ts c' s' good gives) (refused g short h) = absurd (apart kind file ts g good.says h)
-once_kind kind after once file c d s t p q (accepted ts c' s' good gives) (accepted us d' t' good' gives') =
-    let same = one_value kind file ts us good.says good'.says in
-    once file ts good c d s t p q gives (subst (λ (value : Value kind). after value d t) (sym same) gives')
-
 once_dis : (pairs : List (ℕ × ℕ)) → Once (DisGives pairs)
 once_dis pairs c d s t p q (listed image _ says h) (listed other _ says' g) = record { status = refl; text = one_listing image s t h (by_pairs other image t (says' ∙ sym says) g) }
 
@@ -103,13 +87,13 @@ same_fault f g e = cc e
 same_block : (is js : List Inst) → ◌≡◌ {A = Result (List Inst) BlockFault} (Ok is) (Ok js) → is ≡ js
 same_block is js e = cc e
 
-once_tune : (a n : ℕ) (file : List ℕ) (pairs : List (ℕ × ℕ)) → IsAccepted Image file pairs → Once (TuneGives a n pairs)
-once_tune a n file pairs good c d s t p q (no_block f e) (no_block g h) = record { status = refl; text = ap block_fault_line (same_fault f g (sym e ∙ h)) }
-once_tune a n file pairs good c d s t p q (no_block f e) (tuned js t' h is) = absurd (cc (sym e ∙ h))
-once_tune a n file pairs good c d s t p q (tuned is s' e one) (no_block g h) = absurd (cc (sym e ∙ h))
-once_tune a n file pairs good c d s t p q (tuned is s' e one) (tuned js t' h other) =
+once_tune : (a n : ℕ) (pairs : List (ℕ × ℕ)) → AreBytes pairs → Once (TuneGives a n pairs)
+once_tune a n pairs low c d s t p q (no_block f e) (no_block g h) = record { status = refl; text = ap block_fault_line (same_fault f g (sym e ∙ h)) }
+once_tune a n pairs low c d s t p q (no_block f e) (tuned js t' h is) = absurd (cc (sym e ∙ h))
+once_tune a n pairs low c d s t p q (tuned is s' e one) (no_block g h) = absurd (cc (sym e ∙ h))
+once_tune a n pairs low c d s t p q (tuned is s' e one) (tuned js t' h other) =
     let same = same_block is js (sym e ∙ h) in
-    let ok = image_tunable pairs n a js (accepted_bytes file pairs good) h in
+    let ok = image_tunable pairs n a js low h in
     record { status = refl; text = one_tuning a js s t ok (subst (λ (block : List Inst). IsTuning a block s) same one) other }
 
 -- one run comes to one line
@@ -131,33 +115,78 @@ once_job number sets c d s t p q (job_runs i ts rs e made says run) (job_runs j 
     let same = ap (λ (x : List Part). given (pairs_of x) ts.events MAX_LENGTH sets) image ∙ ap (λ (x : Contents). given (pairs_of j) x.events MAX_LENGTH sets) events in
     same_job number _ _ rs qs e f same run other
 
--- a file that is told, where it was read
-once_read : (told : Option (List ℕ)) (rose : Type 0) (gives : List ℕ → ℕ → List ℕ → Type 0) → IsSome told → ((file : List ℕ) → Once (gives file)) → Once (Reads told rose gives)
-once_read None rose gives some once c d s t p q g h = absurd cc
-once_read (Some f) rose gives some once c d s t p q (unread r) h = absurd (p refl)
-once_read (Some f) rose gives some once c d s t p q (fetched x c' s' is_x g) (unread r) = absurd (q refl)
-once_read (Some f) rose gives some once c d s t p q (fetched x c' s' is_x g) (fetched y d' t' is_y h) = once_both gives once x y (is_x ∙ sym is_y) c d s t p q g h
+once_task : (task : Task) → Sound task → Once (TaskGives task)
+once_task (Runs pairs plan sets (ToLength limit traced)) h = once_run sets limit traced pairs plan
+once_task (Runs pairs plan sets (ByCommands commands)) h = once_script sets pairs plan.events commands
+once_task (Assembles format image) h = once_asm format image
+once_task (Lists pairs) h = once_dis pairs
+once_task (Generates number sets) h = once_job number sets
+once_task (Tunes pairs a n) h = once_tune a n pairs (accepted_bytes h.0 pairs h.1)
+
+-- ---- files that are told are read or refused, not both, and for one value or one refusal
+
+same_file : (told : Option (List ℕ)) (x y : List ℕ) → IsSome told → IsFile told x → IsFile told y → x ≡ y
+same_file None x y some h g = absurd cc
+same_file (Some file) x y some h g = h ∙ sym g
 
 module _ (told : List ℕ → Option (List ℕ)) (rose : List ℕ → Type 0) where
-  once_driven : (driver : Driver) (sets : Option ℕ) (pairs : List (ℕ × ℕ)) (plan : Contents) → AllTold told (names (driver_files driver)) → Once (DriverGives told rose driver sets pairs plan)
-  once_driven (ByLength limit traced) sets pairs plan known = once_run sets limit traced pairs plan
-  once_driven (ByScript script) sets pairs plan known =
-      once_read (told script) (rose script) _ known.0 (once_kind Script (ScriptGives sets pairs plan.events) (λ file commands good. once_script sets pairs plan.events commands))
+  once_read : (f : File) → IsSome (told f.name) → (v w : Value f.kind) → IsRead told f v → IsRead told f w → v ≡ w
+  once_read f some v w h g =
+      let same = same_file (told f.name) h.bytes g.bytes some h.is_file g.is_file in
+      one_value f.kind h.bytes v w h.accepted.says (rw same g.accepted.says)
 
-  once_plan : (schedule : Option (List ℕ)) (driver : Driver) (sets : Option ℕ) (pairs : List (ℕ × ℕ)) → AllTold told (names (planned_files schedule (driver_files driver)))
-      → Once (PlanGives told rose schedule (DriverGives told rose driver sets pairs))
-  once_plan None driver sets pairs known = once_driven driver sets pairs no_schedule known
-  once_plan (Some name) driver sets pairs known =
-      once_read (told name) (rose name) _ known.0
-      (once_kind Schedule (DriverGives told rose driver sets pairs) (λ file plan good. once_driven driver sets pairs plan known.1))
+  once_refused : (f : File) → IsSome (told f.name) → (r q : Refusal) → r ≢ Unread → q ≢ Unread → Refuses told rose f r → Refuses told rose f q → r ≡ q
+  once_refused f some _ q x y (unread h) g = absurd (x refl)
+  once_refused f some r _ x y h (unread g) = absurd (y refl)
+  once_refused f some _ _ x y (too_long b is long) (too_long c is' long') = refl
+  once_refused f some _ _ x y (too_long b is long) (faulty c fault is' short bad) = let same = ap length (same_file (told f.name) b c some is is') in absurd (omega (arith, same, long, short))
+  once_refused f some _ _ x y (faulty b fault is short bad) (too_long c is' long) = let same = ap length (same_file (told f.name) b c some is is') in absurd (omega (arith, same, long, short))
+  once_refused f some _ _ x y (faulty b fault is short bad) (faulty c other is' short' bad') =
+      let same = same_file (told f.name) b c some is is' in
+      ap (Faulty f.kind) (one_fault f.kind b fault other bad (rw same bad'))
+
+  never_both : (f : File) → IsSome (told f.name) → (v : Value f.kind) (r : Refusal) → r ≢ Unread → IsRead told f v → ¬ Refuses told rose f r
+  never_both f some v _ x h (unread g) = x refl
+  never_both f some v _ x h (too_long b is long) =
+      let same = ap length (same_file (told f.name) h.bytes b some h.is_file is) in
+      let short = h.accepted.short in
+      omega (arith, same, long, short)
+  never_both f some v _ x h (faulty b fault is short bad) =
+      let same = same_file (told f.name) h.bytes b some h.is_file is in
+      apart f.kind h.bytes v fault h.accepted.says (rw same bad)
+
+  once_inputs : (files : List File) → AllTold told (names files) → (said other : Inputs files) → AreRead told files said → AreRead told files other → said ≡ other
+  once_inputs [] known said other h g = refl
+  once_inputs (f ∷ files) known said other h g =
+      let first = once_read f known.0 said.0 other.0 h.0 g.0 in
+      let rest = once_inputs files known.1 said.1 other.1 h.1 g.1 in
+      ap (λ (v : Value f.kind). (v, said.1)) first ∙ ap (λ (w : Inputs files). (other.0, w)) rest
+
+  once_first : (files : List File) → AllTold told (names files) → (r q : Refusal) → r ≢ Unread → q ≢ Unread → FirstRefusal told rose files r → FirstRefusal told rose files q → r ≡ q
+  once_first [] known r q x y h g = absurd h
+  once_first (f ∷ files) known r q x y (inl h) (inl g) = once_refused f known.0 r q x y h g
+  once_first (f ∷ files) known r q x y (inl h) (inr g) = absurd (never_both f known.0 g.0 r x g.1 h)
+  once_first (f ∷ files) known r q x y (inr h) (inl g) = absurd (never_both f known.0 h.0 q y h.1 g)
+  once_first (f ∷ files) known r q x y (inr h) (inr g) = once_first files known.1 r q x y h.2 g.2
+
+  none_refused : (files : List File) → AllTold told (names files) → (said : Inputs files) (r : Refusal) → r ≢ Unread → AreRead told files said → ¬ FirstRefusal told rose files r
+  none_refused [] known said r x h g = g
+  none_refused (f ∷ files) known said r x h (inl g) = never_both f known.0 said.0 r x h.0 g
+  none_refused (f ∷ files) known said r x h (inr g) = none_refused files known.1 said.1 r x h.1 g.2
+
+  -- 5 is the status of a file that was not read
+  other_code : (r : Refusal) → refusal_code r ≢ 5 → r ≢ Unread
+  other_code r other e = other (ap refusal_code e)
 
   once_command : (command : Command) → AllTold told (names (files_of command)) → Once (CommandGives told rose command)
-  once_command (Run image schedule sets driver) known =
-      once_read (told image) (rose image) _ known.0 (once_kind Image _ (λ file pairs good. once_plan schedule driver sets pairs known.1))
-  once_command (Asm format source) known = once_read (told source) (rose source) _ known.0 (once_kind Source (AsmGives format) (λ file image good. once_asm format image))
-  once_command (Dis image) known = once_read (told image) (rose image) _ known.0 (once_kind Image DisGives (λ file pairs good. once_dis pairs))
-  once_command (Gen number sets) known = once_job number sets
-  once_command (Tune image a n) known = once_read (told image) (rose image) _ known.0 (once_kind Image (TuneGives a n) (once_tune a n))
+  once_command command known c d s t p q (refused r h) (refused u g) =
+      let same = once_first (files_of command) known r u (other_code r p) (other_code u q) h g in
+      record { status = ap refusal_code same; text = ap refusal_line same }
+  once_command command known c d s t p q (refused r h) (done said d' t' read g) = absurd (none_refused (files_of command) known said r (other_code r p) read h)
+  once_command command known c d s t p q (done said c' s' read h) (refused r g) = absurd (none_refused (files_of command) known said r (other_code r q) read g)
+  once_command command known c d s t p q (done said c' s' read h) (done other d' t' read' g) =
+      let same = once_inputs (files_of command) known said other read read' in
+      once_task (task_of command said) (sound_task told command said read) c d s t p q h (subst (λ (x : Inputs (files_of command)). TaskGives (task_of command x) d t) (sym same) g)
 
   pub one_outcome : (asked : Option Command) → AllTold told (names_of asked) → Once (Gives told rose asked)
   one_outcome None known c d s t p q in_no_form in_no_form = record { status = refl; text = refl }
@@ -183,23 +212,20 @@ other_sets sets others limit traced ps plan code text counted (runs rs e run) =
     (runs rs e (other_run ps plan.events limit sets others rs e counted run))
 
 -- by a schedule by counts
-counted_plan : (told : List ℕ → Option (List ℕ)) (rose : List ℕ → Type 0) (schedule : Option (List ℕ)) (run wider : Contents → ℕ → List ℕ → Type 0) → IsCountedSchedule told schedule
-    → ((plan : Contents) → IsByCounts plan.events → (c : ℕ) (t : List ℕ) → run plan c t → wider plan c t)
-    → (c : ℕ) (t : List ℕ) → PlanGives told rose schedule run c t → PlanGives told rose schedule wider c t
-counted_plan told rose None run wider counted more c t g = more no_schedule tt c t g
-counted_plan told rose (Some name) run wider counted more c t (unread r) = unread r
-counted_plan told rose (Some name) run wider counted more c t (fetched f d s is_file (too_long long)) = fetched f c t is_file (too_long long)
-counted_plan told rose (Some name) run wider counted more c t (fetched f d s is_file (refused fault short bad)) = fetched f c t is_file (refused fault short bad)
-counted_plan told rose (Some name) run wider counted more c t (fetched f d s is_file (accepted plan e u good g)) =
-    fetched f c t is_file (accepted plan c t good (more plan (counted f plan is_file good.says) c t g))
+module _ (told : List ℕ → Option (List ℕ)) (rose : List ℕ → Type 0) where
+  counted_sets : (image : List ℕ) (schedule : Option (List ℕ)) (sets others : Option ℕ) (limit : ℕ) (traced : Option Range) (said : Inputs (files_of (Run image schedule sets (ByLength limit traced))))
+      (code : ℕ) (text : List ℕ) → IsCountedSchedule told schedule → AreRead told (files_of (Run image schedule sets (ByLength limit traced))) said
+      → TaskGives (task_of (Run image schedule sets (ByLength limit traced)) said) code text → TaskGives (task_of (Run image schedule others (ByLength limit traced)) said) code text
+  counted_sets image None sets others limit traced said code text counted read g = other_sets sets others limit traced said.0 no_schedule code text tt g
+  counted_sets image (Some name) sets others limit traced said code text counted read g =
+      other_sets sets others limit traced said.0 said.1.0 code text (counted read.1.0.bytes said.1.0 read.1.0.is_file read.1.0.accepted.says) g
 
-pub same_in_sets : (told : List ℕ → Option (List ℕ)) (rose : List ℕ → Type 0) (image : List ℕ) (schedule : Option (List ℕ)) (sets others : Option ℕ) (limit code : ℕ) (traced : Option Range) (text : List ℕ) → IsCountedSchedule told schedule
-    → Gives told rose (Some (Run image schedule sets (ByLength limit traced))) code text → Gives told rose (Some (Run image schedule others (ByLength limit traced))) code text
-same_in_sets told rose image schedule sets others limit code traced text counted (in_form c n t g) =
-    let plan = λ (pairs : List (ℕ × ℕ)). counted_plan told rose schedule (RunGives sets limit traced pairs) (RunGives others limit traced pairs) counted
-    (λ plan by_counts c t g. other_sets sets others limit traced pairs plan c t by_counts g) in
-    in_form (Run image schedule others (ByLength limit traced)) code text
-    (reads_wider (told image) (told image) (rose image) (rose image) _ _ (λ f is_file. is_file) (λ r. r) (kind_wider Image _ _ plan) code text g)
+  pub same_in_sets : (image : List ℕ) (schedule : Option (List ℕ)) (sets others : Option ℕ) (limit code : ℕ) (traced : Option Range) (text : List ℕ) → IsCountedSchedule told schedule
+      → Gives told rose (Some (Run image schedule sets (ByLength limit traced))) code text → Gives told rose (Some (Run image schedule others (ByLength limit traced))) code text
+  same_in_sets image schedule sets others limit code traced text counted (in_form _ _ _ (refused r h)) = in_form (Run image schedule others (ByLength limit traced)) code text (refused r h)
+  same_in_sets image schedule sets others limit code traced text counted (in_form _ _ _ (done said _ _ read g)) =
+      in_form (Run image schedule others (ByLength limit traced)) code text
+      (done said code text read (counted_sets image schedule sets others limit traced said code text counted read g))
 
 other_job : (number : ℕ) (sets others : Option ℕ) (code : ℕ) (text : List ℕ) → GenGives number sets code text → GenGives number others code text
 other_job number sets others code text (job_runs i plan rs e made says run) =
@@ -211,5 +237,6 @@ other_job number sets others code text (job_runs i plan rs e made says run) =
 
 pub job_same_in_sets : (told : List ℕ → Option (List ℕ)) (rose : List ℕ → Type 0) (number : ℕ) (sets others : Option ℕ) (code : ℕ) (text : List ℕ)
     → Gives told rose (Some (Gen number sets)) code text → Gives told rose (Some (Gen number others)) code text
-job_same_in_sets told rose number sets others code text (in_form c n t g) =
-    in_form (Gen number others) code text (other_job number sets others code text g)
+job_same_in_sets told rose number sets others code text (in_form _ _ _ (refused r h)) = absurd h
+job_same_in_sets told rose number sets others code text (in_form _ _ _ (done said _ _ read g)) =
+    in_form (Gen number others) code text (done said code text read (other_job number sets others code text g))

@@ -1,5 +1,5 @@
 -- What the command answers for its files, and for the words.
-use Rattle.std.proofs.Common.{◌≡◌, ℕ, ◌<◌, ◌≤◌, ◌⊎◌, inl, inr, List, [], ◌++◌, length, Option, Some, None, Result, Ok, Err, refl, sym, ap, ◌∙◌, subst, arith}
+use Rattle.std.proofs.Common.{◌≡◌, ℕ, ◌<◌, ◌≤◌, ◌⊎◌, inl, inr, List, [], ◌∷◌, ◌++◌, length, Option, Some, None, Result, Ok, Err, IfOk, refl, sym, ap, ◌∙◌, subst, arith}
 use Rattle.std.proofs.lemmas.List.Elements.{recursion_from_All}
 use Rattle.i9_text.specs.Text.{lines_of}
 use Rattle.i9_model.specs.ScheduleText.{first_version, Contents, IsSchedule}
@@ -29,7 +29,7 @@ use Rattle.i9_outside.specs.declared.traits.TheConstants.{FILE_LIMIT}
 use Rattle.i9_outside.specs.Traits.{IsFile}
 use Rattle.i9_debug.specs.declared.print.Printed.{Printed}
 use Rattle.i9_debug.specs.declared.sessions.SessionEnd.{SessionEnd}
-use Rattle.i9_debug.specs.Lines.{refused_line, generated_line}
+use Rattle.i9_debug.specs.Lines.{generated_line}
 use Rattle.i9_debug.specs.Print.{Account, Prints}
 use Rattle.i9_debug.specs.Session.{at, end_at}
 use Rattle.i9_debug.specs.Driven.{RunsScript, printed_of as session_printed}
@@ -38,22 +38,25 @@ use Rattle.i9_debug.proofs.Commands.{start_place, script_leads}
 use Rattle.i9_machine.specs.declared.machine.Machine.{Machine}
 use Rattle.i9_schedule.specs.Plan.{Plan}
 use Rattle.i9_generator.specs.Generator.{generated_source, generated_schedule}
-use Rattle.i9_tool.specs.declared.files.FileKind.{FileKind}
-use Rattle.i9_tool.specs.declared.files.FileKind.TheVariants.{Image, Schedule, Source, Script}
+use Rattle.i9_tool.specs.declared.refusal.FileKind.TheVariants.{Image}
 use Rattle.i9_tool.specs.declared.run.Counted.{Counted}
 use Rattle.i9_tool.specs.declared.run.Ran.{Ran}
 use Rattle.i9_tool.specs.declared.words.Format.{Format}
 use Rattle.i9_tool.specs.declared.words.Format.TheVariants.{Hex, Elf}
 use Rattle.i9_tool.specs.declared.words.Range.{Range}
-use Rattle.i9_tool.specs.CommandLine.{Command, Run, Asm, Dis, Gen, Tune, Driver, ByLength, ByScript, words_line, read_line, segments_line, long_line}
-use Rattle.i9_tool.specs.FileKinds.{Value, AreBytes, FaultOf, IsFaulty, IsAccepted, word_of, fault_line, refusal_of}
+use Rattle.i9_tool.specs.CommandLine.{Command, Run, Asm, Dis, Gen, Tune, Driver, ByLength, ByScript, driver_files, files_of, words_line, segments_line}
+use Rattle.i9_tool.specs.FileKinds.{File, Value, AreBytes, IsAccepted, IsRead}
+use Rattle.i9_tool.specs.Refusals.{Refusal, TooLong, Faulty, refusal_line, refusal_code, Refuses, too_long, faulty, FirstRefusal}
+use Rattle.i9_tool.specs.Inputs.{Inputs, AreRead, Drive, ToLength, ByCommands, Task, Runs, Assembles, Lists, Generates, Tunes, no_schedule, drive_of, task_of, IsTaskOf}
+use Rattle.i9_tool.specs.declared.made.Made.{Made}
+use Rattle.i9_tool.specs.Values.{made_code, made_text, IsMade, PrintsMade}
 use Rattle.i9_tool.specs.Traced.{headed_text}
 use Rattle.i9_tool.specs.Run.{RunsHeaded, Counts, printed_of}
 use Rattle.i9_job.specs.Accepted.{HasAssembly, HasPlan}
 use Rattle.i9_job.proofs.MadeSource.{made_source}
 use Rattle.i9_job.proofs.MadeSchedule.{made_schedule}
-use Rattle.i9_tool.specs.Outcome.{no_schedule, Reads, unread, fetched, FileGives, too_long, refused, accepted, RunGives, runs, driven_code, ScriptGives, drives, AsmGives, as_hex, as_elf, too_many_runs, DisGives, TuneGives, no_block, tuned, GenGives, job_runs, job_line, DriverGives, PlanGives, CommandGives, Gives, in_no_form, in_form, Answers, code_for, Only, MissGives, missed_unread, missed_long, AnswersMiss}
-use Rattle.i9_tool.proofs.Wider.{kind_wider, driver_wider, plan_wider}
+use Rattle.i9_tool.specs.Outcome.{RunGives, runs, driven_code, ScriptGives, drives, AsmGives, as_hex, as_elf, too_many_runs, TuneGives, no_block, tuned, GenGives, job_runs, job_line, TaskGives, CommandGives, refused, done, Gives, in_no_form, in_form, Answers, code_for, Only, SomeFor, AnswersSome}
+use Rattle.i9_tool.proofs.Refusals.{known_refusal}
 use Rattle.i9_tool.proofs.Answering.{answers_printed, answers_nothing, answers_wider}
 use Rattle.i9_tool.proofs.AssembledBytes.{assembled_bytes}
 use Rattle.i9_tool.proofs.FileAnswers.{some_answer}
@@ -73,19 +76,7 @@ known_driven : (end : Option End) → driven_code end < 6
 known_driven None = omega arith
 known_driven (Some f) = known_finish f
 
-known_refusal : (kind : FileKind) → refusal_of kind < 6
-known_refusal Image = omega arith
-known_refusal Schedule = omega arith
-known_refusal Source = omega arith
-known_refusal Script = omega arith
-
--- ---- some status and text for each file
-
-sized : (n : ℕ) → (n ≤ FILE_LIMIT) ⊎ (FILE_LIMIT < n)
-sized n = grind arith
-
-abbrev pub SomeFor : (ℕ → List ℕ → Type 0) → Type 0
-SomeFor gives = (code : ℕ) × (text : List ℕ) × gives code text
+-- ---- some status and text
 
 pub some_run : (sets : Option ℕ) (limit : ℕ) (traced : Option Range) (pairs : List (ℕ × ℕ)) (plan : Contents) → SomeFor (RunGives sets limit traced pairs plan)
 some_run sets limit traced pairs plan =
@@ -102,43 +93,13 @@ some_commands sets pairs events commands limits =
     let leads = script_leads g commands (at [] 1) ranges (start_place g) in
     (driven_code (end_at leads.1), leads.0, drives leads.0 leads.1 leads.2)
 
-pub some_script : (sets : Option ℕ) (pairs : List (ℕ × ℕ)) (events : List Timed) (file : List ℕ) (commands : List ScriptCommand) → IsAccepted Script file commands
-    → SomeFor (ScriptGives sets pairs events commands)
-some_script sets pairs events file commands good = some_commands sets pairs events commands (script_in_limits (lines_of file) commands good.says)
-
 -- a file that may be the one that is told
 some_file : (told : Option (List ℕ)) → (file : List ℕ) × IsFile told file
 some_file None = ([], tt)
 some_file (Some file) = (file, refl)
 
-pub some_read : (told : Option (List ℕ)) (rose : Type 0) (gives : List ℕ → ℕ → List ℕ → Type 0) → ((file : List ℕ) → SomeFor (gives file)) → SomeFor (Reads told rose gives)
-some_read told rose gives some =
-    let f = some_file told in
-    let s = some f.0 in
-    (s.0, s.1, fetched f.0 s.0 s.1 f.1 s.2)
-
-short_kind : (kind : FileKind) (after : Value kind → ℕ → List ℕ → Type 0) (file : List ℕ) → ((value : Value kind) → IsAccepted kind file value → SomeFor (after value)) → length file ≤ FILE_LIMIT → SomeFor (FileGives kind after file)
-short_kind kind after file some short =
-    elim (some_answer kind file) [
-      | inl says ↦
-          let good : IsAccepted kind file says.0 = record { short = short; says = says.1 } in
-          let s = some says.0 good in
-          (s.0, s.1, accepted says.0 s.0 s.1 good s.2)
-      | inr bad ↦ (refusal_of kind, fault_line kind bad.0, refused bad.0 short bad.1)
-    ]
-
-pub some_kind : (kind : FileKind) (after : Value kind → ℕ → List ℕ → Type 0) (file : List ℕ) → ((value : Value kind) → IsAccepted kind file value → SomeFor (after value)) → SomeFor (FileGives kind after file)
-some_kind kind after file some =
-    elim (sized (length file)) [
-      | inl short ↦ short_kind kind after file some short
-      | inr long ↦ (refusal_of kind, long_line (word_of kind), too_long long)
-    ]
-
-pub some_dis : (file : List ℕ) (pairs : List (ℕ × ℕ)) → IsAccepted Image file pairs → SomeFor (DisGives pairs)
-some_dis file pairs good = let s = some_listed file pairs good in (0, s.0, s.1)
-
-pub some_list : (file : List ℕ) → SomeFor (FileGives Image DisGives file)
-some_list file = some_kind Image DisGives file (some_dis file)
+sized : (n : ℕ) → (n ≤ FILE_LIMIT) ⊎ (FILE_LIMIT < n)
+sized n = grind arith
 
 -- a block of an accepted image may be tuned, or has a first fault
 some_block : (a n : ℕ) (file : List ℕ) (pairs : List (ℕ × ℕ)) (r : Result (List Inst) BlockFault) → IsAccepted Image file pairs → block_at (last_put pairs) n a ≡ r → SomeFor (TuneGives a n pairs)
@@ -149,9 +110,6 @@ some_block a n file pairs (Ok block) good e =
 
 pub some_tune : (a n : ℕ) (file : List ℕ) (pairs : List (ℕ × ℕ)) → IsAccepted Image file pairs → SomeFor (TuneGives a n pairs)
 some_tune a n file pairs good = some_block a n file pairs (block_at (last_put pairs) n a) good refl
-
-pub some_tuned : (a n : ℕ) (file : List ℕ) → SomeFor (FileGives Image (TuneGives a n) file)
-some_tuned a n file = some_kind Image (TuneGives a n) file (some_tune a n file)
 
 pub some_hex : (image : List Part) → SomeFor (AsmGives Hex image)
 some_hex image = (0, hex_text image, as_hex image)
@@ -168,13 +126,6 @@ some_elf image low =
       | inr many ↦ (3, segments_line, too_many_runs image runs.0 runs.1 many)
     ]
 
-some_asm : (format : Format) (file : List ℕ) (image : List Part) → IsAccepted Source file image → SomeFor (AsmGives format image)
-some_asm Hex file image good = some_hex image
-some_asm Elf file image good = some_elf image (assembled_bytes (lines_of file) image good.says)
-
-pub some_source : (format : Format) (file : List ℕ) → SomeFor (FileGives Source (AsmGives format) file)
-some_source format file = some_kind Source (AsmGives format) file (some_asm format file)
-
 -- a made job is accepted, and its run comes to an end
 pub some_job : (number : ℕ) (sets : Option ℕ) → SomeFor (GenGives number sets)
 some_job number sets =
@@ -185,31 +136,72 @@ some_job number sets =
     let records = later.0 ++ [] in
     (end_code later.1.end, job_line number g records later.1, job_runs source.image (record { version = first_version; events = schedule.events }) records later.1 source.assembled schedule.said later.2)
 
-module _ (told : List ℕ → Option (List ℕ)) (rose : List ℕ → Type 0) where
-  pub some_driven : (driver : Driver) (sets : Option ℕ) (pairs : List (ℕ × ℕ)) (plan : Contents) → SomeFor (DriverGives told rose driver sets pairs plan)
-  some_driven (ByLength limit traced) sets pairs plan = some_run sets limit traced pairs plan
-  some_driven (ByScript script) sets pairs plan =
-      some_read (told script) (rose script) _ (λ file. some_kind Script (ScriptGives sets pairs plan.events) file (some_script sets pairs plan.events file))
+-- what is to be done comes of accepted files
+abbrev pub Sound : Task → Type 0
+Sound (Runs pairs plan sets (ToLength limit traced)) = Unit {0}
+Sound (Runs pairs plan sets (ByCommands commands)) = IsInLimits commands
+Sound (Assembles format image) = AreBytes (pairs_of image)
+Sound (Lists pairs) = (file : List ℕ) × IsAccepted Image file pairs
+Sound (Generates number sets) = Unit {0}
+Sound (Tunes pairs a n) = (file : List ℕ) × IsAccepted Image file pairs
 
-  pub some_planned : (schedule : Option (List ℕ)) (run : Contents → ℕ → List ℕ → Type 0) → ((plan : Contents) → SomeFor (run plan)) → SomeFor (PlanGives told rose schedule run)
-  some_planned None run some = some no_schedule
-  some_planned (Some name) run some = some_read (told name) (rose name) _ (λ file. some_kind Schedule run file (λ plan good. some plan))
+some_task : (task : Task) → Sound task → SomeFor (TaskGives task)
+some_task (Runs pairs plan sets (ToLength limit traced)) h = some_run sets limit traced pairs plan
+some_task (Runs pairs plan sets (ByCommands commands)) h = some_commands sets pairs plan.events commands h
+some_task (Assembles Hex image) h = some_hex image
+some_task (Assembles Elf image) h = some_elf image h
+some_task (Lists pairs) h = let s = some_listed h.0 pairs h.1 in (0, s.0, s.1)
+some_task (Generates number sets) h = some_job number sets
+some_task (Tunes pairs a n) h = some_tune a n h.0 pairs h.1
 
-  pub some_imaged : (schedule : Option (List ℕ)) (driver : Driver) (sets : Option ℕ) (file : List ℕ)
-      → SomeFor (FileGives Image (λ pairs. PlanGives told rose schedule (DriverGives told rose driver sets pairs)) file)
-  some_imaged schedule driver sets file =
-      some_kind Image _ file (λ pairs good. some_planned schedule (DriverGives told rose driver sets pairs) (some_driven driver sets pairs))
+module _ (told : List ℕ → Option (List ℕ)) where
+  sound_drive : (driver : Driver) (sets : Option ℕ) (pairs : List (ℕ × ℕ)) (plan : Contents) (said : Inputs (driver_files driver)) → AreRead told (driver_files driver) said
+      → Sound (Runs pairs plan sets (drive_of driver said))
+  sound_drive (ByLength limit traced) sets pairs plan said read = tt
+  sound_drive (ByScript script) sets pairs plan said read = script_in_limits (lines_of read.0.bytes) said.0 read.0.accepted.says
 
-  pub some_command : (c : Command) → SomeFor (CommandGives told rose c)
-  some_command (Run image schedule sets driver) = some_read (told image) (rose image) _ (some_imaged schedule driver sets)
-  some_command (Asm format source) = some_read (told source) (rose source) _ (some_source format)
-  some_command (Dis image) = some_read (told image) (rose image) _ some_list
-  some_command (Gen number sets) = some_job number sets
-  some_command (Tune image a n) = some_read (told image) (rose image) _ (some_tuned a n)
+  pub sound_task : (c : Command) (said : Inputs (files_of c)) → AreRead told (files_of c) said → Sound (task_of c said)
+  sound_task (Run image None sets driver) said read = sound_drive driver sets said.0 no_schedule said.1 read.1
+  sound_task (Run image (Some name) sets driver) said read = sound_drive driver sets said.0 said.1.0 said.1.1 read.1.1
+  sound_task (Asm format source) said read = assembled_bytes (lines_of read.0.bytes) said.0 read.0.accepted.says
+  sound_task (Dis image) said read = (read.0.bytes, read.0.accepted)
+  sound_task (Gen number sets) said read = tt
+  sound_task (Tune image a n) said read = (read.0.bytes, read.0.accepted)
 
-  pub some_outcome : (asked : Option Command) → SomeFor (Gives told rose asked)
-  some_outcome None = (1, words_line, in_no_form)
-  some_outcome (Some c) = let s = some_command c in (s.0, s.1, in_form c s.0 s.1 s.2)
+  module _ (rose : List ℕ → Type 0) where
+    -- a file is read or refused, and so are files
+    some_short : (file : File) (bytes : List ℕ) → IsFile (told file.name) bytes → length bytes ≤ FILE_LIMIT
+        → ((value : Value file.kind) × IsRead told file value) ⊎ ((r : Refusal) × Refuses told rose file r)
+    some_short file bytes is short = elim (some_answer file.kind bytes) [
+      | inl says ↦ inl (says.0, record { bytes = bytes; is_file = is; accepted = record { short = short; says = says.1 } })
+      | inr bad ↦ inr (Faulty file.kind bad.0, faulty bytes bad.0 is short bad.1)
+    ]
+
+    some_answer_of : (file : File) → ((value : Value file.kind) × IsRead told file value) ⊎ ((r : Refusal) × Refuses told rose file r)
+    some_answer_of file = let f = some_file (told file.name) in elim (sized (length f.0)) [
+      | inl short ↦ some_short file f.0 f.1 short
+      | inr long ↦ inr (TooLong file.kind, too_long f.0 f.1 long)
+    ]
+
+    some_inputs : (files : List File) → ((said : Inputs files) × AreRead told files said) ⊎ ((r : Refusal) × FirstRefusal told rose files r)
+    some_inputs [] = inl (tt, tt)
+    some_inputs (f ∷ files) = elim (some_answer_of f) [
+      | inl one ↦ elim (some_inputs files) [
+        | inl all ↦ inl ((one.0, all.0), (one.1, all.1))
+        | inr bad ↦ inr (bad.0, inr (one.0, one.1, bad.1))
+      ]
+      | inr bad ↦ inr (bad.0, inl bad.1)
+    ]
+
+    pub some_command : (c : Command) → SomeFor (CommandGives told rose c)
+    some_command c = elim (some_inputs (files_of c)) [
+      | inl all ↦ let s = some_task (task_of c all.0) (sound_task c all.0 all.1) in (s.0, s.1, done all.0 s.0 s.1 all.1 s.2)
+      | inr bad ↦ (refusal_code bad.0, refusal_line bad.0, refused bad.0 bad.1)
+    ]
+
+    pub some_outcome : (asked : Option Command) → SomeFor (Gives told rose asked)
+    some_outcome None = (1, words_line, in_no_form)
+    some_outcome (Some c) = let s = some_command c in (s.0, s.1, in_form c s.0 s.1 s.2)
 
 -- ---- what is answered
 
@@ -259,68 +251,25 @@ module _ {K : Type 0} (k : Account K) where
       (job_runs image plan c.records c.finish made says c.run) same printed (e ∙ ap (λ (x : End). code_for p (end_code x)) c.end)
 
   -- the line of a refusal was printed
-  pub answers_refusal : (kind : FileKind) (fault : ℕ × ℕ) (p : Printed) (status code : ℕ) (word : List ℕ) (a b : K) → word ≡ word_of kind → code ≡ refusal_of kind
-      → Prints p k a b (refused_line word fault) → status ≡ code_for p code → Answers (Only (refusal_of kind) (refused_line (word_of kind) fault)) status k a b
-  answers_refusal kind fault p status code word a b same is printed e =
-      answers_line (Only (refusal_of kind) (refused_line (word_of kind) fault)) p (refusal_of kind) status (refused_line word fault) (refused_line (word_of kind) fault) a b (known_refusal kind) (refl, refl)
-      (ap (λ (w : List ℕ). refused_line w fault) same) printed (e ∙ ap (code_for p) is)
+  pub answers_refusal : (r : Refusal) (p : Printed) (status code : ℕ) (a b : K) → Prints p k a b (refusal_line r) → code ≡ refusal_code r → status ≡ code_for p code
+      → Answers (Only (refusal_code r) (refusal_line r)) status k a b
+  answers_refusal r p status code a b printed is e =
+      answers_with (Only (refusal_code r) (refusal_line r)) p (refusal_code r) status (refusal_line r) a b (known_refusal r) (refl, refl) printed (e ∙ ap (code_for p) is)
 
   -- the one status and text are also given in another way
   pub answers_only : (gives : ℕ → List ℕ → Type 0) (code status : ℕ) (text : List ℕ) (a b : K) → gives code text → Answers (Only code text) status k a b → Answers gives status k a b
   answers_only gives code status text a b is_given h =
       answers_wider k (Only code text) gives status a b (λ c t e. subst (λ (n : ℕ). gives n t) (sym e.0) (subst (λ (x : List ℕ). gives code x) (sym e.1) is_given)) h
 
-  module _ (kind : FileKind) (after : Value kind → ℕ → List ℕ → Type 0) (file : List ℕ) where
-    -- a file is accepted
-    pub file_accepted : (value : Value kind) (code : ℕ) (a b : K) → IsAccepted kind file value → Answers (after value) code k a b → Answers (FileGives kind after file) code k a b
-    file_accepted value code a b good h = answers_wider k (after value) (FileGives kind after file) code a b (λ c t g. accepted value c t good g) h
+  -- a run is the same with the same schedule
+  pub same_plan : (pairs : List (ℕ × ℕ)) (x y : Contents) (sets : Option ℕ) (drive : Drive) (code : ℕ) (a b : K) → x ≡ y
+      → AnswersSome (TaskGives (Runs pairs x sets drive)) code k a b → AnswersSome (TaskGives (Runs pairs y sets drive)) code k a b
+  same_plan pairs x y sets drive code a b same h = subst (λ (c : Contents). AnswersSome (TaskGives (Runs pairs c sets drive)) code k a b) same h
 
-    -- a file is refused
-    pub file_refused : (fault : FaultOf kind) (code : ℕ) (a b : K) → length file ≤ FILE_LIMIT → IsFaulty kind file fault
-        → Answers (Only (refusal_of kind) (fault_line kind fault)) code k a b → Answers (FileGives kind after file) code k a b
-    file_refused fault code a b short bad h = answers_only (FileGives kind after file) (refusal_of kind) code (fault_line kind fault) a b (refused fault short bad) h
-
-  -- what is answered for a file that was fetched
-  pub file_fetched : (told : Option (List ℕ)) (rose : Type 0) (gives : List ℕ → ℕ → List ℕ → Type 0) (file bytes : List ℕ) (code : ℕ) (a mid b : K) → IsFile told file → bytes ≡ file
-      → mid ≡ a → Answers (gives bytes) code k mid b → Answers (Reads told rose gives) code k a b
-  file_fetched told rose gives file bytes code a mid b is_file same there h =
-      let found : IsFile told bytes = subst (IsFile told) (sym same) is_file in
-      subst (λ (x : K). Answers (Reads told rose gives) code k x b) there (answers_wider k (gives bytes) (Reads told rose gives) code mid b (λ c t g. fetched bytes c t found g) h)
-
-  miss_given : (kind : FileKind) (told : Option (List ℕ)) (rose : Type 0) (after : Value kind → ℕ → List ℕ → Type 0) (c : ℕ) (t : List ℕ)
-      → MissGives kind told rose c t → Reads told rose (FileGives kind after) c t
-  miss_given kind told rose after c t (missed_unread r) = unread r
-  miss_given kind told rose after c t (missed_long file is_file long) = fetched file c t is_file (too_long long)
-
-  -- and for one that wasn't
-  pub file_missed : (kind : FileKind) (told : Option (List ℕ)) (rose : Type 0) (after : Value kind → ℕ → List ℕ → Type 0) (code : ℕ) (a b : K)
-      → SomeFor (Reads told rose (FileGives kind after)) → AnswersMiss kind told rose code k a b → Answers (Reads told rose (FileGives kind after)) code k a b
-  file_missed kind told rose after code a b some (inl h) =
-      answers_wider k (MissGives kind told rose) (Reads told rose (FileGives kind after)) code a b (miss_given kind told rose after) h
-  file_missed kind told rose after code a b some (inr none) =
-      let gives = Reads told rose (FileGives kind after) in
-      subst (λ (n : ℕ). Answers gives n k a b) (sym none.0) (subst (λ (x : K). Answers gives 7 k a x) (sym none.1) (answers_unprinted gives a some))
-
-  -- the same by the files that are told, and the counts that rise, in a longer call
-  module _ (told other : List ℕ → Option (List ℕ)) (rose risen : List ℕ → Type 0) (same : (n : List ℕ) → other n ≡ told n) (rises : (n : List ℕ) → rose n → risen n)
-      (driver : Driver) (sets : Option ℕ) (file : List ℕ) (code : ℕ) (a b : K) where
-    found : (n f : List ℕ) → IsFile (other n) f → IsFile (told n) f
-    found n f is_file = subst (λ (o : Option (List ℕ)). IsFile o f) (same n) is_file
-
-    pub later_schedule : (pairs : List (ℕ × ℕ))
-        → Answers (FileGives Schedule (DriverGives other rose driver sets pairs) file) code k a b
-        → Answers (FileGives Schedule (DriverGives told risen driver sets pairs) file) code k a b
-    later_schedule pairs h =
-        answers_wider k _ _ code a b
-        (kind_wider Schedule (DriverGives other rose driver sets pairs) (DriverGives told risen driver sets pairs) (driver_wider other told rose risen found rises driver sets pairs) file) h
-
-    pub later_image : (schedule : Option (List ℕ))
-        → Answers (FileGives Image (λ pairs. PlanGives other rose schedule (DriverGives other rose driver sets pairs)) file) code k a b
-        → Answers (FileGives Image (λ pairs. PlanGives told risen schedule (DriverGives told risen driver sets pairs)) file) code k a b
-    later_image schedule h =
-        answers_wider k _ _ code a b
-        (kind_wider Image _ _ (λ pairs. plan_wider other told rose risen found rises schedule (DriverGives other rose driver sets pairs) (DriverGives told risen driver sets pairs)
-        (driver_wider other told rose risen found rises driver sets pairs)) file) h
+  -- what was made was printed
+  pub made_answers : (gives : ℕ → List ℕ → Type 0) {E : Type 0} (m : Result Made E) (code : ℕ) (a b : K) → IfOk m (IsMade gives) → PrintsMade m code k a b → AnswersSome gives code k a b
+  made_answers gives (Ok m) code a b is_given h some = answers_only gives (made_code m) code (made_text m) a b is_given h
+  made_answers gives (Err e) code a b is_given h some = rw h.0 (rw h.1 (answers_unprinted gives a some))
 
   module _ (told : List ℕ → Option (List ℕ)) (rose : List ℕ → Type 0) where
     -- what a command is answered, where the words ask for it
@@ -333,12 +282,14 @@ module _ {K : Type 0} (k : Account K) where
     words_refused asked p code a b none printed e =
         subst (λ (o : Option Command). Answers (Gives told rose o) code k a b) none (answers_with (Gives told rose None) p 1 code words_line a b (omega arith) in_no_form printed e)
 
--- the line of a file that was not read, or is too long, was printed
-module _ {K : Type 0} (k : Account K) (kind : FileKind) (told : Option (List ℕ)) (rose : Type 0) where
-  pub unread_answers : (p : Printed) (status : ℕ) (a b : K) → rose → Prints p k a b read_line → status ≡ code_for p 5 → AnswersMiss kind told rose status k a b
-  unread_answers p status a b r printed e = inl (answers_with k (MissGives kind told rose) p 5 status read_line a b (omega arith) (missed_unread r) printed e)
+    -- its files are read, and what it asks for is done
+    pub command_done : (c : Command) (task : Task) (code : ℕ) (a b : K) → IsTaskOf told c task → AnswersSome (TaskGives task) code k a b → Answers (CommandGives told rose c) code k a b
+    command_done c task code a b t h =
+        answers_wider k (TaskGives task) (CommandGives told rose c) code a b
+        (λ d text g. done t.said d text t.are_read (subst (λ (x : Task). TaskGives x d text) t.is g))
+        (h (some_task task (subst Sound (sym t.is) (sound_task told c t.said t.are_read))))
 
-  pub long_answers : (p : Printed) (status code : ℕ) (file line : List ℕ) (a b : K) → IsFile told file → FILE_LIMIT < length file → line ≡ long_line (word_of kind) → code ≡ refusal_of kind
-      → Prints p k a b line → status ≡ code_for p code → AnswersMiss kind told rose status k a b
-  long_answers p status code file line a b is_file long same is printed e =
-      inl (answers_line k (MissGives kind told rose) p (refusal_of kind) status line (long_line (word_of kind)) a b (known_refusal kind) (missed_long file is_file long) same printed (e ∙ ap (code_for p) is))
+    -- they are refused
+    pub command_refused : (c : Command) (r : Refusal) (code : ℕ) (a b : K) → FirstRefusal told rose (files_of c) r → Answers (Only (refusal_code r) (refusal_line r)) code k a b
+        → Answers (CommandGives told rose c) code k a b
+    command_refused c r code a b first h = answers_only (CommandGives told rose c) (refusal_code r) code (refusal_line r) a b (refused r first) h

@@ -1,5 +1,6 @@
 -- The words of the command, and the lines that answer what was refused.
-use Rattle.std.specs.Prelude.{ℕ, ◌%◌, Bool, ◌&&◌, ◌==◌, nat_le, if◌then◌else◌, List, [], ◌∷◌, ◌++◌, length, Option, Some, None, codes}
+use Rattle.std.specs.Prelude.{ℕ, ◌%◌, Bool, ◌&&◌, ◌==◌, nat_le, if◌then◌else◌}
+use Rattle.std.specs.Prelude.{List, [], ◌∷◌, ◌++◌, length, Option, Some, None, codes}
 use Rattle.std.specs.Option.{option_map}
 use Rattle.std.specs.Str.{bytes_eq}
 use Rattle.i9_text.specs.Text.{number_of}
@@ -7,20 +8,20 @@ use Rattle.i9_model.specs.declared.layout.TheConstants.{MAX_LENGTH, MOST_SETS}
 use Rattle.i9_tool.specs.declared.words.Format.{Format}
 use Rattle.i9_tool.specs.declared.words.Format.TheVariants as formats
 use Rattle.i9_tool.specs.declared.words.Range.{Range}
-use Rattle.i9_tool.specs.declared.files.FileKind.TheVariants.{Image, Schedule, Source, Script}
+use Rattle.i9_tool.specs.declared.refusal.FileKind.TheVariants.{Image, Schedule, Source, Script}
 use Rattle.i9_tool.specs.FileKinds.{File, file_of}
 
--- What drives a run: its length, of at most so many instructions, and then it is printed, and the instructions of a range
--- of addresses or none are traced; or the script of this name.
+-- What drives a run: its length, of at most so many instructions, and then it is printed, and the instructions of a
+-- range of addresses or none are traced; or the script of this name.
 pub data Driver : Type 0 where
   ByLength : (limit : ℕ) → (traced : Option Range) → Driver
   ByScript : (script : List ℕ) → Driver
 
--- What the words ask for: to run the image of this name, with the events of the schedule of this name or with none, with
--- so many sets or, where none are asked for, with those of the PRCB, as far as it is driven; to assemble the source of
--- this name and print its image in a format; to list the image of this name; to run, in so many sets, the job that is
--- made from a number; or to tune the block of so many instructions that stands in the image of this name from an address
--- on.
+-- What the words ask for: to run the image of this name, with the events of the schedule of this name or with none,
+-- with so many sets or, where none are asked for, with those of the PRCB, as far as it is driven; to assemble the
+-- source of this name and print its image in a format; to list the image of this name; to run, in so many sets, the job
+-- that is made from a number; or to tune the block of so many instructions that stands in the image of this name from
+-- an address on.
 pub data Command : Type 0 where
   Run : (image : List ℕ) → (schedule : Option (List ℕ)) → (sets : Option ℕ) → (driver : Driver) → Command
   Asm : (format : Format) → (source : List ℕ) → Command
@@ -28,19 +29,19 @@ pub data Command : Type 0 where
   Gen : (number : ℕ) → (sets : Option ℕ) → Command
   Tune : (image : List ℕ) → (address : ℕ) → (count : ℕ) → Command
 
+-- the file of a schedule, where one is named
+abbrev pub plan_files : Option (List ℕ) → List File
+plan_files None = []
+plan_files (Some name) = file_of Schedule name ∷ []
+
 -- the file of a script, where one drives a run
 abbrev pub driver_files : Driver → List File
 driver_files (ByLength limit traced) = []
 driver_files (ByScript script) = file_of Script script ∷ []
 
--- a schedule that may be named, before other files
-abbrev pub planned_files : Option (List ℕ) → List File → List File
-planned_files None files = files
-planned_files (Some name) files = file_of Schedule name ∷ files
-
 -- the files that a command names, in the order in which they are read
 abbrev pub files_of : Command → List File
-files_of (Run image schedule sets driver) = file_of Image image ∷ planned_files schedule (driver_files driver)
+files_of (Run image schedule sets driver) = file_of Image image ∷ plan_files schedule ++ driver_files driver
 files_of (Asm format source) = file_of Source source ∷ []
 files_of (Dis image) = file_of Image image ∷ []
 files_of (Gen number sets) = []
@@ -90,19 +91,23 @@ tracer_for limit None = None
 abbrev pub script_for : List ℕ → Option Driver
 script_for name = if length name == 0 then None else Some (ByScript name)
 
--- what drives a run, by the name of its form and its last words: `run LENGTH`, `debug SCRIPT`, or `trace LENGTH LOW HIGH`
+-- what drives a run, by the name of its form and its last words: `run LENGTH`, `debug SCRIPT`, or
+-- `trace LENGTH LOW HIGH`
 abbrev pub driver_for : List ℕ → List (List ℕ) → Option Driver
 driver_for name (word ∷ []) =
     if bytes_eq name (codes "run") then length_for (number_in 0 MAX_LENGTH word) None
     else if bytes_eq name (codes "debug") then script_for word
     else None
 driver_for name (limit ∷ low ∷ high ∷ []) =
-    if bytes_eq name (codes "trace") then tracer_for (number_in 0 MAX_LENGTH limit) (range_for (address_of low) (address_of high)) else None
+    if bytes_eq name (codes "trace")
+    then tracer_for (number_in 0 MAX_LENGTH limit) (range_for (address_of low) (address_of high))
+    else None
 driver_for name _ = None
 
 -- a run whose parts the words say, and whose image has a name that isn't empty
 abbrev pub run_for : List ℕ → Option (Option (List ℕ)) → Option (Option ℕ) → Option Driver → Option Command
-run_for image (Some schedule) (Some sets) (Some driver) = if length image == 0 then None else Some (Run image schedule sets driver)
+run_for image (Some schedule) (Some sets) (Some driver) =
+    if length image == 0 then None else Some (Run image schedule sets driver)
 run_for image None sets driver = None
 run_for image (Some schedule) None driver = None
 run_for image (Some schedule) (Some sets) None = None

@@ -1,5 +1,5 @@
 -- Files by what they are to be: what each says, and which fault it has.
-use Rattle.std.specs.Prelude.{ℕ, ◌%◌, ◌<◌, ◌≤◌, List, length, map, codes}
+use Rattle.std.specs.Prelude.{ℕ, ◌%◌, ◌<◌, ◌≤◌, List, length, map, codes, Option}
 use Rattle.std.specs.List.{AllByRecursion}
 use Rattle.i9_text.specs.Text.{lines_of}
 use Rattle.i9_image.specs.Images.{Fault, AtLine, OfElf, IsImage, IsRefused}
@@ -10,8 +10,9 @@ use Rattle.i9_asm.specs.Laws.{IsAssembly, IsRefusedSource}
 use Rattle.i9_script.specs.ScriptText.{IsScript, IsRefused as IsRefusedScript}
 use Rattle.i9_script.specs.declared.command.Command.{Command}
 use Rattle.i9_outside.specs.declared.traits.TheConstants.{FILE_LIMIT}
-use Rattle.i9_tool.specs.declared.files.FileKind.{FileKind}
-use Rattle.i9_tool.specs.declared.files.FileKind.TheVariants as kinds
+use Rattle.i9_outside.specs.Traits.{IsFile}
+use Rattle.i9_tool.specs.declared.refusal.FileKind.{FileKind}
+use Rattle.i9_tool.specs.declared.refusal.FileKind.TheVariants as kinds
 
 -- a file by what it is to be, and its name
 pub record File : Type 0 where
@@ -40,8 +41,8 @@ AreBytes pairs = AllByRecursion (λ (p : ℕ × ℕ). p.1 < 256) pairs
 abbrev pub octets : List ℕ → List ℕ
 octets file = map (λ n. n % 256) file
 
--- A file says this: an ELF image where it begins as ELF files do, and else the lines of an image in Intel HEX; or the lines
--- of another text.
+-- A file says this: an ELF image where it begins as ELF files do, and else the lines of an image in Intel HEX; or the
+-- lines of another text.
 abbrev pub Says : (kind : FileKind) → List ℕ → Value kind → Type 0
 Says kinds.Image file pairs = IsImage (octets file) pairs
 Says kinds.Schedule file schedule = IsSchedule (lines_of file) schedule
@@ -66,6 +67,17 @@ IsFaulty kinds.Script file fault = IsRefusedScript (lines_of file) fault
 pub record IsAccepted (kind : FileKind) (file : List ℕ) (value : Value kind) : Type 0 where
   pub short : length file ≤ FILE_LIMIT
   pub says : Says kind file value
+
+-- the bytes of a file are those that are told, where it is told, and they are not too many
+pub record IsWhole (told : Option (List ℕ)) (bytes : List ℕ) : Type 0 where
+  pub is_file : IsFile told bytes
+  pub short : length bytes ≤ FILE_LIMIT
+
+-- A file that is told is accepted, and says this.
+pub record IsRead (told : List ℕ → Option (List ℕ)) (file : File) (value : Value file.kind) : Type 0 where
+  pub bytes : List ℕ
+  pub is_file : IsFile (told file.name) bytes
+  pub accepted : IsAccepted file.kind bytes value
 
 -- ---- what is answered where one is refused
 

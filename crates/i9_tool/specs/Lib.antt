@@ -1,6 +1,9 @@
 pub mod FileKinds
 pub mod CommandLine
+pub mod Refusals
+pub mod Inputs
 pub mod Words
+pub mod Values
 pub mod Traced
 pub mod Run
 pub mod Fetches

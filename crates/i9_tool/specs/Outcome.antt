@@ -21,12 +21,13 @@ use Rattle.i9_runs.specs.Runs.{AreRuns}
 use Rattle.i9_elf.specs.Written.{most_headers, file_of}
 use Rattle.i9_asm.specs.Laws.{IsAssembly}
 use Rattle.i9_asm.specs.Listing.{IsListing}
-use Rattle.i9_model.specs.ScheduleText.{first_version, Contents, IsSchedule, IsByCounts}
+use Rattle.i9_model.specs.ScheduleText.{Contents, IsSchedule, IsByCounts}
 use Rattle.i9_script.specs.declared.command.Command.{Command as ScriptCommand}
-use Rattle.i9_tool.specs.declared.files.FileKind.{FileKind}
-use Rattle.i9_tool.specs.declared.files.FileKind.TheVariants.{Image, Schedule, Source, Script}
-use Rattle.i9_tool.specs.FileKinds.{File, Value, IsAccepted, FaultOf, IsFaulty, word_of, fault_line, refusal_of, names}
-use Rattle.i9_tool.specs.CommandLine.{Command, Run, Asm, Dis, Gen, Tune, Driver, ByLength, ByScript, files_of, command_of, words_line, read_line, segments_line, long_line}
+use Rattle.i9_tool.specs.FileKinds.{File, names}
+use Rattle.i9_tool.specs.CommandLine.{Command, files_of, command_of, words_line, segments_line}
+use Rattle.i9_tool.specs.Refusals.{Refusal, refusal_line, refusal_code, FirstRefusal}
+use Rattle.i9_tool.specs.Inputs.{Inputs, AreRead, ToLength, ByCommands, task_of}
+use Rattle.i9_tool.specs.Inputs.{Task, Runs, Assembles, Lists, Generates, Tunes}
 use Rattle.i9_tool.specs.Fetches.{rose_in}
 use Rattle.i9_debug.specs.Lines.{generated_line}
 use Rattle.i9_debug.specs.Session.{Place, at, IsText, end_at}
@@ -35,7 +36,6 @@ use Rattle.i9_tool.specs.declared.words.Format.TheVariants as formats
 use Rattle.i9_tool.specs.declared.words.Range.{Range}
 use Rattle.i9_tool.specs.Traced.{headed_text}
 use Rattle.i9_generator.specs.Generator.{generated_source, generated_schedule}
-use Rattle.i9_outside.specs.declared.traits.TheConstants.{FILE_LIMIT}
 use Rattle.i9_debug.specs.declared.print.Printed.{Printed}
 use Rattle.i9_debug.specs.declared.print.Printed.TheVariants as printed
 use Rattle.i9_debug.specs.Print.{Account, CountsUpTo, Takes, TakesFront, TakesFirst, lines_in, counted_on}
@@ -44,24 +44,11 @@ use Rattle.i9_outside.specs.Traits.{IsFile, AppendsFront}
 
 -- ---- the status and the text, where no write fails and memory isn't refused
 
--- For a file by its name: the count of its faults rose, and it was not read; or it was fetched.
-pub data Reads (told : Option (List ℕ)) (rose : Type 0) (gives : List ℕ → ℕ → List ℕ → Type 0) : ℕ → List ℕ → Type 0 where
-  unread : rose → Reads told rose gives 5 read_line
-  fetched : (file : List ℕ) (code : ℕ) (text : List ℕ) → IsFile told file → gives file code text → Reads told rose gives code text
-
--- For a file of a kind that was fetched: it is too long, it is refused for its first fault, or it is accepted, and what it
--- says gives a status and a text.
-pub data FileGives (kind : FileKind) (after : Value kind → ℕ → List ℕ → Type 0) (file : List ℕ) : ℕ → List ℕ → Type 0 where
-  too_long : FILE_LIMIT < length file → FileGives kind after file (refusal_of kind) (long_line (word_of kind))
-  refused : (fault : FaultOf kind) → length file ≤ FILE_LIMIT → IsFaulty kind file fault
-      → FileGives kind after file (refusal_of kind) (fault_line kind fault)
-  accepted : (value : Value kind) (code : ℕ) (text : List ℕ) → IsAccepted kind file value → after value code text
-      → FileGives kind after file code text
-
 -- The run of an image with the events of a schedule is printed to its end behind the line of the schedule's version,
 -- and what is traced of it. The results of this run land late: it is the run of the machine that does one instruction
 -- after the other, but that an arithmetic fault which the next instruction overtakes ends it, named as imprecise.
-pub data RunGives (sets : Option ℕ) (limit : ℕ) (traced : Option Range) (pairs : List (ℕ × ℕ)) (c : Contents) : ℕ → List ℕ → Type 0 where
+pub data RunGives (sets : Option ℕ) (limit : ℕ) (traced : Option Range) (pairs : List (ℕ × ℕ)) (c : Contents)
+    : ℕ → List ℕ → Type 0 where
   runs : (records : List Record) (f : Finish) → IsLateRun (given pairs c.events limit sets) records f
       → RunGives sets limit traced pairs c (end_code f.end)
       (headed_text c.version traced (given pairs c.events limit sets) records f)
@@ -71,9 +58,10 @@ abbrev pub driven_code : Option End → ℕ
 driven_code None = 0
 driven_code (Some end) = end_code end
 
--- The commands of a script are done from the first turn of the run of an image with these events, and what they print is
--- printed.
-pub data ScriptGives (sets : Option ℕ) (pairs : List (ℕ × ℕ)) (events : List Timed) (commands : List ScriptCommand) : ℕ → List ℕ → Type 0 where
+-- The commands of a script are done from the first turn of the run of an image with these events, and what they print
+-- is printed.
+pub data ScriptGives (sets : Option ℕ) (pairs : List (ℕ × ℕ)) (events : List Timed) (commands : List ScriptCommand)
+    : ℕ → List ℕ → Type 0 where
   drives : (text : List ℕ) (last : Place) → IsText (given pairs events MAX_LENGTH sets) commands (at [] 1) text last
       → ScriptGives sets pairs events commands (driven_code (end_at last)) text
 
@@ -90,49 +78,45 @@ pub data AsmGives : Format → List Part → ℕ → List ℕ → Type 0 where
 pub data DisGives (pairs : List (ℕ × ℕ)) : ℕ → List ℕ → Type 0 where
   listed : (image : List Part) (text : List ℕ) → pairs_of image ≡ pairs → IsListing image text → DisGives pairs 0 text
 
--- The block of so many instructions that stands in an image from an address on is tuned, and its text is printed; or the
--- line of its first instruction at fault is.
+-- The block of so many instructions that stands in an image from an address on is tuned, and its text is printed; or
+-- the line of its first instruction at fault is.
 pub data TuneGives (a n : ℕ) (pairs : List (ℕ × ℕ)) : ℕ → List ℕ → Type 0 where
-  no_block : (fault : BlockFault) → block_at (last_put pairs) n a ≡ Err fault → TuneGives a n pairs 3 (block_fault_line fault)
+  no_block : (fault : BlockFault) → block_at (last_put pairs) n a ≡ Err fault
+      → TuneGives a n pairs 3 (block_fault_line fault)
   tuned : (block : List Inst) (text : List ℕ) → block_at (last_put pairs) n a ≡ Ok block → IsTuning a block text
       → TuneGives a n pairs 0 text
 
 -- the line of what the run of the job of a number comes to
 abbrev pub job_line : ℕ → Given → List Record → Finish → List ℕ
-job_line number g records f = generated_line number (state_after g records).count (length (reached_in g records f)) f.end
+job_line number g records f =
+    generated_line number (state_after g records).count (length (reached_in g records f)) f.end
 
--- The run of the source and the schedule that are made from a number, whose results land late, is made to its end, and a
--- line says what it comes to.
+-- The run of the source and the schedule that are made from a number, whose results land late, is made to its end, and
+-- a line says what it comes to.
 pub data GenGives (number : ℕ) (sets : Option ℕ) : ℕ → List ℕ → Type 0 where
   job_runs : (image : List Part) (c : Contents) (records : List Record) (f : Finish)
       → IsAssembly (lines_of (generated_source number)) image → IsSchedule (lines_of (generated_schedule number)) c
       → IsLateRun (given (pairs_of image) c.events MAX_LENGTH sets) records f
-      → GenGives number sets (end_code f.end) (job_line number (given (pairs_of image) c.events MAX_LENGTH sets) records f)
+      → GenGives number sets (end_code f.end)
+      (job_line number (given (pairs_of image) c.events MAX_LENGTH sets) records f)
 
--- a schedule without events
-abbrev pub no_schedule : Contents
-no_schedule = record { version = first_version; events = [] }
+-- what is done gives a status and a text
+abbrev pub TaskGives : Task → ℕ → List ℕ → Type 0
+TaskGives (Runs pairs plan sets (ToLength limit traced)) = RunGives sets limit traced pairs plan
+TaskGives (Runs pairs plan sets (ByCommands commands)) = ScriptGives sets pairs plan.events commands
+TaskGives (Assembles format image) = AsmGives format image
+TaskGives (Lists pairs) = DisGives pairs
+TaskGives (Generates number sets) = GenGives number sets
+TaskGives (Tunes pairs a n) = TuneGives a n pairs
 
--- `told` says the files that are told, and `rose` of which names the count of faults rose.
-module _ (told : List ℕ → Option (List ℕ)) (rose : List ℕ → Type 0) where
-  -- a run is printed, or a script is read, and drives it
-  abbrev pub DriverGives : Driver → Option ℕ → List (ℕ × ℕ) → Contents → ℕ → List ℕ → Type 0
-  DriverGives (ByLength limit traced) sets pairs c = RunGives sets limit traced pairs c
-  DriverGives (ByScript script) sets pairs c = Reads (told script) (rose script) (FileGives Script (ScriptGives sets pairs c.events))
-
-  -- a schedule is read where one is named, and else a run has no events
-  abbrev pub PlanGives : Option (List ℕ) → (Contents → ℕ → List ℕ → Type 0) → ℕ → List ℕ → Type 0
-  PlanGives None run = run no_schedule
-  PlanGives (Some name) run = Reads (told name) (rose name) (FileGives Schedule run)
-
-  -- the image comes first, the schedule only where it is accepted, and a script only where both are
-  abbrev pub CommandGives : Command → ℕ → List ℕ → Type 0
-  CommandGives (Run image schedule sets driver) =
-      Reads (told image) (rose image) (FileGives Image (λ pairs. PlanGives schedule (DriverGives driver sets pairs)))
-  CommandGives (Asm format source) = Reads (told source) (rose source) (FileGives Source (AsmGives format))
-  CommandGives (Dis image) = Reads (told image) (rose image) (FileGives Image DisGives)
-  CommandGives (Gen number sets) = GenGives number sets
-  CommandGives (Tune image a n) = Reads (told image) (rose image) (FileGives Image (TuneGives a n))
+-- What a command gives: its files are refused for the first refusal in their order, or all are read, and what it asks
+-- to do with them is done. `told` says the files that are told, and `rose` of which names the count of faults rose.
+pub data CommandGives (told : List ℕ → Option (List ℕ)) (rose : List ℕ → Type 0) (c : Command)
+    : ℕ → List ℕ → Type 0 where
+  refused : (r : Refusal) → FirstRefusal told rose (files_of c) r
+      → CommandGives told rose c (refusal_code r) (refusal_line r)
+  done : (said : Inputs (files_of c)) (code : ℕ) (text : List ℕ) → AreRead told (files_of c) said
+      → TaskGives (task_of c said) code text → CommandGives told rose c code text
 
 -- each event of the schedule that the words name happens after so many instructions, whatever that file is
 abbrev pub IsCountedSchedule : (List ℕ → Option (List ℕ)) → Option (List ℕ) → Type 0
@@ -143,7 +127,8 @@ IsCountedSchedule told (Some name) =
 -- The status and the text for what the words ask for.
 pub data Gives (told : List ℕ → Option (List ℕ)) (rose : List ℕ → Type 0) : Option Command → ℕ → List ℕ → Type 0 where
   in_no_form : Gives told rose None 1 words_line
-  in_form : (c : Command) (code : ℕ) (text : List ℕ) → CommandGives told rose c code text → Gives told rose (Some c) code text
+  in_form : (c : Command) (code : ℕ) (text : List ℕ) → CommandGives told rose c code text
+      → Gives told rose (Some c) code text
 
 -- ---- the same for a call of the command
 
@@ -161,11 +146,12 @@ abbrev pub names_of : Option Command → List (List ℕ)
 names_of asked = names (files_for asked)
 
 -- what the words give, by the files before the call and the counts that rose in it
-abbrev pub Outcomes : {F Z : Type 0} → (F → List ℕ → Option (List ℕ)) → (F → List ℕ → ℕ) → F → F → List (String Z) → ℕ → List ℕ → Type 0
+abbrev pub Outcomes : {F Z : Type 0} → (F → List ℕ → Option (List ℕ)) → (F → List ℕ → ℕ) → F → F → List (String Z)
+    → ℕ → List ℕ → Type 0
 Outcomes told faults old new words code text = Gives (told old) (rose_in faults old new) (asked_for words) code text
 
--- The status and its text were given whole, by as many writes as the text has lines, each of which took one of them; or a
--- front of a text that could have been, perhaps nothing of it, by at most as many.
+-- The status and its text were given whole, by as many writes as the text has lines, each of which took one of them; or
+-- a front of a text that could have been, perhaps nothing of it, by at most as many.
 pub record GivesWhole {K : Type 0} (gives : ℕ → List ℕ → Type 0) (code : ℕ) (k : Account K) (old new : K) : Type 0 where
   pub text : List ℕ
   pub is_given : gives code text
@@ -196,18 +182,14 @@ code_for printed.Done code = code
 code_for printed.Write code = 6
 code_for printed.Memory code = 7
 
--- ---- one file
-
 -- this status and this text, and no other
 abbrev pub Only : ℕ → List ℕ → ℕ → List ℕ → Type 0
 Only code text c t = (c ≡ code) × (t ≡ text)
 
--- For a file that was not fetched whole: it was not read, or it is too long.
-pub data MissGives (kind : FileKind) (told : Option (List ℕ)) (rose : Type 0) : ℕ → List ℕ → Type 0 where
-  missed_unread : rose → MissGives kind told rose 5 read_line
-  missed_long : (file : List ℕ) → IsFile told file → FILE_LIMIT < length file
-      → MissGives kind told rose (refusal_of kind) (long_line (word_of kind))
+-- some status and text are given
+abbrev pub SomeFor : (ℕ → List ℕ → Type 0) → Type 0
+SomeFor gives = (code : ℕ) × (text : List ℕ) × gives code text
 
--- what a call does that answers this, or that memory was refused
-abbrev pub AnswersMiss : {K : Type 0} → FileKind → Option (List ℕ) → Type 0 → ℕ → Account K → K → K → Type 0
-AnswersMiss kind told rose code k old new = Answers (MissGives kind told rose) code k old new ⊎ ((code ≡ 7) × (new ≡ old))
+-- what a call does that answers a status of these, where there is one
+abbrev pub AnswersSome : {K : Type 0} → (ℕ → List ℕ → Type 0) → ℕ → Account K → K → K → Type 0
+AnswersSome gives code k old new = SomeFor gives → Answers gives code k old new

@@ -32,7 +32,8 @@ TellsEnd ran.Write f = Unit {0}
 TellsEnd ran.Memory f = Unit {0}
 
 -- A text of the run of what is given, whose results land late, was printed on a sink of this type, or a front of it.
-pub record RunsAs {K : Type 0} (text : Given → List Record → Finish → List ℕ) (answer : Ran) (g : Given) (k : Account K) (old new : K) : Type 0 where
+pub record RunsAs {K : Type 0} (text : Given → List Record → Finish → List ℕ) (answer : Ran) (g : Given) (k : Account K)
+    (old new : K) : Type 0 where
   pub records : List Record
   pub finish : Finish
   pub run : IsLateRun g records finish
@@ -70,7 +71,8 @@ pub data StopsWith (g : Given) (rs : List Record) : Ran → List ℕ → Type 0 
 
 -- The text of the first records of the run of what is given was printed on a sink of this type, or a front of it; where
 -- all was printed, they are all, and the end is behind them.
-pub record TracesBy {K : Type 0} (answer : Ran) (allows : ℕ → Bool → Type 0) (g : Given) (k : Account K) (old new : K) : Type 0 where
+pub record TracesBy {K : Type 0} (answer : Ran) (allows : ℕ → Bool → Type 0) (g : Given) (k : Account K)
+    (old new : K) : Type 0 where
   pub records : List Record
   pub past : IsLatePast g records
   pub text : List ℕ
@@ -79,15 +81,16 @@ pub record TracesBy {K : Type 0} (answer : Ran) (allows : ℕ → Bool → Type 
   pub stops : StopsWith g records answer rest
   pub prints : Prints (printed_of answer) k old new (text ++ rest)
 
--- A traced run was cut: the text of the records before is whole, and behind them one more was done at most, or the end came.
+-- A traced run was cut: the text of the records before is whole, and behind them one more was done at most, or the end
+-- came.
 pub data CutInTrace (allows : ℕ → Bool → Type 0) (g : Given) : List ℕ → List ℕ → Place → Type 0 where
   behind_step : (before last : List Record) (x y : List ℕ) (t : ℕ) → length last ≤ 1 → TracedBy allows before x
       → TracedBy allows (last ++ before) (x ++ y) → CutInTrace allows g x y (at (steps (last ++ before)) t)
   behind_end : (before : List Record) (x : List ℕ) (t : ℕ) (f : Finish) → TracedBy allows before x
       → CutInTrace allows g x (text_of (end_lines (state_after g before) f)) (ended (steps before) t f)
 
--- The same of a machine, which stands behind what was done. Where printing stopped, that is the place of the cut: all is
--- printed as it comes.
+-- The same of a machine, which stands behind what was done. Where printing stopped, that is the place of the cut: all
+-- is printed as it comes.
 pub record DrivesBy {K : Type 0} (answer : Ran) (allows : ℕ → Bool → Type 0) (g : Given) (k : Account K) (old new : K)
     (m : Machine) (plan : Plan) : Type 0 where
   pub traces : TracesBy answer allows g k old new
@@ -114,7 +117,8 @@ abbrev pub step_text : Bool → Turn → List Line → List ℕ
 step_text answer turn lines = turn_text answer turn ++ flat_map line_text lines
 
 -- The text of a step was printed, where an answer that is allowed says whether it has the line of an instruction.
-pub record PrintsBy {K : Type 0} (answer : Printed) (allows : ℕ → Bool → Type 0) (turn : Turn) (text : Bool → List ℕ) (k : Account K) (old new : K) : Type 0 where
+pub record PrintsBy {K : Type 0} (answer : Printed) (allows : ℕ → Bool → Type 0) (turn : Turn) (text : Bool → List ℕ)
+    (k : Account K) (old new : K) : Type 0 where
   pub passes : Bool
   pub allowed : AllowsTurn allows turn passes
   pub prints : Prints answer k old new (text passes)

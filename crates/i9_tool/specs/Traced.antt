@@ -3,7 +3,8 @@ use Rattle.std.specs.Prelude.{ℕ, Bool, ◌==◌, ◌&&◌, nat_le, if◌then�
 use Rattle.i9_isa.specs.Words.{words_of}
 use Rattle.i9_model.specs.State.{State}
 use Rattle.i9_model.specs.Step.{first_word, next_word}
-use Rattle.i9_model.specs.Run.{Given, Kind, Instruction, Faulted, Entered, Interrupted, Reached, Record, faulted_words, state_after, Finish}
+use Rattle.i9_model.specs.Run.{Given, Kind, Instruction, Faulted, Entered, Interrupted, Reached, Record}
+use Rattle.i9_model.specs.Run.{faulted_words, state_after, Finish}
 use Rattle.i9_model.specs.PrintedText.{text_of, record_lines, end_lines, run_text, heading_text}
 use Rattle.i9_tracer.specs.Trace.{trace_text}
 use Rattle.i9_tool.specs.declared.words.Range.{Range}
@@ -27,7 +28,8 @@ line_where passes count address first second = if passes then trace_text count a
 -- the line of an instruction of so many words that is issued in a state
 abbrev pub issued_line : (ℕ → Bool) → State → Option ℕ → List ℕ
 issued_line passes s None = []
-issued_line passes s (Some words) = line_where (passes s.ip) s.count s.ip (first_word s) (if words == 2 then next_word s else 0)
+issued_line passes s (Some words) =
+    line_where (passes s.ip) s.count s.ip (first_word s) (if words == 2 then next_word s else 0)
 
 -- the line of a record that counts
 abbrev pub traced_line : (ℕ → Bool) → Record → List ℕ

@@ -3,6 +3,7 @@ use Rattle.std.specs.Prelude.{◌≡◌, ℕ, ◌%◌, ◌<◌, ◌≤◌, Optio
 use Rattle.std.specs.Option.{option_copied}
 use Rattle.i9_model.specs.declared.layout.TheConstants.{MAX_LENGTH}
 use Rattle.i9_tool.specs.CommandLine.{Command, Run, Asm, Dis, Gen, Tune, most_tuned, Driver, ByLength, ByScript}
+use Rattle.i9_tool.specs.declared.words.Block.{Block}
 use Rattle.i9_tool.specs.declared.words.Asked.{Asked}
 use Rattle.i9_tool.specs.declared.words.Asked.TheVariants as asked
 use Rattle.i9_tool.specs.declared.words.JobWords.{JobWords}
@@ -22,14 +23,14 @@ abbrev pub job_by : JobWords → Command
 job_by job = Gen job.number job.sets
 
 abbrev pub tune_by : TuneWords → Command
-tune_by block = Tune block.image.now block.address block.count
+tune_by words = Tune words.image.now words.block.address words.block.count
 
 abbrev pub asked_by : Asked → Command
 asked_by (asked.Run run) = run_by run
 asked_by (asked.Asm format source) = Asm format source.now
 asked_by (asked.Dis image) = Dis image.now
 asked_by (asked.Gen job) = job_by job
-asked_by (asked.Tune block) = tune_by block
+asked_by (asked.Tune words) = tune_by words
 
 -- a number of sets that is asked for is from 1 to 15
 abbrev pub AreFew : Option ℕ → Type 0
@@ -46,7 +47,7 @@ pub record CanRun (run : RunWords) : Type 0 where
   pub short : IsShort run.driver
 
 -- a block that may be asked for
-pub record IsBlock (block : TuneWords) : Type 0 where
+pub record IsBlock (block : Block) : Type 0 where
   pub aligned : block.address % 4 ≡ 0
   pub few : block.count ≤ most_tuned
 
@@ -56,4 +57,4 @@ Fits (asked.Run run) = CanRun run
 Fits (asked.Asm format source) = Unit {0}
 Fits (asked.Dis image) = Unit {0}
 Fits (asked.Gen job) = AreFew job.sets
-Fits (asked.Tune block) = IsBlock block
+Fits (asked.Tune words) = IsBlock words.block

@@ -1,119 +1,144 @@
-//! Files by what they are to be: fetching one, and what is answered where it gives nothing further.
-ghost use Rattle.std.specs.Prelude.{◌≡◌, ◌≢◌, IfOk, IfErr};
-ghost use Rattle.i9_debug.specs.Lines.{refused_line};
-ghost use Rattle.i9_debug.specs.Print.{IsPiece, account};
-ghost use Rattle.i9_image.specs.Reading.{fault_in};
-ghost use Rattle.i9_tool.specs.declared.files.FileKind.TheVariants as kinds;
-ghost use Rattle.i9_tool.specs.CommandLine.{long_line};
-ghost use Rattle.i9_tool.specs.FileKinds.{word_of, image_line, refusal_of};
-ghost use Rattle.i9_tool.specs.Fetches.{FetchesOne, shelf, rose_in};
-ghost use Rattle.i9_tool.specs.Outcome.{Answers, AnswersMiss, Only};
+//! Reading files: what the bytes of each kind say, or why they are refused.
+ghost use Rattle.std.specs.Prelude.{◌≤◌, ◌∷◌, [], length, IfOk};
+ghost use Rattle.i9_model.specs.Image.{pairs_of};
+ghost use Rattle.i9_model.specs.HexText.{most_bytes};
+ghost use Rattle.i9_schedule.specs.Plan.{contents};
+ghost use Rattle.i9_tool.specs.declared.refusal.FileKind.TheVariants as kinds;
+ghost use Rattle.i9_tool.specs.FileKinds.{file_of, AreBytes, IsWhole, IsRead};
+ghost use Rattle.i9_tool.specs.Fetches.{FetchesOne, ReadsFiles, Misses, shelf};
+ghost use Rattle.i9_tool.specs.Values.{Parses, stop_of};
 
-use crate::status::{Status, status_for};
-use i9_debug::{print_elf_refusal, print_piece, print_refusal};
-use i9_image::ImageFault;
-use i9_outside::{Fetch, Files, Sink};
+use crate::refusal::{FileKind, InputError, Refusal};
+use i9_asm::{AsmError, assemble};
+use i9_hex::Segments;
+use i9_image::ImageError;
+use i9_outside::{Fetch, Files};
+use i9_schedule::{LineError, Schedule};
+use i9_script::{Script, read_script};
 use std::alloc::Global;
 
-/// What a file is to be.
-#[derive(Clone, Copy)]
-pub(crate) enum FileKind {
-    Image,
-    Schedule,
-    Source,
-    Script,
-}
-
-/// The word for a file in the line that says why it is refused.
-fn word_of(kind: FileKind) -> &'static [u8]
-    ensures { result.now ≡ word_of kind }
-{
-    match kind {
-        FileKind::Image => b"image",
-        FileKind::Schedule => b"schedule",
-        FileKind::Source => b"source",
-        FileKind::Script => b"script",
-    }
-}
-
-/// The line of a file that is too long.
-fn long_line(kind: FileKind) -> &'static [u8]
-    ensures text { result.now ≡ long_line (word_of kind) }
-    ensures line { IsPiece result.now }
-{
-    match kind {
-        FileKind::Image => b"#image too long\n",
-        FileKind::Schedule => b"#schedule too long\n",
-        FileKind::Source => b"#source too long\n",
-        FileKind::Script => b"#script too long\n",
-    }
-}
-
-/// The status where a file is refused.
-fn refusal_of(kind: FileKind) -> u8
-    ensures { result ≡ refusal_of kind }
-{
-    match kind {
-        FileKind::Image => 2,
-        FileKind::Schedule => 3,
-        FileKind::Source => 3,
-        FileKind::Script => 3,
-    }
-}
-
-/// Fetches the file of this name. Where it was not read, or is too long, its line is printed, and the status is answered.
-pub(crate) fn fetch_file<F: Files, K: Sink>(
+/// Fetches the file of this name, which is to be of a kind.
+fn fetch_file<F: Files>(
     alloc: Global,
     kind: FileKind,
     name: &str,
     files: &mut F,
-    out: &mut K,
-) -> Result<Vec<u8>, Status>
-    ensures fetches { FetchesOne (shelf F.told F.faults F.fetches F.sure) name.now result files.old files.new }
-    ensures unwritten { IfOk result (λ file. out.new ≡ out.old) }
-    ensures answers { IfErr result (λ status. AnswersMiss kind (F.told files.old name.now) (rose_in F.faults files.old files.new name.now)
-        status.code (account K.told K.faults K.writes K.sure K.pieces) out.old out.new) }
+) -> Result<Vec<u8>, InputError>
+    ensures fetches { FetchesOne (shelf F.told F.faults F.fetches F.sure) name.now
+        (stop_of result) files.old files.new }
+    ensures whole { IfOk result (λ file. IsWhole (F.told files.old name.now) file.items) }
+    ensures missed { Misses (shelf F.told F.faults F.fetches F.sure) (file_of kind name.now)
+        (stop_of result) files.old files.new }
 {
     let mut file = Vec::new(alloc);
     match files.fetch(alloc, name, &mut file) {
         Fetch::Ok => Ok(file),
-        Fetch::Failed => Err(status_for(print_piece(b"#read\n", out), 5)),
-        Fetch::TooLong(_) => {
-            let printed = print_piece(long_line(kind), out);
-            Err(status_for(printed, refusal_of(kind)))
-        }
-        Fetch::Memory => Err(Status { code: 7 }),
+        Fetch::Failed => Err(InputError::Refused(Refusal::Unread)),
+        Fetch::TooLong(_) => Err(InputError::Refused(Refusal::TooLong(kind))),
+        Fetch::Memory => Err(InputError::Memory),
     }
 }
 
-/// Says that a file is refused for its first line at fault, with a fault of this number.
-#[tactic(auto, using(crate::proofs::Refusals::refusal_rules))]
-pub(crate) fn refuse<K: Sink>(
+/// The image that the bytes of a file say.
+fn image_in(alloc: Global, file: &[u8]) -> Result<Segments, InputError>
+    ensures { Parses kinds.Image (λ image. pairs_of image) file.now result }
+{
+    match i9_image::read(alloc, file) {
+        Ok(image) => Ok(image),
+        Err(ImageError::Bad(fault)) => Err(InputError::Refused(Refusal::Image(fault))),
+        Err(ImageError::Memory) => Err(InputError::Memory),
+    }
+}
+
+/// The schedule that they say.
+fn schedule_in(alloc: Global, file: &[u8]) -> Result<Schedule, InputError>
+    ensures { Parses kinds.Schedule contents file.now result }
+{
+    match i9_schedule::read(alloc, file) {
+        Ok(plan) => Ok(plan),
+        Err(LineError::Bad(fault)) => Err(InputError::Refused(Refusal::Schedule(fault))),
+        Err(LineError::Memory) => Err(InputError::Memory),
+    }
+}
+
+/// The segments of the source that they say.
+fn source_in(alloc: Global, file: &[u8]) -> Result<Segments, InputError>
+    ensures parses { Parses kinds.Source (λ image. image) file.now result }
+    ensures few { IfOk result (λ image. length (pairs_of image) ≤ most_bytes) }
+    ensures bytes { IfOk result (λ image. AreBytes (pairs_of image)) }
+{
+    match assemble(alloc, file) {
+        Ok(image) => Ok(image),
+        Err(AsmError::Bad(fault)) => Err(InputError::Refused(Refusal::Source(fault))),
+        Err(AsmError::Memory) => Err(InputError::Memory),
+    }
+}
+
+/// The script that they say.
+fn script_in(alloc: Global, file: &[u8]) -> Result<Script, InputError>
+    ensures { Parses kinds.Script (λ commands. commands) file.now result }
+{
+    match read_script(alloc, file) {
+        Ok(script) => Ok(script),
+        Err(LineError::Bad(fault)) => Err(InputError::Refused(Refusal::Script(fault))),
+        Err(LineError::Memory) => Err(InputError::Memory),
+    }
+}
+
+/// Reads the image of this name.
+pub(crate) fn read_image<F: Files>(
     alloc: Global,
-    kind: FileKind,
-    line: u64,
-    fault: u8,
-    out: &mut K,
-) -> Status
-    ensures answers { Answers (Only (refusal_of kind) (refused_line (word_of kind) (line, fault)))
-        result.code (account K.told K.faults K.writes K.sure K.pieces) out.old out.new }
-    ensures read { result.code ≢ 5 }
+    name: &str,
+    files: &mut F,
+) -> Result<Segments, InputError>
+    ensures reads { ReadsFiles (shelf F.told F.faults F.fetches F.sure) (file_of kinds.Image name.now ∷ [])
+        (stop_of result) files.old files.new }
+    ensures says { IfOk result (λ image. IsRead (F.told files.old) (file_of kinds.Image name.now) (pairs_of image)) }
 {
-    let printed = print_refusal(alloc, word_of(kind), line, fault, out);
-    status_for(printed, refusal_of(kind))
+    let file = fetch_file(alloc, FileKind::Image, name, files)?;
+    image_in(alloc, &file)
 }
 
-/// Says that an image is refused, for its first fault.
-pub(crate) fn refuse_image<K: Sink>(alloc: Global, fault: ImageFault, out: &mut K) -> Status
-    ensures answers { Answers (Only (refusal_of kinds.Image) (image_line (fault_in fault)))
-        result.code (account K.told K.faults K.writes K.sure K.pieces) out.old out.new }
-    ensures read { result.code ≢ 5 }
+/// Reads the schedule of this name.
+pub(crate) fn read_schedule<F: Files>(
+    alloc: Global,
+    name: &str,
+    files: &mut F,
+) -> Result<Schedule, InputError>
+    ensures reads { ReadsFiles (shelf F.told F.faults F.fetches F.sure) (file_of kinds.Schedule name.now ∷ [])
+        (stop_of result) files.old files.new }
+    ensures says { IfOk result (λ plan. IsRead (F.told files.old) (file_of kinds.Schedule name.now) (contents plan)) }
 {
-    match fault {
-        ImageFault::Line(fault) => refuse(alloc, FileKind::Image, fault.line, fault.kind, out),
-        ImageFault::Elf(kind) => {
-            let printed = print_elf_refusal(alloc, kind, out);
-            status_for(printed, refusal_of(FileKind::Image))
-        }
-    }
+    let file = fetch_file(alloc, FileKind::Schedule, name, files)?;
+    schedule_in(alloc, &file)
+}
+
+/// Reads the source of this name, and assembles it.
+pub(crate) fn read_source<F: Files>(
+    alloc: Global,
+    name: &str,
+    files: &mut F,
+) -> Result<Segments, InputError>
+    ensures reads { ReadsFiles (shelf F.told F.faults F.fetches F.sure) (file_of kinds.Source name.now ∷ [])
+        (stop_of result) files.old files.new }
+    ensures says { IfOk result (λ image. IsRead (F.told files.old) (file_of kinds.Source name.now) image) }
+    ensures few { IfOk result (λ image. length (pairs_of image) ≤ most_bytes) }
+    ensures bytes { IfOk result (λ image. AreBytes (pairs_of image)) }
+{
+    let file = fetch_file(alloc, FileKind::Source, name, files)?;
+    source_in(alloc, &file)
+}
+
+/// Reads the script of this name.
+pub(crate) fn read_commands<F: Files>(
+    alloc: Global,
+    name: &str,
+    files: &mut F,
+) -> Result<Script, InputError>
+    ensures reads { ReadsFiles (shelf F.told F.faults F.fetches F.sure) (file_of kinds.Script name.now ∷ [])
+        (stop_of result) files.old files.new }
+    ensures says { IfOk result (λ commands. IsRead (F.told files.old) (file_of kinds.Script name.now) commands) }
+{
+    let file = fetch_file(alloc, FileKind::Script, name, files)?;
+    script_in(alloc, &file)
 }

@@ -7,10 +7,11 @@ ghost use Rattle.i9_generator.specs.Generator.{generated_source, generated_sched
 ghost use Rattle.i9_tool.specs.Words.{AreFew};
 ghost use Rattle.i9_schedule.specs.Plan.{contents};
 ghost use Rattle.i9_debug.specs.Print.{account};
-ghost use Rattle.i9_tool.specs.Outcome.{Answers, GenGives};
+ghost use Rattle.i9_tool.specs.Outcome.{AnswersSome, GenGives};
+ghost use Rattle.i9_tool.specs.Values.{code_of};
 
 use crate::run::count_run;
-use crate::status::{Status, code_of_end, status_for};
+use crate::status::{Ending, ending_for, ending_of};
 use crate::words::JobWords;
 use i9_asm::{AsmError, assemble};
 use i9_debug::print_generated;
@@ -29,15 +30,15 @@ fn run_job<K: Sink>(
     image: &Segments,
     plan: &mut Schedule,
     out: &mut K,
-) -> Status
+) -> Ending
     requires few { AreFew words.sets }
     requires begins { plan.old.place ≡ 0 }
     requires plan { IsPlan plan.old.events }
     requires assembled { IsAssembly (lines_of (generated_source words.number)) image.now }
     requires said { IsSchedule (lines_of (generated_schedule words.number)) (contents plan.old) }
-    ensures answers { Answers (GenGives words.number words.sets)
-        result.code (account K.told K.faults K.writes K.sure K.pieces) out.old out.new }
-    ensures read { result.code ≢ 5 }
+    ensures answers { AnswersSome (GenGives words.number words.sets)
+        (code_of result) (account K.told K.faults K.writes K.sure K.pieces) out.old out.new }
+    ensures read { code_of result ≢ 5 }
 {
     match count_run(alloc, image, plan, words.sets, MAX_LENGTH) {
         Ok(counted) => {
@@ -49,9 +50,9 @@ fn run_job<K: Sink>(
                 counted.end,
                 out,
             );
-            status_for(printed, code_of_end(counted.end))
+            ending_for(printed, ending_of(counted.end))
         }
-        Err(NoMemory) => Status { code: 7 },
+        Err(NoMemory) => Ending::NoMemory,
     }
 }
 
@@ -62,18 +63,18 @@ fn schedule_job<K: Sink>(
     image: &Segments,
     schedule: &[u8],
     out: &mut K,
-) -> Status
+) -> Ending
     requires few { AreFew words.sets }
     requires assembled { IsAssembly (lines_of (generated_source words.number)) image.now }
     requires schedule { schedule.now ≡ generated_schedule words.number }
-    ensures answers { Answers (GenGives words.number words.sets)
-        result.code (account K.told K.faults K.writes K.sure K.pieces) out.old out.new }
-    ensures read { result.code ≢ 5 }
+    ensures answers { AnswersSome (GenGives words.number words.sets)
+        (code_of result) (account K.told K.faults K.writes K.sure K.pieces) out.old out.new }
+    ensures read { code_of result ≢ 5 }
 {
     match i9_schedule::read(alloc, schedule) {
         Ok(mut plan) => run_job(alloc, words, image, &mut plan, out),
         Err(LineError::Bad(_)) => unreachable!(),
-        Err(LineError::Memory) => Status { code: 7 },
+        Err(LineError::Memory) => Ending::NoMemory,
     }
 }
 
@@ -84,30 +85,30 @@ fn assemble_job<K: Sink>(
     source: &[u8],
     schedule: &[u8],
     out: &mut K,
-) -> Status
+) -> Ending
     requires few { AreFew words.sets }
     requires source { source.now ≡ generated_source words.number }
     requires schedule { schedule.now ≡ generated_schedule words.number }
-    ensures answers { Answers (GenGives words.number words.sets)
-        result.code (account K.told K.faults K.writes K.sure K.pieces) out.old out.new }
-    ensures read { result.code ≢ 5 }
+    ensures answers { AnswersSome (GenGives words.number words.sets)
+        (code_of result) (account K.told K.faults K.writes K.sure K.pieces) out.old out.new }
+    ensures read { code_of result ≢ 5 }
 {
     match assemble(alloc, source) {
         Ok(image) => schedule_job(alloc, words, &image, schedule, out),
         Err(AsmError::Bad(_)) => unreachable!(),
-        Err(AsmError::Memory) => Status { code: 7 },
+        Err(AsmError::Memory) => Ending::NoMemory,
     }
 }
 
 /// Makes the job of a number, runs it, and prints the line of what its run comes to.
-pub(crate) fn do_job<K: Sink>(alloc: Global, words: JobWords, out: &mut K) -> Status
+pub(crate) fn do_job<K: Sink>(alloc: Global, words: JobWords, out: &mut K) -> Ending
     requires few { AreFew words.sets }
-    ensures answers { Answers (GenGives words.number words.sets)
-        result.code (account K.told K.faults K.writes K.sure K.pieces) out.old out.new }
-    ensures read { result.code ≢ 5 }
+    ensures answers { AnswersSome (GenGives words.number words.sets)
+        (code_of result) (account K.told K.faults K.writes K.sure K.pieces) out.old out.new }
+    ensures read { code_of result ≢ 5 }
 {
     match generate(alloc, words.number) {
         Ok((source, schedule)) => assemble_job(alloc, words, &source, &schedule, out),
-        Err(NoMemory) => Status { code: 7 },
+        Err(NoMemory) => Ending::NoMemory,
     }
 }

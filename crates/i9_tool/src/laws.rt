@@ -20,11 +20,11 @@ use i9_outside::{MemFiles, MemSink};
 use std::alloc::Global;
 
 /// What words give for files that are told and were read is one status and one text: an image is accepted or refused,
-/// not both, for one fault, and so are a schedule and a script; the run of image and schedule is the only one, and so is
-/// the text of a script; a source has one list of segments or one first fault, and so has the job of a number; segments
-/// have one list of runs, and so one ELF file or too many runs for one. So each status is answered exactly where it is
-/// given. There is a status and a text for all words and files, and those of a run that is printed do not depend on the
-/// number of sets that is asked for where its schedule is by counts, nor do those of a job.
+/// not both, for one fault, and so are a schedule and a script; the run of image and schedule is the only one, and so
+/// is the text of a script; a source has one list of segments or one first fault, and so has the job of a number;
+/// segments have one list of runs, and so one ELF file or too many runs for one. So each status is answered exactly
+/// where it is given. There is a status and a text for all words and files, and those of a run that is printed do not
+/// depend on the number of sets that is asked for where its schedule is by counts, nor do those of a job.
 pub fn one_outcome()
     ensures some { (told : List ℕ → Option (List ℕ)) (asked : Option Command)
         → (code : ℕ) × (text : List ℕ) × Gives told (λ n. ⊥) asked code text }
@@ -38,7 +38,8 @@ pub fn one_outcome()
         → Gives told (λ n. risen n ≡ true) asked c s → Gives told (λ n. risen n ≡ true) asked d t → s ≡ t }
     ensures sets { (told : List ℕ → Option (List ℕ)) (risen : List ℕ → Bool) (image : List ℕ)
         (schedule : Option (List ℕ)) (sets others : Option ℕ) (limit code : ℕ) (traced : Option Range) (text : List ℕ)
-        → IsCountedSchedule told schedule → Gives told (λ n. risen n ≡ true) (Some (Run image schedule sets (ByLength limit traced))) code text
+        → IsCountedSchedule told schedule
+        → Gives told (λ n. risen n ≡ true) (Some (Run image schedule sets (ByLength limit traced))) code text
         → Gives told (λ n. risen n ≡ true) (Some (Run image schedule others (ByLength limit traced))) code text }
     ensures job_sets { (told : List ℕ → Option (List ℕ)) (risen : List ℕ → Bool) (number : ℕ)
         (sets others : Option ℕ) (code : ℕ) (text : List ℕ)
@@ -51,13 +52,15 @@ pub fn one_outcome()
 pub fn where_none_rose()
     ensures none { (told other : List ℕ → Option (List ℕ)) (before now : List ℕ → ℕ) (asked : Option Command)
         (code : ℕ) (text : List ℕ)
-        → ((n file : List ℕ) → IsFile (told n) file → IsFile (other n) file) → ((n : List ℕ) → Rose (before n) (now n) → ⊥)
+        → ((n file : List ℕ) → IsFile (told n) file → IsFile (other n) file)
+        → ((n : List ℕ) → Rose (before n) (now n) → ⊥)
         → Gives told (λ n. Rose (before n) (now n)) asked code text → Gives other (λ n. ⊥) asked code text }
     ensures some { (told other : List ℕ → Option (List ℕ)) (before now first last : List ℕ → ℕ) (asked : Option Command)
         (code : ℕ) (text : List ℕ)
         → ((n file : List ℕ) → IsFile (told n) file → IsFile (other n) file)
         → ((n : List ℕ) → Rose (before n) (now n) → Rose (first n) (last n))
-        → Gives told (λ n. Rose (before n) (now n)) asked code text → Gives other (λ n. Rose (first n) (last n)) asked code text }
+        → Gives told (λ n. Rose (before n) (now n)) asked code text
+        → Gives other (λ n. Rose (first n) (last n)) asked code text }
 {}
 
 /// The command over files and a sink in memory: a status below 6 has its whole text. Where no call is set to fail, each
@@ -77,7 +80,8 @@ pub fn i960_in_memory(
         → AllByRecursion (λ name. IsSome (mem_files.held_file files.old name)) (names_of (asked_for words.now.items))
         → (result.code ≢ 5) × (mem_files.fault_count files.new ≡ mem_files.fault_count files.old) }
     ensures calm_sink { NoneToFail (mem_sink.calls_of out.old)
-        → ((code : ℕ) (text : List ℕ) → Outcomes mem_files.held_file (λ m n. mem_files.fault_count m) files.old files.new words.now.items code text
+        → ((code : ℕ) (text : List ℕ)
+        → Outcomes mem_files.held_file (λ m n. mem_files.fault_count m) files.old files.new words.now.items code text
         → length text ≤ mem_sink.room_left out.old)
         → (result.code ≢ 6) × (mem_sink.fault_count out.new ≡ mem_sink.fault_count out.old) }
 {

@@ -2,14 +2,17 @@
 #![tactic(auto)]
 
 mod files;
-mod image;
+mod inputs;
 mod job;
 pub mod laws;
 mod listing;
+mod made;
+mod refusal;
 mod run;
 mod script;
 mod source;
 mod status;
+mod tasks;
 mod top;
 mod tuned;
 mod words;

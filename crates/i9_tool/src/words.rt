@@ -3,9 +3,11 @@ ghost use Rattle.std.specs.Prelude.{◌≡◌, ◌%◌, ◌≤◌, ◌<◌, ◌�
 ghost use Rattle.std.specs.Option.{option_map, option_copied};
 ghost use Rattle.std.specs.String.{string_bytes};
 ghost use Rattle.i9_model.specs.declared.layout.TheConstants.{MAX_LENGTH};
-ghost use Rattle.i9_tool.specs.CommandLine.{sets_for, schedule_for, address_of, range_for, number_in, most_number, most_tuned, of_instruction, tune_for};
+ghost use Rattle.i9_tool.specs.CommandLine.{sets_for, schedule_for, address_of, range_for, number_in, of_instruction};
+ghost use Rattle.i9_tool.specs.CommandLine.{most_number, most_tuned, tune_for};
 ghost use Rattle.i9_tool.specs.CommandLine.{length_for, script_for, driver_for, run_for, command_of};
-ghost use Rattle.i9_tool.specs.Words.{driver_by, run_by, job_by, tune_by, asked_by, AreFew, IsShort, CanRun, IsBlock, Fits};
+ghost use Rattle.i9_tool.specs.Words.{driver_by, run_by, job_by, tune_by, asked_by};
+ghost use Rattle.i9_tool.specs.Words.{AreFew, IsShort, CanRun, IsBlock, Fits};
 
 use i9_model::layout::{MAX_LENGTH, MOST_SETS};
 use i9_text::number;
@@ -17,8 +19,8 @@ pub(crate) struct Range {
     pub(crate) high: u32,
 }
 
-/// What drives a run: a length of at most so many instructions, and then it is printed, and the instructions of a range of
-/// addresses or none are traced; or the script of this name.
+/// What drives a run: a length of at most so many instructions, and then it is printed, and the instructions of a range
+/// of addresses or none are traced; or the script of this name.
 #[derive(Clone, Copy)]
 pub(crate) enum Driver<'a> {
     Length(u64, Option<Range>),
@@ -50,17 +52,22 @@ pub(crate) enum Format {
     Elf,
 }
 
-/// What `tune` asks for: to tune the block of so many instructions that stands in the image of this name from an address
-/// on, which is a multiple of 4.
+/// A block of so many instructions that stands in an image from an address on, which is a multiple of 4.
 #[derive(Clone, Copy)]
-pub(crate) struct TuneWords<'a> {
-    pub(crate) image: &'a str,
+pub(crate) struct Block {
     pub(crate) address: u32,
     pub(crate) count: u8,
 }
 
-/// What the words ask for: to run an image, to assemble the source of this name and print its image in a format, to list
-/// the image of this name, to run the job of a number, or to tune a block of an image.
+/// What `tune` asks for: to tune a block of the image of this name.
+#[derive(Clone, Copy)]
+pub(crate) struct TuneWords<'a> {
+    pub(crate) image: &'a str,
+    pub(crate) block: Block,
+}
+
+/// What the words ask for: to run an image, to assemble the source of this name and print its image in a format, to
+/// list the image of this name, to run the job of a number, or to tune a block of an image.
 #[derive(Clone, Copy)]
 pub(crate) enum Asked<'a> {
     Run(RunWords<'a>),
@@ -188,7 +195,8 @@ fn run_asked<'a>(
     sets: &str,
     last: &'a [String],
 ) -> Option<RunWords<'a>>
-    ensures asked { option_map run_by result ≡ run_for image.now (schedule_for schedule.now) (sets_for sets.now) (driver_for name.now (map string_bytes last.now)) }
+    ensures asked { option_map run_by result ≡ run_for image.now (schedule_for schedule.now) (sets_for sets.now)
+        (driver_for name.now (map string_bytes last.now)) }
     ensures can { IfSome result CanRun }
 {
     let schedule = schedule_asked(schedule)?;
@@ -278,19 +286,17 @@ fn block_asked<'a>(
     count: &str,
     last: &[String],
 ) -> Option<TuneWords<'a>>
-    ensures asked { option_map tune_by result ≡ tune_for image.now (of_instruction (address_of address.now)) (number_in 1 most_tuned count.now) (map string_bytes last.now) }
-    ensures block { IfSome result IsBlock }
+    ensures asked { option_map tune_by result ≡ tune_for image.now (of_instruction (address_of address.now))
+        (number_in 1 most_tuned count.now) (map string_bytes last.now) }
+    ensures block { IfSome result (λ words. IsBlock words.block) }
 {
     let address = instruction_asked(address)?;
     let count = count_asked(count)?;
     if image.is_empty() || !last.is_empty() {
         return None;
     }
-    Some(TuneWords {
-        image,
-        address,
-        count,
-    })
+    let block = Block { address, count };
+    Some(TuneWords { image, block })
 }
 
 /// What `tune` asks for, or what drives a run, with these words behind it, where they are in a form of these.
@@ -302,7 +308,8 @@ fn image_asked<'a>(
     third: &str,
     last: &'a [String],
 ) -> Option<Asked<'a>>
-    ensures asked { option_map asked_by result ≡ command_of (name.now ∷ image.now ∷ second.now ∷ third.now ∷ map string_bytes last.now) }
+    ensures asked { option_map asked_by result ≡ command_of
+        (name.now ∷ image.now ∷ second.now ∷ third.now ∷ map string_bytes last.now) }
     ensures fits { IfSome result Fits }
 {
     if name == "tune" {

@@ -1,9 +1,9 @@
 use Rattle.i9_job.proofs.MadeSource.{source_not_refused}
-use Rattle.i9_tool.proofs.Outcomes.{answers_unprinted, some_job}
+use Rattle.i9_tool.proofs.Outcomes.{answers_unprinted}
 use Rattle.i9_tool.proofs.job.assemble_job.Goals as goal
 
 pub returns-in-Err-Memory-clause-answers : goal.returns-in-Err-Memory-clause-answers
-returns-in-Err-Memory-clause-answers g c = answers_unprinted _ _ _ (some_job _ _)
+returns-in-Err-Memory-clause-answers g c = λ some. answers_unprinted _ _ _ some
 
 pub unreachable-requires : goal.unreachable-requires
 unreachable-requires g c =

@@ -1,13 +1,13 @@
 use Rattle.i9_model.proofs.Plans.{schedule_is_plan}
 use Rattle.i9_job.proofs.MadeSchedule.{schedule_not_refused}
-use Rattle.i9_tool.proofs.Outcomes.{answers_unprinted, some_job}
+use Rattle.i9_tool.proofs.Outcomes.{answers_unprinted}
 use Rattle.i9_tool.proofs.job.schedule_job.Goals as goal
 
 pub run_job-requires-clause-plan : goal.run_job-requires-clause-plan
 run_job-requires-clause-plan g c = schedule_is_plan _ _ c.in-Ok.ensures.found
 
 pub returns-in-Err-Memory-clause-answers : goal.returns-in-Err-Memory-clause-answers
-returns-in-Err-Memory-clause-answers g c = answers_unprinted _ _ _ (some_job _ _)
+returns-in-Err-Memory-clause-answers g c = λ some. answers_unprinted _ _ _ some
 
 pub unreachable-requires : goal.unreachable-requires
 unreachable-requires g c =

@@ -1,6 +1,6 @@
 use Rattle.std.proofs.Common.{refl}
 use Rattle.i9_debug.specs.Session.{end_at}
-use Rattle.i9_tool.proofs.Outcomes.{answers_unprinted, script_runs, some_commands}
+use Rattle.i9_tool.proofs.Outcomes.{answers_unprinted, script_runs}
 use Rattle.i9_tool.proofs.script.run_script.Goals as goal
 
 pub session-requires-clause-stands : goal.session-requires-clause-stands
@@ -12,9 +12,9 @@ session-requires-clause-stands g c = record {
 }
 
 pub returns-in-Ok-clause-answers : goal.returns-in-Ok-clause-answers
-returns-in-Ok-clause-answers g c =
+returns-in-Ok-clause-answers g c = λ some.
     let told = c.session.ensures in
-    script_runs _ _ _ _ _ _ _ _ _ _ _ told (c.status_of_session.ensures.told (end_at told.drives.last) told.tells)
+    script_runs _ _ _ _ _ _ _ _ _ _ _ told (c.ending_of_session.ensures.told (end_at told.drives.last) told.tells)
 
 pub returns-in-Err-clause-answers : goal.returns-in-Err-clause-answers
-returns-in-Err-clause-answers g c = answers_unprinted _ _ _ (some_commands _ _ _ c.args.script.now c.requires.limits)
+returns-in-Err-clause-answers g c = λ some. answers_unprinted _ _ _ some
