@@ -1,4 +1,5 @@
 pub mod TextLines
+pub mod Feeds
 pub mod Prints
 pub mod Registers
 pub mod Lined

@@ -154,7 +154,7 @@ pub line-elf : (kind : ℕ) → IsLine (elf_line kind)
 unfolding elf_line
 line-elf kind = after_plain (codes "#image elf kind " ++ decimal kind) (10 ∷ []) (plain-append (codes "#image elf kind ") (decimal kind) refl (plain-decimal kind)) refl
 
-pub ruleset line_rules = (line_alone, line-out, line-point, line-event, line-bytes, line-end, line-generated, line-elf, line-globals, line-locals)
+pub ruleset line_rules = (line_alone, line-generated, line-elf)
 
 -- ---- the lines of a session
 
@@ -196,5 +196,3 @@ line-who (Some change) =
     let begun = plain-append (codes "#who ") (decimal change.0) refl (plain-decimal change.0) in
     after_plain (codes "#who " ++ decimal change.0 ++ spaced change.1) (10 ∷ [])
     (plain-append (codes "#who " ++ decimal change.0) (spaced change.1) begun (plain-word_text change.1)) refl
-
-pub ruleset place_rules = (line-turn, line-view, line-raw, line-raw_globals, line-raw_locals, line-held, line-bytes, line-raw_bytes, line-who, line-globals, line-locals)

@@ -1,9 +1,7 @@
 -- Printing one text after another.
 use Rattle.std.proofs.Common.{◌≡◌, ◌≢◌, ℕ, zero, suc, ◌+◌, ◌<◌, ◌≤◌, List, [], ◌∷◌, ◌++◌, length, take, drop, get_or, flat_map, length-append, add-zero, Option, refl, sym, ◌∙◌, ap, append_assoc, add_assoc, subst, arith}
 use Rattle.std.proofs.lemmas.List.{append-nil, take-append-drop, take_more}
-use Rattle.std.proofs.lemmas.List.Elements.{All-from_recursion}
 use Rattle.std.specs.List.{AllByRecursion}
-use Rattle.std.specs.Global.{Vec}
 use Rattle.std.proofs.lemmas.Grind.{flat_map-append}
 use Rattle.std.specs.Io.KnownBytes.{Appends}
 use Rattle.i9_debug.specs.declared.print.Printed.{Printed}
@@ -11,8 +9,8 @@ use Rattle.i9_debug.specs.declared.print.Printed.TheVariants.{Done, Write, Memor
 use Rattle.i9_outside.specs.Counts.{one_more, Rose}
 use Rattle.i9_outside.specs.declared.traits.Wrote.TheVariants as writes
 use Rattle.i9_outside.specs.Traits.{AppendsFront, TakesPiece}
-use Rattle.i9_debug.specs.Print.{Account, Prints, OnDone, CountsUpTo, Takes, TakesFront, TakesFirst, IsPiece, IsLine, AreLines, lines_in, counted_on}
-use Rattle.i9_debug.proofs.TextLines.{IsClosed, closed_none, closed_join, closed_line, line_alone}
+use Rattle.i9_debug.specs.Print.{Account, Prints, OnDone, CountsUpTo, Takes, TakesFront, TakesFirst, IsPiece, lines_in, counted_on}
+use Rattle.i9_debug.proofs.TextLines.{IsClosed, closed_none, closed_join, line_alone}
 use Rattle.i9_outside.proofs.Appending.{Appends-nothing, Appends-then}
 
 front_none : (known : Option (List ℕ)) (text : List ℕ) → AppendsFront known known text
@@ -114,15 +112,6 @@ module _ {K : Type 0} (taken : K → List (List ℕ) → Type 0) where
   }
 
 -- ---- texts of items
-
--- each of some lines is closed
-pub closed_lines : (pieces : List (Vec ℕ)) → AreLines pieces → AllByRecursion (λ p. IsClosed p.items) pieces
-closed_lines [] h = tt
-closed_lines (p ∷ ps) h = (closed_line p.items h.0, closed_lines ps h.1)
-
--- and is one line
-pub line_at : (pieces : List (Vec ℕ)) (i : ℕ) (d : Vec ℕ) → i < length pieces → AreLines pieces → IsPiece (get_or pieces i d).items
-line_at pieces i d inside lines = line_alone (get_or pieces i d).items (All-from_recursion (λ p. IsLine p.items) pieces lines i d inside)
 
 -- the text of the first closed ones is closed
 closed_front : {X : Type 0} (text : X → List ℕ) (items : List X) (i : ℕ) → AllByRecursion (λ x. IsClosed (text x)) items → IsClosed (flat_map text (take i items))

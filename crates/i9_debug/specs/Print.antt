@@ -1,7 +1,6 @@
 -- What printing a text does to a sink.
 use Rattle.std.specs.Prelude.{◌≡◌, ◌≢◌, ℕ, zero, suc, ◌+◌, ◌≤◌, if◌then◌else◌, List, [], ◌∷◌, ◌++◌, length, Option}
-use Rattle.std.specs.Global.{Vec}
-use Rattle.std.specs.List.{AllByRecursion, position_or_len}
+use Rattle.std.specs.List.{position_or_len}
 use Rattle.std.specs.Io.KnownBytes.{Appends}
 use Rattle.i9_model.specs.PrintedText.{shown_text}
 use Rattle.i9_machine.specs.declared.line.Line.{Line}
@@ -44,10 +43,6 @@ IsPiece text = lines_in text ≡ text ∷ []
 -- a text that is one line with its line feed: its first line feed is its last byte
 abbrev pub IsLine : List ℕ → Type 0
 IsLine text = position_or_len is_line_feed text + 1 ≡ length text
-
--- each piece is one line with its line feed
-abbrev pub AreLines : List (Vec ℕ) → Type 0
-AreLines pieces = AllByRecursion (λ p. IsLine p.items) pieces
 
 -- ---- counts
 

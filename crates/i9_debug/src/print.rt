@@ -3,9 +3,9 @@ ghost use Rattle.std.specs.Prelude.{◌≡◌, ◌≢◌, flat_map};
 ghost use Rattle.std.specs.List.{position};
 ghost use Rattle.i9_text.specs.Text.{is_line_feed};
 ghost use Rattle.i9_debug.specs.Lines.{elf_line, generated_line, refused_line};
-ghost use Rattle.i9_debug.specs.Print.{Prints, IsLine, IsPiece, AreLines, account, line_text};
+ghost use Rattle.i9_debug.specs.Print.{Prints, IsLine, IsPiece, account, line_text};
 
-use crate::text::{elf_line, generated_line, lines_of, refused_line};
+use crate::text::{add_line, elf_line, generated_line, refused_line};
 use i9_machine::{End, Line};
 use i9_outside::{Sink, Wrote};
 use std::alloc::Global;
@@ -33,29 +33,11 @@ pub fn print_piece<K: Sink>(piece: &[u8], out: &mut K) -> Printed
     }
 }
 
-/// Writes lines in order, each by one call of the sink.
-#[tactic(auto, using(crate::proofs::Prints::prints_rules))]
-pub(crate) fn print_pieces<K: Sink>(pieces: &[Vec<u8>], out: &mut K) -> Printed
-    requires lines { AreLines pieces.now }
-    ensures prints { Prints result (account K.told K.faults K.writes K.sure K.pieces) out.old out.new
-        (flat_map (λ p. p.items) pieces.now) }
-    ensures takes_no_memory { result ≢ Printed.Memory }
-{
-    for piece in pieces {
-        match print_piece(piece, out) {
-            Printed::Done => {}
-            Printed::Write => return Printed::Write,
-            Printed::Memory => return Printed::Memory,
-        }
-    }
-    Printed::Done
-}
-
 /// The place of the first line feed of a text.
 fn feed_place(text: &[u8]) -> Option<usize>
     ensures { result ≡ position is_line_feed text.now }
 {
-    text.iter().position(|byte| *byte == b'\n')
+    memchr::memchr(b'\n', text)
 }
 
 /// Writes the lines of a text, each by one call of the sink; the last one may lack its line feed.
@@ -130,15 +112,24 @@ pub fn print_generated<K: Sink>(
     }
 }
 
-/// Writes the lines of l, each by one call of the sink.
+/// Writes the lines of l, each by one call of the sink. They are made in a text that is lent, whatever it holds.
 #[tactic(auto, using(crate::proofs::Prints::prints_rules))]
+fn print_by<K: Sink>(alloc: Global, text: &mut Vec<u8>, l: &Line, out: &mut K) -> Printed
+    ensures { Prints result (account K.told K.faults K.writes K.sure K.pieces) out.old out.new (line_text l.now) }
+{
+    text.clear();
+    match add_line(alloc, text, l) {
+        Ok(()) => print_text(text, out),
+        Err(_) => Printed::Memory,
+    }
+}
+
+/// Writes the lines of l, each by one call of the sink.
 pub fn print_line<K: Sink>(alloc: Global, l: &Line, out: &mut K) -> Printed
     ensures { Prints result (account K.told K.faults K.writes K.sure K.pieces) out.old out.new (line_text l.now) }
 {
-    match lines_of(alloc, l) {
-        Ok(lines) => print_pieces(&lines, out),
-        Err(_) => Printed::Memory,
-    }
+    let mut text = Vec::new(alloc);
+    print_by(alloc, &mut text, l, out)
 }
 
 /// Writes lines in order.
@@ -147,8 +138,9 @@ pub fn print_line<K: Sink>(alloc: Global, l: &Line, out: &mut K) -> Printed
 fn print_each<K: Sink>(alloc: Global, lines: &[Line], out: &mut K) -> Printed
     ensures { Prints result (account K.told K.faults K.writes K.sure K.pieces) out.old out.new (flat_map line_text lines.now) }
 {
+    let mut text = Vec::new(alloc);
     for line in lines {
-        match print_line(alloc, line, out) {
+        match print_by(alloc, &mut text, line, out) {
             Printed::Done => {}
             Printed::Write => return Printed::Write,
             Printed::Memory => return Printed::Memory,

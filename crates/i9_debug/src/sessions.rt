@@ -15,8 +15,8 @@ ghost use Rattle.i9_debug.specs.Driven.{Drives, InOneTurn, AtMostOne, CutInRun, 
 ghost use Rattle.i9_debug.specs.declared.print.Printed.TheVariants as printed;
 
 use crate::backward::{back_by, back_to, change_told};
-use crate::place::told_lines;
-use crate::print::{Printed, print_lines, print_pieces};
+use crate::place::told_text;
+use crate::print::{Printed, print_lines, print_text};
 use i9_back::Trail;
 use i9_hex::Segments;
 use i9_isa::NoMemory;
@@ -253,8 +253,8 @@ fn tell<K: Sink>(
     ensures trail { IsTrail (given_of image.now sets plan.old) trail.new }
 {
     match change_told(alloc, image, sets, trail, m, plan, c) {
-        Ok(change) => match told_lines(alloc, m, c, change) {
-            Ok(lines) => print_pieces(&lines, out),
+        Ok(change) => match told_text(alloc, m, c, change) {
+            Ok(text) => print_text(&text, out),
             Err(_) => Printed::Memory,
         },
         Err(_) => Printed::Memory,

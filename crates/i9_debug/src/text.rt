@@ -1,13 +1,13 @@
 //! The text of lines.
-ghost use Rattle.std.specs.Prelude.{◌≡◌, ◌++◌, ◌∷◌, [], ◌≤◌, ◌<◌, ◌^◌, length, drop, IfOk, OnOk, codes};
+ghost use Rattle.std.specs.Prelude.{◌≡◌, ◌++◌, ◌∷◌, [], ◌≤◌, ◌<◌, ◌/◌, ◌%◌};
+ghost use Rattle.std.specs.Prelude.{length, drop, IfOk, OnOk, codes, slice_index};
 ghost use Rattle.std.specs.Fmt.{decimal};
-ghost use Rattle.std.specs.List.{flat_map};
-ghost use Rattle.i9_text.specs.Written.{word_text, byte_text};
+ghost use Rattle.std.specs.List.{flat_map, range_with_len};
+ghost use Rattle.hex.specs.Hex.{upper_digits};
 ghost use Rattle.i9_model.specs.PrintedText.{out_text, event_text, drained_text, point_text, point_shown, bytes_text};
 ghost use Rattle.i9_model.specs.PrintedText.{end_text, shown_text, words_text, spaced, spaced_byte, line_feed};
 ghost use Rattle.i9_model.specs.PrintedText.{spaced_register, registers_text};
 ghost use Rattle.i9_machine.specs.Line.{shown_of};
-ghost use Rattle.i9_debug.specs.Print.{IsLine, AreLines};
 ghost use Rattle.i9_debug.specs.Lines.{elf_line, generated_line, refused_line};
 ghost use Rattle.i9_debug.specs.Session.{view_registers};
 
@@ -15,16 +15,78 @@ use i9_machine::{End, Line, Point};
 use i9_model::{Event, View};
 use std::alloc::{AllocError, Global};
 
+/// The digits. In upper case `hex` writes them only into a new `String`.
+const DIGITS: &[u8; 16] = b"0123456789ABCDEF";
+
 /// What the line of the end of a run begins with.
 const END_LABEL: &[u8] = b"#end ";
 
-/// Appends a word in eight upper-case hexadecimal digits.
-#[tactic(auto, unfolding(i9_text::specs::Written::word_text))]
-pub(crate) fn add_word(alloc: Global, text: &mut Vec<u8>, word: u32) -> Result<(), AllocError>
-    ensures { OnOk result (text.new.items ≡ text.old.items ++ word_text word) }
+/// Room for the three lines of a drained point.
+const POINT_ROOM: usize = 360;
+
+/// The first digit of a byte.
+fn first_digit(byte: u8) -> u8
+    ensures { result ≡ slice_index upper_digits (byte / 16) }
 {
-    let digits = hex::encode_upper(alloc, word.to_be_bytes())?;
-    text.extend_from_slice(digits.as_bytes())
+    DIGITS[usize::from(byte / 16)]
+}
+
+/// The second digit of a byte.
+fn second_digit(byte: u8) -> u8
+    ensures { result ≡ slice_index upper_digits (byte % 16) }
+{
+    DIGITS[usize::from(byte % 16)]
+}
+
+/// A space, and a word in eight upper-case hexadecimal digits.
+#[tactic(auto, unfolding(i9_text::specs::Written::word_text, hex::specs::Hex::encode_with))]
+fn spaced_word(word: u32) -> [u8; 9]
+    ensures { result ≡ spaced word }
+{
+    let bytes = word.to_be_bytes();
+    [
+        b' ',
+        first_digit(bytes[0]),
+        second_digit(bytes[0]),
+        first_digit(bytes[1]),
+        second_digit(bytes[1]),
+        first_digit(bytes[2]),
+        second_digit(bytes[2]),
+        first_digit(bytes[3]),
+        second_digit(bytes[3]),
+    ]
+}
+
+/// Appends a word after a space.
+#[inline(always)]
+pub(crate) fn add_word(text: &mut Vec<u8>, word: u32) -> Result<(), AllocError>
+    ensures { OnOk result (text.new.items ≡ text.old.items ++ spaced word) }
+{
+    text.extend_from_slice(&spaced_word(word))
+}
+
+/// Appends words, each after a space, and a line feed.
+pub(crate) fn add_words(text: &mut Vec<u8>, words: &[u32]) -> Result<(), AllocError>
+    ensures { OnOk result (text.new.items ≡ text.old.items ++ flat_map spaced words.now ++ line_feed) }
+{
+    for word in words {
+        add_word(text, *word)?;
+    }
+    text.push(b'\n')?;
+    Ok(())
+}
+
+/// Appends a label, and words as `add_words` does.
+#[tactic(auto, unfolding(i9_model::specs::PrintedText::words_text))]
+pub(crate) fn add_words_line(
+    text: &mut Vec<u8>,
+    label: &[u8],
+    words: &[u32],
+) -> Result<(), AllocError>
+    ensures { OnOk result (text.new.items ≡ text.old.items ++ words_text label.now words.now) }
+{
+    text.extend_from_slice(label)?;
+    add_words(text, words)
 }
 
 /// Appends a count in decimal digits.
@@ -35,16 +97,44 @@ pub(crate) fn add_count(alloc: Global, text: &mut Vec<u8>, count: u64) -> Result
     text.extend_from_slice(digits.as_bytes())
 }
 
-/// The line of a byte of the console.
-#[tactic(auto, unfolding(i9_model::specs::PrintedText::out_text, i9_text::specs::Written::byte_text))]
-fn out_line(alloc: Global, byte: u8) -> Result<Vec<u8>, AllocError>
-    ensures { IfOk result (λ t. t.items ≡ out_text byte) }
+/// A space, and a byte in two upper-case hexadecimal digits.
+#[tactic(auto, unfolding(i9_text::specs::Written::byte_text, hex::specs::Hex::encode_with))]
+fn spaced_digits(byte: u8) -> [u8; 3]
+    ensures { result ≡ spaced_byte (Some byte) }
 {
-    let mut text = Vec::from_slice(alloc, b"#out ")?;
-    let digits = hex::encode_upper(alloc, [byte])?;
-    text.extend_from_slice(digits.as_bytes())?;
+    [b' ', first_digit(byte), second_digit(byte)]
+}
+
+/// Appends a byte after a space, or two dashes where none is compared.
+fn add_byte(text: &mut Vec<u8>, byte: Option<u8>) -> Result<(), AllocError>
+    ensures { OnOk result (text.new.items ≡ text.old.items ++ spaced_byte byte) }
+{
+    match byte {
+        None => text.extend_from_slice(b" --"),
+        Some(byte) => text.extend_from_slice(&spaced_digits(byte)),
+    }
+}
+
+/// Appends bytes, each after a space, and a line feed.
+pub(crate) fn add_bytes(text: &mut Vec<u8>, list: &[Option<u8>]) -> Result<(), AllocError>
+    ensures { OnOk result (text.new.items ≡ text.old.items ++ flat_map spaced_byte list.now ++ line_feed) }
+{
+    for byte in list {
+        add_byte(text, *byte)?;
+    }
     text.push(b'\n')?;
-    Ok(text)
+    Ok(())
+}
+
+/// Appends the line of a byte of the console.
+#[tactic(auto, unfolding(i9_model::specs::PrintedText::out_text))]
+fn add_out(text: &mut Vec<u8>, byte: u8) -> Result<(), AllocError>
+    ensures { OnOk result (text.new.items ≡ text.old.items ++ out_text byte) }
+{
+    text.extend_from_slice(b"#out")?;
+    text.extend_from_slice(&spaced_digits(byte))?;
+    text.push(b'\n')?;
+    Ok(())
 }
 
 /// The name of a kind of drained point.
@@ -61,174 +151,150 @@ fn name_of(kind: Point) -> &'static [u8]
     }
 }
 
-/// The line of an event that was reached after so many instructions.
+/// Appends the line of an event that was reached after so many instructions.
 #[tactic(auto, unfolding(i9_model::specs::PrintedText::event_text))]
-fn event_line(alloc: Global, count: u64, event: &Event) -> Result<Vec<u8>, AllocError>
-    ensures { IfOk result (λ t. t.items ≡ event_text count event.now) }
+fn add_event(alloc: Global, text: &mut Vec<u8>, count: u64, event: &Event) -> Result<(), AllocError>
+    ensures { OnOk result (text.new.items ≡ text.old.items ++ event_text count event.now) }
 {
-    let mut text = i9_schedule::event_text(alloc, count, event)?;
+    let line = i9_schedule::event_text(alloc, count, event)?;
+    text.extend_from_slice(&line)?;
     text.push(b'\n')?;
-    Ok(text)
-}
-
-/// Appends a byte after a space, or two dashes where none is compared.
-#[tactic(auto, unfolding(i9_text::specs::Written::byte_text))]
-fn add_byte(alloc: Global, text: &mut Vec<u8>, byte: Option<u8>) -> Result<(), AllocError>
-    ensures { OnOk result (text.new.items ≡ text.old.items ++ spaced_byte byte) }
-{
-    match byte {
-        None => text.extend_from_slice(b" --"),
-        Some(byte) => {
-            text.push(b' ')?;
-            let digits = hex::encode_upper(alloc, [byte])?;
-            text.extend_from_slice(digits.as_bytes())
-        }
-    }
-}
-
-/// Appends bytes, each after a space.
-pub(crate) fn add_bytes(
-    alloc: Global,
-    text: &mut Vec<u8>,
-    list: &[Option<u8>],
-) -> Result<(), AllocError>
-    ensures { OnOk result (text.new.items ≡ text.old.items ++ flat_map spaced_byte list.now) }
-{
-    for byte in list {
-        add_byte(alloc, text, *byte)?;
-    }
     Ok(())
 }
 
-/// The line of the bytes from an address on.
+/// Appends the line of the bytes from an address on.
 #[tactic(auto, unfolding(i9_model::specs::PrintedText::bytes_text))]
-pub(crate) fn bytes_line(
-    alloc: Global,
+pub(crate) fn add_bytes_line(
+    text: &mut Vec<u8>,
     address: u32,
     list: &[Option<u8>],
-) -> Result<Vec<u8>, AllocError>
-    ensures { IfOk result (λ t. t.items ≡ bytes_text address list.now) }
+) -> Result<(), AllocError>
+    ensures { OnOk result (text.new.items ≡ text.old.items ++ bytes_text address list.now) }
 {
-    let mut text = Vec::from_slice(alloc, b"#mem ")?;
-    add_word(alloc, &mut text, address)?;
-    add_bytes(alloc, &mut text, list)?;
-    text.push(b'\n')?;
-    Ok(text)
-}
-
-/// A label and words, each after a space.
-#[tactic(auto, unfolding(i9_model::specs::PrintedText::words_text))]
-pub(crate) fn words_line(alloc: Global, label: &[u8], words: &[u32]) -> Result<Vec<u8>, AllocError>
-    ensures { IfOk result (λ t. t.items ≡ words_text label.now words.now) }
-{
-    let mut text = Vec::from_slice(alloc, label)?;
-    for word in words {
-        text.push(b' ')?;
-        add_word(alloc, &mut text, *word)?;
-    }
-    text.push(b'\n')?;
-    Ok(text)
+    text.extend_from_slice(b"#mem")?;
+    add_word(text, address)?;
+    add_bytes(text, list)
 }
 
 /// Appends a register after a space: its value, or eight dashes where it is marked.
-fn add_register(alloc: Global, text: &mut Vec<u8>, view: &View, r: usize) -> Result<(), AllocError>
+fn add_register(text: &mut Vec<u8>, view: &View, r: usize) -> Result<(), AllocError>
     requires { r < 32 }
     ensures { OnOk result (text.new.items ≡ text.old.items ++ spaced_register view.now r) }
 {
     if (view.marks >> r) % 2 == 1 {
         return text.extend_from_slice(b" --------");
     }
-    text.push(b' ')?;
-    add_word(alloc, text, view.regs[r])
+    add_word(text, view.regs[r])
 }
 
-/// A label, and sixteen registers of a view from one on.
-fn registers_line(
-    alloc: Global,
+/// Appends sixteen registers of a view from one on.
+fn add_sixteen(text: &mut Vec<u8>, view: &View, first: usize) -> Result<(), AllocError>
+    requires { first ≤ 16 }
+    ensures { OnOk result
+        (text.new.items ≡ text.old.items ++ flat_map (spaced_register view.now) (range_with_len first 16)) }
+{
+    for k in 0..16 {
+        add_register(text, view, first + k)?;
+    }
+    Ok(())
+}
+
+/// Appends a label, and sixteen registers of a view from one on.
+#[tactic(auto, unfolding(i9_model::specs::PrintedText::registers_text))]
+fn add_registers_line(
+    text: &mut Vec<u8>,
     label: &[u8],
     view: &View,
     first: usize,
-) -> Result<Vec<u8>, AllocError>
+) -> Result<(), AllocError>
     requires { first ≤ 16 }
-    ensures { IfOk result (λ t. t.items ≡ registers_text label.now view.now first) }
+    ensures { OnOk result (text.new.items ≡ text.old.items ++ registers_text label.now view.now first) }
 {
-    let mut text = Vec::from_slice(alloc, label)?;
-    for k in 0..16 {
-        add_register(alloc, &mut text, view, first + k)?;
-    }
+    text.extend_from_slice(label)?;
+    add_sixteen(text, view, first)?;
     text.push(b'\n')?;
-    Ok(text)
+    Ok(())
 }
 
-/// Three texts.
-pub(crate) fn three(
-    alloc: Global,
-    first: Vec<u8>,
-    second: Vec<u8>,
-    third: Vec<u8>,
-) -> Result<Vec<Vec<u8>>, AllocError>
-    requires first { IsLine first.items }
-    requires second { IsLine second.items }
-    requires third { IsLine third.items }
-    ensures lines { IfOk result (λ ts. AreLines ts.items) }
-    ensures text { IfOk result (λ ts. flat_map (λ t. t.items) ts.items ≡ first.items ++ (second.items ++ third.items)) }
+/// Appends the lines of the global and of the local registers of a view.
+pub(crate) fn add_registers(text: &mut Vec<u8>, view: &View) -> Result<(), AllocError>
+    ensures { OnOk result (text.new.items ≡ text.old.items ++ view_registers view.now) }
 {
-    let mut lines = Vec::new(alloc);
-    lines.push(first)?;
-    lines.push(second)?;
-    lines.push(third)?;
-    Ok(lines)
+    add_registers_line(text, b"#g", view, 16)?;
+    add_registers_line(text, b"#l", view, 0)
 }
 
-/// A line, and behind it those of the global and of the local registers of a view.
-#[tactic(auto, using(crate::proofs::LineCounts::line_rules))]
-pub(crate) fn with_registers(
+/// Appends the first line of a drained point.
+#[tactic(auto, unfolding(i9_model::specs::PrintedText::point_text, i9_model::specs::PrintedText::words_text))]
+fn add_point_line(
     alloc: Global,
-    first: Vec<u8>,
+    text: &mut Vec<u8>,
+    kind: Point,
     view: &View,
-) -> Result<Vec<Vec<u8>>, AllocError>
-    requires first { IsLine first.items }
-    ensures lines { IfOk result (λ ts. AreLines ts.items) }
-    ensures text { IfOk result (λ ts. flat_map (λ t. t.items) ts.items ≡ first.items ++ view_registers view.now) }
+) -> Result<(), AllocError>
+    ensures { OnOk result (text.new.items ≡ text.old.items ++ point_text kind view.now) }
 {
-    let globals = registers_line(alloc, b"#g", view, 16)?;
-    let locals = registers_line(alloc, b"#l", view, 0)?;
-    three(alloc, first, globals, locals)
+    text.extend_from_slice(b"#point ")?;
+    add_count(alloc, text, view.count)?;
+    text.push(b' ')?;
+    text.extend_from_slice(name_of(kind))?;
+    add_words(text, &[view.ip, view.ac, view.pc])
 }
 
-/// The first line of a drained point.
-#[tactic(auto, unfolding(i9_model::specs::PrintedText::point_text))]
-fn point_line(alloc: Global, kind: Point, view: &View) -> Result<Vec<u8>, AllocError>
-    ensures { IfOk result (λ t. t.items ≡ point_text kind view.now) }
+/// Appends the three lines of a drained point.
+fn add_point(alloc: Global, text: &mut Vec<u8>, kind: Point, view: &View) -> Result<(), AllocError>
+    ensures { OnOk result (text.new.items ≡ text.old.items ++ point_shown kind view.now) }
 {
-    let mut label = Vec::from_slice(alloc, b"#point ")?;
-    add_count(alloc, &mut label, view.count)?;
-    label.push(b' ')?;
-    label.extend_from_slice(name_of(kind))?;
-    words_line(alloc, &label, &[view.ip, view.ac, view.pc])
+    text.reserve(POINT_ROOM)?;
+    add_point_line(alloc, text, kind, view)?;
+    add_registers(text, view)
 }
 
-/// The line of a dead entry of the fault table.
-fn dead_line(alloc: Global, code: u8, address: u32) -> Result<Vec<u8>, AllocError>
-    ensures { IfOk result (λ t. t.items ≡ words_text (codes "#end dead " ++ decimal code) (address ∷ [])) }
+/// Appends the line of a dead entry of the fault table.
+#[tactic(auto, unfolding(i9_model::specs::PrintedText::words_text))]
+fn add_dead(alloc: Global, text: &mut Vec<u8>, code: u8, address: u32) -> Result<(), AllocError>
+    ensures { OnOk result
+        (text.new.items ≡ text.old.items ++ words_text (codes "#end dead " ++ decimal code) (address ∷ [])) }
 {
-    let mut label = Vec::from_slice(alloc, b"#end dead ")?;
-    add_count(alloc, &mut label, u64::from(code))?;
-    words_line(alloc, &label, &[address])
+    text.extend_from_slice(b"#end dead ")?;
+    add_count(alloc, text, u64::from(code))?;
+    add_words(text, &[address])
+}
+
+/// Appends the line of the end of a run.
+#[tactic(auto, unfolding(i9_model::specs::PrintedText::end_text))]
+fn add_end(alloc: Global, text: &mut Vec<u8>, end: End) -> Result<(), AllocError>
+    ensures { OnOk result (text.new.items ≡ text.old.items ++ end_text end) }
+{
+    match end {
+        End::Exit(word) => add_words_line(text, b"#end exit", &[word]),
+        End::Limit => text.extend_from_slice(b"#end limit\n"),
+        End::Hazard(address) => add_words_line(text, b"#end hazard", &[address]),
+        End::Dead(code, address) => add_dead(alloc, text, code, address),
+        End::Imprecise(address) => add_words_line(text, b"#end imprecise", &[address]),
+    }
+}
+
+/// Appends what is printed of a line.
+pub(crate) fn add_line(alloc: Global, text: &mut Vec<u8>, line: &Line) -> Result<(), AllocError>
+    ensures { OnOk result (text.new.items ≡ text.old.items ++ shown_text (shown_of line.now)) }
+{
+    match line {
+        Line::Out(byte) => add_out(text, *byte),
+        Line::Event { count, event } => add_event(alloc, text, *count, event),
+        Line::Point { kind, view } => add_point(alloc, text, *kind, view),
+        Line::Bytes { address, list } => add_bytes_line(text, *address, list.as_slice()),
+        Line::End(end) => add_end(alloc, text, *end),
+    }
 }
 
 /// The line of the end of a run.
-#[tactic(auto, unfolding(i9_model::specs::PrintedText::end_text))]
 fn end_line(alloc: Global, end: End) -> Result<Vec<u8>, AllocError>
     ensures { IfOk result (λ t. t.items ≡ end_text end) }
 {
-    match end {
-        End::Exit(word) => words_line(alloc, b"#end exit", &[word]),
-        End::Limit => Vec::from_slice(alloc, b"#end limit\n"),
-        End::Hazard(address) => words_line(alloc, b"#end hazard", &[address]),
-        End::Dead(code, address) => dead_line(alloc, code, address),
-        End::Imprecise(address) => words_line(alloc, b"#end imprecise", &[address]),
-    }
+    let mut line = Vec::new(alloc);
+    add_end(alloc, &mut line, end)?;
+    Ok(line)
 }
 
 /// What the line of an end has behind its label.
@@ -261,41 +327,6 @@ pub(crate) fn generated_line(
     let end = end_line(alloc, end)?;
     text.extend_from_slice(behind_label(&end))?;
     Ok(text)
-}
-
-/// The three lines of a drained point.
-#[tactic(auto, using(crate::proofs::LineCounts::line_rules))]
-fn point_lines(alloc: Global, kind: Point, view: &View) -> Result<Vec<Vec<u8>>, AllocError>
-    ensures lines { IfOk result (λ ts. AreLines ts.items) }
-    ensures text { IfOk result (λ ts. flat_map (λ t. t.items) ts.items ≡ point_shown kind view.now) }
-{
-    with_registers(alloc, point_line(alloc, kind, view)?, view)
-}
-
-/// What is printed of a line: one text for each call of the sink.
-#[tactic(auto, using(crate::proofs::LineCounts::line_rules))]
-pub(crate) fn lines_of(alloc: Global, line: &Line) -> Result<Vec<Vec<u8>>, AllocError>
-    ensures lines { IfOk result (λ ts. AreLines ts.items) }
-    ensures text { IfOk result (λ ts. flat_map (λ t. t.items) ts.items ≡ shown_text (shown_of line.now)) }
-{
-    match line {
-        Line::Out(byte) => one(alloc, out_line(alloc, *byte)?),
-        Line::Event { count, event } => one(alloc, event_line(alloc, *count, event)?),
-        Line::Point { kind, view } => point_lines(alloc, *kind, view),
-        Line::Bytes { address, list } => one(alloc, bytes_line(alloc, *address, list.as_slice())?),
-        Line::End(end) => one(alloc, end_line(alloc, *end)?),
-    }
-}
-
-/// One text alone.
-pub(crate) fn one(alloc: Global, text: Vec<u8>) -> Result<Vec<Vec<u8>>, AllocError>
-    requires line { IsLine text.items }
-    ensures lines { IfOk result (λ ts. AreLines ts.items) }
-    ensures text { IfOk result (λ ts. flat_map (λ t. t.items) ts.items ≡ text.items) }
-{
-    let mut lines = Vec::new(alloc);
-    lines.push(text)?;
-    Ok(lines)
 }
 
 /// The line of a refused file, with its first line at fault and its kind.

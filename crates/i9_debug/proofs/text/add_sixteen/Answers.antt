@@ -1,8 +1,8 @@
-use Rattle.std.proofs.Common.{◌≡◌, ℕ, ◌+◌, List, [], ◌∷◌, ◌++◌, append_assoc, sym, ap, ◌∙◌, arith}
+use Rattle.std.proofs.Common.{◌≡◌, ℕ, ◌+◌, List, ◌++◌, append_assoc, sym, ap, ◌∙◌, arith}
 use Rattle.std.specs.List.{flat_map, range_with_len}
-use Rattle.i9_model.specs.PrintedText.{spaced_register, registers_text}
+use Rattle.i9_model.specs.PrintedText.{spaced_register}
 use Rattle.i9_debug.proofs.Registers.{registers-more}
-use Rattle.i9_debug.proofs.text.registers_line.Goals as goal
+use Rattle.i9_debug.proofs.text.add_sixteen.Goals as goal
 
 pub loop-k-preserved : goal.loop-k-preserved
 loop-k-preserved c =
@@ -10,13 +10,11 @@ loop-k-preserved c =
     let told = flat_map one (range_with_len c.args.first c.loop-k.k) in
     c.in_ok-add_register.ensures
     ∙ ap (λ (xs : List ℕ). xs ++ one (c.args.first + c.loop-k.k)) c.loop-k.invariant
-    ∙ append_assoc c.args.label.now told (one (c.args.first + c.loop-k.k))
-    ∙ ap (λ (xs : List ℕ). c.args.label.now ++ xs) (sym (registers-more one c.args.first c.loop-k.k))
+    ∙ append_assoc c.args.text.now.items told (one (c.args.first + c.loop-k.k))
+    ∙ ap (λ (xs : List ℕ). c.args.text.now.items ++ xs) (sym (registers-more one c.args.first c.loop-k.k))
 
 pub returns : goal.returns
-unfolding registers_text
 returns c =
     let told : ℕ → List ℕ = λ n. flat_map (spaced_register c.args.view.now) (range_with_len c.args.first n) in
     let all : c.loop-k.k ≡ 16 = omega arith in
-    c.in_ok-push.ensures.items
-    ∙ ap (λ (xs : List ℕ). xs ++ 10 ∷ []) (c.loop-k.invariant ∙ ap (λ (n : ℕ). c.args.label.now ++ told n) all)
+    c.loop-k.invariant ∙ ap (λ (n : ℕ). c.args.text.now.items ++ told n) all
