@@ -1,4 +1,4 @@
-"""What README.md, docs/DEBUGGING.md and docs/ASSEMBLER.md say of words, of files and of what is printed.
+"""What README.md, docs/COMMAND.md, docs/DEBUGGING.md and docs/ASSEMBLER.md say of words, of files and of what is printed.
 
 `expected` works out from the words and the files alone which refusal comes, if any. `Run`, `Session` and `listed` read
 what was printed; each raises `Wrong` at the first piece that no page allows.

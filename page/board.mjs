@@ -4,7 +4,7 @@ import {
   sourceWithTable, memoryOf, framesOf, isCall,
 } from "./session.mjs";
 
-const BEHIND = 100, AHEAD = 100, EDGE = 24, MOST_TRIES = 64, FRAME_ROUNDS = 6, TRACED = 400, STRIDE = 64, STRIDES = 4096;
+const BEHIND = 100, AHEAD = 100, EDGE = 24, MOST_TRIES = 64, FRAME_ROUNDS = 6, TRACED = 400, STRIDE = 64, STRIDES = 4096, WIDER = 8, HEAD = 65536;
 const NO_BYTES = bytesOf(":00000001FF\n");
 
 /** A text as the program takes it, a byte for each character; one past 255 is a byte past ASCII, which it refuses. */
@@ -22,9 +22,9 @@ export class Refused extends Error {
 
 /** What a file is to be, by its name and how it begins. */
 export function kindOf(name, bytes) {
-  const head = String.fromCharCode(...bytes.slice(0, 400));
+  const head = new TextDecoder("latin1").decode(bytes.subarray(0, HEAD));
   if (head.startsWith("\x7FELF") || head.startsWith(":")) return "image";
-  if (/\.sch$/i.test(name) || /^(?:\s*(?:#.*)?\n)*\s*(at|turn)\s+\d/.test(head)) return "schedule";
+  if (/\.sch$/i.test(name) || /^(?:[ \t\r]*(?:#.*)?\n)*[ \t]*(at|turn|schedule)[ \t]+\d/.test(head)) return "schedule";
   return "source";
 }
 
@@ -89,7 +89,7 @@ export class Board {
   async form(words, script) {
     const plan = this.schedule.trim() === "" ? "-" : "2";
     const reply = await this.ask([words[0], "1", plan, this.sets, ...words.slice(1)], this.image, bytesOf(this.schedule), script && bytesOf(script));
-    if (reply.status !== 0 && reply.status !== 4) throw new Refused(reply, plan === "2" ? "the schedule" : this.name, this.schedule);
+    if (reply.status !== 0 && reply.status !== 4) throw new Refused(reply, reply.status === 1 ? "Sets or Length" : plan === "2" ? "the schedule" : this.name, this.schedule);
     return reply;
   }
 
@@ -166,9 +166,7 @@ export class Board {
 
   /** Goes behind so many instructions, of which there are more than now, where the next one is at an address. */
   async goCount(count, address) {
-    const first = this.position.turn, strides = readTurns(await this.debug(passTo(first) + `turn ${STRIDE}\n`.repeat(STRIDES)));
-    const behind = strides.filter(told => told.count < count).at(-1)?.turn ?? first;
-    let turn = behind;
+    let turn = await this.turnBefore(count);
     for (; ; turn++) {
       if (!this.told.has(turn)) await this.tellAround(turn);
       const place = this.told.get(turn);
@@ -179,6 +177,19 @@ export class Board {
     // An entry of a handler leads to an address without an instruction, perhaps within a turn.
     if (this.told.get(turn - 1).count === count) return this.goTurn(turn - 1);
     await this.goUntil({ turn: turn - 1 }, address);
+  }
+
+  /** A turn before the one at which so many instructions have issued, and near to it. */
+  async turnBefore(count) {
+    let turn = this.position.turn, stride = STRIDE;
+    const passed = async times => {
+      const told = readTurns(await this.debug(passTo(turn) + `turn ${stride}\n`.repeat(times)));
+      turn = told.filter(told => told.count < count).at(-1)?.turn ?? turn;
+      return told.at(-1).count >= count || told.at(-1).turn === told.at(-2).turn;
+    };
+    while (!await passed(STRIDES)) stride *= WIDER;
+    for (; stride > STRIDE; await passed(WIDER)) stride /= WIDER;
+    return turn;
   }
 
   take(position, place, before) {

@@ -56,7 +56,7 @@ function tellError(error) {
   notice(refusalText(error, words));
   showText(error.status, error.message, words);
   if (error.refusal?.what === "schedule") chooseLine(at("schedule"), error.refusal.line);
-  else showFaultyText(error);
+  else showFaultyText(error, words);
 }
 
 /** What the place itself tells. */
@@ -101,8 +101,9 @@ async function showFramesAndTurns(number) {
 
 async function open(files) {
   notice("");
+  const before = board.name, kinds = [];
   try {
-    for (const file of files) await board.load(file.name, new Uint8Array(await file.arrayBuffer()));
+    for (const file of files) kinds.push(await board.load(file.name, new Uint8Array(await file.arrayBuffer())));
   } catch (error) {
     tellError(error);
     return;
@@ -111,6 +112,8 @@ async function open(files) {
   at("name").textContent = board.name;
   document.title = `i960CA: ${board.name}`;
   await move(() => board.goTurn(1));
+  const keeps = before !== "" && before !== board.name && !kinds.includes("schedule") && board.schedule.trim() !== "";
+  if (keeps && at("notice").textContent === "") notice("the schedule is still the one from before");
 }
 
 /** Takes what the fields have, where it is not what it was. */
@@ -140,8 +143,11 @@ async function runAll() {
 
 async function who() {
   const told = await board.whoWrote(board.memory.from).catch(tellError);
-  if (told) notice(told[0] === "none" ? `${hex(board.memory.from)} was not written` : `${hex(board.memory.from)} was last written by the instruction at ${told[1]}, the ${told[0]}th`);
+  if (told) notice(told[0] === "none" ? `no instruction has changed the byte at ${hex(board.memory.from)}` : whoText(hex(board.memory.from), told));
 }
+
+const whoText = (address, [count, instruction]) =>
+  `the byte at ${address} was last changed by the instruction at ${instruction} ${board.labelOf(number(instruction))}, number ${count} of the run`;
 
 function save(name, text) {
   const link = document.createElement("a");

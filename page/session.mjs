@@ -114,10 +114,12 @@ export function sideOf(mnemonic) {
   return /^(b|cmp[io]b|call$|callx$|ret$|test|fault)/.test(mnemonic) ? "C" : "R";
 }
 
-/** The number of the register that a statement writes, where it writes one. */
+/** The number of the register that a statement writes, where it writes one; of a call or a return fp, which is busy as long
+ * as the frames move. */
 export function destinationOf(statement) {
   const [mnemonic, ...rest] = statement.replace(/\{.*$/, "").trim().split(/\s+/);
   const side = sideOf(mnemonic), operands = rest.join("").split(",");
+  if (/^(call|callx|calls|ret)$/.test(mnemonic)) return REGISTERS.indexOf("fp");
   if (side === "C" || mnemonic.startsWith("st") || /^(cmp[io]$|chkbit|mark|fmark|syncf|flushreg|calls|sysctl|sdma|udma|bal)/.test(mnemonic)) return undefined;
   const at = REGISTERS.indexOf({ r0: "pfp", r1: "sp", r2: "rip", g15: "fp" }[operands.at(-1)] ?? operands.at(-1));
   return at < 0 ? undefined : at;

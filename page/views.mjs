@@ -1,7 +1,8 @@
 // What is shown of a board. Each view shows words of lines that the command printed.
 import { REGISTERS, LOCALS, hex, number, isBusy, returnTypeOf, recordOf, sideOf, destinationOf } from "./session.mjs";
 
-const LISTED = 240, CELL = 9, ROW = 13, PICTURED = 60, STATEMENT = 216;
+const LISTED = 240, CELL = 9, ROW = 13, PICTURED = 60, STATEMENT = 246, STATEMENT_LENGTH = 40;
+const STALE = "--------";
 export const at = id => document.getElementById(id);
 
 /** An element with a class and a text or children. */
@@ -53,7 +54,7 @@ export function showRegisters({ place, before }) {
 
 function register(place, before, n) {
   const busy = isBusy(place, n), changed = before && before.raw[n] !== place.raw[n];
-  const shown = cells(REGISTERS[n], place.raw[n] + (busy ? " *" : ""), [busy && "busy", changed && "changed"].filter(Boolean).join(" "));
+  const shown = cells(REGISTERS[n], place.raw[n] + (busy ? " *" : ""), [busy && "busy", changed && "changed", place.seen[n] === STALE && "marked"].filter(Boolean).join(" "));
   if (place.seen[n] !== place.raw[n]) shown[1].append(made("span", "sees", ` \u2192 ${place.seen[n]}`));
   return shown;
 }
@@ -69,18 +70,20 @@ function cells(name, value, marks) {
 export function showFrames(board, { frames, bytes }, words) {
   const { held, sets } = board.place;
   at("held").textContent = `${held.length} of ${sets} sets hold one`;
-  at("frames").replaceChildren(...frames.map((frame, n) => frameView(board, frame, frames[n + 1], bytes, words, n)));
+  const open = new Set([...at("frames").querySelectorAll("details[open]:not(:first-child)")].map(view => view.dataset.address));
+  at("frames").replaceChildren(...frames.map((frame, n) => frameView(board, frame, frames[n + 1], bytes, words, n === 0 || open.has(hex(frame.address)))));
 }
 
-function frameView(board, frame, caller, bytes, words, n) {
+function frameView(board, frame, caller, bytes, words, open) {
   const how = words.returns[returnTypeOf(frame.locals[0])] ?? "call", record = caller && recordOf(frame, bytes);
   const back = caller?.locals[2] === undefined ? "" : `, goes back to ${caller.locals[2]} ${board.labelOf(number(caller.locals[2]))}`;
   const summary = made("summary", "", `${hex(frame.address)} in ${frame.where}${caller ? `, by ${how}${back}` : ""}`);
   if (record) summary.append(made("b", "", `; ${recordText(record, words)}`));
-  const locals = LOCALS.map((name, k) => `${name.padStart(3)} ${frame.locals[k] ?? "--"}`);
+  const locals = LOCALS.map((name, k) => `${name.padStart(3)} ${frame.locals[k] ?? STALE}`);
   const text = [0, 4, 8, 12].map(k => locals.slice(k, k + 4).join("  ")).join("\n");
   const view = made("details", "", summary, made("pre", "", text));
-  view.open = n === 0;
+  view.open = open;
+  view.dataset.address = hex(frame.address);
   return view;
 }
 
@@ -123,14 +126,16 @@ export function refusalText({ refusal, name, text, status, message }, words) {
   return `${name}, line ${refusal.line}: ${why}\n    ${(text.split("\n")[refusal.line - 1] ?? "").trimEnd()}`;
 }
 
-export function showFaultyText({ refusal, text }) {
+/** The lines round the one at fault, with the words beside it. */
+export function showFaultyText({ refusal, text, name }, words) {
   if (!refusal?.line) return;
   const from = Math.max(0, refusal.line - 12);
-  const lines = text.split("\n").slice(from, refusal.line + 12).map((line, n) => {
-    const item = made("li", from + n + 1 === refusal.line ? "fault" : "", made("b", "", `${from + n + 1}`.padStart(5) + "  "), line);
-    return item;
+  const lines = text.split("\n").slice(from, refusal.line + 12).flatMap((line, n) => {
+    const faulty = from + n + 1 === refusal.line, item = made("li", faulty ? "fault" : "", made("b", "", `${from + n + 1}`.padStart(5) + "  "), line);
+    return faulty ? [item, made("li", "fault why", words.kinds[refusal.what][refusal.kind])] : [item];
   });
   at("listing").replaceChildren(...lines);
+  at("code-note").textContent = `${name}, which is refused`;
   at("listing").querySelector(".fault")?.scrollIntoView({ block: "center" });
 }
 
@@ -149,7 +154,7 @@ export function showPicture(board, issued) {
   if (shown.length === 0) { box.replaceChildren("nothing has issued in these turns"); return; }
   const first = shown[0].turn, last = board.position.turn, height = ROW * (shown.length + 1);
   const width = CELL * (last - first + 4), now = CELL * (last - first);
-  const names = shown.map(({ address, statement }, n) => `<text x="0" y="${ROW * (n + 1) + 10}">${escaped(`${hex(address)} ${statement}`.slice(0, 34))}</text>`);
+  const names = shown.map(({ address, statement }, n) => `<text x="0" y="${ROW * (n + 1) + 10}">${escaped(`${hex(address)} ${statement}`.slice(0, STATEMENT_LENGTH))}</text>`);
   const bars = shown.map((item, n) => bar(board, item, ROW * (n + 1), first, last));
   box.innerHTML = `<svg class="names" width="${STATEMENT}" height="${height}"><text x="0" y="10">turns ${first} to ${last}</text>${names.join("")}</svg>`
     + `<svg width="${width}" height="${height}" role="img" aria-label="instructions by turn">`

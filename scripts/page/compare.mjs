@@ -19,6 +19,7 @@ const DEMO = [
   "run board.hex board.out 3 1000", "trace board.hex board.sch - 1000 1000 1094", "debug unflushed.hex - - unflushed.dbg",
   "debug flushed.hex - 2 flushed.dbg", "asm board.s", "asm board.sch", "asmelf board.s", "dis board.hex", "dis board.s",
   "run fibonacci.hex - - 100000", "run ticks.hex ticks.sch 4 10000", "run uart.hex - - 10000", "tune board.hex 1000 2",
+  "run level.hex level.sch 2 1000", "run marks.hex marks.sch - 1000",
   "run none.hex - - 1", "run smallest.hex none.sch - 1", "run smallest.hex - 16 1", "gen 0 -", "gen 7 3", "gen -", "",
 ];
 
@@ -73,7 +74,7 @@ for (const [words, folder] of runs) {
   const found = differs(resolve(program), module, words === "" ? [] : words.split(" "), folder);
   if (found) { wrong++; console.log(`${words}: ${found}`); }
 }
+console.log(`${runs.length} runs, ${wrong} differ`);
 const here = least(30, () => command(module, ["gen", "1", "-"], [])), there = nativeTime(resolve(program));
 console.log(`gen 1 -: ${here.toFixed(0)} ms in the module, ${there.toFixed(0)} ms in the program: ${(here / there).toFixed(2)} times`);
-console.log(`${runs.length} runs, ${wrong} differ`);
 process.exit(wrong ? 1 : 0);
