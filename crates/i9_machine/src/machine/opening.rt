@@ -56,7 +56,8 @@ impl Machine {
 
     /// What the instruction at the instruction address would do, as if nothing came before it. Its need is kept, and
     /// where it runs its effect is made in the machine.
-    #[inline(always)]
+    // It is no part of the code that calls it: `proceed` would grow so large that the build would keep it apart itself.
+    #[inline(never)]
     fn plan_instruction(&mut self) -> Open
         ensures stands { OpenStands (state_of self.old.processor) self.new.memo result }
         ensures planned { OpenPlanned (state_of self.old.processor) self.new.memo result self.new.effect }
