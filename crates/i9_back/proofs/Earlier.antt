@@ -2,7 +2,7 @@
 use Rattle.std.proofs.Common.{◌≡◌, ℕ, ◌+◌, ◌<◌, ◌≤◌, List, [], ◌∷◌, ◌++◌, Some, refl, sym, ap, ◌∙◌, subst, ◌⊎◌, inl, inr, arith}
 use Rattle.i9_model.specs.Run.{Given, Kind, Instruction, Faulted, Entered, Interrupted, Reached, Record, counts_of, state_after, Finish}
 use Rattle.i9_model.specs.State.{boot, started}
-use Rattle.i9_model.proofs.Left.{counts_after}
+use Rattle.i9_past.proofs.Left.{counts_after}
 use Rattle.i9_course.specs.Course.{event_ahead}
 use Rattle.i9_course.specs.LateRun.{steps, IsLatePast, finish_after}
 use Rattle.i9_course.proofs.LateRuns.{late_next, next_of_steps, late_goes_on, late_records}

@@ -13,7 +13,7 @@ use Rattle.i9_model.specs.Standing.{Standing, Meets, Refused, Faults, Runs, stan
 use Rattle.i9_model.specs.Run.{Given, Kind, Instruction, Faulted, Entered, Interrupted, Reached, Record, Next, next_by_standing, state_after}
 use Rattle.i9_model.specs.Turns.{CanIssue, last_issue, end_turn, waiting_until}
 use Rattle.i9_model.specs.Late.{Late, turns}
-use Rattle.i9_model.proofs.TurnWhole.{timed-issues}
+use Rattle.i9_turns.proofs.TurnWhole.{timed-issues}
 use Rattle.i9_course.specs.NeedOf.{stands_alone, need_of, need_ahead}
 use Rattle.i9_course.specs.Course.{Item, Mark, records_of, course, need_after, issue_of_next, instruction_ahead, late_fault, last_fault, last_done, is_overtaken, imprecise_at, to_issue, ahead}
 use Rattle.i9_course.proofs.Timed.{course_timed}

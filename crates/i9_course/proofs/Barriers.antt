@@ -10,11 +10,11 @@ use Rattle.i9_model.specs.Run.{Given, Kind, Instruction, Faulted, Entered, Inter
 use Rattle.i9_model.specs.Turns.{Permits, CanIssue, IsTimed, TakesTurns, AreAllDone, last_issue, open_requests, issue_turn, end_turn, waiting_until}
 use Rattle.i9_model.specs.Needs.{is_barrier_name, writes_sfr}
 use Rattle.i9_model.specs.Late.{Late, turns}
-use Rattle.i9_model.proofs.TurnDropped.{permits-done}
-use Rattle.i9_model.proofs.TurnOpen.{timed-take_time}
-use Rattle.i9_model.proofs.TurnComputed.{open_requests-cons, one-done}
-use Rattle.i9_model.proofs.TurnWhole.{timed-issues}
-use Rattle.i9_model.proofs.TurnMarks.{all-end, end-least}
+use Rattle.i9_turns.proofs.TurnDropped.{permits-done}
+use Rattle.i9_turns.proofs.TurnOpen.{timed-take_time}
+use Rattle.i9_turns.proofs.TurnComputed.{open_requests-cons, one-done}
+use Rattle.i9_turns.proofs.TurnWhole.{timed-issues}
+use Rattle.i9_turns.proofs.TurnMarks.{all-end, end-least}
 use Rattle.i9_course.specs.NeedOf.{is_early, facts_of, need_of, is_barrier_kind}
 use Rattle.i9_course.specs.Course.{Item, Step, Mark, records_of, course, issue_after, late_after, need_after, issue_of_next, last_done}
 use Rattle.i9_course.proofs.Timed.{course_timed, course_costs}

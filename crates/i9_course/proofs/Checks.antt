@@ -16,7 +16,7 @@ use Rattle.i9_model.specs.Run.{Given, Kind, Instruction, Faulted, Entered, Inter
 use Rattle.i9_model.specs.Turns.{CanIssue, IsTimed, last_issue, end_turn}
 use Rattle.i9_model.specs.Needs.{is_barrier_name}
 use Rattle.i9_model.specs.Late.{turns}
-use Rattle.i9_model.proofs.TurnMarks.{end-least}
+use Rattle.i9_turns.proofs.TurnMarks.{end-least}
 use Rattle.i9_course.specs.NeedOf.{need_of}
 use Rattle.i9_course.specs.Course.{Item, Step, Mark, records_of, course, issue_of_next, event_ahead, ahead, IsCourse}
 use Rattle.i9_course.proofs.Timed.{course_timed}

@@ -7,7 +7,7 @@ use Rattle.i9_model.specs.Writes.{upwards}
 use Rattle.i9_model.specs.Memory.{Memory}
 use Rattle.i9_model.specs.Step.{Move, Stays, Saves, Returns, Flushes, bytes_of_words}
 use Rattle.i9_model.specs.HeldFrames.{Cache, AreWhole}
-use Rattle.i9_model.proofs.SoundRuns.{words_long}
+use Rattle.i9_model.proofs.Lengths.{words_long}
 use Rattle.i9_course.specs.NeedOf.{moved_frames}
 use Rattle.i9_course.specs.Course.{frame_writes, oldest_writes, all_writes, move_writes}
 

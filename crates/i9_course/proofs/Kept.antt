@@ -9,7 +9,7 @@ use Rattle.i9_model.specs.Before.{Received, interrupting, receiving}
 use Rattle.i9_model.specs.HeldFrames.{Cache}
 use Rattle.i9_model.specs.Run.{Kind, Instruction, Faulted, Entered, Interrupted, Reached, faulted_words, after_kind}
 use Rattle.i9_model.specs.Late.{resource, resources}
-use Rattle.i9_model.proofs.Outside.{instruction_keeps, fault_keeps, entry_keeps}
+use Rattle.i9_turns.proofs.Outside.{instruction_keeps, fault_keeps, entry_keeps}
 use Rattle.i9_course.specs.NeedOf.{facts_of, need_of}
 
 -- an interrupt's entry sets the same registers as a fault's

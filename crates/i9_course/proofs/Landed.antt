@@ -7,9 +7,10 @@ use Rattle.i9_model.specs.HeldFrames.{cache_after}
 use Rattle.i9_model.specs.Run.{Given, Record}
 use Rattle.i9_model.specs.Turns.{end_turn}
 use Rattle.i9_model.specs.Late.{Late, Wait, turns, wait_of, is_waiting, waiting, all_puts, RequestsDone, AllDone}
-use Rattle.i9_model.proofs.TurnMarks.{all-end}
-use Rattle.i9_model.proofs.LateMemories.{stored-none, waiting-yes, waiting-no, none-wait, all-requests}
-use Rattle.i9_model.proofs.LateQueues.{AllBefore}
+use Rattle.i9_turns.proofs.TurnMarks.{all-end}
+use Rattle.i9_model.proofs.Stored.{stored-none}
+use Rattle.i9_turns.proofs.LateMemories.{waiting-yes, waiting-no, none-wait, all-requests}
+use Rattle.i9_model.proofs.Queues.{AllBefore}
 use Rattle.i9_course.specs.Course.{Item, Step, records_of, course, late_after}
 use Rattle.i9_course.specs.Kernel.{Kernel, Lands}
 use Rattle.i9_course.proofs.Settled.{course_settles}

@@ -14,7 +14,7 @@ use Rattle.i9_model.specs.Run.{Given, Kind, Instruction, Faulted, Entered, Inter
 use Rattle.i9_model.specs.Turns.{HaveCosts, IsAlike, last_issue, issue_turn, waiting_until, with_need, timed}
 use Rattle.i9_model.specs.Needs.{has_access, moves_frames, is_barrier_name, writes_sfr, is_calm, cost_by, inst_need}
 use Rattle.i9_model.specs.Late.{Late, turns}
-use Rattle.i9_model.proofs.TurnAlike.{alike-overtakes}
+use Rattle.i9_turns.proofs.TurnAlike.{alike-overtakes}
 use Rattle.i9_course.specs.NeedOf.{facts_of, need_of, record_need, need_ahead}
 use Rattle.i9_course.specs.Course.{records_of, course, instruction_ahead, late_fault, last_done, is_overtaken, imprecise_at}
 use Rattle.i9_course.specs.LateRun.{steps}

@@ -11,9 +11,9 @@ use Rattle.i9_model.specs.State.{State}
 use Rattle.i9_model.specs.Before.{choice_in}
 use Rattle.i9_model.specs.Run.{Given, Kind, Instruction, Faulted, Entered, Interrupted, Reached, Record, Ends, counts_of, action_by_kind, Next, Does, due_by, due_after, next_by_choice, next_in, next_with, state_after, IsPastOfSome, Finish, finish}
 use Rattle.i9_model.proofs.ControlLaws.{acted-count}
-use Rattle.i9_model.proofs.Comes.{MayCome, next_comes}
-use Rattle.i9_model.proofs.Ends.{some_within}
-use Rattle.i9_model.proofs.Cuts.{state_by, next_longer}
+use Rattle.i9_past.proofs.Comes.{MayCome, next_comes}
+use Rattle.i9_past.proofs.Ends.{some_within}
+use Rattle.i9_past.proofs.Cuts.{state_by, next_longer}
 use Rattle.i9_course.specs.Course.{records_of, event_ahead, comes_next, last_fault, is_overtaken, imprecise_at}
 use Rattle.i9_course.specs.LateRun.{steps, IsLatePast, IsLateRun, is_imprecise}
 use Rattle.i9_course.proofs.Ahead.{imprecise_overtaken}

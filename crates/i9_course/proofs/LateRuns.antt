@@ -4,10 +4,10 @@ use Rattle.std.proofs.Common.{◌≡◌, ◌≢◌, ℕ, ◌≤◌, Bool, true, 
 use Rattle.i9_model.specs.declared.run.End.TheVariants.{Imprecise}
 use Rattle.i9_model.specs.ScheduleText.{IsByCounts}
 use Rattle.i9_model.specs.Run.{Given, Record, Next, Does, Ends, state_after, reached_after, next_with, next, IsPast, IsPastOf, IsPastOfSome, IsRun, Finish, finish, reached_in}
-use Rattle.i9_model.proofs.Ends.{IsByPlan, some_within, goes_on, run_goes_on}
-use Rattle.i9_model.proofs.Heedful.{with_plan, past_of_events, past_to_end, end_of_events}
-use Rattle.i9_model.proofs.Left.{IsAtPlace, standing_by_place}
-use Rattle.i9_model.proofs.Unique.{one_past, one_end, same_records}
+use Rattle.i9_past.proofs.Ends.{IsByPlan, some_within, goes_on, run_goes_on}
+use Rattle.i9_past.proofs.Heedful.{with_plan, past_of_events, past_to_end, end_of_events}
+use Rattle.i9_past.proofs.Left.{IsAtPlace, standing_by_place}
+use Rattle.i9_past.proofs.Unique.{one_past, one_end, same_records}
 use Rattle.i9_course.proofs.Orderly.{course_events, counted_next, counted_past}
 use Rattle.i9_course.proofs.PlainEnds.{next_plain}
 use Rattle.i9_course.specs.Course.{Step, records_of, instruction_turn, event_ahead, comes_next, late_fault, is_overtaken, imprecise_at}

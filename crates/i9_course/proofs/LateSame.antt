@@ -5,8 +5,8 @@ use Rattle.i9_model.specs.declared.event.Timed.{Timed}
 use Rattle.i9_model.specs.State.{State}
 use Rattle.i9_model.specs.ScheduleText.{IsByCounts}
 use Rattle.i9_model.specs.Run.{Given, Kind, Instruction, Faulted, Entered, Interrupted, Reached, Record, reached_by, reached_after, state_after, Finish, reached_in, reached_last}
-use Rattle.i9_model.proofs.Cuts.{state_by, next_by_state}
-use Rattle.i9_model.proofs.Heedful.{with_plan, past_to_end}
+use Rattle.i9_past.proofs.Cuts.{state_by, next_by_state}
+use Rattle.i9_past.proofs.Heedful.{with_plan, past_to_end}
 use Rattle.i9_course.specs.Course.{comes_next, imprecise_at}
 use Rattle.i9_course.specs.LateRun.{steps, IsLatePast, finish_by, IsLateRun}
 use Rattle.i9_course.proofs.LateRuns.{steps_counted, late_by, late_of_past, late_past, late_run, run_ends, imprecise_run, precise_run, run_cases, late_events}

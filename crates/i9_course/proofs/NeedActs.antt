@@ -16,7 +16,7 @@ use Rattle.i9_model.specs.Controls.{KeepsControls}
 use Rattle.i9_model.specs.Step.{Stays, moving, action_by_name, action_by, action_of}
 use Rattle.i9_model.specs.Run.{Kind, Instruction, Faulted, Entered, Interrupted, Reached, action_by_kind}
 use Rattle.i9_model.specs.Needs.{is_request_name, is_barrier_name}
-use Rattle.i9_model.proofs.NeedLaws.{quiet}
+use Rattle.i9_turns.proofs.NeedLaws.{quiet}
 use Rattle.i9_course.specs.NeedOf.{need_of}
 
 -- ---- an instruction

@@ -25,7 +25,7 @@ use Rattle.i9_model.specs.Alike.{with_other, with_memory, AreAlike, AreNextAlike
 use Rattle.i9_model.specs.HeldFrames.{Cache, sets_in}
 use Rattle.i9_model.specs.Run.{Next, Does, Ends, Kind, Instruction, Faulted, Entered, Interrupted, Reached}
 use Rattle.i9_model.specs.Needs.{is_barrier_name, inst_need, writes_sfr}
-use Rattle.i9_model.proofs.Untraced.{action_untraced}
+use Rattle.i9_past.proofs.Untraced.{action_untraced}
 use Rattle.i9_course.specs.NeedOf.{moved_frames, touches_port, access_waits, facts_of, is_early, need_of, need_ahead}
 
 -- ---- the frames that are moved do not depend on bytes of memory

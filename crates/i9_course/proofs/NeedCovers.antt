@@ -27,9 +27,10 @@ use Rattle.i9_model.specs.Run.{Kind, Instruction, Faulted, Entered, Interrupted,
 use Rattle.i9_model.specs.Late.{resources}
 use Rattle.i9_model.specs.Needs.{set_of, inst_need, entry_need}
 use Rattle.i9_model.proofs.SetLaws.{set_bits}
-use Rattle.i9_model.proofs.TurnTests.{one-set}
-use Rattle.i9_model.proofs.MaskLaws.{IsOutside, sets_beside, push_beside}
-use Rattle.i9_model.proofs.CodeLaws.{code_beside}
+use Rattle.i9_model.proofs.SetLaws.{one-set}
+use Rattle.i9_turns.proofs.MaskLaws.{IsOutside, sets_beside}
+use Rattle.i9_model.proofs.LastPuts.{push_beside}
+use Rattle.i9_turns.proofs.CodeLaws.{code_beside}
 use Rattle.i9_regs.specs.Covered.{StartsAnew, IsCovered}
 use Rattle.i9_course.specs.NeedOf.{is_early, facts_of, need_of}
 

@@ -15,11 +15,11 @@ use Rattle.i9_model.specs.ScheduleText.{is_counted, IsByCounts, has_come_at, has
 use Rattle.i9_model.specs.Run.{Given, Record, IsPast, IsPastOfSome, Does, record_of, after_kind, state_after, reached_after, next_with, next, due_after}
 use Rattle.i9_model.specs.Turns.{last_issue}
 use Rattle.i9_model.specs.Late.{turns, last_state, resource, resources, Leaves, IsOrderly, cell_at, latest, waiting, acted_memory, all_puts}
-use Rattle.i9_model.proofs.Comes.{next_comes}
-use Rattle.i9_model.proofs.Heedful.{with_plan, past_of_events}
-use Rattle.i9_model.proofs.LateRegisters.{cell-latest}
-use Rattle.i9_model.proofs.LateMemories.{memory-settles}
-use Rattle.i9_model.proofs.LateOrder.{issued-by, orderly}
+use Rattle.i9_past.proofs.Comes.{next_comes}
+use Rattle.i9_past.proofs.Heedful.{with_plan, past_of_events}
+use Rattle.i9_turns.proofs.LateRegisters.{cell-latest}
+use Rattle.i9_turns.proofs.LateMemories.{memory-settles}
+use Rattle.i9_turns.proofs.LateOrder.{issued-by, orderly}
 use Rattle.i9_course.specs.NeedOf.{need_of}
 use Rattle.i9_course.specs.Course.{Item, Step, Mark, records_of, course, instruction_turn, event_ahead, comes_next, IsCourse}
 use Rattle.i9_course.proofs.Settled.{course_settles}

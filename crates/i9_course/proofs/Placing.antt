@@ -7,8 +7,8 @@ use Rattle.i9_model.specs.HeldFrames.{cache_after}
 use Rattle.i9_model.specs.Run.{Given, Record}
 use Rattle.i9_model.specs.Turns.{IsTimed, Pending, StandsFor, last_issue, done_turn, issue_turn, waiting_until, placed_record}
 use Rattle.i9_model.specs.Late.{turns}
-use Rattle.i9_model.proofs.TurnDropped.{issues-once}
-use Rattle.i9_model.proofs.TurnWhole.{timed-issues}
+use Rattle.i9_turns.proofs.TurnDropped.{issues-once}
+use Rattle.i9_turns.proofs.TurnWhole.{timed-issues}
 use Rattle.i9_course.specs.NeedOf.{record_need}
 use Rattle.i9_course.specs.Course.{Item, records_of, course, issue_after, timed_after, late_after, need_after, ahead}
 use Rattle.i9_course.proofs.Ahead.{ahead_precise}

@@ -6,7 +6,7 @@ use Rattle.i9_model.specs.State.{State, boot}
 use Rattle.i9_model.specs.ScheduleText.{standing_by}
 use Rattle.i9_model.specs.HeldFrames.{Cache, cache, sets_in, cache_acted, cache_configured, cache_after}
 use Rattle.i9_model.specs.Run.{Given, Record, action_done, state_after, reached_after}
-use Rattle.i9_model.proofs.Cuts.{state_by}
+use Rattle.i9_past.proofs.Cuts.{state_by}
 use Rattle.i9_course.specs.NeedOf.{need_ahead}
 use Rattle.i9_course.specs.Course.{Item, Step, Mark, Course, records_of, late_of, with_late, with_mark, course, issue_after, instruction_ahead, instruction_turn, event_ahead}
 

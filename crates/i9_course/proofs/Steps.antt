@@ -7,10 +7,10 @@ use Rattle.i9_model.specs.HeldFrames.{cache_after}
 use Rattle.i9_model.specs.Run.{Given, Record, Does, state_after}
 use Rattle.i9_model.specs.Turns.{Pending, StandsFor, CanIssue, last_issue, end_turn, waiting_until, pending_of}
 use Rattle.i9_model.specs.Late.{Wait, turns, cell, resource, resources, latest, waiting, all_puts, AreDueInOrder, Shows, IsClear}
-use Rattle.i9_model.proofs.TurnOpen.{done-after}
-use Rattle.i9_model.proofs.TurnStands.{stands-none}
-use Rattle.i9_model.proofs.LateQueues.{waiting-in-order}
-use Rattle.i9_model.proofs.LateOrder.{issued-by, shows_moves, shows_request, shows_other, shows_clear}
+use Rattle.i9_turns.proofs.TurnOpen.{done-after}
+use Rattle.i9_turns.proofs.TurnStands.{stands-none}
+use Rattle.i9_turns.proofs.LateQueues.{waiting-in-order}
+use Rattle.i9_turns.proofs.LateOrder.{issued-by, shows_moves, shows_request, shows_other, shows_clear}
 use Rattle.i9_course.specs.Course.{Item, Step, Mark, records_of, course, late_after, need_after, issue_of_next, ahead, IsCourse}
 use Rattle.i9_course.specs.Kernel.{Kernel, Lands, MovesTo, Issues}
 use Rattle.i9_course.proofs.Timed.{course_timed, course_costs}

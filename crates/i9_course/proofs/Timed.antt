@@ -12,8 +12,8 @@ use Rattle.i9_model.specs.Needs.{is_request_name, is_barrier_name}
 use Rattle.i9_model.specs.Late.{turns, AreQuiet}
 use Rattle.i9_model.specs.Marks.{marked, with_item}
 use Rattle.i9_model.specs.Marks as marks
-use Rattle.i9_model.proofs.NeedLaws.{inst_cost, refused_cost, event_cost, entry_cost, quiet}
-use Rattle.i9_model.proofs.TurnWhole.{IsTimed-with_need}
+use Rattle.i9_turns.proofs.NeedLaws.{inst_cost, refused_cost, event_cost, entry_cost, quiet}
+use Rattle.i9_turns.proofs.TurnWhole.{IsTimed-with_need}
 use Rattle.i9_course.specs.NeedOf.{is_of_dma, need_of, record_need}
 use Rattle.i9_course.specs.Course.{Item, Step, Mark, records_of, move_writes, puts_of, course, needs_of, turns_of}
 

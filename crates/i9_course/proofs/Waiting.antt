@@ -10,7 +10,7 @@ use Rattle.i9_model.specs.State.{State}
 use Rattle.i9_model.specs.Run.{Given, Kind, Instruction, Faulted, Entered, Interrupted, Reached, Record, Does, due_after, reached_by, reached_after, state_after}
 use Rattle.i9_model.specs.Turns.{end_turn}
 use Rattle.i9_model.specs.Late.{turns}
-use Rattle.i9_model.proofs.Comes.{MayCome, next_comes}
+use Rattle.i9_past.proofs.Comes.{MayCome, next_comes}
 use Rattle.i9_course.specs.NeedOf.{is_barrier_kind}
 use Rattle.i9_course.specs.Course.{Item, records_of, course, issue_of_next, instruction_ahead, instruction_turn, event_ahead, ahead}
 use Rattle.i9_course.proofs.Ahead.{ahead_precise}

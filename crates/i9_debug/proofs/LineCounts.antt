@@ -9,13 +9,13 @@ use Rattle.i9_text.specs.Written.{byte_text, word_text}
 use Rattle.i9_text.proofs.WrittenLines.{is_plain_byte, is_plain, plain-append, plain-decimal, plain-word_text, plain-byte_text}
 use Rattle.i9_model.specs.declared.view.View.{View}
 use Rattle.i9_model.specs.declared.run.Point.{Point}
-use Rattle.i9_model.specs.declared.run.Point.TheVariants as points
 use Rattle.i9_model.specs.declared.run.End.{End}
 use Rattle.i9_model.specs.declared.run.End.TheVariants.{Exit, Limit, Hazard, Dead, Imprecise}
 use Rattle.i9_model.specs.PrintedText.{out_text, spaced, spaced_byte, spaced_register, words_text, registers_text, drained_text, point_text, event_text, bytes_text, end_text}
 use Rattle.i9_model.specs.declared.event.Event.{Event}
 use Rattle.i9_model.specs.Events.{journal_text}
-use Rattle.i9_model.proofs.ReadBack.{journal_plain}
+use Rattle.i9_replay.proofs.ReadBack.{journal_plain}
+use Rattle.i9_replay.proofs.Replay.{plain_words, plain_drained, plain_bytes}
 use Rattle.i9_debug.specs.Lines.{refused_line, elf_line, ending, generated_line}
 use Rattle.i9_model.specs.declared.frame.Frame.{Frame}
 use Rattle.i9_debug.specs.Session.{turn_text, held_text, raw_bytes_text, who_text}
@@ -33,10 +33,6 @@ after_plain (b ∷ xs) ys h line =
     let rest : IsLine (xs ++ ys) = after_plain xs ys p.1 line in
     rw (not_feed b p.0) (omega (arith, rest))
 
-plain_words : (ws : List ℕ) → is_plain (flat_map spaced ws) ≡ true
-plain_words [] = refl
-plain_words (w ∷ ws) = plain-append (spaced w) (flat_map spaced ws) (plain-word_text w) (plain_words ws)
-
 pub line-words : (label ws : List ℕ) → is_plain label ≡ true → IsLine (words_text label ws)
 unfolding words_text
 line-words label ws h = after_plain (label ++ flat_map spaced ws) (10 ∷ []) (plain-append label (flat_map spaced ws) h (plain_words ws)) refl
@@ -44,14 +40,6 @@ line-words label ws h = after_plain (label ++ flat_map spaced ws) (10 ∷ []) (p
 pub line-out : (b : ℕ) → IsLine (out_text b)
 unfolding out_text
 line-out b = after_plain (codes "#out ") (byte_text b ++ 10 ∷ []) refl (after_plain (byte_text b) (10 ∷ []) (plain-byte_text b) refl)
-
-plain_drained : (k : Point) → is_plain (drained_text k) ≡ true
-plain_drained points.Flush = refl
-plain_drained points.Sync = refl
-plain_drained points.Event = refl
-plain_drained points.Int = refl
-plain_drained points.Fault = refl
-plain_drained points.End = refl
 
 pub line-point : (k : Point) (v : View) → IsLine (point_text k v)
 unfolding point_text
@@ -63,14 +51,6 @@ line-point k v =
 pub line-event : (k : ℕ) (e : Event) → IsLine (event_text k e)
 unfolding event_text
 line-event k e = after_plain (journal_text k e) (10 ∷ []) (journal_plain k e) refl
-
-plain_byte : (b : Option ℕ) → is_plain (spaced_byte b) ≡ true
-plain_byte None = refl
-plain_byte (Some b) = plain-append (codes " ") (byte_text b) refl (plain-byte_text b)
-
-plain_bytes : (bs : List (Option ℕ)) → is_plain (flat_map spaced_byte bs) ≡ true
-plain_bytes [] = refl
-plain_bytes (b ∷ bs) = plain-append (spaced_byte b) (flat_map spaced_byte bs) (plain_byte b) (plain_bytes bs)
 
 pub line-bytes : (a : ℕ) (bs : List (Option ℕ)) → IsLine (bytes_text a bs)
 unfolding bytes_text

@@ -4,14 +4,14 @@ use Rattle.std.proofs.lemmas.List.{append-nil}
 use Rattle.i9_model.specs.declared.run.End.TheVariants.{Imprecise}
 use Rattle.i9_model.specs.Late.{turns as late_turns}
 use Rattle.i9_model.specs.PrintedText.{Shown, text_of, lines_of, record_lines, end_lines}
-use Rattle.i9_model.proofs.Lines.{text_of-append}
+use Rattle.i9_past.proofs.Lines.{text_of-append}
 use Rattle.i9_model.specs.Run.{Given, Record, Next, Does, Ends, Finish, finish}
 use Rattle.i9_model.specs.Turns.{last_issue}
 use Rattle.i9_course.specs.Course.{Item, Step, records_of, course, comes_next, imprecise_at, issue_of_next, IsCourse}
 use Rattle.i9_course.proofs.Ahead.{ahead_precise}
 use Rattle.i9_course.specs.LateRun.{end_ahead, finish_by, ended_by}
 use Rattle.i9_course.proofs.Orderly.{course_events}
-use Rattle.i9_model.proofs.Ends.{some_within}
+use Rattle.i9_past.proofs.Ends.{some_within}
 use Rattle.i9_machine.specs.StandsFor.{left_after}
 use Rattle.i9_machine.proofs.Issuing.{left_less}
 use Rattle.i9_machine.specs.Turned.{steps_on}

@@ -6,7 +6,7 @@ use Rattle.i9_model.specs.declared.run.End.{End}
 use Rattle.i9_model.specs.declared.view.View.{View}
 use Rattle.i9_model.specs.PrintedText.{view_of, text_of, lines_of, record_lines}
 use Rattle.i9_model.specs.Run.{Given, Kind, Instruction, Faulted, Entered, Interrupted, Reached, Record, counts_of}
-use Rattle.i9_model.proofs.Lines.{text_of-append}
+use Rattle.i9_past.proofs.Lines.{text_of-append}
 use Rattle.i9_schedule.specs.Plan.{Plan}
 use Rattle.i9_course.specs.Course.{Item, Step, IsCourse}
 use Rattle.i9_machine.specs.declared.line.Line.{Line}
@@ -15,11 +15,10 @@ use Rattle.i9_machine.specs.declared.line.Turn.{Turn}
 use Rattle.i9_machine.specs.declared.line.Turn.TheVariants as answers
 use Rattle.i9_machine.specs.declared.machine.Machine.{Machine}
 use Rattle.i9_machine.specs.Line.{AddsLines}
-use Rattle.i9_machine.specs.Step.{TellsRecord}
 use Rattle.i9_machine.specs.StandsFor.{StandsFor, Follows, IsUnderWay, DoesNext, Comes}
 use Rattle.i9_machine.specs.Turned.{steps_on}
 use Rattle.i9_tracer.specs.Until.{IsPassed}
-use Rattle.i9_tracer.proofs.Untils.{Shows}
+use Rattle.i9_tracer.proofs.Untils.{Shows, issued_counts, on_counts}
 use Rattle.i9_debug.specs.declared.print.Printed.{Printed}
 use Rattle.i9_debug.specs.declared.print.Printed.TheVariants.{Done, Write, Memory}
 use Rattle.i9_debug.specs.Print.{Account, Prints, OnDone, line_text}
@@ -29,22 +28,6 @@ use Rattle.i9_debug.proofs.Prints.{prints_none, prints_then, prints_stop, prints
 use Rattle.i9_debug.proofs.ClosedTexts.{closed_text}
 use Rattle.i9_debug.proofs.Places.{steps_on-append, text-append, either, comes_after, address_leads}
 use Rattle.i9_debug.proofs.Turns.{added-text, not_done, on_cut, cut_whole}
-
--- ---- what a step is
-
-issued_counts : (kind : Kind) (s : State) (t : Issued) → TellsRecord kind s (answers.Issued t) → counts_of kind ≡ 1
-issued_counts (Instruction i) s t h = refl
-issued_counts (Faulted inst fault) s t h = refl
-issued_counts (Entered e) s t h = absurd h
-issued_counts (Interrupted c e) s t h = absurd h
-issued_counts (Reached e u) s t h = absurd h
-
-on_counts : (kind : Kind) (s : State) → TellsRecord kind s answers.On → counts_of kind ≡ 1 → ⊥
-on_counts (Instruction i) s h one = h
-on_counts (Faulted inst fault) s h one = h
-on_counts (Entered e) s h one = omega (arith, one)
-on_counts (Interrupted c e) s h one = omega (arith, one)
-on_counts (Reached e u) s h one = omega (arith, one)
 
 same_whole : (answer : Printed) (P : Type 0) → P → OnDone answer P
 same_whole Done P p = p

@@ -8,7 +8,7 @@ use Rattle.i9_model.specs.State.{Frames, Dma, Channel}
 use Rattle.i9_model.specs.Hazards.{unless}
 use Rattle.i9_model.specs.Dma.{Unit, unit_length, is_fit, is_idle, unit_hazard, unit_bytes, dma_behind, is_last, posts_at_end, next_unit}
 use Rattle.i9_model.proofs.CallLaws.{unless_ok}
-use Rattle.i9_model.proofs.Units.{bytes_long}
+use Rattle.i9_model.proofs.Lengths.{bytes_long}
 use Rattle.i9_dma.specs.Units.{planned_bytes}
 
 -- where something moves, the bytes come from where the control word says

@@ -14,7 +14,7 @@ use Rattle.i9_model.specs.Step.{bytes_of_words}
 use Rattle.i9_model.specs.Interrupts.{record_writes, byte_hazard, priority_place, pending_place, priority_hazard, taken_hazard, clearing_hazard}
 use Rattle.i9_model.proofs.Places.{in_bytes-above}
 use Rattle.i9_model.proofs.Runs.{is_put-upwards, wrote-upwards}
-use Rattle.i9_model.proofs.SoundRuns.{words_long}
+use Rattle.i9_model.proofs.Lengths.{words_long}
 use Rattle.i9_model.proofs.Storing.{stored_kept, words_as_bytes}
 use Rattle.i9_model.proofs.FrameBytes.{stored_at, byte_of_words}
 use Rattle.i9_ints.specs.After.{memory_after, frames_after}

@@ -12,7 +12,7 @@ use Rattle.i9_model.specs.declared.interrupts.Cause.{Cause}
 use Rattle.i9_model.specs.declared.interrupts.Cause.TheVariants.{Nmi, Line}
 use Rattle.i9_model.specs.Hazards.{unless}
 use Rattle.i9_model.proofs.CallLaws.{unless_ok}
-use Rattle.i9_model.proofs.AlikeSteps.{none_wrote}
+use Rattle.i9_model.proofs.FrameLaws.{none_wrote}
 use Rattle.i9_model.proofs.Runs.{wrote-upwards}
 use Rattle.i9_model.proofs.Stored.{stored-cons}
 use Rattle.i9_memory.specs.declared.memory.Memory.{Memory as Kept}

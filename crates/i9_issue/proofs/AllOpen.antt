@@ -3,7 +3,7 @@ use Rattle.std.proofs.Common.{◌≤◌, List, [], ◌∷◌, length, sym, subst
 use Rattle.std.specs.List.{AllByRecursion}
 use Rattle.i9_model.specs.declared.need.TimedNeed.{TimedNeed}
 use Rattle.i9_model.specs.Turns.{IsTimed, TakesTurns, HasCost, Pending, pending_of, open_at, last_issue}
-use Rattle.i9_model.proofs.TurnOpen.{follows-open, pending-next, timed-take_time}
+use Rattle.i9_turns.proofs.TurnOpen.{follows-open, pending-next, timed-take_time}
 use Rattle.i9_issue.specs.Room.{Fits}
 use Rattle.i9_issue.proofs.Seven.{Fits-next, at_most_seven}
 

@@ -10,10 +10,10 @@ use Rattle.i9_model.specs.declared.need.Need.{Need}
 use Rattle.i9_model.specs.declared.need.TimedNeed.{TimedNeed}
 use Rattle.i9_model.specs.Turns.{RequestsInOrder, Permits, CanIssue, open_at, open_requests, done_turn, last_request, same_side, keeps_side, is_plain, HasCost}
 use Rattle.i9_issue.specs.Room.{Fits}
-use Rattle.i9_model.proofs.TurnDropped.{open-yes, open-no, each-open, max-last_request-open}
-use Rattle.i9_model.proofs.TurnOpen.{done-after}
-use Rattle.i9_model.proofs.TurnComputed.{one_if, issued-later}
-use Rattle.i9_model.proofs.TurnThree.{at_side, same_side-join, one-true, one-false}
+use Rattle.i9_turns.proofs.TurnDropped.{open-yes, open-no, each-open, max-last_request-open}
+use Rattle.i9_turns.proofs.TurnOpen.{done-after}
+use Rattle.i9_turns.proofs.TurnComputed.{one_if, issued-later}
+use Rattle.i9_turns.proofs.TurnThree.{at_side, same_side-join, one-true, one-false}
 
 -- ---- counting
 

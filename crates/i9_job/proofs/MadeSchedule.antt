@@ -7,7 +7,7 @@ use Rattle.i9_model.specs.declared.event.Event.TheVariants.{Pin}
 use Rattle.i9_model.specs.Events.{journal_text}
 use Rattle.i9_model.specs.ScheduleText.{first_version, AreOfVersion, IsTimedInRange, InOrder, IsPlan, IsByCounts, Contents, IsSchedule, IsRefused}
 use Rattle.i9_model.specs.PrintedText.{Shown, Journal, event_text, heading_text, text_of, events_of}
-use Rattle.i9_model.proofs.Replay.{replay}
+use Rattle.i9_replay.proofs.Replay.{replay}
 use Rattle.i9_schedule.proofs.OneAnswer.{answers_apart, one_schedule}
 use Rattle.i9_generator.specs.Generator.{drawn, pin_line, event_line, event_number, generated_schedule}
 use Rattle.i9_job.specs.Accepted.{HasPlan}

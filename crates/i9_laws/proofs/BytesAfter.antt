@@ -37,7 +37,7 @@ use Rattle.i9_model.specs.Dma.{unit_length, unit_bytes}
 use Rattle.i9_model.specs.Before.{Received}
 use Rattle.i9_model.specs.Run.{Given, Record, Kind, Instruction, Faulted, Entered, Interrupted, Reached, action_by_kind, due_after, event_after, state_after, IsPast}
 use Rattle.i9_model.proofs.ControlLaws.{by_group, flagged-others}
-use Rattle.i9_model.proofs.Comes.{MayCome, next_comes}
+use Rattle.i9_past.proofs.Comes.{MayCome, next_comes}
 use Rattle.i9_laws.specs.Kept.{HasBytes}
 use Rattle.i9_laws.proofs.EventCases.{event_range, IsByUnit, IsByEvent, received_as}
 use Rattle.i9_laws.proofs.StoredWords.{ArePut, AreBelow, put_append, put_pairs, below_map, below_take, stored_below, word_bytes_below, half_bytes_below, words_bytes_below, with_words_below}

@@ -11,7 +11,7 @@ use Rattle.i9_model.specs.Interrupts.{posted, posted_nmi, lowered, raised}
 use Rattle.i9_model.specs.Dma.{Unit, unit, next_unit}
 use Rattle.i9_model.specs.Before.{Received, posting, moving_unit, received_by, received_in}
 use Rattle.i9_model.specs.Run.{Given, Record, reached_after, event_after, state_after}
-use Rattle.i9_model.proofs.Units.{unit_moved}
+use Rattle.i9_agree.proofs.Units.{unit_moved}
 
 -- ---- ranges
 

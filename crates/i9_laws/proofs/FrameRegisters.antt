@@ -5,7 +5,7 @@ use Rattle.i9_isa.specs.Resources.{is_in_frame}
 use Rattle.i9_model.specs.declared.layout.TheConstants.{LOCALS, FP}
 use Rattle.i9_model.specs.Writes.{put, written, pairs_at}
 use Rattle.i9_model.specs.State.{frame_sets}
-use Rattle.i9_model.proofs.MaskLaws.{frame_beside}
+use Rattle.i9_model.proofs.LastPuts.{frame_beside}
 use Rattle.i9_model.proofs.Stored.{written-append, written-last}
 
 put_same : (f : ℕ → ℕ) (x v : ℕ) → put f x v x ≡ v

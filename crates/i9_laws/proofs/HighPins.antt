@@ -37,7 +37,7 @@ use Rattle.i9_model.specs.Step.{Action, loaded, atomic_address, following, value
 use Rattle.i9_model.specs.Before.{Received}
 use Rattle.i9_model.specs.Run.{Given, Record, Kind, Instruction, Faulted, Entered, Interrupted, Reached, action_by_kind, reached_after, due_after, event_after, state_after, IsPast}
 use Rattle.i9_model.proofs.ControlLaws.{by_group, flagged-others}
-use Rattle.i9_model.proofs.Comes.{MayCome, next_comes}
+use Rattle.i9_past.proofs.Comes.{MayCome, next_comes}
 use Rattle.i9_laws.proofs.EventCases.{IsByUnit, IsByEvent, received_as}
 
 -- ---- the event that stands is of the version of its plan

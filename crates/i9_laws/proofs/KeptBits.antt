@@ -44,10 +44,10 @@ use Rattle.i9_model.specs.declared.trace.Trace.{Trace}
 use Rattle.i9_model.specs.Requests.{with_bit}
 use Rattle.i9_model.specs.Tracing.{with_bits, breakpoints, break_flag_of, matches, has_match, break_flags, has_mode, comes_with, trace_events, flag_of, event_flags, is_raised, trace_made, trace_of}
 use Rattle.i9_model.specs.Traced.{is_traced, seen_of}
-use Rattle.i9_model.proofs.Untraced.{action_untraced}
+use Rattle.i9_past.proofs.Untraced.{action_untraced}
 use Rattle.i9_model.specs.Run.{Given, Record, Kind, Instruction, Faulted, Entered, Interrupted, Reached, action_by_kind, due_after, event_after, state_after, IsPast, entry_in, faulted_words}
 use Rattle.i9_model.proofs.ControlLaws.{by_group}
-use Rattle.i9_model.proofs.Comes.{MayCome, next_comes}
+use Rattle.i9_past.proofs.Comes.{MayCome, next_comes}
 use Rattle.i9_model.proofs.KeptBits.{masked, same_above}
 use Rattle.i9_laws.specs.Kept.{IsWithin}
 use Rattle.i9_laws.proofs.Entered.{call_by, entry_by, interrupt_made}

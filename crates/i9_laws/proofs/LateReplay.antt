@@ -10,9 +10,9 @@ use Rattle.i9_model.specs.Events.{IsInRange, IsOfVersion}
 use Rattle.i9_model.specs.ScheduleText.{time_of, timed_at, IsVersion, AreOfVersion, IsTimedInRange, InOrder, IsPlan}
 use Rattle.i9_model.specs.Run.{Given, Record, Does, next_with, reached_after, state_after, Finish, Ends, finish, reached_last, reached_in}
 use Rattle.i9_model.specs.PrintedText.{run_text}
-use Rattle.i9_model.proofs.Heedful.{heedful, counted, with_plan}
-use Rattle.i9_model.proofs.Left.{standing_by_place}
-use Rattle.i9_model.proofs.Plans.{last_time, last_time-push}
+use Rattle.i9_past.proofs.Heedful.{heedful, counted, with_plan}
+use Rattle.i9_past.proofs.Left.{standing_by_place}
+use Rattle.i9_replay.proofs.Plans.{last_time, last_time-push}
 use Rattle.i9_course.specs.Course.{records_of, event_ahead, instruction_turn, comes_next}
 use Rattle.i9_course.specs.LateRun.{steps, IsLatePast, IsLateRun}
 use Rattle.i9_course.proofs.LateRuns.{records_of-steps, next_of_steps, late_next, late_within, run_cases, run_ends}

@@ -17,3 +17,4 @@ pub mod Returns
 pub mod RunsAgain
 pub mod Passed
 pub mod LateReplay
+pub mod Undoing

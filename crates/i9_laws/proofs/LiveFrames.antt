@@ -14,10 +14,10 @@ use Rattle.i9_model.specs.Run.{Given, Record, Does, record_of, action_by_kind, d
 use Rattle.i9_model.specs.ScheduleText.{IsPlan}
 use Rattle.i9_model.specs.HeldFrames.{Cache, frame_at, spilled, cache_moved, cache_after, AreInMemory}
 use Rattle.i9_model.proofs.ControlLaws.{acted-frames}
-use Rattle.i9_model.proofs.Comes.{next_comes}
-use Rattle.i9_model.proofs.Cuts.{past_by}
-use Rattle.i9_model.proofs.Heedful.{past_of_some}
-use Rattle.i9_model.proofs.HeldWords.{held-in-memory}
+use Rattle.i9_past.proofs.Comes.{next_comes}
+use Rattle.i9_past.proofs.Cuts.{past_by}
+use Rattle.i9_past.proofs.Heedful.{past_of_some}
+use Rattle.i9_agree.proofs.HeldWords.{held-in-memory}
 use Rattle.i9_laws.specs.Kept.{IsWord, HasBytes}
 use Rattle.i9_laws.specs.LiveFrames.{live_moved, live_after, addresses_of, AreSaved}
 use Rattle.i9_laws.proofs.ResultWords.{AreWords, item_word}

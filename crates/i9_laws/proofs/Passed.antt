@@ -18,7 +18,7 @@ use Rattle.i9_model.specs.ScheduleText.{at_time, time_of, is_counted, has_come_a
 use Rattle.i9_model.specs.Before.{Received, choice_in, interrupt_in, received_in}
 use Rattle.i9_model.specs.Run.{Given, Kind, Instruction, Faulted, Entered, Interrupted, Reached, Record, record_of, counts_of, action_by_kind, Does, Ends, next_by_entry, entry_in, next_by_event, next_by_interrupt, next_by_choice, next_in, due_after, reached_by, reached_after, event_after, state_after, IsPast, finish, next_by_received}
 use Rattle.i9_model.proofs.ControlLaws.{acted-count}
-use Rattle.i9_model.proofs.Comes.{next_comes}
+use Rattle.i9_past.proofs.Comes.{next_comes}
 
 -- ---- events in order
 

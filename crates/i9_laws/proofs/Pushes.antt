@@ -22,7 +22,7 @@ use Rattle.i9_model.specs.declared.event.Event.{Event}
 use Rattle.i9_model.specs.Before.{interrupt_in, interrupting}
 use Rattle.i9_model.specs.Run.{Kind, Instruction, Faulted, Entered, Interrupted, Reached, action_by_kind, entry_in}
 use Rattle.i9_model.proofs.ControlLaws.{flagged-others}
-use Rattle.i9_model.proofs.Comes.{MayCome}
+use Rattle.i9_past.proofs.Comes.{MayCome}
 use Rattle.i9_laws.specs.Undone.{is_call_name, is_call, return_address}
 use Rattle.i9_laws.proofs.Entered.{call_by, entry_by, entry_for, interrupt_made}
 use Rattle.i9_laws.proofs.FrameRegisters.{frame_local}

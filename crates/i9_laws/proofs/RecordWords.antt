@@ -24,13 +24,13 @@ use Rattle.i9_model.specs.Step.{bytes_of_words, saved_locals, entering, moved, a
 use Rattle.i9_model.specs.Interrupts.{without_bit, vector_priority, priority_place, pending_place, left_pending, taken_writes, clearing_writes, record_writes}
 use Rattle.i9_model.specs.Before.{interrupt_in, interrupting}
 use Rattle.i9_model.specs.Run.{Kind, Instruction, Faulted, Entered, Interrupted, Reached, action_by_kind, entry_in}
-use Rattle.i9_model.proofs.Comes.{MayCome}
+use Rattle.i9_past.proofs.Comes.{MayCome}
 use Rattle.i9_model.proofs.CallLaws.{second_none}
 use Rattle.i9_model.proofs.FrameBytes.{stored_at, byte_of_words}
 use Rattle.i9_model.proofs.FrameLaws.{port_hazard-none}
-use Rattle.i9_model.proofs.Overlays.{words_mcon}
+use Rattle.i9_agree.proofs.Overlays.{words_mcon}
 use Rattle.i9_model.proofs.Readings.{in_bytes-has}
-use Rattle.i9_model.proofs.SoundRuns.{words_long}
+use Rattle.i9_model.proofs.Lengths.{words_long}
 use Rattle.i9_model.proofs.Stored.{stored-append}
 use Rattle.i9_model.proofs.Storing.{stored_kept}
 use Rattle.i9_laws.specs.Kept.{IsWord}

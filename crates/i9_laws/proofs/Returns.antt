@@ -27,7 +27,7 @@ use Rattle.i9_model.specs.declared.run.Due.{Due}
 use Rattle.i9_model.specs.Run.{Given, Record, Kind, Instruction, Faulted, Entered, Interrupted, Reached, action_by_kind, action_done, after_kind, record_of, due_after, event_after, state_after, IsPast}
 use Rattle.i9_model.proofs.CallLaws.{first_none, second_none}
 use Rattle.i9_model.proofs.ControlLaws.{flagged-others}
-use Rattle.i9_model.proofs.Comes.{MayCome, next_comes}
+use Rattle.i9_past.proofs.Comes.{MayCome, next_comes}
 use Rattle.i9_laws.specs.Kept.{HasBytes}
 use Rattle.i9_laws.specs.LiveFrames.{live_moved, live_after, addresses_of, AreSaved}
 use Rattle.i9_laws.specs.Undone.{is_call, is_entry, is_return_name, is_return, return_address, pc_by_name, pc_of_record, pc_back, ac_of_record, ac_back, LeavesRecord, GivesRegisters, GivesControls, HasControls, GivesOldControls}

@@ -13,10 +13,10 @@ use Rattle.i9_model.specs.ScheduleText.{timed_at, IsVersion, AreOfVersion, IsPla
 use Rattle.i9_model.specs.Run.{Given, Kind, Instruction, Faulted, Entered, Interrupted, Reached, Record, Ends, action_done, point_of, next_with, reached_by, reached_after, state_after, IsPast, IsRun, Finish, finish, reached_last, reached_in}
 use Rattle.i9_model.specs.PrintedText.{Shown, Out, Drained, Journal, Bytes, Last, out_lines, point_lines, bytes_lines, event_lines, record_lines, lines_of, end_lines, text_of, events_of, run_text, heading_text, view_of, journal_lines, last_lines}
 use Rattle.i9_model.specs.Memory.{console_byte}
-use Rattle.i9_model.proofs.Heedful.{tally, heedful, planned_past, with_plan, next_planned, past_planned}
-use Rattle.i9_model.proofs.Plans.{front_is_plan, front_of_version}
-use Rattle.i9_model.proofs.PlannedRuns.{reached_front, run_of_reached, reached_to_end}
-use Rattle.i9_model.proofs.Replay.{replay}
+use Rattle.i9_past.proofs.Heedful.{tally, heedful, planned_past, with_plan, next_planned, past_planned}
+use Rattle.i9_replay.proofs.Plans.{front_is_plan, front_of_version}
+use Rattle.i9_past.proofs.PlannedRuns.{reached_front, run_of_reached, reached_to_end}
+use Rattle.i9_replay.proofs.Replay.{replay}
 use Rattle.i9_model.specs.declared.view.View.{View}
 
 pub reaches_front : (g : Given) (rs : List Record) → IsPast g rs → (rest : List Timed) × (reached_after rs ++ rest ≡ g.plan)

@@ -47,7 +47,7 @@ use Rattle.std.specs.Int.Bits.{or_add_and}
 use Rattle.i9_model.specs.Before.{interrupt_in, interrupting}
 use Rattle.i9_model.specs.Run.{Given, Record, Kind, Instruction, Faulted, Entered, Interrupted, Reached, action_by_kind, action_done, due_after, event_after, state_after, IsPast, entry_in}
 use Rattle.i9_model.proofs.ControlLaws.{by_group, flagged-others}
-use Rattle.i9_model.proofs.Comes.{MayCome, next_comes}
+use Rattle.i9_past.proofs.Comes.{MayCome, next_comes}
 use Rattle.i9_laws.specs.Kept.{IsWithin, IsWord, HasBytes}
 use Rattle.i9_laws.proofs.Entered.{call_by, entry_by, entry_for, interrupt_made}
 use Rattle.i9_laws.proofs.KeptBits.{IsKept, kept_after}

@@ -1,10 +1,14 @@
 //! Laws of whole runs, as the contracts of calls that do nothing.
 
-ghost use Rattle.std.specs.Prelude.{◌≡◌, ◌%◌, ◌<◌, ◌∷◌, ◌++◌, ℕ, List, IsTrue};
+ghost use Rattle.std.specs.Prelude.{◌≡◌, ◌%◌, ◌<◌, ◌∷◌, ◌++◌, ℕ, List, IsTrue, Ok};
 ghost use Rattle.i9_model.specs.declared.layout.TheConstants.{AC_MASK, PC_MASK, TC_MASK, PFP};
+ghost use Rattle.i9_model.specs.declared.calls.Sys.{Sys};
 ghost use Rattle.i9_model.specs.Image.{Part, pairs_of, AreParts};
 ghost use Rattle.i9_model.specs.declared.interrupts.TheConstants.{LINE_MASK};
 ghost use Rattle.i9_model.specs.declared.dma.TheConstants.{COMMAND_MASK};
+ghost use Rattle.i9_model.specs.Memory.{Memory};
+ghost use Rattle.i9_model.specs.State.{Frames};
+ghost use Rattle.i9_model.specs.Calls.{planned_calls, Undoes};
 ghost use Rattle.i9_model.specs.ScheduleText.{IsPlan};
 ghost use Rattle.i9_model.specs.Run.{Given, Record, IsPast, state_after};
 ghost use Rattle.i9_model.specs.HeldFrames.{AreInMemory};
@@ -71,4 +75,11 @@ pub fn a_return_undoes_a_call()
     ensures entry_at_once { (g : Given) (rs : List Record) (call back : Record)
         → IsPast g (back ∷ call ∷ rs) → IsTrue (is_entry call.kind) → LeavesRecord call.kind call.before
         → IsTrue (is_return back.kind) → GivesOldControls call back }
+{}
+
+/// A return right after a system call undoes it, whatever is in memory then: it meets no hazard,
+/// goes to the frame that the call saved, and gives back the process controls.
+pub fn returns_undo_system_calls()
+    ensures { (m later : Memory) (f : Frames) (table n pc ac fp sp : ℕ) (s : Sys)
+        → planned_calls m f table n pc fp sp ≡ Ok s → Undoes later f pc ac s }
 {}

@@ -12,9 +12,9 @@ use Rattle.i9_model.specs.Turns.{last_issue, issue_turn, waiting_until}
 use Rattle.i9_model.specs.Late.{turns}
 use Rattle.i9_model.specs.Run.{Given, Faulted, Instruction, Next, fault_at, next_by_standing, reached_after, due_after, next_in, state_after}
 use Rattle.i9_model.specs.Alike.{AreNextAlike}
-use Rattle.i9_model.proofs.AlikeSteps.{next_alike}
-use Rattle.i9_model.proofs.SoundRuns.{sound-after}
-use Rattle.i9_model.proofs.TurnPending.{stands-pending_turn}
+use Rattle.i9_agree.proofs.AlikeSteps.{next_alike}
+use Rattle.i9_agree.proofs.SoundRuns.{sound-after}
+use Rattle.i9_turns.proofs.TurnPending.{stands-pending_turn}
 use Rattle.i9_schedule.specs.Plan.{Plan}
 use Rattle.i9_course.specs.NeedOf.{need_of, need_ahead}
 use Rattle.i9_course.specs.Course.{Item, records_of, course, instruction_ahead, instruction_turn, event_ahead, comes_next}

@@ -13,10 +13,10 @@ use Rattle.i9_model.specs.State.{State, boot}
 use Rattle.i9_model.specs.Step.{Action, Move, Stays}
 use Rattle.i9_model.specs.Turns.{Pending, IsAllDone, with_need, waiting_until, placed_record}
 use Rattle.i9_model.specs.Turns as board
-use Rattle.i9_model.proofs.AlikeSteps.{done_alike}
-use Rattle.i9_model.proofs.Comes.{next_comes}
-use Rattle.i9_model.proofs.LateMemories.{stored-none}
-use Rattle.i9_model.proofs.Left.{standing_by_place, next_leaves}
+use Rattle.i9_agree.proofs.AlikeSteps.{done_alike}
+use Rattle.i9_past.proofs.Comes.{next_comes}
+use Rattle.i9_model.proofs.Stored.{stored-none}
+use Rattle.i9_past.proofs.Left.{standing_by_place, next_leaves}
 use Rattle.i9_course.specs.NeedOf.{need_of, record_need, need_ahead}
 use Rattle.i9_course.specs.Course.{Item, Step, records_of, course, late_after, move_writes, puts_of, instruction_turn, event_ahead, comes_next, ahead}
 use Rattle.i9_course.specs.Kernel.{Lands}
@@ -25,7 +25,7 @@ use Rattle.i9_course.proofs.Settled.{course_settles}
 use Rattle.i9_course.proofs.NeedActs.{need_still, need_requests}
 use Rattle.i9_course.proofs.NeedAlike.{need_alike}
 use Rattle.i9_course.proofs.Placing.{placed_turns}
-use Rattle.i9_model.proofs.TurnOpen.{done-after}
+use Rattle.i9_turns.proofs.TurnOpen.{done-after}
 use Rattle.i9_course.proofs.Timed.{course_costs}
 use Rattle.i9_course.specs.Course.{issue_of_next}
 use Rattle.i9_course.proofs.Ahead.{ahead_precise}

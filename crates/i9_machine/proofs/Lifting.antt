@@ -8,8 +8,8 @@ use Rattle.i9_model.specs.Run.{Given, Kind, Instruction, Faulted, Entered, Inter
 use Rattle.i9_model.specs.PrintedText.{Shown, record_lines, journal_lines}
 use Rattle.i9_model.specs.Alike.{AreAlike, AreRecordsAlike, AreNextAlike, told}
 use Rattle.i9_model.specs.HeldFrames.{Cache, renewed, sets_in, cache_acted, cache_configured, cache_after}
-use Rattle.i9_model.proofs.AlikeSteps.{does_alike, ends_alike, done_alike, due_alike, reached_alike, lines_alike, alike_trans, end_alike}
-use Rattle.i9_model.proofs.HeldRuns.{IsFreeRecord, next_free, configured_by, sets_after}
+use Rattle.i9_agree.proofs.AlikeSteps.{does_alike, ends_alike, done_alike, due_alike, reached_alike, lines_alike, alike_trans, end_alike}
+use Rattle.i9_agree.proofs.HeldRuns.{IsFreeRecord, next_free, configured_by, sets_after}
 use Rattle.i9_processor.specs.Effect.{HasRoomFor, KeepsRoom, has_writes, is_restart}
 use Rattle.i9_processor.specs.State.{state_of, cache_of, size_of}
 use Rattle.i9_model.specs.declared.run.End.{End}

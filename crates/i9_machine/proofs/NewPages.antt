@@ -3,7 +3,7 @@ use Rattle.std.proofs.Common.{◌≡◌, List, [], ◌∷◌, None, refl, sym, s
 use Rattle.i9_model.specs.Run.{Record, Next, Does, Ends, action_done, Given}
 use Rattle.i9_model.specs.Step.{Action}
 use Rattle.i9_model.specs.Alike.{AreNextAlike}
-use Rattle.i9_model.proofs.AlikeSteps.{done_alike}
+use Rattle.i9_agree.proofs.AlikeSteps.{done_alike}
 use Rattle.i9_schedule.specs.Plan.{Plan}
 use Rattle.i9_course.specs.Course.{Item, comes_next}
 use Rattle.i9_processor.specs.Pages.{AddsActionOnly, AddsNoPage}

@@ -17,9 +17,9 @@ use Rattle.i9_model.specs.Turns.{last_issue, issue_turn, end_turn, waiting_until
 use Rattle.i9_model.specs.Turns as board
 use Rattle.i9_model.specs.Late.{turns}
 use Rattle.i9_model.specs.Run.{Given, Kind, Instruction, Faulted, Entered, Interrupted, Reached, Record, fault_at, due_in, due_by, due_after, next_by_standing, state_after}
-use Rattle.i9_model.proofs.AlikeSteps.{IsBlind, agree-alike}
-use Rattle.i9_model.proofs.AgreeStands.{stands-same}
-use Rattle.i9_model.proofs.BlindRuns.{blind-after}
+use Rattle.i9_agree.proofs.AlikeSteps.{IsBlind, agree-alike}
+use Rattle.i9_agree.proofs.AgreeStands.{stands-same}
+use Rattle.i9_agree.proofs.BlindRuns.{blind-after}
 use Rattle.i9_course.specs.NeedOf.{need_of, need_ahead}
 use Rattle.i9_course.specs.Course.{Item, IsCourse, records_of, course, instruction_ahead, issue_of_next, late_fault, last_fault, last_done, to_issue, ahead}
 use Rattle.i9_course.proofs.Ahead.{imprecise_overtaken, precise_by}

@@ -19,8 +19,8 @@ use Rattle.i9_model.specs.Step.{Action}
 use Rattle.i9_model.specs.Run.{Given, Kind, Record, Next, Does, Ends, record_of, action_by_kind, action_done, due_after, state_after}
 use Rattle.i9_model.specs.Turns.{Pending, IsAllDone, with_need, last_issue, issue_turn, waiting_until, placed_record}
 use Rattle.i9_model.specs.Turns as board
-use Rattle.i9_model.proofs.AlikeSteps.{does_alike, view_alike}
-use Rattle.i9_model.proofs.HeldRuns.{next_free}
+use Rattle.i9_agree.proofs.AlikeSteps.{does_alike, view_alike}
+use Rattle.i9_agree.proofs.HeldRuns.{next_free}
 use Rattle.i9_schedule.specs.Plan.{Plan}
 use Rattle.i9_regs.specs.Covered.{IsCovered}
 use Rattle.i9_regs.specs.File.{issued_over}

@@ -11,10 +11,10 @@ use Rattle.i9_model.specs.Turns.{Pending, IsAllDone, last_issue, end_turn}
 use Rattle.i9_model.specs.Turns as board
 use Rattle.std.specs.List.{AllByRecursion}
 use Rattle.i9_model.specs.declared.need.Cell.{Cell}
-use Rattle.i9_model.proofs.TurnMarks.{all-end}
-use Rattle.i9_model.proofs.LateMemories.{none-wait, all-requests}
-use Rattle.i9_model.proofs.LateRegisters.{plan-none}
-use Rattle.i9_model.proofs.LateOrder.{issued-by, shows_moves}
+use Rattle.i9_turns.proofs.TurnMarks.{all-end}
+use Rattle.i9_turns.proofs.LateMemories.{none-wait, all-requests}
+use Rattle.i9_turns.proofs.LateRegisters.{plan-none}
+use Rattle.i9_turns.proofs.LateOrder.{issued-by, shows_moves}
 use Rattle.i9_course.specs.Course.{Item, Mark, records_of, course}
 use Rattle.i9_course.specs.Kernel.{MovesTo}
 use Rattle.i9_course.proofs.Orderly.{course_orderly}

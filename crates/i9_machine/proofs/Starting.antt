@@ -10,7 +10,7 @@ use Rattle.i9_model.specs.ScheduleText.{IsPlan, most_events}
 use Rattle.i9_model.specs.State.{boot, started}
 use Rattle.i9_model.specs.Late.{cell, resource, resources}
 use Rattle.i9_model.specs.Turns.{Pending, StandsFor, IsAllDone, pending_of}
-use Rattle.i9_model.proofs.TurnStands.{stands-none}
+use Rattle.i9_turns.proofs.TurnStands.{stands-none}
 use Rattle.i9_course.specs.Course.{ahead}
 use Rattle.i9_course.specs.Kernel.{Kernel, Lands}
 use Rattle.i9_course.proofs.Ahead.{ahead_later}

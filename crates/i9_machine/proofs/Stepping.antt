@@ -12,8 +12,8 @@ use Rattle.i9_model.specs.declared.need.Need.{Need}
 use Rattle.i9_model.specs.Alike.{AreAlike}
 use Rattle.i9_model.specs.Before.{choice_in}
 use Rattle.i9_model.specs.Left.{left_in}
-use Rattle.i9_model.proofs.Comes.{MayCome, next_comes}
-use Rattle.i9_model.proofs.Left.{counts_after, standing_by_place, plan_after, next_leaves}
+use Rattle.i9_past.proofs.Comes.{MayCome, next_comes}
+use Rattle.i9_past.proofs.Left.{counts_after, standing_by_place, plan_after, next_leaves}
 use Rattle.i9_schedule.specs.Plan.{Plan}
 use Rattle.i9_model.specs.State.{State}
 use Rattle.i9_model.specs.declared.run.Point.{Point}

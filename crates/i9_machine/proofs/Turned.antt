@@ -14,7 +14,7 @@ use Rattle.i9_model.specs.PrintedText.{Shown, register_list, lines_of, record_li
 use Rattle.i9_model.specs.Run.{Given, Next, state_after, Finish}
 use Rattle.i9_model.specs.State.{State, boot}
 use Rattle.i9_model.specs.Turns.{last_issue}
-use Rattle.i9_model.proofs.LateRegisters.{cell-busy}
+use Rattle.i9_turns.proofs.LateRegisters.{cell-busy}
 use Rattle.i9_schedule.specs.Plan.{Plan}
 use Rattle.i9_course.specs.Course.{Item, Step, records_of, course, comes_next}
 use Rattle.i9_regs.proofs.Shown.{landed_busy}

@@ -13,7 +13,7 @@ use Rattle.i9_model.specs.HeldFrames.{Cache, cache_after}
 use Rattle.i9_model.specs.Alike.{AreAlike}
 use Rattle.i9_model.specs.Turns.{HasCost, Pending, IsAllDone, AreAllDone, last_issue, issue_turn, end_turn, done_from, waiting_until}
 use Rattle.i9_model.specs.Turns as board
-use Rattle.i9_model.proofs.TurnOpen.{open-all_done}
+use Rattle.i9_turns.proofs.TurnOpen.{open-all_done}
 use Rattle.i9_model.specs.Late.{turns, landed}
 use Rattle.i9_model.specs.declared.need.Cell.{Cell}
 use Rattle.i9_regs.proofs.Shown.{landed_later}
@@ -35,13 +35,13 @@ use Rattle.i9_machine.specs.Step.{need_at, turn_at, event_for, next_where, next_
 use Rattle.i9_machine.specs.StandsFor.{StandsFor, Follows, IsUnderWay, MovesOn, left_after}
 use Rattle.i9_machine.specs.Opening.{IsFreeToIssue, NextWaits}
 use Rattle.i9_machine.proofs.Stepping.{goes_by_itself}
-use Rattle.i9_model.proofs.TurnPending.{stands-pending_turn}
+use Rattle.i9_turns.proofs.TurnPending.{stands-pending_turn}
 use Rattle.i9_machine.specs.Overtaking.{HasPace}
 use Rattle.i9_course.proofs.Checks.{checked_waits}
 use Rattle.i9_course.proofs.Landed.{done_landed}
 use Rattle.i9_course.proofs.Barriers.{next_barrier}
-use Rattle.i9_model.proofs.AlikeSteps.{does_alike}
-use Rattle.i9_model.proofs.HeldRuns.{next_free}
+use Rattle.i9_agree.proofs.AlikeSteps.{does_alike}
+use Rattle.i9_agree.proofs.HeldRuns.{next_free}
 use Rattle.i9_machine.proofs.Beside.{beside}
 use Rattle.i9_machine.proofs.Issuing.{same_need}
 use Rattle.i9_machine.proofs.Overtaking.{drained_precise}

@@ -178,3 +178,13 @@ sound-marked s lost inside sound = record {
     neither : (l m r : Bool) → (l ≡ true → r ≡ false) → r ≡ true → m ≡ false → (l || m) ≡ false
     neither false m r h t n = n
     neither true m r h t n = let no : true ≡ false = sym t ∙ h refl in absurd (cc no)
+
+pub none_wrote : (f : Frames) → wrote f [] ≡ f
+unfolding is_put
+none_wrote f =
+    let soft : ◌≡◌ {A = ℕ → Bool} (λ x. f.soft x && not (is_put [] x)) f.soft = λ i x. and_true (f.soft x) i in
+    ap (λ (g : ℕ → Bool). record f { soft = g }) soft
+  where
+    and_true : (b : Bool) → (b && true) ≡ b
+    and_true true = refl
+    and_true false = refl

@@ -1,9 +1,10 @@
 -- Sets of resources as numbers.
-use Rattle.std.proofs.Common.{◌≡◌, ℕ, zero, suc, ◌+◌, ◌-◌, ◌*◌, ◌^◌, ◌<◌, Bool, true, false, cond, sym, ap, ◌∙◌, inl, inr, arith, lit<}
-use Rattle.std.specs.Int.{bit_at, from_bool}
+use Rattle.std.proofs.Common.{◌≡◌, ℕ, zero, suc, ◌+◌, ◌-◌, ◌*◌, ◌^◌, ◌<◌, Bool, true, false, cond, sym, ap, ◌∙◌, inl, inr, arith, lit<, ◌≤◌}
+use Rattle.std.specs.Int.{bit_at, from_bool, IsBitSet}
 use Rattle.std.proofs.lemmas.Bool.{cases_lt}
-use Rattle.std.proofs.lemmas.Nat.Bits.{bit_at_cat_low, bit_at_cat_high, bit_at_above}
+use Rattle.std.proofs.lemmas.Nat.Bits.{bit_at_cat_low, bit_at_cat_high, bit_at_above, bit_at-lt, and_pow}
 use Rattle.i9_model.specs.Needs.{set_below}
+use Rattle.std.proofs.Math.Nat.{one-le-pow}
 
 pow_cases : (b : Bool) (x n : ℕ) → x < 2 ^ n → x + cond b (2 ^ n) 0 < 2 ^ suc n
 pow_cases true x n h = omega (arith, h)
@@ -38,3 +39,18 @@ set_bits (suc n) k p lt = elim (cases_lt k n) [
       let here : k ≡ n = omega (arith, lt, high) in
       ap (bit_at (set_below n p + cond (p n) (2 ^ n) 0)) here ∙ top_cases (p n) (set_below n p) n (below_pow n p) ∙ ap (λ (j : ℕ). from_bool (p j)) (sym here)
 ]
+
+-- ---- one bit
+
+-- a bit that is set is 1
+pub set-one : (n k : ℕ) → IsBitSet n k → bit_at n k ≡ 1
+set-one n k h = elim (cases_lt 0 (bit_at n k)) [
+  | inl some ↦ omega (arith, bit_at-lt n k)
+  | inr none ↦ let e : bit_at n k ≡ 0 = omega arith in absurd (h (and_pow n k ∙ ap (λ m. m * 2 ^ k) e ∙ omega arith))
+]
+
+pub one-set : (n k : ℕ) → bit_at n k ≡ 1 → IsBitSet n k
+one-set n k h e =
+    let p : 1 ≤ 2 ^ k = one-le-pow k 2 (omega arith) in
+    let q : 1 * 2 ^ k ≡ 0 = sym (ap (λ m. m * 2 ^ k) h) ∙ sym (and_pow n k) ∙ e in
+    omega (arith, p, q)

@@ -34,3 +34,7 @@ pub written-last : (f : ℕ → ℕ) (ps : List (ℕ × ℕ)) (x : ℕ) → writ
 unfolding written last_put
 written-last f [] x = refl
 written-last f (p ∷ ps) x = written-last (put f p.0 p.1) ps x ∙ unwrap-earlier (last_put ps x) (eqb x p.0) p.1 (f x)
+
+pub stored-none : (m : ℕ → ℕ) → stored m [] ≡ m
+unfolding written
+stored-none m = refl

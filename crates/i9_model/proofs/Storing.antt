@@ -9,8 +9,7 @@ use Rattle.i9_model.specs.Step.{bytes_of_words}
 use Rattle.i9_model.specs.Alike.{with_other}
 use Rattle.i9_model.proofs.Stored.{stored-cons, stored-append}
 use Rattle.i9_model.proofs.Upwards.{upwards-wrapped}
-use Rattle.i9_model.proofs.SoundRuns.{four_bytes}
-use Rattle.i9_model.proofs.AlikeActions.{stored_words_same}
+use Rattle.i9_model.proofs.Lengths.{four_bytes}
 
 -- ---- one byte
 
@@ -76,6 +75,12 @@ stored_kept g (p ∷ ps) x kept =
     ∙ one_kept g p.0 p.1 x (first_kept p ps x kept)
 
 -- ---- words in a row
+
+-- their bytes go by the orders of regions alone
+pub stored_words_same : (m : Memory) (bytes : ℕ → ℕ) (a : ℕ) (ws : List ℕ) → bytes_of_words (with_other m bytes) a ws ≡ bytes_of_words m a ws
+unfolding bytes_of_words word_bytes
+stored_words_same m bytes a [] = refl
+stored_words_same m bytes a (w ∷ ws) = ap (λ bs. word_bytes m a w ++ bs) (stored_words_same m bytes (wrapped (a + 4)) ws)
 
 upwards_append : (a : ℕ) (xs ys : List ℕ) → upwards a (xs ++ ys) ≡ upwards a xs ++ upwards (a + length xs) ys
 upwards_append a [] ys = let none : a ≡ a + 0 = omega arith in ap (λ (b : ℕ). upwards b ys) none

@@ -11,8 +11,8 @@ use Rattle.i9_model.specs.Tracing.{trace_of}
 use Rattle.i9_model.specs.Traced.{is_traced, seen_of, trace_left, traced_action}
 use Rattle.i9_model.specs.Standing.{Meets, Runs, raised_in, later_fault, by_access, by_later, by_raised, by_word}
 use Rattle.i9_model.specs.Stale.{misuses}
-use Rattle.i9_model.proofs.SoundRuns.{action_clear}
-use Rattle.i9_model.proofs.Untraced.{action_untraced, traced_clear}
+use Rattle.i9_agree.proofs.SoundRuns.{action_clear}
+use Rattle.i9_past.proofs.Untraced.{action_untraced, traced_clear}
 use Rattle.i9_processor.specs.declared.processor.tracing.TraceControls.{TraceControls as Controls}
 use Rattle.i9_processor.specs.declared.effect.Effect.{Effect}
 use Rattle.i9_processor.specs.Effect.{IsEffect, action_in, control_in, move_in, writes_in}

@@ -19,7 +19,7 @@ use Rattle.i9_model.specs.Hazards.{writes_hazard}
 use Rattle.i9_model.specs.HeldFrames.{Cache, cache_stored}
 use Rattle.i9_model.proofs.Stored.{stored-append}
 use Rattle.i9_model.proofs.Upwards.{last_put-from}
-use Rattle.i9_model.proofs.AlikeSteps.{none_wrote}
+use Rattle.i9_model.proofs.FrameLaws.{none_wrote}
 use Rattle.i9_storage.specs.declared.storage.Storage.{Storage}
 use Rattle.i9_storage.specs.Storage.{KeepsSpace}
 use Rattle.i9_processor.specs.declared.effect.Move.{Move}

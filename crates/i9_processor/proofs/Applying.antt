@@ -18,13 +18,13 @@ use Rattle.i9_model.specs.Alike.{AreAlike, Agree}
 use Rattle.i9_model.specs.Free.{IsFree}
 use Rattle.i9_model.specs.Sound.{IsSound}
 use Rattle.i9_model.specs.HeldFrames.{Cache, overlaid, cache_stored, cache_acted, AreYoungest}
-use Rattle.i9_model.proofs.AlikeSteps.{none_wrote}
-use Rattle.i9_model.proofs.HeldRuns.{moved_cached}
+use Rattle.i9_model.proofs.FrameLaws.{none_wrote}
+use Rattle.i9_agree.proofs.HeldRuns.{moved_cached}
 use Rattle.i9_storage.proofs.Known.{frames_sound, held_youngest}
-use Rattle.i9_model.proofs.AlikeActions.{hard_bytes}
-use Rattle.i9_model.proofs.AlikeFetches.{tables_hazard_same}
-use Rattle.i9_model.proofs.AlikeSteps.{IsReadable, IsBlind, agree-alike, alike-agree}
-use Rattle.i9_model.proofs.AgreeSteps.{controlled-agree, flagged-agree}
+use Rattle.i9_agree.proofs.AlikeActions.{hard_bytes}
+use Rattle.i9_agree.proofs.AlikeFetches.{tables_hazard_same}
+use Rattle.i9_agree.proofs.AlikeSteps.{IsReadable, IsBlind, agree-alike, alike-agree}
+use Rattle.i9_agree.proofs.AgreeSteps.{controlled-agree, flagged-agree}
 use Rattle.i9_watch.specs.Bits.{bits_of}
 use Rattle.i9_processor.specs.declared.effect.Control.{Control}
 use Rattle.i9_processor.specs.declared.effect.Control.TheVariants as controls

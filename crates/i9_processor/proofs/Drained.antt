@@ -3,7 +3,7 @@ use Rattle.std.proofs.Common.{◌≡◌, ℕ, List, [], sym, ap, ◌∙◌}
 use Rattle.i9_model.specs.Late.{Wait, all_puts, due_puts, left_waiting}
 use Rattle.i9_model.specs.Memory.{stored}
 use Rattle.i9_model.specs.Writes.{written}
-use Rattle.i9_model.proofs.LateMemories.{stored-none}
+use Rattle.i9_model.proofs.Stored.{stored-none}
 use Rattle.i9_queue.specs.Behind.{settled}
 use Rattle.i9_storage.specs.declared.storage.Storage.{Storage}
 use Rattle.i9_storage.specs.Storage as stores

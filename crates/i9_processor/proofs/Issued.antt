@@ -13,9 +13,9 @@ use Rattle.i9_model.specs.declared.need.Cell.{Cell}
 use Rattle.i9_model.specs.Late.{resources, cell, latest, issued_cell}
 use Rattle.i9_model.specs.Writes.{written, pairs_at, last_put}
 use Rattle.i9_model.specs.State.{frame_sets}
-use Rattle.i9_model.proofs.MaskLaws.{frame_beside}
+use Rattle.i9_model.proofs.LastPuts.{frame_beside}
 use Rattle.i9_model.proofs.Stored.{written-last}
-use Rattle.i9_model.proofs.TurnTests.{set-one, one-set}
+use Rattle.i9_model.proofs.SetLaws.{set-one, one-set}
 use Rattle.i9_regs.specs.declared.file.File.{File}
 use Rattle.i9_regs.specs.File.{cell_in, still, latest_of, issued_over}
 use Rattle.i9_regs.proofs.Issued.{issued_one, issued_none, amended_one, amended_none, cases_bit, written_in}

@@ -3,7 +3,7 @@ use Rattle.std.proofs.Common.{◌≡◌, ℕ, ◌+◌, ◌<◌, ◌≤◌, List,
 use Rattle.std.proofs.lemmas.List.{at_drop_more, at_drop_all}
 use Rattle.i9_model.specs.Writes.{upwards, last_put, or_earlier}
 use Rattle.i9_model.specs.Late.{all_puts}
-use Rattle.i9_model.proofs.MaskLaws.{last_append, or_none}
+use Rattle.i9_model.proofs.LastPuts.{last_append, or_none}
 use Rattle.i9_queue.specs.declared.queue.Request.{Request}
 use Rattle.i9_queue.specs.Queue.{wait_in, waits_in}
 

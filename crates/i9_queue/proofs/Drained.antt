@@ -2,7 +2,7 @@
 use Rattle.std.proofs.Common.{◌≡◌, ℕ, List, [], refl, sym, ap, ◌∙◌}
 use Rattle.i9_model.specs.Memory.{Memory, with_bytes, with_words, words_in}
 use Rattle.i9_model.specs.Late.{Wait}
-use Rattle.i9_model.proofs.LateMemories.{stored-none}
+use Rattle.i9_model.proofs.Stored.{stored-none}
 use Rattle.i9_memory.specs.declared.memory.Memory.{Memory as Kept}
 use Rattle.i9_memory.specs.Memory.{memory_of}
 use Rattle.i9_queue.specs.Waits.{settled_over}

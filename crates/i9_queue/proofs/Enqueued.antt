@@ -6,7 +6,7 @@ use Rattle.i9_model.specs.Writes.{upwards, wrapped}
 use Rattle.i9_model.specs.Memory.{Memory, stored, with_bytes}
 use Rattle.i9_model.specs.Late.{Wait, all_puts, AreDueInOrder}
 use Rattle.i9_model.proofs.Stored.{stored-append}
-use Rattle.i9_model.proofs.LateQueues.{order-append}
+use Rattle.i9_model.proofs.Queues.{order-append}
 use Rattle.i9_memory.specs.declared.memory.Memory.{Memory as Kept}
 use Rattle.i9_memory.specs.Memory.{IsReserved, HasRoom}
 use Rattle.i9_queue.specs.declared.queue.Request.{Request}

@@ -15,11 +15,12 @@ use Rattle.i9_model.specs.State.{boot}
 use Rattle.i9_model.specs.Turns.{Permits, IsTimed, last_issue, end_turn}
 use Rattle.i9_model.specs.Late.{Late, turns, acted_memory, settled_memory, is_waiting, AllDone, IsQuiet, AreQuiet, IssuedBy}
 use Rattle.i9_model.specs.Writes.{wrapped, upwards, last_put, or_earlier}
-use Rattle.i9_model.proofs.LateMemories.{stored-none, acted-yes, acted-no, waits-not}
-use Rattle.i9_model.proofs.LateOrder.{issued-by, permitted-barrier}
-use Rattle.i9_model.proofs.HeldRuns.{cached-after}
+use Rattle.i9_model.proofs.Stored.{stored-none}
+use Rattle.i9_turns.proofs.LateMemories.{acted-yes, acted-no, waits-not}
+use Rattle.i9_turns.proofs.LateOrder.{issued-by, permitted-barrier}
+use Rattle.i9_agree.proofs.HeldRuns.{cached-after}
 use Rattle.i9_model.proofs.Storing.{stored_kept}
-use Rattle.i9_model.proofs.TurnMarks.{all-end}
+use Rattle.i9_turns.proofs.TurnMarks.{all-end}
 use Rattle.i9_course.specs.Course.{Item, records_of, course, IsCourse}
 use Rattle.i9_course.proofs.Orderly.{course_events}
 use Rattle.i9_course.proofs.Settled.{course_settles}

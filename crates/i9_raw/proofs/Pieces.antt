@@ -14,7 +14,7 @@ use Rattle.i9_model.specs.HeldFrames.{AreWhole}
 use Rattle.i9_model.specs.Memory.{Memory}
 use Rattle.i9_model.specs.Step.{bytes_of_words}
 use Rattle.i9_model.specs.Writes.{wrapped, upwards}
-use Rattle.i9_model.proofs.Overlays.{frame_long}
+use Rattle.i9_model.proofs.Lengths.{frame_long}
 use Rattle.i9_model.proofs.Runs.{is_put-upwards}
 use Rattle.i9_course.specs.Course.{frame_writes, oldest_writes, all_writes}
 use Rattle.i9_shade.specs.Shade.{Piece, Lacks}

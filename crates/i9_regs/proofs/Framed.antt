@@ -7,7 +7,7 @@ use Rattle.i9_isa.specs.declared.resources.TheConstants.{CONDITION_CODE, FRAME_P
 use Rattle.i9_model.specs.Late.{resources, latest}
 use Rattle.i9_model.specs.Writes.{written, pairs_at, last_put}
 use Rattle.i9_model.specs.State.{frame_sets}
-use Rattle.i9_model.proofs.TurnTests.{set-one, one-set}
+use Rattle.i9_model.proofs.SetLaws.{set-one, one-set}
 use Rattle.i9_model.proofs.Stored.{written-append, written-last}
 use Rattle.i9_regs.specs.declared.file.File.{File}
 use Rattle.i9_regs.specs.File.{cell_in, in_group, planned_cell, rest_bit, latest_of, issued_over, issued_value, framed_value}

@@ -8,7 +8,7 @@ use Rattle.std.proofs.lemmas.Nat.Bits.{shr_and_one, bit_at-lt, bit_at-zero, bit_
 use Rattle.i9_model.specs.declared.need.Cell.{Cell}
 use Rattle.i9_model.specs.Late.{resources, cell, latest, issued_cell}
 use Rattle.i9_model.specs.Writes.{put, written, pairs_at}
-use Rattle.i9_model.proofs.TurnTests.{set-one}
+use Rattle.i9_model.proofs.SetLaws.{set-one}
 use Rattle.i9_regs.specs.declared.file.File.{File}
 use Rattle.i9_regs.specs.File.{cell_in, in_group, with_plan, planned_cell, rest_bit, latest_of, issued_over, issued_value}
 use Rattle.i9_regs.proofs.Groups.{planned_in, planned_out, rest_in, rest_out}

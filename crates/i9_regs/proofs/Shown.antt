@@ -6,7 +6,7 @@ use Rattle.std.proofs.lemmas.Bool.{cases_Bool}
 use Rattle.std.proofs.lemmas.Bool.Decides.{nat_tests}
 use Rattle.i9_model.specs.declared.need.Cell.{Cell}
 use Rattle.i9_model.specs.Late.{cell, landed, landed_plan, latest, is_plan_open, issued_cell}
-use Rattle.i9_model.proofs.TurnTests.{one-set}
+use Rattle.i9_model.proofs.SetLaws.{one-set}
 use Rattle.i9_regs.specs.File.{with_plan, issued_over}
 
 -- ---- by the turn of a plan

@@ -10,7 +10,7 @@ use Rattle.i9_model.specs.ScheduleText.{levels_version, version_in, heading, hea
 use Rattle.i9_model.specs.declared.event.Timed.{Timed}
 use Rattle.i9_model.specs.declared.event.Said.{Said}
 use Rattle.i9_model.specs.declared.event.Said.TheVariants as said
-use Rattle.i9_model.proofs.EventForms.{timed_case, timed_is}
+use Rattle.i9_replay.proofs.EventForms.{timed_case, timed_is}
 use Rattle.i9_schedule.specs.Lines.{with_said, with_line}
 use Rattle.i9_schedule.specs.Reading.{Reads, Refuses, IfBad, place_of}
 use Rattle.i9_schedule.specs.declared.error.LineError.{LineError}

@@ -3,7 +3,7 @@ use Rattle.std.proofs.Common.{ℕ, List, [], ◌∷◌, subst, arith, length-app
 use Rattle.std.proofs.lemmas.List.Elements.{All-append, All-cons, All-nil}
 use Rattle.i9_text.specs.FirstFault.{SaysAll}
 use Rattle.i9_model.specs.Events.{Words, last_address, most_shown}
-use Rattle.i9_model.proofs.Plans.{in_range}
+use Rattle.i9_replay.proofs.Plans.{in_range}
 use Rattle.i9_script.specs.ScriptText.{IsCommand, is_turn, is_until, is_regs, is_raw, is_held, is_mem, is_rawmem, is_back, is_last, is_who, Says, says_nothing, says_command, most_turns, most_back, IsScript, IsCommandInRange, IsInLimits}
 use Rattle.i9_script.specs.declared.command.Command.{Command}
 

@@ -3,7 +3,7 @@ use Rattle.std.proofs.Common.{◌≡◌, ℕ, List, [], ap}
 use Rattle.i9_model.specs.declared.frame.Frame.{Frame}
 use Rattle.i9_model.specs.Memory.{Memory}
 use Rattle.i9_model.specs.HeldFrames.{Cache, cache, over, overlaid, cache_configured}
-use Rattle.i9_model.proofs.Overlays.{over_mcon}
+use Rattle.i9_agree.proofs.Overlays.{over_mcon}
 
 pub empty_behind : (hs : List Frame) (m : Memory) → hs ≡ [] → over hs m ≡ m
 unfolding over

@@ -12,7 +12,7 @@ use Rattle.i9_model.specs.Frames.{in_bytes}
 use Rattle.i9_model.specs.Alike.{with_other}
 use Rattle.i9_model.specs.HeldFrames.{Cache, over, overlaid, AreWhole}
 use Rattle.i9_model.proofs.Places.{in_bytes-above}
-use Rattle.i9_model.proofs.Overlays.{over_push, over_mcon, words_kept, AreKept, over_kept}
+use Rattle.i9_agree.proofs.Overlays.{over_push, over_mcon, words_kept, AreKept, over_kept}
 use Rattle.i9_model.proofs.FrameBytes.{frame_byte}
 
 -- ---- orders of regions

@@ -8,7 +8,7 @@ use Rattle.i9_model.specs.Memory.{with_words}
 use Rattle.i9_model.specs.Writes.{wrapped}
 use Rattle.i9_model.specs.HeldFrames.{cache, over, overlaid, spilled}
 use Rattle.i9_model.specs.declared.layout.TheConstants.{FRAME_SIZE}
-use Rattle.i9_model.proofs.Overlays.{overlaid_spilled}
+use Rattle.i9_agree.proofs.Overlays.{overlaid_spilled}
 use Rattle.i9_storage.specs.Kept.{HaveRoom}
 
 head_of : (f g : Frame) (fs gs : List Frame) → f ∷ fs ≡ g ∷ gs → (f ≡ g) × (fs ≡ gs)

@@ -16,8 +16,8 @@ use Rattle.i9_model.specs.Alike.{is_compared, AgreeWhere}
 use Rattle.i9_model.specs.HeldFrames.{Cache, over, overlaid, spilled, with_room, holding, taken, written_back, AreYoungest}
 use Rattle.i9_model.proofs.FrameLaws.{sound-none, sound-returned, sound-flushed, sound-wrote, sound-softened}
 use Rattle.i9_model.proofs.Runs.{writes_hazard-upwards, wrote-upwards}
-use Rattle.i9_model.proofs.Overlays.{overlaid_holding, over_stored}
-use Rattle.i9_model.proofs.HeldFrames.{write_beside, return_keeps, move_keeps, taken_alike}
+use Rattle.i9_agree.proofs.Overlays.{overlaid_holding, over_stored}
+use Rattle.i9_agree.proofs.HeldFrames.{write_beside, return_keeps, move_keeps, taken_alike}
 use Rattle.i9_queue.specs.declared.behind.Behind.{Behind}
 use Rattle.i9_queue.specs.Behind.{settled, HasRoomIn, KeepsRoomIn}
 use Rattle.i9_watch.specs.declared.watch.Watch.{Watch}

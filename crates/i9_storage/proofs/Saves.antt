@@ -13,7 +13,7 @@ use Rattle.i9_model.specs.Sound.{IsSound}
 use Rattle.i9_model.specs.Step.{Saves}
 use Rattle.i9_model.proofs.FrameLaws.{sound-saved}
 use Rattle.i9_model.proofs.SavedMarks.{marks-lost}
-use Rattle.i9_model.proofs.SoundRuns.{sound-lost}
+use Rattle.i9_agree.proofs.SoundRuns.{sound-lost}
 use Rattle.i9_watch.specs.Bits.{bits_of}
 use Rattle.i9_watch.proofs.SetBits.{bit_none}
 

@@ -22,13 +22,13 @@ use Rattle.i9_faults.specs.Switches.{handler_switch, fault_switch}
 use Rattle.i9_model.specs.Alike.{is_beyond, is_hard, AgreeWhere, with_other}
 use Rattle.i9_model.specs.HeldFrames.{Cache, overlaid}
 use Rattle.i9_model.proofs.CallLaws.{first_none, second_none, unless_ok}
-use Rattle.i9_model.proofs.Overlays.{over_mcon}
-use Rattle.i9_model.proofs.HeldFrames.{hard_behind}
+use Rattle.i9_agree.proofs.Overlays.{over_mcon}
+use Rattle.i9_agree.proofs.HeldFrames.{hard_behind}
 use Rattle.i9_model.proofs.Readings.{half_same, word_same, read_same, words_same}
-use Rattle.i9_model.proofs.AlikeFetches.{unless_same, bind_same, handler_same, planned_calls_same, planned_ret_same, planned_fault_same}
-use Rattle.i9_model.proofs.AlikeActions.{system_hazard_by_same, request_same}
-use Rattle.i9_model.proofs.Units.{bytes_same}
-use Rattle.i9_model.proofs.AlikeInterrupts.{chosen_soft_same, planned_same, cleared_same}
+use Rattle.i9_agree.proofs.AlikeFetches.{unless_same, bind_same, handler_same, planned_calls_same, planned_ret_same, planned_fault_same}
+use Rattle.i9_agree.proofs.AlikeActions.{system_hazard_by_same, request_same}
+use Rattle.i9_agree.proofs.Units.{bytes_same}
+use Rattle.i9_agree.proofs.AlikeInterrupts.{chosen_soft_same, planned_same, cleared_same}
 use Rattle.i9_queue.specs.declared.behind.Behind.{Behind}
 use Rattle.i9_queue.specs.Behind.{settled}
 use Rattle.i9_watch.specs.declared.watch.Watch.{Watch}

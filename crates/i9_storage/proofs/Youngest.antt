@@ -10,12 +10,12 @@ use Rattle.i9_model.specs.Writes.{address_count, wrapped}
 use Rattle.i9_model.specs.Memory.{Memory, in_port_page, region_of, is_big, ordered_word, word_in, words_in, word_bytes, with_words}
 use Rattle.i9_model.specs.Frames.{in_bytes, in_frames}
 use Rattle.i9_model.specs.HeldFrames.{over, overlaid, AreYoungest}
-use Rattle.i9_model.proofs.SoundRuns.{four_bytes}
+use Rattle.i9_model.proofs.Lengths.{four_bytes}
 use Rattle.i9_model.proofs.Readings.{in_bytes-has}
 use Rattle.i9_model.proofs.FrameBytes.{frame_byte}
-use Rattle.i9_model.proofs.Overlays.{words_mcon, over_push}
-use Rattle.i9_model.proofs.HeldFrames.{first_is}
-use Rattle.i9_model.proofs.HeldWords.{four_list, by_order, same_four}
+use Rattle.i9_agree.proofs.Overlays.{words_mcon, over_push}
+use Rattle.i9_agree.proofs.HeldFrames.{first_is}
+use Rattle.i9_agree.proofs.HeldWords.{four_list, by_order, same_four}
 use Rattle.i9_queue.specs.declared.behind.Behind.{Behind}
 use Rattle.i9_queue.specs.Behind.{settled}
 use Rattle.i9_watch.specs.declared.watch.Watch.{Watch}

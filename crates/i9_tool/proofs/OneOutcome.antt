@@ -15,7 +15,7 @@ use Rattle.i9_tune.specs.Tuning.{fault_line as block_fault_line, IsTuning}
 use Rattle.i9_tune.proofs.OneText.{image_tunable, one_tuning}
 use Rattle.i9_tool.proofs.Listable.{accepted_bytes}
 use Rattle.i9_model.specs.declared.layout.TheConstants.{MAX_LENGTH}
-use Rattle.i9_model.proofs.Cuts.{state_by}
+use Rattle.i9_past.proofs.Cuts.{state_by}
 use Rattle.i9_course.specs.LateRun.{IsLateRun}
 use Rattle.i9_course.proofs.LateRuns.{late_records, late_end}
 use Rattle.i9_course.proofs.LateSame.{run_sets}

@@ -9,7 +9,7 @@ use Rattle.i9_model.specs.Step.{first_word}
 use Rattle.i9_model.specs.declared.run.End.{End}
 use Rattle.i9_model.specs.Run.{Given, Kind, Instruction, Faulted, Entered, Interrupted, Reached, Record, counts_of, state_after, Finish}
 use Rattle.i9_model.specs.PrintedText.{text_of, lines_of, record_lines, end_lines, run_text, heading_text}
-use Rattle.i9_model.proofs.Lines.{text_of-append}
+use Rattle.i9_past.proofs.Lines.{text_of-append}
 use Rattle.i9_course.specs.LateRun.{steps, IsLatePast, finish_after}
 use Rattle.i9_course.proofs.LateRuns.{late_goes_on, records_of-steps}
 use Rattle.i9_machine.specs.declared.line.Line.{Line}

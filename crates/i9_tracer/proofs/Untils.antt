@@ -25,7 +25,7 @@ use Rattle.i9_tracer.specs.Until.{IsPassed, Passes, StopsAt, EndsFirst, StopsSho
 -- ---- what a step is
 
 -- a step that is told as an instruction counts
-issued_counts : (kind : Kind) (s : State) (t : Issued) → TellsRecord kind s (answers.Issued t) → counts_of kind ≡ 1
+pub issued_counts : (kind : Kind) (s : State) (t : Issued) → TellsRecord kind s (answers.Issued t) → counts_of kind ≡ 1
 issued_counts (Instruction i) s t h = refl
 issued_counts (Faulted inst fault) s t h = refl
 issued_counts (Entered e) s t h = absurd h
@@ -33,7 +33,7 @@ issued_counts (Interrupted c e) s t h = absurd h
 issued_counts (Reached e u) s t h = absurd h
 
 -- and no other one does
-on_counts : (kind : Kind) (s : State) → TellsRecord kind s answers.On → counts_of kind ≡ 1 → ⊥
+pub on_counts : (kind : Kind) (s : State) → TellsRecord kind s answers.On → counts_of kind ≡ 1 → ⊥
 on_counts (Instruction i) s h one = h
 on_counts (Faulted inst fault) s h one = h
 on_counts (Entered e) s h one = omega (arith, one)

@@ -22,8 +22,8 @@ use Rattle.i9_tune.specs.Deeds.{Deed}
 use Rattle.i9_tune.specs.Passes.{MissesBytes, Passes, stepped, port_bytes, ArePassed, behind, sent}
 use Rattle.i9_tune.specs.Orders.{AreAllowed}
 use Rattle.i9_tune.specs.Standings.{DiffersIn}
-use Rattle.i9_model.proofs.SoundRuns.{stored_long}
-use Rattle.i9_tune.proofs.Marked.{beside, bytes_beside, stored_long as marks_long}
+use Rattle.i9_model.proofs.Lengths.{stored_long, marks_long}
+use Rattle.i9_tune.proofs.Marked.{beside, bytes_beside}
 use Rattle.i9_tune.proofs.Sources.{Agree, IsAllowed, allowed_parts, does_same}
 use Rattle.i9_tune.proofs.Swaps.{after_deed, stepped_by, same_here, port_by, fate_of, passes_by}
 

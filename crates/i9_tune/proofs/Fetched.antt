@@ -18,7 +18,7 @@ use Rattle.i9_model.specs.Run.{Instruction, after_kind, exit_in}
 use Rattle.i9_model.proofs.Readings.{in_bytes-has, inner_word_same}
 use Rattle.i9_model.proofs.FrameLaws.{read_hazard-none}
 use Rattle.i9_statement.proofs.StatementWords.{one_or_two}
-use Rattle.i9_model.proofs.Stands.{IsRead, Known, known}
+use Rattle.i9_past.proofs.Stands.{IsRead, Known, known}
 use Rattle.i9_model.proofs.Storing.{stored_kept}
 use Rattle.i9_tune.specs.Passes.{MissesBytes, is_broken, Passes, stepped, port_bytes, ArePassed, behind, sent}
 use Rattle.i9_tune.specs.Orders.{IsOrder, AreAllowed}

@@ -10,7 +10,7 @@ use Rattle.i9_model.specs.Writes.{wrapped, or_earlier, last_put, upwards}
 use Rattle.std.proofs.lemmas.List.{append-nil, take_more, map_push}
 use Rattle.std.proofs.lemmas.Grind.{flat_map-append}
 use Rattle.i9_model.specs.Image.{pairs_of, pairs_of_part}
-use Rattle.i9_model.proofs.MaskLaws.{last_append}
+use Rattle.i9_model.proofs.LastPuts.{last_append}
 use Rattle.i9_hex.specs.declared.segments.Segment.{Segment}
 use Rattle.i9_hex.specs.Shown.{part_of}
 use Rattle.i9_model.proofs.Upwards.{or_none, get_later}

@@ -110,15 +110,6 @@ loaded_long Byte soft a = refl
 loaded_long Half soft a = refl
 loaded_long (Words n) soft a = length-map-range_with_len (λ (k : ℕ). word_mark soft (wrapped (a + 4 * k))) 0 n
 
-four_each : (bs : List Bool) → length (byte_marks bs) ≡ 4 * length bs
-four_each [] = refl
-four_each (b ∷ bs) = let rest = four_each bs in omega (arith, rest)
-
-pub stored_long : (size : Size) (s : State) (o : Operand) → length (stored_marks size s o) ≡ byte_count size
-stored_long Byte s o = refl
-stored_long Half s o = refl
-stored_long (Words n) s o = four_each (marks_of s o n) ∙ ap (λ (k : ℕ). 4 * k) (length-map-range_with_len (mark_of s o) 0 n)
-
 -- ---- what is beside them
 
 -- no place that is picked is this one

@@ -7,7 +7,7 @@ use Rattle.i9_model.specs.declared.need.TimedNeed.{TimedNeed}
 use Rattle.i9_isa.specs.declared.inst.Inst.{Inst}
 use Rattle.i9_model.specs.Turns.{HasCost, Pending, IsAllDone, StandsFor, with_need}
 use Rattle.i9_issue.specs.Room.{IsEarly}
-use Rattle.i9_model.proofs.NeedLaws.{inst_cost}
+use Rattle.i9_turns.proofs.NeedLaws.{inst_cost}
 use Rattle.i9_tune.specs.Greedy.{plain_facts, plain_need, turns_of}
 
 pub plain_cost : (i : Inst) → HasCost (plain_need i)

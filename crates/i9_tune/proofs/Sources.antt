@@ -44,7 +44,7 @@ use Rattle.i9_model.specs.Alike.{with_other}
 use Rattle.i9_model.specs.Access.{NoAccess, access_by_name, access_by, access_of, moved_access}
 use Rattle.i9_model.specs.Standing.{is_fault_name, later_fault, range_fault, first_fault, answer_fault}
 use Rattle.i9_model.proofs.Readings.{map_below, words_same}
-use Rattle.i9_model.proofs.AlikeActions.{stored_words_same}
+use Rattle.i9_model.proofs.Storing.{stored_words_same}
 use Rattle.i9_tune.specs.Inputs.{Change, Keeps, changed, is_code, AreSame}
 use Rattle.i9_tune.specs.Blocks.{is_result_name, is_lda, is_relative, is_allowed_name, is_allowed}
 use Rattle.i9_tune.specs.Deeds.{AreSameBytes, AreSameSoft, AgreeBeside, Deed, deed_action, DoesSame}

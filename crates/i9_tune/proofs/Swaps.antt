@@ -41,15 +41,15 @@ use Rattle.i9_model.specs.Standing.{raised_in, later_fault}
 use Rattle.i9_model.specs.Step.{Action, following, action_of, moved, acted, counted}
 use Rattle.i9_model.specs.Run.{exit_in}
 use Rattle.i9_model.proofs.Stored.{written-last}
-use Rattle.i9_model.proofs.MaskLaws.{IsOutside, sets_beside}
-use Rattle.i9_model.proofs.CodeLaws.{code_beside}
-use Rattle.i9_model.proofs.AlikeSteps.{none_wrote}
+use Rattle.i9_turns.proofs.MaskLaws.{IsOutside, sets_beside}
+use Rattle.i9_turns.proofs.CodeLaws.{code_beside}
+use Rattle.i9_model.proofs.FrameLaws.{none_wrote}
 use Rattle.i9_model.proofs.Legible.{read_as}
 use Rattle.i9_tune.specs.Inputs.{Change, Keeps, Codes, Flags, changed, is_code}
 use Rattle.i9_tune.specs.Blocks.{is_allowed_name, Spares, AreApart}
 use Rattle.i9_tune.specs.Deeds.{Deed, deed_action, DoesSame}
 use Rattle.i9_tune.specs.Passes.{MissesBytes, is_watched, is_seen, Passes, stepped, port_bytes, ArePassed, behind, sent, AreAsGood}
-use Rattle.i9_model.proofs.Outside.{all_false}
+use Rattle.i9_turns.proofs.Outside.{all_false}
 use Rattle.i9_tune.proofs.Sources.{Agree, IsAllowed, register_is_read, code_is_read, does_same, still, other_memory}
 use Rattle.i9_tune.proofs.Unmarked.{unmarked}
 

@@ -4,7 +4,7 @@ use Rattle.std.specs.Prelude.{◌==◌}
 use Rattle.std.specs.Option.{is_some}
 use Rattle.std.proofs.lemmas.Bool.{cond-true, eqb-true}
 use Rattle.i9_isa.specs.declared.op.Op.{Op}
-use Rattle.i9_isa.specs.declared.op.Op.TheVariants.{Addi, Lda}
+use Rattle.i9_isa.specs.declared.op.Op.TheVariants.{Lda}
 use Rattle.i9_isa.specs.declared.size.Size.{Size}
 use Rattle.i9_isa.specs.declared.size.Direction.{Direction}
 use Rattle.i9_isa.specs.declared.size.Direction.TheVariants.{Load, Store}
@@ -21,16 +21,12 @@ use Rattle.i9_model.specs.Results.{destination_words}
 use Rattle.i9_model.specs.Stale.{marks_for, loaded_marks, address_registers, is_marked, result_marks}
 use Rattle.i9_model.specs.Step.{Action, moving, action_by, action_by_name, action_of}
 use Rattle.i9_model.specs.Needs.{is_request_name}
-use Rattle.i9_model.proofs.MaskLaws.{IsOutside}
+use Rattle.i9_turns.proofs.MaskLaws.{IsOutside, one_target}
 use Rattle.i9_tune.specs.Blocks.{is_result_name, is_lda}
 use Rattle.i9_tune.proofs.Marked.{result_long, loaded_long, marks_beside}
 use Rattle.i9_tune.proofs.Sources.{IsAllowed, named, load_address, either}
 
--- no name writes two operands, and lda writes one word
-one_target : (op : Op) → ((words_written (row_of op).a == 0) || (words_written (row_of op).c == 0)) ≡ true
-one_target Addi = refl
-one_target _ = refl
-
+-- lda writes one word
 address_word : (op : Op) → is_lda op ≡ true → words_written (row_of op).c ≡ 1
 address_word Lda h = refl
 address_word _ h = absurd (cc h)

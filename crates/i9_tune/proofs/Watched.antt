@@ -17,7 +17,7 @@ use Rattle.i9_model.specs.Step.{Action, action_of, acted}
 use Rattle.i9_model.specs.Access.{access_of, data_of}
 use Rattle.i9_model.specs.Tracing.{Instruction, Mark, trace_events, has_mode, branches, is_call, is_return, is_mark, is_fmark, counts, has_match, is_at_address, is_at_access, is_raised, trace_made, trace_of}
 use Rattle.i9_model.specs.Traced.{is_traced, switches, seen_of, trace_left, traced_action}
-use Rattle.i9_model.proofs.Untraced.{action_untraced}
+use Rattle.i9_past.proofs.Untraced.{action_untraced}
 use Rattle.i9_tune.specs.Blocks.{is_allowed_name}
 use Rattle.i9_tune.specs.Passes.{is_seen, is_broken}
 use Rattle.i9_tune.proofs.Sources.{IsAllowed, does_same}

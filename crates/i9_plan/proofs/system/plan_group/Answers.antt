@@ -1,5 +1,5 @@
 use Rattle.std.proofs.Common.{◌≡◌, None, rules, sym, ◌∙◌, arith}
-use Rattle.i9_model.proofs.AlikeSteps.{group_readable}
+use Rattle.i9_agree.proofs.AlikeSteps.{group_readable}
 use Rattle.i9_processor.specs.State.{state_of}
 use Rattle.i9_plan.proofs.system.plan_group.Goals as goal
 

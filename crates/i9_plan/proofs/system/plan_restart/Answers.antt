@@ -1,5 +1,5 @@
 use Rattle.std.proofs.Common.{◌≡◌, None, rules, sym, ◌∙◌}
-use Rattle.i9_model.proofs.AlikeSteps.{restart_readable}
+use Rattle.i9_agree.proofs.AlikeSteps.{restart_readable}
 use Rattle.i9_processor.specs.State.{state_of}
 use Rattle.i9_plan.proofs.system.plan_restart.Goals as goal
 

@@ -5,7 +5,7 @@ use Rattle.i9_model.specs.Memory.{word_bytes}
 use Rattle.i9_model.specs.Writes.{wrapped, upwards}
 use Rattle.i9_model.specs.Stale.{byte_marks, picked, word_mark}
 use Rattle.i9_model.specs.Step.{Action, answering, atomic_address, marking, moved}
-use Rattle.i9_model.proofs.SoundRuns.{four_bytes}
+use Rattle.i9_model.proofs.Lengths.{four_bytes}
 use Rattle.i9_watch.specs.Bits.{bits_of}
 use Rattle.i9_processor.specs.State.{state_of}
 use Rattle.i9_plan.proofs.MarkLists.{one_bit}

@@ -4,7 +4,7 @@ use Rattle.i9_model.specs.Hazards.{write_hazard}
 use Rattle.i9_model.specs.Operands.{address}
 use Rattle.i9_model.specs.Stale.{stored_marks}
 use Rattle.i9_model.specs.Step.{Action, passing, moved, storing, stored_of}
-use Rattle.i9_model.proofs.SoundRuns.{stored_long}
+use Rattle.i9_model.proofs.Lengths.{stored_long}
 use Rattle.i9_watch.specs.Bits.{bits_of}
 use Rattle.i9_processor.specs.State.{state_of}
 use Rattle.i9_plan.proofs.Marking.{row_same, can_keep}

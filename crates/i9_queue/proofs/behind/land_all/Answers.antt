@@ -2,8 +2,8 @@ use Rattle.std.proofs.Common.{ℕ, List, ◌∷◌, ◌++◌, length, sym, ap, s
 use Rattle.i9_model.specs.Memory.{Memory, with_bytes}
 use Rattle.i9_model.specs.Late.{due_puts, left_waiting, all_puts, AreDueInOrder}
 use Rattle.i9_model.proofs.Stored.{stored-append}
-use Rattle.i9_model.proofs.LateMemories.{stored-none}
-use Rattle.i9_model.proofs.LateQueues.{take-due}
+use Rattle.i9_model.proofs.Stored.{stored-none}
+use Rattle.i9_model.proofs.Queues.{take-due}
 use Rattle.i9_memory.specs.Memory.{memory_of, HasRoom}
 use Rattle.i9_queue.specs.Queue.{wait_in}
 use Rattle.i9_queue.specs.Waits.{HasRoomFor, with_puts}

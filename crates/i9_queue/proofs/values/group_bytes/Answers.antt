@@ -1,7 +1,7 @@
 use Rattle.std.proofs.Common.{◌≡◌, ℕ, ◌+◌, ◌*◌, ◌%◌, ◌^◌, List, ◌++◌, length, get_or, take, sym, ap, ◌∙◌, arith}
 use Rattle.std.proofs.lemmas.List.{length-append}
 use Rattle.i9_model.specs.Step.{bytes_of_words}
-use Rattle.i9_model.proofs.SoundRuns.{four_bytes}
+use Rattle.i9_model.proofs.Lengths.{four_bytes}
 use Rattle.i9_memory.specs.Memory.{memory_of}
 use Rattle.i9_queue.proofs.Groups.{group_more}
 use Rattle.i9_queue.proofs.values.group_bytes.Goals as goal

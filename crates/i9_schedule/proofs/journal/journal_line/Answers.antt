@@ -1,4 +1,4 @@
-use Rattle.i9_model.proofs.ReadBack.{journal_says, line_of-journal}
+use Rattle.i9_replay.proofs.ReadBack.{journal_says, line_of-journal}
 use Rattle.i9_schedule.proofs.journal.journal_line.Goals as goal
 
 pub returns-in-Ok-clause-says : goal.returns-in-Ok-clause-says

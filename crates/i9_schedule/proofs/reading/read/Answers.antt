@@ -1,7 +1,7 @@
 use Rattle.std.proofs.Common.{◌∙◌}
 use Rattle.i9_text.specs.Text.{lines_of}
 use Rattle.i9_model.specs.ScheduleText.{contents_of}
-use Rattle.i9_model.proofs.Plans.{schedule_is_plan, schedule_of_version}
+use Rattle.i9_replay.proofs.Plans.{schedule_is_plan, schedule_of_version}
 use Rattle.i9_schedule.specs.Reading.{said_by}
 use Rattle.i9_schedule.proofs.reading.read.Goals as goal
 

@@ -1,6 +1,6 @@
 use Rattle.std.proofs.Common.{refl, ◌∙◌}
 use Rattle.std.proofs.lemmas.Nat.Bits.{bit_at_cat_low, bit_at_ones}
-use Rattle.i9_model.proofs.TurnTests.{one-set}
+use Rattle.i9_model.proofs.SetLaws.{one-set}
 use Rattle.i9_test_parts.proofs.regs.amends_what_was_planned.Goals as goal
 
 pub amend_frame-requires-clause-locals : goal.amend_frame-requires-clause-locals

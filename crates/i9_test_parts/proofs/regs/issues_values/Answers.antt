@@ -1,6 +1,6 @@
 use Rattle.std.proofs.Common.{ℕ, zero, suc, ◌+◌, ◌<◌, refl, arith}
 use Rattle.std.specs.Int.{IsBitSet}
-use Rattle.i9_model.proofs.TurnTests.{one-set}
+use Rattle.i9_model.proofs.SetLaws.{one-set}
 use Rattle.i9_test_parts.proofs.regs.issues_values.Goals as goal
 
 set_two : (k : ℕ) → k < 2 → IsBitSet 4295032880 (4 + k)

@@ -2,7 +2,7 @@ use Rattle.std.proofs.Common.{◌≡◌, ℕ, ◌<◌, arith}
 use Rattle.std.specs.Int.{bit_at}
 use Rattle.std.proofs.lemmas.Nat.Bits.{bit_at_ones}
 use Rattle.i9_model.specs.Late.{resources}
-use Rattle.i9_model.proofs.TurnTests.{one-set}
+use Rattle.i9_model.proofs.SetLaws.{one-set}
 use Rattle.i9_test_state.proofs.processor_steps.applies.Goals as goal
 
 -- all resources

@@ -12,7 +12,7 @@ use Rattle.i9_processor.specs.declared.effect.Control.{Control}
 use Rattle.i9_processor.specs.declared.effect.Control.TheVariants as kinds
 use Rattle.i9_processor.specs.Effect.{action_in, requests_in, CanControl}
 use Rattle.i9_processor.specs.State.{state_of}
-use Rattle.i9_model.proofs.AlikeSteps.{none_wrote}
+use Rattle.i9_model.proofs.FrameLaws.{none_wrote}
 use Rattle.i9_processor.proofs.Appending.{unmarked_bytes}
 use Rattle.i9_test_state.proofs.processor_steps.controls.Goals as goal
 

@@ -1,4 +1,4 @@
-use Rattle.i9_model.proofs.Plans.{schedule_is_plan}
+use Rattle.i9_replay.proofs.Plans.{schedule_is_plan}
 use Rattle.i9_job.proofs.MadeSchedule.{schedule_not_refused}
 use Rattle.i9_tool.proofs.Outcomes.{answers_unprinted}
 use Rattle.i9_tool.proofs.job.schedule_job.Goals as goal

@@ -1,7 +1,7 @@
 use Rattle.std.proofs.Common.{true, [], inl, refl, arith}
 use Rattle.i9_model.specs.ScheduleText.{first_version}
 use Rattle.i9_model.specs.PrintedText.{heading_text}
-use Rattle.i9_model.proofs.Replay.{replay}
+use Rattle.i9_replay.proofs.Replay.{replay}
 use Rattle.i9_tool.specs.Inputs.{no_schedule}
 use Rattle.i9_tool.proofs.tasks.no_events.Goals as goal
 

@@ -1,7 +1,7 @@
 use Rattle.std.proofs.Common.{◌≡◌, ap, ◌∙◌}
 use Rattle.i9_model.specs.Turns.{Pending, done_from}
 use Rattle.i9_issue.proofs.Loops.{all_done-is}
-use Rattle.i9_model.proofs.TurnStands.{stands-end, stands-all_done, all_done-stands}
+use Rattle.i9_turns.proofs.TurnStands.{stands-end, stands-all_done, all_done-stands}
 use Rattle.i9_issue.proofs.board.Board.all_done.Goals as goal
 
 pub returns : goal.returns

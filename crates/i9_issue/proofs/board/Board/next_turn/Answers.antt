@@ -2,7 +2,7 @@ use Rattle.std.proofs.Common.{◌≡◌, ℕ, reverse, take, subst, ap, ◌∙�
 use Rattle.i9_model.specs.Turns.{Pending, issue_turn, turn_from}
 use Rattle.i9_issue.specs.Room.{Fits}
 use Rattle.i9_issue.proofs.Loops.{issues-computed, issues-early}
-use Rattle.i9_model.proofs.TurnStands.{stands-issues, stands-issue_turn}
+use Rattle.i9_turns.proofs.TurnStands.{stands-issues, stands-issue_turn}
 use Rattle.i9_issue.proofs.Early.{held-done, held-time}
 use Rattle.i9_issue.proofs.board.Board.next_turn.Goals as goal
 

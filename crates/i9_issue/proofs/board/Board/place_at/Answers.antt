@@ -1,8 +1,8 @@
 use Rattle.std.proofs.Common.{List, ◌≡◌, ℕ, ◌+◌, ◌<◌, ◌≤◌, ◌^◌, max, cond, ◌∷◌, length, take, reverse, set, subst, sym, ap, ◌∙◌, arith, length-set}
 use Rattle.i9_model.specs.declared.need.TimedNeed.{TimedNeed}
 use Rattle.i9_model.specs.Turns.{Pending, StandsFor, IsAllDone, FollowsOpen, IssuesAt, last_request, done_turn, done_from, open_at, pending_after, with_need}
-use Rattle.i9_model.proofs.TurnStands.{stands-next, stands-with_need, stands-issue_turn}
-use Rattle.i9_model.proofs.TurnOpen.{done-after}
+use Rattle.i9_turns.proofs.TurnStands.{stands-next, stands-with_need, stands-issue_turn}
+use Rattle.i9_turns.proofs.TurnOpen.{done-after}
 use Rattle.i9_issue.specs.Room.{Fits, IsEarly, Holds}
 use Rattle.i9_issue.proofs.Loops.{issues-early, last_request-early, request-turn, request-next, until-next, placed-list, kept-length, place-fits, place-bound}
 use Rattle.i9_issue.proofs.Seven.{placed_at, at_most_seven}

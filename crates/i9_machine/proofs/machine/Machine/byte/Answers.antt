@@ -1,6 +1,6 @@
 use Rattle.std.proofs.Common.{◌∙◌}
 use Rattle.i9_model.specs.Run.{state_after}
-use Rattle.i9_model.proofs.AlikeSteps.{overlay_alike}
+use Rattle.i9_agree.proofs.AlikeSteps.{overlay_alike}
 use Rattle.i9_processor.specs.State.{state_of}
 use Rattle.i9_course.specs.Course.{records_of}
 use Rattle.i9_machine.proofs.machine.Machine.byte.Goals as goal

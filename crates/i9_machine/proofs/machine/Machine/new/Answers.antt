@@ -5,7 +5,7 @@ use Rattle.i9_model.specs.Given.{given}
 use Rattle.i9_model.specs.Image.{pairs_of}
 use Rattle.i9_model.specs.State.{boot}
 use Rattle.i9_model.specs.Turns.{Pending, IsAllDone}
-use Rattle.i9_model.proofs.AlikeSteps.{alike_same}
+use Rattle.i9_agree.proofs.AlikeSteps.{alike_same}
 use Rattle.i9_raw.proofs.Landed.{none_hidden}
 use Rattle.i9_machine.proofs.Starting.{first_far, first_lands, none_done}
 use Rattle.i9_machine.proofs.machine.Machine.new.Goals as goal

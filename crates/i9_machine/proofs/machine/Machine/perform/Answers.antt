@@ -16,7 +16,7 @@ use Rattle.i9_issue.specs.Room.{IsEarly}
 use Rattle.i9_course.specs.Course.{records_of}
 use Rattle.i9_model.specs.Alike.{AreAlike}
 use Rattle.i9_model.specs.Free.{IsFree}
-use Rattle.i9_model.proofs.HeldRuns.{next_free, cached-after}
+use Rattle.i9_agree.proofs.HeldRuns.{next_free, cached-after}
 use Rattle.i9_course.proofs.Orderly.{course_events}
 use Rattle.i9_processor.specs.Effect.{action_in, move_in, size_with, CanControl, CanTake}
 use Rattle.i9_processor.specs.State.{state_of, cache_of, size_of}

@@ -1,6 +1,6 @@
 use Rattle.std.proofs.Common.{ℕ, List, Option, sym, ap, ◌∙◌}
 use Rattle.i9_model.specs.Writes.{or_earlier, upwards, last_put}
-use Rattle.i9_model.proofs.MaskLaws.{last_append}
+use Rattle.i9_model.proofs.LastPuts.{last_append}
 use Rattle.i9_processor.specs.Effect.{requests_in, run_in}
 use Rattle.i9_processor.proofs.effect.Effect.byte_at.Goals as goal
 

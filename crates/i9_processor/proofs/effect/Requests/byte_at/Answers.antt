@@ -1,6 +1,6 @@
 use Rattle.std.proofs.Common.{ℕ, Option, sym, ap, ◌∙◌}
 use Rattle.i9_model.specs.Writes.{or_earlier, last_put}
-use Rattle.i9_model.proofs.MaskLaws.{last_append}
+use Rattle.i9_model.proofs.LastPuts.{last_append}
 use Rattle.i9_processor.specs.Effect.{one_in}
 use Rattle.i9_processor.proofs.effect.Requests.byte_at.Goals as goal
 

@@ -1,0 +1,249 @@
+-- In states that agree an instruction that marks allow does what is alike.
+use Rattle.std.proofs.Common.{◌≡◌, ℕ, zero, suc, ◌+◌, ◌*◌, ◌%◌, ◌^◌, ◌<◌, Bool, true, false, cond, List, [], ◌∷◌, ◌++◌, refl, sym, ap, ◌∙◌, subst, arith}
+use Rattle.std.specs.Prelude.{not, ◌==◌, ◌&&◌, ◌||◌}
+use Rattle.std.specs.List.{list_any, range_with_len}
+use Rattle.std.proofs.lemmas.Bool.{or_right, or_parts, eqb-true}
+use Rattle.i9_isa.specs.declared.size.Size.{Size}
+use Rattle.i9_isa.specs.declared.size.Size.TheVariants.{Byte, Half, Words}
+use Rattle.i9_isa.specs.declared.inst.Operand.{Operand}
+use Rattle.i9_isa.specs.declared.inst.Operand.TheVariants.{Reg, Lit, Sfr}
+use Rattle.i9_isa.specs.declared.inst.Mode.{Mode}
+use Rattle.i9_isa.specs.declared.inst.Mode.TheVariants.{Offset, BaseOffset, Base, Ip, BaseIndex, Disp, BaseDisp, IndexDisp, BaseIndexDisp}
+use Rattle.i9_isa.specs.declared.inst.Ea.{Ea}
+use Rattle.i9_isa.specs.Operands.{has_base, has_index}
+use Rattle.i9_model.specs.declared.push.Push.{Push}
+use Rattle.i9_model.specs.Writes.{wrapped}
+use Rattle.i9_model.specs.Memory.{Memory, region_of, is_big, half_in, half_bytes, word_in}
+use Rattle.i9_model.specs.State.{State}
+use Rattle.i9_model.specs.Faults.{is_special}
+use Rattle.i9_model.specs.Operands.{value, word_of, source_words, address}
+use Rattle.i9_model.specs.Addresses.{sum_for}
+use Rattle.i9_model.specs.Step.{Action, bytes_of_words, loaded, filled, stored_of, assigning, marking, pushing, saved_local}
+use Rattle.i9_model.specs.Stale.{byte_marks, mark_of, marks_of, word_mark, legible, loaded_marks, stored_marks, saved_mark, saved_marks, registers_of, address_registers, is_marked}
+use Rattle.i9_model.specs.Alike.{is_hard, AgreeWhere, with_other, shows, is_open, with_values, AgreeBeside, ReadAlike, AreValuesAlike, AreWritesAlike, AreMovesAlike, AreActionsAlike}
+use Rattle.i9_model.proofs.Readings.{four, two}
+use Rattle.std.specs.Int.{w16, from_le_bytes, from_be_bytes}
+use Rattle.i9_model.proofs.Lengths.{two_bytes}
+use Rattle.i9_model.proofs.Storing.{stored_words_same}
+use Rattle.i9_agree.proofs.Agreeing.{shows-unmarked, shows-none, shows-first, shows-second, values-marked, values-mapped, writes-same, writes-picked}
+use Rattle.i9_agree.proofs.AgreeMoves.{open-hard, bytes-alike}
+
+-- ---- registers that are shown
+
+-- of these registers none has a mark that hides
+abbrev pub AreShown : Bool → State → List ℕ → Type 0
+AreShown hides s rs = shows hides (is_marked s rs) ≡ true
+
+any-append : (marks : ℕ → Bool) (xs ys : List ℕ) → list_any marks (xs ++ ys) ≡ (list_any marks xs || list_any marks ys)
+any-append marks [] ys = refl
+any-append marks (x ∷ xs) ys = ap (λ (b : Bool). marks x || b) (any-append marks xs ys) ∙ assoc (marks x) (list_any marks xs) (list_any marks ys)
+  where
+    assoc : (a b c : Bool) → (a || (b || c)) ≡ ((a || b) || c)
+    assoc true b c = refl
+    assoc false b c = refl
+
+pub shown-first : (hides : Bool) (s : State) (xs ys : List ℕ) → AreShown hides s (xs ++ ys) → AreShown hides s xs
+shown-first hides s xs ys h = shows-first hides (is_marked s xs) (is_marked s ys) (ap (shows hides) (sym (any-append s.marks xs ys)) ∙ h)
+
+pub shown-second : (hides : Bool) (s : State) (xs ys : List ℕ) → AreShown hides s (xs ++ ys) → AreShown hides s ys
+shown-second hides s xs ys h = shows-second hides (is_marked s xs) (is_marked s ys) (ap (shows hides) (sym (any-append s.marks xs ys)) ∙ h)
+
+-- one of a group
+shown-group : (hides : Bool) (s : State) (r n k : ℕ) → AreShown hides s (range_with_len r n) → k < n → shows hides (s.marks (r + k)) ≡ true
+shown-group hides s r zero k h l = absurd (omega arith)
+shown-group hides s r (suc n) zero h l =
+    let none : r + 0 ≡ r = omega arith in
+    ap (λ (q : ℕ). shows hides (s.marks q)) none ∙ shows-first hides (s.marks r) (is_marked s (range_with_len (r + 1) n)) h
+shown-group hides s r (suc n) (suc k) h l =
+    let next : r + suc k ≡ r + 1 + k = omega arith in
+    ap (λ (q : ℕ). shows hides (s.marks q)) next ∙ shown-group hides s (r + 1) n k (shows-second hides (s.marks r) (is_marked s (range_with_len (r + 1) n)) h) (omega (arith, l))
+
+-- ---- operands
+
+-- a word whose mark is shown
+pub word-same : (hides : Bool) (s : State) (regs bytes reading : ℕ → ℕ) (o : Operand) (k : ℕ) → AgreeBeside hides s regs → shows hides (mark_of s o k) ≡ true → word_of (with_values s regs bytes reading) o k ≡ word_of s o k
+word-same hides s regs bytes reading (Reg r) k same h = by_place (k == 0) h
+  where
+    by_place : (b : Bool) → shows hides (cond b (s.marks r) (s.marks (r + k))) ≡ true → cond b (regs r) (regs (r + k)) ≡ cond b (s.regs r) (s.regs (r + k))
+    by_place true t = same r t
+    by_place false t = same (r + k) t
+word-same hides s regs bytes reading (Lit n) k same h = refl
+word-same hides s regs bytes reading (Sfr j) k same h = refl
+
+-- a word of an operand that is shown
+pub shown-word : (hides : Bool) (s : State) (o : Operand) (n k : ℕ) → AreShown hides s (registers_of o n) → k < n → shows hides (mark_of s o k) ≡ true
+shown-word hides s (Reg r) n k h l = by_place (k == 0) refl
+  where
+    first : k ≡ 0 → shows hides (s.marks r) ≡ true
+    first e = let none : r + k ≡ r = omega (arith, e) in ap (λ (q : ℕ). shows hides (s.marks q)) (sym none) ∙ shown-group hides s r n k h l
+
+    by_place : (b : Bool) → (k == 0) ≡ b → shows hides (cond b (s.marks r) (s.marks (r + k))) ≡ true
+    by_place true t = first (eqb-true k 0 t)
+    by_place false t = shown-group hides s r n k h l
+shown-word hides s (Lit j) n k h l = shows-unmarked hides
+shown-word hides s (Sfr j) n k h l = shows-unmarked hides
+
+pub operand-same : (hides : Bool) (s : State) (regs bytes reading : ℕ → ℕ) (o : Operand) (n k : ℕ) → AgreeBeside hides s regs → AreShown hides s (registers_of o n) → k < n → word_of (with_values s regs bytes reading) o k ≡ word_of s o k
+operand-same hides s regs bytes reading o n k same h l = word-same hides s regs bytes reading o k same (shown-word hides s o n k h l)
+
+pub value-same : (hides : Bool) (s : State) (regs bytes reading : ℕ → ℕ) (o : Operand) → AgreeBeside hides s regs → AreShown hides s (registers_of o 1) → value (with_values s regs bytes reading) o ≡ value s o
+value-same hides s regs bytes reading o same h = operand-same hides s regs bytes reading o 1 0 same h (omega arith)
+
+-- an effective address whose registers are shown
+pub address-same : (hides : Bool) (s : State) (regs bytes reading : ℕ → ℕ) (e : Ea) → AgreeBeside hides s regs → AreShown hides s (address_registers e) → address (with_values s regs bytes reading) e ≡ address s e
+address-same hides s regs bytes reading e same h = ap wrapped (by_mode e.mode e h)
+  where
+    by_mode : (m : Mode) (e : Ea) → AreShown hides s (cond (has_base m) (e.base ∷ []) [] ++ cond (has_index m) (e.index ∷ []) []) → sum_for m e (regs e.base) (regs e.index) s.ip ≡ sum_for m e (s.regs e.base) (s.regs e.index) s.ip
+    by_mode Offset e h = refl
+    by_mode Ip e h = refl
+    by_mode Disp e h = refl
+    by_mode BaseOffset e h = ap (λ (b : ℕ). b + e.disp) (same e.base (shows-first hides (s.marks e.base) false h))
+    by_mode Base e h = same e.base (shows-first hides (s.marks e.base) false h)
+    by_mode BaseDisp e h = ap (λ (b : ℕ). b + e.disp) (same e.base (shows-first hides (s.marks e.base) false h))
+    by_mode IndexDisp e h = ap (λ (x : ℕ). x * 2 ^ e.scale + e.disp) (same e.index (shows-first hides (s.marks e.index) false h))
+    by_mode BaseIndex e h =
+        ap (λ (b : ℕ). b + regs e.index * 2 ^ e.scale) (same e.base (shows-first hides (s.marks e.base) (s.marks e.index || false) h))
+        ∙ ap (λ (x : ℕ). s.regs e.base + x * 2 ^ e.scale) (same e.index (shows-first hides (s.marks e.index) false (shows-second hides (s.marks e.base) (s.marks e.index || false) h)))
+    by_mode BaseIndexDisp e h =
+        ap (λ (b : ℕ). b + regs e.index * 2 ^ e.scale + e.disp) (same e.base (shows-first hides (s.marks e.base) (s.marks e.index || false) h))
+        ∙ ap (λ (x : ℕ). s.regs e.base + x * 2 ^ e.scale + e.disp) (same e.index (shows-first hides (s.marks e.index) false (shows-second hides (s.marks e.base) (s.marks e.index || false) h)))
+
+-- ---- what is read
+
+pub legible-byte : (hides : Bool) (s : State) (regs bytes reading : ℕ → ℕ) (x : ℕ) → AgreeWhere (is_open hides s.frames) s.memory bytes → ReadAlike hides s reading → shows hides (s.frames.soft x) ≡ true
+    → (legible (with_values s regs bytes reading)).bytes x ≡ (legible s).bytes x
+legible-byte hides s regs bytes reading x same read h = by_soft hides (s.frames.soft x) refl h read
+  where
+    hard : s.frames.soft x ≡ false → is_hard s.frames x ≡ true
+    hard t = or_right _ (not (s.frames.soft x)) (ap not t)
+
+    by_soft : (hides2 soft : Bool) → s.frames.soft x ≡ soft → shows hides2 soft ≡ true → (hides2 ≡ false → (x y : ℕ) → reading x ≡ s.reading y) → cond soft (reading (bytes x)) (bytes x) ≡ cond soft (s.reading (s.memory.bytes x)) (s.memory.bytes x)
+    by_soft hides2 false t k r = same x (open-hard hides s.frames x (hard t))
+    by_soft true true t k r = absurd cc
+    by_soft false true t k r = r refl (bytes x) (s.memory.bytes x)
+
+-- a word of which the bytes that are shown are the same
+pub shown-word-same : (hides : Bool) (m : Memory) (bytes : ℕ → ℕ) (stale : ℕ → Bool) (a : ℕ)
+    → (shows hides (stale a) ≡ true → bytes a ≡ m.bytes a)
+    → ((j : ℕ) → 0 < j → j < 4 → shows hides (stale (wrapped (a + j))) ≡ true → bytes (wrapped (a + j)) ≡ m.bytes (wrapped (a + j)))
+    → shows hides (word_mark stale a) ≡ true → word_in (with_other m bytes) a ≡ word_in m a
+unfolding word_in
+shown-word-same hides m bytes stale a first later h =
+    let b1 = stale (wrapped (a + 1)) in
+    let b2 = stale (wrapped (a + 2)) in
+    let b3 = stale (wrapped (a + 3)) in
+    let rest = shows-second hides (stale a) (b1 || (b2 || b3)) h in
+    let last = shows-second hides b1 (b2 || b3) rest in
+    four m a (bytes a) (bytes (wrapped (a + 1))) (bytes (wrapped (a + 2))) (bytes (wrapped (a + 3))) (m.bytes a) (m.bytes (wrapped (a + 1))) (m.bytes (wrapped (a + 2))) (m.bytes (wrapped (a + 3)))
+    (first (shows-first hides (stale a) (b1 || (b2 || b3)) h))
+    (later 1 (omega arith) (omega arith) (shows-first hides b1 (b2 || b3) rest))
+    (later 2 (omega arith) (omega arith) (shows-first hides b2 b3 last))
+    (later 3 (omega arith) (omega arith) (shows-second hides b2 b3 last))
+
+pub legible-word : (hides : Bool) (s : State) (regs bytes reading : ℕ → ℕ) (a : ℕ) → AgreeWhere (is_open hides s.frames) s.memory bytes → ReadAlike hides s reading → shows hides (word_mark s.frames.soft a) ≡ true
+    → word_in (legible (with_values s regs bytes reading)) a ≡ word_in (legible s) a
+legible-word hides s regs bytes reading a same read h =
+    shown-word-same hides (legible s) (legible (with_values s regs bytes reading)).bytes s.frames.soft a
+    (λ t. legible-byte hides s regs bytes reading a same read t)
+    (λ j l m t. legible-byte hides s regs bytes reading (wrapped (a + j)) same read t)
+    h
+
+abbrev half_from : Memory → ℕ → List ℕ → ℕ
+half_from m a bs = cond (is_big m (region_of a)) (from_be_bytes w16 bs) (from_le_bytes w16 bs)
+
+-- a load gives what is alike
+pub loaded-alike : (hides : Bool) (size : Size) (signed : Bool) (s : State) (regs bytes reading : ℕ → ℕ) (a : ℕ) → AgreeWhere (is_open hides s.frames) s.memory bytes → ReadAlike hides s reading
+    → AreValuesAlike hides (loaded_marks size s.frames.soft a) (loaded size signed (legible s) a) (loaded size signed (legible (with_values s regs bytes reading)) a)
+unfolding half_in
+loaded-alike hides Byte signed s regs bytes reading a same read = ((λ h. ap (filled signed 8) (legible-byte hides s regs bytes reading a same read h)), tt)
+loaded-alike hides Half signed s regs bytes reading a same read =
+    let m = legible s in
+    let n = (legible (with_values s regs bytes reading)).bytes in
+    let soft = s.frames.soft in (
+      (λ h. ap (filled signed 16) (two (half_from m a) (n a) (n (wrapped (a + 1))) (m.bytes a) (m.bytes (wrapped (a + 1)))
+          (legible-byte hides s regs bytes reading a same read (shows-first hides (soft a) (soft (wrapped (a + 1))) h))
+          (legible-byte hides s regs bytes reading (wrapped (a + 1)) same read (shows-second hides (soft a) (soft (wrapped (a + 1))) h)))),
+      tt,
+    )
+loaded-alike hides (Words n) signed s regs bytes reading a same read =
+    values-mapped hides (λ k. word_mark s.frames.soft (wrapped (a + 4 * k))) (λ k. word_in (legible s) (wrapped (a + 4 * k))) (λ k. word_in (legible (with_values s regs bytes reading)) (wrapped (a + 4 * k))) 0 n
+    (λ k l h. legible-word hides s regs bytes reading (wrapped (a + 4 * k)) same read h)
+
+-- ---- actions
+
+-- no value of an action is marked
+pub alike-same : (hides : Bool) (a : Action) → AreMovesAlike hides a.lost a.move a.move → AreActionsAlike hides a a
+alike-same hides a move = record { rest = refl; sets = writes-same hides a.marked a.sets; writes = writes-same hides a.stale a.writes; move = move }
+
+pub alike-by : (hides : Bool) (a b : Action) → AreMovesAlike hides a.lost a.move a.move → b ≡ a → AreActionsAlike hides a b
+alike-by hides a b move e = subst (λ (x : Action). AreActionsAlike hides a x) (sym e) (alike-same hides a move)
+
+-- values without marks are the same
+values-none : (hides : Bool) (bs : List Bool) (vs ws : List ℕ) → AreValuesAlike hides bs vs ws → list_any (λ (b : Bool). b) bs ≡ false → ws ≡ vs
+values-none hides [] [] [] h none = refl
+values-none hides (b ∷ bs) (v ∷ vs) (w ∷ ws) h none =
+    let parts = or_parts b (list_any (λ (c : Bool). c) bs) none in
+    let first : w ≡ v = h.0 (shows-none hides b parts.0) in
+    ap (λ (x : ℕ). x ∷ ws) first ∙ ap (λ (xs : List ℕ). v ∷ xs) (values-none hides bs vs ws h.1 parts.1)
+values-none hides [] (v ∷ vs) ws h none = absurd h
+values-none hides [] [] (w ∷ ws) h none = absurd h
+values-none hides (b ∷ bs) [] ws h none = absurd h
+values-none hides (b ∷ bs) (v ∷ vs) [] h none = absurd h
+
+-- no marked value gets to a special function register
+abbrev pub IsAllowed : Operand → List Bool → Type 0
+IsAllowed o bs = (is_special o && list_any (λ b. b) bs) ≡ false
+
+-- a destination gets values with their marks
+pub assigning-alike : (hides : Bool) (o : Operand) (bs : List Bool) (vs ws : List ℕ) (a : Action) → IsAllowed o bs → AreValuesAlike hides bs vs ws → AreMovesAlike hides a.lost a.move a.move
+    → AreActionsAlike hides (marking o bs (assigning o vs a)) (marking o bs (assigning o ws a))
+assigning-alike hides (Reg r) bs vs ws a allowed alike move = record {
+  rest = refl;
+  sets = writes-picked hides (λ k. k) r bs vs ws alike;
+  writes = writes-same hides a.stale a.writes;
+  move = move;
+}
+assigning-alike hides (Lit n) bs vs ws a allowed alike move = record { rest = refl; sets = tt; writes = writes-same hides a.stale a.writes; move = move }
+assigning-alike hides (Sfr k) bs vs ws a allowed alike move =
+    alike-by hides (marking (Sfr k) bs (assigning (Sfr k) vs a)) (marking (Sfr k) bs (assigning (Sfr k) ws a)) move
+    (ap (λ (xs : List ℕ). marking (Sfr k) bs (assigning (Sfr k) xs a)) (values-none hides bs vs ws alike allowed))
+
+-- with bytes that are written besides
+pub writing-alike : (hides : Bool) (a b : Action) (ps qs : List (ℕ × ℕ)) (stale : List ℕ) → AreActionsAlike hides a b → AreWritesAlike hides stale ps qs
+    → AreActionsAlike hides (record a { writes = ps; stale = stale }) (record b { writes = qs; stale = stale })
+writing-alike hides a b ps qs stale alike writes = record {
+  rest = ap (λ (x : Action). record x { writes = qs; stale = stale }) alike.rest;
+  sets = alike.sets;
+  writes = writes;
+  move = alike.move;
+}
+
+-- a store writes bytes that are alike
+pub stored-alike-of : (hides : Bool) (size : Size) (s : State) (regs bytes reading : ℕ → ℕ) (o : Operand) (a : ℕ) → AgreeBeside hides s regs
+    → AreValuesAlike hides (stored_marks size s o) (stored_of size s o a) (stored_of size (with_values s regs bytes reading) o a)
+unfolding half_bytes
+stored-alike-of hides Byte s regs bytes reading o a same = ((λ h. ap (λ (v : ℕ). v % 2 ^ 8) (word-same hides s regs bytes reading o 0 same h)), tt)
+stored-alike-of hides Half s regs bytes reading o a same =
+    let t = with_values s regs bytes reading in
+    values-marked hides (mark_of s o 0) 2 (half_bytes s.memory a (value s o % 2 ^ 16)) (half_bytes s.memory a (value t o % 2 ^ 16))
+    (two_bytes s.memory a (value s o % 2 ^ 16)) (two_bytes s.memory a (value t o % 2 ^ 16))
+    (λ h. ap (λ (v : ℕ). half_bytes s.memory a (v % 2 ^ 16)) (word-same hides s regs bytes reading o 0 same h))
+stored-alike-of hides (Words n) s regs bytes reading o a same =
+    let t = with_values s regs bytes reading in
+    subst (λ (bs : List ℕ). AreValuesAlike hides (byte_marks (marks_of s o n)) (bytes_of_words s.memory a (source_words s o n)) bs) (sym (stored_words_same s.memory bytes a (source_words t o n)))
+    (bytes-alike hides s.memory a (marks_of s o n) (source_words s o n) (source_words t o n)
+    (values-mapped hides (mark_of s o) (word_of s o) (word_of t o) 0 n (λ k l h. word-same hides s regs bytes reading o k same h)))
+
+-- a push saves words that are alike
+pub pushing-alike : (hides : Bool) (s : State) (regs bytes reading : ℕ → ℕ) (p : Push) (back next : ℕ) → AgreeBeside hides s regs
+    → AreActionsAlike hides (pushing s p back next) (pushing (with_values s regs bytes reading) p back next)
+pushing-alike hides s regs bytes reading p back next same = record {
+  rest = refl;
+  sets = writes-same hides [] (pushing s p back next).sets;
+  writes = tt;
+  move = (refl, (saved_marks s, refl, values-mapped hides (saved_mark s) (saved_local s back) (saved_local (with_values s regs bytes reading) back) 0 16 (λ r l h. by_rip (r == 2) r h)));
+}
+  where
+    by_rip : (b : Bool) (r : ℕ) → shows hides (cond b false (s.marks r)) ≡ true → cond b back (regs r) ≡ cond b back (s.regs r)
+    by_rip true r h = refl
+    by_rip false r h = same r h

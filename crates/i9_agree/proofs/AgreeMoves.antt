@@ -1,0 +1,238 @@
+-- Actions that are alike leave states that agree.
+use Rattle.std.proofs.Common.{◌≡◌, ℕ, ◌+◌, ◌*◌, Bool, true, false, cond, List, [], ◌∷◌, length, drop, nat_le, refl, sym, ap, ◌∙◌, subst}
+use Rattle.std.specs.Prelude.{not, ◌&&◌, ◌||◌, replicate}
+use Rattle.std.proofs.lemmas.Bool.{or_left, or_right}
+use Rattle.i9_model.specs.declared.layout.TheConstants.{FRAME_SIZE}
+use Rattle.i9_model.specs.Writes.{address_count, wrapped, written, upwards}
+use Rattle.i9_model.specs.Memory.{Memory, in_port_page, stored, word_bytes, with_bytes, with_writes}
+use Rattle.i9_model.specs.State.{State, Frames}
+use Rattle.i9_model.specs.Frames.{in_bytes, in_frames, has, saved, with_marked, returned, flushed, is_put, wrote, softened}
+use Rattle.i9_model.specs.Controls.{marks_after}
+use Rattle.i9_model.specs.Stale.{byte_marks}
+use Rattle.i9_model.specs.Step.{Move, Stays, Saves, Returns, Flushes, Action, bytes_of_words, memory_after, frames_after, moved}
+use Rattle.i9_model.specs.Alike.{is_beyond, is_hard, AgreeWhere, with_other, shows, is_open, with_values, Agree, AreValuesAlike, AreWritesAlike, AreMovesAlike, AreActionsAlike}
+use Rattle.i9_model.specs.Free.{IsWhole}
+use Rattle.i9_model.proofs.Runs.{is_put-upwards}
+use Rattle.i9_model.proofs.Lengths.{four_bytes, words_long}
+use Rattle.i9_model.proofs.Storing.{stored_words_same}
+use Rattle.i9_model.proofs.Storing.{words_as_bytes}
+use Rattle.i9_agree.proofs.AlikeMoves.{move_mcon}
+use Rattle.i9_agree.proofs.Agreeing.{shows-none, shows-second, shows-unmarked, shows-after, values-append, values-marked, writes-picked, puts-same, written-alike, stored-alike}
+
+-- ---- which bytes are open
+
+pub open-port : (hides : Bool) (f : Frames) (x : ℕ) → in_port_page x ≡ true → is_open hides f x ≡ true
+open-port hides f x p = or_left _ _ (or_left (is_beyond x) (not (f.soft x)) (or_left (in_port_page x) (nat_le address_count x) p))
+
+-- what may be read is open
+pub open-hard : (hides : Bool) (f : Frames) (x : ℕ) → is_hard f x ≡ true → is_open hides f x ≡ true
+open-hard hides f x h = or_left _ _ h
+
+-- fewer marks leave more open
+open-marked : (hides : Bool) (f : Frames) (lost : List ℕ) (x : ℕ) → is_open hides (with_marked f lost) x ≡ true → is_open hides f x ≡ true
+open-marked hides f lost x h = by_cases (is_hard f x) (has lost x) (f.marked x) (in_frames f.live x) h
+  where
+    by_shown : (l m live : Bool) (s t : Bool) → shows hides (l || m) ≡ s → shows hides m ≡ t → cond s live false ≡ true → cond t live false ≡ true
+    by_shown l m live true true e d k = k
+    by_shown l m live false t e d k = absurd cc
+    by_shown l m live true false e d k = let no : false ≡ true = sym d ∙ shows-second hides l m e in absurd (cc no)
+
+    by_cases : (hard l m live : Bool) → (hard || cond (shows hides (l || m)) live false) ≡ true → (hard || cond (shows hides m) live false) ≡ true
+    by_cases true l m live k = refl
+    by_cases false l m live k = by_shown l m live (shows hides (l || m)) (shows hides m) refl refl k
+
+open-returned : (hides : Bool) (f : Frames) (x : ℕ) → is_open hides (returned f) x ≡ true → is_open hides f x ≡ true
+open-returned hides f x h = by_live f.live (is_hard f x) (f.marked x) h
+  where
+    by_rest : (s t m rest live : Bool) → shows hides (m && rest) ≡ s → shows hides m ≡ t → (rest ≡ true → live ≡ true) → cond s rest false ≡ true → cond t live false ≡ true
+    by_rest true true m rest live e d sub k = sub k
+    by_rest true false m true live e d sub k = let no : false ≡ true = sym d ∙ ap (shows hides) (both m) ∙ e in absurd (cc no)
+      where
+        both : (b : Bool) → b ≡ (b && true)
+        both true = refl
+        both false = refl
+    by_rest true false m false live e d sub k = absurd cc
+    by_rest false t m rest live e d sub k = absurd cc
+
+    in_rest : (live : List ℕ) → in_frames (drop 1 live) x ≡ true → in_frames live x ≡ true
+    in_rest [] t = t
+    in_rest (g ∷ live) t = or_right (in_bytes g FRAME_SIZE x) (in_frames live x) t
+
+    by_live : (live : List ℕ) (hard m : Bool) → (hard || cond (shows hides (m && in_frames (drop 1 live) x)) (in_frames (drop 1 live) x) false) ≡ true → (hard || cond (shows hides m) (in_frames live x) false) ≡ true
+    by_live live true m k = refl
+    by_live live false m k = by_rest (shows hides (m && in_frames (drop 1 live) x)) (shows hides m) m (in_frames (drop 1 live) x) (in_frames live x) refl refl (in_rest live) k
+
+pub open-flushed : (hides : Bool) (f : Frames) (x : ℕ) → is_open hides (flushed f) x ≡ true → is_open hides f x ≡ true
+open-flushed hides f x h = by_cases hides (is_beyond x) (f.soft x) (f.marked x) (in_frames f.live x) h
+  where
+    by_cases : (hides beyond soft m live : Bool) → ((beyond || not (soft && not (cond (not m) live false))) || cond (shows hides false) false false) ≡ true → ((beyond || not soft) || cond (shows hides m) live false) ≡ true
+    by_cases hides true soft m live k = refl
+    by_cases hides false false m live k = refl
+    by_cases true false true true live k = absurd cc
+    by_cases false false true true live k = absurd cc
+    by_cases true false true false true k = refl
+    by_cases false false true false true k = refl
+    by_cases true false true false false k = absurd cc
+    by_cases false false true false false k = absurd cc
+
+-- ---- writes
+
+-- the marked ones of the bytes that are written lie beside the port page and live frames
+abbrev pub AreInside : Frames → List ℕ → Type 0
+AreInside f stale = (x : ℕ) → has stale x ≡ true → (is_beyond x ≡ false) × (in_frames f.live x ≡ false)
+
+-- of a byte that is open afterwards, the mark is shown, and unless it is written it was open
+open-wrote : (hides : Bool) (f : Frames) (ps : List (ℕ × ℕ)) (stale : List ℕ) (x : ℕ) → AreInside f stale → is_open hides (softened (wrote f ps) stale) x ≡ true
+    → (has stale x ≡ false) × (is_put ps x ≡ false → is_open hides f x ≡ true)
+open-wrote hides f ps stale x inside h = by_stale (has stale x) refl h
+  where
+    beside : (beyond soft put : Bool) (rest : Bool) → put ≡ false → ((beyond || not (soft && not put)) || rest) ≡ true → ((beyond || not soft) || rest) ≡ true
+    beside true soft put rest o k = refl
+    beside false false put rest o k = refl
+    beside false true false rest o k = k
+    beside false true true rest o k = absurd cc
+
+    nowhere : (beyond live s : Bool) → beyond ≡ false → live ≡ false → ((beyond || false) || cond s live false) ≡ true → ⊥
+    nowhere false false true o n k = cc k
+    nowhere false false false o n k = cc k
+    nowhere true live s o n k = cc o
+    nowhere false true s o n k = cc n
+
+    by_stale : (b : Bool) → has stale x ≡ b → ((is_beyond x || not (b || (f.soft x && not (is_put ps x)))) || cond (shows hides (f.marked x)) (in_frames f.live x) false) ≡ true
+        → (has stale x ≡ false) × (is_put ps x ≡ false → is_open hides f x ≡ true)
+    by_stale true t k = let away = inside x t in absurd (nowhere (is_beyond x) (in_frames f.live x) (shows hides (f.marked x)) away.0 away.1 k)
+    by_stale false t k = (t, λ out. beside (is_beyond x) (f.soft x) (is_put ps x) (cond (shows hides (f.marked x)) (in_frames f.live x) false) out k)
+
+writes-agree : (hides : Bool) (f : Frames) (m : Memory) (bytes : ℕ → ℕ) (ps qs : List (ℕ × ℕ)) (stale : List ℕ) → AreInside f stale → AreWritesAlike hides stale ps qs → AgreeWhere (is_open hides f) m bytes
+    → AgreeWhere (is_open hides (softened (wrote f ps) stale)) (with_writes m ps) (stored bytes qs)
+writes-agree hides f m bytes ps qs stale inside alike same = λ x h.
+    let found = open-wrote hides f ps stale x inside h in
+    stored-alike hides stale m.bytes bytes ps qs x alike (λ p. same x (open-port hides f x p)) (λ p. shows-none hides (has stale x) found.0) (λ out. same x (found.1 out))
+
+-- ---- moves of frames
+
+-- words that are alike have bytes that are alike
+pub bytes-alike : (hides : Bool) (m : Memory) (a : ℕ) (bs : List Bool) (vs ws : List ℕ) → AreValuesAlike hides bs vs ws → AreValuesAlike hides (byte_marks bs) (bytes_of_words m a vs) (bytes_of_words m a ws)
+unfolding bytes_of_words
+bytes-alike hides m a [] [] [] h = tt
+bytes-alike hides m a (b ∷ bs) (v ∷ vs) (w ∷ ws) h =
+    values-append hides (replicate 4 b) (byte_marks bs) (word_bytes m a v) (word_bytes m a w) (bytes_of_words m (wrapped (a + 4)) vs) (bytes_of_words m (wrapped (a + 4)) ws)
+    (values-marked hides b 4 (word_bytes m a v) (word_bytes m a w) (four_bytes m a v) (four_bytes m a w) (λ t. ap (word_bytes m a) (h.0 t)))
+    (bytes-alike hides m (wrapped (a + 4)) bs vs ws h.1)
+bytes-alike hides m a [] (v ∷ vs) ws h = absurd h
+bytes-alike hides m a [] [] (w ∷ ws) h = absurd h
+bytes-alike hides m a (b ∷ bs) [] ws h = absurd h
+bytes-alike hides m a (b ∷ bs) (v ∷ vs) [] h = absurd h
+
+-- the marked bytes of a frame that is saved are in its save area, beside the port page
+abbrev pub AreOfSave : Move → List ℕ → Type 0
+AreOfSave (Saves a ws) lost = (x : ℕ) → has lost x ≡ true → (is_beyond x ≡ false) × (in_bytes a FRAME_SIZE x ≡ true)
+AreOfSave _ lost = Unit {0}
+
+open-saved : (hides : Bool) (f : Frames) (a : ℕ) (lost : List ℕ) (x : ℕ) → ((y : ℕ) → has lost y ≡ true → (is_beyond y ≡ false) × (in_bytes a FRAME_SIZE y ≡ true))
+    → is_open hides (with_marked (saved f a) lost) x ≡ true → (shows hides (has lost x) ≡ true) × (in_bytes a FRAME_SIZE x ≡ false → is_open hides f x ≡ true)
+open-saved hides f a lost x inside h = (by_lost (has lost x) refl h, λ out. beside (is_beyond x) (f.soft x) (in_bytes a FRAME_SIZE x) (has lost x) (f.marked x) (in_frames f.live x) out (λ t. let no : true ≡ false = sym (inside x t).1 ∙ out in cc no) h)
+  where
+    by_lost : (b : Bool) → has lost x ≡ b → ((is_beyond x || not (in_bytes a FRAME_SIZE x || f.soft x)) || cond (shows hides (b || f.marked x)) (in_bytes a FRAME_SIZE x || in_frames f.live x) false) ≡ true → shows hides b ≡ true
+    by_lost false t k = shows-unmarked hides
+    by_lost true t k = let away = inside x t in within hides (is_beyond x) (in_bytes a FRAME_SIZE x) (f.soft x) (f.marked x) (in_frames f.live x) away.0 away.1 k
+      where
+        within : (hides beyond here soft m live : Bool) → beyond ≡ false → here ≡ true → ((beyond || not (here || soft)) || cond (shows hides (true || m)) (here || live) false) ≡ true → shows hides true ≡ true
+        within false beyond here soft m live e d k = refl
+        within true false true soft m live e d k = absurd cc
+        within true true here soft m live e d k = absurd cc
+        within true false false soft m live e d k = absurd cc
+
+    beside : (beyond soft here l m live : Bool) → here ≡ false → (l ≡ true → ⊥) → ((beyond || not (here || soft)) || cond (shows hides (l || m)) (here || live) false) ≡ true → ((beyond || not soft) || cond (shows hides m) live false) ≡ true
+    beside beyond soft false false m live o n k = k
+    beside beyond soft false true m live o n k = absurd (n refl)
+    beside beyond soft true l m live o n k = absurd cc
+
+saves-agree : (hides : Bool) (f : Frames) (m : Memory) (bytes : ℕ → ℕ) (a : ℕ) (lost : List ℕ) (vs ws : List ℕ) → AreOfSave (Saves a vs) lost → IsWhole (Saves a vs) → AreMovesAlike hides lost (Saves a vs) (Saves a ws)
+    → AgreeWhere (is_open hides f) m bytes → AgreeWhere (is_open hides (with_marked (saved f a) lost)) (memory_after m (Saves a vs)) (memory_after (with_other m bytes) (Saves a ws)).bytes
+saves-agree hides f m bytes a lost vs ws inside whole alike same = λ x h.
+    let bs = alike.1.0 in
+    let found = open-saved hides f a lost x inside h in
+    let xs = bytes_of_words m a vs in
+    let ys = bytes_of_words m a ws in
+    let long : length xs ≡ FRAME_SIZE = words_long m a vs ∙ ap (λ (n : ℕ). 4 * n) whole in
+    let put : is_put (upwards a xs) x ≡ in_bytes a FRAME_SIZE x = is_put-upwards a xs x ∙ ap (λ (n : ℕ). in_bytes a n x) long in
+    let writes : AreWritesAlike hides lost (upwards a xs) (upwards a ys) =
+    subst (λ (l : List ℕ). AreWritesAlike hides l (upwards a xs) (upwards a ys)) (sym alike.1.1) (writes-picked hides wrapped a (byte_marks bs) xs ys (bytes-alike hides m a bs vs ws alike.1.2)) in
+    ap (λ (k : Memory). k.bytes x) (words_as_bytes (with_other m bytes) a ws ∙ ap (with_bytes (with_other m bytes) a) (stored_words_same m bytes a ws))
+    ∙ stored-alike hides lost m.bytes bytes (upwards a xs) (upwards a ys) x writes (λ p. same x (open-port hides f x p)) (λ p. found.0) (λ out. same x (found.1 (sym put ∙ out)))
+    ∙ sym (ap (λ (k : Memory). k.bytes x) (words_as_bytes m a vs))
+
+move-agree : (hides : Bool) (v w : Move) (lost : List ℕ) (f : Frames) (m : Memory) (bytes : ℕ → ℕ) → AreOfSave v lost → IsWhole v → AreMovesAlike hides lost v w → AgreeWhere (is_open hides f) m bytes
+    → AgreeWhere (is_open hides (with_marked (frames_after f v) lost)) (memory_after m v) (memory_after (with_other m bytes) w).bytes
+move-agree hides Stays w lost f m bytes inside whole alike same = λ x h. ap (λ (u : Move). (memory_after (with_other m bytes) u).bytes x) alike ∙ same x (open-marked hides f lost x h)
+move-agree hides Returns w lost f m bytes inside whole alike same = λ x h. ap (λ (u : Move). (memory_after (with_other m bytes) u).bytes x) alike ∙ same x (open-returned hides f x (open-marked hides (returned f) lost x h))
+move-agree hides Flushes w lost f m bytes inside whole alike same = λ x h. ap (λ (u : Move). (memory_after (with_other m bytes) u).bytes x) alike ∙ same x (open-flushed hides f x (open-marked hides (flushed f) lost x h))
+move-agree hides (Saves a vs) (Saves b ws) lost f m bytes inside whole alike same = λ x h.
+    ap (λ (c : ℕ). (memory_after (with_other m bytes) (Saves c ws)).bytes x) alike.0 ∙ saves-agree hides f m bytes a lost vs ws inside whole (refl, alike.1) same x h
+move-agree hides (Saves a vs) Stays lost f m bytes inside whole alike same = absurd alike
+move-agree hides (Saves a vs) Returns lost f m bytes inside whole alike same = absurd alike
+move-agree hides (Saves a vs) Flushes lost f m bytes inside whole alike same = absurd alike
+
+-- frames go by addresses alone
+move-frames : (hides : Bool) (v w : Move) (lost : List ℕ) (f : Frames) → AreMovesAlike hides lost v w → frames_after f w ≡ frames_after f v
+move-frames hides Stays w lost f alike = ap (frames_after f) alike
+move-frames hides Returns w lost f alike = ap (frames_after f) alike
+move-frames hides Flushes w lost f alike = ap (frames_after f) alike
+move-frames hides (Saves a vs) (Saves b ws) lost f alike = ap (saved f) alike.0
+move-frames hides (Saves a vs) Stays lost f alike = absurd alike
+move-frames hides (Saves a vs) Returns lost f alike = absurd alike
+move-frames hides (Saves a vs) Flushes lost f alike = absurd alike
+
+-- ---- the state after an action
+
+-- what is marked of it is where it may be
+pub record IsContained (s : State) (a : Action) : Type 0 where
+  pub whole : IsWhole a.move
+  pub lost : AreOfSave a.move a.lost
+  pub stale : AreInside (frames_after s.frames a.move) a.stale
+
+abbrev with_parts : State → (ℕ → ℕ) → (ℕ → ℕ) → (ℕ → ℕ) → (ℕ → ℕ) → (ℕ → Bool) → Frames → State
+with_parts s regs bytes mcon reading marks frames = record s { regs = regs; memory = record { bytes = bytes; mcon = mcon }; reading = reading; marks = marks; frames = frames }
+
+parts-same : (s : State) (regs bytes reading : ℕ → ℕ) (c d : ℕ → ℕ) (m k : ℕ → Bool) (f g : Frames) → c ≡ d → m ≡ k → f ≡ g → with_parts s regs bytes c reading m f ≡ with_parts s regs bytes d reading k g
+parts-same s regs bytes reading c d m k f g h i j = rw (h, i, j) refl
+
+-- another action with these values, in another state
+abbrev with_data : Action → Action → Action
+with_data a b = record a { sets = b.sets; writes = b.writes; move = b.move }
+
+moved-rest : (hides : Bool) (s : State) (a b : Action) (regs bytes reading : ℕ → ℕ) → AreActionsAlike hides a b
+    → moved (with_values s regs bytes reading) (with_data a b) ≡ with_values (moved s a) (written regs b.sets) (stored (memory_after (with_other s.memory bytes) b.move).bytes b.writes) reading
+unfolding moved
+moved-rest hides s a b regs bytes reading alike =
+    let k = memory_after (with_other s.memory bytes) b.move in
+    let mcon : k.mcon ≡ (memory_after s.memory a.move).mcon = move_mcon b.move (with_other s.memory bytes) ∙ sym (move_mcon a.move s.memory) in
+    let puts : ◌≡◌ {A = ℕ → Bool} (is_put b.writes) (is_put a.writes) = λ i x. puts-same hides a.stale a.writes b.writes alike.writes x i in
+    let sets : ◌≡◌ {A = ℕ → Bool} (is_put b.sets) (is_put a.sets) = λ i x. puts-same hides a.marked a.sets b.sets alike.sets x i in
+    let marks : ◌≡◌ {A = ℕ → Bool} (marks_after s.marks b.sets a.marked) (marks_after s.marks a.sets a.marked) = ap (λ (p : ℕ → Bool). λ r. has a.marked r || (s.marks r && not (p r))) sets in
+    let frames : softened (wrote (with_marked (frames_after s.frames b.move) a.lost) b.writes) a.stale ≡ softened (wrote (with_marked (frames_after s.frames a.move) a.lost) a.writes) a.stale =
+    ap (λ (f : Frames). softened (wrote (with_marked f a.lost) b.writes) a.stale) (move-frames hides a.move b.move a.lost s.frames alike.move)
+    ∙ ap (λ (p : ℕ → Bool). let f = with_marked (frames_after s.frames a.move) a.lost in softened (record f { soft = λ x. f.soft x && not (p x) }) a.stale) puts in
+    parts-same (moved s a) (written regs b.sets) (stored k.bytes b.writes) reading k.mcon (memory_after s.memory a.move).mcon
+    (marks_after s.marks b.sets a.marked) (marks_after s.marks a.sets a.marked) _ _ mcon marks frames
+
+pub moved-agree : (hides : Bool) (s t : State) (a b : Action) → IsContained s a → AreActionsAlike hides a b → Agree hides s t → Agree hides (moved s a) (moved t b)
+unfolding moved
+moved-agree hides s t a b inside alike agree =
+    let regs = t.regs in
+    let bytes = t.memory.bytes in
+    let reading = t.reading in
+    let k = memory_after (with_other s.memory bytes) b.move in
+    let here : Agree hides (moved s a) (with_values (moved s a) (written regs b.sets) (stored k.bytes b.writes) reading) = record {
+      rest = refl;
+      regs = λ r h.
+          let shown = shows-after hides s.marks a.sets a.marked r h in
+          written-alike hides a.marked s.regs regs a.sets b.sets r alike.sets shown.0 (λ out. agree.regs r (shown.1 out));
+      bytes = writes-agree hides (with_marked (frames_after s.frames a.move) a.lost) (memory_after s.memory a.move) k.bytes a.writes b.writes a.stale inside.stale alike.writes
+          (move-agree hides a.move b.move a.lost s.frames s.memory bytes inside.lost inside.whole alike.move agree.bytes);
+      reading = agree.reading;
+    } in
+    let same : moved t b ≡ with_values (moved s a) (written regs b.sets) (stored k.bytes b.writes) reading =
+    ap (λ (u : State). moved u b) agree.rest ∙ ap (moved (with_values s regs bytes reading)) alike.rest ∙ moved-rest hides s a b regs bytes reading alike in
+    subst (λ (u : State). Agree hides (moved s a) u) (sym same) here

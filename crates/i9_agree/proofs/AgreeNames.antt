@@ -1,0 +1,326 @@
+-- In states that agree each instruction that marks allow, and whose access meets no hazard, does what is alike.
+use Rattle.std.proofs.Common.{◌≡◌, ℕ, ◌<◌, Bool, true, false, cond, nat_lt, List, [], ◌∷◌, ◌++◌, length, refl, sym, ap, ◌∙◌, subst, arith}
+use Rattle.std.specs.Prelude.{◌==◌, ◌&&◌, ◌||◌, replicate}
+use Rattle.std.specs.List.{list_any}
+use Rattle.std.proofs.lemmas.Bool.Decides.{nat_tests}
+use Rattle.i9_isa.specs.declared.op.Op.{Op}
+use Rattle.i9_isa.specs.declared.op.Op.TheVariants.{Mov, Lda}
+use Rattle.i9_isa.specs.declared.size.Size.{Size}
+use Rattle.i9_isa.specs.declared.size.Size.TheVariants.{Byte, Half, Words}
+use Rattle.i9_isa.specs.declared.size.Direction.{Direction}
+use Rattle.i9_isa.specs.declared.size.Direction.TheVariants.{Load, Store}
+use Rattle.i9_isa.specs.declared.inst.Operand.{Operand}
+use Rattle.i9_isa.specs.declared.inst.Inst.{Inst}
+use Rattle.i9_isa.specs.Operands.{words_read, words_written}
+use Rattle.i9_isa.specs.Table.{row_of}
+use Rattle.i9_isa.specs.Keeping.{keeps_marks}
+use Rattle.i9_model.specs.Writes.{wrapped, upwards}
+use Rattle.i9_model.specs.Memory.{word_in, word_bytes}
+use Rattle.i9_model.specs.State.{State, aligned}
+use Rattle.i9_model.specs.Faults.{is_special}
+use Rattle.i9_model.specs.Operands.{value, word_of, address, target}
+use Rattle.i9_model.specs.Results.{results_by, destination_words}
+use Rattle.i9_model.specs.Branches.{question_of, asks, code_after, says_yes, is_taken}
+use Rattle.i9_model.specs.Conditions.{code_of, with_code}
+use Rattle.i9_model.specs.Step.{Action, passing, following, assigning, marking, answering, loaded, stored_of, moving, atomic_address, atomic, branching, answer_in, destination, values_of, controls_of, resulting, other_action}
+use Rattle.i9_model.specs.Stale.{picked, byte_marks, marks_of, word_mark, legible, loaded_marks, stored_marks, registers_of, sources, address_registers, is_marked, moves_words, result_marks, moved_marks}
+use Rattle.i9_model.specs.Alike.{is_hard, AgreeWhere, shows, is_open, with_values, AgreeBeside, ReadAlike, AreValuesAlike, AreActionsAlike}
+use Rattle.i9_model.proofs.Lengths.{four_bytes}
+use Rattle.i9_agree.proofs.Agreeing.{shows-none, shows-first, shows-second, values-marked, writes-picked}
+use Rattle.i9_agree.proofs.AgreeMoves.{open-hard}
+use Rattle.i9_agree.proofs.AgreeActions.{AreShown, shown-first, shown-second, operand-same, value-same, address-same, legible-word, loaded-alike, alike-by, IsAllowed, assigning-alike, writing-alike, stored-alike-of}
+
+-- these are other values that agree with a state
+pub record AreOther (hides : Bool) (s : State) (r b h : ℕ → ℕ) : Type 0 where
+  pub regs : AgreeBeside hides s r
+  pub bytes : AgreeWhere (is_open hides s.frames) s.memory b
+  pub reading : ReadAlike hides s h
+
+pub hard-bytes : (hides : Bool) (s : State) (regs bytes reading : ℕ → ℕ) → AreOther hides s regs bytes reading → AgreeWhere (is_hard s.frames) s.memory bytes
+hard-bytes hides s regs bytes reading same = λ x h. same.bytes x (open-hard hides s.frames x h)
+
+-- controls that are the same on both sides
+ac-alike : (hides : Bool) (a b : Action) (x y : ℕ) → y ≡ x → AreActionsAlike hides a b → AreActionsAlike hides (record a { ac = x }) (record b { ac = y })
+ac-alike hides a b x y e alike = record {
+  rest = ap (λ (c : Action). record c { ac = y }) alike.rest ∙ ap (λ (z : ℕ). record a { sets = b.sets; writes = b.writes; move = b.move; ac = z }) e;
+  sets = alike.sets;
+  writes = alike.writes;
+  move = alike.move;
+}
+
+pub pc-alike : (hides : Bool) (a b : Action) (x : ℕ) → AreActionsAlike hides a b → AreActionsAlike hides (record a { pc = x }) (record b { pc = x })
+pc-alike hides a b x alike = record {
+  rest = ap (λ (c : Action). record c { pc = x }) alike.rest;
+  sets = alike.sets;
+  writes = alike.writes;
+  move = alike.move;
+}
+
+-- ---- loads, stores and atomics
+
+stored-marks : (size : Size) (s : State) (regs bytes reading : ℕ → ℕ) (o : Operand) → stored_marks size (with_values s regs bytes reading) o ≡ stored_marks size s o
+stored-marks Byte s regs bytes reading o = refl
+stored-marks Half s regs bytes reading o = refl
+stored-marks (Words n) s regs bytes reading o = refl
+
+pub moving-agree : (hides : Bool) (d : Direction) (size : Size) (signed : Bool) (i : Inst) (s : State) (regs bytes reading : ℕ → ℕ) → AreOther hides s regs bytes reading
+    → AreShown hides s (address_registers i.ea) → IsAllowed i.c (moved_marks d size i s) → AreActionsAlike hides (moving d size signed i s) (moving d size signed i (with_values s regs bytes reading))
+moving-agree hides Load size signed i s regs bytes reading same shown allowed =
+    let t = with_values s regs bytes reading in
+    let loads = λ (a : ℕ). marking i.c (loaded_marks size s.frames.soft a) (assigning i.c (loaded size signed (legible t) a) (passing i s)) in
+    subst (λ (a : ℕ). AreActionsAlike hides (moving Load size signed i s) (loads a)) (sym (address-same hides s regs bytes reading i.ea same.regs shown))
+    (assigning-alike hides i.c (loaded_marks size s.frames.soft (address s i.ea)) (loaded size signed (legible s) (address s i.ea)) (loaded size signed (legible t) (address s i.ea)) (passing i s) allowed
+    (loaded-alike hides size signed s regs bytes reading (address s i.ea) same.bytes same.reading) refl)
+moving-agree hides Store size signed i s regs bytes reading same shown allowed =
+    let t = with_values s regs bytes reading in
+    let stores = λ (a : ℕ). record (passing i s) { writes = upwards a (stored_of size t i.c a); stale = picked wrapped a (stored_marks size s i.c) } in
+    let a = address s i.ea in
+    let marks : moving Store size signed i t ≡ stores (address t i.ea) = ap (λ (bs : List Bool). record (passing i s) { writes = upwards (address t i.ea) (stored_of size t i.c (address t i.ea)); stale = picked wrapped (address t i.ea) bs }) (stored-marks size s regs bytes reading i.c) in
+    let here : AreActionsAlike hides (moving Store size signed i s) (stores a) = record {
+      rest = refl;
+      sets = tt;
+      writes = writes-picked hides wrapped a (stored_marks size s i.c) (stored_of size s i.c a) (stored_of size t i.c a) (stored-alike-of hides size s regs bytes reading i.c a same.regs);
+      move = refl;
+    } in
+    subst (λ (x : Action). AreActionsAlike hides (moving Store size signed i s) x) (sym marks)
+    (subst (λ (b : ℕ). AreActionsAlike hides (moving Store size signed i s) (stores b)) (sym (address-same hides s regs bytes reading i.ea same.regs shown)) here)
+
+pub atomic-agree : (hides : Bool) (i : Inst) (s : State) (regs bytes reading : ℕ → ℕ) (data_marked : Bool) (change other : ℕ → ℕ) → AreOther hides s regs bytes reading
+    → AreShown hides s (registers_of i.a 1) → IsAllowed i.c (word_mark s.frames.soft (atomic_address i s) ∷ []) → (shows hides data_marked ≡ true → (old : ℕ) → other old ≡ change old)
+    → AreActionsAlike hides (atomic i s data_marked change) (atomic i (with_values s regs bytes reading) data_marked other)
+unfolding word_bytes
+atomic-agree hides i s regs bytes reading data_marked change other same shown allowed changes =
+    let t = with_values s regs bytes reading in
+    let m = s.memory in
+    let changed = λ (a : ℕ). record (marking i.c (word_mark s.frames.soft a ∷ []) (answering i s (word_in (legible t) a))) {
+      writes = upwards a (word_bytes m a (other (word_in (legible t) a)));
+      stale = picked wrapped a (byte_marks ((word_mark s.frames.soft a || data_marked) ∷ []));
+    } in
+    let a = atomic_address i s in
+    let old = word_in (legible s) a in
+    let new = word_in (legible t) a in
+    let mark = word_mark s.frames.soft a in
+    let word : shows hides mark ≡ true → new ≡ old = λ h. legible-word hides s regs bytes reading a same.bytes same.reading h in
+    let here : AreActionsAlike hides (atomic i s data_marked change) (changed a) =
+    writing-alike hides (marking i.c (mark ∷ []) (answering i s old)) (marking i.c (mark ∷ []) (answering i s new))
+    (upwards a (word_bytes m a (change old))) (upwards a (word_bytes m a (other new))) (picked wrapped a (byte_marks ((mark || data_marked) ∷ [])))
+    (assigning-alike hides i.c (mark ∷ []) (old ∷ []) (new ∷ []) (passing i s) allowed (word, tt) refl)
+    (writes-picked hides wrapped a (byte_marks ((mark || data_marked) ∷ [])) (word_bytes m a (change old)) (word_bytes m a (other new))
+    (values-marked hides (mark || data_marked) 4 (word_bytes m a (change old)) (word_bytes m a (other new)) (four_bytes m a (change old)) (four_bytes m a (other new))
+    (λ h. ap (word_bytes m a) (changes (shows-second hides mark data_marked h) new ∙ ap change (word (shows-first hides mark data_marked h)))))) in
+    subst (λ (b : ℕ). AreActionsAlike hides (atomic i s data_marked change) (changed b)) (sym (ap aligned (value-same hides s regs bytes reading i.a same.regs shown))) here
+
+-- ---- results go by the operands of their row alone
+
+abbrev pub used : ℕ → ℕ → ℕ → ℕ
+used n k v = cond (nat_lt k n) v 0
+
+results-used : (op : Op) (a0 a1 a2 a3 b0 b1 c ac : ℕ)
+    → results_by op (used (words_read (row_of op).a) 0 a0 ∷ used (words_read (row_of op).a) 1 a1 ∷ used (words_read (row_of op).a) 2 a2 ∷ used (words_read (row_of op).a) 3 a3 ∷ [])
+    (used (words_read (row_of op).b) 0 b0 ∷ used (words_read (row_of op).b) 1 b1 ∷ []) (used (words_read (row_of op).c) 0 c) ac
+    ≡ results_by op (a0 ∷ a1 ∷ a2 ∷ a3 ∷ []) (b0 ∷ b1 ∷ []) c ac
+results-used Mov a0 a1 a2 a3 b0 b1 c ac = refl
+results-used _ a0 a1 a2 a3 b0 b1 c ac = refl
+
+results-args : (op : Op) (a0 a1 a2 a3 b0 b1 c x0 x1 x2 x3 y0 y1 z ac : ℕ) → x0 ≡ a0 → x1 ≡ a1 → x2 ≡ a2 → x3 ≡ a3 → y0 ≡ b0 → y1 ≡ b1 → z ≡ c
+    → results_by op (x0 ∷ x1 ∷ x2 ∷ x3 ∷ []) (y0 ∷ y1 ∷ []) z ac ≡ results_by op (a0 ∷ a1 ∷ a2 ∷ a3 ∷ []) (b0 ∷ b1 ∷ []) c ac
+results-args op a0 a1 a2 a3 b0 b1 c x0 x1 x2 x3 y0 y1 z ac e0 e1 e2 e3 d0 d1 d = rw (e0, e1, e2, e3, d0, d1, d) refl
+
+used-same : (hides : Bool) (s : State) (regs bytes reading : ℕ → ℕ) (o : Operand) (n k : ℕ) → AgreeBeside hides s regs → AreShown hides s (registers_of o n) → used n k (word_of (with_values s regs bytes reading) o k) ≡ used n k (word_of s o k)
+used-same hides s regs bytes reading o n k same shown = by_use (nat_lt k n) refl
+  where
+    below : nat_lt k n ≡ true → k < n
+    below t = grind (arith, nat_tests, t)
+
+    by_use : (b : Bool) → nat_lt k n ≡ b → cond b (word_of (with_values s regs bytes reading) o k) 0 ≡ cond b (word_of s o k) 0
+    by_use false t = refl
+    by_use true t = operand-same hides s regs bytes reading o n k same shown (below t)
+
+pub answer-same : (hides : Bool) (i : Inst) (s : State) (regs bytes reading : ℕ → ℕ) → AgreeBeside hides s regs → AreShown hides s (sources i) → answer_in i (with_values s regs bytes reading) ≡ answer_in i s
+answer-same hides i s regs bytes reading same shown =
+    let t = with_values s regs bytes reading in
+    let na = words_read (row_of i.op).a in
+    let nb = words_read (row_of i.op).b in
+    let nc = words_read (row_of i.op).c in
+    let later = shown-second hides s (registers_of i.a na) (registers_of i.b nb ++ registers_of i.c nc) shown in
+    let a = shown-first hides s (registers_of i.a na) (registers_of i.b nb ++ registers_of i.c nc) shown in
+    let b = shown-first hides s (registers_of i.b nb) (registers_of i.c nc) later in
+    let c = shown-second hides s (registers_of i.b nb) (registers_of i.c nc) later in
+    sym (results-used i.op (word_of t i.a 0) (word_of t i.a 1) (word_of t i.a 2) (word_of t i.a 3) (word_of t i.b 0) (word_of t i.b 1) (word_of t i.c 0) s.ac)
+    ∙ results-args i.op _ _ _ _ _ _ _ _ _ _ _ _ _ _ s.ac
+    (used-same hides s regs bytes reading i.a na 0 same a) (used-same hides s regs bytes reading i.a na 1 same a) (used-same hides s regs bytes reading i.a na 2 same a) (used-same hides s regs bytes reading i.a na 3 same a)
+    (used-same hides s regs bytes reading i.b nb 0 same b) (used-same hides s regs bytes reading i.b nb 1 same b) (used-same hides s regs bytes reading i.c nc 0 same c)
+    ∙ results-used i.op (word_of s i.a 0) (word_of s i.a 1) (word_of s i.a 2) (word_of s i.a 3) (word_of s i.b 0) (word_of s i.b 1) (word_of s i.c 0) s.ac
+
+-- ---- questions too
+
+abbrev asked_of : Op → ℕ → ℕ → ℕ
+asked_of op n v = cond (asks (question_of op)) (used n 0 v) 0
+
+yes-used : (op : Op) (a b code : ℕ) → says_yes (question_of op) (asked_of op (words_read (row_of op).a) a) (asked_of op (words_read (row_of op).b) b) code ≡ says_yes (question_of op) a b code
+yes-used Mov a b code = refl
+yes-used _ a b code = refl
+
+after-used : (op : Op) (a b code : ℕ) → code_after (question_of op) (asked_of op (words_read (row_of op).a) a) (asked_of op (words_read (row_of op).b) b) code ≡ code_after (question_of op) a b code
+after-used Mov a b code = refl
+after-used _ a b code = refl
+
+-- of a name that asks something the sources are shown
+abbrev pub AsksShown : Bool → Inst → State → Type 0
+AsksShown hides i s = asks (question_of i.op) ≡ true → AreShown hides s (sources i)
+
+asked-same : (hides : Bool) (i : Inst) (s : State) (regs bytes reading : ℕ → ℕ) → AgreeBeside hides s regs → AsksShown hides i s
+    → (asked_of i.op (words_read (row_of i.op).a) (value (with_values s regs bytes reading) i.a) ≡ asked_of i.op (words_read (row_of i.op).a) (value s i.a))
+    × (asked_of i.op (words_read (row_of i.op).b) (value (with_values s regs bytes reading) i.b) ≡ asked_of i.op (words_read (row_of i.op).b) (value s i.b))
+asked-same hides i s regs bytes reading same shown = by_asks (asks (question_of i.op)) shown
+  where
+    na : ℕ
+    na = words_read (row_of i.op).a
+
+    nb : ℕ
+    nb = words_read (row_of i.op).b
+
+    by_asks : (b : Bool) → (b ≡ true → AreShown hides s (sources i))
+        → (cond b (used na 0 (value (with_values s regs bytes reading) i.a)) 0 ≡ cond b (used na 0 (value s i.a)) 0)
+        × (cond b (used nb 0 (value (with_values s regs bytes reading) i.b)) 0 ≡ cond b (used nb 0 (value s i.b)) 0)
+    by_asks false h = (refl, refl)
+    by_asks true h =
+        let rest = registers_of i.b nb ++ registers_of i.c (words_read (row_of i.op).c) in
+        let later = shown-second hides s (registers_of i.a na) rest (h refl) in (
+          used-same hides s regs bytes reading i.a na 0 same (shown-first hides s (registers_of i.a na) rest (h refl)),
+          used-same hides s regs bytes reading i.b nb 0 same (shown-first hides s (registers_of i.b nb) (registers_of i.c (words_read (row_of i.op).c)) later),
+        )
+
+pub taken-same : (hides : Bool) (i : Inst) (s : State) (regs bytes reading : ℕ → ℕ) → AgreeBeside hides s regs → AsksShown hides i s
+    → is_taken i (value (with_values s regs bytes reading) i.a) (value (with_values s regs bytes reading) i.b) s.ac ≡ is_taken i (value s i.a) (value s i.b) s.ac
+taken-same hides i s regs bytes reading same shown =
+    let t = with_values s regs bytes reading in
+    let e = asked-same hides i s regs bytes reading same shown in
+    let code = code_of s.ac in
+    let q = question_of i.op in
+    sym (yes-used i.op (value t i.a) (value t i.b) code)
+    ∙ ap (λ (x : ℕ). says_yes q x (asked_of i.op (words_read (row_of i.op).b) (value t i.b)) code) e.0
+    ∙ ap (λ (x : ℕ). says_yes q (asked_of i.op (words_read (row_of i.op).a) (value s i.a)) x code) e.1
+    ∙ yes-used i.op (value s i.a) (value s i.b) code
+
+branching-same : (hides : Bool) (i : Inst) (s : State) (regs bytes reading : ℕ → ℕ) → AgreeBeside hides s regs → AsksShown hides i s → branching i (with_values s regs bytes reading) ≡ branching i s
+branching-same hides i s regs bytes reading same shown =
+    let t = with_values s regs bytes reading in
+    let e = asked-same hides i s regs bytes reading same shown in
+    let code = code_of s.ac in
+    let q = question_of i.op in
+    let after : code_after q (value t i.a) (value t i.b) code ≡ code_after q (value s i.a) (value s i.b) code =
+    sym (after-used i.op (value t i.a) (value t i.b) code)
+    ∙ ap (λ (x : ℕ). code_after q x (asked_of i.op (words_read (row_of i.op).b) (value t i.b)) code) e.0
+    ∙ ap (λ (x : ℕ). code_after q (asked_of i.op (words_read (row_of i.op).a) (value s i.a)) x code) e.1
+    ∙ after-used i.op (value s i.a) (value s i.b) code in
+    ap (λ (x : ℕ). record (branching i t) { ac = with_code s.ac x }) after
+    ∙ ap (λ (b : Bool). record (branching i s) { next = cond b (aligned (target i s)) (following i s) }) (taken-same hides i s regs bytes reading same shown)
+
+-- ---- names that keep marks
+
+abbrev pub is_lda : Op → Bool
+is_lda Lda = true
+is_lda _ = false
+
+pub keeps-asks : (op : Op) → cond (keeps_marks op) (asks (question_of op)) false ≡ false
+keeps-asks Mov = refl
+keeps-asks _ = refl
+
+keeps-here : (op : Op) → cond (keeps_marks op) (words_written (row_of op).a) 0 ≡ 0
+keeps-here Mov = refl
+keeps-here _ = refl
+
+keeps-count : (op : Op) (a0 a1 a2 a3 b0 b1 c ac : ℕ) → cond (is_lda op) 0 (cond (keeps_marks op) (length (values_of (results_by op (a0 ∷ a1 ∷ a2 ∷ a3 ∷ []) (b0 ∷ b1 ∷ []) c ac))) 0) ≡ cond (is_lda op) 0 (cond (keeps_marks op) (destination_words op) 0)
+keeps-count Mov a0 a1 a2 a3 b0 b1 c ac = refl
+keeps-count _ a0 a1 a2 a3 b0 b1 c ac = refl
+
+keeps-controls : (op : Op) (a0 a1 a2 a3 b0 b1 c ac : ℕ) → cond (keeps_marks op) (controls_of (results_by op (a0 ∷ a1 ∷ a2 ∷ a3 ∷ []) (b0 ∷ b1 ∷ []) c ac) ac) ac ≡ ac
+keeps-controls Mov a0 a1 a2 a3 b0 b1 c ac = refl
+keeps-controls _ a0 a1 a2 a3 b0 b1 c ac = refl
+
+-- where marks are hidden, no value needs to be the same
+hidden-values : (n : ℕ) (b : Bool) (vs ws : List ℕ) → b ≡ true → length vs ≡ n → length ws ≡ n → AreValuesAlike true (replicate n b) vs ws
+hidden-values n b vs ws e long too = values-marked true b n vs ws long too (λ h. let no : false ≡ true = sym (ap (shows true) e) ∙ h in absurd (cc no))
+
+-- a result, or what else its row says
+resulting-agree : (hides : Bool) (i : Inst) (s : State) (regs bytes reading : ℕ → ℕ) → AgreeBeside hides s regs → is_lda i.op ≡ false → moves_words i.op ≡ false
+    → is_marked s (cond (keeps_marks i.op) [] (sources i)) ≡ false → (is_special i.c && list_any (λ b. b) (result_marks i s)) ≡ false
+    → AreActionsAlike hides (resulting i s (answer_in i s)) (resulting i (with_values s regs bytes reading) (answer_in i (with_values s regs bytes reading)))
+resulting-agree hides i s regs bytes reading same other plain none allowed = by_shown (shows hides (is_marked s (sources i))) refl
+  where
+    t : State
+    t = with_values s regs bytes reading
+
+    marked_keeps : (k m : Bool) (rs : List ℕ) → is_marked s rs ≡ m → m ≡ true → is_marked s (cond k [] rs) ≡ false → k ≡ true
+    marked_keeps true m rs e d h = refl
+    marked_keeps false m rs e d h = let no : true ≡ false = sym (e ∙ d) ∙ h in absurd (cc no)
+
+    hidden : (h m : Bool) → shows h m ≡ false → (h ≡ true) × (m ≡ true)
+    hidden true true e = (refl, refl)
+    hidden true false e = absurd cc
+    hidden false m e = absurd cc
+
+    counts : (u : State) → keeps_marks i.op ≡ true → length (values_of (answer_in i u)) ≡ destination_words i.op
+    counts u keeps = by_tests (is_lda i.op) (keeps_marks i.op) other keeps (keeps-count i.op (word_of u i.a 0) (word_of u i.a 1) (word_of u i.a 2) (word_of u i.a 3) (word_of u i.b 0) (word_of u i.b 1) (word_of u i.c 0) u.ac)
+      where
+        by_tests : (l k : Bool) → l ≡ false → k ≡ true → cond l 0 (cond k (length (values_of (answer_in i u))) 0) ≡ cond l 0 (cond k (destination_words i.op) 0) → length (values_of (answer_in i u)) ≡ destination_words i.op
+        by_tests false true e d h = h
+        by_tests true k e d h = absurd cc
+        by_tests false false e d h = absurd cc
+
+    controls : (u : State) → keeps_marks i.op ≡ true → controls_of (answer_in i u) u.ac ≡ u.ac
+    controls u keeps = by_test (keeps_marks i.op) keeps (keeps-controls i.op (word_of u i.a 0) (word_of u i.a 1) (word_of u i.a 2) (word_of u i.a 3) (word_of u i.b 0) (word_of u i.b 1) (word_of u i.c 0) u.ac)
+      where
+        by_test : (k : Bool) → k ≡ true → cond k (controls_of (answer_in i u) u.ac) u.ac ≡ u.ac → controls_of (answer_in i u) u.ac ≡ u.ac
+        by_test true d h = h
+        by_test false d h = absurd cc
+
+    here : keeps_marks i.op ≡ true → destination i ≡ i.c
+    here keeps = by_test (keeps_marks i.op) (words_written (row_of i.op).a) keeps (keeps-here i.op)
+      where
+        by_test : (k : Bool) (n : ℕ) → k ≡ true → cond k n 0 ≡ 0 → cond (n == 0) i.c i.a ≡ i.c
+        by_test true n d h = ap (λ (m : ℕ). cond (m == 0) i.c i.a) h
+        by_test false n d h = absurd cc
+
+    marks : result_marks i s ≡ replicate (destination_words i.op) (is_marked s (sources i))
+    marks = ap (λ (b : Bool). cond b (marks_of s i.a (destination_words i.op)) (replicate (destination_words i.op) (is_marked s (sources i)))) plain
+
+    keeps-agree : hides ≡ true → is_marked s (sources i) ≡ true → keeps_marks i.op ≡ true → AreActionsAlike hides (resulting i s (answer_in i s)) (resulting i t (answer_in i t))
+    keeps-agree hiding marked keeps =
+        let vs = values_of (answer_in i s) in
+        let ws = values_of (answer_in i t) in
+        let n = destination_words i.op in
+        let values : AreValuesAlike hides (result_marks i s) vs ws =
+        subst (λ (bs : List Bool). AreValuesAlike hides bs vs ws) (sym marks)
+        (subst (λ (h : Bool). AreValuesAlike h (replicate n (is_marked s (sources i))) vs ws) (sym hiding) (hidden-values n (is_marked s (sources i)) vs ws marked (counts s keeps) (counts t keeps))) in
+        let fits : IsAllowed (destination i) (result_marks i s) = ap (λ (o : Operand). is_special o && list_any (λ (b : Bool). b) (result_marks i s)) (here keeps) ∙ allowed in
+        ac-alike hides (marking (destination i) (result_marks i s) (assigning (destination i) vs (passing i s))) (marking (destination i) (result_marks i s) (assigning (destination i) ws (passing i s)))
+        (controls_of (answer_in i s) s.ac) (controls_of (answer_in i t) s.ac) (controls t keeps ∙ sym (controls s keeps))
+        (assigning-alike hides (destination i) (result_marks i s) vs ws (passing i s) fits values refl)
+
+    by_shown : (b : Bool) → shows hides (is_marked s (sources i)) ≡ b → AreActionsAlike hides (resulting i s (answer_in i s)) (resulting i t (answer_in i t))
+    by_shown true e = alike-by hides (resulting i s (answer_in i s)) (resulting i t (answer_in i t)) refl (ap (resulting i t) (answer-same hides i s regs bytes reading same e))
+    by_shown false e =
+        let h = hidden hides (is_marked s (sources i)) e in
+        keeps-agree h.0 h.1 (marked_keeps (keeps_marks i.op) (is_marked s (sources i)) (sources i) refl h.1 none)
+
+-- a branch, or a result
+asks-sources : (hides : Bool) (i : Inst) (s : State) → is_marked s (cond (keeps_marks i.op) [] (sources i)) ≡ false → AsksShown hides i s
+asks-sources hides i s none asked = by_keeps (keeps_marks i.op) (asks (question_of i.op)) asked (keeps-asks i.op) none
+  where
+    by_keeps : (k a : Bool) → a ≡ true → cond k a false ≡ false → is_marked s (cond k [] (sources i)) ≡ false → AreShown hides s (sources i)
+    by_keeps true a e d h = let no : true ≡ false = sym e ∙ d in absurd (cc no)
+    by_keeps false a e d h = shows-none hides (is_marked s (sources i)) h
+
+pub other-agree : (hides : Bool) (i : Inst) (s : State) (regs bytes reading : ℕ → ℕ) → AgreeBeside hides s regs → is_lda i.op ≡ false → moves_words i.op ≡ false
+    → is_marked s (cond (keeps_marks i.op) [] (sources i)) ≡ false → (is_special i.c && list_any (λ b. b) (result_marks i s)) ≡ false
+    → AreActionsAlike hides (other_action i.op i s) (other_action i.op i (with_values s regs bytes reading))
+other-agree hides i s regs bytes reading same other plain none allowed = by_asks (asks (question_of i.op)) refl
+  where
+    t : State
+    t = with_values s regs bytes reading
+
+    by_asks : (b : Bool) → asks (question_of i.op) ≡ b → AreActionsAlike hides (cond b (branching i s) (resulting i s (answer_in i s))) (cond b (branching i t) (resulting i t (answer_in i t)))
+    by_asks true e = alike-by hides (branching i s) (branching i t) refl (branching-same hides i s regs bytes reading same (asks-sources hides i s none))
+    by_asks false e = resulting-agree hides i s regs bytes reading same other plain none allowed

@@ -1,0 +1,379 @@
+-- In states that agree the same stands at the instruction address.
+use Rattle.std.proofs.Common.{◌≡◌, ℕ, ◌/◌, ◌%◌, ◌^◌, Bool, true, false, cond, List, [], ◌∷◌, ◌++◌, Option, Some, None, Result, Ok, Err, refl, sym, ap, ◌∙◌}
+use Rattle.std.specs.Prelude.{not, ◌==◌, ◌&&◌, ◌||◌, if◌then◌else◌}
+use Rattle.std.specs.List.{list_any}
+use Rattle.std.proofs.lemmas.Bool.{or_parts}
+use Rattle.i9_isa.specs.declared.op.Op.{Op}
+use Rattle.i9_isa.specs.declared.op.Op.TheVariants.{Mov, Atadd, Atmod, Call, Callx, Calls, Ret, Modpc, Sdma, Sysctl, Addi, Subi, Muli, Shli, Divo, Remo, Divi, Remi, Modi, Ediv, Concmpo, Concmpi, Spanbit, Scanbit}
+use Rattle.i9_isa.specs.declared.size.Size.{Size}
+use Rattle.i9_isa.specs.declared.size.Direction.{Direction}
+use Rattle.i9_isa.specs.declared.size.Direction.TheVariants.{Load, Store}
+use Rattle.i9_isa.specs.declared.size.Transfer.{Transfer}
+use Rattle.i9_isa.specs.declared.inst.Inst.{Inst}
+use Rattle.i9_isa.specs.declared.inst.BadWord.{BadWord}
+use Rattle.i9_isa.specs.Transfers.{transfer_of, byte_count, register_count}
+use Rattle.i9_isa.specs.Words.{decoded}
+use Rattle.i9_model.specs.declared.layout.TheConstants.{FP, SP, PFP}
+use Rattle.i9_model.specs.declared.faults.TheConstants.{OPERATION, PROTECTION, TYPE, CONSTRAINT, RANGE, UNALIGNED, INVALID_OPERAND, LENGTH, MISMATCH}
+use Rattle.i9_model.specs.State.{State, Frames, aligned}
+use Rattle.i9_model.specs.Frames.{rounded_down, flushed}
+use Rattle.i9_model.specs.Hazards.{or_else, read_hazard, save_hazard, return_hazard}
+use Rattle.i9_model.specs.Calls.{in_supervisor_mode, takes_record, return_type, record_hazard, ret_hazard, system_hazard_by}
+use Rattle.i9_model.specs.Faults.{is_special, is_supervisor_only, uses_special, is_invalid, is_past_table, is_unaligned, raised}
+use Rattle.i9_model.specs.Operands.{value, address}
+use Rattle.i9_model.specs.Results.{results_by}
+use Rattle.i9_model.specs.Branches.{question_of, asks}
+use Rattle.i9_model.specs.Step.{first_word, next_word, answer_in, Message, AsksNothing, AsksCheck, AsksInterrupt, AsksRestart, AsksGroup, message_of, argument_of, message_kind, asked_message}
+use Rattle.i9_model.specs.Stale.{word_mark, loaded_marks, registers_of, sources, address_registers, is_marked, moved_marks, marks_by_name, marks_by, restart_registers, record_registers, deciding, deciding_by, stored_out, goes_out, goes_out_by, reaches_special, misuses, touches_port, area_hazard}
+use Rattle.i9_model.specs.Access.{Access, NoAccess, Reads, Writes, Changes, SavesFrame, CallsSystem, ReturnsBy, Requests, ReadsTables, ReadsGroup, moved_access, message_access, access_by_name, access_by, access_of, data_of, hazard_in, hazard_of, fetch_hazard, second_hazard}
+use Rattle.i9_model.specs.Standing.{Meets, answer_fault, is_fault_name, range_fault, first_fault, raised_in, later_fault, by_access, by_later, by_raised, by_word, by_fetch, stands_at}
+use Rattle.i9_model.specs.Alike.{is_hard, AgreeWhere, with_other, with_memory, shows, with_values, AgreeBeside}
+use Rattle.i9_model.proofs.CallLaws.{first_none, second_none}
+use Rattle.i9_agree.proofs.AlikeActions.{system_hazard_by_same}
+use Rattle.i9_agree.proofs.AlikeFetches.{tables_hazard_same, first_word_same, fetch_hazard_same, decoded_same}
+use Rattle.i9_agree.proofs.SecondWords.{decoded_alike}
+use Rattle.i9_agree.proofs.Agreeing.{shows-none, shows-first, shows-second}
+use Rattle.i9_agree.proofs.AgreeMoves.{open-hard, open-flushed}
+use Rattle.i9_agree.proofs.AgreeActions.{AreShown, shown-first, shown-second, value-same, address-same}
+use Rattle.i9_agree.proofs.AgreeNames.{AreOther, hard-bytes, AsksShown, taken-same, answer-same}
+use Rattle.i9_agree.proofs.AgreeCalls.{named, restart-shown}
+
+-- ---- what decides
+
+-- whether what comes later is marked doesn't matter where what decides it is
+either-same : (b c d : Bool) → (b ≡ false → d ≡ c) → (b || d) ≡ (b || c)
+either-same true c d h = refl
+either-same false c d h = h refl
+
+any-append : (marks : ℕ → Bool) (xs ys : List ℕ) → list_any marks (xs ++ ys) ≡ (list_any marks xs || list_any marks ys)
+any-append marks [] ys = refl
+any-append marks (x ∷ xs) ys = ap (λ (b : Bool). marks x || b) (any-append marks xs ys) ∙ assoc (marks x) (list_any marks xs) (list_any marks ys)
+  where
+    assoc : (a b c : Bool) → (a || (b || c)) ≡ ((a || b) || c)
+    assoc true b c = refl
+    assoc false b c = refl
+
+name-decides : (hides : Bool) (op : Op) (i : Inst) (s : State) (regs bytes reading : ℕ → ℕ) → AgreeBeside hides s regs → is_marked s (deciding op i (with_values s regs bytes reading)) ≡ is_marked s (deciding op i s)
+name-decides hides Ret i s regs bytes reading same =
+    either-same (s.marks PFP) (is_marked s (record_registers s)) (is_marked s (record_registers (with_values s regs bytes reading))) (λ e.
+    ap (λ (p : ℕ). is_marked s (cond (takes_record (return_type p)) (FP ∷ []) [])) (same PFP (shows-none hides (s.marks PFP) e)))
+name-decides hides Sysctl i s regs bytes reading same =
+    let t = with_values s regs bytes reading in
+    let rs = registers_of i.a 1 in
+    any-append s.marks rs (restart_registers i t)
+    ∙ either-same (is_marked s rs) (is_marked s (restart_registers i s)) (is_marked s (restart_registers i t)) (λ e.
+    ap (λ (v : ℕ). is_marked s (cond (v / 2 ^ 8 % 2 ^ 8 == 3) (registers_of i.b 1 ++ registers_of i.c 1) [])) (value-same hides s regs bytes reading i.a same (shows-none hides (is_marked s rs) e)))
+    ∙ sym (any-append s.marks rs (restart_registers i s))
+name-decides hides _ i s regs bytes reading same = refl
+
+decides : (hides : Bool) (o : Option Transfer) (i : Inst) (s : State) (regs bytes reading : ℕ → ℕ) → AgreeBeside hides s regs → is_marked s (deciding_by o i (with_values s regs bytes reading)) ≡ is_marked s (deciding_by o i s)
+decides hides (Some t) i s regs bytes reading same = refl
+decides hides None i s regs bytes reading same = name-decides hides i.op i s regs bytes reading same
+
+-- ---- what reaches a special function register, and what goes out
+
+name-marks : (hides : Bool) (op : Op) (i : Inst) (s : State) (regs bytes reading : ℕ → ℕ) → AgreeBeside hides s regs → AreShown hides s (deciding op i s) → marks_by_name op i (with_values s regs bytes reading) ≡ marks_by_name op i s
+name-marks hides Atadd i s regs bytes reading same shown = ap (λ (v : ℕ). word_mark s.frames.soft (aligned v) ∷ []) (value-same hides s regs bytes reading i.a same shown)
+name-marks hides Atmod i s regs bytes reading same shown = ap (λ (v : ℕ). word_mark s.frames.soft (aligned v) ∷ []) (value-same hides s regs bytes reading i.a same shown)
+name-marks hides _ i s regs bytes reading same shown = refl
+
+moved-marks : (hides : Bool) (d : Direction) (size : Size) (i : Inst) (s : State) (regs bytes reading : ℕ → ℕ) → AgreeBeside hides s regs → AreShown hides s (address_registers i.ea) → moved_marks d size i (with_values s regs bytes reading) ≡ moved_marks d size i s
+moved-marks hides Load size i s regs bytes reading same shown = ap (loaded_marks size s.frames.soft) (address-same hides s regs bytes reading i.ea same shown)
+moved-marks hides Store size i s regs bytes reading same shown = refl
+
+marks-same : (hides : Bool) (o : Option Transfer) (i : Inst) (s : State) (regs bytes reading : ℕ → ℕ) → AgreeBeside hides s regs → AreShown hides s (deciding_by o i s) → marks_by o i (with_values s regs bytes reading) ≡ marks_by o i s
+marks-same hides (Some t) i s regs bytes reading same shown = moved-marks hides t.direction t.size i s regs bytes reading same shown
+marks-same hides None i s regs bytes reading same shown = name-marks hides i.op i s regs bytes reading same shown
+
+name-out : (hides : Bool) (op : Op) (i : Inst) (s : State) (regs bytes reading : ℕ → ℕ) → AgreeBeside hides s regs → AreShown hides s (deciding op i s) → goes_out op i (with_values s regs bytes reading) ≡ goes_out op i s
+name-out hides Atadd i s regs bytes reading same shown =
+    ap (λ (v : ℕ). (word_mark s.frames.soft (aligned v) || is_marked s (registers_of i.b 1)) && touches_port (aligned v) 4 || is_marked s (registers_of i.b 1) && is_special i.c) (value-same hides s regs bytes reading i.a same shown)
+name-out hides Atmod i s regs bytes reading same shown =
+    ap (λ (v : ℕ). (word_mark s.frames.soft (aligned v) || is_marked s (registers_of i.b 1 ++ registers_of i.c 1)) && touches_port (aligned v) 4 || is_marked s (registers_of i.b 1 ++ registers_of i.c 1) && is_special i.c) (value-same hides s regs bytes reading i.a same shown)
+name-out hides _ i s regs bytes reading same shown = refl
+
+moved-out : (hides : Bool) (d : Direction) (size : Size) (i : Inst) (s : State) (regs bytes reading : ℕ → ℕ) → AgreeBeside hides s regs → AreShown hides s (address_registers i.ea) → stored_out d size i (with_values s regs bytes reading) ≡ stored_out d size i s
+moved-out hides Load size i s regs bytes reading same shown = refl
+moved-out hides Store size i s regs bytes reading same shown =
+    ap (λ (a : ℕ). is_marked s (registers_of i.c (register_count size)) && touches_port a (byte_count size)) (address-same hides s regs bytes reading i.ea same shown)
+
+out-same : (hides : Bool) (o : Option Transfer) (i : Inst) (s : State) (regs bytes reading : ℕ → ℕ) → AgreeBeside hides s regs → AreShown hides s (deciding_by o i s) → goes_out_by o i (with_values s regs bytes reading) ≡ goes_out_by o i s
+out-same hides (Some t) i s regs bytes reading same shown = moved-out hides t.direction t.size i s regs bytes reading same shown
+out-same hides None i s regs bytes reading same shown = name-out hides i.op i s regs bytes reading same shown
+
+pub misuses-same : (hides : Bool) (i : Inst) (s : State) (regs bytes reading : ℕ → ℕ) → AgreeBeside hides s regs → misuses i (with_values s regs bytes reading) ≡ misuses i s
+unfolding misuses
+misuses-same hides i s regs bytes reading same =
+    let t = with_values s regs bytes reading in
+    let o = transfer_of i.op in
+    let first = is_marked s (deciding_by o i s) in
+    ap (λ (b : Bool). b || (reaches_special i t || goes_out_by o i t)) (decides hides o i s regs bytes reading same)
+    ∙ either-same first (reaches_special i s || goes_out_by o i s) (reaches_special i t || goes_out_by o i t) (λ e.
+    let shown = shows-none hides first e in
+    ap (λ (bs : List Bool). (is_special i.c && list_any (λ (b : Bool). b) bs) || goes_out_by o i t) (marks-same hides o i s regs bytes reading same shown)
+    ∙ ap (λ (b : Bool). reaches_special i s || b) (out-same hides o i s regs bytes reading same shown))
+
+-- what is not misused
+pub record IsAllowedIn (i : Inst) (s : State) : Type 0 where
+  pub deciding : is_marked s (deciding_by (transfer_of i.op) i s) ≡ false
+  pub special : (is_special i.c && list_any (λ b. b) (marks_by (transfer_of i.op) i s)) ≡ false
+  pub out : goes_out_by (transfer_of i.op) i s ≡ false
+
+pub allowed-by : (i : Inst) (s : State) → misuses i s ≡ false → IsAllowedIn i s
+unfolding misuses
+allowed-by i s none =
+    let one = or_parts (is_marked s (deciding_by (transfer_of i.op) i s)) (reaches_special i s || goes_out_by (transfer_of i.op) i s) none in
+    let two = or_parts (reaches_special i s) (goes_out_by (transfer_of i.op) i s) one.1 in
+    record { deciding = one.0; special = two.0; out = two.1 }
+
+-- ---- accesses and their hazards
+
+area-same : (hides : Bool) (s : State) (regs bytes reading : ℕ → ℕ) → AgreeBeside hides s regs → (b : Bool) → area_hazard (with_values s regs bytes reading) b ≡ area_hazard s b
+area-same hides s regs bytes reading same b = by_mark (s.marks FP) (not b && s.marks SP) refl
+  where
+    by_mark : (m n : Bool) → s.marks FP ≡ m → or_else (cond (m || n) (Some s.ip) None) (save_hazard s.frames (rounded_down (regs FP))) ≡ or_else (cond (m || n) (Some s.ip) None) (save_hazard s.frames (rounded_down (s.regs FP)))
+    by_mark true n e = refl
+    by_mark false true e = refl
+    by_mark false false e = ap (λ (x : ℕ). save_hazard s.frames (rounded_down x)) (same FP (shows-none hides (s.marks FP) e))
+
+pub areas-same : (hides : Bool) (s : State) (regs bytes reading : ℕ → ℕ) → AgreeBeside hides s regs → ◌≡◌ {A = Bool → Option ℕ} (area_hazard (with_values s regs bytes reading)) (area_hazard s)
+areas-same hides s regs bytes reading same = λ i b. area-same hides s regs bytes reading same b i
+
+-- a return reads fp where its type does
+abbrev FpKnown : State → (ℕ → ℕ) → Access → Type 0
+FpKnown s regs (ReturnsBy pfp) = takes_record (return_type pfp) ≡ true → regs FP ≡ s.regs FP
+FpKnown s regs _ = Unit {0}
+
+ret-hazard : (f : Frames) (pfp fp fp2 : ℕ) → (takes_record (return_type pfp) ≡ true → fp2 ≡ fp) → ret_hazard f pfp fp2 ≡ ret_hazard f pfp fp
+unfolding ret_hazard
+ret-hazard f pfp fp fp2 known = by_takes (takes_record (return_type pfp)) known
+  where
+    by_takes : (b : Bool) → (b ≡ true → fp2 ≡ fp) → or_else (cond b (record_hazard f fp2) None) (return_hazard f (rounded_down pfp)) ≡ or_else (cond b (record_hazard f fp) None) (return_hazard f (rounded_down pfp))
+    by_takes false h = refl
+    by_takes true h = ap (λ (x : ℕ). or_else (record_hazard f x) (return_hazard f (rounded_down pfp))) (h refl)
+
+flushed-hard : (hides : Bool) (s : State) (regs bytes reading : ℕ → ℕ) → AreOther hides s regs bytes reading → AgreeWhere (is_hard (flushed s.frames)) s.memory bytes
+flushed-hard hides s regs bytes reading same = λ x h. same.bytes x (open-flushed hides s.frames x (open-hard hides (flushed s.frames) x h))
+
+hazard-in-same : (hides : Bool) (x : Access) (s : State) (regs bytes reading : ℕ → ℕ) → AreOther hides s regs bytes reading → FpKnown s regs x → hazard_in (with_values s regs bytes reading) x ≡ hazard_in s x
+hazard-in-same hides NoAccess s regs bytes reading same known = refl
+hazard-in-same hides (Reads a n) s regs bytes reading same known = refl
+hazard-in-same hides (Writes a n) s regs bytes reading same known = refl
+hazard-in-same hides (Changes a n) s regs bytes reading same known = refl
+hazard-in-same hides SavesFrame s regs bytes reading same known = area-same hides s regs bytes reading same.regs false
+hazard-in-same hides (CallsSystem n) s regs bytes reading same known =
+    ap (system_hazard_by (with_other s.memory bytes) s.frames s.tables.system_table n s.pc) (areas-same hides s regs bytes reading same.regs)
+    ∙ system_hazard_by_same s.frames s.memory bytes s.tables.system_table n s.pc (area_hazard s) (hard-bytes hides s regs bytes reading same)
+hazard-in-same hides (ReturnsBy pfp) s regs bytes reading same known = ret-hazard s.frames pfp (s.regs FP) (regs FP) known
+hazard-in-same hides (Requests v) s regs bytes reading same known = refl
+hazard-in-same hides (ReadsTables prcb) s regs bytes reading same known = tables_hazard_same (flushed s.frames) s.memory bytes prcb (flushed-hard hides s regs bytes reading same)
+hazard-in-same hides (ReadsGroup group) s regs bytes reading same known = refl
+
+message-access : (hides : Bool) (m : Message) (i : Inst) (s : State) (regs bytes reading : ℕ → ℕ) → AgreeBeside hides s regs → AreShown hides s (registers_of i.a 1) → (m ≡ AsksRestart → AreShown hides s (registers_of i.b 1 ++ registers_of i.c 1))
+    → (message_access m i (with_values s regs bytes reading) ≡ message_access m i s) × FpKnown s regs (message_access m i s)
+message-access hides AsksNothing i s regs bytes reading same shown more = (refl, tt)
+message-access hides AsksCheck i s regs bytes reading same shown more = (refl, tt)
+message-access hides AsksInterrupt i s regs bytes reading same shown more = (ap (λ (v : ℕ). Requests (v % 2 ^ 8)) (value-same hides s regs bytes reading i.a same shown), tt)
+message-access hides AsksRestart i s regs bytes reading same shown more = (ap (λ (v : ℕ). ReadsTables v) (value-same hides s regs bytes reading i.c same (shown-second hides s (registers_of i.b 1) (registers_of i.c 1) (more refl))), tt)
+message-access hides AsksGroup i s regs bytes reading same shown more = (ap (λ (v : ℕ). ReadsGroup (v % 2 ^ 8)) (value-same hides s regs bytes reading i.a same shown), tt)
+
+abbrev SameAccess : State → (ℕ → ℕ) → Access → Access → Type 0
+SameAccess s regs x y = (y ≡ x) × FpKnown s regs x
+
+name-access : (hides : Bool) (op : Op) (i : Inst) (s : State) (regs bytes reading : ℕ → ℕ) → AgreeBeside hides s regs → AreShown hides s (deciding op (named op i) s) → SameAccess s regs (access_by_name op (named op i) s) (access_by_name op (named op i) (with_values s regs bytes reading))
+name-access hides Atadd i s regs bytes reading same shown = (ap (λ (v : ℕ). Changes (aligned v) 4) (value-same hides s regs bytes reading i.a same shown), tt)
+name-access hides Atmod i s regs bytes reading same shown = (ap (λ (v : ℕ). Changes (aligned v) 4) (value-same hides s regs bytes reading i.a same shown), tt)
+name-access hides Call i s regs bytes reading same shown = (refl, tt)
+name-access hides Callx i s regs bytes reading same shown = (refl, tt)
+name-access hides Calls i s regs bytes reading same shown = (ap (λ (v : ℕ). CallsSystem v) (value-same hides s regs bytes reading i.a same (shown-first hides s (registers_of i.a 1) (registers_of i.b 0 ++ registers_of i.c 0) shown)), tt)
+name-access hides Ret i s regs bytes reading same shown = (
+  ap (λ (p : ℕ). ReturnsBy p) (same PFP (shows-first hides (s.marks PFP) (is_marked s (record_registers s)) shown)),
+  λ takes. same FP (by_takes (takes_record (return_type (s.regs PFP))) takes (shows-second hides (s.marks PFP) (is_marked s (record_registers s)) shown)),
+)
+  where
+    by_takes : (b : Bool) → b ≡ true → shows hides (is_marked s (cond b (FP ∷ []) [])) ≡ true → shows hides (s.marks FP) ≡ true
+    by_takes true e h = shows-first hides (s.marks FP) false h
+    by_takes false e h = absurd cc
+name-access hides Sysctl i s regs bytes reading same shown =
+    let t = with_values s regs bytes reading in
+    let j = named Sysctl i in
+    let first = shown-first hides s (registers_of i.a 1) (restart_registers j s) shown in
+    let second = shown-second hides s (registers_of i.a 1) (restart_registers j s) shown in
+    let access = message-access hides (asked_message j s) j s regs bytes reading same first (restart-shown hides s (message_of j s) (argument_of j s) (registers_of i.b 1 ++ registers_of i.c 1) second) in
+    (ap (λ (v : ℕ). message_access (message_kind (v / 2 ^ 8 % 2 ^ 8) (v % 2 ^ 8)) j t) (value-same hides s regs bytes reading i.a same first) ∙ access.0, access.1)
+name-access hides _ i s regs bytes reading same shown = (refl, tt)
+
+moved-access : (hides : Bool) (d : Direction) (n : ℕ) (i : Inst) (s : State) (regs bytes reading : ℕ → ℕ) → AgreeBeside hides s regs → AreShown hides s (address_registers i.ea) → SameAccess s regs (moved_access d (address s i.ea) n) (moved_access d (address (with_values s regs bytes reading) i.ea) n)
+moved-access hides Load n i s regs bytes reading same shown = (ap (λ (a : ℕ). Reads a n) (address-same hides s regs bytes reading i.ea same shown), tt)
+moved-access hides Store n i s regs bytes reading same shown = (ap (λ (a : ℕ). Writes a n) (address-same hides s regs bytes reading i.ea same shown), tt)
+
+pub access-same : (hides : Bool) (i : Inst) (s : State) (regs bytes reading : ℕ → ℕ) → AgreeBeside hides s regs → is_marked s (deciding_by (transfer_of i.op) i s) ≡ false → SameAccess s regs (access_of i s) (access_of i (with_values s regs bytes reading))
+access-same hides i s regs bytes reading same none = by_transfer (transfer_of i.op) none
+  where
+    by_transfer : (o : Option Transfer) → is_marked s (deciding_by o i s) ≡ false → SameAccess s regs (access_by o i s) (access_by o i (with_values s regs bytes reading))
+    by_transfer (Some t) e = moved-access hides t.direction (byte_count t.size) i s regs bytes reading same (shows-none hides _ e)
+    by_transfer None e = name-access hides i.op i s regs bytes reading same (shows-none hides _ e)
+
+pub hazard-same : (hides : Bool) (i : Inst) (s : State) (regs bytes reading : ℕ → ℕ) → AreOther hides s regs bytes reading → is_marked s (deciding_by (transfer_of i.op) i s) ≡ false → hazard_of i (with_values s regs bytes reading) ≡ hazard_of i s
+unfolding hazard_of
+hazard-same hides i s regs bytes reading same none =
+    let access = access-same hides i s regs bytes reading same.regs none in
+    ap (hazard_in (with_values s regs bytes reading)) access.0 ∙ hazard-in-same hides (access_of i s) s regs bytes reading same access.1
+
+-- ---- faults
+
+-- of some names a source raises a fault before anything is done
+first_source : Op → ℕ → ℕ
+first_source Sysctl a = a
+first_source Sdma a = a
+first_source Calls a = a
+first_source _ a = 0
+
+second_source : Op → ℕ → ℕ
+second_source Modpc b = b
+second_source _ b = 0
+
+supervisor-used : (op : Op) (b : ℕ) → is_supervisor_only op (second_source op b) ≡ is_supervisor_only op b
+unfolding second_source
+supervisor-used Mov b = refl
+supervisor-used _ b = refl
+
+invalid-used : (op : Op) (a : ℕ) → is_invalid op (first_source op a) ≡ is_invalid op a
+unfolding first_source
+invalid-used Mov a = refl
+invalid-used _ a = refl
+
+table-used : (op : Op) (a : ℕ) → is_past_table op (first_source op a) ≡ is_past_table op a
+unfolding first_source
+table-used Mov a = refl
+table-used _ a = refl
+
+raised-used : (i : Inst) (a b : ℕ) (x : Option (ℕ × ℕ)) (pc config : ℕ) → raised i (first_source i.op a) (second_source i.op b) x pc config ≡ raised i a b x pc config
+unfolding raised
+raised-used i a b x pc config = parts _ _ _ _ _ _ (supervisor-used i.op b) (invalid-used i.op a) (table-used i.op a)
+  where
+    tests : Bool → Bool → Bool → Option (ℕ × ℕ)
+    tests p q r =
+        if not (in_supervisor_mode pc) && (p || uses_special i) then Some (TYPE, MISMATCH)
+        else if q then Some (OPERATION, INVALID_OPERAND)
+        else if r then Some (PROTECTION, LENGTH)
+        else if is_unaligned x config then Some (OPERATION, UNALIGNED)
+        else None
+
+    parts : (p p2 q q2 r r2 : Bool) → p2 ≡ p → q2 ≡ q → r2 ≡ r → tests p2 q2 r2 ≡ tests p q r
+    parts p p2 q q2 r r2 e d c = rw (e, d, c) refl
+
+first-same : (hides : Bool) (op : Op) (i : Inst) (s : State) (regs bytes reading : ℕ → ℕ) → AgreeBeside hides s regs → is_marked s (deciding_by (transfer_of op) (named op i) s) ≡ false → first_source op (value (with_values s regs bytes reading) i.a) ≡ first_source op (value s i.a)
+unfolding first_source
+first-same hides Sysctl i s regs bytes reading same none = value-same hides s regs bytes reading i.a same (shown-first hides s (registers_of i.a 1) (restart_registers (named Sysctl i) s) (shows-none hides _ none))
+first-same hides Sdma i s regs bytes reading same none = value-same hides s regs bytes reading i.a same (shown-first hides s (registers_of i.a 1) (registers_of i.b 1 ++ registers_of i.c 3) (shows-none hides _ none))
+first-same hides Calls i s regs bytes reading same none = value-same hides s regs bytes reading i.a same (shown-first hides s (registers_of i.a 1) (registers_of i.b 0 ++ registers_of i.c 0) (shows-none hides _ none))
+first-same hides _ i s regs bytes reading same none = refl
+
+second-same : (hides : Bool) (op : Op) (i : Inst) (s : State) (regs bytes reading : ℕ → ℕ) → AgreeBeside hides s regs → is_marked s (deciding_by (transfer_of op) (named op i) s) ≡ false → second_source op (value (with_values s regs bytes reading) i.b) ≡ second_source op (value s i.b)
+unfolding second_source
+second-same hides Modpc i s regs bytes reading same none = value-same hides s regs bytes reading i.b same (shown-first hides s (registers_of i.b 1) (registers_of i.c 1) (shows-none hides _ none))
+second-same hides _ i s regs bytes reading same none = refl
+
+raised-same : (hides : Bool) (i : Inst) (s : State) (regs bytes reading : ℕ → ℕ) → AgreeBeside hides s regs → is_marked s (deciding_by (transfer_of i.op) i s) ≡ false → raised_in i (with_values s regs bytes reading) ≡ raised_in i s
+raised-same hides i s regs bytes reading same none =
+    let t = with_values s regs bytes reading in
+    let config = s.tables.fault_config in
+    ap (λ (x : Access). raised i (value t i.a) (value t i.b) (data_of x) s.pc config) (access-same hides i s regs bytes reading same none).0
+    ∙ sym (raised-used i (value t i.a) (value t i.b) (data_of (access_of i s)) s.pc config)
+    ∙ ap (λ (a : ℕ). raised i a (second_source i.op (value t i.b)) (data_of (access_of i s)) s.pc config) (first-same hides i.op i s regs bytes reading same none)
+    ∙ ap (λ (b : ℕ). raised i (first_source i.op (value s i.a)) b (data_of (access_of i s)) s.pc config) (second-same hides i.op i s regs bytes reading same none)
+    ∙ raised-used i (value s i.a) (value s i.b) (data_of (access_of i s)) s.pc config
+
+-- names whose result may be a fault, or shows only as far as its values do
+may_fault : Op → Bool
+may_fault Addi = true
+may_fault Subi = true
+may_fault Muli = true
+may_fault Shli = true
+may_fault Divo = true
+may_fault Remo = true
+may_fault Divi = true
+may_fault Remi = true
+may_fault Modi = true
+may_fault Ediv = true
+may_fault Concmpo = true
+may_fault Concmpi = true
+may_fault Spanbit = true
+may_fault Scanbit = true
+may_fault _ = false
+
+fault-used : (op : Op) (a b : List ℕ) (c ac : ℕ) → cond (may_fault op) (answer_fault (results_by op a b c ac)) None ≡ answer_fault (results_by op a b c ac)
+unfolding may_fault
+fault-used Mov a b c ac = refl
+fault-used _ a b c ac = refl
+
+faults-decide : (op : Op) (i : Inst) (s : State) → cond (may_fault op) (deciding_by (transfer_of op) (named op i) s) [] ≡ cond (may_fault op) (sources (named op i)) []
+unfolding may_fault
+faults-decide Mov i s = refl
+faults-decide _ i s = refl
+
+asks-decide : (op : Op) (i : Inst) (s : State) → cond (asks (question_of op)) (deciding_by (transfer_of op) (named op i) s) [] ≡ cond (asks (question_of op)) (sources (named op i)) []
+asks-decide Mov i s = refl
+asks-decide _ i s = refl
+
+shown-where : (hides : Bool) (s : State) (b : Bool) (xs ys : List ℕ) → cond b xs [] ≡ cond b ys [] → is_marked s xs ≡ false → b ≡ true → AreShown hides s ys
+shown-where hides s true xs ys e h d = shows-none hides (is_marked s ys) (ap (is_marked s) (sym e) ∙ h)
+shown-where hides s false xs ys e h d = absurd cc
+
+pub asks-shown : (hides : Bool) (i : Inst) (s : State) → is_marked s (deciding_by (transfer_of i.op) i s) ≡ false → AsksShown hides i s
+asks-shown hides i s none asked = shown-where hides s (asks (question_of i.op)) (deciding_by (transfer_of i.op) i s) (sources i) (asks-decide i.op i s) none asked
+
+later-same : (hides : Bool) (i : Inst) (s : State) (regs bytes reading : ℕ → ℕ) → AgreeBeside hides s regs → is_marked s (deciding_by (transfer_of i.op) i s) ≡ false → later_fault i (with_values s regs bytes reading) ≡ later_fault i s
+later-same hides i s regs bytes reading same none =
+    let t = with_values s regs bytes reading in
+    let answer : answer_fault (answer_in i t) ≡ answer_fault (answer_in i s) =
+    sym (fault-used i.op _ _ _ s.ac) ∙ by_fault (may_fault i.op) (λ e. answer-same hides i s regs bytes reading same (shown-where hides s (may_fault i.op) (deciding_by (transfer_of i.op) i s) (sources i) (faults-decide i.op i s) none e)) ∙ fault-used i.op _ _ _ s.ac in
+    ap (λ (o : Option (ℕ × ℕ)). first_fault o (range_fault i t)) answer
+    ∙ ap (λ (b : Bool). first_fault (answer_fault (answer_in i s)) (cond (is_fault_name i.op && b) (Some (CONSTRAINT, RANGE)) None)) (taken-same hides i s regs bytes reading same (asks-shown hides i s none))
+  where
+    by_fault : (b : Bool) → (b ≡ true → answer_in i (with_values s regs bytes reading) ≡ answer_in i s) → cond b (answer_fault (answer_in i (with_values s regs bytes reading))) None ≡ cond b (answer_fault (answer_in i s)) None
+    by_fault false h = refl
+    by_fault true h = ap answer_fault (h refl)
+
+-- ---- what stands there
+
+by-later-same : (hides : Bool) (i : Inst) (s : State) (regs bytes reading : ℕ → ℕ) (o : Option (ℕ × ℕ)) → AreOther hides s regs bytes reading → is_marked s (deciding_by (transfer_of i.op) i s) ≡ false → by_later i (with_values s regs bytes reading) o ≡ by_later i s o
+by-later-same hides i s regs bytes reading (Some number) same none = refl
+by-later-same hides i s regs bytes reading None same none = ap (by_access i) (hazard-same hides i s regs bytes reading same none)
+
+by-raised-same : (hides : Bool) (i : Inst) (s : State) (regs bytes reading : ℕ → ℕ) (o : Option (ℕ × ℕ)) → AreOther hides s regs bytes reading → is_marked s (deciding_by (transfer_of i.op) i s) ≡ false → by_raised i (with_values s regs bytes reading) o ≡ by_raised i s o
+by-raised-same hides i s regs bytes reading (Some number) same none = refl
+by-raised-same hides i s regs bytes reading None same none =
+    ap (by_later i (with_values s regs bytes reading)) (later-same hides i s regs bytes reading same.regs none) ∙ by-later-same hides i s regs bytes reading (later_fault i s) same none
+
+by-word-same : (hides : Bool) (s : State) (regs bytes reading : ℕ → ℕ) (r : Result Inst BadWord) → AreOther hides s regs bytes reading → by_word (with_values s regs bytes reading) r ≡ by_word s r
+by-word-same hides s regs bytes reading (Err e) same = refl
+by-word-same hides s regs bytes reading (Ok i) same =
+    let t = with_values s regs bytes reading in
+    ap (λ (b : Bool). cond b (Meets s.ip) (by_raised i t (raised_in i t))) (misuses-same hides i s regs bytes reading same.regs) ∙ by_misuse (misuses i s) refl
+  where
+    by_misuse : (b : Bool) → misuses i s ≡ b → cond b (Meets s.ip) (by_raised i (with_values s regs bytes reading) (raised_in i (with_values s regs bytes reading))) ≡ cond b (Meets s.ip) (by_raised i s (raised_in i s))
+    by_misuse true e = refl
+    by_misuse false e =
+        let none = (allowed-by i s e).deciding in
+        ap (by_raised i (with_values s regs bytes reading)) (raised-same hides i s regs bytes reading same.regs none) ∙ by-raised-same hides i s regs bytes reading (raised_in i s) same none
+
+by-fetch-same : (hides : Bool) (s : State) (regs bytes reading : ℕ → ℕ) (h : Option ℕ) → AreOther hides s regs bytes reading → fetch_hazard s ≡ h → by_fetch (with_values s regs bytes reading) h ≡ by_fetch s h
+unfolding fetch_hazard
+by-fetch-same hides s regs bytes reading (Some a) same is = refl
+by-fetch-same hides s regs bytes reading None same is =
+    let t = with_values s regs bytes reading in
+    let u = with_memory s bytes in
+    let w = first_word s in
+    let r = decoded w (next_word s) in
+    let hard = hard-bytes hides s regs bytes reading same in
+    let first : first_word u ≡ w = first_word_same s bytes hard (first_none (read_hazard s.frames s.ip 4) (second_hazard s r) is) in
+    let second = second_none (read_hazard s.frames s.ip 4) (second_hazard s r) is in
+    let word = decoded_same s bytes r (decoded w (next_word u)) hard (decoded_alike w (next_word s) (next_word u)) second (λ e. ap (decoded w) e) in
+    ap (by_word t) (ap (λ (v : ℕ). decoded v (next_word u)) first ∙ word) ∙ by-word-same hides s regs bytes reading r same
+
+pub stands-same : (hides : Bool) (s : State) (regs bytes reading : ℕ → ℕ) → AreOther hides s regs bytes reading → stands_at (with_values s regs bytes reading) ≡ stands_at s
+unfolding stands_at fetch_hazard
+stands-same hides s regs bytes reading same =
+    ap (by_fetch (with_values s regs bytes reading)) (fetch_hazard_same s bytes (hard-bytes hides s regs bytes reading same)) ∙ by-fetch-same hides s regs bytes reading (fetch_hazard s) same refl

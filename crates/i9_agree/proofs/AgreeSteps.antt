@@ -1,0 +1,730 @@
+-- What comes next in states that agree is alike, and states stay in agreement.
+use Rattle.std.proofs.Common.{◌≡◌, ℕ, ◌+◌, ◌*◌, ◌≤◌, Bool, true, false, cond, eqb, ◌&&◌, ◌||◌, nat_le, List, [], ◌∷◌, ◌++◌, Option, Some, None, Result, Ok, Err, refl, sym, ap, ◌∙◌, subst, arith}
+use Rattle.std.specs.Option.{option_map, option_and_then}
+use Rattle.std.specs.Prelude.{not, bit_and, max, map, ◌%◌}
+use Rattle.std.specs.List.{range_with_len}
+use Rattle.i9_isa.specs.declared.op.Op.{Op}
+use Rattle.i9_isa.specs.declared.op.Op.TheVariants.{Calls, Ret, Sysctl}
+use Rattle.i9_isa.specs.declared.size.Size.{Size}
+use Rattle.i9_isa.specs.declared.size.Direction.{Direction}
+use Rattle.i9_isa.specs.declared.size.Direction.TheVariants.{Load, Store}
+use Rattle.i9_isa.specs.declared.size.Transfer.{Transfer}
+use Rattle.i9_isa.specs.Transfers.{transfer_of}
+use Rattle.i9_isa.specs.Words.{words_of}
+use Rattle.i9_isa.specs.declared.inst.Inst.{Inst}
+use Rattle.i9_model.specs.declared.layout.TheConstants.{PRCB_SIZE, CONTROL_TABLE_SIZE, CONTROL_GROUP_SIZE, AC_MASK, LEAST_SETS}
+use Rattle.i9_model.specs.declared.setup.TheConstants.{CONTROL_WORDS}
+use Rattle.i9_model.specs.declared.setup.Setup.{Setup}
+use Rattle.i9_model.specs.declared.interrupts.Chosen.{Chosen}
+use Rattle.i9_model.specs.declared.event.Event.{Event}
+use Rattle.i9_model.specs.declared.event.Event.TheVariants as events
+use Rattle.i9_model.specs.Before.{Received, choice_in, interrupt_in, received_in}
+use Rattle.i9_model.specs.declared.faults.Entry.{Entry}
+use Rattle.i9_model.specs.declared.faults.FaultStop.{FaultStop}
+use Rattle.i9_model.specs.declared.faults.FaultStop.TheVariants as stops
+use Rattle.i9_model.specs.Writes.{address_count, wrapped, written, upwards}
+use Rattle.i9_model.specs.Memory.{Memory, in_port_page, words_in, exit_word}
+use Rattle.i9_model.specs.State.{State, Frames, TraceControls, started}
+use Rattle.i9_model.specs.Frames.{flushed}
+use Rattle.i9_model.specs.Hazards.{read_hazard}
+use Rattle.i9_model.specs.Operands.{value}
+use Rattle.i9_model.specs.Boot.{table_word, setup_of, configured}
+use Rattle.i9_model.specs.Tables.{tables_hazard, group_address, group_hazard, group_words}
+use Rattle.i9_model.specs.Calls.{record_address}
+use Rattle.i9_model.specs.Controls.{Control, KeepsControls, Restarts, LoadsGroup, with_group, controlled}
+use Rattle.i9_model.specs.Step.{Action, Flushes, Message, AsksNothing, AsksCheck, AsksInterrupt, AsksRestart, AsksGroup, passing, moving, entering, argument_of, asked_message, message_action, action_by_name, action_by, action_of, moved, flagged, acted, counted}
+use Rattle.i9_model.specs.declared.trace.Seen.{Seen}
+use Rattle.i9_model.specs.declared.trace.Trace.{Trace}
+use Rattle.i9_model.specs.Tracing.{trace_of}
+use Rattle.i9_model.specs.Traced.{switches, seen_of, trace_left, traced_action}
+use Rattle.i9_model.specs.Access.{Access, data_of, message_access, access_by_name, access_by, hazard_in, hazard_of}
+use Rattle.i9_model.specs.Standing.{Standing, Meets, Refused, Faults, Runs, stands_at}
+use Rattle.i9_model.specs.declared.run.End.{End}
+use Rattle.i9_model.specs.declared.run.End.TheVariants.{Limit}
+use Rattle.i9_model.specs.Run.{Kind, Instruction, Faulted, Entered, Interrupted, Reached, action_by_kind, counts_of, record_of, exit_in, due_in, due_by, Ends, finish, next_by_standing, next_by_received, next_by_event, next_by_interrupt, next_by_choice, next_by_entry, entry_in, fault_at, next_in}
+use Rattle.i9_model.specs.declared.run.Due.{Due}
+use Rattle.i9_model.specs.Overlay.{overlay}
+use Rattle.i9_model.specs.Alike.{is_hard, AgreeWhere, with_other, with_memory, told}
+use Rattle.i9_model.proofs.CallLaws.{first_none, second_none}
+use Rattle.i9_model.proofs.ControlLaws.{by_group}
+use Rattle.i9_model.proofs.Readings.{read_same, inner_word_same, words_same}
+use Rattle.i9_past.proofs.Stands.{Known}
+use Rattle.i9_agree.proofs.SoundRuns.{action_clear}
+use Rattle.i9_agree.proofs.InterruptsFree.{interrupts_free}
+use Rattle.i9_agree.proofs.Units.{received_same}
+use Rattle.i9_model.specs.declared.run.Due.TheVariants as dues
+use Rattle.std.specs.Prelude.{◌==◌}
+use Rattle.std.proofs.Common.{zero, suc, ◌<◌, length}
+use Rattle.i9_model.specs.declared.run.End.TheVariants.{Exit}
+use Rattle.i9_model.specs.Step.{Move, Stays, Saves, Returns}
+use Rattle.std.specs.List.{list_any}
+use Rattle.std.proofs.lemmas.Bool.{or_left, or_from, or_parts, eqb-true}
+use Rattle.i9_isa.specs.declared.op.Op.TheVariants.{Lda, Atadd, Atmod, Bx, Balx, Bal, Call, Callx, Flushreg, Modac, Modtc, Modpc, Sdma}
+use Rattle.i9_isa.specs.declared.size.Size.TheVariants.{Byte, Half, Words}
+use Rattle.i9_isa.specs.declared.inst.Operand.{Operand}
+use Rattle.i9_isa.specs.Transfers.{byte_count, register_count}
+use Rattle.i9_model.specs.declared.layout.TheConstants.{FRAME_SIZE, FP, SP, PFP, EXIT_WORD, CONSOLE}
+use Rattle.i9_model.specs.declared.faults.Fault.{Fault}
+use Rattle.i9_model.specs.declared.push.Push.{Push}
+use Rattle.i9_model.specs.Writes.{last_put, or_earlier}
+use Rattle.i9_model.specs.Memory.{ordered_word}
+use Rattle.i9_model.specs.State.{Interrupts, start_sets}
+use Rattle.i9_model.specs.Frames.{places, in_bytes, is_kept, has}
+use Rattle.i9_model.specs.Controls.{marks_after}
+use Rattle.i9_model.specs.Hazards.{save_hazard, write_hazard}
+use Rattle.i9_model.specs.Sound.{in_returns, IsSound}
+use Rattle.i9_model.specs.Calls.{in_supervisor_mode, leaves_supervisor, return_type}
+use Rattle.i9_model.specs.Faults.{is_special, planned_fault_by}
+use Rattle.i9_model.specs.Interrupts.{cleared, planned_interrupt_by}
+use Rattle.i9_model.specs.Before.{interrupting}
+use Rattle.i9_model.specs.Operands.{address}
+use Rattle.i9_model.specs.Branches.{asks, question_of}
+use Rattle.i9_model.specs.Stale.{picked, byte_marks, mark_of, marks_of, word_mark, stored_marks, saved_marks, registers_of, is_marked, record_registers, deciding, deciding_by, touches_port, stored_out, changed_out, goes_out, goes_out_by, misuses, area_hazard}
+use Rattle.i9_model.specs.Step.{branching, resulting, answer_in, atomic_address, pushing, frames_after}
+use Rattle.i9_model.specs.Access.{moved_access}
+use Rattle.i9_model.specs.Alike.{is_beyond, shows, is_open, with_values, AgreeBeside, Agree, AreWritesAlike, AreActionsAlike, told_words, access_by_kind, DoAgree, NextsAgree}
+use Rattle.i9_model.proofs.CallLaws.{enters_free_by}
+use Rattle.i9_model.proofs.FrameLaws.{write_hazard-none, save_hazard-none, port_hazard-none, none_wrote}
+use Rattle.i9_model.proofs.Among.{bytes-among, among-bytes, among-address}
+use Rattle.i9_model.proofs.SavedMarks.{picked-among, saved-lost}
+use Rattle.i9_agree.proofs.SoundRuns.{IsSafe, IsLostOf, action_lost, area_save}
+use Rattle.i9_past.proofs.Stands.{IsRead}
+use Rattle.i9_past.proofs.Stands.{known as known_here}
+use Rattle.i9_agree.proofs.InterruptsFree.{InterruptsFree}
+use Rattle.i9_model.proofs.Storing.{stored_words_same}
+use Rattle.i9_agree.proofs.AlikeFetches.{told_same, planned_fault_by_same}
+use Rattle.i9_agree.proofs.AlikeInterrupts.{choice_same, planned_by_same, entry_writes_same}
+use Rattle.i9_agree.proofs.Agreeing.{shows-none, shows-first, shows-after, writes-same, written-alike}
+use Rattle.i9_agree.proofs.AgreeActions.{AreShown, shown-first, shown-second, shown-word, alike-same, pushing-alike}
+use Rattle.i9_agree.proofs.AgreeNames.{AreOther, hard-bytes, taken-same}
+use Rattle.i9_agree.proofs.AgreeCalls.{named, push-known, action-agree}
+use Rattle.i9_agree.proofs.AgreeStands.{access-same, areas-same, asks-shown, allowed-by, stands-same}
+use Rattle.i9_agree.proofs.AgreeMoves.{AreInside, AreOfSave, IsContained, moved-agree}
+use Rattle.i9_model.proofs.Lengths.{marks_long}
+
+-- ---- the tables of start-up
+
+abbrev setup_by : ℕ → ℕ → ℕ → ℕ → ℕ → ℕ → ℕ → ℕ → ℕ → List ℕ → Setup
+setup_by first p0 p1 p2 p3 p4 p5 p7 p9 control = record {
+  first = first;
+  fault_table = p0;
+  control_table = p1;
+  ac = bit_and p2 AC_MASK;
+  fault_config = p3;
+  interrupt_table = p4;
+  system_table = p5;
+  interrupt_stack = p7;
+  sets = max LEAST_SETS (p9 % 16);
+  control = control;
+}
+
+setup_parts : (first p0 p1 p2 p3 p4 p5 p7 p9 q0 q1 q2 q3 q4 q5 q7 q9 : ℕ) (c d : List ℕ) → p0 ≡ q0 → p1 ≡ q1 → p2 ≡ q2 → p3 ≡ q3 → p4 ≡ q4 → p5 ≡ q5 → p7 ≡ q7 → p9 ≡ q9 → c ≡ d
+    → setup_by first p0 p1 p2 p3 p4 p5 p7 p9 c ≡ setup_by first q0 q1 q2 q3 q4 q5 q7 q9 d
+setup_parts first p0 p1 p2 p3 p4 p5 p7 p9 q0 q1 q2 q3 q4 q5 q7 q9 c d e0 e1 e2 e3 e4 e5 e7 e9 e = rw (e0, e1, e2, e3, e4, e5, e7, e9, e) refl
+
+pub setup_same : (f : Frames) (m : Memory) (bytes : ℕ → ℕ) (first prcb : ℕ) → AgreeWhere (is_hard f) m bytes → tables_hazard m f prcb ≡ None → setup_of (with_other m bytes) first prcb ≡ setup_of m first prcb
+unfolding tables_hazard setup_of
+setup_same f m bytes first prcb same none =
+    let n = with_other m bytes in
+    let a = table_word m prcb 1 in
+    let prcb_read = first_none (read_hazard f prcb PRCB_SIZE) (read_hazard f a CONTROL_TABLE_SIZE) none in
+    let table_read = second_none (read_hazard f prcb PRCB_SIZE) (read_hazard f a CONTROL_TABLE_SIZE) none in
+    let here = read_same f m bytes prcb PRCB_SIZE same prcb_read in
+    let word : (k : ℕ) → 4 * k + 4 ≤ PRCB_SIZE → table_word n prcb k ≡ table_word m prcb k = λ k h. inner_word_same m bytes prcb PRCB_SIZE (4 * k) here h in
+    let table : words_in n (table_word n prcb 1) CONTROL_WORDS ≡ words_in m a CONTROL_WORDS =
+    ap (λ (x : ℕ). words_in n x CONTROL_WORDS) (word 1 (omega arith)) ∙ words_same m bytes a CONTROL_TABLE_SIZE CONTROL_WORDS (read_same f m bytes a CONTROL_TABLE_SIZE same table_read) (omega arith) in
+    setup_parts first _ _ _ _ _ _ _ _ _ _ _ _ _ _ _ _ _ _
+    (word 0 (omega arith)) (word 1 (omega arith)) (word 2 (omega arith)) (word 3 (omega arith)) (word 4 (omega arith)) (word 5 (omega arith)) (word 7 (omega arith)) (word 9 (omega arith)) table
+
+pub group_same : (f : Frames) (m : Memory) (bytes : ℕ → ℕ) (table group : ℕ) → AgreeWhere (is_hard f) m bytes → group_hazard f table group ≡ None → group_words (with_other m bytes) table group ≡ group_words m table group
+unfolding group_hazard group_words
+group_same f m bytes table group same none =
+    let a = group_address table group in
+    words_same m bytes a CONTROL_GROUP_SIZE 4 (read_same f m bytes a CONTROL_GROUP_SIZE same none) (omega arith)
+
+-- ---- controls
+
+-- the tables that are read meet no hazard
+abbrev pub IsReadable : State → Control → Type 0
+IsReadable s KeepsControls = Unit {0}
+IsReadable s (Restarts first prcb) = tables_hazard s.memory s.frames prcb ≡ None
+IsReadable s (LoadsGroup group) = group_hazard s.frames s.tables.control_table group ≡ None
+
+group_memory : (a b c : Bool) (s : State) (bytes : ℕ → ℕ) (group : ℕ) (ws : List ℕ) → by_group a b c (with_memory s bytes) group ws ≡ with_memory (by_group a b c s group ws) bytes
+group_memory true b c s bytes group ws = refl
+group_memory false true c s bytes group ws = refl
+group_memory false false true s bytes group ws = refl
+group_memory false false false s bytes group ws = refl
+
+group_bytes : (a b c : Bool) (s : State) (group : ℕ) (ws : List ℕ) → (by_group a b c s group ws).memory.bytes ≡ s.memory.bytes
+group_bytes true b c s group ws = refl
+group_bytes false true c s group ws = refl
+group_bytes false false true s group ws = refl
+group_bytes false false false s group ws = refl
+
+pub controlled_bytes : (c : Control) (s : State) → (controlled s c).memory.bytes ≡ s.memory.bytes
+unfolding started configured
+controlled_bytes KeepsControls s = refl
+controlled_bytes (Restarts first prcb) s = refl
+controlled_bytes (LoadsGroup group) s = group_bytes (eqb group 0) (eqb group 1) (eqb group 6) s group (group_words s.memory s.tables.control_table group)
+
+-- ---- tables are read after a flush that stores nothing
+
+abbrev pub flushing : Inst → State → Control → Action
+flushing i s c = record (passing i s) { move = Flushes; control = c }
+
+pub restart_readable : (i : Inst) (s : State) (first prcb : ℕ) → tables_hazard s.memory (flushed s.frames) prcb ≡ None → IsReadable (moved s (flushing i s (Restarts first prcb))) (Restarts first prcb)
+unfolding moved written
+restart_readable i s first prcb none = ap (λ (f : Frames). tables_hazard s.memory f prcb) (none_wrote (flushed s.frames)) ∙ none
+
+pub group_readable : (i : Inst) (s : State) (group : ℕ) → group_hazard (flushed s.frames) s.tables.control_table group ≡ None → IsReadable (moved s (flushing i s (LoadsGroup group))) (LoadsGroup group)
+unfolding moved
+group_readable i s group none = ap (λ (f : Frames). group_hazard f s.tables.control_table group) (none_wrote (flushed s.frames)) ∙ none
+
+message_readable : (m : Message) (i : Inst) (s : State) → hazard_in s (message_access m i s) ≡ None → IsReadable (moved s (message_action m i s)) (message_action m i s).control
+message_readable AsksNothing i s none = tt
+message_readable AsksCheck i s none = tt
+message_readable AsksInterrupt i s none = tt
+message_readable AsksRestart i s none = restart_readable i s (value s i.b) (value s i.c) none
+message_readable AsksGroup i s none = group_readable i s (argument_of i s) none
+
+name_readable : (op : Op) (i : Inst) (s : State) → hazard_in s (access_by_name op i s) ≡ None → IsReadable (moved s (action_by_name op i s)) (action_by_name op i s).control
+name_readable Sysctl i s none = message_readable (asked_message i s) i s none
+name_readable _ i s none = tt
+
+moving_readable : (d : Direction) (size : Size) (signed : Bool) (i : Inst) (s : State) → IsReadable (moved s (moving d size signed i s)) (moving d size signed i s).control
+moving_readable Load size signed i s = tt
+moving_readable Store size signed i s = tt
+
+action_readable : (i : Inst) (s : State) → hazard_of i s ≡ None → IsReadable (moved s (action_of i s)) (action_of i s).control
+unfolding hazard_of action_of
+action_readable i s none = by_transfer (transfer_of i.op) none
+  where
+    by_transfer : (o : Option Transfer) → hazard_in s (access_by o i s) ≡ None → IsReadable (moved s (action_by o i s)) (action_by o i s).control
+    by_transfer (Some t) e = moving_readable t.direction t.size t.signed i s
+    by_transfer None e = name_readable i.op i s e
+
+-- ---- controls in states that agree
+
+group-parts : (a b c : Bool) (s : State) (regs bytes reading : ℕ → ℕ) (group : ℕ) (ws : List ℕ) → by_group a b c (with_values s regs bytes reading) group ws ≡ with_values (by_group a b c s group ws) regs bytes reading
+group-parts true b c s regs bytes reading group ws = refl
+group-parts false true c s regs bytes reading group ws = refl
+group-parts false false true s regs bytes reading group ws = refl
+group-parts false false false s regs bytes reading group ws = refl
+
+group-rest : (a b c : Bool) (s : State) (group : ℕ) (ws : List ℕ) → ((by_group a b c s group ws).regs ≡ s.regs) × ((by_group a b c s group ws).marks ≡ s.marks) × ((by_group a b c s group ws).reading ≡ s.reading) × ((by_group a b c s group ws).memory.bytes ≡ s.memory.bytes) × ((by_group a b c s group ws).frames ≡ s.frames)
+group-rest true b c s group ws = (refl, refl, refl, refl, refl)
+group-rest false true c s group ws = (refl, refl, refl, refl, refl)
+group-rest false false true s group ws = (refl, refl, refl, refl, refl)
+group-rest false false false s group ws = (refl, refl, refl, refl, refl)
+
+-- a state that agrees, by its values
+pub agree-by : (hides : Bool) (s t : State) (regs bytes reading : ℕ → ℕ) → t ≡ with_values s regs bytes reading → AreOther hides s regs bytes reading → Agree hides s t
+agree-by hides s t regs bytes reading e same =
+    let here : Agree hides s (with_values s regs bytes reading) = record { rest = refl; regs = same.regs; bytes = same.bytes; reading = same.reading } in
+    subst (Agree hides s) (sym e) here
+
+pub others : (hides : Bool) (s t : State) → Agree hides s t → AreOther hides s t.regs t.memory.bytes t.reading
+others hides s t agree = record { regs = agree.regs; bytes = agree.bytes; reading = agree.reading }
+
+controls-agree : (hides : Bool) (c : Control) (s : State) (regs bytes reading : ℕ → ℕ) → IsReadable s c → AreOther hides s regs bytes reading → Agree hides (controlled s c) (controlled (with_values s regs bytes reading) c)
+unfolding started configured
+controls-agree hides KeepsControls s regs bytes reading readable same = agree-by hides s (with_values s regs bytes reading) regs bytes reading refl same
+controls-agree hides (Restarts first prcb) s regs bytes reading readable same =
+    let t = with_values s regs bytes reading in
+    let u = setup_of s.memory first prcb in
+    let hard = hard-bytes hides s regs bytes reading same in
+    let setup : setup_of (with_other s.memory bytes) first prcb ≡ u = setup_same s.frames s.memory bytes first prcb hard readable in
+    let all : controlled t (Restarts first prcb) ≡ with_values (controlled s (Restarts first prcb)) (written regs (start_sets u)) bytes reading =
+    ap (λ (x : Setup). record (started x regs s.count s.interrupts.low (configured (with_other s.memory bytes) x.control) s.frames) { marks = marks_after s.marks (start_sets x) []; reading = reading }) setup in
+    agree-by hides (controlled s (Restarts first prcb)) (controlled t (Restarts first prcb)) (written regs (start_sets u)) bytes reading all (record {
+      regs = λ r h.
+          let shown = shows-after hides s.marks (start_sets u) [] r h in
+          written-alike hides [] s.regs regs (start_sets u) (start_sets u) r (writes-same hides [] (start_sets u)) shown.0 (λ out. same.regs r (shown.1 out));
+      bytes = same.bytes;
+      reading = same.reading;
+    })
+controls-agree hides (LoadsGroup group) s regs bytes reading readable same =
+    let t = with_values s regs bytes reading in
+    let ws = group_words s.memory s.tables.control_table group in
+    let hard = hard-bytes hides s regs bytes reading same in
+    let rest = group-rest (eqb group 0) (eqb group 1) (eqb group 6) s group ws in
+    let all : controlled t (LoadsGroup group) ≡ with_values (controlled s (LoadsGroup group)) regs bytes reading =
+    ap (with_group t group) (group_same s.frames s.memory bytes s.tables.control_table group hard readable) ∙ group-parts (eqb group 0) (eqb group 1) (eqb group 6) s regs bytes reading group ws in
+    agree-by hides (controlled s (LoadsGroup group)) (controlled t (LoadsGroup group)) regs bytes reading all (record {
+      regs = λ r h. same.regs r (ap (λ (m : ℕ → Bool). shows hides (m r)) (sym rest.1) ∙ h) ∙ ap (λ (f : ℕ → ℕ). f r) (sym rest.0);
+      bytes = λ x h. same.bytes x (ap (λ (f : Frames). is_open hides f x) (sym rest.4) ∙ h) ∙ ap (λ (f : ℕ → ℕ). f x) (sym rest.3);
+      reading = λ e x y. same.reading e x y ∙ ap (λ (f : ℕ → ℕ). f y) (sym rest.2);
+    })
+
+pub controlled-agree : (hides : Bool) (c : Control) (s t : State) → IsReadable s c → Agree hides s t → Agree hides (controlled s c) (controlled t c)
+controlled-agree hides c s t readable agree =
+    subst (λ (u : State). Agree hides (controlled s c) (controlled u c)) (sym agree.rest) (controls-agree hides c s t.regs t.memory.bytes t.reading readable (others hides s t agree))
+
+pub flagged-agree : (hides : Bool) (o : Option Trace) (s t : State) → Agree hides s t → Agree hides (flagged o s) (flagged o t)
+flagged-agree hides None s t agree = agree
+flagged-agree hides (Some x) s t agree = record { rest = ap (flagged (Some x)) agree.rest; regs = agree.regs; bytes = agree.bytes; reading = agree.reading }
+
+counted-agree : (hides : Bool) (n : ℕ) (s t : State) → Agree hides s t → Agree hides (counted n s) (counted n t)
+counted-agree hides n s t agree = record { rest = ap (counted n) agree.rest; regs = agree.regs; bytes = agree.bytes; reading = agree.reading }
+
+pub acted-agree : (hides : Bool) (s t : State) (a b : Action) → IsContained s a → IsReadable (moved s a) a.control → AreActionsAlike hides a b → Agree hides s t → Agree hides (acted s a) (acted t b)
+unfolding acted
+acted-agree hides s t a b inside readable alike agree =
+    let control : b.control ≡ a.control = ap (λ (x : Action). x.control) alike.rest in
+    let trace : b.trace ≡ a.trace = ap (λ (x : Action). x.trace) alike.rest in
+    let here = flagged-agree hides a.trace (controlled (moved s a) a.control) (controlled (moved t b) a.control)
+    (controlled-agree hides a.control (moved s a) (moved t b) readable (moved-agree hides s t a b inside alike agree)) in
+    subst (λ (c : Control). Agree hides (acted s a) (flagged b.trace (controlled (moved t b) c))) (sym control)
+    (subst (λ (o : Option Trace). Agree hides (acted s a) (flagged o (controlled (moved t b) a.control))) (sym trace) here)
+
+-- ---- what is marked of an action is where it may be
+
+past_last : (a n x : ℕ) → in_bytes a n x ≡ true → nat_le address_count x ≡ false
+past_last a n x t = among-address a n x (bytes-among a n x t)
+
+-- beside the port page
+within : (a n x : ℕ) → in_bytes a n x ≡ true → in_port_page x ≡ false → is_beyond x ≡ false
+within a n x t p = or_from (in_port_page x) (nat_le address_count x) p (past_last a n x t)
+
+save-contained : (v : Move) (f : Frames) (lost : List ℕ) → IsSafe f v → IsLostOf v lost → AreOfSave v lost
+save-contained Stays f lost safe is = tt
+save-contained Returns f lost safe is = tt
+save-contained Flushes f lost safe is = tt
+save-contained (Saves a ws) f lost safe is = λ x t.
+    let here = is.inside x t in
+    (within a FRAME_SIZE x here (port_hazard-none a FRAME_SIZE x (save_hazard-none f a safe).1 here), here)
+
+-- nothing is picked where nothing is marked
+picked-none : (place : ℕ → ℕ) (n : ℕ) (bs : List Bool) (x : ℕ) → list_any (λ (b : Bool). b) bs ≡ false → has (picked place n bs) x ≡ false
+picked-none place n [] x none = refl
+picked-none place n (true ∷ bs) x none = absurd cc
+picked-none place n (false ∷ bs) x none = picked-none place (n + 1) bs x none
+
+bytes-none : (bs : List Bool) → list_any (λ (b : Bool). b) bs ≡ false → list_any (λ (b : Bool). b) (byte_marks bs) ≡ false
+bytes-none [] none = refl
+bytes-none (true ∷ bs) none = absurd cc
+bytes-none (false ∷ bs) none = bytes-none bs none
+
+map-none : (f : ℕ → Bool) (a n : ℕ) → ((k : ℕ) → k < a + n → f k ≡ false) → list_any (λ (b : Bool). b) (map f (range_with_len a n)) ≡ false
+map-none f a zero none = refl
+map-none f a (suc n) none = or_from (f a) (list_any (λ (b : Bool). b) (map f (range_with_len (a + 1) n))) (none a (omega arith)) (map-none f (a + 1) n (λ k l. none k (omega arith)))
+
+unmarked : (m : Bool) → shows true m ≡ true → m ≡ false
+unmarked false h = refl
+unmarked true h = absurd cc
+
+-- a store of registers without marks
+stored-none : (size : Size) (s : State) (o : Operand) → is_marked s (registers_of o (register_count size)) ≡ false → list_any (λ (b : Bool). b) (stored_marks size s o) ≡ false
+stored-none Byte s o none = or_from (mark_of s o 0) false (unmarked (mark_of s o 0) (shown-word true s o 1 0 (shows-none true _ none) (omega arith))) refl
+stored-none Half s o none =
+    let m = unmarked (mark_of s o 0) (shown-word true s o 1 0 (shows-none true _ none) (omega arith)) in
+    or_from (mark_of s o 0) (mark_of s o 0 || false) m (or_from (mark_of s o 0) false m refl)
+stored-none (Words n) s o none = bytes-none (marks_of s o n) (map-none (mark_of s o) 0 n (λ k l. unmarked (mark_of s o k) (shown-word true s o n k (shows-none true _ none) (omega (arith, l)))))
+
+any-none : (test : ℕ → Bool) (ys : List ℕ) (x : ℕ) → list_any test ys ≡ false → list_any (λ (y : ℕ). x == y) ys ≡ true → test x ≡ false
+any-none test [] x none t = absurd cc
+any-none test (y ∷ ys) x none t = by_first (x == y) refl t (λ k. any-none test ys x (or_parts (test y) (list_any test ys) none).1 k)
+  where
+    by_first : (b : Bool) → (x == y) ≡ b → (b || list_any (λ (z : ℕ). x == z) ys) ≡ true → (list_any (λ (z : ℕ). x == z) ys ≡ true → test x ≡ false) → test x ≡ false
+    by_first true e k later = ap test (eqb-true x y e) ∙ (or_parts (test y) (list_any test ys) none).0
+    by_first false e k later = later k
+
+-- bytes that are written beside live frames, and beside the port page where one of them is marked
+written-inside : (f : Frames) (a n : ℕ) (bs : List Bool) (marked : Bool) → length bs ≡ n → write_hazard f a n ≡ None → (marked ≡ false → list_any (λ (b : Bool). b) bs ≡ false) → (marked && touches_port a n) ≡ false → AreInside f (picked wrapped a bs)
+unfolding in_bytes
+written-inside f a n bs marked long free none out = λ x t.
+    let here : in_bytes a n x ≡ true = ap (λ (m : ℕ). in_bytes a m x) (sym long) ∙ among-bytes a (length bs) x (picked-among a bs x t) in
+    (within a n x here (by_marked marked refl x t here), write_hazard-none f a n x free here)
+  where
+    by_marked : (m : Bool) → marked ≡ m → (x : ℕ) → has (picked wrapped a bs) x ≡ true → in_bytes a n x ≡ true → in_port_page x ≡ false
+    by_marked false e x t here = let no : true ≡ false = sym t ∙ picked-none wrapped a bs x (none e) in absurd (cc no)
+    by_marked true e x t here = any-none in_port_page (places a n) x (ap (λ (m : Bool). m && touches_port a n) (sym e) ∙ out) here
+
+moving-inside : (d : Direction) (size : Size) (signed : Bool) (i : Inst) (s : State) → stored_out d size i s ≡ false → hazard_in s (moved_access d (address s i.ea) (byte_count size)) ≡ None → AreInside (frames_after s.frames (moving d size signed i s).move) (moving d size signed i s).stale
+moving-inside Load size signed i s out none = λ x t. absurd cc
+moving-inside Store size signed i s out none =
+    written-inside s.frames (address s i.ea) (byte_count size) (stored_marks size s i.c) (is_marked s (registers_of i.c (register_count size))) (marks_long size s i.c) none (stored-none size s i.c) out
+
+atomic-inside : (i : Inst) (s : State) (datas : List ℕ) (data_marked : Bool) → (is_marked s datas ≡ false → data_marked ≡ false) → changed_out datas i s ≡ false → write_hazard s.frames (atomic_address i s) 4 ≡ None
+    → AreInside s.frames (picked wrapped (atomic_address i s) (byte_marks ((word_mark s.frames.soft (atomic_address i s) || data_marked) ∷ [])))
+atomic-inside i s datas data_marked less out none =
+    let a = atomic_address i s in
+    let st = word_mark s.frames.soft a in
+    let port = (or_parts ((st || is_marked s datas) && touches_port a 4) (is_marked s datas && is_special i.c) out).0 in
+    written-inside s.frames a 4 (byte_marks ((st || data_marked) ∷ [])) (st || is_marked s datas) refl none
+    (λ e. let parts = or_parts st (is_marked s datas) e in bytes-none ((st || data_marked) ∷ []) (or_from (st || data_marked) false (or_from st data_marked parts.0 (less parts.1)) refl)) port
+
+message-inside : (m : Message) (i : Inst) (s : State) → AreInside (frames_after s.frames (message_action m i s).move) (message_action m i s).stale
+message-inside AsksNothing i s = λ x t. absurd cc
+message-inside AsksCheck i s = λ x t. absurd cc
+message-inside AsksInterrupt i s = λ x t. absurd cc
+message-inside AsksRestart i s = λ x t. absurd cc
+message-inside AsksGroup i s = λ x t. absurd cc
+
+other-inside : (b : Bool) (i : Inst) (s : State) → AreInside (frames_after s.frames (cond b (branching i s) (resulting i s (answer_in i s))).move) (cond b (branching i s) (resulting i s (answer_in i s))).stale
+other-inside true i s = λ x t. absurd cc
+other-inside false i s = λ x t. absurd cc
+
+data-none : (s : State) (o : Operand) → is_marked s (registers_of o 1) ≡ false → mark_of s o 0 ≡ false
+data-none s o none = unmarked (mark_of s o 0) (shown-word true s o 1 0 (shows-none true _ none) (omega arith))
+
+name-inside : (op : Op) (i : Inst) (s : State) → goes_out op i s ≡ false → hazard_in s (access_by_name op i s) ≡ None → AreInside (frames_after s.frames (action_by_name op i s).move) (action_by_name op i s).stale
+name-inside Atadd i s out none = atomic-inside i s (registers_of i.b 1) (mark_of s i.b 0) (data-none s i.b) out none
+name-inside Atmod i s out none = atomic-inside i s (registers_of i.b 1 ++ registers_of i.c 1) (mark_of s i.b 0 || mark_of s i.c 0) (λ e.
+    let shown = shows-none true (is_marked s (registers_of i.b 1 ++ registers_of i.c 1)) e in
+    or_from (mark_of s i.b 0) (mark_of s i.c 0) (unmarked (mark_of s i.b 0) (shown-word true s i.b 1 0 (shown-first true s (registers_of i.b 1) (registers_of i.c 1) shown) (omega arith)))
+    (unmarked (mark_of s i.c 0) (shown-word true s i.c 1 0 (shown-second true s (registers_of i.b 1) (registers_of i.c 1) shown) (omega arith)))) out none
+name-inside Lda i s out none = λ x t. absurd cc
+name-inside Bx i s out none = λ x t. absurd cc
+name-inside Balx i s out none = λ x t. absurd cc
+name-inside Bal i s out none = λ x t. absurd cc
+name-inside Call i s out none = λ x t. absurd cc
+name-inside Callx i s out none = λ x t. absurd cc
+name-inside Calls i s out none = λ x t. absurd cc
+name-inside Ret i s out none = λ x t. absurd cc
+name-inside Flushreg i s out none = λ x t. absurd cc
+name-inside Modac i s out none = λ x t. absurd cc
+name-inside Modtc i s out none = λ x t. absurd cc
+name-inside Modpc i s out none = λ x t. absurd cc
+name-inside Sdma i s out none = λ x t. absurd cc
+name-inside Sysctl i s out none = message-inside (asked_message i s) i s
+name-inside op i s out none = other-inside (asks (question_of op)) i s
+
+action-inside : (i : Inst) (s : State) → goes_out_by (transfer_of i.op) i s ≡ false → hazard_of i s ≡ None → AreInside (frames_after s.frames (action_of i s).move) (action_of i s).stale
+unfolding hazard_of action_of
+action-inside i s out none = by_transfer (transfer_of i.op) out none
+  where
+    by_transfer : (o : Option Transfer) → goes_out_by o i s ≡ false → hazard_in s (access_by o i s) ≡ None → AreInside (frames_after s.frames (action_by o i s).move) (action_by o i s).stale
+    by_transfer (Some t) g e = moving-inside t.direction t.size t.signed i s g e
+    by_transfer None g e = name-inside i.op i s g e
+
+pub action-contained : (i : Inst) (s : State) → misuses i s ≡ false → hazard_of i s ≡ None → IsContained s (action_of i s)
+action-contained i s allowed none =
+    let clear = action_clear i s none in
+    record {
+      whole = clear.free.whole;
+      lost = save-contained (action_of i s).move s.frames (action_of i s).lost clear.save (action_lost i s);
+      stale = action-inside i s (allowed-by i s allowed).out none;
+    }
+
+-- ---- what writes leave at the port page
+
+last-alike : (hides : Bool) (marked : List ℕ) (ps qs : List (ℕ × ℕ)) (x : ℕ) → AreWritesAlike hides marked ps qs → has marked x ≡ false → last_put qs x ≡ last_put ps x
+unfolding last_put
+last-alike hides marked [] [] x h none = refl
+last-alike hides marked (p ∷ ps) (q ∷ qs) x h none =
+    ap (λ (o : Option ℕ). or_earlier o (cond (x == q.0) (Some q.1) None)) (last-alike hides marked ps qs x h.2 none)
+    ∙ ap (λ (y : ℕ). or_earlier (last_put ps x) (cond (x == y) (Some q.1) None)) h.0
+    ∙ by_place (x == p.0) refl
+  where
+    by_place : (b : Bool) → (x == p.0) ≡ b → or_earlier (last_put ps x) (cond b (Some q.1) None) ≡ or_earlier (last_put ps x) (cond b (Some p.1) None)
+    by_place false e = refl
+    by_place true e =
+        let shown : shows hides (has marked p.0) ≡ true = shows-none hides (has marked p.0) (ap (has marked) (sym (eqb-true x p.0 e)) ∙ none) in
+        ap (λ (v : ℕ). or_earlier (last_put ps x) (Some v)) (h.1 shown)
+last-alike hides marked [] (q ∷ qs) x h none = absurd h
+last-alike hides marked (p ∷ ps) [] x h none = absurd h
+
+-- no marked byte goes out
+port-unmarked : (f : Frames) (stale : List ℕ) (x : ℕ) → AreInside f stale → in_port_page x ≡ true → has stale x ≡ false
+port-unmarked f stale x inside port = by_stale (has stale x) refl
+  where
+    by_stale : (b : Bool) → has stale x ≡ b → b ≡ false
+    by_stale false e = refl
+    by_stale true e = let no : true ≡ false = sym (or_left (in_port_page x) (nat_le address_count x) port) ∙ (inside x e).0 in absurd (cc no)
+
+port-alike : (hides : Bool) (s : State) (a b : Action) (x : ℕ) → IsContained s a → AreActionsAlike hides a b → in_port_page x ≡ true → last_put b.writes x ≡ last_put a.writes x
+port-alike hides s a b x inside alike port = last-alike hides a.stale a.writes b.writes x alike.writes (port-unmarked (frames_after s.frames a.move) a.stale x inside.stale port)
+
+-- the exit word of its four bytes
+abbrev exit_from : Memory → Option ℕ → Option ℕ → Option ℕ → Option ℕ → Option ℕ
+exit_from m p q r t = option_and_then (λ a. option_and_then (λ b. option_and_then (λ c. option_and_then (λ d. Some (ordered_word m EXIT_WORD (a ∷ b ∷ c ∷ d ∷ []))) t) r) q) p
+
+exit-parts : (m : Memory) (p q r t v w x y : Option ℕ) → v ≡ p → w ≡ q → x ≡ r → y ≡ t → exit_from m v w x y ≡ exit_from m p q r t
+exit-parts m p q r t v w x y e0 e1 e2 e3 = rw (e0, e1, e2, e3) refl
+
+-- what is due after an action
+exit-same : (hides : Bool) (s : State) (regs bytes reading : ℕ → ℕ) (a b : Action) → IsContained s a → AreActionsAlike hides a b → exit_in (with_values s regs bytes reading) b ≡ exit_in s a
+unfolding exit_word
+exit-same hides s regs bytes reading a b inside alike =
+    ap (option_map Exit)
+    (exit-parts s.memory _ _ _ _ _ _ _ _
+    (port-alike hides s a b EXIT_WORD inside alike refl)
+    (port-alike hides s a b (EXIT_WORD + 1) inside alike refl)
+    (port-alike hides s a b (EXIT_WORD + 2) inside alike refl)
+    (port-alike hides s a b (EXIT_WORD + 3) inside alike refl))
+
+due-in-same : (s : State) (regs bytes reading : ℕ → ℕ) (t : Option Trace) (f : Option End) → due_in (with_values s regs bytes reading) t f ≡ due_in s t f
+due-in-same s regs bytes reading t (Some f) = refl
+due-in-same s regs bytes reading None None = refl
+due-in-same s regs bytes reading (Some t) None = refl
+
+-- ---- an instruction with its trace events
+
+switches-same : (hides : Bool) (op : Op) (i : Inst) (s : State) (regs bytes reading : ℕ → ℕ) (a b : Action) → AgreeBeside hides s regs → AreShown hides s (deciding op (named op i) s) → b.pc ≡ a.pc → switches op (with_values s regs bytes reading) b ≡ switches op s a
+switches-same hides Calls i s regs bytes reading a b same shown pc = ap (λ (p : ℕ). not (in_supervisor_mode s.pc) && in_supervisor_mode p) pc
+switches-same hides Ret i s regs bytes reading a b same shown pc =
+    ap (λ (p : ℕ). in_supervisor_mode s.pc && leaves_supervisor (return_type p)) (same PFP (shows-first hides (s.marks PFP) (is_marked s (record_registers s)) shown))
+switches-same hides _ i s regs bytes reading a b same shown pc = refl
+
+-- no load or store switches
+transfer-switches : (op : Op) (s t : State) (a b : Action) (x : Transfer) → transfer_of op ≡ Some x → switches op t b ≡ switches op s a
+transfer-switches Calls s t a b x e = absurd cc
+transfer-switches Ret s t a b x e = absurd cc
+transfer-switches _ s t a b x e = refl
+
+switched-same : (hides : Bool) (i : Inst) (s : State) (regs bytes reading : ℕ → ℕ) (a b : Action) → AgreeBeside hides s regs → is_marked s (deciding_by (transfer_of i.op) i s) ≡ false → b.pc ≡ a.pc → switches i.op (with_values s regs bytes reading) b ≡ switches i.op s a
+switched-same hides i s regs bytes reading a b same none pc = by_transfer (transfer_of i.op) refl none
+  where
+    by_transfer : (o : Option Transfer) → transfer_of i.op ≡ o → is_marked s (deciding_by o i s) ≡ false → switches i.op (with_values s regs bytes reading) b ≡ switches i.op s a
+    by_transfer (Some t) e m = transfer-switches i.op s (with_values s regs bytes reading) a b t e
+    by_transfer None e m = switches-same hides i.op i s regs bytes reading a b same (shows-none hides _ m) pc
+
+seen-same : (hides : Bool) (i : Inst) (s : State) (regs bytes reading : ℕ → ℕ) (a b : Action) → AgreeBeside hides s regs → is_marked s (deciding_by (transfer_of i.op) i s) ≡ false → b.pc ≡ a.pc → seen_of i (with_values s regs bytes reading) b ≡ seen_of i s a
+seen-same hides i s regs bytes reading a b same none pc =
+    let t = with_values s regs bytes reading in
+    ap (λ (x : Access). record (seen_of i t b) { access = option_map (λ d. d.0) (data_of x) }) (access-same hides i s regs bytes reading same none).0
+    ∙ ap (λ (x : Bool). record (seen_of i s a) { taken = x; switched = switches i.op t b }) (taken-same hides i s regs bytes reading same (asks-shown hides i s none))
+    ∙ ap (λ (x : Bool). record (seen_of i s a) { switched = x }) (switched-same hides i s regs bytes reading a b same none pc)
+
+-- the same events count
+trace-alike : (hides : Bool) (a b : Action) (o p : Option Trace) → p ≡ o → AreActionsAlike hides a b → AreActionsAlike hides (record a { trace = o }) (record b { trace = p })
+trace-alike hides a b o p e alike = record {
+  rest = ap (λ (x : Action). record x { trace = p }) alike.rest ∙ ap (λ (q : Option Trace). record a { sets = b.sets; writes = b.writes; move = b.move; trace = q }) e;
+  sets = alike.sets;
+  writes = alike.writes;
+  move = alike.move;
+}
+
+-- what an instruction may be done with
+pub record MayDo (i : Inst) (s : State) : Type 0 where
+  pub allowed : misuses i s ≡ false
+  pub none : hazard_of i s ≡ None
+  pub known : (x : ℕ) → in_returns s.frames.live x ≡ true → s.frames.marked x ≡ false
+
+pub traced-agree : (hides : Bool) (i : Inst) (s : State) (regs bytes reading : ℕ → ℕ) → AreOther hides s regs bytes reading → MayDo i s → AreActionsAlike hides (traced_action i s) (traced_action i (with_values s regs bytes reading))
+traced-agree hides i s regs bytes reading same may =
+    let t = with_values s regs bytes reading in
+    let a = action_of i s in
+    let b = action_of i t in
+    let allowed = allowed-by i s may.allowed in
+    let alike = action-agree hides i s regs bytes reading same may.known allowed.deciding allowed.special may.none in
+    let after = acted-agree hides s t a b (action-contained i s may.allowed may.none) (action_readable i s may.none) alike (agree-by hides s t regs bytes reading refl same) in
+    let pc : b.pc ≡ a.pc = ap (λ (x : Action). x.pc) alike.rest in
+    let left : trace_left i t b (acted t b).trace ≡ trace_left i s a (acted s a).trace =
+    ap (λ (x : TraceControls). trace_left i t b x) (ap (λ (x : State). x.trace) after.rest)
+    ∙ ap (λ (x : Seen). trace_of (acted s a).trace.tc s.pc i x (acted s a).trace.breaks) (seen-same hides i s regs bytes reading a b same.regs allowed.deciding pc) in
+    trace-alike hides a b (trace_left i s a (acted s a).trace) (trace_left i t b (acted t b).trace) left alike
+
+-- ---- records
+
+-- a kind of record does what is alike
+pub record IsKindAlike (hides : Bool) (k : Kind) (s t : State) : Type 0 where
+  pub words : told k t ≡ told k s
+  pub action : AreActionsAlike hides (action_by_kind k s) (action_by_kind k t)
+  pub access : access_by_kind k t ≡ access_by_kind k s
+  pub inside : IsContained s (action_by_kind k s)
+  pub readable : IsReadable (moved s (action_by_kind k s)) (action_by_kind k s).control
+
+-- what is due after a kind of record
+kind-due : (hides : Bool) (k : Kind) (s : State) (regs bytes reading : ℕ → ℕ) → IsContained s (action_by_kind k s) → AreActionsAlike hides (action_by_kind k s) (action_by_kind k (with_values s regs bytes reading)) → due_by k (with_values s regs bytes reading) ≡ due_by k s
+kind-due hides (Instruction i) s regs bytes reading inside alike =
+    let t = with_values s regs bytes reading in
+    let a = traced_action i s in
+    let b = traced_action i t in
+    let trace : b.trace ≡ a.trace = ap (λ (x : Action). x.trace) alike.rest in
+    ap (due_in t b.trace) (exit-same hides s regs bytes reading a b inside alike)
+    ∙ ap (λ (o : Option Trace). due_in t o (exit_in s a)) trace
+    ∙ due-in-same s regs bytes reading a.trace (exit_in s a)
+kind-due hides (Faulted inst fault) s regs bytes reading inside alike = refl
+kind-due hides (Entered x) s regs bytes reading inside alike = refl
+kind-due hides (Interrupted c x) s regs bytes reading inside alike = refl
+kind-due hides (Reached x u) s regs bytes reading inside alike = refl
+
+record-agree : (hides : Bool) (k : Kind) (s t : State) → IsKindAlike hides k s t → Agree hides s t → DoAgree hides (record_of k s) (record_of k t)
+record-agree hides k s t alike agree = record {
+  kind = refl;
+  before = agree;
+  words = alike.words;
+  action = alike.action;
+  after = counted-agree hides (counts_of k) (acted s (action_by_kind k s)) (acted t (action_by_kind k t)) (acted-agree hides s t (action_by_kind k s) (action_by_kind k t) alike.inside alike.readable alike.action agree);
+  access = alike.access;
+  due = subst (λ (u : State). due_by k u ≡ due_by k s) (sym agree.rest)
+      (kind-due hides k s t.regs t.memory.bytes t.reading alike.inside (subst (λ (u : State). AreActionsAlike hides (action_by_kind k s) (action_by_kind k u)) agree.rest alike.action));
+  out = port-alike hides s (action_by_kind k s) (action_by_kind k t) CONSOLE alike.inside alike.action refl;
+}
+
+-- no byte that it writes is marked
+unmarked-inside : (f : Frames) → AreInside f []
+unmarked-inside f = λ x t. absurd cc
+
+faulting-alike : (hides : Bool) (inst : Option Inst) (fault : Fault) (words : ℕ) (s : State) (regs bytes reading : ℕ → ℕ) → told (Faulted inst fault) (with_values s regs bytes reading) ≡ told (Faulted inst fault) s → access_by_kind (Faulted inst fault) (with_values s regs bytes reading) ≡ access_by_kind (Faulted inst fault) s → IsKindAlike hides (Faulted inst fault) s (with_values s regs bytes reading)
+faulting-alike hides inst fault words s regs bytes reading told_same access = record {
+  words = told_same;
+  access = access;
+  action = alike-same hides (action_by_kind (Faulted inst fault) s) refl;
+  inside = record { whole = tt; lost = tt; stale = unmarked-inside s.frames };
+  readable = tt;
+}
+
+told-same : (hides : Bool) (s : State) (regs bytes reading : ℕ → ℕ) (words : ℕ) → AreOther hides s regs bytes reading → IsRead s words → told_words words (with_values s regs bytes reading) ≡ told_words words s
+told-same hides s regs bytes reading words same read = told_same s bytes words (hard-bytes hides s regs bytes reading same) read
+
+instruction-alike : (hides : Bool) (i : Inst) (s : State) (regs bytes reading : ℕ → ℕ) → AreOther hides s regs bytes reading → MayDo i s → IsRead s (words_of i) → IsKindAlike hides (Instruction i) s (with_values s regs bytes reading)
+unfolding moved
+instruction-alike hides i s regs bytes reading same may read = record {
+  words = told-same hides s regs bytes reading (words_of i) same read;
+  access = ap (λ (x : Access). Some x) (access-same hides i s regs bytes reading same.regs (allowed-by i s may.allowed).deciding).0;
+  action = traced-agree hides i s regs bytes reading same may;
+  inside = let here = action-contained i s may.allowed may.none in record { whole = here.whole; lost = here.lost; stale = here.stale };
+  readable = action_readable i s may.none;
+}
+
+push-contained : (s : State) (save : ℕ) → save_hazard s.frames save ≡ None → (x : ℕ) → has (picked wrapped save (byte_marks (saved_marks s))) x ≡ true → (is_beyond x ≡ false) × (in_bytes save FRAME_SIZE x ≡ true)
+push-contained s save safe = λ x t.
+    let here = (saved-lost s save).inside x t in
+    (within save FRAME_SIZE x here (port_hazard-none save FRAME_SIZE x (save_hazard-none s.frames save safe).1 here), here)
+
+-- a push with bytes that are written
+pushing-writes : (hides : Bool) (s : State) (regs bytes reading : ℕ → ℕ) (p : Push) (back next pc : ℕ) (check : Bool) (i : Interrupts) (ps qs : List (ℕ × ℕ)) → qs ≡ ps → AgreeBeside hides s regs
+    → AreActionsAlike hides (record (pushing s p back next) { writes = ps; pc = pc; check = check; interrupts = i }) (record (pushing (with_values s regs bytes reading) p back next) { writes = qs; pc = pc; check = check; interrupts = i })
+pushing-writes hides s regs bytes reading p back next pc check i ps qs e same =
+    let push = pushing-alike hides s regs bytes reading p back next same in
+    subst (λ (ws : List (ℕ × ℕ)). AreActionsAlike hides (record (pushing s p back next) { writes = ps; pc = pc; check = check; interrupts = i }) (record (pushing (with_values s regs bytes reading) p back next) { writes = ws; pc = pc; check = check; interrupts = i })) (sym e)
+    (record { rest = refl; sets = push.sets; writes = writes-same hides [] ps; move = push.move })
+
+entered-alike : (hides : Bool) (e : Entry) (s : State) (regs bytes reading : ℕ → ℕ) → AreOther hides s regs bytes reading → save_hazard s.frames e.push.save ≡ None → IsKindAlike hides (Entered e) s (with_values s regs bytes reading)
+entered-alike hides e s regs bytes reading same safe = record {
+  words = refl;
+  access = refl;
+  action = pushing-writes hides s regs bytes reading e.push s.ip e.target e.pc s.check s.interrupts _ _ (ap (upwards (record_address e.push.frame)) (stored_words_same s.memory bytes (record_address e.push.frame) e.words)) same.regs;
+  inside = record { whole = refl; lost = push-contained s e.push.save safe; stale = unmarked-inside (frames_after s.frames (entering e s).move) };
+  readable = tt;
+}
+
+interrupted-alike : (hides : Bool) (c : Chosen) (e : Entry) (s : State) (regs bytes reading : ℕ → ℕ) → AreOther hides s regs bytes reading → InterruptsFree s c e → IsKindAlike hides (Interrupted c e) s (with_values s regs bytes reading)
+interrupted-alike hides c e s regs bytes reading same free = record {
+  words = refl;
+  access = refl;
+  action = pushing-writes hides s regs bytes reading e.push s.ip e.target e.pc false (cleared c.cause s.interrupts) _ _ (entry_writes_same s bytes c e (hard-bytes hides s regs bytes reading same) free) same.regs;
+  inside = record { whole = refl; lost = push-contained s e.push.save free.enters.save; stale = unmarked-inside (frames_after s.frames (interrupting c e s).move) };
+  readable = tt;
+}
+
+reached-alike : (hides : Bool) (e : Event) (u : Received) (s : State) (regs bytes reading : ℕ → ℕ) → IsKindAlike hides (Reached e u) s (with_values s regs bytes reading)
+reached-alike hides e u s regs bytes reading = record { words = refl; access = refl; action = alike-same hides (action_by_kind (Reached e u) s) refl; inside = record { whole = tt; lost = tt; stale = unmarked-inside s.frames }; readable = tt }
+
+-- ---- what comes next
+
+standing-agree : (hides : Bool) (s : State) (regs bytes reading : ℕ → ℕ) (x : Standing) → Known s x → AreOther hides s regs bytes reading → ((x : ℕ) → in_returns s.frames.live x ≡ true → s.frames.marked x ≡ false)
+    → NextsAgree hides (next_by_standing s x) (next_by_standing (with_values s regs bytes reading) x)
+standing-agree hides s regs bytes reading (Meets a) k same known = refl
+standing-agree hides s regs bytes reading (Refused number) k same known =
+    record-agree hides (Faulted None (fault_at s number)) s (with_values s regs bytes reading) (faulting-alike hides None (fault_at s number) 1 s regs bytes reading (told-same hides s regs bytes reading 1 same k) refl) (agree-by hides s (with_values s regs bytes reading) regs bytes reading refl same)
+standing-agree hides s regs bytes reading (Faults i number) k same known =
+    record-agree hides (Faulted (Some i) (fault_at s number)) s (with_values s regs bytes reading) (faulting-alike hides (Some i) (fault_at s number) (words_of i) s regs bytes reading (told-same hides s regs bytes reading (words_of i) same k.0) (ap (λ (x : Access). Some x) (access-same hides i s regs bytes reading same.regs (allowed-by i s k.1).deciding).0)) (agree-by hides s (with_values s regs bytes reading) regs bytes reading refl same)
+standing-agree hides s regs bytes reading (Runs i) k same known =
+    record-agree hides (Instruction i) s (with_values s regs bytes reading) (instruction-alike hides i s regs bytes reading same (record { allowed = k.2; none = k.1; known = known }) k.0) (agree-by hides s (with_values s regs bytes reading) regs bytes reading refl same)
+
+entry-same : (hides : Bool) (s : State) (regs bytes reading : ℕ → ℕ) (fault : Fault) → AreOther hides s regs bytes reading → entry_in (with_values s regs bytes reading) fault ≡ entry_in s fault
+unfolding entry_in
+entry-same hides s regs bytes reading fault same =
+    ap (planned_fault_by (with_other s.memory bytes) s.frames s.tables.fault_table s.tables.system_table fault s.pc s.ac (regs FP) (regs SP)) (areas-same hides s regs bytes reading same.regs)
+    ∙ planned_fault_by_same s.frames s.memory bytes s.tables.fault_table s.tables.system_table fault s.pc s.ac (s.regs FP) (s.regs SP) (regs FP) (regs SP) (area_hazard s) (hard-bytes hides s regs bytes reading same) (push-known hides s regs same.regs)
+
+entry-safe : (s : State) (fault : Fault) (e : Entry) → entry_in s fault ≡ Ok e → save_hazard s.frames e.push.save ≡ None
+unfolding entry_in
+entry-safe s fault e is = (enters_free_by s.memory s.frames s.tables.fault_table s.tables.system_table fault s.pc s.ac (s.regs FP) (s.regs SP) (area_hazard s) e (area_save s) is).save
+
+entry-agree : (hides : Bool) (s : State) (regs bytes reading : ℕ → ℕ) (fault : Fault) (o : Result Entry FaultStop) → entry_in s fault ≡ o → AreOther hides s regs bytes reading → NextsAgree hides (next_by_entry s o) (next_by_entry (with_values s regs bytes reading) o)
+entry-agree hides s regs bytes reading fault (Ok e) is same =
+    record-agree hides (Entered e) s (with_values s regs bytes reading) (entered-alike hides e s regs bytes reading same (entry-safe s fault e is)) (agree-by hides s (with_values s regs bytes reading) regs bytes reading refl same)
+entry-agree hides s regs bytes reading fault (Err (stops.Hazard a)) is same = refl
+entry-agree hides s regs bytes reading fault (Err (stops.Dead code a)) is same = refl
+
+received-same : (hides : Bool) (s : State) (regs bytes reading : ℕ → ℕ) (e : Event) → AreOther hides s regs bytes reading → received_in (with_values s regs bytes reading) e ≡ received_in s e
+unfolding received_in
+received-same hides s regs bytes reading e same = events_alone e ∙ received_same s bytes e (hard-bytes hides s regs bytes reading same)
+  where
+    events_alone : (e : Event) → received_in (with_values s regs bytes reading) e ≡ received_in (with_memory s bytes) e
+    events_alone (events.Pin x) = refl
+    events_alone (events.Low x) = refl
+    events_alone (events.High x) = refl
+    events_alone events.Nmi = refl
+    events_alone (events.Dma c) = refl
+    events_alone (events.Feed c given) = refl
+    events_alone (events.Show a n) = refl
+
+reached-agree : (hides : Bool) (e : Event) (p : Result Received ℕ) (s : State) (regs bytes reading : ℕ → ℕ) → AreOther hides s regs bytes reading → NextsAgree hides (next_by_received s e p) (next_by_received (with_values s regs bytes reading) e p)
+reached-agree hides e (Ok u) s regs bytes reading same =
+    let t = with_values s regs bytes reading in
+    record-agree hides (Reached e u) s t (reached-alike hides e u s regs bytes reading) (agree-by hides s t regs bytes reading refl same)
+reached-agree hides e (Err a) s regs bytes reading same = refl
+
+event-agree : (hides : Bool) (stands : Option Event) (s : State) (regs bytes reading : ℕ → ℕ) → AreOther hides s regs bytes reading → ((x : ℕ) → in_returns s.frames.live x ≡ true → s.frames.marked x ≡ false)
+    → NextsAgree hides (next_by_event stands s) (next_by_event stands (with_values s regs bytes reading))
+event-agree hides (Some e) s regs bytes reading same known =
+    let t = with_values s regs bytes reading in
+    subst (λ (p : Result Received ℕ). NextsAgree hides (next_by_received s e (received_in s e)) (next_by_received t e p)) (sym (received-same hides s regs bytes reading e same))
+    (reached-agree hides e (received_in s e) s regs bytes reading same)
+event-agree hides None s regs bytes reading same known =
+    let t = with_values s regs bytes reading in
+    subst (λ (x : Standing). NextsAgree hides (next_by_standing s (stands_at s)) (next_by_standing t x)) (sym (stands-same hides s regs bytes reading same)) (standing-agree hides s regs bytes reading (stands_at s) (known_here s) same known)
+
+interrupt-same : (hides : Bool) (s : State) (regs bytes reading : ℕ → ℕ) (c : Chosen) → AreOther hides s regs bytes reading → interrupt_in (with_values s regs bytes reading) c ≡ interrupt_in s c
+unfolding interrupt_in
+interrupt-same hides s regs bytes reading c same =
+    ap (planned_interrupt_by (with_other s.memory bytes) s.frames s.tables.interrupt_table s.tables.interrupt_stack c s.pc s.ac (regs FP) (regs SP)) (areas-same hides s regs bytes reading same.regs)
+    ∙ planned_by_same s.frames s.memory bytes s.tables.interrupt_table s.tables.interrupt_stack c s.pc s.ac (s.regs FP) (s.regs SP) (regs FP) (regs SP) (area_hazard s) (hard-bytes hides s regs bytes reading same) (push-known hides s regs same.regs)
+
+interrupt-agree : (hides : Bool) (s : State) (regs bytes reading : ℕ → ℕ) (c : Chosen) (o : Result Entry ℕ) → interrupt_in s c ≡ o → AreOther hides s regs bytes reading → NextsAgree hides (next_by_interrupt s c o) (next_by_interrupt (with_values s regs bytes reading) c o)
+interrupt-agree hides s regs bytes reading c (Ok e) is same =
+    record-agree hides (Interrupted c e) s (with_values s regs bytes reading) (interrupted-alike hides c e s regs bytes reading same (interrupts_free s c e is)) (agree-by hides s (with_values s regs bytes reading) regs bytes reading refl same)
+interrupt-agree hides s regs bytes reading c (Err a) is same = refl
+
+choice-agree : (hides : Bool) (stands : Option Event) (s : State) (regs bytes reading : ℕ → ℕ) (o : Result (Option Chosen) ℕ) → AreOther hides s regs bytes reading → ((x : ℕ) → in_returns s.frames.live x ≡ true → s.frames.marked x ≡ false)
+    → NextsAgree hides (next_by_choice stands s o) (next_by_choice stands (with_values s regs bytes reading) o)
+choice-agree hides stands s regs bytes reading (Ok (Some c)) same known =
+    let t = with_values s regs bytes reading in
+    subst (λ (o : Result Entry ℕ). NextsAgree hides (next_by_interrupt s c (interrupt_in s c)) (next_by_interrupt t c o)) (sym (interrupt-same hides s regs bytes reading c same)) (interrupt-agree hides s regs bytes reading c (interrupt_in s c) refl same)
+choice-agree hides stands s regs bytes reading (Ok None) same known = event-agree hides stands s regs bytes reading same known
+choice-agree hides stands s regs bytes reading (Err a) same known = refl
+
+choice-same : (hides : Bool) (s : State) (regs bytes reading : ℕ → ℕ) → AreOther hides s regs bytes reading → choice_in (with_values s regs bytes reading) ≡ choice_in s
+unfolding choice_in
+choice-same hides s regs bytes reading same = choice_same s bytes (hard-bytes hides s regs bytes reading same)
+
+length-agree : (hides b : Bool) (stands : Option Event) (s : State) (regs bytes reading : ℕ → ℕ) → AreOther hides s regs bytes reading → ((x : ℕ) → in_returns s.frames.live x ≡ true → s.frames.marked x ≡ false)
+    → NextsAgree hides (cond b (Ends (finish Limit)) (next_by_choice stands s (choice_in s))) (cond b (Ends (finish Limit)) (next_by_choice stands (with_values s regs bytes reading) (choice_in (with_values s regs bytes reading))))
+length-agree hides true stands s regs bytes reading same known = refl
+length-agree hides false stands s regs bytes reading same known =
+    let t = with_values s regs bytes reading in
+    subst (λ (o : Result (Option Chosen) ℕ). NextsAgree hides (next_by_choice stands s (choice_in s)) (next_by_choice stands t o)) (sym (choice-same hides s regs bytes reading same)) (choice-agree hides stands s regs bytes reading (choice_in s) same known)
+
+due-agree : (hides : Bool) (limit : ℕ) (due : Due) (stands : Option Event) (s : State) (regs bytes reading : ℕ → ℕ) → AreOther hides s regs bytes reading → ((x : ℕ) → in_returns s.frames.live x ≡ true → s.frames.marked x ≡ false)
+    → NextsAgree hides (next_in limit due stands s) (next_in limit due stands (with_values s regs bytes reading))
+due-agree hides limit (dues.End f) stands s regs bytes reading same known = refl
+due-agree hides limit (dues.Entry fault) stands s regs bytes reading same known =
+    let t = with_values s regs bytes reading in
+    subst (λ (o : Result Entry FaultStop). NextsAgree hides (next_by_entry s (entry_in s fault)) (next_by_entry t o)) (sym (entry-same hides s regs bytes reading fault same)) (entry-agree hides s regs bytes reading fault (entry_in s fault) refl same)
+due-agree hides limit dues.Nothing stands s regs bytes reading same known = length-agree hides (eqb s.count limit) stands s regs bytes reading same known
+
+-- what comes next in states that agree, where their frames are sound
+pub next-agree : (hides : Bool) (limit : ℕ) (due : Due) (stands : Option Event) (s t : State) → IsSound s.frames → Agree hides s t → NextsAgree hides (next_in limit due stands s) (next_in limit due stands t)
+next-agree hides limit due stands s t sound agree =
+    subst (λ (u : State). NextsAgree hides (next_in limit due stands s) (next_in limit due stands u)) (sym agree.rest) (due-agree hides limit due stands s t.regs t.memory.bytes t.reading (others hides s t agree) sound.known)
+
+-- ---- what is shown
+
+pub overlay-agree : (s t : State) (a : ℕ) → Agree true s t → overlay t a ≡ overlay s a
+unfolding overlay
+overlay-agree s t a agree = ap (λ (u : State). overlay u a) agree.rest ∙ by_cases (in_port_page a) (nat_le address_count a) (s.frames.soft a) (is_kept s.frames a) (agree.bytes a)
+  where
+    by_cases : (port high soft kept : Bool) → ((((port || high) || not soft) || kept) ≡ true → t.memory.bytes a ≡ s.memory.bytes a)
+        → cond port (Some 0) (cond (soft && not kept) None (Some (t.memory.bytes a))) ≡ cond port (Some 0) (cond (soft && not kept) None (Some (s.memory.bytes a)))
+    by_cases true high soft kept e = refl
+    by_cases false high true false e = refl
+    by_cases false true soft kept e = ap (λ (b : ℕ). cond (soft && not kept) None (Some b)) (e refl)
+    by_cases false false false kept e = ap (λ (b : ℕ). Some b) (e refl)
+    by_cases false false true true e = ap (λ (b : ℕ). Some b) (e refl)

@@ -1,0 +1,106 @@
+-- In states that are alike the accesses of an instruction meet the same hazard, and without one it does the same.
+use Rattle.std.proofs.Common.{◌≡◌, ℕ, ◌+◌, ◌%◌, Bool, true, false, cond, [], ◌∷◌, Option, Some, None, refl, ap, ◌∙◌, arith}
+use Rattle.std.specs.Prelude.{not, bit_and}
+use Rattle.std.proofs.lemmas.Bool.{or_left}
+use Rattle.i9_model.specs.declared.layout.TheConstants.{PC_MASK, AC_MASK}
+use Rattle.i9_model.specs.Writes.{wrapped}
+use Rattle.i9_model.specs.Memory.{Memory, word_in}
+use Rattle.i9_model.specs.State.{Frames}
+use Rattle.i9_model.specs.Frames.{in_frames}
+use Rattle.i9_model.specs.Requests.{with_bit, vector_priority, priority_place, pending_place, byte_hazard, request_hazard, request_writes}
+use Rattle.i9_model.specs.Hazards.{or_else, read_hazard}
+use Rattle.i9_model.specs.Calls.{save_area, system_hazard_by, entry_address, stack_address, is_switch, stack_hazard, system_hazard, entered_here, entered_switched, system_entered, record_address, takes_record, record_hazard, controls_hazard, returned_pc, returned_ac, in_supervisor_mode, leaves_supervisor, without_supervisor}
+use Rattle.i9_model.specs.Alike.{is_hard, is_compared, AgreeWhere, with_other}
+use Rattle.i9_model.proofs.CallLaws.{first_none, second_none}
+use Rattle.i9_model.proofs.Readings.{word_same, first_same}
+
+pub hard_bytes : (f : Frames) (m : Memory) (bytes : ℕ → ℕ) → AgreeWhere (is_compared f) m bytes → AgreeWhere (is_hard f) m bytes
+hard_bytes f m bytes same = λ x h. same x (or_left (is_hard f x) (in_frames f.live x) h)
+
+-- ---- system procedures
+
+pub or_else_same : (o p q : Option ℕ) → (o ≡ None → p ≡ q) → or_else o p ≡ or_else o q
+or_else_same None p q h = h refl
+or_else_same (Some a) p q h = refl
+
+pub system_hazard_by_same : (f : Frames) (m : Memory) (bytes : ℕ → ℕ) (table n pc : ℕ) (area : Bool → Option ℕ) → AgreeWhere (is_hard f) m bytes → system_hazard_by (with_other m bytes) f table n pc area ≡ system_hazard_by m f table n pc area
+system_hazard_by_same f m bytes table n pc area same =
+    let at = entry_address table n in
+    or_else_same (read_hazard f at 4) _ _ (λ none.
+    ap (λ (w : ℕ). or_else (stack_hazard f table (is_switch w pc)) (area (is_switch w pc))) (word_same f m bytes at 4 same none (omega arith)))
+
+pub system_hazard_same : (f : Frames) (m : Memory) (bytes : ℕ → ℕ) (table n pc fp : ℕ) → AgreeWhere (is_hard f) m bytes → system_hazard (with_other m bytes) f table n pc fp ≡ system_hazard m f table n pc fp
+unfolding system_hazard
+system_hazard_same f m bytes table n pc fp same = system_hazard_by_same f m bytes table n pc (save_area f fp) same
+
+-- where nothing is found of a push, these are the values of fp, and of sp where the frame is on the stack in use
+abbrev pub AreKnown : (Bool → Option ℕ) → ℕ → ℕ → ℕ → ℕ → Type 0
+AreKnown area fp sp fp2 sp2 = (b : Bool) → area b ≡ None → (fp2 ≡ fp) × (b ≡ false → sp2 ≡ sp)
+
+entered_same : (f : Frames) (m : Memory) (bytes : ℕ → ℕ) (table entry pc fp sp fp2 sp2 extra : ℕ) (kind : Bool → ℕ) (switched : Bool) → AgreeWhere (is_hard f) m bytes → stack_hazard f table switched ≡ None → fp2 ≡ fp → (switched ≡ false → sp2 ≡ sp)
+    → cond switched (entered_switched entry (word_in (with_other m bytes) (stack_address table)) pc fp2 extra (kind true)) (entered_here entry pc fp2 sp2 extra (kind false))
+    ≡ cond switched (entered_switched entry (word_in m (stack_address table)) pc fp extra (kind true)) (entered_here entry pc fp sp extra (kind false))
+entered_same f m bytes table entry pc fp sp fp2 sp2 extra kind false same none one two =
+    ap (λ (x : ℕ). entered_here entry pc x sp2 extra (kind false)) one ∙ ap (λ (x : ℕ). entered_here entry pc fp x extra (kind false)) (two refl)
+entered_same f m bytes table entry pc fp sp fp2 sp2 extra kind true same none one two =
+    ap (λ (w : ℕ). entered_switched entry w pc fp2 extra (kind true)) (word_same f m bytes (stack_address table) 4 same none (omega arith))
+    ∙ ap (λ (x : ℕ). entered_switched entry (word_in m (stack_address table)) pc x extra (kind true)) one
+
+pub system_by_same : (f : Frames) (m : Memory) (bytes : ℕ → ℕ) (table n pc fp sp fp2 sp2 extra : ℕ) (kind : Bool → ℕ) (area : Bool → Option ℕ) → AgreeWhere (is_hard f) m bytes → AreKnown area fp sp fp2 sp2 → system_hazard_by m f table n pc area ≡ None
+    → system_entered (with_other m bytes) table n pc fp2 sp2 extra kind ≡ system_entered m table n pc fp sp extra kind
+unfolding system_entered
+system_by_same f m bytes table n pc fp sp fp2 sp2 extra kind area same known none =
+    let at = entry_address table n in
+    let entry = word_in m at in
+    let switched = is_switch entry pc in
+    let stack = stack_hazard f table switched in
+    let read = first_none (read_hazard f at 4) (or_else stack (area switched)) none in
+    let stack_read = first_none stack (area switched) (second_none (read_hazard f at 4) (or_else stack (area switched)) none) in
+    let push = known switched (second_none stack (area switched) (second_none (read_hazard f at 4) (or_else stack (area switched)) none)) in
+    ap (λ (w : ℕ). cond (is_switch w pc) (entered_switched w (word_in (with_other m bytes) (stack_address table)) pc fp2 extra (kind true)) (entered_here w pc fp2 sp2 extra (kind false))) (word_same f m bytes at 4 same read (omega arith))
+    ∙ entered_same f m bytes table entry pc fp sp fp2 sp2 extra kind switched same stack_read push.0 push.1
+
+pub system_same : (f : Frames) (m : Memory) (bytes : ℕ → ℕ) (table n pc fp sp extra : ℕ) (kind : Bool → ℕ) → AgreeWhere (is_hard f) m bytes → system_hazard m f table n pc fp ≡ None
+    → system_entered (with_other m bytes) table n pc fp sp extra kind ≡ system_entered m table n pc fp sp extra kind
+unfolding system_hazard
+system_same f m bytes table n pc fp sp extra kind same none = system_by_same f m bytes table n pc fp sp fp sp extra kind (save_area f fp) same (λ b e. (refl, λ d. refl)) none
+
+pub saved_pc_same : (f : Frames) (m : Memory) (bytes : ℕ → ℕ) (kind fp pc : ℕ) → AgreeWhere (is_hard f) m bytes → controls_hazard f kind fp ≡ None → returned_pc (with_other m bytes) kind fp pc ≡ returned_pc m kind fp pc
+saved_pc_same f m bytes kind fp pc same none = by_record (in_supervisor_mode pc) (takes_record kind) none
+  where
+    a : ℕ
+    a = record_address fp
+
+    by_record : (supervisor takes : Bool) → cond takes (record_hazard f fp) None ≡ None
+        → cond (not supervisor) pc (cond takes (bit_and (word_in (with_other m bytes) a) PC_MASK) (cond (leaves_supervisor kind) (without_supervisor pc (kind % 2)) pc))
+        ≡ cond (not supervisor) pc (cond takes (bit_and (word_in m a) PC_MASK) (cond (leaves_supervisor kind) (without_supervisor pc (kind % 2)) pc))
+    by_record false takes e = refl
+    by_record true false e = refl
+    by_record true true e = ap (λ (w : ℕ). bit_and w PC_MASK) (word_same f m bytes a 4 same (first_none (read_hazard f a 4) (read_hazard f (wrapped (a + 4)) 4) e) (omega arith))
+
+pub saved_ac_same : (f : Frames) (m : Memory) (bytes : ℕ → ℕ) (kind fp ac : ℕ) → AgreeWhere (is_hard f) m bytes → controls_hazard f kind fp ≡ None → returned_ac (with_other m bytes) kind fp ac ≡ returned_ac m kind fp ac
+saved_ac_same f m bytes kind fp ac same none = by_record (takes_record kind) none
+  where
+    a : ℕ
+    a = record_address fp
+
+    by_record : (takes : Bool) → cond takes (record_hazard f fp) None ≡ None
+        → cond takes (bit_and (word_in (with_other m bytes) (wrapped (a + 4))) AC_MASK) ac ≡ cond takes (bit_and (word_in m (wrapped (a + 4))) AC_MASK) ac
+    by_record false e = refl
+    by_record true e = ap (λ (w : ℕ). bit_and w AC_MASK) (word_same f m bytes (wrapped (a + 4)) 4 same (second_none (read_hazard f a 4) (read_hazard f (wrapped (a + 4)) 4) e) (omega arith))
+
+-- ---- requests
+
+-- a request changes two bytes that are read
+pub request_same : (f : Frames) (m : Memory) (bytes : ℕ → ℕ) (table v : ℕ) → AgreeWhere (is_hard f) m bytes → request_hazard f table v ≡ None → request_writes (with_other m bytes) table v ≡ request_writes m table v
+unfolding request_hazard request_writes
+request_same f m bytes table v same none =
+    let p = priority_place table v in
+    let q = pending_place table v in
+    let one = read_hazard f p 1 in
+    let two = read_hazard f q 1 in
+    let written = or_else (byte_hazard f p) (byte_hazard f q) in
+    let first : bytes p ≡ m.bytes p = first_same f m bytes p 1 same (first_none one (or_else two written) none) (omega arith) in
+    let second : bytes q ≡ m.bytes q = first_same f m bytes q 1 same (first_none two written (second_none one (or_else two written) none)) (omega arith) in
+    ap (λ (b : ℕ). (p, with_bit b (vector_priority v % 8)) ∷ (q, with_bit (bytes q) (v % 8)) ∷ []) first
+    ∙ ap (λ (b : ℕ). (p, with_bit (m.bytes p) (vector_priority v % 8)) ∷ (q, with_bit b (v % 8)) ∷ []) second

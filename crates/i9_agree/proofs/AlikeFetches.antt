@@ -1,0 +1,182 @@
+-- In states that are alike every hazard is the same, and so is what stands at the instruction address, and how a
+-- fault is entered.
+use Rattle.std.proofs.Common.{◌≡◌, ℕ, ◌+◌, Bool, true, false, cond, eqb, nat_le, Option, Some, None, Result, Ok, Err, refl, sym, ap, ◌∙◌, inl, inr, arith}
+use Rattle.std.specs.Prelude.{not, ◌&&◌, ◌||◌, ◌⊎◌}
+use Rattle.std.proofs.lemmas.Bool.{eqb-true}
+use Rattle.i9_isa.specs.declared.inst.Mode.{Mode}
+use Rattle.i9_isa.specs.declared.inst.Mode.TheVariants.{Offset, BaseOffset, Base, Ip, BaseIndex, Disp, BaseDisp, IndexDisp, BaseIndexDisp}
+use Rattle.i9_isa.specs.declared.inst.Inst.{Inst}
+use Rattle.i9_isa.specs.declared.inst.BadWord.{BadWord}
+use Rattle.i9_isa.specs.Words.{words_of_mode, words_of, decoded}
+use Rattle.i9_model.specs.declared.layout.TheConstants.{RECORD_SIZE, FAULT_RETURN, MOST_SYSTEM_CALL, PRCB_SIZE, CONTROL_TABLE_SIZE}
+use Rattle.i9_model.specs.declared.calls.Sys.{Sys}
+use Rattle.i9_model.specs.declared.calls.Pop.{Pop}
+use Rattle.i9_model.specs.declared.calls.CallsStop.TheVariants.{Length}
+use Rattle.i9_model.specs.declared.faults.Fault.{Fault}
+use Rattle.i9_model.specs.declared.faults.Handler.{Handler}
+use Rattle.i9_model.specs.declared.faults.Handler.TheVariants.{Local, System}
+use Rattle.i9_model.specs.declared.faults.FaultStop.{FaultStop}
+use Rattle.i9_model.specs.Writes.{wrapped}
+use Rattle.i9_model.specs.Memory.{Memory, word_in}
+use Rattle.i9_model.specs.State.{State, Frames}
+use Rattle.i9_model.specs.Frames.{rounded_down, in_frames, flushed}
+use Rattle.i9_model.specs.Hazards.{unless, read_hazard, return_hazard}
+use Rattle.i9_model.specs.Tables.{tables_hazard}
+use Rattle.i9_model.specs.Calls.{save_area, system_hazard_by, entered_here, system_hazard, system_entered, planned_system, planned_calls, calls_answer, call_type, planned_ret, popped, ret_hazard, return_type, controls_hazard, returned_pc, returned_ac}
+use Rattle.i9_model.specs.Faults.{◌>>=◌, or_stop, table_entry, checked_word, planned_handler, planned_frame, planned_fault, planned_fault_by}
+use Rattle.i9_model.specs.Step.{first_word, next_word}
+use Rattle.i9_model.specs.Access.{second_hazard, fetch_hazard}
+use Rattle.i9_model.specs.Alike.{is_beyond, is_hard, is_compared, AgreeWhere, with_other, with_memory, told_words}
+use Rattle.i9_model.proofs.CallLaws.{first_none}
+use Rattle.i9_model.proofs.Readings.{read_same, inner_word_same, word_same}
+use Rattle.i9_agree.proofs.AlikeActions.{or_else_same, AreKnown, system_hazard_by_same, system_by_same, system_hazard_same, system_same, saved_pc_same, saved_ac_same}
+use Rattle.i9_agree.proofs.SecondWords.{AreOfWord, decoded_alike}
+use Rattle.i9_past.proofs.Stands.{IsRead}
+
+-- ---- as after a flush
+
+pub flushed_compared : (f : Frames) (x : ℕ) → is_hard (flushed f) x ≡ true → is_compared f x ≡ true
+flushed_compared f x h = by_cases (is_beyond x) (f.soft x) (f.marked x) (in_frames f.live x) h
+  where
+    by_cases : (beyond soft m live : Bool) → (beyond || not (soft && not (cond (not m) live false))) ≡ true → ((beyond || not soft) || live) ≡ true
+    by_cases true soft m live h = refl
+    by_cases false false m live h = refl
+    by_cases false true false true h = refl
+    by_cases false true true live h = absurd cc
+    by_cases false true false false h = absurd cc
+
+pub flushed_hard : (f : Frames) (m : Memory) (bytes : ℕ → ℕ) → AgreeWhere (is_compared f) m bytes → AgreeWhere (is_hard (flushed f)) m bytes
+flushed_hard f m bytes same = λ x h. same x (flushed_compared f x h)
+
+pub tables_hazard_same : (f : Frames) (m : Memory) (bytes : ℕ → ℕ) (prcb : ℕ) → AgreeWhere (is_hard f) m bytes → tables_hazard (with_other m bytes) f prcb ≡ tables_hazard m f prcb
+unfolding tables_hazard
+tables_hazard_same f m bytes prcb same =
+    or_else_same (read_hazard f prcb PRCB_SIZE) _ _ (λ none.
+    ap (λ (w : ℕ). read_hazard f w CONTROL_TABLE_SIZE) (inner_word_same m bytes prcb PRCB_SIZE 4 (read_same f m bytes prcb PRCB_SIZE same none) (omega arith)))
+
+-- ---- the fetch
+
+pub first_word_same : (s : State) (bytes : ℕ → ℕ) → AgreeWhere (is_hard s.frames) s.memory bytes → read_hazard s.frames s.ip 4 ≡ None → first_word (with_memory s bytes) ≡ first_word s
+first_word_same s bytes same none = word_same s.frames s.memory bytes s.ip 4 same none (omega arith)
+
+second_hazard_same : (s : State) (bytes : ℕ → ℕ) (r q : Result Inst BadWord) → AreOfWord r q → second_hazard (with_memory s bytes) q ≡ second_hazard s r
+second_hazard_same s bytes (Ok i) (Ok j) h = ap (λ (n : ℕ). cond (eqb n 2) (read_hazard s.frames (wrapped (s.ip + 4)) 4) None) h.0
+second_hazard_same s bytes (Err e) (Err d) h = refl
+second_hazard_same s bytes (Ok i) (Err d) h = absurd h
+second_hazard_same s bytes (Err e) (Ok j) h = absurd h
+
+pub fetch_hazard_same : (s : State) (bytes : ℕ → ℕ) → AgreeWhere (is_hard s.frames) s.memory bytes → fetch_hazard (with_memory s bytes) ≡ fetch_hazard s
+unfolding fetch_hazard
+fetch_hazard_same s bytes same =
+    let t = with_memory s bytes in
+    or_else_same (read_hazard s.frames s.ip 4) _ _ (λ none.
+    ap (λ (w : ℕ). second_hazard t (decoded w (next_word t))) (first_word_same s bytes same none)
+    ∙ second_hazard_same s bytes (decoded (first_word s) (next_word s)) (decoded (first_word s) (next_word t)) (decoded_alike (first_word s) (next_word s) (next_word t)))
+
+-- an instruction has one word or two
+one_or_two : (i : Inst) → (words_of i ≡ 1) ⊎ (words_of i ≡ 2)
+one_or_two i = by_mode i.ea.mode
+  where
+    by_mode : (m : Mode) → (words_of_mode m ≡ 1) ⊎ (words_of_mode m ≡ 2)
+    by_mode Offset = inl refl
+    by_mode BaseOffset = inl refl
+    by_mode Base = inl refl
+    by_mode BaseIndex = inl refl
+    by_mode Ip = inr refl
+    by_mode Disp = inr refl
+    by_mode BaseDisp = inr refl
+    by_mode IndexDisp = inr refl
+    by_mode BaseIndexDisp = inr refl
+
+-- where the second word isn't read it doesn't matter, and where it is, it is the same
+pub decoded_same : (s : State) (bytes : ℕ → ℕ) (r q : Result Inst BadWord) → AgreeWhere (is_hard s.frames) s.memory bytes → AreOfWord r q → second_hazard s r ≡ None → (next_word (with_memory s bytes) ≡ next_word s → q ≡ r) → q ≡ r
+decoded_same s bytes (Err e) (Err d) same h none next = ap (λ (x : BadWord). Err x) h
+decoded_same s bytes (Ok i) (Err d) same h none next = absurd h
+decoded_same s bytes (Err e) (Ok j) same h none next = absurd h
+decoded_same s bytes (Ok i) (Ok j) same h none next = elim (one_or_two i) [
+  | inl one ↦ ap (λ (x : Inst). Ok x) (h.1 one)
+  | inr two ↦
+      let a = wrapped (s.ip + 4) in
+      let read : read_hazard s.frames a 4 ≡ None = sym (ap (λ (n : ℕ). cond (eqb n 2) (read_hazard s.frames a 4) None) two) ∙ none in
+      next (word_same s.frames s.memory bytes a 4 same read (omega arith))
+]
+
+-- ---- its words
+
+told_by : (n : ℕ) (b : Bool) (v w x y : ℕ) → eqb n 2 ≡ b → v ≡ w → (n ≡ 2 → x ≡ y) → ◌≡◌ {A = ℕ × ℕ} (v, cond b x 0) (w, cond b y 0)
+told_by n true v w x y t e f = let same : x ≡ y = f (eqb-true n 2 t) in λ i. (e i, same i)
+told_by n false v w x y t e f = λ i. (e i, 0)
+
+pub told_same : (s : State) (bytes : ℕ → ℕ) (words : ℕ) → AgreeWhere (is_hard s.frames) s.memory bytes → IsRead s words → told_words words (with_memory s bytes) ≡ told_words words s
+told_same s bytes words same read =
+    let t = with_memory s bytes in
+    told_by words (eqb words 2) (first_word t) (first_word s) (next_word t) (next_word s) refl (first_word_same s bytes same read.first)
+    (λ two. word_same s.frames s.memory bytes (wrapped (s.ip + 4)) 4 same (read.second two) (omega arith))
+
+-- ---- the entry of a fault
+
+bind_rest : {A B : Type 0} (r : Result A FaultStop) (f g : A → Result B FaultStop) → ((x : A) → g x ≡ f x) → (r >>= g) ≡ (r >>= f)
+bind_rest (Ok x) f g same = same x
+bind_rest (Err stop) f g same = refl
+
+pub bind_same : {A B : Type 0} (r q : Result A FaultStop) (f g : A → Result B FaultStop) → q ≡ r → ((x : A) → g x ≡ f x) → (q >>= g) ≡ (r >>= f)
+bind_same r q f g e same = ap (λ x. x >>= g) e ∙ bind_rest r f g same
+
+pub unless_same : {A : Type 0} (h : Option ℕ) (x y : A) → (h ≡ None → y ≡ x) → unless h y ≡ unless h x
+unless_same None x y same = ap (λ z. Ok z) (same refl)
+unless_same (Some a) x y same = refl
+
+checked_same : (f : Frames) (m : Memory) (bytes : ℕ → ℕ) (a : ℕ) → AgreeWhere (is_hard f) m bytes → checked_word (with_other m bytes) f a ≡ checked_word m f a
+checked_same f m bytes a same = ap or_stop (unless_same (read_hazard f a 4) (word_in m a) (word_in (with_other m bytes) a) (λ none. word_same f m bytes a 4 same none (omega arith)))
+
+pub handler_same : (f : Frames) (m : Memory) (bytes : ℕ → ℕ) (at : ℕ) → AgreeWhere (is_hard f) m bytes → planned_handler (with_other m bytes) f at ≡ planned_handler m f at
+unfolding planned_handler
+handler_same f m bytes at same =
+    bind_same _ _ _ _ (checked_same f m bytes at same) (λ first.
+    bind_same _ _ _ _ (checked_same f m bytes (wrapped (at + 4)) same) (λ second. refl))
+
+pub planned_system_same : (f : Frames) (m : Memory) (bytes : ℕ → ℕ) (table n pc fp sp extra : ℕ) (kind : Bool → ℕ) → AgreeWhere (is_hard f) m bytes
+    → planned_system (with_other m bytes) f table n pc fp sp extra kind ≡ planned_system m f table n pc fp sp extra kind
+planned_system_same f m bytes table n pc fp sp extra kind same =
+    ap (λ (h : Option ℕ). unless h (system_entered (with_other m bytes) table n pc fp sp extra kind)) (system_hazard_same f m bytes table n pc fp same)
+    ∙ unless_same (system_hazard m f table n pc fp) (system_entered m table n pc fp sp extra kind) (system_entered (with_other m bytes) table n pc fp sp extra kind) (λ none. system_same f m bytes table n pc fp sp extra kind same none)
+
+planned_frame_same : (f : Frames) (m : Memory) (bytes : ℕ → ℕ) (system pc fp sp fp2 sp2 : ℕ) (area : Bool → Option ℕ) (h : Handler) → AgreeWhere (is_hard f) m bytes → AreKnown area fp sp fp2 sp2 → planned_frame (with_other m bytes) f system pc fp2 sp2 area h ≡ planned_frame m f system pc fp sp area h
+unfolding planned_frame
+planned_frame_same f m bytes system pc fp sp fp2 sp2 area (Local target) same known =
+    unless_same (area false) (entered_here target pc fp sp RECORD_SIZE FAULT_RETURN) (entered_here target pc fp2 sp2 RECORD_SIZE FAULT_RETURN) (λ none.
+    let push = known false none in
+    ap (λ (x : ℕ). entered_here target pc x sp2 RECORD_SIZE FAULT_RETURN) push.0 ∙ ap (λ (x : ℕ). entered_here target pc fp x RECORD_SIZE FAULT_RETURN) (push.1 refl))
+planned_frame_same f m bytes system pc fp sp fp2 sp2 area (System n) same known =
+    ap (λ (h : Option ℕ). unless h (system_entered (with_other m bytes) system n pc fp2 sp2 RECORD_SIZE (λ _. FAULT_RETURN))) (system_hazard_by_same f m bytes system n pc area same)
+    ∙ unless_same (system_hazard_by m f system n pc area) (system_entered m system n pc fp sp RECORD_SIZE (λ _. FAULT_RETURN)) (system_entered (with_other m bytes) system n pc fp2 sp2 RECORD_SIZE (λ _. FAULT_RETURN)) (λ none.
+    system_by_same f m bytes system n pc fp sp fp2 sp2 RECORD_SIZE (λ _. FAULT_RETURN) area same known none)
+
+pub planned_fault_by_same : (f : Frames) (m : Memory) (bytes : ℕ → ℕ) (table system : ℕ) (fault : Fault) (pc ac fp sp fp2 sp2 : ℕ) (area : Bool → Option ℕ) → AgreeWhere (is_hard f) m bytes → AreKnown area fp sp fp2 sp2
+    → planned_fault_by (with_other m bytes) f table system fault pc ac fp2 sp2 area ≡ planned_fault_by m f table system fault pc ac fp sp area
+unfolding planned_fault_by
+planned_fault_by_same f m bytes table system fault pc ac fp sp fp2 sp2 area same known =
+    bind_same _ _ _ _ (handler_same f m bytes (table_entry table fault.kind) same) (λ handler.
+    bind_same _ _ _ _ (ap or_stop (planned_frame_same f m bytes system pc fp sp fp2 sp2 area handler same known)) (λ sys. refl))
+
+pub planned_fault_same : (f : Frames) (m : Memory) (bytes : ℕ → ℕ) (table system : ℕ) (fault : Fault) (pc ac fp sp : ℕ) → AgreeWhere (is_hard f) m bytes
+    → planned_fault (with_other m bytes) f table system fault pc ac fp sp ≡ planned_fault m f table system fault pc ac fp sp
+planned_fault_same f m bytes table system fault pc ac fp sp same = planned_fault_by_same f m bytes table system fault pc ac fp sp fp sp (save_area f fp) same (λ b none. (refl, λ e. refl))
+
+-- ---- calls and returns as they are planned
+
+pub planned_calls_same : (f : Frames) (m : Memory) (bytes : ℕ → ℕ) (table n pc fp sp : ℕ) → AgreeWhere (is_hard f) m bytes → planned_calls (with_other m bytes) f table n pc fp sp ≡ planned_calls m f table n pc fp sp
+planned_calls_same f m bytes table n pc fp sp same =
+    ap (λ (r : Result Sys ℕ). cond (nat_le n MOST_SYSTEM_CALL) (calls_answer r) (Err Length)) (planned_system_same f m bytes table n pc fp sp 0 (call_type pc) same)
+
+pub planned_ret_same : (f : Frames) (m : Memory) (bytes : ℕ → ℕ) (pfp fp pc ac : ℕ) → AgreeWhere (is_hard f) m bytes → planned_ret (with_other m bytes) f pfp fp pc ac ≡ planned_ret m f pfp fp pc ac
+unfolding popped ret_hazard
+planned_ret_same f m bytes pfp fp pc ac same =
+    let kind = return_type pfp in
+    unless_same (ret_hazard f pfp fp) (popped m f pfp fp pc ac) (popped (with_other m bytes) f pfp fp pc ac) (λ none.
+    let controls = first_none (controls_hazard f kind fp) (return_hazard f (rounded_down pfp)) none in
+    pop_by (popped m f pfp fp pc ac) (returned_pc (with_other m bytes) kind fp pc) (returned_pc m kind fp pc) (returned_ac (with_other m bytes) kind fp ac) (returned_ac m kind fp ac)
+    (saved_pc_same f m bytes kind fp pc same controls) (saved_ac_same f m bytes kind fp ac same controls))
+  where
+    pop_by : (p : Pop) (pc2 pc1 ac2 ac1 : ℕ) → pc2 ≡ pc1 → ac2 ≡ ac1 → record p { pc = pc2; ac = ac2 } ≡ record p { pc = pc1; ac = ac1 }
+    pop_by p pc2 pc1 ac2 ac1 e d = rw (e, d) refl

@@ -1,0 +1,141 @@
+-- The words of held frames stand in memory.
+use Rattle.std.proofs.Common.{◌≡◌, ℕ, ◌+◌, ◌*◌, ◌<◌, ◌^◌, Bool, true, false, cond, List, [], ◌∷◌, ◌++◌, length, get_or, refl, sym, ap, ◌∙◌, subst, inl, inr, append_assoc, arith}
+use Rattle.std.proofs.lemmas.List.{append-nil}
+use Rattle.std.specs.List.{AllByRecursion}
+use Rattle.std.proofs.lemmas.Bool.{cases_Bool, or_left, or_right, or_from, both_ways}
+use Rattle.std.proofs.lemmas.Nat.{from_le_bytes-to_le_bytes_4, from_be_bytes-to_be_bytes_4}
+use Rattle.std.specs.Int.{w32, from_le_bytes, from_be_bytes, to_le_bytes, to_be_bytes}
+use Rattle.i9_model.specs.declared.layout.TheConstants.{LOCALS, FRAME_SIZE}
+use Rattle.i9_model.specs.declared.frame.Frame.{Frame}
+use Rattle.i9_model.specs.Writes.{address_count, wrapped}
+use Rattle.i9_model.specs.Memory.{Memory, in_port_page, region_of, is_big, ordered_word, word_in, word_bytes, with_words}
+use Rattle.i9_model.specs.Frames.{in_bytes, in_frames}
+use Rattle.i9_model.specs.Sound.{AreApart}
+use Rattle.i9_model.specs.Run.{Given, Record, IsPastOfSome, next_with, state_after}
+use Rattle.i9_model.specs.Alike.{with_other, is_hard}
+use Rattle.i9_model.specs.HeldFrames.{over, overlaid, cache_after, youngest_first, AreWhole, AreInMemory}
+use Rattle.i9_model.proofs.Lengths.{four_bytes}
+use Rattle.i9_agree.proofs.SoundRuns.{sound-after}
+use Rattle.i9_model.proofs.Readings.{in_bytes-has}
+use Rattle.i9_model.proofs.FrameBytes.{frame_byte}
+use Rattle.i9_agree.proofs.Overlays.{words_mcon, over_kept}
+use Rattle.i9_agree.proofs.HeldFrames.{all_kept, all_live, later_live, older_than}
+use Rattle.i9_agree.proofs.HeldRuns.{cached-after}
+
+-- ---- a word by its four bytes
+
+pub four_list : (bs : List ℕ) → length bs ≡ 4 → get_or bs 0 0 ∷ get_or bs 1 0 ∷ get_or bs 2 0 ∷ get_or bs 3 0 ∷ [] ≡ bs
+four_list [] h = absurd (omega arith)
+four_list (a ∷ []) h = absurd (omega arith)
+four_list (a ∷ b ∷ []) h = absurd (omega arith)
+four_list (a ∷ b ∷ c ∷ []) h = absurd (omega arith)
+four_list (a ∷ b ∷ c ∷ d ∷ []) h = refl
+four_list (a ∷ b ∷ c ∷ d ∷ e ∷ bs) h = absurd (omega arith)
+
+pub by_order : (big : Bool) (w : ℕ) → w < 2 ^ 32 → cond big (from_be_bytes w32 (cond big (to_be_bytes w32 w) (to_le_bytes w32 w))) (from_le_bytes w32 (cond big (to_be_bytes w32 w) (to_le_bytes w32 w))) ≡ w
+by_order true w h = from_be_bytes-to_be_bytes_4 w h
+by_order false w h = from_le_bytes-to_le_bytes_4 w h
+
+pub same_four : (m : Memory) (x p q r s v w y z : ℕ) → p ≡ v → q ≡ w → r ≡ y → s ≡ z → ordered_word m x (p ∷ q ∷ r ∷ s ∷ []) ≡ ordered_word m x (v ∷ w ∷ y ∷ z ∷ [])
+same_four m x p q r s v w y z h i j k = rw (h, i, j, k) refl
+
+-- the word whose bytes stand at an address
+word_back : (m : Memory) (g : ℕ → ℕ) (x w : ℕ) → x < address_count → w < 2 ^ 32 → ((j : ℕ) → j < 4 → g (wrapped (x + j)) ≡ get_or (word_bytes m x w) j 0) → word_in (with_other m g) x ≡ w
+unfolding word_in word_bytes
+word_back m g x w low small has =
+    let bs = word_bytes m x w in
+    let here : wrapped (x + 0) ≡ x = omega arith in
+    same_four m x (g x) (g (wrapped (x + 1))) (g (wrapped (x + 2))) (g (wrapped (x + 3))) (get_or bs 0 0) (get_or bs 1 0) (get_or bs 2 0) (get_or bs 3 0)
+    (ap g (sym here) ∙ has 0 (omega arith)) (has 1 (omega arith)) (has 2 (omega arith)) (has 3 (omega arith))
+    ∙ ap (ordered_word m x) (four_list bs (four_bytes m x w))
+    ∙ by_order (is_big m (region_of x)) w small
+
+-- ---- the bytes of held frames
+
+-- the bytes of a frame's words, in the orders of a memory
+abbrev HasBytes : Memory → (ℕ → ℕ) → Frame → Type 0
+HasBytes m g f = f.address < address_count → (i j : ℕ) → i < LOCALS → j < 4
+    → in_port_page (wrapped (f.address + (4 * i + j))) ≡ false
+    → g (wrapped (f.address + (4 * i + j))) ≡ get_or (word_bytes m (wrapped (f.address + 4 * i)) (get_or f.words i 0)) j 0
+
+abbrev AllHaveBytes : Memory → (ℕ → ℕ) → List Frame → Type 0
+AllHaveBytes m g fs = AllByRecursion (HasBytes m g) fs
+
+-- an older frame is beside those that are younger
+apart_from : (gs older : List ℕ) (a x : ℕ) → AreApart (gs ++ a ∷ older) → in_bytes a FRAME_SIZE x ≡ true → in_frames gs x ≡ false
+apart_from [] older a x apart t = refl
+apart_from (g ∷ gs) older a x apart t = elim (cases_Bool (in_bytes g FRAME_SIZE x)) [
+  | inr out ↦ or_from (in_bytes g FRAME_SIZE x) (in_frames gs x) out (apart_from gs older a x apart.1 t)
+  | inl inside ↦ absurd (both_ways (in_frames (gs ++ a ∷ older) x) (apart.0 x inside) (later gs older a x t))
+]
+  where
+    later : (gs older : List ℕ) (a x : ℕ) → in_bytes a FRAME_SIZE x ≡ true → in_frames (gs ++ a ∷ older) x ≡ true
+    later [] older a x t = or_left (in_bytes a FRAME_SIZE x) (in_frames older x) t
+    later (g ∷ gs) older a x t = or_right (in_bytes g FRAME_SIZE x) (in_frames (gs ++ a ∷ older) x) (later gs older a x t)
+
+-- bytes that are stored go by configuration words alone
+orders_alone : (m k : Memory) (x w : ℕ) → k.mcon ≡ m.mcon → word_bytes k x w ≡ word_bytes m x w
+unfolding word_bytes
+orders_alone m k x w same = ap (λ (c : ℕ → ℕ). word_bytes (record m { mcon = c }) x w) same
+
+other_orders : (m k : Memory) (g : ℕ → ℕ) (fs : List Frame) → k.mcon ≡ m.mcon → AllHaveBytes k g fs → AllHaveBytes m g fs
+other_orders m k g [] same has = tt
+other_orders m k g (f ∷ fs) same has =
+    ((λ low i j h l port. has.0 low i j h l port ∙ ap (λ (bs : List ℕ). get_or bs j 0) (orders_alone m k (wrapped (f.address + 4 * i)) (get_or f.words i 0) same)), other_orders m k g fs same has.1)
+
+-- each frame's bytes stand in what the frames make of a memory
+laid_bytes : (hs : List Frame) (older : List ℕ) (m : Memory) → AreApart (youngest_first hs ++ older) → AreWhole hs → AllHaveBytes m (over hs m).bytes hs
+unfolding over
+laid_bytes [] older m apart whole = tt
+laid_bytes (f ∷ fs) older m apart whole =
+    let k = with_words m f.address f.words in
+    let order : youngest_first (f ∷ fs) ++ older ≡ youngest_first fs ++ (f.address ∷ older) = append_assoc (youngest_first fs) (f.address ∷ []) older in
+    let beside : AreApart (youngest_first fs ++ (f.address ∷ older)) = subst AreApart order apart in (
+      (λ low i j h l port.
+          let x = wrapped (f.address + (4 * i + j)) in
+          over_kept fs k x whole.1 (all_kept x fs [] (ap (λ (l : List ℕ). in_frames l x) (append-nil (youngest_first fs)) ∙ apart_from (youngest_first fs) older f.address x beside (in_bytes-has f.address FRAME_SIZE (4 * i + j) (omega arith))))
+          ∙ frame_byte m f.address f.words i j low whole.0 h l port),
+      other_orders m k (over fs k).bytes fs (words_mcon m f.address f.words) (laid_bytes fs (f.address ∷ older) k beside whole.1),
+    )
+
+-- so their words stand in a memory that has the same bytes there
+words_stand : (m : Memory) (g : ℕ → ℕ) (hs : List Frame) (older : List ℕ) → ((x : ℕ) → in_frames (youngest_first hs ++ older) x ≡ true → in_port_page x ≡ false)
+    → AllHaveBytes m g hs → AreInMemory (with_other m g) hs
+words_stand m g [] older outside has = tt
+words_stand m g (f ∷ fs) older outside has =
+    let order : youngest_first (f ∷ fs) ++ older ≡ youngest_first fs ++ (f.address ∷ older) = append_assoc (youngest_first fs) (f.address ∷ []) older in
+    let rest : (x : ℕ) → in_frames (youngest_first fs ++ (f.address ∷ older)) x ≡ true → in_port_page x ≡ false = λ x t. outside x (ap (λ (l : List ℕ). in_frames l x) order ∙ t) in (
+      (λ low k h small. word_back m g (wrapped (f.address + 4 * k)) (get_or f.words k 0) (omega arith) small (λ j l.
+          let place : wrapped (wrapped (f.address + 4 * k) + j) ≡ wrapped (f.address + (4 * k + j)) = omega arith in
+          let inside = in_bytes-has f.address FRAME_SIZE (4 * k + j) (omega arith) in
+          ap g place ∙ has.0 low k j h l (rest (wrapped (f.address + (4 * k + j))) (later_live (youngest_first fs) (f.address ∷ older) (wrapped (f.address + (4 * k + j))) (or_left (in_bytes f.address FRAME_SIZE (wrapped (f.address + (4 * k + j)))) (in_frames older (wrapped (f.address + (4 * k + j)))) inside))))),
+      words_stand m g fs (f.address ∷ older) rest has.1,
+    )
+
+-- bytes that a memory has where frames are live
+same_live : (m : Memory) (g h : ℕ → ℕ) (hs : List Frame) (older : List ℕ) → ((x : ℕ) → in_frames (youngest_first hs ++ older) x ≡ true → g x ≡ h x) → AllHaveBytes m g hs → AllHaveBytes m h hs
+same_live m g h [] older same has = tt
+same_live m g h (f ∷ fs) older same has =
+    let order : youngest_first (f ∷ fs) ++ older ≡ youngest_first fs ++ (f.address ∷ older) = append_assoc (youngest_first fs) (f.address ∷ []) older in
+    let rest : (x : ℕ) → in_frames (youngest_first fs ++ (f.address ∷ older)) x ≡ true → g x ≡ h x = λ x t. same x (ap (λ (l : List ℕ). in_frames l x) order ∙ t) in (
+      (λ low i j k l port.
+          let x = wrapped (f.address + (4 * i + j)) in
+          let inside = in_bytes-has f.address FRAME_SIZE (4 * i + j) (omega arith) in
+          sym (rest x (later_live (youngest_first fs) (f.address ∷ older) x (or_left (in_bytes f.address FRAME_SIZE x) (in_frames older x) inside))) ∙ has.0 low i j k l port),
+      same_live m g h fs (f.address ∷ older) rest has.1,
+    )
+
+-- along a run
+pub held-in-memory : (g : Given) (rs : List Record) → IsPastOfSome (next_with g) rs → AreInMemory (state_after g rs).memory (cache_after g rs).held
+held-in-memory g rs past =
+    let s = state_after g rs in
+    let c = cache_after g rs in
+    let cached = cached-after g rs past in
+    let sound = sound-after g rs past in
+    let older = older_than c.held s.frames.live in
+    let all = all_live c.held s.frames.live cached.youngest in
+    let live : (x : ℕ) → in_frames (youngest_first c.held ++ older) x ≡ true → in_frames s.frames.live x ≡ true = λ x t. ap (λ (l : List ℕ). in_frames l x) all ∙ t in
+    let laid = laid_bytes c.held older c.behind (subst AreApart all sound.apart) cached.youngest.whole in
+    let here : AllHaveBytes s.memory (overlaid c).bytes c.held = other_orders s.memory c.behind (overlaid c).bytes c.held cached.regions laid in
+    words_stand s.memory s.memory.bytes c.held older (λ x t. sound.outside x (live x t))
+    (same_live s.memory (overlaid c).bytes s.memory.bytes c.held older (λ x t. cached.bytes x (or_right (is_hard s.frames x) (in_frames s.frames.live x) (live x t))) here)

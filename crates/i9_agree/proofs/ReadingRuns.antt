@@ -1,0 +1,135 @@
+-- What is printed of a run does not depend on how soft bytes are read.
+use Rattle.std.proofs.Common.{◌≡◌, ℕ, true, List, [], ◌∷◌, ◌++◌, length, Option, refl, sym, ap, ◌∙◌, subst}
+use Rattle.std.proofs.lemmas.Grind.{flat_map-append}
+use Rattle.i9_model.specs.declared.event.Event.{Event}
+use Rattle.i9_model.specs.declared.event.Timed.{Timed}
+use Rattle.i9_model.specs.ScheduleText.{timed_at, standing}
+use Rattle.i9_model.specs.State.{State, boot}
+use Rattle.i9_model.specs.Run.{Given, Finish, Kind, Instruction, Faulted, Entered, Interrupted, Reached, Record, Next, Does, Ends, due_by, state_after, due_after, reached_by, reached_after, event_after, next_in, next, IsPast, IsPastOf, IsRun}
+use Rattle.i9_model.specs.declared.run.Due.{Due}
+use Rattle.i9_model.specs.PrintedText.{record_lines, end_lines, lines_of, shown_text, text_of, run_text}
+use Rattle.i9_model.specs.Alike.{Agree, DoAgree, NextsAgree}
+use Rattle.i9_model.specs.ReadingRuns.{boot_reading, state_from, next_from, IsRunReading, reading_text}
+use Rattle.i9_agree.proofs.SoundRuns.{sound-after}
+use Rattle.i9_past.proofs.Heedful.{past_of_some}
+use Rattle.i9_past.proofs.Unique.{same_records, same_end}
+use Rattle.i9_agree.proofs.AgreeSteps.{next-agree}
+use Rattle.i9_agree.proofs.AgreeTexts.{record-text-same, end-text-same}
+
+-- ---- records of one machine beside those of another
+
+reached-same : (k : Kind) (s t : State) → Agree true s t → reached_by k t ≡ reached_by k s
+reached-same (Instruction i) s t agree = refl
+reached-same (Faulted inst fault) s t agree = refl
+reached-same (Entered e) s t agree = refl
+reached-same (Interrupted c e) s t agree = refl
+reached-same (Reached e u) s t agree = ap (λ (v : State). timed_at v.count e ∷ []) agree.rest
+
+record AreBeside (g : Given) (b : State) (rs qs : List Record) : Type 0 where
+  pub state : Agree true (state_after g rs) (state_from b qs)
+  pub due : due_after qs ≡ due_after rs
+  pub reached : reached_after qs ≡ reached_after rs
+  pub text : text_of (lines_of qs) ≡ text_of (lines_of rs)
+
+boot-agree : (reading : ℕ → ℕ) (image : List (ℕ × ℕ)) → Agree true (boot image) (boot_reading reading image)
+boot-agree reading image = record { rest = refl; regs = λ r h. refl; bytes = λ x h. refl; reading = λ e. absurd cc }
+
+none-beside : (reading : ℕ → ℕ) (g : Given) → AreBeside g (boot_reading reading g.image) [] []
+none-beside reading g = record { state = boot-agree reading g.image; due = refl; reached = refl; text = refl }
+
+next-beside : (g : Given) (b : State) (rs qs : List Record) → IsPast g rs → AreBeside g b rs qs → NextsAgree true (next g rs) (next_from b g qs)
+next-beside g b rs qs past beside =
+    let t = state_from b qs in
+    let stands : standing g.plan (length (reached_after qs)) t.count ≡ event_after g rs =
+    ap (λ (ts : List Timed). standing g.plan (length ts) t.count) beside.reached ∙ ap (λ (u : State). standing g.plan (length (reached_after rs)) u.count) beside.state.rest in
+    subst (λ (d : Due). NextsAgree true (next g rs) (next_in g.length d (standing g.plan (length (reached_after qs)) t.count) t)) (sym beside.due)
+    (subst (λ (o : Option Event). NextsAgree true (next g rs) (next_in g.length (due_after rs) o t)) (sym stands)
+    (next-agree true g.length (due_after rs) (event_after g rs) (state_after g rs) t (sound-after g rs (past_of_some g rs past)) beside.state))
+
+one-beside : (g : Given) (b : State) (rs qs : List Record) (r q : Record) → AreBeside g b rs qs → DoAgree true r q → AreBeside g b (r ∷ rs) (q ∷ qs)
+one-beside g b rs qs r q beside same = record {
+  state = same.after;
+  due = ap (λ (k : Kind). due_by k q.before) same.kind ∙ same.due;
+  reached =
+      ap (λ (k : Kind). reached_after qs ++ reached_by k q.before) same.kind
+      ∙ ap (λ (ts : List Timed). reached_after qs ++ ts) (reached-same r.kind r.before q.before same.before)
+      ∙ ap (λ (ts : List Timed). ts ++ reached_by r.kind r.before) beside.reached;
+  text =
+      flat_map-append shown_text (lines_of qs) (record_lines q)
+      ∙ ap (λ (x : List ℕ). text_of (lines_of qs) ++ x) (record-text-same r q same)
+      ∙ ap (λ (x : List ℕ). x ++ text_of (record_lines r)) beside.text
+      ∙ sym (flat_map-append shown_text (lines_of rs) (record_lines r));
+}
+
+does-beside : (o p : Next) (r : Record) → NextsAgree true o p → o ≡ Does r → (q : Record) × (p ≡ Does q) × DoAgree true r q
+does-beside (Does x) (Does q) r agree e = let same : x ≡ r = cc in (q, refl, subst (λ (y : Record). DoAgree true y q) same agree)
+does-beside (Does x) (Ends f) r agree e = absurd agree
+does-beside (Ends f) (Does q) r agree e = absurd agree
+does-beside (Ends f) (Ends h) r agree e = absurd cc
+
+does-behind : (o p : Next) (q : Record) → NextsAgree true o p → p ≡ Does q → (r : Record) × (o ≡ Does r) × DoAgree true r q
+does-behind (Does r) (Does x) q agree e = let same : x ≡ q = cc in (r, refl, subst (DoAgree true r) same agree)
+does-behind (Does r) (Ends f) q agree e = absurd agree
+does-behind (Ends f) (Does x) q agree e = absurd agree
+does-behind (Ends f) (Ends h) q agree e = absurd cc
+
+ends-beside : (o p : Next) (f : Finish) → NextsAgree true o p → o ≡ Ends f → p ≡ Ends f
+ends-beside (Ends f) (Ends h) g agree e = let same : f ≡ g = cc in ap (λ (x : Finish). Ends x) (agree ∙ same)
+ends-beside (Does r) (Ends h) g agree e = absurd agree
+ends-beside (Ends f) (Does x) g agree e = absurd agree
+ends-beside (Does r) (Does x) g agree e = absurd cc
+
+ends-behind : (o p : Next) (f : Finish) → NextsAgree true o p → p ≡ Ends f → o ≡ Ends f
+ends-behind (Ends f) (Ends h) g agree e = let same : h ≡ g = cc in ap (λ (x : Finish). Ends x) (sym agree ∙ same)
+ends-behind (Does r) (Ends h) g agree e = absurd agree
+ends-behind (Ends f) (Does x) g agree e = absurd agree
+ends-behind (Does r) (Does x) g agree e = absurd cc
+
+-- ---- runs
+
+past-beside : (reading : ℕ → ℕ) (g : Given) (rs : List Record) → IsPast g rs → (qs : List Record) × IsPastOf (next_from (boot_reading reading g.image) g) qs × AreBeside g (boot_reading reading g.image) rs qs
+past-beside reading g [] past = ([], tt, none-beside reading g)
+past-beside reading g (r ∷ rs) past =
+    let b = boot_reading reading g.image in
+    let before = past-beside reading g rs past.0 in
+    let found = does-beside (next g rs) (next_from b g before.0) r (next-beside g b rs before.0 past.0 before.2) past.1 in
+    (found.0 ∷ before.0, (before.1, found.1), one-beside g b rs before.0 r found.0 before.2 found.2)
+
+past-behind : (reading : ℕ → ℕ) (g : Given) (qs : List Record) → IsPastOf (next_from (boot_reading reading g.image) g) qs → (rs : List Record) × IsPast g rs × AreBeside g (boot_reading reading g.image) rs qs
+past-behind reading g [] past = ([], tt, none-beside reading g)
+past-behind reading g (q ∷ qs) past =
+    let b = boot_reading reading g.image in
+    let before = past-behind reading g qs past.0 in
+    let found = does-behind (next g before.0) (next_from b g qs) q (next-beside g b before.0 qs before.1 before.2) past.1 in
+    (found.0 ∷ before.0, (before.1, found.1), one-beside g b before.0 qs found.0 q before.2 found.2)
+
+whole-text : (reading : ℕ → ℕ) (g : Given) (rs qs : List Record) (f : Finish) → AreBeside g (boot_reading reading g.image) rs qs → reading_text reading g qs f ≡ run_text g rs f
+whole-text reading g rs qs f beside =
+    let s = state_after g rs in
+    let t = state_from (boot_reading reading g.image) qs in
+    flat_map-append shown_text (lines_of qs) (end_lines t f)
+    ∙ ap (λ (x : List ℕ). x ++ text_of (end_lines t f)) beside.text
+    ∙ ap (λ (x : List ℕ). text_of (lines_of rs) ++ x) (end-text-same f s t beside.state)
+    ∙ sym (flat_map-append shown_text (lines_of rs) (end_lines s f))
+
+-- a run has one of each reading, of the same text
+pub run-beside : (reading : ℕ → ℕ) (g : Given) (rs : List Record) (f : Finish) → IsRun g rs f
+    → (qs : List Record) × IsRunReading reading g qs f × (reading_text reading g qs f ≡ run_text g rs f) × Agree true (state_after g rs) (state_from (boot_reading reading g.image) qs)
+run-beside reading g rs f run =
+    let b = boot_reading reading g.image in
+    let found = past-beside reading g rs run.past in
+    let ends = ends-beside (next g rs) (next_from b g found.0) f (next-beside g b rs found.0 run.past found.2) run.ends in
+    (found.0, record { past = found.1; ends = ends }, whole-text reading g rs found.0 f found.2, found.2.state)
+
+-- and each run of another reading ends as the run does, and has its text
+pub run-behind : (reading : ℕ → ℕ) (g : Given) (qs rs : List Record) (e f : Finish) → IsRunReading reading g qs e → IsRun g rs f → (e ≡ f) × (reading_text reading g qs e ≡ run_text g rs f)
+run-behind reading g qs rs e f other run =
+    let b = boot_reading reading g.image in
+    let found = past-behind reading g qs other.past in
+    let here : IsRun g found.0 e = record { past = found.1; ends = ends-behind (next g found.0) (next_from b g qs) e (next-beside g b found.0 qs found.1 found.2) other.ends } in
+    let end = same_end g found.0 rs e f here run in (
+      end,
+      whole-text reading g found.0 qs e found.2
+          ∙ ap (λ (ls : List Record). run_text g ls e) (same_records g found.0 rs e f here run)
+          ∙ ap (run_text g rs) end,
+    )

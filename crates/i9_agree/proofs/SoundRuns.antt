@@ -1,0 +1,319 @@
+-- What is done without a hazard is free, and frames along a run are sound.
+use Rattle.std.proofs.Common.{◌≡◌, ℕ, ◌+◌, ◌*◌, ◌/◌, ◌%◌, Bool, true, false, cond, List, [], ◌∷◌, ◌++◌, length, find, Option, Some, None, refl, ap, sym, ◌∙◌, subst, arith}
+use Rattle.std.specs.Prelude.{◌==◌, ◌||◌}
+use Rattle.i9_isa.specs.declared.op.Op.{Op}
+use Rattle.i9_isa.specs.declared.op.Op.TheVariants.{Lda, Atadd, Atmod, Bx, Balx, Bal, Call, Callx, Calls, Ret, Flushreg, Modac, Modtc, Modpc, Sdma, Sysctl}
+use Rattle.i9_isa.specs.declared.size.Size.{Size}
+use Rattle.i9_isa.specs.declared.size.Direction.{Direction}
+use Rattle.i9_isa.specs.declared.size.Direction.TheVariants.{Load, Store}
+use Rattle.i9_isa.specs.declared.size.Transfer.{Transfer}
+use Rattle.i9_isa.specs.declared.inst.Inst.{Inst}
+use Rattle.i9_isa.specs.Transfers.{byte_count, transfer_of}
+use Rattle.i9_model.specs.Writes.{wrapped, places_of, upwards}
+use Rattle.i9_model.specs.Memory.{Memory, with_writes, word_in, word_bytes}
+use Rattle.i9_model.specs.State.{State, Frames, started, boot}
+use Rattle.i9_model.specs.Hazards.{or_else, read_hazard, write_hazard, writes_hazard, port_hazard, save_hazard}
+use Rattle.i9_model.specs.Operands.{value, address}
+use Rattle.i9_model.specs.Step.{Move, Stays, Saves, Returns, Flushes, Action, bytes_of_words, stored_of, moving, merged, atomic_address, atomic, Message, AsksNothing, AsksCheck, AsksInterrupt, AsksRestart, AsksGroup, argument_of, asked_message, message_action, entering, action_by_name, action_by, action_of, frames_after, moved, acted, branching, answer_in, resulting}
+use Rattle.i9_model.specs.Branches.{asks, question_of}
+use Rattle.i9_model.specs.Access.{Changes, message_access, moved_access, access_by_name, access_by, hazard_in, hazard_of}
+use Rattle.i9_model.specs.Sound.{in_returns, IsSound}
+use Rattle.i9_model.specs.Hazards.{return_place}
+use Rattle.std.proofs.lemmas.Bool.{or_left, or_from}
+use Rattle.i9_model.specs.Free.{IsFree}
+use Rattle.i9_model.specs.Run.{Given, Instruction, Faulted, Entered, Interrupted, Reached, Kind, action_by_kind, Record, Does, entry_in, state_after, due_after, next_in, next_with, IsPastOfSome}
+use Rattle.i9_model.specs.declared.run.Due.{Due}
+use Rattle.i9_model.specs.declared.layout.TheConstants.{FP, SP, FRAME_SIZE}
+use Rattle.i9_model.specs.declared.faults.Entry.{Entry}
+use Rattle.i9_model.specs.declared.interrupts.Chosen.{Chosen}
+use Rattle.i9_model.specs.declared.event.Event.{Event}
+use Rattle.i9_model.specs.declared.interrupts.Cause.{Cause}
+use Rattle.i9_model.specs.declared.interrupts.Cause.TheVariants.{Nmi, Line, Soft}
+use Rattle.i9_model.specs.declared.interrupts.TheConstants.{PENDING_VECTORS}
+use Rattle.i9_model.specs.Frames.{in_bytes, in_frames, has, saved, with_marked, wrote}
+use Rattle.i9_model.specs.Interrupts.{vector_priority, with_bit, without_bit, byte_hazard, request_hazard, request_writes, priority_place, pending_place, left_pending, priority_writes, taken_writes, priority_hazard, taken_hazard, clearing_writes, clearing_hazard, record_writes}
+use Rattle.i9_model.specs.Before.{entry_writes, interrupting}
+use Rattle.i9_model.specs.Calls.{call_type, record_address}
+use Rattle.i9_agree.proofs.Units.{received_free}
+use Rattle.i9_model.specs.Frames.{rounded_down}
+use Rattle.i9_model.specs.Stale.{mark_of, legible, push_mark, area_hazard}
+use Rattle.i9_model.proofs.SavedMarks.{IsLost, saved-lost, returns-live}
+use Rattle.i9_model.proofs.CallLaws.{first_none, second_none, system_checks, system_save, EntersFree, enters_free_by}
+use Rattle.i9_model.proofs.ControlLaws.{acted-frames}
+use Rattle.i9_model.proofs.FrameLaws.{write_hazard-none, save_hazard-none, sound-none, sound-saved, sound-returned, sound-flushed, sound-wrote, sound-softened, sound-marked}
+use Rattle.i9_model.proofs.Runs.{writes_hazard-upwards}
+use Rattle.i9_past.proofs.Comes.{MayCome, next_comes}
+use Rattle.i9_agree.proofs.InterruptsFree.{InterruptsFree, interrupts_free}
+use Rattle.i9_model.proofs.Lengths.{four_bytes, words_long, stored_long}
+
+-- ---- what is done without a hazard
+
+-- the save area is checked with a push
+pub area_save : (s : State) (b : Bool) → area_hazard s b ≡ None → save_hazard s.frames (rounded_down (s.regs FP)) ≡ None
+area_save s b none = second_none (push_mark s b) (save_hazard s.frames (rounded_down (s.regs FP))) none
+
+-- a frame is saved without a hazard
+abbrev pub IsSafe : Frames → Move → Type 0
+IsSafe f Stays = Unit {0}
+IsSafe f (Saves save words) = save_hazard f save ≡ None
+IsSafe f Returns = Unit {0}
+IsSafe f Flushes = Unit {0}
+
+pub record IsClear (s : State) (a : Action) : Type 0 where
+  pub save : IsSafe s.frames a.move
+  pub free : IsFree s a
+
+no_writes : (f : Frames) → writes_hazard f [] ≡ None
+unfolding writes_hazard
+no_writes f = refl
+
+-- so many bytes are written beside live frames
+run_free : (f : Frames) (a : ℕ) (bs : List ℕ) (n : ℕ) → length bs ≡ n → write_hazard f a n ≡ None → writes_hazard f (upwards a bs) ≡ None
+run_free f a bs n long none = writes_hazard-upwards f a bs ∙ ap (write_hazard f a) long ∙ none
+
+moving_clear : (d : Direction) (size : Size) (signed : Bool) (i : Inst) (s : State) → hazard_in s (moved_access d (address s i.ea) (byte_count size)) ≡ None → IsClear s (moving d size signed i s)
+moving_clear Load size signed i s none = record { save = tt; free = record { whole = tt; free = no_writes s.frames; controls = tt } }
+moving_clear Store size signed i s none =
+    let a = address s i.ea in
+    let bs = stored_of size s i.c a in
+    record { save = tt; free = record { whole = tt; free = run_free s.frames a bs (byte_count size) (stored_long size s i.c a) none; controls = tt } }
+
+atomic_clear : (i : Inst) (s : State) (b : Bool) (change : ℕ → ℕ) → hazard_in s (Changes (atomic_address i s) 4) ≡ None → IsClear s (atomic i s b change)
+atomic_clear i s b change none =
+    let a = atomic_address i s in
+    let new = change (word_in (legible s) a) in
+    let free = run_free s.frames a (word_bytes s.memory a new) 4 (four_bytes s.memory a new) none in
+    record { save = tt; free = record { whole = tt; free = free; controls = tt } }
+
+-- ---- bytes that are written alone
+
+pub writes_append : (f : Frames) (ps qs : List (ℕ × ℕ)) → writes_hazard f ps ≡ None → writes_hazard f qs ≡ None → writes_hazard f (ps ++ qs) ≡ None
+unfolding writes_hazard
+writes_append f [] qs one two = two
+writes_append f (p ∷ ps) qs one two = by_live (in_frames f.live p.0) one (λ later. writes_append f ps qs later two)
+  where
+    by_live : (b : Bool) → cond b (Some p.0) (find (in_frames f.live) (places_of ps)) ≡ None → (find (in_frames f.live) (places_of ps) ≡ None → find (in_frames f.live) (places_of (ps ++ qs)) ≡ None)
+        → cond b (Some p.0) (find (in_frames f.live) (places_of (ps ++ qs))) ≡ None
+    by_live true e later = absurd cc
+    by_live false e later = later e
+
+-- one byte is written beside live frames
+byte_free : (f : Frames) (a v : ℕ) → byte_hazard f (wrapped a) ≡ None → writes_hazard f ((wrapped a, v) ∷ []) ≡ None
+byte_free f a v none =
+    let same : wrapped (wrapped a) ≡ wrapped a = omega arith in
+    subst (λ (x : ℕ). writes_hazard f ((x, v) ∷ []) ≡ None) same
+    (run_free f (wrapped a) (v ∷ []) 1 refl (first_none (write_hazard f (wrapped a) 1) (port_hazard (wrapped a) 1) none))
+
+-- a request is written beside live frames
+pub request_free : (m : Memory) (f : Frames) (table v : ℕ) → request_hazard f table v ≡ None → writes_hazard f (request_writes m table v) ≡ None
+unfolding request_hazard request_writes
+request_free m f table v none =
+    let one = read_hazard f (priority_place table v) 1 in
+    let two = read_hazard f (pending_place table v) 1 in
+    let first = byte_hazard f (priority_place table v) in
+    let second = byte_hazard f (pending_place table v) in
+    let written = second_none two (or_else first second) (second_none one (or_else two (or_else first second)) none) in
+    let byte = with_bit (m.bytes (priority_place table v)) (vector_priority v % 8) in
+    writes_append f ((priority_place table v, byte) ∷ []) ((pending_place table v, with_bit (m.bytes (pending_place table v)) (v % 8)) ∷ [])
+    (byte_free f (table + vector_priority v / 8) byte (first_none first second written))
+    (byte_free f (table + (PENDING_VECTORS + v / 8)) (with_bit (m.bytes (pending_place table v)) (v % 8)) (second_none first second written))
+
+message_clear : (m : Message) (i : Inst) (s : State) → hazard_in s (message_access m i s) ≡ None → IsClear s (message_action m i s)
+message_clear AsksNothing i s none = record { save = tt; free = record { whole = tt; free = no_writes s.frames; controls = tt } }
+message_clear AsksCheck i s none = record { save = tt; free = record { whole = tt; free = no_writes s.frames; controls = tt } }
+message_clear AsksInterrupt i s none = record { save = tt; free = record { whole = tt; free = request_free s.memory s.frames s.tables.interrupt_table (argument_of i s) none; controls = tt } }
+message_clear AsksRestart i s none = record { save = tt; free = record { whole = tt; free = no_writes (frames_after s.frames Flushes); controls = (refl, refl) } }
+message_clear AsksGroup i s none = record { save = tt; free = record { whole = tt; free = no_writes (frames_after s.frames Flushes); controls = (refl, refl) } }
+
+calls_save : (i : Inst) (s : State) → hazard_in s (access_by_name Calls i s) ≡ None → IsSafe s.frames (action_by_name Calls i s).move
+calls_save i s none =
+    ap (save_hazard s.frames) (system_save s.memory s.tables.system_table (value s i.a) s.pc (s.regs FP) (s.regs SP) 0 (call_type s.pc))
+    ∙ area_save s _ (system_checks s.memory s.frames s.tables.system_table (value s i.a) s.pc (area_hazard s) none)
+
+name_clear : (op : Op) (i : Inst) (s : State) → hazard_in s (access_by_name op i s) ≡ None → IsClear s (action_by_name op i s)
+name_clear Atadd i s none = atomic_clear i s (mark_of s i.b 0) (λ old. wrapped (old + value s i.b)) none
+name_clear Atmod i s none = atomic_clear i s (mark_of s i.b 0 || mark_of s i.c 0) (λ old. merged old (value s i.b) (value s i.c)) none
+name_clear Call i s none = record { save = area_save s false none; free = record { whole = refl; free = no_writes (frames_after s.frames (action_by_name Call i s).move); controls = tt } }
+name_clear Callx i s none = record { save = area_save s false none; free = record { whole = refl; free = no_writes (frames_after s.frames (action_by_name Callx i s).move); controls = tt } }
+name_clear Calls i s none = record { save = calls_save i s none; free = record { whole = refl; free = no_writes (frames_after s.frames (action_by_name Calls i s).move); controls = tt } }
+name_clear Ret i s none = record { save = tt; free = record { whole = tt; free = no_writes (frames_after s.frames Returns); controls = tt } }
+name_clear Flushreg i s none = record { save = tt; free = record { whole = tt; free = no_writes (frames_after s.frames Flushes); controls = tt } }
+name_clear Sysctl i s none = message_clear (asked_message i s) i s none
+name_clear _ i s none = record { save = tt; free = record { whole = tt; free = no_writes s.frames; controls = tt } }
+
+-- an instruction whose access meets no hazard
+pub action_clear : (i : Inst) (s : State) → hazard_of i s ≡ None → IsClear s (action_of i s)
+unfolding hazard_of action_of
+action_clear i s none = by_transfer (transfer_of i.op) none
+  where
+    by_transfer : (o : Option Transfer) → hazard_in s (access_by o i s) ≡ None → IsClear s (action_by o i s)
+    by_transfer (Some t) e = moving_clear t.direction t.size t.signed i s e
+    by_transfer None e = name_clear i.op i s e
+
+-- the entry of a fault saves a frame and then stores its record
+entering_clear : (s : State) (e : Entry) → EntersFree s.frames e → IsClear s (entering e s)
+entering_clear s e free =
+    let a = record_address e.push.frame in
+    let bs = bytes_of_words s.memory a e.words in
+    let long : length bs ≡ 16 = words_long s.memory a e.words ∙ ap (λ (n : ℕ). 4 * n) free.four in
+    record { save = free.save; free = record { whole = refl; free = run_free (frames_after s.frames (entering e s).move) a bs 16 long free.record_free; controls = tt } }
+
+-- ---- the entry of an interrupt
+
+priority_free : (m : Memory) (f : Frames) (table v : ℕ) → priority_hazard m f table v ≡ None → writes_hazard f (priority_writes m table v) ≡ None
+priority_free m f table v none = by_left (left_pending m table v == 0) none
+  where
+    byte : ℕ
+    byte = without_bit (m.bytes (priority_place table v)) (vector_priority v % 8)
+
+    by_left : (b : Bool) → cond b (byte_hazard f (priority_place table v)) None ≡ None → writes_hazard f (cond b ((priority_place table v, byte) ∷ []) []) ≡ None
+    by_left true e = byte_free f (table + vector_priority v / 8) byte e
+    by_left false e = no_writes f
+
+taken_free : (m : Memory) (f : Frames) (table v : ℕ) → taken_hazard m f table v ≡ None → writes_hazard f (taken_writes m table v) ≡ None
+unfolding taken_hazard taken_writes
+taken_free m f table v none =
+    let priority = priority_hazard m f table v in
+    let byte = byte_hazard f (pending_place table v) in
+    let two = or_else (read_hazard f (pending_place table v) 1) (or_else priority byte) in
+    let written = second_none (read_hazard f (pending_place table v) 1) (or_else priority byte) (second_none (read_hazard f (priority_place table v) 1) two none) in
+    writes_append f (priority_writes m table v) ((pending_place table v, left_pending m table v) ∷ [])
+    (priority_free m f table v (first_none priority byte written))
+    (byte_free f (table + (PENDING_VECTORS + v / 8)) (left_pending m table v) (second_none priority byte written))
+
+clearing_free : (cause : Cause) (m : Memory) (f : Frames) (table v : ℕ) → clearing_hazard cause m f table v ≡ None → writes_hazard f (clearing_writes cause m table v) ≡ None
+clearing_free Nmi m f table v none = no_writes f
+clearing_free (Line k) m f table v none = no_writes f
+clearing_free Soft m f table v none = taken_free m f table v none
+
+-- it saves a frame, stores its record, and then clears what chose it
+entry_free : (s : State) (c : Chosen) (e : Entry) → InterruptsFree s c e → writes_hazard (saved s.frames e.push.save) (entry_writes s c e) ≡ None
+unfolding writes_hazard
+entry_free s c e free =
+    let m = s.memory in
+    let a = record_address e.push.frame in
+    let bs = bytes_of_words m a e.words in
+    let long : length bs ≡ 16 = words_long m a e.words ∙ ap (λ (n : ℕ). 4 * n) free.enters.four in
+    let recorded = record_writes m e.push e.words in
+    let saves = saved s.frames e.push.save in
+    writes_append saves recorded (clearing_writes c.cause (with_writes m recorded) s.tables.interrupt_table c.vector)
+    (run_free saves a bs 16 long free.enters.record_free)
+    (clearing_free c.cause (with_writes m recorded) (wrote saves recorded) s.tables.interrupt_table c.vector free.clears)
+
+interrupting_clear : (s : State) (c : Chosen) (e : Entry) → InterruptsFree s c e → IsClear s (interrupting c e s)
+interrupting_clear s c e free = record { save = free.enters.save; free = record { whole = refl; free = entry_free s c e free; controls = tt } }
+
+-- what comes next
+pub kind_clear : (limit : ℕ) (due : Due) (stands : Option Event) (k : Kind) (s : State) → MayCome limit due stands s k → IsClear s (action_by_kind k s)
+unfolding entry_in
+kind_clear limit due stands (Instruction i) s may = let clear = action_clear i s may.2 in record { save = clear.save; free = record { whole = clear.free.whole; free = clear.free.free; controls = clear.free.controls } }
+kind_clear limit due stands (Faulted inst fault) s may = record { save = tt; free = record { whole = tt; free = no_writes s.frames; controls = tt } }
+kind_clear limit due stands (Entered e) s may =
+    entering_clear s e (enters_free_by s.memory s.frames s.tables.fault_table s.tables.system_table may.0 s.pc s.ac (s.regs FP) (s.regs SP) (area_hazard s) e (area_save s) may.2)
+kind_clear limit due stands (Interrupted c e) s may = interrupting_clear s c e (interrupts_free s c e may.3)
+kind_clear limit due stands (Reached e u) s may = record { save = tt; free = record { whole = tt; free = received_free s e u may.3; controls = tt } }
+
+-- ---- frames along a run
+
+sound-moved : (v : Move) (f : Frames) → IsSafe f v → IsSound f → IsSound (frames_after f v)
+sound-moved Stays f safe sound = sound
+sound-moved (Saves save words) f safe sound = sound-saved f save sound safe
+sound-moved Returns f safe sound = sound-returned f sound
+sound-moved Flushes f safe sound = sound-flushed f sound
+
+-- ---- the marks of a saved frame
+
+-- an action that saves no frame has no marks of one
+abbrev pub IsLostOf : Move → List ℕ → Type 0
+IsLostOf (Saves a ws) lost = IsLost a lost
+IsLostOf _ lost = lost ≡ []
+
+message_lost : (m : Message) (i : Inst) (s : State) → IsLostOf (message_action m i s).move (message_action m i s).lost
+message_lost AsksNothing i s = refl
+message_lost AsksCheck i s = refl
+message_lost AsksInterrupt i s = refl
+message_lost AsksRestart i s = refl
+message_lost AsksGroup i s = refl
+
+other_lost : (b : Bool) (i : Inst) (s : State) → IsLostOf (cond b (branching i s) (resulting i s (answer_in i s))).move (cond b (branching i s) (resulting i s (answer_in i s))).lost
+other_lost true i s = refl
+other_lost false i s = refl
+
+name_lost : (op : Op) (i : Inst) (s : State) → IsLostOf (action_by_name op i s).move (action_by_name op i s).lost
+name_lost Lda i s = refl
+name_lost Atadd i s = refl
+name_lost Atmod i s = refl
+name_lost Bx i s = refl
+name_lost Balx i s = refl
+name_lost Bal i s = refl
+name_lost Call i s = saved-lost s _
+name_lost Callx i s = saved-lost s _
+name_lost Calls i s = saved-lost s _
+name_lost Ret i s = refl
+name_lost Flushreg i s = refl
+name_lost Modac i s = refl
+name_lost Modtc i s = refl
+name_lost Modpc i s = refl
+name_lost Sdma i s = refl
+name_lost Sysctl i s = message_lost (asked_message i s) i s
+name_lost op i s = other_lost (asks (question_of op)) i s
+
+moving_lost : (d : Direction) (size : Size) (signed : Bool) (i : Inst) (s : State) → IsLostOf (moving d size signed i s).move (moving d size signed i s).lost
+moving_lost Load size signed i s = refl
+moving_lost Store size signed i s = refl
+
+pub action_lost : (i : Inst) (s : State) → IsLostOf (action_of i s).move (action_of i s).lost
+unfolding action_of
+action_lost i s = by_transfer (transfer_of i.op)
+  where
+    by_transfer : (o : Option Transfer) → IsLostOf (action_by o i s).move (action_by o i s).lost
+    by_transfer (Some t) = moving_lost t.direction t.size t.signed i s
+    by_transfer None = name_lost i.op i s
+
+kind_lost : (k : Kind) (s : State) → IsLostOf (action_by_kind k s).move (action_by_kind k s).lost
+kind_lost (Instruction i) s = action_lost i s
+kind_lost (Faulted inst fault) s = refl
+kind_lost (Entered e) s = saved-lost s e.push.save
+kind_lost (Interrupted c e) s = saved-lost s e.push.save
+kind_lost (Reached e u) s = refl
+
+-- they are in the frame that is saved, which lies beside the others
+pub sound-lost : (v : Move) (f : Frames) (lost : List ℕ) → IsSafe f v → IsLostOf v lost → IsSound (frames_after f v) → IsSound (with_marked (frames_after f v) lost)
+sound-lost Stays f lost safe none sound = subst (λ (l : List ℕ). IsSound (with_marked f l)) (sym none) sound
+sound-lost Returns f lost safe none sound = subst (λ (l : List ℕ). IsSound (with_marked (frames_after f Returns) l)) (sym none) sound
+sound-lost Flushes f lost safe none sound = subst (λ (l : List ℕ). IsSound (with_marked (frames_after f Flushes) l)) (sym none) sound
+sound-lost (Saves a ws) f lost safe is sound = sound-marked (saved f a) lost (λ x t. (here x t, apart x t)) sound
+  where
+    here : (x : ℕ) → has lost x ≡ true → in_frames (a ∷ f.live) x ≡ true
+    here x t = or_left (in_bytes a FRAME_SIZE x) (in_frames f.live x) (is.inside x t)
+
+    beside : (r live : Bool) → (r ≡ true → live ≡ true) → live ≡ false → r ≡ false
+    beside false live h n = refl
+    beside true live h n = let no : true ≡ false = sym (h refl) ∙ n in absurd (cc no)
+
+    apart : (x : ℕ) → has lost x ≡ true → in_returns (a ∷ f.live) x ≡ false
+    apart x t =
+        let out = write_hazard-none f a FRAME_SIZE x (save_hazard-none f a safe).0 (is.inside x t) in
+        or_from (in_bytes (return_place a) 4 x) (in_returns f.live x) (is.beside x t) (beside (in_returns f.live x) (in_frames f.live x) (returns-live f.live x) out)
+
+sound-acted : (s : State) (a : Action) → IsClear s a → IsLostOf a.move a.lost → IsSound s.frames → IsSound (acted s a).frames
+unfolding moved writes_hazard
+sound-acted s a clear lost sound =
+    let f = frames_after s.frames a.move in
+    subst IsSound (sym (acted-frames s a))
+    (sound-softened (wrote (with_marked f a.lost) a.writes) a.stale
+    (sound-wrote (with_marked f a.lost) a.writes (sound-lost a.move s.frames a.lost clear.save lost (sound-moved a.move s.frames clear.save sound)) clear.free.free))
+
+next_sound : (limit : ℕ) (due : Due) (stands : Option Event) (s : State) (r : Record) → IsSound s.frames → next_in limit due stands s ≡ Does r → IsSound r.after.frames
+next_sound limit due stands s r sound e =
+    let comes = next_comes limit due stands s r e in
+    subst (λ (x : Record). IsSound x.after.frames) (sym comes.0) (sound-acted s (action_by_kind r.kind s) (kind_clear limit due stands r.kind s comes.1) (kind_lost r.kind s) sound)
+
+sound-boot : (image : List (ℕ × ℕ)) → IsSound (boot image).frames
+unfolding boot started
+sound-boot image = sound-none
+
+-- frames are sound after each record of a run, whatever events it meets
+pub sound-after : (g : Given) (rs : List Record) → IsPastOfSome (next_with g) rs → IsSound (state_after g rs).frames
+sound-after g [] past = sound-boot g.image
+sound-after g (r ∷ rs) past = next_sound g.length (due_after rs) past.1.0 (state_after g rs) r (sound-after g rs past.0) past.1.1

@@ -1,0 +1,48 @@
+-- The last value of a place among several: behind others, and beside a group and a frame.
+use Rattle.std.proofs.Common.{◌≡◌, ℕ, ◌+◌, false, cond, List, ◌∷◌, ◌++◌, length, Option, Some, None, refl, ap, ◌∙◌, arith, []}
+use Rattle.std.specs.Prelude.{◌==◌, replicate}
+use Rattle.std.proofs.lemmas.Bool.{cond-false, or_parts}
+use Rattle.std.proofs.lemmas.Bool.Decides.{nat_tests}
+use Rattle.i9_isa.specs.Resources.{is_in_group, is_in_frame}
+use Rattle.i9_model.specs.Writes.{pairs_at, or_earlier, last_put}
+use Rattle.i9_model.specs.declared.push.Push.{Push}
+use Rattle.i9_model.specs.Step.{frame_sets, push_sets}
+
+-- ---- several after others
+
+pub or_none : (o p q : Option ℕ) → or_earlier (or_earlier o p) q ≡ or_earlier o (or_earlier p q)
+or_none None p q = refl
+or_none (Some v) p q = refl
+
+pub last_append : (ps qs : List (ℕ × ℕ)) (x : ℕ) → last_put (ps ++ qs) x ≡ or_earlier (last_put qs x) (last_put ps x)
+unfolding last_put
+last_append [] [] x = refl
+last_append [] (q ∷ qs) x = none_last (or_earlier (last_put qs x) (cond (x == q.0) (Some q.1) None))
+  where
+    none_last : (o : Option ℕ) → o ≡ or_earlier o None
+    none_last None = refl
+    none_last (Some v) = refl
+last_append (p ∷ ps) qs x =
+    ap (λ (o : Option ℕ). or_earlier o (cond (x == p.0) (Some p.1) None)) (last_append ps qs x)
+    ∙ or_none (last_put qs x) (last_put ps x) (cond (x == p.0) (Some p.1) None)
+
+-- ---- beside a group and a frame
+
+pub group_beside : (r k : ℕ) (vs : List ℕ) → is_in_group r (length vs) k ≡ false → last_put (pairs_at (λ n. n) r vs) k ≡ None
+unfolding last_put
+group_beside r k [] h = refl
+group_beside r k (v ∷ vs) h =
+    let less : is_in_group (r + 1) (length vs) k ≡ false = grind (arith, nat_tests, h) in
+    let other : (k == r) ≡ false = grind (arith, nat_tests, h) in
+    ap (λ (o : Option ℕ). or_earlier o (cond (k == r) (Some v) None)) (group_beside (r + 1) k vs less) ∙ cond-false (k == r) (Some v) None other
+
+pub frame_beside : (ws : List ℕ) (fp k : ℕ) → length ws ≡ 16 → is_in_frame k ≡ false → last_put (frame_sets ws fp) k ≡ None
+unfolding last_put
+frame_beside ws fp k whole h =
+    let parts = or_parts (is_in_group 0 16 k) (k == 31) h in
+    last_append (pairs_at (λ r. r) 0 ws) ((31, fp) ∷ []) k
+    ∙ ap (λ (o : Option ℕ). or_earlier o (last_put (pairs_at (λ r. r) 0 ws) k)) (cond-false (k == 31) (Some fp) None parts.1)
+    ∙ group_beside 0 k ws (ap (λ (n : ℕ). is_in_group 0 n k) whole ∙ parts.0)
+
+pub push_beside : (p : Push) (k : ℕ) → is_in_frame k ≡ false → last_put (push_sets p) k ≡ None
+push_beside p k h = frame_beside (p.pfp ∷ p.sp ∷ replicate 14 0) p.frame k refl h

@@ -1,8 +1,0 @@
-use Rattle.i9_model.proofs.ReadBack.{journal_says, line_of-journal}
-use Rattle.i9_model.proofs.schedule_laws.journal_is_read_back.Goals as goal
-
-pub returns-clause-words : goal.returns-clause-words
-returns-clause-words c = journal_says
-
-pub returns-clause-line : goal.returns-clause-line
-returns-clause-line c = line_of-journal

@@ -1,5 +1,0 @@
-use Rattle.i9_model.proofs.TurnAlike.{alike-overtakes}
-use Rattle.i9_model.proofs.turn_laws.barriers_decide_no_overtaking.Goals as goal
-
-pub returns : goal.returns
-returns c = alike-overtakes

@@ -1,8 +1,0 @@
-use Rattle.i9_model.proofs.TurnLeast.{timed-least, timed-solves}
-use Rattle.i9_model.proofs.turn_laws.turns_are_least.Goals as goal
-
-pub returns-clause-solve : goal.returns-clause-solve
-returns-clause-solve c = timed-solves
-
-pub returns-clause-least : goal.returns-clause-least
-returns-clause-least c = timed-least

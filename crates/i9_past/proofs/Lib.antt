@@ -1,0 +1,10 @@
+pub mod Stands
+pub mod Comes
+pub mod Left
+pub mod Ends
+pub mod Unique
+pub mod Cuts
+pub mod Lines
+pub mod Untraced
+pub mod PlannedRuns
+pub mod Heedful

@@ -1,0 +1,4 @@
+pub mod EventForms
+pub mod ReadBack
+pub mod Plans
+pub mod Replay

@@ -1,0 +1,177 @@
+-- A record leaves the registers that its need does not write.
+use Rattle.std.proofs.Common.{◌≡◌, ℕ, ◌+◌, ◌*◌, ◌^◌, ◌≤◌, Bool, true, false, cond, ◌&&◌, ◌||◌, List, [], ◌∷◌, length, Option, Some, None, refl, sym, ap, ◌∙◌, arith, ℤ}
+use Rattle.std.specs.Prelude.{◌==◌, nat_le, not, bit_or}
+use Rattle.std.proofs.lemmas.Bool.{cond-false, le-leb, leb-true, eqb-true}
+use Rattle.std.proofs.lemmas.Bool.Decides.{nat_tests}
+use Rattle.std.proofs.lemmas.List.FromFn.{length-map-range_with_len}
+use Rattle.i9_isa.specs.declared.op.Op.{Op}
+use Rattle.i9_isa.specs.declared.op.Op.TheVariants.{Lda, Atadd, Atmod, Bx, Balx, Bal, Call, Callx, Calls, Ret, Flushreg, Modac, Modtc, Modpc, Sdma, Sysctl, Addi, Subi, Muli, Shli, Divo, Remo, Divi, Remi, Modi, Ediv, Concmpo, Concmpi, Spanbit, Scanbit}
+use Rattle.i9_isa.specs.declared.size.Size.{Size}
+use Rattle.i9_isa.specs.declared.size.Size.TheVariants.{Byte, Half, Words}
+use Rattle.i9_isa.specs.declared.size.Direction.{Direction}
+use Rattle.i9_isa.specs.declared.size.Direction.TheVariants.{Load, Store}
+use Rattle.i9_isa.specs.declared.size.Transfer.{Transfer}
+use Rattle.i9_isa.specs.declared.inst.Operand.{Operand}
+use Rattle.i9_isa.specs.declared.inst.Operand.TheVariants.{Reg, Lit, Sfr}
+use Rattle.i9_isa.specs.declared.inst.Inst.{Inst}
+use Rattle.i9_isa.specs.Operands.{words_written}
+use Rattle.i9_isa.specs.Resources.{is_in_group, is_in_operand, is_in_frame, changes_frame, writes_link}
+use Rattle.i9_isa.specs.declared.resources.TheConstants.{LINK}
+use Rattle.i9_isa.specs.Table.{row_of}
+use Rattle.i9_isa.specs.Transfers.{register_count, transfer_of}
+use Rattle.i9_isa.proofs.Moved.{loads_registers}
+use Rattle.i9_model.specs.declared.arith.Arith.TheVariants.{Overflow, ZeroDivide}
+use Rattle.i9_model.specs.Writes.{wrapped, last_put}
+use Rattle.i9_model.specs.declared.layout.TheConstants.{FP, SP, LOCAL_RETURN}
+use Rattle.i9_model.specs.Frames.{pushed}
+use Rattle.i9_model.specs.State.{State}
+use Rattle.i9_model.specs.Operands.{assigned, reduced, address}
+use Rattle.i9_model.specs.Memory.{Memory, word_in, words_in}
+use Rattle.i9_model.specs.Numbers.{signed, modulo, complement, highest_one}
+use Rattle.std.specs.Int.RustNames.{int_div, int_rem}
+use Rattle.std.specs.Prelude.{slice_index, ◌+ℤ◌, ◌-ℤ◌, ◌*ℤ◌, pos, ◌/◌, ◌%◌, int_lt}
+use Rattle.i9_isa.specs.Words.{bit}
+use Rattle.i9_model.specs.Results.{Answer, word, words, checked, faulting, code, found, results_by, destination_words, long, long_divided}
+use Rattle.i9_model.specs.Branches.{asks, question_of}
+use Rattle.i9_model.specs.Step.{values_of, destination, loaded, moving, action_by_name, action_by, action_of, branching, resulting, answer_in, atomic_address, following, return_in, asked_message, message_action, system_call, Message, AsksNothing, AsksCheck, AsksInterrupt, AsksRestart, AsksGroup}
+use Rattle.i9_model.specs.Stale.{legible, left_memory}
+use Rattle.i9_model.proofs.LastPuts.{group_beside, frame_beside, push_beside}
+
+-- ---- how many words a result has
+
+overflow_few : (b c : Bool) (v ac : ℕ) → nat_le (length (cond b (cond c (word v (bit_or ac (2 ^ 8))) (faulting Overflow ac)) (word v ac)).values) 1 ≡ true
+overflow_few true true v ac = refl
+overflow_few true false v ac = refl
+overflow_few false c v ac = refl
+
+checked_few : (z : ℤ) (ac : ℕ) → nat_le (length (checked z ac).values) 1 ≡ true
+checked_few z ac = overflow_few _ _ _ ac
+
+divided_few : (b : Bool) (r : Answer) (n ac : ℕ) → nat_le (length r.values) n ≡ true → nat_le (length (cond b (faulting ZeroDivide ac) r).values) n ≡ true
+divided_few true r n ac h = le-leb 0 n (omega arith)
+divided_few false r n ac h = h
+
+unless_few : (b c : Bool) (ac : ℕ) → nat_le (length (cond b (words [] ac) (code (cond c 2 1) ac)).values) 0 ≡ true
+unless_few true c ac = refl
+unless_few false c ac = refl
+
+found_few : (o : Option ℕ) (ac : ℕ) → nat_le (length (found o ac).values) 1 ≡ true
+found_few None ac = refl
+found_few (Some p) ac = refl
+
+few_values : (op : Op) (a b : List ℕ) (c ac : ℕ) → nat_le (length (values_of (results_by op a b c ac))) (destination_words op) ≡ true
+few_values Addi a b c ac = checked_few (signed (slice_index b 0) +ℤ signed (slice_index a 0)) ac
+few_values Subi a b c ac = checked_few (signed (slice_index b 0) -ℤ signed (slice_index a 0)) ac
+few_values Muli a b c ac = checked_few (signed (slice_index b 0) *ℤ signed (slice_index a 0)) ac
+few_values Shli a b c ac = checked_few (signed (slice_index b 0) *ℤ pos (2 ^ slice_index a 0)) ac
+few_values Divo a b c ac = divided_few (slice_index a 0 == 0) (word (slice_index b 0 / slice_index a 0) ac) 1 ac refl
+few_values Remo a b c ac = divided_few (slice_index a 0 == 0) (word (slice_index b 0 % slice_index a 0) ac) 1 ac refl
+few_values Divi a b c ac = divided_few (slice_index a 0 == 0) (checked (int_div (signed (slice_index b 0)) (signed (slice_index a 0))) ac) 1 ac (checked_few (int_div (signed (slice_index b 0)) (signed (slice_index a 0))) ac)
+few_values Remi a b c ac = divided_few (slice_index a 0 == 0) (word (reduced (int_rem (signed (slice_index b 0)) (signed (slice_index a 0)))) ac) 1 ac refl
+few_values Modi a b c ac = divided_few (slice_index a 0 == 0) (word (reduced (modulo (signed (slice_index b 0)) (signed (slice_index a 0)))) ac) 1 ac refl
+few_values Ediv a b c ac = divided_few (slice_index a 0 == 0) (words (long_divided (long (slice_index b 0) (slice_index b 1)) (slice_index a 0)) ac) 2 ac refl
+few_values Concmpo a b c ac = unless_few (bit ac 2) (nat_le (slice_index a 0) (slice_index b 0)) ac
+few_values Concmpi a b c ac = unless_few (bit ac 2) (not (int_lt (signed (slice_index b 0)) (signed (slice_index a 0)))) ac
+few_values Spanbit a b c ac = found_few (highest_one 32 (complement (slice_index a 0))) ac
+few_values Scanbit a b c ac = found_few (highest_one 32 (slice_index a 0)) ac
+few_values _ a b c ac = refl
+
+-- ---- registers beside a destination
+
+in_fewer : (r m n k : ℕ) → m ≤ n → is_in_group r n k ≡ false → is_in_group r m k ≡ false
+in_fewer r m n k le h = grind (arith, nat_tests, le, h)
+
+operand_beside : (o : Operand) (n k : ℕ) (vs : List ℕ) → length vs ≤ n → is_in_operand o n k ≡ false → last_put (assigned o vs) k ≡ None
+unfolding last_put
+operand_beside (Reg r) n k vs few h = group_beside r k vs (in_fewer r (length vs) n k few h)
+operand_beside (Lit l) n k vs few h = refl
+operand_beside (Sfr j) n k vs few h = refl
+
+-- ---- an instruction
+
+pub record IsOutside (i : Inst) (k : ℕ) : Type 0 where
+  pub a : is_in_operand i.a (words_written (row_of i.op).a) k ≡ false
+  pub c : is_in_operand i.c (words_written (row_of i.op).c) k ≡ false
+  pub link : (writes_link i.op && (k == LINK)) ≡ false
+  pub frame : (changes_frame i.op && is_in_frame k) ≡ false
+
+c_beside : (op : Op) (i : Inst) (k : ℕ) (vs : List ℕ) → i.op ≡ op → nat_le (length vs) (words_written (row_of op).c) ≡ true → IsOutside i k → last_put (assigned i.c vs) k ≡ None
+c_beside op i k vs e few h =
+    operand_beside i.c (words_written (row_of i.op).c) k vs (leb-true _ _ (ap (λ (o : Op). nat_le (length vs) (words_written (row_of o).c)) e ∙ few)) h.c
+
+-- no name writes two operands
+pub one_target : (op : Op) → ((words_written (row_of op).a == 0) || (words_written (row_of op).c == 0)) ≡ true
+one_target Addi = refl
+one_target _ = refl
+
+answer_beside : (first : Bool) (i : Inst) (k : ℕ) (vs : List ℕ) → (words_written (row_of i.op).a == 0) ≡ first → length vs ≤ destination_words i.op → IsOutside i k → last_put (assigned (destination i) vs) k ≡ None
+answer_beside true i k vs e few h =
+    let none : words_written (row_of i.op).a ≡ 0 = eqb-true _ _ e in
+    ap (λ (b : Bool). last_put (assigned (cond b i.c i.a) vs) k) e
+    ∙ operand_beside i.c (words_written (row_of i.op).c) k vs (omega (arith, none, few)) h.c
+answer_beside false i k vs e few h =
+    let none : words_written (row_of i.op).c ≡ 0 = eqb-true _ _ (sym (ap (λ (b : Bool). b || (words_written (row_of i.op).c == 0)) e) ∙ one_target i.op) in
+    ap (λ (b : Bool). last_put (assigned (cond b i.c i.a) vs) k) e
+    ∙ operand_beside i.a (words_written (row_of i.op).a) k vs (omega (arith, none, few)) h.a
+
+other_beside : (b : Bool) (i : Inst) (s : State) (k : ℕ) → IsOutside i k → last_put (cond b (branching i s) (resulting i s (answer_in i s))).sets k ≡ None
+unfolding last_put
+other_beside true i s k h = refl
+other_beside false i s k h = answer_beside (words_written (row_of i.op).a == 0) i k (values_of (answer_in i s)) refl (leb-true _ _ (few_values i.op _ _ _ s.ac)) h
+
+one_beside : (r v k : ℕ) → (k == r) ≡ false → last_put ((r, v) ∷ []) k ≡ None
+unfolding last_put
+one_beside r v k h = cond-false (k == r) (Some v) None h
+
+true_frame : (op : Op) (i : Inst) (k : ℕ) → i.op ≡ op → changes_frame op ≡ true → IsOutside i k → is_in_frame k ≡ false
+true_frame op i k e t h = sym (ap (λ (b : Bool). b && is_in_frame k) (ap changes_frame e ∙ t)) ∙ h.frame
+
+name_beside : (op : Op) (i : Inst) (s : State) (k : ℕ) → i.op ≡ op → IsOutside i k → last_put (action_by_name op i s).sets k ≡ None
+unfolding last_put
+name_beside Lda i s k e h = c_beside Lda i k (address s i.ea ∷ []) e refl h
+name_beside Atadd i s k e h = c_beside Atadd i k (word_in (legible s) (atomic_address i s) ∷ []) e refl h
+name_beside Atmod i s k e h = c_beside Atmod i k (word_in (legible s) (atomic_address i s) ∷ []) e refl h
+name_beside Bx i s k e h = refl
+name_beside Balx i s k e h = c_beside Balx i k (following i s ∷ []) e refl h
+name_beside Bal i s k e h = one_beside 30 (following i s) k (sym (ap (λ (b : Bool). b && (k == 30)) (ap writes_link e)) ∙ h.link)
+name_beside Call i s k e h = push_beside (pushed (s.regs FP) (s.regs SP) 0 LOCAL_RETURN) k (true_frame Call i k e refl h)
+name_beside Callx i s k e h = push_beside (pushed (s.regs FP) (s.regs SP) 0 LOCAL_RETURN) k (true_frame Callx i k e refl h)
+name_beside Calls i s k e h = push_beside (system_call i s).push k (true_frame Calls i k e refl h)
+name_beside Ret i s k e h = frame_beside (words_in (left_memory s.frames.live s) (return_in s).frame 16) (return_in s).frame k refl (true_frame Ret i k e refl h)
+name_beside Flushreg i s k e h = refl
+name_beside Modac i s k e h = c_beside Modac i k (s.ac ∷ []) e refl h
+name_beside Modtc i s k e h = c_beside Modtc i k (s.trace.tc ∷ []) e refl h
+name_beside Modpc i s k e h = c_beside Modpc i k (s.pc ∷ []) e refl h
+name_beside Sdma i s k e h = refl
+name_beside Sysctl i s k e h = by_message (asked_message i s)
+  where
+    by_message : (m : Message) → last_put (message_action m i s).sets k ≡ None
+    by_message AsksNothing = refl
+    by_message AsksCheck = refl
+    by_message AsksInterrupt = refl
+    by_message AsksRestart = refl
+    by_message AsksGroup = refl
+name_beside op i s k e h = other_beside (asks (question_of op)) i s k h
+
+-- a load has the words of its size
+loaded_long : (size : Size) (signed : Bool) (m : Memory) (a : ℕ) → length (loaded size signed m a) ≡ register_count size
+loaded_long Byte signed m a = refl
+loaded_long Half signed m a = refl
+loaded_long (Words n) signed m a = length-map-range_with_len (λ (k : ℕ). word_in m (wrapped (a + 4 * k))) 0 n
+
+moving_beside : (d : Direction) (size : Size) (signed : Bool) (i : Inst) (s : State) (k : ℕ) → (d ≡ Load → words_written (row_of i.op).c ≡ register_count size) → IsOutside i k → last_put (moving d size signed i s).sets k ≡ None
+unfolding last_put
+moving_beside Load size signed i s k row h =
+    let long = loaded_long size signed (legible s) (address s i.ea) in
+    let words = row refl in
+    operand_beside i.c (words_written (row_of i.op).c) k (loaded size signed (legible s) (address s i.ea)) (omega (arith, long, words)) h.c
+moving_beside Store size signed i s k row h = refl
+
+-- a register that the need does not write is not set
+pub sets_beside : (i : Inst) (s : State) (k : ℕ) → IsOutside i k → last_put (action_of i s).sets k ≡ None
+unfolding action_of
+sets_beside i s k h = by_transfer (transfer_of i.op) refl
+  where
+    by_transfer : (o : Option Transfer) → transfer_of i.op ≡ o → last_put (action_by o i s).sets k ≡ None
+    by_transfer (Some t) e = moving_beside t.direction t.size t.signed i s k (loads_registers i.op t e) h
+    by_transfer None e = name_beside i.op i s k refl h

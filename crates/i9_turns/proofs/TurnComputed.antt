@@ -1,0 +1,285 @@
+-- The computed turn is the least at which the need may issue.
+use Rattle.std.proofs.Common.{◌≡◌, ◌≢◌, ℕ, ◌+◌, ◌-◌, ◌<◌, ◌≤◌, max, Bool, true, false, cond, ◌&&◌, ◌||◌, List, [], ◌∷◌, refl, ap, subst, inl, inr, arith}
+use Rattle.std.specs.Prelude.{IsTrue, nat_lt, nat_le, ◌⊎◌}
+use Rattle.std.specs.List.{AllByRecursion}
+use Rattle.std.proofs.lemmas.Bool.{cases_Bool, cases_lt, cond-true, cond-false, lt-ltb, le-ltb, le-leb, leb-true, or_cases, or_left, or_right, and_from, and_parts, and_left, and_right, both_ways}
+use Rattle.std.proofs.lemmas.List.Sums.{sum_by-cons}
+use Rattle.i9_model.specs.declared.need.Need.{Need}
+use Rattle.i9_model.specs.declared.need.TimedNeed.{TimedNeed}
+use Rattle.i9_model.specs.Turns.{RequestsInOrder}
+use Rattle.i9_model.specs.Turns.{ChangesValue, Permits, CanIssue, IssuesAt, open_requests, last_request, keeps_side, changes_value, changes_words, waits_for, least_turn, turn_from, issue_turn}
+use Rattle.i9_turns.proofs.TurnDropped.{last_request-yes, last_request-no}
+use Rattle.i9_turns.proofs.TurnTests.{changes_value-from, changes_value-none, changes_words-from, changes_words-true}
+
+pub cond-le : (b : Bool) (m v : ℕ) → (b ≡ true → m ≤ v) → cond b m 0 ≤ v
+cond-le true m v h = h refl
+cond-le false m v h = omega arith
+
+pub le-cond : (b : Bool) (m v : ℕ) → cond b m 0 ≤ v → b ≡ true → m ≤ v
+le-cond b m v h e = subst (λ k. k ≤ v) (cond-true b m 0 e) h
+
+-- what makes a need wait for a record
+pub record Waits (n : Need) (v : ℕ) (r : TimedNeed) : Type 0 where
+  pub values : changes_value r.need n ≡ true → r.done ≤ v
+  pub slow : n.slow ≡ true → r.need.slow ≡ true → r.done ≤ v
+  pub words : changes_words r.need.store n.code ≡ true → r.done ≤ v
+  pub barrier : r.need.barrier ≡ true → r.done ≤ v
+  pub alone : (n.barrier ≡ true) ⊎ (n.alone ≡ true) → r.done ≤ v
+
+pub waits-done : (n : Need) (v : ℕ) (r : TimedNeed) → Waits n v r → waits_for n r.need ≡ true → r.done ≤ v
+waits-done n v r w h =
+    let a = changes_value r.need n in
+    let b = n.slow && r.need.slow in
+    let c = changes_words r.need.store n.code in
+    elim (or_cases (a || b || c || r.need.barrier || n.barrier) n.alone h) [
+      | inr e ↦ w.alone (inr e)
+      | inl h5 ↦ elim (or_cases (a || b || c || r.need.barrier) n.barrier h5) [
+        | inr e ↦ w.alone (inl e)
+        | inl h4 ↦ elim (or_cases (a || b || c) r.need.barrier h4) [
+          | inr e ↦ w.barrier e
+          | inl h3 ↦ elim (or_cases (a || b) c h3) [
+            | inr e ↦ w.words e
+            | inl h2 ↦ elim (or_cases a b h2) [
+              | inr e ↦ let p = and_parts n.slow r.need.slow e in w.slow p.0 p.1
+              | inl e ↦ w.values e
+            ]
+          ]
+        ]
+      ]
+    ]
+
+pub done-waits : (n : Need) (v : ℕ) (r : TimedNeed) → (waits_for n r.need ≡ true → r.done ≤ v) → Waits n v r
+done-waits n v r h =
+    let a = changes_value r.need n in
+    let b = n.slow && r.need.slow in
+    let c = changes_words r.need.store n.code in
+    let abc = a || b || c in
+    let abcd = abc || r.need.barrier in
+    let abcde = abcd || n.barrier in
+    let from4 : abcd ≡ true → waits_for n r.need ≡ true = λ e. or_left abcde n.alone (or_left abcd n.barrier e) in
+    let from3 : abc ≡ true → waits_for n r.need ≡ true = λ e. from4 (or_left abc r.need.barrier e) in
+    let from2 : (a || b) ≡ true → waits_for n r.need ≡ true = λ e. from3 (or_left (a || b) c e) in
+    record {
+      values = λ e. h (from2 (or_left a b e));
+      slow = λ e f. h (from2 (or_right a b (and_from n.slow r.need.slow e f)));
+      words = λ e. h (from3 (or_right (a || b) c e));
+      barrier = λ e. h (from4 (or_right abc r.need.barrier e));
+      alone = λ e. elim e [
+        | inl f ↦ h (or_left abcde n.alone (or_right abcd n.barrier f))
+        | inr f ↦ h (or_right abcde n.alone f)
+      ];
+    }
+
+-- a fact that may be refuted by a smaller turn
+pub done-unless : (v d : ℕ) → ((v < d → ⊥) → d ≤ v)
+done-unless v d h = elim (cases_lt v d) [ inl lt ↦ absurd (h lt) | inr le ↦ le ]
+
+pub permits-waits : (n : Need) (v : ℕ) (r : TimedNeed) → Permits n v r → Waits n v r
+permits-waits n v r p =
+    record {
+      values = λ e. done-unless v r.done (λ lt. let none : ChangesValue r.need n → ⊥ = λ c. let le : r.done ≤ v = p.values c in omega arith in both_ways (changes_value r.need n) (changes_value-none r.need n none) e);
+      slow = p.slow;
+      words = λ e. p.words (changes_words-true r.need.store n.code e);
+      barrier = p.barrier;
+      alone = p.alone;
+    }
+
+pub waits-permits : (n : Need) (v : ℕ) (r : TimedNeed) → (IsTrue (keeps_side r.need.side n) → r.issue ≢ v) → Waits n v r → Permits n v r
+waits-permits n v r side w =
+    record {
+      side = side;
+      values = λ c. w.values (changes_value-from r.need n c);
+      slow = w.slow;
+      words = λ c. w.words (changes_words-from r.need.store n.code c);
+      barrier = w.barrier;
+      alone = w.alone;
+    }
+
+-- the request is one of the two newest, or done
+abbrev pub IsOldDone : Need → ℕ → ℕ → TimedNeed → Type 0
+IsOldDone n requests v r = IsTrue n.request → IsTrue r.need.request → 2 ≤ requests → r.done ≤ v
+
+abbrev pub is_old : Need → ℕ → TimedNeed → Bool
+is_old n requests r = n.request && r.need.request && nat_le 2 requests
+
+pub least-le : (n : Need) (k v : ℕ) (r : TimedNeed) → r.issue ≤ v → Permits n v r → IsOldDone n k v r → least_turn n k r ≤ v
+least-le n k v r before p old =
+    let side : cond (keeps_side r.need.side n) (r.issue + 1) 0 ≤ v =
+    cond-le (keeps_side r.need.side n) (r.issue + 1) v (λ e. let ne : r.issue ≢ v = p.side e in omega arith) in
+    let waits : cond (waits_for n r.need || is_old n k r) r.done 0 ≤ v =
+    cond-le (waits_for n r.need || is_old n k r) r.done v
+    (λ e. elim (or_cases (waits_for n r.need) (is_old n k r) e) [
+      | inl w ↦ waits-done n v r (permits-waits n v r p) w
+      | inr w ↦
+          let a = and_parts (n.request && r.need.request) (nat_le 2 k) w in
+          let b = and_parts n.request r.need.request a.0 in
+          old b.0 b.1 (leb-true 2 k a.1)
+    ]) in
+    omega (arith, side, waits)
+
+pub le-least : (n : Need) (k v : ℕ) (r : TimedNeed) → least_turn n k r ≤ v → Permits n v r × IsOldDone n k v r
+le-least n k v r h =
+    let side : cond (keeps_side r.need.side n) (r.issue + 1) 0 ≤ v = omega (arith, h) in
+    let waits : cond (waits_for n r.need || is_old n k r) r.done 0 ≤ v = omega (arith, h) in
+    let done = le-cond (waits_for n r.need || is_old n k r) r.done v waits in (
+      waits-permits n v r
+          (λ e same. let le : r.issue + 1 ≤ v = le-cond (keeps_side r.need.side n) (r.issue + 1) v side e in omega arith)
+          (done-waits n v r (λ e. done (or_left (waits_for n r.need) (is_old n k r) e))),
+      λ a b c. done (or_right (waits_for n r.need) (is_old n k r) (and_from (n.request && r.need.request) (nat_le 2 k) (and_from n.request r.need.request a b) (le-leb 2 k c))),
+    )
+
+-- how many requests there are with this record
+abbrev pub one_if : Bool → ℕ
+one_if b = cond b 1 0
+
+abbrev pub more : ℕ → TimedNeed → ℕ
+more k r = k + one_if r.need.request
+
+-- no record asks for a turn above v
+abbrev pub AllBelow : Need → ℕ → ℕ → List TimedNeed → Type 0
+AllBelow n k v [] = Unit {0}
+AllBelow n k v (r ∷ rs) = (least_turn n k r ≤ v) × AllBelow n (more k r) v rs
+
+-- the requests but the two newest are done at v
+abbrev pub OldDone : Need → ℕ → ℕ → List TimedNeed → Type 0
+OldDone n k v [] = Unit {0}
+OldDone n k v (r ∷ rs) = IsOldDone n k v r × OldDone n (more k r) v rs
+
+pub turn_from-least : (n : Need) (t k v : ℕ) (rs : List TimedNeed) → t ≤ v → AllBelow n k v rs → turn_from n t k rs ≤ v
+turn_from-least n t k v [] le h = le
+turn_from-least n t k v (r ∷ rs) le h =
+    let one : least_turn n k r ≤ v = h.0 in
+    let le' : max t (least_turn n k r) ≤ v = omega (arith, one) in
+    turn_from-least n (max t (least_turn n k r)) (more k r) v rs le' h.1
+
+pub turn_from-above : (n : Need) (t k v : ℕ) (rs : List TimedNeed) → turn_from n t k rs ≤ v → (t ≤ v) × AllBelow n k v rs
+turn_from-above n t k v [] h = (h, tt)
+turn_from-above n t k v (r ∷ rs) h =
+    let rest = turn_from-above n (max t (least_turn n k r)) (more k r) v rs h in
+    let le : max t (least_turn n k r) ≤ v = rest.0 in
+    (omega (arith, le), (omega (arith, le), rest.1))
+
+-- each record issued at v or before
+abbrev pub IssuedBy : ℕ → List TimedNeed → Type 0
+IssuedBy v rs = AllByRecursion (λ r. r.issue ≤ v) rs
+
+pub each-below : (n : Need) (k v : ℕ) (rs : List TimedNeed) → IssuedBy v rs → AllByRecursion (Permits n v) rs → OldDone n k v rs → AllBelow n k v rs
+each-below n k v [] b p o = tt
+each-below n k v (r ∷ rs) b p o = (least-le n k v r b.0 p.0 o.0, each-below n (more k r) v rs b.1 p.1 o.1)
+
+pub below-each : (n : Need) (k v : ℕ) (rs : List TimedNeed) → AllBelow n k v rs → AllByRecursion (Permits n v) rs × OldDone n k v rs
+below-each n k v [] h = (tt, tt)
+below-each n k v (r ∷ rs) h =
+    let one = le-least n k v r h.0 in
+    let rest = below-each n (more k r) v rs h.1 in
+    ((one.0, rest.0), (one.1, rest.1))
+
+-- ---- the number of open requests
+
+pub open_requests-cons : (v : ℕ) (r : TimedNeed) (rs : List TimedNeed) → open_requests v (r ∷ rs) ≡ one_if (r.need.request && nat_lt v r.done) + open_requests v rs
+open_requests-cons v r rs = sum_by-cons (λ r. cond (r.need.request && nat_lt v r.done) 1 0) r rs
+
+pub more-yes : (k : ℕ) (r : TimedNeed) → IsTrue r.need.request → more k r ≡ k + 1
+more-yes k r h = ap (λ m. k + m) (cond-true r.need.request 1 0 h)
+
+pub more-no : (k : ℕ) (r : TimedNeed) → r.need.request ≡ false → more k r ≡ k
+more-no k r h = let e : one_if r.need.request ≡ 0 = cond-false r.need.request 1 0 h in omega (arith, e)
+
+pub one-yes : (v : ℕ) (r : TimedNeed) → IsTrue r.need.request → v < r.done → one_if (r.need.request && nat_lt v r.done) ≡ 1
+one-yes v r h lt = cond-true (r.need.request && nat_lt v r.done) 1 0 (and_from r.need.request (nat_lt v r.done) h (lt-ltb v r.done lt))
+
+pub one-no : (v : ℕ) (r : TimedNeed) → r.need.request ≡ false → one_if (r.need.request && nat_lt v r.done) ≡ 0
+one-no v r h = cond-false (r.need.request && nat_lt v r.done) 1 0 (and_left r.need.request (nat_lt v r.done) h)
+
+pub one-done : (v : ℕ) (r : TimedNeed) → r.done ≤ v → one_if (r.need.request && nat_lt v r.done) ≡ 0
+one-done v r le = cond-false (r.need.request && nat_lt v r.done) 1 0 (and_right r.need.request (nat_lt v r.done) (le-ltb v r.done le))
+
+-- where the older requests are done, few are open
+pub old-few : (n : Need) (k v : ℕ) → IsTrue n.request → (rs : List TimedNeed) → OldDone n k v rs → open_requests v rs ≤ 2 - k
+old-few n k v q [] h = omega arith
+old-few n k v q (r ∷ rs) h =
+    let rest : open_requests v rs ≤ 2 - more k r = old-few n (more k r) v q rs h.1 in
+    let e = open_requests-cons v r rs in
+    elim (cases_Bool r.need.request) [
+      | inr not ↦ omega (arith, rest, e, more-no k r not, one-no v r not)
+      | inl is ↦
+          elim (cases_lt v r.done) [
+            | inr over ↦ omega (arith, rest, e, more-yes k r is, one-done v r over)
+            | inl later ↦
+                let few : k < 2 = elim (cases_lt k 2) [ inl lt ↦ lt | inr ge ↦ let le : r.done ≤ v = h.0 q is ge in absurd (omega arith) ] in
+                omega (arith, rest, e, more-yes k r is, one-yes v r is later)
+          ]
+    ]
+
+-- where the last request is done, so are those before it
+pub last-old : (n : Need) (k v : ℕ) (rs : List TimedNeed) → RequestsInOrder rs → last_request rs ≤ v → OldDone n k v rs
+last-old n k v [] o h = tt
+last-old n k v (r ∷ rs) o h =
+    elim (cases_Bool r.need.request) [
+      | inl is ↦
+          let le : last_request rs ≤ r.done = o.0 is in
+          let e = last_request-yes r rs is in
+          (λ _ _ _. omega (arith, e), last-old n (more k r) v rs o.1 (omega (arith, e, le)))
+      | inr not ↦
+          let e = last_request-no r rs not in
+          (λ _ is _. absurd (both_ways r.need.request not is), last-old n (more k r) v rs o.1 (omega (arith, e)))
+    ]
+
+-- where few are open, the older requests are done
+pub few-old : (n : Need) (k v : ℕ) (rs : List TimedNeed) → RequestsInOrder rs → open_requests v rs ≤ 2 - k → OldDone n k v rs
+few-old n k v [] o h = tt
+few-old n k v (r ∷ rs) o h =
+    let e = open_requests-cons v r rs in
+    elim (cases_Bool r.need.request) [
+      | inr not ↦
+          (λ _ is _. absurd (both_ways r.need.request not is), few-old n (more k r) v rs o.1 (omega (arith, e, h, more-no k r not, one-no v r not)))
+      | inl is ↦
+          elim (cases_lt v r.done) [
+            | inr over ↦
+                let le : last_request rs ≤ r.done = o.0 is in
+                (λ _ _ _. over, last-old n (more k r) v rs o.1 (omega arith))
+            | inl later ↦
+                (λ _ _ two. absurd (omega (arith, e, h, one-yes v r is later)), few-old n (more k r) v rs o.1 (omega (arith, e, h, more-yes k r is, one-yes v r is later)))
+          ]
+    ]
+
+-- ---- the issue turn
+
+pub no-old : (n : Need) (k v : ℕ) → n.request ≡ false → (rs : List TimedNeed) → OldDone n k v rs
+no-old n k v h [] = tt
+no-old n k v h (r ∷ rs) = (λ is _ _. absurd (both_ways n.request h is), no-old n (more k r) v h rs)
+
+pub issued-later : (t v : ℕ) → t ≤ v → (rs : List TimedNeed) → IssuedBy t rs → IssuedBy v rs
+issued-later t v le [] h = tt
+issued-later t v le (r ∷ rs) h = (let k : r.issue ≤ t = h.0 in omega arith, issued-later t v le rs h.1)
+
+pub can-below : (last : ℕ) (rs : List TimedNeed) (n : Need) (v : ℕ) → IssuedBy last rs → RequestsInOrder rs → CanIssue last rs n v → issue_turn last rs n ≤ v
+can-below last rs n v b o h =
+    let le : last ≤ v = h.in_order in
+    let wait : n.not_before ≤ v = h.waited in
+    let old : OldDone n 0 v rs =
+    elim (cases_Bool n.request) [
+      | inl is ↦ few-old n 0 v rs o (let few : open_requests v rs ≤ 2 = h.room is in omega (arith, few))
+      | inr not ↦ no-old n 0 v not rs
+    ] in
+    turn_from-least n (max last n.not_before) 0 v rs (omega arith) (each-below n 0 v rs (issued-later last v le rs b) h.each old)
+
+pub below-can : (last : ℕ) (rs : List TimedNeed) (n : Need) (v : ℕ) → issue_turn last rs n ≤ v → CanIssue last rs n v
+below-can last rs n v h =
+    let a = turn_from-above n (max last n.not_before) 0 v rs h in
+    let le : max last n.not_before ≤ v = a.0 in
+    let each = below-each n 0 v rs a.1 in
+    record {
+      in_order = omega (arith, le);
+      waited = omega (arith, le);
+      each = each.0;
+      room = λ q. let few : open_requests v rs ≤ 2 - 0 = old-few n 0 v q rs each.1 in omega (arith, few);
+    }
+
+-- the computed turn is the issue turn
+pub issue_turn-issues : (last : ℕ) (rs : List TimedNeed) (n : Need) → IssuedBy last rs → RequestsInOrder rs → IssuesAt last rs n (issue_turn last rs n)
+issue_turn-issues last rs n b o =
+    record {
+      can = below-can last rs n (issue_turn last rs n) (omega arith);
+      least = λ u can. can-below last rs n u b o can;
+    }

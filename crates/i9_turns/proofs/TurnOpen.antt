@@ -1,0 +1,87 @@
+-- The open records alone decide the turns of the next one.
+use Rattle.std.proofs.Common.{◌≡◌, ℕ, ◌<◌, ◌≤◌, max, List, [], ◌∷◌, sym, refl, ap, ◌∙◌, subst, inl, inr, arith}
+use Rattle.std.specs.Prelude.{IsTrue}
+use Rattle.std.proofs.lemmas.Bool.{cases_Bool, cond-true, cond-false, cases_lt}
+use Rattle.std.specs.List.{AllByRecursion}
+use Rattle.i9_model.specs.declared.need.Need.{Need}
+use Rattle.i9_model.specs.declared.need.TimedNeed.{TimedNeed}
+use Rattle.i9_model.specs.Turns.{RequestsInOrder}
+use Rattle.i9_model.specs.Turns.{open_at, done_turn, last_request, last_issue, Follows, IsTimed, TakesTurns, pending_of, pending_after, FollowsOpen, IsAllDone, AreAllDone}
+use Rattle.i9_turns.proofs.TurnDropped.{TakeTime, each-open, open-yes, open-no, issues-open, open-issues, done_turn-open}
+
+-- a record is done after its turn, and a request after the one before it
+pub done-after : (rs : List TimedNeed) (n : Need) (t : ℕ) → 1 ≤ n.cost → t < done_turn rs n t
+done-after rs n t c = elim (cases_Bool n.request) [
+  | inl is ↦ omega (arith, cond-true n.request (max t (last_request rs)) t is)
+  | inr not ↦ omega (arith, cond-false n.request (max t (last_request rs)) t not)
+]
+
+pub request-after : (rs : List TimedNeed) (n : Need) (t : ℕ) → IsTrue n.request → last_request rs ≤ done_turn rs n t
+request-after rs n t is = omega (arith, cond-true n.request (max t (last_request rs)) t is)
+
+pub timed-take_time : (rs : List TimedNeed) → IsTimed rs → TakesTurns rs → TakeTime rs
+timed-take_time [] h c = tt
+timed-take_time (r ∷ rs) h c =
+    let e : r.done ≡ done_turn rs r.need r.issue = h.0.done in
+    (subst (λ m. r.issue < m) (sym e) (done-after rs r.need r.issue c.0), timed-take_time rs h.1 c.1)
+
+pub timed-in_order : (rs : List TimedNeed) → IsTimed rs → RequestsInOrder rs
+timed-in_order [] h = tt
+timed-in_order (r ∷ rs) h =
+    let e : r.done ≡ done_turn rs r.need r.issue = h.0.done in
+    (λ is. subst (λ m. last_request rs ≤ m) (sym e) (request-after rs r.need r.issue is), timed-in_order rs h.1)
+
+pub open-open : (t u : ℕ) → t ≤ u → (rs : List TimedNeed) → open_at u (open_at t rs) ≡ open_at u rs
+open-open t u le [] = refl
+open-open t u le (r ∷ rs) =
+    elim (cases_lt t r.done) [
+      | inl later ↦
+          elim (cases_lt u r.done) [
+            | inl still ↦ ap (open_at u) (open-yes t r rs later) ∙ open-yes u r (open_at t rs) still ∙ ap (λ xs. r ∷ xs) (open-open t u le rs) ∙ sym (open-yes u r rs still)
+            | inr over ↦ ap (open_at u) (open-yes t r rs later) ∙ open-no u r (open_at t rs) over ∙ open-open t u le rs ∙ sym (open-no u r rs over)
+          ]
+      | inr over ↦ ap (open_at u) (open-no t r rs over) ∙ open-open t u le rs ∙ sym (open-no u r rs (omega arith))
+    ]
+
+-- the first law: a record that follows the open ones follows them all, and the other way round
+pub follows-open : (rs : List TimedNeed) (r : TimedNeed) → IsTimed rs → TakesTurns rs → Follows rs r → FollowsOpen (pending_of rs) r
+follows-open rs r h c f =
+    let last = last_issue rs in
+    let in_order : last_issue rs ≤ r.issue = f.issue.can.in_order in
+    record {
+      issue = issues-open last last rs r.need r.issue (omega arith) (timed-take_time rs h c) f.issue;
+      done = f.done ∙ sym (done_turn-open last r.issue in_order rs r.need (timed-in_order rs h));
+    }
+
+pub open-follows : (rs : List TimedNeed) (r : TimedNeed) → IsTimed rs → TakesTurns rs → FollowsOpen (pending_of rs) r → Follows rs r
+open-follows rs r h c f =
+    let last = last_issue rs in
+    let in_order : last_issue rs ≤ r.issue = f.issue.can.in_order in
+    record {
+      issue = open-issues last last rs r.need r.issue (omega arith) (timed-take_time rs h c) f.issue;
+      done = f.done ∙ done_turn-open last r.issue in_order rs r.need (timed-in_order rs h);
+    }
+
+pub pending-next : (rs : List TimedNeed) (r : TimedNeed) → r.issue < r.done → last_issue rs ≤ r.issue → pending_of (r ∷ rs) ≡ pending_after (pending_of rs) r
+pending-next rs r time in_order =
+    let e : open_at r.issue (r ∷ rs) ≡ r ∷ open_at r.issue (open_at (last_issue rs) rs) =
+    open-yes r.issue r rs time ∙ ap (λ xs. r ∷ xs) (sym (open-open (last_issue rs) r.issue in_order rs)) in
+    ap (λ xs. record { last = r.issue; records = xs }) e
+
+-- ---- the least turn at which all is done
+
+pub done-open : (u t : ℕ) → u ≤ t → (rs : List TimedNeed) → AllByRecursion (λ r. r.done ≤ t) (open_at u rs) → AllByRecursion (λ r. r.done ≤ t) rs
+done-open u t le [] h = tt
+done-open u t le (r ∷ rs) h =
+    elim (cases_lt u r.done) [
+      | inl later ↦ let k = subst (AllByRecursion (λ r. r.done ≤ t)) (open-yes u r rs later) h in (k.0, done-open u t le rs k.1)
+      | inr over ↦ let k = subst (AllByRecursion (λ r. r.done ≤ t)) (open-no u r rs over) h in (omega arith, done-open u t le rs k)
+    ]
+
+pub all_done-open : (rs : List TimedNeed) (t : ℕ) → AreAllDone rs t → IsAllDone (pending_of rs) t
+all_done-open rs t h = record { in_order = h.in_order; done = each-open (λ r. r.done ≤ t) (last_issue rs) rs h.done }
+
+pub open-all_done : (rs : List TimedNeed) (t : ℕ) → IsAllDone (pending_of rs) t → AreAllDone rs t
+open-all_done rs t h =
+    let le : last_issue rs ≤ t = h.in_order in
+    record { in_order = le; done = done-open (last_issue rs) t le rs h.done }
