@@ -1,12 +1,11 @@
 -- Registers and the condition code behind an issue, and cells in which nothing is planned.
-use Rattle.std.proofs.Common.{◌≡◌, ℕ, zero, suc, ◌+◌, ◌-◌, ◌*◌, ◌/◌, ◌%◌, ◌<◌, ◌≤◌, Bool, true, false, cond, eqb, nat_lt}
-use Rattle.std.proofs.Common.{List, ◌∷◌, [], length, replicate, Some, None, ◌⊎◌}
+use Rattle.std.proofs.Common.{◌≡◌, ℕ, ◌+◌, ◌-◌, ◌%◌, ◌<◌, ◌≤◌, Bool, true, false, cond, eqb}
+use Rattle.std.proofs.Common.{List, ◌∷◌, [], length, Some, None}
 use Rattle.std.proofs.Common.{refl, sym, ap, ◌∙◌, inl, inr, arith}
-use Rattle.std.specs.Prelude.{unwrap_or, slice_index, slice_set}
+use Rattle.std.specs.Prelude.{unwrap_or, slice_index}
 use Rattle.std.specs.Int.{bit_at, IsBitSet}
 use Rattle.std.proofs.lemmas.Bool.{cases_Bool, cases_lt}
 use Rattle.std.proofs.lemmas.Bool.Decides.{nat_tests}
-use Rattle.std.proofs.lemmas.Nat.Bits.{bit_at-lt}
 use Rattle.i9_isa.specs.declared.resources.TheConstants.{CONDITION_CODE}
 use Rattle.i9_isa.specs.Resources.{is_in_frame}
 use Rattle.i9_model.specs.declared.need.Cell.{Cell}

@@ -1,6 +1,6 @@
 -- The latest values of the register file as a function.
-use Rattle.std.proofs.Common.{◌≡◌, ℕ, zero, suc, ◌+◌, ◌<◌, ◌≤◌, Bool, true, false, cond, eqb, List, [], ◌∷◌, ◌++◌, ◌*◌, ◌/◌, ◌%◌, ◌-◌, nat_lt, None, slice_index, length, get_or, take, map, replicate, slice_set, add-one, add-zero, zero-add, refl, sym, ap, ◌∙◌, arith}
-use Rattle.std.proofs.lemmas.List.{take_all, length-set, get_or-set_same, get_or-set_other}
+use Rattle.std.proofs.Common.{◌≡◌, ℕ, zero, suc, ◌+◌, ◌<◌, ◌≤◌, Bool, true, false, cond, eqb, List, [], ◌∷◌, ◌++◌, ◌*◌, ◌/◌, ◌%◌, ◌-◌, nat_lt, slice_index, length, get_or, take, map, add-one, add-zero, zero-add, refl, sym, ap, ◌∙◌, arith}
+use Rattle.std.proofs.lemmas.List.{take_all}
 use Rattle.std.proofs.lemmas.Bool.{cond-true, cond-false}
 use Rattle.std.proofs.lemmas.Bool.Decides.{nat_tests}
 use Rattle.i9_isa.specs.declared.resources.TheConstants.{CONDITION_CODE}

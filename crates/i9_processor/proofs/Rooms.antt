@@ -7,7 +7,7 @@ use Rattle.i9_model.specs.Writes.{wrapped, upwards}
 use Rattle.i9_memory.specs.Memory.{IsReserved}
 use Rattle.i9_watch.specs.Watch.{HasMarks}
 use Rattle.i9_storage.specs.declared.storage.Storage.{Storage}
-use Rattle.i9_storage.specs.Storage.{HasSpace, HasSoftSpace, KeepsSpace, KeepsSoftSpace, KeepsFrameSpace}
+use Rattle.i9_storage.specs.Storage.{HasSpace, HasSoftSpace, KeepsSpace, KeepsSoftSpace, KeepsFrameSpace, KeepsAll}
 use Rattle.i9_processor.specs.declared.effect.Effect.{Effect}
 use Rattle.i9_processor.specs.declared.effect.Move.{Move}
 use Rattle.i9_processor.specs.declared.effect.Move.TheVariants as moves
@@ -31,6 +31,15 @@ row_marks s a (b ∷ bs) all (suc k) h = let next : wrapped (a + 1 + k) ≡ wrap
 first_markable : (s : Storage) (ps qs : List (ℕ × ℕ)) → AreMarkable s (ps ++ qs) → AreMarkable s ps
 first_markable s [] qs all = tt
 first_markable s (p ∷ ps) qs all = (all.0, first_markable s ps qs all.1)
+
+-- what stays twice stays
+pub all_kept : (s t u : Storage) → KeepsAll s t → KeepsAll t u → KeepsAll s u
+all_kept s t u one two = record {
+  contents = record { cache = cc; frames = cc; size = cc; waiting = cc; acted = cc };
+  space = λ a h. two.space a (one.space a h);
+  frame_space = λ a h. two.frame_space a (one.frame_space a h);
+  soft_space = λ a h. two.soft_space a (one.soft_space a h);
+}
 
 -- a run that could be stored still can be
 pub run_kept : (s t : Storage) (e : Effect) → KeepsSpace s t → KeepsSoftSpace s t → HasRunSpace s e → HasRunSpace t e

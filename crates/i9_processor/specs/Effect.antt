@@ -184,6 +184,18 @@ pub record IsEffect (s : State) (action : plain.Action) (e : Effect) : Type 0 wh
   pub moves : CanMove s.frames e.frames
   pub controls : CanControl (plain.moved s action) e.control
 
+-- an effect sets registers at most, none of them with a mark: it stores nothing, and frames, interrupts, DMA and the
+-- controls that start-up reads stay
+pub record SetsOnly (e : Effect) : Type 0 where
+  pub marks : e.marks ≡ 0
+  pub bytes : e.bytes.items ≡ []
+  pub stale : e.stale ≡ 0
+  pub requests : e.requests ≡ no_requests
+  pub frames : e.frames ≡ moves.Stays
+  pub posting : e.posting ≡ postings.Keeps
+  pub dma : e.dma ≡ changes.Keeps
+  pub control : e.control ≡ controls.Keeps
+
 -- ---- room
 
 -- there is room for what is done to frames

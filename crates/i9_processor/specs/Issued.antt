@@ -33,3 +33,8 @@ pub record IsIssued (writes done flags : ℕ) (olds news : File) : Type 0 where
 -- each cell shows its value at every turn
 abbrev pub AreStill : File → Type 0
 AreStill cells = (r : ℕ) → r < resources → cell_in cells r ≡ still (latest_of cells r)
+
+-- the condition code stays, and cells that are still stay so: all but registers
+pub record KeepsCode (old new : File) : Type 0 where
+  pub code : cell_in new CONDITION_CODE ≡ cell_in old CONDITION_CODE
+  pub still : AreStill old → AreStill new

@@ -1,5 +1,5 @@
 -- The pages of bytes and of the marks of frames, which are all of memory that grows: which of them are new.
-use Rattle.std.specs.Prelude.{◌≢◌, ℕ, List, [], length}
+use Rattle.std.specs.Prelude.{◌≡◌, ◌≢◌, ℕ, List, [], length}
 use Rattle.i9_model.specs.declared.layout.TheConstants.{FRAME_SIZE}
 use Rattle.i9_model.specs.Step as plain
 use Rattle.i9_memory.specs.declared.memory.Memory.{Memory as Kept}
@@ -7,11 +7,12 @@ use Rattle.i9_memory.specs.Memory.{IsReserved, IsApart, IsApartFrom}
 use Rattle.i9_queue.specs.Behind.{AddsRoomOnlyIn}
 use Rattle.i9_watch.specs.Watch.{HasMarks, KeepsMarks}
 use Rattle.i9_storage.specs.declared.storage.Storage.{Storage}
-use Rattle.i9_storage.specs.Storage.{AddsNone, AddsFrameOnly}
+use Rattle.i9_storage.specs.Storage.{AddsNone, AddsFrameOnly, KeepsPages}
 use Rattle.i9_processor.specs.declared.effect.Effect.{Effect}
 use Rattle.i9_processor.specs.declared.effect.Move.{Move}
 use Rattle.i9_processor.specs.declared.effect.Move.TheVariants as moves
 use Rattle.i9_processor.specs.declared.processor.Processor.{Processor}
+use Rattle.i9_processor.specs.State.{size_of, queue_of}
 
 -- the byte at an address has a page, and its marks have one
 abbrev pub HasBytePage : Processor → ℕ → Type 0
@@ -64,6 +65,12 @@ pub record AddsActionOnly (old new : Processor) (a : plain.Action) : Type 0 wher
 -- no page is new
 abbrev pub AddsNoPage : Processor → Processor → Type 0
 AddsNoPage old new = AddsNone old.storage new.storage
+
+-- the number of sets stays, and what waits, and pages: all but registers, controls, memory and frames
+pub record KeepsRest (old new : Processor) : Type 0 where
+  pub size : size_of new ≡ size_of old
+  pub queue : queue_of new ≡ queue_of old
+  pub pages : KeepsPages old.storage new.storage
 
 -- there are pages for the bytes of these writes alone, and none for marks
 pub record HasPagesFor (p : Processor) (ps : List (ℕ × ℕ)) : Type 0 where

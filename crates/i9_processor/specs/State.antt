@@ -64,3 +64,34 @@ bytes_of p = (storage.acted_in p.storage).bytes
 -- no request waits
 abbrev pub IsDrained : Processor → Type 0
 IsDrained p = queue_of p ≡ []
+
+-- ---- what stays
+
+-- the state, the frames that are held in as many sets, and what is planned
+pub record KeepsState (old new : Processor) : Type 0 where
+  pub state : state_of new ≡ state_of old
+  pub cache : cache_of new ≡ cache_of old
+  pub size : size_of new ≡ size_of old
+  pub cells : cells_of new ≡ cells_of old
+
+-- and what waits, and the bytes behind it: all but pages
+pub record KeepsContents (old new : Processor) : Type 0 where
+  pub seen : KeepsState old new
+  pub bytes : bytes_of new ≡ bytes_of old
+  pub queue : queue_of new ≡ queue_of old
+
+-- registers with what is planned of them, and the arithmetic controls
+pub record KeepsFile (old new : Processor) : Type 0 where
+  pub file : new.file ≡ old.file
+  pub flags : new.flags ≡ old.flags
+
+-- memory and frames, and what waits
+pub record KeepsStorage (old new : Processor) : Type 0 where
+  pub storage : new.storage ≡ old.storage
+  pub cache : cache_of new ≡ cache_of old
+  pub size : size_of new ≡ size_of old
+
+-- both: all but the other controls, interrupts, DMA, marks and the count
+pub record KeepsParts (old new : Processor) : Type 0 where
+  pub registers : KeepsFile old new
+  pub stored : KeepsStorage old new

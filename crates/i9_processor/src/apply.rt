@@ -4,20 +4,20 @@ ghost use Rattle.std.specs.List.{AllByRecursion};
 ghost use Rattle.i9_model.specs.Late.{resource, resources, due_puts, left_waiting};
 ghost use Rattle.i9_model.specs.Controls.{KeepsControls, marks_after, with_group, controlled};
 ghost use Rattle.i9_model.specs.State.{State, start_sets, started};
-ghost use Rattle.i9_model.specs.Memory.{stored, words_in, with_writes};
-ghost use Rattle.i9_model.specs.Frames.{with_marked, wrote, softened};
+ghost use Rattle.i9_model.specs.Memory.{stored, words_in};
+ghost use Rattle.i9_model.specs.Frames.{with_marked};
 ghost use Rattle.i9_model.specs.Stale.{picked};
 ghost use Rattle.i9_model.specs.Hazards.{writes_hazard};
 ghost use Rattle.i9_model.specs.Writes.{written};
 ghost use Rattle.i9_model.specs.Step.{Stays, saved_locals, frames_after, moved, flagged, acted, counted};
 ghost use Rattle.i9_model.specs.Free.{IsFree};
 ghost use Rattle.i9_model.specs.Alike.{AreAlike};
-ghost use Rattle.i9_model.specs.HeldFrames.{overlaid, cache_moved, cache_acted, cache_configured, cache_stored};
+ghost use Rattle.i9_model.specs.HeldFrames.{overlaid, cache_moved, cache_acted, cache_configured};
 ghost use Rattle.i9_regs.specs.declared.file.File.{File};
 ghost use Rattle.i9_regs.specs.File.{issued_over};
 ghost use Rattle.i9_regs.specs.Covered.{IsCovered, StartsAnew};
 ghost use Rattle.i9_storage.specs.Storage as stores;
-ghost use Rattle.i9_storage.specs.Storage.{KeepsSpace, KeepsSoftSpace, KeepsFrameSpace, AddsNone};
+ghost use Rattle.i9_storage.specs.Storage.{KeepsPages, KeepsAll, Stores};
 ghost use Rattle.i9_watch.specs.Bits.{bits_of};
 ghost use Rattle.i9_processor.specs.Issued.{AreCovered, IsCodeCovered, IsStartCovered, IsIssued};
 ghost use Rattle.i9_processor.specs.Pages.{AddsRunOnly, AddsMoveOnly, AddsWritesOnly};
@@ -45,13 +45,7 @@ use i9_storage::Storage;
 // Two calls need it, and LLVM would keep it apart; most effects leave frames alone.
 #[inline(always)]
 fn reserve_move(storage: &mut Storage, m: &Move) -> Result<(), NoMemory>
-    ensures cache { stores.cache_of storage.new ≡ stores.cache_of storage.old }
-    ensures frames { stores.frames_in storage.new ≡ stores.frames_in storage.old }
-    ensures size { stores.size_of storage.new ≡ stores.size_of storage.old }
-    ensures waiting { stores.waiting_in storage.new ≡ stores.waiting_in storage.old }
-    ensures acted { stores.acted_in storage.new ≡ stores.acted_in storage.old }
-    ensures keeps { KeepsSpace storage.old storage.new }
-    ensures soft_space { KeepsSoftSpace storage.old storage.new }
+    ensures keeps { KeepsAll storage.old storage.new }
     ensures only { AddsMoveOnly storage.old storage.new m.now }
     ensures space { OnOk result (HasMoveSpace storage.new m.now) }
     ensures needed { (s : State) → OnErr result (is_costly (move_in s m.now) ≡ true) }
@@ -68,14 +62,8 @@ fn reserve_move(storage: &mut Storage, m: &Move) -> Result<(), NoMemory>
 /// and then nothing is looked up.
 #[inline(always)]
 fn reserve_run(storage: &mut Storage, e: &Effect) -> Result<(), NoMemory>
-    ensures cache { stores.cache_of storage.new ≡ stores.cache_of storage.old }
-    ensures frames { stores.frames_in storage.new ≡ stores.frames_in storage.old }
-    ensures size { stores.size_of storage.new ≡ stores.size_of storage.old }
-    ensures waiting { stores.waiting_in storage.new ≡ stores.waiting_in storage.old }
-    ensures acted { stores.acted_in storage.new ≡ stores.acted_in storage.old }
-    ensures keeps { KeepsSpace storage.old storage.new }
+    ensures keeps { KeepsAll storage.old storage.new }
     ensures only { AddsRunOnly storage.old storage.new e.now }
-    ensures frame_space { KeepsFrameSpace storage.old storage.new }
     ensures space { OnOk result (HasRunSpace storage.new e.now) }
     ensures needed { OnErr result (0 < length e.now.bytes.items) }
     ensures lacking { OnErr result (HasRunSpace storage.old e.now → ⊥) }
@@ -95,15 +83,8 @@ fn reserve_run(storage: &mut Storage, e: &Effect) -> Result<(), NoMemory>
 /// Makes room for a byte at an address, where there is one.
 #[inline(always)]
 fn reserve_one(storage: &mut Storage, byte: Option<(u32, u8)>) -> Result<(), NoMemory>
-    ensures cache { stores.cache_of storage.new ≡ stores.cache_of storage.old }
-    ensures frames { stores.frames_in storage.new ≡ stores.frames_in storage.old }
-    ensures size { stores.size_of storage.new ≡ stores.size_of storage.old }
-    ensures waiting { stores.waiting_in storage.new ≡ stores.waiting_in storage.old }
-    ensures acted { stores.acted_in storage.new ≡ stores.acted_in storage.old }
-    ensures keeps { KeepsSpace storage.old storage.new }
-    ensures soft_space { KeepsSoftSpace storage.old storage.new }
+    ensures keeps { KeepsAll storage.old storage.new }
     ensures only { AddsWritesOnly storage.old storage.new (one_in byte) }
-    ensures frame_space { KeepsFrameSpace storage.old storage.new }
     ensures space { OnOk result (AreSpacious storage.new (one_in byte)) }
     ensures needed { OnErr result (0 < length (one_in byte)) }
     ensures lacking { OnErr result (AreSpacious storage.old (one_in byte) → ⊥) }
@@ -120,15 +101,8 @@ fn reserve_one(storage: &mut Storage, byte: Option<(u32, u8)>) -> Result<(), NoM
 #[inline(never)]
 #[tactic(auto, using(crate::proofs::Appending::room_rules))]
 fn reserve_requests(storage: &mut Storage, requests: &Requests) -> Result<(), NoMemory>
-    ensures cache { stores.cache_of storage.new ≡ stores.cache_of storage.old }
-    ensures frames { stores.frames_in storage.new ≡ stores.frames_in storage.old }
-    ensures size { stores.size_of storage.new ≡ stores.size_of storage.old }
-    ensures waiting { stores.waiting_in storage.new ≡ stores.waiting_in storage.old }
-    ensures acted { stores.acted_in storage.new ≡ stores.acted_in storage.old }
-    ensures keeps { KeepsSpace storage.old storage.new }
-    ensures soft_space { KeepsSoftSpace storage.old storage.new }
+    ensures keeps { KeepsAll storage.old storage.new }
     ensures only { AddsWritesOnly storage.old storage.new (requests_in requests.now) }
-    ensures frame_space { KeepsFrameSpace storage.old storage.new }
     ensures space { OnOk result (AreSpacious storage.new (requests_in requests.now)) }
     ensures needed { OnErr result (0 < length (requests_in requests.now)) }
     ensures lacking { OnErr result (AreSpacious storage.old (requests_in requests.now) → ⊥) }
@@ -144,15 +118,9 @@ fn store_run(storage: &mut Storage, e: &Effect)
     requires drained { 0 < length e.now.bytes.items → stores.IsDrained storage.old }
     requires space { HasRunSpace storage.old e.now }
     requires free { writes_hazard (stores.frames_in storage.old) (run_in e.now) ≡ None }
-    ensures cache { stores.cache_of storage.new ≡ cache_stored (run_in e.now) (stores.cache_of storage.old) }
-    ensures memory { stores.memory_in storage.new ≡ with_writes (stores.memory_in storage.old) (run_in e.now) }
-    ensures frames { stores.frames_in storage.new
-        ≡ softened (wrote (stores.frames_in storage.old) (run_in e.now)) (stale_in e.now) }
-    ensures size { stores.size_of storage.new ≡ stores.size_of storage.old }
-    ensures waiting { stores.waiting_in storage.new ≡ stores.waiting_in storage.old }
+    ensures stores { Stores storage.old storage.new (run_in e.now) (stale_in e.now) }
     ensures acted { length e.now.bytes.items ≡ 0 → stores.acted_in storage.new ≡ stores.acted_in storage.old }
-    ensures keeps { KeepsSpace storage.old storage.new }
-    ensures no_more { AddsNone storage.old storage.new }
+    ensures keeps { stores.KeepsRest storage.old storage.new }
 {
     if !e.bytes.is_empty() {
         storage.store(e.address, e.bytes.as_slice(), e.stale);
@@ -167,14 +135,9 @@ fn store_one(storage: &mut Storage, byte: Option<(u32, u8)>)
     requires drained { 0 < length (one_in byte) → stores.IsDrained storage.old }
     requires space { AreSpacious storage.old (one_in byte) }
     requires free { writes_hazard (stores.frames_in storage.old) (one_in byte) ≡ None }
-    ensures cache { stores.cache_of storage.new ≡ cache_stored (one_in byte) (stores.cache_of storage.old) }
-    ensures memory { stores.memory_in storage.new ≡ with_writes (stores.memory_in storage.old) (one_in byte) }
-    ensures frames { stores.frames_in storage.new ≡ wrote (stores.frames_in storage.old) (one_in byte) }
-    ensures size { stores.size_of storage.new ≡ stores.size_of storage.old }
-    ensures waiting { stores.waiting_in storage.new ≡ stores.waiting_in storage.old }
+    ensures stores { Stores storage.old storage.new (one_in byte) [] }
     ensures acted { length (one_in byte) ≡ 0 → stores.acted_in storage.new ≡ stores.acted_in storage.old }
-    ensures keeps { KeepsSpace storage.old storage.new }
-    ensures no_more { AddsNone storage.old storage.new }
+    ensures keeps { stores.KeepsRest storage.old storage.new }
 {
     match byte {
         Some((address, value)) => storage.store(address, &[value], 0),
@@ -188,14 +151,9 @@ fn store_requests(storage: &mut Storage, requests: &Requests)
     requires drained { 0 < length (requests_in requests.now) → stores.IsDrained storage.old }
     requires space { AreSpacious storage.old (requests_in requests.now) }
     requires free { writes_hazard (stores.frames_in storage.old) (requests_in requests.now) ≡ None }
-    ensures cache { stores.cache_of storage.new ≡ cache_stored (requests_in requests.now) (stores.cache_of storage.old) }
-    ensures memory { stores.memory_in storage.new ≡ with_writes (stores.memory_in storage.old) (requests_in requests.now) }
-    ensures frames { stores.frames_in storage.new ≡ wrote (stores.frames_in storage.old) (requests_in requests.now) }
-    ensures size { stores.size_of storage.new ≡ stores.size_of storage.old }
-    ensures waiting { stores.waiting_in storage.new ≡ stores.waiting_in storage.old }
+    ensures stores { Stores storage.old storage.new (requests_in requests.now) [] }
     ensures acted { length (requests_in requests.now) ≡ 0 → stores.acted_in storage.new ≡ stores.acted_in storage.old }
-    ensures keeps { KeepsSpace storage.old storage.new }
-    ensures no_more { AddsNone storage.old storage.new }
+    ensures keeps { stores.KeepsRest storage.old storage.new }
 {
     store_one(storage, requests.first);
     store_one(storage, requests.second);
@@ -209,14 +167,9 @@ fn store_bytes(storage: &mut Storage, e: &Effect)
     requires space { HasRunSpace storage.old e.now }
     requires requests { AreSpacious storage.old (requests_in e.now.requests) }
     requires free { writes_hazard (stores.frames_in storage.old) (writes_in e.now) ≡ None }
-    ensures cache { stores.cache_of storage.new ≡ cache_stored (writes_in e.now) (stores.cache_of storage.old) }
-    ensures memory { stores.memory_in storage.new ≡ with_writes (stores.memory_in storage.old) (writes_in e.now) }
-    ensures frames { stores.frames_in storage.new
-        ≡ softened (wrote (stores.frames_in storage.old) (writes_in e.now)) (stale_in e.now) }
-    ensures size { stores.size_of storage.new ≡ stores.size_of storage.old }
-    ensures waiting { stores.waiting_in storage.new ≡ stores.waiting_in storage.old }
+    ensures stores { Stores storage.old storage.new (writes_in e.now) (stale_in e.now) }
     ensures acted { length (writes_in e.now) ≡ 0 → stores.acted_in storage.new ≡ stores.acted_in storage.old }
-    ensures no_more { AddsNone storage.old storage.new }
+    ensures keeps { stores.KeepsRest storage.old storage.new }
 {
     store_run(storage, e);
     store_requests(storage, &e.requests);
@@ -257,15 +210,12 @@ fn queue_run(storage: &mut Storage, e: &Effect, done: u64)
     requires order { AllByRecursion (λ w. w.due ≤ done) (stores.waiting_in storage.old) }
     requires space { HasRunSpace storage.old e.now }
     requires free { writes_hazard (stores.frames_in storage.old) (run_in e.now) ≡ None }
-    ensures cache { stores.cache_of storage.new ≡ cache_stored (run_in e.now) (stores.cache_of storage.old) }
-    ensures memory { stores.memory_in storage.new ≡ with_writes (stores.memory_in storage.old) (run_in e.now) }
-    ensures frames { stores.frames_in storage.new
-        ≡ softened (wrote (stores.frames_in storage.old) (run_in e.now)) (stale_in e.now) }
+    ensures stores { Stores storage.old storage.new (run_in e.now) (stale_in e.now) }
     ensures size { stores.size_of storage.new ≡ stores.size_of storage.old }
     ensures waiting { stores.waiting_in storage.new
         ≡ stores.waiting_in storage.old ++ record { puts = run_in e.now; due = done } ∷ [] }
     ensures acted { stores.acted_in storage.new ≡ stores.acted_in storage.old }
-    ensures no_more { AddsNone storage.old storage.new }
+    ensures pages { KeepsPages storage.old storage.new }
 {
     let request = Request {
         address: e.address,
@@ -282,10 +232,7 @@ fn put_bytes(storage: &mut Storage, e: &Effect, landing: &Landing)
     requires space { HasRunSpace storage.old e.now }
     requires requests { AreSpacious storage.old (requests_in e.now.requests) }
     requires free { writes_hazard (stores.frames_in storage.old) (writes_in e.now) ≡ None }
-    ensures cache { stores.cache_of storage.new ≡ cache_stored (writes_in e.now) (stores.cache_of storage.old) }
-    ensures memory { stores.memory_in storage.new ≡ with_writes (stores.memory_in storage.old) (writes_in e.now) }
-    ensures frames { stores.frames_in storage.new
-        ≡ softened (wrote (stores.frames_in storage.old) (writes_in e.now)) (stale_in e.now) }
+    ensures stores { Stores storage.old storage.new (writes_in e.now) (stale_in e.now) }
     ensures size { stores.size_of storage.new ≡ stores.size_of storage.old }
     ensures waits { landing.now.request ≡ true → (stores.acted_in storage.new ≡ stores.acted_in storage.old)
         × (stores.waiting_in storage.new
@@ -293,7 +240,7 @@ fn put_bytes(storage: &mut Storage, e: &Effect, landing: &Landing)
     ensures acts { landing.now.request ≡ false → stores.waiting_in storage.new ≡ stores.waiting_in storage.old }
     ensures still { landing.now.request ≡ false → length (writes_in e.now) ≡ 0
         → stores.acted_in storage.new ≡ stores.acted_in storage.old }
-    ensures no_more { AddsNone storage.old storage.new }
+    ensures pages { KeepsPages storage.old storage.new }
 {
     if landing.request {
         queue_run(storage, e, landing.done);
@@ -312,9 +259,10 @@ fn new_locals(push: &Push) -> [u32; LOCALS]
 }
 
 impl Processor {
-    ghost use Rattle.i9_processor.specs.State.{registers_of, state_of, cache_of, size_of, cells_of, bytes_of, queue_of};
+    ghost use Rattle.i9_processor.specs.State.{state_of, cache_of, size_of, cells_of, bytes_of, queue_of};
+    ghost use Rattle.i9_processor.specs.State.{KeepsState, KeepsContents, KeepsFile, KeepsStorage, KeepsParts};
     ghost use Rattle.i9_processor.specs.Effect.{CanAct, IsStill};
-    ghost use Rattle.i9_processor.specs.Pages.{AddsActionOnly, AddsNoPage};
+    ghost use Rattle.i9_processor.specs.Pages.{AddsActionOnly, AddsNoPage, KeepsRest};
 
     /// Makes room for what an effect stores and saves, and for nothing else but what shares their pages. Memory is
     /// refused only where room is lacking, and then some is lacking still.
@@ -322,12 +270,7 @@ impl Processor {
     #[inline(always)]
     #[tactic(auto, unfolding(crate::specs::State::state_of, crate::specs::State::cache_of, crate::specs::State::size_of, crate::specs::State::cells_of, crate::specs::State::bytes_of, crate::specs::State::queue_of), using(crate::proofs::Applying::room_rules))]
     pub fn reserve(&mut self, e: &Effect) -> Result<(), NoMemory>
-        ensures state { state_of self.new ≡ state_of self.old }
-        ensures cache { cache_of self.new ≡ cache_of self.old }
-        ensures size { size_of self.new ≡ size_of self.old }
-        ensures cells { cells_of self.new ≡ cells_of self.old }
-        ensures bytes { bytes_of self.new ≡ bytes_of self.old }
-        ensures queue { queue_of self.new ≡ queue_of self.old }
+        ensures keeps { KeepsContents self.old self.new }
         ensures space { OnOk result (HasSpaceFor self.new e.now) }
         ensures needed { OnErr result (has_writes (action_in (state_of self.old) e.now) ≡ true) }
         ensures lacking { OnErr result (HasSpaceFor self.old e.now → ⊥) }
@@ -352,13 +295,11 @@ impl Processor {
             (state_of self.old).interrupts.low (state_of self.old).memory (state_of self.old).frames) {
               marks = marks_after (state_of self.old).marks (start_sets setup.now) [];
             } }
-        ensures cache { cache_of self.new ≡ cache_of self.old }
-        ensures size { size_of self.new ≡ size_of self.old }
         ensures count { (state_of self.new).count ≡ (state_of self.old).count }
         ensures issued { (cells : File)
             → IsIssued landing.now.writes landing.now.done self.old.flags cells self.old.file
             → IsIssued landing.now.writes landing.now.done self.new.flags cells self.new.file }
-        ensures storage { self.new.storage ≡ self.old.storage }
+        ensures keeps { KeepsStorage self.old self.new }
     {
         issue_start(&mut self.file, &mut self.flags, landing, setup);
         self.marks = marks::with_frame(self.marks, 0);
@@ -382,12 +323,9 @@ impl Processor {
         requires drained { queue_of self.old ≡ [] }
         ensures state { state_of self.new ≡ with_group (state_of self.old) group words }
         ensures cache { cache_of self.new ≡ cache_configured (state_of self.new).memory (cache_of self.old) }
-        ensures size { size_of self.new ≡ size_of self.old }
         ensures count { (state_of self.new).count ≡ (state_of self.old).count }
-        ensures file { self.new.file ≡ self.old.file }
-        ensures flags { self.new.flags ≡ self.old.flags }
-        ensures queue { queue_of self.new ≡ queue_of self.old }
-        ensures no_more { AddsNoPage self.old self.new }
+        ensures registers { KeepsFile self.old self.new }
+        ensures keeps { KeepsRest self.old self.new }
     {
         match group {
             0 => {
@@ -416,14 +354,12 @@ impl Processor {
         requires covered { StartsAnew (control_in c) → IsStartCovered landing.now.writes }
         ensures state { state_of self.new ≡ controlled (state_of self.old) (control_in c) }
         ensures cache { cache_of self.new ≡ cache_configured (state_of self.new).memory (cache_of self.old) }
-        ensures size { size_of self.new ≡ size_of self.old }
         ensures count { (state_of self.new).count ≡ (state_of self.old).count }
         ensures issued { (cells : File)
             → IsIssued landing.now.writes landing.now.done self.old.flags cells self.old.file
             → IsIssued landing.now.writes landing.now.done self.new.flags cells self.new.file }
-        ensures queue { queue_of self.new ≡ queue_of self.old }
+        ensures keeps { KeepsRest self.old self.new }
         ensures bytes { control_in c ≡ KeepsControls → bytes_of self.new ≡ bytes_of self.old }
-        ensures no_more { AddsNoPage self.old self.new }
     {
         match c {
             Control::Keeps => {}
@@ -478,9 +414,7 @@ impl Processor {
           marks = marks_after (state_of self.old).marks (group_in e.now)
               (picked (λ r. r) e.now.register (bits_of e.now.marks (length e.now.values.items)));
         } }
-        ensures file { self.new.file ≡ self.old.file }
-        ensures flags { self.new.flags ≡ self.old.flags }
-        ensures storage { self.new.storage ≡ self.old.storage }
+        ensures keeps { KeepsParts self.old self.new }
     {
         self.marks = marks::with_group(self.marks, e.register, e.values.len(), e.marks);
     }
@@ -506,13 +440,9 @@ impl Processor {
         } }
         ensures memory { (state_of self.new).memory ≡ overlaid (cache_of self.new) }
         ensures cache { cache_of self.new ≡ cache_moved (size_of self.old) (move_in (state_of self.old) e.now.frames) (cache_of self.old) }
-        ensures size { size_of self.new ≡ size_of self.old }
-        ensures keeps { KeepsSpace self.old.storage self.new.storage }
-        ensures soft_space { KeepsSoftSpace self.old.storage self.new.storage }
+        ensures keeps { KeepsRest self.old self.new }
         ensures issued { IsIssued landing.now.writes landing.now.done self.new.flags self.old.file self.new.file }
-        ensures queue { queue_of self.new ≡ queue_of self.old }
         ensures bytes { move_in (state_of self.old) e.now.frames ≡ Stays → bytes_of self.new ≡ bytes_of self.old }
-        ensures no_more { AddsNoPage self.old self.new }
     {
         match e.frames {
             Move::Stays => {
@@ -552,11 +482,7 @@ impl Processor {
     fn post(&mut self, p: Posting)
         requires { CanPost p }
         ensures state { state_of self.new ≡ record (state_of self.old) { interrupts = posting_in p (state_of self.old).interrupts } }
-        ensures cache { cache_of self.new ≡ cache_of self.old }
-        ensures size { size_of self.new ≡ size_of self.old }
-        ensures file { self.new.file ≡ self.old.file }
-        ensures flags { self.new.flags ≡ self.old.flags }
-        ensures storage { self.new.storage ≡ self.old.storage }
+        ensures keeps { KeepsParts self.old self.new }
     {
         match p {
             Posting::Keeps => {}
@@ -577,11 +503,7 @@ impl Processor {
     fn change_dma(&mut self, change: DmaChange)
         requires { CanChange change }
         ensures state { state_of self.new ≡ record (state_of self.old) { dma = change_in change (state_of self.old).dma } }
-        ensures cache { cache_of self.new ≡ cache_of self.old }
-        ensures size { size_of self.new ≡ size_of self.old }
-        ensures file { self.new.file ≡ self.old.file }
-        ensures flags { self.new.flags ≡ self.old.flags }
-        ensures storage { self.new.storage ≡ self.old.storage }
+        ensures keeps { KeepsParts self.old self.new }
     {
         match change {
             DmaChange::Keeps => {}
@@ -650,12 +572,8 @@ impl Processor {
     #[tactic(auto, unfolding(crate::specs::State::state_of, crate::specs::State::cache_of, crate::specs::State::size_of, crate::specs::State::bytes_of, crate::specs::State::queue_of))]
     fn flag(&mut self, trace: Option<Trace>)
         ensures state { state_of self.new ≡ flagged trace (state_of self.old) }
-        ensures cache { cache_of self.new ≡ cache_of self.old }
-        ensures size { size_of self.new ≡ size_of self.old }
         ensures count { (state_of self.new).count ≡ (state_of self.old).count }
-        ensures file { self.new.file ≡ self.old.file }
-        ensures flags { self.new.flags ≡ self.old.flags }
-        ensures storage { self.new.storage ≡ self.old.storage }
+        ensures keeps { KeepsParts self.old self.new }
     {
         if let Some(trace) = trace {
             self.tc = trace.tc;
@@ -672,8 +590,7 @@ impl Processor {
         ensures cache { cache_of self.new ≡ cache_of self.old }
         ensures size { size_of self.new ≡ size_with sets (size_of self.old) }
         ensures count { (state_of self.new).count ≡ (state_of self.old).count }
-        ensures file { self.new.file ≡ self.old.file }
-        ensures flags { self.new.flags ≡ self.old.flags }
+        ensures registers { KeepsFile self.old self.new }
         ensures queue { queue_of self.new ≡ queue_of self.old }
         ensures bytes { bytes_of self.new ≡ bytes_of self.old }
         ensures no_more { AddsNoPage self.old self.new }
@@ -688,11 +605,7 @@ impl Processor {
     fn add_count(&mut self, n: u64)
         requires { (state_of self.old).count + n < 2 ^ 63 }
         ensures state { state_of self.new ≡ counted n (state_of self.old) }
-        ensures cache { cache_of self.new ≡ cache_of self.old }
-        ensures size { size_of self.new ≡ size_of self.old }
-        ensures file { self.new.file ≡ self.old.file }
-        ensures flags { self.new.flags ≡ self.old.flags }
-        ensures storage { self.new.storage ≡ self.old.storage }
+        ensures keeps { KeepsParts self.old self.new }
     {
         self.count += n;
     }
@@ -743,10 +656,7 @@ impl Processor {
     #[inline(never)]
     #[tactic(auto, unfolding(crate::specs::State::state_of, crate::specs::State::cache_of, crate::specs::State::size_of, crate::specs::State::cells_of, crate::specs::State::bytes_of, crate::specs::State::queue_of))]
     pub fn land(&mut self, turn: u64)
-        ensures state { state_of self.new ≡ state_of self.old }
-        ensures cache { cache_of self.new ≡ cache_of self.old }
-        ensures size { size_of self.new ≡ size_of self.old }
-        ensures cells { cells_of self.new ≡ cells_of self.old }
+        ensures seen { KeepsState self.old self.new }
         ensures bytes { bytes_of self.new ≡ stored (bytes_of self.old) (due_puts turn (queue_of self.old)) }
         ensures queue { queue_of self.new ≡ left_waiting turn (queue_of self.old) }
         ensures keeps { KeepsRoom self.old self.new }

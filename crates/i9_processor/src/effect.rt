@@ -3,7 +3,7 @@ ghost use Rattle.std.specs.Prelude.{◌≡◌, ◌≢◌, ◌+◌, ◌<◌, ◌�
 ghost use Rattle.i9_model.specs.Writes.{last_put, pairs_at, upwards};
 ghost use Rattle.i9_model.specs.Step.{going};
 ghost use Rattle.i9_model.specs.Memory.{console_byte, exit_word};
-ghost use Rattle.i9_processor.specs.Rest.{AreMarked, LeavesRest, no_requests};
+ghost use Rattle.i9_processor.specs.Rest.{AreMarked, LeavesRest};
 
 use crate::processor::Processor;
 use arrayvec::ArrayVec;
@@ -178,7 +178,7 @@ impl Requests {
 }
 
 impl Effect {
-    ghost use Rattle.i9_processor.specs.Effect.{requests_in, writes_in, AreBelowPort, IsEffect};
+    ghost use Rattle.i9_processor.specs.Effect.{requests_in, writes_in, AreBelowPort, IsEffect, SetsOnly};
     ghost use Rattle.i9_processor.specs.State.{state_of};
 
     /// Values go to registers from one up, and control goes to an address.
@@ -192,14 +192,7 @@ impl Effect {
         ensures effect { IsEffect (state_of processor.now)
             (record (going (state_of processor.now) next) { sets = pairs_at (λ r. r) register values.items }) result }
         ensures values { result.values.items ≡ values.items }
-        ensures marks { result.marks ≡ 0 }
-        ensures bytes { result.bytes.items ≡ [] }
-        ensures stale { result.stale ≡ 0 }
-        ensures requests { result.requests ≡ no_requests }
-        ensures frames { result.frames ≡ Move.Stays }
-        ensures posting { result.posting ≡ Posting.Keeps }
-        ensures dma { result.dma ≡ DmaChange.Keeps }
-        ensures control { result.control ≡ Control.Keeps }
+        ensures keeps { SetsOnly result }
     {
         Effect {
             register,
@@ -227,14 +220,7 @@ impl Effect {
     pub fn going(processor: &Processor, next: u32) -> Effect
         ensures effect { IsEffect (state_of processor.now) (going (state_of processor.now) next) result }
         ensures values { result.values.items ≡ [] }
-        ensures marks { result.marks ≡ 0 }
-        ensures bytes { result.bytes.items ≡ [] }
-        ensures stale { result.stale ≡ 0 }
-        ensures requests { result.requests ≡ no_requests }
-        ensures frames { result.frames ≡ Move.Stays }
-        ensures posting { result.posting ≡ Posting.Keeps }
-        ensures dma { result.dma ≡ DmaChange.Keeps }
-        ensures control { result.control ≡ Control.Keeps }
+        ensures keeps { SetsOnly result }
     {
         Effect::setting(processor, next, 0, ArrayVec::new())
     }
@@ -242,14 +228,7 @@ impl Effect {
     /// An effect to plan in: it sets no register, stores no byte, and leaves frames alone.
     pub fn blank() -> Effect
         ensures values { result.values.items ≡ [] }
-        ensures marks { result.marks ≡ 0 }
-        ensures bytes { result.bytes.items ≡ [] }
-        ensures stale { result.stale ≡ 0 }
-        ensures requests { result.requests ≡ no_requests }
-        ensures frames { result.frames ≡ Move.Stays }
-        ensures posting { result.posting ≡ Posting.Keeps }
-        ensures dma { result.dma ≡ DmaChange.Keeps }
-        ensures control { result.control ≡ Control.Keeps }
+        ensures keeps { SetsOnly result }
     {
         Effect {
             register: 0,
@@ -295,14 +274,7 @@ impl Effect {
     pub fn go(&mut self, processor: &Processor, next: u32)
         ensures effect { IsEffect (state_of processor.now) (going (state_of processor.now) next) self.new }
         ensures values { self.new.values.items ≡ [] }
-        ensures marks { self.new.marks ≡ 0 }
-        ensures bytes { self.new.bytes.items ≡ [] }
-        ensures stale { self.new.stale ≡ 0 }
-        ensures requests { self.new.requests ≡ no_requests }
-        ensures frames { self.new.frames ≡ Move.Stays }
-        ensures posting { self.new.posting ≡ Posting.Keeps }
-        ensures dma { self.new.dma ≡ DmaChange.Keeps }
-        ensures control { self.new.control ≡ Control.Keeps }
+        ensures keeps { SetsOnly self.new }
     {
         if !self.plain {
             self.clear();

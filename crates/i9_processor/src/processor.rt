@@ -69,6 +69,7 @@ fn set_count(sets: Option<u8>, setup: &Setup) -> u8
 
 impl Processor {
     ghost use Rattle.i9_processor.specs.State.{state_of, cache_of, size_of, cells_of, bytes_of, queue_of};
+    ghost use Rattle.i9_processor.specs.State.{KeepsContents};
     ghost use Rattle.i9_processor.specs.Pages.{HasPagesFor};
 
     /// The state after boot, by the image's boot record, with so many sets or as many as its PRCB
@@ -115,12 +116,7 @@ impl Processor {
     /// The same state, with the same frames in the same sets, the same plans, and the same requests that wait.
     #[tactic(auto, unfolding(crate::specs::State::state_of, crate::specs::State::cache_of, crate::specs::State::size_of, crate::specs::State::cells_of, crate::specs::State::bytes_of, crate::specs::State::queue_of))]
     pub fn copy(&self, alloc: Global) -> Result<Processor, NoMemory>
-        ensures state { IfOk result (λ p. state_of p ≡ state_of self.now) }
-        ensures cache { IfOk result (λ p. cache_of p ≡ cache_of self.now) }
-        ensures size { IfOk result (λ p. size_of p ≡ size_of self.now) }
-        ensures cells { IfOk result (λ p. cells_of p ≡ cells_of self.now) }
-        ensures bytes { IfOk result (λ p. bytes_of p ≡ bytes_of self.now) }
-        ensures queue { IfOk result (λ p. queue_of p ≡ queue_of self.now) }
+        ensures { IfOk result (λ p. KeepsContents self.now p) }
     {
         let storage = self.storage.copy(alloc)?;
         Ok(Processor {

@@ -5,7 +5,7 @@ ghost use Rattle.i9_model.specs.State.{frame_sets};
 ghost use Rattle.i9_regs.specs.declared.file.File.{File};
 ghost use Rattle.i9_regs.specs.File.{cell_in, still};
 ghost use Rattle.i9_processor.specs.State.{registers_of, arithmetic_of};
-ghost use Rattle.i9_processor.specs.Issued.{AreCovered, IsCodeCovered, IsIssued, AreStill};
+ghost use Rattle.i9_processor.specs.Issued.{AreCovered, IsCodeCovered, IsIssued, AreStill, KeepsCode};
 
 use crate::landing::Landing;
 use i9_isa::CONDITION_CODE;
@@ -16,8 +16,7 @@ use i9_regs::File;
 fn set(file: &mut File, r: u8, v: u32)
     requires { r < 32 }
     ensures registers { registers_of file.new ≡ put (registers_of file.old) r v }
-    ensures code { cell_in file.new CONDITION_CODE ≡ cell_in file.old CONDITION_CODE }
-    ensures still { AreStill file.old → AreStill file.new }
+    ensures keeps { KeepsCode file.old file.new }
 {
     file.set(r, v);
 }
@@ -27,8 +26,7 @@ fn set(file: &mut File, r: u8, v: u32)
 pub(crate) fn set_group(file: &mut File, r: u8, words: &[u32])
     requires { r + length words.now ≤ 32 }
     ensures registers { registers_of file.new ≡ written (registers_of file.old) (pairs_at (λ k. k) r words.now) }
-    ensures code { cell_in file.new CONDITION_CODE ≡ cell_in file.old CONDITION_CODE }
-    ensures still { AreStill file.old → AreStill file.new }
+    ensures keeps { KeepsCode file.old file.new }
 {
     for k in 0..words.len() {
         set(file, r + k as u8, words[k]);
@@ -39,8 +37,7 @@ pub(crate) fn set_group(file: &mut File, r: u8, words: &[u32])
 #[tactic(auto, using(crate::proofs::RegisterList::frame_written))]
 pub(crate) fn set_frame(file: &mut File, locals: &[u32; LOCALS], frame: u32)
     ensures registers { registers_of file.new ≡ written (registers_of file.old) (frame_sets locals.now frame) }
-    ensures code { cell_in file.new CONDITION_CODE ≡ cell_in file.old CONDITION_CODE }
-    ensures still { AreStill file.old → AreStill file.new }
+    ensures keeps { KeepsCode file.old file.new }
 {
     set_group(file, 0, locals);
     set(file, FP, frame);

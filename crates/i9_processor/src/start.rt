@@ -5,14 +5,12 @@ ghost use Rattle.i9_model.specs.State.{first_frame, start_sets, start_interrupts
 ghost use Rattle.i9_model.specs.Writes.{wrapped, written};
 ghost use Rattle.i9_ints.specs.Ints.{interrupts_of};
 ghost use Rattle.i9_regs.specs.declared.file.File.{File};
-ghost use Rattle.i9_regs.specs.File.{cell_in};
 ghost use Rattle.i9_processor.specs.State.{registers_of, arithmetic_of};
-ghost use Rattle.i9_processor.specs.Issued.{IsStartCovered, IsIssued, AreStill};
+ghost use Rattle.i9_processor.specs.Issued.{IsStartCovered, IsIssued, KeepsCode};
 
 use crate::landing::Landing;
 use crate::registers::{amend_frame, set_frame};
 use i9_ints::{Cause, Ints};
-use i9_isa::CONDITION_CODE;
 use i9_model::layout::{FRAME_SIZE, LOCALS, TC_MASK};
 use i9_model::{Breaks, Setup, Tables};
 use i9_regs::File;
@@ -36,8 +34,7 @@ fn first_locals(frame: u32) -> [u32; LOCALS]
 /// Enters the first frame.
 pub(crate) fn start_registers(file: &mut File, setup: &Setup)
     ensures registers { registers_of file.new ≡ written (registers_of file.old) (start_sets setup.now) }
-    ensures code { cell_in file.new CONDITION_CODE ≡ cell_in file.old CONDITION_CODE }
-    ensures still { AreStill file.old → AreStill file.new }
+    ensures keeps { KeepsCode file.old file.new }
 {
     let frame = first_frame(setup);
     set_frame(file, &first_locals(frame), frame);

@@ -1,5 +1,5 @@
 -- Frames that are held in place of memory: what they are with the memory behind them, and what holds of them.
-use Rattle.std.specs.Prelude.{ℕ, ◌+◌, ◌-◌, ◌*◌, ◌/◌, ◌%◌, length, take, slice_index, List, [], ◌∷◌}
+use Rattle.std.specs.Prelude.{◌≡◌, ℕ, ◌+◌, ◌-◌, ◌*◌, ◌/◌, ◌%◌, length, take, slice_index, List, [], ◌∷◌}
 use Rattle.std.specs.List.{AllByRecursion, AllByRecursion-prop}
 use Rattle.std.proofs.Props.{props}
 use Rattle.i9_model.specs.declared.layout.TheConstants.{FRAME_SIZE}
@@ -12,7 +12,7 @@ use Rattle.i9_model.specs.HeldFrames.{Cache, cache, over, AreYoungest}
 use Rattle.i9_memory.specs.declared.memory.Memory.{Memory}
 use Rattle.i9_memory.specs.Memory.{IsReserved}
 use Rattle.i9_queue.specs.declared.behind.Behind.{Behind}
-use Rattle.i9_queue.specs.Behind.{settled, HasRoomIn}
+use Rattle.i9_queue.specs.Behind.{settled, waiting_of, HasRoomIn, KeepsRoomIn}
 use Rattle.i9_watch.specs.declared.watch.Watch.{Watch}
 use Rattle.i9_watch.specs.Watch.{frames_of}
 use Rattle.i9_frames.specs.Sets.{Held}
@@ -32,6 +32,12 @@ byte_in_frame b f above = slice_index (word_bytes (settled b) (wrapped (f.addres
 -- each of these frames can be written to memory
 abbrev pub HaveRoom : Behind → List Frame → Type 0
 HaveRoom b fs = AllByRecursion (λ f. HasRoomIn b f.address FRAME_SIZE) fs
+
+-- the same requests wait, no room goes, and none is new
+pub record KeepsBehind (old new : Behind) : Type 0 where
+  pub waiting : waiting_of new ≡ waiting_of old
+  pub keeps : KeepsRoomIn old new
+  pub no_more : KeepsRoomIn new old
 
 -- frames are sound, the youngest live ones are held, and memory has room for these
 pub record IsKept (b : Behind) (w : Watch) (h : Held) : Type 0 where

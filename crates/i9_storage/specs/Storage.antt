@@ -1,9 +1,10 @@
 -- What storage stands for: memory with the held frames laid over it, and the frames that may be returned to.
 use Rattle.std.specs.Prelude.{◌≡◌, ℕ, ◌<◌, if◌then◌else◌, List, [], ◌∷◌}
 use Rattle.i9_model.specs.declared.layout.TheConstants.{FRAME_SIZE}
-use Rattle.i9_model.specs.Memory.{Memory}
+use Rattle.i9_model.specs.Memory.{Memory, with_writes}
 use Rattle.i9_model.specs.State.{Frames}
-use Rattle.i9_model.specs.HeldFrames.{Cache, overlaid}
+use Rattle.i9_model.specs.Frames.{wrote, softened}
+use Rattle.i9_model.specs.HeldFrames.{Cache, overlaid, cache_stored}
 use Rattle.i9_model.specs.Late.{Wait}
 use Rattle.i9_memory.specs.declared.memory.Memory.{Memory as Kept}
 use Rattle.i9_memory.specs.Memory.{KeepsRoom}
@@ -82,6 +83,12 @@ pub record AddsNone (old new : Storage) : Type 0 where
   pub bytes : KeepsSpace new old
   pub marks : KeepsMarks new.watch old.watch
 
+-- no page goes, and none is new
+pub record KeepsPages (old new : Storage) : Type 0 where
+  pub space : KeepsSpace old new
+  pub soft_space : KeepsSoftSpace old new
+  pub no_more : AddsNone old new
+
 -- a page that is new is one of n bytes from an address up
 pub record AddsBytesOnly (old new : Storage) (a n : ℕ) : Type 0 where
   pub bytes : AddsRoomOnlyIn old.behind new.behind a n
@@ -101,3 +108,34 @@ pub record AddsSoftOnly (old new : Storage) (a n : ℕ) : Type 0 where
 pub record HasPagesOf (memory : Kept) (s : Storage) : Type 0 where
   pub bytes : KeepsRoom s.behind.memory memory
   pub marks : HasNoMarks s.watch
+
+-- ---- what stays
+
+-- all but memory and frames: as many frames can be held, the same requests wait, and the same pages are there
+pub record KeepsRest (old new : Storage) : Type 0 where
+  pub size : size_of new ≡ size_of old
+  pub waiting : waiting_in new ≡ waiting_in old
+  pub pages : KeepsPages old new
+
+-- all but pages: memory and frames, what is held, and what waits
+pub record KeepsContents (old new : Storage) : Type 0 where
+  pub cache : cache_of new ≡ cache_of old
+  pub frames : frames_in new ≡ frames_in old
+  pub size : size_of new ≡ size_of old
+  pub waiting : waiting_in new ≡ waiting_in old
+  pub acted : acted_in new ≡ acted_in old
+
+-- all of it; there may be more pages
+pub record KeepsAll (old new : Storage) : Type 0 where
+  pub contents : KeepsContents old new
+  pub space : KeepsSpace old new
+  pub frame_space : KeepsFrameSpace old new
+  pub soft_space : KeepsSoftSpace old new
+
+-- ---- what is stored
+
+-- all reads find these writes, and of their bytes those at these places are soft
+pub record Stores (old new : Storage) (ps : List (ℕ × ℕ)) (stale : List ℕ) : Type 0 where
+  pub cache : cache_of new ≡ cache_stored ps (cache_of old)
+  pub memory : memory_in new ≡ with_writes (memory_in old) ps
+  pub frames : frames_in new ≡ softened (wrote (frames_in old) ps) stale

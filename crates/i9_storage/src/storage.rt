@@ -2,7 +2,7 @@
 ghost use Rattle.std.specs.Prelude.{◌≡◌, ◌≢◌, false, ◌+◌, ◌-◌, ◌%◌, ◌^◌, ◌<◌, ◌≤◌, ◌↔◌, ◌∷◌, ◌++◌, [], length, take};
 ghost use Rattle.std.specs.Prelude.{IsTrue, None, Some, OnOk, OnErr, IfOk};
 ghost use Rattle.std.specs.List.{AllByRecursion};
-ghost use Rattle.i9_model.specs.Memory.{with_bytes, with_words, stored};
+ghost use Rattle.i9_model.specs.Memory.{with_words, stored};
 ghost use Rattle.i9_isa.specs.Words.{bit};
 ghost use Rattle.i9_model.specs.declared.layout.TheConstants.{RIP};
 ghost use Rattle.i9_model.specs.Frames.{no_frames, saved, with_marked, returned, flushed, wrote, wrote_run, softened};
@@ -11,7 +11,7 @@ ghost use Rattle.i9_model.specs.Writes.{wrapped, upwards};
 ghost use Rattle.i9_model.specs.Hazards.{writes_hazard, save_hazard};
 ghost use Rattle.i9_model.specs.Sound.{IsSound};
 ghost use Rattle.i9_model.specs.Alike.{is_compared, AgreeWhere};
-ghost use Rattle.i9_model.specs.HeldFrames.{cache, AreYoungest, holding, taken, written_back, cache_stored};
+ghost use Rattle.i9_model.specs.HeldFrames.{cache, AreYoungest, holding, taken, written_back};
 ghost use Rattle.i9_model.specs.Late.{due_puts, left_waiting};
 ghost use Rattle.i9_memory.specs.Memory.{memory_of};
 ghost use Rattle.i9_queue.specs.Queue.{wait_in};
@@ -83,9 +83,10 @@ fn mark_stored(watch: &mut Watch, a: u32, n: u32, stale: u16)
 }
 
 impl Storage {
-    ghost use Rattle.i9_storage.specs.Storage.{cache_of, memory_in, frames_in, size_of, acted_in, waiting_in};
-    ghost use Rattle.i9_storage.specs.Storage.{IsDrained, HasSpace, HasSoftSpace, HasFrameSpace, KeepsSpace, KeepsSoftSpace, KeepsFrameSpace};
-    ghost use Rattle.i9_storage.specs.Storage.{AddsNone, AddsBytesOnly, AddsFrameOnly, AddsSoftOnly, HasPagesOf};
+    ghost use Rattle.i9_storage.specs.Storage.{cache_of, memory_in, frames_in, size_of, acted_in, waiting_in, Stores};
+    ghost use Rattle.i9_storage.specs.Storage.{IsDrained, HasSpace, HasSoftSpace, HasFrameSpace, KeepsFrameSpace};
+    ghost use Rattle.i9_storage.specs.Storage.{KeepsPages, KeepsRest, KeepsContents, KeepsAll};
+    ghost use Rattle.i9_storage.specs.Storage.{AddsBytesOnly, AddsFrameOnly, AddsSoftOnly, HasPagesOf};
 
     /// Memory as it is, with `sets` sets. No frame is saved, and nothing waits.
     pub fn new(alloc: Global, memory: Memory, sets: u8) -> Result<Storage, NoMemory>
@@ -105,13 +106,8 @@ impl Storage {
 
     /// The same memory with the same frames and the same requests.
     pub fn copy(&self, alloc: Global) -> Result<Storage, NoMemory>
-        ensures cache { IfOk result (λ s. cache_of s ≡ cache_of self.now) }
-        ensures frames { IfOk result (λ s. frames_in s ≡ frames_in self.now) }
-        ensures size { IfOk result (λ s. size_of s ≡ size_of self.now) }
-        ensures waiting { IfOk result (λ s. waiting_in s ≡ waiting_in self.now) }
-        ensures acted { IfOk result (λ s. acted_in s ≡ acted_in self.now) }
-        ensures keeps { IfOk result (λ s. KeepsSpace self.now s) }
-        ensures no_more { IfOk result (λ s. AddsNone self.now s) }
+        ensures contents { IfOk result (λ s. KeepsContents self.now s) }
+        ensures pages { IfOk result (λ s. KeepsPages self.now s) }
     {
         let behind = self.behind.copy()?;
         let watch = self.watch.copy()?;
@@ -139,14 +135,9 @@ impl Storage {
         requires few { length bytes.now < 2 ^ 32 }
         requires stale_few { stale ≢ 0 → length bytes.now ≤ 16 }
         requires stale_space { stale ≢ 0 → HasSoftSpace self.old a (length bytes.now) }
-        ensures cache { cache_of self.new ≡ cache_stored (upwards a bytes.now) (cache_of self.old) }
-        ensures memory { memory_in self.new ≡ with_bytes (memory_in self.old) a bytes.now }
-        ensures frames { frames_in self.new ≡ softened (wrote (frames_in self.old) (upwards a bytes.now))
+        ensures stores { Stores self.old self.new (upwards a bytes.now)
             (picked wrapped a (bits_of stale (length bytes.now))) }
-        ensures size { size_of self.new ≡ size_of self.old }
-        ensures waiting { waiting_in self.new ≡ waiting_in self.old }
-        ensures keeps { KeepsSpace self.old self.new }
-        ensures no_more { AddsNone self.old self.new }
+        ensures keeps { KeepsRest self.old self.new }
     {
         self.behind.store(a, bytes);
         mark_stored(&mut self.watch, a, bytes.len() as u32, stale);
@@ -162,16 +153,12 @@ impl Storage {
         requires space { HasSpace self.old request.address (length request.bytes.items) }
         requires stale_space { stale ≢ 0 → HasSoftSpace self.old request.address (length request.bytes.items) }
         requires free { writes_hazard (frames_in self.old) (upwards request.address request.bytes.items) ≡ None }
-        ensures cache { cache_of self.new
-            ≡ cache_stored (upwards request.address request.bytes.items) (cache_of self.old) }
-        ensures memory { memory_in self.new ≡ with_bytes (memory_in self.old) request.address request.bytes.items }
-        ensures frames { frames_in self.new ≡ softened (wrote (frames_in self.old) (upwards request.address request.bytes.items))
+        ensures stores { Stores self.old self.new (upwards request.address request.bytes.items)
             (picked wrapped request.address (bits_of stale (length request.bytes.items))) }
-        ensures size { size_of self.new ≡ size_of self.old }
         ensures waiting { waiting_in self.new ≡ waiting_in self.old ++ wait_in request ∷ [] }
+        ensures size { size_of self.new ≡ size_of self.old }
         ensures acted { acted_in self.new ≡ acted_in self.old }
-        ensures keeps { KeepsSpace self.old self.new }
-        ensures no_more { AddsNone self.old self.new }
+        ensures pages { KeepsPages self.old self.new }
     {
         let a = request.address;
         let n = request.bytes.len() as u32;
@@ -190,10 +177,8 @@ impl Storage {
         ensures waiting { waiting_in self.new ≡ left_waiting turn (waiting_in self.old) }
         ensures acted { (acted_in self.new).bytes
             ≡ stored (acted_in self.old).bytes (due_puts turn (waiting_in self.old)) }
-        ensures keeps { KeepsSpace self.old self.new }
         ensures frame_space { KeepsFrameSpace self.old self.new }
-        ensures soft_space { KeepsSoftSpace self.old self.new }
-        ensures no_more { AddsNone self.old self.new }
+        ensures pages { KeepsPages self.old self.new }
     {
         self.behind.land(turn);
     }
@@ -211,11 +196,7 @@ impl Storage {
         ensures memory { memory_in self.new ≡ with_words (memory_in self.old) f.address f.words }
         ensures frames { frames_in self.new ≡ with_marked (saved (frames_in self.old) f.address)
             (picked wrapped f.address (byte_marks (bits_of marks 16))) }
-        ensures size { size_of self.new ≡ size_of self.old }
-        ensures waiting { waiting_in self.new ≡ waiting_in self.old }
-        ensures keeps { KeepsSpace self.old self.new }
-        ensures soft_space { KeepsSoftSpace self.old self.new }
-        ensures no_more { AddsNone self.old self.new }
+        ensures keeps { KeepsRest self.old self.new }
     {
         hold(&mut self.behind, &mut self.sets, f);
         self.watch.called(f.address, marks);
@@ -227,12 +208,8 @@ impl Storage {
         ensures cache { cache_of self.new ≡ taken (cache_of self.old) }
         ensures memory { AgreeWhere (is_compared (returned (frames_in self.old))) (memory_in self.old) (memory_in self.new).bytes }
         ensures frames { frames_in self.new ≡ returned (frames_in self.old) }
-        ensures size { size_of self.new ≡ size_of self.old }
-        ensures waiting { waiting_in self.new ≡ waiting_in self.old }
         ensures acted { acted_in self.new ≡ acted_in self.old }
-        ensures keeps { KeepsSpace self.old self.new }
-        ensures soft_space { KeepsSoftSpace self.old self.new }
-        ensures no_more { AddsNone self.old self.new }
+        ensures keeps { KeepsRest self.old self.new }
     {
         let _ = self.sets.pop();
         drop_frame(&mut self.watch);
@@ -244,11 +221,7 @@ impl Storage {
         ensures cache { cache_of self.new ≡ written_back (cache_of self.old) }
         ensures memory { memory_in self.new ≡ memory_in self.old }
         ensures frames { frames_in self.new ≡ flushed (frames_in self.old) }
-        ensures size { size_of self.new ≡ size_of self.old }
-        ensures waiting { waiting_in self.new ≡ waiting_in self.old }
-        ensures keeps { KeepsSpace self.old self.new }
-        ensures soft_space { KeepsSoftSpace self.old self.new }
-        ensures no_more { AddsNone self.old self.new }
+        ensures keeps { KeepsRest self.old self.new }
     {
         write_back(&mut self.behind, &mut self.sets);
         self.watch.flushed();
@@ -257,18 +230,11 @@ impl Storage {
     /// Makes space for `n` bytes from `a` up, and for no others but those of their pages. Memory is refused only where
     /// space is lacking, and then some is lacking still.
     pub fn reserve(&mut self, a: u32, n: u32) -> Result<(), NoMemory>
-        ensures cache { cache_of self.new ≡ cache_of self.old }
-        ensures frames { frames_in self.new ≡ frames_in self.old }
+        ensures keeps { KeepsAll self.old self.new }
         ensures space { OnOk result (HasSpace self.new a n) }
-        ensures frame_space { KeepsFrameSpace self.old self.new }
-        ensures soft_space { KeepsSoftSpace self.old self.new }
         ensures needed { OnErr result (0 < n) }
         ensures lacking { OnErr result (HasSpace self.old a n → ⊥) }
         ensures still_lacking { OnErr result (HasSpace self.new a n → ⊥) }
-        ensures size { size_of self.new ≡ size_of self.old }
-        ensures waiting { waiting_in self.new ≡ waiting_in self.old }
-        ensures acted { acted_in self.new ≡ acted_in self.old }
-        ensures keeps { KeepsSpace self.old self.new }
         ensures only { AddsBytesOnly self.old self.new a n }
     {
         self.behind.reserve(a, n)
@@ -278,16 +244,10 @@ impl Storage {
     /// has to, and for its save; and for nothing else but what shares their pages. Memory is refused
     /// only where space is lacking, and then some is lacking still.
     pub fn reserve_frame(&mut self, a: u32) -> Result<(), NoMemory>
-        ensures cache { cache_of self.new ≡ cache_of self.old }
-        ensures frames { frames_in self.new ≡ frames_in self.old }
+        ensures keeps { KeepsAll self.old self.new }
         ensures space { OnOk result (HasFrameSpace self.new a) }
         ensures lacking { OnErr result (HasFrameSpace self.old a → ⊥) }
         ensures still_lacking { OnErr result (HasFrameSpace self.new a → ⊥) }
-        ensures size { size_of self.new ≡ size_of self.old }
-        ensures waiting { waiting_in self.new ≡ waiting_in self.old }
-        ensures acted { acted_in self.new ≡ acted_in self.old }
-        ensures keeps { KeepsSpace self.old self.new }
-        ensures soft_space { KeepsSoftSpace self.old self.new }
         ensures only { AddsFrameOnly self.old self.new a }
     {
         self.behind.reserve(a, FRAME_SIZE)?;
@@ -298,17 +258,10 @@ impl Storage {
     /// pages. Memory is refused only where space is lacking.
     pub fn reserve_soft(&mut self, a: u32, n: u32) -> Result<(), NoMemory>
         requires few { n ≤ 16 }
-        ensures cache { cache_of self.new ≡ cache_of self.old }
-        ensures frames { frames_in self.new ≡ frames_in self.old }
+        ensures keeps { KeepsAll self.old self.new }
         ensures space { OnOk result (HasSoftSpace self.new a n) }
-        ensures frame_space { KeepsFrameSpace self.old self.new }
-        ensures soft_space { KeepsSoftSpace self.old self.new }
         ensures lacking { OnErr result (HasSoftSpace self.old a n → ⊥) }
         ensures still_lacking { OnErr result (HasSoftSpace self.new a n → ⊥) }
-        ensures size { size_of self.new ≡ size_of self.old }
-        ensures waiting { waiting_in self.new ≡ waiting_in self.old }
-        ensures acted { acted_in self.new ≡ acted_in self.old }
-        ensures keeps { KeepsSpace self.old self.new }
         ensures only { AddsSoftOnly self.old self.new a n }
     {
         self.watch.reserve_bytes(a, n)
@@ -323,8 +276,7 @@ impl Storage {
         ensures size { size_of self.new ≡ sets.size }
         ensures waiting { waiting_in self.new ≡ waiting_in self.old }
         ensures acted { acted_in self.new ≡ acted_in self.old }
-        ensures keeps { KeepsSpace self.old self.new }
-        ensures no_more { AddsNone self.old self.new }
+        ensures pages { KeepsPages self.old self.new }
     {
         self.sets = sets;
     }

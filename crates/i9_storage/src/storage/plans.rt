@@ -16,10 +16,11 @@ ghost use Rattle.i9_model.specs.HeldFrames.{cache_configured};
 ghost use Rattle.i9_model.specs.Numbers.{IsWithin};
 ghost use Rattle.i9_entry.specs.Switches.{system_switch};
 ghost use Rattle.i9_faults.specs.Switches.{fault_switch};
-ghost use Rattle.i9_queue.specs.Behind.{settled, waiting_of, KeepsRoomIn};
+ghost use Rattle.i9_queue.specs.Behind.{settled, waiting_of};
 ghost use Rattle.i9_ints.specs.Ints.{interrupts_of};
 ghost use Rattle.i9_dma.specs.Channels.{dma_of};
 ghost use Rattle.i9_dma.specs.Units.{given_in, bytes_in, planned_bytes};
+ghost use Rattle.i9_storage.specs.Kept.{KeepsBehind};
 
 use super::Storage;
 use arrayvec::ArrayVec;
@@ -38,9 +39,7 @@ fn configure_regions(behind: &mut Behind, region: u8, words: &[u32])
     requires drained { waiting_of behind.old ≡ [] }
     requires few { region + length words.now ≤ 16 }
     ensures memory { settled behind.new ≡ with_regions (settled behind.old) region words.now }
-    ensures waiting { waiting_of behind.new ≡ waiting_of behind.old }
-    ensures keeps { KeepsRoomIn behind.old behind.new }
-    ensures no_more { KeepsRoomIn behind.new behind.old }
+    ensures keeps { KeepsBehind behind.old behind.new }
 {
     for k in 0..words.len() {
         behind.configure(region + k as u8, words[k]);
@@ -48,8 +47,7 @@ fn configure_regions(behind: &mut Behind, region: u8, words: &[u32])
 }
 
 impl Storage {
-    ghost use Rattle.i9_storage.specs.Storage.{cache_of, memory_in, frames_in, size_of, waiting_in};
-    ghost use Rattle.i9_storage.specs.Storage.{IsDrained, KeepsSpace, AddsNone};
+    ghost use Rattle.i9_storage.specs.Storage.{cache_of, memory_in, frames_in, IsDrained, KeepsRest};
 
     /// What a call of system procedure `n` makes, by the system procedure table at `table`, from the
     /// process controls and the frame and stack pointers. `Err` says that there is no procedure of
@@ -256,10 +254,7 @@ impl Storage {
         ensures cache { cache_of self.new ≡ cache_configured (memory_in self.new) (cache_of self.old) }
         ensures frames { frames_in self.new ≡ frames_in self.old }
         ensures refused { OnErr result (cache_of self.new ≡ cache_of self.old) }
-        ensures size { size_of self.new ≡ size_of self.old }
-        ensures waiting { waiting_in self.new ≡ waiting_in self.old }
-        ensures keeps { KeepsSpace self.old self.new }
-        ensures no_more { AddsNone self.old self.new }
+        ensures keeps { KeepsRest self.old self.new }
     {
         reinit(self.behind.memory_mut(), &self.watch, first, prcb)
     }
@@ -285,10 +280,7 @@ impl Storage {
         ensures memory { memory_in self.new ≡ with_regions (memory_in self.old) region words.now }
         ensures cache { cache_of self.new ≡ cache_configured (memory_in self.new) (cache_of self.old) }
         ensures frames { frames_in self.new ≡ frames_in self.old }
-        ensures size { size_of self.new ≡ size_of self.old }
-        ensures waiting { waiting_in self.new ≡ waiting_in self.old }
-        ensures keeps { KeepsSpace self.old self.new }
-        ensures no_more { AddsNone self.old self.new }
+        ensures keeps { KeepsRest self.old self.new }
     {
         configure_regions(&mut self.behind, region, words);
     }

@@ -3,8 +3,8 @@ ghost use Rattle.std.specs.Prelude.{◌≡◌, ◌+◌, ◌<◌, [], length};
 ghost use Rattle.i9_model.specs.declared.layout.TheConstants.{FRAME_SIZE};
 ghost use Rattle.i9_model.specs.Memory.{with_words};
 ghost use Rattle.i9_model.specs.HeldFrames.{spilled, holding, written_back};
-ghost use Rattle.i9_queue.specs.Behind.{settled, waiting_of, KeepsRoomIn};
-ghost use Rattle.i9_storage.specs.Kept.{cache_in, HaveRoom};
+ghost use Rattle.i9_queue.specs.Behind.{settled, waiting_of};
+ghost use Rattle.i9_storage.specs.Kept.{cache_in, HaveRoom, KeepsBehind};
 
 use i9_frames::{Frame, Sets};
 use i9_queue::Behind;
@@ -15,9 +15,7 @@ pub(super) fn hold(behind: &mut Behind, sets: &mut Sets, f: Frame)
     requires room { HaveRoom behind.old sets.old.frames }
     ensures cache { cache_in behind.new sets.new ≡ holding sets.old.size f (cache_in behind.old sets.old) }
     ensures size { sets.new.size ≡ sets.old.size }
-    ensures waiting { waiting_of behind.new ≡ waiting_of behind.old }
-    ensures keeps { KeepsRoomIn behind.old behind.new }
-    ensures no_more { KeepsRoomIn behind.new behind.old }
+    ensures keeps { KeepsBehind behind.old behind.new }
 {
     if let Some(oldest) = sets.push(f) {
         behind.put_words(oldest.address, &oldest.words);
@@ -34,9 +32,7 @@ fn spill(behind: &mut Behind, sets: &mut Sets)
     ensures fewer { length sets.new.frames + 1 ≡ length sets.old.frames }
     ensures room { HaveRoom behind.new sets.new.frames }
     ensures size { sets.new.size ≡ sets.old.size }
-    ensures waiting { waiting_of behind.new ≡ waiting_of behind.old }
-    ensures keeps { KeepsRoomIn behind.old behind.new }
-    ensures no_more { KeepsRoomIn behind.new behind.old }
+    ensures keeps { KeepsBehind behind.old behind.new }
 {
     if let Some(f) = sets.drain_oldest() {
         behind.put_words(f.address, &f.words);
@@ -50,9 +46,7 @@ pub(super) fn write_back(behind: &mut Behind, sets: &mut Sets)
     requires room { HaveRoom behind.old sets.old.frames }
     ensures cache { cache_in behind.new sets.new ≡ written_back (cache_in behind.old sets.old) }
     ensures size { sets.new.size ≡ sets.old.size }
-    ensures waiting { waiting_of behind.new ≡ waiting_of behind.old }
-    ensures keeps { KeepsRoomIn behind.old behind.new }
-    ensures no_more { KeepsRoomIn behind.new behind.old }
+    ensures keeps { KeepsBehind behind.old behind.new }
 {
     for _ in 0..sets.len() {
         spill(behind, sets);

@@ -19,7 +19,7 @@ returns c given is =
     let goes = c.going-effect.ensures in
     let at = (s.dma.channels c.args.c).target in
     let moved_bytes = unit_bytes s.memory (s.dma.channels c.args.c) given in
-    let stored = plain_same s (going s c.ip.result) e c.unit_target.result at c.args.bytes.items moved_bytes e.stale goes.effect.same goes.requests c.unit_target.ensures is goes.stale in
+    let stored = plain_same s (going s c.ip.result) e c.unit_target.result at c.args.bytes.items moved_bytes e.stale goes.effect.same goes.keeps.requests c.unit_target.ensures is goes.keeps.stale in
     let posting = c.posting_of-effect.ensures.same s.interrupts ∙ ap (λ (b : Bool). cond b (posted s.interrupts (FIRST_DMA_LINE + c.args.c)) s.interrupts) c.posts_behind_unit.ensures in
     record {
       same =

@@ -21,29 +21,27 @@ store_run-requires-clause-free c =
 
 pub store_requests-requires-clause-space : goal.store_requests-requires-clause-space
 store_requests-requires-clause-space c =
-    spacious_kept c.args.storage.now c.store_run.new.storage (requests_in c.args.e.now.requests) c.store_run.ensures.keeps c.requires.requests
+    spacious_kept c.args.storage.now c.store_run.new.storage (requests_in c.args.e.now.requests) c.store_run.ensures.keeps.pages.space c.requires.requests
 
 pub store_requests-requires-clause-free : goal.store_requests-requires-clause-free
 unfolding writes_hazard
 store_requests-requires-clause-free c =
     let e = c.args.e.now in
-    ap (λ (f : Frames). writes_hazard f (requests_in e.requests)) c.store_run.ensures.frames
+    ap (λ (f : Frames). writes_hazard f (requests_in e.requests)) c.store_run.ensures.stores.frames
     ∙ later_free (frames_in c.args.storage.now) (run_in e) (requests_in e.requests) (run_in e) c.requires.free
 
-pub returns-clause-cache : goal.returns-clause-cache
-returns-clause-cache c =
+pub returns-clause-stores : goal.returns-clause-stores
+returns-clause-stores c =
+    let s = c.args.storage.now in
     let e = c.args.e.now in
-    c.store_requests.ensures.cache ∙ ap (cache_stored (requests_in e.requests)) c.store_run.ensures.cache ∙ cache_append (cache_of c.args.storage.now) (run_in e) (requests_in e.requests)
-
-pub returns-clause-memory : goal.returns-clause-memory
-returns-clause-memory c =
-    let e = c.args.e.now in
-    c.store_requests.ensures.memory ∙ ap (λ (m : Memory). with_writes m (requests_in e.requests)) c.store_run.ensures.memory ∙ memory_append (memory_in c.args.storage.now) (run_in e) (requests_in e.requests)
-
-pub returns-clause-frames : goal.returns-clause-frames
-returns-clause-frames c =
-    let e = c.args.e.now in
-    c.store_requests.ensures.frames ∙ ap (λ (f : Frames). wrote f (requests_in e.requests)) c.store_run.ensures.frames ∙ marked_append (frames_in c.args.storage.now) e
+    let asked = requests_in e.requests in
+    let run = c.store_run.ensures.stores in
+    let rest = c.store_requests.ensures.stores in
+    record {
+      cache = rest.cache ∙ ap (cache_stored asked) run.cache ∙ cache_append (cache_of s) (run_in e) asked;
+      memory = rest.memory ∙ ap (λ (m : Memory). with_writes m asked) run.memory ∙ memory_append (memory_in s) (run_in e) asked;
+      frames = rest.frames ∙ ap (λ (f : Frames). wrote f asked) run.frames ∙ marked_append (frames_in s) e;
+    }
 
 pub returns-clause-acted : goal.returns-clause-acted
 returns-clause-acted c none =

@@ -20,25 +20,23 @@ store_one-requires-clause-free c =
 pub store_one-requires-2-clause-space : goal.store_one-requires-2-clause-space
 store_one-requires-2-clause-space c =
     let r = c.args.requests.now in
-    spacious_kept c.args.storage.now c.store_one.new.storage (one_in (r.second)) c.store_one.ensures.keeps (later_spacious c.args.storage.now (one_in (r.first)) (one_in (r.second)) c.requires.space)
+    spacious_kept c.args.storage.now c.store_one.new.storage (one_in (r.second)) c.store_one.ensures.keeps.pages.space (later_spacious c.args.storage.now (one_in (r.first)) (one_in (r.second)) c.requires.space)
 
 pub store_one-requires-2-clause-free : goal.store_one-requires-2-clause-free
 store_one-requires-2-clause-free c =
     let r = c.args.requests.now in
-    ap (λ (f : Frames). writes_hazard f (one_in (r.second))) c.store_one.ensures.frames
+    ap (λ (f : Frames). writes_hazard f (one_in (r.second))) c.store_one.ensures.stores.frames
     ∙ later_free (frames_in c.args.storage.now) (one_in (r.first)) (one_in (r.second)) (one_in (r.first)) c.requires.free
 
-pub returns-clause-cache : goal.returns-clause-cache
-returns-clause-cache c =
-    let r = c.args.requests.now in
-    c.store_one-2.ensures.cache ∙ ap (cache_stored (one_in (r.second))) c.store_one.ensures.cache ∙ cache_append (cache_of c.args.storage.now) (one_in (r.first)) (one_in (r.second))
-
-pub returns-clause-memory : goal.returns-clause-memory
-returns-clause-memory c =
-    let r = c.args.requests.now in
-    c.store_one-2.ensures.memory ∙ ap (λ (m : Memory). with_writes m (one_in (r.second))) c.store_one.ensures.memory ∙ memory_append (memory_in c.args.storage.now) (one_in (r.first)) (one_in (r.second))
-
-pub returns-clause-frames : goal.returns-clause-frames
-returns-clause-frames c =
-    let r = c.args.requests.now in
-    c.store_one-2.ensures.frames ∙ ap (λ (f : Frames). wrote f (one_in (r.second))) c.store_one.ensures.frames ∙ frames_append (frames_in c.args.storage.now) (one_in (r.first)) (one_in (r.second))
+pub returns-clause-stores : goal.returns-clause-stores
+returns-clause-stores c =
+    let s = c.args.storage.now in
+    let first = one_in (c.args.requests.now.first) in
+    let second = one_in (c.args.requests.now.second) in
+    let one = c.store_one.ensures.stores in
+    let two = c.store_one-2.ensures.stores in
+    record {
+      cache = two.cache ∙ ap (cache_stored second) one.cache ∙ cache_append (cache_of s) first second;
+      memory = two.memory ∙ ap (λ (m : Memory). with_writes m second) one.memory ∙ memory_append (memory_in s) first second;
+      frames = two.frames ∙ ap (λ (f : Frames). wrote f second) one.frames ∙ frames_append (frames_in s) first second;
+    }

@@ -4,4 +4,4 @@ use Rattle.i9_processor.proofs.registers.set_group.Goals as goal
 
 pub loop-k-init : goal.loop-k-init
 unfolding written
-loop-k-init c = record { registers = refl; code = refl; still = λ h. h }
+loop-k-init c = record { registers = refl; keeps = record { code = refl; still = λ h. h } }

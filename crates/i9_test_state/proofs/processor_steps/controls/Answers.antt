@@ -56,8 +56,8 @@ applies-requires-clause-controls c =
     } in
     let flush : IsFlush (action_in s effect) = record {
       move = refl;
-      writes = ap (λ (bs : List ℕ). upwards e.address bs ++ requests_in e.requests) c.going-effect.ensures.bytes ∙ ap requests_in c.going-effect.ensures.requests;
-      stale = unmarked_bytes effect c.going-effect.ensures.stale;
+      writes = ap (λ (bs : List ℕ). upwards e.address bs ++ requests_in e.requests) c.going-effect.ensures.keeps.bytes ∙ ap requests_in c.going-effect.ensures.keeps.requests;
+      stale = unmarked_bytes effect c.going-effect.ensures.keeps.stale;
       lost = refl;
     } in
     behind c.args.control s (action_in s effect) flush c.requires.can

@@ -38,4 +38,4 @@ apply-requires-clause-covered c =
     ap (λ (a : Action). a.sets) same ∙ ap (λ (vs : List ℕ). pairs_at (λ r. r) 4 vs) items in
     let here : IsCovered 16 s (action_in s e) = one_covered s (action_in s e) c.args.value sets
     (ap (λ (a : Action). a.ac) same) (ap (λ (a : Action). a.control) same) in
-    subst (λ (t : State). IsCovered 16 t (action_in t e)) (sym c.reserve.ensures.state) here
+    subst (λ (t : State). IsCovered 16 t (action_in t e)) (sym c.reserve.ensures.keeps.seen.state) here

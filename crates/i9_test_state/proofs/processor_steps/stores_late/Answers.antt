@@ -29,8 +29,8 @@ apply-requires-clause-covered c =
       bytes = c.push.new.self;
       plain = false;
       rest = λ is. absurd (false≢true is);
-      marked = λ some. absurd (some c.going-effect.ensures.stale);
+      marked = λ some. absurd (some c.going-effect.ensures.keeps.stale);
     } in
     let here : IsCovered 0 s (action_in s f) = none_covered s 4888 (action_in s f) (ap (λ (a : Action). a.sets) same)
     (ap (λ (a : Action). a.ac) same) (ap (λ (a : Action). a.control) same) in
-    subst (λ (t : State). IsCovered 0 t (action_in t f)) (sym c.reserve.ensures.state) here
+    subst (λ (t : State). IsCovered 0 t (action_in t f)) (sym c.reserve.ensures.keeps.seen.state) here

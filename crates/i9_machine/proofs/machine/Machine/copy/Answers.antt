@@ -8,9 +8,9 @@ returns-clause-stands c = λ g h stands.
     let made = c.in_ok-processor.ensures in
     same_stands g h c.args.self.now _ None
     record {
-      state = made.state;
-      cache = made.cache;
-      size = made.size;
+      state = made.seen.state;
+      cache = made.seen.cache;
+      size = made.seen.size;
       due = refl;
       length = refl;
       sets = refl;
@@ -20,7 +20,7 @@ returns-clause-stands c = λ g h stands.
         floor = refl;
         wait = refl;
         done = refl;
-        cells = made.cells;
+        cells = made.seen.cells;
         bytes = made.bytes;
         queue = made.queue;
         shade = c.copy-shade.ensures;
@@ -33,6 +33,6 @@ invariant_of-result c =
     let old = c.args.self.now in
     record {
       short = old.short;
-      below = subst (λ (s : State). s.count ≤ old.length) (sym c.in_ok-processor.ensures.state) old.below;
+      below = subst (λ (s : State). s.count ≤ old.length) (sym c.in_ok-processor.ensures.seen.state) old.below;
       few = old.few;
     }

@@ -33,8 +33,8 @@ returns-clause-cells c =
     let l = c.args.landing.now in
     let olds = c.args.self.now.file in
     let done = c.control.ensures.issued olds c.do_moves.ensures.issued in
-    let files = c.add_count.ensures.file ∙ c.renew.ensures.file ∙ c.flag.ensures.file in
-    let flags = c.add_count.ensures.flags ∙ c.renew.ensures.flags ∙ c.flag.ensures.flags in
+    let files = c.add_count.ensures.keeps.registers.file ∙ c.renew.ensures.registers.file ∙ c.flag.ensures.keeps.registers.file in
+    let flags = c.add_count.ensures.keeps.registers.flags ∙ c.renew.ensures.registers.flags ∙ c.flag.ensures.keeps.registers.flags in
     let last : IsIssued l.writes l.done c.add_count.new.self.flags olds c.add_count.new.self.file =
     subst (λ (n : ℕ). IsIssued l.writes l.done n olds c.add_count.new.self.file) (sym flags)
     (subst (λ (cs : File). IsIssued l.writes l.done c.control.new.self.flags olds cs) (sym files) done) in
@@ -45,8 +45,8 @@ pub returns-clause-waits : goal.returns-clause-waits
 unfolding bytes_of queue_of
 returns-clause-waits c asks =
     let keeps = ap control_in (c.requires.acts.0 asks).control in
-    let counted = c.add_count.ensures.storage in
-    let flagged = c.flag.ensures.storage in (
+    let counted = c.add_count.ensures.keeps.stored.storage in
+    let flagged = c.flag.ensures.keeps.stored.storage in (
       ap (λ (s : Storage). (acted_in s).bytes) counted
           ∙ c.renew.ensures.bytes
           ∙ ap (λ (s : Storage). (acted_in s).bytes) flagged
@@ -55,24 +55,24 @@ returns-clause-waits c asks =
       ap (λ (s : Storage). waiting_in s) counted
           ∙ c.renew.ensures.queue
           ∙ ap (λ (s : Storage). waiting_in s) flagged
-          ∙ c.control.ensures.queue
+          ∙ c.control.ensures.keeps.queue
           ∙ (c.do_moves.ensures.waits asks).1,
     )
 
 pub returns-clause-acts : goal.returns-clause-acts
 unfolding queue_of
 returns-clause-acts c rests =
-    ap (λ (s : Storage). waiting_in s) c.add_count.ensures.storage
+    ap (λ (s : Storage). waiting_in s) c.add_count.ensures.keeps.stored.storage
     ∙ c.renew.ensures.queue
-    ∙ ap (λ (s : Storage). waiting_in s) c.flag.ensures.storage
-    ∙ c.control.ensures.queue
+    ∙ ap (λ (s : Storage). waiting_in s) c.flag.ensures.keeps.stored.storage
+    ∙ c.control.ensures.keeps.queue
     ∙ c.do_moves.ensures.acts rests
 
 pub returns-clause-still : goal.returns-clause-still
 unfolding bytes_of
 returns-clause-still c rests still =
-    ap (λ (s : Storage). (acted_in s).bytes) c.add_count.ensures.storage
+    ap (λ (s : Storage). (acted_in s).bytes) c.add_count.ensures.keeps.stored.storage
     ∙ c.renew.ensures.bytes
-    ∙ ap (λ (s : Storage). (acted_in s).bytes) c.flag.ensures.storage
+    ∙ ap (λ (s : Storage). (acted_in s).bytes) c.flag.ensures.keeps.stored.storage
     ∙ c.control.ensures.bytes still.control
     ∙ c.do_moves.ensures.still rests still

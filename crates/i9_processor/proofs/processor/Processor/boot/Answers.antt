@@ -57,7 +57,7 @@ unfolding state_of cells_of
 returns-clause-cells c r few =
     let file = c.set_arithmetic.new.file in
     let flags = c.set_arithmetic.new.flags in
-    let kept = c.set_arithmetic.ensures.still (c.start_registers.ensures.still (new_still c.new-file.result c.new-file.ensures)) in
+    let kept = c.set_arithmetic.ensures.still (c.start_registers.ensures.keeps.still (new_still c.new-file.result c.new-file.ensures)) in
     cell_resource flags c.boot-setup.result.ac file kept c.set_arithmetic.ensures.code c.set_arithmetic.ensures.ac r few
     ∙ ap (λ (s : State). still (resource s r)) (returns-clause-state c)
 

@@ -11,7 +11,7 @@ returns-clause-lacking c =
     let mid = c.reserve_run.new.storage in
     let late = c.reserve_requests.new.storage in
     let e = c.args.e.now in
-    on_err_weaker c.reserve_move.result (λ lacks space. lacks (move_kept mid late e.frames c.reserve_requests.ensures.frame_space (move_kept old mid e.frames c.reserve_run.ensures.frame_space space.frames))) c.reserve_move.ensures.lacking
+    on_err_weaker c.reserve_move.result (λ lacks space. lacks (move_kept mid late e.frames c.reserve_requests.ensures.keeps.frame_space (move_kept old mid e.frames c.reserve_run.ensures.keeps.frame_space space.frames))) c.reserve_move.ensures.lacking
 
 -- where room is made for the run alone
 pub returns-in_err-reserve_run-clause-only : goal.returns-in_err-reserve_run-clause-only

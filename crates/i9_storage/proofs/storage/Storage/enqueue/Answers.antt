@@ -1,4 +1,4 @@
-use Rattle.std.proofs.Common.{◌≡◌, ℕ, List, length, ap, ◌∙◌}
+use Rattle.std.proofs.Common.{rules, ◌≡◌, ℕ, List, length, ap, ◌∙◌}
 use Rattle.i9_model.specs.State.{Frames}
 use Rattle.i9_model.specs.Frames.{wrote_run, wrote, softened}
 use Rattle.i9_model.specs.Stale.{picked}
@@ -25,11 +25,12 @@ invariant_of-self c =
     let wrote = request_wrote (frames_of old.watch) (frames_of c.mark_stored.new.watch) r c.args.stale c.len-n.result c.len-n.ensures.value c.mark_stored.ensures.frames in
     record { kept = kept_store old.behind c.enqueue.new.self old.watch c.mark_stored.new.watch old.sets (upwards r.address r.bytes.items) (marked_in r c.args.stale) old.kept c.enqueue.ensures.keeps wrote c.requires.free }
 
-pub returns-clause-frames : goal.returns-clause-frames
-returns-clause-frames c =
-    request_wrote (frames_of c.args.self.now.watch) (frames_of c.mark_stored.new.watch) c.args.request c.args.stale c.len-n.result c.len-n.ensures.value c.mark_stored.ensures.frames
-
-pub returns-clause-memory : goal.returns-clause-memory
-returns-clause-memory c =
+pub returns-clause-stores : goal.returns-clause-stores
+returns-clause-stores c =
     let old = c.args.self.now in
-    store_laid old.behind c.enqueue.new.self old.watch old.sets (upwards c.args.request.address c.args.request.bytes.items) old.kept c.requires.free c.enqueue.ensures.settled
+    let r = c.args.request in
+    record {
+      cache = search rules;
+      memory = store_laid old.behind c.enqueue.new.self old.watch old.sets (upwards r.address r.bytes.items) old.kept c.requires.free c.enqueue.ensures.settled;
+      frames = request_wrote (frames_of old.watch) (frames_of c.mark_stored.new.watch) r c.args.stale c.len-n.result c.len-n.ensures.value c.mark_stored.ensures.frames;
+    }

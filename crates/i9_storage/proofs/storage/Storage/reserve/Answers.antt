@@ -1,6 +1,11 @@
-use Rattle.std.proofs.Common.{◌+◌}
+use Rattle.std.proofs.Common.{rules, ◌+◌}
 use Rattle.i9_model.specs.Writes.{wrapped}
 use Rattle.i9_storage.proofs.storage.Storage.reserve.Goals as goal
 
-pub returns-clause-frame_space : goal.returns-clause-frame_space
-returns-clause-frame_space c = λ a space. record { bytes = λ k h. c.reserve.ensures.keeps (wrapped (a + k)) (space.bytes k h); spare = space.spare; marks = space.marks }
+pub returns-clause-keeps : goal.returns-clause-keeps
+returns-clause-keeps c = record {
+  contents = search rules;
+  space = c.reserve.ensures.keeps;
+  frame_space = λ a space. record { bytes = λ k h. c.reserve.ensures.keeps (wrapped (a + k)) (space.bytes k h); spare = space.spare; marks = space.marks };
+  soft_space = λ a h. h;
+}

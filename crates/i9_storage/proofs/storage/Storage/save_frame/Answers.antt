@@ -9,7 +9,7 @@ invariant_of-self c =
     let old = c.args.self.now in
     let whole : length c.args.f.words ≡ LOCALS = search rules in
     record {
-      kept = kept_save old.behind c.hold.new.behind old.watch c.called.new.self old.sets c.hold.new.sets c.args.f c.args.marks old.kept c.hold.ensures.keeps c.called.ensures.frames c.requires.known c.requires.free
+      kept = kept_save old.behind c.hold.new.behind old.watch c.called.new.self old.sets c.hold.new.sets c.args.f c.args.marks old.kept c.hold.ensures.keeps.keeps c.called.ensures.frames c.requires.known c.requires.free
           c.hold.ensures.cache whole c.requires.space.bytes;
     }
 

@@ -1,4 +1,4 @@
-use Rattle.std.proofs.Common.{length}
+use Rattle.std.proofs.Common.{rules, length}
 use Rattle.i9_model.specs.Writes.{wrapped, upwards}
 use Rattle.i9_model.specs.Stale.{picked}
 use Rattle.i9_watch.specs.Bits.{bits_of}
@@ -14,11 +14,12 @@ invariant_of-self c =
     let wrote = run_wrote (frames_of old.watch) (frames_of c.mark_stored.new.watch) a bytes (picked wrapped a (bits_of c.args.stale (length bytes))) c.mark_stored.ensures.frames in
     record { kept = kept_store old.behind c.store.new.self old.watch c.mark_stored.new.watch old.sets (upwards a bytes) (picked wrapped a (bits_of c.args.stale (length bytes))) old.kept c.store.ensures.keeps wrote c.requires.free }
 
-pub returns-clause-frames : goal.returns-clause-frames
-returns-clause-frames c =
-    run_wrote (frames_of c.args.self.now.watch) (frames_of c.mark_stored.new.watch) c.args.a c.args.bytes.now (picked wrapped c.args.a (bits_of c.args.stale (length c.args.bytes.now))) c.mark_stored.ensures.frames
-
-pub returns-clause-memory : goal.returns-clause-memory
-returns-clause-memory c =
+pub returns-clause-stores : goal.returns-clause-stores
+returns-clause-stores c =
     let old = c.args.self.now in
-    store_laid old.behind c.store.new.self old.watch old.sets (upwards c.args.a c.args.bytes.now) old.kept c.requires.free c.store.ensures.settled
+    let stale = picked wrapped c.args.a (bits_of c.args.stale (length c.args.bytes.now)) in
+    record {
+      cache = search rules;
+      memory = store_laid old.behind c.store.new.self old.watch old.sets (upwards c.args.a c.args.bytes.now) old.kept c.requires.free c.store.ensures.settled;
+      frames = run_wrote (frames_of old.watch) (frames_of c.mark_stored.new.watch) c.args.a c.args.bytes.now stale c.mark_stored.ensures.frames;
+    }

@@ -1,12 +1,11 @@
 use Rattle.std.proofs.Common.{◌≡◌, ◌+◌, drop}
 use Rattle.i9_model.specs.Boot.{with_regions}
-use Rattle.i9_queue.specs.Behind.{settled, waiting_of, KeepsRoomIn}
+use Rattle.i9_queue.specs.Behind.{settled}
+use Rattle.i9_storage.specs.Kept.{KeepsBehind}
 use Rattle.i9_storage.proofs.storage.plans.configure_regions.Given as goal
 
 abbrev pub invariant-loop-k : goal.invariant-loop-k
 invariant-loop-k l = record {
   rest : with_regions (settled l.behind) (l.region + l.k) (drop l.k l.words) ≡ with_regions (settled l.fn.behind) l.region l.words;
-  waiting : waiting_of l.behind ≡ waiting_of l.fn.behind;
-  keeps : KeepsRoomIn l.fn.behind l.behind;
-  no_more : KeepsRoomIn l.behind l.fn.behind;
+  keeps : KeepsBehind l.fn.behind l.behind;
 }
