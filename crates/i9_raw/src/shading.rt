@@ -147,9 +147,26 @@ fn keep_all(p: &Processor, e: &Effect, shade: &mut Shade)
     keep_stored(p, e, shade);
 }
 
+/// Keeps until a turn, in place of what was kept, the bytes that stand in memory under all that an effect brings
+/// there at once.
+// Few records hide anything, and this is no part of their code.
+#[inline(never)]
+fn hide_all(p: &Processor, e: &Effect, done: u64, shade: &mut Shade)
+    requires whole { AreWhole (cache_of p.now).held }
+    ensures hides { Hides (bytes_of p.now) (puts_of (size_of p.now) (cache_of p.now) (action_in (state_of p.now) e.now)) shade.new.pieces }
+    ensures due { shade.new.due ≡ done }
+{
+    shade.due(0);
+    shade.land(0);
+    keep_all(p, e, shade);
+    shade.due(done);
+}
+
 /// Where a need is that of a barrier that is no request, keeps until a turn, in place of what was kept, the
 /// bytes that stand in memory under all that an effect brings there at once: what it stores, and the frames
 /// that a spill or a flush writes. Else what is kept stays.
+// Each step asks for it, and most are no barriers.
+#[inline(always)]
 pub fn hide(p: &Processor, e: &Effect, need: &Need, done: u64, shade: &mut Shade)
     requires whole { AreWhole (cache_of p.now).held }
     ensures bytes { shades_need need.now ≡ true → Hides (bytes_of p.now)
@@ -158,9 +175,6 @@ pub fn hide(p: &Processor, e: &Effect, need: &Need, done: u64, shade: &mut Shade
     ensures keeps { shades_need need.now ≡ false → shade.new ≡ shade.old }
 {
     if need.barrier && !need.request {
-        shade.due(0);
-        shade.land(0);
-        keep_all(p, e, shade);
-        shade.due(done);
+        hide_all(p, e, done, shade);
     }
 }
