@@ -1,5 +1,5 @@
 //! The machine, one step at a time.
-ghost use Rattle.std.specs.Prelude.{◌≡◌, ◌-◌, ◌^◌, ◌<◌, ◌≤◌, [], ◌∷◌, max, ℕ, List, Option, None, Some, IfOk, IfSome, vec_len, vec_capacity, true};
+ghost use Rattle.std.specs.Prelude.{◌≡◌, ◌-◌, ◌^◌, ◌<◌, ◌≤◌, [], ◌∷◌, length, max, ℕ, List, Option, None, Some, IfOk, IfSome, vec_len, vec_capacity, true, false};
 ghost use Rattle.std.proofs.Props.{props};
 ghost use Rattle.i9_model.specs.declared.layout.TheConstants.{MAX_LENGTH};
 ghost use Rattle.i9_model.specs.declared.event.Timed.{Timed};
@@ -306,7 +306,7 @@ impl Machine {
         self.perform(&step, issue, plan, out)
     }
 
-    /// An instruction that is planned runs, which does more than to set registers and to store bytes in a row.
+    /// An instruction that is planned runs, which may do more than to set registers, or be a barrier.
     // It has code of its own, so that the code for most instructions asks for nothing of that.
     #[inline(never)]
     fn step_storing(&mut self, issue: u64, plan: &mut Schedule, out: &mut Vec<Line>) -> Turn
@@ -323,6 +323,15 @@ impl Machine {
         ensures fewer { LeavesFewer result (steps_left self.old plan.old) (steps_left self.new plan.new) }
     {
         self.step_running(issue, plan, out)
+    }
+
+    /// Whether what is planned is no barrier, and sets registers at most.
+    #[inline(always)]
+    fn is_light(&self) -> bool
+        ensures bytes { result ≡ true → length self.now.effect.bytes.items ≡ 0 }
+        ensures barrier { result ≡ true → self.now.need.barrier ≡ false }
+    {
+        self.effect.plain && self.effect.bytes.is_empty() && !self.need.barrier
     }
 
     /// What comes next is done, whose turn has come.
@@ -345,7 +354,7 @@ impl Machine {
             Coming::Overtaking(address) => {
                 self.answer_end(Ending::Alone(End::Imprecise(address)), plan, out)
             }
-            Coming::Running if self.effect.plain => self.step_running(turn, plan, out),
+            Coming::Running if self.is_light() => self.step_running(turn, plan, out),
             Coming::Running => self.step_storing(turn, plan, out),
             Coming::Faulting(number) => self.step_faulting(number, turn, plan, out),
         }

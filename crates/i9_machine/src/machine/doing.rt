@@ -261,11 +261,14 @@ impl Machine {
 
     /// New sets where the processor starts anew: as many as were asked for, or as the PRCB asks for.
     #[inline(always)]
-    fn make_sets(&self, c: Control) -> Result<Option<Sets>, NoMemory>
-        ensures made { IfOk result (AreMade self.now.sets (state_of self.now.processor).memory c) }
-        ensures needed { OnErr result (is_restart (control_in c) ≡ true) }
+    fn make_sets(&self) -> Result<Option<Sets>, NoMemory>
+        ensures made { IfOk result (AreMade self.now.sets (state_of self.now.processor).memory self.now.effect.control) }
+        ensures needed { OnErr result (is_restart (control_in self.now.effect.control) ≡ true) }
     {
-        match c {
+        if self.effect.plain {
+            return Ok(None);
+        }
+        match self.effect.control {
             Control::Restarts { first: _, prcb } => {
                 let n = match self.sets {
                     Some(n) => n,
@@ -298,7 +301,7 @@ impl Machine {
         ensures still_lacking { OnErr result (HasRoomForStep self.new (vec_capacity out.new - vec_len out.new) self.new.effect step.now (option_copied event.entry) → ⊥) }
         ensures only { AddsActionOnly self.old.processor self.new.processor (action_for self.old self.old.effect) }
     {
-        let sets = self.make_sets(self.effect.control)?;
+        let sets = self.make_sets()?;
         self.processor.reserve(&self.effect)?;
         reserve_lines(step.line_count(&self.effect, event), out)?;
         Ok(sets)
