@@ -1,10 +1,16 @@
-// What is loaded and where the session stands, and the moves from there: each is a run of the command from the start.
+// What is loaded and where the session stands, and the moves from there. Each is a run of the command from the start, where
+// what it shows was not told by an earlier one.
 import {
-  hex, number, passTo, leadTo, tell, tellTurns, tellFrames, readPlaces, readTurns, readTrace, readListing, readRefusal, readTable,
+  hex, number, passTo, leadTo, tell, tellSteps, tellTurn, tellFrames, readPlaces, readTurns, readTrace, readListing, readRefusal, readTable,
   sourceWithTable, memoryOf, framesOf, isCall,
 } from "./session.mjs";
+import { NOT_TOLD } from "./course.mjs";
 
 const BEHIND = 100, AHEAD = 100, EDGE = 24, MOST_TRIES = 64, FRAME_ROUNDS = 6, TRACED = 400, STRIDE = 64, STRIDES = 4096, WIDER = 8, HEAD = 65536;
+// A course is told of so many instructions at most, and with it the count at each so many turns; the course is told further
+// where a place comes near to its end.
+const MOST_COURSE = 300000, COURSE_AHEAD = 5000, COUNTED = 3200, MOST_UNTILS = 300, NEAR = 5000, MOST_COUNTS = 1000;
+const latin1 = new TextDecoder("latin1");
 const NO_BYTES = bytesOf(":00000001FF\n");
 
 /** A text as the program takes it, a byte for each character; one past 255 is a byte past ASCII, which it refuses. */
@@ -20,18 +26,22 @@ export class Refused extends Error {
   }
 }
 
+// The first line that says anything is a command of the debugger. That of a schedule by turns has an event behind the turn.
+const SCRIPT = /^(?:[ \t\r]*(?:#.*)?\n)*[ \t]*(?:(?:turn|until|back|last|who)[ \t]+[0-9A-Fa-f]+|regs|raw|held|(?:raw)?mem[ \t]+[0-9A-Fa-f]+[ \t]+[0-9]+)[ \t\r]*(?:\n|$)/;
+
 /** What a file is to be, by its name and how it begins. */
 export function kindOf(name, bytes) {
   const head = new TextDecoder("latin1").decode(bytes.subarray(0, HEAD));
   if (head.startsWith("\x7FELF") || head.startsWith(":")) return "image";
+  if (/\.dbg$/i.test(name) || (!/\.(s|sch)$/i.test(name) && SCRIPT.test(head))) return "script";
   if (/\.sch$/i.test(name) || /^(?:[ \t\r]*(?:#.*)?\n)*[ \t]*(at|turn|schedule)[ \t]+\d/.test(head)) return "schedule";
   return "source";
 }
 
 export class Board {
-  /** `ask(words, ...files)` answers a status and a text. */
-  constructor(ask) {
-    Object.assign(this, { ask, image: undefined, name: "", source: undefined, schedule: "", sets: "-", length: "100000" });
+  /** `ask(words, ...files)` answers a status and a text, and so does `askAside`, where nobody waits for it. */
+  constructor(ask, askAside) {
+    Object.assign(this, { ask, askAside, image: undefined, name: "", source: undefined, schedule: "", sets: "-", length: "100000" });
     Object.assign(this, { names: new Map(), lines: new Map(), listing: [], stops: new Set(), has: {}, memory: { from: 0x1000, rows: 8, by: "mem" } });
     this.forget();
   }
@@ -44,7 +54,14 @@ export class Board {
 
   /** Lets go of what was told, as where something else is loaded. */
   forget() {
-    Object.assign(this, { told: new Map(), position: { turn: 1 }, place: undefined, before: undefined, script: "", ending: undefined });
+    Object.assign(this, { position: { turn: 1 }, place: undefined, before: undefined, script: "", ending: undefined, course: undefined });
+    this.counts = new Map();
+    this.forgetPlaces();
+  }
+
+  /** Lets go of the places that were told: by turn, and behind an instruction by its number. */
+  forgetPlaces() {
+    Object.assign(this, { told: new Map(), within: new Map() });
   }
 
   // ---- what is loaded
@@ -52,6 +69,7 @@ export class Board {
   async load(name, bytes) {
     const kind = kindOf(name, bytes), text = new TextDecoder("latin1").decode(bytes);
     if (kind === "schedule") { this.schedule = text; this.forget(); return kind; }
+    if (kind === "script") { this.given = { name, text }; return kind; }
     if (kind === "source") await this.loadSource(name, text, bytes);
     else await this.loadImage(name, text, bytes);
     this.forget();
@@ -86,19 +104,32 @@ export class Board {
   // ---- asking
 
   /** The status and the text of a form of the command over the image and the schedule. */
-  async form(words, script) {
+  async form(words, script, ask = this.ask) {
     const plan = this.schedule.trim() === "" ? "-" : "2";
-    const reply = await this.ask([words[0], "1", plan, this.sets, ...words.slice(1)], this.image, bytesOf(this.schedule), script && bytesOf(script));
+    const reply = await ask([words[0], "1", plan, this.sets, ...words.slice(1)], this.image, bytesOf(this.schedule), script && bytesOf(script));
     if (reply.status !== 0 && reply.status !== 4) throw new Refused(reply, reply.status === 1 ? "Sets or Length" : plan === "2" ? "the schedule" : this.name, this.schedule);
     return reply;
   }
 
-  async debug(script) {
-    return (await this.form(["debug", "3"], script)).text;
+  async debug(script, ask = this.ask) {
+    const counts = this.counts, { text } = await this.form(["debug", "3"], script, ask);
+    // A turn in which the run ends comes again, with what has issued by then.
+    for (const { turn, count } of readTurns(text)) if (!counts.has(turn)) counts.set(turn, count);
+    return text;
   }
 
   run() {
     return this.form(["run", this.length]);
+  }
+
+  /** The status and the text of the script that was opened. */
+  async runGiven() {
+    try {
+      return await this.form(["debug", "3"], this.given.text);
+    } catch (error) {
+      if (error.refusal?.what === "script" || error.message.startsWith("#script")) Object.assign(error, this.given);
+      throw error;
+    }
   }
 
   /** How the run ends within the length: the words of its last line. */
@@ -109,21 +140,39 @@ export class Board {
 
   // ---- places
 
-  /** Tells the turns from one to another, or to the one at which the run has ended. */
-  async tellFrom(first, last) {
-    const places = readPlaces(await this.debug(tellTurns(first, last, this.memory)));
+  /** Tells the turns round one, and the places behind the instructions of each as far as the course tells where they lead. */
+  async tellAround(turn, ask = this.ask) {
+    const first = Math.max(1, turn - BEHIND), last = Math.max(1, turn) + AHEAD;
+    const turns = Array.from({ length: last - first + 1 }, (_, n) => first + n), steps = [];
+    if (this.course && !turns.every(at => this.counts.has(at))) await this.debug(tellTurn(first, first, last, this.memory), ask);
+    for (const at of turns) steps.push({ turn: at }, ...(at < last ? this.stepsOf(at) : []));
+    return this.tellSteps(steps, ask);
+  }
+
+  /** The steps behind the instructions of a turn: what leads there, and how often in this turn. */
+  stepsOf(turn) {
+    const steps = [], last = this.counts.get(turn + 1) ?? 0;
+    for (let count = (this.counts.get(turn) ?? Infinity) + 1; count <= last; count++) {
+      const address = this.leadOf(count);
+      if (address === undefined) break;
+      steps.push({ turn, count, address, times: 1 + steps.filter(step => step.address === address).length });
+    }
+    return steps;
+  }
+
+  /** Tells steps, up to the one at which the run has ended, and keeps the places. */
+  async tellSteps(steps, ask = this.ask) {
+    const { told, within } = this, places = readPlaces(await this.debug(tellSteps(steps, this.memory), ask));
     for (const [n, place] of places.entries()) {
+      const { turn, count, address, times } = steps[n];
       // A run that had ended before says nothing of which turn that was.
-      if (n === 0 && first > 1 && place.end) break;
-      this.told.set(first + n, place);
+      if (n === 0 && turn > 1 && place.end) break;
+      if (address === undefined) told.set(turn, place);
+      else if (place.count !== count || place.turn !== turn) break;
+      else within.set(count, { position: { turn, address, times }, place });
       if (place.end) break;
     }
     return places;
-  }
-
-  /** Tells the turns round one. */
-  tellAround(turn) {
-    return this.tellFrom(Math.max(1, turn - BEHIND), Math.max(1, turn) + AHEAD);
   }
 
   /** Goes to a turn, or to the last one where the run ends before. A turn is one more than the turns that have passed. */
@@ -131,8 +180,10 @@ export class Board {
     turn = Math.max(1, turn);
     if (!this.told.has(turn)) {
       // Only what is shown at once: the rest is told when it is shown.
-      const places = await this.tellFrom(Math.max(1, turn - 1), turn);
-      if (!this.told.has(turn)) turn = await this.lastTurn(places[0].turn);
+      const first = Math.max(1, turn - BEHIND), from = Math.max(1, turn - 1), { told } = this;
+      const places = readPlaces(await this.debug(tellTurn(turn, first, turn + AHEAD, this.memory)));
+      if (!(from > 1 && places[0].end)) places.forEach((place, n) => (n === 0 || !places[n - 1].end) && told.set(from + n, place));
+      if (!told.has(turn)) turn = await this.lastTurn(places[0].turn);
     }
     this.take({ turn }, this.told.get(turn), this.told.get(turn - 1));
   }
@@ -164,8 +215,70 @@ export class Board {
     this.take({ turn: place.turn, address, times }, place, before);
   }
 
+  // ---- the course
+
+  /** Tells the course as far as it is wanted, and the counts of turns along it, where that was not told. */
+  async tellCourse() {
+    const wanted = Math.min(MOST_COURSE, Math.max(Number(this.length) || 0, (this.place?.count ?? 0) + COURSE_AHEAD));
+    if (this.course && (this.course.limit >= wanted || this.course.addresses.length < this.course.limit)) return;
+    const { counts } = this, limit = Math.max(wanted, Math.min(MOST_COURSE, 2 * (this.course?.limit ?? 0)));
+    const { course } = await this.form(["trace", String(limit), "0", "FFFFFFFF"], undefined, this.askAside);
+    if (counts === this.counts) this.course = { ...course, limit };
+    if (!counts.has(1 + STRIDE * COUNTED)) await this.debug(`turn ${STRIDE}\n`.repeat(COUNTED), this.askAside);
+  }
+
+  /** The address at which the last of so many instructions left the instruction address, where the course tells it. */
+  leadOf(count) {
+    const address = this.course?.leads[count - 1];
+    return address === NOT_TOLD ? undefined : address;
+  }
+
+  /** The instructions from one count to another, as the trace told them; undefined where the course ends before. */
+  traced(from, to) {
+    const { bytes, lines, addresses } = this.course ?? { addresses: [] };
+    if (addresses.length < to) return undefined;
+    return Array.from({ length: to - from }, (_, n) => {
+      const line = latin1.decode(bytes.subarray(lines[from + n], bytes.indexOf(10, lines[from + n])));
+      return { count: from + n, address: addresses[from + n], statement: line.split(" ").slice(3).join(" ") };
+    });
+  }
+
+  /** Goes behind so many instructions, by one run, where the course and the counts lead there; whether they do. */
+  async goBehind(count, wanted = this.leadOf(count)) {
+    const address = this.leadOf(count);
+    if (address === undefined || address !== wanted) return false;
+    if (this.takeWithin(count)) return true;
+    const from = this.countedBefore(count), first = this.counts.get(from), steps = [];
+    for (let at = first + 1; at <= count; at++) steps.push({ count: at, address: this.leadOf(at) });
+    if (steps.length > MOST_UNTILS || steps.some(step => step.address === undefined)) return false;
+    const lead = steps.map(step => `until ${hex(step.address)}\n`).join("");
+    const text = await this.debug(passTo(from) + tell(this.memory) + lead + tell(this.memory)), places = readPlaces(text);
+    const place = places.at(-1), turns = readTurns(text).slice(-steps.length);
+    if (places.length < 2 || place.count !== count || place.end) return false;
+    const times = turns.filter(({ turn }, n) => turn === place.turn && steps[n].address === address).length;
+    if (place.turn === from) this.told.set(from, places[0]);
+    this.take({ turn: place.turn, address, times }, place, this.told.get(place.turn));
+    return true;
+  }
+
+  /** Takes the place behind so many instructions, where it was told; whether it was. */
+  takeWithin(count) {
+    const found = this.within.get(count);
+    if (found) this.take(found.position, found.place, this.told.get(found.position.turn));
+    return found !== undefined;
+  }
+
+  /** The last turn of which the count is known, and before which fewer instructions have issued. */
+  countedBefore(count) {
+    let best = 1;
+    if (!this.counts.has(1)) this.counts.set(1, 0);
+    for (const [turn, issued] of this.counts) if (issued < count && turn > best) best = turn;
+    return best;
+  }
+
   /** Goes behind so many instructions, of which there are more than now, where the next one is at an address. */
   async goCount(count, address) {
+    if (await this.goBehind(count, address)) return;
     let turn = await this.turnBefore(count);
     for (; ; turn++) {
       if (!this.told.has(turn)) await this.tellAround(turn);
@@ -179,9 +292,19 @@ export class Board {
     await this.goUntil({ turn: turn - 1 }, address);
   }
 
+  /** Goes behind so many instructions. */
+  async goInstruction(count) {
+    if (count <= 0) return this.goTurn(1);
+    if (await this.goBehind(count)) return;
+    const address = await this.addressBehind(count);
+    if (address === undefined) throw new Error(`the run ends before instruction ${count} is done`);
+    await this.goCount(count, address);
+  }
+
   /** A turn before the one at which so many instructions have issued, and near to it. */
   async turnBefore(count) {
-    let turn = this.position.turn, stride = STRIDE;
+    let turn = this.countedBefore(count), stride = STRIDE;
+    if (this.counts.has(turn + STRIDE)) return turn;
     const passed = async times => {
       const told = readTurns(await this.debug(passTo(turn) + `turn ${stride}\n`.repeat(times)));
       turn = told.filter(told => told.count < count).at(-1)?.turn ?? turn;
@@ -200,7 +323,10 @@ export class Board {
   async tellRound() {
     const turn = this.position.turn, near = Math.max(1, turn - EDGE);
     const hasEnd = this.place.end || [...this.told].some(([told, place]) => place.end && told - turn <= EDGE);
-    if (!this.told.has(near) || !(hasEnd || this.told.has(turn + EDGE))) await this.tellAround(turn);
+    const lacksAt = at => !this.counts.has(at + 1) || this.stepsOf(at).some(({ count }) => !this.within.has(count));
+    const lacks = this.course && (lacksAt(near) || (!hasEnd && [turn, turn + EDGE].some(lacksAt)));
+    if (lacks || !this.told.has(near) || !(hasEnd || this.told.has(turn + EDGE))) await this.tellAround(turn, this.askAside);
+    this.before ??= this.told.get(this.position.address === undefined ? turn - 1 : turn);
   }
 
   // ---- moves
@@ -213,6 +339,7 @@ export class Board {
   }
 
   async step() {
+    if (!this.place.end && await this.goBehind(this.place.count + 1)) return;
     const address = await this.addressBehind(this.place.count + 1);
     if (address === undefined) return this.goTurn(await this.lastTurn(this.place.turn));
     await this.goUntil(this.position, address);
@@ -221,6 +348,7 @@ export class Board {
   async stepBack() {
     const count = this.place.count - 1;
     if (count <= 0) return this.goTurn(1);
+    if (await this.goBehind(count)) return;
     let turn = this.position.turn;
     for (; turn > 1; turn--) {
       if (!this.told.has(turn)) await this.tellAround(turn);
@@ -259,15 +387,31 @@ export class Board {
     if (frame === undefined && counts.length > 0) return this.goCount(counts[0], address);
     // An instruction at which the run ends is not traced.
     if (counts.length === 0 && (await this.endOfRun())[0] === "limit") throw new Error(`${hex(address)} is not reached within ${this.length} instructions`);
-    const tries = frame === undefined ? 1 : MOST_TRIES;
-    const script = leadTo(this.position) + `until ${hex(address)}\n${tell(this.memory)}`.repeat(tries);
-    const place = readPlaces(await this.debug(script)).find(place => place.end || frame === undefined || place.seen[31] === frame);
-    if (!place) throw new Error(`${hex(address)} is not reached in this frame within ${tries} times`);
-    await this.settleAt(place, address);
+    for (const count of frame === undefined ? [] : counts) {
+      const found = this.within.get(count);
+      if (!found) break;
+      if (found.place.seen[31] === frame && this.takeWithin(count)) return;
+    }
+    // Times that come far behind the first are asked for only where that is not in this frame.
+    const near = counts.filter(count => count - counts[0] < NEAR).length;
+    for (const tries of frame === undefined ? [1] : [Math.min(Math.max(near, 1), MOST_TRIES), MOST_TRIES]) {
+      const script = leadTo(this.position) + `until ${hex(address)}\n${tell(this.memory)}`.repeat(tries);
+      const place = readPlaces(await this.debug(script)).find(place => place.end || frame === undefined || place.seen[31] === frame);
+      if (!place) continue;
+      if (!place.end && [1, 2].every(n => ![undefined, address].includes(this.leadOf(place.count - n)))) return this.take({ turn: place.turn, address, times: 1 }, place, this.told.get(place.turn));
+      return this.settleAt(place, address);
+    }
+    throw new Error(`${hex(address)} is not reached in this frame within ${MOST_TRIES} times`);
   }
 
   /** Behind how many instructions the one at an address comes from here on, within the length. */
   async countsAhead(address) {
+    const { course, place: { count } } = this;
+    if (course && (course.limit >= Number(this.length) || course.addresses.length < course.limit)) {
+      const found = [];
+      for (let at = course.addresses.indexOf(address, count + 1); at >= 0 && found.length < MOST_COUNTS; at = course.addresses.indexOf(address, at + 1)) found.push(at);
+      return found;
+    }
     const { text } = await this.form(["trace", this.length, hex(address), hex(address)]);
     return readTrace(text, Infinity).map(({ count }) => count).filter(count => count > this.place.count);
   }
@@ -289,17 +433,19 @@ export class Board {
   // ---- what belongs to a place
 
   /** The frames of the place, from the current one on, and the bytes that were told for them. */
-  async frames() {
+  async frames(ask = this.ask) {
     const { place, position } = this;
+    if (this.framed?.place === place) return this.framed;
     let rows = [], missing;
     for (let round = 0; round < FRAME_ROUNDS; round++) {
-      const [told] = readPlaces(await this.debug(leadTo(position) + tellFrames(place, missing)));
+      const [told] = readPlaces(await this.debug(leadTo(position) + tellFrames(place, missing), ask));
       rows = [...rows, ...told.memory];
       const found = framesOf(place, memoryOf(rows));
       missing = found.missing;
       if (missing === undefined) break;
     }
-    return { ...framesOf(place, memoryOf(rows)), bytes: memoryOf(rows) };
+    this.framed = { ...framesOf(place, memoryOf(rows)), bytes: memoryOf(rows), place };
+    return this.framed;
   }
 
   /** The instructions of the last turns that were told, each with the turn in which it issued. */
@@ -308,9 +454,10 @@ export class Board {
     for (let turn = first; turn <= last + 1; turn++) if (this.told.has(turn)) counts.push([turn, this.told.get(turn).count]);
     const most = counts.at(-1)?.[1] ?? 0, least = counts[0]?.[1] ?? 0;
     if (most === least) return [];
-    const { text } = await this.form(["trace", String(Math.min(most, 10000000)), "0", "FFFFFFFF"]);
+    const from = Math.max(least, most - TRACED);
+    const traced = this.traced(from, most) ?? readTrace((await this.form(["trace", String(Math.min(most, 10000000)), "0", "FFFFFFFF"])).text, TRACED);
     const turnOf = count => counts.filter(([, issued]) => issued <= count).at(-1)?.[0];
-    return readTrace(text, TRACED).filter(({ count }) => count >= least).map(item => ({ ...item, turn: turnOf(item.count) }));
+    return traced.filter(({ count }) => count >= least).map(item => ({ ...item, turn: turnOf(item.count) }));
   }
 
   /** Who wrote the byte at an address last: the words that the debugger tells. */

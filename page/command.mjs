@@ -2,9 +2,10 @@
 // its own, whose memory is let go with it; an instance that trapped is never called again.
 const FIRST_ROOM = 1 << 20, MOST_ROOM = 1 << 28, NO_ROOM = 6;
 
-/** The status and the text; the words name the files 1, 2 and 3. The room for the text grows until it has room. */
-export function command(module, words, files) {
-  for (let room = FIRST_ROOM; ; room *= 4) {
+/** The status and the text; the words name the files 1, 2 and 3. The room for the text, which may be guessed, grows until it
+ * is enough; each try is a whole run. */
+export function command(module, words, files, guess = 0) {
+  for (let room = Math.min(Math.max(FIRST_ROOM, guess), MOST_ROOM); ; room *= 4) {
     const reply = callWith(module, words, files, room);
     if (reply.status !== NO_ROOM || room >= MOST_ROOM) return reply;
   }

@@ -1,6 +1,6 @@
 // The page of the simulator: what is pressed, and what is shown then. It computes nothing of the machine.
 import { Simulator, Cancelled } from "./simulator.mjs";
-import { Board, Refused } from "./board.mjs";
+import { Board, Refused, kindOf } from "./board.mjs";
 import { hex, number } from "./session.mjs";
 import {
   at, showListing, showRegisters, showFrames, showMemory, showText, showConsole, showPicture, showFaultyText, refusalText,
@@ -8,7 +8,7 @@ import {
 } from "./views.mjs";
 
 const PICTURED_TURNS = 100;
-let board, simulator, words, chosen, lastText = "", moving = false, resting = 0, shownMoves = 0;
+let board, simulator, words, chosen, lastText = "", moving = false, resting = 0, rest = Promise.resolve(), shownMoves = 0;
 
 // ---- what is in the page's own file
 
@@ -20,10 +20,10 @@ async function start() {
   words = JSON.parse(kept("words"));
   simulator = await Simulator.start(moduleBytes(), workerScript());
   simulator.busy = is => { at("cancel").disabled = !is; };
-  board = new Board((...asked) => simulator.ask(...asked));
+  board = new Board((...asked) => simulator.ask(...asked), (...asked) => simulator.askAside(...asked));
   await board.probe();
   at("who").hidden = !board.has.who;
-  window.page = { board, words, ready: true, isIdle: () => !moving && resting === 0 };
+  window.page = { board, words, kindOf, ready: true, isIdle: () => !moving && resting === 0 };
   notice("Open an image, a source or an ELF file; a schedule may come with it.");
 }
 
@@ -64,6 +64,7 @@ function showPlace() {
   const { place, position } = board;
   chosen = undefined;
   at("turn").value = position.turn;
+  at("behind").value = place.count;
   showListing(board, chosen);
   showRegisters(board);
   showMemory(board);
@@ -73,21 +74,30 @@ function showPlace() {
   notice(place.end ? endText(place.end, words) : position.address === undefined ? "" : `within turn ${place.turn}, behind ${place.count} instructions`);
 }
 
-/** What needs runs of its own, as long as no other move came. */
+/** What needs runs of its own, as long as no other move came; one place at a time. */
 async function showRest(number) {
   resting++;
+  const before = rest;
+  let done;
+  rest = new Promise(end => { done = end; });
   try {
-    await showFramesAndTurns(number);
+    await before;
+    if (number === shownMoves) await showFramesAndTurns(number);
   } finally {
     resting--;
+    done();
   }
 }
 
 async function showFramesAndTurns(number) {
   const still = () => number === shownMoves && !moving;
+  const marked = board.before !== undefined;
+  await board.tellCourse();
+  if (!still()) return;
   await board.tellRound();
   if (!still()) return;
-  const frames = await board.frames();
+  if (!marked) showRegisters(board);
+  const frames = await board.frames(board.askAside);
   if (!still()) return;
   showFrames(board, frames, words);
   if (at("picture-box").open) {
@@ -108,12 +118,18 @@ async function open(files) {
     tellError(error);
     return;
   }
+  if (kinds.every(kind => kind === "script")) {
+    if (board.image) await runGiven();
+    else notice("a script runs over an image: open one first");
+    return;
+  }
   at("schedule").value = board.schedule;
   at("name").textContent = board.name;
   document.title = `i960CA: ${board.name}`;
   await move(() => board.goTurn(1));
   const keeps = before !== "" && before !== board.name && !kinds.includes("schedule") && board.schedule.trim() !== "";
   if (keeps && at("notice").textContent === "") notice("the schedule is still the one from before");
+  if (kinds.includes("script")) await runGiven();
 }
 
 /** Takes what the fields have, where it is not what it was. */
@@ -121,17 +137,23 @@ function takeFields() {
   const given = { schedule: at("schedule").value, sets: at("sets").value.trim() || "-", length: at("length").value.trim() || "100000" };
   const from = parseInt(at("address").value, 16) >>> 0, by = at("by").value;
   if (["schedule", "sets", "length"].some(name => board[name] !== given[name])) { Object.assign(board, given); board.forget(); board.position = { turn: Number(at("turn").value) || 1 }; }
-  if (board.memory.from !== from || board.memory.by !== by) { board.memory = { ...board.memory, from, by }; board.told.clear(); }
+  if (board.memory.from !== from || board.memory.by !== by) { board.memory = { ...board.memory, from, by }; board.forgetPlaces(); }
 }
 
 const again = () => { takeFields(); return move(() => board.goTurn(board.position.turn)); };
 
-async function runAll() {
+const runAll = () => showReply(() => board.run());
+
+/** Runs the script that was opened, from the start, and shows all that it prints. */
+const runGiven = () => showReply(() => board.runGiven(), `${board.given.name} was run, and printed what stands under Text`);
+
+async function showReply(ask, told = "") {
   takeFields();
   notice("");
   const begun = performance.now();
   try {
-    const reply = await board.run();
+    const reply = await ask();
+    notice(told);
     lastText = reply.text;
     showText(reply.status, reply.text, words);
     showConsole(reply.text.split("\n").filter(line => line.startsWith("#out ")).map(line => String.fromCharCode(number(line.slice(5)))).join(""));
@@ -194,6 +216,7 @@ const KEYS = {
 };
 
 for (const [id, go] of Object.entries(MOVES)) at(id).onclick = () => { takeFields(); move(go); };
+at("behind").onchange = () => move(() => board.goInstruction(Number(at("behind").value) || 0));
 at("turn").onchange = () => move(() => board.goTurn(Number(at("turn").value) || 1));
 for (const id of ["schedule", "sets", "length", "address", "by"]) at(id).onchange = again;
 at("run").onclick = runAll;

@@ -28,41 +28,64 @@ export function tell({ from, rows, by }) {
   return lines.join("") + "raw\nheld\nregs\n";
 }
 
-/** The script that tells each turn from `first` to `last`. */
-export const tellTurns = (first, last, memory) => passTo(first) + tell(memory) + `turn 1\n${tell(memory)}`.repeat(last - first);
+/** The script that tells steps one after the other: the first is a turn, and each later one the next turn, or in the same turn
+ * the next time that an instruction leads to an address. */
+export const tellSteps = ([first, ...rest], memory) => passTo(first.turn) + tell(memory)
+  + rest.map(({ address }) => (address === undefined ? "turn 1\n" : `until ${hex(address)}\n`) + tell(memory)).join("");
+
+/** The script that tells a turn and the one before it, and how many instructions there are up to each from `first` to `last`. */
+export function tellTurn(turn, first, last, memory) {
+  const before = Math.max(first, turn - 1), one = "turn 1\n";
+  return passTo(first) + one.repeat(before - first) + tell(memory) + (before < turn ? one + tell(memory) : "") + one.repeat(last - turn);
+}
 
 // ---- what is told
+
+const PLACE_END = /^#view (\d+) .*\n#g .*\n#l .*\n/gm;
+const FIELDS = ["lines", "memory", "raw", "seen", "held", "sets", "who", "busy", "ip", "ac", "pc"];
 
 /** The places that a session tells, each ended by its registers as the program sees them. */
 export function readPlaces(text) {
   const places = [];
-  let place = newPlace(), console = "", end, seen = false;
-  for (const line of text.split("\n")) {
-    if (line === "") continue;
-    const words = line.split(" ");
-    place.lines.push(line);
-    if (words[0] === "#view") seen = true;
-    if (words[0] === "#point") seen = false;
-    if (words[0] === "#out") console += String.fromCharCode(number(words[1]));
-    if (words[0] === "#end") end = words.slice(1);
-    takeLine(place, words, seen);
-    if (words[0] === "#l" && seen) {
-      places.push(Object.assign(place, { console, end }));
-      place = newPlace();
-    }
+  let from = 0, console = "", end;
+  for (const { index, 0: last, 1: count } of text.matchAll(PLACE_END)) {
+    const told = text.slice(from, index + last.length);
+    from = index + last.length;
+    for (const [, byte] of told.matchAll(/^#out (..)/gm)) console += String.fromCharCode(number(byte));
+    end = /^#end (.*)/m.exec(told)?.[1].split(" ") ?? end;
+    places.push(new Place(told, Number(count), console, end));
   }
   return places;
 }
 
-const newPlace = () => ({ lines: [], memory: [], raw: [], seen: [], held: [], sets: 0, who: undefined });
+/** A place by its lines, which are read when one of its fields is asked for. */
+class Place {
+  constructor(text, count, console, end) {
+    Object.assign(this, { text, count, console, end, turn: Number(/^#raw (\d+)/m.exec(text)?.[1]), fields: undefined });
+  }
+
+  read() {
+    const fields = { lines: this.text.trimEnd().split("\n"), memory: [], raw: [], seen: [], held: [], sets: 0, who: undefined };
+    let seen = false;
+    for (const line of fields.lines) {
+      const words = line.split(" ");
+      if (words[0] === "#view") seen = true;
+      takeLine(fields, words, seen);
+    }
+    return fields;
+  }
+}
+
+for (const field of FIELDS) {
+  Object.defineProperty(Place.prototype, field, { get() { return (this.fields ??= this.read())[field]; } });
+}
 
 function takeLine(place, [word, ...rest], seen) {
-  if (word === "#turn") place.turn = Number(rest[0]);
-  else if (word === "#raw") { place.turn = Number(rest[0]); place.busy = number(rest[1]); }
+  if (word === "#raw") place.busy = number(rest[1]);
   else if (word === "#rg") place.raw = [...place.raw.slice(0, 16), ...rest];
   else if (word === "#rl") place.raw = [...rest, ...place.raw.slice(-16)];
   else if (word === "#held") { place.sets = Number(rest[0]); place.held = rest.slice(2).map(number); }
-  else if (word === "#view") [place.count, place.ip, place.ac, place.pc] = [Number(rest[0]), ...rest.slice(1)];
+  else if (word === "#view") [place.ip, place.ac, place.pc] = rest.slice(1);
   else if (word === "#g" && seen) place.seen = [...Array(16).fill(""), ...rest];
   else if (word === "#l" && seen) place.seen = [...rest, ...place.seen.slice(16)];
   else if (word === "#mem" || word === "#rawmem") place.memory.push({ address: number(rest[0]), bytes: rest.slice(1) });

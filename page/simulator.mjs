@@ -1,7 +1,39 @@
-// The command in a worker of its own, so that the page stays awake and a long run can be cancelled.
+// The command in two workers, so that the page stays awake and a long run can be cancelled: one for what a person waits for,
+// and one for what may be asked next.
 
 /** Why a call has no answer: it was cancelled. */
 export class Cancelled extends Error {}
+
+/** How many bytes of text a form with these words and this script may print: about that much for each byte of a script that
+ * tells places, and for each instruction of a trace. */
+const SCRIPT_PRINTS = 12, TRACE_PRINTS = 48;
+const roomFor = (words, script) => (words[0] === "trace" ? TRACE_PRINTS * Number(words[4]) : SCRIPT_PRINTS * (script?.length ?? 0));
+
+/** One worker, and who waits for it. */
+class Hand {
+  constructor({ script, module }, told) {
+    Object.assign(this, { waiting: new Map(), next: 0, told });
+    this.worker = new Worker(script);
+    this.worker.postMessage({ module });
+    this.worker.onmessage = ({ data }) => this.answer(data);
+  }
+
+  ask(asked) {
+    return new Promise((done, fail) => {
+      this.waiting.set(this.next, { done, fail });
+      this.worker.postMessage({ number: this.next++, ...asked });
+      this.told();
+    });
+  }
+
+  answer({ number, status, bytes, course, failed }) {
+    const { done, fail } = this.waiting.get(number);
+    this.waiting.delete(number);
+    this.told();
+    if (failed) fail(new Error(failed));
+    else done({ status, course, text: course ? "" : new TextDecoder("latin1").decode(bytes) });
+  }
+}
 
 export class Simulator {
   /** Over the bytes of the module and the address of the worker's script. */
@@ -13,37 +45,27 @@ export class Simulator {
   }
 
   begin() {
-    this.waiting = new Map();
-    this.next = 0;
-    this.worker = new Worker(this.script);
-    this.worker.postMessage({ module: this.module });
-    this.worker.onmessage = ({ data }) => this.answer(data);
+    const told = () => this.busy(this.hands.some(hand => hand.waiting.size > 0));
+    this.hands = [new Hand(this, told), new Hand(this, told)];
   }
 
   /** The status and the text of a command, whose words name the files 1, 2 and 3. */
   ask(words, ...files) {
-    return new Promise((done, fail) => {
-      this.waiting.set(this.next, { done, fail });
-      this.worker.postMessage({ number: this.next++, words, files });
-      this.busy(true);
-    });
+    return this.hands[0].ask({ words, files, room: roomFor(words, files[2]) });
   }
 
-  answer({ number, status, bytes, failed }) {
-    const { done, fail } = this.waiting.get(number);
-    this.waiting.delete(number);
-    this.busy(this.waiting.size > 0);
-    if (failed) fail(new Error(failed));
-    else done({ status, text: new TextDecoder("latin1").decode(bytes) });
+  /** The same, where nobody waits for it; of a trace of all addresses the course that it tells in place of the text. */
+  askAside(words, ...files) {
+    return this.hands[1].ask({ words, files, room: roomFor(words, files[2]), traces: words[0] === "trace" });
   }
 
   /** Ends all that is under way. */
   cancel() {
-    this.worker.terminate();
-    const waiting = this.waiting;
+    const ended = this.hands;
+    for (const { worker } of ended) worker.terminate();
     this.begin();
     this.busy(false);
-    for (const { fail } of waiting.values()) fail(new Cancelled());
+    for (const { waiting } of ended) for (const { fail } of waiting.values()) fail(new Cancelled());
   }
 
   /** Told when something is under way, and when nothing is any more. */

@@ -46,22 +46,18 @@ function differs(program, module, words, folder) {
     ? `status ${reply.status} for ${native.status}, ${reply.bytes.length} bytes for ${native.stdout.length}` : undefined;
 }
 
-/** The processor time of a call in milliseconds, the least of some. */
-function least(times, call) {
-  return Math.min(...Array.from({ length: times }, () => {
-    const before = process.cpuUsage();
-    call();
-    const { user, system } = process.cpuUsage(before);
-    return (user + system) / 1000;
-  }));
+/** The processor time of a call in milliseconds. */
+function moduleTime(call) {
+  const before = process.cpuUsage();
+  call();
+  const { user, system } = process.cpuUsage(before);
+  return (user + system) / 1000;
 }
 
-/** The processor time of the program in milliseconds, the least of some, as the shell tells it of what it ran. */
+/** The processor time of the program in milliseconds, as the shell tells it of what it ran. */
 function nativeTime(program) {
-  return Math.min(...Array.from({ length: 30 }, () => {
-    const told = spawnSync("bash", ["-c", '"$0" gen 1 - >/dev/null; times', program], { encoding: "utf8" }).stdout.split("\n")[1];
-    return told.split(" ").map(part => part.match(/(\d+)m([\d.]+)s/)).reduce((sum, [, minutes, seconds]) => sum + 60000 * minutes + 1000 * seconds, 0);
-  }));
+  const told = spawnSync("bash", ["-c", '"$0" gen 1 - >/dev/null; times', program], { encoding: "utf8" }).stdout.split("\n")[1];
+  return told.split(" ").map(part => part.match(/(\d+)m([\d.]+)s/)).reduce((sum, [, minutes, seconds]) => sum + 60000 * minutes + 1000 * seconds, 0);
 }
 
 const [program, ...tables] = process.argv.slice(2);
@@ -75,6 +71,8 @@ for (const [words, folder] of runs) {
   if (found) { wrong++; console.log(`${words}: ${found}`); }
 }
 console.log(`${runs.length} runs, ${wrong} differ`);
-const here = least(30, () => command(module, ["gen", "1", "-"], [])), there = nativeTime(resolve(program));
+// By turns, since other work on the machine makes both slower, and comes and goes.
+const pairs = Array.from({ length: 30 }, () => [moduleTime(() => command(module, ["gen", "1", "-"], [])), nativeTime(resolve(program))]);
+const [here, there] = [0, 1].map(which => Math.min(...pairs.map(pair => pair[which])));
 console.log(`gen 1 -: ${here.toFixed(0)} ms in the module, ${there.toFixed(0)} ms in the program: ${(here / there).toFixed(2)} times`);
 process.exit(wrong ? 1 : 0);

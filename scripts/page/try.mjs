@@ -350,6 +350,25 @@ async function drops() {
   await set("schedule", "");
 }
 
+/** A script that is dropped is run, by its name or by how it begins. */
+async function scripts() {
+  const text = () => browser.evaluate("document.getElementById('text').textContent"), told = native("debug", "unflushed.hex", "-", "-", "unflushed.dbg");
+  await load("unflushed.s");
+  await drop(join(DEMO, "unflushed.dbg"));
+  await says("unflushed.dbg was run");
+  check("a script", await text(), told);
+  check("the place stays", (await position()).turn, 1);
+  const other = join(room, "script.txt"), bad = join(room, "bad.dbg");
+  writeFileSync(other, `# a script\n${readFileSync(join(DEMO, "unflushed.dbg"), "latin1")}`);
+  await drop(other);
+  await says("script.txt was run");
+  check("a script by its text", await text(), told);
+  writeFileSync(bad, "turn 1\nregs 1\n");
+  await drop(bad);
+  await says("bad.dbg, line 2");
+  check("a schedule by turns is none", await browser.evaluate(`page.kindOf("a", new TextEncoder().encode("turn 5 pin 0\\n"))`), "schedule");
+}
+
 /** Nothing is asked of a network, and what asks is stopped. */
 async function network() {
   const asked = await browser.evaluate("performance.getEntriesByType('resource').map(entry => entry.name).filter(name => !/^(blob|data):/.test(name))");
@@ -382,31 +401,72 @@ async function refusals() {
   await set("sets", "-");
 }
 
+const LOOP = ".org 0xFFFFFF10\n.word start, 0x800\n.org 0x1000\nstart: addo 1, g4, g4\n mulo g4, g4, g5\n st g5, 0x2000\n cmpo g4, g5\n b start\n";
+// A procedure of some 1,800 instructions, which is called again and again.
+const CALLS = ".org 0xFFFFFF10\n.word start, 0x800\n.org 0x800\n.word 0x900, 0xA00, 0, 0x40000000, 0x2000, 0xB00, 0, 0x3000, 0, 0\n"
+  + ".org 0x1000\nstart: addo 1, g4, g4\n call work\nagain: b start\nwork: mov 0, r4\nround: addo 1, r4, r4\n cmpo r4, g9\n lda 600, g9\n bl round\n ret\n";
+
+/** How long a move took, by the page's own clock. */
+async function took(move) {
+  await browser.evaluate("document.getElementById('took').textContent = ''");
+  await move();
+  await browser.until("document.getElementById('took').textContent !== ''");
+  return parseInt(await browser.evaluate("document.getElementById('took').textContent"), 10);
+}
+
+/** Makes a move some times, and asks that the median of what it took is short; `prepare` comes before each. */
+async function inTime(what, times, move, prepare = () => {}) {
+  const all = [];
+  for (let n = 0; n < times; n++) {
+    await prepare(n);
+    all.push(await took(() => move(n)));
+    await settle();
+  }
+  const median = [...all].sort((a, b) => a - b)[times >> 1];
+  console.log(`  ${what}: ${median} ms, ${Math.min(...all)} to ${Math.max(...all)}`);
+  check(`${what} in time`, median <= MOST_WAIT, true);
+}
+
+/** Each way of showing a place behind 100,000 instructions, and how long it takes. */
 async function longRuns() {
-  const file = join(room, "long.s");
-  writeFileSync(file, ".org 0xFFFFFF10\n.word start, 0x800\n.org 0x1000\nstart: addo 1, g4, g4\n mulo g4, g4, g5\n st g5, 0x2000\n cmpo g4, g5\n b start\n");
-  await load(file);
-  await browser.evaluate("document.activeElement.blur()");
-  const jumps = [], times = [];
-  for (const turn of [145000, 143000, 144000, 146000, 147000]) {
+  const alu = readFileSync(join(TOP, "bench", "alu.s"), "latin1"), key = name => () => browser.press(name);
+  for (const [name, source, turn] of [["loop", LOOP, 147000], ["alu", alu, 110000]]) {
+    const file = join(room, `${name}.s`), jump = to => write("turn", to);
+    writeFileSync(file, source);
+    await load(file);
+    await browser.evaluate("document.activeElement.blur()");
     await goTurn(turn);
-    jumps.push(parseInt(await browser.evaluate("document.getElementById('took').textContent"), 10));
+    console.log(`  ${name}, behind ${(await shown()).controls[3]} instructions, load ${readFileSync("/proc/loadavg", "latin1").split(" ")[0]}`);
+    await inTime("a jump to a turn", 9, n => jump(turn - 400 * (n + 1)));
+    await inTime("a turn more or less", 60, n => browser.press(n % 3 === 2 ? "ArrowLeft" : "ArrowRight"));
+    await inTime("an instruction more", 15, key("ArrowDown"));
+    await inTime("an instruction less", 15, key("ArrowUp"));
+    await inTime("an instruction, at once behind a jump", 9, key("ArrowDown"), n => took(() => jump(turn - 400 * n - 4200)));
+    await inTime("an instruction less, at once behind a jump", 9, key("ArrowUp"), n => took(() => jump(turn - 400 * n - 8200)));
+    await inTime("a jump to a count", 9, n => write("behind", 112001 + 777 * n));
+    const stop = Number((await shown()).here[0]);
+    await browser.evaluate(`page.board.stops.clear(), page.board.stops.add(${stop}), 1`);
+    await inTime("a breakpoint", 9, key("c"));
+    await inTime("a breakpoint, at once behind a jump", 9, key("c"), n => took(() => jump(turn - 400 * n - 12200)));
+    await browser.evaluate("page.board.stops.clear(), 1");
   }
-  for (let n = 0; n < 60; n++) {
-    await browser.evaluate("document.getElementById('took').textContent = ''");
-    await press(n % 3 === 2 ? "ArrowLeft" : "ArrowRight");
-    await browser.until("document.getElementById('took').textContent !== ''");
-    times.push(parseInt(await browser.evaluate("document.getElementById('took').textContent"), 10));
-  }
-  const steps = [];
-  for (let n = 0; n < 6; n++) {
-    await press(n % 3 === 2 ? "ArrowUp" : "ArrowDown");
-    steps.push(parseInt(await browser.evaluate("document.getElementById('took').textContent"), 10));
-  }
-  await press("ArrowRight", 2);
-  const count = (await shown()).controls[3], median = [...times].sort((a, b) => a - b)[times.length / 2];
-  console.log(`  behind ${count} instructions: a jump there ${jumps.join(", ")} ms, a turn more or less ${median} ms, at most ${Math.max(...times)}, an instruction ${steps.join(", ")} ms`);
-  check("a turn in time", median <= MOST_WAIT, true);
+  const file = join(room, "calls.s");
+  writeFileSync(file, CALLS);
+  await load(file);
+  await browser.evaluate("document.activeElement.blur(), page.board.stops.add(0x1004), 1");
+  await write("behind", "105000");
+  await settle();
+  console.log(`  calls, behind ${(await shown()).controls[3]} instructions, load ${readFileSync("/proc/loadavg", "latin1").split(" ")[0]}`);
+  await inTime("a breakpoint far on", 5, key("c"));
+  await inTime("over a call", 5, key("o"), async () => { await took(key("c")); await settle(); });
+  check("behind the call", (await shown()).here, [0x1008]);
+  await inTime("out of a procedure", 5, key("u"), async () => { await took(key("c")); await settle(); await took(key("ArrowDown")); await settle(); });
+  check("behind it, too", (await shown()).here, [0x1008]);
+  await browser.evaluate("page.board.stops.clear(), 1");
+}
+
+async function cancels() {
+  await load("ticks.s");
   await browser.evaluate("document.getElementById('length').value = '10000000'; document.getElementById('run').click()");
   await new Promise(done => setTimeout(done, 300));
   await browser.evaluate("document.getElementById('cancel').click()");
@@ -421,7 +481,7 @@ async function longRuns() {
 }
 
 const PARTS = {
-  board, hazard, marks, instructions, calls, stack, breakpoints, faults, writers, pictured, keys, drops, refusals, network, longRuns,
+  board, hazard, marks, instructions, calls, stack, breakpoints, faults, writers, pictured, keys, drops, scripts, refusals, network, longRuns, cancels,
 };
 if (folder) mkdirSync(folder, { recursive: true });
 try {
