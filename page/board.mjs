@@ -113,8 +113,8 @@ export class Board {
 
   async debug(script, ask = this.ask) {
     const counts = this.counts, { text } = await this.form(["debug", "3"], script, ask);
-    // A turn in which the run ends comes again, with what has issued by then.
-    for (const { turn, count } of readTurns(text)) if (!counts.has(turn)) counts.set(turn, count);
+    // What other commands lead to stands within a turn. A turn in which the run ends comes again, with what has issued by then.
+    if (!/^(until|back|last) /m.test(script)) for (const { turn, count } of readTurns(text)) if (!counts.has(turn)) counts.set(turn, count);
     return text;
   }
 
