@@ -1,4 +1,5 @@
 //! Going back in the debugger through the command, at texts worked out by hand.
+use crate::check::same;
 use crate::rows::{BOOT, PRCB, held};
 use std::test::*;
 
@@ -269,7 +270,7 @@ status 0
 
 #[test]
 fn sessions_that_go_back(rt: HostRuntime) -> Result<(), Fail> {
-    assert_eq!(rt; held(rt.alloc(), &[BOOT], BACK)?, 16);
+    same(&rt, held(rt.alloc(), &[BOOT], BACK)?, 16);
     Ok(())
 }
 
@@ -307,7 +308,7 @@ status 0
 
 #[test]
 fn who_wrote_a_wrong_byte(rt: HostRuntime) -> Result<(), Fail> {
-    assert_eq!(rt; held(rt.alloc(), &[BOOT], OVERRUN)?, 1);
+    same(&rt, held(rt.alloc(), &[BOOT], OVERRUN)?, 1);
     Ok(())
 }
 
@@ -446,6 +447,6 @@ status 0
 
 #[test]
 fn sessions_that_go_back_over_entries(rt: HostRuntime) -> Result<(), Fail> {
-    assert_eq!(rt; held(rt.alloc(), &[PRCB], ENTRIES)?, 4);
+    same(&rt, held(rt.alloc(), &[PRCB], ENTRIES)?, 4);
     Ok(())
 }

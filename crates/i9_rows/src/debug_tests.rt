@@ -1,4 +1,5 @@
 //! The debugger through the command, at texts worked out by hand.
+use crate::check::same;
 use crate::rows::{BOOT, PRCB, held};
 use std::test::*;
 
@@ -137,7 +138,7 @@ status 3
 
 #[test]
 fn sessions(rt: HostRuntime) -> Result<(), Fail> {
-    assert_eq!(rt; held(rt.alloc(), &[BOOT], SESSIONS)?, 8);
+    same(&rt, held(rt.alloc(), &[BOOT], SESSIONS)?, 8);
     Ok(())
 }
 
@@ -214,7 +215,7 @@ status 0
 
 #[test]
 fn frames_that_are_not_in_memory(rt: HostRuntime) -> Result<(), Fail> {
-    assert_eq!(rt; held(rt.alloc(), &[DEMO], FRAMES)?, 2);
+    same(&rt, held(rt.alloc(), &[DEMO], FRAMES)?, 2);
     Ok(())
 }
 
@@ -237,7 +238,7 @@ status 0
 
 #[test]
 fn sets_are_shown(rt: HostRuntime) -> Result<(), Fail> {
-    assert_eq!(rt; held(rt.alloc(), &[PRCB], SETS)?, 1);
+    same(&rt, held(rt.alloc(), &[PRCB], SETS)?, 1);
     Ok(())
 }
 
@@ -310,6 +311,6 @@ status 4
 
 #[test]
 fn an_event_meets_a_hazard(rt: HostRuntime) -> Result<(), Fail> {
-    assert_eq!(rt; held(rt.alloc(), &[PRCB], HAZARDS)?, 4);
+    same(&rt, held(rt.alloc(), &[PRCB], HAZARDS)?, 4);
     Ok(())
 }

@@ -1,5 +1,6 @@
 //! The board of `demo/`, and the copy of a stack there: their sources, their images, their schedules and the texts of
 //! their runs, which were worked out by hand.
+use crate::check::{must, same};
 use crate::rows::held;
 use crate::tests::answers;
 use std::test::*;
@@ -252,14 +253,14 @@ status 4
 
 #[test]
 fn the_board_runs(rt: HostRuntime) -> Result<(), Fail> {
-    assert!(rt; answers(rt.alloc(), BOARD, "asm a", 0, BOARD_IMAGE)?);
-    assert_eq!(rt; held(rt.alloc(), &[BOARD], BOARD_RUN)?, 1);
+    must(&rt, answers(rt.alloc(), BOARD, "asm a", 0, BOARD_IMAGE)?);
+    same(&rt, held(rt.alloc(), &[BOARD], BOARD_RUN)?, 1);
     Ok(())
 }
 
 #[test]
 fn the_copy_of_a_stack_runs(rt: HostRuntime) -> Result<(), Fail> {
-    assert!(rt; answers(rt.alloc(), MARKS, "asm a", 0, MARKS_IMAGE)?);
-    assert_eq!(rt; held(rt.alloc(), &[MARKS], MARKS_RUN)?, 2);
+    must(&rt, answers(rt.alloc(), MARKS, "asm a", 0, MARKS_IMAGE)?);
+    same(&rt, held(rt.alloc(), &[MARKS], MARKS_RUN)?, 2);
     Ok(())
 }

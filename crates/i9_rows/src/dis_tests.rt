@@ -1,4 +1,5 @@
 //! The command `dis` over files and a sink in memory, at texts worked out by hand.
+use crate::check::{must, same};
 use crate::tests::{Case, answers, answers_long, run_with};
 use std::test::*;
 
@@ -21,12 +22,18 @@ Dis a";
 fn lists_and_refuses(rt: HostRuntime) -> Result<(), Fail> {
     let alloc = rt.alloc();
     let no_type = ":02000004FFFFFD\n";
-    assert!(rt; answers(alloc, FLUSHREG, "dis a", 0, FLUSHREG_PRINTS)?);
-    assert!(rt; answers(alloc, ":00000001FF\n", "dis a", 0, "")?);
-    assert!(rt; answers(alloc, no_type, "dis a", 2, "#image line 1 kind 4\n")?);
-    assert!(rt; answers(alloc, "", "dis a", 2, "#image line 1 kind 6\n")?);
-    assert!(rt; answers(alloc, FLUSHREG, "dis b", 5, "#read\n")?);
-    assert!(rt; answers(alloc, FLUSHREG, FORMLESS, 1, "#words\n")?);
+    must(&rt, answers(alloc, FLUSHREG, "dis a", 0, FLUSHREG_PRINTS)?);
+    must(&rt, answers(alloc, ":00000001FF\n", "dis a", 0, "")?);
+    must(
+        &rt,
+        answers(alloc, no_type, "dis a", 2, "#image line 1 kind 4\n")?,
+    );
+    must(
+        &rt,
+        answers(alloc, "", "dis a", 2, "#image line 1 kind 6\n")?,
+    );
+    must(&rt, answers(alloc, FLUSHREG, "dis b", 5, "#read\n")?);
+    must(&rt, answers(alloc, FLUSHREG, FORMLESS, 1, "#words\n")?);
     Ok(())
 }
 
@@ -39,7 +46,7 @@ fn each_line_of_a_listing_is_one_write(rt: HostRuntime) -> Result<(), Fail> {
             words: "dis a",
             printed,
         };
-        assert_eq!(rt; run_with(rt.alloc(), &case, 4096, failing)?, (6, true));
+        same(&rt, run_with(rt.alloc(), &case, 4096, failing)?, (6, true));
     }
     Ok(())
 }
@@ -47,9 +54,10 @@ fn each_line_of_a_listing_is_one_write(rt: HostRuntime) -> Result<(), Fail> {
 #[test]
 fn long_images_are_not_listed(rt: HostRuntime) -> Result<(), Fail> {
     let line = "#image too long\n";
-    assert_eq!(rt;
+    same(
+        &rt,
         answers_long(rt.alloc(), b':', 16_777_217, "dis a", line)?,
-        (2, true)
+        (2, true),
     );
     Ok(())
 }

@@ -1,4 +1,5 @@
 //! DMA through the command, at texts worked out by hand.
+use crate::check::same;
 use crate::rows::{PRCB, held};
 use std::test::*;
 
@@ -225,6 +226,6 @@ status 0
 
 #[test]
 fn units(rt: HostRuntime) -> Result<(), Fail> {
-    assert_eq!(rt; held(rt.alloc(), &[PRCB, VECTORS], UNITS)?, 8);
+    same(&rt, held(rt.alloc(), &[PRCB, VECTORS], UNITS)?, 8);
     Ok(())
 }

@@ -1,4 +1,5 @@
 //! Files that are cut, and devices that fail, at answers worked out by hand.
+use crate::check::{must_at, same, same_at};
 use crate::tests::{Case, PRINTED, SMALLEST, SMALLEST_SOURCE, run_with, words_of};
 use i9_outside::{MemFiles, MemSink};
 use i9_tool::i960;
@@ -51,15 +52,11 @@ fn images_that_are_cut_are_refused(rt: HostRuntime) -> Result<(), Fail> {
             words: "run a - - 100",
             printed: &printed,
         };
-        assert_eq!(rt;
-            run_with(alloc, &case, 4096, 0)?,
-            (code, true),
-            "at {length}"
-        );
+        same_at(&rt, run_with(alloc, &case, 4096, 0)?, (code, true), length);
         front.push(byte)?;
         length = length.saturating_add(1);
     }
-    assert_eq!(rt; length, 136);
+    same(&rt, length, 136);
     Ok(())
 }
 
@@ -120,11 +117,12 @@ fn fetches_that_fail_are_told(rt: HostRuntime) -> Result<(), Fail> {
         let (code, line) = answer.split_once(" ").unwrap_or((answer, ""));
         let code = code.parse::<u8>()?;
         let line = format!(in alloc; "{line}\n")?;
-        assert!(rt;
+        must_at(
+            &rt,
             answers_failing(alloc, words, fetch, 0, code, &line)?,
-            "at {row}"
+            row,
         );
-        assert!(rt; answers_failing(alloc, words, fetch, 1, 6, "")?, "at {row}");
+        must_at(&rt, answers_failing(alloc, words, fetch, 1, 6, "")?, row);
     }
     Ok(())
 }
@@ -136,9 +134,10 @@ fn fetches_that_are_not_reached_do_not_fail(rt: HostRuntime) -> Result<(), Fail>
         (3, "run image events - 100"),
         (3, "trace image events - 100 0 0"),
     ] {
-        assert!(rt;
+        must_at(
+            &rt,
             answers_failing(rt.alloc(), words, fetch, 0, 0, PRINTED)?,
-            "at {words}"
+            words,
         );
     }
     Ok(())

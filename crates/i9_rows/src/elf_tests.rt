@@ -1,4 +1,5 @@
 //! ELF files through the command, both ways, at bytes worked out by hand from the layout of the format.
+use crate::check::{same, same_at};
 use crate::tests::{AT_ONCE, PRINTED, SMALLEST_SOURCE, words_of};
 use crate::trace_tests::TRACED;
 use i9_outside::{MemFiles, MemSink};
@@ -114,12 +115,12 @@ fn answers(
 fn takes_elf_images(rt: HostRuntime) -> Result<(), Fail> {
     for (words, printed) in TAKES {
         let answer = answers(rt.alloc(), SMALLEST, words, 0, printed.as_bytes())?;
-        assert_eq!(rt; answer, (0, true), "{words}");
+        same_at(&rt, answer, (0, true), words);
     }
     for (size, line) in CUT {
         let front = SMALLEST.get(..size).unwrap_or(b"");
         let answer = answers(rt.alloc(), front, "run a - - 100", 0, line.as_bytes())?;
-        assert_eq!(rt; answer, (2, true), "{size}");
+        same_at(&rt, answer, (2, true), size);
     }
     Ok(())
 }
@@ -128,15 +129,15 @@ fn takes_elf_images(rt: HostRuntime) -> Result<(), Fail> {
 fn assembles_to_elf_files(rt: HostRuntime) -> Result<(), Fail> {
     let alloc = rt.alloc();
     let smallest = answers(alloc, SMALLEST_SOURCE.as_bytes(), "asmelf a", 0, SMALLEST)?;
-    assert_eq!(rt; smallest, (0, true));
+    same(&rt, smallest, (0, true));
     for (failing, code, size) in WRITES {
         let front = FEED.get(..size).unwrap_or(b"none");
         let answer = answers(alloc, FEED_SOURCE.as_bytes(), "asmelf a", failing, front)?;
-        assert_eq!(rt; answer, (code, true), "{failing}");
+        same_at(&rt, answer, (code, true), failing);
     }
     for (source, words, code, line) in REFUSES {
         let answer = answers(alloc, source.as_bytes(), words, 0, line.as_bytes())?;
-        assert_eq!(rt; answer, (code, true), "{words}");
+        same_at(&rt, answer, (code, true), words);
     }
     Ok(())
 }
@@ -147,10 +148,10 @@ fn long_elf_images_are_refused(rt: HostRuntime) -> Result<(), Fail> {
     let mut file = Vec::from_slice(alloc, SMALLEST)?;
     file.resize(16_777_217, 0)?;
     let answer = answers(alloc, &file, "dis a", 0, b"#image too long\n")?;
-    assert_eq!(rt; answer, (2, true));
+    same(&rt, answer, (2, true));
     file.truncate(16_777_216);
     let answer = answers(alloc, &file, "dis a", 0, LISTING.as_bytes())?;
-    assert_eq!(rt; answer, (0, true));
+    same(&rt, answer, (0, true));
     Ok(())
 }
 
@@ -174,6 +175,6 @@ fn a_source_may_have_too_many_runs(rt: HostRuntime) -> Result<(), Fail> {
         0,
         b"#source segments\n",
     )?;
-    assert_eq!(rt; answer, (3, true));
+    same(&rt, answer, (3, true));
     Ok(())
 }

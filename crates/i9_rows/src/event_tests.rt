@@ -1,4 +1,5 @@
 //! Events and interrupts through the command, at texts worked out by hand.
+use crate::check::{same, same_at};
 use crate::rows::{BOOT, PRCB, held};
 use crate::tests::{SMALLEST, words_of};
 use i9_outside::{MemFiles, MemSink};
@@ -277,13 +278,13 @@ status 0
 
 #[test]
 fn events_and_interrupts(rt: HostRuntime) -> Result<(), Fail> {
-    assert_eq!(rt; held(rt.alloc(), &[PRCB, VECTORS], EVENTS)?, 8);
+    same(&rt, held(rt.alloc(), &[PRCB, VECTORS], EVENTS)?, 8);
     Ok(())
 }
 
 #[test]
 fn bytes_are_shown(rt: HostRuntime) -> Result<(), Fail> {
-    assert_eq!(rt; held(rt.alloc(), &[PRCB, VECTORS], SHOWN)?, 3);
+    same(&rt, held(rt.alloc(), &[PRCB, VECTORS], SHOWN)?, 3);
     Ok(())
 }
 
@@ -388,7 +389,7 @@ status 0
 
 #[test]
 fn events_wait_for_turns(rt: HostRuntime) -> Result<(), Fail> {
-    assert_eq!(rt; held(rt.alloc(), &[BOOT], TURNS)?, 6);
+    same(&rt, held(rt.alloc(), &[BOOT], TURNS)?, 6);
     Ok(())
 }
 
@@ -413,10 +414,11 @@ fn schedules_are_refused(rt: HostRuntime) -> Result<(), Fail> {
         ("schedule 3", "#schedule line 1 kind 3\n"),
     ];
     for (schedule, line) in rows {
-        assert_eq!(rt;
+        same_at(
+            &rt,
             answers_planned(rt.alloc(), schedule.as_bytes(), line)?,
             (3, true),
-            "at {line}"
+            line,
         );
     }
     Ok(())
@@ -426,17 +428,19 @@ fn schedules_are_refused(rt: HostRuntime) -> Result<(), Fail> {
 fn long_schedules_are_refused(rt: HostRuntime) -> Result<(), Fail> {
     let alloc = rt.alloc();
     let long = vec![in alloc; b'#'; 16_777_217]?;
-    assert_eq!(rt;
+    same(
+        &rt,
         answers_planned(alloc, &long, "#schedule too long\n")?,
-        (3, true)
+        (3, true),
     );
     let mut many = Vec::new(alloc);
     for _ in 0..1_000_001 {
         many.extend_from_slice(b"at 1 nmi\n")?;
     }
-    assert_eq!(rt;
+    same(
+        &rt,
         answers_planned(alloc, &many, "#schedule line 1000001 kind 6\n")?,
-        (3, true)
+        (3, true),
     );
     Ok(())
 }
@@ -523,6 +527,6 @@ status 0
 
 #[test]
 fn low_vectors_are_not_requested(rt: HostRuntime) -> Result<(), Fail> {
-    assert_eq!(rt; held(rt.alloc(), &[PRCB], LOW_VECTORS)?, 6);
+    same(&rt, held(rt.alloc(), &[PRCB], LOW_VECTORS)?, 6);
     Ok(())
 }

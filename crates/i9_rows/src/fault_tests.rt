@@ -1,4 +1,5 @@
 //! Calls by table, returns and faults through the command, at registers worked out by hand.
+use crate::check::same;
 use crate::rows::{PRCB, TO_USER_MODE, held};
 use std::test::*;
 
@@ -312,26 +313,28 @@ status 4
 
 #[test]
 fn calls_and_returns(rt: HostRuntime) -> Result<(), Fail> {
-    assert_eq!(rt; held(rt.alloc(), &[PRCB], CALLS)?, 5);
-    assert_eq!(rt;
+    same(&rt, held(rt.alloc(), &[PRCB], CALLS)?, 5);
+    same(
+        &rt,
         held(rt.alloc(), &[PRCB, TO_USER_MODE], CALLS_IN_USER_MODE)?,
-        3
+        3,
     );
     Ok(())
 }
 
 #[test]
 fn faults_are_entered(rt: HostRuntime) -> Result<(), Fail> {
-    assert_eq!(rt; held(rt.alloc(), &[PRCB], FAULTS)?, 9);
-    assert_eq!(rt;
+    same(&rt, held(rt.alloc(), &[PRCB], FAULTS)?, 9);
+    same(
+        &rt,
         held(rt.alloc(), &[PRCB, TO_USER_MODE], FAULTS_IN_USER_MODE)?,
-        1
+        1,
     );
     Ok(())
 }
 
 #[test]
 fn entries_meet_hazards(rt: HostRuntime) -> Result<(), Fail> {
-    assert_eq!(rt; held(rt.alloc(), &[PRCB], ENTRY_HAZARDS)?, 3);
+    same(&rt, held(rt.alloc(), &[PRCB], ENTRY_HAZARDS)?, 3);
     Ok(())
 }

@@ -1,4 +1,5 @@
 //! Branches, loads, stores and atomics through the command, at registers worked out by hand.
+use crate::check::same;
 use crate::rows::{BOOT, held};
 use std::alloc::Global;
 use std::test::*;
@@ -408,7 +409,7 @@ fn blocks(alloc: Global, branches: &str, operands: &str) -> Result<String, Fail>
 fn branches_by_code(rt: HostRuntime) -> Result<(), Fail> {
     let by_code = blocks(rt.alloc(), BRANCHES, "")?;
     let fronts = [BOOT, FOR_EACH_CODE, &by_code];
-    assert_eq!(rt; held(rt.alloc(), &fronts, NEXT_CODE)?, 1);
+    same(&rt, held(rt.alloc(), &fronts, NEXT_CODE)?, 1);
     Ok(())
 }
 
@@ -416,24 +417,24 @@ fn branches_by_code(rt: HostRuntime) -> Result<(), Fail> {
 fn branches_by_comparison(rt: HostRuntime) -> Result<(), Fail> {
     let by_comparison = blocks(rt.alloc(), COMPARE_BRANCHES, "g0, g1, ")?;
     let fronts = [BOOT, COMPARES_THREE_PAIRS, &by_comparison];
-    assert_eq!(rt; held(rt.alloc(), &fronts, LEAVES)?, 1);
+    same(&rt, held(rt.alloc(), &fronts, LEAVES)?, 1);
     Ok(())
 }
 
 #[test]
 fn branches_and_jumps(rt: HostRuntime) -> Result<(), Fail> {
-    assert_eq!(rt; held(rt.alloc(), &[BOOT], JUMPS)?, 4);
+    same(&rt, held(rt.alloc(), &[BOOT], JUMPS)?, 4);
     Ok(())
 }
 
 #[test]
 fn loads_stores_and_addresses(rt: HostRuntime) -> Result<(), Fail> {
-    assert_eq!(rt; held(rt.alloc(), &[BOOT], ACCESSES)?, 7);
+    same(&rt, held(rt.alloc(), &[BOOT], ACCESSES)?, 7);
     Ok(())
 }
 
 #[test]
 fn accesses_meet_hazards_and_faults(rt: HostRuntime) -> Result<(), Fail> {
-    assert_eq!(rt; held(rt.alloc(), &[BOOT], HAZARDS)?, 9);
+    same(&rt, held(rt.alloc(), &[BOOT], HAZARDS)?, 9);
     Ok(())
 }

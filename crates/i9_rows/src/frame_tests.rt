@@ -1,4 +1,5 @@
 //! Calls and returns through the command, at registers worked out by hand.
+use crate::check::same;
 use crate::rows::{BOOT, held};
 use std::test::*;
 
@@ -191,6 +192,6 @@ status 4
 
 #[test]
 fn calls_returns_and_hazards(rt: HostRuntime) -> Result<(), Fail> {
-    assert_eq!(rt; held(rt.alloc(), &[BOOT], CALLS)?, 17);
+    same(&rt, held(rt.alloc(), &[BOOT], CALLS)?, 17);
     Ok(())
 }

@@ -1,4 +1,5 @@
 //! The command `gen` over a sink in memory, and the texts that it runs.
+use crate::check::{must, same};
 use crate::tests::{Case, answers, run_with};
 use i9_tool::generate;
 use std::test::*;
@@ -78,10 +79,16 @@ Gen 1 -";
 #[test]
 fn makes_the_job_of_a_number(rt: HostRuntime) -> Result<(), Fail> {
     let (source, schedule) = generate(rt.alloc(), 1)?;
-    assert!(rt; source.as_slice() == SOURCE_OF_1.as_bytes());
-    assert!(rt; schedule.starts_with(b"at 100 pin 5\nat 200 pin 0\nat 300 pin 7\n"));
-    assert!(rt; schedule.ends_with(b"\nat 199900 pin 3\nat 200000 pin 6\n"));
-    assert_eq!(rt; schedule.len(), 30_893);
+    must(&rt, source.as_slice() == SOURCE_OF_1.as_bytes());
+    must(
+        &rt,
+        schedule.starts_with(b"at 100 pin 5\nat 200 pin 0\nat 300 pin 7\n"),
+    );
+    must(
+        &rt,
+        schedule.ends_with(b"\nat 199900 pin 3\nat 200000 pin 6\n"),
+    );
+    same(&rt, schedule.len(), 30_893);
     Ok(())
 }
 
@@ -94,10 +101,10 @@ fn runs_the_job_of_a_number(rt: HostRuntime) -> Result<(), Fail> {
     // 2262 rounds of depth 39, and 557 of depth 58.
     let least = "#gen 0 732375 2000 exit 000007D0\n";
     let greatest = "#gen 4294967295 268029 2000 exit 000007D0\n";
-    assert!(rt; answers(alloc, "", RUNS_OF_1, 0, one)?);
-    assert!(rt; answers(alloc, "", "gen 0 -", 0, least)?);
-    assert!(rt; answers(alloc, "", "gen 4294967295 15", 0, greatest)?);
-    assert!(rt; answers(alloc, "", FORMLESS, 1, "#words\n")?);
+    must(&rt, answers(alloc, "", RUNS_OF_1, 0, one)?);
+    must(&rt, answers(alloc, "", "gen 0 -", 0, least)?);
+    must(&rt, answers(alloc, "", "gen 4294967295 15", 0, greatest)?);
+    must(&rt, answers(alloc, "", FORMLESS, 1, "#words\n")?);
     Ok(())
 }
 
@@ -108,6 +115,6 @@ fn a_write_of_the_line_may_fail(rt: HostRuntime) -> Result<(), Fail> {
         words: "gen 1 -",
         printed: "",
     };
-    assert_eq!(rt; run_with(rt.alloc(), &case, 4096, 1)?, (6, true));
+    same(&rt, run_with(rt.alloc(), &case, 4096, 1)?, (6, true));
     Ok(())
 }

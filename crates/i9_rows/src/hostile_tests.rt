@@ -1,4 +1,5 @@
 //! Firmware that does what no good firmware does, through the command, at texts worked out by hand.
+use crate::check::{must, must_at, same, same_at};
 use crate::rows::{BOOT, PRCB, TO_USER_MODE, add_registers, held, hex_of};
 use crate::tests::words_of;
 use i9_outside::{MemFiles, MemSink};
@@ -544,70 +545,75 @@ status 4
 
 #[test]
 fn frames_at_the_edges(rt: HostRuntime) -> Result<(), Fail> {
-    assert_eq!(rt; held(rt.alloc(), &[BOOT], EDGES)?, 4);
+    same(&rt, held(rt.alloc(), &[BOOT], EDGES)?, 4);
     Ok(())
 }
 
 #[test]
 fn returns_without_a_call(rt: HostRuntime) -> Result<(), Fail> {
-    assert_eq!(rt; held(rt.alloc(), &[BOOT], RETURNS)?, 5);
+    same(&rt, held(rt.alloc(), &[BOOT], RETURNS)?, 5);
     Ok(())
 }
 
 #[test]
 fn calls_and_returns_without_an_end(rt: HostRuntime) -> Result<(), Fail> {
-    assert_eq!(rt; held(rt.alloc(), &[BOOT], ENDLESS)?, 3);
+    same(&rt, held(rt.alloc(), &[BOOT], ENDLESS)?, 3);
     Ok(())
 }
 
 #[test]
 fn a_hundred_thousand_calls(rt: HostRuntime) -> Result<(), Fail> {
-    assert_eq!(rt; held(rt.alloc(), &[BOOT], DEEP)?, 1);
+    same(&rt, held(rt.alloc(), &[BOOT], DEEP)?, 1);
     Ok(())
 }
 
 #[test]
 fn handlers_that_fault(rt: HostRuntime) -> Result<(), Fail> {
-    assert_eq!(rt; held(rt.alloc(), &[PRCB], HANDLERS)?, 2);
+    same(&rt, held(rt.alloc(), &[PRCB], HANDLERS)?, 2);
     Ok(())
 }
 
 #[test]
 fn faults_beside_stores_and_hazards(rt: HostRuntime) -> Result<(), Fail> {
-    assert_eq!(rt; held(rt.alloc(), &[PRCB], FAULTS)?, 3);
+    same(&rt, held(rt.alloc(), &[PRCB], FAULTS)?, 3);
     Ok(())
 }
 
 #[test]
 fn tables_that_share_their_words(rt: HostRuntime) -> Result<(), Fail> {
-    assert_eq!(rt; held(rt.alloc(), &[BOOT], OVERLAID_TABLES)?, 1);
+    same(&rt, held(rt.alloc(), &[BOOT], OVERLAID_TABLES)?, 1);
     Ok(())
 }
 
 #[test]
 fn tables_in_odd_places(rt: HostRuntime) -> Result<(), Fail> {
-    assert_eq!(rt; held(rt.alloc(), &[PRCB], TABLES)?, 2);
+    same(&rt, held(rt.alloc(), &[PRCB], TABLES)?, 2);
     Ok(())
 }
 
 #[test]
 fn calls_and_starts_in_supervisor_mode(rt: HostRuntime) -> Result<(), Fail> {
-    assert_eq!(rt; held(rt.alloc(), &[PRCB], CALLS)?, 2);
+    same(&rt, held(rt.alloc(), &[PRCB], CALLS)?, 2);
     Ok(())
 }
 
 #[test]
 fn starts_by_odd_tables(rt: HostRuntime) -> Result<(), Fail> {
-    assert_eq!(rt; held(rt.alloc(), &[PRCB], STARTS)?, 3);
+    same(&rt, held(rt.alloc(), &[PRCB], STARTS)?, 3);
     Ok(())
 }
 
 #[test]
 fn system_calls_by_odd_tables(rt: HostRuntime) -> Result<(), Fail> {
-    assert_eq!(rt; held(rt.alloc(), &[PRCB, TO_USER_MODE], IN_USER_MODE)?, 5);
-    assert_eq!(rt;
+    same(
+        &rt,
+        held(rt.alloc(), &[PRCB, TO_USER_MODE], IN_USER_MODE)?,
+        5,
+    );
+    same(
+        &rt,
         held(rt.alloc(), &[PRCB, TO_USER_MODE], FAULT_IN_USER_MODE)?,
-        1
+        1,
     );
     Ok(())
 }
@@ -646,10 +652,10 @@ fn refused_words_fault_up_to_the_length(rt: HostRuntime) -> Result<(), Fail> {
         let mut sink = MemSink::new(alloc);
         sink.room(1_000_000)?;
         let status = i960(alloc, &words_of(alloc, words)?, &mut files, &mut sink);
-        assert_eq!(rt; status.code, 0, "at {words}");
-        assert!(rt; sink.bytes() == printed.as_bytes(), "at {words}");
+        same_at(&rt, status.code, 0, words);
+        must_at(&rt, sink.bytes() == printed.as_bytes(), words);
     }
     // By hand: the last frame, and the saved one with its return type.
-    assert!(rt; printed.contains(" 00016830\n#l 000167E1 00016870 "));
+    must(&rt, printed.contains(" 00016830\n#l 000167E1 00016870 "));
     Ok(())
 }

@@ -1,4 +1,5 @@
 //! Levels of pins through the command, at texts worked out by hand.
+use crate::check::{must, same};
 use crate::rows::{PRCB, held, hex_of};
 use crate::tests::words_of;
 use i9_outside::{MemFiles, MemSink};
@@ -275,7 +276,7 @@ status 0
 
 #[test]
 fn firmware_follows_levels(rt: HostRuntime) -> Result<(), Fail> {
-    assert_eq!(rt; held(rt.alloc(), &[PRCB, PINS], LEVELS)?, 11);
+    same(&rt, held(rt.alloc(), &[PRCB, PINS], LEVELS)?, 11);
     Ok(())
 }
 
@@ -339,8 +340,8 @@ fn a_low_pin_enters_a_thousand_times(rt: HostRuntime) -> Result<(), Fail> {
                 entries = entries.saturating_add(1);
             }
         }
-        assert_eq!(rt; entries, 1000);
-        assert!(rt; text.ends_with(NESTED_END));
+        same(&rt, entries, 1000);
+        must(&rt, text.ends_with(NESTED_END));
     }
     Ok(())
 }
@@ -432,6 +433,6 @@ status 0
 
 #[test]
 fn the_demo_of_levels_runs(rt: HostRuntime) -> Result<(), Fail> {
-    assert_eq!(rt; held(rt.alloc(), &[DEMO], DEMO_RUN)?, 1);
+    same(&rt, held(rt.alloc(), &[DEMO], DEMO_RUN)?, 1);
     Ok(())
 }

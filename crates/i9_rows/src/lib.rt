@@ -6,6 +6,8 @@ mod asm_tests;
 #[cfg(test)]
 mod back_tests;
 #[cfg(test)]
+mod check;
+#[cfg(test)]
 mod debug_tests;
 #[cfg(test)]
 mod demo_tests;

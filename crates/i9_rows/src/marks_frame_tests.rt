@@ -1,6 +1,7 @@
 //! Marks of stale values and frames, through the command: locals that are saved, spilled, flushed and returned, returns
 //! without a live frame, what a marked fp or sp forbids, and sessions of the debugger. The texts were worked out by
 //! hand, and hold at every number of sets.
+use crate::check::same;
 use crate::marks_tests::LEFT;
 use crate::rows::{PRCB, TO_USER_MODE, held};
 use std::test::*;
@@ -749,32 +750,36 @@ status 0
 
 #[test]
 fn locals_are_saved_with_their_marks(rt: HostRuntime) -> Result<(), Fail> {
-    assert_eq!(rt; held(rt.alloc(), &[PRCB, LEFT], SAVED)?, 7);
+    same(&rt, held(rt.alloc(), &[PRCB, LEFT], SAVED)?, 7);
     Ok(())
 }
 
 #[test]
 fn starts_flush_marked_words(rt: HostRuntime) -> Result<(), Fail> {
-    assert_eq!(rt; held(rt.alloc(), &[PRCB, LEFT], RESTARTED)?, 3);
+    same(&rt, held(rt.alloc(), &[PRCB, LEFT], RESTARTED)?, 3);
     Ok(())
 }
 
 #[test]
 fn returns_without_a_live_frame(rt: HostRuntime) -> Result<(), Fail> {
-    assert_eq!(rt; held(rt.alloc(), &[PRCB, LEFT], RETURNS)?, 14);
+    same(&rt, held(rt.alloc(), &[PRCB, LEFT], RETURNS)?, 14);
     Ok(())
 }
 
 #[test]
 fn marked_frame_and_stack_pointers(rt: HostRuntime) -> Result<(), Fail> {
-    assert_eq!(rt; held(rt.alloc(), &[PRCB, LEFT], PUSHES)?, 13);
-    assert_eq!(rt; held(rt.alloc(), &[PRCB, LEFT], INTERRUPTED)?, 4);
-    assert_eq!(rt; held(rt.alloc(), &[PRCB, LEFT, TO_USER_MODE], SWITCHED)?, 6);
+    same(&rt, held(rt.alloc(), &[PRCB, LEFT], PUSHES)?, 13);
+    same(&rt, held(rt.alloc(), &[PRCB, LEFT], INTERRUPTED)?, 4);
+    same(
+        &rt,
+        held(rt.alloc(), &[PRCB, LEFT, TO_USER_MODE], SWITCHED)?,
+        6,
+    );
     Ok(())
 }
 
 #[test]
 fn sessions_show_marks(rt: HostRuntime) -> Result<(), Fail> {
-    assert_eq!(rt; held(rt.alloc(), &[PRCB, LEFT], SESSIONS)?, 2);
+    same(&rt, held(rt.alloc(), &[PRCB, LEFT], SESSIONS)?, 2);
     Ok(())
 }

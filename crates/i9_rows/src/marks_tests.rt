@@ -1,5 +1,6 @@
 //! Marks of stale values through the command: which registers and bytes have them, and what keeps them. The texts were
 //! worked out by hand, and hold at every number of sets.
+use crate::check::same;
 use crate::rows::{PRCB, held};
 use std::test::*;
 
@@ -482,24 +483,24 @@ status 0
 
 #[test]
 fn names_that_keep_marks(rt: HostRuntime) -> Result<(), Fail> {
-    assert_eq!(rt; held(rt.alloc(), &[PRCB, LEFT], KEEPING)?, 7);
+    same(&rt, held(rt.alloc(), &[PRCB, LEFT], KEEPING)?, 7);
     Ok(())
 }
 
 #[test]
 fn names_that_keep_none(rt: HostRuntime) -> Result<(), Fail> {
-    assert_eq!(rt; held(rt.alloc(), &[PRCB, LEFT], OTHERS)?, 3);
+    same(&rt, held(rt.alloc(), &[PRCB, LEFT], OTHERS)?, 3);
     Ok(())
 }
 
 #[test]
 fn bytes_that_are_stale(rt: HostRuntime) -> Result<(), Fail> {
-    assert_eq!(rt; held(rt.alloc(), &[PRCB, LEFT], BYTES)?, 6);
+    same(&rt, held(rt.alloc(), &[PRCB, LEFT], BYTES)?, 6);
     Ok(())
 }
 
 #[test]
 fn atomics_over_stale_words(rt: HostRuntime) -> Result<(), Fail> {
-    assert_eq!(rt; held(rt.alloc(), &[PRCB, LEFT], ATOMICS)?, 2);
+    same(&rt, held(rt.alloc(), &[PRCB, LEFT], ATOMICS)?, 2);
     Ok(())
 }

@@ -1,5 +1,6 @@
 //! Uses of marked registers through the command: those that end a run, and what comes before them; and reads of stale
 //! bytes that are hazards. The texts were worked out by hand, and hold at every number of sets.
+use crate::check::same;
 use crate::marks_tests::LEFT;
 use crate::rows::{PRCB, TO_USER_MODE, held};
 use std::alloc::Global;
@@ -741,45 +742,46 @@ fn stopped(alloc: Global, fronts: &[&str], statements: &str, end: &str) -> Resul
 #[test]
 fn marked_registers_decide_nothing(rt: HostRuntime) -> Result<(), Fail> {
     let fronts = [PRCB, LEFT, USES];
-    assert_eq!(rt; stopped(rt.alloc(), &fronts, ADDRESSES, STOPS)?, 32);
-    assert_eq!(rt; stopped(rt.alloc(), &fronts, CONDITIONS, STOPS)?, 46);
-    assert_eq!(rt; stopped(rt.alloc(), &fronts, FAULTS, STOPS)?, 23);
-    assert_eq!(rt; stopped(rt.alloc(), &fronts, CONTROLS, STOPS)?, 29);
-    assert_eq!(rt; stopped(rt.alloc(), &fronts, OUTPUTS, STOPS)?, 21);
-    assert_eq!(rt; held(rt.alloc(), &fronts, ALLOWED)?, 6);
+    same(&rt, stopped(rt.alloc(), &fronts, ADDRESSES, STOPS)?, 32);
+    same(&rt, stopped(rt.alloc(), &fronts, CONDITIONS, STOPS)?, 46);
+    same(&rt, stopped(rt.alloc(), &fronts, FAULTS, STOPS)?, 23);
+    same(&rt, stopped(rt.alloc(), &fronts, CONTROLS, STOPS)?, 29);
+    same(&rt, stopped(rt.alloc(), &fronts, OUTPUTS, STOPS)?, 21);
+    same(&rt, held(rt.alloc(), &fronts, ALLOWED)?, 6);
     Ok(())
 }
 
 #[test]
 fn marks_come_before_mismatches(rt: HostRuntime) -> Result<(), Fail> {
     let fronts = [PRCB, LEFT, TO_USER_MODE];
-    assert_eq!(rt;
+    same(
+        &rt,
         stopped(rt.alloc(), &fronts, IN_USER_MODE, STOPS_IN_USER_MODE)?,
-        7
+        7,
     );
     Ok(())
 }
 
 #[test]
 fn marks_beside_other_ends(rt: HostRuntime) -> Result<(), Fail> {
-    assert_eq!(rt; held(rt.alloc(), &[PRCB, LEFT], ORDER)?, 14);
+    same(&rt, held(rt.alloc(), &[PRCB, LEFT], ORDER)?, 14);
     Ok(())
 }
 
 #[test]
 fn tables_and_code_are_not_stale(rt: HostRuntime) -> Result<(), Fail> {
-    assert_eq!(rt; held(rt.alloc(), &[PRCB, LEFT], TABLES)?, 8);
+    same(&rt, held(rt.alloc(), &[PRCB, LEFT], TABLES)?, 8);
     Ok(())
 }
 
 #[test]
 fn records_and_units_over_stale_bytes(rt: HostRuntime) -> Result<(), Fail> {
-    assert_eq!(rt; held(rt.alloc(), &[PRCB, LEFT], WRITES)?, 5);
+    same(&rt, held(rt.alloc(), &[PRCB, LEFT], WRITES)?, 5);
     Ok(())
 }
 
 #[test]
 fn marks_with_events_between(rt: HostRuntime) -> Result<(), Fail> {
-    assert_eq!(rt; held(rt.alloc(), &[PRCB, LEFT], EVENTS)?, 2);
+    same(&rt, held(rt.alloc(), &[PRCB, LEFT], EVENTS)?, 2);
     Ok(())
 }

@@ -1,4 +1,5 @@
 //! The table of results through the command, at registers worked out by hand.
+use crate::check::same;
 use crate::rows::{BOOT, PRCB, held};
 use std::test::*;
 
@@ -141,12 +142,12 @@ status 0
 
 #[test]
 fn results_and_faults(rt: HostRuntime) -> Result<(), Fail> {
-    assert_eq!(rt; held(rt.alloc(), &[BOOT], RESULTS)?, 4);
+    same(&rt, held(rt.alloc(), &[BOOT], RESULTS)?, 4);
     Ok(())
 }
 
 #[test]
 fn arithmetic_faults_are_overtaken(rt: HostRuntime) -> Result<(), Fail> {
-    assert_eq!(rt; held(rt.alloc(), &[PRCB, HANDLER], OVERTAKING)?, 6);
+    same(&rt, held(rt.alloc(), &[PRCB, HANDLER], OVERTAKING)?, 6);
     Ok(())
 }

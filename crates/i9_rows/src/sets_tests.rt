@@ -1,4 +1,5 @@
 //! Frames in sets through the command, at registers worked out by hand; each row holds at every number of sets.
+use crate::check::same;
 use crate::rows::{BOOT, PRCB, TO_USER_MODE, held};
 use std::test::*;
 
@@ -130,10 +131,11 @@ status 0
 
 #[test]
 fn spills_refills_and_flushes(rt: HostRuntime) -> Result<(), Fail> {
-    assert_eq!(rt;
+    same(
+        &rt,
         held(rt.alloc(), &[PRCB, TO_USER_MODE], SPILLS_IN_USER_MODE)?,
-        1
+        1,
     );
-    assert_eq!(rt; held(rt.alloc(), &[BOOT], SPILLS)?, 6);
+    same(&rt, held(rt.alloc(), &[BOOT], SPILLS)?, 6);
     Ok(())
 }

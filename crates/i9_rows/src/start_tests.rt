@@ -1,4 +1,5 @@
 //! Start-up, sysctl and modpc through the command, at registers worked out by hand.
+use crate::check::same;
 use crate::rows::{PRCB, TO_USER_MODE, held};
 use std::test::*;
 
@@ -300,19 +301,23 @@ status 0
 
 #[test]
 fn starts_by_its_tables(rt: HostRuntime) -> Result<(), Fail> {
-    assert_eq!(rt; held(rt.alloc(), &[PRCB], STARTS)?, 6);
+    same(&rt, held(rt.alloc(), &[PRCB], STARTS)?, 6);
     Ok(())
 }
 
 #[test]
 fn messages_and_process_controls(rt: HostRuntime) -> Result<(), Fail> {
-    assert_eq!(rt; held(rt.alloc(), &[PRCB], MESSAGES)?, 5);
-    assert_eq!(rt; held(rt.alloc(), &[PRCB, TO_USER_MODE], IN_USER_MODE)?, 1);
+    same(&rt, held(rt.alloc(), &[PRCB], MESSAGES)?, 5);
+    same(
+        &rt,
+        held(rt.alloc(), &[PRCB, TO_USER_MODE], IN_USER_MODE)?,
+        1,
+    );
     Ok(())
 }
 
 #[test]
 fn unaligned_accesses_and_table_hazards(rt: HostRuntime) -> Result<(), Fail> {
-    assert_eq!(rt; held(rt.alloc(), &[PRCB], TABLE_HAZARDS)?, 6);
+    same(&rt, held(rt.alloc(), &[PRCB], TABLE_HAZARDS)?, 6);
     Ok(())
 }

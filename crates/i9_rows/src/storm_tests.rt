@@ -1,5 +1,6 @@
 //! What comes from outside to firmware that is not ready for it, and accesses and code that no good firmware has,
 //! through the command, at texts worked out by hand.
+use crate::check::same;
 use crate::rows::{BOOT, PRCB, held};
 use std::test::*;
 
@@ -718,72 +719,72 @@ status 4
 
 #[test]
 fn pins_all_at_once(rt: HostRuntime) -> Result<(), Fail> {
-    assert_eq!(rt; held(rt.alloc(), &[PRCB, VECTORS], STORM)?, 1);
+    same(&rt, held(rt.alloc(), &[PRCB, VECTORS], STORM)?, 1);
     Ok(())
 }
 
 #[test]
 fn pins_in_an_order(rt: HostRuntime) -> Result<(), Fail> {
-    assert_eq!(rt; held(rt.alloc(), &[PRCB, VECTORS], AT_ONE_COUNT)?, 1);
+    same(&rt, held(rt.alloc(), &[PRCB, VECTORS], AT_ONE_COUNT)?, 1);
     Ok(())
 }
 
 #[test]
 fn odd_stacks_and_masks(rt: HostRuntime) -> Result<(), Fail> {
-    assert_eq!(rt; held(rt.alloc(), &[PRCB, VECTORS], INTERRUPTS)?, 2);
+    same(&rt, held(rt.alloc(), &[PRCB, VECTORS], INTERRUPTS)?, 2);
     Ok(())
 }
 
 #[test]
 fn an_interrupt_in_its_own_handler(rt: HostRuntime) -> Result<(), Fail> {
-    assert_eq!(rt; held(rt.alloc(), &[PRCB, VECTORS], NESTED)?, 1);
+    same(&rt, held(rt.alloc(), &[PRCB, VECTORS], NESTED)?, 1);
     Ok(())
 }
 
 #[test]
 fn requests_in_frames(rt: HostRuntime) -> Result<(), Fail> {
-    assert_eq!(rt; held(rt.alloc(), &[PRCB], REQUESTS)?, 4);
+    same(&rt, held(rt.alloc(), &[PRCB], REQUESTS)?, 4);
     Ok(())
 }
 
 #[test]
 fn interrupts_that_are_let_in(rt: HostRuntime) -> Result<(), Fail> {
-    assert_eq!(rt; held(rt.alloc(), &[PRCB], LET_IN)?, 2);
+    same(&rt, held(rt.alloc(), &[PRCB], LET_IN)?, 2);
     Ok(())
 }
 
 #[test]
 fn units_over_code_and_frames(rt: HostRuntime) -> Result<(), Fail> {
-    assert_eq!(rt; held(rt.alloc(), &[PRCB], UNITS)?, 3);
+    same(&rt, held(rt.alloc(), &[PRCB], UNITS)?, 3);
     Ok(())
 }
 
 #[test]
 fn accesses_across_borders(rt: HostRuntime) -> Result<(), Fail> {
-    assert_eq!(rt; held(rt.alloc(), &[PRCB], ACROSS)?, 3);
+    same(&rt, held(rt.alloc(), &[PRCB], ACROSS)?, 3);
     Ok(())
 }
 
 #[test]
 fn ends_of_the_port_page(rt: HostRuntime) -> Result<(), Fail> {
-    assert_eq!(rt; held(rt.alloc(), &[PRCB], PORT_PAGE)?, 3);
+    same(&rt, held(rt.alloc(), &[PRCB], PORT_PAGE)?, 3);
     Ok(())
 }
 
 #[test]
 fn code_that_is_stored_over(rt: HostRuntime) -> Result<(), Fail> {
-    assert_eq!(rt; held(rt.alloc(), &[BOOT], CODE)?, 4);
+    same(&rt, held(rt.alloc(), &[BOOT], CODE)?, 4);
     Ok(())
 }
 
 #[test]
 fn events_beside_an_imprecise_fault(rt: HostRuntime) -> Result<(), Fail> {
-    assert_eq!(rt; held(rt.alloc(), &[BOOT], LOOKS)?, 4);
+    same(&rt, held(rt.alloc(), &[BOOT], LOOKS)?, 4);
     Ok(())
 }
 
 #[test]
 fn events_beside_a_hazard(rt: HostRuntime) -> Result<(), Fail> {
-    assert_eq!(rt; held(rt.alloc(), &[BOOT], EVENTS)?, 4);
+    same(&rt, held(rt.alloc(), &[BOOT], EVENTS)?, 4);
     Ok(())
 }

@@ -1,4 +1,5 @@
 //! The command over files and a sink in memory, at cases worked out by hand.
+use crate::check::{must, must_at, same, same_at};
 use crate::rows::hex_of;
 use i9_outside::{MemFiles, MemSink};
 use i9_tool::i960;
@@ -145,23 +146,36 @@ fn runs_and_refuses(rt: HostRuntime) -> Result<(), Fail> {
     let some = "run a - - 10";
     let no_type = ":02000004FFFFFD\n";
     let no_record = ":00000001FF\nx\n";
-    assert!(rt; answers(alloc, SMALLEST, RUNS, 0, PRINTED)?);
-    assert!(rt; answers(alloc, SMALLEST, "run a - - 0000000000", 0, AT_ONCE)?);
-    assert!(rt; answers(alloc, SMALLEST, FORMLESS, 1, "#words\n")?);
-    assert!(rt; answers(alloc, SMALLEST, UNREAD, 5, "#read\n")?);
-    assert!(rt; answers(alloc, no_type, some, 2, "#image line 1 kind 4\n")?);
-    assert!(rt; answers(alloc, no_type, "run a b - 10", 2, "#image line 1 kind 4\n")?);
-    assert!(rt;
+    must(&rt, answers(alloc, SMALLEST, RUNS, 0, PRINTED)?);
+    must(
+        &rt,
+        answers(alloc, SMALLEST, "run a - - 0000000000", 0, AT_ONCE)?,
+    );
+    must(&rt, answers(alloc, SMALLEST, FORMLESS, 1, "#words\n")?);
+    must(&rt, answers(alloc, SMALLEST, UNREAD, 5, "#read\n")?);
+    must(
+        &rt,
+        answers(alloc, no_type, some, 2, "#image line 1 kind 4\n")?,
+    );
+    must(
+        &rt,
+        answers(alloc, no_type, "run a b - 10", 2, "#image line 1 kind 4\n")?,
+    );
+    must(
+        &rt,
         answers(
             alloc,
             SMALLEST,
             "run a a - 10",
             3,
-            "#schedule line 1 kind 1\n"
-        )?
+            "#schedule line 1 kind 1\n",
+        )?,
     );
-    assert!(rt; answers(alloc, no_record, some, 2, "#image line 2 kind 7\n")?);
-    assert!(rt; answers(alloc, "", some, 2, "#image line 1 kind 6\n")?);
+    must(
+        &rt,
+        answers(alloc, no_record, some, 2, "#image line 2 kind 7\n")?,
+    );
+    must(&rt, answers(alloc, "", some, 2, "#image line 1 kind 6\n")?);
     Ok(())
 }
 
@@ -198,9 +212,10 @@ pub(crate) fn leaves_lines(
 #[test]
 fn writes_that_fail_leave_the_lines_before(rt: HostRuntime) -> Result<(), Fail> {
     for row in FAILING_WRITES.lines() {
-        assert!(rt;
+        must_at(
+            &rt,
             leaves_lines(rt.alloc(), "run a - - 100", PRINTED, row)?,
-            "at {row}"
+            row,
         );
     }
     Ok(())
@@ -228,7 +243,7 @@ fn a_write_that_fails_ends_the_run_at_once(rt: HostRuntime) -> Result<(), Fail> 
                 words,
                 printed: "",
             };
-            assert_eq!(rt; run_with(alloc, &case, 64, 1)?, (6, true), "{words}");
+            same_at(&rt, run_with(alloc, &case, 64, 1)?, (6, true), words);
         }
     }
     Ok(())
@@ -255,10 +270,11 @@ pub(crate) fn answers_long(
 fn long_files_are_refused(rt: HostRuntime) -> Result<(), Fail> {
     let words = "run a - - 10";
     let line = "#image too long\n";
-    assert_eq!(rt;
+    same(
+        &rt,
         answers_long(rt.alloc(), b':', 16_777_217, words, line)?,
-        (2, true)
+        (2, true),
     );
-    assert!(rt; !answers_long(rt.alloc(), b':', 1_000, words, line)?.1);
+    must(&rt, !answers_long(rt.alloc(), b':', 1_000, words, line)?.1);
     Ok(())
 }

@@ -1,4 +1,5 @@
 //! Trace events through the command, at texts worked out by hand.
+use crate::check::same;
 use crate::rows::{PRCB, held};
 use std::test::*;
 
@@ -363,18 +364,18 @@ fn count(rt: &HostRuntime, table: &str) -> Result<u32, Fail> {
 
 #[test]
 fn modes(rt: HostRuntime) -> Result<(), Fail> {
-    assert_eq!(rt; count(&rt, MODES)?, 8);
+    same(&rt, count(&rt, MODES)?, 8);
     Ok(())
 }
 
 #[test]
 fn breakpoints(rt: HostRuntime) -> Result<(), Fail> {
-    assert_eq!(rt; count(&rt, BREAKPOINTS)?, 4);
+    same(&rt, count(&rt, BREAKPOINTS)?, 4);
     Ok(())
 }
 
 #[test]
 fn faults_and_ends(rt: HostRuntime) -> Result<(), Fail> {
-    assert_eq!(rt; count(&rt, AROUND)?, 6);
+    same(&rt, count(&rt, AROUND)?, 6);
     Ok(())
 }

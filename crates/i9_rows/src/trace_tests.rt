@@ -1,5 +1,6 @@
 //! Traces through the command, at texts worked out by hand: the statements from the instruction formats, and the rest
 //! from the rules of a run.
+use crate::check::{must, must_at, same};
 use crate::rows::{BOOT, PRCB, held};
 use crate::tests::{AT_ONCE, PRINTED, SMALLEST, answers, leaves_lines};
 use std::test::*;
@@ -216,10 +217,16 @@ status 0
 #[test]
 fn traces_a_range(rt: HostRuntime) -> Result<(), Fail> {
     let alloc = rt.alloc();
-    assert!(rt; answers(alloc, SMALLEST, WORDS, 0, TRACED)?);
-    assert!(rt; answers(alloc, SMALLEST, LAST_WORDS, 0, TRACED_AT_LAST)?);
-    assert!(rt; answers(alloc, SMALLEST, NO_WORDS, 0, PRINTED)?);
-    assert!(rt; answers(alloc, SMALLEST, "trace a - - 0 0 ffffffff", 0, AT_ONCE)?);
+    must(&rt, answers(alloc, SMALLEST, WORDS, 0, TRACED)?);
+    must(
+        &rt,
+        answers(alloc, SMALLEST, LAST_WORDS, 0, TRACED_AT_LAST)?,
+    );
+    must(&rt, answers(alloc, SMALLEST, NO_WORDS, 0, PRINTED)?);
+    must(
+        &rt,
+        answers(alloc, SMALLEST, "trace a - - 0 0 ffffffff", 0, AT_ONCE)?,
+    );
     Ok(())
 }
 
@@ -228,25 +235,26 @@ fn refuses_as_a_run_does(rt: HostRuntime) -> Result<(), Fail> {
     let alloc = rt.alloc();
     let some = "trace a - - 10 0 0";
     let unread = "trace b - - 10 0 0\ntrace a b - 10 0 0";
-    assert!(rt; answers(alloc, SMALLEST, FORMLESS, 1, "#words\n")?);
-    assert!(rt; answers(alloc, SMALLEST, unread, 5, "#read\n")?);
-    assert!(rt; answers(alloc, "", some, 2, "#image line 1 kind 6\n")?);
-    assert!(rt;
+    must(&rt, answers(alloc, SMALLEST, FORMLESS, 1, "#words\n")?);
+    must(&rt, answers(alloc, SMALLEST, unread, 5, "#read\n")?);
+    must(&rt, answers(alloc, "", some, 2, "#image line 1 kind 6\n")?);
+    must(
+        &rt,
         answers(
             alloc,
             SMALLEST,
             "trace a a - 10 0 0",
             3,
-            "#schedule line 1 kind 1\n"
-        )?
+            "#schedule line 1 kind 1\n",
+        )?,
     );
     Ok(())
 }
 
 #[test]
 fn traces_instructions_at_each_number_of_sets(rt: HostRuntime) -> Result<(), Fail> {
-    assert_eq!(rt; held(rt.alloc(), &[BOOT], ALONE)?, 3);
-    assert_eq!(rt; held(rt.alloc(), &[PRCB], WITH_TABLES)?, 5);
+    same(&rt, held(rt.alloc(), &[BOOT], ALONE)?, 3);
+    same(&rt, held(rt.alloc(), &[PRCB], WITH_TABLES)?, 5);
     Ok(())
 }
 
@@ -254,7 +262,7 @@ fn traces_instructions_at_each_number_of_sets(rt: HostRuntime) -> Result<(), Fai
 fn writes_that_fail_leave_the_lines_before(rt: HostRuntime) -> Result<(), Fail> {
     for row in FAILING_WRITES.lines() {
         let words = "trace a - - 100 1010 1010";
-        assert!(rt; leaves_lines(rt.alloc(), words, TRACED, row)?, "at {row}");
+        must_at(&rt, leaves_lines(rt.alloc(), words, TRACED, row)?, row);
     }
     Ok(())
 }

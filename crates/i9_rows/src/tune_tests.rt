@@ -1,4 +1,5 @@
 //! The command `tune` over files and a sink in memory, at texts worked out by hand.
+use crate::check::same_at;
 use crate::rows::{BOOT, hex_of};
 use crate::tests::{Case, run_with};
 use std::test::*;
@@ -55,7 +56,7 @@ fn tunes_and_refuses(rt: HostRuntime) -> Result<(), Fail> {
             words,
             printed,
         };
-        assert_eq!(rt; run_with(alloc, &case, 4096, 0)?, (status, true), "{words}");
+        same_at(&rt, run_with(alloc, &case, 4096, 0)?, (status, true), words);
     }
     Ok(())
 }

@@ -1,4 +1,5 @@
 //! Calls and returns, worked out by hand.
+use crate::check::same_at;
 use crate::rows::{columns, hex_words, named};
 use crate::storage::{left, live, put_bytes, put_words, save};
 use crate::told::{Told, add, call_text, pop_text, sys_text};
@@ -180,7 +181,7 @@ fn plans_calls(rt: HostRuntime) -> Result<(), Fail> {
     for row in CALLS.lines().chain(REFUSED.lines()).chain(MARKED.lines()) {
         let (steps, questions, wanted) = columns(row)?;
         let text = told(rt.alloc(), &mut scene, steps, questions)?;
-        assert_eq!(rt; text.as_str(), wanted, "{row}");
+        same_at(&rt, text.as_str(), wanted, row);
     }
     Ok(())
 }
@@ -224,7 +225,7 @@ fn returns(rt: HostRuntime) -> Result<(), Fail> {
     for row in RETURNS.lines() {
         let (steps, questions, wanted) = columns(row)?;
         let text = told(rt.alloc(), &mut scene, steps, questions)?;
-        assert_eq!(rt; text.as_str(), wanted, "{row}");
+        same_at(&rt, text.as_str(), wanted, row);
     }
     Ok(())
 }

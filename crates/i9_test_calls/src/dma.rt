@@ -1,4 +1,5 @@
 //! DMA, worked out by hand.
+use crate::check::same_at;
 use crate::rows::{columns, hex_words, named};
 use crate::storage::{left, live};
 use crate::told::{Told, add, bytes_text, hazard_text, hex_text, truth_text, words_text};
@@ -291,7 +292,7 @@ fn moves_units(rt: HostRuntime) -> Result<(), Fail> {
     for row in rows.chain(HAZARDS.lines()) {
         let (steps, questions, wanted) = columns(row)?;
         let text = told(rt.alloc(), &mut scene, steps, questions)?;
-        assert_eq!(rt; text.as_str(), wanted, "{row}");
+        same_at(&rt, text.as_str(), wanted, row);
     }
     Ok(())
 }
@@ -342,7 +343,7 @@ fn keeps_channels(rt: HostRuntime) -> Result<(), Fail> {
     for row in GIFTS.lines().chain(COMMANDS.lines()) {
         let (steps, questions, wanted) = columns(row)?;
         let text = told(rt.alloc(), &mut scene, steps, questions)?;
-        assert_eq!(rt; text.as_str(), wanted, "{row}");
+        same_at(&rt, text.as_str(), wanted, row);
     }
     Ok(())
 }

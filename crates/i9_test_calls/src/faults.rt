@@ -1,4 +1,5 @@
 //! Entries of faults, worked out by hand.
+use crate::check::same_at;
 use crate::rows::{columns, hex_words, named};
 use crate::storage::{left, live, put_words};
 use crate::told::{Told, entry_text};
@@ -214,10 +215,11 @@ fn switch_told(alloc: Global, words: &str, scene_text: &str) -> Told {
 fn tells_switches_of_stacks(rt: HostRuntime) -> Result<(), Fail> {
     for row in SWITCHES.lines() {
         let (words, scene, wanted) = columns(row)?;
-        assert_eq!(rt;
+        same_at(
+            &rt,
             switch_told(rt.alloc(), words, scene)?.as_str(),
             wanted,
-            "{row}"
+            row,
         );
     }
     Ok(())
@@ -228,7 +230,7 @@ fn enters_handlers(rt: HostRuntime) -> Result<(), Fail> {
     let rows = ENTRIES.lines().chain(HAZARDS.lines());
     for row in rows.chain(EDGES.lines()) {
         let (words, scene, wanted) = columns(row)?;
-        assert_eq!(rt; told(rt.alloc(), words, scene)?.as_str(), wanted, "{row}");
+        same_at(&rt, told(rt.alloc(), words, scene)?.as_str(), wanted, row);
     }
     Ok(())
 }

@@ -1,4 +1,5 @@
 //! Interrupts, worked out by hand.
+use crate::check::same_at;
 use crate::rows::{columns, hex_words, named};
 use crate::storage::{left, live, put_bytes};
 use crate::told::{Told, add, entry_text, hazard_text, hex_text};
@@ -407,7 +408,7 @@ fn chooses_interrupts(rt: HostRuntime) -> Result<(), Fail> {
     for row in LINES.lines().chain(CHOICES.lines()) {
         let (steps, questions, wanted) = columns(row)?;
         let text = told(rt.alloc(), &mut scene, steps, questions)?;
-        assert_eq!(rt; text.as_str(), wanted, "{row}");
+        same_at(&rt, text.as_str(), wanted, row);
     }
     Ok(())
 }
@@ -419,7 +420,7 @@ fn follows_levels(rt: HostRuntime) -> Result<(), Fail> {
     for row in LEVELS.lines() {
         let (steps, questions, wanted) = columns(row)?;
         let text = told(rt.alloc(), &mut scene, steps, questions)?;
-        assert_eq!(rt; text.as_str(), wanted, "{row}");
+        same_at(&rt, text.as_str(), wanted, row);
     }
     Ok(())
 }
@@ -509,7 +510,7 @@ fn enters_interrupts(rt: HostRuntime) -> Result<(), Fail> {
     for row in rows.chain(REQUESTS.lines()) {
         let (steps, questions, wanted) = columns(row)?;
         let text = told(rt.alloc(), &mut scene, steps, questions)?;
-        assert_eq!(rt; text.as_str(), wanted, "{row}");
+        same_at(&rt, text.as_str(), wanted, row);
     }
     Ok(())
 }

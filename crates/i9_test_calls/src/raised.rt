@@ -1,4 +1,5 @@
 //! Which faults instructions raise, worked out by hand.
+use crate::check::same_at;
 use crate::rows::{columns, hex_words};
 use crate::told::Told;
 use Operand::{Lit, Reg, Sfr};
@@ -195,7 +196,7 @@ fn raises_faults(rt: HostRuntime) -> Result<(), Fail> {
     let rows = MISMATCHES.lines().chain(VALUES.lines());
     for row in rows.chain(ACCESSES.lines()) {
         let (text, state, wanted) = columns(row)?;
-        assert_eq!(rt; told(rt.alloc(), text, state)?.as_str(), wanted, "{row}");
+        same_at(&rt, told(rt.alloc(), text, state)?.as_str(), wanted, row);
     }
     Ok(())
 }

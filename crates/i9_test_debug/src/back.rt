@@ -1,6 +1,7 @@
 //! The state of a run before its first instruction; states behind others are gone to by sessions.
 ghost use Rattle.i9_tracer.specs.Closures.{TakesEachView};
 
+use crate::check::{must, same};
 use i9_back::{Trail, last_change, next_stop, one_earlier_state, replay};
 use i9_debug::last;
 use i9_hex::Segments;
@@ -47,14 +48,17 @@ fn begins_again(rt: HostRuntime) -> Result<(), Fail> {
     let alloc = rt.alloc();
     let image = image_of(alloc)?;
     let mut plan = plan_of(alloc)?;
-    assert_eq!(rt; plan.place(), 1);
+    same(&rt, plan.place(), 1);
     let m = replay(alloc, &image, None, 100, &mut plan, 0)?;
-    assert_eq!(rt; m.view().ip, 0x1000);
-    assert_eq!(rt; plan.place(), 0);
-    assert!(rt; last_change(alloc, &image, None, 100, &mut plan, 0, 0x1000)?.is_none());
-    assert_eq!(rt; plan.place(), 0);
+    same(&rt, m.view().ip, 0x1000);
+    same(&rt, plan.place(), 0);
+    must(
+        &rt,
+        last_change(alloc, &image, None, 100, &mut plan, 0, 0x1000)?.is_none(),
+    );
+    same(&rt, plan.place(), 0);
     let is_there = |v: &View| v.ip == 0x1000;
-    assert_eq!(rt; last_by(alloc, &image, &mut plan, is_there)?, 0);
+    same(&rt, last_by(alloc, &image, &mut plan, is_there)?, 0);
     one_earlier_state();
     Ok(())
 }
@@ -68,18 +72,19 @@ fn a_trail_begins_again(rt: HostRuntime) -> Result<(), Fail> {
     let mut plan = plan_of(alloc)?;
     let mut trail = Trail::new(alloc);
     let mut m = trail.replay(alloc, &image, None, 100, &mut plan, 0)?;
-    assert_eq!(rt; m.view().ip, 0x1000);
-    assert_eq!(rt; plan.place(), 0);
+    same(&rt, m.view().ip, 0x1000);
+    same(&rt, plan.place(), 0);
     trail.keep(alloc, &m, &plan, 0, 1);
     let (again, done) = trail.nearest(alloc, &image, None, 100, &mut plan, 7)?;
-    assert_eq!(rt; again.view().ip, 0x1000);
-    assert_eq!(rt; done, 0);
+    same(&rt, again.view().ip, 0x1000);
+    same(&rt, done, 0);
     trail.go_back(alloc, &image, None, 100, &mut m, &mut plan, 0)?;
-    assert_eq!(rt; m.view().count, 0);
-    assert!(rt;
+    same(&rt, m.view().count, 0);
+    must(
+        &rt,
         trail
             .last_change(alloc, &image, None, 100, &mut plan, 0, 0x1000)?
-            .is_none()
+            .is_none(),
     );
     Ok(())
 }
@@ -98,7 +103,7 @@ fn stops_where_machines_are_kept(rt: HostRuntime) -> Result<(), Fail> {
     ];
     for (done, to, stop) in rows {
         if done < to {
-            assert_eq!(rt; next_stop(done, to), stop);
+            same(&rt, next_stop(done, to), stop);
         }
     }
     Ok(())

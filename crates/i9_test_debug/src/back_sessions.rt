@@ -1,4 +1,5 @@
 //! Sessions that go far back, with turns and texts worked out by hand.
+use crate::check::{must, must_at, same, same_at};
 use crate::debug_sessions::{holds, session_of};
 use i9_asm::assemble;
 use i9_debug::SessionEnd;
@@ -211,8 +212,8 @@ fn goes_far_back(rt: HostRuntime) -> Result<(), Fail> {
     for (source, events, script, text) in rows {
         let image = image_of(rt.alloc(), source)?;
         let (answer, sink) = session_of(rt.alloc(), &image, 0, events, script, 0)?;
-        assert_eq!(rt; answer, SessionEnd::Done, "of {script}");
-        assert!(rt; holds(&sink, text), "of {script}");
+        same_at(&rt, answer, SessionEnd::Done, script);
+        must_at(&rt, holds(&sink, text), script);
     }
     Ok(())
 }
@@ -228,7 +229,7 @@ fn goes_back_as_often_as_a_script_may(rt: HostRuntime) -> Result<(), Fail> {
     }
     let image = image_of(rt.alloc(), LONG)?;
     let (answer, sink) = session_of(rt.alloc(), &image, 0, "", &script, 0)?;
-    assert_eq!(rt; answer, SessionEnd::Done);
-    assert!(rt; holds(&sink, &text));
+    same(&rt, answer, SessionEnd::Done);
+    must(&rt, holds(&sink, &text));
     Ok(())
 }

@@ -1,4 +1,5 @@
 //! Printing over a sink in memory, with texts worked out by hand.
+use crate::check::{must, must_at};
 use arrayvec::ArrayVec;
 use i9_debug::{
     Printed, print_elf_refusal, print_generated, print_heading, print_line, print_lines,
@@ -103,8 +104,8 @@ fn done(printed: Printed) -> bool {
 fn prints_each_line(rt: HostRuntime) -> Result<(), Fail> {
     let alloc = rt.alloc();
     let mut sink = sink_failing(alloc, 0)?;
-    assert!(rt; done(print_lines(alloc, &lines(alloc)?, &mut sink)));
-    assert!(rt; sink.bytes() == LINES.as_bytes());
+    must(&rt, done(print_lines(alloc, &lines(alloc)?, &mut sink)));
+    must(&rt, sink.bytes() == LINES.as_bytes());
     Ok(())
 }
 
@@ -115,14 +116,17 @@ fn prints_what_else_there_is(rt: HostRuntime) -> Result<(), Fail> {
     let end = End::Exit(0x7D0);
     let hex = b":02FFFE0041427E\n:00000001FF\n";
     let open = b"two lines,\nof which the last has no line feed";
-    assert!(rt; done(print_piece(b"#words\n", &mut sink)));
-    assert!(rt; done(print_text(hex, &mut sink)));
-    assert!(rt; done(print_refusal(alloc, b"image", 2, 7, &mut sink)));
-    assert!(rt; done(print_elf_refusal(alloc, 9, &mut sink)));
-    assert!(rt; done(print_generated(alloc, 1, 338_401, 2000, end, &mut sink)));
-    assert!(rt; done(print_line(alloc, &Line::Out(0), &mut sink)));
-    assert!(rt; done(print_text(open, &mut sink)));
-    assert!(rt; sink.bytes() == OTHERS.as_bytes());
+    must(&rt, done(print_piece(b"#words\n", &mut sink)));
+    must(&rt, done(print_text(hex, &mut sink)));
+    must(&rt, done(print_refusal(alloc, b"image", 2, 7, &mut sink)));
+    must(&rt, done(print_elf_refusal(alloc, 9, &mut sink)));
+    must(
+        &rt,
+        done(print_generated(alloc, 1, 338_401, 2000, end, &mut sink)),
+    );
+    must(&rt, done(print_line(alloc, &Line::Out(0), &mut sink)));
+    must(&rt, done(print_text(open, &mut sink)));
+    must(&rt, sink.bytes() == OTHERS.as_bytes());
     Ok(())
 }
 
@@ -131,10 +135,10 @@ fn prints_what_else_there_is(rt: HostRuntime) -> Result<(), Fail> {
 fn prints_the_line_of_a_version(rt: HostRuntime) -> Result<(), Fail> {
     let mut sink = MemSink::new(rt.alloc());
     sink.room(100)?;
-    assert!(rt; done(print_heading(1, &mut sink)));
-    assert!(rt; sink.bytes().is_empty());
-    assert!(rt; done(print_heading(2, &mut sink)));
-    assert!(rt; sink.bytes() == b"schedule 2\n".as_slice());
+    must(&rt, done(print_heading(1, &mut sink)));
+    must(&rt, sink.bytes().is_empty());
+    must(&rt, done(print_heading(2, &mut sink)));
+    must(&rt, sink.bytes() == b"schedule 2\n".as_slice());
     Ok(())
 }
 
@@ -145,8 +149,8 @@ fn a_write_that_fails_leaves_the_lines_before(rt: HostRuntime) -> Result<(), Fai
     for (failing, front) in FRONTS {
         let mut sink = sink_failing(alloc, failing)?;
         let printed = print_lines(alloc, &lines, &mut sink);
-        assert!(rt; matches!(printed, Printed::Write), "at {failing}");
-        assert!(rt; sink.bytes() == front.as_bytes(), "at {failing}");
+        must_at(&rt, matches!(printed, Printed::Write), failing);
+        must_at(&rt, sink.bytes() == front.as_bytes(), failing);
     }
     Ok(())
 }

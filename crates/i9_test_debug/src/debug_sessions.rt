@@ -4,6 +4,7 @@ ghost use Rattle.i9_model.specs.ScheduleText.{IsPlan};
 ghost use Rattle.i9_debug.specs.Session.{at};
 ghost use Rattle.i9_debug.specs.Driven.{StandsAt, given_of};
 
+use crate::check::{must, must_at, same, same_at};
 use i9_debug::{SessionEnd, session};
 use i9_hex::Segments;
 use i9_machine::{End, Machine};
@@ -304,8 +305,8 @@ fn tells_what_is_asked(rt: HostRuntime) -> Result<(), Fail> {
     for (program, sets, script, end, text) in rows {
         let image = image_of(rt.alloc(), program)?;
         let (answer, sink) = session_of(rt.alloc(), &image, sets, "", script, 0)?;
-        assert_eq!(rt; answer, end, "of {script}");
-        assert!(rt; holds(&sink, text), "of {script}");
+        same_at(&rt, answer, end, script);
+        must_at(&rt, holds(&sink, text), script);
     }
     Ok(())
 }
@@ -318,8 +319,8 @@ fn holds_as_many_frames_as_a_new_start_asks_for(rt: HostRuntime) -> Result<(), F
     put_words(&mut image, 0x800, &prcb)?;
     put_words(&mut image, 0xC1C, &[0x5000, 0, 15])?;
     let (answer, sink) = session_of(rt.alloc(), &image, 0, "", "until 1200\nheld\n", 0)?;
-    assert_eq!(rt; answer, SessionEnd::Done);
-    assert!(rt; holds(&sink, "#turn 4 4\n#held 15 0\n"));
+    same(&rt, answer, SessionEnd::Done);
+    must(&rt, holds(&sink, "#turn 4 4\n#held 15 0\n"));
     Ok(())
 }
 
@@ -328,12 +329,13 @@ fn holds_as_many_frames_as_a_new_start_asks_for(rt: HostRuntime) -> Result<(), F
 fn stops_where_a_write_fails(rt: HostRuntime) -> Result<(), Fail> {
     let image = image_of(rt.alloc(), &FLUSH)?;
     let (answer, sink) = session_of(rt.alloc(), &image, 0, "", "turn 2\nturn 20\nheld\n", 3)?;
-    assert_eq!(rt; answer, SessionEnd::Write);
-    assert!(rt;
+    same(&rt, answer, SessionEnd::Write);
+    must(
+        &rt,
         holds(
             &sink,
-            "#turn 3 2\n#point 3 flush 0000100C 00000000 001F2002\n"
-        )
+            "#turn 3 2\n#point 3 flush 0000100C 00000000 001F2002\n",
+        ),
     );
     Ok(())
 }

@@ -6,6 +6,8 @@ mod back;
 #[cfg(test)]
 mod back_sessions;
 #[cfg(test)]
+mod check;
+#[cfg(test)]
 mod debug;
 #[cfg(test)]
 mod debug_sessions;

@@ -3,6 +3,7 @@ ghost use Rattle.std.specs.Prelude.{◌≡◌, ◌<◌, ◌≤◌, ◌^◌, ◌�
 ghost use Rattle.i9_tracer.specs.Closures.{TakesEachAddress, TakesEachView};
 ghost use Rattle.i9_tracer.specs.Trace.{IsTraced, trace_text};
 
+use crate::check::{must, must_at, same_at};
 use i9_isa::NoMemory;
 use i9_machine::Issued;
 use i9_model::View;
@@ -110,7 +111,7 @@ fn traces_the_addresses_of_a_filter(rt: HostRuntime) -> Result<(), Fail> {
     ];
     for (low, high, wanted) in rows {
         let line = line_within(rt.alloc(), low, high, &MOVE)?;
-        assert!(rt; is_line(line, wanted), "from {low} to {high}");
+        must_at(&rt, is_line(line, wanted), (low, high));
     }
     Ok(())
 }
@@ -154,7 +155,7 @@ fn prints_instructions(rt: HostRuntime) -> Result<(), Fail> {
             second,
         };
         let line = line_within(rt.alloc(), 0, LAST, &issued)?;
-        assert!(rt; is_line(line, Some(wanted)), "{wanted}");
+        must_at(&rt, is_line(line, Some(wanted)), wanted);
     }
     Ok(())
 }
@@ -169,8 +170,8 @@ fn asks_a_filter(rt: HostRuntime) {
         (LAST, false, false),
     ];
     for (a, is_even, is_low) in rows {
-        assert_eq!(rt; passes_by(|a| a % 16 == 0, a), is_even, "at {a}");
-        assert_eq!(rt; passes_by(|a| a < 0x1000, a), is_low, "at {a}");
+        same_at(&rt, passes_by(|a| a % 16 == 0, a), is_even, a);
+        same_at(&rt, passes_by(|a| a < 0x1000, a), is_low, a);
     }
 }
 
@@ -180,8 +181,11 @@ fn stops_at_views(rt: HostRuntime) {
     // An instruction address, and whether the view is one there.
     let rows = [(0x1010, true), (0x100C, false), (0x1014, false)];
     for (ip, wanted) in rows {
-        assert_eq!(rt; holds_by(|v| v.ip == ip, &shown), wanted, "at {ip}");
+        same_at(&rt, holds_by(|v| v.ip == ip, &shown), wanted, ip);
     }
-    assert!(rt; holds_by(|v| v.count == 3 && v.regs[G0] == 16, &shown));
-    assert!(rt; !holds_by(|v| v.count == 3 && v.regs[G0 - 1] == 16, &shown));
+    must(&rt, holds_by(|v| v.count == 3 && v.regs[G0] == 16, &shown));
+    must(
+        &rt,
+        !holds_by(|v| v.count == 3 && v.regs[G0 - 1] == 16, &shown),
+    );
 }

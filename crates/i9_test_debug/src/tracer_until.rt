@@ -4,6 +4,7 @@ ghost use Rattle.i9_model.specs.ScheduleText.{IsPlan};
 ghost use Rattle.i9_machine.specs.InRun.{IsInRun};
 ghost use Rattle.i9_tracer.specs.Closures.{TakesEachView};
 
+use crate::check::same_at;
 use i9_hex::Segments;
 use i9_machine::{End, Issued, Line, Machine, Turn};
 use i9_model::View;
@@ -120,11 +121,12 @@ fn runs_until_an_address(rt: HostRuntime) -> Result<(), Fail> {
     for (text, ip, answer, now, lines) in rows {
         let mut run = run_of(rt.alloc(), text)?;
         let answered = until_by(&mut run, |v| v.ip == ip);
-        assert_eq!(rt; answered, answer, "until {ip}");
-        assert_eq!(rt;
+        same_at(&rt, answered, answer, ip);
+        same_at(
+            &rt,
             (run.machine.raw().turn, run.lines.len()),
             (now, lines),
-            "until {ip}"
+            ip,
         );
     }
     Ok(())

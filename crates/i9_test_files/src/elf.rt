@@ -3,6 +3,7 @@ ghost use Rattle.std.specs.Prelude.{◌≡◌, ◌≤◌, length, IfOk};
 ghost use Rattle.i9_model.specs.Image.{pairs_of};
 ghost use Rattle.i9_model.specs.HexText.{most_bytes};
 
+use crate::check::{must, must_at, same};
 use i9_elf::{ElfError, WriteError, has_magic, one_answer, read, write};
 use i9_hex::{Segment, Segments};
 use i9_isa::NoMemory;
@@ -143,10 +144,10 @@ fn is_answered(alloc: Global, row: &str) -> Result<bool, Fail> {
 
 #[test]
 fn knows_the_magic(rt: HostRuntime) -> Result<(), Fail> {
-    assert!(rt; has_magic(b"\x7FELF"));
-    assert!(rt; !has_magic(b"\x7FEL"));
-    assert!(rt; !has_magic(b"\x7FELf\x01\x01\x01"));
-    assert!(rt; !has_magic(b":00000001FF\n"));
+    must(&rt, has_magic(b"\x7FELF"));
+    must(&rt, !has_magic(b"\x7FEL"));
+    must(&rt, !has_magic(b"\x7FELf\x01\x01\x01"));
+    must(&rt, !has_magic(b":00000001FF\n"));
     Ok(())
 }
 
@@ -154,7 +155,7 @@ fn knows_the_magic(rt: HostRuntime) -> Result<(), Fail> {
 fn answers_files(rt: HostRuntime) -> Result<(), Fail> {
     for table in [IMAGES, REFUSED] {
         for row in table.lines() {
-            assert!(rt; is_answered(rt.alloc(), row)?, "{row}");
+            must_at(&rt, is_answered(rt.alloc(), row)?, row);
         }
     }
     one_answer();
@@ -165,13 +166,13 @@ fn answers_files(rt: HostRuntime) -> Result<(), Fail> {
 #[test]
 fn reads_the_largest_image(rt: HostRuntime) -> Result<(), Fail> {
     let file = file_of(rt.alloc(), "118 72=FE 73=FF 74=3F")?;
-    assert!(rt; has_magic(&file));
+    must(&rt, has_magic(&file));
     let image = read(rt.alloc(), &file)?;
     let mut total = 0u64;
     for segment in image.as_slice() {
         total = total.saturating_add(segment.bytes.len() as u64);
     }
-    assert_eq!(rt; total, 4_194_304);
+    same(&rt, total, 4_194_304);
     Ok(())
 }
 
@@ -239,7 +240,7 @@ fn writes_images(rt: HostRuntime) -> Result<(), Fail> {
         let image = image_of(rt.alloc(), &pairs)?;
         let file = write(rt.alloc(), &image)?;
         let bytes = bytes_of(rt.alloc(), wanted)?;
-        assert!(rt; file.as_slice() == bytes.as_slice());
+        must(&rt, file.as_slice() == bytes.as_slice());
     }
     Ok(())
 }
@@ -270,17 +271,21 @@ fn written_size(alloc: Global, count: u32, step: u32) -> Result<Option<usize>, F
 // A file has 52 bytes, 32 for each run, and those of the runs.
 #[test]
 fn writes_the_largest_images(rt: HostRuntime) -> Result<(), Fail> {
-    assert_eq!(rt; written_size(rt.alloc(), 65_535, 2)?, Some(2_162_707));
-    assert_eq!(rt; written_size(rt.alloc(), 65_536, 2)?, None);
-    assert_eq!(rt; written_size(rt.alloc(), 4_194_304, 1)?, Some(4_194_388));
+    same(&rt, written_size(rt.alloc(), 65_535, 2)?, Some(2_162_707));
+    same(&rt, written_size(rt.alloc(), 65_536, 2)?, None);
+    same(
+        &rt,
+        written_size(rt.alloc(), 4_194_304, 1)?,
+        Some(4_194_388),
+    );
     Ok(())
 }
 
 #[test]
 fn tells_what_is_wrong(rt: HostRuntime) -> Result<(), Fail> {
     let bad = format!(in rt.alloc(); "{}, {}", ElfError::Bad(3), ElfError::Memory)?;
-    assert_eq!(rt; bad.as_str(), "refused, no memory");
+    same(&rt, bad.as_str(), "refused, no memory");
     let unwritten = format!(in rt.alloc(); "{}, {}", WriteError::Segments, WriteError::Memory)?;
-    assert_eq!(rt; unwritten.as_str(), "too many segments, no memory");
+    same(&rt, unwritten.as_str(), "too many segments, no memory");
     Ok(())
 }

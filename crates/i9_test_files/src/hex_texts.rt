@@ -1,3 +1,4 @@
+use crate::check::{must, same};
 use i9_hex::{HexError, HexFault, Segments, read, write};
 use std::alloc::{AllocError, Global};
 use std::test::Fail;
@@ -68,7 +69,7 @@ fn reads_images(rt: HostRuntime) -> Result<(), Fail> {
     ];
     for (text, wanted) in rows {
         let image = read(rt.alloc(), text)?;
-        assert!(rt; has(&image, wanted));
+        must(&rt, has(&image, wanted));
     }
     Ok(())
 }
@@ -100,7 +101,7 @@ fn refuses_the_first_fault(rt: HostRuntime) -> Result<(), Fail> {
         (b":00000001FF\n\n:00000001FF\n", (3, 7)),
     ];
     for (text, wanted) in rows {
-        assert_eq!(rt; refusal(rt.alloc(), text), Some(wanted));
+        same(&rt, refusal(rt.alloc(), text), Some(wanted));
     }
     Ok(())
 }
@@ -132,7 +133,7 @@ fn large_text(alloc: Global, last: &[u8]) -> Result<Vec<u8>, AllocError> {
 fn reads_the_largest_image(rt: HostRuntime) -> Result<(), Fail> {
     let last = zeros(rt.alloc(), b":40000000", 64, b"C0\n")?;
     let text = large_text(rt.alloc(), &last)?;
-    assert!(rt; read(rt.alloc(), &text).is_ok());
+    must(&rt, read(rt.alloc(), &text).is_ok());
     Ok(())
 }
 
@@ -140,7 +141,7 @@ fn reads_the_largest_image(rt: HostRuntime) -> Result<(), Fail> {
 fn refuses_one_byte_more(rt: HostRuntime) -> Result<(), Fail> {
     let last = zeros(rt.alloc(), b":41000000", 65, b"BF\n")?;
     let text = large_text(rt.alloc(), &last)?;
-    assert_eq!(rt; refusal(rt.alloc(), &text), Some((16_449, 8)));
+    same(&rt, refusal(rt.alloc(), &text), Some((16_449, 8)));
     Ok(())
 }
 
@@ -148,12 +149,12 @@ fn refuses_one_byte_more(rt: HostRuntime) -> Result<(), Fail> {
 fn joins_bytes_in_a_row(rt: HostRuntime) -> Result<(), Fail> {
     let mut image = Segments::new(rt.alloc());
     for (address, byte) in [(5, 1), (6, 2), (6, 3), (0xFFFF_FFFF, 4), (0, 5), (2, 6)] {
-        assert_eq!(rt; image.put(address, byte), Ok(()));
+        same(&rt, image.put(address, byte), Ok(()));
     }
     // A segment that is pushed is not joined, and one without bytes is not kept.
     let bytes = Vec::from_slice(rt.alloc(), b"\x07")?;
-    assert_eq!(rt; image.push(3, bytes), Ok(()));
-    assert_eq!(rt; image.push(4, Vec::new(rt.alloc())), Ok(()));
+    same(&rt, image.push(3, bytes), Ok(()));
+    same(&rt, image.push(4, Vec::new(rt.alloc())), Ok(()));
     let wanted: [(u32, &[u8]); 5] = [
         (5, b"\x01\x02"),
         (6, b"\x03"),
@@ -161,16 +162,16 @@ fn joins_bytes_in_a_row(rt: HostRuntime) -> Result<(), Fail> {
         (2, b"\x06"),
         (3, b"\x07"),
     ];
-    assert!(rt; has(&image, &wanted));
+    must(&rt, has(&image, &wanted));
     Ok(())
 }
 
 #[test]
 fn shows_errors(rt: HostRuntime) -> Result<(), Fail> {
     let bad = format!(in rt.alloc(); "{}", HexError::Bad(HexFault { line: 3, kind: 4 }))?;
-    assert_eq!(rt; bad.as_str(), "refused");
+    same(&rt, bad.as_str(), "refused");
     let memory = format!(in rt.alloc(); "{}", HexError::Memory)?;
-    assert_eq!(rt; memory.as_str(), "no memory");
+    same(&rt, memory.as_str(), "no memory");
     Ok(())
 }
 
@@ -211,7 +212,7 @@ fn writes_images(rt: HostRuntime) -> Result<(), Fail> {
     for (text, written) in rows {
         let image = read(rt.alloc(), text)?;
         let again = write(rt.alloc(), &image)?;
-        assert_eq!(rt; again.as_slice(), written);
+        same(&rt, again.as_slice(), written);
     }
     Ok(())
 }

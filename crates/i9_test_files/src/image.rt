@@ -1,4 +1,5 @@
 //! Files in either format, worked out by hand.
+use crate::check::{must, same};
 use i9_hex::HexFault;
 use i9_image::{ImageError, ImageFault, one_answer, read};
 use std::alloc::Global;
@@ -17,10 +18,10 @@ const ELF: &[u8] = b"\x7FELF\x01\x01\x01\0\0\0\0\0\0\0\0\0\
 fn reads_either_format(rt: HostRuntime) -> Result<(), Fail> {
     for file in [TEXT, ELF] {
         let image = read(rt.alloc(), file)?;
-        assert_eq!(rt; image.as_slice().len(), 1);
+        same(&rt, image.as_slice().len(), 1);
         for segment in image.as_slice() {
-            assert_eq!(rt; segment.address, 0x1000);
-            assert!(rt; segment.bytes.as_slice() == b"A".as_slice());
+            same(&rt, segment.address, 0x1000);
+            must(&rt, segment.bytes.as_slice() == b"A".as_slice());
         }
     }
     one_answer();
@@ -56,7 +57,7 @@ fn refuses_by_the_first_four_bytes(rt: HostRuntime) -> Result<(), Fail> {
         ),
     ];
     for (file, wanted) in rows {
-        assert_eq!(rt; fault(rt.alloc(), file), Some(wanted));
+        same(&rt, fault(rt.alloc(), file), Some(wanted));
     }
     Ok(())
 }
@@ -65,6 +66,6 @@ fn refuses_by_the_first_four_bytes(rt: HostRuntime) -> Result<(), Fail> {
 fn tells_what_is_wrong(rt: HostRuntime) -> Result<(), Fail> {
     let bad = ImageError::Bad(ImageFault::Elf(3));
     let text = format!(in rt.alloc(); "{}, {}", bad, ImageError::Memory)?;
-    assert_eq!(rt; text.as_str(), "refused, no memory");
+    same(&rt, text.as_str(), "refused, no memory");
     Ok(())
 }

@@ -1,3 +1,4 @@
+use crate::check::{must, same};
 use i9_hex::Segments;
 use i9_runs::{one_list, runs_of};
 use std::alloc::Global;
@@ -27,10 +28,10 @@ fn finds_runs(rt: HostRuntime) -> Result<(), Fail> {
     ];
     let runs = runs_of(rt.alloc(), &image)?;
     let found = runs.as_slice();
-    assert_eq!(rt; found.len(), wanted.len());
+    same(&rt, found.len(), wanted.len());
     for (run, (address, bytes)) in found.iter().zip(wanted.iter()) {
-        assert_eq!(rt; run.address, *address);
-        assert!(rt; run.bytes.as_slice() == *bytes);
+        same(&rt, run.address, *address);
+        must(&rt, run.bytes.as_slice() == *bytes);
     }
     Ok(())
 }

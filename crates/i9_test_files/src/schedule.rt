@@ -1,3 +1,4 @@
+use crate::check::{must, same};
 use i9_schedule::{
     Event, LEVELS_VERSION, LineError, LineFault, Schedule, When, copied, event_text, is_ascii,
     is_skipped, journal_line, number_in, one_word, read, two_words,
@@ -97,7 +98,7 @@ fn refuses_the_first_line_at_fault(rt: HostRuntime) -> Result<(), Fail> {
         (b"turn 5 nmi\n# a\nturn 5 nmi\nturn 4 nmi", Some((4, 5))),
     ];
     for (text, fault) in rows {
-        assert_eq!(rt; refusal(rt.alloc(), text), fault);
+        same(&rt, refusal(rt.alloc(), text), fault);
     }
     Ok(())
 }
@@ -168,7 +169,7 @@ fn tells_versions(rt: HostRuntime) -> Result<(), Fail> {
         (b"schedule 2\nat 5 low 0\nturn 5 high 0", Err((3, 4))),
     ];
     for (text, version) in rows {
-        assert_eq!(rt; version_of(rt.alloc(), text)?, version);
+        same(&rt, version_of(rt.alloc(), text)?, version);
     }
     Ok(())
 }
@@ -178,7 +179,7 @@ fn tells_versions(rt: HostRuntime) -> Result<(), Fail> {
 fn prints_levels(rt: HostRuntime) -> Result<(), Fail> {
     let text = b"schedule 2\nat 0 low 07\n# a\n at 0002\thigh  0 \r\nat 2 pin 3";
     let mut schedule = read(rt.alloc(), text)?;
-    assert_eq!(rt; schedule.version(), LEVELS_VERSION);
+    same(&rt, schedule.version(), LEVELS_VERSION);
     let rows: [(Event, u64, &[u8]); 3] = [
         (Event::Low(7), 0, b"at 0 low 7"),
         (Event::High(0), 2, b"at 2 high 0"),
@@ -186,18 +187,18 @@ fn prints_levels(rt: HostRuntime) -> Result<(), Fail> {
     ];
     for (event, count, line) in rows {
         let Some(timed) = schedule.next() else {
-            assert!(rt; false);
+            must(&rt, false);
             return Ok(());
         };
-        assert_eq!(rt; timed.when, When::At(count));
-        assert!(rt; timed.event == event);
+        same(&rt, timed.when, When::At(count));
+        must(&rt, timed.event == event);
         let printed = journal_line(rt.alloc(), count, &timed.event)?;
-        assert_eq!(rt; printed.as_slice(), line);
+        same(&rt, printed.as_slice(), line);
         let text = event_text(rt.alloc(), count, &copied(&timed.event))?;
-        assert_eq!(rt; text.as_slice(), line);
+        same(&rt, text.as_slice(), line);
         schedule.step();
     }
-    assert!(rt; schedule.next().is_none());
+    must(&rt, schedule.next().is_none());
     Ok(())
 }
 
@@ -221,7 +222,7 @@ fn reads_a_million_events(rt: HostRuntime) -> Result<(), Fail> {
     ];
     for (last, fault) in rows {
         let text = large_text(rt.alloc(), last)?;
-        assert_eq!(rt; refusal(rt.alloc(), &text), fault);
+        same(&rt, refusal(rt.alloc(), &text), fault);
     }
     Ok(())
 }
@@ -260,29 +261,29 @@ fn prints_what_it_reads(rt: HostRuntime) -> Result<(), Fail> {
         text.extend_from_slice(line)?;
     }
     let mut schedule = read(rt.alloc(), &text)?;
-    assert_eq!(rt; schedule.place(), 0);
+    same(&rt, schedule.place(), 0);
     for (_, count, line) in rows {
         let Some(timed) = schedule.next() else {
-            assert!(rt; false);
+            must(&rt, false);
             return Ok(());
         };
-        assert_eq!(rt; timed.when, When::At(count));
+        same(&rt, timed.when, When::At(count));
         let printed = journal_line(rt.alloc(), count, &timed.event)?;
-        assert_eq!(rt; printed.as_slice(), line);
+        same(&rt, printed.as_slice(), line);
         let text = event_text(rt.alloc(), count, &copied(&timed.event))?;
-        assert_eq!(rt; text.as_slice(), line);
+        same(&rt, text.as_slice(), line);
         go_on(&mut schedule);
     }
-    assert!(rt; schedule.next().is_none());
+    must(&rt, schedule.next().is_none());
     let behind = schedule.place();
-    assert_eq!(rt; behind, 8);
+    same(&rt, behind, 8);
     // Back to the first event, and to where it stood.
     schedule.rewind();
-    assert_eq!(rt; schedule.place(), 0);
-    assert!(rt; schedule.next().is_some());
+    same(&rt, schedule.place(), 0);
+    must(&rt, schedule.next().is_some());
     schedule.seek(behind);
-    assert_eq!(rt; schedule.place(), 8);
-    assert!(rt; schedule.next().is_none());
+    same(&rt, schedule.place(), 8);
+    must(&rt, schedule.next().is_none());
     Ok(())
 }
 
@@ -306,39 +307,40 @@ fn reads_turns(rt: HostRuntime) -> Result<(), Fail> {
     let mut schedule = read(rt.alloc(), &text)?;
     for (_, turn, event) in rows {
         let Some(timed) = schedule.next() else {
-            assert!(rt; false);
+            must(&rt, false);
             return Ok(());
         };
-        assert_eq!(rt; timed.when, When::Turn(turn));
-        assert!(rt; timed.event == event);
+        same(&rt, timed.when, When::Turn(turn));
+        must(&rt, timed.event == event);
         schedule.step();
     }
-    assert!(rt; schedule.next().is_none());
+    must(&rt, schedule.next().is_none());
     Ok(())
 }
 
 // Words of a line stand between spaces and tabs, and numbers have no sign or prefix.
 #[test]
 fn tells_words(rt: HostRuntime) -> Result<(), Fail> {
-    assert_eq!(rt; one_word(b" \ta\t"), Some(b"a".as_slice()));
-    assert!(rt; one_word(b"a b").is_none());
-    assert_eq!(rt;
+    same(&rt, one_word(b" \ta\t"), Some(b"a".as_slice()));
+    must(&rt, one_word(b"a b").is_none());
+    same(
+        &rt,
         two_words(b"\ta  b"),
-        Some((b"a".as_slice(), b"b".as_slice()))
+        Some((b"a".as_slice(), b"b".as_slice())),
     );
-    assert!(rt; two_words(b"a b c").is_none());
-    assert_eq!(rt; number_in(b"0fF", 16, 3, 1, 255), Some(255));
-    assert_eq!(rt; number_in(b"256", 10, 3, 1, 255), None);
-    assert!(rt; is_ascii(b"\x7f") && !is_ascii(b"\x80"));
-    assert!(rt; is_skipped(b"#a") && !is_skipped(b" #"));
+    must(&rt, two_words(b"a b c").is_none());
+    same(&rt, number_in(b"0fF", 16, 3, 1, 255), Some(255));
+    same(&rt, number_in(b"256", 10, 3, 1, 255), None);
+    must(&rt, is_ascii(b"\x7f") && !is_ascii(b"\x80"));
+    must(&rt, is_skipped(b"#a") && !is_skipped(b" #"));
     Ok(())
 }
 
 #[test]
 fn tells_errors(rt: HostRuntime) -> Result<(), Fail> {
     let bad = format!(in rt.alloc(); "{}", LineError::Bad(LineFault { line: 1, kind: 1 }))?;
-    assert_eq!(rt; bad.as_str(), "refused");
+    same(&rt, bad.as_str(), "refused");
     let memory = format!(in rt.alloc(); "{}", LineError::Memory)?;
-    assert_eq!(rt; memory.as_str(), "no memory");
+    same(&rt, memory.as_str(), "no memory");
     Ok(())
 }

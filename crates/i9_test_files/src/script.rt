@@ -1,3 +1,4 @@
+use crate::check::same;
 use i9_script::{Command, LineError, LineFault, one_answer, read_script};
 use std::alloc::{AllocError, Global};
 use std::test::Fail;
@@ -104,7 +105,7 @@ fn refuses_the_first_line_at_fault(rt: HostRuntime) -> Result<(), Fail> {
         (b"raw\n#\xff\nturn 0", Some((2, 1))),
     ];
     for (text, fault) in rows {
-        assert_eq!(rt; refusal(rt.alloc(), text)?, fault);
+        same(&rt, refusal(rt.alloc(), text)?, fault);
     }
     Ok(())
 }
@@ -137,10 +138,10 @@ fn reads_commands_in_order(rt: HostRuntime) -> Result<(), Fail> {
     }
     let script = read_script(rt.alloc(), &text)?;
     let commands = script.commands();
-    assert_eq!(rt; commands.len(), 17);
+    same(&rt, commands.len(), 17);
     let mut place = 0usize;
     for (_, command) in rows {
-        assert_eq!(rt; commands.get(place).copied(), Some(command));
+        same(&rt, commands.get(place).copied(), Some(command));
         place += 1;
     }
     one_answer();
@@ -169,7 +170,7 @@ fn reads_a_hundred_thousand_commands(rt: HostRuntime) -> Result<(), Fail> {
     ];
     for (last, fault) in rows {
         let text = large_text(rt.alloc(), last)?;
-        assert_eq!(rt; refusal(rt.alloc(), &text)?, fault);
+        same(&rt, refusal(rt.alloc(), &text)?, fault);
     }
     Ok(())
 }

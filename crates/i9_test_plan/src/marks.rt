@@ -3,6 +3,7 @@
 ghost use Rattle.std.specs.Prelude.{IfOk, OnOk};
 ghost use Rattle.i9_processor.specs.State.{IsDrained};
 
+use crate::check::{same, same_at};
 use crate::plan::columns;
 use crate::plan_open::open_text;
 use crate::state::{PC, goes, hex_words, ready, saves, sets};
@@ -120,7 +121,7 @@ fn plans_by_marks(rt: HostRuntime) -> Result<(), Fail> {
         let (state, wanted) = columns(row)?;
         let p = marked(rt.alloc(), state)?;
         let text = next_text(rt.alloc(), &p, &mut Memo::none(rt.alloc()))?;
-        assert_eq!(rt; text.as_str(), wanted, "{row}");
+        same_at(&rt, text.as_str(), wanted, row);
     }
     Ok(())
 }
@@ -136,7 +137,7 @@ fn plans_by_marks_while_something_is_open(rt: HostRuntime) -> Result<(), Fail> {
     for row in OPEN.lines() {
         let (state, wanted) = columns(row)?;
         let p = marked(rt.alloc(), state)?;
-        assert_eq!(rt; open_text(rt.alloc(), &p)?.as_str(), wanted, "{row}");
+        same_at(&rt, open_text(rt.alloc(), &p)?.as_str(), wanted, row);
     }
     Ok(())
 }
@@ -156,10 +157,11 @@ fn enters_nothing_by_marked_pointers(rt: HostRuntime) -> Result<(), Fail> {
     for set in ["80000000", "2"] {
         let text = format!(in rt.alloc(); "0 1F2002 1000 0 0 {set}")?;
         let p = marked(rt.alloc(), text.as_str())?;
-        assert_eq!(rt; plan_interrupt(&p, &nmi).err(), Some(0x1000));
-        assert_eq!(rt;
+        same(&rt, plan_interrupt(&p, &nmi).err(), Some(0x1000));
+        same(
+            &rt,
             plan_entry(&p, &fault).err(),
-            Some(FaultStop::Hazard(0x1000))
+            Some(FaultStop::Hazard(0x1000)),
         );
         // What comes before the push stops the entry first.
         let dead = FaultStop::Dead {
@@ -167,7 +169,7 @@ fn enters_nothing_by_marked_pointers(rt: HostRuntime) -> Result<(), Fail> {
             address: 0x1118,
         };
         let other = Fault { kind: 3, ..fault };
-        assert_eq!(rt; plan_entry(&p, &other).err(), Some(dead));
+        same(&rt, plan_entry(&p, &other).err(), Some(dead));
     }
     Ok(())
 }
@@ -179,9 +181,10 @@ fn returns_to_marked_words(rt: HostRuntime) -> Result<(), Fail> {
     marks(&mut p, 0x0000_800C)?;
     saves(&mut p)?;
     goes(&mut p, 0, PC, 0x1000)?;
-    assert_eq!(rt;
+    same(
+        &rt,
         next_text(rt.alloc(), &p, &mut Memo::none(rt.alloc()))?.as_str(),
-        "Ret A000000 0: 0 1F2002 0 8, returns 3040 8008"
+        "Ret A000000 0: 0 1F2002 0 8, returns 3040 8008",
     );
     Ok(())
 }

@@ -2,6 +2,7 @@
 ghost use Rattle.std.specs.Prelude.{IfOk};
 ghost use Rattle.i9_processor.specs.State.{IsDrained};
 
+use crate::check::{must_at, same, same_at};
 use crate::state::{PC, changes, hex_words, ready};
 use crate::told::{effect_text, next_text};
 use arrayvec::ArrayVec;
@@ -107,7 +108,7 @@ fn plans_instructions(rt: HostRuntime) -> Result<(), Fail> {
         let (state, wanted) = columns(row)?;
         let p = given(rt.alloc(), state)?;
         let text = next_text(rt.alloc(), &p, &mut Memo::none(rt.alloc()))?;
-        assert_eq!(rt; text.as_str(), wanted, "{row}");
+        same_at(&rt, text.as_str(), wanted, row);
     }
     Ok(())
 }
@@ -130,10 +131,11 @@ fn keeps_instructions(rt: HostRuntime) -> Result<(), Fail> {
     for row in KEPT.lines() {
         let (state, wanted) = columns(row)?;
         let p = given(rt.alloc(), state)?;
-        assert_eq!(rt;
+        same_at(
+            &rt,
             next_text(rt.alloc(), &p, &mut memo)?.as_str(),
             wanted,
-            "{row}"
+            row,
         );
     }
     Ok(())
@@ -149,9 +151,10 @@ fn plans_faults(rt: HostRuntime) -> Result<(), Fail> {
     let p = ready(rt.alloc(), 0x1000, (0, 0), 0x8000, PC)?;
     let mut faulting = Effect::blank();
     plan_faulting(&p, 2, &mut faulting);
-    assert_eq!(rt;
+    same(
+        &rt,
         effect_text(rt.alloc(), &faulting)?.as_str(),
-        "8000 1F2002 0 1008"
+        "8000 1F2002 0 1008",
     );
     let fault = Fault {
         kind: 2,
@@ -162,13 +165,13 @@ fn plans_faults(rt: HostRuntime) -> Result<(), Fail> {
         Ok(effect) => effect_text(rt.alloc(), &effect)?,
         Err(_) => return Err("no entry".into()),
     };
-    assert_eq!(rt; text.as_str(), FAULT_ENTRY);
+    same(&rt, text.as_str(), FAULT_ENTRY);
     let dead = FaultStop::Dead {
         code: 1,
         address: 0x1118,
     };
     let other = Fault { kind: 3, ..fault };
-    assert_eq!(rt; plan_entry(&p, &other).err(), Some(dead));
+    same(&rt, plan_entry(&p, &other).err(), Some(dead));
     Ok(())
 }
 
@@ -189,7 +192,7 @@ fn plans_interrupts(rt: HostRuntime) -> Result<(), Fail> {
             Ok(effect) => effect_text(rt.alloc(), &effect)?,
             Err(_) => return Err("no entry".into()),
         };
-        assert_eq!(rt; text.as_str(), wanted);
+        same(&rt, text.as_str(), wanted);
     }
     Ok(())
 }
@@ -206,13 +209,13 @@ fn told(alloc: Global, planned: Result<Effect, u32>) -> Result<String, Fail> {
 fn plans_events(rt: HostRuntime) -> Result<(), Fail> {
     let p = ready(rt.alloc(), 0x1000, (0, 0), 1, PC)?;
     let pin = told(rt.alloc(), plan_event(&p, &Event::Pin(3)))?;
-    assert_eq!(rt; pin.as_str(), "1 1F2002 0 1000, Pin(3)");
+    same(&rt, pin.as_str(), "1 1F2002 0 1000, Pin(3)");
     let nmi = told(rt.alloc(), plan_event(&p, &Event::Nmi))?;
-    assert_eq!(rt; nmi.as_str(), "1 1F2002 0 1000, Nmi");
+    same(&rt, nmi.as_str(), "1 1F2002 0 1000, Nmi");
     let idle = told(rt.alloc(), plan_event(&p, &Event::Dma(1)))?;
-    assert_eq!(rt; idle.as_str(), "1 1F2002 0 1000");
+    same(&rt, idle.as_str(), "1 1F2002 0 1000");
     let shown = told(rt.alloc(), plan_event(&p, &Event::Show(0x3000, 4)))?;
-    assert_eq!(rt; shown.as_str(), "1 1F2002 0 1000");
+    same(&rt, shown.as_str(), "1 1F2002 0 1000");
     Ok(())
 }
 
@@ -239,22 +242,23 @@ fn plans_units(rt: HostRuntime) -> Result<(), Fail> {
         Ok(effect) => {
             let text = effect_text(rt.alloc(), &effect)?;
             let wanted = "1 1F2002 0 1000, 5000 21 87 43 65, Dma(0), Passes(0)";
-            assert_eq!(rt; text.as_str(), wanted);
+            same(&rt, text.as_str(), wanted);
         }
-        Err(_) => assert!(rt; false, "a hazard"),
+        Err(_) => must_at(&rt, false, "a hazard"),
     }
     // The channel has its bytes from memory.
     match plan_event(&p, &Event::Feed(0, ArrayVec::from([9; 16]))) {
         Ok(effect) => {
-            assert_eq!(rt;
+            same(
+                &rt,
                 effect_text(rt.alloc(), &effect)?.as_str(),
-                "1 1F2002 0 1000"
+                "1 1F2002 0 1000",
             );
         }
-        Err(_) => assert!(rt; false, "a hazard"),
+        Err(_) => must_at(&rt, false, "a hazard"),
     }
     // The frame at 3000 is live.
     let p = with_channel(rt.alloc(), 0x300D)?;
-    assert_eq!(rt; plan_event(&p, &Event::Dma(0)).err(), Some(0x300D));
+    same(&rt, plan_event(&p, &Event::Dma(0)).err(), Some(0x300D));
     Ok(())
 }

@@ -3,6 +3,7 @@
 ghost use Rattle.std.specs.Prelude.{IfOk, OnOk};
 ghost use Rattle.i9_processor.specs.State.{IsDrained};
 
+use crate::check::{must_at, same, same_at};
 use crate::state::{PC, applies, goes, ready, saves};
 use arrayvec::ArrayVec;
 use i9_faults::Fault;
@@ -107,15 +108,16 @@ fn needs_of_words(rt: HostRuntime) -> Result<(), Fail> {
         let p = holding(rt.alloc(), word, more)?;
         match need_of(rt.alloc(), &p) {
             Some(need) => {
-                assert_eq!(rt;
+                same_at(
+                    &rt,
                     (need.cost, need.writes, need.store),
                     (cost, writes, store),
-                    "{word}"
+                    word,
                 );
-                assert_eq!(rt; (need.request, need.slow, need.barrier), kind, "{word}");
-                assert_eq!(rt; (need.code, need.alone), ((0x1000, 4), false), "{word}");
+                same_at(&rt, (need.request, need.slow, need.barrier), kind, word);
+                same_at(&rt, (need.code, need.alone), ((0x1000, 4), false), word);
             }
-            None => assert!(rt; false, "{word}"),
+            None => must_at(&rt, false, word),
         }
     }
     Ok(())
@@ -143,9 +145,13 @@ fn needs_of_entries(rt: HostRuntime) -> Result<(), Fail> {
             match effect {
                 Some(effect) => {
                     let need = need_entered(&p, &effect);
-                    assert_eq!(rt; (need.cost, need.writes, need.barrier), (cost, FRAME, true));
+                    same(
+                        &rt,
+                        (need.cost, need.writes, need.barrier),
+                        (cost, FRAME, true),
+                    );
                 }
-                None => assert!(rt; false, "no entry"),
+                None => must_at(&rt, false, "no entry"),
             }
         }
     }
@@ -163,8 +169,8 @@ fn needs_of_events(rt: HostRuntime) -> Result<(), Fail> {
     ];
     for (event, cost) in rows {
         let need = need_reached(&event);
-        assert_eq!(rt; (need.cost, need.writes, need.barrier), (cost, 0, true));
-        assert_eq!(rt; need.not_before, 0);
+        same(&rt, (need.cost, need.writes, need.barrier), (cost, 0, true));
+        same(&rt, need.not_before, 0);
     }
     Ok(())
 }

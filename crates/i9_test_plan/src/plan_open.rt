@@ -1,6 +1,7 @@
 //! What is planned while something is open, and what is known of instructions, in the state of the other tests.
 ghost use Rattle.i9_processor.specs.State.{IsDrained};
 
+use crate::check::same_at;
 use crate::plan::{columns, given};
 use crate::state::{hex_words, ready};
 use crate::told::{done_text, effect_text, planned_text};
@@ -71,7 +72,7 @@ fn plans_while_something_is_open(rt: HostRuntime) -> Result<(), Fail> {
     for row in WAITS.lines().chain(RUNS.lines()) {
         let (state, wanted) = columns(row)?;
         let p = given(rt.alloc(), state)?;
-        assert_eq!(rt; open_text(rt.alloc(), &p)?.as_str(), wanted, "{row}");
+        same_at(&rt, open_text(rt.alloc(), &p)?.as_str(), wanted, row);
     }
     Ok(())
 }
@@ -105,7 +106,7 @@ fn reads_a_barrier_once(rt: HostRuntime) -> Result<(), Fail> {
     for row in READ.lines() {
         let (state, wanted) = columns(row)?;
         let p = given(rt.alloc(), state)?;
-        assert_eq!(rt; read_text(rt.alloc(), &p)?.as_str(), wanted, "{row}");
+        same_at(&rt, read_text(rt.alloc(), &p)?.as_str(), wanted, row);
     }
     Ok(())
 }
@@ -174,7 +175,7 @@ fn known_text(alloc: Global, text: &str) -> Result<String, Fail> {
 fn knows_facts(rt: HostRuntime) -> Result<(), Fail> {
     for row in KNOWN.lines() {
         let (state, wanted) = columns(row)?;
-        assert_eq!(rt; known_text(rt.alloc(), state)?.as_str(), wanted, "{row}");
+        same_at(&rt, known_text(rt.alloc(), state)?.as_str(), wanted, row);
     }
     Ok(())
 }

@@ -1,4 +1,5 @@
 //! What a processor answers, in rows that are worked out by hand.
+use crate::check::same_at;
 use crate::processor_steps::{booted, does, posts};
 use crate::rows::{columns, hex_words, named};
 use crate::told::{
@@ -336,7 +337,7 @@ fn answers_rows(rt: HostRuntime) -> Result<(), Fail> {
         // The steps of each row are done to a copy of what the rows before it left.
         p = p.copy(rt.alloc())?;
         let told = answers(rt.alloc(), &mut p, steps, questions)?;
-        assert_eq!(rt; told.as_str(), wanted, "{row}");
+        same_at(&rt, told.as_str(), wanted, row);
     }
     Ok(())
 }

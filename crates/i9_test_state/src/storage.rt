@@ -1,4 +1,5 @@
 //! What storage answers, in rows that are worked out by hand.
+use crate::check::same_at;
 use crate::rows::{columns, hex_words, named};
 use crate::storage_steps::{does, drained, with_waiting};
 use crate::told::{
@@ -307,7 +308,7 @@ fn answers_rows(rt: HostRuntime) -> Result<(), Fail> {
     for row in rows.chain(MARKS.lines()).chain(PLANS.lines()) {
         let (steps, questions, wanted) = columns(row)?;
         let told = answers(rt.alloc(), &mut storage, steps, questions)?;
-        assert_eq!(rt; told.as_str(), wanted, "{row}");
+        same_at(&rt, told.as_str(), wanted, row);
     }
     Ok(())
 }
@@ -355,8 +356,8 @@ fn reads_over_what_waits(rt: HostRuntime) -> Result<(), Fail> {
         // Each turn is landed in a copy of what the turns before it left.
         storage = storage.copy(rt.alloc())?;
         let told = answers(rt.alloc(), &mut storage, steps, questions)?;
-        assert_eq!(rt; told.as_str(), wanted, "{row}");
-        assert_eq!(rt; answered(rt.alloc(), &mut storage)?, 8, "{row}");
+        same_at(&rt, told.as_str(), wanted, row);
+        same_at(&rt, answered(rt.alloc(), &mut storage)?, 8, row);
     }
     Ok(())
 }

@@ -1,4 +1,5 @@
 //! Lines of a source, read by hand.
+use crate::check::same;
 use i9_asm::{
     AsmError, AsmFault, Said, Width, lines_give_what_they_count, listings_assemble, one_answer,
     read_line,
@@ -53,8 +54,8 @@ fn reads_lines(rt: HostRuntime) -> Result<(), Fail> {
     ];
     for (text, label, said) in rows {
         let line = read_line(text);
-        assert_eq!(rt; line.label, label);
-        assert_eq!(rt; line.said, said);
+        same(&rt, line.label, label);
+        same(&rt, line.said, said);
     }
     lines_give_what_they_count();
     listings_assemble();
@@ -66,8 +67,8 @@ fn reads_lines(rt: HostRuntime) -> Result<(), Fail> {
 fn tells_what_is_wrong(rt: HostRuntime) -> Result<(), Fail> {
     let fault = AsmFault { line: 1, kind: 2 };
     let bad = format!(in rt.alloc(); "{}", AsmError::Bad(fault))?;
-    assert_eq!(rt; bad.as_str(), "refused");
+    same(&rt, bad.as_str(), "refused");
     let memory = format!(in rt.alloc(); "{}", AsmError::Memory)?;
-    assert_eq!(rt; memory.as_str(), "no memory");
+    same(&rt, memory.as_str(), "no memory");
     Ok(())
 }

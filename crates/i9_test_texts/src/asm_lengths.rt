@@ -1,6 +1,7 @@
 //! Sources whose lines and names have each length, against bytes and faults that no length changes. No clause of
 //! `assemble` keeps it from answering want of memory for some of them.
 use crate::asm_sources::{is_assembled, is_refused_source};
+use crate::check::must_at;
 use std::alloc::Global;
 use std::test::Fail;
 
@@ -77,7 +78,7 @@ fn assembles_lines_of_each_length(rt: HostRuntime) -> Result<(), Fail> {
         let blanks = repeated(rt.alloc(), ' ', length)?;
         for row in LINES.lines() {
             let row = row.replace(rt.alloc(), "~", blanks.as_str())?;
-            assert!(rt; is_assembled(rt.alloc(), row.as_str())?, "{row}");
+            must_at(&rt, is_assembled(rt.alloc(), row.as_str())?, row);
         }
     }
     Ok(())
@@ -89,7 +90,7 @@ fn assembles_names_of_each_length(rt: HostRuntime) -> Result<(), Fail> {
         let name = repeated(rt.alloc(), 'n', length)?;
         for row in NAMES.lines() {
             let row = row.replace(rt.alloc(), "%", name.as_str())?;
-            assert!(rt; is_assembled(rt.alloc(), row.as_str())?, "{row}");
+            must_at(&rt, is_assembled(rt.alloc(), row.as_str())?, row);
         }
     }
     Ok(())
@@ -101,13 +102,13 @@ fn refuses_names_of_each_length(rt: HostRuntime) -> Result<(), Fail> {
         let name = repeated(rt.alloc(), 'n', length)?;
         for row in FAULTS.lines() {
             let row = row.replace(rt.alloc(), "%", name.as_str())?;
-            assert!(rt; is_refused_source(rt.alloc(), row.as_str())?, "{row}");
+            must_at(&rt, is_refused_source(rt.alloc(), row.as_str())?, row);
         }
     }
     for length in [1, 63] {
         let name = repeated(rt.alloc(), 'n', length)?;
         let row = TOO_MANY.replace(rt.alloc(), "%", name.as_str())?;
-        assert!(rt; is_refused_source(rt.alloc(), row.as_str())?, "{row}");
+        must_at(&rt, is_refused_source(rt.alloc(), row.as_str())?, row);
     }
     Ok(())
 }

@@ -1,4 +1,5 @@
 //! Sources against images and faults that were worked out by hand.
+use crate::check::{must, same};
 use i9_asm::{AsmError, AsmFault, assemble};
 use i9_hex::{Segment, Segments, write};
 use std::alloc::Global;
@@ -108,7 +109,7 @@ pub(crate) fn is_assembled(alloc: Global, row: &str) -> Result<bool, Fail> {
 #[test]
 fn assembles_sources(rt: HostRuntime) -> Result<(), Fail> {
     for row in IMAGES.lines() {
-        assert!(rt; is_assembled(rt.alloc(), row)?);
+        must(&rt, is_assembled(rt.alloc(), row)?);
     }
     Ok(())
 }
@@ -134,7 +135,7 @@ fn assembles_the_smallest_image(rt: HostRuntime) -> Result<(), Fail> {
 ";
     let image = assemble(rt.alloc(), source)?;
     let written = write(rt.alloc(), &image)?;
-    assert_eq!(rt; written.as_slice(), text.as_slice());
+    same(&rt, written.as_slice(), text.as_slice());
     Ok(())
 }
 
@@ -408,7 +409,7 @@ fn is_refused(alloc: Global, row: &str) -> Result<bool, Fail> {
 #[test]
 fn refuses_lines(rt: HostRuntime) -> Result<(), Fail> {
     for row in FAULTS.lines() {
-        assert!(rt; is_refused(rt.alloc(), row)?);
+        must(&rt, is_refused(rt.alloc(), row)?);
     }
     Ok(())
 }
@@ -485,8 +486,12 @@ pub(crate) fn is_refused_source(alloc: Global, row: &str) -> Result<bool, Fail> 
 #[test]
 fn refuses_sources(rt: HostRuntime) -> Result<(), Fail> {
     for row in REFUSALS.lines() {
-        assert!(rt; is_refused_source(rt.alloc(), row)?);
+        must(&rt, is_refused_source(rt.alloc(), row)?);
     }
-    assert_eq!(rt; refusal(rt.alloc(), b".word x\nx: # \x80"), Some((2, 2)));
+    same(
+        &rt,
+        refusal(rt.alloc(), b".word x\nx: # \x80"),
+        Some((2, 2)),
+    );
     Ok(())
 }

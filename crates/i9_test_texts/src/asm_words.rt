@@ -1,5 +1,6 @@
 //! Statements against words that were worked out by hand from the instruction formats.
 use crate::asm_sources::has;
+use crate::check::must;
 use i9_asm::assemble;
 use std::alloc::Global;
 use std::test::Fail;
@@ -293,7 +294,7 @@ fn is_right(alloc: Global, row: &str) -> Result<bool, Fail> {
 fn assembles_statements(rt: HostRuntime) -> Result<(), Fail> {
     for table in [NAMES, OPERANDS, ADDRESSES, TARGETS] {
         for row in table.lines() {
-            assert!(rt; is_right(rt.alloc(), row)?);
+            must(&rt, is_right(rt.alloc(), row)?);
         }
     }
     Ok(())

@@ -1,4 +1,5 @@
 //! Statements against words that were worked out by hand from the instruction formats.
+use crate::check::must_at;
 use i9_dis::text;
 use i9_statement::{code_of, statement_of, statements_read_back, words_are_one};
 use i9_value::{Definition, Known, Table, is_name};
@@ -233,7 +234,7 @@ fn is_refused(alloc: Global, names: Known<'_>, row: &str) -> Result<bool, Fail> 
 fn prints_statements(rt: HostRuntime) -> Result<(), Fail> {
     for table in [PRINTED, REFUSED_WORDS, ACROSS] {
         for row in table.lines() {
-            assert!(rt; is_printed(rt.alloc(), row)?, "{row}");
+            must_at(&rt, is_printed(rt.alloc(), row)?, row);
         }
     }
     Ok(())
@@ -245,7 +246,7 @@ fn reads_statements(rt: HostRuntime) -> Result<(), Fail> {
     let names = Known::All(&table);
     for table in [PRINTED, OTHER_FORMS, ACROSS] {
         for row in table.lines() {
-            assert!(rt; is_read(rt.alloc(), names, row)?, "{row}");
+            must_at(&rt, is_read(rt.alloc(), names, row)?, row);
         }
     }
     statements_read_back();
@@ -258,7 +259,7 @@ fn refuses_statements(rt: HostRuntime) -> Result<(), Fail> {
     let table = table(rt.alloc())?;
     let names = Known::All(&table);
     for row in REFUSED.lines() {
-        assert!(rt; is_refused(rt.alloc(), names, row)?, "{row}");
+        must_at(&rt, is_refused(rt.alloc(), names, row)?, row);
     }
     Ok(())
 }

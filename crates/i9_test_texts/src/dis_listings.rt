@@ -1,4 +1,5 @@
 //! Listings that were worked out by hand, and what they assemble to.
+use crate::check::{must, must_at};
 use crate::dis::{PRINTED, REFUSED_WORDS};
 use i9_asm::assemble;
 use i9_dis::{listing, one_listing};
@@ -227,12 +228,13 @@ fn lists_images(rt: HostRuntime) -> Result<(), Fail> {
     for row in LISTINGS.split("\n\n") {
         let (segments, lines) = row.split_once("\n").unwrap_or((row, ""));
         let wanted = format!(in rt.alloc(); "{lines}\n")?;
-        assert!(rt;
+        must_at(
+            &rt,
             is_listed(rt.alloc(), &image(rt.alloc(), segments)?, &wanted)?,
-            "{row}"
+            row,
         );
     }
-    assert!(rt; is_listed(rt.alloc(), &Segments::new(rt.alloc()), "")?);
+    must(&rt, is_listed(rt.alloc(), &Segments::new(rt.alloc()), "")?);
     one_listing();
     Ok(())
 }
@@ -241,7 +243,7 @@ fn lists_images(rt: HostRuntime) -> Result<(), Fail> {
 fn lists_statements(rt: HostRuntime) -> Result<(), Fail> {
     for table in [PRINTED, REFUSED_WORDS] {
         for row in table.lines() {
-            assert!(rt; is_line(rt.alloc(), row)?, "{row}");
+            must_at(&rt, is_line(rt.alloc(), row)?, row);
         }
     }
     Ok(())

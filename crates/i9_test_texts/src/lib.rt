@@ -10,6 +10,8 @@ mod asm_sources;
 #[cfg(test)]
 mod asm_words;
 #[cfg(test)]
+mod check;
+#[cfg(test)]
 mod dis;
 #[cfg(test)]
 mod dis_listings;

@@ -1,4 +1,5 @@
 //! Blocks whose turns and orders were worked out by hand from the rules, and blocks at fault.
+use crate::check::{must, same};
 use i9_hex::Segments;
 use i9_tune::{BlockError, allowed, block_in, block_line, span, tune, tuning};
 use std::alloc::Global;
@@ -127,7 +128,7 @@ fn prints_blocks(rt: HostRuntime) -> Result<(), Fail> {
         let (given, lines) = row.split_once("\n").unwrap_or((row, ""));
         let wanted = format!(in alloc; "{lines}\n")?;
         let text = printed(alloc, given)?;
-        assert!(rt; text.as_slice() == wanted.as_bytes());
+        must(&rt, text.as_slice() == wanted.as_bytes());
     }
     Ok(())
 }
@@ -140,9 +141,9 @@ fn tunes_a_block(rt: HostRuntime) -> Result<(), Fail> {
         return Err(Fail::from(i9_isa::NoMemory));
     };
     assert!(rt; allowed(&block[1]));
-    assert_eq!(rt; span(&block), 9);
+    same(&rt, span(&block), 9);
     let tuned = tune(alloc, &block)?;
-    assert_eq!(rt; tuned[3], block[1]);
-    assert_eq!(rt; span(&tuned), 7);
+    same(&rt, tuned[3], block[1]);
+    same(&rt, span(&tuned), 7);
     Ok(())
 }

@@ -1,4 +1,5 @@
 //! Names, values, registers and cuts, worked out by hand.
+use crate::check::same;
 use i9_isa::Operand;
 use i9_value::{
     Definition, Fault, Known, Noted, Table, Value, add_decimal, add_digits, add_hex, behind,
@@ -24,7 +25,7 @@ fn tells_names(rt: HostRuntime) -> Result<(), Fail> {
         (&longer, false),
     ];
     for (text, is) in rows {
-        assert_eq!(rt; is_name(text), is);
+        same(&rt, is_name(text), is);
     }
     Ok(())
 }
@@ -40,10 +41,14 @@ fn reads_values(rt: HostRuntime) -> Result<(), Fail> {
     assert!(rt; is_name(far));
     let table = Table::new(rt.alloc()).define(far, definition)?;
     let names = Known::All(&table);
-    assert_eq!(rt; lookup(names, far), Some(0xE000_0000));
-    assert_eq!(rt; lookup(Known::Before(&table, 8), far), Some(0xE000_0000));
-    assert_eq!(rt; lookup(Known::Before(&table, 7), far), None);
-    assert_eq!(rt; lookup(Known::Nothing, far), None);
+    same(&rt, lookup(names, far), Some(0xE000_0000));
+    same(
+        &rt,
+        lookup(Known::Before(&table, 8), far),
+        Some(0xE000_0000),
+    );
+    same(&rt, lookup(Known::Before(&table, 7), far), None);
+    same(&rt, lookup(Known::Nothing, far), None);
     let rows: [(&[u8], Option<Value>); 10] = [
         (b"far", Some(Value::Named(0xE000_0000))),
         (b"far-1", Some(Value::Named(0xDFFF_FFFF))),
@@ -57,7 +62,7 @@ fn reads_values(rt: HostRuntime) -> Result<(), Fail> {
         (b"g4", None),
     ];
     for (text, value) in rows {
-        assert_eq!(rt; value_of(names, text), value);
+        same(&rt, value_of(names, text), value);
     }
     Ok(())
 }
@@ -65,44 +70,58 @@ fn reads_values(rt: HostRuntime) -> Result<(), Fail> {
 #[test]
 fn tells_faults(rt: HostRuntime) -> Result<(), Fail> {
     let target = Some(Fault::Target);
-    assert_eq!(rt; least(target, Some(Fault::Range)), Some(Fault::Range));
-    assert_eq!(rt; least(target, None), target);
-    assert_eq!(rt; Fault::TooMany.kind(), 8);
+    same(&rt, least(target, Some(Fault::Range)), Some(Fault::Range));
+    same(&rt, least(target, None), target);
+    same(&rt, Fault::TooMany.kind(), 8);
     let five: Noted<u32> = fine(5);
-    assert_eq!(rt; value_noted(Value::Named(5)), five);
-    assert_eq!(rt; settled(Some(Value::Unknown)), wrong(Fault::UnknownName, 0));
-    assert_eq!(rt; settled(None), wrong(Fault::Form, 0));
+    same(&rt, value_noted(Value::Named(5)), five);
+    same(
+        &rt,
+        settled(Some(Value::Unknown)),
+        wrong(Fault::UnknownName, 0),
+    );
+    same(&rt, settled(None), wrong(Fault::Form, 0));
     Ok(())
 }
 
 #[test]
 fn names_registers(rt: HostRuntime) -> Result<(), Fail> {
-    assert_eq!(rt; register_name(31), b"fp".as_slice());
-    assert_eq!(rt; register_place(b"sf2"), Some(34));
-    assert_eq!(rt; register_at(37), Operand::Reg(2));
-    assert_eq!(rt; register_of(b"g15"), Some(Operand::Reg(31)));
-    assert_eq!(rt; register_of(b"sf1"), Some(Operand::Sfr(1)));
-    assert_eq!(rt; register_of(b"sf3"), None);
+    same(&rt, register_name(31), b"fp".as_slice());
+    same(&rt, register_place(b"sf2"), Some(34));
+    same(&rt, register_at(37), Operand::Reg(2));
+    same(&rt, register_of(b"g15"), Some(Operand::Reg(31)));
+    same(&rt, register_of(b"sf1"), Some(Operand::Sfr(1)));
+    same(&rt, register_of(b"sf3"), None);
     Ok(())
 }
 
 #[test]
 fn cuts_and_prints(rt: HostRuntime) -> Result<(), Fail> {
-    assert_eq!(rt; cut_blank(b"ab\tc"), (b"ab".as_slice(), b"\tc".as_slice()));
-    assert_eq!(rt; cut_byte(b"ab", b'.'), (b"ab".as_slice(), b"".as_slice()));
-    assert_eq!(rt;
-        cut_where(b"ab:c", |byte| byte == b':'),
-        (b"ab".as_slice(), b":c".as_slice())
+    same(
+        &rt,
+        cut_blank(b"ab\tc"),
+        (b"ab".as_slice(), b"\tc".as_slice()),
     );
-    assert_eq!(rt; behind(b"!4", b'!'), Some(b"4".as_slice()));
-    assert_eq!(rt;
+    same(
+        &rt,
+        cut_byte(b"ab", b'.'),
+        (b"ab".as_slice(), b"".as_slice()),
+    );
+    same(
+        &rt,
+        cut_where(b"ab:c", |byte| byte == b':'),
+        (b"ab".as_slice(), b":c".as_slice()),
+    );
+    same(&rt, behind(b"!4", b'!'), Some(b"4".as_slice()));
+    same(
+        &rt,
         closed(b"g4)[", b')'),
-        Some((b"g4".as_slice(), b"[".as_slice()))
+        Some((b"g4".as_slice(), b"[".as_slice())),
     );
     let mut text = Vec::new(rt.alloc());
     add_hex(rt.alloc(), &mut text, 0xABC)?;
     add_decimal(rt.alloc(), &mut text, 10)?;
     add_digits(rt.alloc(), &mut text, 0xFF)?;
-    assert_eq!(rt; text.as_slice(), b"0x00000ABC10FF".as_slice());
+    same(&rt, text.as_slice(), b"0x00000ABC10FF".as_slice());
     Ok(())
 }

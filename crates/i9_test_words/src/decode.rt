@@ -2,6 +2,7 @@
 ghost use Rattle.std.specs.Prelude.{IfOk};
 ghost use Rattle.i9_isa.specs.Valid.{IsValid};
 
+use crate::check::same_at;
 use crate::rows::{columns, hex_words, pair};
 use i9_decode::{decode, decode_encoded, encode, spare_bits};
 use i9_isa::{Inst, valid};
@@ -92,7 +93,7 @@ fn fields_text(alloc: Global, words: &str) -> Result<String, Fail> {
 fn words_and_instructions(rt: HostRuntime) -> Result<(), Fail> {
     for row in WORDS.lines() {
         let (words, wanted) = pair(row)?;
-        assert_eq!(rt; fields_text(rt.alloc(), words)?.as_str(), wanted, "{row}");
+        same_at(&rt, fields_text(rt.alloc(), words)?.as_str(), wanted, row);
     }
     Ok(())
 }
@@ -131,7 +132,7 @@ fn refusal_text(alloc: Global, word: &str) -> Result<String, Fail> {
 fn refused_words(rt: HostRuntime) -> Result<(), Fail> {
     for row in REFUSED.lines() {
         let (_, word, wanted) = columns(row)?;
-        assert_eq!(rt; refusal_text(rt.alloc(), word)?.as_str(), wanted, "{row}");
+        same_at(&rt, refusal_text(rt.alloc(), word)?.as_str(), wanted, row);
     }
     Ok(())
 }
@@ -170,7 +171,7 @@ fn ignored_text(alloc: Global, words: &str) -> Result<String, Fail> {
 fn ignored_bits(rt: HostRuntime) -> Result<(), Fail> {
     for row in IGNORED.lines() {
         let (words, wanted) = pair(row)?;
-        assert_eq!(rt; ignored_text(rt.alloc(), words)?.as_str(), wanted, "{row}");
+        same_at(&rt, ignored_text(rt.alloc(), words)?.as_str(), wanted, row);
     }
     Ok(())
 }

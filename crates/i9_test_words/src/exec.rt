@@ -1,4 +1,5 @@
 //! Results, branches and addresses that were worked out by hand from the descriptions of the instructions.
+use crate::check::same_at;
 use crate::rows::{columns, hex_words, instruction, pair};
 use i9_exec::{address, branch, compute, has_result};
 use i9_isa::Inst;
@@ -33,7 +34,7 @@ fn names_with_results(rt: HostRuntime) -> Result<(), Fail> {
         } else {
             "false"
         };
-        assert_eq!(rt; told, wanted, "{row}");
+        same_at(&rt, told, wanted, row);
     }
     Ok(())
 }
@@ -321,7 +322,7 @@ fn results(rt: HostRuntime) -> Result<(), Fail> {
             let (statement, given, wanted) = columns(row)?;
             let s = read_sources(rt.alloc(), given)?;
             let text = result_text(rt.alloc(), &instruction(statement)?, &s)?;
-            assert_eq!(rt; text.as_str(), wanted, "{row}");
+            same_at(&rt, text.as_str(), wanted, row);
         }
     }
     Ok(())
@@ -378,7 +379,7 @@ fn branches(rt: HostRuntime) -> Result<(), Fail> {
     for row in BRANCH_ROWS.lines() {
         let (statement, given, wanted) = columns(row)?;
         let text = branch_text(rt.alloc(), &instruction(statement)?, given)?;
-        assert_eq!(rt; text.as_str(), wanted, "{row}");
+        same_at(&rt, text.as_str(), wanted, row);
     }
     Ok(())
 }
@@ -411,7 +412,7 @@ fn addresses(rt: HostRuntime) -> Result<(), Fail> {
     for row in ADDRESS_ROWS.lines() {
         let (statement, given, wanted) = columns(row)?;
         let text = address_text(rt.alloc(), &instruction(statement)?, given)?;
-        assert_eq!(rt; text.as_str(), wanted, "{row}");
+        same_at(&rt, text.as_str(), wanted, row);
     }
     Ok(())
 }

@@ -1,4 +1,5 @@
 //! Resources, sides, latencies and transfers, worked out by hand from the descriptions of the instructions.
+use crate::check::{must_at, same_at};
 use crate::rows::{columns, instruction, pair};
 use i9_isa::{Ea, Inst, Operand, keeps_marks, latency, reads, side_of, transfer, valid, writes};
 use std::alloc::Global;
@@ -56,7 +57,7 @@ fn resources_of_instructions(rt: HostRuntime) -> Result<(), Fail> {
     for row in REGISTERS.lines().chain(OTHERS.lines()) {
         let (statement, wanted) = pair(row)?;
         let text = resources_text(rt.alloc(), &instruction(statement)?)?;
-        assert_eq!(rt; text.as_str(), wanted, "{row}");
+        same_at(&rt, text.as_str(), wanted, row);
     }
     Ok(())
 }
@@ -106,7 +107,7 @@ fn transfers_of_names(rt: HostRuntime) -> Result<(), Fail> {
     for row in TRANSFERS.lines() {
         let (statement, wanted) = pair(row)?;
         let text = transfer_text(rt.alloc(), &instruction(statement)?)?;
-        assert_eq!(rt; text.as_str(), wanted, "{row}");
+        same_at(&rt, text.as_str(), wanted, row);
     }
     Ok(())
 }
@@ -192,10 +193,10 @@ syncf
 #[test]
 fn names_that_keep_marks(rt: HostRuntime) -> Result<(), Fail> {
     for statement in KEEP_MARKS.lines() {
-        assert!(rt; keeps_marks(&instruction(statement)?), "{statement}");
+        must_at(&rt, keeps_marks(&instruction(statement)?), statement);
     }
     for statement in KEEP_NO_MARKS.lines() {
-        assert!(rt; !keeps_marks(&instruction(statement)?), "{statement}");
+        must_at(&rt, !keeps_marks(&instruction(statement)?), statement);
     }
     Ok(())
 }
@@ -260,7 +261,7 @@ fn valid_instructions(rt: HostRuntime) -> Result<(), Fail> {
         let (statement, change, wanted) = columns(row)?;
         let is_valid = valid(&changed(instruction(statement)?, change)?);
         let told = if is_valid { "valid" } else { "invalid" };
-        assert_eq!(rt; told, wanted, "{row}");
+        same_at(&rt, told, wanted, row);
     }
     Ok(())
 }

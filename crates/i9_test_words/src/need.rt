@@ -3,6 +3,7 @@ ghost use Rattle.std.specs.Prelude.{◌≡◌};
 ghost use Rattle.i9_model.specs.Needs.{has_access};
 ghost use Rattle.i9_need.specs.Known.{moves_a_frame};
 
+use crate::check::{same, same_at};
 use crate::rows::{columns, instruction, where_so};
 use i9_isa::{Inst, Op, transfer, valid};
 use i9_model::{Facts, Need};
@@ -198,7 +199,7 @@ fn costs_and_kinds_of_names(rt: HostRuntime) -> Result<(), Fail> {
         for row in table.lines() {
             let (statement, known, wanted) = columns(row)?;
             let need = need_of(&instruction(statement)?, &facts(known)?)?;
-            assert_eq!(rt; kinds_text(rt.alloc(), &need)?.as_str(), wanted, "{row}");
+            same_at(&rt, kinds_text(rt.alloc(), &need)?.as_str(), wanted, row);
         }
     }
     Ok(())
@@ -258,7 +259,7 @@ fn needs_of_instructions(rt: HostRuntime) -> Result<(), Fail> {
     for row in NEEDS.lines().chain(FAULTING.lines()) {
         let (statement, known, wanted) = columns(row)?;
         let need = need_of(&instruction(statement)?, &facts(known)?)?;
-        assert_eq!(rt; need_text(rt.alloc(), &need)?.as_str(), wanted, "{row}");
+        same_at(&rt, need_text(rt.alloc(), &need)?.as_str(), wanted, row);
     }
     Ok(())
 }
@@ -273,7 +274,7 @@ fn needs_of_other_records(rt: HostRuntime) -> Result<(), Fail> {
         (entry_need(1), "Ctl 0 8000FFFF 0+0 24 barrier"),
     ];
     for (need, wanted) in rows {
-        assert_eq!(rt; need_text(rt.alloc(), &need)?.as_str(), wanted);
+        same(&rt, need_text(rt.alloc(), &need)?.as_str(), wanted);
     }
     Ok(())
 }
