@@ -1,4 +1,5 @@
 //! Start-up, worked out by hand.
+use crate::check::{must_at, same};
 use i9_boot::{CONTROL_WORDS, Setup, boot, control_group, reinit};
 use i9_memory::Memory;
 use i9_watch::Watch;
@@ -139,6 +140,15 @@ fn watch(alloc: Global, frames: &[u32]) -> Result<Watch, Fail> {
     Ok(watch)
 }
 
+/// A memory with boot bytes, a boot record and tables.
+fn bootable(alloc: Global, prcb: u32, table: u32) -> Result<Memory, Fail> {
+    let mut memory = Memory::new(alloc);
+    put_boot_bytes(&mut memory, [0xFF, 0x7F, 0x80, 0x01])?;
+    put_words(&mut memory, 0xFFFF_FF10, &[0x0000_1236, prcb])?;
+    put_tables(&mut memory, prcb, table, &CONTROL)?;
+    Ok(memory)
+}
+
 #[test]
 fn boots(rt: HostRuntime) -> Result<(), Fail> {
     // Tables may run on from the last address to 0.
@@ -149,16 +159,24 @@ fn boots(rt: HostRuntime) -> Result<(), Fail> {
         (0x2000, 0xFFFF_FFC0),
     ];
     for (prcb, table) in rows {
-        let mut memory = Memory::new(rt.alloc());
-        put_boot_bytes(&mut memory, [0xFF, 0x7F, 0x80, 0x01])?;
-        put_words(&mut memory, 0xFFFF_FF10, &[0x0000_1236, prcb])?;
-        put_tables(&mut memory, prcb, table, &CONTROL)?;
-        assert_eq!(rt; boot(&mut memory), wanted(0x0000_1236, table));
-        assert!(rt; is_configured(&memory), "prcb {prcb}, table {table}");
-        assert_eq!(rt; memory.byte(0xFFFF_FF04), 0x7F);
-        assert_eq!(rt; memory.byte(prcb.wrapping_add(9)), 0x6E);
+        let mut memory = bootable(rt.alloc(), prcb, table)?;
+        same(&rt, boot(&mut memory), wanted(0x0000_1236, table));
+        must_at(&rt, is_configured(&memory), (prcb, table));
+        let bytes = [memory.byte(0xFFFF_FF04), memory.byte(prcb.wrapping_add(9))];
+        same(&rt, bytes, [0x7F, 0x6E]);
     }
     Ok(())
+}
+
+/// A memory with these boot bytes, and a boot record with PRCBs for either order.
+fn of_both_orders(alloc: Global, bytes: [u8; 4]) -> Result<Memory, Fail> {
+    let mut memory = Memory::new(alloc);
+    put_boot_bytes(&mut memory, bytes)?;
+    put_bytes(&mut memory, 0xFFFF_FF10, &[0x12, 0x34, 0x56, 0x78])?;
+    put_bytes(&mut memory, 0xFFFF_FF14, &[0xFF, 0xFF, 0x00, 0x00])?;
+    put_bytes(&mut memory, 0xFFFF_0000, &[0x01, 0x02, 0x03, 0x04])?;
+    put_bytes(&mut memory, 0x0000_FFFF, &[0x05, 0x06, 0x07, 0x08])?;
+    Ok(memory)
 }
 
 #[test]
@@ -174,16 +192,10 @@ fn boot_bytes_give_the_order(rt: HostRuntime) -> Result<(), Fail> {
         ([0xFF, 0xFF, 0xFF, 0xFF], 0x1234_5678, 0x0102_0304),
     ];
     for (bytes, first, fault_table) in rows {
-        let mut memory = Memory::new(rt.alloc());
-        put_boot_bytes(&mut memory, bytes)?;
-        put_bytes(&mut memory, 0xFFFF_FF10, &[0x12, 0x34, 0x56, 0x78])?;
-        put_bytes(&mut memory, 0xFFFF_FF14, &[0xFF, 0xFF, 0x00, 0x00])?;
-        put_bytes(&mut memory, 0xFFFF_0000, &[0x01, 0x02, 0x03, 0x04])?;
-        put_bytes(&mut memory, 0x0000_FFFF, &[0x05, 0x06, 0x07, 0x08])?;
+        let mut memory = of_both_orders(rt.alloc(), bytes)?;
         let setup = boot(&mut memory);
-        assert_eq!(rt; (setup.first, setup.fault_table), (first, fault_table));
-        assert!(rt; !memory.big(15));
-        assert_eq!(rt; memory.waits(15, true), 0);
+        same(&rt, (setup.first, setup.fault_table), (first, fault_table));
+        same(&rt, (memory.big(15), memory.waits(15, true)), (false, 0));
     }
     Ok(())
 }
@@ -205,10 +217,9 @@ fn configures_after_all_words(rt: HostRuntime) -> Result<(), Fail> {
         } else {
             reinit(&mut memory, &watch, 0x1230, 0x2000)
         };
-        assert_eq!(rt; setup.map(|s| s.control), Ok(control));
-        assert!(rt; memory.big(0));
-        assert_eq!(rt; memory.word(0x3024), 0x0403_0201);
-        assert_eq!(rt; memory.word(0x306C), 0x0807_0605);
+        same(&rt, setup.map(|s| s.control), Ok(control));
+        let held = (memory.big(0), memory.word(0x3024), memory.word(0x306C));
+        same(&rt, held, (true, 0x0403_0201, 0x0807_0605));
     }
     Ok(())
 }
@@ -228,11 +239,12 @@ fn starts_anew(rt: HostRuntime) -> Result<(), Fail> {
         let mut memory = Memory::new(rt.alloc());
         memory.configure(1, BIG_ENDIAN);
         put_tables(&mut memory, prcb, table, &CONTROL)?;
-        assert_eq!(rt;
+        same(
+            &rt,
             reinit(&mut memory, &watch, 0x1236, prcb),
-            Ok(wanted(0x1236, table))
+            Ok(wanted(0x1236, table)),
         );
-        assert!(rt; is_configured(&memory), "prcb {prcb}, table {table}");
+        must_at(&rt, is_configured(&memory), (prcb, table));
     }
     Ok(())
 }
@@ -255,7 +267,7 @@ fn reads_images(rt: HostRuntime) -> Result<(), Fail> {
         put_words(&mut memory, 0x2008, &[image])?;
         put_words(&mut memory, 0x2024, &[cache])?;
         let setup = reinit(&mut memory, &watch, 0, 0x2000);
-        assert_eq!(rt; setup.map(|s| (s.ac, s.sets)), Ok((ac, sets)));
+        same(&rt, setup.map(|s| (s.ac, s.sets)), Ok((ac, sets)));
     }
     Ok(())
 }
@@ -282,9 +294,9 @@ fn refuses_soft_tables(rt: HostRuntime) -> Result<(), Fail> {
         let mut memory = Memory::new(rt.alloc());
         memory.configure(2, 0x0001_F008);
         put_tables(&mut memory, prcb, table, &CONTROL)?;
-        assert_eq!(rt; reinit(&mut memory, &watch, 0, prcb), Err(hazard));
-        assert!(rt; !memory.big(1));
-        assert_eq!(rt; (memory.waits(2, false), memory.waits(2, true)), (1, 31));
+        same(&rt, reinit(&mut memory, &watch, 0, prcb), Err(hazard));
+        let left = (memory.big(1), memory.waits(2, false), memory.waits(2, true));
+        same(&rt, left, (false, 1, 31));
     }
     Ok(())
 }
@@ -305,7 +317,11 @@ fn reads_control_groups(rt: HostRuntime) -> Result<(), Fail> {
                 CONTROL[first + 2],
                 CONTROL[first + 3],
             ];
-            assert_eq!(rt; control_group(&memory, &watch, table, group), Ok(wanted));
+            same(
+                &rt,
+                control_group(&memory, &watch, table, group),
+                Ok(wanted),
+            );
         }
     }
     Ok(())
@@ -315,15 +331,19 @@ fn reads_control_groups(rt: HostRuntime) -> Result<(), Fail> {
 fn refuses_soft_control_groups(rt: HostRuntime) -> Result<(), Fail> {
     let memory = Memory::new(rt.alloc());
     let watch = watch(rt.alloc(), &[0x3060, 0xFFFF_FFF0])?;
-    assert_eq!(rt; control_group(&memory, &watch, 0x3000, 6), Err(0x3060));
-    assert_eq!(rt; control_group(&memory, &watch, 0x3000, 5), Ok([0; 4]));
-    assert_eq!(rt; control_group(&memory, &watch, 0x3008, 5), Err(0x3060));
-    assert_eq!(rt; control_group(&memory, &watch, 0x3090, 1), Ok([0; 4]));
-    assert_eq!(rt; control_group(&memory, &watch, 0x309F, 0), Err(0x309F));
-    assert_eq!(rt;
-        control_group(&memory, &watch, 0xFFFF_FFC8, 2),
-        Err(0xFFFF_FFF0)
-    );
-    assert_eq!(rt; control_group(&memory, &watch, 0xFFFF_FFC0, 4), Err(0));
+    let rows: [(u32, u8, Result<[u32; 4], u32>); 7] = [
+        (0x3000, 6, Err(0x3060)),
+        (0x3000, 5, Ok([0; 4])),
+        (0x3008, 5, Err(0x3060)),
+        (0x3090, 1, Ok([0; 4])),
+        (0x309F, 0, Err(0x309F)),
+        (0xFFFF_FFC8, 2, Err(0xFFFF_FFF0)),
+        (0xFFFF_FFC0, 4, Err(0)),
+    ];
+    for (table, group, wanted) in rows {
+        if group < 7 {
+            same(&rt, control_group(&memory, &watch, table, group), wanted);
+        }
+    }
     Ok(())
 }

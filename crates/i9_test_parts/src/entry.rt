@@ -1,4 +1,5 @@
 //! Entries, worked out by hand.
+use crate::check::{same, same_at};
 use crate::rows::{columns, hex_words};
 use i9_entry::{
     Push, Sys, enter_here, enter_system, in_supervisor_mode, read_word, record_write_hazard,
@@ -83,10 +84,13 @@ fn reads_controls(rt: HostRuntime) {
         (0xFFFF_FFFC, false, 0, 0xFFFF_FFFD, 0xFFFF_FFFC),
     ];
     for (pc, is_supervisor, trace, traced, untraced) in rows {
-        assert_eq!(rt; in_supervisor_mode(pc), is_supervisor);
-        assert_eq!(rt; trace_enable(pc), trace);
-        assert_eq!(rt; without_supervisor(pc, 1), traced);
-        assert_eq!(rt; without_supervisor(pc, 0), untraced);
+        same(
+            &rt,
+            (in_supervisor_mode(pc), trace_enable(pc)),
+            (is_supervisor, trace),
+        );
+        let left = [without_supervisor(pc, 1), without_supervisor(pc, 0)];
+        same(&rt, left, [traced, untraced]);
     }
 }
 
@@ -108,7 +112,7 @@ fn reads_words(rt: HostRuntime) -> Result<(), Fail> {
         (0x2004, Err(0x2004)),
     ];
     for (a, wanted) in rows {
-        assert_eq!(rt; read_word(&memory, &watch, a), wanted);
+        same(&rt, read_word(&memory, &watch, a), wanted);
     }
     Ok(())
 }
@@ -138,7 +142,7 @@ fn enters_above_a_record(rt: HostRuntime) -> Result<(), Fail> {
     for row in ENTRIES.lines() {
         let (given, wanted) = columns(row)?;
         let text = above_text(rt.alloc(), &watch, given)?;
-        assert_eq!(rt; text.as_str(), wanted, "{row}");
+        same_at(&rt, text.as_str(), wanted, row);
     }
     Ok(())
 }
@@ -180,13 +184,13 @@ fn enters_by_the_table(rt: HostRuntime) -> Result<(), Fail> {
         let (given, wanted) = columns(row)?;
         let (n, pc) = two_numbers(rt.alloc(), given)?;
         let planned = enter_system(&memory, &watch, 0xB00, n, pc, 0x3004, 0x3051, 0, 0, 3);
-        assert_eq!(rt; entry_text(rt.alloc(), planned)?.as_str(), wanted, "{row}");
+        same_at(&rt, entry_text(rt.alloc(), planned)?.as_str(), wanted, row);
     }
     for row in FAULTS.lines() {
         let (given, wanted) = columns(row)?;
         let (n, pc) = two_numbers(rt.alloc(), given)?;
         let planned = enter_system(&memory, &watch, 0xB00, n, pc, 0x3004, 0x3051, 16, 1, 1);
-        assert_eq!(rt; entry_text(rt.alloc(), planned)?.as_str(), wanted, "{row}");
+        same_at(&rt, entry_text(rt.alloc(), planned)?.as_str(), wanted, row);
     }
     Ok(())
 }
@@ -223,7 +227,7 @@ fn meets_hazards_in_order(rt: HostRuntime) -> Result<(), Fail> {
     for row in HAZARDS.lines() {
         let (given, wanted) = columns(row)?;
         let text = left_text(rt.alloc(), &memory, given)?;
-        assert_eq!(rt; text.as_str(), wanted, "{row}");
+        same_at(&rt, text.as_str(), wanted, row);
     }
     Ok(())
 }
@@ -254,7 +258,7 @@ fn tells_switches_of_stacks(rt: HostRuntime) -> Result<(), Fail> {
     for row in SWITCHES.lines() {
         let (given, wanted) = columns(row)?;
         let text = switch_text(rt.alloc(), &memory, given)?;
-        assert_eq!(rt; text.as_str(), wanted, "{row}");
+        same_at(&rt, text.as_str(), wanted, row);
     }
     Ok(())
 }
@@ -300,7 +304,7 @@ fn finds_records_in_the_way(rt: HostRuntime) -> Result<(), Fail> {
     for row in RECORDS.lines() {
         let (given, wanted) = columns(row)?;
         let text = record_text(rt.alloc(), &watch, given)?;
-        assert_eq!(rt; text.as_str(), wanted, "{row}");
+        same_at(&rt, text.as_str(), wanted, row);
     }
     Ok(())
 }

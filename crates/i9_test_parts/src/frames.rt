@@ -1,4 +1,5 @@
 //! Frames in sets, worked out by hand.
+use crate::check::must_at;
 use i9_frames::{Frame, Sets};
 use std::test::Fail;
 
@@ -100,7 +101,7 @@ fn holds_the_youngest_frames(rt: HostRuntime) -> Result<(), Fail> {
         for (index, step) in story.iter().enumerate() {
             // Each step is done to a copy of what the steps before it left.
             sets = sets.copy(rt.alloc())?;
-            assert!(rt; does(&mut sets, *step), "story {number}, step {index}");
+            must_at(&rt, does(&mut sets, *step), (number, index));
         }
     }
     Ok(())

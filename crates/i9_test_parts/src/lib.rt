@@ -5,6 +5,8 @@
 #[cfg(test)]
 mod boot;
 #[cfg(test)]
+mod check;
+#[cfg(test)]
 mod entry;
 #[cfg(test)]
 mod frames;

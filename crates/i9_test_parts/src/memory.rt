@@ -1,5 +1,7 @@
 //! Copies of memory, worked out by hand.
+use crate::check::{same, same_at};
 use i9_memory::Memory;
+use std::alloc::Global;
 use std::test::Fail;
 
 /// Bit 22 of a configuration word, which makes its region big-endian.
@@ -12,20 +14,33 @@ fn put(memory: &mut Memory, a: u32, byte: u8) -> Result<(), Fail> {
     Ok(())
 }
 
-// The word 01020304 stands across two pages of region 1, which is big-endian. Then 7 is written to its first byte, and 8
-// to its last one in the copy, whose region 1 is made little-endian.
-#[test]
-fn copies_are_apart(rt: HostRuntime) -> Result<(), Fail> {
-    let mut memory = Memory::new(rt.alloc());
+/// A memory with a word across two pages of region 1, which is big-endian, and a byte at the last address.
+fn across_pages(alloc: Global) -> Result<Memory, Fail> {
+    let mut memory = Memory::new(alloc);
     memory.configure(1, BIG_ENDIAN);
     memory.reserve(0x1000_00FE, 4)?;
     memory.put_word(0x1000_00FE, 0x0102_0304);
     put(&mut memory, 0xFFFF_FFFF, 5)?;
+    Ok(memory)
+}
+
+/// A memory and its copy, with a byte of each changed behind that, and the order of a region of the copy.
+fn changed(memory: Memory) -> Result<(Memory, Memory), Fail> {
+    let mut memory = memory;
     let mut copy = memory.copy()?;
-    assert_eq!(rt; copy.word(0x1000_00FE), 0x0102_0304);
     put(&mut memory, 0x1000_00FE, 7)?;
     put(&mut copy, 0x1000_0101, 8)?;
     copy.configure(1, 0);
+    Ok((memory, copy))
+}
+
+// The word 01020304 stands across two pages of region 1, which is big-endian. Then 7 is written to its first byte, and 8
+// to its last one in the copy, whose region 1 is made little-endian.
+#[test]
+fn copies_are_apart(rt: HostRuntime) -> Result<(), Fail> {
+    let memory = across_pages(rt.alloc())?;
+    same(&rt, memory.copy()?.word(0x1000_00FE), 0x0102_0304);
+    let (memory, copy) = changed(memory)?;
     let rows = [
         (0x1000_00FD, 0, 0),
         (0x1000_00FE, 7, 1),
@@ -36,10 +51,10 @@ fn copies_are_apart(rt: HostRuntime) -> Result<(), Fail> {
         (0xFFFF_FFFF, 5, 5),
     ];
     for (address, byte, of_copy) in rows {
-        assert_eq!(rt; memory.byte(address), byte, "{address:X}");
-        assert_eq!(rt; copy.byte(address), of_copy, "{address:X} of the copy");
+        same_at(&rt, memory.byte(address), byte, address);
+        same_at(&rt, copy.byte(address), of_copy, ("of the copy", address));
     }
-    assert_eq!(rt; memory.word(0x1000_00FE), 0x0702_0304);
-    assert_eq!(rt; copy.word(0x1000_00FE), 0x0803_0201);
+    let words = [memory.word(0x1000_00FE), copy.word(0x1000_00FE)];
+    same(&rt, words, [0x0702_0304, 0x0803_0201]);
     Ok(())
 }

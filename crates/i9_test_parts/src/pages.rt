@@ -1,4 +1,5 @@
 //! Pages, put and found by hand.
+use crate::check::must_at;
 use i9_pages::PageTable;
 use std::test::Fail;
 
@@ -117,7 +118,7 @@ fn holds_pages(rt: HostRuntime) -> Result<(), Fail> {
             // Each step is done to a copy of what the steps before it left.
             table = table.copy()?;
             let is_right = does(&mut table, *step)?;
-            assert!(rt; is_right, "story {number}, step {index}");
+            must_at(&rt, is_right, (number, index));
         }
     }
     Ok(())
@@ -140,8 +141,8 @@ fn copies_are_apart(rt: HostRuntime) -> Result<(), Fail> {
         (Holds(0xFF_FFFF, 1), Lacks(0xFF_FFFF)),
     ];
     for (index, (step, of_copy)) in steps.iter().enumerate() {
-        assert!(rt; does(&mut table, *step)?, "step {index}");
-        assert!(rt; does(&mut copy, *of_copy)?, "step {index} of the copy");
+        must_at(&rt, does(&mut table, *step)?, index);
+        must_at(&rt, does(&mut copy, *of_copy)?, ("of the copy", index));
     }
     Ok(())
 }

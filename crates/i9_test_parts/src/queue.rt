@@ -1,6 +1,7 @@
 //! Requests that wait, what is stored, and what is read over it, worked out by hand.
 ghost use Rattle.std.specs.Prelude.{◌≡◌, ◌∷◌, []};
 
+use crate::check::{must, same, same_at};
 use crate::rows::{add, columns};
 use arrayvec::ArrayVec;
 use i9_memory::Memory;
@@ -87,14 +88,14 @@ const TAKEN: &str = "\
 #[test]
 fn forwards_the_youngest_store(rt: HostRuntime) -> Result<(), Fail> {
     let empty = queue_text(rt.alloc(), &Queue::new())?;
-    assert_eq!(rt; empty.as_str(), "0: none none none none none none none");
+    same(&rt, empty.as_str(), "0: none none none none none none none");
     let mut queue = waiting(REQUESTS)?;
     for row in TAKEN.lines() {
         let (turn, wanted) = columns(row)?;
         // The request is taken from a copy of what waits.
         queue = queue.copy();
         let text = taken_text(rt.alloc(), &mut queue, turn.parse::<u64>()?)?;
-        assert_eq!(rt; text.as_str(), wanted, "{row}");
+        same_at(&rt, text.as_str(), wanted, row);
     }
     Ok(())
 }
@@ -134,28 +135,35 @@ fn bytes_text(alloc: Global, behind: &Behind, addresses: &[u32]) -> Result<Strin
     Ok(text)
 }
 
-// A byte is that of the youngest waiting store to it, before and after some have landed; the port
-// page reads as 0.
-#[test]
-fn lands_stores(rt: HostRuntime) -> Result<(), Fail> {
-    let mut memory = Memory::new(rt.alloc());
+/// 6 at 1002, in memory whose region 1 is big-endian, and stores that wait: of 1 at 1000, of 5 in the port page, and of 9
+/// at 1000.
+fn of_three_bytes(alloc: Global) -> Result<Behind, Fail> {
+    let mut memory = Memory::new(alloc);
     memory.reserve(0x1002, 1)?;
     memory.put_byte(0x1002, 6);
     memory.configure(1, BIG_ENDIAN);
     let mut behind = Behind::new(memory);
-    assert!(rt; behind.big(1) && !behind.big(0));
     behind.reserve(0x1000, 1)?;
     behind.enqueue(store(0x1000, 1, 3));
     behind.reserve(0xE000_0000, 1)?;
     behind.enqueue(store(0xE000_0000, 5, 4));
     behind.reserve(0x1000, 1)?;
     behind.enqueue(store(0x1000, 9, 6));
+    Ok(behind)
+}
+
+// A byte is that of the youngest waiting store to it, before and after some have landed; the port
+// page reads as 0.
+#[test]
+fn lands_stores(rt: HostRuntime) -> Result<(), Fail> {
+    let mut behind = of_three_bytes(rt.alloc())?;
+    must(&rt, behind.big(1) && !behind.big(0));
     for turn in [0, 3, 5, 6] {
         behind = behind.copy()?;
         behind.land(turn);
         let places = [0x0FFF, 0x1000, 0x1001, 0x1002, 0xE000_0000];
         let text = bytes_text(rt.alloc(), &behind, &places)?;
-        assert_eq!(rt; text.as_str(), "0 9 0 6 0");
+        same(&rt, text.as_str(), "0 9 0 6 0");
     }
     Ok(())
 }
@@ -205,26 +213,37 @@ const LANDED: &str = "\
 5 | true 0 1 B1 6 C1
 ";
 
-// Memory holds 01 to 08 from 0FFFFFFA up, so the last two in the big-endian region 1. A store of A1 at
-// 0FFFFFFC waits until turn 3, one of B1 there and one of C1 at 10000001 until turn 5.
-#[test]
-fn reads_words_over_what_waits(rt: HostRuntime) -> Result<(), Fail> {
-    let mut memory = memory(rt.alloc());
+/// Memory and the three stores that wait.
+fn over_a_border(alloc: Global) -> Result<Behind, Fail> {
+    let mut memory = memory(alloc);
     memory.load(0x0FFF_FFFA, b"\x01\x02\x03\x04\x05\x06\x07\x08")?;
     let mut behind = Behind::new(memory);
-    assert_eq!(rt; (behind.is_drained(), behind.waits(1, false)), (true, 0));
     behind.reserve(0x0FFF_FFFC, 1)?;
     behind.enqueue(store(0x0FFF_FFFC, 0xA1, 3));
     behind.reserve(0x0FFF_FFFC, 1)?;
     behind.enqueue(store(0x0FFF_FFFC, 0xB1, 5));
     behind.reserve(0x1000_0001, 1)?;
     behind.enqueue(store(0x1000_0001, 0xC1, 5));
+    Ok(behind)
+}
+
+// Memory holds 01 to 08 from 0FFFFFFA up, so the last two in the big-endian region 1. A store of A1 at
+// 0FFFFFFC waits until turn 3, one of B1 there and one of C1 at 10000001 until turn 5.
+#[test]
+fn reads_words_over_what_waits(rt: HostRuntime) -> Result<(), Fail> {
+    let drained = Behind::new(memory(rt.alloc()));
+    same(
+        &rt,
+        (drained.is_drained(), drained.waits(1, false)),
+        (true, 0),
+    );
+    let mut behind = over_a_border(rt.alloc())?;
     for row in LANDED.lines() {
         let (turn, held) = columns(row)?;
         behind.land(turn.parse::<u64>()?);
         let wanted = format!(in rt.alloc(); "{held}, {READS}")?;
         let text = reads_text(rt.alloc(), &behind)?;
-        assert_eq!(rt; text.as_str(), wanted.as_str(), "{row}");
+        same_at(&rt, text.as_str(), wanted.as_str(), row);
     }
     Ok(())
 }
@@ -294,10 +313,11 @@ fn stores_values(rt: HostRuntime) -> Result<(), Fail> {
     let memory = memory(rt.alloc());
     for row in STORES.lines().chain(STORES_OVER_AN_END.lines()) {
         let (text, wanted) = columns(row)?;
-        assert_eq!(rt;
+        same_at(
+            &rt,
             stored_text(rt.alloc(), &memory, text)?.as_str(),
             wanted,
-            "{row}"
+            row,
         );
     }
     Ok(())
@@ -398,7 +418,7 @@ fn sees_what_waits(rt: HostRuntime) -> Result<(), Fail> {
         for row in loads.lines() {
             let (text, wanted) = columns(row)?;
             let seen = seen_text(rt.alloc(), &queue, &memory, text)?;
-            assert_eq!(rt; seen.as_str(), wanted, "{row}");
+            same_at(&rt, seen.as_str(), wanted, row);
         }
     }
     Ok(())

@@ -1,3 +1,4 @@
+use crate::check::same;
 use i9_regs::File;
 
 /// The value at a turn, the latest value, and whether the resource is busy at another turn.
@@ -36,7 +37,11 @@ fn lands_values(rt: HostRuntime) {
     file.plan(0, 1, 8);
     for (landed, r, turn, value, latest, busy) in rows {
         file = file.copy();
-        assert_eq!(rt; shown(&file, r, landed, turn), Some((value, latest, busy)));
+        same(
+            &rt,
+            shown(&file, r, landed, turn),
+            Some((value, latest, busy)),
+        );
     }
 }
 
@@ -72,7 +77,11 @@ fn issues_values(rt: HostRuntime) {
     file.issue(0x1_0001_0030, 6, 4, &[8, 9], 1);
     file.plan(17, 11, 3);
     for (landed, r, turn, value, latest, busy) in rows {
-        assert_eq!(rt; shown(&file, r, landed, turn), Some((value, latest, busy)));
+        same(
+            &rt,
+            shown(&file, r, landed, turn),
+            Some((value, latest, busy)),
+        );
     }
 }
 
@@ -99,7 +108,11 @@ fn enters_a_frame(rt: HostRuntime) {
     let locals = [0x20, 9, 0, 0, 0, 0, 0, 0, 0, 0, 0, 0, 0, 0, 0, 0];
     file.issue_frame(0x8000_FFFF, 4, &locals, 0x40, 1);
     for (landed, r, turn, value, latest, busy) in rows {
-        assert_eq!(rt; shown(&file, r, landed, turn), Some((value, latest, busy)));
+        same(
+            &rt,
+            shown(&file, r, landed, turn),
+            Some((value, latest, busy)),
+        );
     }
 }
 
@@ -122,6 +135,10 @@ fn amends_what_was_planned(rt: HostRuntime) {
     let locals = [0, 0, 0, 0, 7, 0, 0, 0, 0, 0, 0, 0, 0, 0, 0, 0];
     file.amend_frame(0x1_8000_FFFF, 4, &locals, 0x40, 1);
     for (landed, r, turn, value, latest, busy) in rows {
-        assert_eq!(rt; shown(&file, r, landed, turn), Some((value, latest, busy)));
+        same(
+            &rt,
+            shown(&file, r, landed, turn),
+            Some((value, latest, busy)),
+        );
     }
 }

@@ -1,4 +1,5 @@
 //! Copies of marks, worked out by hand.
+use crate::check::{same, same_at};
 use i9_watch::Watch;
 use std::test::Fail;
 
@@ -49,12 +50,17 @@ fn copies_are_apart(rt: HostRuntime) -> Result<(), Fail> {
         (0x110, (false, false, false), (false, false, false)),
     ];
     for (address, marks, of_copy) in rows {
-        assert_eq!(rt; shown(&watch, address), marks, "{address:X}");
-        assert_eq!(rt; shown(&copy, address), of_copy, "{address:X} of the copy");
+        same_at(&rt, shown(&watch, address), marks, address);
+        same_at(
+            &rt,
+            shown(&copy, address),
+            of_copy,
+            ("of the copy", address),
+        );
     }
     let live = [watch.live_at(0), watch.live_at(1), watch.live_at(2)];
-    assert_eq!(rt; live, [Some(0x40), None, None]);
+    same(&rt, live, [Some(0x40), None, None]);
     let live = [copy.live_at(0), copy.live_at(1), copy.live_at(2)];
-    assert_eq!(rt; live, [Some(0xD0), Some(0x80), Some(0x40)]);
+    same(&rt, live, [Some(0xD0), Some(0x80), Some(0x40)]);
     Ok(())
 }
