@@ -1,4 +1,5 @@
 //! The machine at images of a few instructions, worked out by hand.
+use crate::check::same_at;
 use crate::run::idle;
 use crate::script::{columns, told};
 use std::test::*;
@@ -59,7 +60,7 @@ fn goes_to_an_end(rt: HostRuntime) -> Result<(), Fail> {
     for row in STEPS.lines().chain(FAULT.lines()).chain(ENDS.lines()) {
         let (steps, wanted) = columns(row)?;
         let answers = told(rt.alloc(), &mut run, steps)?;
-        assert_eq!(rt; answers.as_str(), wanted, "{row}");
+        same_at(&rt, answers.as_str(), wanted, row);
     }
     Ok(())
 }
@@ -111,7 +112,7 @@ fn holds_frames(rt: HostRuntime) -> Result<(), Fail> {
     for row in FRAMES.lines().chain(NESTED.lines()).chain(ANEW.lines()) {
         let (steps, wanted) = columns(row)?;
         let answers = told(rt.alloc(), &mut run, steps)?;
-        assert_eq!(rt; answers.as_str(), wanted, "{row}");
+        same_at(&rt, answers.as_str(), wanted, row);
     }
     Ok(())
 }
@@ -170,7 +171,7 @@ fn meets_events_and_settles(rt: HostRuntime) -> Result<(), Fail> {
     for row in EVENTS.lines().chain(MOVES.lines()).chain(SETTLES.lines()) {
         let (steps, wanted) = columns(row)?;
         let answers = told(rt.alloc(), &mut run, steps)?;
-        assert_eq!(rt; answers.as_str(), wanted, "{row}");
+        same_at(&rt, answers.as_str(), wanted, row);
     }
     Ok(())
 }

@@ -3,6 +3,7 @@ ghost use Rattle.std.specs.Prelude.{◌≡◌, ◌≤◌};
 ghost use Rattle.i9_model.specs.declared.layout.TheConstants.{MAX_LENGTH};
 ghost use Rattle.i9_machine.specs.InRun.{IsInRun};
 
+use crate::check::{must_at, same, same_at};
 use crate::run::{Run, idle, image_of, settle, step};
 use crate::script::{columns, told};
 use crate::told::{add, answer, turn_text};
@@ -43,9 +44,9 @@ fn stored(alloc: Global, machine: &Machine) -> Result<String, Fail> {
 fn memory_grows_with_the_pages_that_are_touched(rt: HostRuntime) -> Result<(), Fail> {
     // With all bytes from the first to the second these machines would hold 2 TiB.
     let machines = far_apart(rt.alloc(), 1000)?;
-    assert_eq!(rt; machines.len(), 1000);
+    same(&rt, machines.len(), 1000);
     for machine in &machines {
-        assert_eq!(rt; stored(rt.alloc(), machine)?.as_str(), "7, 7 9, 7 9");
+        same(&rt, stored(rt.alloc(), machine)?.as_str(), "7, 7 9, 7 9");
     }
     Ok(())
 }
@@ -86,8 +87,8 @@ fn a_length_takes_no_memory(rt: HostRuntime) -> Result<(), Fail> {
     let before = pages_held(&rt)?;
     let machines = machines_of(rt.alloc(), &image, MAX_LENGTH, 200)?;
     let taken = pages_held(&rt)?.saturating_sub(before);
-    assert_eq!(rt; machines.len(), 200);
-    assert!(rt; taken < 200 * 25, "{taken} pages");
+    same(&rt, machines.len(), 200);
+    must_at(&rt, taken < 200 * 25, taken);
     Ok(())
 }
 
@@ -150,7 +151,7 @@ call f; f: sysctl  | image 1000 9000004 8C880300 8C903000 1200 8C980C00 659C8491
 fn runs_go_on_behind_refused_memory(rt: HostRuntime) -> Result<(), Fail> {
     for row in ROWS.lines() {
         let (steps, wanted) = columns(row)?;
-        assert_eq!(rt; gone_through(rt.alloc(), steps)?.as_str(), wanted, "{row}");
+        same_at(&rt, gone_through(rt.alloc(), steps)?.as_str(), wanted, row);
     }
     Ok(())
 }

@@ -1,4 +1,5 @@
 //! Whole turns of the machine and what is raw at them, worked out by hand.
+use crate::check::same_at;
 use crate::run::idle;
 use crate::script::{columns, told};
 use std::test::*;
@@ -43,7 +44,7 @@ fn issues_three_in_a_turn(rt: HostRuntime) -> Result<(), Fail> {
     for row in PACKET.lines().chain(REQUESTS.lines()) {
         let (steps, wanted) = columns(row)?;
         let answers = told(rt.alloc(), &mut run, steps)?;
-        assert_eq!(rt; answers.as_str(), wanted, "{row}");
+        same_at(&rt, answers.as_str(), wanted, row);
     }
     Ok(())
 }
@@ -99,7 +100,7 @@ fn memory_shows_what_is_done(rt: HostRuntime) -> Result<(), Fail> {
     for row in MEMORY.lines().chain(LOADS.lines()) {
         let (steps, wanted) = columns(row)?;
         let answers = told(rt.alloc(), &mut run, steps)?;
-        assert_eq!(rt; answers.as_str(), wanted, "{row}");
+        same_at(&rt, answers.as_str(), wanted, row);
     }
     Ok(())
 }
@@ -136,7 +137,7 @@ fn waits_for_what_is_open(rt: HostRuntime) -> Result<(), Fail> {
     for row in WAITING.lines().chain(PASSED.lines()) {
         let (steps, wanted) = columns(row)?;
         let answers = told(rt.alloc(), &mut run, steps)?;
-        assert_eq!(rt; answers.as_str(), wanted, "{row}");
+        same_at(&rt, answers.as_str(), wanted, row);
     }
     Ok(())
 }
@@ -168,7 +169,7 @@ fn copies_go_on_by_themselves(rt: HostRuntime) -> Result<(), Fail> {
     for row in COPIES.lines() {
         let (steps, wanted) = columns(row)?;
         let answers = told(rt.alloc(), &mut run, steps)?;
-        assert_eq!(rt; answers.as_str(), wanted, "{row}");
+        same_at(&rt, answers.as_str(), wanted, row);
     }
     Ok(())
 }

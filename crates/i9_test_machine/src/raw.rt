@@ -3,6 +3,7 @@ ghost use Rattle.std.specs.Prelude.{◌≡◌, IfOk};
 ghost use Rattle.i9_model.specs.HeldFrames.{AreWhole};
 ghost use Rattle.i9_processor.specs.State.{cache_of};
 
+use crate::check::same_at;
 use crate::run::put_words;
 use crate::script::columns;
 use crate::told::{add, bytes_text};
@@ -96,7 +97,7 @@ fn hides_what_a_barrier_stores(rt: HostRuntime) -> Result<(), Fail> {
         let (step, wanted) = columns(row)?;
         let (name, done) = step.split_once(" ").unwrap_or((step, ""));
         hides(&p, &mut shade, name, done.parse::<u64>()?)?;
-        assert_eq!(rt; shown(rt.alloc(), &shade)?.as_str(), wanted, "{row}");
+        same_at(&rt, shown(rt.alloc(), &shade)?.as_str(), wanted, row);
     }
     Ok(())
 }

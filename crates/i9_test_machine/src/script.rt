@@ -16,7 +16,7 @@ use crate::run::{
     Run, advance, copy, image_of, moves_and_step, proceed, put_words, settle, start, step, steps,
     turn, turns,
 };
-use crate::told::{add, answer, issue_text, lines_text, turn_text};
+use crate::told::{add, answer, counted_text, issue_text, lines_text, truth, turn_text};
 use std::alloc::Global;
 use std::test::Fail;
 
@@ -47,8 +47,7 @@ fn goes_on(alloc: Global, run: &mut Run, name: &str, rest: &str) -> Result<Strin
     match name {
         "most" => {
             let (most, last) = steps(run, rest.parse::<usize>()?);
-            let last = turn_text(alloc, last)?;
-            Ok(format!(in alloc; "{most} {last}")?)
+            counted_text(alloc, u64::from(most), last)
         }
         "end" => turn_text(alloc, steps(run, 201).1),
         "lines?" => tell_lines(alloc, run),
@@ -59,7 +58,7 @@ fn goes_on(alloc: Global, run: &mut Run, name: &str, rest: &str) -> Result<Strin
             }
             None => Err("no machine was copied".into()),
         },
-        "planned?" => Ok(format!(in alloc; "{}", run.plan.next().is_some())?),
+        "planned?" => truth(alloc, run.plan.next().is_some()),
         _ => answer(alloc, &run.machine, name, rest),
     }
 }
@@ -76,15 +75,48 @@ fn goes(alloc: Global, run: &mut Run, name: &str, rest: &str) -> Result<String, 
         "proceed" => turn_text(alloc, proceed(run)),
         "settle" => {
             let stays = settle(run);
-            Ok(format!(in alloc; "{stays}")?)
+            truth(alloc, stays)
         }
         "issue" => issue_text(alloc, step(run)),
         "moves" => {
             let (moves, last) = moves_and_step(run);
-            let last = turn_text(alloc, last)?;
-            Ok(format!(in alloc; "{moves} {last}")?)
+            counted_text(alloc, moves, last)
         }
         _ => goes_on(alloc, run, name, rest),
+    }
+}
+
+/// Does a step that answers nothing, where it is one.
+fn changes(alloc: Global, run: &mut Run, name: &str, rest: &str) -> Result<bool, Fail>
+    requires { IsInRun run.old.machine run.old.plan }
+    ensures { IsInRun run.new.machine run.new.plan }
+{
+    match name {
+        "image" => {
+            run.image = image_of(alloc, rest)?;
+            Ok(true)
+        }
+        "put" => {
+            put_words(alloc, &mut run.image, rest)?;
+            Ok(true)
+        }
+        "run" => {
+            start(alloc, run, rest)?;
+            Ok(true)
+        }
+        "copy" => {
+            copy(alloc, run)?;
+            Ok(true)
+        }
+        "steps" => {
+            let _ = steps(run, rest.parse::<usize>()?);
+            Ok(true)
+        }
+        "turns" => {
+            turns(run, rest.parse::<usize>()?);
+            Ok(true)
+        }
+        _ => Ok(false),
     }
 }
 
@@ -93,34 +125,10 @@ fn does(alloc: Global, run: &mut Run, name: &str, rest: &str) -> Result<String, 
     requires { IsInRun run.old.machine run.old.plan }
     ensures { IsInRun run.new.machine run.new.plan }
 {
-    let nothing = String::new(alloc);
-    match name {
-        "image" => {
-            run.image = image_of(alloc, rest)?;
-            Ok(nothing)
-        }
-        "put" => {
-            put_words(alloc, &mut run.image, rest)?;
-            Ok(nothing)
-        }
-        "run" => {
-            start(alloc, run, rest)?;
-            Ok(nothing)
-        }
-        "copy" => {
-            copy(alloc, run)?;
-            Ok(nothing)
-        }
-        "steps" => {
-            let _ = steps(run, rest.parse::<usize>()?);
-            Ok(nothing)
-        }
-        "turns" => {
-            turns(run, rest.parse::<usize>()?);
-            Ok(nothing)
-        }
-        _ => goes(alloc, run, name, rest),
+    if changes(alloc, run, name, rest)? {
+        return Ok(String::new(alloc));
     }
+    goes(alloc, run, name, rest)
 }
 
 /// Does the steps of a row, and tells what they answer.
