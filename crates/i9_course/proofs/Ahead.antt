@@ -15,7 +15,7 @@ use Rattle.i9_model.specs.Turns.{CanIssue, last_issue, end_turn, waiting_until}
 use Rattle.i9_model.specs.Late.{Late, turns}
 use Rattle.i9_turns.proofs.TurnWhole.{timed-issues}
 use Rattle.i9_course.specs.NeedOf.{stands_alone, need_of, need_ahead}
-use Rattle.i9_course.specs.Course.{Item, Mark, records_of, course, need_after, issue_of_next, instruction_ahead, late_fault, last_fault, last_done, is_overtaken, imprecise_at, to_issue, ahead}
+use Rattle.i9_course.specs.Course.{Item, Fence, records_of, course, need_after, issue_of_next, instruction_ahead, late_fault, last_fault, last_done, is_overtaken, imprecise_at, to_issue, ahead}
 use Rattle.i9_course.proofs.Timed.{course_timed}
 use Rattle.i9_course.proofs.Barriers.{waits_for_all, last_reached, next_by_end}
 
@@ -25,19 +25,19 @@ use Rattle.i9_course.proofs.Barriers.{waits_for_all, last_reached, next_by_end}
 abbrev pub MayIssue : Given → List Item → Next → ℕ → Type 0
 MayIssue g h o t =
     let rs = turns (course g h).late in
-    CanIssue (last_issue rs) rs (waiting_until (course g h).mark (need_after g h o)) t
+    CanIssue (last_issue rs) rs (waiting_until (course g h).fence (need_after g h o)) t
 
 next_can : (g : Given) (h : List Item) (o : Next) → MayIssue g h o (issue_of_next g h o)
-next_can g h o = (timed-issues (turns (course g h).late) (waiting_until (course g h).mark (need_after g h o))
+next_can g h o = (timed-issues (turns (course g h).late) (waiting_until (course g h).fence (need_after g h o))
     (course_timed g h)).can
 
 pub ahead_later : (g : Given) (h : List Item) → last_issue (turns (course g h).late) ≤ (ahead g h).turn
 ahead_later g h = (next_can g h (to_issue g h (imprecise_at g h))).in_order
 
-pub ahead_marked : (g : Given) (h : List Item) → (course g h).mark ≤ (ahead g h).turn
-ahead_marked g h =
+pub ahead_fenced : (g : Given) (h : List Item) → (course g h).fence ≤ (ahead g h).turn
+ahead_fenced g h =
     let o = to_issue g h (imprecise_at g h) in
-    let waited : max (course g h).mark (need_after g h o).not_before ≤ (ahead g h).turn = (next_can g h o).waited in
+    let waited : max (course g h).fence (need_after g h o).not_before ≤ (ahead g h).turn = (next_can g h o).waited in
     omega (arith, waited)
 
 -- where no fault is imprecise, the turn is that of what comes next, and there is room for it
@@ -113,14 +113,14 @@ pub precise_by : (g : Given) (h : List Item)
 precise_by g h le = none_overtaken (ltb (state_after g (records_of h)).count g.length) _ _
     (last_fault (records_of h)) le
 
--- so it does behind a mark
-pub marked_precise : (g : Given) (h : List Item) → (ahead g (Mark ∷ h)).imprecise ≡ None
-marked_precise g h =
+-- so it does behind a fence
+pub fenced_precise : (g : Given) (h : List Item) → (ahead g (Fence ∷ h)).imprecise ≡ None
+fenced_precise g h =
     let o = instruction_ahead (state_after g (records_of h)) in
-    let waited : max (end_turn (turns (course g h).late)) (need_after g (Mark ∷ h) o).not_before ≤ issue_of_next g
-    (Mark ∷ h) o = (next_can g (Mark ∷ h) o).waited in
+    let waited : max (end_turn (turns (course g h).late)) (need_after g (Fence ∷ h) o).not_before ≤ issue_of_next g
+    (Fence ∷ h) o = (next_can g (Fence ∷ h) o).waited in
     let reached : last_done (course g h).late ≤ end_turn (turns (course g h).late) = last_reached (course g h).late in
-    precise_by g (Mark ∷ h) (omega (arith, waited, reached))
+    precise_by g (Fence ∷ h) (omega (arith, waited, reached))
 
 -- and where bit 15 of AC or trace enable is set
 alone_need : (asked : Option ℕ) (c : Cache) (s : State) (x : Standing) → IsTrue (stands_alone s)
@@ -142,5 +142,5 @@ pub alone_precise : (g : Given) (h : List Item) → IsTrue (stands_alone (state_
 alone_precise g h alone =
     let s = state_after g (records_of h) in
     let o = instruction_ahead s in
-    precise_by g h (last_by (course g h).late (waiting_until (course g h).mark (need_after g h o))
+    precise_by g h (last_by (course g h).late (waiting_until (course g h).fence (need_after g h o))
     (issue_of_next g h o) (next_can g h o) (alone_need g.sets (cache_after g (records_of h)) s (stands_at s) alone))

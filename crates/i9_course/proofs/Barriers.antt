@@ -14,9 +14,9 @@ use Rattle.i9_turns.proofs.TurnDropped.{permits-done}
 use Rattle.i9_turns.proofs.TurnOpen.{timed-take_time}
 use Rattle.i9_turns.proofs.TurnComputed.{open_requests-cons, one-done}
 use Rattle.i9_turns.proofs.TurnWhole.{timed-issues}
-use Rattle.i9_turns.proofs.TurnMarks.{all-end, end-least}
+use Rattle.i9_turns.proofs.TurnFences.{all-end, end-least}
 use Rattle.i9_course.specs.NeedOf.{is_early, facts_of, need_of, is_barrier_kind}
-use Rattle.i9_course.specs.Course.{Item, Step, Mark, records_of, course, issue_after, late_after, need_after, issue_of_next, last_done}
+use Rattle.i9_course.specs.Course.{Item, Step, Fence, records_of, course, issue_after, late_after, need_after, issue_of_next, last_done}
 use Rattle.i9_course.proofs.Timed.{course_timed, course_costs}
 
 -- ---- of a list of needs with their turns
@@ -61,7 +61,7 @@ barrier_turn n rs h c b early =
     end-least rs _ (record { in_order = can.in_order; done = waits_for_all n _ rs (inl b) can.each }) in
     omega (arith, le, ge)
 
--- ---- marks
+-- ---- fences
 
 end_later : (r : TimedNeed) (rs : List TimedNeed) → last_issue rs ≤ r.issue → end_turn rs ≤ end_turn (r ∷ rs)
 end_later r rs le =
@@ -69,13 +69,13 @@ end_later r rs le =
     let order : r.issue ≤ end_turn (r ∷ rs) = all.in_order in
     end-least rs (end_turn (r ∷ rs)) (record { in_order = omega (arith, le, order); done = all.done.1 })
 
--- the last mark asks for no turn above that at which all is done
-pub mark_reached : (g : Given) (h : List Item) → (course g h).mark ≤ end_turn (turns (course g h).late)
-mark_reached g [] = omega arith
-mark_reached g (Mark ∷ h) = omega arith
-mark_reached g (Step r ∷ h) =
+-- the last fence asks for no turn above that at which all is done
+pub fence_reached : (g : Given) (h : List Item) → (course g h).fence ≤ end_turn (turns (course g h).late)
+fence_reached g [] = omega arith
+fence_reached g (Fence ∷ h) = omega arith
+fence_reached g (Step r ∷ h) =
     let x = late_after g h r in
-    let rest : (course g h).mark ≤ end_turn (turns (course g h).late) = mark_reached g h in
+    let rest : (course g h).fence ≤ end_turn (turns (course g h).late) = fence_reached g h in
     let more : end_turn (turns (course g h).late) ≤ end_turn (x.timed ∷ turns (course g h).late) =
     end_later x.timed (turns (course g h).late) (course_timed g (Step r ∷ h)).0.issue.can.in_order in
     omega (arith, rest, more)
@@ -90,8 +90,8 @@ last_reached (x ∷ xs) = (all-end (turns (x ∷ xs))).done.0
 pub barrier_after : (g : Given) (h : List Item) (n : Need) → IsTrue n.barrier → n.not_before ≡ 0
     → issue_after (course g h) n ≡ end_turn (turns (course g h).late)
 barrier_after g h n b none =
-    let reached = mark_reached g h in
-    barrier_turn (waiting_until (course g h).mark n) (turns (course g h).late) (course_timed g h) (course_costs g h) b
+    let reached = fence_reached g h in
+    barrier_turn (waiting_until (course g h).fence n) (turns (course g h).late) (course_timed g h) (course_costs g h) b
     (omega (arith, none, reached))
 
 need_unbound : (n : ℕ) (c : Cache) (s : State) (k : Kind) → (need_of n c s k).not_before ≡ 0
@@ -111,9 +111,9 @@ next_unbound g h (Ends f) = refl
 pub next_by_end : (g : Given) (h : List Item) (o : Next)
     → issue_of_next g h o ≤ end_turn (turns (course g h).late)
 next_by_end g h o =
-    let reached = mark_reached g h in
+    let reached = fence_reached g h in
     let none = next_unbound g h o in
-    issues_by_end (waiting_until (course g h).mark (need_after g h o)) (turns (course g h).late) (course_timed g h)
+    issues_by_end (waiting_until (course g h).fence (need_after g h o)) (turns (course g h).late) (course_timed g h)
     (course_costs g h) (omega (arith, none, reached))
 
 pub next_barrier : (g : Given) (h : List Item) (o : Next) → IsTrue (need_after g h o).barrier

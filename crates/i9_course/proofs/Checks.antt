@@ -16,9 +16,9 @@ use Rattle.i9_model.specs.Run.{Given, Kind, Instruction, Faulted, Entered, Inter
 use Rattle.i9_model.specs.Turns.{CanIssue, IsTimed, last_issue, end_turn}
 use Rattle.i9_model.specs.Needs.{is_barrier_name}
 use Rattle.i9_model.specs.Late.{turns}
-use Rattle.i9_turns.proofs.TurnMarks.{end-least}
+use Rattle.i9_turns.proofs.TurnFences.{end-least}
 use Rattle.i9_course.specs.NeedOf.{need_of}
-use Rattle.i9_course.specs.Course.{Item, Step, Mark, records_of, course, issue_of_next, event_ahead, ahead, IsCourse}
+use Rattle.i9_course.specs.Course.{Item, Step, Fence, records_of, course, issue_of_next, event_ahead, ahead, IsCourse}
 use Rattle.i9_course.proofs.Timed.{course_timed}
 use Rattle.i9_course.proofs.Barriers.{waits_for_all, kind_barrier}
 use Rattle.i9_course.proofs.Ahead.{ahead_precise, ahead_can, ahead_by_end}
@@ -85,7 +85,7 @@ step_barrier g h r c set =
 last_barrier : (g : Given) (h : List Item) → IsCourse g h → (state_after g (records_of h)).check ≡ true
     → IsLastBarrier (turns (course g h).late)
 last_barrier g [] c set = boot_check g.image set
-last_barrier g (Mark ∷ h) c set = last_barrier g h c set
+last_barrier g (Fence ∷ h) c set = last_barrier g h c set
 last_barrier g (Step r ∷ h) c set = step_barrier g h r c set
 
 done_later : (t u : ℕ) (rs : List TimedNeed) → t ≤ u → AllByRecursion (λ r. r.done ≤ t) rs

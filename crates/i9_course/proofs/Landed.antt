@@ -7,7 +7,7 @@ use Rattle.i9_model.specs.HeldFrames.{cache_after}
 use Rattle.i9_model.specs.Run.{Given, Record}
 use Rattle.i9_model.specs.Turns.{end_turn}
 use Rattle.i9_model.specs.Late.{Late, Wait, turns, wait_of, is_waiting, waiting, all_puts, RequestsDone, AllDone}
-use Rattle.i9_turns.proofs.TurnMarks.{all-end}
+use Rattle.i9_turns.proofs.TurnFences.{all-end}
 use Rattle.i9_model.proofs.Stored.{stored-none}
 use Rattle.i9_turns.proofs.LateMemories.{waiting-yes, waiting-no, none-wait, all-requests}
 use Rattle.i9_model.proofs.Queues.{AllBefore}

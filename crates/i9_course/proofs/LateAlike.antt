@@ -92,23 +92,23 @@ needs_cost : (g : Given) (rs : List Record) → HaveCosts (needs g rs)
 needs_cost g [] = tt
 needs_cost g (r ∷ rs) = (ahead_cost g.sets (cache_after g rs) (Does r), needs_cost g rs)
 
--- ---- with no mark between them
+-- ---- with no fence between them
 
 waits_none : (n : Need) → waiting_until 0 n ≡ n
 waits_none n =
     let same : max 0 n.not_before ≡ n.not_before = omega arith in
     ap (λ (t : ℕ). record n { not_before = t }) same
 
-no_mark : (g : Given) (rs : List Record) → (course g (steps rs)).mark ≡ 0
-no_mark g [] = refl
-no_mark g (r ∷ rs) = no_mark g rs
+no_fence : (g : Given) (rs : List Record) → (course g (steps rs)).fence ≡ 0
+no_fence g [] = refl
+no_fence g (r ∷ rs) = no_fence g rs
 
 pub steps_turns : (g : Given) (rs : List Record) → turns (course g (steps rs)).late ≡ timed (needs g rs)
 steps_turns g [] = refl
 steps_turns g (r ∷ rs) =
     let before = turns (course g (steps rs)).late in
     let need : List Record → Need = λ qs. record_need g.sets (cache_after g qs) r in
-    ap (λ (t : ℕ). with_need before (waiting_until t (need (records_of (steps rs))))) (no_mark g rs)
+    ap (λ (t : ℕ). with_need before (waiting_until t (need (records_of (steps rs))))) (no_fence g rs)
     ∙ ap (with_need before) (waits_none (need (records_of (steps rs))))
     ∙ ap (λ (qs : List Record). with_need before (need qs)) (records_of-steps rs)
     ∙ ap (λ (ts : List TimedNeed). with_need ts (need rs)) (steps_turns g rs)
@@ -141,8 +141,8 @@ steps_overtaken g rs =
     let test : List Record → Bool = λ qs. nat_lt (state_after g qs).count g.length in
     let issued : Need → ℕ = λ n. issue_turn (last_issue before) before n in
     let issue : ℕ → List Record → ℕ = λ t qs. issued (waiting_until t (need_there g qs)) in
-    ap (λ (qs : List Record). test qs && nat_lt (issue k.mark qs) (last_done k.late)) (records_of-steps rs)
-    ∙ ap (λ (t : ℕ). test rs && nat_lt (issue t rs) (last_done k.late)) (no_mark g rs)
+    ap (λ (qs : List Record). test qs && nat_lt (issue k.fence qs) (last_done k.late)) (records_of-steps rs)
+    ∙ ap (λ (t : ℕ). test rs && nat_lt (issue t rs) (last_done k.late)) (no_fence g rs)
     ∙ ap (λ (n : Need). test rs && nat_lt (issued n) (last_done k.late)) (waits_none (need_there g rs))
     ∙ ap (λ (t : ℕ). test rs && nat_lt (issued (need_there g rs)) t) (last_done-turn k.late)
     ∙ ap (λ (ts : List TimedNeed). test rs && passes ts (need_there g rs)) (steps_turns g rs)

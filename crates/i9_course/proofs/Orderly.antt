@@ -21,7 +21,7 @@ use Rattle.i9_turns.proofs.LateRegisters.{cell-latest}
 use Rattle.i9_turns.proofs.LateMemories.{memory-settles}
 use Rattle.i9_turns.proofs.LateOrder.{issued-by, orderly}
 use Rattle.i9_course.specs.NeedOf.{need_of}
-use Rattle.i9_course.specs.Course.{Item, Step, Mark, records_of, course, instruction_turn, event_ahead, comes_next, IsCourse}
+use Rattle.i9_course.specs.Course.{Item, Step, Fence, records_of, course, instruction_turn, event_ahead, comes_next, IsCourse}
 use Rattle.i9_course.proofs.Settled.{course_settles}
 use Rattle.i9_course.proofs.Timed.{course_timed, course_costs, course_quiet}
 use Rattle.i9_course.proofs.Kept.{kind_keeps}
@@ -34,7 +34,7 @@ course_orderly g h = orderly (course g h).late (course_timed g h) (course_costs 
 -- with the events that stood there
 pub course_events : (g : Given) (h : List Item) → IsCourse g h → IsPastOfSome (next_with g) (records_of h)
 course_events g [] c = tt
-course_events g (Mark ∷ h) c = course_events g h c
+course_events g (Fence ∷ h) c = course_events g h c
 course_events g (Step r ∷ h) c = (course_events g h c.0, (event_ahead g h, c.2))
 
 -- which are its plan
@@ -59,14 +59,14 @@ counted_next g h counted =
 
 pub counted_past : (g : Given) (h : List Item) → IsByCounts g.plan → IsCourse g h → IsPast g (records_of h)
 counted_past g [] counted c = tt
-counted_past g (Mark ∷ h) counted c = counted_past g h counted c
+counted_past g (Fence ∷ h) counted c = counted_past g h counted c
 counted_past g (Step r ∷ h) counted c = (counted_past g h counted c.0, sym (counted_next g h counted) ∙ c.2)
 
 -- the state after the last of them is that of the run
 pub last_after : (g : Given) (h : List Item)
     → last_state (boot g.image) (course g h).late ≡ state_after g (records_of h)
 last_after g [] = refl
-last_after g (Mark ∷ h) = last_after g h
+last_after g (Fence ∷ h) = last_after g h
 last_after g (Step r ∷ h) = refl
 
 -- what comes next is the record of what it does in the state after the run
@@ -94,7 +94,7 @@ step_leaves g h r k e lt none =
 
 pub course_leaves : (g : Given) (h : List Item) → IsCourse g h → Leaves (boot g.image) (course g h).late
 course_leaves g [] c = tt
-course_leaves g (Mark ∷ h) c = course_leaves g h c
+course_leaves g (Fence ∷ h) c = course_leaves g h c
 course_leaves g (Step r ∷ h) c =
     let is = comes_after g (event_ahead g h) (records_of h) r c.2 in
     ((λ k lt none. step_leaves g h r k is lt (no_mark _ k none)), course_leaves g h c.0)

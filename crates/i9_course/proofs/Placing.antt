@@ -16,7 +16,7 @@ use Rattle.i9_course.proofs.Ahead.{ahead_precise}
 pub next_turn : (g : Given) (h : List Item) (n : Need) → (ahead g h).imprecise ≡ None
     → need_after g h (ahead g h).next ≡ n
     → (ahead g h).turn
-    ≡ issue_turn (last_issue (turns (course g h).late)) (turns (course g h).late) (waiting_until (course g h).mark n)
+    ≡ issue_turn (last_issue (turns (course g h).late)) (turns (course g h).late) (waiting_until (course g h).fence n)
 next_turn g h n precise is = ahead_precise g h precise ∙ ap (issue_after (course g h)) is
 
 -- a record that stands with its turns is done at the turn that its need gives it
@@ -29,11 +29,11 @@ placed_done rs n p h =
 
 pub placed_turns : (g : Given) (h : List Item) (r : Record) (n : Need) (p : Placed) (b : Pending)
     → record_need g.sets (cache_after g (records_of h)) r ≡ n
-    → StandsFor b (placed_record (waiting_until (course g h).mark n) p ∷ turns (course g h).late)
-    → ((late_after g h r).timed.need ≡ waiting_until (course g h).mark n) × ((late_after g h r).timed.done ≡ p.done)
+    → StandsFor b (placed_record (waiting_until (course g h).fence n) p ∷ turns (course g h).late)
+    → ((late_after g h r).timed.need ≡ waiting_until (course g h).fence n) × ((late_after g h r).timed.done ≡ p.done)
 placed_turns g h r n p b is stands =
     let k = course g h in (
-      ap (waiting_until k.mark) is,
+      ap (waiting_until k.fence) is,
       ap (λ (m : Need). (timed_after k m).done) is
-          ∙ placed_done (turns k.late) (waiting_until k.mark n) p stands.timed,
+          ∙ placed_done (turns k.late) (waiting_until k.fence n) p stands.timed,
     )

@@ -8,7 +8,7 @@ use Rattle.i9_model.specs.HeldFrames.{Cache, cache, sets_in, cache_acted, cache_
 use Rattle.i9_model.specs.Run.{Given, Record, action_done, state_after, reached_after}
 use Rattle.i9_past.proofs.Cuts.{state_by}
 use Rattle.i9_course.specs.NeedOf.{need_ahead}
-use Rattle.i9_course.specs.Course.{Item, Step, Mark, Course, records_of, late_of, with_late, with_mark, course, issue_after, instruction_ahead, instruction_turn, event_ahead}
+use Rattle.i9_course.specs.Course.{Item, Step, Fence, Course, records_of, late_of, with_late, with_fence, course, issue_after, instruction_ahead, instruction_turn, event_ahead}
 
 module _ (g k : Given) (image : k.image ≡ g.image) (sets : k.sets ≡ g.sets) where
   pub same_cache : (rs : List Record) → cache_after k rs ≡ cache_after g rs
@@ -19,7 +19,7 @@ module _ (g k : Given) (image : k.image ≡ g.image) (sets : k.sets ≡ g.sets) 
 
   pub same_course : (h : List Item) → course k h ≡ course g h
   same_course [] = refl
-  same_course (Mark ∷ h) = ap with_mark (same_course h)
+  same_course (Fence ∷ h) = ap with_fence (same_course h)
   same_course (Step r ∷ h) =
       let rs = records_of h in
       ap (λ (o : Option ℕ). with_late (course k h) (late_of o (cache_after k rs) r (course k h))) sets

@@ -9,7 +9,7 @@ use Rattle.i9_model.specs.Alike.{with_other}
 use Rattle.i9_model.specs.HeldFrames.{Cache, over, spilled, cache_moved, cache_acted, cache_configured, cache_after, sets_in}
 use Rattle.i9_model.specs.Run.{Given, action_done}
 use Rattle.i9_model.specs.Late.{settled_memory}
-use Rattle.i9_course.specs.Course.{Item, Step, Mark, records_of, frame_writes, oldest_writes, all_writes, move_writes, puts_of, course}
+use Rattle.i9_course.specs.Course.{Item, Step, Fence, records_of, frame_writes, oldest_writes, all_writes, move_writes, puts_of, course}
 use Rattle.i9_model.proofs.Stored.{stored-append}
 use Rattle.i9_model.proofs.Storing.{stored_words_same}
 use Rattle.i9_model.proofs.Storing.{words_as_bytes}
@@ -65,7 +65,7 @@ puts_behind n c a m =
 pub course_settles : (g : Given) (h : List Item)
     → settled_memory (boot g.image).memory.bytes (course g h).late ≡ (cache_after g (records_of h)).behind.bytes
 course_settles g [] = refl
-course_settles g (Mark ∷ h) = course_settles g h
+course_settles g (Fence ∷ h) = course_settles g h
 course_settles g (Step r ∷ h) =
     let n = sets_in g.sets r.before in
     let c = cache_after g (records_of h) in

@@ -1,4 +1,4 @@
--- What lands late stands for a course as the turn moves, as a record issues, and as a mark is set.
+-- What lands late stands for a course as the turn moves, as a record issues, and as a fence is set.
 use Rattle.std.proofs.Common.{◌≡◌, ℕ, ◌<◌, ◌≤◌, max, Bool, true, false, List, [], ◌∷◌, None, refl, sym, ap, ◌∙◌, subst, arith}
 use Rattle.i9_model.specs.declared.need.Cell.{Cell}
 use Rattle.i9_model.specs.Memory.{stored}
@@ -11,11 +11,11 @@ use Rattle.i9_turns.proofs.TurnOpen.{done-after}
 use Rattle.i9_turns.proofs.TurnStands.{stands-none}
 use Rattle.i9_turns.proofs.LateQueues.{waiting-in-order}
 use Rattle.i9_turns.proofs.LateOrder.{issued-by, shows_moves, shows_request, shows_other, shows_clear}
-use Rattle.i9_course.specs.Course.{Item, Step, Mark, records_of, course, late_after, need_after, issue_of_next, ahead, IsCourse}
+use Rattle.i9_course.specs.Course.{Item, Step, Fence, records_of, course, late_after, need_after, issue_of_next, ahead, IsCourse}
 use Rattle.i9_course.specs.Kernel.{Kernel, Lands, MovesTo, Issues}
 use Rattle.i9_course.proofs.Timed.{course_timed, course_costs}
 use Rattle.i9_course.proofs.Orderly.{course_orderly, registers_settle, memory_settles}
-use Rattle.i9_course.proofs.Ahead.{ahead_later, ahead_marked, ahead_by_end, ahead_precise, ahead_can}
+use Rattle.i9_course.proofs.Ahead.{ahead_later, ahead_fenced, ahead_by_end, ahead_precise, ahead_can}
 
 -- ---- the turn moves
 
@@ -38,7 +38,7 @@ moves_lands g h t k j lands le early m floor =
     let turn : j.turn ≡ t = m.turn in
     record {
       board = moved_board g h t k j lands m;
-      mark = floor ∙ lands.mark;
+      fence = floor ∙ lands.fence;
       last = m.done ∙ lands.last;
       begun = omega (arith, begun, le, turn);
       in_time = omega (arith, early, turn);
@@ -77,7 +77,7 @@ issues_lands g h r k j lands precise is_next due i =
     let turn : j.turn ≡ k.turn = i.turn in
     record {
       board = i.board (turns (course g h).late) lands.board;
-      mark = i.floor ∙ lands.mark;
+      fence = i.floor ∙ lands.fence;
       last = i.done;
       begun = omega (arith, now, turn);
       in_time = omega (arith, now, turn, next_turn);
@@ -90,7 +90,7 @@ pub lands_clear : (g : Given) (h : List Item) (k : Kernel) → Lands g h k → (
     → (ahead g h).turn ≤ k.turn → IsClear k.cells k.queue (need_after g h (ahead g h).next)
 lands_clear g h k lands precise due =
     let xs = (course g h).late in
-    let n = waiting_until (course g h).mark (need_after g h (ahead g h).next) in
+    let n = waiting_until (course g h).fence (need_after g h (ahead g h).next) in
     let in_time : k.turn ≤ (ahead g h).turn = lands.in_time in
     let issue : (ahead g h).turn ≡ issue_of_next g h (ahead g h).next = ahead_precise g h precise in
     let now : issue_of_next g h (ahead g h).next ≡ k.turn = omega (arith, due, in_time, issue) in
@@ -99,32 +99,32 @@ lands_clear g h k lands precise due =
     let clear = shows_clear (boot g.image) k.turn xs k.cells k.bytes k.queue n lands.shows can in
     record { plans = clear.plans; few = clear.few; drained = clear.drained }
 
--- ---- a mark is set
+-- ---- a fence is set
 
--- what lies ahead is no earlier behind a mark, at whose turn all is done
-mark_later : (g : Given) (h : List Item) → (ahead g h).turn ≤ (ahead g (Mark ∷ h)).turn
-mark_later g h =
+-- what lies ahead is no earlier behind a fence, at whose turn all is done
+fence_later : (g : Given) (h : List Item) → (ahead g h).turn ≤ (ahead g (Fence ∷ h)).turn
+fence_later g h =
     let by_end : (ahead g h).turn ≤ end_turn (turns (course g h).late) = ahead_by_end g h in
-    let mark : end_turn (turns (course g h).late) ≤ (ahead g (Mark ∷ h)).turn = ahead_marked g (Mark ∷ h) in
-    omega (arith, by_end, mark)
+    let fence : end_turn (turns (course g h).late) ≤ (ahead g (Fence ∷ h)).turn = ahead_fenced g (Fence ∷ h) in
+    omega (arith, by_end, fence)
 
-pub marks_lands : (g : Given) (h : List Item) (k j : Kernel) → Lands g h k
+pub fence_lands : (g : Given) (h : List Item) (k j : Kernel) → Lands g h k
     → MovesTo (max k.turn (end_turn (turns (course g h).late))) k j → j.floor ≡ end_turn (turns (course g h).late)
-    → Lands g (Mark ∷ h) j
-marks_lands g h k j lands m floor =
+    → Lands g (Fence ∷ h) j
+fence_lands g h k j lands m floor =
     let done = end_turn (turns (course g h).late) in
     let begun : last_issue (turns (course g h).late) ≤ k.turn = lands.begun in
     let turn : j.turn ≡ max k.turn done = m.turn in
     let early : k.turn ≤ (ahead g h).turn = lands.in_time in
-    let later : (ahead g h).turn ≤ (ahead g (Mark ∷ h)).turn = mark_later g h in
-    let mark : done ≤ (ahead g (Mark ∷ h)).turn = ahead_marked g (Mark ∷ h) in
+    let later : (ahead g h).turn ≤ (ahead g (Fence ∷ h)).turn = fence_later g h in
+    let fence : done ≤ (ahead g (Fence ∷ h)).turn = ahead_fenced g (Fence ∷ h) in
     let le : k.turn ≤ max k.turn done = omega arith in
     record {
       board = moved_board g h (max k.turn done) k j lands m;
-      mark = floor;
+      fence = floor;
       last = m.done ∙ lands.last;
       begun = omega (arith, begun, turn);
-      in_time = omega (arith, turn, early, later, mark);
+      in_time = omega (arith, turn, early, later, fence);
       shows = moved_shows g h (max k.turn done) k j lands le m;
     }
 
@@ -156,7 +156,7 @@ none_lands g k board turn floor done cells bytes queue =
     let later : 1 ≤ (ahead g []).turn = ahead_later g [] in
     record {
       board = subst (λ (p : Pending). StandsFor p []) (sym board) stands-none;
-      mark = floor;
+      fence = floor;
       last = done;
       begun = omega (arith, turn);
       in_time = omega (arith, turn, later);

@@ -10,12 +10,12 @@ use Rattle.i9_model.specs.Run.{Given, Kind, Instruction, Faulted, Entered, Inter
 use Rattle.i9_model.specs.Turns.{HasCost, IsTimed, TakesTurns, waiting_until}
 use Rattle.i9_model.specs.Needs.{is_request_name, is_barrier_name}
 use Rattle.i9_model.specs.Late.{turns, AreQuiet}
-use Rattle.i9_model.specs.Marks.{marked, with_item}
-use Rattle.i9_model.specs.Marks as marks
+use Rattle.i9_model.specs.Fences.{fenced, with_item}
+use Rattle.i9_model.specs.Fences as fences
 use Rattle.i9_turns.proofs.NeedLaws.{inst_cost, refused_cost, event_cost, entry_cost, quiet}
 use Rattle.i9_turns.proofs.TurnWhole.{IsTimed-with_need}
 use Rattle.i9_course.specs.NeedOf.{is_of_dma, need_of, record_need}
-use Rattle.i9_course.specs.Course.{Item, Step, Mark, records_of, move_writes, puts_of, course, needs_of, turns_of}
+use Rattle.i9_course.specs.Course.{Item, Step, Fence, records_of, move_writes, puts_of, course, needs_of, turns_of}
 
 -- ---- costs
 
@@ -30,24 +30,24 @@ need_cost n c s (Reached e u) = event_cost (is_of_dma e) 0
 
 pub course_timed : (g : Given) (h : List Item) → IsTimed (turns (course g h).late)
 course_timed g [] = tt
-course_timed g (Mark ∷ h) = course_timed g h
+course_timed g (Fence ∷ h) = course_timed g h
 course_timed g (Step r ∷ h) =
     IsTimed-with_need (turns (course g h).late)
-    (waiting_until (course g h).mark (record_need g.sets (cache_after g (records_of h)) r)) (course_timed g h)
+    (waiting_until (course g h).fence (record_need g.sets (cache_after g (records_of h)) r)) (course_timed g h)
 
 pub course_costs : (g : Given) (h : List Item) → TakesTurns (turns (course g h).late)
 course_costs g [] = tt
-course_costs g (Mark ∷ h) = course_costs g h
+course_costs g (Fence ∷ h) = course_costs g h
 course_costs g (Step r ∷ h) =
     ((need_cost (sets_in g.sets r.before) (cache_after g (records_of h)) r.before r.kind).some, course_costs g h)
 
--- the turns are those of the needs with their marks
-pub course_marked : (g : Given) (h : List Item) → marked (needs_of g h) ≡ turns_of (course g h)
-course_marked g [] = refl
-course_marked g (Mark ∷ h) = ap (with_item marks.Mark) (course_marked g h)
-course_marked g (Step r ∷ h) =
+-- the turns are those of the needs with their fences
+pub course_fenced : (g : Given) (h : List Item) → fenced (needs_of g h) ≡ turns_of (course g h)
+course_fenced g [] = refl
+course_fenced g (Fence ∷ h) = ap (with_item fences.Fence) (course_fenced g h)
+course_fenced g (Step r ∷ h) =
     let need = record_need g.sets (cache_after g (records_of h)) r in
-    ap (with_item (marks.Placed need)) (course_marked g h)
+    ap (with_item (fences.Placed need)) (course_fenced g h)
 
 -- ---- writes
 
@@ -78,6 +78,6 @@ need_quiet n c s (Reached e u) q = inr refl
 
 pub course_quiet : (g : Given) (h : List Item) → AreQuiet (course g h).late
 course_quiet g [] = tt
-course_quiet g (Mark ∷ h) = course_quiet g h
+course_quiet g (Fence ∷ h) = course_quiet g h
 course_quiet g (Step r ∷ h) =
     (need_quiet (sets_in g.sets r.before) (cache_after g (records_of h)) r.before r.kind, course_quiet g h)

@@ -1,4 +1,4 @@
--- A run with its turns: its records and the marks of settling, and each record with its need, its turns and its writes.
+-- A run with its turns: its records and the fences of settling, and each record with its need, its turns and its writes.
 use Rattle.std.specs.Prelude.{◌≡◌, ℕ, nat_lt, ◌&&◌, Bool, if◌then◌else◌, Option, Some, None, List, [], ◌∷◌, ◌++◌, length}
 use Rattle.i9_model.specs.declared.frame.Frame.{Frame}
 use Rattle.i9_model.specs.declared.need.Need.{Need}
@@ -14,20 +14,20 @@ use Rattle.i9_model.specs.ScheduleText.{standing_by}
 use Rattle.i9_model.specs.Run.{Given, Kind, Faulted, Record, Next, Does, action_done, next_by_standing, state_after, reached_after, next_with}
 use Rattle.i9_model.specs.Turns.{last_issue, issue_turn, done_turn, end_turn, waiting_until}
 use Rattle.i9_model.specs.Late.{Late, turns}
-use Rattle.i9_model.specs.Marks.{Marked}
-use Rattle.i9_model.specs.Marks as marks
+use Rattle.i9_model.specs.Fences.{Fenced}
+use Rattle.i9_model.specs.Fences as fences
 use Rattle.i9_course.specs.NeedOf.{is_early, record_need, need_ahead}
 
--- a record, or a mark of settling: nothing behind a mark issues before all that stands before it is done
+-- a record, or a fence of settling: nothing behind a fence issues before all that stands before it is done
 pub data Item : Type 0 where
   Step : (done : Record) → Item
-  Mark : Item
+  Fence : Item
 
--- the records, without the marks
+-- the records, without the fences
 abbrev pub records_of : List Item → List Record
 records_of [] = []
 records_of (Step r ∷ h) = r ∷ records_of h
-records_of (Mark ∷ h) = records_of h
+records_of (Fence ∷ h) = records_of h
 
 -- ---- what goes to the memory behind the held frames
 
@@ -58,21 +58,21 @@ puts_of n c a = move_writes n c a.move ++ a.writes
 
 -- ---- records with their turns
 
--- the records with their turns, newest first, and the turn of the last mark
+-- the records with their turns, newest first, and the turn of the last fence
 pub record Course : Type 0 where
   pub late : List Late
-  pub mark : ℕ
+  pub fence : ℕ
 
 -- the turn at which a need issues next
 abbrev pub issue_after : Course → Need → ℕ
-issue_after k need = issue_turn (last_issue (turns k.late)) (turns k.late) (waiting_until k.mark need)
+issue_after k need = issue_turn (last_issue (turns k.late)) (turns k.late) (waiting_until k.fence need)
 
 -- a need with its turns where it issues next
 abbrev pub timed_after : Course → Need → TimedNeed
 timed_after k need = record {
-  need = waiting_until k.mark need;
+  need = waiting_until k.fence need;
   issue = issue_after k need;
-  done = done_turn (turns k.late) (waiting_until k.mark need) (issue_after k need);
+  done = done_turn (turns k.late) (waiting_until k.fence need) (issue_after k need);
 }
 
 -- a record where it issues next, from what is held before it, where this number of sets is asked for
@@ -87,29 +87,29 @@ late_of asked c r k = record {
 abbrev pub with_late : Course → Late → Course
 with_late k x = record k { late = x ∷ k.late }
 
--- a course with a mark, which asks for the turn at which all records are done
-abbrev pub with_mark : Course → Course
-with_mark k = record k { mark = end_turn (turns k.late) }
+-- a course with a fence, which asks for the turn at which all records are done
+abbrev pub with_fence : Course → Course
+with_fence k = record k { fence = end_turn (turns k.late) }
 
 -- the course of a list of items, the newest first
 abbrev pub course : Given → List Item → Course
-course g [] = record { late = []; mark = 0 }
+course g [] = record { late = []; fence = 0 }
 course g (Step r ∷ h) = with_late (course g h) (late_of g.sets (cache_after g (records_of h)) r (course g h))
-course g (Mark ∷ h) = with_mark (course g h)
+course g (Fence ∷ h) = with_fence (course g h)
 
 -- a record that is done after these items
 abbrev pub late_after : Given → List Item → Record → Late
 late_after g h r = late_of g.sets (cache_after g (records_of h)) r (course g h)
 
--- the needs of the items, with their marks
-abbrev pub needs_of : Given → List Item → List marks.Item
+-- the needs of the items, with their fences
+abbrev pub needs_of : Given → List Item → List fences.Item
 needs_of g [] = []
-needs_of g (Step r ∷ h) = marks.Placed (record_need g.sets (cache_after g (records_of h)) r) ∷ needs_of g h
-needs_of g (Mark ∷ h) = marks.Mark ∷ needs_of g h
+needs_of g (Step r ∷ h) = fences.Placed (record_need g.sets (cache_after g (records_of h)) r) ∷ needs_of g h
+needs_of g (Fence ∷ h) = fences.Fence ∷ needs_of g h
 
--- the turns of a course, and of its last mark
-abbrev pub turns_of : Course → Marked
-turns_of k = record { records = turns k.late; mark = k.mark }
+-- the turns of a course, and of its last fence
+abbrev pub turns_of : Course → Fenced
+turns_of k = record { records = turns k.late; fence = k.fence }
 
 -- ---- what comes next
 
@@ -188,8 +188,8 @@ ahead_by g h fault = record {
 abbrev pub ahead : Given → List Item → Ahead
 ahead g h = ahead_by g h (imprecise_at g h)
 
--- the items of a run: each record is what comes next, where no fault is imprecise, and a mark may stand anywhere
+-- the items of a run: each record is what comes next, where no fault is imprecise, and a fence may stand anywhere
 abbrev pub IsCourse : Given → List Item → Type 0
 IsCourse g [] = Unit {0}
 IsCourse g (Step r ∷ h) = IsCourse g h × ((ahead g h).imprecise ≡ None) × ((ahead g h).next ≡ Does r)
-IsCourse g (Mark ∷ h) = IsCourse g h
+IsCourse g (Fence ∷ h) = IsCourse g h

@@ -9,7 +9,7 @@ use Rattle.i9_model.specs.Turns.{Pending, StandsFor, last_issue, with_need}
 use Rattle.i9_model.specs.Late.{Late, Wait, Shows, turns, resource, resources, landed, issued_cell, wait_of, due_puts, left_waiting}
 use Rattle.i9_course.specs.Course.{Item, course, last_done, ahead}
 
--- The open needs; the machine's turn, that of the last mark, and that at which the last record is done; registers with
+-- The open needs; the machine's turn, that of the last fence, and that at which the last record is done; registers with
 -- what is planned for them; bytes of memory, and the requests that wait.
 pub record Kernel : Type 0 where
   pub board : Pending
@@ -24,7 +24,7 @@ pub record Kernel : Type 0 where
 -- that of what lies ahead.
 pub record Lands (g : Given) (h : List Item) (k : Kernel) : Type 0 where
   pub board : StandsFor k.board (turns (course g h).late)
-  pub mark : k.floor ≡ (course g h).mark
+  pub fence : k.floor ≡ (course g h).fence
   pub last : k.done ≡ last_done (course g h).late
   pub begun : last_issue (turns (course g h).late) ≤ k.turn
   pub in_time : k.turn ≤ (ahead g h).turn

@@ -6,7 +6,7 @@ use Rattle.i9_model.specs.declared.run.End.TheVariants.{Imprecise}
 use Rattle.i9_model.specs.Run.{Given, Record, Next, Does, Ends, Finish, finish}
 use Rattle.i9_course.specs.Course.{Item, Step, late_fault, ahead, IsCourse}
 
--- the records as items, with no mark between them
+-- the records as items, with no fence between them
 abbrev pub steps : List Record → List Item
 steps [] = []
 steps (r ∷ rs) = Step r ∷ steps rs

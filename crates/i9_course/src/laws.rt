@@ -12,14 +12,14 @@ ghost use Rattle.i9_model.specs.Memory.{stored};
 ghost use Rattle.i9_model.specs.State.{State, boot};
 ghost use Rattle.i9_model.specs.Alike.{AreAlike, AreNextAlike, NextsAgree};
 ghost use Rattle.i9_model.specs.HeldFrames.{Cache, AreWhole, cache_after};
-ghost use Rattle.i9_model.specs.Marks.{marked};
+ghost use Rattle.i9_model.specs.Fences.{fenced};
 ghost use Rattle.i9_model.specs.Step.{Move, Returns};
 ghost use Rattle.i9_model.specs.Run.{Given, Record, Kind, Faulted, Next, Does, Ends, IsPast, state_after, reached_by, reached_after, Finish};
 ghost use Rattle.i9_model.specs.ScheduleText.{IsByCounts, timed_by_turn};
 ghost use Rattle.i9_model.specs.Turns.{IsTimed, TakesTurns, last_issue, end_turn, pending_of};
 ghost use Rattle.i9_model.specs.Late.{turns, cell, resource, resources, latest, all_puts, settled_memory, AreDueInOrder, AreQuiet, Leaves, IsOrderly, IsClear};
 ghost use Rattle.i9_course.specs.NeedOf.{need_of, need_ahead, is_barrier_kind, moved_frames, stands_alone};
-ghost use Rattle.i9_course.specs.Course.{Item, Step, Mark, records_of, course, needs_of, turns_of, move_writes, late_after, need_after, issue_of_next, instruction_turn, event_ahead, last_done, ahead, IsCourse};
+ghost use Rattle.i9_course.specs.Course.{Item, Step, Fence, records_of, course, needs_of, turns_of, move_writes, late_after, need_after, issue_of_next, instruction_turn, event_ahead, last_done, ahead, IsCourse};
 ghost use Rattle.i9_course.specs.Kernel.{Kernel, Lands, MovesTo, Issues};
 
 /// With everything landed, memory is that behind the held frames.
@@ -39,13 +39,13 @@ pub fn what_waits_settles()
 {}
 
 /// The records of a course are those of the run that meets the same events after the same instructions; they have the
-/// turns of their needs with the marks between them, issue and land in order, and each leaves what its need does not
+/// turns of their needs with the fences between them, issue and land in order, and each leaves what its need does not
 /// write. Where the plan is by counts, that run has the same plan.
 pub fn courses_are_orderly()
     ensures past { (g : Given) (h : List Item) → IsCourse g h
         → IsPast (record g { plan = reached_after (records_of h) }) (records_of h) }
     ensures counted { (g : Given) (h : List Item) → IsByCounts g.plan → IsCourse g h → IsPast g (records_of h) }
-    ensures marked { (g : Given) (h : List Item) → marked (needs_of g h) ≡ turns_of (course g h) }
+    ensures fenced { (g : Given) (h : List Item) → fenced (needs_of g h) ≡ turns_of (course g h) }
     ensures timed { (g : Given) (h : List Item) → IsTimed (turns (course g h).late) }
     ensures costs { (g : Given) (h : List Item) → TakesTurns (turns (course g h).late) }
     ensures quiet { (g : Given) (h : List Item) → AreQuiet (course g h).late }
@@ -53,11 +53,11 @@ pub fn courses_are_orderly()
     ensures orderly { (g : Given) (h : List Item) → IsOrderly (course g h).late }
 {}
 
-/// What lies ahead issues neither before what has issued nor before the last mark; where no fault is
+/// What lies ahead issues neither before what has issued nor before the last fence; where no fault is
 /// imprecise, it is what comes next.
 pub fn nothing_issues_earlier()
     ensures issued { (g : Given) (h : List Item) → last_issue (turns (course g h).late) ≤ (ahead g h).turn }
-    ensures mark { (g : Given) (h : List Item) → (course g h).mark ≤ (ahead g h).turn }
+    ensures fence { (g : Given) (h : List Item) → (course g h).fence ≤ (ahead g h).turn }
     ensures precise { (g : Given) (h : List Item) → (ahead g h).imprecise ≡ None
         → (ahead g h).turn ≡ issue_of_next g h (ahead g h).next }
 {}
@@ -74,14 +74,14 @@ pub fn barriers_wait_for_all()
 {}
 
 /// Only an arithmetic fault is imprecise, of which the last record is, and that is overtaken within the
-/// length; none is behind a mark, nor where bit 15 of AC or trace enable is set.
+/// length; none is behind a fence, nor where bit 15 of AC or trace enable is set.
 pub fn overtaken_faults_are_imprecise()
     ensures only { (g : Given) (h : List Item) (a : ℕ) → (ahead g h).imprecise ≡ Some a
         → (r : Record) × (rs : List Record) × (inst : Option Inst) × (f : Fault) × (records_of h ≡ r ∷ rs)
         × (r.kind ≡ Faulted inst f) × (f.kind ≡ ARITHMETIC) × (f.address ≡ a) }
     ensures overtaken { (g : Given) (h : List Item) (a : ℕ) → (ahead g h).imprecise ≡ Some a
         → ((ahead g h).turn < last_done (course g h).late) × ((state_after g (records_of h)).count < g.length) }
-    ensures mark { (g : Given) (h : List Item) → (ahead g (Mark ∷ h)).imprecise ≡ None }
+    ensures fence { (g : Given) (h : List Item) → (ahead g (Fence ∷ h)).imprecise ≡ None }
     ensures alone { (g : Given) (h : List Item) → IsTrue (stands_alone (state_after g (records_of h)))
         → (ahead g h).imprecise ≡ None }
 {}
@@ -109,12 +109,12 @@ pub fn a_record_issues()
         → IsClear k.cells k.queue (need_after g h (ahead g h).next) }
 {}
 
-/// A mark is set: the turn becomes one at which all records are done, everything lands, and nothing
+/// A fence is set: the turn becomes one at which all records are done, everything lands, and nothing
 /// issues below that turn.
-pub fn a_mark_is_set()
+pub fn a_fence_is_set()
     ensures { (g : Given) (h : List Item) (k j : Kernel) → Lands g h k
         → MovesTo (max k.turn (end_turn (turns (course g h).late))) k j
-        → j.floor ≡ end_turn (turns (course g h).late) → Lands g (Mark ∷ h) j }
+        → j.floor ≡ end_turn (turns (course g h).late) → Lands g (Fence ∷ h) j }
 {}
 
 /// What is done needs the same in states that are alike, and so does what comes next.

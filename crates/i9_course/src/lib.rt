@@ -10,7 +10,7 @@ pub use late_laws::{
     lateness_does_not_depend_on_sets, lateness_does_not_depend_on_the_plan, one_late_run,
 };
 pub use laws::{
-    a_course_begins, a_course_settles, a_mark_is_set, a_record_issues, a_turn_moves,
+    a_course_begins, a_course_settles, a_fence_is_set, a_record_issues, a_turn_moves,
     agreeing_states_need_alike, alike_states_need_alike, barriers_wait_for_all,
     courses_are_orderly, events_wait_for_their_turn, nothing_issues_earlier,
     overtaken_faults_are_imprecise, what_waits_settles, written_frames_are_counted,

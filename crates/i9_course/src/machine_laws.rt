@@ -73,11 +73,11 @@ pub fn requests_land_in_order()
 pub fn turns_are_those_of_the_board()
     ensures next { (g : Given) (h : List Item) (n : Need) → (ahead g h).imprecise ≡ None
         → need_after g h (ahead g h).next ≡ n → (ahead g h).turn ≡ issue_turn (last_issue (turns (course g h).late))
-        (turns (course g h).late) (waiting_until (course g h).mark n) }
+        (turns (course g h).late) (waiting_until (course g h).fence n) }
     ensures placed { (g : Given) (h : List Item) (r : Record) (n : Need) (p : Placed) (b : Pending)
         → record_need g.sets (cache_after g (records_of h)) r ≡ n
-        → StandsFor b (placed_record (waiting_until (course g h).mark n) p ∷ turns (course g h).late)
-        → ((late_after g h r).timed.need ≡ waiting_until (course g h).mark n)
+        → StandsFor b (placed_record (waiting_until (course g h).fence n) p ∷ turns (course g h).late)
+        → ((late_after g h r).timed.need ≡ waiting_until (course g h).fence n)
         × ((late_after g h r).timed.done ≡ p.done) }
 {}
 

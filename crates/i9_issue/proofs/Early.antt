@@ -7,7 +7,7 @@ use Rattle.i9_model.specs.declared.need.Need.{Need}
 use Rattle.i9_model.specs.declared.need.TimedNeed.{TimedNeed}
 use Rattle.i9_model.specs.Turns.{keeps_side, waits_for, least_turn, turn_from, open_at}
 use Rattle.i9_turns.proofs.TurnComputed.{cond-le}
-use Rattle.i9_turns.proofs.TurnMarks.{done_from-above}
+use Rattle.i9_turns.proofs.TurnFences.{done_from-above}
 use Rattle.i9_issue.specs.Room.{Holds, side_from}
 use Rattle.i9_issue.proofs.Loops.{newest-place, open-reverse, take-time}
 use Rattle.i9_issue.proofs.Seven.{each-weaker, open-none}

@@ -10,7 +10,7 @@ use Rattle.i9_model.specs.Turns.{RequestsInOrder, Permits, CanIssue, IssuesAt, I
 use Rattle.i9_issue.specs.Room.{Fits, IsEarly}
 use Rattle.i9_turns.proofs.TurnDropped.{each-open, open-yes, open-no, permits-done, last_request-yes, last_request-no, max-last_request-open}
 use Rattle.i9_turns.proofs.TurnComputed.{issue_turn-issues}
-use Rattle.i9_turns.proofs.TurnMarks.{done_from-above, done_from-least}
+use Rattle.i9_turns.proofs.TurnFences.{done_from-above, done_from-least}
 use Rattle.i9_issue.proofs.Seven.{each-weaker, count-none, Fits-next, placed_at}
 
 -- the turn that is computed is the issue turn

@@ -22,7 +22,7 @@ use Rattle.i9_course.specs.NeedOf.{need_of}
 use Rattle.i9_course.specs.Course.{Item, course, ahead}
 use Rattle.i9_course.proofs.Ahead.{ahead_by_end}
 use Rattle.i9_course.proofs.Timed.{need_cost}
-use Rattle.i9_plan.specs.declared.memo.Memo.{Memo}
+use Rattle.i9_plan.specs.declared.decode_cache.DecodeCache.{DecodeCache}
 use Rattle.i9_plan.specs.Kept.{inst_in, words_in}
 use Rattle.i9_plan.specs.Planned.{TellsWords, IsRead, AreRequestsInRow}
 use Rattle.i9_processor.specs.declared.processor.Processor.{Processor}
@@ -52,7 +52,7 @@ use Rattle.i9_machine.proofs.Turning.{moved_stands, moved_turn_at, same_left, wa
 pub kept_need : (m mid : Machine) (k : Kind) → HasNeed m k mid → HasKept mid
 kept_need m mid k n = record {
   need = n.need;
-  marked = n.marked;
+  fenced = n.fenced;
   some = subst HasCost (sym n.is_need) (need_cost (size_of m.processor) (cache_of m.processor) (state_of m.processor) k);
   cost = n.cost;
   none = ap (λ (x : Need). x.not_before) n.is_need ∙ waits_for_none (size_of m.processor) (cache_of m.processor) (state_of m.processor) k;
@@ -62,7 +62,7 @@ kept_need m mid k n = record {
 pub kept_planned : (m mid : Machine) (plan : Plan) (step : Step) → IsPlannedIn m plan step mid → HasKept mid
 kept_planned m mid plan step p = record {
   need = p.need;
-  marked = p.marked;
+  fenced = p.fenced;
   some = subst HasCost (sym p.is.is_need) (need_cost (size_of m.processor) (cache_of m.processor) (state_of m.processor) p.is.kind);
   cost = p.is.cost;
   none = ap (λ (x : Need). x.not_before) p.is.is_need ∙ waits_for_none (size_of m.processor) (cache_of m.processor) (state_of m.processor) p.is.kind;
@@ -73,7 +73,7 @@ pub need_issues : (m mid : Machine) (k : Kind) (t : ℕ) → IsLike m mid → Ha
     → ((rs : List TimedNeed) → board.StandsFor mid.board rs → t ≡ issue_turn (last_issue rs) rs mid.need) → IssuesAhead m t
 need_issues m mid k t like n turn =
     ahead_issues m n.need t (record { kind = k; is_need = n.is_need; cost = n.cost; ahead = n.ahead })
-    (like_turn m mid n.need t like (λ rs stands. turn rs stands ∙ ap (issue_turn (last_issue rs) rs) n.marked))
+    (like_turn m mid n.need t like (λ rs stands. turn rs stands ∙ ap (issue_turn (last_issue rs) rs) n.fenced))
 
 -- the event that a schedule has where the instruction ahead would issue
 pub open_event : (m : Machine) (plan : Plan) (k : Kind) (t n : ℕ) (o : Option Event) → IsUnderWay m plan → IsFreeToIssue m
@@ -84,7 +84,7 @@ open_event m plan k t n o u free is_next kept turn count found =
     let rs = turns (course u.given u.items).late in
     let stands = u.stands.lands.board in
     sym (ap (standing_by plan.events plan.place (state_of m.processor).count)
-    (open_turn m k kept.need t rs stands free is_next kept.is_need (turn rs stands ∙ ap (issue_turn (last_issue rs) rs) kept.marked)))
+    (open_turn m k kept.need t rs stands free is_next kept.is_need (turn rs stands ∙ ap (issue_turn (last_issue rs) rs) kept.fenced)))
     ∙ sym (ap (λ (x : ℕ). standing_by plan.events plan.place x t) count)
     ∙ sym found
 
@@ -139,7 +139,7 @@ like_arrives m mid plan t coming like arrives g h stands follows =
 
 -- it comes next of a machine that is the same but for what is planned, which has its need
 pub like_ahead : (m mid : Machine) (plan : Plan) (t : ℕ) (k : Kind) → IsLike m mid → IsFreeToIssue m → event_for mid plan ≡ None
-    → next_where m None ≡ Does (record_of k (state_of m.processor)) → TellsWords (words_of (inst_in mid.memo)) (state_of m.processor) (words_in mid.memo)
+    → next_where m None ≡ Does (record_of k (state_of m.processor)) → TellsWords (words_of (inst_in mid.decodes)) (state_of m.processor) (words_in mid.decodes)
     → HasNeed m k mid → IssuesAt mid.board.last mid.board.records mid.need t → IsAhead mid plan t k
 like_ahead m mid plan t k l free none is_next told need issues =
     let count : (state_of mid.processor).count ≡ (state_of m.processor).count = ap (λ (p : Processor). (state_of p).count) l.processor in
@@ -158,9 +158,9 @@ like_ahead m mid plan t k l free none is_next told need issues =
           ∙ ap (λ (p : Processor). next_in m.length m.due None (state_of p)) l.processor
           ∙ is_next
           ∙ ap (λ (p : Processor). Does (record_of k (state_of p))) (sym l.processor);
-      told = subst (λ (p : Processor). TellsWords (words_of (inst_in mid.memo)) (state_of p) (words_in mid.memo)) (sym l.processor) told;
+      told = subst (λ (p : Processor). TellsWords (words_of (inst_in mid.decodes)) (state_of p) (words_in mid.decodes)) (sym l.processor) told;
       need = need.need;
-      marked = need.marked;
+      fenced = need.fenced;
       is_need = need.is_need ∙ ap (λ (p : Processor). need_of (size_of p) (cache_of p) (state_of p) k) (sym l.processor);
       cost = need.cost;
       issues = issues;
@@ -240,10 +240,10 @@ moved_ahead t x before m plan k i keeps is = record {
   free = moved_free t before m i is.free;
   none = moved_event t before m plan i ∙ is.none;
   is_next = moved_next t before m i ∙ is.is_next ∙ ap (λ (s : State). Does (record_of k s)) (sym i.state);
-  told = subst (λ (n : Memo). TellsWords (words_of (inst_in n)) (state_of m.processor) (words_in n)) (sym keeps.memo)
-      (subst (λ (s : State). TellsWords (words_of (inst_in before.memo)) s (words_in before.memo)) (sym i.state) is.told);
+  told = subst (λ (n : DecodeCache). TellsWords (words_of (inst_in n)) (state_of m.processor) (words_in n)) (sym keeps.decodes)
+      (subst (λ (s : State). TellsWords (words_of (inst_in before.decodes)) s (words_in before.decodes)) (sym i.state) is.told);
   need = is.need;
-  marked = keeps.need ∙ is.marked ∙ ap (λ (f : ℕ). waiting_until f is.need) (sym i.floor);
+  fenced = keeps.need ∙ is.fenced ∙ ap (λ (f : ℕ). waiting_until f is.need) (sym i.floor);
   is_need = is.is_need ∙ moved_need_of t before m k i;
   cost = is.cost;
   issues = subst (λ (n : Need). IssuesAt m.board.last m.board.records n x) (sym keeps.need)
@@ -259,8 +259,8 @@ moved_late t before m i =
 moved_read : (t : ℕ) (before m : Machine) → IsMovedTo t before m → KeepsPlanned before m → HasRead before → HasRead m
 moved_read t before m i keeps has = record {
   free = moved_free t before m i has.free;
-  read = subst (IsRead (state_of m.processor)) (sym keeps.memo)
-      (subst (λ (s : State). IsRead s before.memo) (sym i.state) has.read);
+  read = subst (IsRead (state_of m.processor)) (sym keeps.decodes)
+      (subst (λ (s : State). IsRead s before.decodes) (sym i.state) has.read);
 }
 
 moved_ready : (t x : ℕ) (before m : Machine) (plan : Plan) (coming : Coming) → IsMovedTo t before m → KeepsPlanned before m
@@ -271,16 +271,16 @@ moved_ready t x before m plan (Waiting read) i keeps ready = (
 )
 moved_ready t x before m plan (Overtaking a) i keeps late = moved_late t before m i ∙ late
 moved_ready t x before m plan Running i keeps runs = record {
-  ahead = subst (λ (n : Memo). IsAhead m plan x (Instruction (inst_in n))) (sym keeps.memo) (moved_ahead t x before m plan _ i keeps runs.ahead);
-  effect = subst (λ (n : Memo). IsEffect (state_of m.processor) (traced_action (inst_in n) (state_of m.processor)) m.effect) (sym keeps.memo)
-      (subst (λ (s : State). IsEffect s (traced_action (inst_in before.memo) s) m.effect) (sym i.state)
-      (subst (IsEffect (state_of before.processor) (traced_action (inst_in before.memo) (state_of before.processor))) (sym keeps.effect) runs.effect));
-  row = subst (λ (n : Memo). AreRequestsInRow (inst_in n) m.effect) (sym keeps.memo)
-      (subst (AreRequestsInRow (inst_in before.memo)) (sym keeps.effect) runs.row);
+  ahead = subst (λ (n : DecodeCache). IsAhead m plan x (Instruction (inst_in n))) (sym keeps.decodes) (moved_ahead t x before m plan _ i keeps runs.ahead);
+  effect = subst (λ (n : DecodeCache). IsEffect (state_of m.processor) (traced_action (inst_in n) (state_of m.processor)) m.effect) (sym keeps.decodes)
+      (subst (λ (s : State). IsEffect s (traced_action (inst_in before.decodes) s) m.effect) (sym i.state)
+      (subst (IsEffect (state_of before.processor) (traced_action (inst_in before.decodes) (state_of before.processor))) (sym keeps.effect) runs.effect));
+  row = subst (λ (n : DecodeCache). AreRequestsInRow (inst_in n) m.effect) (sym keeps.decodes)
+      (subst (AreRequestsInRow (inst_in before.decodes)) (sym keeps.effect) runs.row);
 }
 moved_ready t x before m plan (Faulting number) i keeps is =
-    subst (λ (n : Memo). IsAhead m plan x (Faulted (Some (inst_in n)) (fault_at (state_of m.processor) number))) (sym keeps.memo)
-    (subst (λ (s : State). IsAhead m plan x (Faulted (Some (inst_in before.memo)) (fault_at s number))) (sym i.state)
+    subst (λ (n : DecodeCache). IsAhead m plan x (Faulted (Some (inst_in n)) (fault_at (state_of m.processor) number))) (sym keeps.decodes)
+    (subst (λ (s : State). IsAhead m plan x (Faulted (Some (inst_in before.decodes)) (fault_at s number))) (sym i.state)
     (moved_ahead t x before m plan _ i keeps is))
 
 pub passed_ready : (t : ℕ) (before m : Machine) (plan : Plan) (coming : Coming) → IsPassedTo t before m → KeepsPlanned before m
@@ -297,7 +297,7 @@ pub ahead_planned : (m mid : Machine) (plan : Plan) (t : ℕ) (k : Kind) (step :
     → mid.need ≡ m.need → mid.floor ≡ m.floor → IsStepWhere m None plan step is.need mid.effect → IsPlannedIn m plan step mid
 ahead_planned m mid plan t k step is need floor where_none = record {
   need = is.need;
-  marked = need ∙ is.marked ∙ ap (λ (f : ℕ). waiting_until f is.need) (sym floor);
+  fenced = need ∙ is.fenced ∙ ap (λ (f : ℕ). waiting_until f is.need) (sym floor);
   is = step_where m plan step is.need mid.effect is.none where_none;
 }
 

@@ -50,8 +50,8 @@ pub same_turn_at : (g : Given) (h : List Item) (m : Machine) → StandsFor g h N
 same_turn_at g h m stands =
     let rs = turns (course g h).late in
     stands-pending_turn m.board rs (waiting_until m.floor (need_at m)) stands.lands.board
-    ∙ ap (λ (f : ℕ). issue_turn (last_issue rs) rs (waiting_until f (need_at m))) stands.lands.mark
-    ∙ ap (λ (n : Need). issue_turn (last_issue rs) rs (waiting_until (course g h).mark n)) (same_need_at g h m stands)
+    ∙ ap (λ (f : ℕ). issue_turn (last_issue rs) rs (waiting_until f (need_at m))) stands.lands.fence
+    ∙ ap (λ (n : Need). issue_turn (last_issue rs) rs (waiting_until (course g h).fence n)) (same_need_at g h m stands)
 
 -- the event that stands there for the machine stands there in the run
 same_event : (g : Given) (h : List Item) (m : Machine) (plan : Plan) → StandsFor g h None m → Follows g h plan → event_for m plan ≡ event_ahead g h

@@ -91,7 +91,7 @@ pub placed_done : (g : Given) (h : List Item) (before : Machine) (r : Record) (n
 placed_done g h before r need p b stands is_need placed =
     let rs = turns (course g h).late in
     (placed_turns g h r need p b is_need
-    (subst (λ (t : ℕ). board.StandsFor b (placed_record (waiting_until t need) p ∷ rs)) stands.lands.mark
+    (subst (λ (t : ℕ). board.StandsFor b (placed_record (waiting_until t need) p ∷ rs)) stands.lands.fence
     (placed rs stands.lands.board))).1
 
 module _ (g : Given) (h : List Item) (before m : Machine) (r q : Record) (need : Need)
@@ -108,8 +108,8 @@ module _ (g : Given) (h : List Item) (before m : Machine) (r q : Record) (need :
 
   needs : (late_after g h r).timed.need ≡ waiting_until before.floor need
   needs =
-      ap (waiting_until (course g h).mark) is_need
-      ∙ ap (λ (t : ℕ). waiting_until t need) (sym stands.lands.mark)
+      ap (waiting_until (course g h).fence) is_need
+      ∙ ap (λ (t : ℕ). waiting_until t need) (sym stands.lands.fence)
 
   done : (late_after g h r).timed.done ≡ issued.placed.done
   done = placed_done g h before r need issued.placed m.board stands is_need issued.board

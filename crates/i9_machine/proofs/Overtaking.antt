@@ -139,8 +139,8 @@ ahead_issues m need t is turn g h stands =
     let s = state_after g (records_of h) in
     let c = cache_after g (records_of h) in
     turn rs stands.lands.board
-    ∙ ap (λ (f : ℕ). issue_turn (last_issue rs) rs (waiting_until f need)) stands.lands.mark
-    ∙ ap (λ (n : Need). issue_turn (last_issue rs) rs (waiting_until (course g h).mark n))
+    ∙ ap (λ (f : ℕ). issue_turn (last_issue rs) rs (waiting_until f need)) stands.lands.fence
+    ∙ ap (λ (n : Need). issue_turn (last_issue rs) rs (waiting_until (course g h).fence n))
     (sym (is.ahead g.sets c) ∙ ahead_need g.sets c s (state_of m.processor) (course_blind g h stands.past) stands.state)
 
 -- where it waits for all, it overtakes nothing

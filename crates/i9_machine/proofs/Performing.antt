@@ -80,7 +80,7 @@ CanActBy k e n = (p : Placed) (b : Pending) → IsPlaced k.board n p b → CanAc
 pub step_acts : (m k : Machine) (plan : Plan) (step : Step) (need : Need) (e : Effect) → k.need ≡ waiting_until k.floor need → HasCome m plan → IsStep m plan step need e
     → state_of k.processor ≡ state_of m.processor → queue_of k.processor ≡ queue_of m.processor → k.board ≡ m.board → k.floor ≡ m.floor
     → CanActPlaced k e
-step_acts m k plan step need e marked u is state queue board floor = subst (CanActBy k e) (sym marked) by_need
+step_acts m k plan step need e fenced u is state queue board floor = subst (CanActBy k e) (sym fenced) by_need
   where
     by_barrier : (c : Bool) → need.barrier ≡ c → (need.barrier ≡ true → IsDrained k.processor) → need.request ≡ false
         → IsDrained k.processor ⊎ IsStill (action_in (state_of k.processor) e)
@@ -294,7 +294,7 @@ like_step before mid plan step need e l is =
 pub like_planned : (before mid : Machine) (plan : Plan) (step : Step) → IsLike before mid → IsPlannedIn before plan step mid → IsPlanned mid plan step
 like_planned before mid plan step l p = record {
   need = p.need;
-  marked = p.marked;
+  fenced = p.fenced;
   is = like_step before mid plan step p.need mid.effect l p.is;
 }
 
@@ -303,7 +303,7 @@ pub planned : (m mid : Machine) (plan : Plan) (step : Step) (need : Need) (e : E
     → IsLike before mid → mid.effect ≡ e → event_for m plan ≡ None → IsStepWhere m None plan step need e → IsPlannedIn m plan step mid
 planned m mid plan step need e {before} kept like effect none is = record {
   need = need;
-  marked = kept ∙ ap (λ (f : ℕ). waiting_until f need) (sym like.floor);
+  fenced = kept ∙ ap (λ (f : ℕ). waiting_until f need) (sym like.floor);
   is = subst (λ (x : Effect). IsStep m plan step need x) (sym effect) (step_where m plan step need e none is);
 }
 

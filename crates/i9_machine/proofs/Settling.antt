@@ -1,4 +1,4 @@
--- A machine settles: all that is open lands, and a mark is set where no end was answered.
+-- A machine settles: all that is open lands, and a fence is set where no end was answered.
 use Rattle.std.proofs.Common.{◌≡◌, ℕ, ◌≤◌, max, List, [], ◌∷◌, Option, Some, None, sym, ap, ◌∙◌, subst, arith}
 use Rattle.i9_model.specs.declared.run.End.{End}
 use Rattle.i9_model.specs.declared.need.TimedNeed.{TimedNeed}
@@ -11,14 +11,14 @@ use Rattle.i9_model.specs.Turns.{Pending, IsAllDone, last_issue, end_turn}
 use Rattle.i9_model.specs.Turns as board
 use Rattle.std.specs.List.{AllByRecursion}
 use Rattle.i9_model.specs.declared.need.Cell.{Cell}
-use Rattle.i9_turns.proofs.TurnMarks.{all-end}
+use Rattle.i9_turns.proofs.TurnFences.{all-end}
 use Rattle.i9_turns.proofs.LateMemories.{none-wait, all-requests}
 use Rattle.i9_turns.proofs.LateRegisters.{plan-none}
 use Rattle.i9_turns.proofs.LateOrder.{issued-by, shows_moves}
-use Rattle.i9_course.specs.Course.{Item, Mark, records_of, course}
+use Rattle.i9_course.specs.Course.{Item, Fence, records_of, course}
 use Rattle.i9_course.specs.Kernel.{MovesTo}
 use Rattle.i9_course.proofs.Orderly.{course_orderly}
-use Rattle.i9_course.proofs.Steps.{marks_lands}
+use Rattle.i9_course.proofs.Steps.{fence_lands}
 use Rattle.i9_course.proofs.Timed.{course_timed}
 use Rattle.i9_raw.specs.Raw.{IsShaded}
 use Rattle.i9_machine.specs.declared.machine.Machine.{Machine}
@@ -55,10 +55,10 @@ settled_paced before m until left rs i stands is p floor =
       floor = omega (arith, floor, floor_was, is, ended);
     }
 
--- a mark is set
-pub settled_marked : (g : Given) (h : List Item) (before m : Machine) (until : ℕ) → IsEndTurn before until → IsSettled before m until → m.floor ≡ until
-    → StandsFor g h None before → StandsFor g (Mark ∷ h) None m
-settled_marked g h before m until end i floor stands =
+-- a fence is set
+pub settled_fenced : (g : Given) (h : List Item) (before m : Machine) (until : ℕ) → IsEndTurn before until → IsSettled before m until → m.floor ≡ until
+    → StandsFor g h None before → StandsFor g (Fence ∷ h) None m
+settled_fenced g h before m until end i floor stands =
     let rs = turns (course g h).late in
     let is : until ≡ end_turn rs = end rs stands.lands.board in
     let zero : m.wait ≡ 0 = i.wait in
@@ -68,7 +68,7 @@ settled_marked g h before m until end i floor stands =
       state = subst (AreAlike (state_after g (records_of h))) (sym i.state) stands.state;
       size = i.size ∙ stands.size;
       cache = i.cache ∙ stands.cache;
-      lands = marks_lands g h (kernel_of before) (kernel_of m) stands.lands moves (floor ∙ is);
+      lands = fence_lands g h (kernel_of before) (kernel_of m) stands.lands moves (floor ∙ is);
       shaded = subst (IsShaded (boot g.image).memory.bytes (course g h).late) (sym i.shade) stands.shaded;
       early = omega (arith, zero);
       paced = settled_paced before m until (left_after g (records_of h)) rs i stands.lands.board is stands.paced (omega (arith, floor));
@@ -91,7 +91,7 @@ settled_ended g h f before m until end i floor stands =
     let le : before.turn ≤ m.turn = omega (arith, turn) in
     let landing : HasLanded g h (kernel_of m) = record {
       board = subst (λ (p : Pending). board.StandsFor p rs) (sym i.board) stands.lands.board;
-      mark = floor ∙ stands.lands.mark;
+      fence = floor ∙ stands.lands.fence;
       last = i.done ∙ stands.lands.last;
       begun = omega (arith, begun, le);
       shows = shows_moves (boot g.image) before.turn m.turn xs (kernel_of before).cells (kernel_of m).cells (kernel_of before).bytes (kernel_of m).bytes (kernel_of before).queue (kernel_of m).queue stands.lands.shows le
@@ -117,7 +117,7 @@ settled_ended g h f before m until end i floor stands =
 
 writers_done : (r t : ℕ) (xs : List Late) → AllDone t xs → WritersDone r t xs
 writers_done r t [] done = tt
-writers_done r t (x ∷ xs) done = (λ marks. done.0, writers_done r t xs done.1)
+writers_done r t (x ∷ xs) done = (λ fences. done.0, writers_done r t xs done.1)
 
 done_by : (t u : ℕ) (xs : List Late) → t ≤ u → AllByRecursion (λ r. r.done ≤ t) (turns xs) → AllDone u xs
 done_by t u [] le h = tt
@@ -138,7 +138,7 @@ pub settled_quiet : (g : Given) (h : List Item) (end : Option Finish) (before m 
 settled_quiet g h None before m until end i running over stands =
     let is : until ≡ end_turn (turns (course g h).late) = end (turns (course g h).late) stands.lands.board in
     let turn : m.turn ≡ max before.turn until = i.turn in
-    quiet_by g h m (settled_marked g h before m until end i (running stands.ended) stands).lands.shows (omega (arith, is, turn))
+    quiet_by g h m (settled_fenced g h before m until end i (running stands.ended) stands).lands.shows (omega (arith, is, turn))
 settled_quiet g h (Some f) before m until end i running over stands =
     let is : until ≡ end_turn (turns (course g h).late) = end (turns (course g h).late) stands.lands.board in
     let turn : m.turn ≡ max before.turn until = i.turn in

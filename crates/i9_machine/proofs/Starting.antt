@@ -63,7 +63,7 @@ first_lands g k board turn floor done cells bytes queue =
     let later : 1 ≤ (ahead g []).turn = ahead_later g [] in
     record {
       board = subst (λ (p : Pending). StandsFor p []) (sym board) stands-none;
-      mark = floor;
+      fence = floor;
       last = done;
       begun = omega (arith, turn);
       in_time = omega (arith, turn, later);

@@ -162,7 +162,7 @@ paced_turn m pace =
 
 -- ---- turns stay small
 
--- a need behind the last mark is early enough for the scoreboard
+-- a need behind the last fence is early enough for the scoreboard
 pub paced_early : (m : Machine) (left : ℕ) (need : Need) → IsPaced m left → need.not_before ≡ 0 → need.cost ≤ most_turns
     → IsEarly m.board (waiting_until m.floor need)
 paced_early m left need p none cost =
@@ -221,7 +221,7 @@ comes_at m plan k need t is_next is_need turn g h stands follows precise =
     let run = next_free g.length (due_after (records_of h)) (event_ahead g h) (state_after g (records_of h)) found.0 found.1 in
     let same = same_need g h m found.0 q need stands found.2 (ap (λ (x : Record). x.before) run.0) refl is_need in
     turn rs stands.lands.board
-    ∙ ap (λ (f : ℕ). issue_turn (last_issue rs) rs (waiting_until f need)) stands.lands.mark
+    ∙ ap (λ (f : ℕ). issue_turn (last_issue rs) rs (waiting_until f need)) stands.lands.fence
     ∙ sym (next_turn g h need precise (ap (need_ahead g.sets (cache_after g (records_of h))) found.1 ∙ same))
 
 -- an instruction that comes where no event stands would issue at the turn of the instruction ahead

@@ -63,7 +63,7 @@ landing_of : (g : Given) (h : List Item) (end : Option Finish) (m : Machine) →
 landing_of g h None m lands = lands
 landing_of g h (Some f) m lands = record {
   board = lands.board;
-  mark = lands.mark;
+  fence = lands.fence;
   last = lands.last;
   begun = lands.begun;
   shows = lands.shows;

@@ -60,28 +60,28 @@ pub record HasArrived (m : Machine) (plan : Plan) (coming : Coming) : Type 0 whe
 -- ---- what a machine has of it
 
 -- An instruction is what comes next, as a record of this kind, and no event stands before it. The machine has its need,
--- behind the last mark, by which it issues at this turn.
+-- behind the last fence, by which it issues at this turn.
 pub record IsAhead (m : Machine) (plan : Plan) (t : ℕ) (kind : Kind) : Type 0 where
   pub free : IsFreeToIssue m
   pub none : event_for m plan ≡ None
   pub is_next : next_where m None ≡ Does (record_of kind (state_of m.processor))
-  pub told : TellsWords (words_of (inst_in m.memo)) (state_of m.processor) (words_in m.memo)
+  pub told : TellsWords (words_of (inst_in m.decodes)) (state_of m.processor) (words_in m.decodes)
   pub need : Need
-  pub marked : m.need ≡ waiting_until m.floor need
+  pub fenced : m.need ≡ waiting_until m.floor need
   pub is_need : need ≡ need_of (size_of m.processor) (cache_of m.processor) (state_of m.processor) kind
   pub cost : need.cost ≤ most_turns
   pub issues : IssuesAt m.board.last m.board.records m.need t
 
 -- it runs, and the machine has its effect
 pub record RunsAhead (m : Machine) (plan : Plan) (t : ℕ) : Type 0 where
-  pub ahead : IsAhead m plan t (Instruction (inst_in m.memo))
-  pub effect : IsEffect (state_of m.processor) (traced_action (inst_in m.memo) (state_of m.processor)) m.effect
-  pub row : AreRequestsInRow (inst_in m.memo) m.effect
+  pub ahead : IsAhead m plan t (Instruction (inst_in m.decodes))
+  pub effect : IsEffect (state_of m.processor) (traced_action (inst_in m.decodes) (state_of m.processor)) m.effect
+  pub row : AreRequestsInRow (inst_in m.decodes) m.effect
 
--- the instruction at the instruction address was read into the memo, and nothing comes before it but an event
+-- the instruction at the instruction address was read into the decode cache, and nothing comes before it but an event
 pub record HasRead (m : Machine) : Type 0 where
   pub free : IsFreeToIssue m
-  pub read : IsRead (state_of m.processor) m.memo
+  pub read : IsRead (state_of m.processor) m.decodes
 
 -- what is known where this comes next at a turn
 abbrev pub IsReadyFor : Machine → Plan → ℕ → Coming → Type 0
@@ -89,7 +89,7 @@ IsReadyFor m plan t (Waiting read) = IsEndTurn m t × (read ≡ true → HasRead
 IsReadyFor m plan t (Overtaking a) = late_due m ≡ Some a
 IsReadyFor m plan t Running = RunsAhead m plan t
 IsReadyFor m plan t (Faulting number) =
-    IsAhead m plan t (Faulted (Some (inst_in m.memo)) (fault_at (state_of m.processor) number))
+    IsAhead m plan t (Faulted (Some (inst_in m.decodes)) (fault_at (state_of m.processor) number))
 
 -- the kind of record that the instruction makes
 abbrev pub kind_of : Inst → State → Coming → Option Kind
@@ -101,7 +101,7 @@ kind_of i s (Faulting number) = Some (Faulted (Some i) (fault_at s number))
 -- the instruction comes next where no event stands, and the machine has its need
 pub record IsNextInstruction (m : Machine) (coming : Coming) : Type 0 where
   pub kind : Kind
-  pub same : kind_of (inst_in m.memo) (state_of m.processor) coming ≡ Some kind
+  pub same : kind_of (inst_in m.decodes) (state_of m.processor) coming ≡ Some kind
   pub free : IsFreeToIssue m
   pub is_next : next_where m None ≡ Does (record_of kind (state_of m.processor))
   pub need : HasNeed m kind m

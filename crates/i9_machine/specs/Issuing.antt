@@ -133,7 +133,7 @@ pub record IsPassedTo (t : ℕ) (before m : Machine) : Type 0 where
 
 -- what is planned stays
 pub record KeepsPlanned (before m : Machine) : Type 0 where
-  pub memo : m.memo ≡ before.memo
+  pub decodes : m.decodes ≡ before.decodes
   pub effect : m.effect ≡ before.effect
   pub need : m.need ≡ before.need
 

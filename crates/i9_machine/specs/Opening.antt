@@ -37,10 +37,10 @@ NextWaits m plan =
 
 -- ---- the need that is kept
 
--- a machine has a need of a cost, behind the last mark, that waits for no turn of its own
+-- a machine has a need of a cost, behind the last fence, that waits for no turn of its own
 pub record HasKept (m : Machine) : Type 0 where
   pub need : Need
-  pub marked : m.need ≡ waiting_until m.floor need
+  pub fenced : m.need ≡ waiting_until m.floor need
   pub some : HasCost need
   pub cost : need.cost ≤ most_turns
   pub none : need.not_before ≡ 0
@@ -48,7 +48,7 @@ pub record HasKept (m : Machine) : Type 0 where
 -- it has the need of the instruction at the instruction address of another machine, as a record of this kind
 pub record HasNeed (m : Machine) (kind : Kind) (mid : Machine) : Type 0 where
   pub need : Need
-  pub marked : mid.need ≡ waiting_until mid.floor need
+  pub fenced : mid.need ≡ waiting_until mid.floor need
   pub is_need : need ≡ need_of (size_of m.processor) (cache_of m.processor) (state_of m.processor) kind
   pub cost : need.cost ≤ most_turns
   pub ahead : NeedsAhead (state_of m.processor) need
@@ -56,6 +56,6 @@ pub record HasNeed (m : Machine) (kind : Kind) (mid : Machine) : Type 0 where
 -- where what stands there does not wait
 abbrev pub HasOpenNeed : Machine → Open → Machine → Type 0
 HasOpenNeed m (opens.Waits read) mid = Unit {0}
-HasOpenNeed m opens.Runs mid = HasNeed m (Instruction (inst_in mid.memo)) mid
+HasOpenNeed m opens.Runs mid = HasNeed m (Instruction (inst_in mid.decodes)) mid
 HasOpenNeed m (opens.Faults number) mid =
-    HasNeed m (Faulted (Some (inst_in mid.memo)) (fault_at (state_of m.processor) number)) mid
+    HasNeed m (Faulted (Some (inst_in mid.decodes)) (fault_at (state_of m.processor) number)) mid

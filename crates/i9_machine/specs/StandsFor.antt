@@ -52,7 +52,7 @@ FollowsUntil g h (Some f) plan = Unit {0}
 -- what lands late is as the course of the items has it at the machine's turn, which is not below the last issue
 pub record HasLanded (g : Given) (h : List Item) (k : Kernel) : Type 0 where
   pub board : board.StandsFor k.board (late_turns (course g h).late)
-  pub mark : k.floor ≡ (course g h).mark
+  pub fence : k.floor ≡ (course g h).fence
   pub last : k.done ≡ last_done (course g h).late
   pub begun : last_issue (late_turns (course g h).late) ≤ k.turn
   pub shows : Shows (boot g.image) k.turn (course g h).late k.cells k.bytes k.queue
@@ -67,7 +67,7 @@ abbrev pub IsInTime : Given → List Item → Option Finish → Machine → Type
 IsInTime g h None m = m.wait ≤ (ahead g h).turn
 IsInTime g h (Some f) m = Unit {0}
 
--- The machine stands for the first items of the run of what is given, its records and the marks between them, and has
+-- The machine stands for the first items of the run of what is given, its records and the fences between them, and has
 -- answered this end of it, if any: its state is the one after them but for bytes that are not compared; it has as many
 -- sets as are asked for, or as the PRCB asks for, and the frames in them and the memory behind, with all that waits,
 -- are those of the run; what lands late is as the course of the items has it at the machine's turn, which is at most

@@ -127,10 +127,10 @@ IsStepWhere m stands plan step need e =
 abbrev pub IsStep : Machine → Plan → Step → Need → Effect → Type 0
 IsStep m plan step need e = IsStepWhere m (event_for m plan) plan step need e
 
--- what comes next of a machine is this step, whose effect another one has, with its need behind the last mark
+-- what comes next of a machine is this step, whose effect another one has, with its need behind the last fence
 pub record IsPlannedIn (m : Machine) (plan : Plan) (step : Step) (mid : Machine) : Type 0 where
   pub need : Need
-  pub marked : mid.need ≡ waiting_until mid.floor need
+  pub fenced : mid.need ≡ waiting_until mid.floor need
   pub is : IsStep m plan step need mid.effect
 
 -- the machine itself has them

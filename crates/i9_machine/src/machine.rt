@@ -13,7 +13,7 @@ ghost use Rattle.i9_model.specs.Run.{Faulted, fault_at, state_after, Finish};
 ghost use Rattle.i9_model.specs.declared.need.TimedNeed.{TimedNeed};
 ghost use Rattle.i9_model.specs.Turns.{end_turn};
 ghost use Rattle.i9_model.specs.Turns as board;
-ghost use Rattle.i9_course.specs.Course.{Item, Mark, records_of, comes_next};
+ghost use Rattle.i9_course.specs.Course.{Item, Fence, records_of, comes_next};
 ghost use Rattle.i9_model.specs.PrintedText.{view_of};
 ghost use Rattle.i9_schedule.specs.Plan.{Plan};
 ghost use Rattle.i9_plan.specs.Kept.{inst_in};
@@ -37,7 +37,7 @@ use i9_isa::NoMemory;
 use i9_issue::Board;
 use i9_model::layout::MAX_LENGTH;
 use i9_model::{Due, End, Need, View};
-use i9_plan::Memo;
+use i9_plan::DecodeCache;
 use i9_processor::{Effect, Processor};
 use i9_schedule::Schedule;
 use i9_shade::Shade;
@@ -45,13 +45,13 @@ use std::alloc::Global;
 
 /// A machine that runs an image: what an instruction may read or change, the length of the run, what
 /// comes next whatever the length, and the end that was answered; instructions that were decoded; the
-/// scoreboard with the turn, that of the last mark, that at which the last record is done, and one below
+/// scoreboard with the turn, that of the last fence, that at which the last record is done, and one below
 /// which nothing comes next; what stood in memory under an open barrier's writes; and the effect and the
 /// need of what is planned.
 #[derive(Drop)]
 pub struct Machine {
     processor: Processor,
-    memo: Memo,
+    decodes: DecodeCache,
     alloc: Global,
     sets: Option<u8>,
     length: u64,
@@ -95,10 +95,10 @@ impl Machine {
         ensures pages { IfOk result (λ m. HasPagesFor m.processor (pairs_of image.now)) }
     {
         let processor = Processor::boot(alloc, image, sets)?;
-        let memo = Memo::new(alloc)?;
+        let decodes = DecodeCache::new(alloc)?;
         Ok(Machine {
             processor,
-            memo,
+            decodes,
             alloc,
             sets,
             length,
@@ -150,17 +150,19 @@ impl Machine {
     }
 
     /// Lands all that is open: the turn becomes one at which all records are done. Where no end was answered a
-    /// mark is set, so that nothing issues below the turn at which they are; after an end none is. It succeeds
+    /// fence is set, so that nothing issues below the turn at which they are; after an end none is. It succeeds
     /// at every moment, and takes no memory.
     pub fn settle(&mut self)
-        ensures marked { (g : Given) (h : List Item) → StandsFor g h None self.old → StandsFor g (Mark ∷ h) None self.new }
+        ensures fenced { (g : Given) (h : List Item) → StandsFor g h None self.old → StandsFor g (Fence ∷ h) None self.new }
         ensures ended { (g : Given) (h : List Item) (f : Finish) → StandsFor g h (Some f) self.old → StandsFor g h (Some f) self.new }
         ensures turn { (rs : List TimedNeed) → board.StandsFor self.old.board rs → self.new.turn ≡ max self.old.turn (end_turn rs) }
         ensures quiet { (g : Given) (h : List Item) (end : Option Finish) → StandsFor g h end self.old → IsQuiet self.new }
         ensures level { (g : Given) (h : List Item) (end : Option Finish) → StandsFor g h end self.old → IsLevel g h self.new.turn }
+        ensures room { KeepsRoom self.old.processor self.new.processor }
+        ensures no_more { AddsNoPage self.old.processor self.new.processor }
     {
         let until = self.board.all_done();
-        let floor = self.mark_at(until);
+        let floor = self.fence_at(until);
         self.land_all(until, floor);
     }
 
@@ -168,14 +170,16 @@ impl Machine {
     fn land_all(&mut self, until: u64, floor: u64)
         ensures settled { IsSettled self.old self.new until }
         ensures floor { self.new.floor ≡ floor }
+        ensures room { KeepsRoom self.old.processor self.new.processor }
+        ensures no_more { AddsNoPage self.old.processor self.new.processor }
     {
         self.move_to(self.turn.max(until));
         self.floor = floor;
         self.wait = 0;
     }
 
-    /// The turn of the last mark, once one is set at this turn where no end was answered.
-    fn mark_at(&self, turn: u64) -> u64
+    /// The turn of the last fence, once one is set at this turn where no end was answered.
+    fn fence_at(&self, turn: u64) -> u64
         ensures none { self.now.ended ≡ None → result ≡ turn }
         ensures end { (f : End) → self.now.ended ≡ Some f → result ≡ self.now.floor }
     {
@@ -232,7 +236,7 @@ impl Machine {
     }
 
     /// One step of a machine for which nothing is open. Where `read` is set, nothing comes before the instruction in the
-    /// memo but an event.
+    /// decode cache but an event.
     // Loops seldom come here, and this is no part of their code.
     #[inline(never)]
     fn step_drained(&mut self, read: bool, plan: &mut Schedule, out: &mut Vec<Line>) -> Turn
@@ -272,7 +276,7 @@ impl Machine {
         requires running { self.old.ended ≡ None }
         requires come { HasCome self.old plan.old }
         requires ahead { IsAhead self.old plan.old issue
-            (Faulted (Some (inst_in self.old.memo)) (fault_at (state_of self.old.processor) number)) }
+            (Faulted (Some (inst_in self.old.decodes)) (fault_at (state_of self.old.processor) number)) }
         ensures steps { Steps self.old result self.new plan.old plan.new out.old.items out.new.items }
         ensures issues { Issues self.old result self.new plan.old }
         ensures lacking { result ≡ Turn.Memory

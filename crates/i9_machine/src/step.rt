@@ -64,8 +64,8 @@ pub(crate) fn next_event<'a>(plan: &'a Schedule, reaches: bool) -> Option<&'a Ev
 /// What comes next.
 #[derive(Clone, Copy)]
 pub(crate) enum Coming {
-    /// What waits for all that is open. Where `read` is set, that is the instruction in the memo, unless an event stands
-    /// before it.
+    /// What waits for all that is open. Where `read` is set, that is the instruction in the decode cache, unless an
+    /// event stands before it.
     Waiting { read: bool },
     /// The end at the arithmetic fault of the instruction at this address, which the next one overtakes.
     Overtaking(u32),

@@ -36,7 +36,7 @@ pub mod Alike
 pub mod Free
 pub mod HeldFrames
 pub mod Turns
-pub mod Marks
+pub mod Fences
 pub mod Needs
 pub mod Late
 pub mod Events

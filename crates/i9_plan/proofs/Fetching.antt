@@ -17,7 +17,7 @@ use Rattle.i9_model.specs.Writes.{wrapped}
 use Rattle.i9_model.specs.Hazards.{or_else, read_hazard}
 use Rattle.i9_model.specs.Step.{first_word, next_word}
 use Rattle.i9_model.specs.Access.{second_hazard, fetch_hazard}
-use Rattle.i9_plan.specs.declared.memo.Memo.{Memo}
+use Rattle.i9_plan.specs.declared.decode_cache.DecodeCache.{DecodeCache}
 use Rattle.i9_plan.specs.Kept.{inst_in, words_in}
 use Rattle.i9_plan.specs.Planned.{IsRead}
 
@@ -94,7 +94,7 @@ long_fetch s i clear read two =
     ∙ ap (second_hazard s) read
     ∙ ap (λ (n : ℕ). cond (n == 2) (read_hazard s.frames (wrapped (s.ip + 4)) 4) None) two
 
--- ---- what a memo has read
+-- ---- what a decode cache has read
 
 one_word : (m : Mode) → (words_of_mode m == 2) ≡ false → words_of_mode m ≡ 1
 one_word Offset short = refl
@@ -104,7 +104,7 @@ one_word BaseIndex short = refl
 one_word _ short = absurd cc
 
 -- an instruction of one word
-pub short_read : (s : State) (m : Memo) → read_hazard s.frames s.ip 4 ≡ None → (words_in m).first ≡ first_word s
+pub short_read : (s : State) (m : DecodeCache) → read_hazard s.frames s.ip 4 ≡ None → (words_in m).first ≡ first_word s
     → (words_of (inst_in m) == 2) ≡ false → IsRead s m
 short_read s m clear first short =
     let i = inst_in m in
@@ -119,14 +119,14 @@ short_read s m clear first short =
     }
 
 -- where the second word of one that has two is still to be read, its hazard is that of the fetch
-pub long_met : (s : State) (m : Memo) → read_hazard s.frames s.ip 4 ≡ None → (words_in m).first ≡ first_word s
+pub long_met : (s : State) (m : DecodeCache) → read_hazard s.frames s.ip 4 ≡ None → (words_in m).first ≡ first_word s
     → words_of (inst_in m) ≡ 2 → fetch_hazard s ≡ read_hazard s.frames (wrapped (s.ip + 4)) 4
 long_met s m clear first long =
     let given = second_given m.last.words.first m.last.words.second (next_word s) (inst_in m) long m.last.read in
     long_fetch s _ clear (sym (ap (λ (w : ℕ). decoded w (next_word s)) first) ∙ given) long
 
 -- an instruction of two words
-pub long_read : (s : State) (m : Memo) → read_hazard s.frames s.ip 4 ≡ None
+pub long_read : (s : State) (m : DecodeCache) → read_hazard s.frames s.ip 4 ≡ None
     → read_hazard s.frames (wrapped (s.ip + 4)) 4 ≡ None → (words_in m).first ≡ first_word s
     → (words_in m).second ≡ next_word s → words_of (inst_in m) ≡ 2 → IsValid (inst_in m) → IsRead s m
 long_read s m clear free first second long valid =

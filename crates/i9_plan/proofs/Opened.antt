@@ -19,7 +19,7 @@ use Rattle.i9_model.specs.HeldFrames.{Cache, sets_in}
 use Rattle.i9_model.specs.Traced.{traced_action}
 use Rattle.i9_model.specs.Run.{Instruction, next_by_standing}
 use Rattle.i9_course.specs.NeedOf.{facts_of, frames_of, need_of, need_ahead}
-use Rattle.i9_plan.specs.declared.memo.Memo.{Memo}
+use Rattle.i9_plan.specs.declared.decode_cache.DecodeCache.{DecodeCache}
 use Rattle.i9_plan.specs.declared.kept.Kept.{Kept}
 use Rattle.i9_plan.specs.declared.fetched.Unread.{Unread}
 use Rattle.i9_plan.specs.declared.fetched.Unread.TheVariants as unreads
@@ -90,7 +90,7 @@ word_waits i s b = by (misuses i s)
 -- ---- what stands there
 
 -- what was read stays so while the instruction does
-pub still_read : (s : State) (m n : Memo) → n.last ≡ m.last → IsRead s m → IsRead s n
+pub still_read : (s : State) (m n : DecodeCache) → n.last ≡ m.last → IsRead s m → IsRead s n
 still_read s m n e read = record {
   clear = read.clear;
   read = read.read ∙ sym (ap (λ (k : Kept). Ok k.inst) e);
@@ -99,11 +99,11 @@ still_read s m n e read = record {
 }
 
 -- by an instruction that is read
-pub read_stands : (s : State) (m : Memo) → IsRead s m → stands_at s ≡ by_word s (Ok (inst_in m))
+pub read_stands : (s : State) (m : DecodeCache) → IsRead s m → stands_at s ≡ by_word s (Ok (inst_in m))
 unfolding stands_at
 read_stands s m read = ap (by_fetch s) read.clear ∙ ap (by_word s) read.read
 
-pub barrier_waits : (s : State) (m : Memo) → IsRead s m → IsBarrier (inst_in m) → WaitsForAll s (stands_at s)
+pub barrier_waits : (s : State) (m : DecodeCache) → IsRead s m → IsBarrier (inst_in m) → WaitsForAll s (stands_at s)
 barrier_waits s m read b =
     subst (WaitsForAll s) (sym (read_stands s m read)) (word_waits (inst_in m) s b)
 
@@ -126,12 +126,12 @@ stop_waits s i (outcomes.Faults number) stops = early_waits i s number stops
 stop_waits s i outcomes.Runs stops = absurd stops
 
 -- what the instruction that was read comes to is what stands there
-pub outcome_stands : (s : State) (m : Memo) (i : Inst) (o : Outcome) → IsRead s m → i ≡ inst_in m
+pub outcome_stands : (s : State) (m : DecodeCache) (i : Inst) (o : Outcome) → IsRead s m → i ≡ inst_in m
     → standing_in i o ≡ by_word s (Ok i) → stands_at s ≡ standing_in (inst_in m) o
 outcome_stands s m i o read is stands =
     read_stands s m read ∙ sym (subst (λ (x : Inst). standing_in x o ≡ by_word s (Ok x)) is stands)
 
-pub outcome_waits : (s : State) (m : Memo) (i : Inst) (o : Outcome) → IsRead s m → i ≡ inst_in m
+pub outcome_waits : (s : State) (m : DecodeCache) (i : Inst) (o : Outcome) → IsRead s m → i ≡ inst_in m
     → standing_in i o ≡ by_word s (Ok i) → Stops o → WaitsForAll s (stands_at s)
 outcome_waits s m i o read is stands stops =
     subst (WaitsForAll s) (sym (outcome_stands s m i o read is stands)) (stop_waits s (inst_in m) o stops)

@@ -15,7 +15,7 @@ use Rattle.i9_model.specs.Run.{next_by_standing}
 use Rattle.i9_course.specs.NeedOf.{facts_of, need_ahead}
 use Rattle.i9_processor.specs.declared.effect.Effect.{Effect}
 use Rattle.i9_processor.specs.Effect.{IsEffect}
-use Rattle.i9_plan.specs.declared.memo.Memo.{Memo}
+use Rattle.i9_plan.specs.declared.decode_cache.DecodeCache.{DecodeCache}
 use Rattle.i9_plan.specs.declared.open.Open.{Open}
 use Rattle.i9_plan.specs.declared.open.Open.TheVariants as opens
 use Rattle.i9_plan.specs.Kept.{inst_in, words_in, Locates}
@@ -31,14 +31,14 @@ pub record IsNoBarrier (i : Inst) : Type 0 where
   pub written : writes_sfr i ≡ false
 
 -- what is told to wait does wait, and was read where that is told; an instruction that is told runs, or faults by its result, and is no barrier
-abbrev pub OpenStands : State → Memo → Open → Type 0
+abbrev pub OpenStands : State → DecodeCache → Open → Type 0
 OpenStands s m (opens.Waits read) = WaitsForAll s (stands_at s) × (read ≡ true → IsRead s m)
 OpenStands s m opens.Runs = (stands_at s ≡ Runs (inst_in m)) × IsNoBarrier (inst_in m)
 OpenStands s m (opens.Faults number) =
     (stands_at s ≡ Faults (inst_in m) number) × (number.0 ≡ ARITHMETIC) × IsNoBarrier (inst_in m)
 
 -- its words are told, and its effect is its action, with its trace events
-abbrev pub OpenPlanned : State → Memo → Open → Effect → Type 0
+abbrev pub OpenPlanned : State → DecodeCache → Open → Effect → Type 0
 OpenPlanned s m (opens.Waits read) e = Unit {0}
 OpenPlanned s m opens.Runs e =
     TellsWords (words_of (inst_in m)) s (words_in m) × IsEffect s (traced_action (inst_in m) s) e
@@ -46,7 +46,7 @@ OpenPlanned s m opens.Runs e =
 OpenPlanned s m (opens.Faults number) e = TellsWords (words_of (inst_in m)) s (words_in m) × IsValid (inst_in m)
 
 -- where an instruction is told, its load or store was worked out
-abbrev pub OpenLocated : State → Memo → Open → Type 0
+abbrev pub OpenLocated : State → DecodeCache → Open → Type 0
 OpenLocated s m (opens.Waits read) = Unit {0}
 OpenLocated s m _ = Locates s m
 
@@ -55,7 +55,7 @@ abbrev pub NeedsAhead : State → Need → Type 0
 NeedsAhead s need = (asked : Option ℕ) (c : Cache) → need_ahead asked c (next_by_standing s (stands_at s)) ≡ need
 
 -- an instruction that is told moves no frame, and its need is by its facts
-abbrev pub OpenNeeds : State → Memo → Open → Type 0
+abbrev pub OpenNeeds : State → DecodeCache → Open → Type 0
 OpenNeeds s m (opens.Waits read) = Unit {0}
 OpenNeeds s m opens.Runs = let i = inst_in m in
     NeedsAhead s (inst_need i (facts_of i s 0 false (is_some (traced_action i s).trace)))

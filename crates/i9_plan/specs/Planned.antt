@@ -29,13 +29,13 @@ use Rattle.i9_plan.specs.declared.fetched.Unread.{Unread}
 use Rattle.i9_plan.specs.declared.fetched.Unread.TheVariants as unreads
 use Rattle.i9_plan.specs.declared.planned.Planned.{Planned}
 use Rattle.i9_plan.specs.declared.planned.Planned.TheVariants as plans
-use Rattle.i9_plan.specs.declared.memo.Memo.{Memo}
+use Rattle.i9_plan.specs.declared.decode_cache.DecodeCache.{DecodeCache}
 use Rattle.i9_plan.specs.declared.outcome.Outcome.{Outcome}
 use Rattle.i9_plan.specs.declared.outcome.Outcome.TheVariants as outcomes
 use Rattle.i9_plan.specs.Kept.{inst_in, words_in, Locates}
 
 -- what stands at the instruction address
-abbrev pub standing_of : Memo → Planned → plain.Standing
+abbrev pub standing_of : DecodeCache → Planned → plain.Standing
 standing_of m (plans.Meets a) = plain.Meets a
 standing_of m (plans.Refused words number) = plain.Refused number
 standing_of m (plans.Faults number) = plain.Faults (inst_in m) number
@@ -47,7 +47,7 @@ pub record TellsWords (count : ℕ) (s : State) (words : Words) : Type 0 where
   pub second : words.second ≡ (if count == 2 then next_word s else 0)
 
 -- the instruction that stands at the instruction address was read, with its words
-pub record IsRead (s : State) (m : Memo) : Type 0 where
+pub record IsRead (s : State) (m : DecodeCache) : Type 0 where
   pub clear : fetch_hazard s ≡ None
   pub read : decoded (first_word s) (next_word s) ≡ Ok (inst_in m)
   pub valid : IsValid (inst_in m)
@@ -59,7 +59,7 @@ IsUnread s (unreads.Meets a) = fetch_hazard s ≡ Some a
 IsUnread s (unreads.Refused first why) = (fetch_hazard s ≡ None) × (decoded (first_word s) (next_word s) ≡ Err why) × (first ≡ first_word s)
 
 -- what a fetch gives
-abbrev pub IsFetched : State → Memo → Result (Unit {0}) Unread → Type 0
+abbrev pub IsFetched : State → DecodeCache → Result (Unit {0}) Unread → Type 0
 IsFetched s m (Ok done) = IsRead s m
 IsFetched s m (Err why) = IsUnread s why
 
@@ -74,7 +74,7 @@ abbrev pub AreRequestsInRow : Inst → Effect → Type 0
 AreRequestsInRow i e = is_request_name i.op ≡ true → IsInRow e
 
 -- its words are told, and its effect is its action, with its trace events
-abbrev pub IsPlanned : State → Memo → Planned → Effect → Type 0
+abbrev pub IsPlanned : State → DecodeCache → Planned → Effect → Type 0
 IsPlanned s m (plans.Meets a) e = Unit {0}
 IsPlanned s m (plans.Refused words number) e = TellsWords 1 s words
 IsPlanned s m (plans.Faults number) e = TellsWords (words_of (inst_in m)) s (words_in m) × IsValid (inst_in m)
@@ -83,7 +83,7 @@ IsPlanned s m plans.Runs e =
     × AreRequestsInRow (inst_in m) e × IsValid (inst_in m)
 
 -- where an instruction stands there, its load or store was worked out
-abbrev pub IsLocated : State → Memo → Planned → Type 0
+abbrev pub IsLocated : State → DecodeCache → Planned → Type 0
 IsLocated s m (plans.Faults number) = Locates s m
 IsLocated s m plans.Runs = Locates s m
 IsLocated s m _ = Unit {0}

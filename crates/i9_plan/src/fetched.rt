@@ -7,7 +7,7 @@ ghost use Rattle.i9_processor.specs.State.{state_of};
 ghost use Rattle.i9_plan.specs.Kept.{inst_in, words_in};
 ghost use Rattle.i9_plan.specs.Planned.{IsFetched};
 
-use crate::memo::Memo;
+use crate::decode_cache::DecodeCache;
 use i9_decode::BadWord;
 use i9_processor::Processor;
 
@@ -28,36 +28,36 @@ pub(crate) enum Unread {
 /// Reads the second word of an instruction that has two, where nothing stands against it.
 #[inline(never)]
 #[tactic(auto, using(crate::proofs::Fetching::fetch_rules))]
-fn fetch_long(p: &Processor, memo: &mut Memo) -> Result<(), Unread>
+fn fetch_long(p: &Processor, decodes: &mut DecodeCache) -> Result<(), Unread>
     requires clear { read_hazard (state_of p.now).frames (state_of p.now).ip 4 ≡ None }
-    requires first { (words_in memo.old).first ≡ first_word (state_of p.now) }
-    requires long { words_of (inst_in memo.old) ≡ 2 }
-    ensures fetched { IsFetched (state_of p.now) memo.new result }
+    requires first { (words_in decodes.old).first ≡ first_word (state_of p.now) }
+    requires long { words_of (inst_in decodes.old) ≡ 2 }
+    ensures fetched { IsFetched (state_of p.now) decodes.new result }
 {
     let at = p.ip().wrapping_add(4);
     if let Some(a) = p.check_read(at, 4) {
         return Err(Unread::Meets(a));
     }
-    memo.lengthen(p.hard_word(at));
+    decodes.lengthen(p.hard_word(at));
     Ok(())
 }
 
-/// Reads the instruction at the instruction address into the memo, or tells why there is none. The second
+/// Reads the instruction at the instruction address into the decode cache, or tells why there is none. The second
 /// word is read where there is one.
 #[inline(always)]
 #[tactic(auto, using(crate::proofs::Fetching::fetch_rules))]
-pub(crate) fn fetch(p: &Processor, memo: &mut Memo) -> Result<(), Unread>
-    ensures fetched { IsFetched (state_of p.now) memo.new result }
+pub(crate) fn fetch(p: &Processor, decodes: &mut DecodeCache) -> Result<(), Unread>
+    ensures fetched { IsFetched (state_of p.now) decodes.new result }
 {
     if let Some(a) = p.check_read(p.ip(), 4) {
         return Err(Unread::Meets(a));
     }
     let first = p.hard_word(p.ip());
-    if let Err(why) = memo.read(p.ip(), first) {
+    if let Err(why) = decodes.read(p.ip(), first) {
         return Err(Unread::Refused { first, why });
     }
-    if memo.is_long() {
-        fetch_long(p, memo)
+    if decodes.is_long() {
+        fetch_long(p, decodes)
     } else {
         Ok(())
     }

@@ -9,7 +9,7 @@ ghost use Rattle.i9_plan.specs.Kept.{inst_in, Locates};
 ghost use Rattle.i9_plan.specs.Plain.{plain_facts};
 ghost use Rattle.i9_plan.specs.Moved.{Moves};
 
-use crate::memo::Memo;
+use crate::decode_cache::DecodeCache;
 use crate::raised::data_access;
 use crate::sources::atomic_address;
 use crate::tracing::is_traced;
@@ -75,31 +75,31 @@ fn access_and_waits(p: &Processor, i: &Inst, moving: Option<Moving>) -> (Option<
     (data_access(p, i, moving), access_waits(p, i, moving))
 }
 
-/// The data access of the instruction in the memo, and the wait states of it. Most have none.
+/// The data access of the instruction in the decode cache, and the wait states of it. Most have none.
 #[inline(always)]
 #[tactic(auto, using(crate::proofs::KnownFacts::no_access_rules))]
-fn accessed(p: &Processor, memo: &Memo) -> (Option<(u32, u32)>, u64)
-    requires { Locates (state_of p.now) memo.now }
-    ensures access { result.0 ≡ data_of (access_of (inst_in memo.now) (state_of p.now)) }
-    ensures waits { result.1 ≡ access_waits (state_of p.now).memory (access_of (inst_in memo.now) (state_of p.now)) }
+fn accessed(p: &Processor, decodes: &DecodeCache) -> (Option<(u32, u32)>, u64)
+    requires { Locates (state_of p.now) decodes.now }
+    ensures access { result.0 ≡ data_of (access_of (inst_in decodes.now) (state_of p.now)) }
+    ensures waits { result.1 ≡ access_waits (state_of p.now).memory (access_of (inst_in decodes.now) (state_of p.now)) }
 {
-    if !memo.need().access {
+    if !decodes.need().access {
         return (None, 0);
     }
-    access_and_waits(p, memo.inst(), memo.moving())
+    access_and_waits(p, decodes.inst(), decodes.moving())
 }
 
-/// What is known of the instruction in the memo, which meets no hazard, with the number of frames that it
+/// What is known of the instruction in the decode cache, which meets no hazard, with the number of frames that it
 /// moves, whether it raises another fault than an arithmetic or a trace fault, and whether it raises a trace
 /// fault.
 // Each step asks for it, for its need alone.
 #[inline(always)]
-pub fn facts(p: &Processor, memo: &Memo, frames: u8, fault: bool, trace: bool) -> Facts
-    requires { Locates (state_of p.now) memo.now }
-    ensures facts { result ≡ facts_of (inst_in memo.now) (state_of p.now) frames fault trace }
-    ensures known { frames ≤ 15 → (moves_a_frame (inst_in memo.now).op ≡ true → frames ≤ 1) → AreFacts (inst_in memo.now) result }
+pub fn facts(p: &Processor, decodes: &DecodeCache, frames: u8, fault: bool, trace: bool) -> Facts
+    requires { Locates (state_of p.now) decodes.now }
+    ensures facts { result ≡ facts_of (inst_in decodes.now) (state_of p.now) frames fault trace }
+    ensures known { frames ≤ 15 → (moves_a_frame (inst_in decodes.now).op ≡ true → frames ≤ 1) → AreFacts (inst_in decodes.now) result }
 {
-    let (access, waits) = accessed(p, memo);
+    let (access, waits) = accessed(p, decodes);
     Facts {
         ip: p.ip(),
         access,

@@ -17,7 +17,7 @@ ghost use Rattle.i9_plan.specs.Kept.{inst_in, need_in, Locates};
 ghost use Rattle.i9_plan.specs.Plain.{plain_facts};
 
 use crate::known::{facts, plain_facts, stands_alone};
-use crate::memo::Memo;
+use crate::decode_cache::DecodeCache;
 use i9_model::faults::ARITHMETIC;
 use i9_model::{Event, Need};
 use i9_need::{entry_need, event_need, need_by, refused_need};
@@ -58,67 +58,69 @@ fn moved_frames(p: &Processor, effect: &Effect) -> u8
     }
 }
 
-/// Whether the instruction in the memo has no data access and does not stand alone, and its effect is told to be plain.
+/// Whether the instruction in the decode cache has no data access and does not stand alone, and its effect is told to
+/// be plain.
 #[inline(always)]
-fn is_plain(p: &Processor, memo: &Memo, effect: &Effect) -> bool
-    ensures access { result ≡ true → (need_in memo.now).access ≡ false }
+fn is_plain(p: &Processor, decodes: &DecodeCache, effect: &Effect) -> bool
+    ensures access { result ≡ true → (need_in decodes.now).access ≡ false }
     ensures alone { result ≡ true → stands_alone (state_of p.now) ≡ false }
     ensures frames { result ≡ true → effect.now.frames ≡ Move.Stays }
     ensures trace { result ≡ true → effect.now.trace ≡ None }
 {
-    effect.plain && !memo.need().access && !stands_alone(p)
+    effect.plain && !decodes.need().access && !stands_alone(p)
 }
 
-/// What the instruction in the memo needs, which has no data access, and of which nothing is known but its address.
+/// What the instruction in the decode cache needs, which has no data access, and of which nothing is known but its
+/// address.
 #[inline(always)]
-fn plain_need(p: &Processor, memo: &Memo) -> Need
-    requires { (need_in memo.now).access ≡ false }
-    ensures need { result ≡ inst_need (inst_in memo.now) (plain_facts (state_of p.now).ip) }
+fn plain_need(p: &Processor, decodes: &DecodeCache) -> Need
+    requires { (need_in decodes.now).access ≡ false }
+    ensures need { result ≡ inst_need (inst_in decodes.now) (plain_facts (state_of p.now).ip) }
     ensures cost { result.cost ≤ 248 }
 {
-    need_by(memo.need(), &plain_facts(p))
+    need_by(decodes.need(), &plain_facts(p))
 }
 
-/// What the instruction in the memo needs, which is done by this effect, whatever is known of it.
+/// What the instruction in the decode cache needs, which is done by this effect, whatever is known of it.
 #[inline(always)]
 #[tactic(auto, unfolding(i9_course::specs::NeedOf::need_of))]
-fn known_need(p: &Processor, memo: &Memo, effect: &Effect) -> Need
-    requires located { Locates (state_of p.now) memo.now }
-    requires effect { IsEffect (state_of p.now) (traced_action (inst_in memo.now) (state_of p.now)) effect.now }
-    ensures need { result ≡ need_of (size_of p.now) (cache_of p.now) (state_of p.now) (Instruction (inst_in memo.now)) }
+fn known_need(p: &Processor, decodes: &DecodeCache, effect: &Effect) -> Need
+    requires located { Locates (state_of p.now) decodes.now }
+    requires effect { IsEffect (state_of p.now) (traced_action (inst_in decodes.now) (state_of p.now)) effect.now }
+    ensures need { result ≡ need_of (size_of p.now) (cache_of p.now) (state_of p.now) (Instruction (inst_in decodes.now)) }
     ensures cost { result.cost ≤ 248 }
 {
     let frames = moved_frames(p, effect);
-    let known = facts(p, memo, frames, false, effect.trace.is_some());
-    need_by(memo.need(), &known)
+    let known = facts(p, decodes, frames, false, effect.trace.is_some());
+    need_by(decodes.need(), &known)
 }
 
-/// What the instruction in the memo needs, which is done by this effect.
+/// What the instruction in the decode cache needs, which is done by this effect.
 // Each step asks for it, and it is made where the step is. Most have no access, and nothing is asked of their facts.
 #[inline(always)]
-pub fn need_done(p: &Processor, memo: &Memo, effect: &Effect) -> Need
-    requires located { Locates (state_of p.now) memo.now }
-    requires effect { IsEffect (state_of p.now) (traced_action (inst_in memo.now) (state_of p.now)) effect.now }
-    ensures need { result ≡ need_of (size_of p.now) (cache_of p.now) (state_of p.now) (Instruction (inst_in memo.now)) }
+pub fn need_done(p: &Processor, decodes: &DecodeCache, effect: &Effect) -> Need
+    requires located { Locates (state_of p.now) decodes.now }
+    requires effect { IsEffect (state_of p.now) (traced_action (inst_in decodes.now) (state_of p.now)) effect.now }
+    ensures need { result ≡ need_of (size_of p.now) (cache_of p.now) (state_of p.now) (Instruction (inst_in decodes.now)) }
     ensures cost { result.cost ≤ 248 }
 {
-    if is_plain(p, memo, effect) {
-        plain_need(p, memo)
+    if is_plain(p, decodes, effect) {
+        plain_need(p, decodes)
     } else {
-        known_need(p, memo, effect)
+        known_need(p, decodes, effect)
     }
 }
 
-/// What the instruction in the memo needs, which raises a fault of this type and subtype.
+/// What the instruction in the decode cache needs, which raises a fault of this type and subtype.
 #[tactic(auto, unfolding(i9_course::specs::NeedOf::need_of))]
-pub fn need_faulted(p: &Processor, memo: &Memo, number: (u8, u16)) -> Need
-    requires { Locates (state_of p.now) memo.now }
+pub fn need_faulted(p: &Processor, decodes: &DecodeCache, number: (u8, u16)) -> Need
+    requires { Locates (state_of p.now) decodes.now }
     ensures need { (n : ℕ) (c : Cache)
-        → result ≡ need_of n c (state_of p.now) (Faulted (Some (inst_in memo.now)) (fault_at (state_of p.now) number)) }
+        → result ≡ need_of n c (state_of p.now) (Faulted (Some (inst_in decodes.now)) (fault_at (state_of p.now) number)) }
     ensures cost { result.cost ≤ 248 }
 {
-    let known = facts(p, memo, 0, number.0 != ARITHMETIC, false);
-    need_by(memo.need(), &known)
+    let known = facts(p, decodes, 0, number.0 != ARITHMETIC, false);
+    need_by(decodes.need(), &known)
 }
 
 /// What a word needs that is refused by a fault of this type and subtype.

@@ -8,7 +8,7 @@ ghost use Rattle.i9_plan.specs.Open.{OpenStands, OpenPlanned, OpenLocated, OpenN
 
 use crate::effects::pass;
 use crate::fetched::fetch;
-use crate::memo::Memo;
+use crate::decode_cache::DecodeCache;
 use crate::outcome::{Outcome, outcome_open};
 use crate::tracing::follow;
 use i9_model::faults::ARITHMETIC;
@@ -19,11 +19,11 @@ use i9_processor::{Effect, Processor};
 #[derive(Debug, Drop)]
 pub enum Open {
     /// A barrier, a word that is refused, a fault that is raised before anything is done, or a hazard: it
-    /// waits until all is done. Where `read` is set, it is the instruction in the memo.
+    /// waits until all is done. Where `read` is set, it is the instruction in the decode cache.
     Waits { read: bool },
-    /// The instruction in the memo, which is done.
+    /// The instruction in the decode cache, which is done.
     Runs,
-    /// The instruction in the memo, whose result is an arithmetic fault of this type and subtype.
+    /// The instruction in the decode cache, whose result is an arithmetic fault of this type and subtype.
     Faults((u8, u16)),
 }
 
@@ -37,25 +37,26 @@ fn stands_apart(need: &FixedNeed) -> bool
 
 /// What stands at the instruction address while records are open: what they leave in the end is what is
 /// read, so an instruction that is no barrier is planned at once, and its effect, with its trace events, is
-/// made in `effect`; the instruction is in the memo. Whether it is a barrier by what it accesses, or by its trace events, its need says.
+/// made in `effect`; the instruction is in the decode cache. Whether it is a barrier by what it accesses, or by its
+/// trace events, its need says.
 // Each step calls it, and it is part of the code that does.
 #[inline(always)]
-pub fn plan_open(p: &Processor, memo: &mut Memo, effect: &mut Effect) -> Open
-    ensures stands { OpenStands (state_of p.now) memo.new result }
-    ensures planned { OpenPlanned (state_of p.now) memo.new result effect.new }
-    ensures located { OpenLocated (state_of p.now) memo.new result }
-    ensures needs { OpenNeeds (state_of p.now) memo.new result }
+pub fn plan_open(p: &Processor, decodes: &mut DecodeCache, effect: &mut Effect) -> Open
+    ensures stands { OpenStands (state_of p.now) decodes.new result }
+    ensures planned { OpenPlanned (state_of p.now) decodes.new result effect.new }
+    ensures located { OpenLocated (state_of p.now) decodes.new result }
+    ensures needs { OpenNeeds (state_of p.now) decodes.new result }
 {
-    if let Err(_) = fetch(p, memo) {
+    if let Err(_) = fetch(p, decodes) {
         return Open::Waits { read: false };
     }
-    if stands_apart(memo.need()) {
+    if stands_apart(decodes.need()) {
         return Open::Waits { read: true };
     }
-    let moving = memo.locate(p);
-    let inst = memo.inst();
+    let moving = decodes.locate(p);
+    let inst = decodes.inst();
     pass(p, inst, effect);
-    match outcome_open(p, inst, moving, memo.gives(), effect) {
+    match outcome_open(p, inst, moving, decodes.gives(), effect) {
         Outcome::Runs => {
             follow(p, inst, moving, effect);
             Open::Runs

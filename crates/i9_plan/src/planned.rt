@@ -6,7 +6,7 @@ ghost use Rattle.i9_plan.specs.Planned.{standing_of, IsRead, IsUnread, IsPlanned
 
 use crate::effects::pass;
 use crate::fetched::{Unread, Words, fetch};
-use crate::memo::Memo;
+use crate::decode_cache::DecodeCache;
 use crate::outcome::{Outcome, outcome_of};
 use crate::raised::word_fault;
 use crate::tracing::follow;
@@ -19,9 +19,9 @@ pub enum Planned {
     Meets(u32),
     /// A word that is refused, with the type and the subtype of its fault.
     Refused { words: Words, number: (u8, u16) },
-    /// The instruction in the memo, which raises a fault of this type and subtype.
+    /// The instruction in the decode cache, which raises a fault of this type and subtype.
     Faults((u8, u16)),
-    /// The instruction in the memo, which is done.
+    /// The instruction in the decode cache, which is done.
     Runs,
 }
 
@@ -30,9 +30,9 @@ pub enum Planned {
 #[tactic(auto, unfolding(i9_model::specs::Standing::stands_at))]
 fn unread(p: &Processor, why: Unread) -> Planned
     requires { IsUnread (state_of p.now) why }
-    ensures standing { (m : Memo) → standing_of m result ≡ stands_at (state_of p.now) }
-    ensures planned { (m : Memo) (e : Effect) → IsPlanned (state_of p.now) m result e }
-    ensures located { (m : Memo) → IsLocated (state_of p.now) m result }
+    ensures standing { (m : DecodeCache) → standing_of m result ≡ stands_at (state_of p.now) }
+    ensures planned { (m : DecodeCache) (e : Effect) → IsPlanned (state_of p.now) m result e }
+    ensures located { (m : DecodeCache) → IsLocated (state_of p.now) m result }
 {
     match why {
         Unread::Meets(a) => Planned::Meets(a),
@@ -43,21 +43,21 @@ fn unread(p: &Processor, why: Unread) -> Planned
     }
 }
 
-/// What the instruction in the memo comes to, which stands at the instruction address.
+/// What the instruction in the decode cache comes to, which stands at the instruction address.
 // It is no part of the code that calls it: LLVM would take the effect apart there, and move it piece by piece.
 #[inline(never)]
 #[tactic(auto, unfolding(i9_model::specs::Standing::stands_at))]
-fn plan_read(p: &Processor, memo: &mut Memo, effect: &mut Effect) -> Planned
+fn plan_read(p: &Processor, decodes: &mut DecodeCache, effect: &mut Effect) -> Planned
     requires drained { IsDrained p.now }
-    requires read { IsRead (state_of p.now) memo.old }
-    ensures standing { standing_of memo.new result ≡ stands_at (state_of p.now) }
-    ensures planned { IsPlanned (state_of p.now) memo.new result effect.new }
-    ensures located { IsLocated (state_of p.now) memo.new result }
+    requires read { IsRead (state_of p.now) decodes.old }
+    ensures standing { standing_of decodes.new result ≡ stands_at (state_of p.now) }
+    ensures planned { IsPlanned (state_of p.now) decodes.new result effect.new }
+    ensures located { IsLocated (state_of p.now) decodes.new result }
 {
-    let moving = memo.locate(p);
-    let inst = memo.inst();
+    let moving = decodes.locate(p);
+    let inst = decodes.inst();
     pass(p, inst, effect);
-    match outcome_of(p, inst, moving, memo.gives(), effect) {
+    match outcome_of(p, inst, moving, decodes.gives(), effect) {
         Outcome::Meets(a) => Planned::Meets(a),
         Outcome::Faults(number) => Planned::Faults(number),
         Outcome::Runs => {
@@ -70,30 +70,30 @@ fn plan_read(p: &Processor, memo: &mut Memo, effect: &mut Effect) -> Planned
 /// What stands at the instruction address: the hazard of its fetch, which comes first; an instruction
 /// that is refused, or that faults; the hazard of its access; or what it does.
 /// Each result is worked out once, and the effect of what is done, with its trace events, is made in
-/// `effect`; the instruction is in the memo (the i960 CA/CF User's Manual, instruction set, faults and tracing).
-pub fn plan_next(p: &Processor, memo: &mut Memo, effect: &mut Effect) -> Planned
+/// `effect`; the instruction is in the decode cache (the i960 CA/CF User's Manual, instruction set, faults and tracing).
+pub fn plan_next(p: &Processor, decodes: &mut DecodeCache, effect: &mut Effect) -> Planned
     requires drained { IsDrained p.now }
-    ensures standing { standing_of memo.new result ≡ stands_at (state_of p.now) }
-    ensures planned { IsPlanned (state_of p.now) memo.new result effect.new }
-    ensures located { IsLocated (state_of p.now) memo.new result }
+    ensures standing { standing_of decodes.new result ≡ stands_at (state_of p.now) }
+    ensures planned { IsPlanned (state_of p.now) decodes.new result effect.new }
+    ensures located { IsLocated (state_of p.now) decodes.new result }
 {
-    if let Err(why) = fetch(p, memo) {
+    if let Err(why) = fetch(p, decodes) {
         return unread(p, why);
     }
-    plan_read(p, memo, effect)
+    plan_read(p, decodes, effect)
 }
 
-/// As `plan_next`. Where `read` is set, the memo has the instruction that stands there, which is not read again.
-pub fn plan_here(p: &Processor, read: bool, memo: &mut Memo, effect: &mut Effect) -> Planned
+/// As `plan_next`. Where `read` is set, the decode cache has the instruction that stands there, which is not read again.
+pub fn plan_here(p: &Processor, read: bool, decodes: &mut DecodeCache, effect: &mut Effect) -> Planned
     requires drained { IsDrained p.now }
-    requires read { read ≡ true → IsRead (state_of p.now) memo.old }
-    ensures standing { standing_of memo.new result ≡ stands_at (state_of p.now) }
-    ensures planned { IsPlanned (state_of p.now) memo.new result effect.new }
-    ensures located { IsLocated (state_of p.now) memo.new result }
+    requires read { read ≡ true → IsRead (state_of p.now) decodes.old }
+    ensures standing { standing_of decodes.new result ≡ stands_at (state_of p.now) }
+    ensures planned { IsPlanned (state_of p.now) decodes.new result effect.new }
+    ensures located { IsLocated (state_of p.now) decodes.new result }
 {
     if read {
-        plan_read(p, memo, effect)
+        plan_read(p, decodes, effect)
     } else {
-        plan_next(p, memo, effect)
+        plan_next(p, decodes, effect)
     }
 }

@@ -20,7 +20,7 @@ use Rattle.i9_turns.proofs.LateMemories.{acted-yes, acted-no, waits-not}
 use Rattle.i9_turns.proofs.LateOrder.{issued-by, permitted-barrier}
 use Rattle.i9_agree.proofs.HeldRuns.{cached-after}
 use Rattle.i9_model.proofs.Storing.{stored_kept}
-use Rattle.i9_turns.proofs.TurnMarks.{all-end}
+use Rattle.i9_turns.proofs.TurnFences.{all-end}
 use Rattle.i9_course.specs.Course.{Item, records_of, course, IsCourse}
 use Rattle.i9_course.proofs.Orderly.{course_events}
 use Rattle.i9_course.proofs.Settled.{course_settles}

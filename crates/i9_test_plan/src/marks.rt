@@ -10,7 +10,7 @@ use crate::state::{PC, goes, hex_words, ready, saves, sets};
 use crate::told::next_text;
 use i9_faults::{Fault, FaultStop};
 use i9_model::{Cause, Chosen};
-use i9_plan::{Memo, plan_entry, plan_interrupt};
+use i9_plan::{DecodeCache, plan_entry, plan_interrupt};
 use i9_processor::Processor;
 use std::alloc::Global;
 use std::test::Fail;
@@ -120,7 +120,7 @@ fn plans_by_marks(rt: HostRuntime) -> Result<(), Fail> {
     for row in LOADED.lines().chain(GIVEN.lines()).chain(DECIDED.lines()) {
         let (state, wanted) = columns(row)?;
         let p = marked(rt.alloc(), state)?;
-        let text = next_text(rt.alloc(), &p, &mut Memo::none(rt.alloc()))?;
+        let text = next_text(rt.alloc(), &p, &mut DecodeCache::none(rt.alloc()))?;
         same_at(&rt, text.as_str(), wanted, row);
     }
     Ok(())
@@ -183,7 +183,7 @@ fn returns_to_marked_words(rt: HostRuntime) -> Result<(), Fail> {
     goes(&mut p, 0, PC, 0x1000)?;
     same(
         &rt,
-        next_text(rt.alloc(), &p, &mut Memo::none(rt.alloc()))?.as_str(),
+        next_text(rt.alloc(), &p, &mut DecodeCache::none(rt.alloc()))?.as_str(),
         "Ret A000000 0: 0 1F2002 0 8, returns 3040 8008",
     );
     Ok(())

@@ -9,7 +9,7 @@ use arrayvec::ArrayVec;
 use i9_dma::Channel;
 use i9_faults::{Fault, FaultStop};
 use i9_model::{Cause, Chosen, Event};
-use i9_plan::{Memo, plan_entry, plan_event, plan_faulting, plan_interrupt};
+use i9_plan::{DecodeCache, plan_entry, plan_event, plan_faulting, plan_interrupt};
 use i9_processor::{DmaChange, Effect, Processor};
 use std::alloc::Global;
 use std::test::Fail;
@@ -107,14 +107,14 @@ fn plans_instructions(rt: HostRuntime) -> Result<(), Fail> {
     for row in STOPS.lines().chain(RESULTS.lines()).chain(MOVES.lines()) {
         let (state, wanted) = columns(row)?;
         let p = given(rt.alloc(), state)?;
-        let text = next_text(rt.alloc(), &p, &mut Memo::none(rt.alloc()))?;
+        let text = next_text(rt.alloc(), &p, &mut DecodeCache::none(rt.alloc()))?;
         same_at(&rt, text.as_str(), wanted, row);
     }
     Ok(())
 }
 
 /// What is kept of words that were decoded changes no answer: the third word stands where another one stood, and the
-/// fourth in the same place of the memo, 512 words on.
+/// fourth in the same place of the decode cache, 512 words on.
 const KEPT: &str = "\
 mov 5, g4     | 0 1F2002 1000 5CA01E05 0 | Mov 5CA01E05 0: 0 1F2002 0 1004, r20 5
 mov 5, g4     | 0 1F2002 1000 5CA01E05 0 | Mov 5CA01E05 0: 0 1F2002 0 1004, r20 5
@@ -127,13 +127,13 @@ flushreg      | 0 1F2002 1800 66000680 0 | Flushreg 66000680 0: 0 1F2002 0 1804,
 
 #[test]
 fn keeps_instructions(rt: HostRuntime) -> Result<(), Fail> {
-    let mut memo = Memo::new(rt.alloc())?;
+    let mut decodes = DecodeCache::new(rt.alloc())?;
     for row in KEPT.lines() {
         let (state, wanted) = columns(row)?;
         let p = given(rt.alloc(), state)?;
         same_at(
             &rt,
-            next_text(rt.alloc(), &p, &mut memo)?.as_str(),
+            next_text(rt.alloc(), &p, &mut decodes)?.as_str(),
             wanted,
             row,
         );

@@ -9,7 +9,7 @@ use arrayvec::ArrayVec;
 use i9_faults::Fault;
 use i9_model::{Cause, Chosen, Event, Need};
 use i9_plan::{
-    Memo, Planned, need_done, need_entered, need_faulted, need_reached, need_refused, plan_entry,
+    DecodeCache, Planned, need_done, need_entered, need_faulted, need_reached, need_refused, plan_entry,
     plan_interrupt, plan_next,
 };
 use i9_processor::{Effect, Move, Processor};
@@ -64,10 +64,10 @@ fn need_of(alloc: Global, p: &Processor) -> Option<Need>
     requires { IsDrained p.now }
 {
     let mut effect = Effect::blank();
-    let mut memo = Memo::none(alloc);
-    match plan_next(p, &mut memo, &mut effect) {
-        Planned::Runs => Some(need_done(p, &memo, &effect)),
-        Planned::Faults(number) => Some(need_faulted(p, &memo, number)),
+    let mut decodes = DecodeCache::none(alloc);
+    match plan_next(p, &mut decodes, &mut effect) {
+        Planned::Runs => Some(need_done(p, &decodes, &effect)),
+        Planned::Faults(number) => Some(need_faulted(p, &decodes, number)),
         Planned::Refused { number, .. } => Some(need_refused(p, number)),
         Planned::Meets(_) => None,
     }

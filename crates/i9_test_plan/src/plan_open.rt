@@ -6,7 +6,7 @@ use crate::plan::{columns, given};
 use crate::state::{hex_words, ready};
 use crate::told::{done_text, effect_text, planned_text};
 use i9_model::Facts;
-use i9_plan::{Memo, Open, Planned, facts, plan_here, plan_next, plan_open};
+use i9_plan::{DecodeCache, Open, Planned, facts, plan_here, plan_next, plan_open};
 use i9_processor::{Effect, Processor};
 use std::alloc::Global;
 use std::test::Fail;
@@ -55,14 +55,14 @@ addi that overflows, traced | 0 1F2003 1000 59A48092 0 | Addi 59A48092 0: fault 
 
 /// What is planned while something is open.
 pub(crate) fn open_text(alloc: Global, p: &Processor) -> Result<String, Fail> {
-    let mut memo = Memo::none(alloc);
+    let mut decodes = DecodeCache::none(alloc);
     let mut effect = Effect::blank();
-    match plan_open(p, &mut memo, &mut effect) {
+    match plan_open(p, &mut decodes, &mut effect) {
         Open::Waits { .. } => Ok(format!(in alloc; "waits")?),
-        Open::Runs => done_text(alloc, &memo, &effect_text(alloc, &effect)?),
+        Open::Runs => done_text(alloc, &decodes, &effect_text(alloc, &effect)?),
         Open::Faults(number) => {
             let what = format!(in alloc; "fault {} {}", number.0, number.1)?;
-            done_text(alloc, &memo, &what)
+            done_text(alloc, &decodes, &what)
         }
     }
 }
@@ -91,13 +91,13 @@ st to the live frame | 0 1F2002 1000 92A42000 0 | false, then meets 3010
 fn read_text(alloc: Global, p: &Processor) -> Result<String, Fail>
     requires { IsDrained p.now }
 {
-    let mut memo = Memo::none(alloc);
+    let mut decodes = DecodeCache::none(alloc);
     let mut effect = Effect::blank();
-    let Open::Waits { read } = plan_open(p, &mut memo, &mut effect) else {
+    let Open::Waits { read } = plan_open(p, &mut decodes, &mut effect) else {
         return Err("it does not wait".into());
     };
-    let planned = plan_here(p, read, &mut memo, &mut effect);
-    let text = planned_text(alloc, &memo, &planned, &effect)?;
+    let planned = plan_here(p, read, &mut decodes, &mut effect);
+    let text = planned_text(alloc, &decodes, &planned, &effect)?;
     Ok(format!(in alloc; "{read}, then {text}")?)
 }
 
@@ -158,15 +158,15 @@ fn known_text(alloc: Global, text: &str) -> Result<String, Fail> {
         return Err("a row has six numbers".into());
     };
     let p = ready(alloc, *at, (*first, *second), *ac, *pc)?;
-    let mut memo = Memo::none(alloc);
+    let mut decodes = DecodeCache::none(alloc);
     let frames = (*frames).min(15) as u8;
     let mut effect = Effect::blank();
-    match plan_next(&p, &mut memo, &mut effect) {
+    match plan_next(&p, &mut decodes, &mut effect) {
         Planned::Runs => {
             let is_traced = effect.trace.is_some();
-            facts_text(alloc, &facts(&p, &memo, frames, false, is_traced))
+            facts_text(alloc, &facts(&p, &decodes, frames, false, is_traced))
         }
-        Planned::Faults(_) => facts_text(alloc, &facts(&p, &memo, frames, true, false)),
+        Planned::Faults(_) => facts_text(alloc, &facts(&p, &decodes, frames, true, false)),
         _ => Err("no instruction is there".into()),
     }
 }

@@ -3,7 +3,7 @@
 ghost use Rattle.i9_processor.specs.State.{IsDrained};
 
 use i9_model::Push;
-use i9_plan::{Memo, Planned, plan_next};
+use i9_plan::{DecodeCache, Planned, plan_next};
 use i9_processor::{Control, DmaChange, Effect, Move, Posting, Processor};
 use std::alloc::Global;
 use std::test::Fail;
@@ -115,12 +115,12 @@ pub(crate) fn effect_text(alloc: Global, effect: &Effect) -> Result<String, Fail
     Ok(text)
 }
 
-/// The instruction in the memo with its words, and what it does.
-pub(crate) fn done_text(alloc: Global, memo: &Memo, what: &str) -> Result<String, Fail> {
-    let words = memo.words();
+/// The instruction in the decode cache with its words, and what it does.
+pub(crate) fn done_text(alloc: Global, decodes: &DecodeCache, what: &str) -> Result<String, Fail> {
+    let words = decodes.words();
     Ok(format!(in alloc;
         "{:?} {:X} {:X}: {what}",
-        memo.inst().op,
+        decodes.inst().op,
         words.first,
         words.second
     )?)
@@ -129,7 +129,7 @@ pub(crate) fn done_text(alloc: Global, memo: &Memo, what: &str) -> Result<String
 /// What is planned: the hazard, the fault, or the instruction with its effect.
 pub(crate) fn planned_text(
     alloc: Global,
-    memo: &Memo,
+    decodes: &DecodeCache,
     planned: &Planned,
     effect: &Effect,
 ) -> Result<String, Fail> {
@@ -140,17 +140,17 @@ pub(crate) fn planned_text(
         }
         Planned::Faults(number) => {
             let what = format!(in alloc; "fault {} {}", number.0, number.1)?;
-            done_text(alloc, memo, &what)
+            done_text(alloc, decodes, &what)
         }
-        Planned::Runs => done_text(alloc, memo, &effect_text(alloc, effect)?),
+        Planned::Runs => done_text(alloc, decodes, &effect_text(alloc, effect)?),
     }
 }
 
-/// What is planned next, by a memo.
-pub(crate) fn next_text(alloc: Global, p: &Processor, memo: &mut Memo) -> Result<String, Fail>
+/// What is planned next, by a decode cache.
+pub(crate) fn next_text(alloc: Global, p: &Processor, decodes: &mut DecodeCache) -> Result<String, Fail>
     requires { IsDrained p.now }
 {
     let mut effect = Effect::blank();
-    let planned = plan_next(p, memo, &mut effect);
-    planned_text(alloc, memo, &planned, &effect)
+    let planned = plan_next(p, decodes, &mut effect);
+    planned_text(alloc, decodes, &planned, &effect)
 }

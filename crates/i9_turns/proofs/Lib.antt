@@ -14,7 +14,7 @@ pub mod CodeLaws
 pub mod Outside
 pub mod TurnBetween
 pub mod TurnStands
-pub mod TurnMarks
+pub mod TurnFences
 pub mod TurnLeast
 pub mod TurnAlike
 pub mod TurnThree

@@ -6,7 +6,7 @@ use Rattle.i9_model.specs.Turns.{IssuesAt, IsAllDone, AreAllDone, IsTimed, Takes
 use Rattle.i9_turns.proofs.TurnDropped.{open-issues}
 use Rattle.i9_turns.proofs.TurnDropped.{issues-once}
 use Rattle.i9_turns.proofs.TurnWhole.{follows-with_need, timed-issues}
-use Rattle.i9_turns.proofs.TurnMarks.{all-end, end-least}
+use Rattle.i9_turns.proofs.TurnFences.{all-end, end-least}
 use Rattle.i9_turns.proofs.TurnOpen.{open-follows, pending-next, timed-take_time, open-all_done, all_done-open}
 
 pub stands-none : StandsFor (pending_of []) []

@@ -5,7 +5,7 @@ ghost use Rattle.std.specs.List.{AllZip};
 ghost use Rattle.i9_model.specs.declared.need.Need.{Need};
 ghost use Rattle.i9_model.specs.declared.need.TimedNeed.{TimedNeed};
 ghost use Rattle.i9_model.specs.Turns.{IsTimed, TakesTurns, HaveCosts, WaitForNone, Follows, FollowsOpen, Solves, IsNoLater, IsAlike, AreAllDone, IsAllDone, pending_of, pending_after, timed, later_by, overtakes, last_issue, issue_turn, issues_at};
-ghost use Rattle.i9_model.specs.Marks.{Item, Placed, Mark, marked};
+ghost use Rattle.i9_model.specs.Fences.{Item, Placed, Fence, fenced};
 
 /// Each list of needs has its turns, and no others.
 pub fn turns_exist()
@@ -57,10 +57,10 @@ pub fn three_issue_in_a_turn()
     ensures { (t : ℕ) (rs : List TimedNeed) → IsTimed rs → issues_at t rs ≤ 3 }
 {}
 
-/// Nothing behind a mark issues before all that stands before it is done.
-pub fn marks_wait()
-    ensures timed { (items : List Item) → IsTimed (marked items).records }
-    ensures done { (items : List Item) → AreAllDone (marked (Mark ∷ items)).records (marked (Mark ∷ items)).mark }
+/// Nothing behind a fence issues before all that stands before it is done.
+pub fn fences_wait()
+    ensures timed { (items : List Item) → IsTimed (fenced items).records }
+    ensures done { (items : List Item) → AreAllDone (fenced (Fence ∷ items)).records (fenced (Fence ∷ items)).fence }
     ensures waits { (items : List Item) (n : Need)
-        → (marked (Mark ∷ items)).mark ≤ last_issue (marked (Placed n ∷ Mark ∷ items)).records }
+        → (fenced (Fence ∷ items)).fence ≤ last_issue (fenced (Placed n ∷ Fence ∷ items)).records }
 {}

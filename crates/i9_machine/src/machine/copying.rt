@@ -6,7 +6,7 @@ ghost use Rattle.i9_course.specs.Course.{Item};
 use super::Machine;
 use i9_isa::NoMemory;
 use i9_model::Need;
-use i9_plan::Memo;
+use i9_plan::DecodeCache;
 use i9_processor::Effect;
 use std::alloc::Global;
 
@@ -22,12 +22,12 @@ impl Machine {
         ensures turn { IfOk result (λ m. m.turn ≡ self.now.turn) }
     {
         let processor = self.processor.copy(alloc)?;
-        let memo = Memo::new(alloc)?;
+        let decodes = DecodeCache::new(alloc)?;
         let board = self.board.copy();
         let shade = self.shade.copy();
         Ok(Machine {
             processor,
-            memo,
+            decodes,
             alloc,
             sets: self.sets,
             length: self.length,

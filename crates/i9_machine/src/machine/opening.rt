@@ -59,20 +59,20 @@ impl Machine {
     // It is no part of the code that calls it: `proceed` would grow so large that the build would keep it apart itself.
     #[inline(never)]
     fn plan_instruction(&mut self) -> Open
-        ensures stands { OpenStands (state_of self.old.processor) self.new.memo result }
-        ensures planned { OpenPlanned (state_of self.old.processor) self.new.memo result self.new.effect }
+        ensures stands { OpenStands (state_of self.old.processor) self.new.decodes result }
+        ensures planned { OpenPlanned (state_of self.old.processor) self.new.decodes result self.new.effect }
         ensures need { HasOpenNeed self.old result self.new }
         ensures like { IsLike self.old self.new }
     {
-        let open = plan_open(&self.processor, &mut self.memo, &mut self.effect);
+        let open = plan_open(&self.processor, &mut self.decodes, &mut self.effect);
         match open {
             Open::Waits { .. } => {}
             Open::Runs => {
-                let need = need_done(&self.processor, &self.memo, &self.effect);
+                let need = need_done(&self.processor, &self.decodes, &self.effect);
                 self.keep(need);
             }
             Open::Faults(number) => {
-                let need = need_faulted(&self.processor, &self.memo, number);
+                let need = need_faulted(&self.processor, &self.decodes, number);
                 self.keep(need);
             }
         }

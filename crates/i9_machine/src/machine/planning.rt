@@ -141,12 +141,12 @@ impl Machine {
         }
     }
 
-    /// The need of a record is kept, behind the last mark.
+    /// The need of a record is kept, behind the last fence.
     #[inline(always)]
     pub(super) fn keep(&mut self, need: Need)
         ensures need { self.new.need ≡ waiting_until self.old.floor need }
         ensures like { IsLike self.old self.new }
-        ensures memo { self.new.memo ≡ self.old.memo }
+        ensures decodes { self.new.decodes ≡ self.old.decodes }
         ensures effect { self.new.effect ≡ self.old.effect }
     {
         self.need = Need {
@@ -158,20 +158,20 @@ impl Machine {
     /// An instruction is done, by the effect that was planned, where it comes next.
     #[inline(always)]
     pub(super) fn does(&self) -> Step
-        requires words { TellsWords (words_of (inst_in self.now.memo)) (state_of self.now.processor) (words_in self.now.memo) }
-        requires effect { IsEffect (state_of self.now.processor) (traced_action (inst_in self.now.memo) (state_of self.now.processor)) self.now.effect }
-        requires row { AreRequestsInRow (inst_in self.now.memo) self.now.effect }
+        requires words { TellsWords (words_of (inst_in self.now.decodes)) (state_of self.now.processor) (words_in self.now.decodes) }
+        requires effect { IsEffect (state_of self.now.processor) (traced_action (inst_in self.now.decodes) (state_of self.now.processor)) self.now.effect }
+        requires row { AreRequestsInRow (inst_in self.now.decodes) self.now.effect }
         ensures { (need : Need) (stands : Option event.Event) (plan : Plan)
-            → next_where self.now stands ≡ Does (record_of (Instruction (inst_in self.now.memo)) (state_of self.now.processor))
-            → need ≡ need_of (size_of self.now.processor) (cache_of self.now.processor) (state_of self.now.processor) (Instruction (inst_in self.now.memo))
+            → next_where self.now stands ≡ Does (record_of (Instruction (inst_in self.now.decodes)) (state_of self.now.processor))
+            → need ≡ need_of (size_of self.now.processor) (cache_of self.now.processor) (state_of self.now.processor) (Instruction (inst_in self.now.decodes))
             → need.cost ≤ most_turns → IsStepWhere self.now stands plan result need self.now.effect }
     {
         Step {
             reaches: false,
-            point: point_by_name(self.memo.inst().op),
+            point: point_by_name(self.decodes.inst().op),
             counts: 1,
             due: self.due_by(&self.effect),
-            answer: Turn::Issued(self.issued(self.memo.words())),
+            answer: Turn::Issued(self.issued(self.decodes.words())),
         }
     }
 
@@ -202,31 +202,31 @@ impl Machine {
 
     /// The instruction that was read last faults where it comes next.
     pub(super) fn faults_by(&mut self, number: (u8, u16)) -> Step
-        requires words { TellsWords (words_of (inst_in self.old.memo)) (state_of self.old.processor) (words_in self.old.memo) }
+        requires words { TellsWords (words_of (inst_in self.old.decodes)) (state_of self.old.processor) (words_in self.old.decodes) }
         ensures step { (need : Need) (stands : Option event.Event) (plan : Plan)
-            → next_where self.old stands ≡ Does (record_of (Faulted (Some (inst_in self.old.memo)) (fault_at (state_of self.old.processor) number)) (state_of self.old.processor))
-            → need ≡ need_of (size_of self.old.processor) (cache_of self.old.processor) (state_of self.old.processor) (Faulted (Some (inst_in self.old.memo)) (fault_at (state_of self.old.processor) number))
+            → next_where self.old stands ≡ Does (record_of (Faulted (Some (inst_in self.old.decodes)) (fault_at (state_of self.old.processor) number)) (state_of self.old.processor))
+            → need ≡ need_of (size_of self.old.processor) (cache_of self.old.processor) (state_of self.old.processor) (Faulted (Some (inst_in self.old.decodes)) (fault_at (state_of self.old.processor) number))
             → need.cost ≤ most_turns → IsStepWhere self.old stands plan result need self.new.effect }
         ensures like { IsLike self.old self.new }
         ensures need { self.new.need ≡ self.old.need }
     {
-        let count = word_count(self.memo.inst());
-        let words = self.memo.words();
+        let count = word_count(self.decodes.inst());
+        let words = self.decodes.words();
         self.faults(words, count, number)
     }
 
-    /// The next instruction, or the end that stands in its place. Where `read` is set, it is in the memo.
+    /// The next instruction, or the end that stands in its place. Where `read` is set, it is in the decode cache.
     fn next_instruction(&mut self, read: bool, plan: &Schedule) -> Result<Step, Ending>
         requires below { (state_of self.old.processor).count < self.old.length }
         requires free { self.old.due ≡ Due.Nothing }
         requires chosen { choice_in (state_of self.old.processor) ≡ Ok None }
         requires stands { event_for self.old plan.now ≡ None }
         requires drained { IsDrained self.old.processor }
-        requires read { read ≡ true → IsRead (state_of self.old.processor) self.old.memo }
+        requires read { read ≡ true → IsRead (state_of self.old.processor) self.old.decodes }
         ensures next { IsNext self.old plan.now result self.new }
         ensures like { IsLike self.old self.new }
     {
-        match plan_here(&self.processor, read, &mut self.memo, &mut self.effect) {
+        match plan_here(&self.processor, read, &mut self.decodes, &mut self.effect) {
             Planned::Meets(a) => Err(Ending::Alone(End::Hazard(a))),
             Planned::Refused { words, number } => {
                 let need = need_refused(&self.processor, number);
@@ -235,13 +235,13 @@ impl Machine {
                 Ok(step)
             }
             Planned::Faults(number) => {
-                let need = need_faulted(&self.processor, &self.memo, number);
+                let need = need_faulted(&self.processor, &self.decodes, number);
                 let step = self.faults_by(number);
                 self.keep(need);
                 Ok(step)
             }
             Planned::Runs => {
-                let need = need_done(&self.processor, &self.memo, &self.effect);
+                let need = need_done(&self.processor, &self.decodes, &self.effect);
                 let step = self.does();
                 self.keep(need);
                 Ok(step)
@@ -309,15 +309,15 @@ impl Machine {
         }
     }
 
-    /// The event that stands there, where no interrupt is chosen, or else the next instruction, which is in the memo
-    /// where `read` is set.
+    /// The event that stands there, where no interrupt is chosen, or else the next instruction, which is in the decode
+    /// cache where `read` is set.
     fn event_or_instruction(&mut self, read: bool, plan: &Schedule) -> Result<Step, Ending>
         requires below { (state_of self.old.processor).count < self.old.length }
         requires free { self.old.due ≡ Due.Nothing }
         requires chosen { choice_in (state_of self.old.processor) ≡ Ok None }
         requires drained { IsDrained self.old.processor }
         requires timely { IsTimely self.old plan.now }
-        requires read { read ≡ true → IsRead (state_of self.old.processor) self.old.memo }
+        requires read { read ≡ true → IsRead (state_of self.old.processor) self.old.decodes }
         ensures next { IsNext self.old plan.now result self.new }
         ensures like { IsLike self.old self.new }
     {
@@ -346,7 +346,7 @@ impl Machine {
 
     /// What comes next where nothing is open: what is due, the end of the length, or what comes before or is
     /// the next instruction. Its effect is made in the machine. Where `read` is set, nothing comes before the instruction
-    /// in the memo but an event.
+    /// in the decode cache but an event.
     pub(super) fn next_step(&mut self, read: bool, plan: &Schedule) -> Result<Step, Ending>
         requires drained { IsDrained self.old.processor }
         requires timely { IsTimely self.old plan.now }

@@ -1,4 +1,4 @@
-use Rattle.i9_course.proofs.Timed.{course_marked, course_timed, course_costs, course_quiet}
+use Rattle.i9_course.proofs.Timed.{course_fenced, course_timed, course_costs, course_quiet}
 use Rattle.i9_course.proofs.Orderly.{course_orderly, course_past, counted_past, course_leaves}
 use Rattle.i9_course.proofs.laws.courses_are_orderly.Goals as goal
 
@@ -8,8 +8,8 @@ returns-clause-past c = course_past
 pub returns-clause-counted : goal.returns-clause-counted
 returns-clause-counted c = counted_past
 
-pub returns-clause-marked : goal.returns-clause-marked
-returns-clause-marked c = course_marked
+pub returns-clause-fenced : goal.returns-clause-fenced
+returns-clause-fenced c = course_fenced
 
 pub returns-clause-timed : goal.returns-clause-timed
 returns-clause-timed c = course_timed

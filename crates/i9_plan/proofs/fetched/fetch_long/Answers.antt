@@ -11,7 +11,7 @@ pub returns-in-Some : goal.returns-in-Some
 returns-in-Some c =
     let s = state_of c.args.p.now in
     let met = ap (λ (a : ℕ). read_hazard s.frames (wrapped (a + 4)) 4) (sym c.ip-at.ensures) ∙ sym c.check_read.ensures ∙ c.in-Some.is in
-    record { fetched = long_met s c.args.memo.now c.requires.clear c.requires.first c.requires.long ∙ met }
+    record { fetched = long_met s c.args.decodes.now c.requires.clear c.requires.first c.requires.long ∙ met }
 
 pub returns : goal.returns
 returns c =

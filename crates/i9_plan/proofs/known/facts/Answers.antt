@@ -8,7 +8,7 @@ use Rattle.i9_plan.proofs.known.facts.Goals as goal
 
 pub returns-clause-known : goal.returns-clause-known
 returns-clause-known c frames one =
-    let i = inst_in c.args.memo.now in
+    let i = inst_in c.args.decodes.now in
     let s = state_of c.args.p.now in
     record {
       frames = frames;

@@ -10,7 +10,7 @@ pub need_by-requires : goal.need_by-requires
 need_by-requires c =
     let p = c.args.p.now in
     let s = state_of p in
-    let i = inst_in c.args.memo.now in
+    let i = inst_in c.args.decodes.now in
     let move =
     c.moved_frames-frames.ensures.value
     ∙ ap (λ (a : Action). moved_frames (size_of p) (cache_of p) a.move) c.requires.effect.same in

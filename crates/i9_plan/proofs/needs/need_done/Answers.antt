@@ -17,11 +17,11 @@ unfolding need_of
 returns-then-is_plain-clause-need c =
     let p = c.args.p.now in
     let s = state_of p in
-    let i = inst_in c.args.memo.now in
+    let i = inst_in c.args.decodes.now in
     let is = c.if-is_plain.true in
     let move : (traced_action i s).move ≡ Stays = sym (ap (λ (a : Action). a.move) c.requires.effect.same) ∙ ap (move_in s) (c.is_plain.ensures.frames is) in
     let trace : (traced_action i s).trace ≡ None = sym (ap (λ (a : Action). a.trace) c.requires.effect.same) ∙ c.is_plain.ensures.trace is in
-    let access : has_access i.op ≡ false = sym (ap (λ (k : FixedNeed). k.access) c.args.memo.now.last.needs) ∙ c.is_plain.ensures.access is in
+    let access : has_access i.op ≡ false = sym (ap (λ (k : FixedNeed). k.access) c.args.decodes.now.last.needs) ∙ c.is_plain.ensures.access is in
     let known =
     ap (λ (m : Move). facts_of i s (moved_frames (size_of p) (cache_of p) m) false (is_some (traced_action i s).trace)) move
     ∙ ap (λ (t : Option Trace). facts_of i s 0 false (is_some t)) trace

@@ -10,6 +10,6 @@ use Rattle.i9_plan.proofs.needs.plain_need.Goals as goal
 
 pub need_by-requires : goal.need_by-requires
 need_by-requires c =
-    let i = inst_in c.args.memo.now in
-    let access : has_access i.op ≡ false = sym (ap (λ (k : FixedNeed). k.access) c.args.memo.now.last.needs) ∙ c.requires in
+    let i = inst_in c.args.decodes.now in
+    let access : has_access i.op ≡ false = sym (ap (λ (k : FixedNeed). k.access) c.args.decodes.now.last.needs) ∙ c.requires in
     record { inst = i; same = c.need.ensures.need; facts = subst (λ (f : Facts). AreFacts i f) (sym c.plain_facts.ensures) (plain_are i (state_of c.args.p.now).ip access) }

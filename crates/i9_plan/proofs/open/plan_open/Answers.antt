@@ -16,7 +16,7 @@ returns-in-Err-clause-stands c =
 
 pub returns-then-stands_apart-clause-stands : goal.returns-then-stands_apart-clause-stands
 returns-then-stands_apart-clause-stands c =
-    let m = c.fetch.new.memo in
+    let m = c.fetch.new.decodes in
     let apart = sym (c.stands_apart.ensures (inst_in m) c.need.ensures.need) ∙ c.if-stands_apart.true in
     (barrier_waits (state_of c.args.p.now) m c.in_default.ensures.fetched apart, λ is. c.in_default.ensures.fetched)
 
@@ -24,7 +24,7 @@ pub returns-in-Runs-clause-stands : goal.returns-in-Runs-clause-stands
 returns-in-Runs-clause-stands c =
     let s = state_of c.args.p.now in
     let m = c.locate-moving.new.self in
-    let read = still_read s c.fetch.new.memo m c.locate-moving.ensures.same c.in_default.ensures.fetched in
+    let read = still_read s c.fetch.new.decodes m c.locate-moving.ensures.same c.in_default.ensures.fetched in
     let same = c.need.ensures.need ∙ sym (ap (λ (k : Kept). fixed_need k.inst) c.locate-moving.ensures.same) in
     let apart = no_barrier (inst_in m) (sym (c.stands_apart.ensures (inst_in m) same) ∙ c.if-stands_apart.false) in
     let runs = outcome_stands s m c.inst-inst.result.now outcomes.Runs read c.inst-inst.ensures c.in-Runs.ensures.standing in
@@ -34,7 +34,7 @@ pub returns-in-Runs-clause-needs : goal.returns-in-Runs-clause-needs
 returns-in-Runs-clause-needs c =
     let s = state_of c.args.p.now in
     let m = c.locate-moving.new.self in
-    let read = still_read s c.fetch.new.memo m c.locate-moving.ensures.same c.in_default.ensures.fetched in
+    let read = still_read s c.fetch.new.decodes m c.locate-moving.ensures.same c.in_default.ensures.fetched in
     let same = c.need.ensures.need ∙ sym (ap (λ (k : Kept). fixed_need k.inst) c.locate-moving.ensures.same) in
     let apart = no_barrier (inst_in m) (sym (c.stands_apart.ensures (inst_in m) same) ∙ c.if-stands_apart.false) in
     let runs = outcome_stands s m c.inst-inst.result.now outcomes.Runs read c.inst-inst.ensures c.in-Runs.ensures.standing in
@@ -44,7 +44,7 @@ pub returns-else-number-ne-ARITHMETIC-clause-stands : goal.returns-else-number-n
 returns-else-number-ne-ARITHMETIC-clause-stands c =
     let s = state_of c.args.p.now in
     let m = c.locate-moving.new.self in
-    let read = still_read s c.fetch.new.memo m c.locate-moving.ensures.same c.in_default.ensures.fetched in
+    let read = still_read s c.fetch.new.decodes m c.locate-moving.ensures.same c.in_default.ensures.fetched in
     let same = c.need.ensures.need ∙ sym (ap (λ (k : Kept). fixed_need k.inst) c.locate-moving.ensures.same) in
     let apart = no_barrier (inst_in m) (sym (c.stands_apart.ensures (inst_in m) same) ∙ c.if-stands_apart.false) in
     let o = outcomes.Faults c.in-Faults.number in
@@ -56,7 +56,7 @@ pub returns-else-number-ne-ARITHMETIC-clause-needs : goal.returns-else-number-ne
 returns-else-number-ne-ARITHMETIC-clause-needs c =
     let s = state_of c.args.p.now in
     let m = c.locate-moving.new.self in
-    let read = still_read s c.fetch.new.memo m c.locate-moving.ensures.same c.in_default.ensures.fetched in
+    let read = still_read s c.fetch.new.decodes m c.locate-moving.ensures.same c.in_default.ensures.fetched in
     let o = outcomes.Faults c.in-Faults.number in
     let arithmetic : c.in-Faults.number.0 ≡ ARITHMETIC = search rules in
     let faults = outcome_stands s m c.inst-inst.result.now o read c.inst-inst.ensures c.in-Faults.ensures.standing in
@@ -66,7 +66,7 @@ pub returns-then-number-ne-ARITHMETIC-clause-stands : goal.returns-then-number-n
 returns-then-number-ne-ARITHMETIC-clause-stands c =
     let s = state_of c.args.p.now in
     let m = c.locate-moving.new.self in
-    let read = still_read s c.fetch.new.memo m c.locate-moving.ensures.same c.in_default.ensures.fetched in
+    let read = still_read s c.fetch.new.decodes m c.locate-moving.ensures.same c.in_default.ensures.fetched in
     let early : (c.in-Faults.number.0 == ARITHMETIC) ≡ false = search rules in
     let o = outcomes.Faults c.in-Faults.number in
     (outcome_waits s m c.inst-inst.result.now o read c.inst-inst.ensures c.in-Faults.ensures.standing early, λ is. absurd (false≢true is))
@@ -75,6 +75,6 @@ pub returns-in-Meets-clause-stands : goal.returns-in-Meets-clause-stands
 returns-in-Meets-clause-stands c =
     let s = state_of c.args.p.now in
     let m = c.locate-moving.new.self in
-    let read = still_read s c.fetch.new.memo m c.locate-moving.ensures.same c.in_default.ensures.fetched in
+    let read = still_read s c.fetch.new.decodes m c.locate-moving.ensures.same c.in_default.ensures.fetched in
     let o = outcomes.Meets c.in-Meets.field-0 in
     (outcome_waits s m c.inst-inst.result.now o read c.inst-inst.ensures c.in-Meets.ensures.standing tt, λ is. absurd (false≢true is))

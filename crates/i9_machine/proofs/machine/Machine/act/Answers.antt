@@ -28,28 +28,28 @@ returns-clause-lines c =
     ∙ ap (λ (b : Option ℕ). old ++ (event ++ (out_lines b ++ points))) c.console_byte.ensures
 
 pub returns-clause-issued : goal.returns-clause-issued
-returns-clause-issued c = λ need marked.
+returns-clause-issued c = λ need fenced.
     let m = c.args.self.now in
     let place = c.place_at-placed in
     let acts = c.apply.ensures in
     record {
       placed = place.result;
-      board = λ rs stands. subst (λ (n : Need). StandsFor place.new.self (placed_record n place.result ∷ rs)) marked (place.ensures.of_all rs stands);
-      timed = λ rs stands. subst (λ (n : Need). StandsFor place.new.self (with_need rs n)) marked (place.ensures.computed rs stands).0;
+      board = λ rs stands. subst (λ (n : Need). StandsFor place.new.self (placed_record n place.result ∷ rs)) fenced (place.ensures.of_all rs stands);
+      timed = λ rs stands. subst (λ (n : Need). StandsFor place.new.self (with_need rs n)) fenced (place.ensures.computed rs stands).0;
       bound = λ b done waited.
-          subst (λ (n : ℕ). IsAllDone place.new.self (b + n)) (ap (λ (n : Need). n.cost) marked)
-          (place.ensures.bound b done (subst (λ (n : Need). n.not_before ≤ b) (sym marked) waited));
-      cost = subst (λ (n : Need). n.cost ≤ most_turns) marked c.requires.turns;
+          subst (λ (n : ℕ). IsAllDone place.new.self (b + n)) (ap (λ (n : Need). n.cost) fenced)
+          (place.ensures.bound b done (subst (λ (n : Need). n.not_before ≤ b) (sym fenced) waited));
+      cost = subst (λ (n : Need). n.cost ≤ most_turns) fenced c.requires.turns;
       turn = refl;
       floor = refl;
       wait = refl;
       done = refl;
       hides = record {
-        bytes = λ is. c.hide.ensures.bytes (ap shades_need marked ∙ is);
-        due = λ is. c.hide.ensures.due (ap shades_need marked ∙ is);
-        keeps = λ beside. c.hide.ensures.keeps (ap shades_need marked ∙ beside);
+        bytes = λ is. c.hide.ensures.bytes (ap shades_need fenced ∙ is);
+        due = λ is. c.hide.ensures.due (ap shades_need fenced ∙ is);
+        keeps = λ beside. c.hide.ensures.keeps (ap shades_need fenced ∙ beside);
       };
-      acts = subst (λ (n : Need). Acts m.processor (record { writes = n.writes; done = place.result.done; request = n.request }) (action_for m c.args.self.now.effect) c.apply.new.self) marked
+      acts = subst (λ (n : Need). Acts m.processor (record { writes = n.writes; done = place.result.done; request = n.request }) (action_for m c.args.self.now.effect) c.apply.new.self) fenced
           (record { cells = acts.cells; waits = acts.waits; acts = acts.acts; still = acts.still });
     }
 

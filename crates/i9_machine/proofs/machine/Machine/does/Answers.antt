@@ -14,7 +14,7 @@ pub returns : goal.returns
 returns c = λ need stands plan is_next is_need cost.
     let m = c.args.self.now in
     let r = c.requires in
-    let inst = inst_in m.memo in
+    let inst = inst_in m.decodes in
     record {
       kind = Instruction inst;
       is_next = is_next;

@@ -19,7 +19,7 @@ returns-in-Ok-clause-next c =
     let need = c.need_entered-need.ensures in
     record {
       need = c.need_entered-need.result;
-      marked = c.keep.ensures.need ∙ ap (λ (f : ℕ). waiting_until f c.need_entered-need.result) (sym c.keep.ensures.like.floor);
+      fenced = c.keep.ensures.need ∙ ap (λ (f : ℕ). waiting_until f c.need_entered-need.result) (sym c.keep.ensures.like.floor);
       is = record {
         kind = Interrupted choice plan.0;
         is_next =

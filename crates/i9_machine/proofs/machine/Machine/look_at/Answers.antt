@@ -31,8 +31,8 @@ returns-else-is_some-clause-arrives c =
     c.issue_turn-turn.ensures.computed c.count.ensures c.standing.ensures.event
     ∙ copied_none c.standing.result (sym c.is_some.ensures ∙ c.if-is_some.false) in
     instruction_arrives m plan next.kind next.need.need c.issue_turn-turn.result c.args.coming c.requires.precise
-    (instruction_calm (inst_in m.memo) (state_of m.processor) next.kind c.args.coming next.same) (ap (next_where m) none ∙ next.is_next) next.need.is_need
-    (λ rs stands. c.issue_turn-turn.ensures.computed rs stands ∙ ap (issue_turn (last_issue rs) rs) next.need.marked)
+    (instruction_calm (inst_in m.decodes) (state_of m.processor) next.kind c.args.coming next.same) (ap (next_where m) none ∙ next.is_next) next.need.is_need
+    (λ rs stands. c.issue_turn-turn.ensures.computed rs stands ∙ ap (issue_turn (last_issue rs) rs) next.need.fenced)
 
 pub returns-else-is_some-clause-ready : goal.returns-else-is_some-clause-ready
 returns-else-is_some-clause-ready c =

@@ -38,6 +38,6 @@ look_at-requires-clause-ready c = λ t none issues.
     let itself = goes_by_itself m free ∙ ap (next_by_standing (state_of m.processor)) c.in-Runs.ensures.stands.0 in
     record {
       ahead = like_ahead m mid c.args.plan.now t _ like free none itself planned.0 c.in-Runs.ensures.need issues;
-      effect = subst (λ (p : Processor). IsEffect (state_of p) (traced_action (inst_in mid.memo) (state_of p)) mid.effect) (sym like.processor) planned.1;
+      effect = subst (λ (p : Processor). IsEffect (state_of p) (traced_action (inst_in mid.decodes) (state_of p)) mid.effect) (sym like.processor) planned.1;
       row = planned.2;
     }

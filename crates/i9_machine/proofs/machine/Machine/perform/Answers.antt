@@ -80,7 +80,7 @@ returns-in-Ok-clause-fewer c =
     let kept = c.requires.step in
     let step = subst (IsStep c.args.self.now c.args.plan.now c.args.step.now kept.need) (sym c.make_room.ensures.effect) kept.is in
     let issued = c.act-answer.ensures.issued kept.need
-    (c.make_room.ensures.need ∙ kept.marked ∙ ap (λ (f : ℕ). waiting_until f kept.need) (sym c.make_room.ensures.same.unmoved.floor)) in
+    (c.make_room.ensures.need ∙ kept.fenced ∙ ap (λ (f : ℕ). waiting_until f kept.need) (sym c.make_room.ensures.same.unmoved.floor)) in
     let old = c.args.self.now in
     let mid = c.make_room.new.self in
     let new = c.act-answer.new.self in
@@ -133,12 +133,12 @@ pub act-answer-requires-clause-cost : goal.act-answer-requires-clause-cost
 act-answer-requires-clause-cost c =
     let m = c.args.self.now in
     let kept = kept_planned m m c.args.plan.now c.args.step.now c.requires.step in
-    subst HasCost (sym (c.make_room.ensures.need ∙ kept.marked)) (waiting_cost m.floor kept.need kept.some)
+    subst HasCost (sym (c.make_room.ensures.need ∙ kept.fenced)) (waiting_cost m.floor kept.need kept.some)
 
 pub act-answer-requires-clause-turns : goal.act-answer-requires-clause-turns
 act-answer-requires-clause-turns c =
     let kept = c.requires.step in
-    subst (λ (n : Need). n.cost ≤ most_turns) (sym (c.make_room.ensures.need ∙ kept.marked)) kept.is.cost
+    subst (λ (n : Need). n.cost ≤ most_turns) (sym (c.make_room.ensures.need ∙ kept.fenced)) kept.is.cost
 
 pub act-answer-requires-clause-early : goal.act-answer-requires-clause-early
 act-answer-requires-clause-early c =
@@ -146,7 +146,7 @@ act-answer-requires-clause-early c =
     let u = c.requires.come in
     let kept = kept_planned m m c.args.plan.now c.args.step.now c.requires.step in
     subst (λ (b : Pending). IsEarly b c.make_room.new.self.need) (sym c.make_room.ensures.same.unmoved.board)
-    (subst (IsEarly m.board) (sym (c.make_room.ensures.need ∙ kept.marked))
+    (subst (IsEarly m.board) (sym (c.make_room.ensures.need ∙ kept.fenced))
     (paced_early m (left_after u.given (records_of u.items)) kept.need u.stands.paced kept.none kept.cost))
 
 pub act-answer-requires-clause-issue : goal.act-answer-requires-clause-issue
@@ -165,7 +165,7 @@ act-answer-requires-clause-covered c =
     let kept = c.requires.step in
     let step = subst (IsStep c.args.self.now c.args.plan.now c.args.step.now kept.need) (sym c.make_room.ensures.effect) kept.is in
     subst (λ (n : Need). IsCovered n.writes (state_of c.make_room.new.self.processor) (action_in (state_of c.make_room.new.self.processor) c.make_room.new.self.effect))
-    (sym (c.make_room.ensures.need ∙ kept.marked))
+    (sym (c.make_room.ensures.need ∙ kept.fenced))
     (step_covers c.args.self.now c.make_room.new.self c.args.plan.now c.args.step.now kept.need c.make_room.new.self.effect step c.make_room.ensures.same.state)
 
 pub act-answer-requires-clause-acts : goal.act-answer-requires-clause-acts
@@ -174,7 +174,7 @@ act-answer-requires-clause-acts c =
     let step = subst (IsStep c.args.self.now c.args.plan.now c.args.step.now kept.need) (sym c.make_room.ensures.effect) kept.is in
     let same = c.make_room.ensures.same in
     step_acts c.args.self.now c.make_room.new.self c.args.plan.now c.args.step.now kept.need c.make_room.new.self.effect
-    (c.make_room.ensures.need ∙ kept.marked ∙ ap (λ (f : ℕ). waiting_until f kept.need) (sym same.unmoved.floor)) c.requires.come step
+    (c.make_room.ensures.need ∙ kept.fenced ∙ ap (λ (f : ℕ). waiting_until f kept.need) (sym same.unmoved.floor)) c.requires.come step
     same.state same.unmoved.queue same.unmoved.board same.unmoved.floor
 
 pub returns-in-Ok-clause-issues : goal.returns-in-Ok-clause-issues
@@ -189,7 +189,7 @@ returns-in-Ok-clause-issues c =
     let action : action_in (state_of mid.processor) c.make_room.new.self.effect ≡ action_by_kind step.kind s =
     ap (λ (t : State). action_in t c.make_room.new.self.effect) same.state ∙ step.effect.same in
     let issued = subst (λ (a : Action). IsIssued mid kept.need a new) action
-    (c.act-answer.ensures.issued kept.need (c.make_room.ensures.need ∙ kept.marked ∙ ap (λ (f : ℕ). waiting_until f kept.need) (sym same.unmoved.floor))) in
+    (c.act-answer.ensures.issued kept.need (c.make_room.ensures.need ∙ kept.fenced ∙ ap (λ (f : ℕ). waiting_until f kept.need) (sym same.unmoved.floor))) in
     subst (λ (t : Turn). Issues old t new c.args.plan.now) (sym c.act-answer.ensures.answer)
     (step_issues c.args.step.now.answer step.kind s old new c.args.plan.now step.tells (record {
       kind = step.kind;

@@ -21,7 +21,7 @@ returns-in-Ok-clause-next c =
     let need = c.need_reached.ensures.reached (size_of m.processor) (cache_of m.processor) s plan.0 in
     record {
       need = c.need_reached.result;
-      marked = c.keep.ensures.need ∙ ap (λ (f : ℕ). waiting_until f c.need_reached.result) (sym c.keep.ensures.like.floor);
+      fenced = c.keep.ensures.need ∙ ap (λ (f : ℕ). waiting_until f c.need_reached.result) (sym c.keep.ensures.like.floor);
       is = record {
         kind = Reached event plan.0;
         is_next =

@@ -26,27 +26,27 @@ const LONG: u32 = 8;
 /// with the load or the store that it is, where its effective address was worked out. What it keeps changes
 /// no answer.
 #[derive(Debug, Drop)]
-pub struct Memo {
+pub struct DecodeCache {
     known: Vec<Option<Kept>>,
     last: Kept,
     moving: Option<Moving>,
 }
 
-impl Memo {
-    /// A memo without room: each word is decoded.
-    pub fn none(alloc: Global) -> Memo {
-        Memo {
+impl DecodeCache {
+    /// A decode cache without room: each word is decoded.
+    pub fn none(alloc: Global) -> DecodeCache {
+        DecodeCache {
             known: Vec::new(alloc),
             last: Kept::first(),
             moving: None,
         }
     }
 
-    /// A memo with room for the instructions of a loop.
-    pub fn new(alloc: Global) -> Result<Memo, NoMemory> {
-        let mut memo = Memo::none(alloc);
-        match memo.known.resize(PLACES, None) {
-            Ok(()) => Ok(memo),
+    /// A decode cache with room for the instructions of a loop.
+    pub fn new(alloc: Global) -> Result<DecodeCache, NoMemory> {
+        let mut decodes = DecodeCache::none(alloc);
+        match decodes.known.resize(PLACES, None) {
+            Ok(()) => Ok(decodes),
             Err(_) => Err(NoMemory),
         }
     }
