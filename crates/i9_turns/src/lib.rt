@@ -11,6 +11,6 @@ pub use late_laws::{
 };
 pub use need_laws::{actions_keep_to_their_needs, needs_have_costs, others_write_no_memory};
 pub use turn_laws::{
-    barriers_decide_no_overtaking, barriers_forget, barriers_issue_alike, marks_wait,
+    barriers_decide_no_overtaking, barriers_forget, barriers_issue_alike, fences_wait,
     open_records_decide, three_issue_in_a_turn, turns_are_least, turns_exist,
 };
