@@ -4,6 +4,7 @@
 
 mod barriers;
 mod calls;
+mod decode_cache;
 mod dma;
 mod effects;
 mod events;
@@ -11,7 +12,6 @@ mod fetched;
 mod kept;
 mod known;
 mod marks;
-mod decode_cache;
 mod misuses;
 mod names;
 mod needs;
@@ -26,11 +26,11 @@ mod transfers;
 mod words;
 
 pub use calls::{plan_entry, plan_interrupt};
+pub use decode_cache::DecodeCache;
 pub use effects::plan_faulting;
 pub use events::plan_event;
 pub use fetched::Words;
 pub use known::facts;
-pub use decode_cache::DecodeCache;
 pub use needs::{need_done, need_entered, need_faulted, need_reached, need_refused};
 pub use open::{Open, plan_open};
 pub use planned::{Planned, plan_here, plan_next};

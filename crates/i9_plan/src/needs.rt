@@ -16,8 +16,8 @@ ghost use Rattle.i9_processor.specs.State.{state_of, cache_of, size_of};
 ghost use Rattle.i9_plan.specs.Kept.{inst_in, need_in, Locates};
 ghost use Rattle.i9_plan.specs.Plain.{plain_facts};
 
-use crate::known::{facts, plain_facts, stands_alone};
 use crate::decode_cache::DecodeCache;
+use crate::known::{facts, plain_facts, stands_alone};
 use i9_model::faults::ARITHMETIC;
 use i9_model::{Event, Need};
 use i9_need::{entry_need, event_need, need_by, refused_need};

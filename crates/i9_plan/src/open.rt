@@ -6,9 +6,9 @@ ghost use Rattle.i9_processor.specs.State.{state_of};
 ghost use Rattle.i9_need.specs.Fixed.{fixed_need};
 ghost use Rattle.i9_plan.specs.Open.{OpenStands, OpenPlanned, OpenLocated, OpenNeeds};
 
+use crate::decode_cache::DecodeCache;
 use crate::effects::pass;
 use crate::fetched::fetch;
-use crate::decode_cache::DecodeCache;
 use crate::outcome::{Outcome, outcome_open};
 use crate::tracing::follow;
 use i9_model::faults::ARITHMETIC;

@@ -4,9 +4,9 @@ ghost use Rattle.i9_model.specs.Standing.{stands_at};
 ghost use Rattle.i9_processor.specs.State.{state_of, IsDrained};
 ghost use Rattle.i9_plan.specs.Planned.{standing_of, IsRead, IsUnread, IsPlanned, IsLocated};
 
+use crate::decode_cache::DecodeCache;
 use crate::effects::pass;
 use crate::fetched::{Unread, Words, fetch};
-use crate::decode_cache::DecodeCache;
 use crate::outcome::{Outcome, outcome_of};
 use crate::raised::word_fault;
 use crate::tracing::follow;
@@ -84,7 +84,12 @@ pub fn plan_next(p: &Processor, decodes: &mut DecodeCache, effect: &mut Effect) 
 }
 
 /// As `plan_next`. Where `read` is set, the decode cache has the instruction that stands there, which is not read again.
-pub fn plan_here(p: &Processor, read: bool, decodes: &mut DecodeCache, effect: &mut Effect) -> Planned
+pub fn plan_here(
+    p: &Processor,
+    read: bool,
+    decodes: &mut DecodeCache,
+    effect: &mut Effect,
+) -> Planned
     requires drained { IsDrained p.now }
     requires read { read ≡ true → IsRead (state_of p.now) decodes.old }
     ensures standing { standing_of decodes.new result ≡ stands_at (state_of p.now) }

@@ -9,8 +9,8 @@ use arrayvec::ArrayVec;
 use i9_faults::Fault;
 use i9_model::{Cause, Chosen, Event, Need};
 use i9_plan::{
-    DecodeCache, Planned, need_done, need_entered, need_faulted, need_reached, need_refused, plan_entry,
-    plan_interrupt, plan_next,
+    DecodeCache, Planned, need_done, need_entered, need_faulted, need_reached, need_refused,
+    plan_entry, plan_interrupt, plan_next,
 };
 use i9_processor::{Effect, Move, Processor};
 use std::alloc::Global;

@@ -147,7 +147,11 @@ pub(crate) fn planned_text(
 }
 
 /// What is planned next, by a decode cache.
-pub(crate) fn next_text(alloc: Global, p: &Processor, decodes: &mut DecodeCache) -> Result<String, Fail>
+pub(crate) fn next_text(
+    alloc: Global,
+    p: &Processor,
+    decodes: &mut DecodeCache,
+) -> Result<String, Fail>
     requires { IsDrained p.now }
 {
     let mut effect = Effect::blank();
