@@ -190,7 +190,7 @@ fn prints_levels(rt: HostRuntime) -> Result<(), Fail> {
             must(&rt, false);
             return Ok(());
         };
-        same(&rt, timed.when, When::At(count));
+        assert_eq!(rt; timed.when, When::At(count));
         must(&rt, timed.event == event);
         let printed = journal_line(rt.alloc(), count, &timed.event)?;
         same(&rt, printed.as_slice(), line);

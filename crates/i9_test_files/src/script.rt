@@ -141,7 +141,7 @@ fn reads_commands_in_order(rt: HostRuntime) -> Result<(), Fail> {
     same(&rt, commands.len(), 17);
     let mut place = 0usize;
     for (_, command) in rows {
-        same(&rt, commands.get(place).copied(), Some(command));
+        assert_eq!(rt; commands.get(place).copied(), Some(command));
         place += 1;
     }
     one_answer();
