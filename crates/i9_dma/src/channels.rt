@@ -11,7 +11,7 @@ use i9_model::dma::{CHANNELS, COMMAND_MASK, FIRST_ENDED_PLACE};
 
 /// What came of a unit: nothing moved; it moved; it moved, and was the channel's last; or it met a
 /// hazard, the byte at this address, and nothing moved.
-#[derive(Clone, Copy, PartialEq, Eq, Debug)]
+#[derive(Clone, Copy)]
 pub enum Unit {
     Idle,
     Moved,

@@ -32,7 +32,7 @@ pub(crate) fn word_at(bytes: &[u8], at: usize) -> u32
 }
 
 /// What a program header says, as far as it is used.
-#[derive(Clone, Copy, Debug)]
+#[derive(Clone, Copy)]
 pub(crate) struct Header {
     kind: u32,
     /// Where its bytes begin in the file.

@@ -19,7 +19,7 @@ pub enum Format {
 
 /// What an instruction does with one of its three operands. A number is how many words it has, from
 /// 1 to 4: so many registers from the named one up.
-#[derive(Clone, Copy, Debug, PartialEq, Eq)]
+#[derive(Clone, Copy)]
 pub enum Use {
     /// Its field is ignored.
     Unused,
@@ -40,7 +40,7 @@ pub enum Use {
 }
 
 /// A row of the instruction table.
-#[derive(Clone, Copy, Debug, PartialEq, Eq)]
+#[derive(Clone, Copy)]
 pub struct Row {
     /// Bits 31 to 24 of the word.
     pub opcode: u8,

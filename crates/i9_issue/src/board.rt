@@ -18,7 +18,7 @@ const MOST_OPEN: usize = 7;
 /// which the last request is done, or 0; and how many records are open at the last issue turn, with those,
 /// the oldest first. At most seven are. Which turns records get is this project's own, after the i960 CA/CF
 /// User's Manual, instruction execution in parallel.
-#[derive(Debug, Drop)]
+#[derive(Drop)]
 pub struct Board {
     last: u64,
     until: u64,

@@ -5,7 +5,7 @@ use crate::push::Push;
 /// A procedure of the system procedure table is entered: the push of its frame, its address, the
 /// process controls afterwards, and whether its frame is on the supervisor stack by a switch of
 /// stacks.
-#[derive(Clone, Copy, Debug, PartialEq, Eq)]
+#[derive(Clone, Copy)]
 pub struct Sys {
     pub push: Push,
     pub target: u32,
@@ -25,7 +25,7 @@ pub enum CallsStop {
 /// A return: the frame that is returned to, whether a live frame is left by it, the process and
 /// arithmetic controls afterwards, and whether software interrupts are looked at next. Bit k of
 /// `marks` is the mark of word k of the frame, whose value is stale where it is marked.
-#[derive(Clone, Copy, Debug, PartialEq, Eq)]
+#[derive(Clone, Copy)]
 pub struct Pop {
     pub frame: u32,
     pub live: bool,

@@ -74,7 +74,7 @@ pub struct Fault {
 
 /// What the entry of a fault makes: the frame of its handler, the handler's address, the process
 /// controls, and the four words of the record below the frame.
-#[derive(Clone, Copy, Debug, PartialEq, Eq)]
+#[derive(Clone, Copy)]
 pub struct Entry {
     pub push: Push,
     pub target: u32,

@@ -3,7 +3,7 @@
 use i9_isa::Side;
 
 /// What is known of an instruction beside its fields.
-#[derive(Clone, Copy, Debug)]
+#[derive(Clone, Copy)]
 pub struct Facts {
     /// Its address.
     pub ip: u32,
@@ -26,7 +26,7 @@ pub struct Facts {
 }
 
 /// What a record needs: an instruction, an event or an entry.
-#[derive(Clone, Copy, Debug)]
+#[derive(Clone, Copy)]
 pub struct Need {
     /// The side on which it issues.
     pub side: Side,
@@ -54,7 +54,7 @@ pub struct Need {
 }
 
 /// The turns of a record.
-#[derive(Clone, Copy, Debug, PartialEq, Eq)]
+#[derive(Clone, Copy)]
 pub struct Placed {
     /// The turn at which it issues.
     pub issue: u64,
@@ -81,7 +81,7 @@ impl Default for Need {
 }
 
 /// A record's need with its turns.
-#[derive(Clone, Copy, Debug, Default)]
+#[derive(Clone, Copy, Default)]
 pub struct TimedNeed {
     pub need: Need,
     pub issue: u64,
@@ -89,7 +89,7 @@ pub struct TimedNeed {
 }
 
 /// A register, or the condition code.
-#[derive(Clone, Copy, Debug)]
+#[derive(Clone, Copy)]
 pub struct Cell {
     pub value: u32,
     /// The value that an open record writes, with the turn at which it is done.

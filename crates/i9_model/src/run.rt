@@ -39,7 +39,7 @@ pub enum Point {
 }
 
 /// What comes next whatever the length of the run.
-#[derive(Clone, Copy, Debug)]
+#[derive(Clone, Copy)]
 pub enum Due {
     /// Nothing.
     Nothing,

@@ -49,7 +49,7 @@ pub const DAB1_ENABLE_PLACE: u32 = 1;
 /// What an instruction showed: its address; the effective address of a load, a store or an atomic, and
 /// None for every other name; that a conditional or compare branch was taken; and that a `calls`
 /// switched to supervisor mode, or a `ret` of type 010 or 011 was done in it.
-#[derive(Clone, Copy, Debug, PartialEq, Eq)]
+#[derive(Clone, Copy)]
 pub struct Seen {
     pub address: u32,
     pub access: Option<u32>,
@@ -59,7 +59,7 @@ pub struct Seen {
 
 /// What a trace fault makes: the trace controls with the flags of its events and breakpoints, and its
 /// subtype, with bit m for the event whose mode is bit m of the trace controls.
-#[derive(Clone, Copy, Debug, PartialEq, Eq)]
+#[derive(Clone, Copy)]
 pub struct Trace {
     pub tc: u32,
     pub subtype: u16,

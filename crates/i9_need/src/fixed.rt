@@ -12,7 +12,7 @@ use i9_isa::{Inst, Operand, Side, Use, latency, reads, row, side_of, word_count,
 
 /// What an instruction needs by its name and its operands alone. It is the same each time that the
 /// instruction is done, so it can be kept with the instruction.
-#[derive(Clone, Copy, Debug)]
+#[derive(Clone, Copy)]
 pub struct FixedNeed {
     /// The side on which it issues.
     pub side: Side,

@@ -25,7 +25,7 @@ const LONG: u32 = 8;
 /// Instructions that were decoded, so that a loop's words are decoded once, and the one that was read last,
 /// with the load or the store that it is, where its effective address was worked out. What it keeps changes
 /// no answer.
-#[derive(Debug, Drop)]
+#[derive(Drop)]
 pub struct DecodeCache {
     known: Vec<Option<Kept>>,
     last: Kept,

@@ -12,7 +12,7 @@ use i9_decode::BadWord;
 use i9_processor::Processor;
 
 /// The words of an instruction. The second is 0 where there is none.
-#[derive(Clone, Copy, Debug, PartialEq, Eq)]
+#[derive(Clone, Copy)]
 pub struct Words {
     pub first: u32,
     pub second: u32,

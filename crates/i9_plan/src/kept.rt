@@ -14,7 +14,7 @@ use i9_need::{FixedNeed, fixed_need};
 
 /// Words, the instruction that they are, what it needs by its name and its operands alone, the load or the store
 /// that it is, where it is one, and whether it has a result.
-#[derive(Clone, Copy, Debug)]
+#[derive(Clone, Copy)]
 pub(crate) struct Kept {
     pub words: Words,
     pub inst: Inst,

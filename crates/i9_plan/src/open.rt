@@ -16,7 +16,7 @@ use i9_need::FixedNeed;
 use i9_processor::{Effect, Processor};
 
 /// What stands at the instruction address while something is open.
-#[derive(Debug, Drop)]
+#[derive(Drop)]
 pub enum Open {
     /// A barrier, a word that is refused, a fault that is raised before anything is done, or a hazard: it
     /// waits until all is done. Where `read` is set, it is the instruction in the decode cache.

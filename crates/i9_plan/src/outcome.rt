@@ -33,7 +33,7 @@ use i9_model::layout::LINK;
 use i9_processor::{Effect, Processor};
 
 /// A hazard of its access, or a fault of this type and subtype; or it is done.
-#[derive(Clone, Copy, Debug)]
+#[derive(Clone, Copy)]
 pub(crate) enum Outcome {
     Meets(u32),
     Faults((u8, u16)),

@@ -13,7 +13,7 @@ use crate::tracing::follow;
 use i9_processor::{Effect, Processor};
 
 /// What stands at the instruction address.
-#[derive(Debug, Drop)]
+#[derive(Drop)]
 pub enum Planned {
     /// Its fetch or its access meets a hazard at this byte.
     Meets(u32),

@@ -26,7 +26,7 @@ use i9_isa::{Direction, Inst, Operand, Size, Transfer};
 use i9_processor::{Effect, MOST_BYTES, MOST_VALUES, Processor};
 
 /// A transfer between registers and memory, and the address where it begins.
-#[derive(Clone, Copy, Debug)]
+#[derive(Clone, Copy)]
 pub(crate) struct Moving {
     pub transfer: Transfer,
     pub address: u32,

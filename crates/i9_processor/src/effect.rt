@@ -20,14 +20,14 @@ pub const MOST_BYTES: usize = 16;
 
 /// Bytes with bits of requests of software that are stored after others, each at an address of its own:
 /// at most that of a priority and that of its vectors.
-#[derive(Clone, Copy, Debug, PartialEq, Eq)]
+#[derive(Clone, Copy)]
 pub struct Requests {
     pub first: Option<(u32, u8)>,
     pub second: Option<(u32, u8)>,
 }
 
 /// What is done to frames.
-#[derive(Clone, Copy, Debug)]
+#[derive(Clone, Copy)]
 pub enum Move {
     /// Nothing.
     Stays,
@@ -41,7 +41,7 @@ pub enum Move {
 }
 
 /// What is done to the controls that start-up reads.
-#[derive(Clone, Copy, Debug)]
+#[derive(Clone, Copy)]
 pub enum Control {
     /// Nothing.
     Keeps,
@@ -52,7 +52,7 @@ pub enum Control {
 }
 
 /// What is done to the interrupts that are posted, and to the lines that are not masked.
-#[derive(Clone, Copy, Debug, PartialEq, Eq)]
+#[derive(Clone, Copy)]
 pub enum Posting {
     /// Nothing.
     Keeps,
@@ -73,7 +73,7 @@ pub enum Posting {
 }
 
 /// What is done to DMA.
-#[derive(Clone, Copy, Debug, PartialEq, Eq)]
+#[derive(Clone, Copy)]
 pub enum DmaChange {
     /// Nothing.
     Keeps,
@@ -95,7 +95,7 @@ pub enum DmaChange {
 /// Most effects are plain: they store bytes in a row at most, and frames, interrupts, DMA and the controls that
 /// start-up reads stay. Where `plain` is set nothing of that is asked for; where it is not, the effect may be plain
 /// nevertheless.
-#[derive(Debug, Drop)]
+#[derive(Drop)]
 pub struct Effect {
     pub register: u8,
     pub values: ArrayVec<u32, MOST_VALUES>,

@@ -16,7 +16,7 @@ use i9_model::layout::{CONTROL_GROUP_SIZE, TC_MASK};
 const CONTROL_TABLE: u32 = 1;
 
 /// The trace controls and the breakpoints.
-#[derive(Clone, Copy, Debug, PartialEq, Eq)]
+#[derive(Clone, Copy)]
 pub struct TraceControls {
     pub tc: u32,
     pub breaks: Breaks,
