@@ -70,7 +70,7 @@ fn set_count(sets: Option<u8>, setup: &Setup) -> u8
 impl Processor {
     ghost use Rattle.i9_processor.specs.State.{state_of, cache_of, size_of, cells_of, bytes_of, queue_of};
     ghost use Rattle.i9_processor.specs.State.{KeepsContents};
-    ghost use Rattle.i9_processor.specs.Pages.{HasPagesFor};
+    ghost use Rattle.i9_processor.specs.Pages.{AddsNoPage, HasPagesFor};
 
     /// The state after boot, by the image's boot record, with so many sets or as many as its PRCB
     /// asks for (the i960 CA/CF User's Manual, initialization). Nothing is planned, and nothing waits.
@@ -116,7 +116,8 @@ impl Processor {
     /// The same state, with the same frames in the same sets, the same plans, and the same requests that wait.
     #[tactic(auto, unfolding(crate::specs::State::state_of, crate::specs::State::cache_of, crate::specs::State::size_of, crate::specs::State::cells_of, crate::specs::State::bytes_of, crate::specs::State::queue_of))]
     pub fn copy(&self, alloc: Global) -> Result<Processor, NoMemory>
-        ensures { IfOk result (λ p. KeepsContents self.now p) }
+        ensures contents { IfOk result (λ p. KeepsContents self.now p) }
+        ensures no_more { IfOk result (λ p. AddsNoPage self.now p) }
     {
         let storage = self.storage.copy(alloc)?;
         Ok(Processor {

@@ -12,14 +12,16 @@ use std::alloc::Global;
 
 impl Machine {
     ghost use Rattle.i9_machine.specs.StandsFor.{StandsFor};
+    ghost use Rattle.i9_processor.specs.Pages.{AddsNoPage};
 
     /// A machine that stands for the same records at the same turn, and goes on by itself. It takes as much memory as
-    /// its pages, however long the run was.
+    /// its pages, of which none is new, however long the run was.
     // What was decoded isn't copied, since it changes no answer.
     pub fn copy(&self, alloc: Global) -> Result<Machine, NoMemory>
         ensures stands { (g : Given) (h : List Item) → StandsFor g h None self.now
             → IfOk result (λ m. StandsFor g h None m) }
         ensures turn { IfOk result (λ m. m.turn ≡ self.now.turn) }
+        ensures no_more { IfOk result (λ m. AddsNoPage self.now.processor m.processor) }
     {
         let processor = self.processor.copy(alloc)?;
         let decodes = DecodeCache::new(alloc)?;

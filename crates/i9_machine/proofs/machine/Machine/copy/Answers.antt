@@ -5,7 +5,7 @@ use Rattle.i9_machine.proofs.machine.Machine.copy.Goals as goal
 
 pub returns-clause-stands : goal.returns-clause-stands
 returns-clause-stands c = λ g h stands.
-    let made = c.in_ok-processor.ensures in
+    let made = c.in_ok-processor.ensures.contents in
     same_stands g h c.args.self.now _ None
     record {
       state = made.seen.state;
@@ -33,6 +33,6 @@ invariant_of-result c =
     let old = c.args.self.now in
     record {
       short = old.short;
-      below = subst (λ (s : State). s.count ≤ old.length) (sym c.in_ok-processor.ensures.seen.state) old.below;
+      below = subst (λ (s : State). s.count ≤ old.length) (sym c.in_ok-processor.ensures.contents.seen.state) old.below;
       few = old.few;
     }
