@@ -1,7 +1,7 @@
 //! What a push of a frame makes.
 
 /// Where the locals are saved, where the new frame is, and the new pfp and sp.
-#[derive(Clone, Copy)]
+#[derive(Clone, Copy, Debug, PartialEq, Eq)]
 pub struct Push {
     pub save: u32,
     pub frame: u32,
