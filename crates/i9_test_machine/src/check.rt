@@ -16,6 +16,11 @@ where
     assert_eq!(rt; got, wanted, "at {at:?}");
 }
 
+/// Fails where it is not so.
+pub(crate) fn must(rt: &impl Abort, is: bool) {
+    assert!(rt; is);
+}
+
 /// Fails, and tells at which row, where it is not so.
 pub(crate) fn must_at<A: Debug + Drop>(rt: &impl Abort, is: bool, at: A) {
     assert!(rt; is, "at {at:?}");

@@ -1,8 +1,16 @@
-//! The tests of i9_raw and i9_machine, whose public calls they make.
+//! The tests of i9_raw, i9_machine, i9_back, i9_tracer and i9_debug, whose public calls they make.
 #![tactic(auto)]
 
 #[cfg(test)]
+mod back;
+#[cfg(test)]
+mod back_sessions;
+#[cfg(test)]
 mod check;
+#[cfg(test)]
+mod debug;
+#[cfg(test)]
+mod debug_sessions;
 #[cfg(test)]
 mod machine;
 #[cfg(test)]
@@ -17,3 +25,7 @@ mod run;
 mod script;
 #[cfg(test)]
 mod told;
+#[cfg(test)]
+mod tracer;
+#[cfg(test)]
+mod tracer_until;

@@ -1,7 +1,5 @@
 //! The machine at images of a few instructions, worked out by hand.
-use crate::check::same_at;
-use crate::run::idle;
-use crate::script::{columns, told};
+use crate::script::tables_hold;
 use std::test::*;
 
 /// From the start of a run to its end. The last instruction stores the exit word.
@@ -56,13 +54,7 @@ call f; f: divo; ld 16(pfp), g6 | image 1000 9000004 70A11D80 90B02010, run 100,
 
 #[test]
 fn goes_to_an_end(rt: HostRuntime) -> Result<(), Fail> {
-    let mut run = idle(rt.alloc())?;
-    for row in STEPS.lines().chain(FAULT.lines()).chain(ENDS.lines()) {
-        let (steps, wanted) = columns(row)?;
-        let answers = told(rt.alloc(), &mut run, steps)?;
-        same_at(&rt, answers.as_str(), wanted, row);
-    }
-    Ok(())
+    tables_hold(&rt, rt.alloc(), &[STEPS, FAULT, ENDS])
 }
 
 /// Bytes of live frames alone are compared: three of the first frame, one behind it, one of code, and one of the port
@@ -108,13 +100,7 @@ sysctl             | steps 1, sets?, frames?, count?, ip?, bytes? 24 | 7, 0, 6, 
 
 #[test]
 fn holds_frames(rt: HostRuntime) -> Result<(), Fail> {
-    let mut run = idle(rt.alloc())?;
-    for row in FRAMES.lines().chain(NESTED.lines()).chain(ANEW.lines()) {
-        let (steps, wanted) = columns(row)?;
-        let answers = told(rt.alloc(), &mut run, steps)?;
-        same_at(&rt, answers.as_str(), wanted, row);
-    }
-    Ok(())
+    tables_hold(&rt, rt.alloc(), &[FRAMES, NESTED, ANEW])
 }
 
 /// A run of `lda 0x41, g4` and, at 1200, where the interrupt that is never masked is handled, `mov 7, g4`. The event
@@ -167,11 +153,5 @@ settled before     | run 2, steps 1, settle, moves, count?, ip? | true, 0 on, 1,
 
 #[test]
 fn meets_events_and_settles(rt: HostRuntime) -> Result<(), Fail> {
-    let mut run = idle(rt.alloc())?;
-    for row in EVENTS.lines().chain(MOVES.lines()).chain(SETTLES.lines()) {
-        let (steps, wanted) = columns(row)?;
-        let answers = told(rt.alloc(), &mut run, steps)?;
-        same_at(&rt, answers.as_str(), wanted, row);
-    }
-    Ok(())
+    tables_hold(&rt, rt.alloc(), &[EVENTS, MOVES, SETTLES])
 }

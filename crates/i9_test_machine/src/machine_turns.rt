@@ -1,7 +1,5 @@
 //! Whole turns of the machine and what is raw at them, worked out by hand.
-use crate::check::same_at;
-use crate::run::idle;
-use crate::script::{columns, told};
+use crate::script::tables_hold;
 use std::test::*;
 
 /// `muli 3, 4, g2` issues at 1, `addo 1, 2, g5`, `ld 0x100, g6` and `b next` at 2, and `next: mov 0, g7` at 3. The
@@ -40,13 +38,7 @@ the last           | turn, turn?, count?, busy? | on, 17, 4, 0
 
 #[test]
 fn issues_three_in_a_turn(rt: HostRuntime) -> Result<(), Fail> {
-    let mut run = idle(rt.alloc())?;
-    for row in PACKET.lines().chain(REQUESTS.lines()) {
-        let (steps, wanted) = columns(row)?;
-        let answers = told(rt.alloc(), &mut run, steps)?;
-        same_at(&rt, answers.as_str(), wanted, row);
-    }
-    Ok(())
+    tables_hold(&rt, rt.alloc(), &[PACKET, REQUESTS])
 }
 
 /// The byte at an address of raw memory and of overlaid memory, and how many frames are held. `call` issues at 2, and
@@ -96,13 +88,7 @@ mov 2, g4          | put 200 5CA00E02, run 3, turns 200, regs? 20 21 22 | 2 0 0
 
 #[test]
 fn memory_shows_what_is_done(rt: HostRuntime) -> Result<(), Fail> {
-    let mut run = idle(rt.alloc())?;
-    for row in MEMORY.lines().chain(LOADS.lines()) {
-        let (steps, wanted) = columns(row)?;
-        let answers = told(rt.alloc(), &mut run, steps)?;
-        same_at(&rt, answers.as_str(), wanted, row);
-    }
-    Ok(())
+    tables_hold(&rt, rt.alloc(), &[MEMORY, LOADS])
 }
 
 /// A store waits before it lands. Once a call has issued, the locals and the frame pointer are its own
@@ -133,13 +119,7 @@ again              | proceed | limit
 
 #[test]
 fn waits_for_what_is_open(rt: HostRuntime) -> Result<(), Fail> {
-    let mut run = idle(rt.alloc())?;
-    for row in WAITING.lines().chain(PASSED.lines()) {
-        let (steps, wanted) = columns(row)?;
-        let answers = told(rt.alloc(), &mut run, steps)?;
-        same_at(&rt, answers.as_str(), wanted, row);
-    }
-    Ok(())
+    tables_hold(&rt, rt.alloc(), &[WAITING, PASSED])
 }
 
 /// Machines that are copied, and go on as they would without: with a store that waits; with a frame that is held, and
@@ -165,11 +145,5 @@ within the returns | run 100 5, steps 70, copy, steps 5, copy, end, count?, ip?,
 
 #[test]
 fn copies_go_on_by_themselves(rt: HostRuntime) -> Result<(), Fail> {
-    let mut run = idle(rt.alloc())?;
-    for row in COPIES.lines() {
-        let (steps, wanted) = columns(row)?;
-        let answers = told(rt.alloc(), &mut run, steps)?;
-        same_at(&rt, answers.as_str(), wanted, row);
-    }
-    Ok(())
+    tables_hold(&rt, rt.alloc(), &[COPIES])
 }

@@ -12,20 +12,25 @@
 //! Counts, turns and the numbers of registers are decimal; addresses, words and bytes are hexadecimal.
 ghost use Rattle.i9_machine.specs.InRun.{IsInRun};
 
+use crate::check::same_at;
 use crate::run::{
-    Run, advance, copy, image_of, moves_and_step, proceed, put_words, settle, start, step, steps,
-    turn, turns,
+    Run, advance, copy, idle, image_of, moves_and_step, proceed, put_words, settle, start, step,
+    steps, turn, turns,
 };
 use crate::told::{add, answer, counted_text, issue_text, lines_text, truth, turn_text};
 use std::alloc::Global;
+use std::process::Abort;
 use std::test::Fail;
 
 /// The steps and the answers of a row.
 pub(crate) fn columns(row: &str) -> Result<(&str, &str), Fail> {
-    let mut parts = row.split('|');
-    match (parts.next(), parts.next(), parts.next()) {
-        (Some(_), Some(steps), Some(wanted)) => Ok((steps.trim(), wanted.trim())),
-        _ => Err("a row has three columns".into()),
+    let (_, rest) = row.split_once("|").unwrap_or((row, ""));
+    match rest.split_once("|") {
+        Some((steps, rest)) => {
+            let (wanted, _) = rest.split_once("|").unwrap_or((rest, ""));
+            Ok((steps.trim(), wanted.trim()))
+        }
+        None => Err("a row has three columns".into()),
     }
 }
 
@@ -142,4 +147,26 @@ pub(crate) fn told(alloc: Global, run: &mut Run, steps: &str) -> Result<String, 
         add(&mut text, &does(alloc, run, name, rest)?)?;
     }
     Ok(text)
+}
+
+/// Does the rows of a table one after the other, each of which has to be answered as it says.
+fn table_holds(rt: &impl Abort, alloc: Global, run: &mut Run, table: &str) -> Result<(), Fail>
+    requires { IsInRun run.old.machine run.old.plan }
+    ensures { IsInRun run.new.machine run.new.plan }
+{
+    for row in table.lines() {
+        let (steps, wanted) = columns(row)?;
+        let answers = told(alloc, run, steps)?;
+        same_at(rt, answers.as_str(), wanted, row);
+    }
+    Ok(())
+}
+
+/// Does the rows of tables, the first from the run on that a script begins with.
+pub(crate) fn tables_hold(rt: &impl Abort, alloc: Global, tables: &[&str]) -> Result<(), Fail> {
+    let mut run = idle(alloc)?;
+    for table in tables {
+        table_holds(rt, alloc, &mut run, table)?;
+    }
+    Ok(())
 }

@@ -1,5 +1,6 @@
 //! Start-up, worked out by hand.
 use crate::check::{must_at, same};
+use crate::storage::{left, put_words};
 use i9_boot::{CONTROL_WORDS, Setup, boot, control_group, reinit};
 use i9_memory::Memory;
 use i9_watch::Watch;
@@ -41,17 +42,6 @@ const CONTROL: [u32; CONTROL_WORDS] = [
     0xFFFF_FFFF,
     0xC000_0003,
 ];
-
-/// Lays words from an address on, each in the order of its region.
-fn put_words(memory: &mut Memory, a: u32, words: &[u32]) -> Result<(), Fail> {
-    let mut at = a;
-    for word in words {
-        memory.reserve(at, 4)?;
-        memory.put_word(at, *word);
-        at = at.wrapping_add(4);
-    }
-    Ok(())
-}
 
 /// Lays bytes from an address on.
 fn put_bytes(memory: &mut Memory, a: u32, bytes: &[u8]) -> Result<(), Fail> {
@@ -125,18 +115,7 @@ fn is_configured(memory: &Memory) -> bool {
 /// A watch with soft bytes: those of frames that were saved here and returned from.
 fn watch(alloc: Global, frames: &[u32]) -> Result<Watch, Fail> {
     let mut watch = Watch::new(alloc);
-    for fp in frames {
-        match watch.plan_push(*fp, 0, 0, 0) {
-            Ok(push) => {
-                watch.reserve(push.save)?;
-                watch.called(push.save, 0);
-            }
-            Err(_) => return Err("a hazard".into()),
-        }
-        if watch.first_live().is_some() {
-            let _ = watch.returned();
-        }
-    }
+    left(&mut watch, frames)?;
     Ok(watch)
 }
 

@@ -1,6 +1,7 @@
 //! Entries, worked out by hand.
 use crate::check::{same, same_at};
-use crate::rows::{columns, hex_words};
+use crate::rows::{hex_words, pair};
+use crate::storage::{left, live};
 use i9_entry::{
     Push, Sys, enter_here, enter_system, in_supervisor_mode, read_word, record_write_hazard,
     system_switches, trace_enable, without_supervisor,
@@ -22,30 +23,11 @@ fn memory(alloc: Global, words: &[(u32, u32)]) -> Result<Memory, Fail> {
 
 /// A watch of frames that were saved at these addresses: the first ones were left again, so that
 /// their bytes are soft, and the others are live.
-fn watch(alloc: Global, left: &[u32], live: &[u32]) -> Result<Watch, Fail> {
+fn watch(alloc: Global, first: &[u32], others: &[u32]) -> Result<Watch, Fail> {
     let mut watch = Watch::new(alloc);
-    for fp in left {
-        save(&mut watch, *fp)?;
-        if watch.first_live().is_some() {
-            let _ = watch.returned();
-        }
-    }
-    for fp in live {
-        save(&mut watch, *fp)?;
-    }
+    left(&mut watch, first)?;
+    live(&mut watch, others)?;
     Ok(watch)
-}
-
-/// Saves the frame at a frame pointer.
-fn save(watch: &mut Watch, fp: u32) -> Result<(), Fail> {
-    match watch.plan_push(fp, 0, 0, 0) {
-        Ok(push) => {
-            watch.reserve(push.save)?;
-            watch.called(push.save, 0);
-            Ok(())
-        }
-        Err(_) => Err("a hazard".into()),
-    }
 }
 
 /// The two numbers of a row.
@@ -140,7 +122,7 @@ fn above_text(alloc: Global, watch: &Watch, given: &str) -> Result<String, Fail>
 fn enters_above_a_record(rt: HostRuntime) -> Result<(), Fail> {
     let watch = watch(rt.alloc(), &[], &[0x1000])?;
     for row in ENTRIES.lines() {
-        let (given, wanted) = columns(row)?;
+        let (given, wanted) = pair(row)?;
         let text = above_text(rt.alloc(), &watch, given)?;
         same_at(&rt, text.as_str(), wanted, row);
     }
@@ -181,13 +163,13 @@ fn enters_by_the_table(rt: HostRuntime) -> Result<(), Fail> {
     let memory = memory(rt.alloc(), &TABLE)?;
     let watch = watch(rt.alloc(), &[], &[])?;
     for row in CALLS.lines() {
-        let (given, wanted) = columns(row)?;
+        let (given, wanted) = pair(row)?;
         let (n, pc) = two_numbers(rt.alloc(), given)?;
         let planned = enter_system(&memory, &watch, 0xB00, n, pc, 0x3004, 0x3051, 0, 0, 3);
         same_at(&rt, entry_text(rt.alloc(), planned)?.as_str(), wanted, row);
     }
     for row in FAULTS.lines() {
-        let (given, wanted) = columns(row)?;
+        let (given, wanted) = pair(row)?;
         let (n, pc) = two_numbers(rt.alloc(), given)?;
         let planned = enter_system(&memory, &watch, 0xB00, n, pc, 0x3004, 0x3051, 16, 1, 1);
         same_at(&rt, entry_text(rt.alloc(), planned)?.as_str(), wanted, row);
@@ -225,7 +207,7 @@ fn left_text(alloc: Global, memory: &Memory, given: &str) -> Result<String, Fail
 fn meets_hazards_in_order(rt: HostRuntime) -> Result<(), Fail> {
     let memory = memory(rt.alloc(), &TABLE)?;
     for row in HAZARDS.lines() {
-        let (given, wanted) = columns(row)?;
+        let (given, wanted) = pair(row)?;
         let text = left_text(rt.alloc(), &memory, given)?;
         same_at(&rt, text.as_str(), wanted, row);
     }
@@ -256,7 +238,7 @@ fn switch_text(alloc: Global, memory: &Memory, given: &str) -> Result<String, Fa
 fn tells_switches_of_stacks(rt: HostRuntime) -> Result<(), Fail> {
     let memory = memory(rt.alloc(), &TABLE)?;
     for row in SWITCHES.lines() {
-        let (given, wanted) = columns(row)?;
+        let (given, wanted) = pair(row)?;
         let text = switch_text(rt.alloc(), &memory, given)?;
         same_at(&rt, text.as_str(), wanted, row);
     }
@@ -302,7 +284,7 @@ fn finds_records_in_the_way(rt: HostRuntime) -> Result<(), Fail> {
     // The bytes at 3040 are soft, and a frame is live at 4000.
     let watch = watch(rt.alloc(), &[0x3040], &[0x4000])?;
     for row in RECORDS.lines() {
-        let (given, wanted) = columns(row)?;
+        let (given, wanted) = pair(row)?;
         let text = record_text(rt.alloc(), &watch, given)?;
         same_at(&rt, text.as_str(), wanted, row);
     }

@@ -2,7 +2,7 @@
 ghost use Rattle.std.specs.Prelude.{◌≡◌, ◌∷◌, []};
 
 use crate::check::{must, same, same_at};
-use crate::rows::{add, columns};
+use crate::rows::{add, pair};
 use arrayvec::ArrayVec;
 use i9_memory::Memory;
 use i9_queue::{Behind, Queue, Request, Size, store_bytes};
@@ -91,7 +91,7 @@ fn forwards_the_youngest_store(rt: HostRuntime) -> Result<(), Fail> {
     same(&rt, empty.as_str(), "0: none none none none none none none");
     let mut queue = waiting(REQUESTS)?;
     for row in TAKEN.lines() {
-        let (turn, wanted) = columns(row)?;
+        let (turn, wanted) = pair(row)?;
         // The request is taken from a copy of what waits.
         queue = queue.copy();
         let text = taken_text(rt.alloc(), &mut queue, turn.parse::<u64>()?)?;
@@ -239,7 +239,7 @@ fn reads_words_over_what_waits(rt: HostRuntime) -> Result<(), Fail> {
     );
     let mut behind = over_a_border(rt.alloc())?;
     for row in LANDED.lines() {
-        let (turn, held) = columns(row)?;
+        let (turn, held) = pair(row)?;
         behind.land(turn.parse::<u64>()?);
         let wanted = format!(in rt.alloc(); "{held}, {READS}")?;
         let text = reads_text(rt.alloc(), &behind)?;
@@ -311,14 +311,12 @@ fn stored_text(alloc: Global, memory: &Memory, text: &str) -> Result<String, Fai
 #[test]
 fn stores_values(rt: HostRuntime) -> Result<(), Fail> {
     let memory = memory(rt.alloc());
-    for row in STORES.lines().chain(STORES_OVER_AN_END.lines()) {
-        let (text, wanted) = columns(row)?;
-        same_at(
-            &rt,
-            stored_text(rt.alloc(), &memory, text)?.as_str(),
-            wanted,
-            row,
-        );
+    for table in [STORES, STORES_OVER_AN_END] {
+        for row in table.lines() {
+            let (text, wanted) = pair(row)?;
+            let told = stored_text(rt.alloc(), &memory, text)?;
+            same_at(&rt, told.as_str(), wanted, row);
+        }
     }
     Ok(())
 }
@@ -416,7 +414,7 @@ fn sees_what_waits(rt: HostRuntime) -> Result<(), Fail> {
     for (given, loads) in LOADS {
         let queue = waiting(given)?;
         for row in loads.lines() {
-            let (text, wanted) = columns(row)?;
+            let (text, wanted) = pair(row)?;
             let seen = seen_text(rt.alloc(), &queue, &memory, text)?;
             same_at(&rt, seen.as_str(), wanted, row);
         }

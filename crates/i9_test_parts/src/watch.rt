@@ -1,19 +1,8 @@
 //! Copies of marks, worked out by hand.
 use crate::check::{same, same_at};
+use crate::storage::save;
 use i9_watch::Watch;
 use std::test::Fail;
-
-/// Saves the frame at a frame pointer, with the marks of its words.
-fn save(watch: &mut Watch, fp: u32, marks: u16) -> Result<(), Fail> {
-    match watch.plan_push(fp, 0, 0, 0) {
-        Ok(push) => {
-            watch.reserve(push.save)?;
-            watch.called(push.save, marks);
-            Ok(())
-        }
-        Err(_) => Err("a hazard".into()),
-    }
-}
 
 /// Whether a byte is soft, whether it is one of a live frame, and whether it is in a marked word of one.
 fn shown(watch: &Watch, address: u32) -> (bool, bool, bool) {

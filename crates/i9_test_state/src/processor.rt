@@ -331,13 +331,14 @@ sets_one 1F 7780 0 | call | saves 7780 77C0 7780 7800
 #[test]
 fn answers_rows(rt: HostRuntime) -> Result<(), Fail> {
     let mut p = booted(rt.alloc(), 0)?;
-    let rows = READS.lines().chain(FRAMES.lines());
-    for row in rows.chain(MARKS.lines()).chain(CHANGES.lines()) {
-        let (steps, questions, wanted) = columns(row)?;
-        // The steps of each row are done to a copy of what the rows before it left.
-        p = p.copy(rt.alloc())?;
-        let told = answers(rt.alloc(), &mut p, steps, questions)?;
-        same_at(&rt, told.as_str(), wanted, row);
+    for table in [READS, FRAMES, MARKS, CHANGES] {
+        for row in table.lines() {
+            let (steps, questions, wanted) = columns(row)?;
+            // The steps of each row are done to a copy of what the rows before it left.
+            p = p.copy(rt.alloc())?;
+            let told = answers(rt.alloc(), &mut p, steps, questions)?;
+            same_at(&rt, told.as_str(), wanted, row);
+        }
     }
     Ok(())
 }

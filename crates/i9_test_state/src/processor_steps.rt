@@ -41,7 +41,8 @@ E0000008 87654321
 2224 13
 ";
 
-fn put_word(image: &mut Segments, address: u32, word: u32) -> Result<(), Fail> {
+/// Puts a word at an address, its low byte first.
+pub(crate) fn put_word(image: &mut Segments, address: u32, word: u32) -> Result<(), Fail> {
     let mut at = address;
     for byte in word.to_le_bytes() {
         image.put(at, byte)?;

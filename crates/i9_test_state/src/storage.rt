@@ -304,11 +304,12 @@ control A0 A1 A2 A3 0 0 0 0 0 0 400000 0 0 0 0 0 0 0 0 0 0 0 0 0 0 0 0 C3
 #[test]
 fn answers_rows(rt: HostRuntime) -> Result<(), Fail> {
     let mut storage = with_waiting(rt.alloc())?;
-    let rows = FRAMES.lines().chain(STORES.lines());
-    for row in rows.chain(MARKS.lines()).chain(PLANS.lines()) {
-        let (steps, questions, wanted) = columns(row)?;
-        let told = answers(rt.alloc(), &mut storage, steps, questions)?;
-        same_at(&rt, told.as_str(), wanted, row);
+    for table in [FRAMES, STORES, MARKS, PLANS] {
+        for row in table.lines() {
+            let (steps, questions, wanted) = columns(row)?;
+            let told = answers(rt.alloc(), &mut storage, steps, questions)?;
+            same_at(&rt, told.as_str(), wanted, row);
+        }
     }
     Ok(())
 }

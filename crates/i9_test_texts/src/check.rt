@@ -7,6 +7,15 @@ pub(crate) fn same<T: PartialEq + Debug + Drop>(rt: &impl Abort, got: T, wanted:
     assert_eq!(rt; got, wanted);
 }
 
+/// Fails, and tells at which row, where what is answered is not what is wanted.
+pub(crate) fn same_at<T, A>(rt: &impl Abort, got: T, wanted: T, at: A)
+where
+    T: PartialEq + Debug + Drop,
+    A: Debug + Drop,
+{
+    assert_eq!(rt; got, wanted, "at {at:?}");
+}
+
 /// Fails where it is not so.
 pub(crate) fn must(rt: &impl Abort, is: bool) {
     assert!(rt; is);
