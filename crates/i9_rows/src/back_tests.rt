@@ -1,6 +1,5 @@
 //! Going back in the debugger through the command, at texts worked out by hand.
-use crate::check::same;
-use crate::rows::{BOOT, PRCB, held};
+use crate::rows::{BOOT, PRCB, hold};
 use std::test::*;
 
 /// Sessions that go back, over images that begin at once.
@@ -270,8 +269,7 @@ status 0
 
 #[test]
 fn sessions_that_go_back(rt: HostRuntime) -> Result<(), Fail> {
-    same(&rt, held(rt.alloc(), &[BOOT], BACK)?, 16);
-    Ok(())
+    hold(&rt, rt.alloc(), &[BOOT], BACK, 16)
 }
 
 /// The session of docs/DEBUGGING.md that finds who wrote a wrong byte.
@@ -308,8 +306,7 @@ status 0
 
 #[test]
 fn who_wrote_a_wrong_byte(rt: HostRuntime) -> Result<(), Fail> {
-    same(&rt, held(rt.alloc(), &[BOOT], OVERRUN)?, 1);
-    Ok(())
+    hold(&rt, rt.alloc(), &[BOOT], OVERRUN, 1)
 }
 
 /// Sessions that go back, over images with a PRCB.
@@ -447,6 +444,5 @@ status 0
 
 #[test]
 fn sessions_that_go_back_over_entries(rt: HostRuntime) -> Result<(), Fail> {
-    same(&rt, held(rt.alloc(), &[PRCB], ENTRIES)?, 4);
-    Ok(())
+    hold(&rt, rt.alloc(), &[PRCB], ENTRIES, 4)
 }

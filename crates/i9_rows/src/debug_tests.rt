@@ -1,6 +1,5 @@
 //! The debugger through the command, at texts worked out by hand.
-use crate::check::same;
-use crate::rows::{BOOT, PRCB, held};
+use crate::rows::{BOOT, PRCB, hold};
 use std::test::*;
 
 /// Sessions over images that begin at once.
@@ -138,8 +137,7 @@ status 3
 
 #[test]
 fn sessions(rt: HostRuntime) -> Result<(), Fail> {
-    same(&rt, held(rt.alloc(), &[BOOT], SESSIONS)?, 8);
-    Ok(())
+    hold(&rt, rt.alloc(), &[BOOT], SESSIONS, 8)
 }
 
 /// The front of the sources of `demo/`: the boot record, and a PRCB with which no unaligned access faults.
@@ -215,8 +213,7 @@ status 0
 
 #[test]
 fn frames_that_are_not_in_memory(rt: HostRuntime) -> Result<(), Fail> {
-    same(&rt, held(rt.alloc(), &[DEMO], FRAMES)?, 2);
-    Ok(())
+    hold(&rt, rt.alloc(), &[DEMO], FRAMES, 2)
 }
 
 /// Sessions over an image with a PRCB.
@@ -238,8 +235,7 @@ status 0
 
 #[test]
 fn sets_are_shown(rt: HostRuntime) -> Result<(), Fail> {
-    same(&rt, held(rt.alloc(), &[PRCB], SETS)?, 1);
-    Ok(())
+    hold(&rt, rt.alloc(), &[PRCB], SETS, 1)
 }
 
 /// An event of DMA that meets a hazard ends the run in one step, at the turn at which all is done: a unit of a channel
@@ -311,6 +307,5 @@ status 4
 
 #[test]
 fn an_event_meets_a_hazard(rt: HostRuntime) -> Result<(), Fail> {
-    same(&rt, held(rt.alloc(), &[PRCB], HAZARDS)?, 4);
-    Ok(())
+    hold(&rt, rt.alloc(), &[PRCB], HAZARDS, 4)
 }

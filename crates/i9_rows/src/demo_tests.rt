@@ -1,7 +1,7 @@
 //! The board of `demo/`, and the copy of a stack there: their sources, their images, their schedules and the texts of
 //! their runs, which were worked out by hand.
-use crate::check::{must, same};
-use crate::rows::held;
+use crate::check::must;
+use crate::rows::hold;
 use crate::tests::answers;
 use std::test::*;
 
@@ -254,13 +254,11 @@ status 4
 #[test]
 fn the_board_runs(rt: HostRuntime) -> Result<(), Fail> {
     must(&rt, answers(rt.alloc(), BOARD, "asm a", 0, BOARD_IMAGE)?);
-    same(&rt, held(rt.alloc(), &[BOARD], BOARD_RUN)?, 1);
-    Ok(())
+    hold(&rt, rt.alloc(), &[BOARD], BOARD_RUN, 1)
 }
 
 #[test]
 fn the_copy_of_a_stack_runs(rt: HostRuntime) -> Result<(), Fail> {
     must(&rt, answers(rt.alloc(), MARKS, "asm a", 0, MARKS_IMAGE)?);
-    same(&rt, held(rt.alloc(), &[MARKS], MARKS_RUN)?, 2);
-    Ok(())
+    hold(&rt, rt.alloc(), &[MARKS], MARKS_RUN, 2)
 }

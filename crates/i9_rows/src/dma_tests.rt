@@ -1,6 +1,5 @@
 //! DMA through the command, at texts worked out by hand.
-use crate::check::same;
-use crate::rows::{PRCB, held};
+use crate::rows::{PRCB, hold};
 use std::test::*;
 
 /// The front of a source, behind that with a PRCB: names of words of the interrupt table and of the control table.
@@ -226,6 +225,5 @@ status 0
 
 #[test]
 fn units(rt: HostRuntime) -> Result<(), Fail> {
-    same(&rt, held(rt.alloc(), &[PRCB, VECTORS], UNITS)?, 8);
-    Ok(())
+    hold(&rt, rt.alloc(), &[PRCB, VECTORS], UNITS, 8)
 }

@@ -1,6 +1,6 @@
 //! Events and interrupts through the command, at texts worked out by hand.
 use crate::check::{same, same_at};
-use crate::rows::{BOOT, PRCB, held};
+use crate::rows::{BOOT, PRCB, hold};
 use crate::tests::{SMALLEST, words_of};
 use i9_outside::{MemFiles, MemSink};
 use i9_tool::i960;
@@ -278,14 +278,12 @@ status 0
 
 #[test]
 fn events_and_interrupts(rt: HostRuntime) -> Result<(), Fail> {
-    same(&rt, held(rt.alloc(), &[PRCB, VECTORS], EVENTS)?, 8);
-    Ok(())
+    hold(&rt, rt.alloc(), &[PRCB, VECTORS], EVENTS, 8)
 }
 
 #[test]
 fn bytes_are_shown(rt: HostRuntime) -> Result<(), Fail> {
-    same(&rt, held(rt.alloc(), &[PRCB, VECTORS], SHOWN)?, 3);
-    Ok(())
+    hold(&rt, rt.alloc(), &[PRCB, VECTORS], SHOWN, 3)
 }
 
 /// The status of a run of the smallest image with this schedule, and whether this line is printed.
@@ -389,8 +387,7 @@ status 0
 
 #[test]
 fn events_wait_for_turns(rt: HostRuntime) -> Result<(), Fail> {
-    same(&rt, held(rt.alloc(), &[BOOT], TURNS)?, 6);
-    Ok(())
+    hold(&rt, rt.alloc(), &[BOOT], TURNS, 6)
 }
 
 #[test]
@@ -527,6 +524,5 @@ status 0
 
 #[test]
 fn low_vectors_are_not_requested(rt: HostRuntime) -> Result<(), Fail> {
-    same(&rt, held(rt.alloc(), &[PRCB], LOW_VECTORS)?, 6);
-    Ok(())
+    hold(&rt, rt.alloc(), &[PRCB], LOW_VECTORS, 6)
 }

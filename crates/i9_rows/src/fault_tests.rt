@@ -1,6 +1,6 @@
 //! Calls by table, returns and faults through the command, at registers worked out by hand.
 use crate::check::same;
-use crate::rows::{PRCB, TO_USER_MODE, held};
+use crate::rows::{PRCB, TO_USER_MODE, held, hold};
 use std::test::*;
 
 /// Calls and returns.
@@ -314,27 +314,28 @@ status 4
 #[test]
 fn calls_and_returns(rt: HostRuntime) -> Result<(), Fail> {
     same(&rt, held(rt.alloc(), &[PRCB], CALLS)?, 5);
-    same(
+    hold(
         &rt,
-        held(rt.alloc(), &[PRCB, TO_USER_MODE], CALLS_IN_USER_MODE)?,
+        rt.alloc(),
+        &[PRCB, TO_USER_MODE],
+        CALLS_IN_USER_MODE,
         3,
-    );
-    Ok(())
+    )
 }
 
 #[test]
 fn faults_are_entered(rt: HostRuntime) -> Result<(), Fail> {
     same(&rt, held(rt.alloc(), &[PRCB], FAULTS)?, 9);
-    same(
+    hold(
         &rt,
-        held(rt.alloc(), &[PRCB, TO_USER_MODE], FAULTS_IN_USER_MODE)?,
+        rt.alloc(),
+        &[PRCB, TO_USER_MODE],
+        FAULTS_IN_USER_MODE,
         1,
-    );
-    Ok(())
+    )
 }
 
 #[test]
 fn entries_meet_hazards(rt: HostRuntime) -> Result<(), Fail> {
-    same(&rt, held(rt.alloc(), &[PRCB], ENTRY_HAZARDS)?, 3);
-    Ok(())
+    hold(&rt, rt.alloc(), &[PRCB], ENTRY_HAZARDS, 3)
 }

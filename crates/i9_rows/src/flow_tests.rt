@@ -1,6 +1,6 @@
 //! Branches, loads, stores and atomics through the command, at registers worked out by hand.
 use crate::check::same;
-use crate::rows::{BOOT, held};
+use crate::rows::{BOOT, held, hold};
 use std::alloc::Global;
 use std::test::*;
 
@@ -423,18 +423,15 @@ fn branches_by_comparison(rt: HostRuntime) -> Result<(), Fail> {
 
 #[test]
 fn branches_and_jumps(rt: HostRuntime) -> Result<(), Fail> {
-    same(&rt, held(rt.alloc(), &[BOOT], JUMPS)?, 4);
-    Ok(())
+    hold(&rt, rt.alloc(), &[BOOT], JUMPS, 4)
 }
 
 #[test]
 fn loads_stores_and_addresses(rt: HostRuntime) -> Result<(), Fail> {
-    same(&rt, held(rt.alloc(), &[BOOT], ACCESSES)?, 7);
-    Ok(())
+    hold(&rt, rt.alloc(), &[BOOT], ACCESSES, 7)
 }
 
 #[test]
 fn accesses_meet_hazards_and_faults(rt: HostRuntime) -> Result<(), Fail> {
-    same(&rt, held(rt.alloc(), &[BOOT], HAZARDS)?, 9);
-    Ok(())
+    hold(&rt, rt.alloc(), &[BOOT], HAZARDS, 9)
 }

@@ -1,6 +1,5 @@
 //! Calls and returns through the command, at registers worked out by hand.
-use crate::check::same;
-use crate::rows::{BOOT, held};
+use crate::rows::{BOOT, hold};
 use std::test::*;
 
 /// Calls and returns.
@@ -192,6 +191,5 @@ status 4
 
 #[test]
 fn calls_returns_and_hazards(rt: HostRuntime) -> Result<(), Fail> {
-    same(&rt, held(rt.alloc(), &[BOOT], CALLS)?, 17);
-    Ok(())
+    hold(&rt, rt.alloc(), &[BOOT], CALLS, 17)
 }

@@ -1,6 +1,6 @@
 //! Firmware that does what no good firmware does, through the command, at texts worked out by hand.
 use crate::check::{must, must_at, same, same_at};
-use crate::rows::{BOOT, PRCB, TO_USER_MODE, add_registers, held, hex_of};
+use crate::rows::{BOOT, PRCB, TO_USER_MODE, add_registers, held, hex_of, hold};
 use crate::tests::words_of;
 use i9_outside::{MemFiles, MemSink};
 use i9_tool::i960;
@@ -545,62 +545,52 @@ status 4
 
 #[test]
 fn frames_at_the_edges(rt: HostRuntime) -> Result<(), Fail> {
-    same(&rt, held(rt.alloc(), &[BOOT], EDGES)?, 4);
-    Ok(())
+    hold(&rt, rt.alloc(), &[BOOT], EDGES, 4)
 }
 
 #[test]
 fn returns_without_a_call(rt: HostRuntime) -> Result<(), Fail> {
-    same(&rt, held(rt.alloc(), &[BOOT], RETURNS)?, 5);
-    Ok(())
+    hold(&rt, rt.alloc(), &[BOOT], RETURNS, 5)
 }
 
 #[test]
 fn calls_and_returns_without_an_end(rt: HostRuntime) -> Result<(), Fail> {
-    same(&rt, held(rt.alloc(), &[BOOT], ENDLESS)?, 3);
-    Ok(())
+    hold(&rt, rt.alloc(), &[BOOT], ENDLESS, 3)
 }
 
 #[test]
 fn a_hundred_thousand_calls(rt: HostRuntime) -> Result<(), Fail> {
-    same(&rt, held(rt.alloc(), &[BOOT], DEEP)?, 1);
-    Ok(())
+    hold(&rt, rt.alloc(), &[BOOT], DEEP, 1)
 }
 
 #[test]
 fn handlers_that_fault(rt: HostRuntime) -> Result<(), Fail> {
-    same(&rt, held(rt.alloc(), &[PRCB], HANDLERS)?, 2);
-    Ok(())
+    hold(&rt, rt.alloc(), &[PRCB], HANDLERS, 2)
 }
 
 #[test]
 fn faults_beside_stores_and_hazards(rt: HostRuntime) -> Result<(), Fail> {
-    same(&rt, held(rt.alloc(), &[PRCB], FAULTS)?, 3);
-    Ok(())
+    hold(&rt, rt.alloc(), &[PRCB], FAULTS, 3)
 }
 
 #[test]
 fn tables_that_share_their_words(rt: HostRuntime) -> Result<(), Fail> {
-    same(&rt, held(rt.alloc(), &[BOOT], OVERLAID_TABLES)?, 1);
-    Ok(())
+    hold(&rt, rt.alloc(), &[BOOT], OVERLAID_TABLES, 1)
 }
 
 #[test]
 fn tables_in_odd_places(rt: HostRuntime) -> Result<(), Fail> {
-    same(&rt, held(rt.alloc(), &[PRCB], TABLES)?, 2);
-    Ok(())
+    hold(&rt, rt.alloc(), &[PRCB], TABLES, 2)
 }
 
 #[test]
 fn calls_and_starts_in_supervisor_mode(rt: HostRuntime) -> Result<(), Fail> {
-    same(&rt, held(rt.alloc(), &[PRCB], CALLS)?, 2);
-    Ok(())
+    hold(&rt, rt.alloc(), &[PRCB], CALLS, 2)
 }
 
 #[test]
 fn starts_by_odd_tables(rt: HostRuntime) -> Result<(), Fail> {
-    same(&rt, held(rt.alloc(), &[PRCB], STARTS)?, 3);
-    Ok(())
+    hold(&rt, rt.alloc(), &[PRCB], STARTS, 3)
 }
 
 #[test]
@@ -610,12 +600,13 @@ fn system_calls_by_odd_tables(rt: HostRuntime) -> Result<(), Fail> {
         held(rt.alloc(), &[PRCB, TO_USER_MODE], IN_USER_MODE)?,
         5,
     );
-    same(
+    hold(
         &rt,
-        held(rt.alloc(), &[PRCB, TO_USER_MODE], FAULT_IN_USER_MODE)?,
+        rt.alloc(),
+        &[PRCB, TO_USER_MODE],
+        FAULT_IN_USER_MODE,
         1,
-    );
-    Ok(())
+    )
 }
 
 /// A jump into the port page, where each word is refused, and so is the one at 0, where the handler is.

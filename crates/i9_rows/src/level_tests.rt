@@ -1,6 +1,6 @@
 //! Levels of pins through the command, at texts worked out by hand.
 use crate::check::{must, same};
-use crate::rows::{PRCB, held, hex_of};
+use crate::rows::{PRCB, hex_of, hold};
 use crate::tests::words_of;
 use i9_outside::{MemFiles, MemSink};
 use i9_tool::i960;
@@ -276,8 +276,7 @@ status 0
 
 #[test]
 fn firmware_follows_levels(rt: HostRuntime) -> Result<(), Fail> {
-    same(&rt, held(rt.alloc(), &[PRCB, PINS], LEVELS)?, 11);
-    Ok(())
+    hold(&rt, rt.alloc(), &[PRCB, PINS], LEVELS, 11)
 }
 
 /// A handler that lowers its priority while its pin is low: behind each second instruction it is entered again, on a
@@ -433,6 +432,5 @@ status 0
 
 #[test]
 fn the_demo_of_levels_runs(rt: HostRuntime) -> Result<(), Fail> {
-    same(&rt, held(rt.alloc(), &[DEMO], DEMO_RUN)?, 1);
-    Ok(())
+    hold(&rt, rt.alloc(), &[DEMO], DEMO_RUN, 1)
 }

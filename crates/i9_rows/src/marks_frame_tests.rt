@@ -3,7 +3,7 @@
 //! hand, and hold at every number of sets.
 use crate::check::same;
 use crate::marks_tests::LEFT;
-use crate::rows::{PRCB, TO_USER_MODE, held};
+use crate::rows::{PRCB, TO_USER_MODE, held, hold};
 use std::test::*;
 
 /// Locals that are marked, and saved.
@@ -750,36 +750,27 @@ status 0
 
 #[test]
 fn locals_are_saved_with_their_marks(rt: HostRuntime) -> Result<(), Fail> {
-    same(&rt, held(rt.alloc(), &[PRCB, LEFT], SAVED)?, 7);
-    Ok(())
+    hold(&rt, rt.alloc(), &[PRCB, LEFT], SAVED, 7)
 }
 
 #[test]
 fn starts_flush_marked_words(rt: HostRuntime) -> Result<(), Fail> {
-    same(&rt, held(rt.alloc(), &[PRCB, LEFT], RESTARTED)?, 3);
-    Ok(())
+    hold(&rt, rt.alloc(), &[PRCB, LEFT], RESTARTED, 3)
 }
 
 #[test]
 fn returns_without_a_live_frame(rt: HostRuntime) -> Result<(), Fail> {
-    same(&rt, held(rt.alloc(), &[PRCB, LEFT], RETURNS)?, 14);
-    Ok(())
+    hold(&rt, rt.alloc(), &[PRCB, LEFT], RETURNS, 14)
 }
 
 #[test]
 fn marked_frame_and_stack_pointers(rt: HostRuntime) -> Result<(), Fail> {
     same(&rt, held(rt.alloc(), &[PRCB, LEFT], PUSHES)?, 13);
     same(&rt, held(rt.alloc(), &[PRCB, LEFT], INTERRUPTED)?, 4);
-    same(
-        &rt,
-        held(rt.alloc(), &[PRCB, LEFT, TO_USER_MODE], SWITCHED)?,
-        6,
-    );
-    Ok(())
+    hold(&rt, rt.alloc(), &[PRCB, LEFT, TO_USER_MODE], SWITCHED, 6)
 }
 
 #[test]
 fn sessions_show_marks(rt: HostRuntime) -> Result<(), Fail> {
-    same(&rt, held(rt.alloc(), &[PRCB, LEFT], SESSIONS)?, 2);
-    Ok(())
+    hold(&rt, rt.alloc(), &[PRCB, LEFT], SESSIONS, 2)
 }

@@ -1,7 +1,6 @@
 //! Marks of stale values through the command: which registers and bytes have them, and what keeps them. The texts were
 //! worked out by hand, and hold at every number of sets.
-use crate::check::same;
-use crate::rows::{PRCB, held};
+use crate::rows::{PRCB, hold};
 use std::test::*;
 
 /// The front of a source, behind that with a PRCB. A routine was called and left, so that only its save wrote the bytes
@@ -483,24 +482,20 @@ status 0
 
 #[test]
 fn names_that_keep_marks(rt: HostRuntime) -> Result<(), Fail> {
-    same(&rt, held(rt.alloc(), &[PRCB, LEFT], KEEPING)?, 7);
-    Ok(())
+    hold(&rt, rt.alloc(), &[PRCB, LEFT], KEEPING, 7)
 }
 
 #[test]
 fn names_that_keep_none(rt: HostRuntime) -> Result<(), Fail> {
-    same(&rt, held(rt.alloc(), &[PRCB, LEFT], OTHERS)?, 3);
-    Ok(())
+    hold(&rt, rt.alloc(), &[PRCB, LEFT], OTHERS, 3)
 }
 
 #[test]
 fn bytes_that_are_stale(rt: HostRuntime) -> Result<(), Fail> {
-    same(&rt, held(rt.alloc(), &[PRCB, LEFT], BYTES)?, 6);
-    Ok(())
+    hold(&rt, rt.alloc(), &[PRCB, LEFT], BYTES, 6)
 }
 
 #[test]
 fn atomics_over_stale_words(rt: HostRuntime) -> Result<(), Fail> {
-    same(&rt, held(rt.alloc(), &[PRCB, LEFT], ATOMICS)?, 2);
-    Ok(())
+    hold(&rt, rt.alloc(), &[PRCB, LEFT], ATOMICS, 2)
 }

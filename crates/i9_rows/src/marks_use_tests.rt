@@ -2,7 +2,7 @@
 //! bytes that are hazards. The texts were worked out by hand, and hold at every number of sets.
 use crate::check::same;
 use crate::marks_tests::LEFT;
-use crate::rows::{PRCB, TO_USER_MODE, held};
+use crate::rows::{PRCB, TO_USER_MODE, held, hold};
 use std::alloc::Global;
 use std::test::*;
 
@@ -764,24 +764,20 @@ fn marks_come_before_mismatches(rt: HostRuntime) -> Result<(), Fail> {
 
 #[test]
 fn marks_beside_other_ends(rt: HostRuntime) -> Result<(), Fail> {
-    same(&rt, held(rt.alloc(), &[PRCB, LEFT], ORDER)?, 14);
-    Ok(())
+    hold(&rt, rt.alloc(), &[PRCB, LEFT], ORDER, 14)
 }
 
 #[test]
 fn tables_and_code_are_not_stale(rt: HostRuntime) -> Result<(), Fail> {
-    same(&rt, held(rt.alloc(), &[PRCB, LEFT], TABLES)?, 8);
-    Ok(())
+    hold(&rt, rt.alloc(), &[PRCB, LEFT], TABLES, 8)
 }
 
 #[test]
 fn records_and_units_over_stale_bytes(rt: HostRuntime) -> Result<(), Fail> {
-    same(&rt, held(rt.alloc(), &[PRCB, LEFT], WRITES)?, 5);
-    Ok(())
+    hold(&rt, rt.alloc(), &[PRCB, LEFT], WRITES, 5)
 }
 
 #[test]
 fn marks_with_events_between(rt: HostRuntime) -> Result<(), Fail> {
-    same(&rt, held(rt.alloc(), &[PRCB, LEFT], EVENTS)?, 2);
-    Ok(())
+    hold(&rt, rt.alloc(), &[PRCB, LEFT], EVENTS, 2)
 }

@@ -1,6 +1,5 @@
 //! The table of results through the command, at registers worked out by hand.
-use crate::check::same;
-use crate::rows::{BOOT, PRCB, held};
+use crate::rows::{BOOT, PRCB, hold};
 use std::test::*;
 
 /// The table of results.
@@ -142,12 +141,10 @@ status 0
 
 #[test]
 fn results_and_faults(rt: HostRuntime) -> Result<(), Fail> {
-    same(&rt, held(rt.alloc(), &[BOOT], RESULTS)?, 4);
-    Ok(())
+    hold(&rt, rt.alloc(), &[BOOT], RESULTS, 4)
 }
 
 #[test]
 fn arithmetic_faults_are_overtaken(rt: HostRuntime) -> Result<(), Fail> {
-    same(&rt, held(rt.alloc(), &[PRCB, HANDLER], OVERTAKING)?, 6);
-    Ok(())
+    hold(&rt, rt.alloc(), &[PRCB, HANDLER], OVERTAKING, 6)
 }

@@ -1,10 +1,12 @@
 //! Tables for tests: sources and what the runs of their images have to print; registers that are 0 are left out, and
 //! those that are marked are given as `-`.
+use crate::check::same;
 use crate::tests::words_of;
 use i9_asm::assemble;
 use i9_outside::{MemFiles, MemSink};
 use i9_tool::laws::i960_in_memory;
 use std::alloc::Global;
+use std::process::Abort;
 use std::test::*;
 
 /// The front of a source: the boot record, and where the code begins. The PRCB is the zeros at 0, and so the first
@@ -178,31 +180,45 @@ fn begin_case(case: &mut Case) {
     case.printed.clear();
 }
 
+/// Takes a line that begins as one of a schedule does: it is one up to the command, and one of what is printed behind
+/// it, but for a turn, which is not printed.
+fn take_event(case: &mut Case, name: &str, line: &str) -> Result<(), Fail> {
+    if case.length.is_empty() {
+        add_line(&mut case.schedule, line)
+    } else if name == "turn" {
+        add_line(&mut case.source, line)
+    } else {
+        add_line(&mut case.printed, line)
+    }
+}
+
+/// Takes the first word of the command, and its words from the length of the run or the name of the script on.
+fn take_command(case: &mut Case, command: &str, length: &str) -> Result<(), Fail> {
+    case.command.push_str(command)?;
+    case.length.push_str(length)?;
+    Ok(())
+}
+
 /// Takes a line of a table to the case that is being read, if it is not the line of its status.
 fn take_line(alloc: Global, case: &mut Case, line: &str) -> Result<(), Fail> {
-    match line.split_once(" ").unwrap_or((line, "")) {
-        ("==", _) => {
+    let (name, rest) = line.split_once(" ").unwrap_or((line, ""));
+    match name {
+        "==" => {
             case.source.clear();
             begin_case(case);
+            Ok(())
         }
-        ("--", _) => begin_case(case),
-        ("schedule" | "at" | "turn", _) if case.length.is_empty() => {
-            add_line(&mut case.schedule, line)?;
+        "--" => {
+            begin_case(case);
+            Ok(())
         }
-        ("schedule" | "at", _) => add_line(&mut case.printed, line)?,
-        (">", command) => add_line(&mut case.script, command)?,
-        (command @ ("run" | "trace" | "debug"), length) => {
-            case.command.push_str(command)?;
-            case.length.push_str(length)?;
-        }
-        ("#g", given) => add_registers(alloc, &mut case.printed, "#g", given)?,
-        ("#l", given) => add_registers(alloc, &mut case.printed, "#l", given)?,
-        ("#rg", given) => add_registers(alloc, &mut case.printed, "#rg", given)?,
-        ("#rl", given) => add_registers(alloc, &mut case.printed, "#rl", given)?,
-        _ if line.starts_with('#') => add_line(&mut case.printed, line)?,
-        _ => add_line(&mut case.source, line)?,
+        "schedule" | "at" | "turn" => take_event(case, name, line),
+        ">" => add_line(&mut case.script, rest),
+        "run" | "trace" | "debug" => take_command(case, name, rest),
+        "#g" | "#l" | "#rg" | "#rl" => add_registers(alloc, &mut case.printed, name, rest),
+        _ if line.starts_with('#') => add_line(&mut case.printed, line),
+        _ => add_line(&mut case.source, line),
     }
-    Ok(())
 }
 
 /// How many cases of a table hold. Behind the title, which begins with `==`, come the lines of the source, those of the
@@ -231,4 +247,16 @@ pub(crate) fn held(alloc: Global, fronts: &[&str], table: &str) -> Result<u32, F
         }
     }
     Ok(count)
+}
+
+/// Each case of a table holds, and there are so many.
+pub(crate) fn hold(
+    rt: &impl Abort,
+    alloc: Global,
+    fronts: &[&str],
+    table: &str,
+    count: u32,
+) -> Result<(), Fail> {
+    same(rt, held(alloc, fronts, table)?, count);
+    Ok(())
 }

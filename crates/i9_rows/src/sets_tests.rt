@@ -1,6 +1,6 @@
 //! Frames in sets through the command, at registers worked out by hand; each row holds at every number of sets.
 use crate::check::same;
-use crate::rows::{BOOT, PRCB, TO_USER_MODE, held};
+use crate::rows::{BOOT, PRCB, TO_USER_MODE, held, hold};
 use std::test::*;
 
 /// A fault over full sets.
@@ -136,6 +136,5 @@ fn spills_refills_and_flushes(rt: HostRuntime) -> Result<(), Fail> {
         held(rt.alloc(), &[PRCB, TO_USER_MODE], SPILLS_IN_USER_MODE)?,
         1,
     );
-    same(&rt, held(rt.alloc(), &[BOOT], SPILLS)?, 6);
-    Ok(())
+    hold(&rt, rt.alloc(), &[BOOT], SPILLS, 6)
 }

@@ -1,6 +1,6 @@
 //! Start-up, sysctl and modpc through the command, at registers worked out by hand.
 use crate::check::same;
-use crate::rows::{PRCB, TO_USER_MODE, held};
+use crate::rows::{PRCB, TO_USER_MODE, held, hold};
 use std::test::*;
 
 /// Start-up, by the tables of the image and by sysctl.
@@ -301,23 +301,16 @@ status 0
 
 #[test]
 fn starts_by_its_tables(rt: HostRuntime) -> Result<(), Fail> {
-    same(&rt, held(rt.alloc(), &[PRCB], STARTS)?, 6);
-    Ok(())
+    hold(&rt, rt.alloc(), &[PRCB], STARTS, 6)
 }
 
 #[test]
 fn messages_and_process_controls(rt: HostRuntime) -> Result<(), Fail> {
     same(&rt, held(rt.alloc(), &[PRCB], MESSAGES)?, 5);
-    same(
-        &rt,
-        held(rt.alloc(), &[PRCB, TO_USER_MODE], IN_USER_MODE)?,
-        1,
-    );
-    Ok(())
+    hold(&rt, rt.alloc(), &[PRCB, TO_USER_MODE], IN_USER_MODE, 1)
 }
 
 #[test]
 fn unaligned_accesses_and_table_hazards(rt: HostRuntime) -> Result<(), Fail> {
-    same(&rt, held(rt.alloc(), &[PRCB], TABLE_HAZARDS)?, 6);
-    Ok(())
+    hold(&rt, rt.alloc(), &[PRCB], TABLE_HAZARDS, 6)
 }

@@ -1,7 +1,6 @@
 //! What comes from outside to firmware that is not ready for it, and accesses and code that no good firmware has,
 //! through the command, at texts worked out by hand.
-use crate::check::same;
-use crate::rows::{BOOT, PRCB, held};
+use crate::rows::{BOOT, PRCB, hold};
 use std::test::*;
 
 /// The front of a source, behind that with a PRCB: the words of the vectors 18, 34, .. 130, which are those of the
@@ -719,72 +718,60 @@ status 4
 
 #[test]
 fn pins_all_at_once(rt: HostRuntime) -> Result<(), Fail> {
-    same(&rt, held(rt.alloc(), &[PRCB, VECTORS], STORM)?, 1);
-    Ok(())
+    hold(&rt, rt.alloc(), &[PRCB, VECTORS], STORM, 1)
 }
 
 #[test]
 fn pins_in_an_order(rt: HostRuntime) -> Result<(), Fail> {
-    same(&rt, held(rt.alloc(), &[PRCB, VECTORS], AT_ONE_COUNT)?, 1);
-    Ok(())
+    hold(&rt, rt.alloc(), &[PRCB, VECTORS], AT_ONE_COUNT, 1)
 }
 
 #[test]
 fn odd_stacks_and_masks(rt: HostRuntime) -> Result<(), Fail> {
-    same(&rt, held(rt.alloc(), &[PRCB, VECTORS], INTERRUPTS)?, 2);
-    Ok(())
+    hold(&rt, rt.alloc(), &[PRCB, VECTORS], INTERRUPTS, 2)
 }
 
 #[test]
 fn an_interrupt_in_its_own_handler(rt: HostRuntime) -> Result<(), Fail> {
-    same(&rt, held(rt.alloc(), &[PRCB, VECTORS], NESTED)?, 1);
-    Ok(())
+    hold(&rt, rt.alloc(), &[PRCB, VECTORS], NESTED, 1)
 }
 
 #[test]
 fn requests_in_frames(rt: HostRuntime) -> Result<(), Fail> {
-    same(&rt, held(rt.alloc(), &[PRCB], REQUESTS)?, 4);
-    Ok(())
+    hold(&rt, rt.alloc(), &[PRCB], REQUESTS, 4)
 }
 
 #[test]
 fn interrupts_that_are_let_in(rt: HostRuntime) -> Result<(), Fail> {
-    same(&rt, held(rt.alloc(), &[PRCB], LET_IN)?, 2);
-    Ok(())
+    hold(&rt, rt.alloc(), &[PRCB], LET_IN, 2)
 }
 
 #[test]
 fn units_over_code_and_frames(rt: HostRuntime) -> Result<(), Fail> {
-    same(&rt, held(rt.alloc(), &[PRCB], UNITS)?, 3);
-    Ok(())
+    hold(&rt, rt.alloc(), &[PRCB], UNITS, 3)
 }
 
 #[test]
 fn accesses_across_borders(rt: HostRuntime) -> Result<(), Fail> {
-    same(&rt, held(rt.alloc(), &[PRCB], ACROSS)?, 3);
-    Ok(())
+    hold(&rt, rt.alloc(), &[PRCB], ACROSS, 3)
 }
 
 #[test]
 fn ends_of_the_port_page(rt: HostRuntime) -> Result<(), Fail> {
-    same(&rt, held(rt.alloc(), &[PRCB], PORT_PAGE)?, 3);
-    Ok(())
+    hold(&rt, rt.alloc(), &[PRCB], PORT_PAGE, 3)
 }
 
 #[test]
 fn code_that_is_stored_over(rt: HostRuntime) -> Result<(), Fail> {
-    same(&rt, held(rt.alloc(), &[BOOT], CODE)?, 4);
-    Ok(())
+    hold(&rt, rt.alloc(), &[BOOT], CODE, 4)
 }
 
 #[test]
 fn events_beside_an_imprecise_fault(rt: HostRuntime) -> Result<(), Fail> {
-    same(&rt, held(rt.alloc(), &[BOOT], LOOKS)?, 4);
-    Ok(())
+    hold(&rt, rt.alloc(), &[BOOT], LOOKS, 4)
 }
 
 #[test]
 fn events_beside_a_hazard(rt: HostRuntime) -> Result<(), Fail> {
-    same(&rt, held(rt.alloc(), &[BOOT], EVENTS)?, 4);
-    Ok(())
+    hold(&rt, rt.alloc(), &[BOOT], EVENTS, 4)
 }
