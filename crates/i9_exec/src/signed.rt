@@ -1,9 +1,9 @@
 //! Arithmetic over signed and over long numbers.
-ghost use Rattle.std.specs.Prelude.{◌≡◌, ◌<◌, ◌/◌, ◌%◌, ◌*◌, ◌^◌, ◌∷◌, [], not, ◌+ℤ◌, ◌-ℤ◌, ◌*ℤ◌, pos};
+ghost use Rattle.std.specs.Prelude.{◌≡◌, ℕ, IfSome, ◌<◌, ◌/◌, ◌%◌, ◌*◌, ◌^◌, ◌∷◌, [], not, ◌+ℤ◌, ◌-ℤ◌, ◌*ℤ◌, pos};
 ghost use Rattle.std.specs.Int.RustNames.{int_div, int_rem};
 ghost use Rattle.i9_model.specs.Operands.{reduced};
 ghost use Rattle.i9_model.specs.Numbers.{fits, modulo, sign_matched, signed};
-ghost use Rattle.i9_model.specs.Results.{checked, carry_code, long, long_divided, with_carry, words};
+ghost use Rattle.i9_model.specs.Results.{checked, carry_code, long, long_divided, with_carry, word, words};
 ghost use Rattle.i9_exec.specs.Shown.{answer_of};
 
 use crate::bits::shift_left;
@@ -37,6 +37,17 @@ pub fn multiply(a: u32, b: u32, ac: u32) -> Done
     ensures { answer_of result ≡ checked (signed b *ℤ signed a) ac }
 {
     checked(b.wrapping_mul(a), product_overflows(a, b), ac)
+}
+
+/// `b` times `a`, where that does not leave the signed range.
+pub fn product(a: u32, b: u32) -> Option<u32>
+    ensures { (ac : ℕ) → IfSome result (λ v. checked (signed b *ℤ signed a) ac ≡ word v ac) }
+{
+    if product_overflows(a, b) {
+        None
+    } else {
+        Some(b.wrapping_mul(a))
+    }
 }
 
 /// The quotient of `b` by `a`, and whether it leaves the signed range.

@@ -1,5 +1,5 @@
 -- What a result gives, for names that have one and for those that have none.
-use Rattle.std.proofs.Common.{◌≡◌, ℕ, ◌≤◌, false, List, [], ◌∷◌, length, Option, Some, None, refl, sym, ap, arith}
+use Rattle.std.proofs.Common.{◌≡◌, ℕ, ◌≤◌, false, List, [], ◌∷◌, length, Option, Some, None, refl, sym, ap, subst, arith}
 use Rattle.std.proofs.lemmas.Bool.{false≢true}
 use Rattle.std.specs.Prelude.{is_some, IsNone, IsSome}
 use Rattle.i9_isa.specs.declared.op.Op.{Op}
@@ -7,7 +7,8 @@ use Rattle.i9_isa.specs.declared.op.Op.TheVariants.{Movl, Movt, Movq, Ediv, Modi
 use Rattle.i9_isa.specs.declared.inst.Inst.{Inst}
 use Rattle.i9_model.specs.State.{State}
 use Rattle.i9_model.specs.Operands.{source_words, value}
-use Rattle.i9_model.specs.Results.{Answer, results, results_by}
+use Rattle.i9_model.specs.Results.{Answer, results, results_by, result_of}
+use Rattle.i9_model.specs.Step.{answer_in}
 use Rattle.i9_plan.specs.Names.{reads_more}
 use Rattle.i9_exec.specs.declared.done.Done.{Done}
 
@@ -40,3 +41,19 @@ pub first_words : (i : Inst) (s : State) (ac : ℕ) → reads_more i.op ≡ fals
 first_words i s ac h = by_first i.op _ _ (value s i.a) (value s i.b) (value s i.c) ac h
 
 pub ruleset source_rules = (first_words)
+
+-- a name whose sources have one word each has the result of these words, whatever stands behind them
+by_words : (op : Op) (a b : List ℕ) (x y c ac : ℕ) (r : Answer) → result_of op x y c ac ≡ Some r → results_by op (x ∷ a) (y ∷ b) c ac ≡ Some r
+by_words Movl a b x y c ac r e = absurd cc
+by_words Movt a b x y c ac r e = absurd cc
+by_words Movq a b x y c ac r e = absurd cc
+by_words Ediv a b x y c ac r e = absurd cc
+by_words _ a b x y c ac r e = e
+
+pub one_answer : (i : Inst) (s : State) (x y : ℕ) (r : Answer) → x ≡ value s i.a → y ≡ value s i.b
+    → result_of i.op x y (value s i.c) s.ac ≡ Some r → Some r ≡ answer_in i s
+one_answer i s x y r a b e =
+    let here : result_of i.op (value s i.a) (value s i.b) (value s i.c) s.ac ≡ Some r =
+        subst (λ (m : ℕ). result_of i.op m (value s i.b) (value s i.c) s.ac ≡ Some r) a
+        (subst (λ (n : ℕ). result_of i.op x n (value s i.c) s.ac ≡ Some r) b e) in
+    sym (by_words i.op _ _ (value s i.a) (value s i.b) (value s i.c) s.ac r here)

@@ -18,15 +18,13 @@ use Rattle.i9_isa.specs.declared.inst.Operand.TheVariants.{Reg, Lit, Sfr}
 use Rattle.i9_model.specs.Operands.{value, address, assigned, interrupts_assigned, dma_assigned}
 use Rattle.i9_model.specs.Branches.{asks, question_of, is_taken}
 use Rattle.i9_model.specs.Needs.{is_barrier_name, has_access}
-use Rattle.i9_model.specs.Results.{Answer, has_result, destination_words}
+use Rattle.i9_model.specs.Results.{Answer, words, has_result, destination_words}
 use Rattle.i9_model.specs.Stale.{misuses, marks_for, marks_of, sources, is_marked, moves_words, result_marks}
 use Rattle.i9_model.specs.Step.{Action, passing, destination, answer_in, resulting, branching, other_action, action_by_name, action_by, action_of}
 use Rattle.i9_model.specs.Access.{NoAccess, moved_access, access_by_name, access_by, access_of, data_of, hazard_in, hazard_of}
 use Rattle.i9_model.specs.Calls.{in_supervisor_mode}
 use Rattle.i9_model.specs.Faults.{is_supervisor_only, uses_special, mismatches, is_invalid, is_past_table, is_unaligned, raised}
 use Rattle.i9_model.specs.Standing.{Standing, Meets, Faults, Runs, arithmetic_fault, answer_fault, is_fault_name, range_fault, raised_in, first_fault, by_access, by_later, by_raised, by_word}
-use Rattle.i9_exec.specs.declared.done.Done.{Done}
-use Rattle.i9_exec.specs.Shown.{answer_of}
 use Rattle.i9_processor.specs.declared.effect.Effect.{Effect}
 use Rattle.i9_processor.specs.Effect.{IsEffect}
 use Rattle.i9_plan.specs.Names.{is_branch}
@@ -320,16 +318,16 @@ no_range : (b c : Bool) → b ≡ false → ◌≡◌ {A = Option (ℕ × ℕ)} 
 no_range false c e = refl
 no_range true c e = absurd cc
 
-pub result_stands : (i : Inst) (s : State) (d : Done) → has_result i.op ≡ true → Some (answer_of d) ≡ answer_in i s → by_raised i s None ≡ by_result i d.fault
-result_stands i s d t e =
+pub result_stands : (i : Inst) (s : State) (r : Answer) → has_result i.op ≡ true → Some r ≡ answer_in i s → by_raised i s None ≡ by_result i r.fault
+result_stands i s r t e =
     let moves = none_of (transfer_of i.op) (other (has_result i.op) (is_some (transfer_of i.op)) (result_moves i.op) t) in
     let clear = no_hazard i s moves (result_access i.op i s t) in
     let calm = no_range (is_fault_name i.op) (is_taken i (value s i.a) (value s i.b) s.ac) (other (has_result i.op) (is_fault_name i.op) (result_faults i.op) t) in
     ap (λ (o : Option Answer). by_later i s (first_fault (answer_fault o) (range_fault i s))) (sym e)
-    ∙ result_by i s d.fault (range_fault i s) calm clear
+    ∙ result_by i s r.fault (range_fault i s) calm clear
 
-pub result_does : (i : Inst) (s : State) (d : Done) → has_result i.op ≡ true → Some (answer_of d) ≡ answer_in i s → resulting i s (Some (answer_of d)) ≡ action_of i s
-result_does i s d t e =
+pub result_does : (i : Inst) (s : State) (r : Answer) → has_result i.op ≡ true → Some r ≡ answer_in i s → resulting i s (Some r) ≡ action_of i s
+result_does i s r t e =
     let moves = none_of (transfer_of i.op) (other (has_result i.op) (is_some (transfer_of i.op)) (result_moves i.op) t) in
     ap (resulting i s) e ∙ sym (by_itself i s moves ∙ result_action i.op i s t)
 
@@ -478,6 +476,10 @@ nothing_given i s none =
     ∙ ap (λ (sets : List (ℕ × ℕ)). record (passing i s) { sets = sets; interrupts = interrupts_assigned o [] s.interrupts; dma = dma_assigned o [] s.dma }) (nothing_assigned o)
     ∙ ap (λ (x : Interrupts). record (passing i s) { interrupts = x; dma = dma_assigned o [] s.dma }) (nothing_posted o s.interrupts)
     ∙ ap (λ (d : Dma). record (passing i s) { dma = d }) (nothing_changed o s.dma)
+
+-- where nothing is written, a result changes the controls alone
+pub code_given : (i : Inst) (s : State) (n : ℕ) → destination_words i.op ≡ 0 → resulting i s (Some (words [] n)) ≡ record (passing i s) { ac = n }
+code_given i s n none = ap (λ (a : Action). record a { ac = n }) (nothing_given i s none)
 
 pub not_own : (op : Op) → IsOther op → is_own op ≡ false
 not_own Lda other = let b = other.barrier in absurd cc

@@ -7,10 +7,10 @@ ghost use Rattle.i9_model.specs.Operands.{value, address};
 ghost use Rattle.i9_model.specs.Access.{access_by_name};
 ghost use Rattle.i9_model.specs.Branches.{branch_controls, is_taken};
 ghost use Rattle.i9_model.specs.Needs.{is_barrier_name};
-ghost use Rattle.i9_model.specs.Results.{has_result, destination_words};
+ghost use Rattle.i9_model.specs.Results.{has_result, destination_words, word};
 ghost use Rattle.i9_model.specs.Stale.{address_registers, is_marked};
-ghost use Rattle.i9_model.specs.Step.{destination, resulting, branching, marking, answering, action_by_name};
-ghost use Rattle.i9_model.specs.Standing.{is_fault_name, raised_in, by_raised, by_word};
+ghost use Rattle.i9_model.specs.Step.{destination, passing, resulting, branching, marking, answering, action_by_name, action_of};
+ghost use Rattle.i9_model.specs.Standing.{Runs, is_fault_name, raised_in, by_raised, by_word};
 ghost use Rattle.i9_processor.specs.Effect.{IsEffect};
 ghost use Rattle.i9_processor.specs.State.{state_of, IsDrained};
 ghost use Rattle.i9_plan.specs.Names.{is_branch};
@@ -18,7 +18,7 @@ ghost use Rattle.i9_plan.specs.Moved.{IsMove, Moves};
 ghost use Rattle.i9_plan.specs.Planned.{standing_in, HasEffect, RunsInRow, IsPlanFor, Passes};
 
 use crate::barriers::barrier_outcome;
-use crate::effects::{answering, dma_change, jumping, linking, passing, posting};
+use crate::effects::{answering, dma_change, jumping, linking, one_word, passing, posting};
 use crate::marks::{address_marked, result_marks};
 use crate::misuses::misuses_open;
 use crate::names::{is_barrier, is_branch, is_fault_name};
@@ -26,7 +26,7 @@ use crate::raised::{arithmetic_fault, mismatches, raised_by_transfer};
 use crate::sources::{address, answer, target, value};
 use crate::transfers::{Moving, plan_transfer};
 use i9_entry::aligned;
-use i9_exec::{Done, Jump, branch, results_by_name};
+use i9_exec::{Done, Jump, branch, controls_by, results_by_name, word_by};
 use i9_isa::{Inst, Op, Operand};
 use i9_model::faults::{CONSTRAINT, MISMATCH, RANGE, TYPE};
 use i9_model::layout::LINK;
@@ -208,10 +208,108 @@ fn transfer_outcome(p: &Processor, i: &Inst, m: Moving, effect: &mut Effect) -> 
     }
 }
 
+/// A result of one word goes to src/dst, where that is a register, with its mark; else nothing is done. It tells which.
+#[tactic(auto, using(crate::proofs::ValidGroups::group_rules))]
+fn give_word(p: &Processor, i: &Inst, v: u32, effect: &mut Effect) -> bool
+    requires valid { IsValid i.now }
+    requires result { has_result i.now.op ≡ true }
+    requires there { destination i.now ≡ i.now.c }
+    requires one { destination_words i.now.op ≡ 1 }
+    requires passes { Passes (state_of p.now) i.now effect.old }
+    ensures given { result ≡ true
+        → IsEffect (state_of p.now) (resulting i.now (state_of p.now) (Some (word v (state_of p.now).ac))) effect.new }
+    ensures passes { result ≡ false → Passes (state_of p.now) i.now effect.new }
+{
+    match i.c {
+        Operand::Reg(r) => {
+            effect.register = r;
+            effect.values = one_word(v);
+            effect.marks = result_marks(p, i);
+            true
+        }
+        Operand::Lit(_) | Operand::Sfr(_) => false,
+    }
+}
+
+/// The arithmetic controls change, and nothing else.
+fn set_controls(p: &Processor, i: &Inst, ac: u32, effect: &mut Effect)
+    requires { Passes (state_of p.now) i.now effect.old }
+    ensures { IsEffect (state_of p.now) (record (passing i.now (state_of p.now)) { ac = ac }) effect.new }
+{
+    effect.ac = ac;
+}
+
+/// Whether an instruction with a result gives one word to a register, or the controls alone, and raises nothing, as
+/// `word_by` and `controls_by` tell; then that is its effect.
+// Most results are such. Few registers are saved for this code, and no `Done` is made.
+#[inline(never)]
+fn is_given(p: &Processor, i: &Inst, effect: &mut Effect) -> bool
+    requires valid { IsValid i.now }
+    requires result { has_result i.now.op ≡ true }
+    requires barrier { is_barrier_name i.now.op ≡ false }
+    requires still { transfer_of i.now.op ≡ None }
+    requires passes { Passes (state_of p.now) i.now effect.old }
+    ensures standing { result ≡ true → Runs i.now ≡ by_raised i.now (state_of p.now) (raised_in i.now (state_of p.now)) }
+    ensures effect { result ≡ true → IsEffect (state_of p.now) (action_of i.now (state_of p.now)) effect.new }
+    ensures passes { result ≡ false → Passes (state_of p.now) i.now effect.new }
+{
+    if mismatches(p, i) {
+        return false;
+    }
+    let a = value(p, i.a);
+    let b = value(p, i.b);
+    if let Some(v) = word_by(i.op, a, b) {
+        return give_word(p, i, v, effect);
+    }
+    if let Some(ac) = controls_by(i.op, a, b, p.ac()) {
+        set_controls(p, i, ac, effect);
+        return true;
+    }
+    false
+}
+
+/// What an instruction with a result comes to.
+#[inline(never)]
+fn given_outcome(p: &Processor, i: &Inst, effect: &mut Effect) -> Outcome
+    requires valid { IsValid i.now }
+    requires result { has_result i.now.op ≡ true }
+    requires barrier { is_barrier_name i.now.op ≡ false }
+    requires still { transfer_of i.now.op ≡ None }
+    requires passes { Passes (state_of p.now) i.now effect.old }
+    ensures standing { standing_in i.now result ≡ by_raised i.now (state_of p.now) (raised_in i.now (state_of p.now)) }
+    ensures effect { HasEffect (state_of p.now) i.now result effect.new }
+{
+    if mismatches(p, i) {
+        Outcome::Faults((TYPE, MISMATCH))
+    } else {
+        result_outcome(p, i, effect)
+    }
+}
+
+/// What an instruction without a result comes to.
+#[inline(never)]
+fn other_outcome(p: &Processor, i: &Inst, effect: &mut Effect) -> Outcome
+    requires valid { IsValid i.now }
+    requires result { has_result i.now.op ≡ false }
+    requires barrier { is_barrier_name i.now.op ≡ false }
+    requires still { transfer_of i.now.op ≡ None }
+    requires passes { Passes (state_of p.now) i.now effect.old }
+    ensures standing { standing_in i.now result ≡ by_raised i.now (state_of p.now) (raised_in i.now (state_of p.now)) }
+    ensures effect { HasEffect (state_of p.now) i.now result effect.new }
+{
+    if mismatches(p, i) {
+        Outcome::Faults((TYPE, MISMATCH))
+    } else if is_branch(i.op) {
+        branch_outcome(p, i, effect)
+    } else {
+        plain_outcome(p, i, effect)
+    }
+}
+
 /// What an instruction comes to that is read, no barrier by its name, and no load or store, where it is told whether
 /// it has a result, with its effect in the place of one that passes. It raises nothing before it does anything, but for
 /// a special function register that it uses outside supervisor mode.
-#[inline(never)]
+#[inline(always)]
 fn still_outcome(p: &Processor, i: &Inst, gives: bool, effect: &mut Effect) -> Outcome
     requires valid { IsValid i.now }
     requires gives { gives ≡ has_result i.now.op }
@@ -221,15 +319,13 @@ fn still_outcome(p: &Processor, i: &Inst, gives: bool, effect: &mut Effect) -> O
     ensures standing { standing_in i.now result ≡ by_raised i.now (state_of p.now) (raised_in i.now (state_of p.now)) }
     ensures effect { HasEffect (state_of p.now) i.now result effect.new }
 {
-    if mismatches(p, i) {
-        Outcome::Faults((TYPE, MISMATCH))
-    } else if gives {
-        result_outcome(p, i, effect)
-    } else if is_branch(i.op) {
-        branch_outcome(p, i, effect)
-    } else {
-        plain_outcome(p, i, effect)
+    if !gives {
+        return other_outcome(p, i, effect);
     }
+    if is_given(p, i, effect) {
+        return Outcome::Runs;
+    }
+    given_outcome(p, i, effect)
 }
 
 /// What an instruction comes to that is read and that is no barrier by its name, with its effect in the

@@ -1,5 +1,6 @@
 use Rattle.std.proofs.Common.{sym, ap, ◌∙◌, subst}
 use Rattle.i9_model.specs.Step.{Action}
+use Rattle.i9_exec.specs.Shown.{answer_of}
 use Rattle.i9_processor.specs.Effect.{IsEffect}
 use Rattle.i9_processor.specs.State.{state_of}
 use Rattle.i9_plan.proofs.Outcomes.{by_result, result_stands, result_does}
@@ -9,11 +10,10 @@ pub returns-in-None-clause-standing : goal.returns-in-None-clause-standing
 returns-in-None-clause-standing c =
     let i = c.args.i.now in
     let s = state_of c.args.p.now in
-    let d = c.answer-done.result in
-    sym (result_stands i s d c.requires.result c.answer-done.ensures.answer ∙ ap (by_result i) c.in-None.is)
+    sym (result_stands i s (answer_of c.answer-done.result) c.requires.result c.answer-done.ensures.answer ∙ ap (by_result i) c.in-None.is)
 
 pub returns-in-None-clause-effect : goal.returns-in-None-clause-effect
 returns-in-None-clause-effect c =
     let i = c.args.i.now in
     let s = state_of c.args.p.now in
-    subst (λ (a : Action). IsEffect s a c.resulting.new.effect) (result_does i s c.answer-done.result c.requires.result c.answer-done.ensures.answer) c.resulting.ensures
+    subst (λ (a : Action). IsEffect s a c.resulting.new.effect) (result_does i s (answer_of c.answer-done.result) c.requires.result c.answer-done.ensures.answer) c.resulting.ensures
