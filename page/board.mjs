@@ -1,21 +1,30 @@
 // What is loaded and where the session stands, and the moves from there. Each is a run of the command from the start, where
 // what it shows was not told by an earlier one.
 import {
-  hex, number, passTo, leadTo, tell, tellSteps, tellTurn, tellFrames, readPlaces, readTurns, readTrace, readListing, readRefusal, readTable,
-  sourceWithTable, memoryOf, framesOf, isCall,
+  hex, number, leadTo, leadAlong, arriveAt, tell, tellSteps, tellTurn, tellFrames, readPlaces, readTurns, readTrace,
+  readListing, readRefusal, readTable, sourceWithTable, memoryOf, framesOf, isCall,
 } from "./session.mjs";
 import { NOT_TOLD } from "./course.mjs";
 
-const BEHIND = 100, AHEAD = 100, EDGE = 24, MOST_TRIES = 64, FRAME_ROUNDS = 6, TRACED = 400, STRIDE = 64, STRIDES = 4096, WIDER = 8, HEAD = 65536;
+const BEHIND = 100, AHEAD = 100, EDGE = 24, MOST_TRIES = 64, FRAME_ROUNDS = 6, TRACED = 400, HEAD = 65536;
+const STRIDE = 64, STRIDES = 4096, WIDER = 8;
 // A course is told of so many instructions at most, and with it the count at each so many turns; the course is told further
 // where a place comes near to its end.
 const MOST_COURSE = 300000, COURSE_AHEAD = 5000, COUNTED = 3200, MOST_UNTILS = 300, NEAR = 5000, MOST_COUNTS = 1000;
-const latin1 = new TextDecoder("latin1");
+const EVERYWHERE = ["0", "FFFFFFFF"];
+const latin1 = new TextDecoder("latin1"), encoder = new TextEncoder();
 const NO_BYTES = bytesOf(":00000001FF\n");
 
 /** A text as the program takes it, a byte for each character; one past 255 is a byte past ASCII, which it refuses. */
 export function bytesOf(text) {
   return Uint8Array.from(text, character => Math.min(character.charCodeAt(0), 255));
+}
+
+function joined(first, second) {
+  const all = new Uint8Array(first.length + second.length);
+  all.set(first);
+  all.set(second, first.length);
+  return all;
 }
 
 /** What the program says of a file that it refuses; `text` is that of the file. */
@@ -27,35 +36,39 @@ export class Refused extends Error {
 }
 
 // The first line that says anything is a command of the debugger. That of a schedule by turns has an event behind the turn.
-const SCRIPT = /^(?:[ \t\r]*(?:#.*)?\n)*[ \t]*(?:(?:turn|until|back|last|who)[ \t]+[0-9A-Fa-f]+|regs|raw|held|(?:raw)?mem[ \t]+[0-9A-Fa-f]+[ \t]+[0-9]+)[ \t\r]*(?:\n|$)/;
+const BLANKS = "[ \\t]+", HEX = "[0-9A-Fa-f]+", SKIPPED = "^(?:[ \\t\\r]*(?:#.*)?\\n)*";
+const WITH_NUMBER = `(?:turn|until|back|last|who)${BLANKS}${HEX}`, WITH_PIECE = `(?:raw)?mem${BLANKS}${HEX}${BLANKS}[0-9]+`;
+const SCRIPT = new RegExp(`${SKIPPED}[ \\t]*(?:${WITH_NUMBER}|regs|raw|held|${WITH_PIECE})[ \\t\\r]*(?:\\n|$)`);
+const SCHEDULE = new RegExp(`${SKIPPED}[ \\t]*(?:at|turn|schedule)[ \\t]+\\d`);
 
 /** What a file is to be, by its name and how it begins. */
 export function kindOf(name, bytes) {
   const head = new TextDecoder("latin1").decode(bytes.subarray(0, HEAD));
   if (head.startsWith("\x7FELF") || head.startsWith(":")) return "image";
   if (/\.dbg$/i.test(name) || (!/\.(s|sch)$/i.test(name) && SCRIPT.test(head))) return "script";
-  if (/\.sch$/i.test(name) || /^(?:[ \t\r]*(?:#.*)?\n)*[ \t]*(at|turn|schedule)[ \t]+\d/.test(head)) return "schedule";
+  if (/\.sch$/i.test(name) || SCHEDULE.test(head)) return "schedule";
   return "source";
 }
 
 export class Board {
-  /** `ask(words, ...files)` answers a status and a text, and so does `askAside`, where nobody waits for it. */
+  /** `ask(words, files, more)` answers a status and a text, and so does `askAside`, where nobody waits for it. */
   constructor(ask, askAside) {
-    Object.assign(this, { ask, askAside, image: undefined, name: "", source: undefined, schedule: "", sets: "-", length: "100000" });
-    Object.assign(this, { names: new Map(), lines: new Map(), listing: [], stops: new Set(), has: {}, memory: { from: 0x1000, rows: 8, by: "mem" } });
+    Object.assign(this, { ask, askAside, image: undefined, name: "", source: undefined });
+    Object.assign(this, { schedule: "", sets: "-", length: "100000", memory: { from: 0x1000, rows: 8, by: "mem" } });
+    Object.assign(this, { names: new Map(), lines: new Map(), listing: [], stops: new Set(), has: {} });
     this.forget();
   }
 
   /** Which of the commands the debugger has that came later. */
   async probe() {
-    const { status } = await this.ask(["debug", "1", "-", "-", "3"], NO_BYTES, undefined, bytesOf("who 0\n"));
+    const { status } = await this.ask(["debug", "1", "-", "-", "3"], [NO_BYTES, undefined, bytesOf("who 0\n")]);
     this.has.who = status === 0 || status === 4;
   }
 
   /** Lets go of what was told, as where something else is loaded. */
   forget() {
-    Object.assign(this, { position: { turn: 1 }, place: undefined, before: undefined, script: "", ending: undefined, course: undefined });
-    this.counts = new Map();
+    Object.assign(this, { position: { turn: 1 }, place: undefined, before: undefined, script: "", ending: undefined });
+    Object.assign(this, { counts: new Map(), course: undefined, way: undefined });
     this.forgetPlaces();
   }
 
@@ -77,19 +90,20 @@ export class Board {
   }
 
   async loadSource(name, text, bytes) {
-    const made = await this.ask(["asm", "1"], bytes);
+    const made = await this.ask(["asm", "1"], [bytes]);
     if (made.status !== 0) throw new Refused(made, name, text);
     const { labels, text: marked } = sourceWithTable(text.replaceAll("\r\n", "\n"));
-    const table = await this.ask(["asm", "1"], bytesOf(marked));
+    const table = await this.ask(["asm", "1"], [bytesOf(marked)]);
     await this.loadImage(name, text, bytesOf(made.text));
     if (table.status === 0) Object.assign(this, readTable(labels, table.text));
     this.source = text.split("\n");
   }
 
   async loadImage(name, text, bytes) {
-    const listed = await this.ask(["dis", "1"], bytes);
+    const listed = await this.ask(["dis", "1"], [bytes]);
     if (listed.status !== 0) throw new Refused(listed, name, text);
-    Object.assign(this, { image: bytes, name, source: undefined, names: new Map(), lines: new Map(), listing: readListing(listed.text) });
+    Object.assign(this, { image: bytes, name, source: undefined, listing: readListing(listed.text) });
+    Object.assign(this, { names: new Map(), lines: new Map() });
   }
 
   /** The label of an address, or the nearest one before it. */
@@ -103,18 +117,24 @@ export class Board {
 
   // ---- asking
 
-  /** The status and the text of a form of the command over the image and the schedule. */
-  async form(words, script, ask = this.ask) {
-    const plan = this.schedule.trim() === "" ? "-" : "2";
-    const reply = await ask([words[0], "1", plan, this.sets, ...words.slice(1)], this.image, bytesOf(this.schedule), script && bytesOf(script));
-    if (reply.status !== 0 && reply.status !== 4) throw new Refused(reply, reply.status === 1 ? "Sets or Length" : plan === "2" ? "the schedule" : this.name, this.schedule);
-    return reply;
+  /** The status and the text of a form of the command over the image and the schedule, and over the bytes of a script. */
+  async form(words, script, ask = this.ask, more = undefined) {
+    const plan = this.schedule.trim() === "" ? "-" : "2", asked = [words[0], "1", plan, this.sets, ...words.slice(1)];
+    const reply = await ask(asked, [this.image, bytesOf(this.schedule), script], more);
+    if (reply.status === 0 || reply.status === 4) return reply;
+    throw new Refused(reply, reply.status === 1 ? "Sets or Length" : plan === "2" ? "the schedule" : this.name, this.schedule);
   }
 
-  async debug(script, ask = this.ask) {
-    const counts = this.counts, { text } = await this.form(["debug", "3"], script, ask);
-    // What other commands lead to stands within a turn. A turn in which the run ends comes again, with what has issued by then.
-    if (!/^(until|back|last) /m.test(script)) for (const { turn, count } of readTurns(text)) if (!counts.has(turn)) counts.set(turn, count);
+  /** What a script prints that leads to a turn and then does these commands. It leads there by the way, where one was told;
+   * what is printed is the same. */
+  async debug(turn, commands, ask = this.ask) {
+    const { counts } = this, { bytes, passed, rest } = leadAlong(this.way, turn);
+    const script = joined(bytes, encoder.encode(rest + commands));
+    const { text } = await this.form(["debug", "3"], script, ask, { passed });
+    // What other commands lead to stands within a turn. A turn in which the run ends comes again, with what has issued by
+    // then.
+    if (/^(until|back|last) /m.test(commands)) return text;
+    for (const { turn: at, count } of readTurns(text)) if (!counts.has(at)) counts.set(at, count);
     return text;
   }
 
@@ -125,7 +145,7 @@ export class Board {
   /** The status and the text of the script that was opened. */
   async runGiven() {
     try {
-      return await this.form(["debug", "3"], this.given.text);
+      return await this.form(["debug", "3"], bytesOf(this.given.text));
     } catch (error) {
       if (error.refusal?.what === "script" || error.message.startsWith("#script")) Object.assign(error, this.given);
       throw error;
@@ -144,7 +164,9 @@ export class Board {
   async tellAround(turn, ask = this.ask) {
     const first = Math.max(1, turn - BEHIND), last = Math.max(1, turn) + AHEAD;
     const turns = Array.from({ length: last - first + 1 }, (_, n) => first + n), steps = [];
-    if (this.course && !turns.every(at => this.counts.has(at))) await this.debug(tellTurn(first, first, last, this.memory), ask);
+    if (this.course && !turns.every(at => this.counts.has(at))) {
+      await this.debug(first, tellTurn(first, first, last, this.memory), ask);
+    }
     for (const at of turns) steps.push({ turn: at }, ...(at < last ? this.stepsOf(at) : []));
     return this.tellSteps(steps, ask);
   }
@@ -162,7 +184,8 @@ export class Board {
 
   /** Tells steps, up to the one at which the run has ended, and keeps the places. */
   async tellSteps(steps, ask = this.ask) {
-    const { told, within } = this, places = readPlaces(await this.debug(tellSteps(steps, this.memory), ask));
+    const { told, within } = this, text = await this.debug(steps[0].turn, tellSteps(steps, this.memory), ask);
+    const places = readPlaces(text);
     for (const [n, place] of places.entries()) {
       const { turn, count, address, times } = steps[n];
       // A run that had ended before says nothing of which turn that was.
@@ -181,8 +204,9 @@ export class Board {
     if (!this.told.has(turn)) {
       // Only what is shown at once: the rest is told when it is shown.
       const first = Math.max(1, turn - BEHIND), from = Math.max(1, turn - 1), { told } = this;
-      const places = readPlaces(await this.debug(tellTurn(turn, first, turn + AHEAD, this.memory)));
-      if (!(from > 1 && places[0].end)) places.forEach((place, n) => (n === 0 || !places[n - 1].end) && told.set(from + n, place));
+      const places = readPlaces(await this.debug(first, tellTurn(turn, first, turn + AHEAD, this.memory)));
+      const isNew = n => (n === 0 ? !(from > 1 && places[0].end) : !places.slice(0, n).some(place => place.end));
+      for (const [n, place] of places.entries()) if (isNew(n)) told.set(from + n, place);
       if (!told.has(turn)) turn = await this.lastTurn(places[0].turn);
     }
     this.take({ turn }, this.told.get(turn), this.told.get(turn - 1));
@@ -197,7 +221,8 @@ export class Board {
 
   /** Goes from a position to the next time that an instruction leads to an address. */
   async goUntil(from, address) {
-    const [place] = readPlaces(await this.debug(`${leadTo(from)}until ${hex(address)}\n${tell(this.memory)}`));
+    const text = await this.debug(from.turn, `${arriveAt(from)}until ${hex(address)}\n${tell(this.memory)}`);
+    const [place] = readPlaces(text);
     await this.settleAt(place, address);
   }
 
@@ -209,7 +234,7 @@ export class Board {
     let times = 1;
     // An address can come more than once in a turn, as where a branch leads to itself.
     if (place.count - before.count > 1) {
-      const text = await this.debug(passTo(place.turn) + `until ${hex(address)}\n`.repeat(3));
+      const text = await this.debug(place.turn, `until ${hex(address)}\n`.repeat(3));
       times = readTurns(text).slice(-3).findIndex(({ count }) => count === place.count) + 1;
     }
     this.take({ turn: place.turn, address, times }, place, before);
@@ -217,14 +242,17 @@ export class Board {
 
   // ---- the course
 
-  /** Tells the course as far as it is wanted, and the counts of turns along it, where that was not told. */
+  /** Tells the course as far as it is wanted, and the counts of turns and the way along it, where that was not told. */
   async tellCourse() {
     const wanted = Math.min(MOST_COURSE, Math.max(Number(this.length) || 0, (this.place?.count ?? 0) + COURSE_AHEAD));
     if (this.course && (this.course.limit >= wanted || this.course.addresses.length < this.course.limit)) return;
     const { counts } = this, limit = Math.max(wanted, Math.min(MOST_COURSE, 2 * (this.course?.limit ?? 0)));
-    const { course } = await this.form(["trace", String(limit), "0", "FFFFFFFF"], undefined, this.askAside);
-    if (counts === this.counts) this.course = { ...course, limit };
-    if (!counts.has(1 + STRIDE * COUNTED)) await this.debug(`turn ${STRIDE}\n`.repeat(COUNTED), this.askAside);
+    const { course } = await this.form(["trace", String(limit), ...EVERYWHERE], undefined, this.askAside, { reads: "course" });
+    if (counts !== this.counts) return;
+    this.course = { ...course, limit };
+    if (!counts.has(1 + STRIDE * COUNTED)) await this.debug(1, `turn ${STRIDE}\n`.repeat(COUNTED), this.askAside);
+    const { way } = await this.form(["debug", "3"], undefined, this.askAside, { reads: "way", leads: course.leads });
+    if (counts === this.counts) this.way = way;
   }
 
   /** The address at which the last of so many instructions left the instruction address, where the course tells it. */
@@ -252,7 +280,7 @@ export class Board {
     for (let at = first + 1; at <= count; at++) steps.push({ count: at, address: this.leadOf(at) });
     if (steps.length > MOST_UNTILS || steps.some(step => step.address === undefined)) return false;
     const lead = steps.map(step => `until ${hex(step.address)}\n`).join("");
-    const text = await this.debug(passTo(from) + tell(this.memory) + lead + tell(this.memory)), places = readPlaces(text);
+    const text = await this.debug(from, tell(this.memory) + lead + tell(this.memory)), places = readPlaces(text);
     const place = places.at(-1), turns = readTurns(text).slice(-steps.length);
     if (places.length < 2 || place.count !== count || place.end) return false;
     const times = turns.filter(({ turn }, n) => turn === place.turn && steps[n].address === address).length;
@@ -306,7 +334,7 @@ export class Board {
     let turn = this.countedBefore(count), stride = STRIDE;
     if (this.counts.has(turn + STRIDE)) return turn;
     const passed = async times => {
-      const told = readTurns(await this.debug(passTo(turn) + `turn ${stride}\n`.repeat(times)));
+      const told = readTurns(await this.debug(turn, `turn ${stride}\n`.repeat(times)));
       turn = told.filter(told => told.count < count).at(-1)?.turn ?? turn;
       return told.at(-1).count >= count || told.at(-1).turn === told.at(-2).turn;
     };
@@ -355,9 +383,9 @@ export class Board {
       if (this.told.get(turn).count < count) break;
     }
     const address = await this.addressBehind(count), missing = count - this.told.get(turn).count;
-    const text = await this.debug(leadTo({ turn }) + `until ${hex(address)}\n`.repeat(missing));
+    const text = await this.debug(turn, `until ${hex(address)}\n`.repeat(missing));
     const times = readTurns(text).slice(-missing).findIndex(told => told.count === count) + 1;
-    const [place] = readPlaces(await this.debug(leadTo({ turn, address, times }) + tell(this.memory)));
+    const [place] = readPlaces(await this.debug(turn, arriveAt({ address, times }) + tell(this.memory)));
     this.take({ turn, address, times }, place, this.told.get(turn));
   }
 
@@ -386,7 +414,9 @@ export class Board {
     const counts = await this.countsAhead(address);
     if (frame === undefined && counts.length > 0) return this.goCount(counts[0], address);
     // An instruction at which the run ends is not traced.
-    if (counts.length === 0 && (await this.endOfRun())[0] === "limit") throw new Error(`${hex(address)} is not reached within ${this.length} instructions`);
+    if (counts.length === 0 && (await this.endOfRun())[0] === "limit") {
+      throw new Error(`${hex(address)} is not reached within ${this.length} instructions`);
+    }
     for (const count of frame === undefined ? [] : counts) {
       const found = this.within.get(count);
       if (!found) break;
@@ -395,11 +425,13 @@ export class Board {
     // Times that come far behind the first are asked for only where that is not in this frame.
     const near = counts.filter(count => count - counts[0] < NEAR).length;
     for (const tries of frame === undefined ? [1] : [Math.min(Math.max(near, 1), MOST_TRIES), MOST_TRIES]) {
-      const script = leadTo(this.position) + `until ${hex(address)}\n${tell(this.memory)}`.repeat(tries);
-      const place = readPlaces(await this.debug(script)).find(place => place.end || frame === undefined || place.seen[31] === frame);
+      const commands = arriveAt(this.position) + `until ${hex(address)}\n${tell(this.memory)}`.repeat(tries);
+      const places = readPlaces(await this.debug(this.position.turn, commands));
+      const place = places.find(place => place.end || frame === undefined || place.seen[31] === frame);
       if (!place) continue;
-      if (!place.end && [1, 2].every(n => ![undefined, address].includes(this.leadOf(place.count - n)))) return this.take({ turn: place.turn, address, times: 1 }, place, this.told.get(place.turn));
-      return this.settleAt(place, address);
+      const isFirst = !place.end && [1, 2].every(n => ![undefined, address].includes(this.leadOf(place.count - n)));
+      if (!isFirst) return this.settleAt(place, address);
+      return this.take({ turn: place.turn, address, times: 1 }, place, this.told.get(place.turn));
     }
     throw new Error(`${hex(address)} is not reached in this frame within ${MOST_TRIES} times`);
   }
@@ -409,7 +441,10 @@ export class Board {
     const { course, place: { count } } = this;
     if (course && (course.limit >= Number(this.length) || course.addresses.length < course.limit)) {
       const found = [];
-      for (let at = course.addresses.indexOf(address, count + 1); at >= 0 && found.length < MOST_COUNTS; at = course.addresses.indexOf(address, at + 1)) found.push(at);
+      for (let at = count; found.length < MOST_COUNTS; found.push(at)) {
+        at = course.addresses.indexOf(address, at + 1);
+        if (at < 0) break;
+      }
       return found;
     }
     const { text } = await this.form(["trace", this.length, hex(address), hex(address)]);
@@ -438,7 +473,7 @@ export class Board {
     if (this.framed?.place === place) return this.framed;
     let rows = [], missing;
     for (let round = 0; round < FRAME_ROUNDS; round++) {
-      const [told] = readPlaces(await this.debug(leadTo(position) + tellFrames(place, missing), ask));
+      const [told] = readPlaces(await this.debug(position.turn, arriveAt(position) + tellFrames(place, missing), ask));
       rows = [...rows, ...told.memory];
       const found = framesOf(place, memoryOf(rows));
       missing = found.missing;
@@ -455,14 +490,15 @@ export class Board {
     const most = counts.at(-1)?.[1] ?? 0, least = counts[0]?.[1] ?? 0;
     if (most === least) return [];
     const from = Math.max(least, most - TRACED);
-    const traced = this.traced(from, most) ?? readTrace((await this.form(["trace", String(Math.min(most, 10000000)), "0", "FFFFFFFF"])).text, TRACED);
+    const limit = String(Math.min(most, 10000000));
+    const traced = this.traced(from, most) ?? readTrace((await this.form(["trace", limit, ...EVERYWHERE])).text, TRACED);
     const turnOf = count => counts.filter(([, issued]) => issued <= count).at(-1)?.[0];
     return traced.filter(({ count }) => count >= least).map(item => ({ ...item, turn: turnOf(item.count) }));
   }
 
   /** Who wrote the byte at an address last: the words that the debugger tells. */
   async whoWrote(address) {
-    const [place] = readPlaces(await this.debug(`${leadTo(this.position)}who ${hex(address)}\nraw\nheld\nregs\n`));
-    return place.who;
+    const { position } = this, commands = `${arriveAt(position)}who ${hex(address)}\nraw\nheld\nregs\n`;
+    return readPlaces(await this.debug(position.turn, commands))[0].who;
   }
 }

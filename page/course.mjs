@@ -1,7 +1,9 @@
-// What a trace of all addresses tells, by the number of each instruction; it is read in the worker. Each value is a word of
-// a line that the command printed.
+// What a trace of all addresses tells, by the number of each instruction, and the lines of a session that tell of turns;
+// both are read in the worker. Each value is a word of a line that the command printed.
 
-const [FEED, SPACE, HASH, LETTER_T, LETTER_P] = [..."\n #tp"].map(letter => letter.charCodeAt(0));
+const [FEED, SPACE, HASH, LETTER_T, LETTER_P, LETTER_R] = [..."\n #tpr"].map(letter => letter.charCodeAt(0));
+// The least length of a line that tells of a turn, and the place of its first number.
+const LEAST_LINE = 10, FIRST_NUMBER = 6;
 // No instruction stands there.
 export const NOT_TOLD = 1;
 // Behind these points the instruction address is still the one that the instruction left.
@@ -10,7 +12,8 @@ const STILL = ["flush", "sync", "event"];
 /** Of each instruction the place of its line, its address, and the address at which it left the instruction address, as far
  * as the next line tells it: an entry changes it first. */
 export function readCourse(bytes) {
-  const most = Math.ceil(bytes.length / 16), lines = new Uint32Array(most), addresses = new Uint32Array(most), leads = new Uint32Array(most).fill(NOT_TOLD);
+  const most = Math.ceil(bytes.length / 16), lines = new Uint32Array(most), addresses = new Uint32Array(most);
+  const leads = new Uint32Array(most).fill(NOT_TOLD);
   let count = 0, open = false;
   for (let from = 0; from < bytes.length;) {
     if (bytes[from] === HASH && bytes[from + 1] === LETTER_T && bytes[from + 2] === SPACE) {
@@ -34,4 +37,55 @@ function wordIn(bytes, place) {
   let value = 0;
   for (let n = place; n < place + 8; n++) value = value << 4 | (bytes[n] < 65 ? bytes[n] - 48 : bytes[n] - 55);
   return value >>> 0;
+}
+
+/** Whether the line at a place begins with `#turn`. */
+const tellsTurn = (bytes, from) => bytes[from] === HASH && bytes[from + 1] === LETTER_T && bytes[from + 3] === LETTER_R;
+
+/** The place behind the line that goes on at a place. */
+function behindLine(bytes, from) {
+  let at = from;
+  while (at < bytes.length && bytes[at] !== FEED) at++;
+  return Math.min(at + 1, bytes.length);
+}
+
+/** The turns and the counts of instructions of all lines that tell of a turn. */
+export function turnsIn(bytes) {
+  const most = Math.ceil(bytes.length / LEAST_LINE), turns = new Uint32Array(most), counts = new Uint32Array(most);
+  let found = 0;
+  for (let from = 0; from < bytes.length;) {
+    const next = behindLine(bytes, from);
+    if (tellsTurn(bytes, from)) {
+      const space = bytes.indexOf(SPACE, from + FIRST_NUMBER);
+      [turns[found], counts[found]] = [numberIn(bytes, from + FIRST_NUMBER, space), numberIn(bytes, space + 1, next - 1)];
+      found++;
+    }
+    from = next;
+  }
+  return { turns: turns.slice(0, found), counts: counts.slice(0, found) };
+}
+
+/** The value of the decimal digits from a place up to another. */
+function numberIn(bytes, from, to) {
+  let value = 0;
+  for (let n = from; n < to; n++) value = 10 * value + bytes[n] - 48;
+  return value;
+}
+
+/** What a session printed without the first so many lines that tell of a turn. */
+export function withoutTurns(bytes, many) {
+  let from = 0, to = 0;
+  for (let left = many; left > 0 && from < bytes.length;) {
+    if (tellsTurn(bytes, from)) {
+      left--;
+      from = behindLine(bytes, from + LEAST_LINE - 1);
+    } else {
+      const next = behindLine(bytes, from);
+      bytes.copyWithin(to, from, next);
+      to += next - from;
+      from = next;
+    }
+  }
+  bytes.copyWithin(to, from);
+  return bytes.slice(0, to + bytes.length - from);
 }

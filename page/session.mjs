@@ -12,15 +12,32 @@ export const number = word => parseInt(word, 16);
 
 // ---- scripts
 
-/** The commands that pass from turn 1 to a turn. */
-export function passTo(turn) {
-  let script = "", left = turn - 1;
+/** The commands that pass from a turn to a later one. */
+function pass(from, to) {
+  let script = "", left = to - from;
   for (; left > 0; left -= MOST_PASSED) script += `turn ${Math.min(left, MOST_PASSED)}\n`;
   return script;
 }
 
-/** The commands that lead to a position: to a turn, and then so many times on until an instruction leads to `address`. */
-export const leadTo = ({ turn, address, times = 1 }) => passTo(turn) + (address === undefined ? "" : `until ${hex(address)}\n`.repeat(times));
+/** The commands that lead from a turn on to a position within it: so many times on until an instruction leads there. */
+export const arriveAt = ({ address, times = 1 }) => (address === undefined ? "" : `until ${hex(address)}\n`.repeat(times));
+
+/** The commands that lead to a position from the start. */
+export const leadTo = position => pass(1, position.turn) + arriveAt(position);
+
+/** The commands that lead to a turn by a way, where there is one: those of the way, as bytes, how many these are, and the
+ * others. They print what those print that lead there by `turn` alone, but for a line of each command of the way. */
+export function leadAlong(way, turn) {
+  const first = Math.min(turn, 1 + MOST_PASSED);
+  let passed = 0;
+  for (let end = way?.turns.length ?? 0; passed < end;) {
+    const middle = passed + end >> 1;
+    if (way.turns[middle] < first) passed = middle + 1;
+    else end = middle;
+  }
+  const from = passed === 0 ? 1 : way.turns[passed - 1], bytes = way?.script.subarray(0, passed && way.ends[passed - 1]);
+  return { bytes: bytes ?? new Uint8Array(), passed, rest: pass(from, first) + pass(first, turn) };
+}
 
 /** The commands that tell a place: rows of 16 bytes of memory by the command `mem` or `rawmem`, and then the state. */
 export function tell({ from, rows, by }) {
@@ -28,15 +45,16 @@ export function tell({ from, rows, by }) {
   return lines.join("") + "raw\nheld\nregs\n";
 }
 
-/** The script that tells steps one after the other: the first is a turn, and each later one the next turn, or in the same turn
- * the next time that an instruction leads to an address. */
-export const tellSteps = ([first, ...rest], memory) => passTo(first.turn) + tell(memory)
+/** The commands that tell steps one after the other, from the first on, which is a turn: each later one is the next turn, or
+ * in the same turn the next time that an instruction leads to an address. */
+export const tellSteps = ([, ...rest], memory) => tell(memory)
   + rest.map(({ address }) => (address === undefined ? "turn 1\n" : `until ${hex(address)}\n`) + tell(memory)).join("");
 
-/** The script that tells a turn and the one before it, and how many instructions there are up to each from `first` to `last`. */
+/** The commands that tell a turn and the one before it, and how many instructions there are up to each turn from `first` on,
+ * where they begin, to `last`. */
 export function tellTurn(turn, first, last, memory) {
-  const before = Math.max(first, turn - 1), one = "turn 1\n";
-  return passTo(first) + one.repeat(before - first) + tell(memory) + (before < turn ? one + tell(memory) : "") + one.repeat(last - turn);
+  const before = Math.max(first, turn - 1), one = "turn 1\n", here = before < turn ? one + tell(memory) : "";
+  return one.repeat(before - first) + tell(memory) + here + one.repeat(last - turn);
 }
 
 // ---- what is told

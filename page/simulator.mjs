@@ -4,10 +4,13 @@
 /** Why a call has no answer: it was cancelled. */
 export class Cancelled extends Error {}
 
-/** How many bytes of text a form with these words and this script may print: about that much for each byte of a script that
- * tells places, and for each instruction of a trace. */
-const SCRIPT_PRINTS = 12, TRACE_PRINTS = 48;
-const roomFor = (words, script) => (words[0] === "trace" ? TRACE_PRINTS * Number(words[4]) : SCRIPT_PRINTS * (script?.length ?? 0));
+/** How many bytes of text a form with these words may print over its script, or a session along instructions that lead
+ * there: about that much for each byte of a script that tells places, and for each instruction. */
+const SCRIPT_PRINTS = 12, INSTRUCTION_PRINTS = 48;
+function roomFor(words, script, leads) {
+  if (leads || words[0] === "trace") return INSTRUCTION_PRINTS * (leads?.length ?? Number(words[4]));
+  return SCRIPT_PRINTS * (script?.length ?? 0);
+}
 
 /** One worker, and who waits for it. */
 class Hand {
@@ -26,12 +29,12 @@ class Hand {
     });
   }
 
-  answer({ number, status, bytes, course, failed }) {
+  answer({ number, status, bytes, course, way, failed }) {
     const { done, fail } = this.waiting.get(number);
     this.waiting.delete(number);
     this.told();
     if (failed) fail(new Error(failed));
-    else done({ status, course, text: course ? "" : new TextDecoder("latin1").decode(bytes) });
+    else done({ status, course, way, text: course || way ? "" : new TextDecoder("latin1").decode(bytes) });
   }
 }
 
@@ -49,14 +52,16 @@ export class Simulator {
     this.hands = [new Hand(this, told), new Hand(this, told)];
   }
 
-  /** The status and the text of a command, whose words name the files 1, 2 and 3. */
-  ask(words, ...files) {
-    return this.hands[0].ask({ words, files, room: roomFor(words, files[2]) });
+  /** The status and the text of a command, whose words name the files 1, 2 and 3. More can be asked for: that the first
+   * lines that tell of turns are left out, `passed` of them; or that the worker `reads` the course that a trace tells, or
+   * the way along a course, by its `leads`, in place of the text. */
+  ask(words, files, more = {}) {
+    return this.hands[0].ask({ words, files, ...more, room: roomFor(words, files[2], more.leads) });
   }
 
-  /** The same, where nobody waits for it; of a trace of all addresses the course that it tells in place of the text. */
-  askAside(words, ...files) {
-    return this.hands[1].ask({ words, files, room: roomFor(words, files[2]), traces: words[0] === "trace" });
+  /** The same, where nobody waits for it. */
+  askAside(words, files, more = {}) {
+    return this.hands[1].ask({ words, files, ...more, room: roomFor(words, files[2], more.leads) });
   }
 
   /** Ends all that is under way. */
