@@ -1,5 +1,5 @@
-// What is loaded and where the session stands, and the moves from there. Each is a run of the command from the start, where
-// what it shows was not told by an earlier one.
+// What is loaded and where the session stands, and the moves from there. Each is a run of the command from the start,
+// where what it shows was not told by an earlier one.
 import {
   hex, number, leadTo, leadAlong, arriveAt, tell, tellSteps, tellTurn, tellFrames, readPlaces, readTurns, readTrace,
   readListing, readRefusal, readTable, sourceWithTable, memoryOf, framesOf, isCall,
@@ -8,8 +8,8 @@ import { NOT_TOLD } from "./course.mjs";
 
 const BEHIND = 100, AHEAD = 100, EDGE = 24, MOST_TRIES = 64, FRAME_ROUNDS = 6, TRACED = 400, HEAD = 65536;
 const STRIDE = 64, STRIDES = 4096, WIDER = 8;
-// A course is told of so many instructions at most, and with it the count at each so many turns; the course is told further
-// where a place comes near to its end.
+// A course is told of so many instructions at most, and with it the count at each so many turns; the course is told
+// further where a place comes near to its end.
 const MOST_COURSE = 300000, COURSE_AHEAD = 5000, COUNTED = 3200, MOST_UNTILS = 300, NEAR = 5000, MOST_COUNTS = 1000;
 const EVERYWHERE = ["0", "FFFFFFFF"];
 const latin1 = new TextDecoder("latin1"), encoder = new TextEncoder();
@@ -35,9 +35,10 @@ export class Refused extends Error {
   }
 }
 
-// The first line that says anything is a command of the debugger. That of a schedule by turns has an event behind the turn.
+// The first line that says anything is a command of the debugger. A schedule by turns has an event behind the turn.
 const BLANKS = "[ \\t]+", HEX = "[0-9A-Fa-f]+", SKIPPED = "^(?:[ \\t\\r]*(?:#.*)?\\n)*";
-const WITH_NUMBER = `(?:turn|until|back|last|who)${BLANKS}${HEX}`, WITH_PIECE = `(?:raw)?mem${BLANKS}${HEX}${BLANKS}[0-9]+`;
+const WITH_NUMBER = `(?:turn|until|back|last|who)${BLANKS}${HEX}`;
+const WITH_PIECE = `(?:raw)?mem${BLANKS}${HEX}${BLANKS}[0-9]+`;
 const SCRIPT = new RegExp(`${SKIPPED}[ \\t]*(?:${WITH_NUMBER}|regs|raw|held|${WITH_PIECE})[ \\t\\r]*(?:\\n|$)`);
 const SCHEDULE = new RegExp(`${SKIPPED}[ \\t]*(?:at|turn|schedule)[ \\t]+\\d`);
 
@@ -109,7 +110,9 @@ export class Board {
   /** The label of an address, or the nearest one before it. */
   labelOf(address) {
     let best;
-    for (const at of this.names.keys()) if (at <= address && (best === undefined || at > best) && address - at < 65536) best = at;
+    for (const at of this.names.keys()) {
+      if (at <= address && address - at < 65536 && (best === undefined || at > best)) best = at;
+    }
     if (best === undefined) return "";
     const distance = address - best;
     return this.names.get(best)[0] + (distance ? `+0x${distance.toString(16).toUpperCase()}` : "");
@@ -117,22 +120,22 @@ export class Board {
 
   // ---- asking
 
-  /** The status and the text of a form of the command over the image and the schedule, and over the bytes of a script. */
+  /** The status and the text of a form of the command over the image, the schedule and the bytes of a script. */
   async form(words, script, ask = this.ask, more = undefined) {
     const plan = this.schedule.trim() === "" ? "-" : "2", asked = [words[0], "1", plan, this.sets, ...words.slice(1)];
     const reply = await ask(asked, [this.image, bytesOf(this.schedule), script], more);
     if (reply.status === 0 || reply.status === 4) return reply;
-    throw new Refused(reply, reply.status === 1 ? "Sets or Length" : plan === "2" ? "the schedule" : this.name, this.schedule);
+    const name = reply.status === 1 ? "Sets or Length" : plan === "2" ? "the schedule" : this.name;
+    throw new Refused(reply, name, this.schedule);
   }
 
-  /** What a script prints that leads to a turn and then does these commands. It leads there by the way, where one was told;
-   * what is printed is the same. */
+  /** What a script prints that leads to a turn and then does these commands. It leads there by the way, where one was
+   * told; what is printed is the same. */
   async debug(turn, commands, ask = this.ask) {
-    const { counts } = this, { bytes, passed, rest } = leadAlong(this.way, turn);
+    const { counts } = this, { bytes, skipped, others, rest } = leadAlong(this.way, turn);
     const script = joined(bytes, encoder.encode(rest + commands));
-    const { text } = await this.form(["debug", "3"], script, ask, { passed });
-    // What other commands lead to stands within a turn. A turn in which the run ends comes again, with what has issued by
-    // then.
+    const text = latin1.decode(others) + (await this.form(["debug", "3"], script, ask, { skipped })).text;
+    // What others lead to stands within a turn. A turn in which the run ends comes again, with what has issued by then.
     if (/^(until|back|last) /m.test(commands)) return text;
     for (const { turn: at, count } of readTurns(text)) if (!counts.has(at)) counts.set(at, count);
     return text;
@@ -160,7 +163,7 @@ export class Board {
 
   // ---- places
 
-  /** Tells the turns round one, and the places behind the instructions of each as far as the course tells where they lead. */
+  /** Tells the turns round one, and the places behind the instructions of each, as far as the course leads there. */
   async tellAround(turn, ask = this.ask) {
     const first = Math.max(1, turn - BEHIND), last = Math.max(1, turn) + AHEAD;
     const turns = Array.from({ length: last - first + 1 }, (_, n) => first + n), steps = [];
@@ -198,7 +201,7 @@ export class Board {
     return places;
   }
 
-  /** Goes to a turn, or to the last one where the run ends before. A turn is one more than the turns that have passed. */
+  /** Goes to a turn, one more than the turns that have passed, or to the last one where the run ends before. */
   async goTurn(turn) {
     turn = Math.max(1, turn);
     if (!this.told.has(turn)) {
@@ -247,7 +250,8 @@ export class Board {
     const wanted = Math.min(MOST_COURSE, Math.max(Number(this.length) || 0, (this.place?.count ?? 0) + COURSE_AHEAD));
     if (this.course && (this.course.limit >= wanted || this.course.addresses.length < this.course.limit)) return;
     const { counts } = this, limit = Math.max(wanted, Math.min(MOST_COURSE, 2 * (this.course?.limit ?? 0)));
-    const { course } = await this.form(["trace", String(limit), ...EVERYWHERE], undefined, this.askAside, { reads: "course" });
+    const whole = ["trace", String(limit), ...EVERYWHERE];
+    const { course } = await this.form(whole, undefined, this.askAside, { reads: "course" });
     if (counts !== this.counts) return;
     this.course = { ...course, limit };
     if (!counts.has(1 + STRIDE * COUNTED)) await this.debug(1, `turn ${STRIDE}\n`.repeat(COUNTED), this.askAside);
@@ -353,7 +357,8 @@ export class Board {
     const hasEnd = this.place.end || [...this.told].some(([told, place]) => place.end && told - turn <= EDGE);
     const lacksAt = at => !this.counts.has(at + 1) || this.stepsOf(at).some(({ count }) => !this.within.has(count));
     const lacks = this.course && (lacksAt(near) || (!hasEnd && [turn, turn + EDGE].some(lacksAt)));
-    if (lacks || !this.told.has(near) || !(hasEnd || this.told.has(turn + EDGE))) await this.tellAround(turn, this.askAside);
+    const isTold = this.told.has(near) && (hasEnd || this.told.has(turn + EDGE));
+    if (lacks || !isTold) await this.tellAround(turn, this.askAside);
     this.before ??= this.told.get(this.position.address === undefined ? turn - 1 : turn);
   }
 
@@ -363,7 +368,8 @@ export class Board {
   async addressBehind(count) {
     const { text } = await this.form(["run", String(count)]);
     const point = text.slice(text.lastIndexOf("#point ")).split(/\s/);
-    return point[1] === String(count) && point[2] === "end" && text.trimEnd().endsWith("#end limit") ? number(point[3]) : undefined;
+    const isThere = point[1] === String(count) && point[2] === "end" && text.trimEnd().endsWith("#end limit");
+    return isThere ? number(point[3]) : undefined;
   }
 
   async step() {
@@ -486,12 +492,14 @@ export class Board {
   /** The instructions of the last turns that were told, each with the turn in which it issued. */
   async issued(turns) {
     const last = this.position.turn, first = Math.max(1, last - turns), counts = [];
-    for (let turn = first; turn <= last + 1; turn++) if (this.told.has(turn)) counts.push([turn, this.told.get(turn).count]);
+    for (let turn = first; turn <= last + 1; turn++) {
+      if (this.told.has(turn)) counts.push([turn, this.told.get(turn).count]);
+    }
     const most = counts.at(-1)?.[1] ?? 0, least = counts[0]?.[1] ?? 0;
     if (most === least) return [];
     const from = Math.max(least, most - TRACED);
-    const limit = String(Math.min(most, 10000000));
-    const traced = this.traced(from, most) ?? readTrace((await this.form(["trace", limit, ...EVERYWHERE])).text, TRACED);
+    const whole = ["trace", String(Math.min(most, 10000000)), ...EVERYWHERE];
+    const traced = this.traced(from, most) ?? readTrace((await this.form(whole)).text, TRACED);
     const turnOf = count => counts.filter(([, issued]) => issued <= count).at(-1)?.[0];
     return traced.filter(({ count }) => count >= least).map(item => ({ ...item, turn: turnOf(item.count) }));
   }

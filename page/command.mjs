@@ -1,9 +1,9 @@
-// The command in its module: words and up to three files go in, a status and a text come out. Each call has an instance of
-// its own, whose memory is let go with it; an instance that trapped is never called again.
+// The command in its module: words and up to three files go in, a status and a text come out. Each call has an instance
+// of its own, whose memory is let go with it; an instance that trapped is never called again.
 const FIRST_ROOM = 1 << 20, MOST_ROOM = 1 << 28, NO_ROOM = 6;
 
-/** The status and the text; the words name the files 1, 2 and 3. The room for the text, which may be guessed, grows until it
- * is enough; each try is a whole run. */
+/** The status and the text; the words name the files 1, 2 and 3. The room for the text, which may be guessed, grows
+ * until it is enough; each try is a whole run. */
 export function command(module, words, files, guess = 0) {
   for (let room = Math.min(Math.max(FIRST_ROOM, guess), MOST_ROOM); ; room *= 4) {
     const reply = callWith(module, words, files, room);

@@ -3,12 +3,13 @@ import { Simulator, Cancelled } from "./simulator.mjs";
 import { Board, Refused, kindOf } from "./board.mjs";
 import { hex, number } from "./session.mjs";
 import {
-  at, showListing, showRegisters, showFrames, showMemory, showText, showConsole, showPicture, showFaultyText, refusalText,
-  endText, chooseLine,
+  at, showListing, showRegisters, showFrames, showMemory, showText, showConsole, showPicture, showFaultyText,
+  refusalText, endText, chooseLine,
 } from "./views.mjs";
 
 const PICTURED_TURNS = 100;
-let board, simulator, words, chosen, lastText = "", moving = false, resting = 0, rest = Promise.resolve(), shownMoves = 0;
+let board, simulator, words, chosen, lastText = "";
+let moving = false, resting = 0, rest = Promise.resolve(), shownMoves = 0;
 
 // ---- what is in the page's own file
 
@@ -71,7 +72,8 @@ function showPlace() {
   showConsole(place.console);
   lastText = place.lines.join("\n");
   showText(undefined, lastText, words);
-  notice(place.end ? endText(place.end, words) : position.address === undefined ? "" : `within turn ${place.turn}, behind ${place.count} instructions`);
+  const within = position.address === undefined ? "" : `within turn ${place.turn}, behind ${place.count} instructions`;
+  notice(place.end ? endText(place.end, words) : within);
 }
 
 /** What needs runs of its own, as long as no other move came; one place at a time. */
@@ -134,10 +136,18 @@ async function open(files) {
 
 /** Takes what the fields have, where it is not what it was. */
 function takeFields() {
-  const given = { schedule: at("schedule").value, sets: at("sets").value.trim() || "-", length: at("length").value.trim() || "100000" };
+  const sets = at("sets").value.trim() || "-", length = at("length").value.trim() || "100000";
+  const given = { schedule: at("schedule").value, sets, length };
   const from = parseInt(at("address").value, 16) >>> 0, by = at("by").value;
-  if (["schedule", "sets", "length"].some(name => board[name] !== given[name])) { Object.assign(board, given); board.forget(); board.position = { turn: Number(at("turn").value) || 1 }; }
-  if (board.memory.from !== from || board.memory.by !== by) { board.memory = { ...board.memory, from, by }; board.forgetPlaces(); }
+  if (["schedule", "sets", "length"].some(name => board[name] !== given[name])) {
+    Object.assign(board, given);
+    board.forget();
+    board.position = { turn: Number(at("turn").value) || 1 };
+  }
+  if (board.memory.from !== from || board.memory.by !== by) {
+    board.memory = { ...board.memory, from, by };
+    board.forgetPlaces();
+  }
 }
 
 const again = () => { takeFields(); return move(() => board.goTurn(board.position.turn)); };
@@ -145,7 +155,8 @@ const again = () => { takeFields(); return move(() => board.goTurn(board.positio
 const runAll = () => showReply(() => board.run());
 
 /** Runs the script that was opened, from the start, and shows all that it prints. */
-const runGiven = () => showReply(() => board.runGiven(), `${board.given.name} was run, and printed what stands under Text`);
+const runGiven = () =>
+  showReply(() => board.runGiven(), `${board.given.name} was run, and printed what stands under Text`);
 
 async function showReply(ask, told = "") {
   takeFields();
@@ -156,7 +167,8 @@ async function showReply(ask, told = "") {
     notice(told);
     lastText = reply.text;
     showText(reply.status, reply.text, words);
-    showConsole(reply.text.split("\n").filter(line => line.startsWith("#out ")).map(line => String.fromCharCode(number(line.slice(5)))).join(""));
+    const sent = reply.text.split("\n").filter(line => line.startsWith("#out "));
+    showConsole(sent.map(line => String.fromCharCode(number(line.slice(5)))).join(""));
     at("took").textContent = `${(performance.now() - begun).toFixed(0)} ms`;
   } catch (error) {
     tellError(error);
@@ -165,11 +177,14 @@ async function showReply(ask, told = "") {
 
 async function who() {
   const told = await board.whoWrote(board.memory.from).catch(tellError);
-  if (told) notice(told[0] === "none" ? `no instruction has changed the byte at ${hex(board.memory.from)}` : whoText(hex(board.memory.from), told));
+  if (told) notice(whoText(hex(board.memory.from), told));
 }
 
-const whoText = (address, [count, instruction]) =>
-  `the byte at ${address} was last changed by the instruction at ${instruction} ${board.labelOf(number(instruction))}, number ${count} of the run`;
+function whoText(address, [count, instruction]) {
+  if (count === "none") return `no instruction has changed the byte at ${address}`;
+  const named = `${instruction} ${board.labelOf(number(instruction))}`;
+  return `the byte at ${address} was last changed by the instruction at ${named}, number ${count} of the run`;
+}
 
 function save(name, text) {
   const link = document.createElement("a");
@@ -240,10 +255,12 @@ document.ondragover = event => event.preventDefault();
 document.ondrop = event => { event.preventDefault(); open(event.dataTransfer.files); };
 document.onkeydown = event => {
   if (event.key === "Escape") { simulator.cancel(); return; }
-  if (event.target.matches("input, textarea, select") || event.ctrlKey || event.metaKey || event.altKey || !board?.place) return;
+  if (event.target.matches("input, textarea, select") || !board?.place) return;
+  if (event.ctrlKey || event.metaKey || event.altKey) return;
   if (event.key === "j" || event.key === "k") { chooseNext(event.key === "j" ? 1 : -1); return; }
   if (!KEYS[event.key]) return;
   event.preventDefault();
   at(KEYS[event.key]).click();
 };
-start().catch(error => notice(`This browser cannot run the page: ${error.message}. It needs WebAssembly with bulk memory and 64-bit numbers.`));
+const NEEDS = "It needs WebAssembly with bulk memory and 64-bit numbers.";
+start().catch(error => notice(`This browser cannot run the page: ${error.message}. ${NEEDS}`));

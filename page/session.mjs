@@ -1,10 +1,10 @@
-// Scripts of the debugger, and what its lines tell. Nothing here computes anything of the machine: each value is a word of
-// a line that the command printed.
+// Scripts of the debugger, and what its lines tell. Nothing here computes anything of the machine: each value is a word
+// of a line that the command printed.
 
 export const LOCALS = ["pfp", "sp", "rip", ...Array.from({ length: 13 }, (_, n) => `r${n + 3}`)];
 export const GLOBALS = [...Array.from({ length: 15 }, (_, n) => `g${n}`), "fp"];
 export const REGISTERS = [...LOCALS, ...GLOBALS];
-const MOST_PASSED = 1000000;
+const MOST_PASSED = 1000000, NONE = new Uint8Array(), BEHIND_EACH = ["turns", "ends", "behind", "before"];
 export const FRAME_BYTES = 64, RECORD_BYTES = 16;
 
 export const hex = value => (value >>> 0).toString(16).toUpperCase().padStart(8, "0");
@@ -20,13 +20,15 @@ function pass(from, to) {
 }
 
 /** The commands that lead from a turn on to a position within it: so many times on until an instruction leads there. */
-export const arriveAt = ({ address, times = 1 }) => (address === undefined ? "" : `until ${hex(address)}\n`.repeat(times));
+export const arriveAt = ({ address, times = 1 }) =>
+  (address === undefined ? "" : `until ${hex(address)}\n`.repeat(times));
 
 /** The commands that lead to a position from the start. */
 export const leadTo = position => pass(1, position.turn) + arriveAt(position);
 
-/** The commands that lead to a turn by a way, where there is one: those of the way, as bytes, how many these are, and the
- * others. They print what those print that lead there by `turn` alone, but for a line of each command of the way. */
+/** The commands that lead to a turn by a way, where there is one: those of the way, as bytes, and the `rest`. Without
+ * the first bytes that are printed, `skipped` of them, and with `others` before what is left, that is what those
+ * commands print that lead there by `turn` alone. */
 export function leadAlong(way, turn) {
   const first = Math.min(turn, 1 + MOST_PASSED);
   let passed = 0;
@@ -35,8 +37,9 @@ export function leadAlong(way, turn) {
     if (way.turns[middle] < first) passed = middle + 1;
     else end = middle;
   }
-  const from = passed === 0 ? 1 : way.turns[passed - 1], bytes = way?.script.subarray(0, passed && way.ends[passed - 1]);
-  return { bytes: bytes ?? new Uint8Array(), passed, rest: pass(from, first) + pass(first, turn) };
+  const [from, end, skipped, length] = passed === 0 ? [1, 0, 0, 0] : BEHIND_EACH.map(list => way[list][passed - 1]);
+  const [bytes, others] = [way?.script.subarray(0, end) ?? NONE, way?.others.subarray(0, length) ?? NONE];
+  return { bytes, skipped, others, rest: pass(from, first) + pass(first, turn) };
 }
 
 /** The commands that tell a place: rows of 16 bytes of memory by the command `mem` or `rawmem`, and then the state. */
@@ -45,13 +48,13 @@ export function tell({ from, rows, by }) {
   return lines.join("") + "raw\nheld\nregs\n";
 }
 
-/** The commands that tell steps one after the other, from the first on, which is a turn: each later one is the next turn, or
- * in the same turn the next time that an instruction leads to an address. */
+/** The commands that tell steps one after the other, from the first on, which is a turn: each later one is the next
+ * turn, or in the same turn the next time that an instruction leads to an address. */
 export const tellSteps = ([, ...rest], memory) => tell(memory)
   + rest.map(({ address }) => (address === undefined ? "turn 1\n" : `until ${hex(address)}\n`) + tell(memory)).join("");
 
-/** The commands that tell a turn and the one before it, and how many instructions there are up to each turn from `first` on,
- * where they begin, to `last`. */
+/** The commands that tell a turn and the one before it, and how many instructions there are up to each turn from
+ * `first` on, where they begin, to `last`. */
 export function tellTurn(turn, first, last, memory) {
   const before = Math.max(first, turn - 1), one = "turn 1\n", here = before < turn ? one + tell(memory) : "";
   return one.repeat(before - first) + tell(memory) + here + one.repeat(last - turn);
@@ -83,7 +86,7 @@ class Place {
   }
 
   read() {
-    const fields = { lines: this.text.trimEnd().split("\n"), memory: [], raw: [], seen: [], held: [], sets: 0, who: undefined };
+    const fields = { lines: this.text.trimEnd().split("\n"), memory: [], raw: [], seen: [], held: [], sets: 0 };
     let seen = false;
     for (const line of fields.lines) {
       const words = line.split(" ");
@@ -112,7 +115,8 @@ function takeLine(place, [word, ...rest], seen) {
 
 /** The turn and the count of instructions of each line that tells one. */
 export function readTurns(text) {
-  return [...text.matchAll(/^#turn (\d+) (\d+)$/gm)].map(([, turn, count]) => ({ turn: Number(turn), count: Number(count) }));
+  const lines = [...text.matchAll(/^#turn (\d+) (\d+)$/gm)];
+  return lines.map(([, turn, count]) => ({ turn: Number(turn), count: Number(count) }));
 }
 
 /** Whether a register is busy at a place. */
@@ -133,8 +137,8 @@ export function readTrace(text, most) {
 export function readListing(text) {
   const found = [];
   for (const line of text.split("\n")) {
-    const at = line.lastIndexOf(" # ");
-    if (at > 0) found.push({ address: number(line.slice(at + 3, at + 11)), statement: line.slice(0, at), words: line.slice(at + 12) });
+    const at = line.lastIndexOf(" # "), address = number(line.slice(at + 3, at + 11));
+    if (at > 0) found.push({ address, statement: line.slice(0, at), words: line.slice(at + 12) });
   }
   return found;
 }
@@ -149,19 +153,21 @@ export function readRefusal(text) {
 
 // ---- instructions
 
+const WRITES_NONE = /^(cmp[io]$|chkbit|mark|fmark|syncf|flushreg|calls|sysctl|sdma|udma|bal)/;
+
 /** The side on which an instruction issues, by its mnemonic: R, M or C. */
 export function sideOf(mnemonic) {
   if (/^(ld|st|lda)/.test(mnemonic)) return "M";
   return /^(b|cmp[io]b|call$|callx$|ret$|test|fault)/.test(mnemonic) ? "C" : "R";
 }
 
-/** The number of the register that a statement writes, where it writes one; of a call or a return fp, which is busy as long
- * as the frames move. */
+/** The number of the register that a statement writes, where it writes one; of a call or a return fp, which is busy as
+ * long as the frames move. */
 export function destinationOf(statement) {
   const [mnemonic, ...rest] = statement.replace(/\{.*$/, "").trim().split(/\s+/);
   const side = sideOf(mnemonic), operands = rest.join("").split(",");
   if (/^(call|callx|calls|ret)$/.test(mnemonic)) return REGISTERS.indexOf("fp");
-  if (side === "C" || mnemonic.startsWith("st") || /^(cmp[io]$|chkbit|mark|fmark|syncf|flushreg|calls|sysctl|sdma|udma|bal)/.test(mnemonic)) return undefined;
+  if (side === "C" || mnemonic.startsWith("st") || WRITES_NONE.test(mnemonic)) return undefined;
   const at = REGISTERS.indexOf({ r0: "pfp", r1: "sp", r2: "rip", g15: "fp" }[operands.at(-1)] ?? operands.at(-1));
   return at < 0 ? undefined : at;
 }
@@ -201,7 +207,8 @@ export function framesOf(place, bytes, most = 64) {
   return { frames, missing: undefined };
 }
 
-/** The commands that tell the frames of a place: those in sets, and what lies below the first address that is missing. */
+/** The commands that tell the frames of a place: those in sets, and what lies below the first address that is
+ * missing. */
 export function tellFrames(place, missing, depth = 24) {
   const told = new Set(place.held.map(address => address));
   const from = missing ?? frameOf(place.seen[0]);
@@ -218,7 +225,8 @@ export function recordOf(frame, bytes) {
   const [third, fourth] = [8, 4].map(n => wordAt(bytes, frame.address - n));
   if (third === undefined || fourth === undefined) return undefined;
   if (type === 7) return { interrupt: number(third) & 255 };
-  return type === 1 ? { fault: number(third) >>> 16 & 255, subtype: number(third) & 65535, address: number(fourth) } : undefined;
+  if (type !== 1) return undefined;
+  return { fault: number(third) >>> 16 & 255, subtype: number(third) & 65535, address: number(fourth) };
 }
 
 // ---- the names of a source
@@ -228,8 +236,8 @@ const LABEL = new RegExp(`^[ \\t]*(${NAME}):`);
 const SILENT = [".org", ".align", ".set"];
 const withoutComment = line => /^(?:[^"#]|"(?:[^"\\]|\\.)*"?)*/.exec(line)[0];
 
-/** A source with a label at each line that writes bytes, and a table of words behind it with the values of the labels: the
- * table is the last segment of what the assembler prints. */
+/** A source with a label at each line that writes bytes, and a table of words behind it with the values of the labels:
+ * the table is the last segment of what the assembler prints. */
 export function sourceWithTable(source) {
   let prefix = "line_";
   while (source.includes(prefix)) prefix += "_";

@@ -1,5 +1,5 @@
-// The command in two workers, so that the page stays awake and a long run can be cancelled: one for what a person waits for,
-// and one for what may be asked next.
+// The command in two workers, so that the page stays awake and a long run can be cancelled: one for what a person waits
+// for, and one for what may be asked next.
 
 /** Why a call has no answer: it was cancelled. */
 export class Cancelled extends Error {}
@@ -53,8 +53,8 @@ export class Simulator {
   }
 
   /** The status and the text of a command, whose words name the files 1, 2 and 3. More can be asked for: that the first
-   * lines that tell of turns are left out, `passed` of them; or that the worker `reads` the course that a trace tells, or
-   * the way along a course, by its `leads`, in place of the text. */
+   * bytes of the text are left out, `skipped` of them; or that the worker `reads` the course that a trace tells, or the
+   * way along a course, by its `leads`, in place of the text. */
   ask(words, files, more = {}) {
     return this.hands[0].ask({ words, files, ...more, room: roomFor(words, files[2], more.leads) });
   }

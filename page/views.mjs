@@ -25,17 +25,19 @@ export function showListing(board, chosen) {
     listed(board, line, here, chosen),
   ]);
   at("listing").replaceChildren(...items);
-  at("code-note").textContent = `${board.listing.length} lines${board.source ? "; labels and lines of the source" : ""}`;
+  const beside = board.source ? "; labels and lines of the source" : "";
+  at("code-note").textContent = `${board.listing.length} lines${beside}`;
   const shown = at("listing").querySelector(chosen === undefined ? ".here" : ".chosen");
   shown?.scrollIntoView({ block: "center" });
 }
 
 function listed(board, line, here, chosen) {
-  const marks = [line.address === here && "here", line.address === chosen && "chosen", board.stops.has(line.address) && "stop"];
-  const item = made("li", marks.filter(Boolean).join(" "), made("b", "", `${hex(line.address)}  `), line.statement.padEnd(34));
-  const source = board.lines.get(line.address);
+  const { address } = line, source = board.lines.get(address);
+  const marks = [address === here && "here", address === chosen && "chosen", board.stops.has(address) && "stop"];
+  const head = made("b", "", `${hex(address)}  `);
+  const item = made("li", marks.filter(Boolean).join(" "), head, line.statement.padEnd(34));
   if (source !== undefined) item.append(made("i", "", `${source + 1}: ${board.source[source].trim()}`));
-  item.dataset.address = line.address;
+  item.dataset.address = address;
   return item;
 }
 
@@ -48,13 +50,17 @@ export function showRegisters({ place, before }) {
     return line;
   });
   const last = made("tr", "");
-  for (const name of ["ip", "ac", "pc", "count"]) last.append(...cells(name, String(place[name]), before && String(before[name]) !== String(place[name]) ? "changed" : ""));
+  for (const name of ["ip", "ac", "pc", "count"]) {
+    const value = String(place[name]);
+    last.append(...cells(name, value, before && String(before[name]) !== value ? "changed" : ""));
+  }
   at("registers").replaceChildren(...rows, last);
 }
 
 function register(place, before, n) {
   const busy = isBusy(place, n), changed = before && before.raw[n] !== place.raw[n];
-  const shown = cells(REGISTERS[n], place.raw[n] + (busy ? " *" : ""), [busy && "busy", changed && "changed", place.seen[n] === STALE && "marked"].filter(Boolean).join(" "));
+  const marks = [busy && "busy", changed && "changed", place.seen[n] === STALE && "marked"].filter(Boolean);
+  const shown = cells(REGISTERS[n], place.raw[n] + (busy ? " *" : ""), marks.join(" "));
   if (place.seen[n] !== place.raw[n]) shown[1].append(made("span", "sees", ` \u2192 ${place.seen[n]}`));
   return shown;
 }
@@ -70,13 +76,16 @@ function cells(name, value, marks) {
 export function showFrames(board, { frames, bytes }, words) {
   const { held, sets } = board.place;
   at("held").textContent = `${held.length} of ${sets} sets hold one`;
-  const open = new Set([...at("frames").querySelectorAll("details[open]:not(:first-child)")].map(view => view.dataset.address));
-  at("frames").replaceChildren(...frames.map((frame, n) => frameView(board, frame, frames[n + 1], bytes, words, n === 0 || open.has(hex(frame.address)))));
+  const opened = [...at("frames").querySelectorAll("details[open]:not(:first-child)")];
+  const open = new Set(opened.map(view => view.dataset.address));
+  const isOpen = ({ address }, n) => n === 0 || open.has(hex(address));
+  const views = frames.map((frame, n) => frameView(board, frame, frames[n + 1], bytes, words, isOpen(frame, n)));
+  at("frames").replaceChildren(...views);
 }
 
 function frameView(board, frame, caller, bytes, words, open) {
   const how = words.returns[returnTypeOf(frame.locals[0])] ?? "call", record = caller && recordOf(frame, bytes);
-  const back = caller?.locals[2] === undefined ? "" : `, goes back to ${caller.locals[2]} ${board.labelOf(number(caller.locals[2]))}`;
+  const to = caller?.locals[2], back = to === undefined ? "" : `, goes back to ${to} ${board.labelOf(number(to))}`;
   const summary = made("summary", "", `${hex(frame.address)} in ${frame.where}${caller ? `, by ${how}${back}` : ""}`);
   if (record) summary.append(made("b", "", `; ${recordText(record, words)}`));
   const locals = LOCALS.map((name, k) => `${name.padStart(3)} ${frame.locals[k] ?? STALE}`);
@@ -92,20 +101,25 @@ export function recordText(record, words) {
   if (record.interrupt !== undefined) return `interrupt of vector ${record.interrupt}`;
   const kind = words.faults[record.fault] ?? {};
   const subtype = kind[record.subtype] ?? (record.fault === 1 ? "an event that is traced" : "");
-  return `${kind[""] ?? "unknown"} fault (type ${record.fault}, subtype ${record.subtype}${subtype ? `: ${subtype}` : ""}) at ${hex(record.address)}`;
+  const numbers = `type ${record.fault}, subtype ${record.subtype}`;
+  const told = subtype ? `${numbers}: ${subtype}` : numbers;
+  return `${kind[""] ?? "unknown"} fault (${told}) at ${hex(record.address)}`;
 }
 
 // ---- memory, console and text
 
 export function showMemory({ place }) {
-  at("memory").textContent = place.memory.map(({ address, bytes }) => `${hex(address)}  ${bytes.join(" ")}  ${characters(bytes)}`).join("\n");
+  const rows = place.memory.map(({ address, bytes }) => `${hex(address)}  ${bytes.join(" ")}  ${characters(bytes)}`);
+  at("memory").textContent = rows.join("\n");
 }
 
-const characters = bytes => bytes.map(byte => (number(byte) >= 32 && number(byte) < 127 ? String.fromCharCode(number(byte)) : ".")).join("");
+const characters = bytes => bytes.map(number)
+  .map(byte => (byte >= 32 && byte < 127 ? String.fromCharCode(byte) : ".")).join("");
 
 export function showText(status, text, words) {
   const end = /^#end (\w+)/m.exec(text)?.[1];
-  at("status").textContent = status === undefined ? "" : `status ${status}: ${words.ends[end] ?? words.statuses[status]}`;
+  const why = words.ends[end] ?? words.statuses[status];
+  at("status").textContent = status === undefined ? "" : `status ${status}: ${why}`;
   at("text").textContent = text.length > 200000 ? `${text.slice(0, 200000)}\n.. (Save text has all)` : text;
 }
 
@@ -131,7 +145,8 @@ export function showFaultyText({ refusal, text, name }, words) {
   if (!refusal?.line) return;
   const from = Math.max(0, refusal.line - 12);
   const lines = text.split("\n").slice(from, refusal.line + 12).flatMap((line, n) => {
-    const faulty = from + n + 1 === refusal.line, item = made("li", faulty ? "fault" : "", made("b", "", `${from + n + 1}`.padStart(5) + "  "), line);
+    const nth = from + n + 1, faulty = nth === refusal.line;
+    const item = made("li", faulty ? "fault" : "", made("b", "", `${nth}`.padStart(5) + "  "), line);
     return faulty ? [item, made("li", "fault why", words.kinds[refusal.what][refusal.kind])] : [item];
   });
   at("listing").replaceChildren(...lines);
@@ -141,7 +156,8 @@ export function showFaultyText({ refusal, text, name }, words) {
 
 /** Marks a line of the schedule. */
 export function chooseLine(area, line) {
-  const lines = area.value.split("\n"), start = lines.slice(0, line - 1).reduce((sum, text) => sum + text.length + 1, 0);
+  const lines = area.value.split("\n");
+  const start = lines.slice(0, line - 1).reduce((sum, text) => sum + text.length + 1, 0);
   area.focus();
   area.setSelectionRange(start, start + (lines[line - 1]?.length ?? 0));
 }
@@ -154,9 +170,13 @@ export function showPicture(board, issued) {
   if (shown.length === 0) { box.replaceChildren("nothing has issued in these turns"); return; }
   const first = shown[0].turn, last = board.position.turn, height = ROW * (shown.length + 1);
   const width = CELL * (last - first + 4), now = CELL * (last - first);
-  const names = shown.map(({ address, statement }, n) => `<text x="0" y="${ROW * (n + 1) + 10}">${escaped(`${hex(address)} ${statement}`.slice(0, STATEMENT_LENGTH))}</text>`);
+  const names = shown.map(({ address, statement }, n) => {
+    const name = `${hex(address)} ${statement}`.slice(0, STATEMENT_LENGTH);
+    return `<text x="0" y="${ROW * (n + 1) + 10}">${escaped(name)}</text>`;
+  });
   const bars = shown.map((item, n) => bar(board, item, ROW * (n + 1), first, last));
-  box.innerHTML = `<svg class="names" width="${STATEMENT}" height="${height}"><text x="0" y="10">turns ${first} to ${last}</text>${names.join("")}</svg>`
+  box.innerHTML = `<svg class="names" width="${STATEMENT}" height="${height}">`
+    + `<text x="0" y="10">turns ${first} to ${last}</text>${names.join("")}</svg>`
     + `<svg width="${width}" height="${height}" role="img" aria-label="instructions by turn">`
     + `<line x1="${now}" y1="0" x2="${now}" y2="${height}"/>${bars.join("")}</svg>`;
   [box.scrollTop, box.scrollLeft] = [box.scrollHeight, box.scrollWidth];
@@ -167,13 +187,15 @@ const escaped = text => text.replaceAll("&", "&amp;").replaceAll("<", "&lt;");
 function bar(board, { turn, statement }, y, first, last) {
   const done = doneAt(board, turn, statement, last), side = sideOf(statement.split(" ")[0]);
   const length = CELL * Math.max(1, done - turn) - 1;
-  return `<rect class="${side}" x="${CELL * (turn - first)}" y="${y + 2}" width="${length}" height="${ROW - 4}"><title>turn ${turn} to ${done}, side ${side}</title></rect>`;
+  return `<rect class="${side}" x="${CELL * (turn - first)}" y="${y + 2}" width="${length}" height="${ROW - 4}">`
+    + `<title>turn ${turn} to ${done}, side ${side}</title></rect>`;
 }
 
 /** The first turn behind an issue at which the register that is written is not busy; at most the last one. */
 function doneAt(board, turn, statement, last) {
   const register = destinationOf(statement);
   let done = turn + 1;
-  while (register !== undefined && done < last && board.told.get(done) && isBusy(board.told.get(done), register)) done++;
+  const busyAt = turn => board.told.has(turn) && isBusy(board.told.get(turn), register);
+  while (register !== undefined && done < last && busyAt(done)) done++;
   return done;
 }

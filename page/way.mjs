@@ -1,6 +1,6 @@
-// A way along a run: commands of the debugger that lead from turn 1 from one place to the next, and the turn of each place,
-// as a session told it. A turn is reached sooner by the way to the last place before it than by `turn` alone, of which
-// each turn that passes takes longer. It is told in the worker.
+// A way along a run: commands of the debugger that lead from turn 1 from one place to the next, and the turn of each
+// place, as a session told it. A turn is reached sooner by the way to the last place before it than by `turn` alone, of
+// which each turn that passes takes longer. It is told in the worker.
 import { NOT_TOLD, turnsIn } from "./course.mjs";
 
 // How many instructions a command passes at most, and how many commands there are at most.
@@ -10,28 +10,29 @@ const LEAST_TURNS = 5, MOST_TURNS = 1024;
 const BLOCK = 64, NEVER = 0xFFFFFFFF;
 
 /** The way along a course, by where its instructions lead; `session` answers with the bytes that a script prints. */
-export function tellWay(leads, session) {
-  const way = told(addressesAlong(leads).map(address => `until ${address.toString(16)}\n`), session);
-  const commands = withoutShort(way), isShorter = commands.length < way.commands.length;
-  const { script, ends, turns } = isShorter ? told(commands, session) : way;
-  return { script, ends, turns };
+export function tellWay(leads, session, reach = REACH) {
+  const commands = addressesAlong(leads, reach).map(address => `until ${address.toString(16)}\n`);
+  const way = told(commands, session), shorter = withoutShort(commands, way.turns);
+  return shorter.length < way.turns.length ? told(shorter, session) : way;
 }
 
-/** The commands up to the last one that led further, as one text with the end of each, and the turn behind each. */
+/** The text of the commands, the end of each up to the last one that led further, and what is told of each. */
 function told(commands, session) {
-  const script = new TextEncoder().encode(commands.join("")), { turns, counts } = turnsIn(session(script));
+  const script = new TextEncoder().encode(commands.join(""));
+  const lines = turnsIn(session(script)), { turns, counts } = lines;
+  const isFurther = n => n === 0 || turns[n] > turns[n - 1] || counts[n] > counts[n - 1];
   let many = 0;
-  while (many < turns.length && (many === 0 || turns[many] > turns[many - 1] || counts[many] > counts[many - 1])) many++;
+  while (many < turns.length && isFurther(many)) many++;
   const ends = new Uint32Array(many);
   for (let n = 0, end = 0; n < many; n++) ends[n] = end += commands[n].length;
-  return { commands: commands.slice(0, many), script, ends, turns: turns.slice(0, many) };
+  return { ...lines, script, ends, turns: turns.slice(0, many) };
 }
 
-/** The addresses of an `until` each: from one place to the farthest within reach whose address did not come meanwhile. */
-function addressesAlong(leads) {
+/** The address of each `until`, which leads to the farthest place within reach whose address did not come meanwhile. */
+function addressesAlong(leads, reach) {
   const { before, least } = arrivalsBefore(leads), found = [];
   for (let from = 0; found.length < MOST_COMMANDS;) {
-    const to = Math.min(leads.length, from + REACH);
+    const to = Math.min(leads.length, from + reach);
     let at = to;
     while (at > from && before[at] > from) at -= at % BLOCK === BLOCK - 1 && least[at / BLOCK | 0] > from ? BLOCK : 1;
     if (at <= from) break;
@@ -41,7 +42,8 @@ function addressesAlong(leads) {
   return found;
 }
 
-/** Behind how many instructions the address came before to which each leads, 0 where it did not; of each block the least. */
+/** Of each instruction how many there are up to the one before that led to the same address; and of each block the
+ * least. */
 function arrivalsBefore(leads) {
   const before = new Uint32Array(leads.length + 1), last = new Map();
   const least = new Uint32Array(Math.ceil(before.length / BLOCK)).fill(NEVER);
@@ -57,19 +59,19 @@ function arrivalsBefore(leads) {
 }
 
 /** The commands of a way with `turn` in place of those that pass few turns each. */
-function withoutShort({ commands, turns }) {
+function withoutShort(commands, turns) {
   const kept = [];
   let from = 1, at = 1;
   const passTo = turn => {
     for (; from < turn; from += MOST_TURNS) kept.push(`turn ${Math.min(MOST_TURNS, turn - from)}\n`);
   };
-  for (const [n, command] of commands.entries()) {
-    if (turns[n] - at >= LEAST_TURNS) {
+  for (const [n, turn] of turns.entries()) {
+    if (turn - at >= LEAST_TURNS) {
       passTo(at);
-      kept.push(command);
-      from = turns[n];
+      kept.push(commands[n]);
+      from = turn;
     }
-    at = turns[n];
+    at = turn;
   }
   passTo(at);
   return kept;
