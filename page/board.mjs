@@ -248,15 +248,21 @@ export class Board {
   /** Tells the course as far as it is wanted, and the counts of turns and the way along it, where that was not told. */
   async tellCourse() {
     const wanted = Math.min(MOST_COURSE, Math.max(Number(this.length) || 0, (this.place?.count ?? 0) + COURSE_AHEAD));
-    if (this.course && (this.course.limit >= wanted || this.course.addresses.length < this.course.limit)) return;
-    const { counts } = this, limit = Math.max(wanted, Math.min(MOST_COURSE, 2 * (this.course?.limit ?? 0)));
-    const whole = ["trace", String(limit), ...EVERYWHERE];
-    const { course } = await this.form(whole, undefined, this.askAside, { reads: "course" });
-    if (counts !== this.counts) return;
-    this.course = { ...course, limit };
-    if (!counts.has(1 + STRIDE * COUNTED)) await this.debug(1, `turn ${STRIDE}\n`.repeat(COUNTED), this.askAside);
+    const { counts, course: told } = this;
+    if (!told || (told.limit < wanted && told.addresses.length >= told.limit)) {
+      const limit = Math.max(wanted, Math.min(MOST_COURSE, 2 * (told?.limit ?? 0)));
+      const whole = ["trace", String(limit), ...EVERYWHERE];
+      const { course } = await this.form(whole, undefined, this.askAside, { reads: "course" });
+      if (counts !== this.counts) return;
+      this.course = { ...course, limit, isCounted: counts.has(1 + STRIDE * COUNTED), hasWay: false };
+    }
+    const { course } = this;
+    if (!course.isCounted) await this.debug(1, `turn ${STRIDE}\n`.repeat(COUNTED), this.askAside);
+    course.isCounted = true;
+    if (course.hasWay) return;
     const { way } = await this.form(["debug", "3"], undefined, this.askAside, { reads: "way", leads: course.leads });
-    if (counts === this.counts) this.way = way;
+    if (course === this.course) this.way = way;
+    course.hasWay = true;
   }
 
   /** The address at which the last of so many instructions left the instruction address, where the course tells it. */

@@ -1,11 +1,12 @@
 #!/usr/bin/env node
 // Compares the page's module with the program, text and status: scripts/page/compare.mjs PROGRAM [TABLE ..]
 //
-// Each row of a TABLE, behind its first line, is a run: its last column, behind a tab, has the words of the program, which
-// name files in the table's folder. Without a table the runs are those below, in demo/. Each is done by the program and by the
-// module in page/i960.html, and both must print the same bytes and end with the same status. At the end it says how much more
-// time `gen 1 -` takes in the module, and it ends with 1 where a run differed. It is no part of the gate, and stands for a
-// proof that what is built for a page does what the proved program does.
+// Each row of a TABLE, behind its first line, is a run: its last column, behind a tab, has the words of the program,
+// which name files in the table's folder. Without a table the runs are those below, in demo/. Each is done by the
+// program and by the module in page/i960.html, and both must print the same bytes and end with the same status. Then it
+// leads to turns by ways along runs, as the page does, which must print what `turn` alone prints. At the end it says how
+// much more time `gen 1 -` takes in the module, and it ends with 1 where a run differed. It is no part of the gate, and
+// stands for a proof that what is built for a page does what the proved program does.
 import { spawnSync } from "node:child_process";
 import { existsSync, readFileSync } from "node:fs";
 import { dirname, join, resolve } from "node:path";
@@ -26,7 +27,8 @@ const DEMO = [
   "run none.hex - - 1", "run smallest.hex none.sch - 1", "run smallest.hex - 16 1", "gen 0 -", "gen 7 3", "gen -", "",
 ];
 
-/** The words with the names of files replaced by 1, 2 and 3, and the files; one that is not there keeps another name. */
+/** The words with the names of files replaced by 1, 2 and 3, and the files; one that is not there keeps another
+ * name. */
 function inSlots(words, folder) {
   const files = [], named = [...words];
   for (const place of FILES[words[0]] ?? []) {
@@ -58,17 +60,19 @@ const REACHES = [10, 60, 4096], WAY_LENGTH = 4000, PLACES = 40, PLACE = "raw\nhe
 
 /** How many turns were led to by a way and by `turn` alone, and at how many of them the two printed something else. */
 function alongWays(module, [image, plan], reach) {
-  const files = [image, plan].map(name => name && readFileSync(join(TOP, "demo", name)));
-  const form = (words, script) => command(module, [words[0], "1", plan ? "2" : "-", "-", ...words.slice(1)], [...files, script]);
-  const { leads } = readCourse(form(["trace", String(WAY_LENGTH), "0", "FFFFFFFF"]).bytes);
-  const session = script => form(["debug", "3"], script), way = tellWay(leads, script => session(script).bytes, reach);
+  const files = [image, plan].map(name => name && readFileSync(join(TOP, "demo", name))), schedule = plan ? "2" : "-";
+  const traced = command(module, ["trace", "1", schedule, "-", String(WAY_LENGTH), "0", "FFFFFFFF"], files);
+  const session = script => command(module, ["debug", "1", schedule, "-", "3"], [...files, script]);
+  const way = tellWay(readCourse(traced.bytes).leads, script => session(script).bytes, reach);
   const last = (way.turns.at(-1) ?? 0) + 4, stride = Math.max(1, Math.floor(last / PLACES));
   let tried = 0, wrong = 0;
   for (let turn = 1; turn <= last; turn += stride) {
-    const { bytes, skipped, others, rest } = leadAlong(way, turn), plain = session(Buffer.from(leadTo({ turn }) + PLACE));
+    const { bytes, skipped, others, rest } = leadAlong(way, turn);
+    const plain = session(Buffer.from(leadTo({ turn }) + PLACE));
     const { status, bytes: told } = session(Buffer.concat([bytes, Buffer.from(rest + PLACE)]));
+    const text = Buffer.concat([others, told.subarray(skipped)]);
     tried++;
-    if (status !== plain.status || Buffer.compare(Buffer.concat([others, told.subarray(skipped)]), plain.bytes) !== 0) wrong++;
+    if (status !== plain.status || Buffer.compare(text, plain.bytes) !== 0) wrong++;
   }
   return { tried, wrong };
 }

@@ -1,10 +1,11 @@
 #!/usr/bin/env node
 // Tries the page in a headless Chromium: scripts/page/try.mjs PROGRAM [FOLDER [PART ..]]
 //
-// Opens page/i960.html from the disk, as a double click does, hands it files of demo/, presses what a person would, and compares
-// what is shown with the lines of the program's own debugger and tracer at the same place. With a FOLDER it leaves pictures
-// there, and with names of parts it tries these alone. Prints a line for each part, and how long the page took behind 100,000 instructions, and ends with 1 where something is
-// not as it should be. It is no part of the gate.
+// Opens page/i960.html from the disk, as a double click does, hands it files of demo/, presses what a person would, and
+// compares what is shown with the lines of the program's own debugger and tracer at the same place. With a FOLDER it
+// leaves pictures there, and with names of parts it tries these alone. Prints a line for each part, and how long the
+// page took behind 100,000 instructions, and ends with 1 where something is not as it should be. It is no part of the
+// gate.
 import { spawnSync } from "node:child_process";
 import { existsSync, mkdirSync, mkdtempSync, readFileSync, rmSync, writeFileSync } from "node:fs";
 import { tmpdir } from "node:os";
@@ -406,6 +407,8 @@ const LOOP = ".org 0xFFFFFF10\n.word start, 0x800\n.org 0x1000\nstart: addo 1, g
 const CALLS = ".org 0xFFFFFF10\n.word start, 0x800\n.org 0x800\n.word 0x900, 0xA00, 0, 0x40000000, 0x2000, 0xB00, 0, 0x3000, 0, 0\n"
   + ".org 0x1000\nstart: addo 1, g4, g4\n call work\nagain: b start\nwork: mov 0, r4\nround: addo 1, r4, r4\n cmpo r4, g9\n lda 600, g9\n bl round\n ret\n";
 
+const machineLoad = () => readFileSync("/proc/loadavg", "latin1").split(" ")[0];
+
 /** How long a move took, by the page's own clock. */
 async function took(move) {
   await browser.evaluate("document.getElementById('took').textContent = ''");
@@ -436,7 +439,7 @@ async function longRuns() {
     await load(file);
     await browser.evaluate("document.activeElement.blur()");
     await goTurn(turn);
-    console.log(`  ${name}, behind ${(await shown()).controls[3]} instructions, load ${readFileSync("/proc/loadavg", "latin1").split(" ")[0]}`);
+    console.log(`  ${name}, behind ${(await shown()).controls[3]} instructions, load ${machineLoad()}`);
     await inTime("a jump to a turn", 9, n => jump(turn - 400 * (n + 1)));
     await inTime("a turn more or less", 60, n => browser.press(n % 3 === 2 ? "ArrowLeft" : "ArrowRight"));
     await inTime("an instruction more", 15, key("ArrowDown"));
@@ -456,7 +459,11 @@ async function longRuns() {
   await browser.evaluate("document.activeElement.blur(), page.board.stops.add(0x1004), 1");
   await write("behind", "105000");
   await settle();
-  console.log(`  calls, behind ${(await shown()).controls[3]} instructions, load ${readFileSync("/proc/loadavg", "latin1").split(" ")[0]}`);
+  const { turn } = await position();
+  console.log(`  calls, behind ${(await shown()).controls[3]} instructions, load ${machineLoad()}`);
+  await inTime("a jump to a turn", 9, n => write("turn", turn - 400 * (n + 1)));
+  await write("behind", "105000");
+  await settle();
   await inTime("a breakpoint far on", 5, key("c"));
   await inTime("over a call", 5, key("o"), async () => { await took(key("c")); await settle(); });
   check("behind the call", (await shown()).here, [0x1008]);
