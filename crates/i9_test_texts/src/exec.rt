@@ -255,8 +255,12 @@ struct Sources {
 /// The words of a text, at most four, and 0 behind them.
 fn four_words(text: &str) -> Result<[u32; 4], Fail> {
     let mut words = [0; 4];
-    for (word, place) in text.split_whitespace().zip(0..4_usize) {
-        words[place] = u32::from_str_radix(word, 16)?;
+    let mut place = 0usize;
+    for word in text.split_whitespace() {
+        if place < 4 {
+            words[place] = u32::from_str_radix(word, 16)?;
+            place += 1;
+        }
     }
     Ok(words)
 }
