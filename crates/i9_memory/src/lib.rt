@@ -7,6 +7,3 @@ mod pages;
 
 pub use memory::Memory;
 pub use order::{bytes_of_half, bytes_of_word, half_of, word_of};
-
-#[cfg(test)]
-mod tests;

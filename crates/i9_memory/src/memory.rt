@@ -1,5 +1,5 @@
 //! Memory.
-ghost use Rattle.std.specs.Prelude.{◌≡◌, ℕ, ◌+◌, ◌*◌, ◌/◌, ◌%◌, ◌<◌, ◌≤◌, ◌∷◌, [], Some, OnOk, OnErr, IfOk, length};
+ghost use Rattle.std.specs.Prelude.{◌≡◌, ℕ, ◌+◌, ◌*◌, ◌/◌, ◌%◌, ◌<◌, ◌≤◌, ◌↔◌, ◌∷◌, [], IsTrue, Some, OnOk, OnErr, IfOk, length};
 ghost use Rattle.i9_model.specs.Memory.{region_of, is_big, waits_of, half_in, word_in, words_in, ordered_word, half_bytes, word_bytes, with_bytes, with_words, with_mcon};
 
 use crate::order::{bytes_of_half, bytes_of_word, half_of, word_of};
@@ -69,6 +69,13 @@ impl Memory {
         ensures only { AddsRoomOnly self.old self.new a n }
     {
         self.pages.reserve_run(a, n as usize)
+    }
+
+    /// Whether there is room for the byte at `a`, and so for those of its page.
+    pub fn has_room(&self, a: u32) -> bool
+        ensures { IsTrue result ↔ IsReserved self.now a }
+    {
+        self.pages.has_byte(a)
     }
 
     /// The byte at `a`; 0 in the port page.
@@ -261,13 +268,5 @@ impl Memory {
     {
         let low = if write { 12 } else { 3 };
         u64::from((self.mcon[region as usize] >> low) % 32)
-    }
-}
-
-#[cfg(test)]
-impl Memory {
-    /// Whether there is a page of this number.
-    pub(crate) fn has_page(&self, number: u32) -> bool {
-        self.pages.has_page(number)
     }
 }

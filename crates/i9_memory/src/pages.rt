@@ -1,5 +1,5 @@
 //! Bytes by address, in pages.
-ghost use Rattle.std.specs.Prelude.{◌≡◌, ◌≢◌, ℕ, ◌+◌, ◌/◌, ◌%◌, ◌^◌, ◌<◌, ◌≤◌, ◌∷◌, [], OnOk, OnErr, IfOk, IfSome, Some, length};
+ghost use Rattle.std.specs.Prelude.{◌≡◌, ◌≢◌, ℕ, ◌+◌, ◌/◌, ◌%◌, ◌^◌, ◌<◌, ◌≤◌, ◌↔◌, ◌∷◌, [], IsTrue, OnOk, OnErr, IfOk, IfSome, Some, length};
 ghost use Rattle.i9_model.specs.Writes.{wrapped, written, pairs_at, upwards};
 ghost use Rattle.i9_model.specs.Memory.{stored};
 
@@ -110,6 +110,13 @@ impl Pages {
             alloc: self.alloc,
             pages,
         })
+    }
+
+    /// Whether there is room for a byte.
+    pub(crate) fn has_byte(&self, a: u32) -> bool
+        ensures { IsTrue result ↔ HasByte self.now a }
+    {
+        self.pages.contains(a / PAGE_SIZE)
     }
 
     /// The byte at an address.
@@ -308,13 +315,5 @@ impl Pages {
         } else if !bytes.is_empty() {
             self.store_run(a, bytes);
         }
-    }
-}
-
-#[cfg(test)]
-impl Pages {
-    /// Whether there is a page of this number.
-    pub(crate) fn has_page(&self, number: u32) -> bool {
-        self.pages.contains(number)
     }
 }

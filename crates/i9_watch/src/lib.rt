@@ -9,6 +9,3 @@ mod watch;
 
 pub use i9_model::Push;
 pub use watch::Watch;
-
-#[cfg(test)]
-mod tests;

@@ -1,5 +1,5 @@
 //! The marks of all addresses.
-ghost use Rattle.std.specs.Prelude.{◌≡◌, ◌≢◌, ℕ, ◌+◌, ◌/◌, ◌%◌, ◌^◌, ◌<◌, ◌≤◌, ◌*◌, ◌⊎◌, ◌==◌, if◌then◌else◌, ◌&&◌, not, true, false, IfOk, OnOk, OnErr};
+ghost use Rattle.std.specs.Prelude.{◌≡◌, ◌≢◌, ℕ, ◌+◌, ◌/◌, ◌%◌, ◌^◌, ◌<◌, ◌≤◌, ◌*◌, ◌⊎◌, ◌==◌, ◌↔◌, if◌then◌else◌, ◌&&◌, not, true, false, IsTrue, IfOk, OnOk, OnErr};
 ghost use Rattle.i9_model.specs.Writes.{wrapped};
 ghost use Rattle.i9_model.specs.Frames.{in_bytes, in_frames};
 
@@ -55,6 +55,13 @@ impl Marks {
             alloc: self.alloc,
             pages,
         })
+    }
+
+    /// Whether an address can be marked.
+    pub(crate) fn has_room(&self, a: u32) -> bool
+        ensures { IsTrue result ↔ HasRoom self.now a }
+    {
+        self.pages.contains(a / PAGE_SIZE)
     }
 
     /// Whether an address has a mark.
@@ -306,13 +313,5 @@ impl Marks {
         for frame in frames.iter() {
             self.change(Change::Return, *frame, FRAME_SIZE);
         }
-    }
-}
-
-#[cfg(test)]
-impl Marks {
-    /// Whether there is a page of this number.
-    pub(crate) fn has_page(&self, number: u32) -> bool {
-        self.pages.contains(number)
     }
 }

@@ -1,5 +1,5 @@
 //! Soft bytes and live frames.
-ghost use Rattle.std.specs.Prelude.{◌≡◌, ℕ, Bool, ◌+◌, ◌%◌, ◌<◌, ◌≤◌, ◌⊎◌, None, true, ◌*◌, ◌&&◌, ◌∷◌, List, false, nat_lt, OnOk, OnErr, IfOk, length, slice_get};
+ghost use Rattle.std.specs.Prelude.{◌≡◌, ℕ, Bool, ◌+◌, ◌%◌, ◌<◌, ◌≤◌, ◌⊎◌, None, true, ◌*◌, ◌&&◌, ◌↔◌, ◌∷◌, List, false, IsTrue, nat_lt, OnOk, OnErr, IfOk, length, slice_get};
 ghost use Rattle.std.specs.VecDeque.{deque_len, deque_capacity};
 ghost use Rattle.i9_model.specs.Frames.{in_frames, no_frames, saved, with_marked, returned, flushed, wrote_run, softened};
 ghost use Rattle.i9_model.specs.Stale.{picked, byte_marks, word_mark};
@@ -138,6 +138,13 @@ impl Watch {
         ensures needed { OnErr result (HasRunMarks self.old a n → ⊥) }
     {
         self.marks.reserve(a, n)
+    }
+
+    /// Whether there is room for a soft mark of `a`, and so for those of its page.
+    pub fn has_marks(&self, a: u32) -> bool
+        ensures { IsTrue result ↔ HasMarks self.now a }
+    {
+        self.marks.has_room(a)
     }
 
     /// Whether a byte is soft.
@@ -410,13 +417,5 @@ impl Watch {
         ensures { result ≡ slice_get (frames_of self.now).live k }
     {
         self.live.get(k as usize).copied()
-    }
-}
-
-#[cfg(test)]
-impl Watch {
-    /// Whether there is a page of marks of this number.
-    pub(crate) fn has_page(&self, number: u32) -> bool {
-        self.marks.has_page(number)
     }
 }
